@@ -1,0 +1,50 @@
+-- The table that contracts see: lists in the order of the grammar file, and look-ups that answer the first element with a number or a name.
+use Rattle.std.specs.Prelude.{ℕ, List, [], ◌∷◌, Option, Some, None, nat_eq, if◌then◌else◌, map, slice_get, option_map, option_and_then}
+use Rattle.spv_grammar.specs.declared.table.Entry.{Entry}
+use Rattle.spv_grammar.specs.declared.table.Kind.{Kind}
+use Rattle.spv_grammar.specs.declared.table.Enumerant.{Enumerant}
+use Rattle.spv_grammar.specs.declared.table.Item as declared
+use Rattle.spv_grammar.specs.declared.table.Quantifier.{Quantifier}
+use Rattle.spv_grammar.specs.declared.table.Quantifier.TheVariants as quantifier
+
+-- a kind, and its enumerants in the order of the file without those that are dropped
+pub record Sort : Type 0 where
+  pub kind : Kind
+  pub enumerants : List Enumerant
+
+-- the kinds, each name once, at the place that is its number; the instructions, each with its opcode
+pub record Table : Type 0 where
+  pub kinds : List Sort
+  pub entries : List (ℕ × Entry)
+
+-- the first element with the number
+abbrev pub first_with : {A : Type 0} → (A → ℕ) → ℕ → List A → Option A
+first_with number n [] = None
+first_with number n (a ∷ later) = if nat_eq (number a) n then Some a else first_with number n later
+
+-- the kind of a number
+abbrev pub kind_of : Table → ℕ → Option Sort
+kind_of G k = slice_get G.kinds k
+
+-- the first entry with the opcode
+abbrev pub entry_of : Table → ℕ → Option Entry
+entry_of G opcode = option_map (λ e. e.1) (first_with (λ e. e.0) opcode G.entries)
+
+-- the first enumerant with the value
+abbrev pub enumerant_of : List Enumerant → ℕ → Option Enumerant
+enumerant_of es value = first_with (λ e. e.value) value es
+
+-- an item of a pattern: a kind that comes once, at most once (`?`), or any number of times (`*`)
+pub data Item : Type 0 where
+  One : ℕ → Item
+  Maybe : ℕ → Item
+  Many : ℕ → Item
+
+abbrev pub quantified : Quantifier → ℕ → Item
+quantified quantifier.One k = One k
+quantified quantifier.Maybe k = Maybe k
+quantified quantifier.Many k = Many k
+
+-- the pattern of an entry
+abbrev pub pattern_of : Entry → List Item
+pattern_of e = map (λ i. quantified i.quantifier i.kind) e.operands
