@@ -1,8 +1,12 @@
 //! The grammar table: which instructions, operand kinds and enumerants a grammar file has.
 #![tactic(auto)]
 
+mod error;
+mod file;
 mod listed;
+mod read;
 mod table;
 
+pub use error::GrammarError;
 pub use listed::{Listed, Name};
 pub use table::{Category, Entry, Enumerant, Item, Kind, Quantifier, Table};

@@ -1,5 +1,6 @@
-ghost use Rattle.std.specs.Prelude.{◌≡◌, string_bytes};
+ghost use Rattle.std.specs.Prelude.{◌≡◌, string_bytes, IfOk};
 
+use std::alloc::{AllocError, Global};
 use std::marker::Model;
 
 /// A list that does not change. Contracts see it as the list of its items.
@@ -47,6 +48,14 @@ impl Model for Name {
 }
 
 impl Name {
+    /// A copy of a text. The error is want of memory.
+    pub fn from_str(alloc: Global, text: &str) -> Result<Name, AllocError>
+        ensures { IfOk result (λ n. n ≡ text.now) }
+    {
+        let text = String::from_str(alloc, text)?;
+        Ok(Name { text })
+    }
+
     /// The name that a text is. It takes no memory.
     pub fn from_string(text: String) -> Name
         ensures { result ≡ string_bytes text }
