@@ -1,9 +1,11 @@
 -- The table that contracts see: lists in the order of the grammar file, and look-ups that answer the first element with a number or a name.
-use Rattle.std.specs.Prelude.{ℕ, List, [], ◌∷◌, Option, Some, None, nat_eq, if◌then◌else◌, map, slice_get, option_map, option_and_then}
+use Rattle.std.specs.Prelude.{◌≡◌, ◌<◌, ◌^◌, ℕ, List, [], ◌∷◌, Option, Some, None, Bool, true, false, ◌&&◌, not, nat_eq, if◌then◌else◌, map, length, slice_get, option_map, option_and_then}
+use Rattle.std.specs.List.{list_all}
 use Rattle.spv_grammar.specs.declared.table.Entry.{Entry}
 use Rattle.spv_grammar.specs.declared.table.Kind.{Kind}
 use Rattle.spv_grammar.specs.declared.table.Enumerant.{Enumerant}
-use Rattle.spv_grammar.specs.declared.table.Item as declared
+use Rattle.spv_grammar.specs.declared.table.Category.{Category}
+use Rattle.spv_grammar.specs.declared.table.Category.TheVariants as category
 use Rattle.spv_grammar.specs.declared.table.Quantifier.{Quantifier}
 use Rattle.spv_grammar.specs.declared.table.Quantifier.TheVariants as quantifier
 
@@ -48,3 +50,35 @@ quantified quantifier.Many k = Many k
 -- the pattern of an entry
 abbrev pub pattern_of : Entry → List Item
 pattern_of e = map (λ i. quantified i.quantifier i.kind) e.operands
+
+-- a kind whose operands are one id or one literal
+abbrev pub is_simple_category : Category → Bool
+is_simple_category category.Id = true
+is_simple_category category.Literal = true
+is_simple_category category.BitEnum = false
+is_simple_category category.ValueEnum = false
+is_simple_category category.Composite = false
+
+abbrev pub is_simple : Option Sort → Bool
+is_simple None = false
+is_simple (Some s) = is_simple_category s.kind.category
+
+abbrev pub are_bases : Table → List ℕ → Bool
+are_bases G [] = false
+are_bases G (k ∷ ks) = list_all (λ b. is_simple (kind_of G b)) (k ∷ ks)
+
+-- a Composite has bases, each of a kind of category Id or Literal
+abbrev pub is_sound_category : Table → List ℕ → Category → Bool
+is_sound_category G bases category.Composite = are_bases G bases
+is_sound_category G bases category.Id = true
+is_sound_category G bases category.Literal = true
+is_sound_category G bases category.BitEnum = true
+is_sound_category G bases category.ValueEnum = true
+
+abbrev pub is_sound : Table → Sort → Bool
+is_sound G s = is_sound_category G s.kind.bases s.kind.category
+
+-- what holds of every table: each Composite is made of ids and literals, and kinds are numbered in 32 bits
+pub record IsWhole (G : Table) : Type 0 where
+  pub sound : list_all (is_sound G) G.kinds ≡ true
+  pub count : length G.kinds < 2 ^ 32

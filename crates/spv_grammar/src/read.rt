@@ -1,8 +1,9 @@
 //! Reads the tree of a grammar file. What is missing or of another sort is J2.
 
-ghost use Rattle.std.specs.Prelude.{◌≡◌, option_map, option_and_then, codes, IfOk};
+ghost use Rattle.std.specs.Prelude.{◌≡◌, ◌<◌, ◌≤◌, length, IfSome, option_map};
+ghost use Rattle.serde_json.specs.Find.{as_str};
 ghost use Rattle.serde_json.specs.View.{view, items_view};
-ghost use Rattle.spv_grammar.specs.File.{Reads, each, text_at, items_at, optional_items_at, quantifier_of, quantifier_at, operand_of, operands_at};
+ghost use Rattle.spv_grammar.specs.File.{Reads, each, text_at, items_at, optional_items_at, quantifier_of, quantifier_at, operand_of, operands_at, capabilities_at, opcode_at, instruction_of, hex_digit_of, hex_from, bit_value_of, value_at, enumerant_in, enumerants_at, bases_at, category_of, kind_in, file_of};
 
 use crate::error::GrammarError;
 use crate::file::{File, FileEnumerant, FileInstruction, FileKind, FileOperand};
@@ -93,4 +94,260 @@ fn read_operands(alloc: Global, value: &Value, key: &str) -> Result<Listed<FileO
         return Err(GrammarError::J2);
     };
     each_operand(alloc, elements)
+}
+
+/// Each name of an array of texts.
+fn each_name(alloc: Global, elements: &[Value]) -> Result<Listed<Name>, GrammarError>
+    ensures { Reads result (each as_str (items_view elements.now)) }
+{
+    let mut found = Vec::new(alloc);
+    for element in elements {
+        let Some(text) = element.as_str() else {
+            return Err(GrammarError::J2);
+        };
+        found.push(Name::from_str(alloc, text)?)?;
+    }
+    Ok(Listed::from_vec(found))
+}
+
+/// The capabilities of an instruction or an enumerant.
+fn read_capabilities(alloc: Global, value: &Value) -> Result<Listed<Name>, GrammarError>
+    ensures { Reads result (capabilities_at (view value.now)) }
+{
+    let Some(elements) = optional_items(value, "capabilities") else {
+        return Err(GrammarError::J2);
+    };
+    each_name(alloc, elements)
+}
+
+/// An opcode; `Some(None)` where the number is out of range.
+fn read_opcode(value: &Value) -> Option<Option<u16>>
+    ensures { result ≡ opcode_at (view value.now) }
+{
+    let number = value.get("opcode")?.as_number()?;
+    match number.as_u64() {
+        Some(whole) => Some(u16::try_from(whole).ok()),
+        None => Some(None),
+    }
+}
+
+/// An instruction.
+fn read_instruction(alloc: Global, value: &Value) -> Result<FileInstruction, GrammarError>
+    ensures { Reads result (instruction_of (view value.now)) }
+{
+    let Some(name) = text(value, "opname") else {
+        return Err(GrammarError::J2);
+    };
+    let Some(opcode) = read_opcode(value) else {
+        return Err(GrammarError::J2);
+    };
+    let operands = read_operands(alloc, value, "operands")?;
+    let capabilities = read_capabilities(alloc, value)?;
+    let name = Name::from_str(alloc, name)?;
+    Ok(FileInstruction {
+        name,
+        opcode,
+        operands,
+        capabilities,
+    })
+}
+
+/// Each instruction of an array.
+fn each_instruction(alloc: Global, elements: &[Value]) -> Result<Listed<FileInstruction>, GrammarError>
+    ensures { Reads result (each instruction_of (items_view elements.now)) }
+{
+    let mut found = Vec::new(alloc);
+    for element in elements {
+        found.push(read_instruction(alloc, element)?)?;
+    }
+    Ok(Listed::from_vec(found))
+}
+
+/// What a hexadecimal digit of either case stands for.
+fn hex_digit(octet: u8) -> Option<u8>
+    ensures value { result ≡ hex_digit_of octet }
+    ensures small { IfSome result (λ digit. digit < 16) }
+{
+    match octet {
+        b'0'..=b'9' => Some(octet - b'0'),
+        b'a'..=b'f' => Some(octet - b'a' + 10),
+        b'A'..=b'F' => Some(octet - b'A' + 10),
+        _ => None,
+    }
+}
+
+/// The number that at most eight hexadecimal digits are.
+fn hex_number(digits: &[u8]) -> Option<u32>
+    requires { length digits.now ≤ 8 }
+    ensures { result ≡ hex_from 0 digits.now }
+{
+    let mut number: u32 = 0;
+    for digit in digits {
+        number = 16 * number + u32::from(hex_digit(*digit)?);
+    }
+    Some(number)
+}
+
+/// The value of a BitEnum's enumerant: `0x` and one to eight hexadecimal digits.
+fn bit_value(text: &str) -> Option<u32>
+    ensures { result ≡ bit_value_of text.now }
+{
+    let [b'0', b'x', digits @ ..] = text.as_bytes() else {
+        return None;
+    };
+    if digits.is_empty() || digits.len() > 8 {
+        return None;
+    }
+    hex_number(digits)
+}
+
+/// An enumerant's value; `Some(None)` where it is out of range or form.
+fn read_value(category: Category, value: &Value) -> Option<Option<u32>>
+    ensures { result ≡ value_at category (view value.now) }
+{
+    let found = value.get("value")?;
+    match category {
+        Category::BitEnum => Some(bit_value(found.as_str()?)),
+        _ => match found.as_number()?.as_u64() {
+            Some(whole) => Some(u32::try_from(whole).ok()),
+            None => Some(None),
+        },
+    }
+}
+
+/// An enumerant of a kind of this category.
+fn read_enumerant(alloc: Global, category: Category, value: &Value) -> Result<FileEnumerant, GrammarError>
+    ensures { Reads result (enumerant_in category (view value.now)) }
+{
+    let Some(name) = text(value, "enumerant") else {
+        return Err(GrammarError::J2);
+    };
+    let Some(number) = read_value(category, value) else {
+        return Err(GrammarError::J2);
+    };
+    let parameters = read_operands(alloc, value, "parameters")?;
+    let capabilities = read_capabilities(alloc, value)?;
+    let name = Name::from_str(alloc, name)?;
+    Ok(FileEnumerant {
+        name,
+        value: number,
+        parameters,
+        capabilities,
+    })
+}
+
+/// Each enumerant of an array, of a kind of this category.
+fn each_enumerant(
+    alloc: Global,
+    category: Category,
+    elements: &[Value],
+) -> Result<Listed<FileEnumerant>, GrammarError>
+    ensures { Reads result (each (enumerant_in category) (items_view elements.now)) }
+{
+    let mut found = Vec::new(alloc);
+    for element in elements {
+        found.push(read_enumerant(alloc, category, element)?)?;
+    }
+    Ok(Listed::from_vec(found))
+}
+
+/// The enumerants of a kind: those of an enum category, and none of another.
+fn read_enumerants(
+    alloc: Global,
+    category: Option<Category>,
+    value: &Value,
+) -> Result<Listed<FileEnumerant>, GrammarError>
+    ensures { Reads result (enumerants_at category (view value.now)) }
+{
+    let category = match category {
+        Some(Category::BitEnum) => Category::BitEnum,
+        Some(Category::ValueEnum) => Category::ValueEnum,
+        _ => return Ok(Listed::from_vec(Vec::new(alloc))),
+    };
+    let Some(elements) = items(value, "enumerants") else {
+        return Err(GrammarError::J2);
+    };
+    each_enumerant(alloc, category, elements)
+}
+
+/// The bases of a kind: those of a Composite, and none of another.
+fn read_bases(
+    alloc: Global,
+    category: Option<Category>,
+    value: &Value,
+) -> Result<Listed<Name>, GrammarError>
+    ensures { Reads result (bases_at category (view value.now)) }
+{
+    let Some(Category::Composite) = category else {
+        return Ok(Listed::from_vec(Vec::new(alloc)));
+    };
+    let Some(elements) = items(value, "bases") else {
+        return Err(GrammarError::J2);
+    };
+    each_name(alloc, elements)
+}
+
+/// The category that a text names.
+fn category(text: &str) -> Option<Category>
+    ensures { result ≡ category_of text.now }
+{
+    match text {
+        "BitEnum" => Some(Category::BitEnum),
+        "ValueEnum" => Some(Category::ValueEnum),
+        "Id" => Some(Category::Id),
+        "Literal" => Some(Category::Literal),
+        "Composite" => Some(Category::Composite),
+        _ => None,
+    }
+}
+
+/// A kind of operands.
+fn read_kind(alloc: Global, value: &Value) -> Result<FileKind, GrammarError>
+    ensures { Reads result (kind_in (view value.now)) }
+{
+    let Some(name) = text(value, "kind") else {
+        return Err(GrammarError::J2);
+    };
+    let Some(category_text) = text(value, "category") else {
+        return Err(GrammarError::J2);
+    };
+    let category = category(category_text);
+    let enumerants = read_enumerants(alloc, category, value)?;
+    let bases = read_bases(alloc, category, value)?;
+    let name = Name::from_str(alloc, name)?;
+    Ok(FileKind {
+        name,
+        category,
+        enumerants,
+        bases,
+    })
+}
+
+/// Each kind of an array.
+fn each_kind(alloc: Global, elements: &[Value]) -> Result<Listed<FileKind>, GrammarError>
+    ensures { Reads result (each kind_in (items_view elements.now)) }
+{
+    let mut found = Vec::new(alloc);
+    for element in elements {
+        found.push(read_kind(alloc, element)?)?;
+    }
+    Ok(Listed::from_vec(found))
+}
+
+/// What a grammar file holds; J2 where its tree has not the form.
+pub(crate) fn read_file(alloc: Global, value: &Value) -> Result<File, GrammarError>
+    ensures { Reads result (file_of (view value.now)) }
+{
+    let Some(instructions) = items(value, "instructions") else {
+        return Err(GrammarError::J2);
+    };
+    let Some(kinds) = items(value, "operand_kinds") else {
+        return Err(GrammarError::J2);
+    };
+    let instructions = each_instruction(alloc, instructions)?;
+    let kinds = each_kind(alloc, kinds)?;
+    Ok(File {
+        instructions,
+        kinds,
+    })
 }

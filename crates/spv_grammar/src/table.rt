@@ -1,5 +1,5 @@
 ghost use Rattle.std.specs.Prelude.{◌≡◌, option_map, option_and_then};
-ghost use Rattle.spv_grammar.specs.Table.{entry_of, kind_of, enumerant_of};
+ghost use Rattle.spv_grammar.specs.Table.{entry_of, kind_of, enumerant_of, IsWhole};
 
 use crate::listed::{Listed, Name};
 use std::marker::Model;
@@ -83,9 +83,11 @@ impl Model for Table {
     ghost Value = { Table };
 
     ghost use Rattle.std.specs.Prelude.{map};
-    ghost use Rattle.spv_grammar.specs.Table.{Sort};
+    ghost use Rattle.spv_grammar.specs.Table.{Sort, IsWhole};
 
     ghost view = { λ t. record { kinds = map (λ s. record { kind = s.kind; enumerants = s.enumerants.items }) t.sorts.items; entries = t.entries.items } };
+
+    ghost invariant = { λ t. IsWhole (record { kinds = map (λ s. record { kind = s.kind; enumerants = s.enumerants.items }) t.sorts.items; entries = t.entries.items }) };
 }
 
 /// The first enumerant with a value.
@@ -103,7 +105,8 @@ fn first_enumerant(enumerants: &[Enumerant], value: u32) -> Option<&Enumerant>
 impl Table {
     /// The kind of a number.
     pub fn kind(&self, number: u32) -> Option<&Kind>
-        ensures { option_map (λ k. k.now) result ≡ option_map (λ s. s.kind) (kind_of self.now number) }
+        ensures kind { option_map (λ k. k.now) result ≡ option_map (λ s. s.kind) (kind_of self.now number) }
+        ensures whole { IsWhole self.now }
     {
         match self.sorts.get(number as usize) {
             Some(sort) => Some(&sort.kind),
