@@ -1,0 +1,6 @@
+pub mod Gathered
+pub mod Groups
+pub mod Refusal
+pub mod Standing
+pub mod Turning
+pub mod Written

@@ -1,0 +1,4 @@
+pub mod Count
+pub mod Header
+pub mod Streams
+pub mod Words

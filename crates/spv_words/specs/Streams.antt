@@ -1,0 +1,20 @@
+-- What reading and writing an image leave.
+use Rattle.std.specs.Prelude.{◌≡◌, ◌≤◌, ℕ, List, ◌++◌, length, take, Option, Some}
+use Rattle.spv_words.specs.Words.{Stands}
+use Rattle.spv_words.specs.declared.words.Order.{Order}
+use Rattle.spv_words.specs.declared.words.WordError.{WordError}
+use Rattle.spv_words.specs.declared.words.WordError.TheVariants as code
+
+-- A writer that held `old` now also holds the first n of the bytes that stand for the words, and nothing else.
+pub record Holds (o : Order) (words old : List ℕ) (new : Option (List ℕ)) (n : ℕ) : Type 0 where
+  pub bytes : List ℕ
+  pub stands : Stands o bytes words
+  pub fits : n ≤ length bytes
+  pub front : new ≡ Some (old ++ take n bytes)
+
+-- How reading stops before the end of input: by a failed read, by too many bytes or for want of memory.
+abbrev pub IsStop : WordError → Type 0
+IsStop code.W1 = Unit {0}
+IsStop code.W8 = Unit {0}
+IsStop code.W9 = Unit {0}
+IsStop _ = ⊥

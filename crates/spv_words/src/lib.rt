@@ -1,0 +1,21 @@
+//! The words of a SPIR-V module: byte streams, byte orders and the header.
+//!
+//! [`read_image`] reads a module's bytes from a [`Source`] into an [`Image`], which is a list of
+//! 32-bit words whose header fits; [`write_image`] writes an image to a [`Sink`] in either byte
+//! order. (Khronos SPIR-V Specification 1.6, section 2.3.)
+#![tactic(auto)]
+
+mod image;
+mod laws;
+mod order;
+mod reading;
+mod stream;
+mod words;
+mod writing;
+
+pub use image::{Image, word};
+pub use laws::{examples, one_byte_list, one_refusal, one_word_list, words_stand};
+pub use reading::read_image;
+pub use stream::{Failed, FromRead, FromWrite, Sink, Source};
+pub use words::{Header, Order, WordError};
+pub use writing::write_image;
