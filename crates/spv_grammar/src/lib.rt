@@ -4,6 +4,7 @@
 mod error;
 mod file;
 mod listed;
+mod numbers;
 mod read;
 mod table;
 

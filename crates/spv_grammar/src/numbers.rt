@@ -1,0 +1,58 @@
+//! Numbers the kinds of a grammar file by their names.
+
+ghost use Rattle.std.specs.Prelude.{◌≡◌, IfOk};
+ghost use Rattle.spv_grammar.specs.Kinds.{first_kinds, number_in};
+
+use crate::error::GrammarError;
+use crate::file::FileKind;
+use indexmap::IndexSet;
+use std::alloc::Global;
+use std::marker::Model;
+
+/// The kinds of a grammar file, each name once. Contracts see the list of the kinds.
+#[derive(Drop)]
+pub(crate) struct Numbers<'a> {
+    names: IndexSet<&'a str>,
+    kinds: Vec<&'a FileKind>,
+}
+
+impl<'a> Model for Numbers<'a> {
+    ghost use Rattle.std.specs.Prelude.{List, ℕ, ◌≡◌, ◌<◌, ◌^◌, map, length};
+    ghost use Rattle.spv_grammar.specs.declared.file.FileKind.{FileKind};
+
+    ghost Value = { List FileKind };
+
+    ghost view = { λ n. map (λ k. k.now) n.kinds.items };
+
+    ghost invariant = { λ n. (map (λ k. k.now) n.names.keys ≡ map (λ k. k.now.name) n.kinds.items) × (length n.kinds.items < 2 ^ 32) };
+}
+
+impl<'a> Numbers<'a> {
+    /// Numbers the kinds. The error is want of memory, or of numbers: there may be 4,294,967,295.
+    pub(crate) fn new(alloc: Global, kinds: &'a [FileKind]) -> Result<Numbers<'a>, GrammarError>
+        ensures { IfOk result (λ n. n ≡ first_kinds kinds.now) }
+    {
+        let mut names = IndexSet::new(alloc);
+        let mut firsts = Vec::new(alloc);
+        for kind in kinds {
+            let (_, is_new) = names.insert_full(kind.name.as_str())?;
+            if is_new {
+                if firsts.len() >= 0xffff_ffff {
+                    return Err(GrammarError::J8);
+                }
+                firsts.push(kind)?;
+            }
+        }
+        Ok(Numbers {
+            names,
+            kinds: firsts,
+        })
+    }
+
+    /// The number of a kind's name.
+    pub(crate) fn number(&self, name: &str) -> Option<u32>
+        ensures { result ≡ number_in self.now name.now }
+    {
+        Some(self.names.get_index_of(name)? as u32)
+    }
+}
