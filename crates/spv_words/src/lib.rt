@@ -5,11 +5,15 @@
 //! order. (Khronos SPIR-V Specification 1.6, section 2.3.)
 #![tactic(auto)]
 
+#[cfg(test)]
+mod fakes;
 mod image;
 mod laws;
 mod order;
 mod reading;
 mod stream;
+#[cfg(test)]
+mod tests;
 mod words;
 mod writing;
 
