@@ -4,8 +4,10 @@
 mod error;
 mod file;
 mod listed;
+mod make;
 mod numbers;
 mod read;
+mod rules;
 mod table;
 
 pub use error::GrammarError;

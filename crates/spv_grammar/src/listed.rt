@@ -56,6 +56,13 @@ impl Name {
         Ok(Name { text })
     }
 
+    /// A copy of the name. The error is want of memory.
+    pub fn copy(&self, alloc: Global) -> Result<Name, AllocError>
+        ensures { IfOk result (λ n. n ≡ self.now) }
+    {
+        Name::from_str(alloc, self.as_str())
+    }
+
     /// The name that a text is. It takes no memory.
     pub fn from_string(text: String) -> Name
         ensures { result ≡ string_bytes text }

@@ -1,6 +1,6 @@
 //! Numbers the kinds of a grammar file by their names.
 
-ghost use Rattle.std.specs.Prelude.{◌≡◌, IfOk};
+ghost use Rattle.std.specs.Prelude.{◌≡◌, IfOk, map};
 ghost use Rattle.spv_grammar.specs.Kinds.{first_kinds, number_in};
 
 use crate::error::GrammarError;
@@ -54,5 +54,12 @@ impl<'a> Numbers<'a> {
         ensures { result ≡ number_in self.now name.now }
     {
         Some(self.names.get_index_of(name)? as u32)
+    }
+
+    /// The kinds, in the order of their numbers.
+    pub(crate) fn kinds(&self) -> &[&'a FileKind]
+        ensures { map (λ k. k.now) result.now ≡ self.now }
+    {
+        self.kinds.as_slice()
     }
 }

@@ -65,9 +65,9 @@ pub struct Enumerant {
 
 /// A kind with its enumerants.
 #[derive(Debug, Drop)]
-struct Sort {
-    kind: Kind,
-    enumerants: Vec<Enumerant>,
+pub(crate) struct Sort {
+    pub(crate) kind: Kind,
+    pub(crate) enumerants: Vec<Enumerant>,
 }
 
 /// What a grammar file says.
