@@ -1,4 +1,4 @@
-use Rattle.std.proofs.Common.{◌≡◌, ◌≤◌, ◌<◌, ◌++◌, ◌%◌, ◌+◌, ◌*◌, ◌∙◌, sym, ap, refl, subst, arith, ℕ, List, [], ◌∷◌, length, slice_index, take, drop, get_or, take-add}
+use Rattle.std.proofs.Common.{◌≡◌, ◌≤◌, ◌<◌, ◌++◌, ◌%◌, ◌+◌, ◌*◌, ◌^◌, ◌∙◌, sym, ap, refl, subst, arith, ℕ, List, [], ◌∷◌, length, slice_index, take, drop, get_or, take-add}
 use Rattle.std.proofs.lemmas.List.{length-take-le, take-append-drop, take_at}
 use Rattle.std.specs.List.{All, AllByRecursion}
 use Rattle.std.proofs.lemmas.Grind.{same_number_lists}
@@ -164,3 +164,21 @@ turned-part bs at n g m h =
     let front = turned-take bs at g (omega arith) in
     let whole = turned-take bs (at + n) (omega arith) h in
     rw (front, whole, take-add at n bs) (sym (turned-append (take at bs) (take n (drop at bs)) (rw long g)))
+
+-- words of four bytes fit 32 bits
+word_fits : (o : Order) (a b c d : ℕ) → a < 256 → b < 256 → c < 256 → d < 256 → word_of o a b c d < 2 ^ 32
+word_fits Little a b c d la lb lc ld = omega arith
+word_fits Big a b c d la lb lc ld = omega arith
+
+words_fit : (o : Order) (bs : List ℕ) → AllByRecursion (λ b. b < 256) bs → AllByRecursion (λ w. w < 2 ^ 32) (words_of o bs)
+words_fit o [] h = tt
+words_fit o (a ∷ []) h = tt
+words_fit o (a ∷ b ∷ []) h = tt
+words_fit o (a ∷ b ∷ c ∷ []) h = tt
+words_fit o (a ∷ b ∷ c ∷ d ∷ bs) h = (word_fits o a b c d h.0 h.1.0 h.1.1.0 h.1.1.1.0, words_fit o bs h.1.1.1.1)
+
+pub words-fit : (o : Order) (bs ws : List ℕ) → Stands o bs ws → All (λ w. w < 2 ^ 32) ws
+words-fit o bs ws s =
+    rw (stands-words o bs ws s) (All-from_recursion (λ w. w < 2 ^ 32) (words_of o bs) (words_fit o bs (recursion_from_All (λ b. b < 256) bs s.octets)))
+
+pub ruleset fitting = (words-fit)

@@ -1,5 +1,5 @@
 -- What reading and writing an image leave.
-use Rattle.std.specs.Prelude.{◌≡◌, ◌≤◌, ℕ, List, ◌++◌, length, take, Option, Some}
+use Rattle.std.specs.Prelude.{◌≡◌, ◌≤◌, ℕ, List, ◌++◌, length, take, drop, Option, Some}
 use Rattle.spv_words.specs.Words.{Stands}
 use Rattle.spv_words.specs.declared.words.Order.{Order}
 use Rattle.spv_words.specs.declared.words.WordError.{WordError}
@@ -11,6 +11,12 @@ pub record Holds (o : Order) (words old : List ℕ) (new : Option (List ℕ)) (n
   pub stands : Stands o bytes words
   pub fits : n ≤ length bytes
   pub front : new ≡ Some (old ++ take n bytes)
+
+-- A reader that had the bytes `old` left has given at most n of them, the first.
+pub record GaveAtMost (n : ℕ) (old : List ℕ) (new : Option (List ℕ)) : Type 0 where
+  pub given : ℕ
+  pub most : given ≤ n
+  pub rest : new ≡ Some (drop given old)
 
 -- How reading stops before the end of input: by a failed read, by too many bytes or for want of memory.
 abbrev pub IsStop : WordError → Type 0

@@ -1,4 +1,4 @@
-ghost use Rattle.std.specs.Prelude.{◌≡◌, ◌≤◌, ◌<◌, ◌*◌, length, slice_index, vec_len};
+ghost use Rattle.std.specs.Prelude.{◌≡◌, ◌≤◌, ◌<◌, ◌*◌, ◌^◌, length, slice_index, All};
 ghost use Rattle.spv_words.specs.Words.{words_of, Stands};
 ghost use Rattle.spv_words.specs.Header.{IsHeader, IsImage};
 ghost use Rattle.spv_words.specs.declared.words.Order.TheVariants.{Little};
@@ -10,7 +10,7 @@ use std::marker::Model;
 /// The words of a module, at least 5 and at most 4,194,304 of them, whose header fits. (2.3)
 ///
 /// A contract sees the list of the words. They are kept as bytes, the lowest of a word first.
-#[derive(Drop)]
+#[derive(Debug, Drop)]
 pub struct Image {
     bytes: Vec<u8>,
 }
@@ -57,11 +57,12 @@ impl Image {
 
     // There is no `is_empty`: no image is empty.
     /// The number of words, those of the header too.
-    #[tactic(auto, using(crate::proofs::Groups::images))]
+    #[tactic(auto, using(crate::proofs::Groups::images, crate::proofs::Standing::fitting))]
     pub fn len(&self) -> u32
         ensures words { result ≡ length self.now }
         ensures least { 5 ≤ length self.now }
         ensures most { length self.now ≤ 4194304 }
+        ensures fit { All (λ w. w < 2 ^ 32) self.now }
     {
         (self.bytes.len() / 4) as u32
     }

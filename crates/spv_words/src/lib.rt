@@ -8,7 +8,7 @@
 #[cfg(test)]
 mod fakes;
 mod image;
-mod laws;
+pub mod laws;
 mod order;
 mod reading;
 mod stream;
@@ -18,7 +18,6 @@ mod words;
 mod writing;
 
 pub use image::{Image, word};
-pub use laws::{examples, one_byte_list, one_refusal, one_word_list, words_stand};
 pub use reading::read_image;
 pub use stream::{Failed, FromRead, FromWrite, Sink, Source};
 pub use words::{Header, Order, WordError};

@@ -1,7 +1,7 @@
 ghost use Rattle.std.specs.Prelude.{◌≡◌, ◌≢◌, ◌≤◌, ◌<◌, ◌↔◌, ◌+◌, length, slice_index, IfOk, IfErr, IfSome, IsErrOf, IsNone, vec_len};
 ghost use Rattle.std.specs.Io.KnownBytes.{Consumes, IsAtEnd};
 ghost use Rattle.spv_words.specs.Words.{words_of};
-ghost use Rattle.spv_words.specs.Streams.{IsStop};
+ghost use Rattle.spv_words.specs.Streams.{GaveAtMost, IsStop};
 ghost use Rattle.spv_words.specs.Header.{magic_number, greatest_size, IsImage, IsModule, IsFirstBroken, Refuses};
 ghost use Rattle.spv_words.specs.declared.words.Order.TheVariants.{Little, Big};
 ghost use Rattle.spv_words.specs.declared.words.WordError.TheVariants.{W1, W8, W9};
@@ -47,6 +47,7 @@ fn read_all<R: Source>(alloc: Global, r: &mut R) -> Result<Vec<u8>, WordError>
     ensures most { IfOk result (λ v. vec_len v ≤ 16777216) }
     ensures over { IsErrOf result W8 → IfSome (R.remaining r.old) (λ xs. 16777216 < length xs) }
     ensures codes { IfErr result (λ e. IsStop e) }
+    ensures given { IfSome (R.remaining r.old) (λ xs. GaveAtMost 16777217 xs (R.remaining r.new)) }
 {
     let mut bytes = Vec::with_capacity(alloc, BLOCK_SIZE)?;
     let mut block = [0u8; BLOCK_SIZE];
@@ -137,6 +138,7 @@ pub fn read_image<R: Source>(alloc: Global, r: &mut R) -> Result<(Image, Order),
     // The answer is W1 exactly where a read failed.
     ensures count { R.failures r.new ≢ R.failures r.old ↔ IsErrOf result W1 }
     ensures steady { ¬ IsErrOf result W1 → R.failures r.new ≡ R.failures r.old }
+    ensures most { IfSome (R.remaining r.old) (λ xs. GaveAtMost 16777217 xs (R.remaining r.new)) }
 {
     let mut bytes = read_all(alloc, r)?;
     let order = order_of_module(&bytes)?;

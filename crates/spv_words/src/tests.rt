@@ -212,9 +212,9 @@ fn tells_what_is_wrong(rt: HostRuntime) -> Result<(), Fail> {
 
 #[test]
 fn laws_can_be_called() {
-    examples();
-    one_word_list();
-    one_byte_list();
-    words_stand();
-    one_refusal();
+    laws::examples();
+    laws::one_word_list();
+    laws::one_byte_list();
+    laws::words_stand();
+    laws::one_refusal();
 }
