@@ -1,0 +1,1 @@
+"""The checks that tests/run makes of the built program."""

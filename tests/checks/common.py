@@ -1,0 +1,91 @@
+"""What all checks share: the layers, and one run of the program."""
+
+import subprocess
+from dataclasses import dataclass
+from pathlib import Path
+from typing import Callable, FrozenSet, Optional
+
+TESTS = Path(__file__).resolve().parents[1]
+LAYERS = (
+    "first path",
+    "instructions",
+    "layout",
+    "ids",
+    "types",
+    "operations",
+    "flow",
+    "calls",
+    "text",
+    "trace",
+)
+SECONDS = 60
+
+
+class Unusable(Exception):
+    """The checks cannot be run: a file of theirs is missing or ill-formed."""
+
+
+@dataclass(frozen=True)
+class Check:
+    """One check: its name, the layers that it needs, and what it does.
+
+    `run` is given the program and an empty folder, and answers None, or what went wrong.
+    """
+
+    name: str
+    layers: FrozenSet[str]
+    run: Callable[[Path, Path], Optional[str]]
+
+
+def layers_of(text):
+    """The layers that a text names, joined by commas."""
+    names = [name.strip() for name in text.split(",")]
+    for name in names:
+        if name not in LAYERS:
+            raise Unusable(f"no layer has the name {name!r}")
+    return frozenset(names)
+
+
+def layers_that_stand():
+    """The layers that tests/layers lists."""
+    lines = (TESTS / "layers").read_text(encoding="utf-8").splitlines()
+    return frozenset().union(
+        *(layers_of(line) for line in lines if line and not line.startswith("#"))
+    )
+
+
+@dataclass(frozen=True)
+class Answer:
+    """What a run of the program gave: both outputs and the exit status."""
+
+    out: bytes
+    err: bytes
+    status: int
+
+    def __str__(self):
+        return f"output {shown(self.out)}, error {shown(self.err)}, exit {self.status}"
+
+
+def shown(text):
+    """A text for people, cut where it is long."""
+    long = len(text) > 300
+    return repr(text[:300])[1:] + (f" and {len(text) - 300} bytes more" if long else "")
+
+
+def run(program, words, folder, **how):
+    """Runs the program with these words in this folder, both outputs caught if not told otherwise."""
+    how = {"stdin": subprocess.DEVNULL, "stdout": subprocess.PIPE, **how}
+    ended = subprocess.run(
+        [str(program), *map(str, words)],
+        cwd=folder,
+        stderr=subprocess.PIPE,
+        timeout=SECONDS,
+        check=False,
+        **how,
+    )
+    return Answer(ended.stdout or b"", ended.stderr, ended.returncode)
+
+
+def difference(wanted, got):
+    """None where the answers are equal, else both."""
+    return None if wanted == got else f"  wanted: {wanted}\n  got:    {got}"

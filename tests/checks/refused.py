@@ -1,0 +1,89 @@
+"""Some cases with each growth of memory refused in turn.
+
+Each run must answer `error memory` and write nothing else, or answer as if nothing was refused.
+"""
+
+import os
+import shutil
+import struct
+import subprocess
+
+from .cases import all_cases, laid_out, wanted_answer
+from .common import TESTS, Answer, Check, Unusable, layers_of, run
+
+NO_MEMORY = Answer(b"", b"error memory\n", 2)
+MOST_GROWTHS = 100_000
+TALLY = struct.Struct("=3Q")
+
+
+def compiler():
+    """A C compiler, or None."""
+    return next(filter(None, map(shutil.which, ("gcc", "cc", "clang"))), None)
+
+
+def library(folder):
+    """The library that refuses, compiled into the folder."""
+    path = folder / "refuse.so"
+    source = TESTS / "refuse/refuse.c"
+    flags = ["-O2", "-Wall", "-fno-builtin", "-shared", "-fPIC"]
+    subprocess.run([compiler(), *flags, "-o", path, source, "-ldl"], check=True)
+    return path
+
+
+def refused_run(program, words, folder, preload, number, all_later):
+    """Runs the program with this growth refused: its answer, and the three numbers of the tally."""
+    tally = folder / "tally"
+    tally.write_bytes(bytes(TALLY.size))
+    environment = {
+        **os.environ,
+        "LD_PRELOAD": str(preload),
+        "REFUSE_TELL": str(tally),
+        "REFUSE_AT": str(number),
+        **({"REFUSE_ALL": "1"} if all_later else {}),
+    }
+    got = run(program, words, folder, env=environment)
+    return got, TALLY.unpack(tally.read_bytes())
+
+
+def each_refused(case, all_later, program, folder):
+    """Refuses the growths of the case's run one by one, until a run is refused none."""
+    preload = library(folder)
+    words = laid_out(case, folder)
+    wanted = wanted_answer(case)
+    for number in range(1, MOST_GROWTHS):
+        got, (began, _, refused) = refused_run(program, words, folder, preload, number, all_later)
+        if not began:
+            return "  the library did not take hold: is the program linked with the C library?"
+        if not refused:
+            return None if got == wanted else f"  none refused\n  wanted: {wanted}\n  got:    {got}"
+        if got not in (wanted, NO_MEMORY):
+            return f"  growth {number} refused\n  wanted: {NO_MEMORY}\n  got:    {got}"
+    return f"  over {MOST_GROWTHS} growths"
+
+
+def chosen_cases():
+    """The cases that tests/refuse/cases names."""
+    by_name = {case.one("case"): case for case in all_cases()}
+    lines = (TESTS / "refuse/cases").read_text(encoding="utf-8").splitlines()
+    names = [line for line in lines if line and not line.startswith("#")]
+    for name in names:
+        if name not in by_name:
+            raise Unusable(f"tests/refuse/cases: no case has the name {name}")
+    return [by_name[name] for name in names]
+
+
+def checks():
+    """Two checks for each chosen case: one growth refused, and all from one on."""
+    if compiler() is None:
+        print("refused memory: skipped, there is no C compiler")
+        return []
+
+    def check(case, all_later):
+        later = " and all later" if all_later else ""
+        return Check(
+            f"each growth{later} refused: {case.one('case')}",
+            layers_of(case.one("layer")),
+            lambda program, folder: each_refused(case, all_later, program, folder),
+        )
+
+    return [check(case, all_later) for case in chosen_cases() for all_later in (False, True)]
