@@ -1,8 +1,10 @@
 -- The kinds of a file, each name once, and their numbers. (Own.)
-use Rattle.std.specs.Prelude.{ℕ, Bool, not, List, [], ◌∷◌, Option, filter, position}
+use Rattle.std.specs.Prelude.{ℕ, Bool, true, false, not, ◌&&◌, ◌||◌, List, [], ◌∷◌, Option, Some, None, filter, position, codes}
 use Rattle.std.specs.List.{find}
 use Rattle.std.specs.Str.{bytes_eq}
 use Rattle.spv_grammar.specs.declared.file.FileKind.{FileKind}
+use Rattle.spv_grammar.specs.declared.table.Category.{Category}
+use Rattle.spv_grammar.specs.declared.table.Category.TheVariants as category
 
 abbrev pub bears : List ℕ → FileKind → Bool
 bears name k = bytes_eq name k.name
@@ -19,3 +21,25 @@ number_in firsts name = position (bears name) firsts
 -- the kind that a name means
 abbrev pub kind_named : List FileKind → List ℕ → Option FileKind
 kind_named firsts name = find (bears name) firsts
+
+abbrev pub is_id_category : Option Category → Bool
+is_id_category (Some category.Id) = true
+is_id_category _ = false
+
+abbrev pub is_part_category : Option Category → Bool
+is_part_category (Some category.Id) = true
+is_part_category (Some category.Literal) = true
+is_part_category _ = false
+
+-- the kinds whose operands are one id or one literal
+abbrev pub is_part : Option FileKind → Bool
+is_part None = false
+is_part (Some k) = is_part_category k.category
+
+abbrev pub is_id : Option FileKind → Bool
+is_id None = false
+is_id (Some k) = is_id_category k.category
+
+-- the result kinds are those of category Id named IdResultType and IdResult
+abbrev pub is_result : List FileKind → List ℕ → Bool
+is_result firsts name = (bytes_eq name (codes "IdResultType") || bytes_eq name (codes "IdResult")) && is_id (kind_named firsts name)

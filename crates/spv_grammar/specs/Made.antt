@@ -19,6 +19,7 @@ use Rattle.spv_grammar.specs.declared.file.FileKind.{FileKind}
 use Rattle.spv_grammar.specs.declared.file.File.{File}
 use Rattle.spv_grammar.specs.Table.{Table, Sort}
 use Rattle.spv_grammar.specs.Kinds.{first_kinds, number_in}
+use Rattle.spv_grammar.specs.Rules.{is_one, has_numbers, has_kinds, is_known, has_results, has_bases}
 
 -- what each element of a list makes, in order; nothing if one makes nothing
 abbrev pub all_of : {A B : Type 0} → (A → Option B) → List A → Option (List B)
@@ -40,10 +41,6 @@ parameter_of firsts o = number_in firsts o.kind
 -- an enumerant: its value, and its parameters' kinds by number
 abbrev pub enumerant_from : List FileKind → FileEnumerant → Option Enumerant
 enumerant_from firsts e = option_and_then (λ value. option_map (λ kinds. record { name = e.name; value = value; parameters = kinds; capabilities = e.capabilities }) (all_of (parameter_of firsts) e.parameters)) e.value
-
-abbrev pub is_one : Option Quantifier → Bool
-is_one (Some quantifier.One) = true
-is_one _ = false
 
 -- the values 0 and those of one bit
 abbrev pub is_mask : Option ℕ → Bool

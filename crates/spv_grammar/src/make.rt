@@ -3,14 +3,16 @@
 ghost use Rattle.std.specs.Prelude.{◌≡◌, IfOk, map};
 ghost use Rattle.spv_grammar.specs.Kinds.{number_in};
 ghost use Rattle.std.specs.List.{list_all, filter};
-ghost use Rattle.spv_grammar.specs.Made.{Makes, all_of, item_of, entry_from, parameter_of, enumerant_from, is_one, is_kept, is_mask, fits_category, sort_from};
+ghost use Rattle.spv_grammar.specs.Made.{Makes, all_of, item_of, entry_from, parameter_of, enumerant_from, is_kept, is_mask, fits_category, sort_from};
+ghost use Rattle.spv_grammar.specs.Rules.{is_one};
 ghost use Rattle.spv_grammar.specs.Sorts.{sort_view};
 
 use crate::error::GrammarError;
 use crate::file::{FileEnumerant, FileInstruction, FileKind, FileOperand};
 use crate::listed::{Listed, Name};
 use crate::numbers::Numbers;
-use crate::table::{Category, Entry, Enumerant, Item, Kind, Quantifier, Sort};
+use crate::rules::is_one;
+use crate::table::{Category, Entry, Enumerant, Item, Kind, Sort};
 use std::alloc::{AllocError, Global};
 
 /// A copy of a list of names.
@@ -123,16 +125,6 @@ fn enumerant(alloc: Global, numbers: &Numbers, enumerant: &FileEnumerant) -> Res
         parameters,
         capabilities,
     })
-}
-
-/// Whether an operand comes once.
-fn is_one(quantifier: Option<Quantifier>) -> bool
-    ensures { result ≡ is_one quantifier }
-{
-    match quantifier {
-        Some(Quantifier::One) => true,
-        _ => false,
-    }
 }
 
 /// Whether each parameter comes once.

@@ -1,7 +1,7 @@
 //! Numbers the kinds of a grammar file by their names.
 
-ghost use Rattle.std.specs.Prelude.{◌≡◌, IfOk, map};
-ghost use Rattle.spv_grammar.specs.Kinds.{first_kinds, number_in};
+ghost use Rattle.std.specs.Prelude.{◌≡◌, IfOk, map, option_map};
+ghost use Rattle.spv_grammar.specs.Kinds.{first_kinds, number_in, kind_named};
 
 use crate::error::GrammarError;
 use crate::file::FileKind;
@@ -54,6 +54,15 @@ impl<'a> Numbers<'a> {
         ensures { result ≡ number_in self.now name.now }
     {
         Some(self.names.get_index_of(name)? as u32)
+    }
+
+    /// The kind that a name means.
+    pub(crate) fn kind(&self, name: &str) -> Option<&FileKind>
+        ensures { option_map (λ k. k.now) result ≡ kind_named self.now name.now }
+    {
+        let place = self.names.get_index_of(name)?;
+        let kind: &FileKind = self.kinds[place];
+        Some(kind)
     }
 
     /// The kinds, in the order of their numbers.
