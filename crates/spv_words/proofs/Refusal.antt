@@ -1,10 +1,11 @@
-use Rattle.std.proofs.Common.{◌≡◌, ◌≢◌, ◌≤◌, ◌<◌, ◌%◌, subst, arith, ℕ, List, length, slice_index}
+use Rattle.std.proofs.Common.{◌≡◌, ◌≢◌, ◌≤◌, ◌<◌, ◌%◌, ◌∙◌, sym, subst, arith, ℕ, List, length, slice_index}
 use Rattle.spv_words.proofs.Standing.{Octets, words-stand, one_telling, module-tells, module-long, stands-groups}
 use Rattle.spv_words.specs.declared.words.Order.{Order}
 use Rattle.spv_words.specs.declared.words.WordError.{WordError}
 use Rattle.spv_words.specs.declared.words.WordError.TheVariants as code
 use Rattle.spv_words.specs.Words.{words_of}
 use Rattle.spv_words.specs.Header.{magic_number, version_number, greatest_bound, greatest_size, IsModule, Tells, Keeps, place_of, IsFirstBroken}
+use Rattle.spv_words.specs.HeaderTest.{Fits, Breaks}
 
 -- bytes that passed the tests up to the magic number
 pub record Found (o : Order) (bs : List ℕ) : Type 0 where
@@ -89,3 +90,26 @@ module-keeps o bs ws m code.W6 = λ p vs t. let l = module-long o bs ws m in sub
 module-keeps o bs ws m code.W7 = λ p vs t. let l = module-long o bs ws m in subst (λ (us : List ℕ). (1 ≤ slice_index us 3) × (slice_index us 3 ≤ greatest_bound)) (one_telling o p bs ws vs (omega arith) (module-tells o bs ws m) t).1 (m.header.bound_least, m.header.bound_most)
 module-keeps o bs ws m code.W8 = m.size
 module-keeps o bs ws m code.W9 = tt
+
+-- the first code that the header breaks is the first that the bytes break
+pub broken_header : (o : Order) (bs : List ℕ) (version schema bound : ℕ) (e : WordError) → Found o bs
+    → version ≡ slice_index (words_of o bs) 1 → schema ≡ slice_index (words_of o bs) 4 → bound ≡ slice_index (words_of o bs) 3
+    → Breaks e version schema bound → IsFirstBroken e bs
+broken_header o bs version schema bound code.W1 f v s b h = absurd h
+broken_header o bs version schema bound code.W2 f v s b h = absurd h
+broken_header o bs version schema bound code.W3 f v s b h = absurd h
+broken_header o bs version schema bound code.W4 f v s b h = absurd h
+broken_header o bs version schema bound code.W5 f v s b h = broken_version o bs f (λ x. h (v ∙ x))
+broken_header o bs version schema bound code.W6 f v s b h = broken_schema o bs f (sym v ∙ h.0) (λ x. h.1 (s ∙ x))
+broken_header o bs version schema bound code.W7 f v s b h = broken_bound o bs f (sym v ∙ h.0) (sym s ∙ h.1) (rw b at h.2)
+broken_header o bs version schema bound code.W8 f v s b h = absurd h
+broken_header o bs version schema bound code.W9 f v s b h = absurd h
+
+-- and one that fits is a module's
+pub fitting_header : (o : Order) (bs : List ℕ) (version schema bound : ℕ) → Found o bs
+    → version ≡ slice_index (words_of o bs) 1 → schema ≡ slice_index (words_of o bs) 4 → bound ≡ slice_index (words_of o bs) 3
+    → Fits version schema bound → IsModule o bs (words_of o bs)
+fitting_header o bs version schema bound f v s b h =
+    let least = h.bound_least in
+    let most = h.bound_most in
+    found_module o bs f (sym v ∙ h.right_version) (sym s ∙ h.right_schema) (omega arith) (omega arith)

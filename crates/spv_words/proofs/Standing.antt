@@ -146,7 +146,7 @@ same_bytes o (a ∷ b ∷ c ∷ d ∷ bs) (e ∷ f ∷ g ∷ h ∷ cs) hb hc gb 
 pub one_spelling : (o : Order) (bs cs ws : List ℕ) → Stands o bs ws → Stands o cs ws → bs ≡ cs
 one_spelling o bs cs ws s t =
     same_bytes o bs cs (recursion_from_All (λ b. b < 256) bs s.octets) (recursion_from_All (λ b. b < 256) cs t.octets)
-        (stands-groups o bs ws s) (stands-groups o cs ws t) (sym (stands-words o bs ws s) ∙ stands-words o cs ws t)
+    (stands-groups o bs ws s) (stands-groups o cs ws t) (sym (stands-words o bs ws s) ∙ stands-words o cs ws t)
 
 -- turned bytes of a beginning
 pub turned-take : (bs : List ℕ) (n : ℕ) → n % 4 ≡ 0 → n ≤ length bs → take n (turned bs) ≡ turned (take n bs)

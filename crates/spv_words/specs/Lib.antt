@@ -1,4 +1,5 @@
 pub mod Count
 pub mod Header
+pub mod HeaderTest
 pub mod Streams
 pub mod Words

@@ -3,6 +3,7 @@ ghost use Rattle.std.specs.Io.KnownBytes.{Consumes, IsAtEnd};
 ghost use Rattle.spv_words.specs.Words.{words_of};
 ghost use Rattle.spv_words.specs.Streams.{GaveAtMost, IsStop};
 ghost use Rattle.spv_words.specs.Header.{magic_number, greatest_size, IsImage, IsModule, IsFirstBroken, Refuses};
+ghost use Rattle.spv_words.specs.HeaderTest.{Fits, Breaks};
 ghost use Rattle.spv_words.specs.declared.words.Order.TheVariants.{Little, Big};
 ghost use Rattle.spv_words.specs.declared.words.WordError.TheVariants.{W1, W8, W9};
 
@@ -79,6 +80,23 @@ fn order_in(bytes: &[u8]) -> Option<Order>
     None
 }
 
+/// The first code that the version, the schema and the bound of a header break, or none.
+fn broken_by(version: u32, schema: u32, bound: u32) -> Option<WordError>
+    ensures some { IfSome result (λ e. Breaks e version schema bound) }
+    ensures none { IsNone result → Fits version schema bound }
+{
+    if version != VERSION_1_6 {
+        return Some(WordError::W5);
+    }
+    if schema != 0 {
+        return Some(WordError::W6);
+    }
+    if bound == 0 || bound > GREATEST_BOUND {
+        return Some(WordError::W7);
+    }
+    None
+}
+
 /// The order of the bytes of a module, or the first code that they break.
 fn order_of_module(bytes: &[u8]) -> Result<Order, WordError>
     requires { length bytes.now ≤ greatest_size }
@@ -95,17 +113,13 @@ fn order_of_module(bytes: &[u8]) -> Result<Order, WordError>
     let Some(order) = order_in(bytes) else {
         return Err(WordError::W4);
     };
-    if word_in(bytes, order, 1) != VERSION_1_6 {
-        return Err(WordError::W5);
-    }
-    if word_in(bytes, order, 4) != 0 {
-        return Err(WordError::W6);
-    }
+    let version = word_in(bytes, order, 1);
+    let schema = word_in(bytes, order, 4);
     let bound = word_in(bytes, order, 3);
-    if bound == 0 || bound > GREATEST_BOUND {
-        return Err(WordError::W7);
+    match broken_by(version, schema, bound) {
+        Some(broken) => Err(broken),
+        None => Ok(order),
     }
-    Ok(order)
 }
 
 /// Brings the bytes of a module into the order `Little`.

@@ -40,7 +40,12 @@ fn reads_a_header(rt: HostRuntime) -> Result<(), Fail> {
         let (image, order) = answer(rt.alloc(), &bytes, 120)?;
         assert_eq!(rt; order, want);
         assert_eq!(rt; image.len(), 5);
-        let header = Header { version: 0x0001_0600, generator: 9, bound: 5, schema: 0 };
+        let header = Header {
+            version: 0x0001_0600,
+            generator: 9,
+            bound: 5,
+            schema: 0,
+        };
         assert_eq!(rt; image.header(), header);
         assert_eq!(rt; word(&image, 0), 0x0723_0203);
         assert_eq!(rt; word(&image, 2), 9);
@@ -206,7 +211,10 @@ fn tells_what_is_wrong(rt: HostRuntime) -> Result<(), Fail> {
         assert_eq!(rt; text.as_str(), message);
     }
     let text = Failed.to_string(rt.alloc())?;
-    assert_eq!(rt; text.as_str(), "a call of the reader or of the writer failed");
+    assert_eq!(rt;
+        text.as_str(),
+        "a call of the reader or of the writer failed"
+    );
     Ok(())
 }
 

@@ -23,7 +23,7 @@ found_boundless = record { size = lit≤ tt; least = lit≤ tt; groups = refl; o
 pub returns-clause-module_bytes : goal.returns-clause-module_bytes
 returns-clause-module_bytes c =
     found_module Big right
-        (record { size = lit≤ tt; least = lit≤ tt; groups = refl; octets = octets; magic = refl }) refl refl (lit≤ tt) (lit≤ tt)
+    (record { size = lit≤ tt; least = lit≤ tt; groups = refl; octets = octets; magic = refl }) refl refl (lit≤ tt) (lit≤ tt)
 
 pub returns-clause-bound_first : goal.returns-clause-bound_first
 returns-clause-bound_first c = broken_bound Big boundless found_boundless refl refl (λ k. let low : 1 ≤ 0 = k.0 in omega arith)
