@@ -1,3 +1,4 @@
 pub mod Fronts
 pub mod Hex
 pub mod Firsts
+pub mod Whole
