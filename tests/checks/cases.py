@@ -156,11 +156,12 @@ def named_files(case):
 def check_files(all_cases):
     """Raises Unusable where a case names no file, or a file is named by no case."""
     names = set().union(*(named_files(case) for case in all_cases))
+    folders = ("modules", "texts", "grammars")
     files = {
         str(path.relative_to(TESTS))
-        for folder in ("modules", "texts", "grammars")
+        for folder in folders
         for path in (TESTS / folder).iterdir()
-        if not (folder == "modules" and path.suffix == ".spvasm" and path.with_suffix(".spv").exists())
+        if path.suffix != ".spvasm" or not path.with_suffix(".spv").exists()
     }
     if names != files:
         raise Unusable(f"not a file, or named by no case: {', '.join(sorted(names ^ files))}")
@@ -168,7 +169,8 @@ def check_files(all_cases):
 
 def all_cases():
     """The cases of all files, each name once."""
-    found = [case for path in sorted((TESTS / "cases").glob("*.cases")) for case in read_cases(path)]
+    paths = sorted((TESTS / "cases").glob("*.cases"))
+    found = [case for path in paths for case in read_cases(path)]
     for name, times in Counter(case.one("case") for case in found).items():
         if times > 1:
             raise Unusable(f"{times} cases have the name {name}")

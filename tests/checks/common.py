@@ -73,7 +73,7 @@ def shown(text):
 
 
 def run(program, words, folder, **how):
-    """Runs the program with these words in this folder, both outputs caught if not told otherwise."""
+    """Runs the program with these words in this folder; catches both outputs if not told else."""
     how = {"stdin": subprocess.DEVNULL, "stdout": subprocess.PIPE, **how}
     ended = subprocess.run(
         [str(program), *map(str, words)],

@@ -1,0 +1,44 @@
+"""Modules near the greatest size, one of each shape that tests/generate makes.
+
+They show that hostile sizes are read in reasonable time: a run that takes over a minute fails.
+"""
+
+import subprocess
+import sys
+
+from .common import TESTS, Answer, Check, difference, run
+
+SHAPES = (
+    "straight",
+    "nops",
+    "constants",
+    "texts",
+    "names",
+    "memory",
+    "switches",
+    "phis",
+    "blocks",
+    "functions",
+)
+GRAMMAR = TESTS / "grammars/profile.json"
+VALID = Answer(b"valid\n", b"", 0)
+
+
+def large(shape):
+    """The check of a module of this shape."""
+
+    def check(program, folder):
+        generate = [sys.executable, str(TESTS / "generate"), str(folder), shape]
+        subprocess.run(generate, check=True)
+        module = folder / f"{shape}.spv"
+        got = run(program, ["check", "--grammar", GRAMMAR, module], folder)
+        module.unlink()
+        return difference(VALID, got)
+
+    return check
+
+
+def checks():
+    """All shapes that are sound under the profile. They need the instructions."""
+    layers = frozenset({"instructions"})
+    return [Check(f"large: {shape}", layers, large(shape)) for shape in SHAPES]
