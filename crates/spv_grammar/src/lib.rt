@@ -4,6 +4,7 @@
 mod error;
 mod file;
 mod listed;
+mod load;
 mod make;
 mod numbers;
 mod read;

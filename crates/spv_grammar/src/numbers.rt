@@ -1,7 +1,9 @@
 //! Numbers the kinds of a grammar file by their names.
 
-ghost use Rattle.std.specs.Prelude.{◌≡◌, IfOk, map, option_map};
+ghost use Rattle.std.specs.Prelude.{◌≡◌, ◌<◌, ◌^◌, length, IfOk, IfErr, map, option_map};
 ghost use Rattle.spv_grammar.specs.Kinds.{first_kinds, number_in, kind_named};
+
+ghost use Rattle.spv_grammar.specs.declared.error.GrammarError.TheVariants.{J8};
 
 use crate::error::GrammarError;
 use crate::file::FileKind;
@@ -30,7 +32,9 @@ impl<'a> Model for Numbers<'a> {
 impl<'a> Numbers<'a> {
     /// Numbers the kinds. The error is want of memory, or of numbers: there may be 4,294,967,295.
     pub(crate) fn new(alloc: Global, kinds: &'a [FileKind]) -> Result<Numbers<'a>, GrammarError>
-        ensures { IfOk result (λ n. n ≡ first_kinds kinds.now) }
+        ensures numbered { IfOk result (λ n. n ≡ first_kinds kinds.now) }
+        ensures few { IfOk result (λ n. length n < 2 ^ 32) }
+        ensures memory { IfErr result (λ e. e ≡ J8) }
     {
         let mut names = IndexSet::new(alloc);
         let mut firsts = Vec::new(alloc);

@@ -1,4 +1,5 @@
-ghost use Rattle.std.specs.Prelude.{◌≡◌, option_map, option_and_then};
+ghost use Rattle.std.specs.Prelude.{◌≡◌, map, option_map, option_and_then};
+ghost use Rattle.spv_grammar.specs.Sorts.{sort_view};
 ghost use Rattle.spv_grammar.specs.Table.{entry_of, kind_of, enumerant_of, IsWhole};
 
 use crate::listed::{Listed, Name};
@@ -103,6 +104,14 @@ fn first_enumerant(enumerants: &[Enumerant], value: u32) -> Option<&Enumerant>
 }
 
 impl Table {
+    /// The table of these kinds and entries. It takes no memory.
+    pub(crate) fn from_parts(sorts: Vec<Sort>, entries: Vec<(u16, Entry)>) -> Table
+        requires { IsWhole (record { kinds = map sort_view sorts.items; entries = entries.items }) }
+        ensures { result ≡ record { kinds = map sort_view sorts.items; entries = entries.items } }
+    {
+        Table { sorts, entries }
+    }
+
     /// The kind of a number.
     pub fn kind(&self, number: u32) -> Option<&Kind>
         ensures kind { option_map (λ k. k.now) result ≡ option_map (λ s. s.kind) (kind_of self.now number) }

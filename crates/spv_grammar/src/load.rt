@@ -1,0 +1,108 @@
+//! A table from a grammar file.
+
+ghost use Rattle.std.specs.Prelude.{◌≡◌, ◌≢◌, ◌<◌, ◌^◌, length, None, Some, IfOk, IfErr, IsErrOf, IsUtf8, map};
+ghost use Rattle.serde_json.specs.View.{view};
+ghost use Rattle.serde_json.specs.Data.{Data};
+ghost use Rattle.serde_json.specs.Read.{read as read_text};
+ghost use Rattle.spv_grammar.specs.Kinds.{first_kinds};
+ghost use Rattle.spv_grammar.specs.Answer.{file_breaks, tree_breaks, text_breaks, Gives};
+ghost use Rattle.spv_grammar.specs.Made.{IsTable};
+ghost use Rattle.spv_grammar.specs.declared.error.GrammarError.TheVariants.{J1, J8};
+
+use crate::error::GrammarError;
+use crate::file::File;
+use crate::make;
+use crate::numbers::Numbers;
+use crate::read::read_file;
+use crate::rules;
+use crate::table::Table;
+use serde_json::Value;
+use std::alloc::Global;
+
+/// The least of J3 to J7 that a file breaks.
+fn broken(numbers: &Numbers, file: &File) -> Option<GrammarError>
+    requires { numbers.now ≡ first_kinds file.now.kinds }
+    ensures { result ≡ file_breaks file.now }
+{
+    if !rules::has_numbers(file) {
+        Some(GrammarError::J3)
+    } else if !rules::has_kinds(numbers, file) {
+        Some(GrammarError::J4)
+    } else if !rules::is_known(file) {
+        Some(GrammarError::J5)
+    } else if !rules::has_results(numbers, file) {
+        Some(GrammarError::J6)
+    } else if !rules::has_bases(numbers, file) {
+        Some(GrammarError::J7)
+    } else {
+        None
+    }
+}
+
+/// The table that an unbroken file makes. The error is want of memory.
+fn made(alloc: Global, numbers: &Numbers, file: &File) -> Result<Table, GrammarError>
+    requires numbered { numbers.now ≡ first_kinds file.now.kinds }
+    requires few { length numbers.now < 2 ^ 32 }
+    requires unbroken { file_breaks file.now ≡ None }
+    ensures table { IfOk result (λ G. IsTable file.now G) }
+    ensures memory { IfErr result (λ e. e ≡ J8) }
+{
+    let entries = make::entries(alloc, numbers, file.instructions.as_slice())?;
+    let sorts = make::sorts(alloc, numbers)?;
+    Ok(Table::from_parts(sorts, entries))
+}
+
+/// The table that a file makes, or the least of J3 to J7 that it breaks.
+fn from_file(alloc: Global, file: &File) -> Result<Table, GrammarError>
+    ensures table { IfOk result (λ G. (file_breaks file.now ≡ None) × IsTable file.now G) }
+    ensures refused { IfErr result (λ e. e ≢ J8 → file_breaks file.now ≡ Some e) }
+{
+    let numbers = Numbers::new(alloc, file.kinds.as_slice())?;
+    match broken(&numbers, file) {
+        Some(code) => Err(code),
+        None => made(alloc, &numbers, file),
+    }
+}
+
+impl Table {
+    /// The table of a grammar file's tree.
+    ///
+    /// Of J2 to J7 the least that the tree breaks is told, and J8 where memory ran out.
+    pub fn from_value(alloc: Global, value: &Value) -> Result<Table, GrammarError>
+        ensures table { IfOk result (λ G. Gives (view value.now) G) }
+        ensures refused { IfErr result (λ e. e ≢ J8 → tree_breaks (view value.now) ≡ Some e) }
+    {
+        let file = read_file(alloc, value)?;
+        from_file(alloc, &file)
+    }
+
+    /// The table of a grammar file's text.
+    ///
+    /// J1 is told where the text is no JSON of at most 127 levels, and else what `from_value` tells
+    /// of its tree.
+    pub fn from_slice(alloc: Global, text: &[u8]) -> Result<Table, GrammarError>
+        ensures table { IfOk result (λ G. (d : Data) × IsUtf8 text.now × (read_text text.now ≡ Some d) × Gives d G) }
+        ensures refused { IfErr result (λ e. e ≢ J8 → text_breaks text.now e) }
+    {
+        let value = parse(alloc, text)?;
+        Table::from_value(alloc, &value)
+    }
+}
+
+/// The tree that a text is in JSON: J1 where it is none, and J8 where memory ran out.
+fn parse(alloc: Global, text: &[u8]) -> Result<Value, GrammarError>
+    ensures ok { IfOk result (λ v. IsUtf8 text.now × (read_text text.now ≡ Some (view v))) }
+    ensures none { IsErrOf result J1 → IsUtf8 text.now → read_text text.now ≡ None }
+    ensures codes { IfErr result (λ e. e ≢ J1 → e ≡ J8) }
+{
+    match Value::from_slice(alloc, text) {
+        Ok(value) => Ok(value),
+        Err(e) => {
+            if e.is_memory() {
+                Err(GrammarError::J8)
+            } else {
+                Err(GrammarError::J1)
+            }
+        }
+    }
+}
