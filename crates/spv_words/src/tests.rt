@@ -221,6 +221,7 @@ fn tells_what_is_wrong(rt: HostRuntime) -> Result<(), Fail> {
 #[test]
 fn laws_can_be_called() {
     laws::examples();
+    laws::stream_examples();
     laws::one_word_list();
     laws::one_byte_list();
     laws::words_stand();

@@ -1,6 +1,8 @@
-use Rattle.std.proofs.Common.{◌<◌, ◌≤◌, ℕ, List, [], ◌∷◌, lit<, lit≤, refl, arith}
-use Rattle.spv_words.specs.declared.words.Order.TheVariants.{Big}
-use Rattle.spv_words.proofs.Standing.{Octets}
+use Rattle.std.proofs.Common.{◌≡◌, ◌<◌, ◌≤◌, ℕ, List, [], ◌∷◌, lit<, lit≤, refl, arith}
+use Rattle.spv_words.specs.declared.words.Order.TheVariants.{Little, Big}
+use Rattle.spv_words.specs.declared.words.WordError.TheVariants.{W2}
+use Rattle.spv_words.specs.Words.{words_of}
+use Rattle.spv_words.proofs.Standing.{Octets, words-stand, one_order, module-tells}
 use Rattle.spv_words.proofs.Refusal.{Found, found_module, broken_bound}
 use Rattle.std.proofs.lemmas.List.Elements.{All-from_recursion}
 use Rattle.spv_words.proofs.laws.examples.Goals as goal
@@ -27,3 +29,11 @@ returns-clause-module_bytes c =
 
 pub returns-clause-bound_first : goal.returns-clause-bound_first
 returns-clause-bound_first c = broken_bound Big boundless found_boundless refl refl (λ k. let low : 1 ≤ 0 = k.0 in omega arith)
+
+pub returns-clause-one_order : goal.returns-clause-one_order
+returns-clause-one_order c = λ ws m.
+    let e : Little ≡ Big = one_order Little Big right ws (words_of Big right) (lit≤ tt) (module-tells Little right ws m) (record { stands = words-stand Big right octets refl; magic = refl }) in
+    cc
+
+pub returns-clause-size_second : goal.returns-clause-size_second
+returns-clause-size_second c = λ b. let h : 20 ≤ 3 = b.before W2 (lit< tt) in omega arith
