@@ -9,6 +9,7 @@ mod make;
 mod numbers;
 mod read;
 mod rules;
+mod sort;
 mod table;
 
 pub use error::GrammarError;

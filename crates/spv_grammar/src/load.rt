@@ -49,7 +49,7 @@ fn made(alloc: Global, numbers: &Numbers, file: &File) -> Result<Table, GrammarE
 {
     let entries = make::entries(alloc, numbers, file.instructions.as_slice())?;
     let sorts = make::sorts(alloc, numbers)?;
-    Ok(Table::from_parts(sorts, entries))
+    Table::new(alloc, sorts, entries)
 }
 
 /// The table that a file makes, or the least of J3 to J7 that it breaks.

@@ -1,18 +1,18 @@
 //! Makes the parts of a table from a grammar file whose kinds are numbered.
 
-ghost use Rattle.std.specs.Prelude.{◌≡◌, IfOk, map};
+ghost use Rattle.std.specs.Prelude.{◌≡◌, IfOk};
 ghost use Rattle.spv_grammar.specs.Kinds.{number_in};
 ghost use Rattle.std.specs.List.{list_all, filter};
 ghost use Rattle.spv_grammar.specs.Made.{Makes, all_of, item_of, entry_from, parameter_of, enumerant_from, is_kept, is_mask, fits_category, sort_from};
 ghost use Rattle.spv_grammar.specs.Rules.{is_one};
-ghost use Rattle.spv_grammar.specs.Sorts.{sort_view};
 
 use crate::error::GrammarError;
 use crate::file::{FileEnumerant, FileInstruction, FileKind, FileOperand};
 use crate::listed::{Listed, Name};
 use crate::numbers::Numbers;
 use crate::rules::is_one;
-use crate::table::{Category, Entry, Enumerant, Item, Kind, Sort};
+use crate::sort::Sort;
+use crate::table::{Category, Entry, Enumerant, Item, Kind};
 use std::alloc::{AllocError, Global};
 
 /// A copy of a list of names.
@@ -181,7 +181,7 @@ fn enumerants(
 
 /// A kind with its enumerants.
 fn sort(alloc: Global, numbers: &Numbers, kind: &FileKind) -> Result<Sort, GrammarError>
-    ensures { Makes sort_view result (sort_from numbers.now kind.now) }
+    ensures { Makes (λ s. s) result (sort_from numbers.now kind.now) }
 {
     let Some(category) = kind.category else {
         return Err(GrammarError::J5);
@@ -189,19 +189,17 @@ fn sort(alloc: Global, numbers: &Numbers, kind: &FileKind) -> Result<Sort, Gramm
     let bases = bases(alloc, numbers, kind.bases.as_slice())?;
     let enumerants = enumerants(alloc, numbers, kind.category, kind.enumerants.as_slice())?;
     let name = kind.name.copy(alloc)?;
-    Ok(Sort {
-        kind: Kind {
-            name,
-            category,
-            bases,
-        },
-        enumerants,
-    })
+    let kind = Kind {
+        name,
+        category,
+        bases,
+    };
+    Ok(Sort::new(alloc, kind, enumerants)?)
 }
 
 /// The kinds of the table, in the order of their numbers.
 pub(crate) fn sorts(alloc: Global, numbers: &Numbers) -> Result<Vec<Sort>, GrammarError>
-    ensures { Makes (λ v. map sort_view v.items) result (all_of (sort_from numbers.now) numbers.now) }
+    ensures { Makes (λ v. v.items) result (all_of (sort_from numbers.now) numbers.now) }
 {
     let mut found = Vec::new(alloc);
     for kind in numbers.kinds() {

@@ -1,8 +1,15 @@
-ghost use Rattle.std.specs.Prelude.{◌≡◌, map, option_map, option_and_then};
-ghost use Rattle.spv_grammar.specs.Sorts.{sort_view};
-ghost use Rattle.spv_grammar.specs.Table.{entry_of, kind_of, enumerant_of, IsWhole};
+ghost use Rattle.std.specs.Prelude.{◌≡◌, ◌<◌, ◌^◌, ℕ, List, length, slice_get, slice_index, option_map, option_and_then, position, IfOk, IfErr};
+ghost use Rattle.std.specs.Str.{bytes_eq};
+ghost use Rattle.indexmap.specs.IndexMap.{get_by_text};
+ghost use Rattle.spv_grammar.specs.Table.{entry_of, kind_of, enumerant_of, first_with, IsWhole};
+ghost use Rattle.spv_grammar.specs.Lookups.{opcode_named, value_named, number_named};
+ghost use Rattle.spv_grammar.specs.declared.error.GrammarError.TheVariants.{J8};
 
+use crate::error::GrammarError;
 use crate::listed::{Listed, Name};
+use crate::sort::Sort;
+use indexmap::IndexMap;
+use std::alloc::{AllocError, Global};
 use std::marker::Model;
 
 /// How often an operand comes.
@@ -64,52 +71,104 @@ pub struct Enumerant {
     pub capabilities: Listed<Name>,
 }
 
-/// A kind with its enumerants.
-#[derive(Debug, Drop)]
-pub(crate) struct Sort {
-    pub(crate) kind: Kind,
-    pub(crate) enumerants: Vec<Enumerant>,
-}
-
-/// What a grammar file says.
+/// What a grammar file says. Contracts see its kinds and its entries, as lists.
 #[derive(Debug, Drop)]
 pub struct Table {
     sorts: Vec<Sort>,
     entries: Vec<(u16, Entry)>,
+    /// For each opcode the place of its first entry, or 4,294,967,295 where it has none.
+    places: Vec<u32>,
+    /// For each name the opcode of the first instruction that bears it.
+    opcodes: IndexMap<String, u16>,
 }
 
 impl Model for Table {
+    ghost use Rattle.std.specs.Prelude.{◌≡◌, ◌<◌, ℕ, List, length, slice_get, slice_index};
+    ghost use Rattle.indexmap.specs.IndexMap.{get_by_text};
     ghost use Rattle.spv_grammar.specs.Table.{Table};
 
     ghost Value = { Table };
 
-    ghost use Rattle.std.specs.Prelude.{map};
-    ghost use Rattle.spv_grammar.specs.Table.{Sort, IsWhole};
+    ghost use Rattle.spv_grammar.specs.Table.{IsWhole, first_with};
+    ghost use Rattle.spv_grammar.specs.Lookups.{opcode_named};
 
-    ghost view = { λ t. record { kinds = map (λ s. record { kind = s.kind; enumerants = s.enumerants.items }) t.sorts.items; entries = t.entries.items } };
+    ghost view = { λ t. record { kinds = t.sorts.items; entries = t.entries.items } };
 
-    ghost invariant = { λ t. IsWhole (record { kinds = map (λ s. record { kind = s.kind; enumerants = s.enumerants.items }) t.sorts.items; entries = t.entries.items }) };
+    ghost invariant = { λ t. IsWhole (record { kinds = t.sorts.items; entries = t.entries.items })
+        × (length t.places.items ≡ 65536)
+        × ((n : ℕ) → n < 65536 → slice_get t.entries.items (slice_index t.places.items n) ≡ first_with (λ e. e.0) n t.entries.items)
+        × ((q : List ℕ) → get_by_text t.opcodes q ≡ opcode_named t.entries.items q) };
 }
 
-/// The first enumerant with a value.
-fn first_enumerant(enumerants: &[Enumerant], value: u32) -> Option<&Enumerant>
-    ensures { option_map (λ e. e.now) result ≡ enumerant_of enumerants.now value }
+/// A place for each opcode, all of them 4,294,967,295.
+fn no_places(alloc: Global) -> Result<Vec<u32>, AllocError>
+    ensures len { IfOk result (λ v. length v.items ≡ 65536) }
+    ensures none { IfOk result (λ v. (n : ℕ) → n < 65536 → slice_index v.items n ≡ 4294967295) }
 {
-    for enumerant in enumerants {
-        if enumerant.value == value {
-            return Some(enumerant);
-        }
+    let mut places = Vec::with_capacity(alloc, 65536)?;
+    for opcode in 0..65536usize {
+        let _ = opcode;
+        places.push(u32::MAX)?;
     }
-    None
+    Ok(places)
+}
+
+/// For each opcode the place of its first entry.
+fn opcode_places(alloc: Global, entries: &[(u16, Entry)]) -> Result<Vec<u32>, AllocError>
+    requires { length entries.now < 2 ^ 32 }
+    ensures len { IfOk result (λ v. length v.items ≡ 65536) }
+    ensures placed { IfOk result (λ v. (n : ℕ) → n < 65536 → slice_get entries.now (slice_index v.items n) ≡ first_with (λ e. e.0) n entries.now) }
+{
+    let mut places = no_places(alloc)?;
+    for i in (0..entries.len()).rev() {
+        places[usize::from(entries[i].0)] = i as u32;
+    }
+    Ok(places)
+}
+
+/// For each name the opcode of the first instruction that bears it.
+fn opcode_names(alloc: Global, entries: &[(u16, Entry)]) -> Result<IndexMap<String, u16>, AllocError>
+    ensures { IfOk result (λ m. (q : List ℕ) → get_by_text m q ≡ opcode_named entries.now q) }
+{
+    let mut opcodes = IndexMap::new(alloc);
+    for i in (0..entries.len()).rev() {
+        let (opcode, entry) = &entries[i];
+        let name = String::from_str(alloc, entry.name.as_str())?;
+        opcodes.insert(name, *opcode)?;
+    }
+    Ok(opcodes)
+}
+
+/// The place of the first kind of a name.
+fn place_named(sorts: &[Sort], name: &str) -> Option<usize>
+    ensures { result ≡ position (λ s. bytes_eq name.now s.kind.name) sorts.now }
+{
+    sorts.iter().position(|s| name == s.kind().name.as_str())
 }
 
 impl Table {
-    /// The table of these kinds and entries. It takes no memory.
-    pub(crate) fn from_parts(sorts: Vec<Sort>, entries: Vec<(u16, Entry)>) -> Table
-        requires { IsWhole (record { kinds = map sort_view sorts.items; entries = entries.items }) }
-        ensures { result ≡ record { kinds = map sort_view sorts.items; entries = entries.items } }
+    /// The table of these kinds and entries. The error is want of memory, or of places: there may be
+    /// 4,294,967,295 entries.
+    pub(crate) fn new(
+        alloc: Global,
+        sorts: Vec<Sort>,
+        entries: Vec<(u16, Entry)>,
+    ) -> Result<Table, GrammarError>
+        requires { IsWhole (record { kinds = sorts.items; entries = entries.items }) }
+        ensures table { IfOk result (λ G. G ≡ record { kinds = sorts.items; entries = entries.items }) }
+        ensures memory { IfErr result (λ e. e ≡ J8) }
     {
-        Table { sorts, entries }
+        if entries.len() > 0xffff_ffff {
+            return Err(GrammarError::J8);
+        }
+        let places = opcode_places(alloc, entries.as_slice())?;
+        let opcodes = opcode_names(alloc, entries.as_slice())?;
+        Ok(Table {
+            sorts,
+            entries,
+            places,
+            opcodes,
+        })
     }
 
     /// The kind of a number.
@@ -118,9 +177,17 @@ impl Table {
         ensures whole { IsWhole self.now }
     {
         match self.sorts.get(number as usize) {
-            Some(sort) => Some(&sort.kind),
+            Some(sort) => Some(sort.kind()),
             None => None,
         }
+    }
+
+    /// The number of the kind of a name.
+    pub fn kind_named(&self, name: &str) -> Option<u32>
+        ensures { result ≡ number_named self.now name.now }
+    {
+        let place = place_named(self.sorts.as_slice(), name)?;
+        Some(place as u32)
     }
 
     /// The enumerant of a kind's value or bit: the first of the file that is not dropped.
@@ -130,18 +197,34 @@ impl Table {
         let Some(sort) = self.sorts.get(kind as usize) else {
             return None;
         };
-        first_enumerant(sort.enumerants.as_slice(), value)
+        sort.enumerant(value)
+    }
+
+    /// The value of the enumerant of a kind that bears a name: of the first that is not dropped.
+    pub fn enumerant_named(&self, kind: u32, name: &str) -> Option<u32>
+        ensures { result ≡ option_and_then (λ s. value_named s.enumerants name.now) (kind_of self.now kind) }
+    {
+        let Some(sort) = self.sorts.get(kind as usize) else {
+            return None;
+        };
+        sort.value(name)
     }
 
     /// The entry of an opcode: the first of the file.
     pub fn entry(&self, opcode: u16) -> Option<&Entry>
         ensures { option_map (λ e. e.now) result ≡ entry_of self.now opcode }
     {
-        for (code, entry) in self.entries.iter() {
-            if *code == opcode {
-                return Some(entry);
-            }
+        let place = self.places[usize::from(opcode)];
+        match self.entries.get(place as usize) {
+            Some((_, entry)) => Some(entry),
+            None => None,
         }
-        None
+    }
+
+    /// The opcode of the first instruction that bears a name.
+    pub fn named(&self, name: &str) -> Option<u16>
+        ensures { result ≡ opcode_named self.now.entries name.now }
+    {
+        self.opcodes.get(name).copied()
     }
 }

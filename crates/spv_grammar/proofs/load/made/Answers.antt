@@ -1,9 +1,8 @@
 use Rattle.std.proofs.Common.{ℕ, Vec, Global, map, ap, ◌∙◌, is_some}
-use Rattle.spv_grammar.specs.declared.table.Sort as code
 use Rattle.spv_grammar.specs.declared.table.Entry.{Entry}
 use Rattle.std.proofs.lemmas.Result.{err_from_is_err_and}
+use Rattle.spv_grammar.specs.Table.{Sort}
 use Rattle.spv_grammar.specs.Made.{all_of, entry_from, sort_from}
-use Rattle.spv_grammar.specs.Sorts.{sort_view}
 use Rattle.spv_grammar.proofs.Whole.{only_memory, file_entries, file_sorts, file_whole}
 use Rattle.spv_grammar.proofs.load.made.Goals as goal
 
@@ -15,7 +14,7 @@ returns-in_err-entries-clause-memory c =
 pub returns-in_err-sorts-clause-memory : goal.returns-in_err-sorts-clause-memory
 returns-in_err-sorts-clause-memory c =
     let p = err_from_is_err_and c.from_residual-in_err-sorts.result c.from_residual-in_err-sorts.ensures.1 in
-    rw (p.1, p.2) (only_memory (λ (v : Vec code.Sort Global). map sort_view v.items) c.in_err-sorts.field-0.0 (all_of (sort_from c.args.numbers.now) c.args.numbers.now) c.in_err-sorts.ensures (file_sorts c.args.file.now c.args.numbers.now c.requires.numbered c.requires.unbroken))
+    rw (p.1, p.2) (only_memory (λ (v : Vec Sort Global). v.items) c.in_err-sorts.field-0.0 (all_of (sort_from c.args.numbers.now) c.args.numbers.now) c.in_err-sorts.ensures (file_sorts c.args.file.now c.args.numbers.now c.requires.numbered c.requires.unbroken))
 
-pub from_parts-requires : goal.from_parts-requires
-from_parts-requires c = file_whole c.args.file.now c.args.numbers.now c.requires.numbered c.requires.unbroken _ c.in_ok-sorts.ensures c.requires.few
+pub new-requires : goal.new-requires
+new-requires c = file_whole c.args.file.now c.args.numbers.now c.requires.numbered c.requires.unbroken _ c.in_ok-sorts.ensures c.requires.few

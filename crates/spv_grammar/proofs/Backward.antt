@@ -1,0 +1,55 @@
+-- Maps that are filled from the last element of a list to the first, so that the first of a number or a name stays.
+use Rattle.std.proofs.Common.{◌≡◌, ◌≢◌, ℕ, ◌<◌, ◌≤◌, ◌+◌, ◌-◌, ◌^◌, suc, Bool, true, false, cond, nat_eq, List, ◌∷◌, Option, Some, None, option_map, option_and_then, slice_get, length, get_or, set, drop, if◌then◌else◌, refl, sym, ap, ◌∙◌, drop-cons, arith}
+use Rattle.std.specs.List.{find}
+use Rattle.std.specs.Str.{bytes_eq}
+use Rattle.std.specs.Ordering.{nat_cmp, is_eq}
+use Rattle.std.specs.Cmp.Lexicographic.{nat_list_eq_equiv}
+use Rattle.std.proofs.lemmas.Bool.Decides.{nat_tests}
+use Rattle.std.proofs.lemmas.Grind.{common_steps}
+use Rattle.std.proofs.lemmas.Option.{slice_get_read, slice_get_past}
+use Rattle.spv_grammar.specs.Table.{first_with}
+
+pub front_at : {A : Type 0} (xs : List A) (i : ℕ) (x : A) → 0 < i → i ≤ length xs → x ≡ get_or xs (i - 1) x → drop (i - 1) xs ≡ x ∷ drop i xs
+front_at xs i x some within is =
+    let below : i - 1 < length xs = omega arith in
+    let next : suc (i - 1) ≡ i = omega arith in
+    drop-cons xs (i - 1) x below ∙ ap (λ n. get_or xs (i - 1) x ∷ drop n xs) next ∙ ap (λ y. y ∷ drop i xs) (sym is)
+
+pub same_number : (a b : ℕ) → is_eq (nat_cmp a b) ≡ nat_eq a b
+same_number a b = grind (arith, nat_tests)
+
+module _ {A : Type 0} (number : A → ℕ) (xs : List A) (i : ℕ) (x : A) where
+  pub first_step-by : (old new : Option ℕ) (n : ℕ) (same : Bool) → 0 < i → i ≤ length xs → x ≡ get_or xs (i - 1) x → nat_eq (number x) n ≡ same
+      → option_and_then (slice_get xs) old ≡ first_with number n (drop i xs) → new ≡ (if same then Some (i - 1) else old) → option_and_then (slice_get xs) new ≡ first_with number n (drop (i - 1) xs)
+  first_step-by old new n true some within is e before now =
+      let below : i - 1 < length xs = omega arith in
+      rw (now, front_at xs i x some within is, e) (slice_get_read xs (length xs) (i - 1) x refl below is)
+  first_step-by old new n false some within is e before now = rw (now, front_at xs i x some within is, e) before
+
+  -- the first of a number, with one more element in front
+  pub first_step : (old new : Option ℕ) (n : ℕ) → 0 < i → i ≤ length xs → x ≡ get_or xs (i - 1) x
+      → option_and_then (slice_get xs) old ≡ first_with number n (drop i xs) → new ≡ (if nat_eq (number x) n then Some (i - 1) else old) → option_and_then (slice_get xs) new ≡ first_with number n (drop (i - 1) xs)
+  first_step old new n some within is before now = first_step-by old new n (nat_eq (number x) n) some within is refl before now
+
+module _ {A : Type 0} (name : A → List ℕ) (value : A → ℕ) (xs : List A) (i : ℕ) (x : A) where
+  pub name_step-by : (old new : Option ℕ) (q : List ℕ) (same : Bool) → 0 < i → i ≤ length xs → x ≡ get_or xs (i - 1) x → bytes_eq (name x) q ≡ same
+      → old ≡ option_map value (find (λ a. bytes_eq q (name a)) (drop i xs)) → new ≡ cond same (Some (value x)) old → new ≡ option_map value (find (λ a. bytes_eq q (name a)) (drop (i - 1) xs))
+  name_step-by old new q true some within is e before now =
+      let back : bytes_eq q (name x) ≡ true = nat_list_eq_equiv.symm q (name x) ∙ e in
+      rw (now, front_at xs i x some within is, back) refl
+  name_step-by old new q false some within is e before now =
+      let back : bytes_eq q (name x) ≡ false = nat_list_eq_equiv.symm q (name x) ∙ e in
+      rw (now, front_at xs i x some within is, back) before
+
+  -- the first of a name, with one more element in front
+  pub name_step : (old new : Option ℕ) (q : List ℕ) → 0 < i → i ≤ length xs → x ≡ get_or xs (i - 1) x
+      → old ≡ option_map value (find (λ a. bytes_eq q (name a)) (drop i xs)) → new ≡ cond (bytes_eq (name x) q) (Some (value x)) old → new ≡ option_map value (find (λ a. bytes_eq q (name a)) (drop (i - 1) xs))
+  name_step old new q some within is before now = name_step-by old new q (bytes_eq (name x) q) some within is refl before now
+
+-- a write of a place
+pub dense : (ps : List ℕ) (k v n : ℕ) → k < length ps → Some (get_or (set ps k v) n 0) ≡ (if nat_eq k n then Some v else Some (get_or ps n 0))
+dense ps k v n h = by (nat_eq k n) refl
+  where
+    by : (b : Bool) → nat_eq k n ≡ b → Some (get_or (set ps k v) n 0) ≡ (if b then Some v else Some (get_or ps n 0))
+    by true e = let same : k ≡ n = grind (arith, nat_tests) in grind (arith, common_steps)
+    by false e = let other : k ≢ n = grind (arith, nat_tests) in grind (arith, common_steps)

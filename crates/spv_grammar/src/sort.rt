@@ -1,0 +1,104 @@
+ghost use Rattle.std.specs.Prelude.{◌≡◌, ℕ, List, option_map, option_and_then, slice_get, IfOk};
+ghost use Rattle.std.specs.BTreeMap as tree;
+ghost use Rattle.std.specs.Ordering.{nat_cmp};
+ghost use Rattle.indexmap.specs.IndexMap.{get_by_text};
+ghost use Rattle.spv_grammar.specs.Table.{enumerant_of};
+ghost use Rattle.spv_grammar.specs.Lookups.{value_named};
+
+use crate::listed::Name;
+use crate::table::{Enumerant, Kind};
+use indexmap::IndexMap;
+use std::alloc::{AllocError, Global};
+use std::collections::BTreeMap;
+use std::marker::Model;
+
+/// A kind with its enumerants. Contracts see the two.
+#[derive(Debug, Drop)]
+pub(crate) struct Sort {
+    kind: Kind,
+    enumerants: Vec<Enumerant>,
+    /// The place of the first enumerant with a value.
+    places: BTreeMap<u32, usize>,
+    /// The value of the first enumerant with a name.
+    values: IndexMap<String, u32>,
+}
+
+impl Model for Sort {
+    ghost use Rattle.std.specs.Prelude.{◌≡◌, ℕ, List, option_and_then, slice_get};
+    ghost use Rattle.std.specs.BTreeMap as tree;
+    ghost use Rattle.std.specs.Ordering.{nat_cmp};
+    ghost use Rattle.indexmap.specs.IndexMap.{get_by_text};
+    ghost use Rattle.spv_grammar.specs.Table.{Sort};
+
+    ghost Value = { Sort };
+
+    ghost use Rattle.spv_grammar.specs.Table.{enumerant_of};
+    ghost use Rattle.spv_grammar.specs.Lookups.{value_named};
+
+    ghost view = { λ s. record { kind = s.kind; enumerants = s.enumerants.items } };
+
+    ghost invariant = { λ s. ((v : ℕ) → option_and_then (slice_get s.enumerants.items) (tree.get nat_cmp s.places v) ≡ enumerant_of s.enumerants.items v)
+        × ((q : List ℕ) → get_by_text s.values q ≡ value_named s.enumerants.items q) };
+}
+
+/// For each value the place of the first enumerant that has it.
+fn value_places(alloc: Global, enumerants: &[Enumerant]) -> Result<BTreeMap<u32, usize>, AllocError>
+    ensures { IfOk result (λ m. (v : ℕ) → option_and_then (slice_get enumerants.now) (tree.get nat_cmp m v) ≡ enumerant_of enumerants.now v) }
+{
+    let mut places = BTreeMap::new(alloc);
+    for i in (0..enumerants.len()).rev() {
+        places.insert(enumerants[i].value, i)?;
+    }
+    Ok(places)
+}
+
+/// For each name the value of the first enumerant that bears it.
+fn value_names(alloc: Global, enumerants: &[Enumerant]) -> Result<IndexMap<String, u32>, AllocError>
+    ensures { IfOk result (λ m. (q : List ℕ) → get_by_text m q ≡ value_named enumerants.now q) }
+{
+    let mut values = IndexMap::new(alloc);
+    for i in (0..enumerants.len()).rev() {
+        let enumerant = &enumerants[i];
+        let name = String::from_str(alloc, enumerant.name.as_str())?;
+        values.insert(name, enumerant.value)?;
+    }
+    Ok(values)
+}
+
+impl Sort {
+    /// A kind with these enumerants. The error is want of memory.
+    pub(crate) fn new(alloc: Global, kind: Kind, enumerants: Vec<Enumerant>) -> Result<Sort, AllocError>
+        ensures { IfOk result (λ s. s ≡ record { kind = kind; enumerants = enumerants.items }) }
+    {
+        let places = value_places(alloc, enumerants.as_slice())?;
+        let values = value_names(alloc, enumerants.as_slice())?;
+        Ok(Sort {
+            kind,
+            enumerants,
+            places,
+            values,
+        })
+    }
+
+    /// The kind.
+    pub(crate) fn kind(&self) -> &Kind
+        ensures { result.now ≡ self.now.kind }
+    {
+        &self.kind
+    }
+
+    /// The first enumerant with a value.
+    pub(crate) fn enumerant(&self, value: u32) -> Option<&Enumerant>
+        ensures { option_map (λ e. e.now) result ≡ enumerant_of self.now.enumerants value }
+    {
+        let place = *self.places.get(&value)?;
+        self.enumerants.get(place)
+    }
+
+    /// The value of the first enumerant with a name.
+    pub(crate) fn value(&self, name: &str) -> Option<u32>
+        ensures { result ≡ value_named self.now.enumerants name.now }
+    {
+        self.values.get(name).copied()
+    }
+}
