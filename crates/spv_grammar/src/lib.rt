@@ -15,3 +15,6 @@ mod table;
 pub use error::GrammarError;
 pub use listed::{Listed, Name};
 pub use table::{Category, Entry, Enumerant, Item, Kind, Quantifier, Table};
+
+#[cfg(test)]
+mod tests;

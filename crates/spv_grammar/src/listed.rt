@@ -52,8 +52,7 @@ impl Name {
     pub fn from_str(alloc: Global, text: &str) -> Result<Name, AllocError>
         ensures { IfOk result (λ n. n ≡ text.now) }
     {
-        let text = String::from_str(alloc, text)?;
-        Ok(Name { text })
+        Ok(Name::from_string(String::from_str(alloc, text)?))
     }
 
     /// A copy of the name. The error is want of memory.
