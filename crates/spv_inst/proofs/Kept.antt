@@ -1,0 +1,48 @@
+-- What is kept of the definitions, after one instruction more.
+use Rattle.std.proofs.Common.{◌≡◌, ◌++◌, ◌∷◌, [], ◌∙◌, sym, ℕ, List, Option, Some, None, Bool, true, false, cond, refl, ap}
+use Rattle.std.specs.Prelude.{Result, Ok, Err, OnOk, option_map, nat_eq, if◌then◌else◌}
+use Rattle.spv_inst.specs.declared.definitions.Definitions.{Definitions}
+use Rattle.spv_inst.specs.Operand.{PlainInst, result_in, type_in}
+use Rattle.spv_inst.specs.Width.{definition_of, declared_width, has_result, or_else}
+use Rattle.spv_inst.specs.Known.{Knows, summary, kept}
+
+or_none : (a : Option PlainInst) → or_else a None ≡ a
+or_none None = refl
+or_none (Some i) = refl
+
+or_assoc : (a b c : Option PlainInst) → or_else (or_else a b) c ≡ or_else a (or_else b c)
+or_assoc None b c = refl
+or_assoc (Some i) b c = refl
+
+-- the instruction, if it defines the id
+abbrev defining : PlainInst → ℕ → Option PlainInst
+defining i x = if has_result (result_in i.operands) x then Some i else None
+
+definition_of_more : (is : List PlainInst) (i : PlainInst) (x : ℕ) → definition_of (is ++ i ∷ []) x ≡ or_else (defining i x) (definition_of is x)
+definition_of_more [] i x = sym (or_none (defining i x))
+definition_of_more (j ∷ is) i x =
+    ap (λ o. or_else o (defining j x)) (definition_of_more is i x) ∙ or_assoc (defining i x) (definition_of is x) (defining j x)
+
+-- an instruction with no result
+pub same_kept : (d : Definitions) (before : List PlainInst) (i : PlainInst) → result_in i.operands ≡ None → Knows d before → Knows d (before ++ i ∷ [])
+same_kept d before i e k = record {
+  latest = λ x. rw (definition_of_more before i x, e) (k.latest x);
+}
+
+summary_more : (b : Bool) (i : PlainInst) (o : Option PlainInst) → option_map summary (or_else (if b then Some i else None) o) ≡ cond b (Some (summary i)) (option_map summary o)
+summary_more true i o = refl
+summary_more false i o = refl
+
+-- an instruction with a result
+pub more_kept : (d e : Definitions) (before : List PlainInst) (i : PlainInst) (r : ℕ) (t w : Option ℕ) → result_in i.operands ≡ Some r → t ≡ type_in i.operands → w ≡ declared_width i
+    → ((x : ℕ) → kept e x ≡ cond (nat_eq r x) (Some (record { type_id = t; width = w })) (kept d x))
+    → Knows d before → Knows e (before ++ i ∷ [])
+more_kept d e before i r t w f g h u k = record {
+  latest = λ x.
+      rw (definition_of_more before i x, f, summary_more (nat_eq r x) i (definition_of before x), ← g, ← h, ← k.latest x) (u x);
+}
+
+-- what follows from a call's answer
+pub on_ok : {T E : Type 0} (r : Result T E) (P Q : Type 0) → (P → Q) → OnOk r P → OnOk r Q
+on_ok (Ok _) P Q f h = f h
+on_ok (Err _) P Q f h = tt

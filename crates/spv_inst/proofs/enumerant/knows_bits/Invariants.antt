@@ -1,0 +1,10 @@
+use Rattle.std.proofs.Common.{◌≡◌, ◌-◌, ◌^◌}
+use Rattle.std.specs.Prelude.{is_some}
+use Rattle.spv_grammar.specs.Table.{kind_of}
+use Rattle.spv_inst.specs.Spelling.{mask_parameters}
+use Rattle.spv_inst.specs.Reading.{enumerants_at}
+use Rattle.spv_inst.proofs.Enumerants.{knows_from}
+use Rattle.spv_inst.proofs.enumerant.knows_bits.Given as goal
+
+abbrev pub invariant-loop-position : goal.invariant-loop-position
+invariant-loop-position l = is_some (mask_parameters (enumerants_at (kind_of l.table l.kind)) l.mask) ≡ knows_from (enumerants_at (kind_of l.table l.kind)) l.mask (32 - l.position) (2 ^ l.position)

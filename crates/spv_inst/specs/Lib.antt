@@ -1,0 +1,16 @@
+pub mod Operand
+pub mod Width
+pub mod Shape
+pub mod Spelling
+pub mod Instruction
+pub mod Refusal
+pub mod Dead
+pub mod Flat
+pub mod Example
+pub mod Module
+pub mod Outcome
+pub mod Form
+pub mod Known
+pub mod Reading
+pub mod Agenda
+pub mod Step

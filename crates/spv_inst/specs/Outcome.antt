@@ -1,0 +1,26 @@
+-- What `decode` answers.
+use Rattle.std.specs.Prelude.{◌≡◌, ◌≤◌, ◌-◌, ℕ, List, drop, slice_index}
+use Rattle.spv_words.specs.declared.words.Header.{Header}
+use Rattle.spv_grammar.specs.Table.{Table}
+use Rattle.spv_inst.specs.declared.fault.Stop.{Stop}
+use Rattle.spv_inst.specs.declared.fault.Stop.TheVariants.{Fault, Memory}
+use Rattle.spv_inst.specs.Operand.{PlainInst}
+use Rattle.spv_inst.specs.Instruction.{IsListing}
+use Rattle.spv_inst.specs.Dead.{IsDeadAt}
+
+-- words 1 to 4 of a module
+pub record IsHeaderOf (words : List ℕ) (header : Header) : Type 0 where
+  pub version : header.version ≡ slice_index words 1
+  pub generator : header.generator ≡ slice_index words 2
+  pub bound : header.bound ≡ slice_index words 3
+  pub schema : header.schema ≡ slice_index words 4
+
+-- Want of memory, or the dead instruction's code, number and word, the word counted from the module's first.
+abbrev pub IsDeath : Table → List ℕ → Stop → Type 0
+IsDeath G words Memory = Unit {0}
+IsDeath G words (Fault f) = (5 ≤ f.word) × IsDeadAt G (drop 5 words) f.rule f.inst (f.word - 5)
+
+-- Want of memory, or no list of instructions at all.
+abbrev pub IsNone : Table → List ℕ → Stop → Type 0
+IsNone G words Memory = Unit {0}
+IsNone G words (Fault f) = (is : List PlainInst) → ¬ (IsListing G is (drop 5 words))

@@ -1,0 +1,59 @@
+ghost use Rattle.std.specs.Prelude.{◌≡◌, List, drop, IfOk, IfErr};
+ghost use Rattle.spv_inst.specs.Operand.{PlainInst};
+ghost use Rattle.spv_inst.specs.Module.{plain_insts};
+ghost use Rattle.spv_inst.specs.Instruction.{IsListing};
+ghost use Rattle.spv_inst.specs.Outcome.{IsDeath, IsHeaderOf, IsNone};
+
+use crate::agenda::Agenda;
+use crate::definitions::Definitions;
+use crate::fault::Stop;
+use crate::form::forms_of;
+use crate::instruction::{Read, read_instruction};
+use crate::module::Module;
+use crate::reader::Scene;
+use spv_grammar::Table;
+use spv_words::Image;
+use std::alloc::Global;
+
+/// The instructions of an image by a grammar table, with texts lent by the image.
+///
+/// A `Fault` tells the first instruction that fails, with its rule, I1 to I12, and the word of the module (from 0) by
+/// which the rule is told. `Memory` comes only where a growth of memory was refused.
+pub fn decode<'a>(alloc: Global, table: &Table, image: &'a Image) -> Result<Module<'a>, Stop>
+    // What is answered is the list that the words from word 5 on spell.
+    ensures found { IfOk result (λ m. IsListing table.now (plain_insts m) (drop 5 image.now)) }
+    // The words spell no other.
+    ensures only { IfOk result (λ m. (is : List PlainInst) → IsListing table.now is (drop 5 image.now) → is ≡ plain_insts m) }
+    ensures header { IfOk result (λ m. IsHeaderOf image.now m.header) }
+    // A fault is that of the dead instruction.
+    ensures dead { IfErr result (λ e. IsDeath table.now image.now e) }
+    // Where there is one, the words spell no list.
+    ensures none { IfErr result (λ e. IsNone table.now image.now e) }
+{
+    let forms = forms_of(alloc, table)?;
+    let mut definitions = Definitions::new(alloc);
+    let mut agenda = Agenda::new(alloc);
+    let mut module = Module::new(alloc, image.header());
+    let len = image.len();
+    let mut at = 5;
+    while at < len {
+        let scene = Scene {
+            table,
+            forms: &forms,
+            definitions: &definitions,
+            image,
+        };
+        let Read { inst, end } = read_instruction(
+            alloc,
+            &scene,
+            table,
+            &mut agenda,
+            &module.insts,
+            at,
+        )?;
+        definitions.add(&inst)?;
+        module.insts.push(inst)?;
+        at = end;
+    }
+    Ok(module)
+}

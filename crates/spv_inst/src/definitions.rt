@@ -1,0 +1,216 @@
+ghost use Rattle.std.specs.Prelude.{◌≡◌, ◌++◌, ◌∷◌, [], ℕ, List, Some, None, nat_eq, slice_index_or, if◌then◌else◌, OnOk};
+ghost use Rattle.spv_inst.specs.Operand.{PlainInst};
+ghost use Rattle.spv_inst.specs.Operand as operand;
+ghost use Rattle.spv_inst.specs.Width as width;
+ghost use Rattle.spv_inst.specs.Width.{width_of, type_of};
+ghost use Rattle.spv_inst.specs.Module.{plain_inst, plain_operands};
+ghost use Rattle.spv_inst.specs.Known.{Knows, kept};
+
+use crate::module::Inst;
+use crate::operand::Operand;
+use std::alloc::{AllocError, Global};
+use std::collections::BTreeMap;
+
+/// What is kept of the last instruction with a result.
+#[derive(Clone, Copy, Debug, PartialEq, Eq)]
+struct Definition {
+    /// Its first result type.
+    type_id: Option<u32>,
+    /// The width that it declares, in bits, if it is OpTypeInt or OpTypeFloat.
+    width: Option<u32>,
+}
+
+/// OpTypeInt.
+const TYPE_INT: u16 = 21;
+
+/// OpTypeFloat.
+const TYPE_FLOAT: u16 = 22;
+
+/// The first result of the operands.
+fn result_in(operands: &[Operand]) -> Option<u32>
+    ensures { result ≡ operand.result_in (plain_operands operands.now) }
+{
+    for operand in operands {
+        if let Operand::Result(id) = operand {
+            return Some(*id);
+        }
+    }
+    None
+}
+
+/// The first result type of the operands.
+fn type_in(operands: &[Operand]) -> Option<u32>
+    ensures { result ≡ operand.type_in (plain_operands operands.now) }
+{
+    for operand in operands {
+        if let Operand::OfType(id) = operand {
+            return Some(*id);
+        }
+    }
+    None
+}
+
+/// The width that operands beginning with a result and a word tell, in bits.
+fn width_in(operands: &[Operand]) -> Option<u32>
+    ensures { result ≡ width.width_in (plain_operands operands.now) }
+{
+    match operands {
+        [Operand::Result(_), Operand::Word(bits), ..] if (1..=64).contains(bits) => Some(*bits),
+        _ => None,
+    }
+}
+
+/// The width that a type declaration tells, in bits.
+fn declared_width(inst: &Inst) -> Option<u32>
+    ensures { result ≡ width.declared_width (plain_inst inst.now) }
+{
+    match inst.opcode {
+        TYPE_INT | TYPE_FLOAT => width_in(inst.operands.as_slice()),
+        _ => None,
+    }
+}
+
+/// The last definition of each id among the instructions so far.
+///
+/// Ids are mostly small and dense, so a list with a place for each id serves most of them; the list grows with the
+/// definitions, whatever the ids.
+#[derive(Drop)]
+pub struct Definitions {
+    /// At an id's place what is kept of it, if it was defined while the list could hold it.
+    near: Vec<Option<Definition>>,
+    /// What is kept of the ids that were past the list's reach.
+    far: BTreeMap<u32, Definition>,
+    /// Below which ids the list may grow to hold them.
+    reach: u32,
+}
+
+/// How many ids the list holds however few definitions there are.
+const LEAST_REACH: u32 = 1024;
+
+/// How much further the list may reach for each definition.
+const REACH_FOR_EACH: u32 = 2;
+
+/// Gives the list a place for the id, if it has none.
+fn widen(near: &mut Vec<Option<Definition>>, id: u32) -> Result<(), AllocError>
+    ensures kept { (x : ℕ) → slice_index_or near.new.items x None ≡ slice_index_or near.old.items x None }
+{
+    while near.len() <= id as usize {
+        near.push(None)?;
+    }
+    Ok(())
+}
+
+impl Definitions {
+    /// No definitions. It takes no memory.
+    pub fn new(alloc: Global) -> Definitions
+        ensures { Knows result [] }
+    {
+        Definitions {
+            near: Vec::new(alloc),
+            far: BTreeMap::new(alloc),
+            reach: LEAST_REACH,
+        }
+    }
+
+    /// Keeps what is new of an id. Where memory runs out, nothing is said of what is left.
+    fn put(&mut self, id: u32, definition: Definition) -> Result<(), AllocError>
+        ensures { OnOk result ((x : ℕ) → kept self.new x ≡ (if nat_eq id x then Some definition else kept self.old x)) }
+    {
+        if id < self.reach {
+            widen(&mut self.near, id)?;
+        }
+        let place = id as usize;
+        if place < self.near.len() {
+            self.near[place] = Some(definition);
+            return Ok(());
+        }
+        self.far.insert(id, definition)?;
+        Ok(())
+    }
+
+    /// What is kept of an id.
+    fn latest(&self, id: u32) -> Option<Definition>
+        ensures { result ≡ kept self.now id }
+    {
+        match self.near.get(id as usize) {
+            Some(Some(definition)) => Some(*definition),
+            _ => self.far.get(&id).copied(),
+        }
+    }
+
+    /// Goes on after one instruction more: where it has a result, it is the last definition of that id.
+    ///
+    /// An `AllocError` comes only where a growth of memory was refused, and then nothing is said of what is left.
+    pub fn add(&mut self, inst: &Inst) -> Result<(), AllocError>
+        ensures { OnOk result ((before : List PlainInst) → Knows self.old before → Knows self.new (before ++ plain_inst inst.now ∷ [])) }
+    {
+        let operands = inst.operands.as_slice();
+        let Some(id) = result_in(operands) else {
+            return Ok(());
+        };
+        let definition = Definition {
+            type_id: type_in(operands),
+            width: declared_width(inst),
+        };
+        self.reach = self.reach.saturating_add(REACH_FOR_EACH);
+        self.put(id, definition)
+    }
+
+    /// The width of a type id, in bits: what its last definition declares, if that is an OpTypeInt or OpTypeFloat with a
+    /// width from 1 to 64.
+    pub fn width(&self, type_id: u32) -> Option<u32>
+        ensures { (before : List PlainInst) → Knows self.now before → result ≡ width_of before type_id }
+    {
+        self.latest(type_id)?.width
+    }
+
+    /// The type of an id: the first result type of its last definition.
+    pub fn type_id(&self, id: u32) -> Option<u32>
+        ensures { (before : List PlainInst) → Knows self.now before → result ≡ type_of before id }
+    {
+        self.latest(id)?.type_id
+    }
+}
+
+#[cfg(test)]
+mod tests {
+    use super::*;
+    use std::test::Fail;
+
+    #[test]
+    fn last_definitions(rt: HostRuntime) -> Result<(), Fail> {
+        let mut definitions = Definitions::new(rt.alloc());
+        // %1 = OpTypeInt 64 0
+        let operands = vec![in rt.alloc();
+            Operand::Result(1),
+            Operand::Word(64),
+            Operand::Word(0),
+        ]?;
+        let int = Inst {
+            opcode: 21,
+            operands,
+        };
+        definitions.add(&int)?;
+        // %4000000000 = OpUndef %1, past the reach of the list
+        let operands = vec![in rt.alloc(); Operand::OfType(1), Operand::Result(4_000_000_000)]?;
+        let undef = Inst {
+            opcode: 1,
+            operands,
+        };
+        definitions.add(&undef)?;
+        assert_eq!(rt; definitions.width(1), Some(64));
+        assert_eq!(rt; definitions.type_id(1), None);
+        assert_eq!(rt; definitions.type_id(4_000_000_000), Some(1));
+        assert_eq!(rt; definitions.width(4_000_000_000), None);
+        assert_eq!(rt; definitions.type_id(2), None);
+        // %1 = OpTypeFloat 16 in place of the first
+        let operands = vec![in rt.alloc(); Operand::Result(1), Operand::Word(16)]?;
+        let float = Inst {
+            opcode: 22,
+            operands,
+        };
+        definitions.add(&float)?;
+        assert_eq!(rt; definitions.width(1), Some(16));
+        Ok(())
+    }
+}

@@ -1,0 +1,70 @@
+ghost use Rattle.std.specs.Prelude.{◌≡◌, ℕ, List, [], ◌∷◌, map, is_some, IfOk, IfErr, unwrap_or};
+ghost use Rattle.spv_grammar.specs.Table.{kind_of};
+ghost use Rattle.spv_inst.specs.Shape.{alone, AsValue, AsMask};
+ghost use Rattle.spv_inst.specs.Spelling.{Takes, parameters_of, mask_parameters};
+ghost use Rattle.spv_inst.specs.Refusal.{Refuses};
+ghost use Rattle.spv_inst.specs.Module.{plain_operand};
+ghost use Rattle.spv_inst.specs.Reading.{enumerants_at, parameter_kinds};
+
+use crate::fault::Rule;
+use crate::operand::Operand;
+use crate::reader::{Refusal, Taken};
+use spv_grammar::Table;
+
+/// Whether a kind has an enumerant of a value.
+fn knows(table: &Table, kind: u32, value: u32) -> bool
+    ensures { result ≡ is_some (parameters_of (enumerants_at (kind_of table.now kind)) value) }
+{
+    table.enumerant(kind, value).is_some()
+}
+
+/// Takes a value of a kind: a word that is the value of one of the kind's enumerants. The enumerant's parameters are due
+/// after it. The `Refusal` of a value that no enumerant has is I6 at word 0.
+pub fn take_value<'a>(table: &Table, kind: u32, value: u32) -> Result<Taken<'a>, Refusal>
+    ensures taken { IfOk result (λ t. Takes kind (AsValue (enumerants_at (kind_of table.now kind))) (plain_operand t.operand) (value ∷ []) (map alone (parameter_kinds table.now (plain_operand t.operand)))) }
+    ensures words { IfOk result (λ t. t.words ≡ 1) }
+    ensures refused { (us : List ℕ) → IfErr result (λ e. Refuses (AsValue (enumerants_at (kind_of table.now kind))) (value ∷ us) e.rule e.word) }
+{
+    if !knows(table, kind, value) {
+        return Err(Refusal {
+            rule: Rule::I6,
+            word: 0,
+        });
+    }
+    let operand = Operand::Value { kind, value };
+    Ok(Taken { operand, words: 1 })
+}
+
+/// Whether each set bit of a mask has an enumerant of the kind.
+fn knows_bits(table: &Table, kind: u32, mask: u32) -> bool
+    ensures { result ≡ is_some (mask_parameters (enumerants_at (kind_of table.now kind)) mask) }
+{
+    for position in 0..32u32 {
+        let left = mask >> position;
+        if left == 0 {
+            return true;
+        }
+        if left % 2 == 1 && !knows(table, kind, 1 << position) {
+            return false;
+        }
+    }
+    true
+}
+
+/// Takes a mask of a kind: a word whose set bits are each the value of one of the kind's enumerants; so 0 is always
+/// taken. The bits' parameters are due after it, those of the smaller bit first. The `Refusal` of a mask with a set bit
+/// that no enumerant has is I7 at word 0.
+pub fn take_mask<'a>(table: &Table, kind: u32, mask: u32) -> Result<Taken<'a>, Refusal>
+    ensures taken { IfOk result (λ t. Takes kind (AsMask (enumerants_at (kind_of table.now kind))) (plain_operand t.operand) (mask ∷ []) (map alone (parameter_kinds table.now (plain_operand t.operand)))) }
+    ensures words { IfOk result (λ t. t.words ≡ 1) }
+    ensures refused { (us : List ℕ) → IfErr result (λ e. Refuses (AsMask (enumerants_at (kind_of table.now kind))) (mask ∷ us) e.rule e.word) }
+{
+    if !knows_bits(table, kind, mask) {
+        return Err(Refusal {
+            rule: Rule::I7,
+            word: 0,
+        });
+    }
+    let operand = Operand::Mask { kind, value: mask };
+    Ok(Taken { operand, words: 1 })
+}

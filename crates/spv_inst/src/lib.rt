@@ -1,0 +1,28 @@
+//! Instructions of a module, by a grammar table.
+#![tactic(auto)]
+
+mod agenda;
+mod decoder;
+mod definitions;
+mod enumerant;
+mod fault;
+mod form;
+mod instruction;
+mod laws;
+mod module;
+mod number;
+mod operand;
+mod reader;
+mod text;
+#[cfg(test)]
+mod tests;
+
+pub use decoder::decode;
+pub use fault::{Fault, Rule, Stop};
+pub use laws::{
+    instruction_examples, kind_examples, list_examples, listed_or_dead, no_gap, one_death,
+    one_listing, one_listing_spelling, one_reading, one_spelling, pattern_examples,
+    refusal_examples, same_matches, same_misfits, width_examples,
+};
+pub use module::{Inst, Memory, Module};
+pub use operand::Operand;

@@ -1,0 +1,88 @@
+ghost use Rattle.std.specs.Prelude.{◌≡◌, ◌++◌, ◌∷◌, [], OnOk, OnErr, map};
+ghost use Rattle.spv_inst.specs.Module.{plain_insts, plain_operands};
+
+use crate::operand::Operand;
+use spv_words::Header;
+use std::alloc::{AllocError, AllocFailed, Global};
+use thiserror::Error;
+
+/// A growth of memory was refused.
+#[derive(Clone, Copy, Debug, PartialEq, Eq, Error)]
+#[error("out of memory")]
+pub struct Memory;
+
+impl From<AllocError> for Memory {
+    fn from(_e: AllocError) -> Memory {
+        Memory
+    }
+}
+
+impl<T: Drop> From<AllocFailed<T>> for Memory {
+    fn from(_e: AllocFailed<T>) -> Memory {
+        Memory
+    }
+}
+
+/// An instruction.
+#[derive(Debug, Drop)]
+pub struct Inst<'a> {
+    pub opcode: u16,
+    pub operands: Vec<Operand<'a>>,
+}
+
+/// A header and a list of instructions.
+#[derive(Debug, Drop)]
+pub struct Module<'a> {
+    pub header: Header,
+    pub insts: Vec<Inst<'a>>,
+    alloc: Global,
+}
+
+impl<'a> Module<'a> {
+    /// The module of a header with no instruction. It takes no memory.
+    pub fn new(alloc: Global, header: Header) -> Module<'a>
+        ensures header { result.header ≡ header }
+        ensures insts { plain_insts result ≡ [] }
+    {
+        Module {
+            header,
+            insts: Vec::new(alloc),
+            alloc,
+        }
+    }
+    /// Adds an instruction of that opcode, with those operands in order, at the end of the list.
+    ///
+    /// `Memory` comes only where a growth of memory was refused, and then nothing has changed.
+    pub fn push(&mut self, opcode: u16, operands: &[Operand<'a>]) -> Result<(), Memory>
+        ensures added { OnOk result (plain_insts self.new ≡ plain_insts self.old ++ record { opcode = opcode; operands = plain_operands operands.now } ∷ []) }
+        ensures refused { OnErr result (self.new.insts.items ≡ self.old.insts.items) }
+        ensures header { self.new.header ≡ self.old.header }
+    {
+        let operands = Vec::from_slice(self.alloc, operands)?;
+        self.insts.push(Inst { opcode, operands })?;
+        Ok(())
+    }
+}
+
+#[cfg(test)]
+mod tests {
+    use super::*;
+    use std::test::Fail;
+
+    #[test]
+    fn pushes_last(rt: HostRuntime) -> Result<(), Fail> {
+        let header = Header {
+            version: 0x0001_0600,
+            generator: 0,
+            bound: 10,
+            schema: 0,
+        };
+        let mut module = Module::new(rt.alloc(), header);
+        module.push(17, &[Operand::Word(6)])?;
+        module.push(7, &[Operand::Result(5), Operand::Text("abc")])?;
+        let opcodes: Vec<u16> = module.insts.iter().map(|i| i.opcode).collect(rt.alloc())?;
+        assert_eq!(rt; opcodes.as_slice(), [17, 7].as_slice());
+        assert_eq!(rt; module.header, header);
+        Ok(())
+    }
+}

@@ -1,0 +1,85 @@
+ghost use Rattle.std.specs.Prelude.{◌≡◌, ◌≤◌, ◌<◌, ◌-◌, ◌/◌, ◌%◌, ◌↔◌, ℕ, [], length, take, IfOk, IfErr, IsTrue};
+ghost use Rattle.spv_words.specs.Words.{words_of};
+ghost use Rattle.spv_words.specs.declared.words.Order.TheVariants.{Little};
+ghost use Rattle.spv_grammar.specs.Table.{Table};
+ghost use Rattle.spv_inst.specs.Module.{plain_operand};
+ghost use Rattle.spv_inst.specs.Shape.{AsText};
+ghost use Rattle.spv_inst.specs.Spelling.{AreZeros, Takes};
+ghost use Rattle.spv_inst.specs.Refusal.{Refuses};
+ghost use Rattle.spv_inst.specs.Reading.{between, parameter_kinds};
+
+use crate::fault::Rule;
+use crate::operand::Operand;
+use crate::reader::{Refusal, Taken};
+use memchr::memchr;
+use simdutf8::basic::from_utf8;
+use spv_words::Image;
+
+/// The refusal by a rule, at a word counted from the first of those left.
+fn refusal(rule: Rule, word: u32) -> Refusal
+    ensures rule { result.rule ≡ rule }
+    ensures word { result.word ≡ word }
+{
+    Refusal { rule, word }
+}
+
+/// Whether each octet is zero.
+fn are_zeros(octets: &[u8]) -> bool
+    ensures { IsTrue result ↔ AreZeros octets.now }
+{
+    octets.iter().all(|octet| *octet == 0)
+}
+
+/// Takes the text at the front of octets, four of which are a word. Its rules and words are those of `take_text`.
+fn text_in(octets: &[u8]) -> Result<Taken<'_>, Refusal>
+    requires whole { length octets.now % 4 ≡ 0 }
+    requires most { length octets.now ≤ 16777216 }
+    ensures taken { IfOk result (λ t. (k : ℕ) → Takes k AsText (plain_operand t.operand) (take t.words (words_of Little octets.now)) []) }
+    ensures operand { IfOk result (λ t. (G : Table) → parameter_kinds G (plain_operand t.operand) ≡ []) }
+    ensures within { IfOk result (λ t. (0 < t.words) × (t.words ≤ length octets.now / 4)) }
+    ensures refused { IfErr result (λ e. Refuses AsText (words_of Little octets.now) e.rule e.word) }
+{
+    if octets.is_empty() {
+        return Err(refusal(Rule::I4, 0));
+    }
+    let Some(zero) = memchr(0, octets) else {
+        return Err(refusal(Rule::I8, 0));
+    };
+    let last = zero / 4;
+    if !are_zeros(&octets[zero + 1..last * 4 + 4]) {
+        return Err(refusal(Rule::I9, last as u32));
+    }
+    match from_utf8(&octets[..zero]) {
+        Ok(text) => Ok(Taken {
+            operand: Operand::Text(text),
+            words: last as u32 + 1,
+        }),
+        Err(_) => Err(refusal(Rule::I10, 0)),
+    }
+}
+
+/// Takes the text, a literal string [2.2.1], at the front of the words of an image from `at` up to `end`: its octets, four to
+/// a word, the first in the lowest 8 bits, a zero octet, and zero octets up to the end of that word.
+///
+/// The text is lent by the image, without its zero octet, and its words are counted with that of the zero octet: 4n octets
+/// take n + 1 words. Time is linear in the words taken, and no memory is.
+///
+/// A refusal counts words from `at`. The first of these rules that is broken is told:
+/// - I4 at word 0: no word is left, `at` is `end`.
+/// - I8 at word 0: none of the octets up to `end` is zero.
+/// - I9 at the text's last word, that of its zero octet: an octet after the zero octet is not zero.
+/// - I10 at word 0: the octets before the zero octet are not UTF-8.
+pub fn take_text<'a>(image: &'a Image, at: u32, end: u32) -> Result<Taken<'a>, Refusal>
+    requires order { at ≤ end }
+    requires fits { end ≤ length image.now }
+    // The words taken spell the text, by any kind of such a shape.
+    ensures taken { IfOk result (λ t. (k : ℕ) → Takes k AsText (plain_operand t.operand) (take t.words (between image.now at end)) []) }
+    // No parameter is due after it.
+    ensures operand { IfOk result (λ t. (G : Table) → parameter_kinds G (plain_operand t.operand) ≡ []) }
+    ensures within { IfOk result (λ t. (0 < t.words) × (t.words ≤ end - at)) }
+    ensures refused { IfErr result (λ e. Refuses AsText (between image.now at end) e.rule e.word) }
+{
+    // The length bounds how many octets there are.
+    let _ = image.len();
+    text_in(&image.octets()[at as usize * 4..end as usize * 4])
+}
