@@ -3,6 +3,7 @@
 
 mod error;
 mod file;
+pub mod laws;
 mod listed;
 mod load;
 mod make;

@@ -204,40 +204,92 @@ const SMALL: &str = r#"{"instructions":[
 {"kind":"Pair","category":"Composite","bases":["Word","IdRef"]},
 {"kind":"Word","category":"Literal"}]}"#;
 
+/// The table of the small file.
+fn small(alloc: Global) -> Result<Table, Fail> {
+    Ok(Table::from_slice(alloc, SMALL.as_bytes())?)
+}
+
 #[test]
-fn look_ups(rt: HostRuntime) -> Result<(), Fail> {
-    let tree = Value::from_str(rt.alloc(), SMALL)?;
-    let table = Table::from_value(rt.alloc(), &tree)?;
+fn entries_by_opcode(rt: HostRuntime) -> Result<(), Fail> {
+    let table = small(rt.alloc())?;
     let first = table.entry(7).ok_or("an entry")?;
     assert_eq!(rt; first.name.as_str(), "OpA");
     assert_eq!(rt; first.capabilities.as_slice().len(), 2);
-    assert_eq!(rt; first.operands.as_slice(), [
-        Item { kind: 1, quantifier: Quantifier::One },
-        Item { kind: 0, quantifier: Quantifier::Maybe },
-        Item { kind: 2, quantifier: Quantifier::Many },
-    ].as_slice());
-    assert_eq!(rt; table.entry(8).is_some(), false);
-    assert_eq!(rt; table.entry(65535).is_some(), true);
+    assert!(rt; table.entry(8).is_none());
+    assert!(rt; table.entry(65535).is_some());
+    Ok(())
+}
+
+#[test]
+fn patterns(rt: HostRuntime) -> Result<(), Fail> {
+    let table = small(rt.alloc())?;
+    let entry = table.entry(7).ok_or("an entry")?;
+    let kinds = [1, 0, 2];
+    let quantifiers = [Quantifier::One, Quantifier::Maybe, Quantifier::Many];
+    for (i, item) in entry.operands.as_slice().iter().enumerate() {
+        assert!(rt; i < 3);
+        assert_eq!(rt; item.kind, kinds[i]);
+        assert_eq!(rt; item.quantifier, quantifiers[i]);
+    }
+    Ok(())
+}
+
+#[test]
+fn opcodes_by_name(rt: HostRuntime) -> Result<(), Fail> {
+    let table = small(rt.alloc())?;
     assert_eq!(rt; table.named("OpB"), Some(7));
     assert_eq!(rt; table.named("OpC"), Some(65535));
     assert_eq!(rt; table.named("OpD"), None);
-    assert_eq!(rt; table.kind_named("Pair"), Some(2));
-    assert_eq!(rt; table.kind_named("Word"), Some(3));
-    assert_eq!(rt; table.kind_named("Pairs"), None);
+    Ok(())
+}
+
+#[test]
+fn kinds_by_number(rt: HostRuntime) -> Result<(), Fail> {
+    let table = small(rt.alloc())?;
     let pair = table.kind(2).ok_or("a kind")?;
     assert_eq!(rt; pair.name.as_str(), "Pair");
     assert_eq!(rt; pair.bases.as_slice(), [3, 1].as_slice());
-    assert_eq!(rt; table.kind(0).ok_or("a kind")?.category, Category::BitEnum);
-    assert_eq!(rt; table.kind(4).is_some(), false);
+    assert_eq!(rt; pair.category, Category::Composite);
+    assert!(rt; table.kind(4).is_none());
+    Ok(())
+}
+
+#[test]
+fn kinds_by_name(rt: HostRuntime) -> Result<(), Fail> {
+    let table = small(rt.alloc())?;
+    assert_eq!(rt; table.kind_named("K"), Some(0));
+    assert_eq!(rt; table.kind_named("Word"), Some(3));
+    assert_eq!(rt; table.kind_named("Words"), None);
+    Ok(())
+}
+
+#[test]
+fn enumerants_by_value(rt: HostRuntime) -> Result<(), Fail> {
+    let table = small(rt.alloc())?;
     let one = table.enumerant(0, 1).ok_or("an enumerant")?;
     assert_eq!(rt; one.name.as_str(), "One");
     assert_eq!(rt; one.parameters.as_slice(), [1].as_slice());
-    assert_eq!(rt; table.enumerant(0, 3).is_some(), false);
-    assert_eq!(rt; table.enumerant(0, 0x8000_0000).is_some(), true);
+    assert!(rt; table.enumerant(0, 3).is_none());
+    assert!(rt; table.enumerant(0, 0x8000_0000).is_some());
+    Ok(())
+}
+
+#[test]
+fn enumerants_by_name(rt: HostRuntime) -> Result<(), Fail> {
+    let table = small(rt.alloc())?;
     assert_eq!(rt; table.enumerant_named(0, "Again"), Some(1));
     assert_eq!(rt; table.enumerant_named(0, "Both"), None);
     assert_eq!(rt; table.enumerant_named(0, "Quantified"), None);
     assert_eq!(rt; table.enumerant_named(9, "One"), None);
+    Ok(())
+}
+
+/// The tree of a text gives what the text gives.
+#[test]
+fn trees(rt: HostRuntime) -> Result<(), Fail> {
+    let tree = Value::from_str(rt.alloc(), SMALL)?;
+    let table = Table::from_value(rt.alloc(), &tree)?;
+    assert_eq!(rt; table.named("OpA"), Some(7));
     Ok(())
 }
 
