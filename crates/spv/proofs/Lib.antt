@@ -1,0 +1,5 @@
+pub mod Asking
+pub mod Digits
+pub mod Verdicts
+pub mod Worked
+pub mod Written

@@ -1,0 +1,5 @@
+pub mod CommandLine
+pub mod Stream
+pub mod Text
+pub mod Trouble
+pub mod Verdict

@@ -1,0 +1,125 @@
+//! The words of the command line, read by `clap`.
+ghost use Rattle.std.specs.Prelude.{◌≡◌, false, IfOk, map};
+ghost use Rattle.clap.specs.Words.{app_of, shape_of, subcommand_rows_of};
+ghost use Rattle.clap.specs.declared.builder.command.Command.TheViews.{out-Command};
+ghost use Rattle.spv.specs.CommandLine.{AnswersTo, IsCommandOf, check_command, error_of, program};
+
+use clap::error::ErrorKind;
+use clap::{Arg, ArgMatches};
+use std::alloc::{AllocError, Global};
+use thiserror::Error;
+
+/// What the program is asked to do.
+#[derive(Clone, Copy, Debug, PartialEq, Eq)]
+pub enum Command<'a> {
+    /// `spv check --grammar G FILE`: the verdict on a module.
+    Check {
+        /// The path of the grammar file.
+        grammar: &'a str,
+        /// The path of the module.
+        file: &'a str,
+    },
+}
+
+/// Why the words of the command line give no command.
+#[derive(Clone, Copy, Debug, PartialEq, Eq, Error)]
+pub enum UseError {
+    /// The words fit no command.
+    #[error("the words fit no command")]
+    U1,
+    /// A growth of memory was refused.
+    #[error("out of memory")]
+    U2,
+    /// The words ask for help.
+    #[error("help is asked for")]
+    U3,
+}
+
+impl From<AllocError> for UseError {
+    ghost use Rattle.std.specs.Prelude.{◌≡◌};
+    ghost use Rattle.spv.specs.declared.command_line.UseError.TheVariants.{U2};
+
+    ghost from_gives = { λ _ e. e ≡ U2 };
+
+    fn from(_error: AllocError) -> UseError {
+        UseError::U2
+    }
+}
+
+/// The command `check`.
+fn check_words<'a>(alloc: Global) -> Result<clap::Command<'a>, AllocError>
+    ensures shape { IfOk result (λ c. shape_of c ≡ check_command) }
+    ensures local { IfOk result (λ c. (out-Command c).has_globals ≡ false) }
+{
+    let grammar = Arg::new(alloc, "grammar")
+        .long("grammar")
+        .value_name("G")
+        .required(true)
+        .help("The grammar file, in JSON");
+    let file = Arg::new(alloc, "file")
+        .value_name("FILE")
+        .required(true)
+        .help("The module");
+    clap::Command::new(alloc, "check")
+        .about("Writes the verdict on a module")
+        .arg(grammar)?
+        .arg(file)
+}
+
+/// The whole command line.
+fn all_words<'a>(alloc: Global) -> Result<clap::Command<'a>, AllocError>
+    ensures { IfOk result (λ c. app_of c ≡ program) }
+{
+    let check = check_words(alloc)?;
+    clap::Command::new(alloc, "spv")
+        .about("Checks SPIR-V 1.6 kernel modules")
+        .no_binary_name(true)
+        .subcommand_required(true)
+        .disable_help_subcommand(true)
+        .subcommand(check)
+}
+
+/// The error for what `clap` refused.
+fn refusal(kind: ErrorKind) -> UseError
+    ensures { result ≡ error_of kind }
+{
+    match kind {
+        ErrorKind::OutOfMemory => UseError::U2,
+        ErrorKind::DisplayHelp => UseError::U3,
+        _ => UseError::U1,
+    }
+}
+
+/// The command that `clap` read, if it is one with all its texts.
+fn command_in<'a>(matches: &ArgMatches<'a>) -> Option<Command<'a>>
+    ensures { IsCommandOf (subcommand_rows_of matches.now) result }
+{
+    let (name, found) = matches.subcommand()?;
+    if name != "check" {
+        return None;
+    }
+    let grammar = found.get_str("grammar")?;
+    let file = found.get_str("file")?;
+    Some(Command::Check { grammar, file })
+}
+
+/// The command that the words after the program's name give. The texts are lent by the words.
+///
+/// `U1`: the words fit no command, or an option is given twice. `U2`: a growth of memory was refused. `U3`: they ask
+/// for help, by `--help` or `-h`.
+pub fn arguments<'a>(alloc: Global, words: &'a [&'a str]) -> Result<Command<'a>, UseError>
+    ensures { AnswersTo (map (λ w. w.now) words.now) result }
+{
+    let program = all_words(alloc)?;
+    let matches = match program.try_get_matches_from(words) {
+        Ok(matches) => matches,
+        Err(error) => return Err(refusal(error.kind())),
+    };
+    command_in(&matches).ok_or(UseError::U1)
+}
+
+/// What `--help` prints. The error is want of memory.
+pub fn help(alloc: Global) -> Result<String, AllocError> {
+    let mut program = all_words(alloc)?;
+    program.render_long_help()
+}

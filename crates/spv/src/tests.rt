@@ -1,0 +1,258 @@
+//! What no clause says: that calls succeed, and the words, lines and exit statuses of whole runs.
+use crate::command_line::{Command, UseError, arguments, help};
+use crate::program::run;
+use spv_words::{FromRead, FromWrite};
+use std::alloc::Global;
+use std::io::{self, ErrorKind, Read, Write};
+use std::test::Fail;
+
+/// A grammar of the nine instructions that the smallest kernel uses.
+const GRAMMAR: &[u8] = br#"{"instructions": [
+{"opname": "OpMemoryModel", "opcode": 14, "operands": [{"kind": "AddressingModel"}, {"kind": "MemoryModel"}]},
+{"opname": "OpEntryPoint", "opcode": 15, "operands": [{"kind": "ExecutionModel"}, {"kind": "IdRef"}, {"kind": "LiteralString"}, {"kind": "IdRef", "quantifier": "*"}]},
+{"opname": "OpCapability", "opcode": 17, "operands": [{"kind": "Capability"}]},
+{"opname": "OpTypeVoid", "opcode": 19, "operands": [{"kind": "IdResult"}]},
+{"opname": "OpTypeFunction", "opcode": 33, "operands": [{"kind": "IdResult"}, {"kind": "IdRef"}, {"kind": "IdRef", "quantifier": "*"}]},
+{"opname": "OpFunction", "opcode": 54, "operands": [{"kind": "IdResultType"}, {"kind": "IdResult"}, {"kind": "FunctionControl"}, {"kind": "IdRef"}]},
+{"opname": "OpFunctionEnd", "opcode": 56},
+{"opname": "OpLabel", "opcode": 248, "operands": [{"kind": "IdResult"}]},
+{"opname": "OpReturn", "opcode": 253}
+], "operand_kinds": [
+{"category": "BitEnum", "kind": "FunctionControl", "enumerants": [{"enumerant": "None", "value": "0x0000"}]},
+{"category": "ValueEnum", "kind": "AddressingModel", "enumerants": [{"enumerant": "Physical64", "value": 2}]},
+{"category": "ValueEnum", "kind": "MemoryModel", "enumerants": [{"enumerant": "OpenCL", "value": 2}]},
+{"category": "ValueEnum", "kind": "ExecutionModel", "enumerants": [{"enumerant": "Kernel", "value": 6}]},
+{"category": "ValueEnum", "kind": "Capability", "enumerants": [{"enumerant": "Addresses", "value": 4}, {"enumerant": "Kernel", "value": 6}]},
+{"category": "Id", "kind": "IdResultType"}, {"category": "Id", "kind": "IdResult"}, {"category": "Id", "kind": "IdRef"},
+{"category": "Literal", "kind": "LiteralString"}
+]}"#;
+
+/// The smallest kernel.
+const KERNEL: [u32; 30] = [
+    0x0723_0203,
+    0x0001_0600,
+    0,
+    5,
+    0,
+    0x0002_0011,
+    4,
+    0x0002_0011,
+    6,
+    0x0003_000e,
+    2,
+    2,
+    0x0004_000f,
+    6,
+    3,
+    0x6b,
+    0x0002_0013,
+    1,
+    0x0003_0021,
+    2,
+    1,
+    0x0005_0036,
+    1,
+    3,
+    0,
+    2,
+    0x0002_00f8,
+    4,
+    0x0001_00fd,
+    0x0001_0038,
+];
+
+/// The bytes of words, the lowest first.
+fn bytes_of(alloc: Global, words: &[u32]) -> Result<Vec<u8>, Fail> {
+    let mut bytes = Vec::new(alloc);
+    for word in words {
+        bytes.extend_from_slice(&word.to_le_bytes())?;
+    }
+    Ok(bytes)
+}
+
+/// Gives the bytes of a slice in pieces, and fails at a call.
+#[derive(Drop)]
+struct Pieces<'a> {
+    rest: &'a [u8],
+    piece: usize,
+    calls_left: u64,
+}
+
+impl Read for Pieces<'_> {
+    fn read(&mut self, buf: &mut [u8]) -> io::Result<usize> {
+        if self.calls_left == 0 {
+            return Err(io::Error::from(ErrorKind::Interrupted));
+        }
+        self.calls_left -= 1;
+        let n = self.piece.min(buf.len()).min(self.rest.len());
+        buf[..n].copy_from_slice(&self.rest[..n]);
+        self.rest = &self.rest[n..];
+        Ok(n)
+    }
+}
+
+/// Keeps the bytes that are written to it, in pieces, and takes nothing at a call.
+#[derive(Drop)]
+struct Shelf {
+    kept: Vec<u8>,
+    piece: usize,
+    calls_left: u64,
+}
+
+impl Write for Shelf {
+    fn write(&mut self, buf: &[u8]) -> io::Result<usize> {
+        if self.calls_left == 0 {
+            return Ok(0);
+        }
+        self.calls_left -= 1;
+        let n = self.piece.min(buf.len());
+        self.kept.extend_from_slice(&buf[..n])?;
+        Ok(n)
+    }
+
+    fn flush(&mut self) -> io::Result<()> {
+        Ok(())
+    }
+}
+
+/// The exit status of a run, and what it wrote to its standard output and its standard error.
+#[derive(Drop)]
+struct Outcome {
+    status: u8,
+    out: Vec<u8>,
+    err: Vec<u8>,
+}
+
+/// Runs `check`, with so many calls that go well at the reader and at the writer.
+fn check_run(alloc: Global, grammar: &[u8], bytes: &[u8], reads: u64, writes: u64) -> Outcome {
+    let mut file = FromRead::new(Pieces {
+        rest: bytes,
+        piece: 7,
+        calls_left: reads,
+    });
+    let mut out = FromWrite::new(Shelf {
+        kept: Vec::new(alloc),
+        piece: 3,
+        calls_left: writes,
+    });
+    let mut made = FromWrite::new(io::sink());
+    let mut err = FromWrite::new(Shelf {
+        kept: Vec::new(alloc),
+        piece: 5,
+        calls_left: u64::MAX,
+    });
+    let command = Command::Check {
+        grammar: "G",
+        file: "F",
+    };
+    let status = run(
+        alloc, &command, grammar, &mut file, &mut out, &mut made, &mut err,
+    );
+    Outcome {
+        status,
+        out: out.inner.kept,
+        err: err.inner.kept,
+    }
+}
+
+#[test]
+fn reads_the_words(rt: HostRuntime) {
+    let check = Ok(Command::Check {
+        grammar: "G",
+        file: "F",
+    });
+    let a = rt.alloc();
+    assert_eq!(rt; arguments(a, &["check", "--grammar", "G", "F"]), check);
+    assert_eq!(rt; arguments(a, &["check", "F", "--grammar", "G"]), check);
+    assert_eq!(rt; arguments(a, &["check", "--grammar=G", "F"]), check);
+    assert_eq!(rt; arguments(a, &["--help"]), Err(UseError::U3));
+    assert_eq!(rt; arguments(a, &["check", "--help"]), Err(UseError::U3));
+}
+
+#[test]
+fn refuses_other_words(rt: HostRuntime) {
+    let a = rt.alloc();
+    let refused = Err(UseError::U1);
+    assert_eq!(rt; arguments(a, &[]), refused);
+    assert_eq!(rt; arguments(a, &["check2", "--grammar", "G", "F"]), refused);
+    assert_eq!(rt; arguments(a, &["check", "F"]), refused);
+    assert_eq!(rt; arguments(a, &["check", "--grammar", "G"]), refused);
+    assert_eq!(rt;
+        arguments(a, &["check", "--grammar", "G", "F", "F"]),
+        refused
+    );
+    assert_eq!(rt;
+        arguments(a, &["check", "--grammar", "G", "--limit", "3", "F"]),
+        refused
+    );
+    assert_eq!(rt;
+        arguments(a, &["check", "--grammar", "G", "--grammar", "G", "F"]),
+        refused
+    );
+}
+
+#[test]
+fn helps(rt: HostRuntime) -> Result<(), Fail> {
+    let text = help(rt.alloc())?;
+    assert!(rt; text.as_str().contains("Usage: spv <COMMAND>"));
+    Ok(())
+}
+
+#[test]
+fn judges(rt: HostRuntime) -> Result<(), Fail> {
+    let a = rt.alloc();
+    let mut words = KERNEL;
+    let valid = check_run(a, GRAMMAR, &bytes_of(a, &words)?, u64::MAX, u64::MAX);
+    assert_eq!(rt; valid.status, 0);
+    assert_eq!(rt; valid.out.as_slice(), b"valid\n".as_slice());
+    assert!(rt; valid.err.is_empty());
+    words[6] = 9;
+    let dead = check_run(a, GRAMMAR, &bytes_of(a, &words)?, u64::MAX, u64::MAX);
+    assert_eq!(rt; dead.status, 1);
+    assert_eq!(rt; dead.out.as_slice(), b"fault I6 inst 0 word 6\n".as_slice());
+    words[29] = 0x0002_0038;
+    words[6] = 4;
+    let short = check_run(a, GRAMMAR, &bytes_of(a, &words)?, u64::MAX, u64::MAX);
+    assert_eq!(rt;
+        short.out.as_slice(),
+        b"fault I2 inst 9 word 29\n".as_slice()
+    );
+    let refused = check_run(a, GRAMMAR, b"\x03\x02\x23\x07", u64::MAX, u64::MAX);
+    assert_eq!(rt; refused.status, 1);
+    assert_eq!(rt; refused.out.as_slice(), b"fault W2\n".as_slice());
+    Ok(())
+}
+
+#[test]
+fn tells_a_refused_grammar_first(rt: HostRuntime) {
+    let refused = check_run(rt.alloc(), b"[1", b"", u64::MAX, u64::MAX);
+    assert_eq!(rt; refused.status, 2);
+    assert!(rt; refused.out.is_empty());
+    assert_eq!(rt; refused.err.as_slice(), b"error J1\n".as_slice());
+}
+
+#[test]
+fn tells_a_failed_read(rt: HostRuntime) -> Result<(), Fail> {
+    let a = rt.alloc();
+    let bytes = bytes_of(a, &KERNEL)?;
+    for reads in 0..19u64 {
+        let failed = check_run(a, GRAMMAR, &bytes, reads, u64::MAX);
+        assert_eq!(rt; failed.status, 2, "after {reads} reads");
+        assert!(rt; failed.out.is_empty());
+        assert_eq!(rt; failed.err.as_slice(), b"error file\n".as_slice());
+    }
+    Ok(())
+}
+
+#[test]
+fn tells_a_failed_write(rt: HostRuntime) -> Result<(), Fail> {
+    let a = rt.alloc();
+    let bytes = bytes_of(a, &KERNEL)?;
+    for writes in 0..2u64 {
+        let failed = check_run(a, GRAMMAR, &bytes, u64::MAX, writes);
+        assert_eq!(rt; failed.status, 2, "after {writes} writes");
+        assert!(rt; b"valid\n".starts_with(failed.out.as_slice()));
+        assert_eq!(rt; failed.err.as_slice(), b"error file\n".as_slice());
+    }
+    Ok(())
+}
