@@ -36,7 +36,7 @@ module _ {A : Type 0} where
   all_both p q [] g h = refl
   all_both p q (x ∷ xs) g h =
       and_both (p x && q x) (list_all (λ y. p y && q y) xs) (and_both (p x) (q x) (and_left (p x) (list_all p xs) g) (and_left (q x) (list_all q xs) h))
-        (all_both p q xs (and_right (p x) (list_all p xs) g) (and_right (q x) (list_all q xs) h))
+      (all_both p q xs (and_right (p x) (list_all p xs) g) (and_right (q x) (list_all q xs) h))
 
   pub kept_more : (p q : A → Bool) (x : A) (xs : List A) (b : Bool) → q x ≡ b → p x ≡ true → list_all p (filter q xs) ≡ true → list_all p (filter q (x ∷ xs)) ≡ true
   kept_more p q x xs true e first rest = rw e (and_both (p x) (list_all p (filter q xs)) first rest)
@@ -51,7 +51,7 @@ pub all_firsts : (p : FileKind → Bool) (ks : List FileKind) → list_all p ks 
 all_firsts p [] h = refl
 all_firsts p (k ∷ ks) h =
     and_both (p k) (list_all p (filter (λ later. not (bears k.name later)) (first_kinds ks))) (and_left (p k) (list_all p ks) h)
-      (all_kept p (λ later. not (bears k.name later)) (first_kinds ks) (all_firsts p ks (and_right (p k) (list_all p ks) h)))
+    (all_kept p (λ later. not (bears k.name later)) (first_kinds ks) (all_firsts p ks (and_right (p k) (list_all p ks) h)))
 
 -- ---- each element makes something
 
@@ -67,18 +67,18 @@ pub all_made : {A B : Type 0} (make : A → Option B) (p : A → Bool) → ((a :
 all_made make p each [] h = refl
 all_made make p each (x ∷ xs) h =
     is_some_then (λ b. option_map (λ bs. b ∷ bs) (all_of make xs)) (make x) (each x (and_left (p x) (list_all p xs) h))
-      (λ b. is_some_map (λ bs. b ∷ bs) (all_of make xs) (all_made make p each xs (and_right (p x) (list_all p xs) h)))
+    (λ b. is_some_map (λ bs. b ∷ bs) (all_of make xs) (all_made make p each xs (and_right (p x) (list_all p xs) h)))
 
 module _ (firsts : List FileKind) where
   pub item_made : (o : FileOperand) → (is_some (number_in firsts o.kind) && is_some o.quantifier) ≡ true → is_some (item_of firsts o) ≡ true
   item_made o h =
       is_some_then (λ k. option_map (λ q. record { kind = k; quantifier = q }) o.quantifier) (number_in firsts o.kind) (and_left (is_some (number_in firsts o.kind)) (is_some o.quantifier) h)
-        (λ k. is_some_map (λ q. record { kind = k; quantifier = q }) o.quantifier (and_right (is_some (number_in firsts o.kind)) (is_some o.quantifier) h))
+      (λ k. is_some_map (λ q. record { kind = k; quantifier = q }) o.quantifier (and_right (is_some (number_in firsts o.kind)) (is_some o.quantifier) h))
 
   pub items_made : (operands : List FileOperand) → are_named firsts operands ≡ true → are_quantified operands ≡ true → is_some (all_of (item_of firsts) operands) ≡ true
   items_made operands named known =
       all_made (item_of firsts) (λ o. is_some (number_in firsts o.kind) && is_some o.quantifier) item_made operands
-        (all_both (λ o. is_some (number_in firsts o.kind)) (λ o. is_some o.quantifier) operands named known)
+      (all_both (λ o. is_some (number_in firsts o.kind)) (λ o. is_some o.quantifier) operands named known)
 
   abbrev pub keeps_entry : FileInstruction → Bool
   keeps_entry i = is_some i.opcode && (are_named firsts i.operands && are_quantified i.operands)
@@ -88,21 +88,21 @@ module _ (firsts : List FileKind) where
       let both = and_right (is_some i.opcode) (are_named firsts i.operands && are_quantified i.operands) h in
       let items = items_made i.operands (and_left (are_named firsts i.operands) (are_quantified i.operands) both) (and_right (are_named firsts i.operands) (are_quantified i.operands) both) in
       is_some_then (λ opcode. option_map (λ its. (opcode, record { name = i.name; operands = its; capabilities = i.capabilities })) (all_of (item_of firsts) i.operands)) i.opcode
-        (and_left (is_some i.opcode) (are_named firsts i.operands && are_quantified i.operands) h)
-        (λ opcode. is_some_map (λ its. (opcode, record { name = i.name; operands = its; capabilities = i.capabilities })) (all_of (item_of firsts) i.operands) items)
+      (and_left (is_some i.opcode) (are_named firsts i.operands && are_quantified i.operands) h)
+      (λ opcode. is_some_map (λ its. (opcode, record { name = i.name; operands = its; capabilities = i.capabilities })) (all_of (item_of firsts) i.operands) items)
 
   pub entries_made : (is : List FileInstruction) → has_opcodes is ≡ true → list_all (λ i. are_named firsts i.operands) is ≡ true → list_all (λ i. are_quantified i.operands) is ≡ true
       → is_some (all_of (entry_from firsts) is) ≡ true
   entries_made is opcodes named known =
       all_made (entry_from firsts) keeps_entry entry_made is
-        (all_both (λ i. is_some i.opcode) (λ i. are_named firsts i.operands && are_quantified i.operands) is opcodes (all_both (λ i. are_named firsts i.operands) (λ i. are_quantified i.operands) is named known))
+      (all_both (λ i. is_some i.opcode) (λ i. are_named firsts i.operands && are_quantified i.operands) is opcodes (all_both (λ i. are_named firsts i.operands) (λ i. are_quantified i.operands) is named known))
 
   pub enumerant_made : (e : FileEnumerant) → (is_some e.value && are_named firsts e.parameters) ≡ true → is_some (enumerant_from firsts e) ≡ true
   enumerant_made e h =
       let parameters = all_made (parameter_of firsts) (λ o. is_some (number_in firsts o.kind)) (λ o known. known) e.parameters (and_right (is_some e.value) (are_named firsts e.parameters) h) in
       is_some_then (λ value. option_map (λ kinds. record { name = e.name; value = value; parameters = kinds; capabilities = e.capabilities }) (all_of (parameter_of firsts) e.parameters)) e.value
-        (and_left (is_some e.value) (are_named firsts e.parameters) h)
-        (λ value. is_some_map (λ kinds. record { name = e.name; value = value; parameters = kinds; capabilities = e.capabilities }) (all_of (parameter_of firsts) e.parameters) parameters)
+      (and_left (is_some e.value) (are_named firsts e.parameters) h)
+      (λ value. is_some_map (λ kinds. record { name = e.name; value = value; parameters = kinds; capabilities = e.capabilities }) (all_of (parameter_of firsts) e.parameters) parameters)
 
   abbrev pub keeps_sort : FileKind → Bool
   keeps_sort k = has_values k && (names_kinds firsts k && is_known_kind k)
@@ -116,17 +116,17 @@ module _ (firsts : List FileKind) where
       let parameters = and_left (have_named firsts k.enumerants) (are_kinds firsts k.bases) named in
       let bases = all_made (number_in firsts) (λ name. is_some (number_in firsts name)) (λ name there. there) k.bases (and_right (have_named firsts k.enumerants) (are_kinds firsts k.bases) named) in
       let es = all_made (enumerant_from firsts) (λ e. is_some e.value && are_named firsts e.parameters) enumerant_made (filter (is_kept k.category) k.enumerants)
-            (all_kept (λ e. is_some e.value && are_named firsts e.parameters) (is_kept k.category) k.enumerants
-              (all_both (λ e. is_some e.value) (λ e. are_named firsts e.parameters) k.enumerants values parameters)) in
+      (all_kept (λ e. is_some e.value && are_named firsts e.parameters) (is_kept k.category) k.enumerants
+      (all_both (λ e. is_some e.value) (λ e. are_named firsts e.parameters) k.enumerants values parameters)) in
       is_some_then (λ c. option_and_then (λ bs. option_map (λ found. record { kind = record { name = k.name; category = c; bases = bs }; enumerants = found }) (all_of (enumerant_from firsts) (filter (is_kept k.category) k.enumerants))) (all_of (number_in firsts) k.bases)) k.category
-        (and_left (is_some k.category) (have_quantified k.enumerants) known)
-        (λ c. is_some_then (λ bs. option_map (λ found. record { kind = record { name = k.name; category = c; bases = bs }; enumerants = found }) (all_of (enumerant_from firsts) (filter (is_kept k.category) k.enumerants))) (all_of (number_in firsts) k.bases) bases
-          (λ bs. is_some_map (λ found. record { kind = record { name = k.name; category = c; bases = bs }; enumerants = found }) (all_of (enumerant_from firsts) (filter (is_kept k.category) k.enumerants)) es))
+      (and_left (is_some k.category) (have_quantified k.enumerants) known)
+      (λ c. is_some_then (λ bs. option_map (λ found. record { kind = record { name = k.name; category = c; bases = bs }; enumerants = found }) (all_of (enumerant_from firsts) (filter (is_kept k.category) k.enumerants))) (all_of (number_in firsts) k.bases) bases
+      (λ bs. is_some_map (λ found. record { kind = record { name = k.name; category = c; bases = bs }; enumerants = found }) (all_of (enumerant_from firsts) (filter (is_kept k.category) k.enumerants)) es))
 
   pub sorts_made : (ks : List FileKind) → list_all has_values ks ≡ true → list_all (names_kinds firsts) ks ≡ true → list_all is_known_kind ks ≡ true → is_some (all_of (sort_from firsts) (first_kinds ks)) ≡ true
   sorts_made ks values named known =
       all_made (sort_from firsts) keeps_sort sort_made (first_kinds ks)
-        (all_firsts keeps_sort ks (all_both has_values (λ k. names_kinds firsts k && is_known_kind k) ks values (all_both (names_kinds firsts) is_known_kind ks named known)))
+      (all_firsts keeps_sort ks (all_both has_values (λ k. names_kinds firsts k && is_known_kind k) ks values (all_both (names_kinds firsts) is_known_kind ks named known)))
 
 -- ---- what was made
 
@@ -165,7 +165,7 @@ all_follow make p q each [] ys h all = ap (list_all q) (sym (some_same h))
 all_follow make p q each (x ∷ xs) ys h all =
     let s = parts_of make x xs ys h in
     ap (list_all q) (sym s.all_is)
-      ∙ and_both (q s.first) (list_all q s.rest) (each x s.first s.first_is (and_left (p x) (list_all p xs) all)) (all_follow make p q each xs s.rest s.rest_is (and_right (p x) (list_all p xs) all))
+    ∙ and_both (q s.first) (list_all q s.rest) (each x s.first s.first_is (and_left (p x) (list_all p xs) all)) (all_follow make p q each xs s.rest s.rest_is (and_right (p x) (list_all p xs) all))
 
 pub next_of : {A : Type 0} (x : A) (xs : List A) (n : ℕ) → slice_get (x ∷ xs) (1 + n) ≡ slice_get xs n
 next_of x xs n = let e : 1 + n ≡ suc n = omega arith in ap (slice_get (x ∷ xs)) e
@@ -182,7 +182,7 @@ part_found make same p [] ss h part = absurd (true≢false (sym part))
 part_found make same p (k ∷ ks) ss h part =
     let m = parts_of make k ks ss h in
     ap (λ l. is_simple (slice_get l (position_or_len p (k ∷ ks)))) (sym m.all_is)
-      ∙ part_found_step p k ks m.first m.rest (p k) refl (same k m.first m.first_is) (part_found make same p ks m.rest m.rest_is) part
+    ∙ part_found_step p k ks m.first m.rest (p k) refl (same k m.first m.first_is) (part_found make same p ks m.rest m.rest_is) part
 
 pub record SortParts (firsts : List FileKind) (k : FileKind) (s : Sort) : Type 0 where
   pub category_is : k.category ≡ Some s.kind.category
@@ -219,14 +219,14 @@ module _ (firsts : List FileKind) (G : Table) (made : all_of (sort_from firsts) 
   base_simple name b number part =
       let place : position_or_len (bears name) firsts ≡ b = place_is (nat_lt (position_or_len (bears name) firsts) (length firsts)) (position_or_len (bears name) firsts) b number in
       ap (λ n. is_simple (slice_get G.kinds n)) (sym place)
-        ∙ part_found (sort_from firsts) (λ k s h part. simple_part k.category s.kind.category (sort_parts firsts k s h).category_is part) (bears name) firsts G.kinds made part
+      ∙ part_found (sort_from firsts) (λ k s h part. simple_part k.category s.kind.category (sort_parts firsts k s h).category_is part) (bears name) firsts G.kinds made part
 
   pub bases_sound : (names : List (List ℕ)) (bs : List ℕ) → are_parts firsts names ≡ true → all_of (number_in firsts) names ≡ Some bs → are_bases G bs ≡ true
   bases_sound [] bs parts h = absurd (true≢false (sym parts))
   bases_sound (n ∷ ns) bs parts h =
       let m = parts_of (number_in firsts) n ns bs h in
       ap (are_bases G) (sym m.all_is)
-        ∙ all_follow (number_in firsts) (λ name. is_part (kind_named firsts name)) (λ b. is_simple (kind_of G b)) base_simple (n ∷ ns) (m.first ∷ m.rest) (h ∙ ap Some (sym m.all_is)) parts
+      ∙ all_follow (number_in firsts) (λ name. is_part (kind_named firsts name)) (λ b. is_simple (kind_of G b)) base_simple (n ∷ ns) (m.first ∷ m.rest) (h ∙ ap Some (sym m.all_is)) parts
 
   pub category_sound : (c : Category) (names : List (List ℕ)) (bs : List ℕ) → composes firsts (Some c) names ≡ true → all_of (number_in firsts) names ≡ Some bs → is_sound_category G bs c ≡ true
   category_sound category.Composite names bs parts h = bases_sound names bs parts h
@@ -244,7 +244,8 @@ module _ (firsts : List FileKind) (G : Table) (made : all_of (sort_from firsts) 
 pub whole : (ks firsts : List FileKind) (G : Table) → firsts ≡ first_kinds ks → list_all (is_composed firsts) ks ≡ true → all_of (sort_from firsts) firsts ≡ Some G.kinds → length firsts < 2 ^ 32 → IsWhole G
 whole ks firsts G e composed made few = record {
   sound = all_follow (sort_from firsts) (is_composed firsts) (is_sound G) (sort_sound firsts G made) firsts G.kinds made (ap (list_all (is_composed firsts)) e ∙ all_firsts (is_composed firsts) ks composed);
-  count = rw (made_length (sort_from firsts) firsts G.kinds made) few }
+  count = rw (made_length (sort_from firsts) firsts G.kinds made) few;
+}
 
 -- ---- the rules of an unbroken file
 
@@ -286,17 +287,17 @@ module _ (file : File) (firsts : List FileKind) (numbered : firsts ≡ first_kin
   file_entries =
       let named = ap (λ ks. has_kinds ks file) numbered ∙ rules_kept.kinds in
       entries_made firsts file.instructions
-        (and_left (has_opcodes file.instructions) (list_all has_values file.kinds) rules_kept.numbers)
-        (and_left (list_all (λ i. are_named firsts i.operands) file.instructions) (list_all (names_kinds firsts) file.kinds) named)
-        (and_left (list_all (λ i. are_quantified i.operands) file.instructions) (list_all is_known_kind file.kinds) rules_kept.known)
+      (and_left (has_opcodes file.instructions) (list_all has_values file.kinds) rules_kept.numbers)
+      (and_left (list_all (λ i. are_named firsts i.operands) file.instructions) (list_all (names_kinds firsts) file.kinds) named)
+      (and_left (list_all (λ i. are_quantified i.operands) file.instructions) (list_all is_known_kind file.kinds) rules_kept.known)
 
   pub file_sorts : is_some (all_of (sort_from firsts) firsts) ≡ true
   file_sorts =
       let named = ap (λ ks. has_kinds ks file) numbered ∙ rules_kept.kinds in
       ap (λ ks. is_some (all_of (sort_from firsts) ks)) numbered ∙ sorts_made firsts file.kinds
-        (and_right (has_opcodes file.instructions) (list_all has_values file.kinds) rules_kept.numbers)
-        (and_right (list_all (λ i. are_named firsts i.operands) file.instructions) (list_all (names_kinds firsts) file.kinds) named)
-        (and_right (list_all (λ i. are_quantified i.operands) file.instructions) (list_all is_known_kind file.kinds) rules_kept.known)
+      (and_right (has_opcodes file.instructions) (list_all has_values file.kinds) rules_kept.numbers)
+      (and_right (list_all (λ i. are_named firsts i.operands) file.instructions) (list_all (names_kinds firsts) file.kinds) named)
+      (and_right (list_all (λ i. are_quantified i.operands) file.instructions) (list_all is_known_kind file.kinds) rules_kept.known)
 
   pub file_whole : (G : Table) → all_of (sort_from firsts) firsts ≡ Some G.kinds → length firsts < 2 ^ 32 → IsWhole G
   file_whole G made few = whole file.kinds firsts G numbered (ap (λ ks. has_bases ks file) numbered ∙ rules_kept.bases) made few

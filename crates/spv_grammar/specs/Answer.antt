@@ -15,13 +15,13 @@ use Rattle.spv_grammar.specs.Made.{IsTable}
 abbrev pub file_breaks : File → Option GrammarError
 file_breaks file =
     if has_numbers file then
-      (if has_kinds (first_kinds file.kinds) file then
-        (if is_known file then
-          (if has_results (first_kinds file.kinds) file then
-            (if has_bases (first_kinds file.kinds) file then None else Some J7)
-          else Some J6)
-        else Some J5)
-      else Some J4)
+    (if has_kinds (first_kinds file.kinds) file then
+    (if is_known file then
+    (if has_results (first_kinds file.kinds) file then
+    (if has_bases (first_kinds file.kinds) file then None else Some J7)
+    else Some J6)
+    else Some J5)
+    else Some J4)
     else Some J3
 
 -- the least code that a tree breaks: J2 if it can't be read as a file

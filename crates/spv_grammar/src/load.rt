@@ -11,11 +11,10 @@ ghost use Rattle.spv_grammar.specs.declared.error.GrammarError.TheVariants.{J1, 
 
 use crate::error::GrammarError;
 use crate::file::File;
-use crate::make;
 use crate::numbers::Numbers;
 use crate::read::read_file;
-use crate::rules;
 use crate::table::Table;
+use crate::{make, rules};
 use serde_json::Value;
 use std::alloc::Global;
 

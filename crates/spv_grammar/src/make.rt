@@ -40,7 +40,11 @@ fn item(numbers: &Numbers, operand: &FileOperand) -> Result<Item, GrammarError>
 }
 
 /// The pattern of an instruction.
-fn items(alloc: Global, numbers: &Numbers, operands: &[FileOperand]) -> Result<Listed<Item>, GrammarError>
+fn items(
+    alloc: Global,
+    numbers: &Numbers,
+    operands: &[FileOperand],
+) -> Result<Listed<Item>, GrammarError>
     ensures { Makes (λ l. l) result (all_of (item_of numbers.now) operands.now) }
 {
     let mut found = Vec::with_capacity(alloc, operands.len())?;
@@ -51,7 +55,11 @@ fn items(alloc: Global, numbers: &Numbers, operands: &[FileOperand]) -> Result<L
 }
 
 /// The entry of an instruction, with its opcode.
-pub(crate) fn entry(alloc: Global, numbers: &Numbers, instruction: &FileInstruction) -> Result<(u16, Entry), GrammarError>
+pub(crate) fn entry(
+    alloc: Global,
+    numbers: &Numbers,
+    instruction: &FileInstruction,
+) -> Result<(u16, Entry), GrammarError>
     ensures { Makes (λ e. e) result (entry_from numbers.now instruction.now) }
 {
     let Some(opcode) = instruction.opcode else {
@@ -71,7 +79,11 @@ pub(crate) fn entry(alloc: Global, numbers: &Numbers, instruction: &FileInstruct
 }
 
 /// The entries of the instructions, in order.
-pub(crate) fn entries(alloc: Global, numbers: &Numbers, instructions: &[FileInstruction]) -> Result<Vec<(u16, Entry)>, GrammarError>
+pub(crate) fn entries(
+    alloc: Global,
+    numbers: &Numbers,
+    instructions: &[FileInstruction],
+) -> Result<Vec<(u16, Entry)>, GrammarError>
     ensures { Makes (λ v. v.items) result (all_of (entry_from numbers.now) instructions.now) }
 {
     let mut found = Vec::with_capacity(alloc, instructions.len())?;
@@ -82,7 +94,11 @@ pub(crate) fn entries(alloc: Global, numbers: &Numbers, instructions: &[FileInst
 }
 
 /// The numbers of the kinds of parameters.
-fn parameters(alloc: Global, numbers: &Numbers, operands: &[FileOperand]) -> Result<Listed<u32>, GrammarError>
+fn parameters(
+    alloc: Global,
+    numbers: &Numbers,
+    operands: &[FileOperand],
+) -> Result<Listed<u32>, GrammarError>
     ensures { Makes (λ l. l) result (all_of (parameter_of numbers.now) operands.now) }
 {
     let mut found = Vec::with_capacity(alloc, operands.len())?;
@@ -110,7 +126,11 @@ fn bases(alloc: Global, numbers: &Numbers, names: &[Name]) -> Result<Listed<u32>
 }
 
 /// An enumerant, with its parameters' kinds numbered.
-fn enumerant(alloc: Global, numbers: &Numbers, enumerant: &FileEnumerant) -> Result<Enumerant, GrammarError>
+fn enumerant(
+    alloc: Global,
+    numbers: &Numbers,
+    enumerant: &FileEnumerant,
+) -> Result<Enumerant, GrammarError>
     ensures { Makes (λ e. e) result (enumerant_from numbers.now enumerant.now) }
 {
     let Some(value) = enumerant.value else {

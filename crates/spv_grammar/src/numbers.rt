@@ -2,7 +2,6 @@
 
 ghost use Rattle.std.specs.Prelude.{◌≡◌, ◌<◌, ◌^◌, length, IfOk, IfErr, map, option_map};
 ghost use Rattle.spv_grammar.specs.Kinds.{first_kinds, number_in, kind_named};
-
 ghost use Rattle.spv_grammar.specs.declared.error.GrammarError.TheVariants.{J8};
 
 use crate::error::GrammarError;

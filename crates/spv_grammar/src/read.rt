@@ -87,7 +87,11 @@ fn each_operand(alloc: Global, elements: &[Value]) -> Result<Listed<FileOperand>
 }
 
 /// The operands at a key that may be missing.
-fn read_operands(alloc: Global, value: &Value, key: &str) -> Result<Listed<FileOperand>, GrammarError>
+fn read_operands(
+    alloc: Global,
+    value: &Value,
+    key: &str,
+) -> Result<Listed<FileOperand>, GrammarError>
     ensures { Reads result (operands_at key.now (view value.now)) }
 {
     let Some(elements) = optional_items(value, key) else {
@@ -153,7 +157,10 @@ fn read_instruction(alloc: Global, value: &Value) -> Result<FileInstruction, Gra
 }
 
 /// Each instruction of an array.
-fn each_instruction(alloc: Global, elements: &[Value]) -> Result<Listed<FileInstruction>, GrammarError>
+fn each_instruction(
+    alloc: Global,
+    elements: &[Value],
+) -> Result<Listed<FileInstruction>, GrammarError>
     ensures { Reads result (each instruction_of (items_view elements.now)) }
 {
     let mut found = Vec::new(alloc);
@@ -216,7 +223,11 @@ fn read_value(category: Category, value: &Value) -> Option<Option<u32>>
 }
 
 /// An enumerant of a kind of this category.
-fn read_enumerant(alloc: Global, category: Category, value: &Value) -> Result<FileEnumerant, GrammarError>
+fn read_enumerant(
+    alloc: Global,
+    category: Category,
+    value: &Value,
+) -> Result<FileEnumerant, GrammarError>
     ensures { Reads result (enumerant_in category (view value.now)) }
 {
     let Some(name) = text(value, "enumerant") else {

@@ -42,21 +42,27 @@ pub(crate) fn has_numbers(file: &File) -> bool
 fn are_named(numbers: &Numbers, operands: &[FileOperand]) -> bool
     ensures { result ≡ are_named numbers.now operands.now }
 {
-    operands.iter().all(|o| numbers.number(o.kind.as_str()).is_some())
+    operands
+        .iter()
+        .all(|o| numbers.number(o.kind.as_str()).is_some())
 }
 
 /// Whether each parameter of the enumerants names a kind.
 fn have_named(numbers: &Numbers, enumerants: &[FileEnumerant]) -> bool
     ensures { result ≡ have_named numbers.now enumerants.now }
 {
-    enumerants.iter().all(|e| are_named(numbers, e.parameters.as_slice()))
+    enumerants
+        .iter()
+        .all(|e| are_named(numbers, e.parameters.as_slice()))
 }
 
 /// Whether each name is that of a kind.
 fn are_kinds(numbers: &Numbers, names: &[Name]) -> bool
     ensures { result ≡ are_kinds numbers.now names.now }
 {
-    names.iter().all(|name| numbers.number(name.as_str()).is_some())
+    names
+        .iter()
+        .all(|name| numbers.number(name.as_str()).is_some())
 }
 
 /// Whether the parameters and the bases of a kind name kinds.
@@ -70,7 +76,9 @@ fn names_kinds(numbers: &Numbers, kind: &FileKind) -> bool
 fn instructions_name_kinds(numbers: &Numbers, instructions: &[FileInstruction]) -> bool
     ensures { result ≡ list_all (λ i. are_named numbers.now i.operands) instructions.now }
 {
-    instructions.iter().all(|i| are_named(numbers, i.operands.as_slice()))
+    instructions
+        .iter()
+        .all(|i| are_named(numbers, i.operands.as_slice()))
 }
 
 /// Whether the parameters and the bases of the kinds name kinds.
@@ -99,7 +107,9 @@ fn are_quantified(operands: &[FileOperand]) -> bool
 fn have_quantified(enumerants: &[FileEnumerant]) -> bool
     ensures { result ≡ have_quantified enumerants.now }
 {
-    enumerants.iter().all(|e| are_quantified(e.parameters.as_slice()))
+    enumerants
+        .iter()
+        .all(|e| are_quantified(e.parameters.as_slice()))
 }
 
 /// Whether a kind's category and its parameters' quantifiers are known.
@@ -113,7 +123,9 @@ fn is_known_kind(kind: &FileKind) -> bool
 fn instructions_are_known(instructions: &[FileInstruction]) -> bool
     ensures { result ≡ list_all (λ i. are_quantified i.operands) instructions.now }
 {
-    instructions.iter().all(|i| are_quantified(i.operands.as_slice()))
+    instructions
+        .iter()
+        .all(|i| are_quantified(i.operands.as_slice()))
 }
 
 /// Whether the categories and quantifiers of the kinds are known.
@@ -198,7 +210,11 @@ fn is_result_named(numbers: &Numbers, name: &str, operand: &FileOperand) -> bool
 fn comes_once(numbers: &Numbers, name: &str, operands: &[FileOperand]) -> bool
     ensures { result ≡ comes_once numbers.now name.now operands.now }
 {
-    operands.iter().filter(|o| is_result_named(numbers, name, o)).count() <= 1
+    operands
+        .iter()
+        .filter(|o| is_result_named(numbers, name, o))
+        .count()
+        <= 1
 }
 
 /// Whether an operand is of no result kind or comes once.
@@ -228,14 +244,18 @@ fn places_results(numbers: &Numbers, operands: &[FileOperand]) -> bool
 fn are_no_results(numbers: &Numbers, operands: &[FileOperand]) -> bool
     ensures { result ≡ are_no_results numbers.now operands.now }
 {
-    operands.iter().all(|o| !is_result(numbers, o.kind.as_str()))
+    operands
+        .iter()
+        .all(|o| !is_result(numbers, o.kind.as_str()))
 }
 
 /// Whether no enumerant has a parameter of a result kind.
 fn have_no_results(numbers: &Numbers, enumerants: &[FileEnumerant]) -> bool
     ensures { result ≡ list_all (λ e. are_no_results numbers.now e.parameters) enumerants.now }
 {
-    enumerants.iter().all(|e| are_no_results(numbers, e.parameters.as_slice()))
+    enumerants
+        .iter()
+        .all(|e| are_no_results(numbers, e.parameters.as_slice()))
 }
 
 /// Whether no name is that of a result kind.
@@ -257,7 +277,9 @@ fn has_no_results(numbers: &Numbers, kind: &FileKind) -> bool
 fn instructions_place_results(numbers: &Numbers, instructions: &[FileInstruction]) -> bool
     ensures { result ≡ list_all (λ i. places_results numbers.now i.operands) instructions.now }
 {
-    instructions.iter().all(|i| places_results(numbers, i.operands.as_slice()))
+    instructions
+        .iter()
+        .all(|i| places_results(numbers, i.operands.as_slice()))
 }
 
 /// Whether no parameter or base of the kinds is a result kind.
@@ -303,5 +325,8 @@ fn is_composed(numbers: &Numbers, kind: &FileKind) -> bool
 pub(crate) fn has_bases(numbers: &Numbers, file: &File) -> bool
     ensures { result ≡ has_bases numbers.now file.now }
 {
-    file.kinds.as_slice().iter().all(|k| is_composed(numbers, k))
+    file.kinds
+        .as_slice()
+        .iter()
+        .all(|k| is_composed(numbers, k))
 }

@@ -67,7 +67,11 @@ fn value_names(alloc: Global, enumerants: &[Enumerant]) -> Result<IndexMap<Strin
 
 impl Sort {
     /// A kind with these enumerants. The error is want of memory.
-    pub(crate) fn new(alloc: Global, kind: Kind, enumerants: Vec<Enumerant>) -> Result<Sort, AllocError>
+    pub(crate) fn new(
+        alloc: Global,
+        kind: Kind,
+        enumerants: Vec<Enumerant>,
+    ) -> Result<Sort, AllocError>
         ensures { IfOk result (λ s. s ≡ record { kind = kind; enumerants = enumerants.items }) }
     {
         let places = value_places(alloc, enumerants.as_slice())?;

@@ -127,7 +127,10 @@ fn opcode_places(alloc: Global, entries: &[(u16, Entry)]) -> Result<Vec<u32>, Al
 }
 
 /// For each name the opcode of the first instruction that bears it.
-fn opcode_names(alloc: Global, entries: &[(u16, Entry)]) -> Result<IndexMap<String, u16>, AllocError>
+fn opcode_names(
+    alloc: Global,
+    entries: &[(u16, Entry)],
+) -> Result<IndexMap<String, u16>, AllocError>
     ensures { IfOk result (λ m. (q : List ℕ) → get_by_text m q ≡ opcode_named entries.now q) }
 {
     let mut opcodes = IndexMap::new(alloc);

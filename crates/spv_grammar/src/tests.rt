@@ -181,8 +181,14 @@ fn nested(alloc: Global, levels: usize) -> Result<String, Fail> {
 #[test]
 fn levels(rt: HostRuntime) -> Result<(), Fail> {
     assert_eq!(rt; code(rt.alloc(), nested(rt.alloc(), 127)?.as_str()), None);
-    assert_eq!(rt; code(rt.alloc(), nested(rt.alloc(), 128)?.as_str()), Some(GrammarError::J1));
-    assert_eq!(rt; Table::from_slice(rt.alloc(), b"{\"x\":\"\xe9\"}").err(), Some(GrammarError::J1));
+    assert_eq!(rt;
+        code(rt.alloc(), nested(rt.alloc(), 128)?.as_str()),
+        Some(GrammarError::J1)
+    );
+    assert_eq!(rt;
+        Table::from_slice(rt.alloc(), b"{\"x\":\"\xe9\"}").err(),
+        Some(GrammarError::J1)
+    );
     Ok(())
 }
 
@@ -299,20 +305,44 @@ fn lists_and_names(rt: HostRuntime) -> Result<(), Fail> {
     assert_eq!(rt; listed.as_slice(), [4, 5].as_slice());
     let name = Name::from_str(rt.alloc(), "Kernel")?;
     assert_eq!(rt; name.copy(rt.alloc())?.as_str(), "Kernel");
-    assert_eq!(rt; Name::from_string(String::from_str(rt.alloc(), "Id")?).as_str(), "Id");
+    assert_eq!(rt;
+        Name::from_string(String::from_str(rt.alloc(), "Id")?).as_str(),
+        "Id"
+    );
     Ok(())
 }
 
 #[test]
 fn messages(rt: HostRuntime) -> Result<(), Fail> {
     let told = [
-        (GrammarError::J1, "the grammar is not JSON of at most 127 levels"),
-        (GrammarError::J2, "a key of the grammar is missing or has another sort of value"),
-        (GrammarError::J3, "an opcode or a value of the grammar is out of its range or form"),
-        (GrammarError::J4, "the grammar names a kind that it does not have"),
-        (GrammarError::J5, "the grammar has an unknown category or quantifier"),
-        (GrammarError::J6, "a result kind of the grammar stands twice, is quantified, or stands in parameters or bases"),
-        (GrammarError::J7, "a composite kind of the grammar has no bases, or one that is neither an id nor a literal"),
+        (
+            GrammarError::J1,
+            "the grammar is not JSON of at most 127 levels",
+        ),
+        (
+            GrammarError::J2,
+            "a key of the grammar is missing or has another sort of value",
+        ),
+        (
+            GrammarError::J3,
+            "an opcode or a value of the grammar is out of its range or form",
+        ),
+        (
+            GrammarError::J4,
+            "the grammar names a kind that it does not have",
+        ),
+        (
+            GrammarError::J5,
+            "the grammar has an unknown category or quantifier",
+        ),
+        (
+            GrammarError::J6,
+            "a result kind of the grammar stands twice, is quantified, or stands in parameters or bases",
+        ),
+        (
+            GrammarError::J7,
+            "a composite kind of the grammar has no bases, or one that is neither an id nor a literal",
+        ),
         (GrammarError::J8, "out of memory"),
     ];
     for (code, message) in told {

@@ -18,6 +18,7 @@ same_table f G H g h =
 pub returns : goal.returns
 returns c = record {
   once = λ d G H g h.
-    let f : g.file ≡ h.file = some_same (sym g.is_file ∙ h.is_file) in
-    same_table h.file G H (let P : File → Type 0 = λ f. IsTable f G in subst P f g.table) h.table;
-  never = λ d G e g told. not_some e (sym g.unbroken ∙ ap read_breaks (sym g.is_file) ∙ told) }
+      let f : g.file ≡ h.file = some_same (sym g.is_file ∙ h.is_file) in
+      same_table h.file G H (let P : File → Type 0 = λ f. IsTable f G in subst P f g.table) h.table;
+  never = λ d G e g told. not_some e (sym g.unbroken ∙ ap read_breaks (sym g.is_file) ∙ told);
+}

@@ -7,9 +7,10 @@ use Rattle.spv_grammar.proofs.make.enumerants.Goals.{then-is_kept+in_ok-enumeran
 pub loop-element-preserved : goal.loop-element-preserved
 loop-element-preserved c =
     elim c.if-is_kept.branch [
-      then-is_kept+in_ok-enumerant+in_ok-push w ↦
-        keep_step (enumerant_from c.args.numbers.now) (is_kept c.args.category) c.args.elements.now c.loop-element.element-index c.element-item.result _ c.loop-element.found.items c.if-is_kept.found.items
+      | then-is_kept+in_ok-enumerant+in_ok-push w ↦
+          keep_step (enumerant_from c.args.numbers.now) (is_kept c.args.category) c.args.elements.now c.loop-element.element-index c.element-item.result _ c.loop-element.found.items c.if-is_kept.found.items
           _ c.loop-element-test.true c.element-item.is c.loop-element.invariant (sym c.is_kept.ensures ∙ w.if-is_kept.true) w.in_ok-enumerant.ensures (ap (λ v. v.items) w.found-is ∙ w.in_ok-push.ensures.items)
-    | else-is_kept w ↦
-        skip_step (enumerant_from c.args.numbers.now) (is_kept c.args.category) c.args.elements.now c.loop-element.element-index c.element-item.result _ c.loop-element.found.items c.if-is_kept.found.items
-          c.loop-element-test.true c.element-item.is c.loop-element.invariant (sym c.is_kept.ensures ∙ w.if-is_kept.false) (ap (λ v. v.items) w.found-is) ]
+      | else-is_kept w ↦
+          skip_step (enumerant_from c.args.numbers.now) (is_kept c.args.category) c.args.elements.now c.loop-element.element-index c.element-item.result _ c.loop-element.found.items c.if-is_kept.found.items
+          c.loop-element-test.true c.element-item.is c.loop-element.invariant (sym c.is_kept.ensures ∙ w.if-is_kept.false) (ap (λ v. v.items) w.found-is)
+    ]

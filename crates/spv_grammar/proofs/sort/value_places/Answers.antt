@@ -9,5 +9,5 @@ use Rattle.spv_grammar.proofs.sort.value_places.Goals as goal
 pub loop-i-preserved : goal.loop-i-preserved
 loop-i-preserved c = λ v.
     first_step (λ e. e.value) c.args.enumerants.now c.loop-i.i c.index-enumerants-i.result (tree.get nat_cmp c.loop-i.places v) (tree.get nat_cmp c.insert.new.self v) v
-      (omega arith) (omega arith) c.index-enumerants-i.is (c.loop-i.invariant v)
-      (c.in_ok-insert.ensures.updates.0 v ∙ ap (λ b. cond b (Some (c.loop-i.i - 1)) (tree.get nat_cmp c.loop-i.places v)) (same_number (get_or c.args.enumerants.now (c.loop-i.i - 1) c.index-enumerants-i.result).value v ∙ ap (λ (e : Enumerant). nat_eq e.value v) (sym c.index-enumerants-i.is)))
+    (omega arith) (omega arith) c.index-enumerants-i.is (c.loop-i.invariant v)
+    (c.in_ok-insert.ensures.updates.0 v ∙ ap (λ b. cond b (Some (c.loop-i.i - 1)) (tree.get nat_cmp c.loop-i.places v)) (same_number (get_or c.args.enumerants.now (c.loop-i.i - 1) c.index-enumerants-i.result).value v ∙ ap (λ (e : Enumerant). nat_eq e.value v) (sym c.index-enumerants-i.is)))

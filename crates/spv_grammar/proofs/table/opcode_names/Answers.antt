@@ -8,5 +8,5 @@ use Rattle.spv_grammar.proofs.table.opcode_names.Goals as goal
 pub loop-i-preserved : goal.loop-i-preserved
 loop-i-preserved c = λ q.
     name_step (λ e. e.1.name) (λ e. e.0) c.args.entries.now c.loop-i.i c.index-entries-i.result (get_by_text c.loop-i.opcodes q) (get_by_text c.insert.new.self q) q
-      (omega arith) (omega arith) c.index-entries-i.is (c.loop-i.invariant q)
-      (hash_map_updates_text _ c.loop-i.opcodes c.insert.new.self _ c.in_ok-insert.ensures.updates q ∙ ap (λ bs. cond (bytes_eq bs q) (Some c.index-entries-i.result.0) (get_by_text c.loop-i.opcodes q)) (c.in_ok-name.ensures.ok ∙ c.as_str.ensures))
+    (omega arith) (omega arith) c.index-entries-i.is (c.loop-i.invariant q)
+    (hash_map_updates_text _ c.loop-i.opcodes c.insert.new.self _ c.in_ok-insert.ensures.updates q ∙ ap (λ bs. cond (bytes_eq bs q) (Some c.index-entries-i.result.0) (get_by_text c.loop-i.opcodes q)) (c.in_ok-name.ensures.ok ∙ c.as_str.ensures))
