@@ -1,8 +1,7 @@
 -- What is known of the operands after one more.
-use Rattle.std.proofs.Common.{◌≡◌, ◌++◌, ◌∙◌, ℕ, List, [], ◌∷◌, Option, Some, None, map, length, refl, sym, ap}
-use Rattle.spv_inst.specs.Operand.{Plain, OfType, PlainInst, Context, type_in, start, after}
+use Rattle.std.proofs.Common.{◌≡◌, ◌++◌, ℕ, List, [], ◌∷◌, Some, None, refl}
+use Rattle.spv_inst.specs.Operand.{Plain, OfType, type_in}
 use Rattle.spv_inst.specs.Width.{first_id}
-use Rattle.spv_inst.proofs.Steps.{after_is}
 
 pub type_kept : (os : List Plain) (o : Plain) (t : ℕ) → type_in os ≡ Some t → type_in (os ++ (o ∷ [])) ≡ Some t
 type_kept [] o t e = cc

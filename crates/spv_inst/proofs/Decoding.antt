@@ -1,5 +1,5 @@
 -- The list of instructions so far, and the rest of the words.
-use Rattle.std.proofs.Common.{◌≡◌, ◌++◌, ◌∙◌, ◌+◌, ◌-◌, ◌≤◌, ◌<◌, ℕ, suc, List, [], ◌∷◌, length, map, take, drop, refl, sym, ap, arith, append_assoc, append-nil, length-append}
+use Rattle.std.proofs.Common.{◌≡◌, ◌++◌, ◌+◌, ◌-◌, ◌≤◌, ◌<◌, ℕ, suc, List, [], ◌∷◌, length, map, drop, refl, sym, ap, arith, append_assoc, append-nil, length-append}
 use Rattle.std.proofs.lemmas.List.{drop-drop, take-append-drop}
 use Rattle.std.proofs.Math.ListN.{drop_of_length-le}
 use Rattle.spv_grammar.specs.Table.{Table}
@@ -10,7 +10,7 @@ use Rattle.spv_inst.specs.declared.module.Inst.{Inst}
 use Rattle.spv_inst.specs.Module.{plain_inst}
 use Rattle.spv_inst.specs.Operand.{PlainInst}
 use Rattle.spv_inst.specs.Instruction.{IsInstruction, Listing, IsListing}
-use Rattle.spv_inst.specs.Dead.{IsDead, DiesAt}
+use Rattle.spv_inst.specs.Dead.{DiesAt}
 use Rattle.spv_inst.specs.Reading.{between}
 use Rattle.spv_inst.specs.Outcome.{IsDeath, IsNone}
 use Rattle.spv_inst.specs.Step.{IsDeadFrom}

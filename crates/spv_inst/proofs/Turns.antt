@@ -1,7 +1,7 @@
 -- The turns of the loop over an instruction's operands.
-use Rattle.std.proofs.Common.{◌≡◌, ◌≢◌, ◌++◌, ◌∙◌, ◌+◌, ◌-◌, ◌≤◌, ◌<◌, ◌&&◌, ◌||◌, ℕ, zero, suc, List, [], ◌∷◌, Option, Some, None, Bool, true, false, nat_eq, bytes_eq, codes, cond, length, map, take, drop, unwrap_or, refl, sym, ap, arith, length-append}
+use Rattle.std.proofs.Common.{◌≡◌, ◌++◌, ◌∙◌, ◌+◌, ◌-◌, ◌≤◌, ◌<◌, ◌&&◌, ◌||◌, ℕ, List, [], ◌∷◌, Option, Some, None, Bool, true, false, nat_eq, bytes_eq, codes, cond, length, map, take, drop, unwrap_or, refl, sym, ap, arith, length-append}
 use Rattle.std.proofs.lemmas.List.{drop-drop, take-append-drop, length-take-le, length-drop, drop-take}
-use Rattle.std.specs.List.{list_all, slice_get}
+use Rattle.std.specs.List.{list_all}
 use Rattle.spv_grammar.specs.declared.table.Category.{Category}
 use Rattle.spv_grammar.specs.declared.table.Category.TheVariants as category
 use Rattle.spv_grammar.specs.declared.table.Enumerant.{Enumerant}
@@ -13,12 +13,12 @@ use Rattle.spv_inst.specs.Module.{plain_operand, plain_operands}
 use Rattle.spv_inst.specs.declared.reader.Scene.{Scene}
 use Rattle.spv_inst.specs.declared.reader.Known.{Known}
 use Rattle.spv_inst.specs.Known.{Knows, IsAt}
-use Rattle.spv_inst.specs.Operand.{PlainInst, start, type_in, Plain, OfType, Result, Id, Word, Number, Text, Value, Mask, Context, after}
-use Rattle.spv_inst.specs.Shape.{Slot, alone, Shape, AsType, AsResult, AsId, AsWord, AsNumber, AsText, AsValue, AsMask, AsParts, AsNothing, bases, integer_shape, id_shape, literal_shape, category_shape, kind_shape, shape_of}
+use Rattle.spv_inst.specs.Operand.{PlainInst, start, type_in, Plain, Value, Mask, Context, after}
+use Rattle.spv_inst.specs.Shape.{Slot, alone, Shape, AsType, AsResult, AsId, AsWord, AsNumber, AsText, AsMask, AsParts, AsNothing, bases, category_shape, kind_shape, shape_of}
 use Rattle.spv_inst.specs.Width.{switch_width, context_width, first_id}
 use Rattle.spv_inst.specs.Spelling.{Takes, Match, mask_parameters}
 use Rattle.spv_inst.specs.Refusal.{IsLeaf, Refuses, Misfit}
-use Rattle.spv_inst.specs.Flat.{due, Due, OneOf, MaybeOf, ManyOf, Matches, Fails}
+use Rattle.spv_inst.specs.Flat.{due, Due, OneOf, MaybeOf, ManyOf, Fails}
 use Rattle.spv_inst.specs.Reading.{between, enumerants_at, parameter_kinds, TakesFront, RefusesFront}
 use Rattle.spv_inst.specs.Agenda.{settled, Opens, opened_kinds}
 use Rattle.spv_inst.specs.Form.{form_of}

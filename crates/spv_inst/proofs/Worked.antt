@@ -1,5 +1,5 @@
 -- Worked examples under a small table.
-use Rattle.std.proofs.Common.{◌≡◌, ◌++◌, ◌+◌, ◌*◌, ℕ, List, [], ◌∷◌, refl, arith, map, ap, length, append-nil}
+use Rattle.std.proofs.Common.{◌≡◌, ◌++◌, ℕ, List, [], ◌∷◌, refl, arith, map, ap, length, append-nil}
 use Rattle.std.specs.Prelude.{IsUtf8, codes}
 use Rattle.spv_grammar.specs.Table.{One, Maybe, Many}
 use Rattle.spv_inst.specs.Operand.{Plain, OfType, Result, Id, Word, Number, Text, Mask, Context, and_then, start}

@@ -14,3 +14,5 @@ pub mod Known
 pub mod Reading
 pub mod Agenda
 pub mod Step
+pub mod Encoding
+pub mod Written

@@ -1,5 +1,5 @@
 -- Operands and instructions of the code, without where they lie in memory.
-use Rattle.std.specs.Prelude.{ℕ, List, map}
+use Rattle.std.specs.Prelude.{List, map}
 use Rattle.spv_inst.specs.Operand.{Plain, PlainInst}
 use Rattle.spv_inst.specs.Operand as plain
 use Rattle.spv_inst.specs.declared.operand.Operand.{Operand}

@@ -1,5 +1,5 @@
 -- What the decoder's steps say of the words left of an instruction.
-use Rattle.std.specs.Prelude.{◌≡◌, ◌-◌, ℕ, List, [], ◌∷◌, Option, Some, None, take, drop, map, unwrap_or, option_map}
+use Rattle.std.specs.Prelude.{◌-◌, ℕ, List, [], Option, Some, None, take, drop, map, unwrap_or}
 use Rattle.spv_grammar.specs.Table.{Table, Sort, kind_of}
 use Rattle.spv_inst.specs.declared.fault.Rule.{Rule}
 use Rattle.spv_inst.specs.declared.operand.Operand.{Operand}

@@ -12,7 +12,7 @@ use crate::reader::{Refusal, Taken};
 use spv_grammar::Table;
 
 /// Whether a kind has an enumerant of a value.
-fn knows(table: &Table, kind: u32, value: u32) -> bool
+pub fn knows(table: &Table, kind: u32, value: u32) -> bool
     ensures { result ≡ is_some (parameters_of (enumerants_at (kind_of table.now kind)) value) }
 {
     table.enumerant(kind, value).is_some()
@@ -36,7 +36,7 @@ pub fn take_value<'a>(table: &Table, kind: u32, value: u32) -> Result<Taken<'a>,
 }
 
 /// Whether each set bit of a mask has an enumerant of the kind.
-fn knows_bits(table: &Table, kind: u32, mask: u32) -> bool
+pub fn knows_bits(table: &Table, kind: u32, mask: u32) -> bool
     ensures { result ≡ is_some (mask_parameters (enumerants_at (kind_of table.now kind)) mask) }
 {
     for position in 0..32u32 {

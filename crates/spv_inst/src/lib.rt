@@ -4,6 +4,10 @@
 mod agenda;
 mod decoder;
 mod definitions;
+mod encoder;
+#[cfg(test)]
+mod encoder_tests;
+mod encoding;
 mod enumerant;
 mod fault;
 mod form;
@@ -11,13 +15,17 @@ mod instruction;
 mod laws;
 mod module;
 mod number;
+mod obstacle;
 mod operand;
 mod reader;
-mod text;
 #[cfg(test)]
 mod tests;
+mod text;
+mod written;
 
 pub use decoder::decode;
+pub use encoder::encode;
+pub use encoding::{encoding_examples, image_or_refused, listed_or_stopped, one_image, one_stop};
 pub use fault::{Fault, Rule, Stop};
 pub use laws::{
     instruction_examples, kind_examples, list_examples, listed_or_dead, no_gap, one_death,
@@ -25,4 +33,5 @@ pub use laws::{
     refusal_examples, same_matches, same_misfits, width_examples,
 };
 pub use module::{Inst, Memory, Module};
+pub use obstacle::{EncodeCode, EncodeError};
 pub use operand::Operand;

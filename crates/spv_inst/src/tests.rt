@@ -1,4 +1,4 @@
-use crate::{decode, Fault, Module, Operand, Rule, Stop};
+use crate::{Fault, Module, Operand, Rule, Stop, decode};
 use spv_grammar::Table;
 use spv_words::{FromRead, Image, read_image};
 use std::alloc::Global;
@@ -34,14 +34,32 @@ fn decodes(rt: HostRuntime) -> Result<(), Fail> {
     let image = image(
         rt.alloc(),
         &[
-            0x0003_0005, 4, 0x0063_6261, 0x0004_0015, 1, 64, 0, 0x0005_002b, 1, 2, 7, 2,
-            0x0005_003d, 1, 3, 2, 1,
+            0x0003_0005,
+            4,
+            0x0063_6261,
+            0x0004_0015,
+            1,
+            64,
+            0,
+            0x0005_002b,
+            1,
+            2,
+            7,
+            2,
+            0x0005_003d,
+            1,
+            3,
+            2,
+            1,
         ],
     )?;
     let module = decode(rt.alloc(), &table, &image)?;
     assert_eq!(rt; module.header.bound, 9);
     assert_eq!(rt; module.insts.len(), 4);
     assert_eq!(rt; module.insts[0].opcode, 5);
-    assert_eq!(rt; module.insts[0].operands.as_slice(), [Operand::Id(4), Operand::Text("abc")].as_slice());
+    assert_eq!(rt;
+        module.insts[0].operands.as_slice(),
+        [Operand::Id(4), Operand::Text("abc")].as_slice()
+    );
     Ok(())
 }

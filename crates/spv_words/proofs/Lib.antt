@@ -1,3 +1,4 @@
+pub mod Drafting
 pub mod Gathered
 pub mod Groups
 pub mod Refusal

@@ -5,6 +5,7 @@
 //! order. (Khronos SPIR-V Specification 1.6, section 2.3.)
 #![tactic(auto)]
 
+mod draft;
 #[cfg(test)]
 mod fakes;
 mod image;
@@ -17,6 +18,7 @@ mod tests;
 mod words;
 mod writing;
 
+pub use draft::Draft;
 pub use image::{Image, word};
 pub use reading::read_image;
 pub use stream::{Failed, FromRead, FromWrite, Sink, Source};

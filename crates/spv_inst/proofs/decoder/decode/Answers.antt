@@ -1,4 +1,4 @@
-use Rattle.std.proofs.Common.{◌≡◌, map, length, refl, sym, ap, ◌∙◌, arith}
+use Rattle.std.proofs.Common.{length, sym}
 use Rattle.std.proofs.lemmas.Result.{err_from_is_err_and}
 use Rattle.spv_inst.specs.Module.{plain_inst, plain_insts}
 use Rattle.spv_inst.proofs.Decoding.{listed_first, listed_next, listed_all, listed_only, dead_here, none_there, plain-insts-push, length-plain-insts}

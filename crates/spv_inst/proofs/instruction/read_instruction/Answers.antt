@@ -1,7 +1,7 @@
-use Rattle.std.proofs.Common.{◌≡◌, ◌≤◌, ◌<◌, ◌/◌, ◌%◌, map, length, refl, sym, ap, ◌∙◌, arith}
+use Rattle.std.proofs.Common.{◌<◌, ◌/◌, ◌%◌, map, length, refl, arith}
 use Rattle.std.proofs.lemmas.Result.{err_from_is_err_and}
 use Rattle.spv_inst.specs.Module.{plain_inst, plain_operands}
-use Rattle.spv_inst.proofs.Instructions.{Front, dies_uncounted, dies_past, dies_unknown, dies_misfit, is_instruction, front_of}
+use Rattle.spv_inst.proofs.Instructions.{dies_uncounted, dies_past, dies_unknown, dies_misfit, is_instruction, front_of}
 use Rattle.spv_inst.proofs.instruction.read_instruction.Goals as goal
 
 pub returns-then-count-eq0-clause-dead : goal.returns-then-count-eq0-clause-dead

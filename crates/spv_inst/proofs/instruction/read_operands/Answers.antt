@@ -1,6 +1,6 @@
-use Rattle.std.proofs.Common.{◌≡◌, ◌≤◌, map, length, refl, sym, ap, ◌∙◌, arith}
+use Rattle.std.proofs.Common.{◌≡◌, ◌≤◌, map, length, refl, arith}
 use Rattle.spv_grammar.specs.Table.{pattern_of}
-use Rattle.spv_inst.specs.Module.{plain_operand, plain_operands, plain_inst}
+use Rattle.spv_inst.specs.Module.{plain_operands, plain_inst}
 use Rattle.spv_inst.specs.Form.{form_of}
 use Rattle.spv_inst.specs.Reading.{between}
 use Rattle.spv_inst.specs.Operand.{start, after}

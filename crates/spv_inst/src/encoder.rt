@@ -1,0 +1,270 @@
+//! From instructions to words.
+
+ghost use Rattle.std.specs.Prelude.{◌≡◌, ◌≤◌, ◌<◌, ◌+◌, ◌^◌, ◌↔◌, IsTrue, ◌*◌, ◌++◌, ◌∷◌, [], List, length, drop, map, IfOk, IfErr, IfSome, OnOk, MatchOption, slice_index};
+ghost use Rattle.spv_words.specs.Header.{IsHeader};
+ghost use Rattle.spv_grammar.specs.Table.{kind_of};
+ghost use Rattle.spv_inst.specs.declared.form.Form.TheVariants.{Leaf as LeafForm};
+ghost use Rattle.spv_inst.specs.Form.{form_of, form_at};
+ghost use Rattle.spv_inst.specs.Operand.{PlainInst, Context, start};
+ghost use Rattle.spv_inst.specs.Module.{plain_operand, plain_operands, plain_inst, plain_insts};
+ghost use Rattle.spv_inst.specs.Instruction.{IsListing};
+ghost use Rattle.spv_inst.specs.Known.{Knows};
+ghost use Rattle.spv_inst.specs.Agenda.{plain_slot, items_of, agenda_due, settled};
+ghost use Rattle.spv_inst.specs.Outcome.{IsHeaderOf};
+ghost use Rattle.spv_inst.specs.Encoding.{Fits, IsRefused};
+ghost use Rattle.spv_inst.specs.Written.{IsNear, LeadsTo, IsStep, IsSpelling, Adds, IsWritten, HindersOrMemory, header_words, told};
+
+use crate::agenda::{Agenda, Asked};
+use crate::definitions::Definitions;
+use crate::form::{Form, forms_of};
+use crate::module::{Inst, Module};
+use crate::obstacle::{EncodeCode, EncodeError};
+use crate::operand::Operand;
+use crate::reader::Known;
+use crate::written::{fits, known_after, push_operand, read_text};
+use spv_grammar::{Item, Table};
+use spv_words::{Draft, Header, Image};
+use std::alloc::{AllocError, Global};
+
+/// The magic number, word 0 of a module. (2.3)
+const MAGIC_NUMBER: u32 = 119734787;
+
+/// Version 1.6. (2.3)
+const VERSION: u32 = 67072;
+
+/// The greatest bound of ids.
+const GREATEST_BOUND: u32 = 4194303;
+
+/// The greatest number of words of an instruction. (2.3)
+const GREATEST_COUNT: usize = 65535;
+
+/// The greatest number of words of a module.
+const GREATEST_LENGTH: usize = 4194304;
+
+/// What does not change while an instruction is encoded.
+#[derive(Clone, Copy)]
+struct Setting<'t, 'd> {
+    table: &'t Table,
+    /// The form of each kind.
+    forms: &'d [Form],
+    /// The definitions before the instruction.
+    definitions: &'d Definitions,
+}
+
+/// The leaf that is due next, where operands are left (`more`) or not. Where memory runs out, nothing is said of what is
+/// left.
+fn next_leaf<'t>(
+    agenda: &mut Agenda<'t>,
+    table: &'t Table,
+    forms: &[Form],
+    more: bool,
+) -> Result<Option<Asked>, AllocError>
+    requires { forms.now ≡ map form_of table.now.kinds }
+    ensures leaf { IfOk result (λ o. IfSome o (λ a. form_at (kind_of table.now a.slot.kind) ≡ LeafForm a.leaf)) }
+    ensures due { IfOk result (λ o. MatchOption o (settled more (agenda_due table.now agenda.old) ≡ [])
+        (λ a. LeadsTo table.now (settled more (agenda_due table.now agenda.old)) (plain_slot a.slot) (agenda_due table.now agenda.new))) }
+{
+    let Some(slot) = agenda.next_due(table, more)? else {
+        return Ok(None);
+    };
+    let asked = agenda.leaf_of(table, forms, slot)?;
+    Ok(Some(asked))
+}
+
+/// Writes the words of one operand, if it fits what is due. Where memory runs out, nothing is said of what is left.
+fn write_next<'t>(
+    setting: &Setting<'t, '_>,
+    agenda: &mut Agenda<'t>,
+    words: &mut Vec<u32>,
+    known: Known,
+    operand: &Operand,
+) -> Result<bool, AllocError>
+    requires { setting.now.forms.now ≡ map form_of setting.now.table.now.kinds }
+    ensures { (d : Context) → IsNear setting.now.definitions.now known d
+        → IfOk result (λ b. IsStep b setting.now.table.now d (agenda_due setting.now.table.now agenda.old) (agenda_due setting.now.table.now agenda.new) (plain_operand operand.now) words.old.items words.new.items) }
+{
+    let Some(asked) = next_leaf(agenda, setting.table, setting.forms, true)? else {
+        return Ok(false);
+    };
+    if !fits(setting.table, setting.definitions, known, asked, operand) {
+        return Ok(false);
+    }
+    read_text(operand);
+    push_operand(words, operand)?;
+    agenda.open(setting.table, operand)?;
+    Ok(true)
+}
+
+/// Writes the further words of an instruction, if any words spell its operands by the pattern. Where memory runs out,
+/// nothing is said of what is left.
+fn write_operands<'t>(
+    setting: &Setting<'t, '_>,
+    agenda: &mut Agenda<'t>,
+    words: &mut Vec<u32>,
+    pattern: &'t [Item],
+    inst: &Inst,
+) -> Result<bool, AllocError>
+    requires { setting.now.forms.now ≡ map form_of setting.now.table.now.kinds }
+    ensures { (before : List PlainInst) → Knows setting.now.definitions.now before
+        → IfOk result (λ b. IsSpelling setting.now.table.now (start before inst.now.opcode) (items_of pattern.now) (plain_operands inst.now.operands.items) b words.new.items) }
+{
+    words.clear();
+    agenda.start(pattern);
+    let mut known = Known {
+        opcode: inst.opcode,
+        type_id: None,
+        first: None,
+    };
+    for (number, operand) in inst.operands.iter().enumerate() {
+        if !write_next(setting, agenda, words, known, operand)? {
+            return Ok(false);
+        }
+        known = known_after(known, operand, number);
+    }
+    match next_leaf(agenda, setting.table, setting.forms, false)? {
+        None => Ok(true),
+        Some(_) => Ok(false),
+    }
+}
+
+/// Adds words to a draft. Where memory runs out, nothing is said of what is left.
+fn put_words(draft: &mut Draft, words: &[u32]) -> Result<(), AllocError>
+    ensures { OnOk result (draft.new ≡ draft.old ++ words.now) }
+{
+    for word in words {
+        draft.push(*word)?;
+    }
+    Ok(())
+}
+
+/// Adds an instruction to a draft. After an error nothing is said of what is left.
+fn put_instruction<'t>(
+    setting: &Setting<'t, '_>,
+    agenda: &mut Agenda<'t>,
+    words: &mut Vec<u32>,
+    draft: &mut Draft,
+    inst: &Inst,
+) -> Result<(), EncodeCode>
+    requires forms { setting.now.forms.now ≡ map form_of setting.now.table.now.kinds }
+    requires short { length draft.old ≤ 4194304 }
+    ensures added { (before : List PlainInst) → Knows setting.now.definitions.now before → OnOk result (Adds setting.now.table.now before (plain_inst inst.now) draft.old draft.new) }
+    ensures short { OnOk result (length draft.new ≤ 4194304) }
+    ensures hindered { (before : List PlainInst) → Knows setting.now.definitions.now before
+        → IfErr result (λ e. HindersOrMemory e setting.now.table.now before (length draft.old) (plain_inst inst.now)) }
+{
+    let Some(entry) = setting.table.entry(inst.opcode) else {
+        return Err(EncodeCode::N2);
+    };
+    if !write_operands(setting, agenda, words, entry.operands.as_slice(), inst)? {
+        return Err(EncodeCode::N2);
+    }
+    let count = words.len() + 1;
+    if count > GREATEST_COUNT {
+        return Err(EncodeCode::N3);
+    }
+    if draft.len() + count > GREATEST_LENGTH {
+        return Err(EncodeCode::N3);
+    }
+    draft.push(65536 * count as u32 + u32::from(inst.opcode))?;
+    put_words(draft, words.as_slice())?;
+    Ok(())
+}
+
+/// Whether a header is one of version 1.6, with a bound that fits and schema 0. (2.3)
+fn fits_header(header: Header) -> bool
+    ensures { IsTrue result ↔ Fits header }
+{
+    header.version == VERSION
+        && header.bound >= 1
+        && header.bound <= GREATEST_BOUND
+        && header.schema == 0
+}
+
+/// Adds the words of a header to a draft. Where memory runs out, nothing is said of what is left.
+fn put_header(draft: &mut Draft, header: Header) -> Result<(), AllocError>
+    ensures { OnOk result (draft.new ≡ draft.old ++ header_words header) }
+{
+    let words = [
+        MAGIC_NUMBER,
+        header.version,
+        header.generator,
+        header.bound,
+        header.schema,
+    ];
+    put_words(draft, &words)
+}
+
+/// What stops the encoding of the instruction of a number.
+fn error_at(code: EncodeCode, number: usize) -> EncodeError
+    requires { number < 2 ^ 32 }
+    ensures { result ≡ record { code = code; inst = told code number } }
+{
+    let inst = match code {
+        EncodeCode::N1 => 0,
+        EncodeCode::N2 => number as u32,
+        EncodeCode::N3 => number as u32,
+        EncodeCode::N4 => 0,
+    };
+    EncodeError { code, inst }
+}
+
+/// Adds the instructions of a module to the words of its header. After an error nothing is said of what is left.
+fn put_instructions(
+    alloc: Global,
+    table: &Table,
+    module: &Module<'_>,
+    draft: &mut Draft,
+) -> Result<(), EncodeError>
+    requires header { draft.old ≡ header_words «module».now.header }
+    requires fits { Fits «module».now.header }
+    ensures written { OnOk result (IsWritten table.now «module».now draft.new) }
+    ensures refused { IfErr result (λ e. IsRefused e.code table.now «module».now e.inst) }
+{
+    let forms = forms_of(alloc, table)?;
+    let mut definitions = Definitions::new(alloc);
+    let mut agenda = Agenda::new(alloc);
+    let mut words = Vec::new(alloc);
+    for (number, inst) in module.insts.iter().enumerate() {
+        let setting = Setting {
+            table,
+            forms: forms.as_slice(),
+            definitions: &definitions,
+        };
+        match put_instruction(&setting, &mut agenda, &mut words, draft, inst) {
+            Ok(()) => {}
+            Err(code) => return Err(error_at(code, number)),
+        }
+        definitions.add(inst)?;
+    }
+    Ok(())
+}
+
+/// The image of a module by a grammar table: its header's words, and after them those that spell its instructions.
+///
+/// # Errors
+///
+/// `N1`: the header is not one of version 1.6 with schema 0 and a bound from 1 to 4,194,303 (2.3). Else the first
+/// instruction that has no words of its own, or too many: `N2`: its opcode has no entry in the table, or no words spell
+/// its operands by the entry's pattern. `N3`: words spell it, but it has over 65,535 of them (2.3), or with it the
+/// module has over 4,194,304. `N4`: a growth of memory was refused.
+pub fn encode(alloc: Global, table: &Table, module: &Module<'_>) -> Result<Image, EncodeError>
+    // The words from word 5 on are the joined spellings of the module's instructions.
+    ensures spelled { IfOk result (λ i. IsListing table.now (plain_insts «module».now) (drop 5 i)) }
+    // Words 1 to 4 are the module's header.
+    ensures header { IfOk result (λ i. IsHeaderOf i «module».now.header) }
+    // Word 0 is the magic number, and the header fits.
+    ensures begins { IfOk result (λ i. IsHeader i) }
+    // An error tells the header, or the first instruction that is hindered, and why.
+    ensures refused { IfErr result (λ e. IsRefused e.code table.now «module».now e.inst) }
+{
+    if !fits_header(module.header) {
+        return Err(EncodeError {
+            code: EncodeCode::N1,
+            inst: 0,
+        });
+    }
+    let mut draft = Draft::new(alloc);
+    put_header(&mut draft, module.header)?;
+    put_instructions(alloc, table, module, &mut draft)?;
+    Ok(draft.finish())
+}

@@ -1,0 +1,45 @@
+//! Laws of encoding. Each function does nothing: its contract is what is proved.
+
+ghost use Rattle.std.specs.Prelude.{◌≡◌, ◌≤◌, ◌+◌, ℕ, List, [], ◌∷◌, length};
+ghost use Rattle.spv_grammar.specs.Table.{Table};
+ghost use Rattle.spv_inst.specs.Operand.{PlainInst, Result, Text};
+ghost use Rattle.spv_inst.specs.Instruction.{IsListing};
+ghost use Rattle.spv_inst.specs.declared.module.Module.{Module};
+ghost use Rattle.spv_inst.specs.declared.obstacle.EncodeCode.{EncodeCode};
+ghost use Rattle.spv_inst.specs.declared.obstacle.EncodeCode.TheVariants.{N2, N4};
+ghost use Rattle.spv_inst.specs.Example.{small, string};
+ghost use Rattle.spv_inst.specs.Encoding.{Fits, IsTooLong, IsImageOf, IsRefused, StopsAt, greatest_length};
+
+/// Where words spell a list of instructions and are not too many, the list stops at none. So a module that was decoded
+/// is encoded again, or memory is wanted.
+pub fn listed_or_stopped()
+    ensures { (G : Table) (is : List PlainInst) (ws : List ℕ) (code : EncodeCode) (n : ℕ) → IsListing G is ws → 5 + length ws ≤ greatest_length → ¬ (StopsAt G is code n) }
+{}
+
+/// A list of instructions stops at one instruction at most, with one code.
+pub fn one_stop()
+    ensures { (G : Table) (is : List PlainInst) (a b : EncodeCode) (k l : ℕ) → StopsAt G is a k → StopsAt G is b l → (a ≡ b) × (k ≡ l) }
+{}
+
+/// A module has one image at most.
+pub fn one_image()
+    ensures { (G : Table) (m : Module) (ws vs : List ℕ) → IsImageOf G m ws → IsImageOf G m vs → ws ≡ vs }
+{}
+
+/// Where a module has an image, only want of memory refuses it.
+pub fn image_or_refused()
+    ensures { (G : Table) (m : Module) (ws : List ℕ) (code : EncodeCode) (n : ℕ) → IsImageOf G m ws → length ws ≤ greatest_length → IsRefused code G m n → code ≡ N4 }
+{}
+
+/// Worked examples, under a small table.
+pub fn encoding_examples()
+    // A header of version 1.6 with bound 5; then one with bound 0.
+    ensures header { Fits (record { version = 67072; generator = 0; bound = 5; schema = 0 }) }
+    ensures no_bound { ¬ (Fits (record { version = 67072; generator = 0; bound = 0; schema = 0 })) }
+    // `OpString` of a text with a zero octet has no words; that of "abc" stops nowhere.
+    ensures zero_octet { StopsAt small (record { opcode = 7; operands = Result 5 ∷ Text (97 ∷ 0 ∷ []) ∷ [] } ∷ []) N2 0 }
+    ensures spelled { (code : EncodeCode) (n : ℕ) → ¬ (StopsAt small (string ∷ []) code n) }
+    // The three words of `OpString` "abc" after 4,194,302 others are too many, and after one fewer they are not.
+    ensures long { IsTooLong small [] 4194302 string }
+    ensures short { ¬ (IsTooLong small [] 4194301 string) }
+{}

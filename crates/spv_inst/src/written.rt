@@ -1,0 +1,297 @@
+//! The words of an operand, and whether it fits the kind that is due.
+
+ghost use Rattle.std.specs.Prelude.{◌≡◌, ◌++◌, ◌+◌, ◌*◌, ◌<◌, ◌∷◌, [], ℕ, length, OnOk, IsUtf8, slice_index};
+ghost use Rattle.std.specs.List.{AllByRecursion};
+ghost use Rattle.spv_grammar.specs.Table.{kind_of};
+ghost use Rattle.spv_inst.specs.declared.form.Form.TheVariants.{Leaf as LeafForm};
+ghost use Rattle.spv_inst.specs.Form.{form_at};
+ghost use Rattle.spv_inst.specs.Operand.{Context, and_then};
+ghost use Rattle.spv_inst.specs.Operand as plain;
+ghost use Rattle.spv_inst.specs.Width as width;
+ghost use Rattle.spv_inst.specs.Module.{plain_operand};
+ghost use Rattle.spv_inst.specs.Shape.{shape_of, AsType, AsResult, AsId, AsWord, AsNumber, AsText, AsValue, AsMask};
+ghost use Rattle.spv_inst.specs.declared.definitions.Definitions.{Definitions};
+ghost use Rattle.spv_inst.specs.Reading.{enumerants_at};
+ghost use Rattle.spv_inst.specs.Agenda.{plain_slot};
+ghost use Rattle.spv_inst.specs.Written as written;
+ghost use Rattle.spv_inst.specs.Written.{IsNear, HasText, text_words, operand_words, is_fit, is_without_zero};
+
+use crate::agenda::Asked;
+use crate::definitions::Definitions;
+use crate::enumerant::{knows, knows_bits};
+use crate::form::Leaf;
+use crate::operand::Operand;
+use crate::reader::Known;
+use spv_grammar::Table;
+use std::alloc::AllocError;
+
+/// OpSwitch.
+const SWITCH: u16 = 251;
+
+/// The width of a LiteralContextDependentNumber, in bits: that of the instruction's result type.
+fn context_width(definitions: &Definitions, known: Known) -> Option<u32>
+    ensures { (c : Context) → IsNear definitions.now known c → result ≡ width.context_width c }
+{
+    definitions.width(known.type_id?)
+}
+
+/// The width of a literal of OpSwitch, in bits: that of the type of the first operand.
+fn switch_width(definitions: &Definitions, known: Known) -> Option<u32>
+    ensures { (c : Context) → IsNear definitions.now known c → result ≡ width.switch_width c }
+{
+    let type_id = definitions.type_id(known.first?)?;
+    definitions.width(type_id)
+}
+
+/// Whether a number of a high word, with so many words, has the width, in bits.
+fn fits_width(width: Option<u32>, high: u32, words: u8) -> bool
+    ensures { result ≡ written.fits_width width high words }
+{
+    match width {
+        None => false,
+        Some(bits) => {
+            if bits <= 32 {
+                high == 0 && words == 1
+            } else {
+                words == 2
+            }
+        }
+    }
+}
+
+/// Whether a text has no zero octet.
+fn is_text(text: &str) -> bool
+    ensures value { result ≡ is_without_zero text.now }
+    ensures utf8 { IsUtf8 text.now }
+    ensures octets { AllByRecursion (λ b. b < 256) text.now }
+{
+    let octets = text.as_bytes();
+    !octets.contains(&0)
+}
+
+/// Whether an operand is the id of a result's type.
+fn is_result_type(operand: &Operand) -> bool
+    ensures { (k : ℕ) → result ≡ is_fit k AsType (plain_operand operand.now) }
+{
+    match operand {
+        Operand::OfType(_) => true,
+        _ => false,
+    }
+}
+
+/// Whether an operand is the id of a result.
+fn is_result(operand: &Operand) -> bool
+    ensures { (k : ℕ) → result ≡ is_fit k AsResult (plain_operand operand.now) }
+{
+    match operand {
+        Operand::Result(_) => true,
+        _ => false,
+    }
+}
+
+/// Whether an operand is another id.
+fn is_id(operand: &Operand) -> bool
+    ensures { (k : ℕ) → result ≡ is_fit k AsId (plain_operand operand.now) }
+{
+    match operand {
+        Operand::Id(_) => true,
+        _ => false,
+    }
+}
+
+/// Whether an operand is a literal of one word.
+fn is_word(operand: &Operand) -> bool
+    ensures { (k : ℕ) → result ≡ is_fit k AsWord (plain_operand operand.now) }
+{
+    match operand {
+        Operand::Word(_) => true,
+        _ => false,
+    }
+}
+
+/// Whether an operand is a number of a width, in bits.
+fn is_number(width: Option<u32>, operand: &Operand) -> bool
+    ensures { (k : ℕ) → result ≡ is_fit k (AsNumber width) (plain_operand operand.now) }
+{
+    match operand {
+        Operand::Number { high, words, .. } => fits_width(width, *high, *words),
+        _ => false,
+    }
+}
+
+/// Whether an operand is a text without a zero octet.
+fn is_string(operand: &Operand) -> bool
+    ensures { (k : ℕ) → result ≡ is_fit k AsText (plain_operand operand.now) }
+{
+    match operand {
+        Operand::Text(text) => is_text(text),
+        _ => false,
+    }
+}
+
+/// Whether an operand is a value of the kind that an enumerant has.
+fn is_value(table: &Table, kind: u32, operand: &Operand) -> bool
+    ensures { result ≡ is_fit kind (AsValue (enumerants_at (kind_of table.now kind))) (plain_operand operand.now) }
+{
+    match operand {
+        Operand::Value { kind: of, value } => *of == kind && knows(table, kind, *value),
+        _ => false,
+    }
+}
+
+/// Whether an operand is a mask of the kind whose bits enumerants have.
+fn is_mask(table: &Table, kind: u32, operand: &Operand) -> bool
+    ensures { result ≡ is_fit kind (AsMask (enumerants_at (kind_of table.now kind))) (plain_operand operand.now) }
+{
+    match operand {
+        Operand::Mask { kind: of, value } => *of == kind && knows_bits(table, kind, *value),
+        _ => false,
+    }
+}
+
+/// Whether an operand fits the leaf that is due.
+pub fn fits(
+    table: &Table,
+    definitions: &Definitions,
+    known: Known,
+    asked: Asked,
+    operand: &Operand,
+) -> bool
+    ensures { (c : Context) → IsNear definitions.now known c → form_at (kind_of table.now asked.slot.kind) ≡ LeafForm asked.leaf
+        → result ≡ is_fit asked.slot.kind (shape_of table.now c (plain_slot asked.slot)) (plain_operand operand.now) }
+{
+    let slot = asked.slot;
+    match asked.leaf {
+        Leaf::ResultType => is_result_type(operand),
+        Leaf::Result => is_result(operand),
+        Leaf::Id => is_id(operand),
+        Leaf::Word => is_word(operand),
+        Leaf::Integer => {
+            if slot.paired && known.opcode == SWITCH {
+                return is_number(switch_width(definitions, known), operand);
+            }
+            is_word(operand)
+        }
+        Leaf::ContextNumber => is_number(context_width(definitions, known), operand),
+        Leaf::Text => is_string(operand),
+        Leaf::Value => is_value(table, slot.kind, operand),
+        Leaf::Mask => is_mask(table, slot.kind, operand),
+        Leaf::Nothing => false,
+    }
+}
+
+/// Tells that an operand's text is text. It does nothing: its contract is what is used.
+pub fn read_text(operand: &Operand)
+    ensures { HasText (plain_operand operand.now) }
+{
+    match operand {
+        Operand::Text(text) => {
+            let _ = is_text(text);
+        }
+        _ => {}
+    }
+}
+
+/// An octet of a text, or 0 past its end.
+fn octet_at(octets: &[u8], place: usize) -> u8
+    ensures { result ≡ slice_index octets.now place }
+{
+    match octets.get(place) {
+        Some(octet) => *octet,
+        None => 0,
+    }
+}
+
+/// Four octets as a word, the first lowest. (2.2.1)
+fn word_of(first: u8, second: u8, third: u8, fourth: u8) -> u32
+    ensures { result ≡ first + 256 * second + 65536 * third + 16777216 * fourth }
+{
+    u32::from(first)
+        + 256 * u32::from(second)
+        + 65536 * u32::from(third)
+        + 16777216 * u32::from(fourth)
+}
+
+/// Adds the words of a text. Where memory runs out, nothing is said of what is left.
+fn push_text(words: &mut Vec<u32>, octets: &[u8]) -> Result<(), AllocError>
+    ensures { OnOk result (words.new.items ≡ words.old.items ++ text_words octets.now) }
+{
+    let mut at = 0;
+    while octets.len() - at >= 4 {
+        words.push(word_of(octets[at], octets[at + 1], octets[at + 2], octets[at + 3]))?;
+        at += 4;
+    }
+    words.push(word_of(
+        octet_at(octets, at),
+        octet_at(octets, at + 1),
+        octet_at(octets, at + 2),
+        0,
+    ))?;
+    Ok(())
+}
+
+/// Adds the words of an operand. Where memory runs out, nothing is said of what is left.
+pub fn push_operand(words: &mut Vec<u32>, operand: &Operand) -> Result<(), AllocError>
+    ensures { OnOk result (words.new.items ≡ words.old.items ++ operand_words (plain_operand operand.now)) }
+{
+    match operand {
+        Operand::OfType(word)
+        | Operand::Result(word)
+        | Operand::Id(word)
+        | Operand::Word(word)
+        | Operand::Value { value: word, .. }
+        | Operand::Mask { value: word, .. } => {
+            words.push(*word)?;
+        }
+        Operand::Number {
+            low,
+            high,
+            words: count,
+        } => {
+            words.push(*low)?;
+            if *count == 2 {
+                words.push(*high)?;
+            }
+        }
+        Operand::Text(text) => push_text(words, text.as_bytes())?,
+    }
+    Ok(())
+}
+
+/// The id of the result's type that an operand is.
+fn type_in(operand: &Operand) -> Option<u32>
+    ensures { result ≡ plain.type_in (plain_operand operand.now ∷ []) }
+{
+    match operand {
+        Operand::OfType(id) => Some(*id),
+        _ => None,
+    }
+}
+
+/// The id that an operand is.
+fn id_in(operand: &Operand) -> Option<u32>
+    ensures { result ≡ width.first_id (plain_operand operand.now ∷ []) }
+{
+    match operand {
+        Operand::OfType(id) | Operand::Result(id) | Operand::Id(id) => Some(*id),
+        _ => None,
+    }
+}
+
+/// What is known after one operand more, the one of that number in its instruction.
+pub fn known_after(known: Known, operand: &Operand, number: usize) -> Known
+    ensures { (definitions : Definitions) (c : Context) → length c.operands ≡ number → IsNear definitions known c → IsNear definitions result (and_then c (plain_operand operand.now)) }
+{
+    Known {
+        opcode: known.opcode,
+        type_id: match known.type_id {
+            Some(id) => Some(id),
+            None => type_in(operand),
+        },
+        first: if number == 0 {
+            id_in(operand)
+        } else {
+            known.first
+        },
+    }
+}

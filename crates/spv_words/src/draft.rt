@@ -1,0 +1,72 @@
+ghost use Rattle.std.specs.Prelude.{◌≡◌, ◌≤◌, ◌<◌, ◌^◌, ◌++◌, ◌∷◌, [], length, All, OnOk};
+ghost use Rattle.spv_words.specs.Header.{IsHeader};
+
+use crate::image::Image;
+use byteorder::{ByteOrder, LittleEndian};
+use std::alloc::{AllocError, Global};
+use std::marker::Model;
+
+/// An image that is being written: the words so far, in order. (2.3)
+///
+/// A contract sees the list of the words. They are kept as an image keeps them, so that the end takes no memory.
+#[derive(Debug, Drop)]
+pub struct Draft {
+    bytes: Vec<u8>,
+}
+
+impl Model for Draft {
+    ghost use Rattle.std.specs.Prelude.{◌≡◌, ◌%◌, List, ℕ, length};
+
+    ghost Value = { List ℕ };
+
+    ghost use Rattle.spv_words.specs.Words.{words_of};
+    ghost use Rattle.spv_words.specs.declared.words.Order.TheVariants.{Little};
+
+    ghost view = { λ d. words_of Little d.bytes.items };
+
+    ghost invariant = { λ d. length d.bytes.items % 4 ≡ 0 };
+}
+
+/// Bytes fit eight bits. It does nothing: its contract is what is used.
+fn fit(bytes: &[u8])
+    ensures { All (λ b. b < 256) bytes.now }
+{}
+
+impl Draft {
+    /// No words. It takes no memory.
+    pub fn new(alloc: Global) -> Draft
+        ensures { result ≡ [] }
+    {
+        Draft {
+            bytes: Vec::new(alloc),
+        }
+    }
+
+    /// The number of words.
+    #[tactic(auto, using(crate::proofs::Groups::images))]
+    pub fn len(&self) -> usize
+        ensures { result ≡ length self.now }
+    {
+        self.bytes.len() / 4
+    }
+
+    /// Adds a word at the end. A refused growth of memory leaves the words as they were.
+    pub fn push(&mut self, word: u32) -> Result<(), AllocError>
+        ensures { OnOk result (self.new ≡ self.old ++ word ∷ []) }
+    {
+        let mut octets = [0u8; 4];
+        LittleEndian::write_u32(&mut octets, word);
+        self.bytes.extend_from_slice(&octets)
+    }
+
+    /// The image of the words. It takes no memory.
+    pub fn finish(self) -> Image
+        requires header { IsHeader self }
+        requires size { length self ≤ 4194304 }
+        ensures { result ≡ self }
+    {
+        let bytes = self.bytes;
+        fit(bytes.as_slice());
+        Image::from_octets(bytes)
+    }
+}
