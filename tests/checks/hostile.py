@@ -8,7 +8,7 @@ import time
 from .common import SECONDS, TESTS, Answer, Check, difference, run
 
 KERNEL = TESTS / "modules/smallest-kernel.spv"
-GRAMMAR = TESTS / "grammars/thin.json"
+GRAMMAR = TESTS / "profile.json"
 VALID = Answer(b"valid\n", b"", 0)
 TOO_LONG = Answer(b"fault W8\n", b"", 1)
 NO_FILE = Answer(b"", b"error file\n", 2)

@@ -20,7 +20,7 @@ SHAPES = (
     "blocks",
     "functions",
 )
-GRAMMAR = TESTS / "grammars/profile.json"
+GRAMMAR = TESTS / "profile.json"
 VALID = Answer(b"valid\n", b"", 0)
 
 
