@@ -16,11 +16,13 @@ SHAPES = (
     "names",
     "memory",
     "switches",
+    "longest",
     "phis",
     "blocks",
     "functions",
+    "deep",
+    "masks",
 )
-GRAMMAR = TESTS / "profile.json"
 VALID = Answer(b"valid\n", b"", 0)
 
 
@@ -31,7 +33,9 @@ def large(shape):
         generate = [sys.executable, str(TESTS / "generate"), str(folder), shape]
         subprocess.run(generate, check=True)
         module = folder / f"{shape}.spv"
-        got = run(program, ["check", "--grammar", GRAMMAR, module], folder)
+        own = folder / f"{shape}.json"
+        grammar = own if own.exists() else TESTS / "profile.json"
+        got = run(program, ["check", "--grammar", grammar, module], folder)
         module.unlink()
         return difference(VALID, got)
 
@@ -39,6 +43,6 @@ def large(shape):
 
 
 def checks():
-    """All shapes that are sound under the profile. They need the instructions."""
+    """All shapes, each under the profile or a grammar of its own. They need the instructions."""
     layers = frozenset({"instructions"})
     return [Check(f"large: {shape}", layers, large(shape)) for shape in SHAPES]
