@@ -34,3 +34,4 @@ pub mod Progress
 pub mod Listed
 pub mod Stops
 pub mod Unspelled
+pub mod Back

@@ -1,9 +1,14 @@
 //! Laws of encoding. Each function does nothing: its contract is what is proved.
 
-ghost use Rattle.std.specs.Prelude.{◌≡◌, ◌≤◌, ◌+◌, ℕ, List, [], ◌∷◌, length};
+ghost use Rattle.std.specs.Prelude.{◌≡◌, ◌≤◌, ◌+◌, ℕ, List, [], ◌∷◌, drop, length};
+ghost use Rattle.spv_words.specs.Header.{IsHeader};
 ghost use Rattle.spv_grammar.specs.Table.{Table};
 ghost use Rattle.spv_inst.specs.Operand.{PlainInst, Result, Text};
 ghost use Rattle.spv_inst.specs.Instruction.{IsListing};
+ghost use Rattle.spv_inst.specs.Module.{plain_insts};
+ghost use Rattle.spv_inst.specs.Outcome.{IsDeath, IsHeaderOf};
+ghost use Rattle.spv_inst.specs.declared.fault.Stop.{Stop};
+ghost use Rattle.spv_inst.specs.declared.fault.Stop.TheVariants.{Memory};
 ghost use Rattle.spv_inst.specs.declared.module.Module.{Module};
 ghost use Rattle.spv_inst.specs.declared.obstacle.EncodeCode.{EncodeCode};
 ghost use Rattle.spv_inst.specs.declared.obstacle.EncodeCode.TheVariants.{N2, N4};
@@ -29,6 +34,20 @@ pub fn one_image()
 /// Where a module has an image, only want of memory refuses it.
 pub fn image_or_refused()
     ensures { (G : Table) (m : Module) (ws : List ℕ) (code : EncodeCode) (n : ℕ) → IsImageOf G m ws → length ws ≤ greatest_length → IsRefused code G m n → code ≡ N4 }
+{}
+
+/// What is encoded is decoded again: of a module's image `decode` may answer that module, or want of memory, and
+/// nothing else.
+pub fn decodes_back()
+    ensures same { (G : Table) (m d : Module) (ws : List ℕ) → IsImageOf G m ws → IsListing G (plain_insts d) (drop 5 ws) → IsHeaderOf ws d.header → (plain_insts d ≡ plain_insts m) × (d.header ≡ m.header) }
+    ensures sound { (G : Table) (m : Module) (ws : List ℕ) (stop : Stop) → IsImageOf G m ws → IsDeath G ws stop → stop ≡ Memory }
+{}
+
+/// What is decoded is encoded again: of the module that an image's words spell `encode` may answer that image, or N4,
+/// and nothing else.
+pub fn encodes_back()
+    ensures same { (G : Table) (m : Module) (ws vs : List ℕ) → IsHeader ws → IsListing G (plain_insts m) (drop 5 ws) → IsHeaderOf ws m.header → IsImageOf G m vs → vs ≡ ws }
+    ensures taken { (G : Table) (m : Module) (ws : List ℕ) (code : EncodeCode) (n : ℕ) → IsHeader ws → length ws ≤ greatest_length → IsListing G (plain_insts m) (drop 5 ws) → IsHeaderOf ws m.header → IsRefused code G m n → code ≡ N4 }
 {}
 
 /// Worked examples, under a small table.

@@ -25,7 +25,10 @@ mod written;
 
 pub use decoder::decode;
 pub use encoder::encode;
-pub use encoding::{encoding_examples, image_or_refused, listed_or_stopped, one_image, one_stop};
+pub use encoding::{
+    decodes_back, encodes_back, encoding_examples, image_or_refused, listed_or_stopped, one_image,
+    one_stop,
+};
 pub use fault::{Fault, Rule, Stop};
 pub use laws::{
     instruction_examples, kind_examples, list_examples, listed_or_dead, no_gap, one_death,
