@@ -5,8 +5,6 @@ mod agenda;
 mod decoder;
 mod definitions;
 mod encoder;
-#[cfg(test)]
-mod encoder_tests;
 mod encoding;
 mod enumerant;
 mod fault;
