@@ -12,7 +12,7 @@ use Rattle.spv_inst.specs.Operand.{PlainInst}
 use Rattle.spv_inst.specs.Instruction.{IsInstruction, Listing, IsListing}
 use Rattle.spv_inst.specs.Dead.{DiesAt}
 use Rattle.spv_inst.specs.Reading.{between}
-use Rattle.spv_inst.specs.Outcome.{IsDeath, IsNone}
+use Rattle.spv_inst.specs.Outcome.{IsDeath, HasNoList}
 use Rattle.spv_inst.specs.Step.{IsDeadFrom}
 use Rattle.spv_inst.proofs.Turns.{length-between}
 use Rattle.spv_inst.proofs.Lists.{listing_same, dies_not}
@@ -88,7 +88,7 @@ dead_here G words insts at number (Fault f) k h d =
     let q : (at - 5) + (f.word - at) ≡ f.word - 5 = omega arith in
     (omega arith, rw (p, q) at (k.dies f.rule 0 (f.word - at) (DiesAt.here insts (drop at words) f.rule (f.word - at) d.2)))
 
-pub none_there : (G : Table) (words : List ℕ) (e : Stop) → IsDeath G words e → IsNone G words e
+pub none_there : (G : Table) (words : List ℕ) (e : Stop) → IsDeath G words e → HasNoList G words e
 none_there G words Memory d = tt
 none_there G words (Fault f) d = λ is m. dies_not G [] is (drop 5 words) (drop 5 words) f.rule f.inst (f.word - 5) d.1 m refl
 

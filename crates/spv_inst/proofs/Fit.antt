@@ -7,8 +7,8 @@ use Rattle.spv_grammar.specs.Table.{Table, kind_of}
 use Rattle.spv_inst.specs.declared.form.Leaf as declared
 use Rattle.spv_inst.specs.declared.form.Leaf.TheVariants as leaf
 use Rattle.spv_inst.specs.Operand.{Plain, OfType, Result, Id, Word, Number, Text, Value, Mask, Context}
-use Rattle.spv_inst.specs.Width.{context_width, switch_width}
-use Rattle.spv_inst.specs.Shape.{Slot, Shape, alone, AsType, AsResult, AsId, AsWord, AsNumber, AsText, AsValue, AsMask, AsNothing, integer_shape, shape_of}
+use Rattle.spv_inst.specs.Width.{context_width}
+use Rattle.spv_inst.specs.Shape.{Slot, Shape, alone, AsType, AsResult, AsId, AsWord, AsNumber, AsText, AsValue, AsMask, AsNothing, shape_of}
 use Rattle.spv_inst.specs.Spelling.{Takes, Holds, AreZeros, parameters_of, mask_parameters}
 use Rattle.spv_inst.specs.Reading.{enumerants_at}
 use Rattle.spv_inst.specs.Agenda.{opened_kinds}
@@ -302,23 +302,3 @@ by_shape k sh th o r e f = f ∙ sym (ap (λ z. is_fit k z o) e)
 pub by_leaf : (G : Table) (c : Context) (kind : ℕ) (paired : Bool) (l m : declared.Leaf) (o : Plain) (r : Bool) → form_at (kind_of G kind) ≡ Leaf l → l ≡ m
     → r ≡ is_fit kind (leaf_shape c paired (enumerants_at (kind_of G kind)) m) o → r ≡ is_fit kind (shape_of G c (record { kind = kind; paired = paired })) o
 by_leaf G c kind paired l m o r e f h = by_shape kind _ _ o r (shape_leaf G c (record { kind = kind; paired = paired }) l m e f) h
-
--- a LiteralInteger in a pair of OpSwitch, and elsewhere
-pub in_switch : (c : Context) (k : ℕ) (paired : Bool) (opcode : ℕ) (w : Option ℕ) (o : Plain) (r : Bool) → paired ≡ true → opcode ≡ 251 → opcode ≡ c.opcode → w ≡ switch_width c
-    → r ≡ is_fit k (AsNumber w) o → r ≡ is_fit k (integer_shape c paired) o
-in_switch c k paired opcode w o r e f g h i =
-    let b : nat_eq c.opcode 251 ≡ true = eq_of c.opcode 251 (sym g ∙ f) in
-    let j : r ≡ is_fit k (AsNumber (switch_width c)) o = i ∙ ap (λ v. is_fit k (AsNumber v) o) h in
-    rw (e, b) j
-
-pub unpaired : (c : Context) (k : ℕ) (paired : Bool) (o : Plain) (r : Bool) → paired ≡ false → r ≡ is_fit k AsWord o → r ≡ is_fit k (integer_shape c paired) o
-unpaired c k paired o r e h = rw e h
-
-ne_by : (a b : ℕ) → (a ≡ b → ⊥) → nat_eq a b ≡ false
-ne_by a b h = grind (arith, nat_tests)
-
-pub elsewhere : (c : Context) (k : ℕ) (paired : Bool) (opcode : ℕ) (o : Plain) (r : Bool) → paired ≡ true → (opcode ≡ 251 → ⊥) → opcode ≡ c.opcode
-    → r ≡ is_fit k AsWord o → r ≡ is_fit k (integer_shape c paired) o
-elsewhere c k paired opcode o r e f g h =
-    let b : nat_eq c.opcode 251 ≡ false = ne_by c.opcode 251 (λ z. f (g ∙ z)) in
-    rw (e, b) h

@@ -1,8 +1,6 @@
--- The words of a text, four octets at a time; and what is known after an operand.
-use Rattle.std.proofs.Common.{◌≡◌, ◌≤◌, ◌<◌, ◌++◌, ◌∙◌, ◌+◌, ◌-◌, ◌*◌, ℕ, List, [], ◌∷◌, Option, Some, None, length, drop, get_or, refl, sym, ap, arith, append_assoc, length-drop, add-zero}
+-- The words of a text, four octets at a time.
+use Rattle.std.proofs.Common.{◌≡◌, ◌≤◌, ◌<◌, ◌++◌, ◌∙◌, ◌+◌, ◌-◌, ◌*◌, ℕ, List, [], ◌∷◌, length, drop, get_or, refl, ap, arith, append_assoc, length-drop, add-zero}
 use Rattle.std.proofs.lemmas.List.{drop_more, get_or-drop}
-use Rattle.spv_inst.specs.Operand.{Plain, OfType, Result, Id, Word, Number, Text, Value, Mask, type_in}
-use Rattle.spv_inst.specs.Width.{first_id}
 use Rattle.spv_inst.specs.Written.{text_words}
 
 -- four octets more
@@ -43,47 +41,3 @@ text_last front words next t at w i h l e n =
     let x : get_or (drop at t) 2 0 ≡ get_or t (at + 2) 0 = get_or-drop at t 2 0 in
     let g : text_words (drop at t) ≡ (get_or t at 0 + 256 * get_or t (at + 1) 0 + 65536 * get_or t (at + 2) 0 + 16777216 * 0) ∷ [] = rw (z, y, x) at f in
     rw (n, e) (rw g at i)
-
--- the first result type and the first id, with one operand more
-some_type : (os ps : List Plain) (t : ℕ) → Some t ≡ type_in os → Some t ≡ type_in (os ++ ps)
-some_type [] ps t e = cc
-some_type (OfType x ∷ os) ps t e = e
-some_type (Result x ∷ os) ps t e = some_type os ps t e
-some_type (Id x ∷ os) ps t e = some_type os ps t e
-some_type (Word x ∷ os) ps t e = some_type os ps t e
-some_type (Number low high words ∷ os) ps t e = some_type os ps t e
-some_type (Text x ∷ os) ps t e = some_type os ps t e
-some_type (Value k x ∷ os) ps t e = some_type os ps t e
-some_type (Mask k x ∷ os) ps t e = some_type os ps t e
-
-no_type : (os ps : List Plain) → None ≡ type_in os → type_in ps ≡ type_in (os ++ ps)
-no_type [] ps e = refl
-no_type (OfType x ∷ os) ps e = cc
-no_type (Result x ∷ os) ps e = no_type os ps e
-no_type (Id x ∷ os) ps e = no_type os ps e
-no_type (Word x ∷ os) ps e = no_type os ps e
-no_type (Number low high words ∷ os) ps e = no_type os ps e
-no_type (Text x ∷ os) ps e = no_type os ps e
-no_type (Value k x ∷ os) ps e = no_type os ps e
-no_type (Mask k x ∷ os) ps e = no_type os ps e
-
-pub known_type : (os : List Plain) (known next : Option ℕ) (o : Plain) (t : ℕ) → known ≡ type_in os → known ≡ Some t → next ≡ Some t → next ≡ type_in (os ++ (o ∷ []))
-known_type os known next o t h e n = n ∙ some_type os (o ∷ []) t (sym e ∙ h)
-
-pub unknown_type : (os : List Plain) (known next : Option ℕ) (o : Plain) → known ≡ type_in os → known ≡ None → next ≡ type_in (o ∷ []) → next ≡ type_in (os ++ (o ∷ []))
-unknown_type os known next o h e n = n ∙ no_type os (o ∷ []) (sym e ∙ h)
-
-pub first_known : (os : List Plain) (next : Option ℕ) (o : Plain) → length os ≡ 0 → next ≡ first_id (o ∷ []) → next ≡ first_id (os ++ (o ∷ []))
-first_known [] next o l n = n
-first_known (p ∷ os) next o l n = absurd (omega arith)
-
-pub later_known : (os : List Plain) (next : Option ℕ) (o : Plain) (n : ℕ) → length os ≡ n → (n ≡ 0 → ⊥) → next ≡ first_id os → next ≡ first_id (os ++ (o ∷ []))
-later_known [] next o n l z h = absurd (z (sym l))
-later_known (OfType x ∷ os) next o n l z h = h
-later_known (Result x ∷ os) next o n l z h = h
-later_known (Id x ∷ os) next o n l z h = h
-later_known (Word x ∷ os) next o n l z h = h
-later_known (Number low high words ∷ os) next o n l z h = h
-later_known (Text x ∷ os) next o n l z h = h
-later_known (Value k x ∷ os) next o n l z h = h
-later_known (Mask k x ∷ os) next o n l z h = h

@@ -1,6 +1,6 @@
 -- What an encoder keeps over the operands of an instruction.
-use Rattle.std.proofs.Common.{◌≡◌, ◌++◌, ◌∙◌, ◌<◌, ◌≤◌, ◌+◌, ℕ, List, [], ◌∷◌, true, false, map, length, take, drop, get_or, refl, ap, arith}
-use Rattle.std.proofs.lemmas.List.{drop_more, take_more, length-take-le}
+use Rattle.std.proofs.Common.{◌≡◌, ◌++◌, ◌<◌, ◌≤◌, ◌+◌, ℕ, List, [], ◌∷◌, true, false, map, length, take, drop, get_or, refl, ap}
+use Rattle.std.proofs.lemmas.List.{drop_more, take_more}
 use Rattle.std.proofs.Math.ListN.{drop_of_length-le}
 use Rattle.spv_grammar.specs.Table.{Table, Item}
 use Rattle.spv_inst.specs.declared.definitions.Definitions.{Definitions}
@@ -12,8 +12,9 @@ use Rattle.spv_inst.specs.Shape.{Slot, Shape, AsParts, shape_of}
 use Rattle.spv_inst.specs.Refusal.{IsLeaf}
 use Rattle.spv_inst.specs.Spelling.{Match}
 use Rattle.spv_inst.specs.Flat.{Due, OneOf, due, Matches}
-use Rattle.spv_inst.specs.Agenda.{settled}
-use Rattle.spv_inst.specs.Written.{IsNear, LeadsTo, Steps, Stuck}
+use Rattle.spv_inst.specs.Agenda.{LeadsTo, settled}
+use Rattle.spv_inst.specs.Known.{IsNear}
+use Rattle.spv_inst.specs.Written.{Steps, Stuck}
 use Rattle.spv_inst.proofs.Joined.{match_flat, flat_match}
 use Rattle.spv_inst.proofs.Walk.{Walk, walk_start, walk_settled, walk_settled_none, walk_opened, walk_operand, walk_end, walk_too_many, walk_too_few, walk_unfit}
 
@@ -47,13 +48,6 @@ so_far items i o x h e = let f = take_more items i x h in rw (f, ← e) (map_sno
     map_snoc : (xs : List Operand) → plain_operands (xs ++ (o ∷ [])) ≡ plain_operands xs ++ (plain_operand o ∷ [])
     map_snoc [] = refl
     map_snoc (y ∷ xs) = ap (λ zs. plain_operand y ∷ zs) (map_snoc xs)
-
-pub number_is : (items : List Operand) (i : ℕ) → i < length items → length (plain_operands (take i items)) ≡ i
-number_is items i h = map_length (take i items) ∙ length-take-le i items (omega arith)
-  where
-    map_length : (xs : List Operand) → length (plain_operands xs) ≡ length xs
-    map_length [] = refl
-    map_length (x ∷ xs) = omega (arith, map_length xs)
 
 walk_at : (G : Table) (c : Context) (pattern : List Due) (items : List Operand) (d : Context) (ds : List Due) (words : List ℕ) (i : ℕ) (o x : Operand) → i < length items → o ≡ get_or items i x
     → Walk G c pattern (plain_operands items) d ds (plain_operands (drop i items)) words → Walk G c pattern (plain_operands items) d (settled true ds) (plain_operand o ∷ plain_operands (drop (i + 1) items)) words

@@ -10,9 +10,9 @@ use Rattle.spv_inst.specs.declared.operand.Operand as declared
 use Rattle.spv_inst.specs.declared.fault.Rule.{Rule}
 use Rattle.spv_inst.specs.declared.fault.Rule.TheVariants.{I4, I5}
 use Rattle.spv_inst.specs.Module.{plain_operand, plain_operands}
-use Rattle.spv_inst.specs.declared.reader.Scene.{Scene}
+use Rattle.spv_inst.specs.declared.definitions.Definitions.{Definitions}
 use Rattle.spv_inst.specs.declared.reader.Known.{Known}
-use Rattle.spv_inst.specs.Known.{Knows, IsAt}
+use Rattle.spv_inst.specs.Known.{IsNear, Knows}
 use Rattle.spv_inst.specs.Operand.{PlainInst, start, type_in, Plain, Value, Mask, Context, after}
 use Rattle.spv_inst.specs.Shape.{Slot, alone, Shape, AsType, AsResult, AsId, AsWord, AsNumber, AsText, AsMask, AsParts, AsNothing, bases, category_shape, kind_shape, shape_of}
 use Rattle.spv_inst.specs.Width.{switch_width, context_width, first_id}
@@ -21,10 +21,10 @@ use Rattle.spv_inst.specs.Refusal.{IsLeaf, Refuses, Misfit}
 use Rattle.spv_inst.specs.Flat.{due, Due, OneOf, MaybeOf, ManyOf, Fails}
 use Rattle.spv_inst.specs.Reading.{between, enumerants_at, parameter_kinds, TakesFront, RefusesFront}
 use Rattle.spv_inst.specs.Agenda.{settled, Opens, opened_kinds}
-use Rattle.spv_inst.specs.Form.{form_of}
 use Rattle.spv_inst.proofs.Joined.{flat_match}
 use Rattle.spv_inst.proofs.Fronts.{fails_misfit}
 use Rattle.spv_inst.proofs.Steps.{after_is, at_start, at_end, Sofar, at_operand, at_parts, at_maybe, at_many, at_no_maybe, at_no_many, at_refusal}
+use Rattle.spv_inst.proofs.Contexts.{near_after}
 use Rattle.spv_inst.proofs.Bases.{and_first, passes_at}
 use Rattle.spv_inst.proofs.Masks.{whole_mask}
 
@@ -222,27 +222,26 @@ pub none_between : (ws : List ℕ) (at end : ℕ) → end ≤ at → between ws 
 none_between ws at end h = let e : end - at ≡ 0 = omega arith in rw e refl
 
 -- what the loop keeps
-pub record Turn (G : Table) (scene : Scene) (known : Known) (before : List PlainInst) (opcode : ℕ) (pattern : List Item) (image : List ℕ) (first at end : ℕ) (out : List Plain) (ds : List Due) : Type 0 where
+pub record Turn (G : Table) (defined : Definitions) (known : Known) (before : List PlainInst) (opcode : ℕ) (pattern : List Item) (image : List ℕ) (first at end : ℕ) (out : List Plain) (ds : List Due) : Type 0 where
   pub from : first ≤ at
   pub upto : at ≤ end
   pub sofar : Sofar G (start before opcode) (map due pattern) (between image first end) out ds (between image at end) (at - first)
-  pub is_at : IsAt scene known (after (start before opcode) out)
+  pub near : IsNear defined known (after (start before opcode) out)
 
 -- the context within an instruction
 here_is : (b : List PlainInst) (p : ℕ) (out : List Plain) → after (start b p) out ≡ record { before = b; opcode = p; operands = out }
 here_is b p out = after_is (start b p) out
 
-pub is_at_first : (scene : Scene) (known : Known) (b : List PlainInst) (p : ℕ) → scene.forms.now ≡ map form_of scene.table.now.kinds → Knows scene.definitions.now b
-    → known.opcode ≡ p → known.type_id ≡ None → known.first ≡ None → IsAt scene known (after (start b p) [])
-is_at_first scene known b p h d o t f = record { forms = h; definitions = d; opcode = o; type_id = t; first = f }
+pub near_first : (defined : Definitions) (known : Known) (b : List PlainInst) (p : ℕ) → Knows defined b
+    → known.opcode ≡ p → known.type_id ≡ None → known.first ≡ None → IsNear defined known (after (start b p) [])
+near_first defined known b p d o t f = record { definitions = d; opcode = o; type_id = t; first = f }
 
-is_at_next : (scene : Scene) (known next : Known) (b : List PlainInst) (p : ℕ) (out : List Plain) (o : Plain) → IsAt scene known (after (start b p) out)
+near_next : (defined : Definitions) (known next : Known) (b : List PlainInst) (p : ℕ) (out : List Plain) (o : Plain) → IsNear defined known (after (start b p) out)
     → next.opcode ≡ known.opcode → (known.type_id ≡ type_in out → next.type_id ≡ type_in (out ++ (o ∷ [])))
-    → (known.first ≡ first_id out → next.first ≡ first_id (out ++ (o ∷ []))) → IsAt scene next (after (start b p) (out ++ (o ∷ [])))
-is_at_next scene known next b p out o k e t f =
-    let k' : IsAt scene known (record { before = b; opcode = p; operands = out }) = rw (here_is b p out) at k in
-    rw (here_is b p (out ++ (o ∷ [])))
-    (record { forms = k'.forms; definitions = k'.definitions; opcode = e ∙ k'.opcode; type_id = t k'.type_id; first = f k'.first })
+    → (known.first ≡ first_id out → next.first ≡ first_id (out ++ (o ∷ []))) → IsNear defined next (after (start b p) (out ++ (o ∷ [])))
+near_next defined known next b p out o k e t f =
+    let n : IsNear defined known (record { before = b; opcode = p; operands = out }) = rw (here_is b p out) at k in
+    rw (here_is b p (out ++ (o ∷ []))) (near_after defined known next _ o n e t f)
 
 settled_some : (G : Table) (c : Context) (pattern : List Due) (words : List ℕ) (out : List Plain) (ds : List Due) (taken : ℕ) (rest : List ℕ) → 0 < length rest
     → Sofar G c pattern words out ds rest taken → Sofar G c pattern words out (settled true ds) rest taken
@@ -266,36 +265,36 @@ pub record Misplaced (G : Table) (c : Context) (pattern : List Item) (words : Li
   pub from : first ≤ word
   pub misfit : Misfit G c pattern words rule (word - first)
 
-pub turn_first : (G : Table) (scene : Scene) (known : Known) (b : List PlainInst) (p : ℕ) (pattern : List Item) (image : List ℕ) (first end : ℕ) (out : List Plain) (ds : List Due)
-    → first ≤ end → out ≡ [] → ds ≡ map due pattern → IsAt scene known (after (start b p) []) → Turn G scene known b p pattern image first first end out ds
-turn_first G scene known b p pattern image first end out ds h e d k =
+pub turn_first : (G : Table) (defined : Definitions) (known : Known) (b : List PlainInst) (p : ℕ) (pattern : List Item) (image : List ℕ) (first end : ℕ) (out : List Plain) (ds : List Due)
+    → first ≤ end → out ≡ [] → ds ≡ map due pattern → IsNear defined known (after (start b p) []) → Turn G defined known b p pattern image first first end out ds
+turn_first G defined known b p pattern image first end out ds h e d k =
     let z : first - first ≡ 0 = omega arith in
     rw (e, d)
     (record {
       from = omega arith;
       upto = h;
       sofar = rw z (at_start G (start b p) (map due pattern) (between image first end));
-      is_at = k;
+      near = k;
     })
 
 -- what is due, where words are left
-pub turn_settled : (G : Table) (scene : Scene) (known : Known) (b : List PlainInst) (p : ℕ) (pattern : List Item) (image : List ℕ) (first at end : ℕ) (out : List Plain) (ds es : List Due)
-    → Turn G scene known b p pattern image first at end out ds → at < end → end ≤ length image → settled true ds ≡ es
-    → Turn G scene known b p pattern image first at end out es
-turn_settled G scene known b p pattern image first at end out ds es k h f e =
+pub turn_settled : (G : Table) (defined : Definitions) (known : Known) (b : List PlainInst) (p : ℕ) (pattern : List Item) (image : List ℕ) (first at end : ℕ) (out : List Plain) (ds es : List Due)
+    → Turn G defined known b p pattern image first at end out ds → at < end → end ≤ length image → settled true ds ≡ es
+    → Turn G defined known b p pattern image first at end out es
+turn_settled G defined known b p pattern image first at end out ds es k h f e =
     let l = length-between image at end f in
     let n : 0 < length (between image at end) = omega arith in
     record {
       from = k.from;
       upto = k.upto;
       sofar = rw e at (settled_some G (start b p) (map due pattern) (between image first end) out ds (at - first) (between image at end) n k.sofar);
-      is_at = k.is_at;
+      near = k.near;
     }
 
-pub turn_left : (G : Table) (scene : Scene) (known : Known) (b : List PlainInst) (p : ℕ) (pattern : List Item) (image : List ℕ) (first at end : ℕ) (out : List Plain)
-    → Turn G scene known b p pattern image first at end out [] → at < end → end ≤ length image
+pub turn_left : (G : Table) (defined : Definitions) (known : Known) (b : List PlainInst) (p : ℕ) (pattern : List Item) (image : List ℕ) (first at end : ℕ) (out : List Plain)
+    → Turn G defined known b p pattern image first at end out [] → at < end → end ≤ length image
     → Misplaced G (start b p) pattern (between image first end) first at I5
-turn_left G scene known b p pattern image first at end out k h f =
+turn_left G defined known b p pattern image first at end out k h f =
     let l = length-between image at end f in
     let n : 0 < length (between image at end) = omega arith in
     record {
@@ -303,19 +302,19 @@ turn_left G scene known b p pattern image first at end out k h f =
       misfit = fails_misfit G (start b p) pattern (between image first end) I5 (at - first) (left_some G (start b p) (map due pattern) (between image first end) out (at - first) (between image at end) n k.sofar);
     }
 
-pub turn_opened : (G : Table) (scene : Scene) (known : Known) (b : List PlainInst) (p : ℕ) (pattern : List Item) (image : List ℕ) (first at end : ℕ) (out : List Plain) (s : Slot) (ds es : List Due)
-    → Turn G scene known b p pattern image first at end out (OneOf s ∷ ds) → Opens G s ds es → Turn G scene known b p pattern image first at end out es
-turn_opened G scene known b p pattern image first at end out s ds es k h = record {
+pub turn_opened : (G : Table) (defined : Definitions) (known : Known) (b : List PlainInst) (p : ℕ) (pattern : List Item) (image : List ℕ) (first at end : ℕ) (out : List Plain) (s : Slot) (ds es : List Due)
+    → Turn G defined known b p pattern image first at end out (OneOf s ∷ ds) → Opens G s ds es → Turn G defined known b p pattern image first at end out es
+turn_opened G defined known b p pattern image first at end out s ds es k h = record {
   from = k.from;
   upto = k.upto;
   sofar = at_opens G (start b p) (map due pattern) (between image first end) out s ds es (between image at end) (at - first) k.sofar h;
-  is_at = k.is_at;
+  near = k.near;
 }
 
-pub turn_refused : (G : Table) (scene : Scene) (known : Known) (b : List PlainInst) (p : ℕ) (pattern : List Item) (image : List ℕ) (first at end : ℕ) (out : List Plain) (s : Slot) (ds : List Due) (rule : Rule) (n : ℕ)
-    → Turn G scene known b p pattern image first at end out (OneOf s ∷ ds) → RefusesFront G (after (start b p) out) s rule n (between image at end)
+pub turn_refused : (G : Table) (defined : Definitions) (known : Known) (b : List PlainInst) (p : ℕ) (pattern : List Item) (image : List ℕ) (first at end : ℕ) (out : List Plain) (s : Slot) (ds : List Due) (rule : Rule) (n : ℕ)
+    → Turn G defined known b p pattern image first at end out (OneOf s ∷ ds) → RefusesFront G (after (start b p) out) s rule n (between image at end)
     → Misplaced G (start b p) pattern (between image first end) first (at + n) rule
-turn_refused G scene known b p pattern image first at end out s ds rule n k r =
+turn_refused G defined known b p pattern image first at end out s ds rule n k r =
     let f = k.from in
     let e : (at - first) + n ≡ (at + n) - first = omega arith in
     record {
@@ -324,14 +323,14 @@ turn_refused G scene known b p pattern image first at end out s ds rule n k r =
           (rw e at (at_refusal G (start b p) (map due pattern) (between image first end) out s ds (between image at end) (at - first) rule n k.sofar r));
     }
 
-pub turn_taken : (G : Table) (scene : Scene) (known next : Known) (b : List PlainInst) (p : ℕ) (pattern : List Item) (image : List ℕ) (first at end : ℕ) (out out' : List Plain) (s : Slot) (ds es : List Due) (o : declared.Operand) (n : ℕ)
-    → Turn G scene known b p pattern image first at end out (OneOf s ∷ ds) → end ≤ length image → n ≤ end - at
+pub turn_taken : (G : Table) (defined : Definitions) (known next : Known) (b : List PlainInst) (p : ℕ) (pattern : List Item) (image : List ℕ) (first at end : ℕ) (out out' : List Plain) (s : Slot) (ds es : List Due) (o : declared.Operand) (n : ℕ)
+    → Turn G defined known b p pattern image first at end out (OneOf s ∷ ds) → end ≤ length image → n ≤ end - at
     → TakesFront G (after (start b p) out) s o n (between image at end)
     → es ≡ map OneOf (map alone (opened_kinds G (plain_operand o))) ++ ds → out' ≡ out ++ (plain_operand o ∷ [])
     → next.opcode ≡ known.opcode → (known.type_id ≡ type_in out → next.type_id ≡ type_in (out ++ (plain_operand o ∷ [])))
     → (known.first ≡ first_id out → next.first ≡ first_id (out ++ (plain_operand o ∷ [])))
-    → Turn G scene next b p pattern image first (at + n) end out' es
-turn_taken G scene known next b p pattern image first at end out out' s ds es o n k f w t d a oc ty fi =
+    → Turn G defined next b p pattern image first (at + n) end out' es
+turn_taken G defined known next b p pattern image first at end out out' s ds es o n k f w t d a oc ty fi =
     let l = length-between image at end f in
     let h : n ≤ length (between image at end) = omega arith in
     let x = k.from in
@@ -342,7 +341,7 @@ turn_taken G scene known next b p pattern image first at end out out' s ds es o 
       from = omega arith;
       upto = omega arith;
       sofar = rw (drop-between image at end n w, e) at (at_taken G (start b p) (map due pattern) (between image first end) out s ds (between image at end) (at - first) o n k.sofar h t);
-      is_at = is_at_next scene known next b p out (plain_operand o) k.is_at oc ty fi;
+      near = near_next defined known next b p out (plain_operand o) k.near oc ty fi;
     })
 
 end_sofar : (G : Table) (c : Context) (pattern : List Due) (words : List ℕ) (out : List Plain) (ds es : List Due) (rest : List ℕ) (taken : ℕ) → rest ≡ [] → settled false ds ≡ es
@@ -350,18 +349,18 @@ end_sofar : (G : Table) (c : Context) (pattern : List Due) (words : List ℕ) (o
 end_sofar G c pattern words out ds es rest taken e f k =
     let k' : Sofar G c pattern words out ds [] taken = rw e at k in rw f at (at_settled_end G c pattern words out ds taken k')
 
-pub turn_end : (G : Table) (scene : Scene) (known : Known) (b : List PlainInst) (p : ℕ) (pattern : List Item) (image : List ℕ) (first at end : ℕ) (out : List Plain) (ds : List Due)
-    → Turn G scene known b p pattern image first at end out ds → end ≤ at → settled false ds ≡ []
+pub turn_end : (G : Table) (defined : Definitions) (known : Known) (b : List PlainInst) (p : ℕ) (pattern : List Item) (image : List ℕ) (first at end : ℕ) (out : List Plain) (ds : List Due)
+    → Turn G defined known b p pattern image first at end out ds → end ≤ at → settled false ds ≡ []
     → Match G (start b p) pattern out (between image first end)
-turn_end G scene known b p pattern image first at end out ds k h e =
+turn_end G defined known b p pattern image first at end out ds k h e =
     flat_match G (start b p) pattern out (between image first end)
     (at_end G (start b p) (map due pattern) (between image first end) out (at - first)
     (end_sofar G (start b p) (map due pattern) (between image first end) out ds [] (between image at end) (at - first) (none_between image at end h) e k.sofar))
 
-pub turn_missing : (G : Table) (scene : Scene) (known : Known) (b : List PlainInst) (p : ℕ) (pattern : List Item) (image : List ℕ) (first at end : ℕ) (out : List Plain) (s : Slot) (ds es : List Due)
-    → IsWhole G → Turn G scene known b p pattern image first at end out ds → end ≤ at → settled false ds ≡ OneOf s ∷ es
+pub turn_missing : (G : Table) (defined : Definitions) (known : Known) (b : List PlainInst) (p : ℕ) (pattern : List Item) (image : List ℕ) (first at end : ℕ) (out : List Plain) (s : Slot) (ds es : List Due)
+    → IsWhole G → Turn G defined known b p pattern image first at end out ds → end ≤ at → settled false ds ≡ OneOf s ∷ es
     → Misplaced G (start b p) pattern (between image first end) first at I4
-turn_missing G scene known b p pattern image first at end out s ds es w k h e = record {
+turn_missing G defined known b p pattern image first at end out s ds es w k h e = record {
   from = k.from;
   misfit = fails_misfit G (start b p) pattern (between image first end) I4 (at - first)
       (at_missing G (start b p) (map due pattern) (between image first end) out s es (at - first) w

@@ -63,6 +63,13 @@ pub data Opens (G : Table) (s : Slot) (ds : List Due) : List Due → Type 0 wher
   leaf : Opens G s ds (OneOf s ∷ ds)
   parts : (ss : List Slot) → ((c : Context) → shape_of G c s ≡ AsParts ss) → Opens G s ds (map OneOf ss ++ ds)
 
+-- what is due begins with a slot, and in its place a leaf is due
+pub record LeadsTo (G : Table) (ds : List Due) (s : Slot) (es : List Due) : Type 0 where
+  pub slot : Slot
+  pub rest : List Due
+  pub first : ds ≡ OneOf slot ∷ rest
+  pub opened : Opens G slot rest (OneOf s ∷ es)
+
 -- the parameters that an operand opens
 abbrev pub opened_kinds : Table → Plain → List ℕ
 opened_kinds G (Value k x) = unwrap_or (parameters_of (enumerants_at (kind_of G k)) x) []

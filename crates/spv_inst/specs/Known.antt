@@ -1,14 +1,12 @@
--- What the decoder keeps of the instructions and operands before.
-use Rattle.std.specs.Prelude.{◌≡◌, ℕ, List, Option, Some, None, option_map, map, slice_index_or}
+-- What is kept of the instructions and operands before.
+use Rattle.std.specs.Prelude.{◌≡◌, ℕ, List, Option, Some, None, option_map, slice_index_or}
 use Rattle.std.specs.Ordering.{nat_cmp}
 use Rattle.std.specs.BTreeMap.{get}
 use Rattle.spv_inst.specs.declared.definitions.Definition.{Definition}
 use Rattle.spv_inst.specs.declared.definitions.Definitions.{Definitions}
 use Rattle.spv_inst.specs.declared.reader.Known.{Known}
-use Rattle.spv_inst.specs.declared.reader.Scene.{Scene}
 use Rattle.spv_inst.specs.Operand.{PlainInst, Context, type_in}
 use Rattle.spv_inst.specs.Width.{definition_of, declared_width, first_id}
-use Rattle.spv_inst.specs.Form.{form_of}
 
 -- what is kept of a definition: its first result type, and the width that it declares
 abbrev pub summary : PlainInst → Definition
@@ -26,10 +24,9 @@ kept d x = or_far (slice_index_or d.near.items x None) (get nat_cmp d.far x)
 pub record Knows (d : Definitions) (before : List PlainInst) : Type 0 where
   pub latest : (x : ℕ) → kept d x ≡ option_map summary (definition_of before x)
 
--- the scene and what is known are those of a context
-pub record IsAt (scene : Scene) (known : Known) (c : Context) : Type 0 where
-  pub forms : scene.forms.now ≡ map form_of scene.table.now.kinds
-  pub definitions : Knows scene.definitions.now c.before
+-- the definitions and what is known are those of a context
+pub record IsNear (d : Definitions) (known : Known) (c : Context) : Type 0 where
+  pub definitions : Knows d c.before
   pub opcode : known.opcode ≡ c.opcode
   pub type_id : known.type_id ≡ type_in c.operands
   pub first : known.first ≡ first_id c.operands

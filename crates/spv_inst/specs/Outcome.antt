@@ -21,6 +21,6 @@ IsDeath G words Memory = Unit {0}
 IsDeath G words (Fault f) = (5 ≤ f.word) × IsDeadAt G (drop 5 words) f.rule f.inst (f.word - 5)
 
 -- Want of memory, or no list of instructions at all.
-abbrev pub IsNone : Table → List ℕ → Stop → Type 0
-IsNone G words Memory = Unit {0}
-IsNone G words (Fault f) = (is : List PlainInst) → ¬ (IsListing G is (drop 5 words))
+abbrev pub HasNoList : Table → List ℕ → Stop → Type 0
+HasNoList G words Memory = Unit {0}
+HasNoList G words (Fault f) = (is : List PlainInst) → ¬ (IsListing G is (drop 5 words))

@@ -4,29 +4,18 @@ use Rattle.std.specs.List.{list_any, AllByRecursion}
 use Rattle.spv_words.specs.declared.words.Header.{Header}
 use Rattle.spv_words.specs.Header.{magic_number}
 use Rattle.spv_grammar.specs.Table.{Table, Item}
-use Rattle.spv_inst.specs.declared.definitions.Definitions.{Definitions}
-use Rattle.spv_inst.specs.declared.reader.Known.{Known}
 use Rattle.spv_inst.specs.declared.obstacle.EncodeCode.{EncodeCode}
 use Rattle.spv_inst.specs.declared.obstacle.EncodeCode.TheVariants.{N2, N3, N4}
-use Rattle.spv_inst.specs.Operand.{Plain, OfType, Result, Id, Word, Number, Text, Value, Mask, PlainInst, Context, type_in}
-use Rattle.spv_inst.specs.Width.{first_id}
-use Rattle.spv_inst.specs.Known.{Knows}
+use Rattle.spv_inst.specs.Operand.{Plain, OfType, Result, Id, Word, Number, Text, Value, Mask, PlainInst, Context}
 use Rattle.spv_inst.specs.Shape.{Slot, Shape, alone, shape_of, AsType, AsResult, AsId, AsWord, AsNumber, AsText, AsValue, AsMask}
 use Rattle.spv_inst.specs.Spelling.{parameters_of, mask_parameters, Takes, Match}
 use Rattle.spv_inst.specs.Instruction.{IsInstruction, IsListing}
 use Rattle.spv_inst.specs.Flat.{Due, OneOf}
-use Rattle.spv_inst.specs.Agenda.{Opens, settled, opened_kinds}
+use Rattle.spv_inst.specs.Agenda.{LeadsTo, settled, opened_kinds}
 use Rattle.spv_inst.specs.Refusal.{IsLeaf}
 use Rattle.spv_inst.specs.Encoding.{Hinders, greatest_length}
 use Rattle.spv_inst.specs.declared.module.Module.{Module}
 use Rattle.spv_inst.specs.Module.{plain_insts}
-
--- the definitions and what is known are those of a context
-pub record IsNear (d : Definitions) (known : Known) (c : Context) : Type 0 where
-  pub definitions : Knows d c.before
-  pub opcode : known.opcode ≡ c.opcode
-  pub type_id : known.type_id ≡ type_in c.operands
-  pub first : known.first ≡ first_id c.operands
 
 -- the words of a text, a zero octet and up to three more added
 abbrev pub text_words : List ℕ → List ℕ
@@ -72,13 +61,6 @@ is_fit k _ _ = false
 abbrev pub HasText : Plain → Type 0
 HasText (Text t) = IsUtf8 t × AllByRecursion (λ b. b < 256) t
 HasText _ = Unit {0}
-
--- what is due begins with a slot, and in its place a leaf is due
-pub record LeadsTo (G : Table) (ds : List Due) (s : Slot) (es : List Due) : Type 0 where
-  pub slot : Slot
-  pub rest : List Due
-  pub first : ds ≡ OneOf slot ∷ rest
-  pub opened : Opens G slot rest (OneOf s ∷ es)
 
 -- The words match the operands, or no words do.
 abbrev pub IsSpelling : Table → Context → List Item → List Plain → Bool → List ℕ → Type 0

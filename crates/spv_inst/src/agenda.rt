@@ -1,6 +1,6 @@
 //! What is due in an instruction.
 
-ghost use Rattle.std.specs.Prelude.{◌≡◌, ◌++◌, ◌∷◌, [], ◌<◌, map, length, IfOk, OnOk, MatchOption, unwrap_or};
+ghost use Rattle.std.specs.Prelude.{◌≡◌, ◌++◌, ◌∷◌, [], ◌<◌, map, length, IfOk, IfSome, OnOk, MatchOption, unwrap_or};
 ghost use Rattle.spv_grammar.specs.Table.{Table, kind_of};
 ghost use Rattle.spv_inst.specs.declared.form.Form.TheVariants.{Leaf as LeafForm};
 ghost use Rattle.spv_inst.specs.Form.{form_of, form_at};
@@ -9,7 +9,7 @@ ghost use Rattle.spv_inst.specs.Shape.{alone};
 ghost use Rattle.spv_inst.specs.Spelling.{parameters_of};
 ghost use Rattle.spv_inst.specs.Reading.{enumerants_at};
 ghost use Rattle.spv_inst.specs.Flat.{OneOf, due};
-ghost use Rattle.spv_inst.specs.Agenda.{plain_slot, slots_of, parameters_from, frame_due, frames_due, items_of, agenda_due, settled, Opens, opened_kinds};
+ghost use Rattle.spv_inst.specs.Agenda.{plain_slot, slots_of, parameters_from, frame_due, frames_due, items_of, agenda_due, settled, LeadsTo, Opens, opened_kinds};
 
 use crate::form::{Form, Leaf};
 use crate::operand::Operand;
@@ -26,10 +26,11 @@ enum Frame<'t> {
     Bits { kind: u32, mask: u32, position: u32 },
 }
 
-/// A kind that is due and its leaf.
+/// A kind that is due next and is no Composite.
 #[derive(Clone, Copy, Debug, PartialEq, Eq)]
 pub struct Asked {
     pub slot: Slot,
+    /// What the slot's kind asks for.
     pub leaf: Leaf,
 }
 
@@ -40,15 +41,21 @@ struct Found<'t> {
     position: u32,
 }
 
-/// What is due in an instruction, in order: places in open parameter lists, the innermost last, and then the items left
-/// of its pattern.
+/// What is due in an instruction, in order: the rest of each open list of parameters or bases, the innermost first, and
+/// then the items left of the pattern.
+///
+/// A kind is due as soon as the operand is read or written that asks for it, so an agenda serves the decoder and the
+/// encoder alike. It is one for many instructions: `start` keeps its memory.
 #[derive(Debug, Drop)]
 pub struct Agenda<'t> {
+    /// The open lists, the innermost last.
     frames: Vec<Frame<'t>>,
+    /// The items left of the pattern.
     items: &'t [Item],
 }
 
-/// What a kind asks for, by the forms of all kinds.
+/// What the kind of a number, from 0, asks for, by the forms of all kinds (`forms_of`). A kind that the table has not asks
+/// for what nothing spells.
 pub fn form_in(forms: &[Form], kind: u32) -> Form
     ensures { (G : Table) → forms.now ≡ map form_of G.kinds → result ≡ form_at (kind_of G kind) }
 {
@@ -184,15 +191,17 @@ fn next_item<'t>(items: &'t [Item], more: bool) -> Option<(u32, &'t [Item])>
 }
 
 impl<'t> Agenda<'t> {
-    /// Nothing is due. It takes no memory.
-    pub fn new(alloc: Global) -> Agenda<'t> {
+    /// An agenda with nothing due. It takes no memory.
+    pub fn new(alloc: Global) -> Agenda<'t>
+        ensures { (G : Table) → agenda_due G result ≡ [] }
+    {
         Agenda {
             frames: Vec::new(alloc),
             items: &[],
         }
     }
 
-    /// The items of a pattern are due, and nothing else.
+    /// Begins an instruction: the items of its pattern are due, and nothing else is.
     pub fn start(&mut self, items: &'t [Item])
         ensures { (G : Table) → agenda_due G self.new ≡ map due (items_of items.now) }
     {
@@ -202,7 +211,7 @@ impl<'t> Agenda<'t> {
 
     /// Takes the kind that is due, where words are left (`more`) or not. Where memory runs out, nothing is said of what
     /// is left.
-    pub fn next_due(&mut self, table: &'t Table, more: bool) -> Result<Option<Slot>, AllocError>
+    fn next_due(&mut self, table: &'t Table, more: bool) -> Result<Option<Slot>, AllocError>
         ensures { IfOk result (λ o. MatchOption o (settled more (agenda_due table.now self.old) ≡ [])
             (λ s. settled more (agenda_due table.now self.old) ≡ OneOf (plain_slot s) ∷ agenda_due table.now self.new)) }
     {
@@ -221,14 +230,10 @@ impl<'t> Agenda<'t> {
         }
     }
 
-    /// Goes from a kind that is due to the leaf to be read: the kind itself, or the first base of a Composite, whose
-    /// others are then due. Where memory runs out, nothing is said of what is left.
-    pub fn leaf_of(
-        &mut self,
-        table: &'t Table,
-        forms: &[Form],
-        slot: Slot,
-    ) -> Result<Asked, AllocError>
+    /// Goes from a kind that was due to the leaf that stands in its place: that of the kind itself, or of the first base of
+    /// a Composite, whose other bases are due then. A table is read only if a Composite has a base and no base is a
+    /// Composite. Where memory runs out, nothing is said of what is left.
+    fn leaf_of(&mut self, table: &'t Table, forms: &[Form], slot: Slot) -> Result<Asked, AllocError>
         requires { forms.now ≡ map form_of table.now.kinds }
         ensures leaf { IfOk result (λ a. form_at (kind_of table.now a.slot.kind) ≡ LeafForm a.leaf) }
         ensures opened { IfOk result (λ a. Opens table.now (plain_slot slot) (agenda_due table.now self.old) (OneOf (plain_slot a.slot) ∷ agenda_due table.now self.new)) }
@@ -251,7 +256,34 @@ impl<'t> Agenda<'t> {
         }
     }
 
-    /// The parameters of an operand are due next. Where memory runs out, nothing is said of what is left.
+    /// Takes the leaf that is due next: the kind that is due, or in place of a Composite its first base. `more` tells
+    /// whether words are left of the instruction, or operands in the encoder: an item that may be absent is so exactly
+    /// where none are. None where nothing is due.
+    ///
+    /// An `AllocError` comes only where a growth of memory was refused, and then nothing is said of what is left.
+    pub fn next_leaf(
+        &mut self,
+        table: &'t Table,
+        forms: &[Form],
+        more: bool,
+    ) -> Result<Option<Asked>, AllocError>
+        requires { forms.now ≡ map form_of table.now.kinds }
+        ensures leaf { IfOk result (λ o. IfSome o (λ a. form_at (kind_of table.now a.slot.kind) ≡ LeafForm a.leaf)) }
+        ensures due { IfOk result (λ o. MatchOption o (settled more (agenda_due table.now self.old) ≡ [])
+            (λ a. LeadsTo table.now (settled more (agenda_due table.now self.old)) (plain_slot a.slot) (agenda_due table.now self.new))) }
+    {
+        let Some(slot) = self.next_due(table, more)? else {
+            return Ok(None);
+        };
+        let asked = self.leaf_of(table, forms, slot)?;
+        Ok(Some(asked))
+    }
+
+    /// Goes on after an operand: the parameters of its enumerant, or of the set bits of its mask, are due next, those of the
+    /// smaller bit first (SPIR-V Specification 1.6, section 3, Memory Operands). An enumerant or a bit that the kind has not
+    /// has none, nor has an operand that is no value and no mask.
+    ///
+    /// An `AllocError` comes only where a growth of memory was refused, and then nothing is said of what is left.
     pub fn open(&mut self, table: &'t Table, operand: &Operand<'_>) -> Result<(), AllocError>
         ensures { OnOk result (agenda_due table.now self.new ≡ map OneOf (map alone (opened_kinds table.now (plain_operand operand.now))) ++ agenda_due table.now self.old) }
     {

@@ -2,7 +2,7 @@ ghost use Rattle.std.specs.Prelude.{◌≡◌, List, drop, IfOk, IfErr};
 ghost use Rattle.spv_inst.specs.Operand.{PlainInst};
 ghost use Rattle.spv_inst.specs.Module.{plain_insts};
 ghost use Rattle.spv_inst.specs.Instruction.{IsListing};
-ghost use Rattle.spv_inst.specs.Outcome.{IsDeath, IsHeaderOf, IsNone};
+ghost use Rattle.spv_inst.specs.Outcome.{HasNoList, IsDeath, IsHeaderOf};
 
 use crate::agenda::Agenda;
 use crate::definitions::Definitions;
@@ -28,7 +28,7 @@ pub fn decode<'a>(alloc: Global, table: &Table, image: &'a Image) -> Result<Modu
     // A fault is that of the dead instruction.
     ensures dead { IfErr result (λ e. IsDeath table.now image.now e) }
     // Where there is one, the words spell no list.
-    ensures none { IfErr result (λ e. IsNone table.now image.now e) }
+    ensures none { IfErr result (λ e. HasNoList table.now image.now e) }
 {
     let forms = forms_of(alloc, table)?;
     let mut definitions = Definitions::new(alloc);
@@ -43,14 +43,7 @@ pub fn decode<'a>(alloc: Global, table: &Table, image: &'a Image) -> Result<Modu
             definitions: &definitions,
             image,
         };
-        let Read { inst, end } = read_instruction(
-            alloc,
-            &scene,
-            table,
-            &mut agenda,
-            &module.insts,
-            at,
-        )?;
+        let Read { inst, end } = read_instruction(alloc, &scene, &mut agenda, &module.insts, at)?;
         definitions.add(&inst)?;
         module.insts.push(inst)?;
         at = end;

@@ -1,4 +1,4 @@
-ghost use Rattle.std.specs.Prelude.{◌≡◌, ◌++◌, ◌∷◌, [], ℕ, List, Some, None, nat_eq, slice_index_or, if◌then◌else◌, OnOk};
+ghost use Rattle.std.specs.Prelude.{◌≡◌, ◌++◌, ◌∷◌, ◌<◌, ◌≤◌, [], ℕ, List, Some, None, nat_eq, slice_index_or, if◌then◌else◌, length, OnOk};
 ghost use Rattle.spv_inst.specs.Operand.{PlainInst};
 ghost use Rattle.spv_inst.specs.Operand as operand;
 ghost use Rattle.spv_inst.specs.Width as width;
@@ -11,7 +11,7 @@ use crate::operand::Operand;
 use std::alloc::{AllocError, Global};
 use std::collections::BTreeMap;
 
-/// What is kept of the last instruction with a result.
+/// What is kept of an instruction with a result.
 #[derive(Clone, Copy, Debug, PartialEq, Eq)]
 struct Definition {
     /// Its first result type.
@@ -20,10 +20,10 @@ struct Definition {
     width: Option<u32>,
 }
 
-/// OpTypeInt.
+/// The opcode of OpTypeInt.
 const TYPE_INT: u16 = 21;
 
-/// OpTypeFloat.
+/// The opcode of OpTypeFloat.
 const TYPE_FLOAT: u16 = 22;
 
 /// The first result of the operands.
@@ -70,7 +70,10 @@ fn declared_width(inst: &Inst) -> Option<u32>
     }
 }
 
-/// The last definition of each id among the instructions so far.
+/// What the instructions so far tell of each id: the result type and the declared width of its last definition, which is
+/// the last instruction that has the id as its result (SPIR-V Specification 1.6, section 2.2.1).
+///
+/// An id that is defined twice breaks a rule of modules, but not one of decoding: the last definition counts.
 ///
 /// Ids are mostly small and dense, so a list with a place for each id serves most of them; the list grows with the
 /// definitions, whatever the ids.
@@ -93,6 +96,7 @@ const REACH_FOR_EACH: u32 = 2;
 /// Gives the list a place for the id, if it has none.
 fn widen(near: &mut Vec<Option<Definition>>, id: u32) -> Result<(), AllocError>
     ensures kept { (x : ℕ) → slice_index_or near.new.items x None ≡ slice_index_or near.old.items x None }
+    ensures place { OnOk result (id < length near.new.items) }
 {
     while near.len() <= id as usize {
         near.push(None)?;
@@ -101,7 +105,7 @@ fn widen(near: &mut Vec<Option<Definition>>, id: u32) -> Result<(), AllocError>
 }
 
 impl Definitions {
-    /// No definitions. It takes no memory.
+    /// What no instructions tell: nothing of any id. It takes no memory.
     pub fn new(alloc: Global) -> Definitions
         ensures { Knows result [] }
     {
@@ -114,7 +118,8 @@ impl Definitions {
 
     /// Keeps what is new of an id. Where memory runs out, nothing is said of what is left.
     fn put(&mut self, id: u32, definition: Definition) -> Result<(), AllocError>
-        ensures { OnOk result ((x : ℕ) → kept self.new x ≡ (if nat_eq id x then Some definition else kept self.old x)) }
+        ensures latest { OnOk result ((x : ℕ) → kept self.new x ≡ (if nat_eq id x then Some definition else kept self.old x)) }
+        ensures reach { self.new.reach ≡ self.old.reach }
     {
         if id < self.reach {
             widen(&mut self.near, id)?;
@@ -138,11 +143,13 @@ impl Definitions {
         }
     }
 
-    /// Goes on after one instruction more: where it has a result, it is the last definition of that id.
+    /// Goes on after one instruction more: where it has a result, it is now the last definition of that id.
     ///
     /// An `AllocError` comes only where a growth of memory was refused, and then nothing is said of what is left.
     pub fn add(&mut self, inst: &Inst) -> Result<(), AllocError>
-        ensures { OnOk result ((before : List PlainInst) → Knows self.old before → Knows self.new (before ++ plain_inst inst.now ∷ [])) }
+        ensures knows { OnOk result ((before : List PlainInst) → Knows self.old before → Knows self.new (before ++ plain_inst inst.now ∷ [])) }
+        // The list may grow no less than before.
+        ensures reach { self.old.reach ≤ self.new.reach }
     {
         let operands = inst.operands.as_slice();
         let Some(id) = result_in(operands) else {
@@ -156,15 +163,16 @@ impl Definitions {
         self.put(id, definition)
     }
 
-    /// The width of a type id, in bits: what its last definition declares, if that is an OpTypeInt or OpTypeFloat with a
-    /// width from 1 to 64.
+    /// The width of a type, in bits, by its id: what its last definition declares, if that is an OpTypeInt or OpTypeFloat
+    /// with a width from 1 to 64. None for any other id.
     pub fn width(&self, type_id: u32) -> Option<u32>
         ensures { (before : List PlainInst) → Knows self.now before → result ≡ width_of before type_id }
     {
         self.latest(type_id)?.width
     }
 
-    /// The type of an id: the first result type of its last definition.
+    /// The type of an id, as an id: the result type of its last definition. None where it has no definition, or one without
+    /// a result type.
     pub fn type_id(&self, id: u32) -> Option<u32>
         ensures { (before : List PlainInst) → Knows self.now before → result ≡ type_of before id }
     {

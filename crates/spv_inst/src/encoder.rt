@@ -8,20 +8,21 @@ ghost use Rattle.spv_inst.specs.Form.{form_of, form_at};
 ghost use Rattle.spv_inst.specs.Operand.{PlainInst, Context, start};
 ghost use Rattle.spv_inst.specs.Module.{plain_operand, plain_operands, plain_inst, plain_insts};
 ghost use Rattle.spv_inst.specs.Instruction.{IsListing};
-ghost use Rattle.spv_inst.specs.Known.{Knows};
+ghost use Rattle.spv_inst.specs.Known.{IsNear, Knows};
 ghost use Rattle.spv_inst.specs.Agenda.{plain_slot, items_of, agenda_due, settled};
 ghost use Rattle.spv_inst.specs.Outcome.{IsHeaderOf};
 ghost use Rattle.spv_inst.specs.Encoding.{Fits, IsRefused};
-ghost use Rattle.spv_inst.specs.Written.{IsNear, LeadsTo, IsStep, IsSpelling, Adds, IsWritten, HindersOrMemory, header_words, told};
+ghost use Rattle.spv_inst.specs.Written.{IsStep, IsSpelling, Adds, IsWritten, HindersOrMemory, header_words, told};
 
-use crate::agenda::{Agenda, Asked};
+use crate::agenda::Agenda;
 use crate::definitions::Definitions;
 use crate::form::{Form, forms_of};
+use crate::instruction::known_after;
 use crate::module::{Inst, Module};
 use crate::obstacle::{EncodeCode, EncodeError};
 use crate::operand::Operand;
 use crate::reader::Known;
-use crate::written::{fits, known_after, push_operand, read_text};
+use crate::written::{fits, push_operand, read_text};
 use spv_grammar::{Item, Table};
 use spv_words::{Draft, Header, Image};
 use std::alloc::{AllocError, Global};
@@ -51,26 +52,6 @@ struct Setting<'t, 'd> {
     definitions: &'d Definitions,
 }
 
-/// The leaf that is due next, where operands are left (`more`) or not. Where memory runs out, nothing is said of what is
-/// left.
-fn next_leaf<'t>(
-    agenda: &mut Agenda<'t>,
-    table: &'t Table,
-    forms: &[Form],
-    more: bool,
-) -> Result<Option<Asked>, AllocError>
-    requires { forms.now ≡ map form_of table.now.kinds }
-    ensures leaf { IfOk result (λ o. IfSome o (λ a. form_at (kind_of table.now a.slot.kind) ≡ LeafForm a.leaf)) }
-    ensures due { IfOk result (λ o. MatchOption o (settled more (agenda_due table.now agenda.old) ≡ [])
-        (λ a. LeadsTo table.now (settled more (agenda_due table.now agenda.old)) (plain_slot a.slot) (agenda_due table.now agenda.new))) }
-{
-    let Some(slot) = agenda.next_due(table, more)? else {
-        return Ok(None);
-    };
-    let asked = agenda.leaf_of(table, forms, slot)?;
-    Ok(Some(asked))
-}
-
 /// Writes the words of one operand, if it fits what is due. Where memory runs out, nothing is said of what is left.
 fn write_next<'t>(
     setting: &Setting<'t, '_>,
@@ -83,7 +64,7 @@ fn write_next<'t>(
     ensures { (d : Context) → IsNear setting.now.definitions.now known d
         → IfOk result (λ b. IsStep b setting.now.table.now d (agenda_due setting.now.table.now agenda.old) (agenda_due setting.now.table.now agenda.new) (plain_operand operand.now) words.old.items words.new.items) }
 {
-    let Some(asked) = next_leaf(agenda, setting.table, setting.forms, true)? else {
+    let Some(asked) = agenda.next_leaf(setting.table, setting.forms, true)? else {
         return Ok(false);
     };
     if !fits(setting.table, setting.definitions, known, asked, operand) {
@@ -110,18 +91,14 @@ fn write_operands<'t>(
 {
     words.clear();
     agenda.start(pattern);
-    let mut known = Known {
-        opcode: inst.opcode,
-        type_id: None,
-        first: None,
-    };
+    let mut known = Known::new(inst.opcode);
     for (number, operand) in inst.operands.iter().enumerate() {
         if !write_next(setting, agenda, words, known, operand)? {
             return Ok(false);
         }
-        known = known_after(known, operand, number);
+        known = known_after(known, &inst.operands[..number], operand);
     }
-    match next_leaf(agenda, setting.table, setting.forms, false)? {
+    match agenda.next_leaf(setting.table, setting.forms, false)? {
         None => Ok(true),
         Some(_) => Ok(false),
     }

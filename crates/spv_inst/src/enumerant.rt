@@ -11,7 +11,7 @@ use crate::operand::Operand;
 use crate::reader::{Refusal, Taken};
 use spv_grammar::Table;
 
-/// Whether a kind has an enumerant of a value.
+/// Whether the kind of a number, from 0, has an enumerant of a value. A kind that the table has not has none.
 pub fn knows(table: &Table, kind: u32, value: u32) -> bool
     ensures { result ≡ is_some (parameters_of (enumerants_at (kind_of table.now kind)) value) }
 {
@@ -26,16 +26,13 @@ pub fn take_value<'a>(table: &Table, kind: u32, value: u32) -> Result<Taken<'a>,
     ensures refused { (us : List ℕ) → IfErr result (λ e. Refuses (AsValue (enumerants_at (kind_of table.now kind))) (value ∷ us) e.rule e.word) }
 {
     if !knows(table, kind, value) {
-        return Err(Refusal {
-            rule: Rule::I6,
-            word: 0,
-        });
+        return Err(Refusal::new(Rule::I6, 0));
     }
     let operand = Operand::Value { kind, value };
     Ok(Taken { operand, words: 1 })
 }
 
-/// Whether each set bit of a mask has an enumerant of the kind.
+/// Whether each set bit of a mask is the value of an enumerant of the kind of a number, from 0. It is so for the mask 0.
 pub fn knows_bits(table: &Table, kind: u32, mask: u32) -> bool
     ensures { result ≡ is_some (mask_parameters (enumerants_at (kind_of table.now kind)) mask) }
 {
@@ -60,10 +57,7 @@ pub fn take_mask<'a>(table: &Table, kind: u32, mask: u32) -> Result<Taken<'a>, R
     ensures refused { (us : List ℕ) → IfErr result (λ e. Refuses (AsMask (enumerants_at (kind_of table.now kind))) (mask ∷ us) e.rule e.word) }
 {
     if !knows_bits(table, kind, mask) {
-        return Err(Refusal {
-            rule: Rule::I7,
-            word: 0,
-        });
+        return Err(Refusal::new(Rule::I7, 0));
     }
     let operand = Operand::Mask { kind, value: mask };
     Ok(Taken { operand, words: 1 })

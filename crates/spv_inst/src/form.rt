@@ -5,30 +5,38 @@ ghost use Rattle.spv_inst.specs.Form.{form_of, id_leaf, literal_leaf, category_f
 use spv_grammar::{Category, Kind, Table};
 use std::alloc::{AllocError, Global};
 
-/// What a kind of one operand asks for.
+/// What a kind of one operand asks for (SPIR-V Specification 1.6, section 2.2.1).
 #[derive(Clone, Copy, Debug, PartialEq, Eq)]
 pub enum Leaf {
+    /// The id of the result's type: IdResultType.
     ResultType,
+    /// The id of the result: IdResult.
     Result,
+    /// Another id.
     Id,
-    /// A LiteralInteger: a word, or in a pair of OpSwitch a number.
+    /// A LiteralInteger: a word, or in a pair of OpSwitch a number of one or two words.
     Integer,
-    /// A literal of one word.
+    /// A literal of one word: LiteralFloat or LiteralExtInstInteger.
     Word,
-    /// A LiteralContextDependentNumber.
+    /// A number of one or two words, as wide as the instruction's result type: LiteralContextDependentNumber.
     ContextNumber,
+    /// A text of one word or more: LiteralString.
     Text,
+    /// The value of an enumerant of the kind.
     Value,
+    /// A mask of enumerants of the kind.
     Mask,
-    /// What nothing spells.
+    /// What nothing spells: a literal of another name, or a kind that the table has not.
     Nothing,
 }
 
 /// What a kind asks for, as far as its category and name tell.
 #[derive(Clone, Copy, Debug, PartialEq, Eq)]
 pub enum Form {
+    /// One operand, and after it those of its parameters.
     Leaf(Leaf),
-    /// A Composite, and whether it is PairLiteralIntegerIdRef.
+    /// A Composite: the operands of its bases, in order. `paired` tells whether it is PairLiteralIntegerIdRef, the pairs of
+    /// a literal and a label of OpSwitch.
     Parts { paired: bool },
 }
 
@@ -72,10 +80,10 @@ fn form_of_kind(kind: &Kind) -> Form
     }
 }
 
-/// The form of each kind of the table, in order, so that a kind's number is the place of its form.
+/// The form of each kind of the table, in order, so that a kind's number, from 0, is the place of its form.
 ///
-/// The kinds' names are compared here once, and no more while instructions are read. An `AllocError` comes only where a
-/// growth of memory was refused.
+/// The kinds' names are compared here once, and no more while instructions are read or written. An `AllocError` comes only
+/// where a growth of memory was refused.
 pub fn forms_of(alloc: Global, table: &Table) -> Result<Vec<Form>, AllocError>
     ensures forms { IfOk result (λ v. v.items ≡ map form_of table.now.kinds) }
     ensures whole { IsWhole table.now }

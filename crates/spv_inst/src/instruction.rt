@@ -17,7 +17,7 @@ use crate::fault::{Fault, Rule, Stop};
 use crate::module::Inst;
 use crate::operand::Operand;
 use crate::reader::{Known, Scene, take_operand};
-use spv_grammar::{Entry, Table};
+use spv_grammar::Entry;
 use spv_words::word;
 use std::alloc::Global;
 
@@ -32,10 +32,11 @@ struct Place<'b, 'a> {
     end: u32,
 }
 
-/// An instruction that was read, and the number of the word after its last.
+/// An instruction that was read.
 #[derive(Debug, Drop)]
 pub struct Read<'a> {
     pub inst: Inst<'a>,
+    /// The number of the word after its last, in the module from 0.
     pub end: u32,
 }
 
@@ -81,8 +82,9 @@ fn id_in_operand(operand: &Operand<'_>) -> Option<u32>
     }
 }
 
-/// What is known after one operand more.
-fn known_after(known: Known, operands: &[Operand<'_>], operand: &Operand<'_>) -> Known
+/// What is known after one operand more, where `operands` are the instruction's operands before it: the first id of a
+/// result's type counts, and the first operand.
+pub fn known_after(known: Known, operands: &[Operand<'_>], operand: &Operand<'_>) -> Known
     ensures opcode { result.opcode ≡ known.opcode }
     ensures type_id { known.type_id ≡ type_in (plain_operands operands.now) → result.type_id ≡ type_in (plain_operands operands.now ++ plain_operand operand.now ∷ []) }
     ensures first { known.first ≡ first_id (plain_operands operands.now) → result.first ≡ first_id (plain_operands operands.now ++ plain_operand operand.now ∷ []) }
@@ -102,44 +104,37 @@ fn known_after(known: Known, operands: &[Operand<'_>], operand: &Operand<'_>) ->
     }
 }
 
-/// The operands of an instruction, by its entry.
+/// The operands of an instruction, by its entry: all of its further words, and no fewer.
 fn read_operands<'t, 'a>(
     alloc: Global,
-    scene: &Scene<'_, 'a>,
-    table: &'t Table,
+    scene: &Scene<'t, '_, 'a>,
     agenda: &mut Agenda<'t>,
     entry: &'t Entry,
     place: Place<'_, 'a>,
 ) -> Result<Vec<Operand<'a>>, Stop>
-    requires table { scene.now.table.now ≡ table.now }
-    requires forms { scene.now.forms.now ≡ map form_of table.now.kinds }
-    requires whole { IsWhole table.now }
+    requires forms { scene.now.forms.now ≡ map form_of scene.now.table.now.kinds }
+    requires whole { IsWhole scene.now.table.now }
     requires knows { Knows scene.now.definitions.now (map plain_inst place.before.now) }
     requires number { length place.before.now < 4294967296 }
     requires order { place.first ≤ place.end }
     requires fits { place.end ≤ length scene.now.image.now }
     // What is answered is what the words from the first up to the end spell.
-    ensures read { IfOk result (λ os. Match table.now (start (map plain_inst place.entry.before.now) place.entry.opcode) (pattern_of entry.now) (plain_operands os.items) (between scene.now.image.now place.entry.first place.entry.end)) }
+    ensures read { IfOk result (λ os. Match scene.now.table.now (start (map plain_inst place.entry.before.now) place.entry.opcode) (pattern_of entry.now) (plain_operands os.items) (between scene.now.image.now place.entry.first place.entry.end)) }
     // A fault tells what refuses these words.
-    ensures misfit { IfErr result (λ e. IsMisfit table.now (start (map plain_inst place.entry.before.now) place.entry.opcode) (pattern_of entry.now) (between scene.now.image.now place.entry.first place.entry.end) (length place.entry.before.now) place.entry.first e) }
+    ensures misfit { IfErr result (λ e. IsMisfit scene.now.table.now (start (map plain_inst place.entry.before.now) place.entry.opcode) (pattern_of entry.now) (between scene.now.image.now place.entry.first place.entry.end) (length place.entry.before.now) place.entry.first e) }
 {
     // Most instructions have few operands: one growth of memory serves them.
     let mut operands = Vec::with_capacity(alloc, (place.end - place.first).min(8) as usize)?;
-    let mut known = Known {
-        opcode: place.opcode,
-        type_id: None,
-        first: None,
-    };
+    let mut known = Known::new(place.opcode);
     let mut at = place.first;
     agenda.start(entry.operands.as_slice());
     while at < place.end {
-        let Some(slot) = agenda.next_due(table, true)? else {
+        let Some(asked) = agenda.next_leaf(scene.table, scene.forms, true)? else {
             return Err(fault_at(place.before, Rule::I5, at));
         };
-        let asked = agenda.leaf_of(table, scene.forms, slot)?;
         match take_operand(scene, known, asked.slot, asked.leaf, at, place.end) {
             Ok(taken) => {
-                agenda.open(table, &taken.operand)?;
+                agenda.open(scene.table, &taken.operand)?;
                 known = known_after(known, &operands, &taken.operand);
                 operands.push(taken.operand)?;
                 at += taken.words;
@@ -147,32 +142,37 @@ fn read_operands<'t, 'a>(
             Err(refusal) => return Err(fault_at(place.before, refusal.rule, at + refusal.word)),
         }
     }
-    match agenda.next_due(table, false)? {
+    match agenda.next_leaf(scene.table, scene.forms, false)? {
         Some(_) => Err(fault_at(place.before, Rule::I4, at)),
         None => Ok(operands),
     }
 }
 
-/// The instruction at a word of the module, after the instructions before.
+/// Reads the instruction whose first word is the module's word `at`, counted from 0, after the instructions before (SPIR-V
+/// Specification 1.6, section 2.3). The agenda is begun anew.
+///
+/// A `Fault` tells the number of the instructions before, which is the instruction's own, and a word of the module. It is
+/// told by the word `at` where the first word counts no words (I1) or more than are left of the module (I2), or where the
+/// opcode has no entry in the table (I3); by the first word left where nothing more is due (I5); by the word after the last
+/// where an operand is missing (I4); and else by the word at which an operand is refused (`take_operand`). `Memory` comes
+/// only where a growth of memory was refused.
 pub fn read_instruction<'t, 'a>(
     alloc: Global,
-    scene: &Scene<'_, 'a>,
-    table: &'t Table,
+    scene: &Scene<'t, '_, 'a>,
     agenda: &mut Agenda<'t>,
     before: &[Inst<'a>],
     at: u32,
 ) -> Result<Read<'a>, Stop>
-    requires table { scene.now.table.now ≡ table.now }
-    requires forms { scene.now.forms.now ≡ map form_of table.now.kinds }
-    requires whole { IsWhole table.now }
+    requires forms { scene.now.forms.now ≡ map form_of scene.now.table.now.kinds }
+    requires whole { IsWhole scene.now.table.now }
     requires knows { Knows scene.now.definitions.now (map plain_inst before.now) }
     requires number { length before.now < 4294967296 }
     requires fits { at < length scene.now.image.now }
     // What is answered is what the words from there on spell.
-    ensures read { IfOk result (λ r. IsInstruction table.now (map plain_inst before.now) (plain_inst r.inst) (between scene.now.image.now at r.end)) }
+    ensures read { IfOk result (λ r. IsInstruction scene.now.table.now (map plain_inst before.now) (plain_inst r.inst) (between scene.now.image.now at r.end)) }
     ensures within { IfOk result (λ r. (at < r.end) × (r.end ≤ length scene.now.image.now)) }
     // A fault is the death of the instruction there.
-    ensures dead { IfErr result (λ e. IsDeadFrom table.now (map plain_inst before.now) scene.now.image.now (length before.now) at e) }
+    ensures dead { IfErr result (λ e. IsDeadFrom scene.now.table.now (map plain_inst before.now) scene.now.image.now (length before.now) at e) }
 {
     let head = word(scene.image, at);
     let count = head / 65536;
@@ -183,7 +183,7 @@ pub fn read_instruction<'t, 'a>(
     if count > scene.image.len() - at {
         return Err(fault_at(before, Rule::I2, at));
     }
-    let Some(entry) = table.entry(opcode) else {
+    let Some(entry) = scene.table.entry(opcode) else {
         return Err(fault_at(before, Rule::I3, at));
     };
     let place = Place {
@@ -192,7 +192,7 @@ pub fn read_instruction<'t, 'a>(
         first: at + 1,
         end: at + count,
     };
-    let operands = read_operands(alloc, scene, table, agenda, entry, place)?;
+    let operands = read_operands(alloc, scene, agenda, entry, place)?;
     Ok(Read {
         inst: Inst { opcode, operands },
         end: place.end,
@@ -205,12 +205,7 @@ mod tests {
 
     #[test]
     fn knows_the_first_type_and_id(rt: HostRuntime) {
-        let none = Known {
-            opcode: 61,
-            type_id: None,
-            first: None,
-        };
-        let one = known_after(none, &[], &Operand::OfType(2));
+        let one = known_after(Known::new(61), &[], &Operand::OfType(2));
         let two = known_after(one, &[Operand::OfType(2)], &Operand::Result(9));
         assert_eq!(rt; two.type_id, Some(2));
         assert_eq!(rt; two.first, Some(2));

@@ -6,7 +6,7 @@ use spv_words::Header;
 use std::alloc::{AllocError, AllocFailed, Global};
 use thiserror::Error;
 
-/// A growth of memory was refused.
+/// A growth of memory was refused. It is the one error of `Module::push`.
 #[derive(Clone, Copy, Debug, PartialEq, Eq, Error)]
 #[error("out of memory")]
 pub struct Memory;
@@ -23,23 +23,30 @@ impl<T: Drop> From<AllocFailed<T>> for Memory {
     }
 }
 
-/// An instruction.
+/// An instruction (SPIR-V Specification 1.6, section 2.3), whatever its operands: `decode` answers those alone that words
+/// spell by the grammar table, and `encode` refuses the others.
 #[derive(Debug, Drop)]
 pub struct Inst<'a> {
+    /// The low half of its first word.
     pub opcode: u16,
+    /// Its operands, in the order of its further words.
     pub operands: Vec<Operand<'a>>,
 }
 
-/// A header and a list of instructions.
+/// A header and a list of instructions (SPIR-V Specification 1.6, section 2.3).
 #[derive(Debug, Drop)]
 pub struct Module<'a> {
+    /// Words 1 to 4: the version, the generator, the bound of ids and the schema.
     pub header: Header,
+    /// The instructions in order. They are numbered from 0.
     pub insts: Vec<Inst<'a>>,
+    /// Where the operands of an instruction that is added are kept.
     alloc: Global,
 }
 
 impl<'a> Module<'a> {
-    /// The module of a header with no instruction. It takes no memory.
+    /// A module with that header and no instruction. It takes no memory, and asks nothing of the header: `encode` refuses
+    /// one that does not fit.
     pub fn new(alloc: Global, header: Header) -> Module<'a>
         ensures header { result.header ≡ header }
         ensures insts { plain_insts result ≡ [] }
@@ -50,7 +57,9 @@ impl<'a> Module<'a> {
             alloc,
         }
     }
-    /// Adds an instruction of that opcode, with those operands in order, at the end of the list.
+
+    /// Adds an instruction of that opcode, with those operands in order, at the end of the list. It asks nothing of them:
+    /// `encode` refuses those that no words spell.
     ///
     /// `Memory` comes only where a growth of memory was refused, and then nothing has changed.
     pub fn push(&mut self, opcode: u16, operands: &[Operand<'a>]) -> Result<(), Memory>

@@ -1,6 +1,6 @@
 ghost use Rattle.std.specs.Prelude.{◌≡◌, ◌≤◌, ◌<◌, ◌-◌, ℕ, [], length, take, IfOk, IfErr};
 ghost use Rattle.spv_grammar.specs.Table.{Table};
-ghost use Rattle.spv_inst.specs.Known.{IsAt};
+ghost use Rattle.spv_inst.specs.Known.{IsNear};
 ghost use Rattle.spv_inst.specs.Operand.{Context};
 ghost use Rattle.spv_inst.specs.Width as width;
 ghost use Rattle.spv_inst.specs.Shape.{AsNumber};
@@ -9,26 +9,32 @@ ghost use Rattle.spv_inst.specs.Refusal.{Refuses};
 ghost use Rattle.spv_inst.specs.Module.{plain_operand};
 ghost use Rattle.spv_inst.specs.Reading.{between, parameter_kinds};
 
+use crate::definitions::Definitions;
 use crate::fault::Rule;
 use crate::operand::Operand;
-use crate::reader::{Known, Refusal, Scene, Taken};
+use crate::reader::{Known, Refusal, Taken};
 use spv_words::{Image, word};
 
-/// The width of a LiteralContextDependentNumber, in bits: that of the instruction's result type. None where the operands
-/// so far have no result type, or where no OpTypeInt or OpTypeFloat before declares its width.
-pub fn context_width(scene: &Scene, known: Known) -> Option<u32>
-    ensures { (c : Context) → IsAt scene.now known c → result ≡ width.context_width c }
+/// The opcode of OpSwitch.
+pub const SWITCH: u16 = 251;
+
+/// The width of a LiteralContextDependentNumber, in bits: that of the instruction's result type (SPIR-V Specification 1.6,
+/// section 2.2.1). None where the operands so far have no result type, or where its last definition is no OpTypeInt or
+/// OpTypeFloat with a width from 1 to 64.
+pub fn context_width(definitions: &Definitions, known: Known) -> Option<u32>
+    ensures { (c : Context) → IsNear definitions.now known c → result ≡ width.context_width c }
 {
-    scene.definitions.width(known.type_id?)
+    definitions.width(known.type_id?)
 }
 
-/// The width of a literal of OpSwitch, in bits: that of the type of the first operand, the selector. None where the
-/// first operand is no id, has no type, or where no OpTypeInt or OpTypeFloat before declares the type's width.
-pub fn switch_width(scene: &Scene, known: Known) -> Option<u32>
-    ensures { (c : Context) → IsAt scene.now known c → result ≡ width.switch_width c }
+/// The width of a literal of OpSwitch, in bits: that of the type of the first operand, the selector (SPIR-V Specification
+/// 1.6, section 3, OpSwitch). None where the first operand is no id or has no type, or where the type's last definition is
+/// no OpTypeInt or OpTypeFloat with a width from 1 to 64.
+pub fn switch_width(definitions: &Definitions, known: Known) -> Option<u32>
+    ensures { (c : Context) → IsNear definitions.now known c → result ≡ width.switch_width c }
 {
-    let type_id = scene.definitions.type_id(known.first?)?;
-    scene.definitions.width(type_id)
+    let type_id = definitions.type_id(known.first?)?;
+    definitions.width(type_id)
 }
 
 /// Takes a number of a width, in bits, at the front of the words from `at` up to `end`, of which there is one at least.
@@ -51,10 +57,7 @@ pub fn take_number<'a>(
 {
     let low = word(image, at);
     match width {
-        None => Err(Refusal {
-            rule: Rule::I11,
-            word: 0,
-        }),
+        None => Err(Refusal::new(Rule::I11, 0)),
         Some(bits) => {
             if bits <= 32 {
                 let operand = Operand::Number {
@@ -65,10 +68,7 @@ pub fn take_number<'a>(
                 return Ok(Taken { operand, words: 1 });
             }
             if end - at < 2 {
-                return Err(Refusal {
-                    rule: Rule::I4,
-                    word: 1,
-                });
+                return Err(Refusal::new(Rule::I4, 1));
             }
             let operand = Operand::Number {
                 low,

@@ -1,8 +1,8 @@
-ghost use Rattle.std.specs.Prelude.{◌≡◌, ◌≤◌, ◌<◌, ◌-◌, ℕ, length, IfOk, IfErr};
+ghost use Rattle.std.specs.Prelude.{◌≡◌, ◌≤◌, ◌<◌, ◌-◌, ℕ, None, length, IfOk, IfErr};
 ghost use Rattle.spv_grammar.specs.Table.{kind_of};
 ghost use Rattle.spv_inst.specs.declared.form.Form.TheVariants.{Leaf as LeafForm};
 ghost use Rattle.spv_inst.specs.Form.{form_at};
-ghost use Rattle.spv_inst.specs.Known.{IsAt};
+ghost use Rattle.spv_inst.specs.Known.{IsNear};
 ghost use Rattle.spv_inst.specs.Operand.{Context};
 ghost use Rattle.spv_inst.specs.Reading.{between, TakesFront, RefusesFront};
 
@@ -10,41 +10,57 @@ use crate::definitions::Definitions;
 use crate::enumerant::{take_mask, take_value};
 use crate::fault::Rule;
 use crate::form::{Form, Leaf};
-use crate::number::{context_width, switch_width, take_number};
+use crate::number::{SWITCH, context_width, switch_width, take_number};
 use crate::operand::Operand;
 use crate::text::take_text;
 use spv_grammar::Table;
 use spv_words::{Image, word};
 
-/// What does not change while an instruction is read.
+/// What does not change while an instruction is decoded.
 #[derive(Clone, Copy)]
-pub struct Scene<'t, 'a> {
+pub struct Scene<'t, 'd, 'a> {
     pub table: &'t Table,
-    /// The form of each kind.
-    pub forms: &'t [Form],
-    /// The definitions before the instruction.
-    pub definitions: &'t Definitions,
+    /// The form of each kind (`forms_of`).
+    pub forms: &'d [Form],
+    /// What the instructions before tell of ids.
+    pub definitions: &'d Definitions,
+    /// The whole module.
     pub image: &'a Image,
 }
 
-/// What the widths of numbers need of the operands so far.
+/// What the widths of numbers need of an instruction, as far as it was read or written.
 #[derive(Clone, Copy, Debug, PartialEq, Eq)]
 pub struct Known {
     pub opcode: u16,
-    /// The first result type.
+    /// The id of the result's type, where there is one among the operands so far.
     pub type_id: Option<u32>,
-    /// The id that the first operand is.
+    /// The id that the first operand is. None where there is none so far, or where it is no id.
     pub first: Option<u32>,
 }
 
-/// A kind that is due, and whether it is a base of PairLiteralIntegerIdRef.
+impl Known {
+    /// What is known at the first operand of an instruction: its opcode, and nothing of operands.
+    pub fn new(opcode: u16) -> Known
+        ensures { result ≡ record { opcode = opcode; type_id = None; first = None } }
+    {
+        Known {
+            opcode,
+            type_id: None,
+            first: None,
+        }
+    }
+}
+
+/// A kind that is due.
 #[derive(Clone, Copy, Debug, PartialEq, Eq)]
 pub struct Slot {
+    /// The number of the kind in the grammar table, from 0.
     pub kind: u32,
+    /// Whether it is due as a base of PairLiteralIntegerIdRef.
     pub paired: bool,
 }
 
-/// An operand, and how many words it takes.
+/// An operand that was taken, and how many words it takes.
 #[derive(Clone, Copy, Debug, PartialEq, Eq)]
 pub struct Taken<'a> {
     pub operand: Operand<'a>,
@@ -58,8 +74,15 @@ pub struct Refusal {
     pub word: u32,
 }
 
-/// OpSwitch.
-const SWITCH: u16 = 251;
+impl Refusal {
+    /// The refusal by a rule, at a word counted from the first of those left.
+    pub fn new(rule: Rule, word: u32) -> Refusal
+        ensures rule { result.rule ≡ rule }
+        ensures word { result.word ≡ word }
+    {
+        Refusal { rule, word }
+    }
+}
 
 /// The operand with the one word that it takes.
 fn one_word(operand: Operand) -> Taken
@@ -80,7 +103,7 @@ fn one_word(operand: Operand) -> Taken
 /// one word is left of a number of two; I6 for an unknown value; I7 for a mask with a set bit that no enumerant has; I8,
 /// I9 or I10 for a text (`take_text`); I11 for a number of unknown width; I12 for a kind that nothing spells.
 pub fn take_operand<'a>(
-    scene: &Scene<'_, 'a>,
+    scene: &Scene<'_, '_, 'a>,
     known: Known,
     slot: Slot,
     leaf: Leaf,
@@ -89,17 +112,14 @@ pub fn take_operand<'a>(
 ) -> Result<Taken<'a>, Refusal>
     requires order { at ≤ end }
     requires fits { end ≤ length scene.now.image.now }
-    ensures taken { (c : Context) → IsAt scene.now known c → form_at (kind_of scene.now.table.now slot.kind) ≡ LeafForm leaf
+    ensures taken { (c : Context) → IsNear scene.now.definitions.now known c → form_at (kind_of scene.now.table.now slot.kind) ≡ LeafForm leaf
         → IfOk result (λ t. TakesFront scene.now.table.now c (record { kind = slot.kind; paired = slot.paired }) t.operand t.words (between scene.now.image.now at end)) }
     ensures within { IfOk result (λ t. (0 < t.words) × (t.words ≤ end - at)) }
-    ensures refused { (c : Context) → IsAt scene.now known c → form_at (kind_of scene.now.table.now slot.kind) ≡ LeafForm leaf
+    ensures refused { (c : Context) → IsNear scene.now.definitions.now known c → form_at (kind_of scene.now.table.now slot.kind) ≡ LeafForm leaf
         → IfErr result (λ e. RefusesFront scene.now.table.now c (record { kind = slot.kind; paired = slot.paired }) e.rule e.word (between scene.now.image.now at end)) }
 {
     if at == end {
-        return Err(Refusal {
-            rule: Rule::I4,
-            word: 0,
-        });
+        return Err(Refusal::new(Rule::I4, 0));
     }
     let first = word(scene.image, at);
     match leaf {
@@ -109,17 +129,19 @@ pub fn take_operand<'a>(
         Leaf::Word => Ok(one_word(Operand::Word(first))),
         Leaf::Integer => {
             if slot.paired && known.opcode == SWITCH {
-                return take_number(scene.image, switch_width(scene, known), at, end);
+                return take_number(scene.image, switch_width(scene.definitions, known), at, end);
             }
             Ok(one_word(Operand::Word(first)))
         }
-        Leaf::ContextNumber => take_number(scene.image, context_width(scene, known), at, end),
+        Leaf::ContextNumber => take_number(
+            scene.image,
+            context_width(scene.definitions, known),
+            at,
+            end,
+        ),
         Leaf::Text => take_text(scene.image, at, end),
         Leaf::Value => take_value(scene.table, slot.kind, first),
         Leaf::Mask => take_mask(scene.table, slot.kind, first),
-        Leaf::Nothing => Err(Refusal {
-            rule: Rule::I12,
-            word: 0,
-        }),
+        Leaf::Nothing => Err(Refusal::new(Rule::I12, 0)),
     }
 }

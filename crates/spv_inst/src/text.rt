@@ -15,14 +15,6 @@ use memchr::memchr;
 use simdutf8::basic::from_utf8;
 use spv_words::Image;
 
-/// The refusal by a rule, at a word counted from the first of those left.
-fn refusal(rule: Rule, word: u32) -> Refusal
-    ensures rule { result.rule ≡ rule }
-    ensures word { result.word ≡ word }
-{
-    Refusal { rule, word }
-}
-
 /// Whether each octet is zero.
 fn are_zeros(octets: &[u8]) -> bool
     ensures { IsTrue result ↔ AreZeros octets.now }
@@ -40,21 +32,21 @@ fn text_in(octets: &[u8]) -> Result<Taken<'_>, Refusal>
     ensures refused { IfErr result (λ e. Refuses AsText (words_of Little octets.now) e.rule e.word) }
 {
     if octets.is_empty() {
-        return Err(refusal(Rule::I4, 0));
+        return Err(Refusal::new(Rule::I4, 0));
     }
     let Some(zero) = memchr(0, octets) else {
-        return Err(refusal(Rule::I8, 0));
+        return Err(Refusal::new(Rule::I8, 0));
     };
     let last = zero / 4;
     if !are_zeros(&octets[zero + 1..last * 4 + 4]) {
-        return Err(refusal(Rule::I9, last as u32));
+        return Err(Refusal::new(Rule::I9, last as u32));
     }
     match from_utf8(&octets[..zero]) {
         Ok(text) => Ok(Taken {
             operand: Operand::Text(text),
             words: last as u32 + 1,
         }),
-        Err(_) => Err(refusal(Rule::I10, 0)),
+        Err(_) => Err(Refusal::new(Rule::I10, 0)),
     }
 }
 

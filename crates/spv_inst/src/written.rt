@@ -5,43 +5,24 @@ ghost use Rattle.std.specs.List.{AllByRecursion};
 ghost use Rattle.spv_grammar.specs.Table.{kind_of};
 ghost use Rattle.spv_inst.specs.declared.form.Form.TheVariants.{Leaf as LeafForm};
 ghost use Rattle.spv_inst.specs.Form.{form_at};
-ghost use Rattle.spv_inst.specs.Operand.{Context, and_then};
-ghost use Rattle.spv_inst.specs.Operand as plain;
-ghost use Rattle.spv_inst.specs.Width as width;
+ghost use Rattle.spv_inst.specs.Operand.{Context};
 ghost use Rattle.spv_inst.specs.Module.{plain_operand};
 ghost use Rattle.spv_inst.specs.Shape.{shape_of, AsType, AsResult, AsId, AsWord, AsNumber, AsText, AsValue, AsMask};
-ghost use Rattle.spv_inst.specs.declared.definitions.Definitions.{Definitions};
 ghost use Rattle.spv_inst.specs.Reading.{enumerants_at};
 ghost use Rattle.spv_inst.specs.Agenda.{plain_slot};
 ghost use Rattle.spv_inst.specs.Written as written;
-ghost use Rattle.spv_inst.specs.Written.{IsNear, HasText, text_words, operand_words, is_fit, is_without_zero};
+ghost use Rattle.spv_inst.specs.Known.{IsNear};
+ghost use Rattle.spv_inst.specs.Written.{HasText, text_words, operand_words, is_fit, is_without_zero};
 
 use crate::agenda::Asked;
 use crate::definitions::Definitions;
 use crate::enumerant::{knows, knows_bits};
 use crate::form::Leaf;
+use crate::number::{SWITCH, context_width, switch_width};
 use crate::operand::Operand;
 use crate::reader::Known;
 use spv_grammar::Table;
 use std::alloc::AllocError;
-
-/// OpSwitch.
-const SWITCH: u16 = 251;
-
-/// The width of a LiteralContextDependentNumber, in bits: that of the instruction's result type.
-fn context_width(definitions: &Definitions, known: Known) -> Option<u32>
-    ensures { (c : Context) → IsNear definitions.now known c → result ≡ width.context_width c }
-{
-    definitions.width(known.type_id?)
-}
-
-/// The width of a literal of OpSwitch, in bits: that of the type of the first operand.
-fn switch_width(definitions: &Definitions, known: Known) -> Option<u32>
-    ensures { (c : Context) → IsNear definitions.now known c → result ≡ width.switch_width c }
-{
-    let type_id = definitions.type_id(known.first?)?;
-    definitions.width(type_id)
-}
 
 /// Whether a number of a high word, with so many words, has the width, in bits.
 fn fits_width(width: Option<u32>, high: u32, words: u8) -> bool
@@ -59,11 +40,15 @@ fn fits_width(width: Option<u32>, high: u32, words: u8) -> bool
     }
 }
 
-/// Whether a text has no zero octet.
-fn is_text(text: &str) -> bool
-    ensures value { result ≡ is_without_zero text.now }
+/// Tells that a text is UTF-8, in octets. It does nothing: its contract is what is used.
+fn text_is_utf8(text: &str)
     ensures utf8 { IsUtf8 text.now }
     ensures octets { AllByRecursion (λ b. b < 256) text.now }
+{}
+
+/// Whether a text has no zero octet.
+fn is_text(text: &str) -> bool
+    ensures { result ≡ is_without_zero text.now }
 {
     let octets = text.as_bytes();
     !octets.contains(&0)
@@ -149,7 +134,9 @@ fn is_mask(table: &Table, kind: u32, operand: &Operand) -> bool
     }
 }
 
-/// Whether an operand fits the leaf that is due.
+/// Whether an operand fits the leaf that is due: whether it is one that words spell there (SPIR-V Specification 1.6, section
+/// 2.2.1). A number fits by its width, a text if it has no zero octet, a value or a mask if it is of the kind and its
+/// enumerant, or each set bit's, is known.
 pub fn fits(
     table: &Table,
     definitions: &Definitions,
@@ -180,14 +167,12 @@ pub fn fits(
     }
 }
 
-/// Tells that an operand's text is text. It does nothing: its contract is what is used.
+/// Tells that an operand's text is UTF-8, in octets. It does nothing: its contract is what is used.
 pub fn read_text(operand: &Operand)
     ensures { HasText (plain_operand operand.now) }
 {
     match operand {
-        Operand::Text(text) => {
-            let _ = is_text(text);
-        }
+        Operand::Text(text) => text_is_utf8(text),
         _ => {}
     }
 }
@@ -230,7 +215,10 @@ fn push_text(words: &mut Vec<u32>, octets: &[u8]) -> Result<(), AllocError>
     Ok(())
 }
 
-/// Adds the words of an operand. Where memory runs out, nothing is said of what is left.
+/// Adds the words of an operand, wherever it fits: the low word of a number first, and a text with its zero octet, filled up
+/// with zeros to whole words (SPIR-V Specification 1.6, section 2.2.1).
+///
+/// An `AllocError` comes only where a growth of memory was refused, and then nothing is said of what is left.
 pub fn push_operand(words: &mut Vec<u32>, operand: &Operand) -> Result<(), AllocError>
     ensures { OnOk result (words.new.items ≡ words.old.items ++ operand_words (plain_operand operand.now)) }
 {
@@ -256,42 +244,4 @@ pub fn push_operand(words: &mut Vec<u32>, operand: &Operand) -> Result<(), Alloc
         Operand::Text(text) => push_text(words, text.as_bytes())?,
     }
     Ok(())
-}
-
-/// The id of the result's type that an operand is.
-fn type_in(operand: &Operand) -> Option<u32>
-    ensures { result ≡ plain.type_in (plain_operand operand.now ∷ []) }
-{
-    match operand {
-        Operand::OfType(id) => Some(*id),
-        _ => None,
-    }
-}
-
-/// The id that an operand is.
-fn id_in(operand: &Operand) -> Option<u32>
-    ensures { result ≡ width.first_id (plain_operand operand.now ∷ []) }
-{
-    match operand {
-        Operand::OfType(id) | Operand::Result(id) | Operand::Id(id) => Some(*id),
-        _ => None,
-    }
-}
-
-/// What is known after one operand more, the one of that number in its instruction.
-pub fn known_after(known: Known, operand: &Operand, number: usize) -> Known
-    ensures { (definitions : Definitions) (c : Context) → length c.operands ≡ number → IsNear definitions known c → IsNear definitions result (and_then c (plain_operand operand.now)) }
-{
-    Known {
-        opcode: known.opcode,
-        type_id: match known.type_id {
-            Some(id) => Some(id),
-            None => type_in(operand),
-        },
-        first: if number == 0 {
-            id_in(operand)
-        } else {
-            known.first
-        },
-    }
 }

@@ -35,7 +35,7 @@ loop-at-preserved c =
     let a = rw c.deref-in-loop-at.ensures.value at c.in_ok-inst.ensures.read in
     record {
       header = c.loop-at.invariant.header;
-      knows = rw p (c.in_ok-add.ensures (plain_insts c.loop-at.module) c.loop-at.invariant.knows);
+      knows = rw p (c.in_ok-add.ensures.knows (plain_insts c.loop-at.module) c.loop-at.invariant.knows);
       listed = listed_next c.args.table.now c.args.image.now (plain_insts c.loop-at.module) _ (plain_inst c.in_ok-inst.field-0.inst) c.loop-at.at c.in_ok-inst.field-0.end c.loop-at.invariant.listed
           c.in_ok-inst.ensures.within.0 c.in_ok-inst.ensures.within.1 a p;
     }

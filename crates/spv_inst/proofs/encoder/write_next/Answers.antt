@@ -15,7 +15,7 @@ returns-then-not-fits c = λ d n.
     let l = rw c.in-Some.is at c.in_ok-asked.ensures.leaf in
     let e = rw c.in-Some.is at c.in_ok-asked.ensures.due in
     let f = sym (c.fits.ensures d n l) ∙ c.if-not-fits.true in
-    Stuck.unfit s (agenda_due G c.next_leaf.new.agenda) e (shape_is_leaf G d s a.leaf l) (unfit_takes a.slot.kind (shape_of G d s) (plain_operand c.args.operand.now) f)
+    Stuck.unfit s (agenda_due G c.next_leaf.new.self) e (shape_is_leaf G d s a.leaf l) (unfit_takes a.slot.kind (shape_of G d s) (plain_operand c.args.operand.now) f)
 
 pub returns : goal.returns
 returns c = λ d n.
@@ -27,7 +27,7 @@ returns c = λ d n.
     let f = sym (c.fits.ensures d n l) ∙ c.if-not-fits.false in
     record {
       slot = s;
-      rest = agenda_due G c.next_leaf.new.agenda;
+      rest = agenda_due G c.next_leaf.new.self;
       words = operand_words (plain_operand c.args.operand.now);
       leads = e;
       takes = fit_takes G a.slot.kind d a.slot.paired a.leaf (shape_of G d s) (plain_operand c.args.operand.now) (shape_leaf G d s a.leaf a.leaf l refl) c.read_text.ensures f;

@@ -5,21 +5,24 @@ use Rattle.spv_inst.specs.Agenda.{plain_slot, items_of}
 use Rattle.spv_inst.specs.Flat.{due}
 use Rattle.spv_inst.specs.Module.{plain_operands}
 use Rattle.spv_inst.proofs.Shapes.{shape_is_leaf}
-use Rattle.spv_inst.proofs.Progress.{context_at, at_first, at_step, at_stuck, at_done, at_missing, number_is}
+use Rattle.spv_inst.proofs.Contexts.{near_after}
+use Rattle.spv_inst.proofs.Progress.{context_at, at_first, at_step, at_stuck, at_done, at_missing}
 use Rattle.spv_inst.proofs.encoder.write_operands.Goals as goal
 
 pub loop-number-init : goal.loop-number-init
 loop-number-init c = λ before k.
     at_first c.args.setting.now.table.now c.args.setting.now.definitions.now before c.args.inst.now.opcode (map due (items_of c.args.pattern.now)) _ c.args.inst.now.operands.items _ _
-    (record { definitions = k; opcode = refl; type_id = refl; first = refl }) (c.start.ensures c.args.setting.now.table.now) c.clear.ensures.items
+    (rw c.new-known.ensures (record { definitions = k; opcode = refl; type_id = refl; first = refl })) (c.start.ensures c.args.setting.now.table.now) c.clear.ensures.items
 
 pub loop-number-preserved : goal.loop-number-preserved
 loop-number-preserved c = λ before k.
     let a = c.loop-number.invariant before k in
     let s = rw c.if-not-branch.false at (c.in_ok-write_next.ensures (context_at before c.args.inst.now.opcode (plain_operands (take c.loop-number.number c.args.inst.now.operands.items))) a.near) in
     let h : c.loop-number.number < length c.args.inst.now.operands.items = omega arith in
+    let t = rw c.deref.ensures.value at c.known_after-known.ensures.type_id in
+    let f = rw c.deref.ensures.value at c.known_after-known.ensures.first in
     at_step c.args.setting.now.table.now c.args.setting.now.definitions.now before c.args.inst.now.opcode (map due (items_of c.args.pattern.now)) c.args.inst.now.operands.items _ _ _ _ _ _ c.loop-number.number _ _ a h (ap (λ (xs : List Operand). get_or xs c.loop-number.number (code.OfType 0)) c.deref-operand-items.ensures.value) s
-    (c.known_after-known.ensures c.args.setting.now.definitions.now (context_at before c.args.inst.now.opcode (plain_operands (take c.loop-number.number c.args.inst.now.operands.items))) (number_is c.args.inst.now.operands.items c.loop-number.number h) a.near)
+    (near_after _ _ _ (context_at before c.args.inst.now.opcode (plain_operands (take c.loop-number.number c.args.inst.now.operands.items))) _ a.near c.known_after-known.ensures.opcode t f)
 
 pub returns-then-not-branch : goal.returns-then-not-branch
 returns-then-not-branch c = λ before k.

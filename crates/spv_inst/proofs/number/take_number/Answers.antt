@@ -7,10 +7,13 @@ returns-then-bits-le32-clause-taken c = λ k.
 
 pub returns-then-end-at-lt2-clause-refused : goal.returns-then-end-at-lt2-clause-refused
 returns-then-end-at-lt2-clause-refused c =
-    half_refused c.args.width c.in-Some.bits c.args.image.now c.args.at c.args.end c.in-Some.is c.if-bits-le32.false c.requires.order c.if-end-at-lt2.true c.requires.fits
+    rw (c.new-then-end-at-lt2.ensures.rule, c.new-then-end-at-lt2.ensures.word)
+    (half_refused c.args.width c.in-Some.bits c.args.image.now c.args.at c.args.end c.in-Some.is c.if-bits-le32.false c.requires.order c.if-end-at-lt2.true c.requires.fits)
 
 pub returns-in-None-clause-refused : goal.returns-in-None-clause-refused
-returns-in-None-clause-refused c = unknown_refused c.args.width c.args.image.now c.args.at c.args.end c.in-None.is c.requires.order c.requires.fits
+returns-in-None-clause-refused c =
+    rw (c.new.ensures.rule, c.new.ensures.word)
+    (unknown_refused c.args.width c.args.image.now c.args.at c.args.end c.in-None.is c.requires.order c.requires.fits)
 
 pub returns-else-end-at-lt2-clause-taken : goal.returns-else-end-at-lt2-clause-taken
 returns-else-end-at-lt2-clause-taken c = λ k.
