@@ -1,5 +1,4 @@
 pub mod Asking
-pub mod Digits
+pub mod Troubles
 pub mod Verdicts
 pub mod Worked
-pub mod Written

@@ -1,5 +1,5 @@
 -- Worked examples of verdict lines.
-use Rattle.std.proofs.Common.{◌≡◌, ◌++◌, ◌∷◌, [], ℕ, List, codes, refl, arith}
+use Rattle.std.proofs.Common.{◌≡◌, ◌++◌, ◌∷◌, [], ℕ, zero, suc, List, Some, None, false, IsUtf8, codes, take, slice_index, ap, refl, arith, lit≤}
 use Rattle.std.proofs.lemmas.Fmt.{decimal_digit}
 use Rattle.spv_words.specs.Header.{IsFirstBroken, IsModule}
 use Rattle.spv_words.specs.declared.words.Order.TheVariants.{Big}
@@ -7,11 +7,26 @@ use Rattle.spv_words.specs.declared.words.WordError.TheVariants.{W2}
 use Rattle.spv_grammar.specs.Table.{Table}
 use Rattle.spv_inst.specs.Instruction.{end}
 use Rattle.spv_inst.specs.declared.fault.Rule.TheVariants.{I7}
-use Rattle.spv.specs.Verdict.{IsVerdict, refused, valid, fault_line, line_end, valid_line}
+use Rattle.spv_grammar.specs.declared.error.GrammarError.TheVariants.{J1}
+use Rattle.serde_json.specs.Read.{read as read_text}
+use Rattle.serde_json.proofs.OnLiterals.{serde_json_on_literals}
+use Rattle.spv_grammar.specs.Answer.{Gives}
+use Rattle.spv_grammar.specs.Example.{empty_table, empty_tree}
+use Rattle.spv.specs.Example.{empty_grammar}
+use Rattle.spv.specs.Stream.{Begins, Tells}
+use Rattle.spv.specs.Trouble.{IsErrorLine, IsTableOf}
+use Rattle.spv.specs.Trouble.IsErrorLine.{refused as broken}
+use Rattle.spv.specs.Verdict.{IsVerdict, refused, valid, fault_line, line_end, refused_line, valid_line}
 use Rattle.spv.proofs.Verdicts.{refused_is_not_valid}
 
 pub short_bytes : (G : Table) → IsFirstBroken W2 (1 ∷ 2 ∷ 3 ∷ []) → IsVerdict G (1 ∷ 2 ∷ 3 ∷ []) (codes "fault W2" ++ line_end)
 short_bytes G h = refused W2 h
+
+pub short_told : (G : Table) → IsFirstBroken W2 (1 ∷ 2 ∷ 3 ∷ []) → Tells G (1 ∷ 2 ∷ 3 ∷ []) (9 ∷ []) (Some (9 ∷ codes "fault W2" ++ line_end)) false
+short_told G h = record { line = refused_line W2; verdict = refused W2 h; written = refl; answered = (λ b. cc, λ e. absurd (refused_is_not_valid W2 e)) }
+
+pub short_begun : (G : Table) → IsFirstBroken W2 (1 ∷ 2 ∷ 3 ∷ []) → Begins G (1 ∷ 2 ∷ 3 ∷ []) (9 ∷ []) (Some (9 ∷ codes "fault"))
+short_begun G h = record { line = refused_line W2; verdict = refused W2 h; count = 5; fits = lit≤ tt; written = refl }
 
 pub never_valid : (G : Table) (bytes line : List ℕ) → (line ≡ valid_line) → IsFirstBroken W2 bytes
     → ((one other : List ℕ) → IsVerdict G bytes one → IsVerdict G bytes other → one ≡ other) → ¬ (IsVerdict G bytes line)
@@ -22,3 +37,38 @@ header_alone G bytes h = valid (119734787 ∷ 67072 ∷ 7 ∷ 5 ∷ 0 ∷ []) Bi
 
 pub fault_text : fault_line I7 0 9 ≡ codes "fault I7 inst 0 word 9" ++ line_end
 fault_text = rw (decimal_digit 0 (omega arith), decimal_digit 9 (omega arith)) refl
+
+-- a list with another head is no front
+pub other_front : (n x y : ℕ) (xs ys : List ℕ) → ¬ (y ≡ x) → ¬ (y ∷ ys ≡ take n (x ∷ xs))
+other_front zero x y xs ys d e = cc
+other_front (suc n) x y xs ys d e = d (ap (λ (l : List ℕ). slice_index l 0) e)
+
+-- three bytes, whose line is known, have not begun as a valid module
+pub not_begun : (G : Table) (bytes line : List ℕ) → ((other : List ℕ) → IsVerdict G bytes other → other ≡ 102 ∷ line) → ¬ (Begins G bytes [] (Some (codes "valid")))
+not_begun G bytes line one b =
+    let w = b.written in
+    let e : codes "valid" ≡ take b.count b.line = cc in
+    let q : b.line ≡ 102 ∷ line = one b.line b.verdict in
+    other_front b.count 102 118 line (codes "alid") (λ h. omega arith) (rw q at e)
+
+-- the text of two empty lists, and no text at all
+pub empty_utf8 : IsUtf8 empty_grammar
+unfolding lib.Utf8.encode
+empty_utf8 = (empty_grammar, (refl, refl))
+
+pub empty_read : read_text empty_grammar ≡ Some empty_tree
+unfolding serde_json_on_literals
+empty_read = refl
+
+pub nothing_read : read_text [] ≡ None
+unfolding serde_json_on_literals
+nothing_read = refl
+
+pub empty_given : Gives empty_tree empty_table → IsTableOf empty_grammar empty_table
+empty_given g = record { tree = empty_tree; utf8 = empty_utf8; is_tree = empty_read; gives = g }
+
+pub nothing_given : (G : Table) → ¬ (IsTableOf [] G)
+nothing_given G t = let e = t.is_tree in let n = nothing_read in cc
+
+pub nothing_breaks : (failed : Type 0) → IsErrorLine [] failed (codes "error J1" ++ line_end)
+nothing_breaks failed = broken J1 (λ _. nothing_read)

@@ -1,4 +1,5 @@
 pub mod CommandLine
+pub mod Example
 pub mod Stream
 pub mod Text
 pub mod Trouble

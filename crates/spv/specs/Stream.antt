@@ -1,4 +1,4 @@
--- What a check of a stream leaves in the writer.
+-- What a check of a stream leaves in the writer. (Own.)
 use Rattle.std.specs.Prelude.{◌≡◌, ◌↔◌, ◌≤◌, ◌++◌, ℕ, List, Option, Some, IsTrue, Bool, length, take}
 use Rattle.spv_grammar.specs.Table.{Table}
 use Rattle.spv.specs.Verdict.{IsVerdict, valid_line}

@@ -1,4 +1,4 @@
--- A line that is put together in place, and the verdict that it is the text of.
+-- A line that is put together in place, and the verdict that it is the text of. (Own.)
 use Rattle.std.specs.Prelude.{ℕ, List, take, Result, Ok, Err}
 use Rattle.spv_words.specs.declared.words.WordError.{WordError}
 use Rattle.spv_words.specs.declared.words.WordError.TheVariants.{W1, W9}

@@ -1,12 +1,26 @@
--- What a run leaves in its outputs (own).
-use Rattle.std.specs.Prelude.{◌≡◌, ◌≤◌, ◌++◌, ℕ, List, Option, Some, Bool, length, take, codes}
+-- What a run leaves in its outputs, and why it ends without a verdict (own).
+use Rattle.std.specs.Prelude.{◌≡◌, ◌≤◌, ◌++◌, ℕ, List, Option, Some, Bool, IfSome, IsUtf8, length, take, codes}
+use Rattle.std.specs.Io.KnownBytes.{Appends}
+use Rattle.serde_json.specs.Data.{Data}
+use Rattle.serde_json.specs.Read.{read as read_text}
+use Rattle.spv_words.specs.declared.words.WordError.{WordError}
+use Rattle.spv_words.specs.declared.words.WordError.TheVariants.{W9}
+use Rattle.spv_grammar.specs.Answer.{Gives, text_breaks}
 use Rattle.spv_grammar.specs.Table.{Table}
 use Rattle.spv_grammar.specs.declared.error.GrammarError.{GrammarError}
 use Rattle.spv_grammar.specs.declared.error.GrammarError.TheVariants as grammar
-use Rattle.spv.specs.Stream.{Tells}
+use Rattle.spv.specs.Stream.{Begins, Tells}
 use Rattle.spv.specs.declared.program.Trouble.{Trouble}
 use Rattle.spv.specs.declared.program.Trouble.TheVariants as trouble
 use Rattle.spv.specs.Verdict.{line_end}
+
+-- the line that tells want of memory
+abbrev pub memory_line : List ℕ
+memory_line = codes "error memory" ++ line_end
+
+-- the line that tells a failed read or write, and a file that does not open
+abbrev pub file_line : List ℕ
+file_line = codes "error file" ++ line_end
 
 -- the line of a refused grammar file; J8 is want of memory
 abbrev pub grammar_text : GrammarError → List ℕ
@@ -17,14 +31,26 @@ grammar_text grammar.J4 = codes "error J4" ++ line_end
 grammar_text grammar.J5 = codes "error J5" ++ line_end
 grammar_text grammar.J6 = codes "error J6" ++ line_end
 grammar_text grammar.J7 = codes "error J7" ++ line_end
-grammar_text grammar.J8 = codes "error memory" ++ line_end
+grammar_text grammar.J8 = memory_line
 
 -- the line of a trouble
 abbrev pub trouble_text : Trouble → List ℕ
 trouble_text trouble.Use = codes "error use" ++ line_end
-trouble_text trouble.File = codes "error file" ++ line_end
-trouble_text trouble.Memory = codes "error memory" ++ line_end
+trouble_text trouble.File = file_line
+trouble_text trouble.Memory = memory_line
 trouble_text (trouble.Grammar e) = grammar_text e
+
+-- what an error of a check of a stream is told as
+abbrev pub trouble_from : WordError → Trouble
+trouble_from W9 = trouble.Memory
+trouble_from _ = trouble.File
+
+-- The error line of a check whose grammar file has this text, for a reason: the text breaks a code, a read or a write
+-- `failed`, or memory was refused. No clause can tell when memory is refused, so the last stands for itself.
+pub data IsErrorLine (text : List ℕ) (failed : Type 0) : List ℕ → Type 0 where
+  refused : (e : GrammarError) → text_breaks text e → IsErrorLine text failed (grammar_text e)
+  file : failed → IsErrorLine text failed file_line
+  memory : IsErrorLine text failed memory_line
 
 -- A writer that held the bytes `old` now also holds a beginning of the line, and nothing else.
 pub record BeginsWith (line old : List ℕ) (new : Option (List ℕ)) : Type 0 where
@@ -32,7 +58,28 @@ pub record BeginsWith (line old : List ℕ) (new : Option (List ℕ)) : Type 0 w
   pub fits : count ≤ length line
   pub written : new ≡ Some (old ++ take count line)
 
--- A writer that held the bytes `old` now also holds the verdict line of the bytes under some grammar table.
-pub record TellsBySome (bytes old : List ℕ) (new : Option (List ℕ)) (answer : Bool) : Type 0 where
+-- A writer that held the bytes `old`, where they are known, now also holds the line, and nothing else. Where a write
+-- failed, so that the count of its failures, `before`, became another one, it holds a beginning of the line.
+pub record Writes (line : List ℕ) (old new : Option (List ℕ)) (before after : ℕ) : Type 0 where
+  pub whole : after ≡ before → Appends old new line
+  pub begun : IfSome old (λ xs. BeginsWith line xs new)
+
+-- The text of a grammar file is JSON, and its tree gives the table.
+pub record IsTableOf (text : List ℕ) (G : Table) : Type 0 where
+  pub tree : Data
+  pub utf8 : IsUtf8 text
+  pub is_tree : read_text text ≡ Some tree
+  pub gives : Gives tree G
+
+-- A writer that held the bytes `old` now also holds the verdict line of the bytes under the table that the text gives,
+-- and nothing else; the answer tells whether the line is `valid`.
+pub record TellsByText (text bytes old : List ℕ) (new : Option (List ℕ)) (answer : Bool) : Type 0 where
   pub table : Table
-  pub line : Tells table bytes old new answer
+  pub given : IsTableOf text table
+  pub tells : Tells table bytes old new answer
+
+-- A writer that held the bytes `old` now also holds a beginning of that verdict line, and nothing else.
+pub record BeginsByText (text bytes old : List ℕ) (new : Option (List ℕ)) : Type 0 where
+  pub table : Table
+  pub given : IsTableOf text table
+  pub begins : Begins table bytes old new

@@ -118,7 +118,11 @@ pub fn arguments<'a>(alloc: Global, words: &'a [&'a str]) -> Result<Command<'a>,
     command_in(&matches).ok_or(UseError::U1)
 }
 
-/// What `--help` prints. The error is want of memory.
+/// The text that `--help` prints.
+///
+/// # Errors
+///
+/// Where a growth of memory was refused.
 pub fn help(alloc: Global) -> Result<String, AllocError> {
     let mut program = all_words(alloc)?;
     program.render_long_help()

@@ -1,9 +1,17 @@
-//! What follows from the definition of the verdict line.
-ghost use Rattle.std.specs.Prelude.{◌≡◌, ◌++◌, ◌∷◌, [], ℕ, List, codes};
+//! What follows from the definitions of the verdict line and of a grammar file's table. Each function does nothing: its
+//! contract is what is proved.
+ghost use Rattle.std.specs.Prelude.{◌≡◌, ◌++◌, ◌∷◌, [], ℕ, List, Option, Bool, true, false, codes};
 ghost use Rattle.spv_grammar.specs.Table.{Table};
+ghost use Rattle.spv_grammar.specs.Answer.{text_breaks};
+ghost use Rattle.spv_grammar.specs.declared.error.GrammarError.{GrammarError};
 ghost use Rattle.spv_inst.specs.declared.fault.Rule.TheVariants.{I7};
+ghost use Rattle.spv_grammar.specs.Example.{empty_table};
+ghost use Rattle.spv.specs.Example.{empty_grammar};
+ghost use Rattle.spv.specs.Stream.{Begins, Tells};
+ghost use Rattle.spv.specs.Trouble.{BeginsByText, BeginsWith, IsErrorLine, IsTableOf, TellsByText, Writes, file_line, memory_line};
 ghost use Rattle.spv.specs.Verdict.{IsVerdict, fault_line, line_end, valid_line};
 
+use spv_grammar::laws::one_table;
 use spv_inst::{listed_or_dead, one_death};
 
 /// Bytes have one verdict line.
@@ -14,6 +22,15 @@ pub fn one_verdict()
     spv_words::laws::one_refusal();
     one_death();
     listed_or_dead();
+}
+
+/// The text of a grammar file gives at most one table, breaks at most one code, and not both.
+pub fn one_grammar()
+    ensures table { (text : List ℕ) (G H : Table) → IsTableOf text G → IsTableOf text H → G ≡ H }
+    ensures code { (text : List ℕ) (d e : GrammarError) → text_breaks text d → text_breaks text e → d ≡ e }
+    ensures never { (text : List ℕ) (G : Table) (e : GrammarError) → IsTableOf text G → ¬ (text_breaks text e) }
+{
+    one_table();
 }
 
 /// Worked examples.
@@ -28,4 +45,42 @@ pub fn examples()
 {
     spv_words::laws::examples();
     one_verdict();
+}
+
+/// Worked examples of what a check leaves in its writer.
+pub fn stream_examples()
+    // A writer that held the byte 9 got the verdict line of three bytes.
+    ensures tells { (G : Table) → Tells G (1 ∷ 2 ∷ 3 ∷ []) (9 ∷ []) (Some (9 ∷ codes "fault W2" ++ line_end)) false }
+    ensures tells_valid { (G : Table) (new : Option (List ℕ)) → ¬ (Tells G (1 ∷ 2 ∷ 3 ∷ []) [] new true) }
+    // The first five bytes of that line, and of another one.
+    ensures begins { (G : Table) → Begins G (1 ∷ 2 ∷ 3 ∷ []) (9 ∷ []) (Some (9 ∷ codes "fault")) }
+    ensures begins_valid { (G : Table) → ¬ (Begins G (1 ∷ 2 ∷ 3 ∷ []) [] (Some (codes "valid"))) }
+{
+    spv_words::laws::examples();
+    one_verdict();
+}
+
+/// Worked examples of what a run leaves in its outputs.
+pub fn run_examples()
+    // The first five bytes of `error file`, and of another line.
+    ensures begins_with { BeginsWith file_line (9 ∷ []) (Some (9 ∷ codes "error")) }
+    ensures begins_with_another { ¬ (BeginsWith file_line [] (Some (codes "fault"))) }
+    // The line whole, a beginning where a write failed, and nothing where none did.
+    ensures writes { Writes file_line (Some []) (Some file_line) 0 0 }
+    ensures writes_beginning { Writes file_line (Some []) (Some (codes "error")) 0 1 }
+    ensures writes_nothing { ¬ (Writes file_line (Some []) (Some []) 0 0) }
+    // Two empty lists give the table of nothing, and no text at all gives none.
+    ensures table { IsTableOf empty_grammar empty_table }
+    ensures no_table { (G : Table) → ¬ (IsTableOf [] G) }
+    ensures tells { TellsByText empty_grammar (1 ∷ 2 ∷ 3 ∷ []) (9 ∷ []) (Some (9 ∷ codes "fault W2" ++ line_end)) false }
+    ensures tells_nothing { (bytes old : List ℕ) (new : Option (List ℕ)) (answer : Bool) → ¬ (TellsByText [] bytes old new answer) }
+    ensures begins { BeginsByText empty_grammar (1 ∷ 2 ∷ 3 ∷ []) (9 ∷ []) (Some (9 ∷ codes "fault")) }
+    ensures begins_nothing { (bytes old : List ℕ) (new : Option (List ℕ)) → ¬ (BeginsByText [] bytes old new) }
+    // No text at all breaks J1, memory can always be told, and `error file` only after a failed call.
+    ensures refused { IsErrorLine [] ⊥ (codes "error J1" ++ line_end) }
+    ensures memory { (text : List ℕ) → IsErrorLine text ⊥ memory_line }
+    ensures no_failure { (text : List ℕ) → ¬ (IsErrorLine text ⊥ file_line) }
+{
+    spv_grammar::laws::table_examples();
+    stream_examples();
 }

@@ -1,5 +1,7 @@
 //! A line of text that is put together in place, without taking memory.
-ghost use Rattle.std.specs.Prelude.{◌≡◌, ◌≤◌, ◌+◌, ◌++◌, length, drop, decimal};
+ghost use Rattle.std.specs.Prelude.{◌≡◌, ◌≤◌, ◌+◌, ◌++◌, length, decimal};
+
+use itoa::Buffer;
 
 /// A line of at most 48 bytes, more than the longest verdict line has.
 #[derive(Drop)]
@@ -9,26 +11,10 @@ pub struct Line {
     ghost fits: { len ≤ 48 },
 }
 
-/// Puts the decimal digits of a number at the end, and answers where they begin.
-fn put_digits(n: u32, digits: &mut [u8; 10]) -> usize
-    ensures at { result ≤ 10 }
-    ensures text { drop result digits.new ≡ decimal n }
-{
-    let mut at = 9;
-    let mut left = n;
-    while left >= 10 {
-        digits[at] = b'0' + (left % 10) as u8;
-        left /= 10;
-        at -= 1;
-    }
-    digits[at] = b'0' + left as u8;
-    at
-}
-
 impl Line {
     ghost use Rattle.spv.specs.Text.{text_of};
 
-    /// A line that begins with this text.
+    /// The line of this text, of at most 48 bytes.
     pub fn of(text: &[u8]) -> Line
         requires { length text.now ≤ 48 }
         ensures text { text_of result ≡ text.now }
@@ -42,7 +28,7 @@ impl Line {
         line
     }
 
-    /// Adds a text at the end.
+    /// Adds a text at the end, for which there must be room.
     pub fn push(&mut self, text: &[u8])
         requires { self.old.len + length text.now ≤ 48 }
         ensures text { text_of self.new ≡ text_of self.old ++ text.now }
@@ -53,15 +39,14 @@ impl Line {
         self.len = end;
     }
 
-    /// Adds a number at the end, in decimal.
+    /// Adds a number at the end, in decimal. There must be room for ten digits.
     pub fn push_number(&mut self, n: u32)
         requires { self.old.len + 10 ≤ 48 }
         ensures text { text_of self.new ≡ text_of self.old ++ decimal n }
         ensures len { self.new.len ≤ self.old.len + 10 }
     {
-        let mut digits = [0; 10];
-        let start = put_digits(n, &mut digits);
-        self.push(&digits[start..]);
+        let mut digits = Buffer::new();
+        self.push(digits.format(n).as_bytes());
     }
 
     /// The bytes of the line.

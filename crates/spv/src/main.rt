@@ -9,7 +9,6 @@ mod stream;
 #[cfg(test)]
 mod tests;
 mod verdict_line;
-mod writing;
 
 use crate::command_line::{Command, UseError, arguments, help};
 use crate::program::{Trouble, report, run};

@@ -1,12 +1,17 @@
 //! What the program does once its words are read and its files are open.
-ghost use Rattle.std.specs.Prelude.{◌≡◌, ◌≤◌, ◌==◌, IfOk, IfSome};
-ghost use Rattle.spv.specs.Trouble.{BeginsWith, TellsBySome, grammar_text, trouble_text};
+ghost use Rattle.std.specs.Prelude.{◌≡◌, ◌≢◌, ◌≤◌, ◌⊎◌, ◌↔◌, ◌==◌, ℕ, List, IfOk, IfErr, IfSome, IsErr, IsErrOf};
+ghost use Rattle.spv_grammar.specs.Answer.{text_breaks};
+ghost use Rattle.spv_grammar.specs.declared.error.GrammarError.{GrammarError};
+ghost use Rattle.spv_grammar.specs.declared.error.GrammarError.TheVariants.{J8};
+ghost use Rattle.spv.specs.Stream.{Begins, Tells};
+ghost use Rattle.spv.specs.Trouble.{BeginsByText, IsErrorLine, TellsByText, Writes, file_line, grammar_text, memory_line, trouble_from, trouble_text};
+ghost use Rattle.spv.specs.declared.program.Trouble.TheVariants.{File, Grammar, Memory};
 
 use crate::command_line::Command;
+use crate::laws::one_grammar;
 use crate::stream::check_stream;
-use crate::writing::write_all;
 use spv_grammar::{GrammarError, Table};
-use spv_words::{Sink, Source, WordError};
+use spv_words::{Sink, Source, WordError, write_all};
 use std::alloc::Global;
 
 /// Why the program ends with the exit status 2.
@@ -52,9 +57,35 @@ fn grammar_line(error: GrammarError) -> &'static [u8]
 
 /// Writes the line of a trouble. Where that fails too, there is nowhere left to tell it, and a beginning was written.
 pub fn report<E: Sink>(trouble: Trouble, err: &mut E)
-    ensures { IfSome (E.contents err.old) (λ old. BeginsWith (trouble_text trouble) old (E.contents err.new)) }
+    ensures { Writes (trouble_text trouble) (E.contents err.old) (E.contents err.new) (E.failures err.old) (E.failures err.new) }
 {
     let _ = write_all(trouble_line(trouble), err);
+}
+
+/// What an error of a check is told as: want of memory, or else a failed read or write.
+fn stream_trouble(code: WordError) -> Trouble
+    ensures { result ≡ trouble_from code }
+{
+    match code {
+        WordError::W9 => Trouble::Memory,
+        _ => Trouble::File,
+    }
+}
+
+/// Judges the module by a table: whether it is valid.
+fn judged<S: Source, W: Sink>(
+    alloc: Global,
+    table: &Table,
+    file: &mut S,
+    out: &mut W,
+) -> Result<bool, Trouble>
+    ensures verdict { IfSome (S.remaining file.old) (λ bytes. IfSome (W.contents out.old) (λ old. IfOk result (λ valid. Tells table.now bytes old (W.contents out.new) valid))) }
+    ensures failed { ((S.failures file.new ≢ S.failures file.old) ⊎ (W.failures out.new ≢ W.failures out.old)) ↔ IsErrOf result File }
+    ensures only { IfErr result (λ t. (t ≡ File) ⊎ (t ≡ Memory)) }
+    ensures unwritten { IsErr result → W.failures out.new ≡ W.failures out.old → out.new ≡ out.old }
+    ensures begun { W.failures out.new ≢ W.failures out.old → IfSome (S.remaining file.old) (λ bytes. IfSome (W.contents out.old) (λ old. Begins table.now bytes old (W.contents out.new))) }
+{
+    check_stream(alloc, table, file, out).map_err(stream_trouble)
 }
 
 /// Judges the grammar file, and then the module: whether it is valid.
@@ -64,13 +95,17 @@ fn checked<S: Source, W: Sink>(
     file: &mut S,
     out: &mut W,
 ) -> Result<bool, Trouble>
-    ensures { IfSome (S.remaining file.old) (λ bytes. IfSome (W.contents out.old) (λ old. IfOk result (λ valid. TellsBySome bytes old (W.contents out.new) valid))) }
+    ensures verdict { IfSome (S.remaining file.old) (λ bytes. IfSome (W.contents out.old) (λ old. IfOk result (λ valid. TellsByText grammar.now bytes old (W.contents out.new) valid))) }
+    ensures failed { ((S.failures file.new ≢ S.failures file.old) ⊎ (W.failures out.new ≢ W.failures out.old)) ↔ IsErrOf result File }
+    ensures reason { IfErr result (λ t. IsErrorLine grammar.now ((S.failures file.new ≢ S.failures file.old) ⊎ (W.failures out.new ≢ W.failures out.old)) (trouble_text t)) }
+    ensures refused { (e : GrammarError) → text_breaks grammar.now e → (file.new ≡ file.old) × (out.new ≡ out.old) × (IsErrOf result (Grammar e) ⊎ IsErrOf result (Grammar J8)) }
+    ensures unwritten { IsErr result → W.failures out.new ≡ W.failures out.old → out.new ≡ out.old }
+    ensures begun { W.failures out.new ≢ W.failures out.old → IfSome (S.remaining file.old) (λ bytes. IfSome (W.contents out.old) (λ old. BeginsByText grammar.now bytes old (W.contents out.new))) }
 {
-    let table = Table::from_slice(alloc, grammar).map_err(Trouble::Grammar)?;
-    match check_stream(alloc, &table, file, out) {
-        Ok(valid) => Ok(valid),
-        Err(WordError::W9) => Err(Trouble::Memory),
-        Err(_) => Err(Trouble::File),
+    one_grammar();
+    match Table::from_slice(alloc, grammar) {
+        Ok(table) => judged(alloc, &table, file, out),
+        Err(error) => Err(Trouble::Grammar(error)),
     }
 }
 
@@ -79,7 +114,8 @@ fn checked<S: Source, W: Sink>(
 /// `file` is the module, `out` the standard output, `made` the file that a command makes (`check` makes none), `err` the
 /// standard error. 0: the module is valid. 1: a fault line was written. 2: one line was written to `err`: `error J1` to
 /// `error J7` where the grammar file is refused, which is told first, `error file` where a read or a write failed,
-/// `error memory` where a growth of memory was refused.
+/// `error memory` where a growth of memory was refused. Where the write to `err` fails too, it has got a beginning of
+/// that line, and the status is 2 all the same.
 pub fn run<S: Source, W: Sink, O: Sink, E: Sink>(
     alloc: Global,
     command: &Command,
@@ -90,8 +126,17 @@ pub fn run<S: Source, W: Sink, O: Sink, E: Sink>(
     err: &mut E,
 ) -> u8
     ensures status { result ≤ 2 }
-    // With 0 and 1 the verdict line was written, and 0 goes with `valid` alone.
-    ensures verdict { result ≤ 1 → IfSome (S.remaining file.old) (λ bytes. IfSome (W.contents out.old) (λ old. TellsBySome bytes old (W.contents out.new) (result == 0))) }
+    // With 0 and 1 the verdict line was written, by the table that the grammar file gives, and 0 goes with `valid` alone.
+    ensures verdict { result ≤ 1 → IfSome (S.remaining file.old) (λ bytes. IfSome (W.contents out.old) (λ old. TellsByText grammar.now bytes old (W.contents out.new) (result == 0))) }
+    // With 2 an error line was written to the standard error, and there is a reason for it.
+    ensures error { result ≡ 2 → (line : List ℕ) × IsErrorLine grammar.now ((S.failures file.new ≢ S.failures file.old) ⊎ (W.failures out.new ≢ W.failures out.old)) line × Writes line (E.contents err.old) (E.contents err.new) (E.failures err.old) (E.failures err.new) }
+    // A refused grammar file is told first, before anything is read or written: by its code, or as want of memory.
+    ensures refused { (e : GrammarError) → text_breaks grammar.now e → (result ≡ 2) × (file.new ≡ file.old) × (out.new ≡ out.old) × (Writes (grammar_text e) (E.contents err.old) (E.contents err.new) (E.failures err.old) (E.failures err.new) ⊎ Writes memory_line (E.contents err.old) (E.contents err.new) (E.failures err.old) (E.failures err.new)) }
+    // A failed read or write is told by `error file`.
+    ensures failed { (S.failures file.new ≢ S.failures file.old) ⊎ (W.failures out.new ≢ W.failures out.old) → (result ≡ 2) × Writes file_line (E.contents err.old) (E.contents err.new) (E.failures err.old) (E.failures err.new) }
+    // With 2 the standard output is as it was, or, after a failed write to it, has got a beginning of the verdict line.
+    ensures unwritten { result ≡ 2 → W.failures out.new ≡ W.failures out.old → out.new ≡ out.old }
+    ensures begun { W.failures out.new ≢ W.failures out.old → IfSome (S.remaining file.old) (λ bytes. IfSome (W.contents out.old) (λ old. BeginsByText grammar.now bytes old (W.contents out.new))) }
     // `check` makes no file.
     ensures made { made.new ≡ made.old }
     // The standard error gets a line only with the status 2.

@@ -6,10 +6,9 @@ ghost use Rattle.spv.specs.Text.{line_of, refusal_of};
 ghost use Rattle.spv.specs.Stream.{Begins, Tells};
 
 use crate::verdict_line::{Verdict, line_for};
-use crate::writing::write_all;
 use spv_grammar::Table;
 use spv_inst::{Stop, decode};
-use spv_words::{Sink, Source, WordError, read_image};
+use spv_words::{Sink, Source, WordError, read_image, write_all};
 use std::alloc::Global;
 
 /// What the bytes come to that gave no image: W1 and W9 are errors, and the others verdicts.

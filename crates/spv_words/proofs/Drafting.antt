@@ -1,4 +1,4 @@
-use Rattle.std.proofs.Common.{◌≡◌, ◌≤◌, ◌<◌, ◌++◌, ◌%◌, ◌/◌, ◌+◌, ◌*◌, ◌^◌, ◌∙◌, sym, ap, refl, arith, ℕ, List, [], ◌∷◌, length, Result, Ok, Err, is_ok, OnOk, if◌then◌else◌}
+use Rattle.std.proofs.Common.{◌≡◌, ◌≤◌, ◌<◌, ◌++◌, ◌%◌, ◌/◌, ◌+◌, ◌*◌, ◌^◌, ap, refl, arith, ℕ, List, [], ◌∷◌, length, Result, Ok, Err, is_ok, OnErr, OnOk, if◌then◌else◌}
 use Rattle.std.specs.List.{All}
 use Rattle.spv_words.proofs.Groups.{length-words_of}
 use Rattle.spv_words.proofs.Standing.{words-stand}
@@ -26,6 +26,10 @@ pub pushed : {T E : Type 0} (r : Result T E) (old new ys rest words : List ℕ) 
     → new ≡ (if is_ok r then old ++ ys else old) → OnOk r (words_of Little new ≡ words ++ w ∷ [])
 pushed (Ok x) old new ys rest words w h g v e none i = rw (i, words_of-append old ys g, one_word w ys rest h e none, v) refl
 pushed (Err x) old new ys rest words w h g v e none i = tt
+
+pub unpushed : {T E : Type 0} (r : Result T E) (old new ys words : List ℕ) → words_of Little old ≡ words → new ≡ (if is_ok r then old ++ ys else old) → OnErr r (words_of Little new ≡ words)
+unpushed (Ok x) old new ys words v i = tt
+unpushed (Err x) old new ys words v i = rw i v
 
 -- the bytes of a header and of no more words than a module has are an image's
 pub finished : (bs words : List ℕ) → All (λ b. b < 256) bs → length bs % 4 ≡ 0 → words_of Little bs ≡ words → IsHeader words → length words ≤ 4194304 → IsImage bs

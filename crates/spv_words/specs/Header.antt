@@ -66,17 +66,17 @@ place_of code.W7 = 7
 place_of code.W8 = 1
 place_of code.W9 = 0
 
--- The bytes break what the code asks, and keep what each code before it asks.
+-- The bytes break what the code asks, and keep what each code before it asks. [own]
 pub record IsFirstBroken (e : WordError) (bytes : List ℕ) : Type 0 where
   pub broken : ¬ Keeps e bytes
   pub before : (d : WordError) → place_of d < place_of e → Keeps d bytes
 
--- What an error says of the bytes of a reader: W1 and W9 nothing, any other that it is the first broken.
+-- What an error says of the bytes of a reader: W1 and W9 nothing, any other that it is the first broken. [own]
 abbrev pub Refuses : WordError → List ℕ → Type 0
 Refuses code.W1 bytes = Unit {0}
 Refuses code.W9 bytes = Unit {0}
 Refuses e bytes = IsFirstBroken e bytes
 
--- What an image keeps: little-endian bytes that are a module's.
+-- What an image keeps: little-endian bytes that are a module's. [own]
 abbrev pub IsImage : List ℕ → Type 0
 IsImage bytes = IsModule Little bytes (words_of Little bytes)

@@ -11,7 +11,7 @@ pub record Fits (version schema bound : ℕ) : Type 0 where
   pub bound_least : 1 ≤ bound
   pub bound_most : bound ≤ greatest_bound
 
--- They break what the code asks, and nothing before it.
+-- They break what the code asks, and nothing before it. [own]
 abbrev pub Breaks : WordError → ℕ → ℕ → ℕ → Type 0
 Breaks code.W5 version schema bound = version ≢ version_number
 Breaks code.W6 version schema bound = (version ≡ version_number) × (schema ≢ 0)

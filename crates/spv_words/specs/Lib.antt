@@ -1,4 +1,5 @@
 pub mod Count
+pub mod Example
 pub mod Header
 pub mod HeaderTest
 pub mod Streams

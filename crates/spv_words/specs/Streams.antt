@@ -1,4 +1,4 @@
--- What reading and writing an image leave.
+-- What reading and writing an image leave. (Own.)
 use Rattle.std.specs.Prelude.{◌≡◌, ◌≤◌, ℕ, List, ◌++◌, length, take, drop, Option, Some}
 use Rattle.spv_words.specs.Words.{Stands}
 use Rattle.spv_words.specs.declared.words.Order.{Order}

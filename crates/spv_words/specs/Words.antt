@@ -14,12 +14,12 @@ pub record Stands (o : Order) (bytes words : List ℕ) : Type 0 where
   pub whole : length bytes ≡ 4 * length words
   pub each : (k : ℕ) → k < length words → slice_index words k ≡ word_of o (slice_index bytes (4 * k)) (slice_index bytes (4 * k + 1)) (slice_index bytes (4 * k + 2)) (slice_index bytes (4 * k + 3))
 
--- The words of the whole groups of four bytes: where there are only such, the bytes stand for them (`words_stand`).
+-- The words of the whole groups of four bytes: where there are only such, the bytes stand for them (`words_stand`). (Own.)
 abbrev pub words_of : Order → List ℕ → List ℕ
 words_of o (a ∷ b ∷ c ∷ d ∷ rest) = word_of o a b c d ∷ words_of o rest
 words_of o _ = []
 
--- Each group of four bytes back to front.
+-- Each group of four bytes back to front. (Own.)
 abbrev pub turned : List ℕ → List ℕ
 turned (a ∷ b ∷ c ∷ d ∷ rest) = d ∷ c ∷ b ∷ a ∷ turned rest
 turned _ = []

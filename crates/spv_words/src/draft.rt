@@ -1,4 +1,4 @@
-ghost use Rattle.std.specs.Prelude.{◌≡◌, ◌≤◌, ◌<◌, ◌^◌, ◌++◌, ◌∷◌, [], length, All, OnOk};
+ghost use Rattle.std.specs.Prelude.{◌≡◌, ◌≤◌, ◌<◌, ◌^◌, ◌++◌, ◌∷◌, [], length, All, OnErr, OnOk};
 ghost use Rattle.spv_words.specs.Header.{IsHeader};
 
 use crate::image::Image;
@@ -42,7 +42,7 @@ impl Draft {
         }
     }
 
-    /// The number of words.
+    /// The number of words so far.
     #[tactic(auto, using(crate::proofs::Groups::images))]
     pub fn len(&self) -> usize
         ensures { result ≡ length self.now }
@@ -50,16 +50,22 @@ impl Draft {
         self.bytes.len() / 4
     }
 
-    /// Adds a word at the end. A refused growth of memory leaves the words as they were.
+    /// Adds a word at the end.
+    ///
+    /// # Errors
+    ///
+    /// Where a growth of memory was refused. The words are then as they were.
     pub fn push(&mut self, word: u32) -> Result<(), AllocError>
-        ensures { OnOk result (self.new ≡ self.old ++ word ∷ []) }
+        ensures ok { OnOk result (self.new ≡ self.old ++ word ∷ []) }
+        ensures err { OnErr result (self.new ≡ self.old) }
     {
         let mut octets = [0u8; 4];
         LittleEndian::write_u32(&mut octets, word);
         self.bytes.extend_from_slice(&octets)
     }
 
-    /// The image of the words. It takes no memory.
+    /// The image of the words, of which the first five are a header that fits (2.3), and which are at
+    /// most 4,194,304. It takes no memory.
     pub fn finish(self) -> Image
         requires header { IsHeader self }
         requires size { length self ≤ 4194304 }

@@ -30,7 +30,7 @@ impl Model for Image {
 }
 
 impl Image {
-    /// The image that little-endian bytes stand for. It takes no memory.
+    /// The image of a module's bytes, the lowest byte of each word first. (2.3) It takes no memory.
     pub fn from_octets(octets: Vec<u8>) -> Image
         requires { IsImage octets.items }
         ensures { result ≡ words_of Little octets.items }
@@ -78,7 +78,7 @@ impl Image {
     }
 }
 
-/// The nth word of an image, from 0.
+/// The nth word of an image, counted from 0, the words of the header too. (2.3)
 #[tactic(auto, using(crate::proofs::Groups::images))]
 #[inline(always)]
 pub fn word(image: &Image, n: u32) -> u32

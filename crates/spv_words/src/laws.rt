@@ -1,15 +1,29 @@
 //! Laws of the definitions, and worked examples. Each function does nothing: its contract is what
 //! is proved.
 
-ghost use Rattle.std.specs.Prelude.{◌≡◌, ◌<◌, ◌%◌, ◌-◌, ◌^◌, ℕ, List, [], ◌∷◌, Some, Ok, Err, length, All};
+ghost use Rattle.std.specs.Prelude.{◌≡◌, ◌<◌, ◌*◌, ◌%◌, ◌-◌, ◌^◌, ℕ, List, [], ◌∷◌, Some, Ok, Err, length, All};
 ghost use Rattle.spv_words.specs.Count.{counted};
-ghost use Rattle.spv_words.specs.Streams.{Holds, GaveAtMost};
+ghost use Rattle.spv_words.specs.Example.{big_header, header_words, little_header};
+ghost use Rattle.spv_words.specs.Streams.{Holds, GaveAtMost, IsStop};
 ghost use Rattle.spv_words.specs.Words.{Stands, words_of, turned};
-ghost use Rattle.spv_words.specs.Header.{IsModule, IsFirstBroken, IsHeader};
+ghost use Rattle.spv_words.specs.Header.{greatest_bound, greatest_size, magic_number, version_number, IsModule, IsFirstBroken, IsHeader, IsImage, Keeps, Refuses, Tells};
+ghost use Rattle.spv_words.specs.HeaderTest.{Breaks, Fits};
 ghost use Rattle.spv_words.specs.declared.words.Order.{Order};
 ghost use Rattle.spv_words.specs.declared.words.Order.TheVariants.{Little, Big};
 ghost use Rattle.spv_words.specs.declared.words.WordError.{WordError};
-ghost use Rattle.spv_words.specs.declared.words.WordError.TheVariants.{W2, W3, W7};
+ghost use Rattle.spv_words.specs.declared.words.WordError.TheVariants.{W2, W3, W4, W6, W7, W8, W9};
+
+use crate::limits::{GREATEST_BOUND, GREATEST_LENGTH, GREATEST_SIZE, MAGIC_NUMBER, VERSION};
+
+/// The constants are the numbers of the definitions.
+pub fn constants()
+    ensures magic { MAGIC_NUMBER ≡ magic_number }
+    ensures version { VERSION ≡ version_number }
+    ensures bound { GREATEST_BOUND ≡ greatest_bound }
+    ensures size { GREATEST_SIZE ≡ greatest_size }
+    // A word has four bytes.
+    ensures words { 4 * GREATEST_LENGTH ≡ greatest_size }
+{}
 
 /// Bytes stand for at most one list of words in an order, and are a module's in at most one order.
 pub fn one_word_list()
@@ -52,6 +66,48 @@ pub fn examples()
     ensures size_first { IsFirstBroken W2 (1 ∷ 2 ∷ 3 ∷ []) }
     ensures size_second { ¬ (IsFirstBroken W3 (1 ∷ 2 ∷ 3 ∷ [])) }
 {}
+
+/// Worked examples of words and turned groups.
+pub fn word_examples()
+    // A fifth byte is in no whole group.
+    ensures little { words_of Little (1 ∷ 2 ∷ 3 ∷ 4 ∷ 5 ∷ []) ≡ 67305985 ∷ [] }
+    ensures big { words_of Big (1 ∷ 2 ∷ 3 ∷ 4 ∷ 5 ∷ []) ≡ 16909060 ∷ [] }
+    ensures none { words_of Big (1 ∷ 2 ∷ 3 ∷ []) ≡ [] }
+    ensures other { ¬ (words_of Big (1 ∷ 2 ∷ 3 ∷ 4 ∷ []) ≡ 67305985 ∷ []) }
+    // Each group is turned by itself.
+    ensures groups { turned (1 ∷ 2 ∷ 3 ∷ 4 ∷ 5 ∷ 6 ∷ 7 ∷ 8 ∷ []) ≡ 4 ∷ 3 ∷ 2 ∷ 1 ∷ 8 ∷ 7 ∷ 6 ∷ 5 ∷ [] }
+    ensures whole { ¬ (turned (1 ∷ 2 ∷ 3 ∷ 4 ∷ 5 ∷ 6 ∷ 7 ∷ 8 ∷ []) ≡ 8 ∷ 7 ∷ 6 ∷ 5 ∷ 4 ∷ 3 ∷ 2 ∷ 1 ∷ []) }
+{}
+
+/// Worked examples of what bytes keep and break.
+pub fn header_examples()
+    // The bytes tell their words in one order alone, and only those in Little are an image's.
+    ensures tells { Tells Big big_header header_words }
+    ensures tells_other { (ws : List ℕ) → ¬ (Tells Little big_header ws) }
+    ensures image { IsImage little_header }
+    ensures no_image { ¬ (IsImage big_header) }
+    // Whole groups of four, the magic number and the bound.
+    ensures keeps_groups { Keeps W3 (1 ∷ 2 ∷ 3 ∷ 4 ∷ []) }
+    ensures breaks_groups { ¬ (Keeps W3 (1 ∷ 2 ∷ 3 ∷ [])) }
+    ensures keeps_magic { Keeps W4 big_header }
+    ensures breaks_magic { ¬ (Keeps W4 (1 ∷ 2 ∷ 3 ∷ 4 ∷ [])) }
+    ensures keeps_bound { Keeps W7 big_header }
+    ensures breaks_bound { ¬ (Keeps W7 (7 ∷ 35 ∷ 2 ∷ 3 ∷ 0 ∷ 1 ∷ 6 ∷ 0 ∷ 0 ∷ 0 ∷ 0 ∷ 7 ∷ 0 ∷ 0 ∷ 0 ∷ 0 ∷ 0 ∷ 0 ∷ 0 ∷ 0 ∷ [])) }
+    // Three bytes are refused by W2 and not by W3; W9 says nothing of the bytes.
+    ensures refuses { Refuses W2 (1 ∷ 2 ∷ 3 ∷ []) }
+    ensures refuses_later { ¬ (Refuses W3 (1 ∷ 2 ∷ 3 ∷ [])) }
+    ensures refuses_memory { (bytes : List ℕ) → Refuses W9 bytes }
+    // Version 1.6, schema 0 and bound 5; then a bound of 0; then a schema of 1 before it.
+    ensures fits { Fits 67072 0 5 }
+    ensures no_bound { ¬ (Fits 67072 0 0) }
+    ensures schema_first { Breaks W6 67072 1 0 }
+    ensures bound_second { ¬ (Breaks W7 67072 1 0) }
+    // Too many bytes stop the reading, too few do not.
+    ensures stops { IsStop W8 }
+    ensures goes_on { ¬ (IsStop W2) }
+{
+    examples();
+}
 
 /// Worked examples of what streams do.
 pub fn stream_examples()

@@ -8,22 +8,11 @@ ghost use Rattle.spv_words.specs.declared.words.Order.TheVariants.{Little, Big};
 ghost use Rattle.spv_words.specs.declared.words.WordError.TheVariants.{W1, W8, W9};
 
 use crate::image::Image;
+use crate::limits::{GREATEST_BOUND, GREATEST_SIZE, MAGIC_NUMBER, VERSION};
 use crate::order::{turn, word_in};
 use crate::stream::Source;
 use crate::words::{Order, WordError};
 use std::alloc::{AllocError, Global};
-
-/// Word 0 of a module. (2.3)
-const MAGIC_NUMBER: u32 = 0x0723_0203;
-
-/// Word 1 of a module: version 1.6. (2.3)
-const VERSION_1_6: u32 = 0x0001_0600;
-
-/// The greatest bound. (own)
-const GREATEST_BOUND: u32 = 4_194_303;
-
-/// The greatest number of bytes of a module. (own)
-const GREATEST_SIZE: usize = 16_777_216;
 
 /// How many bytes are read at a time.
 const BLOCK_SIZE: usize = 65_536;
@@ -85,7 +74,7 @@ fn broken_by(version: u32, schema: u32, bound: u32) -> Option<WordError>
     ensures some { IfSome result (λ e. Breaks e version schema bound) }
     ensures none { IsNone result → Fits version schema bound }
 {
-    if version != VERSION_1_6 {
+    if version != VERSION {
         return Some(WordError::W5);
     }
     if schema != 0 {

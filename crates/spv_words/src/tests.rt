@@ -147,6 +147,20 @@ fn writes_in_either_order(rt: HostRuntime) -> Result<(), Fail> {
 }
 
 #[test]
+fn writes_all_bytes(rt: HostRuntime) -> Result<(), Fail> {
+    for piece in [1, 3, 120] {
+        let mut writer = FromWrite::new(Shelf::new(Vec::new(rt.alloc()), piece));
+        write_all(b"magic", &mut writer)?;
+        write_all(b"", &mut writer)?;
+        write_all(b" number", &mut writer)?;
+        let kept = writer.inner.kept.as_slice();
+        assert_eq!(rt; kept, b"magic number".as_slice(), "pieces of {piece}");
+        assert_eq!(rt; writer.failures, 0);
+    }
+    Ok(())
+}
+
+#[test]
 fn a_failed_write_is_told(rt: HostRuntime) -> Result<(), Fail> {
     let bytes = long_module(rt.alloc(), 100)?;
     let (image, _) = answer(rt.alloc(), &bytes, 100)?;
@@ -220,7 +234,10 @@ fn tells_what_is_wrong(rt: HostRuntime) -> Result<(), Fail> {
 
 #[test]
 fn laws_can_be_called() {
+    laws::constants();
     laws::examples();
+    laws::word_examples();
+    laws::header_examples();
     laws::stream_examples();
     laws::one_word_list();
     laws::one_byte_list();

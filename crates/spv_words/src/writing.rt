@@ -9,14 +9,19 @@ use crate::order::turn_into;
 use crate::stream::Sink;
 use crate::words::{Order, WordError};
 
-/// How many bytes are turned at a time.
+/// How many bytes are turned at a time, a multiple of 4.
 const BLOCK_SIZE: usize = 4096;
 
-/// Writes all the bytes. After a failure a beginning of them was written.
-fn write_all<W: Sink>(bytes: &[u8], w: &mut W) -> Result<(), WordError>
+/// Writes all the bytes, in order. It takes no memory.
+///
+/// # Errors
+///
+/// Only `W1`, where a write failed or took nothing. A beginning of the bytes was then written.
+pub fn write_all<W: Sink>(bytes: &[u8], w: &mut W) -> Result<(), WordError>
     ensures all { OnOk result (Appends (W.contents w.old) (W.contents w.new) bytes.now) }
     ensures begun { IfSome (W.contents w.old) (λ xs. (n : ℕ) × (n ≤ length bytes.now) × (W.contents w.new ≡ Some (xs ++ take n bytes.now))) }
     ensures only { IfErr result (λ e. e ≡ W1) }
+    // The answer is W1 exactly where a write failed.
     ensures count { W.failures w.new ≢ W.failures w.old ↔ IsErrOf result W1 }
     ensures steady { OnOk result (W.failures w.new ≡ W.failures w.old) }
 {

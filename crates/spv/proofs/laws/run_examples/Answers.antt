@@ -1,0 +1,35 @@
+use Rattle.std.proofs.Common.{refl, lit≤, arith}
+use Rattle.spv.specs.Trouble.{memory}
+use Rattle.spv_grammar.specs.Example.{empty_table}
+use Rattle.spv.proofs.Worked.{empty_given, nothing_breaks, nothing_given}
+use Rattle.spv.proofs.laws.run_examples.Goals as goal
+
+pub returns-clause-begins_with : goal.returns-clause-begins_with
+returns-clause-begins_with c = record { count = 5; fits = lit≤ tt; written = refl }
+
+pub returns-clause-writes_beginning : goal.returns-clause-writes_beginning
+returns-clause-writes_beginning c = record { whole = λ e. absurd (omega arith); begun = record { count = 5; fits = lit≤ tt; written = refl } }
+
+pub returns-clause-table : goal.returns-clause-table
+returns-clause-table c = empty_given c.table_examples.ensures.gives
+
+pub returns-clause-no_table : goal.returns-clause-no_table
+returns-clause-no_table c = nothing_given
+
+pub returns-clause-tells : goal.returns-clause-tells
+returns-clause-tells c = record { table = empty_table; given = empty_given c.table_examples.ensures.gives; tells = c.stream_examples.ensures.tells empty_table }
+
+pub returns-clause-tells_nothing : goal.returns-clause-tells_nothing
+returns-clause-tells_nothing c = λ bytes old new answer t. nothing_given t.table t.given
+
+pub returns-clause-begins : goal.returns-clause-begins
+returns-clause-begins c = record { table = empty_table; given = empty_given c.table_examples.ensures.gives; begins = c.stream_examples.ensures.begins empty_table }
+
+pub returns-clause-begins_nothing : goal.returns-clause-begins_nothing
+returns-clause-begins_nothing c = λ bytes old new t. nothing_given t.table t.given
+
+pub returns-clause-refused : goal.returns-clause-refused
+returns-clause-refused c = nothing_breaks ⊥
+
+pub returns-clause-memory : goal.returns-clause-memory
+returns-clause-memory c = λ text. memory
