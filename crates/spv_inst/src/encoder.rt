@@ -24,23 +24,11 @@ use crate::operand::Operand;
 use crate::reader::Known;
 use crate::written::{fits, push_operand, read_text};
 use spv_grammar::{Item, Table};
-use spv_words::{Draft, Header, Image};
+use spv_words::{Draft, GREATEST_BOUND, GREATEST_LENGTH, Header, Image, MAGIC_NUMBER, VERSION};
 use std::alloc::{AllocError, Global};
 
-/// The magic number, word 0 of a module. (2.3)
-const MAGIC_NUMBER: u32 = 119734787;
-
-/// Version 1.6. (2.3)
-const VERSION: u32 = 67072;
-
-/// The greatest bound of ids.
-const GREATEST_BOUND: u32 = 4194303;
-
-/// The greatest number of words of an instruction. (2.3)
-const GREATEST_COUNT: usize = 65535;
-
-/// The greatest number of words of a module.
-const GREATEST_LENGTH: usize = 4194304;
+/// The greatest number of words of an instruction, its first one too. (2.3)
+const GREATEST_COUNT: usize = 65_535;
 
 /// What does not change while an instruction is encoded.
 #[derive(Clone, Copy)]
