@@ -1,12 +1,12 @@
 -- Maps that are filled from the last element of a list to the first, so that the first of a number or a name stays.
-use Rattle.std.proofs.Common.{◌≡◌, ◌≢◌, ℕ, ◌<◌, ◌≤◌, ◌+◌, ◌-◌, ◌^◌, suc, Bool, true, false, cond, nat_eq, List, ◌∷◌, Option, Some, None, option_map, option_and_then, slice_get, length, get_or, set, drop, if◌then◌else◌, refl, sym, ap, ◌∙◌, drop-cons, arith}
-use Rattle.std.specs.List.{find}
+use Rattle.std.proofs.Common.{◌≡◌, ◌≢◌, ℕ, ◌<◌, ◌≤◌, ◌+◌, ◌-◌, suc, Bool, true, false, cond, nat_eq, nat_lt, List, [], ◌∷◌, Option, Some, None, option_map, option_and_then, slice_get, length, get_or, set, drop, if◌then◌else◌, refl, sym, ap, ◌∙◌, drop-cons, arith}
+use Rattle.std.specs.List.{find, position, position_from, position_or_len}
 use Rattle.std.specs.Str.{bytes_eq}
 use Rattle.std.specs.Ordering.{nat_cmp, is_eq}
 use Rattle.std.specs.Cmp.Lexicographic.{nat_list_eq_equiv}
 use Rattle.std.proofs.lemmas.Bool.Decides.{nat_tests}
 use Rattle.std.proofs.lemmas.Grind.{common_steps}
-use Rattle.std.proofs.lemmas.Option.{slice_get_read, slice_get_past}
+use Rattle.std.proofs.lemmas.Option.{slice_get_read}
 use Rattle.spv_grammar.specs.Table.{first_with}
 
 pub front_at : {A : Type 0} (xs : List A) (i : ℕ) (x : A) → 0 < i → i ≤ length xs → x ≡ get_or xs (i - 1) x → drop (i - 1) xs ≡ x ∷ drop i xs
@@ -45,6 +45,37 @@ module _ {A : Type 0} (name : A → List ℕ) (value : A → ℕ) (xs : List A) 
   pub name_step : (old new : Option ℕ) (q : List ℕ) → 0 < i → i ≤ length xs → x ≡ get_or xs (i - 1) x
       → old ≡ option_map value (find (λ a. bytes_eq q (name a)) (drop i xs)) → new ≡ cond (bytes_eq (name x) q) (Some (value x)) old → new ≡ option_map value (find (λ a. bytes_eq q (name a)) (drop (i - 1) xs))
   name_step old new q some within is before now = name_step-by old new q (bytes_eq (name x) q) some within is refl before now
+
+-- the first place, counted from a number
+abbrev place_or_none : {A : Type 0} (p : A → Bool) (n : ℕ) (xs : List A) → Option ℕ
+place_or_none p n xs = cond (nat_lt (position_or_len p xs) (length xs)) (Some (n + position_or_len p xs)) None
+
+later_place : {A : Type 0} (p : A → Bool) (n : ℕ) (x : A) (xs : List A) (same : Bool) → p x ≡ same → position_from p (n + 1) xs ≡ place_or_none p (n + 1) xs → position_from p n (x ∷ xs) ≡ place_or_none p n (x ∷ xs)
+later_place p n x xs true e later = rw e (grind (arith, common_steps))
+later_place p n x xs false e later = rw (e, later) (grind (arith, common_steps))
+
+pub position_from-is : {A : Type 0} (p : A → Bool) (n : ℕ) (xs : List A) → position_from p n xs ≡ place_or_none p n xs
+position_from-is p n [] = refl
+position_from-is p n (x ∷ xs) = later_place p n x xs (p x) refl (position_from-is p (n + 1) xs)
+
+pub position_from-zero : {A : Type 0} (p : A → Bool) (xs : List A) → position_from p 0 xs ≡ position p xs
+position_from-zero p xs = position_from-is p 0 xs ∙ ap (λ n. cond (nat_lt (position_or_len p xs) (length xs)) (Some n) None) (omega arith)
+
+module _ {A : Type 0} (name : A → List ℕ) (xs : List A) (i : ℕ) (x : A) where
+  pub place_step-by : (old new : Option ℕ) (q : List ℕ) (same : Bool) → 0 < i → i ≤ length xs → x ≡ get_or xs (i - 1) x → bytes_eq (name x) q ≡ same
+      → old ≡ position_from (λ a. bytes_eq q (name a)) i (drop i xs) → new ≡ cond same (Some (i - 1)) old → new ≡ position_from (λ a. bytes_eq q (name a)) (i - 1) (drop (i - 1) xs)
+  place_step-by old new q true some within is e before now =
+      let back : bytes_eq q (name x) ≡ true = nat_list_eq_equiv.symm q (name x) ∙ e in
+      rw (now, front_at xs i x some within is, back) refl
+  place_step-by old new q false some within is e before now =
+      let back : bytes_eq q (name x) ≡ false = nat_list_eq_equiv.symm q (name x) ∙ e in
+      let next : i - 1 + 1 ≡ i = omega arith in
+      rw (now, front_at xs i x some within is, back, next) before
+
+  -- the first place of a name, with one more element in front
+  pub place_step : (old new : Option ℕ) (q : List ℕ) → 0 < i → i ≤ length xs → x ≡ get_or xs (i - 1) x
+      → old ≡ position_from (λ a. bytes_eq q (name a)) i (drop i xs) → new ≡ cond (bytes_eq (name x) q) (Some (i - 1)) old → new ≡ position_from (λ a. bytes_eq q (name a)) (i - 1) (drop (i - 1) xs)
+  place_step old new q some within is before now = place_step-by old new q (bytes_eq (name x) q) some within is refl before now
 
 -- a write of a place
 pub dense : (ps : List ℕ) (k v n : ℕ) → k < length ps → Some (get_or (set ps k v) n 0) ≡ (if nat_eq k n then Some v else Some (get_or ps n 0))

@@ -3,3 +3,5 @@ pub mod Hex
 pub mod Firsts
 pub mod Whole
 pub mod Backward
+pub mod Search
+pub mod Elements

@@ -1,9 +1,8 @@
 -- A file that keeps the rules makes a table, and a whole one.
-use Rattle.std.proofs.Common.{◌≡◌, ℕ, ◌<◌, ◌+◌, suc, Bool, true, false, not, ◌&&◌, List, [], ◌∷◌, ◌++◌, Option, Some, None, option_map, option_and_then, is_some, slice_get, length, unwrap_or, cond, nat_lt, ◌^◌, Result, Ok, Err, if◌then◌else◌, refl, sym, ap, ◌∙◌, true≢false, position, arith}
+use Rattle.std.proofs.Common.{◌≡◌, ℕ, ◌<◌, ◌+◌, suc, Bool, true, false, not, ◌&&◌, List, [], ◌∷◌, Option, Some, None, option_map, option_and_then, is_some, slice_get, length, unwrap_or, cond, nat_lt, ◌^◌, Err, if◌then◌else◌, refl, sym, ap, ◌∙◌, true≢false, arith}
 use Rattle.std.specs.List.{list_all, filter, find, position_or_len}
 use Rattle.spv_grammar.specs.declared.table.Category.{Category}
 use Rattle.spv_grammar.specs.declared.table.Category.TheVariants as category
-use Rattle.spv_grammar.specs.declared.table.Quantifier.{Quantifier}
 use Rattle.spv_grammar.specs.declared.table.Enumerant.{Enumerant}
 use Rattle.spv_grammar.specs.declared.error.GrammarError.{GrammarError}
 use Rattle.spv_grammar.specs.declared.error.GrammarError.TheVariants.{J1, J2, J3, J4, J5, J6, J7, J8}

@@ -1,5 +1,5 @@
 -- What a tree answers: the table that it gives, or the least code that it breaks. (Own.)
-use Rattle.std.specs.Prelude.{◌≡◌, ℕ, List, IsUtf8, Bool, Option, Some, None, if◌then◌else◌}
+use Rattle.std.specs.Prelude.{◌≡◌, ℕ, List, IsUtf8, Option, Some, None, if◌then◌else◌}
 use Rattle.serde_json.specs.Data.{Data}
 use Rattle.serde_json.specs.Read.{read}
 use Rattle.spv_grammar.specs.declared.error.GrammarError.{GrammarError}

@@ -1,8 +1,9 @@
 -- Small parts of a file, for the worked examples.
 use Rattle.std.specs.Prelude.{ℕ, List, [], ◌∷◌, Some, None, codes}
-use Rattle.serde_json.specs.Data.{Data, unsigned, number, string, array, object, no_items, item, no_members, member}
+use Rattle.serde_json.specs.Data.{Data, string, array, object, no_items, no_members, member}
 use Rattle.spv_grammar.specs.declared.table.Category.TheVariants as category
 use Rattle.spv_grammar.specs.declared.table.Quantifier.TheVariants as quantifier
+use Rattle.spv_grammar.specs.declared.table.Enumerant.{Enumerant}
 use Rattle.spv_grammar.specs.declared.file.FileOperand.{FileOperand}
 use Rattle.spv_grammar.specs.declared.file.FileInstruction.{FileInstruction}
 use Rattle.spv_grammar.specs.declared.file.FileEnumerant.{FileEnumerant}
@@ -51,3 +52,43 @@ empty_table = record { kinds = []; entries = [] }
 -- the tree {"kind":"A","quantifier":"?"}
 abbrev pub operand_tree : Data
 operand_tree = object (member (codes "kind") (string (codes "A")) (member (codes "quantifier") (string (codes "?")) no_members))
+
+-- the kind of results, and a composite of some bases
+abbrev pub result_kind : FileKind
+result_kind = record { name = codes "IdResult"; category = Some category.Id; enumerants = []; bases = [] }
+
+abbrev pub composite : List (List ℕ) → FileKind
+composite bases = record { name = codes "C"; category = Some category.Composite; enumerants = []; bases = bases }
+
+abbrev pub file_of_kinds : List FileInstruction → List FileKind → File
+file_of_kinds is kinds = record { instructions = is; kinds = kinds }
+
+-- two enumerants of one value: the first has a quantified parameter of the kind A
+abbrev pub dropped : FileEnumerant
+dropped = record { name = codes "Dropped"; value = Some 1; parameters = record { kind = codes "A"; quantifier = Some quantifier.Maybe } ∷ []; capabilities = [] }
+
+abbrev pub kept : FileEnumerant
+kept = record { name = codes "Kept"; value = Some 1; parameters = []; capabilities = [] }
+
+-- a file of a kind with the two enumerants, and the kind A
+abbrev pub twice_file : File
+twice_file = record { instructions = []; kinds = record { name = codes "Twice"; category = Some category.ValueEnum; enumerants = dropped ∷ kept ∷ []; bases = [] } ∷ a_kind ∷ [] }
+
+-- the two as a table would have them
+abbrev pub dropped_one : Enumerant
+dropped_one = record { name = codes "Dropped"; value = 1; parameters = 1 ∷ []; capabilities = [] }
+
+abbrev pub kept_one : Enumerant
+kept_one = record { name = codes "Kept"; value = 1; parameters = []; capabilities = [] }
+
+-- a table of these two kinds, where the first has some enumerants
+abbrev pub twice_table : List Enumerant → Table
+twice_table es = record { kinds = record { kind = record { name = codes "Twice"; category = category.ValueEnum; bases = [] }; enumerants = es } ∷ record { kind = record { name = codes "A"; category = category.Id; bases = [] }; enumerants = [] } ∷ []; entries = [] }
+
+-- a capability that lists names
+abbrev pub capability : List ℕ → ℕ → List (List ℕ) → Enumerant
+capability name value names = record { name = name; value = value; parameters = []; capabilities = names }
+
+-- a table of the kind Capability: 1 lists nothing, 2 lists 1, 3 lists 2, and 4 lists a name that no capability bears
+abbrev pub capability_table : Table
+capability_table = record { kinds = record { kind = record { name = codes "Capability"; category = category.ValueEnum; bases = [] }; enumerants = capability (codes "A") 1 [] ∷ capability (codes "B") 2 (codes "A" ∷ []) ∷ capability (codes "C") 3 (codes "B" ∷ []) ∷ capability (codes "D") 4 (codes "X" ∷ []) ∷ [] } ∷ []; entries = [] }

@@ -4,14 +4,11 @@ use Rattle.std.specs.List.{list_all, filter}
 use Rattle.std.specs.Int.{is_power_of_two}
 use Rattle.spv_grammar.specs.declared.error.GrammarError.{GrammarError}
 use Rattle.spv_grammar.specs.declared.error.GrammarError.TheVariants.{J8}
-use Rattle.spv_grammar.specs.declared.table.Quantifier.{Quantifier}
-use Rattle.spv_grammar.specs.declared.table.Quantifier.TheVariants as quantifier
 use Rattle.spv_grammar.specs.declared.table.Category.{Category}
 use Rattle.spv_grammar.specs.declared.table.Category.TheVariants as category
 use Rattle.spv_grammar.specs.declared.table.Item.{Item}
 use Rattle.spv_grammar.specs.declared.table.Entry.{Entry}
 use Rattle.spv_grammar.specs.declared.table.Enumerant.{Enumerant}
-use Rattle.spv_grammar.specs.declared.table.Kind.{Kind}
 use Rattle.spv_grammar.specs.declared.file.FileOperand.{FileOperand}
 use Rattle.spv_grammar.specs.declared.file.FileInstruction.{FileInstruction}
 use Rattle.spv_grammar.specs.declared.file.FileEnumerant.{FileEnumerant}
@@ -19,7 +16,7 @@ use Rattle.spv_grammar.specs.declared.file.FileKind.{FileKind}
 use Rattle.spv_grammar.specs.declared.file.File.{File}
 use Rattle.spv_grammar.specs.Table.{Table, Sort}
 use Rattle.spv_grammar.specs.Kinds.{first_kinds, number_in}
-use Rattle.spv_grammar.specs.Rules.{is_one, has_numbers, has_kinds, is_known, has_results, has_bases}
+use Rattle.spv_grammar.specs.Rules.{is_one}
 
 -- what each element of a list makes, in order; nothing if one makes nothing
 abbrev pub all_of : {A B : Type 0} → (A → Option B) → List A → Option (List B)

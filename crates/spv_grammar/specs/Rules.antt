@@ -1,5 +1,5 @@
 -- What a file that was read has to keep, each rule by itself. A file breaks a code where its rule is false. (Own.)
-use Rattle.std.specs.Prelude.{ℕ, Bool, true, false, ◌&&◌, List, [], ◌∷◌, Option, Some, None, is_some, not, ◌||◌, nat_le, nat_lt, length, count_by, codes}
+use Rattle.std.specs.Prelude.{ℕ, Bool, true, false, ◌&&◌, List, [], ◌∷◌, Option, Some, is_some, not, ◌||◌, nat_le, count_by, codes}
 use Rattle.std.specs.List.{list_all}
 use Rattle.std.specs.Str.{bytes_eq}
 use Rattle.spv_grammar.specs.declared.table.Quantifier.{Quantifier}

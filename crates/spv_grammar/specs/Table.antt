@@ -1,5 +1,5 @@
 -- The table that contracts see: lists in the order of the grammar file, and look-ups that answer the first element with a number or a name.
-use Rattle.std.specs.Prelude.{◌≡◌, ◌<◌, ◌^◌, ℕ, List, [], ◌∷◌, Option, Some, None, Bool, true, false, ◌&&◌, not, nat_eq, if◌then◌else◌, map, length, slice_get, option_map, option_and_then}
+use Rattle.std.specs.Prelude.{◌≡◌, ◌<◌, ◌^◌, ℕ, List, [], ◌∷◌, Option, Some, None, Bool, true, false, nat_eq, if◌then◌else◌, map, length, slice_get, option_map}
 use Rattle.std.specs.List.{list_all}
 use Rattle.spv_grammar.specs.declared.table.Entry.{Entry}
 use Rattle.spv_grammar.specs.declared.table.Kind.{Kind}

@@ -1,23 +1,43 @@
 //! Laws of the definitions, and worked examples. Each function does nothing: its contract is what
 //! is proved.
 
-ghost use Rattle.std.specs.Prelude.{◌≡◌, ℕ, [], ◌∷◌, Some, None, codes, true, false};
+ghost use Rattle.std.specs.Prelude.{◌≡◌, ℕ, List, [], ◌∷◌, Some, None, codes, true, false, filter, slice_get, option_map, option_and_then};
 ghost use Rattle.serde_json.specs.Data.{Data, object, no_members};
 ghost use Rattle.spv_grammar.specs.declared.error.GrammarError.{GrammarError};
-ghost use Rattle.spv_grammar.specs.declared.error.GrammarError.TheVariants.{J2, J3, J4, J5};
+ghost use Rattle.spv_grammar.specs.declared.error.GrammarError.TheVariants.{J2, J3, J4, J5, J6, J7};
 ghost use Rattle.spv_grammar.specs.declared.table.Category.TheVariants.{BitEnum, ValueEnum};
 ghost use Rattle.spv_grammar.specs.declared.table.Quantifier.TheVariants.{Maybe};
-ghost use Rattle.spv_grammar.specs.Table.{Table};
+ghost use Rattle.spv_grammar.specs.declared.file.File.{File};
+ghost use Rattle.spv_grammar.specs.declared.file.FileKind.{FileKind};
+ghost use Rattle.spv_grammar.specs.Table.{Table, Sort, entry_of, kind_of, enumerant_of};
+ghost use Rattle.spv_grammar.specs.Lookups.{opcode_named, value_named, number_named, instruction_with, instruction_named, enumerant_with, enumerant_named};
 ghost use Rattle.spv_grammar.specs.File.{quantifier_of, operand_of, bit_value_of, file_of};
 ghost use Rattle.spv_grammar.specs.Kinds.{first_kinds, number_in};
-ghost use Rattle.spv_grammar.specs.Made.{is_kept};
+ghost use Rattle.spv_grammar.specs.Made.{entry_from, enumerant_from, is_kept, sort_from, IsTable};
+ghost use Rattle.spv_grammar.specs.Implied.{Lists, Implied};
 ghost use Rattle.spv_grammar.specs.Answer.{file_breaks, tree_breaks, Gives};
-ghost use Rattle.spv_grammar.specs.Example.{a_kind, b_kind, a_again, once, unknown, instruction, no_opcode, file_with, valued, empty_tree, empty_table, operand_tree};
+ghost use Rattle.spv_grammar.specs.Example.{a_kind, b_kind, a_again, once, unknown, instruction, no_opcode, file_with, valued, empty_tree, empty_table, operand_tree, result_kind, composite, file_of_kinds, twice_file, twice_table, dropped_one, kept_one, capability_table};
 
 /// A tree gives at most one table, and one that gives a table breaks no code.
 pub fn one_table()
     ensures once { (d : Data) (G H : Table) → Gives d G → Gives d H → G ≡ H }
     ensures never { (d : Data) (G : Table) (e : GrammarError) → Gives d G → ¬ (tree_breaks d ≡ Some e) }
+{}
+
+/// The look-ups in a file's table answer what the first elements of the file make.
+pub fn first_elements()
+    ensures entries { (file : File) (G : Table) (opcode : ℕ) → IsTable file G
+        → entry_of G opcode ≡ option_map (λ e. e.1) (option_and_then (entry_from (first_kinds file.kinds)) (instruction_with file.instructions opcode)) }
+    ensures opcodes { (file : File) (G : Table) (name : List ℕ) → IsTable file G
+        → opcode_named G.entries name ≡ option_and_then (λ i. i.opcode) (instruction_named file.instructions name) }
+    ensures numbers { (file : File) (G : Table) (name : List ℕ) → IsTable file G → number_named G name ≡ number_in (first_kinds file.kinds) name }
+    ensures kinds { (file : File) (G : Table) (number : ℕ) → IsTable file G
+        → kind_of G number ≡ option_and_then (sort_from (first_kinds file.kinds)) (slice_get (first_kinds file.kinds) number) }
+    // Of a kind of the file, the enumerants that are not dropped.
+    ensures enumerants { (firsts : List FileKind) (k : FileKind) (s : Sort) (value : ℕ) → sort_from firsts k ≡ Some s
+        → enumerant_of s.enumerants value ≡ option_and_then (enumerant_from firsts) (enumerant_with (filter (is_kept k.category) k.enumerants) value) }
+    ensures values { (firsts : List FileKind) (k : FileKind) (s : Sort) (name : List ℕ) → sort_from firsts k ≡ Some s
+        → value_named s.enumerants name ≡ option_and_then (λ e. e.value) (enumerant_named (filter (is_kept k.category) k.enumerants) name) }
 {}
 
 /// Worked examples of how a file is read.
@@ -49,4 +69,30 @@ pub fn table_examples()
     // The tree of two empty arrays gives the table of nothing; an object without keys gives none.
     ensures gives { Gives empty_tree empty_table }
     ensures no_keys { tree_breaks (object no_members) ≡ Some J2 }
+{}
+
+/// Worked examples of J6 and J7, and of what becomes of an enumerant that is dropped.
+pub fn more_table_examples()
+    // A file whose instruction has a result twice breaks J6, one whose composite has no bases J7.
+    ensures result_twice { file_breaks (file_of_kinds (instruction 1 (once (codes "IdResult") ∷ once (codes "IdResult") ∷ []) ∷ []) (result_kind ∷ [])) ≡ Some J6 }
+    ensures no_bases { file_breaks (file_of_kinds [] (composite [] ∷ [])) ≡ Some J7 }
+    // A result that stands once and a composite of an id break nothing.
+    ensures unbroken { file_breaks (file_of_kinds (instruction 1 (once (codes "IdResult") ∷ []) ∷ []) (result_kind ∷ a_kind ∷ composite (codes "A" ∷ []) ∷ [])) ≡ None }
+    // Of two enumerants of one value the table has the second alone where the first is dropped.
+    ensures kept { IsTable twice_file (twice_table (kept_one ∷ [])) }
+    ensures dropped { ¬ IsTable twice_file (twice_table (dropped_one ∷ kept_one ∷ [])) }
+{}
+
+/// Worked examples of what declared capabilities imply.
+pub fn capability_examples()
+    // 3 lists 2, which lists 1.
+    ensures listed { Lists capability_table 3 2 }
+    ensures implied { Implied capability_table (3 ∷ []) 1 }
+    // 1 lists nothing, so 3 is not implied by it.
+    ensures not_backward { ¬ Implied capability_table (1 ∷ []) 3 }
+    // A declared number is implied though there is no such capability.
+    ensures declared { Implied capability_table (9 ∷ []) 9 }
+    // A name that no capability bears lists nothing, and nor does a table without the kind Capability.
+    ensures unknown_name { (c : ℕ) → ¬ Lists capability_table 4 c }
+    ensures no_kind { (a c : ℕ) → ¬ Lists empty_table a c }
 {}

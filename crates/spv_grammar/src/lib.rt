@@ -3,6 +3,7 @@
 
 mod error;
 mod file;
+mod implied;
 pub mod laws;
 mod listed;
 mod load;
@@ -13,7 +14,7 @@ mod rules;
 mod sort;
 mod table;
 
-pub use error::GrammarError;
+pub use error::{GrammarError, Memory};
 pub use listed::{Listed, Name};
 pub use table::{Category, Entry, Enumerant, Item, Kind, Quantifier, Table};
 

@@ -80,6 +80,8 @@ pub struct Table {
     places: Vec<u32>,
     /// For each name the opcode of the first instruction that bears it.
     opcodes: IndexMap<String, u16>,
+    /// For each name the number of the first kind that bears it.
+    numbers: IndexMap<String, u32>,
 }
 
 impl Model for Table {
@@ -90,14 +92,15 @@ impl Model for Table {
     ghost Value = { Table };
 
     ghost use Rattle.spv_grammar.specs.Table.{IsWhole, first_with};
-    ghost use Rattle.spv_grammar.specs.Lookups.{opcode_named};
+    ghost use Rattle.spv_grammar.specs.Lookups.{opcode_named, number_named};
 
     ghost view = { λ t. record { kinds = t.sorts.items; entries = t.entries.items } };
 
     ghost invariant = { λ t. IsWhole (record { kinds = t.sorts.items; entries = t.entries.items })
         × (length t.places.items ≡ 65536)
         × ((n : ℕ) → n < 65536 → slice_get t.entries.items (slice_index t.places.items n) ≡ first_with (λ e. e.0) n t.entries.items)
-        × ((q : List ℕ) → get_by_text t.opcodes q ≡ opcode_named t.entries.items q) };
+        × ((q : List ℕ) → get_by_text t.opcodes q ≡ opcode_named t.entries.items q)
+        × ((q : List ℕ) → get_by_text t.numbers q ≡ number_named (record { kinds = t.sorts.items; entries = t.entries.items }) q) };
 }
 
 /// A place for each opcode, all of them 4,294,967,295.
@@ -142,11 +145,17 @@ fn opcode_names(
     Ok(opcodes)
 }
 
-/// The place of the first kind of a name.
-fn place_named(sorts: &[Sort], name: &str) -> Option<usize>
-    ensures { result ≡ position (λ s. bytes_eq name.now s.kind.name) sorts.now }
+/// For each name the number of the first kind that bears it.
+fn kind_numbers(alloc: Global, sorts: &[Sort]) -> Result<IndexMap<String, u32>, AllocError>
+    requires { length sorts.now < 2 ^ 32 }
+    ensures { IfOk result (λ m. (q : List ℕ) → get_by_text m q ≡ position (λ s. bytes_eq q s.kind.name) sorts.now) }
 {
-    sorts.iter().position(|s| name == s.kind().name.as_str())
+    let mut numbers = IndexMap::new(alloc);
+    for i in (0..sorts.len()).rev() {
+        let name = String::from_str(alloc, sorts[i].kind().name.as_str())?;
+        numbers.insert(name, i as u32)?;
+    }
+    Ok(numbers)
 }
 
 impl Table {
@@ -166,11 +175,13 @@ impl Table {
         }
         let places = opcode_places(alloc, entries.as_slice())?;
         let opcodes = opcode_names(alloc, entries.as_slice())?;
+        let numbers = kind_numbers(alloc, sorts.as_slice())?;
         Ok(Table {
             sorts,
             entries,
             places,
             opcodes,
+            numbers,
         })
     }
 
@@ -189,8 +200,7 @@ impl Table {
     pub fn kind_named(&self, name: &str) -> Option<u32>
         ensures { result ≡ number_named self.now name.now }
     {
-        let place = place_named(self.sorts.as_slice(), name)?;
-        Some(place as u32)
+        self.numbers.get(name).copied()
     }
 
     /// The enumerant of a kind's value or bit: the first of the file that is not dropped.

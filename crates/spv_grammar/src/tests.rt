@@ -290,6 +290,47 @@ fn enumerants_by_name(rt: HostRuntime) -> Result<(), Fail> {
     Ok(())
 }
 
+/// Capabilities that list one another, one that lists a name that none bears, and another kind with the same names.
+const CAPABILITIES: &str = r#"{"instructions":[],
+"operand_kinds":[
+{"kind":"Other","category":"ValueEnum","enumerants":[
+{"enumerant":"Matrix","value":7},
+{"enumerant":"Shader","value":8,"capabilities":["Geometry"]}]},
+{"kind":"Capability","category":"ValueEnum","enumerants":[
+{"enumerant":"Matrix","value":0},
+{"enumerant":"Shader","value":1,"capabilities":["Matrix"]},
+{"enumerant":"Geometry","value":2,"capabilities":["Shader","Unknown"]},
+{"enumerant":"Left","value":10,"capabilities":["Right"]},
+{"enumerant":"Right","value":11,"capabilities":["Left"]}]}]}"#;
+
+/// The capabilities that declared ones imply, in order.
+fn implied(alloc: Global, table: &Table, declared: &[u32]) -> Result<Vec<u32>, Fail> {
+    let found = table.implied(alloc, declared)?;
+    Ok(found.iter().copied().collect(alloc)?)
+}
+
+#[test]
+fn implied_capabilities(rt: HostRuntime) -> Result<(), Fail> {
+    let table = Table::from_slice(rt.alloc(), CAPABILITIES.as_bytes())?;
+    let all = implied(rt.alloc(), &table, &[2])?;
+    assert_eq!(rt; all.as_slice(), [0, 1, 2].as_slice());
+    let alone = implied(rt.alloc(), &table, &[0])?;
+    assert_eq!(rt; alone.as_slice(), [0].as_slice());
+    let round = implied(rt.alloc(), &table, &[10, 10, 99, 1])?;
+    assert_eq!(rt; round.as_slice(), [0, 1, 10, 11, 99].as_slice());
+    let none = implied(rt.alloc(), &table, &[])?;
+    assert!(rt; none.is_empty());
+    Ok(())
+}
+
+#[test]
+fn implied_without_the_kind(rt: HostRuntime) -> Result<(), Fail> {
+    let table = small(rt.alloc())?;
+    let declared = implied(rt.alloc(), &table, &[6, 1])?;
+    assert_eq!(rt; declared.as_slice(), [1, 6].as_slice());
+    Ok(())
+}
+
 /// The tree of a text gives what the text gives.
 #[test]
 fn trees(rt: HostRuntime) -> Result<(), Fail> {
@@ -348,5 +389,9 @@ fn messages(rt: HostRuntime) -> Result<(), Fail> {
     for (code, message) in told {
         assert_eq!(rt; format!(in rt.alloc(); "{code}")?.as_str(), message);
     }
+    assert_eq!(rt;
+        format!(in rt.alloc(); "{Memory}")?.as_str(),
+        "out of memory"
+    );
     Ok(())
 }

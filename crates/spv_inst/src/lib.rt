@@ -33,6 +33,7 @@ pub use laws::{
     one_listing, one_listing_spelling, one_reading, one_spelling, pattern_examples,
     refusal_examples, same_matches, same_misfits, width_examples,
 };
-pub use module::{Inst, Memory, Module};
+pub use module::{Inst, Module};
 pub use obstacle::{EncodeCode, EncodeError};
 pub use operand::Operand;
+pub use spv_grammar::Memory;

@@ -2,26 +2,9 @@ ghost use Rattle.std.specs.Prelude.{◌≡◌, ◌++◌, ◌∷◌, [], OnOk, On
 ghost use Rattle.spv_inst.specs.Module.{plain_insts, plain_operands};
 
 use crate::operand::Operand;
+use spv_grammar::Memory;
 use spv_words::Header;
-use std::alloc::{AllocError, AllocFailed, Global};
-use thiserror::Error;
-
-/// A growth of memory was refused. It is the one error of `Module::push`.
-#[derive(Clone, Copy, Debug, PartialEq, Eq, Error)]
-#[error("out of memory")]
-pub struct Memory;
-
-impl From<AllocError> for Memory {
-    fn from(_e: AllocError) -> Memory {
-        Memory
-    }
-}
-
-impl<T: Drop> From<AllocFailed<T>> for Memory {
-    fn from(_e: AllocFailed<T>) -> Memory {
-        Memory
-    }
-}
+use std::alloc::Global;
 
 /// An instruction (SPIR-V Specification 1.6, section 2.3), whatever its operands: `decode` answers those alone that words
 /// spell by the grammar table, and `encode` refuses the others.

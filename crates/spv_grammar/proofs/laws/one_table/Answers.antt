@@ -1,11 +1,8 @@
-use Rattle.std.proofs.Common.{◌≡◌, Some, ap, sym, subst, ◌∙◌}
-use Rattle.serde_json.specs.Data.{Data}
-use Rattle.spv_grammar.specs.declared.error.GrammarError.{GrammarError}
+use Rattle.std.proofs.Common.{◌≡◌, ap, sym, subst, ◌∙◌}
 use Rattle.spv_grammar.specs.declared.file.File.{File}
 use Rattle.spv_grammar.specs.Table.{Table}
-use Rattle.spv_grammar.specs.Kinds.{first_kinds}
-use Rattle.spv_grammar.specs.Made.{all_of, entry_from, sort_from, IsTable}
-use Rattle.spv_grammar.specs.Answer.{read_breaks, Gives}
+use Rattle.spv_grammar.specs.Made.{IsTable}
+use Rattle.spv_grammar.specs.Answer.{read_breaks}
 use Rattle.spv_grammar.proofs.Whole.{some_same, not_some}
 use Rattle.spv_grammar.proofs.laws.one_table.Goals as goal
 

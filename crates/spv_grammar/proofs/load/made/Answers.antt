@@ -1,4 +1,4 @@
-use Rattle.std.proofs.Common.{ℕ, Vec, Global, map, ap, ◌∙◌, is_some}
+use Rattle.std.proofs.Common.{ℕ, Vec, Global, ap, ◌∙◌, is_some}
 use Rattle.spv_grammar.specs.declared.table.Entry.{Entry}
 use Rattle.std.proofs.lemmas.Result.{err_from_is_err_and}
 use Rattle.spv_grammar.specs.Table.{Sort}

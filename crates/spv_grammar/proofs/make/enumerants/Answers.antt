@@ -1,4 +1,4 @@
-use Rattle.std.proofs.Common.{◌≡◌, ◌∷◌, [], ◌++◌, Some, arith, ap, ◌∙◌, sym}
+use Rattle.std.proofs.Common.{ap, ◌∙◌, sym}
 use Rattle.spv_grammar.specs.Made.{is_kept, enumerant_from}
 use Rattle.spv_grammar.proofs.Fronts.{keep_step, skip_step}
 use Rattle.spv_grammar.proofs.make.enumerants.Goals as goal

@@ -1,4 +1,4 @@
-use Rattle.std.proofs.Common.{◌≡◌, ◌≤◌, ◌-◌, ℕ, Some, cond, length, ap, ◌∙◌, arith}
+use Rattle.std.proofs.Common.{Some, cond, ap, ◌∙◌, arith}
 use Rattle.indexmap.specs.IndexMap.{get_by_text}
 use Rattle.std.specs.Str.{bytes_eq}
 use Rattle.std.proofs.lemmas.Map.Text.{hash_map_updates_text}

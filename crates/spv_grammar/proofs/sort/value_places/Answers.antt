@@ -1,8 +1,7 @@
-use Rattle.std.proofs.Common.{◌≡◌, ◌≤◌, ◌-◌, ℕ, Some, cond, length, ap, sym, ◌∙◌, get_or, nat_eq, arith}
+use Rattle.std.proofs.Common.{◌-◌, Some, cond, ap, sym, ◌∙◌, get_or, nat_eq, arith}
 use Rattle.spv_grammar.specs.declared.table.Enumerant.{Enumerant}
 use Rattle.std.specs.BTreeMap as tree
 use Rattle.std.specs.Ordering.{nat_cmp}
-use Rattle.std.proofs.lemmas.Grind.{common_steps}
 use Rattle.spv_grammar.proofs.Backward.{first_step, same_number}
 use Rattle.spv_grammar.proofs.sort.value_places.Goals as goal
 

@@ -1,4 +1,4 @@
-use Rattle.std.proofs.Common.{◌≡◌, ◌≤◌, ℕ, drop, length, option_and_then, slice_get}
+use Rattle.std.proofs.Common.{◌≡◌, ℕ, drop, option_and_then, slice_get}
 use Rattle.std.specs.BTreeMap as tree
 use Rattle.std.specs.Ordering.{nat_cmp}
 use Rattle.spv_grammar.specs.Table.{enumerant_of}

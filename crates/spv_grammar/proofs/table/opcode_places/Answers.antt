@@ -1,4 +1,4 @@
-use Rattle.std.proofs.Common.{◌≡◌, ◌≤◌, ◌<◌, ◌-◌, ℕ, Some, if◌then◌else◌, nat_eq, length, get_or, set, slice_get, ap, sym, ◌∙◌, arith}
+use Rattle.std.proofs.Common.{◌≤◌, ◌-◌, ℕ, Some, if◌then◌else◌, nat_eq, length, get_or, set, ap, sym, ◌∙◌, arith}
 use Rattle.spv_grammar.specs.declared.table.Entry.{Entry}
 use Rattle.std.proofs.lemmas.Grind.{common_steps}
 use Rattle.std.proofs.lemmas.Option.{slice_get_past}

@@ -1,8 +1,7 @@
-use Rattle.std.proofs.Common.{◌≡◌, ◌<◌, Some, map, option_map, length, slice_get, ap, sym, refl, ◌∙◌, arith}
+use Rattle.std.proofs.Common.{◌<◌, map, option_map, length, ap, sym, refl, ◌∙◌, arith}
 use Rattle.std.proofs.lemmas.Grind.{common_steps}
 use Rattle.std.proofs.lemmas.Option.{slice_get_read, slice_get-map}
 use Rattle.spv_grammar.specs.Kinds.{bears, kind_named}
-use Rattle.spv_grammar.specs.declared.file.FileKind.{FileKind}
 use Rattle.spv_grammar.proofs.Firsts.{same_numbers, found_at}
 use Rattle.spv_grammar.proofs.numbers.Numbers.kind.Goals as goal
 
