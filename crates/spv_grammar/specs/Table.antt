@@ -1,4 +1,4 @@
--- The table that contracts see: lists in the order of the grammar file, and look-ups that answer the first element with a number or a name.
+-- The table that contracts see: lists in the order of the grammar file, and look-ups that answer the first element with a number or a name. (Own.)
 use Rattle.std.specs.Prelude.{◌≡◌, ◌<◌, ◌^◌, ℕ, List, [], ◌∷◌, Option, Some, None, Bool, true, false, nat_eq, if◌then◌else◌, map, length, slice_get, option_map}
 use Rattle.std.specs.List.{list_all}
 use Rattle.spv_grammar.specs.declared.table.Entry.{Entry}

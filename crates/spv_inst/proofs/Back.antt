@@ -1,5 +1,5 @@
 -- What is encoded is decoded again, and what is decoded is encoded again.
-use Rattle.std.proofs.Common.{◌≡◌, ◌∙◌, ◌≤◌, ◌+◌, ◌-◌, ℕ, List, [], length, drop, refl, sym}
+use Rattle.std.proofs.Common.{◌≡◌, ◌∙◌, ◌-◌, ℕ, List, [], drop, refl, sym}
 use Rattle.spv_words.specs.declared.words.Header.{Header}
 use Rattle.spv_words.specs.Header.{IsHeader}
 use Rattle.spv_grammar.specs.Table.{Table}
