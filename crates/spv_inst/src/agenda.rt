@@ -151,6 +151,7 @@ fn take_of_frame<'t>(
 
 /// Takes the next kind of the open parameter lists, if they have one left. Where memory runs out, nothing is said of
 /// what is left.
+#[inline(always)]
 fn take_parameter<'t>(
     frames: &mut Vec<Frame<'t>>,
     table: &'t Table,
@@ -168,6 +169,7 @@ fn take_parameter<'t>(
 }
 
 /// The next item of a pattern that is due, where words are left (`more`) or not: its kind and the items that are left.
+#[inline(always)]
 fn next_item<'t>(items: &'t [Item], more: bool) -> Option<(u32, &'t [Item])>
     ensures { MatchOption result (settled more (map due (items_of items.now)) ≡ [])
         (λ p. settled more (map due (items_of items.now)) ≡ OneOf (alone p.0) ∷ map due (items_of p.1.now)) }
@@ -211,6 +213,7 @@ impl<'t> Agenda<'t> {
 
     /// Takes the kind that is due, where words are left (`more`) or not. Where memory runs out, nothing is said of what
     /// is left.
+    #[inline(always)]
     fn next_due(&mut self, table: &'t Table, more: bool) -> Result<Option<Slot>, AllocError>
         ensures { IfOk result (λ o. MatchOption o (settled more (agenda_due table.now self.old) ≡ [])
             (λ s. settled more (agenda_due table.now self.old) ≡ OneOf (plain_slot s) ∷ agenda_due table.now self.new)) }
@@ -233,6 +236,7 @@ impl<'t> Agenda<'t> {
     /// Goes from a kind that was due to the leaf that stands in its place: that of the kind itself, or of the first base of
     /// a Composite, whose other bases are due then. A table is read only if a Composite has a base and no base is a
     /// Composite. Where memory runs out, nothing is said of what is left.
+    #[inline(always)]
     fn leaf_of(&mut self, table: &'t Table, forms: &[Form], slot: Slot) -> Result<Asked, AllocError>
         requires { forms.now ≡ map form_of table.now.kinds }
         ensures leaf { IfOk result (λ a. form_at (kind_of table.now a.slot.kind) ≡ LeafForm a.leaf) }
@@ -261,6 +265,7 @@ impl<'t> Agenda<'t> {
     /// where none are. None where nothing is due.
     ///
     /// An `AllocError` comes only where a growth of memory was refused, and then nothing is said of what is left.
+    #[inline(always)]
     pub fn next_leaf(
         &mut self,
         table: &'t Table,
