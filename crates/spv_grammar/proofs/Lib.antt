@@ -5,3 +5,4 @@ pub mod Whole
 pub mod Backward
 pub mod Search
 pub mod Elements
+mod Turns

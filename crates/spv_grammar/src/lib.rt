@@ -5,6 +5,7 @@ mod error;
 mod file;
 mod implied;
 pub mod laws;
+mod lent;
 mod listed;
 mod load;
 mod make;

@@ -2,6 +2,7 @@
 
 ghost use Rattle.std.specs.Prelude.{◌≡◌, ◌≢◌, ◌<◌, ◌^◌, length, None, Some, IfOk, IfErr, IsErrOf, IsUtf8, map};
 ghost use Rattle.serde_json.specs.View.{view};
+ghost use Rattle.json_tree.specs.View.{view as tree_view};
 ghost use Rattle.serde_json.specs.Data.{Data};
 ghost use Rattle.serde_json.specs.Read.{read as read_text};
 ghost use Rattle.spv_grammar.specs.Kinds.{first_kinds};
@@ -15,11 +16,14 @@ use crate::numbers::Numbers;
 use crate::read::read_file;
 use crate::table::Table;
 use crate::{make, rules};
+use bumpalo::Bump;
+use json::Scratch;
+use json_tree::{Refused, Tree};
 use serde_json::Value;
 use std::alloc::Global;
 
 /// The least of J3 to J7 that a file breaks.
-fn broken(numbers: &Numbers, file: &File) -> Option<GrammarError>
+fn broken(numbers: &Numbers<'_>, file: &File<'_>) -> Option<GrammarError>
     requires { numbers.now ≡ first_kinds file.now.kinds }
     ensures { result ≡ file_breaks file.now }
 {
@@ -39,7 +43,7 @@ fn broken(numbers: &Numbers, file: &File) -> Option<GrammarError>
 }
 
 /// The table that an unbroken file makes. The error is want of memory.
-fn made(alloc: Global, numbers: &Numbers, file: &File) -> Result<Table, GrammarError>
+fn made(alloc: Global, numbers: &Numbers<'_>, file: &File<'_>) -> Result<Table, GrammarError>
     requires numbered { numbers.now ≡ first_kinds file.now.kinds }
     requires few { length numbers.now < 2 ^ 32 }
     requires unbroken { file_breaks file.now ≡ None }
@@ -52,7 +56,7 @@ fn made(alloc: Global, numbers: &Numbers, file: &File) -> Result<Table, GrammarE
 }
 
 /// The table that a file makes, or the least of J3 to J7 that it breaks.
-fn from_file(alloc: Global, file: &File) -> Result<Table, GrammarError>
+fn from_file(alloc: Global, file: &File<'_>) -> Result<Table, GrammarError>
     ensures table { IfOk result (λ G. (file_breaks file.now ≡ None) × IsTable file.now G) }
     ensures refused { IfErr result (λ e. e ≢ J8 → file_breaks file.now ≡ Some e) }
 {
@@ -71,8 +75,9 @@ impl Table {
         ensures table { IfOk result (λ G. Gives (view value.now) G) }
         ensures refused { IfErr result (λ e. e ≢ J8 → tree_breaks (view value.now) ≡ Some e) }
     {
-        let file = read_file(alloc, value)?;
-        from_file(alloc, &file)
+        let arena = Bump::new(alloc);
+        let tree = Tree::of(&arena, value)?;
+        from_tree(alloc, &arena, &tree)
     }
 
     /// The table of a grammar file's text.
@@ -83,25 +88,35 @@ impl Table {
         ensures table { IfOk result (λ G. (d : Data) × IsUtf8 text.now × (read_text text.now ≡ Some d) × Gives d G) }
         ensures refused { IfErr result (λ e. e ≢ J8 → text_breaks text.now e) }
     {
-        let value = parse(alloc, text)?;
-        Table::from_value(alloc, &value)
+        let mut scratch = Scratch::new(alloc);
+        let arena = Bump::new(alloc);
+        let tree = parse(&arena, text, &mut scratch)?;
+        from_tree(alloc, &arena, &tree)
     }
 }
 
+/// The table of a tree.
+fn from_tree<'a>(alloc: Global, arena: &'a Bump, tree: &Tree<'a>) -> Result<Table, GrammarError>
+    ensures table { IfOk result (λ G. Gives (tree_view tree.now) G) }
+    ensures refused { IfErr result (λ e. e ≢ J8 → tree_breaks (tree_view tree.now) ≡ Some e) }
+{
+    let file = read_file(arena, tree)?;
+    from_file(alloc, &file)
+}
+
 /// The tree that a text is in JSON: J1 where it is none, and J8 where memory ran out.
-fn parse(alloc: Global, text: &[u8]) -> Result<Value, GrammarError>
-    ensures ok { IfOk result (λ v. IsUtf8 text.now × (read_text text.now ≡ Some (view v))) }
+fn parse<'a>(
+    arena: &'a Bump,
+    text: &'a [u8],
+    scratch: &'a mut Scratch,
+) -> Result<Tree<'a>, GrammarError>
+    ensures ok { IfOk result (λ t. IsUtf8 text.now × (read_text text.now ≡ Some (tree_view t))) }
     ensures none { IsErrOf result J1 → IsUtf8 text.now → read_text text.now ≡ None }
     ensures codes { IfErr result (λ e. e ≢ J1 → e ≡ J8) }
 {
-    match Value::from_slice(alloc, text) {
-        Ok(value) => Ok(value),
-        Err(e) => {
-            if e.is_memory() {
-                Err(GrammarError::J8)
-            } else {
-                Err(GrammarError::J1)
-            }
-        }
+    match Tree::from_slice(arena, text, scratch) {
+        Ok(tree) => Ok(tree),
+        Err(Refused::Memory) => Err(GrammarError::J8),
+        Err(Refused::Invalid) => Err(GrammarError::J1),
     }
 }

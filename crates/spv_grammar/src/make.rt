@@ -8,6 +8,7 @@ ghost use Rattle.spv_grammar.specs.Rules.{is_one};
 
 use crate::error::GrammarError;
 use crate::file::{FileEnumerant, FileInstruction, FileKind, FileOperand};
+use crate::lent::LentName;
 use crate::listed::{Listed, Name};
 use crate::numbers::Numbers;
 use crate::rules::is_one;
@@ -16,7 +17,7 @@ use crate::table::{Category, Entry, Enumerant, Item, Kind};
 use std::alloc::{AllocError, Global};
 
 /// A copy of a list of names.
-fn copy_names(alloc: Global, names: &[Name]) -> Result<Listed<Name>, AllocError>
+fn copy_names(alloc: Global, names: &[LentName<'_>]) -> Result<Listed<Name>, AllocError>
     ensures { IfOk result (λ copy. copy ≡ names.now) }
 {
     let mut found = Vec::with_capacity(alloc, names.len())?;
@@ -27,7 +28,7 @@ fn copy_names(alloc: Global, names: &[Name]) -> Result<Listed<Name>, AllocError>
 }
 
 /// An item of a pattern.
-fn item(numbers: &Numbers, operand: &FileOperand) -> Result<Item, GrammarError>
+fn item(numbers: &Numbers<'_>, operand: &FileOperand<'_>) -> Result<Item, GrammarError>
     ensures { Makes (λ i. i) result (item_of numbers.now operand.now) }
 {
     let Some(kind) = numbers.number(operand.kind.as_str()) else {
@@ -42,8 +43,8 @@ fn item(numbers: &Numbers, operand: &FileOperand) -> Result<Item, GrammarError>
 /// The pattern of an instruction.
 fn items(
     alloc: Global,
-    numbers: &Numbers,
-    operands: &[FileOperand],
+    numbers: &Numbers<'_>,
+    operands: &[FileOperand<'_>],
 ) -> Result<Listed<Item>, GrammarError>
     ensures { Makes (λ l. l) result (all_of (item_of numbers.now) operands.now) }
 {
@@ -57,8 +58,8 @@ fn items(
 /// The entry of an instruction, with its opcode.
 pub(crate) fn entry(
     alloc: Global,
-    numbers: &Numbers,
-    instruction: &FileInstruction,
+    numbers: &Numbers<'_>,
+    instruction: &FileInstruction<'_>,
 ) -> Result<(u16, Entry), GrammarError>
     ensures { Makes (λ e. e) result (entry_from numbers.now instruction.now) }
 {
@@ -81,8 +82,8 @@ pub(crate) fn entry(
 /// The entries of the instructions, in order.
 pub(crate) fn entries(
     alloc: Global,
-    numbers: &Numbers,
-    instructions: &[FileInstruction],
+    numbers: &Numbers<'_>,
+    instructions: &[FileInstruction<'_>],
 ) -> Result<Vec<(u16, Entry)>, GrammarError>
     ensures { Makes (λ v. v.items) result (all_of (entry_from numbers.now) instructions.now) }
 {
@@ -96,8 +97,8 @@ pub(crate) fn entries(
 /// The numbers of the kinds of parameters.
 fn parameters(
     alloc: Global,
-    numbers: &Numbers,
-    operands: &[FileOperand],
+    numbers: &Numbers<'_>,
+    operands: &[FileOperand<'_>],
 ) -> Result<Listed<u32>, GrammarError>
     ensures { Makes (λ l. l) result (all_of (parameter_of numbers.now) operands.now) }
 {
@@ -112,7 +113,11 @@ fn parameters(
 }
 
 /// The numbers of kinds that are named.
-fn bases(alloc: Global, numbers: &Numbers, names: &[Name]) -> Result<Listed<u32>, GrammarError>
+fn bases(
+    alloc: Global,
+    numbers: &Numbers<'_>,
+    names: &[LentName<'_>],
+) -> Result<Listed<u32>, GrammarError>
     ensures { Makes (λ l. l) result (all_of (number_in numbers.now) names.now) }
 {
     let mut found = Vec::with_capacity(alloc, names.len())?;
@@ -128,8 +133,8 @@ fn bases(alloc: Global, numbers: &Numbers, names: &[Name]) -> Result<Listed<u32>
 /// An enumerant, with its parameters' kinds numbered.
 fn enumerant(
     alloc: Global,
-    numbers: &Numbers,
-    enumerant: &FileEnumerant,
+    numbers: &Numbers<'_>,
+    enumerant: &FileEnumerant<'_>,
 ) -> Result<Enumerant, GrammarError>
     ensures { Makes (λ e. e) result (enumerant_from numbers.now enumerant.now) }
 {
@@ -148,7 +153,7 @@ fn enumerant(
 }
 
 /// Whether each parameter comes once.
-fn are_ones(operands: &[FileOperand]) -> bool
+fn are_ones(operands: &[FileOperand<'_>]) -> bool
     ensures { result ≡ list_all (λ o. is_one o.quantifier) operands.now }
 {
     operands.iter().all(|o| is_one(o.quantifier))
@@ -165,7 +170,7 @@ fn is_mask(value: Option<u32>) -> bool
 }
 
 /// Whether an enumerant's value is one that its kind's category keeps.
-fn fits_category(category: Option<Category>, enumerant: &FileEnumerant) -> bool
+fn fits_category(category: Option<Category>, enumerant: &FileEnumerant<'_>) -> bool
     ensures { result ≡ fits_category category enumerant.now }
 {
     match category {
@@ -175,7 +180,7 @@ fn fits_category(category: Option<Category>, enumerant: &FileEnumerant) -> bool
 }
 
 /// Whether an enumerant is not dropped.
-fn is_kept(category: Option<Category>, enumerant: &FileEnumerant) -> bool
+fn is_kept(category: Option<Category>, enumerant: &FileEnumerant<'_>) -> bool
     ensures { result ≡ is_kept category enumerant.now }
 {
     are_ones(enumerant.parameters.as_slice()) && fits_category(category, enumerant)
@@ -184,9 +189,9 @@ fn is_kept(category: Option<Category>, enumerant: &FileEnumerant) -> bool
 /// The enumerants of a kind of this category that are not dropped, in order.
 fn enumerants(
     alloc: Global,
-    numbers: &Numbers,
+    numbers: &Numbers<'_>,
     category: Option<Category>,
-    elements: &[FileEnumerant],
+    elements: &[FileEnumerant<'_>],
 ) -> Result<Vec<Enumerant>, GrammarError>
     ensures { Makes (λ v. v.items) result (all_of (enumerant_from numbers.now) (filter (is_kept category) elements.now)) }
 {
@@ -200,7 +205,7 @@ fn enumerants(
 }
 
 /// A kind with its enumerants.
-fn sort(alloc: Global, numbers: &Numbers, kind: &FileKind) -> Result<Sort, GrammarError>
+fn sort(alloc: Global, numbers: &Numbers<'_>, kind: &FileKind<'_>) -> Result<Sort, GrammarError>
     ensures { Makes (λ s. s) result (sort_from numbers.now kind.now) }
 {
     let Some(category) = kind.category else {
@@ -218,12 +223,12 @@ fn sort(alloc: Global, numbers: &Numbers, kind: &FileKind) -> Result<Sort, Gramm
 }
 
 /// The kinds of the table, in the order of their numbers.
-pub(crate) fn sorts(alloc: Global, numbers: &Numbers) -> Result<Vec<Sort>, GrammarError>
+pub(crate) fn sorts(alloc: Global, numbers: &Numbers<'_>) -> Result<Vec<Sort>, GrammarError>
     ensures { Makes (λ v. v.items) result (all_of (sort_from numbers.now) numbers.now) }
 {
-    let mut found = Vec::new(alloc);
-    for kind in numbers.kinds() {
-        found.push(sort(alloc, numbers, kind)?)?;
+    let mut found = Vec::with_capacity(alloc, numbers.len())?;
+    for number in 0..numbers.len() {
+        found.push(sort(alloc, numbers, numbers.nth(number))?)?;
     }
     Ok(found)
 }

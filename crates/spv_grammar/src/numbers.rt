@@ -1,6 +1,6 @@
 //! Numbers the kinds of a grammar file by their names.
 
-ghost use Rattle.std.specs.Prelude.{◌≡◌, ◌<◌, ◌^◌, length, IfOk, IfErr, map, option_map};
+ghost use Rattle.std.specs.Prelude.{◌≡◌, ◌<◌, ◌^◌, length, slice_get, Some, IfOk, IfErr, map, option_map};
 ghost use Rattle.spv_grammar.specs.Kinds.{first_kinds, number_in, kind_named};
 ghost use Rattle.spv_grammar.specs.declared.error.GrammarError.TheVariants.{J8};
 
@@ -14,7 +14,7 @@ use std::marker::Model;
 #[derive(Drop)]
 pub(crate) struct Numbers<'a> {
     names: IndexSet<&'a str>,
-    kinds: Vec<&'a FileKind>,
+    kinds: Vec<&'a FileKind<'a>>,
 }
 
 impl<'a> Model for Numbers<'a> {
@@ -30,7 +30,7 @@ impl<'a> Model for Numbers<'a> {
 
 impl<'a> Numbers<'a> {
     /// Numbers the kinds. The error is want of memory, or of numbers: there may be 4,294,967,295.
-    pub(crate) fn new(alloc: Global, kinds: &'a [FileKind]) -> Result<Numbers<'a>, GrammarError>
+    pub(crate) fn new(alloc: Global, kinds: &'a [FileKind<'a>]) -> Result<Numbers<'a>, GrammarError>
         ensures numbered { IfOk result (λ n. n ≡ first_kinds kinds.now) }
         ensures few { IfOk result (λ n. length n < 2 ^ 32) }
         ensures memory { IfErr result (λ e. e ≡ J8) }
@@ -60,18 +60,27 @@ impl<'a> Numbers<'a> {
     }
 
     /// The kind that a name means.
-    pub(crate) fn kind(&self, name: &str) -> Option<&FileKind>
+    pub(crate) fn kind(&self, name: &str) -> Option<&FileKind<'a>>
         ensures { option_map (λ k. k.now) result ≡ kind_named self.now name.now }
     {
         let place = self.names.get_index_of(name)?;
-        let kind: &FileKind = self.kinds[place];
+        let kind: &FileKind<'a> = self.kinds[place];
         Some(kind)
     }
 
-    /// The kinds, in the order of their numbers.
-    pub(crate) fn kinds(&self) -> &[&'a FileKind]
-        ensures { map (λ k. k.now) result.now ≡ self.now }
+    /// How many kinds there are.
+    pub(crate) fn len(&self) -> usize
+        ensures { result ≡ length self.now }
     {
-        self.kinds.as_slice()
+        self.kinds.len()
+    }
+
+    /// The kind of a number.
+    pub(crate) fn nth(&self, number: usize) -> &FileKind<'a>
+        requires { number < length self.now }
+        ensures { slice_get self.now number ≡ Some result.now }
+    {
+        let kind: &FileKind<'a> = self.kinds[number];
+        kind
     }
 }

@@ -2,42 +2,28 @@
 
 ghost use Rattle.std.specs.Prelude.{◌≡◌, ◌<◌, ◌≤◌, length, IfSome, option_map};
 ghost use Rattle.serde_json.specs.Find.{as_str};
-ghost use Rattle.serde_json.specs.View.{view, items_view};
-ghost use Rattle.spv_grammar.specs.File.{Reads, each, text_at, items_at, optional_items_at, quantifier_of, quantifier_at, operand_of, operands_at, capabilities_at, opcode_at, instruction_of, hex_digit_of, hex_from, bit_value_of, value_at, enumerant_in, enumerants_at, bases_at, category_of, kind_in, file_of};
+ghost use Rattle.json_tree.specs.View.{view, items_view};
+ghost use Rattle.spv_grammar.specs.File.{Reads, each, text_at, items_at, quantifier_of, quantifier_at, operand_of, operands_at, capabilities_at, opcode_at, instruction_of, hex_digit_of, hex_from, bit_value_of, value_at, enumerant_in, enumerants_at, bases_at, category_of, kind_in, file_of};
 
 use crate::error::GrammarError;
 use crate::file::{File, FileEnumerant, FileInstruction, FileKind, FileOperand};
-use crate::listed::{Listed, Name};
+use crate::lent::{Lent, LentName};
 use crate::table::{Category, Quantifier};
-use serde_json::Value;
-use std::alloc::Global;
+use bumpalo::Bump;
+use json_tree::Tree;
 
 /// The text at a key.
-fn text<'a>(value: &'a Value, key: &str) -> Option<&'a str>
+fn text<'a>(value: &Tree<'a>, key: &str) -> Option<&'a str>
     ensures { option_map (λ s. s.now) result ≡ text_at key.now (view value.now) }
 {
     value.get(key)?.as_str()
 }
 
 /// The array at a key.
-fn items<'a>(value: &'a Value, key: &str) -> Option<&'a [Value]>
+fn items<'v, 'a>(value: &'v Tree<'a>, key: &str) -> Option<&'v [Tree<'a>]>
     ensures { option_map (λ s. items_view s.now) result ≡ items_at key.now (view value.now) }
 {
-    let items = value.get(key)?.as_array()?;
-    Some(items.as_slice())
-}
-
-/// The array at a key that may be missing; an empty one then.
-fn optional_items<'a>(value: &'a Value, key: &str) -> Option<&'a [Value]>
-    ensures { option_map (λ s. items_view s.now) result ≡ optional_items_at key.now (view value.now) }
-{
-    match value.get(key) {
-        None => Some(&[]),
-        Some(found) => {
-            let items = found.as_array()?;
-            Some(items.as_slice())
-        }
-    }
+    value.get(key)?.as_array()
 }
 
 /// How often an operand with this text comes; none if it is neither `?` nor `*`.
@@ -52,7 +38,7 @@ fn quantifier(text: &str) -> Option<Quantifier>
 }
 
 /// How often an operand comes: none where the text at `quantifier` is no text.
-fn read_quantifier(value: &Value) -> Option<Option<Quantifier>>
+fn read_quantifier(value: &Tree<'_>) -> Option<Option<Quantifier>>
     ensures { result ≡ quantifier_at (view value.now) }
 {
     match value.get("quantifier") {
@@ -62,7 +48,7 @@ fn read_quantifier(value: &Value) -> Option<Option<Quantifier>>
 }
 
 /// An operand or a parameter.
-fn read_operand(alloc: Global, value: &Value) -> Result<FileOperand, GrammarError>
+fn read_operand<'a>(arena: &'a Bump, value: &Tree<'a>) -> Result<FileOperand<'a>, GrammarError>
     ensures { Reads result (operand_of (view value.now)) }
 {
     let Some(kind) = text(value, "kind") else {
@@ -71,61 +57,80 @@ fn read_operand(alloc: Global, value: &Value) -> Result<FileOperand, GrammarErro
     let Some(quantifier) = read_quantifier(value) else {
         return Err(GrammarError::J2);
     };
-    let kind = Name::from_str(alloc, kind)?;
+    let kind = LentName::of(kind);
     Ok(FileOperand { kind, quantifier })
 }
 
 /// Each operand of an array.
-fn each_operand(alloc: Global, elements: &[Value]) -> Result<Listed<FileOperand>, GrammarError>
+fn each_operand<'a>(
+    arena: &'a Bump,
+    elements: &[Tree<'a>],
+) -> Result<Lent<'a, FileOperand<'a>>, GrammarError>
     ensures { Reads result (each operand_of (items_view elements.now)) }
 {
-    let mut found = Vec::new(alloc);
+    let mut found = Vec::new(arena);
     for element in elements {
-        found.push(read_operand(alloc, element)?)?;
+        found.push(read_operand(arena, element)?)?;
     }
-    Ok(Listed::from_vec(found))
+    Ok(Lent::from_vec(found))
 }
 
 /// The operands at a key that may be missing.
-fn read_operands(
-    alloc: Global,
-    value: &Value,
+fn read_operands<'a>(
+    arena: &'a Bump,
+    value: &Tree<'a>,
     key: &str,
-) -> Result<Listed<FileOperand>, GrammarError>
+) -> Result<Lent<'a, FileOperand<'a>>, GrammarError>
     ensures { Reads result (operands_at key.now (view value.now)) }
 {
-    let Some(elements) = optional_items(value, key) else {
-        return Err(GrammarError::J2);
-    };
-    each_operand(alloc, elements)
+    match value.get(key) {
+        None => Ok(Lent::from_vec(Vec::new(arena))),
+        Some(found) => {
+            let Some(elements) = found.as_array() else {
+                return Err(GrammarError::J2);
+            };
+            each_operand(arena, elements)
+        }
+    }
 }
 
 /// Each name of an array of texts.
-fn each_name(alloc: Global, elements: &[Value]) -> Result<Listed<Name>, GrammarError>
+fn each_name<'a>(
+    arena: &'a Bump,
+    elements: &[Tree<'a>],
+) -> Result<Lent<'a, LentName<'a>>, GrammarError>
     ensures { Reads result (each as_str (items_view elements.now)) }
 {
-    let mut found = Vec::new(alloc);
+    let mut found = Vec::new(arena);
     for element in elements {
         let Some(text) = element.as_str() else {
             return Err(GrammarError::J2);
         };
-        found.push(Name::from_str(alloc, text)?)?;
+        found.push(LentName::of(text))?;
     }
-    Ok(Listed::from_vec(found))
+    Ok(Lent::from_vec(found))
 }
 
 /// The capabilities of an instruction or an enumerant.
-fn read_capabilities(alloc: Global, value: &Value) -> Result<Listed<Name>, GrammarError>
+fn read_capabilities<'a>(
+    arena: &'a Bump,
+    value: &Tree<'a>,
+) -> Result<Lent<'a, LentName<'a>>, GrammarError>
     ensures { Reads result (capabilities_at (view value.now)) }
 {
-    let Some(elements) = optional_items(value, "capabilities") else {
-        return Err(GrammarError::J2);
-    };
-    each_name(alloc, elements)
+    match value.get("capabilities") {
+        None => Ok(Lent::from_vec(Vec::new(arena))),
+        Some(found) => {
+            let Some(elements) = found.as_array() else {
+                return Err(GrammarError::J2);
+            };
+            each_name(arena, elements)
+        }
+    }
 }
 
 /// An opcode; `Some(None)` where the number is out of range.
-fn read_opcode(value: &Value) -> Option<Option<u16>>
+fn read_opcode(value: &Tree<'_>) -> Option<Option<u16>>
     ensures { result ≡ opcode_at (view value.now) }
 {
     let number = value.get("opcode")?.as_number()?;
@@ -136,7 +141,10 @@ fn read_opcode(value: &Value) -> Option<Option<u16>>
 }
 
 /// An instruction.
-fn read_instruction(alloc: Global, value: &Value) -> Result<FileInstruction, GrammarError>
+fn read_instruction<'a>(
+    arena: &'a Bump,
+    value: &Tree<'a>,
+) -> Result<FileInstruction<'a>, GrammarError>
     ensures { Reads result (instruction_of (view value.now)) }
 {
     let Some(name) = text(value, "opname") else {
@@ -145,9 +153,9 @@ fn read_instruction(alloc: Global, value: &Value) -> Result<FileInstruction, Gra
     let Some(opcode) = read_opcode(value) else {
         return Err(GrammarError::J2);
     };
-    let operands = read_operands(alloc, value, "operands")?;
-    let capabilities = read_capabilities(alloc, value)?;
-    let name = Name::from_str(alloc, name)?;
+    let operands = read_operands(arena, value, "operands")?;
+    let capabilities = read_capabilities(arena, value)?;
+    let name = LentName::of(name);
     Ok(FileInstruction {
         name,
         opcode,
@@ -157,17 +165,17 @@ fn read_instruction(alloc: Global, value: &Value) -> Result<FileInstruction, Gra
 }
 
 /// Each instruction of an array.
-fn each_instruction(
-    alloc: Global,
-    elements: &[Value],
-) -> Result<Listed<FileInstruction>, GrammarError>
+fn each_instruction<'a>(
+    arena: &'a Bump,
+    elements: &[Tree<'a>],
+) -> Result<Lent<'a, FileInstruction<'a>>, GrammarError>
     ensures { Reads result (each instruction_of (items_view elements.now)) }
 {
-    let mut found = Vec::new(alloc);
+    let mut found = Vec::new(arena);
     for element in elements {
-        found.push(read_instruction(alloc, element)?)?;
+        found.push(read_instruction(arena, element)?)?;
     }
-    Ok(Listed::from_vec(found))
+    Ok(Lent::from_vec(found))
 }
 
 /// What a hexadecimal digit of either case stands for.
@@ -209,7 +217,7 @@ fn bit_value(text: &str) -> Option<u32>
 }
 
 /// An enumerant's value; `Some(None)` where it is out of range or form.
-fn read_value(category: Category, value: &Value) -> Option<Option<u32>>
+fn read_value(category: Category, value: &Tree<'_>) -> Option<Option<u32>>
     ensures { result ≡ value_at category (view value.now) }
 {
     let found = value.get("value")?;
@@ -223,11 +231,11 @@ fn read_value(category: Category, value: &Value) -> Option<Option<u32>>
 }
 
 /// An enumerant of a kind of this category.
-fn read_enumerant(
-    alloc: Global,
+fn read_enumerant<'a>(
+    arena: &'a Bump,
     category: Category,
-    value: &Value,
-) -> Result<FileEnumerant, GrammarError>
+    value: &Tree<'a>,
+) -> Result<FileEnumerant<'a>, GrammarError>
     ensures { Reads result (enumerant_in category (view value.now)) }
 {
     let Some(name) = text(value, "enumerant") else {
@@ -236,9 +244,9 @@ fn read_enumerant(
     let Some(number) = read_value(category, value) else {
         return Err(GrammarError::J2);
     };
-    let parameters = read_operands(alloc, value, "parameters")?;
-    let capabilities = read_capabilities(alloc, value)?;
-    let name = Name::from_str(alloc, name)?;
+    let parameters = read_operands(arena, value, "parameters")?;
+    let capabilities = read_capabilities(arena, value)?;
+    let name = LentName::of(name);
     Ok(FileEnumerant {
         name,
         value: number,
@@ -248,54 +256,54 @@ fn read_enumerant(
 }
 
 /// Each enumerant of an array, of a kind of this category.
-fn each_enumerant(
-    alloc: Global,
+fn each_enumerant<'a>(
+    arena: &'a Bump,
     category: Category,
-    elements: &[Value],
-) -> Result<Listed<FileEnumerant>, GrammarError>
+    elements: &[Tree<'a>],
+) -> Result<Lent<'a, FileEnumerant<'a>>, GrammarError>
     ensures { Reads result (each (enumerant_in category) (items_view elements.now)) }
 {
-    let mut found = Vec::new(alloc);
+    let mut found = Vec::new(arena);
     for element in elements {
-        found.push(read_enumerant(alloc, category, element)?)?;
+        found.push(read_enumerant(arena, category, element)?)?;
     }
-    Ok(Listed::from_vec(found))
+    Ok(Lent::from_vec(found))
 }
 
 /// The enumerants of a kind: those of an enum category, and none of another.
-fn read_enumerants(
-    alloc: Global,
+fn read_enumerants<'a>(
+    arena: &'a Bump,
     category: Option<Category>,
-    value: &Value,
-) -> Result<Listed<FileEnumerant>, GrammarError>
+    value: &Tree<'a>,
+) -> Result<Lent<'a, FileEnumerant<'a>>, GrammarError>
     ensures { Reads result (enumerants_at category (view value.now)) }
 {
     let category = match category {
         Some(Category::BitEnum) => Category::BitEnum,
         Some(Category::ValueEnum) => Category::ValueEnum,
-        _ => return Ok(Listed::from_vec(Vec::new(alloc))),
+        _ => return Ok(Lent::from_vec(Vec::new(arena))),
     };
     let Some(elements) = items(value, "enumerants") else {
         return Err(GrammarError::J2);
     };
-    each_enumerant(alloc, category, elements)
+    each_enumerant(arena, category, elements)
 }
 
 /// The bases of a kind: those of a Composite, and none of another.
-fn read_bases(
-    alloc: Global,
+fn read_bases<'a>(
+    arena: &'a Bump,
     category: Option<Category>,
-    value: &Value,
-) -> Result<Listed<Name>, GrammarError>
+    value: &Tree<'a>,
+) -> Result<Lent<'a, LentName<'a>>, GrammarError>
     ensures { Reads result (bases_at category (view value.now)) }
 {
     let Some(Category::Composite) = category else {
-        return Ok(Listed::from_vec(Vec::new(alloc)));
+        return Ok(Lent::from_vec(Vec::new(arena)));
     };
     let Some(elements) = items(value, "bases") else {
         return Err(GrammarError::J2);
     };
-    each_name(alloc, elements)
+    each_name(arena, elements)
 }
 
 /// The category that a text names.
@@ -313,7 +321,7 @@ fn category(text: &str) -> Option<Category>
 }
 
 /// A kind of operands.
-fn read_kind(alloc: Global, value: &Value) -> Result<FileKind, GrammarError>
+fn read_kind<'a>(arena: &'a Bump, value: &Tree<'a>) -> Result<FileKind<'a>, GrammarError>
     ensures { Reads result (kind_in (view value.now)) }
 {
     let Some(name) = text(value, "kind") else {
@@ -323,9 +331,9 @@ fn read_kind(alloc: Global, value: &Value) -> Result<FileKind, GrammarError>
         return Err(GrammarError::J2);
     };
     let category = category(category_text);
-    let enumerants = read_enumerants(alloc, category, value)?;
-    let bases = read_bases(alloc, category, value)?;
-    let name = Name::from_str(alloc, name)?;
+    let enumerants = read_enumerants(arena, category, value)?;
+    let bases = read_bases(arena, category, value)?;
+    let name = LentName::of(name);
     Ok(FileKind {
         name,
         category,
@@ -335,18 +343,21 @@ fn read_kind(alloc: Global, value: &Value) -> Result<FileKind, GrammarError>
 }
 
 /// Each kind of an array.
-fn each_kind(alloc: Global, elements: &[Value]) -> Result<Listed<FileKind>, GrammarError>
+fn each_kind<'a>(
+    arena: &'a Bump,
+    elements: &[Tree<'a>],
+) -> Result<Lent<'a, FileKind<'a>>, GrammarError>
     ensures { Reads result (each kind_in (items_view elements.now)) }
 {
-    let mut found = Vec::new(alloc);
+    let mut found = Vec::new(arena);
     for element in elements {
-        found.push(read_kind(alloc, element)?)?;
+        found.push(read_kind(arena, element)?)?;
     }
-    Ok(Listed::from_vec(found))
+    Ok(Lent::from_vec(found))
 }
 
 /// What a grammar file holds; J2 where its tree has not the form.
-pub(crate) fn read_file(alloc: Global, value: &Value) -> Result<File, GrammarError>
+pub(crate) fn read_file<'a>(arena: &'a Bump, value: &Tree<'a>) -> Result<File<'a>, GrammarError>
     ensures { Reads result (file_of (view value.now)) }
 {
     let Some(instructions) = items(value, "instructions") else {
@@ -355,8 +366,8 @@ pub(crate) fn read_file(alloc: Global, value: &Value) -> Result<File, GrammarErr
     let Some(kinds) = items(value, "operand_kinds") else {
         return Err(GrammarError::J2);
     };
-    let instructions = each_instruction(alloc, instructions)?;
-    let kinds = each_kind(alloc, kinds)?;
+    let instructions = each_instruction(arena, instructions)?;
+    let kinds = each_kind(arena, kinds)?;
     Ok(File {
         instructions,
         kinds,

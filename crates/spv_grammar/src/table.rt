@@ -103,17 +103,20 @@ impl Model for Table {
         × ((q : List ℕ) → get_by_text t.numbers q ≡ number_named (record { kinds = t.sorts.items; entries = t.entries.items }) q) };
 }
 
+/// So many places, all of them 4,294,967,295.
+fn filled(alloc: Global, count: usize) -> Result<Vec<u32>, AllocError>
+    ensures len { IfOk result (λ v. length v.items ≡ count) }
+    ensures none { IfOk result (λ v. (n : ℕ) → n < count → slice_index v.items n ≡ 4294967295) }
+{
+    vec![in alloc; u32::MAX; count]
+}
+
 /// A place for each opcode, all of them 4,294,967,295.
 fn no_places(alloc: Global) -> Result<Vec<u32>, AllocError>
     ensures len { IfOk result (λ v. length v.items ≡ 65536) }
     ensures none { IfOk result (λ v. (n : ℕ) → n < 65536 → slice_index v.items n ≡ 4294967295) }
 {
-    let mut places = Vec::with_capacity(alloc, 65536)?;
-    for opcode in 0..65536usize {
-        let _ = opcode;
-        places.push(u32::MAX)?;
-    }
-    Ok(places)
+    filled(alloc, 65536)
 }
 
 /// For each opcode the place of its first entry.

@@ -207,8 +207,8 @@ const SMALL: &str = r#"{"instructions":[
 {"enumerant":"Last","value":"0x80000000"}]},
 {"kind":"IdRef","category":"Id"},
 {"kind":"K","category":"Literal"},
-{"kind":"Pair","category":"Composite","bases":["Word","IdRef"]},
-{"kind":"Word","category":"Literal"}]}"#;
+{"kind":"Pair","category":"Composite","bases":["FileName","IdRef"]},
+{"kind":"FileName","category":"Literal"}]}"#;
 
 /// The table of the small file.
 fn small(alloc: Global) -> Result<Table, Fail> {
@@ -264,7 +264,7 @@ fn kinds_by_number(rt: HostRuntime) -> Result<(), Fail> {
 fn kinds_by_name(rt: HostRuntime) -> Result<(), Fail> {
     let table = small(rt.alloc())?;
     assert_eq!(rt; table.kind_named("K"), Some(0));
-    assert_eq!(rt; table.kind_named("Word"), Some(3));
+    assert_eq!(rt; table.kind_named("FileName"), Some(3));
     assert_eq!(rt; table.kind_named("Words"), None);
     Ok(())
 }

@@ -1,5 +1,5 @@
 use Rattle.std.proofs.Common.{◌≡◌, drop}
-use Rattle.serde_json.specs.View.{items_view}
+use Rattle.json_tree.specs.View.{items_view}
 use Rattle.spv_grammar.specs.File.{each, operand_of}
 use Rattle.spv_grammar.proofs.Fronts.{with_front}
 use Rattle.spv_grammar.proofs.read.each_operand.Given as goal

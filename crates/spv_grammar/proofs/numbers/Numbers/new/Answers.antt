@@ -1,4 +1,7 @@
-use Rattle.std.proofs.Common.{arith, sym, ◌∙◌, ap, take}
+use Rattle.std.proofs.Common.{◌≡◌, true, false, if◌then◌else◌, [], ◌∷◌, ◌++◌, arith, sym, ◌∙◌, ap, take}
+use Rattle.std.specs.List.{list_any}
+use Rattle.std.specs.Str.{bytes_eq}
+use Rattle.spv_grammar.proofs.Turns.{names_more}
 use Rattle.std.proofs.lemmas.Grind.{common_steps}
 use Rattle.spv_grammar.proofs.Firsts.{first_kinds_more, same_names, with_kind}
 use Rattle.spv_grammar.specs.Kinds.{first_kinds}
@@ -8,5 +11,8 @@ use Rattle.spv_grammar.proofs.numbers.Numbers.new.Goals.{then-is_new+else-len-ge
 pub loop-kind-preserved : goal.loop-kind-preserved
 loop-kind-preserved c =
     let more = first_kinds_more c.args.kinds.now c.loop-kind.kind-index c.kind-item.result c.loop-kind-test.true ∙ ap (λ k. with_kind (first_kinds (take c.loop-kind.kind-index c.args.kinds.now)) k) (sym c.kind-item.is) in
+    let named = c.as_str.ensures in
     let among = same_names c.loop-kind.names.keys c.loop-kind.firsts.items c.as_str.result.now c.loop-kind.invariant.names in
-    elim c.if-is_new.branch [ then-is_new+else-len-ge4294967295+in_ok-push w ↦ record { firsts = grind (arith, common_steps, more, among); names = grind (arith, common_steps, among); few = grind (arith, common_steps) } | else-is_new w ↦ record { firsts = grind (arith, common_steps, more, among); names = grind (arith, common_steps, among); few = grind (arith, common_steps) } ]
+    let known = rw named at among in
+    let fresh : c.in_ok-is_new.is_new ≡ true → list_any (λ y. bytes_eq c.as_str.result.now y.now) c.loop-kind.names.keys ≡ false = λ e. grind (arith, common_steps, e) in
+    elim c.if-is_new.branch [ then-is_new+else-len-ge4294967295+in_ok-push w ↦ record { firsts = grind (arith, common_steps, more, among, known, named); names = names_more c.loop-kind.names.keys c.insert_full.new.self.keys c.loop-kind.firsts.items c.if-is_new.firsts.items c.as_str.result _ c.loop-kind.invariant.names (c.in_ok-is_new.ensures.keys ∙ ap (λ b. if b then c.loop-kind.names.keys else c.loop-kind.names.keys ++ c.as_str.result ∷ []) (fresh w.if-is_new.true)) (ap (λ v. v.items) w.firsts-is ∙ w.in_ok-push.ensures.items) named; few = grind (arith, common_steps) } | else-is_new w ↦ record { firsts = grind (arith, common_steps, more, among, known, named); names = grind (arith, common_steps, among, known, named); few = grind (arith, common_steps) } ]

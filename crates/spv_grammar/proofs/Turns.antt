@@ -1,0 +1,52 @@
+-- One turn of a loop that makes something of each element of a list.
+use Rattle.std.proofs.Common.{◌≡◌, ℕ, suc, ◌+◌, ◌<◌, List, [], ◌∷◌, ◌++◌, Option, Some, None, Bor, drop, map, length, get_or, slice_get, refl, sym, ap, ap₂, ◌∙◌, add-one, drop-cons, arith}
+use Rattle.std.proofs.lemmas.Option.{slice_get_within, get_or_from_slice_get}
+use Rattle.std.specs.Prelude.{Result, Err}
+use Rattle.spv_grammar.specs.declared.error.GrammarError.{GrammarError}
+use Rattle.spv_grammar.specs.declared.error.GrammarError.TheVariants.{J1, J2, J3, J4, J5, J6, J7, J8}
+use Rattle.std.proofs.lemmas.List.{map-append}
+use Rattle.spv_grammar.specs.declared.file.FileKind.{FileKind}
+use Rattle.serde_json.specs.Data.{Data}
+use Rattle.json_tree.specs.View.{view, items_view}
+use Rattle.json_tree.specs.declared.tree.Tree.{Tree}
+use Rattle.spv_grammar.specs.File.{each}
+use Rattle.spv_grammar.specs.Made.{Makes, all_of}
+use Rattle.spv_grammar.proofs.Fronts.{with_front, joined}
+
+-- what is left, at an element
+pub here : {A : Type 0} (xs : List A) (i : ℕ) (x : A) → slice_get xs i ≡ Some x → drop i xs ≡ x ∷ drop (i + 1) xs
+here xs i x at = rw (add-one, drop-cons xs i x (slice_get_within xs i x at), get_or_from_slice_get xs i x x at) refl
+
+module _ {A B : Type 0} (make : A → Option B) (xs : List A) (i : ℕ) (x : A) (whole : Option (List B)) (front found : List B) where
+  -- an element that is made
+  pub made_step : (b : B) → slice_get xs i ≡ Some x → whole ≡ with_front front (all_of make (drop i xs)) → make x ≡ Some b → found ≡ front ++ b ∷ [] → whole ≡ with_front found (all_of make (drop (i + 1) xs))
+  made_step b at w made grown = w ∙ (rw (here xs i x at, made, grown) (joined front b (all_of make (drop (i + 1) xs))))
+
+  -- an element that is not
+  pub none_step : slice_get xs i ≡ Some x → whole ≡ with_front front (all_of make (drop i xs)) → make x ≡ None → whole ≡ None
+  none_step at w none = w ∙ (rw (here xs i x at, none) refl)
+
+-- an error of an element is the error of the whole
+pub refused : {X Y V W : Type 0} (view : X → Y) (whole_view : V → W) (e : GrammarError) (made : Option Y) (whole : Option W) → Makes view (Err e) made → (made ≡ None → whole ≡ None) → Makes whole_view (Err e) whole
+refused view whole_view J1 made whole m none = none m
+refused view whole_view J2 made whole m none = none m
+refused view whole_view J3 made whole m none = none m
+refused view whole_view J4 made whole m none = none m
+refused view whole_view J5 made whole m none = none m
+refused view whole_view J6 made whole m none = none m
+refused view whole_view J7 made whole m none = none m
+refused view whole_view J8 made whole m none = m
+
+-- a kind and its name go last in two lists
+pub names_more : (keys grown : List (Bor (List ℕ))) (firsts pushed : List (Bor FileKind)) (key : Bor (List ℕ)) (k : Bor FileKind) → map (λ y. y.now) keys ≡ map (λ y. y.now.name) firsts
+    → grown ≡ keys ++ key ∷ [] → pushed ≡ firsts ++ k ∷ [] → key.now ≡ k.now.name → map (λ y. y.now) grown ≡ map (λ y. y.now.name) pushed
+names_more keys grown firsts pushed key k same g p named =
+    rw (g, p, map-append (λ (y : Bor (List ℕ)). y.now) keys (key ∷ []), map-append (λ (y : Bor FileKind). y.now.name) firsts (k ∷ []), same, named) refl
+
+-- a tree that is read
+pub read_step : {A : Type 0} (read : Data → Option A) (ts : List Tree) (i : ℕ) (x : Tree) (a : A) (whole : Option (List A)) (front found : List A) → i < length ts → x ≡ get_or ts i x
+    → whole ≡ with_front front (each read (items_view (drop i ts))) → read (view x) ≡ Some a → found ≡ front ++ a ∷ [] → whole ≡ with_front found (each read (items_view (drop (i + 1) ts)))
+read_step read ts i x a whole front found h is w made grown =
+    let next : suc i ≡ i + 1 = omega arith in
+    let first : drop i ts ≡ x ∷ drop (i + 1) ts = drop-cons ts i x h ∙ ap (λ n. get_or ts i x ∷ drop n ts) next ∙ ap (λ y. y ∷ drop (i + 1) ts) (sym is) in
+    w ∙ (rw (first, made, grown) (joined front a (each read (items_view (drop (i + 1) ts)))))
