@@ -1,4 +1,5 @@
 pub mod Texts
+pub mod Batches
 pub mod Takes
 pub mod Flat
 pub mod Joined
@@ -16,7 +17,7 @@ pub mod Numbers
 pub mod Kept
 pub mod Forms
 pub mod Shapes
-pub mod Operands
+pub mod Fitting
 pub mod TextOctets
 pub mod TextPlaces
 pub mod Frames

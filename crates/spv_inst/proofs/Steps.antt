@@ -6,13 +6,9 @@ use Rattle.spv_inst.specs.Shape.{Slot, AsParts, shape_of}
 use Rattle.spv_inst.specs.Spelling.{Takes}
 use Rattle.spv_inst.specs.declared.fault.Rule.{Rule}
 use Rattle.spv_inst.specs.Refusal.{Refuses}
+use Rattle.spv_inst.specs.Sofar.{Sofar}
 use Rattle.spv_inst.specs.Flat.{Due, OneOf, MaybeOf, ManyOf, Matches, Fails}
 use Rattle.spv_inst.proofs.Joined.{after-append}
-
--- From the pattern and all the further words: the operands so far, what is due, the words left, and how many were taken.
-pub record Sofar (G : Table) (c : Context) (pattern : List Due) (words : List ℕ) (out : List Plain) (stack : List Due) (rest : List ℕ) (taken : ℕ) : Type 0 where
-  pub matched : (ps : List Plain) → Matches G (after c out) stack ps rest → Matches G c pattern (out ++ ps) words
-  pub failed : (a : Rule) (n : ℕ) → Fails G (after c out) stack rest a n → Fails G c pattern words a (taken + n)
 
 abbrev context_of : Context → List Plain → Context
 context_of c zs = record { before = c.before; opcode = c.opcode; operands = zs }

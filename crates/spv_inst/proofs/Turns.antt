@@ -1,5 +1,5 @@
 -- The turns of the loop over an instruction's operands.
-use Rattle.std.proofs.Common.{◌≡◌, ◌++◌, ◌∙◌, ◌+◌, ◌-◌, ◌≤◌, ◌<◌, ◌&&◌, ◌||◌, ℕ, List, [], ◌∷◌, Option, Some, None, Bool, true, false, nat_eq, bytes_eq, codes, cond, length, map, take, drop, unwrap_or, refl, sym, ap, arith, length-append}
+use Rattle.std.proofs.Common.{◌≡◌, ◌++◌, ◌∙◌, ◌+◌, ◌-◌, ◌≤◌, ◌<◌, ◌&&◌, ◌||◌, ℕ, List, [], ◌∷◌, Option, Some, None, Bool, true, false, nat_eq, bytes_eq, codes, cond, length, map, take, drop, slice_index, unwrap_or, refl, sym, ap, arith, length-append}
 use Rattle.std.proofs.lemmas.List.{drop-drop, take-append-drop, length-take-le, length-drop, drop-take}
 use Rattle.std.specs.List.{list_all}
 use Rattle.spv_grammar.specs.declared.table.Category.{Category}
@@ -18,13 +18,15 @@ use Rattle.spv_inst.specs.Shape.{Slot, alone, Shape, AsType, AsResult, AsId, AsW
 use Rattle.spv_inst.specs.Width.{switch_width, context_width, first_id}
 use Rattle.spv_inst.specs.Spelling.{Takes, Match, mask_parameters}
 use Rattle.spv_inst.specs.Refusal.{IsLeaf, Refuses, Misfit}
+use Rattle.spv_inst.specs.Sofar.{Sofar}
 use Rattle.spv_inst.specs.Flat.{due, Due, OneOf, MaybeOf, ManyOf, Fails}
 use Rattle.spv_inst.specs.Reading.{between, enumerants_at, parameter_kinds, TakesFront, RefusesFront}
 use Rattle.spv_inst.specs.Agenda.{settled, Opens, opened_kinds}
 use Rattle.spv_inst.proofs.Joined.{flat_match}
 use Rattle.spv_inst.proofs.Fronts.{fails_misfit}
-use Rattle.spv_inst.proofs.Steps.{after_is, at_start, at_end, Sofar, at_operand, at_parts, at_maybe, at_many, at_no_maybe, at_no_many, at_refusal}
+use Rattle.spv_inst.proofs.Steps.{after_is, at_start, at_end, at_operand, at_parts, at_maybe, at_many, at_no_maybe, at_no_many, at_refusal}
 use Rattle.spv_inst.proofs.Contexts.{near_after}
+use Rattle.spv_inst.proofs.Between.{front}
 use Rattle.spv_inst.proofs.Bases.{and_first, passes_at}
 use Rattle.spv_inst.proofs.Masks.{whole_mask}
 
@@ -373,3 +375,38 @@ plain-push os ps o e = rw e (pushed os)
     pushed : (os : List declared.Operand) → plain_operands (os ++ (o ∷ [])) ≡ plain_operands os ++ (plain_operand o ∷ [])
     pushed [] = refl
     pushed (q ∷ qs) = ap (λ zs. plain_operand q ∷ zs) (pushed qs)
+
+-- an operand of one word is taken
+pub word_next : (G : Table) (c : Context) (pattern : List Due) (words : List ℕ) (out out' : List Plain) (ds es : List Due) (k : ℕ) (image : List ℕ) (first at end w : ℕ) (o : Plain)
+    → Sofar G c pattern words out ds (between image at end) (at - first) → first ≤ at → at < end → end ≤ length image
+    → settled true ds ≡ OneOf (alone k) ∷ es → w ≡ slice_index image at → Takes k (shape_of G (after c out) (alone k)) o (w ∷ []) [] → out' ≡ out ++ (o ∷ [])
+    → Sofar G c pattern words out' es (between image (at + 1) end) ((at + 1) - first)
+word_next G c pattern words out out' ds es k image first at end w o s f h l e i t n =
+    let b : between image at end ≡ w ∷ between image (at + 1) end = rw i (front image at end h l) in
+    let s1 : Sofar G c pattern words out ds (w ∷ between image (at + 1) end) (at - first) = rw b at s in
+    let s2 : Sofar G c pattern words out (OneOf (alone k) ∷ es) (w ∷ between image (at + 1) end) (at - first) = rw e at (at_settled G c pattern words out ds (at - first) w (between image (at + 1) end) s1) in
+    let q : (at - first) + 1 ≡ (at + 1) - first = omega arith in
+    rw (n, ← q) (at_operand G c pattern words out (alone k) es (at - first) o (w ∷ []) (between image (at + 1) end) [] s2 t)
+
+-- the loop begins after some operands
+pub turn_from : (G : Table) (defined : Definitions) (known : Known) (b : List PlainInst) (p : ℕ) (pattern : List Item) (image : List ℕ) (first at end : ℕ) (out : List Plain) (ds es : List Due)
+    → first ≤ at → at ≤ end → Sofar G (start b p) (map due pattern) (between image first end) out ds (between image at end) (at - first) → es ≡ ds
+    → Knows defined b → known.opcode ≡ p → known.type_id ≡ type_in out → known.first ≡ first_id out
+    → Turn G defined known b p pattern image first at end out es
+turn_from G defined known b p pattern image first at end out ds es h l s e d o t f =
+    rw e
+    (record {
+      from = h;
+      upto = l;
+      sofar = s;
+      near = rw (here_is b p out) (record { definitions = d; opcode = o; type_id = t; first = f });
+    })
+
+-- no word and nothing due is left
+pub words_end : (G : Table) (c : Context) (pattern : List Item) (image : List ℕ) (first at end taken : ℕ) (out : List Plain) (ds : List Due)
+    → Sofar G c (map due pattern) (between image first end) out ds (between image at end) taken → end ≤ at → settled false ds ≡ []
+    → Match G c pattern out (between image first end)
+words_end G c pattern image first at end taken out ds s h e =
+    flat_match G c pattern out (between image first end)
+    (at_end G c (map due pattern) (between image first end) out taken
+    (end_sofar G c (map due pattern) (between image first end) out ds [] (between image at end) taken (none_between image at end h) e s))

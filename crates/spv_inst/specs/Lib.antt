@@ -16,3 +16,5 @@ pub mod Agenda
 pub mod Step
 pub mod Encoding
 pub mod Written
+pub mod Batch
+pub mod Sofar

@@ -21,7 +21,7 @@ abbrev pub plain_operands : List Operand → List Plain
 plain_operands os = map plain_operand os
 
 abbrev pub plain_inst : Inst → PlainInst
-plain_inst i = record { opcode = i.opcode; operands = plain_operands i.operands.items }
+plain_inst i = record { opcode = i.opcode; operands = plain_operands i.operands }
 
 -- the instructions of a module
 abbrev pub plain_insts : Module → List PlainInst

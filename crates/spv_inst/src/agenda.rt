@@ -170,7 +170,7 @@ fn take_parameter<'t>(
 
 /// The next item of a pattern that is due, where words are left (`more`) or not: its kind and the items that are left.
 #[inline(always)]
-fn next_item<'t>(items: &'t [Item], more: bool) -> Option<(u32, &'t [Item])>
+pub fn next_item<'t>(items: &'t [Item], more: bool) -> Option<(u32, &'t [Item])>
     ensures { MatchOption result (settled more (map due (items_of items.now)) ≡ [])
         (λ p. settled more (map due (items_of items.now)) ≡ OneOf (alone p.0) ∷ map due (items_of p.1.now)) }
 {

@@ -5,6 +5,7 @@ ghost use Rattle.spv_inst.specs.Instruction.{IsListing};
 ghost use Rattle.spv_inst.specs.Outcome.{HasNoList, IsDeath, IsHeaderOf};
 
 use crate::agenda::Agenda;
+use crate::batch::Batch;
 use crate::definitions::Definitions;
 use crate::fault::Stop;
 use crate::form::forms_of;
@@ -35,6 +36,8 @@ pub fn decode<'a>(alloc: Global, table: &Table, image: &'a Image) -> Result<Modu
     let mut agenda = Agenda::new(alloc);
     let mut module = Module::new(alloc, image.header());
     let len = image.len();
+    let mut batch = Batch::new(alloc);
+    let mut number = 0;
     let mut at = 5;
     while at < len {
         let scene = Scene {
@@ -43,10 +46,19 @@ pub fn decode<'a>(alloc: Global, table: &Table, image: &'a Image) -> Result<Modu
             definitions: &definitions,
             image,
         };
-        let Read { inst, end } = read_instruction(alloc, &scene, &mut agenda, &module.insts, at)?;
-        definitions.add(&inst)?;
-        module.insts.push(inst)?;
+        let Read { opcode, first, end } = read_instruction(
+            &scene,
+            &mut agenda,
+            &mut batch.operands,
+            number,
+            at,
+        )?;
+        definitions.add(opcode, &batch.operands[first..])?;
+        batch.close(opcode, first)?;
+        batch.settle(alloc, &mut module.insts)?;
+        number += 1;
         at = end;
     }
+    batch.move_into(alloc, &mut module.insts)?;
     Ok(module)
 }

@@ -3,10 +3,9 @@ ghost use Rattle.spv_inst.specs.Operand.{PlainInst};
 ghost use Rattle.spv_inst.specs.Operand as operand;
 ghost use Rattle.spv_inst.specs.Width as width;
 ghost use Rattle.spv_inst.specs.Width.{width_of, type_of};
-ghost use Rattle.spv_inst.specs.Module.{plain_inst, plain_operands};
+ghost use Rattle.spv_inst.specs.Module.{plain_operands};
 ghost use Rattle.spv_inst.specs.Known.{Knows, kept};
 
-use crate::module::Inst;
 use crate::operand::Operand;
 use std::alloc::{AllocError, Global};
 use std::collections::BTreeMap;
@@ -17,7 +16,7 @@ struct Definition {
     /// Its first result type.
     type_id: Option<u32>,
     /// The width that it declares, in bits, if it is OpTypeInt or OpTypeFloat.
-    width: Option<u32>,
+    width: Option<u8>,
 }
 
 /// The opcode of OpTypeInt.
@@ -39,7 +38,7 @@ fn result_in(operands: &[Operand]) -> Option<u32>
 }
 
 /// The first result type of the operands.
-fn type_in(operands: &[Operand]) -> Option<u32>
+pub fn type_in(operands: &[Operand]) -> Option<u32>
     ensures { result ≡ operand.type_in (plain_operands operands.now) }
 {
     for operand in operands {
@@ -51,21 +50,23 @@ fn type_in(operands: &[Operand]) -> Option<u32>
 }
 
 /// The width that operands beginning with a result and a word tell, in bits.
-fn width_in(operands: &[Operand]) -> Option<u32>
+fn width_in(operands: &[Operand]) -> Option<u8>
     ensures { result ≡ width.width_in (plain_operands operands.now) }
 {
     match operands {
-        [Operand::Result(_), Operand::Word(bits), ..] if (1..=64).contains(bits) => Some(*bits),
+        [Operand::Result(_), Operand::Word(bits), ..] if (1..=64).contains(bits) => Some(
+            *bits as u8,
+        ),
         _ => None,
     }
 }
 
 /// The width that a type declaration tells, in bits.
-fn declared_width(inst: &Inst) -> Option<u32>
-    ensures { result ≡ width.declared_width (plain_inst inst.now) }
+fn declared_width(opcode: u16, operands: &[Operand]) -> Option<u8>
+    ensures { result ≡ width.declared_width (record { opcode = opcode; operands = plain_operands operands.now }) }
 {
-    match inst.opcode {
-        TYPE_INT | TYPE_FLOAT => width_in(inst.operands.as_slice()),
+    match opcode {
+        TYPE_INT | TYPE_FLOAT => width_in(operands),
         _ => None,
     }
 }
@@ -143,21 +144,20 @@ impl Definitions {
         }
     }
 
-    /// Goes on after one instruction more: where it has a result, it is now the last definition of that id.
+    /// Goes on after one instruction more, of that opcode and with those operands: where it has a result, it is now the last definition of that id.
     ///
     /// An `AllocError` comes only where a growth of memory was refused, and then nothing is said of what is left.
-    pub fn add(&mut self, inst: &Inst) -> Result<(), AllocError>
-        ensures knows { OnOk result ((before : List PlainInst) → Knows self.old before → Knows self.new (before ++ plain_inst inst.now ∷ [])) }
+    pub fn add(&mut self, opcode: u16, operands: &[Operand]) -> Result<(), AllocError>
+        ensures knows { OnOk result ((before : List PlainInst) → Knows self.old before → Knows self.new (before ++ record { opcode = opcode; operands = plain_operands operands.now } ∷ [])) }
         // The list may grow no less than before.
         ensures reach { self.old.reach ≤ self.new.reach }
     {
-        let operands = inst.operands.as_slice();
         let Some(id) = result_in(operands) else {
             return Ok(());
         };
         let definition = Definition {
             type_id: type_in(operands),
-            width: declared_width(inst),
+            width: declared_width(opcode, operands),
         };
         self.reach = self.reach.saturating_add(REACH_FOR_EACH);
         self.put(id, definition)
@@ -168,7 +168,10 @@ impl Definitions {
     pub fn width(&self, type_id: u32) -> Option<u32>
         ensures { (before : List PlainInst) → Knows self.now before → result ≡ width_of before type_id }
     {
-        self.latest(type_id)?.width
+        match self.latest(type_id)?.width {
+            Some(bits) => Some(u32::from(bits)),
+            None => None,
+        }
     }
 
     /// The type of an id, as an id: the result type of its last definition. None where it has no definition, or one without
@@ -189,35 +192,19 @@ mod tests {
     fn last_definitions(rt: HostRuntime) -> Result<(), Fail> {
         let mut definitions = Definitions::new(rt.alloc());
         // %1 = OpTypeInt 64 0
-        let operands = vec![in rt.alloc();
-            Operand::Result(1),
-            Operand::Word(64),
-            Operand::Word(0),
-        ]?;
-        let int = Inst {
-            opcode: 21,
-            operands,
-        };
-        definitions.add(&int)?;
+        definitions.add(
+            21,
+            &[Operand::Result(1), Operand::Word(64), Operand::Word(0)],
+        )?;
         // %4000000000 = OpUndef %1, past the reach of the list
-        let operands = vec![in rt.alloc(); Operand::OfType(1), Operand::Result(4_000_000_000)]?;
-        let undef = Inst {
-            opcode: 1,
-            operands,
-        };
-        definitions.add(&undef)?;
+        definitions.add(1, &[Operand::OfType(1), Operand::Result(4_000_000_000)])?;
         assert_eq!(rt; definitions.width(1), Some(64));
         assert_eq!(rt; definitions.type_id(1), None);
         assert_eq!(rt; definitions.type_id(4_000_000_000), Some(1));
         assert_eq!(rt; definitions.width(4_000_000_000), None);
         assert_eq!(rt; definitions.type_id(2), None);
         // %1 = OpTypeFloat 16 in place of the first
-        let operands = vec![in rt.alloc(); Operand::Result(1), Operand::Word(16)]?;
-        let float = Inst {
-            opcode: 22,
-            operands,
-        };
-        definitions.add(&float)?;
+        definitions.add(22, &[Operand::Result(1), Operand::Word(16)])?;
         assert_eq!(rt; definitions.width(1), Some(16));
         Ok(())
     }

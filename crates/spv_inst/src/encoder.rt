@@ -75,16 +75,17 @@ fn write_operands<'t>(
 ) -> Result<bool, AllocError>
     requires { setting.now.forms.now ≡ map form_of setting.now.table.now.kinds }
     ensures { (before : List PlainInst) → Knows setting.now.definitions.now before
-        → IfOk result (λ b. IsSpelling setting.now.table.now (start before inst.now.opcode) (items_of pattern.now) (plain_operands inst.now.operands.items) b words.new.items) }
+        → IfOk result (λ b. IsSpelling setting.now.table.now (start before inst.now.opcode) (items_of pattern.now) (plain_operands inst.now.operands) b words.new.items) }
 {
     words.clear();
     agenda.start(pattern);
     let mut known = Known::new(inst.opcode);
-    for (number, operand) in inst.operands.iter().enumerate() {
+    let operands = inst.operands.as_slice();
+    for (number, operand) in operands.iter().enumerate() {
         if !write_next(setting, agenda, words, known, operand)? {
             return Ok(false);
         }
-        known = known_after(known, &inst.operands[..number], operand);
+        known = known_after(known, &operands[..number], operand);
     }
     match agenda.next_leaf(setting.table, setting.forms, false)? {
         None => Ok(true),
@@ -199,7 +200,7 @@ fn put_instructions(
             Ok(()) => {}
             Err(code) => return Err(error_at(code, number)),
         }
-        definitions.add(inst)?;
+        definitions.add(inst.opcode, inst.operands.as_slice())?;
     }
     Ok(())
 }

@@ -1,31 +1,31 @@
 //! One instruction.
 
-ghost use Rattle.std.specs.Prelude.{◌≡◌, ◌≤◌, ◌<◌, ◌++◌, ◌∷◌, [], length, map, IfOk, IfErr};
+ghost use Rattle.std.specs.Prelude.{◌≡◌, ◌≤◌, ◌<◌, ◌+◌, ◌++◌, ◌∷◌, [], List, length, map, take, drop, IfOk, IfErr, OnOk};
 ghost use Rattle.spv_grammar.specs.Table.{pattern_of, IsWhole};
 ghost use Rattle.spv_inst.specs.Form.{form_of};
 ghost use Rattle.spv_inst.specs.Instruction.{IsInstruction};
 ghost use Rattle.spv_inst.specs.Known.{Knows};
-ghost use Rattle.spv_inst.specs.Module.{plain_operand, plain_operands, plain_inst};
-ghost use Rattle.spv_inst.specs.Operand.{type_in, start};
+ghost use Rattle.spv_inst.specs.Module.{plain_operand, plain_operands};
+ghost use Rattle.spv_inst.specs.Operand.{PlainInst, type_in, start};
 ghost use Rattle.spv_inst.specs.Reading.{between};
 ghost use Rattle.spv_inst.specs.Spelling.{Match};
 ghost use Rattle.spv_inst.specs.Step.{IsMisfit, IsDeadFrom};
 ghost use Rattle.spv_inst.specs.Width.{first_id};
 
-use crate::agenda::Agenda;
+use crate::agenda::{Agenda, next_item};
+use crate::definitions;
 use crate::fault::{Fault, Rule, Stop};
-use crate::module::Inst;
 use crate::operand::Operand;
+use crate::plain::read_words;
 use crate::reader::{Known, Scene, take_operand};
 use spv_grammar::Entry;
 use spv_words::word;
-use std::alloc::Global;
 
 /// Where an instruction lies.
 #[derive(Clone, Copy, Debug)]
-struct Place<'b, 'a> {
-    /// The instructions before.
-    before: &'b [Inst<'a>],
+struct Place {
+    /// How many instructions come before.
+    number: u32,
     opcode: u16,
     /// The number of its second word in the module, and that of the word after its last.
     first: u32,
@@ -33,21 +33,22 @@ struct Place<'b, 'a> {
 }
 
 /// An instruction that was read.
-#[derive(Debug, Drop)]
-pub struct Read<'a> {
-    pub inst: Inst<'a>,
+#[derive(Clone, Copy, Debug)]
+pub struct Read {
+    pub opcode: u16,
+    /// The place of its first operand in the list of operands, from 0.
+    pub first: usize,
     /// The number of the word after its last, in the module from 0.
     pub end: u32,
 }
 
-/// The fault of the instruction after some others, told by a word.
-fn fault_at(before: &[Inst<'_>], rule: Rule, word: u32) -> Stop
-    requires { length before.now < 4294967296 }
-    ensures { result ≡ Stop.Fault (record { rule = rule; inst = length before.now; word = word }) }
+/// The fault of the instruction of a number, told by a word.
+fn fault_at(number: u32, rule: Rule, word: u32) -> Stop
+    ensures { result ≡ Stop.Fault (record { rule = rule; inst = number; word = word }) }
 {
     Stop::Fault(Fault {
         rule,
-        inst: before.len() as u32,
+        inst: number,
         word,
     })
 }
@@ -104,97 +105,134 @@ pub fn known_after(known: Known, operands: &[Operand<'_>], operand: &Operand<'_>
     }
 }
 
-/// The operands of an instruction, by its entry: all of its further words, and no fewer.
+/// What is known after some operands of an instruction: the first id of a result's type counts, and the first operand.
+fn known_of(opcode: u16, operands: &[Operand<'_>]) -> Known
+    ensures opcode { result.opcode ≡ opcode }
+    ensures type_id { result.type_id ≡ type_in (plain_operands operands.now) }
+    ensures first { result.first ≡ first_id (plain_operands operands.now) }
+{
+    let first = match operands {
+        [first, ..] => id_in_operand(first),
+        [] => None,
+    };
+    Known {
+        opcode,
+        type_id: definitions::type_in(operands),
+        first,
+    }
+}
+
+/// Adds the operands of an instruction to a list, by its entry: all of its further words, and no fewer. After an error nothing
+/// is said of what is left of the list.
 fn read_operands<'t, 'a>(
-    alloc: Global,
     scene: &Scene<'t, '_, 'a>,
     agenda: &mut Agenda<'t>,
+    operands: &mut Vec<Operand<'a>>,
     entry: &'t Entry,
-    place: Place<'_, 'a>,
-) -> Result<Vec<Operand<'a>>, Stop>
+    place: Place,
+) -> Result<(), Stop>
     requires forms { scene.now.forms.now ≡ map form_of scene.now.table.now.kinds }
     requires whole { IsWhole scene.now.table.now }
-    requires knows { Knows scene.now.definitions.now (map plain_inst place.before.now) }
-    requires number { length place.before.now < 4294967296 }
     requires order { place.first ≤ place.end }
     requires fits { place.end ≤ length scene.now.image.now }
-    // What is answered is what the words from the first up to the end spell.
-    ensures read { IfOk result (λ os. Match scene.now.table.now (start (map plain_inst place.entry.before.now) place.entry.opcode) (pattern_of entry.now) (plain_operands os.items) (between scene.now.image.now place.entry.first place.entry.end)) }
+    // What is added is what the words from the first up to the end spell.
+    ensures read { (before : List PlainInst) → Knows scene.now.definitions.now before
+        → OnOk result (Match scene.now.table.now (start before place.opcode) (pattern_of entry.now) (plain_operands (drop (length operands.old.items) operands.new.items)) (between scene.now.image.now place.first place.end)) }
+    ensures kept { OnOk result (take (length operands.old.items) operands.new.items ≡ operands.old.items) }
+    ensures few { OnOk result (length operands.new.items + place.first ≤ length operands.old.items + place.end) }
     // A fault tells what refuses these words.
-    ensures misfit { IfErr result (λ e. IsMisfit scene.now.table.now (start (map plain_inst place.entry.before.now) place.entry.opcode) (pattern_of entry.now) (between scene.now.image.now place.entry.first place.entry.end) (length place.entry.before.now) place.entry.first e) }
+    ensures misfit { (before : List PlainInst) → Knows scene.now.definitions.now before
+        → IfErr result (λ e. IsMisfit scene.now.table.now (start before place.opcode) (pattern_of entry.now) (between scene.now.image.now place.first place.end) place.number place.first e) }
 {
-    // Most instructions have few operands: one growth of memory serves them.
-    let mut operands = Vec::with_capacity(alloc, (place.end - place.first).min(8) as usize)?;
-    let mut known = Known::new(place.opcode);
-    let mut at = place.first;
-    agenda.start(entry.operands.as_slice());
+    let start = operands.len();
+    let items = entry.operands.as_slice();
+    let rest = read_words(
+        scene.forms,
+        scene.image,
+        operands,
+        items,
+        place.first,
+        place.end,
+    )?;
+    if rest.at == place.end {
+        if let None = next_item(rest.items, false) {
+            return Ok(());
+        }
+    }
+    let mut known = known_of(place.opcode, &operands[start..]);
+    let mut at = rest.at;
+    agenda.start(rest.items);
     while at < place.end {
         let Some(asked) = agenda.next_leaf(scene.table, scene.forms, true)? else {
-            return Err(fault_at(place.before, Rule::I5, at));
+            return Err(fault_at(place.number, Rule::I5, at));
         };
         match take_operand(scene, known, asked.slot, asked.leaf, at, place.end) {
             Ok(taken) => {
                 agenda.open(scene.table, &taken.operand)?;
-                known = known_after(known, &operands, &taken.operand);
+                known = known_after(known, &operands[start..], &taken.operand);
                 operands.push(taken.operand)?;
                 at += taken.words;
             }
-            Err(refusal) => return Err(fault_at(place.before, refusal.rule, at + refusal.word)),
+            Err(refusal) => return Err(fault_at(place.number, refusal.rule, at + refusal.word)),
         }
     }
     match agenda.next_leaf(scene.table, scene.forms, false)? {
-        Some(_) => Err(fault_at(place.before, Rule::I4, at)),
-        None => Ok(operands),
+        Some(_) => Err(fault_at(place.number, Rule::I4, at)),
+        None => Ok(()),
     }
 }
 
-/// Reads the instruction whose first word is the module's word `at`, counted from 0, after the instructions before (SPIR-V
-/// Specification 1.6, section 2.3). The agenda is begun anew.
+/// Reads the instruction whose first word is the module's word `at`, counted from 0, after so many instructions (SPIR-V
+/// Specification 1.6, section 2.3), and adds its operands to a list. The agenda is begun anew.
 ///
 /// A `Fault` tells the number of the instructions before, which is the instruction's own, and a word of the module. It is
 /// told by the word `at` where the first word counts no words (I1) or more than are left of the module (I2), or where the
 /// opcode has no entry in the table (I3); by the first word left where nothing more is due (I5); by the word after the last
 /// where an operand is missing (I4); and else by the word at which an operand is refused (`take_operand`). `Memory` comes
-/// only where a growth of memory was refused.
+/// only where a growth of memory was refused. After an error nothing is said of what is left of the list.
 pub fn read_instruction<'t, 'a>(
-    alloc: Global,
     scene: &Scene<'t, '_, 'a>,
     agenda: &mut Agenda<'t>,
-    before: &[Inst<'a>],
+    operands: &mut Vec<Operand<'a>>,
+    number: u32,
     at: u32,
-) -> Result<Read<'a>, Stop>
+) -> Result<Read, Stop>
     requires forms { scene.now.forms.now ≡ map form_of scene.now.table.now.kinds }
     requires whole { IsWhole scene.now.table.now }
-    requires knows { Knows scene.now.definitions.now (map plain_inst before.now) }
-    requires number { length before.now < 4294967296 }
     requires fits { at < length scene.now.image.now }
-    // What is answered is what the words from there on spell.
-    ensures read { IfOk result (λ r. IsInstruction scene.now.table.now (map plain_inst before.now) (plain_inst r.inst) (between scene.now.image.now at r.end)) }
+    // What is added is what the words from there on spell.
+    ensures read { (before : List PlainInst) → Knows scene.now.definitions.now before
+        → IfOk result (λ r. IsInstruction scene.now.table.now before (record { opcode = r.opcode; operands = plain_operands (drop r.first operands.new.items) }) (between scene.now.image.now at r.end)) }
+    ensures kept { IfOk result (λ r. (r.first ≡ length operands.old.items) × (take r.first operands.new.items ≡ operands.old.items)) }
+    ensures few { IfOk result (λ r. length operands.new.items + at ≤ length operands.old.items + r.end) }
     ensures within { IfOk result (λ r. (at < r.end) × (r.end ≤ length scene.now.image.now)) }
     // A fault is the death of the instruction there.
-    ensures dead { IfErr result (λ e. IsDeadFrom scene.now.table.now (map plain_inst before.now) scene.now.image.now (length before.now) at e) }
+    ensures dead { (before : List PlainInst) → Knows scene.now.definitions.now before
+        → IfErr result (λ e. IsDeadFrom scene.now.table.now before scene.now.image.now number at e) }
 {
     let head = word(scene.image, at);
     let count = head / 65536;
     let opcode = (head % 65536) as u16;
     if count == 0 {
-        return Err(fault_at(before, Rule::I1, at));
+        return Err(fault_at(number, Rule::I1, at));
     }
     if count > scene.image.len() - at {
-        return Err(fault_at(before, Rule::I2, at));
+        return Err(fault_at(number, Rule::I2, at));
     }
     let Some(entry) = scene.table.entry(opcode) else {
-        return Err(fault_at(before, Rule::I3, at));
+        return Err(fault_at(number, Rule::I3, at));
     };
     let place = Place {
-        before,
+        number,
         opcode,
         first: at + 1,
         end: at + count,
     };
-    let operands = read_operands(alloc, scene, agenda, entry, place)?;
+    let first = operands.len();
+    read_operands(scene, agenda, operands, entry, place)?;
     Ok(Read {
-        inst: Inst { opcode, operands },
+        opcode,
+        first,
         end: place.end,
     })
 }

@@ -2,8 +2,10 @@
 #![tactic(auto)]
 
 mod agenda;
+mod batch;
 mod decoder;
 mod definitions;
+pub mod due;
 mod encoder;
 mod encoding;
 mod enumerant;
@@ -15,6 +17,8 @@ mod module;
 mod number;
 mod obstacle;
 mod operand;
+mod operands;
+mod plain;
 mod reader;
 #[cfg(test)]
 mod tests;
@@ -36,4 +40,5 @@ pub use laws::{
 pub use module::{Inst, Module};
 pub use obstacle::{EncodeCode, EncodeError};
 pub use operand::Operand;
+pub use operands::Operands;
 pub use spv_grammar::Memory;

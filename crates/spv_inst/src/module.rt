@@ -2,6 +2,7 @@ ghost use Rattle.std.specs.Prelude.{◌≡◌, ◌++◌, ◌∷◌, [], OnOk, On
 ghost use Rattle.spv_inst.specs.Module.{plain_insts, plain_operands};
 
 use crate::operand::Operand;
+use crate::operands::Operands;
 use spv_grammar::Memory;
 use spv_words::Header;
 use std::alloc::Global;
@@ -13,7 +14,7 @@ pub struct Inst<'a> {
     /// The low half of its first word.
     pub opcode: u16,
     /// Its operands, in the order of its further words.
-    pub operands: Vec<Operand<'a>>,
+    pub operands: Operands<'a>,
 }
 
 /// A header and a list of instructions (SPIR-V Specification 1.6, section 2.3).
@@ -50,7 +51,7 @@ impl<'a> Module<'a> {
         ensures refused { OnErr result (self.new.insts.items ≡ self.old.insts.items) }
         ensures header { self.new.header ≡ self.old.header }
     {
-        let operands = Vec::from_slice(self.alloc, operands)?;
+        let operands = Operands::from_slice(self.alloc, operands)?;
         self.insts.push(Inst { opcode, operands })?;
         Ok(())
     }

@@ -115,6 +115,7 @@ pub fn take_operand<'a>(
     ensures taken { (c : Context) → IsNear scene.now.definitions.now known c → form_at (kind_of scene.now.table.now slot.kind) ≡ LeafForm leaf
         → IfOk result (λ t. TakesFront scene.now.table.now c (record { kind = slot.kind; paired = slot.paired }) t.operand t.words (between scene.now.image.now at end)) }
     ensures within { IfOk result (λ t. (0 < t.words) × (t.words ≤ end - at)) }
+    ensures reached { IfErr result (λ e. e.word ≤ end - at) }
     ensures refused { (c : Context) → IsNear scene.now.definitions.now known c → form_at (kind_of scene.now.table.now slot.kind) ≡ LeafForm leaf
         → IfErr result (λ e. RefusesFront scene.now.table.now c (record { kind = slot.kind; paired = slot.paired }) e.rule e.word (between scene.now.image.now at end)) }
 {

@@ -9,4 +9,4 @@ use Rattle.spv_inst.proofs.encoder.write_operands.Given as goal
 abbrev pub invariant-loop-number : goal.invariant-loop-number
 invariant-loop-number l =
     (before : List PlainInst) → Knows l.setting.definitions.now before
-    → At l.setting.table.now l.setting.definitions.now before l.inst.opcode (map due (items_of l.pattern)) l.inst.operands.items l.known (agenda_due l.setting.table.now l.agenda) l.words.items l.number
+    → At l.setting.table.now l.setting.definitions.now before l.inst.opcode (map due (items_of l.pattern)) l.inst.operands l.known (agenda_due l.setting.table.now l.agenda) l.words.items l.number

@@ -1,56 +1,100 @@
-use Rattle.std.proofs.Common.{◌≤◌, map, length, refl, arith}
+use Rattle.std.proofs.Common.{◌≡◌, ◌≤◌, ◌-◌, ◌++◌, ◌∷◌, [], ◌∙◌, length, take, drop, refl, ap, arith, length-append}
+use Rattle.std.proofs.lemmas.List.{take-append-le, drop-append-le, take_all, length-drop}
 use Rattle.spv_grammar.specs.Table.{pattern_of}
-use Rattle.spv_inst.specs.Module.{plain_inst}
-use Rattle.spv_inst.specs.Reading.{between}
 use Rattle.spv_inst.specs.Agenda.{plain_slot}
-use Rattle.spv_inst.proofs.Turns.{near_first, turn_first, turn_settled, turn_left, turn_opened, turn_refused, turn_taken, turn_end, turn_missing, plain-push, refuses_within, length-between}
+use Rattle.spv_inst.specs.Module.{plain_operands}
+use Rattle.spv_inst.specs.Operand.{start}
+use Rattle.spv_inst.proofs.Turns.{turn_from, words_end, turn_settled, turn_left, turn_opened, turn_refused, turn_taken, turn_end, turn_missing, plain-push}
 use Rattle.spv_inst.proofs.instruction.read_operands.Goals as goal
 
 pub loop-at-init : goal.loop-at-init
 loop-at-init c =
     let G = c.args.scene.now.table.now in
     let scene = c.args.scene.now in
-    let b = map plain_inst c.args.place.before.now in
     let p = c.args.place.opcode in
-    turn_first G scene.definitions.now _ b p (pattern_of c.args.entry.now) scene.image.now c.args.place.first c.args.place.end _ _ c.requires.order
-    (rw c.in_ok-operands.ensures.items refl) (rw c.as_slice.ensures at (c.start.ensures G)) (rw c.new-known.ensures (near_first scene.definitions.now _ b p c.requires.knows refl refl refl))
+    let os = c.read_words.new.operands.items in
+    let n = length c.args.operands.now.items in
+    let e : c.len-start.result ≡ n = omega arith in
+    let w = c.in_ok-rest.ensures.within in
+    let wa = w.0 in
+    let wb = w.1 in
+    let room = c.in_ok-rest.ensures.room in
+    let few = c.in_ok-rest.ensures.few in
+    let d = length-drop n os in
+    let v : take (length os - n) (drop n os) ≡ drop n os = take_all (length os - n) (drop n os) (omega arith) in
+    record {
+      upto = wb;
+      start = e;
+      room = omega arith;
+      kept = rw e c.in_ok-rest.ensures.kept;
+      few = omega arith;
+      turn = λ b know.
+          let front = rw c.as_slice-items.ensures at (c.in_ok-rest.ensures.front G (start b p) c.requires.forms) in
+          let ty = rw (c.deref.ensures.value, e, v) at c.known_of-known.ensures.type_id in
+          let fi = rw (c.deref.ensures.value, e, v) at c.known_of-known.ensures.first in
+          rw e
+          (turn_from G scene.definitions.now c.known_of-known.result b p (pattern_of c.args.entry.now) scene.image.now c.args.place.first _ c.args.place.end _ _ _ wa wb front (c.start.ensures G) know c.known_of-known.ensures.opcode ty fi);
+    }
 
-pub returns-in_default-clause-misfit : goal.returns-in_default-clause-misfit
-returns-in_default-clause-misfit c =
-    let e = rw c.in_default.is at c.in_ok-asked.ensures.due in
-    let t1 = turn_settled _ _ _ _ _ _ _ _ _ _ _ _ _ c.loop-at.invariant c.loop-at-test.true c.requires.fits e in
+pub returns-in-None-clause-read : goal.returns-in-None-clause-read
+returns-in-None-clause-read c = λ b know.
+    let G = c.args.scene.now.table.now in
+    let front = rw c.as_slice-items.ensures at (c.in_ok-rest.ensures.front G (start b c.args.place.opcode) c.requires.forms) in
+    let l : c.args.place.end ≤ c.in_ok-rest.rest.at = omega arith in
+    words_end G (start b c.args.place.opcode) (pattern_of c.args.entry.now) _ _ _ _ _ _ _ front l c.in-None.ensures
+
+pub returns-in_default-2-clause-misfit : goal.returns-in_default-2-clause-misfit
+returns-in_default-2-clause-misfit c = λ b know.
+    let e = rw c.in_default-2.is at c.in_ok-asked.ensures.due in
+    let t1 = turn_settled _ _ _ _ _ _ _ _ _ _ _ _ _ (c.loop-at.invariant.turn b know) c.loop-at-test.true c.requires.fits e in
     let m = turn_left _ _ _ _ _ _ _ _ _ _ _ t1 c.loop-at-test.true c.requires.fits in
     rw c.fault_at.ensures (refl, m.from, m.misfit)
 
 pub loop-at-preserved : goal.loop-at-preserved
 loop-at-preserved c =
-    let l = rw c.in-Some.is at c.in_ok-asked.ensures.due in
-    let t1 = turn_settled _ _ _ _ _ _ _ _ _ _ _ _ _ c.loop-at.invariant c.loop-at-test.true c.requires.fits l.first in
-    let t2 = turn_opened _ _ _ _ _ _ _ _ _ _ _ l.slot _ _ t1 l.opened in
-    let f = rw c.in-Some.is at c.in_ok-asked.ensures.leaf in
-    let t = c.in-Ok.ensures.taken _ t2.near f in
-    let ty = rw c.deref.ensures.value at c.known_after-known.ensures.type_id in
-    let fi = rw c.deref.ensures.value at c.known_after-known.ensures.first in
-    turn_taken _ _ _ _ _ _ _ _ _ _ _ _ _ (plain_slot c.in-Some.asked.slot) _ _ c.in-Ok.taken.operand c.in-Ok.taken.words t2 c.requires.fits c.in-Ok.ensures.within.1 t
-    c.in_ok-open-in-Ok.ensures (plain-push _ _ c.in-Ok.taken.operand c.in_ok-push-in-Ok.ensures.items) c.known_after-known.ensures.opcode ty fi
+    let s = c.len-start.result in
+    let os = c.loop-at.operands.items in
+    let o = c.in-Ok.taken.operand in
+    let i = c.in_ok-push-in-Ok.ensures.items in
+    let r = c.loop-at.invariant.room in
+    let w = c.in-Ok.ensures.within in
+    let wa = w.0 in
+    let wb = w.1 in
+    let u = c.loop-at.invariant.upto in
+    let f = c.loop-at.invariant.few in
+    let l = length-append os (o ∷ []) in
+    let pl : plain_operands (drop s (os ++ (o ∷ []))) ≡ plain_operands (drop s os ++ (o ∷ [])) = ap plain_operands (drop-append-le s os (o ∷ []) r) in
+    let lt = c.loop-at-test.true in
+    let d = length-drop s os in
+    let v : take (length os - s) (drop s os) ≡ drop s os = take_all (length os - s) (drop s os) (omega arith) in
+    record {
+      upto = omega arith;
+      start = c.loop-at.invariant.start;
+      room = rw i (omega arith);
+      kept = rw (i, take-append-le s os (o ∷ []) r) c.loop-at.invariant.kept;
+      few = rw i (omega arith);
+      turn = λ b know.
+          let e = rw c.in-Some.is at c.in_ok-asked.ensures.due in
+          let t1 = turn_settled _ _ _ _ _ _ _ _ _ _ _ _ _ (c.loop-at.invariant.turn b know) c.loop-at-test.true c.requires.fits e.first in
+          let t2 = turn_opened _ _ _ _ _ _ _ _ _ _ _ e.slot _ _ t1 e.opened in
+          let g = rw c.in-Some.is at c.in_ok-asked.ensures.leaf in
+          let t = c.in-Ok.ensures.taken _ t2.near g in
+          let ty = rw (c.deref-in-Ok.ensures.value, v) at c.known_after-known.ensures.type_id in
+          let fi = rw (c.deref-in-Ok.ensures.value, v) at c.known_after-known.ensures.first in
+          turn_taken _ _ _ _ _ _ _ _ _ _ _ _ _ (plain_slot c.in-Some.asked.slot) _ _ o c.in-Ok.taken.words t2 c.requires.fits c.in-Ok.ensures.within.1 t
+          c.in_ok-open-in-Ok.ensures (rw i (pl ∙ plain-push (drop s os) _ o refl)) c.known_after-known.ensures.opcode ty fi;
+    }
 
 pub overflow_add-at-in-Err : goal.overflow_add-at-in-Err
 overflow_add-at-in-Err c =
-    let l = rw c.in-Some.is at c.in_ok-asked.ensures.due in
-    let t1 = turn_settled _ _ _ _ _ _ _ _ _ _ _ _ _ c.loop-at.invariant c.loop-at-test.true c.requires.fits l.first in
-    let t2 = turn_opened _ _ _ _ _ _ _ _ _ _ _ l.slot _ _ t1 l.opened in
-    let f = rw c.in-Some.is at c.in_ok-asked.ensures.leaf in
-    let t = c.in-Err.ensures.refused _ t2.near f in
-    let w = refuses_within _ _ _ _ t in
-    let n = length-between c.args.scene.now.image.now c.loop-at.at c.args.place.end c.requires.fits in
-    let x : c.loop-at.at ≤ c.args.place.end = c.loop-at.invariant.upto in
-    let y : c.in-Err.refusal.word ≤ length (between c.args.scene.now.image.now c.loop-at.at c.args.place.end) = w in
-    omega (arith, x, y, n)
+    let u = c.loop-at.invariant.upto in
+    let w = c.in-Err.ensures.reached in
+    omega (arith, w, u)
 
 pub returns-in-Err-clause-misfit : goal.returns-in-Err-clause-misfit
-returns-in-Err-clause-misfit c =
+returns-in-Err-clause-misfit c = λ b know.
     let l = rw c.in-Some.is at c.in_ok-asked.ensures.due in
-    let t1 = turn_settled _ _ _ _ _ _ _ _ _ _ _ _ _ c.loop-at.invariant c.loop-at-test.true c.requires.fits l.first in
+    let t1 = turn_settled _ _ _ _ _ _ _ _ _ _ _ _ _ (c.loop-at.invariant.turn b know) c.loop-at-test.true c.requires.fits l.first in
     let t2 = turn_opened _ _ _ _ _ _ _ _ _ _ _ l.slot _ _ t1 l.opened in
     let f = rw c.in-Some.is at c.in_ok-asked.ensures.leaf in
     let t = c.in-Err.ensures.refused _ t2.near f in
@@ -58,12 +102,13 @@ returns-in-Err-clause-misfit c =
     rw c.fault_at-in-Err.ensures (refl, m.from, m.misfit)
 
 pub returns-in-Some-2-clause-misfit : goal.returns-in-Some-2-clause-misfit
-returns-in-Some-2-clause-misfit c =
+returns-in-Some-2-clause-misfit c = λ b know.
     let l = rw c.in-Some-2.is at c.in_ok-next_leaf.ensures.due in
-    let m = turn_missing _ _ _ _ _ _ _ _ _ _ _ _ _ _ c.requires.whole c.loop-at.invariant c.loop-at-test.false l.first in
+    let m = turn_missing _ _ _ _ _ _ _ _ _ _ _ _ _ _ c.requires.whole (c.loop-at.invariant.turn b know) c.loop-at-test.false l.first in
     rw c.fault_at-in-Some-2.ensures (refl, m.from, m.misfit)
 
-pub returns-clause-read : goal.returns-clause-read
-returns-clause-read c =
-    let e = rw c.in-None.is at c.in_ok-next_leaf.ensures.due in
-    turn_end _ _ _ _ _ _ _ _ _ _ _ _ c.loop-at.invariant c.loop-at-test.false e
+pub returns-in-None-2-clause-read : goal.returns-in-None-2-clause-read
+returns-in-None-2-clause-read c = λ b know.
+    let e = rw c.in-None-2.is at c.in_ok-next_leaf.ensures.due in
+    let s = c.loop-at.invariant.start in
+    rw (← s) (turn_end _ _ _ _ _ _ _ _ _ _ _ _ (c.loop-at.invariant.turn b know) c.loop-at-test.false e)

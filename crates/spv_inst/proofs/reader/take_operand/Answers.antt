@@ -5,7 +5,7 @@ use Rattle.spv_inst.specs.Shape.{AsType, AsResult, AsId, AsWord, AsNumber, AsTex
 use Rattle.spv_inst.specs.Spelling.{Takes}
 use Rattle.spv_inst.specs.Reading.{enumerants_at}
 use Rattle.spv_inst.proofs.Shapes.{shape_leaf, shape_is_leaf}
-use Rattle.spv_inst.proofs.Operands.{one_taken, answer_one, answer_front, refusal_front, refusal_one, missing_front, nothing_front, integer_number, integer_unpaired, integer_other}
+use Rattle.spv_inst.proofs.Fitting.{one_taken, answer_one, answer_front, refusal_front, refusal_one, missing_front, nothing_front, within_front, within_one, integer_number, integer_unpaired, integer_other}
 use Rattle.spv_inst.proofs.reader.take_operand.Goals as goal
 use Rattle.spv_inst.proofs.reader.take_operand.Goals.{else-slot-via-then-slot+else-known-eq-SWITCH, else-slot-via-else-slot}
 
@@ -104,3 +104,22 @@ returns-in-Nothing-clause-refused c = λ k h e.
     let l : c.args.at < c.args.end = omega arith in
     rw (c.new-in-Nothing.ensures.rule, c.new-in-Nothing.ensures.word)
     (nothing_front _ k _ _ _ _ (shape_leaf _ _ _ _ leaf.Nothing e c.in-Nothing.is) l c.requires.fits)
+
+pub returns-then-known-eq-SWITCH-clause-reached : goal.returns-then-known-eq-SWITCH-clause-reached
+returns-then-known-eq-SWITCH-clause-reached c = within_front (AsNumber c.switch_width.result) c.take_number.result c.args.scene.now.image.now c.args.at c.args.end c.requires.fits c.take_number.ensures.refused
+
+pub returns-in-ContextNumber-clause-reached : goal.returns-in-ContextNumber-clause-reached
+returns-in-ContextNumber-clause-reached c = within_front (AsNumber c.context_width.result) c.take_number-in-ContextNumber.result c.args.scene.now.image.now c.args.at c.args.end c.requires.fits c.take_number-in-ContextNumber.ensures.refused
+
+pub returns-in-Text-clause-reached : goal.returns-in-Text-clause-reached
+returns-in-Text-clause-reached c = within_front AsText c.take_text.result c.args.scene.now.image.now c.args.at c.args.end c.requires.fits c.take_text.ensures.refused
+
+pub returns-in-Value-clause-reached : goal.returns-in-Value-clause-reached
+returns-in-Value-clause-reached c =
+    let l : c.args.at < c.args.end = omega arith in
+    within_one (AsValue (enumerants_at (kind_of c.args.scene.now.table.now c.args.slot.kind))) c.take_value.result _ c.args.at c.args.end l c.take_value.ensures.refused
+
+pub returns-in-Mask-clause-reached : goal.returns-in-Mask-clause-reached
+returns-in-Mask-clause-reached c =
+    let l : c.args.at < c.args.end = omega arith in
+    within_one (AsMask (enumerants_at (kind_of c.args.scene.now.table.now c.args.slot.kind))) c.take_mask.result _ c.args.at c.args.end l c.take_mask.ensures.refused

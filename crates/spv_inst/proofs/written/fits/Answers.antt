@@ -4,7 +4,7 @@ use Rattle.spv_inst.specs.Module.{plain_operand}
 use Rattle.spv_inst.specs.Shape.{AsNumber, AsWord, integer_shape}
 use Rattle.spv_inst.specs.Written.{is_fit}
 use Rattle.spv_inst.proofs.Fit.{by_leaf, by_shape}
-use Rattle.spv_inst.proofs.Operands.{integer_number, integer_unpaired, integer_other}
+use Rattle.spv_inst.proofs.Fitting.{integer_number, integer_unpaired, integer_other}
 use Rattle.spv_inst.proofs.written.fits.Goals as goal
 use Rattle.spv_inst.proofs.written.fits.Goals.{else-slot-via-then-slot+else-known-eq-SWITCH, else-slot-via-else-slot}
 

@@ -1,23 +1,21 @@
 use Rattle.std.proofs.Common.{◌≡◌, None, Some}
-use Rattle.spv_inst.specs.Operand.{result_in, type_in}
-use Rattle.spv_inst.specs.Module.{plain_inst, plain_operands}
+use Rattle.spv_inst.specs.Operand.{result_in}
+use Rattle.spv_inst.specs.Module.{plain_operands}
 use Rattle.spv_inst.proofs.Kept.{same_kept, more_kept, on_ok}
 use Rattle.spv_inst.proofs.definitions.Definitions.add.Goals as goal
 
 pub returns-in_default-clause-knows : goal.returns-in_default-clause-knows
 returns-in_default-clause-knows c = λ before k.
-    let v = c.as_slice-operands.ensures.value in
     let r = c.result_in.ensures in
     let n = c.in_default.is in
-    let e : result_in (plain_operands c.args.inst.now.operands.items) ≡ None = cc in
-    same_kept c.args.self.now before (plain_inst c.args.inst.now) e k
+    let e : result_in (plain_operands c.args.operands.now) ≡ None = cc in
+    same_kept c.args.self.now before (record { opcode = c.args.opcode; operands = plain_operands c.args.operands.now }) e k
 
 pub returns-clause-knows : goal.returns-clause-knows
 returns-clause-knows c =
-    let v = c.as_slice-operands.ensures.value in
     let r = c.result_in.ensures in
     let n = c.in-Some.is in
-    let ty = c.type_in.ensures in
-    let e : result_in (plain_operands c.args.inst.now.operands.items) ≡ Some c.in-Some.id = cc in
-    let t : c.type_in.result ≡ type_in (plain_operands c.args.inst.now.operands.items) = cc in
-    on_ok c.put.result _ _ (λ p before k. more_kept c.args.self.now c.put.new.self before (plain_inst c.args.inst.now) c.in-Some.id c.type_in.result c.declared_width.result e t c.declared_width.ensures p k) c.put.ensures.latest
+    let e : result_in (plain_operands c.args.operands.now) ≡ Some c.in-Some.id = cc in
+    on_ok c.put.result _ _
+    (λ p before k. more_kept c.args.self.now c.put.new.self before (record { opcode = c.args.opcode; operands = plain_operands c.args.operands.now }) c.in-Some.id c.type_in.result c.declared_width.result e c.type_in.ensures c.declared_width.ensures p k)
+    c.put.ensures.latest

@@ -1,5 +1,5 @@
 -- One operand at the front of the words left.
-use Rattle.std.proofs.Common.{◌≡◌, ◌<◌, ◌≤◌, ◌+◌, ℕ, List, [], ◌∷◌, Bool, true, false, Ok, Err, length, map, take, slice_index, refl, ◌∙◌}
+use Rattle.std.proofs.Common.{◌≡◌, ◌<◌, ◌≤◌, ◌+◌, ◌-◌, ℕ, List, [], ◌∷◌, Bool, true, false, Ok, Err, length, map, take, slice_index, refl, ◌∙◌, arith}
 use Rattle.std.specs.Prelude.{Result, IfOk, IfErr, nat_eq}
 use Rattle.std.proofs.lemmas.Bool.{ne_eqb}
 use Rattle.spv_grammar.specs.Table.{Table}
@@ -15,6 +15,7 @@ use Rattle.spv_inst.specs.Refusal.{Refuses, IsLeaf}
 use Rattle.spv_inst.specs.Module.{plain_operand}
 use Rattle.spv_inst.specs.Reading.{between, parameter_kinds, TakesFront, RefusesFront}
 use Rattle.spv_inst.proofs.Between.{front, nothing, take_one}
+use Rattle.spv_inst.proofs.Turns.{refuses_within, length-between}
 
 -- an operand of one word
 pub one_taken : (G : Table) (c : Context) (s : Slot) (sh : Shape) (o p : Operand) (ws : List ℕ) (n x at end : ℕ)
@@ -74,3 +75,19 @@ pub integer_other : (c : Context) (paired : Bool) (opcode : ℕ) → paired ≡ 
 integer_other c paired opcode e f g =
     let h : nat_eq c.opcode 251 ≡ false = ne_eqb c.opcode 251 (λ z. f (g ∙ z)) in
     rw (e, h) refl
+
+-- a refusal tells a word of those left, or the one after them
+pub within_front : (sh : Shape) (r : Result Taken Refusal) (ws : List ℕ) (at end : ℕ) → end ≤ length ws
+    → IfErr r (λ e. Refuses sh (between ws at end) e.rule e.word) → IfErr r (λ e. e.word ≤ end - at)
+within_front sh (Ok _) ws at end h k = tt
+within_front sh (Err e) ws at end h k =
+    let n = refuses_within sh (between ws at end) e.rule e.word k in
+    let l = length-between ws at end h in
+    omega arith
+
+pub within_one : (sh : Shape) (r : Result Taken Refusal) (x at end : ℕ) → at < end
+    → ((us : List ℕ) → IfErr r (λ e. Refuses sh (x ∷ us) e.rule e.word)) → IfErr r (λ e. e.word ≤ end - at)
+within_one sh (Ok _) x at end h k = tt
+within_one sh (Err e) x at end h k =
+    let n = refuses_within sh (x ∷ []) e.rule e.word (k []) in
+    omega arith
