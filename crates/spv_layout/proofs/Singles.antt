@@ -1,0 +1,142 @@
+-- An instruction that fits a row whose operands take one word each has one more word than operands.
+use Rattle.std.proofs.Common.{◌≡◌, ◌≢◌, ◌++◌, ◌+◌, ℕ, nat_eq, zero, suc, List, [], ◌∷◌, refl, Bool, true, false, ◌&&◌, Some, length, arith}
+use Rattle.std.specs.Prelude.{sum_by, slice_get}
+use Rattle.std.proofs.lemmas.List.Sums.{sum_by-cons}
+use Rattle.spv_grammar.specs.Table.{Table}
+use Rattle.spv_inst.specs.Operand.{Plain, PlainInst}
+use Rattle.spv_inst.specs.Operand as operand
+use Rattle.spv_layout.specs.declared.form.Form.{Form}
+use Rattle.spv_layout.specs.declared.form.Form.TheVariants as form
+use Rattle.spv_layout.specs.declared.form.Row as declared
+use Rattle.spv_layout.specs.Row.{PlainRow, Ending, plain_row}
+use Rattle.spv_layout.specs.Rows.{row_of}
+use Rattle.spv_layout.specs.Shape.{is_of, AreOf, Ends, Fits}
+use Rattle.spv_layout.specs.Place.{operand_words, word_count}
+use Rattle.spv_layout.specs.Single.{is_single, are_single, is_single_ending, is_single_row, are_same, are_flagged}
+use Rattle.spv_layout.specs.Test.{sort_of, sort_for}
+use Rattle.spv_layout.proofs.Derivatives.{both_hold}
+
+same_is : (a b : Bool) → are_same a b ≡ true → a ≡ b
+same_is true true h = refl
+same_is true false h = cc
+same_is false true h = cc
+same_is false false h = refl
+
+-- a row of the code says whether it is single
+pub flagged_at : (rs : List declared.Row) (k : ℕ) (r : declared.Row) → are_flagged rs ≡ true → slice_get rs k ≡ Some r → r.single ≡ is_single_row (plain_row r)
+flagged_at [] k r h e = cc
+flagged_at (x ∷ rs) zero r h e = let p = both_hold (are_same x.single (is_single_row (plain_row x))) (are_flagged rs) h in let q : x ≡ r = cc in rw (← q) (same_is x.single (is_single_row (plain_row x)) p.0)
+flagged_at (x ∷ rs) (suc k) r h e = let p = both_hold (are_same x.single (is_single_row (plain_row x))) (are_flagged rs) h in flagged_at rs k r p.1 e
+
+-- an operand of a single form
+one_word : (G : Table) (f : Form) (o : Plain) → is_single f ≡ true → is_of G f o ≡ true → operand_words o ≡ 1
+one_word G form.Number o h k = cc
+one_word G form.Text o h k = cc
+one_word G form.Other o h k = cc
+one_word G f (operand.Number low high words) h k = cc
+one_word G f (operand.Text t) h k = cc
+one_word G f o h k = refl
+
+one_each : (G : Table) (fs : List Form) (os : List Plain) → are_single fs ≡ true → AreOf G fs os → sum_by operand_words os ≡ length os
+one_each G _ _ h AreOf.none = refl
+one_each G _ _ h (AreOf.more f o fs os k r) =
+    let p = both_hold (is_single f) (are_single fs) h in
+    let a = one_word G f o p.0 k in
+    let b = one_each G fs os p.1 r in
+    let c : sum_by operand_words (o ∷ os) ≡ operand_words o + sum_by operand_words os = sum_by-cons operand_words o os in
+    omega arith
+
+both_true : (a b : Bool) → a ≡ true → b ≡ true → (a && b) ≡ true
+both_true a b h g = rw (h, g) refl
+
+single_joined : (fs gs : List Form) → are_single fs ≡ true → are_single gs ≡ true → are_single (fs ++ gs) ≡ true
+single_joined [] gs h g = g
+single_joined (f ∷ fs) gs h g = let p = both_hold (is_single f) (are_single fs) h in both_true (is_single f) (are_single (fs ++ gs)) p.0 (single_joined fs gs p.1 g)
+
+single_ends : (e : Ending) (fs : List Form) → Ends e fs → is_single_ending e ≡ true → are_single fs ≡ true
+single_ends _ _ Ends.nothing h = refl
+single_ends _ _ (Ends.absent f) h = refl
+single_ends _ _ (Ends.present f) h = both_true (is_single f) true h refl
+single_ends _ _ Ends.no_file_or_text h = cc
+single_ends _ _ Ends.file h = cc
+single_ends _ _ Ends.text h = cc
+single_ends _ _ Ends.both h = cc
+single_ends _ _ (Ends.done fs) h = refl
+single_ends _ _ (Ends.again fs gs e) h = single_joined fs gs h (single_ends _ gs e h)
+single_ends _ _ Ends.no_other h = cc
+single_ends _ _ (Ends.other gs e) h = cc
+single_ends _ _ (Ends.no_kind f) h = cc
+single_ends _ _ (Ends.kind f gs e) h = cc
+
+-- the words of an instruction that fits such a row
+pub single_words : (G : Table) (i : PlainInst) (r : PlainRow) → Fits G i → row_of i.opcode ≡ Some r → is_single_row r ≡ true → word_count i ≡ 1 + length i.operands
+single_words G i r f e h =
+    let x = f.has in
+    let k : x.row ≡ r = (let a = x.known in cc) in
+    let h' : is_single_row x.row ≡ true = rw k h in
+    let p = both_hold (are_single x.row.fixed) (is_single_ending x.row.ending) h' in
+    let s = single_joined x.row.fixed x.rest p.0 (single_ends x.row.ending x.rest x.ending p.1) in
+    let s' : are_single f.forms ≡ true = rw x.forms s in
+    let w = one_each G f.forms i.operands s' x.each in
+    omega arith
+
+-- a form that asks for a sort alone
+pub sort_is : (G : Table) (f : Form) (o : Plain) (n : ℕ) → n ≡ sort_for f → n ≢ 8 → nat_eq (sort_of o) n ≡ is_of G f o
+sort_is G form.OfType (operand.OfType x) n e h = rw e refl
+sort_is G form.OfType (operand.Result x) n e h = rw e refl
+sort_is G form.OfType (operand.Id x) n e h = rw e refl
+sort_is G form.OfType (operand.Word x) n e h = rw e refl
+sort_is G form.OfType (operand.Number low high words) n e h = rw e refl
+sort_is G form.OfType (operand.Text t) n e h = rw e refl
+sort_is G form.OfType (operand.Value k x) n e h = rw e refl
+sort_is G form.OfType (operand.Mask k x) n e h = rw e refl
+sort_is G form.Result (operand.OfType x) n e h = rw e refl
+sort_is G form.Result (operand.Result x) n e h = rw e refl
+sort_is G form.Result (operand.Id x) n e h = rw e refl
+sort_is G form.Result (operand.Word x) n e h = rw e refl
+sort_is G form.Result (operand.Number low high words) n e h = rw e refl
+sort_is G form.Result (operand.Text t) n e h = rw e refl
+sort_is G form.Result (operand.Value k x) n e h = rw e refl
+sort_is G form.Result (operand.Mask k x) n e h = rw e refl
+sort_is G form.Word (operand.OfType x) n e h = rw e refl
+sort_is G form.Word (operand.Result x) n e h = rw e refl
+sort_is G form.Word (operand.Id x) n e h = rw e refl
+sort_is G form.Word (operand.Word x) n e h = rw e refl
+sort_is G form.Word (operand.Number low high words) n e h = rw e refl
+sort_is G form.Word (operand.Text t) n e h = rw e refl
+sort_is G form.Word (operand.Value k x) n e h = rw e refl
+sort_is G form.Word (operand.Mask k x) n e h = rw e refl
+sort_is G form.Number (operand.OfType x) n e h = rw e refl
+sort_is G form.Number (operand.Result x) n e h = rw e refl
+sort_is G form.Number (operand.Id x) n e h = rw e refl
+sort_is G form.Number (operand.Word x) n e h = rw e refl
+sort_is G form.Number (operand.Number low high words) n e h = rw e refl
+sort_is G form.Number (operand.Text t) n e h = rw e refl
+sort_is G form.Number (operand.Value k x) n e h = rw e refl
+sort_is G form.Number (operand.Mask k x) n e h = rw e refl
+sort_is G form.Text (operand.OfType x) n e h = rw e refl
+sort_is G form.Text (operand.Result x) n e h = rw e refl
+sort_is G form.Text (operand.Id x) n e h = rw e refl
+sort_is G form.Text (operand.Word x) n e h = rw e refl
+sort_is G form.Text (operand.Number low high words) n e h = rw e refl
+sort_is G form.Text (operand.Text t) n e h = rw e refl
+sort_is G form.Text (operand.Value k x) n e h = rw e refl
+sort_is G form.Text (operand.Mask k x) n e h = rw e refl
+sort_is G (form.Id r) (operand.OfType x) n e h = rw e refl
+sort_is G (form.Id r) (operand.Result x) n e h = rw e refl
+sort_is G (form.Id r) (operand.Id x) n e h = rw e refl
+sort_is G (form.Id r) (operand.Word x) n e h = rw e refl
+sort_is G (form.Id r) (operand.Number low high words) n e h = rw e refl
+sort_is G (form.Id r) (operand.Text t) n e h = rw e refl
+sort_is G (form.Id r) (operand.Value k x) n e h = rw e refl
+sort_is G (form.Id r) (operand.Mask k x) n e h = rw e refl
+sort_is G form.Unseen (operand.OfType x) n e h = rw e refl
+sort_is G form.Unseen (operand.Result x) n e h = rw e refl
+sort_is G form.Unseen (operand.Id x) n e h = rw e refl
+sort_is G form.Unseen (operand.Word x) n e h = rw e refl
+sort_is G form.Unseen (operand.Number low high words) n e h = rw e refl
+sort_is G form.Unseen (operand.Text t) n e h = rw e refl
+sort_is G form.Unseen (operand.Value k x) n e h = rw e refl
+sort_is G form.Unseen (operand.Mask k x) n e h = rw e refl
+sort_is G (form.Kind name) o n e h = absurd (h e)
+sort_is G form.Other o n e h = absurd (h e)

@@ -1,0 +1,7 @@
+use Rattle.std.proofs.Common.{◌≡◌, map, drop}
+use Rattle.spv_inst.specs.Module.{plain_operand}
+use Rattle.spv_layout.specs.Test.{are_others}
+use Rattle.spv_layout.proofs.fitting.are_free.Given as goal
+
+abbrev pub invariant-loop-operand : goal.invariant-loop-operand
+invariant-loop-operand l = are_others l.kinds (map plain_operand (drop l.operand-index l.operands)) ≡ are_others l.kinds (map plain_operand l.operands)

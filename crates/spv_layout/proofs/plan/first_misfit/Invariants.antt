@@ -1,0 +1,7 @@
+use Rattle.std.proofs.Common.{map}
+use Rattle.spv_inst.specs.Module.{plain_inst}
+use Rattle.spv_layout.proofs.Misfits.{FitBelow}
+use Rattle.spv_layout.proofs.plan.first_misfit.Given as goal
+
+abbrev pub invariant-loop-i : goal.invariant-loop-i
+invariant-loop-i l = FitBelow l.kinds (map plain_inst l.insts) l.i

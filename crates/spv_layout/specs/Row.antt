@@ -1,0 +1,128 @@
+-- Rows of the table of shapes. (Own.)
+use Rattle.std.specs.Prelude.{ℕ, List, [], ◌∷◌, Bool, true, false, nat_le, ◌&&◌, if◌then◌else◌, Option, Some, None, codes, slice_get}
+use Rattle.spv_layout.specs.declared.class.Class.{Class}
+use Rattle.spv_layout.specs.declared.form.Role.TheVariants as role
+use Rattle.spv_layout.specs.declared.form.Named.{Named}
+use Rattle.spv_layout.specs.declared.form.Named.TheVariants as kind_of
+use Rattle.spv_layout.specs.declared.form.Form.{Form}
+use Rattle.spv_layout.specs.declared.form.Form.TheVariants as form
+use Rattle.spv_layout.specs.declared.form.Ending as declared
+use Rattle.spv_layout.specs.declared.form.Ending.TheVariants as code
+use Rattle.spv_layout.specs.declared.form.Row as declared_row
+
+-- the letters of the table
+abbrev pub T : Form
+T = form.OfType
+
+abbrev pub R : Form
+R = form.Result
+
+abbrev pub W : Form
+W = form.Word
+
+abbrev pub N : Form
+N = form.Number
+
+abbrev pub S : Form
+S = form.Text
+
+abbrev pub t : Form
+t = form.Id role.OfType
+
+abbrev pub v : Form
+v = form.Id role.Value
+
+abbrev pub f : Form
+f = form.Id role.Function
+
+abbrev pub s : Form
+s = form.Id role.Text
+
+abbrev pub e : Form
+e = form.Id role.Set
+
+abbrev pub l : Form
+l = form.Id role.Label
+
+abbrev pub g : Form
+g = form.Id role.Global
+
+abbrev pub a : Form
+a = form.Id role.Any
+
+abbrev pub x : Form
+x = form.Unseen
+
+abbrev pub kind : Named → Form
+kind name = form.Kind name
+
+-- what may come after the fixed operands of a row
+pub data Ending : Type 0 where
+  -- nothing
+  closed : Ending
+  -- one operand, or nothing: `f?`
+  maybe : Form → Ending
+  -- a file, or nothing, and then a text, or nothing: `s? S?`
+  file_and_text : Ending
+  -- these operands in turn, any number of times: `(f g)*`
+  repeated : List Form → Ending
+  -- any number of operands other than a type or a result: what `kind+` adds to the kind
+  others : Ending
+  -- one operand, and any number of such others, or nothing: `[kind+]`
+  maybe_others : Form → Ending
+
+-- a row: from an opcode to an opcode, their class in the layout, the operands that they have, and what may come after these
+pub record PlainRow : Type 0 where
+  pub from : ℕ
+  pub to : ℕ
+  pub class : Class
+  pub fixed : List Form
+  pub ending : Ending
+
+abbrev pub row : ℕ → ℕ → Class → List Form → Ending → PlainRow
+row from to class fixed ending = record { from = from; to = to; class = class; fixed = fixed; ending = ending }
+
+-- the first row that has the opcode
+abbrev pub row_in : List PlainRow → ℕ → Option PlainRow
+row_in [] n = None
+row_in (r ∷ rs) n = if nat_le r.from n && nat_le n r.to then Some r else row_in rs n
+
+-- the row of a number, from 0, if there is a number and a row (for the code alone)
+abbrev pub numbered : List PlainRow → Option ℕ → Option PlainRow
+numbered rows None = None
+numbered rows (Some k) = slice_get rows k
+
+-- the name of a kind
+abbrev pub name_of : Named → List ℕ
+name_of kind_of.SourceLanguage = codes "SourceLanguage"
+name_of kind_of.AddressingModel = codes "AddressingModel"
+name_of kind_of.MemoryModel = codes "MemoryModel"
+name_of kind_of.ExecutionModel = codes "ExecutionModel"
+name_of kind_of.ExecutionMode = codes "ExecutionMode"
+name_of kind_of.Capability = codes "Capability"
+name_of kind_of.StorageClass = codes "StorageClass"
+name_of kind_of.Decoration = codes "Decoration"
+name_of kind_of.FunctionControl = codes "FunctionControl"
+name_of kind_of.MemoryAccess = codes "MemoryAccess"
+name_of kind_of.LoopControl = codes "LoopControl"
+name_of kind_of.SelectionControl = codes "SelectionControl"
+
+-- whether a kind's operands are masks
+abbrev pub has_masks : Named → Bool
+has_masks kind_of.FunctionControl = true
+has_masks kind_of.MemoryAccess = true
+has_masks kind_of.LoopControl = true
+has_masks kind_of.SelectionControl = true
+has_masks _ = false
+
+-- a row of the code
+abbrev pub plain_ending : declared.Ending → Ending
+plain_ending code.Closed = closed
+plain_ending (code.Maybe f) = maybe f
+plain_ending code.FileAndText = file_and_text
+plain_ending (code.Repeated fs) = repeated fs.now
+plain_ending code.Others = others
+plain_ending (code.MaybeOthers f) = maybe_others f
+
+abbrev pub plain_row : declared_row.Row → PlainRow
+plain_row r = record { from = r.from; to = r.to; class = r.class; fixed = r.fixed.now; ending = plain_ending r.ending }

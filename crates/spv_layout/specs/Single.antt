@@ -1,0 +1,36 @@
+-- Rows whose operands take one word each. (For the code alone.)
+use Rattle.std.specs.Prelude.{List, [], ◌∷◌, Bool, true, false, not, ◌&&◌}
+use Rattle.spv_layout.specs.declared.form.Form.{Form}
+use Rattle.spv_layout.specs.declared.form.Form.TheVariants as form
+use Rattle.spv_layout.specs.declared.form.Row as declared
+use Rattle.spv_layout.specs.Row.{PlainRow, Ending, closed, maybe, file_and_text, repeated, others, maybe_others, plain_row}
+
+abbrev pub is_single : Form → Bool
+is_single form.Number = false
+is_single form.Text = false
+is_single form.Other = false
+is_single f = true
+
+abbrev pub are_single : List Form → Bool
+are_single [] = true
+are_single (f ∷ fs) = is_single f && are_single fs
+
+abbrev pub is_single_ending : Ending → Bool
+is_single_ending closed = true
+is_single_ending (maybe f) = is_single f
+is_single_ending file_and_text = false
+is_single_ending (repeated fs) = are_single fs
+is_single_ending others = false
+is_single_ending (maybe_others f) = false
+
+abbrev pub is_single_row : PlainRow → Bool
+is_single_row r = are_single r.fixed && is_single_ending r.ending
+
+abbrev pub are_same : Bool → Bool → Bool
+are_same true b = b
+are_same false b = not b
+
+-- each row of the code says whether it is such a row
+abbrev pub are_flagged : List declared.Row → Bool
+are_flagged [] = true
+are_flagged (r ∷ rs) = are_same r.single (is_single_row (plain_row r)) && are_flagged rs

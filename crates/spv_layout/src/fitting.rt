@@ -1,0 +1,232 @@
+//! Whether an instruction fits its row.
+
+ghost use Rattle.std.specs.Prelude.{◌≡◌, ◌+◌, [], true, length, map, Some, IfSome, IfNone};
+ghost use Rattle.spv_layout.specs.Place.{word_count};
+ghost use Rattle.spv_inst.specs.Module.{plain_inst, plain_operand};
+ghost use Rattle.spv_layout.specs.Row.{has_masks, plain_ending, plain_row};
+ghost use Rattle.spv_layout.specs.Rows.{class_of};
+ghost use Rattle.spv_layout.specs.Shape.{Fits, is_of};
+ghost use Rattle.spv_layout.specs.Test.{sort_of, sort_for, are_of, are_others, are_rounds, fits_ending, fits_row};
+
+use crate::form::{Ending, Form, Named, Role, Row};
+use crate::kinds::Kinds;
+use crate::rows::row;
+use spv_inst::{Inst, Operand};
+
+/// Whether a kind's operands are masks.
+fn is_mask(kind: Named) -> bool
+    ensures { result ≡ has_masks kind }
+{
+    match kind {
+        Named::FunctionControl => true,
+        Named::MemoryAccess => true,
+        Named::LoopControl => true,
+        Named::SelectionControl => true,
+        _ => false,
+    }
+}
+
+/// The sort of an operand, by number.
+#[inline(always)]
+fn sort(operand: Operand<'_>) -> u8
+    ensures { result ≡ sort_of (plain_operand operand.entry) }
+{
+    match operand {
+        Operand::OfType(_) => 0,
+        Operand::Result(_) => 1,
+        Operand::Id(_) => 2,
+        Operand::Word(_) => 3,
+        Operand::Number { .. } => 4,
+        Operand::Text(_) => 5,
+        Operand::Value { .. } => 6,
+        Operand::Mask { .. } => 7,
+    }
+}
+
+/// The sort that a form asks for, or 8 where it asks for more or less than that.
+#[inline(always)]
+fn sort_asked(form: Form) -> u8
+    ensures { result ≡ sort_for form }
+{
+    match form {
+        Form::OfType => 0,
+        Form::Result => 1,
+        Form::Word => 3,
+        Form::Number => 4,
+        Form::Text => 5,
+        Form::Id(_) => 2,
+        Form::Unseen => 2,
+        Form::Kind(_) => 8,
+        Form::Other => 8,
+    }
+}
+
+/// Whether an operand is of a form: most forms ask for a sort alone.
+#[inline(always)]
+fn has_form(kinds: &Kinds<'_>, form: Form, operand: Operand<'_>) -> bool
+    ensures { result ≡ is_of kinds.now form (plain_operand operand.entry) }
+{
+    let asked = sort_asked(form);
+    if asked < 8 {
+        sort(operand) == asked
+    } else {
+        is_of_form(kinds, form, operand)
+    }
+}
+
+/// Whether an operand is of a form.
+#[inline(always)]
+fn is_of_form(kinds: &Kinds<'_>, form: Form, operand: Operand<'_>) -> bool
+    ensures { result ≡ is_of kinds.now form (plain_operand operand.entry) }
+{
+    match form {
+        Form::OfType => match operand {
+            Operand::OfType(_) => true,
+            _ => false,
+        },
+        Form::Result => match operand {
+            Operand::Result(_) => true,
+            _ => false,
+        },
+        Form::Word => match operand {
+            Operand::Word(_) => true,
+            _ => false,
+        },
+        Form::Number => match operand {
+            Operand::Number { .. } => true,
+            _ => false,
+        },
+        Form::Text => match operand {
+            Operand::Text(_) => true,
+            _ => false,
+        },
+        Form::Id(_) => match operand {
+            Operand::Id(_) => true,
+            _ => false,
+        },
+        Form::Unseen => match operand {
+            Operand::Id(_) => true,
+            _ => false,
+        },
+        Form::Kind(kind) => match operand {
+            Operand::Value { kind: number, .. } => !is_mask(kind) && kinds.is_kind(kind, number),
+            Operand::Mask { kind: number, .. } => is_mask(kind) && kinds.is_kind(kind, number),
+            _ => false,
+        },
+        Form::Other => match operand {
+            Operand::OfType(_) => false,
+            Operand::Result(_) => false,
+            _ => true,
+        },
+    }
+}
+
+/// Whether operands are of these forms, one by one.
+#[inline(always)]
+fn have_forms(kinds: &Kinds<'_>, forms: &[Form], operands: &[Operand<'_>]) -> bool
+    ensures { result ≡ are_of kinds.now forms.now (map plain_operand operands.now) }
+{
+    if forms.len() != operands.len() {
+        return false;
+    }
+    for i in 0..forms.len() {
+        if !has_form(kinds, forms[i], operands[i]) {
+            return false;
+        }
+    }
+    true
+}
+
+/// Whether operands are neither types nor results.
+fn are_free(kinds: &Kinds<'_>, operands: &[Operand<'_>]) -> bool
+    ensures { result ≡ are_others kinds.now (map plain_operand operands.now) }
+{
+    for operand in operands {
+        if !has_form(kinds, Form::Other, *operand) {
+            return false;
+        }
+    }
+    true
+}
+
+/// Whether operands are of these forms in turn, any number of times.
+fn have_rounds(kinds: &Kinds<'_>, forms: &[Form], operands: &[Operand<'_>]) -> bool
+    ensures { result ≡ are_rounds kinds.now forms.now [] (map plain_operand operands.now) }
+{
+    let mut at = forms.len();
+    for operand in operands {
+        if at == forms.len() {
+            at = 0;
+        }
+        if at == forms.len() || !has_form(kinds, forms[at], *operand) {
+            return false;
+        }
+        at += 1;
+    }
+    at == forms.len()
+}
+
+/// Whether operands fit an ending.
+fn have_ending(kinds: &Kinds<'_>, ending: Ending, operands: &[Operand<'_>]) -> bool
+    ensures { result ≡ fits_ending kinds.now (plain_ending ending) (map plain_operand operands.now) }
+{
+    match ending {
+        Ending::Closed => operands.is_empty(),
+        Ending::Maybe(form) => operands.is_empty() || have_forms(kinds, &[form], operands),
+        Ending::FileAndText => match operands {
+            [] => true,
+            [only] => {
+                has_form(kinds, Form::Id(Role::Text), *only) || has_form(kinds, Form::Text, *only)
+            }
+            _ => have_forms(kinds, &[Form::Id(Role::Text), Form::Text], operands),
+        },
+        Ending::Repeated(forms) => have_rounds(kinds, forms, operands),
+        Ending::Others => are_free(kinds, operands),
+        Ending::MaybeOthers(form) => match operands {
+            [] => true,
+            [first, rest @ ..] => has_form(kinds, form, *first) && are_free(kinds, rest),
+        },
+    }
+}
+
+/// Whether operands fit a row with an ending.
+#[inline(never)]
+fn have_parts(kinds: &Kinds<'_>, row: &Row, operands: &[Operand<'_>]) -> bool
+    ensures { result ≡ fits_row kinds.now (Some (plain_row row.now)) (map plain_operand operands.now) }
+{
+    let fixed = row.fixed.len();
+    if operands.len() < fixed {
+        return false;
+    }
+    let (front, rest) = operands.split_at(fixed);
+    have_forms(kinds, row.fixed, front) && have_ending(kinds, row.ending, rest)
+}
+
+/// Whether operands fit a row.
+#[inline(always)]
+fn have_row(kinds: &Kinds<'_>, row: &Row, operands: &[Operand<'_>]) -> bool
+    ensures { result ≡ fits_row kinds.now (Some (plain_row row.now)) (map plain_operand operands.now) }
+{
+    match row.ending {
+        Ending::Closed => have_forms(kinds, row.fixed, operands),
+        _ => have_parts(kinds, row, operands),
+    }
+}
+
+/// The row of an instruction that fits its opcode's row, under a grammar table.
+#[inline(always)]
+pub fn fitting(kinds: &Kinds<'_>, inst: &Inst<'_>) -> Option<&'static Row>
+    ensures fits { IfSome result (λ r. Fits kinds.now (plain_inst inst.now)) }
+    ensures class { IfSome result (λ r. r.now.class ≡ class_of inst.now.opcode) }
+    ensures single { IfSome result (λ r. r.now.single ≡ true → word_count (plain_inst inst.now) ≡ 1 + length (plain_inst inst.now).operands) }
+    ensures misfit { IfNone result (¬ (Fits kinds.now (plain_inst inst.now))) }
+{
+    let Some(row) = row(inst.opcode) else {
+        return None;
+    };
+    if have_row(kinds, row, inst.operands.as_slice()) {
+        Some(row)
+    } else {
+        None
+    }
+}

@@ -1,0 +1,87 @@
+use crate::class::Class;
+
+/// What an id is used as by an operand (own; SPIR-V Specification 1.6, section 3).
+#[derive(Clone, Copy, Debug, PartialEq, Eq)]
+pub enum Role {
+    /// The type of a result, or a type that another type names.
+    OfType,
+    /// A value, or a constant.
+    Value,
+    /// An OpFunction.
+    Function,
+    /// An OpString.
+    Text,
+    /// A set of extended instructions.
+    Set,
+    /// The OpLabel of a block.
+    Label,
+    /// A variable outside functions.
+    Global,
+    /// Anything that has an id: what a name or a decoration is given to, or a parameter of a value or a mask.
+    Any,
+}
+
+/// The kinds that rows name.
+#[derive(Clone, Copy, Debug, PartialEq, Eq)]
+pub enum Named {
+    SourceLanguage,
+    AddressingModel,
+    MemoryModel,
+    ExecutionModel,
+    ExecutionMode,
+    Capability,
+    StorageClass,
+    Decoration,
+    FunctionControl,
+    MemoryAccess,
+    LoopControl,
+    SelectionControl,
+}
+
+/// What a row asks of an operand.
+#[derive(Clone, Copy, Debug, PartialEq, Eq)]
+pub enum Form {
+    OfType,
+    Result,
+    Word,
+    Number,
+    Text,
+    /// An id that is used in a role.
+    Id(Role),
+    /// An id that no rule looks at.
+    Unseen,
+    /// A value or mask of the kind of that name.
+    Kind(Named),
+    /// Any operand other than a type or a result.
+    Other,
+}
+
+/// What may come after the fixed operands of a row.
+#[derive(Clone, Copy, Debug)]
+pub enum Ending {
+    /// Nothing.
+    Closed,
+    /// One operand, or nothing.
+    Maybe(Form),
+    /// A file, or nothing; and then a text, or nothing.
+    FileAndText,
+    /// These operands in turn, any number of times.
+    Repeated(&'static [Form]),
+    /// Any number of other operands.
+    Others,
+    /// One operand and any number of other operands, or nothing.
+    MaybeOthers(Form),
+}
+
+/// A row of the table of shapes.
+#[derive(Clone, Copy, Debug)]
+pub struct Row {
+    /// Its opcodes, both ends included.
+    pub from: u16,
+    pub to: u16,
+    pub class: Class,
+    pub fixed: &'static [Form],
+    pub ending: Ending,
+    /// Whether the operands that it asks for take one word each, whatever they are.
+    pub single: bool,
+}

@@ -1,0 +1,23 @@
+//! The layout of a module: which instructions the profile has and with which operands, the order of a module's sections, and where
+//! each instruction stands (SPIR-V Specification 1.6, section 2.4).
+#![tactic(auto)]
+
+mod class;
+mod fitting;
+mod form;
+mod kinds;
+pub mod laws;
+mod place;
+mod plan;
+mod roles;
+mod rows;
+mod span;
+mod state;
+#[cfg(test)]
+mod tests;
+
+pub use class::Class;
+pub use form::{Ending, Form, Named, Role, Row};
+pub use place::Place;
+pub use plan::{Plan, lay_out};
+pub use roles::role;

@@ -1,0 +1,153 @@
+ghost use Rattle.std.specs.Prelude.{◌≡◌, ◌+◌, ◌≤◌, true, length, IfErr, OnOk};
+ghost use Rattle.spv_inst.specs.Module.{plain_inst, plain_operand};
+ghost use Rattle.spv_inst.specs.declared.fault.Stop.TheVariants.{Memory};
+ghost use Rattle.spv_layout.specs.Place as specs;
+ghost use Rattle.spv_layout.specs.Place.{section_of};
+ghost use Rattle.spv_layout.specs.Kept.{early_with, late_with, early_place, late_place};
+
+use crate::class::Class;
+use crate::span::{Spans, number};
+use spv_inst::{Inst, Operand, Stop};
+
+/// Where an instruction stands.
+#[derive(Clone, Copy, Debug, PartialEq, Eq)]
+pub struct Place {
+    /// The place of its section's row: 1 to 6, 7a, 7b and 7c as 7 to 9, and 8 to 11 as 10 to 13.
+    pub section: u8,
+    /// The number of its function's OpFunction, if it is of one: from the OpFunction to the OpFunctionEnd.
+    pub function: Option<u32>,
+    /// The number of its block's OpLabel, if it is of one: from the OpLabel to the terminator.
+    pub block: Option<u32>,
+    /// The number of its first word in the module.
+    pub word: u32,
+}
+
+/// What is kept of an instruction of sections 1 to 8.
+#[derive(Clone, Copy, Debug)]
+pub struct Early {
+    pub section: u8,
+    pub word: u32,
+}
+
+/// What is kept of an instruction of sections 9 to 11: the function and the block as in `Spans`.
+#[derive(Clone, Copy, Debug)]
+pub struct Standing {
+    pub function: u32,
+    pub block: u32,
+    pub word: u32,
+}
+
+/// The section of a class that stands in one alone: those of sections 1 to 8.
+pub fn section(class: Class) -> Option<u8>
+    ensures { result ≡ section_of class }
+{
+    match class {
+        Class::Capability => Some(1),
+        Class::Extension => Some(2),
+        Class::Import => Some(3),
+        Class::MemoryModel => Some(4),
+        Class::EntryPoint => Some(5),
+        Class::ExecutionMode => Some(6),
+        Class::Source => Some(7),
+        Class::Name => Some(8),
+        Class::Processed => Some(9),
+        Class::Decoration => Some(10),
+        _ => None,
+    }
+}
+
+impl Early {
+    pub fn place(self) -> Place
+        ensures { result ≡ early_place self }
+    {
+        Place {
+            section: self.section,
+            function: None,
+            block: None,
+            word: self.word,
+        }
+    }
+}
+
+impl Standing {
+    /// The place of instruction `at`, where sections 10 and 11 begin at these instructions.
+    pub fn place(self, functions: u32, definitions: u32, at: u32) -> Place
+        ensures { result ≡ late_place functions definitions at self }
+    {
+        let section = if at < functions {
+            11
+        } else if at < definitions {
+            12
+        } else {
+            13
+        };
+        Place {
+            section,
+            function: number(self.function),
+            block: number(self.block),
+            word: self.word,
+        }
+    }
+}
+
+/// Keeps an instruction of a class, with its first word.
+pub fn keep(
+    early: &mut Vec<Early>,
+    late: &mut Vec<Standing>,
+    class: Class,
+    spans: Spans,
+    word: u32,
+) -> Result<(), Stop>
+    ensures early { OnOk result (early.new.items ≡ early_with (section_of class) word early.old.items) }
+    ensures late { OnOk result (late.new.items ≡ late_with (section_of class) spans word late.old.items) }
+    ensures memory { IfErr result (λ e. e ≡ Memory) }
+{
+    match section(class) {
+        Some(section) => early.push(Early { section, word })?,
+        None => late.push(Standing {
+            function: spans.function,
+            block: spans.block,
+            word,
+        })?,
+    }
+    Ok(())
+}
+
+/// How many words an operand takes.
+#[inline(always)]
+fn operand_words(operand: Operand<'_>) -> usize
+    ensures { result ≡ specs.operand_words (plain_operand operand.entry) }
+{
+    match operand {
+        Operand::Number { words, .. } => usize::from(words),
+        Operand::Text(text) => text.len() / 4 + 1,
+        _ => 1,
+    }
+}
+
+/// How many words an instruction has, of which it may be known that each operand takes one.
+#[inline(always)]
+pub fn words_of(inst: &Inst<'_>, single: bool) -> u32
+    requires words { specs.word_count (plain_inst inst.now) ≤ 4194304 }
+    requires single { single ≡ true → specs.word_count (plain_inst inst.now) ≡ 1 + length (plain_inst inst.now).operands }
+    ensures { result ≡ specs.word_count (plain_inst inst.now) }
+{
+    if single {
+        inst.operands.as_slice().len() as u32 + 1
+    } else {
+        inst_words(inst)
+    }
+}
+
+/// How many words an instruction has.
+#[inline(never)]
+pub fn inst_words(inst: &Inst<'_>) -> u32
+    requires { specs.word_count (plain_inst inst.now) ≤ 4194304 }
+    ensures { result ≡ specs.word_count (plain_inst inst.now) }
+{
+    let mut count = 1;
+    for operand in inst.operands.as_slice() {
+        count += operand_words(*operand);
+    }
+    count as u32
+}

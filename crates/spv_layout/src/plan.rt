@@ -1,0 +1,187 @@
+ghost use Rattle.std.specs.Prelude.{◌≡◌, ◌+◌, ◌≤◌, ◌<◌, ℕ, length, map, sum_by, slice_get, IfOk, IfErr, IfSome, IfNone, Some};
+ghost use Rattle.spv_inst.specs.Module.{plain_inst, plain_insts};
+ghost use Rattle.spv_inst.specs.Operand.{PlainInst};
+ghost use Rattle.spv_inst.specs.declared.fault.Rule.TheVariants as rule;
+ghost use Rattle.spv_inst.specs.declared.fault.Stop.TheVariants as stop;
+ghost use Rattle.spv_layout.specs.First.{IsFirst};
+ghost use Rattle.spv_layout.specs.Broken.{Broken};
+ghost use Rattle.spv_layout.specs.DeadPlace.{IsDeadPlace};
+ghost use Rattle.spv_layout.specs.Shape.{Fits};
+ghost use Rattle.spv_layout.specs.Place.{word_count, first_word_of};
+ghost use Rattle.spv_layout.specs.Plan.{IsPlan, IsRefusal};
+
+use crate::fitting::fitting;
+use crate::kinds::Kinds;
+use crate::place::{Early, Place, Standing, inst_words, keep, section, words_of};
+use crate::rows::class;
+use crate::span::Spans;
+use crate::state::{State, next, stops};
+use spv_grammar::Table;
+use spv_inst::{Fault, Inst, Module, Rule, Stop};
+use std::alloc::Global;
+use std::marker::Model;
+
+/// The places of a module's instructions. Contracts see it as their list.
+///
+/// It keeps 8 bytes for an instruction of sections 1 to 8, and 12 for one of sections 9 to 11.
+#[derive(Debug, Drop)]
+pub struct Plan {
+    /// The instructions of sections 1 to 8.
+    early: Vec<Early>,
+    /// Those after them.
+    late: Vec<Standing>,
+    /// Where section 10 begins, and section 11, as in `Spans`.
+    functions: u32,
+    definitions: u32,
+}
+
+impl Model for Plan {
+    ghost use Rattle.std.specs.Prelude.{List};
+    ghost use Rattle.spv_layout.specs.declared.place.Place.{Place};
+    ghost use Rattle.spv_layout.specs.Kept.{places_in};
+
+    ghost Value = { List Place };
+
+    ghost view = { λ p. places_in p.functions p.definitions p.early.items p.late.items };
+}
+
+impl Plan {
+    /// The place of an instruction, if the module has one of that number, from 0. It takes no memory.
+    pub fn at(&self, inst: u32) -> Option<Place>
+        ensures { result ≡ slice_get self.now inst }
+    {
+        let at = inst as usize;
+        let early = self.early.len();
+        if at < early {
+            Some(self.early[at].place())
+        } else if at - early < self.late.len() {
+            Some(self.late[at - early].place(self.functions, self.definitions, inst))
+        } else {
+            None
+        }
+    }
+}
+
+/// A broken rule at an instruction with that first word.
+fn fault(rule: Rule, inst: usize, word: u32) -> Stop
+    requires { inst ≤ 4194304 }
+    ensures { result ≡ stop.Fault (record { rule = rule; inst = inst; word = word }) }
+{
+    Stop::Fault(Fault {
+        rule,
+        inst: inst as u32,
+        word,
+    })
+}
+
+/// The first instruction that does not fit its row.
+fn first_misfit(kinds: &Kinds<'_>, insts: &[Inst<'_>]) -> Option<usize>
+    ensures some { IfSome result (λ n. IsFirst (Broken kinds.now (map plain_inst insts.now)) 1 rule.P1 n) }
+    ensures within { IfSome result (λ n. n < length insts.now) }
+    ensures none { IfNone result ((n : ℕ) (i : PlainInst) → slice_get (map plain_inst insts.now) n ≡ Some i → Fits kinds.now i) }
+{
+    for (i, inst) in insts.iter().enumerate() {
+        let Some(_) = fitting(kinds, inst) else {
+            return Some(i);
+        };
+    }
+    None
+}
+
+/// The number of an instruction's first word, or at the end of all words.
+fn word_at(insts: &[Inst<'_>], n: usize) -> u32
+    requires words { 5 + sum_by word_count (map plain_inst insts.now) ≤ 4194304 }
+    requires within { n ≤ length insts.now }
+    ensures { result ≡ first_word_of (map plain_inst insts.now) n }
+{
+    let mut word = 5;
+    for i in 0..n {
+        word += inst_words(&insts[i]);
+    }
+    word
+}
+
+/// The first broken rule of a module with a dead place, whose first word is told: P1 at the first instruction that does
+/// not fit its row, or the rule of the place.
+#[inline(never)]
+fn refused(kinds: &Kinds<'_>, insts: &[Inst<'_>], rule: Rule, inst: usize, word: u32) -> Stop
+    requires words { 5 + sum_by word_count (map plain_inst insts.now) ≤ 4194304 }
+    requires dead { IsDeadPlace (map plain_inst insts.now) rule inst }
+    requires within { inst ≤ length insts.now }
+    requires word { word ≡ first_word_of (map plain_inst insts.now) inst }
+    ensures { IsRefusal kinds.now (map plain_inst insts.now) result }
+{
+    match first_misfit(kinds, insts) {
+        Some(misfit) => fault(Rule::P1, misfit, word_at(insts, misfit)),
+        None => fault(rule, inst, word),
+    }
+}
+
+/// How many instructions stand before the first one of a class of sections 9 to 11.
+fn count_early(insts: &[Inst<'_>]) -> usize
+    ensures { result ≤ length insts.now }
+{
+    for (i, inst) in insts.iter().enumerate() {
+        if section(class(inst.opcode)).is_none() {
+            return i;
+        }
+    }
+    insts.len()
+}
+
+/// Lays instructions out, in one pass.
+fn plan_of(alloc: Global, kinds: &Kinds<'_>, insts: &[Inst<'_>]) -> Result<Plan, Stop>
+    requires words { 5 + sum_by word_count (map plain_inst insts.now) ≤ 4194304 }
+    ensures plan { IfOk result (λ p. IsPlan kinds.now (map plain_inst insts.now) p) }
+    ensures refused { IfErr result (λ s. IsRefusal kinds.now (map plain_inst insts.now) s) }
+{
+    let count = count_early(insts);
+    let mut early = Vec::with_capacity(alloc, count)?;
+    let mut late = Vec::with_capacity(alloc, insts.len() - count)?;
+    let mut state = State::Capabilities;
+    let mut spans = Spans::new();
+    let mut word = 5;
+    for (i, inst) in insts.iter().enumerate() {
+        let Some(row) = fitting(kinds, inst) else {
+            return Err(fault(Rule::P1, i, word));
+        };
+        let Some(after) = next(state, row.class) else {
+            return Err(refused(kinds, insts, Rule::L1, i, word));
+        };
+        state = after;
+        spans = spans.enter(row.class, i as u32);
+        keep(&mut early, &mut late, row.class, spans, word)?;
+        spans = spans.leave(row.class);
+        word += words_of(inst, row.single);
+    }
+    if !stops(state) {
+        return Err(refused(kinds, insts, Rule::L2, insts.len(), word));
+    }
+    Ok(Plan {
+        early,
+        late,
+        functions: spans.functions,
+        definitions: spans.definitions,
+    })
+}
+
+/// Lays a module out: each instruction has the operands that the row of its opcode asks for (own), and all together stand
+/// in the order of the sections (SPIR-V Specification 1.6, section 2.4).
+///
+/// A `Fault` tells the first broken rule, the number of its instruction, from 0, and that of the instruction's first word
+/// in the module:
+/// - P1, wherever it stands: the opcode has no row, or the operands do not fit it (own).
+/// - L1, where no instruction breaks P1: no module goes on with this instruction after those before it (2.4).
+/// - L2, where none breaks P1 or L1: the module ends too early. The numbers are those of all instructions and all words.
+///
+/// `Memory` comes only where a growth of memory was refused.
+///
+/// A module that was decoded has few enough words: the law `word_counts` says how many.
+pub fn lay_out(alloc: Global, table: &Table, module: &Module<'_>) -> Result<Plan, Stop>
+    requires { 5 + sum_by word_count (plain_insts «module».now) ≤ 4194304 }
+    ensures plan { IfOk result (λ p. IsPlan table.now (plain_insts «module».now) p) }
+    ensures refused { IfErr result (λ s. IsRefusal table.now (plain_insts «module».now) s) }
+{
+    let kinds = Kinds::of(table);
+    plan_of(alloc, &kinds, module.insts.as_slice())
+}

@@ -1,0 +1,87 @@
+//! What the operands of an instruction are used as.
+
+ghost use Rattle.std.specs.Prelude.{◌≡◌, ◌≤◌, ◌<◌, ◌-◌, ◌%◌, ℕ, length, map, slice_get, Some};
+ghost use Rattle.spv_grammar.specs.Table.{Table};
+ghost use Rattle.spv_inst.specs.Module.{plain_inst, plain_operand};
+ghost use Rattle.spv_layout.specs.Row.{plain_ending, plain_row};
+ghost use Rattle.spv_layout.specs.Rows.{row_of};
+ghost use Rattle.spv_layout.specs.Shape.{Fits, IsRole};
+ghost use Rattle.spv_layout.specs.Shape as shape;
+ghost use Rattle.spv_layout.specs.Test as test;
+
+use crate::form::{Ending, Form, Role, Row};
+use crate::rows::row;
+use spv_inst::{Inst, Operand};
+
+/// The role in which an operand of a form is used.
+fn role_of(form: Form, operand: Operand<'_>) -> Option<Role>
+    ensures { result ≡ shape.role_of form (plain_operand operand.entry) }
+{
+    match form {
+        Form::OfType => Some(Role::OfType),
+        Form::Id(role) => Some(role),
+        Form::Other => match operand {
+            Operand::Id(_) => Some(Role::Any),
+            _ => None,
+        },
+        _ => None,
+    }
+}
+
+/// The form of an operand at a place of an ending.
+fn form_in(ending: Ending, operand: Operand<'_>, n: usize) -> Option<Form>
+    ensures { result ≡ test.form_in (plain_ending ending) (plain_operand operand.entry) n }
+{
+    match ending {
+        Ending::Closed => None,
+        Ending::Maybe(form) => Some(form),
+        Ending::FileAndText => match operand {
+            Operand::Text(_) => Some(Form::Text),
+            _ => Some(Form::Id(Role::Text)),
+        },
+        Ending::Repeated(forms) => {
+            if forms.is_empty() {
+                None
+            } else {
+                Some(forms[n % forms.len()])
+            }
+        }
+        Ending::Others => Some(Form::Other),
+        Ending::MaybeOthers(form) => {
+            if n == 0 {
+                Some(form)
+            } else {
+                Some(Form::Other)
+            }
+        }
+    }
+}
+
+/// The form of an operand at a place of a row.
+fn form_at(row: &Row, operand: Operand<'_>, n: usize) -> Option<Form>
+    ensures { result ≡ test.form_at (plain_row row.now) (plain_operand operand.entry) n }
+{
+    if n < row.fixed.len() {
+        Some(row.fixed[n])
+    } else {
+        form_in(row.ending, operand, n - row.fixed.len())
+    }
+}
+
+/// The role of operand `n`, from 0, of an instruction that fits its row under some table: `lay_out` answers a plan only
+/// for such. None where that operand is no use of an id, or there is none of that number. It takes no memory.
+pub fn role(inst: &Inst<'_>, n: usize) -> Option<Role>
+    ensures { (G : Table) → Fits G (plain_inst inst.now) → IsRole G (plain_inst inst.now) n result }
+{
+    let Some(row) = row(inst.opcode) else {
+        return None;
+    };
+    let operands = inst.operands.as_slice();
+    if operands.len() <= n {
+        return None;
+    }
+    match form_at(row, operands[n], n) {
+        Some(form) => role_of(form, operands[n]),
+        None => None,
+    }
+}

@@ -1,0 +1,917 @@
+ghost use Rattle.std.specs.Prelude.{◌≡◌, IfSome, IsTrue, option_map, map, slice_get};
+ghost use Rattle.spv_layout.specs.Single.{is_single_row, are_flagged};
+ghost use Rattle.spv_layout.specs.Row.{plain_row, numbered};
+ghost use Rattle.spv_layout.specs.Rows.{row_of, class_of};
+
+use crate::class::Class;
+use crate::form::{Ending, Form, Named, Role, Row};
+
+const T: Form = Form::OfType;
+
+const R: Form = Form::Result;
+
+const W: Form = Form::Word;
+
+const N: Form = Form::Number;
+
+const S: Form = Form::Text;
+
+const TYPE: Form = Form::Id(Role::OfType);
+
+const VALUE: Form = Form::Id(Role::Value);
+
+const FUNCTION: Form = Form::Id(Role::Function);
+
+const STRING: Form = Form::Id(Role::Text);
+
+const SET: Form = Form::Id(Role::Set);
+
+const LABEL: Form = Form::Id(Role::Label);
+
+const GLOBAL: Form = Form::Id(Role::Global);
+
+const ANY: Form = Form::Id(Role::Any);
+
+const X: Form = Form::Unseen;
+
+static ROWS: [Row; 92] = [
+    // Nop
+    Row {
+        from: 0,
+        to: 0,
+        class: Class::Body,
+        fixed: &[],
+        ending: Ending::Closed,
+        single: true,
+    },
+    // Undef
+    Row {
+        from: 1,
+        to: 1,
+        class: Class::Undef,
+        fixed: &[T, R],
+        ending: Ending::Closed,
+        single: true,
+    },
+    // SourceContinued
+    Row {
+        from: 2,
+        to: 2,
+        class: Class::Source,
+        fixed: &[S],
+        ending: Ending::Closed,
+        single: false,
+    },
+    // Source
+    Row {
+        from: 3,
+        to: 3,
+        class: Class::Source,
+        fixed: &[Form::Kind(Named::SourceLanguage), W],
+        ending: Ending::FileAndText,
+        single: false,
+    },
+    // SourceExtension
+    Row {
+        from: 4,
+        to: 4,
+        class: Class::Source,
+        fixed: &[S],
+        ending: Ending::Closed,
+        single: false,
+    },
+    // Name
+    Row {
+        from: 5,
+        to: 5,
+        class: Class::Name,
+        fixed: &[ANY, S],
+        ending: Ending::Closed,
+        single: false,
+    },
+    // MemberName
+    Row {
+        from: 6,
+        to: 6,
+        class: Class::Name,
+        fixed: &[ANY, W, S],
+        ending: Ending::Closed,
+        single: false,
+    },
+    // String
+    Row {
+        from: 7,
+        to: 7,
+        class: Class::Source,
+        fixed: &[R, S],
+        ending: Ending::Closed,
+        single: false,
+    },
+    // Line
+    Row {
+        from: 8,
+        to: 8,
+        class: Class::Line,
+        fixed: &[STRING, W, W],
+        ending: Ending::Closed,
+        single: true,
+    },
+    // Extension
+    Row {
+        from: 10,
+        to: 10,
+        class: Class::Extension,
+        fixed: &[S],
+        ending: Ending::Closed,
+        single: false,
+    },
+    // ExtInstImport
+    Row {
+        from: 11,
+        to: 11,
+        class: Class::Import,
+        fixed: &[R, S],
+        ending: Ending::Closed,
+        single: false,
+    },
+    // ExtInst
+    Row {
+        from: 12,
+        to: 12,
+        class: Class::Body,
+        fixed: &[T, R, SET, W],
+        ending: Ending::Repeated(&[X]),
+        single: true,
+    },
+    // MemoryModel
+    Row {
+        from: 14,
+        to: 14,
+        class: Class::MemoryModel,
+        fixed: &[
+            Form::Kind(Named::AddressingModel),
+            Form::Kind(Named::MemoryModel),
+        ],
+        ending: Ending::Closed,
+        single: true,
+    },
+    // EntryPoint
+    Row {
+        from: 15,
+        to: 15,
+        class: Class::EntryPoint,
+        fixed: &[Form::Kind(Named::ExecutionModel), FUNCTION, S],
+        ending: Ending::Repeated(&[GLOBAL]),
+        single: false,
+    },
+    // ExecutionMode
+    Row {
+        from: 16,
+        to: 16,
+        class: Class::ExecutionMode,
+        fixed: &[FUNCTION, Form::Kind(Named::ExecutionMode)],
+        ending: Ending::Others,
+        single: false,
+    },
+    // Capability
+    Row {
+        from: 17,
+        to: 17,
+        class: Class::Capability,
+        fixed: &[Form::Kind(Named::Capability)],
+        ending: Ending::Closed,
+        single: true,
+    },
+    // TypeVoid, TypeBool
+    Row {
+        from: 19,
+        to: 20,
+        class: Class::Declaration,
+        fixed: &[R],
+        ending: Ending::Closed,
+        single: true,
+    },
+    // TypeInt
+    Row {
+        from: 21,
+        to: 21,
+        class: Class::Declaration,
+        fixed: &[R, W, W],
+        ending: Ending::Closed,
+        single: true,
+    },
+    // TypeFloat
+    Row {
+        from: 22,
+        to: 22,
+        class: Class::Declaration,
+        fixed: &[R, W],
+        ending: Ending::Closed,
+        single: true,
+    },
+    // TypeVector
+    Row {
+        from: 23,
+        to: 23,
+        class: Class::Declaration,
+        fixed: &[R, TYPE, W],
+        ending: Ending::Closed,
+        single: true,
+    },
+    // TypeArray
+    Row {
+        from: 28,
+        to: 28,
+        class: Class::Declaration,
+        fixed: &[R, TYPE, VALUE],
+        ending: Ending::Closed,
+        single: true,
+    },
+    // TypeStruct
+    Row {
+        from: 30,
+        to: 30,
+        class: Class::Declaration,
+        fixed: &[R],
+        ending: Ending::Repeated(&[TYPE]),
+        single: true,
+    },
+    // TypeOpaque
+    Row {
+        from: 31,
+        to: 31,
+        class: Class::Declaration,
+        fixed: &[R, S],
+        ending: Ending::Closed,
+        single: false,
+    },
+    // TypePointer
+    Row {
+        from: 32,
+        to: 32,
+        class: Class::Declaration,
+        fixed: &[R, Form::Kind(Named::StorageClass), TYPE],
+        ending: Ending::Closed,
+        single: true,
+    },
+    // TypeFunction
+    Row {
+        from: 33,
+        to: 33,
+        class: Class::Declaration,
+        fixed: &[R, TYPE],
+        ending: Ending::Repeated(&[TYPE]),
+        single: true,
+    },
+    // TypeForwardPointer
+    Row {
+        from: 39,
+        to: 39,
+        class: Class::Declaration,
+        fixed: &[TYPE, Form::Kind(Named::StorageClass)],
+        ending: Ending::Closed,
+        single: true,
+    },
+    // ConstantTrue, ConstantFalse
+    Row {
+        from: 41,
+        to: 42,
+        class: Class::Declaration,
+        fixed: &[T, R],
+        ending: Ending::Closed,
+        single: true,
+    },
+    // Constant
+    Row {
+        from: 43,
+        to: 43,
+        class: Class::Declaration,
+        fixed: &[T, R, N],
+        ending: Ending::Closed,
+        single: false,
+    },
+    // ConstantComposite
+    Row {
+        from: 44,
+        to: 44,
+        class: Class::Declaration,
+        fixed: &[T, R],
+        ending: Ending::Repeated(&[VALUE]),
+        single: true,
+    },
+    // ConstantNull
+    Row {
+        from: 46,
+        to: 46,
+        class: Class::Declaration,
+        fixed: &[T, R],
+        ending: Ending::Closed,
+        single: true,
+    },
+    // SpecConstantTrue, SpecConstantFalse
+    Row {
+        from: 48,
+        to: 49,
+        class: Class::Declaration,
+        fixed: &[T, R],
+        ending: Ending::Closed,
+        single: true,
+    },
+    // SpecConstant
+    Row {
+        from: 50,
+        to: 50,
+        class: Class::Declaration,
+        fixed: &[T, R, N],
+        ending: Ending::Closed,
+        single: false,
+    },
+    // SpecConstantComposite
+    Row {
+        from: 51,
+        to: 51,
+        class: Class::Declaration,
+        fixed: &[T, R],
+        ending: Ending::Repeated(&[VALUE]),
+        single: true,
+    },
+    // Function
+    Row {
+        from: 54,
+        to: 54,
+        class: Class::Function,
+        fixed: &[T, R, Form::Kind(Named::FunctionControl), TYPE],
+        ending: Ending::Closed,
+        single: true,
+    },
+    // FunctionParameter
+    Row {
+        from: 55,
+        to: 55,
+        class: Class::Parameter,
+        fixed: &[T, R],
+        ending: Ending::Closed,
+        single: true,
+    },
+    // FunctionEnd
+    Row {
+        from: 56,
+        to: 56,
+        class: Class::FunctionEnd,
+        fixed: &[],
+        ending: Ending::Closed,
+        single: true,
+    },
+    // FunctionCall
+    Row {
+        from: 57,
+        to: 57,
+        class: Class::Body,
+        fixed: &[T, R, FUNCTION],
+        ending: Ending::Repeated(&[VALUE]),
+        single: true,
+    },
+    // Variable
+    Row {
+        from: 59,
+        to: 59,
+        class: Class::Variable,
+        fixed: &[T, R, Form::Kind(Named::StorageClass)],
+        ending: Ending::Maybe(VALUE),
+        single: true,
+    },
+    // Load
+    Row {
+        from: 61,
+        to: 61,
+        class: Class::Body,
+        fixed: &[T, R, VALUE],
+        ending: Ending::MaybeOthers(Form::Kind(Named::MemoryAccess)),
+        single: false,
+    },
+    // Store, CopyMemory
+    Row {
+        from: 62,
+        to: 63,
+        class: Class::Body,
+        fixed: &[VALUE, VALUE],
+        ending: Ending::MaybeOthers(Form::Kind(Named::MemoryAccess)),
+        single: false,
+    },
+    // CopyMemorySized
+    Row {
+        from: 64,
+        to: 64,
+        class: Class::Body,
+        fixed: &[VALUE, VALUE, VALUE],
+        ending: Ending::MaybeOthers(Form::Kind(Named::MemoryAccess)),
+        single: false,
+    },
+    // AccessChain, InBoundsAccessChain
+    Row {
+        from: 65,
+        to: 66,
+        class: Class::Body,
+        fixed: &[T, R, VALUE],
+        ending: Ending::Repeated(&[VALUE]),
+        single: true,
+    },
+    // PtrAccessChain
+    Row {
+        from: 67,
+        to: 67,
+        class: Class::Body,
+        fixed: &[T, R, VALUE, VALUE],
+        ending: Ending::Repeated(&[VALUE]),
+        single: true,
+    },
+    // InBoundsPtrAccessChain
+    Row {
+        from: 70,
+        to: 70,
+        class: Class::Body,
+        fixed: &[T, R, VALUE, VALUE],
+        ending: Ending::Repeated(&[VALUE]),
+        single: true,
+    },
+    // Decorate
+    Row {
+        from: 71,
+        to: 71,
+        class: Class::Decoration,
+        fixed: &[ANY, Form::Kind(Named::Decoration)],
+        ending: Ending::Others,
+        single: false,
+    },
+    // MemberDecorate
+    Row {
+        from: 72,
+        to: 72,
+        class: Class::Decoration,
+        fixed: &[ANY, W, Form::Kind(Named::Decoration)],
+        ending: Ending::Others,
+        single: false,
+    },
+    // VectorExtractDynamic
+    Row {
+        from: 77,
+        to: 77,
+        class: Class::Body,
+        fixed: &[T, R, VALUE, VALUE],
+        ending: Ending::Closed,
+        single: true,
+    },
+    // VectorInsertDynamic
+    Row {
+        from: 78,
+        to: 78,
+        class: Class::Body,
+        fixed: &[T, R, VALUE, VALUE, VALUE],
+        ending: Ending::Closed,
+        single: true,
+    },
+    // VectorShuffle
+    Row {
+        from: 79,
+        to: 79,
+        class: Class::Body,
+        fixed: &[T, R, VALUE, VALUE],
+        ending: Ending::Repeated(&[W]),
+        single: true,
+    },
+    // CompositeConstruct
+    Row {
+        from: 80,
+        to: 80,
+        class: Class::Body,
+        fixed: &[T, R],
+        ending: Ending::Repeated(&[VALUE]),
+        single: true,
+    },
+    // CompositeExtract
+    Row {
+        from: 81,
+        to: 81,
+        class: Class::Body,
+        fixed: &[T, R, VALUE],
+        ending: Ending::Repeated(&[W]),
+        single: true,
+    },
+    // CompositeInsert
+    Row {
+        from: 82,
+        to: 82,
+        class: Class::Body,
+        fixed: &[T, R, VALUE, VALUE],
+        ending: Ending::Repeated(&[W]),
+        single: true,
+    },
+    // CopyObject
+    Row {
+        from: 83,
+        to: 83,
+        class: Class::Body,
+        fixed: &[T, R, VALUE],
+        ending: Ending::Closed,
+        single: true,
+    },
+    // ConvertFToU to ConvertUToF
+    Row {
+        from: 109,
+        to: 112,
+        class: Class::Body,
+        fixed: &[T, R, VALUE],
+        ending: Ending::Closed,
+        single: true,
+    },
+    // UConvert, SConvert, FConvert
+    Row {
+        from: 113,
+        to: 115,
+        class: Class::Body,
+        fixed: &[T, R, VALUE],
+        ending: Ending::Closed,
+        single: true,
+    },
+    // ConvertPtrToU
+    Row {
+        from: 117,
+        to: 117,
+        class: Class::Body,
+        fixed: &[T, R, VALUE],
+        ending: Ending::Closed,
+        single: true,
+    },
+    // ConvertUToPtr
+    Row {
+        from: 120,
+        to: 120,
+        class: Class::Body,
+        fixed: &[T, R, VALUE],
+        ending: Ending::Closed,
+        single: true,
+    },
+    // PtrCastToGeneric, GenericCastToPtr
+    Row {
+        from: 121,
+        to: 122,
+        class: Class::Body,
+        fixed: &[T, R, VALUE],
+        ending: Ending::Closed,
+        single: true,
+    },
+    // Bitcast
+    Row {
+        from: 124,
+        to: 124,
+        class: Class::Body,
+        fixed: &[T, R, VALUE],
+        ending: Ending::Closed,
+        single: true,
+    },
+    // SNegate, FNegate
+    Row {
+        from: 126,
+        to: 127,
+        class: Class::Body,
+        fixed: &[T, R, VALUE],
+        ending: Ending::Closed,
+        single: true,
+    },
+    // IAdd to FDiv
+    Row {
+        from: 128,
+        to: 136,
+        class: Class::Body,
+        fixed: &[T, R, VALUE, VALUE],
+        ending: Ending::Closed,
+        single: true,
+    },
+    // UMod to FMod
+    Row {
+        from: 137,
+        to: 141,
+        class: Class::Body,
+        fixed: &[T, R, VALUE, VALUE],
+        ending: Ending::Closed,
+        single: true,
+    },
+    // LogicalEqual to LogicalAnd
+    Row {
+        from: 164,
+        to: 167,
+        class: Class::Body,
+        fixed: &[T, R, VALUE, VALUE],
+        ending: Ending::Closed,
+        single: true,
+    },
+    // LogicalNot
+    Row {
+        from: 168,
+        to: 168,
+        class: Class::Body,
+        fixed: &[T, R, VALUE],
+        ending: Ending::Closed,
+        single: true,
+    },
+    // Select
+    Row {
+        from: 169,
+        to: 169,
+        class: Class::Body,
+        fixed: &[T, R, VALUE, VALUE, VALUE],
+        ending: Ending::Closed,
+        single: true,
+    },
+    // IEqual to SLessThanEqual
+    Row {
+        from: 170,
+        to: 179,
+        class: Class::Body,
+        fixed: &[T, R, VALUE, VALUE],
+        ending: Ending::Closed,
+        single: true,
+    },
+    // FOrdEqual to FUnordGreaterThanEqual
+    Row {
+        from: 180,
+        to: 191,
+        class: Class::Body,
+        fixed: &[T, R, VALUE, VALUE],
+        ending: Ending::Closed,
+        single: true,
+    },
+    // ShiftRightLogical to ShiftLeftLogical
+    Row {
+        from: 194,
+        to: 196,
+        class: Class::Body,
+        fixed: &[T, R, VALUE, VALUE],
+        ending: Ending::Closed,
+        single: true,
+    },
+    // BitwiseOr, BitwiseXor, BitwiseAnd
+    Row {
+        from: 197,
+        to: 199,
+        class: Class::Body,
+        fixed: &[T, R, VALUE, VALUE],
+        ending: Ending::Closed,
+        single: true,
+    },
+    // Not
+    Row {
+        from: 200,
+        to: 200,
+        class: Class::Body,
+        fixed: &[T, R, VALUE],
+        ending: Ending::Closed,
+        single: true,
+    },
+    // ControlBarrier
+    Row {
+        from: 224,
+        to: 224,
+        class: Class::Body,
+        fixed: &[VALUE, VALUE, VALUE],
+        ending: Ending::Closed,
+        single: true,
+    },
+    // MemoryBarrier
+    Row {
+        from: 225,
+        to: 225,
+        class: Class::Body,
+        fixed: &[VALUE, VALUE],
+        ending: Ending::Closed,
+        single: true,
+    },
+    // AtomicLoad
+    Row {
+        from: 227,
+        to: 227,
+        class: Class::Body,
+        fixed: &[T, R, VALUE, VALUE, VALUE],
+        ending: Ending::Closed,
+        single: true,
+    },
+    // AtomicStore
+    Row {
+        from: 228,
+        to: 228,
+        class: Class::Body,
+        fixed: &[VALUE, VALUE, VALUE, VALUE],
+        ending: Ending::Closed,
+        single: true,
+    },
+    // AtomicExchange
+    Row {
+        from: 229,
+        to: 229,
+        class: Class::Body,
+        fixed: &[T, R, VALUE, VALUE, VALUE, VALUE],
+        ending: Ending::Closed,
+        single: true,
+    },
+    // AtomicCompareExchange
+    Row {
+        from: 230,
+        to: 230,
+        class: Class::Body,
+        fixed: &[T, R, VALUE, VALUE, VALUE, VALUE, VALUE, VALUE],
+        ending: Ending::Closed,
+        single: true,
+    },
+    // AtomicIIncrement, AtomicIDecrement
+    Row {
+        from: 232,
+        to: 233,
+        class: Class::Body,
+        fixed: &[T, R, VALUE, VALUE, VALUE],
+        ending: Ending::Closed,
+        single: true,
+    },
+    // AtomicIAdd to AtomicUMax
+    Row {
+        from: 234,
+        to: 239,
+        class: Class::Body,
+        fixed: &[T, R, VALUE, VALUE, VALUE, VALUE],
+        ending: Ending::Closed,
+        single: true,
+    },
+    // AtomicAnd, AtomicOr, AtomicXor
+    Row {
+        from: 240,
+        to: 242,
+        class: Class::Body,
+        fixed: &[T, R, VALUE, VALUE, VALUE, VALUE],
+        ending: Ending::Closed,
+        single: true,
+    },
+    // Phi
+    Row {
+        from: 245,
+        to: 245,
+        class: Class::Phi,
+        fixed: &[T, R],
+        ending: Ending::Repeated(&[VALUE, LABEL]),
+        single: true,
+    },
+    // LoopMerge
+    Row {
+        from: 246,
+        to: 246,
+        class: Class::LoopMerge,
+        fixed: &[LABEL, LABEL, Form::Kind(Named::LoopControl)],
+        ending: Ending::Others,
+        single: false,
+    },
+    // SelectionMerge
+    Row {
+        from: 247,
+        to: 247,
+        class: Class::SelectionMerge,
+        fixed: &[LABEL, Form::Kind(Named::SelectionControl)],
+        ending: Ending::Closed,
+        single: true,
+    },
+    // Label
+    Row {
+        from: 248,
+        to: 248,
+        class: Class::Label,
+        fixed: &[R],
+        ending: Ending::Closed,
+        single: true,
+    },
+    // Branch
+    Row {
+        from: 249,
+        to: 249,
+        class: Class::Branch,
+        fixed: &[LABEL],
+        ending: Ending::Closed,
+        single: true,
+    },
+    // BranchConditional
+    Row {
+        from: 250,
+        to: 250,
+        class: Class::BranchConditional,
+        fixed: &[VALUE, LABEL, LABEL],
+        ending: Ending::Repeated(&[W]),
+        single: true,
+    },
+    // Switch
+    Row {
+        from: 251,
+        to: 251,
+        class: Class::Switch,
+        fixed: &[VALUE, LABEL],
+        ending: Ending::Repeated(&[N, LABEL]),
+        single: false,
+    },
+    // Return
+    Row {
+        from: 253,
+        to: 253,
+        class: Class::Return,
+        fixed: &[],
+        ending: Ending::Closed,
+        single: true,
+    },
+    // ReturnValue
+    Row {
+        from: 254,
+        to: 254,
+        class: Class::Return,
+        fixed: &[VALUE],
+        ending: Ending::Closed,
+        single: true,
+    },
+    // Unreachable
+    Row {
+        from: 255,
+        to: 255,
+        class: Class::Return,
+        fixed: &[],
+        ending: Ending::Closed,
+        single: true,
+    },
+    // LifetimeStart, LifetimeStop
+    Row {
+        from: 256,
+        to: 257,
+        class: Class::Body,
+        fixed: &[VALUE, W],
+        ending: Ending::Closed,
+        single: true,
+    },
+    // NoLine
+    Row {
+        from: 317,
+        to: 317,
+        class: Class::Line,
+        fixed: &[],
+        ending: Ending::Closed,
+        single: true,
+    },
+    // ModuleProcessed
+    Row {
+        from: 330,
+        to: 330,
+        class: Class::Processed,
+        fixed: &[S],
+        ending: Ending::Closed,
+        single: false,
+    },
+];
+
+/// For each opcode up to the last one the number of its row, or 92 where it has none.
+static NUMBERS: [u8; 331] = [
+    0, 1, 2, 3, 4, 5, 6, 7, 8, 92, 9, 10, 11, 92, 12, 13, 14, 15, 92, 16, 16, 17, 18, 19, 92, 92,
+    92, 92, 20, 92, 21, 22, 23, 24, 92, 92, 92, 92, 92, 25, 92, 26, 26, 27, 28, 92, 29, 92, 30, 30,
+    31, 32, 92, 92, 33, 34, 35, 36, 92, 37, 92, 38, 39, 39, 40, 41, 41, 42, 92, 92, 43, 44, 45, 92,
+    92, 92, 92, 46, 47, 48, 49, 50, 51, 52, 92, 92, 92, 92, 92, 92, 92, 92, 92, 92, 92, 92, 92, 92,
+    92, 92, 92, 92, 92, 92, 92, 92, 92, 92, 92, 53, 53, 53, 53, 54, 54, 54, 92, 55, 92, 92, 56, 57,
+    57, 92, 58, 92, 59, 59, 60, 60, 60, 60, 60, 60, 60, 60, 60, 61, 61, 61, 61, 61, 92, 92, 92, 92,
+    92, 92, 92, 92, 92, 92, 92, 92, 92, 92, 92, 92, 92, 92, 92, 92, 92, 92, 62, 62, 62, 62, 63, 64,
+    65, 65, 65, 65, 65, 65, 65, 65, 65, 65, 66, 66, 66, 66, 66, 66, 66, 66, 66, 66, 66, 66, 92, 92,
+    67, 67, 67, 68, 68, 68, 69, 92, 92, 92, 92, 92, 92, 92, 92, 92, 92, 92, 92, 92, 92, 92, 92, 92,
+    92, 92, 92, 92, 92, 92, 70, 71, 92, 72, 73, 74, 75, 92, 76, 76, 77, 77, 77, 77, 77, 77, 78, 78,
+    78, 92, 92, 79, 80, 81, 82, 83, 84, 85, 92, 86, 87, 88, 89, 89, 92, 92, 92, 92, 92, 92, 92, 92,
+    92, 92, 92, 92, 92, 92, 92, 92, 92, 92, 92, 92, 92, 92, 92, 92, 92, 92, 92, 92, 92, 92, 92, 92,
+    92, 92, 92, 92, 92, 92, 92, 92, 92, 92, 92, 92, 92, 92, 92, 92, 92, 92, 92, 92, 92, 92, 92, 92,
+    92, 92, 92, 90, 92, 92, 92, 92, 92, 92, 92, 92, 92, 92, 92, 92, 91,
+];
+
+/// The row that a list of numbers names for an opcode, if it names one.
+fn row_at(numbers: &'static [u8], rows: &'static [Row], opcode: u16) -> Option<&'static Row>
+    requires { IsTrue (are_flagged rows.now) }
+    ensures row { option_map (λ r. plain_row r.now) result ≡ numbered (map plain_row rows.now) (slice_get numbers.now opcode) }
+    ensures single { IfSome result (λ r. r.now.single ≡ is_single_row (plain_row r.now)) }
+{
+    match numbers.get(usize::from(opcode)) {
+        Some(number) => rows.get(usize::from(*number)),
+        None => None,
+    }
+}
+
+/// The row of an opcode.
+pub fn row(opcode: u16) -> Option<&'static Row>
+    ensures row { option_map (λ r. plain_row r.now) result ≡ row_of opcode }
+    ensures single { IfSome result (λ r. r.now.single ≡ is_single_row (plain_row r.now)) }
+{
+    row_at(&NUMBERS, &ROWS, opcode)
+}
+
+/// The class of an opcode.
+pub fn class(opcode: u16) -> Class
+    ensures { result ≡ class_of opcode }
+{
+    match row(opcode) {
+        Some(row) => row.class,
+        None => Class::Outside,
+    }
+}
