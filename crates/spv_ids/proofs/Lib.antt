@@ -1,0 +1,10 @@
+mod Bools
+mod Defined
+mod Defining
+mod Homes
+mod Steps
+mod Leasts
+mod Broke
+mod Scopes
+mod Used
+mod Sound

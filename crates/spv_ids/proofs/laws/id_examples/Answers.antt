@@ -1,0 +1,69 @@
+use Rattle.std.proofs.Common.{◌≡◌, ℕ, zero, suc, [], ◌∷◌, refl, arith, inl, inr}
+use Rattle.std.proofs.lemmas.Option.{slice_get_within}
+use Rattle.spv_inst.specs.Example.{small}
+use Rattle.spv_inst.specs.Operand.{Result, Id}
+use Rattle.spv_inst.specs.declared.fault.Rule.{Rule}
+use Rattle.spv_inst.specs.declared.fault.Rule.TheVariants.{D2}
+use Rattle.spv_layout.specs.declared.class.Class.TheVariants.{Declaration, Function}
+use Rattle.spv_layout.specs.declared.form.Role.TheVariants as role
+use Rattle.spv_layout.specs.Row.{row, R, t, repeated}
+use Rattle.spv_layout.specs.Rows.{rows}
+use Rattle.spv_layout.specs.Shape.{AreOf, Ends, HasForms, IsUse}
+use Rattle.spv_layout.specs.Place.{IsAt}
+use Rattle.spv_ids.specs.Definition.{IsDefinedAt, IsLocal}
+use Rattle.spv_ids.specs.Order.{IsInOrder}
+use Rattle.spv_ids.specs.Broken.{Broken, IsOutOfRange}
+use Rattle.spv_ids.specs.Example.{void, of_void}
+use Rattle.spv_ids.proofs.laws.id_examples.Goals as goal
+
+type_forms : HasForms small of_void (R ∷ t ∷ [])
+unfolding rows
+type_forms = record { row = row 33 33 Declaration (R ∷ t ∷ []) (repeated (t ∷ [])); rest = []; known = refl; forms = refl; ending = Ends.done (t ∷ []); each = AreOf.more R (Result 2) (t ∷ []) (Id 1 ∷ []) refl (AreOf.more t (Id 1) [] [] refl AreOf.none) }
+
+type_used : IsUse small of_void 1 1 role.OfType
+type_used = record { forms = R ∷ t ∷ []; has = type_forms; form = t; operand = Id 1; form_at = refl; operand_at = refl; role = refl; id = refl }
+
+defined_first : (x : ℕ) → IsDefinedAt (void x ∷ []) x 0
+defined_first x = record { inst = void x; there = refl; result = refl }
+
+once : (r : Rule) (n : ℕ) → Broken small 5 (void 1 ∷ []) r n → r ≡ D2 → ⊥
+once _ _ (Broken.result_out_of_range n x d o) e = cc
+once _ _ (Broken.use_out_of_range n k x r u o) e = cc
+once _ _ (Broken.defined_again n m x a l b) e = let h = slice_get_within (void 1 ∷ []) n a.inst a.there in absurd (omega arith)
+once _ _ (Broken.undefined n k x r u h) e = cc
+once _ _ (Broken.not_in_order n k x r u o h) e = cc
+once _ _ (Broken.not_in_scope n k x r u s l h) e = cc
+
+none_defined : (m : ℕ) → ¬ (IsDefinedAt (of_void ∷ []) 1 m)
+none_defined zero d = let e = d.there in let f : of_void ≡ d.inst = cc in let g = rw (← f) at d.result in cc
+none_defined (suc m) d = let e = d.there in cc
+
+not_in_order : ¬ (IsInOrder (of_void ∷ void 1 ∷ []) 0 1)
+not_in_order (IsInOrder.lower m h d) = absurd (omega arith)
+not_in_order (IsInOrder.announced s o) = let e = o.there in let f : of_void ≡ o.inst = cc in let g = rw (← f) at o.same in absurd (omega (arith, g))
+not_in_order (IsInOrder.member m s o h a) = absurd (omega arith)
+
+in_range : ¬ (IsOutOfRange 5 4)
+in_range (inl e) = absurd (omega (arith, e))
+in_range (inr h) = absurd (omega arith)
+
+no_function : (f : ℕ) → ¬ (IsAt (void 1 ∷ of_void ∷ []) f (Function ∷ []))
+unfolding rows
+no_function zero a = cc
+no_function (suc zero) a = cc
+no_function (suc (suc f)) a = a
+
+not_local : ¬ (IsLocal (void 1 ∷ of_void ∷ []) 1)
+not_local (f, l) = no_function f l.of.begun.there
+
+pub returns : goal.returns
+returns c = record {
+  again = Broken.defined_again 1 0 1 (record { inst = void 1; there = refl; result = refl }) (omega arith) (record { inst = void 1; there = refl; result = refl });
+  once = λ n b. once D2 n b refl;
+  out_of_range = Broken.result_out_of_range 0 5 (defined_first 5) (inr (omega arith));
+  in_range = in_range;
+  undefined = Broken.undefined 0 1 1 role.OfType (record { inst = of_void; there = refl; used = type_used }) none_defined;
+  in_order = IsInOrder.lower 0 (omega arith) (record { inst = void 1; there = refl; result = refl });
+  not_in_order = not_in_order;
+  not_local = not_local;
+}

@@ -1,0 +1,47 @@
+use Rattle.std.proofs.Common.{◌≡◌, ◌<◌, sym, length, map, arith, get_or}
+use Rattle.std.proofs.lemmas.List.{length-map}
+use Rattle.spv_inst.specs.Module.{plain_inst, plain_operand}
+use Rattle.spv_ids.specs.Survey.{insts_of}
+use Rattle.std.specs.Prelude.{Some, None}
+use Rattle.spv_ids.specs.Uses.{AreSeen}
+use Rattle.spv_ids.proofs.Defining.{inst_at}
+use Rattle.spv_ids.proofs.Leasts.{least_at}
+use Rattle.spv_ids.proofs.Broke.{clean_here, clean_more, fault_here}
+use Rattle.spv_ids.proofs.survey.Survey.first_fault.Goals as goal
+
+pub returns-in-Some : goal.returns-in-Some
+returns-in-Some c =
+    let s = c.args.self.now in
+    let is = insts_of s in
+    let n = c.loop-n.n in
+    let v = c.requires.survey in
+    let w = v.within in
+    let m = length-map s.insts.now plain_inst in
+    let l : n < length s.insts.now = omega arith in
+    let i = plain_inst (get_or s.insts.now n c.index-self-n.result) in
+    let t = inst_at s.insts.now n c.index-self-n.result l in
+    let os = map plain_operand c.seen.result.now in
+    let a : AreSeen is n os = record { inst = i; there = t; same = c.seen.ensures } in
+    let k : length c.seen.result.now ≡ length os = sym (length-map c.seen.result.now plain_operand) in
+    let h = least_at s.bound is c.site-site.result.inst n (length c.seen.result.now) (length os) c.uses_fault.result (Some c.in-Some.rule) c.site-site.ensures.inst k c.in-Some.is c.uses_fault.ensures in
+    fault_here s.bound is n s.end s.firsts.now os c.in-Some.rule v.firsts c.loop-n-test.true a h c.loop-n.invariant.clean
+
+pub loop-n-preserved : goal.loop-n-preserved
+loop-n-preserved c =
+    let s = c.args.self.now in
+    let is = insts_of s in
+    let n = c.loop-n.n in
+    let v = c.requires.survey in
+    let w = v.within in
+    let m = length-map s.insts.now plain_inst in
+    let l : n < length s.insts.now = omega arith in
+    let i = plain_inst (get_or s.insts.now n c.index-self-n.result) in
+    let t = inst_at s.insts.now n c.index-self-n.result l in
+    let os = map plain_operand c.seen.result.now in
+    let a : AreSeen is n os = record { inst = i; there = t; same = c.seen.ensures } in
+    let k : length c.seen.result.now ≡ length os = sym (length-map c.seen.result.now plain_operand) in
+    let h = least_at s.bound is c.site-site.result.inst n (length c.seen.result.now) (length os) c.uses_fault.result None c.site-site.ensures.inst k c.in_default.is c.uses_fault.ensures in
+    record {
+      clean = clean_more s.bound is n (clean_here s.bound is n s.end s.firsts.now os v.firsts c.loop-n-test.true a h) c.loop-n.invariant.clean;
+      announced = c.in_ok-announce.ensures is t c.loop-n.invariant.announced;
+    }

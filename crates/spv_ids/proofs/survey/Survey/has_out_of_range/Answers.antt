@@ -1,0 +1,36 @@
+use Rattle.std.proofs.Common.{◌≡◌, ◌∙◌, sym, length, arith}
+use Rattle.std.proofs.lemmas.Option.{slice_get-get_or}
+use Rattle.spv_inst.specs.declared.operand.Operand.TheVariants as code
+use Rattle.spv_inst.specs.declared.fault.Rule.TheVariants.{D1}
+use Rattle.spv_ids.specs.Faulty.{IsBadUse}
+use Rattle.spv_ids.proofs.Bools.{false_true}
+use Rattle.spv_ids.proofs.Leasts.{bad_at, no_range, no_range_no_use, has_moved, none_yet}
+use Rattle.spv_ids.proofs.survey.Survey.has_out_of_range.Goals.{in-Some+else-is_out_of_range, in_default}
+use Rattle.spv_ids.proofs.survey.Survey.has_out_of_range.Goals as goal
+
+pub loop-operand-init : goal.loop-operand-init
+loop-operand-init c = λ is n a. none_yet c.args.self.now.bound is n D1
+
+pub returns-then-is_out_of_range : goal.returns-then-is_out_of_range
+returns-then-is_out_of_range c = λ is n a.
+    let os = c.args.operands.now in
+    let k = c.loop-operand.operand-index in
+    let t = slice_get-get_or os k (code.OfType 0) c.loop-operand-test.true in
+    let u = sym c.used_id.ensures ∙ c.in-Some.is in
+    bad_at c.args.self.now.bound is n k (length os) c.in-Some.id os _ D1 a t c.loop-operand-test.true u (IsBadUse.out_of_range (c.is_out_of_range.ensures.0 c.if-is_out_of_range.true))
+
+pub loop-operand-preserved : goal.loop-operand-preserved
+loop-operand-preserved c = λ is n a.
+    let os = c.args.operands.now in
+    let k = c.loop-operand.operand-index in
+    let t = slice_get-get_or os k (code.OfType 0) c.loop-operand-test.true in
+    elim c.match-used_id.branch [
+      | in-Some+else-is_out_of_range w ↦
+          no_range c.args.self.now.bound is n k w.in-Some.id os _ a t (sym c.used_id.ensures ∙ w.in-Some.is) (λ o. false_true (sym w.if-is_out_of_range.false ∙ w.is_out_of_range.ensures.1 o)) (c.loop-operand.invariant is n a)
+      | in_default w ↦ no_range_no_use c.args.self.now.bound is n k os _ a t (sym c.used_id.ensures ∙ w.in_default.is) (c.loop-operand.invariant is n a)
+    ]
+
+pub returns : goal.returns
+returns c = λ is n a.
+    let e : length c.args.operands.now ≡ c.loop-operand.operand-index = omega arith in
+    λ h. c.loop-operand.invariant is n a (has_moved c.args.self.now.bound is n (length c.args.operands.now) c.loop-operand.operand-index D1 e h)

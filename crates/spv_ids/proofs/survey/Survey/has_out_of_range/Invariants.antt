@@ -1,0 +1,10 @@
+use Rattle.std.proofs.Common.{ℕ, List}
+use Rattle.spv_inst.specs.Operand.{PlainInst}
+use Rattle.spv_inst.specs.Module.{plain_operands}
+use Rattle.spv_inst.specs.declared.fault.Rule.TheVariants.{D1}
+use Rattle.spv_ids.specs.Uses.{AreSeen}
+use Rattle.spv_ids.specs.Faulty.{HasBadUse}
+use Rattle.spv_ids.proofs.survey.Survey.has_out_of_range.Given as goal
+
+abbrev pub invariant-loop-operand : goal.invariant-loop-operand
+invariant-loop-operand l = (is : List PlainInst) (n : ℕ) → AreSeen is n (plain_operands l.operands) → ¬ (HasBadUse l.self.bound is n l.operand-index D1)

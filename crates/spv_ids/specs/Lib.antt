@@ -1,0 +1,12 @@
+pub mod Definition
+pub mod Order
+pub mod Broken
+pub mod Notes
+pub mod Known
+pub mod Uses
+pub mod Faulty
+pub mod Test
+pub mod Survey
+pub mod Outcome
+pub mod Sound
+pub mod Example

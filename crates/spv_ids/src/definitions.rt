@@ -1,0 +1,160 @@
+//! The definitions of ids, as far as the first one that is out of range or comes again.
+
+ghost use Rattle.std.specs.Prelude.{◌≡◌, ◌<◌, ◌≤◌, ◌↔◌, ℕ, List, length, map, ◌+◌, IfOk, OnOk, IsTrue, MatchOption, MatchBool, Some, slice_get};
+ghost use Rattle.spv_inst.specs.Operand.{PlainInst};
+ghost use Rattle.spv_inst.specs.Module.{plain_inst};
+ghost use Rattle.spv_ids.specs.Definition.{IsDefinedAt};
+ghost use Rattle.spv_ids.specs.Broken.{IsOutOfRange};
+ghost use Rattle.spv_ids.specs.Known.{AreFirst, AreLater, IsEnd, IsHome, IsAsLocal, IsFunctionOf};
+ghost use Rattle.spv_ids.specs.Survey.{ArePlaces};
+
+use crate::notes::Notes;
+use crate::uses::result_of;
+use spv_inst::Inst;
+use spv_layout::Plan;
+use std::alloc::{AllocError, Global};
+
+/// The definitions before an instruction.
+#[derive(Drop)]
+pub struct Firsts {
+    /// Of each id the instruction before `end` that defines it.
+    pub definitions: Notes,
+    /// The first instruction whose result is out of range or has an earlier definition, or the number of instructions.
+    pub end: u32,
+}
+
+/// Whether an id is 0 or not below the bound.
+#[inline(always)]
+pub fn is_out_of_range(bound: u32, id: u32) -> bool
+    ensures { IsTrue result ↔ IsOutOfRange bound id }
+{
+    id == 0 || bound <= id
+}
+
+/// How many instructions have a result.
+pub fn count_results(insts: &[Inst<'_>]) -> usize
+    ensures { result ≤ length insts.now }
+{
+    let mut count = 0;
+    for inst in insts {
+        if result_of(inst).is_some() {
+            count += 1;
+        }
+    }
+    count
+}
+
+/// The definitions up to the first result that is out of range or comes again. `places` is how many small ids are kept
+/// in a list.
+///
+/// An `AllocError` comes only where a growth of memory was refused.
+pub fn first_definitions(
+    alloc: Global,
+    insts: &[Inst<'_>],
+    bound: u32,
+    places: usize,
+) -> Result<Firsts, AllocError>
+    requires { length insts.now ≤ 4194304 }
+    ensures firsts { IfOk result (λ f. AreFirst bound (map plain_inst insts.now) f.end f.definitions) }
+    ensures end { IfOk result (λ f. IsEnd bound (map plain_inst insts.now) f.end) }
+    ensures within { IfOk result (λ f. f.end ≤ length insts.now) }
+{
+    let mut definitions = Notes::new(alloc, places)?;
+    for (i, inst) in insts.iter().enumerate() {
+        let at = i as u32;
+        if let Some(id) = result_of(inst) {
+            if is_out_of_range(bound, id) || definitions.get(id).is_some() {
+                return Ok(Firsts {
+                    definitions,
+                    end: at,
+                });
+            }
+            definitions.put(id, at)?;
+        }
+    }
+    Ok(Firsts {
+        definitions,
+        end: insts.len() as u32,
+    })
+}
+
+/// The function in which an instruction stands, after its OpFunction.
+pub fn home(plan: &Plan, inst: u32) -> Option<u32>
+    ensures { (is : List PlainInst) → (x : ℕ) → ArePlaces is plan.now → IsDefinedAt is x inst → MatchOption result ((f : ℕ) → ¬ (IsHome is inst f)) (λ f. IsHome is inst f) }
+{
+    let Some(place) = plan.at(inst) else {
+        return None;
+    };
+    match place.function {
+        Some(function) => if function == inst {
+            None
+        } else {
+            Some(function)
+        },
+        None => None,
+    }
+}
+
+/// Whether one definition of an id is to be kept rather than another: where only it is local, or it is local to the function
+/// `here`.
+fn is_more_local(plan: &Plan, here: Option<u32>, one: u32, other: u32) -> bool
+    ensures { (is : List PlainInst) (x from : ℕ) → ArePlaces is plan.now → IsFunctionOf is from here → IsDefinedAt is x one → IsDefinedAt is x other
+        → MatchBool result (IsAsLocal is from one other) (IsAsLocal is from other one) }
+{
+    match home(plan, other) {
+        None => true,
+        Some(_) => match home(plan, one) {
+            Some(function) => here == Some(function),
+            None => false,
+        },
+    }
+}
+
+/// Keeps a definition of an id, if it is the first or more local than the one before.
+fn keep_later(
+    later: &mut Notes,
+    plan: &Plan,
+    here: Option<u32>,
+    id: u32,
+    at: u32,
+) -> Result<(), AllocError>
+    requires { at < 4294967295 }
+    ensures { OnOk result ((is : List PlainInst) (from : ℕ) → ArePlaces is plan.now → IsFunctionOf is from here → from ≤ at → IsDefinedAt is id at
+        → AreLater is from at later.old → AreLater is from (at + 1) later.new) }
+{
+    let keep = match later.get(id) {
+        Some(other) => is_more_local(plan, here, at, other),
+        None => true,
+    };
+    if keep {
+        later.put(id, at)?;
+    }
+    Ok(())
+}
+
+/// The definitions from an instruction on: of each id the most local one, by the function of that instruction. `places` is
+/// how many small ids are kept in a list.
+///
+/// An `AllocError` comes only where a growth of memory was refused.
+pub fn later_definitions(
+    alloc: Global,
+    insts: &[Inst<'_>],
+    plan: &Plan,
+    from: u32,
+    places: usize,
+) -> Result<Notes, AllocError>
+    requires most { length insts.now ≤ 4194304 }
+    requires places { ArePlaces (map plain_inst insts.now) plan.now }
+    ensures { IfOk result (λ later. AreLater (map plain_inst insts.now) from (length (map plain_inst insts.now)) later) }
+{
+    let Some(place) = plan.at(from) else {
+        return Notes::new(alloc, 0);
+    };
+    let mut later = Notes::new(alloc, places)?;
+    for i in from as usize..insts.len() {
+        if let Some(id) = result_of(&insts[i]) {
+            keep_later(&mut later, plan, place.function, id, i as u32)?;
+        }
+    }
+    Ok(later)
+}

@@ -1,0 +1,119 @@
+//! The ids of a module.
+
+ghost use Rattle.std.specs.Prelude.{◌≡◌, ◌+◌, ◌≤◌, ◌<◌, ℕ, List, IfOk, IfErr, length, sum_by};
+ghost use Rattle.spv_grammar.specs.Table.{Table};
+ghost use Rattle.spv_inst.specs.Operand.{PlainInst};
+ghost use Rattle.spv_inst.specs.Module.{plain_insts};
+ghost use Rattle.spv_layout.specs.Place.{word_count};
+ghost use Rattle.spv_layout.specs.Plan.{IsPlan};
+ghost use Rattle.spv_ids.specs.declared.notes.Notes as declared;
+ghost use Rattle.spv_ids.specs.Known.{AreFirst};
+ghost use Rattle.spv_ids.specs.Survey.{ArePlaces, AreGlobal};
+ghost use Rattle.spv_ids.specs.Outcome.{AreIds, IsRefusal, IsStopAt, definition_in};
+
+use crate::definitions::{count_results, first_definitions, later_definitions};
+use crate::notes::Notes;
+use crate::survey::{Found, Survey};
+use spv_inst::{Fault, Module, Stop};
+use spv_layout::Plan;
+use std::alloc::Global;
+
+/// The definitions of a module's ids (SPIR-V Specification 1.6, section 2.16): each id that is used has exactly one, in
+/// order and in scope.
+#[derive(Drop)]
+pub struct Ids {
+    /// Of each id the instruction that defines it.
+    definitions: Notes,
+}
+
+impl Ids {
+    /// The number of the instruction that defines an id: that has it as its result. None where no instruction does. It takes
+    /// no memory.
+    #[inline(always)]
+    pub fn definition(&self, id: u32) -> Option<u32>
+        ensures { result ≡ definition_in self.now id }
+    {
+        self.definitions.get(id)
+    }
+}
+
+/// Before which instruction each definition is local to no function: the first that is of a function; or 0 where not all
+/// instructions are before `end`.
+fn globals(plan: &Plan, count: u32, end: u32) -> u32
+    ensures { (is : List PlainInst) (bound : ℕ) (firsts : declared.Notes) → ArePlaces is plan.now → count ≡ length is → AreFirst bound is end firsts → AreGlobal is result }
+{
+    if end < count {
+        return 0;
+    }
+    for i in 0..count {
+        match plan.at(i) {
+            Some(place) => {
+                if place.function.is_some() {
+                    return i;
+                }
+            }
+            None => return i,
+        }
+    }
+    count
+}
+
+/// The fault of a broken rule, at the first word of its instruction.
+fn stop_at(plan: &Plan, found: Found) -> Stop
+    requires { found.inst < length plan.now }
+    ensures { (is : List PlainInst) → ArePlaces is plan.now → IsStopAt is found.rule found.inst result }
+{
+    let Some(place) = plan.at(found.inst) else {
+        unreachable!();
+    };
+    Stop::Fault(Fault {
+        rule: found.rule,
+        inst: found.inst,
+        word: place.word,
+    })
+}
+
+/// The definitions of a module's ids. `plan` is what `lay_out` answered of that module.
+///
+/// Time is linear in the words of the module; where ids are sparse, each takes the time of a look-up in a map besides.
+/// What is kept grows with the instructions that have a result, and not with the bound.
+///
+/// A `Fault` tells the first rule that is broken, with its instruction and that instruction's first word (words and
+/// instructions from 0). At one instruction the first in this order is told:
+/// - D1: its result or a use is 0 or not below the bound (2.3).
+/// - D2: its result is that of an earlier instruction (2.16).
+/// - D3: a use is the result of no instruction (2.16).
+/// - D4: a use in section 7a or 9 comes before each of its definitions (2.16). In section 9 the operand of an
+///   OpTypeForwardPointer may, and so may a member of an OpTypeStruct that a lower OpTypeForwardPointer names.
+/// - D5: a use in sections 9 to 11 of an id that is local to a function, by an instruction of no function to which it is
+///   local (2.16).
+///
+/// `Memory` comes only where a growth of memory was refused.
+pub fn number(alloc: Global, module: &Module<'_>, plan: &Plan) -> Result<Ids, Stop>
+    // The condition of `lay_out`, and that the plan is what it answered, by some table.
+    requires words { 5 + sum_by word_count (plain_insts «module».now) ≤ 4194304 }
+    requires plan { (G : Table) × IsPlan G (plain_insts «module».now) plan.now }
+    ensures ids { (G : Table) → IsPlan G (plain_insts «module».now) plan.now → IfOk result (λ ids. AreIds G «module».now.header.bound (plain_insts «module».now) ids) }
+    ensures refused { (G : Table) → IsPlan G (plain_insts «module».now) plan.now → IfErr result (λ s. IsRefusal G «module».now.header.bound (plain_insts «module».now) s) }
+{
+    let insts = module.insts.as_slice();
+    let bound = module.header.bound;
+    let places = (2 * count_results(insts)).min(bound as usize);
+    let firsts = first_definitions(alloc, insts, bound, places)?;
+    let later = later_definitions(alloc, insts, plan, firsts.end, places)?;
+    let survey = Survey {
+        insts,
+        plan,
+        bound,
+        end: firsts.end,
+        firsts: &firsts.definitions,
+        later: &later,
+        globals: globals(plan, insts.len() as u32, firsts.end),
+    };
+    if let Some(found) = survey.first_fault(alloc)? {
+        return Err(stop_at(plan, found));
+    }
+    Ok(Ids {
+        definitions: firsts.definitions,
+    })
+}

@@ -1,0 +1,48 @@
+//! Laws of the rules on ids. Each function does nothing: its contract is what is proved.
+
+ghost use Rattle.std.specs.Prelude.{◌≡◌, ℕ, List, [], ◌∷◌};
+ghost use Rattle.spv_inst.specs.Example.{small};
+ghost use Rattle.spv_inst.specs.declared.fault.Rule.TheVariants.{D1, D2, D3};
+ghost use Rattle.spv_ids.specs.Example.{void, of_void};
+ghost use Rattle.spv_ids.specs.Order.{IsInOrder};
+ghost use Rattle.spv_grammar.specs.Table.{Table};
+ghost use Rattle.spv_inst.specs.Operand.{PlainInst};
+ghost use Rattle.spv_inst.specs.declared.fault.Rule.{Rule};
+ghost use Rattle.spv_layout.specs.declared.form.Role.{Role};
+ghost use Rattle.spv_layout.specs.declared.place.Place.{Place};
+ghost use Rattle.spv_layout.specs.Plan.{IsPlan};
+ghost use Rattle.spv_ids.specs.Sound.{IsSoundUse};
+ghost use Rattle.spv_layout.specs.First.{IsFirst, IsUnbroken};
+ghost use Rattle.spv_ids.specs.Definition.{IsDefinedAt, IsUsedAt, IsLocal};
+ghost use Rattle.spv_ids.specs.Broken.{Broken, IsOutOfRange};
+
+/// At most one rule on ids is broken first, at one instruction.
+pub fn one_fault()
+    ensures { (G : Table) (bound : ℕ) (is : List PlainInst) (q r : Rule) (m n : ℕ) → IsFirst (Broken G bound is) 3 q m → IsFirst (Broken G bound is) 3 r n → (q ≡ r) × (m ≡ n) }
+{}
+
+/// Where no rule on ids is broken, each id that is used has exactly one definition.
+pub fn one_definition()
+    ensures { (G : Table) (bound : ℕ) (is : List PlainInst) (n k x : ℕ) (r : Role) → IsUnbroken (Broken G bound is) 3 → IsUsedAt G is n k x r → (m : ℕ) × IsDefinedAt is x m × ((l : ℕ) → IsDefinedAt is x l → l ≡ m) }
+{}
+
+/// Where no rule on ids is broken, each use is of one definition, in order and in scope.
+pub fn sound_uses()
+    ensures { (G : Table) (bound : ℕ) (is : List PlainInst) (places : List Place) (n k x : ℕ) (r : Role) → IsPlan G is places → IsUnbroken (Broken G bound is) 3 → IsUsedAt G is n k x r → IsSoundUse is n x }
+{}
+
+/// Small lists with and without faults, under a small table and the bound 5.
+pub fn id_examples()
+    // %1 defined twice, and once.
+    ensures again { Broken small 5 (void 1 ∷ void 1 ∷ []) D2 1 }
+    ensures once { (n : ℕ) → ¬ (Broken small 5 (void 1 ∷ []) D2 n) }
+    // %5 and %4 under the bound 5.
+    ensures out_of_range { Broken small 5 (void 5 ∷ []) D1 0 }
+    ensures in_range { ¬ (IsOutOfRange 5 4) }
+    // `%2 = OpTypeFunction %1` uses %1: alone, after its definition, and before it.
+    ensures undefined { Broken small 5 (of_void ∷ []) D3 0 }
+    ensures in_order { IsInOrder (void 1 ∷ of_void ∷ []) 1 1 }
+    ensures not_in_order { ¬ (IsInOrder (of_void ∷ void 1 ∷ []) 0 1) }
+    // A type is local to no function.
+    ensures not_local { ¬ (IsLocal (void 1 ∷ of_void ∷ []) 1) }
+{}

@@ -1,0 +1,13 @@
+//! The ids of a module: where each is defined, and whether its uses come in order and in scope.
+#![tactic(auto)]
+
+mod definitions;
+mod ids;
+pub mod laws;
+mod notes;
+mod survey;
+#[cfg(test)]
+mod tests;
+mod uses;
+
+pub use ids::{Ids, number};

@@ -1,0 +1,405 @@
+//! The uses of a module, instruction by instruction.
+
+ghost use Rattle.std.specs.Prelude.{◌≡◌, ◌+◌, ◌≤◌, ◌<◌, ◌↔◌, ℕ, List, length, map, IsTrue, IfOk, OnOk, MatchBool, MatchOption, IfSome, slice_get, Some, ◌||◌};
+ghost use Rattle.spv_inst.specs.Operand.{PlainInst};
+ghost use Rattle.spv_inst.specs.Module.{plain_inst, plain_operands};
+ghost use Rattle.spv_inst.specs.declared.fault.Rule.{Rule};
+ghost use Rattle.spv_inst.specs.declared.fault.Rule.TheVariants.{D1};
+ghost use Rattle.spv_layout.specs.First.{stage_of, rank_of};
+ghost use Rattle.spv_layout.specs.Place.{IsOfSection};
+ghost use Rattle.spv_ids.specs.declared.survey.Survey as declared;
+ghost use Rattle.spv_ids.specs.Definition.{IsDefinedAt, IsLocal};
+ghost use Rattle.spv_ids.specs.Order.{IsInOrder, IsInScope, IsOrdered, IsScoped};
+ghost use Rattle.spv_ids.specs.Broken.{IsOutOfRange};
+ghost use Rattle.spv_ids.specs.Notes.{kept};
+ghost use Rattle.spv_ids.specs.Known.{AreAnnounced, IsEnd, IsBadResult, IsHomeOf};
+ghost use Rattle.spv_ids.specs.Test.{lower_test, early_test, scope_test, home_test, announced_id};
+ghost use Rattle.std.specs.Option.{is_some};
+ghost use Rattle.spv_ids.specs.Uses.{AreSeen};
+ghost use Rattle.spv_ids.specs.Faulty.{IsBadUse, HasBadUse, IsFaulty, IsLeast, IsEarlier, AreClean, IsFirstFault};
+ghost use Rattle.spv_ids.specs.Survey.{ArePlaces, IsSurvey, IsSite, insts_of};
+
+use crate::definitions::{home, is_out_of_range};
+use crate::notes::Notes;
+use crate::uses::{result_of, seen, used_id};
+use spv_inst::{Inst, Operand, Rule};
+use spv_layout::Plan;
+use std::alloc::{AllocError, Global};
+
+/// The opcode of OpTypeStruct.
+const TYPE_STRUCT: u16 = 30;
+
+/// The opcode of OpTypeForwardPointer.
+const TYPE_FORWARD_POINTER: u16 = 39;
+
+/// The number of section 7a among the sections.
+const SOURCES: u8 = 7;
+
+/// The number of section 9 among the sections.
+const DECLARATIONS: u8 = 11;
+
+/// A module whose uses are looked at.
+#[derive(Clone, Copy)]
+pub struct Survey<'m, 'a> {
+    pub insts: &'m [Inst<'a>],
+    pub plan: &'m Plan,
+    /// The bound of the ids.
+    pub bound: u32,
+    /// The first instruction whose result is out of range or has an earlier definition, or the number of instructions.
+    pub end: u32,
+    /// Of each id its definition before `end`.
+    pub firsts: &'m Notes,
+    /// Of each id its most local definition from `end` on.
+    pub later: &'m Notes,
+    /// An id that an instruction before this one defines is local to no function.
+    pub globals: u32,
+}
+
+/// Where a use stands.
+#[derive(Clone, Copy, Debug)]
+pub struct Site {
+    pub inst: u32,
+    pub opcode: u16,
+    pub section: u8,
+    /// The number of the OpFunction of the function that the instruction is of.
+    pub function: Option<u32>,
+}
+
+/// A broken rule, and its instruction.
+#[derive(Clone, Copy, Debug)]
+pub struct Found {
+    pub rule: Rule,
+    pub inst: u32,
+}
+
+/// Whether uses come in order in a section.
+#[inline(always)]
+fn is_ordered(section: u8) -> bool
+    ensures { (is : List PlainInst) (n : ℕ) → IsOfSection is n section → IsTrue result ↔ IsOrdered is n }
+{
+    section == SOURCES || section == DECLARATIONS
+}
+
+/// Whether uses come in scope in a section.
+#[inline(always)]
+fn is_scoped(section: u8) -> bool
+    ensures { (is : List PlainInst) (n : ℕ) → IsOfSection is n section → IsTrue result ↔ IsScoped is n }
+{
+    section >= DECLARATIONS
+}
+
+/// Whether a definition is lower than an instruction.
+#[inline(always)]
+fn is_lower(first: Option<u32>, inst: u32) -> bool
+    ensures { result ≡ lower_test first inst }
+{
+    match first {
+        Some(definition) => definition < inst,
+        None => false,
+    }
+}
+
+/// Whether a use of an id may come before its definition. `announced` has the ids that lower instructions announce.
+fn may_be_early(site: &Site, announced: &Notes, id: u32) -> bool
+    ensures { result ≡ early_test site.now.section site.now.opcode (kept announced.now id) }
+{
+    if site.section != DECLARATIONS {
+        return false;
+    }
+    match site.opcode {
+        TYPE_FORWARD_POINTER => true,
+        TYPE_STRUCT => announced.get(id).is_some(),
+        _ => false,
+    }
+}
+
+/// Whether there is a definition.
+fn is_defined(first: Option<u32>, later: Option<u32>) -> bool
+    ensures { result ≡ (is_some first || is_some later) }
+{
+    first.is_some() || later.is_some()
+}
+
+/// Whether a use is in scope, or the id is local to no function, by the function of the use and those of the definitions.
+fn is_scope(function: Option<u32>, first: Option<u32>, later: Option<u32>) -> bool
+    ensures { result ≡ scope_test function first later }
+{
+    match function {
+        Some(function) => is_home(first, function)
+            || is_home(later, function)
+            || !is_defined(first, later),
+        None => !is_defined(first, later),
+    }
+}
+
+/// Whether a function is that of a definition.
+fn is_home(home: Option<u32>, function: u32) -> bool
+    ensures { result ≡ home_test home function }
+{
+    match home {
+        Some(home) => home == function,
+        None => false,
+    }
+}
+
+/// The function in which a definition stands, if there is a definition.
+fn home_of(plan: &Plan, definition: Option<u32>) -> Option<u32>
+    ensures { (is : List PlainInst) (x : ℕ) → ArePlaces is plan.now → IfSome definition (λ m. IsDefinedAt is x m) → IsHomeOf is definition result }
+{
+    match definition {
+        Some(inst) => home(plan, inst),
+        None => None,
+    }
+}
+
+/// The number of a rule on ids.
+fn number_of(rule: Rule) -> u8
+    ensures { stage_of rule ≡ 3 → rank_of rule ≡ result + 14 }
+{
+    match rule {
+        Rule::D1 => 1,
+        Rule::D2 => 2,
+        Rule::D3 => 3,
+        Rule::D4 => 4,
+        Rule::D5 => 5,
+        _ => 0,
+    }
+}
+
+/// The earlier of two rules on ids, in the order of telling.
+fn earlier(one: Option<Rule>, other: Rule) -> Rule
+    ensures { stage_of other ≡ 3 → IfSome one (λ r. stage_of r ≡ 3) → IsEarlier one other result }
+{
+    match one {
+        Some(rule) => if number_of(rule) <= number_of(other) {
+            rule
+        } else {
+            other
+        },
+        None => other,
+    }
+}
+
+/// The id that an OpTypeForwardPointer names.
+fn announced_by(inst: &Inst<'_>) -> Option<u32>
+    ensures { result ≡ announced_id (plain_inst inst.now) }
+{
+    if inst.opcode != TYPE_FORWARD_POINTER {
+        return None;
+    }
+    match inst.operands.as_slice().get(0) {
+        Some(Operand::Id(id)) => Some(*id),
+        _ => None,
+    }
+}
+
+/// Keeps the id that an OpTypeForwardPointer names.
+fn announce(announced: &mut Notes, inst: &Inst<'_>, at: u32) -> Result<(), AllocError>
+    requires { at < 4294967295 }
+    ensures { OnOk result ((is : List PlainInst) → slice_get is at ≡ Some (plain_inst inst.now) → AreAnnounced is at announced.old → AreAnnounced is (at + 1) announced.new) }
+{
+    if let Some(id) = announced_by(inst) {
+        announced.put(id, at)?;
+    }
+    Ok(())
+}
+
+impl<'m, 'a> Survey<'m, 'a> {
+    /// Whether a use of an id comes in order, or stands where that is not asked for.
+    fn is_in_order(&self, site: &Site, announced: &Notes, id: u32, first: Option<u32>) -> bool
+        requires survey { IsSurvey self.now }
+        requires site { IsSite self.now site.now }
+        requires announced { AreAnnounced (insts_of self.now) site.now.inst announced.now }
+        requires first { first ≡ kept self.now.firsts.now id }
+        ensures { MatchBool result (IsOrdered (insts_of self.now) site.now.inst → IsInOrder (insts_of self.now) site.now.inst id)
+            (IsOrdered (insts_of self.now) site.now.inst × ¬ (IsInOrder (insts_of self.now) site.now.inst id)) }
+    {
+        if !is_ordered(site.section) {
+            return true;
+        }
+        is_lower(first, site.inst) || may_be_early(site, announced, id)
+    }
+
+    /// Whether a use of an id is in scope, or stands where that is not asked for, or the id is local to no function.
+    fn is_in_scope(&self, site: &Site, id: u32, first: Option<u32>) -> bool
+        requires survey { IsSurvey self.now }
+        requires site { IsSite self.now site.now }
+        requires first { first ≡ kept self.now.firsts.now id }
+        ensures { MatchBool result (IsScoped (insts_of self.now) site.now.inst → IsLocal (insts_of self.now) id → IsInScope (insts_of self.now) site.now.inst id)
+            (IsScoped (insts_of self.now) site.now.inst × IsLocal (insts_of self.now) id × ¬ (IsInScope (insts_of self.now) site.now.inst id)) }
+    {
+        if !is_scoped(site.section) {
+            return true;
+        }
+        let first = home_of(self.plan, first);
+        let later = home_of(self.plan, self.later.get(id));
+        is_scope(site.function, first, later)
+    }
+
+    /// The first rule that a use breaks, where it is not plainly in order and in scope.
+    fn slow_fault(
+        &self,
+        site: &Site,
+        announced: &Notes,
+        id: u32,
+        first: Option<u32>,
+    ) -> Option<Rule>
+        requires survey { IsSurvey self.now }
+        requires site { IsSite self.now site.now }
+        requires announced { AreAnnounced (insts_of self.now) site.now.inst announced.now }
+        requires first { first ≡ kept self.now.firsts.now id }
+        ensures { IsLeast (IsBadUse self.now.bound (insts_of self.now) site.now.inst id) result }
+    {
+        if is_out_of_range(self.bound, id) {
+            return Some(Rule::D1);
+        }
+        if !is_defined(first, self.later.get(id)) {
+            return Some(Rule::D3);
+        }
+        if !self.is_in_order(site, announced, id, first) {
+            return Some(Rule::D4);
+        }
+        if !self.is_in_scope(site, id, first) {
+            return Some(Rule::D5);
+        }
+        None
+    }
+
+    /// Whether a use is plainly sound: its definition is lower, and local to no function or in the same function.
+    #[inline(always)]
+    fn is_plain(&self, site: &Site, first: Option<u32>) -> bool
+        requires survey { IsSurvey self.now }
+        requires site { IsSite self.now site.now }
+        ensures { (x : ℕ) → first ≡ kept self.now.firsts.now x → IsTrue result → (q : Rule) → ¬ (IsBadUse self.now.bound (insts_of self.now) site.now.inst x q) }
+    {
+        let Some(definition) = first else {
+            return false;
+        };
+        if definition >= site.inst {
+            return false;
+        }
+        if definition < self.globals {
+            return true;
+        }
+        match site.function {
+            Some(function) => function < definition,
+            None => false,
+        }
+    }
+
+    /// The first rule that a use of an id breaks.
+    #[inline(always)]
+    fn use_fault(&self, site: &Site, announced: &Notes, id: u32) -> Option<Rule>
+        requires survey { IsSurvey self.now }
+        requires site { IsSite self.now site.now }
+        requires announced { AreAnnounced (insts_of self.now) site.now.inst announced.now }
+        ensures { IsLeast (IsBadUse self.now.bound (insts_of self.now) site.now.inst id) result }
+    {
+        let first = self.firsts.get(id);
+        if self.is_plain(site, first) {
+            return None;
+        }
+        self.slow_fault(site, announced, id, first)
+    }
+
+    /// The first rule that a use among operands breaks.
+    fn uses_fault(&self, site: &Site, announced: &Notes, operands: &[Operand<'_>]) -> Option<Rule>
+        requires survey { IsSurvey self.now }
+        requires site { IsSite self.now site.now }
+        requires announced { AreAnnounced (insts_of self.now) site.now.inst announced.now }
+        requires operands { AreSeen (insts_of self.now) site.now.inst (plain_operands operands.now) }
+        ensures { IsLeast (HasBadUse self.now.bound (insts_of self.now) site.now.inst (length operands.now)) result }
+    {
+        let mut least = None;
+        for operand in operands {
+            if let Some(id) = used_id(*operand) {
+                if let Some(rule) = self.use_fault(site, announced, id) {
+                    least = Some(earlier(least, rule));
+                }
+            }
+        }
+        least
+    }
+
+    /// Whether a use among operands is out of range.
+    fn has_out_of_range(&self, operands: &[Operand<'_>]) -> bool
+        ensures { (is : List PlainInst) (n : ℕ) → AreSeen is n (plain_operands operands.now)
+            → MatchBool result (HasBadUse self.now.bound is n (length operands.now) D1) (¬ (HasBadUse self.now.bound is n (length operands.now) D1)) }
+    {
+        for operand in operands {
+            if let Some(id) = used_id(*operand) {
+                if is_out_of_range(self.bound, id) {
+                    return true;
+                }
+            }
+        }
+        false
+    }
+
+    /// The rule that is broken at the end of the survey, where an instruction is.
+    fn end_fault(&self) -> Rule
+        requires survey { IsSurvey self.now }
+        requires bad { IsBadResult self.now.bound (insts_of self.now) self.now.end }
+        ensures broken { IsFaulty self.now.bound (insts_of self.now) self.now.end result }
+        ensures least { (q : Rule) → IsFaulty self.now.bound (insts_of self.now) self.now.end q → rank_of result ≤ rank_of q }
+    {
+        let inst = &self.insts[self.end as usize];
+        let Some(id) = result_of(inst) else {
+            unreachable!();
+        };
+        if is_out_of_range(self.bound, id) {
+            return Rule::D1;
+        }
+        if self.has_out_of_range(seen(inst)) {
+            return Rule::D1;
+        }
+        Rule::D2
+    }
+
+    /// The site of an instruction before the end of the survey.
+    #[inline(always)]
+    fn site(&self, inst: u32) -> Site
+        requires survey { IsSurvey self.now }
+        requires below { inst < self.now.end }
+        ensures site { IsSite self.now result }
+        ensures inst { result.inst ≡ inst }
+    {
+        let Some(place) = self.plan.at(inst) else {
+            unreachable!();
+        };
+        Site {
+            inst,
+            opcode: self.insts[inst as usize].opcode,
+            section: place.section,
+            function: place.function,
+        }
+    }
+
+    /// The first broken rule of the module.
+    ///
+    /// An `AllocError` comes only where a growth of memory was refused.
+    pub fn first_fault(&self, alloc: Global) -> Result<Option<Found>, AllocError>
+        requires survey { IsSurvey self.now }
+        requires end { IsEnd self.now.bound (insts_of self.now) self.now.end }
+        ensures { IfOk result (λ o. MatchOption o (AreClean self.now.bound (insts_of self.now) (length (insts_of self.now)))
+            (λ f. IsFirstFault self.now.bound (insts_of self.now) f.rule f.inst)) }
+    {
+        let mut announced = Notes::new(alloc, 0)?;
+        for n in 0..self.end {
+            let inst = &self.insts[n as usize];
+            let site = self.site(n);
+            if let Some(rule) = self.uses_fault(&site, &announced, seen(inst)) {
+                return Ok(Some(Found { rule, inst: n }));
+            }
+            announce(&mut announced, inst, n)?;
+        }
+        if self.end as usize == self.insts.len() {
+            return Ok(None);
+        }
+        let rule = self.end_fault();
+        Ok(Some(Found {
+            rule,
+            inst: self.end,
+        }))
+    }
+}

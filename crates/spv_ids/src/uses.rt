@@ -1,0 +1,48 @@
+//! Which operands of an instruction are uses.
+
+ghost use Rattle.std.specs.Prelude.{◌≡◌};
+ghost use Rattle.spv_inst.specs.Module.{plain_inst, plain_operand, plain_operands};
+ghost use Rattle.spv_inst.specs.Operand as operand;
+ghost use Rattle.spv_ids.specs.Uses as uses;
+
+use spv_inst::{Inst, Operand};
+
+/// The opcode of OpExtInst.
+const EXT_INST: u16 = 12;
+
+/// The operands that rules look at: of an OpExtInst those up to the number of its extended instruction, of any other
+/// instruction all.
+pub fn seen<'i, 'a>(inst: &'i Inst<'a>) -> &'i [Operand<'a>]
+    ensures { plain_operands result.now ≡ uses.seen (plain_inst inst.now) }
+{
+    let operands = inst.operands.as_slice();
+    if inst.opcode == EXT_INST && operands.len() > 4 {
+        &operands[..4]
+    } else {
+        operands
+    }
+}
+
+/// The id that an operand uses, if it is an id other than a result.
+#[inline(always)]
+pub fn used_id(operand: Operand<'_>) -> Option<u32>
+    ensures { result ≡ uses.used_id (plain_operand operand.entry) }
+{
+    match operand {
+        Operand::OfType(id) => Some(id),
+        Operand::Id(id) => Some(id),
+        _ => None,
+    }
+}
+
+/// The result of an instruction.
+pub fn result_of(inst: &Inst<'_>) -> Option<u32>
+    ensures { result ≡ operand.result_in (plain_inst inst.now).operands }
+{
+    for operand in inst.operands.as_slice() {
+        if let Operand::Result(id) = *operand {
+            return Some(id);
+        }
+    }
+    None
+}
