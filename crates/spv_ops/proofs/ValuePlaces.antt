@@ -1,0 +1,629 @@
+-- Where the code looks for value operands is where the rows of table A have them.
+use Rattle.std.proofs.Common.{◌≡◌, ◌≢◌, ◌≤◌, ◌<◌, ◌+◌, ◌-◌, ◌++◌, ◌&&◌, ◌||◌, ℕ, zero, suc, not, nat_le, List, [], ◌∷◌, Some, Bool, true, false, if◌then◌else◌, take, refl, sym, ap, ◌∙◌, arith}
+use Rattle.std.proofs.lemmas.Bool.{leb-true, leb-false}
+use Rattle.std.proofs.lemmas.Option.{none-some}
+use Rattle.spv_grammar.specs.Table.{Table}
+use Rattle.spv_inst.specs.Operand.{Plain, PlainInst}
+use Rattle.spv_inst.specs.Operand as operand
+use Rattle.spv_layout.specs.declared.form.Form.{Form}
+use Rattle.spv_layout.specs.declared.form.Form.TheVariants as form
+use Rattle.spv_layout.specs.declared.form.Role.TheVariants as role
+use Rattle.spv_layout.specs.declared.form.Named.TheVariants as kind
+use Rattle.spv_layout.specs.Row.{PlainRow, Ending, closed, maybe, file_and_text, repeated, others, maybe_others, row_in}
+use Rattle.spv_layout.specs.Rows.{rows}
+use Rattle.spv_layout.specs.Shape.{is_of, AreOf, Ends, HasForms}
+use Rattle.spv_ops.specs.declared.row.Row.{Row}
+use Rattle.spv_ops.specs.declared.row.Row.TheVariants as row
+use Rattle.spv_ops.specs.Row.{row_of}
+use Rattle.spv_ops.specs.Operands.{ids_in, after_head}
+use Rattle.spv_ops.specs.Values.{value_in, used_in, initializers_in, paired_ids_in, value_ids, values_of}
+
+-- Tests of forms.
+abbrev is_value : Form → Bool
+is_value (form.Id role.Value) = true
+is_value _ = false
+
+abbrev is_no_id : Form → Bool
+is_no_id form.Word = true
+is_no_id (form.Kind k) = true
+is_no_id _ = false
+
+abbrev have_no_value : List Form → Bool
+have_no_value [] = true
+have_no_value (f ∷ fs) = not (is_value f) && have_no_value fs
+
+-- nothing, or something that is no id, and no value
+abbrev are_after : List Form → Bool
+are_after [] = true
+are_after (f ∷ fs) = is_no_id f && have_no_value (f ∷ fs)
+
+-- values, and what comes after them
+abbrev are_front : List Form → Bool
+are_front [] = true
+are_front (f ∷ fs) = if is_value f then are_front fs else are_after (f ∷ fs)
+
+not_true : (b : Bool) → not b ≡ true → b ≡ false
+not_true true h = cc
+not_true false h = refl
+
+both : (a b : Bool) → a && b ≡ true → (a ≡ true) × (b ≡ true)
+both true b h = (refl, h)
+both false b h = cc
+
+and_yes : (a b : Bool) → a ≡ true → b ≡ true → a && b ≡ true
+and_yes a b e f = rw (e, f) refl
+
+is_it : (f : Form) → is_value f ≡ true → f ≡ form.Id role.Value
+is_it form.OfType h = cc
+is_it form.Result h = cc
+is_it form.Word h = cc
+is_it form.Number h = cc
+is_it form.Text h = cc
+is_it (form.Id role.OfType) h = cc
+is_it (form.Id role.Function) h = cc
+is_it (form.Id role.Text) h = cc
+is_it (form.Id role.Set) h = cc
+is_it (form.Id role.Label) h = cc
+is_it (form.Id role.Global) h = cc
+is_it (form.Id role.Any) h = cc
+is_it form.Unseen h = cc
+is_it (form.Kind k) h = cc
+is_it form.Other h = cc
+is_it (form.Id role.Value) h = refl
+
+no_value : (f : Form) (o : Plain) → is_value f ≡ false → value_in f o ≡ []
+no_value form.OfType o h = refl
+no_value form.Result o h = refl
+no_value form.Word o h = refl
+no_value form.Number o h = refl
+no_value form.Text o h = refl
+no_value (form.Id role.OfType) o h = refl
+no_value (form.Id role.Function) o h = refl
+no_value (form.Id role.Text) o h = refl
+no_value (form.Id role.Set) o h = refl
+no_value (form.Id role.Label) o h = refl
+no_value (form.Id role.Global) o h = refl
+no_value (form.Id role.Any) o h = refl
+no_value form.Unseen o h = refl
+no_value (form.Kind k) o h = refl
+no_value form.Other o h = refl
+no_value (form.Id role.Value) o h = cc
+
+an_id : (G : Table) (o : Plain) → is_of G (form.Id role.Value) o ≡ true → (x : ℕ) × (o ≡ operand.Id x)
+an_id G (operand.OfType a) h = cc
+an_id G (operand.Result a) h = cc
+an_id G (operand.Id a) h = (a, refl)
+an_id G (operand.Word a) h = cc
+an_id G (operand.Number a b w) h = cc
+an_id G (operand.Text a) h = cc
+an_id G (operand.Value a b) h = cc
+an_id G (operand.Mask a b) h = cc
+
+a_label : (G : Table) (o : Plain) → is_of G (form.Id role.Label) o ≡ true → (x : ℕ) × (o ≡ operand.Id x)
+a_label G (operand.OfType a) h = cc
+a_label G (operand.Result a) h = cc
+a_label G (operand.Id a) h = (a, refl)
+a_label G (operand.Word a) h = cc
+a_label G (operand.Number a b w) h = cc
+a_label G (operand.Text a) h = cc
+a_label G (operand.Value a b) h = cc
+a_label G (operand.Mask a b) h = cc
+
+a_type : (G : Table) (o : Plain) → is_of G form.OfType o ≡ true → (x : ℕ) × (o ≡ operand.OfType x)
+a_type G (operand.OfType a) h = (a, refl)
+a_type G (operand.Result a) h = cc
+a_type G (operand.Id a) h = cc
+a_type G (operand.Word a) h = cc
+a_type G (operand.Number a b w) h = cc
+a_type G (operand.Text a) h = cc
+a_type G (operand.Value a b) h = cc
+a_type G (operand.Mask a b) h = cc
+
+a_result : (G : Table) (o : Plain) → is_of G form.Result o ≡ true → (x : ℕ) × (o ≡ operand.Result x)
+a_result G (operand.OfType a) h = cc
+a_result G (operand.Result a) h = (a, refl)
+a_result G (operand.Id a) h = cc
+a_result G (operand.Word a) h = cc
+a_result G (operand.Number a b w) h = cc
+a_result G (operand.Text a) h = cc
+a_result G (operand.Value a b) h = cc
+a_result G (operand.Mask a b) h = cc
+
+not_an_id : (G : Table) (f : Form) (o : Plain) (os : List Plain) → is_no_id f ≡ true → is_of G f o ≡ true → ids_in (o ∷ os) ≡ []
+not_an_id G form.OfType o os e h = cc
+not_an_id G form.Result o os e h = cc
+not_an_id G form.Word (operand.OfType a) os e h = refl
+not_an_id G form.Word (operand.Result a) os e h = refl
+not_an_id G form.Word (operand.Id a) os e h = cc
+not_an_id G form.Word (operand.Word a) os e h = refl
+not_an_id G form.Word (operand.Number a b w) os e h = refl
+not_an_id G form.Word (operand.Text a) os e h = refl
+not_an_id G form.Word (operand.Value a b) os e h = refl
+not_an_id G form.Word (operand.Mask a b) os e h = refl
+not_an_id G form.Number o os e h = cc
+not_an_id G form.Text o os e h = cc
+not_an_id G (form.Id role.OfType) o os e h = cc
+not_an_id G (form.Id role.Function) o os e h = cc
+not_an_id G (form.Id role.Text) o os e h = cc
+not_an_id G (form.Id role.Set) o os e h = cc
+not_an_id G (form.Id role.Label) o os e h = cc
+not_an_id G (form.Id role.Global) o os e h = cc
+not_an_id G (form.Id role.Any) o os e h = cc
+not_an_id G form.Unseen o os e h = cc
+not_an_id G (form.Kind k) (operand.OfType a) os e h = refl
+not_an_id G (form.Kind k) (operand.Result a) os e h = refl
+not_an_id G (form.Kind k) (operand.Id a) os e h = cc
+not_an_id G (form.Kind k) (operand.Word a) os e h = refl
+not_an_id G (form.Kind k) (operand.Number a b w) os e h = refl
+not_an_id G (form.Kind k) (operand.Text a) os e h = refl
+not_an_id G (form.Kind k) (operand.Value a b) os e h = refl
+not_an_id G (form.Kind k) (operand.Mask a b) os e h = refl
+not_an_id G form.Other o os e h = cc
+not_an_id G (form.Id role.Value) o os e h = cc
+
+-- forms without a value use none
+none_used : (G : Table) (fs : List Form) (os : List Plain) → have_no_value fs ≡ true → used_in fs os ≡ []
+none_used G [] os h = refl
+none_used G (f ∷ fs) [] h = refl
+none_used G (f ∷ fs) (o ∷ os) h =
+    let two = both (not (is_value f)) (have_no_value fs) h in
+    let e : value_in f o ≡ [] = no_value f o (not_true (is_value f) two.0) in
+    rw e (none_used G fs os two.1)
+
+after_used : (G : Table) (fs : List Form) (os : List Plain) → are_after fs ≡ true → AreOf G fs os → used_in fs os ≡ ids_in os
+after_used G [] [] h AreOf.none = refl
+after_used G [] (o ∷ os) h a = elim a [ ]
+after_used G (f ∷ fs) [] h a = elim a [ ]
+after_used G (f ∷ fs) (o ∷ os) h (AreOf.more _ _ _ _ i a) =
+    let two = both (is_no_id f) (have_no_value (f ∷ fs)) h in
+    none_used G (f ∷ fs) (o ∷ os) two.1 ∙ sym (not_an_id G f o os two.0 i)
+
+front_more : (G : Table) (f : Form) (fs : List Form) (o : Plain) (os : List Plain) (b : Bool) → is_value f ≡ b
+    → (if b then are_front fs else are_after (f ∷ fs)) ≡ true → is_of G f o ≡ true → AreOf G fs os
+    → (are_front fs ≡ true → used_in fs os ≡ ids_in os) → used_in (f ∷ fs) (o ∷ os) ≡ ids_in (o ∷ os)
+front_more G f fs o os false e h i a rest = after_used G (f ∷ fs) (o ∷ os) h (AreOf.more f o fs os i a)
+front_more G f fs o os true e h i a rest =
+    let same : f ≡ form.Id role.Value = is_it f e in
+    let x = an_id G o (rw (← same) i) in
+    rw (same, x.1) (ap (λ xs. x.0 ∷ xs) (rest h))
+
+front_used : (G : Table) (fs : List Form) (os : List Plain) → are_front fs ≡ true → AreOf G fs os → used_in fs os ≡ ids_in os
+front_used G [] [] h AreOf.none = refl
+front_used G [] (o ∷ os) h a = elim a [ ]
+front_used G (f ∷ fs) [] h a = elim a [ ]
+front_used G (f ∷ fs) (o ∷ os) h (AreOf.more _ _ _ _ i a) = front_more G f fs o os (is_value f) refl h i a (λ r. front_used G fs os r a)
+
+-- Tests of endings.
+abbrev is_free_ending : Ending → Bool
+is_free_ending closed = true
+is_free_ending (maybe f) = not (is_value f)
+is_free_ending file_and_text = true
+is_free_ending (repeated fs) = have_no_value fs
+is_free_ending others = true
+is_free_ending (maybe_others f) = not (is_value f)
+
+no_value_append : (fs gs : List Form) → have_no_value fs ≡ true → have_no_value gs ≡ true → have_no_value (fs ++ gs) ≡ true
+no_value_append [] gs h k = k
+no_value_append (f ∷ fs) gs h k =
+    let two = both (not (is_value f)) (have_no_value fs) h in
+    and_yes (not (is_value f)) (have_no_value (fs ++ gs)) two.0 (no_value_append fs gs two.1 k)
+
+free_others : (gs : List Form) → Ends others gs → have_no_value gs ≡ true
+free_others [] Ends.no_other = refl
+free_others (g ∷ gs) (Ends.other _ e) = free_others gs e
+
+free_ending : (e : Ending) (gs : List Form) → is_free_ending e ≡ true → Ends e gs → have_no_value gs ≡ true
+free_ending closed gs h Ends.nothing = refl
+free_ending (maybe f) gs h (Ends.absent _) = refl
+free_ending (maybe f) gs h (Ends.present _) = and_yes (not (is_value f)) true h refl
+free_ending file_and_text gs h Ends.no_file_or_text = refl
+free_ending file_and_text gs h Ends.file = refl
+free_ending file_and_text gs h Ends.text = refl
+free_ending file_and_text gs h Ends.both = refl
+free_ending (repeated fs) gs h (Ends.done _) = refl
+free_ending (repeated fs) gs h (Ends.again _ hs e) = no_value_append fs hs h (free_ending (repeated fs) hs h e)
+free_ending others gs h e = free_others gs e
+free_ending (maybe_others f) gs h (Ends.no_kind _) = refl
+free_ending (maybe_others f) gs h (Ends.kind _ hs e) = and_yes (not (is_value f)) (have_no_value hs) h (free_others hs e)
+
+no_id_no_value : (f : Form) → is_no_id f ≡ true → is_value f ≡ false
+no_id_no_value form.OfType h = cc
+no_id_no_value form.Result h = cc
+no_id_no_value form.Word h = refl
+no_id_no_value form.Number h = cc
+no_id_no_value form.Text h = cc
+no_id_no_value (form.Id role.OfType) h = cc
+no_id_no_value (form.Id role.Value) h = cc
+no_id_no_value (form.Id role.Function) h = cc
+no_id_no_value (form.Id role.Text) h = cc
+no_id_no_value (form.Id role.Set) h = cc
+no_id_no_value (form.Id role.Label) h = cc
+no_id_no_value (form.Id role.Global) h = cc
+no_id_no_value (form.Id role.Any) h = cc
+no_id_no_value form.Unseen h = cc
+no_id_no_value (form.Kind k) h = refl
+no_id_no_value form.Other h = cc
+
+front_value : (f : Form) (fs : List Form) → is_value f ≡ true → are_front fs ≡ true → are_front (f ∷ fs) ≡ true
+front_value f fs e h = rw e h
+
+front_other : (f : Form) (fs : List Form) → is_no_id f ≡ true → have_no_value fs ≡ true → are_front (f ∷ fs) ≡ true
+front_other f fs e h =
+    let n : is_value f ≡ false = no_id_no_value f e in
+    rw (n, e) h
+
+-- what may come after values alone: nothing, more values, or what is no id, and no value after it
+abbrev is_plain_list : List Form → Bool
+is_plain_list [] = false
+is_plain_list (f ∷ []) = is_value f || is_no_id f
+is_plain_list (f ∷ g ∷ fs) = false
+
+abbrev is_plain_ending : Ending → Bool
+is_plain_ending closed = true
+is_plain_ending (maybe f) = is_value f
+is_plain_ending file_and_text = false
+is_plain_ending (repeated fs) = is_plain_list fs
+is_plain_ending others = false
+is_plain_ending (maybe_others f) = is_no_id f
+
+one_more : (f : Form) (hs : List Form) (b : Bool) → is_value f ≡ b → b || is_no_id f ≡ true → are_front hs ≡ true
+    → (is_value f ≡ false → have_no_value hs ≡ true) → are_front (f ∷ hs) ≡ true
+one_more f hs true e h r n = front_value f hs e r
+one_more f hs false e h r n = front_other f hs h (n e)
+
+free_of : (f : Form) → is_value f ≡ false → have_no_value (f ∷ []) ≡ true
+free_of f e = rw e refl
+
+plain_repeated : (f : Form) (gs : List Form) → is_value f || is_no_id f ≡ true → Ends (repeated (f ∷ [])) gs → are_front gs ≡ true
+plain_repeated f [] h _ = refl
+plain_repeated f gs h (Ends.again _ hs e) =
+    one_more f hs (is_value f) refl h (plain_repeated f hs h e) (λ n. free_ending (repeated (f ∷ [])) hs (free_of f n) e)
+
+plain_ending : (e : Ending) (gs : List Form) → is_plain_ending e ≡ true → Ends e gs → are_front gs ≡ true
+plain_ending closed gs h Ends.nothing = refl
+plain_ending (maybe f) gs h (Ends.absent _) = refl
+plain_ending (maybe f) gs h (Ends.present _) = front_value f [] h refl
+plain_ending file_and_text gs h e = cc
+plain_ending (repeated []) gs h e = cc
+plain_ending (repeated (f ∷ [])) gs h e = plain_repeated f gs h e
+plain_ending (repeated (f ∷ g ∷ fs)) gs h e = cc
+plain_ending others gs h e = cc
+plain_ending (maybe_others f) gs h (Ends.no_kind _) = refl
+plain_ending (maybe_others f) gs h (Ends.kind _ hs e) = front_other f hs h (free_others hs e)
+
+abbrev is_plain : List Form → Ending → Bool
+is_plain [] e = is_plain_ending e
+is_plain (f ∷ fs) e = if is_value f then is_plain fs e else (is_no_id f && (have_no_value fs && is_free_ending e))
+
+plain_more : (f : Form) (fs gs : List Form) (e : Ending) (b : Bool) → is_value f ≡ b → (if b then is_plain fs e else (is_no_id f && (have_no_value fs && is_free_ending e))) ≡ true
+    → Ends e gs → (is_plain fs e ≡ true → are_front (fs ++ gs) ≡ true) → are_front (f ∷ (fs ++ gs)) ≡ true
+plain_more f fs gs e true v h n rest = front_value f (fs ++ gs) v (rest h)
+plain_more f fs gs e false v h n rest =
+    let two = both (is_no_id f) (have_no_value fs && is_free_ending e) h in
+    let more = both (have_no_value fs) (is_free_ending e) two.1 in
+    front_other f (fs ++ gs) two.0 (no_value_append fs gs more.0 (free_ending e gs more.1 n))
+
+plain_front : (fs gs : List Form) (e : Ending) → is_plain fs e ≡ true → Ends e gs → are_front (fs ++ gs) ≡ true
+plain_front [] gs e h n = plain_ending e gs h n
+plain_front (f ∷ fs) gs e h n = plain_more f fs gs e (is_value f) refl h n (λ r. plain_front fs gs e r n)
+
+plain_used : (G : Table) (fs gs : List Form) (e : Ending) (os : List Plain) → is_plain fs e ≡ true → Ends e gs → AreOf G (fs ++ gs) os → used_in (fs ++ gs) os ≡ ids_in os
+plain_used G fs gs e os h n a = front_used G (fs ++ gs) os (plain_front fs gs e h n) a
+
+-- a variable: its storage class, and then values
+abbrev is_class : Form → Bool
+is_class (form.Kind kind.StorageClass) = true
+is_class _ = false
+
+abbrev is_variable : List Form → Ending → Bool
+is_variable [] e = false
+is_variable (f ∷ fs) e = is_class f && is_plain fs e
+
+a_class : (f : Form) → is_class f ≡ true → f ≡ form.Kind kind.StorageClass
+a_class form.OfType h = cc
+a_class form.Result h = cc
+a_class form.Word h = cc
+a_class form.Number h = cc
+a_class form.Text h = cc
+a_class (form.Id role.OfType) h = cc
+a_class (form.Id role.Value) h = cc
+a_class (form.Id role.Function) h = cc
+a_class (form.Id role.Text) h = cc
+a_class (form.Id role.Set) h = cc
+a_class (form.Id role.Label) h = cc
+a_class (form.Id role.Global) h = cc
+a_class (form.Id role.Any) h = cc
+a_class form.Unseen h = cc
+a_class (form.Kind kind.SourceLanguage) h = cc
+a_class (form.Kind kind.AddressingModel) h = cc
+a_class (form.Kind kind.MemoryModel) h = cc
+a_class (form.Kind kind.ExecutionModel) h = cc
+a_class (form.Kind kind.ExecutionMode) h = cc
+a_class (form.Kind kind.Capability) h = cc
+a_class (form.Kind kind.StorageClass) h = refl
+a_class (form.Kind kind.Decoration) h = cc
+a_class (form.Kind kind.FunctionControl) h = cc
+a_class (form.Kind kind.MemoryAccess) h = cc
+a_class (form.Kind kind.LoopControl) h = cc
+a_class (form.Kind kind.SelectionControl) h = cc
+a_class form.Other h = cc
+
+a_value : (G : Table) (o : Plain) → is_of G (form.Kind kind.StorageClass) o ≡ true → (k x : ℕ) × (o ≡ operand.Value k x)
+a_value G (operand.OfType a) h = cc
+a_value G (operand.Result a) h = cc
+a_value G (operand.Id a) h = cc
+a_value G (operand.Word a) h = cc
+a_value G (operand.Number a b w) h = cc
+a_value G (operand.Text a) h = cc
+a_value G (operand.Value a b) h = (a, b, refl)
+a_value G (operand.Mask a b) h = cc
+
+variable_used : (G : Table) (fs gs : List Form) (e : Ending) (os : List Plain) → is_variable fs e ≡ true → Ends e gs → AreOf G (fs ++ gs) os
+    → used_in (fs ++ gs) os ≡ initializers_in os
+variable_used G [] gs e os h n a = cc
+variable_used G (f ∷ fs) gs e [] h n a = elim a [ ]
+variable_used G (f ∷ fs) gs e (o ∷ os) h n (AreOf.more _ _ _ _ i a) =
+    let two = both (is_class f) (is_plain fs e) h in
+    let same : f ≡ form.Kind kind.StorageClass = a_class f two.0 in
+    let x = a_value G o (rw (← same) i) in
+    rw (same, x.2) (plain_used G fs gs e os two.1 n a)
+
+-- pairs of a value and a label
+abbrev is_label : Form → Bool
+is_label (form.Id role.Label) = true
+is_label _ = false
+
+its_label : (f : Form) → is_label f ≡ true → f ≡ form.Id role.Label
+its_label form.OfType h = cc
+its_label form.Result h = cc
+its_label form.Word h = cc
+its_label form.Number h = cc
+its_label form.Text h = cc
+its_label (form.Id role.OfType) h = cc
+its_label (form.Id role.Value) h = cc
+its_label (form.Id role.Function) h = cc
+its_label (form.Id role.Text) h = cc
+its_label (form.Id role.Set) h = cc
+its_label (form.Id role.Label) h = refl
+its_label (form.Id role.Global) h = cc
+its_label (form.Id role.Any) h = cc
+its_label form.Unseen h = cc
+its_label (form.Kind k) h = cc
+its_label form.Other h = cc
+
+abbrev are_pairs : List Form → Bool
+are_pairs [] = false
+are_pairs (f ∷ []) = false
+are_pairs (f ∷ g ∷ []) = is_value f && is_label g
+are_pairs (f ∷ g ∷ h ∷ fs) = false
+
+abbrev is_phi : List Form → Ending → Bool
+is_phi [] (repeated fs) = are_pairs fs
+is_phi _ _ = false
+
+pairs_used : (G : Table) (gs : List Form) (os : List Plain) → Ends (repeated (form.Id role.Value ∷ form.Id role.Label ∷ [])) gs → AreOf G gs os → used_in gs os ≡ paired_ids_in os
+pairs_used G [] [] e a = refl
+pairs_used G gs (o ∷ os) (Ends.done _) a = elim a [ ]
+pairs_used G gs [] (Ends.again _ hs e) a = elim a [ ]
+pairs_used G gs (o ∷ []) (Ends.again _ hs e) (AreOf.more _ _ _ _ i a) = elim a [ ]
+pairs_used G gs (o ∷ p ∷ os) (Ends.again _ hs e) (AreOf.more _ _ _ _ i (AreOf.more _ _ _ _ j a)) =
+    let x = an_id G o i in
+    let y = a_label G p j in
+    rw (x.1, y.1) (ap (λ xs. x.0 ∷ xs) (pairs_used G hs os e a))
+
+phi_used : (G : Table) (fs gs : List Form) (e : Ending) (os : List Plain) → is_phi fs e ≡ true → Ends e gs → AreOf G (fs ++ gs) os → used_in (fs ++ gs) os ≡ paired_ids_in os
+phi_used G [] gs closed os h n a = cc
+phi_used G [] gs (maybe f) os h n a = cc
+phi_used G [] gs file_and_text os h n a = cc
+phi_used G [] gs (repeated []) os h n a = cc
+phi_used G [] gs (repeated (f ∷ [])) os h n a = cc
+phi_used G [] gs (repeated (f ∷ g ∷ [])) os h n a =
+    let two = both (is_value f) (is_label g) h in
+    let first : f ≡ form.Id role.Value = is_it f two.0 in
+    let second : g ≡ form.Id role.Label = its_label g two.1 in
+    pairs_used G gs os (rw (← first, ← second) n) a
+phi_used G [] gs (repeated (f ∷ g ∷ k ∷ fs)) os h n a = cc
+phi_used G [] gs others os h n a = cc
+phi_used G [] gs (maybe_others f) os h n a = cc
+phi_used G (f ∷ fs) gs e os h n a = cc
+
+-- one value, and no other
+abbrev is_one : List Form → Ending → Bool
+is_one [] e = false
+is_one (f ∷ fs) e = is_value f && (have_no_value fs && is_free_ending e)
+
+one_used : (G : Table) (fs gs : List Form) (e : Ending) (os : List Plain) → is_one fs e ≡ true → Ends e gs → AreOf G (fs ++ gs) os → used_in (fs ++ gs) os ≡ take 1 (ids_in os)
+one_used G [] gs e os h n a = cc
+one_used G (f ∷ fs) gs e [] h n a = elim a [ ]
+one_used G (f ∷ fs) gs e (o ∷ os) h n (AreOf.more _ _ _ _ i a) =
+    let two = both (is_value f) (have_no_value fs && is_free_ending e) h in
+    let more = both (have_no_value fs) (is_free_ending e) two.1 in
+    let same : f ≡ form.Id role.Value = is_it f two.0 in
+    let x = an_id G o (rw (← same) i) in
+    rw (same, x.1) (ap (λ xs. x.0 ∷ xs) (none_used G (fs ++ gs) os (no_value_append fs gs more.0 (free_ending e gs more.1 n))))
+
+-- Whether a row of types looks for its values where forms and an ending, without the type and the result, have them.
+abbrev agrees : Row → List Form → Ending → Bool
+agrees row.Free fs e = false
+agrees row.Undef fs e = have_no_value fs && is_free_ending e
+agrees row.Variable fs e = is_variable fs e
+agrees row.Phi fs e = is_phi fs e
+agrees row.BranchConditional fs e = is_one fs e
+agrees row.Switch fs e = is_one fs e
+agrees (row.Calculation c) fs e = is_plain fs e
+agrees (row.Access c) fs e = is_plain fs e
+agrees (row.Composite c) fs e = is_plain fs e
+agrees row.Construct fs e = is_plain fs e
+agrees row.Chain fs e = is_plain fs e
+agrees row.ElementChain fs e = is_plain fs e
+
+agreed : (G : Table) (r : Row) (fs gs : List Form) (e : Ending) (os : List Plain) → agrees r fs e ≡ true → Ends e gs → AreOf G (fs ++ gs) os
+    → used_in (fs ++ gs) os ≡ value_ids r os
+agreed G row.Free fs gs e os h n a = cc
+agreed G row.Undef fs gs e os h n a =
+    let two = both (have_no_value fs) (is_free_ending e) h in
+    none_used G (fs ++ gs) os (no_value_append fs gs two.0 (free_ending e gs two.1 n))
+agreed G row.Variable fs gs e os h n a = variable_used G fs gs e os h n a
+agreed G row.Phi fs gs e os h n a = phi_used G fs gs e os h n a
+agreed G row.BranchConditional fs gs e os h n a = one_used G fs gs e os h n a
+agreed G row.Switch fs gs e os h n a = one_used G fs gs e os h n a
+agreed G (row.Calculation c) fs gs e os h n a = plain_used G fs gs e os h n a
+agreed G (row.Access c) fs gs e os h n a = plain_used G fs gs e os h n a
+agreed G (row.Composite c) fs gs e os h n a = plain_used G fs gs e os h n a
+agreed G row.Construct fs gs e os h n a = plain_used G fs gs e os h n a
+agreed G row.Chain fs gs e os h n a = plain_used G fs gs e os h n a
+agreed G row.ElementChain fs gs e os h n a = plain_used G fs gs e os h n a
+
+-- The forms without the type and the result: where a row has these first, or has a value first.
+abbrev is_type : Form → Bool
+is_type form.OfType = true
+is_type _ = false
+
+abbrev is_result : Form → Bool
+is_result form.Result = true
+is_result _ = false
+
+its_type : (f : Form) → is_type f ≡ true → f ≡ form.OfType
+its_type form.OfType h = refl
+its_type form.Result h = cc
+its_type form.Word h = cc
+its_type form.Number h = cc
+its_type form.Text h = cc
+its_type (form.Id role.OfType) h = cc
+its_type (form.Id role.Value) h = cc
+its_type (form.Id role.Function) h = cc
+its_type (form.Id role.Text) h = cc
+its_type (form.Id role.Set) h = cc
+its_type (form.Id role.Label) h = cc
+its_type (form.Id role.Global) h = cc
+its_type (form.Id role.Any) h = cc
+its_type form.Unseen h = cc
+its_type (form.Kind k) h = cc
+its_type form.Other h = cc
+
+its_result : (f : Form) → is_result f ≡ true → f ≡ form.Result
+its_result form.OfType h = cc
+its_result form.Result h = refl
+its_result form.Word h = cc
+its_result form.Number h = cc
+its_result form.Text h = cc
+its_result (form.Id role.OfType) h = cc
+its_result (form.Id role.Value) h = cc
+its_result (form.Id role.Function) h = cc
+its_result (form.Id role.Text) h = cc
+its_result (form.Id role.Set) h = cc
+its_result (form.Id role.Label) h = cc
+its_result (form.Id role.Global) h = cc
+its_result (form.Id role.Any) h = cc
+its_result form.Unseen h = cc
+its_result (form.Kind k) h = cc
+its_result form.Other h = cc
+
+-- a test of a row of types against forms and an ending
+abbrev is_free : Row → Bool
+is_free row.Free = true
+is_free _ = false
+
+abbrev agrees_whole : Row → List Form → Ending → Bool
+agrees_whole r [] e = false
+agrees_whole r (f ∷ []) e = is_value f && agrees r (f ∷ []) e
+agrees_whole r (f ∷ g ∷ fs) e = (is_type f && (is_result g && agrees r fs e)) || (is_value f && agrees r (f ∷ g ∷ fs) e)
+
+value_first : (G : Table) (r : Row) (f : Form) (fs gs : List Form) (e : Ending) (os : List Plain) → is_value f && agrees r (f ∷ fs) e ≡ true → Ends e gs → AreOf G (f ∷ (fs ++ gs)) os
+    → used_in (f ∷ (fs ++ gs)) os ≡ value_ids r (after_head os)
+value_first G r f fs gs e [] h n a = elim a [ ]
+value_first G r f fs gs e (o ∷ os) h n (AreOf.more _ _ _ _ i a) =
+    let two = both (is_value f) (agrees r (f ∷ fs) e) h in
+    let same : f ≡ form.Id role.Value = is_it f two.0 in
+    let x = an_id G o (rw (← same) i) in
+    let front : after_head (o ∷ os) ≡ o ∷ os = rw x.1 refl in
+    agreed G r (f ∷ fs) gs e (o ∷ os) two.1 n (AreOf.more f o (fs ++ gs) os i a) ∙ ap (value_ids r) (sym front)
+
+head_first : (G : Table) (r : Row) (f g : Form) (fs gs : List Form) (e : Ending) (os : List Plain) → is_type f && (is_result g && agrees r fs e) ≡ true → Ends e gs → AreOf G (f ∷ g ∷ (fs ++ gs)) os
+    → used_in (f ∷ g ∷ (fs ++ gs)) os ≡ value_ids r (after_head os)
+head_first G r f g fs gs e [] h n a = elim a [ ]
+head_first G r f g fs gs e (o ∷ []) h n (AreOf.more _ _ _ _ i a) = elim a [ ]
+head_first G r f g fs gs e (o ∷ p ∷ os) h n (AreOf.more _ _ _ _ i (AreOf.more _ _ _ _ j a)) =
+    let two = both (is_type f) (is_result g && agrees r fs e) h in
+    let more = both (is_result g) (agrees r fs e) two.1 in
+    let first : f ≡ form.OfType = its_type f two.0 in
+    let second : g ≡ form.Result = its_result g more.0 in
+    let t = a_type G o (rw (← first) i) in
+    let x = a_result G p (rw (← second) j) in
+    rw (first, second, t.1, x.1) (agreed G r fs gs e os more.1 n a)
+
+whole_two : (G : Table) (r : Row) (f g : Form) (fs gs : List Form) (e : Ending) (os : List Plain) (b : Bool) → is_type f && (is_result g && agrees r fs e) ≡ b
+    → b || (is_value f && agrees r (f ∷ g ∷ fs) e) ≡ true → Ends e gs → AreOf G (f ∷ g ∷ (fs ++ gs)) os → used_in (f ∷ g ∷ (fs ++ gs)) os ≡ value_ids r (after_head os)
+whole_two G r f g fs gs e os true y h n a = head_first G r f g fs gs e os y n a
+whole_two G r f g fs gs e os false y h n a = value_first G r f (g ∷ fs) gs e os h n a
+
+whole : (G : Table) (r : Row) (fs gs : List Form) (e : Ending) (os : List Plain) → agrees_whole r fs e ≡ true → Ends e gs → AreOf G (fs ++ gs) os
+    → used_in (fs ++ gs) os ≡ value_ids r (after_head os)
+whole G r [] gs e os h n a = cc
+whole G r (f ∷ []) gs e os h n a = value_first G r f [] gs e os h n a
+whole G r (f ∷ g ∷ fs) gs e os h n a = whole_two G r f g fs gs e os (is_type f && (is_result g && agrees r fs e)) refl h n a
+
+-- The test of all rows of table A, opcode by opcode.
+abbrev all_from : (ℕ → Bool) → ℕ → ℕ → Bool
+all_from p m zero = true
+all_from p m (suc k) = p m && all_from p (m + 1) k
+
+abbrev fits_all : List PlainRow → Bool
+fits_all [] = true
+fits_all (r ∷ rs) = all_from (λ n. is_free (row_of n) || agrees_whole (row_of n) r.fixed r.ending) r.from (r.to + 1 - r.from) && fits_all rs
+
+not_le : (n m : ℕ) → nat_le n m ≡ false → m + 1 ≤ n
+not_le n m e = omega (arith, leb-false n m e)
+
+one_next : (p : ℕ → Bool) (k m n : ℕ) → p m ≡ true → (b : Bool) → nat_le n m ≡ b → m ≤ n → (m + 1 ≤ n → p n ≡ true) → p n ≡ true
+one_next p k m n h true e l more = let same : n ≡ m = omega (arith, leb-true n m e) in rw same h
+one_next p k m n h false e l more = more (not_le n m e)
+
+one_from : (p : ℕ → Bool) (k m n : ℕ) → all_from p m k ≡ true → m ≤ n → n < m + k → p n ≡ true
+one_from p zero m n h l u = absurd (let no : n < m = omega arith in omega arith)
+one_from p (suc k) m n h l u = one_next p k m n (both (p m) (all_from p (m + 1) k) h).0 (nat_le n m) refl l (λ v. one_from p k (m + 1) n (both (p m) (all_from p (m + 1) k) h).1 v (omega arith))
+
+one_here : (q : PlainRow) (rs : List PlainRow) (n : ℕ) (r : PlainRow) (b : Bool) → nat_le q.from n && nat_le n q.to ≡ b → fits_all (q ∷ rs) ≡ true
+    → (if b then Some q else row_in rs n) ≡ Some r → (fits_all rs ≡ true → row_in rs n ≡ Some r → is_free (row_of n) || agrees_whole (row_of n) r.fixed r.ending ≡ true)
+    → is_free (row_of n) || agrees_whole (row_of n) r.fixed r.ending ≡ true
+one_here q rs n r true w h e rest =
+    let same : q ≡ r = cc in
+    let two = both (nat_le q.from n) (nat_le n q.to) w in
+    let low : q.from ≤ n = leb-true q.from n two.0 in
+    let high : n ≤ q.to = leb-true n q.to two.1 in
+    let test : ℕ → Bool = λ m. is_free (row_of m) || agrees_whole (row_of m) q.fixed q.ending in
+    let all = both (all_from test q.from (q.to + 1 - q.from)) (fits_all rs) h in
+    rw (← same) (one_from test (q.to + 1 - q.from) q.from n all.0 low (omega arith))
+one_here q rs n r false w h e rest =
+    let test : ℕ → Bool = λ m. is_free (row_of m) || agrees_whole (row_of m) q.fixed q.ending in
+    rest (both (all_from test q.from (q.to + 1 - q.from)) (fits_all rs) h).1 e
+
+one_in : (rs : List PlainRow) (n : ℕ) (r : PlainRow) → fits_all rs ≡ true → row_in rs n ≡ Some r → is_free (row_of n) || agrees_whole (row_of n) r.fixed r.ending ≡ true
+one_in [] n r h e = absurd (none-some r e)
+one_in (q ∷ rs) n r h e = one_here q rs n r (nat_le q.from n && nat_le n q.to) refl h e (λ k l. one_in rs n r k l)
+
+all_fit : fits_all rows ≡ true
+unfolding rows
+all_fit = refl
+
+freed : (r : Row) (b : Bool) → is_free r || b ≡ true → r ≢ row.Free → b ≡ true
+freed row.Free b h n = absurd (n refl)
+freed row.Undef b h n = h
+freed row.Variable b h n = h
+freed row.Phi b h n = h
+freed row.BranchConditional b h n = h
+freed row.Switch b h n = h
+freed (row.Calculation c) b h n = h
+freed (row.Access c) b h n = h
+freed (row.Composite c) b h n = h
+freed row.Construct b h n = h
+freed row.Chain b h n = h
+freed row.ElementChain b h n = h
+
+-- The code's places of value operands are those of the instruction's forms.
+pub values_agree : (G : Table) (i : PlainInst) (fs : List Form) → HasForms G i fs → row_of i.opcode ≢ row.Free → used_in fs i.operands ≡ values_of i
+values_agree G i fs has n =
+    let known : row_in rows i.opcode ≡ Some has.row = has.known in
+    let h = freed (row_of i.opcode) (agrees_whole (row_of i.opcode) has.row.fixed has.row.ending) (one_in rows i.opcode has.row all_fit known) n in
+    let e : fs ≡ has.row.fixed ++ has.rest = has.forms in
+    rw e (whole G (row_of i.opcode) has.row.fixed has.rest has.row.ending i.operands h has.ending (rw (← e) has.each))

@@ -1,0 +1,14 @@
+use Rattle.std.proofs.Common.{rules}
+use Rattle.spv_inst.specs.Module.{plain_operands}
+use Rattle.spv_ops.specs.Operands.{ids_in}
+use Rattle.spv_ops.specs.Calculation.{Calculates}
+use Rattle.spv_ops.proofs.Short.{short_calculation, too_long}
+use Rattle.spv_ops.proofs.fixed.calculation_holds.Goals as goal
+use Rattle.spv_ops.specs.Values.{types_of}
+
+pub returns-in-None : goal.returns-in-None
+returns-in-None c = (
+  λ y. search rules,
+  λ s. absurd (too_long (λ types. Calculates c.args.definitions.now c.args.row c.args.r types) (types_of c.args.definitions.now (ids_in (plain_operands c.args.operands.now)))
+      c.in-None.ensures.none (short_calculation c.args.definitions.now c.args.row c.args.r) s),
+)

@@ -1,0 +1,15 @@
+use Rattle.std.proofs.Common.{refl, inl, inr}
+use Rattle.spv_ops.proofs.Worked.{no_last, lone_section, lone_defined}
+use Rattle.spv_ops.proofs.laws.variable_examples.Goals as goal
+
+pub returns-clause-global : goal.returns-clause-global
+returns-clause-global c = record { place = 0; defined = lone_defined; variable = refl; section = lone_section }
+
+pub returns-clause-class : goal.returns-clause-class
+returns-clause-class c = inl (lone_section, λ e. cc, λ e. cc)
+
+pub returns-clause-no_class : goal.returns-clause-no_class
+returns-clause-no_class c = λ h. elim h [
+  | inl a ↦ a.1 refl
+  | inr b ↦ no_last 0 b.0 b.1.begun
+]

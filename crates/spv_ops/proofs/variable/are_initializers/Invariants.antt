@@ -1,0 +1,9 @@
+use Rattle.std.proofs.Common.{◌↔◌, drop}
+use Rattle.std.specs.List.{AllByRecursion}
+use Rattle.spv_inst.specs.Module.{plain_operands}
+use Rattle.spv_ops.specs.Operands.{ids_in}
+use Rattle.spv_ops.specs.Variable.{IsInitializer}
+use Rattle.spv_ops.proofs.variable.are_initializers.Given as goal
+
+abbrev pub invariant-loop-operand : goal.invariant-loop-operand
+invariant-loop-operand l = AllByRecursion (IsInitializer l.definitions) (ids_in (plain_operands (drop l.operand-index l.operands))) ↔ AllByRecursion (IsInitializer l.definitions) (ids_in (plain_operands l.operands))

@@ -1,0 +1,52 @@
+-- What a type id declares: its definition is the instruction whose result it is. [2.2.2, 3.49.6]
+use Rattle.std.specs.Prelude.{ℕ, List, ◌∷◌, Option, Some, None, nat_eq, if◌then◌else◌, option_and_then}
+use Rattle.spv_inst.specs.Operand.{Plain, Result, Id, Word, Value, PlainInst}
+use Rattle.spv_inst.specs.Width.{definition_of}
+use Rattle.spv_ops.specs.declared.form.Scalar.TheVariants as scalar
+use Rattle.spv_ops.specs.declared.form.Form.{Form}
+use Rattle.spv_ops.specs.declared.form.Form.TheVariants as form
+
+-- %t = OpTypeInt w ..
+abbrev pub int_in : List Plain → Option Form
+int_in (Result t ∷ Word w ∷ _) = Some (form.Scalar (scalar.Int w))
+int_in _ = None
+
+-- %t = OpTypeFloat w
+abbrev pub float_in : List Plain → Option Form
+float_in (Result t ∷ Word w ∷ _) = Some (form.Scalar (scalar.Float w))
+float_in _ = None
+
+-- %t = OpTypeVector %c n
+abbrev pub vector_in : List Plain → Option Form
+vector_in (Result t ∷ Id c ∷ Word n ∷ _) = Some (form.Vector c n)
+vector_in _ = None
+
+-- %t = OpTypeArray %e %l
+abbrev pub array_in : List Plain → Option Form
+array_in (Result t ∷ Id e ∷ Id l ∷ _) = Some (form.Array e l)
+array_in _ = None
+
+-- %t = OpTypePointer class %p
+abbrev pub pointer_in : List Plain → Option Form
+pointer_in (Result t ∷ Value k class ∷ Id p ∷ _) = Some (form.Pointer class p)
+pointer_in _ = None
+
+-- what an instruction declares, if it is a type declaration: OpTypeVoid (19), Bool (20), Int (21), Float (22), Vector (23), Array (28),
+-- Struct (30), Opaque (31), Pointer (32), Function (33)
+abbrev pub form_in : PlainInst → Option Form
+form_in i =
+    if nat_eq i.opcode 19 then Some form.Void
+    else (if nat_eq i.opcode 20 then Some (form.Scalar scalar.Bool)
+    else (if nat_eq i.opcode 21 then int_in i.operands
+    else (if nat_eq i.opcode 22 then float_in i.operands
+    else (if nat_eq i.opcode 23 then vector_in i.operands
+    else (if nat_eq i.opcode 28 then array_in i.operands
+    else (if nat_eq i.opcode 30 then Some form.Struct
+    else (if nat_eq i.opcode 31 then Some form.Opaque
+    else (if nat_eq i.opcode 32 then pointer_in i.operands
+    else (if nat_eq i.opcode 33 then Some form.Function
+    else None)))))))))
+
+-- what the definition of an id declares
+abbrev pub form_of : List PlainInst → ℕ → Option Form
+form_of is t = option_and_then form_in (definition_of is t)

@@ -1,0 +1,17 @@
+pub mod Form
+pub mod Types
+pub mod Operands
+pub mod Parts
+pub mod Reach
+pub mod Row
+pub mod Values
+pub mod Calculation
+pub mod Access
+pub mod Composite
+pub mod Chain
+pub mod Variable
+pub mod Typed
+pub mod Example
+pub mod Found
+pub mod Walk
+pub mod Tests

@@ -1,0 +1,154 @@
+ghost use Rattle.std.specs.Prelude.{◌≡◌, ◌↔◌, ℕ, [], ◌∷◌, Some, None, IsTrue};
+ghost use Rattle.spv_ops.specs.Types.{IsSomeInt, IsNumber, PointsTo};
+ghost use Rattle.spv_ops.specs.Access.{Accesses, IsScope};
+ghost use Rattle.spv_ops.specs.declared.row.Access.TheVariants.{Load, Store, CopyMemory, CopyMemorySized, Lifetime, ControlBarrier, MemoryBarrier, AtomicLoad, AtomicStore, AtomicExchange, AtomicCompareExchange, AtomicStep, AtomicUpdate};
+
+use crate::calculation::is_data;
+use crate::definitions::Definitions;
+use crate::form::{Form, Scalar};
+use crate::row::Access;
+
+/// Whether a type is a pointer to another.
+pub fn points_to(definitions: &Definitions, t: u32, to: u32) -> bool
+    ensures { IsTrue result ↔ PointsTo definitions.now t to }
+{
+    match definitions.pointee(t) {
+        Some(pointee) => pointee == to,
+        None => false,
+    }
+}
+
+/// Whether a type is an int of width 32.
+fn is_scope(definitions: &Definitions, t: u32) -> bool
+    ensures { IsTrue result ↔ IsScope definitions.now t }
+{
+    match definitions.form(t) {
+        Some(Form::Scalar(Scalar::Int(32))) => true,
+        _ => false,
+    }
+}
+
+/// Whether a type is an int.
+pub fn is_int(definitions: &Definitions, t: u32) -> bool
+    ensures { IsTrue result ↔ IsSomeInt definitions.now t }
+{
+    match definitions.form(t) {
+        Some(Form::Scalar(Scalar::Int(_))) => true,
+        _ => false,
+    }
+}
+
+/// Whether a type is an int or a float.
+fn is_number(definitions: &Definitions, t: u32) -> bool
+    ensures { IsTrue result ↔ IsNumber definitions.now t }
+{
+    match definitions.form(t) {
+        Some(Form::Scalar(Scalar::Int(_) | Scalar::Float(_))) => true,
+        _ => false,
+    }
+}
+
+fn copy_memory(definitions: &Definitions, o: u32, p: u32) -> bool
+    ensures { IsTrue result ↔ Accesses definitions.now CopyMemory None (o ∷ p ∷ []) }
+{
+    match (definitions.pointee(o), definitions.pointee(p)) {
+        (Some(to), Some(from)) => to == from,
+        _ => false,
+    }
+}
+
+fn copy_memory_sized(definitions: &Definitions, o: u32, p: u32, q: u32) -> bool
+    ensures { IsTrue result ↔ Accesses definitions.now CopyMemorySized None (o ∷ p ∷ q ∷ []) }
+{
+    match (definitions.pointee(o), definitions.pointee(p)) {
+        (Some(_), Some(_)) => is_int(definitions, q),
+        _ => false,
+    }
+}
+
+fn lifetime(definitions: &Definitions, o: u32) -> bool
+    ensures { IsTrue result ↔ Accesses definitions.now Lifetime None (o ∷ []) }
+{
+    match definitions.form(o) {
+        Some(Form::Pointer { class: 7, .. }) => true,
+        _ => false,
+    }
+}
+
+/// Whether the types of a scope and of memory semantics are ints of width 32.
+fn are_scopes(definitions: &Definitions, c: u32, m: u32) -> bool
+    ensures { IsTrue result ↔ (IsScope definitions.now c × IsScope definitions.now m) }
+{
+    is_scope(definitions, c) && is_scope(definitions, m)
+}
+
+/// Whether a row with a result holds of the result type and the types of the value operands in order.
+fn accesses_with_result(definitions: &Definitions, row: Access, r: u32, types: &[u32]) -> bool
+    ensures { IsTrue result ↔ Accesses definitions.now row (Some r) types.now }
+{
+    match (row, types) {
+        (Access::Load, [o]) => points_to(definitions, *o, r) && is_data(definitions, r),
+        (Access::AtomicLoad, [o, c, m]) => {
+            points_to(definitions, *o, r)
+                && are_scopes(definitions, *c, *m)
+                && is_number(definitions, r)
+        }
+        (Access::AtomicExchange, [o, c, m, p]) => {
+            points_to(definitions, *o, r)
+                && are_scopes(definitions, *c, *m)
+                && *p == r
+                && is_number(definitions, r)
+        }
+        (Access::AtomicCompareExchange, [o, c, m, n, p, q]) => {
+            points_to(definitions, *o, r)
+                && are_scopes(definitions, *c, *m)
+                && is_scope(definitions, *n)
+                && *p == r
+                && *q == r
+                && is_int(definitions, r)
+        }
+        (Access::AtomicStep, [o, c, m]) => {
+            points_to(definitions, *o, r)
+                && are_scopes(definitions, *c, *m)
+                && is_int(definitions, r)
+        }
+        (Access::AtomicUpdate, [o, c, m, p]) => {
+            points_to(definitions, *o, r)
+                && are_scopes(definitions, *c, *m)
+                && *p == r
+                && is_int(definitions, r)
+        }
+        _ => false,
+    }
+}
+
+/// Whether a row without a result holds of the types of the value operands in order.
+fn accesses_without_result(definitions: &Definitions, row: Access, types: &[u32]) -> bool
+    ensures { IsTrue result ↔ Accesses definitions.now row None types.now }
+{
+    match (row, types) {
+        (Access::Store, [o, p]) => points_to(definitions, *o, *p),
+        (Access::CopyMemory, [o, p]) => copy_memory(definitions, *o, *p),
+        (Access::CopyMemorySized, [o, p, q]) => copy_memory_sized(definitions, *o, *p, *q),
+        (Access::Lifetime, [o]) => lifetime(definitions, *o),
+        (Access::ControlBarrier, [c, d, m]) => is_scope(definitions, *c)
+            && are_scopes(definitions, *d, *m),
+        (Access::MemoryBarrier, [c, m]) => are_scopes(definitions, *c, *m),
+        (Access::AtomicStore, [o, c, m, p]) => {
+            points_to(definitions, *o, *p)
+                && are_scopes(definitions, *c, *m)
+                && is_number(definitions, *p)
+        }
+        _ => false,
+    }
+}
+
+/// Whether a row of memory holds of the result type, if there is one, and the types of the value operands in order.
+pub fn accesses(definitions: &Definitions, row: Access, r: Option<u32>, types: &[u32]) -> bool
+    ensures { IsTrue result ↔ Accesses definitions.now row r types.now }
+{
+    match r {
+        Some(r) => accesses_with_result(definitions, row, r, types),
+        None => accesses_without_result(definitions, row, types),
+    }
+}

@@ -1,0 +1,66 @@
+ghost use Rattle.std.specs.Prelude.{◌↔◌, IsTrue, IsSomeAnd};
+ghost use Rattle.spv_inst.specs.Module.{plain_operands};
+ghost use Rattle.spv_ops.specs.Operands.{ids_in, words_in};
+ghost use Rattle.spv_ops.specs.Calculation.{Calculates};
+ghost use Rattle.spv_ops.specs.Access.{Accesses};
+ghost use Rattle.spv_ops.specs.Composite.{Composes};
+ghost use Rattle.spv_ops.specs.Values.{types_of};
+
+use crate::access::accesses;
+use crate::calculation::calculates;
+use crate::composite::composes;
+use crate::definitions::Definitions;
+use crate::gather::{MOST, gather};
+use crate::row::{Access, Calculation, Composite};
+use spv_inst::Operand;
+
+/// Whether a row of calculations holds of the result type and the declared types of the ids at the front of the operands.
+pub fn calculation_holds(
+    definitions: &Definitions,
+    row: Calculation,
+    r: u32,
+    operands: &[Operand],
+) -> bool
+    ensures { IsTrue result ↔ IsSomeAnd (types_of definitions.now (ids_in (plain_operands operands.now))) (λ types. Calculates definitions.now row r types) }
+{
+    let mut types = [0; MOST];
+    match gather(definitions, operands, &mut types) {
+        Some(count) => calculates(definitions, row, r, &types[..count]),
+        None => false,
+    }
+}
+
+/// Whether a row of memory holds of the result type, if there is one, and the declared types of the ids at the front of
+/// the operands.
+pub fn access_holds(
+    definitions: &Definitions,
+    row: Access,
+    r: Option<u32>,
+    operands: &[Operand],
+) -> bool
+    ensures { IsTrue result ↔ IsSomeAnd (types_of definitions.now (ids_in (plain_operands operands.now))) (λ types. Accesses definitions.now row r types) }
+{
+    let mut types = [0; MOST];
+    match gather(definitions, operands, &mut types) {
+        Some(count) => accesses(definitions, row, r, &types[..count]),
+        None => false,
+    }
+}
+
+/// Whether a row of composites holds of the result type, the declared types of the ids at the front of the operands, and
+/// the literals.
+pub fn composite_holds(
+    definitions: &Definitions,
+    row: Composite,
+    r: u32,
+    operands: &[Operand],
+    all: &[Operand],
+) -> bool
+    ensures { IsTrue result ↔ IsSomeAnd (types_of definitions.now (ids_in (plain_operands operands.now))) (λ types. Composes definitions.now row r types (words_in (plain_operands all.now))) }
+{
+    let mut types = [0; MOST];
+    match gather(definitions, operands, &mut types) {
+        Some(count) => composes(definitions, row, r, &types[..count], all),
+        None => false,
+    }
+}

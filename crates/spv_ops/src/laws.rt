@@ -1,0 +1,180 @@
+//! Laws of the definitions, and worked examples. Each function does nothing: its contract is what is proved.
+
+ghost use Rattle.std.specs.Prelude.{◌≡◌, ◌≢◌, ◌↔◌, ℕ, List, [], ◌∷◌, Some, None, slice_get};
+ghost use Rattle.spv_grammar.specs.Table.{Table};
+ghost use Rattle.spv_inst.specs.Operand.{PlainInst};
+ghost use Rattle.spv_inst.specs.Example.{small as table};
+ghost use Rattle.spv_layout.specs.Shape.{Fits};
+ghost use Rattle.spv_ops.specs.declared.form.Sort.TheVariants as sort;
+ghost use Rattle.spv_ops.specs.declared.row.Row.TheVariants as row;
+ghost use Rattle.spv_ops.specs.declared.row.Calculation.TheVariants.{IntToFloat, ResizeInt, ToGeneric, Bitcast, Compare, Shift, Select};
+ghost use Rattle.spv_ops.specs.declared.row.Access.TheVariants.{Load, Store, Lifetime, MemoryBarrier, AtomicExchange, AtomicUpdate};
+ghost use Rattle.spv_ops.specs.declared.row.Composite.TheVariants.{Shuffle, Extract, Insert};
+ghost use Rattle.spv_ops.specs.Reach.{Reaches, AreWithin, Leads};
+ghost use Rattle.spv_ops.specs.Form.{form_of};
+ghost use Rattle.spv_ops.specs.Types.{IsI, IsF, IsB, IsData, PointsTo};
+ghost use Rattle.spv_ops.specs.Row.{row_of};
+ghost use Rattle.spv_ops.specs.Calculation.{Calculates};
+ghost use Rattle.spv_ops.specs.Access.{Accesses};
+ghost use Rattle.spv_ops.specs.Composite.{Composes, Constructs};
+ghost use Rattle.spv_ops.specs.Variable.{IsConstant, IsGlobal, IsClassAt};
+ghost use Rattle.spv_ops.specs.Values.{AreValues, types_of, values_of};
+ghost use Rattle.spv_ops.specs.Typed.{Typed, IsTyped, IsTypedAt};
+ghost use Rattle.spv_ops.specs.Example.{small, lone_variable, to_member, add, add_floats, one_weight, label};
+ghost use Rattle.spv_ops.specs.Walk.{walk, choices};
+
+/// By a list of indexes a type reaches at most one type.
+pub fn one_reach()
+    ensures { (is : List PlainInst) (ks : List ℕ) (t u v : ℕ) → Reaches is t ks u → Reaches is t ks v → u ≡ v }
+{}
+
+/// The walk by indexes, one after another, decides what they reach within the parts of each type.
+pub fn reach_decided()
+    ensures { (is : List PlainInst) (ks : List ℕ) (t u : ℕ) → (walk is ks t ≡ Some u) ↔ (AreWithin is t ks × Reaches is t ks u) }
+{}
+
+/// So does the walk by the indexes of an access chain.
+pub fn chain_decided()
+    ensures { (is : List PlainInst) (xs : List ℕ) (t u : ℕ) → (choices is xs t ≡ Some u) ↔ (Leads is t xs u) }
+{}
+
+/// The ids that stand where the code looks for value operands are the value operands, under any table by which the instruction
+/// fits its row of table A; and there are no others.
+pub fn value_operands()
+    ensures { (G : Table) (i : PlainInst) (xs : List ℕ) → Fits G i → row_of i.opcode ≢ row.Free → AreValues G i xs ↔ (xs ≡ values_of i) }
+{}
+
+/// A module that is checked asks *Typed* of the declared types; a run asks the same of those that are bound.
+pub fn declared_types()
+    ensures { (G : Table) (is : List PlainInst) (n : ℕ) (i : PlainInst) → slice_get is n ≡ Some i → Fits G i
+        → IsTypedAt G is n ↔ ((types : List ℕ) × (types_of is (values_of i) ≡ Some types) × Typed is n i types) }
+{}
+
+/// Types of a small module: `%1` and `%14` are ints of width 32 and 64, `%2` a float, `%12` bool; `%3` and `%15` vectors of four
+/// and two of `%1`, `%13` of four of `%12`; `%6` a struct of `%1` and `%2`, `%19` an array of three of `%2`; `%4` and `%7` pointers
+/// of CrossWorkgroup to `%2` and `%6`, `%16` of Generic to `%2`, `%17` of Function to `%1`. `%5` and `%18` are constants 1 and 3,
+/// `%18` a spec constant; `%8` is a variable of type `%7`.
+pub fn type_examples()
+    ensures vector { IsI small 3 4 32 }
+    ensures no_vector { ¬ (IsI small 6 4 32) }
+    ensures scalar { IsI small 14 1 64 }
+    ensures bools { IsB small 13 4 }
+    ensures no_bools { ¬ (IsB small 3 4) }
+    ensures float { IsF small 2 1 32 }
+    ensures no_float { ¬ (IsF small 1 1 32) }
+    ensures pointer { PointsTo small 7 6 }
+    ensures no_pointer { ¬ (PointsTo small 6 7) }
+    ensures data { IsData small 7 }
+    // `%5` is a constant, and no type.
+    ensures no_data { ¬ (IsData small 5) }
+    ensures none { form_of small 5 ≡ None }
+{}
+
+/// What indexes reach in it.
+pub fn reach_examples()
+    ensures member { Reaches small 6 (1 ∷ []) 2 }
+    ensures no_member { ¬ (Reaches small 6 (2 ∷ []) 2) }
+    ensures within { AreWithin small 3 (3 ∷ []) }
+    ensures past { ¬ (AreWithin small 3 (4 ∷ [])) }
+    // The length of the array is the value of a spec constant.
+    ensures array { AreWithin small 19 (2 ∷ []) }
+    ensures past_array { ¬ (AreWithin small 19 (3 ∷ [])) }
+    // `%5` is the constant 1.
+    ensures leads { Leads small 6 (5 ∷ []) 2 }
+    // `%18` is a spec constant, which tells no member; an array takes any index.
+    ensures spec_constant { ¬ (Leads small 6 (18 ∷ []) 2) }
+    ensures any_element { Leads small 19 (18 ∷ []) 2 }
+    // By no index a type leads to itself alone.
+    ensures none { Leads small 6 [] 6 }
+{}
+
+/// Conversions, arithmetic, comparisons and bits over these types.
+pub fn calculation_examples()
+    ensures to_float { Calculates small IntToFloat 2 (1 ∷ []) }
+    ensures other_count { ¬ (Calculates small IntToFloat 2 (3 ∷ [])) }
+    ensures resize { Calculates small ResizeInt 14 (1 ∷ []) }
+    ensures same_width { ¬ (Calculates small ResizeInt 1 (1 ∷ [])) }
+    ensures to_generic { Calculates small ToGeneric 16 (4 ∷ []) }
+    ensures other_pointee { ¬ (Calculates small ToGeneric 16 (7 ∷ [])) }
+    // 64 bits as two of 32; 64 as one of 32; a pointer as one of another storage class.
+    ensures bits { Calculates small Bitcast 15 (14 ∷ []) }
+    ensures other_bits { ¬ (Calculates small Bitcast 1 (14 ∷ [])) }
+    ensures other_class { ¬ (Calculates small Bitcast 16 (4 ∷ [])) }
+    ensures compare { Calculates small (Compare sort.Int) 13 (3 ∷ 3 ∷ []) }
+    ensures one_bool { ¬ (Calculates small (Compare sort.Int) 12 (3 ∷ 3 ∷ [])) }
+    // A shift by ints of another width, and by another number of them.
+    ensures shift { Calculates small Shift 1 (1 ∷ 14 ∷ []) }
+    ensures no_shift { ¬ (Calculates small Shift 3 (3 ∷ 1 ∷ [])) }
+    // Vectors chosen by one bool, and by a bool each; scalars by a vector.
+    ensures one_choice { Calculates small Select 3 (12 ∷ 3 ∷ 3 ∷ []) }
+    ensures choice_each { Calculates small Select 3 (13 ∷ 3 ∷ 3 ∷ []) }
+    ensures no_choice { ¬ (Calculates small Select 1 (13 ∷ 1 ∷ 1 ∷ [])) }
+{}
+
+/// Memory and atomics.
+pub fn access_examples()
+    ensures load { Accesses small Load (Some 2) (4 ∷ []) }
+    ensures other_load { ¬ (Accesses small Load (Some 1) (4 ∷ [])) }
+    ensures store { Accesses small Store None (4 ∷ 2 ∷ []) }
+    ensures no_pointer { ¬ (Accesses small Store None (2 ∷ 2 ∷ [])) }
+    ensures lifetime { Accesses small Lifetime None (17 ∷ []) }
+    ensures other_class { ¬ (Accesses small Lifetime None (4 ∷ [])) }
+    // Scopes and semantics are ints of width 32.
+    ensures barrier { Accesses small MemoryBarrier None (1 ∷ 1 ∷ []) }
+    ensures wide_scope { ¬ (Accesses small MemoryBarrier None (14 ∷ 1 ∷ [])) }
+    // Floats are exchanged, and not added.
+    ensures exchange { Accesses small AtomicExchange (Some 2) (4 ∷ 1 ∷ 1 ∷ 2 ∷ []) }
+    ensures no_update { ¬ (Accesses small AtomicUpdate (Some 2) (4 ∷ 1 ∷ 1 ∷ 2 ∷ [])) }
+{}
+
+/// Composites. The last list of a row has the literals.
+pub fn composite_examples()
+    // A vector of two vectors; of one, which is too few; and of too few components.
+    ensures construct { Constructs small 3 (15 ∷ 15 ∷ []) (form_of small 3) }
+    ensures one_operand { ¬ (Constructs small 3 (3 ∷ []) (form_of small 3)) }
+    ensures too_few { ¬ (Constructs small 3 (15 ∷ 1 ∷ []) (form_of small 3)) }
+    ensures members { Constructs small 6 (1 ∷ 2 ∷ []) (form_of small 6) }
+    ensures swapped { ¬ (Constructs small 6 (2 ∷ 1 ∷ []) (form_of small 6)) }
+    // Components 3 of the first, 4 (the first of the second), and an undefined one; and one past both.
+    ensures shuffle { Composes small Shuffle 15 (3 ∷ 15 ∷ []) (4 ∷ 4294967295 ∷ []) }
+    ensures past_both { ¬ (Composes small Shuffle 15 (3 ∷ 15 ∷ []) (6 ∷ 0 ∷ [])) }
+    ensures extract { Composes small Extract 2 (6 ∷ []) (1 ∷ []) }
+    ensures no_index { ¬ (Composes small Extract 6 (6 ∷ []) []) }
+    // The object `%2` into the composite `%6`.
+    ensures insert { Composes small Insert 6 (2 ∷ 6 ∷ []) (1 ∷ []) }
+    ensures composite_first { ¬ (Composes small Insert 6 (6 ∷ 2 ∷ []) (1 ∷ [])) }
+{}
+
+/// Initializers and storage classes of variables.
+pub fn variable_examples()
+    ensures constant { IsConstant small 18 }
+    ensures no_constant { ¬ (IsConstant small 8) }
+    // An OpVariable alone, which stands in section 9: `%8` of CrossWorkgroup, and not of Function.
+    ensures global { IsGlobal lone_variable 8 }
+    ensures no_global { ¬ (IsGlobal lone_variable 7) }
+    ensures class { IsClassAt lone_variable 0 5 }
+    ensures no_class { ¬ (IsClassAt lone_variable 0 7) }
+{}
+
+/// Value operands: those of an access chain are all its ids, those of a label none.
+pub fn value_examples()
+    ensures chain { AreValues table to_member (8 ∷ 5 ∷ []) }
+    ensures not_first { ¬ (AreValues table to_member (5 ∷ [])) }
+    ensures declared { types_of small (8 ∷ 5 ∷ []) ≡ Some (7 ∷ 1 ∷ []) }
+    // A type has no type.
+    ensures undeclared { types_of small (1 ∷ []) ≡ None }
+{}
+
+/// Rows of types.
+pub fn row_examples()
+    ensures add { IsTyped table small 8 add }
+    ensures add_floats { ¬ (IsTyped table small 8 add_floats) }
+    // Other types than the declared ones.
+    ensures types { ¬ (Typed small 8 add (2 ∷ 1 ∷ [])) }
+    ensures chain { IsTyped table small 8 to_member }
+    // One literal, and a condition that is no bool.
+    ensures one_weight { ¬ (Typed small 8 one_weight (12 ∷ [])) }
+    ensures no_bool { ¬ (IsTyped table small 8 one_weight) }
+    // No row speaks of a label.
+    ensures free { IsTyped table small 8 label }
+{}
