@@ -1,0 +1,68 @@
+-- What is kept of the definitions of ids, after one instruction more; and what it tells of types.
+use Rattle.std.proofs.Common.{◌≡◌, ◌++◌, ◌∷◌, [], ◌∙◌, sym, ℕ, List, Option, Some, None, Bool, true, false, cond, refl, ap}
+use Rattle.std.specs.Prelude.{Result, Ok, Err, OnOk, is_ok, option_map, unwrap_or, nat_eq, if◌then◌else◌}
+use Rattle.spv_inst.specs.Operand.{PlainInst, result_in, type_in}
+use Rattle.spv_inst.specs.Width.{definition_of, has_result, or_else}
+use Rattle.spv_text.specs.declared.types.Definition.{Definition}
+use Rattle.spv_text.specs.declared.types.Types.{Types}
+use Rattle.spv_text.specs.Operand.{is_float_type}
+use Rattle.spv_text.specs.Kept.{Knows, summary, kept}
+
+or_none : (a : Option PlainInst) → or_else a None ≡ a
+or_none None = refl
+or_none (Some i) = refl
+
+or_assoc : (a b c : Option PlainInst) → or_else (or_else a b) c ≡ or_else a (or_else b c)
+or_assoc None b c = refl
+or_assoc (Some i) b c = refl
+
+-- the instruction, if it defines the id
+abbrev defining : PlainInst → ℕ → Option PlainInst
+defining i x = if has_result (result_in i.operands) x then Some i else None
+
+definition_of_more : (is : List PlainInst) (i : PlainInst) (x : ℕ) → definition_of (is ++ i ∷ []) x ≡ or_else (defining i x) (definition_of is x)
+definition_of_more [] i x = sym (or_none (defining i x))
+definition_of_more (j ∷ is) i x =
+    ap (λ o. or_else o (defining j x)) (definition_of_more is i x) ∙ or_assoc (defining i x) (definition_of is x) (defining j x)
+
+-- an instruction with no result
+pub same_kept : (d : Types) (before : List PlainInst) (i : PlainInst) → result_in i.operands ≡ None → Knows d before → Knows d (before ++ i ∷ [])
+same_kept d before i e k = record {
+  latest = λ x. rw (definition_of_more before i x, e) (k.latest x);
+}
+
+summary_more : (b : Bool) (i : PlainInst) (o : Option PlainInst) → option_map summary (or_else (if b then Some i else None) o) ≡ cond b (Some (summary i)) (option_map summary o)
+summary_more true i o = refl
+summary_more false i o = refl
+
+-- an instruction with a result
+pub more_kept : (d e : Types) (before : List PlainInst) (i : PlainInst) (r : ℕ) (n : Definition) → result_in i.operands ≡ Some r → n ≡ summary i
+    → ((x : ℕ) → kept e x ≡ cond (nat_eq r x) (Some n) (kept d x))
+    → Knows d before → Knows e (before ++ i ∷ [])
+more_kept d e before i r n f g u k = record {
+  latest = λ x. rw (definition_of_more before i x, f, summary_more (nat_eq r x) i (definition_of before x), ← g, ← k.latest x) (u x);
+}
+
+pub summary_is : (i : PlainInst) (opcode : ℕ) (t : Option ℕ) → i.opcode ≡ opcode → type_in i.operands ≡ t → record { type_id = t; is_float = nat_eq opcode 22 } ≡ summary i
+summary_is i opcode t e f = rw (← e, ← f) refl
+
+-- what follows from a call's answer
+pub on_ok : {T E : Type 0} (r : Result T E) (P Q : Type 0) → (P → Q) → OnOk r P → OnOk r Q
+on_ok (Ok _) P Q f h = f h
+on_ok (Err _) P Q f h = tt
+
+-- whether a kept id is that of a float type
+float_at : (o : Option PlainInst) (d : Option Definition) → d ≡ option_map summary o → unwrap_or (option_map (λ e. e.is_float) d) false ≡ unwrap_or (option_map (λ i. nat_eq i.opcode 22) o) false
+float_at None d e = rw e refl
+float_at (Some i) d e = rw e refl
+
+pub float_found : (t : Types) (before : List PlainInst) (x : ℕ) (d : Definition) → Knows t before → Some d ≡ kept t x → d.is_float ≡ is_float_type before (Some x)
+float_found t before x d k e = float_at (definition_of before x) (Some d) (e ∙ k.latest x)
+
+pub float_missing : (t : Types) (before : List PlainInst) (x : ℕ) → Knows t before → None ≡ kept t x → false ≡ is_float_type before (Some x)
+float_missing t before x k e = float_at (definition_of before x) None (e ∙ k.latest x)
+
+-- after a text is added at the end
+pub on_pushed : {T E : Type 0} (r : Result T E) (P : Type 0) (out old t : List ℕ) → out ≡ (if is_ok r then old ++ t else old) → (out ≡ old ++ t → P) → OnOk r P
+on_pushed (Ok _) P out old t e f = f e
+on_pushed (Err _) P out old t e f = tt

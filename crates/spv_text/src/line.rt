@@ -1,0 +1,119 @@
+//! The line of an instruction.
+
+ghost use Rattle.std.specs.Prelude.{◌≡◌, ◌++◌, ◌∷◌, [], ℕ, List, Option, OnOk, map, string_bytes};
+ghost use Rattle.spv_inst.specs.Form.{form_of};
+ghost use Rattle.spv_inst.specs.Operand.{PlainInst, start};
+ghost use Rattle.spv_inst.specs.Module.{plain_inst, plain_operands};
+ghost use Rattle.spv_inst.specs.Flat.{due};
+ghost use Rattle.spv_inst.specs.Agenda.{items_of};
+ghost use Rattle.spv_inst.specs.Operand as operand;
+ghost use Rattle.spv_inst.specs.Width as width;
+ghost use Rattle.spv_text.specs.Operand.{Shown};
+ghost use Rattle.spv_text.specs.Written.{Written};
+ghost use Rattle.spv_text.specs.Line.{IsShownLine, shown_result};
+ghost use Rattle.spv_text.specs.Kept.{Knows};
+
+use crate::ids::Ids;
+use crate::name::push_name;
+use crate::number::push_id;
+use crate::operand::{is_passed, push_piece};
+use crate::types::Types;
+use spv_grammar::{Item, Table};
+use spv_inst::due::{Agenda, Form};
+use spv_inst::{Inst, Operand};
+use std::alloc::AllocError;
+
+/// What does not change while an instruction is shown.
+#[derive(Clone, Copy)]
+pub struct Setting<'t, 'd> {
+    pub table: &'t Table,
+    /// The form of each kind (`forms_of`).
+    pub forms: &'d [Form],
+    /// What the instructions before tell of types.
+    pub types: &'d Types,
+}
+
+/// Adds the operands of an instruction by its pattern, each after a space, without the result, which stands in front. Where
+/// no words spell the operands, or memory runs out, nothing is said of what is left.
+fn push_operands<'t>(
+    out: &mut String,
+    setting: &Setting<'t, '_>,
+    agenda: &mut Agenda<'t>,
+    pattern: &'t [Item],
+    ids: Ids,
+    operands: &[Operand],
+) -> Result<(), AllocError>
+    requires forms { setting.now.forms.now ≡ map form_of setting.now.table.now.kinds }
+    requires type_id { ids.type_id ≡ operand.type_in (plain_operands operands.now) }
+    requires first { ids.first ≡ width.first_id (plain_operands operands.now) }
+    ensures { (before : List PlainInst) (opcode : ℕ) (r : Option ℕ) (us t : List ℕ) → Knows setting.now.types.now before
+        → Written (Shown setting.now.table.now) setting.now.table.now r (start before opcode) (map due (items_of pattern.now)) (plain_operands operands.now) us t
+        → OnOk result (string_bytes out.new ≡ string_bytes out.old ++ t) }
+{
+    agenda.start(pattern);
+    let mut passed = false;
+    for operand in operands {
+        let Some(asked) = agenda.next_leaf(setting.table, setting.forms, true)? else {
+            return Ok(());
+        };
+        push_piece(
+            out,
+            setting.table,
+            setting.types,
+            ids,
+            passed,
+            asked,
+            operand,
+        )?;
+        agenda.open(setting.table, operand)?;
+        passed = is_passed(passed, operand);
+    }
+    Ok(())
+}
+
+/// Adds a result and ` = `, if there is a result. Where memory runs out, nothing is said of what is left.
+fn push_result(out: &mut String, id: Option<u32>) -> Result<(), AllocError>
+    ensures { OnOk result (string_bytes out.new ≡ string_bytes out.old ++ shown_result id) }
+{
+    match id {
+        Some(id) => {
+            push_id(out, id)?;
+            out.push_str(" = ")
+        }
+        None => Ok(()),
+    }
+}
+
+/// Adds the line of an instruction, with its line feed. `ids` are the instruction's own. Where no words spell the
+/// instruction, nothing is said of what is added.
+///
+/// An `AllocError` comes only where a growth of memory was refused, and then nothing is said of what is left.
+pub fn push_line<'t>(
+    out: &mut String,
+    setting: &Setting<'t, '_>,
+    agenda: &mut Agenda<'t>,
+    ids: Ids,
+    inst: &Inst,
+) -> Result<(), AllocError>
+    requires forms { setting.now.forms.now ≡ map form_of setting.now.table.now.kinds }
+    requires result { ids.result ≡ operand.result_in (plain_inst inst.now).operands }
+    requires type_id { ids.type_id ≡ operand.type_in (plain_inst inst.now).operands }
+    requires first { ids.first ≡ width.first_id (plain_inst inst.now).operands }
+    ensures { (before : List PlainInst) (further line : List ℕ) → Knows setting.now.types.now before → IsShownLine setting.now.table.now before (plain_inst inst.now) further line
+        → OnOk result (string_bytes out.new ≡ string_bytes out.old ++ (line ++ 10 ∷ [])) }
+{
+    let Some(entry) = setting.table.entry(inst.opcode) else {
+        return Ok(());
+    };
+    push_result(out, ids.result)?;
+    push_name(out, setting.table, inst.opcode, entry)?;
+    push_operands(
+        out,
+        setting,
+        agenda,
+        entry.operands.as_slice(),
+        ids,
+        inst.operands.as_slice(),
+    )?;
+    out.push('\n')
+}

@@ -1,0 +1,135 @@
+//! Names of instructions, values and masks as a text shows them.
+
+ghost use Rattle.std.specs.Prelude.{◌≡◌, ◌++◌, ◌∷◌, [], ℕ, List, Some, OnOk, string_bytes, option_map, is_some, if◌then◌else◌};
+ghost use Rattle.std.specs.List.{list_all};
+ghost use Rattle.spv_grammar.specs.Table.{kind_of};
+ghost use Rattle.spv_inst.specs.Reading.{enumerants_at};
+ghost use Rattle.spv_text.specs.Name as spec;
+ghost use Rattle.spv_text.specs.Name.{first_name, joined, names_from, shown_value, shown_mask};
+ghost use Rattle.spv_text.specs.Line.{shown_name};
+
+use crate::number::push_nameless;
+use spv_grammar::{Entry, Table};
+use std::alloc::AllocError;
+
+/// Whether an octet is an ASCII letter, a digit or `_`.
+fn is_name_octet(octet: u8) -> bool
+    ensures { result ≡ spec.is_name_octet octet }
+{
+    matches!(octet, b'0'..=b'9' | b'A'..=b'Z' | b'a'..=b'z' | b'_')
+}
+
+/// Whether octets are all ASCII letters, digits and `_`.
+fn are_name_octets(octets: &[u8]) -> bool
+    ensures { result ≡ list_all spec.is_name_octet octets.now }
+{
+    octets.iter().all(|octet| is_name_octet(*octet))
+}
+
+/// Whether a name has only ASCII letters, digits and `_`, and one of them at least.
+fn is_plain(name: &str) -> bool
+    ensures { result ≡ spec.is_plain name.now }
+{
+    !name.is_empty() && are_name_octets(name.as_bytes())
+}
+
+/// Adds the name of an opcode's entry, if it is plain and looks up the opcode, else the opcode after `#`. Where memory runs
+/// out, nothing is said of what is left.
+pub fn push_name(
+    out: &mut String,
+    table: &Table,
+    opcode: u16,
+    entry: &Entry,
+) -> Result<(), AllocError>
+    ensures { OnOk result (string_bytes out.new ≡ string_bytes out.old ++ shown_name table.now opcode entry.now) }
+{
+    let name = entry.name.as_str();
+    if is_plain(name) && table.named(name) == Some(opcode) {
+        out.push_str(name)
+    } else {
+        push_nameless(out, u32::from(opcode))
+    }
+}
+
+/// The name of the first enumerant of a kind with a value, if it is plain and looks up the value.
+fn plain_name(table: &Table, kind: u32, value: u32) -> Option<&str>
+    ensures { option_map (λ s. s.now) result ≡ first_name (enumerants_at (kind_of table.now kind)) value }
+{
+    let enumerant = table.enumerant(kind, value)?;
+    let name = enumerant.name.as_str();
+    if is_plain(name) && table.enumerant_named(kind, name) == Some(value) {
+        Some(name)
+    } else {
+        None
+    }
+}
+
+/// Adds a value of a kind: its name, or the value after `#`. Where memory runs out, nothing is said of what is left.
+pub fn push_value(out: &mut String, table: &Table, kind: u32, value: u32) -> Result<(), AllocError>
+    ensures { OnOk result (string_bytes out.new ≡ string_bytes out.old ++ shown_value (enumerants_at (kind_of table.now kind)) value) }
+{
+    match plain_name(table, kind, value) {
+        Some(name) => out.push_str(name),
+        None => push_nameless(out, value),
+    }
+}
+
+/// Whether each set bit of a mask has a name to be shown.
+fn has_names(table: &Table, kind: u32, mask: u32) -> bool
+    ensures { result ≡ is_some (names_from (enumerants_at (kind_of table.now kind)) mask 0) }
+{
+    for position in 0..32u32 {
+        let left = mask >> position;
+        if left == 0 {
+            return true;
+        }
+        if left % 2 == 1 && plain_name(table, kind, 1 << position).is_none() {
+            return false;
+        }
+    }
+    true
+}
+
+/// Adds the `|` before each name of a mask but the first. Where memory runs out, nothing is said of what is left.
+fn push_bar(out: &mut String, is_first: bool) -> Result<(), AllocError>
+    ensures { OnOk result (string_bytes out.new ≡ string_bytes out.old ++ (if is_first then [] else 124 ∷ [])) }
+{
+    if is_first {
+        return Ok(());
+    }
+    out.push('|')
+}
+
+/// Adds the names of the set bits of a mask, the smaller bit first, joined by `|`. Where memory runs out, nothing is said
+/// of what is left.
+fn push_names(out: &mut String, table: &Table, kind: u32, mask: u32) -> Result<(), AllocError>
+    ensures { (ts : List (List ℕ)) → names_from (enumerants_at (kind_of table.now kind)) mask 0 ≡ Some ts → OnOk result (string_bytes out.new ≡ string_bytes out.old ++ joined ts) }
+{
+    let mut is_first = true;
+    for position in 0..32u32 {
+        let left = mask >> position;
+        if left == 0 {
+            return Ok(());
+        }
+        if left % 2 == 1 {
+            push_bar(out, is_first)?;
+            push_value(out, table, kind, 1 << position)?;
+            is_first = false;
+        }
+    }
+    Ok(())
+}
+
+/// Adds a mask of a kind: the names of its set bits, that of 0, or the mask after `#`. Where memory runs out, nothing is
+/// said of what is left.
+pub fn push_mask(out: &mut String, table: &Table, kind: u32, mask: u32) -> Result<(), AllocError>
+    ensures { OnOk result (string_bytes out.new ≡ string_bytes out.old ++ shown_mask (enumerants_at (kind_of table.now kind)) mask) }
+{
+    if mask == 0 {
+        push_value(out, table, kind, 0)
+    } else if has_names(table, kind, mask) {
+        push_names(out, table, kind, mask)
+    } else {
+        push_nameless(out, mask)
+    }
+}

@@ -1,0 +1,112 @@
+//! Operands as a text shows them.
+
+ghost use Rattle.std.specs.Prelude.{◌≡◌, ◌++◌, ◌∷◌, [], ◌||◌, ℕ, List, Option, Bool, OnOk, string_bytes, is_some};
+ghost use Rattle.spv_grammar.specs.Table.{Table, kind_of};
+ghost use Rattle.spv_inst.specs.declared.form.Form.TheVariants.{Leaf as LeafForm};
+ghost use Rattle.spv_inst.specs.Form.{form_at};
+ghost use Rattle.spv_inst.specs.Operand.{Context, result_in};
+ghost use Rattle.spv_inst.specs.Module.{plain_operand};
+ghost use Rattle.spv_inst.specs.Shape as shape;
+ghost use Rattle.spv_inst.specs.Shape.{shape_of};
+ghost use Rattle.spv_inst.specs.Spelling.{Takes};
+ghost use Rattle.spv_inst.specs.Agenda.{plain_slot};
+ghost use Rattle.spv_text.specs.Operand.{Shown, shown_operand, is_float, is_result};
+ghost use Rattle.spv_text.specs.Written.{Piece};
+ghost use Rattle.spv_text.specs.Kept.{IsAmid};
+
+use crate::ids::Ids;
+use crate::name::{push_mask, push_value};
+use crate::number::{push_decimal, push_id, push_number};
+use crate::quoted::push_quoted;
+use crate::types::Types;
+use spv_grammar::Table;
+use spv_inst::Operand;
+use spv_inst::due::{Asked, Leaf};
+use std::alloc::AllocError;
+
+/// Whether an operand is a number of a float type: a LiteralContextDependentNumber has the result type of its instruction,
+/// a literal of OpSwitch the type of the first operand.
+fn is_hexadecimal(types: &Types, ids: Ids, leaf: Leaf, operand: &Operand) -> bool
+    ensures { (G : Table) (c : Context) (s : shape.Slot) (passed : Bool) (ws : List ℕ) (ss : List shape.Slot) → IsAmid types.now ids passed c → form_at (kind_of G s.kind) ≡ LeafForm leaf
+        → Takes s.kind (shape_of G c s) (plain_operand operand.now) ws ss → shown_operand G result (plain_operand operand.now) ≡ shown_operand G (is_float G c s) (plain_operand operand.now) }
+{
+    match operand {
+        Operand::Number { .. } => match leaf {
+            Leaf::ContextNumber => types.is_float(ids.type_id),
+            _ => match ids.first {
+                Some(id) => types.is_float(types.type_id(id)),
+                None => false,
+            },
+        },
+        _ => false,
+    }
+}
+
+/// Adds an operand, a number in hexadecimal or in decimal. Where memory runs out, nothing is said of what is left.
+fn push_operand(
+    out: &mut String,
+    table: &Table,
+    hexadecimal: bool,
+    operand: &Operand,
+) -> Result<(), AllocError>
+    ensures { OnOk result (string_bytes out.new ≡ string_bytes out.old ++ shown_operand table.now hexadecimal (plain_operand operand.now)) }
+{
+    match operand {
+        Operand::OfType(id) | Operand::Result(id) | Operand::Id(id) => push_id(out, *id),
+        Operand::Word(word) => push_decimal(out, u64::from(*word)),
+        Operand::Number { low, high, words } => push_number(out, hexadecimal, *low, *high, *words),
+        Operand::Text(text) => push_quoted(out, text),
+        Operand::Value { kind, value } => push_value(out, table, *kind, *value),
+        Operand::Mask { kind, value } => push_mask(out, table, *kind, *value),
+    }
+}
+
+/// Whether an operand is the result of its instruction, which stands in front: the first result. `passed` tells whether one
+/// was among the operands before.
+fn is_in_front(passed: bool, operand: &Operand) -> bool
+    ensures { (c : Context) → passed ≡ is_some (result_in c.operands) → result ≡ is_result c (plain_operand operand.now) }
+{
+    match operand {
+        Operand::Result(_) => !passed,
+        _ => false,
+    }
+}
+
+/// Whether an operand is a result.
+fn is_result_operand(operand: &Operand) -> bool
+    ensures { result ≡ is_some (result_in (plain_operand operand.now ∷ [])) }
+{
+    matches!(operand, Operand::Result(_))
+}
+
+/// Whether a result is among the operands with one operand more. `passed` tells whether one was among those before.
+pub fn is_passed(passed: bool, operand: &Operand) -> bool
+    ensures { result ≡ (passed || is_some (result_in (plain_operand operand.now ∷ []))) }
+{
+    passed || is_result_operand(operand)
+}
+
+/// Adds what an operand has in its line behind the name: nothing for the instruction's result, which stands in front, and a
+/// space and its text for all others. `passed` tells whether a result was among the operands before.
+///
+/// An `AllocError` comes only where a growth of memory was refused, and then nothing is said of what is left.
+pub fn push_piece(
+    out: &mut String,
+    table: &Table,
+    types: &Types,
+    ids: Ids,
+    passed: bool,
+    asked: Asked,
+    operand: &Operand,
+) -> Result<(), AllocError>
+    ensures { (c : Context) (r : Option ℕ) (ws p : List ℕ) (ss : List shape.Slot) → IsAmid types.now ids passed c → form_at (kind_of table.now asked.slot.kind) ≡ LeafForm asked.leaf
+        → Takes asked.slot.kind (shape_of table.now c (plain_slot asked.slot)) (plain_operand operand.now) ws ss → Piece (Shown table.now) table.now r c (plain_slot asked.slot) (plain_operand operand.now) p
+        → OnOk result (string_bytes out.new ≡ string_bytes out.old ++ p) }
+{
+    if is_in_front(passed, operand) {
+        return Ok(());
+    }
+    out.push(' ')?;
+    let hexadecimal = is_hexadecimal(types, ids, asked.leaf, operand);
+    push_operand(out, table, hexadecimal, operand)
+}

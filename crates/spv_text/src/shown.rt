@@ -1,0 +1,77 @@
+//! From a module to its text.
+
+ghost use Rattle.std.specs.Prelude.{◌≡◌, ◌++◌, [], ℕ, List, OnOk, IfOk, IfErr, string_bytes};
+ghost use Rattle.spv_inst.specs.Module.{plain_insts};
+ghost use Rattle.spv_inst.specs.Encoding.{IsImageOf, IsRefused};
+ghost use Rattle.spv_text.specs.Text.{IsShownText, ShownLines, ended, header_lines};
+
+use crate::ids::Ids;
+use crate::line::{Setting, push_line};
+use crate::number::push_decimal;
+use crate::types::Types;
+use spv_grammar::Table;
+use spv_inst::due::{Agenda, forms_of};
+use spv_inst::{EncodeError, Module, encode};
+use spv_words::Header;
+use std::alloc::{AllocError, Global};
+
+/// Adds the lines of a header, of version 1.6 and schema 0. Where memory runs out, nothing is said of what is left.
+fn push_header(out: &mut String, header: Header) -> Result<(), AllocError>
+    ensures { OnOk result (string_bytes out.new ≡ string_bytes out.old ++ ended (header_lines header)) }
+{
+    out.push_str("; SPIR-V\n; Version: 1.6\n; Generator: ")?;
+    push_decimal(out, u64::from(header.generator))?;
+    out.push_str("\n; Bound: ")?;
+    push_decimal(out, u64::from(header.bound))?;
+    out.push_str("\n; Schema: 0\n")
+}
+
+/// Adds the lines of a module's instructions. Where no words spell them, nothing is said of what is added.
+fn push_lines(
+    alloc: Global,
+    table: &Table,
+    module: &Module<'_>,
+    out: &mut String,
+) -> Result<(), AllocError>
+    ensures { (lines : List (List ℕ)) → ShownLines table.now [] (plain_insts «module».now) lines → OnOk result (string_bytes out.new ≡ string_bytes out.old ++ ended lines) }
+{
+    let forms = forms_of(alloc, table)?;
+    let mut types = Types::new(alloc);
+    let mut agenda = Agenda::new(alloc);
+    for inst in &module.insts {
+        let setting = Setting {
+            table,
+            forms: forms.as_slice(),
+            types: &types,
+        };
+        let ids = Ids::of(inst.operands.as_slice());
+        push_line(out, &setting, &mut agenda, ids, inst)?;
+        types.add(inst.opcode, ids)?;
+    }
+    Ok(())
+}
+
+/// The text of a module by a grammar table: five lines for its header, and one for each instruction.
+///
+/// # Errors
+///
+/// Those of `encode`, for a module that has no image. `N1`: the header is not one of version 1.6 with schema 0 and a bound
+/// from 1 to 4,194,303 (2.3). Else the first instruction that has no words of its own, or too many: `N2`: its opcode has no
+/// entry in the table, or no words spell its operands by the entry's pattern. `N3`: words spell it, but it has over 65,535 of
+/// them (2.3), or with it the module has over 4,194,304. `N4`: a growth of memory was refused.
+pub fn show(alloc: Global, table: &Table, module: &Module<'_>) -> Result<String, EncodeError>
+    // The text is the shown one of the module's header and instructions.
+    ensures shown { IfOk result (λ t. IsShownText table.now «module».now.header (plain_insts «module».now) (string_bytes t)) }
+    // The module has an image.
+    ensures spelled { IfOk result (λ t. (words : List ℕ) × IsImageOf table.now «module».now words) }
+    // An error tells the header, or the first instruction that is hindered, and why.
+    ensures refused { IfErr result (λ e. IsRefused e.code table.now «module».now e.inst) }
+{
+    // A module that has no image is refused here, so that each line below is that of an instruction that words spell.
+    let image = encode(alloc, table, module)?;
+    drop(image);
+    let mut out = String::new(alloc);
+    push_header(&mut out, module.header)?;
+    push_lines(alloc, table, module, &mut out)?;
+    Ok(out)
+}
