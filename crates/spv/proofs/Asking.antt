@@ -11,9 +11,8 @@ use Rattle.clap.specs.declared.parser.matches.SubCommand.{SubCommand}
 use Rattle.clap.specs.declared.parser.matches.ArgMatches.TheViews.{out-ArgMatches, out-SubCommand}
 use Rattle.clap.proofs.OnLiterals.{clap_on_literals}
 use Rattle.spv.specs.declared.command_line.Command.{Command}
-use Rattle.spv.specs.declared.command_line.Command.TheVariants.{Check}
 use Rattle.spv.specs.declared.command_line.UseError.TheVariants.{U1}
-use Rattle.spv.specs.CommandLine.{AnswersTo, IsCheck, IsCommandOf, error_of, program, texts_in}
+use Rattle.spv.specs.CommandLine.{AnswersTo, IsAsked, IsCommandOf, error_of, program, texts_in}
 
 -- the command line is one of which `clap` tells the matches and the faults
 pub is_simple_lem : is_simple program ≡ true
@@ -46,25 +45,32 @@ pub texts_met : (m : ArgMatches) (name : Text) (rows : List Row)
     → texts_in (subcommand_rows_of m) ≡ Some (name, first_of (codes "grammar") rows, first_of (codes "file") rows)
 texts_met m name rows e f = ap texts_in (met (out-ArgMatches m).subcommand name rows e f)
 
--- without the one text, or the other, there is no command
+-- without the one text, or the other, or with another name, there is no command
 pub no_grammar : (found : Option (Text × Option Text × Option Text)) (name : Text) (grammar file : Option Text)
-    → found ≡ Some (name, grammar, file) → grammar ≡ None → (g f : Text) → ¬ (IsCheck found g f)
-no_grammar found name grammar file e none g f h =
+    → found ≡ Some (name, grammar, file) → grammar ≡ None → (m g f : Text) → ¬ (IsAsked found m g f)
+no_grammar found name grammar file e none m g f h =
     let first : Some grammar ≡ Some (Some g) = ap (λ (o : Option (Text × Option Text × Option Text)). option_map (λ p. p.1) o) (sym e ∙ h) in
     cc
 
 pub no_file : (found : Option (Text × Option Text × Option Text)) (name : Text) (grammar file : Option Text)
-    → found ≡ Some (name, grammar, file) → file ≡ None → (g f : Text) → ¬ (IsCheck found g f)
-no_file found name grammar file e none g f h =
+    → found ≡ Some (name, grammar, file) → file ≡ None → (m g f : Text) → ¬ (IsAsked found m g f)
+no_file found name grammar file e none m g f h =
     let second : Some file ≡ Some (Some f) = ap (λ (o : Option (Text × Option Text × Option Text)). option_map (λ p. p.2) o) (sym e ∙ h) in
     cc
 
-pub is_check : (found : Option (Text × Option Text × Option Text)) (name : Text) (grammar file : Option Text) (g f : Text)
-    → found ≡ Some (name, grammar, file) → name ≡ codes "check" → grammar ≡ Some g → file ≡ Some f → IsCheck found g f
-is_check found name grammar file g f e n p q = e ∙ rw (n, p, q) refl
+pub other_name : (found : Option (Text × Option Text × Option Text)) (name : Text) (grammar file : Option Text)
+    → found ≡ Some (name, grammar, file) → (m : Text) → ¬ (name ≡ m) → (g f : Text) → ¬ (IsAsked found m g f)
+other_name found name grammar file e m other g f h =
+    let first : Some name ≡ Some m = ap (λ (o : Option (Text × Option Text × Option Text)). option_map (λ p. p.0) o) (sym e ∙ h) in
+    let same : name ≡ m = cc in
+    other same
+
+pub is_asked : (found : Option (Text × Option Text × Option Text)) (name m : Text) (grammar file : Option Text) (g f : Text)
+    → found ≡ Some (name, grammar, file) → name ≡ m → grammar ≡ Some g → file ≡ Some f → IsAsked found m g f
+is_asked found name m grammar file g f e n p q = e ∙ rw (n, p, q) refl
 
 -- the command of the words, or U1
 pub answered : (words : List Text) (found : Option (Text × List Row)) (o : Option Command) → fault_of program words ≡ []
     → found ≡ subcommand_of program words → IsCommandOf found o → AnswersTo words (ok_or o U1)
-answered words found (Some (Check g f)) none e h = (none, rw (← e) h)
-answered words found None none e h = inr (λ g f q. h g f (rw e q))
+answered words found (Some c) none e h = (none, rw (← e) h)
+answered words found None none e h = inr (rw (← e) h)

@@ -6,17 +6,27 @@ use Rattle.spv_words.specs.declared.words.Order.TheVariants.{Big}
 use Rattle.spv_words.specs.declared.words.WordError.TheVariants.{W2}
 use Rattle.spv_grammar.specs.Table.{Table}
 use Rattle.spv_inst.specs.Instruction.{end}
-use Rattle.spv_inst.specs.declared.fault.Rule.TheVariants.{I7}
+use Rattle.spv_inst.specs.declared.fault.Rule.TheVariants.{I7, L2}
 use Rattle.spv_grammar.specs.declared.error.GrammarError.TheVariants.{J1}
 use Rattle.serde_json.specs.Read.{read as read_text}
 use Rattle.serde_json.proofs.OnLiterals.{serde_json_on_literals}
 use Rattle.spv_grammar.specs.Answer.{Gives}
 use Rattle.spv_grammar.specs.Example.{empty_table, empty_tree}
+use Rattle.spv_inst.specs.Operand.{PlainInst}
+use Rattle.spv_layout.specs.DeadPlace.{IsDeadPlace}
+use Rattle.spv_layout.specs.declared.state.State.TheVariants as at
+use Rattle.spv_layout.proofs.Brokens.{dead_first}
+use Rattle.spv_layout.proofs.Layouts.{leads_begin, leads_first, leads_no_end}
+use Rattle.spv_layout.proofs.Misfits.{fit_unbroken}
+use Rattle.std.specs.Prelude.{slice_get}
+use Rattle.std.proofs.lemmas.Option.{slice_get_within}
+use Rattle.spv.specs.Broken.{IsFirst}
 use Rattle.spv.specs.Example.{empty_grammar}
+use Rattle.spv.proofs.Firsts.{layout_first}
 use Rattle.spv.specs.Stream.{Begins, Tells}
 use Rattle.spv.specs.Trouble.{IsErrorLine, IsTableOf}
 use Rattle.spv.specs.Trouble.IsErrorLine.{refused as broken}
-use Rattle.spv.specs.Verdict.{IsVerdict, refused, valid, fault_line, line_end, refused_line, valid_line}
+use Rattle.spv.specs.Verdict.{IsVerdict, refused, unsound, fault_line, line_end, refused_line, valid_line}
 use Rattle.spv.proofs.Verdicts.{refused_is_not_valid}
 
 pub short_bytes : (G : Table) → IsFirstBroken W2 (1 ∷ 2 ∷ 3 ∷ []) → IsVerdict G (1 ∷ 2 ∷ 3 ∷ []) (codes "fault W2" ++ line_end)
@@ -32,8 +42,18 @@ pub never_valid : (G : Table) (bytes line : List ℕ) → (line ≡ valid_line) 
     → ((one other : List ℕ) → IsVerdict G bytes one → IsVerdict G bytes other → one ≡ other) → ¬ (IsVerdict G bytes line)
 never_valid G bytes line e h law v = let w = refused W2 h in refused_is_not_valid W2 (rw e at (law _ line w v))
 
-pub header_alone : (G : Table) (bytes : List ℕ) → IsModule Big bytes (119734787 ∷ 67072 ∷ 7 ∷ 5 ∷ 0 ∷ []) → IsVerdict G bytes valid_line
-header_alone G bytes h = valid (119734787 ∷ 67072 ∷ 7 ∷ 5 ∷ 0 ∷ []) Big [] h (end [])
+-- a list without instructions begins a module and is none
+no_instructions : IsDeadPlace [] L2 0
+no_instructions = IsDeadPlace.unfinished [] (leads_begin [] at.Capabilities leads_first) (leads_no_end [] at.Capabilities refl leads_first)
+
+none_there : (n : ℕ) (i : PlainInst) → ¬ (slice_get [] n ≡ Some i)
+none_there n i h = let l = slice_get_within [] n i h in absurd (omega arith)
+
+unfinished_first : (G : Table) (bound : ℕ) → IsFirst G bound [] L2 0
+unfinished_first G bound = layout_first G bound [] L2 0 (fit_unbroken G [] (λ n i h. absurd (none_there n i h))) (dead_first G [] L2 0 no_instructions)
+
+pub header_alone : (G : Table) (bytes : List ℕ) → IsModule Big bytes (119734787 ∷ 67072 ∷ 7 ∷ 5 ∷ 0 ∷ []) → IsVerdict G bytes (fault_line L2 0 5)
+header_alone G bytes h = unsound (119734787 ∷ 67072 ∷ 7 ∷ 5 ∷ 0 ∷ []) Big [] L2 0 h (end []) (unfinished_first G 5)
 
 pub fault_text : fault_line I7 0 9 ≡ codes "fault I7 inst 0 word 9" ++ line_end
 fault_text = rw (decimal_digit 0 (omega arith), decimal_digit 9 (omega arith)) refl

@@ -1,6 +1,10 @@
+pub mod Broken
 pub mod CommandLine
 pub mod Example
+pub mod Show
+pub mod Shown
 pub mod Stream
+pub mod Task
 pub mod Text
 pub mod Trouble
 pub mod Verdict

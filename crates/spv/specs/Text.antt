@@ -2,9 +2,11 @@
 use Rattle.std.specs.Prelude.{ℕ, List, take, Result, Ok, Err}
 use Rattle.spv_words.specs.declared.words.WordError.{WordError}
 use Rattle.spv_words.specs.declared.words.WordError.TheVariants.{W1, W9}
+use Rattle.spv_inst.specs.declared.fault.Stop.{Stop}
+use Rattle.spv_inst.specs.declared.fault.Stop.TheVariants.{Fault, Memory}
 use Rattle.spv.specs.declared.line.Line.{Line}
 use Rattle.spv.specs.declared.verdict_line.Verdict.{Verdict}
-use Rattle.spv.specs.declared.verdict_line.Verdict.TheVariants.{Valid, Refused, Dead}
+use Rattle.spv.specs.declared.verdict_line.Verdict.TheVariants.{Valid, Refused, Broken}
 use Rattle.spv.specs.Verdict.{fault_line, refused_line, valid_line}
 
 -- the octets of the line so far
@@ -15,10 +17,15 @@ text_of line = take line.len line.bytes
 abbrev pub line_of : Verdict → List ℕ
 line_of Valid = valid_line
 line_of (Refused code) = refused_line code
-line_of (Dead f) = fault_line f.rule f.inst f.word
+line_of (Broken f) = fault_line f.rule f.inst f.word
 
 -- a failed read and want of memory are errors, and all other codes verdicts
 abbrev pub refusal_of : WordError → Result Verdict WordError
 refusal_of W1 = Err W1
 refusal_of W9 = Err W9
 refusal_of code = Ok (Refused code)
+
+-- a fault is a verdict, and want of memory an error
+abbrev pub stop_of : Stop → Result Verdict WordError
+stop_of (Fault f) = Ok (Broken f)
+stop_of Memory = Err W9

@@ -9,7 +9,6 @@ use Rattle.spv_grammar.specs.Answer.{Gives, text_breaks}
 use Rattle.spv_grammar.specs.Table.{Table}
 use Rattle.spv_grammar.specs.declared.error.GrammarError.{GrammarError}
 use Rattle.spv_grammar.specs.declared.error.GrammarError.TheVariants as grammar
-use Rattle.spv.specs.Stream.{Begins, Tells}
 use Rattle.spv.specs.declared.program.Trouble.{Trouble}
 use Rattle.spv.specs.declared.program.Trouble.TheVariants as trouble
 use Rattle.spv.specs.Verdict.{line_end}
@@ -70,16 +69,3 @@ pub record IsTableOf (text : List ℕ) (G : Table) : Type 0 where
   pub utf8 : IsUtf8 text
   pub is_tree : read_text text ≡ Some tree
   pub gives : Gives tree G
-
--- A writer that held the bytes `old` now also holds the verdict line of the bytes under the table that the text gives,
--- and nothing else; the answer tells whether the line is `valid`.
-pub record TellsByText (text bytes old : List ℕ) (new : Option (List ℕ)) (answer : Bool) : Type 0 where
-  pub table : Table
-  pub given : IsTableOf text table
-  pub tells : Tells table bytes old new answer
-
--- A writer that held the bytes `old` now also holds a beginning of that verdict line, and nothing else.
-pub record BeginsByText (text bytes old : List ℕ) (new : Option (List ℕ)) : Type 0 where
-  pub table : Table
-  pub given : IsTableOf text table
-  pub begins : Begins table bytes old new

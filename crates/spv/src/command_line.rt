@@ -2,7 +2,7 @@
 ghost use Rattle.std.specs.Prelude.{◌≡◌, false, IfOk, map};
 ghost use Rattle.clap.specs.Words.{app_of, shape_of, subcommand_rows_of};
 ghost use Rattle.clap.specs.declared.builder.command.Command.TheViews.{out-Command};
-ghost use Rattle.spv.specs.CommandLine.{AnswersTo, IsCommandOf, check_command, error_of, program};
+ghost use Rattle.spv.specs.CommandLine.{AnswersTo, IsCommandOf, error_of, file_command, program};
 
 use clap::error::ErrorKind;
 use clap::{Arg, ArgMatches};
@@ -14,6 +14,13 @@ use thiserror::Error;
 pub enum Command<'a> {
     /// `spv check --grammar G FILE`: the verdict on a module.
     Check {
+        /// The path of the grammar file.
+        grammar: &'a str,
+        /// The path of the module.
+        file: &'a str,
+    },
+    /// `spv show --grammar G FILE`: the text of a module.
+    Show {
         /// The path of the grammar file.
         grammar: &'a str,
         /// The path of the module.
@@ -46,9 +53,13 @@ impl From<AllocError> for UseError {
     }
 }
 
-/// The command `check`.
-fn check_words<'a>(alloc: Global) -> Result<clap::Command<'a>, AllocError>
-    ensures shape { IfOk result (λ c. shape_of c ≡ check_command) }
+/// A command of that name, which reads a module under a grammar file.
+fn file_words<'a>(
+    alloc: Global,
+    name: &'a str,
+    about: &'a str,
+) -> Result<clap::Command<'a>, AllocError>
+    ensures shape { IfOk result (λ c. shape_of c ≡ file_command name.now) }
     ensures local { IfOk result (λ c. (out-Command c).has_globals ≡ false) }
 {
     let grammar = Arg::new(alloc, "grammar")
@@ -60,8 +71,8 @@ fn check_words<'a>(alloc: Global) -> Result<clap::Command<'a>, AllocError>
         .value_name("FILE")
         .required(true)
         .help("The module");
-    clap::Command::new(alloc, "check")
-        .about("Writes the verdict on a module")
+    clap::Command::new(alloc, name)
+        .about(about)
         .arg(grammar)?
         .arg(file)
 }
@@ -70,13 +81,15 @@ fn check_words<'a>(alloc: Global) -> Result<clap::Command<'a>, AllocError>
 fn all_words<'a>(alloc: Global) -> Result<clap::Command<'a>, AllocError>
     ensures { IfOk result (λ c. app_of c ≡ program) }
 {
-    let check = check_words(alloc)?;
+    let check = file_words(alloc, "check", "Writes the verdict on a module")?;
+    let show = file_words(alloc, "show", "Writes the text of a module")?;
     clap::Command::new(alloc, "spv")
-        .about("Checks SPIR-V 1.6 kernel modules")
+        .about("Checks and shows SPIR-V 1.6 kernel modules")
         .no_binary_name(true)
         .subcommand_required(true)
         .disable_help_subcommand(true)
-        .subcommand(check)
+        .subcommand(check)?
+        .subcommand(show)
 }
 
 /// The error for what `clap` refused.
@@ -95,12 +108,13 @@ fn command_in<'a>(matches: &ArgMatches<'a>) -> Option<Command<'a>>
     ensures { IsCommandOf (subcommand_rows_of matches.now) result }
 {
     let (name, found) = matches.subcommand()?;
-    if name != "check" {
-        return None;
-    }
     let grammar = found.get_str("grammar")?;
     let file = found.get_str("file")?;
-    Some(Command::Check { grammar, file })
+    match name {
+        "check" => Some(Command::Check { grammar, file }),
+        "show" => Some(Command::Show { grammar, file }),
+        _ => None,
+    }
 }
 
 /// The command that the words after the program's name give. The texts are lent by the words.

@@ -4,15 +4,19 @@ ghost use Rattle.std.specs.Prelude.{◌≡◌, ◌++◌, ◌∷◌, [], ℕ, Lis
 ghost use Rattle.spv_grammar.specs.Table.{Table};
 ghost use Rattle.spv_grammar.specs.Answer.{text_breaks};
 ghost use Rattle.spv_grammar.specs.declared.error.GrammarError.{GrammarError};
-ghost use Rattle.spv_inst.specs.declared.fault.Rule.TheVariants.{I7};
+ghost use Rattle.spv_inst.specs.declared.fault.Rule.TheVariants.{I7, L2};
 ghost use Rattle.spv_grammar.specs.Example.{empty_table};
 ghost use Rattle.spv.specs.Example.{empty_grammar};
 ghost use Rattle.spv.specs.Stream.{Begins, Tells};
-ghost use Rattle.spv.specs.Trouble.{BeginsByText, BeginsWith, IsErrorLine, IsTableOf, TellsByText, Writes, file_line, memory_line};
+ghost use Rattle.spv.specs.Show.{BeginsShowing, IsShowing, Shows};
+ghost use Rattle.spv.specs.Task.{BeginsByText, DoesByText};
+ghost use Rattle.spv.specs.Trouble.{BeginsWith, IsErrorLine, IsTableOf, Writes, file_line, memory_line};
+ghost use Rattle.spv.specs.declared.command_line.Command.{Command};
 ghost use Rattle.spv.specs.Verdict.{IsVerdict, fault_line, line_end, valid_line};
 
 use spv_grammar::laws::one_table;
-use spv_inst::{listed_or_dead, one_death};
+use spv_inst::{listed_or_dead, one_death, one_listing};
+use spv_text::one_shown;
 
 /// Bytes have one verdict line.
 pub fn one_verdict()
@@ -21,7 +25,21 @@ pub fn one_verdict()
     spv_words::laws::one_word_list();
     spv_words::laws::one_refusal();
     one_death();
+    one_listing();
     listed_or_dead();
+}
+
+/// Bytes are shown in one way.
+pub fn one_showing()
+    ensures output { (G : Table) (bytes one other : List ℕ) (a b : Bool) → IsShowing G bytes one a → IsShowing G bytes other b → one ≡ other }
+    ensures answer { (G : Table) (bytes one other : List ℕ) (a b : Bool) → IsShowing G bytes one a → IsShowing G bytes other b → a ≡ b }
+{
+    spv_words::laws::one_word_list();
+    spv_words::laws::one_refusal();
+    one_death();
+    one_listing();
+    listed_or_dead();
+    one_shown();
 }
 
 /// The text of a grammar file gives at most one table, breaks at most one code, and not both.
@@ -38,8 +56,8 @@ pub fn examples()
     // Three bytes are no header, whatever the grammar says.
     ensures refused { (G : Table) → IsVerdict G (1 ∷ 2 ∷ 3 ∷ []) (codes "fault W2" ++ line_end) }
     ensures not_valid { (G : Table) → ¬ (IsVerdict G (1 ∷ 2 ∷ 3 ∷ []) valid_line) }
-    // A header with version 1.6, generator 7 and bound 5, and no instruction after it.
-    ensures valid { (G : Table) → IsVerdict G (7 ∷ 35 ∷ 2 ∷ 3 ∷ 0 ∷ 1 ∷ 6 ∷ 0 ∷ 0 ∷ 0 ∷ 0 ∷ 7 ∷ 0 ∷ 0 ∷ 0 ∷ 5 ∷ 0 ∷ 0 ∷ 0 ∷ 0 ∷ []) valid_line }
+    // A header with version 1.6, generator 7 and bound 5, and no instruction after it: OpMemoryModel is missing.
+    ensures unsound { (G : Table) → IsVerdict G (7 ∷ 35 ∷ 2 ∷ 3 ∷ 0 ∷ 1 ∷ 6 ∷ 0 ∷ 0 ∷ 0 ∷ 0 ∷ 7 ∷ 0 ∷ 0 ∷ 0 ∷ 5 ∷ 0 ∷ 0 ∷ 0 ∷ 0 ∷ []) (fault_line L2 0 5) }
     // Rule I7 at the first instruction and the word of number 9.
     ensures text { fault_line I7 0 9 ≡ codes "fault I7 inst 0 word 9" ++ line_end }
 {
@@ -60,6 +78,18 @@ pub fn stream_examples()
     one_verdict();
 }
 
+/// Worked examples of what is shown.
+pub fn show_examples()
+    // A writer that held the byte 9 got the line of three bytes, which are no module and have no text.
+    ensures shows { (G : Table) → Shows G (1 ∷ 2 ∷ 3 ∷ []) (9 ∷ []) (Some (9 ∷ codes "fault W2" ++ line_end)) false }
+    ensures shows_text { (G : Table) (new : Option (List ℕ)) → ¬ (Shows G (1 ∷ 2 ∷ 3 ∷ []) [] new true) }
+    // The first five bytes of that line.
+    ensures begins { (G : Table) → BeginsShowing G (1 ∷ 2 ∷ 3 ∷ []) (9 ∷ []) (Some (9 ∷ codes "fault")) }
+{
+    spv_words::laws::examples();
+    spv_words::laws::one_refusal();
+}
+
 /// Worked examples of what a run leaves in its outputs.
 pub fn run_examples()
     // The first five bytes of `error file`, and of another line.
@@ -72,10 +102,10 @@ pub fn run_examples()
     // Two empty lists give the table of nothing, and no text at all gives none.
     ensures table { IsTableOf empty_grammar empty_table }
     ensures no_table { (G : Table) → ¬ (IsTableOf [] G) }
-    ensures tells { TellsByText empty_grammar (1 ∷ 2 ∷ 3 ∷ []) (9 ∷ []) (Some (9 ∷ codes "fault W2" ++ line_end)) false }
-    ensures tells_nothing { (bytes old : List ℕ) (new : Option (List ℕ)) (answer : Bool) → ¬ (TellsByText [] bytes old new answer) }
-    ensures begins { BeginsByText empty_grammar (1 ∷ 2 ∷ 3 ∷ []) (9 ∷ []) (Some (9 ∷ codes "fault")) }
-    ensures begins_nothing { (bytes old : List ℕ) (new : Option (List ℕ)) → ¬ (BeginsByText [] bytes old new) }
+    ensures does { (command : Command) → DoesByText command empty_grammar (1 ∷ 2 ∷ 3 ∷ []) (9 ∷ []) (Some (9 ∷ codes "fault W2" ++ line_end)) false }
+    ensures does_nothing { (command : Command) (bytes old : List ℕ) (new : Option (List ℕ)) (answer : Bool) → ¬ (DoesByText command [] bytes old new answer) }
+    ensures begins { (command : Command) → BeginsByText command empty_grammar (1 ∷ 2 ∷ 3 ∷ []) (9 ∷ []) (Some (9 ∷ codes "fault")) }
+    ensures begins_nothing { (command : Command) (bytes old : List ℕ) (new : Option (List ℕ)) → ¬ (BeginsByText command [] bytes old new) }
     // No text at all breaks J1, memory can always be told, and `error file` only after a failed call.
     ensures refused { IsErrorLine [] ⊥ (codes "error J1" ++ line_end) }
     ensures memory { (text : List ℕ) → IsErrorLine text ⊥ memory_line }
@@ -83,4 +113,5 @@ pub fn run_examples()
 {
     spv_grammar::laws::table_examples();
     stream_examples();
+    show_examples();
 }

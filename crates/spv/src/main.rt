@@ -2,9 +2,11 @@
 #![tactic(auto)]
 
 mod command_line;
+mod judging;
 pub mod laws;
 mod line;
 mod program;
+mod showing;
 mod stream;
 #[cfg(test)]
 mod tests;
@@ -42,7 +44,7 @@ fn show_help(rt: &HostRuntime) -> Result<u8, Trouble> {
 
 /// Opens the files of a command and does what it asks, and answers the exit status.
 fn with_files(rt: &HostRuntime, command: &Command) -> Result<u8, Trouble> {
-    let Command::Check { grammar, file } = command;
+    let (Command::Check { grammar, file } | Command::Show { grammar, file }) = command;
     let grammar = fs::read(rt, *grammar).map_err(trouble_of)?;
     let file = fs::open(rt, *file).map_err(trouble_of)?;
     let status = run(

@@ -4,11 +4,14 @@ ghost use Rattle.spv_grammar.specs.Answer.{text_breaks};
 ghost use Rattle.spv_grammar.specs.declared.error.GrammarError.{GrammarError};
 ghost use Rattle.spv_grammar.specs.declared.error.GrammarError.TheVariants.{J8};
 ghost use Rattle.spv.specs.Stream.{Begins, Tells};
-ghost use Rattle.spv.specs.Trouble.{BeginsByText, IsErrorLine, TellsByText, Writes, file_line, grammar_text, memory_line, trouble_from, trouble_text};
+ghost use Rattle.spv.specs.Show.{BeginsShowing, Shows};
+ghost use Rattle.spv.specs.Task.{BeginsByText, BeginsToDo, Does, DoesByText};
+ghost use Rattle.spv.specs.Trouble.{IsErrorLine, Writes, file_line, grammar_text, memory_line, trouble_from, trouble_text};
 ghost use Rattle.spv.specs.declared.program.Trouble.TheVariants.{File, Grammar, Memory};
 
 use crate::command_line::Command;
 use crate::laws::one_grammar;
+use crate::showing::show_stream;
 use crate::stream::check_stream;
 use spv_grammar::{GrammarError, Table};
 use spv_words::{Sink, Source, WordError, write_all};
@@ -88,31 +91,68 @@ fn judged<S: Source, W: Sink>(
     check_stream(alloc, table, file, out).map_err(stream_trouble)
 }
 
-/// Judges the grammar file, and then the module: whether it is valid.
-fn checked<S: Source, W: Sink>(
+/// Shows the module by a table: whether it is one that has a text.
+fn shown<S: Source, W: Sink>(
     alloc: Global,
+    table: &Table,
+    file: &mut S,
+    out: &mut W,
+) -> Result<bool, Trouble>
+    ensures shown { IfSome (S.remaining file.old) (λ bytes. IfSome (W.contents out.old) (λ old. IfOk result (λ answer. Shows table.now bytes old (W.contents out.new) answer))) }
+    ensures failed { ((S.failures file.new ≢ S.failures file.old) ⊎ (W.failures out.new ≢ W.failures out.old)) ↔ IsErrOf result File }
+    ensures only { IfErr result (λ t. (t ≡ File) ⊎ (t ≡ Memory)) }
+    ensures unwritten { IsErr result → W.failures out.new ≡ W.failures out.old → out.new ≡ out.old }
+    ensures begun { W.failures out.new ≢ W.failures out.old → IfSome (S.remaining file.old) (λ bytes. IfSome (W.contents out.old) (λ old. BeginsShowing table.now bytes old (W.contents out.new))) }
+{
+    show_stream(alloc, table, file, out).map_err(stream_trouble)
+}
+
+/// Does what a command asks by a table: whether the module is valid, or has a text.
+fn done_by<S: Source, W: Sink>(
+    alloc: Global,
+    command: &Command,
+    table: &Table,
+    file: &mut S,
+    out: &mut W,
+) -> Result<bool, Trouble>
+    ensures done { IfSome (S.remaining file.old) (λ bytes. IfSome (W.contents out.old) (λ old. IfOk result (λ answer. Does command.now table.now bytes old (W.contents out.new) answer))) }
+    ensures failed { ((S.failures file.new ≢ S.failures file.old) ⊎ (W.failures out.new ≢ W.failures out.old)) ↔ IsErrOf result File }
+    ensures only { IfErr result (λ t. (t ≡ File) ⊎ (t ≡ Memory)) }
+    ensures unwritten { IsErr result → W.failures out.new ≡ W.failures out.old → out.new ≡ out.old }
+    ensures begun { W.failures out.new ≢ W.failures out.old → IfSome (S.remaining file.old) (λ bytes. IfSome (W.contents out.old) (λ old. BeginsToDo command.now table.now bytes old (W.contents out.new))) }
+{
+    match command {
+        Command::Check { .. } => judged(alloc, table, file, out),
+        Command::Show { .. } => shown(alloc, table, file, out),
+    }
+}
+
+/// Judges the grammar file, and then does what a command asks: whether the module is valid, or has a text.
+fn done<S: Source, W: Sink>(
+    alloc: Global,
+    command: &Command,
     grammar: &[u8],
     file: &mut S,
     out: &mut W,
 ) -> Result<bool, Trouble>
-    ensures verdict { IfSome (S.remaining file.old) (λ bytes. IfSome (W.contents out.old) (λ old. IfOk result (λ valid. TellsByText grammar.now bytes old (W.contents out.new) valid))) }
+    ensures done { IfSome (S.remaining file.old) (λ bytes. IfSome (W.contents out.old) (λ old. IfOk result (λ answer. DoesByText command.now grammar.now bytes old (W.contents out.new) answer))) }
     ensures failed { ((S.failures file.new ≢ S.failures file.old) ⊎ (W.failures out.new ≢ W.failures out.old)) ↔ IsErrOf result File }
     ensures reason { IfErr result (λ t. IsErrorLine grammar.now ((S.failures file.new ≢ S.failures file.old) ⊎ (W.failures out.new ≢ W.failures out.old)) (trouble_text t)) }
     ensures refused { (e : GrammarError) → text_breaks grammar.now e → (file.new ≡ file.old) × (out.new ≡ out.old) × (IsErrOf result (Grammar e) ⊎ IsErrOf result (Grammar J8)) }
     ensures unwritten { IsErr result → W.failures out.new ≡ W.failures out.old → out.new ≡ out.old }
-    ensures begun { W.failures out.new ≢ W.failures out.old → IfSome (S.remaining file.old) (λ bytes. IfSome (W.contents out.old) (λ old. BeginsByText grammar.now bytes old (W.contents out.new))) }
+    ensures begun { W.failures out.new ≢ W.failures out.old → IfSome (S.remaining file.old) (λ bytes. IfSome (W.contents out.old) (λ old. BeginsByText command.now grammar.now bytes old (W.contents out.new))) }
 {
     one_grammar();
     match Table::from_slice(alloc, grammar) {
-        Ok(table) => judged(alloc, &table, file, out),
+        Ok(table) => done_by(alloc, command, &table, file, out),
         Err(error) => Err(Trouble::Grammar(error)),
     }
 }
 
 /// Does what a command asks, and answers the exit status.
 ///
-/// `file` is the module, `out` the standard output, `made` the file that a command makes (`check` makes none), `err` the
-/// standard error. 0: the module is valid. 1: a fault line was written. 2: one line was written to `err`: `error J1` to
+/// `file` is the module, `out` the standard output, `made` the file that a command makes (`check` and `show` make none),
+/// `err` the standard error. 0: the module is valid, or its text was written. 1: a fault line was written. 2: one line was written to `err`: `error J1` to
 /// `error J7` where the grammar file is refused, which is told first, `error file` where a read or a write failed,
 /// `error memory` where a growth of memory was refused. Where the write to `err` fails too, it has got a beginning of
 /// that line, and the status is 2 all the same.
@@ -126,27 +166,25 @@ pub fn run<S: Source, W: Sink, O: Sink, E: Sink>(
     err: &mut E,
 ) -> u8
     ensures status { result ≤ 2 }
-    // With 0 and 1 the verdict line was written, by the table that the grammar file gives, and 0 goes with `valid` alone.
-    ensures verdict { result ≤ 1 → IfSome (S.remaining file.old) (λ bytes. IfSome (W.contents out.old) (λ old. TellsByText grammar.now bytes old (W.contents out.new) (result == 0))) }
+    // With 0 and 1 the verdict line or the text was written, by the table that the grammar file gives: 0 goes with `valid`
+    // alone, or with the text of a module.
+    ensures done { result ≤ 1 → IfSome (S.remaining file.old) (λ bytes. IfSome (W.contents out.old) (λ old. DoesByText command.now grammar.now bytes old (W.contents out.new) (result == 0))) }
     // With 2 an error line was written to the standard error, and there is a reason for it.
     ensures error { result ≡ 2 → (line : List ℕ) × IsErrorLine grammar.now ((S.failures file.new ≢ S.failures file.old) ⊎ (W.failures out.new ≢ W.failures out.old)) line × Writes line (E.contents err.old) (E.contents err.new) (E.failures err.old) (E.failures err.new) }
     // A refused grammar file is told first, before anything is read or written: by its code, or as want of memory.
     ensures refused { (e : GrammarError) → text_breaks grammar.now e → (result ≡ 2) × (file.new ≡ file.old) × (out.new ≡ out.old) × (Writes (grammar_text e) (E.contents err.old) (E.contents err.new) (E.failures err.old) (E.failures err.new) ⊎ Writes memory_line (E.contents err.old) (E.contents err.new) (E.failures err.old) (E.failures err.new)) }
     // A failed read or write is told by `error file`.
     ensures failed { (S.failures file.new ≢ S.failures file.old) ⊎ (W.failures out.new ≢ W.failures out.old) → (result ≡ 2) × Writes file_line (E.contents err.old) (E.contents err.new) (E.failures err.old) (E.failures err.new) }
-    // With 2 the standard output is as it was, or, after a failed write to it, has got a beginning of the verdict line.
+    // With 2 the standard output is as it was, or, after a failed write to it, has got a beginning of that line or text.
     ensures unwritten { result ≡ 2 → W.failures out.new ≡ W.failures out.old → out.new ≡ out.old }
-    ensures begun { W.failures out.new ≢ W.failures out.old → IfSome (S.remaining file.old) (λ bytes. IfSome (W.contents out.old) (λ old. BeginsByText grammar.now bytes old (W.contents out.new))) }
-    // `check` makes no file.
+    ensures begun { W.failures out.new ≢ W.failures out.old → IfSome (S.remaining file.old) (λ bytes. IfSome (W.contents out.old) (λ old. BeginsByText command.now grammar.now bytes old (W.contents out.new))) }
+    // Neither command makes a file.
     ensures made { made.new ≡ made.old }
     // The standard error gets a line only with the status 2.
     ensures quiet { result ≤ 1 → err.new ≡ err.old }
 {
     let _ = made;
-    let judged = match command {
-        Command::Check { .. } => checked(alloc, grammar, file, out),
-    };
-    match judged {
+    match done(alloc, command, grammar, file, out) {
         Ok(true) => 0,
         Ok(false) => 1,
         Err(trouble) => {

@@ -5,9 +5,9 @@ ghost use Rattle.spv.specs.Verdict.{IsVerdict, valid_line};
 ghost use Rattle.spv.specs.Text.{line_of, refusal_of};
 ghost use Rattle.spv.specs.Stream.{Begins, Tells};
 
+use crate::judging::verdict_of;
 use crate::verdict_line::{Verdict, line_for};
 use spv_grammar::Table;
-use spv_inst::{Stop, decode};
 use spv_words::{Sink, Source, WordError, read_image, write_all};
 use std::alloc::Global;
 
@@ -32,11 +32,7 @@ fn verdict_on<R: Source>(alloc: Global, table: &Table, r: &mut R) -> Result<Verd
         Ok((image, _)) => image,
         Err(code) => return refusal(code),
     };
-    match decode(alloc, table, &image) {
-        Ok(_) => Ok(Verdict::Valid),
-        Err(Stop::Fault(fault)) => Ok(Verdict::Dead(fault)),
-        Err(Stop::Memory) => Err(WordError::W9),
-    }
+    verdict_of(alloc, table, &image)
 }
 
 /// Whether no rule is broken.
@@ -46,7 +42,7 @@ fn is_valid(verdict: Verdict) -> bool
     match verdict {
         Verdict::Valid => true,
         Verdict::Refused(_) => false,
-        Verdict::Dead(_) => false,
+        Verdict::Broken(_) => false,
     }
 }
 

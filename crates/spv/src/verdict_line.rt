@@ -14,8 +14,8 @@ pub enum Verdict {
     Valid,
     /// The bytes are no words of a module: the first rule of W2 to W8 that they break.
     Refused(WordError),
-    /// The first rule that the instructions break.
-    Dead(Fault),
+    /// The first rule that the instructions break, with the instruction and the word by which it is told.
+    Broken(Fault),
 }
 
 /// The text of a code W1 to W9.
@@ -96,7 +96,7 @@ fn refused(code: WordError) -> Line
 }
 
 /// `fault I7 inst 0 word 9`, as an example.
-fn dead(fault: Fault) -> Line
+fn broken(fault: Fault) -> Line
     ensures { text_of result ≡ fault_line fault.rule fault.inst fault.word }
 {
     let mut line = Line::of(b"fault ");
@@ -116,6 +116,6 @@ pub fn line_for(verdict: Verdict) -> Line
     match verdict {
         Verdict::Valid => Line::of(b"valid\n"),
         Verdict::Refused(code) => refused(code),
-        Verdict::Dead(fault) => dead(fault),
+        Verdict::Broken(fault) => broken(fault),
     }
 }

@@ -6,6 +6,6 @@ pub returns : goal.returns
 returns c = record {
   refused = λ G. short_bytes G c.examples.ensures.size_first;
   not_valid = λ G. never_valid G _ _ refl c.examples.ensures.size_first (c.one_verdict.ensures G _);
-  valid = λ G. header_alone G _ c.examples.ensures.module_bytes;
+  unsound = λ G. header_alone G _ c.examples.ensures.module_bytes;
   text = fault_text;
 }

@@ -8,4 +8,5 @@ returns c = one_verdict_line (record {
   never = c.one_refusal.ensures.never;
   death = c.one_death.ensures;
   alive = c.listed_or_dead.ensures;
+  list = c.one_listing.ensures;
 })

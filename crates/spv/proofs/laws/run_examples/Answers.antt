@@ -1,6 +1,7 @@
 use Rattle.std.proofs.Common.{refl, lit≤, arith}
 use Rattle.spv.specs.Trouble.{memory}
 use Rattle.spv_grammar.specs.Example.{empty_table}
+use Rattle.spv.proofs.Tasks.{begins_short, does_short}
 use Rattle.spv.proofs.Worked.{empty_given, nothing_breaks, nothing_given}
 use Rattle.spv.proofs.laws.run_examples.Goals as goal
 
@@ -16,17 +17,17 @@ returns-clause-table c = empty_given c.table_examples.ensures.gives
 pub returns-clause-no_table : goal.returns-clause-no_table
 returns-clause-no_table c = nothing_given
 
-pub returns-clause-tells : goal.returns-clause-tells
-returns-clause-tells c = record { table = empty_table; given = empty_given c.table_examples.ensures.gives; tells = c.stream_examples.ensures.tells empty_table }
+pub returns-clause-does : goal.returns-clause-does
+returns-clause-does c = λ command. does_short command _ (empty_given c.table_examples.ensures.gives) (c.stream_examples.ensures.tells empty_table) (c.show_examples.ensures.shows empty_table)
 
-pub returns-clause-tells_nothing : goal.returns-clause-tells_nothing
-returns-clause-tells_nothing c = λ bytes old new answer t. nothing_given t.table t.given
+pub returns-clause-does_nothing : goal.returns-clause-does_nothing
+returns-clause-does_nothing c = λ command bytes old new answer t. nothing_given t.table t.given
 
 pub returns-clause-begins : goal.returns-clause-begins
-returns-clause-begins c = record { table = empty_table; given = empty_given c.table_examples.ensures.gives; begins = c.stream_examples.ensures.begins empty_table }
+returns-clause-begins c = λ command. begins_short command _ (empty_given c.table_examples.ensures.gives) (c.stream_examples.ensures.begins empty_table) (c.show_examples.ensures.begins empty_table)
 
 pub returns-clause-begins_nothing : goal.returns-clause-begins_nothing
-returns-clause-begins_nothing c = λ bytes old new t. nothing_given t.table t.given
+returns-clause-begins_nothing c = λ command bytes old new t. nothing_given t.table t.given
 
 pub returns-clause-refused : goal.returns-clause-refused
 returns-clause-refused c = nothing_breaks ⊥

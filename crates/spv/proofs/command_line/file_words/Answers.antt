@@ -4,11 +4,11 @@ use Rattle.clap.specs.Words.{App, app_of, new_app, rule_of, with_rule}
 use Rattle.clap.specs.Simple.{app_of_fields}
 use Rattle.clap.specs.declared.builder.command.Command.TheViews.{out-Command}
 use Rattle.spv.specs.CommandLine.{file_word, grammar_option}
-use Rattle.spv.proofs.command_line.check_words.Goals as goal
+use Rattle.spv.proofs.command_line.file_words.Goals as goal
 
 pub returns-clause-shape : goal.returns-clause-shape
 returns-clause-shape c =
-    let named : app_of c.about.result ≡ new_app (codes "check") = ap app_of_fields c.about.ensures ∙ c.new-3.ensures.app in
+    let named : app_of c.about.result ≡ new_app c.args.name.now = ap app_of_fields c.about.ensures ∙ c.new-3.ensures.app in
     let grammar : rule_of c.help-grammar.result ≡ grammar_option = search rules in
     let file : rule_of c.help-file.result ≡ file_word = search rules in
     let one = c.in_ok-arg.ensures.shape (search rules) ∙ ap₂ with_rule named grammar in
