@@ -15,6 +15,7 @@ LAYERS = (
     "operations",
     "flow",
     "calls",
+    "show",
     "text",
     "trace",
 )

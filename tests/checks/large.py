@@ -8,26 +8,39 @@ import sys
 
 from .common import TESTS, Answer, Check, difference, run
 
-SHAPES = (
-    "straight",
-    "nops",
-    "constants",
-    "texts",
-    "names",
-    "memory",
-    "switches",
-    "longest",
-    "phis",
-    "blocks",
-    "functions",
-    "deep",
-    "masks",
-)
 VALID = Answer(b"valid\n", b"", 0)
+OUTSIDE = Answer(b"fault P1 inst 0 word 5\n", b"", 1)
+SHAPES = {
+    **dict.fromkeys(
+        (
+            "straight",
+            "nops",
+            "constants",
+            "texts",
+            "names",
+            "memory",
+            "switches",
+            "longest",
+            "phis",
+            "blocks",
+            "functions",
+            "lines",
+            "members",
+            "named",
+            "chain",
+            "callers",
+            "downwards",
+        ),
+        VALID,
+    ),
+    "again": Answer(b"fault D2 inst 15 word 52\n", b"", 1),
+    "deep": OUTSIDE,
+    "masks": OUTSIDE,
+}
 
 
-def large(shape):
-    """The check of a module of this shape."""
+def large(shape, wanted):
+    """The check of a module of this shape, and what it must answer."""
 
     def check(program, folder):
         generate = [sys.executable, str(TESTS / "generate"), str(folder), shape]
@@ -37,12 +50,12 @@ def large(shape):
         grammar = own if own.exists() else TESTS / "profile.json"
         got = run(program, ["check", "--grammar", grammar, module], folder)
         module.unlink()
-        return difference(VALID, got)
+        return difference(wanted, got)
 
     return check
 
 
 def checks():
-    """All shapes, each under the profile or a grammar of its own. They need the instructions."""
-    layers = frozenset({"instructions"})
-    return [Check(f"large: {shape}", layers, large(shape)) for shape in SHAPES]
+    """All shapes, each under the profile or a grammar of its own. They need layout and ids."""
+    layers = frozenset({"layout", "ids"})
+    return [Check(f"large: {shape}", layers, large(shape, SHAPES[shape])) for shape in SHAPES]
