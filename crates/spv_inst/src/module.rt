@@ -45,7 +45,8 @@ impl<'a> Module<'a> {
     /// Adds an instruction of that opcode, with those operands in order, at the end of the list. It asks nothing of them:
     /// `encode` refuses those that no words spell.
     ///
-    /// `Memory` comes only where a growth of memory was refused, and then nothing has changed.
+    /// `Memory` comes only where a growth of memory was refused, or for 4,294,967,296 operands or more, and then nothing has
+    /// changed.
     pub fn push(&mut self, opcode: u16, operands: &[Operand<'a>]) -> Result<(), Memory>
         ensures added { OnOk result (plain_insts self.new ≡ plain_insts self.old ++ record { opcode = opcode; operands = plain_operands operands.now } ∷ []) }
         ensures refused { OnErr result (self.new.insts.items ≡ self.old.insts.items) }
