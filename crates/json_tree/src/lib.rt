@@ -20,8 +20,6 @@ pub mod laws;
 mod number;
 mod of;
 mod read;
-#[cfg(test)]
-mod tests;
 mod tree;
 
 pub use read::Refused;

@@ -78,9 +78,9 @@ module _ {A : Type 0} (name : A → List ℕ) (xs : List A) (i : ℕ) (x : A) wh
   place_step old new q some within is before now = place_step-by old new q (bytes_eq (name x) q) some within is refl before now
 
 -- a write of a place
-pub dense : (ps : List ℕ) (k v n : ℕ) → k < length ps → Some (get_or (set ps k v) n 0) ≡ (if nat_eq k n then Some v else Some (get_or ps n 0))
-dense ps k v n h = by (nat_eq k n) refl
+pub dense : (ps : List ℕ) (k v n d : ℕ) → k < length ps → Some (get_or (set ps k v) n d) ≡ (if nat_eq k n then Some v else Some (get_or ps n d))
+dense ps k v n d h = by (nat_eq k n) refl
   where
-    by : (b : Bool) → nat_eq k n ≡ b → Some (get_or (set ps k v) n 0) ≡ (if b then Some v else Some (get_or ps n 0))
+    by : (b : Bool) → nat_eq k n ≡ b → Some (get_or (set ps k v) n d) ≡ (if b then Some v else Some (get_or ps n d))
     by true e = let same : k ≡ n = grind (arith, nat_tests) in grind (arith, common_steps)
     by false e = let other : k ≢ n = grind (arith, nat_tests) in grind (arith, common_steps)

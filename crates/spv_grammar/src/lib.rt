@@ -10,6 +10,7 @@ mod listed;
 mod load;
 mod make;
 mod numbers;
+mod places;
 mod read;
 mod rules;
 mod sort;
@@ -18,6 +19,3 @@ mod table;
 pub use error::{GrammarError, Memory};
 pub use listed::{Listed, Name};
 pub use table::{Category, Entry, Enumerant, Item, Kind, Quantifier, Table};
-
-#[cfg(test)]
-mod tests;

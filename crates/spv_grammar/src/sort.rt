@@ -1,4 +1,4 @@
-ghost use Rattle.std.specs.Prelude.{◌≡◌, ℕ, List, option_map, option_and_then, slice_get, IfOk};
+ghost use Rattle.std.specs.Prelude.{◌≡◌, ◌<◌, ◌≤◌, ◌^◌, ℕ, List, length, option_map, option_and_then, slice_get, slice_index_or, IfOk};
 ghost use Rattle.std.specs.BTreeMap as tree;
 ghost use Rattle.std.specs.Ordering.{nat_cmp};
 ghost use Rattle.indexmap.specs.IndexMap.{get_by_text};
@@ -6,6 +6,7 @@ ghost use Rattle.spv_grammar.specs.Table.{enumerant_of};
 ghost use Rattle.spv_grammar.specs.Lookups.{value_named};
 
 use crate::listed::Name;
+use crate::places::widen;
 use crate::table::{Enumerant, Kind};
 use indexmap::IndexMap;
 use std::alloc::{AllocError, Global};
@@ -17,14 +18,17 @@ use std::marker::Model;
 pub(crate) struct Sort {
     kind: Kind,
     enumerants: Vec<Enumerant>,
-    /// The place of the first enumerant with a value.
-    places: BTreeMap<u32, usize>,
+    /// For each value below `SMALL` the place of the first enumerant that has it. 4,294,967,295 stands where none has it, and
+    /// the list may end before.
+    near: Vec<u32>,
+    /// The place of the first enumerant with a greater value.
+    far: BTreeMap<u32, usize>,
     /// The value of the first enumerant with a name.
     values: IndexMap<String, u32>,
 }
 
 impl Model for Sort {
-    ghost use Rattle.std.specs.Prelude.{◌≡◌, ℕ, List, option_and_then, slice_get};
+    ghost use Rattle.std.specs.Prelude.{◌≡◌, ◌<◌, ◌≤◌, ℕ, List, option_and_then, slice_get, slice_index_or};
     ghost use Rattle.std.specs.BTreeMap as tree;
     ghost use Rattle.std.specs.Ordering.{nat_cmp};
     ghost use Rattle.indexmap.specs.IndexMap.{get_by_text};
@@ -37,17 +41,40 @@ impl Model for Sort {
 
     ghost view = { λ s. record { kind = s.kind; enumerants = s.enumerants.items } };
 
-    ghost invariant = { λ s. ((v : ℕ) → option_and_then (slice_get s.enumerants.items) (tree.get nat_cmp s.places v) ≡ enumerant_of s.enumerants.items v)
+    ghost invariant = { λ s. ((v : ℕ) → v < 64 → slice_get s.enumerants.items (slice_index_or s.near.items v 4294967295) ≡ enumerant_of s.enumerants.items v)
+        × ((v : ℕ) → 64 ≤ v → option_and_then (slice_get s.enumerants.items) (tree.get nat_cmp s.far v) ≡ enumerant_of s.enumerants.items v)
         × ((q : List ℕ) → get_by_text s.values q ≡ value_named s.enumerants.items q) };
 }
 
-/// For each value the place of the first enumerant that has it.
-fn value_places(alloc: Global, enumerants: &[Enumerant]) -> Result<BTreeMap<u32, usize>, AllocError>
-    ensures { IfOk result (λ m. (v : ℕ) → option_and_then (slice_get enumerants.now) (tree.get nat_cmp m v) ≡ enumerant_of enumerants.now v) }
+/// Below which number a value has a place in a list of its own.
+const SMALL: u32 = 64;
+
+/// For each value below `SMALL` the place of the first enumerant that has it.
+fn near_places(alloc: Global, enumerants: &[Enumerant]) -> Result<Vec<u32>, AllocError>
+    requires { length enumerants.now < 2 ^ 32 }
+    ensures { IfOk result (λ places. (v : ℕ) → v < 64 → slice_get enumerants.now (slice_index_or places.items v 4294967295) ≡ enumerant_of enumerants.now v) }
+{
+    let mut places = Vec::new(alloc);
+    for i in (0..enumerants.len()).rev() {
+        let value = enumerants[i].value;
+        if value < SMALL {
+            widen(&mut places, value as usize)?;
+            places[value as usize] = i as u32;
+        }
+    }
+    Ok(places)
+}
+
+/// For each value from `SMALL` on the place of the first enumerant that has it.
+fn far_places(alloc: Global, enumerants: &[Enumerant]) -> Result<BTreeMap<u32, usize>, AllocError>
+    ensures { IfOk result (λ places. (v : ℕ) → 64 ≤ v → option_and_then (slice_get enumerants.now) (tree.get nat_cmp places v) ≡ enumerant_of enumerants.now v) }
 {
     let mut places = BTreeMap::new(alloc);
     for i in (0..enumerants.len()).rev() {
-        places.insert(enumerants[i].value, i)?;
+        let value = enumerants[i].value;
+        if value >= SMALL {
+            places.insert(value, i)?;
+        }
     }
     Ok(places)
 }
@@ -66,7 +93,7 @@ fn value_names(alloc: Global, enumerants: &[Enumerant]) -> Result<IndexMap<Strin
 }
 
 impl Sort {
-    /// A kind with these enumerants. The error is want of memory.
+    /// A kind with these enumerants. The error is want of memory, or of places: there may be 4,294,967,295.
     pub(crate) fn new(
         alloc: Global,
         kind: Kind,
@@ -74,12 +101,17 @@ impl Sort {
     ) -> Result<Sort, AllocError>
         ensures { IfOk result (λ s. s ≡ record { kind = kind; enumerants = enumerants.items }) }
     {
-        let places = value_places(alloc, enumerants.as_slice())?;
+        if enumerants.len() > 0xffff_ffff {
+            return Err(AllocError);
+        }
+        let near = near_places(alloc, enumerants.as_slice())?;
+        let far = far_places(alloc, enumerants.as_slice())?;
         let values = value_names(alloc, enumerants.as_slice())?;
         Ok(Sort {
             kind,
             enumerants,
-            places,
+            near,
+            far,
             values,
         })
     }
@@ -91,11 +123,18 @@ impl Sort {
         &self.kind
     }
 
-    /// The first enumerant with a value.
+    /// The first enumerant with a value: in constant time where the value is below `SMALL`.
     pub(crate) fn enumerant(&self, value: u32) -> Option<&Enumerant>
         ensures { option_map (λ e. e.now) result ≡ enumerant_of self.now.enumerants value }
     {
-        let place = *self.places.get(&value)?;
+        if value < SMALL {
+            let place = match self.near.get(value as usize) {
+                Some(place) => *place,
+                None => u32::MAX,
+            };
+            return self.enumerants.get(place as usize);
+        }
+        let place = *self.far.get(&value)?;
         self.enumerants.get(place)
     }
 

@@ -1,4 +1,4 @@
-ghost use Rattle.std.specs.Prelude.{◌≡◌, ◌<◌, ◌^◌, ℕ, List, length, slice_get, slice_index, option_map, option_and_then, position, IfOk, IfErr};
+ghost use Rattle.std.specs.Prelude.{◌≡◌, ◌<◌, ◌^◌, ℕ, List, length, slice_get, slice_index_or, option_map, option_and_then, position, IfOk, IfErr};
 ghost use Rattle.std.specs.Str.{bytes_eq};
 ghost use Rattle.indexmap.specs.IndexMap.{get_by_text};
 ghost use Rattle.spv_grammar.specs.Table.{entry_of, kind_of, enumerant_of, first_with, IsWhole};
@@ -7,6 +7,7 @@ ghost use Rattle.spv_grammar.specs.declared.error.GrammarError.TheVariants.{J8};
 
 use crate::error::GrammarError;
 use crate::listed::{Listed, Name};
+use crate::places::widen;
 use crate::sort::Sort;
 use indexmap::IndexMap;
 use std::alloc::{AllocError, Global};
@@ -76,7 +77,8 @@ pub struct Enumerant {
 pub struct Table {
     sorts: Vec<Sort>,
     entries: Vec<(u16, Entry)>,
-    /// For each opcode the place of its first entry, or 4,294,967,295 where it has none.
+    /// For each opcode the place of its first entry. 4,294,967,295 stands where it has none, and the list ends with the
+    /// greatest opcode that has one.
     places: Vec<u32>,
     /// For each name the opcode of the first instruction that bears it.
     opcodes: IndexMap<String, u16>,
@@ -85,7 +87,7 @@ pub struct Table {
 }
 
 impl Model for Table {
-    ghost use Rattle.std.specs.Prelude.{◌≡◌, ◌<◌, ℕ, List, length, slice_get, slice_index};
+    ghost use Rattle.std.specs.Prelude.{◌≡◌, ℕ, List, slice_get, slice_index_or};
     ghost use Rattle.indexmap.specs.IndexMap.{get_by_text};
     ghost use Rattle.spv_grammar.specs.Table.{Table};
 
@@ -97,37 +99,21 @@ impl Model for Table {
     ghost view = { λ t. record { kinds = t.sorts.items; entries = t.entries.items } };
 
     ghost invariant = { λ t. IsWhole (record { kinds = t.sorts.items; entries = t.entries.items })
-        × (length t.places.items ≡ 65536)
-        × ((n : ℕ) → n < 65536 → slice_get t.entries.items (slice_index t.places.items n) ≡ first_with (λ e. e.0) n t.entries.items)
+        × ((n : ℕ) → slice_get t.entries.items (slice_index_or t.places.items n 4294967295) ≡ first_with (λ e. e.0) n t.entries.items)
         × ((q : List ℕ) → get_by_text t.opcodes q ≡ opcode_named t.entries.items q)
         × ((q : List ℕ) → get_by_text t.numbers q ≡ number_named (record { kinds = t.sorts.items; entries = t.entries.items }) q) };
-}
-
-/// So many places, all of them 4,294,967,295.
-fn filled(alloc: Global, count: usize) -> Result<Vec<u32>, AllocError>
-    ensures len { IfOk result (λ v. length v.items ≡ count) }
-    ensures none { IfOk result (λ v. (n : ℕ) → n < count → slice_index v.items n ≡ 4294967295) }
-{
-    vec![in alloc; u32::MAX; count]
-}
-
-/// A place for each opcode, all of them 4,294,967,295.
-fn no_places(alloc: Global) -> Result<Vec<u32>, AllocError>
-    ensures len { IfOk result (λ v. length v.items ≡ 65536) }
-    ensures none { IfOk result (λ v. (n : ℕ) → n < 65536 → slice_index v.items n ≡ 4294967295) }
-{
-    filled(alloc, 65536)
 }
 
 /// For each opcode the place of its first entry.
 fn opcode_places(alloc: Global, entries: &[(u16, Entry)]) -> Result<Vec<u32>, AllocError>
     requires { length entries.now < 2 ^ 32 }
-    ensures len { IfOk result (λ v. length v.items ≡ 65536) }
-    ensures placed { IfOk result (λ v. (n : ℕ) → n < 65536 → slice_get entries.now (slice_index v.items n) ≡ first_with (λ e. e.0) n entries.now) }
+    ensures { IfOk result (λ places. (n : ℕ) → slice_get entries.now (slice_index_or places.items n 4294967295) ≡ first_with (λ e. e.0) n entries.now) }
 {
-    let mut places = no_places(alloc)?;
+    let mut places = Vec::new(alloc);
     for i in (0..entries.len()).rev() {
-        places[usize::from(entries[i].0)] = i as u32;
+        let opcode = usize::from(entries[i].0);
+        widen(&mut places, opcode)?;
+        places[opcode] = i as u32;
     }
     Ok(places)
 }
@@ -230,7 +216,10 @@ impl Table {
     pub fn entry(&self, opcode: u16) -> Option<&Entry>
         ensures { option_map (λ e. e.now) result ≡ entry_of self.now opcode }
     {
-        let place = self.places[usize::from(opcode)];
+        let place = match self.places.get(usize::from(opcode)) {
+            Some(place) => *place,
+            None => u32::MAX,
+        };
         match self.entries.get(place as usize) {
             Some((_, entry)) => Some(entry),
             None => None,

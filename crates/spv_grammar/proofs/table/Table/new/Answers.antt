@@ -2,7 +2,7 @@ use Rattle.spv_grammar.proofs.table.Table.new.Goals as goal
 
 pub invariant_of-result : goal.invariant_of-result
 invariant_of-result c =
-    let placed = rw c.as_slice.ensures.value at c.in_ok-places.ensures.placed in
+    let placed = rw c.as_slice.ensures.value at c.in_ok-places.ensures in
     let opcodes = rw c.as_slice-2.ensures.value at c.in_ok-opcodes.ensures in
     let numbers = rw c.as_slice-3.ensures.value at c.in_ok-numbers.ensures in
-    (c.requires, c.in_ok-places.ensures.len, placed, opcodes, numbers)
+    (c.requires, placed, opcodes, numbers)

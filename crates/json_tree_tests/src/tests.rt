@@ -1,6 +1,6 @@
-use crate::{Refused, Tree};
 use bumpalo::Bump;
 use json::Scratch;
+use json_tree::{Refused, Tree};
 use serde_json::Value;
 use std::test::Fail;
 
