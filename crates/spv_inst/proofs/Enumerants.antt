@@ -114,7 +114,7 @@ knows_not_at es mask i l e h =
     let n : 32 - i ≡ suc (32 - (i + 1)) = omega arith in
     rw n (knows_not es mask (32 - (i + 1)) (2 ^ i) e h)
 
-lt_from_div : (n b : ℕ) → 0 < b → n / b ≡ 0 → n < b
+pub lt_from_div : (n b : ℕ) → 0 < b → n / b ≡ 0 → n < b
 lt_from_div n b h e = let l : n < n / b * b + b = lt-div-mul-add h in let m : n < 0 * b + b = rw e at l in omega arith
 
 pub knows_rest_at : (es : List Enumerant) (mask i : ℕ) → mask / 2 ^ i ≡ 0 → knows_from es mask (32 - i) (2 ^ i) ≡ true

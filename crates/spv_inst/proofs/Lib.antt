@@ -12,6 +12,7 @@ pub mod Fronts
 pub mod Steps
 pub mod Leaves
 pub mod Enumerants
+pub mod Opened
 pub mod Between
 pub mod Numbers
 pub mod Kept

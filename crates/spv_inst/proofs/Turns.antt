@@ -24,7 +24,7 @@ use Rattle.spv_inst.specs.Reading.{between, enumerants_at, parameter_kinds, Take
 use Rattle.spv_inst.specs.Agenda.{settled, Opens, opened_kinds}
 use Rattle.spv_inst.proofs.Joined.{flat_match}
 use Rattle.spv_inst.proofs.Fronts.{fails_misfit}
-use Rattle.spv_inst.proofs.Steps.{after_is, at_start, at_end, at_operand, at_parts, at_maybe, at_many, at_no_maybe, at_no_many, at_refusal}
+use Rattle.spv_inst.proofs.Steps.{after_is, at_end, at_operand, at_parts, at_maybe, at_many, at_no_maybe, at_no_many, at_refusal}
 use Rattle.spv_inst.proofs.Contexts.{near_after}
 use Rattle.spv_inst.proofs.Between.{front}
 use Rattle.spv_inst.proofs.Bases.{and_first, passes_at}
@@ -234,10 +234,6 @@ pub record Turn (G : Table) (defined : Definitions) (known : Known) (before : Li
 here_is : (b : List PlainInst) (p : ℕ) (out : List Plain) → after (start b p) out ≡ record { before = b; opcode = p; operands = out }
 here_is b p out = after_is (start b p) out
 
-pub near_first : (defined : Definitions) (known : Known) (b : List PlainInst) (p : ℕ) → Knows defined b
-    → known.opcode ≡ p → known.type_id ≡ None → known.first ≡ None → IsNear defined known (after (start b p) [])
-near_first defined known b p d o t f = record { definitions = d; opcode = o; type_id = t; first = f }
-
 near_next : (defined : Definitions) (known next : Known) (b : List PlainInst) (p : ℕ) (out : List Plain) (o : Plain) → IsNear defined known (after (start b p) out)
     → next.opcode ≡ known.opcode → (known.type_id ≡ type_in out → next.type_id ≡ type_in (out ++ (o ∷ [])))
     → (known.first ≡ first_id out → next.first ≡ first_id (out ++ (o ∷ []))) → IsNear defined next (after (start b p) (out ++ (o ∷ [])))
@@ -266,18 +262,6 @@ drop-between ws at end n h =
 pub record Misplaced (G : Table) (c : Context) (pattern : List Item) (words : List ℕ) (first word : ℕ) (rule : Rule) : Type 0 where
   pub from : first ≤ word
   pub misfit : Misfit G c pattern words rule (word - first)
-
-pub turn_first : (G : Table) (defined : Definitions) (known : Known) (b : List PlainInst) (p : ℕ) (pattern : List Item) (image : List ℕ) (first end : ℕ) (out : List Plain) (ds : List Due)
-    → first ≤ end → out ≡ [] → ds ≡ map due pattern → IsNear defined known (after (start b p) []) → Turn G defined known b p pattern image first first end out ds
-turn_first G defined known b p pattern image first end out ds h e d k =
-    let z : first - first ≡ 0 = omega arith in
-    rw (e, d)
-    (record {
-      from = omega arith;
-      upto = h;
-      sofar = rw z (at_start G (start b p) (map due pattern) (between image first end));
-      near = k;
-    })
 
 -- what is due, where words are left
 pub turn_settled : (G : Table) (defined : Definitions) (known : Known) (b : List PlainInst) (p : ℕ) (pattern : List Item) (image : List ℕ) (first at end : ℕ) (out : List Plain) (ds es : List Due)
@@ -377,16 +361,16 @@ plain-push os ps o e = rw e (pushed os)
     pushed (q ∷ qs) = ap (λ zs. plain_operand q ∷ zs) (pushed qs)
 
 -- an operand of one word is taken
-pub word_next : (G : Table) (c : Context) (pattern : List Due) (words : List ℕ) (out out' : List Plain) (ds es : List Due) (k : ℕ) (image : List ℕ) (first at end w : ℕ) (o : Plain)
+pub word_next : (G : Table) (c : Context) (pattern : List Due) (words : List ℕ) (out out' : List Plain) (ds es fs : List Due) (k : ℕ) (ks : List ℕ) (image : List ℕ) (first at end w : ℕ) (o : Plain)
     → Sofar G c pattern words out ds (between image at end) (at - first) → first ≤ at → at < end → end ≤ length image
-    → settled true ds ≡ OneOf (alone k) ∷ es → w ≡ slice_index image at → Takes k (shape_of G (after c out) (alone k)) o (w ∷ []) [] → out' ≡ out ++ (o ∷ [])
-    → Sofar G c pattern words out' es (between image (at + 1) end) ((at + 1) - first)
-word_next G c pattern words out out' ds es k image first at end w o s f h l e i t n =
+    → settled true ds ≡ OneOf (alone k) ∷ es → w ≡ slice_index image at → Takes k (shape_of G (after c out) (alone k)) o (w ∷ []) (map alone ks) → out' ≡ out ++ (o ∷ [])
+    → fs ≡ map OneOf (map alone ks) ++ es → Sofar G c pattern words out' fs (between image (at + 1) end) ((at + 1) - first)
+word_next G c pattern words out out' ds es fs k ks image first at end w o s f h l e i t n j =
     let b : between image at end ≡ w ∷ between image (at + 1) end = rw i (front image at end h l) in
     let s1 : Sofar G c pattern words out ds (w ∷ between image (at + 1) end) (at - first) = rw b at s in
     let s2 : Sofar G c pattern words out (OneOf (alone k) ∷ es) (w ∷ between image (at + 1) end) (at - first) = rw e at (at_settled G c pattern words out ds (at - first) w (between image (at + 1) end) s1) in
     let q : (at - first) + 1 ≡ (at + 1) - first = omega arith in
-    rw (n, ← q) (at_operand G c pattern words out (alone k) es (at - first) o (w ∷ []) (between image (at + 1) end) [] s2 t)
+    rw (n, j, ← q) (at_operand G c pattern words out (alone k) es (at - first) o (w ∷ []) (between image (at + 1) end) (map alone ks) s2 t)
 
 -- the loop begins after some operands
 pub turn_from : (G : Table) (defined : Definitions) (known : Known) (b : List PlainInst) (p : ℕ) (pattern : List Item) (image : List ℕ) (first at end : ℕ) (out : List Plain) (ds es : List Due)

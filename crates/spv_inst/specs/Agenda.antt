@@ -8,7 +8,7 @@ use Rattle.spv_inst.specs.declared.agenda.Frame.TheVariants.{Kinds, Bits}
 use Rattle.spv_inst.specs.declared.agenda.Agenda.{Agenda}
 use Rattle.spv_inst.specs.declared.reader.Slot as code
 use Rattle.spv_inst.specs.Operand.{Plain, Value, Mask, Context}
-use Rattle.spv_inst.specs.Shape.{Slot, AsParts, shape_of}
+use Rattle.spv_inst.specs.Shape.{Slot, alone, AsParts, shape_of}
 use Rattle.spv_inst.specs.Spelling.{bits_from, parameters_of}
 use Rattle.spv_inst.specs.Reading.{enumerants_at}
 use Rattle.spv_inst.specs.Flat.{Due, OneOf, MaybeOf, ManyOf, due}
@@ -44,6 +44,10 @@ frames_due G (f ∷ fs) = frames_due G fs ++ frame_due G f
 -- items of a pattern
 abbrev pub items_of : List declared.Item → List Item
 items_of is = map (λ i. quantified i.quantifier i.kind) is
+
+-- kinds in order, and then the items of a pattern
+abbrev pub due_first : List ℕ → List declared.Item → List Due
+due_first ks is = map OneOf (map alone ks) ++ map due (items_of is)
 
 -- what an agenda makes due: the open parameter lists, then the items left of the pattern
 abbrev pub agenda_due : Table → Agenda → List Due

@@ -9,7 +9,7 @@ ghost use Rattle.spv_inst.specs.Shape.{alone};
 ghost use Rattle.spv_inst.specs.Spelling.{parameters_of};
 ghost use Rattle.spv_inst.specs.Reading.{enumerants_at};
 ghost use Rattle.spv_inst.specs.Flat.{OneOf, due};
-ghost use Rattle.spv_inst.specs.Agenda.{plain_slot, slots_of, parameters_from, frame_due, frames_due, items_of, agenda_due, settled, LeadsTo, Opens, opened_kinds};
+ghost use Rattle.spv_inst.specs.Agenda.{plain_slot, slots_of, parameters_from, frame_due, frames_due, items_of, due_first, agenda_due, settled, LeadsTo, Opens, opened_kinds};
 
 use crate::form::{Form, Leaf};
 use crate::operand::Operand;
@@ -211,6 +211,22 @@ impl<'t> Agenda<'t> {
         self.items = items;
     }
 
+    /// Begins within an instruction: kinds are due, in order, then the items of a pattern, and nothing else is.
+    ///
+    /// An `AllocError` comes only where a growth of memory was refused, and then nothing is said of what is left.
+    pub(crate) fn resume(&mut self, kinds: &'t [u32], items: &'t [Item]) -> Result<(), AllocError>
+        ensures { OnOk result ((G : Table) → agenda_due G self.new ≡ due_first kinds.now items.now) }
+    {
+        self.start(items);
+        if !kinds.is_empty() {
+            self.frames.push(Frame::Kinds {
+                left: kinds,
+                paired: false,
+            })?;
+        }
+        Ok(())
+    }
+
     /// Takes the kind that is due, where words are left (`more`) or not. Where memory runs out, nothing is said of what
     /// is left.
     #[inline(always)]
@@ -316,31 +332,6 @@ impl<'t> Agenda<'t> {
             | Operand::Number { .. }
             | Operand::Text(_) => {}
         }
-        Ok(())
-    }
-}
-
-#[cfg(test)]
-mod tests {
-    use super::*;
-    use std::test::Fail;
-
-    #[test]
-    fn takes_items_in_order(rt: HostRuntime) -> Result<(), Fail> {
-        let items = [
-            Item {
-                kind: 3,
-                quantifier: Quantifier::Maybe,
-            },
-            Item {
-                kind: 4,
-                quantifier: Quantifier::Many,
-            },
-        ];
-        let (kind, left) = next_item(&items, true).ok_or("an item")?;
-        assert_eq!(rt; kind, 3);
-        assert_eq!(rt; left.len(), 1);
-        assert!(rt; next_item(&items, false).is_none());
         Ok(())
     }
 }

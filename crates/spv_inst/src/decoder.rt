@@ -16,6 +16,9 @@ use spv_grammar::Table;
 use spv_words::Image;
 use std::alloc::Global;
 
+/// How many words the decoder reckons an instruction has, to keep room for all of them from the start.
+const WORDS_FOR_EACH: u32 = 4;
+
 /// The instructions of an image by a grammar table, with texts lent by the image.
 ///
 /// A `Fault` tells the first instruction that fails, with its rule, I1 to I12, and the word of the module (from 0) by
@@ -34,8 +37,8 @@ pub fn decode<'a>(alloc: Global, table: &Table, image: &'a Image) -> Result<Modu
     let forms = forms_of(alloc, table)?;
     let mut definitions = Definitions::new(alloc);
     let mut agenda = Agenda::new(alloc);
-    let mut module = Module::new(alloc, image.header());
     let len = image.len();
+    let mut module = Module::with_room(alloc, image.header(), (len / WORDS_FOR_EACH) as usize)?;
     let mut batch = Batch::new(alloc);
     let mut number = 0;
     let mut at = 5;

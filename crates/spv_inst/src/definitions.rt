@@ -182,30 +182,3 @@ impl Definitions {
         self.latest(id)?.type_id
     }
 }
-
-#[cfg(test)]
-mod tests {
-    use super::*;
-    use std::test::Fail;
-
-    #[test]
-    fn last_definitions(rt: HostRuntime) -> Result<(), Fail> {
-        let mut definitions = Definitions::new(rt.alloc());
-        // %1 = OpTypeInt 64 0
-        definitions.add(
-            21,
-            &[Operand::Result(1), Operand::Word(64), Operand::Word(0)],
-        )?;
-        // %4000000000 = OpUndef %1, past the reach of the list
-        definitions.add(1, &[Operand::OfType(1), Operand::Result(4_000_000_000)])?;
-        assert_eq!(rt; definitions.width(1), Some(64));
-        assert_eq!(rt; definitions.type_id(1), None);
-        assert_eq!(rt; definitions.type_id(4_000_000_000), Some(1));
-        assert_eq!(rt; definitions.width(4_000_000_000), None);
-        assert_eq!(rt; definitions.type_id(2), None);
-        // %1 = OpTypeFloat 16 in place of the first
-        definitions.add(22, &[Operand::Result(1), Operand::Word(16)])?;
-        assert_eq!(rt; definitions.width(1), Some(16));
-        Ok(())
-    }
-}

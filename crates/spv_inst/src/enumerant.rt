@@ -1,4 +1,4 @@
-ghost use Rattle.std.specs.Prelude.{◌≡◌, ℕ, List, [], ◌∷◌, map, is_some, IfOk, IfErr, unwrap_or};
+ghost use Rattle.std.specs.Prelude.{◌≡◌, ℕ, List, [], ◌∷◌, ◌++◌, Some, map, is_some, option_map, IfOk, IfErr, IfSome, unwrap_or};
 ghost use Rattle.spv_grammar.specs.Table.{kind_of};
 ghost use Rattle.spv_inst.specs.Shape.{alone, AsValue, AsMask};
 ghost use Rattle.spv_inst.specs.Spelling.{Takes, parameters_of, mask_parameters};
@@ -16,6 +16,55 @@ pub fn knows(table: &Table, kind: u32, value: u32) -> bool
     ensures { result ≡ is_some (parameters_of (enumerants_at (kind_of table.now kind)) value) }
 {
     table.enumerant(kind, value).is_some()
+}
+
+/// The kinds of the parameters of an enumerant, by the number of its kind, from 0, and its value. None where the kind has no
+/// such enumerant.
+pub fn value_kinds<'t>(table: &'t Table, kind: u32, value: u32) -> Option<&'t [u32]>
+    ensures { option_map (λ ks. ks.now) result ≡ parameters_of (enumerants_at (kind_of table.now kind)) value }
+{
+    match table.enumerant(kind, value) {
+        Some(enumerant) => Some(enumerant.parameters.as_slice()),
+        None => None,
+    }
+}
+
+/// One list of kinds after another, where one of the two is empty.
+#[inline(always)]
+pub fn joined<'t>(first: &'t [u32], second: &'t [u32]) -> Option<&'t [u32]>
+    ensures { IfSome result (λ ks. ks.now ≡ first.now ++ second.now) }
+{
+    if first.is_empty() {
+        return Some(second);
+    }
+    if second.is_empty() {
+        return Some(first);
+    }
+    None
+}
+
+/// The kinds of the parameters of a mask of a kind, those of the smaller bit first, where no more than one of its set bits
+/// has parameters. None where more of them have, or where one of them is the value of no enumerant.
+pub fn mask_kinds<'t>(table: &'t Table, kind: u32, mask: u32) -> Option<&'t [u32]>
+    ensures { IfSome result (λ ks. mask_parameters (enumerants_at (kind_of table.now kind)) mask ≡ Some ks.now) }
+{
+    let mut kinds: &'t [u32] = &[];
+    for position in 0..32u32 {
+        let left = mask >> position;
+        if left == 0 {
+            return Some(kinds);
+        }
+        if left % 2 == 1 {
+            let Some(more) = value_kinds(table, kind, 1 << position) else {
+                return None;
+            };
+            let Some(all) = joined(kinds, more) else {
+                return None;
+            };
+            kinds = all;
+        }
+    }
+    Some(kinds)
 }
 
 /// Takes a value of a kind: a word that is the value of one of the kind's enumerants. The enumerant's parameters are due

@@ -12,11 +12,11 @@ ghost use Rattle.spv_inst.specs.Spelling.{Match};
 ghost use Rattle.spv_inst.specs.Step.{IsMisfit, IsDeadFrom};
 ghost use Rattle.spv_inst.specs.Width.{first_id};
 
-use crate::agenda::{Agenda, next_item};
+use crate::agenda::Agenda;
 use crate::definitions;
 use crate::fault::{Fault, Rule, Stop};
 use crate::operand::Operand;
-use crate::plain::read_words;
+use crate::plain::{next_kind, read_words};
 use crate::reader::{Known, Scene, take_operand};
 use spv_grammar::Entry;
 use spv_words::word;
@@ -147,6 +147,7 @@ fn read_operands<'t, 'a>(
     let start = operands.len();
     let items = entry.operands.as_slice();
     let rest = read_words(
+        scene.table,
         scene.forms,
         scene.image,
         operands,
@@ -155,13 +156,13 @@ fn read_operands<'t, 'a>(
         place.end,
     )?;
     if rest.at == place.end {
-        if let None = next_item(rest.items, false) {
+        if let None = next_kind(rest.kinds, rest.items, false) {
             return Ok(());
         }
     }
     let mut known = known_of(place.opcode, &operands[start..]);
     let mut at = rest.at;
-    agenda.start(rest.items);
+    agenda.resume(rest.kinds, rest.items)?;
     while at < place.end {
         let Some(asked) = agenda.next_leaf(scene.table, scene.forms, true)? else {
             return Err(fault_at(place.number, Rule::I5, at));
@@ -235,17 +236,4 @@ pub fn read_instruction<'t, 'a>(
         first,
         end: place.end,
     })
-}
-
-#[cfg(test)]
-mod tests {
-    use super::*;
-
-    #[test]
-    fn knows_the_first_type_and_id(rt: HostRuntime) {
-        let one = known_after(Known::new(61), &[], &Operand::OfType(2));
-        let two = known_after(one, &[Operand::OfType(2)], &Operand::Result(9));
-        assert_eq!(rt; two.type_id, Some(2));
-        assert_eq!(rt; two.first, Some(2));
-    }
 }

@@ -20,8 +20,6 @@ mod operand;
 mod operands;
 mod plain;
 mod reader;
-#[cfg(test)]
-mod tests;
 mod text;
 mod written;
 

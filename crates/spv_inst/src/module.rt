@@ -1,11 +1,11 @@
-ghost use Rattle.std.specs.Prelude.{◌≡◌, ◌++◌, ◌∷◌, [], OnOk, OnErr, map};
+ghost use Rattle.std.specs.Prelude.{◌≡◌, ◌++◌, ◌∷◌, [], IfOk, OnOk, OnErr, map};
 ghost use Rattle.spv_inst.specs.Module.{plain_insts, plain_operands};
 
 use crate::operand::Operand;
 use crate::operands::Operands;
 use spv_grammar::Memory;
 use spv_words::Header;
-use std::alloc::Global;
+use std::alloc::{AllocError, Global};
 
 /// An instruction (SPIR-V Specification 1.6, section 2.3), whatever its operands: `decode` answers those alone that words
 /// spell by the grammar table, and `encode` refuses the others.
@@ -42,6 +42,20 @@ impl<'a> Module<'a> {
         }
     }
 
+    /// A module with that header and no instruction, with room for so many. The error is want of memory.
+    pub(crate) fn with_room(
+        alloc: Global,
+        header: Header,
+        count: usize,
+    ) -> Result<Module<'a>, AllocError>
+        ensures header { IfOk result (λ m. m.header ≡ header) }
+        ensures insts { IfOk result (λ m. plain_insts m ≡ []) }
+    {
+        let mut module = Module::new(alloc, header);
+        module.insts = Vec::with_capacity(alloc, count)?;
+        Ok(module)
+    }
+
     /// Adds an instruction of that opcode, with those operands in order, at the end of the list. It asks nothing of them:
     /// `encode` refuses those that no words spell.
     ///
@@ -54,29 +68,6 @@ impl<'a> Module<'a> {
     {
         let operands = Operands::from_slice(self.alloc, operands)?;
         self.insts.push(Inst { opcode, operands })?;
-        Ok(())
-    }
-}
-
-#[cfg(test)]
-mod tests {
-    use super::*;
-    use std::test::Fail;
-
-    #[test]
-    fn pushes_last(rt: HostRuntime) -> Result<(), Fail> {
-        let header = Header {
-            version: 0x0001_0600,
-            generator: 0,
-            bound: 10,
-            schema: 0,
-        };
-        let mut module = Module::new(rt.alloc(), header);
-        module.push(17, &[Operand::Word(6)])?;
-        module.push(7, &[Operand::Result(5), Operand::Text("abc")])?;
-        let opcodes: Vec<u16> = module.insts.iter().map(|i| i.opcode).collect(rt.alloc())?;
-        assert_eq!(rt; opcodes.as_slice(), [17, 7].as_slice());
-        assert_eq!(rt; module.header, header);
         Ok(())
     }
 }

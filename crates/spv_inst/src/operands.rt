@@ -88,23 +88,3 @@ impl<'a> Debug for Operands<'a> {
         f.debug_list().slice(self.as_slice()).finish()
     }
 }
-
-#[cfg(test)]
-mod tests {
-    use super::*;
-    use std::test::Fail;
-
-    #[test]
-    fn copies_operands(rt: HostRuntime) -> Result<(), Fail> {
-        let operands = Operands::from_slice(
-            rt.alloc(),
-            &[Operand::Result(5), Operand::Text("abc")],
-        )?;
-        assert_eq!(rt; operands.len(), 2);
-        assert_eq!(rt;
-            operands.as_slice().first().copied(),
-            Some(Operand::Result(5))
-        );
-        Ok(())
-    }
-}

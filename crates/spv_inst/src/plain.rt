@@ -1,63 +1,130 @@
 //! Operands of one word.
 
-ghost use Rattle.std.specs.Prelude.{◌≡◌, ◌≤◌, ◌<◌, ◌+◌, ◌-◌, ◌++◌, ◌∷◌, [], length, map, take, drop, IfOk, IfSome};
-ghost use Rattle.spv_grammar.specs.Table.{Table, kind_of};
+ghost use Rattle.std.specs.Prelude.{◌≡◌, ◌≤◌, ◌<◌, ◌+◌, ◌-◌, ◌++◌, ◌∷◌, [], length, map, take, drop, IfOk, IfSome, MatchOption};
+ghost use Rattle.spv_grammar.specs.Table.{kind_of};
 ghost use Rattle.spv_inst.specs.Form.{form_of, form_at};
 ghost use Rattle.spv_inst.specs.Operand.{Context};
 ghost use Rattle.spv_inst.specs.Module.{plain_operand, plain_operands};
 ghost use Rattle.spv_inst.specs.Shape.{alone, shape_of};
 ghost use Rattle.spv_inst.specs.Spelling.{Takes};
 ghost use Rattle.spv_inst.specs.Reading.{between};
-ghost use Rattle.spv_inst.specs.Agenda.{items_of};
-ghost use Rattle.spv_inst.specs.Flat.{due};
+ghost use Rattle.spv_inst.specs.Agenda.{items_of, settled, due_first};
+ghost use Rattle.spv_inst.specs.Flat.{OneOf, due};
 ghost use Rattle.spv_inst.specs.Sofar.{Sofar};
 
 use crate::agenda::{form_in, next_item};
+use crate::enumerant::{joined, mask_kinds, value_kinds};
 use crate::form::{Form, Leaf};
 use crate::operand::Operand;
-use spv_grammar::Item;
+use spv_grammar::{Item, Table};
 use spv_words::{Image, word};
 use std::alloc::AllocError;
 
 /// What is left of an instruction after some operands.
 #[derive(Clone, Copy, Debug)]
 pub struct Rest<'t> {
+    /// The kinds of parameters that are due first, in order.
+    pub kinds: &'t [u32],
     /// The items left of its pattern.
     pub items: &'t [Item],
     /// The number of the next word in the module, from 0.
     pub at: u32,
 }
 
-/// The operand that a word is, where a kind of that form is due and no word can bring anything after it: an id, a literal of
-/// one word, or a mask of no bits.
+/// The kind that is due next, and what is due after it.
+#[derive(Clone, Copy, Debug)]
+pub struct Next<'t> {
+    pub kind: u32,
+    /// The kinds of parameters that are due after it, in order.
+    pub kinds: &'t [u32],
+    /// The items left of the pattern.
+    pub items: &'t [Item],
+}
+
+/// An operand of one word, and the kinds of its parameters, which are due after it.
+#[derive(Clone, Copy, Debug)]
+struct Plain<'t, 'a> {
+    operand: Operand<'a>,
+    kinds: &'t [u32],
+}
+
+/// The next kind that is due of kinds in order and a pattern after them, where words are left (`more`) or not.
 #[inline(always)]
-fn plain_word<'a>(form: Form, kind: u32, word: u32) -> Option<Operand<'a>>
-    ensures { (G : Table) (c : Context) → form ≡ form_at (kind_of G kind) → IfSome result (λ o. Takes kind (shape_of G c (alone kind)) (plain_operand o) (word ∷ []) []) }
+pub fn next_kind<'t>(kinds: &'t [u32], items: &'t [Item], more: bool) -> Option<Next<'t>>
+    ensures { MatchOption result (settled more (due_first kinds.now items.now) ≡ [])
+        (λ n. settled more (due_first kinds.now items.now) ≡ OneOf (alone n.kind) ∷ due_first n.kinds.now n.items.now) }
+{
+    if let Some((kind, kinds)) = kinds.split_first() {
+        return Some(Next {
+            kind: *kind,
+            kinds,
+            items,
+        });
+    }
+    match next_item(items, more) {
+        Some((kind, items)) => Some(Next { kind, kinds, items }),
+        None => None,
+    }
+}
+
+/// The operand that a word is, where a kind of that form is due and asks for one word: an id, a literal of one word, a known
+/// value, or a mask of known bits of which no more than one has parameters.
+#[inline(always)]
+fn plain_word<'t, 'a>(table: &'t Table, form: Form, kind: u32, word: u32) -> Option<Plain<'t, 'a>>
+    ensures { (c : Context) → form ≡ form_at (kind_of table.now kind) → IfSome result (λ p. Takes kind (shape_of table.now c (alone kind)) (plain_operand p.operand) (word ∷ []) (map alone p.kinds.now)) }
 {
     let Form::Leaf(leaf) = form else {
         return None;
     };
+    let none: &'t [u32] = &[];
     match leaf {
-        Leaf::ResultType => Some(Operand::OfType(word)),
-        Leaf::Result => Some(Operand::Result(word)),
-        Leaf::Id => Some(Operand::Id(word)),
-        Leaf::Integer => Some(Operand::Word(word)),
-        Leaf::Word => Some(Operand::Word(word)),
-        Leaf::Mask => match word {
-            0 => Some(Operand::Mask { kind, value: 0 }),
-            _ => None,
-        },
-        Leaf::ContextNumber | Leaf::Text | Leaf::Value | Leaf::Nothing => None,
+        Leaf::ResultType => Some(Plain {
+            operand: Operand::OfType(word),
+            kinds: none,
+        }),
+        Leaf::Result => Some(Plain {
+            operand: Operand::Result(word),
+            kinds: none,
+        }),
+        Leaf::Id => Some(Plain {
+            operand: Operand::Id(word),
+            kinds: none,
+        }),
+        Leaf::Integer => Some(Plain {
+            operand: Operand::Word(word),
+            kinds: none,
+        }),
+        Leaf::Word => Some(Plain {
+            operand: Operand::Word(word),
+            kinds: none,
+        }),
+        Leaf::Value => {
+            let Some(kinds) = value_kinds(table, kind, word) else {
+                return None;
+            };
+            let operand = Operand::Value { kind, value: word };
+            Some(Plain { operand, kinds })
+        }
+        Leaf::Mask => {
+            let Some(kinds) = mask_kinds(table, kind, word) else {
+                return None;
+            };
+            let operand = Operand::Mask { kind, value: word };
+            Some(Plain { operand, kinds })
+        }
+        Leaf::ContextNumber | Leaf::Text | Leaf::Nothing => None,
     }
 }
 
 /// Takes the operands of one word at the front of the words from `first` up to `end`, both counted in words of the module
-/// from 0, by the items of a pattern, and adds them to a list. It stops before the first kind that asks for more
-/// (`plain_word`), or where no item or no word is left. Most instructions have no other operands.
+/// from 0, by the items of a pattern, and adds them to a list, with their parameters. It stops before the first kind that
+/// asks for more (`plain_word`), before an operand with parameters that is itself a parameter and not the last one, or where
+/// no kind or no word is left. Most instructions have no other operands.
 ///
 /// An `AllocError` comes only where a growth of memory was refused, and then nothing is said of what is left of the list.
 #[inline(always)]
 pub fn read_words<'t, 'a>(
+    table: &'t Table,
     forms: &[Form],
     image: &Image,
     operands: &mut Vec<Operand<'a>>,
@@ -68,25 +135,31 @@ pub fn read_words<'t, 'a>(
     requires order { first ≤ end }
     requires fits { end ≤ length image.now }
     // From the whole pattern and all words, the operands that are added bring the decoder to what is left.
-    ensures front { (G : Table) (c : Context) → forms.now ≡ map form_of G.kinds
-        → IfOk result (λ r. Sofar G c (map due (items_of items.now)) (between image.now first end) (plain_operands (drop (length operands.old.items) operands.new.items)) (map due (items_of r.items.now)) (between image.now r.at end) (r.at - first)) }
+    ensures front { (c : Context) → forms.now ≡ map form_of table.now.kinds
+        → IfOk result (λ r. Sofar table.now c (map due (items_of items.now)) (between image.now first end) (plain_operands (drop (length operands.old.items) operands.new.items)) (due_first r.kinds.now r.items.now) (between image.now r.at end) (r.at - first)) }
     ensures kept { IfOk result (λ _. take (length operands.old.items) operands.new.items ≡ operands.old.items) }
     ensures room { IfOk result (λ _. length operands.old.items ≤ length operands.new.items) }
     ensures few { IfOk result (λ r. length operands.new.items + first ≤ length operands.old.items + r.at) }
     ensures within { IfOk result (λ r. (first ≤ r.at) × (r.at ≤ end)) }
 {
+    let mut kinds: &'t [u32] = &[];
     let mut items = items;
     let mut at = first;
     while at < end {
-        let Some((kind, left)) = next_item(items, true) else {
-            return Ok(Rest { items, at });
+        let Some(next) = next_kind(kinds, items, true) else {
+            return Ok(Rest { kinds, items, at });
         };
-        let Some(operand) = plain_word(form_in(forms, kind), kind, word(image, at)) else {
-            return Ok(Rest { items, at });
+        let form = form_in(forms, next.kind);
+        let Some(plain) = plain_word(table, form, next.kind, word(image, at)) else {
+            return Ok(Rest { kinds, items, at });
         };
-        operands.push(operand)?;
-        items = left;
+        let Some(due) = joined(plain.kinds, next.kinds) else {
+            return Ok(Rest { kinds, items, at });
+        };
+        operands.push(plain.operand)?;
+        kinds = due;
+        items = next.items;
         at += 1;
     }
-    Ok(Rest { items, at })
+    Ok(Rest { kinds, items, at })
 }

@@ -7,16 +7,12 @@
 #![tactic(auto)]
 
 mod draft;
-#[cfg(test)]
-mod fakes;
 mod image;
 pub mod laws;
 mod limits;
 mod order;
 mod reading;
 mod stream;
-#[cfg(test)]
-mod tests;
 mod words;
 mod writing;
 

@@ -29,17 +29,17 @@ loop-at-init c =
       kept = rw e c.in_ok-rest.ensures.kept;
       few = omega arith;
       turn = λ b know.
-          let front = rw c.as_slice-items.ensures at (c.in_ok-rest.ensures.front G (start b p) c.requires.forms) in
+          let front = rw c.as_slice-items.ensures at (c.in_ok-rest.ensures.front (start b p) c.requires.forms) in
           let ty = rw (c.deref.ensures.value, e, v) at c.known_of-known.ensures.type_id in
           let fi = rw (c.deref.ensures.value, e, v) at c.known_of-known.ensures.first in
           rw e
-          (turn_from G scene.definitions.now c.known_of-known.result b p (pattern_of c.args.entry.now) scene.image.now c.args.place.first _ c.args.place.end _ _ _ wa wb front (c.start.ensures G) know c.known_of-known.ensures.opcode ty fi);
+          (turn_from G scene.definitions.now c.known_of-known.result b p (pattern_of c.args.entry.now) scene.image.now c.args.place.first _ c.args.place.end _ _ _ wa wb front (c.in_ok-resume.ensures G) know c.known_of-known.ensures.opcode ty fi);
     }
 
 pub returns-in-None-clause-read : goal.returns-in-None-clause-read
 returns-in-None-clause-read c = λ b know.
     let G = c.args.scene.now.table.now in
-    let front = rw c.as_slice-items.ensures at (c.in_ok-rest.ensures.front G (start b c.args.place.opcode) c.requires.forms) in
+    let front = rw c.as_slice-items.ensures at (c.in_ok-rest.ensures.front (start b c.args.place.opcode) c.requires.forms) in
     let l : c.args.place.end ≤ c.in_ok-rest.rest.at = omega arith in
     words_end G (start b c.args.place.opcode) (pattern_of c.args.entry.now) _ _ _ _ _ _ _ front l c.in-None.ensures
 

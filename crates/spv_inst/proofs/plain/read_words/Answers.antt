@@ -1,14 +1,17 @@
-use Rattle.std.proofs.Common.{◌≡◌, ◌++◌, ◌∷◌, [], ◌∙◌, length, drop, refl, ap, arith, length-append}
+use Rattle.std.proofs.Common.{◌≡◌, ◌++◌, ◌∷◌, [], ◌∙◌, length, drop, map, refl, ap, arith, length-append}
 use Rattle.std.proofs.lemmas.List.{take-append-le, drop-append-le}
 use Rattle.spv_inst.specs.Module.{plain_operands}
 use Rattle.spv_inst.proofs.Turns.{word_next, plain-push}
+use Rattle.spv_inst.specs.Agenda.{items_of}
+use Rattle.spv_inst.specs.Flat.{due}
+use Rattle.spv_inst.proofs.Opened.{due_joined}
 use Rattle.spv_inst.proofs.plain.read_words.Goals as goal
 
 pub loop-at-preserved : goal.loop-at-preserved
 loop-at-preserved c =
     let n = length c.args.operands.now.items in
     let os = c.loop-at.operands.items in
-    let o = c.in-Some-plain_word.operand in
+    let o = c.in-Some-plain_word.plain.operand in
     let i = c.in_ok-push.ensures.items in
     let r = c.loop-at.invariant.room in
     let f = c.loop-at.invariant.from in
@@ -22,7 +25,9 @@ loop-at-preserved c =
       room = rw i (omega arith);
       kept = rw (i, take-append-le n os (o ∷ []) r) c.loop-at.invariant.kept;
       few = rw i (omega arith);
-      front = λ G k e.
-          word_next G k _ _ _ _ _ _ c.in-Some.kind c.args.image.now c.args.first c.loop-at.at c.args.end _ _ (c.loop-at.invariant.front G k e) f t c.requires.fits c.in-Some.ensures c.word.ensures
-          (c.in-Some-plain_word.ensures G _ (c.form_in.ensures G e)) (rw i (pl ∙ plain-push (drop n os) _ o refl));
+      front = λ k e.
+          let G = c.args.table.now in
+          word_next G k _ _ _ _ _ _ _ c.in-Some.next.kind c.in-Some-plain_word.plain.kinds.now c.args.image.now c.args.first c.loop-at.at c.args.end _ _ (c.loop-at.invariant.front k e) f t c.requires.fits c.in-Some.ensures c.word.ensures
+          (c.in-Some-plain_word.ensures _ (c.form_in-form.ensures G e)) (rw i (pl ∙ plain-push (drop n os) _ o refl))
+          (due_joined c.in-Some-plain_word.plain.kinds.now c.in-Some.next.kinds.now c.in-Some-joined.due.now (map due (items_of c.in-Some.next.items.now)) c.in-Some-joined.ensures);
     }

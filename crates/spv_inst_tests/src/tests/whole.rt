@@ -1,8 +1,8 @@
 //! Whole modules, read and written.
 
 use super::{PROFILE, Trial, image};
-use crate::Operand::{Id, Text};
-use crate::{Module, Operand, decode, encode};
+use spv_inst::Operand::{Id, Text};
+use spv_inst::{Module, Operand, decode, encode};
 use spv_words::Header;
 use std::test::Fail;
 
@@ -62,5 +62,32 @@ fn encodes_what_decodes(rt: HostRuntime) -> Result<(), Fail> {
         again.insts[0].operands.as_slice(),
         [Text("abcd")].as_slice()
     );
+    Ok(())
+}
+
+/// Ids far past the number of definitions have their types and widths too.
+#[test]
+fn widths_of_far_ids(rt: HostRuntime) -> Result<(), Fail> {
+    let trial = Trial::new(rt.alloc(), PROFILE)?;
+    // %4000000001 = OpTypeInt 64 0; %4000000000 = OpUndef %4000000001; OpSwitch %4000000000 %3 0x200000007 %4
+    let words = [
+        0x4_0015,
+        4_000_000_001,
+        64,
+        0,
+        0x3_0001,
+        4_000_000_001,
+        4_000_000_000,
+        0x6_00fb,
+        4_000_000_000,
+        3,
+        7,
+        2,
+        4,
+    ];
+    let image = image(rt.alloc(), &words)?;
+    let module = decode(rt.alloc(), &trial.table, &image)?;
+    assert_eq!(rt; module.insts.len(), 3);
+    assert_eq!(rt; module.insts[2].operands.len(), 4);
     Ok(())
 }

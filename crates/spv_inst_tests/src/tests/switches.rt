@@ -1,8 +1,8 @@
 //! Pairs, and the numbers of a switch.
 
 use super::{PROFILE, Trial, fails, number, reads};
-use crate::Operand::{Id, OfType, Word};
-use crate::{Operand, Rule};
+use spv_inst::Operand::{Id, OfType, Word};
+use spv_inst::{Operand, Rule};
 use std::test::Fail;
 
 #[test]

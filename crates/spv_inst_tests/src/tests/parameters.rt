@@ -1,8 +1,8 @@
 //! Parameters, which follow a value or a mask.
 
 use super::{Trial, fails, mask, reads, value};
-use crate::Operand::{Id, Text, Word};
-use crate::Rule;
+use spv_inst::Operand::{Id, Text, Word};
+use spv_inst::Rule;
 use std::test::Fail;
 
 /// A mask whose greater bit stands first.

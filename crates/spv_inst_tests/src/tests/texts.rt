@@ -1,8 +1,8 @@
 //! Texts: four octets to a word, the first the lowest, and a zero octet at the end.
 
 use super::{PROFILE, Trial, fails, reads, value};
-use crate::Operand::{Id, Text, Word};
-use crate::Rule;
+use spv_inst::Operand::{Id, Text, Word};
+use spv_inst::Rule;
 use std::test::Fail;
 
 #[test]

@@ -1,8 +1,8 @@
 //! Modules that are put together and written, and those that no words spell.
 
 use super::{PROFILE, Trial, mask, number, octets, value};
-use crate::Operand::{Id, OfType, Text, Word};
-use crate::{EncodeCode, EncodeError, Module, Operand, encode};
+use spv_inst::Operand::{Id, OfType, Text, Word};
+use spv_inst::{EncodeCode, EncodeError, Module, Operand, encode};
 use spv_words::Header;
 use std::test::Fail;
 

@@ -1,8 +1,8 @@
 //! Numbers, whose type tells how many words they take.
 
 use super::{PROFILE, Trial, fails, number, reads};
-use crate::Operand::OfType;
-use crate::{Operand, Rule};
+use spv_inst::Operand::OfType;
+use spv_inst::{Operand, Rule};
 use std::test::Fail;
 
 #[test]

@@ -3,14 +3,15 @@
 
 mod encoding;
 mod enumerants;
+mod module;
 mod numbers;
 mod parameters;
 mod switches;
 mod texts;
 mod whole;
 
-use crate::{Fault, Operand, Rule, Stop, decode};
 use spv_grammar::Table;
+use spv_inst::{Fault, Operand, Rule, Stop, decode};
 use spv_words::{FromRead, Image, read_image};
 use std::alloc::Global;
 use std::test::Fail;

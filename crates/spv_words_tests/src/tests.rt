@@ -1,5 +1,8 @@
-use super::*;
 use crate::fakes::{Pieces, Shelf, Trouble};
+use spv_words::{
+    Failed, FromRead, FromWrite, Header, Image, Order, WordError, laws, read_image, word,
+    write_all, write_image,
+};
 use std::alloc::Global;
 use std::test::Fail;
 

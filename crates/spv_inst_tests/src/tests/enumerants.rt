@@ -1,8 +1,8 @@
 //! Values and masks, by the enumerants that their kind has, and kinds of other categories.
 
 use super::{PROFILE, Trial, fails, mask, reads, value};
-use crate::Operand::{Id, OfType, Word};
-use crate::{Operand, Rule};
+use spv_inst::Operand::{Id, OfType, Word};
+use spv_inst::{Operand, Rule};
 use std::test::Fail;
 
 /// The number of K, which is the first kind of its grammar.
