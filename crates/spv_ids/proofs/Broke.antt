@@ -27,9 +27,10 @@ use Rattle.spv_ids.proofs.Defining.{below_or, defined_within, same_inst}
 use Rattle.spv_ids.proofs.Leasts.{faulty_stage, has_all, used_all}
 use Rattle.spv_ids.proofs.Scopes.{least_range}
 use Rattle.spv_ids.proofs.Used.{no_result_at_end, use_told, told_use}
+use Rattle.spv_ids.proofs.Starts.{are_early}
 
 pub places_of : (G : Table) (is : List PlainInst) (places : List Place) → IsPlan G is places → ArePlaces is places
-places_of G is places p = record { count = p.count; place = p.place; ends = no_result_at_end G is p.fits }
+places_of G is places p = record { count = p.count; place = p.place; early = are_early G is p.fits; ends = no_result_at_end G is p.fits }
 
 bad_faulty : (G : Table) (bound : ℕ) (is : List PlainInst) (n k x : ℕ) (u : Role) (r : Rule) → IsUsedAt G is n k x u → IsBadUse bound is n x r → IsFaulty bound is n r
 bad_faulty G bound is n k x u r w b = IsFaulty.by_use (k + 1) r (record { id = x; used = use_told G is n k x u w; bad = b })

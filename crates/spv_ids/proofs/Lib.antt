@@ -7,4 +7,5 @@ mod Leasts
 mod Broke
 mod Scopes
 mod Used
+mod Starts
 mod Sound

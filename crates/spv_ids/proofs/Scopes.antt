@@ -18,9 +18,9 @@ use Rattle.spv_ids.specs.Broken.{IsOutOfRange}
 use Rattle.spv_ids.specs.Notes.{kept}
 use Rattle.spv_ids.specs.Known.{IsHome, IsHomeOf, IsFunctionOf, IsOneBefore, IsLaterOne, IsAnnouncedBefore, AreAnnounced}
 use Rattle.spv_ids.specs.Test.{lower_test, early_test, home_test, scope_test}
-use Rattle.spv_ids.specs.Faulty.{IsBadUse}
+use Rattle.spv_ids.specs.Faulty.{IsBadUse, IsLeast}
 use Rattle.spv_ids.specs.Survey.{IsSurvey, IsSite, insts_of}
-use Rattle.spv_ids.proofs.Bools.{and_first, and_second, and_both, or_either, or_first, or_second, eq_tells, ne_tells, eq_yes, lt_tells, ge_tells, some_tells, none_tells, holds}
+use Rattle.spv_ids.proofs.Bools.{and_first, and_second, and_both, or_either, or_first, or_second, eq_tells, ne_tells, eq_yes, lt_tells, ge_tells, some_tells, none_tells, holds, match_true}
 use Rattle.spv_ids.proofs.Defining.{same_inst, defined_within}
 use Rattle.spv_ids.proofs.Homes.{home_same, home_of_local, local_to, between, home_within}
 
@@ -185,26 +185,28 @@ some_by_later s x v h = some_later (insts_of s) s.end (length (insts_of s)) x (k
 
 -- A use whose definition is lower, and local to no function or of the same one.
 
-plain_use : (s : Survey) (site : Site) (x m : ℕ) → IsSurvey s → IsSite s site → kept s.firsts.now x ≡ Some m → m < site.inst → (IsLocal (insts_of s) x → IsInScope (insts_of s) site.inst x)
-    → (q : Rule) → ¬ (IsBadUse s.bound (insts_of s) site.inst x q)
-plain_use s site x m v i e l c =
+plain_use : (s : Survey) (n x m : ℕ) → IsSurvey s → kept s.firsts.now x ≡ Some m → m < n → (IsLocal (insts_of s) x → IsInScope (insts_of s) n x) → (q : Rule) → ¬ (IsBadUse s.bound (insts_of s) n x q)
+plain_use s n x m v e l c =
     let is = insts_of s in
     let d = first_there is s.end x m (kept s.firsts.now x) (v.firsts.one x) e in
     let b = first_below is s.end x m (kept s.firsts.now x) (v.firsts.one x) e in
-    no_bad s.bound is site.inst x (v.firsts.range m x b d) m d (λ o. IsInOrder.lower m l d) (λ o. c)
+    no_bad s.bound is n x (v.firsts.range m x b d) m d (λ o. IsInOrder.lower m l d) (λ o. c)
 
-pub plain_global : (s : Survey) (site : Site) (x m : ℕ) → IsSurvey s → IsSite s site → kept s.firsts.now x ≡ Some m → m < site.inst → m < s.globals → (q : Rule) → ¬ (IsBadUse s.bound (insts_of s) site.inst x q)
-plain_global s site x m v i e l g =
+pub plain_global : (s : Survey) (n x m : ℕ) → IsSurvey s → kept s.firsts.now x ≡ Some m → m < n → m < s.globals → (q : Rule) → ¬ (IsBadUse s.bound (insts_of s) n x q)
+plain_global s n x m v e l g =
     let is = insts_of s in
     let d = first_there is s.end x m (kept s.firsts.now x) (v.firsts.one x) e in
-    plain_use s site x m v i e l (λ c. absurd (v.globals.none m x g d c))
+    plain_use s n x m v e l (λ c. absurd (v.globals.none m x g d c))
 
-pub plain_function : (s : Survey) (site : Site) (x m f : ℕ) → IsSurvey s → IsSite s site → kept s.firsts.now x ≡ Some m → m < site.inst → f < m → site.function ≡ Some f → (q : Rule) → ¬ (IsBadUse s.bound (insts_of s) site.inst x q)
-plain_function s site x m f v i e l g h =
+pub plain_function : (s : Survey) (n x m f : ℕ) → IsSurvey s → kept s.firsts.now x ≡ Some m → m < n → f < m → IsOfFunction (insts_of s) n f → (q : Rule) → ¬ (IsBadUse s.bound (insts_of s) n x q)
+plain_function s n x m f v e l g o =
     let is = insts_of s in
     let d = first_there is s.end x m (kept s.firsts.now x) (v.firsts.one x) e in
-    let o = rw h at i.function in
-    plain_use s site x m v i e l (λ c. in_scope is site.inst x m f d (home_within is m site.inst f g l o) o)
+    plain_use s n x m v e l (λ c. in_scope is n x m f d (home_within is m n f g l o) o)
+
+-- the rule of a use by the same instruction
+pub least_use_at : (bound : ℕ) (is : List PlainInst) (m n x : ℕ) (o : Option Rule) → m ≡ n → IsLeast (IsBadUse bound is m x) o → IsLeast (IsBadUse bound is n x) o
+least_use_at bound is m n x o e h = rw (← e) h
 
 -- Tests of order.
 
@@ -351,3 +353,32 @@ pub order_by : (s : Survey) (site : Site) (d : Notes) (x : ℕ) (b : Bool) → I
     → MatchBool b (IsOrdered (insts_of s) site.inst → IsInOrder (insts_of s) site.inst x) (IsOrdered (insts_of s) site.inst × ¬ (IsInOrder (insts_of s) site.inst x))
 order_by s site d x true v i a o l e = λ c. order_early s site d x i a (sym e)
 order_by s site d x false v i a o l e = (o, order_late s site d x v i a l (sym e))
+
+-- A use that is sound by the function of its only definition.
+
+pub sound_use : (s : Survey) (n x m : ℕ) → IsSurvey s → kept s.firsts.now x ≡ Some m → (IsOrdered (insts_of s) n → ⊥) → (IsScoped (insts_of s) n → IsLocal (insts_of s) x → IsInScope (insts_of s) n x)
+    → (q : Rule) → ¬ (IsBadUse s.bound (insts_of s) n x q)
+sound_use s n x m v e o c =
+    let is = insts_of s in
+    let d = first_there is s.end x m (kept s.firsts.now x) (v.firsts.one x) e in
+    let b = first_below is s.end x m (kept s.firsts.now x) (v.firsts.one x) e in
+    no_bad s.bound is n x (v.firsts.range m x b d) m d (λ h. absurd (o h)) c
+
+pub sound_place : (s : Survey) (x m : ℕ) → IsSurvey s → kept s.firsts.now x ≡ Some m → IsDefinedAt (insts_of s) x m
+sound_place s x m v e = defined_first s x m v e
+
+none_later : (is : List PlainInst) (e to x : ℕ) (o : Option ℕ) → to ≤ e → IsLaterOne is e to x o → o ≡ None
+none_later is e to x None l f = refl
+none_later is e to x (Some m) l f = let a = f.above in let b = f.below in absurd (omega arith)
+
+pub sound_scope : (s : Survey) (site : Site) (x m : ℕ) (a : Option ℕ) (r : Bool) → IsSurvey s → IsSite s site → kept s.firsts.now x ≡ Some m → length (insts_of s) ≤ s.end
+    → MatchOption a ((f : ℕ) → ¬ (IsHome (insts_of s) m f)) (λ f. IsHome (insts_of s) m f) → r ≡ scope_test site.function a None → r ≡ true → IsScoped (insts_of s) site.inst → IsLocal (insts_of s) x → IsInScope (insts_of s) site.inst x
+sound_scope s site x m a r v i e l h t q c =
+    let is = insts_of s in
+    let p : IsHomeOf is (kept s.firsts.now x) a = rw e (home_some is m a h) in
+    let g : kept s.later.now x ≡ None = none_later is s.end (length is) x (kept s.later.now x) l (v.later.each x) in
+    let n : IsHomeOf is (kept s.later.now x) None = rw g (home_none is) in
+    match_true _ _ r q (scope_tells s site x a None r v i p n t c) c
+
+pub bad_use_at : (bound : ℕ) (is : List PlainInst) (m n x : ℕ) (q : Rule) → m ≡ n → IsBadUse bound is n x q → IsBadUse bound is m x q
+bad_use_at bound is m n x q e b = rw e b

@@ -56,7 +56,7 @@ row_ends r = not (is_among r.class (FunctionEnd ∷ [])) || (is_nil r.fixed && i
 row_apart : PlainRow → Bool
 row_apart r = (nat_eq r.from 12 && nat_eq r.to 12) || row_seen r
 
-all_rows : (PlainRow → Bool) → List PlainRow → Bool
+unfoldable pub all_rows : (PlainRow → Bool) → List PlainRow → Bool
 all_rows p [] = true
 all_rows p (r ∷ rs) = p r && all_rows p rs
 
@@ -94,7 +94,7 @@ row_by p s r rs n true f y k g =
     rw q at t
 row_by p s r rs n false f y k g = k g
 
-row_tells : (p : PlainRow → Bool) (rs : List PlainRow) (n : ℕ) (r : PlainRow) → all_rows p rs ≡ true → row_in rs n ≡ Some r → HasRow p n r
+pub row_tells : (p : PlainRow → Bool) (rs : List PlainRow) (n : ℕ) (r : PlainRow) → all_rows p rs ≡ true → row_in rs n ≡ Some r → HasRow p n r
 unfolding all_rows
 row_tells p [] n r a h = cc
 row_tells p (s ∷ rs) n r a h =

@@ -1,5 +1,5 @@
 -- Numbers that are kept of ids. (For the code alone.)
-use Rattle.std.specs.Prelude.{ℕ, zero, suc, Option, Some, None, slice_index}
+use Rattle.std.specs.Prelude.{ℕ, zero, suc, Option, Some, None, nat_lt, if◌then◌else◌, length, slice_index}
 use Rattle.std.specs.Ordering.{nat_cmp}
 use Rattle.std.specs.BTreeMap.{get}
 use Rattle.spv_ids.specs.declared.notes.Notes.{Notes}
@@ -9,10 +9,6 @@ abbrev pub number_in : ℕ → Option ℕ
 number_in zero = None
 number_in (suc n) = Some n
 
--- what is kept of an id: what its place in the list says, or where that says nothing, what the map has
-abbrev pub or_far : Option ℕ → Option ℕ → Option ℕ
-or_far (Some n) other = Some n
-or_far None other = other
-
+-- what is kept of an id: what its place in the list says, or past the list what the map has
 abbrev pub kept : Notes → ℕ → Option ℕ
-kept notes x = or_far (number_in (slice_index notes.near.items x)) (get nat_cmp notes.far x)
+kept notes x = if nat_lt x (length notes.near.items) then number_in (slice_index notes.near.items x) else get nat_cmp notes.far x

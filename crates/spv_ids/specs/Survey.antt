@@ -10,12 +10,14 @@ use Rattle.spv_ids.specs.declared.survey.Survey.{Survey}
 use Rattle.spv_ids.specs.declared.survey.Site.{Site}
 use Rattle.spv_ids.specs.Definition.{IsDefinedAt, IsLocal}
 use Rattle.spv_ids.specs.Order.{HasOpcode}
+use Rattle.spv_ids.specs.Uses.{AreEarly}
 use Rattle.spv_ids.specs.Known.{AreFirst, AreLater, IsFunctionOf}
 
--- The places are those of the instructions, none of which has a result at the end of a function.
+-- The places are those of the instructions, which have their results early, and none at the end of a function.
 pub record ArePlaces (is : List PlainInst) (places : List Place) : Type 0 where
   pub count : length places ≡ length is
   pub place : (n : ℕ) (p : Place) → slice_get places n ≡ Some p → IsPlaceOf is n p
+  pub early : AreEarly is
   pub ends : (n x : ℕ) → IsDefinedAt is x n → ¬ (IsAt is n (FunctionEnd ∷ []))
 
 -- An id that an instruction before n defines is local to no function.

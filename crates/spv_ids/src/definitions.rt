@@ -3,12 +3,14 @@
 ghost use Rattle.std.specs.Prelude.{◌≡◌, ◌<◌, ◌≤◌, ◌↔◌, ℕ, List, length, map, ◌+◌, IfOk, OnOk, IsTrue, MatchOption, MatchBool, Some, slice_get};
 ghost use Rattle.spv_inst.specs.Operand.{PlainInst};
 ghost use Rattle.spv_inst.specs.Module.{plain_inst};
+ghost use Rattle.spv_layout.specs.Place.{IsOfFunction};
 ghost use Rattle.spv_ids.specs.Definition.{IsDefinedAt};
 ghost use Rattle.spv_ids.specs.Broken.{IsOutOfRange};
+ghost use Rattle.spv_ids.specs.Uses.{AreEarly};
 ghost use Rattle.spv_ids.specs.Known.{AreFirst, AreLater, IsEnd, IsHome, IsAsLocal, IsFunctionOf};
 ghost use Rattle.spv_ids.specs.Survey.{ArePlaces};
 
-use crate::notes::Notes;
+use crate::notes::{NONE, Notes};
 use crate::uses::result_of;
 use spv_inst::Inst;
 use spv_layout::Plan;
@@ -31,12 +33,16 @@ pub fn is_out_of_range(bound: u32, id: u32) -> bool
     id == 0 || bound <= id
 }
 
-/// How many instructions have a result.
-pub fn count_results(insts: &[Inst<'_>]) -> usize
+/// How many instructions have a result, or `most` where more of them have one.
+#[inline(never)]
+pub fn count_results(insts: &[Inst<'_>], most: usize) -> usize
     ensures { result ≤ length insts.now }
 {
     let mut count = 0;
     for inst in insts {
+        if count == most {
+            return count;
+        }
         if result_of(inst).is_some() {
             count += 1;
         }
@@ -48,13 +54,15 @@ pub fn count_results(insts: &[Inst<'_>]) -> usize
 /// in a list.
 ///
 /// An `AllocError` comes only where a growth of memory was refused.
+#[inline(never)]
 pub fn first_definitions(
     alloc: Global,
     insts: &[Inst<'_>],
     bound: u32,
     places: usize,
 ) -> Result<Firsts, AllocError>
-    requires { length insts.now ≤ 4194304 }
+    requires most { length insts.now ≤ 4194304 }
+    requires results { AreEarly (map plain_inst insts.now) }
     ensures firsts { IfOk result (λ f. AreFirst bound (map plain_inst insts.now) f.end f.definitions) }
     ensures end { IfOk result (λ f. IsEnd bound (map plain_inst insts.now) f.end) }
     ensures within { IfOk result (λ f. f.end ≤ length insts.now) }
@@ -78,7 +86,30 @@ pub fn first_definitions(
     })
 }
 
+/// The function that an instruction is of.
+#[inline(always)]
+pub fn function_of(plan: &Plan, inst: u32) -> Option<u32>
+    ensures { (is : List PlainInst) → ArePlaces is plan.now → IsFunctionOf is inst result }
+{
+    match plan.at(inst) {
+        Some(place) => place.function,
+        None => None,
+    }
+}
+
+/// The function that an instruction is of, or `NONE`.
+#[inline(always)]
+pub fn floor_of(plan: &Plan, inst: u32) -> u32
+    ensures { (is : List PlainInst) → ArePlaces is plan.now → result < 4294967295 → IsOfFunction is inst result }
+{
+    match function_of(plan, inst) {
+        Some(function) => function,
+        None => NONE,
+    }
+}
+
 /// The function in which an instruction stands, after its OpFunction.
+#[inline(always)]
 pub fn home(plan: &Plan, inst: u32) -> Option<u32>
     ensures { (is : List PlainInst) → (x : ℕ) → ArePlaces is plan.now → IsDefinedAt is x inst → MatchOption result ((f : ℕ) → ¬ (IsHome is inst f)) (λ f. IsHome is inst f) }
 {
@@ -136,6 +167,7 @@ fn keep_later(
 /// how many small ids are kept in a list.
 ///
 /// An `AllocError` comes only where a growth of memory was refused.
+#[inline(never)]
 pub fn later_definitions(
     alloc: Global,
     insts: &[Inst<'_>],

@@ -98,7 +98,8 @@ pub fn number(alloc: Global, module: &Module<'_>, plan: &Plan) -> Result<Ids, St
 {
     let insts = module.insts.as_slice();
     let bound = module.header.bound;
-    let places = (2 * count_results(insts)).min(bound as usize);
+    let count = count_results(insts, bound as usize / 2 + 1);
+    let places = (2 * count).min(bound as usize);
     let firsts = first_definitions(alloc, insts, bound, places)?;
     let later = later_definitions(alloc, insts, plan, firsts.end, places)?;
     let survey = Survey {

@@ -2,9 +2,9 @@
 
 ghost use Rattle.std.specs.Prelude.{◌≡◌, ℕ, List, [], ◌∷◌};
 ghost use Rattle.spv_inst.specs.Example.{small};
-ghost use Rattle.spv_inst.specs.declared.fault.Rule.TheVariants.{D1, D2, D3};
+ghost use Rattle.spv_inst.specs.declared.fault.Rule.TheVariants.{D1, D2, D3, D4, D5};
 ghost use Rattle.spv_ids.specs.Example.{void, of_void};
-ghost use Rattle.spv_ids.specs.Order.{IsInOrder};
+ghost use Rattle.spv_ids.specs.Order.{IsInOrder, IsInScope};
 ghost use Rattle.spv_grammar.specs.Table.{Table};
 ghost use Rattle.spv_inst.specs.Operand.{PlainInst};
 ghost use Rattle.spv_inst.specs.declared.fault.Rule.{Rule};
@@ -43,6 +43,10 @@ pub fn id_examples()
     ensures undefined { Broken small 5 (of_void ∷ []) D3 0 }
     ensures in_order { IsInOrder (void 1 ∷ of_void ∷ []) 1 1 }
     ensures not_in_order { ¬ (IsInOrder (of_void ∷ void 1 ∷ []) 0 1) }
-    // A type is local to no function.
+    ensures early { Broken small 5 (of_void ∷ void 1 ∷ []) D4 0 }
+    ensures not_early { (n : ℕ) → ¬ (Broken small 5 (void 1 ∷ of_void ∷ []) D4 n) }
+    // A type is local to no function, and its use is in none.
     ensures not_local { ¬ (IsLocal (void 1 ∷ of_void ∷ []) 1) }
+    ensures not_in_scope { ¬ (IsInScope (void 1 ∷ of_void ∷ []) 1 1) }
+    ensures not_outside { (n : ℕ) → ¬ (Broken small 5 (void 1 ∷ of_void ∷ []) D5 n) }
 {}

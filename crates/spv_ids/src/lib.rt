@@ -6,8 +6,6 @@ mod ids;
 pub mod laws;
 mod notes;
 mod survey;
-#[cfg(test)]
-mod tests;
 mod uses;
 
 pub use ids::{Ids, number};

@@ -6,7 +6,7 @@ ghost use Rattle.spv_inst.specs.Module.{plain_inst, plain_operands};
 ghost use Rattle.spv_inst.specs.declared.fault.Rule.{Rule};
 ghost use Rattle.spv_inst.specs.declared.fault.Rule.TheVariants.{D1};
 ghost use Rattle.spv_layout.specs.First.{stage_of, rank_of};
-ghost use Rattle.spv_layout.specs.Place.{IsOfSection};
+ghost use Rattle.spv_layout.specs.Place.{IsOfFunction, IsOfSection};
 ghost use Rattle.spv_ids.specs.declared.survey.Survey as declared;
 ghost use Rattle.spv_ids.specs.Definition.{IsDefinedAt, IsLocal};
 ghost use Rattle.spv_ids.specs.Order.{IsInOrder, IsInScope, IsOrdered, IsScoped};
@@ -19,7 +19,7 @@ ghost use Rattle.spv_ids.specs.Uses.{AreSeen};
 ghost use Rattle.spv_ids.specs.Faulty.{IsBadUse, HasBadUse, IsFaulty, IsLeast, IsEarlier, AreClean, IsFirstFault};
 ghost use Rattle.spv_ids.specs.Survey.{ArePlaces, IsSurvey, IsSite, insts_of};
 
-use crate::definitions::{home, is_out_of_range};
+use crate::definitions::{floor_of, home, is_out_of_range};
 use crate::notes::Notes;
 use crate::uses::{result_of, seen, used_id};
 use spv_inst::{Inst, Operand, Rule};
@@ -236,8 +236,8 @@ impl<'m, 'a> Survey<'m, 'a> {
         is_scope(site.function, first, later)
     }
 
-    /// The first rule that a use breaks, where it is not plainly in order and in scope.
-    fn slow_fault(
+    /// The first rule that a use breaks.
+    fn site_fault(
         &self,
         site: &Site,
         announced: &Notes,
@@ -265,55 +265,107 @@ impl<'m, 'a> Survey<'m, 'a> {
         None
     }
 
-    /// Whether a use is plainly sound: its definition is lower, and local to no function or in the same function.
-    #[inline(always)]
-    fn is_plain(&self, site: &Site, first: Option<u32>) -> bool
+    /// The first rule that a use by an instruction breaks.
+    #[inline(never)]
+    fn slow_fault(&self, inst: u32, announced: &Notes, id: u32) -> Option<Rule>
         requires survey { IsSurvey self.now }
-        requires site { IsSite self.now site.now }
-        ensures { (x : ℕ) → first ≡ kept self.now.firsts.now x → IsTrue result → (q : Rule) → ¬ (IsBadUse self.now.bound (insts_of self.now) site.now.inst x q) }
+        requires below { inst < self.now.end }
+        requires announced { AreAnnounced (insts_of self.now) inst announced.now }
+        ensures { IsLeast (IsBadUse self.now.bound (insts_of self.now) inst id) result }
     {
-        let Some(definition) = first else {
-            return false;
-        };
-        if definition >= site.inst {
+        let site = self.site(inst);
+        self.site_fault(&site, announced, id, self.firsts.get(id))
+    }
+
+    /// Whether a use is plainly sound: its definition is lower, and local to no function or in the function of the
+    /// instruction, `floor`.
+    #[inline(always)]
+    fn is_plain(&self, inst: u32, floor: u32, definition: u32) -> bool
+        requires survey { IsSurvey self.now }
+        requires below { inst < self.now.end }
+        requires floor { floor < 4294967295 → IsOfFunction (insts_of self.now) inst floor }
+        ensures { (x : ℕ) → (definition < 4294967295 → kept self.now.firsts.now x ≡ Some definition) → IsTrue result → (q : Rule) → ¬ (IsBadUse self.now.bound (insts_of self.now) inst x q) }
+    {
+        if definition >= inst {
             return false;
         }
         if definition < self.globals {
             return true;
         }
-        match site.function {
-            Some(function) => function < definition,
-            None => false,
-        }
+        floor < definition
     }
 
-    /// The first rule that a use of an id breaks.
+    /// Whether no result is out of range or has an earlier definition.
     #[inline(always)]
-    fn use_fault(&self, site: &Site, announced: &Notes, id: u32) -> Option<Rule>
-        requires survey { IsSurvey self.now }
-        requires site { IsSite self.now site.now }
-        requires announced { AreAnnounced (insts_of self.now) site.now.inst announced.now }
-        ensures { IsLeast (IsBadUse self.now.bound (insts_of self.now) site.now.inst id) result }
+    fn is_whole(&self) -> bool
+        ensures { IsTrue result → length self.now.insts.now ≤ self.now.end }
     {
-        let first = self.firsts.get(id);
-        if self.is_plain(site, first) {
+        self.insts.len() <= self.end as usize
+    }
+
+    /// Whether a use is sound by the function of its only definition.
+    #[inline(always)]
+    fn is_sound(&self, inst: u32, definition: u32) -> bool
+        requires survey { IsSurvey self.now }
+        requires below { inst < self.now.end }
+        ensures { (x : ℕ) → (definition < 4294967295 → kept self.now.firsts.now x ≡ Some definition) → IsTrue result → (q : Rule) → ¬ (IsBadUse self.now.bound (insts_of self.now) inst x q) }
+    {
+        if definition >= self.end {
+            return false;
+        }
+        if !self.is_whole() {
+            return false;
+        }
+        let site = self.site(inst);
+        if is_ordered(site.section) {
+            return false;
+        }
+        if !is_scoped(site.section) {
+            return true;
+        }
+        let own = home(self.plan, definition);
+        is_scope(site.function, own, None)
+    }
+
+    /// The first rule that a use of an id breaks, by an instruction of the function `floor`.
+    #[inline(always)]
+    fn use_fault(&self, inst: u32, floor: u32, announced: &Notes, id: u32) -> Option<Rule>
+        requires survey { IsSurvey self.now }
+        requires below { inst < self.now.end }
+        requires floor { floor < 4294967295 → IsOfFunction (insts_of self.now) inst floor }
+        requires announced { AreAnnounced (insts_of self.now) inst announced.now }
+        ensures { IsLeast (IsBadUse self.now.bound (insts_of self.now) inst id) result }
+    {
+        let definition = self.firsts.mark(id);
+        if self.is_plain(inst, floor, definition) {
             return None;
         }
-        self.slow_fault(site, announced, id, first)
+        if self.is_sound(inst, definition) {
+            return None;
+        }
+        self.slow_fault(inst, announced, id)
     }
 
-    /// The first rule that a use among operands breaks.
-    fn uses_fault(&self, site: &Site, announced: &Notes, operands: &[Operand<'_>]) -> Option<Rule>
+    /// The first rule that a use among operands breaks, by an instruction of the function `floor`.
+    #[inline(always)]
+    fn uses_fault(
+        &self,
+        inst: u32,
+        floor: u32,
+        announced: &Notes,
+        operands: &[Operand<'_>],
+    ) -> Option<Rule>
         requires survey { IsSurvey self.now }
-        requires site { IsSite self.now site.now }
-        requires announced { AreAnnounced (insts_of self.now) site.now.inst announced.now }
-        requires operands { AreSeen (insts_of self.now) site.now.inst (plain_operands operands.now) }
-        ensures { IsLeast (HasBadUse self.now.bound (insts_of self.now) site.now.inst (length operands.now)) result }
+        requires below { inst < self.now.end }
+        requires floor { floor < 4294967295 → IsOfFunction (insts_of self.now) inst floor }
+        requires announced { AreAnnounced (insts_of self.now) inst announced.now }
+        requires operands { AreSeen (insts_of self.now) inst (plain_operands operands.now) }
+        ensures { IsLeast (HasBadUse self.now.bound (insts_of self.now) inst (length operands.now)) result }
     {
         let mut least = None;
         for operand in operands {
             if let Some(id) = used_id(*operand) {
-                if let Some(rule) = self.use_fault(site, announced, id) {
+                if let Some(rule) = self.use_fault(inst, floor, announced, id) {
                     least = Some(earlier(least, rule));
                 }
             }
@@ -378,6 +430,7 @@ impl<'m, 'a> Survey<'m, 'a> {
     /// The first broken rule of the module.
     ///
     /// An `AllocError` comes only where a growth of memory was refused.
+    #[inline(never)]
     pub fn first_fault(&self, alloc: Global) -> Result<Option<Found>, AllocError>
         requires survey { IsSurvey self.now }
         requires end { IsEnd self.now.bound (insts_of self.now) self.now.end }
@@ -387,8 +440,8 @@ impl<'m, 'a> Survey<'m, 'a> {
         let mut announced = Notes::new(alloc, 0)?;
         for n in 0..self.end {
             let inst = &self.insts[n as usize];
-            let site = self.site(n);
-            if let Some(rule) = self.uses_fault(&site, &announced, seen(inst)) {
+            let floor = floor_of(self.plan, n);
+            if let Some(rule) = self.uses_fault(n, floor, &announced, seen(inst)) {
                 return Ok(Some(Found { rule, inst: n }));
             }
             announce(&mut announced, inst, n)?;

@@ -1,8 +1,7 @@
 //! Which operands of an instruction are uses.
 
-ghost use Rattle.std.specs.Prelude.{◌≡◌};
+ghost use Rattle.std.specs.Prelude.{◌≡◌, slice_get};
 ghost use Rattle.spv_inst.specs.Module.{plain_inst, plain_operand, plain_operands};
-ghost use Rattle.spv_inst.specs.Operand as operand;
 ghost use Rattle.spv_ids.specs.Uses as uses;
 
 use spv_inst::{Inst, Operand};
@@ -35,14 +34,25 @@ pub fn used_id(operand: Operand<'_>) -> Option<u32>
     }
 }
 
-/// The result of an instruction.
-pub fn result_of(inst: &Inst<'_>) -> Option<u32>
-    ensures { result ≡ operand.result_in (plain_inst inst.now).operands }
+/// The operand at a place, if it is a result.
+#[inline(always)]
+fn result_at(operands: &[Operand<'_>], n: usize) -> Option<u32>
+    ensures { result ≡ uses.result_at (slice_get (plain_operands operands.now) n) }
 {
-    for operand in inst.operands.as_slice() {
-        if let Operand::Result(id) = *operand {
-            return Some(id);
-        }
+    match operands.get(n) {
+        Some(Operand::Result(id)) => Some(*id),
+        _ => None,
     }
-    None
+}
+
+/// The result of an instruction that fits its row: its first or second operand.
+#[inline(always)]
+pub fn result_of(inst: &Inst<'_>) -> Option<u32>
+    ensures { result ≡ uses.early_result (plain_inst inst.now).operands }
+{
+    let operands = inst.operands.as_slice();
+    match result_at(operands, 0) {
+        Some(id) => Some(id),
+        None => result_at(operands, 1),
+    }
 }

@@ -2,18 +2,19 @@
 use Rattle.std.proofs.Common.{◌≡◌, ◌≢◌, ◌≤◌, ◌∙◌, ◌++◌, ℕ, suc, nat_eq, arith, List, [], ◌∷◌, refl, sym, ap, Bool, true, false, IsTrue, ◌&&◌, ◌||◌, ◌⊎◌, inl, inr, Option, Some, None, length, take, drop, map, ◌<◌, ◌↔◌}
 use Rattle.std.proofs.lemmas.Bool.Decides.{eqb_tells}
 use Rattle.std.proofs.Math.ListN.{drop_of_length-le}
-use Rattle.std.proofs.lemmas.List.{length-drop, length-take, take-map, drop-map}
+use Rattle.std.proofs.lemmas.List.{length-drop, length-take, take_all, take-map, drop-map}
 use Rattle.spv_inst.specs.declared.operand.Operand.{Operand}
 use Rattle.spv_inst.specs.Module.{plain_operand}
 use Rattle.spv_grammar.specs.Table.{Table}
 use Rattle.spv_inst.specs.Operand.{Plain, PlainInst}
+use Rattle.spv_inst.specs.Operand as operand
 use Rattle.spv_layout.specs.declared.form.Role.TheVariants as role
 use Rattle.spv_layout.specs.declared.form.Form.{Form}
 use Rattle.spv_layout.specs.declared.form.Form.TheVariants as form
 use Rattle.spv_layout.specs.Row.{PlainRow, Ending, closed, maybe, file_and_text, repeated, others, maybe_others}
 use Rattle.spv_layout.specs.Rows.{row_of}
 use Rattle.spv_layout.specs.Shape.{is_of, AreOf, Ends, FitsEnding, Fits}
-use Rattle.spv_layout.specs.Test.{are_of, are_others, is_empty, are_rounds, is_kind_and_others, fits_ending, fits_row}
+use Rattle.spv_layout.specs.Test.{sort_of, sort_for, are_of, are_others, is_empty, are_rounds, is_kind_and_others, fits_ending, fits_row}
 use Rattle.spv_layout.proofs.Derivatives.{both_hold}
 use Rattle.spv_layout.proofs.Shapes.{no_operands, are_rest, are_moved}
 
@@ -263,15 +264,54 @@ fits_iff G i o b e h =
     let k : fits_row G (row_of i.opcode) i.operands ≡ b = rw e h in
     (λ t. tested_fits G i (k ∙ t), λ f. sym k ∙ fits_tested G i f)
 
--- a row without more operands than its fixed ones
-pub are_closed : (G : Table) (fs : List Form) (os : List Plain) → are_of G fs os ≡ (are_of G fs (take (length fs) os) && is_empty (drop (length fs) os))
-are_closed G [] [] = refl
-are_closed G [] (o ∷ os) = refl
-are_closed G (f ∷ fs) [] = refl
-are_closed G (f ∷ fs) (o ∷ os) = joined (is_of G f o) (are_of G fs os) (are_of G fs (take (length fs) os)) (is_empty (drop (length fs) os)) (are_closed G fs os) where
-  joined : (a b c d : Bool) → b ≡ (c && d) → (a && b) ≡ (a && c && d)
-  joined true b c d h = h
-  joined false b c d h = refl
+-- a row without more operands than its fixed ones, which each ending allows
+ending_empty : (G : Table) (e : Ending) (os : List Plain) → os ≡ [] → fits_ending G e os ≡ true
+ending_empty G closed os h = rw h refl
+ending_empty G (maybe f) os h = rw h refl
+ending_empty G file_and_text os h = rw h refl
+ending_empty G (repeated fs) os h = no_rounds G fs os h
+ending_empty G others os h = rw h refl
+ending_empty G (maybe_others f) os h = rw h refl
 
-pub row_closed : (G : Table) (r : PlainRow) (os : List Plain) (b : Bool) → r.ending ≡ closed → b ≡ are_of G r.fixed os → b ≡ fits_row G (Some r) os
-row_closed G r os b e h = rw e (h ∙ are_closed G r.fixed os)
+and_true : (a b : Bool) → b ≡ true → a ≡ (a && b)
+and_true true b h = sym h
+and_true false b h = refl
+
+pub row_exact : (G : Table) (r : PlainRow) (os : List Plain) → length os ≡ length r.fixed → are_of G r.fixed os ≡ fits_row G (Some r) os
+row_exact G r os e =
+    let d : drop (length r.fixed) os ≡ [] = drop_of_length-le os (omega arith) in
+    let t : take (length r.fixed) os ≡ os = take_all (length r.fixed) os (omega arith) in
+    rw t (and_true (are_of G r.fixed os) (fits_ending G r.ending (drop (length r.fixed) os)) (ending_empty G r.ending (drop (length r.fixed) os) d))
+
+-- an operand of the sort that a form asks for
+pub sort_tells : (G : Table) (f : Form) (o : Plain) → sort_of o ≡ sort_for f → true ≡ is_of G f o
+sort_tells G form.OfType (operand.OfType x) h = refl
+sort_tells G form.OfType _ h = absurd (omega (arith, h))
+sort_tells G form.Result (operand.Result x) h = refl
+sort_tells G form.Result _ h = absurd (omega (arith, h))
+sort_tells G form.Word (operand.Word x) h = refl
+sort_tells G form.Word _ h = absurd (omega (arith, h))
+sort_tells G form.Number (operand.Number a b c) h = refl
+sort_tells G form.Number _ h = absurd (omega (arith, h))
+sort_tells G form.Text (operand.Text t) h = refl
+sort_tells G form.Text _ h = absurd (omega (arith, h))
+sort_tells G (form.Id r) (operand.Id x) h = refl
+sort_tells G (form.Id r) _ h = absurd (omega (arith, h))
+sort_tells G form.Unseen (operand.Id x) h = refl
+sort_tells G form.Unseen _ h = absurd (omega (arith, h))
+sort_tells G (form.Kind k) (operand.OfType x) h = absurd (omega (arith, h))
+sort_tells G (form.Kind k) (operand.Result x) h = absurd (omega (arith, h))
+sort_tells G (form.Kind k) (operand.Id x) h = absurd (omega (arith, h))
+sort_tells G (form.Kind k) (operand.Word x) h = absurd (omega (arith, h))
+sort_tells G (form.Kind k) (operand.Number a b c) h = absurd (omega (arith, h))
+sort_tells G (form.Kind k) (operand.Text t) h = absurd (omega (arith, h))
+sort_tells G (form.Kind k) (operand.Value a b) h = absurd (omega (arith, h))
+sort_tells G (form.Kind k) (operand.Mask a b) h = absurd (omega (arith, h))
+sort_tells G form.Other (operand.OfType x) h = absurd (omega (arith, h))
+sort_tells G form.Other (operand.Result x) h = absurd (omega (arith, h))
+sort_tells G form.Other (operand.Id x) h = absurd (omega (arith, h))
+sort_tells G form.Other (operand.Word x) h = absurd (omega (arith, h))
+sort_tells G form.Other (operand.Number a b c) h = absurd (omega (arith, h))
+sort_tells G form.Other (operand.Text t) h = absurd (omega (arith, h))
+sort_tells G form.Other (operand.Value a b) h = absurd (omega (arith, h))
+sort_tells G form.Other (operand.Mask a b) h = absurd (omega (arith, h))

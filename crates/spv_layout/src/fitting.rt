@@ -43,7 +43,7 @@ fn sort(operand: Operand<'_>) -> u8
     }
 }
 
-/// The sort that a form asks for, or 8 where it asks for more or less than that.
+/// The sort of which each operand is of a form, or 8 where there is none.
 #[inline(always)]
 fn sort_asked(form: Form) -> u8
     ensures { result ≡ sort_for form }
@@ -58,19 +58,6 @@ fn sort_asked(form: Form) -> u8
         Form::Unseen => 2,
         Form::Kind(_) => 8,
         Form::Other => 8,
-    }
-}
-
-/// Whether an operand is of a form: most forms ask for a sort alone.
-#[inline(always)]
-fn has_form(kinds: &Kinds<'_>, form: Form, operand: Operand<'_>) -> bool
-    ensures { result ≡ is_of kinds.now form (plain_operand operand.entry) }
-{
-    let asked = sort_asked(form);
-    if asked < 8 {
-        sort(operand) == asked
-    } else {
-        is_of_form(kinds, form, operand)
     }
 }
 
@@ -121,6 +108,26 @@ fn is_of_form(kinds: &Kinds<'_>, form: Form, operand: Operand<'_>) -> bool
     }
 }
 
+/// Whether an operand is of a form that asks for more or less than a sort.
+#[inline(never)]
+fn is_of_rare_form(kinds: &Kinds<'_>, form: Form, operand: Operand<'_>) -> bool
+    ensures { result ≡ is_of kinds.now form (plain_operand operand.entry) }
+{
+    is_of_form(kinds, form, operand)
+}
+
+/// Whether an operand is of a form: most forms ask for a sort alone.
+#[inline(always)]
+fn has_form(kinds: &Kinds<'_>, form: Form, operand: Operand<'_>) -> bool
+    ensures { result ≡ is_of kinds.now form (plain_operand operand.entry) }
+{
+    if sort(operand) == sort_asked(form) {
+        true
+    } else {
+        is_of_rare_form(kinds, form, operand)
+    }
+}
+
 /// Whether operands are of these forms, one by one.
 #[inline(always)]
 fn have_forms(kinds: &Kinds<'_>, forms: &[Form], operands: &[Operand<'_>]) -> bool
@@ -142,7 +149,7 @@ fn are_free(kinds: &Kinds<'_>, operands: &[Operand<'_>]) -> bool
     ensures { result ≡ are_others kinds.now (map plain_operand operands.now) }
 {
     for operand in operands {
-        if !has_form(kinds, Form::Other, *operand) {
+        if !is_of_form(kinds, Form::Other, *operand) {
             return false;
         }
     }
@@ -184,7 +191,7 @@ fn have_ending(kinds: &Kinds<'_>, ending: Ending, operands: &[Operand<'_>]) -> b
         Ending::Others => are_free(kinds, operands),
         Ending::MaybeOthers(form) => match operands {
             [] => true,
-            [first, rest @ ..] => has_form(kinds, form, *first) && are_free(kinds, rest),
+            [first, rest @ ..] => is_of_form(kinds, form, *first) && are_free(kinds, rest),
         },
     }
 }
@@ -202,14 +209,15 @@ fn have_parts(kinds: &Kinds<'_>, row: &Row, operands: &[Operand<'_>]) -> bool
     have_forms(kinds, row.fixed, front) && have_ending(kinds, row.ending, rest)
 }
 
-/// Whether operands fit a row.
+/// Whether operands fit a row. Where they are as many as its fixed ones, its ending allows that none come after them.
 #[inline(always)]
 fn have_row(kinds: &Kinds<'_>, row: &Row, operands: &[Operand<'_>]) -> bool
     ensures { result ≡ fits_row kinds.now (Some (plain_row row.now)) (map plain_operand operands.now) }
 {
-    match row.ending {
-        Ending::Closed => have_forms(kinds, row.fixed, operands),
-        _ => have_parts(kinds, row, operands),
+    if operands.len() == row.fixed.len() {
+        have_forms(kinds, row.fixed, operands)
+    } else {
+        have_parts(kinds, row, operands)
     }
 }
 

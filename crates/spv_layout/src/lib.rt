@@ -13,8 +13,6 @@ mod roles;
 mod rows;
 mod span;
 mod state;
-#[cfg(test)]
-mod tests;
 
 pub use class::Class;
 pub use form::{Ending, Form, Named, Role, Row};

@@ -57,6 +57,7 @@ pub fn section(class: Class) -> Option<u8>
 }
 
 impl Early {
+    #[inline(always)]
     pub fn place(self) -> Place
         ensures { result ≡ early_place self }
     {
@@ -71,6 +72,7 @@ impl Early {
 
 impl Standing {
     /// The place of instruction `at`, where sections 10 and 11 begin at these instructions.
+    #[inline(always)]
     pub fn place(self, functions: u32, definitions: u32, at: u32) -> Place
         ensures { result ≡ late_place functions definitions at self }
     {
@@ -133,7 +135,7 @@ pub fn words_of(inst: &Inst<'_>, single: bool) -> u32
     ensures { result ≡ specs.word_count (plain_inst inst.now) }
 {
     if single {
-        inst.operands.as_slice().len() as u32 + 1
+        inst.operands.len() as u32 + 1
     } else {
         inst_words(inst)
     }

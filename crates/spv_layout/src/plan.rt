@@ -47,6 +47,7 @@ impl Model for Plan {
 
 impl Plan {
     /// The place of an instruction, if the module has one of that number, from 0. It takes no memory.
+    #[inline(always)]
     pub fn at(&self, inst: u32) -> Option<Place>
         ensures { result ≡ slice_get self.now inst }
     {
@@ -130,6 +131,7 @@ fn count_early(insts: &[Inst<'_>]) -> usize
 }
 
 /// Lays instructions out, in one pass.
+#[inline(never)]
 fn plan_of(alloc: Global, kinds: &Kinds<'_>, insts: &[Inst<'_>]) -> Result<Plan, Stop>
     requires words { 5 + sum_by word_count (map plain_inst insts.now) ≤ 4194304 }
     ensures plan { IfOk result (λ p. IsPlan kinds.now (map plain_inst insts.now) p) }

@@ -21,6 +21,7 @@ pub struct Spans {
 }
 
 /// The number that is kept, if it is one.
+#[inline(always)]
 pub fn number(kept: u32) -> Option<u32>
     ensures { result ≡ mark kept }
 {

@@ -15,7 +15,7 @@ returns-then-is_out_of_range-clause-end c =
     let is = map plain_inst c.args.insts.now in
     let i = plain_inst c.index-insts-i.result in
     let t = inst_there c.args.insts.now c.loop-i.i c.index-insts-i.result c.loop-i-test.true c.index-insts-i.is in
-    let r = sym c.in-Some.is ∙ c.result_of.ensures in
+    let r = sym c.in-Some.is ∙ c.result_of.ensures ∙ sym (c.requires.results.result c.loop-i.i i t) in
     inr (elim c.then-is_out_of_range.branch [
       | then-is_out_of_range-via-then-is_out_of_range w ↦ bad_range c.args.bound is c.loop-i.i c.in-Some.id i t r (c.is_out_of_range.ensures.0 w.if-is_out_of_range.true)
       | then-is_out_of_range-via-else-is_out_of_range+then-is_some w ↦
@@ -31,13 +31,13 @@ loop-i-preserved c =
     let t = inst_there c.args.insts.now c.loop-i.i c.index-insts-i.result c.loop-i-test.true c.index-insts-i.is in
     elim c.match-result_of.branch [
       | in-Some+else-is_out_of_range+else-is_some+in_ok-put w ↦
-          let r = sym w.in-Some.is ∙ c.result_of.ensures in
+          let r = sym w.in-Some.is ∙ c.result_of.ensures ∙ sym (c.requires.results.result c.loop-i.i i t) in
           let e = sym w.is_some.ensures ∙ w.if-is_some.false in
           let e' = rw w.get.ensures at e in
           rw w.definitions-is
           (first_result c.args.bound is c.loop-i.i w.in-Some.id i c.loop-i.definitions w.put.new.self t r (λ o. false_true (sym w.if-is_out_of_range.false ∙ w.is_out_of_range.ensures.1 o))
           (none_tells (kept c.loop-i.definitions w.in-Some.id) e') w.in_ok-put.ensures c.loop-i.invariant)
-      | in_default w ↦ rw w.definitions-is (first_no_result c.args.bound is c.loop-i.i i c.loop-i.definitions t (sym w.in_default.is ∙ c.result_of.ensures) c.loop-i.invariant)
+      | in_default w ↦ rw w.definitions-is (first_no_result c.args.bound is c.loop-i.i i c.loop-i.definitions t (sym w.in_default.is ∙ c.result_of.ensures ∙ sym (c.requires.results.result c.loop-i.i i t)) c.loop-i.invariant)
     ]
 
 pub returns-clause-firsts : goal.returns-clause-firsts

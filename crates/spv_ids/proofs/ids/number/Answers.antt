@@ -9,14 +9,20 @@ use Rattle.spv_ids.proofs.Defining.{short_list}
 use Rattle.spv_ids.proofs.Broke.{places_of, first_within, refusal_told, clean_told, definitions_told}
 use Rattle.spv_ids.proofs.ids.number.Goals as goal
 
-pub first_definitions-requires : goal.first_definitions-requires
-first_definitions-requires c =
+pub first_definitions-requires-clause-most : goal.first_definitions-requires-clause-most
+first_definitions-requires-clause-most c =
     let v = c.as_slice-insts.ensures.value in
     let xs = c.as_slice-insts.result.now in
     let s = short_list (map plain_inst xs) in
     let l = length-map xs plain_inst in
     let q : 5 + sum_by word_count (map plain_inst xs) ≤ 4194304 = rw v c.requires.words in
     omega arith
+
+pub first_definitions-requires-clause-results : goal.first_definitions-requires-clause-results
+first_definitions-requires-clause-results c =
+    let p = c.requires.plan in
+    let a = places_of p.0 (plain_insts c.args.module.now) c.args.plan.now p.1 in
+    rw c.as_slice-insts.ensures.value a.early
 
 pub later_definitions-requires-clause-most : goal.later_definitions-requires-clause-most
 later_definitions-requires-clause-most c =

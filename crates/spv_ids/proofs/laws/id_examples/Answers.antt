@@ -1,17 +1,20 @@
-use Rattle.std.proofs.Common.{◌≡◌, ℕ, zero, suc, [], ◌∷◌, refl, arith, inl, inr}
+use Rattle.std.proofs.Common.{◌≡◌, ◌+◌, ℕ, zero, suc, [], ◌∷◌, Some, refl, arith, inl, inr}
+use Rattle.std.specs.Prelude.{slice_get}
 use Rattle.std.proofs.lemmas.Option.{slice_get_within}
 use Rattle.spv_inst.specs.Example.{small}
-use Rattle.spv_inst.specs.Operand.{Result, Id}
+use Rattle.spv_inst.specs.Operand.{Plain, Result, Id}
 use Rattle.spv_inst.specs.declared.fault.Rule.{Rule}
-use Rattle.spv_inst.specs.declared.fault.Rule.TheVariants.{D2}
+use Rattle.spv_inst.specs.declared.fault.Rule.TheVariants.{D2, D4, D5}
 use Rattle.spv_layout.specs.declared.class.Class.TheVariants.{Declaration, Function}
 use Rattle.spv_layout.specs.declared.form.Role.TheVariants as role
 use Rattle.spv_layout.specs.Row.{row, R, t, repeated}
 use Rattle.spv_layout.specs.Rows.{rows}
 use Rattle.spv_layout.specs.Shape.{AreOf, Ends, HasForms, IsUse}
-use Rattle.spv_layout.specs.Place.{IsAt}
+use Rattle.spv_layout.specs.Place.{IsAt, IsOfSection}
 use Rattle.spv_ids.specs.Definition.{IsDefinedAt, IsLocal}
-use Rattle.spv_ids.specs.Order.{IsInOrder}
+use Rattle.spv_ids.specs.Order.{IsInOrder, IsInScope}
+use Rattle.spv_ids.specs.Uses.{seen, used_id, IsUsedBefore}
+use Rattle.spv_ids.proofs.Used.{use_told}
 use Rattle.spv_ids.specs.Broken.{Broken, IsOutOfRange}
 use Rattle.spv_ids.specs.Example.{void, of_void}
 use Rattle.spv_ids.proofs.laws.id_examples.Goals as goal
@@ -53,6 +56,60 @@ no_function zero a = cc
 no_function (suc zero) a = cc
 no_function (suc (suc f)) a = a
 
+not_scoped : ¬ (IsInScope (void 1 ∷ of_void ∷ []) 1 1)
+not_scoped i = no_function i.function i.of.begun.there
+
+not_outside : (r : Rule) (n : ℕ) → Broken small 5 (void 1 ∷ of_void ∷ []) r n → r ≡ D5 → ⊥
+not_outside _ _ (Broken.result_out_of_range n x d o) e = cc
+not_outside _ _ (Broken.use_out_of_range n k x r u o) e = cc
+not_outside _ _ (Broken.defined_again n m x a l b) e = cc
+not_outside _ _ (Broken.undefined n k x r u h) e = cc
+not_outside _ _ (Broken.not_in_order n k x r u o h) e = cc
+not_outside _ _ (Broken.not_in_scope n k x r u s (f, l) h) e = no_function f l.of.begun.there
+
+-- in section 9, where no OpFunction stands
+declared : IsOfSection (of_void ∷ void 1 ∷ []) 0 11
+unfolding rows
+declared = IsOfSection.global Declaration refl refl (λ f l. let u = l.up_to in no_first f (omega arith) l.there) where
+  no_first : (f : ℕ) → f ≡ 0 → ¬ (IsAt (of_void ∷ void 1 ∷ []) f (Function ∷ []))
+  no_first zero e a = cc
+  no_first (suc f) e a = absurd (omega (arith, e))
+
+-- the only use is that of %1
+no_use : (k x : ℕ) (o : Plain) → slice_get (seen (void 1)) k ≡ Some o → used_id o ≡ Some x → ⊥
+no_use zero x o h u = let e : Result 1 ≡ o = cc in let g = rw (← e) at u in cc
+no_use (suc k) x o h u = cc
+
+one_use : (k x : ℕ) (o : Plain) → slice_get (seen of_void) k ≡ Some o → used_id o ≡ Some x → x ≡ 1
+one_use zero x o h u = let e : Result 2 ≡ o = cc in let g = rw (← e) at u in cc
+one_use (suc zero) x o h u = let e : Id 1 ≡ o = cc in let g = rw (← e) at u in cc
+one_use (suc (suc k)) x o h u = cc
+
+in_order : IsInOrder (void 1 ∷ of_void ∷ []) 1 1
+in_order = IsInOrder.lower 0 (omega arith) (record { inst = void 1; there = refl; result = refl })
+
+all_in_order : (n to x : ℕ) → IsUsedBefore (void 1 ∷ of_void ∷ []) n to x → (IsInOrder (void 1 ∷ of_void ∷ []) n x → ⊥) → ⊥
+all_in_order zero to x u h =
+    let t = u.there in
+    let e : void 1 ≡ u.inst = cc in
+    let o = rw (← e) at u.operand_at in
+    no_use u.place x u.operand o u.used
+all_in_order (suc zero) to x u h =
+    let t = u.there in
+    let e : of_void ≡ u.inst = cc in
+    let o = rw (← e) at u.operand_at in
+    let q = one_use u.place x u.operand o u.used in
+    h (rw q in_order)
+all_in_order (suc (suc n)) to x u h = let t = u.there in cc
+
+not_early : (r : Rule) (n : ℕ) → Broken small 5 (void 1 ∷ of_void ∷ []) r n → r ≡ D4 → ⊥
+not_early _ _ (Broken.result_out_of_range n x d o) e = cc
+not_early _ _ (Broken.use_out_of_range n k x r u o) e = cc
+not_early _ _ (Broken.defined_again n m x a l b) e = cc
+not_early _ _ (Broken.undefined n k x r u h) e = cc
+not_early _ _ (Broken.not_in_order n k x r u o h) e = all_in_order n (k + 1) x (use_told small (void 1 ∷ of_void ∷ []) n k x r u) h
+not_early _ _ (Broken.not_in_scope n k x r u s l h) e = cc
+
 not_local : ¬ (IsLocal (void 1 ∷ of_void ∷ []) 1)
 not_local (f, l) = no_function f l.of.begun.there
 
@@ -63,7 +120,11 @@ returns c = record {
   out_of_range = Broken.result_out_of_range 0 5 (defined_first 5) (inr (omega arith));
   in_range = in_range;
   undefined = Broken.undefined 0 1 1 role.OfType (record { inst = of_void; there = refl; used = type_used }) none_defined;
-  in_order = IsInOrder.lower 0 (omega arith) (record { inst = void 1; there = refl; result = refl });
+  in_order = in_order;
   not_in_order = not_in_order;
+  early = Broken.not_in_order 0 1 1 role.OfType (record { inst = of_void; there = refl; used = type_used }) (inr declared) not_in_order;
+  not_early = λ n b. not_early D4 n b refl;
   not_local = not_local;
+  not_in_scope = not_scoped;
+  not_outside = λ n b. not_outside D5 n b refl;
 }

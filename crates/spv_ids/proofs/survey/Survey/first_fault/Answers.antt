@@ -1,4 +1,4 @@
-use Rattle.std.proofs.Common.{◌≡◌, ◌<◌, sym, length, map, arith, get_or}
+use Rattle.std.proofs.Common.{◌≡◌, ◌<◌, refl, sym, length, map, arith, get_or}
 use Rattle.std.proofs.lemmas.List.{length-map}
 use Rattle.spv_inst.specs.Module.{plain_inst, plain_operand}
 use Rattle.spv_ids.specs.Survey.{insts_of}
@@ -8,6 +8,19 @@ use Rattle.spv_ids.proofs.Defining.{inst_at}
 use Rattle.spv_ids.proofs.Leasts.{least_at}
 use Rattle.spv_ids.proofs.Broke.{clean_here, clean_more, fault_here}
 use Rattle.spv_ids.proofs.survey.Survey.first_fault.Goals as goal
+
+pub uses_fault-requires-clause-floor : goal.uses_fault-requires-clause-floor
+uses_fault-requires-clause-floor c = c.floor_of-floor.ensures (insts_of c.args.self.now) c.requires.survey.places
+
+pub uses_fault-requires-clause-operands : goal.uses_fault-requires-clause-operands
+uses_fault-requires-clause-operands c =
+    let s = c.args.self.now in
+    let w = c.requires.survey.within in
+    let n = c.loop-n.n in
+    let t = c.loop-n-test.true in
+    let m = length-map s.insts.now plain_inst in
+    let l : n < length s.insts.now = omega arith in
+    record { inst = plain_inst (get_or s.insts.now n c.index-self-n.result); there = inst_at s.insts.now n c.index-self-n.result l; same = c.seen.ensures }
 
 pub returns-in-Some : goal.returns-in-Some
 returns-in-Some c =
@@ -23,7 +36,7 @@ returns-in-Some c =
     let os = map plain_operand c.seen.result.now in
     let a : AreSeen is n os = record { inst = i; there = t; same = c.seen.ensures } in
     let k : length c.seen.result.now ≡ length os = sym (length-map c.seen.result.now plain_operand) in
-    let h = least_at s.bound is c.site-site.result.inst n (length c.seen.result.now) (length os) c.uses_fault.result (Some c.in-Some.rule) c.site-site.ensures.inst k c.in-Some.is c.uses_fault.ensures in
+    let h = least_at s.bound is n n (length c.seen.result.now) (length os) c.uses_fault.result (Some c.in-Some.rule) refl k c.in-Some.is c.uses_fault.ensures in
     fault_here s.bound is n s.end s.firsts.now os c.in-Some.rule v.firsts c.loop-n-test.true a h c.loop-n.invariant.clean
 
 pub loop-n-preserved : goal.loop-n-preserved
@@ -40,7 +53,7 @@ loop-n-preserved c =
     let os = map plain_operand c.seen.result.now in
     let a : AreSeen is n os = record { inst = i; there = t; same = c.seen.ensures } in
     let k : length c.seen.result.now ≡ length os = sym (length-map c.seen.result.now plain_operand) in
-    let h = least_at s.bound is c.site-site.result.inst n (length c.seen.result.now) (length os) c.uses_fault.result None c.site-site.ensures.inst k c.in_default.is c.uses_fault.ensures in
+    let h = least_at s.bound is n n (length c.seen.result.now) (length os) c.uses_fault.result None refl k c.in_default.is c.uses_fault.ensures in
     record {
       clean = clean_more s.bound is n (clean_here s.bound is n s.end s.firsts.now os v.firsts c.loop-n-test.true a h) c.loop-n.invariant.clean;
       announced = c.in_ok-announce.ensures is t c.loop-n.invariant.announced;

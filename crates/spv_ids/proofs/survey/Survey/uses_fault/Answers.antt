@@ -7,13 +7,13 @@ use Rattle.spv_ids.proofs.survey.Survey.uses_fault.Goals.{in-Some+in-Some-use_fa
 use Rattle.spv_ids.proofs.survey.Survey.uses_fault.Goals as goal
 
 pub loop-operand-init : goal.loop-operand-init
-loop-operand-init c = λ q. none_yet c.args.self.now.bound (insts_of c.args.self.now) c.args.site.now.inst q
+loop-operand-init c = λ q. none_yet c.args.self.now.bound (insts_of c.args.self.now) c.args.inst q
 
 pub loop-operand-preserved : goal.loop-operand-preserved
 loop-operand-preserved c =
     let b = c.args.self.now.bound in
     let is = insts_of c.args.self.now in
-    let n = c.args.site.now.inst in
+    let n = c.args.inst in
     let os = c.args.operands.now in
     let k = c.loop-operand.operand-index in
     let a = c.requires.operands in
@@ -33,4 +33,4 @@ loop-operand-preserved c =
 pub returns : goal.returns
 returns c =
     let e : c.loop-operand.operand-index ≡ length c.args.operands.now = omega arith in
-    least_moved c.args.self.now.bound (insts_of c.args.self.now) c.args.site.now.inst c.loop-operand.operand-index (length c.args.operands.now) c.loop-operand.least e c.loop-operand.invariant
+    least_moved c.args.self.now.bound (insts_of c.args.self.now) c.args.inst c.loop-operand.operand-index (length c.args.operands.now) c.loop-operand.least e c.loop-operand.invariant

@@ -3,4 +3,4 @@ use Rattle.spv_ids.specs.Survey.{insts_of}
 use Rattle.spv_ids.proofs.survey.Survey.uses_fault.Given as goal
 
 abbrev pub invariant-loop-operand : goal.invariant-loop-operand
-invariant-loop-operand l = IsLeast (HasBadUse l.self.bound (insts_of l.self) l.site.inst l.operand-index) l.least
+invariant-loop-operand l = IsLeast (HasBadUse l.self.bound (insts_of l.self) l.inst l.operand-index) l.least

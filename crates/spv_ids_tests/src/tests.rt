@@ -1,8 +1,8 @@
 //! Small modules whose ids are sound or not, with answers that were worked out by hand. Each case has a name, which a
 //! failed assertion tells.
 
-use crate::{Ids, number};
 use spv_grammar::Table;
+use spv_ids::{Ids, number};
 use spv_inst::{Fault, Rule, Stop, decode};
 use spv_layout::laws::word_counts;
 use spv_layout::lay_out;
