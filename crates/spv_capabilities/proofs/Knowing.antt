@@ -1,0 +1,97 @@
+-- What is kept of answers, with one answer more.
+use Rattle.std.proofs.Common.{◌≡◌, ◌≢◌, ◌∙◌, ◌<◌, ◌↔◌, ◌⊎◌, ℕ, zero, suc, List, refl, sym, ap, inl, inr, Some, None, Bool, true, false, IsTrue, length, get_or, get_or-set_same, get_or-set_other, nat_eq, arith}
+use Rattle.std.specs.Prelude.{slice_get, nat_lt}
+use Rattle.std.specs.BTreeMap.{BTreeMap, get, Updates, IsEmpty}
+use Rattle.std.specs.Ordering.{nat_cmp, ordering_then, is_eq}
+use Rattle.std.specs.declared.cmp.Ordering.{Ordering}
+use Rattle.std.specs.declared.cmp.Ordering.TheVariants.{Less, Equal, Greater}
+use Rattle.std.proofs.Math.ListN.{set, length-set, replicate}
+use Rattle.std.proofs.lemmas.Bool.{cases_eq, cases_order, ltb-true}
+use Rattle.std.proofs.lemmas.Bool.Decides.{nat_tests}
+use Rattle.std.proofs.lemmas.Option.{slice_get_within, slice_get-get_or, slice_get_read, get_or_from_slice_get}
+use Rattle.spv_capabilities.specs.declared.memo.Answer.{Answer}
+use Rattle.spv_capabilities.specs.declared.memo.Answer.TheVariants.{Unknown}
+use Rattle.spv_capabilities.specs.Known.{IsAnswer, answer_of, pair_cmp}
+
+pub answer_tells : (b : Bool) (P : Type 0) → IsTrue b ↔ P → IsAnswer (answer_of b) P
+answer_tells true P e = e.0 refl
+answer_tells false P e = λ p. let no : false ≡ true = e.1 p in absurd (cc)
+
+set_same : (l : List Answer) (n : ℕ) (v a : Answer) → n < length l → slice_get (set l n v) n ≡ Some a → v ≡ a
+set_same l n v a h s =
+    let g : get_or (set l n v) n Unknown ≡ a = get_or_from_slice_get (set l n v) n a Unknown s in
+    sym (get_or-set_same l n v Unknown h) ∙ g
+
+set_other : (l : List Answer) (n k : ℕ) (v a : Answer) → k ≢ n → slice_get (set l n v) k ≡ Some a → slice_get l k ≡ Some a
+set_other l n k v a ne s =
+    let w : k < length (set l n v) = slice_get_within (set l n v) k a s in
+    let w' : k < length l = omega (arith, length-set {A = Answer}) in
+    let g : get_or (set l n v) k Unknown ≡ a = get_or_from_slice_get (set l n v) k a Unknown s in
+    let e : get_or l k Unknown ≡ a = sym (get_or-set_other l n k v Unknown ne) ∙ g in
+    slice_get-get_or l k Unknown w' ∙ ap Some e
+
+answer_at : (Q : ℕ → Type 0) (l : List Answer) (n k : ℕ) (v a : Answer) → n < length l → ((o : ℕ) (b : Answer) → slice_get l o ≡ Some b → IsAnswer b (Q o)) → IsAnswer v (Q n)
+    → slice_get (set l n v) k ≡ Some a → (k ≡ n) ⊎ (k ≡ n → ⊥) → IsAnswer a (Q k)
+answer_at Q l n k v a h old new s (inl e) =
+    let t : v ≡ a = set_same l n v a h (rw e at s) in
+    rw (e, ← t) new
+answer_at Q l n k v a h old new s (inr e) = old k a (set_other l n k v a e s)
+
+pub answers_set : (Q : ℕ → Type 0) (l : List Answer) (n : ℕ) (v : Answer) → n < length l → ((o : ℕ) (a : Answer) → slice_get l o ≡ Some a → IsAnswer a (Q o)) → IsAnswer v (Q n)
+    → (o : ℕ) (a : Answer) → slice_get (set l n v) o ≡ Some a → IsAnswer a (Q o)
+answers_set Q l n v h old new o a s = answer_at Q l n o v a h old new s (cases_eq o n)
+
+-- numbers that are not equal do not compare so, and nor do pairs
+apart : (x y : ℕ) → x ≢ y → is_eq (nat_cmp x y) ≡ false
+apart x y ne = elim (cases_order x y) [
+  | inl e ↦ absurd (ne e)
+  | inr r ↦ elim r [
+    | inl l ↦ let t : nat_lt x y ≡ true = grind (arith, nat_tests) in rw t refl
+    | inr g ↦
+        let t : nat_lt x y ≡ false = grind (arith, nat_tests) in
+        let u : nat_eq x y ≡ false = grind (arith, nat_tests) in
+        rw (t, u) refl
+  ]
+]
+
+first_apart : (o p : Ordering) → is_eq o ≡ false → is_eq (ordering_then o p) ≡ false
+first_apart Less p h = refl
+first_apart Equal p h = absurd (let no : true ≡ false = h in cc)
+first_apart Greater p h = refl
+
+second_apart : (o p : Ordering) → is_eq p ≡ false → is_eq (ordering_then o p) ≡ false
+second_apart Less p h = refl
+second_apart Equal p h = h
+second_apart Greater p h = refl
+
+-- of pairs, with one pair more
+pair_at : (Q : ℕ → ℕ → Type 0) (m n : BTreeMap (ℕ × ℕ) Bool) (k v l w : ℕ) (b a : Bool) → ((x y : ℕ) (c : Bool) → get pair_cmp m (x, y) ≡ Some c → IsTrue c ↔ Q x y) → Updates pair_cmp m n (k, v) (Some b) → IsTrue b ↔ Q k v
+    → get pair_cmp n (l, w) ≡ Some a → (k ≡ l) ⊎ (k ≡ l → ⊥) → (v ≡ w) ⊎ (v ≡ w → ⊥) → IsTrue a ↔ Q l w
+pair_at Q m n k v l w b a old u new s (inr p) q = old l w a (sym (u.2 (l, w) (first_apart (nat_cmp k l) (nat_cmp v w) (apart k l p))) ∙ s)
+pair_at Q m n k v l w b a old u new s (inl p) (inr q) = old l w a (sym (u.2 (l, w) (second_apart (nat_cmp k l) (nat_cmp v w) (apart v w q))) ∙ s)
+pair_at Q m n k v l w b a old u new s (inl p) (inl q) =
+    let s' : get pair_cmp n (k, v) ≡ Some a = rw (p, q) s in
+    let t : b ≡ a = let x : Some b ≡ Some a = sym u.1 ∙ s' in cc in
+    rw (← p, ← q, ← t) new
+
+pub pairs_more : (Q : ℕ → ℕ → Type 0) (m n : BTreeMap (ℕ × ℕ) Bool) (k v : ℕ) (b : Bool) → ((x y : ℕ) (c : Bool) → get pair_cmp m (x, y) ≡ Some c → IsTrue c ↔ Q x y) → Updates pair_cmp m n (k, v) (Some b) → IsTrue b ↔ Q k v
+    → (x y : ℕ) (c : Bool) → get pair_cmp n (x, y) ≡ Some c → IsTrue c ↔ Q x y
+pairs_more Q m n k v b old u new x y c s = pair_at Q m n k v x y b c old u new s (cases_eq k x) (cases_eq v y)
+
+-- what was read of the list
+pub kept_at : (l : List Answer) (n : ℕ) (a v : Answer) → true ≡ nat_lt n (length l) → a ≡ get_or l n a → a ≡ v → slice_get l n ≡ Some v
+kept_at l n a v t e s =
+    let w : n < length l = ltb-true n (length l) (sym t) in
+    slice_get_read l (length l) n a refl w e ∙ ap Some s
+
+-- nothing is known
+read : (n o : ℕ) (a : Answer) → slice_get (replicate n Unknown) o ≡ Some a → Unknown ≡ a
+read zero o a h = absurd (let no : None ≡ Some a = h in cc)
+read (suc n) zero a h = cc
+read (suc n) (suc o) a h = read n o a h
+
+pub unknown_all : (Q : ℕ → Type 0) (l : List Answer) (n : ℕ) → l ≡ replicate n Unknown → (o : ℕ) (a : Answer) → slice_get l o ≡ Some a → IsAnswer a (Q o)
+unknown_all Q l n e o a h = let s : Unknown ≡ a = read n o a (rw e at h) in rw (← s) tt
+
+pub no_pairs : (Q : ℕ → ℕ → Type 0) (m : BTreeMap (ℕ × ℕ) Bool) → IsEmpty m → (x y : ℕ) (c : Bool) → get pair_cmp m (x, y) ≡ Some c → IsTrue c ↔ Q x y
+no_pairs Q m e x y c h = let n : get pair_cmp m (x, y) ≡ None = rw e refl in absurd (let no : None ≡ Some c = sym n ∙ h in cc)

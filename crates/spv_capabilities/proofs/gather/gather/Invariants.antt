@@ -1,0 +1,7 @@
+use Rattle.std.proofs.Common.{map}
+use Rattle.spv_inst.specs.Module.{plain_inst}
+use Rattle.spv_capabilities.specs.Survey.{AreGathered}
+use Rattle.spv_capabilities.proofs.gather.gather.Given as goal
+
+abbrev pub invariant-loop-inst : goal.invariant-loop-inst
+invariant-loop-inst l = AreGathered l.linkage (map plain_inst l.insts) l.inst-index l.gathered

@@ -1,0 +1,31 @@
+-- What each of the rules C1, C2, M1, E1 and E2 demands of an instruction. [2.4, 2.16.1, 3.31]
+use Rattle.std.specs.Prelude.{◌≡◌, ◌<◌, ℕ, List, Option, MatchOption}
+use Rattle.spv_grammar.specs.Table.{Table}
+use Rattle.spv_inst.specs.Operand.{PlainInst}
+use Rattle.spv_inst.specs.declared.fault.Rule.{Rule}
+use Rattle.spv_inst.specs.declared.fault.Rule.TheVariants as rule
+use Rattle.spv_layout.specs.First.{rank_of}
+use Rattle.spv_capabilities.specs.Capable.{IsKernel, IsCapable}
+use Rattle.spv_capabilities.specs.Memory.{IsModel}
+use Rattle.spv_capabilities.specs.Entry.{HasEntry, IsSoundEntry, IsSoundMode, IsSoundLinkage}
+
+-- E2 speaks of OpEntryPoint (15), OpExecutionMode (16) and OpFunction (54).
+pub record KeepsEntries (G : Table) (is : List PlainInst) (n : ℕ) (i : PlainInst) : Type 0 where
+  pub entry : i.opcode ≡ 15 → IsSoundEntry is i.operands
+  pub mode : i.opcode ≡ 16 → IsSoundMode is i.operands
+  pub linkage : i.opcode ≡ 54 → IsSoundLinkage G is n
+
+-- What a rule demands of the instruction i of number n; C1, M1 and E1 are asked at OpMemoryModel (14). The other rules demand nothing here.
+abbrev pub Keeps : Table → List PlainInst → Rule → ℕ → PlainInst → Type 0
+Keeps G is rule.C1 n i = i.opcode ≡ 14 → IsKernel G is
+Keeps G is rule.C2 n i = IsCapable G is i
+Keeps G is rule.M1 n i = i.opcode ≡ 14 → IsModel i.operands
+Keeps G is rule.E1 n i = i.opcode ≡ 14 → HasEntry G is
+Keeps G is rule.E2 n i = KeepsEntries G is n i
+Keeps G is _ n i = Unit {0}
+
+-- The rule is the first of them that is broken at the instruction i of number n; or there is none, and none of them is.
+abbrev pub IsFirstAt : Table → List PlainInst → ℕ → PlainInst → Option Rule → Type 0
+IsFirstAt G is n i o = MatchOption o
+    ((r : Rule) → Keeps G is r n i)
+    (λ r. (¬ (Keeps G is r n i)) × ((q : Rule) → rank_of q < rank_of r → Keeps G is q n i))

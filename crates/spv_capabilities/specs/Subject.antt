@@ -1,0 +1,9 @@
+-- What a survey is of.
+use Rattle.std.specs.Prelude.{List}
+use Rattle.spv_grammar.specs.Table.{Table}
+use Rattle.spv_inst.specs.Operand.{PlainInst}
+
+-- a grammar table, and a module's instructions
+pub record Subject : Type 0 where
+  pub table : Table
+  pub insts : List PlainInst

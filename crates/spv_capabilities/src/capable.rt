@@ -1,0 +1,135 @@
+//! Which capabilities are asked for: the rules C1 and C2, without what was asked before.
+
+ghost use Rattle.std.specs.Prelude.{◌≡◌, ◌↔◌, IsTrue, Some, IsSomeAnd, codes};
+ghost use Rattle.spv_grammar.specs.Lookups.{value_named, number_named};
+ghost use Rattle.spv_grammar.specs.Implied.{capabilities_in};
+ghost use Rattle.spv_inst.specs.Module.{plain_inst, plain_operands};
+ghost use Rattle.spv_capabilities.specs.Capable.{Has, HasNamed, HasNeeded, IsKernel, IsCovered, IsCoveredEntry, IsCoveredValue, int_needs, float_needs, vector_needs, needs_of};
+
+use crate::surveyed::Survey;
+use spv_grammar::Name;
+use spv_inst::{Inst, Operand};
+
+/// Whether the module has Kernel and has not Shader.
+pub fn is_kernel(survey: &Survey<'_, '_>) -> bool
+    ensures { IsTrue result ↔ IsKernel survey.now.table survey.now.insts }
+{
+    survey.has(6) && !survey.has(1)
+}
+
+/// The capability of a name.
+fn capability(survey: &Survey<'_, '_>, name: &Name) -> Option<u32>
+    ensures { result ≡ value_named (capabilities_in survey.now.table) name.now }
+{
+    let kind = survey.capability_kind()?;
+    survey.table().enumerant_named(kind, name.as_str())
+}
+
+/// Whether the module has the capability of a name.
+fn has_name(survey: &Survey<'_, '_>, name: &Name) -> bool
+    ensures { IsTrue result ↔ IsSomeAnd (value_named (capabilities_in survey.now.table) name.now) (Has survey.now.table survey.now.insts) }
+{
+    match capability(survey, name) {
+        Some(capability) => survey.has(capability),
+        None => false,
+    }
+}
+
+/// Whether the module has one of the named capabilities.
+fn has_named(survey: &Survey<'_, '_>, names: &[Name]) -> bool
+    ensures { IsTrue result ↔ HasNamed survey.now.table survey.now.insts names.now }
+{
+    for name in names {
+        if has_name(survey, name) {
+            return true;
+        }
+    }
+    false
+}
+
+/// Whether listed capabilities are none, or the module has one of them.
+fn is_covered(survey: &Survey<'_, '_>, names: &[Name]) -> bool
+    ensures { IsTrue result ↔ IsCovered survey.now.table survey.now.insts names.now }
+{
+    names.is_empty() || has_named(survey, names)
+}
+
+/// Whether the entry of an opcode lists no capabilities, or one that the module has.
+pub fn is_covered_entry(survey: &Survey<'_, '_>, opcode: u16) -> bool
+    ensures { IsTrue result ↔ IsCoveredEntry survey.now.table survey.now.insts opcode }
+{
+    match survey.table().entry(opcode) {
+        Some(entry) => is_covered(survey, entry.capabilities.as_slice()),
+        None => true,
+    }
+}
+
+/// Whether a kind is the one named Capability.
+pub fn is_capability_kind(survey: &Survey<'_, '_>, kind: u32) -> bool
+    ensures { IsTrue result ↔ (number_named survey.now.table (codes "Capability") ≡ Some kind) }
+{
+    match survey.capability_kind() {
+        Some(number) => number == kind,
+        None => false,
+    }
+}
+
+/// Whether the enumerant of a value of a kind, if there is one, lists no capabilities, or one that the module has.
+pub fn is_covered_value(survey: &Survey<'_, '_>, kind: u32, value: u32) -> bool
+    ensures { IsTrue result ↔ IsCoveredValue survey.now.table survey.now.insts kind value }
+{
+    match survey.table().enumerant(kind, value) {
+        Some(enumerant) => is_covered(survey, enumerant.capabilities.as_slice()),
+        None => true,
+    }
+}
+
+/// Whether the module has the capability of an int's width.
+fn has_int_needs(survey: &Survey<'_, '_>, operands: &[Operand<'_>]) -> bool
+    ensures { IsTrue result ↔ HasNeeded survey.now.table survey.now.insts (int_needs (plain_operands operands.now)) }
+{
+    match operands {
+        [Operand::Result(_), Operand::Word(16), ..] => survey.has(22),
+        [Operand::Result(_), Operand::Word(64), ..] => survey.has(11),
+        _ => true,
+    }
+}
+
+/// Whether the module has a capability of a float's width.
+fn has_float_needs(survey: &Survey<'_, '_>, operands: &[Operand<'_>]) -> bool
+    ensures { IsTrue result ↔ HasNeeded survey.now.table survey.now.insts (float_needs (plain_operands operands.now)) }
+{
+    match operands {
+        [Operand::Result(_), Operand::Word(16), ..] => survey.has(8) || survey.has(9),
+        [Operand::Result(_), Operand::Word(64), ..] => survey.has(10),
+        _ => true,
+    }
+}
+
+/// Whether the module has the capability of a vector's count.
+fn has_vector_needs(survey: &Survey<'_, '_>, operands: &[Operand<'_>]) -> bool
+    ensures { IsTrue result ↔ HasNeeded survey.now.table survey.now.insts (vector_needs (plain_operands operands.now)) }
+{
+    match operands {
+        [
+            Operand::Result(_),
+            Operand::Id(_),
+            Operand::Word(8 | 16),
+            ..
+        ] => survey.has(7),
+        _ => true,
+    }
+}
+
+/// Whether the module has a capability of a type's width or count.
+pub fn has_needed(survey: &Survey<'_, '_>, inst: &Inst<'_>) -> bool
+    ensures { IsTrue result ↔ HasNeeded survey.now.table survey.now.insts (needs_of (plain_inst inst.now)) }
+{
+    let operands = inst.operands.as_slice();
+    match inst.opcode {
+        21 => has_int_needs(survey, operands),
+        22 => has_float_needs(survey, operands),
+        23 => has_vector_needs(survey, operands),
+        _ => true,
+    }
+}

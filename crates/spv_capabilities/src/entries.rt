@@ -1,0 +1,147 @@
+//! Which of the rules is broken at an instruction.
+
+ghost use Rattle.std.specs.Prelude.{◌≡◌, ◌↔◌, ◌<◌, ℕ, IfOk, IsTrue, Some, length, slice_get};
+ghost use Rattle.spv_grammar.specs.Table.{Table};
+ghost use Rattle.spv_inst.specs.Operand.{PlainInst};
+ghost use Rattle.spv_inst.specs.Module.{plain_inst, plain_insts};
+ghost use Rattle.spv_layout.specs.Plan.{IsPlan};
+ghost use Rattle.spv_ids.specs.Outcome.{IsDefinitionOf, definition_in};
+ghost use Rattle.spv_capabilities.specs.Capable.{IsKernel};
+ghost use Rattle.spv_capabilities.specs.Memory.{IsModel};
+ghost use Rattle.spv_capabilities.specs.Entry.{HasEntry};
+ghost use Rattle.spv_capabilities.specs.Keeps.{IsFirstAt};
+ghost use Rattle.spv_capabilities.specs.Known.{IsKnown};
+
+use crate::capable::is_kernel;
+use crate::entry::{has_entry, is_model, keeps_entries};
+use crate::memo::Memo;
+use crate::surveyed::Survey;
+use spv_grammar::{Memory, Table};
+use spv_ids::Ids;
+use spv_inst::{Inst, Module, Rule};
+use spv_layout::Plan;
+use std::alloc::Global;
+use std::marker::Model;
+
+/// The opcode of OpMemoryModel.
+const MEMORY_MODEL: u16 = 14;
+
+/// A module whose instructions are judged by the rules C1, C2, M1, E1 and E2. Contracts see the grammar table and the instructions.
+///
+/// What a table's entries and enumerants ask for is looked up once: at the first instruction that has one.
+#[derive(Drop)]
+pub struct Entries<'m, 'a> {
+    survey: Survey<'m, 'a>,
+    /// What was asked so far.
+    memo: Memo,
+}
+
+impl<'m, 'a> Model for Entries<'m, 'a> {
+    ghost use Rattle.spv_capabilities.specs.Subject.{Subject};
+    ghost use Rattle.spv_capabilities.specs.Known.{IsKnown};
+
+    ghost Value = { Subject };
+
+    ghost view = { λ e. e.survey };
+
+    ghost invariant = { λ e. IsKnown e.survey e.memo };
+}
+
+/// Surveys a module, once, before its instructions are judged. `plan` is what `lay_out` answered of that module, by some table,
+/// and `ids` what `number` answered.
+///
+/// Time is linear in the instructions, besides what the capabilities take that are declared.
+///
+/// `Memory` comes only where a growth of memory was refused.
+pub fn survey<'m, 'a>(
+    alloc: Global,
+    table: &'m Table,
+    module: &'m Module<'a>,
+    plan: &'m Plan,
+    ids: &'m Ids,
+) -> Result<Entries<'m, 'a>, Memory>
+    requires plan { (G : Table) × IsPlan G (plain_insts «module».now) plan.now }
+    requires ids { (x : ℕ) → IsDefinitionOf (plain_insts «module».now) x (definition_in ids.now x) }
+    ensures { IfOk result (λ e. e ≡ record { table = table.now; insts = plain_insts «module».now }) }
+{
+    let survey = Survey::new(alloc, table, module.insts.as_slice(), plan, ids)?;
+    let memo = Memo::new(alloc)?;
+    Ok(Entries { survey, memo })
+}
+
+/// Whether C1 is unbroken at an instruction.
+fn keeps_kernel(survey: &Survey<'_, '_>, inst: &Inst<'_>) -> bool
+    ensures { IsTrue result ↔ ((plain_inst inst.now).opcode ≡ 14 → IsKernel survey.now.table survey.now.insts) }
+{
+    inst.opcode != MEMORY_MODEL || is_kernel(survey)
+}
+
+/// Whether M1 is unbroken at an instruction.
+fn keeps_model(inst: &Inst<'_>) -> bool
+    ensures { IsTrue result ↔ ((plain_inst inst.now).opcode ≡ 14 → IsModel (plain_inst inst.now).operands) }
+{
+    inst.opcode != MEMORY_MODEL || is_model(inst.operands.as_slice())
+}
+
+/// Whether E1 is unbroken at an instruction.
+fn keeps_entry(survey: &Survey<'_, '_>, inst: &Inst<'_>) -> bool
+    ensures { IsTrue result ↔ ((plain_inst inst.now).opcode ≡ 14 → HasEntry survey.now.table survey.now.insts) }
+{
+    inst.opcode != MEMORY_MODEL || has_entry(survey)
+}
+
+/// The first of the five rules that is broken at an instruction of a number.
+#[tactic(auto, using(crate::proofs::Firsts::all_kept, crate::proofs::Firsts::kept_before_c1, crate::proofs::Firsts::kept_before_c2, crate::proofs::Firsts::kept_before_m1, crate::proofs::Firsts::kept_before_e1, crate::proofs::Firsts::kept_before_e2))]
+fn first_of(
+    survey: &Survey<'_, '_>,
+    memo: &mut Memo,
+    number: u32,
+    inst: &Inst<'_>,
+) -> Result<Option<Rule>, Memory>
+    requires number { number < length survey.now.insts }
+    requires known { IsKnown survey.now memo.old }
+    ensures first { IfOk result (λ o. IsFirstAt survey.now.table survey.now.insts number (plain_inst inst.now) o) }
+    ensures known { IsKnown survey.now memo.new }
+{
+    if !keeps_kernel(survey, inst) {
+        return Ok(Some(Rule::C1));
+    }
+    if !memo.is_capable(survey, inst)? {
+        return Ok(Some(Rule::C2));
+    }
+    if !keeps_model(inst) {
+        return Ok(Some(Rule::M1));
+    }
+    if !keeps_entry(survey, inst) {
+        return Ok(Some(Rule::E1));
+    }
+    if !keeps_entries(survey, number, inst) {
+        return Ok(Some(Rule::E2));
+    }
+    Ok(None)
+}
+
+impl<'m, 'a> Entries<'m, 'a> {
+    /// The first of the rules C1, C2, M1, E1 and E2, in this order, that is broken at the instruction of a number, from 0; or none
+    /// where none of them is.
+    ///
+    /// - C1, at OpMemoryModel: the module has not Kernel, or it has Shader (2.16.1, 3.31).
+    /// - C2: the entry of the instruction in the grammar table, or an enumerant or a set bit among its operands other than those of
+    ///   kind Capability, lists capabilities of which the module has none; or the module has not the capability of a type's width or
+    ///   of a vector's count (3.31; those of widths and counts own).
+    /// - M1, at OpMemoryModel: the addressing model is not Physical32 or Physical64, or the memory model is not OpenCL (own).
+    /// - E1, at OpMemoryModel: there is no OpEntryPoint, and the module has not Linkage (2.16.1).
+    /// - E2: an OpEntryPoint of another model than Kernel, or of a function that is no definition, does not return void, or is
+    ///   called; an OpExecutionMode of a function that is no entry point's; an OpFunction of a declaration that is not imported, or
+    ///   of a definition that is (2.4, 2.16.1, 3.17).
+    ///
+    /// `Memory` comes only where a growth of memory was refused: what enumerants ask for is kept.
+    #[inline(always)]
+    pub fn first_at(&mut self, inst: u32) -> Result<Option<Rule>, Memory>
+        requires { inst < length self.old.insts }
+        ensures first { IfOk result (λ o. (i : PlainInst) → slice_get self.old.insts inst ≡ Some i → IsFirstAt self.old.table self.old.insts inst i o) }
+        ensures same { self.new ≡ self.old }
+    {
+        first_of(&self.survey, &mut self.memo, inst, self.survey.inst(inst))
+    }
+}

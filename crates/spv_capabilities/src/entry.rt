@@ -1,0 +1,157 @@
+//! The memory model and the entry points: the rules M1, E1 and E2.
+
+ghost use Rattle.std.specs.Prelude.{◌≡◌, ◌↔◌, ◌<◌, ℕ, List, IsTrue, length, slice_get, Some};
+ghost use Rattle.spv_inst.specs.Module.{plain_inst, plain_operands};
+ghost use Rattle.spv_inst.specs.Operand as operand;
+ghost use Rattle.spv_layout.specs.Place.{IsDefinition};
+ghost use Rattle.spv_ids.specs.Definition.{IsDefinedAt};
+ghost use Rattle.spv_ids.specs.Order.{HasOpcode};
+ghost use Rattle.spv_capabilities.specs.Memory.{IsModel};
+ghost use Rattle.spv_capabilities.specs.Entry.{HasEntry, ReturnsVoid, IsCalled, IsEntered, IsKernelFunction, IsSoundEntry, IsSoundMode, IsSoundLinkage};
+ghost use Rattle.spv_capabilities.specs.Keeps.{KeepsEntries};
+
+use crate::surveyed::Survey;
+use spv_inst::{Inst, Operand};
+
+/// The opcodes of OpEntryPoint, OpExecutionMode, OpTypeVoid and OpFunction.
+const ENTRY_POINT: u16 = 15;
+
+const EXECUTION_MODE: u16 = 16;
+
+const TYPE_VOID: u16 = 19;
+
+const FUNCTION: u16 = 54;
+
+/// The number of the execution model Kernel.
+const KERNEL: u32 = 6;
+
+/// Whether M1 is unbroken at an OpMemoryModel with these operands.
+pub fn is_model(operands: &[Operand<'_>]) -> bool
+    ensures { IsTrue result ↔ IsModel (plain_operands operands.now) }
+{
+    match operands {
+        [
+            Operand::Value { value: 1 | 2, .. },
+            Operand::Value { value: 2, .. },
+        ] => true,
+        _ => false,
+    }
+}
+
+/// Whether there is an OpEntryPoint, or the module has Linkage.
+pub fn has_entry(survey: &Survey<'_, '_>) -> bool
+    ensures { IsTrue result ↔ HasEntry survey.now.table survey.now.insts }
+{
+    survey.has_entry_point() || survey.has(5)
+}
+
+/// The first `Type` of the operands.
+fn type_in(operands: &[Operand<'_>]) -> Option<u32>
+    ensures { result ≡ operand.type_in (plain_operands operands.now) }
+{
+    for operand in operands {
+        if let Operand::OfType(id) = operand {
+            return Some(*id);
+        }
+    }
+    None
+}
+
+/// Whether an id is that of an OpTypeVoid.
+fn is_void(survey: &Survey<'_, '_>, id: u32) -> bool
+    ensures { IsTrue result ↔ ((n : ℕ) × IsDefinedAt survey.now.insts id n × HasOpcode survey.now.insts n 19) }
+{
+    match survey.definition(id) {
+        Some(number) => survey.inst(number).opcode == TYPE_VOID,
+        None => false,
+    }
+}
+
+/// Whether the result type of a function is void.
+fn returns_void(survey: &Survey<'_, '_>, function: u32) -> bool
+    requires { function < length survey.now.insts }
+    ensures { IsTrue result ↔ ReturnsVoid survey.now.insts function }
+{
+    match type_in(survey.inst(function).operands.as_slice()) {
+        Some(id) => is_void(survey, id),
+        None => false,
+    }
+}
+
+/// Whether a function may be that of an entry point.
+fn may_enter(survey: &Survey<'_, '_>, function: u32) -> bool
+    requires { function < length survey.now.insts }
+    ensures { IsTrue result ↔ (IsDefinition survey.now.insts function × ReturnsVoid survey.now.insts function × (¬ (IsCalled survey.now.insts function))) }
+{
+    survey.is_definition(function) && returns_void(survey, function) && !survey.is_called(function)
+}
+
+/// Whether an id is that of a function that may be an entry point's.
+fn is_kernel_function(survey: &Survey<'_, '_>, id: u32) -> bool
+    ensures { IsTrue result ↔ IsKernelFunction survey.now.insts id }
+{
+    match survey.definition(id) {
+        Some(function) => may_enter(survey, function),
+        None => false,
+    }
+}
+
+/// Whether an id is that of an entry point's function.
+fn is_entered(survey: &Survey<'_, '_>, id: u32) -> bool
+    ensures { IsTrue result ↔ ((f : ℕ) × IsDefinedAt survey.now.insts id f × IsEntered survey.now.insts f) }
+{
+    match survey.definition(id) {
+        Some(function) => survey.is_entered(function),
+        None => false,
+    }
+}
+
+/// Whether E2 is unbroken at an OpEntryPoint with these operands.
+fn is_sound_entry(survey: &Survey<'_, '_>, operands: &[Operand<'_>]) -> bool
+    ensures { IsTrue result ↔ IsSoundEntry survey.now.insts (plain_operands operands.now) }
+{
+    match operands {
+        [
+            Operand::Value { value: model, .. },
+            Operand::Id(function),
+            ..
+        ] => { *model == KERNEL && is_kernel_function(survey, *function) }
+        _ => false,
+    }
+}
+
+/// Whether E2 is unbroken at an OpExecutionMode with these operands.
+fn is_sound_mode(survey: &Survey<'_, '_>, operands: &[Operand<'_>]) -> bool
+    ensures { IsTrue result ↔ IsSoundMode survey.now.insts (plain_operands operands.now) }
+{
+    match operands {
+        [Operand::Id(function), ..] => is_entered(survey, *function),
+        _ => false,
+    }
+}
+
+/// Whether E2 is unbroken at an OpFunction of a number.
+fn is_sound_linkage(survey: &Survey<'_, '_>, number: u32) -> bool
+    requires { number < length survey.now.insts }
+    ensures { IsTrue result ↔ IsSoundLinkage survey.now.table survey.now.insts number }
+{
+    let defined = survey.is_definition(number);
+    if survey.is_imported(number) {
+        !defined
+    } else {
+        defined
+    }
+}
+
+/// Whether E2 is unbroken at an instruction of a number.
+pub fn keeps_entries(survey: &Survey<'_, '_>, number: u32, inst: &Inst<'_>) -> bool
+    requires { number < length survey.now.insts }
+    ensures { IsTrue result ↔ KeepsEntries survey.now.table survey.now.insts number (plain_inst inst.now) }
+{
+    match inst.opcode {
+        ENTRY_POINT => is_sound_entry(survey, inst.operands.as_slice()),
+        EXECUTION_MODE => is_sound_mode(survey, inst.operands.as_slice()),
+        FUNCTION => is_sound_linkage(survey, number),
+        _ => true,
+    }
+}

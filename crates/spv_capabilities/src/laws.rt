@@ -1,0 +1,53 @@
+//! Worked examples of the definitions. Each function does nothing: its contract is what is proved.
+
+ghost use Rattle.std.specs.Prelude.{[], ◌∷◌};
+ghost use Rattle.spv_inst.specs.Operand.{Result, Id, Word, Value, Mask};
+ghost use Rattle.spv_capabilities.specs.Capable.{Has, IsKernel, IsCoveredEntry, IsCoveredOperand, HasNeeded, needs_of};
+ghost use Rattle.spv_capabilities.specs.Memory.{IsModel};
+ghost use Rattle.spv_capabilities.specs.Entry.{HasEntry, IsKernelFunction, IsSoundEntry, IsSoundMode, IsSoundLinkage};
+ghost use Rattle.spv_capabilities.specs.Example.{small, inst, vectors, linked, entry, void_function, kernel, called, declaration};
+
+/// Capabilities that a module has, by the small table: what lists Kernel implies it.
+pub fn capability_examples()
+    ensures implied { Has small vectors 6 }
+    ensures not_implied { ¬ (Has small vectors 5) }
+    ensures kernel { IsKernel small vectors }
+    ensures no_kernel { ¬ (IsKernel small linked) }
+{}
+
+/// Entries, enumerants and widths that ask for capabilities.
+pub fn covered_examples()
+    ensures entry { IsCoveredEntry small vectors 31 }
+    ensures no_entry { ¬ (IsCoveredEntry small linked 31) }
+    // Volatile lists Linkage and Kernel, of which the module has one; Nontemporal lists a name that no capability bears.
+    ensures one_of_two { IsCoveredOperand small vectors (Mask 1 1) }
+    ensures unknown_name { ¬ (IsCoveredOperand small vectors (Mask 1 5)) }
+    // The name of no bit is not asked for, and nor is that of a capability.
+    ensures no_bit { IsCoveredOperand small vectors (Mask 1 0) }
+    ensures capability { IsCoveredOperand small linked (Value 0 7) }
+    // A vector of eight, and an int of 16 bits.
+    ensures vector { HasNeeded small vectors (needs_of (inst 23 (Result 2 ∷ Id 1 ∷ Word 8 ∷ []))) }
+    ensures short { ¬ (HasNeeded small vectors (needs_of (inst 21 (Result 1 ∷ Word 16 ∷ Word 0 ∷ [])))) }
+{}
+
+/// Memory models.
+pub fn model_examples()
+    ensures physical { IsModel (Value 3 2 ∷ Value 4 2 ∷ []) }
+    ensures logical { ¬ (IsModel (Value 3 0 ∷ Value 4 2 ∷ [])) }
+{}
+
+/// Entry points, execution modes and imports.
+pub fn entry_examples()
+    ensures entry_point { HasEntry small kernel }
+    ensures linkage { HasEntry small linked }
+    ensures no_entry { ¬ (HasEntry small vectors) }
+    ensures function { IsKernelFunction kernel 3 }
+    ensures called { ¬ (IsKernelFunction called 3) }
+    ensures entry { IsSoundEntry kernel (entry.operands) }
+    ensures other_model { ¬ (IsSoundEntry kernel (Value 9 5 ∷ Id 3 ∷ [])) }
+    ensures mode { IsSoundMode kernel (Id 3 ∷ []) }
+    ensures no_mode { ¬ (IsSoundMode void_function (Id 3 ∷ [])) }
+    // Import is 1, and Export is 0.
+    ensures imported { IsSoundLinkage small (declaration 1) 1 }
+    ensures exported { ¬ (IsSoundLinkage small (declaration 0) 1) }
+{}

@@ -1,0 +1,222 @@
+//! What was asked of a table's entries and enumerants, and the rule C2.
+
+ghost use Rattle.std.specs.Prelude.{◌≡◌, ◌↔◌, ◌^◌, ◌/◌, ◌%◌, ◌<◌, IsTrue, IfOk, nat_eq, true};
+ghost use Rattle.std.specs.List.{AllByRecursion};
+ghost use Rattle.spv_inst.specs.Module.{plain_inst, plain_operand, plain_operands};
+ghost use Rattle.spv_capabilities.specs.Subject.{Subject};
+ghost use Rattle.spv_capabilities.specs.Capable.{IsCoveredEntry, IsCoveredValue, IsCoveredMask, IsCoveredOperand, IsCapable};
+ghost use Rattle.spv_capabilities.specs.Known.{IsKnown, answer_of};
+
+use crate::capable::{has_needed, is_capability_kind, is_covered_entry, is_covered_value};
+use crate::surveyed::Survey;
+use spv_grammar::Memory;
+use spv_inst::{Inst, Operand};
+use std::alloc::{AllocError, Global};
+use std::collections::BTreeMap;
+
+/// How many opcodes have a place in the list of answers. Those of the profile are below it.
+const OPCODES: usize = 331;
+
+/// What was answered, if it was asked.
+#[derive(Clone, Copy)]
+pub enum Answer {
+    Unknown,
+    Yes,
+    No,
+}
+
+/// What was asked about a module.
+#[derive(Drop)]
+pub struct Memo {
+    /// Of each opcode, as far as the list goes, whether its entry is covered.
+    entries: Vec<Answer>,
+    /// Of the enumerants that were met, by their kinds and values, whether they are covered.
+    enumerants: BTreeMap<(u32, u32), bool>,
+}
+
+/// The number of one bit.
+fn bit_at(position: u32) -> u32
+    requires { position < 32 }
+    ensures { result ≡ 2 ^ position }
+{
+    1 << position
+}
+
+/// A mask without the bits below a position.
+fn bits_above(mask: u32, position: u32) -> u32
+    requires { position < 32 }
+    ensures { result ≡ mask / 2 ^ position }
+{
+    mask >> position
+}
+
+/// Whether the lowest bit is set.
+fn is_odd(bits: u32) -> bool
+    ensures { result ≡ nat_eq (bits % 2) 1 }
+{
+    bits % 2 == 1
+}
+
+/// The answer that is kept.
+fn kept_answer(covered: bool) -> Answer
+    ensures { result ≡ answer_of covered }
+{
+    if covered { Answer::Yes } else { Answer::No }
+}
+
+impl Memo {
+    /// Nothing was asked.
+    pub fn new(alloc: Global) -> Result<Memo, AllocError>
+        ensures { IfOk result (λ m. (s : Subject) → IsKnown s m) }
+    {
+        Ok(Memo {
+            entries: vec![in alloc; Answer::Unknown; OPCODES]?,
+            enumerants: BTreeMap::new(alloc),
+        })
+    }
+
+    /// Asks of an opcode's entry for the first time.
+    #[inline(never)]
+    fn ask_entry(&mut self, survey: &Survey<'_, '_>, opcode: u16) -> bool
+        requires { IsKnown survey.now self.old }
+        ensures answer { IsTrue result ↔ IsCoveredEntry survey.now.table survey.now.insts opcode }
+        ensures known { IsKnown survey.now self.new }
+    {
+        let covered = is_covered_entry(survey, opcode);
+        let place = usize::from(opcode);
+        if place < self.entries.len() {
+            self.entries[place] = kept_answer(covered);
+        }
+        covered
+    }
+
+    /// Whether the entry of an opcode is covered.
+    #[inline(always)]
+    fn is_covered_entry(&mut self, survey: &Survey<'_, '_>, opcode: u16) -> bool
+        requires { IsKnown survey.now self.old }
+        ensures answer { IsTrue result ↔ IsCoveredEntry survey.now.table survey.now.insts opcode }
+        ensures known { IsKnown survey.now self.new }
+    {
+        match self.entries.get(usize::from(opcode)) {
+            Some(Answer::Yes) => true,
+            Some(Answer::No) => false,
+            _ => self.ask_entry(survey, opcode),
+        }
+    }
+
+    /// Whether the enumerant of a value of a kind is covered, if there is one.
+    fn is_covered_value(
+        &mut self,
+        survey: &Survey<'_, '_>,
+        kind: u32,
+        value: u32,
+    ) -> Result<bool, Memory>
+        requires { IsKnown survey.now self.old }
+        ensures answer { IfOk result (λ b. IsTrue b ↔ IsCoveredValue survey.now.table survey.now.insts kind value) }
+        ensures known { IsKnown survey.now self.new }
+    {
+        if let Some(covered) = self.enumerants.get(&(kind, value)).copied() {
+            return Ok(covered);
+        }
+        let covered = is_covered_value(survey, kind, value);
+        self.enumerants.insert((kind, value), covered)?;
+        Ok(covered)
+    }
+
+    /// Whether a bit is not set, or its enumerant is covered. `bits` has it as the lowest.
+    fn is_covered_bit(
+        &mut self,
+        survey: &Survey<'_, '_>,
+        kind: u32,
+        bits: u32,
+        position: u32,
+    ) -> Result<bool, Memory>
+        requires known { IsKnown survey.now self.old }
+        requires position { position < 32 }
+        ensures answer { IfOk result (λ b. IsTrue b ↔ (nat_eq (bits % 2) 1 ≡ true → IsCoveredValue survey.now.table survey.now.insts kind (2 ^ position))) }
+        ensures known { IsKnown survey.now self.new }
+    {
+        if !is_odd(bits) {
+            return Ok(true);
+        }
+        self.is_covered_value(survey, kind, bit_at(position))
+    }
+
+    /// Whether the enumerants of a mask's set bits are covered.
+    fn is_covered_mask(
+        &mut self,
+        survey: &Survey<'_, '_>,
+        kind: u32,
+        mask: u32,
+    ) -> Result<bool, Memory>
+        requires { IsKnown survey.now self.old }
+        ensures answer { IfOk result (λ b. IsTrue b ↔ IsCoveredMask survey.now.table survey.now.insts kind mask) }
+        ensures known { IsKnown survey.now self.new }
+    {
+        for position in 0..32u32 {
+            let bits = bits_above(mask, position);
+            if bits == 0 {
+                return Ok(true);
+            }
+            if !self.is_covered_bit(survey, kind, bits, position)? {
+                return Ok(false);
+            }
+        }
+        Ok(true)
+    }
+
+    /// Whether an operand is of kind Capability, or its value or each set bit of its mask is covered.
+    fn is_covered_operand(
+        &mut self,
+        survey: &Survey<'_, '_>,
+        operand: &Operand<'_>,
+    ) -> Result<bool, Memory>
+        requires { IsKnown survey.now self.old }
+        ensures answer { IfOk result (λ b. IsTrue b ↔ IsCoveredOperand survey.now.table survey.now.insts (plain_operand operand.now)) }
+        ensures known { IsKnown survey.now self.new }
+    {
+        match operand {
+            Operand::Value { kind, value } => if is_capability_kind(survey, *kind) {
+                Ok(true)
+            } else {
+                self.is_covered_value(survey, *kind, *value)
+            },
+            Operand::Mask { kind, value } => if is_capability_kind(survey, *kind) {
+                Ok(true)
+            } else {
+                self.is_covered_mask(survey, *kind, *value)
+            },
+            _ => Ok(true),
+        }
+    }
+
+    /// Whether all operands are covered.
+    fn are_covered_operands(
+        &mut self,
+        survey: &Survey<'_, '_>,
+        operands: &[Operand<'_>],
+    ) -> Result<bool, Memory>
+        requires { IsKnown survey.now self.old }
+        ensures answer { IfOk result (λ b. IsTrue b ↔ AllByRecursion (IsCoveredOperand survey.now.table survey.now.insts) (plain_operands operands.now)) }
+        ensures known { IsKnown survey.now self.new }
+    {
+        for operand in operands {
+            if !self.is_covered_operand(survey, operand)? {
+                return Ok(false);
+            }
+        }
+        Ok(true)
+    }
+
+    /// Whether C2 is unbroken at an instruction.
+    pub fn is_capable(&mut self, survey: &Survey<'_, '_>, inst: &Inst<'_>) -> Result<bool, Memory>
+        requires { IsKnown survey.now self.old }
+        ensures answer { IfOk result (λ b. IsTrue b ↔ IsCapable survey.now.table survey.now.insts (plain_inst inst.now)) }
+        ensures known { IsKnown survey.now self.new }
+    {
+        if !self.is_covered_entry(survey, inst.opcode) || !has_needed(survey, inst) {
+            return Ok(false);
+        }
+        self.are_covered_operands(survey, inst.operands.as_slice())
+    }
+}

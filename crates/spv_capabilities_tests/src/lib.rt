@@ -1,0 +1,5 @@
+//! Tests of `spv_capabilities`.
+#![tactic(auto)]
+
+#[cfg(test)]
+mod tests;

@@ -1,0 +1,2 @@
+mod Casting
+pub mod Listed

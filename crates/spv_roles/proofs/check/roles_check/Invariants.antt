@@ -1,0 +1,8 @@
+use Rattle.spv_grammar.specs.Table.{Table}
+use Rattle.spv_inst.specs.Module.{plain_insts}
+use Rattle.spv_layout.specs.Plan.{IsPlan}
+use Rattle.spv_roles.specs.Known.{AreInRoleUpTo}
+use Rattle.spv_roles.proofs.check.roles_check.Given as goal
+
+abbrev pub invariant-loop-n : goal.invariant-loop-n
+invariant-loop-n l = (G : Table) → IsPlan G (plain_insts l.module) l.plan → AreInRoleUpTo G (plain_insts l.module) l.n

@@ -1,0 +1,13 @@
+-- Small examples.
+use Rattle.std.specs.Prelude.{List, [], ◌∷◌}
+use Rattle.spv_inst.specs.Operand.{OfType, Result, PlainInst}
+use Rattle.spv_ops.specs.Example.{inst}
+
+-- %1 = OpTypeVoid, %2 = OpUndef %1, %3 = OpFunction %1 .., %4 = OpString ..
+abbrev pub few : List PlainInst
+few =
+    inst 19 (Result 1 ∷ []) ∷
+    inst 1 (OfType 1 ∷ Result 2 ∷ []) ∷
+    inst 54 (OfType 1 ∷ Result 3 ∷ []) ∷
+    inst 7 (Result 4 ∷ []) ∷
+    []

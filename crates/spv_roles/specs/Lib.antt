@@ -1,0 +1,5 @@
+pub mod Role
+pub mod Broken
+pub mod Outcome
+pub mod Known
+pub mod Example

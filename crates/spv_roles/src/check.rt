@@ -1,0 +1,95 @@
+ghost use Rattle.std.specs.Prelude.{◌≡◌, ◌+◌, ◌≤◌, ◌<◌, ℕ, List, length, slice_get, sum_by, Some, OnOk, IfErr, MatchBool};
+ghost use Rattle.spv_grammar.specs.Table.{Table};
+ghost use Rattle.spv_inst.specs.Operand.{PlainInst};
+ghost use Rattle.spv_inst.specs.Module.{plain_inst, plain_insts, plain_operand};
+ghost use Rattle.spv_ids.specs.Uses as uses;
+ghost use Rattle.spv_layout.specs.First.{IsUnbroken};
+ghost use Rattle.spv_layout.specs.Place.{word_count};
+ghost use Rattle.spv_layout.specs.Plan.{IsPlan};
+ghost use Rattle.spv_layout.specs.Shape.{Fits};
+ghost use Rattle.spv_ids.specs.Outcome.{IsDefinitionOf, definition_in};
+ghost use Rattle.spv_roles.specs.Broken.{Broken};
+ghost use Rattle.spv_roles.specs.Known.{IsInRole, IsMiscast, AreInRoleBefore, HasMiscast};
+ghost use Rattle.spv_roles.specs.Outcome.{AreInRole, IsRefusal};
+
+use crate::role::plays;
+use spv_ids::Ids;
+use spv_inst::{Fault, Inst, Module, Operand, Rule};
+use spv_layout::{Plan, role};
+use spv_ops::Definitions;
+
+/// The id that an operand uses, if it is an id other than a result.
+#[inline(always)]
+fn used_id(operand: Operand<'_>) -> Option<u32>
+    ensures { result ≡ uses.used_id (plain_operand operand.entry) }
+{
+    match operand {
+        Operand::OfType(id) => Some(id),
+        Operand::Id(id) => Some(id),
+        _ => None,
+    }
+}
+
+/// Whether operand `k` of an instruction is no use, or a use of an id in its role.
+#[inline(always)]
+fn is_in_role(definitions: &Definitions<'_, '_>, inst: &Inst<'_>, k: usize) -> bool
+    ensures { (G : Table) → Fits G (plain_inst inst.now)
+        → MatchBool result (IsInRole G definitions.now (plain_inst inst.now) k) (IsMiscast G definitions.now (plain_inst inst.now) k) }
+{
+    let Some(operand) = inst.operands.as_slice().get(k) else {
+        return true;
+    };
+    let Some(id) = used_id(*operand) else {
+        return true;
+    };
+    match role(inst, k) {
+        Some(role) => plays(definitions, role, id),
+        None => true,
+    }
+}
+
+/// Whether all uses of an instruction are in their roles.
+fn are_in_role(definitions: &Definitions<'_, '_>, inst: &Inst<'_>) -> bool
+    ensures { (G : Table) → Fits G (plain_inst inst.now)
+        → MatchBool result (AreInRoleBefore G definitions.now (plain_inst inst.now) (length inst.now.operands)) (HasMiscast G definitions.now (plain_inst inst.now)) }
+{
+    for k in 0..inst.operands.as_slice().len() {
+        if !is_in_role(definitions, inst, k) {
+            return false;
+        }
+    }
+    true
+}
+
+/// Whether each use of a module is of an id that plays the role which the use's shape asks for (own; SPIR-V Specification 1.6,
+/// sections 2.2.1 and 2.16): a type declaration, a value (an instruction with a result type, other than OpFunction), an
+/// OpFunction, an OpString, an OpExtInstImport, or an OpVariable outside functions. `plan` and `ids` are what `lay_out` and
+/// `number` answered of that module.
+///
+/// Time is linear in the words of the module. It takes no memory.
+///
+/// A `Fault` tells Y1 at the first instruction with a use that is not in its role, and that instruction's first word (words and
+/// instructions from 0).
+pub fn roles_check(module: &Module<'_>, plan: &Plan, ids: &Ids) -> Result<(), Fault>
+    // The condition of `lay_out`, and that the plan and the ids are what was answered of the module.
+    requires words { 5 + sum_by word_count (plain_insts «module».now) ≤ 4194304 }
+    requires plan { (G : Table) × IsPlan G (plain_insts «module».now) plan.now }
+    requires ids { (x : ℕ) → IsDefinitionOf (plain_insts «module».now) x (definition_in ids.now x) }
+    // Each use is in its role, so the rule is broken nowhere.
+    ensures roles { (G : Table) → IsPlan G (plain_insts «module».now) plan.now → OnOk result (AreInRole G (plain_insts «module».now)) }
+    ensures unbroken { (G : Table) → IsPlan G (plain_insts «module».now) plan.now → OnOk result (IsUnbroken (Broken G (plain_insts «module».now)) 4) }
+    ensures refused { (G : Table) → IsPlan G (plain_insts «module».now) plan.now → IfErr result (λ f. IsRefusal G (plain_insts «module».now) f) }
+{
+    let insts = module.insts.as_slice();
+    let definitions = Definitions::new(insts, plan, ids);
+    for n in 0..insts.len() {
+        if !are_in_role(&definitions, &insts[n]) {
+            return Err(Fault {
+                rule: Rule::Y1,
+                inst: n as u32,
+                word: definitions.place(n as u32).word,
+            });
+        }
+    }
+    Ok(())
+}

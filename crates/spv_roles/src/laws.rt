@@ -1,0 +1,33 @@
+//! Laws of roles, and worked examples. Each function does nothing: its contract is what is proved.
+
+ghost use Rattle.std.specs.Prelude.{ℕ, List};
+ghost use Rattle.spv_grammar.specs.Table.{Table};
+ghost use Rattle.spv_inst.specs.Operand.{PlainInst};
+ghost use Rattle.spv_layout.specs.First.{IsUnbroken};
+ghost use Rattle.spv_layout.specs.declared.form.Role.TheVariants as role;
+ghost use Rattle.spv_roles.specs.Broken.{Broken};
+ghost use Rattle.spv_roles.specs.Outcome.{AreInRole};
+ghost use Rattle.spv_roles.specs.Role.{Plays};
+ghost use Rattle.spv_roles.specs.Example.{few};
+
+/// Where each id that is used plays its role, Y1 is broken nowhere.
+pub fn played_is_unbroken()
+    ensures { (G : Table) (is : List PlainInst) → AreInRole G is → IsUnbroken (Broken G is) 4 }
+{}
+
+/// Ids that play a role, and such as do not.
+pub fn role_examples()
+    // %1 is a type, and the value %2 is none.
+    ensures of_type { Plays few role.OfType 1 }
+    ensures no_type { ¬ (Plays few role.OfType 2) }
+    // %2 is a value, and the function %3 is none.
+    ensures value { Plays few role.Value 2 }
+    ensures no_value { ¬ (Plays few role.Value 3) }
+    ensures function { Plays few role.Function 3 }
+    ensures no_function { ¬ (Plays few role.Function 2) }
+    ensures text { Plays few role.Text 4 }
+    ensures no_text { ¬ (Plays few role.Text 1) }
+    // There is no %5.
+    ensures no_set { ¬ (Plays few role.Set 5) }
+    ensures any { Plays few role.Any 5 }
+{}

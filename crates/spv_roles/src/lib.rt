@@ -1,0 +1,8 @@
+//! The roles in which a module uses its ids (rule Y1).
+#![tactic(auto)]
+
+mod check;
+pub mod laws;
+mod role;
+
+pub use check::roles_check;

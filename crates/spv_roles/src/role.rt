@@ -1,0 +1,87 @@
+ghost use Rattle.std.specs.Prelude.{◌≡◌, ◌↔◌, IsTrue, IsSomeAnd};
+ghost use Rattle.spv_inst.specs.Module.{plain_inst};
+ghost use Rattle.spv_inst.specs.Width.{definition_of};
+ghost use Rattle.spv_roles.specs.Role.{IsTypeDeclaration, IsValue, HasOpcode, Plays};
+
+use spv_inst::Inst;
+use spv_layout::Role;
+use spv_ops::{Definitions, type_in};
+
+/// The opcode of OpString.
+const STRING: u16 = 7;
+
+/// The opcode of OpExtInstImport.
+const EXT_INST_IMPORT: u16 = 11;
+
+/// The opcode of OpTypeVoid, the first of type declarations.
+const TYPE_VOID: u16 = 19;
+
+/// The opcode of OpTypeFunction, the last of type declarations.
+const TYPE_FUNCTION: u16 = 33;
+
+/// The opcode of OpFunction.
+const FUNCTION: u16 = 54;
+
+/// Whether an instruction is a value: it has a result type, and is no OpFunction.
+#[inline(always)]
+fn is_value(inst: &Inst<'_>) -> bool
+    ensures { IsTrue result ↔ IsValue (plain_inst inst.now) }
+{
+    inst.opcode != FUNCTION && type_in(inst.operands.as_slice()).is_some()
+}
+
+/// Whether an instruction is a type declaration.
+#[inline(always)]
+fn is_type(inst: &Inst<'_>) -> bool
+    ensures { IsTrue result ↔ IsTypeDeclaration (plain_inst inst.now) }
+{
+    inst.opcode >= TYPE_VOID && inst.opcode <= TYPE_FUNCTION
+}
+
+/// Whether the definition of an id has an opcode.
+fn has_opcode(definitions: &Definitions<'_, '_>, id: u32, opcode: u16) -> bool
+    ensures { IsTrue result ↔ IsSomeAnd (definition_of definitions.now id) (HasOpcode opcode) }
+{
+    match definitions.definition(id) {
+        Some(inst) => inst.opcode == opcode,
+        None => false,
+    }
+}
+
+/// Whether the definition of an id is a type declaration.
+#[inline(always)]
+fn defines_type(definitions: &Definitions<'_, '_>, id: u32) -> bool
+    ensures { IsTrue result ↔ IsSomeAnd (definition_of definitions.now id) IsTypeDeclaration }
+{
+    match definitions.definition(id) {
+        Some(inst) => is_type(inst),
+        None => false,
+    }
+}
+
+/// Whether the definition of an id is a value.
+#[inline(always)]
+fn defines_value(definitions: &Definitions<'_, '_>, id: u32) -> bool
+    ensures { IsTrue result ↔ IsSomeAnd (definition_of definitions.now id) IsValue }
+{
+    match definitions.definition(id) {
+        Some(inst) => is_value(inst),
+        None => false,
+    }
+}
+
+/// Whether an id plays a role: its definition is what the role asks for.
+#[inline(always)]
+pub fn plays(definitions: &Definitions<'_, '_>, role: Role, id: u32) -> bool
+    ensures { IsTrue result ↔ Plays definitions.now role id }
+{
+    match role {
+        Role::OfType => defines_type(definitions, id),
+        Role::Value => defines_value(definitions, id),
+        Role::Function => has_opcode(definitions, id, FUNCTION),
+        Role::Text => has_opcode(definitions, id, STRING),
+        Role::Set => has_opcode(definitions, id, EXT_INST_IMPORT),
+        Role::Global => definitions.is_global(id),
+        Role::Label | Role::Any => true,
+    }
+}

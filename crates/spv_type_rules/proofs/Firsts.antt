@@ -1,0 +1,163 @@
+-- The rules Y2 to Y8 in their order.
+use Rattle.std.proofs.Common.{◌≡◌, ◌<◌, ◌↔◌, ℕ, List, Some, Bool, true, false, refl, sym, ◌∙◌, subst, arith, lit<, lit≤}
+use Rattle.std.specs.Prelude.{IsTrue, slice_get}
+use Rattle.spv_grammar.specs.Table.{Table}
+use Rattle.spv_inst.specs.Operand.{PlainInst}
+use Rattle.spv_inst.specs.declared.fault.Rule.{Rule}
+use Rattle.spv_inst.specs.declared.fault.Rule.TheVariants as rule
+use Rattle.spv_layout.specs.First.{rank_of}
+use Rattle.spv_ops.specs.Typed.{IsTyped, IsTypedAt}
+use Rattle.spv_type_rules.specs.Keeps.{Keeps, KeepsFunctions, KeepsReturns, CallsAreSound}
+use Rattle.spv_type_rules.specs.Rules.{IsFirstRule}
+
+-- The rules of rank below b are unbroken, if those of Y2 to Y8 are that are among them.
+pub keeps_below : (G : Table) (is : List PlainInst) (n : ℕ) (i : PlainInst) (b : ℕ)
+    → (26 < b → Keeps G is rule.Y2 n i)
+    → (27 < b → Keeps G is rule.Y3 n i)
+    → (28 < b → Keeps G is rule.Y4 n i)
+    → (29 < b → Keeps G is rule.Y5 n i)
+    → (30 < b → Keeps G is rule.Y6 n i)
+    → (31 < b → Keeps G is rule.Y7 n i)
+    → (32 < b → Keeps G is rule.Y8 n i)
+    → (q : Rule) → rank_of q < b → Keeps G is q n i
+keeps_below G is n i b y2 y3 y4 y5 y6 y7 y8 rule.I1 l = tt
+keeps_below G is n i b y2 y3 y4 y5 y6 y7 y8 rule.I2 l = tt
+keeps_below G is n i b y2 y3 y4 y5 y6 y7 y8 rule.I3 l = tt
+keeps_below G is n i b y2 y3 y4 y5 y6 y7 y8 rule.I4 l = tt
+keeps_below G is n i b y2 y3 y4 y5 y6 y7 y8 rule.I5 l = tt
+keeps_below G is n i b y2 y3 y4 y5 y6 y7 y8 rule.I6 l = tt
+keeps_below G is n i b y2 y3 y4 y5 y6 y7 y8 rule.I7 l = tt
+keeps_below G is n i b y2 y3 y4 y5 y6 y7 y8 rule.I8 l = tt
+keeps_below G is n i b y2 y3 y4 y5 y6 y7 y8 rule.I9 l = tt
+keeps_below G is n i b y2 y3 y4 y5 y6 y7 y8 rule.I10 l = tt
+keeps_below G is n i b y2 y3 y4 y5 y6 y7 y8 rule.I11 l = tt
+keeps_below G is n i b y2 y3 y4 y5 y6 y7 y8 rule.I12 l = tt
+keeps_below G is n i b y2 y3 y4 y5 y6 y7 y8 rule.P1 l = tt
+keeps_below G is n i b y2 y3 y4 y5 y6 y7 y8 rule.L1 l = tt
+keeps_below G is n i b y2 y3 y4 y5 y6 y7 y8 rule.L2 l = tt
+keeps_below G is n i b y2 y3 y4 y5 y6 y7 y8 rule.D1 l = tt
+keeps_below G is n i b y2 y3 y4 y5 y6 y7 y8 rule.D2 l = tt
+keeps_below G is n i b y2 y3 y4 y5 y6 y7 y8 rule.D3 l = tt
+keeps_below G is n i b y2 y3 y4 y5 y6 y7 y8 rule.D4 l = tt
+keeps_below G is n i b y2 y3 y4 y5 y6 y7 y8 rule.D5 l = tt
+keeps_below G is n i b y2 y3 y4 y5 y6 y7 y8 rule.Y1 l = tt
+keeps_below G is n i b y2 y3 y4 y5 y6 y7 y8 rule.C1 l = tt
+keeps_below G is n i b y2 y3 y4 y5 y6 y7 y8 rule.C2 l = tt
+keeps_below G is n i b y2 y3 y4 y5 y6 y7 y8 rule.M1 l = tt
+keeps_below G is n i b y2 y3 y4 y5 y6 y7 y8 rule.E1 l = tt
+keeps_below G is n i b y2 y3 y4 y5 y6 y7 y8 rule.E2 l = tt
+keeps_below G is n i b y2 y3 y4 y5 y6 y7 y8 rule.Y2 l = y2 l
+keeps_below G is n i b y2 y3 y4 y5 y6 y7 y8 rule.Y3 l = y3 l
+keeps_below G is n i b y2 y3 y4 y5 y6 y7 y8 rule.Y4 l = y4 l
+keeps_below G is n i b y2 y3 y4 y5 y6 y7 y8 rule.Y5 l = y5 l
+keeps_below G is n i b y2 y3 y4 y5 y6 y7 y8 rule.Y6 l = y6 l
+keeps_below G is n i b y2 y3 y4 y5 y6 y7 y8 rule.Y7 l = y7 l
+keeps_below G is n i b y2 y3 y4 y5 y6 y7 y8 rule.Y8 l = y8 l
+keeps_below G is n i b y2 y3 y4 y5 y6 y7 y8 rule.F1 l = tt
+keeps_below G is n i b y2 y3 y4 y5 y6 y7 y8 rule.F2 l = tt
+keeps_below G is n i b y2 y3 y4 y5 y6 y7 y8 rule.F3 l = tt
+keeps_below G is n i b y2 y3 y4 y5 y6 y7 y8 rule.F4 l = tt
+keeps_below G is n i b y2 y3 y4 y5 y6 y7 y8 rule.A1 l = tt
+keeps_below G is n i b y2 y3 y4 y5 y6 y7 y8 rule.A2 l = tt
+keeps_below G is n i b y2 y3 y4 y5 y6 y7 y8 rule.G1 l = tt
+
+untrue : (b : Bool) → b ≡ false → b ≡ true → ⊥
+untrue true e y = let no : true ≡ false = e in cc
+untrue false e y = let no : false ≡ true = y in cc
+
+pub refuted : (b : Bool) (P : Type 0) → b ≡ false → (IsTrue b ↔ P) → P → ⊥
+refuted b P e h p = untrue b e (h.1 p)
+
+typed_told : (G : Table) (is : List PlainInst) (n : ℕ) (i : PlainInst) → slice_get is n ≡ Some i → IsTypedAt G is n ↔ IsTyped G is n i
+typed_told G is n i at = (
+  λ t. let same : t.inst ≡ i = let e : Some t.inst ≡ Some i = sym t.there ∙ at in cc in subst (λ j. IsTyped G is n j) same t.typed,
+  λ t. record { inst = i; there = at; typed = t },
+)
+
+pub op_told : (G : Table) (is js : List PlainInst) (n : ℕ) (i : PlainInst) (b : Bool) → js ≡ is → slice_get is n ≡ Some i → (IsTrue b ↔ IsTypedAt G js n) → IsTrue b ↔ IsTyped G is n i
+op_told G is js n i b e at h =
+    let k : IsTrue b ↔ IsTypedAt G is n = subst (λ ks. IsTrue b ↔ IsTypedAt G ks n) e h in
+    let d = typed_told G is n i at in
+    (λ y. d.0 (k.0 y), λ t. k.1 (d.1 t))
+
+pub first_y5 : (G : Table) (is : List PlainInst) (n : ℕ) (i : PlainInst) → Keeps G is rule.Y2 n i → Keeps G is rule.Y3 n i → Keeps G is rule.Y4 n i
+    → (IsTyped G is n i → ⊥) → IsFirstRule G is n i rule.Y5
+first_y5 G is n i y2 y3 y4 never = record {
+  of_stage = refl;
+  last = lit≤ tt;
+  broken = never;
+  least = λ q l. keeps_below G is n i 29 (λ _. y2) (λ _. y3) (λ _. y4) (λ k. absurd (omega arith)) (λ k. absurd (omega arith)) (λ k. absurd (omega arith)) (λ k. absurd (omega arith)) q l;
+}
+
+pub first_y6 : (G : Table) (is : List PlainInst) (n : ℕ) (i : PlainInst) → Keeps G is rule.Y2 n i → Keeps G is rule.Y3 n i → Keeps G is rule.Y4 n i → IsTyped G is n i
+    → (KeepsFunctions is n i → ⊥) → IsFirstRule G is n i rule.Y6
+first_y6 G is n i y2 y3 y4 y5 never = record {
+  of_stage = refl;
+  last = lit≤ tt;
+  broken = never;
+  least = λ q l. keeps_below G is n i 30 (λ _. y2) (λ _. y3) (λ _. y4) (λ _. y5) (λ k. absurd (omega arith)) (λ k. absurd (omega arith)) (λ k. absurd (omega arith)) q l;
+}
+
+pub first_y7 : (G : Table) (is : List PlainInst) (n : ℕ) (i : PlainInst) → Keeps G is rule.Y2 n i → Keeps G is rule.Y3 n i → Keeps G is rule.Y4 n i → IsTyped G is n i → KeepsFunctions is n i
+    → (KeepsReturns is n i → ⊥) → IsFirstRule G is n i rule.Y7
+first_y7 G is n i y2 y3 y4 y5 y6 never = record {
+  of_stage = refl;
+  last = lit≤ tt;
+  broken = never;
+  least = λ q l. keeps_below G is n i 31 (λ _. y2) (λ _. y3) (λ _. y4) (λ _. y5) (λ _. y6) (λ k. absurd (omega arith)) (λ k. absurd (omega arith)) q l;
+}
+
+pub first_y8 : (G : Table) (is : List PlainInst) (n : ℕ) (i : PlainInst) → Keeps G is rule.Y2 n i → Keeps G is rule.Y3 n i → Keeps G is rule.Y4 n i → IsTyped G is n i → KeepsFunctions is n i
+    → KeepsReturns is n i → (CallsAreSound is i → ⊥) → IsFirstRule G is n i rule.Y8
+first_y8 G is n i y2 y3 y4 y5 y6 y7 never = record {
+  of_stage = refl;
+  last = lit≤ tt;
+  broken = never;
+  least = λ q l. keeps_below G is n i 32 (λ _. y2) (λ _. y3) (λ _. y4) (λ _. y5) (λ _. y6) (λ _. y7) (λ k. absurd (omega arith)) q l;
+}
+
+rank_below : (q : Rule) → rank_of q < 40
+rank_below rule.I1 = lit< tt
+rank_below rule.I2 = lit< tt
+rank_below rule.I3 = lit< tt
+rank_below rule.I4 = lit< tt
+rank_below rule.I5 = lit< tt
+rank_below rule.I6 = lit< tt
+rank_below rule.I7 = lit< tt
+rank_below rule.I8 = lit< tt
+rank_below rule.I9 = lit< tt
+rank_below rule.I10 = lit< tt
+rank_below rule.I11 = lit< tt
+rank_below rule.I12 = lit< tt
+rank_below rule.P1 = lit< tt
+rank_below rule.L1 = lit< tt
+rank_below rule.L2 = lit< tt
+rank_below rule.D1 = lit< tt
+rank_below rule.D2 = lit< tt
+rank_below rule.D3 = lit< tt
+rank_below rule.D4 = lit< tt
+rank_below rule.D5 = lit< tt
+rank_below rule.Y1 = lit< tt
+rank_below rule.C1 = lit< tt
+rank_below rule.C2 = lit< tt
+rank_below rule.M1 = lit< tt
+rank_below rule.E1 = lit< tt
+rank_below rule.E2 = lit< tt
+rank_below rule.Y2 = lit< tt
+rank_below rule.Y3 = lit< tt
+rank_below rule.Y4 = lit< tt
+rank_below rule.Y5 = lit< tt
+rank_below rule.Y6 = lit< tt
+rank_below rule.Y7 = lit< tt
+rank_below rule.Y8 = lit< tt
+rank_below rule.F1 = lit< tt
+rank_below rule.F2 = lit< tt
+rank_below rule.F3 = lit< tt
+rank_below rule.F4 = lit< tt
+rank_below rule.A1 = lit< tt
+rank_below rule.A2 = lit< tt
+rank_below rule.G1 = lit< tt
+
+pub all_kept : (G : Table) (is : List PlainInst) (n : ℕ) (i : PlainInst) → Keeps G is rule.Y2 n i → Keeps G is rule.Y3 n i → Keeps G is rule.Y4 n i → IsTyped G is n i → KeepsFunctions is n i
+    → KeepsReturns is n i → CallsAreSound is i → (q : Rule) → Keeps G is q n i
+all_kept G is n i y2 y3 y4 y5 y6 y7 y8 q = keeps_below G is n i 40 (λ _. y2) (λ _. y3) (λ _. y4) (λ _. y5) (λ _. y6) (λ _. y7) (λ _. y8) q (rank_below q)

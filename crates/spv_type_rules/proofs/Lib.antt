@@ -1,0 +1,8 @@
+pub mod Signatures
+pub mod Keys
+pub mod Places
+pub mod Firsts
+pub mod Counting
+pub mod Adding
+pub mod Pointers
+pub mod Repeating

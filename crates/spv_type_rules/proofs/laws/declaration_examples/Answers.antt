@@ -1,0 +1,14 @@
+use Rattle.std.proofs.Common.{inl, refl, lit<, lit≤}
+use Rattle.spv_inst.specs.Operand.{Result, Word}
+use Rattle.std.specs.Prelude.{[], ◌∷◌}
+use Rattle.spv_ops.specs.Example.{inst}
+use Rattle.spv_type_rules.proofs.laws.declaration_examples.Goals as goal
+
+pub returns-clause-array : goal.returns-clause-array
+returns-clause-array c = (tt, ((8, refl), lit≤ tt))
+
+pub returns-clause-constant : goal.returns-clause-constant
+returns-clause-constant c = (8, inl refl, λ _. lit< tt)
+
+pub returns-clause-again : goal.returns-clause-again
+returns-clause-again c = record { once = refl; place = 0; earlier = lit< tt; other = inst 21 (Result 1 ∷ Word 8 ∷ Word 0 ∷ []); there = refl; alike = (refl, refl) }

@@ -1,0 +1,11 @@
+pub mod Declaration
+pub mod Repeat
+pub mod Constant
+pub mod Function
+pub mod Keeps
+pub mod Key
+pub mod Example
+pub mod Seen
+pub mod Found
+pub mod Rules
+pub mod Counted

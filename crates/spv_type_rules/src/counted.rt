@@ -1,0 +1,36 @@
+ghost use Rattle.std.specs.Prelude.{◌≡◌, ◌<◌, ◌+◌, ℕ, List, Some, slice_get, nat_eq, if◌then◌else◌};
+ghost use Rattle.spv_inst.specs.Operand.{PlainInst};
+ghost use Rattle.spv_inst.specs.Module.{plain_inst};
+ghost use Rattle.spv_type_rules.specs.Counted.{AreCounted};
+
+use spv_inst::Inst;
+
+/// The opcode of OpFunction.
+const FUNCTION: u16 = 54;
+
+/// The opcode of OpFunctionParameter.
+const PARAMETER: u16 = 55;
+
+/// How many parameters stand after the last OpFunction before the instruction after one of an opcode.
+#[inline(always)]
+fn count_after(opcode: u16, count: u32) -> u32
+    requires { count < 4294967295 }
+    ensures { result ≡ (if nat_eq opcode 54 then 0 else (if nat_eq opcode 55 then count + 1 else count)) }
+{
+    if opcode == FUNCTION {
+        0
+    } else if opcode == PARAMETER {
+        count + 1
+    } else {
+        count
+    }
+}
+
+/// How many parameters stand after the last OpFunction before the next instruction, by how many before this one.
+#[inline(always)]
+pub fn next_count(inst: &Inst<'_>, count: u32) -> u32
+    requires { count < 4294967295 }
+    ensures { (is : List PlainInst) (n : ℕ) → slice_get is n ≡ Some (plain_inst inst.now) → AreCounted is n count → AreCounted is (n + 1) result }
+{
+    count_after(inst.opcode, count)
+}

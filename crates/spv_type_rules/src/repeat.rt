@@ -1,0 +1,130 @@
+//! Types that are declared twice.
+
+ghost use Rattle.std.specs.Prelude.{◌≡◌, ◌+◌, ◌++◌, ◌↔◌, ◌⊎◌, ℕ, List, Some, IsTrue, IfOk, OnOk, slice_get, map, [], ◌∷◌, MatchBool};
+ghost use Rattle.spv_inst.specs.Operand.{PlainInst};
+ghost use Rattle.spv_inst.specs.Module.{plain_inst, plain_operand};
+ghost use Rattle.spv_type_rules.specs.Repeat as spec;
+ghost use Rattle.spv_type_rules.specs.Repeat.{Repeats};
+ghost use Rattle.spv_type_rules.specs.Key as key;
+ghost use Rattle.spv_type_rules.specs.Key.{numbers_of};
+ghost use Rattle.spv_type_rules.specs.Seen.{AreSeen, HasKey};
+
+use spv_inst::{Inst, Operand};
+use spv_ops::after_result;
+use std::alloc::{AllocError, Global};
+use std::collections::BTreeSet;
+
+/// Whether an opcode declares a type that may be declared once only.
+#[inline(always)]
+pub fn is_declared_once(opcode: u16) -> bool
+    ensures { result ≡ spec.is_declared_once opcode }
+{
+    match opcode {
+        19..=23 | 31 | 33 => true,
+        _ => false,
+    }
+}
+
+/// Appends the octets of a text, each as a number above 0, and a 0.
+fn push_text(key: &mut Vec<u32>, text: &str) -> Result<(), AllocError>
+    ensures { OnOk result (key.new.items ≡ key.old.items ++ map (λ b. b + 1) text.now ++ 0 ∷ []) }
+{
+    for octet in text.as_bytes() {
+        key.push(u32::from(*octet) + 1)?;
+    }
+    key.push(0)?;
+    Ok(())
+}
+
+/// Appends two numbers.
+fn push_two(key: &mut Vec<u32>, one: u32, other: u32) -> Result<(), AllocError>
+    ensures { OnOk result (key.new.items ≡ key.old.items ++ one ∷ other ∷ []) }
+{
+    key.push(one)?;
+    key.push(other)?;
+    Ok(())
+}
+
+/// Appends the numbers of an operand.
+fn push_operand(key: &mut Vec<u32>, operand: Operand<'_>) -> Result<(), AllocError>
+    ensures { OnOk result (key.new.items ≡ key.old.items ++ numbers_of (plain_operand operand.entry)) }
+{
+    match operand {
+        Operand::OfType(x) => push_two(key, 0, x),
+        Operand::Result(x) => push_two(key, 1, x),
+        Operand::Id(x) => push_two(key, 2, x),
+        Operand::Word(x) => push_two(key, 3, x),
+        Operand::Number { low, high, words } => {
+            push_two(key, 4, low)?;
+            push_two(key, high, u32::from(words))
+        }
+        Operand::Text(text) => {
+            key.push(5)?;
+            push_text(key, text)
+        }
+        Operand::Value { kind, value } => {
+            key.push(6)?;
+            push_two(key, kind, value)
+        }
+        Operand::Mask { kind, value } => {
+            key.push(7)?;
+            push_two(key, kind, value)
+        }
+    }
+}
+
+/// The key of an instruction: its opcode and its operands, the result aside, as numbers.
+fn key_of(alloc: Global, inst: &Inst<'_>) -> Result<Vec<u32>, AllocError>
+    ensures { IfOk result (λ k. k.items ≡ key.key_of (plain_inst inst.now)) }
+{
+    let operands = after_result(inst.operands.as_slice());
+    let mut key = Vec::new(alloc);
+    key.push(u32::from(inst.opcode))?;
+    for operand in operands {
+        push_operand(&mut key, *operand)?;
+    }
+    Ok(key)
+}
+
+/// The types that instructions have declared so far, of those that may be declared once only.
+#[derive(Drop)]
+pub struct Seen {
+    /// The keys of their instructions.
+    keys: BTreeSet<Vec<u32>>,
+}
+
+impl Seen {
+    /// No types.
+    pub fn new(alloc: Global) -> Seen
+        ensures { (is : List PlainInst) → AreSeen is 0 result }
+    {
+        Seen {
+            keys: BTreeSet::new(alloc),
+        }
+    }
+
+    /// Adds a key, and answers whether it is new.
+    fn add(&mut self, key: Vec<u32>) -> Result<bool, AllocError>
+        ensures added { IfOk result (λ added. MatchBool added (¬ (HasKey key.items self.old.keys.keys)) (HasKey key.items self.old.keys.keys)) }
+        ensures keys { OnOk result ((k : List ℕ) → HasKey k self.new.keys.keys ↔ (HasKey k self.old.keys.keys ⊎ (key.items ≡ k))) }
+    {
+        let added = self.keys.insert(key)?;
+        Ok(added)
+    }
+
+    /// Whether an instruction declares a type again. It is then among those that are declared.
+    ///
+    /// An `AllocError` comes only where a growth of memory was refused.
+    pub fn repeats(&mut self, alloc: Global, inst: &Inst<'_>) -> Result<bool, AllocError>
+        ensures repeats { IfOk result (λ r. (is : List PlainInst) (n : ℕ) → slice_get is n ≡ Some (plain_inst inst.now) → AreSeen is n self.old
+            → IsTrue r ↔ Repeats is n (plain_inst inst.now)) }
+        ensures seen { OnOk result ((is : List PlainInst) (n : ℕ) → slice_get is n ≡ Some (plain_inst inst.now) → AreSeen is n self.old → AreSeen is (n + 1) self.new) }
+    {
+        if !is_declared_once(inst.opcode) {
+            return Ok(false);
+        }
+        let key = key_of(alloc, inst)?;
+        let added = self.add(key)?;
+        Ok(!added)
+    }
+}

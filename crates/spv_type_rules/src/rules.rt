@@ -1,0 +1,135 @@
+//! The rules of types at an instruction.
+
+ghost use Rattle.std.specs.Prelude.{◌≡◌, ◌<◌, ◌↔◌, ℕ, length, map, Some, IsTrue, slice_get};
+ghost use Rattle.spv_grammar.specs.Table.{Table};
+ghost use Rattle.spv_inst.specs.Module.{plain_inst, plain_insts};
+ghost use Rattle.spv_layout.specs.Place.{IsOfFunction};
+ghost use Rattle.spv_layout.specs.Plan.{IsPlan};
+ghost use Rattle.spv_ids.specs.Outcome.{IsDefinitionOf, definition_in};
+ghost use Rattle.spv_type_rules.specs.Repeat.{Repeats};
+ghost use Rattle.spv_type_rules.specs.Function.{parameters_between};
+ghost use Rattle.spv_type_rules.specs.Counted.{AreCounted};
+ghost use Rattle.spv_type_rules.specs.Keeps.{KeepsFunctions, KeepsReturns, CallsAreSound};
+ghost use Rattle.spv_type_rules.specs.Rules.{AreRules, rules_insts, IsFirstHere};
+
+use crate::constant::is_sound_constant;
+use crate::declaration::is_sound_declaration;
+use crate::function::{
+    count_parameters, is_sound_call, is_sound_function, is_sound_parameter, is_sound_return,
+    is_sound_return_value,
+};
+use spv_ids::Ids;
+use spv_inst::{Inst, Module, Rule};
+use spv_layout::Plan;
+use spv_ops::{Definitions, op_holds};
+
+/// A module whose types are judged.
+#[derive(Drop)]
+pub struct Rules<'m, 'a> {
+    module: &'m Module<'a>,
+    plan: &'m Plan,
+    ids: &'m Ids,
+    definitions: Definitions<'m, 'a>,
+}
+
+/// What is known at an instruction of those before it.
+#[derive(Clone, Copy, Debug)]
+pub struct Known {
+    /// Whether it declares a type again.
+    pub repeats: bool,
+    /// How many parameters stand between the last OpFunction before it and itself.
+    pub parameters: u32,
+}
+
+impl<'m, 'a> Rules<'m, 'a> {
+    /// The rules of a module. `plan` and `ids` are what `lay_out` and `number` answered of it.
+    pub fn new(module: &'m Module<'a>, plan: &'m Plan, ids: &'m Ids) -> Rules<'m, 'a>
+        requires plan { (G : Table) × IsPlan G (plain_insts «module».now) plan.now }
+        requires ids { (x : ℕ) → IsDefinitionOf (plain_insts «module».now) x (definition_in ids.now x) }
+        ensures rules { AreRules result }
+        ensures insts { rules_insts result ≡ plain_insts «module».now }
+        ensures plan { result.plan.now ≡ plan.now }
+    {
+        Rules {
+            module,
+            plan,
+            ids,
+            definitions: Definitions::new(module.insts.as_slice(), plan, ids),
+        }
+    }
+
+    /// Whether Y6 is unbroken at an instruction.
+    fn keeps_functions(&self, number: u32, inst: &Inst<'a>, parameters: u32) -> bool
+        requires rules { AreRules self.now }
+        requires inst { slice_get (rules_insts self.now) number ≡ Some (plain_inst inst.now) }
+        requires parameters { (plain_inst inst.now).opcode ≡ 55 → (f : ℕ) → IsOfFunction (rules_insts self.now) number f → parameters_between (rules_insts self.now) f number ≡ parameters }
+        ensures { IsTrue result ↔ KeepsFunctions (rules_insts self.now) number (plain_inst inst.now) }
+    {
+        match inst.opcode {
+            54 => {
+                let rest = &self.module.insts.as_slice()[number as usize + 1..];
+                is_sound_function(&self.definitions, number, inst, count_parameters(rest))
+            }
+            55 => is_sound_parameter(&self.definitions, number, inst, parameters),
+            _ => true,
+        }
+    }
+
+    /// Whether Y7 is unbroken at an instruction.
+    fn keeps_returns(&self, number: u32, inst: &Inst<'a>) -> bool
+        requires rules { AreRules self.now }
+        requires inst { slice_get (rules_insts self.now) number ≡ Some (plain_inst inst.now) }
+        ensures { IsTrue result ↔ KeepsReturns (rules_insts self.now) number (plain_inst inst.now) }
+    {
+        match inst.opcode {
+            253 => is_sound_return(&self.definitions, number),
+            254 => is_sound_return_value(&self.definitions, number, inst),
+            _ => true,
+        }
+    }
+
+    /// Whether Y8 is unbroken at an instruction.
+    fn keeps_calls(&self, inst: &Inst<'a>) -> bool
+        requires { AreRules self.now }
+        ensures { IsTrue result ↔ CallsAreSound (rules_insts self.now) (plain_inst inst.now) }
+    {
+        if inst.opcode == 57 {
+            is_sound_call(&self.definitions, inst)
+        } else {
+            true
+        }
+    }
+
+    /// The first of the rules Y2 to Y8 that is broken at the instruction of a number, by what is known of those before it.
+    /// Time is linear in the instruction's words; at an OpFunction, in those up to its first block too.
+    pub fn first_at(&self, number: u32, inst: &Inst<'a>, known: Known) -> Option<Rule>
+        requires rules { AreRules self.now }
+        requires inst { slice_get (rules_insts self.now) number ≡ Some (plain_inst inst.now) }
+        requires repeats { IsTrue known.repeats ↔ Repeats (rules_insts self.now) number (plain_inst inst.now) }
+        requires parameters { AreCounted (rules_insts self.now) number known.parameters }
+        ensures { (G : Table) → IsPlan G (rules_insts self.now) self.now.plan.now → IsFirstHere G (rules_insts self.now) number (plain_inst inst.now) result }
+    {
+        if !is_sound_declaration(&self.definitions, self.ids, number, inst) {
+            return Some(Rule::Y2);
+        }
+        if known.repeats {
+            return Some(Rule::Y3);
+        }
+        if !is_sound_constant(&self.definitions, inst) {
+            return Some(Rule::Y4);
+        }
+        if !op_holds(self.module, self.plan, self.ids, number) {
+            return Some(Rule::Y5);
+        }
+        if !self.keeps_functions(number, inst, known.parameters) {
+            return Some(Rule::Y6);
+        }
+        if !self.keeps_returns(number, inst) {
+            return Some(Rule::Y7);
+        }
+        if !self.keeps_calls(inst) {
+            return Some(Rule::Y8);
+        }
+        None
+    }
+}

@@ -1,0 +1,4 @@
+pub mod Broken
+pub mod Notes
+pub mod Outcome
+pub mod Pass

@@ -1,0 +1,57 @@
+//! The instructions of a module, one after another.
+
+ghost use Rattle.std.specs.Prelude.{◌≡◌, ◌≤◌, ℕ, IfOk, MatchOption, length, map};
+ghost use Rattle.spv_inst.specs.Module.{plain_inst};
+ghost use Rattle.spv_layout.specs.Plan.{IsPlan};
+ghost use Rattle.spv_capabilities.specs.Subject as subject;
+ghost use Rattle.spv_type_rules.specs.Rules.{AreRules, rules_insts};
+ghost use Rattle.spv_types.specs.Pass.{AreKept, IsFirstFault};
+
+use spv_capabilities::Entries;
+use spv_grammar::Memory;
+use spv_inst::{Inst, Rule};
+use spv_type_rules::{Known, Rules, Seen, next_count};
+use std::alloc::Global;
+
+/// A broken rule, and its instruction.
+#[derive(Clone, Copy, Debug)]
+pub struct Found {
+    pub rule: Rule,
+    pub inst: u32,
+}
+
+/// The first rule that is broken after Y1, by instruction and then by rule.
+///
+/// `Memory` comes only where a growth of memory was refused.
+pub fn first_fault<'m, 'a>(
+    alloc: Global,
+    insts: &[Inst<'a>],
+    entries: &mut Entries<'m, 'a>,
+    rules: &Rules<'m, 'a>,
+) -> Result<Option<Found>, Memory>
+    requires most { length insts.now ≤ 4194304 }
+    requires rules { AreRules rules.now }
+    requires judged { rules_insts rules.now ≡ map plain_inst insts.now }
+    requires surveyed { entries.old.insts ≡ map plain_inst insts.now }
+    requires plan { IsPlan entries.old.table (map plain_inst insts.now) rules.now.plan.now }
+    ensures { IfOk result (λ o. MatchOption o (AreKept entries.old.table (map plain_inst insts.now) (length insts.now))
+        (λ f. IsFirstFault entries.old.table (map plain_inst insts.now) f.rule f.inst)) }
+{
+    let mut seen = Seen::new(alloc);
+    let mut parameters = 0;
+    for n in 0..insts.len() as u32 {
+        let inst = &insts[n as usize];
+        if let Some(rule) = entries.first_at(n)? {
+            return Ok(Some(Found { rule, inst: n }));
+        }
+        let known = Known {
+            repeats: seen.repeats(alloc, inst)?,
+            parameters,
+        };
+        if let Some(rule) = rules.first_at(n, inst, known) {
+            return Ok(Some(Found { rule, inst: n }));
+        }
+        parameters = next_count(inst, parameters);
+    }
+    Ok(None)
+}

@@ -1,0 +1,153 @@
+//! The types of a module.
+
+ghost use Rattle.std.specs.Prelude.{◌≡◌, ◌+◌, ◌<◌, ◌≤◌, ℕ, List, IfOk, IfErr, OnOk, Some, length, map, slice_get, sum_by};
+ghost use Rattle.spv_inst.specs.Operand.{PlainInst, result_in};
+ghost use Rattle.spv_layout.specs.declared.place.Place.{Place};
+ghost use Rattle.spv_inst.specs.Width.{type_of};
+ghost use Rattle.spv_inst.specs.Module.{plain_inst, plain_insts};
+ghost use Rattle.spv_layout.specs.First.{IsUnbroken};
+ghost use Rattle.spv_layout.specs.Place.{word_count};
+ghost use Rattle.spv_layout.specs.Plan.{IsPlan, IsPlaceOf};
+ghost use Rattle.spv_ids.specs.Outcome.{IsDefinitionOf, IsStopAt, definition_in};
+ghost use Rattle.spv_types.specs.Broken.{Broken};
+ghost use Rattle.spv_types.specs.Notes.{kept};
+ghost use Rattle.spv_types.specs.Outcome.{AreTypes, IsRefusal, type_in};
+
+use crate::notes::Notes;
+use crate::pass::{Found, first_fault};
+use spv_capabilities::survey;
+use spv_grammar::Table;
+use spv_ids::Ids;
+use spv_inst::{Fault, Inst, Module, Operand, Stop};
+use spv_layout::Plan;
+use spv_ops::Definitions;
+use spv_roles::roles_check;
+use spv_type_rules::Rules;
+use std::alloc::{AllocError, Global};
+
+/// The types that a module's ids are declared with (SPIR-V Specification 1.6, section 2.16).
+#[derive(Drop)]
+pub struct Types {
+    /// Of each id its type.
+    types: Notes,
+}
+
+impl Types {
+    /// The type that an id is declared with: the `Type` of the instruction whose result it is. None where that has none, or
+    /// there is no such instruction. It takes no memory.
+    #[inline(always)]
+    pub fn of(&self, id: u32) -> Option<u32>
+        ensures { result ≡ type_in self.now id }
+    {
+        self.types.get(id)
+    }
+}
+
+/// The result of an instruction.
+fn result_of(inst: &Inst<'_>) -> Option<u32>
+    ensures { result ≡ result_in (plain_inst inst.now).operands }
+{
+    for operand in inst.operands.as_slice() {
+        if let Operand::Result(id) = *operand {
+            return Some(id);
+        }
+    }
+    None
+}
+
+/// Of each id the type that it is declared with. `places` is how many small ids are kept in a list.
+///
+/// An `AllocError` comes only where a growth of memory was refused.
+fn declared_types(
+    alloc: Global,
+    insts: &[Inst<'_>],
+    definitions: &Definitions<'_, '_>,
+    places: usize,
+) -> Result<Notes, AllocError>
+    requires { definitions.now ≡ map plain_inst insts.now }
+    ensures { IfOk result (λ notes. (x : ℕ) → kept notes x ≡ type_of (map plain_inst insts.now) x) }
+{
+    let mut types = Notes::new(alloc, places)?;
+    for inst in insts {
+        if let Some(id) = result_of(inst) {
+            if let Some(t) = definitions.type_of(id) {
+                types.put(id, t)?;
+            }
+        }
+    }
+    Ok(types)
+}
+
+/// The fault of a broken rule, at the first word of its instruction.
+fn stop_at(plan: &Plan, found: Found) -> Stop
+    requires { found.inst < length plan.now }
+    ensures { (is : List PlainInst) → ((n : ℕ) (p : Place) → slice_get plan.now n ≡ Some p → IsPlaceOf is n p) → IsStopAt is found.rule found.inst result }
+{
+    let Some(place) = plan.at(found.inst) else {
+        unreachable!();
+    };
+    Stop::Fault(Fault {
+        rule: found.rule,
+        inst: found.inst,
+        word: place.word,
+    })
+}
+
+/// Whether a module keeps the rules of roles, capabilities, entry points and types. `plan` and `ids` are what `lay_out` and
+/// `number` answered of that module, by that table.
+///
+/// Time is near-linear in the words of the module, besides what the capabilities take that are declared.
+///
+/// A `Fault` tells the first rule that is broken, with its instruction and that instruction's first word (words and
+/// instructions from 0). Y1 is looked for first, in all instructions:
+/// - Y1: a use of an id that does not play the role which the use's shape asks for (2.16, own).
+///
+/// Where it is broken nowhere, the first instruction is told at which one of these is, and at it the first of these:
+/// - C1, C2, M1, E1 and E2: capabilities, the memory model and entry points (2.4, 2.16.1, 3.31).
+/// - Y2: a type declaration that is not such as there may be (3.49.6, widths and counts own).
+/// - Y3: a type, other than an array, a struct or a pointer, that is declared again (2.8).
+/// - Y4: a constant that is not of its type, or not of constants of the types at their places (3.49.7).
+/// - Y5: an operation whose operands or result have not the types that it asks for.
+/// - Y6: a function whose type is not that of its result and its parameters, or a parameter whose type is not the one at its
+///   place (3.49.9).
+/// - Y7: a return without a value in a function that does not return void, or a returned value of another type (3.49.17).
+/// - Y8: a call whose result or arguments have not the types, in number and order, of the callee's function type (3.49.9).
+///
+/// `Memory` comes only where a growth of memory was refused.
+#[tactic(none)]
+pub fn type_check(
+    alloc: Global,
+    table: &Table,
+    module: &Module<'_>,
+    plan: &Plan,
+    ids: &Ids,
+) -> Result<Types, Stop>
+    // The condition of `lay_out`, and that the plan and the ids are what was answered of the module.
+    requires words { 5 + sum_by word_count (plain_insts «module».now) ≤ 4194304 }
+    requires plan { IsPlan table.now (plain_insts «module».now) plan.now }
+    requires ids { (x : ℕ) → IsDefinitionOf (plain_insts «module».now) x (definition_in ids.now x) }
+    // Each rule is kept at each instruction, so none is broken.
+    ensures types { IfOk result (λ types. AreTypes table.now (plain_insts «module».now) types) }
+    ensures unbroken { OnOk result (IsUnbroken (Broken table.now (plain_insts «module».now)) 4 × IsUnbroken (Broken table.now (plain_insts «module».now)) 5) }
+    ensures refused { IfErr result (λ s. IsRefusal table.now (plain_insts «module».now) s) }
+{
+    let insts = module.insts.as_slice();
+    if let Err(fault) = roles_check(module, plan, ids) {
+        return Err(Stop::Fault(fault));
+    }
+    let Ok(mut entries) = survey(alloc, table, module, plan, ids) else {
+        return Err(Stop::Memory);
+    };
+    let rules = Rules::new(module, plan, ids);
+    match first_fault(alloc, insts, &mut entries, &rules) {
+        Ok(None) => {}
+        Ok(Some(found)) => return Err(stop_at(plan, found)),
+        Err(_) => return Err(Stop::Memory),
+    }
+    let definitions = Definitions::new(insts, plan, ids);
+    let places = (2 * insts.len()).min(module.header.bound as usize);
+    let Ok(types) = declared_types(alloc, insts, &definitions, places) else {
+        return Err(Stop::Memory);
+    };
+    Ok(Types { types })
+}
