@@ -1,0 +1,9 @@
+pub mod Chains
+pub mod Lists
+pub mod Marking
+pub mod Tests
+pub mod Insts
+pub mod Placed
+pub mod Gathering
+pub mod Bridge
+pub mod Worked

@@ -1,0 +1,7 @@
+use Rattle.std.proofs.Common.{map}
+use Rattle.spv_inst.specs.Module.{plain_inst}
+use Rattle.spv_calls.specs.Found.{AreCalls}
+use Rattle.spv_calls.proofs.gather.calls_of.Given as goal
+
+abbrev pub invariant-loop-i : goal.invariant-loop-i
+invariant-loop-i l = AreCalls (map plain_inst l.insts) l.i l.calls.items

@@ -1,0 +1,50 @@
+//! The first call on a cycle.
+
+ghost use Rattle.std.specs.Prelude.{◌+◌, ◌≤◌, ℕ, sum_by, IfOk, IfSome, IfNone};
+ghost use Rattle.spv_grammar.specs.Table.{Table};
+ghost use Rattle.spv_inst.specs.Module.{plain_insts};
+ghost use Rattle.spv_inst.specs.declared.fault.Rule.TheVariants.{G1};
+ghost use Rattle.spv_layout.specs.First.{IsFirst, IsUnbroken};
+ghost use Rattle.spv_layout.specs.Place.{word_count};
+ghost use Rattle.spv_layout.specs.Plan.{IsPlan};
+ghost use Rattle.spv_ids.specs.Outcome.{IsDefinitionOf, definition_in};
+ghost use Rattle.spv_calls.specs.Broken.{Broken};
+
+use crate::cyclic::first_cyclic;
+use crate::gather::{calls_of, entries_of};
+use spv_ids::Ids;
+use spv_inst::Module;
+use spv_layout::Plan;
+use std::alloc::{AllocError, Global};
+
+/// The first OpFunctionCall that breaks G1 (own): a call in a definition f of a definition g, where a chain of calls leads
+/// from the function of an OpEntryPoint to f, and one leads from g back to f. Its number among the instructions, from 0;
+/// None where no call breaks the rule. `plan` and `ids` are what `lay_out` and `number` answered of the module.
+///
+/// Calls in blocks that no branch leads to count. A call into a cycle from outside, and a cycle that no entry point leads
+/// to, break nothing.
+///
+/// Time is linear in the words of the module, however many cycles there are.
+///
+/// An `AllocError` comes only where a growth of memory was refused.
+pub fn first_cycle(
+    alloc: Global,
+    module: &Module<'_>,
+    plan: &Plan,
+    ids: &Ids,
+) -> Result<Option<u32>, AllocError>
+    // The condition of `lay_out`, and that the plan and the ids are what was answered, by some table.
+    requires words { 5 + sum_by word_count (plain_insts «module».now) ≤ 4194304 }
+    requires plan { (G : Table) × IsPlan G (plain_insts «module».now) plan.now }
+    requires ids { (x : ℕ) → IsDefinitionOf (plain_insts «module».now) x (definition_in ids.now x) }
+    ensures none { IfOk result (λ first. IfNone first (IsUnbroken (Broken (plain_insts «module».now)) 8)) }
+    ensures first { IfOk result (λ first. IfSome first (λ n. IsFirst (Broken (plain_insts «module».now)) 8 G1 n)) }
+{
+    let insts = module.insts.as_slice();
+    let calls = calls_of(alloc, insts, plan, ids)?;
+    let entries = entries_of(alloc, insts, ids)?;
+    match first_cyclic(alloc, insts.len(), &calls, &entries)? {
+        Some(first) => Ok(Some(calls[first].inst)),
+        None => Ok(None),
+    }
+}

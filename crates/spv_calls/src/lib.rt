@@ -1,0 +1,14 @@
+//! Cycles of calls between the functions of a module.
+#![tactic(auto)]
+
+mod calls;
+mod components;
+mod cyclic;
+mod gather;
+mod graph;
+pub mod laws;
+mod reach;
+
+pub use calls::first_cycle;
+pub use cyclic::{first_cyclic, first_cyclic_plainly};
+pub use graph::Call;
