@@ -1,0 +1,5 @@
+//! The calls of spv_availability.
+#![tactic(auto)]
+
+#[cfg(test)]
+mod tests;
