@@ -7,7 +7,7 @@ use Rattle.std.proofs.lemmas.Nat.{one_shl}
 use Rattle.std.proofs.lemmas.Bool.Decides.{nat_tests}
 use Rattle.spv_grammar.specs.declared.table.Enumerant.{Enumerant}
 use Rattle.spv_inst.specs.Spelling.{bits_from, set_bits}
-use Rattle.spv_text.specs.Name.{is_plain, is_name_octet, joined, by_number, mask_values, first_name, first_names, names_from, shown_value, shown_mask}
+use Rattle.spv_lines.specs.Name.{is_plain, is_name_octet, joined, by_number, mask_values, first_name, first_names, names_from, shown_value, shown_mask}
 
 pub plain_by : (t : List ℕ) → 0 < Rattle.std.proofs.Common.length t → list_all is_name_octet t ≡ is_plain t
 plain_by [] h = absurd (omega arith)

@@ -3,8 +3,8 @@ use Rattle.std.proofs.Common.{◌≡◌, ◌≢◌, ◌++◌, ◌∙◌, ◌<◌
 use Rattle.std.specs.Prelude.{codes, if◌then◌else◌}
 use Rattle.std.proofs.lemmas.Bool.Decides.{nat_tests}
 use Rattle.memchr.specs.Find.{is_byte3}
-use Rattle.spv_text.specs.Operand.{escaped}
-use Rattle.spv_text.proofs.Tokens.{Escape, escape_of}
+use Rattle.spv_lines.specs.Operand.{escaped}
+use Rattle.spv_lines.proofs.Tokens.{Escape, escape_of}
 
 cut : (xs : List ℕ) (i : ℕ) → i < length xs → xs ≡ take i xs ++ (get_or xs i 0 ∷ drop (i + 1) xs)
 cut [] i l = absurd (omega arith)

@@ -8,7 +8,7 @@ use Rattle.spv_inst.specs.declared.form.Form.TheVariants.{Leaf}
 use Rattle.spv_inst.specs.declared.operand.Operand.{Operand}
 use Rattle.spv_inst.specs.declared.operand.Operand.TheVariants as code
 use Rattle.spv_inst.specs.Reading.{enumerants_at}
-use Rattle.spv_text.specs.Name.{shown_mask}
+use Rattle.spv_lines.specs.Name.{shown_mask}
 use Rattle.spv_inst.specs.Form.{form_at}
 use Rattle.spv_inst.specs.Module.{plain_operand, plain_operands}
 use Rattle.spv_inst.specs.Operand.{Plain, OfType, Result, Id, Word, Number, Text, Value, Mask, PlainInst, Context, result_in, type_in}
@@ -17,8 +17,8 @@ use Rattle.spv_inst.specs.Shape.{Slot, shape_of}
 use Rattle.spv_inst.specs.Spelling.{Takes}
 use Rattle.spv_text.specs.declared.ids.Ids.{Ids}
 use Rattle.spv_text.specs.declared.types.Types.{Types}
-use Rattle.spv_text.specs.Operand.{Form, Shown, shown_operand, is_float, is_float_type, is_result, number_type}
-use Rattle.spv_text.specs.Written.{Piece}
+use Rattle.spv_lines.specs.Operand.{Form, Shown, shown_operand, is_float, is_float_type, is_result, number_type}
+use Rattle.spv_lines.specs.Written.{Piece}
 use Rattle.spv_text.specs.Kept.{Knows, IsAmid}
 use Rattle.spv_text.proofs.Steps.{context_at, so_far}
 use Rattle.spv_text.proofs.KindForms.{Wide, number_wide, type_by_context, type_by_switch}

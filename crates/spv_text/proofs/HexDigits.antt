@@ -1,7 +1,7 @@
 -- Hexadecimal digits, the highest first.
 use Rattle.std.proofs.Common.{◌≡◌, ◌++◌, ◌∙◌, ◌<◌, ◌+◌, ◌-◌, ◌*◌, ◌/◌, ◌%◌, ◌^◌, ℕ, suc, List, [], ◌∷◌, refl, sym, ap, arith, append_assoc}
 use Rattle.std.proofs.Math.Nat.{pow-succ', div-div-eq-div-mul}
-use Rattle.spv_text.specs.Digits.{hex_digit, hex_digits}
+use Rattle.spv_lines.specs.Digits.{hex_digit, hex_digits}
 
 sixteen : (j : ℕ) → 2 ^ j * 16 ≡ 2 ^ suc (suc (suc (suc j)))
 sixteen j = rw (pow-succ' 2 (suc (suc (suc j))), pow-succ' 2 (suc (suc j)), pow-succ' 2 (suc j), pow-succ' 2 j) (omega arith)

@@ -18,7 +18,7 @@ use Rattle.spv_inst.specs.Reading.{enumerants_at}
 use Rattle.spv_inst.specs.Agenda.{opened_kinds}
 use Rattle.spv_inst.proofs.Shapes.{leaf_shape, shape_leaf}
 use Rattle.spv_inst.proofs.Masks.{whole_mask}
-use Rattle.spv_text.specs.Operand.{number_type}
+use Rattle.spv_lines.specs.Operand.{number_type}
 
 no_value : (b : Bool) (w : Option ℕ) (es : List Enumerant) → (if b then AsNumber w else AsWord) ≡ AsValue es → ⊥
 no_value true w es h = cc

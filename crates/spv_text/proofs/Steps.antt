@@ -17,10 +17,10 @@ use Rattle.spv_inst.specs.Agenda.{settled, Opens, LeadsTo, opened_kinds}
 use Rattle.spv_inst.proofs.Takes.{takes_no_parts}
 use Rattle.spv_inst.proofs.Flat.{no_operands, same_bases}
 use Rattle.spv_inst.proofs.Shapes.{shape_is_leaf}
-use Rattle.spv_text.specs.Operand.{Form}
-use Rattle.spv_text.specs.Written.{Piece, Written}
-use Rattle.spv_text.proofs.Once.{forget}
-use Rattle.spv_text.proofs.Reading.{no_text}
+use Rattle.spv_lines.specs.Operand.{Form}
+use Rattle.spv_lines.specs.Written.{Piece, Written}
+use Rattle.spv_lines.proofs.Once.{forget}
+use Rattle.spv_lines.proofs.Reading.{no_text}
 use Rattle.spv_text.proofs.KindForms.{slots_opened}
 
 -- where an operand is left, an item that may be absent is there

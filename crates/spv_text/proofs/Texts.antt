@@ -6,8 +6,8 @@ use Rattle.spv_grammar.specs.Table.{Table}
 use Rattle.spv_inst.specs.declared.module.Inst.{Inst}
 use Rattle.spv_inst.specs.Operand.{PlainInst, start}
 use Rattle.spv_inst.specs.Module.{plain_inst}
-use Rattle.spv_text.specs.Line.{IsShownLine}
-use Rattle.spv_text.specs.Text.{ShownLines, ended}
+use Rattle.spv_lines.specs.Line.{IsShownLine}
+use Rattle.spv_lines.specs.Text.{ShownLines, ended}
 
 -- Before the instruction of that number: the text so far, and the lines that are left.
 pub record LinesAt (G : Table) (insts : List Inst) (lines : List (List ℕ)) (old out : List ℕ) (i : ℕ) : Type 0 where

@@ -3,14 +3,14 @@ use Rattle.std.specs.Prelude.{◌≡◌, ℕ, Option, Some, None, Bool, List, na
 use Rattle.std.specs.Ordering.{nat_cmp}
 use Rattle.std.specs.BTreeMap.{get}
 use Rattle.spv_inst.specs.Operand.{PlainInst, Context, result_in, type_in}
-use Rattle.spv_inst.specs.Width.{definition_of, first_id}
+use Rattle.spv_inst.specs.Width.{definition_of, declared_width, first_id}
 use Rattle.spv_text.specs.declared.types.Definition.{Definition}
 use Rattle.spv_text.specs.declared.types.Types.{Types}
 use Rattle.spv_text.specs.declared.ids.Ids.{Ids}
 
--- what is kept of a definition: its first result type, and whether it is a float type (OpTypeFloat has opcode 22)
+-- what is kept of a definition: its first result type, whether it is a float type (OpTypeFloat has opcode 22), and the width that it declares
 abbrev pub summary : PlainInst → Definition
-summary i = record { type_id = type_in i.operands; is_float = nat_eq i.opcode 22 }
+summary i = record { type_id = type_in i.operands; is_float = nat_eq i.opcode 22; width = declared_width i }
 
 -- what is kept of an id: what stands at its place in the list, or where nothing does, what the map has
 abbrev pub or_far : Option Definition → Option Definition → Option Definition

@@ -1,11 +1,5 @@
-pub mod Digits
-pub mod Name
-pub mod Operand
-pub mod Written
-pub mod Line
-pub mod Text
-pub mod Refusal
-pub mod Fault
-pub mod Tidy
-pub mod Example
+pub mod Begun
 pub mod Kept
+pub mod Reading
+pub mod Heading
+pub mod Lines

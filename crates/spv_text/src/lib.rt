@@ -1,27 +1,23 @@
-//! The text of a module: how it is shown, what it is read as, and what follows of the two.
+//! From a module to its text, and from a text to its image.
 #![tactic(auto)]
 
-mod asm_error;
-mod examples;
+mod assembled;
+mod header;
 mod ids;
 mod laws;
 mod line;
 mod name;
 mod number;
 mod operand;
+mod operands;
 mod quoted;
+mod reading;
 mod shown;
-#[cfg(test)]
-mod tests;
+mod taking;
+mod token;
 mod types;
 
-pub use asm_error::{AsmCode, AsmError};
-pub use examples::{
-    failure_examples, line_examples, name_examples, number_examples, operand_examples,
-    text_examples,
-};
-pub use laws::{
-    one_failure, one_reading, one_shown, read_or_fails, read_spelled, shown_assembled,
-    shown_reads_back,
-};
+pub use assembled::assemble;
+pub use laws::shown_assembles;
 pub use shown::show;
+pub use spv_lines::{AsmCode, AsmError};

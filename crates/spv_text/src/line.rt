@@ -8,9 +8,9 @@ ghost use Rattle.spv_inst.specs.Flat.{due};
 ghost use Rattle.spv_inst.specs.Agenda.{items_of};
 ghost use Rattle.spv_inst.specs.Operand as operand;
 ghost use Rattle.spv_inst.specs.Width as width;
-ghost use Rattle.spv_text.specs.Operand.{Shown};
-ghost use Rattle.spv_text.specs.Written.{Written};
-ghost use Rattle.spv_text.specs.Line.{IsShownLine, shown_result};
+ghost use Rattle.spv_lines.specs.Operand.{Shown};
+ghost use Rattle.spv_lines.specs.Written.{Written};
+ghost use Rattle.spv_lines.specs.Line.{IsShownLine, shown_result};
 ghost use Rattle.spv_text.specs.Kept.{Knows};
 
 use crate::ids::Ids;

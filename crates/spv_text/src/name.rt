@@ -1,37 +1,15 @@
 //! Names of instructions, values and masks as a text shows them.
 
 ghost use Rattle.std.specs.Prelude.{◌≡◌, ◌++◌, ◌∷◌, [], ℕ, List, Some, OnOk, string_bytes, option_map, is_some, if◌then◌else◌};
-ghost use Rattle.std.specs.List.{list_all};
 ghost use Rattle.spv_grammar.specs.Table.{kind_of};
 ghost use Rattle.spv_inst.specs.Reading.{enumerants_at};
-ghost use Rattle.spv_text.specs.Name as spec;
-ghost use Rattle.spv_text.specs.Name.{first_name, joined, names_from, shown_value, shown_mask};
-ghost use Rattle.spv_text.specs.Line.{shown_name};
+ghost use Rattle.spv_lines.specs.Name.{first_name, joined, names_from, shown_value, shown_mask};
+ghost use Rattle.spv_lines.specs.Line.{shown_name};
 
 use crate::number::push_nameless;
 use spv_grammar::{Entry, Table};
+use spv_tokens::is_plain;
 use std::alloc::AllocError;
-
-/// Whether an octet is an ASCII letter, a digit or `_`.
-fn is_name_octet(octet: u8) -> bool
-    ensures { result ≡ spec.is_name_octet octet }
-{
-    matches!(octet, b'0'..=b'9' | b'A'..=b'Z' | b'a'..=b'z' | b'_')
-}
-
-/// Whether octets are all ASCII letters, digits and `_`.
-fn are_name_octets(octets: &[u8]) -> bool
-    ensures { result ≡ list_all spec.is_name_octet octets.now }
-{
-    octets.iter().all(|octet| is_name_octet(*octet))
-}
-
-/// Whether a name has only ASCII letters, digits and `_`, and one of them at least.
-fn is_plain(name: &str) -> bool
-    ensures { result ≡ spec.is_plain name.now }
-{
-    !name.is_empty() && are_name_octets(name.as_bytes())
-}
 
 /// Adds the name of an opcode's entry, if it is plain and looks up the opcode, else the opcode after `#`. Where memory runs
 /// out, nothing is said of what is left.

@@ -1,9 +1,9 @@
 //! Numbers as a text shows them.
 
 ghost use Rattle.std.specs.Prelude.{◌≡◌, ◌++◌, ◌∷◌, ◌<◌, OnOk, string_bytes, decimal};
-ghost use Rattle.spv_text.specs.Digits.{hex_digit, hex_digits};
-ghost use Rattle.spv_text.specs.Name.{by_number};
-ghost use Rattle.spv_text.specs.Operand.{id_text, number_text};
+ghost use Rattle.spv_lines.specs.Digits.{hex_digit, hex_digits};
+ghost use Rattle.spv_lines.specs.Name.{by_number};
+ghost use Rattle.spv_lines.specs.Operand.{id_text, number_text};
 
 use itoa::Buffer;
 use std::alloc::AllocError;

@@ -10,8 +10,8 @@ ghost use Rattle.spv_inst.specs.Shape as shape;
 ghost use Rattle.spv_inst.specs.Shape.{shape_of};
 ghost use Rattle.spv_inst.specs.Spelling.{Takes};
 ghost use Rattle.spv_inst.specs.Agenda.{plain_slot};
-ghost use Rattle.spv_text.specs.Operand.{Shown, shown_operand, is_float, is_result};
-ghost use Rattle.spv_text.specs.Written.{Piece};
+ghost use Rattle.spv_lines.specs.Operand.{Shown, shown_operand, is_float, is_result};
+ghost use Rattle.spv_lines.specs.Written.{Piece};
 ghost use Rattle.spv_text.specs.Kept.{IsAmid};
 
 use crate::ids::Ids;

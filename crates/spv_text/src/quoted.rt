@@ -1,6 +1,6 @@
 ghost use Rattle.std.specs.Prelude.{◌≡◌, ◌++◌, ◌∷◌, [], true, OnOk, string_bytes};
 ghost use Rattle.memchr.specs.Find.{is_byte3};
-ghost use Rattle.spv_text.specs.Operand.{escaped, quoted};
+ghost use Rattle.spv_lines.specs.Operand.{escaped, quoted};
 
 use memchr::memchr3;
 use std::alloc::AllocError;

@@ -3,7 +3,7 @@
 ghost use Rattle.std.specs.Prelude.{◌≡◌, ◌++◌, [], ℕ, List, OnOk, IfOk, IfErr, string_bytes};
 ghost use Rattle.spv_inst.specs.Module.{plain_insts};
 ghost use Rattle.spv_inst.specs.Encoding.{IsImageOf, IsRefused};
-ghost use Rattle.spv_text.specs.Text.{IsShownText, ShownLines, ended, header_lines};
+ghost use Rattle.spv_lines.specs.Text.{IsShownText, ShownLines, ended, header_lines};
 
 use crate::ids::Ids;
 use crate::line::{Setting, push_line};

@@ -1,10 +1,12 @@
 ghost use Rattle.std.specs.Prelude.{◌≡◌, ◌++◌, ◌∷◌, ◌<◌, ◌≤◌, [], ℕ, List, Some, None, nat_eq, slice_index_or, if◌then◌else◌, length, OnOk, option_and_then};
 ghost use Rattle.spv_inst.specs.Operand.{PlainInst, result_in, type_in};
+ghost use Rattle.spv_inst.specs.Width as widths;
 ghost use Rattle.spv_inst.specs.Width.{type_of};
-ghost use Rattle.spv_text.specs.Operand.{is_float_type};
+ghost use Rattle.spv_lines.specs.Operand.{is_float_type};
+ghost use Rattle.spv_text.specs.Begun.{beginning_of, told_width};
 ghost use Rattle.spv_text.specs.Kept.{Knows, kept};
 
-use crate::ids::Ids;
+use crate::ids::{Beginning, Ids};
 use std::alloc::{AllocError, Global};
 use std::collections::BTreeMap;
 
@@ -15,7 +17,12 @@ struct Definition {
     type_id: Option<u32>,
     /// Whether it is an OpTypeFloat.
     is_float: bool,
+    /// The width that it declares, in bits, if it is OpTypeInt or OpTypeFloat.
+    width: Option<u8>,
 }
+
+/// The opcode of OpTypeInt.
+const TYPE_INT: u16 = 21;
 
 /// The opcode of OpTypeFloat.
 const TYPE_FLOAT: u16 = 22;
@@ -40,6 +47,22 @@ const LEAST_REACH: u32 = 1024;
 
 /// How much further the list may reach for each definition.
 const REACH_FOR_EACH: u32 = 2;
+
+/// The width that an instruction declares, in bits, by its opcode and how its operands begin: that of OpTypeInt or OpTypeFloat,
+/// if it is from 1 to 64.
+fn width_of(opcode: u16, beginning: Beginning) -> Option<u8>
+    ensures { result ≡ told_width opcode beginning }
+{
+    let Beginning::MadeWord(width) = beginning else {
+        return None;
+    };
+    if opcode == TYPE_INT || opcode == TYPE_FLOAT {
+        if width >= 1 && width <= 64 {
+            return Some(width as u8);
+        }
+    }
+    None
+}
 
 /// Gives the list a place for the id, if it has none.
 fn widen(near: &mut Vec<Option<Definition>>, id: u32) -> Result<(), AllocError>
@@ -97,7 +120,7 @@ impl Types {
     /// An `AllocError` comes only where a growth of memory was refused, and then nothing is said of what is left.
     pub fn add(&mut self, opcode: u16, ids: Ids) -> Result<(), AllocError>
         ensures knows { OnOk result ((before : List PlainInst) (i : PlainInst) → i.opcode ≡ opcode → result_in i.operands ≡ ids.result → type_in i.operands ≡ ids.type_id
-            → Knows self.old before → Knows self.new (before ++ i ∷ [])) }
+            → beginning_of i.operands ≡ ids.beginning → Knows self.old before → Knows self.new (before ++ i ∷ [])) }
         // The list may grow no less than before.
         ensures reach { self.old.reach ≤ self.new.reach }
     {
@@ -107,6 +130,7 @@ impl Types {
         let definition = Definition {
             type_id: ids.type_id,
             is_float: opcode == TYPE_FLOAT,
+            width: width_of(opcode, ids.beginning),
         };
         self.reach = self.reach.saturating_add(REACH_FOR_EACH);
         self.put(id, definition)
@@ -122,6 +146,23 @@ impl Types {
                 None => false,
             },
             None => false,
+        }
+    }
+
+    /// The width of a type id, if there is one, in bits: that which its last definition declares, an OpTypeInt or an OpTypeFloat
+    /// with a width from 1 to 64.
+    pub fn width(&self, type_id: Option<u32>) -> Option<u32>
+        ensures { (before : List PlainInst) → Knows self.now before → result ≡ option_and_then (widths.width_of before) type_id }
+    {
+        match type_id {
+            Some(id) => match self.latest(id) {
+                Some(definition) => match definition.width {
+                    Some(width) => Some(u32::from(width)),
+                    None => None,
+                },
+                None => None,
+            },
+            None => None,
         }
     }
 

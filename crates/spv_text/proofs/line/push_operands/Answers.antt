@@ -2,7 +2,7 @@ use Rattle.std.proofs.Common.{◌≤◌, ◌∙◌, refl, arith, length, take, g
 use Rattle.spv_inst.specs.declared.operand.Operand.TheVariants as code
 use Rattle.spv_inst.specs.Agenda.{plain_slot, agenda_due}
 use Rattle.spv_inst.specs.Module.{plain_operands}
-use Rattle.spv_text.specs.Operand.{Shown}
+use Rattle.spv_lines.specs.Operand.{Shown}
 use Rattle.spv_text.proofs.Steps.{context_at, at_front, at_step, at_done}
 use Rattle.spv_text.proofs.Floats.{amid, passed_more}
 use Rattle.spv_text.proofs.line.push_operands.Goals as goal

@@ -3,8 +3,8 @@ use Rattle.spv_inst.specs.Operand.{PlainInst, start, result_in}
 use Rattle.spv_inst.specs.Module.{plain_operands}
 use Rattle.spv_inst.specs.Flat.{due}
 use Rattle.spv_inst.specs.Agenda.{items_of, agenda_due}
-use Rattle.spv_text.specs.Operand.{Shown}
-use Rattle.spv_text.specs.Written.{Written}
+use Rattle.spv_lines.specs.Operand.{Shown}
+use Rattle.spv_lines.specs.Written.{Written}
 use Rattle.spv_text.specs.Kept.{Knows}
 use Rattle.spv_text.proofs.Steps.{At}
 use Rattle.spv_text.proofs.line.push_operands.Given as goal

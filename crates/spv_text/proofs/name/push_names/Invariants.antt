@@ -1,7 +1,7 @@
 use Rattle.std.proofs.Common.{◌≡◌, ◌++◌, ℕ, List, Some, string_bytes}
 use Rattle.spv_grammar.specs.Table.{kind_of}
 use Rattle.spv_inst.specs.Reading.{enumerants_at}
-use Rattle.spv_text.specs.Name.{names_from, joined}
+use Rattle.spv_lines.specs.Name.{names_from, joined}
 use Rattle.spv_text.proofs.BitNames.{Left}
 use Rattle.spv_text.proofs.name.push_names.Given as goal
 

@@ -1,5 +1,5 @@
 use Rattle.std.proofs.Common.{◌≡◌, ◌++◌, ◌/◌, ◌^◌, ◌-◌, ◌*◌, string_bytes}
-use Rattle.spv_text.specs.Digits.{hex_digits}
+use Rattle.spv_lines.specs.Digits.{hex_digits}
 use Rattle.spv_text.proofs.number.push_hexadecimal.Given as goal
 
 abbrev pub invariant-loop-place : goal.invariant-loop-place

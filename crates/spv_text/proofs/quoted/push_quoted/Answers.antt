@@ -1,6 +1,6 @@
 use Rattle.std.proofs.Common.{◌≡◌, ◌++◌, ◌∙◌, ◌<◌, ◌-◌, ap, arith, length, take, get_or, string_bytes}
 use Rattle.std.proofs.lemmas.Str.{IsCharBoundary-after_ascii}
-use Rattle.spv_text.specs.Operand.{quoted}
+use Rattle.spv_lines.specs.Operand.{quoted}
 use Rattle.spv_text.proofs.Escapes.{quoted_more, quoted_end, marked_ascii}
 use Rattle.spv_text.proofs.quoted.push_quoted.Goals as goal
 

@@ -1,7 +1,7 @@
 use denote.Shadow.{shadow}
 use denote.Text.{Utf8}
 use Rattle.std.proofs.Common.{◌≡◌, ◌++◌, ◌∷◌, [], length, string_bytes}
-use Rattle.spv_text.specs.Operand.{escaped, quoted}
+use Rattle.spv_lines.specs.Operand.{escaped, quoted}
 use Rattle.spv_text.proofs.quoted.push_quoted.Given as goal
 
 abbrev pub invariant-loop-at : goal.invariant-loop-at

@@ -3,6 +3,7 @@ use Rattle.spv_inst.specs.declared.module.Inst.{Inst}
 use Rattle.spv_inst.specs.declared.operand.Operand.{Operand}
 use Rattle.spv_inst.specs.Operand.{result_in, type_in}
 use Rattle.spv_inst.specs.Module.{plain_inst, plain_operands}
+use Rattle.spv_text.specs.Begun.{beginning_of}
 use Rattle.spv_text.proofs.Texts.{lines_first, lines_step, lines_done, insts_more}
 use Rattle.spv_text.proofs.shown.push_lines.Goals as goal
 
@@ -19,7 +20,8 @@ loop-inst-preserved c =
     let v = c.as_slice-in-loop-inst.ensures.value in
     let r = sym (c.of-ids.ensures.result ∙ ap (λ (os : List Operand). result_in (plain_operands os)) v) in
     let t = sym (c.of-ids.ensures.type_id ∙ ap (λ (os : List Operand). type_in (plain_operands os)) v) in
-    let k = c.in_ok-add.ensures.knows (map plain_inst (take i insts)) (plain_inst o) refl r t c.loop-inst.invariant.types in
+    let b = sym (c.of-ids.ensures.beginning ∙ ap (λ (os : List Operand). beginning_of (plain_operands os)) v) in
+    let k = c.in_ok-add.ensures.knows (map plain_inst (take i insts)) (plain_inst o) refl r t b c.loop-inst.invariant.types in
     record {
       types = rw (insts_more insts i o o h e) k;
       shown = λ lines s.

@@ -1,6 +1,6 @@
 use Rattle.std.proofs.Common.{ℕ, List, [], map, take, string_bytes}
 use Rattle.spv_inst.specs.Module.{plain_inst, plain_insts}
-use Rattle.spv_text.specs.Text.{ShownLines}
+use Rattle.spv_lines.specs.Text.{ShownLines}
 use Rattle.spv_text.specs.Kept.{Knows}
 use Rattle.spv_text.proofs.Texts.{LinesAt}
 use Rattle.spv_text.proofs.shown.push_lines.Given as goal

@@ -1,7 +1,7 @@
 use Rattle.std.proofs.Common.{[], string_bytes}
 use Rattle.spv_inst.specs.Module.{plain_insts}
-use Rattle.spv_text.specs.Text.{header_lines}
-use Rattle.spv_text.proofs.Showing.{shown_lines}
+use Rattle.spv_lines.specs.Text.{header_lines}
+use Rattle.spv_lines.proofs.Showing.{shown_lines}
 use Rattle.spv_text.proofs.Texts.{whole_text}
 use Rattle.spv_text.proofs.shown.show.Goals as goal
 

@@ -1,0 +1,10 @@
+pub mod Digits
+pub mod Name
+pub mod Operand
+pub mod Written
+pub mod Line
+pub mod Text
+pub mod Refusal
+pub mod Fault
+pub mod Tidy
+pub mod Example

@@ -1,0 +1,23 @@
+-- What the reading of a line's name and of what stands in front of it answers. (Own.)
+use Rattle.std.specs.Prelude.{◌<◌, ℕ, List, Option, Some, None, Result, Ok, Err, option_map}
+use Rattle.spv_grammar.specs.Table.{Table, Item}
+use Rattle.spv_inst.specs.Operand.{Context}
+use Rattle.spv_lines.specs.declared.asm_error.AsmCode.{AsmCode}
+use Rattle.spv_lines.specs.Name.{Names}
+use Rattle.spv_lines.specs.Line as plain
+use Rattle.spv_lines.specs.Fault.{IsResult, ResultFails}
+use Rattle.spv_text.specs.declared.reading.Parts.{Parts}
+
+-- the parts of a line, without where they lie in memory
+abbrev pub plain_parts : Parts → plain.Parts
+plain_parts p = record { result = option_map (λ t. t.now) p.result; name = p.name.now; operands = p.operands.now }
+
+-- the opcode that a plain name of it or `#N` stands for, or that a text stands for none
+abbrev pub IsOpcodeText : (List ℕ → Option ℕ) → List ℕ → Option ℕ → Type 0
+IsOpcodeText lookup t (Some x) = (x < 65536) × Names lookup x t
+IsOpcodeText lookup t None = (x : ℕ) → x < 65536 → Names lookup x t → ⊥
+
+-- the result that stands in front of ` = `, or that nothing does; or the code of a fault there
+abbrev pub IsFront : Table → Context → List Item → Option (List ℕ) → Result (Option ℕ) AsmCode → Type 0
+IsFront G c is p (Ok r) = IsResult p r × ((wrong : AsmCode) → ¬ (ResultFails G c is p wrong))
+IsFront G c is p (Err code) = ResultFails G c is p code

@@ -1,0 +1,95 @@
+-- What the reading of a line keeps and answers. (Own.)
+use Rattle.std.specs.Prelude.{◌≡◌, ◌≢◌, ◌++◌, ◌∷◌, [], ℕ, List, Option, true, false, map, option_and_then}
+use Rattle.spv_grammar.specs.Table.{Table, kind_of}
+use Rattle.spv_inst.specs.declared.form.Leaf.TheVariants as leaf
+use Rattle.spv_inst.specs.declared.form.Form.TheVariants.{Leaf}
+use Rattle.spv_inst.specs.declared.agenda.Asked.{Asked}
+use Rattle.spv_inst.specs.Form.{form_at}
+use Rattle.spv_inst.specs.Written.{is_without_zero}
+use Rattle.spv_inst.specs.Operand.{Plain, PlainInst, Context, start, result_in}
+use Rattle.spv_inst.specs.Width.{type_of, first_id}
+use Rattle.spv_inst.specs.Shape.{Slot, alone, shape_of}
+use Rattle.spv_inst.specs.Flat.{Due, OneOf}
+use Rattle.spv_inst.specs.Agenda.{opened_kinds, plain_slot}
+use Rattle.spv_lines.specs.declared.asm_error.AsmCode.{AsmCode}
+use Rattle.spv_lines.specs.declared.asm_error.AsmCode.TheVariants.{S3, S4, S6}
+use Rattle.spv_lines.specs.Operand.{quoted, IsRead}
+use Rattle.spv_lines.specs.Written.{Written}
+use Rattle.spv_lines.specs.Line.{AreWords, IsReadLine}
+use Rattle.spv_lines.specs.Refusal.{IsBreak, Stands, Refuses, OperandsFail, is_front}
+use Rattle.spv_lines.specs.Fault.{IsFailure, LineFails}
+use Rattle.spv_tokens.specs.declared.misread.Misread.{Misread}
+use Rattle.spv_tokens.specs.declared.misread.Misread.TheVariants.{IllFormed, TooLarge}
+use Rattle.spv_text.specs.declared.types.Types.{Types}
+use Rattle.spv_text.specs.declared.ids.Ids.{Ids}
+use Rattle.spv_text.specs.Begun.{IsOfOperands}
+use Rattle.spv_text.specs.Kept.{Knows}
+
+-- the id of the type of a switch literal
+abbrev pub switch_type : Context → Option ℕ
+switch_type c = option_and_then (type_of c.before) (first_id c.operands)
+
+-- What is kept of the instructions before and of the operands so far is that of a context.
+pub record IsAt (known : Types) (number : ℕ) (ids : Ids) (c : Context) : Type 0 where
+  pub types : Knows known c.before
+  pub opcode : c.opcode ≡ number
+  pub operands : IsOfOperands ids c.operands
+
+-- The leaf that is due is no text, and not that of the line's result.
+pub record IsDueToken (G : Table) (c : Context) (asked : Asked) : Type 0 where
+  pub form : form_at (kind_of G asked.slot.kind) ≡ Leaf asked.leaf
+  pub no_text : asked.leaf ≢ leaf.Text
+  pub behind : is_front (shape_of G c (plain_slot asked.slot)) c ≡ false
+
+-- A text in quotes without a zero octet stands at the front, and behind it the line breaks.
+pub record HasQuoted (front t rest : List ℕ) : Type 0 where
+  pub all : front ≡ quoted t ++ rest
+  pub no_zero : is_without_zero t ≡ true
+  pub broken : IsBreak rest
+
+-- An operand was taken from the rest of a line: what it is, its words, what is left, and what is due then.
+pub record IsStep (G : Table) (r : Option ℕ) (c : Context) (s : Slot) (t rest : List ℕ) (next : Ids) (old new : List ℕ) (ds later : List Due) : Type 0 where
+  pub operand : Plain
+  pub stands : Stands G r c s operand (map alone (opened_kinds G operand)) t rest
+  pub words : new ≡ old ++ stands.words
+  pub due : later ≡ map OneOf (map alone (opened_kinds G operand)) ++ ds
+  pub ids : IsOfOperands next (c.operands ++ (operand ∷ []))
+
+abbrev pub told : Misread → AsmCode
+told IllFormed = S3
+told TooLarge = S4
+
+-- a refusal's code, or want of memory
+abbrev pub RefusesOr : Table → Option ℕ → Context → Slot → List ℕ → AsmCode → Type 0
+RefusesOr G r c s t S6 = Unit {0}
+RefusesOr G r c s t code = Refuses G r c s t code
+
+-- the operands of a line fail with a code, or want of memory
+abbrev pub OperandsFailOr : Table → Option ℕ → Context → List Due → List ℕ → AsmCode → Type 0
+OperandsFailOr G r c ds t S6 = Unit {0}
+OperandsFailOr G r c ds t code = OperandsFail G r c ds t code
+
+-- The operands of a line were read: what they are, and their words.
+pub record AreRead (G : Table) (r : Option ℕ) (before : List PlainInst) (opcode : ℕ) (ds : List Due) (t words : List ℕ) (kept : Ids) : Type 0 where
+  pub operands : List Plain
+  pub written : Written (IsRead G) G r (start before opcode) ds operands words t
+  pub small : AreWords words
+  pub result : r ≡ result_in operands
+  pub ids : IsOfOperands kept operands
+
+-- A line was read: its instruction, and what is kept of it.
+pub record IsLine (G : Table) (before : List PlainInst) (line words : List ℕ) (number : ℕ) (kept : Ids) : Type 0 where
+  pub inst : PlainInst
+  pub read : IsReadLine G before inst words line
+  pub opcode : inst.opcode ≡ number
+  pub ids : IsOfOperands kept inst.operands
+
+-- a line fails with a code, or want of memory
+abbrev pub LineFailsOr : Table → List PlainInst → ℕ → List ℕ → AsmCode → Type 0
+LineFailsOr G before written line S6 = Unit {0}
+LineFailsOr G before written line code = LineFails G before written line code
+
+-- what an error of `assemble` says: where the text fails, or want of memory
+abbrev pub IsAsmFailure : Table → List ℕ → AsmCode → ℕ → Type 0
+IsAsmFailure G t S6 n = n ≡ 0
+IsAsmFailure G t code n = IsFailure G t code n

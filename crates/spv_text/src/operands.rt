@@ -1,0 +1,81 @@
+//! The operands of a line.
+
+ghost use Rattle.std.specs.Prelude.{◌≡◌, ◌≢◌, ℕ, List, Option, Bool, true, false, IfOk, IfErr, map};
+ghost use Rattle.spv_inst.specs.Form.{form_of};
+ghost use Rattle.spv_inst.specs.Operand.{PlainInst, start};
+ghost use Rattle.spv_inst.specs.Flat.{due};
+ghost use Rattle.spv_inst.specs.Agenda.{items_of};
+ghost use Rattle.spv_lines.specs.Refusal.{IsBreak};
+ghost use Rattle.spv_text.specs.Kept.{Knows};
+ghost use Rattle.spv_text.specs.Reading.{AreRead, OperandsFailOr};
+
+use crate::ids::Ids;
+use crate::line::Setting;
+use crate::taking::{Desk, take_operand};
+use spv_grammar::Item;
+use spv_lines::AsmCode;
+
+/// Whether two ids, if there are any, differ.
+fn differ(one: Option<u32>, other: Option<u32>) -> bool
+    ensures { (result ≡ true → one ≢ other) × (result ≡ false → one ≡ other) }
+{
+    match one {
+        Some(one) => match other {
+            Some(other) => one != other,
+            None => true,
+        },
+        None => match other {
+            Some(_) => true,
+            None => false,
+        },
+    }
+}
+
+/// Reads the operands of a line by the pattern of its instruction, and gives their ids. Their words are then those of the desk.
+///
+/// # Errors
+///
+/// `S3`: an operand is missing, one too many, ill-formed or unknown, or the line's result has no place. `S4`: a decimal number
+/// is too large for its place. `S6`: a growth of memory was refused.
+pub fn read_operands<'t>(
+    setting: &Setting<'t, '_>,
+    desk: &mut Desk<'t>,
+    opcode: u16,
+    result_id: Option<u32>,
+    pattern: &'t [Item],
+    operands: &str,
+) -> Result<Ids, AsmCode>
+    requires forms { setting.now.forms.now ≡ map form_of setting.now.table.now.kinds }
+    requires known { (before : List PlainInst) × Knows setting.now.types.now before }
+    requires broken { IsBreak operands.now }
+    ensures read { (before : List PlainInst) → Knows setting.now.types.now before
+        → IfOk result (λ ids. AreRead setting.now.table.now result_id before opcode (map due (items_of pattern.now)) operands.now desk.new.words.items ids) }
+    ensures failed { (before : List PlainInst) → Knows setting.now.types.now before
+        → IfErr result (λ e. OperandsFailOr setting.now.table.now result_id (start before opcode) (map due (items_of pattern.now)) operands.now e) }
+{
+    desk.words.clear();
+    desk.agenda.start(pattern);
+    let mut ids = Ids::none();
+    let mut rest = operands;
+    loop {
+        let more = !rest.is_empty() || differ(result_id, ids.result);
+        let Some(asked) = desk.agenda.next_leaf(setting.table, setting.forms, more)? else {
+            if more {
+                return Err(AsmCode::S3);
+            }
+            return Ok(ids);
+        };
+        let front = take_operand(
+            setting.table,
+            setting.types,
+            desk,
+            opcode,
+            ids,
+            result_id,
+            asked,
+            rest,
+        )?;
+        ids = front.ids;
+        rest = front.rest;
+    }
+}

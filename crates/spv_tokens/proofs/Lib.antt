@@ -1,0 +1,9 @@
+pub mod Reader
+pub mod Numerals
+pub mod Taking
+pub mod MaskBits
+pub mod CellNames
+pub mod Named
+pub mod HexRead
+pub mod Splits
+pub mod Quoting

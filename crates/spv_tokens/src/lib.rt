@@ -1,0 +1,17 @@
+//! The parts of a line: numbers, names, masks and texts in quotes.
+#![tactic(auto)]
+
+mod mask;
+mod misread;
+mod name;
+mod number;
+mod quoted;
+mod split;
+
+pub use misread::Misread;
+pub use name::{is_plain, read_mask, read_value};
+pub use number::{
+    read_behind, read_id, read_number, read_result_id, read_short, read_type_id, read_word,
+};
+pub use quoted::read_quoted;
+pub use split::{behind, split_around, split_before, split_line, split_token};

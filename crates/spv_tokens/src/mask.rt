@@ -1,0 +1,50 @@
+//! Names of a mask's bits.
+
+ghost use Rattle.std.specs.Prelude.{◌≡◌, ◌<◌, ◌^◌, ◌∷◌, [], ℕ, List, Some, None, MatchOption};
+ghost use Rattle.spv_tokens.specs.Answer.{IsNamedBits, IsNamedMask, names_in};
+
+use crate::name::named_value;
+use crate::split::split_cell;
+use spv_grammar::Table;
+
+/// The mask of a kind whose bits plain names tell, joined by `|`, the smaller bit first, one at least.
+fn named_bits(table: &Table, kind: u32, text: &str) -> Option<u32>
+    ensures { IsNamedBits (names_in table.now kind) text.now result }
+{
+    let (name, mut rest) = split_cell(text);
+    let Some(mut bit) = named_value(table, kind, name) else {
+        return None;
+    };
+    let mut mask = 0u32;
+    for position in 0..32u32 {
+        if bit == 1 << position {
+            mask += bit;
+            let Some(names) = rest else {
+                return Some(mask);
+            };
+            let (name, behind) = split_cell(names);
+            let Some(next) = named_value(table, kind, name) else {
+                return None;
+            };
+            bit = next;
+            rest = behind;
+        }
+    }
+    None
+}
+
+/// The mask of a kind that plain names stand for: that of 0 alone, or those of the mask's bits joined by `|`, the smaller
+/// bit first. None where a text is no such names.
+pub fn named_mask(table: &Table, kind: u32, text: &str) -> Option<u32>
+    ensures { IsNamedMask (names_in table.now kind) text.now result }
+{
+    match named_value(table, kind, text) {
+        Some(value) => {
+            if value == 0 {
+                return Some(0);
+            }
+            named_bits(table, kind, text)
+        }
+        None => named_bits(table, kind, text),
+    }
+}
