@@ -17,6 +17,9 @@ use Rattle.spv_inst.specs.declared.fault.Stop.TheVariants.{Fault, Memory}
 use Rattle.spv_layout.proofs.Brokens.{dead_stage}
 use Rattle.spv_layout.proofs.Firsts.{rank_apart}
 use Rattle.spv_ids.specs.Broken as ids
+use Rattle.spv_types.specs.Broken as types
+use Rattle.spv_types.specs.Outcome as types_outcome
+use Rattle.spv.proofs.Stages.{types_stage}
 use Rattle.spv.specs.Broken.{Broken, Precedes, IsFirst, IsSound, IsTold}
 
 -- the stages of the rules
@@ -45,6 +48,9 @@ profile_first G bound is r n f = record { broken = Broken.of_layout r n f.broken
       let s = f.of_stage in
       elim (layout_stage G is q m b) [ inl e ↦ within r q n m (omega arith) (f.least q m e b) | inr e ↦ Precedes.stage (omega arith) ]
   least _ _ (Broken.of_ids q m b) = let s = f.of_stage in let e = ids_stage G bound is q m b in Precedes.stage (omega arith)
+  least _ _ (Broken.of_types q m b) =
+      let s = f.of_stage in
+      elim (types_stage G is q m b) [ inl e ↦ Precedes.stage (omega arith) | inr e ↦ Precedes.stage (omega arith) ]
 
 -- a rule of the layout, where each instruction fits the profile
 pub layout_first : (G : Table) (bound : ℕ) (is : List PlainInst) (r : Rule) (n : ℕ) → IsUnbroken (layout.Broken G is) 1 → stage.IsFirst (layout.Broken G is) 2 r n → IsFirst G bound is r n
@@ -54,6 +60,9 @@ layout_first G bound is r n u f = record { broken = Broken.of_layout r n f.broke
       let s = f.of_stage in
       elim (layout_stage G is q m b) [ inl e ↦ absurd (u q m e b) | inr e ↦ within r q n m (omega arith) (f.least q m e b) ]
   least _ _ (Broken.of_ids q m b) = let s = f.of_stage in let e = ids_stage G bound is q m b in Precedes.stage (omega arith)
+  least _ _ (Broken.of_types q m b) =
+      let s = f.of_stage in
+      elim (types_stage G is q m b) [ inl e ↦ Precedes.stage (omega arith) | inr e ↦ Precedes.stage (omega arith) ]
 
 -- a rule on ids, where no rule of the profile or the layout is broken
 pub ids_first : (G : Table) (bound : ℕ) (is : List PlainInst) (r : Rule) (n : ℕ) → ((q : Rule) (m : ℕ) → ¬ (layout.Broken G is q m)) → stage.IsFirst (ids.Broken G bound is) 3 r n → IsFirst G bound is r n
@@ -61,6 +70,31 @@ ids_first G bound is r n u f = record { broken = Broken.of_ids r n f.broken; lea
   least : (q : Rule) (m : ℕ) → Broken G bound is q m → Precedes r n q m
   least _ _ (Broken.of_layout q m b) = absurd (u q m b)
   least _ _ (Broken.of_ids q m b) = let s = f.of_stage in let e = ids_stage G bound is q m b in within r q n m (omega arith) (f.least q m e b)
+  least _ _ (Broken.of_types q m b) =
+      let s = f.of_stage in
+      elim (types_stage G is q m b) [ inl e ↦ Precedes.stage (omega arith) | inr e ↦ Precedes.stage (omega arith) ]
+
+-- a rule on roles, where no rule of the profile, the layout or on ids is broken
+pub roles_first : (G : Table) (bound : ℕ) (is : List PlainInst) (r : Rule) (n : ℕ) → ((q : Rule) (m : ℕ) → ¬ (layout.Broken G is q m)) → IsUnbroken (ids.Broken G bound is) 3
+    → stage.IsFirst (types.Broken G is) 4 r n → IsFirst G bound is r n
+roles_first G bound is r n u v f = record { broken = Broken.of_types r n f.broken; least = least } where
+  least : (q : Rule) (m : ℕ) → Broken G bound is q m → Precedes r n q m
+  least _ _ (Broken.of_layout q m b) = absurd (u q m b)
+  least _ _ (Broken.of_ids q m b) = absurd (v q m (ids_stage G bound is q m b) b)
+  least _ _ (Broken.of_types q m b) =
+      let s = f.of_stage in
+      elim (types_stage G is q m b) [ inl e ↦ within r q n m (omega arith) (f.least q m e b) | inr e ↦ Precedes.stage (omega arith) ]
+
+-- a rule on capabilities, entry points or types, where no rule on roles is broken either
+pub types_first : (G : Table) (bound : ℕ) (is : List PlainInst) (r : Rule) (n : ℕ) → ((q : Rule) (m : ℕ) → ¬ (layout.Broken G is q m)) → IsUnbroken (ids.Broken G bound is) 3
+    → IsUnbroken (types.Broken G is) 4 → stage.IsFirst (types.Broken G is) 5 r n → IsFirst G bound is r n
+types_first G bound is r n u v w f = record { broken = Broken.of_types r n f.broken; least = least } where
+  least : (q : Rule) (m : ℕ) → Broken G bound is q m → Precedes r n q m
+  least _ _ (Broken.of_layout q m b) = absurd (u q m b)
+  least _ _ (Broken.of_ids q m b) = absurd (v q m (ids_stage G bound is q m b) b)
+  least _ _ (Broken.of_types q m b) =
+      let s = f.of_stage in
+      elim (types_stage G is q m b) [ inl e ↦ absurd (w q m e b) | inr e ↦ within r q n m (omega arith) (f.least q m e b) ]
 
 -- a module with a plan breaks no rule of the profile or the layout
 pub planned : (G : Table) (is : List PlainInst) (places : List Place) → ((is : List PlainInst) (a : Rule) (k : ℕ) → IsLayout (classes is) → ¬ (IsDeadPlace is a k)) → IsPlan G is places
@@ -68,10 +102,12 @@ pub planned : (G : Table) (is : List PlainInst) (places : List Place) → ((is :
 planned G is places law plan _ _ (layout.misfit i n h f) = f (plan.fits n i h)
 planned G is places law plan _ _ (layout.dead r n d) = law is r n plan.layout d
 
--- neither rules of the layout nor rules on ids are broken
-pub sound : (G : Table) (bound : ℕ) (is : List PlainInst) → ((r : Rule) (n : ℕ) → ¬ (layout.Broken G is r n)) → IsUnbroken (ids.Broken G bound is) 3 → IsSound G bound is
-sound G bound is u v _ _ (Broken.of_layout r n b) = u r n b
-sound G bound is u v _ _ (Broken.of_ids r n b) = v r n (ids_stage G bound is r n b) b
+-- no rule of any stage is broken
+pub sound : (G : Table) (bound : ℕ) (is : List PlainInst) → ((r : Rule) (n : ℕ) → ¬ (layout.Broken G is r n)) → IsUnbroken (ids.Broken G bound is) 3
+    → IsUnbroken (types.Broken G is) 4 × IsUnbroken (types.Broken G is) 5 → IsSound G bound is
+sound G bound is u v w _ _ (Broken.of_layout r n b) = u r n b
+sound G bound is u v w _ _ (Broken.of_ids r n b) = v r n (ids_stage G bound is r n b) b
+sound G bound is u v w _ _ (Broken.of_types r n b) = elim (types_stage G is r n b) [ inl e ↦ w.0 r n e b | inr e ↦ w.1 r n e b ]
 
 -- what the layers refuse is told
 pub told_layout : (G : Table) (bound : ℕ) (is : List PlainInst) (s : Stop) → plan.IsRefusal G is s → IsTold G bound is s
@@ -82,6 +118,12 @@ told_layout G bound is (Fault f) h =
 pub told_ids : (G : Table) (bound : ℕ) (is : List PlainInst) (s : Stop) → ((r : Rule) (n : ℕ) → ¬ (layout.Broken G is r n)) → outcome.IsRefusal G bound is s → IsTold G bound is s
 told_ids G bound is Memory u h = tt
 told_ids G bound is (Fault f) u h = (ids_first G bound is f.rule f.inst u h.0, h.1)
+
+pub told_types : (G : Table) (bound : ℕ) (is : List PlainInst) (s : Stop) → ((r : Rule) (n : ℕ) → ¬ (layout.Broken G is r n)) → IsUnbroken (ids.Broken G bound is) 3
+    → types_outcome.IsRefusal G is s → IsTold G bound is s
+told_types G bound is Memory u v h = tt
+told_types G bound is (Fault f) u v h =
+    (elim h.0 [ inl a ↦ roles_first G bound is f.rule f.inst u v a | inr b ↦ types_first G bound is f.rule f.inst u v b.0 b.1 ], h.1)
 
 -- two rules that are told
 pub record SameRule (q r : Rule) (m n : ℕ) : Type 0 where

@@ -1,6 +1,5 @@
 -- What is shown of bytes that were read.
 use Rattle.std.proofs.Common.{◌≡◌, ◌⊎◌, ◌↔◌, ◌+◌, ◌-◌, ◌≤◌, ℕ, List, Option, Some, None, Result, Err, IfSome, IfOk, IfErr, IsErrOf, Bool, false, ◌++◌, ◌∙◌, length, take, drop, ap, refl, sym, subst, inl, inr, arith}
-use Rattle.std.specs.Prelude.{String, string_bytes}
 use Rattle.std.specs.Io.KnownBytes.{Appends}
 use Rattle.spv_words.specs.Header.{IsModule, Refuses}
 use Rattle.spv_words.specs.declared.words.Header.{Header}
@@ -13,8 +12,7 @@ use Rattle.spv_inst.specs.Instruction.{IsListing}
 use Rattle.spv_inst.specs.Outcome.{IsDeath, IsHeaderOf}
 use Rattle.spv_inst.specs.declared.fault.Stop.{Stop}
 use Rattle.spv_inst.specs.declared.fault.Stop.TheVariants.{Fault as Dies, Memory}
-use Rattle.spv_inst.specs.Dead.{IsDeadAt}
-use Rattle.spv_text.specs.Text.{IsShownText}
+use Rattle.spv_lines.specs.Text.{IsShownText}
 use Rattle.spv.specs.Verdict.{fault_line, refused_line}
 use Rattle.spv.proofs.Verdicts.{Laws, dead_list, same_module}
 use Rattle.spv.specs.Show.{IsShowing, refused, dead, shown, Shows, BeginsShowing}

@@ -1,16 +1,15 @@
 -- What a command does with three bytes.
-use Rattle.std.proofs.Common.{ℕ, List, [], ◌∷◌, ◌++◌, Some, Bool, true, false, ◌≡◌, codes, refl, lit≤}
-use Rattle.std.specs.Prelude.{Option}
+use Rattle.std.proofs.Common.{ℕ, List, [], ◌∷◌, ◌++◌, Some, None, Bool, true, false, ◌≡◌, codes, refl, lit≤}
 use Rattle.spv_words.specs.Header.{IsFirstBroken, IsModule}
 use Rattle.spv_words.specs.declared.words.Order.{Order}
 use Rattle.spv_words.specs.declared.words.WordError.TheVariants.{W2}
 use Rattle.spv_grammar.specs.Table.{Table}
 use Rattle.spv.specs.declared.command_line.Command.{Command}
-use Rattle.spv.specs.declared.command_line.Command.TheVariants.{Check, Show}
+use Rattle.spv.specs.declared.command_line.Command.TheVariants.{Check, Show, Asm}
 use Rattle.spv.specs.Example.{empty_grammar}
 use Rattle.spv.specs.Show.{BeginsShowing, IsShowing, Shows}
 use Rattle.spv.specs.Stream.{Begins, Tells}
-use Rattle.spv.specs.Task.{BeginsByText, DoesByText}
+use Rattle.spv.specs.Task.{BeginsByText, DoesByText, MakesNothing}
 use Rattle.spv.specs.Trouble.{IsTableOf}
 use Rattle.spv.specs.Verdict.{line_end, refused_line}
 
@@ -26,12 +25,15 @@ no_text G bytes _ _ e never (IsShowing.refused code h) = cc
 no_text G bytes _ _ e never (IsShowing.dead words order broken inst at h d) = cc
 no_text G bytes _ _ e never (IsShowing.shown words order header is text h k l t) = never order words h
 
-pub does_short : (c : Command) (G : Table) → IsTableOf empty_grammar G → Tells G (1 ∷ 2 ∷ 3 ∷ []) (9 ∷ []) (Some (9 ∷ codes "fault W2" ++ line_end)) false
-    → Shows G (1 ∷ 2 ∷ 3 ∷ []) (9 ∷ []) (Some (9 ∷ codes "fault W2" ++ line_end)) false → DoesByText c empty_grammar (1 ∷ 2 ∷ 3 ∷ []) (9 ∷ []) (Some (9 ∷ codes "fault W2" ++ line_end)) false
-does_short (Check g f) G given tells shows = record { table = G; given = given; does = tells }
-does_short (Show g f) G given tells shows = record { table = G; given = given; does = shows }
+pub does_short : (c : Command) (G : Table) → MakesNothing c → IsTableOf empty_grammar G → Tells G (1 ∷ 2 ∷ 3 ∷ []) (9 ∷ []) (Some (9 ∷ codes "fault W2" ++ line_end)) false
+    → Shows G (1 ∷ 2 ∷ 3 ∷ []) (9 ∷ []) (Some (9 ∷ codes "fault W2" ++ line_end)) false
+    → DoesByText c empty_grammar (1 ∷ 2 ∷ 3 ∷ []) (Some (9 ∷ [])) (Some (9 ∷ codes "fault W2" ++ line_end)) None None false
+does_short (Check g f) G n given tells shows = record { table = G; given = given; does = tells }
+does_short (Show g f) G n given tells shows = record { table = G; given = given; does = shows }
+does_short (Asm g f o b) G n given tells shows = absurd n
 
-pub begins_short : (c : Command) (G : Table) → IsTableOf empty_grammar G → Begins G (1 ∷ 2 ∷ 3 ∷ []) (9 ∷ []) (Some (9 ∷ codes "fault"))
-    → BeginsShowing G (1 ∷ 2 ∷ 3 ∷ []) (9 ∷ []) (Some (9 ∷ codes "fault")) → BeginsByText c empty_grammar (1 ∷ 2 ∷ 3 ∷ []) (9 ∷ []) (Some (9 ∷ codes "fault"))
-begins_short (Check g f) G given begins shown = record { table = G; given = given; begins = begins }
-begins_short (Show g f) G given begins shown = record { table = G; given = given; begins = shown }
+pub begins_short : (c : Command) (G : Table) → MakesNothing c → IsTableOf empty_grammar G → Begins G (1 ∷ 2 ∷ 3 ∷ []) (9 ∷ []) (Some (9 ∷ codes "fault"))
+    → BeginsShowing G (1 ∷ 2 ∷ 3 ∷ []) (9 ∷ []) (Some (9 ∷ codes "fault")) → BeginsByText c empty_grammar (1 ∷ 2 ∷ 3 ∷ []) (Some (9 ∷ [])) (Some (9 ∷ codes "fault")) None None
+begins_short (Check g f) G n given begins shown = record { table = G; given = given; begins = begins }
+begins_short (Show g f) G n given begins shown = record { table = G; given = given; begins = shown }
+begins_short (Asm g f o b) G n given begins shown = absurd n

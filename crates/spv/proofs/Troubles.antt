@@ -1,18 +1,53 @@
 -- Why a check ends as it does, by the text of its grammar file.
-use Rattle.std.proofs.Common.{◌≡◌, ◌≢◌, ◌⊎◌, ◌↔◌, ℕ, List, Bool, Result, Ok, Err, IfErr, IsErrOf, inl, inr, ap}
+use Rattle.std.proofs.Common.{◌≡◌, ◌≢◌, ◌⊎◌, ◌↔◌, ℕ, List, Bool, Option, Some, None, Result, Ok, Err, IfSome, IfOk, IfErr, IsErrOf, inl, inr, ap, refl}
 use Rattle.spv_grammar.specs.Answer.{text_breaks}
 use Rattle.spv_grammar.specs.declared.error.GrammarError.{GrammarError}
 use Rattle.spv_grammar.specs.declared.error.GrammarError.TheVariants.{J1, J2, J3, J4, J5, J6, J7, J8}
+use Rattle.spv_grammar.specs.Table.{Table}
+use Rattle.spv.specs.Show.{Shows}
+use Rattle.spv.specs.Stream.{Tells}
 use Rattle.spv.specs.Trouble.{IsErrorLine, refused, file, memory, grammar_text, trouble_text}
 use Rattle.spv.specs.declared.program.Trouble.{Trouble}
 use Rattle.spv.specs.declared.program.Trouble.TheVariants.{File, Memory}
 
--- the module's troubles have their reasons
-pub stream_reason : (text : List ℕ) (failed : Type 0) (r : Result Bool Trouble) → IfErr r (λ t. (t ≡ File) ⊎ (t ≡ Memory)) → (failed ↔ IsErrOf r File)
+-- a trouble of a command has its reason
+pub stream_reason : (text : List ℕ) (failed : Type 0) (r : Result Bool Trouble) → IfErr r (λ t. ((t ≡ File) × failed) ⊎ (t ≡ Memory))
     → IfErr r (λ t. IsErrorLine text failed (trouble_text t))
-stream_reason text failed (Ok v) o f = tt
-stream_reason text failed (Err t) (inl e) f = rw e (file (f.1 (ap Err e)))
-stream_reason text failed (Err t) (inr e) f = rw e memory
+stream_reason text failed (Ok v) o = tt
+stream_reason text failed (Err t) (inl e) = rw (e.0) (file e.1)
+stream_reason text failed (Err t) (inr e) = rw e memory
+
+-- where nothing is made, no write to what is made failed
+pub no_third : (A B P : Type 0) (n : ℕ) → (A ⊎ B → P) → A ⊎ B ⊎ (n ≢ n) → P
+no_third A B P n f (inl a) = f (inl a)
+no_third A B P n f (inr (inl b)) = f (inr b)
+no_third A B P n f (inr (inr c)) = absurd (c refl)
+
+pub no_second : (B P : Type 0) (n : ℕ) → (B → P) → B ⊎ (n ≢ n) → P
+no_second B P n f (inl b) = f b
+no_second B P n f (inr c) = absurd (c refl)
+
+pub two_reasons : (A B C N : Type 0) (r : Result Bool Trouble) → IfErr r (λ t. (t ≡ File) ⊎ (t ≡ Memory)) → (A ⊎ B ↔ IsErrOf r File)
+    → IfErr r (λ t. ((t ≡ File) × ((A ⊎ B ⊎ C) ⊎ N)) ⊎ (t ≡ Memory))
+two_reasons A B C N (Ok v) o f = tt
+two_reasons A B C N (Err t) (inr e) f = inr e
+two_reasons A B C N (Err t) (inl e) f = inl (e, inl (elim (f.1 (ap Err e)) [ inl a ↦ inl a | inr b ↦ inr (inl b) ]))
+
+-- the same, asked in another order
+swapped : {X Y Z : Type 0} (o : Option X) (k : Option Y) (r : Result Z Trouble) (P : X → Y → Z → Type 0)
+    → IfSome o (λ x. IfSome k (λ y. IfOk r (λ z. P x y z))) → IfSome o (λ x. IfOk r (λ z. IfSome k (λ y. P x y z)))
+swapped None k r P h = tt
+swapped (Some x) None (Ok z) P h = tt
+swapped (Some x) None (Err e) P h = tt
+swapped (Some x) (Some y) r P h = h
+
+pub told_in : (G : Table) (known kept new : Option (List ℕ)) (r : Result Bool Trouble) → IfSome known (λ bytes. IfSome kept (λ old. IfOk r (λ answer. Tells G bytes old new answer)))
+    → IfSome known (λ bytes. IfOk r (λ answer. IfSome kept (λ old. Tells G bytes old new answer)))
+told_in G known kept new r h = swapped known kept r (λ bytes old answer. Tells G bytes old new answer) h
+
+pub shown_in : (G : Table) (known kept new : Option (List ℕ)) (r : Result Bool Trouble) → IfSome known (λ bytes. IfSome kept (λ old. IfOk r (λ answer. Shows G bytes old new answer)))
+    → IfSome known (λ bytes. IfOk r (λ answer. IfSome kept (λ old. Shows G bytes old new answer)))
+shown_in G known kept new r h = swapped known kept r (λ bytes old answer. Shows G bytes old new answer) h
 
 -- so have those of the grammar file
 pub grammar_reason : (text : List ℕ) (failed : Type 0) (e : GrammarError) → (e ≢ J8 → text_breaks text e) → IsErrorLine text failed (grammar_text e)

@@ -9,6 +9,7 @@ use Rattle.spv_layout.specs.First.{stage_of, rank_of}
 use Rattle.spv_layout.specs.Place.{first_word_of}
 use Rattle.spv_layout.specs.Broken as layout
 use Rattle.spv_ids.specs.Broken as ids
+use Rattle.spv_types.specs.Broken as types
 
 -- Under the bound of ids, the rule is broken at the instruction of that number.
 pub data Broken (G : Table) (bound : ℕ) (is : List PlainInst) : Rule → ℕ → Type 0 where
@@ -16,6 +17,8 @@ pub data Broken (G : Table) (bound : ℕ) (is : List PlainInst) : Rule → ℕ �
   of_layout : (r : Rule) (n : ℕ) → layout.Broken G is r n → Broken G bound is r n
   -- a rule on ids
   of_ids : (r : Rule) (n : ℕ) → ids.Broken G bound is r n → Broken G bound is r n
+  -- a rule on roles, capabilities, entry points or types
+  of_types : (r : Rule) (n : ℕ) → types.Broken G is r n → Broken G bound is r n
 
 -- A rule at instruction n is told before, or is, another at instruction m: that of an earlier stage, and within a stage that
 -- at a lower instruction, and at one instruction that which comes first in the order of rules.

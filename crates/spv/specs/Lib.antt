@@ -1,3 +1,5 @@
+pub mod Assemble
+pub mod Assembly
 pub mod Broken
 pub mod CommandLine
 pub mod Example

@@ -10,7 +10,7 @@ use Rattle.spv_inst.specs.Instruction.{IsListing}
 use Rattle.spv_inst.specs.Outcome.{IsHeaderOf}
 use Rattle.spv_inst.specs.Dead.{IsDeadAt}
 use Rattle.spv_inst.specs.declared.fault.Rule.{Rule}
-use Rattle.spv_text.specs.Text.{IsShownText}
+use Rattle.spv_lines.specs.Text.{IsShownText}
 use Rattle.spv.specs.Verdict.{fault_line, refused_line}
 
 -- This is what is shown of all of these bytes, under the grammar table, and whether it is the text of a module.

@@ -1,11 +1,11 @@
 //! The words of the command line, read by `clap`.
-ghost use Rattle.std.specs.Prelude.{◌≡◌, false, IfOk, map};
-ghost use Rattle.clap.specs.Words.{app_of, shape_of, subcommand_rows_of};
+ghost use Rattle.std.specs.Prelude.{◌≡◌, ◌↔◌, false, codes, IfOk, IsTrue, map, Some};
+ghost use Rattle.clap.specs.Words.{app_of, first_of, found_of, rows_of, shape_of, subcommand_rows_of};
 ghost use Rattle.clap.specs.declared.builder.command.Command.TheViews.{out-Command};
-ghost use Rattle.spv.specs.CommandLine.{AnswersTo, IsCommandOf, error_of, file_command, program};
+ghost use Rattle.spv.specs.CommandLine.{AnswersTo, IsAsmOf, IsCommandOf, asm_command, error_of, file_command, module_program, program};
 
 use clap::error::ErrorKind;
-use clap::{Arg, ArgMatches};
+use clap::{Arg, ArgAction, ArgMatches};
 use std::alloc::{AllocError, Global};
 use thiserror::Error;
 
@@ -25,6 +25,17 @@ pub enum Command<'a> {
         grammar: &'a str,
         /// The path of the module.
         file: &'a str,
+    },
+    /// `spv asm --grammar G --out OUT [--big] FILE`: the module of a text.
+    Asm {
+        /// The path of the grammar file.
+        grammar: &'a str,
+        /// The path of the text.
+        file: &'a str,
+        /// The path of the module that is made.
+        out: &'a str,
+        /// Whether the bytes of its words stand from the highest to the lowest.
+        big: bool,
     },
 }
 
@@ -53,11 +64,12 @@ impl From<AllocError> for UseError {
     }
 }
 
-/// A command of that name, which reads a module under a grammar file.
+/// A command of that name, which reads a file under a grammar file.
 fn file_words<'a>(
     alloc: Global,
     name: &'a str,
     about: &'a str,
+    what: &'a str,
 ) -> Result<clap::Command<'a>, AllocError>
     ensures shape { IfOk result (λ c. shape_of c ≡ file_command name.now) }
     ensures local { IfOk result (λ c. (out-Command c).has_globals ≡ false) }
@@ -70,26 +82,58 @@ fn file_words<'a>(
     let file = Arg::new(alloc, "file")
         .value_name("FILE")
         .required(true)
-        .help("The module");
+        .help(what);
     clap::Command::new(alloc, name)
         .about(about)
         .arg(grammar)?
         .arg(file)
 }
 
-/// The whole command line.
-fn all_words<'a>(alloc: Global) -> Result<clap::Command<'a>, AllocError>
-    ensures { IfOk result (λ c. app_of c ≡ program) }
+/// The command that makes the module of a text.
+fn asm_words<'a>(alloc: Global) -> Result<clap::Command<'a>, AllocError>
+    ensures shape { IfOk result (λ c. shape_of c ≡ asm_command) }
+    ensures local { IfOk result (λ c. (out-Command c).has_globals ≡ false) }
 {
-    let check = file_words(alloc, "check", "Writes the verdict on a module")?;
-    let show = file_words(alloc, "show", "Writes the text of a module")?;
+    let out = Arg::new(alloc, "out")
+        .long("out")
+        .value_name("OUT")
+        .required(true)
+        .help("The module that is made");
+    let big = Arg::new(alloc, "big")
+        .long("big")
+        .action(ArgAction::SetTrue)
+        .help("The highest byte of a word stands first");
+    file_words(alloc, "asm", "Makes the module of a text", "The text")?
+        .arg(out)?
+        .arg(big)
+}
+
+/// The command line of the commands that read a module.
+fn module_words<'a>(alloc: Global) -> Result<clap::Command<'a>, AllocError>
+    ensures { IfOk result (λ c. app_of c ≡ module_program) }
+{
+    let check = file_words(
+        alloc,
+        "check",
+        "Writes the verdict on a module",
+        "The module",
+    )?;
+    let show = file_words(alloc, "show", "Writes the text of a module", "The module")?;
     clap::Command::new(alloc, "spv")
-        .about("Checks and shows SPIR-V 1.6 kernel modules")
+        .about("Checks, shows and assembles SPIR-V 1.6 kernel modules")
         .no_binary_name(true)
         .subcommand_required(true)
         .disable_help_subcommand(true)
         .subcommand(check)?
         .subcommand(show)
+}
+
+/// The whole command line.
+fn all_words<'a>(alloc: Global) -> Result<clap::Command<'a>, AllocError>
+    ensures { IfOk result (λ c. app_of c ≡ program) }
+{
+    let asm = asm_words(alloc)?;
+    module_words(alloc)?.subcommand(asm)
 }
 
 /// The error for what `clap` refused.
@@ -103,6 +147,40 @@ fn refusal(kind: ErrorKind) -> UseError
     }
 }
 
+/// Whether a text is that of a flag that is set.
+fn is_true(text: &str) -> bool
+    ensures { IsTrue result ↔ (text.now ≡ codes "true") }
+{
+    match text {
+        "true" => true,
+        _ => false,
+    }
+}
+
+/// Whether `clap` read this flag.
+fn is_set(found: &ArgMatches<'_>, flag: &str) -> bool
+    ensures { IsTrue result ↔ (first_of flag.now (rows_of (found_of found.now)) ≡ Some (codes "true")) }
+{
+    match found.get_str(flag) {
+        Some(text) => is_true(text),
+        None => false,
+    }
+}
+
+/// The command `asm` with the texts of these, if `clap` read its own too.
+fn asm_in<'a>(found: &ArgMatches<'a>, grammar: &'a str, file: &'a str) -> Option<Command<'a>>
+    ensures { IsAsmOf (rows_of (found_of found.now)) grammar.now file.now result }
+{
+    let out = found.get_str("out")?;
+    let big = is_set(found, "big");
+    Some(Command::Asm {
+        grammar,
+        file,
+        out,
+        big,
+    })
+}
+
 /// The command that `clap` read, if it is one with all its texts.
 fn command_in<'a>(matches: &ArgMatches<'a>) -> Option<Command<'a>>
     ensures { IsCommandOf (subcommand_rows_of matches.now) result }
@@ -113,6 +191,7 @@ fn command_in<'a>(matches: &ArgMatches<'a>) -> Option<Command<'a>>
     match name {
         "check" => Some(Command::Check { grammar, file }),
         "show" => Some(Command::Show { grammar, file }),
+        "asm" => asm_in(found, grammar, file),
         _ => None,
     }
 }

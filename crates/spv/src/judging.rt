@@ -15,10 +15,12 @@ use spv_ids::number;
 use spv_inst::{Module, Stop, decode};
 use spv_layout::laws::{member_or_dead, word_counts};
 use spv_layout::lay_out;
+use spv_types::type_check;
 use spv_words::{Image, WordError};
 use std::alloc::Global;
 
-/// Looks for the first rule that a module breaks, stage by stage: the shapes and the layout, and then the ids (own).
+/// Looks for the first rule that a module breaks, stage by stage: the shapes and the layout, the ids, their roles, and then
+/// capabilities, entry points and types (own).
 ///
 /// A `Fault` tells it, with its instruction and the first word of that. `Memory` comes only where a growth of memory was
 /// refused.
@@ -32,7 +34,11 @@ fn sound(alloc: Global, table: &Table, module: &Module<'_>) -> Result<(), Stop>
         Ok(plan) => plan,
         Err(stop) => return Err(stop),
     };
-    match number(alloc, module, &plan) {
+    let ids = match number(alloc, module, &plan) {
+        Ok(ids) => ids,
+        Err(stop) => return Err(stop),
+    };
+    match type_check(alloc, table, module, &plan, &ids) {
         Ok(_) => Ok(()),
         Err(stop) => Err(stop),
     }

@@ -1,6 +1,7 @@
 //! What follows from the definitions of the verdict line and of a grammar file's table. Each function does nothing: its
 //! contract is what is proved.
 ghost use Rattle.std.specs.Prelude.{◌≡◌, ◌++◌, ◌∷◌, [], ℕ, List, Option, Bool, true, false, codes};
+ghost use Rattle.spv_words.specs.declared.words.Order.{Order};
 ghost use Rattle.spv_grammar.specs.Table.{Table};
 ghost use Rattle.spv_grammar.specs.Answer.{text_breaks};
 ghost use Rattle.spv_grammar.specs.declared.error.GrammarError.{GrammarError};
@@ -9,14 +10,15 @@ ghost use Rattle.spv_grammar.specs.Example.{empty_table};
 ghost use Rattle.spv.specs.Example.{empty_grammar};
 ghost use Rattle.spv.specs.Stream.{Begins, Tells};
 ghost use Rattle.spv.specs.Show.{BeginsShowing, IsShowing, Shows};
-ghost use Rattle.spv.specs.Task.{BeginsByText, DoesByText};
+ghost use Rattle.spv.specs.Assemble.{Assembles, BeginsAssembling};
+ghost use Rattle.spv.specs.Task.{BeginsByText, DoesByText, MakesNothing};
 ghost use Rattle.spv.specs.Trouble.{BeginsWith, IsErrorLine, IsTableOf, Writes, file_line, memory_line};
 ghost use Rattle.spv.specs.declared.command_line.Command.{Command};
 ghost use Rattle.spv.specs.Verdict.{IsVerdict, fault_line, line_end, valid_line};
 
 use spv_grammar::laws::one_table;
 use spv_inst::{listed_or_dead, one_death, one_listing};
-use spv_text::one_shown;
+use spv_lines::one_shown;
 
 /// Bytes have one verdict line.
 pub fn one_verdict()
@@ -90,6 +92,16 @@ pub fn show_examples()
     spv_words::laws::one_refusal();
 }
 
+/// Worked examples of what a text is assembled to.
+pub fn assemble_examples()
+    // Three characters are no header: the writer that held the byte 9 got the line, and nothing is made.
+    ensures assembles { (G : Table) (o : Order) → Assembles G o (1 ∷ 2 ∷ 3 ∷ []) (Some (9 ∷ [])) (Some (9 ∷ codes "fault S1 line 1" ++ line_end)) (Some []) (Some []) false }
+    ensures assembles_none { (G : Table) (o : Order) (old new held kept : Option (List ℕ)) → ¬ (Assembles G o (1 ∷ 2 ∷ 3 ∷ []) old new held kept true) }
+    // The first five bytes of that line, and other bytes.
+    ensures begins { (G : Table) (o : Order) → BeginsAssembling G o (1 ∷ 2 ∷ 3 ∷ []) (Some (9 ∷ [])) (Some (9 ∷ codes "fault")) (Some []) (Some []) }
+    ensures begins_none { (G : Table) (o : Order) (old new : Option (List ℕ)) → ¬ (BeginsAssembling G o (1 ∷ 2 ∷ 3 ∷ []) old new (Some []) (Some (3 ∷ []))) }
+{}
+
 /// Worked examples of what a run leaves in its outputs.
 pub fn run_examples()
     // The first five bytes of `error file`, and of another line.
@@ -102,10 +114,10 @@ pub fn run_examples()
     // Two empty lists give the table of nothing, and no text at all gives none.
     ensures table { IsTableOf empty_grammar empty_table }
     ensures no_table { (G : Table) → ¬ (IsTableOf [] G) }
-    ensures does { (command : Command) → DoesByText command empty_grammar (1 ∷ 2 ∷ 3 ∷ []) (9 ∷ []) (Some (9 ∷ codes "fault W2" ++ line_end)) false }
-    ensures does_nothing { (command : Command) (bytes old : List ℕ) (new : Option (List ℕ)) (answer : Bool) → ¬ (DoesByText command [] bytes old new answer) }
-    ensures begins { (command : Command) → BeginsByText command empty_grammar (1 ∷ 2 ∷ 3 ∷ []) (9 ∷ []) (Some (9 ∷ codes "fault")) }
-    ensures begins_nothing { (command : Command) (bytes old : List ℕ) (new : Option (List ℕ)) → ¬ (BeginsByText command [] bytes old new) }
+    ensures does { (command : Command) → MakesNothing command → DoesByText command empty_grammar (1 ∷ 2 ∷ 3 ∷ []) (Some (9 ∷ [])) (Some (9 ∷ codes "fault W2" ++ line_end)) None None false }
+    ensures does_nothing { (command : Command) (bytes : List ℕ) (old new held kept : Option (List ℕ)) (answer : Bool) → ¬ (DoesByText command [] bytes old new held kept answer) }
+    ensures begins { (command : Command) → MakesNothing command → BeginsByText command empty_grammar (1 ∷ 2 ∷ 3 ∷ []) (Some (9 ∷ [])) (Some (9 ∷ codes "fault")) None None }
+    ensures begins_nothing { (command : Command) (bytes : List ℕ) (old new held kept : Option (List ℕ)) → ¬ (BeginsByText command [] bytes old new held kept) }
     // No text at all breaks J1, memory can always be told, and `error file` only after a failed call.
     ensures refused { IsErrorLine [] ⊥ (codes "error J1" ++ line_end) }
     ensures memory { (text : List ℕ) → IsErrorLine text ⊥ memory_line }

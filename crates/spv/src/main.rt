@@ -1,6 +1,7 @@
-//! `spv` checks SPIR-V 1.6 kernel modules.
+//! `spv` checks, shows and assembles SPIR-V 1.6 kernel modules.
 #![tactic(auto)]
 
+mod assembling;
 mod command_line;
 mod judging;
 pub mod laws;
@@ -10,12 +11,13 @@ mod showing;
 mod stream;
 #[cfg(test)]
 mod tests;
+mod text_fault;
 mod verdict_line;
 
 use crate::command_line::{Command, UseError, arguments, help};
 use crate::program::{Trouble, report, run};
 use spv_words::{FromRead, FromWrite};
-use std::io::{ErrorKind, Write};
+use std::io::{ErrorKind, Read, Write};
 use std::process::ExitCode;
 use std::{env, fs, io};
 
@@ -42,20 +44,39 @@ fn show_help(rt: &HostRuntime) -> Result<u8, Trouble> {
     Ok(0)
 }
 
-/// Opens the files of a command and does what it asks, and answers the exit status.
-fn with_files(rt: &HostRuntime, command: &Command) -> Result<u8, Trouble> {
-    let (Command::Check { grammar, file } | Command::Show { grammar, file }) = command;
-    let grammar = fs::read(rt, *grammar).map_err(trouble_of)?;
-    let file = fs::open(rt, *file).map_err(trouble_of)?;
-    let status = run(
+/// Does what a command asks with its open files, and answers the exit status.
+fn with_made<F: Read + Drop, O: Write + Drop>(
+    rt: &HostRuntime,
+    command: &Command,
+    grammar: &[u8],
+    file: F,
+    made: O,
+) -> u8 {
+    run(
         rt.alloc(),
         command,
-        &grammar,
+        grammar,
         &mut FromRead::new(file),
         &mut FromWrite::new(rt.stdout()),
-        &mut FromWrite::new(io::sink()),
+        &mut FromWrite::new(made),
         &mut FromWrite::new(rt.stderr()),
-    );
+    )
+}
+
+/// Opens the files of a command, makes the one that it makes empty, does what it asks, and answers the exit status.
+fn with_files(rt: &HostRuntime, command: &Command) -> Result<u8, Trouble> {
+    let (Command::Check { grammar, file }
+    | Command::Show { grammar, file }
+    | Command::Asm { grammar, file, .. }) = command;
+    let grammar = fs::read(rt, *grammar).map_err(trouble_of)?;
+    let file = fs::open(rt, *file).map_err(trouble_of)?;
+    let status = match command {
+        Command::Asm { out, .. } => {
+            let made = fs::create(rt, *out).map_err(trouble_of)?;
+            with_made(rt, command, &grammar, file, made)
+        }
+        _ => with_made(rt, command, &grammar, file, io::sink()),
+    };
     Ok(status)
 }
 

@@ -1,20 +1,22 @@
 //! What the program does once its words are read and its files are open.
-ghost use Rattle.std.specs.Prelude.{◌≡◌, ◌≢◌, ◌≤◌, ◌⊎◌, ◌↔◌, ◌==◌, ℕ, List, IfOk, IfErr, IfSome, IsErr, IsErrOf};
+ghost use Rattle.std.specs.Prelude.{◌≡◌, ◌≢◌, ◌≤◌, ◌⊎◌, ◌↔◌, ◌==◌, ℕ, List, IfOk, IfErr, IfSome, IsErr, IsErrOf, IsUtf8};
 ghost use Rattle.spv_grammar.specs.Answer.{text_breaks};
 ghost use Rattle.spv_grammar.specs.declared.error.GrammarError.{GrammarError};
 ghost use Rattle.spv_grammar.specs.declared.error.GrammarError.TheVariants.{J8};
+ghost use Rattle.spv.specs.Assemble.{Assembles, BeginsAssembling, order_of};
 ghost use Rattle.spv.specs.Stream.{Begins, Tells};
 ghost use Rattle.spv.specs.Show.{BeginsShowing, Shows};
-ghost use Rattle.spv.specs.Task.{BeginsByText, BeginsToDo, Does, DoesByText};
+ghost use Rattle.spv.specs.Task.{BeginsByText, BeginsToDo, Does, DoesByText, IsNoText, MakesNothing};
 ghost use Rattle.spv.specs.Trouble.{IsErrorLine, Writes, file_line, grammar_text, memory_line, trouble_from, trouble_text};
 ghost use Rattle.spv.specs.declared.program.Trouble.TheVariants.{File, Grammar, Memory};
 
+use crate::assembling::{TextError, assemble_stream};
 use crate::command_line::Command;
 use crate::laws::one_grammar;
 use crate::showing::show_stream;
 use crate::stream::check_stream;
 use spv_grammar::{GrammarError, Table};
-use spv_words::{Sink, Source, WordError, write_all};
+use spv_words::{Order, Sink, Source, WordError, write_all};
 use std::alloc::Global;
 
 /// Why the program ends with the exit status 2.
@@ -22,7 +24,7 @@ use std::alloc::Global;
 pub enum Trouble {
     /// The words of the command line fit no command.
     Use,
-    /// A file does not open, or a read or a write failed.
+    /// A file does not open, a read or a write failed, or a text is not UTF-8.
     File,
     /// A growth of memory was refused.
     Memory,
@@ -107,55 +109,93 @@ fn shown<S: Source, W: Sink>(
     show_stream(alloc, table, file, out).map_err(stream_trouble)
 }
 
-/// Does what a command asks by a table: whether the module is valid, or has a text.
-fn done_by<S: Source, W: Sink>(
+/// The order in which the bytes of words are written.
+fn order_by(big: bool) -> Order
+    ensures { result ≡ order_of big }
+{
+    if big { Order::Big } else { Order::Little }
+}
+
+/// Makes the module of a text by a table: whether the text is that of one.
+fn assembled<S: Source, W: Sink, O: Sink>(
+    alloc: Global,
+    table: &Table,
+    big: bool,
+    file: &mut S,
+    out: &mut W,
+    made: &mut O,
+) -> Result<bool, Trouble>
+    ensures done { IfSome (S.remaining file.old) (λ bytes. IfOk result (λ answer. Assembles table.now (order_of big) bytes (W.contents out.old) (W.contents out.new) (O.contents made.old) (O.contents made.new) answer)) }
+    ensures failed { (S.failures file.new ≢ S.failures file.old) ⊎ (W.failures out.new ≢ W.failures out.old) ⊎ (O.failures made.new ≢ O.failures made.old) → IsErrOf result File }
+    ensures why { IfErr result (λ t. ((t ≡ File) × (((S.failures file.new ≢ S.failures file.old) ⊎ (W.failures out.new ≢ W.failures out.old) ⊎ (O.failures made.new ≢ O.failures made.old)) ⊎ IfSome (S.remaining file.old) (λ bytes. ¬ IsUtf8 bytes))) ⊎ (t ≡ Memory)) }
+    ensures unwritten { IsErr result → W.failures out.new ≡ W.failures out.old → out.new ≡ out.old }
+    ensures unmade { IsErr result → O.failures made.new ≡ O.failures made.old → made.new ≡ made.old }
+    ensures begun { (W.failures out.new ≢ W.failures out.old) ⊎ (O.failures made.new ≢ O.failures made.old) → IfSome (S.remaining file.old) (λ bytes. BeginsAssembling table.now (order_of big) bytes (W.contents out.old) (W.contents out.new) (O.contents made.old) (O.contents made.new)) }
+{
+    match assemble_stream(alloc, table, order_by(big), file, out, made) {
+        Ok(answer) => Ok(answer),
+        Err(TextError::Failed) => Err(Trouble::File),
+        Err(TextError::NotText) => Err(Trouble::File),
+        Err(TextError::Memory) => Err(Trouble::Memory),
+    }
+}
+
+/// Does what a command asks by a table: whether the module is valid, has a text or was made.
+fn done_by<S: Source, W: Sink, O: Sink>(
     alloc: Global,
     command: &Command,
     table: &Table,
     file: &mut S,
     out: &mut W,
+    made: &mut O,
 ) -> Result<bool, Trouble>
-    ensures done { IfSome (S.remaining file.old) (λ bytes. IfSome (W.contents out.old) (λ old. IfOk result (λ answer. Does command.now table.now bytes old (W.contents out.new) answer))) }
-    ensures failed { ((S.failures file.new ≢ S.failures file.old) ⊎ (W.failures out.new ≢ W.failures out.old)) ↔ IsErrOf result File }
-    ensures only { IfErr result (λ t. (t ≡ File) ⊎ (t ≡ Memory)) }
+    ensures done { IfSome (S.remaining file.old) (λ bytes. IfOk result (λ answer. Does command.now table.now bytes (W.contents out.old) (W.contents out.new) (O.contents made.old) (O.contents made.new) answer)) }
+    ensures failed { (S.failures file.new ≢ S.failures file.old) ⊎ (W.failures out.new ≢ W.failures out.old) ⊎ (O.failures made.new ≢ O.failures made.old) → IsErrOf result File }
+    ensures why { IfErr result (λ t. ((t ≡ File) × (((S.failures file.new ≢ S.failures file.old) ⊎ (W.failures out.new ≢ W.failures out.old) ⊎ (O.failures made.new ≢ O.failures made.old)) ⊎ IsNoText command.now (S.remaining file.old))) ⊎ (t ≡ Memory)) }
     ensures unwritten { IsErr result → W.failures out.new ≡ W.failures out.old → out.new ≡ out.old }
-    ensures begun { W.failures out.new ≢ W.failures out.old → IfSome (S.remaining file.old) (λ bytes. IfSome (W.contents out.old) (λ old. BeginsToDo command.now table.now bytes old (W.contents out.new))) }
+    ensures unmade { IsErr result → O.failures made.new ≡ O.failures made.old → made.new ≡ made.old }
+    ensures begun { (W.failures out.new ≢ W.failures out.old) ⊎ (O.failures made.new ≢ O.failures made.old) → IfSome (S.remaining file.old) (λ bytes. BeginsToDo command.now table.now bytes (W.contents out.old) (W.contents out.new) (O.contents made.old) (O.contents made.new)) }
+    ensures nothing { MakesNothing command.now → made.new ≡ made.old }
 {
     match command {
         Command::Check { .. } => judged(alloc, table, file, out),
         Command::Show { .. } => shown(alloc, table, file, out),
+        Command::Asm { big, .. } => assembled(alloc, table, *big, file, out, made),
     }
 }
 
-/// Judges the grammar file, and then does what a command asks: whether the module is valid, or has a text.
-fn done<S: Source, W: Sink>(
+/// Judges the grammar file, and then does what a command asks: whether the module is valid, has a text or was made.
+fn done<S: Source, W: Sink, O: Sink>(
     alloc: Global,
     command: &Command,
     grammar: &[u8],
     file: &mut S,
     out: &mut W,
+    made: &mut O,
 ) -> Result<bool, Trouble>
-    ensures done { IfSome (S.remaining file.old) (λ bytes. IfSome (W.contents out.old) (λ old. IfOk result (λ answer. DoesByText command.now grammar.now bytes old (W.contents out.new) answer))) }
-    ensures failed { ((S.failures file.new ≢ S.failures file.old) ⊎ (W.failures out.new ≢ W.failures out.old)) ↔ IsErrOf result File }
-    ensures reason { IfErr result (λ t. IsErrorLine grammar.now ((S.failures file.new ≢ S.failures file.old) ⊎ (W.failures out.new ≢ W.failures out.old)) (trouble_text t)) }
-    ensures refused { (e : GrammarError) → text_breaks grammar.now e → (file.new ≡ file.old) × (out.new ≡ out.old) × (IsErrOf result (Grammar e) ⊎ IsErrOf result (Grammar J8)) }
+    ensures done { IfSome (S.remaining file.old) (λ bytes. IfOk result (λ answer. DoesByText command.now grammar.now bytes (W.contents out.old) (W.contents out.new) (O.contents made.old) (O.contents made.new) answer)) }
+    ensures failed { (S.failures file.new ≢ S.failures file.old) ⊎ (W.failures out.new ≢ W.failures out.old) ⊎ (O.failures made.new ≢ O.failures made.old) → IsErrOf result File }
+    ensures reason { IfErr result (λ t. IsErrorLine grammar.now (((S.failures file.new ≢ S.failures file.old) ⊎ (W.failures out.new ≢ W.failures out.old) ⊎ (O.failures made.new ≢ O.failures made.old)) ⊎ IsNoText command.now (S.remaining file.old)) (trouble_text t)) }
+    ensures refused { (e : GrammarError) → text_breaks grammar.now e → (file.new ≡ file.old) × (out.new ≡ out.old) × (made.new ≡ made.old) × (IsErrOf result (Grammar e) ⊎ IsErrOf result (Grammar J8)) }
     ensures unwritten { IsErr result → W.failures out.new ≡ W.failures out.old → out.new ≡ out.old }
-    ensures begun { W.failures out.new ≢ W.failures out.old → IfSome (S.remaining file.old) (λ bytes. IfSome (W.contents out.old) (λ old. BeginsByText command.now grammar.now bytes old (W.contents out.new))) }
+    ensures unmade { IsErr result → O.failures made.new ≡ O.failures made.old → made.new ≡ made.old }
+    ensures begun { (W.failures out.new ≢ W.failures out.old) ⊎ (O.failures made.new ≢ O.failures made.old) → IfSome (S.remaining file.old) (λ bytes. BeginsByText command.now grammar.now bytes (W.contents out.old) (W.contents out.new) (O.contents made.old) (O.contents made.new)) }
+    ensures nothing { MakesNothing command.now → made.new ≡ made.old }
 {
     one_grammar();
     match Table::from_slice(alloc, grammar) {
-        Ok(table) => done_by(alloc, command, &table, file, out),
+        Ok(table) => done_by(alloc, command, &table, file, out, made),
         Err(error) => Err(Trouble::Grammar(error)),
     }
 }
 
 /// Does what a command asks, and answers the exit status.
 ///
-/// `file` is the module, `out` the standard output, `made` the file that a command makes (`check` and `show` make none),
-/// `err` the standard error. 0: the module is valid, or its text was written. 1: a fault line was written. 2: one line was written to `err`: `error J1` to
-/// `error J7` where the grammar file is refused, which is told first, `error file` where a read or a write failed,
-/// `error memory` where a growth of memory was refused. Where the write to `err` fails too, it has got a beginning of
-/// that line, and the status is 2 all the same.
+/// `file` is the module or the text, `out` the standard output, `made` the file that a command makes (`check` and `show` make
+/// none), `err` the standard error. 0: the module is valid, or its text or the module of a text was written. 1: a fault line
+/// was written. 2: one line was written to `err`: `error J1` to `error J7` where the grammar file is refused, which is told
+/// first, `error file` where a read or a write failed or a text is not UTF-8, `error memory` where a growth of memory was
+/// refused. Where the write to `err` fails too, it has got a beginning of that line, and the status is 2 all the same.
 pub fn run<S: Source, W: Sink, O: Sink, E: Sink>(
     alloc: Global,
     command: &Command,
@@ -166,25 +206,25 @@ pub fn run<S: Source, W: Sink, O: Sink, E: Sink>(
     err: &mut E,
 ) -> u8
     ensures status { result ≤ 2 }
-    // With 0 and 1 the verdict line or the text was written, by the table that the grammar file gives: 0 goes with `valid`
-    // alone, or with the text of a module.
-    ensures done { result ≤ 1 → IfSome (S.remaining file.old) (λ bytes. IfSome (W.contents out.old) (λ old. DoesByText command.now grammar.now bytes old (W.contents out.new) (result == 0))) }
+    // With 0 and 1 the verdict line, the text or the module was written, by the table that the grammar file gives: 0 goes with
+    // `valid` alone, with the text of a module or with the module of a text.
+    ensures done { result ≤ 1 → IfSome (S.remaining file.old) (λ bytes. DoesByText command.now grammar.now bytes (W.contents out.old) (W.contents out.new) (O.contents made.old) (O.contents made.new) (result == 0)) }
     // With 2 an error line was written to the standard error, and there is a reason for it.
-    ensures error { result ≡ 2 → (line : List ℕ) × IsErrorLine grammar.now ((S.failures file.new ≢ S.failures file.old) ⊎ (W.failures out.new ≢ W.failures out.old)) line × Writes line (E.contents err.old) (E.contents err.new) (E.failures err.old) (E.failures err.new) }
+    ensures error { result ≡ 2 → (line : List ℕ) × IsErrorLine grammar.now (((S.failures file.new ≢ S.failures file.old) ⊎ (W.failures out.new ≢ W.failures out.old) ⊎ (O.failures made.new ≢ O.failures made.old)) ⊎ IsNoText command.now (S.remaining file.old)) line × Writes line (E.contents err.old) (E.contents err.new) (E.failures err.old) (E.failures err.new) }
     // A refused grammar file is told first, before anything is read or written: by its code, or as want of memory.
-    ensures refused { (e : GrammarError) → text_breaks grammar.now e → (result ≡ 2) × (file.new ≡ file.old) × (out.new ≡ out.old) × (Writes (grammar_text e) (E.contents err.old) (E.contents err.new) (E.failures err.old) (E.failures err.new) ⊎ Writes memory_line (E.contents err.old) (E.contents err.new) (E.failures err.old) (E.failures err.new)) }
+    ensures refused { (e : GrammarError) → text_breaks grammar.now e → (result ≡ 2) × (file.new ≡ file.old) × (out.new ≡ out.old) × (made.new ≡ made.old) × (Writes (grammar_text e) (E.contents err.old) (E.contents err.new) (E.failures err.old) (E.failures err.new) ⊎ Writes memory_line (E.contents err.old) (E.contents err.new) (E.failures err.old) (E.failures err.new)) }
     // A failed read or write is told by `error file`.
-    ensures failed { (S.failures file.new ≢ S.failures file.old) ⊎ (W.failures out.new ≢ W.failures out.old) → (result ≡ 2) × Writes file_line (E.contents err.old) (E.contents err.new) (E.failures err.old) (E.failures err.new) }
-    // With 2 the standard output is as it was, or, after a failed write to it, has got a beginning of that line or text.
+    ensures failed { (S.failures file.new ≢ S.failures file.old) ⊎ (W.failures out.new ≢ W.failures out.old) ⊎ (O.failures made.new ≢ O.failures made.old) → (result ≡ 2) × Writes file_line (E.contents err.old) (E.contents err.new) (E.failures err.old) (E.failures err.new) }
+    // With 2 the standard output and the file that is made are as they were, or, after a failed write, have got a beginning.
     ensures unwritten { result ≡ 2 → W.failures out.new ≡ W.failures out.old → out.new ≡ out.old }
-    ensures begun { W.failures out.new ≢ W.failures out.old → IfSome (S.remaining file.old) (λ bytes. IfSome (W.contents out.old) (λ old. BeginsByText command.now grammar.now bytes old (W.contents out.new))) }
-    // Neither command makes a file.
-    ensures made { made.new ≡ made.old }
+    ensures unmade { result ≡ 2 → O.failures made.new ≡ O.failures made.old → made.new ≡ made.old }
+    ensures begun { (W.failures out.new ≢ W.failures out.old) ⊎ (O.failures made.new ≢ O.failures made.old) → IfSome (S.remaining file.old) (λ bytes. BeginsByText command.now grammar.now bytes (W.contents out.old) (W.contents out.new) (O.contents made.old) (O.contents made.new)) }
+    // `check` and `show` make no file.
+    ensures nothing { MakesNothing command.now → made.new ≡ made.old }
     // The standard error gets a line only with the status 2.
     ensures quiet { result ≤ 1 → err.new ≡ err.old }
 {
-    let _ = made;
-    match done(alloc, command, grammar, file, out) {
+    match done(alloc, command, grammar, file, out, made) {
         Ok(true) => 0,
         Ok(false) => 1,
         Err(trouble) => {

@@ -155,6 +155,129 @@ fn check_run(alloc: Global, grammar: &[u8], bytes: &[u8], reads: u64, writes: u6
     }
 }
 
+/// The text of the smallest kernel.
+const TEXT: &[u8] = br#"; SPIR-V
+; Version: 1.6
+; Generator: 0
+; Bound: 5
+; Schema: 0
+OpCapability Addresses
+OpCapability Kernel
+OpMemoryModel Physical64 OpenCL
+OpEntryPoint Kernel %3 "k"
+%1 = OpTypeVoid
+%2 = OpTypeFunction %1
+%3 = OpFunction %1 None %2
+%4 = OpLabel
+OpReturn
+OpFunctionEnd
+"#;
+
+/// The exit status of a run of `asm`, what it wrote to its outputs, and what it made.
+#[derive(Drop)]
+struct Assembled {
+    status: u8,
+    out: Vec<u8>,
+    err: Vec<u8>,
+    made: Vec<u8>,
+}
+
+/// Runs `asm`, with so many calls that go well at the reader and at the file that is made.
+fn asm_run(alloc: Global, text: &[u8], big: bool, reads: u64, writes: u64) -> Assembled {
+    let mut file = FromRead::new(Pieces {
+        rest: text,
+        piece: 100,
+        calls_left: reads,
+    });
+    let mut out = FromWrite::new(Shelf {
+        kept: Vec::new(alloc),
+        piece: 3,
+        calls_left: u64::MAX,
+    });
+    let mut made = FromWrite::new(Shelf {
+        kept: Vec::new(alloc),
+        piece: 50,
+        calls_left: writes,
+    });
+    let mut err = FromWrite::new(Shelf {
+        kept: Vec::new(alloc),
+        piece: 5,
+        calls_left: u64::MAX,
+    });
+    let command = Command::Asm {
+        grammar: "G",
+        file: "F",
+        out: "O",
+        big,
+    };
+    let status = run(
+        alloc, &command, GRAMMAR, &mut file, &mut out, &mut made, &mut err,
+    );
+    Assembled {
+        status,
+        out: out.inner.kept,
+        err: err.inner.kept,
+        made: made.inner.kept,
+    }
+}
+
+#[test]
+fn assembles(rt: HostRuntime) -> Result<(), Fail> {
+    let a = rt.alloc();
+    let little = asm_run(a, TEXT, false, u64::MAX, u64::MAX);
+    assert_eq!(rt; little.status, 0);
+    assert_eq!(rt; little.made, bytes_of(a, &KERNEL)?);
+    assert!(rt; little.out.is_empty());
+    assert!(rt; little.err.is_empty());
+    let big = asm_run(a, TEXT, true, u64::MAX, u64::MAX);
+    let mut bytes = Vec::new(a);
+    for word in &KERNEL {
+        bytes.extend_from_slice(&word.to_be_bytes())?;
+    }
+    assert_eq!(rt; big.status, 0);
+    assert_eq!(rt; big.made, bytes);
+    Ok(())
+}
+
+#[test]
+fn tells_a_line(rt: HostRuntime) {
+    let a = rt.alloc();
+    let text =
+        b"; SPIR-V\n; Version: 1.6\n; Generator: 0\n; Bound: 5\n; Schema: 0\nOpCapability Kernel\nOpMemoryModel Physical64\n";
+    let short = asm_run(a, text, false, u64::MAX, u64::MAX);
+    assert_eq!(rt; short.status, 1);
+    assert_eq!(rt; short.out.as_slice(), b"fault S3 line 7\n".as_slice());
+    assert!(rt; short.made.is_empty());
+    assert!(rt; short.err.is_empty());
+}
+
+#[test]
+fn tells_what_is_no_text(rt: HostRuntime) {
+    let a = rt.alloc();
+    let other = asm_run(a, b"; SPIR-V\n\xff", false, u64::MAX, u64::MAX);
+    assert_eq!(rt; other.status, 2);
+    assert_eq!(rt; other.err.as_slice(), b"error file\n".as_slice());
+    assert!(rt; other.out.is_empty());
+    assert!(rt; other.made.is_empty());
+}
+
+#[test]
+fn tells_a_failed_call_of_asm(rt: HostRuntime) -> Result<(), Fail> {
+    let a = rt.alloc();
+    let bytes = bytes_of(a, &KERNEL)?;
+    for calls in 0..3u64 {
+        let unread = asm_run(a, TEXT, false, calls, u64::MAX);
+        assert_eq!(rt; unread.status, 2, "after {calls} reads");
+        assert!(rt; unread.made.is_empty());
+        assert_eq!(rt; unread.err.as_slice(), b"error file\n".as_slice());
+        let begun = asm_run(a, TEXT, false, u64::MAX, calls);
+        assert_eq!(rt; begun.status, 2, "after {calls} writes");
+        assert!(rt; bytes.as_slice().starts_with(begun.made.as_slice()));
+        assert_eq!(rt; begun.err.as_slice(), b"error file\n".as_slice());
+    }
+    Ok(())
+}
+
 #[test]
 fn reads_the_words(rt: HostRuntime) {
     let check = Ok(Command::Check {
@@ -165,6 +288,30 @@ fn reads_the_words(rt: HostRuntime) {
     assert_eq!(rt; arguments(a, &["check", "--grammar", "G", "F"]), check);
     assert_eq!(rt; arguments(a, &["check", "F", "--grammar", "G"]), check);
     assert_eq!(rt; arguments(a, &["check", "--grammar=G", "F"]), check);
+    let asm = Ok(Command::Asm {
+        grammar: "G",
+        file: "F",
+        out: "O",
+        big: false,
+    });
+    let big = Ok(Command::Asm {
+        grammar: "G",
+        file: "F",
+        out: "O",
+        big: true,
+    });
+    assert_eq!(rt;
+        arguments(a, &["asm", "--grammar", "G", "--out", "O", "F"]),
+        asm
+    );
+    assert_eq!(rt;
+        arguments(a, &["asm", "--grammar", "G", "--out", "O", "--big", "F"]),
+        big
+    );
+    assert_eq!(rt;
+        arguments(a, &["asm", "--big", "F", "--out=O", "--grammar=G"]),
+        big
+    );
     assert_eq!(rt; arguments(a, &["--help"]), Err(UseError::U3));
     assert_eq!(rt; arguments(a, &["check", "--help"]), Err(UseError::U3));
 }
@@ -177,6 +324,11 @@ fn refuses_other_words(rt: HostRuntime) {
     assert_eq!(rt; arguments(a, &["check2", "--grammar", "G", "F"]), refused);
     assert_eq!(rt; arguments(a, &["check", "F"]), refused);
     assert_eq!(rt; arguments(a, &["check", "--grammar", "G"]), refused);
+    assert_eq!(rt; arguments(a, &["asm", "--grammar", "G", "F"]), refused);
+    assert_eq!(rt;
+        arguments(a, &["check", "--grammar", "G", "--big", "F"]),
+        refused
+    );
     assert_eq!(rt;
         arguments(a, &["check", "--grammar", "G", "F", "F"]),
         refused

@@ -1,0 +1,100 @@
+-- Which stage the rules of roles, capabilities, entry points and types are of.
+use Rattle.std.proofs.Common.{◌≡◌, ◌⊎◌, ℕ, List, refl, inl, inr}
+use Rattle.spv_grammar.specs.Table.{Table}
+use Rattle.spv_inst.specs.Operand.{PlainInst}
+use Rattle.spv_inst.specs.declared.fault.Rule.{Rule}
+use Rattle.spv_inst.specs.declared.fault.Rule.TheVariants as rule
+use Rattle.spv_layout.specs.First.{stage_of}
+use Rattle.spv_roles.specs.Broken as roles
+use Rattle.spv_capabilities.specs.Keeps as capabilities
+use Rattle.spv_type_rules.specs.Keeps as rules
+use Rattle.spv_types.specs.Broken as types
+
+capable_stage : (G : Table) (is : List PlainInst) (n : ℕ) (i : PlainInst) (r : Rule) → ¬ (capabilities.Keeps G is r n i) → stage_of r ≡ 5
+capable_stage G is n i rule.I1 h = absurd (h tt)
+capable_stage G is n i rule.I2 h = absurd (h tt)
+capable_stage G is n i rule.I3 h = absurd (h tt)
+capable_stage G is n i rule.I4 h = absurd (h tt)
+capable_stage G is n i rule.I5 h = absurd (h tt)
+capable_stage G is n i rule.I6 h = absurd (h tt)
+capable_stage G is n i rule.I7 h = absurd (h tt)
+capable_stage G is n i rule.I8 h = absurd (h tt)
+capable_stage G is n i rule.I9 h = absurd (h tt)
+capable_stage G is n i rule.I10 h = absurd (h tt)
+capable_stage G is n i rule.I11 h = absurd (h tt)
+capable_stage G is n i rule.I12 h = absurd (h tt)
+capable_stage G is n i rule.P1 h = absurd (h tt)
+capable_stage G is n i rule.L1 h = absurd (h tt)
+capable_stage G is n i rule.L2 h = absurd (h tt)
+capable_stage G is n i rule.D1 h = absurd (h tt)
+capable_stage G is n i rule.D2 h = absurd (h tt)
+capable_stage G is n i rule.D3 h = absurd (h tt)
+capable_stage G is n i rule.D4 h = absurd (h tt)
+capable_stage G is n i rule.D5 h = absurd (h tt)
+capable_stage G is n i rule.Y1 h = absurd (h tt)
+capable_stage G is n i rule.Y2 h = absurd (h tt)
+capable_stage G is n i rule.Y3 h = absurd (h tt)
+capable_stage G is n i rule.Y4 h = absurd (h tt)
+capable_stage G is n i rule.Y5 h = absurd (h tt)
+capable_stage G is n i rule.Y6 h = absurd (h tt)
+capable_stage G is n i rule.Y7 h = absurd (h tt)
+capable_stage G is n i rule.Y8 h = absurd (h tt)
+capable_stage G is n i rule.C1 h = refl
+capable_stage G is n i rule.C2 h = refl
+capable_stage G is n i rule.M1 h = refl
+capable_stage G is n i rule.E1 h = refl
+capable_stage G is n i rule.E2 h = refl
+capable_stage G is n i rule.F1 h = absurd (h tt)
+capable_stage G is n i rule.F2 h = absurd (h tt)
+capable_stage G is n i rule.F3 h = absurd (h tt)
+capable_stage G is n i rule.F4 h = absurd (h tt)
+capable_stage G is n i rule.A1 h = absurd (h tt)
+capable_stage G is n i rule.A2 h = absurd (h tt)
+capable_stage G is n i rule.G1 h = absurd (h tt)
+
+typed_stage : (G : Table) (is : List PlainInst) (n : ℕ) (i : PlainInst) (r : Rule) → ¬ (rules.Keeps G is r n i) → stage_of r ≡ 5
+typed_stage G is n i rule.I1 h = absurd (h tt)
+typed_stage G is n i rule.I2 h = absurd (h tt)
+typed_stage G is n i rule.I3 h = absurd (h tt)
+typed_stage G is n i rule.I4 h = absurd (h tt)
+typed_stage G is n i rule.I5 h = absurd (h tt)
+typed_stage G is n i rule.I6 h = absurd (h tt)
+typed_stage G is n i rule.I7 h = absurd (h tt)
+typed_stage G is n i rule.I8 h = absurd (h tt)
+typed_stage G is n i rule.I9 h = absurd (h tt)
+typed_stage G is n i rule.I10 h = absurd (h tt)
+typed_stage G is n i rule.I11 h = absurd (h tt)
+typed_stage G is n i rule.I12 h = absurd (h tt)
+typed_stage G is n i rule.P1 h = absurd (h tt)
+typed_stage G is n i rule.L1 h = absurd (h tt)
+typed_stage G is n i rule.L2 h = absurd (h tt)
+typed_stage G is n i rule.D1 h = absurd (h tt)
+typed_stage G is n i rule.D2 h = absurd (h tt)
+typed_stage G is n i rule.D3 h = absurd (h tt)
+typed_stage G is n i rule.D4 h = absurd (h tt)
+typed_stage G is n i rule.D5 h = absurd (h tt)
+typed_stage G is n i rule.Y1 h = absurd (h tt)
+typed_stage G is n i rule.Y2 h = refl
+typed_stage G is n i rule.Y3 h = refl
+typed_stage G is n i rule.Y4 h = refl
+typed_stage G is n i rule.Y5 h = refl
+typed_stage G is n i rule.Y6 h = refl
+typed_stage G is n i rule.Y7 h = refl
+typed_stage G is n i rule.Y8 h = refl
+typed_stage G is n i rule.C1 h = absurd (h tt)
+typed_stage G is n i rule.C2 h = absurd (h tt)
+typed_stage G is n i rule.M1 h = absurd (h tt)
+typed_stage G is n i rule.E1 h = absurd (h tt)
+typed_stage G is n i rule.E2 h = absurd (h tt)
+typed_stage G is n i rule.F1 h = absurd (h tt)
+typed_stage G is n i rule.F2 h = absurd (h tt)
+typed_stage G is n i rule.F3 h = absurd (h tt)
+typed_stage G is n i rule.F4 h = absurd (h tt)
+typed_stage G is n i rule.A1 h = absurd (h tt)
+typed_stage G is n i rule.A2 h = absurd (h tt)
+typed_stage G is n i rule.G1 h = absurd (h tt)
+
+pub types_stage : (G : Table) (is : List PlainInst) (r : Rule) (n : ℕ) → types.Broken G is r n → (stage_of r ≡ 4) ⊎ (stage_of r ≡ 5)
+types_stage G is _ _ (types.of_roles _ _ (roles.miscast n k x r u p)) = inl refl
+types_stage G is _ _ (types.of_capabilities r n i s h) = inr (capable_stage G is n i r h)
+types_stage G is _ _ (types.of_types r n i s h) = inr (typed_stage G is n i r h)
