@@ -1,0 +1,264 @@
+"""Shapes, layout and ids: rules P1, L1, L2 and D1 to D5."""
+
+import re
+from collections import defaultdict
+from itertools import chain
+
+from .decode import Broken
+
+# Opcodes, whether a block's body may have them, and the shape.
+SHAPES = (
+    ("0", True, ""),
+    ("1", True, "T R"),
+    ("2 4", False, "S"),
+    ("3", False, "SourceLanguage W s? S?"),
+    ("5", False, "a S"),
+    ("6", False, "a W S"),
+    ("7", False, "R S"),
+    ("8", False, "s W W"),
+    ("10", False, "S"),
+    ("11", False, "R S"),
+    ("12", True, "T R e W x*"),
+    ("14", False, "AddressingModel MemoryModel"),
+    ("15", False, "ExecutionModel f S g*"),
+    ("16", False, "f ExecutionMode+"),
+    ("17", False, "Capability"),
+    ("19 20", False, "R"),
+    ("21", False, "R W W"),
+    ("22", False, "R W"),
+    ("23", False, "R t W"),
+    ("28", False, "R t v"),
+    ("30", False, "R t*"),
+    ("31", False, "R S"),
+    ("32", False, "R StorageClass t"),
+    ("33", False, "R t t*"),
+    ("39", False, "t StorageClass"),
+    ("41 42 46 48 49", False, "T R"),
+    ("43 50", False, "T R N"),
+    ("44 51", False, "T R v*"),
+    ("54", False, "T R FunctionControl t"),
+    ("55", False, "T R"),
+    ("56 253 255 317", False, ""),
+    ("57", True, "T R f v*"),
+    ("59", False, "T R StorageClass v?"),
+    ("61", True, "T R v [MemoryAccess+]"),
+    ("62 63", True, "v v [MemoryAccess+]"),
+    ("64", True, "v v v [MemoryAccess+]"),
+    ("65 66", True, "T R v v*"),
+    ("67 70", True, "T R v v v*"),
+    ("71", False, "a Decoration+"),
+    ("72", False, "a W Decoration+"),
+    ("77", True, "T R v v"),
+    ("78", True, "T R v v v"),
+    ("79 82", True, "T R v v W*"),
+    ("80", True, "T R v*"),
+    ("81", True, "T R v W*"),
+    ("83 109-115 117 120-122 124 126 127 168 200", True, "T R v"),
+    ("128-141 164-167 170-191 194-199", True, "T R v v"),
+    ("169", True, "T R v v v"),
+    ("224", True, "c c m"),
+    ("225", True, "c m"),
+    ("227 232 233", True, "T R v c m"),
+    ("228", True, "v c m v"),
+    ("229 234-242", True, "T R v c m v"),
+    ("230", True, "T R v c m m v v"),
+    ("245", False, "T R (v l)*"),
+    ("246", False, "l l LoopControl+"),
+    ("247", False, "l SelectionControl"),
+    ("248", False, "R"),
+    ("249", False, "l"),
+    ("250", False, "v l l W*"),
+    ("251", False, "v l (N l)*"),
+    ("254", False, "v"),
+    ("256 257", True, "v W"),
+    ("330", False, "S"),
+)
+SORTS = {"T": "Type", "R": "Result", "W": "Word", "N": "Number", "S": "Text"}
+ROLES = dict(zip("tvfselgacm", "type value function string set label global any value value".split()))
+LINES = (8, 317)
+ENDS = (249, 250, 251, 253, 254, 255)
+SECTIONS = (
+    {17},
+    {10},
+    {11},
+    {14},
+    {15},
+    {16},
+    {7, 3, 4, 2},
+    {5, 6},
+    {330},
+    {71, 72},
+    {19, 20, 21, 22, 23, 28, 30, 31, 32, 33, 39, 41, 42, 43, 44, 46, 48, 49, 50, 51, 59, 1},
+)
+MODEL, DECLARED = 3, 10
+
+
+def opcodes_in(text):
+    """The opcodes of a row, written like `128 130 137-139`."""
+    for part in text.split():
+        first, _, last = part.partition("-")
+        yield from range(int(first), int(last or first) + 1)
+
+
+SHAPE_OF = {code: shape for codes, _, shape in SHAPES for code in opcodes_in(codes)}
+IN_BODY = {code for codes, is_body, _ in SHAPES if is_body for code in opcodes_in(codes)}
+
+
+def letter(operand, wanted):
+    """Whether an operand is what one word of a shape asks for."""
+    if wanted in SORTS:
+        return operand[0] == SORTS[wanted]
+    if len(wanted) == 1:
+        return operand[0] == "Id"
+    return operand[0] in ("Value", "Mask") and operand[1] == wanted.rstrip("+")
+
+
+def uses_by(shape, operands):
+    """The roles of the operands by a shape, None for those that are no use; or None if they differ."""
+    roles, at = [], 0
+    for part in re.findall(r"\(.*?\)\*|\[.*?\]|\S+", shape):
+        words = part.strip("()[]*?").replace("+", "").split()
+        is_many, is_optional, took = part.endswith("*"), part[-1] in "*?]", False
+        while is_many or not took:
+            now = operands[at : at + len(words)]
+            if len(now) < len(words) or not all(map(letter, now, words)):
+                break
+            roles += ["type" if it == "T" else ROLES.get(it) for it in words]
+            at, took = at + len(words), True
+        if not took and not is_optional:
+            return None
+        while "+" in part and took and at < len(operands):
+            if operands[at][0] in ("Type", "Result"):
+                return None
+            roles.append("any" if operands[at][0] == "Id" else None)
+            at += 1
+    return roles if at == len(operands) else None
+
+
+def uses(inst):
+    """The ids that an instruction uses, each with its role."""
+    roles = uses_by(SHAPE_OF[inst.opcode], inst.operands)
+    return [(it[1], role) for it, role in zip(inst.operands, roles) if role]
+
+
+def check_shapes(insts):
+    for number, inst in enumerate(insts):
+        shape = SHAPE_OF.get(inst.opcode)
+        if shape is None or uses_by(shape, inst.operands) is None:
+            raise Broken("P1", number, inst.word)
+
+
+def after_section(section, opcode):
+    if opcode in LINES:
+        return ("section", DECLARED) if section >= MODEL else None
+    if opcode == 54:
+        return ("parameters", False) if section >= MODEL else None
+    next_one = next((at for at, it in enumerate(SECTIONS) if opcode in it), None)
+    if next_one is None or next_one < section or next_one == section == MODEL:
+        return None
+    return ("section", next_one) if section >= MODEL or next_one <= MODEL else None
+
+
+def in_block(state, opcode):
+    if opcode == {"variables": 59, "phis": 245}.get(state):
+        return (state, True)
+    if opcode in LINES:
+        return (state, True)
+    if opcode in IN_BODY:
+        return ("body", True)
+    if opcode in ENDS:
+        return ("ended", True)
+    return {246: ("merge", (249, 250)), 247: ("merge", (250, 251))}.get(opcode)
+
+
+def after(state, opcode):
+    """What comes after an instruction of the layout, or None where it can't stand there."""
+    name, what = state
+    if name == "section":
+        return after_section(what, opcode)
+    if name == "merge":
+        return ("ended", True) if opcode in what else None
+    if name in ("variables", "phis", "body"):
+        return in_block(name, opcode)
+    if opcode in LINES:
+        return state
+    moves = {
+        "parameters": {55: state, 248: ("variables", True), **({} if what else {56: ("between", False)})},
+        "ended": {248: ("phis", True), 56: ("between", True)},
+        "between": {54: ("parameters", what)},
+    }
+    return moves[name].get(opcode)
+
+
+def check_layout(insts):
+    state = ("section", 0)
+    for number, inst in enumerate(insts):
+        state = after(state, inst.opcode)
+        if state is None:
+            raise Broken("L1", number, inst.word)
+    if state[0] != "between" and not (state[0] == "section" and state[1] >= MODEL):
+        last = insts[-1] if insts else None
+        raise Broken("L2", len(insts), end_of(last))
+
+
+def end_of(inst):
+    """The word after an instruction, 5 where there is none."""
+    if inst is None:
+        return 5
+    size = 1
+    for it in inst.operands:
+        size += {"Number": it[-1], "Text": len(str(it[1]).encode()) // 4 + 1}.get(it[0], 1)
+    return inst.word + size
+
+
+class Places:
+    """Where instructions stand: the number of their OpFunction, and whether in section 7a or 9."""
+
+    def __init__(self, insts):
+        self.function, self.section = [], []
+        inside, seen, section = None, False, 0
+        for number, inst in enumerate(insts):
+            if inst.opcode == 54:
+                inside, seen = number, True
+            self.function.append(inside)
+            if not seen:
+                found = DECLARED if inst.opcode in LINES else None
+                section = max(section, found or next(at for at, it in enumerate(SECTIONS) if inst.opcode in it))
+            self.section.append(11 if seen else section)
+            if inst.opcode == 56:
+                inside = None
+
+
+def check_ids(insts, bound):
+    definitions, places = defaultdict(list), Places(insts)
+    for number, inst in enumerate(insts):
+        if inst.result is not None:
+            definitions[inst.result].append(number)
+    local = defaultdict(set)
+    for result, numbers in definitions.items():
+        for number in numbers:
+            function = places.function[number]
+            if function is not None and insts[number].opcode not in (54, 56):
+                local[result].add(function)
+    pointed = {}
+    for number, inst in enumerate(insts):
+        named = [it for it, _ in uses(inst)]
+        own = [inst.result] if inst.result is not None else []
+        if any(not 1 <= it < bound for it in chain(own, named)):
+            raise Broken("D1", number, inst.word)
+        if own and definitions[inst.result][0] < number:
+            raise Broken("D2", number, inst.word)
+        if any(not definitions[it] for it in named):
+            raise Broken("D3", number, inst.word)
+        for at, it in enumerate(named):
+            is_ahead = inst.opcode == 39 or inst.opcode == 30 and pointed.get(it, number) < number
+            if places.section[number] in (6, DECLARED) and definitions[it][0] >= number:
+                if not (places.section[number] == DECLARED and is_ahead):
+                    raise Broken("D4", number, inst.word)
+        for it in named:
+            if places.section[number] >= DECLARED and local[it]:
+                if places.function[number] not in local[it]:
+                    raise Broken("D5", number, inst.word)
+        if inst.opcode == 39:
+            pointed.setdefault(named[0], number)
+    return {result: numbers[0] for result, numbers in definitions.items()}, places, local

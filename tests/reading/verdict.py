@@ -1,0 +1,30 @@
+"""The verdict on a module's bytes."""
+
+import json
+
+from .decode import Broken, Grammar, instructions, words_of
+from .flow import check_flow
+from .order import check_ids, check_layout, check_shapes
+from .types import check_types
+
+
+def grammar_in(path):
+    """The grammar of a file."""
+    return Grammar(json.loads(path.read_text(encoding="utf-8")))
+
+
+def verdict(grammar, content, has_types=True, has_flow=True):
+    """The verdict line on a module, without its line feed, with or without the last stages."""
+    try:
+        words = words_of(content)
+        insts = instructions(grammar, words)
+        check_shapes(insts)
+        check_layout(insts)
+        definitions, places, local = check_ids(insts, words[3])
+        if has_types:
+            check_types(grammar, insts, definitions, places)
+        if has_flow:
+            check_flow(insts, local)
+    except Broken as broken:
+        return broken.line
+    return "valid"
