@@ -195,7 +195,7 @@ fn enumerants(
 ) -> Result<Vec<Enumerant>, GrammarError>
     ensures { Makes (λ v. v.items) result (all_of (enumerant_from numbers.now) (filter (is_kept category) elements.now)) }
 {
-    let mut found = Vec::new(alloc);
+    let mut found = Vec::with_capacity(alloc, elements.len())?;
     for element in elements {
         if is_kept(category, element) {
             found.push(enumerant(alloc, numbers, element)?)?;

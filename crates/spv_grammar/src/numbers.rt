@@ -1,6 +1,7 @@
 //! Numbers the kinds of a grammar file by their names.
 
-ghost use Rattle.std.specs.Prelude.{◌≡◌, ◌<◌, ◌^◌, length, slice_get, Some, IfOk, IfErr, map, option_map};
+ghost use Rattle.std.specs.Prelude.{◌≡◌, ◌<◌, ◌^◌, length, slice_get, position, codes, Some, IfOk, IfErr, map, option_map};
+ghost use Rattle.std.specs.Str.{bytes_eq};
 ghost use Rattle.spv_grammar.specs.Kinds.{first_kinds, number_in, kind_named};
 ghost use Rattle.spv_grammar.specs.declared.error.GrammarError.TheVariants.{J8};
 
@@ -15,17 +16,54 @@ use std::marker::Model;
 pub(crate) struct Numbers<'a> {
     names: IndexSet<&'a str>,
     kinds: Vec<&'a FileKind<'a>>,
+    /// The numbers of the three names that most operands bear: IdRef, IdResult and IdResultType.
+    reference: Option<u32>,
+    result: Option<u32>,
+    result_type: Option<u32>,
 }
 
 impl<'a> Model for Numbers<'a> {
-    ghost use Rattle.std.specs.Prelude.{List, ℕ, ◌≡◌, ◌<◌, ◌^◌, map, length};
+    ghost use Rattle.std.specs.Prelude.{List, ℕ, ◌≡◌, ◌<◌, ◌^◌, map, length, codes};
     ghost use Rattle.spv_grammar.specs.declared.file.FileKind.{FileKind};
+    ghost use Rattle.spv_grammar.specs.Kinds.{number_in};
 
     ghost Value = { List FileKind };
 
     ghost view = { λ n. map (λ k. k.now) n.kinds.items };
 
-    ghost invariant = { λ n. (map (λ k. k.now) n.names.keys ≡ map (λ k. k.now.name) n.kinds.items) × (length n.kinds.items < 2 ^ 32) };
+    ghost invariant = { λ n. (map (λ k. k.now) n.names.keys ≡ map (λ k. k.now.name) n.kinds.items) × (length n.kinds.items < 2 ^ 32)
+        × (n.reference ≡ number_in (map (λ k. k.now) n.kinds.items) (codes "IdRef"))
+        × (n.result ≡ number_in (map (λ k. k.now) n.kinds.items) (codes "IdResult"))
+        × (n.result_type ≡ number_in (map (λ k. k.now) n.kinds.items) (codes "IdResultType")) };
+}
+
+/// Whether a name is IdRef.
+fn is_reference(name: &str) -> bool
+    ensures { result ≡ bytes_eq name.now (codes "IdRef") }
+{
+    name == "IdRef"
+}
+
+/// Whether a name is IdResult.
+fn is_result(name: &str) -> bool
+    ensures { result ≡ bytes_eq name.now (codes "IdResult") }
+{
+    name == "IdResult"
+}
+
+/// Whether a name is IdResultType.
+fn is_result_type(name: &str) -> bool
+    ensures { result ≡ bytes_eq name.now (codes "IdResultType") }
+{
+    name == "IdResultType"
+}
+
+/// The place of a name among names.
+fn place_of(names: &IndexSet<&str>, name: &str) -> Option<u32>
+    requires { length names.now.keys < 2 ^ 32 }
+    ensures { result ≡ position (λ k. bytes_eq name.now k.now) names.now.keys }
+{
+    Some(names.get_index_of(name)? as u32)
 }
 
 impl<'a> Numbers<'a> {
@@ -46,9 +84,15 @@ impl<'a> Numbers<'a> {
                 firsts.push(kind)?;
             }
         }
+        let reference = place_of(&names, "IdRef");
+        let result = place_of(&names, "IdResult");
+        let result_type = place_of(&names, "IdResultType");
         Ok(Numbers {
             names,
             kinds: firsts,
+            reference,
+            result,
+            result_type,
         })
     }
 
@@ -56,7 +100,16 @@ impl<'a> Numbers<'a> {
     pub(crate) fn number(&self, name: &str) -> Option<u32>
         ensures { result ≡ number_in self.now name.now }
     {
-        Some(self.names.get_index_of(name)? as u32)
+        if is_reference(name) {
+            return self.reference;
+        }
+        if is_result(name) {
+            return self.result;
+        }
+        if is_result_type(name) {
+            return self.result_type;
+        }
+        place_of(&self.names, name)
     }
 
     /// The kind that a name means.

@@ -68,7 +68,7 @@ fn each_operand<'a>(
 ) -> Result<Lent<'a, FileOperand<'a>>, GrammarError>
     ensures { Reads result (each operand_of (items_view elements.now)) }
 {
-    let mut found = Vec::new(arena);
+    let mut found = Vec::with_capacity(arena, elements.len())?;
     for element in elements {
         found.push(read_operand(arena, element)?)?;
     }
@@ -101,7 +101,7 @@ fn each_name<'a>(
 ) -> Result<Lent<'a, LentName<'a>>, GrammarError>
     ensures { Reads result (each as_str (items_view elements.now)) }
 {
-    let mut found = Vec::new(arena);
+    let mut found = Vec::with_capacity(arena, elements.len())?;
     for element in elements {
         let Some(text) = element.as_str() else {
             return Err(GrammarError::J2);
@@ -171,7 +171,7 @@ fn each_instruction<'a>(
 ) -> Result<Lent<'a, FileInstruction<'a>>, GrammarError>
     ensures { Reads result (each instruction_of (items_view elements.now)) }
 {
-    let mut found = Vec::new(arena);
+    let mut found = Vec::with_capacity(arena, elements.len())?;
     for element in elements {
         found.push(read_instruction(arena, element)?)?;
     }
@@ -263,7 +263,7 @@ fn each_enumerant<'a>(
 ) -> Result<Lent<'a, FileEnumerant<'a>>, GrammarError>
     ensures { Reads result (each (enumerant_in category) (items_view elements.now)) }
 {
-    let mut found = Vec::new(arena);
+    let mut found = Vec::with_capacity(arena, elements.len())?;
     for element in elements {
         found.push(read_enumerant(arena, category, element)?)?;
     }
@@ -349,7 +349,7 @@ fn each_kind<'a>(
 ) -> Result<Lent<'a, FileKind<'a>>, GrammarError>
     ensures { Reads result (each kind_in (items_view elements.now)) }
 {
-    let mut found = Vec::new(arena);
+    let mut found = Vec::with_capacity(arena, elements.len())?;
     for element in elements {
         found.push(read_kind(arena, element)?)?;
     }

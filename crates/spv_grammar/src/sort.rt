@@ -83,7 +83,7 @@ fn far_places(alloc: Global, enumerants: &[Enumerant]) -> Result<BTreeMap<u32, u
 fn value_names(alloc: Global, enumerants: &[Enumerant]) -> Result<IndexMap<String, u32>, AllocError>
     ensures { IfOk result (λ m. (q : List ℕ) → get_by_text m q ≡ value_named enumerants.now q) }
 {
-    let mut values = IndexMap::new(alloc);
+    let mut values = IndexMap::with_capacity(alloc, enumerants.len())?;
     for i in (0..enumerants.len()).rev() {
         let enumerant = &enumerants[i];
         let name = String::from_str(alloc, enumerant.name.as_str())?;

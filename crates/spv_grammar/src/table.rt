@@ -125,7 +125,7 @@ fn opcode_names(
 ) -> Result<IndexMap<String, u16>, AllocError>
     ensures { IfOk result (λ m. (q : List ℕ) → get_by_text m q ≡ opcode_named entries.now q) }
 {
-    let mut opcodes = IndexMap::new(alloc);
+    let mut opcodes = IndexMap::with_capacity(alloc, entries.len())?;
     for i in (0..entries.len()).rev() {
         let (opcode, entry) = &entries[i];
         let name = String::from_str(alloc, entry.name.as_str())?;
@@ -139,7 +139,7 @@ fn kind_numbers(alloc: Global, sorts: &[Sort]) -> Result<IndexMap<String, u32>, 
     requires { length sorts.now < 2 ^ 32 }
     ensures { IfOk result (λ m. (q : List ℕ) → get_by_text m q ≡ position (λ s. bytes_eq q s.kind.name) sorts.now) }
 {
-    let mut numbers = IndexMap::new(alloc);
+    let mut numbers = IndexMap::with_capacity(alloc, sorts.len())?;
     for i in (0..sorts.len()).rev() {
         let name = String::from_str(alloc, sorts[i].kind().name.as_str())?;
         numbers.insert(name, i as u32)?;

@@ -23,6 +23,7 @@ const WORDS_FOR_EACH: u32 = 4;
 ///
 /// A `Fault` tells the first instruction that fails, with its rule, I1 to I12, and the word of the module (from 0) by
 /// which the rule is told. `Memory` comes only where a growth of memory was refused.
+#[inline(never)]
 pub fn decode<'a>(alloc: Global, table: &Table, image: &'a Image) -> Result<Module<'a>, Stop>
     // What is answered is the list that the words from word 5 on spell.
     ensures found { IfOk result (λ m. IsListing table.now (plain_insts m) (drop 5 image.now)) }

@@ -26,7 +26,7 @@ const TYPE_INT: u16 = 21;
 const TYPE_FLOAT: u16 = 22;
 
 /// The first result of the operands.
-fn result_in(operands: &[Operand]) -> Option<u32>
+pub fn result_in(operands: &[Operand]) -> Option<u32>
     ensures { result ≡ operand.result_in (plain_operands operands.now) }
 {
     for operand in operands {

@@ -1,6 +1,8 @@
 ghost use Rattle.std.specs.Prelude.{◌≡◌, ◌++◌, ◌∷◌, [], IfOk, OnOk, OnErr, map};
-ghost use Rattle.spv_inst.specs.Module.{plain_insts, plain_operands};
+ghost use Rattle.spv_inst.specs.Module.{plain_inst, plain_insts, plain_operands};
+ghost use Rattle.spv_inst.specs.Operand.{result_in, type_in};
 
+use crate::definitions;
 use crate::operand::Operand;
 use crate::operands::Operands;
 use spv_grammar::Memory;
@@ -15,6 +17,24 @@ pub struct Inst<'a> {
     pub opcode: u16,
     /// Its operands, in the order of its further words.
     pub operands: Operands<'a>,
+}
+
+impl<'a> Inst<'a> {
+    /// The id of its result's type: that of its first operand of the kind IdResultType (SPIR-V Specification 1.6, section
+    /// 2.2.1). None where it has no such operand.
+    pub fn type_id(&self) -> Option<u32>
+        ensures { result ≡ type_in (plain_inst self.now).operands }
+    {
+        definitions::type_in(self.operands.as_slice())
+    }
+
+    /// The id of its result: that of its first operand of the kind IdResult (SPIR-V Specification 1.6, section 2.2.1). None
+    /// where it has no such operand.
+    pub fn result_id(&self) -> Option<u32>
+        ensures { result ≡ result_in (plain_inst self.now).operands }
+    {
+        definitions::result_in(self.operands.as_slice())
+    }
 }
 
 /// A header and a list of instructions (SPIR-V Specification 1.6, section 2.3).

@@ -1,11 +1,13 @@
 //! Operands of one word.
 
-ghost use Rattle.std.specs.Prelude.{◌≡◌, ◌≤◌, ◌<◌, ◌+◌, ◌-◌, ◌++◌, ◌∷◌, [], length, map, take, drop, IfOk, IfSome, MatchOption};
-ghost use Rattle.spv_grammar.specs.Table.{kind_of};
+ghost use Rattle.std.specs.Prelude.{◌≡◌, List, ◌≤◌, ◌<◌, ◌+◌, ◌-◌, ◌++◌, ◌∷◌, [], length, map, take, drop, IfOk, IfSome, MatchOption};
+ghost use Rattle.spv_grammar.specs.Table.{Table, kind_of};
+ghost use Rattle.spv_grammar.specs.declared.table.Enumerant.{Enumerant};
+ghost use Rattle.spv_inst.specs.declared.form.Form.TheVariants.{Leaf as LeafForm};
 ghost use Rattle.spv_inst.specs.Form.{form_of, form_at};
 ghost use Rattle.spv_inst.specs.Operand.{Context};
 ghost use Rattle.spv_inst.specs.Module.{plain_operand, plain_operands};
-ghost use Rattle.spv_inst.specs.Shape.{alone, shape_of};
+ghost use Rattle.spv_inst.specs.Shape.{alone, shape_of, AsMask};
 ghost use Rattle.spv_inst.specs.Spelling.{Takes};
 ghost use Rattle.spv_inst.specs.Reading.{between};
 ghost use Rattle.spv_inst.specs.Agenda.{items_of, settled, due_first};
@@ -67,6 +69,45 @@ pub fn next_kind<'t>(kinds: &'t [u32], items: &'t [Item], more: bool) -> Option<
     }
 }
 
+/// The mask without a bit that a word is, of the kind of a number.
+#[inline(always)]
+fn empty_mask<'a>(kind: u32, word: u32) -> Option<Operand<'a>>
+    ensures { (es : List Enumerant) → IfSome result (λ o. Takes kind (AsMask es) (plain_operand o) (word ∷ []) []) }
+{
+    if word == 0 {
+        return Some(Operand::Mask { kind, value: word });
+    }
+    None
+}
+
+/// The operand that a word is, where the kind of a number asks for an id or a literal of one word, or for a mask and the word
+/// has no bit.
+#[inline(always)]
+fn bare_word<'a>(leaf: Leaf, kind: u32, word: u32) -> Option<Operand<'a>>
+    ensures { (G : Table) (c : Context) → form_at (kind_of G kind) ≡ LeafForm leaf → IfSome result (λ o. Takes kind (shape_of G c (alone kind)) (plain_operand o) (word ∷ []) []) }
+{
+    match leaf {
+        Leaf::ResultType => Some(Operand::OfType(word)),
+        Leaf::Result => Some(Operand::Result(word)),
+        Leaf::Id => Some(Operand::Id(word)),
+        Leaf::Integer => Some(Operand::Word(word)),
+        Leaf::Word => Some(Operand::Word(word)),
+        Leaf::Mask => empty_mask(kind, word),
+        Leaf::ContextNumber | Leaf::Text | Leaf::Value | Leaf::Nothing => None,
+    }
+}
+
+/// The same, where the kind has that form.
+#[inline(always)]
+fn bare_in_form<'a>(form: Form, kind: u32, word: u32) -> Option<Operand<'a>>
+    ensures { (G : Table) (c : Context) → form ≡ form_at (kind_of G kind) → IfSome result (λ o. Takes kind (shape_of G c (alone kind)) (plain_operand o) (word ∷ []) []) }
+{
+    match form {
+        Form::Leaf(leaf) => bare_word(leaf, kind, word),
+        Form::Parts { .. } => None,
+    }
+}
+
 /// The operand that a word is, where a kind of that form is due and asks for one word: an id, a literal of one word, a known
 /// value, or a mask of known bits of which no more than one has parameters.
 #[inline(always)]
@@ -76,28 +117,7 @@ fn plain_word<'t, 'a>(table: &'t Table, form: Form, kind: u32, word: u32) -> Opt
     let Form::Leaf(leaf) = form else {
         return None;
     };
-    let none: &'t [u32] = &[];
     match leaf {
-        Leaf::ResultType => Some(Plain {
-            operand: Operand::OfType(word),
-            kinds: none,
-        }),
-        Leaf::Result => Some(Plain {
-            operand: Operand::Result(word),
-            kinds: none,
-        }),
-        Leaf::Id => Some(Plain {
-            operand: Operand::Id(word),
-            kinds: none,
-        }),
-        Leaf::Integer => Some(Plain {
-            operand: Operand::Word(word),
-            kinds: none,
-        }),
-        Leaf::Word => Some(Plain {
-            operand: Operand::Word(word),
-            kinds: none,
-        }),
         Leaf::Value => {
             let Some(kinds) = value_kinds(table, kind, word) else {
                 return None;
@@ -112,8 +132,64 @@ fn plain_word<'t, 'a>(table: &'t Table, form: Form, kind: u32, word: u32) -> Opt
             let operand = Operand::Mask { kind, value: word };
             Some(Plain { operand, kinds })
         }
-        Leaf::ContextNumber | Leaf::Text | Leaf::Nothing => None,
+        _ => {
+            let Some(operand) = bare_word(leaf, kind, word) else {
+                return None;
+            };
+            let kinds: &'t [u32] = &[];
+            Some(Plain { operand, kinds })
+        }
     }
+}
+
+/// What is left of an instruction after operands without parameters.
+#[derive(Clone, Copy, Debug)]
+struct Back<'t> {
+    /// The items left of its pattern.
+    items: &'t [Item],
+    /// The number of the next word in the module, from 0.
+    at: u32,
+}
+
+/// Takes the ids, the literals of one word and the masks without a bit at the front of the words from `first` up to `end`, both counted in words of
+/// the module from 0, by the items of a pattern, and adds them to a list. It stops before the first kind that asks for
+/// another operand (`bare_word`), or where no kind or no word is left.
+///
+/// An `AllocError` comes only where a growth of memory was refused, and then nothing is said of what is left of the list.
+#[inline(always)]
+fn read_bare<'t, 'a>(
+    forms: &[Form],
+    image: &Image,
+    operands: &mut Vec<Operand<'a>>,
+    items: &'t [Item],
+    first: u32,
+    end: u32,
+) -> Result<Back<'t>, AllocError>
+    requires order { first ≤ end }
+    requires fits { end ≤ length image.now }
+    // From the whole pattern and all words, the operands that are added bring the decoder to what is left.
+    ensures front { (G : Table) (c : Context) → forms.now ≡ map form_of G.kinds
+        → IfOk result (λ r. Sofar G c (map due (items_of items.now)) (between image.now first end) (plain_operands (drop (length operands.old.items) operands.new.items)) (map due (items_of r.items.now)) (between image.now r.at end) (r.at - first)) }
+    ensures kept { IfOk result (λ _. take (length operands.old.items) operands.new.items ≡ operands.old.items) }
+    ensures room { IfOk result (λ _. length operands.old.items ≤ length operands.new.items) }
+    ensures few { IfOk result (λ r. length operands.new.items + first ≤ length operands.old.items + r.at) }
+    ensures within { IfOk result (λ r. (first ≤ r.at) × (r.at ≤ end)) }
+{
+    let mut items = items;
+    let mut at = first;
+    while at < end {
+        let Some((kind, later)) = next_item(items, true) else {
+            return Ok(Back { items, at });
+        };
+        let form = form_in(forms, kind);
+        let Some(operand) = bare_in_form(form, kind, word(image, at)) else {
+            return Ok(Back { items, at });
+        };
+        operands.push(operand)?;
+        items = later;
+        at += 1;
+    }
+    Ok(Back { items, at })
 }
 
 /// Takes the operands of one word at the front of the words from `first` up to `end`, both counted in words of the module
@@ -142,9 +218,10 @@ pub fn read_words<'t, 'a>(
     ensures few { IfOk result (λ r. length operands.new.items + first ≤ length operands.old.items + r.at) }
     ensures within { IfOk result (λ r. (first ≤ r.at) × (r.at ≤ end)) }
 {
+    let back = read_bare(forms, image, operands, items, first, end)?;
     let mut kinds: &'t [u32] = &[];
-    let mut items = items;
-    let mut at = first;
+    let mut items = back.items;
+    let mut at = back.at;
     while at < end {
         let Some(next) = next_kind(kinds, items, true) else {
             return Ok(Rest { kinds, items, at });

@@ -7,6 +7,18 @@ use Rattle.spv_inst.specs.Flat.{due}
 use Rattle.spv_inst.proofs.Opened.{due_joined}
 use Rattle.spv_inst.proofs.plain.read_words.Goals as goal
 
+pub loop-at-init : goal.loop-at-init
+loop-at-init c =
+    let w = c.in_ok-back.ensures.within in
+    record {
+      from = w.0;
+      upto = w.1;
+      room = c.in_ok-back.ensures.room;
+      kept = c.in_ok-back.ensures.kept;
+      few = c.in_ok-back.ensures.few;
+      front = λ k e. c.in_ok-back.ensures.front c.args.table.now k e;
+    }
+
 pub loop-at-preserved : goal.loop-at-preserved
 loop-at-preserved c =
     let n = length c.args.operands.now.items in

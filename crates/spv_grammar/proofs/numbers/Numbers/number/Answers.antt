@@ -1,14 +1,21 @@
-use Rattle.std.proofs.Common.{ap, ◌∙◌}
+use Rattle.std.proofs.Common.{codes, ap, sym, ◌∙◌}
 use Rattle.spv_grammar.specs.Kinds.{number_in}
 use Rattle.spv_grammar.proofs.Firsts.{same_numbers}
+use Rattle.spv_grammar.proofs.Turns.{known_number, as_many_names}
 use Rattle.spv_grammar.proofs.numbers.Numbers.number.Goals as goal
 
-pub returns-in_err-get_index_of : goal.returns-in_err-get_index_of
-returns-in_err-get_index_of c =
-    let found = same_numbers c.self.inside.names.keys c.self.inside.kinds.items c.args.name.now c.self.invariant.0 in
-    c.from_residual.ensures ∙ c.in_err-get_index_of.ensures.index ∙ found ∙ ap (λ v. number_in v c.args.name.now) c.self.view_is
+pub returns-then-is_reference : goal.returns-then-is_reference
+returns-then-is_reference c = known_number _ _ c.args.name.now (codes "IdRef") _ c.self.invariant.2 c.self.view_is (sym c.is_reference.ensures ∙ c.if-is_reference.true)
+
+pub returns-then-is_result : goal.returns-then-is_result
+returns-then-is_result c = known_number _ _ c.args.name.now (codes "IdResult") _ c.self.invariant.3 c.self.view_is (sym c.is_result.ensures ∙ c.if-is_result.true)
+
+pub returns-then-is_result_type : goal.returns-then-is_result_type
+returns-then-is_result_type c = known_number _ _ c.args.name.now (codes "IdResultType") _ c.self.invariant.4 c.self.view_is (sym c.is_result_type.ensures ∙ c.if-is_result_type.true)
+
+pub place_of-requires : goal.place_of-requires
+place_of-requires c = as_many_names c.self.inside.names.keys c.self.inside.kinds.items c.self.invariant.0 c.self.invariant.1
 
 pub returns : goal.returns
 returns c =
-    let found = same_numbers c.self.inside.names.keys c.self.inside.kinds.items c.args.name.now c.self.invariant.0 in
-    c.in_ok-get_index_of.ensures.index ∙ found ∙ ap (λ v. number_in v c.args.name.now) c.self.view_is
+    c.place_of.ensures ∙ same_numbers c.self.inside.names.keys c.self.inside.kinds.items c.args.name.now c.self.invariant.0 ∙ ap (λ v. number_in v c.args.name.now) c.self.view_is

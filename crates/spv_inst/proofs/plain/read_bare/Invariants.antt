@@ -1,0 +1,24 @@
+use Rattle.std.proofs.Common.{◌≡◌, ◌≤◌, ◌+◌, ◌-◌, length, map, take, drop}
+use Rattle.spv_grammar.specs.Table.{Table}
+use Rattle.spv_inst.specs.Form.{form_of}
+use Rattle.spv_inst.specs.Operand.{Context}
+use Rattle.spv_inst.specs.Module.{plain_operands}
+use Rattle.spv_inst.specs.Reading.{between}
+use Rattle.spv_inst.specs.Agenda.{items_of}
+use Rattle.spv_inst.specs.Flat.{due}
+use Rattle.spv_inst.specs.Sofar.{Sofar}
+use Rattle.spv_inst.proofs.plain.read_bare.Given as goal
+
+abbrev pub invariant-loop-at : goal.invariant-loop-at
+invariant-loop-at l = record {
+  from : l.fn.first ≤ l.at;
+  upto : l.at ≤ l.end;
+  room : length l.fn.operands.items ≤ length l.operands.items;
+  kept : take (length l.fn.operands.items) l.operands.items ≡ l.fn.operands.items;
+  few : length l.operands.items + l.fn.first ≤ length l.fn.operands.items + l.at;
+  front : (G : Table) (c : Context) → l.forms ≡ map form_of G.kinds
+      → Sofar G c (map due (items_of l.fn.items)) (between l.image l.fn.first l.end) (plain_operands (drop (length l.fn.operands.items) l.operands.items)) (map due (items_of l.items)) (between l.image l.at l.end) (l.at - l.fn.first);
+}
+
+abbrev pub decreases-loop-at : goal.decreases-loop-at
+decreases-loop-at l = l.end - l.at
