@@ -9,3 +9,4 @@ mod Scopes
 mod Used
 mod Starts
 mod Sound
+mod Opens

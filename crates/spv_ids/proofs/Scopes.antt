@@ -20,9 +20,9 @@ use Rattle.spv_ids.specs.Known.{IsHome, IsHomeOf, IsFunctionOf, IsOneBefore, IsL
 use Rattle.spv_ids.specs.Test.{lower_test, early_test, home_test, scope_test}
 use Rattle.spv_ids.specs.Faulty.{IsBadUse, IsLeast}
 use Rattle.spv_ids.specs.Survey.{IsSurvey, IsSite, insts_of}
-use Rattle.spv_ids.proofs.Bools.{and_first, and_second, and_both, or_either, or_first, or_second, eq_tells, ne_tells, eq_yes, lt_tells, ge_tells, some_tells, none_tells, holds, match_true}
+use Rattle.spv_ids.proofs.Bools.{and_first, and_second, and_both, or_either, or_first, or_second, eq_tells, ne_tells, eq_yes, lt_tells, ge_tells, some_tells, none_tells, holds}
 use Rattle.spv_ids.proofs.Defining.{same_inst, defined_within}
-use Rattle.spv_ids.proofs.Homes.{home_same, home_of_local, local_to, between, home_within}
+use Rattle.spv_ids.proofs.Homes.{home_same, home_of_local, local_to, between, home_within, home_of_function}
 
 -- a definition before the end is the first that is kept
 pub first_is : (is : List PlainInst) (e x k : ℕ) (o : Option ℕ) → IsOneBefore is e x o → k < e → IsDefinedAt is x k → o ≡ Some k
@@ -371,14 +371,18 @@ none_later : (is : List PlainInst) (e to x : ℕ) (o : Option ℕ) → to ≤ e 
 none_later is e to x None l f = refl
 none_later is e to x (Some m) l f = let a = f.above in let b = f.below in absurd (omega arith)
 
-pub sound_scope : (s : Survey) (site : Site) (x m : ℕ) (a : Option ℕ) (r : Bool) → IsSurvey s → IsSite s site → kept s.firsts.now x ≡ Some m → length (insts_of s) ≤ s.end
-    → MatchOption a ((f : ℕ) → ¬ (IsHome (insts_of s) m f)) (λ f. IsHome (insts_of s) m f) → r ≡ scope_test site.function a None → r ≡ true → IsScoped (insts_of s) site.inst → IsLocal (insts_of s) x → IsInScope (insts_of s) site.inst x
-sound_scope s site x m a r v i e l h t q c =
+-- an id whose only definition is in no function, and one whose definition is in the function of the use
+pub sound_nowhere : (s : Survey) (x m : ℕ) → IsSurvey s → kept s.firsts.now x ≡ Some m → length (insts_of s) ≤ s.end → ((f : ℕ) → ¬ (IsHome (insts_of s) m f)) → ¬ (IsLocal (insts_of s) x)
+sound_nowhere s x m v e l h =
     let is = insts_of s in
-    let p : IsHomeOf is (kept s.firsts.now x) a = rw e (home_some is m a h) in
-    let g : kept s.later.now x ≡ None = none_later is s.end (length is) x (kept s.later.now x) l (v.later.each x) in
-    let n : IsHomeOf is (kept s.later.now x) None = rw g (home_none is) in
-    match_true _ _ r q (scope_tells s site x a None r v i p n t c) c
+    let k : kept s.later.now x ≡ None = none_later is s.end (length is) x (kept s.later.now x) l (v.later.each x) in
+    not_local s x v (λ f p q g. let t : p ≡ m = cc in h f (rw t at g)) (λ f p q g. cc)
+
+pub sound_here : (s : Survey) (n x m f : ℕ) → IsSurvey s → kept s.firsts.now x ≡ Some m → f < m → IsOfFunction (insts_of s) m f → IsOfFunction (insts_of s) n f → IsInScope (insts_of s) n x
+sound_here s n x m f v e l o q =
+    let is = insts_of s in
+    let d = defined_first s x m v e in
+    in_scope is n x m f d (home_of_function is s.plan.now x m f v.places d o (λ w. omega (arith, w))) q
 
 pub bad_use_at : (bound : ℕ) (is : List PlainInst) (m n x : ℕ) (q : Rule) → m ≡ n → IsBadUse bound is n x q → IsBadUse bound is m x q
 bad_use_at bound is m n x q e b = rw e b

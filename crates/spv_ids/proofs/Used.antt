@@ -127,7 +127,7 @@ none_of : (G : Table) (fs : List Form) (os : List Plain) → AreOf G fs os → f
 none_of G _ _ AreOf.none h = refl
 none_of G _ _ (AreOf.more f o fs os p r) h = cc
 
-end_by : (b : Bool) (c : Bool) → not b || c ≡ true → b ≡ true → c ≡ true
+pub end_by : (b : Bool) (c : Bool) → not b || c ≡ true → b ≡ true → c ≡ true
 end_by true c h g = h
 end_by false c h g = cc
 
@@ -141,7 +141,7 @@ end_operands G i fs h c =
     let n : h.row.fixed ++ h.rest ≡ [] = rw (a, b) refl in
     none_of G fs i.operands h.each (h.forms ∙ n)
 
-class_at : (is : List PlainInst) (n : ℕ) (i : PlainInst) → slice_get is n ≡ Some i → slice_get (classes is) n ≡ Some (class_of i.opcode)
+pub class_at : (is : List PlainInst) (n : ℕ) (i : PlainInst) → slice_get is n ≡ Some i → slice_get (classes is) n ≡ Some (class_of i.opcode)
 class_at is n i h = slice_get-map (λ j. class_of j.opcode) is n ∙ ap (option_map (λ j. class_of j.opcode)) h
 
 pub no_result_at_end : (G : Table) (is : List PlainInst) → ((n : ℕ) (i : PlainInst) → slice_get is n ≡ Some i → Fits G i) → (n x : ℕ) → IsDefinedAt is x n → ¬ (IsAt is n (FunctionEnd ∷ []))

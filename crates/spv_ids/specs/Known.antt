@@ -1,7 +1,7 @@
 -- What is known of the definitions of ids. (For the code alone.)
 use Rattle.std.specs.Prelude.{◌≡◌, ◌<◌, ◌≤◌, ◌⊎◌, ℕ, List, [], ◌∷◌, Option, Some, MatchOption, length}
 use Rattle.spv_inst.specs.Operand.{PlainInst}
-use Rattle.spv_layout.specs.declared.class.Class.TheVariants.{FunctionEnd}
+use Rattle.spv_layout.specs.declared.class.Class.TheVariants.{Function, FunctionEnd}
 use Rattle.spv_layout.specs.Place.{IsAt, IsOfFunction}
 use Rattle.spv_ids.specs.declared.notes.Notes.{Notes}
 use Rattle.spv_ids.specs.Definition.{IsDefinedAt}
@@ -82,3 +82,10 @@ pub record HasHome (is : List PlainInst) (definition : Option ℕ) (f : ℕ) : T
 
 abbrev pub IsHomeOf : List PlainInst → Option ℕ → Option ℕ → Type 0
 IsHomeOf is definition o = MatchOption o ((f : ℕ) → ¬ (HasHome is definition f)) (λ f. HasHome is definition f)
+
+-- The function whose OpFunction is f is open before instruction n: its OpFunctionEnd is still to come.
+pub record IsOpen (is : List PlainInst) (n f : ℕ) : Type 0 where
+  pub below : f < n
+  pub there : IsAt is f (Function ∷ [])
+  pub last : (k : ℕ) → f < k → k < n → ¬ (IsAt is k (Function ∷ []))
+  pub not_ended : (k : ℕ) → f ≤ k → k < n → ¬ (IsAt is k (FunctionEnd ∷ []))

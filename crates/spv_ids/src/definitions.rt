@@ -3,7 +3,7 @@
 ghost use Rattle.std.specs.Prelude.{◌≡◌, ◌<◌, ◌≤◌, ◌↔◌, ℕ, List, length, map, ◌+◌, IfOk, OnOk, IsTrue, MatchOption, MatchBool, Some, slice_get};
 ghost use Rattle.spv_inst.specs.Operand.{PlainInst};
 ghost use Rattle.spv_inst.specs.Module.{plain_inst};
-ghost use Rattle.spv_layout.specs.Place.{IsOfFunction};
+ghost use Rattle.spv_layout.specs.Place.{IsOfFunction, IsOfSection};
 ghost use Rattle.spv_ids.specs.Definition.{IsDefinedAt};
 ghost use Rattle.spv_ids.specs.Broken.{IsOutOfRange};
 ghost use Rattle.spv_ids.specs.Uses.{AreEarly};
@@ -100,12 +100,25 @@ pub fn function_of(plan: &Plan, inst: u32) -> Option<u32>
 /// The function that an instruction is of, or `NONE`.
 #[inline(always)]
 pub fn floor_of(plan: &Plan, inst: u32) -> u32
-    ensures { (is : List PlainInst) → ArePlaces is plan.now → result < 4294967295 → IsOfFunction is inst result }
+    ensures function { (is : List PlainInst) → ArePlaces is plan.now → result < 4294967295 → IsOfFunction is inst result }
+    ensures home { (is : List PlainInst) (f : ℕ) → ArePlaces is plan.now → inst ≤ result → ¬ (IsHome is inst f) }
 {
     match function_of(plan, inst) {
         Some(function) => function,
         None => NONE,
     }
+}
+
+/// The section that an instruction stands in.
+#[inline(always)]
+pub fn section_of(plan: &Plan, inst: u32) -> u8
+    requires { inst < length plan.now }
+    ensures { (is : List PlainInst) → ArePlaces is plan.now → IsOfSection is inst result }
+{
+    let Some(place) = plan.at(inst) else {
+        unreachable!();
+    };
+    place.section
 }
 
 /// The function in which an instruction stands, after its OpFunction.

@@ -3,7 +3,7 @@
 ghost use Rattle.std.specs.Prelude.{◌≡◌, ℕ, List, [], ◌∷◌};
 ghost use Rattle.spv_inst.specs.Example.{small};
 ghost use Rattle.spv_inst.specs.declared.fault.Rule.TheVariants.{D1, D2, D3, D4, D5};
-ghost use Rattle.spv_ids.specs.Example.{void, of_void};
+ghost use Rattle.spv_ids.specs.Example.{void, of_void, used_inside, used_outside};
 ghost use Rattle.spv_ids.specs.Order.{IsInOrder, IsInScope};
 ghost use Rattle.spv_grammar.specs.Table.{Table};
 ghost use Rattle.spv_inst.specs.Operand.{PlainInst};
@@ -13,7 +13,7 @@ ghost use Rattle.spv_layout.specs.declared.place.Place.{Place};
 ghost use Rattle.spv_layout.specs.Plan.{IsPlan};
 ghost use Rattle.spv_ids.specs.Sound.{IsSoundUse};
 ghost use Rattle.spv_layout.specs.First.{IsFirst, IsUnbroken};
-ghost use Rattle.spv_ids.specs.Definition.{IsDefinedAt, IsUsedAt, IsLocal};
+ghost use Rattle.spv_ids.specs.Definition.{IsDefinedAt, IsUsedAt, IsLocal, IsLocalTo};
 ghost use Rattle.spv_ids.specs.Broken.{Broken, IsOutOfRange};
 
 /// At most one rule on ids is broken first, at one instruction.
@@ -49,4 +49,14 @@ pub fn id_examples()
     ensures not_local { ¬ (IsLocal (void 1 ∷ of_void ∷ []) 1) }
     ensures not_in_scope { ¬ (IsInScope (void 1 ∷ of_void ∷ []) 1 1) }
     ensures not_outside { (n : ℕ) → ¬ (Broken small 5 (void 1 ∷ of_void ∷ []) D5 n) }
+{}
+
+/// A value that its own function uses, and one that another function uses.
+pub fn scope_examples()
+    ensures in_place { IsLocalTo used_inside 5 0 }
+    ensures in_scope { IsInScope used_inside 3 5 }
+    ensures not_broken { (n : ℕ) → ¬ (Broken small 9 used_inside D5 n) }
+    ensures not_in_place { ¬ (IsLocalTo used_outside 5 4) }
+    ensures not_in_scope { ¬ (IsInScope used_outside 6 5) }
+    ensures broken { Broken small 9 used_outside D5 6 }
 {}

@@ -1,6 +1,6 @@
 //! The uses of a module, instruction by instruction.
 
-ghost use Rattle.std.specs.Prelude.{◌≡◌, ◌+◌, ◌≤◌, ◌<◌, ◌↔◌, ℕ, List, length, map, IsTrue, IfOk, OnOk, MatchBool, MatchOption, IfSome, slice_get, Some, ◌||◌};
+ghost use Rattle.std.specs.Prelude.{◌≡◌, ◌+◌, ◌≤◌, ◌<◌, ◌↔◌, ℕ, List, length, map, IsTrue, IfOk, OnOk, MatchBool, MatchOption, IfSome, slice_get, Some, None, ◌||◌};
 ghost use Rattle.spv_inst.specs.Operand.{PlainInst};
 ghost use Rattle.spv_inst.specs.Module.{plain_inst, plain_operands};
 ghost use Rattle.spv_inst.specs.declared.fault.Rule.{Rule};
@@ -12,15 +12,15 @@ ghost use Rattle.spv_ids.specs.Definition.{IsDefinedAt, IsLocal};
 ghost use Rattle.spv_ids.specs.Order.{IsInOrder, IsInScope, IsOrdered, IsScoped};
 ghost use Rattle.spv_ids.specs.Broken.{IsOutOfRange};
 ghost use Rattle.spv_ids.specs.Notes.{kept};
-ghost use Rattle.spv_ids.specs.Known.{AreAnnounced, IsEnd, IsBadResult, IsHomeOf};
+ghost use Rattle.spv_ids.specs.Known.{AreAnnounced, IsEnd, IsBadResult, IsHomeOf, IsOpen};
 ghost use Rattle.spv_ids.specs.Test.{lower_test, early_test, scope_test, home_test, announced_id};
 ghost use Rattle.std.specs.Option.{is_some};
 ghost use Rattle.spv_ids.specs.Uses.{AreSeen};
 ghost use Rattle.spv_ids.specs.Faulty.{IsBadUse, HasBadUse, IsFaulty, IsLeast, IsEarlier, AreClean, IsFirstFault};
 ghost use Rattle.spv_ids.specs.Survey.{ArePlaces, IsSurvey, IsSite, insts_of};
 
-use crate::definitions::{floor_of, home, is_out_of_range};
-use crate::notes::Notes;
+use crate::definitions::{floor_of, home, is_out_of_range, section_of};
+use crate::notes::{NONE, Notes};
 use crate::uses::{result_of, seen, used_id};
 use spv_inst::{Inst, Operand, Rule};
 use spv_layout::Plan;
@@ -31,6 +31,12 @@ const TYPE_STRUCT: u16 = 30;
 
 /// The opcode of OpTypeForwardPointer.
 const TYPE_FORWARD_POINTER: u16 = 39;
+
+/// The opcode of OpFunction.
+const FUNCTION: u16 = 54;
+
+/// The opcode of OpFunctionEnd.
+const FUNCTION_END: u16 = 56;
 
 /// The number of section 7a among the sections.
 const SOURCES: u8 = 7;
@@ -204,6 +210,26 @@ fn announce(announced: &mut Notes, inst: &Inst<'_>, at: u32) -> Result<(), Alloc
     Ok(())
 }
 
+/// At an instruction, the function that is open, where `floor` is the one before it.
+#[inline(always)]
+fn entered(inst: &Inst<'_>, floor: u32, at: u32) -> u32
+    ensures { (is : List PlainInst) → slice_get is at ≡ Some (plain_inst inst.now) → (floor < 4294967295 → IsOpen is at floor) → result < 4294967295 → IsOfFunction is at result }
+{
+    if inst.opcode == FUNCTION { at } else { floor }
+}
+
+/// The function that is open after an instruction of the function `floor`, or `NONE`.
+#[inline(always)]
+fn left(inst: &Inst<'_>, floor: u32) -> u32
+    ensures { (is : List PlainInst) (n : ℕ) → slice_get is n ≡ Some (plain_inst inst.now) → (floor < 4294967295 → IsOfFunction is n floor) → result < 4294967295 → IsOpen is (n + 1) result }
+{
+    if inst.opcode == FUNCTION_END {
+        NONE
+    } else {
+        floor
+    }
+}
+
 impl<'m, 'a> Survey<'m, 'a> {
     /// Whether a use of an id comes in order, or stands where that is not asked for.
     fn is_in_order(&self, site: &Site, announced: &Notes, id: u32, first: Option<u32>) -> bool
@@ -265,9 +291,8 @@ impl<'m, 'a> Survey<'m, 'a> {
         None
     }
 
-    /// The first rule that a use by an instruction breaks.
-    #[inline(never)]
-    fn slow_fault(&self, inst: u32, announced: &Notes, id: u32) -> Option<Rule>
+    /// The first rule that a use of an id breaks.
+    fn use_fault(&self, inst: u32, announced: &Notes, id: u32) -> Option<Rule>
         requires survey { IsSurvey self.now }
         requires below { inst < self.now.end }
         requires announced { AreAnnounced (insts_of self.now) inst announced.now }
@@ -303,11 +328,12 @@ impl<'m, 'a> Survey<'m, 'a> {
         self.insts.len() <= self.end as usize
     }
 
-    /// Whether a use is sound by the function of its only definition.
+    /// Whether a use by an instruction of the function `floor` is sound by the function of its only definition.
     #[inline(always)]
-    fn is_sound(&self, inst: u32, definition: u32) -> bool
+    fn is_sound(&self, inst: u32, floor: u32, definition: u32) -> bool
         requires survey { IsSurvey self.now }
         requires below { inst < self.now.end }
+        requires floor { floor < 4294967295 → IsOfFunction (insts_of self.now) inst floor }
         ensures { (x : ℕ) → (definition < 4294967295 → kept self.now.firsts.now x ≡ Some definition) → IsTrue result → (q : Rule) → ¬ (IsBadUse self.now.bound (insts_of self.now) inst x q) }
     {
         if definition >= self.end {
@@ -316,39 +342,78 @@ impl<'m, 'a> Survey<'m, 'a> {
         if !self.is_whole() {
             return false;
         }
-        let site = self.site(inst);
-        if is_ordered(site.section) {
+        let section = section_of(self.plan, inst);
+        if is_ordered(section) {
             return false;
         }
-        if !is_scoped(site.section) {
+        if !is_scoped(section) {
             return true;
         }
-        let own = home(self.plan, definition);
-        is_scope(site.function, own, None)
+        let own = floor_of(self.plan, definition);
+        if own >= definition {
+            return true;
+        }
+        own == floor
     }
 
-    /// The first rule that a use of an id breaks, by an instruction of the function `floor`.
+    /// Whether each use among operands is sound at once, by an instruction of the function `floor`. One that is not may be
+    /// sound all the same.
     #[inline(always)]
-    fn use_fault(&self, inst: u32, floor: u32, announced: &Notes, id: u32) -> Option<Rule>
+    fn are_sound(&self, inst: u32, floor: u32, operands: &[Operand<'_>]) -> bool
         requires survey { IsSurvey self.now }
         requires below { inst < self.now.end }
         requires floor { floor < 4294967295 → IsOfFunction (insts_of self.now) inst floor }
-        requires announced { AreAnnounced (insts_of self.now) inst announced.now }
-        ensures { IsLeast (IsBadUse self.now.bound (insts_of self.now) inst id) result }
+        requires operands { AreSeen (insts_of self.now) inst (plain_operands operands.now) }
+        ensures { IsTrue result → IsLeast (HasBadUse self.now.bound (insts_of self.now) inst (length operands.now)) None }
+    {
+        for operand in operands {
+            if let Some(id) = used_id(*operand) {
+                if !self.is_use_sound(inst, floor, id) {
+                    return false;
+                }
+            }
+        }
+        true
+    }
+
+    /// Whether a use of an id is sound at once, by an instruction of the function `floor`.
+    #[inline(always)]
+    fn is_use_sound(&self, inst: u32, floor: u32, id: u32) -> bool
+        requires survey { IsSurvey self.now }
+        requires below { inst < self.now.end }
+        requires floor { floor < 4294967295 → IsOfFunction (insts_of self.now) inst floor }
+        ensures { IsTrue result → IsLeast (IsBadUse self.now.bound (insts_of self.now) inst id) None }
     {
         let definition = self.firsts.mark(id);
         if self.is_plain(inst, floor, definition) {
-            return None;
+            return true;
         }
-        if self.is_sound(inst, definition) {
-            return None;
+        self.is_sound(inst, floor, definition)
+    }
+
+    /// The first rule that a use among operands breaks.
+    #[inline(never)]
+    fn uses_fault(&self, inst: u32, announced: &Notes, operands: &[Operand<'_>]) -> Option<Rule>
+        requires survey { IsSurvey self.now }
+        requires below { inst < self.now.end }
+        requires announced { AreAnnounced (insts_of self.now) inst announced.now }
+        requires operands { AreSeen (insts_of self.now) inst (plain_operands operands.now) }
+        ensures { IsLeast (HasBadUse self.now.bound (insts_of self.now) inst (length operands.now)) result }
+    {
+        let mut least = None;
+        for operand in operands {
+            if let Some(id) = used_id(*operand) {
+                if let Some(rule) = self.use_fault(inst, announced, id) {
+                    least = Some(earlier(least, rule));
+                }
+            }
         }
-        self.slow_fault(inst, announced, id)
+        least
     }
 
     /// The first rule that a use among operands breaks, by an instruction of the function `floor`.
     #[inline(always)]
-    fn uses_fault(
+    fn inst_fault(
         &self,
         inst: u32,
         floor: u32,
@@ -362,15 +427,10 @@ impl<'m, 'a> Survey<'m, 'a> {
         requires operands { AreSeen (insts_of self.now) inst (plain_operands operands.now) }
         ensures { IsLeast (HasBadUse self.now.bound (insts_of self.now) inst (length operands.now)) result }
     {
-        let mut least = None;
-        for operand in operands {
-            if let Some(id) = used_id(*operand) {
-                if let Some(rule) = self.use_fault(inst, floor, announced, id) {
-                    least = Some(earlier(least, rule));
-                }
-            }
+        if self.are_sound(inst, floor, operands) {
+            return None;
         }
-        least
+        self.uses_fault(inst, announced, operands)
     }
 
     /// Whether a use among operands is out of range.
@@ -438,12 +498,14 @@ impl<'m, 'a> Survey<'m, 'a> {
             (λ f. IsFirstFault self.now.bound (insts_of self.now) f.rule f.inst)) }
     {
         let mut announced = Notes::new(alloc, 0)?;
+        let mut floor = NONE;
         for n in 0..self.end {
             let inst = &self.insts[n as usize];
-            let floor = floor_of(self.plan, n);
-            if let Some(rule) = self.uses_fault(n, floor, &announced, seen(inst)) {
+            let here = entered(inst, floor, n);
+            if let Some(rule) = self.inst_fault(n, here, &announced, seen(inst)) {
                 return Ok(Some(Found { rule, inst: n }));
             }
+            floor = left(inst, here);
             announce(&mut announced, inst, n)?;
         }
         if self.end as usize == self.insts.len() {

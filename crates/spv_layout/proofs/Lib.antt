@@ -19,3 +19,4 @@ pub mod Numbers
 pub mod Following
 pub mod Keeping
 pub mod Singles
+pub mod Tables

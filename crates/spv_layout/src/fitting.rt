@@ -67,44 +67,19 @@ fn is_of_form(kinds: &Kinds<'_>, form: Form, operand: Operand<'_>) -> bool
     ensures { result ≡ is_of kinds.now form (plain_operand operand.entry) }
 {
     match form {
-        Form::OfType => match operand {
-            Operand::OfType(_) => true,
-            _ => false,
-        },
-        Form::Result => match operand {
-            Operand::Result(_) => true,
-            _ => false,
-        },
-        Form::Word => match operand {
-            Operand::Word(_) => true,
-            _ => false,
-        },
-        Form::Number => match operand {
-            Operand::Number { .. } => true,
-            _ => false,
-        },
-        Form::Text => match operand {
-            Operand::Text(_) => true,
-            _ => false,
-        },
-        Form::Id(_) => match operand {
-            Operand::Id(_) => true,
-            _ => false,
-        },
-        Form::Unseen => match operand {
-            Operand::Id(_) => true,
-            _ => false,
-        },
+        Form::OfType => matches!(operand, Operand::OfType(_)),
+        Form::Result => matches!(operand, Operand::Result(_)),
+        Form::Word => matches!(operand, Operand::Word(_)),
+        Form::Number => matches!(operand, Operand::Number { .. }),
+        Form::Text => matches!(operand, Operand::Text(_)),
+        Form::Id(_) => matches!(operand, Operand::Id(_)),
+        Form::Unseen => matches!(operand, Operand::Id(_)),
         Form::Kind(kind) => match operand {
             Operand::Value { kind: number, .. } => !is_mask(kind) && kinds.is_kind(kind, number),
             Operand::Mask { kind: number, .. } => is_mask(kind) && kinds.is_kind(kind, number),
             _ => false,
         },
-        Form::Other => match operand {
-            Operand::OfType(_) => false,
-            Operand::Result(_) => false,
-            _ => true,
-        },
+        Form::Other => !matches!(operand, Operand::OfType(_) | Operand::Result(_)),
     }
 }
 

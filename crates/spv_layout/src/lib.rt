@@ -14,8 +14,7 @@ mod rows;
 mod span;
 mod state;
 
-pub use class::Class;
-pub use form::{Ending, Form, Named, Role, Row};
+pub use form::Role;
 pub use place::Place;
 pub use plan::{Plan, lay_out};
 pub use roles::role;

@@ -38,6 +38,7 @@ pub struct Standing {
 }
 
 /// The section of a class that stands in one alone: those of sections 1 to 8.
+#[inline(always)]
 pub fn section(class: Class) -> Option<u8>
     ensures { result ≡ section_of class }
 {
@@ -93,6 +94,7 @@ impl Standing {
 }
 
 /// Keeps an instruction of a class, with its first word.
+#[inline(always)]
 pub fn keep(
     early: &mut Vec<Early>,
     late: &mut Vec<Standing>,

@@ -887,6 +887,7 @@ static NUMBERS: [u8; 331] = [
 ];
 
 /// The row that a list of numbers names for an opcode, if it names one.
+#[inline(always)]
 fn row_at(numbers: &'static [u8], rows: &'static [Row], opcode: u16) -> Option<&'static Row>
     requires { IsTrue (are_flagged rows.now) }
     ensures row { option_map (λ r. plain_row r.now) result ≡ numbered (map plain_row rows.now) (slice_get numbers.now opcode) }
@@ -899,6 +900,7 @@ fn row_at(numbers: &'static [u8], rows: &'static [Row], opcode: u16) -> Option<&
 }
 
 /// The row of an opcode.
+#[inline(always)]
 pub fn row(opcode: u16) -> Option<&'static Row>
     ensures row { option_map (λ r. plain_row r.now) result ≡ row_of opcode }
     ensures single { IfSome result (λ r. r.now.single ≡ is_single_row (plain_row r.now)) }

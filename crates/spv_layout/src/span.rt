@@ -29,6 +29,7 @@ pub fn number(kept: u32) -> Option<u32>
 }
 
 /// A number that is kept, or where there is none this one.
+#[inline(always)]
 fn or_first(kept: u32, at: u32) -> u32
     ensures { result ≡ at_first kept at }
 {
@@ -49,6 +50,7 @@ impl Spans {
     }
 
     /// At an instruction of a class and number, which may begin a function or a block.
+    #[inline(always)]
     pub fn enter(self, class: Class, at: u32) -> Spans
         ensures { result ≡ entered_in self class at }
     {
@@ -70,6 +72,7 @@ impl Spans {
     }
 
     /// After an instruction of a class, which may end a function or a block.
+    #[inline(always)]
     pub fn leave(self, class: Class) -> Spans
         ensures { result ≡ left_in self class }
     {

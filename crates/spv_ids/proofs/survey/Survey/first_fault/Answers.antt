@@ -9,11 +9,18 @@ use Rattle.spv_ids.proofs.Leasts.{least_at}
 use Rattle.spv_ids.proofs.Broke.{clean_here, clean_more, fault_here}
 use Rattle.spv_ids.proofs.survey.Survey.first_fault.Goals as goal
 
-pub uses_fault-requires-clause-floor : goal.uses_fault-requires-clause-floor
-uses_fault-requires-clause-floor c = c.floor_of-floor.ensures (insts_of c.args.self.now) c.requires.survey.places
+pub inst_fault-requires-clause-floor : goal.inst_fault-requires-clause-floor
+inst_fault-requires-clause-floor c =
+    let s = c.args.self.now in
+    let w = c.requires.survey.within in
+    let n = c.loop-n.n in
+    let t = c.loop-n-test.true in
+    let m = length-map s.insts.now plain_inst in
+    let l : n < length s.insts.now = omega arith in
+    c.entered-here.ensures (insts_of s) (inst_at s.insts.now n c.index-self-n.result l) c.loop-n.invariant.is_open
 
-pub uses_fault-requires-clause-operands : goal.uses_fault-requires-clause-operands
-uses_fault-requires-clause-operands c =
+pub inst_fault-requires-clause-operands : goal.inst_fault-requires-clause-operands
+inst_fault-requires-clause-operands c =
     let s = c.args.self.now in
     let w = c.requires.survey.within in
     let n = c.loop-n.n in
@@ -36,7 +43,7 @@ returns-in-Some c =
     let os = map plain_operand c.seen.result.now in
     let a : AreSeen is n os = record { inst = i; there = t; same = c.seen.ensures } in
     let k : length c.seen.result.now ≡ length os = sym (length-map c.seen.result.now plain_operand) in
-    let h = least_at s.bound is n n (length c.seen.result.now) (length os) c.uses_fault.result (Some c.in-Some.rule) refl k c.in-Some.is c.uses_fault.ensures in
+    let h = least_at s.bound is n n (length c.seen.result.now) (length os) c.inst_fault.result (Some c.in-Some.rule) refl k c.in-Some.is c.inst_fault.ensures in
     fault_here s.bound is n s.end s.firsts.now os c.in-Some.rule v.firsts c.loop-n-test.true a h c.loop-n.invariant.clean
 
 pub loop-n-preserved : goal.loop-n-preserved
@@ -53,8 +60,9 @@ loop-n-preserved c =
     let os = map plain_operand c.seen.result.now in
     let a : AreSeen is n os = record { inst = i; there = t; same = c.seen.ensures } in
     let k : length c.seen.result.now ≡ length os = sym (length-map c.seen.result.now plain_operand) in
-    let h = least_at s.bound is n n (length c.seen.result.now) (length os) c.uses_fault.result None refl k c.in_default.is c.uses_fault.ensures in
+    let h = least_at s.bound is n n (length c.seen.result.now) (length os) c.inst_fault.result None refl k c.in_default.is c.inst_fault.ensures in
     record {
       clean = clean_more s.bound is n (clean_here s.bound is n s.end s.firsts.now os v.firsts c.loop-n-test.true a h) c.loop-n.invariant.clean;
       announced = c.in_ok-announce.ensures is t c.loop-n.invariant.announced;
+      is_open = c.left-floor.ensures is n t (c.entered-here.ensures is t c.loop-n.invariant.is_open);
     }

@@ -1,7 +1,9 @@
+use Rattle.spv_ids.specs.Survey.{insts_of}
+use Rattle.spv_ids.proofs.Scopes.{least_use_at}
 use Rattle.spv_ids.proofs.survey.Survey.use_fault.Goals as goal
 
-pub returns-then-is_plain : goal.returns-then-is_plain
-returns-then-is_plain c = c.is_plain.ensures c.args.id c.mark-definition.ensures c.if-is_plain.true
+pub site_fault-requires-clause-announced : goal.site_fault-requires-clause-announced
+site_fault-requires-clause-announced c = rw c.site-site.ensures.inst c.requires.announced
 
-pub returns-then-is_sound : goal.returns-then-is_sound
-returns-then-is_sound c = c.is_sound.ensures c.args.id c.mark-definition.ensures c.if-is_sound.true
+pub returns : goal.returns
+returns c = least_use_at c.args.self.now.bound (insts_of c.args.self.now) c.site-site.result.inst c.args.inst c.args.id c.site_fault.result c.site-site.ensures.inst c.site_fault.ensures
