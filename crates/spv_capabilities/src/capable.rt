@@ -84,6 +84,17 @@ pub fn is_covered_value(survey: &Survey<'_, '_>, kind: u32, value: u32) -> bool
     }
 }
 
+/// Whether the enumerant of a value of a kind, if there is one, lists no capabilities.
+#[inline(always)]
+pub fn asks_nothing(survey: &Survey<'_, '_>, kind: u32, value: u32) -> bool
+    ensures { IsTrue result → IsCoveredValue survey.now.table survey.now.insts kind value }
+{
+    match survey.table().enumerant(kind, value) {
+        Some(enumerant) => enumerant.capabilities.as_slice().is_empty(),
+        None => true,
+    }
+}
+
 /// Whether the module has the capability of an int's width.
 fn has_int_needs(survey: &Survey<'_, '_>, operands: &[Operand<'_>]) -> bool
     ensures { IsTrue result ↔ HasNeeded survey.now.table survey.now.insts (int_needs (plain_operands operands.now)) }

@@ -4,6 +4,8 @@ ghost use Rattle.std.specs.Prelude.{[], ◌∷◌};
 ghost use Rattle.spv_inst.specs.Operand.{Result, Id, Word, Value, Mask};
 ghost use Rattle.spv_capabilities.specs.Capable.{Has, IsKernel, IsCoveredEntry, IsCoveredOperand, HasNeeded, needs_of};
 ghost use Rattle.spv_capabilities.specs.Memory.{IsModel};
+ghost use Rattle.spv_capabilities.specs.Keeps.{Keeps};
+ghost use Rattle.spv_inst.specs.declared.fault.Rule.TheVariants as rule;
 ghost use Rattle.spv_capabilities.specs.Entry.{HasEntry, IsKernelFunction, IsSoundEntry, IsSoundMode, IsSoundLinkage};
 ghost use Rattle.spv_capabilities.specs.Example.{small, inst, vectors, linked, entry, void_function, kernel, called, declaration};
 
@@ -50,4 +52,14 @@ pub fn entry_examples()
     // Import is 1, and Export is 0.
     ensures imported { IsSoundLinkage small (declaration 1) 1 }
     ensures exported { ¬ (IsSoundLinkage small (declaration 0) 1) }
+{}
+
+/// What M1 and E2 demand of instructions.
+pub fn demand_examples()
+    ensures model { Keeps small kernel rule.M1 0 (inst 14 (Value 3 2 ∷ Value 4 2 ∷ [])) }
+    ensures no_model { ¬ (Keeps small kernel rule.M1 0 (inst 14 (Value 3 0 ∷ Value 4 2 ∷ []))) }
+    // M1 demands nothing of an instruction other than OpMemoryModel.
+    ensures other { Keeps small kernel rule.M1 1 (inst 19 (Result 1 ∷ [])) }
+    ensures entry { Keeps small kernel rule.E2 0 entry }
+    ensures no_entry { ¬ (Keeps small kernel rule.E2 0 (inst 15 (Value 9 5 ∷ Id 3 ∷ []))) }
 {}

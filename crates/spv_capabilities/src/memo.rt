@@ -7,7 +7,9 @@ ghost use Rattle.spv_capabilities.specs.Subject.{Subject};
 ghost use Rattle.spv_capabilities.specs.Capable.{IsCoveredEntry, IsCoveredValue, IsCoveredMask, IsCoveredOperand, IsCapable};
 ghost use Rattle.spv_capabilities.specs.Known.{IsKnown, answer_of};
 
-use crate::capable::{has_needed, is_capability_kind, is_covered_entry, is_covered_value};
+use crate::capable::{
+    asks_nothing, has_needed, is_capability_kind, is_covered_entry, is_covered_value,
+};
 use crate::surveyed::Survey;
 use spv_grammar::Memory;
 use spv_inst::{Inst, Operand};
@@ -104,8 +106,9 @@ impl Memo {
         }
     }
 
-    /// Whether the enumerant of a value of a kind is covered, if there is one.
-    fn is_covered_value(
+    /// Whether the enumerant of a value of a kind is covered, if there is one. What is answered is kept.
+    #[inline(never)]
+    fn is_covered_listing(
         &mut self,
         survey: &Survey<'_, '_>,
         kind: u32,
@@ -121,6 +124,24 @@ impl Memo {
         let covered = is_covered_value(survey, kind, value);
         self.enumerants.insert((kind, value), covered)?;
         Ok(covered)
+    }
+
+    /// Whether the enumerant of a value of a kind is covered, if there is one.
+    #[inline(always)]
+    fn is_covered_value(
+        &mut self,
+        survey: &Survey<'_, '_>,
+        kind: u32,
+        value: u32,
+    ) -> Result<bool, Memory>
+        requires { IsKnown survey.now self.old }
+        ensures answer { IfOk result (λ b. IsTrue b ↔ IsCoveredValue survey.now.table survey.now.insts kind value) }
+        ensures known { IsKnown survey.now self.new }
+    {
+        if asks_nothing(survey, kind, value) {
+            return Ok(true);
+        }
+        self.is_covered_listing(survey, kind, value)
     }
 
     /// Whether a bit is not set, or its enumerant is covered. `bits` has it as the lowest.
@@ -166,6 +187,7 @@ impl Memo {
     }
 
     /// Whether an operand is of kind Capability, or its value or each set bit of its mask is covered.
+    #[inline(always)]
     fn is_covered_operand(
         &mut self,
         survey: &Survey<'_, '_>,

@@ -3,6 +3,8 @@ pub mod Choices
 pub mod TagTests
 pub mod Short
 pub mod Lookups
+pub mod TwoTypes
+pub mod Opcodes
 pub mod ValuePlaces
 pub mod Judged
 pub mod Worked

@@ -1,7 +1,5 @@
 -- Where the code looks for value operands is where the rows of table A have them.
-use Rattle.std.proofs.Common.{◌≡◌, ◌≢◌, ◌≤◌, ◌<◌, ◌+◌, ◌-◌, ◌++◌, ◌&&◌, ◌||◌, ℕ, zero, suc, not, nat_le, List, [], ◌∷◌, Some, Bool, true, false, if◌then◌else◌, take, refl, sym, ap, ◌∙◌, arith}
-use Rattle.std.proofs.lemmas.Bool.{leb-true, leb-false}
-use Rattle.std.proofs.lemmas.Option.{none-some}
+use Rattle.std.proofs.Common.{◌≡◌, ◌≢◌, ◌++◌, ◌&&◌, ◌||◌, ℕ, not, List, [], ◌∷◌, Some, Bool, true, false, if◌then◌else◌, take, refl, sym, ap, ◌∙◌}
 use Rattle.spv_grammar.specs.Table.{Table}
 use Rattle.spv_inst.specs.Operand.{Plain, PlainInst}
 use Rattle.spv_inst.specs.Operand as operand
@@ -16,6 +14,7 @@ use Rattle.spv_ops.specs.declared.row.Row.{Row}
 use Rattle.spv_ops.specs.declared.row.Row.TheVariants as row
 use Rattle.spv_ops.specs.Row.{row_of}
 use Rattle.spv_ops.specs.Operands.{ids_in, after_head}
+use Rattle.spv_ops.proofs.Opcodes.{both, and_yes, all_pass, one_passes}
 use Rattle.spv_ops.specs.Values.{value_in, used_in, initializers_in, paired_ids_in, value_ids, values_of}
 
 -- Tests of forms.
@@ -45,13 +44,6 @@ are_front (f ∷ fs) = if is_value f then are_front fs else are_after (f ∷ fs)
 not_true : (b : Bool) → not b ≡ true → b ≡ false
 not_true true h = cc
 not_true false h = refl
-
-both : (a b : Bool) → a && b ≡ true → (a ≡ true) × (b ≡ true)
-both true b h = (refl, h)
-both false b h = cc
-
-and_yes : (a b : Bool) → a ≡ true → b ≡ true → a && b ≡ true
-and_yes a b e f = rw (e, f) refl
 
 is_it : (f : Form) → is_value f ≡ true → f ≡ form.Id role.Value
 is_it form.OfType h = cc
@@ -564,45 +556,10 @@ whole G r (f ∷ []) gs e os h n a = value_first G r f [] gs e os h n a
 whole G r (f ∷ g ∷ fs) gs e os h n a = whole_two G r f g fs gs e os (is_type f && (is_result g && agrees r fs e)) refl h n a
 
 -- The test of all rows of table A, opcode by opcode.
-abbrev all_from : (ℕ → Bool) → ℕ → ℕ → Bool
-all_from p m zero = true
-all_from p m (suc k) = p m && all_from p (m + 1) k
+abbrev agrees_with : ℕ → PlainRow → Bool
+agrees_with n r = is_free (row_of n) || agrees_whole (row_of n) r.fixed r.ending
 
-abbrev fits_all : List PlainRow → Bool
-fits_all [] = true
-fits_all (r ∷ rs) = all_from (λ n. is_free (row_of n) || agrees_whole (row_of n) r.fixed r.ending) r.from (r.to + 1 - r.from) && fits_all rs
-
-not_le : (n m : ℕ) → nat_le n m ≡ false → m + 1 ≤ n
-not_le n m e = omega (arith, leb-false n m e)
-
-one_next : (p : ℕ → Bool) (k m n : ℕ) → p m ≡ true → (b : Bool) → nat_le n m ≡ b → m ≤ n → (m + 1 ≤ n → p n ≡ true) → p n ≡ true
-one_next p k m n h true e l more = let same : n ≡ m = omega (arith, leb-true n m e) in rw same h
-one_next p k m n h false e l more = more (not_le n m e)
-
-one_from : (p : ℕ → Bool) (k m n : ℕ) → all_from p m k ≡ true → m ≤ n → n < m + k → p n ≡ true
-one_from p zero m n h l u = absurd (let no : n < m = omega arith in omega arith)
-one_from p (suc k) m n h l u = one_next p k m n (both (p m) (all_from p (m + 1) k) h).0 (nat_le n m) refl l (λ v. one_from p k (m + 1) n (both (p m) (all_from p (m + 1) k) h).1 v (omega arith))
-
-one_here : (q : PlainRow) (rs : List PlainRow) (n : ℕ) (r : PlainRow) (b : Bool) → nat_le q.from n && nat_le n q.to ≡ b → fits_all (q ∷ rs) ≡ true
-    → (if b then Some q else row_in rs n) ≡ Some r → (fits_all rs ≡ true → row_in rs n ≡ Some r → is_free (row_of n) || agrees_whole (row_of n) r.fixed r.ending ≡ true)
-    → is_free (row_of n) || agrees_whole (row_of n) r.fixed r.ending ≡ true
-one_here q rs n r true w h e rest =
-    let same : q ≡ r = cc in
-    let two = both (nat_le q.from n) (nat_le n q.to) w in
-    let low : q.from ≤ n = leb-true q.from n two.0 in
-    let high : n ≤ q.to = leb-true n q.to two.1 in
-    let test : ℕ → Bool = λ m. is_free (row_of m) || agrees_whole (row_of m) q.fixed q.ending in
-    let all = both (all_from test q.from (q.to + 1 - q.from)) (fits_all rs) h in
-    rw (← same) (one_from test (q.to + 1 - q.from) q.from n all.0 low (omega arith))
-one_here q rs n r false w h e rest =
-    let test : ℕ → Bool = λ m. is_free (row_of m) || agrees_whole (row_of m) q.fixed q.ending in
-    rest (both (all_from test q.from (q.to + 1 - q.from)) (fits_all rs) h).1 e
-
-one_in : (rs : List PlainRow) (n : ℕ) (r : PlainRow) → fits_all rs ≡ true → row_in rs n ≡ Some r → is_free (row_of n) || agrees_whole (row_of n) r.fixed r.ending ≡ true
-one_in [] n r h e = absurd (none-some r e)
-one_in (q ∷ rs) n r h e = one_here q rs n r (nat_le q.from n && nat_le n q.to) refl h e (λ k l. one_in rs n r k l)
-
-all_fit : fits_all rows ≡ true
+all_fit : all_pass agrees_with rows ≡ true
 unfolding rows
 all_fit = refl
 
@@ -624,6 +581,6 @@ freed row.ElementChain b h n = h
 pub values_agree : (G : Table) (i : PlainInst) (fs : List Form) → HasForms G i fs → row_of i.opcode ≢ row.Free → used_in fs i.operands ≡ values_of i
 values_agree G i fs has n =
     let known : row_in rows i.opcode ≡ Some has.row = has.known in
-    let h = freed (row_of i.opcode) (agrees_whole (row_of i.opcode) has.row.fixed has.row.ending) (one_in rows i.opcode has.row all_fit known) n in
+    let h = freed (row_of i.opcode) (agrees_whole (row_of i.opcode) has.row.fixed has.row.ending) (one_passes agrees_with rows i.opcode has.row all_fit known) n in
     let e : fs ≡ has.row.fixed ++ has.rest = has.forms in
     rw e (whole G (row_of i.opcode) has.row.fixed has.rest has.row.ending i.operands h has.ending (rw (← e) has.each))

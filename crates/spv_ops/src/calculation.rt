@@ -158,7 +158,7 @@ fn from_generic(definitions: &Definitions, r: u32, o: u32) -> bool
 }
 
 /// Whether a type is an int, float or bool type or a vector of it.
-fn has_sort(definitions: &Definitions, sort: Sort, t: u32) -> bool
+pub fn has_sort(definitions: &Definitions, sort: Sort, t: u32) -> bool
     ensures { IsTrue result ↔ HasSort sort definitions.now t }
 {
     match definitions.components(t) {

@@ -1,18 +1,41 @@
-ghost use Rattle.std.specs.Prelude.{◌↔◌, IsTrue, IsSomeAnd};
+ghost use Rattle.std.specs.Prelude.{◌↔◌, ◌∷◌, [], IsTrue, IsSomeAnd};
 ghost use Rattle.spv_inst.specs.Module.{plain_operands};
 ghost use Rattle.spv_ops.specs.Operands.{ids_in, words_in};
 ghost use Rattle.spv_ops.specs.Calculation.{Calculates};
+ghost use Rattle.spv_ops.specs.declared.row.Calculation.TheVariants.{Binary};
 ghost use Rattle.spv_ops.specs.Access.{Accesses};
 ghost use Rattle.spv_ops.specs.Composite.{Composes};
 ghost use Rattle.spv_ops.specs.Values.{types_of};
 
 use crate::access::accesses;
-use crate::calculation::calculates;
+use crate::calculation::{calculates, has_sort};
 use crate::composite::composes;
 use crate::definitions::Definitions;
+use crate::form::Sort;
 use crate::gather::{MOST, gather};
 use crate::row::{Access, Calculation, Composite};
+use crate::several::is_typed;
 use spv_inst::Operand;
+
+/// Whether the row of a binary operation holds of the result type and the declared types of two ids.
+#[inline(always)]
+fn binary_holds(definitions: &Definitions, sort: Sort, r: u32, a: u32, b: u32) -> bool
+    ensures { IsTrue result ↔ IsSomeAnd (types_of definitions.now (a ∷ b ∷ [])) (λ types. Calculates definitions.now (Binary sort) r types) }
+{
+    is_typed(definitions, r, a) && is_typed(definitions, r, b) && has_sort(definitions, sort, r)
+}
+
+/// Whether a row of calculations holds of the result type and the declared types of the ids at the front of the operands,
+/// of which there may be any number.
+fn gathered_holds(definitions: &Definitions, row: Calculation, r: u32, operands: &[Operand]) -> bool
+    ensures { IsTrue result ↔ IsSomeAnd (types_of definitions.now (ids_in (plain_operands operands.now))) (λ types. Calculates definitions.now row r types) }
+{
+    let mut types = [0; MOST];
+    match gather(definitions, operands, &mut types) {
+        Some(count) => calculates(definitions, row, r, &types[..count]),
+        None => false,
+    }
+}
 
 /// Whether a row of calculations holds of the result type and the declared types of the ids at the front of the operands.
 pub fn calculation_holds(
@@ -23,10 +46,15 @@ pub fn calculation_holds(
 ) -> bool
     ensures { IsTrue result ↔ IsSomeAnd (types_of definitions.now (ids_in (plain_operands operands.now))) (λ types. Calculates definitions.now row r types) }
 {
-    let mut types = [0; MOST];
-    match gather(definitions, operands, &mut types) {
-        Some(count) => calculates(definitions, row, r, &types[..count]),
-        None => false,
+    match (row, operands) {
+        (Calculation::Binary(sort), [Operand::Id(a), Operand::Id(b)]) => binary_holds(
+            definitions,
+            sort,
+            r,
+            *a,
+            *b,
+        ),
+        _ => gathered_holds(definitions, row, r, operands),
     }
 }
 

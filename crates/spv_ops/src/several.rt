@@ -42,7 +42,8 @@ pub fn all_ints(definitions: &Definitions, operands: &[Operand]) -> bool
 }
 
 /// Whether an id is declared with a type.
-fn is_typed(definitions: &Definitions, t: u32, x: u32) -> bool
+#[inline(always)]
+pub fn is_typed(definitions: &Definitions, t: u32, x: u32) -> bool
     ensures { result ≡ has_type definitions.now t x }
 {
     match definitions.type_of(x) {

@@ -1,2 +1,3 @@
 mod Casting
 pub mod Listed
+pub mod Asking

@@ -2,4 +2,5 @@ pub mod Role
 pub mod Broken
 pub mod Outcome
 pub mod Known
+pub mod Asked
 pub mod Example

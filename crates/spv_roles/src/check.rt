@@ -1,18 +1,20 @@
 ghost use Rattle.std.specs.Prelude.{◌≡◌, ◌+◌, ◌≤◌, ◌<◌, ℕ, List, length, slice_get, sum_by, Some, OnOk, IfErr, MatchBool};
 ghost use Rattle.spv_grammar.specs.Table.{Table};
 ghost use Rattle.spv_inst.specs.Operand.{PlainInst};
-ghost use Rattle.spv_inst.specs.Module.{plain_inst, plain_insts, plain_operand};
+ghost use Rattle.spv_inst.specs.Module.{plain_inst, plain_insts, plain_operand, plain_operands};
 ghost use Rattle.spv_ids.specs.Uses as uses;
 ghost use Rattle.spv_layout.specs.First.{IsUnbroken};
 ghost use Rattle.spv_layout.specs.Place.{word_count};
 ghost use Rattle.spv_layout.specs.Plan.{IsPlan};
 ghost use Rattle.spv_layout.specs.Shape.{Fits};
 ghost use Rattle.spv_ids.specs.Outcome.{IsDefinitionOf, definition_in};
+ghost use Rattle.spv_roles.specs.Asked.{ArePlayed, IsOneMiscast};
 ghost use Rattle.spv_roles.specs.Broken.{Broken};
 ghost use Rattle.spv_roles.specs.Known.{IsInRole, IsMiscast, AreInRoleBefore, HasMiscast};
 ghost use Rattle.spv_roles.specs.Outcome.{AreInRole, IsRefusal};
 
-use crate::role::plays;
+use crate::asked::{Asked, asked_of};
+use crate::role::{defines_type, plays};
 use spv_ids::Ids;
 use spv_inst::{Fault, Inst, Module, Operand, Rule};
 use spv_layout::{Plan, role};
@@ -48,8 +50,8 @@ fn is_in_role(definitions: &Definitions<'_, '_>, inst: &Inst<'_>, k: usize) -> b
     }
 }
 
-/// Whether all uses of an instruction are in their roles.
-fn are_in_role(definitions: &Definitions<'_, '_>, inst: &Inst<'_>) -> bool
+/// Whether all uses of an instruction are in their roles, operand by operand.
+fn each_in_role(definitions: &Definitions<'_, '_>, inst: &Inst<'_>) -> bool
     ensures { (G : Table) → Fits G (plain_inst inst.now)
         → MatchBool result (AreInRoleBefore G definitions.now (plain_inst inst.now) (length inst.now.operands)) (HasMiscast G definitions.now (plain_inst inst.now)) }
 {
@@ -59,6 +61,46 @@ fn are_in_role(definitions: &Definitions<'_, '_>, inst: &Inst<'_>) -> bool
         }
     }
     true
+}
+
+/// Whether types are types, and ids play the roles that are asked for.
+#[inline(always)]
+fn are_played(definitions: &Definitions<'_, '_>, asked: Asked, operands: &[Operand<'_>]) -> bool
+    ensures { MatchBool result (ArePlayed definitions.now asked.first asked.others asked.masked (plain_operands operands.now))
+        (IsOneMiscast definitions.now asked.first asked.others asked.masked (plain_operands operands.now)) }
+{
+    let mut due = asked.first;
+    let mut next = asked.others;
+    for operand in operands {
+        match *operand {
+            Operand::OfType(id) => if !defines_type(definitions, id) {
+                return false;
+            },
+            Operand::Id(id) => {
+                if !plays(definitions, due, id) {
+                    return false;
+                }
+                due = next;
+            }
+            Operand::Mask { .. } => {
+                due = asked.masked;
+                next = asked.masked;
+            }
+            _ => {}
+        }
+    }
+    true
+}
+
+/// Whether all uses of an instruction are in their roles.
+fn are_in_role(definitions: &Definitions<'_, '_>, inst: &Inst<'_>) -> bool
+    ensures { (G : Table) → Fits G (plain_inst inst.now)
+        → MatchBool result (AreInRoleBefore G definitions.now (plain_inst inst.now) (length inst.now.operands)) (HasMiscast G definitions.now (plain_inst inst.now)) }
+{
+    match asked_of(inst.opcode) {
+        Some(asked) => are_played(definitions, asked, inst.operands.as_slice()),
+        None => each_in_role(definitions, inst),
+    }
 }
 
 /// Whether each use of a module is of an id that plays the role which the use's shape asks for (own; SPIR-V Specification 1.6,

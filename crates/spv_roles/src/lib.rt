@@ -1,6 +1,7 @@
 //! The roles in which a module uses its ids (rule Y1).
 #![tactic(auto)]
 
+mod asked;
 mod check;
 pub mod laws;
 mod role;

@@ -50,7 +50,7 @@ fn has_opcode(definitions: &Definitions<'_, '_>, id: u32, opcode: u16) -> bool
 
 /// Whether the definition of an id is a type declaration.
 #[inline(always)]
-fn defines_type(definitions: &Definitions<'_, '_>, id: u32) -> bool
+pub fn defines_type(definitions: &Definitions<'_, '_>, id: u32) -> bool
     ensures { IsTrue result ↔ IsSomeAnd (definition_of definitions.now id) IsTypeDeclaration }
 {
     match definitions.definition(id) {

@@ -6,3 +6,4 @@ pub mod Counting
 pub mod Adding
 pub mod Pointers
 pub mod Repeating
+pub mod Concerns

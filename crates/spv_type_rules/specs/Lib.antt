@@ -8,4 +8,5 @@ pub mod Example
 pub mod Seen
 pub mod Found
 pub mod Rules
+pub mod Concern
 pub mod Counted

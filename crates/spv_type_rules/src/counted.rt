@@ -3,13 +3,8 @@ ghost use Rattle.spv_inst.specs.Operand.{PlainInst};
 ghost use Rattle.spv_inst.specs.Module.{plain_inst};
 ghost use Rattle.spv_type_rules.specs.Counted.{AreCounted};
 
+use crate::opcode::{FUNCTION, PARAMETER};
 use spv_inst::Inst;
-
-/// The opcode of OpFunction.
-const FUNCTION: u16 = 54;
-
-/// The opcode of OpFunctionParameter.
-const PARAMETER: u16 = 55;
 
 /// How many parameters stand after the last OpFunction before the instruction after one of an opcode.
 #[inline(always)]

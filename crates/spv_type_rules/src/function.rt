@@ -11,6 +11,7 @@ ghost use Rattle.spv_type_rules.specs.Function as spec;
 ghost use Rattle.spv_type_rules.specs.Function.{ReturnsNothing, ReturnsTyped, IsSoundReturn, IsSoundReturnValue, function_type_in, signature_of, CallsTyped, CallsSoundly, IsSoundCall, ReturnsAfter, IsSoundFunction, parameters_in, parameters_after, parameters_between, parameter_type_of, IsSoundParameter};
 ghost use Rattle.spv_type_rules.specs.Found.{IsOfOne, are_typed, has_signature, has_type};
 
+use crate::opcode::{FUNCTION, FUNCTION_END, LABEL, PARAMETER, TYPE_FUNCTION};
 use spv_inst::{Inst, Operand};
 use spv_layout::laws::one_standing;
 use spv_ops::{Definitions, Form, after_head, after_result, type_in};
@@ -93,7 +94,7 @@ fn function_type(function: &Inst) -> Option<u32>
     ensures { result ≡ function_type_in (plain_inst function.now) }
 {
     match (function.opcode, after_head(function.operands.as_slice())) {
-        (54, [_, Operand::Id(t), ..]) => Some(*t),
+        (FUNCTION, [_, Operand::Id(t), ..]) => Some(*t),
         _ => None,
     }
 }
@@ -108,7 +109,7 @@ fn signature<'m, 'a>(
     let t = function_type(function)?;
     let inst = definitions.definition(t)?;
     match inst.opcode {
-        33 => Some(after_result(inst.operands.as_slice())),
+        TYPE_FUNCTION => Some(after_result(inst.operands.as_slice())),
         _ => None,
     }
 }
@@ -199,7 +200,7 @@ pub fn is_sound_call(definitions: &Definitions, inst: &Inst) -> bool
 fn ends_parameters(opcode: u16) -> bool
     ensures { result ≡ (nat_eq opcode 248 || nat_eq opcode 56) }
 {
-    opcode == 248 || opcode == 56
+    opcode == LABEL || opcode == FUNCTION_END
 }
 
 /// How many parameters there are before the first OpLabel or OpFunctionEnd.
@@ -211,7 +212,7 @@ pub fn count_parameters(insts: &[Inst]) -> usize
         if ends_parameters(inst.opcode) {
             return count;
         }
-        if inst.opcode == 55 {
+        if inst.opcode == PARAMETER {
             count += 1;
         }
     }

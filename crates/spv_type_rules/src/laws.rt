@@ -1,12 +1,15 @@
 //! Worked examples. Each function does nothing: its contract is what is proved.
 
 ghost use Rattle.std.specs.Prelude.{◌≡◌, [], ◌∷◌};
+ghost use Rattle.spv_grammar.specs.Table.{Table};
+ghost use Rattle.spv_inst.specs.declared.fault.Rule.TheVariants as rule;
 ghost use Rattle.spv_inst.specs.Operand.{PlainInst, OfType, Result, Id, Word, Mask};
 ghost use Rattle.spv_ops.specs.Example.{inst};
 ghost use Rattle.spv_type_rules.specs.Declaration.{IsSoundDeclaration};
 ghost use Rattle.spv_type_rules.specs.Constant.{IsSoundConstant};
 ghost use Rattle.spv_type_rules.specs.Repeat.{Repeats};
 ghost use Rattle.spv_type_rules.specs.Function.{IsSoundFunction, IsSoundCall, ReturnsNothing, ReturnsTyped, parameters_between};
+ghost use Rattle.spv_type_rules.specs.Keeps.{Keeps};
 ghost use Rattle.spv_type_rules.specs.Example.{small, constant, wide_constant, again, call, short_call};
 
 /// Declarations and constants of a small module that are sound, and such as are not.
@@ -35,4 +38,15 @@ pub fn function_examples()
     ensures something { ¬ (ReturnsNothing small (inst 54 (OfType 1 ∷ Result 4 ∷ Mask 9 0 ∷ Id 3 ∷ []))) }
     ensures typed { ReturnsTyped (inst 54 (OfType 1 ∷ Result 4 ∷ Mask 9 0 ∷ Id 3 ∷ [])) (1 ∷ []) }
     ensures not_typed { ¬ (ReturnsTyped (inst 54 (OfType 1 ∷ Result 4 ∷ Mask 9 0 ∷ Id 3 ∷ [])) (2 ∷ [])) }
+{}
+
+/// What Y2, Y4 and Y8 demand of instructions.
+pub fn demand_examples()
+    ensures declaration { (G : Table) → Keeps G small rule.Y2 7 (inst 23 (Result 9 ∷ Id 1 ∷ Word 4 ∷ [])) }
+    ensures no_declaration { (G : Table) → ¬ (Keeps G small rule.Y2 7 (inst 23 (Result 9 ∷ Id 1 ∷ Word 5 ∷ []))) }
+    // Y2 demands nothing of a constant.
+    ensures other { (G : Table) → Keeps G small rule.Y2 7 wide_constant }
+    ensures no_constant { (G : Table) → ¬ (Keeps G small rule.Y4 7 wide_constant) }
+    ensures call { (G : Table) → Keeps G small rule.Y8 7 call }
+    ensures no_call { (G : Table) → ¬ (Keeps G small rule.Y8 7 short_call) }
 {}

@@ -1,6 +1,6 @@
 //! The rules of types at an instruction.
 
-ghost use Rattle.std.specs.Prelude.{◌≡◌, ◌<◌, ◌↔◌, ℕ, length, map, Some, IsTrue, slice_get};
+ghost use Rattle.std.specs.Prelude.{◌≡◌, ◌<◌, ◌↔◌, ℕ, length, map, Some, None, IsTrue, if◌then◌else◌, slice_get};
 ghost use Rattle.spv_grammar.specs.Table.{Table};
 ghost use Rattle.spv_inst.specs.Module.{plain_inst, plain_insts};
 ghost use Rattle.spv_layout.specs.Place.{IsOfFunction};
@@ -12,16 +12,26 @@ ghost use Rattle.spv_type_rules.specs.Counted.{AreCounted};
 ghost use Rattle.spv_type_rules.specs.Keeps.{KeepsFunctions, KeepsReturns, CallsAreSound};
 ghost use Rattle.spv_type_rules.specs.Rules.{AreRules, rules_insts, IsFirstHere};
 
+use crate::concern::{Concern, concern_of};
 use crate::constant::is_sound_constant;
 use crate::declaration::is_sound_declaration;
 use crate::function::{
     count_parameters, is_sound_call, is_sound_function, is_sound_parameter, is_sound_return,
     is_sound_return_value,
 };
+use crate::opcode::{FUNCTION, FUNCTION_CALL, PARAMETER, RETURN, RETURN_VALUE};
 use spv_ids::Ids;
 use spv_inst::{Inst, Module, Rule};
 use spv_layout::Plan;
 use spv_ops::{Definitions, op_holds};
+
+/// A rule, unless it is kept.
+#[inline(always)]
+fn unless(keeps: bool, rule: Rule) -> Option<Rule>
+    ensures { result ≡ (if keeps then None else Some rule) }
+{
+    if keeps { None } else { Some(rule) }
+}
 
 /// A module whose types are judged.
 #[derive(Drop)]
@@ -66,11 +76,11 @@ impl<'m, 'a> Rules<'m, 'a> {
         ensures { IsTrue result ↔ KeepsFunctions (rules_insts self.now) number (plain_inst inst.now) }
     {
         match inst.opcode {
-            54 => {
+            FUNCTION => {
                 let rest = &self.module.insts.as_slice()[number as usize + 1..];
                 is_sound_function(&self.definitions, number, inst, count_parameters(rest))
             }
-            55 => is_sound_parameter(&self.definitions, number, inst, parameters),
+            PARAMETER => is_sound_parameter(&self.definitions, number, inst, parameters),
             _ => true,
         }
     }
@@ -82,8 +92,8 @@ impl<'m, 'a> Rules<'m, 'a> {
         ensures { IsTrue result ↔ KeepsReturns (rules_insts self.now) number (plain_inst inst.now) }
     {
         match inst.opcode {
-            253 => is_sound_return(&self.definitions, number),
-            254 => is_sound_return_value(&self.definitions, number, inst),
+            RETURN => is_sound_return(&self.definitions, number),
+            RETURN_VALUE => is_sound_return_value(&self.definitions, number, inst),
             _ => true,
         }
     }
@@ -93,7 +103,7 @@ impl<'m, 'a> Rules<'m, 'a> {
         requires { AreRules self.now }
         ensures { IsTrue result ↔ CallsAreSound (rules_insts self.now) (plain_inst inst.now) }
     {
-        if inst.opcode == 57 {
+        if inst.opcode == FUNCTION_CALL {
             is_sound_call(&self.definitions, inst)
         } else {
             true
@@ -109,27 +119,24 @@ impl<'m, 'a> Rules<'m, 'a> {
         requires parameters { AreCounted (rules_insts self.now) number known.parameters }
         ensures { (G : Table) → IsPlan G (rules_insts self.now) self.now.plan.now → IsFirstHere G (rules_insts self.now) number (plain_inst inst.now) result }
     {
-        if !is_sound_declaration(&self.definitions, self.ids, number, inst) {
-            return Some(Rule::Y2);
+        match concern_of(inst.opcode) {
+            Concern::Declaration => {
+                if !is_sound_declaration(&self.definitions, self.ids, number, inst) {
+                    return Some(Rule::Y2);
+                }
+                if known.repeats { Some(Rule::Y3) } else { None }
+            }
+            Concern::Constant => unless(is_sound_constant(&self.definitions, inst), Rule::Y4),
+            Concern::Operation => unless(
+                op_holds(self.module, self.plan, self.ids, number),
+                Rule::Y5,
+            ),
+            Concern::Function => unless(
+                self.keeps_functions(number, inst, known.parameters),
+                Rule::Y6,
+            ),
+            Concern::Return => unless(self.keeps_returns(number, inst), Rule::Y7),
+            Concern::Call => unless(self.keeps_calls(inst), Rule::Y8),
         }
-        if known.repeats {
-            return Some(Rule::Y3);
-        }
-        if !is_sound_constant(&self.definitions, inst) {
-            return Some(Rule::Y4);
-        }
-        if !op_holds(self.module, self.plan, self.ids, number) {
-            return Some(Rule::Y5);
-        }
-        if !self.keeps_functions(number, inst, known.parameters) {
-            return Some(Rule::Y6);
-        }
-        if !self.keeps_returns(number, inst) {
-            return Some(Rule::Y7);
-        }
-        if !self.keeps_calls(inst) {
-            return Some(Rule::Y8);
-        }
-        None
     }
 }

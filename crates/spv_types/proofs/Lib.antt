@@ -1,3 +1,3 @@
 mod Firsts
 mod Listed
-mod Typing
+mod Worked

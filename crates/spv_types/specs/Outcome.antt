@@ -13,14 +13,13 @@ use Rattle.spv_capabilities.specs.Keeps as capabilities
 use Rattle.spv_type_rules.specs.Keeps as rules
 use Rattle.spv_types.specs.declared.types.Types.{Types}
 use Rattle.spv_types.specs.Broken.{Broken}
-use Rattle.spv_types.specs.Notes.{kept}
 
--- the type that is kept of an id
+-- the type that is told of an id
 abbrev pub type_in : Types → ℕ → Option ℕ
-type_in types x = kept types.types x
+type_in types x = width.type_of types.definitions x
 
 -- Each use is in its role, each instruction keeps what the rules C1 to E2 and Y2 to Y8 demand, and of each id the type that it is
--- declared with is kept, if it has one.
+-- declared with is told, if it has one.
 pub record AreTypes (G : Table) (is : List PlainInst) (types : Types) : Type 0 where
   pub roles : AreInRole G is
   pub capabilities : (r : Rule) (n : ℕ) (i : PlainInst) → slice_get is n ≡ Some i → capabilities.Keeps G is r n i

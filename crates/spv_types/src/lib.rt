@@ -2,7 +2,6 @@
 #![tactic(auto)]
 
 pub mod laws;
-mod notes;
 mod pass;
 mod types;
 

@@ -1,81 +1,43 @@
 //! The types of a module.
 
 ghost use Rattle.std.specs.Prelude.{◌≡◌, ◌+◌, ◌<◌, ◌≤◌, ℕ, List, IfOk, IfErr, OnOk, Some, length, map, slice_get, sum_by};
-ghost use Rattle.spv_inst.specs.Operand.{PlainInst, result_in};
+ghost use Rattle.spv_inst.specs.Operand.{PlainInst};
 ghost use Rattle.spv_layout.specs.declared.place.Place.{Place};
-ghost use Rattle.spv_inst.specs.Width.{type_of};
 ghost use Rattle.spv_inst.specs.Module.{plain_inst, plain_insts};
 ghost use Rattle.spv_layout.specs.First.{IsUnbroken};
 ghost use Rattle.spv_layout.specs.Place.{word_count};
 ghost use Rattle.spv_layout.specs.Plan.{IsPlan, IsPlaceOf};
 ghost use Rattle.spv_ids.specs.Outcome.{IsDefinitionOf, IsStopAt, definition_in};
 ghost use Rattle.spv_types.specs.Broken.{Broken};
-ghost use Rattle.spv_types.specs.Notes.{kept};
 ghost use Rattle.spv_types.specs.Outcome.{AreTypes, IsRefusal, type_in};
 
-use crate::notes::Notes;
 use crate::pass::{Found, first_fault};
 use spv_capabilities::survey;
 use spv_grammar::Table;
 use spv_ids::Ids;
-use spv_inst::{Fault, Inst, Module, Operand, Stop};
+use spv_inst::{Fault, Module, Stop};
 use spv_layout::Plan;
 use spv_ops::Definitions;
 use spv_roles::roles_check;
 use spv_type_rules::Rules;
-use std::alloc::{AllocError, Global};
+use std::alloc::Global;
 
-/// The types that a module's ids are declared with (SPIR-V Specification 1.6, section 2.16).
+/// The types that a module's ids are declared with (SPIR-V Specification 1.6, section 2.16). They are read from the
+/// instructions that define the ids.
 #[derive(Drop)]
-pub struct Types {
-    /// Of each id its type.
-    types: Notes,
+pub struct Types<'m, 'a> {
+    definitions: Definitions<'m, 'a>,
 }
 
-impl Types {
+impl<'m, 'a> Types<'m, 'a> {
     /// The type that an id is declared with: the `Type` of the instruction whose result it is. None where that has none, or
-    /// there is no such instruction. It takes no memory.
+    /// there is no such instruction. It takes no memory, and constant time where the id is a small one.
     #[inline(always)]
     pub fn of(&self, id: u32) -> Option<u32>
         ensures { result ≡ type_in self.now id }
     {
-        self.types.get(id)
+        self.definitions.type_of(id)
     }
-}
-
-/// The result of an instruction.
-fn result_of(inst: &Inst<'_>) -> Option<u32>
-    ensures { result ≡ result_in (plain_inst inst.now).operands }
-{
-    for operand in inst.operands.as_slice() {
-        if let Operand::Result(id) = *operand {
-            return Some(id);
-        }
-    }
-    None
-}
-
-/// Of each id the type that it is declared with. `places` is how many small ids are kept in a list.
-///
-/// An `AllocError` comes only where a growth of memory was refused.
-fn declared_types(
-    alloc: Global,
-    insts: &[Inst<'_>],
-    definitions: &Definitions<'_, '_>,
-    places: usize,
-) -> Result<Notes, AllocError>
-    requires { definitions.now ≡ map plain_inst insts.now }
-    ensures { IfOk result (λ notes. (x : ℕ) → kept notes x ≡ type_of (map plain_inst insts.now) x) }
-{
-    let mut types = Notes::new(alloc, places)?;
-    for inst in insts {
-        if let Some(id) = result_of(inst) {
-            if let Some(t) = definitions.type_of(id) {
-                types.put(id, t)?;
-            }
-        }
-    }
-    Ok(types)
 }
 
 /// The fault of a broken rule, at the first word of its instruction.
@@ -115,13 +77,13 @@ fn stop_at(plan: &Plan, found: Found) -> Stop
 ///
 /// `Memory` comes only where a growth of memory was refused.
 #[tactic(none)]
-pub fn type_check(
+pub fn type_check<'m, 'a>(
     alloc: Global,
-    table: &Table,
-    module: &Module<'_>,
-    plan: &Plan,
-    ids: &Ids,
-) -> Result<Types, Stop>
+    table: &'m Table,
+    module: &'m Module<'a>,
+    plan: &'m Plan,
+    ids: &'m Ids,
+) -> Result<Types<'m, 'a>, Stop>
     // The condition of `lay_out`, and that the plan and the ids are what was answered of the module.
     requires words { 5 + sum_by word_count (plain_insts «module».now) ≤ 4194304 }
     requires plan { IsPlan table.now (plain_insts «module».now) plan.now }
@@ -144,10 +106,7 @@ pub fn type_check(
         Ok(Some(found)) => return Err(stop_at(plan, found)),
         Err(_) => return Err(Stop::Memory),
     }
-    let definitions = Definitions::new(insts, plan, ids);
-    let places = (2 * insts.len()).min(module.header.bound as usize);
-    let Ok(types) = declared_types(alloc, insts, &definitions, places) else {
-        return Err(Stop::Memory);
-    };
-    Ok(Types { types })
+    Ok(Types {
+        definitions: Definitions::new(insts, plan, ids),
+    })
 }

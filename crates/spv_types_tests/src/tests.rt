@@ -7,7 +7,7 @@ use spv_inst::{Fault, Rule, Stop, decode};
 use spv_layout::laws::word_counts;
 use spv_layout::lay_out;
 use spv_roles::roles_check;
-use spv_types::{Types, type_check};
+use spv_types::type_check;
 use spv_words::{FromRead, Image, read_image};
 use std::alloc::Global;
 use std::test::Fail;
@@ -103,14 +103,26 @@ fn image(alloc: Global, lines: &[&[u32]]) -> Result<Image, Fail> {
     Ok(image)
 }
 
-/// The types of an image's ids.
-fn typed(alloc: Global, table: &Table, image: &Image) -> Result<Types, Stop> {
+/// The types of some of an image's ids.
+fn typed(
+    alloc: Global,
+    table: &Table,
+    image: &Image,
+    asked: &[u32],
+) -> Result<Vec<Option<u32>>, Stop> {
     word_counts();
     let _words = image.len();
     let module = decode(alloc, table, image)?;
     let plan = lay_out(alloc, table, &module)?;
     let ids = number(alloc, &module, &plan)?;
-    type_check(alloc, table, &module, &plan, &ids)
+    let types = type_check(alloc, table, &module, &plan, &ids)?;
+    let mut told = Vec::new(alloc);
+    for id in asked {
+        let Ok(()) = told.push(types.of(*id)) else {
+            return Err(Stop::Memory);
+        };
+    }
+    Ok(told)
 }
 
 /// Whether the uses of an image are in their roles.
@@ -126,16 +138,20 @@ fn cast(alloc: Global, table: &Table, image: &Image) -> Result<(), Stop> {
     }
 }
 
-/// The types of some instructions.
-fn types(alloc: Global, lines: &[&[u32]]) -> Result<Result<Types, Stop>, Fail> {
+/// The types of some ids of some instructions.
+fn types(
+    alloc: Global,
+    lines: &[&[u32]],
+    asked: &[u32],
+) -> Result<Result<Vec<Option<u32>>, Stop>, Fail> {
     let table = Table::from_slice(alloc, GRAMMAR.as_bytes())?;
     let image = image(alloc, lines)?;
-    Ok(typed(alloc, &table, &image))
+    Ok(typed(alloc, &table, &image, asked))
 }
 
 /// The fault of some instructions, if they have one.
 fn fault(alloc: Global, lines: &[&[u32]]) -> Result<Option<(Rule, u32, u32)>, Fail> {
-    match types(alloc, lines)? {
+    match types(alloc, lines, &[])? {
         Ok(_) => Ok(None),
         Err(Stop::Fault(Fault { rule, inst, word })) => Ok(Some((rule, inst, word))),
         Err(Stop::Memory) => Err(Fail::from("out of memory")),
@@ -183,22 +199,20 @@ fn sound_module(rt: HostRuntime) -> Result<(), Fail> {
         RETURN_VALUE,
         FUNCTION_END,
     ];
-    match types(rt.alloc(), &lines)? {
-        Ok(types) => {
-            for (id, wanted) in [
-                (1, None),
-                (3, None),
-                (4, Some(2)),
-                (5, Some(2)),
-                (6, Some(2)),
-                (7, None),
-                (8, Some(2)),
-                (0, None),
-                (4_000_000_000, None),
-            ] {
-                assert_eq!(rt; types.of(id), wanted, "type of {id}");
-            }
-        }
+    let asked = [1, 3, 4, 5, 6, 7, 8, 0, 4_000_000_000];
+    let wanted: &[Option<u32>] = &[
+        None,
+        None,
+        Some(2),
+        Some(2),
+        Some(2),
+        None,
+        Some(2),
+        None,
+        None,
+    ];
+    match types(rt.alloc(), &lines, &asked)? {
+        Ok(types) => assert_eq!(rt; types.as_slice(), wanted, "types of ids"),
         Err(_) => assert!(rt; false, "sound module"),
     }
     let table = Table::from_slice(rt.alloc(), GRAMMAR.as_bytes())?;

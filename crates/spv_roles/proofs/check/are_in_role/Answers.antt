@@ -1,17 +1,15 @@
-use Rattle.std.proofs.Common.{◌≡◌, length, ap, subst, arith}
-use Rattle.spv_inst.specs.Module.{plain_inst}
-use Rattle.spv_roles.specs.Known.{AreInRoleBefore}
-use Rattle.spv_roles.proofs.Casting.{one_before}
+use Rattle.std.proofs.Common.{◌∙◌, length, sym, subst, MatchBool}
+use Rattle.spv_inst.specs.Module.{plain_inst, plain_operands}
+use Rattle.spv_roles.specs.Asked.{ArePlayed, IsOneMiscast}
+use Rattle.spv_roles.proofs.Asking.{judged}
 use Rattle.spv_roles.proofs.check.are_in_role.Goals as goal
 
-pub loop-k-preserved : goal.loop-k-preserved
-loop-k-preserved c = λ G f.
-    one_before G c.args.definitions.now (plain_inst c.args.inst.now) c.loop-k.k (c.if-not-is_in_role.ensures G f) (c.loop-k.invariant G f)
-
-pub returns : goal.returns
-returns c = λ G f.
-    let v = ap length c.as_slice-k-end.ensures.value in
-    let a = c.loop-k.auto.k-end in
-    let t = c.loop-k-test.false in
-    let e : c.loop-k.k ≡ length c.args.inst.now.operands = omega arith in
-    subst (λ m. AreInRoleBefore G c.args.definitions.now (plain_inst c.args.inst.now) m) e (c.loop-k.invariant G f)
+pub returns-in-Some : goal.returns-in-Some
+returns-in-Some c = λ G f.
+    let is = c.args.definitions.now in
+    let a = c.in-Some.asked in
+    let played =
+    subst (λ os. MatchBool c.are_played.result (ArePlayed is a.first a.others a.masked (plain_operands os)) (IsOneMiscast is a.first a.others a.masked (plain_operands os))) c.as_slice.ensures.value
+    c.are_played.ensures
+    in
+    judged G is (plain_inst c.args.inst.now) a (length c.args.inst.now.operands) c.are_played.result (sym c.asked_of.ensures ∙ c.in-Some.is) f played

@@ -3,7 +3,7 @@ use Rattle.std.specs.Prelude.{◌||◌}
 use Rattle.spv_inst.specs.Module.{plain_inst}
 use Rattle.spv_type_rules.specs.Function.{parameters_in}
 use Rattle.spv_type_rules.proofs.Counting.{step_counts, step_passes, item_front}
-use Rattle.spv_type_rules.proofs.function.count_parameters.Goals.{then-inst-eq55, else-inst-eq55}
+use Rattle.spv_type_rules.proofs.function.count_parameters.Goals.{then-inst-eq-PARAMETER, else-inst-eq-PARAMETER}
 use Rattle.spv_type_rules.proofs.function.count_parameters.Goals as goal
 
 pub loop-inst-preserved : goal.loop-inst-preserved
@@ -19,13 +19,13 @@ loop-inst-preserved c =
     let all = parameters_in (map plain_inst xs) in
     let rest = map plain_inst (drop (k + 1) xs) in
     let at : c.loop-inst.count + parameters_in (plain_inst x ∷ rest) ≡ all = ap (λ ys. c.loop-inst.count + parameters_in ys) (sym front) ∙ inv.counted in
-    elim c.if-inst-eq55.branch [
-      | then-inst-eq55 w ↦ record {
+    elim c.if-inst-eq-PARAMETER.branch [
+      | then-inst-eq-PARAMETER w ↦ record {
         most = let s = w.count-is in omega arith;
-        counted = rw w.count-is (step_counts (plain_inst x) rest c.loop-inst.count all e w.if-inst-eq55.true at);
+        counted = rw w.count-is (step_counts (plain_inst x) rest c.loop-inst.count all e w.if-inst-eq-PARAMETER.true at);
       }
-      | else-inst-eq55 w ↦ record {
+      | else-inst-eq-PARAMETER w ↦ record {
         most = let s = w.count-is in omega arith;
-        counted = rw w.count-is (step_passes (plain_inst x) rest c.loop-inst.count all e w.if-inst-eq55.false at);
+        counted = rw w.count-is (step_passes (plain_inst x) rest c.loop-inst.count all e w.if-inst-eq-PARAMETER.false at);
       }
     ]

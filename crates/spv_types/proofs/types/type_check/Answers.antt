@@ -85,25 +85,13 @@ returns-in-Ok-Some-clause-refused c =
     let g = fault_moved c.in-Ok.entries.table G is js r n (ap (λ s. s.table) c.in-Ok.ensures) v f in
     refusal_told G is r n c.stop_at.result (roles_unbroken G is (c.in_default.ensures.unbroken G c.requires.plan)) g (c.stop_at.ensures is c.requires.plan.place)
 
-pub new-definitions-requires-clause-plan : goal.new-definitions-requires-clause-plan
-new-definitions-requires-clause-plan c =
+pub new-requires-clause-plan : goal.new-requires-clause-plan
+new-requires-clause-plan c =
     (c.args.table.now, subst (λ ks. IsPlan c.args.table.now ks c.args.plan.now) (ap (λ items. map plain_inst items) (sym c.as_slice-insts.ensures.value)) c.requires.plan)
 
-pub new-definitions-requires-clause-ids : goal.new-definitions-requires-clause-ids
-new-definitions-requires-clause-ids c = λ x.
+pub new-requires-clause-ids : goal.new-requires-clause-ids
+new-requires-clause-ids c = λ x.
     subst (λ is. IsDefinitionOf is x (definition_in c.args.ids.now x)) (ap (λ items. map plain_inst items) (sym c.as_slice-insts.ensures.value)) (c.requires.ids x)
-
-pub overflow_mul-insts : goal.overflow_mul-insts
-overflow_mul-insts c =
-    let v = c.as_slice-insts.ensures.value in
-    let xs = c.as_slice-insts.result.now in
-    let s = short_list (map plain_inst xs) in
-    let l = length-map xs plain_inst in
-    let q : 5 + sum_by word_count (map plain_inst xs) ≤ 4194304 = rw v c.requires.words in
-    omega arith
-
-pub declared_types-requires : goal.declared_types-requires
-declared_types-requires c = c.new-definitions.ensures
 
 pub returns-clause-types : goal.returns-clause-types
 returns-clause-types c =
@@ -117,7 +105,7 @@ returns-clause-types c =
       roles = c.in_default.ensures.roles G c.requires.plan;
       capabilities = λ r n i at. (k.each r n i (slice_get_within is n i at) at).capabilities;
       rules = λ r n i at. (k.each r n i (slice_get_within is n i at) at).types;
-      each = λ x. c.in-Ok-declared_types.ensures x ∙ ap (λ ks. type_of ks x) v;
+      each = λ x. ap (λ ks. type_of ks x) (c.new.ensures ∙ v);
     }
 
 pub returns-clause-unbroken : goal.returns-clause-unbroken

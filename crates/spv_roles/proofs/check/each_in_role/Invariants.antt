@@ -2,7 +2,7 @@ use Rattle.spv_grammar.specs.Table.{Table}
 use Rattle.spv_inst.specs.Module.{plain_inst}
 use Rattle.spv_layout.specs.Shape.{Fits}
 use Rattle.spv_roles.specs.Known.{AreInRoleBefore}
-use Rattle.spv_roles.proofs.check.are_in_role.Given as goal
+use Rattle.spv_roles.proofs.check.each_in_role.Given as goal
 
 abbrev pub invariant-loop-k : goal.invariant-loop-k
 invariant-loop-k l = (G : Table) → Fits G (plain_inst l.inst) → AreInRoleBefore G l.definitions (plain_inst l.inst) l.k

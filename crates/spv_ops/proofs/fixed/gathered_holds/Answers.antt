@@ -3,7 +3,7 @@ use Rattle.spv_inst.specs.Module.{plain_operands}
 use Rattle.spv_ops.specs.Operands.{ids_in}
 use Rattle.spv_ops.specs.Calculation.{Calculates}
 use Rattle.spv_ops.proofs.Short.{short_calculation, too_long}
-use Rattle.spv_ops.proofs.fixed.calculation_holds.Goals as goal
+use Rattle.spv_ops.proofs.fixed.gathered_holds.Goals as goal
 use Rattle.spv_ops.specs.Values.{types_of}
 
 pub returns-in-None : goal.returns-in-None

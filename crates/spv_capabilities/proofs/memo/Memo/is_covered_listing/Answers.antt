@@ -3,7 +3,7 @@ use Rattle.std.specs.BTreeMap.{get}
 use Rattle.spv_capabilities.specs.Capable.{IsCoveredValue}
 use Rattle.spv_capabilities.specs.Known.{pair_cmp}
 use Rattle.spv_capabilities.proofs.Knowing.{pairs_more}
-use Rattle.spv_capabilities.proofs.memo.Memo.is_covered_value.Goals as goal
+use Rattle.spv_capabilities.proofs.memo.Memo.is_covered_listing.Goals as goal
 
 pub returns-in-Some-clause-answer : goal.returns-in-Some-clause-answer
 returns-in-Some-clause-answer c =
