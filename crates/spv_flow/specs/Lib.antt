@@ -1,9 +1,2 @@
-pub mod Target
-pub mod Walk
-pub mod Ready
-pub mod Broken
-pub mod Code
-pub mod Edges
-pub mod Graph
-pub mod Found
-pub mod Example
+pub mod Definitions
+pub mod Outcome

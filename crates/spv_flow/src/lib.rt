@@ -1,13 +1,9 @@
-//! The flow of a module: where branches lead, and what OpPhi names (SPIR-V Specification 1.6, sections 2.4 and 2.16).
+//! The flow of a module: where branches lead, values on every walk, and cycles of calls (SPIR-V Specification 1.6, sections 2.4
+//! and 2.16).
 #![tactic(auto)]
 
-mod code;
-mod edges;
-mod faults;
+mod counting;
 mod flow;
-mod gather;
-mod labels;
 pub mod laws;
-mod rules;
 
-pub use flow::check_branches;
+pub use flow::{Flow, flow_check};

@@ -1,11 +1,12 @@
-//! Small modules whose branches are sound or not, with answers that were worked out by hand.
+//! Small modules whose flow is sound or not, with answers that were worked out by hand.
 
-use spv_flow::check_branches;
+use spv_flow::{Flow, flow_check};
 use spv_grammar::Table;
 use spv_ids::number;
 use spv_inst::{Fault, Rule, Stop, decode};
 use spv_layout::laws::word_counts;
 use spv_layout::lay_out;
+use spv_types::type_check;
 use spv_words::{FromRead, Image, read_image};
 use std::alloc::Global;
 use std::test::Fail;
@@ -14,6 +15,9 @@ use std::test::Fail;
 const GRAMMAR: &str = r#"{
   "instructions": [
     {"opname": "OpMemoryModel", "opcode": 14, "operands": [{"kind": "AddressingModel"}, {"kind": "MemoryModel"}]},
+    {"opname": "OpEntryPoint", "opcode": 15, "operands": [{"kind": "ExecutionModel"}, {"kind": "IdRef"}, {"kind": "LiteralString"},
+      {"kind": "IdRef", "quantifier": "*"}]},
+    {"opname": "OpCapability", "opcode": 17, "operands": [{"kind": "Capability"}]},
     {"opname": "OpTypeVoid", "opcode": 19, "operands": [{"kind": "IdResult"}]},
     {"opname": "OpTypeBool", "opcode": 20, "operands": [{"kind": "IdResult"}]},
     {"opname": "OpTypeFunction", "opcode": 33, "operands": [{"kind": "IdResult"}, {"kind": "IdRef"}, {"kind": "IdRef", "quantifier": "*"}]},
@@ -21,31 +25,43 @@ const GRAMMAR: &str = r#"{
     {"opname": "OpFunction", "opcode": 54, "operands": [{"kind": "IdResultType"}, {"kind": "IdResult"},
       {"kind": "FunctionControl"}, {"kind": "IdRef"}]},
     {"opname": "OpFunctionEnd", "opcode": 56},
-    {"opname": "OpPhi", "opcode": 245, "operands": [{"kind": "IdResultType"}, {"kind": "IdResult"}, {"kind": "PairIdRefIdRef", "quantifier": "*"}]},
-    {"opname": "OpSelectionMerge", "opcode": 247, "operands": [{"kind": "IdRef"}, {"kind": "SelectionControl"}]},
+    {"opname": "OpFunctionCall", "opcode": 57, "operands": [{"kind": "IdResultType"}, {"kind": "IdResult"}, {"kind": "IdRef"},
+      {"kind": "IdRef", "quantifier": "*"}]},
+    {"opname": "OpLogicalNot", "opcode": 168, "operands": [{"kind": "IdResultType"}, {"kind": "IdResult"}, {"kind": "IdRef"}]},
     {"opname": "OpLabel", "opcode": 248, "operands": [{"kind": "IdResult"}]},
     {"opname": "OpBranch", "opcode": 249, "operands": [{"kind": "IdRef"}]},
-    {"opname": "OpBranchConditional", "opcode": 250, "operands": [{"kind": "IdRef"}, {"kind": "IdRef"}, {"kind": "IdRef"}, {"kind": "LiteralInteger", "quantifier": "*"}]},
+    {"opname": "OpBranchConditional", "opcode": 250, "operands": [{"kind": "IdRef"}, {"kind": "IdRef"}, {"kind": "IdRef"},
+      {"kind": "LiteralInteger", "quantifier": "*"}]},
     {"opname": "OpReturn", "opcode": 253}
   ],
   "operand_kinds": [
     {"category": "ValueEnum", "kind": "AddressingModel", "enumerants": [{"enumerant": "Physical64", "value": 2}]},
     {"category": "ValueEnum", "kind": "MemoryModel", "enumerants": [{"enumerant": "OpenCL", "value": 2}]},
+    {"category": "ValueEnum", "kind": "ExecutionModel", "enumerants": [{"enumerant": "Kernel", "value": 6}]},
+    {"category": "ValueEnum", "kind": "Capability", "enumerants": [{"enumerant": "Linkage", "value": 5}, {"enumerant": "Kernel", "value": 6}]},
     {"category": "BitEnum", "kind": "FunctionControl", "enumerants": []},
-    {"category": "BitEnum", "kind": "SelectionControl", "enumerants": []},
+    {"category": "Literal", "kind": "LiteralInteger"},
+    {"category": "Literal", "kind": "LiteralString"},
     {"category": "Id", "kind": "IdResultType"},
     {"category": "Id", "kind": "IdResult"},
-    {"category": "Id", "kind": "IdRef"},
-    {"category": "Literal", "kind": "LiteralInteger"},
-    {"category": "Composite", "kind": "PairIdRefIdRef", "bases": ["IdRef", "IdRef"]}
+    {"category": "Id", "kind": "IdRef"}
   ]
 }"#;
 
-/// Up to the function's OpFunction: %1 void, %2 bool, %3 a function type, %4 true, %5 the function.
+/// Up to the OpFunction: the capabilities Kernel and Linkage, the memory model, OpEntryPoint Kernel %5 "", %1 void, %2 bool,
+/// %3 a function type, %4 true, and the function %5, instruction 8.
 const BEGINNING: &[u32] = &[
+    0x0002_0011,
+    6,
+    0x0002_0011,
+    5,
     0x0003_000E,
     2,
     2,
+    0x0004_000F,
+    6,
+    5,
+    0,
     0x0002_0013,
     1,
     0x0002_0014,
@@ -63,31 +79,78 @@ const BEGINNING: &[u32] = &[
     3,
 ];
 
-/// %6 = OpLabel, the entry block's, instruction 6 at word 23.
+/// %6 = OpLabel, the entry block's: instruction 9 at word 31.
 const ENTRY: &[u32] = &[0x0002_00F8, 6];
-
-/// OpBranchConditional %4 %7 %8
-const CONDITIONAL: &[u32] = &[0x0004_00FA, 4, 7, 8];
-
-/// %7 = OpLabel
-const LEFT: &[u32] = &[0x0002_00F8, 7];
-
-/// OpBranch %8
-const BRANCH: &[u32] = &[0x0002_00F9, 8];
-
-/// %8 = OpLabel
-const LAST: &[u32] = &[0x0002_00F8, 8];
-
-/// %9 = OpPhi %2 %4 %6 %4 %7
-const PHI: &[u32] = &[0x0007_00F5, 2, 9, 4, 6, 4, 7];
 
 /// OpReturn, OpFunctionEnd
 const END: &[u32] = &[0x0001_00FD, 0x0001_0038];
 
+/// OpBranch %6
+const TO_ENTRY: &[u32] = &[0x0002_00F9, 6];
+
+/// %11 = OpFunctionCall %1 %20
+const CALL: &[u32] = &[0x0004_0039, 1, 11, 20];
+
+/// A use of %9 that one walk misses, at instruction 15 and word 47: OpBranchConditional %4 %7 %8, %7 = OpLabel,
+/// %9 = OpLogicalNot %2 %4, OpBranch %8, %8 = OpLabel, %10 = OpLogicalNot %2 %9
+const MISSED: &[u32] = &[
+    0x0004_00FA,
+    4,
+    7,
+    8,
+    0x0002_00F8,
+    7,
+    0x0004_00A8,
+    2,
+    9,
+    4,
+    0x0002_00F9,
+    8,
+    0x0002_00F8,
+    8,
+    0x0004_00A8,
+    2,
+    10,
+    9,
+];
+
+/// A second function: %20 = OpFunction %1 None %3, %21 = OpLabel, OpReturn, OpFunctionEnd
+const SECOND: &[u32] = &[
+    0x0005_0036,
+    1,
+    20,
+    0,
+    3,
+    0x0002_00F8,
+    21,
+    0x0001_00FD,
+    0x0001_0038,
+];
+
+/// The same with a call of itself after the label: %22 = OpFunctionCall %1 %20
+const ENDLESS: &[u32] = &[
+    0x0005_0036,
+    1,
+    20,
+    0,
+    3,
+    0x0002_00F8,
+    21,
+    0x0004_0039,
+    1,
+    22,
+    20,
+    0x0001_00FD,
+    0x0001_0038,
+];
+
+/// The beginning of a third function: %30 = OpFunction %1 None %3, %31 = OpLabel
+const THIRD: &[u32] = &[0x0005_0036, 1, 30, 0, 3, 0x0002_00F8, 31];
+
 /// The image of a header and some instructions.
 fn image(alloc: Global, lines: &[&[u32]]) -> Result<Image, Fail> {
     let mut bytes = Vec::new(alloc);
-    for word in [0x0723_0203u32, 0x0001_0600, 0, 10, 0] {
+    for word in [0x0723_0203u32, 0x0001_0600, 0, 100, 0] {
         bytes.extend_from_slice(&word.to_le_bytes())?;
     }
     for line in lines {
@@ -99,126 +162,61 @@ fn image(alloc: Global, lines: &[&[u32]]) -> Result<Image, Fail> {
     Ok(image)
 }
 
-/// Looks at the branches of an image.
-fn looked_at(alloc: Global, table: &Table, image: &Image) -> Result<(), Stop> {
+/// The flow of an image.
+fn flow_of(alloc: Global, table: &Table, image: &Image) -> Result<Flow, Stop> {
     word_counts();
     let _words = image.len();
     let module = decode(alloc, table, image)?;
     let plan = lay_out(alloc, table, &module)?;
     let ids = number(alloc, &module, &plan)?;
-    check_branches(alloc, &module, &plan, &ids)
+    let types = type_check(alloc, table, &module, &plan, &ids)?;
+    flow_check(alloc, &module, &plan, &ids, &types)
 }
 
-/// The fault that some lines after the beginning have.
-fn fault(alloc: Global, lines: &[&[u32]]) -> Result<Option<(Rule, u32, u32)>, Fail> {
+/// The number of function definitions of some lines after the beginning, or their fault.
+fn found(alloc: Global, lines: &[&[u32]]) -> Result<Result<u32, (Rule, u32, u32)>, Fail> {
     let table = Table::from_slice(alloc, GRAMMAR.as_bytes())?;
     let image = image(alloc, lines)?;
-    match looked_at(alloc, &table, &image) {
-        Ok(()) => Ok(None),
-        Err(Stop::Fault(Fault { rule, inst, word })) => Ok(Some((rule, inst, word))),
+    match flow_of(alloc, &table, &image) {
+        Ok(flow) => Ok(Ok(flow.definitions())),
+        Err(Stop::Fault(Fault { rule, inst, word })) => Ok(Err((rule, inst, word))),
         Err(Stop::Memory) => Err(Fail::from("out of memory")),
     }
 }
 
 #[test]
-fn sound_branches(rt: HostRuntime) -> Result<(), Fail> {
-    let found = fault(
-        rt.alloc(),
-        &[BEGINNING, ENTRY, CONDITIONAL, LEFT, BRANCH, LAST, PHI, END],
-    )?;
-    assert_eq!(rt; found, None);
+fn sound_flow(rt: HostRuntime) -> Result<(), Fail> {
+    let one = found(rt.alloc(), &[BEGINNING, ENTRY, END])?;
+    assert_eq!(rt; one, Ok(1));
+    let two = found(rt.alloc(), &[BEGINNING, ENTRY, END, SECOND])?;
+    assert_eq!(rt; two, Ok(2));
     Ok(())
 }
 
 #[test]
-fn labels(rt: HostRuntime) -> Result<(), Fail> {
-    let to_value: &[u32] = &[0x0002_00F9, 4];
-    let found = fault(
-        rt.alloc(),
-        &[
-            BEGINNING,
-            ENTRY,
-            CONDITIONAL,
-            LEFT,
-            to_value,
-            LAST,
-            PHI,
-            END,
-        ],
-    )?;
-    assert_eq!(rt; found, Some((Rule::F1, 9, 31)), "branch to a value");
-    let merge: &[u32] = &[0x0003_00F7, 4, 0];
-    let found = fault(
-        rt.alloc(),
-        &[
-            BEGINNING,
-            ENTRY,
-            merge,
-            CONDITIONAL,
-            LEFT,
-            BRANCH,
-            LAST,
-            PHI,
-            END,
-        ],
-    )?;
-    assert_eq!(rt; found, Some((Rule::F1, 7, 25)), "merge at a value");
-    let to_entry: &[u32] = &[0x0002_00F9, 6];
-    let found = fault(
-        rt.alloc(),
-        &[
-            BEGINNING,
-            ENTRY,
-            CONDITIONAL,
-            LEFT,
-            to_entry,
-            LAST,
-            PHI,
-            END,
-        ],
-    )?;
-    assert_eq!(rt; found, Some((Rule::F2, 9, 31)), "branch to the entry block");
-    let equal: &[u32] = &[0x0004_00FA, 4, 8, 8];
-    let found = fault(
-        rt.alloc(),
-        &[BEGINNING, ENTRY, equal, LEFT, BRANCH, LAST, PHI, END],
-    )?;
-    assert_eq!(rt; found, Some((Rule::F4, 7, 25)), "equal labels");
+fn faults(rt: HostRuntime) -> Result<(), Fail> {
+    let branch = found(rt.alloc(), &[BEGINNING, ENTRY, TO_ENTRY, &[0x0001_0038]])?;
+    assert_eq!(rt; branch, Err((Rule::F2, 10, 33)));
+    let value = found(rt.alloc(), &[BEGINNING, ENTRY, MISSED, END])?;
+    assert_eq!(rt; value, Err((Rule::A1, 15, 47)));
+    let call = found(rt.alloc(), &[BEGINNING, ENTRY, CALL, END, ENDLESS])?;
+    assert_eq!(rt; call, Err((Rule::G1, 15, 46)));
     Ok(())
 }
 
 #[test]
-fn parents(rt: HostRuntime) -> Result<(), Fail> {
-    let twice: &[u32] = &[0x0007_00F5, 2, 9, 4, 6, 4, 6];
-    let found = fault(
+fn order_of_stages(rt: HostRuntime) -> Result<(), Fail> {
+    // The use of the value, instruction 15, stands before the branch.
+    let branch = found(
         rt.alloc(),
-        &[
-            BEGINNING,
-            ENTRY,
-            CONDITIONAL,
-            LEFT,
-            BRANCH,
-            LAST,
-            twice,
-            END,
-        ],
+        &[BEGINNING, ENTRY, MISSED, TO_ENTRY, &[0x0001_0038]],
     )?;
-    assert_eq!(rt; found, Some((Rule::F3, 11, 35)), "one parent twice");
-    let one: &[u32] = &[0x0005_00F5, 2, 9, 4, 6];
-    let found = fault(
+    assert_eq!(rt; branch, Err((Rule::F2, 16, 51)));
+    // The call on a cycle, instruction 15, stands before the value.
+    let value = found(
         rt.alloc(),
-        &[BEGINNING, ENTRY, CONDITIONAL, LEFT, BRANCH, LAST, one, END],
+        &[BEGINNING, ENTRY, CALL, END, ENDLESS, THIRD, MISSED, END],
     )?;
-    assert_eq!(rt; found, Some((Rule::F3, 11, 35)), "a parent left out");
-    let own: &[u32] = &[0x0007_00F5, 2, 9, 4, 6, 4, 8];
-    let found = fault(
-        rt.alloc(),
-        &[BEGINNING, ENTRY, CONDITIONAL, LEFT, BRANCH, LAST, own, END],
-    )?;
-    assert_eq!(rt;
-        found,
-        Some((Rule::F3, 11, 35)),
-        "a parent that is no predecessor"
-    );
+    assert_eq!(rt; value, Err((Rule::A1, 25, 73)));
     Ok(())
 }

@@ -1,0 +1,189 @@
+-- Which of the rules F1 to F4 can be broken at an instruction, by its opcode.
+use Rattle.std.proofs.Common.{◌≡◌, ◌≤◌, ◌<◌, ◌∙◌, inl, inr, ℕ, List, [], ◌∷◌, ◌+◌, Bool, true, Option, Some, None, length, nat_eq, refl, sym, ap, subst, arith}
+use Rattle.std.specs.Prelude.{slice_get, IsSomeAnd, IsTrue, sum_by}
+use Rattle.std.proofs.lemmas.Bool.{eqb-true, cases_order}
+use Rattle.std.proofs.lemmas.Bool.Decides.{nat_tests}
+use Rattle.std.proofs.lemmas.Option.{slice_get_within}
+use Rattle.std.proofs.lemmas.List.Sums.{sum_by-cons}
+use Rattle.spv_grammar.specs.Table.{Table}
+use Rattle.spv_inst.specs.Operand.{PlainInst}
+use Rattle.spv_inst.specs.declared.fault.Rule.{Rule}
+use Rattle.spv_inst.specs.declared.fault.Rule.TheVariants.{F1, F2, F3, F4}
+use Rattle.spv_layout.specs.First.{stage_of, rank_of, IsFirst}
+use Rattle.spv_inst.specs.declared.fault.Stop.{Stop}
+use Rattle.spv_inst.specs.declared.fault.Stop.TheVariants.{Fault, Memory}
+use Rattle.spv_layout.specs.Place.{word_count, first_word_of}
+use Rattle.spv_ids.specs.Outcome.{IsStopAt}
+use Rattle.spv_branches.specs.Found.{IsRefusal}
+use Rattle.spv_branches.specs.Target.{is_phi, is_merge, is_branch, is_conditional, IsOp, HasParents}
+use Rattle.spv_branches.specs.Broken.{Broken}
+use Rattle.spv_branches.specs.Graph.{HasLabels, LacksLabel, LeadsToEntry, HasSameLabels, IsFirstAt}
+use Rattle.spv_branches.proofs.Labelled.{op_tells, op_holds}
+
+-- an instruction with an opcode is there
+pub record Holds (is : List PlainInst) (n : ℕ) (test : ℕ → Bool) : Type 0 where
+  pub inst : PlainInst
+  pub there : slice_get is n ≡ Some inst
+  pub holds : test inst.opcode ≡ true
+
+holds_by : (is : List PlainInst) (n : ℕ) (test : ℕ → Bool) (p : Option PlainInst) → slice_get is n ≡ p → IsSomeAnd p (λ i. IsTrue (test i.opcode)) → Holds is n test
+holds_by is n test None e h = absurd h
+holds_by is n test (Some i) e h = record { inst = i; there = e; holds = h }
+
+pub holds : (is : List PlainInst) (n : ℕ) (test : ℕ → Bool) → IsOp is n test → Holds is n test
+holds is n test o = holds_by is n test (slice_get is n) refl o
+
+-- two tests of one opcode
+pub both_hold : (is : List PlainInst) (n : ℕ) (one two : ℕ → Bool) → IsOp is n one → IsOp is n two → (x : ℕ) × (one x ≡ true) × (two x ≡ true)
+both_hold is n one two o p = let h = holds is n one o in (h.inst.opcode, h.holds, op_tells is n h.inst two h.there p)
+
+-- a test of a known opcode
+pub known : (is : List PlainInst) (n k : ℕ) (test : ℕ → Bool) → IsOp is n (λ x. nat_eq x k) → IsOp is n test → test k ≡ true
+known is n k test o p =
+    let h = both_hold is n (λ x. nat_eq x k) test o p in
+    subst (λ (x : ℕ). test x ≡ true) (eqb-true h.0 k h.1) h.2
+
+branch_no_merge : (x : ℕ) → is_merge x ≡ true → is_branch x ≡ true → ⊥
+branch_no_merge x m b = grind (arith, nat_tests)
+
+pub merge_apart : (is : List PlainInst) (n : ℕ) → IsOp is n is_merge → IsOp is n is_branch → ⊥
+merge_apart is n m b = let h = both_hold is n is_merge is_branch m b in branch_no_merge h.0 h.1 h.2
+
+-- an instruction at which a rule is broken is there
+pub broken_within : (G : Table) (is : List PlainInst) (q : Rule) (n : ℕ) → stage_of q ≡ 6 → Broken G is q n → n < length is
+broken_within G is _ _ s (Broken.no_label n k x op used none) = slice_get_within is n used.inst used.there
+broken_within G is _ _ s (Broken.to_entry n x m target d e) = slice_get_within is n target.used.inst target.used.there
+broken_within G is _ _ s (Broken.parents n phi not) = (let h = holds is n is_phi phi in slice_get_within is n h.inst h.there)
+broken_within G is _ _ s (Broken.same_labels n x op u w) = slice_get_within is n u.inst u.there
+broken_within G is _ _ s (Broken.missing n m) = absurd (cc)
+broken_within G is _ _ s (Broken.pair_missing n m) = absurd (cc)
+
+pub at_phi : (G : Table) (is : List PlainInst) (q : Rule) (n : ℕ) → IsOp is n is_phi → stage_of q ≡ 6 → Broken G is q n → (q ≡ F3) × ¬ (HasParents G is n)
+at_phi G is _ _ phi s (Broken.no_label n k x (inl b) used none) = absurd (let h : is_branch 245 ≡ true = known is n 245 is_branch phi b in cc)
+at_phi G is _ _ phi s (Broken.no_label n k x (inr m) used none) = absurd (let h : is_merge 245 ≡ true = known is n 245 is_merge phi m in cc)
+at_phi G is _ _ phi s (Broken.to_entry n x m target d e) = absurd (let h : is_branch 245 ≡ true = known is n 245 is_branch phi target.branch in cc)
+at_phi G is _ _ phi s (Broken.parents n p not) = (refl, not)
+at_phi G is _ _ phi s (Broken.same_labels n x op u w) = absurd (let h : is_conditional 245 ≡ true = known is n 245 is_conditional phi op in cc)
+at_phi G is _ _ phi s (Broken.missing n m) = absurd (cc)
+at_phi G is _ _ phi s (Broken.pair_missing n m) = absurd (cc)
+
+pub at_merge : (G : Table) (is : List PlainInst) (q : Rule) (n : ℕ) → IsOp is n is_merge → stage_of q ≡ 6 → Broken G is q n → (q ≡ F1) × LacksLabel G is n
+at_merge G is _ _ merge s (Broken.no_label n k x op used none) = (refl, record { operand = k; id = x; used = used; none = none })
+at_merge G is _ _ merge s (Broken.to_entry n x m target d e) = absurd (merge_apart is n merge target.branch)
+at_merge G is _ _ merge s (Broken.parents n p not) = absurd (let h : is_merge 245 ≡ true = known is n 245 is_merge p merge in cc)
+at_merge G is _ _ merge s (Broken.same_labels n x op u w) = absurd (let h : is_merge 250 ≡ true = known is n 250 is_merge op merge in cc)
+at_merge G is _ _ merge s (Broken.missing n m) = absurd (cc)
+at_merge G is _ _ merge s (Broken.pair_missing n m) = absurd (cc)
+
+-- What can be broken at a branch.
+pub data AtBranch (G : Table) (is : List PlainInst) (n : ℕ) : Rule → Type 0 where
+  lacks : LacksLabel G is n → AtBranch G is n F1
+  entry : LeadsToEntry G is n → AtBranch G is n F2
+  same : IsOp is n is_conditional → HasSameLabels G is n → AtBranch G is n F4
+
+pub at_branch : (G : Table) (is : List PlainInst) (q : Rule) (n : ℕ) → IsOp is n is_branch → stage_of q ≡ 6 → Broken G is q n → AtBranch G is n q
+at_branch G is _ _ branch s (Broken.no_label n k x op used none) = lacks (record { operand = k; id = x; used = used; none = none })
+at_branch G is _ _ branch s (Broken.to_entry n x m target d e) = entry (record { operand = target.operand; id = x; used = target.used; place = m; defined = d; entry = e })
+at_branch G is _ _ branch s (Broken.parents n p not) = absurd (let h : is_branch 245 ≡ true = known is n 245 is_branch p branch in cc)
+at_branch G is _ _ branch s (Broken.same_labels n x op u w) = same op (record { id = x; one = u; two = w })
+at_branch G is _ _ branch s (Broken.missing n m) = absurd (cc)
+at_branch G is _ _ branch s (Broken.pair_missing n m) = absurd (cc)
+
+conditional_branches : (is : List PlainInst) (n : ℕ) → IsOp is n is_conditional → IsOp is n is_branch
+conditional_branches is n op =
+    let h = holds is n is_conditional op in
+    let e : h.inst.opcode ≡ 250 = eqb-true h.inst.opcode 250 h.holds in
+    op_holds is n h.inst is_branch h.there (ap is_branch e)
+
+pub at_other : (G : Table) (is : List PlainInst) (q : Rule) (n : ℕ) → ¬ (IsOp is n is_phi) → ¬ (IsOp is n is_merge) → ¬ (IsOp is n is_branch) → stage_of q ≡ 6 → ¬ (Broken G is q n)
+at_other G is _ _ not_phi not_merge not_branch s (Broken.no_label n k x (inl b) used none) = not_branch b
+at_other G is _ _ not_phi not_merge not_branch s (Broken.no_label n k x (inr m) used none) = not_merge m
+at_other G is _ _ not_phi not_merge not_branch s (Broken.to_entry n x m target d e) = not_branch target.branch
+at_other G is _ _ not_phi not_merge not_branch s (Broken.parents n p not) = not_phi p
+at_other G is _ _ not_phi not_merge not_branch s (Broken.same_labels n x op u w) = not_branch (conditional_branches is n op)
+at_other G is _ _ not_phi not_merge not_branch s (Broken.missing n m) = absurd (cc)
+at_other G is _ _ not_phi not_merge not_branch s (Broken.pair_missing n m) = absurd (cc)
+
+labelled : (G : Table) (is : List PlainInst) (n : ℕ) → HasLabels G is n → ¬ (LacksLabel G is n)
+labelled G is n has l = let h = has l.operand l.id l.used in l.none h.0 h.1
+
+-- The first rule, by what was found.
+pub phi_broken : (G : Table) (is : List PlainInst) (n : ℕ) → IsOp is n is_phi → ¬ (HasParents G is n) → IsFirstAt G is n (Some F3)
+phi_broken G is n phi not = (refl, Broken.parents n phi not, λ q s b. let e = (at_phi G is q n phi s b).0 in subst (λ (r : Rule). rank_of F3 ≤ rank_of r) (sym e) (omega arith))
+
+pub phi_fine : (G : Table) (is : List PlainInst) (n : ℕ) → IsOp is n is_phi → HasParents G is n → IsFirstAt G is n None
+phi_fine G is n phi has = λ q s b. (at_phi G is q n phi s b).1 has
+
+pub merge_broken : (G : Table) (is : List PlainInst) (n : ℕ) → IsOp is n is_merge → LacksLabel G is n → IsFirstAt G is n (Some F1)
+merge_broken G is n merge l = (
+  refl,
+  Broken.no_label n l.operand l.id (inr merge) l.used l.none,
+  λ q s b. let e = (at_merge G is q n merge s b).0 in subst (λ (r : Rule). rank_of F1 ≤ rank_of r) (sym e) (omega arith),
+)
+
+pub merge_fine : (G : Table) (is : List PlainInst) (n : ℕ) → IsOp is n is_merge → HasLabels G is n → IsFirstAt G is n None
+merge_fine G is n merge has = λ q s b. labelled G is n has (at_merge G is q n merge s b).1
+
+-- at a branch F1 comes first
+first_of_branch : (G : Table) (is : List PlainInst) (n : ℕ) (q : Rule) → AtBranch G is n q → rank_of F1 ≤ rank_of q
+first_of_branch G is n _ (lacks l) = omega arith
+first_of_branch G is n _ (entry e) = omega arith
+first_of_branch G is n _ (same op h) = omega arith
+
+second_of_branch : (G : Table) (is : List PlainInst) (n : ℕ) (q : Rule) → HasLabels G is n → AtBranch G is n q → rank_of F2 ≤ rank_of q
+second_of_branch G is n _ has (lacks l) = absurd (labelled G is n has l)
+second_of_branch G is n _ has (entry e) = omega arith
+second_of_branch G is n _ has (same op h) = omega arith
+
+last_of_branch : (G : Table) (is : List PlainInst) (n : ℕ) (q : Rule) → HasLabels G is n → ¬ (LeadsToEntry G is n) → AtBranch G is n q → rank_of F4 ≤ rank_of q
+last_of_branch G is n _ has free (lacks l) = absurd (labelled G is n has l)
+last_of_branch G is n _ has free (entry e) = absurd (free e)
+last_of_branch G is n _ has free (same op h) = omega arith
+
+none_of_branch : (G : Table) (is : List PlainInst) (n : ℕ) (q : Rule) → HasLabels G is n → ¬ (LeadsToEntry G is n) → (IsOp is n is_conditional → ¬ (HasSameLabels G is n)) → AtBranch G is n q → ⊥
+none_of_branch G is n _ has free apart (lacks l) = labelled G is n has l
+none_of_branch G is n _ has free apart (entry e) = free e
+none_of_branch G is n _ has free apart (same op h) = apart op h
+
+pub branch_lacks : (G : Table) (is : List PlainInst) (n : ℕ) → IsOp is n is_branch → LacksLabel G is n → IsFirstAt G is n (Some F1)
+branch_lacks G is n branch l = (refl, Broken.no_label n l.operand l.id (inl branch) l.used l.none, λ q s b. first_of_branch G is n q (at_branch G is q n branch s b))
+
+pub branch_enters : (G : Table) (is : List PlainInst) (n : ℕ) → IsOp is n is_branch → HasLabels G is n → LeadsToEntry G is n → IsFirstAt G is n (Some F2)
+branch_enters G is n branch has e = (
+  refl,
+  Broken.to_entry n e.id e.place (record { branch = branch; operand = e.operand; used = e.used }) e.defined e.entry,
+  λ q s b. second_of_branch G is n q has (at_branch G is q n branch s b),
+)
+
+pub branch_same : (G : Table) (is : List PlainInst) (n : ℕ) → IsOp is n is_branch → IsOp is n is_conditional → HasLabels G is n → ¬ (LeadsToEntry G is n) → HasSameLabels G is n → IsFirstAt G is n (Some F4)
+branch_same G is n branch op has free h = (refl, Broken.same_labels n h.id op h.one h.two, λ q s b. last_of_branch G is n q has free (at_branch G is q n branch s b))
+
+pub branch_fine : (G : Table) (is : List PlainInst) (n : ℕ) → IsOp is n is_branch → HasLabels G is n → ¬ (LeadsToEntry G is n) → (IsOp is n is_conditional → ¬ (HasSameLabels G is n)) → IsFirstAt G is n None
+branch_fine G is n branch has free apart = λ q s b. none_of_branch G is n q has free apart (at_branch G is q n branch s b)
+
+-- The first instruction at which a rule is broken.
+pub first_found : (G : Table) (is : List PlainInst) (r : Rule) (n : ℕ) → ((q : Rule) (m : ℕ) → m < n → stage_of q ≡ 6 → ¬ (Broken G is q m)) → stage_of r ≡ 6 → Broken G is r n
+    → ((q : Rule) → stage_of q ≡ 6 → Broken G is q n → rank_of r ≤ rank_of q) → IsFirst (Broken G is) 6 r n
+first_found G is r n before stage broken least = record {
+  of_stage = stage;
+  broken = broken;
+  least = λ q m s b. elim (cases_order n m) [
+    | inl here ↦ inr (here, least q s (subst (λ (k : ℕ). Broken G is q k) (sym here) b))
+    | inr apart ↦ elim apart [ inl less ↦ inl less | inr more ↦ absurd (before q m more s b) ]
+  ];
+}
+
+-- the fault that is told
+pub refusal_told : (G : Table) (is : List PlainInst) (r : Rule) (n : ℕ) (stop : Stop) → IsFirst (Broken G is) 6 r n → IsStopAt is r n stop → IsRefusal G is stop
+refusal_told G is r n Memory first h = absurd h
+refusal_told G is r n (Fault f) first (e, at, word) =
+    let one : IsFirst (Broken G is) 6 f.rule n = subst (λ (q : Rule). IsFirst (Broken G is) 6 q n) (sym e) first in
+    (subst (λ (m : ℕ). IsFirst (Broken G is) 6 f.rule m) (sym at) one, word ∙ ap (first_word_of is) (sym at))
+
+-- each instruction has a word at least
+pub few_insts : (is : List PlainInst) → length is ≤ sum_by word_count is
+few_insts [] = omega arith
+few_insts (i ∷ is) =
+    let h = few_insts is in
+    let e : sum_by word_count (i ∷ is) ≡ word_count i + sum_by word_count is = sum_by-cons word_count i is in
+    omega arith

@@ -1,0 +1,16 @@
+use Rattle.std.proofs.Common.{arith}
+use Rattle.std.proofs.lemmas.List.{length-map}
+use Rattle.spv_inst.specs.Module.{plain_inst}
+use Rattle.spv_branches.specs.Code.{insts_of}
+use Rattle.spv_branches.proofs.Firsts.{broken_within, first_found}
+use Rattle.spv_branches.proofs.branches.first_fault.Goals as goal
+
+pub returns-in-Some : goal.returns-in-Some
+returns-in-Some c = λ G is.
+    let h = c.in-Some.ensures.rule G is in
+    first_found G (insts_of c.args.code.now) c.in-Some.rule c.loop-at.at (c.loop-at.invariant.unbroken G is) h.0 h.1 h.2
+
+pub returns : goal.returns
+returns c = λ G is q n s b.
+    let within = broken_within G (insts_of c.args.code.now) q n s b in
+    c.loop-at.invariant.unbroken G is q n (omega (arith, within, length-map c.args.code.now.insts.now plain_inst)) s b

@@ -1,0 +1,35 @@
+use Rattle.std.proofs.Common.{◌≡◌, Some, get_or, ap}
+use Rattle.std.specs.Prelude.{slice_get}
+use Rattle.std.proofs.lemmas.Bool.{eqb-true}
+use Rattle.spv_inst.specs.Operand.{PlainInst}
+use Rattle.spv_inst.specs.Module.{plain_inst}
+use Rattle.spv_branches.specs.Code.{insts_of}
+use Rattle.spv_branches.specs.Target.{is_conditional, IsOp}
+use Rattle.spv_branches.proofs.Labelled.{inst_get, op_holds, op_tells}
+use Rattle.spv_branches.proofs.Firsts.{branch_lacks, branch_enters, branch_same, branch_fine}
+use Rattle.spv_branches.proofs.rules.branch_rule.Goals as goal
+
+pub returns-then-not-has_labels : goal.returns-then-not-has_labels
+returns-then-not-has_labels c = λ G is op. branch_lacks G (insts_of c.args.code.now) c.args.at op (c.if-not-has_labels.ensures G is)
+
+pub returns-then-leads_to_entry : goal.returns-then-leads_to_entry
+returns-then-leads_to_entry c = λ G is op. branch_enters G (insts_of c.args.code.now) c.args.at op (c.if-not-has_labels.ensures G is) (c.if-leads_to_entry.ensures G is)
+
+pub returns-then-has_same_labels : goal.returns-then-has_same_labels
+returns-then-has_same_labels c = λ G is op.
+    let code = c.args.code.now in
+    let i : PlainInst = plain_inst (get_or code.insts.now c.args.at c.index-code-at.result) in
+    let there : slice_get (insts_of code) c.args.at ≡ Some i = inst_get code.insts.now c.args.at c.index-code-at.result c.requires.at in
+    let conditional : IsOp (insts_of code) c.args.at is_conditional = op_holds (insts_of code) c.args.at i is_conditional there (ap is_conditional c.if-code-at-eq-BRANCH_CONDITIONAL.true) in
+    branch_same G (insts_of code) c.args.at op conditional (c.if-not-has_labels.ensures G is) (c.if-leads_to_entry.ensures G is) (c.if-has_same_labels.ensures G is)
+
+pub returns-else-has_same_labels : goal.returns-else-has_same_labels
+returns-else-has_same_labels c = λ G is op. branch_fine G (insts_of c.args.code.now) c.args.at op (c.if-not-has_labels.ensures G is) (c.if-leads_to_entry.ensures G is) (λ o. c.if-has_same_labels.ensures G is)
+
+pub returns-else-code-at-eq-BRANCH_CONDITIONAL : goal.returns-else-code-at-eq-BRANCH_CONDITIONAL
+returns-else-code-at-eq-BRANCH_CONDITIONAL c = λ G is op.
+    let code = c.args.code.now in
+    let i : PlainInst = plain_inst (get_or code.insts.now c.args.at c.index-code-at.result) in
+    let there : slice_get (insts_of code) c.args.at ≡ Some i = inst_get code.insts.now c.args.at c.index-code-at.result c.requires.at in
+    branch_fine G (insts_of code) c.args.at op (c.if-not-has_labels.ensures G is) (c.if-leads_to_entry.ensures G is)
+    (λ o h. c.if-code-at-eq-BRANCH_CONDITIONAL.false (eqb-true i.opcode 250 (op_tells (insts_of code) c.args.at i is_conditional there o)))

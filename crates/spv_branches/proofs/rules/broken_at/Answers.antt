@@ -1,0 +1,47 @@
+use Rattle.std.proofs.Common.{◌≡◌, ◌∙◌, Some, get_or, sym, ap}
+use Rattle.std.specs.Prelude.{slice_get}
+use Rattle.std.proofs.lemmas.Bool.{eqb-true, both_ways}
+use Rattle.spv_inst.specs.Operand.{PlainInst}
+use Rattle.spv_inst.specs.Module.{plain_inst}
+use Rattle.spv_branches.specs.Code.{insts_of}
+use Rattle.spv_branches.specs.Target.{is_phi, is_merge, is_branch}
+use Rattle.spv_branches.proofs.Labelled.{inst_get, op_holds, op_tells}
+use Rattle.spv_branches.proofs.Firsts.{phi_broken, phi_fine, at_other}
+use Rattle.spv_branches.proofs.rules.broken_at.Goals as goal
+
+pub returns-then-has_parents-clause-rule : goal.returns-then-has_parents-clause-rule
+returns-then-has_parents-clause-rule c = λ G is.
+    let code = c.args.code.now in
+    let i : PlainInst = plain_inst (get_or code.insts.now c.args.at c.index-code-at.result) in
+    let there : slice_get (insts_of code) c.args.at ≡ Some i = inst_get code.insts.now c.args.at c.index-code-at.result c.requires.at in
+    phi_fine G (insts_of code) c.args.at (op_holds (insts_of code) c.args.at i is_phi there (ap is_phi c.if-opcode-eq-PHI.true)) (c.if-has_parents.ensures.parents G is)
+
+pub returns-then-opcode-eq-PHI-clause-rule : goal.returns-then-opcode-eq-PHI-clause-rule
+returns-then-opcode-eq-PHI-clause-rule c = λ G is.
+    let code = c.args.code.now in
+    let i : PlainInst = plain_inst (get_or code.insts.now c.args.at c.index-code-at.result) in
+    let there : slice_get (insts_of code) c.args.at ≡ Some i = inst_get code.insts.now c.args.at c.index-code-at.result c.requires.at in
+    phi_broken G (insts_of code) c.args.at (op_holds (insts_of code) c.args.at i is_phi there (ap is_phi c.if-opcode-eq-PHI.true)) (c.if-has_parents.ensures.parents G is)
+
+pub returns-then-is_merge-clause-rule : goal.returns-then-is_merge-clause-rule
+returns-then-is_merge-clause-rule c = λ G is.
+    let code = c.args.code.now in
+    let i : PlainInst = plain_inst (get_or code.insts.now c.args.at c.index-code-at.result) in
+    let there : slice_get (insts_of code) c.args.at ≡ Some i = inst_get code.insts.now c.args.at c.index-code-at.result c.requires.at in
+    c.merge_rule.ensures G is (op_holds (insts_of code) c.args.at i is_merge there (sym c.is_merge.ensures ∙ c.if-is_merge.true))
+
+pub returns-then-is_branch-clause-rule : goal.returns-then-is_branch-clause-rule
+returns-then-is_branch-clause-rule c = λ G is.
+    let code = c.args.code.now in
+    let i : PlainInst = plain_inst (get_or code.insts.now c.args.at c.index-code-at.result) in
+    let there : slice_get (insts_of code) c.args.at ≡ Some i = inst_get code.insts.now c.args.at c.index-code-at.result c.requires.at in
+    c.branch_rule.ensures G is (op_holds (insts_of code) c.args.at i is_branch there (sym c.is_branch.ensures ∙ c.if-is_branch.true))
+
+pub returns-clause-rule : goal.returns-clause-rule
+returns-clause-rule c = λ G is q s b.
+    let code = c.args.code.now in
+    let i : PlainInst = plain_inst (get_or code.insts.now c.args.at c.index-code-at.result) in
+    let there : slice_get (insts_of code) c.args.at ≡ Some i = inst_get code.insts.now c.args.at c.index-code-at.result c.requires.at in
+    at_other G (insts_of code) q c.args.at (λ o. c.if-opcode-eq-PHI.false (eqb-true i.opcode 245 (op_tells (insts_of code) c.args.at i is_phi there o)))
+    (λ o. both_ways c.is_merge.result c.if-is_merge.false (c.is_merge.ensures ∙ op_tells (insts_of code) c.args.at i is_merge there o))
+    (λ o. both_ways c.is_branch.result c.if-is_branch.false (c.is_branch.ensures ∙ op_tells (insts_of code) c.args.at i is_branch there o)) s b

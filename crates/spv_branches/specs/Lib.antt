@@ -1,0 +1,9 @@
+pub mod Target
+pub mod Walk
+pub mod Ready
+pub mod Broken
+pub mod Code
+pub mod Edges
+pub mod Graph
+pub mod Found
+pub mod Example

@@ -1,0 +1,69 @@
+-- Whether the values that an instruction uses are defined on every walk to it. [2.16, said by walks instead of dominators]
+use Rattle.std.specs.Prelude.{◌≡◌, ◌+◌, ℕ, List, Some, slice_get}
+use Rattle.spv_grammar.specs.Table.{Table}
+use Rattle.spv_inst.specs.Operand.{PlainInst, type_in}
+use Rattle.spv_layout.specs.declared.form.Role.{Role}
+use Rattle.spv_layout.specs.declared.form.Role.TheVariants.{Value, Label}
+use Rattle.spv_ids.specs.Definition.{IsDefinedAt, IsUsedAt, IsLocal}
+use Rattle.spv_branches.specs.Target.{is_phi, IsOp, IsLabelOf}
+use Rattle.spv_branches.specs.Walk.{IsWalk, IsResultAmong, IsLastLabel}
+
+-- The id is a local value: it is local to a function, and its definition has a `Type`.
+pub record IsLocalValue (is : List PlainInst) (x : ℕ) : Type 0 where
+  pub local : IsLocal is x
+  pub place : ℕ
+  pub defined : IsDefinedAt is x place
+  pub inst : PlainInst
+  pub there : slice_get is place ≡ Some inst
+  pub of_type : ℕ
+  pub typed : type_in inst.operands ≡ Some of_type
+
+-- On a walk to instruction n, no OpPhi, a local value that it uses is not the result of an earlier place.
+pub record IsMissing (G : Table) (is : List PlainInst) (n : ℕ) : Type 0 where
+  pub other : ¬ (IsOp is n is_phi)
+  pub function : ℕ
+  pub past : List ℕ
+  pub walk : IsWalk G is function past n
+  pub operand : ℕ
+  pub id : ℕ
+  pub role : Role
+  pub used : IsUsedAt G is n operand id role
+  pub local : IsLocalValue is id
+  pub undefined : ¬ (IsResultAmong is past id)
+
+-- Operands k and k + 1 of instruction n, an OpPhi, pair a value with the label of a parent.
+pub record IsPair (G : Table) (is : List PlainInst) (n value parent : ℕ) : Type 0 where
+  pub operand : ℕ
+  pub paired : IsUsedAt G is n operand value Value
+  pub id : ℕ
+  pub named : IsUsedAt G is n (operand + 1) id Label
+  pub label : IsLabelOf is id parent
+
+-- A walk to an OpPhi: its last OpLabel, that of the phi's block, the places before that, and the last OpLabel among these,
+-- that of the block that the walk came from.
+pub record ComesFrom (G : Table) (is : List PlainInst) (n parent : ℕ) (before : List ℕ) : Type 0 where
+  pub function : ℕ
+  pub past : List ℕ
+  pub walk : IsWalk G is function past n
+  pub block : ℕ
+  pub here : IsLastLabel is past block before
+  pub earlier : List ℕ
+  pub from : IsLastLabel is before parent earlier
+
+-- On a walk to instruction n, an OpPhi, the value paired with the block that the walk came from is local, and not the
+-- result of a place before the walk's last OpLabel.
+pub record IsPairMissing (G : Table) (is : List PlainInst) (n : ℕ) : Type 0 where
+  pub phi : IsOp is n is_phi
+  pub value : ℕ
+  pub parent : ℕ
+  pub before : List ℕ
+  pub pair : IsPair G is n value parent
+  pub comes : ComesFrom G is n parent before
+  pub local : IsLocalValue is value
+  pub undefined : ¬ (IsResultAmong is before value)
+
+-- On every walk to instruction n each local value that it uses is the result of an earlier place; or, at an OpPhi, the
+-- value paired with the block that the walk came from, if it is local, that of a place before the last OpLabel.
+pub record IsReady (G : Table) (is : List PlainInst) (n : ℕ) : Type 0 where
+  pub uses : ¬ (IsOp is n is_phi) → (f : ℕ) (past : List ℕ) (k x : ℕ) (r : Role) → IsWalk G is f past n → IsUsedAt G is n k x r → IsLocalValue is x → IsResultAmong is past x
+  pub pairs : IsOp is n is_phi → (value parent : ℕ) (before : List ℕ) → IsPair G is n value parent → ComesFrom G is n parent before → IsLocalValue is value → IsResultAmong is before value

@@ -1,0 +1,98 @@
+//! The first of the rules F1 to F4 that a module breaks.
+
+ghost use Rattle.std.specs.Prelude.{◌≡◌, ◌≤◌, ◌<◌, ◌+◌, ℕ, List, length, sum_by, IfOk, IfErr, MatchOption};
+ghost use Rattle.spv_grammar.specs.Table.{Table};
+ghost use Rattle.spv_inst.specs.Module.{plain_insts};
+ghost use Rattle.spv_inst.specs.Operand.{PlainInst};
+ghost use Rattle.spv_layout.specs.First.{IsFirst, IsUnbroken};
+ghost use Rattle.spv_layout.specs.Place.{word_count};
+ghost use Rattle.spv_layout.specs.Plan.{IsPlan};
+ghost use Rattle.spv_ids.specs.Outcome.{AreIds, IsStopAt};
+ghost use Rattle.spv_branches.specs.Code.{insts_of, IsCode};
+ghost use Rattle.spv_branches.specs.Broken.{Broken};
+ghost use Rattle.spv_branches.specs.Found.{IsRefusal};
+
+use crate::code::Code;
+use crate::gather::{entry_labels, gather};
+use crate::rules::broken_at;
+use spv_ids::Ids;
+use spv_inst::{Fault, Module, Rule, Stop};
+use spv_layout::Plan;
+use std::alloc::{AllocError, Global};
+
+/// A broken rule at an instruction.
+#[derive(Clone, Copy, Debug)]
+pub struct Found {
+    pub rule: Rule,
+    pub inst: u32,
+}
+
+/// The first of the rules F1 to F4 that is broken.
+fn first_fault(alloc: Global, code: &Code<'_, '_>) -> Result<Option<Found>, AllocError>
+    requires { (G : Table) × IsCode G code.now }
+    ensures { IfOk result (λ o. (G : Table) → IsCode G code.now → MatchOption o (IsUnbroken (Broken G (insts_of code.now)) 6) (λ f. IsFirst (Broken G (insts_of code.now)) 6 f.rule f.inst)) }
+{
+    let edges = gather(alloc, code)?;
+    let entries = entry_labels(alloc, code.insts)?;
+    let mut marks = vec![in alloc; false; code.insts.len()]?;
+    for at in 0..code.insts.len() {
+        if let Some(rule) = broken_at(code, &edges, &entries, &mut marks, at as u32) {
+            return Ok(Some(Found {
+                rule,
+                inst: at as u32,
+            }));
+        }
+    }
+    Ok(None)
+}
+
+/// The fault of a broken rule, at the first word of its instruction.
+fn stop_at(plan: &Plan, found: Found) -> Stop
+    requires { found.inst < length plan.now }
+    ensures { (G : Table) (is : List PlainInst) → IsPlan G is plan.now → IsStopAt is found.rule found.inst result }
+{
+    let Some(place) = plan.at(found.inst) else {
+        unreachable!();
+    };
+    Stop::Fault(Fault {
+        rule: found.rule,
+        inst: found.inst,
+        word: place.word,
+    })
+}
+
+/// Looks at the branches of a module: where they lead, and which parents each OpPhi names (SPIR-V Specification 1.6, sections
+/// 2.4 and 2.16). `plan` and `ids` are what `lay_out` and `number` answered of that module.
+///
+/// Time is linear in the words of the module. A block's predecessors are the blocks with a terminator that has the block's
+/// label as a target, each counted once.
+///
+/// A `Fault` tells the first rule that is broken, with its instruction and that instruction's first word (words and
+/// instructions from 0). At one instruction the first in this order is told:
+/// - F1: a label of a terminator or of a merge is no OpLabel (2.4).
+/// - F2: a target is the label of an entry block (2.4).
+/// - F3, at OpPhi: the parents are not the predecessors of its block, each exactly once (OpPhi).
+/// - F4: an OpBranchConditional has the same label twice (OpBranchConditional).
+///
+/// `Memory` comes only where a growth of memory was refused.
+pub fn check_branches(
+    alloc: Global,
+    module: &Module<'_>,
+    plan: &Plan,
+    ids: &Ids,
+) -> Result<(), Stop>
+    // The condition of `lay_out`, and that the plan and the ids are what was answered, by some table.
+    requires words { 5 + sum_by word_count (plain_insts «module».now) ≤ 4194304 }
+    requires known { (G : Table) × IsPlan G (plain_insts «module».now) plan.now × AreIds G «module».now.header.bound (plain_insts «module».now) ids.now }
+    ensures unbroken { (G : Table) → IsPlan G (plain_insts «module».now) plan.now → AreIds G «module».now.header.bound (plain_insts «module».now) ids.now
+        → IfOk result (λ _. IsUnbroken (Broken G (plain_insts «module».now)) 6) }
+    ensures refused { (G : Table) → IsPlan G (plain_insts «module».now) plan.now → AreIds G «module».now.header.bound (plain_insts «module».now) ids.now
+        → IfErr result (λ s. IsRefusal G (plain_insts «module».now) s) }
+{
+    let insts = module.insts.as_slice();
+    let code = Code { insts, plan, ids };
+    if let Some(found) = first_fault(alloc, &code)? {
+        return Err(stop_at(plan, found));
+    }
+    Ok(())
+}

@@ -1,0 +1,107 @@
+//! What the rules F1 to F4 ask of an instruction.
+
+ghost use Rattle.std.specs.Prelude.{◌≡◌, ◌<◌, ℕ, true, false, length, IsTrue, MatchBool};
+ghost use Rattle.spv_grammar.specs.Table.{Table};
+ghost use Rattle.spv_branches.specs.Code.{insts_of, IsCode};
+ghost use Rattle.spv_branches.specs.Edges.{IsEdges, marked};
+ghost use Rattle.spv_branches.specs.Graph.{AreGathered, AreEntries, CanTake, Takes, HasLabels, LacksLabel, LeadsToEntry, HasSameLabels};
+ghost use Rattle.spv_branches.specs.Target.{HasParents};
+
+use crate::code::Code;
+use crate::edges::Edges;
+use crate::labels::label;
+
+/// Takes the mark from each block that an OpPhi names. Whether each had one.
+fn take_parents(code: &Code<'_, '_>, marks: &mut [bool], at: u32) -> bool
+    requires marks { length marks.old ≡ length code.now.insts.now }
+    requires at { at < length code.now.insts.now }
+    ensures { (G : Table) → IsCode G code.now → MatchBool result (Takes G (insts_of code.now) at marks.old marks.new) (¬ (CanTake G (insts_of code.now) at marks.old)) }
+{
+    let inst = &code.insts[at as usize];
+    for n in 0..inst.operands.as_slice().len() {
+        if let Some(id) = label(inst, n) {
+            let Some(parent) = code.label_of(id) else {
+                return false;
+            };
+            if !marks[parent as usize] {
+                return false;
+            }
+            marks[parent as usize] = false;
+        }
+    }
+    true
+}
+
+/// Whether the parents of an OpPhi are the predecessors of its block, each exactly once. No block is marked before, and if
+/// they are, none after.
+pub fn has_parents(code: &Code<'_, '_>, edges: &Edges, marks: &mut [bool], at: u32) -> bool
+    requires code { (G : Table) × IsCode G code.now }
+    requires edges { IsEdges edges.now }
+    requires count { length edges.now.heads.items ≡ length code.now.insts.now }
+    requires gathered { (G : Table) → IsCode G code.now → AreGathered G (insts_of code.now) edges.now (length code.now.insts.now) }
+    requires marks { length marks.old ≡ length code.now.insts.now }
+    requires clean { (p : ℕ) → marked marks.old p ≡ false }
+    requires at { at < length code.now.insts.now }
+    ensures clean { IsTrue result → (p : ℕ) → marked marks.new p ≡ false }
+    ensures parents { (G : Table) → IsCode G code.now → MatchBool result (HasParents G (insts_of code.now) at) (¬ (HasParents G (insts_of code.now) at)) }
+{
+    let Some(block) = code.block_of(at) else {
+        return false;
+    };
+    edges.mark(block, marks);
+    if !take_parents(code, marks, at) {
+        return false;
+    }
+    !edges.has_marked(block, marks)
+}
+
+/// Whether each label of an instruction is of an OpLabel.
+pub fn has_labels(code: &Code<'_, '_>, at: u32) -> bool
+    requires { at < length code.now.insts.now }
+    ensures { (G : Table) → IsCode G code.now → MatchBool result (HasLabels G (insts_of code.now) at) (LacksLabel G (insts_of code.now) at) }
+{
+    let inst = &code.insts[at as usize];
+    for n in 0..inst.operands.as_slice().len() {
+        if let Some(id) = label(inst, n) {
+            if !code.has_label(id) {
+                return false;
+            }
+        }
+    }
+    true
+}
+
+/// Whether a label of an instruction is that of an entry block.
+pub fn leads_to_entry(code: &Code<'_, '_>, entries: &[bool], at: u32) -> bool
+    requires at { at < length code.now.insts.now }
+    requires count { length entries.now ≡ length code.now.insts.now }
+    requires entries { AreEntries (insts_of code.now) entries.now (length code.now.insts.now) }
+    ensures { (G : Table) → IsCode G code.now → MatchBool result (LeadsToEntry G (insts_of code.now) at) (¬ (LeadsToEntry G (insts_of code.now) at)) }
+{
+    let inst = &code.insts[at as usize];
+    for n in 0..inst.operands.as_slice().len() {
+        if let Some(id) = label(inst, n) {
+            if let Some(target) = code.label_of(id) {
+                if entries[target as usize] {
+                    return true;
+                }
+            }
+        }
+    }
+    false
+}
+
+/// Whether operands 1 and 2 of an instruction are the same label.
+pub fn has_same_labels(code: &Code<'_, '_>, at: u32) -> bool
+    requires { at < length code.now.insts.now }
+    ensures { (G : Table) → IsCode G code.now → MatchBool result (HasSameLabels G (insts_of code.now) at) (¬ (HasSameLabels G (insts_of code.now) at)) }
+{
+    let inst = &code.insts[at as usize];
+    let Some(one) = label(inst, 1) else {
+        return false;
+    };
+    let Some(two) = label(inst, 2) else {
+        return false;
+    };
+    one == two
+}

@@ -1,0 +1,95 @@
+//! The edges and the entry labels of a module.
+
+ghost use Rattle.std.specs.Prelude.{◌≡◌, ◌<◌, ◌≤◌, ◌+◌, ℕ, length, map, IfOk, OnOk};
+ghost use Rattle.spv_grammar.specs.Table.{Table};
+ghost use Rattle.spv_inst.specs.Module.{plain_inst};
+ghost use Rattle.spv_branches.specs.Code.{insts_of, IsCode};
+ghost use Rattle.spv_branches.specs.Edges.{IsEdges};
+ghost use Rattle.spv_branches.specs.Graph.{AddsTargets, AreGathered, AreEntries};
+ghost use Rattle.spv_branches.specs.Target.{IsOp};
+ghost use Rattle.spv_branches.specs.Target as target;
+ghost use Rattle.spv_layout.specs.Place.{IsOfBlock};
+
+use crate::code::{Code, FUNCTION, LABEL, is_branch};
+use crate::edges::Edges;
+use crate::labels::label;
+use spv_inst::Inst;
+use std::alloc::{AllocError, Global};
+
+/// Adds the edges of a branch that is of a block.
+fn add_targets(
+    code: &Code<'_, '_>,
+    edges: &mut Edges,
+    at: u32,
+    block: u32,
+) -> Result<(), AllocError>
+    requires edges { IsEdges edges.old }
+    requires count { length edges.old.heads.items ≡ length code.now.insts.now }
+    requires at { at < length code.now.insts.now }
+    requires block { block < length code.now.insts.now }
+    ensures edges { OnOk result (IsEdges edges.new) }
+    ensures count { OnOk result (length edges.new.heads.items ≡ length code.now.insts.now) }
+    ensures adds { OnOk result ((G : Table) → IsCode G code.now → IsOp (insts_of code.now) at target.is_branch → IsOfBlock (insts_of code.now) at block → AddsTargets G (insts_of code.now) edges.old edges.new at) }
+{
+    let inst = &code.insts[at as usize];
+    for n in 0..inst.operands.as_slice().len() {
+        if let Some(id) = label(inst, n) {
+            if let Some(target) = code.label_of(id) {
+                edges.add(block, target)?;
+            }
+        }
+    }
+    Ok(())
+}
+
+/// Adds the edges of an instruction.
+fn gather_at(code: &Code<'_, '_>, edges: &mut Edges, at: u32) -> Result<(), AllocError>
+    requires code { (G : Table) × IsCode G code.now }
+    requires edges { IsEdges edges.old }
+    requires count { length edges.old.heads.items ≡ length code.now.insts.now }
+    requires at { at < length code.now.insts.now }
+    ensures edges { OnOk result (IsEdges edges.new) }
+    ensures count { OnOk result (length edges.new.heads.items ≡ length code.now.insts.now) }
+    ensures adds { OnOk result ((G : Table) → IsCode G code.now → AddsTargets G (insts_of code.now) edges.old edges.new at) }
+{
+    if !is_branch(code.insts[at as usize].opcode) {
+        return Ok(());
+    }
+    match code.block_of(at) {
+        Some(block) => add_targets(code, edges, at, block),
+        None => Ok(()),
+    }
+}
+
+/// The edges of all instructions.
+pub fn gather(alloc: Global, code: &Code<'_, '_>) -> Result<Edges, AllocError>
+    requires { (G : Table) × IsCode G code.now }
+    ensures edges { IfOk result IsEdges }
+    ensures count { IfOk result (λ e. length e.heads.items ≡ length code.now.insts.now) }
+    ensures gathered { IfOk result (λ e. (G : Table) → IsCode G code.now → AreGathered G (insts_of code.now) e (length code.now.insts.now)) }
+{
+    let mut edges = Edges::new(alloc, code.insts.len())?;
+    for at in 0..code.insts.len() {
+        gather_at(code, &mut edges, at as u32)?;
+    }
+    Ok(edges)
+}
+
+/// Which instructions are labels of entry blocks.
+pub fn entry_labels(alloc: Global, insts: &[Inst<'_>]) -> Result<Vec<bool>, AllocError>
+    ensures count { IfOk result (λ v. length v.items ≡ length insts.now) }
+    ensures entries { IfOk result (λ v. AreEntries (map plain_inst insts.now) v.items (length insts.now)) }
+{
+    let mut entries = vec![in alloc; false; insts.len()]?;
+    let mut is_open = false;
+    for at in 0..insts.len() {
+        let opcode = insts[at].opcode;
+        if opcode == FUNCTION {
+            is_open = true;
+        } else if opcode == LABEL {
+            entries[at] = is_open;
+            is_open = false;
+        }
+    }
+    Ok(entries)
+}

@@ -1,0 +1,13 @@
+//! The flow of a module: where branches lead, and what OpPhi names (SPIR-V Specification 1.6, sections 2.4 and 2.16).
+#![tactic(auto)]
+
+mod branches;
+mod code;
+mod edges;
+mod faults;
+mod gather;
+mod labels;
+pub mod laws;
+mod rules;
+
+pub use branches::check_branches;

@@ -1,0 +1,83 @@
+//! Which of the rules F1 to F4 is broken first at an instruction.
+
+ghost use Rattle.std.specs.Prelude.{◌≡◌, ◌<◌, ℕ, false, length, IfNone};
+ghost use Rattle.spv_grammar.specs.Table.{Table};
+ghost use Rattle.spv_branches.specs.Code.{insts_of, IsCode};
+ghost use Rattle.spv_branches.specs.Edges.{IsEdges, marked};
+ghost use Rattle.spv_branches.specs.Graph.{AreGathered, AreEntries, IsFirstAt};
+ghost use Rattle.spv_branches.specs.Target.{IsOp};
+ghost use Rattle.spv_branches.specs.Target as target;
+
+use crate::code::{BRANCH_CONDITIONAL, Code, PHI, is_branch, is_merge};
+use crate::edges::Edges;
+use crate::faults::{has_labels, has_parents, has_same_labels, leads_to_entry};
+use spv_inst::Rule;
+
+/// The rule that is broken at a merge.
+fn merge_rule(code: &Code<'_, '_>, at: u32) -> Option<Rule>
+    requires { at < length code.now.insts.now }
+    ensures { (G : Table) → IsCode G code.now → IsOp (insts_of code.now) at target.is_merge → IsFirstAt G (insts_of code.now) at result }
+{
+    if has_labels(code, at) {
+        None
+    } else {
+        Some(Rule::F1)
+    }
+}
+
+/// The first rule that is broken at a terminator with labels.
+fn branch_rule(code: &Code<'_, '_>, entries: &[bool], at: u32) -> Option<Rule>
+    requires at { at < length code.now.insts.now }
+    requires count { length entries.now ≡ length code.now.insts.now }
+    requires entries { AreEntries (insts_of code.now) entries.now (length code.now.insts.now) }
+    ensures { (G : Table) → IsCode G code.now → IsOp (insts_of code.now) at target.is_branch → IsFirstAt G (insts_of code.now) at result }
+{
+    if !has_labels(code, at) {
+        return Some(Rule::F1);
+    }
+    if leads_to_entry(code, entries, at) {
+        return Some(Rule::F2);
+    }
+    if code.insts[at as usize].opcode == BRANCH_CONDITIONAL {
+        if has_same_labels(code, at) {
+            return Some(Rule::F4);
+        }
+    }
+    None
+}
+
+/// The first rule that is broken at an instruction. No block is marked before, and where none is broken, none after.
+pub fn broken_at(
+    code: &Code<'_, '_>,
+    edges: &Edges,
+    entries: &[bool],
+    marks: &mut [bool],
+    at: u32,
+) -> Option<Rule>
+    requires code { (G : Table) × IsCode G code.now }
+    requires edges { IsEdges edges.now }
+    requires count { length edges.now.heads.items ≡ length code.now.insts.now }
+    requires gathered { (G : Table) → IsCode G code.now → AreGathered G (insts_of code.now) edges.now (length code.now.insts.now) }
+    requires places { length entries.now ≡ length code.now.insts.now }
+    requires entries { AreEntries (insts_of code.now) entries.now (length code.now.insts.now) }
+    requires marks { length marks.old ≡ length code.now.insts.now }
+    requires clean { (p : ℕ) → marked marks.old p ≡ false }
+    requires at { at < length code.now.insts.now }
+    ensures clean { IfNone result ((p : ℕ) → marked marks.new p ≡ false) }
+    ensures rule { (G : Table) → IsCode G code.now → IsFirstAt G (insts_of code.now) at result }
+{
+    let opcode = code.insts[at as usize].opcode;
+    if opcode == PHI {
+        if has_parents(code, edges, marks, at) {
+            return None;
+        }
+        return Some(Rule::F3);
+    }
+    if is_merge(opcode) {
+        return merge_rule(code, at);
+    }
+    if is_branch(opcode) {
+        return branch_rule(code, entries, at);
+    }
+    None
+}

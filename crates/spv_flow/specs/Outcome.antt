@@ -1,0 +1,36 @@
+-- What `flow_check` answers of a module whose places and ids are known.
+use Rattle.std.specs.Prelude.{◌≡◌, ℕ, List}
+use Rattle.spv_grammar.specs.Table.{Table}
+use Rattle.spv_inst.specs.Operand.{PlainInst}
+use Rattle.spv_inst.specs.declared.fault.Rule.{Rule}
+use Rattle.spv_inst.specs.declared.fault.Stop.{Stop}
+use Rattle.spv_inst.specs.declared.fault.Stop.TheVariants.{Fault, Memory}
+use Rattle.spv_layout.specs.First.{IsFirst, IsUnbroken}
+use Rattle.spv_layout.specs.Place.{first_word_of}
+use Rattle.spv_branches.specs.Broken as branch_rules
+use Rattle.spv_calls.specs.Broken as call_rules
+use Rattle.spv_flow.specs.declared.flow.Flow.{Flow}
+use Rattle.spv_flow.specs.Definitions.{HasDefinitions}
+
+-- the number of function definitions that is kept
+abbrev pub definitions_in : Flow → ℕ
+definitions_in flow = flow.definitions
+
+-- No rule of F, A and G is broken, and the number of function definitions is kept.
+pub record IsFlow (G : Table) (is : List PlainInst) (flow : Flow) : Type 0 where
+  pub branches : IsUnbroken (branch_rules.Broken G is) 6
+  pub values : IsUnbroken (branch_rules.Broken G is) 7
+  pub calls : IsUnbroken (call_rules.Broken is) 8
+  pub definitions : HasDefinitions is (definitions_in flow)
+
+-- The rule at the instruction is the first that is broken: of F1 to F4, or where none is, of A1 and A2, or where none of them
+-- is either, G1.
+pub data IsFirstOfFlow (G : Table) (is : List PlainInst) (r : Rule) (n : ℕ) : Type 0 where
+  of_branches : IsFirst (branch_rules.Broken G is) 6 r n → IsFirstOfFlow G is r n
+  of_values : IsUnbroken (branch_rules.Broken G is) 6 → IsFirst (branch_rules.Broken G is) 7 r n → IsFirstOfFlow G is r n
+  of_calls : IsUnbroken (branch_rules.Broken G is) 6 → IsUnbroken (branch_rules.Broken G is) 7 → IsFirst (call_rules.Broken is) 8 r n → IsFirstOfFlow G is r n
+
+-- What a refusal says: want of memory, or the first broken rule and the first word of its instruction.
+abbrev pub IsRefusal : Table → List PlainInst → Stop → Type 0
+IsRefusal G is Memory = Unit {0}
+IsRefusal G is (Fault f) = IsFirstOfFlow G is f.rule f.inst × (f.word ≡ first_word_of is f.inst)
