@@ -1,0 +1,161 @@
+-- The blocks whose labels an instruction has, and what is asked for it, operand by operand.
+use Rattle.std.proofs.Common.{◌≡◌, ◌≤◌, ◌<◌, ◌+◌, ◌∙◌, inl, inr, ℕ, List, Option, Some, None, length, refl, sym, ap, subst, arith}
+use Rattle.std.specs.Prelude.{slice_get, slice_index, MatchOption}
+use Rattle.std.proofs.lemmas.Bool.{cases_order}
+use Rattle.spv_grammar.specs.Table.{Table}
+use Rattle.spv_inst.specs.Operand.{PlainInst}
+use Rattle.spv_layout.specs.declared.form.Role.{Role}
+use Rattle.spv_layout.specs.declared.form.Role.TheVariants.{Value, Label}
+use Rattle.spv_layout.specs.Shape.{IsUse}
+use Rattle.spv_layout.specs.Place.{IsOfFunction}
+use Rattle.spv_ids.specs.Definition.{IsDefinedAt}
+use Rattle.spv_availability.specs.declared.asks.Ask.{Ask}
+use Rattle.spv_branches.specs.Target.{IsLabelOf}
+use Rattle.spv_branches.specs.Ready.{IsLocalValue}
+use Rattle.spv_branches.proofs.Labelled.{use_in, use_at, one_id}
+use Rattle.spv_walks.specs.declared.code.Code.{Code}
+use Rattle.spv_walks.specs.declared.edges.Blocks.{Blocks}
+use Rattle.spv_walks.specs.Code.{insts_of, IsCode}
+use Rattle.spv_walks.specs.Divided.{IsIn, IsDivided}
+use Rattle.spv_walks.specs.Leading.{AreBlocks, IsLabelAt}
+use Rattle.spv_walks.specs.Due.{IsUseAsk, IsPairAsk}
+use Rattle.spv_walks.proofs.Coded.{one_place}
+use Rattle.spv_walks.proofs.Walking.{first_in}
+
+-- labels
+
+pub no_label : (G : Table) (c : Code) (starts : List ℕ) (at n : ℕ) (i : PlainInst) → IsCode G c → slice_get (insts_of c) at ≡ Some i → ((x : ℕ) → ¬ (IsUse G i n x Label)) → (k : ℕ) → ¬ (IsLabelAt G (insts_of c) starts at n k)
+no_label G c starts at n i is there none k l = none l.id (use_in G (insts_of c) at n l.id Label i there l.used)
+
+pub no_place : (G : Table) (c : Code) (starts : List ℕ) (at n x : ℕ) (i : PlainInst) → IsCode G c → slice_get (insts_of c) at ≡ Some i → IsUse G i n x Label → ((m : ℕ) → ¬ (IsLabelOf (insts_of c) x m)) → (k : ℕ) → ¬ (IsLabelAt G (insts_of c) starts at n k)
+no_place G c starts at n x i is there used none k l =
+    let e : l.id ≡ x = one_id G (insts_of c) at n l.id x Label Label l.used (use_at G (insts_of c) at n x Label i there used) in
+    none (slice_index starts k) (subst (λ (y : ℕ). IsLabelOf (insts_of c) y (slice_index starts k)) e l.label)
+
+pub target_by : (G : Table) (c : Code) (b : Blocks) (at n x place : ℕ) (i : PlainInst) → IsCode G c → AreBlocks (insts_of c) b → slice_get (insts_of c) at ≡ Some i → IsUse G i n x Label → IsLabelOf (insts_of c) x place
+    → (o : Option ℕ) → MatchOption o (¬ (IsOfFunction (insts_of c) place b.function)) (λ k. (k + 1 < length b.starts.now) × (slice_index b.starts.now k ≡ place))
+    → MatchOption o ((k : ℕ) → ¬ (IsLabelAt G (insts_of c) b.starts.now at n k)) (λ k. IsLabelAt G (insts_of c) b.starts.now at n k)
+target_by G c b at n x place i is are there used label None h = λ k l.
+    let e : l.id ≡ x = one_id G (insts_of c) at n l.id x Label Label l.used (use_at G (insts_of c) at n x Label i there used) in
+    let m : IsLabelOf (insts_of c) x (slice_index b.starts.now k) = subst (λ (y : ℕ). IsLabelOf (insts_of c) y (slice_index b.starts.now k)) e l.label in
+    let s : slice_index b.starts.now k ≡ place = one_place G c x (slice_index b.starts.now k) place is m.defined label.defined in
+    let d = are.laid.divided in
+    h (subst (λ (j : ℕ). IsOfFunction (insts_of c) j b.function) s (d.of k (slice_index b.starts.now k) (first_in (insts_of c) b.function b.starts.now d k l.inside)))
+target_by G c b at n x place i is are there used label (Some k) h = record {
+  id = x;
+  used = use_at G (insts_of c) at n x Label i there used;
+  inside = h.0;
+  label = subst (λ (j : ℕ). IsLabelOf (insts_of c) x j) (sym h.1) label;
+}
+
+-- uses
+
+pub no_use : (G : Table) (c : Code) (starts : List ℕ) (b at n : ℕ) (i : PlainInst) → slice_get (insts_of c) at ≡ Some i → ((x : ℕ) (r : Role) → ¬ (IsUse G i n x r)) → (a : Ask) → ¬ (IsUseAsk G (insts_of c) starts b at n a)
+no_use G c starts b at n i there none a u = none u.id u.role (use_in G (insts_of c) at n u.id u.role i there u.used)
+
+same_use : (G : Table) (c : Code) (starts : List ℕ) (b at n x : ℕ) (r : Role) (i : PlainInst) → slice_get (insts_of c) at ≡ Some i → IsUse G i n x r → (a : Ask) → (u : IsUseAsk G (insts_of c) starts b at n a) → u.id ≡ x
+same_use G c starts b at n x r i there used a u = one_id G (insts_of c) at n u.id x u.role r u.used (use_at G (insts_of c) at n x r i there used)
+
+pub no_value : (G : Table) (c : Code) (starts : List ℕ) (b at n x : ℕ) (i : PlainInst) → slice_get (insts_of c) at ≡ Some i → (r : Role) × IsUse G i n x r → ¬ (IsLocalValue (insts_of c) x) → (a : Ask) → ¬ (IsUseAsk G (insts_of c) starts b at n a)
+no_value G c starts b at n x i there used none a u = none (subst (λ (y : ℕ). IsLocalValue (insts_of c) y) (same_use G c starts b at n x used.0 i there used.1 a u) u.local)
+
+pub no_need : (G : Table) (c : Code) (starts : List ℕ) (b at n x d : ℕ) (i : PlainInst) → IsCode G c → slice_get (insts_of c) at ≡ Some i → (r : Role) × IsUse G i n x r → IsDefinedAt (insts_of c) x d
+    → slice_index starts b ≤ d → d < at → (a : Ask) → ¬ (IsUseAsk G (insts_of c) starts b at n a)
+no_need G c starts b at n x d i is there used defined from to a u =
+    let e = same_use G c starts b at n x used.0 i there used.1 a u in
+    let s : a.value ≡ d = one_place G c x a.value d is (subst (λ (y : ℕ). IsDefinedAt (insts_of c) y a.value) e u.defined) defined in
+    u.apart (omega (arith, from, s), omega (arith, to, s))
+
+pub use_asked : (G : Table) (c : Code) (starts : List ℕ) (b at n x d : ℕ) (i : PlainInst) → slice_get (insts_of c) at ≡ Some i → (r : Role) × IsUse G i n x r → IsLocalValue (insts_of c) x × IsDefinedAt (insts_of c) x d
+    → ¬ ((slice_index starts b ≤ d) × (d < at)) → IsUseAsk G (insts_of c) starts b at n (record { block = b; value = d; step = at })
+use_asked G c starts b at n x d i there used value apart = record {
+  block = refl;
+  step = refl;
+  id = x;
+  role = used.0;
+  used = use_at G (insts_of c) at n x used.0 i there used.1;
+  local = value.0;
+  defined = value.1;
+  apart = apart;
+}
+
+same_ask : (s a : Ask) → s.block ≡ a.block → s.value ≡ a.value → s.step ≡ a.step → s ≡ a
+same_ask s a k v l =
+    ap (λ (n : ℕ). let t : Ask = record { block = n; value = s.value; step = s.step } in t) k
+    ∙ ap (λ (n : ℕ). let t : Ask = record { block = a.block; value = n; step = s.step } in t) v
+    ∙ ap (λ (n : ℕ). let t : Ask = record { block = a.block; value = a.value; step = n } in t) l
+
+pub one_use : (G : Table) (c : Code) (starts : List ℕ) (b at n : ℕ) (s a : Ask) → IsCode G c → IsUseAsk G (insts_of c) starts b at n s → IsUseAsk G (insts_of c) starts b at n a → s ≡ a
+one_use G c starts b at n s a is u w =
+    let e : u.id ≡ w.id = one_id G (insts_of c) at n u.id w.id u.role w.role u.used w.used in
+    let v : s.value ≡ a.value = one_place G c w.id s.value a.value is (subst (λ (y : ℕ). IsDefinedAt (insts_of c) y s.value) e u.defined) w.defined in
+    let k : s.block ≡ a.block = u.block ∙ sym w.block in
+    let l : s.step ≡ a.step = u.step ∙ sym w.step in
+    same_ask s a k v l
+
+-- pairs
+
+pub no_paired : (G : Table) (c : Code) (starts : List ℕ) (at n : ℕ) (i : PlainInst) → slice_get (insts_of c) at ≡ Some i → ((x : ℕ) → ¬ (IsUse G i n x Value)) → (a : Ask) → ¬ (IsPairAsk G (insts_of c) starts at n a)
+no_paired G c starts at n i there none a p = none p.value (use_in G (insts_of c) at n p.value Value i there p.paired)
+
+same_paired : (G : Table) (c : Code) (starts : List ℕ) (at n x : ℕ) (i : PlainInst) → slice_get (insts_of c) at ≡ Some i → IsUse G i n x Value → (a : Ask) → (p : IsPairAsk G (insts_of c) starts at n a) → p.value ≡ x
+same_paired G c starts at n x i there used a p = one_id G (insts_of c) at n p.value x Value Value p.paired (use_at G (insts_of c) at n x Value i there used)
+
+pub no_pair_value : (G : Table) (c : Code) (starts : List ℕ) (at n x : ℕ) (i : PlainInst) → slice_get (insts_of c) at ≡ Some i → IsUse G i n x Value → ¬ (IsLocalValue (insts_of c) x) → (a : Ask) → ¬ (IsPairAsk G (insts_of c) starts at n a)
+no_pair_value G c starts at n x i there used none a p = none (subst (λ (y : ℕ). IsLocalValue (insts_of c) y) (same_paired G c starts at n x i there used a p) p.local)
+
+label_of_pair : (G : Table) (is : List PlainInst) (starts : List ℕ) (at n : ℕ) (a : Ask) → IsPairAsk G is starts at n a → IsLabelAt G is starts at (n + 1) a.block
+label_of_pair G is starts at n a p = record { id = p.id; used = p.named; inside = p.inside; label = p.label }
+
+pub no_pair_label : (G : Table) (c : Code) (starts : List ℕ) (at n : ℕ) → ((k : ℕ) → ¬ (IsLabelAt G (insts_of c) starts at (n + 1) k)) → (a : Ask) → ¬ (IsPairAsk G (insts_of c) starts at n a)
+no_pair_label G c starts at n none a p = none a.block (label_of_pair G (insts_of c) starts at n a p)
+
+-- blocks that begin at one instruction are one
+pub one_start : (is : List PlainInst) (f : ℕ) (starts : List ℕ) → IsDivided is f starts → (j k : ℕ) → j + 1 < length starts → k + 1 < length starts → slice_index starts j ≡ slice_index starts k → j ≡ k
+one_start is f starts d j k in_j in_k e = elim (cases_order j k) [
+  | inl same ↦ same
+  | inr apart ↦ elim apart [
+    | inl less ↦ absurd (let h = d.order j k less (omega (arith, in_k)) in omega (arith, h, e))
+    | inr more ↦ absurd (let h = d.order k j more (omega (arith, in_j)) in omega (arith, h, e))
+  ]
+]
+
+-- an operand is the label of one block
+pub one_target : (G : Table) (c : Code) (b : Blocks) (at n j k : ℕ) → IsCode G c → AreBlocks (insts_of c) b → IsLabelAt G (insts_of c) b.starts.now at n j → IsLabelAt G (insts_of c) b.starts.now at n k → j ≡ k
+one_target G c b at n j k is are l m =
+    let e : l.id ≡ m.id = one_id G (insts_of c) at n l.id m.id Label Label l.used m.used in
+    let s : slice_index b.starts.now j ≡ slice_index b.starts.now k =
+    one_place G c m.id (slice_index b.starts.now j) (slice_index b.starts.now k) is (subst (λ (y : ℕ). IsLabelOf (insts_of c) y (slice_index b.starts.now j)) e l.label).defined m.label.defined in
+    one_start (insts_of c) b.function b.starts.now are.laid.divided j k l.inside m.inside s
+
+pub no_pair_need : (G : Table) (c : Code) (b : Blocks) (at n x d h : ℕ) (i : PlainInst) → IsCode G c → AreBlocks (insts_of c) b → slice_get (insts_of c) at ≡ Some i → IsUse G i n x Value → IsDefinedAt (insts_of c) x d
+    → IsLabelAt G (insts_of c) b.starts.now at (n + 1) h → slice_index b.starts.now h ≤ d → d < slice_index b.starts.now (h + 1) → (a : Ask) → ¬ (IsPairAsk G (insts_of c) b.starts.now at n a)
+no_pair_need G c b at n x d h i is are there used defined label from to a p =
+    let e = same_paired G c b.starts.now at n x i there used a p in
+    let s : a.value ≡ d = one_place G c x a.value d is (subst (λ (y : ℕ). IsDefinedAt (insts_of c) y a.value) e p.defined) defined in
+    let k : h ≡ a.block = one_target G c b at (n + 1) h a.block is are label (label_of_pair G (insts_of c) b.starts.now at n a p) in
+    let here : IsIn b.starts.now h a.value = record { block = label.inside; from = omega (arith, from, s); to = omega (arith, to, s) } in
+    p.apart (subst (λ (j : ℕ). IsIn b.starts.now j a.value) k here)
+
+pub pair_asked : (G : Table) (c : Code) (b : Blocks) (at n x d h : ℕ) (i : PlainInst) → slice_get (insts_of c) at ≡ Some i → IsUse G i n x Value → IsLocalValue (insts_of c) x × IsDefinedAt (insts_of c) x d
+    → IsLabelAt G (insts_of c) b.starts.now at (n + 1) h → ¬ ((slice_index b.starts.now h ≤ d) × (d < slice_index b.starts.now (h + 1))) → IsPairAsk G (insts_of c) b.starts.now at n (record { block = h; value = d; step = at })
+pair_asked G c b at n x d h i there used value label apart = record {
+  inside = label.inside;
+  step = refl;
+  value = x;
+  paired = use_at G (insts_of c) at n x Value i there used;
+  id = label.id;
+  named = label.used;
+  label = label.label;
+  local = value.0;
+  defined = value.1;
+  apart = λ j. apart (j.from, j.to);
+}
+
+pub one_pair : (G : Table) (c : Code) (b : Blocks) (at n : ℕ) (s a : Ask) → IsCode G c → AreBlocks (insts_of c) b → IsPairAsk G (insts_of c) b.starts.now at n s → IsPairAsk G (insts_of c) b.starts.now at n a → s ≡ a
+one_pair G c b at n s a is are u w =
+    let e : u.value ≡ w.value = one_id G (insts_of c) at n u.value w.value Value Value u.paired w.paired in
+    let v : s.value ≡ a.value = one_place G c w.value s.value a.value is (subst (λ (y : ℕ). IsDefinedAt (insts_of c) y s.value) e u.defined) w.defined in
+    let k : s.block ≡ a.block = one_target G c b at (n + 1) s.block a.block is are (label_of_pair G (insts_of c) b.starts.now at n s u) (label_of_pair G (insts_of c) b.starts.now at n a w) in
+    let l : s.step ≡ a.step = u.step ∙ sym w.step in
+    same_ask s a k v l

@@ -1,0 +1,276 @@
+-- What the asks of a function's graph tell of the walks of the function.
+use Rattle.std.proofs.Common.{◌≡◌, ◌<◌, ◌≤◌, ◌⊎◌, ◌+◌, ◌-◌, ◌∙◌, ℕ, List, [], refl, sym, ap, subst, inl, inr, length, Option, Some, None, arith}
+use Rattle.std.specs.Prelude.{Contains, Result, Ok, Err, IfOk, ◌++◌, slice_get, slice_index, slice_index_or, slice_range}
+use Rattle.std.proofs.lemmas.Bool.{cases_lt}
+use Rattle.std.proofs.lemmas.Option.{slice_get_within, slice_get_read, slice_get-get_or, get_or_from_slice_get}
+use Rattle.std.proofs.lemmas.List.{length-map}
+use Rattle.std.proofs.lemmas.List.Elements.{All-contains_itself}
+use Rattle.std.specs.List.Sorted.{IsPermutation}
+use Rattle.std.proofs.lemmas.List.Sorted.{Contains-permutation, IsPermutation-sym}
+use Rattle.spv_grammar.specs.Table.{Table}
+use Rattle.spv_inst.specs.Operand.{PlainInst}
+use Rattle.spv_inst.specs.Module.{plain_inst}
+use Rattle.spv_layout.specs.Place.{IsOfFunction}
+use Rattle.spv_ids.specs.Definition.{IsDefinedAt}
+use Rattle.spv_availability.specs.declared.graph.Graph.{Graph}
+use Rattle.spv_availability.specs.declared.graph.Block.{Block}
+use Rattle.spv_availability.specs.declared.asks.Ask.{Ask}
+use Rattle.spv_availability.specs.Graph.{targets_of, IsGraph}
+use Rattle.spv_availability.specs.Path.{IsAvailable, IsMissed}
+use Rattle.spv_availability.specs.First.{AreOfBlocks, IsFirstMissed}
+use Rattle.spv_trees.specs.Open.{AreOpen}
+use Rattle.spv_branches.specs.Target.{is_label, is_phi, IsOp, IsLabelOf}
+use Rattle.spv_branches.specs.Walk.{Next, IsWalk}
+use Rattle.spv_branches.specs.Ready.{IsMissing, IsPairMissing}
+use Rattle.spv_walks.specs.declared.code.Code.{Code}
+use Rattle.spv_walks.specs.declared.edges.Blocks.{Blocks}
+use Rattle.spv_walks.specs.Code.{insts_of, IsCode}
+use Rattle.spv_walks.specs.Adds.{AddsBy}
+use Rattle.spv_walks.specs.Divided.{IsIn, IsGraphOf}
+use Rattle.spv_walks.specs.Leading.{AreBlocks, AreInGraph}
+use Rattle.spv_walks.specs.Due.{IsUseAsk, IsPairAsk, IsAsk}
+use Rattle.spv_walks.specs.Missed.{IsMissedIn, IsFirstIn}
+use Rattle.spv_walks.proofs.Coded.{one_place}
+use Rattle.spv_walks.proofs.Places.{of_itself}
+use Rattle.spv_walks.proofs.Starting.{few_blocks}
+use Rattle.spv_walks.proofs.Walking.{first_in, use_ready, use_missing}
+use Rattle.spv_walks.proofs.Pairs.{target_label, came_from, pair_ready, pair_missing}
+use Rattle.spv_walks.proofs.Parents.{parents_lead}
+
+-- the graph is that of the function
+
+same_block : (bs : List Block) (b : ℕ) (s t : Block) → slice_get bs b ≡ Some s → slice_get bs b ≡ Some t → s ≡ t
+same_block bs b s t g h = cc
+
+targets_at : (graph : Graph) (b : ℕ) (s : Block) → slice_get graph.blocks.items b ≡ Some s → targets_of graph b ≡ slice_range graph.targets.items s.first_target s.end_target
+unfolding targets_of
+targets_at graph b s there = rw there refl
+
+pub graph_of : (G : Table) (c : Code) (b : Blocks) (graph : Graph) → IsCode G c → AreBlocks (insts_of c) b → AreInGraph c b.starts.now graph (length b.starts.now - 1) → IsGraphOf G (insts_of c) b.function b.starts.now graph
+graph_of G c b graph is are a =
+    let starts = b.starts.now in
+    let count = a.count in
+    let some = are.laid.divided.some in
+    record {
+      divided = are.laid.divided;
+      count = omega (arith, count, some);
+      values = λ k v. (
+        λ d. (
+            let lt = slice_get_within graph.blocks.items k d.block d.there in
+            let h = a.each k (omega (arith, lt, count)) in
+            let e = same_block graph.blocks.items k d.block h.block d.there h.there in
+            let first : d.block.first_value ≡ slice_index starts k = ap (λ (s : Block). s.first_value) e ∙ h.first in
+            let end : d.block.end_value ≡ slice_index starts (k + 1) = ap (λ (s : Block). s.end_value) e ∙ h.end in
+            let from = d.from in
+            let to = d.to in
+            record { block = omega (arith, lt, count); from = omega (arith, from, first); to = omega (arith, to, end) }),
+        λ i. (
+            let w = i.block in
+            let h = a.each k (omega (arith, w)) in
+            let first = h.first in
+            let end = h.end in
+            let from = i.from in
+            let to = i.to in
+            record { block = h.block; there = h.there; from = omega (arith, from, first); to = omega (arith, to, end) }),
+      );
+      targets = λ k t n i e. (
+          let w = i.block in
+          let h = a.each k (omega (arith, w)) in
+          let r = targets_at graph k h.block h.there in (
+            λ there. (let l = h.sound G is t (subst (λ (xs : List ℕ). Contains xs t) r there) in (l.0, l.1 n e)),
+            λ l. subst (λ (xs : List ℕ). Contains xs t) (sym r) (h.complete G is t (
+              l.0,
+              λ m f. (
+                  let same : n ≡ m = omega (arith, e, f) in
+                  subst (λ (j : ℕ). Next G (insts_of c) j (slice_index starts t)) same l.1),
+            )),
+          ));
+    }
+
+pub is_graph : (c : Code) (b : Blocks) (graph : Graph) → length c.insts.now ≤ 4194304 → AreBlocks (insts_of c) b → AreInGraph c b.starts.now graph (length b.starts.now - 1) → IsGraph graph
+is_graph c b graph most are a =
+    let starts = b.starts.now in
+    let count = a.count in
+    let some = are.laid.divided.some in
+    let few = few_blocks (insts_of c) b.function b.end starts b.numbers.now are.laid in
+    let within = are.laid.extent.within in
+    let l = length-map c.insts.now plain_inst in
+    record {
+      some = omega (arith, count, some);
+      few = omega (arith, count, few, within, l, most);
+      ranges = λ k d lt. (
+          let h = a.each k (omega (arith, lt, count)) in
+          let g = slice_get-get_or graph.blocks.items k d lt in
+          let e : h.block ≡ slice_index_or graph.blocks.items k d = same_block graph.blocks.items k h.block (slice_index_or graph.blocks.items k d) h.there g in
+          subst (λ (s : Block). (s.first_target ≤ s.end_target) × (s.end_target ≤ length graph.targets.items)) e (h.from, h.to));
+      targets = λ k d lt. (let h = a.within (slice_index_or graph.targets.items k d) (All-contains_itself graph.targets.items k d lt) in omega (arith, h, count));
+    }
+
+-- the asks are those of the function, but for some whose values are available
+pub record AreAll (G : Table) (is : List PlainInst) (starts : List ℕ) (graph : Graph) (asks : List Ask) : Type 0 where
+  pub sound : (a : Ask) → Contains asks a → IsAsk G is starts a
+  pub complete : (a : Ask) → IsAsk G is starts a → Contains asks a ⊎ IsAvailable graph a.value a.block
+
+ask_block : (G : Table) (is : List PlainInst) (starts : List ℕ) (a : Ask) → IsAsk G is starts a → a.block + 1 < length starts
+ask_block G is starts a (b, (n, i, x)) = elim x [
+  | inl u ↦ (let e = u.1.1.block in let w = i.block in omega (arith, e, w))
+  | inr p ↦ p.2.1.inside
+]
+
+pub of_blocks : (G : Table) (is : List PlainInst) (f : ℕ) (starts : List ℕ) (graph : Graph) (asks : List Ask) → IsGraphOf G is f starts graph → ((a : Ask) → Contains asks a → IsAsk G is starts a) → AreOfBlocks graph asks
+of_blocks G is f starts graph asks g sound = λ k d lt. (
+    let h = ask_block G is starts (slice_index_or asks k d) (sound (slice_index_or asks k d) (All-contains_itself asks k d lt)) in
+    let count = g.count in
+    omega (arith, h, count))
+
+-- a walk ends in its function
+pub walk_within : (G : Table) (is : List PlainInst) (f : ℕ) (past : List ℕ) (n : ℕ) → IsWalk G is f past n → IsOfFunction is n f
+walk_within G is f _ _ (IsWalk.begins op) = of_itself is f op
+walk_within G is f _ _ (IsWalk.goes past n m walk next of) = of
+
+-- whether a number is of a block's front, or of a block
+
+front_or_not : (starts : List ℕ) (b d n : ℕ) → ((slice_index starts b ≤ d) × (d < n)) ⊎ ¬ ((slice_index starts b ≤ d) × (d < n))
+front_or_not starts b d n = elim (cases_lt d (slice_index starts b)) [
+  | inl below ↦ inr (λ h. let k = h.0 in omega (arith, below, k))
+  | inr from ↦ elim (cases_lt d n) [
+    | inl before ↦ inl (from, before)
+    | inr after ↦ inr (λ h. let k = h.1 in omega (arith, after, k))
+  ]
+]
+
+in_or_not : (starts : List ℕ) (b d : ℕ) → b + 1 < length starts → IsIn starts b d ⊎ ¬ (IsIn starts b d)
+in_or_not starts b d inside = elim (front_or_not starts b d (slice_index starts (b + 1))) [
+  | inl h ↦ inl (record { block = inside; from = h.0; to = h.1 })
+  | inr none ↦ inr (λ i. none (i.from, i.to))
+]
+
+-- Where what is asked for an instruction is available, nothing is missed at it.
+
+value_found : (G : Table) (c : Code) (f : ℕ) (starts : List ℕ) (graph : Graph) → IsCode G c → IsGraphOf G (insts_of c) f starts graph
+    → (n : ℕ) → ((a : Ask) → a.step ≡ n → IsAsk G (insts_of c) starts a → IsAvailable graph a.value a.block) → (m : IsMissing G (insts_of c) n) → m.function ≡ f → ⊥
+value_found G c f starts graph is g n found m e =
+    let walk : IsWalk G (insts_of c) f m.past n = subst (λ (k : ℕ). IsWalk G (insts_of c) k m.past n) e m.walk in
+    let r = g.divided.all n (walk_within G (insts_of c) f m.past n walk) in
+    let b : ℕ = r.0 in
+    let d : ℕ = m.local.place in
+    m.undefined (use_ready G (insts_of c) f starts graph g b n m.id d r.1 m.local.defined (elim (front_or_not starts b d n) [
+      | inl before ↦ inl before
+      | inr apart ↦ inr (
+          let a : Ask = record { block = b; value = d; step = n } in
+          let u : IsUseAsk G (insts_of c) starts b n m.operand a = record { block = refl; step = refl; id = m.id; role = m.role; used = m.used; local = m.local; defined = m.local.defined; apart = apart } in
+          found a refl (b, (n, r.1, inl (m.other, (m.operand, u)))))
+    ]) m.past walk)
+
+pair_found : (G : Table) (c : Code) (f : ℕ) (starts : List ℕ) (graph : Graph) → IsCode G c → IsGraphOf G (insts_of c) f starts graph
+    → (n : ℕ) → ((a : Ask) → a.step ≡ n → IsAsk G (insts_of c) starts a → IsAvailable graph a.value a.block) → (m : IsPairMissing G (insts_of c) n) → m.comes.function ≡ f → ⊥
+pair_found G c f starts graph is g n found m e =
+    let walk : IsWalk G (insts_of c) f m.comes.past n = subst (λ (k : ℕ). IsWalk G (insts_of c) k m.comes.past n) e m.comes.walk in
+    let r = g.divided.all n (walk_within G (insts_of c) f m.comes.past n walk) in
+    let b : ℕ = r.0 in
+    let d : ℕ = m.local.place in
+    let from = came_from G (insts_of c) f starts graph g b n m.parent m.before r.1 m.phi m.comes e in
+    let h : ℕ = from.from in
+    let label = (target_label G (insts_of c) f starts graph g h b from.inside from.path.1).1 in
+    let here : IsIn starts h m.parent = subst (λ (k : ℕ). IsIn starts h k) (sym from.first) (first_in (insts_of c) f starts g.divided h from.inside) in
+    m.undefined (pair_ready G (insts_of c) f starts graph g b h n m.value d m.parent m.before r.1 m.phi here m.local.defined (elim (in_or_not starts h d from.inside) [
+      | inl stands ↦ inl stands
+      | inr apart ↦ inr (
+          let a : Ask = record { block = h; value = d; step = n } in
+          let named : IsLabelOf (insts_of c) m.pair.id (slice_index starts h) = subst (λ (k : ℕ). IsLabelOf (insts_of c) m.pair.id k) from.first m.pair.label in
+          let p : IsPairAsk G (insts_of c) starts n m.pair.operand a =
+          record { inside = from.inside; step = refl; value = m.value; paired = m.pair.paired; id = m.pair.id; named = m.pair.named; label = named; local = m.local; defined = m.local.defined; apart = apart } in
+          found a refl (b, (n, r.1, inr (m.phi, label, (m.pair.operand, p)))))
+    ]) m.comes e)
+
+pub not_missed : (G : Table) (c : Code) (f : ℕ) (starts : List ℕ) (graph : Graph) → IsCode G c → IsGraphOf G (insts_of c) f starts graph
+    → (n : ℕ) → ((a : Ask) → a.step ≡ n → IsAsk G (insts_of c) starts a → IsAvailable graph a.value a.block) → ¬ (IsMissedIn G (insts_of c) f n)
+not_missed G c f starts graph is g n found (inl (m, e)) = value_found G c f starts graph is g n found m e
+not_missed G c f starts graph is g n found (inr (m, e)) = pair_found G c f starts graph is g n found m e
+
+-- Where it is missed, a value is missed at the instruction.
+
+only_at : (G : Table) (c : Code) (x d : ℕ) → IsCode G c → IsDefinedAt (insts_of c) x d → (k : ℕ) → IsDefinedAt (insts_of c) x k → k ≡ d
+only_at G c x d is at k there = one_place G c x k d is there at
+
+value_missed : (G : Table) (c : Code) (f : ℕ) (starts : List ℕ) (graph : Graph) → IsCode G c → IsGraphOf G (insts_of c) f starts graph
+    → (b n k : ℕ) (a : Ask) → IsIn starts b n → ¬ (IsOp (insts_of c) n is_phi) → IsUseAsk G (insts_of c) starts b n k a → IsMissed graph a.value a.block → IsMissedIn G (insts_of c) f n
+value_missed G c f starts graph is g b n k a i plain u m =
+    let there : IsMissed graph a.value b = subst (λ (j : ℕ). IsMissed graph a.value j) u.block m in
+    let r = use_missing G (insts_of c) f starts graph g b n u.id a.value i (only_at G c u.id a.value is u.defined) u.apart there in
+    let h : IsMissing G (insts_of c) n = record { other = plain; function = f; past = r.past; walk = r.walk; operand = k; id = u.id; role = u.role; used = u.used; local = u.local; undefined = r.undefined } in
+    inl (h, refl)
+
+pair_missed : (G : Table) (c : Code) (f : ℕ) (starts : List ℕ) (graph : Graph) → IsCode G c → IsGraphOf G (insts_of c) f starts graph
+    → (b n k : ℕ) (a : Ask) → IsIn starts b n → IsOp (insts_of c) n is_phi → IsOp (insts_of c) (slice_index starts b) is_label → IsPairAsk G (insts_of c) starts n k a → IsMissed graph a.value a.block → IsMissedIn G (insts_of c) f n
+pair_missed G c f starts graph is g b n k a i phi label p m =
+    let target = parents_lead G c f starts graph is g b a.block n (k + 1) p.id i label phi p.inside p.named p.label in
+    let r = pair_missing G (insts_of c) f starts graph g b a.block n p.value a.value (slice_index starts a.block) i phi p.inside refl p.label.label target (only_at G c p.value a.value is p.defined) p.apart m in
+    let h : IsPairMissing G (insts_of c) n = record {
+      phi = phi;
+      value = p.value;
+      parent = slice_index starts a.block;
+      before = r.before;
+      pair = record { operand = k; paired = p.paired; id = p.id; named = p.named; label = p.label };
+      comes = r.comes;
+      local = p.local;
+      undefined = r.undefined;
+    } in
+    inr (h, r.same)
+
+pub missed_at : (G : Table) (c : Code) (f : ℕ) (starts : List ℕ) (graph : Graph) → IsCode G c → IsGraphOf G (insts_of c) f starts graph
+    → (a : Ask) → IsAsk G (insts_of c) starts a → IsMissed graph a.value a.block → IsMissedIn G (insts_of c) f a.step
+missed_at G c f starts graph is g a (b, (n, i, x)) m = elim x [
+  | inl u ↦ (let s = u.1.1.step in subst (λ (k : ℕ). IsMissedIn G (insts_of c) f k) (sym s) (value_missed G c f starts graph is g b n u.1.0 a i u.0 u.1.1 m))
+  | inr p ↦ (let s = p.2.1.step in subst (λ (k : ℕ). IsMissedIn G (insts_of c) f k) (sym s) (pair_missed G c f starts graph is g b n p.2.0 a i p.0 p.1 p.2.1 m))
+]
+
+-- The first step that is missed is the first instruction.
+
+ask_there : (asks : List Ask) (a : Ask) → Contains asks a → (k : ℕ) × (slice_get asks k ≡ Some a)
+ask_there asks a (k, lt, e) = (k, slice_get_read asks (length asks) k a refl lt (sym e))
+
+there_ask : (asks : List Ask) (k : ℕ) (a : Ask) → slice_get asks k ≡ Some a → Contains asks a
+there_ask asks k a h = (k, slice_get_within asks k a h, get_or_from_slice_get asks k a a h)
+
+pub first_by : (G : Table) (c : Code) (f : ℕ) (starts : List ℕ) (graph : Graph) (asks : List Ask) → IsCode G c → IsGraphOf G (insts_of c) f starts graph → AreAll G (insts_of c) starts graph asks
+    → (o : Option ℕ) → IsFirstMissed graph asks o → IsFirstIn G (insts_of c) f o
+first_by G c f starts graph asks is g all None first = λ n. not_missed G c f starts graph is g n (λ a e k. elim (all.complete a k) [
+  | inl there ↦ (let t = ask_there asks a there in first t.0 a t.1)
+  | inr available ↦ available
+])
+first_by G c f starts graph asks is g all (Some i) (here, before) = (
+  let a = here.1 in
+      let k = all.sound a (there_ask asks here.0 a here.2) in
+      let s : a.step ≡ i = here.3 in
+      subst (λ (j : ℕ). IsMissedIn G (insts_of c) f j) s (missed_at G c f starts graph is g a k here.4),
+  λ n lt. not_missed G c f starts graph is g n (λ b e k. elim (all.complete b k) [
+    | inl there ↦ (let t = ask_there asks b there in before t.0 b t.1 (omega (arith, e, lt)))
+    | inr available ↦ available
+  ]),
+)
+
+-- the asks that were added to none
+pub asked : (G : Table) (c : Code) (starts : List ℕ) (none asks : List Ask) → IsCode G c → none ≡ [] → AddsBy c (λ (H : Table) (a : Ask). IsAsk H (insts_of c) starts a) none asks → (a : Ask) → Contains asks a → IsAsk G (insts_of c) starts a
+asked G c starts none asks is empty adds a k =
+    let e : asks ≡ adds.added = adds.all ∙ ap (λ (xs : List Ask). xs ++ adds.added) empty in
+    adds.sound a (subst (λ (xs : List Ask). Contains xs a) e k) G is
+
+-- and those of them that are open, in another order
+pub all_by : (G : Table) (c : Code) (starts : List ℕ) (graph : Graph) (none asks left sorted : List Ask) → IsCode G c → none ≡ [] → AddsBy c (λ (H : Table) (a : Ask). IsAsk H (insts_of c) starts a) none asks
+    → AreOpen graph asks (length asks) left → IsPermutation left sorted → AreAll G (insts_of c) starts graph sorted
+all_by G c starts graph none asks left sorted is empty adds opened same =
+    let e : asks ≡ adds.added = adds.all ∙ ap (λ (xs : List Ask). xs ++ adds.added) empty in
+    record {
+      sound = λ a k. asked G c starts none asks is empty adds a (opened.sound a (Contains-permutation sorted left a (IsPermutation-sym left sorted same) k));
+      complete = λ a k. (
+          let t = ask_there asks a (subst (λ (xs : List Ask). Contains xs a) (sym e) (adds.complete a (G, is, k))) in
+          elim (opened.complete t.0 a (slice_get_within asks t.0 a t.1) t.1) [
+            | inl kept ↦ inl (Contains-permutation left sorted a same kept)
+            | inr available ↦ inr available
+          ]);
+    }
+
+pub if_first : {E : Type 0} (r : Result (Option ℕ) E) (P Q : Option ℕ → Type 0) → ((o : Option ℕ) → P o → Q o) → IfOk r P → IfOk r Q
+if_first (Ok o) P Q f h = f o h
+if_first (Err e) P Q f h = h

@@ -1,0 +1,15 @@
+pub mod Lists
+pub mod Trails
+pub mod Walking
+pub mod Pairs
+pub mod Ended
+pub mod Places
+pub mod Used
+pub mod Coded
+pub mod Adding
+pub mod Starting
+pub mod Asking
+pub mod Targets
+pub mod Parents
+pub mod Deciding
+pub mod Telling

@@ -1,0 +1,9 @@
+use Rattle.std.proofs.Common.{◌≡◌, length}
+use Rattle.spv_walks.proofs.Telling.{AreSound}
+use Rattle.spv_walks.proofs.values.first_missing.Given as goal
+
+abbrev pub invariant-loop-at : goal.invariant-loop-at
+invariant-loop-at l = record {
+  count : length l.buffers.numbers.items ≡ length l.code.insts.now;
+  sound : AreSound l.code l.at;
+}

@@ -1,0 +1,54 @@
+-- What is asked of the graph of a function. (For the code alone.)
+use Rattle.std.specs.Prelude.{◌≡◌, ◌<◌, ◌≤◌, ◌+◌, ◌⊎◌, ℕ, List, length, slice_index}
+use Rattle.spv_grammar.specs.Table.{Table}
+use Rattle.spv_inst.specs.Operand.{PlainInst}
+use Rattle.spv_layout.specs.declared.form.Role.{Role}
+use Rattle.spv_layout.specs.declared.form.Role.TheVariants.{Value, Label}
+use Rattle.spv_ids.specs.Definition.{IsDefinedAt, IsUsedAt}
+use Rattle.spv_availability.specs.declared.asks.Ask.{Ask}
+use Rattle.spv_branches.specs.Target.{is_phi, is_label, IsOp, IsLabelOf}
+use Rattle.spv_branches.specs.Ready.{IsLocalValue}
+use Rattle.spv_walks.specs.Divided.{IsIn}
+
+-- Operand n of instruction m of block b uses a value, of which the definition does not stand before m in the block.
+pub record IsUseAsk (G : Table) (is : List PlainInst) (starts : List ℕ) (b m n : ℕ) (a : Ask) : Type 0 where
+  pub block : a.block ≡ b
+  pub step : a.step ≡ m
+  pub id : ℕ
+  pub role : Role
+  pub used : IsUsedAt G is m n id role
+  pub local : IsLocalValue is id
+  pub defined : IsDefinedAt is id a.value
+  pub apart : ¬ ((slice_index starts b ≤ a.value) × (a.value < m))
+
+-- Operands n and n + 1 of instruction m pair a value with the label of a block, in which its definition does not stand.
+pub record IsPairAsk (G : Table) (is : List PlainInst) (starts : List ℕ) (m n : ℕ) (a : Ask) : Type 0 where
+  pub inside : a.block + 1 < length starts
+  pub step : a.step ≡ m
+  pub value : ℕ
+  pub paired : IsUsedAt G is m n value Value
+  pub id : ℕ
+  pub named : IsUsedAt G is m (n + 1) id Label
+  pub label : IsLabelOf is id (slice_index starts a.block)
+  pub local : IsLocalValue is value
+  pub defined : IsDefinedAt is value a.value
+  pub apart : ¬ (IsIn starts a.block a.value)
+
+-- What is asked for instruction m of block b.
+abbrev pub HasUseAsk : Table → List PlainInst → List ℕ → ℕ → ℕ → Ask → Type 0
+HasUseAsk G is starts b m a = (n : ℕ) × IsUseAsk G is starts b m n a
+
+abbrev pub HasPairAsk : Table → List PlainInst → List ℕ → ℕ → Ask → Type 0
+HasPairAsk G is starts m a = (n : ℕ) × IsPairAsk G is starts m n a
+
+abbrev pub IsAskAt : Table → List PlainInst → List ℕ → ℕ → ℕ → Ask → Type 0
+IsAskAt G is starts b m a =
+    (¬ (IsOp is m is_phi) × HasUseAsk G is starts b m a)
+    ⊎ (IsOp is m is_phi × IsOp is (slice_index starts b) is_label × HasPairAsk G is starts m a)
+
+-- What is asked for an instruction of the block, and of the function.
+abbrev pub IsAskIn : Table → List PlainInst → List ℕ → ℕ → Ask → Type 0
+IsAskIn G is starts b a = (m : ℕ) × IsIn starts b m × IsAskAt G is starts b m a
+
+abbrev pub IsAsk : Table → List PlainInst → List ℕ → Ask → Type 0
+IsAsk G is starts a = (b : ℕ) × IsAskIn G is starts b a

@@ -1,0 +1,14 @@
+-- What a refusal by A1 and A2 says.
+use Rattle.std.specs.Prelude.{◌≡◌, List}
+use Rattle.spv_grammar.specs.Table.{Table}
+use Rattle.spv_inst.specs.Operand.{PlainInst}
+use Rattle.spv_inst.specs.declared.fault.Stop.{Stop}
+use Rattle.spv_inst.specs.declared.fault.Stop.TheVariants.{Fault, Memory}
+use Rattle.spv_layout.specs.First.{IsFirst}
+use Rattle.spv_layout.specs.Place.{first_word_of}
+use Rattle.spv_branches.specs.Broken.{Broken}
+
+-- What a refusal by A1 and A2 says: want of memory, or the first broken of these rules and the first word of its instruction.
+abbrev pub IsRefusal : Table → List PlainInst → Stop → Type 0
+IsRefusal G is Memory = Unit {0}
+IsRefusal G is (Fault f) = IsFirst (Broken G is) 7 f.rule f.inst × (f.word ≡ first_word_of is f.inst)

@@ -1,0 +1,29 @@
+-- The values that are missed on the walks of one function. (For the code alone.)
+use Rattle.std.specs.Prelude.{◌≡◌, ◌<◌, ◌⊎◌, ℕ, List, Option, MatchOption}
+use Rattle.spv_grammar.specs.Table.{Table}
+use Rattle.spv_inst.specs.Operand.{PlainInst}
+use Rattle.spv_inst.specs.declared.fault.Rule.{Rule}
+use Rattle.spv_inst.specs.declared.fault.Rule.TheVariants.{A1, A2}
+use Rattle.spv_branches.specs.Target.{is_phi, IsOp}
+use Rattle.spv_branches.specs.Ready.{IsMissing, IsPairMissing}
+
+-- On a walk of the function whose OpFunction is f, a value that instruction n uses is missed.
+abbrev pub IsMissedIn : Table → List PlainInst → ℕ → ℕ → Type 0
+IsMissedIn G is f n = ((m : IsMissing G is n) × (m.function ≡ f)) ⊎ ((m : IsPairMissing G is n) × (m.comes.function ≡ f))
+
+-- the first instruction at which one is; none where none is
+abbrev pub IsFirstIn : Table → List PlainInst → ℕ → Option ℕ → Type 0
+IsFirstIn G is f o = MatchOption o ((n : ℕ) → ¬ (IsMissedIn G is f n)) (λ n. IsMissedIn G is f n × ((m : ℕ) → m < n → ¬ (IsMissedIn G is f m)))
+
+-- On some walk, a value that instruction n uses is missed.
+abbrev pub IsMissedAt : Table → List PlainInst → ℕ → Type 0
+IsMissedAt G is n = IsMissing G is n ⊎ IsPairMissing G is n
+
+-- the first instruction at which one is; none where none is
+abbrev pub IsFirstOf : Table → List PlainInst → Option ℕ → Type 0
+IsFirstOf G is o = MatchOption o ((n : ℕ) → ¬ (IsMissedAt G is n)) (λ n. IsMissedAt G is n × ((m : ℕ) → m < n → ¬ (IsMissedAt G is m)))
+
+-- The rule is that of the instruction: A2 of an OpPhi, and A1 of any other.
+pub record IsRuleAt (is : List PlainInst) (n : ℕ) (r : Rule) : Type 0 where
+  pub phi : IsOp is n is_phi → r ≡ A2
+  pub other : ¬ (IsOp is n is_phi) → r ≡ A1

@@ -1,0 +1,163 @@
+//! What is asked of the graph of a function's blocks.
+
+ghost use Rattle.std.specs.Prelude.{◌≡◌, ◌<◌, ◌≤◌, ◌+◌, ℕ, List, length, slice_index, OnOk, MatchOption};
+ghost use Rattle.spv_grammar.specs.Table.{Table};
+ghost use Rattle.spv_availability.specs.declared.asks.Ask as declared;
+ghost use Rattle.spv_walks.specs.Code.{insts_of, IsCode};
+ghost use Rattle.spv_walks.specs.Divided.{IsIn};
+ghost use Rattle.spv_walks.specs.Adds.{AddsBy};
+ghost use Rattle.spv_walks.specs.Leading.{AreBlocks};
+ghost use Rattle.spv_walks.specs.Due.{IsUseAsk, IsPairAsk, HasUseAsk, HasPairAsk, IsAskAt, IsAskIn, IsAsk};
+
+use crate::code::{Code, LABEL, PHI};
+use crate::edges::{Blocks, target};
+use crate::operands::{used, value};
+use spv_availability::Ask;
+use std::alloc::AllocError;
+
+/// What is asked for the use that operand `n` of an instruction is, if it is one of a value that no earlier instruction of the block
+/// defines.
+fn use_ask(code: &Code<'_, '_>, start: u32, block: u32, at: u32, n: usize) -> Option<Ask>
+    requires { at < length code.now.insts.now }
+    ensures { (G : Table) (starts : List ℕ) → IsCode G code.now → start ≡ slice_index starts block
+        → MatchOption result ((a : declared.Ask) → ¬ (IsUseAsk G (insts_of code.now) starts block at n a)) (λ a. IsUseAsk G (insts_of code.now) starts block at n a) }
+{
+    let id = used(&code.insts[at as usize], n)?;
+    let value = code.value_of(id)?;
+    if start <= value && value < at {
+        None
+    } else {
+        Some(Ask {
+            block,
+            value,
+            step: at,
+        })
+    }
+}
+
+/// What is asked for the pair that operands `n` and `n` + 1 of an OpPhi are, if it is one of a value that its parent does not
+/// define.
+fn pair_ask(code: &Code<'_, '_>, blocks: &Blocks<'_>, at: u32, n: usize) -> Option<Ask>
+    requires code { (G : Table) × IsCode G code.now }
+    requires blocks { AreBlocks (insts_of code.now) blocks.now }
+    requires at { at < length code.now.insts.now }
+    requires n { n < 4294967295 }
+    ensures { (G : Table) → IsCode G code.now
+        → MatchOption result ((a : declared.Ask) → ¬ (IsPairAsk G (insts_of code.now) blocks.now.starts.now at n a)) (λ a. IsPairAsk G (insts_of code.now) blocks.now.starts.now at n a) }
+{
+    let id = value(&code.insts[at as usize], n)?;
+    let value = code.value_of(id)?;
+    let block = target(code, blocks, at, n + 1)?;
+    let from = blocks.starts[block as usize];
+    let to = blocks.starts[block as usize + 1];
+    if from <= value && value < to {
+        None
+    } else {
+        Some(Ask {
+            block,
+            value,
+            step: at,
+        })
+    }
+}
+
+/// Adds what is asked for the uses of an instruction.
+fn add_uses(
+    code: &Code<'_, '_>,
+    blocks: &Blocks<'_>,
+    block: u32,
+    at: u32,
+    asks: &mut Vec<Ask>,
+) -> Result<(), AllocError>
+    requires code { (G : Table) × IsCode G code.now }
+    requires block { block + 1 < length blocks.now.starts.now }
+    requires at { at < length code.now.insts.now }
+    ensures { OnOk result (AddsBy code.now (λ G a. HasUseAsk G (insts_of code.now) blocks.now.starts.now block at a) asks.old.items asks.new.items) }
+{
+    let start = blocks.starts[block as usize];
+    for n in 0..code.insts[at as usize].operands.as_slice().len() {
+        if let Some(ask) = use_ask(code, start, block, at, n) {
+            asks.push(ask)?;
+        }
+    }
+    Ok(())
+}
+
+/// Adds what is asked for the pairs of an OpPhi.
+fn add_pairs(
+    code: &Code<'_, '_>,
+    blocks: &Blocks<'_>,
+    at: u32,
+    asks: &mut Vec<Ask>,
+) -> Result<(), AllocError>
+    requires code { (G : Table) × IsCode G code.now }
+    requires blocks { AreBlocks (insts_of code.now) blocks.now }
+    requires at { at < length code.now.insts.now }
+    ensures { OnOk result (AddsBy code.now (λ G a. HasPairAsk G (insts_of code.now) blocks.now.starts.now at a) asks.old.items asks.new.items) }
+{
+    for n in 0..code.insts[at as usize].operands.as_slice().len() {
+        if let Some(ask) = pair_ask(code, blocks, at, n) {
+            asks.push(ask)?;
+        }
+    }
+    Ok(())
+}
+
+/// Adds what is asked for an instruction of a block.
+fn add_asks(
+    code: &Code<'_, '_>,
+    blocks: &Blocks<'_>,
+    block: u32,
+    at: u32,
+    asks: &mut Vec<Ask>,
+) -> Result<(), AllocError>
+    requires code { (G : Table) × IsCode G code.now }
+    requires blocks { AreBlocks (insts_of code.now) blocks.now }
+    requires block { block + 1 < length blocks.now.starts.now }
+    requires at { at < length code.now.insts.now }
+    ensures { OnOk result (AddsBy code.now (λ G a. IsAskAt G (insts_of code.now) blocks.now.starts.now block at a) asks.old.items asks.new.items) }
+{
+    if code.insts[at as usize].opcode != PHI {
+        return add_uses(code, blocks, block, at, asks);
+    }
+    let start = blocks.starts[block as usize];
+    if code.insts[start as usize].opcode == LABEL {
+        return add_pairs(code, blocks, at, asks);
+    }
+    Ok(())
+}
+
+/// Adds what is asked for the instructions of a block.
+fn add_block(
+    code: &Code<'_, '_>,
+    blocks: &Blocks<'_>,
+    block: u32,
+    asks: &mut Vec<Ask>,
+) -> Result<(), AllocError>
+    requires code { (G : Table) × IsCode G code.now }
+    requires blocks { AreBlocks (insts_of code.now) blocks.now }
+    requires block { block + 1 < length blocks.now.starts.now }
+    ensures { OnOk result (AddsBy code.now (λ G a. IsAskIn G (insts_of code.now) blocks.now.starts.now block a) asks.old.items asks.new.items) }
+{
+    for at in blocks.starts[block as usize]..blocks.starts[block as usize + 1] {
+        add_asks(code, blocks, block, at, asks)?;
+    }
+    Ok(())
+}
+
+/// Adds what is asked for the instructions of a function.
+pub fn add_all(
+    code: &Code<'_, '_>,
+    blocks: &Blocks<'_>,
+    asks: &mut Vec<Ask>,
+) -> Result<(), AllocError>
+    requires code { (G : Table) × IsCode G code.now }
+    requires blocks { AreBlocks (insts_of code.now) blocks.now }
+    requires most { length code.now.insts.now ≤ 4194304 }
+    ensures { OnOk result (AddsBy code.now (λ G a. IsAsk G (insts_of code.now) blocks.now.starts.now a) asks.old.items asks.new.items) }
+{
+    for block in 0..blocks.starts.len() - 1 {
+        add_block(code, blocks, block as u32, asks)?;
+    }
+    Ok(())
+}

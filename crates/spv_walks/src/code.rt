@@ -1,0 +1,118 @@
+//! The instructions that are looked at, with their places and ids.
+
+ghost use Rattle.std.specs.Prelude.{◌≡◌, is_some};
+ghost use Rattle.spv_branches.specs.Target as target;
+ghost use Rattle.spv_inst.specs.Module.{plain_operands};
+ghost use Rattle.spv_inst.specs.Operand as operand;
+
+use spv_ids::Ids;
+use spv_inst::{Inst, Operand};
+use spv_layout::Plan;
+
+/// The instructions of a module, with what `lay_out` and `number` answered of it.
+#[derive(Clone, Copy)]
+pub struct Code<'m, 'a> {
+    pub insts: &'m [Inst<'a>],
+    pub plan: &'m Plan,
+    pub ids: &'m Ids,
+}
+
+impl Code<'_, '_> {
+    ghost use Rattle.std.specs.Prelude.{◌≡◌, ◌<◌, ℕ, length, IfSome, MatchOption, MatchBool};
+    ghost use Rattle.spv_grammar.specs.Table.{Table};
+    ghost use Rattle.spv_walks.specs.Code.{insts_of, IsCode};
+    ghost use Rattle.spv_branches.specs.Target.{IsLabelOf};
+    ghost use Rattle.spv_branches.specs.Ready.{IsLocalValue};
+    ghost use Rattle.spv_ids.specs.Definition.{IsDefinedAt};
+    ghost use Rattle.spv_layout.specs.Place.{IsOfFunction};
+
+    /// The OpFunction of the function that an instruction is of.
+    pub fn function_of(&self, inst: u32) -> Option<u32>
+        ensures { (G : Table) → IsCode G self.now → inst < length self.now.insts.now → MatchOption result ((f : ℕ) → ¬ (IsOfFunction (insts_of self.now) inst f)) (λ f. IsOfFunction (insts_of self.now) inst f) }
+    {
+        let Some(place) = self.plan.at(inst) else {
+            return None;
+        };
+        place.function
+    }
+
+    /// The instruction whose result an id is.
+    fn definition(&self, id: u32) -> Option<u32>
+        ensures there { (G : Table) → IsCode G self.now → MatchOption result ((d : ℕ) → ¬ (IsDefinedAt (insts_of self.now) id d)) (λ d. IsDefinedAt (insts_of self.now) id d) }
+        ensures within { IfSome result (λ d. d < length self.now.insts.now) }
+    {
+        let Some(place) = self.ids.definition(id) else {
+            return None;
+        };
+        if (place as usize) < self.insts.len() {
+            Some(place)
+        } else {
+            None
+        }
+    }
+
+    /// The OpLabel whose result an id is.
+    pub fn label_of(&self, id: u32) -> Option<u32>
+        ensures label { (G : Table) → IsCode G self.now → MatchOption result ((m : ℕ) → ¬ (IsLabelOf (insts_of self.now) id m)) (λ m. IsLabelOf (insts_of self.now) id m) }
+        ensures within { IfSome result (λ m. m < length self.now.insts.now) }
+    {
+        let Some(place) = self.definition(id) else {
+            return None;
+        };
+        if self.insts[place as usize].opcode == LABEL {
+            Some(place)
+        } else {
+            None
+        }
+    }
+
+    /// The instruction whose result a local value is; none of an id that is none.
+    pub fn value_of(&self, id: u32) -> Option<u32>
+        ensures { (G : Table) → IsCode G self.now → MatchOption result (¬ (IsLocalValue (insts_of self.now) id)) (λ d. IsLocalValue (insts_of self.now) id × IsDefinedAt (insts_of self.now) id d) }
+    {
+        let Some(place) = self.definition(id) else {
+            return None;
+        };
+        let Some(function) = self.function_of(place) else {
+            return None;
+        };
+        if function < place && has_type(self.insts[place as usize].operands.as_slice()) {
+            Some(place)
+        } else {
+            None
+        }
+    }
+}
+
+/// Whether one of the operands is a result type.
+fn has_type(operands: &[Operand<'_>]) -> bool
+    ensures { result ≡ is_some (operand.type_in (plain_operands operands.now)) }
+{
+    for operand in operands {
+        if let Operand::OfType(_) = operand {
+            return true;
+        }
+    }
+    false
+}
+
+/// The opcodes of OpFunction, OpPhi and OpLabel.
+pub const FUNCTION: u16 = 54;
+
+pub const PHI: u16 = 245;
+
+pub const LABEL: u16 = 248;
+
+/// Whether an opcode is that of a terminator with labels: OpBranch, OpBranchConditional or OpSwitch.
+pub fn is_branch(opcode: u16) -> bool
+    ensures { result ≡ target.is_branch opcode }
+{
+    249 <= opcode && opcode <= 251
+}
+
+/// Whether an opcode is that of a terminator: a branch, OpReturn, OpReturnValue or OpUnreachable.
+pub fn is_terminator(opcode: u16) -> bool
+    ensures { result ≡ target.is_terminator opcode }
+{
+    is_branch(opcode) || (253 <= opcode && opcode <= 255)
+}

@@ -1,0 +1,89 @@
+//! The first use of a value that some walk of a function misses.
+
+ghost use Rattle.std.specs.Prelude.{◌≡◌, ◌≤◌, ℕ, List, length, OnOk, IfOk};
+ghost use Rattle.std.specs.List.Sorted.{IsPermutation};
+ghost use Rattle.spv_grammar.specs.Table.{Table};
+ghost use Rattle.spv_availability.specs.First.{AreInOrder};
+ghost use Rattle.spv_branches.specs.Target as target;
+ghost use Rattle.spv_branches.specs.Target.{IsOp};
+ghost use Rattle.spv_walks.specs.Code.{insts_of, IsCode};
+ghost use Rattle.spv_walks.specs.Missed.{IsFirstIn};
+
+use crate::asks::add_all;
+use crate::code::Code;
+use crate::divide::{divide, function_end};
+use crate::edges::{Blocks, build};
+use spv_availability::{Ask, Graph, first_missed};
+use spv_trees::open_asks;
+use std::alloc::{AllocError, Global};
+
+/// Lists that are used for one function after the other.
+#[derive(Drop)]
+pub struct Buffers {
+    /// The first instructions of a function's blocks, and the number of the block that begins at an instruction.
+    pub starts: Vec<u32>,
+    pub numbers: Vec<u32>,
+    pub graph: Graph,
+    pub asks: Vec<Ask>,
+}
+
+impl Buffers {
+    /// Empty lists, for a module of so many instructions.
+    pub fn new(alloc: Global, count: usize) -> Result<Buffers, AllocError>
+        ensures { IfOk result (λ b. length b.numbers.items ≡ count) }
+    {
+        Ok(Buffers {
+            starts: Vec::new(alloc),
+            numbers: vec![in alloc; 0u32; count]?,
+            graph: Graph {
+                blocks: Vec::new(alloc),
+                targets: Vec::new(alloc),
+            },
+            asks: Vec::new(alloc),
+        })
+    }
+}
+
+/// Brings asks into the order of their values.
+fn sort(asks: &mut [Ask])
+    ensures order { AreInOrder asks.new }
+    ensures same { IsPermutation asks.old asks.new }
+{
+    asks.sort_unstable_by_key(|ask| ask.value);
+}
+
+/// The first instruction at which a walk of the function misses a value that is used there.
+pub fn first_in_function(
+    alloc: Global,
+    code: &Code<'_, '_>,
+    function: u32,
+    buffers: &mut Buffers,
+) -> Result<Option<u32>, AllocError>
+    requires code { (G : Table) × IsCode G code.now }
+    requires function { IsOp (insts_of code.now) function target.is_function }
+    requires count { length buffers.old.numbers.items ≡ length code.now.insts.now }
+    requires most { length code.now.insts.now ≤ 4194304 }
+    ensures count { OnOk result (length buffers.new.numbers.items ≡ length code.now.insts.now) }
+    ensures first { IfOk result (λ o. (G : Table) → IsCode G code.now → IsFirstIn G (insts_of code.now) function o) }
+{
+    let end = function_end(code, function);
+    divide(
+        code,
+        function,
+        end,
+        &mut buffers.starts,
+        &mut buffers.numbers,
+    )?;
+    let blocks = Blocks {
+        function,
+        end,
+        starts: buffers.starts.as_slice(),
+        numbers: buffers.numbers.as_slice(),
+    };
+    build(code, &blocks, &mut buffers.graph)?;
+    buffers.asks.clear();
+    add_all(code, &blocks, &mut buffers.asks)?;
+    let mut left = open_asks(alloc, &buffers.graph, buffers.asks.as_slice())?;
+    sort(&mut left);
+    first_missed(alloc, &buffers.graph, left.as_slice())
+}

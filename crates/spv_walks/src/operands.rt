@@ -1,0 +1,72 @@
+//! The ids among the operands of an instruction.
+
+ghost use Rattle.std.specs.Prelude.{◌≡◌, ℕ, MatchOption, slice_get, option_and_then};
+ghost use Rattle.spv_grammar.specs.Table.{Table};
+ghost use Rattle.spv_inst.specs.Module.{plain_inst, plain_operand};
+ghost use Rattle.spv_layout.specs.Shape.{Fits, IsUse};
+ghost use Rattle.spv_layout.specs.Shape as shape;
+ghost use Rattle.spv_layout.specs.declared.form.Role as declared;
+ghost use Rattle.spv_layout.specs.declared.form.Role.TheVariants as role;
+
+use spv_inst::{Inst, Operand};
+use spv_layout::{Role, role};
+
+/// The id that an operand is.
+fn id_of(operand: Operand<'_>) -> Option<u32>
+    ensures { result ≡ shape.id_of (plain_operand operand.entry) }
+{
+    match operand {
+        Operand::OfType(id) => Some(id),
+        Operand::Result(id) => Some(id),
+        Operand::Id(id) => Some(id),
+        _ => None,
+    }
+}
+
+/// The id that operand `n` is, if there is one.
+fn id_at(inst: &Inst<'_>, n: usize) -> Option<u32>
+    ensures { result ≡ option_and_then shape.id_of (slice_get (plain_inst inst.now).operands n) }
+{
+    let operands = inst.operands.as_slice();
+    if n < operands.len() {
+        id_of(operands[n])
+    } else {
+        None
+    }
+}
+
+/// The id that operand `n` uses as a label, if it does.
+pub fn label(inst: &Inst<'_>, n: usize) -> Option<u32>
+    ensures { (G : Table) → Fits G (plain_inst inst.now) → MatchOption result ((x : ℕ) → ¬ (IsUse G (plain_inst inst.now) n x role.Label)) (λ x. IsUse G (plain_inst inst.now) n x role.Label) }
+{
+    match role(inst, n) {
+        Some(found) => match found {
+            Role::Label => id_at(inst, n),
+            _ => None,
+        },
+        None => None,
+    }
+}
+
+/// The id that operand `n` uses as a value, if it does.
+pub fn value(inst: &Inst<'_>, n: usize) -> Option<u32>
+    ensures { (G : Table) → Fits G (plain_inst inst.now) → MatchOption result ((x : ℕ) → ¬ (IsUse G (plain_inst inst.now) n x role.Value)) (λ x. IsUse G (plain_inst inst.now) n x role.Value) }
+{
+    match role(inst, n) {
+        Some(found) => match found {
+            Role::Value => id_at(inst, n),
+            _ => None,
+        },
+        None => None,
+    }
+}
+
+/// The id that operand `n` uses, in whatever role, if it does.
+pub fn used(inst: &Inst<'_>, n: usize) -> Option<u32>
+    ensures { (G : Table) → Fits G (plain_inst inst.now) → MatchOption result ((x : ℕ) (r : declared.Role) → ¬ (IsUse G (plain_inst inst.now) n x r)) (λ x. (r : declared.Role) × IsUse G (plain_inst inst.now) n x r) }
+{
+    match role(inst, n) {
+        Some(_) => id_at(inst, n),
+        None => None,
+    }
+}

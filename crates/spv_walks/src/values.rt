@@ -1,0 +1,94 @@
+//! The first use of a value that some walk misses.
+
+ghost use Rattle.std.specs.Prelude.{◌≡◌, ◌≤◌, ◌<◌, ◌+◌, List, length, sum_by, IfOk, IfErr};
+ghost use Rattle.spv_grammar.specs.Table.{Table};
+ghost use Rattle.spv_inst.specs.Module.{plain_insts};
+ghost use Rattle.spv_inst.specs.Operand.{PlainInst};
+ghost use Rattle.spv_layout.specs.First.{IsUnbroken};
+ghost use Rattle.spv_layout.specs.Place.{word_count};
+ghost use Rattle.spv_layout.specs.Plan.{IsPlan};
+ghost use Rattle.spv_ids.specs.Outcome.{AreIds, IsStopAt};
+ghost use Rattle.spv_branches.specs.Broken.{Broken};
+ghost use Rattle.spv_walks.specs.Code.{insts_of, IsCode};
+ghost use Rattle.spv_walks.specs.Found.{IsRefusal};
+ghost use Rattle.spv_walks.specs.Missed.{IsFirstOf, IsRuleAt};
+
+use crate::code::{Code, FUNCTION, PHI};
+use crate::function::{Buffers, first_in_function};
+use spv_ids::Ids;
+use spv_inst::{Fault, Module, Rule, Stop};
+use spv_layout::Plan;
+use std::alloc::{AllocError, Global};
+
+/// The first instruction at which a walk misses a value that is used there.
+fn first_missing(alloc: Global, code: &Code<'_, '_>) -> Result<Option<u32>, AllocError>
+    requires code { (G : Table) × IsCode G code.now }
+    requires most { length code.now.insts.now ≤ 4194304 }
+    ensures { IfOk result (λ o. (G : Table) → IsCode G code.now → IsFirstOf G (insts_of code.now) o) }
+{
+    let mut buffers = Buffers::new(alloc, code.insts.len())?;
+    for at in 0..code.insts.len() {
+        if code.insts[at].opcode == FUNCTION {
+            if let Some(inst) = first_in_function(alloc, code, at as u32, &mut buffers)? {
+                return Ok(Some(inst));
+            }
+        }
+    }
+    Ok(None)
+}
+
+/// The rule that is broken where an instruction uses a value that a walk misses.
+fn rule(code: &Code<'_, '_>, inst: u32) -> Rule
+    requires { inst < length code.now.insts.now }
+    ensures { IsRuleAt (insts_of code.now) inst result }
+{
+    if code.insts[inst as usize].opcode == PHI {
+        Rule::A2
+    } else {
+        Rule::A1
+    }
+}
+
+/// The fault of a rule, at the first word of an instruction.
+fn stop_at(plan: &Plan, rule: Rule, inst: u32) -> Stop
+    requires { inst < length plan.now }
+    ensures { (G : Table) (is : List PlainInst) → IsPlan G is plan.now → IsStopAt is rule inst result }
+{
+    let Some(place) = plan.at(inst) else {
+        unreachable!();
+    };
+    Stop::Fault(Fault {
+        rule,
+        inst,
+        word: place.word,
+    })
+}
+
+/// Looks whether every value is defined where it is used, on every walk through its function (SPIR-V Specification 1.6,
+/// section 2.16, said by walks instead of dominators). `plan` and `ids` are what `lay_out` and `number` answered of that
+/// module, in which `check_branches` found no fault.
+///
+/// A `Fault` tells the first rule that is broken, with its instruction and that instruction's first word (words and
+/// instructions from 0):
+/// - A1: on a walk to an instruction other than OpPhi, a local value that it uses is not the result of an earlier one (2.16).
+/// - A2, at OpPhi: on a walk, the value that is paired with the block that the walk came from is local, and not the result of
+///   an instruction before the walk's last OpLabel (2.16, OpPhi).
+///
+/// `Memory` comes only where a growth of memory was refused.
+pub fn check_values(alloc: Global, module: &Module<'_>, plan: &Plan, ids: &Ids) -> Result<(), Stop>
+    // The condition of `lay_out`, and that the plan and the ids are what was answered, by some table, of a module whose branches
+    // are sound.
+    requires words { 5 + sum_by word_count (plain_insts «module».now) ≤ 4194304 }
+    requires known { (G : Table) × IsPlan G (plain_insts «module».now) plan.now × AreIds G «module».now.header.bound (plain_insts «module».now) ids.now × IsUnbroken (Broken G (plain_insts «module».now)) 6 }
+    ensures unbroken { (G : Table) → IsPlan G (plain_insts «module».now) plan.now → AreIds G «module».now.header.bound (plain_insts «module».now) ids.now → IsUnbroken (Broken G (plain_insts «module».now)) 6
+        → IfOk result (λ _. IsUnbroken (Broken G (plain_insts «module».now)) 7) }
+    ensures refused { (G : Table) → IsPlan G (plain_insts «module».now) plan.now → AreIds G «module».now.header.bound (plain_insts «module».now) ids.now → IsUnbroken (Broken G (plain_insts «module».now)) 6
+        → IfErr result (λ s. IsRefusal G (plain_insts «module».now) s) }
+{
+    let insts = module.insts.as_slice();
+    let code = Code { insts, plan, ids };
+    if let Some(inst) = first_missing(alloc, &code)? {
+        return Err(stop_at(plan, rule(&code, inst), inst));
+    }
+    Ok(())
+}
