@@ -16,7 +16,7 @@ use Rattle.spv_text.specs.Reading.{IsAsmFailure}
 use Rattle.spv.specs.Assemble.{Assembles, BeginsAssembling, IsImageOf, text_fault_line}
 use Rattle.spv.specs.Assembly.{ComesTo, fault_by}
 use Rattle.spv.specs.Trouble.{BeginsWith}
-use Rattle.spv.specs.Verdict.{line_end}
+use Rattle.spv_verdict.specs.Verdict.{line_end}
 
 -- a fault of a text that is UTF-8
 pub faulty : (G : Table) (text : List ℕ) (code : AsmCode) (e : AsmError) → code ≡ e.code → IsUtf8 text → IsAsmFailure G text code e.line → IfOk (fault_by code e) (λ a. ComesTo G text a)

@@ -1,9 +1,6 @@
 pub mod Asking
 pub mod Assemblings
-pub mod Firsts
 pub mod Showings
-pub mod Stages
 pub mod Tasks
 pub mod Troubles
-pub mod Verdicts
 pub mod Worked

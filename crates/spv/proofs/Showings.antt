@@ -13,8 +13,8 @@ use Rattle.spv_inst.specs.Outcome.{IsDeath, IsHeaderOf}
 use Rattle.spv_inst.specs.declared.fault.Stop.{Stop}
 use Rattle.spv_inst.specs.declared.fault.Stop.TheVariants.{Fault as Dies, Memory}
 use Rattle.spv_lines.specs.Text.{IsShownText}
-use Rattle.spv.specs.Verdict.{fault_line, refused_line}
-use Rattle.spv.proofs.Verdicts.{Laws, dead_list, same_module}
+use Rattle.spv_verdict.specs.Verdict.{fault_line, refused_line}
+use Rattle.spv_verdict.proofs.Verdicts.{Laws, dead_list, same_module}
 use Rattle.spv.specs.Show.{IsShowing, refused, dead, shown, Shows, BeginsShowing}
 use Rattle.spv.specs.Shown.{is_text, output_of, shown_refusal, shown_stop}
 use Rattle.spv.specs.declared.showing.Shown.{Shown}

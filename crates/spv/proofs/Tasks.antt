@@ -8,10 +8,10 @@ use Rattle.spv.specs.declared.command_line.Command.{Command}
 use Rattle.spv.specs.declared.command_line.Command.TheVariants.{Check, Show, Asm}
 use Rattle.spv.specs.Example.{empty_grammar}
 use Rattle.spv.specs.Show.{BeginsShowing, IsShowing, Shows}
-use Rattle.spv.specs.Stream.{Begins, Tells}
+use Rattle.spv_verdict.specs.Stream.{Begins, Tells}
 use Rattle.spv.specs.Task.{BeginsByText, DoesByText, MakesNothing}
 use Rattle.spv.specs.Trouble.{IsTableOf}
-use Rattle.spv.specs.Verdict.{line_end, refused_line}
+use Rattle.spv_verdict.specs.Verdict.{line_end, refused_line}
 
 pub short_shown : (G : Table) → IsFirstBroken W2 (1 ∷ 2 ∷ 3 ∷ []) → Shows G (1 ∷ 2 ∷ 3 ∷ []) (9 ∷ []) (Some (9 ∷ codes "fault W2" ++ line_end)) false
 short_shown G h = record { output = refused_line W2; showing = IsShowing.refused W2 h; written = refl }

@@ -5,7 +5,7 @@ use Rattle.spv_grammar.specs.declared.error.GrammarError.{GrammarError}
 use Rattle.spv_grammar.specs.declared.error.GrammarError.TheVariants.{J1, J2, J3, J4, J5, J6, J7, J8}
 use Rattle.spv_grammar.specs.Table.{Table}
 use Rattle.spv.specs.Show.{Shows}
-use Rattle.spv.specs.Stream.{Tells}
+use Rattle.spv_verdict.specs.Stream.{Tells}
 use Rattle.spv.specs.Trouble.{IsErrorLine, refused, file, memory, grammar_text, trouble_text}
 use Rattle.spv.specs.declared.program.Trouble.{Trouble}
 use Rattle.spv.specs.declared.program.Trouble.TheVariants.{File, Memory}

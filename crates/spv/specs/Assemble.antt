@@ -14,7 +14,7 @@ use Rattle.spv_lines.specs.Fault.{IsFailure}
 use Rattle.spv_lines.specs.declared.asm_error.AsmCode.{AsmCode}
 use Rattle.spv_lines.specs.declared.asm_error.AsmCode.TheVariants.{S1, S2, S3, S4, S5, S6}
 use Rattle.spv.specs.Trouble.{BeginsWith}
-use Rattle.spv.specs.Verdict.{line_end}
+use Rattle.spv_verdict.specs.Verdict.{line_end}
 
 -- the code of a text's fault, as text
 abbrev pub asm_code_text : AsmCode → List ℕ

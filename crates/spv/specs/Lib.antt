@@ -1,12 +1,8 @@
 pub mod Assemble
 pub mod Assembly
-pub mod Broken
 pub mod CommandLine
 pub mod Example
 pub mod Show
 pub mod Shown
-pub mod Stream
 pub mod Task
-pub mod Text
 pub mod Trouble
-pub mod Verdict

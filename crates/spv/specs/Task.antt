@@ -5,7 +5,7 @@ use Rattle.spv.specs.declared.command_line.Command.{Command}
 use Rattle.spv.specs.declared.command_line.Command.TheVariants.{Check, Show, Asm}
 use Rattle.spv.specs.Assemble.{Assembles, BeginsAssembling, order_of}
 use Rattle.spv.specs.Show.{BeginsShowing, Shows}
-use Rattle.spv.specs.Stream.{Begins, Tells}
+use Rattle.spv_verdict.specs.Stream.{Begins, Tells}
 use Rattle.spv.specs.Trouble.{IsTableOf}
 
 -- The standard output that held the bytes `old`, where they are known, now also holds what the command writes of the bytes

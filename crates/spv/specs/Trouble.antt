@@ -11,7 +11,7 @@ use Rattle.spv_grammar.specs.declared.error.GrammarError.{GrammarError}
 use Rattle.spv_grammar.specs.declared.error.GrammarError.TheVariants as grammar
 use Rattle.spv.specs.declared.program.Trouble.{Trouble}
 use Rattle.spv.specs.declared.program.Trouble.TheVariants as trouble
-use Rattle.spv.specs.Verdict.{line_end}
+use Rattle.spv_verdict.specs.Verdict.{line_end}
 
 -- the line that tells want of memory
 abbrev pub memory_line : List ℕ

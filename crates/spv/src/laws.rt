@@ -1,35 +1,22 @@
-//! What follows from the definitions of the verdict line and of a grammar file's table. Each function does nothing: its
-//! contract is what is proved.
+//! What follows from the definitions of what is shown and of a grammar file's table. Each function does nothing: its contract
+//! is what is proved.
 ghost use Rattle.std.specs.Prelude.{◌≡◌, ◌++◌, ◌∷◌, [], ℕ, List, Option, Bool, true, false, codes};
 ghost use Rattle.spv_words.specs.declared.words.Order.{Order};
 ghost use Rattle.spv_grammar.specs.Table.{Table};
 ghost use Rattle.spv_grammar.specs.Answer.{text_breaks};
 ghost use Rattle.spv_grammar.specs.declared.error.GrammarError.{GrammarError};
-ghost use Rattle.spv_inst.specs.declared.fault.Rule.TheVariants.{I7, L2};
 ghost use Rattle.spv_grammar.specs.Example.{empty_table};
 ghost use Rattle.spv.specs.Example.{empty_grammar};
-ghost use Rattle.spv.specs.Stream.{Begins, Tells};
 ghost use Rattle.spv.specs.Show.{BeginsShowing, IsShowing, Shows};
 ghost use Rattle.spv.specs.Assemble.{Assembles, BeginsAssembling};
 ghost use Rattle.spv.specs.Task.{BeginsByText, DoesByText, MakesNothing};
 ghost use Rattle.spv.specs.Trouble.{BeginsWith, IsErrorLine, IsTableOf, Writes, file_line, memory_line};
 ghost use Rattle.spv.specs.declared.command_line.Command.{Command};
-ghost use Rattle.spv.specs.Verdict.{IsVerdict, fault_line, line_end, valid_line};
+ghost use Rattle.spv_verdict.specs.Verdict.{line_end, valid_line};
 
 use spv_grammar::laws::one_table;
 use spv_inst::{listed_or_dead, one_death, one_listing};
 use spv_lines::one_shown;
-
-/// Bytes have one verdict line.
-pub fn one_verdict()
-    ensures { (G : Table) (bytes one other : List ℕ) → IsVerdict G bytes one → IsVerdict G bytes other → one ≡ other }
-{
-    spv_words::laws::one_word_list();
-    spv_words::laws::one_refusal();
-    one_death();
-    one_listing();
-    listed_or_dead();
-}
 
 /// Bytes are shown in one way.
 pub fn one_showing()
@@ -51,33 +38,6 @@ pub fn one_grammar()
     ensures never { (text : List ℕ) (G : Table) (e : GrammarError) → IsTableOf text G → ¬ (text_breaks text e) }
 {
     one_table();
-}
-
-/// Worked examples.
-pub fn examples()
-    // Three bytes are no header, whatever the grammar says.
-    ensures refused { (G : Table) → IsVerdict G (1 ∷ 2 ∷ 3 ∷ []) (codes "fault W2" ++ line_end) }
-    ensures not_valid { (G : Table) → ¬ (IsVerdict G (1 ∷ 2 ∷ 3 ∷ []) valid_line) }
-    // A header with version 1.6, generator 7 and bound 5, and no instruction after it: OpMemoryModel is missing.
-    ensures unsound { (G : Table) → IsVerdict G (7 ∷ 35 ∷ 2 ∷ 3 ∷ 0 ∷ 1 ∷ 6 ∷ 0 ∷ 0 ∷ 0 ∷ 0 ∷ 7 ∷ 0 ∷ 0 ∷ 0 ∷ 5 ∷ 0 ∷ 0 ∷ 0 ∷ 0 ∷ []) (fault_line L2 0 5) }
-    // Rule I7 at the first instruction and the word of number 9.
-    ensures text { fault_line I7 0 9 ≡ codes "fault I7 inst 0 word 9" ++ line_end }
-{
-    spv_words::laws::examples();
-    one_verdict();
-}
-
-/// Worked examples of what a check leaves in its writer.
-pub fn stream_examples()
-    // A writer that held the byte 9 got the verdict line of three bytes.
-    ensures tells { (G : Table) → Tells G (1 ∷ 2 ∷ 3 ∷ []) (9 ∷ []) (Some (9 ∷ codes "fault W2" ++ line_end)) false }
-    ensures tells_valid { (G : Table) (new : Option (List ℕ)) → ¬ (Tells G (1 ∷ 2 ∷ 3 ∷ []) [] new true) }
-    // The first five bytes of that line, and of another one.
-    ensures begins { (G : Table) → Begins G (1 ∷ 2 ∷ 3 ∷ []) (9 ∷ []) (Some (9 ∷ codes "fault")) }
-    ensures begins_valid { (G : Table) → ¬ (Begins G (1 ∷ 2 ∷ 3 ∷ []) [] (Some (codes "valid"))) }
-{
-    spv_words::laws::examples();
-    one_verdict();
 }
 
 /// Worked examples of what is shown.
@@ -124,6 +84,6 @@ pub fn run_examples()
     ensures no_failure { (text : List ℕ) → ¬ (IsErrorLine text ⊥ file_line) }
 {
     spv_grammar::laws::table_examples();
-    stream_examples();
+    spv_verdict::laws::stream_examples();
     show_examples();
 }

@@ -3,16 +3,12 @@
 
 mod assembling;
 mod command_line;
-mod judging;
 pub mod laws;
-mod line;
 mod program;
 mod showing;
-mod stream;
 #[cfg(test)]
 mod tests;
 mod text_fault;
-mod verdict_line;
 
 use crate::command_line::{Command, UseError, arguments, help};
 use crate::program::{Trouble, report, run};

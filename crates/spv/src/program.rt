@@ -4,7 +4,7 @@ ghost use Rattle.spv_grammar.specs.Answer.{text_breaks};
 ghost use Rattle.spv_grammar.specs.declared.error.GrammarError.{GrammarError};
 ghost use Rattle.spv_grammar.specs.declared.error.GrammarError.TheVariants.{J8};
 ghost use Rattle.spv.specs.Assemble.{Assembles, BeginsAssembling, order_of};
-ghost use Rattle.spv.specs.Stream.{Begins, Tells};
+ghost use Rattle.spv_verdict.specs.Stream.{Begins, Tells};
 ghost use Rattle.spv.specs.Show.{BeginsShowing, Shows};
 ghost use Rattle.spv.specs.Task.{BeginsByText, BeginsToDo, Does, DoesByText, IsNoText, MakesNothing};
 ghost use Rattle.spv.specs.Trouble.{IsErrorLine, Writes, file_line, grammar_text, memory_line, trouble_from, trouble_text};
@@ -14,8 +14,8 @@ use crate::assembling::{TextError, assemble_stream};
 use crate::command_line::Command;
 use crate::laws::one_grammar;
 use crate::showing::show_stream;
-use crate::stream::check_stream;
 use spv_grammar::{GrammarError, Table};
+use spv_verdict::check_stream;
 use spv_words::{Order, Sink, Source, WordError, write_all};
 use std::alloc::Global;
 

@@ -7,10 +7,10 @@ ghost use Rattle.spv_words.specs.declared.words.WordError.TheVariants.{W1, W9};
 ghost use Rattle.spv.specs.Show.{BeginsShowing, IsShowing, Shows};
 ghost use Rattle.spv.specs.Shown.{is_text, output_of, shown_refusal, shown_stop};
 
-use crate::verdict_line::{Verdict, line_for};
 use spv_grammar::Table;
 use spv_inst::{Stop, decode};
-use spv_text::show;
+use spv_text::show_listed;
+use spv_verdict::{Judgment, line_for};
 use spv_words::{Image, Sink, Source, WordError, read_image, write_all};
 use std::alloc::Global;
 
@@ -20,7 +20,7 @@ pub enum Shown {
     /// The text of the module.
     Text(String),
     /// The verdict line of bytes that are no words of a module, or of words that are no list of instructions.
-    Line(Verdict),
+    Line(Judgment),
 }
 
 /// What is shown of bytes that gave no image: W1 and W9 are errors, and of the others the verdict line is shown.
@@ -30,7 +30,7 @@ fn refused(code: WordError) -> Result<Shown, WordError>
     match code {
         WordError::W1 => Err(WordError::W1),
         WordError::W9 => Err(WordError::W9),
-        _ => Ok(Shown::Line(Verdict::Refused(code))),
+        _ => Ok(Shown::Line(Judgment::Refused(code))),
     }
 }
 
@@ -39,7 +39,7 @@ fn unlisted(stop: Stop) -> Result<Shown, WordError>
     ensures { result ≡ shown_stop stop }
 {
     match stop {
-        Stop::Fault(fault) => Ok(Shown::Line(Verdict::Broken(fault))),
+        Stop::Fault(fault) => Ok(Shown::Line(Judgment::Broken(fault))),
         Stop::Memory => Err(WordError::W9),
     }
 }
@@ -55,7 +55,7 @@ fn shown_of(alloc: Global, table: &Table, image: &Image) -> Result<Shown, WordEr
         Ok(module) => module,
         Err(stop) => return unlisted(stop),
     };
-    match show(alloc, table, &module) {
+    match show_listed(alloc, table, &module) {
         Ok(text) => Ok(Shown::Text(text)),
         Err(_) => Err(WordError::W9),
     }

@@ -1,10 +1,10 @@
 //! The line that tells where a text fails.
 ghost use Rattle.std.specs.Prelude.{◌≡◌, ◌≤◌, length};
 ghost use Rattle.spv.specs.Assemble.{asm_code_text, text_fault_line};
-ghost use Rattle.spv.specs.Text.{text_of};
+ghost use Rattle.spv_verdict.specs.Text.{text_of};
 
-use crate::line::Line;
 use spv_text::{AsmCode, AsmError};
+use spv_verdict::Line;
 
 /// The text of a code S1 to S6.
 fn asm_code_name(code: AsmCode) -> &'static [u8]

@@ -1,0 +1,5 @@
+pub mod Checks
+pub mod Firsts
+pub mod Stages
+pub mod Verdicts
+pub mod Worked

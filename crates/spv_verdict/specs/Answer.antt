@@ -1,0 +1,42 @@
+-- What `check` answers of an image, and the parts that are lent of a checked module.
+use Rattle.std.specs.Prelude.{◌≡◌, ◌≤◌, ◌-◌, ℕ, List, Result, Ok, IfOk, drop, slice_index}
+use Rattle.spv_grammar.specs.Table.{Table}
+use Rattle.spv_grammar.specs.declared.error.Memory.{Memory}
+use Rattle.spv_inst.specs.Operand.{PlainInst}
+use Rattle.spv_inst.specs.Dead.{IsDeadAt}
+use Rattle.spv_inst.specs.Instruction.{IsListing}
+use Rattle.spv_inst.specs.declared.fault.Fault as fault
+use Rattle.spv_inst.specs.declared.fault.Stop.{Stop}
+use Rattle.spv_inst.specs.declared.fault.Stop.TheVariants as stop
+use Rattle.spv_layout.specs.Place.{first_word_of}
+use Rattle.spv_verdict.specs.Broken.{IsFirst}
+use Rattle.spv_verdict.specs.Checked.{AreParts, IsChecked}
+use Rattle.spv_verdict.specs.Program.{Program}
+use Rattle.spv_verdict.specs.declared.checked.Parts.{Parts}
+use Rattle.spv_verdict.specs.declared.checked.Verdict.{Verdict}
+use Rattle.spv_verdict.specs.declared.checked.Verdict.TheVariants.{Valid, Fault}
+
+-- The fault is that of the words of a module: from word 5 on they are dead at an instruction, told by its rule, its number and a
+-- word; or they spell a list, and this is the first rule that it breaks, told by the instruction and its first word.
+pub data IsFault (G : Table) (words : List ℕ) (f : fault.Fault) : Type 0 where
+  dead : 5 ≤ f.word → IsDeadAt G (drop 5 words) f.rule f.inst (f.word - 5) → IsFault G words f
+  broken : (is : List PlainInst) → IsListing G is (drop 5 words) → IsFirst G (slice_index words 3) is f.rule f.inst → f.word ≡ first_word_of is f.inst → IsFault G words f
+
+-- The verdict on the words of a module: the checked module, or its fault.
+abbrev pub IsAnswer : Table → List ℕ → Verdict → Type 0
+IsAnswer G words (Valid c) = IsChecked G words c
+IsAnswer G words (Fault f) = IsFault G words f
+
+-- the verdict is no fault
+abbrev pub SaysValid : Verdict → Type 0
+SaysValid (Valid c) = Unit {0}
+SaysValid (Fault f) = ⊥
+
+-- a fault is a verdict, and want of memory an error
+abbrev pub StopsAs : Stop → Result Verdict Memory → Type 0
+StopsAs (stop.Fault f) r = r ≡ Ok (Fault f)
+StopsAs stop.Memory r = IfOk r (λ _. ⊥)
+
+-- The parts are those of the checked module.
+abbrev pub ArePartsOf : Table → Program → Parts → Type 0
+ArePartsOf G p parts = AreParts G p parts.«module».now parts.plan.now parts.ids.now parts.flow.now

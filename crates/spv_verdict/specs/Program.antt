@@ -1,0 +1,8 @@
+-- What a contract sees of a checked module.
+use Rattle.std.specs.Prelude.{ℕ, List}
+use Rattle.spv_inst.specs.Operand.{PlainInst}
+
+-- the bound of its ids and its instructions
+pub record Program : Type 0 where
+  pub bound : ℕ
+  pub insts : List PlainInst

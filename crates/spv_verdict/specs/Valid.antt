@@ -1,0 +1,18 @@
+-- Which bytes are a valid module. (Own.)
+use Rattle.std.specs.Prelude.{ℕ, List, drop, slice_index}
+use Rattle.spv_words.specs.Header.{IsModule}
+use Rattle.spv_words.specs.declared.words.Order.{Order}
+use Rattle.spv_grammar.specs.Table.{Table}
+use Rattle.spv_inst.specs.Operand.{PlainInst}
+use Rattle.spv_inst.specs.Instruction.{IsListing}
+use Rattle.spv_verdict.specs.Broken.{IsSound}
+
+-- The bytes stand, in an order, for words with a good header; from word 5 on these are the joined spellings of a list of
+-- instructions, under the grammar table; and the list breaks no rule, under the bound that word 3 is.
+pub record IsValid (G : Table) (bytes : List ℕ) : Type 0 where
+  pub words : List ℕ
+  pub order : Order
+  pub is_module : IsModule order bytes words
+  pub insts : List PlainInst
+  pub listing : IsListing G insts (drop 5 words)
+  pub sound : IsSound G (slice_index words 3) insts

@@ -1,0 +1,94 @@
+//! A module that breaks no rule, and the verdict on words.
+
+use spv_flow::Flow;
+use spv_ids::Ids;
+use spv_inst::{Fault, Module};
+use spv_layout::Plan;
+use std::marker::Model;
+
+/// A module that breaks no rule, with what the layers know of it. Only `check` makes one.
+///
+/// Contracts see the bound of its ids and its instructions. That it breaks no rule, by some table, and that the parts are its
+/// own, is true of every value of this type.
+#[derive(Drop)]
+pub struct Checked<'a> {
+    /// The module, with texts lent by its image.
+    module: Module<'a>,
+    /// Where each instruction stands.
+    plan: Plan,
+    /// Which instruction defines each id.
+    ids: Ids,
+    /// What is known of its flow.
+    flow: Flow,
+}
+
+/// The parts of a checked module.
+#[derive(Clone, Copy)]
+pub struct Parts<'m, 'a> {
+    /// The module, with texts lent by its image.
+    pub module: &'m Module<'a>,
+    /// Where each instruction stands.
+    pub plan: &'m Plan,
+    /// Which instruction defines each id.
+    pub ids: &'m Ids,
+    /// What is known of its flow.
+    pub flow: &'m Flow,
+}
+
+/// The verdict on the words of a module.
+#[derive(Drop)]
+pub enum Verdict<'a> {
+    /// No rule is broken.
+    Valid(Checked<'a>),
+    /// The first rule that is broken, with the instruction and the word by which it is told.
+    Fault(Fault),
+}
+
+impl<'a> Model for Checked<'a> {
+    ghost use Rattle.spv_verdict.specs.Program.{Program};
+
+    ghost Value = { Program };
+
+    ghost use Rattle.spv_grammar.specs.Table.{Table};
+    ghost use Rattle.spv_inst.specs.Module.{plain_insts};
+    ghost use Rattle.spv_verdict.specs.Checked.{AreParts};
+
+    ghost view = { λ c. record { bound = c.«module».header.bound; insts = plain_insts c.«module» } };
+
+    ghost invariant = { λ c. (G : Table) × AreParts G (record { bound = c.«module».header.bound; insts = plain_insts c.«module» }) c.«module» c.plan c.ids c.flow };
+}
+
+impl<'a> Checked<'a> {
+    ghost use Rattle.std.specs.Prelude.{◌≡◌};
+    ghost use Rattle.spv_grammar.specs.Table.{Table};
+    ghost use Rattle.spv_inst.specs.Module.{plain_insts};
+    ghost use Rattle.spv_verdict.specs.Program.{Program};
+    ghost use Rattle.spv_verdict.specs.Checked.{AreParts, IsKept};
+    ghost use Rattle.spv_verdict.specs.Answer.{ArePartsOf};
+
+    /// A module with what was answered of it.
+    pub(crate) fn new(module: Module<'a>, plan: Plan, ids: Ids, flow: Flow) -> Checked<'a>
+        requires { (G : Table) × AreParts G (record { bound = «module».header.bound; insts = plain_insts «module» }) «module» plan ids flow }
+        ensures { result ≡ record { bound = «module».entry.header.bound; insts = plain_insts «module».entry } }
+    {
+        Checked {
+            module,
+            plan,
+            ids,
+            flow,
+        }
+    }
+
+    /// The module, and what the layers know of it. It takes no memory.
+    pub fn parts(&self) -> Parts<'_, 'a>
+        ensures some { (G : Table) × ArePartsOf G self.now result }
+        ensures each { (G : Table) → IsKept G self.now → ArePartsOf G self.now result }
+    {
+        Parts {
+            module: &self.module,
+            plan: &self.plan,
+            ids: &self.ids,
+            flow: &self.flow,
+        }
+    }
+}

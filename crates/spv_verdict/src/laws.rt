@@ -1,0 +1,89 @@
+//! What follows from the definitions of a verdict. Each function does nothing: its contract is what is proved.
+ghost use Rattle.std.specs.Prelude.{◌≡◌, ◌↔◌, ◌++◌, ◌∷◌, [], ℕ, List, Option, true, false, codes};
+ghost use Rattle.spv_grammar.specs.Table.{Table};
+ghost use Rattle.spv_inst.specs.Operand.{PlainInst};
+ghost use Rattle.spv_inst.specs.declared.fault.Fault.{Fault};
+ghost use Rattle.spv_inst.specs.declared.fault.Rule.{Rule};
+ghost use Rattle.spv_inst.specs.declared.fault.Rule.TheVariants.{A1, G1, I7, L2, Y7};
+ghost use Rattle.spv_calls.specs.Example.{functions, looped};
+ghost use Rattle.spv_verdict.specs.Answer.{IsFault};
+ghost use Rattle.spv_verdict.specs.Checked.{IsChecked};
+ghost use Rattle.spv_verdict.specs.Program.{Program};
+ghost use Rattle.spv_verdict.specs.Broken.{Broken, IsFirst, Precedes};
+ghost use Rattle.spv_verdict.specs.Stream.{Begins, Tells};
+ghost use Rattle.spv_verdict.specs.Valid.{IsValid};
+ghost use Rattle.spv_verdict.specs.Verdict.{IsVerdict, fault_line, line_end, valid_line};
+
+use spv_inst::{listed_or_dead, one_death, one_listing};
+
+/// Bytes have one verdict line.
+pub fn one_verdict()
+    ensures { (G : Table) (bytes one other : List ℕ) → IsVerdict G bytes one → IsVerdict G bytes other → one ≡ other }
+{
+    spv_words::laws::one_word_list();
+    spv_words::laws::one_refusal();
+    one_death();
+    one_listing();
+    listed_or_dead();
+}
+
+/// The verdict line is `valid` exactly where the bytes are a valid module.
+pub fn valid_exactly()
+    ensures { (G : Table) (bytes : List ℕ) → IsVerdict G bytes valid_line ↔ IsValid G bytes }
+{}
+
+/// Words have one answer: one fault, and none where they are a checked module.
+pub fn one_answer()
+    ensures fault { (G : Table) (words : List ℕ) (f g : Fault) → IsFault G words f → IsFault G words g → (f.rule ≡ g.rule) × (f.inst ≡ g.inst) × (f.word ≡ g.word) }
+    ensures never { (G : Table) (words : List ℕ) (f : Fault) (p : Program) → IsFault G words f → ¬ (IsChecked G words p) }
+{
+    spv_words::laws::one_word_list();
+    spv_words::laws::one_refusal();
+    one_death();
+    one_listing();
+    listed_or_dead();
+}
+
+/// Of all broken rules at most one is told, at one instruction.
+pub fn one_first()
+    ensures { (G : Table) (bound : ℕ) (is : List PlainInst) (q r : Rule) (m n : ℕ) → IsFirst G bound is q m → IsFirst G bound is r n → (q ≡ r) × (m ≡ n) }
+{}
+
+/// Worked examples.
+pub fn examples()
+    // Three bytes are no header, whatever the grammar says.
+    ensures refused { (G : Table) → IsVerdict G (1 ∷ 2 ∷ 3 ∷ []) (codes "fault W2" ++ line_end) }
+    ensures not_valid { (G : Table) → ¬ (IsVerdict G (1 ∷ 2 ∷ 3 ∷ []) valid_line) }
+    // A header with version 1.6, generator 7 and bound 5, and no instruction after it: OpMemoryModel is missing.
+    ensures unsound { (G : Table) → IsVerdict G (7 ∷ 35 ∷ 2 ∷ 3 ∷ 0 ∷ 1 ∷ 6 ∷ 0 ∷ 0 ∷ 0 ∷ 0 ∷ 7 ∷ 0 ∷ 0 ∷ 0 ∷ 5 ∷ 0 ∷ 0 ∷ 0 ∷ 0 ∷ []) (fault_line L2 0 5) }
+    // Rule I7 at the first instruction and the word of number 9.
+    ensures text { fault_line I7 0 9 ≡ codes "fault I7 inst 0 word 9" ++ line_end }
+{
+    spv_words::laws::examples();
+    one_verdict();
+}
+
+/// Worked examples of broken rules, and of which is told.
+pub fn broken_examples()
+    // A call on a cycle that an entry point leads to, under any table; where there is no entry point, none breaks the rule.
+    ensures cycle { (G : Table) (bound : ℕ) → Broken G bound looped G1 8 }
+    ensures no_cycle { (G : Table) (bound n : ℕ) → ¬ (Broken G bound functions G1 n) }
+    // A fault of types is told before one of values at a lower instruction.
+    ensures earlier { Precedes Y7 9 A1 3 }
+    ensures later { ¬ (Precedes A1 3 Y7 9) }
+{
+    spv_calls::laws::call_examples();
+}
+
+/// Worked examples of what a check leaves in its writer.
+pub fn stream_examples()
+    // A writer that held the byte 9 got the verdict line of three bytes.
+    ensures tells { (G : Table) → Tells G (1 ∷ 2 ∷ 3 ∷ []) (9 ∷ []) (Some (9 ∷ codes "fault W2" ++ line_end)) false }
+    ensures tells_valid { (G : Table) (new : Option (List ℕ)) → ¬ (Tells G (1 ∷ 2 ∷ 3 ∷ []) [] new true) }
+    // The first five bytes of that line, and of another one.
+    ensures begins { (G : Table) → Begins G (1 ∷ 2 ∷ 3 ∷ []) (9 ∷ []) (Some (9 ∷ codes "fault")) }
+    ensures begins_valid { (G : Table) → ¬ (Begins G (1 ∷ 2 ∷ 3 ∷ []) [] (Some (codes "valid"))) }
+{
+    spv_words::laws::examples();
+    one_verdict();
+}

@@ -1,0 +1,15 @@
+//! The verdict on a module: whether it breaks a rule, and which it breaks first.
+#![tactic(auto)]
+
+mod checked;
+mod judging;
+pub mod laws;
+mod line;
+mod stream;
+mod verdict_line;
+
+pub use checked::{Checked, Parts, Verdict};
+pub use judging::check;
+pub use line::Line;
+pub use stream::check_stream;
+pub use verdict_line::{Judgment, line_for};
