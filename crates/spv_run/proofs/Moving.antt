@@ -1,0 +1,606 @@
+-- What the code finds of instructions tells what they do to a run.
+use Rattle.std.proofs.Common.{◌≡◌, ◌≢◌, ◌∙◌, ◌≤◌, ◌<◌, ◌+◌, ◌-◌, ◌++◌, append-nil, ◌⊎◌, inl, inr, ℕ, zero, suc, List, [], ◌∷◌, map, Option, Some, None, refl, sym, ap, subst, arith, length, take, drop, Contains, Bool, true, false, Vec, Global, get_or, option_map, Result, Ok, Err}
+use Rattle.std.specs.Prelude.{slice_get, IfOk}
+use Rattle.std.specs.List.{AllZip}
+use Rattle.std.proofs.lemmas.Bool.{cases_eq, cases_lt}
+use Rattle.std.proofs.lemmas.Option.{none-some, same_Some, slice_get_within, slice_get-map, slice_get-get_or}
+use Rattle.spv_grammar.specs.Table.{Table}
+use Rattle.spv_inst.specs.Operand.{Plain, PlainInst}
+use Rattle.spv_inst.specs.Operand as operand
+use Rattle.spv_inst.specs.declared.operand.Operand.{Operand as CodeOperand}
+use Rattle.spv_inst.specs.declared.operand.Operand.TheVariants as code
+use Rattle.spv_inst.specs.Module.{plain_operand, plain_operands}
+use Rattle.spv_ids.specs.declared.ids.Ids.{Ids}
+use Rattle.spv_ids.specs.Definition.{IsDefinedAt}
+use Rattle.spv_ids.specs.Outcome.{IsOnly, IsDefinitionOf, definition_in}
+use Rattle.spv_branches.specs.Target.{IsLabelOf}
+use Rattle.spv_calls.specs.Found.{id_in, AreNumbered}
+use Rattle.spv_run.specs.Act.{Act, Function, Parameter, FunctionEnd, Label, Branch, Choose, Call, Return, ReturnValue, Other, act_of, labels_in}
+use Rattle.spv_run.specs.Act as act
+use Rattle.spv_run.specs.declared.parts.Move.TheVariants as move
+use Rattle.spv_run.specs.Trace.{Tells, AreMoves}
+use Rattle.spv_run.specs.At.{act_at, result_at, targets}
+use Rattle.spv_run.specs.Head.{Binding, Head, end, parameter, line, IsDefined, IsDeclared}
+use Rattle.spv_run.specs.Sound.{IsSound}
+use Rattle.spv_run.specs.Moves.{IsEntry, IsHead, HaveEntries, HaveEntriesBefore, ArePlacesOf, AreMovesBefore}
+use Rattle.spv_run.proofs.Basics.{act_here, act_back, act_from, act_same, contains_here, contains_later}
+use Rattle.spv_run.specs.State.{State}
+use Rattle.spv_run.specs.Run.{IsStart}
+use Rattle.spv_run.proofs.Once.{head_once, label_ends}
+use Rattle.spv_run.proofs.Simulates.{not_both}
+use Rattle.spv_run.proofs.Unbroken.{has_labels, one_definition}
+use Rattle.spv_run.proofs.Rows.{call_fits}
+use Rattle.spv_run.proofs.Typing.{call_typed}
+use Rattle.spv_inst.specs.declared.fault.Rule.TheVariants as rule
+use Rattle.spv_layout.specs.declared.form.Form.{Form}
+use Rattle.spv_layout.specs.declared.form.Form.TheVariants as form
+use Rattle.spv_layout.specs.Row.{repeated, W}
+use Rattle.spv_layout.specs.Shape.{is_of, AreOf, Ends}
+use Rattle.spv_ops.specs.Operands.{ids_in}
+use Rattle.spv_run.specs.declared.parts.Move.{Move}
+use Rattle.spv_run.proofs.Laid.{laid_out}
+use Rattle.spv_run.proofs.Shapes.{View, view, is_other, none}
+use Rattle.spv_run.proofs.Shapes.{take as take_form}
+use Rattle.spv_run.proofs.Standing.{label_act, label_to, defined_at, result_of}
+
+by_definition : (is : List PlainInst) (x m : ℕ) (o : Option ℕ) → IsDefinitionOf is x o → IsDefinedAt is x m → o ≡ Some m
+by_definition is x m None h d = absurd (h m d)
+by_definition is x m (Some k) h d = ap Some (sym (h.only m d))
+
+pub placed : (is : List PlainInst) (ids : Ids) (x m place : ℕ) → AreNumbered is ids → definition_in ids x ≡ Some place → IsDefinedAt is x m → place ≡ m
+placed is ids x m place n e d = same_Some place m (sym e ∙ by_definition is x m (definition_in ids x) (n.each x) d)
+
+pub unplaced : (is : List PlainInst) (ids : Ids) (x m : ℕ) → AreNumbered is ids → definition_in ids x ≡ None → IsDefinedAt is x m → ⊥
+unplaced is ids x m n e d = none-some m (sym e ∙ by_definition is x m (definition_in ids x) (n.each x) d)
+
+-- What stands in a head.
+
+data InHead (is : List PlainInst) (k : ℕ) : Type 0 where
+  a_parameter : act_at is k ≡ Some Parameter → InHead is k
+  a_line : act_at is k ≡ Some Other → InHead is k
+
+in_head : (is : List PlainInst) (e n : ℕ) (bs : List Binding) → Head is e n bs → (k : ℕ) → n ≤ k → k < e → InHead is k
+in_head is e _ _ Head.end k l u = absurd (omega (arith, l, u))
+in_head is e _ _ (Head.parameter n x t bs a r y rest) k l u = elim (cases_eq n k) [
+  | inl same ↦ InHead.a_parameter (subst (λ j. act_at is j ≡ Some Parameter) same a)
+  | inr other ↦ in_head is e (suc n) bs rest k (omega (arith, l, other)) u
+]
+in_head is e _ _ (Head.line n bs a r rest) k l u = elim (cases_eq n k) [
+  | inl same ↦ InHead.a_line (subst (λ j. act_at is j ≡ Some Other) same a)
+  | inr other ↦ in_head is e (suc n) bs rest k (omega (arith, l, other)) u
+]
+
+head_from : (is : List PlainInst) (e n : ℕ) (bs : List Binding) → Head is e n bs → n ≤ e
+head_from is e _ _ Head.end = omega arith
+head_from is e _ _ (Head.parameter n x t bs a r y rest) = let w = head_from is e (suc n) bs rest in omega (arith, w)
+head_from is e _ _ (Head.line n bs a r rest) = let w = head_from is e (suc n) bs rest in omega (arith, w)
+
+no_label_in : (is : List PlainInst) (k : ℕ) → InHead is k → act_at is k ≢ Some Label
+no_label_in is k (InHead.a_parameter a) h = let w = act_same is k Parameter Label a h in cc
+no_label_in is k (InHead.a_line a) h = let w = act_same is k Other Label a h in cc
+
+no_end_in : (is : List PlainInst) (k : ℕ) → InHead is k → act_at is k ≢ Some FunctionEnd
+no_end_in is k (InHead.a_parameter a) h = let w = act_same is k Parameter FunctionEnd a h in cc
+no_end_in is k (InHead.a_line a) h = let w = act_same is k Other FunctionEnd a h in cc
+
+end_act : (i : PlainInst) → i.opcode ≡ 56 → act_of i ≡ FunctionEnd
+unfolding act_of
+end_act i e = rw e refl
+
+-- opcodes of labels and ends
+label_opcode : (G : Table) (i : PlainInst) (a : Act) → View G i a → a ≡ Label → i.opcode ≡ 248
+label_opcode G i _ (View.label b e os) h = e
+label_opcode G i _ (View.function a b k' m s e os) h = cc
+label_opcode G i _ (View.parameter t b e os) h = cc
+label_opcode G i _ (View.function_end e os) h = cc
+label_opcode G i _ (View.call a b c os gs e same en each) h = cc
+label_opcode G i _ (View.phi a b os gs e same en each) h = cc
+label_opcode G i _ (View.branch x e os) h = cc
+label_opcode G i _ (View.condition c x y os gs e same en each) h = cc
+label_opcode G i _ (View.switch c x os gs e same en each) h = cc
+label_opcode G i _ (View.return e os) h = cc
+label_opcode G i _ (View.value x e os) h = cc
+label_opcode G i _ (View.unreachable e os) h = cc
+label_opcode G i _ (View.other e) h = cc
+
+end_opcode : (G : Table) (i : PlainInst) (a : Act) → View G i a → a ≡ FunctionEnd → i.opcode ≡ 56
+end_opcode G i _ (View.label b e os) h = cc
+end_opcode G i _ (View.function a b k' m s e os) h = cc
+end_opcode G i _ (View.parameter t b e os) h = cc
+end_opcode G i _ (View.function_end e os) h = e
+end_opcode G i _ (View.call a b c os gs e same en each) h = cc
+end_opcode G i _ (View.phi a b os gs e same en each) h = cc
+end_opcode G i _ (View.branch x e os) h = cc
+end_opcode G i _ (View.condition c x y os gs e same en each) h = cc
+end_opcode G i _ (View.switch c x os gs e same en each) h = cc
+end_opcode G i _ (View.return e os) h = cc
+end_opcode G i _ (View.value x e os) h = cc
+end_opcode G i _ (View.unreachable e os) h = cc
+end_opcode G i _ (View.other e) h = cc
+
+-- the head of a function that is sound ends where the look for its end stops
+record Ended (is : List PlainInst) (g n : ℕ) : Type 0 where
+  pub place : ℕ
+  pub parameters : List Binding
+  pub either : IsDefined is g place parameters ⊎ IsDeclared is g place parameters
+  pub after : g < place
+  pub low : n ≤ place
+  pub within : place < length is
+  pub inner : (k : ℕ) → g < k → k < place → InHead is k
+
+ended : (G : Table) (bound : ℕ) (is : List PlainInst) (g n : ℕ) → IsSound G bound is → act_at is g ≡ Some Function → IsHead is g n → Ended is g n
+ended G bound is g n sound f head = by_end r.2 where
+  r : (e : ℕ) × (bs : List Binding) × (IsDefined is g e bs ⊎ IsDeclared is g e bs)
+  r = (laid_out G is sound.fits sound.layout).heads g f
+
+  by_end : IsDefined is g r.0 r.1 ⊎ IsDeclared is g r.0 r.1 → Ended is g n
+  by_end (inl d) =
+      let from = head_from is r.0 (suc g) r.1 d.head in
+      let i = act_back is r.0 Label d.entry in
+      let op = label_opcode G i.0 (act_of i.0) (view G i.0 (sound.fits r.0 i.0 i.1)) i.2 in
+      record {
+        place = r.0;
+        parameters = r.1;
+        either = inl d;
+        after = omega (arith, from);
+        low = elim (cases_lt r.0 n) [ inl less ↦ absurd (head.label r.0 i.0 (omega (arith, from)) less i.1 op) | inr more ↦ more ];
+        within = slice_get_within is r.0 i.0 i.1;
+        inner = λ k l u. in_head is r.0 (suc g) r.1 d.head k l u;
+      }
+  by_end (inr d) =
+      let from = head_from is r.0 (suc g) r.1 d.head in
+      let i = act_back is r.0 FunctionEnd d.over in
+      let op = end_opcode G i.0 (act_of i.0) (view G i.0 (sound.fits r.0 i.0 i.1)) i.2 in
+      record {
+        place = r.0;
+        parameters = r.1;
+        either = inr d;
+        after = omega (arith, from);
+        low = elim (cases_lt r.0 n) [ inl less ↦ absurd (head.over r.0 i.0 (omega (arith, from)) less i.1 op) | inr more ↦ more ];
+        within = slice_get_within is r.0 i.0 i.1;
+        inner = λ k l u. in_head is r.0 (suc g) r.1 d.head k l u;
+      }
+
+pub at_label : (is : List PlainInst) (g n : ℕ) (i : PlainInst) → g < n → IsHead is g n → slice_get is n ≡ Some i → i.opcode ≡ 248
+    → (G : Table) (bound : ℕ) → IsSound G bound is → act_at is g ≡ Some Function → IsEntry is g n
+at_label is g n i l head at op G bound sound f =
+    let x = ended G bound is g n sound f head in
+    let lab = act_from is n i Label at (label_act i op) in
+    let same : x.place ≡ n = elim (cases_eq x.place n) [
+      | inl e ↦ e
+      | inr ne ↦ (let low = x.low in absurd (no_label_in is n (x.inner n l (omega (arith, low, ne))) lab))
+    ] in
+    elim x.either [
+      | inl d ↦ subst (λ k. IsEntry is g k) same (IsEntry.defined x.place x.parameters d)
+      | inr d ↦ absurd (let w = act_same is n FunctionEnd Label (subst (λ k. act_at is k ≡ Some FunctionEnd) same d.over) lab in cc)
+    ]
+
+pub at_over : (is : List PlainInst) (g n : ℕ) (i : PlainInst) → g < n → IsHead is g n → slice_get is n ≡ Some i → i.opcode ≡ 56
+    → (G : Table) (bound : ℕ) → IsSound G bound is → act_at is g ≡ Some Function → IsEntry is g 0
+at_over is g n i l head at op G bound sound f =
+    let x = ended G bound is g n sound f head in
+    let over = act_from is n i FunctionEnd at (end_act i op) in
+    let same : x.place ≡ n = elim (cases_eq x.place n) [
+      | inl e ↦ e
+      | inr ne ↦ (let low = x.low in absurd (no_end_in is n (x.inner n l (omega (arith, low, ne))) over))
+    ] in
+    elim x.either [
+      | inl d ↦ absurd (let w = act_same is n Label FunctionEnd (subst (λ k. act_at is k ≡ Some Label) same d.entry) over in cc)
+      | inr d ↦ IsEntry.declared x.place x.parameters d
+    ]
+
+pub at_nothing : (is : List PlainInst) (g n : ℕ) → length is ≤ n → IsHead is g n
+    → (G : Table) (bound : ℕ) → IsSound G bound is → act_at is g ≡ Some Function → IsEntry is g 0
+at_nothing is g n l head G bound sound f =
+    let x = ended G bound is g n sound f head in
+    let low = x.low in
+    let w = x.within in
+    absurd (omega (arith, l, low, w))
+
+pub head_start : (is : List PlainInst) (g n : ℕ) → n ≤ g + 1 → IsHead is g n
+head_start is g n l = record { label = λ k i a b. absurd (omega (arith, l, a, b)); over = λ k i a b. absurd (omega (arith, l, a, b)) }
+
+pub head_next : (is : List PlainInst) (g n : ℕ) (i : PlainInst) → IsHead is g n → slice_get is n ≡ Some i → ¬ (i.opcode ≡ 248) → ¬ (i.opcode ≡ 56) → IsHead is g (n + 1)
+head_next is g n i head at no_label no_end = record {
+  label = λ k j a b e. elim (cases_lt k n) [ inl less ↦ head.label k j a less e | inr more ↦ (let same : k ≡ n = omega (arith, b, more) in let inst : j ≡ i = same_Some j i (sym e ∙ (ap (slice_get is) same ∙ at)) in λ op. no_label (ap (λ (q : PlainInst). q.opcode) (sym inst) ∙ op)) ];
+  over = λ k j a b e. elim (cases_lt k n) [ inl less ↦ head.over k j a less e | inr more ↦ (let same : k ≡ n = omega (arith, b, more) in let inst : j ≡ i = same_Some j i (sym e ∙ (ap (slice_get is) same ∙ at)) in λ op. no_end (ap (λ (q : PlainInst). q.opcode) (sym inst) ∙ op)) ];
+}
+
+-- Targets.
+
+labels-append : (xs ys : List Plain) → labels_in (xs ++ ys) ≡ labels_in xs ++ labels_in ys
+labels-append [] ys = refl
+labels-append (operand.Id x ∷ xs) ys = ap (λ zs. x ∷ zs) (labels-append xs ys)
+labels-append (operand.OfType x ∷ xs) ys = labels-append xs ys
+labels-append (operand.Result x ∷ xs) ys = labels-append xs ys
+labels-append (operand.Word x ∷ xs) ys = labels-append xs ys
+labels-append (operand.Number a b w ∷ xs) ys = labels-append xs ys
+labels-append (operand.Text t ∷ xs) ys = labels-append xs ys
+labels-append (operand.Value k x ∷ xs) ys = labels-append xs ys
+labels-append (operand.Mask k x ∷ xs) ys = labels-append xs ys
+
+zip-append : (is : List PlainInst) (xs ns : List ℕ) (x n : ℕ) → ArePlacesOf is xs ns → ((m : ℕ) → IsDefinedAt is x m → n ≡ m) → ArePlacesOf is (xs ++ (x ∷ [])) (ns ++ (n ∷ []))
+zip-append is [] [] x n z h = (h, tt)
+zip-append is [] (k ∷ ns) x n z h = absurd z
+zip-append is (y ∷ xs) [] x n z h = absurd z
+zip-append is (y ∷ xs) (k ∷ ns) x n z h = (z.0, zip-append is xs ns x n z.1 h)
+
+take_next : (os : List Plain) (k : ℕ) (o : Plain) → slice_get os k ≡ Some o → take (suc k) os ≡ take k os ++ (o ∷ [])
+take_next [] k o h = absurd (none-some o h)
+take_next (p ∷ os) zero o h = ap (λ q. q ∷ []) (same_Some p o h)
+take_next (p ∷ os) (suc k) o h = ap (λ qs. p ∷ qs) (take_next os k o h)
+
+get_rest : (os : List Plain) (k : ℕ) → slice_get (drop 1 os) k ≡ slice_get os (suc k)
+get_rest [] k = refl
+get_rest (o ∷ os) k = refl
+
+-- of the operands after the first, those before a place
+abbrev pub targets_before : List Plain → ℕ → List ℕ
+targets_before os k = labels_in (take (k - 1) (drop 1 os))
+
+before_next : (os : List Plain) (k : ℕ) (o : Plain) → 1 ≤ k → slice_get os k ≡ Some o → targets_before os (k + 1) ≡ targets_before os k ++ labels_in (o ∷ [])
+before_next os k o l h =
+    let low : k ≡ suc (k - 1) = omega (arith, l) in
+    let high : k + 1 - 1 ≡ suc (k - 1) = omega (arith, l) in
+    let there : slice_get (drop 1 os) (k - 1) ≡ Some o = get_rest os (k - 1) ∙ (ap (slice_get os) (sym low) ∙ h) in
+    ap (λ n. labels_in (take n (drop 1 os))) high ∙ (ap labels_in (take_next (drop 1 os) (k - 1) o there) ∙ labels-append (take (k - 1) (drop 1 os)) (o ∷ []))
+
+pub target_more : (is : List PlainInst) (os : List Plain) (k x n : ℕ) (ns : List ℕ) → 1 ≤ k → slice_get os k ≡ Some (operand.Id x) → ArePlacesOf is (targets_before os k) ns → ((m : ℕ) → IsDefinedAt is x m → n ≡ m)
+    → ArePlacesOf is (targets_before os (k + 1)) (ns ++ (n ∷ []))
+target_more is os k x n ns l h z d = subst (λ xs. ArePlacesOf is xs (ns ++ (n ∷ []))) (sym (before_next os k (operand.Id x) l h)) (zip-append is (targets_before os k) ns x n z d)
+
+pub target_none : (is : List PlainInst) (os : List Plain) (k : ℕ) (o : Plain) (ns : List ℕ) → 1 ≤ k → slice_get os k ≡ Some o → labels_in (o ∷ []) ≡ [] → ArePlacesOf is (targets_before os k) ns
+    → ArePlacesOf is (targets_before os (k + 1)) ns
+target_none is os k o ns l h e z =
+    let same : targets_before os (k + 1) ≡ targets_before os k = before_next os k o l h ∙ (ap (λ xs. targets_before os k ++ xs) e ∙ append-nil (targets_before os k)) in
+    subst (λ xs. ArePlacesOf is xs ns) (sym same) z
+
+take_all : (os : List Plain) (n : ℕ) → length os ≤ n → take n os ≡ os
+take_all [] zero l = refl
+take_all [] (suc n) l = refl
+take_all (o ∷ os) zero l = absurd (omega (arith, l))
+take_all (o ∷ os) (suc n) l = ap (λ ps. o ∷ ps) (take_all os n (omega (arith, l)))
+
+drop_short : (os : List Plain) → length (drop 1 os) ≤ length os - 1
+drop_short [] = omega arith
+drop_short (o ∷ os) = omega arith
+
+pub targets_all : (is : List PlainInst) (os : List Plain) (k : ℕ) (ns : List ℕ) → length os ≤ k → ArePlacesOf is (targets_before os k) ns → ArePlacesOf is (labels_in (drop 1 os)) ns
+targets_all is os k ns l z =
+    let s = drop_short os in
+    subst (λ ps. ArePlacesOf is (labels_in ps) ns) (take_all (drop 1 os) (k - 1) (omega (arith, l, s))) z
+
+pub targets_none : (is : List PlainInst) (os : List Plain) (k : ℕ) → k ≤ 1 → ArePlacesOf is (targets_before os k) []
+targets_none is os k l =
+    let e : k - 1 ≡ 0 = omega (arith, l) in
+    subst (λ n. ArePlacesOf is (labels_in (take n (drop 1 os))) []) (sym e) tt
+
+-- What instructions of an opcode tell.
+
+branch_view : (G : Table) (is : List PlainInst) (i : PlainInst) (a : Act) → View G i a → i.opcode ≡ 249 → (x : ℕ) × (a ≡ Branch x) × (i.operands ≡ operand.Id x ∷ [])
+branch_view G is i _ (View.branch x e os) h = (x, refl, os)
+branch_view G is i _ (View.function a b k' m s e os) h = absurd (omega (arith, e, h))
+branch_view G is i _ (View.parameter t b e os) h = absurd (omega (arith, e, h))
+branch_view G is i _ (View.function_end e os) h = absurd (omega (arith, e, h))
+branch_view G is i _ (View.call a b c os gs e same en each) h = absurd (omega (arith, e, h))
+branch_view G is i _ (View.phi a b os gs e same en each) h = absurd (omega (arith, e, h))
+branch_view G is i _ (View.label b e os) h = absurd (omega (arith, e, h))
+branch_view G is i _ (View.condition c x y os gs e same en each) h = absurd (omega (arith, e, h))
+branch_view G is i _ (View.switch c x os gs e same en each) h = absurd (omega (arith, e, h))
+branch_view G is i _ (View.return e os) h = absurd (omega (arith, e, h))
+branch_view G is i _ (View.value x e os) h = absurd (omega (arith, e, h))
+branch_view G is i _ (View.unreachable e os) h = absurd (omega (arith, e, h))
+branch_view G is i _ (View.other e) h = absurd (let w : is_other 249 ≡ true = rw h at e in cc)
+
+-- a label that is a target stands where the code finds it
+label_found : (G : Table) (bound : ℕ) (is : List PlainInst) → IsSound G bound is → (n x place : ℕ) (a : Act) → act_at is n ≡ Some a → Contains (targets a) x
+    → ((m : ℕ) → IsDefinedAt is x m → place ≡ m) → IsLabelOf is x place
+label_found G bound is sound n x place a h c found =
+    let m = has_labels G is sound.fits sound.branches n x a h c in
+    let l = label_to G is sound.fits m.0 x m.1 in
+    subst (λ k. IsLabelOf is x k) (sym (found m.0 l.defined)) l
+
+pub branch_tells : (i : PlainInst) (x place : ℕ) (is : List PlainInst) → i.opcode ≡ 249 → id_in (slice_get i.operands 0) ≡ Some x → ((m : ℕ) → IsDefinedAt is x m → place ≡ m)
+    → (G : Table) (bound n : ℕ) → IsSound G bound is → slice_get is n ≡ Some i → Tells is (act_of i) (move.Branch place)
+branch_tells i x place is op e found G bound n sound at =
+    let v = branch_view G is i (act_of i) (view G i (sound.fits n i at)) op in
+    let same : v.0 ≡ x = same_Some v.0 x (sym (ap (λ os. id_in (slice_get os 0)) v.2) ∙ e) in
+    let h : act_at is n ≡ Some (Branch v.0) = act_from is n i (Branch v.0) at v.1 in
+    let found' : (m : ℕ) → IsDefinedAt is v.0 m → place ≡ m = λ m d. found m (subst (λ y. IsDefinedAt is y m) same d) in
+    subst (λ a. Tells is a (move.Branch place)) (sym v.1) (label_found G bound is sound n v.0 place (Branch v.0) h (contains_here v.0 []) found')
+
+pub branch_named : (i : PlainInst) (is : List PlainInst) → i.opcode ≡ 249 → id_in (slice_get i.operands 0) ≡ None
+    → (G : Table) (bound n : ℕ) → IsSound G bound is → slice_get is n ≡ Some i → ⊥
+branch_named i is op e G bound n sound at =
+    let v = branch_view G is i (act_of i) (view G i (sound.fits n i at)) op in
+    none-some v.0 (sym e ∙ ap (λ os. id_in (slice_get os 0)) v.2)
+
+-- calls
+
+record CallView (i : PlainInst) (a : Act) : Type 0 where
+  pub of_type : ℕ
+  pub result : ℕ
+  pub callee : ℕ
+  pub tail : List Plain
+  pub operands : i.operands ≡ operand.OfType of_type ∷ operand.Result result ∷ operand.Id callee ∷ tail
+  pub kind : a ≡ Call callee (ids_in tail)
+
+call_view : (G : Table) (i : PlainInst) (a : Act) → View G i a → i.opcode ≡ 57 → CallView i a
+call_view G i _ (View.call a b c os gs e same en each) h = record { of_type = a; result = b; callee = c; tail = os; operands = same; kind = refl }
+call_view G i _ (View.branch x e os) h = absurd (omega (arith, e, h))
+call_view G i _ (View.function a b k' m s e os) h = absurd (omega (arith, e, h))
+call_view G i _ (View.parameter t b e os) h = absurd (omega (arith, e, h))
+call_view G i _ (View.function_end e os) h = absurd (omega (arith, e, h))
+call_view G i _ (View.phi a b os gs e same en each) h = absurd (omega (arith, e, h))
+call_view G i _ (View.label b e os) h = absurd (omega (arith, e, h))
+call_view G i _ (View.condition c x y os gs e same en each) h = absurd (omega (arith, e, h))
+call_view G i _ (View.switch c x os gs e same en each) h = absurd (omega (arith, e, h))
+call_view G i _ (View.return e os) h = absurd (omega (arith, e, h))
+call_view G i _ (View.value x e os) h = absurd (omega (arith, e, h))
+call_view G i _ (View.unreachable e os) h = absurd (omega (arith, e, h))
+call_view G i _ (View.other e) h = absurd (let w : is_other 57 ≡ true = rw h at e in cc)
+
+pub call_tells : (i : PlainInst) (x place : ℕ) (is : List PlainInst) (m : Move) → i.opcode ≡ 57 → id_in (slice_get i.operands 2) ≡ Some x → ((k : ℕ) → IsDefinedAt is x k → place ≡ k)
+    → (G : Table) (bound n : ℕ) → IsSound G bound is → slice_get is n ≡ Some i
+    → ((xs : List ℕ) → IsDefinedAt is x place → act_at is place ≡ Some Function → Tells is (Call x xs) m) → Tells is (act_of i) m
+call_tells i x place is m op e found G bound n sound at tells =
+    let v = call_view G i (act_of i) (view G i (sound.fits n i at)) op in
+    let same : v.callee ≡ x = same_Some v.callee x (sym (ap (λ os. id_in (slice_get os 2)) v.operands) ∙ e) in
+    let t = call_typed is 0 n i v.of_type v.result v.callee v.tail v.operands (sound.types rule.Y8 n i at op) in
+    let fit = call_fits is 0 n i v.callee (ids_in v.tail) t.tags t.row in
+    let d : IsDefinedAt is x fit.callee = subst (λ y. IsDefinedAt is y fit.callee) same (defined_at is fit.callee v.callee fit.function.result) in
+    let here : fit.callee ≡ place = sym (found fit.callee d) in
+    let there : act_at is place ≡ Some Function = subst (λ k. act_at is k ≡ Some Function) here fit.function.act in
+    let told : Tells is (Call x (ids_in v.tail)) m = tells (ids_in v.tail) (subst (λ k. IsDefinedAt is x k) here d) there in
+    let kind : act_of i ≡ Call x (ids_in v.tail) = v.kind ∙ ap (λ y. Call y (ids_in v.tail)) same in
+    subst (λ a. Tells is a m) (sym kind) told
+
+pub call_named : (i : PlainInst) (is : List PlainInst) → i.opcode ≡ 57 → id_in (slice_get i.operands 2) ≡ None
+    → (G : Table) (bound n : ℕ) → IsSound G bound is → slice_get is n ≡ Some i → ⊥
+call_named i is op e G bound n sound at =
+    let v = call_view G i (act_of i) (view G i (sound.fits n i at)) op in
+    none-some v.callee (sym e ∙ ap (λ os. id_in (slice_get os 2)) v.operands)
+
+-- what a function's entry says of a call
+pub entry_tells : (is : List PlainInst) (g e x : ℕ) (xs : List ℕ) → IsEntry is g e → e ≢ 0 → IsDefinedAt is x g → Tells is (Call x xs) (move.Call e)
+entry_tells is g _ x xs (IsEntry.defined e bs d) ne f = (g, bs, f, d)
+entry_tells is g _ x xs (IsEntry.declared e bs d) ne f = absurd (ne refl)
+
+pub no_entry_tells : (is : List PlainInst) (g e x : ℕ) (xs : List ℕ) → IsEntry is g e → e ≡ 0 → IsDefinedAt is x g → Tells is (Call x xs) move.On
+no_entry_tells is g _ x xs (IsEntry.defined e bs d) z f = let w = head_from is e (suc g) bs d.head in absurd (omega (arith, w, z))
+no_entry_tells is g _ x xs (IsEntry.declared e bs d) z f = (g, e, bs, f, d)
+
+-- choices
+
+labels_none : (G : Table) (gs : List Form) (os : List Plain) → Ends (repeated (W ∷ [])) gs → AreOf G gs os → labels_in os ≡ []
+labels_none G _ os (Ends.done _) a = ap labels_in (none G os a)
+labels_none G _ os (Ends.again _ gs en) a =
+    let one = take_form G W gs os a in
+    let w = a_word one.head one.fits in
+    ap labels_in (one.same ∙ ap (λ o. o ∷ one.tail) w.1) ∙ labels_none G gs one.tail en one.rest
+  where
+    a_word : (o : Plain) → is_of G form.Word o ≡ true → (x : ℕ) × (o ≡ operand.Word x)
+    a_word (operand.OfType a) h = cc
+    a_word (operand.Result a) h = cc
+    a_word (operand.Id a) h = cc
+    a_word (operand.Word a) h = (a, refl)
+    a_word (operand.Number a b w) h = cc
+    a_word (operand.Text a) h = cc
+    a_word (operand.Value a b) h = cc
+    a_word (operand.Mask a b) h = cc
+
+record ChooseView (i : PlainInst) (a : Act) : Type 0 where
+  pub value : ℕ
+  pub labels : List ℕ
+  pub kind : a ≡ Choose value labels
+  pub after : labels_in (drop 1 i.operands) ≡ labels
+
+choose_view : (G : Table) (i : PlainInst) (a : Act) → View G i a → (i.opcode ≡ 250) ⊎ (i.opcode ≡ 251) → ChooseView i a
+choose_view G i _ (View.condition c x y os gs e same en each) h = record {
+  value = c;
+  labels = x ∷ y ∷ [];
+  kind = refl;
+  after = ap (λ ps. labels_in (drop 1 ps)) same ∙ ap (λ ls. x ∷ y ∷ ls) (labels_none G gs os en each);
+}
+choose_view G i _ (View.switch c x os gs e same en each) h = record { value = c; labels = x ∷ labels_in os; kind = refl; after = ap (λ ps. labels_in (drop 1 ps)) same }
+choose_view G i _ (View.call a b c os gs e same en each) h = absurd (elim h [ inl q ↦ omega (arith, e, q) | inr q ↦ omega (arith, e, q) ])
+choose_view G i _ (View.branch x e os) h = absurd (elim h [ inl q ↦ omega (arith, e, q) | inr q ↦ omega (arith, e, q) ])
+choose_view G i _ (View.function a b k' m s e os) h = absurd (elim h [ inl q ↦ omega (arith, e, q) | inr q ↦ omega (arith, e, q) ])
+choose_view G i _ (View.parameter t b e os) h = absurd (elim h [ inl q ↦ omega (arith, e, q) | inr q ↦ omega (arith, e, q) ])
+choose_view G i _ (View.function_end e os) h = absurd (elim h [ inl q ↦ omega (arith, e, q) | inr q ↦ omega (arith, e, q) ])
+choose_view G i _ (View.phi a b os gs e same en each) h = absurd (elim h [ inl q ↦ omega (arith, e, q) | inr q ↦ omega (arith, e, q) ])
+choose_view G i _ (View.label b e os) h = absurd (elim h [ inl q ↦ omega (arith, e, q) | inr q ↦ omega (arith, e, q) ])
+choose_view G i _ (View.return e os) h = absurd (elim h [ inl q ↦ omega (arith, e, q) | inr q ↦ omega (arith, e, q) ])
+choose_view G i _ (View.value x e os) h = absurd (elim h [ inl q ↦ omega (arith, e, q) | inr q ↦ omega (arith, e, q) ])
+choose_view G i _ (View.unreachable e os) h = absurd (elim h [ inl q ↦ omega (arith, e, q) | inr q ↦ omega (arith, e, q) ])
+choose_view G i _ (View.other e) h = absurd (elim h [ inl q ↦ (let w : is_other 250 ≡ true = rw q at e in cc) | inr q ↦ (let w : is_other 251 ≡ true = rw q at e in cc) ])
+
+zip_labels : (is : List PlainInst) (xs ns : List ℕ) → ArePlacesOf is xs ns → ((x place : ℕ) → Contains xs x → ((m : ℕ) → IsDefinedAt is x m → place ≡ m) → IsLabelOf is x place) → AllZip (λ x n. IsLabelOf is x n) xs ns
+zip_labels is [] [] z h = tt
+zip_labels is [] (n ∷ ns) z h = absurd z
+zip_labels is (x ∷ xs) [] z h = absurd z
+zip_labels is (x ∷ xs) (n ∷ ns) z h = (h x n (contains_here x xs) z.0, zip_labels is xs ns z.1 (λ y place c. h y place (contains_later x y xs c)))
+
+pub choose_tells : (i : PlainInst) (is : List PlainInst) (v : Vec ℕ Global) → (i.opcode ≡ 250) ⊎ (i.opcode ≡ 251) → ArePlacesOf is (labels_in (drop 1 i.operands)) v.items
+    → (G : Table) (bound n : ℕ) → IsSound G bound is → slice_get is n ≡ Some i → Tells is (act_of i) (move.Choose v)
+choose_tells i is v op z G bound n sound at =
+    let w = choose_view G i (act_of i) (view G i (sound.fits n i at)) op in
+    let h : act_at is n ≡ Some (Choose w.value w.labels) = act_from is n i (Choose w.value w.labels) at w.kind in
+    let z' : ArePlacesOf is w.labels v.items = subst (λ xs. ArePlacesOf is xs v.items) w.after z in
+    subst (λ a. Tells is a (move.Choose v)) (sym w.kind) (zip_labels is w.labels v.items z' (λ x place c found. label_found G bound is sound n x place (Choose w.value w.labels) h c found))
+
+-- the rest
+
+pub return_tells : (i : PlainInst) (is : List PlainInst) → (i.opcode ≡ 253) ⊎ (i.opcode ≡ 254) → (G : Table) (bound n : ℕ) → IsSound G bound is → slice_get is n ≡ Some i → Tells is (act_of i) move.Return
+return_tells i is op G bound n sound at = by_view (act_of i) (view G i (sound.fits n i at)) op where
+  by_view : (a : Act) → View G i a → (i.opcode ≡ 253) ⊎ (i.opcode ≡ 254) → Tells is a move.Return
+  by_view _ (View.return e os) h = tt
+  by_view _ (View.value x e os) h = tt
+  by_view _ (View.condition c x y os gs e same en each) h = absurd (elim h [ inl q ↦ omega (arith, e, q) | inr q ↦ omega (arith, e, q) ])
+  by_view _ (View.switch c x os gs e same en each) h = absurd (elim h [ inl q ↦ omega (arith, e, q) | inr q ↦ omega (arith, e, q) ])
+  by_view _ (View.call a b c os gs e same en each) h = absurd (elim h [ inl q ↦ omega (arith, e, q) | inr q ↦ omega (arith, e, q) ])
+  by_view _ (View.branch x e os) h = absurd (elim h [ inl q ↦ omega (arith, e, q) | inr q ↦ omega (arith, e, q) ])
+  by_view _ (View.function a b k' m s e os) h = tt
+  by_view _ (View.parameter t b e os) h = tt
+  by_view _ (View.function_end e os) h = tt
+  by_view _ (View.phi a b os gs e same en each) h = absurd (elim h [ inl q ↦ omega (arith, e, q) | inr q ↦ omega (arith, e, q) ])
+  by_view _ (View.label b e os) h = absurd (elim h [ inl q ↦ omega (arith, e, q) | inr q ↦ omega (arith, e, q) ])
+  by_view _ (View.unreachable e os) h = absurd (elim h [ inl q ↦ omega (arith, e, q) | inr q ↦ omega (arith, e, q) ])
+  by_view _ (View.other e) h = absurd (elim h [ inl q ↦ (let w : is_other 253 ≡ true = rw q at e in cc) | inr q ↦ (let w : is_other 254 ≡ true = rw q at e in cc) ])
+
+pub unreachable_tells : (i : PlainInst) (is : List PlainInst) → i.opcode ≡ 255 → (G : Table) (bound n : ℕ) → IsSound G bound is → slice_get is n ≡ Some i → Tells is (act_of i) move.Unreachable
+unreachable_tells i is op G bound n sound at = by_view (act_of i) (view G i (sound.fits n i at)) op where
+  by_view : (a : Act) → View G i a → i.opcode ≡ 255 → Tells is a move.Unreachable
+  by_view _ (View.unreachable e os) h = tt
+  by_view _ (View.return e os) h = absurd (omega (arith, e, h))
+  by_view _ (View.value x e os) h = absurd (omega (arith, e, h))
+  by_view _ (View.condition c x y os gs e same en each) h = absurd (omega (arith, e, h))
+  by_view _ (View.switch c x os gs e same en each) h = absurd (omega (arith, e, h))
+  by_view _ (View.call a b c os gs e same en each) h = absurd (omega (arith, e, h))
+  by_view _ (View.branch x e os) h = absurd (omega (arith, e, h))
+  by_view _ (View.function a b k' m s e os) h = tt
+  by_view _ (View.parameter t b e os) h = tt
+  by_view _ (View.function_end e os) h = tt
+  by_view _ (View.phi a b os gs e same en each) h = absurd (omega (arith, e, h))
+  by_view _ (View.label b e os) h = absurd (omega (arith, e, h))
+  by_view _ (View.other e) h = absurd (let w : is_other 255 ≡ true = rw h at e in cc)
+
+pub other_tells : (i : PlainInst) (is : List PlainInst) → i.opcode ≢ 249 → i.opcode ≢ 250 → i.opcode ≢ 251 → i.opcode ≢ 57 → i.opcode ≢ 253 → i.opcode ≢ 254 → i.opcode ≢ 255
+    → (G : Table) (bound n : ℕ) → IsSound G bound is → slice_get is n ≡ Some i → Tells is (act_of i) move.On
+other_tells i is n1 n2 n3 n4 n5 n6 n7 G bound n sound at = by_view (act_of i) (view G i (sound.fits n i at)) where
+  by_view : (a : Act) → View G i a → Tells is a move.On
+  by_view _ (View.unreachable e os) = absurd (n7 e)
+  by_view _ (View.return e os) = absurd (n5 e)
+  by_view _ (View.value x e os) = absurd (n6 e)
+  by_view _ (View.condition c x y os gs e same en each) = absurd (n2 e)
+  by_view _ (View.switch c x os gs e same en each) = absurd (n3 e)
+  by_view _ (View.call a b c os gs e same en each) = absurd (n4 e)
+  by_view _ (View.branch x e os) = absurd (n1 e)
+  by_view _ (View.function a b k' m s e os) = tt
+  by_view _ (View.parameter t b e os) = tt
+  by_view _ (View.function_end e os) = tt
+  by_view _ (View.phi a b os gs e same en each) = tt
+  by_view _ (View.label b e os) = tt
+  by_view _ (View.other e) = tt
+
+-- Operands and instructions of slices.
+
+pub operand_at : (os : List CodeOperand) (k : ℕ) (d : CodeOperand) → k < length os → slice_get (plain_operands os) k ≡ Some (plain_operand (get_or os k d))
+operand_at os k d l = slice_get-map plain_operand os k ∙ ap (option_map plain_operand) (slice_get-get_or os k d l)
+
+pub not_id : (o : CodeOperand) → ((x : ℕ) → o ≡ code.Id x → ⊥) → labels_in (plain_operand o ∷ []) ≡ []
+not_id (code.Id x) h = absurd (h x refl)
+not_id (code.OfType x) h = refl
+not_id (code.Result x) h = refl
+not_id (code.Word x) h = refl
+not_id (code.Number a b w) h = refl
+not_id (code.Text t) h = refl
+not_id (code.Value k x) h = refl
+not_id (code.Mask k x) h = refl
+
+pushed : {A : Type 0} (ms : List A) (m : A) (n : ℕ) → length ms ≡ n → slice_get (ms ++ (m ∷ [])) n ≡ Some m
+pushed [] m zero h = refl
+pushed [] m (suc n) h = absurd (omega (arith, h))
+pushed (k ∷ ms) m zero h = absurd (omega (arith, h))
+pushed (k ∷ ms) m (suc n) h = pushed ms m n (omega (arith, h))
+
+kept : {A : Type 0} (ms : List A) (m : A) (k : ℕ) (x : A) → slice_get ms k ≡ Some x → slice_get (ms ++ (m ∷ [])) k ≡ Some x
+kept [] m k x h = absurd (none-some x h)
+kept (y ∷ ms) m zero x h = h
+kept (y ∷ ms) m (suc k) x h = kept ms m k x h
+
+pub moves_none : (is : List PlainInst) (ms : List Move) → AreMovesBefore is 0 ms
+moves_none is ms = record { each = λ k i l h. absurd (omega (arith, l)) }
+
+pub moves_more : (is : List PlainInst) (n : ℕ) (ms : List Move) (i : PlainInst) (m : Move) → length ms ≡ n → AreMovesBefore is n ms → slice_get is n ≡ Some i → Tells is (act_of i) m → AreMovesBefore is (n + 1) (ms ++ (m ∷ []))
+moves_more is n ms i m len before at tells = record {
+  each = λ k j l h. elim (cases_lt k n) [
+    | inl less ↦ (let b = before.each k j less h in (b.0, kept ms m k b.0 b.1, b.2))
+    | inr more ↦ (
+        let same : k ≡ n = omega (arith, l, more) in
+        let inst : i ≡ j = same_Some i j (sym at ∙ (ap (slice_get is) (sym same) ∙ h)) in
+        (m, pushed ms m k (len ∙ sym same), subst (λ (q : PlainInst). Tells is (act_of q) m) inst tells))
+  ];
+}
+
+pub moves_all : (is : List PlainInst) (n : ℕ) (ms : List Move) → length is ≤ n → AreMovesBefore is n ms → AreMoves is ms
+moves_all is n ms l before = λ k i h. let w = slice_get_within is k i h in before.each k i (omega (arith, l, w)) h
+
+-- Where bodies begin.
+
+function_opcode : (G : Table) (i : PlainInst) (a : Act) → View G i a → a ≡ Function → i.opcode ≡ 54
+function_opcode G i _ (View.function a b k' m s e os) h = e
+function_opcode G i _ (View.label b e os) h = cc
+function_opcode G i _ (View.parameter t b e os) h = cc
+function_opcode G i _ (View.function_end e os) h = cc
+function_opcode G i _ (View.call a b c os gs e same en each) h = cc
+function_opcode G i _ (View.phi a b os gs e same en each) h = cc
+function_opcode G i _ (View.branch x e os) h = cc
+function_opcode G i _ (View.condition c x y os gs e same en each) h = cc
+function_opcode G i _ (View.switch c x os gs e same en each) h = cc
+function_opcode G i _ (View.return e os) h = cc
+function_opcode G i _ (View.value x e os) h = cc
+function_opcode G i _ (View.unreachable e os) h = cc
+function_opcode G i _ (View.other e) h = cc
+
+pub no_function : (is : List PlainInst) (n : ℕ) (i : PlainInst) → slice_get is n ≡ Some i → i.opcode ≢ 54
+    → (G : Table) (bound : ℕ) → IsSound G bound is → act_at is n ≡ Some Function → ⊥
+no_function is n i at ne G bound sound f =
+    let k = act_back is n Function f in
+    let same : k.0 ≡ i = same_Some k.0 i (sym k.1 ∙ at) in
+    ne (sym (ap (λ (q : PlainInst). q.opcode) same) ∙ function_opcode G k.0 (act_of k.0) (view G k.0 (sound.fits n k.0 k.1)) k.2)
+
+pub entries_none : (is : List PlainInst) (es : List ℕ) → HaveEntriesBefore is 0 es
+entries_none is es = record { each = λ G bound g sound l h. absurd (omega (arith, l)) }
+
+pub entries_more : (is : List PlainInst) (n : ℕ) (es : List ℕ) (e : ℕ) → length es ≡ n → HaveEntriesBefore is n es
+    → ((G : Table) (bound : ℕ) → IsSound G bound is → act_at is n ≡ Some Function → IsEntry is n e) → HaveEntriesBefore is (n + 1) (es ++ (e ∷ []))
+entries_more is n es e len before here = record {
+  each = λ G bound g sound l f. elim (cases_lt g n) [
+    | inl less ↦ (let b = before.each G bound g sound less f in (b.0, kept es e g b.0 b.1, b.2))
+    | inr more ↦ (
+        let same : g ≡ n = omega (arith, l, more) in
+        (e, pushed es e g (len ∙ sym same), subst (λ k. IsEntry is k e) (sym same) (here G bound sound (subst (λ k. act_at is k ≡ Some Function) same f))))
+  ];
+}
+
+pub entries_all : (is : List PlainInst) (n : ℕ) (es : List ℕ) → length is ≤ n → HaveEntriesBefore is n es → HaveEntries is es
+entries_all is n es l before G bound g sound f =
+    let k = act_back is g Function f in
+    let w = slice_get_within is g k.0 k.1 in
+    before.each G bound g sound (omega (arith, l, w)) f
+
+pub has_entry : (is : List PlainInst) (es : List ℕ) (g : ℕ) → HaveEntries is es → (G : Table) (bound : ℕ) → IsSound G bound is → act_at is g ≡ Some Function → length es ≤ g → ⊥
+has_entry is es g have G bound sound f l =
+    let r = have G bound g sound f in
+    let w = slice_get_within es g r.0 r.1 in
+    absurd (omega (arith, l, w))
+
+pub entry_in_list : (is : List PlainInst) (es : List ℕ) (g e : ℕ) → HaveEntries is es → slice_get es g ≡ Some e → (G : Table) (bound : ℕ) → IsSound G bound is → act_at is g ≡ Some Function → IsEntry is g e
+entry_in_list is es g e have h G bound sound f =
+    let r = have G bound g sound f in
+    subst (λ k. IsEntry is g k) (same_Some r.0 e (sym r.1 ∙ h)) r.2
+
+-- The start of a run.
+
+pub start_at : (G : Table) (bound : ℕ) (is : List PlainInst) (g x e : ℕ) (xs choices : List ℕ) (s : State) → IsSound G bound is → IsDefinedAt is x g → IsStart is g choices s → Tells is (Call x xs) (move.Call e)
+    → s.top.position ≡ e
+start_at G bound is g x e xs choices s sound d start (k, bs, f, defined) =
+    let once = one_definition G bound is sound.ids in
+    let same : g ≡ k = once g k x (result_of is g x d) (result_of is k x f) in
+    let head = head_once is start.entry e (suc g) (suc k) start.parameters bs start.defined.head defined.head (ap suc same) (label_ends is start.entry start.defined.entry) (label_ends is e defined.entry) in
+    ap (λ (t : State). t.top.position) start.start ∙ head.place
+
+pub no_start : (G : Table) (bound : ℕ) (is : List PlainInst) (g x : ℕ) (xs choices : List ℕ) (s : State) (m : Move) → IsSound G bound is → IsDefinedAt is x g → IsStart is g choices s → Tells is (Call x xs) m
+    → ((e : ℕ) → m ≡ move.Call e → ⊥) → ⊥
+no_start G bound is g x xs choices s move.On sound d start (k, e, bs, f, declared) no_call =
+    not_both is (one_definition G bound is sound.ids) x g k start.entry e start.parameters bs d f start.defined declared
+no_start G bound is g x xs choices s (move.Call e) sound d start t no_call = no_call e refl
+no_start G bound is g x xs choices s (move.Branch n) sound d start t no_call = t
+no_start G bound is g x xs choices s (move.Choose v) sound d start t no_call = t
+no_start G bound is g x xs choices s move.Return sound d start t no_call = t
+no_start G bound is g x xs choices s move.Unreachable sound d start t no_call = t
+
+pub if_ok : {A E : Type 0} (r : Result A E) (P Q : A → Type 0) → IfOk r P → ((t : A) → P t → Q t) → IfOk r Q
+if_ok (Ok t) P Q h f = f t h
+if_ok (Err e) P Q h f = h

@@ -1,0 +1,141 @@
+-- The run of a function that only returns.
+use Rattle.std.proofs.Common.{◌≡◌, ◌∙◌, ◌++◌, append-nil, ℕ, zero, suc, List, [], ◌∷◌, Bool, true, false, not, ◌&&◌, Option, Some, None, refl, sym, ap, subst, arith}
+use Rattle.std.specs.Prelude.{slice_get}
+use Rattle.std.proofs.lemmas.Option.{none-some, same_Some}
+use Rattle.spv_grammar.specs.Table.{Table}
+use Rattle.spv_inst.specs.Operand.{Plain, PlainInst, OfType, Result, Id, Mask}
+use Rattle.spv_inst.specs.Operand as operand
+use Rattle.spv_layout.specs.declared.class.Class.{Class}
+use Rattle.spv_layout.specs.declared.form.Form.{Form}
+use Rattle.spv_layout.specs.declared.form.Form.TheVariants as form
+use Rattle.spv_layout.specs.declared.form.Role.{Role}
+use Rattle.spv_layout.specs.declared.form.Role.TheVariants as role
+use Rattle.spv_layout.specs.Row.{PlainRow, row, closed}
+use Rattle.spv_layout.specs.Rows.{row_of}
+use Rattle.spv_layout.specs.Shape.{Ends, role_of, IsUse}
+use Rattle.spv_ids.specs.Definition.{IsUsedAt}
+use Rattle.spv_ops.specs.Example.{inst}
+use Rattle.spv_run.specs.Act.{Label, Return, FunctionEnd, act_of}
+use Rattle.spv_run.specs.At.{act_at, result_at, type_at}
+use Rattle.spv_run.specs.Head.{end, IsDefined, IsDeclared}
+use Rattle.spv_run.specs.State.{Ending, Finished, Limit, Stuck, Outcome, Goes, Last, Before}
+use Rattle.spv_run.specs.Machine.{ReadsOthers, Does, step, no_choice, bad_choice}
+use Rattle.spv_run.specs.Run.{Run, limit, next, last, stuck}
+use Rattle.spv_run.specs.declared.parts.Step.{Step}
+use Rattle.spv_run.specs.Example.{lone, standing, step_at}
+use Rattle.spv_run.proofs.Shapes.{row_248, row_253}
+use Rattle.spv_run.proofs.Uses.{Forms, forms_of}
+
+-- Rows without the role any.
+
+any_form : Form → Bool
+any_form (form.Id role.Any) = true
+any_form form.Other = true
+any_form _ = false
+
+free : List Form → Bool
+free [] = true
+free (g ∷ gs) = not (any_form g) && free gs
+
+role_free : (g : Form) (o : Plain) → not (any_form g) ≡ true → role_of g o ≡ Some role.Any → ⊥
+unfolding any_form
+role_free (form.Id role.Any) o h r = cc
+role_free form.Other o h r = cc
+role_free (form.Id role.OfType) o h r = cc
+role_free (form.Id role.Value) o h r = cc
+role_free (form.Id role.Function) o h r = cc
+role_free (form.Id role.Text) o h r = cc
+role_free (form.Id role.Set) o h r = cc
+role_free (form.Id role.Label) o h r = cc
+role_free (form.Id role.Global) o h r = cc
+role_free form.OfType o h r = cc
+role_free _ o h r = cc
+
+both : (a b : Bool) → (a && b) ≡ true → (a ≡ true) × (b ≡ true)
+both true b h = (refl, h)
+both false b h = cc
+
+free_at : (gs : List Form) (k : ℕ) (g : Form) → free gs ≡ true → slice_get gs k ≡ Some g → not (any_form g) ≡ true
+unfolding free
+free_at [] k g h e = absurd (none-some g e)
+free_at (f ∷ gs) zero g h e = ap (λ x. not (any_form x)) (sym (same_Some f g e)) ∙ (both (not (any_form f)) (free gs) h).0
+free_at (f ∷ gs) (suc k) g h e = free_at gs k g (both (not (any_form f)) (free gs) h).1 e
+
+closed_rest : (rest : List Form) → Ends closed rest → rest ≡ []
+closed_rest _ Ends.nothing = refl
+
+no_any : (G : Table) (i : PlainInst) (a b : ℕ) (c : Class) (fs : List Form) (k x : ℕ) → row_of i.opcode ≡ Some (row a b c fs closed) → free fs ≡ true → ¬ (IsUse G i k x role.Any)
+no_any G i a b c fs k x e h u =
+    let f = forms_of G i (row a b c fs closed) (record { forms = u.forms; has = u.has }) e in
+    let same : u.forms ≡ fs = f.same ∙ (ap (λ gs. fs ++ gs) (closed_rest f.rest f.ending) ∙ append-nil fs) in
+    role_free u.form u.operand (free_at fs k u.form h (ap (λ gs. slice_get gs k) (sym same) ∙ u.form_at)) u.role
+
+label_free : free (form.Result ∷ []) ≡ true
+unfolding free any_form
+label_free = refl
+
+return_free : free [] ≡ true
+unfolding free
+return_free = refl
+
+none_at_label : (G : Table) → ReadsOthers G lone (standing 3).top
+none_at_label G k x used local =
+    let same : inst 248 (Result 4 ∷ []) ≡ used.inst = same_Some (inst 248 (Result 4 ∷ [])) used.inst used.there in
+    absurd (no_any G (inst 248 (Result 4 ∷ [])) 248 248 _ _ k x row_248 label_free (subst (λ (i : PlainInst). IsUse G i k x role.Any) (sym same) used.used))
+
+none_at_return : (G : Table) → ReadsOthers G lone (standing 4).top
+none_at_return G k x used local =
+    let same : inst 253 [] ≡ used.inst = same_Some (inst 253 []) used.inst used.there in
+    absurd (no_any G (inst 253 []) 253 253 _ _ k x row_253 return_free (subst (λ (i : PlainInst). IsUse G i k x role.Any) (sym same) used.used))
+
+pub defined : IsDefined lone 2 3 []
+unfolding act_at act_of
+defined = record { function = refl; head = end; entry = refl }
+
+pub undeclared : ¬ (IsDeclared lone 2 3 [])
+unfolding act_at act_of
+undeclared d = let e : Some Label ≡ Some FunctionEnd = d.over in let w = same_Some Label FunctionEnd e in cc
+
+pub at_label : (G : Table) → Does G lone (standing 3) (Goes (standing 4))
+unfolding act_of result_at
+at_label G = step (inst 248 (Result 4 ∷ [])) [] [] refl refl tt (none_at_label G) tt refl
+
+pub at_return : (G : Table) → Does G lone (standing 4) (Last Finished)
+unfolding act_of type_at
+at_return G = step (inst 253 []) [] [] refl refl tt (none_at_return G) refl (1, refl, refl)
+
+pub at_end : (G : Table) (o : Outcome) → ¬ (Does G lone (standing 5) o)
+unfolding act_of
+at_end G o (step i xs tags at v r others row m) =
+    let same : inst 56 [] ≡ i = same_Some (inst 56 []) i at in
+    absurd (rw (← same) at m)
+at_end G o (no_choice i c ls at e empty h) = let same : inst 56 [] ≡ i = same_Some (inst 56 []) i at in let e' = rw (← same) at e in cc
+at_end G o (bad_choice i c k ls left at e some out h) = let same : inst 56 [] ≡ i = same_Some (inst 56 []) i at in let e' = rw (← same) at e in cc
+
+pub whole : (G : Table) → Run G lone 9 (standing 3) (step_at 0 3 ∷ step_at 0 4 ∷ []) Finished
+whole G = next 8 (standing 3) (standing 4) (step_at 0 4 ∷ []) Finished (at_label G) (last 7 (standing 4) Finished (at_return G))
+
+pub short : (G : Table) → Run G lone 1 (standing 3) (step_at 0 3 ∷ []) Limit
+short G = next 0 (standing 3) (standing 4) [] Limit (at_label G) (limit (standing 4))
+
+pub at_the_end : (G : Table) → Run G lone 9 (standing 5) [] Stuck
+at_the_end G = stuck 8 (standing 5) (at_end G)
+
+never : (G : Table) (e : Ending) → ¬ (Does G lone (standing 3) (Before e))
+unfolding act_of
+never G e (step i xs tags at v r others row m) =
+    let same : inst 248 (Result 4 ∷ []) ≡ i = same_Some (inst 248 (Result 4 ∷ [])) i at in
+    let m' = rw (← same) at m in
+    cc
+never G e (no_choice i c ls at q empty h) = let same : inst 248 (Result 4 ∷ []) ≡ i = same_Some (inst 248 (Result 4 ∷ [])) i at in let q' = rw (← same) at q in cc
+never G e (bad_choice i c k ls left at q some out h) = let same : inst 248 (Result 4 ∷ []) ≡ i = same_Some (inst 248 (Result 4 ∷ [])) i at in let q' = rw (← same) at q in cc
+
+sooner : (G : Table) (n : ℕ) (xs : List Step) (e : Ending) → Run G lone n (standing 3) xs e → n ≡ 9 → xs ≡ [] → ⊥
+sooner G _ _ _ (limit s) h g = absurd (omega (arith, h))
+sooner G _ _ _ (next n s after steps e d r) h g = cc
+sooner G _ _ _ (last n s e d) h g = cc
+sooner G _ _ _ (Run.before n s e d) h g = never G e d
+sooner G _ _ _ (stuck n s none) h g = none (Goes (standing 4)) (at_label G)
+
+pub not_nothing : (G : Table) → ¬ (Run G lone 9 (standing 3) [] Stuck)
+not_nothing G r = sooner G 9 [] Stuck r refl refl

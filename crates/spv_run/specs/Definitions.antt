@@ -1,0 +1,8 @@
+-- Lists of the definitions of functions. (Own.)
+use Rattle.std.specs.Prelude.{ℕ, List, Contains}
+use Rattle.spv_inst.specs.Operand.{PlainInst}
+use Rattle.spv_layout.specs.Place.{IsDefinition}
+
+-- The list has the number of the OpFunction of each definition.
+abbrev pub HasDefinitions : List PlainInst → List ℕ → Type 0
+HasDefinitions is functions = (f : ℕ) → IsDefinition is f → Contains functions f

@@ -1,0 +1,32 @@
+-- A small module, and states of its run.
+use Rattle.std.specs.Prelude.{ℕ, List, [], ◌∷◌, Option, None}
+use Rattle.spv_inst.specs.Operand.{OfType, Result, Id, Number, Mask, PlainInst}
+use Rattle.spv_ops.specs.Example.{inst}
+use Rattle.spv_run.specs.State.{Frame, State, enter}
+use Rattle.spv_run.specs.declared.parts.Step.{Step}
+
+-- OpSwitch %7 %8 0 %9 1 %8
+abbrev pub switch : PlainInst
+switch = inst 251 (Id 7 ∷ Id 8 ∷ Number 0 0 1 ∷ Id 9 ∷ Number 1 0 1 ∷ Id 8 ∷ [])
+
+-- OpReturnValue %9
+abbrev pub return_value : PlainInst
+return_value = inst 254 (Id 9 ∷ [])
+
+-- a function that only returns
+abbrev pub lone : List PlainInst
+lone =
+    inst 19 (Result 1 ∷ []) ∷  -- %1 = OpTypeVoid
+    inst 33 (Result 2 ∷ Id 1 ∷ []) ∷  -- %2 = OpTypeFunction %1
+    inst 54 (OfType 1 ∷ Result 3 ∷ Mask 9 0 ∷ Id 2 ∷ []) ∷  -- %3 = OpFunction %1 None %2
+    inst 248 (Result 4 ∷ []) ∷  -- %4 = OpLabel
+    inst 253 [] ∷  -- OpReturn
+    inst 56 [] ∷  -- OpFunctionEnd
+    []
+
+-- the state in which its run stands at an instruction
+abbrev pub standing : ℕ → State
+standing n = record { top = enter 2 n []; below = []; choices = [] }
+
+abbrev pub step_at : ℕ → ℕ → Step
+step_at d n = record { depth = d; inst = n }

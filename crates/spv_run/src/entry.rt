@@ -1,0 +1,36 @@
+//! The functions of entry points.
+
+ghost use Rattle.std.specs.Prelude.{◌≡◌, ◌↔◌, IsTrue, map, slice_get};
+ghost use Rattle.spv_inst.specs.Module.{plain_inst};
+ghost use Rattle.spv_calls.specs.Found.{entry_in};
+ghost use Rattle.spv_run.specs.Entry.{IsEntryId};
+
+use crate::moves::id_at;
+use spv_inst::Inst;
+
+/// The opcode of OpEntryPoint.
+const ENTRY_POINT: u16 = 15;
+
+/// The function that an OpEntryPoint names.
+fn named_by(inst: &Inst<'_>) -> Option<u32>
+    ensures { result ≡ entry_in (plain_inst inst.now) }
+{
+    if inst.opcode != ENTRY_POINT {
+        return None;
+    }
+    id_at(inst, 1)
+}
+
+/// Whether an id is the function of an OpEntryPoint. (3.49.5)
+pub fn is_entry(insts: &[Inst<'_>], function: u32) -> bool
+    ensures { IsTrue result ↔ IsEntryId (map plain_inst insts.now) function }
+{
+    for at in 0..insts.len() {
+        if let Some(id) = named_by(&insts[at]) {
+            if id == function {
+                return true;
+            }
+        }
+    }
+    false
+}

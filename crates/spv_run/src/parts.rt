@@ -1,0 +1,72 @@
+//! What a trace is made of.
+
+ghost use Rattle.std.specs.Prelude.{◌≡◌};
+ghost use Rattle.spv_run.specs.declared.parts.TraceError.TheVariants.{X2};
+
+use std::alloc::AllocError;
+use thiserror::Error;
+
+/// What an instruction of a function's body does to a run. Numbers are those of instructions.
+#[derive(Debug, Drop)]
+pub enum Move {
+    /// Goes on to the next.
+    On,
+    /// Goes to a label.
+    Branch(u32),
+    /// Goes to one of these labels.
+    Choose(Vec<u32>),
+    /// Calls the definition whose body begins at this label.
+    Call(u32),
+    Return,
+    Unreachable,
+}
+
+/// How a run ends (own).
+#[derive(Clone, Copy, Debug, PartialEq, Eq)]
+pub enum Ending {
+    /// The last frame returned.
+    Finished,
+    /// An OpUnreachable was executed.
+    Unreachable,
+    /// As many steps as were asked for are done, and the run goes on.
+    Limit,
+    /// No choice is left at an OpBranchConditional or an OpSwitch.
+    NoChoice,
+    /// There is no target of the number that was chosen.
+    BadChoice,
+}
+
+/// An instruction that was executed.
+#[derive(Clone, Copy, Debug, PartialEq, Eq)]
+pub struct Step {
+    /// How many frames are below its own.
+    pub depth: u32,
+    /// The number of the instruction, from 0.
+    pub inst: u32,
+}
+
+/// The steps of a run, and how it ended.
+#[derive(Debug, Drop)]
+pub struct Trace {
+    pub steps: Vec<Step>,
+    pub ending: Ending,
+}
+
+/// Why there is no trace.
+#[derive(Clone, Copy, Debug, Drop, Error, PartialEq, Eq)]
+pub enum TraceError {
+    /// The id is the function of no OpEntryPoint.
+    #[error("the id is no entry point's function")]
+    X1,
+    /// A growth of memory was refused.
+    #[error("out of memory")]
+    X2,
+}
+
+impl From<AllocError> for TraceError {
+    ghost from_gives = { λ _ e. e ≡ X2 };
+
+    fn from(_e: AllocError) -> TraceError {
+        TraceError::X2
+    }
+}
