@@ -21,3 +21,4 @@ pub mod Slots
 pub mod Walking
 pub mod Whole
 pub mod Assembled
+pub mod Given

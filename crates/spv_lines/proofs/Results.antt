@@ -20,7 +20,7 @@ integer_no c p = split (p && nat_eq c.opcode 251)
     split true = refl
     split false = refl
 
-literal_no : (c : Context) (p : Bool) (name : List ℕ) → is_result_shape (literal_shape c p name) ≡ false
+pub literal_no : (c : Context) (p : Bool) (name : List ℕ) → is_result_shape (literal_shape c p name) ≡ false
 literal_no c p name = first (bytes_eq name (codes "LiteralInteger"))
   where
     fourth : (b : Bool) → is_result_shape (if b then AsNumber (context_width c) else AsNothing) ≡ false

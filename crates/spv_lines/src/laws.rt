@@ -1,5 +1,5 @@
 //! What follows from the definitions of the text. Each function does nothing: its contract is what is proved.
-ghost use Rattle.std.specs.Prelude.{◌≡◌, ◌<◌, ◌≤◌, ◌+◌, ◌^◌, ◌⊎◌, ℕ, List, length};
+ghost use Rattle.std.specs.Prelude.{◌≡◌, true, ◌<◌, ◌≤◌, ◌+◌, ◌^◌, ◌⊎◌, ℕ, List, length};
 ghost use Rattle.spv_words.specs.declared.words.Header.{Header};
 ghost use Rattle.spv_grammar.specs.Table.{IsWhole, Table};
 ghost use Rattle.spv_inst.specs.Operand.{PlainInst};
@@ -9,7 +9,8 @@ ghost use Rattle.spv_lines.specs.Line.{AreWords};
 ghost use Rattle.spv_lines.specs.Text.{IsReadText, IsShownText};
 ghost use Rattle.spv_lines.specs.declared.asm_error.AsmCode.{AsmCode};
 ghost use Rattle.spv_lines.specs.Fault.{IsFailure};
-ghost use Rattle.spv_lines.specs.Tidy.{IsTidy};
+ghost use Rattle.spv_lines.specs.Tidy.{IsTidy, has_other_parts};
+ghost use Rattle.std.specs.List.{list_all};
 
 /// A header and a list of instructions have at most one shown text.
 pub fn one_shown()
@@ -51,4 +52,9 @@ pub fn shown_assembled()
         → 5 + length ws ≤ greatest_length → IsReadText G k js vs t → (h ≡ k) × (is ≡ js) × (ws ≡ vs) }
     ensures never { (G : Table) (h : Header) (is : List PlainInst) (ws t : List ℕ) (a : AsmCode) (n : ℕ) → IsTidy G → IsShownText G h is t → IsListing G is ws → AreWords ws → Fits h
         → h.generator < 2 ^ 32 → 5 + length ws ≤ greatest_length → ¬ (IsFailure G t a n) }
+{}
+
+/// A table is tidy where the parameters and bases of its kinds are of other kinds than that of results, as rule J6 asks of a file.
+pub fn tidy_by_kinds()
+    ensures { (G : Table) → list_all (has_other_parts G) G.kinds ≡ true → IsTidy G }
 {}

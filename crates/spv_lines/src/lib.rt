@@ -12,5 +12,5 @@ pub use examples::{
 };
 pub use laws::{
     one_failure, one_reading, one_shown, read_or_fails, read_spelled, shown_assembled,
-    shown_reads_back,
+    shown_reads_back, tidy_by_kinds,
 };

@@ -1,13 +1,16 @@
 -- The names of a mask, bit by bit.
-use Rattle.std.proofs.Common.{◌≡◌, ◌≢◌, ◌++◌, ◌∙◌, ◌<◌, ◌≤◌, ◌+◌, ◌-◌, ◌*◌, ◌/◌, ◌%◌, ◌^◌, ℕ, zero, suc, List, [], ◌∷◌, Option, Some, None, Bool, true, false, nat_eq, option_map, option_and_then, is_some, refl, sym, ap, arith, append_assoc, append-nil}
+use Rattle.std.proofs.Common.{◌≡◌, ◌≢◌, ◌++◌, ◌∙◌, ◌<◌, ◌≤◌, ◌+◌, ◌-◌, ◌*◌, ◌/◌, ◌%◌, ◌^◌, ℕ, zero, suc, List, [], ◌∷◌, Option, Some, None, Bool, true, false, ◌&&◌, nat_eq, option_map, option_and_then, is_some, refl, sym, ap, arith, append_assoc, append-nil}
 use Rattle.std.specs.Prelude.{Result, OnOk, unwrap_or, if◌then◌else◌}
 use Rattle.std.specs.List.{filter, list_all}
 use Rattle.std.proofs.Math.Nat.{pow-succ', div-div-eq-div-mul}
 use Rattle.std.proofs.lemmas.Nat.{one_shl}
 use Rattle.std.proofs.lemmas.Bool.Decides.{nat_tests}
 use Rattle.spv_grammar.specs.declared.table.Enumerant.{Enumerant}
+use Rattle.spv_grammar.specs.Table.{Sort, enumerant_of}
+use Rattle.spv_grammar.specs.Lookups.{value_named, is_number}
+use Rattle.spv_inst.specs.Reading.{enumerants_at}
 use Rattle.spv_inst.specs.Spelling.{bits_from, set_bits}
-use Rattle.spv_lines.specs.Name.{is_plain, is_name_octet, joined, by_number, mask_values, first_name, first_names, names_from, shown_value, shown_mask}
+use Rattle.spv_lines.specs.Name.{is_plain, is_name_octet, joined, by_number, mask_values, first_name, first_names, if_plain, names_from, shown_value, shown_mask}
 
 pub plain_by : (t : List ℕ) → 0 < Rattle.std.proofs.Common.length t → list_all is_name_octet t ≡ is_plain t
 plain_by [] h = absurd (omega arith)
@@ -146,6 +149,27 @@ left_set es mask goal out barred more is_first p l h g e f =
     let j : out ++ tail is_first l.names ≡ out ++ (bar ++ (b.first ++ tail false b.rest)) = ap (λ z. out ++ tail is_first z) b.all ∙ ap (λ z. out ++ z) (tail_more is_first b.first b.rest) in
     record { names = b.rest; found = b.rest_is; all = k ∙ (sym j ∙ l.all) }
 
+-- the bit that comes next has a name
+pub left_named : (es : List Enumerant) (mask : ℕ) (goal out : List ℕ) (is_first : Bool) (p : ℕ) → Left es mask goal out is_first p → p < 32 → mask / 2 ^ p % 2 ≡ 1 → is_some (first_name es ((1 * 2 ^ p) % 2 ^ 32)) ≡ true
+left_named es mask goal out is_first p l h g =
+    let n : and_names (first_name es (2 ^ p)) (names_from es mask (p + 1)) ≡ Some l.names = sym (set_names es mask p h g) ∙ l.found in
+    let b = both (first_name es (2 ^ p)) (names_from es mask (p + 1)) l.names n in
+    ap (λ x. is_some (first_name es x)) (the_bit p h) ∙ ap is_some b.first_is
+
+-- what is shown of a value whose enumerant's name is shown
+named_by : (es : List Enumerant) (x : ℕ) (e : Enumerant) (b : Bool) → is_some (if b then Some e.name else None) ≡ true → unwrap_or (if b then Some e.name else None) (by_number x) ≡ e.name
+named_by es x e true h = refl
+named_by es x e false h = cc
+
+pub named_shown : (es : List Enumerant) (x : ℕ) (e : Enumerant) → enumerant_of es x ≡ Some e → is_some (first_name es x) ≡ true → shown_value es x ≡ e.name
+named_shown es x e f h =
+    let first : first_name es x ≡ if_plain (value_named es) x e.name = ap (λ o. option_and_then (λ (a : Enumerant). if_plain (value_named es) x a.name) o) f in
+    ap (λ o. unwrap_or o (by_number x)) first ∙ named_by es x e (is_plain e.name && is_number x (value_named es e.name)) (sym (ap is_some first) ∙ h)
+
+-- a value without an enumerant has no name
+pub unnamed : (es : List Enumerant) (x : ℕ) → enumerant_of es x ≡ None → is_some (first_name es x) ≡ true → ⊥
+unnamed es x f h = let e : is_some (first_name es x) ≡ false = ap (λ o. is_some (option_and_then (λ (a : Enumerant). if_plain (value_named es) x a.name) o)) f in cc
+
 pub left_clear : (es : List Enumerant) (mask : ℕ) (goal out : List ℕ) (is_first : Bool) (p : ℕ) → Left es mask goal out is_first p → p < 32 → mask / 2 ^ p % 2 ≢ 1 → Left es mask goal out is_first (p + 1)
 left_clear es mask goal out is_first p l h g = record { names = l.names; found = sym (clear_names es mask p h g) ∙ l.found; all = l.all }
 
@@ -184,3 +208,8 @@ mask_shown r es x old out n e h = step (first_names es (set_bits x)) refl (e ∙
     step : (o : Option (List (List ℕ))) → first_names es (set_bits x) ≡ o → true ≡ is_some o → OnOk r (out ≡ old ++ shown_mask es x)
     step None f g = cc
     step (Some ts) f g = rw (← named_mask es x ts n f) (h ts (all_names es x ∙ f))
+
+-- the enumerants of a kind
+pub enumerant_at : (o : Option Sort) (x : ℕ) → option_and_then (λ s. enumerant_of s.enumerants x) o ≡ enumerant_of (enumerants_at o) x
+enumerant_at None x = refl
+enumerant_at (Some s) x = refl

@@ -15,3 +15,4 @@ pub mod Cutting
 pub mod Patterns
 pub mod LineRead
 pub mod ShownBack
+pub mod Imaged

@@ -18,6 +18,6 @@ mod token;
 mod types;
 
 pub use assembled::assemble;
-pub use laws::shown_assembles;
-pub use shown::show;
+pub use laws::{decoded_assembles, one_assembling, shown_assembles};
+pub use shown::{show, show_listed};
 pub use spv_lines::{AsmCode, AsmError};

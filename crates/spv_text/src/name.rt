@@ -1,6 +1,6 @@
 //! Names of instructions, values and masks as a text shows them.
 
-ghost use Rattle.std.specs.Prelude.{◌≡◌, ◌++◌, ◌∷◌, [], ℕ, List, Some, OnOk, string_bytes, option_map, is_some, if◌then◌else◌};
+ghost use Rattle.std.specs.Prelude.{◌≡◌, ◌++◌, ◌∷◌, [], ℕ, List, Some, true, OnOk, string_bytes, option_map, is_some, if◌then◌else◌};
 ghost use Rattle.spv_grammar.specs.Table.{kind_of};
 ghost use Rattle.spv_inst.specs.Reading.{enumerants_at};
 ghost use Rattle.spv_lines.specs.Name.{first_name, joined, names_from, shown_value, shown_mask};
@@ -52,6 +52,17 @@ pub fn push_value(out: &mut String, table: &Table, kind: u32, value: u32) -> Res
     }
 }
 
+/// Adds the name that the first enumerant of a kind with a value bears, where that is the one to be shown. Where memory runs
+/// out, nothing is said of what is left.
+fn push_known(out: &mut String, table: &Table, kind: u32, value: u32) -> Result<(), AllocError>
+    ensures { is_some (first_name (enumerants_at (kind_of table.now kind)) value) ≡ true → OnOk result (string_bytes out.new ≡ string_bytes out.old ++ shown_value (enumerants_at (kind_of table.now kind)) value) }
+{
+    match table.enumerant(kind, value) {
+        Some(enumerant) => out.push_str(enumerant.name.as_str()),
+        None => push_nameless(out, value),
+    }
+}
+
 /// Whether each set bit of a mask has a name to be shown.
 fn has_names(table: &Table, kind: u32, mask: u32) -> bool
     ensures { result ≡ is_some (names_from (enumerants_at (kind_of table.now kind)) mask 0) }
@@ -91,7 +102,7 @@ fn push_names(out: &mut String, table: &Table, kind: u32, mask: u32) -> Result<(
         }
         if left % 2 == 1 {
             push_bar(out, is_first)?;
-            push_value(out, table, kind, 1 << position)?;
+            push_known(out, table, kind, 1 << position)?;
             is_first = false;
         }
     }

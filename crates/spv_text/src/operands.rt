@@ -11,7 +11,7 @@ ghost use Rattle.spv_text.specs.Reading.{AreRead, OperandsFailOr};
 
 use crate::ids::Ids;
 use crate::line::Setting;
-use crate::taking::{Desk, take_operand};
+use crate::taking::{Desk, Place, take_operand};
 use spv_grammar::Item;
 use spv_lines::AsmCode;
 
@@ -65,16 +65,12 @@ pub fn read_operands<'t>(
             }
             return Ok(ids);
         };
-        let front = take_operand(
-            setting.table,
-            setting.types,
-            desk,
+        let place = Place {
             opcode,
             ids,
             result_id,
-            asked,
-            rest,
-        )?;
+        };
+        let front = take_operand(setting, desk, place, asked, rest)?;
         ids = front.ids;
         rest = front.rest;
     }

@@ -2,6 +2,7 @@
 
 ghost use Rattle.std.specs.Prelude.{◌≡◌, ◌++◌, [], ℕ, List, OnOk, IfOk, IfErr, string_bytes};
 ghost use Rattle.spv_inst.specs.Module.{plain_insts};
+ghost use Rattle.spv_inst.specs.Instruction.{IsListing};
 ghost use Rattle.spv_inst.specs.Encoding.{IsImageOf, IsRefused};
 ghost use Rattle.spv_lines.specs.Text.{IsShownText, ShownLines, ended, header_lines};
 
@@ -51,6 +52,20 @@ fn push_lines(
     Ok(())
 }
 
+/// The text of a module that words spell, as the words of an image spell the module that `decode` makes of it: five lines for its
+/// header, and one for each instruction.
+///
+/// An `AllocError` comes only where a growth of memory was refused.
+pub fn show_listed(alloc: Global, table: &Table, module: &Module<'_>) -> Result<String, AllocError>
+    requires { (words : List ℕ) × IsListing table.now (plain_insts «module».now) words }
+    ensures { IfOk result (λ t. IsShownText table.now «module».now.header (plain_insts «module».now) (string_bytes t)) }
+{
+    let mut out = String::new(alloc);
+    push_header(&mut out, module.header)?;
+    push_lines(alloc, table, module, &mut out)?;
+    Ok(out)
+}
+
 /// The text of a module by a grammar table: five lines for its header, and one for each instruction.
 ///
 /// # Errors
@@ -67,11 +82,9 @@ pub fn show(alloc: Global, table: &Table, module: &Module<'_>) -> Result<String,
     // An error tells the header, or the first instruction that is hindered, and why.
     ensures refused { IfErr result (λ e. IsRefused e.code table.now «module».now e.inst) }
 {
-    // A module that has no image is refused here, so that each line below is that of an instruction that words spell.
+    // A module that has no image is refused here, so that each line is that of an instruction that words spell.
     let image = encode(alloc, table, module)?;
     drop(image);
-    let mut out = String::new(alloc);
-    push_header(&mut out, module.header)?;
-    push_lines(alloc, table, module, &mut out)?;
-    Ok(out)
+    let text = show_listed(alloc, table, module)?;
+    Ok(text)
 }

@@ -17,8 +17,8 @@ ghost use Rattle.spv_text.specs.Begun.{IsOfOperands};
 ghost use Rattle.spv_text.specs.Reading.{HasQuoted, IsAt, IsDueToken, IsStep, RefusesOr, told};
 
 use crate::ids::Ids;
+use crate::line::Setting;
 use crate::token::read_token;
-use crate::types::Types;
 use spv_grammar::Table;
 use spv_inst::Operand;
 use spv_inst::due::{Agenda, Asked, Leaf, push_operand, read_text};
@@ -31,6 +31,17 @@ use std::alloc::AllocError;
 pub struct Front<'a> {
     pub rest: &'a str,
     pub ids: Ids,
+}
+
+/// What is known of a line where an operand is due.
+#[derive(Clone, Copy, Debug)]
+pub struct Place {
+    /// The opcode of its instruction.
+    pub opcode: u16,
+    /// The ids of the operands so far.
+    pub ids: Ids,
+    /// What stands in front of its name.
+    pub result_id: Option<u32>,
 }
 
 /// What is made of a line's operands.
@@ -157,26 +168,31 @@ fn take_text<'t, 'a>(
 /// `S3`: the token is nothing that the leaf takes. `S4`: it is a decimal number that is too large for it. `S6`: a growth of
 /// memory was refused.
 fn take_token<'t, 'a>(
-    table: &'t Table,
-    types: &Types,
+    setting: &Setting<'t, '_>,
     desk: &mut Desk<'t>,
-    opcode: u16,
-    ids: Ids,
+    place: Place,
     asked: Asked,
     rest: &'a str,
 ) -> Result<Front<'a>, AsmCode>
-    ensures taken { (r : Option ℕ) (c : Context) → IsAt types.now opcode ids c → IsDueToken table.now c asked
-        → IfOk result (λ f. IsStep table.now r c (plain_slot asked.slot) (32 ∷ rest.now) f.rest.now f.ids desk.old.words.items desk.new.words.items (agenda_due table.now desk.old.agenda) (agenda_due table.now desk.new.agenda)) }
-    ensures refused { (r : Option ℕ) (c : Context) → IsAt types.now opcode ids c → IsDueToken table.now c asked
-        → IfErr result (λ e. RefusesOr table.now r c (plain_slot asked.slot) (32 ∷ rest.now) e) }
+    ensures taken { (r : Option ℕ) (c : Context) → IsAt setting.now.types.now place.opcode place.ids c → IsDueToken setting.now.table.now c asked
+        → IfOk result (λ f. IsStep setting.now.table.now r c (plain_slot asked.slot) (32 ∷ rest.now) f.rest.now f.ids desk.old.words.items desk.new.words.items (agenda_due setting.now.table.now desk.old.agenda) (agenda_due setting.now.table.now desk.new.agenda)) }
+    ensures refused { (r : Option ℕ) (c : Context) → IsAt setting.now.types.now place.opcode place.ids c → IsDueToken setting.now.table.now c asked
+        → IfErr result (λ e. RefusesOr setting.now.table.now r c (plain_slot asked.slot) (32 ∷ rest.now) e) }
 {
     let (token, behind) = split_token(rest);
-    match read_token(table, types, opcode, ids, asked, token) {
+    match read_token(
+        setting.table,
+        setting.types,
+        place.opcode,
+        place.ids,
+        asked,
+        token,
+    ) {
         Ok(operand) => {
-            put_operand(&mut desk.agenda, &mut desk.words, table, &operand)?;
+            put_operand(&mut desk.agenda, &mut desk.words, setting.table, &operand)?;
             Ok(Front {
                 rest: behind,
-                ids: ids.and_then(&operand),
+                ids: place.ids.and_then(&operand),
             })
         }
         Err(why) => Err(code_of(why)),
@@ -193,40 +209,36 @@ fn is_in_front(ids: Ids, asked: Asked) -> bool
     }
 }
 
-/// Takes the operand for the leaf that is due. `result` is what stands in front of the line's name, `rest` what is left of the
-/// line.
+/// Takes the operand for the leaf that is due. `rest` is what is left of the line.
 ///
 /// # Errors
 ///
 /// `S3`: nothing stands there that the leaf takes. `S4`: a decimal number stands there that is too large for it. `S6`: a growth
 /// of memory was refused.
 pub fn take_operand<'t, 'a>(
-    table: &'t Table,
-    types: &Types,
+    setting: &Setting<'t, '_>,
     desk: &mut Desk<'t>,
-    opcode: u16,
-    ids: Ids,
-    result_id: Option<u32>,
+    place: Place,
     asked: Asked,
     rest: &'a str,
 ) -> Result<Front<'a>, AsmCode>
-    ensures taken { (c : Context) → IsAt types.now opcode ids c → form_at (kind_of table.now asked.slot.kind) ≡ LeafForm asked.leaf → IsBreak rest.now
-        → IfOk result (λ f. IsStep table.now result_id c (plain_slot asked.slot) rest.now f.rest.now f.ids desk.old.words.items desk.new.words.items (agenda_due table.now desk.old.agenda) (agenda_due table.now desk.new.agenda)) }
-    ensures refused { (c : Context) → IsAt types.now opcode ids c → form_at (kind_of table.now asked.slot.kind) ≡ LeafForm asked.leaf → IsBreak rest.now
-        → IfErr result (λ e. RefusesOr table.now result_id c (plain_slot asked.slot) rest.now e) }
+    ensures taken { (c : Context) → IsAt setting.now.types.now place.opcode place.ids c → form_at (kind_of setting.now.table.now asked.slot.kind) ≡ LeafForm asked.leaf → IsBreak rest.now
+        → IfOk result (λ f. IsStep setting.now.table.now place.result_id c (plain_slot asked.slot) rest.now f.rest.now f.ids desk.old.words.items desk.new.words.items (agenda_due setting.now.table.now desk.old.agenda) (agenda_due setting.now.table.now desk.new.agenda)) }
+    ensures refused { (c : Context) → IsAt setting.now.types.now place.opcode place.ids c → form_at (kind_of setting.now.table.now asked.slot.kind) ≡ LeafForm asked.leaf → IsBreak rest.now
+        → IfErr result (λ e. RefusesOr setting.now.table.now place.result_id c (plain_slot asked.slot) rest.now e) }
 {
-    if is_in_front(ids, asked) {
-        let Some(id) = result_id else {
+    if is_in_front(place.ids, asked) {
+        let Some(id) = place.result_id else {
             return Err(AsmCode::S3);
         };
-        let front = take_front(table, desk, ids, asked, id, rest)?;
+        let front = take_front(setting.table, desk, place.ids, asked, id, rest)?;
         return Ok(front);
     }
     let Some(behind) = behind(rest, b' ') else {
         return Err(AsmCode::S3);
     };
     match asked.leaf {
-        Leaf::Text => take_text(table, desk, ids, asked, behind),
-        _ => take_token(table, types, desk, opcode, ids, asked, behind),
+        Leaf::Text => take_text(setting.table, desk, place.ids, asked, behind),
+        _ => take_token(setting, desk, place, asked, behind),
     }
 }

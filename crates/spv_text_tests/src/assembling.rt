@@ -1,7 +1,8 @@
 //! Texts and their images or faults, as worked out by hand.
 
 use spv_grammar::Table;
-use spv_text::{AsmCode, AsmError, assemble};
+use spv_inst::decode;
+use spv_text::{AsmCode, AsmError, assemble, show_listed};
 use spv_words::{Image, word};
 use std::alloc::Global;
 use std::test::Fail;
@@ -135,6 +136,26 @@ fn reads_lines(rt: HostRuntime) -> Result<(), Fail> {
     for (lines, words) in READ {
         assert!(rt; makes(rt.alloc(), lines, words)?, "{}", lines);
     }
+    Ok(())
+}
+
+/// The text of the module of an image.
+fn text_again(alloc: Global, table: &Table, image: &Image) -> Result<String, Fail> {
+    let module = match decode(alloc, table, image) {
+        Ok(module) => module,
+        Err(_) => return Err(Fail::from("no module")),
+    };
+    let text = show_listed(alloc, table, &module)?;
+    Ok(text)
+}
+
+#[test]
+fn shows_what_decodes(rt: HostRuntime) -> Result<(), Fail> {
+    let table = Table::from_slice(rt.alloc(), PROFILE.as_bytes())?;
+    let text = text_of(rt.alloc(), "%9 = OpLoad %2 %8 Volatile|Aligned 4\n")?;
+    let image = assemble(rt.alloc(), &table, text.as_str())?;
+    let again = text_again(rt.alloc(), &table, &image)?;
+    assert_eq!(rt; again.as_str(), text.as_str());
     Ok(())
 }
 

@@ -9,10 +9,16 @@ ghost use Rattle.spv_tokens.specs.Answer.{IsBehind, IsBelow, IsDigit, IsEight, I
 use crate::misread::Misread;
 use spv_inst::Operand;
 
+/// A number below this one has room for one more digit.
+const SHORT: u64 = 1_000_000_000_000_000_000;
+
 /// Ten times the number and one more digit, unless that takes over 64 bits.
 fn one_more(number: u64, digit: u8) -> Option<u64>
     ensures { SomeIff result (number * 10 + digit < 2 ^ 64) (number * 10 + digit) }
 {
+    if number < SHORT {
+        return Some(number * 10 + u64::from(digit));
+    }
     match number.checked_mul(10) {
         Some(tens) => tens.checked_add(u64::from(digit)),
         None => None,

@@ -1,9 +1,9 @@
 use Rattle.std.proofs.Common.{◌∙◌, ap, string_bytes}
 use Rattle.spv_grammar.specs.Table.{kind_of}
 use Rattle.spv_inst.specs.Reading.{enumerants_at}
-use Rattle.spv_text.proofs.BitNames.{no_names, past_names, left_first, left_set, left_clear, left_none}
+use Rattle.spv_text.proofs.BitNames.{no_names, past_names, left_first, left_named, left_set, left_clear, left_none}
 use Rattle.spv_text.proofs.name.push_names.Goals as goal
-use Rattle.spv_text.proofs.name.push_names.Goals.{then-left-eq1+in_ok-push_bar+in_ok-push_value, else-left-eq1}
+use Rattle.spv_text.proofs.name.push_names.Goals.{then-left-eq1+in_ok-push_bar+in_ok-push_known, else-left-eq1}
 
 pub loop-position-init : goal.loop-position-init
 loop-position-init c = λ ts e. left_first (enumerants_at (kind_of c.args.table.now c.args.kind)) c.args.mask ts (string_bytes c.args.out.now) e
@@ -18,10 +18,10 @@ loop-position-preserved c = λ ts e.
     let es = enumerants_at (kind_of c.args.table.now c.args.kind) in
     let p = c.loop-position.position in
     elim c.if-left-eq1.branch [
-      | then-left-eq1+in_ok-push_bar+in_ok-push_value w ↦
+      | then-left-eq1+in_ok-push_bar+in_ok-push_known w ↦
           rw w.is_first-is
           (left_set es c.args.mask _ _ (string_bytes w.push_bar.new.out) _ c.loop-position.is_first p (c.loop-position.invariant ts e) c.loop-position-test.true w.if-left-eq1.true w.in_ok-push_bar.ensures
-          (ap string_bytes w.out-is ∙ w.in_ok-push_value.ensures))
+          (ap string_bytes w.out-is ∙ w.in_ok-push_known.ensures (left_named es c.args.mask _ _ c.loop-position.is_first p (c.loop-position.invariant ts e) c.loop-position-test.true w.if-left-eq1.true)))
       | else-left-eq1 w ↦
           rw (w.out-is, w.is_first-is) (left_clear es c.args.mask _ _ c.loop-position.is_first p (c.loop-position.invariant ts e) c.loop-position-test.true w.if-left-eq1.false)
     ]

@@ -1,16 +1,4 @@
-use Rattle.std.proofs.Common.{[], string_bytes}
-use Rattle.spv_inst.specs.Module.{plain_insts}
-use Rattle.spv_lines.specs.Text.{header_lines}
-use Rattle.spv_lines.proofs.Showing.{shown_lines}
-use Rattle.spv_text.proofs.Texts.{whole_text}
 use Rattle.spv_text.proofs.shown.show.Goals as goal
 
-pub returns-clause-shown : goal.returns-clause-shown
-returns-clause-shown c =
-    let a = shown_lines c.args.table.now [] (plain_insts c.args.module.now) _ c.in_ok-image.ensures.spelled in
-    record {
-      lines = a.lines;
-      shown = a.shown;
-      all = whole_text (header_lines c.args.module.now.header) a.lines (string_bytes c.push_header.new.out) (string_bytes c.push_lines.new.out) (string_bytes c.new-out.result) c.new-out.ensures.bytes c.in_ok-push_header.ensures
-          (c.in_ok-push_lines.ensures a.lines a.shown);
-    }
+pub show_listed-requires : goal.show_listed-requires
+show_listed-requires c = (_, c.in_ok-image.ensures.spelled)
