@@ -17,6 +17,9 @@ use std::alloc::{AllocError, AllocFailed};
 /// How many levels arrays and objects may nest, as in `serde_json`.
 const MAX_DEPTH: usize = 127;
 
+/// How many items or members there is room for at first.
+const SOME: usize = 4;
+
 /// Why no tree was read.
 #[derive(Clone, Copy, Debug, Drop, PartialEq, Eq)]
 pub enum Refused {
@@ -137,7 +140,7 @@ fn read_items<'a>(
     ensures err { result ≡ Err Refused.Invalid
         → converted of_items (items (value depth) (length reader.old) reader.old) ≡ None }
 {
-    let mut found = Vec::new(arena);
+    let mut found = Vec::with_capacity(arena, SOME)?;
     'items: while !reader.take_end_array() {
         let item = read(arena, reader, depth)?;
         found.push(item)?;
@@ -162,7 +165,7 @@ fn read_members<'a>(
         → converted (λ ms. of_members ms no_members)
         (members (value depth) (length reader.old) reader.old) ≡ None }
 {
-    let mut found = Vec::new(arena);
+    let mut found = Vec::with_capacity(arena, SOME)?;
     'members: while let Some(name) = reader.next_key()? {
         let member = read(arena, reader, depth)?;
         found.push((name, member))?;

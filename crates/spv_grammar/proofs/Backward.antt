@@ -31,21 +31,6 @@ module _ {A : Type 0} (number : A → ℕ) (xs : List A) (i : ℕ) (x : A) where
       → option_and_then (slice_get xs) old ≡ first_with number n (drop i xs) → new ≡ (if nat_eq (number x) n then Some (i - 1) else old) → option_and_then (slice_get xs) new ≡ first_with number n (drop (i - 1) xs)
   first_step old new n some within is before now = first_step-by old new n (nat_eq (number x) n) some within is refl before now
 
-module _ {A : Type 0} (name : A → List ℕ) (value : A → ℕ) (xs : List A) (i : ℕ) (x : A) where
-  pub name_step-by : (old new : Option ℕ) (q : List ℕ) (same : Bool) → 0 < i → i ≤ length xs → x ≡ get_or xs (i - 1) x → bytes_eq (name x) q ≡ same
-      → old ≡ option_map value (find (λ a. bytes_eq q (name a)) (drop i xs)) → new ≡ cond same (Some (value x)) old → new ≡ option_map value (find (λ a. bytes_eq q (name a)) (drop (i - 1) xs))
-  name_step-by old new q true some within is e before now =
-      let back : bytes_eq q (name x) ≡ true = nat_list_eq_equiv.symm q (name x) ∙ e in
-      rw (now, front_at xs i x some within is, back) refl
-  name_step-by old new q false some within is e before now =
-      let back : bytes_eq q (name x) ≡ false = nat_list_eq_equiv.symm q (name x) ∙ e in
-      rw (now, front_at xs i x some within is, back) before
-
-  -- the first of a name, with one more element in front
-  pub name_step : (old new : Option ℕ) (q : List ℕ) → 0 < i → i ≤ length xs → x ≡ get_or xs (i - 1) x
-      → old ≡ option_map value (find (λ a. bytes_eq q (name a)) (drop i xs)) → new ≡ cond (bytes_eq (name x) q) (Some (value x)) old → new ≡ option_map value (find (λ a. bytes_eq q (name a)) (drop (i - 1) xs))
-  name_step old new q some within is before now = name_step-by old new q (bytes_eq (name x) q) some within is refl before now
-
 -- the first place, counted from a number
 abbrev place_or_none : {A : Type 0} (p : A → Bool) (n : ℕ) (xs : List A) → Option ℕ
 place_or_none p n xs = cond (nat_lt (position_or_len p xs) (length xs)) (Some (n + position_or_len p xs)) None
@@ -60,22 +45,6 @@ position_from-is p n (x ∷ xs) = later_place p n x xs (p x) refl (position_from
 
 pub position_from-zero : {A : Type 0} (p : A → Bool) (xs : List A) → position_from p 0 xs ≡ position p xs
 position_from-zero p xs = position_from-is p 0 xs ∙ ap (λ n. cond (nat_lt (position_or_len p xs) (length xs)) (Some n) None) (omega arith)
-
-module _ {A : Type 0} (name : A → List ℕ) (xs : List A) (i : ℕ) (x : A) where
-  pub place_step-by : (old new : Option ℕ) (q : List ℕ) (same : Bool) → 0 < i → i ≤ length xs → x ≡ get_or xs (i - 1) x → bytes_eq (name x) q ≡ same
-      → old ≡ position_from (λ a. bytes_eq q (name a)) i (drop i xs) → new ≡ cond same (Some (i - 1)) old → new ≡ position_from (λ a. bytes_eq q (name a)) (i - 1) (drop (i - 1) xs)
-  place_step-by old new q true some within is e before now =
-      let back : bytes_eq q (name x) ≡ true = nat_list_eq_equiv.symm q (name x) ∙ e in
-      rw (now, front_at xs i x some within is, back) refl
-  place_step-by old new q false some within is e before now =
-      let back : bytes_eq q (name x) ≡ false = nat_list_eq_equiv.symm q (name x) ∙ e in
-      let next : i - 1 + 1 ≡ i = omega arith in
-      rw (now, front_at xs i x some within is, back, next) before
-
-  -- the first place of a name, with one more element in front
-  pub place_step : (old new : Option ℕ) (q : List ℕ) → 0 < i → i ≤ length xs → x ≡ get_or xs (i - 1) x
-      → old ≡ position_from (λ a. bytes_eq q (name a)) i (drop i xs) → new ≡ cond (bytes_eq (name x) q) (Some (i - 1)) old → new ≡ position_from (λ a. bytes_eq q (name a)) (i - 1) (drop (i - 1) xs)
-  place_step old new q some within is before now = place_step-by old new q (bytes_eq (name x) q) some within is refl before now
 
 -- a write of a place
 pub dense : (ps : List ℕ) (k v n d : ℕ) → k < length ps → Some (get_or (set ps k v) n d) ≡ (if nat_eq k n then Some v else Some (get_or ps n d))

@@ -6,3 +6,4 @@ pub mod Backward
 pub mod Search
 pub mod Elements
 mod Turns
+mod Slots

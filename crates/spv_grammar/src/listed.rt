@@ -2,6 +2,7 @@ ghost use Rattle.std.specs.Prelude.{◌≡◌, string_bytes, IfOk};
 
 use std::alloc::{AllocError, Global};
 use std::marker::Model;
+use std::rc::Rc;
 
 /// A list that does not change. Contracts see it as the list of its items.
 #[derive(Debug, Drop)]
@@ -30,6 +31,48 @@ impl<T> Listed<T> {
         ensures { result.now ≡ self.now }
     {
         self.items.as_slice()
+    }
+}
+
+/// A list of names that several elements may share. Contracts see it as the list of the names.
+#[derive(Debug, Drop)]
+pub struct NameList {
+    names: Rc<Vec<Name>>,
+}
+
+impl Model for NameList {
+    ghost use Rattle.std.specs.Prelude.{List, ℕ};
+
+    ghost Value = { List (List ℕ) };
+
+    ghost view = { λ l. l.names.value.items };
+}
+
+impl NameList {
+    /// The list of a vector's names. The error is want of memory.
+    pub(crate) fn from_vec(alloc: Global, names: Vec<Name>) -> Result<NameList, AllocError>
+        ensures { IfOk result (λ l. l ≡ names.items) }
+    {
+        match Rc::new(alloc, names) {
+            Ok(names) => Ok(NameList { names }),
+            Err(_) => Err(AllocError),
+        }
+    }
+
+    /// The same list once more. The error is that there are too many of it.
+    pub(crate) fn share(&self) -> Result<NameList, AllocError>
+        ensures { IfOk result (λ l. l ≡ self.now) }
+    {
+        Ok(NameList {
+            names: self.names.clone()?,
+        })
+    }
+
+    /// The names, in order.
+    pub fn as_slice(&self) -> &[Name]
+        ensures { result.now ≡ self.now }
+    {
+        Rc::as_ref(&self.names).as_slice()
     }
 }
 

@@ -1,6 +1,6 @@
 //! Makes the parts of a table from a grammar file whose kinds are numbered.
 
-ghost use Rattle.std.specs.Prelude.{◌≡◌, IfOk};
+ghost use Rattle.std.specs.Prelude.{◌≡◌};
 ghost use Rattle.spv_grammar.specs.Kinds.{number_in};
 ghost use Rattle.std.specs.List.{list_all, filter};
 ghost use Rattle.spv_grammar.specs.Made.{Makes, all_of, item_of, entry_from, parameter_of, enumerant_from, is_kept, is_mask, fits_category, sort_from};
@@ -9,23 +9,13 @@ ghost use Rattle.spv_grammar.specs.Rules.{is_one};
 use crate::error::GrammarError;
 use crate::file::{FileEnumerant, FileInstruction, FileKind, FileOperand};
 use crate::lent::LentName;
-use crate::listed::{Listed, Name};
+use crate::listed::Listed;
 use crate::numbers::Numbers;
 use crate::rules::is_one;
+use crate::shared::Lists;
 use crate::sort::Sort;
 use crate::table::{Category, Entry, Enumerant, Item, Kind};
-use std::alloc::{AllocError, Global};
-
-/// A copy of a list of names.
-fn copy_names(alloc: Global, names: &[LentName<'_>]) -> Result<Listed<Name>, AllocError>
-    ensures { IfOk result (λ copy. copy ≡ names.now) }
-{
-    let mut found = Vec::with_capacity(alloc, names.len())?;
-    for name in names {
-        found.push(name.copy(alloc)?)?;
-    }
-    Ok(Listed::from_vec(found))
-}
+use std::alloc::Global;
 
 /// An item of a pattern.
 fn item(numbers: &Numbers<'_>, operand: &FileOperand<'_>) -> Result<Item, GrammarError>
@@ -59,6 +49,7 @@ fn items(
 pub(crate) fn entry(
     alloc: Global,
     numbers: &Numbers<'_>,
+    lists: &mut Lists,
     instruction: &FileInstruction<'_>,
 ) -> Result<(u16, Entry), GrammarError>
     ensures { Makes (λ e. e) result (entry_from numbers.now instruction.now) }
@@ -67,7 +58,7 @@ pub(crate) fn entry(
         return Err(GrammarError::J3);
     };
     let operands = items(alloc, numbers, instruction.operands.as_slice())?;
-    let capabilities = copy_names(alloc, instruction.capabilities.as_slice())?;
+    let capabilities = lists.of(alloc, instruction.capabilities.as_slice())?;
     let name = instruction.name.copy(alloc)?;
     Ok((
         opcode,
@@ -87,9 +78,10 @@ pub(crate) fn entries(
 ) -> Result<Vec<(u16, Entry)>, GrammarError>
     ensures { Makes (λ v. v.items) result (all_of (entry_from numbers.now) instructions.now) }
 {
+    let mut lists = Lists::new(alloc)?;
     let mut found = Vec::with_capacity(alloc, instructions.len())?;
     for instruction in instructions {
-        found.push(entry(alloc, numbers, instruction)?)?;
+        found.push(entry(alloc, numbers, &mut lists, instruction)?)?;
     }
     Ok(found)
 }
@@ -134,6 +126,7 @@ fn bases(
 fn enumerant(
     alloc: Global,
     numbers: &Numbers<'_>,
+    lists: &mut Lists,
     enumerant: &FileEnumerant<'_>,
 ) -> Result<Enumerant, GrammarError>
     ensures { Makes (λ e. e) result (enumerant_from numbers.now enumerant.now) }
@@ -142,7 +135,7 @@ fn enumerant(
         return Err(GrammarError::J3);
     };
     let parameters = parameters(alloc, numbers, enumerant.parameters.as_slice())?;
-    let capabilities = copy_names(alloc, enumerant.capabilities.as_slice())?;
+    let capabilities = lists.of(alloc, enumerant.capabilities.as_slice())?;
     let name = enumerant.name.copy(alloc)?;
     Ok(Enumerant {
         name,
@@ -190,6 +183,7 @@ fn is_kept(category: Option<Category>, enumerant: &FileEnumerant<'_>) -> bool
 fn enumerants(
     alloc: Global,
     numbers: &Numbers<'_>,
+    lists: &mut Lists,
     category: Option<Category>,
     elements: &[FileEnumerant<'_>],
 ) -> Result<Vec<Enumerant>, GrammarError>
@@ -198,21 +192,32 @@ fn enumerants(
     let mut found = Vec::with_capacity(alloc, elements.len())?;
     for element in elements {
         if is_kept(category, element) {
-            found.push(enumerant(alloc, numbers, element)?)?;
+            found.push(enumerant(alloc, numbers, lists, element)?)?;
         }
     }
     Ok(found)
 }
 
 /// A kind with its enumerants.
-fn sort(alloc: Global, numbers: &Numbers<'_>, kind: &FileKind<'_>) -> Result<Sort, GrammarError>
+fn sort(
+    alloc: Global,
+    numbers: &Numbers<'_>,
+    lists: &mut Lists,
+    kind: &FileKind<'_>,
+) -> Result<Sort, GrammarError>
     ensures { Makes (λ s. s) result (sort_from numbers.now kind.now) }
 {
     let Some(category) = kind.category else {
         return Err(GrammarError::J5);
     };
     let bases = bases(alloc, numbers, kind.bases.as_slice())?;
-    let enumerants = enumerants(alloc, numbers, kind.category, kind.enumerants.as_slice())?;
+    let enumerants = enumerants(
+        alloc,
+        numbers,
+        lists,
+        kind.category,
+        kind.enumerants.as_slice(),
+    )?;
     let name = kind.name.copy(alloc)?;
     let kind = Kind {
         name,
@@ -226,9 +231,10 @@ fn sort(alloc: Global, numbers: &Numbers<'_>, kind: &FileKind<'_>) -> Result<Sor
 pub(crate) fn sorts(alloc: Global, numbers: &Numbers<'_>) -> Result<Vec<Sort>, GrammarError>
     ensures { Makes (λ v. v.items) result (all_of (sort_from numbers.now) numbers.now) }
 {
+    let mut lists = Lists::new(alloc)?;
     let mut found = Vec::with_capacity(alloc, numbers.len())?;
     for number in 0..numbers.len() {
-        found.push(sort(alloc, numbers, numbers.nth(number))?)?;
+        found.push(sort(alloc, numbers, &mut lists, numbers.nth(number))?)?;
     }
     Ok(found)
 }

@@ -16,10 +16,12 @@ use std::marker::Model;
 pub(crate) struct Numbers<'a> {
     names: IndexSet<&'a str>,
     kinds: Vec<&'a FileKind<'a>>,
-    /// The numbers of the three names that most operands bear: IdRef, IdResult and IdResultType.
+    /// The numbers of the five names that most operands bear: IdRef, IdResult, IdResultType, LiteralInteger and IdScope.
     reference: Option<u32>,
     result: Option<u32>,
     result_type: Option<u32>,
+    integer: Option<u32>,
+    scope: Option<u32>,
 }
 
 impl<'a> Model for Numbers<'a> {
@@ -34,7 +36,9 @@ impl<'a> Model for Numbers<'a> {
     ghost invariant = { λ n. (map (λ k. k.now) n.names.keys ≡ map (λ k. k.now.name) n.kinds.items) × (length n.kinds.items < 2 ^ 32)
         × (n.reference ≡ number_in (map (λ k. k.now) n.kinds.items) (codes "IdRef"))
         × (n.result ≡ number_in (map (λ k. k.now) n.kinds.items) (codes "IdResult"))
-        × (n.result_type ≡ number_in (map (λ k. k.now) n.kinds.items) (codes "IdResultType")) };
+        × (n.result_type ≡ number_in (map (λ k. k.now) n.kinds.items) (codes "IdResultType"))
+        × (n.integer ≡ number_in (map (λ k. k.now) n.kinds.items) (codes "LiteralInteger"))
+        × (n.scope ≡ number_in (map (λ k. k.now) n.kinds.items) (codes "IdScope")) };
 }
 
 /// Whether a name is IdRef.
@@ -56,6 +60,20 @@ fn is_result_type(name: &str) -> bool
     ensures { result ≡ bytes_eq name.now (codes "IdResultType") }
 {
     name == "IdResultType"
+}
+
+/// Whether a name is LiteralInteger.
+fn is_integer(name: &str) -> bool
+    ensures { result ≡ bytes_eq name.now (codes "LiteralInteger") }
+{
+    name == "LiteralInteger"
+}
+
+/// Whether a name is IdScope.
+fn is_scope(name: &str) -> bool
+    ensures { result ≡ bytes_eq name.now (codes "IdScope") }
+{
+    name == "IdScope"
 }
 
 /// The place of a name among names.
@@ -87,12 +105,16 @@ impl<'a> Numbers<'a> {
         let reference = place_of(&names, "IdRef");
         let result = place_of(&names, "IdResult");
         let result_type = place_of(&names, "IdResultType");
+        let integer = place_of(&names, "LiteralInteger");
+        let scope = place_of(&names, "IdScope");
         Ok(Numbers {
             names,
             kinds: firsts,
             reference,
             result,
             result_type,
+            integer,
+            scope,
         })
     }
 
@@ -108,6 +130,12 @@ impl<'a> Numbers<'a> {
         }
         if is_result_type(name) {
             return self.result_type;
+        }
+        if is_integer(name) {
+            return self.integer;
+        }
+        if is_scope(name) {
+            return self.scope;
         }
         place_of(&self.names, name)
     }

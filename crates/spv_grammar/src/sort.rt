@@ -1,14 +1,12 @@
 ghost use Rattle.std.specs.Prelude.{◌≡◌, ◌<◌, ◌≤◌, ◌^◌, ℕ, List, length, option_map, option_and_then, slice_get, slice_index_or, IfOk};
 ghost use Rattle.std.specs.BTreeMap as tree;
 ghost use Rattle.std.specs.Ordering.{nat_cmp};
-ghost use Rattle.indexmap.specs.IndexMap.{get_by_text};
 ghost use Rattle.spv_grammar.specs.Table.{enumerant_of};
 ghost use Rattle.spv_grammar.specs.Lookups.{value_named};
 
-use crate::listed::Name;
+use crate::named::{Named, Names};
 use crate::places::widen;
 use crate::table::{Enumerant, Kind};
-use indexmap::IndexMap;
 use std::alloc::{AllocError, Global};
 use std::collections::BTreeMap;
 use std::marker::Model;
@@ -23,27 +21,26 @@ pub(crate) struct Sort {
     near: Vec<u32>,
     /// The place of the first enumerant with a greater value.
     far: BTreeMap<u32, usize>,
-    /// The value of the first enumerant with a name.
-    values: IndexMap<String, u32>,
+    /// Where the names of the enumerants are.
+    names: Names,
 }
 
 impl Model for Sort {
     ghost use Rattle.std.specs.Prelude.{◌≡◌, ◌<◌, ◌≤◌, ℕ, List, option_and_then, slice_get, slice_index_or};
     ghost use Rattle.std.specs.BTreeMap as tree;
     ghost use Rattle.std.specs.Ordering.{nat_cmp};
-    ghost use Rattle.indexmap.specs.IndexMap.{get_by_text};
     ghost use Rattle.spv_grammar.specs.Table.{Sort};
 
     ghost Value = { Sort };
 
     ghost use Rattle.spv_grammar.specs.Table.{enumerant_of};
-    ghost use Rattle.spv_grammar.specs.Lookups.{value_named};
+    ghost use Rattle.spv_grammar.specs.Named.{Finds};
 
     ghost view = { λ s. record { kind = s.kind; enumerants = s.enumerants.items } };
 
     ghost invariant = { λ s. ((v : ℕ) → v < 64 → slice_get s.enumerants.items (slice_index_or s.near.items v 4294967295) ≡ enumerant_of s.enumerants.items v)
         × ((v : ℕ) → 64 ≤ v → option_and_then (slice_get s.enumerants.items) (tree.get nat_cmp s.far v) ≡ enumerant_of s.enumerants.items v)
-        × ((q : List ℕ) → get_by_text s.values q ≡ value_named s.enumerants.items q) };
+        × Finds (λ e. e.name) s.enumerants.items s.names };
 }
 
 /// Below which number a value has a place in a list of its own.
@@ -79,17 +76,20 @@ fn far_places(alloc: Global, enumerants: &[Enumerant]) -> Result<BTreeMap<u32, u
     Ok(places)
 }
 
-/// For each name the value of the first enumerant that bears it.
-fn value_names(alloc: Global, enumerants: &[Enumerant]) -> Result<IndexMap<String, u32>, AllocError>
-    ensures { IfOk result (λ m. (q : List ℕ) → get_by_text m q ≡ value_named enumerants.now q) }
-{
-    let mut values = IndexMap::with_capacity(alloc, enumerants.len())?;
-    for i in (0..enumerants.len()).rev() {
-        let enumerant = &enumerants[i];
-        let name = String::from_str(alloc, enumerant.name.as_str())?;
-        values.insert(name, enumerant.value)?;
+impl Named for Enumerant {
+    ghost name = { λ e. e.name };
+
+    fn name(&self) -> &str {
+        self.name.as_str()
     }
-    Ok(values)
+}
+
+impl Named for Sort {
+    ghost name = { λ s. s.kind.name };
+
+    fn name(&self) -> &str {
+        self.kind.name.as_str()
+    }
 }
 
 impl Sort {
@@ -106,13 +106,13 @@ impl Sort {
         }
         let near = near_places(alloc, enumerants.as_slice())?;
         let far = far_places(alloc, enumerants.as_slice())?;
-        let values = value_names(alloc, enumerants.as_slice())?;
+        let names = Names::of(alloc, enumerants.as_slice())?;
         Ok(Sort {
             kind,
             enumerants,
             near,
             far,
-            values,
+            names,
         })
     }
 
@@ -142,6 +142,10 @@ impl Sort {
     pub(crate) fn value(&self, name: &str) -> Option<u32>
         ensures { result ≡ value_named self.now.enumerants name.now }
     {
-        self.values.get(name).copied()
+        let place = self.names.place(self.enumerants.as_slice(), name)?;
+        match self.enumerants.get(place) {
+            Some(enumerant) => Some(enumerant.value),
+            None => None,
+        }
     }
 }

@@ -1,15 +1,13 @@
-ghost use Rattle.std.specs.Prelude.{◌≡◌, ◌<◌, ◌^◌, ℕ, List, length, slice_get, slice_index_or, option_map, option_and_then, position, IfOk, IfErr};
-ghost use Rattle.std.specs.Str.{bytes_eq};
-ghost use Rattle.indexmap.specs.IndexMap.{get_by_text};
+ghost use Rattle.std.specs.Prelude.{◌≡◌, ◌<◌, ◌^◌, ℕ, List, length, slice_get, slice_index_or, option_map, option_and_then, IfOk, IfErr};
 ghost use Rattle.spv_grammar.specs.Table.{entry_of, kind_of, enumerant_of, first_with, IsWhole};
 ghost use Rattle.spv_grammar.specs.Lookups.{opcode_named, value_named, number_named};
 ghost use Rattle.spv_grammar.specs.declared.error.GrammarError.TheVariants.{J8};
 
 use crate::error::GrammarError;
-use crate::listed::{Listed, Name};
+use crate::listed::{Listed, Name, NameList};
+use crate::named::{Named, Names};
 use crate::places::widen;
 use crate::sort::Sort;
-use indexmap::IndexMap;
 use std::alloc::{AllocError, Global};
 use std::marker::Model;
 
@@ -39,7 +37,7 @@ pub struct Entry {
     /// The pattern of its operands, in order.
     pub operands: Listed<Item>,
     /// The names of the capabilities of which one is needed.
-    pub capabilities: Listed<Name>,
+    pub capabilities: NameList,
 }
 
 /// What sort of operands a kind has.
@@ -69,7 +67,7 @@ pub struct Enumerant {
     /// The numbers of the kinds of its parameters, in order.
     pub parameters: Listed<u32>,
     /// The names of the capabilities of which one is needed.
-    pub capabilities: Listed<Name>,
+    pub capabilities: NameList,
 }
 
 /// What a grammar file says. Contracts see its kinds and its entries, as lists.
@@ -80,28 +78,27 @@ pub struct Table {
     /// For each opcode the place of its first entry. 4,294,967,295 stands where it has none, and the list ends with the
     /// greatest opcode that has one.
     places: Vec<u32>,
-    /// For each name the opcode of the first instruction that bears it.
-    opcodes: IndexMap<String, u16>,
-    /// For each name the number of the first kind that bears it.
-    numbers: IndexMap<String, u32>,
+    /// Where the names of the entries are.
+    names: Names,
+    /// Where the names of the kinds are.
+    kind_names: Names,
 }
 
 impl Model for Table {
     ghost use Rattle.std.specs.Prelude.{◌≡◌, ℕ, List, slice_get, slice_index_or};
-    ghost use Rattle.indexmap.specs.IndexMap.{get_by_text};
     ghost use Rattle.spv_grammar.specs.Table.{Table};
 
     ghost Value = { Table };
 
     ghost use Rattle.spv_grammar.specs.Table.{IsWhole, first_with};
-    ghost use Rattle.spv_grammar.specs.Lookups.{opcode_named, number_named};
+    ghost use Rattle.spv_grammar.specs.Named.{Finds};
 
     ghost view = { λ t. record { kinds = t.sorts.items; entries = t.entries.items } };
 
     ghost invariant = { λ t. IsWhole (record { kinds = t.sorts.items; entries = t.entries.items })
         × ((n : ℕ) → slice_get t.entries.items (slice_index_or t.places.items n 4294967295) ≡ first_with (λ e. e.0) n t.entries.items)
-        × ((q : List ℕ) → get_by_text t.opcodes q ≡ opcode_named t.entries.items q)
-        × ((q : List ℕ) → get_by_text t.numbers q ≡ number_named (record { kinds = t.sorts.items; entries = t.entries.items }) q) };
+        × Finds (λ e. e.1.name) t.entries.items t.names
+        × Finds (λ s. s.kind.name) t.sorts.items t.kind_names };
 }
 
 /// For each opcode the place of its first entry.
@@ -118,33 +115,12 @@ fn opcode_places(alloc: Global, entries: &[(u16, Entry)]) -> Result<Vec<u32>, Al
     Ok(places)
 }
 
-/// For each name the opcode of the first instruction that bears it.
-fn opcode_names(
-    alloc: Global,
-    entries: &[(u16, Entry)],
-) -> Result<IndexMap<String, u16>, AllocError>
-    ensures { IfOk result (λ m. (q : List ℕ) → get_by_text m q ≡ opcode_named entries.now q) }
-{
-    let mut opcodes = IndexMap::with_capacity(alloc, entries.len())?;
-    for i in (0..entries.len()).rev() {
-        let (opcode, entry) = &entries[i];
-        let name = String::from_str(alloc, entry.name.as_str())?;
-        opcodes.insert(name, *opcode)?;
-    }
-    Ok(opcodes)
-}
+impl Named for (u16, Entry) {
+    ghost name = { λ e. e.1.name };
 
-/// For each name the number of the first kind that bears it.
-fn kind_numbers(alloc: Global, sorts: &[Sort]) -> Result<IndexMap<String, u32>, AllocError>
-    requires { length sorts.now < 2 ^ 32 }
-    ensures { IfOk result (λ m. (q : List ℕ) → get_by_text m q ≡ position (λ s. bytes_eq q s.kind.name) sorts.now) }
-{
-    let mut numbers = IndexMap::with_capacity(alloc, sorts.len())?;
-    for i in (0..sorts.len()).rev() {
-        let name = String::from_str(alloc, sorts[i].kind().name.as_str())?;
-        numbers.insert(name, i as u32)?;
+    fn name(&self) -> &str {
+        self.1.name.as_str()
     }
-    Ok(numbers)
 }
 
 impl Table {
@@ -163,14 +139,14 @@ impl Table {
             return Err(GrammarError::J8);
         }
         let places = opcode_places(alloc, entries.as_slice())?;
-        let opcodes = opcode_names(alloc, entries.as_slice())?;
-        let numbers = kind_numbers(alloc, sorts.as_slice())?;
+        let names = Names::of(alloc, entries.as_slice())?;
+        let kind_names = Names::of(alloc, sorts.as_slice())?;
         Ok(Table {
             sorts,
             entries,
             places,
-            opcodes,
-            numbers,
+            names,
+            kind_names,
         })
     }
 
@@ -189,7 +165,8 @@ impl Table {
     pub fn kind_named(&self, name: &str) -> Option<u32>
         ensures { result ≡ number_named self.now name.now }
     {
-        self.numbers.get(name).copied()
+        let place = self.kind_names.place(self.sorts.as_slice(), name)?;
+        Some(place as u32)
     }
 
     /// The enumerant of a kind's value or bit: the first of the file that is not dropped.
@@ -230,6 +207,10 @@ impl Table {
     pub fn named(&self, name: &str) -> Option<u16>
         ensures { result ≡ opcode_named self.now.entries name.now }
     {
-        self.opcodes.get(name).copied()
+        let place = self.names.place(self.entries.as_slice(), name)?;
+        match self.entries.get(place) {
+            Some((opcode, _)) => Some(*opcode),
+            None => None,
+        }
     }
 }

@@ -26,6 +26,12 @@ place_of-result-requires c = as_many_names c.loop-kind.names.keys c.loop-kind.fi
 pub place_of-result_type-requires : goal.place_of-result_type-requires
 place_of-result_type-requires c = as_many_names c.loop-kind.names.keys c.loop-kind.firsts.items c.loop-kind.invariant.names c.loop-kind.invariant.few
 
+pub place_of-integer-requires : goal.place_of-integer-requires
+place_of-integer-requires c = as_many_names c.loop-kind.names.keys c.loop-kind.firsts.items c.loop-kind.invariant.names c.loop-kind.invariant.few
+
+pub place_of-scope-requires : goal.place_of-scope-requires
+place_of-scope-requires c = as_many_names c.loop-kind.names.keys c.loop-kind.firsts.items c.loop-kind.invariant.names c.loop-kind.invariant.few
+
 pub invariant_of-result : goal.invariant_of-result
 invariant_of-result c =
     let ks = c.loop-kind.names.keys in
@@ -36,4 +42,6 @@ invariant_of-result c =
       c.place_of-reference.ensures ∙ same_numbers ks fs (codes "IdRef") named,
       c.place_of-result.ensures ∙ same_numbers ks fs (codes "IdResult") named,
       c.place_of-result_type.ensures ∙ same_numbers ks fs (codes "IdResultType") named,
+      c.place_of-integer.ensures ∙ same_numbers ks fs (codes "LiteralInteger") named,
+      c.place_of-scope.ensures ∙ same_numbers ks fs (codes "IdScope") named,
     )

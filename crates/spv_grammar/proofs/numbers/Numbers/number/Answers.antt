@@ -13,6 +13,12 @@ returns-then-is_result c = known_number _ _ c.args.name.now (codes "IdResult") _
 pub returns-then-is_result_type : goal.returns-then-is_result_type
 returns-then-is_result_type c = known_number _ _ c.args.name.now (codes "IdResultType") _ c.self.invariant.4 c.self.view_is (sym c.is_result_type.ensures ∙ c.if-is_result_type.true)
 
+pub returns-then-is_integer : goal.returns-then-is_integer
+returns-then-is_integer c = known_number _ _ c.args.name.now (codes "LiteralInteger") _ c.self.invariant.5 c.self.view_is (sym c.is_integer.ensures ∙ c.if-is_integer.true)
+
+pub returns-then-is_scope : goal.returns-then-is_scope
+returns-then-is_scope c = known_number _ _ c.args.name.now (codes "IdScope") _ c.self.invariant.6 c.self.view_is (sym c.is_scope.ensures ∙ c.if-is_scope.true)
+
 pub place_of-requires : goal.place_of-requires
 place_of-requires c = as_many_names c.self.inside.names.keys c.self.inside.kinds.items c.self.invariant.0 c.self.invariant.1
 
