@@ -1,17 +1,19 @@
 -- Which function is open, by opcodes alone.
-use Rattle.std.proofs.Common.{◌≡◌, ◌∙◌, ◌≤◌, ◌+◌, ◌&&◌, ◌||◌, ℕ, List, [], ◌∷◌, refl, ap, inl, inr, Bool, true, false, Option, Some, None, arith, nat_eq}
+use Rattle.std.proofs.Common.{◌≡◌, ◌∙◌, ◌≤◌, ◌+◌, ◌&&◌, ◌||◌, ℕ, List, [], ◌∷◌, refl, ap, inl, inr, Bool, true, false, Option, Some, None, arith, nat_eq, nat_le, ◌<◌}
 use Rattle.std.specs.Prelude.{slice_get, not}
+use Rattle.std.proofs.lemmas.Bool.{leb-true}
 use Rattle.std.proofs.lemmas.Option.{slice_get_within}
 use Rattle.spv_inst.specs.Operand.{PlainInst}
 use Rattle.spv_layout.specs.declared.class.Class.{Class}
-use Rattle.spv_layout.specs.declared.class.Class.TheVariants.{Function, FunctionEnd, Outside}
+use Rattle.spv_layout.specs.declared.class.Class.TheVariants.{Capability, Function, FunctionEnd, Outside}
 use Rattle.spv_layout.specs.Class.{is_among}
 use Rattle.spv_layout.specs.Row.{PlainRow}
 use Rattle.spv_layout.specs.Rows.{rows, row_of, class_of, class_in}
 use Rattle.spv_layout.specs.Layout.{classes}
-use Rattle.spv_layout.specs.Place.{IsAt, IsOfFunction}
+use Rattle.spv_layout.specs.Place.{IsAt, IsOfFunction, IsOfSection, section_of}
 use Rattle.spv_layout.proofs.Spans.{is_at, at_moved}
 use Rattle.spv_ids.specs.Known.{IsOpen}
+use Rattle.spv_ids.specs.Order.{IsOrdered}
 use Rattle.spv_ids.proofs.Bools.{and_first, and_second, eq_tells}
 use Rattle.spv_ids.proofs.Defining.{below_or}
 use Rattle.spv_ids.proofs.Used.{all_rows, row_tells, end_by, class_at}
@@ -89,3 +91,52 @@ stays_open is n f i h x o =
       last = λ k a b. o.begun.last k a (omega arith);
       not_ended = λ k a b c. elim (below_or k n (omega arith)) [ inl g ↦ o.not_ended k a g c | inr e ↦ not_end is n i h x (at_moved is k n (FunctionEnd ∷ []) e c) ];
     }
+
+-- Section 7a has opcodes up to 7 alone.
+
+abbrev is_sources : Option ℕ → Bool
+is_sources None = false
+is_sources (Some s) = nat_eq s 7
+
+row_low : PlainRow → Bool
+row_low r = not (is_sources (section_of r.class)) || nat_le r.to 7
+
+sources_low : all_rows row_low rows ≡ true
+unfolding rows all_rows row_low
+sources_low = refl
+
+low : (n : ℕ) (o : Option PlainRow) → row_of n ≡ o → is_sources (section_of (class_in o)) ≡ true → n ≤ 7
+unfolding row_low
+low n None e h = cc
+low n (Some r) e h =
+    let t = row_tells row_low rows n r sources_low e in
+    let p = leb-true r.to 7 (end_by (is_sources (section_of r.class)) (nat_le r.to 7) t.passes h) in
+    let q = t.to in
+    omega arith
+
+no_sources : (is : List PlainInst) (n k : ℕ) (i : PlainInst) → slice_get is n ≡ Some i → 7 < i.opcode → k ≡ 7 → ¬ (IsOfSection is n k)
+no_sources is n _ i h l e (IsOfSection.early c s t q) =
+    let p = class_at is n i h in
+    let x : class_of i.opcode ≡ c = cc in
+    let y : section_of (class_of i.opcode) ≡ Some 7 = rw (x, q, e) refl in
+    let z : is_sources (section_of (class_of i.opcode)) ≡ true = rw y refl in
+    let w = low i.opcode (row_of i.opcode) refl z in
+    omega arith
+no_sources is n _ i h l e (IsOfSection.global c t q g) = absurd (omega (arith, e))
+no_sources is n _ i h l e (IsOfSection.declaration c f t q g d) = absurd (omega (arith, e))
+no_sources is n _ i h l e (IsOfSection.definition c f t q g d) = absurd (omega (arith, e))
+
+not_global : (c : Class) → section_of c ≡ Some 11 → ⊥
+not_global Capability h = cc
+not_global _ h = cc
+
+no_globals : (is : List PlainInst) (n k f : ℕ) → IsOfFunction is n f → k ≡ 11 → ¬ (IsOfSection is n k)
+no_globals is n _ f o e (IsOfSection.early c s t q) = not_global c (rw e at q)
+no_globals is n _ f o e (IsOfSection.global c t q g) = g f o.begun
+no_globals is n _ f o e (IsOfSection.declaration c g t q l d) = absurd (omega (arith, e))
+no_globals is n _ f o e (IsOfSection.definition c g t q l d) = absurd (omega (arith, e))
+
+-- in a function, uses need not come in order
+pub unordered : (is : List PlainInst) (n f : ℕ) (i : PlainInst) → slice_get is n ≡ Some i → 7 < i.opcode → IsOfFunction is n f → ¬ (IsOrdered is n)
+unordered is n f i h l o (inl s) = no_sources is n 7 i h l refl s
+unordered is n f i h l o (inr s) = no_globals is n 11 f o refl s

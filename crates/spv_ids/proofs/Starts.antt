@@ -8,7 +8,7 @@ use Rattle.spv_layout.specs.declared.form.Form.{Form}
 use Rattle.spv_layout.specs.declared.form.Form.TheVariants as form
 use Rattle.spv_layout.specs.Row.{PlainRow, Ending, closed, maybe, file_and_text, repeated, others, maybe_others}
 use Rattle.spv_layout.specs.Rows.{rows}
-use Rattle.spv_layout.specs.Shape.{is_of, AreOf, Ends, HasForms, Fits}
+use Rattle.spv_layout.specs.Shape.{is_of, AreOf, Ends, Fits}
 use Rattle.spv_ids.specs.Uses.{early_result, result_at, AreEarly}
 use Rattle.spv_ids.proofs.Bools.{and_first, and_second}
 use Rattle.spv_ids.proofs.Used.{all_rows, row_tells}

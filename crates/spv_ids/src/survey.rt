@@ -13,7 +13,7 @@ ghost use Rattle.spv_ids.specs.Order.{IsInOrder, IsInScope, IsOrdered, IsScoped}
 ghost use Rattle.spv_ids.specs.Broken.{IsOutOfRange};
 ghost use Rattle.spv_ids.specs.Notes.{kept};
 ghost use Rattle.spv_ids.specs.Known.{AreAnnounced, IsEnd, IsBadResult, IsHomeOf, IsOpen};
-ghost use Rattle.spv_ids.specs.Test.{lower_test, early_test, scope_test, home_test, announced_id};
+ghost use Rattle.spv_ids.specs.Test.{lower_test, early_test, scope_test, home_test, id_in, announced_id};
 ghost use Rattle.std.specs.Option.{is_some};
 ghost use Rattle.spv_ids.specs.Uses.{AreSeen};
 ghost use Rattle.spv_ids.specs.Faulty.{IsBadUse, HasBadUse, IsFaulty, IsLeast, IsEarlier, AreClean, IsFirstFault};
@@ -25,6 +25,9 @@ use crate::uses::{result_of, seen, used_id};
 use spv_inst::{Inst, Operand, Rule};
 use spv_layout::Plan;
 use std::alloc::{AllocError, Global};
+
+/// The opcode of OpString: no opcode of section 7a is higher.
+const STRING: u16 = 7;
 
 /// The opcode of OpTypeStruct.
 const TYPE_STRUCT: u16 = 30;
@@ -186,16 +189,26 @@ fn earlier(one: Option<Rule>, other: Rule) -> Rule
     }
 }
 
-/// The id that an OpTypeForwardPointer names.
-fn announced_by(inst: &Inst<'_>) -> Option<u32>
-    ensures { result ≡ announced_id (plain_inst inst.now) }
+/// The id that an instruction has as its first operand, if that is one.
+#[inline(never)]
+fn first_id(inst: &Inst<'_>) -> Option<u32>
+    ensures { result ≡ id_in (slice_get (plain_inst inst.now).operands 0) }
 {
-    if inst.opcode != TYPE_FORWARD_POINTER {
-        return None;
-    }
     match inst.operands.as_slice().get(0) {
         Some(Operand::Id(id)) => Some(*id),
         _ => None,
+    }
+}
+
+/// The id that an OpTypeForwardPointer names.
+#[inline(always)]
+fn announced_by(inst: &Inst<'_>) -> Option<u32>
+    ensures { result ≡ announced_id (plain_inst inst.now) }
+{
+    if inst.opcode == TYPE_FORWARD_POINTER {
+        first_id(inst)
+    } else {
+        None
     }
 }
 
@@ -328,6 +341,36 @@ impl<'m, 'a> Survey<'m, 'a> {
         self.insts.len() <= self.end as usize
     }
 
+    /// Whether an instruction is of the function `floor` and its opcode none of section 7a: its uses need not come in order.
+    #[inline(always)]
+    fn is_inside(&self, inst: u32, floor: u32) -> bool
+        requires survey { IsSurvey self.now }
+        requires below { inst < self.now.end }
+        requires floor { floor < 4294967295 → IsOfFunction (insts_of self.now) inst floor }
+        ensures { IsTrue result → ¬ (IsOrdered (insts_of self.now) inst) }
+    {
+        if floor == NONE {
+            return false;
+        }
+        STRING < self.insts[inst as usize].opcode
+    }
+
+    /// Whether the only definition of an id is in the function `floor`, that of an instruction, or in no function.
+    #[inline(always)]
+    fn is_own(&self, inst: u32, floor: u32, definition: u32) -> bool
+        requires survey { IsSurvey self.now }
+        requires whole { length self.now.insts.now ≤ self.now.end }
+        requires below { definition < self.now.end }
+        requires floor { floor < 4294967295 → IsOfFunction (insts_of self.now) inst floor }
+        ensures { (x : ℕ) → kept self.now.firsts.now x ≡ Some definition → IsTrue result → IsLocal (insts_of self.now) x → IsInScope (insts_of self.now) inst x }
+    {
+        let own = floor_of(self.plan, definition);
+        if own >= definition {
+            return true;
+        }
+        own == floor
+    }
+
     /// Whether a use by an instruction of the function `floor` is sound by the function of its only definition.
     #[inline(always)]
     fn is_sound(&self, inst: u32, floor: u32, definition: u32) -> bool
@@ -342,6 +385,9 @@ impl<'m, 'a> Survey<'m, 'a> {
         if !self.is_whole() {
             return false;
         }
+        if self.is_inside(inst, floor) {
+            return self.is_own(inst, floor, definition);
+        }
         let section = section_of(self.plan, inst);
         if is_ordered(section) {
             return false;
@@ -349,11 +395,7 @@ impl<'m, 'a> Survey<'m, 'a> {
         if !is_scoped(section) {
             return true;
         }
-        let own = floor_of(self.plan, definition);
-        if own >= definition {
-            return true;
-        }
-        own == floor
+        self.is_own(inst, floor, definition)
     }
 
     /// Whether each use among operands is sound at once, by an instruction of the function `floor`. One that is not may be

@@ -1,6 +1,6 @@
 //! Which operands of an instruction are uses.
 
-ghost use Rattle.std.specs.Prelude.{◌≡◌, slice_get};
+ghost use Rattle.std.specs.Prelude.{◌≡◌, slice_get, take};
 ghost use Rattle.spv_inst.specs.Module.{plain_inst, plain_operand, plain_operands};
 ghost use Rattle.spv_ids.specs.Uses as uses;
 
@@ -9,14 +9,27 @@ use spv_inst::{Inst, Operand};
 /// The opcode of OpExtInst.
 const EXT_INST: u16 = 12;
 
+/// The first four operands, or all where they are fewer.
+#[inline(never)]
+fn first_four<'i, 'a>(operands: &'i [Operand<'a>]) -> &'i [Operand<'a>]
+    ensures { plain_operands result.now ≡ take 4 (plain_operands operands.now) }
+{
+    if operands.len() > 4 {
+        &operands[..4]
+    } else {
+        operands
+    }
+}
+
 /// The operands that rules look at: of an OpExtInst those up to the number of its extended instruction, of any other
 /// instruction all.
+#[inline(always)]
 pub fn seen<'i, 'a>(inst: &'i Inst<'a>) -> &'i [Operand<'a>]
     ensures { plain_operands result.now ≡ uses.seen (plain_inst inst.now) }
 {
     let operands = inst.operands.as_slice();
-    if inst.opcode == EXT_INST && operands.len() > 4 {
-        &operands[..4]
+    if inst.opcode == EXT_INST {
+        first_four(operands)
     } else {
         operands
     }

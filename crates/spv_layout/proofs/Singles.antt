@@ -1,6 +1,7 @@
 -- An instruction that fits a row whose operands take one word each has one more word than operands.
-use Rattle.std.proofs.Common.{◌≡◌, ◌≢◌, ◌++◌, ◌+◌, ℕ, nat_eq, zero, suc, List, [], ◌∷◌, refl, Bool, true, false, ◌&&◌, Some, length, arith}
+use Rattle.std.proofs.Common.{◌≡◌, ◌≢◌, ◌++◌, ◌+◌, ℕ, nat_eq, zero, suc, List, [], ◌∷◌, refl, ap, Bool, true, false, ◌&&◌, inl, inr, Option, Some, None, length, arith}
 use Rattle.std.specs.Prelude.{sum_by, slice_get}
+use Rattle.std.proofs.lemmas.Bool.Decides.{eqb_tells}
 use Rattle.std.proofs.lemmas.List.Sums.{sum_by-cons}
 use Rattle.spv_grammar.specs.Table.{Table}
 use Rattle.spv_inst.specs.Operand.{Plain, PlainInst}
@@ -11,8 +12,8 @@ use Rattle.spv_layout.specs.declared.form.Row as declared
 use Rattle.spv_layout.specs.Row.{PlainRow, Ending, plain_row}
 use Rattle.spv_layout.specs.Rows.{row_of}
 use Rattle.spv_layout.specs.Shape.{is_of, AreOf, Ends, Fits}
-use Rattle.spv_layout.specs.Place.{operand_words, word_count}
-use Rattle.spv_layout.specs.Single.{is_single, are_single, is_single_ending, is_single_row, are_same, are_flagged}
+use Rattle.spv_layout.specs.Place.{operand_words, section_of, word_count}
+use Rattle.spv_layout.specs.Single.{is_single, are_single, is_single_ending, is_single_row, are_same, are_same_sections, is_flagged, are_flagged}
 use Rattle.spv_layout.specs.Test.{sort_of, sort_for}
 use Rattle.spv_layout.proofs.Derivatives.{both_hold}
 
@@ -22,11 +23,27 @@ same_is true false h = cc
 same_is false true h = cc
 same_is false false h = refl
 
--- a row of the code says whether it is single
+same_section : (a b : Option ℕ) → are_same_sections a b ≡ true → a ≡ b
+same_section None None h = refl
+same_section None (Some n) h = cc
+same_section (Some m) None h = cc
+same_section (Some m) (Some n) h = elim (eqb_tells m n) [ inl p ↦ ap Some p.1 | inr p ↦ (let q = p.0 in cc) ]
+
+flag_at : (rs : List declared.Row) (k : ℕ) (r : declared.Row) → are_flagged rs ≡ true → slice_get rs k ≡ Some r → is_flagged r ≡ true
+flag_at [] k r h e = cc
+flag_at (x ∷ rs) zero r h e = let p = both_hold (is_flagged x) (are_flagged rs) h in let q : x ≡ r = cc in rw (← q) p.0
+flag_at (x ∷ rs) (suc k) r h e = let p = both_hold (is_flagged x) (are_flagged rs) h in flag_at rs k r p.1 e
+
+-- a row of the code says whether it is single, and the section of its class
 pub flagged_at : (rs : List declared.Row) (k : ℕ) (r : declared.Row) → are_flagged rs ≡ true → slice_get rs k ≡ Some r → r.single ≡ is_single_row (plain_row r)
-flagged_at [] k r h e = cc
-flagged_at (x ∷ rs) zero r h e = let p = both_hold (are_same x.single (is_single_row (plain_row x))) (are_flagged rs) h in let q : x ≡ r = cc in rw (← q) (same_is x.single (is_single_row (plain_row x)) p.0)
-flagged_at (x ∷ rs) (suc k) r h e = let p = both_hold (are_same x.single (is_single_row (plain_row x))) (are_flagged rs) h in flagged_at rs k r p.1 e
+flagged_at rs k r h e =
+    let p = both_hold (are_same r.single (is_single_row (plain_row r))) (are_same_sections r.section (section_of r.class)) (flag_at rs k r h e) in
+    same_is r.single (is_single_row (plain_row r)) p.0
+
+pub section_at : (rs : List declared.Row) (k : ℕ) (r : declared.Row) → are_flagged rs ≡ true → slice_get rs k ≡ Some r → r.section ≡ section_of r.class
+section_at rs k r h e =
+    let p = both_hold (are_same r.single (is_single_row (plain_row r))) (are_same_sections r.section (section_of r.class)) (flag_at rs k r h e) in
+    same_section r.section (section_of r.class) p.1
 
 -- an operand of a single form
 one_word : (G : Table) (f : Form) (o : Plain) → is_single f ≡ true → is_of G f o ≡ true → operand_words o ≡ 1

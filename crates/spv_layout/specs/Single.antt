@@ -1,8 +1,9 @@
--- Rows whose operands take one word each. (For the code alone.)
-use Rattle.std.specs.Prelude.{List, [], ◌∷◌, Bool, true, false, not, ◌&&◌}
+-- What rows say of themselves besides: whether their operands take one word each, and the section of their class. (For the code alone.)
+use Rattle.std.specs.Prelude.{ℕ, List, [], ◌∷◌, Bool, true, false, not, ◌&&◌, nat_eq, Option, Some, None}
 use Rattle.spv_layout.specs.declared.form.Form.{Form}
 use Rattle.spv_layout.specs.declared.form.Form.TheVariants as form
 use Rattle.spv_layout.specs.declared.form.Row as declared
+use Rattle.spv_layout.specs.Place.{section_of}
 use Rattle.spv_layout.specs.Row.{PlainRow, Ending, closed, maybe, file_and_text, repeated, others, maybe_others, plain_row}
 
 abbrev pub is_single : Form → Bool
@@ -30,7 +31,16 @@ abbrev pub are_same : Bool → Bool → Bool
 are_same true b = b
 are_same false b = not b
 
--- each row of the code says whether it is such a row
+abbrev pub are_same_sections : Option ℕ → Option ℕ → Bool
+are_same_sections None None = true
+are_same_sections None (Some n) = false
+are_same_sections (Some m) None = false
+are_same_sections (Some m) (Some n) = nat_eq m n
+
+-- a row of the code says whether it is such a row, and the section of its class, if that stands in one alone
+abbrev pub is_flagged : declared.Row → Bool
+is_flagged r = are_same r.single (is_single_row (plain_row r)) && are_same_sections r.section (section_of r.class)
+
 abbrev pub are_flagged : List declared.Row → Bool
 are_flagged [] = true
-are_flagged (r ∷ rs) = are_same r.single (is_single_row (plain_row r)) && are_flagged rs
+are_flagged (r ∷ rs) = is_flagged r && are_flagged rs

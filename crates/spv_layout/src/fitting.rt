@@ -1,7 +1,7 @@
 //! Whether an instruction fits its row.
 
 ghost use Rattle.std.specs.Prelude.{◌≡◌, ◌+◌, [], true, length, map, Some, IfSome, IfNone};
-ghost use Rattle.spv_layout.specs.Place.{word_count};
+ghost use Rattle.spv_layout.specs.Place.{section_of, word_count};
 ghost use Rattle.spv_inst.specs.Module.{plain_inst, plain_operand};
 ghost use Rattle.spv_layout.specs.Row.{has_masks, plain_ending, plain_row};
 ghost use Rattle.spv_layout.specs.Rows.{class_of};
@@ -201,6 +201,7 @@ fn have_row(kinds: &Kinds<'_>, row: &Row, operands: &[Operand<'_>]) -> bool
 pub fn fitting(kinds: &Kinds<'_>, inst: &Inst<'_>) -> Option<&'static Row>
     ensures fits { IfSome result (λ r. Fits kinds.now (plain_inst inst.now)) }
     ensures class { IfSome result (λ r. r.now.class ≡ class_of inst.now.opcode) }
+    ensures section { IfSome result (λ r. r.now.section ≡ section_of r.now.class) }
     ensures single { IfSome result (λ r. r.now.single ≡ true → word_count (plain_inst inst.now) ≡ 1 + length (plain_inst inst.now).operands) }
     ensures misfit { IfNone result (¬ (Fits kinds.now (plain_inst inst.now))) }
 {

@@ -80,6 +80,8 @@ pub struct Row {
     pub from: u16,
     pub to: u16,
     pub class: Class,
+    /// The section of its class, if that stands in one alone: one of sections 1 to 8, by number as in `Place`.
+    pub section: Option<u8>,
     pub fixed: &'static [Form],
     pub ending: Ending,
     /// Whether the operands that it asks for take one word each, whatever they are.

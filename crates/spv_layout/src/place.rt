@@ -2,10 +2,8 @@ ghost use Rattle.std.specs.Prelude.{◌≡◌, ◌+◌, ◌≤◌, true, length,
 ghost use Rattle.spv_inst.specs.Module.{plain_inst, plain_operand};
 ghost use Rattle.spv_inst.specs.declared.fault.Stop.TheVariants.{Memory};
 ghost use Rattle.spv_layout.specs.Place as specs;
-ghost use Rattle.spv_layout.specs.Place.{section_of};
 ghost use Rattle.spv_layout.specs.Kept.{early_with, late_with, early_place, late_place};
 
-use crate::class::Class;
 use crate::span::{Spans, number};
 use spv_inst::{Inst, Operand, Stop};
 
@@ -35,26 +33,6 @@ pub struct Standing {
     pub function: u32,
     pub block: u32,
     pub word: u32,
-}
-
-/// The section of a class that stands in one alone: those of sections 1 to 8.
-#[inline(always)]
-pub fn section(class: Class) -> Option<u8>
-    ensures { result ≡ section_of class }
-{
-    match class {
-        Class::Capability => Some(1),
-        Class::Extension => Some(2),
-        Class::Import => Some(3),
-        Class::MemoryModel => Some(4),
-        Class::EntryPoint => Some(5),
-        Class::ExecutionMode => Some(6),
-        Class::Source => Some(7),
-        Class::Name => Some(8),
-        Class::Processed => Some(9),
-        Class::Decoration => Some(10),
-        _ => None,
-    }
 }
 
 impl Early {
@@ -93,20 +71,20 @@ impl Standing {
     }
 }
 
-/// Keeps an instruction of a class, with its first word.
+/// Keeps an instruction with its first word. `section` is that of its class, if it is one of sections 1 to 8.
 #[inline(always)]
 pub fn keep(
     early: &mut Vec<Early>,
     late: &mut Vec<Standing>,
-    class: Class,
+    section: Option<u8>,
     spans: Spans,
     word: u32,
 ) -> Result<(), Stop>
-    ensures early { OnOk result (early.new.items ≡ early_with (section_of class) word early.old.items) }
-    ensures late { OnOk result (late.new.items ≡ late_with (section_of class) spans word late.old.items) }
+    ensures early { OnOk result (early.new.items ≡ early_with section word early.old.items) }
+    ensures late { OnOk result (late.new.items ≡ late_with section spans word late.old.items) }
     ensures memory { IfErr result (λ e. e ≡ Memory) }
 {
-    match section(class) {
+    match section {
         Some(section) => early.push(Early { section, word })?,
         None => late.push(Standing {
             function: spans.function,

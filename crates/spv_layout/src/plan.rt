@@ -12,8 +12,8 @@ ghost use Rattle.spv_layout.specs.Plan.{IsPlan, IsRefusal};
 
 use crate::fitting::fitting;
 use crate::kinds::Kinds;
-use crate::place::{Early, Place, Standing, inst_words, keep, section, words_of};
-use crate::rows::class;
+use crate::place::{Early, Place, Standing, inst_words, keep, words_of};
+use crate::rows::row;
 use crate::span::Spans;
 use crate::state::{State, next, stops};
 use spv_grammar::Table;
@@ -123,7 +123,10 @@ fn count_early(insts: &[Inst<'_>]) -> usize
     ensures { result ≤ length insts.now }
 {
     for (i, inst) in insts.iter().enumerate() {
-        if section(class(inst.opcode)).is_none() {
+        let Some(row) = row(inst.opcode) else {
+            return i;
+        };
+        if row.section.is_none() {
             return i;
         }
     }
@@ -151,9 +154,9 @@ fn plan_of(alloc: Global, kinds: &Kinds<'_>, insts: &[Inst<'_>]) -> Result<Plan,
             return Err(refused(kinds, insts, Rule::L1, i, word));
         };
         state = after;
-        spans = spans.enter(row.class, i as u32);
-        keep(&mut early, &mut late, row.class, spans, word)?;
-        spans = spans.leave(row.class);
+        spans.enter(row.class, i as u32);
+        keep(&mut early, &mut late, row.section, spans, word)?;
+        spans.leave(row.class);
         word += words_of(inst, row.single);
     }
     if !stops(state) {

@@ -51,45 +51,35 @@ impl Spans {
 
     /// At an instruction of a class and number, which may begin a function or a block.
     #[inline(always)]
-    pub fn enter(self, class: Class, at: u32) -> Spans
-        ensures { result ≡ entered_in self class at }
+    pub fn enter(&mut self, class: Class, at: u32)
+        ensures { self.new ≡ entered_in self.old class at }
     {
         match class {
-            Class::Function => Spans {
-                function: at,
-                block: self.block,
-                functions: or_first(self.functions, at),
-                definitions: self.definitions,
-            },
-            Class::Label => Spans {
-                function: self.function,
-                block: at,
-                functions: self.functions,
-                definitions: or_first(self.definitions, self.function),
-            },
-            _ => self,
+            Class::Function => {
+                self.function = at;
+                self.functions = or_first(self.functions, at);
+            }
+            Class::Label => {
+                self.block = at;
+                self.definitions = or_first(self.definitions, self.function);
+            }
+            _ => {}
         }
     }
 
     /// After an instruction of a class, which may end a function or a block.
     #[inline(always)]
-    pub fn leave(self, class: Class) -> Spans
-        ensures { result ≡ left_in self class }
+    pub fn leave(&mut self, class: Class)
+        ensures { self.new ≡ left_in self.old class }
     {
         match class {
-            Class::FunctionEnd => Spans {
-                function: NONE,
-                block: self.block,
-                functions: self.functions,
-                definitions: self.definitions,
-            },
-            Class::Branch | Class::BranchConditional | Class::Switch | Class::Return => Spans {
-                function: self.function,
-                block: NONE,
-                functions: self.functions,
-                definitions: self.definitions,
-            },
-            _ => self,
+            Class::FunctionEnd => {
+                self.function = NONE;
+            }
+            Class::Branch | Class::BranchConditional | Class::Switch | Class::Return => {
+                self.block = NONE;
+            }
+            _ => {}
         }
     }
 }

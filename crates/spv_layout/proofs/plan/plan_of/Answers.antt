@@ -81,15 +81,17 @@ loop-i-preserved c =
     let k : slice_get (classes is) n ≡ Some c.in-Some.row.now.class = rw same t in
     let e : next_of c.loop-i.state c.in-Some.row.now.class ≡ Some c.in-Some-next.after = sym c.in-Some-next.ensures in
     let e' : next_of c.loop-i.state (class_of c.index-insts-i.result.opcode) ≡ Some c.in-Some-next.after = rw (← same) e in
+    let early = rw c.in-Some.ensures.section at c.in_ok-keep.ensures.early in
+    let late = rw c.in-Some.ensures.section at c.in_ok-keep.ensures.late in
     let stands = stands_at is n c.loop-i.state c.in-Some.row.now.class c.loop-i.spans h m k c.loop-i.invariant.follows in
     let w = sum_more word_count plain_inst c.args.insts.now n c.index-insts-i.result c.loop-i-test.true in
     let w' = rw (← c.index-insts-i.is) at w in
     record {
       fit = fit_more c.args.kinds.now is n (plain_inst c.index-insts-i.result) (inst_there c.args.insts.now n c.index-insts-i.result c.loop-i-test.true c.index-insts-i.is) c.in-Some.ensures.fits c.loop-i.invariant.fit;
       leads = leads_take c.args.insts.now n c.index-insts-i.result c.loop-i.state c.in-Some-next.after c.loop-i-test.true c.index-insts-i.is e' c.loop-i.invariant.leads;
-      follows = rw (c.leave-spans.ensures, c.enter-spans.ensures) (follows_on is n c.loop-i.state c.in-Some-next.after c.in-Some.row.now.class c.loop-i.spans e h m k c.loop-i.invariant.follows);
-      kept = keeps is n c.loop-i.state c.in-Some-next.after c.in-Some.row.now.class c.enter-spans.result c.loop-i.word c.loop-i.early.items c.keep.new.early.items c.loop-i.late.items c.keep.new.late.items e
-          c.in_ok-keep.ensures.early c.in_ok-keep.ensures.late k c.loop-i.invariant.word (rw c.enter-spans.ensures stands) c.loop-i.invariant.kept;
+      follows = rw (c.leave.ensures, c.enter.ensures) (follows_on is n c.loop-i.state c.in-Some-next.after c.in-Some.row.now.class c.loop-i.spans e h m k c.loop-i.invariant.follows);
+      kept = keeps is n c.loop-i.state c.in-Some-next.after c.in-Some.row.now.class c.enter.new.self c.loop-i.word c.loop-i.early.items c.keep.new.early.items c.loop-i.late.items c.keep.new.late.items e
+          early late k c.loop-i.invariant.word (rw c.enter.ensures stands) c.loop-i.invariant.kept;
       word = let a = c.loop-i.invariant.word in let b = c.words_of-word.ensures in omega arith;
     }
 

@@ -1,22 +1,37 @@
-use Rattle.std.proofs.Common.{◌≡◌, ◌<◌, ◌≤◌, ℕ, List, refl, length, true, Option, Some, None, Bor, get_or, arith}
-use Rattle.std.specs.Prelude.{IfSome, MatchOption}
-use Rattle.std.specs.List.{HoldsAt}
-use Rattle.std.proofs.lemmas.Option.{slice_get_read, slice_get_past}
+use Rattle.std.proofs.Common.{◌≡◌, ◌<◌, ℕ, List, refl, length, map, true, Some, None, get_or, arith}
+use Rattle.std.specs.Prelude.{slice_get}
+use Rattle.std.proofs.lemmas.List.{length-map}
+use Rattle.std.proofs.lemmas.Option.{slice_get_read, slice_get_past, slice_get-get_or}
 use Rattle.spv_layout.specs.declared.form.Row.{Row}
+use Rattle.spv_layout.specs.Place.{section_of}
 use Rattle.spv_layout.specs.Row.{plain_row}
 use Rattle.spv_layout.specs.Single.{is_single_row, are_flagged}
-use Rattle.spv_layout.proofs.Singles.{flagged_at}
+use Rattle.spv_layout.proofs.Singles.{flagged_at, section_at}
 use Rattle.spv_layout.proofs.rows.row_at.Goals as goal
 
-flag_of : (rows : List Row) (k : ℕ) (o : Option (Bor Row)) → are_flagged rows ≡ true → MatchOption o (length rows ≤ k) (λ x. (k < length rows) × HoldsAt (λ y. x.now ≡ y) rows k)
-    → IfSome o (λ x. x.now ≡ get_or rows k x.now) → IfSome o (λ r. r.now.single ≡ is_single_row (plain_row r.now))
-flag_of rows k None f l e = tt
-flag_of rows k (Some x) f l e = flagged_at rows k x.now f (slice_get_read rows (length rows) k x.now refl l.0 e)
+flag_in : (rs : List Row) (k : ℕ) (d : Row) → are_flagged rs ≡ true → k < length rs → (get_or rs k d).single ≡ is_single_row (plain_row (get_or rs k d))
+flag_in rs k d f l = flagged_at rs k (get_or rs k d) f (slice_get-get_or rs k d l)
 
-pub returns-in-Some-clause-single : goal.returns-in-Some-clause-single
-returns-in-Some-clause-single c =
-    let h = c.get-in-Some.ensures.lookup in
-    flag_of c.args.rows.now c.from-in-Some.result c.get-in-Some.result c.requires h.3 h.1
+section_in : (rs : List Row) (k : ℕ) (d : Row) → are_flagged rs ≡ true → k < length rs → (get_or rs k d).section ≡ section_of (get_or rs k d).class
+section_in rs k d f l = section_at rs k (get_or rs k d) f (slice_get-get_or rs k d l)
+
+pub returns-then-place-rows-clause-single : goal.returns-then-place-rows-clause-single
+returns-then-place-rows-clause-single c = flag_in c.args.rows.now c.from-place.result _ c.requires c.if-place-rows.true
+
+pub returns-then-place-rows-clause-section : goal.returns-then-place-rows-clause-section
+returns-then-place-rows-clause-section c = section_in c.args.rows.now c.from-place.result _ c.requires c.if-place-rows.true
+
+pub returns-else-place-rows-clause-row : goal.returns-else-place-rows-clause-row
+returns-else-place-rows-clause-row c =
+    let h = c.in-Some.ensures.lookup in
+    let e : slice_get c.args.numbers.now c.from.result ≡ Some c.in-Some.number.now =
+    slice_get_read c.args.numbers.now (length c.args.numbers.now) c.from.result c.in-Some.number.now refl h.3.0 h.1 in
+    let e' : slice_get c.args.numbers.now c.args.opcode ≡ Some c.in-Some.number.now = rw c.from.ensures at e in
+    let n = length-map c.args.rows.now plain_row in
+    let g = c.if-place-rows.false in
+    let i = c.from-place.ensures in
+    let p : slice_get (map plain_row c.args.rows.now) c.in-Some.number.now ≡ None = slice_get_past (map plain_row c.args.rows.now) c.in-Some.number.now (omega arith) in
+    rw (e', p) refl
 
 pub returns-in-None-clause-row : goal.returns-in-None-clause-row
 returns-in-None-clause-row c =

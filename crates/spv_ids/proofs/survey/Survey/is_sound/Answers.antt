@@ -1,9 +1,9 @@
-use Rattle.std.proofs.Common.{◌∙◌, ◌<◌, ◌≤◌, sym, length, arith}
+use Rattle.std.proofs.Common.{◌∙◌, ◌<◌, sym, arith}
 use Rattle.std.proofs.lemmas.List.{length-map}
 use Rattle.spv_inst.specs.Module.{plain_inst}
 use Rattle.spv_ids.specs.Survey.{insts_of}
-use Rattle.spv_ids.proofs.Bools.{false_true, eq_tells}
-use Rattle.spv_ids.proofs.Scopes.{sound_use, sound_nowhere, sound_here}
+use Rattle.spv_ids.proofs.Bools.{false_true}
+use Rattle.spv_ids.proofs.Scopes.{sound_use}
 use Rattle.spv_ids.proofs.survey.Survey.is_sound.Goals as goal
 
 pub section_of-section-requires : goal.section_of-section-requires
@@ -30,24 +30,6 @@ returns-then-not-is_scoped c = λ x e t q b.
     (λ o. absurd (false_true (sym c.if-not-is_scoped.true ∙ (c.is_scoped.ensures (insts_of s) n i).1 o)))
     q b
 
-pub returns-then-own-definition : goal.returns-then-own-definition
-returns-then-own-definition c = λ x e t q b.
-    let s = c.args.self.now in
-    let v = c.requires.survey in
-    let w = v.within in
-    let m = v.most in
-    let k = length-map s.insts.now plain_inst in
-    let h = c.if-definition-self.false in
-    let l : c.args.definition < 4294967295 = omega arith in
-    let g = c.is_whole.ensures c.if-not-is_whole.false in
-    let a : length (insts_of s) ≤ s.end = omega arith in
-    let n = c.args.inst in
-    let i = c.section_of-section.ensures (insts_of s) v.places in
-    sound_use s n x c.args.definition v (e l)
-    (λ o. false_true (sym c.if-is_ordered.false ∙ (c.is_ordered.ensures (insts_of s) n i).1 o))
-    (λ o y. absurd (sound_nowhere s x c.args.definition v (e l) a (λ f. c.floor_of-own.ensures.home (insts_of s) f v.places c.if-own-definition.true) y))
-    q b
-
 pub returns : goal.returns
 returns c = λ x e t q b.
     let s = c.args.self.now in
@@ -58,14 +40,22 @@ returns c = λ x e t q b.
     let h = c.if-definition-self.false in
     let l : c.args.definition < 4294967295 = omega arith in
     let n = c.args.inst in
-    let own = c.floor_of-own.result in
-    let z = c.if-own-definition.false in
-    let j : own < c.args.definition = omega arith in
-    let r = eq_tells own c.args.floor t in
-    let o = c.floor_of-own.ensures.function (insts_of s) v.places (omega arith) in
-    let p = c.requires.floor (omega arith) in
     let i = c.section_of-section.ensures (insts_of s) v.places in
     sound_use s n x c.args.definition v (e l)
     (λ u. false_true (sym c.if-is_ordered.false ∙ (c.is_ordered.ensures (insts_of s) n i).1 u))
-    (λ u y. sound_here s n x c.args.definition own v (e l) j o (rw r p))
+    (λ u y. c.is_own-2.ensures x (e l) t y)
+    q b
+
+pub returns-then-is_inside : goal.returns-then-is_inside
+returns-then-is_inside c = λ x e t q b.
+    let s = c.args.self.now in
+    let v = c.requires.survey in
+    let w = v.within in
+    let m = v.most in
+    let k = length-map s.insts.now plain_inst in
+    let h = c.if-definition-self.false in
+    let l : c.args.definition < 4294967295 = omega arith in
+    sound_use s c.args.inst x c.args.definition v (e l)
+    (λ o. c.is_inside.ensures c.if-is_inside.true o)
+    (λ u y. c.is_own.ensures x (e l) t y)
     q b
