@@ -71,3 +71,7 @@ bit_covered P mask n l h = bit_by P mask n l (has_bit mask (2 ^ n)) refl h
 
 pub bit_not_covered : (P : ℕ → Type 0) (mask n : ℕ) → n < 32 → ¬ (has_bit mask (2 ^ n) ≡ true → P (2 ^ n)) → ¬ (AllFrom P mask n)
 bit_not_covered P mask n l h a = h (λ e. ((set_at P mask n l e).0 a).0)
+
+-- none is set in 0
+pub no_mask : (G : Table) (is : List PlainInst) → IsCoveredMask G is 0 0
+no_mask G is = (all_bits G is 0 0).1 (no_more (IsCoveredValue G is 0) 0 0 refl)

@@ -1,11 +1,15 @@
 -- The first broken rule, where the rules were asked one after another.
-use Rattle.std.proofs.Common.{◌<◌, ℕ, List, arith}
+use Rattle.std.proofs.Common.{◌≡◌, ◌<◌, ◌∙◌, inl, ℕ, List, [], Bool, true, false, nat_eq, refl, sym, arith}
+use Rattle.std.proofs.lemmas.Bool.{eqb-true}
 use Rattle.spv_grammar.specs.Table.{Table}
 use Rattle.spv_inst.specs.Operand.{PlainInst}
 use Rattle.spv_inst.specs.declared.fault.Rule.{Rule}
 use Rattle.spv_inst.specs.declared.fault.Rule.TheVariants as rule
 use Rattle.spv_layout.specs.First.{rank_of}
-use Rattle.spv_capabilities.specs.Keeps.{Keeps}
+use Rattle.spv_capabilities.specs.Capable.{IsCapable, HasNeeded, needs_of}
+use Rattle.spv_capabilities.specs.Known.{AreCovered, is_asked_more}
+use Rattle.spv_capabilities.specs.Entry.{IsSoundLinkage}
+use Rattle.spv_capabilities.specs.Keeps.{Keeps, KeepsEntries}
 
 -- None of them is broken.
 pub all_kept : (G : Table) (is : List PlainInst) (n : ℕ) (i : PlainInst) → Keeps G is rule.C1 n i → Keeps G is rule.C2 n i → Keeps G is rule.M1 n i → Keeps G is rule.E1 n i → Keeps G is rule.E2 n i → (r : Rule) → Keeps G is r n i
@@ -56,3 +60,39 @@ kept_before_c1 G is n i rule.M1 l = absurd (omega arith)
 kept_before_c1 G is n i rule.E1 l = absurd (omega arith)
 kept_before_c1 G is n i rule.E2 l = absurd (omega arith)
 kept_before_c1 G is n i _ l = tt
+
+-- At an opcode of which no rule but C2 speaks, C2 alone is asked, by the entry and the operands.
+
+not_this : (n m : ℕ) → is_asked_more n ≡ false → is_asked_more m ≡ true → n ≡ m → ⊥
+not_this n m e h same = let f : is_asked_more m ≡ false = rw (← same) e in let no : true ≡ false = sym h ∙ f in cc
+
+differs : (n m : ℕ) (b : Bool) → nat_eq n m ≡ b → is_asked_more n ≡ false → is_asked_more m ≡ true → nat_eq n m ≡ false
+differs n m true q e h = absurd (not_this n m e h (eqb-true n m q))
+differs n m false q e h = q
+
+needs_nothing : (i : PlainInst) → is_asked_more i.opcode ≡ false → needs_of i ≡ []
+needs_nothing i e = rw (differs i.opcode 21 (nat_eq i.opcode 21) refl e refl, differs i.opcode 22 (nat_eq i.opcode 22) refl e refl, differs i.opcode 23 (nat_eq i.opcode 23) refl e refl) refl
+
+capable_then : (G : Table) (is : List PlainInst) (i : PlainInst) → is_asked_more i.opcode ≡ false → AreCovered G is i → IsCapable G is i
+capable_then G is i e a = record { entry = a.entry; operands = a.operands; widths = inl (needs_nothing i e) }
+
+pub covered_then : (G : Table) (is : List PlainInst) (i : PlainInst) → IsCapable G is i → AreCovered G is i
+covered_then G is i c = record { entry = c.entry; operands = c.operands }
+
+entries_then : (G : Table) (is : List PlainInst) (n : ℕ) (i : PlainInst) → is_asked_more i.opcode ≡ false → (i.opcode ≡ 54 → IsSoundLinkage G is n) → KeepsEntries G is n i
+entries_then G is n i e l = record {
+  entry = λ h. absurd (not_this i.opcode 15 e refl h);
+  mode = λ h. absurd (not_this i.opcode 16 e refl h);
+  linkage = l;
+}
+
+pub all_covered : (G : Table) (is : List PlainInst) (n : ℕ) (i : PlainInst) → is_asked_more i.opcode ≡ false → AreCovered G is i → (i.opcode ≡ 54 → IsSoundLinkage G is n) → (r : Rule) → Keeps G is r n i
+all_covered G is n i e a l =
+    all_kept G is n i (λ h. absurd (not_this i.opcode 14 e refl h)) (capable_then G is i e a) (λ h. absurd (not_this i.opcode 14 e refl h)) (λ h. absurd (not_this i.opcode 14 e refl h)) (entries_then G is n i e l)
+
+pub kept_before_covered : (G : Table) (is : List PlainInst) (n : ℕ) (i : PlainInst) → is_asked_more i.opcode ≡ false → (q : Rule) → rank_of q < 22 → Keeps G is q n i
+kept_before_covered G is n i e = kept_before_c2 G is n i (λ h. absurd (not_this i.opcode 14 e refl h))
+
+pub kept_before_linkage : (G : Table) (is : List PlainInst) (n : ℕ) (i : PlainInst) → is_asked_more i.opcode ≡ false → AreCovered G is i → (q : Rule) → rank_of q < 25 → Keeps G is q n i
+kept_before_linkage G is n i e a =
+    kept_before_e2 G is n i (λ h. absurd (not_this i.opcode 14 e refl h)) (capable_then G is i e a) (λ h. absurd (not_this i.opcode 14 e refl h)) (λ h. absurd (not_this i.opcode 14 e refl h))

@@ -10,10 +10,11 @@ ghost use Rattle.spv_capabilities.specs.Capable.{IsKernel};
 ghost use Rattle.spv_capabilities.specs.Memory.{IsModel};
 ghost use Rattle.spv_capabilities.specs.Entry.{HasEntry};
 ghost use Rattle.spv_capabilities.specs.Keeps.{IsFirstAt};
+ghost use Rattle.spv_capabilities.specs.Known as known;
 ghost use Rattle.spv_capabilities.specs.Known.{IsKnown};
 
 use crate::capable::is_kernel;
-use crate::entry::{has_entry, is_model, keeps_entries};
+use crate::entry::{has_entry, is_model, keeps_entries, keeps_linkage};
 use crate::memo::Memo;
 use crate::surveyed::Survey;
 use spv_grammar::{Memory, Table};
@@ -90,9 +91,10 @@ fn keeps_entry(survey: &Survey<'_, '_>, inst: &Inst<'_>) -> bool
     inst.opcode != MEMORY_MODEL || has_entry(survey)
 }
 
-/// The first of the five rules that is broken at an instruction of a number.
+/// The first of the five rules that is broken at an instruction of a number, whichever speak of it.
 #[tactic(auto, using(crate::proofs::Firsts::all_kept, crate::proofs::Firsts::kept_before_c1, crate::proofs::Firsts::kept_before_c2, crate::proofs::Firsts::kept_before_m1, crate::proofs::Firsts::kept_before_e1, crate::proofs::Firsts::kept_before_e2))]
-fn first_of(
+#[inline(never)]
+fn first_of_several(
     survey: &Survey<'_, '_>,
     memo: &mut Memo,
     number: u32,
@@ -121,6 +123,43 @@ fn first_of(
     Ok(None)
 }
 
+/// Whether a rule other than C2 speaks of an opcode other than that of OpFunction, or C2 asks for a width or a count there.
+#[inline(always)]
+fn is_asked_more(opcode: u16) -> bool
+    ensures { result ≡ known.is_asked_more opcode }
+{
+    match opcode {
+        14 | 15 | 16 | 21 | 22 | 23 => true,
+        _ => false,
+    }
+}
+
+/// The first of the five rules that is broken at an instruction of a number. At most instructions only C2 may be, by its entry and its
+/// operands, and at an OpFunction E2.
+#[inline(always)]
+fn first_of(
+    survey: &Survey<'_, '_>,
+    memo: &mut Memo,
+    number: u32,
+    inst: &Inst<'_>,
+) -> Result<Option<Rule>, Memory>
+    requires number { number < length survey.now.insts }
+    requires known { IsKnown survey.now memo.old }
+    ensures first { IfOk result (λ o. IsFirstAt survey.now.table survey.now.insts number (plain_inst inst.now) o) }
+    ensures known { IsKnown survey.now memo.new }
+{
+    if is_asked_more(inst.opcode) {
+        return first_of_several(survey, memo, number, inst);
+    }
+    if !memo.are_covered(survey, inst)? {
+        return Ok(Some(Rule::C2));
+    }
+    if !keeps_linkage(survey, number, inst.opcode) {
+        return Ok(Some(Rule::E2));
+    }
+    Ok(None)
+}
+
 impl<'m, 'a> Entries<'m, 'a> {
     /// The first of the rules C1, C2, M1, E1 and E2, in this order, that is broken at the instruction of a number, from 0; or none
     /// where none of them is.
@@ -142,6 +181,17 @@ impl<'m, 'a> Entries<'m, 'a> {
         ensures first { IfOk result (λ o. (i : PlainInst) → slice_get self.old.insts inst ≡ Some i → IsFirstAt self.old.table self.old.insts inst i o) }
         ensures same { self.new ≡ self.old }
     {
-        first_of(&self.survey, &mut self.memo, inst, self.survey.inst(inst))
+        let held = self.survey.inst(inst);
+        self.first_in(inst, held)
+    }
+
+    /// The same, where the instruction of that number is at hand.
+    #[inline(always)]
+    pub fn first_in(&mut self, number: u32, inst: &Inst<'_>) -> Result<Option<Rule>, Memory>
+        requires { slice_get self.old.insts number ≡ Some (plain_inst inst.now) }
+        ensures first { IfOk result (λ o. IsFirstAt self.old.table self.old.insts number (plain_inst inst.now) o) }
+        ensures same { self.new ≡ self.old }
+    {
+        first_of(&self.survey, &mut self.memo, number, inst)
     }
 }

@@ -143,6 +143,15 @@ fn is_sound_linkage(survey: &Survey<'_, '_>, number: u32) -> bool
     }
 }
 
+/// Whether E2 is unbroken at an instruction of a number, if that is an OpFunction.
+#[inline(always)]
+pub fn keeps_linkage(survey: &Survey<'_, '_>, number: u32, opcode: u16) -> bool
+    requires { number < length survey.now.insts }
+    ensures { IsTrue result ↔ (opcode ≡ 54 → IsSoundLinkage survey.now.table survey.now.insts number) }
+{
+    opcode != FUNCTION || is_sound_linkage(survey, number)
+}
+
 /// Whether E2 is unbroken at an instruction of a number.
 pub fn keeps_entries(survey: &Survey<'_, '_>, number: u32, inst: &Inst<'_>) -> bool
     requires { number < length survey.now.insts }

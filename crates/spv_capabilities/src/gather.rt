@@ -139,17 +139,20 @@ impl Gathered {
         ensures { OnOk result ((is : List PlainInst) (to : ℕ) → ((x : ℕ) → IsDefinitionOf is x (definition_in ids.now x)) → slice_get is to ≡ Some (plain_inst inst.now)
             → AreGathered linkage is to self.old → AreGathered linkage is (to + 1) self.new) }
     {
-        let operands = inst.operands.as_slice();
         match inst.opcode {
-            CAPABILITY => if let Some(capability) = first_value(operands) {
+            CAPABILITY => if let Some(capability) = first_value(inst.operands.as_slice()) {
                 self.declared.push(capability)?;
             },
             ENTRY_POINT => {
                 self.entry = true;
-                mark(&mut self.entered, ids, second_id(operands));
+                mark(&mut self.entered, ids, second_id(inst.operands.as_slice()));
             }
-            FUNCTION_CALL => mark(&mut self.called, ids, third_id(operands)),
-            DECORATE => mark(&mut self.imported, ids, linked_id(linkage, operands)),
+            FUNCTION_CALL => mark(&mut self.called, ids, third_id(inst.operands.as_slice())),
+            DECORATE => mark(
+                &mut self.imported,
+                ids,
+                linked_id(linkage, inst.operands.as_slice()),
+            ),
             _ => {}
         }
         Ok(())

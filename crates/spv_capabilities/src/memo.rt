@@ -5,7 +5,7 @@ ghost use Rattle.std.specs.List.{AllByRecursion};
 ghost use Rattle.spv_inst.specs.Module.{plain_inst, plain_operand, plain_operands};
 ghost use Rattle.spv_capabilities.specs.Subject.{Subject};
 ghost use Rattle.spv_capabilities.specs.Capable.{IsCoveredEntry, IsCoveredValue, IsCoveredMask, IsCoveredOperand, IsCapable};
-ghost use Rattle.spv_capabilities.specs.Known.{IsKnown, answer_of};
+ghost use Rattle.spv_capabilities.specs.Known.{IsKnown, AreCovered, answer_of};
 
 use crate::capable::{
     asks_nothing, has_needed, is_capability_kind, is_covered_entry, is_covered_value,
@@ -34,6 +34,9 @@ pub struct Memo {
     entries: Vec<Answer>,
     /// Of the enumerants that were met, by their kinds and values, whether they are covered.
     enumerants: BTreeMap<(u32, u32), bool>,
+    /// A mask whose set bits are all covered, the last that was asked of, or 0; and its kind.
+    mask: u32,
+    mask_kind: u32,
 }
 
 /// The number of one bit.
@@ -74,6 +77,8 @@ impl Memo {
         Ok(Memo {
             entries: vec![in alloc; Answer::Unknown; OPCODES]?,
             enumerants: BTreeMap::new(alloc),
+            mask: 0,
+            mask_kind: 0,
         })
     }
 
@@ -163,8 +168,8 @@ impl Memo {
         self.is_covered_value(survey, kind, bit_at(position))
     }
 
-    /// Whether the enumerants of a mask's set bits are covered.
-    fn is_covered_mask(
+    /// Whether the enumerants of a mask's set bits are covered, bit by bit.
+    fn are_covered_bits(
         &mut self,
         survey: &Survey<'_, '_>,
         kind: u32,
@@ -184,6 +189,39 @@ impl Memo {
             }
         }
         Ok(true)
+    }
+
+    /// Asks of a mask that is not the last.
+    #[inline(never)]
+    fn ask_mask(&mut self, survey: &Survey<'_, '_>, kind: u32, mask: u32) -> Result<bool, Memory>
+        requires { IsKnown survey.now self.old }
+        ensures answer { IfOk result (λ b. IsTrue b ↔ IsCoveredMask survey.now.table survey.now.insts kind mask) }
+        ensures known { IsKnown survey.now self.new }
+    {
+        let covered = self.are_covered_bits(survey, kind, mask)?;
+        if covered {
+            self.mask = mask;
+            self.mask_kind = kind;
+        }
+        Ok(covered)
+    }
+
+    /// Whether the enumerants of a mask's set bits are covered.
+    #[inline(always)]
+    fn is_covered_mask(
+        &mut self,
+        survey: &Survey<'_, '_>,
+        kind: u32,
+        mask: u32,
+    ) -> Result<bool, Memory>
+        requires { IsKnown survey.now self.old }
+        ensures answer { IfOk result (λ b. IsTrue b ↔ IsCoveredMask survey.now.table survey.now.insts kind mask) }
+        ensures known { IsKnown survey.now self.new }
+    {
+        if mask == self.mask && kind == self.mask_kind {
+            return Ok(true);
+        }
+        self.ask_mask(survey, kind, mask)
     }
 
     /// Whether an operand is of kind Capability, or its value or each set bit of its mask is covered.
@@ -213,6 +251,7 @@ impl Memo {
     }
 
     /// Whether all operands are covered.
+    #[inline(always)]
     fn are_covered_operands(
         &mut self,
         survey: &Survey<'_, '_>,
@@ -230,15 +269,28 @@ impl Memo {
         Ok(true)
     }
 
+    /// Whether the entry of an instruction and all its operands are covered.
+    #[inline(always)]
+    pub fn are_covered(&mut self, survey: &Survey<'_, '_>, inst: &Inst<'_>) -> Result<bool, Memory>
+        requires { IsKnown survey.now self.old }
+        ensures answer { IfOk result (λ b. IsTrue b ↔ AreCovered survey.now.table survey.now.insts (plain_inst inst.now)) }
+        ensures known { IsKnown survey.now self.new }
+    {
+        if !self.is_covered_entry(survey, inst.opcode) {
+            return Ok(false);
+        }
+        self.are_covered_operands(survey, inst.operands.as_slice())
+    }
+
     /// Whether C2 is unbroken at an instruction.
     pub fn is_capable(&mut self, survey: &Survey<'_, '_>, inst: &Inst<'_>) -> Result<bool, Memory>
         requires { IsKnown survey.now self.old }
         ensures answer { IfOk result (λ b. IsTrue b ↔ IsCapable survey.now.table survey.now.insts (plain_inst inst.now)) }
         ensures known { IsKnown survey.now self.new }
     {
-        if !self.is_covered_entry(survey, inst.opcode) || !has_needed(survey, inst) {
+        if !has_needed(survey, inst) {
             return Ok(false);
         }
-        self.are_covered_operands(survey, inst.operands.as_slice())
+        self.are_covered(survey, inst)
     }
 }

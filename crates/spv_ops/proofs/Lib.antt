@@ -8,3 +8,4 @@ pub mod Opcodes
 pub mod ValuePlaces
 pub mod Judged
 pub mod Worked
+mod CommonRows

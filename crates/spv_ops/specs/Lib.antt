@@ -4,6 +4,7 @@ pub mod Operands
 pub mod Parts
 pub mod Reach
 pub mod Row
+pub mod Common
 pub mod Values
 pub mod Calculation
 pub mod Access

@@ -158,7 +158,18 @@ fn from_generic(definitions: &Definitions, r: u32, o: u32) -> bool
 }
 
 /// Whether a type is an int, float or bool type or a vector of it.
+#[inline(always)]
 pub fn has_sort(definitions: &Definitions, sort: Sort, t: u32) -> bool
+    ensures { IsTrue result ↔ HasSort sort definitions.now t }
+{
+    match definitions.read_form(t) {
+        Some(Form::Scalar(scalar)) => scalar.is_of(sort),
+        _ => has_components_of(definitions, sort, t),
+    }
+}
+
+/// Whether the components of a type, if it has any, are ints, floats or bools.
+fn has_components_of(definitions: &Definitions, sort: Sort, t: u32) -> bool
     ensures { IsTrue result ↔ HasSort sort definitions.now t }
 {
     match definitions.components(t) {

@@ -103,11 +103,19 @@ impl<'m, 'a> Definitions<'m, 'a> {
         }
     }
 
+    /// What a type id declares. It is for where it is asked for at most instructions: `form` is the same.
+    #[inline(always)]
+    pub fn read_form(&self, id: u32) -> Option<Form>
+        ensures { result ≡ form_of self.now id }
+    {
+        form_in(self.definition(id)?)
+    }
+
     /// What a type id declares.
     pub fn form(&self, id: u32) -> Option<Form>
         ensures { result ≡ form_of self.now id }
     {
-        form_in(self.definition(id)?)
+        self.read_form(id)
     }
 
     /// The scalar type that an id declares.
@@ -164,6 +172,17 @@ fn is_global_variable(inst: &Inst<'_>, place: Place) -> bool
 /// The first `Type` of the operands.
 #[inline(always)]
 pub fn type_in(operands: &[Operand]) -> Option<u32>
+    ensures { result ≡ operand.type_in (plain_operands operands.now) }
+{
+    match operands {
+        [Operand::OfType(id), ..] => Some(*id),
+        _ => type_among(operands),
+    }
+}
+
+/// The first `Type` of the operands, wherever it stands.
+#[inline(never)]
+fn type_among(operands: &[Operand]) -> Option<u32>
     ensures { result ≡ operand.type_in (plain_operands operands.now) }
 {
     for operand in operands {

@@ -19,7 +19,7 @@ use spv_inst::Operand;
 
 /// Whether the row of a binary operation holds of the result type and the declared types of two ids.
 #[inline(always)]
-fn binary_holds(definitions: &Definitions, sort: Sort, r: u32, a: u32, b: u32) -> bool
+pub fn binary_holds(definitions: &Definitions, sort: Sort, r: u32, a: u32, b: u32) -> bool
     ensures { IsTrue result ↔ IsSomeAnd (types_of definitions.now (a ∷ b ∷ [])) (λ types. Calculates definitions.now (Binary sort) r types) }
 {
     is_typed(definitions, r, a) && is_typed(definitions, r, b) && has_sort(definitions, sort, r)

@@ -30,6 +30,7 @@ pub enum Form {
 }
 
 /// What the operands of OpTypeInt declare.
+#[inline(always)]
 fn int_in(operands: &[Operand]) -> Option<Form>
     ensures { result ≡ spec.int_in (plain_operands operands.now) }
 {
@@ -40,6 +41,7 @@ fn int_in(operands: &[Operand]) -> Option<Form>
 }
 
 /// What the operands of OpTypeFloat declare.
+#[inline(always)]
 fn float_in(operands: &[Operand]) -> Option<Form>
     ensures { result ≡ spec.float_in (plain_operands operands.now) }
 {
@@ -50,6 +52,7 @@ fn float_in(operands: &[Operand]) -> Option<Form>
 }
 
 /// What the operands of OpTypeVector declare.
+#[inline(always)]
 fn vector_in(operands: &[Operand]) -> Option<Form>
     ensures { result ≡ spec.vector_in (plain_operands operands.now) }
 {
@@ -68,6 +71,7 @@ fn vector_in(operands: &[Operand]) -> Option<Form>
 }
 
 /// What the operands of OpTypeArray declare.
+#[inline(always)]
 fn array_in(operands: &[Operand]) -> Option<Form>
     ensures { result ≡ spec.array_in (plain_operands operands.now) }
 {
@@ -86,6 +90,7 @@ fn array_in(operands: &[Operand]) -> Option<Form>
 }
 
 /// What the operands of OpTypePointer declare.
+#[inline(always)]
 fn pointer_in(operands: &[Operand]) -> Option<Form>
     ensures { result ≡ spec.pointer_in (plain_operands operands.now) }
 {
@@ -104,6 +109,7 @@ fn pointer_in(operands: &[Operand]) -> Option<Form>
 }
 
 /// What an instruction declares, if it is a type declaration.
+#[inline(always)]
 pub fn form_in(inst: &Inst) -> Option<Form>
     ensures { result ≡ spec.form_in (plain_inst inst.now) }
 {
@@ -140,6 +146,7 @@ pub struct Components {
 
 impl Scalar {
     /// Whether it is an int, a float or a bool, whatever its width.
+    #[inline(always)]
     pub fn is_of(self, sort: Sort) -> bool
         ensures { IsTrue result ↔ (sort_of self ≡ sort) }
     {

@@ -4,6 +4,7 @@
 mod access;
 mod calculation;
 mod chain;
+mod common;
 mod composite;
 mod construct;
 mod definitions;
@@ -25,4 +26,4 @@ pub use form::{Components, Form, Scalar, Sort, form_in};
 pub use parts::{after_result, length};
 pub use row::{Access, Calculation, Composite, Row};
 pub use several::id_count;
-pub use typed::{after_head, op_holds};
+pub use typed::{after_head, inst_holds, op_holds};

@@ -8,17 +8,24 @@ ghost use Rattle.spv_ops.specs.Operands as spec;
 ghost use Rattle.spv_ops.specs.Operands.{words_in, result_type_in};
 ghost use Rattle.spv_ops.specs.Types.{IsData};
 ghost use Rattle.spv_ops.specs.Typed.{Holds, IsTypedIn, IsTypedAt};
-ghost use Rattle.spv_ops.specs.declared.row.Row.TheVariants.{Undef, Phi, BranchConditional, Switch};
+ghost use Rattle.spv_ops.specs.Row as spec_row;
+ghost use Rattle.spv_ops.specs.declared.row.Row.TheVariants.{Undef, Calculation, Access, Phi, BranchConditional, Switch};
+ghost use Rattle.spv_ops.specs.declared.row.Calculation.TheVariants.{Binary};
+ghost use Rattle.spv_ops.specs.declared.row.Access.TheVariants.{Load, Store};
 ghost use Rattle.spv_ops.specs.Values.{types_of, value_ids, paired_ids_in};
 
 use crate::access::is_int;
 use crate::calculation::is_data;
 use crate::chain::{access_chain, element_chain};
+use crate::common::{
+    Common, binary_in, common_row, condition_in, load_holds, load_in, stands_for_bool, store_holds,
+    store_in,
+};
 use crate::composite::word_count;
 use crate::construct::constructs;
 use crate::definitions::Definitions;
-use crate::fixed::{access_holds, calculation_holds, composite_holds};
-use crate::form::{Form, Scalar};
+use crate::fixed::{access_holds, binary_holds, calculation_holds, composite_holds};
+use crate::form::{Form, Scalar, Sort};
 use crate::row::{Row, row_of};
 use crate::several::{all_pairs_of_type, stands_for_int};
 use crate::variable::variable_holds;
@@ -146,8 +153,9 @@ fn other_row_holds(
 }
 
 /// Whether the row of an instruction's opcode, if there is one, holds of its result type, the types that its value operands
-/// are declared with, and its literals.
-fn inst_holds(definitions: &Definitions, number: u32, inst: &Inst) -> bool
+/// are declared with, and its literals: whatever the row is.
+#[inline(never)]
+fn row_holds(definitions: &Definitions, number: u32, inst: &Inst) -> bool
     requires { number < length definitions.now }
     ensures { IsTrue result ↔ IsTypedIn definitions.now number (plain_inst inst.now) }
 {
@@ -157,6 +165,73 @@ fn inst_holds(definitions: &Definitions, number: u32, inst: &Inst) -> bool
     match result_type(operands) {
         Some(r) => result_row_holds(definitions, number, inst, row, r, rest),
         None => other_row_holds(definitions, number, inst, row, rest),
+    }
+}
+
+/// The same, where the row is that of a binary operation.
+#[inline(always)]
+fn binary_row_holds(definitions: &Definitions, number: u32, inst: &Inst, sort: Sort) -> bool
+    requires number { number < length definitions.now }
+    requires row { spec_row.row_of (plain_inst inst.now).opcode ≡ Calculation (Binary sort) }
+    ensures { IsTrue result ↔ IsTypedIn definitions.now number (plain_inst inst.now) }
+{
+    match binary_in(inst.operands.as_slice()) {
+        Some(ids) => binary_holds(definitions, sort, ids.result_type, ids.first, ids.second),
+        None => row_holds(definitions, number, inst),
+    }
+}
+
+/// The same, where the row is that of OpLoad.
+#[inline(always)]
+fn load_row_holds(definitions: &Definitions, number: u32, inst: &Inst) -> bool
+    requires number { number < length definitions.now }
+    requires row { spec_row.row_of (plain_inst inst.now).opcode ≡ Access Load }
+    ensures { IsTrue result ↔ IsTypedIn definitions.now number (plain_inst inst.now) }
+{
+    match load_in(inst.operands.as_slice()) {
+        Some(ids) => load_holds(definitions, ids.first, ids.second),
+        None => row_holds(definitions, number, inst),
+    }
+}
+
+/// The same, where the row is that of OpStore.
+#[inline(always)]
+fn store_row_holds(definitions: &Definitions, number: u32, inst: &Inst) -> bool
+    requires number { number < length definitions.now }
+    requires row { spec_row.row_of (plain_inst inst.now).opcode ≡ Access Store }
+    ensures { IsTrue result ↔ IsTypedIn definitions.now number (plain_inst inst.now) }
+{
+    match store_in(inst.operands.as_slice()) {
+        Some(ids) => store_holds(definitions, ids.first, ids.second),
+        None => row_holds(definitions, number, inst),
+    }
+}
+
+/// The same, where the row is that of OpBranchConditional.
+#[inline(always)]
+fn branch_row_holds(definitions: &Definitions, number: u32, inst: &Inst) -> bool
+    requires number { number < length definitions.now }
+    requires row { spec_row.row_of (plain_inst inst.now).opcode ≡ BranchConditional }
+    ensures { IsTrue result ↔ IsTypedIn definitions.now number (plain_inst inst.now) }
+{
+    match condition_in(inst.operands.as_slice()) {
+        Some(x) => stands_for_bool(definitions, x),
+        None => row_holds(definitions, number, inst),
+    }
+}
+
+/// Whether the row of an instruction's opcode, if there is one, holds of its result type, the types that its value operands
+/// are declared with, and its literals. The rows that most instructions have are looked at first.
+pub fn inst_holds(definitions: &Definitions, number: u32, inst: &Inst) -> bool
+    requires { number < length definitions.now }
+    ensures { IsTrue result ↔ IsTypedIn definitions.now number (plain_inst inst.now) }
+{
+    match common_row(inst.opcode) {
+        Common::Binary(sort) => binary_row_holds(definitions, number, inst, sort),
+        Common::Load => load_row_holds(definitions, number, inst),
+        Common::Store => store_row_holds(definitions, number, inst),
+        Common::BranchConditional => branch_row_holds(definitions, number, inst),
+        Common::Other => row_holds(definitions, number, inst),
     }
 }
 

@@ -1,7 +1,8 @@
 -- Uses of an instruction and of a module, and whether they are in their roles.
-use Rattle.std.proofs.Common.{◌≡◌, ◌<◌, ◌≤◌, ◌+◌, ◌↔◌, ◌⊎◌, inl, inr, ⊎_elim, ℕ, zero, suc, List, Some, None, Bool, true, false, length, refl, sym, ap, ◌∙◌, subst, arith, MatchBool}
+use Rattle.std.proofs.Common.{◌≡◌, ◌<◌, ◌≤◌, ◌+◌, ◌↔◌, ◌⊎◌, inl, inr, ⊎_elim, ℕ, zero, suc, List, [], ◌∷◌, Some, None, Bool, true, false, length, refl, sym, ap, ◌∙◌, subst, arith, MatchBool}
 use Rattle.std.specs.Prelude.{slice_get, IsTrue, option_map}
 use Rattle.std.proofs.lemmas.Bool.{cases_lt}
+use Rattle.std.proofs.lemmas.List.{length-map}
 use Rattle.std.proofs.lemmas.Option.{slice_get_within, slice_get-map}
 use Rattle.spv_grammar.specs.Table.{Table}
 use Rattle.spv_inst.specs.Operand.{Plain, PlainInst}
@@ -19,7 +20,7 @@ use Rattle.spv_layout.proofs.Shapes.{use_same}
 use Rattle.spv_ids.specs.Uses.{used_id}
 use Rattle.spv_roles.specs.Role.{Plays}
 use Rattle.spv_roles.specs.Broken.{Broken}
-use Rattle.spv_roles.specs.Known.{IsInRole, IsMiscast, AreInRoleBefore, HasMiscast, AreInRoleUpTo}
+use Rattle.spv_roles.specs.Known.{IsInRole, IsMiscast, AreInRoleBefore, HasMiscast, AreInRoleUpTo, uses_nothing}
 use Rattle.spv_roles.specs.Outcome.{AreInRole}
 
 form_at : (G : Table) (fs : List Form) (os : List Plain) (n : ℕ) (f : Form) (o : Plain) → AreOf G fs os → slice_get fs n ≡ Some f → slice_get os n ≡ Some o → is_of G f o ≡ true
@@ -146,3 +147,19 @@ first_miscast G is n i at m h = record {
 -- an operand of an instruction, without where it lies
 pub operand_at : (os : List Operand) (k : ℕ) (o : Operand) → slice_get os k ≡ Some o → slice_get (plain_operands os) k ≡ Some (plain_operand o)
 operand_at os k o e = slice_get-map plain_operand os k ∙ ap (option_map plain_operand) e
+
+-- An instruction without operands, and one with an operand alone that is no use.
+
+none_used : (G : Table) (is : List PlainInst) (i : PlainInst) → AreInRoleBefore G is i 0
+none_used G is i = record { each = λ k l. absurd (omega arith) }
+
+one_unused : (G : Table) (is : List PlainInst) (i : PlainInst) (o : Plain) → i.operands ≡ o ∷ [] → used_id o ≡ None → AreInRoleBefore G is i 1
+one_unused G is i o e u = record { each = λ k l. let z : k ≡ 0 = omega arith in rw z (no_operand G is i 0 o (rw e refl) u) }
+
+plain_nothing : (G : Table) (is : List PlainInst) (i : PlainInst) (ps : List Plain) → i.operands ≡ ps → uses_nothing ps ≡ true → AreInRoleBefore G is i (length ps)
+plain_nothing G is i [] e u = none_used G is i
+plain_nothing G is i (operand.Result x ∷ []) e u = one_unused G is i (operand.Result x) e refl
+plain_nothing G is i ps e u = cc
+
+pub nothing_used : (G : Table) (is : List PlainInst) (i : PlainInst) (os : List Operand) → i.operands ≡ plain_operands os → uses_nothing (plain_operands os) ≡ true → AreInRoleBefore G is i (length os)
+nothing_used G is i os e u = subst (λ n. AreInRoleBefore G is i n) (length-map os plain_operand) (plain_nothing G is i (plain_operands os) e u)

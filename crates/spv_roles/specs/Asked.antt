@@ -12,20 +12,33 @@ ask first others masked = Some (record { first = first; others = others; masked 
 abbrev is_between : ℕ → ℕ → ℕ → Bool
 is_between a b n = nat_le a n && nat_le n b
 
-abbrev pub asked_of : ℕ → Option Asked
-asked_of n =
-    if nat_eq n 44 || nat_eq n 51 || nat_eq n 59 || is_between 61 70 n || is_between 77 83 n || is_between 109 200 n || is_between 224 242 n || nat_eq n 254 || nat_eq n 256 || nat_eq n 257
-    then ask role.Value role.Value role.Any
+-- of opcodes below 61
+abbrev pub early : ℕ → Option Asked
+early n =
+    if nat_eq n 44 || nat_eq n 51 || nat_eq n 59 then ask role.Value role.Value role.Any
     else (if nat_eq n 23 || nat_eq n 30 || nat_eq n 32 || nat_eq n 33 || nat_eq n 39 || nat_eq n 54 then ask role.OfType role.OfType role.OfType
     else (if nat_eq n 28 then ask role.OfType role.Value role.Value
     else (if nat_eq n 57 then ask role.Function role.Value role.Value
-    else (if nat_eq n 250 || nat_eq n 251 then ask role.Value role.Any role.Any
     else (if nat_eq n 15 then ask role.Function role.Global role.Global
     else (if nat_eq n 16 then ask role.Function role.Any role.Any
     else (if nat_eq n 8 then ask role.Text role.Text role.Text
     else (if nat_eq n 12 then ask role.Set role.Any role.Any
-    else (if nat_eq n 3 || nat_eq n 245 then None
-    else ask role.Any role.Any role.Any)))))))))
+    else (if nat_eq n 3 then None
+    else ask role.Any role.Any role.Any))))))))
+
+-- of those past 60 that are not between others
+abbrev pub late : ℕ → Option Asked
+late n =
+    if nat_eq n 254 || nat_eq n 256 || nat_eq n 257 then ask role.Value role.Value role.Any
+    else (if nat_eq n 250 || nat_eq n 251 then ask role.Value role.Any role.Any
+    else (if nat_eq n 245 then None
+    else ask role.Any role.Any role.Any))
+
+abbrev pub asked_of : ℕ → Option Asked
+asked_of n =
+    if is_between 109 200 n || is_between 61 70 n || is_between 77 83 n || is_between 224 242 n then ask role.Value role.Value role.Any
+    else (if nat_le n 60 then early n
+    else late n)
 
 -- what is asked of an operand: of a type, and of an id that is due to play role d
 abbrev pub IsPlayed : List PlainInst → Role → Plain → Type 0

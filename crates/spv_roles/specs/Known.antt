@@ -1,7 +1,7 @@
 -- What is known of the uses of an instruction. (For the code alone.)
-use Rattle.std.specs.Prelude.{◌<◌, ℕ, List}
+use Rattle.std.specs.Prelude.{◌<◌, ℕ, List, [], ◌∷◌, Bool, true, false}
 use Rattle.spv_grammar.specs.Table.{Table}
-use Rattle.spv_inst.specs.Operand.{PlainInst}
+use Rattle.spv_inst.specs.Operand.{Plain, Result, PlainInst}
 use Rattle.spv_layout.specs.declared.form.Role.{Role}
 use Rattle.spv_layout.specs.Shape.{IsUse}
 use Rattle.spv_ids.specs.Definition.{IsUsedAt}
@@ -30,3 +30,9 @@ pub record HasMiscast (G : Table) (is : List PlainInst) (i : PlainInst) : Type 0
 -- the uses of the first instructions are in their roles
 pub record AreInRoleUpTo (G : Table) (is : List PlainInst) (to : ℕ) : Type 0 where
   pub each : (n k x : ℕ) (r : Role) → n < to → IsUsedAt G is n k x r → Plays is r x
+
+-- operands are none, or a result alone
+abbrev pub uses_nothing : List Plain → Bool
+uses_nothing [] = true
+uses_nothing (Result x ∷ []) = true
+uses_nothing _ = false

@@ -10,14 +10,15 @@ ghost use Rattle.spv_layout.specs.Shape.{Fits};
 ghost use Rattle.spv_ids.specs.Outcome.{IsDefinitionOf, definition_in};
 ghost use Rattle.spv_roles.specs.Asked.{ArePlayed, IsOneMiscast};
 ghost use Rattle.spv_roles.specs.Broken.{Broken};
+ghost use Rattle.spv_roles.specs.Known as known;
 ghost use Rattle.spv_roles.specs.Known.{IsInRole, IsMiscast, AreInRoleBefore, HasMiscast};
 ghost use Rattle.spv_roles.specs.Outcome.{AreInRole, IsRefusal};
 
 use crate::asked::{Asked, asked_of};
-use crate::role::{defines_type, plays};
+use crate::role::{are_values, defines_type, plays};
 use spv_ids::Ids;
 use spv_inst::{Fault, Inst, Module, Operand, Rule};
-use spv_layout::{Plan, role};
+use spv_layout::{Plan, Role, role};
 use spv_ops::Definitions;
 
 /// The id that an operand uses, if it is an id other than a result.
@@ -63,9 +64,8 @@ fn each_in_role(definitions: &Definitions<'_, '_>, inst: &Inst<'_>) -> bool
     true
 }
 
-/// Whether types are types, and ids play the roles that are asked for.
-#[inline(always)]
-fn are_played(definitions: &Definitions<'_, '_>, asked: Asked, operands: &[Operand<'_>]) -> bool
+/// Whether types are types, and ids play the roles that are asked for, operand by operand.
+fn each_played(definitions: &Definitions<'_, '_>, asked: Asked, operands: &[Operand<'_>]) -> bool
     ensures { MatchBool result (ArePlayed definitions.now asked.first asked.others asked.masked (plain_operands operands.now))
         (IsOneMiscast definitions.now asked.first asked.others asked.masked (plain_operands operands.now)) }
 {
@@ -92,13 +92,61 @@ fn are_played(definitions: &Definitions<'_, '_>, asked: Asked, operands: &[Opera
     true
 }
 
+/// Whether types are types, and ids play the roles that are asked for. Operands as they mostly stand are looked at first: a result
+/// of two values, and two values before a memory access of one literal.
+#[inline(always)]
+fn are_played(definitions: &Definitions<'_, '_>, asked: Asked, operands: &[Operand<'_>]) -> bool
+    ensures { MatchBool result (ArePlayed definitions.now asked.first asked.others asked.masked (plain_operands operands.now))
+        (IsOneMiscast definitions.now asked.first asked.others asked.masked (plain_operands operands.now)) }
+{
+    match (asked.first, asked.others, operands) {
+        (
+            Role::Value,
+            Role::Value,
+            [
+                Operand::OfType(t),
+                Operand::Result(_),
+                Operand::Id(a),
+                Operand::Id(b),
+            ],
+        ) => defines_type(definitions, *t) && are_values(definitions, *a, *b),
+        (
+            Role::Value,
+            Role::Value,
+            [
+                Operand::Id(a),
+                Operand::Id(b),
+                Operand::Mask { .. },
+                Operand::Word(_),
+            ],
+        ) => are_values(definitions, *a, *b),
+        _ => each_played(definitions, asked, operands),
+    }
+}
+
+/// Whether operands are none, or a result alone: no use is among them.
+#[inline(always)]
+fn uses_nothing(operands: &[Operand<'_>]) -> bool
+    ensures { result ≡ known.uses_nothing (plain_operands operands.now) }
+{
+    match operands {
+        [] => true,
+        [Operand::Result(_)] => true,
+        _ => false,
+    }
+}
+
 /// Whether all uses of an instruction are in their roles.
 fn are_in_role(definitions: &Definitions<'_, '_>, inst: &Inst<'_>) -> bool
     ensures { (G : Table) → Fits G (plain_inst inst.now)
         → MatchBool result (AreInRoleBefore G definitions.now (plain_inst inst.now) (length inst.now.operands)) (HasMiscast G definitions.now (plain_inst inst.now)) }
 {
+    let operands = inst.operands.as_slice();
+    if uses_nothing(operands) {
+        return true;
+    }
     match asked_of(inst.opcode) {
-        Some(asked) => are_played(definitions, asked, inst.operands.as_slice()),
+        Some(asked) => are_played(definitions, asked, operands),
         None => each_in_role(definitions, inst),
     }
 }

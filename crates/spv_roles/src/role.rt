@@ -1,6 +1,7 @@
-ghost use Rattle.std.specs.Prelude.{◌≡◌, ◌↔◌, IsTrue, IsSomeAnd};
+ghost use Rattle.std.specs.Prelude.{◌≡◌, ◌↔◌, ◌⊎◌, IsTrue, IsSomeAnd, MatchBool};
 ghost use Rattle.spv_inst.specs.Module.{plain_inst};
 ghost use Rattle.spv_inst.specs.Width.{definition_of};
+ghost use Rattle.spv_layout.specs.declared.form.Role.TheVariants as role;
 ghost use Rattle.spv_roles.specs.Role.{IsTypeDeclaration, IsValue, HasOpcode, Plays};
 
 use spv_inst::Inst;
@@ -68,6 +69,17 @@ fn defines_value(definitions: &Definitions<'_, '_>, id: u32) -> bool
         Some(inst) => is_value(inst),
         None => false,
     }
+}
+
+/// Whether the definitions of two ids are values.
+#[inline(always)]
+pub fn are_values(definitions: &Definitions<'_, '_>, a: u32, b: u32) -> bool
+    ensures { MatchBool result (Plays definitions.now role.Value a × Plays definitions.now role.Value b) ((¬ (Plays definitions.now role.Value a)) ⊎ (¬ (Plays definitions.now role.Value b))) }
+{
+    if !defines_value(definitions, a) {
+        return false;
+    }
+    defines_value(definitions, b)
 }
 
 /// Whether an id plays a role: its definition is what the role asks for.

@@ -37,6 +37,7 @@ is_it concern.Function concern.Function = true
 is_it concern.Call concern.Call = true
 is_it concern.Return concern.Return = true
 is_it concern.Operation concern.Operation = true
+is_it concern.Nothing concern.Nothing = true
 is_it _ _ = false
 
 nothing : {A : Type 0} (o : Option A) → is_nothing o ≡ true → o ≡ None
@@ -60,11 +61,11 @@ of_operations n = is_it concern.Operation (concern_of n) || is_free (row_of n)
 abbrev speaks_alone : ℕ → Bool
 speaks_alone n = of_declarations n && (of_constants n && of_operations n)
 
-some_alone : all_from speaks_alone 0 256 ≡ true
+some_alone : all_from speaks_alone 0 258 ≡ true
 some_alone = refl
 
-alone : (n : ℕ) → n < 256 → speaks_alone n ≡ true
-alone n h = one_from speaks_alone 256 0 n some_alone (omega arith) h
+alone : (n : ℕ) → n < 258 → speaks_alone n ≡ true
+alone n h = one_from speaks_alone 258 0 n some_alone (omega arith) h
 
 -- opcodes past those
 differs : (n m : ℕ) → m < n → nat_eq n m ≡ false
@@ -77,20 +78,20 @@ and_false false = refl
 past : (a b n : ℕ) → b < n → is_between a b n ≡ false
 past a b n h = let e : nat_le n b ≡ false = lt-leb n b h in rw e (and_false (nat_le a n))
 
-late_declaration : (n : ℕ) → 256 ≤ n → declaration_of n ≡ None
+late_declaration : (n : ℕ) → 258 ≤ n → declaration_of n ≡ None
 late_declaration n h =
     rw (differs n 21 (omega arith), differs n 22 (omega arith), differs n 23 (omega arith), differs n 28 (omega arith), differs n 30 (omega arith), differs n 32 (omega arith), differs n 33 (omega arith), differs n 39 (omega arith)) refl
 
-late_repeat : (n : ℕ) → 256 ≤ n → is_declared_once n ≡ false
+late_repeat : (n : ℕ) → 258 ≤ n → is_declared_once n ≡ false
 late_repeat n h = rw (past 19 23 n (omega arith), differs n 31 (omega arith), differs n 33 (omega arith)) refl
 
-late_constant : (n : ℕ) → 256 ≤ n → constant_of n ≡ None
+late_constant : (n : ℕ) → 258 ≤ n → constant_of n ≡ None
 late_constant n h =
     rw (differs n 41 (omega arith), differs n 42 (omega arith), differs n 48 (omega arith), differs n 49 (omega arith), differs n 43 (omega arith), differs n 50 (omega arith), differs n 44 (omega arith), differs n 51 (omega arith), differs n 46 (omega arith)) refl
 
-late_concern : (n : ℕ) → 256 ≤ n → concern_of n ≡ concern.Operation
-late_concern n h =
-    rw (past 19 39 n (omega arith), past 41 51 n (omega arith), differs n 54 (omega arith), differs n 55 (omega arith), differs n 57 (omega arith), differs n 253 (omega arith), differs n 254 (omega arith)) refl
+late_row : (n : ℕ) → 258 ≤ n → row_of n ≡ row.Free
+late_row n h =
+    rw (differs n 109 (omega arith), differs n 110 (omega arith), differs n 111 (omega arith), differs n 112 (omega arith), differs n 113 (omega arith), differs n 114 (omega arith), differs n 115 (omega arith), differs n 117 (omega arith), differs n 120 (omega arith), differs n 121 (omega arith), differs n 122 (omega arith), differs n 124 (omega arith), differs n 126 (omega arith), differs n 200 (omega arith), differs n 127 (omega arith), differs n 168 (omega arith), differs n 128 (omega arith), differs n 130 (omega arith), differs n 132 (omega arith), differs n 134 (omega arith), differs n 135 (omega arith), differs n 129 (omega arith), differs n 131 (omega arith), differs n 133 (omega arith), differs n 136 (omega arith), differs n 140 (omega arith), differs n 141 (omega arith), differs n 169 (omega arith), differs n 61 (omega arith), differs n 62 (omega arith), differs n 63 (omega arith), differs n 64 (omega arith), differs n 224 (omega arith), differs n 225 (omega arith), differs n 227 (omega arith), differs n 228 (omega arith), differs n 229 (omega arith), differs n 230 (omega arith), differs n 232 (omega arith), differs n 233 (omega arith), differs n 256 (omega arith), differs n 257 (omega arith), differs n 77 (omega arith), differs n 78 (omega arith), differs n 79 (omega arith), differs n 81 (omega arith), differs n 82 (omega arith), differs n 83 (omega arith), differs n 1 (omega arith), differs n 59 (omega arith), differs n 65 (omega arith), differs n 66 (omega arith), differs n 67 (omega arith), differs n 70 (omega arith), differs n 80 (omega arith), differs n 245 (omega arith), differs n 250 (omega arith), differs n 251 (omega arith), past 137 139 n (omega arith), past 197 199 n (omega arith), past 164 167 n (omega arith), past 170 179 n (omega arith), past 180 191 n (omega arith), past 194 196 n (omega arith), past 234 242 n (omega arith)) refl
 
 -- what is left of a test, where its first part fails
 left_of : (a b : Bool) → a || b ≡ true → a ≡ false → b ≡ true
@@ -102,7 +103,7 @@ not_yes true h = cc
 not_yes false h = refl
 
 no_declaration : (n : ℕ) → is_it concern.Declaration (concern_of n) ≡ false → declaration_of n ≡ None
-no_declaration n e = elim (cases_lt n 256) [
+no_declaration n e = elim (cases_lt n 258) [
   | inl h ↦
       let t = both (of_declarations n) (of_constants n && of_operations n) (alone n h) in
       let l = left_of (is_it concern.Declaration (concern_of n)) (is_nothing (declaration_of n) && not (is_declared_once n)) t.0 e in
@@ -111,7 +112,7 @@ no_declaration n e = elim (cases_lt n 256) [
 ]
 
 no_repeat : (n : ℕ) → is_it concern.Declaration (concern_of n) ≡ false → is_declared_once n ≡ false
-no_repeat n e = elim (cases_lt n 256) [
+no_repeat n e = elim (cases_lt n 258) [
   | inl h ↦
       let t = both (of_declarations n) (of_constants n && of_operations n) (alone n h) in
       let l = left_of (is_it concern.Declaration (concern_of n)) (is_nothing (declaration_of n) && not (is_declared_once n)) t.0 e in
@@ -120,7 +121,7 @@ no_repeat n e = elim (cases_lt n 256) [
 ]
 
 no_constant : (n : ℕ) → is_it concern.Constant (concern_of n) ≡ false → constant_of n ≡ None
-no_constant n e = elim (cases_lt n 256) [
+no_constant n e = elim (cases_lt n 258) [
   | inl h ↦
       let t = both (of_constants n) (of_operations n) (both (of_declarations n) (of_constants n && of_operations n) (alone n h)).1 in
       nothing (constant_of n) (left_of (is_it concern.Constant (concern_of n)) (is_nothing (constant_of n)) t.0 e)
@@ -128,11 +129,11 @@ no_constant n e = elim (cases_lt n 256) [
 ]
 
 no_row : (n : ℕ) → is_it concern.Operation (concern_of n) ≡ false → row_of n ≡ row.Free
-no_row n e = elim (cases_lt n 256) [
+no_row n e = elim (cases_lt n 258) [
   | inl h ↦
       let t = both (of_constants n) (of_operations n) (both (of_declarations n) (of_constants n && of_operations n) (alone n h)).1 in
       free (row_of n) (left_of (is_it concern.Operation (concern_of n)) (is_free (row_of n)) t.1 e)
-  | inr h ↦ absurd (let f : is_it concern.Operation concern.Operation ≡ false = subst (λ (q : Concern). is_it concern.Operation q ≡ false) (late_concern n h) e in let no : true ≡ false = f in cc)
+  | inr h ↦ late_row n h
 ]
 
 -- What a rule demands of an instruction of another concern.
@@ -223,3 +224,7 @@ told_y8 G is n i false c h =
     first_y8 G is n i (unasked_y2 is n i (rw c refl)) (unasked_y3 is n i (rw c refl)) (unasked_y4 is i (rw c refl)) (unasked_y5 G is n i (rw c refl)) (unasked_y6 is n i (rw c refl)) (unasked_y7 is n i (rw c refl)) (untrue (CallsAreSound is i) h)
 told_y8 G is n i true c h =
     all_kept G is n i (unasked_y2 is n i (rw c refl)) (unasked_y3 is n i (rw c refl)) (unasked_y4 is i (rw c refl)) (unasked_y5 G is n i (rw c refl)) (unasked_y6 is n i (rw c refl)) (unasked_y7 is n i (rw c refl)) (h.0 refl)
+
+pub told_nothing : (G : Table) (is : List PlainInst) (n : ℕ) (i : PlainInst) → concern_of i.opcode ≡ concern.Nothing → IsFirstHere G is n i None
+told_nothing G is n i c =
+    all_kept G is n i (unasked_y2 is n i (rw c refl)) (unasked_y3 is n i (rw c refl)) (unasked_y4 is i (rw c refl)) (unasked_y5 G is n i (rw c refl)) (unasked_y6 is n i (rw c refl)) (unasked_y7 is n i (rw c refl)) (unasked_y8 is i (rw c refl))

@@ -4,7 +4,7 @@ use Rattle.std.proofs.lemmas.Bool.{eq-eqb}
 use Rattle.spv_inst.specs.Operand.{Plain, OfType, Result, Id, Word, Number, Text, Value, Mask, PlainInst}
 use Rattle.spv_ops.specs.Parts.{after_result}
 use Rattle.spv_type_rules.specs.Repeat.{AreAlike}
-use Rattle.spv_type_rules.specs.Key.{numbers_of, all_numbers, key_of}
+use Rattle.spv_type_rules.specs.Key.{operand_numbers, all_numbers, all_numbers_of, mixed, key_of}
 
 same_text : (s t us vs : List ℕ) → (map (λ b. b + 1) s ++ 0 ∷ []) ++ us ≡ (map (λ b. b + 1) t ++ 0 ∷ []) ++ vs → (s ≡ t) × (us ≡ vs)
 same_text [] [] us vs e = (refl, cc)
@@ -20,7 +20,7 @@ apart : (m n : ℕ) (us vs : List ℕ) → nat_eq m n ≡ false → m ∷ us ≡
 apart m n us vs h e = let same : m ≡ n = cc in let yes : nat_eq m n ≡ true = eq-eqb m n same in cc
 
 -- one operand, and what follows it
-same_front : (o p : Plain) (us vs : List ℕ) → numbers_of o ++ us ≡ numbers_of p ++ vs → (o ≡ p) × (us ≡ vs)
+same_front : (o p : Plain) (us vs : List ℕ) → operand_numbers o ++ us ≡ operand_numbers p ++ vs → (o ≡ p) × (us ≡ vs)
 same_front (OfType x) (OfType x') us vs e = let h0 : x ≡ x' = cc in let rest : us ≡ vs = cc in (rw (h0) refl, rest)
 same_front (OfType x) (Result x') us vs e = absurd (apart 0 1 _ _ refl e)
 same_front (OfType x) (Id x') us vs e = absurd (apart 0 2 _ _ refl e)
@@ -86,7 +86,7 @@ same_front (Mask k x) (Text t') us vs e = absurd (apart 7 5 _ _ refl e)
 same_front (Mask k x) (Value k' x') us vs e = absurd (apart 7 6 _ _ refl e)
 same_front (Mask k x) (Mask k' x') us vs e = let h0 : k ≡ k' = cc in let h1 : x ≡ x' = cc in let rest : us ≡ vs = cc in (rw (h0, h1) refl, rest)
 
-not_empty : (p : Plain) (vs : List ℕ) → numbers_of p ++ vs ≡ [] → ⊥
+not_empty : (p : Plain) (vs : List ℕ) → operand_numbers p ++ vs ≡ [] → ⊥
 not_empty (OfType x) vs e = cc
 not_empty (Result x) vs e = cc
 not_empty (Id x) vs e = cc
@@ -106,9 +106,12 @@ same_operands (o ∷ os) (p ∷ ps) e =
 
 pub one_key : (i j : PlainInst) → key_of i ≡ key_of j → AreAlike i j
 one_key i j e =
+    let numbers : all_numbers_of i ≡ all_numbers_of j = cc in
     let opcode : i.opcode ≡ j.opcode = cc in
     let rest : all_numbers (after_result i.operands) ≡ all_numbers (after_result j.operands) = cc in
     (opcode, same_operands (after_result i.operands) (after_result j.operands) rest)
 
 pub same_key : (i j : PlainInst) → AreAlike i j → key_of i ≡ key_of j
-same_key i j a = rw (a.0, a.1) refl
+same_key i j a =
+    let numbers : all_numbers_of i ≡ all_numbers_of j = rw (a.0, a.1) refl in
+    rw numbers refl

@@ -6,7 +6,7 @@ ghost use Rattle.spv_inst.specs.Module.{plain_inst, plain_operand};
 ghost use Rattle.spv_type_rules.specs.Repeat as spec;
 ghost use Rattle.spv_type_rules.specs.Repeat.{Repeats};
 ghost use Rattle.spv_type_rules.specs.Key as key;
-ghost use Rattle.spv_type_rules.specs.Key.{numbers_of};
+ghost use Rattle.spv_type_rules.specs.Key.{operand_numbers};
 ghost use Rattle.spv_type_rules.specs.Seen.{AreSeen, HasKey};
 
 use spv_inst::{Inst, Operand};
@@ -29,6 +29,7 @@ pub fn is_declared_once(opcode: u16) -> bool
 fn push_text(key: &mut Vec<u32>, text: &str) -> Result<(), AllocError>
     ensures { OnOk result (key.new.items ≡ key.old.items ++ map (λ b. b + 1) text.now ++ 0 ∷ []) }
 {
+    key.reserve(text.len().saturating_add(1))?;
     for octet in text.as_bytes() {
         key.push(u32::from(*octet) + 1)?;
     }
@@ -47,7 +48,7 @@ fn push_two(key: &mut Vec<u32>, one: u32, other: u32) -> Result<(), AllocError>
 
 /// Appends the numbers of an operand.
 fn push_operand(key: &mut Vec<u32>, operand: Operand<'_>) -> Result<(), AllocError>
-    ensures { OnOk result (key.new.items ≡ key.old.items ++ numbers_of (plain_operand operand.entry)) }
+    ensures { OnOk result (key.new.items ≡ key.old.items ++ operand_numbers (plain_operand operand.entry)) }
 {
     match operand {
         Operand::OfType(x) => push_two(key, 0, x),
@@ -73,16 +74,45 @@ fn push_operand(key: &mut Vec<u32>, operand: Operand<'_>) -> Result<(), AllocErr
     }
 }
 
-/// The key of an instruction: its opcode and its operands, the result aside, as numbers.
-fn key_of(alloc: Global, inst: &Inst<'_>) -> Result<Vec<u32>, AllocError>
-    ensures { IfOk result (λ k. k.items ≡ key.key_of (plain_inst inst.now)) }
+/// Room for a key, and then the numbers of an instruction: its opcode and its operands, the result aside.
+fn numbers_of(alloc: Global, inst: &Inst<'_>) -> Result<Vec<u32>, AllocError>
+    ensures { IfOk result (λ k. k.items ≡ 0 ∷ key.all_numbers_of (plain_inst inst.now)) }
 {
     let operands = after_result(inst.operands.as_slice());
-    let mut key = Vec::new(alloc);
+    let mut key = Vec::with_capacity(alloc, operands.len().saturating_mul(2).saturating_add(2))?;
+    key.push(0)?;
     key.push(u32::from(inst.opcode))?;
     for operand in operands {
         push_operand(&mut key, *operand)?;
     }
+    Ok(key)
+}
+
+/// One number more in a fingerprint.
+#[inline(always)]
+fn mixed_with(mixed: u32, number: u32) -> u32
+    ensures { result ≡ key.mixed_with mixed number }
+{
+    ((u64::from(mixed) * 16_777_619 + u64::from(number)) % 4_294_967_296) as u32
+}
+
+/// A fingerprint of numbers. Different numbers mostly have different ones.
+fn fingerprint(numbers: &[u32]) -> u32
+    ensures { result ≡ key.mixed 0 numbers.now }
+{
+    let mut mixed = 0;
+    for number in numbers {
+        mixed = mixed_with(mixed, *number);
+    }
+    mixed
+}
+
+/// The key of an instruction: a fingerprint, so that keys mostly differ in their first number, and the numbers that it is of.
+fn key_of(alloc: Global, inst: &Inst<'_>) -> Result<Vec<u32>, AllocError>
+    ensures { IfOk result (λ k. k.items ≡ key.key_of (plain_inst inst.now)) }
+{
+    let mut key = numbers_of(alloc, inst)?;
+    key[0] = fingerprint(&key[1..]);
     Ok(key)
 }
 

@@ -23,7 +23,7 @@ use crate::opcode::{FUNCTION, FUNCTION_CALL, PARAMETER, RETURN, RETURN_VALUE};
 use spv_ids::Ids;
 use spv_inst::{Inst, Module, Rule};
 use spv_layout::Plan;
-use spv_ops::{Definitions, op_holds};
+use spv_ops::{Definitions, inst_holds};
 
 /// A rule, unless it is kept.
 #[inline(always)]
@@ -127,16 +127,14 @@ impl<'m, 'a> Rules<'m, 'a> {
                 if known.repeats { Some(Rule::Y3) } else { None }
             }
             Concern::Constant => unless(is_sound_constant(&self.definitions, inst), Rule::Y4),
-            Concern::Operation => unless(
-                op_holds(self.module, self.plan, self.ids, number),
-                Rule::Y5,
-            ),
+            Concern::Operation => unless(inst_holds(&self.definitions, number, inst), Rule::Y5),
             Concern::Function => unless(
                 self.keeps_functions(number, inst, known.parameters),
                 Rule::Y6,
             ),
             Concern::Return => unless(self.keeps_returns(number, inst), Rule::Y7),
             Concern::Call => unless(self.keeps_calls(inst), Rule::Y8),
+            Concern::Nothing => None,
         }
     }
 }

@@ -41,7 +41,7 @@ pub fn first_fault<'m, 'a>(
     let mut parameters = 0;
     for n in 0..insts.len() as u32 {
         let inst = &insts[n as usize];
-        if let Some(rule) = entries.first_at(n)? {
+        if let Some(rule) = entries.first_in(n, inst)? {
             return Ok(Some(Found { rule, inst: n }));
         }
         let known = Known {

@@ -9,6 +9,12 @@ use Rattle.spv_types.proofs.Listed.{inst_there}
 use Rattle.spv_types.proofs.Firsts.{capable_fault, typed_fault, more_kept}
 use Rattle.spv_types.proofs.pass.first_fault.Goals as goal
 
+pub first_in-requires : goal.first_in-requires
+first_in-requires c =
+    let xs = c.args.insts.now in
+    let at = inst_there xs c.loop-n.n c.index-insts-n.result c.loop-n-test.true c.index-insts-n.is in
+    subst (λ js. slice_get js c.loop-n.n ≡ Some (plain_inst c.index-insts-n.result)) (sym (ap (λ t. t.insts) c.loop-n.invariant.same ∙ c.requires.surveyed)) at
+
 pub returns-in-Some : goal.returns-in-Some
 returns-in-Some c =
     let G = c.args.entries.now.table in
@@ -19,28 +25,11 @@ returns-in-Some c =
     let i = plain_inst x in
     let at : slice_get is n ≡ Some i = inst_there xs n x c.loop-n-test.true c.index-insts-n.is in
     let e = c.loop-n.invariant.same in
-    let s : c.loop-n.entries.insts ≡ is = ap (λ t. t.insts) e ∙ c.requires.surveyed in
-    let f = c.in_ok-rule.ensures.first i (subst (λ js. slice_get js n ≡ Some i) (sym s) at) in
+    let f = c.in_ok-rule.ensures.first in
     let g = subst (λ t. IsFirstAt t.table t.insts n i c.in_ok-rule.field-0) e f in
     let h = subst (λ js. IsFirstAt G js n i c.in_ok-rule.field-0) c.requires.surveyed g in
     let k = rw c.in-Some.is at h in
     capable_fault G is n i c.in-Some.rule at k.0 k.1 c.loop-n.invariant.kept
-
-pub first_at-requires-in-loop-n-clause-inst : goal.first_at-requires-in-loop-n-clause-inst
-first_at-requires-in-loop-n-clause-inst c =
-    subst (λ js. slice_get js c.loop-n.n ≡ Some (plain_inst c.index-insts-n.result)) (sym c.requires.judged)
-    (inst_there c.args.insts.now c.loop-n.n c.index-insts-n.result c.loop-n-test.true c.index-insts-n.is)
-
-pub first_at-requires-in-loop-n-clause-repeats : goal.first_at-requires-in-loop-n-clause-repeats
-first_at-requires-in-loop-n-clause-repeats c =
-    let is = map plain_inst c.args.insts.now in
-    let n = c.loop-n.n in
-    let i = plain_inst c.index-insts-n.result in
-    let at = inst_there c.args.insts.now n c.index-insts-n.result c.loop-n-test.true c.index-insts-n.is in
-    let d = c.in_ok-repeats.ensures.repeats is n at c.loop-n.invariant.seen in (
-      λ y. subst (λ js. Repeats js n i) (sym c.requires.judged) (d.0 y),
-      λ r. d.1 (subst (λ js. Repeats js n i) c.requires.judged r),
-    )
 
 pub returns-in-Some-first_at : goal.returns-in-Some-first_at
 returns-in-Some-first_at c =
@@ -52,8 +41,7 @@ returns-in-Some-first_at c =
     let i = plain_inst x in
     let at : slice_get is n ≡ Some i = inst_there xs n x c.loop-n-test.true c.index-insts-n.is in
     let e = c.loop-n.invariant.same in
-    let s : c.loop-n.entries.insts ≡ is = ap (λ t. t.insts) e ∙ c.requires.surveyed in
-    let f = c.in_ok-rule.ensures.first i (subst (λ js. slice_get js n ≡ Some i) (sym s) at) in
+    let f = c.in_ok-rule.ensures.first in
     let g = subst (λ t. IsFirstAt t.table t.insts n i c.in_ok-rule.field-0) e f in
     let h = subst (λ js. IsFirstAt G js n i c.in_ok-rule.field-0) c.requires.surveyed g in
     let k = rw c.in_default.is at h in
@@ -72,8 +60,7 @@ loop-n-preserved c =
     let i = plain_inst x in
     let at : slice_get is n ≡ Some i = inst_there xs n x c.loop-n-test.true c.index-insts-n.is in
     let e = c.loop-n.invariant.same in
-    let s : c.loop-n.entries.insts ≡ is = ap (λ t. t.insts) e ∙ c.requires.surveyed in
-    let f = c.in_ok-rule.ensures.first i (subst (λ js. slice_get js n ≡ Some i) (sym s) at) in
+    let f = c.in_ok-rule.ensures.first in
     let g = subst (λ t. IsFirstAt t.table t.insts n i c.in_ok-rule.field-0) e f in
     let h = subst (λ js. IsFirstAt G js n i c.in_ok-rule.field-0) c.requires.surveyed g in
     let k = rw c.in_default.is at h in
@@ -81,7 +68,7 @@ loop-n-preserved c =
     let t = c.in_default-first_at.ensures G p in
     let u = subst (λ js. IsFirstHere G js n i None) c.requires.judged t in
     record {
-      same = c.first_at.ensures.same ∙ e;
+      same = c.first_in.ensures.same ∙ e;
       seen = c.in_ok-repeats.ensures.seen is n at c.loop-n.invariant.seen;
       counted = c.next_count-parameters.ensures is n at c.loop-n.invariant.counted;
       kept = more_kept G is n i at k u c.loop-n.invariant.kept;

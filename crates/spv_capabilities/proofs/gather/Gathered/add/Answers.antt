@@ -11,7 +11,7 @@ returns-in_ok-push-in-17 c = λ is to d h a.
     let i = plain_inst c.args.inst.now in
     let g = c.args.self.now in
     let o : i.opcode ≡ 17 = c.in-17.is in
-    let f : c.first_value.result ≡ first_value i.operands = c.first_value.ensures ∙ ap (λ os. first_value (plain_operands os)) c.as_slice-operands.ensures.value in
+    let f : c.first_value.result ≡ first_value i.operands = c.first_value.ensures ∙ ap (λ os. first_value (plain_operands os)) c.as_slice.ensures.value in
     record {
       declared = c.in_ok-push-in-17.ensures.items ∙ declared_one is to c.in-Some.capability i g.declared.items h (declared_here i c.first_value.result o f ∙ c.in-Some.is) a.declared;
       entry = entry_other is to i g.entry h (λ q. omega (arith, o, q)) a.entry;
@@ -25,7 +25,7 @@ returns-in_default-first_value c = λ is to d h a.
     let i = plain_inst c.args.inst.now in
     let g = c.args.self.now in
     let o : i.opcode ≡ 17 = c.in-17.is in
-    let f : c.first_value.result ≡ first_value i.operands = c.first_value.ensures ∙ ap (λ os. first_value (plain_operands os)) c.as_slice-operands.ensures.value in
+    let f : c.first_value.result ≡ first_value i.operands = c.first_value.ensures ∙ ap (λ os. first_value (plain_operands os)) c.as_slice.ensures.value in
     record {
       declared = declared_none is to i g.declared.items h (declared_here i c.first_value.result o f ∙ c.in_default-first_value.is) a.declared;
       entry = entry_other is to i g.entry h (λ q. omega (arith, o, q)) a.entry;
@@ -39,7 +39,7 @@ returns-in-15 c = λ is to d h a.
     let i = plain_inst c.args.inst.now in
     let g = c.args.self.now in
     let o : i.opcode ≡ 15 = c.in-15.is in
-    let f : c.second_id.result ≡ second_id i.operands = c.second_id.ensures ∙ ap (λ os. second_id (plain_operands os)) c.as_slice-operands.ensures.value in
+    let f : c.second_id.result ≡ second_id i.operands = c.second_id.ensures ∙ ap (λ os. second_id (plain_operands os)) c.as_slice-in-15.ensures.value in
     record {
       declared = declared_none is to i g.declared.items h (not_declared i (λ q. omega (arith, o, q))) a.declared;
       entry = entry_here is to i h o;
@@ -53,7 +53,7 @@ returns-in-57 c = λ is to d h a.
     let i = plain_inst c.args.inst.now in
     let g = c.args.self.now in
     let o : i.opcode ≡ 57 = c.in-57.is in
-    let f : c.third_id.result ≡ third_id i.operands = c.third_id.ensures ∙ ap (λ os. third_id (plain_operands os)) c.as_slice-operands.ensures.value in
+    let f : c.third_id.result ≡ third_id i.operands = c.third_id.ensures ∙ ap (λ os. third_id (plain_operands os)) c.as_slice-in-57.ensures.value in
     record {
       declared = declared_none is to i g.declared.items h (not_declared i (λ q. omega (arith, o, q))) a.declared;
       entry = entry_other is to i g.entry h (λ q. omega (arith, o, q)) a.entry;
@@ -67,7 +67,7 @@ returns-in-71 c = λ is to d h a.
     let i = plain_inst c.args.inst.now in
     let g = c.args.self.now in
     let o : i.opcode ≡ 71 = c.in-71.is in
-    let f : c.linked_id.result ≡ linked_id c.args.linkage i.operands = c.linked_id.ensures ∙ ap (λ os. linked_id c.args.linkage (plain_operands os)) c.as_slice-operands.ensures.value in
+    let f : c.linked_id.result ≡ linked_id c.args.linkage i.operands = c.linked_id.ensures ∙ ap (λ os. linked_id c.args.linkage (plain_operands os)) c.as_slice-in-71.ensures.value in
     record {
       declared = declared_none is to i g.declared.items h (not_declared i (λ q. omega (arith, o, q))) a.declared;
       entry = entry_other is to i g.entry h (λ q. omega (arith, o, q)) a.entry;

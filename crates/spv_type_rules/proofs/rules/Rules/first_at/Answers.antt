@@ -1,4 +1,4 @@
-use Rattle.std.proofs.Common.{sym, subst, ◌∙◌, ◌<◌, ◌↔◌, false, length}
+use Rattle.std.proofs.Common.{refl, sym, subst, ◌∙◌, ◌<◌, ◌↔◌, false, length}
 use Rattle.std.specs.Prelude.{IsTrue}
 use Rattle.std.proofs.lemmas.Option.{slice_get_within}
 use Rattle.spv_inst.specs.Module.{plain_inst, plain_insts}
@@ -6,17 +6,11 @@ use Rattle.spv_layout.specs.Plan.{IsPlan}
 use Rattle.spv_ids.specs.Outcome.{IsDefinitionOf, definition_in}
 use Rattle.spv_type_rules.specs.Repeat.{Repeats}
 use Rattle.spv_type_rules.specs.Rules.{IsFirstHere}
+use Rattle.spv_ops.proofs.Judged.{told}
 use Rattle.spv_type_rules.proofs.Counting.{counted_at}
 use Rattle.spv_type_rules.proofs.Firsts.{op_told}
-use Rattle.spv_type_rules.proofs.Concerns.{told_y3, told_y4, told_y5, told_y6, told_y7, told_y8}
+use Rattle.spv_type_rules.proofs.Concerns.{told_y3, told_y4, told_y5, told_y6, told_y7, told_y8, told_nothing}
 use Rattle.spv_type_rules.proofs.rules.Rules.first_at.Goals as goal
-
-pub op_holds-requires-clause-ids : goal.op_holds-requires-clause-ids
-op_holds-requires-clause-ids c = λ x. subst (λ is. IsDefinitionOf is x (definition_in c.args.self.now.ids.now x)) (sym c.requires.rules.same) (c.requires.rules.ids x)
-
-pub op_holds-requires-clause-inst : goal.op_holds-requires-clause-inst
-op_holds-requires-clause-inst c =
-    subst (λ is. c.args.number < length is) (sym c.requires.rules.same) (slice_get_within c.args.self.now.definitions c.args.number (plain_inst c.args.inst.now) c.requires.inst)
 
 pub keeps_functions-requires-clause-parameters : goal.keeps_functions-requires-clause-parameters
 keeps_functions-requires-clause-parameters c = λ e f o.
@@ -34,10 +28,12 @@ returns-in-Operation c = λ G plan.
     let is = c.args.self.now.definitions in
     let n = c.args.number in
     let i = plain_inst c.args.inst.now in
-    let js = plain_insts c.args.self.now.module.now in
-    let there : IsPlan G js c.args.self.now.plan.now = subst (λ ks. IsPlan G ks c.args.self.now.plan.now) (sym c.requires.rules.same) plan in
-    let d = op_told G is js n i c.op_holds.result c.requires.rules.same c.requires.inst (c.op_holds.ensures G there) in
-    subst (λ o. IsFirstHere G is n i o) (sym c.unless-in-Operation.ensures) (told_y5 G is n i c.op_holds.result (sym c.concern_of.ensures ∙ c.in-Operation.is) d)
+    let t = told G is n i c.requires.inst (plan.fits n i c.requires.inst) in
+    let d = op_told G is is n i c.inst_holds.result refl c.requires.inst (λ y. t.0 (c.inst_holds.ensures.0 y), λ r. c.inst_holds.ensures.1 (t.1 r)) in
+    subst (λ o. IsFirstHere G is n i o) (sym c.unless-in-Operation.ensures) (told_y5 G is n i c.inst_holds.result (sym c.concern_of.ensures ∙ c.in-Operation.is) d)
+
+pub returns-in-Nothing : goal.returns-in-Nothing
+returns-in-Nothing c = λ G plan. told_nothing G c.args.self.now.definitions c.args.number (plain_inst c.args.inst.now) (sym c.concern_of.ensures ∙ c.in-Nothing.is)
 
 pub returns-in-Function : goal.returns-in-Function
 returns-in-Function c = λ G plan.

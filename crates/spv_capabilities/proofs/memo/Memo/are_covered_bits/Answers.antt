@@ -1,7 +1,7 @@
 use Rattle.std.proofs.Common.{◌≡◌, ◌^◌, ◌/◌, ◌%◌, ◌∙◌, ℕ, sym, refl, subst, true, false, nat_eq, arith}
 use Rattle.spv_capabilities.specs.Capable.{IsCoveredValue}
 use Rattle.spv_capabilities.proofs.Bits.{all_bits, no_bits, no_more, bit_covered, bit_not_covered}
-use Rattle.spv_capabilities.proofs.memo.Memo.is_covered_mask.Goals as goal
+use Rattle.spv_capabilities.proofs.memo.Memo.are_covered_bits.Goals as goal
 
 pub loop-position-init : goal.loop-position-init
 loop-position-init c = record { known = c.requires; left = all_bits c.args.survey.now.table c.args.survey.now.insts c.args.kind c.args.mask }

@@ -2,7 +2,7 @@ use Rattle.std.proofs.Common.{◌↔◌}
 use Rattle.spv_capabilities.specs.Capable.{IsCoveredValue, IsCoveredMask}
 use Rattle.spv_capabilities.specs.Known.{IsKnown}
 use Rattle.spv_capabilities.proofs.Bits.{AllFrom}
-use Rattle.spv_capabilities.proofs.memo.Memo.is_covered_mask.Given as goal
+use Rattle.spv_capabilities.proofs.memo.Memo.are_covered_bits.Given as goal
 
 abbrev pub invariant-loop-position : goal.invariant-loop-position
 invariant-loop-position l = record {

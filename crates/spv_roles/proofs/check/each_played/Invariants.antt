@@ -1,7 +1,7 @@
 use Rattle.std.proofs.Common.{drop}
 use Rattle.spv_inst.specs.Module.{plain_operands}
 use Rattle.spv_roles.specs.Asked.{ArePlayed, IsOneMiscast}
-use Rattle.spv_roles.proofs.check.are_played.Given as goal
+use Rattle.spv_roles.proofs.check.each_played.Given as goal
 
 abbrev pub invariant-loop-operand : goal.invariant-loop-operand
 invariant-loop-operand l =

@@ -1,0 +1,9 @@
+use Rattle.std.proofs.Common.{sym, ap, ◌∙◌}
+use Rattle.spv_inst.specs.Module.{plain_inst, plain_operands}
+use Rattle.spv_ops.proofs.CommonRows.{load_typed}
+use Rattle.spv_ops.proofs.typed.load_row_holds.Goals as goal
+
+pub returns-in-Some : goal.returns-in-Some
+returns-in-Some c =
+    load_typed c.args.definitions.now c.args.number (plain_inst c.args.inst.now) c.in-Some.ids c.load_holds.result (plain_operands c.as_slice.result.now) (ap plain_operands (sym c.as_slice.ensures.value)) c.requires.row
+    (sym c.load_in.ensures ∙ c.in-Some.is) c.load_holds.ensures

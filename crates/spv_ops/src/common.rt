@@ -1,0 +1,181 @@
+//! The rows of types that most instructions have.
+
+ghost use Rattle.std.specs.Prelude.{◌≡◌, ◌↔◌, ◌∷◌, [], IsTrue, IsSomeAnd, Some, None};
+ghost use Rattle.spv_inst.specs.Module.{plain_operands};
+ghost use Rattle.spv_ops.specs.Access.{Accesses};
+ghost use Rattle.spv_ops.specs.Common as spec;
+ghost use Rattle.spv_ops.specs.Common.{IsCommon, IsCondition};
+ghost use Rattle.spv_ops.specs.Row.{row_of};
+ghost use Rattle.spv_ops.specs.Types.{PointsTo};
+ghost use Rattle.spv_ops.specs.Values.{types_of};
+ghost use Rattle.spv_ops.specs.declared.row.Access.TheVariants.{Load, Store};
+
+use crate::calculation::is_data;
+use crate::definitions::Definitions;
+use crate::form::{Form, Scalar, Sort};
+use spv_inst::Operand;
+
+/// A row that is looked at before the others.
+#[derive(Clone, Copy, Debug)]
+pub enum Common {
+    /// Arithmetic of two ints or floats, bits of two ints, logic of two bools.
+    Binary(Sort),
+    Load,
+    Store,
+    BranchConditional,
+    /// Another row, or none.
+    Other,
+}
+
+/// The row of an opcode, if it is one of those.
+#[inline(always)]
+pub fn common_row(opcode: u16) -> Common
+    ensures { IsCommon result (row_of opcode) }
+{
+    match opcode {
+        61 => Common::Load,
+        62 => Common::Store,
+        128 | 130 | 132 | 134 | 135 | 137 | 138 | 139 | 197 | 198 | 199 => Common::Binary(
+            Sort::Int,
+        ),
+        129 | 131 | 133 | 136 | 140 | 141 => Common::Binary(Sort::Float),
+        164 | 165 | 166 | 167 => Common::Binary(Sort::Bool),
+        250 => Common::BranchConditional,
+        _ => Common::Other,
+    }
+}
+
+/// Ids that a binary operation names.
+#[derive(Clone, Copy)]
+pub struct Binary {
+    pub result_type: u32,
+    pub first: u32,
+    pub second: u32,
+}
+
+/// A result type, or a pointer, and an id after it.
+#[derive(Clone, Copy)]
+pub struct Two {
+    pub first: u32,
+    pub second: u32,
+}
+
+/// The ids of a binary operation.
+#[inline(always)]
+pub fn binary_in(operands: &[Operand]) -> Option<Binary>
+    ensures { result ≡ spec.binary_in (plain_operands operands.now) }
+{
+    match operands {
+        [
+            Operand::OfType(r),
+            Operand::Result(_),
+            Operand::Id(a),
+            Operand::Id(b),
+        ] => Some(Binary {
+            result_type: *r,
+            first: *a,
+            second: *b,
+        }),
+        _ => None,
+    }
+}
+
+/// The result type and the pointer of an OpLoad.
+#[inline(always)]
+pub fn load_in(operands: &[Operand]) -> Option<Two>
+    ensures { result ≡ spec.load_in (plain_operands operands.now) }
+{
+    match operands {
+        [Operand::OfType(r), Operand::Result(_), Operand::Id(p)] => Some(Two {
+            first: *r,
+            second: *p,
+        }),
+        [
+            Operand::OfType(r),
+            Operand::Result(_),
+            Operand::Id(p),
+            Operand::Mask { .. },
+            ..
+        ] => Some(Two {
+            first: *r,
+            second: *p,
+        }),
+        _ => None,
+    }
+}
+
+/// The pointer and the object of an OpStore.
+#[inline(always)]
+pub fn store_in(operands: &[Operand]) -> Option<Two>
+    ensures { result ≡ spec.store_in (plain_operands operands.now) }
+{
+    match operands {
+        [Operand::Id(p), Operand::Id(x)] => Some(Two {
+            first: *p,
+            second: *x,
+        }),
+        [Operand::Id(p), Operand::Id(x), Operand::Mask { .. }, ..] => Some(Two {
+            first: *p,
+            second: *x,
+        }),
+        _ => None,
+    }
+}
+
+/// The condition of an OpBranchConditional without weights.
+#[inline(always)]
+pub fn condition_in(operands: &[Operand]) -> Option<u32>
+    ensures { result ≡ spec.condition_in (plain_operands operands.now) }
+{
+    match operands {
+        [Operand::Id(x), Operand::Id(_), Operand::Id(_)] => Some(*x),
+        _ => None,
+    }
+}
+
+/// Whether a type is a pointer to another.
+#[inline(always)]
+fn points_to(definitions: &Definitions, t: u32, to: u32) -> bool
+    ensures { IsTrue result ↔ PointsTo definitions.now t to }
+{
+    match definitions.read_form(t) {
+        Some(Form::Pointer { pointee, .. }) => pointee == to,
+        _ => false,
+    }
+}
+
+/// Whether the row of OpLoad holds of the result type and the declared type of the pointer.
+#[inline(always)]
+pub fn load_holds(definitions: &Definitions, r: u32, p: u32) -> bool
+    ensures { IsTrue result ↔ IsSomeAnd (types_of definitions.now (p ∷ [])) (λ types. Accesses definitions.now Load (Some r) types) }
+{
+    match definitions.type_of(p) {
+        Some(t) => points_to(definitions, t, r) && is_data(definitions, r),
+        None => false,
+    }
+}
+
+/// Whether the row of OpStore holds of the declared types of the pointer and the object.
+#[inline(always)]
+pub fn store_holds(definitions: &Definitions, p: u32, x: u32) -> bool
+    ensures { IsTrue result ↔ IsSomeAnd (types_of definitions.now (p ∷ x ∷ [])) (λ types. Accesses definitions.now Store None types) }
+{
+    match (definitions.type_of(p), definitions.type_of(x)) {
+        (Some(t), Some(u)) => points_to(definitions, t, u),
+        _ => false,
+    }
+}
+
+/// Whether an id is declared with the type bool.
+#[inline(always)]
+pub fn stands_for_bool(definitions: &Definitions, x: u32) -> bool
+    ensures { IsTrue result ↔ IsSomeAnd (types_of definitions.now (x ∷ [])) (IsCondition definitions.now) }
+{
+    match definitions.type_of(x) {
+        Some(t) => match definitions.read_form(t) {
+            Some(Form::Scalar(Scalar::Bool)) => true,
+            _ => false,
+        },
+        None => false,
+    }
+}
