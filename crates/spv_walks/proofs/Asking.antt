@@ -18,7 +18,7 @@ use Rattle.spv_walks.specs.declared.edges.Blocks.{Blocks}
 use Rattle.spv_walks.specs.Code.{insts_of, IsCode}
 use Rattle.spv_walks.specs.Divided.{IsIn, IsDivided}
 use Rattle.spv_walks.specs.Leading.{AreBlocks, IsLabelAt}
-use Rattle.spv_walks.specs.Due.{IsUseAsk, IsPairAsk}
+use Rattle.spv_walks.specs.Due.{IsFoundAt, IsPairedAt, IsUseAsk, IsPairAsk}
 use Rattle.spv_walks.proofs.Coded.{one_place}
 use Rattle.spv_walks.proofs.Walking.{first_in}
 
@@ -50,34 +50,36 @@ target_by G c b at n x place i is are there used label (Some k) h = record {
 
 -- uses
 
-pub no_use : (G : Table) (c : Code) (starts : List ℕ) (b at n : ℕ) (i : PlainInst) → slice_get (insts_of c) at ≡ Some i → ((x : ℕ) (r : Role) → ¬ (IsUse G i n x r)) → (a : Ask) → ¬ (IsUseAsk G (insts_of c) starts b at n a)
-no_use G c starts b at n i there none a u = none u.id u.role (use_in G (insts_of c) at n u.id u.role i there u.used)
+-- where nothing is found, where it stands before in the block, and where it is not local, nothing is asked
+pub no_use : (G : Table) (c : Code) (starts : List ℕ) (b at n : ℕ) → IsFoundAt G (insts_of c) at n None → (a : Ask) → ¬ (IsUseAsk G (insts_of c) starts b at n a)
+no_use G c starts b at n none a u = none u.id a.value u.role u.used u.defined
 
-same_use : (G : Table) (c : Code) (starts : List ℕ) (b at n x : ℕ) (r : Role) (i : PlainInst) → slice_get (insts_of c) at ≡ Some i → IsUse G i n x r → (a : Ask) → (u : IsUseAsk G (insts_of c) starts b at n a) → u.id ≡ x
-same_use G c starts b at n x r i there used a u = one_id G (insts_of c) at n u.id x u.role r u.used (use_at G (insts_of c) at n x r i there used)
-
-pub no_value : (G : Table) (c : Code) (starts : List ℕ) (b at n x : ℕ) (i : PlainInst) → slice_get (insts_of c) at ≡ Some i → (r : Role) × IsUse G i n x r → ¬ (IsLocalValue (insts_of c) x) → (a : Ask) → ¬ (IsUseAsk G (insts_of c) starts b at n a)
-no_value G c starts b at n x i there used none a u = none (subst (λ (y : ℕ). IsLocalValue (insts_of c) y) (same_use G c starts b at n x used.0 i there used.1 a u) u.local)
-
-pub no_need : (G : Table) (c : Code) (starts : List ℕ) (b at n x d : ℕ) (i : PlainInst) → IsCode G c → slice_get (insts_of c) at ≡ Some i → (r : Role) × IsUse G i n x r → IsDefinedAt (insts_of c) x d
-    → slice_index starts b ≤ d → d < at → (a : Ask) → ¬ (IsUseAsk G (insts_of c) starts b at n a)
-no_need G c starts b at n x d i is there used defined from to a u =
-    let e = same_use G c starts b at n x used.0 i there used.1 a u in
-    let s : a.value ≡ d = one_place G c x a.value d is (subst (λ (y : ℕ). IsDefinedAt (insts_of c) y a.value) e u.defined) defined in
+pub no_need : (G : Table) (c : Code) (starts : List ℕ) (b at n d : ℕ) → IsCode G c → IsFoundAt G (insts_of c) at n (Some d) → slice_index starts b ≤ d → d < at → (a : Ask) → ¬ (IsUseAsk G (insts_of c) starts b at n a)
+no_need G c starts b at n d is found from to a u =
+    let s : a.value ≡ d = one_place G c u.id a.value d is u.defined (found u.id u.role u.used) in
     u.apart (omega (arith, from, s), omega (arith, to, s))
 
-pub use_asked : (G : Table) (c : Code) (starts : List ℕ) (b at n x d : ℕ) (i : PlainInst) → slice_get (insts_of c) at ≡ Some i → (r : Role) × IsUse G i n x r → IsLocalValue (insts_of c) x × IsDefinedAt (insts_of c) x d
-    → ¬ ((slice_index starts b ≤ d) × (d < at)) → IsUseAsk G (insts_of c) starts b at n (record { block = b; value = d; step = at })
-use_asked G c starts b at n x d i there used value apart = record {
-  block = refl;
-  step = refl;
-  id = x;
-  role = used.0;
-  used = use_at G (insts_of c) at n x used.0 i there used.1;
-  local = value.0;
-  defined = value.1;
-  apart = apart;
-}
+pub no_value : (G : Table) (c : Code) (starts : List ℕ) (b at n d : ℕ) → IsFoundAt G (insts_of c) at n (Some d) → ((x : ℕ) → IsDefinedAt (insts_of c) x d → ¬ (IsLocalValue (insts_of c) x)) → (a : Ask) → ¬ (IsUseAsk G (insts_of c) starts b at n a)
+no_value G c starts b at n d found none a u = none u.id (found u.id u.role u.used) u.local
+
+pub no_role : (G : Table) (c : Code) (starts : List ℕ) (b at n : ℕ) (i : PlainInst) → slice_get (insts_of c) at ≡ Some i → ((x : ℕ) (r : Role) → ¬ (IsUse G i n x r)) → (a : Ask) → ¬ (IsUseAsk G (insts_of c) starts b at n a)
+no_role G c starts b at n i there none a u = none u.id u.role (use_in G (insts_of c) at n u.id u.role i there u.used)
+
+pub use_asked : (G : Table) (c : Code) (starts : List ℕ) (b at n x d : ℕ) (i : PlainInst) → slice_get (insts_of c) at ≡ Some i → IsFoundAt G (insts_of c) at n (Some d) → (r : Role) × IsUse G i n x r
+    → ((y : ℕ) → IsDefinedAt (insts_of c) y d → IsLocalValue (insts_of c) y) → ¬ ((slice_index starts b ≤ d) × (d < at)) → IsUseAsk G (insts_of c) starts b at n (record { block = b; value = d; step = at })
+use_asked G c starts b at n x d i there found used local apart =
+    let u = use_at G (insts_of c) at n x used.0 i there used.1 in
+    let defined = found x used.0 u in
+    record {
+      block = refl;
+      step = refl;
+      id = x;
+      role = used.0;
+      used = u;
+      local = local x defined;
+      defined = defined;
+      apart = apart;
+    }
 
 same_ask : (s a : Ask) → s.block ≡ a.block → s.value ≡ a.value → s.step ≡ a.step → s ≡ a
 same_ask s a k v l =
@@ -95,14 +97,25 @@ one_use G c starts b at n s a is u w =
 
 -- pairs
 
-pub no_paired : (G : Table) (c : Code) (starts : List ℕ) (at n : ℕ) (i : PlainInst) → slice_get (insts_of c) at ≡ Some i → ((x : ℕ) → ¬ (IsUse G i n x Value)) → (a : Ask) → ¬ (IsPairAsk G (insts_of c) starts at n a)
-no_paired G c starts at n i there none a p = none p.value (use_in G (insts_of c) at n p.value Value i there p.paired)
+-- where nothing is found, and where it is not local, nothing is paired
+pub none_paired : (G : Table) (c : Code) (at n : ℕ) → IsFoundAt G (insts_of c) at n None → IsPairedAt G (insts_of c) at n None
+none_paired G c at n none = λ x u v. none x v.place Value u v.defined
 
-same_paired : (G : Table) (c : Code) (starts : List ℕ) (at n x : ℕ) (i : PlainInst) → slice_get (insts_of c) at ≡ Some i → IsUse G i n x Value → (a : Ask) → (p : IsPairAsk G (insts_of c) starts at n a) → p.value ≡ x
-same_paired G c starts at n x i there used a p = one_id G (insts_of c) at n p.value x Value Value p.paired (use_at G (insts_of c) at n x Value i there used)
+pub not_paired : (G : Table) (c : Code) (at n d : ℕ) → IsFoundAt G (insts_of c) at n (Some d) → ((x : ℕ) → IsDefinedAt (insts_of c) x d → ¬ (IsLocalValue (insts_of c) x)) → IsPairedAt G (insts_of c) at n None
+not_paired G c at n d found none = λ x u. none x (found x Value u)
 
-pub no_pair_value : (G : Table) (c : Code) (starts : List ℕ) (at n x : ℕ) (i : PlainInst) → slice_get (insts_of c) at ≡ Some i → IsUse G i n x Value → ¬ (IsLocalValue (insts_of c) x) → (a : Ask) → ¬ (IsPairAsk G (insts_of c) starts at n a)
-no_pair_value G c starts at n x i there used none a p = none (subst (λ (y : ℕ). IsLocalValue (insts_of c) y) (same_paired G c starts at n x i there used a p) p.local)
+pub no_paired : (G : Table) (c : Code) (at n : ℕ) (i : PlainInst) → slice_get (insts_of c) at ≡ Some i → ((x : ℕ) → ¬ (IsUse G i n x Value)) → IsPairedAt G (insts_of c) at n None
+no_paired G c at n i there none = λ x u v. none x (use_in G (insts_of c) at n x Value i there u)
+
+pub paired : (G : Table) (c : Code) (at n x d : ℕ) (i : PlainInst) → slice_get (insts_of c) at ≡ Some i → IsFoundAt G (insts_of c) at n (Some d) → IsUse G i n x Value → ((y : ℕ) → IsDefinedAt (insts_of c) y d → IsLocalValue (insts_of c) y)
+    → IsPairedAt G (insts_of c) at n (Some d)
+paired G c at n x d i there found used local =
+    let u = use_at G (insts_of c) at n x Value i there used in
+    let defined = found x Value u in
+    (x, u, local x defined, defined)
+
+pub no_pair_value : (G : Table) (c : Code) (starts : List ℕ) (at n : ℕ) → IsPairedAt G (insts_of c) at n None → (a : Ask) → ¬ (IsPairAsk G (insts_of c) starts at n a)
+no_pair_value G c starts at n none a p = none p.value p.paired p.local
 
 label_of_pair : (G : Table) (is : List PlainInst) (starts : List ℕ) (at n : ℕ) (a : Ask) → IsPairAsk G is starts at n a → IsLabelAt G is starts at (n + 1) a.block
 label_of_pair G is starts at n a p = record { id = p.id; used = p.named; inside = p.inside; label = p.label }
@@ -128,27 +141,27 @@ one_target G c b at n j k is are l m =
     one_place G c m.id (slice_index b.starts.now j) (slice_index b.starts.now k) is (subst (λ (y : ℕ). IsLabelOf (insts_of c) y (slice_index b.starts.now j)) e l.label).defined m.label.defined in
     one_start (insts_of c) b.function b.starts.now are.laid.divided j k l.inside m.inside s
 
-pub no_pair_need : (G : Table) (c : Code) (b : Blocks) (at n x d h : ℕ) (i : PlainInst) → IsCode G c → AreBlocks (insts_of c) b → slice_get (insts_of c) at ≡ Some i → IsUse G i n x Value → IsDefinedAt (insts_of c) x d
+pub no_pair_need : (G : Table) (c : Code) (b : Blocks) (at n d h : ℕ) → IsCode G c → AreBlocks (insts_of c) b → IsPairedAt G (insts_of c) at n (Some d)
     → IsLabelAt G (insts_of c) b.starts.now at (n + 1) h → slice_index b.starts.now h ≤ d → d < slice_index b.starts.now (h + 1) → (a : Ask) → ¬ (IsPairAsk G (insts_of c) b.starts.now at n a)
-no_pair_need G c b at n x d h i is are there used defined label from to a p =
-    let e = same_paired G c b.starts.now at n x i there used a p in
+no_pair_need G c b at n d h is are (x, used, local, defined) label from to a p =
+    let e : p.value ≡ x = one_id G (insts_of c) at n p.value x Value Value p.paired used in
     let s : a.value ≡ d = one_place G c x a.value d is (subst (λ (y : ℕ). IsDefinedAt (insts_of c) y a.value) e p.defined) defined in
     let k : h ≡ a.block = one_target G c b at (n + 1) h a.block is are label (label_of_pair G (insts_of c) b.starts.now at n a p) in
     let here : IsIn b.starts.now h a.value = record { block = label.inside; from = omega (arith, from, s); to = omega (arith, to, s) } in
     p.apart (subst (λ (j : ℕ). IsIn b.starts.now j a.value) k here)
 
-pub pair_asked : (G : Table) (c : Code) (b : Blocks) (at n x d h : ℕ) (i : PlainInst) → slice_get (insts_of c) at ≡ Some i → IsUse G i n x Value → IsLocalValue (insts_of c) x × IsDefinedAt (insts_of c) x d
+pub pair_asked : (G : Table) (c : Code) (b : Blocks) (at n d h : ℕ) → IsPairedAt G (insts_of c) at n (Some d)
     → IsLabelAt G (insts_of c) b.starts.now at (n + 1) h → ¬ ((slice_index b.starts.now h ≤ d) × (d < slice_index b.starts.now (h + 1))) → IsPairAsk G (insts_of c) b.starts.now at n (record { block = h; value = d; step = at })
-pair_asked G c b at n x d h i there used value label apart = record {
+pair_asked G c b at n d h (x, used, local, defined) label apart = record {
   inside = label.inside;
   step = refl;
   value = x;
-  paired = use_at G (insts_of c) at n x Value i there used;
+  paired = used;
   id = label.id;
   named = label.used;
   label = label.label;
-  local = value.0;
-  defined = value.1;
+  local = local;
+  defined = defined;
   apart = λ j. apart (j.from, j.to);
 }
 

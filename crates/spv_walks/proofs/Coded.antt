@@ -1,6 +1,7 @@
 -- Definitions, labels and functions of the instructions that are looked at.
-use Rattle.std.proofs.Common.{◌≡◌, ◌≤◌, ◌<◌, ◌∙◌, ℕ, List, true, Option, Some, None, length, refl, sym, subst, eq-eqb, arith}
-use Rattle.std.specs.Prelude.{slice_get, is_some}
+use Rattle.std.proofs.Common.{◌≡◌, ◌≤◌, ◌<◌, ◌∙◌, ℕ, List, Bool, true, false, Option, Some, None, length, refl, sym, subst, eq-eqb, nat_lt, arith}
+use Rattle.std.specs.Prelude.{slice_get, is_some, MatchBool}
+use Rattle.std.proofs.lemmas.Bool.Decides.{nat_tests}
 use Rattle.std.proofs.lemmas.Bool.{eqb-true}
 use Rattle.std.proofs.lemmas.Option.{slice_get_within}
 use Rattle.std.proofs.lemmas.List.{length-map}
@@ -84,3 +85,15 @@ value_not G c x d f is at of before v =
     let r = value_inside G c x d is at v in
     let e = function_same (insts_of c) d r.0 f r.2 of in
     absurd (omega (arith, before, e, r.1))
+
+-- what a test of the type tells
+
+pub by_type : (o b : Bool) (P : Type 0) → b ≡ o → (o ≡ true → P) → (P → o ≡ true) → MatchBool b P (¬ P)
+by_type o true P e f g = f (sym e)
+by_type o false P e f g = λ p. (let t = g p in cc)
+
+lt_false : (a b : ℕ) → b ≤ a → nat_lt a b ≡ false
+lt_false a b h = grind (arith, nat_tests)
+
+pub by_order : (a b : ℕ) (P : Type 0) → b ≤ a → ¬ P → MatchBool (nat_lt a b) P (¬ P)
+by_order a b P le not = let e = lt_false a b le in rw e not

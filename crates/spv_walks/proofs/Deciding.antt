@@ -1,7 +1,7 @@
 -- What the asks of a function's graph tell of the walks of the function.
-use Rattle.std.proofs.Common.{◌≡◌, ◌<◌, ◌≤◌, ◌⊎◌, ◌+◌, ◌-◌, ◌∙◌, ℕ, List, [], refl, sym, ap, subst, inl, inr, length, Option, Some, None, arith}
+use Rattle.std.proofs.Common.{◌≡◌, ◌==◌, ◌<◌, ◌≤◌, ◌⊎◌, ◌+◌, ◌-◌, ◌∙◌, ℕ, List, [], ◌∷◌, Bool, true, refl, sym, ap, subst, inl, inr, length, Option, Some, None, arith}
 use Rattle.std.specs.Prelude.{Contains, Result, Ok, Err, IfOk, ◌++◌, slice_get, slice_index, slice_index_or, slice_range}
-use Rattle.std.proofs.lemmas.Bool.{cases_lt}
+use Rattle.std.proofs.lemmas.Bool.{cases_lt, eqb-true}
 use Rattle.std.proofs.lemmas.Option.{slice_get_within, slice_get_read, slice_get-get_or, get_or_from_slice_get}
 use Rattle.std.proofs.lemmas.List.{length-map}
 use Rattle.std.proofs.lemmas.List.Elements.{All-contains_itself}
@@ -26,14 +26,14 @@ use Rattle.spv_walks.specs.declared.code.Code.{Code}
 use Rattle.spv_walks.specs.declared.edges.Blocks.{Blocks}
 use Rattle.spv_walks.specs.Code.{insts_of, IsCode}
 use Rattle.spv_walks.specs.Adds.{AddsBy}
-use Rattle.spv_walks.specs.Divided.{IsIn, IsGraphOf}
+use Rattle.spv_walks.specs.Divided.{IsIn, IsDivided, IsGraphOf}
 use Rattle.spv_walks.specs.Leading.{AreBlocks, AreInGraph}
 use Rattle.spv_walks.specs.Due.{IsUseAsk, IsPairAsk, IsAsk}
 use Rattle.spv_walks.specs.Missed.{IsMissedIn, IsFirstIn}
 use Rattle.spv_walks.proofs.Coded.{one_place}
 use Rattle.spv_walks.proofs.Places.{of_itself}
 use Rattle.spv_walks.proofs.Starting.{few_blocks}
-use Rattle.spv_walks.proofs.Walking.{first_in, use_ready, use_missing}
+use Rattle.spv_walks.proofs.Walking.{first_in, use_ready, use_missing, came_by}
 use Rattle.spv_walks.proofs.Pairs.{target_label, came_from, pair_ready, pair_missing}
 use Rattle.spv_walks.proofs.Parents.{parents_lead}
 
@@ -274,3 +274,37 @@ all_by G c starts graph none asks left sorted is empty adds opened same =
 pub if_first : {E : Type 0} (r : Result (Option ℕ) E) (P Q : Option ℕ → Type 0) → ((o : Option ℕ) → P o → Q o) → IfOk r P → IfOk r Q
 if_first (Ok o) P Q f h = f o h
 if_first (Err e) P Q f h = h
+
+-- Where nothing is asked of a function that has no OpPhi, nothing is missed.
+
+value_asked : (G : Table) (c : Code) (f : ℕ) (starts : List ℕ) → IsDivided (insts_of c) f starts → ((a : Ask) → ¬ (IsAsk G (insts_of c) starts a)) → (n : ℕ) → (m : IsMissing G (insts_of c) n) → m.function ≡ f → ⊥
+value_asked G c f starts d none n m e =
+    let walk : IsWalk G (insts_of c) f m.past n = subst (λ (k : ℕ). IsWalk G (insts_of c) k m.past n) e m.walk in
+    let r = d.all n (walk_within G (insts_of c) f m.past n walk) in
+    let b : ℕ = r.0 in
+    let p : ℕ = m.local.place in
+    elim (front_or_not starts b p n) [
+      | inl before ↦ m.undefined (came_by G (insts_of c) f starts d m.past n walk b r.1 (λ (k : ℕ). IsDefinedAt (insts_of c) m.id k) p before.0 before.1 m.local.defined)
+      | inr apart ↦ (
+          let a : Ask = record { block = b; value = p; step = n } in
+          let u : IsUseAsk G (insts_of c) starts b n m.operand a = record { block = refl; step = refl; id = m.id; role = m.role; used = m.used; local = m.local; defined = m.local.defined; apart = apart } in
+          none a (b, (n, r.1, inl (m.other, (m.operand, u)))))
+    ]
+
+pub none_by : (G : Table) (c : Code) (f : ℕ) (starts : List ℕ) → IsDivided (insts_of c) f starts → ((a : Ask) → ¬ (IsAsk G (insts_of c) starts a))
+    → ((n : ℕ) → IsOfFunction (insts_of c) n f → ¬ (IsOp (insts_of c) n is_phi)) → IsFirstIn G (insts_of c) f None
+none_by G c f starts d none plain n (inl (m, e)) = value_asked G c f starts d none n m e
+none_by G c f starts d none plain n (inr (m, e)) = plain n (walk_within G (insts_of c) f m.comes.past n (subst (λ (k : ℕ). IsWalk G (insts_of c) k m.comes.past n) e m.comes.walk)) m.phi
+
+none_there : (a : Ask) → ¬ (Contains [] a)
+none_there a (k, lt, e) = absurd (omega (arith, lt))
+
+-- where nothing was added to none, nothing is asked
+pub none_asked : (G : Table) (c : Code) (starts : List ℕ) (none asks : List Ask) → IsCode G c → none ≡ [] → asks ≡ [] → AddsBy c (λ (H : Table) (a : Ask). IsAsk H (insts_of c) starts a) none asks → (a : Ask) → ¬ (IsAsk G (insts_of c) starts a)
+none_asked G c starts none asks is empty still adds a k =
+    let e : asks ≡ adds.added = adds.all ∙ ap (λ (xs : List Ask). xs ++ adds.added) empty in
+    none_there a (subst (λ (xs : List Ask). Contains xs a) (sym e ∙ still) (adds.complete a (G, is, k)))
+
+pub is_none : (asks : List Ask) (n : ℕ) (b : Bool) → n ≡ length asks → b ≡ (n == 0) → b ≡ true → asks ≡ []
+is_none [] n b l e h = refl
+is_none (a ∷ asks) n b l e h = absurd (let z = eqb-true n 0 (sym e ∙ h) in omega (arith, z, l))

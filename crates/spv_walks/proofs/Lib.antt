@@ -13,3 +13,4 @@ pub mod Targets
 pub mod Parents
 pub mod Deciding
 pub mod Telling
+pub mod Firsts

@@ -1,6 +1,6 @@
 -- Walks of a function, and paths through the graph of its blocks.
 use Rattle.std.proofs.Common.{◌≡◌, ◌<◌, ◌≤◌, ◌⊎◌, ◌++◌, ◌+◌, ◌-◌, ◌∙◌, ℕ, zero, suc, List, [], ◌∷◌, refl, sym, ap, subst, inl, inr, length, arith}
-use Rattle.std.specs.Prelude.{slice_index}
+use Rattle.std.specs.Prelude.{Any, slice_index}
 use Rattle.std.proofs.lemmas.Bool.{cases_lt, cases_order, or_left}
 use Rattle.spv_grammar.specs.Table.{Table}
 use Rattle.spv_inst.specs.Operand.{PlainInst}
@@ -13,7 +13,7 @@ use Rattle.spv_branches.specs.Walk.{Next, IsWalk, IsResultAmong}
 use Rattle.spv_branches.proofs.Firsts.{holds}
 use Rattle.spv_branches.proofs.Labelled.{op_holds}
 use Rattle.spv_walks.specs.Divided.{IsIn, IsBegin, IsDivided, IsGraphOf}
-use Rattle.spv_walks.proofs.Lists.{any_cases, any_left, any_right}
+use Rattle.spv_walks.proofs.Lists.{any_head, any_tail, any_cases, any_left, any_right}
 use Rattle.spv_walks.proofs.Trails.{run, size, trail, any_run, run_any, trail_defined, trail_only}
 
 -- a block has its first instruction
@@ -244,3 +244,27 @@ use_missing G is f starts graph g b n x d i one apart m =
         | inr earlier ↦ m.undefined (trail_only G is f starts graph g x d one m.past b m.path earlier)
       ];
     }
+
+-- A walk to an instruction has come by those before it in its block.
+
+came_step : (G : Table) (is : List PlainInst) (f : ℕ) (starts : List ℕ) → IsDivided is f starts → (past : List ℕ) (m n : ℕ) → Next G is m n
+    → (b : ℕ) → IsIn starts b n → (P : ℕ → Type 0) (p : ℕ) → slice_index starts b ≤ p → p < n → P p → (IsIn starts b m → p < m → Any P past) → Any P (m ∷ past)
+came_step G is f starts d past m n (Next.jumps x _ target label) b i P p from to h earlier = (
+    let first = begin_first is f starts d b n i (inl label.label) in
+    absurd (omega (arith, first, from, to)))
+came_step G is f starts d past m _ (Next.follows not) b i P p from to h earlier = elim (cases_lt p m) [
+  | inl before ↦ (
+      let k = i.to in
+      any_tail P m past (earlier (record { block = i.block; from = omega (arith, from, before); to = omega (arith, k) }) before))
+  | inr last ↦ (let e : p ≡ m = omega (arith, last, to) in any_head P m past (subst P e h))
+]
+
+before_first : (is : List PlainInst) (f : ℕ) (starts : List ℕ) → IsDivided is f starts → (b p : ℕ) → b + 1 < length starts → slice_index starts b ≤ p → p < f → ⊥
+before_first is f starts d zero p inside from to = (let e = d.first in omega (arith, e, from, to))
+before_first is f starts d (suc b) p inside from to = (let e = d.first in let k = d.order 0 (suc b) (omega arith) (omega (arith, inside)) in omega (arith, e, k, from, to))
+
+pub came_by : (G : Table) (is : List PlainInst) (f : ℕ) (starts : List ℕ) → IsDivided is f starts → (past : List ℕ) (n : ℕ) → IsWalk G is f past n
+    → (b : ℕ) → IsIn starts b n → (P : ℕ → Type 0) (p : ℕ) → slice_index starts b ≤ p → p < n → P p → Any P past
+came_by G is f starts d _ _ (IsWalk.begins op) b i P p from to h = absurd (before_first is f starts d b p i.block from to)
+came_by G is f starts d _ _ (IsWalk.goes past m n walk next of) b i P p from to h =
+    came_step G is f starts d past m n next b i P p from to h (λ j lt. came_by G is f starts d past m walk b j P p from lt h)

@@ -1,5 +1,5 @@
 -- What is asked of the graph of a function. (For the code alone.)
-use Rattle.std.specs.Prelude.{◌≡◌, ◌<◌, ◌≤◌, ◌+◌, ◌⊎◌, ℕ, List, length, slice_index}
+use Rattle.std.specs.Prelude.{◌≡◌, ◌<◌, ◌≤◌, ◌+◌, ◌⊎◌, ℕ, List, Option, Some, None, length, slice_index}
 use Rattle.spv_grammar.specs.Table.{Table}
 use Rattle.spv_inst.specs.Operand.{PlainInst}
 use Rattle.spv_layout.specs.declared.form.Role.{Role}
@@ -9,6 +9,16 @@ use Rattle.spv_availability.specs.declared.asks.Ask.{Ask}
 use Rattle.spv_branches.specs.Target.{is_phi, is_label, IsOp, IsLabelOf}
 use Rattle.spv_branches.specs.Ready.{IsLocalValue}
 use Rattle.spv_walks.specs.Divided.{IsIn}
+
+-- An id that operand n of instruction m uses is defined there; or, where nothing was found, nowhere.
+abbrev pub IsFoundAt : Table → List PlainInst → ℕ → ℕ → Option ℕ → Type 0
+IsFoundAt G is m n None = (x d : ℕ) (r : Role) → IsUsedAt G is m n x r → ¬ (IsDefinedAt is x d)
+IsFoundAt G is m n (Some d) = (x : ℕ) (r : Role) → IsUsedAt G is m n x r → IsDefinedAt is x d
+
+-- Operand n of instruction m uses the value of a local definition; or, where nothing was found, no local value.
+abbrev pub IsPairedAt : Table → List PlainInst → ℕ → ℕ → Option ℕ → Type 0
+IsPairedAt G is m n None = (x : ℕ) → IsUsedAt G is m n x Value → ¬ (IsLocalValue is x)
+IsPairedAt G is m n (Some d) = (x : ℕ) × IsUsedAt G is m n x Value × IsLocalValue is x × IsDefinedAt is x d
 
 -- Operand n of instruction m of block b uses a value, of which the definition does not stand before m in the block.
 pub record IsUseAsk (G : Table) (is : List PlainInst) (starts : List ℕ) (b m n : ℕ) (a : Ask) : Type 0 where

@@ -6,3 +6,4 @@ pub mod Starts
 pub mod Adds
 pub mod Leading
 pub mod Due
+pub mod Least

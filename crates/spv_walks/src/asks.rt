@@ -1,19 +1,30 @@
 //! What is asked of the graph of a function's blocks.
 
-ghost use Rattle.std.specs.Prelude.{◌≡◌, ◌<◌, ◌≤◌, ◌+◌, ℕ, List, length, slice_index, OnOk, MatchOption};
+ghost use Rattle.std.specs.Prelude.{◌≡◌, ◌<◌, ◌≤◌, ◌+◌, ℕ, List, length, slice_index, OnOk, IfSome, MatchOption};
 ghost use Rattle.spv_grammar.specs.Table.{Table};
 ghost use Rattle.spv_availability.specs.declared.asks.Ask as declared;
 ghost use Rattle.spv_walks.specs.Code.{insts_of, IsCode};
 ghost use Rattle.spv_walks.specs.Divided.{IsIn};
 ghost use Rattle.spv_walks.specs.Adds.{AddsBy};
 ghost use Rattle.spv_walks.specs.Leading.{AreBlocks};
-ghost use Rattle.spv_walks.specs.Due.{IsUseAsk, IsPairAsk, HasUseAsk, HasPairAsk, IsAskAt, IsAskIn, IsAsk};
+ghost use Rattle.spv_walks.specs.Due.{IsFoundAt, IsPairedAt, IsUseAsk, IsPairAsk, HasUseAsk, HasPairAsk, IsAskAt, IsAskIn, IsAsk};
 
 use crate::code::{Code, LABEL, PHI};
 use crate::edges::{Blocks, target};
-use crate::operands::{used, value};
+use crate::operands::{other_id, used, value};
 use spv_availability::Ask;
 use std::alloc::AllocError;
+
+/// Where the id is defined that operand `n` of an instruction uses, if it uses one that is defined. Of an operand that is no use
+/// nothing is said.
+fn defined_at(code: &Code<'_, '_>, at: u32, n: usize) -> Option<u32>
+    requires { at < length code.now.insts.now }
+    ensures within { IfSome result (λ d. d < length code.now.insts.now) }
+    ensures used { (G : Table) → IsCode G code.now → IsFoundAt G (insts_of code.now) at n result }
+{
+    let id = other_id(&code.insts[at as usize], n)?;
+    code.definition(id)
+}
 
 /// What is asked for the use that operand `n` of an instruction is, if it is one of a value that no earlier instruction of the block
 /// defines.
@@ -22,16 +33,33 @@ fn use_ask(code: &Code<'_, '_>, start: u32, block: u32, at: u32, n: usize) -> Op
     ensures { (G : Table) (starts : List ℕ) → IsCode G code.now → start ≡ slice_index starts block
         → MatchOption result ((a : declared.Ask) → ¬ (IsUseAsk G (insts_of code.now) starts block at n a)) (λ a. IsUseAsk G (insts_of code.now) starts block at n a) }
 {
-    let id = used(&code.insts[at as usize], n)?;
-    let value = code.value_of(id)?;
+    let value = defined_at(code, at, n)?;
     if start <= value && value < at {
-        None
-    } else {
+        return None;
+    }
+    if code.is_local(value) {
+        used(&code.insts[at as usize], n)?;
         Some(Ask {
             block,
             value,
             step: at,
         })
+    } else {
+        None
+    }
+}
+
+/// Where the local value is defined that operand `n` of an OpPhi pairs with a label, if it does.
+fn paired_at(code: &Code<'_, '_>, at: u32, n: usize) -> Option<u32>
+    requires { at < length code.now.insts.now }
+    ensures { (G : Table) → IsCode G code.now → IsPairedAt G (insts_of code.now) at n result }
+{
+    let place = defined_at(code, at, n)?;
+    if code.is_local(place) {
+        value(&code.insts[at as usize], n)?;
+        Some(place)
+    } else {
+        None
     }
 }
 
@@ -45,8 +73,7 @@ fn pair_ask(code: &Code<'_, '_>, blocks: &Blocks<'_>, at: u32, n: usize) -> Opti
     ensures { (G : Table) → IsCode G code.now
         → MatchOption result ((a : declared.Ask) → ¬ (IsPairAsk G (insts_of code.now) blocks.now.starts.now at n a)) (λ a. IsPairAsk G (insts_of code.now) blocks.now.starts.now at n a) }
 {
-    let id = value(&code.insts[at as usize], n)?;
-    let value = code.value_of(id)?;
+    let value = paired_at(code, at, n)?;
     let block = target(code, blocks, at, n + 1)?;
     let from = blocks.starts[block as usize];
     let to = blocks.starts[block as usize + 1];

@@ -37,7 +37,7 @@ impl Code<'_, '_> {
     }
 
     /// The instruction whose result an id is.
-    fn definition(&self, id: u32) -> Option<u32>
+    pub fn definition(&self, id: u32) -> Option<u32>
         ensures there { (G : Table) → IsCode G self.now → MatchOption result ((d : ℕ) → ¬ (IsDefinedAt (insts_of self.now) id d)) (λ d. IsDefinedAt (insts_of self.now) id d) }
         ensures within { IfSome result (λ d. d < length self.now.insts.now) }
     {
@@ -66,21 +66,15 @@ impl Code<'_, '_> {
         }
     }
 
-    /// The instruction whose result a local value is; none of an id that is none.
-    pub fn value_of(&self, id: u32) -> Option<u32>
-        ensures { (G : Table) → IsCode G self.now → MatchOption result (¬ (IsLocalValue (insts_of self.now) id)) (λ d. IsLocalValue (insts_of self.now) id × IsDefinedAt (insts_of self.now) id d) }
+    /// Whether the result of an instruction is a local value.
+    pub fn is_local(&self, place: u32) -> bool
+        requires { place < length self.now.insts.now }
+        ensures { (G : Table) (x : ℕ) → IsCode G self.now → IsDefinedAt (insts_of self.now) x place → MatchBool result (IsLocalValue (insts_of self.now) x) (¬ (IsLocalValue (insts_of self.now) x)) }
     {
-        let Some(place) = self.definition(id) else {
-            return None;
-        };
         let Some(function) = self.function_of(place) else {
-            return None;
+            return false;
         };
-        if function < place && has_type(self.insts[place as usize].operands.as_slice()) {
-            Some(place)
-        } else {
-            None
-        }
+        function < place && has_type(self.insts[place as usize].operands.as_slice())
     }
 }
 

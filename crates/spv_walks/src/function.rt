@@ -1,6 +1,7 @@
 //! The first use of a value that some walk of a function misses.
 
-ghost use Rattle.std.specs.Prelude.{◌≡◌, ◌≤◌, ℕ, List, length, OnOk, IfOk};
+ghost use Rattle.std.specs.Prelude.{◌≡◌, ◌≤◌, ◌<◌, ℕ, List, false, length, map, OnOk, IfOk};
+ghost use Rattle.spv_inst.specs.Module.{plain_inst};
 ghost use Rattle.std.specs.List.Sorted.{IsPermutation};
 ghost use Rattle.spv_grammar.specs.Table.{Table};
 ghost use Rattle.spv_availability.specs.First.{AreInOrder};
@@ -10,10 +11,12 @@ ghost use Rattle.spv_walks.specs.Code.{insts_of, IsCode};
 ghost use Rattle.spv_walks.specs.Missed.{IsFirstIn};
 
 use crate::asks::add_all;
-use crate::code::Code;
+use crate::code::{Code, PHI};
 use crate::divide::{divide, function_end};
 use crate::edges::{Blocks, build};
+use crate::least::missed_first;
 use spv_availability::{Ask, Graph, first_missed};
+use spv_inst::Inst;
 use spv_trees::open_asks;
 use std::alloc::{AllocError, Global};
 
@@ -52,6 +55,19 @@ fn sort(asks: &mut [Ask])
     asks.sort_unstable_by_key(|ask| ask.value);
 }
 
+/// Whether one of the instructions from one to before another is an OpPhi.
+fn has_phi(insts: &[Inst<'_>], from: u32, to: u32) -> bool
+    requires { to ≤ length insts.now }
+    ensures { result ≡ false → (n : ℕ) → from ≤ n → n < to → ¬ (IsOp (map plain_inst insts.now) n target.is_phi) }
+{
+    for at in from..to {
+        if insts[at as usize].opcode == PHI {
+            return true;
+        }
+    }
+    false
+}
+
 /// The first instruction at which a walk of the function misses a value that is used there.
 pub fn first_in_function(
     alloc: Global,
@@ -80,10 +96,16 @@ pub fn first_in_function(
         starts: buffers.starts.as_slice(),
         numbers: buffers.numbers.as_slice(),
     };
-    build(code, &blocks, &mut buffers.graph)?;
     buffers.asks.clear();
     add_all(code, &blocks, &mut buffers.asks)?;
+    if buffers.asks.is_empty() && !has_phi(code.insts, function, end) {
+        return Ok(None);
+    }
+    build(code, &blocks, &mut buffers.graph)?;
     let mut left = open_asks(alloc, &buffers.graph, buffers.asks.as_slice())?;
+    if let Some(inst) = missed_first(alloc, &buffers.graph, left.as_slice())? {
+        return Ok(Some(inst));
+    }
     sort(&mut left);
     first_missed(alloc, &buffers.graph, left.as_slice())
 }

@@ -7,6 +7,7 @@ mod divide;
 mod edges;
 mod function;
 pub mod laws;
+mod least;
 mod operands;
 mod values;
 

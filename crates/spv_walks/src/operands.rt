@@ -5,6 +5,7 @@ ghost use Rattle.spv_grammar.specs.Table.{Table};
 ghost use Rattle.spv_inst.specs.Module.{plain_inst, plain_operand};
 ghost use Rattle.spv_layout.specs.Shape.{Fits, IsUse};
 ghost use Rattle.spv_layout.specs.Shape as shape;
+ghost use Rattle.spv_ids.specs.Uses as uses;
 ghost use Rattle.spv_layout.specs.declared.form.Role as declared;
 ghost use Rattle.spv_layout.specs.declared.form.Role.TheVariants as role;
 
@@ -23,6 +24,17 @@ fn id_of(operand: Operand<'_>) -> Option<u32>
     }
 }
 
+/// The id that an operand is, if it is one and no result.
+fn other_id_of(operand: Operand<'_>) -> Option<u32>
+    ensures { result ≡ uses.used_id (plain_operand operand.entry) }
+{
+    match operand {
+        Operand::OfType(id) => Some(id),
+        Operand::Id(id) => Some(id),
+        _ => None,
+    }
+}
+
 /// The id that operand `n` is, if there is one.
 fn id_at(inst: &Inst<'_>, n: usize) -> Option<u32>
     ensures { result ≡ option_and_then shape.id_of (slice_get (plain_inst inst.now).operands n) }
@@ -30,6 +42,18 @@ fn id_at(inst: &Inst<'_>, n: usize) -> Option<u32>
     let operands = inst.operands.as_slice();
     if n < operands.len() {
         id_of(operands[n])
+    } else {
+        None
+    }
+}
+
+/// The id that operand `n` is, if it is one and no result: only such operands are uses.
+pub fn other_id(inst: &Inst<'_>, n: usize) -> Option<u32>
+    ensures { result ≡ option_and_then uses.used_id (slice_get (plain_inst inst.now).operands n) }
+{
+    let operands = inst.operands.as_slice();
+    if n < operands.len() {
+        other_id_of(operands[n])
     } else {
         None
     }

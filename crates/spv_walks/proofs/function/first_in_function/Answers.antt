@@ -1,5 +1,7 @@
-use Rattle.std.proofs.Common.{◌≡◌, ◌∙◌, ℕ, List, Option, length, sym, ap, subst, arith}
+use Rattle.std.proofs.Common.{◌≡◌, ◌∙◌, ℕ, List, Option, Some, length, sym, ap, subst, arith}
+use Rattle.std.specs.Prelude.{IfSome}
 use Rattle.std.specs.List.Sorted.{IsPermutation}
+use Rattle.std.proofs.lemmas.List.Sorted.{IsPermutation-refl}
 use Rattle.std.proofs.lemmas.List.{length-map}
 use Rattle.spv_inst.specs.Module.{plain_inst}
 use Rattle.spv_grammar.specs.Table.{Table}
@@ -12,8 +14,94 @@ use Rattle.spv_walks.specs.Leading.{AreBlocks}
 use Rattle.spv_walks.specs.Starts.{IsLaid}
 use Rattle.spv_walks.proofs.Lists.{taken}
 use Rattle.spv_walks.specs.Missed.{IsFirstIn}
-use Rattle.spv_walks.proofs.Deciding.{graph_of, is_graph, of_blocks, asked, all_by, first_by, if_first}
+use Rattle.spv_walks.proofs.Deciding.{graph_of, is_graph, of_blocks, asked, all_by, first_by, if_first, none_by, none_asked, is_none}
 use Rattle.spv_walks.proofs.function.first_in_function.Goals as goal
+
+pub missed_first-requires-clause-graph : goal.missed_first-requires-clause-graph
+missed_first-requires-clause-graph c =
+    let code = c.args.code.now in
+    let b : Blocks = record { function = c.args.function; end = c.function_end-end.result; starts = c.as_slice.result; numbers = c.as_slice-2.result } in
+    let numbered : c.as_slice-2.result.now ≡ c.divide.new.numbers = c.as_slice-2.ensures.value ∙ taken c.divide.new.numbers _ _ (let l = c.divide.auto.numbers in let m = c.deref_mut.ensures.len in omega (arith, l, m)) in
+    let laid : IsLaid (insts_of code) c.args.function c.function_end-end.result c.as_slice.result.now c.as_slice-2.result.now =
+    subst (λ (xs : List ℕ). IsLaid (insts_of code) c.args.function c.function_end-end.result xs c.as_slice-2.result.now) (sym c.as_slice.ensures.value)
+    (subst (λ (xs : List ℕ). IsLaid (insts_of code) c.args.function c.function_end-end.result c.divide.new.starts.items xs) (sym numbered) c.in_ok-divide.ensures) in
+    let are : AreBlocks (insts_of code) b = record {
+      laid = laid;
+      count = (
+          let l = c.divide.auto.numbers in
+          let m = ap length numbered in
+          let k = ap length c.deref_mut.ensures.value in
+          let n = c.requires.count in
+          let o = length-map code.insts.now plain_inst in
+          omega (arith, l, m, k, n, o));
+    } in
+    is_graph code b c.build.new.graph c.requires.most are c.in_ok-build.ensures
+
+pub missed_first-requires-clause-asks : goal.missed_first-requires-clause-asks
+missed_first-requires-clause-asks c =
+    let code = c.args.code.now in
+    let b : Blocks = record { function = c.args.function; end = c.function_end-end.result; starts = c.as_slice.result; numbers = c.as_slice-2.result } in
+    let numbered : c.as_slice-2.result.now ≡ c.divide.new.numbers = c.as_slice-2.ensures.value ∙ taken c.divide.new.numbers _ _ (let l = c.divide.auto.numbers in let m = c.deref_mut.ensures.len in omega (arith, l, m)) in
+    let laid : IsLaid (insts_of code) c.args.function c.function_end-end.result c.as_slice.result.now c.as_slice-2.result.now =
+    subst (λ (xs : List ℕ). IsLaid (insts_of code) c.args.function c.function_end-end.result xs c.as_slice-2.result.now) (sym c.as_slice.ensures.value)
+    (subst (λ (xs : List ℕ). IsLaid (insts_of code) c.args.function c.function_end-end.result c.divide.new.starts.items xs) (sym numbered) c.in_ok-divide.ensures) in
+    let are : AreBlocks (insts_of code) b = record {
+      laid = laid;
+      count = (
+          let l = c.divide.auto.numbers in
+          let m = ap length numbered in
+          let k = ap length c.deref_mut.ensures.value in
+          let n = c.requires.count in
+          let o = length-map code.insts.now plain_inst in
+          omega (arith, l, m, k, n, o));
+    } in
+    let k = c.requires.code in
+    let g = graph_of k.0 code b c.build.new.graph k.1 are c.in_ok-build.ensures in
+    let left = c.in_ok-left.left.items in
+    let opened = subst (λ (xs : List Ask). AreOpen c.build.new.graph xs (length xs) left) c.as_slice-3.ensures.value c.in_ok-left.ensures in
+    let all = all_by k.0 code b.starts.now c.build.new.graph c.clear.new.self.items c.add_all.new.asks.items left left k.1 c.clear.ensures.items c.in_ok-add_all.ensures opened (IsPermutation-refl left) in
+    let of : AreOfBlocks c.build.new.graph left = of_blocks k.0 (insts_of code) b.function b.starts.now c.build.new.graph left g all.sound in
+    subst (λ (xs : List Ask). AreOfBlocks c.build.new.graph xs) (sym c.as_slice-4.ensures.value) of
+
+pub returns-in-Some-clause-first : goal.returns-in-Some-clause-first
+returns-in-Some-clause-first c =
+    let code = c.args.code.now in
+    let b : Blocks = record { function = c.args.function; end = c.function_end-end.result; starts = c.as_slice.result; numbers = c.as_slice-2.result } in
+    let numbered : c.as_slice-2.result.now ≡ c.divide.new.numbers = c.as_slice-2.ensures.value ∙ taken c.divide.new.numbers _ _ (let l = c.divide.auto.numbers in let m = c.deref_mut.ensures.len in omega (arith, l, m)) in
+    let laid : IsLaid (insts_of code) c.args.function c.function_end-end.result c.as_slice.result.now c.as_slice-2.result.now =
+    subst (λ (xs : List ℕ). IsLaid (insts_of code) c.args.function c.function_end-end.result xs c.as_slice-2.result.now) (sym c.as_slice.ensures.value)
+    (subst (λ (xs : List ℕ). IsLaid (insts_of code) c.args.function c.function_end-end.result c.divide.new.starts.items xs) (sym numbered) c.in_ok-divide.ensures) in
+    let are : AreBlocks (insts_of code) b = record {
+      laid = laid;
+      count = (
+          let l = c.divide.auto.numbers in
+          let m = ap length numbered in
+          let k = ap length c.deref_mut.ensures.value in
+          let n = c.requires.count in
+          let o = length-map code.insts.now plain_inst in
+          omega (arith, l, m, k, n, o));
+    } in
+    let left = c.in_ok-left.left.items in
+    let opened = subst (λ (xs : List Ask). AreOpen c.build.new.graph xs (length xs) left) c.as_slice-3.ensures.value c.in_ok-left.ensures in
+    let first : IsFirstMissed c.build.new.graph c.as_slice-4.result.now (Some c.in-Some.inst) =
+    subst (λ (o : Option ℕ). IfSome o (λ (i : ℕ). IsFirstMissed c.build.new.graph c.as_slice-4.result.now (Some i))) c.in-Some.is c.in_ok-inst.ensures in
+    λ G is.
+    let g = graph_of G code b c.build.new.graph is are c.in_ok-build.ensures in
+    let all = all_by G code b.starts.now c.build.new.graph c.clear.new.self.items c.add_all.new.asks.items left left is c.clear.ensures.items c.in_ok-add_all.ensures opened (IsPermutation-refl left) in
+    first_by G code c.args.function b.starts.now c.build.new.graph left is g all (Some c.in-Some.inst) (subst (λ (xs : List Ask). IsFirstMissed c.build.new.graph xs (Some c.in-Some.inst)) c.as_slice-4.ensures.value first)
+
+pub returns-then-not-has_phi-clause-first : goal.returns-then-not-has_phi-clause-first
+returns-then-not-has_phi-clause-first c =
+    let code = c.args.code.now in
+    let b : Blocks = record { function = c.args.function; end = c.function_end-end.result; starts = c.as_slice.result; numbers = c.as_slice-2.result } in
+    let numbered : c.as_slice-2.result.now ≡ c.divide.new.numbers = c.as_slice-2.ensures.value ∙ taken c.divide.new.numbers _ _ (let l = c.divide.auto.numbers in let m = c.deref_mut.ensures.len in omega (arith, l, m)) in
+    let laid : IsLaid (insts_of code) c.args.function c.function_end-end.result c.as_slice.result.now c.as_slice-2.result.now =
+    subst (λ (xs : List ℕ). IsLaid (insts_of code) c.args.function c.function_end-end.result xs c.as_slice-2.result.now) (sym c.as_slice.ensures.value)
+    (subst (λ (xs : List ℕ). IsLaid (insts_of code) c.args.function c.function_end-end.result c.divide.new.starts.items xs) (sym numbered) c.in_ok-divide.ensures) in
+    let still = is_none c.add_all.new.asks.items c.add_all.new.asks.len c.is_empty.result (let o = c.add_all.new.asks.ok.0 in omega (arith, o)) c.is_empty.ensures c.if-is_empty.true in
+    λ G is.
+    none_by G code c.args.function b.starts.now laid.divided (none_asked G code b.starts.now c.clear.new.self.items c.add_all.new.asks.items is c.clear.ensures.items still c.in_ok-add_all.ensures)
+    (λ n of op. let x = laid.extent.all n of in c.has_phi.ensures c.if-not-has_phi.true n x.0 x.1 op)
 
 pub open_asks-requires-clause-graph : goal.open_asks-requires-clause-graph
 open_asks-requires-clause-graph c =
@@ -104,7 +192,7 @@ first_missed-requires-clause-asks c =
     let same : IsPermutation left c.sort.new.asks = subst (λ (xs : List Ask). IsPermutation xs c.sort.new.asks) c.deref_mut-2.ensures.value c.sort.ensures.same in
     let all = all_by k.0 code b.starts.now c.build.new.graph c.clear.new.self.items c.add_all.new.asks.items left c.sort.new.asks k.1 c.clear.ensures.items c.in_ok-add_all.ensures opened same in
     let of : AreOfBlocks c.build.new.graph c.sort.new.asks = of_blocks k.0 (insts_of code) b.function b.starts.now c.build.new.graph c.sort.new.asks g all.sound in
-    let e : c.as_slice-4.result.now ≡ c.sort.new.asks = c.as_slice-4.ensures.value ∙ taken c.sort.new.asks _ _ (let l = c.sort.auto.asks in let m = c.deref_mut-2.ensures.len in omega (arith, l, m)) in
+    let e : c.as_slice-5.result.now ≡ c.sort.new.asks = c.as_slice-5.ensures.value ∙ taken c.sort.new.asks _ _ (let l = c.sort.auto.asks in let m = c.deref_mut-2.ensures.len in omega (arith, l, m)) in
     subst (λ (xs : List Ask). AreOfBlocks c.build.new.graph xs) (sym e) of
 
 pub returns-clause-first : goal.returns-clause-first
@@ -127,10 +215,10 @@ returns-clause-first c =
     } in
     let left = c.in_ok-left.left.items in
     let opened = subst (λ (xs : List Ask). AreOpen c.build.new.graph xs (length xs) left) c.as_slice-3.ensures.value c.in_ok-left.ensures in
-    let e : c.as_slice-4.result.now ≡ c.sort.new.asks = c.as_slice-4.ensures.value ∙ taken c.sort.new.asks _ _ (let l = c.sort.auto.asks in let m = c.deref_mut-2.ensures.len in omega (arith, l, m)) in
+    let e : c.as_slice-5.result.now ≡ c.sort.new.asks = c.as_slice-5.ensures.value ∙ taken c.sort.new.asks _ _ (let l = c.sort.auto.asks in let m = c.deref_mut-2.ensures.len in omega (arith, l, m)) in
     let same : IsPermutation left c.sort.new.asks = subst (λ (xs : List Ask). IsPermutation xs c.sort.new.asks) c.deref_mut-2.ensures.value c.sort.ensures.same in
     let P : Option ℕ → Type 0 = λ o. (G : Table) → IsCode G code → IsFirstIn G (insts_of code) c.args.function o in
-    if_first c.first_missed.result (IsFirstMissed c.build.new.graph c.as_slice-4.result.now) P (λ o h G is.
+    if_first c.first_missed.result (IsFirstMissed c.build.new.graph c.as_slice-5.result.now) P (λ o h G is.
     let g = graph_of G code b c.build.new.graph is are c.in_ok-build.ensures in
     let all = all_by G code b.starts.now c.build.new.graph c.clear.new.self.items c.add_all.new.asks.items left c.sort.new.asks is c.clear.ensures.items c.in_ok-add_all.ensures opened same in
     first_by G code c.args.function b.starts.now c.build.new.graph c.sort.new.asks is g all o (subst (λ (xs : List Ask). IsFirstMissed c.build.new.graph xs o) e h))

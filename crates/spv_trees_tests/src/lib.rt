@@ -1,0 +1,5 @@
+//! The calls of spv_trees.
+#![tactic(auto)]
+
+#[cfg(test)]
+mod tests;
