@@ -33,6 +33,10 @@ holds_by is n test (Some i) e h = record { inst = i; there = e; holds = h }
 pub holds : (is : List PlainInst) (n : ℕ) (test : ℕ → Bool) → IsOp is n test → Holds is n test
 holds is n test o = holds_by is n test (slice_get is n) refl o
 
+-- a test that another one implies
+pub op_moved : (is : List PlainInst) (n : ℕ) (one two : ℕ → Bool) → ((x : ℕ) → one x ≡ true → two x ≡ true) → IsOp is n one → IsOp is n two
+op_moved is n one two t o = let h = holds is n one o in op_holds is n h.inst two h.there (t h.inst.opcode h.holds)
+
 -- two tests of one opcode
 pub both_hold : (is : List PlainInst) (n : ℕ) (one two : ℕ → Bool) → IsOp is n one → IsOp is n two → (x : ℕ) × (one x ≡ true) × (two x ≡ true)
 both_hold is n one two o p = let h = holds is n one o in (h.inst.opcode, h.holds, op_tells is n h.inst two h.there p)
@@ -48,6 +52,16 @@ branch_no_merge x m b = grind (arith, nat_tests)
 
 pub merge_apart : (is : List PlainInst) (n : ℕ) → IsOp is n is_merge → IsOp is n is_branch → ⊥
 merge_apart is n m b = let h = both_hold is n is_merge is_branch m b in branch_no_merge h.0 h.1 h.2
+
+-- opcodes before that of OpPhi
+pub low_phi : (x : ℕ) → x < 245 → is_phi x ≡ true → ⊥
+low_phi x h t = grind (arith, nat_tests)
+
+pub low_merge : (x : ℕ) → x < 245 → is_merge x ≡ true → ⊥
+low_merge x h t = grind (arith, nat_tests)
+
+pub low_branch : (x : ℕ) → x < 245 → is_branch x ≡ true → ⊥
+low_branch x h t = grind (arith, nat_tests)
 
 -- an instruction at which a rule is broken is there
 pub broken_within : (G : Table) (is : List PlainInst) (q : Rule) (n : ℕ) → stage_of q ≡ 6 → Broken G is q n → n < length is

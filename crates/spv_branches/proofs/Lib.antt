@@ -1,6 +1,8 @@
 pub mod Chains
 pub mod Marking
 pub mod Labelled
+pub mod Places
+pub mod Looking
 pub mod Gathering
 pub mod Entries
 pub mod Taking

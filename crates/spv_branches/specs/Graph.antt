@@ -3,6 +3,8 @@ use Rattle.std.specs.Prelude.{◌≡◌, ◌≤◌, ◌<◌, ◌⊎◌, ℕ, Lis
 use Rattle.spv_grammar.specs.Table.{Table}
 use Rattle.spv_inst.specs.Operand.{PlainInst}
 use Rattle.spv_branches.specs.declared.edges.Edges.{Edges}
+use Rattle.spv_branches.specs.declared.faults.Targets.{Targets}
+use Rattle.spv_branches.specs.declared.faults.Targets.TheVariants.{Lacking, Entering, Sound}
 use Rattle.spv_inst.specs.declared.fault.Rule.{Rule}
 use Rattle.spv_layout.specs.declared.form.Role.TheVariants.{Label}
 use Rattle.spv_layout.specs.First.{stage_of, rank_of}
@@ -65,6 +67,12 @@ pub record LeadsToEntry (G : Table) (is : List PlainInst) (n : ℕ) : Type 0 whe
   pub place : ℕ
   pub defined : IsDefinedAt is id place
   pub entry : IsEntryLabel is place
+
+-- What is found of the labels of instruction n.
+abbrev pub AreTargets : Table → List PlainInst → ℕ → Targets → Type 0
+AreTargets G is n Lacking = LacksLabel G is n
+AreTargets G is n Entering = HasLabels G is n × LeadsToEntry G is n
+AreTargets G is n Sound = HasLabels G is n × ¬ (LeadsToEntry G is n)
 
 -- Operands 1 and 2 of instruction n are the same label.
 pub record HasSameLabels (G : Table) (is : List PlainInst) (n : ℕ) : Type 0 where

@@ -4,6 +4,7 @@ pub mod Ready
 pub mod Broken
 pub mod Code
 pub mod Edges
+pub mod Labels
 pub mod Graph
 pub mod Found
 pub mod Example

@@ -13,7 +13,7 @@ ghost use Rattle.spv_branches.specs.Broken.{Broken};
 ghost use Rattle.spv_branches.specs.Found.{IsRefusal};
 
 use crate::code::Code;
-use crate::gather::{entry_labels, gather};
+use crate::gather::{edges_for, survey};
 use crate::rules::broken_at;
 use spv_ids::Ids;
 use spv_inst::{Fault, Module, Rule, Stop};
@@ -32,11 +32,11 @@ fn first_fault(alloc: Global, code: &Code<'_, '_>) -> Result<Option<Found>, Allo
     requires { (G : Table) × IsCode G code.now }
     ensures { IfOk result (λ o. (G : Table) → IsCode G code.now → MatchOption o (IsUnbroken (Broken G (insts_of code.now)) 6) (λ f. IsFirst (Broken G (insts_of code.now)) 6 f.rule f.inst)) }
 {
-    let edges = gather(alloc, code)?;
-    let entries = entry_labels(alloc, code.insts)?;
+    let survey = survey(alloc, code.insts)?;
+    let edges = edges_for(alloc, code, survey.has_phis)?;
     let mut marks = vec![in alloc; false; code.insts.len()]?;
     for at in 0..code.insts.len() {
-        if let Some(rule) = broken_at(code, &edges, &entries, &mut marks, at as u32) {
+        if let Some(rule) = broken_at(code, &edges, &survey.entries, &mut marks, at as u32) {
             return Ok(Some(Found {
                 rule,
                 inst: at as u32,

@@ -23,6 +23,7 @@ impl Code<'_, '_> {
     ghost use Rattle.spv_layout.specs.Place.{IsOfBlock};
 
     /// The OpLabel whose result an id is.
+    #[inline(always)]
     pub fn label_of(&self, id: u32) -> Option<u32>
         ensures label { (G : Table) → IsCode G self.now → MatchOption result ((m : ℕ) → ¬ (IsLabelOf (insts_of self.now) id m)) (λ m. IsLabelOf (insts_of self.now) id m) }
         ensures within { IfSome result (λ m. m < length self.now.insts.now) }
@@ -60,16 +61,21 @@ impl Code<'_, '_> {
     }
 }
 
-/// The opcodes of OpFunction, OpPhi, OpLabel and OpBranchConditional.
+/// The opcodes of OpFunction, OpPhi, OpLoopMerge, OpLabel, OpBranchConditional and OpSwitch.
 pub const FUNCTION: u16 = 54;
 
 pub const PHI: u16 = 245;
+
+pub const LOOP_MERGE: u16 = 246;
 
 pub const LABEL: u16 = 248;
 
 pub const BRANCH_CONDITIONAL: u16 = 250;
 
+pub const SWITCH: u16 = 251;
+
 /// Whether an opcode is that of a terminator with labels: OpBranch, OpBranchConditional or OpSwitch.
+#[inline(always)]
 pub fn is_branch(opcode: u16) -> bool
     ensures { result ≡ target.is_branch opcode }
 {
@@ -77,6 +83,7 @@ pub fn is_branch(opcode: u16) -> bool
 }
 
 /// Whether an opcode is that of OpLoopMerge or OpSelectionMerge.
+#[inline(always)]
 pub fn is_merge(opcode: u16) -> bool
     ensures { result ≡ target.is_merge opcode }
 {

@@ -4,17 +4,30 @@ ghost use Rattle.std.specs.Prelude.{◌≡◌, ◌<◌, ℕ, true, false, length
 ghost use Rattle.spv_grammar.specs.Table.{Table};
 ghost use Rattle.spv_branches.specs.Code.{insts_of, IsCode};
 ghost use Rattle.spv_branches.specs.Edges.{IsEdges, marked};
-ghost use Rattle.spv_branches.specs.Graph.{AreGathered, AreEntries, CanTake, Takes, HasLabels, LacksLabel, LeadsToEntry, HasSameLabels};
-ghost use Rattle.spv_branches.specs.Target.{HasParents};
+ghost use Rattle.spv_branches.specs.Graph.{AreGathered, AreEntries, CanTake, Takes, HasLabels, LacksLabel, AreTargets, HasSameLabels};
+ghost use Rattle.spv_branches.specs.Labels.{is_labelled};
+ghost use Rattle.spv_branches.specs.Target.{IsOp, HasParents};
 
 use crate::code::Code;
 use crate::edges::Edges;
 use crate::labels::label;
 
+/// What the labels of a branch are.
+#[derive(Clone, Copy, Debug)]
+pub enum Targets {
+    /// Some label is of no OpLabel.
+    Lacking,
+    /// Each is of an OpLabel, and some of an entry block's.
+    Entering,
+    /// Each is of an OpLabel, and none of an entry block's.
+    Sound,
+}
+
 /// Takes the mark from each block that an OpPhi names. Whether each had one.
 fn take_parents(code: &Code<'_, '_>, marks: &mut [bool], at: u32) -> bool
     requires marks { length marks.old ≡ length code.now.insts.now }
     requires at { at < length code.now.insts.now }
+    requires op { IsOp (insts_of code.now) at is_labelled }
     ensures { (G : Table) → IsCode G code.now → MatchBool result (Takes G (insts_of code.now) at marks.old marks.new) (¬ (CanTake G (insts_of code.now) at marks.old)) }
 {
     let inst = &code.insts[at as usize];
@@ -42,6 +55,7 @@ pub fn has_parents(code: &Code<'_, '_>, edges: &Edges, marks: &mut [bool], at: u
     requires marks { length marks.old ≡ length code.now.insts.now }
     requires clean { (p : ℕ) → marked marks.old p ≡ false }
     requires at { at < length code.now.insts.now }
+    requires op { IsOp (insts_of code.now) at is_labelled }
     ensures clean { IsTrue result → (p : ℕ) → marked marks.new p ≡ false }
     ensures parents { (G : Table) → IsCode G code.now → MatchBool result (HasParents G (insts_of code.now) at) (¬ (HasParents G (insts_of code.now) at)) }
 {
@@ -57,7 +71,8 @@ pub fn has_parents(code: &Code<'_, '_>, edges: &Edges, marks: &mut [bool], at: u
 
 /// Whether each label of an instruction is of an OpLabel.
 pub fn has_labels(code: &Code<'_, '_>, at: u32) -> bool
-    requires { at < length code.now.insts.now }
+    requires at { at < length code.now.insts.now }
+    requires op { IsOp (insts_of code.now) at is_labelled }
     ensures { (G : Table) → IsCode G code.now → MatchBool result (HasLabels G (insts_of code.now) at) (LacksLabel G (insts_of code.now) at) }
 {
     let inst = &code.insts[at as usize];
@@ -71,29 +86,37 @@ pub fn has_labels(code: &Code<'_, '_>, at: u32) -> bool
     true
 }
 
-/// Whether a label of an instruction is that of an entry block.
-pub fn leads_to_entry(code: &Code<'_, '_>, entries: &[bool], at: u32) -> bool
+/// Looks at the labels of a branch.
+pub fn targets_of(code: &Code<'_, '_>, entries: &[bool], at: u32) -> Targets
     requires at { at < length code.now.insts.now }
+    requires op { IsOp (insts_of code.now) at is_labelled }
     requires count { length entries.now ≡ length code.now.insts.now }
     requires entries { AreEntries (insts_of code.now) entries.now (length code.now.insts.now) }
-    ensures { (G : Table) → IsCode G code.now → MatchBool result (LeadsToEntry G (insts_of code.now) at) (¬ (LeadsToEntry G (insts_of code.now) at)) }
+    ensures { (G : Table) → IsCode G code.now → AreTargets G (insts_of code.now) at result }
 {
     let inst = &code.insts[at as usize];
+    let mut enters = false;
     for n in 0..inst.operands.as_slice().len() {
         if let Some(id) = label(inst, n) {
-            if let Some(target) = code.label_of(id) {
-                if entries[target as usize] {
-                    return true;
-                }
+            let Some(target) = code.label_of(id) else {
+                return Targets::Lacking;
+            };
+            if entries[target as usize] {
+                enters = true;
             }
         }
     }
-    false
+    if enters {
+        Targets::Entering
+    } else {
+        Targets::Sound
+    }
 }
 
 /// Whether operands 1 and 2 of an instruction are the same label.
 pub fn has_same_labels(code: &Code<'_, '_>, at: u32) -> bool
-    requires { at < length code.now.insts.now }
+    requires at { at < length code.now.insts.now }
+    requires op { IsOp (insts_of code.now) at is_labelled }
     ensures { (G : Table) → IsCode G code.now → MatchBool result (HasSameLabels G (insts_of code.now) at) (¬ (HasSameLabels G (insts_of code.now) at)) }
 {
     let inst = &code.insts[at as usize];

@@ -1,6 +1,6 @@
 //! The edges and the entry labels of a module.
 
-ghost use Rattle.std.specs.Prelude.{◌≡◌, ◌<◌, ◌≤◌, ◌+◌, ℕ, length, map, IfOk, OnOk};
+ghost use Rattle.std.specs.Prelude.{◌≡◌, ◌<◌, ◌≤◌, ◌+◌, ℕ, length, map, IsTrue, IfOk, OnOk};
 ghost use Rattle.spv_grammar.specs.Table.{Table};
 ghost use Rattle.spv_inst.specs.Module.{plain_inst};
 ghost use Rattle.spv_branches.specs.Code.{insts_of, IsCode};
@@ -10,11 +10,20 @@ ghost use Rattle.spv_branches.specs.Target.{IsOp};
 ghost use Rattle.spv_branches.specs.Target as target;
 ghost use Rattle.spv_layout.specs.Place.{IsOfBlock};
 
-use crate::code::{Code, FUNCTION, LABEL, is_branch};
+use crate::code::{Code, FUNCTION, LABEL, PHI, is_branch};
 use crate::edges::Edges;
 use crate::labels::label;
 use spv_inst::Inst;
 use std::alloc::{AllocError, Global};
+
+/// What a look at all opcodes tells.
+#[derive(Drop)]
+pub struct Overview {
+    /// Which instructions are labels of entry blocks.
+    pub entries: Vec<bool>,
+    /// Whether some instruction is an OpPhi.
+    pub has_phis: bool,
+}
 
 /// Adds the edges of a branch that is of a block.
 fn add_targets(
@@ -26,10 +35,11 @@ fn add_targets(
     requires edges { IsEdges edges.old }
     requires count { length edges.old.heads.items ≡ length code.now.insts.now }
     requires at { at < length code.now.insts.now }
+    requires op { IsOp (insts_of code.now) at target.is_branch }
     requires block { block < length code.now.insts.now }
     ensures edges { OnOk result (IsEdges edges.new) }
     ensures count { OnOk result (length edges.new.heads.items ≡ length code.now.insts.now) }
-    ensures adds { OnOk result ((G : Table) → IsCode G code.now → IsOp (insts_of code.now) at target.is_branch → IsOfBlock (insts_of code.now) at block → AddsTargets G (insts_of code.now) edges.old edges.new at) }
+    ensures adds { OnOk result ((G : Table) → IsCode G code.now → IsOfBlock (insts_of code.now) at block → AddsTargets G (insts_of code.now) edges.old edges.new at) }
 {
     let inst = &code.insts[at as usize];
     for n in 0..inst.operands.as_slice().len() {
@@ -43,6 +53,7 @@ fn add_targets(
 }
 
 /// Adds the edges of an instruction.
+#[inline(always)]
 fn gather_at(code: &Code<'_, '_>, edges: &mut Edges, at: u32) -> Result<(), AllocError>
     requires code { (G : Table) × IsCode G code.now }
     requires edges { IsEdges edges.old }
@@ -75,13 +86,29 @@ pub fn gather(alloc: Global, code: &Code<'_, '_>) -> Result<Edges, AllocError>
     Ok(edges)
 }
 
-/// Which instructions are labels of entry blocks.
-pub fn entry_labels(alloc: Global, insts: &[Inst<'_>]) -> Result<Vec<bool>, AllocError>
-    ensures count { IfOk result (λ v. length v.items ≡ length insts.now) }
-    ensures entries { IfOk result (λ v. AreEntries (map plain_inst insts.now) v.items (length insts.now)) }
+/// The edges of all instructions, where some is an OpPhi: nothing else asks for them.
+pub fn edges_for(alloc: Global, code: &Code<'_, '_>, has_phis: bool) -> Result<Edges, AllocError>
+    requires { (G : Table) × IsCode G code.now }
+    ensures edges { IfOk result IsEdges }
+    ensures count { IfOk result (λ e. length e.heads.items ≡ length code.now.insts.now) }
+    ensures gathered { IfOk result (λ e. IsTrue has_phis → (G : Table) → IsCode G code.now → AreGathered G (insts_of code.now) e (length code.now.insts.now)) }
+{
+    if has_phis {
+        gather(alloc, code)
+    } else {
+        Edges::new(alloc, code.insts.len())
+    }
+}
+
+/// Which instructions are labels of entry blocks, and whether some is an OpPhi.
+pub fn survey(alloc: Global, insts: &[Inst<'_>]) -> Result<Overview, AllocError>
+    ensures count { IfOk result (λ s. length s.entries.items ≡ length insts.now) }
+    ensures entries { IfOk result (λ s. AreEntries (map plain_inst insts.now) s.entries.items (length insts.now)) }
+    ensures phis { IfOk result (λ s. (n : ℕ) → n < length insts.now → IsOp (map plain_inst insts.now) n target.is_phi → IsTrue s.has_phis) }
 {
     let mut entries = vec![in alloc; false; insts.len()]?;
     let mut is_open = false;
+    let mut has_phis = false;
     for at in 0..insts.len() {
         let opcode = insts[at].opcode;
         if opcode == FUNCTION {
@@ -89,7 +116,9 @@ pub fn entry_labels(alloc: Global, insts: &[Inst<'_>]) -> Result<Vec<bool>, Allo
         } else if opcode == LABEL {
             entries[at] = is_open;
             is_open = false;
+        } else if opcode == PHI {
+            has_phis = true;
         }
     }
-    Ok(entries)
+    Ok(Overview { entries, has_phis })
 }

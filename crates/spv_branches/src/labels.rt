@@ -1,16 +1,19 @@
 //! The labels among the operands of an instruction.
 
-ghost use Rattle.std.specs.Prelude.{◌≡◌, ℕ, MatchOption, slice_get, option_and_then};
+ghost use Rattle.std.specs.Prelude.{◌≡◌, ℕ, IsTrue, MatchOption, slice_get, option_and_then};
 ghost use Rattle.spv_grammar.specs.Table.{Table};
 ghost use Rattle.spv_inst.specs.Module.{plain_inst, plain_operand};
 ghost use Rattle.spv_layout.specs.Shape.{Fits, IsUse};
 ghost use Rattle.spv_layout.specs.Shape as shape;
 ghost use Rattle.spv_layout.specs.declared.form.Role.TheVariants as role;
+ghost use Rattle.spv_branches.specs.Labels.{is_labelled};
+ghost use Rattle.spv_branches.specs.Labels as labels;
 
+use crate::code::{BRANCH_CONDITIONAL, LOOP_MERGE, PHI, SWITCH};
 use spv_inst::{Inst, Operand};
-use spv_layout::{Role, role};
 
 /// The id that an operand is.
+#[inline(always)]
 fn id_of(operand: Operand<'_>) -> Option<u32>
     ensures { result ≡ shape.id_of (plain_operand operand.entry) }
 {
@@ -23,6 +26,7 @@ fn id_of(operand: Operand<'_>) -> Option<u32>
 }
 
 /// The id that operand `n` is, if there is one.
+#[inline(always)]
 fn id_at(inst: &Inst<'_>, n: usize) -> Option<u32>
     ensures { result ≡ option_and_then shape.id_of (slice_get (plain_inst inst.now).operands n) }
 {
@@ -34,15 +38,33 @@ fn id_at(inst: &Inst<'_>, n: usize) -> Option<u32>
     }
 }
 
-/// The id that operand `n` uses as a label, if it does.
+/// Whether operand `n` is a label, of an opcode of which some operand is one.
+#[inline(always)]
+fn is_label_at(opcode: u16, n: usize) -> bool
+    ensures { result ≡ labels.is_label_at opcode n }
+{
+    if opcode == SWITCH {
+        n % 2 == 1
+    } else if opcode == PHI {
+        2 <= n && n % 2 == 1
+    } else if opcode == BRANCH_CONDITIONAL {
+        1 <= n && n <= 2
+    } else if opcode == LOOP_MERGE {
+        n <= 1
+    } else {
+        n == 0
+    }
+}
+
+/// The id that operand `n` of an OpPhi, a merge or a terminator with labels uses as a label, if it does.
+#[inline(always)]
 pub fn label(inst: &Inst<'_>, n: usize) -> Option<u32>
+    requires { IsTrue (is_labelled (plain_inst inst.now).opcode) }
     ensures { (G : Table) → Fits G (plain_inst inst.now) → MatchOption result ((x : ℕ) → ¬ (IsUse G (plain_inst inst.now) n x role.Label)) (λ x. IsUse G (plain_inst inst.now) n x role.Label) }
 {
-    match role(inst, n) {
-        Some(found) => match found {
-            Role::Label => id_at(inst, n),
-            _ => None,
-        },
-        None => None,
+    if is_label_at(inst.opcode, n) {
+        id_at(inst, n)
+    } else {
+        None
     }
 }

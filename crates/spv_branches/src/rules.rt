@@ -10,13 +10,14 @@ ghost use Rattle.spv_branches.specs.Target as target;
 
 use crate::code::{BRANCH_CONDITIONAL, Code, PHI, is_branch, is_merge};
 use crate::edges::Edges;
-use crate::faults::{has_labels, has_parents, has_same_labels, leads_to_entry};
+use crate::faults::{Targets, has_labels, has_parents, has_same_labels, targets_of};
 use spv_inst::Rule;
 
 /// The rule that is broken at a merge.
 fn merge_rule(code: &Code<'_, '_>, at: u32) -> Option<Rule>
-    requires { at < length code.now.insts.now }
-    ensures { (G : Table) → IsCode G code.now → IsOp (insts_of code.now) at target.is_merge → IsFirstAt G (insts_of code.now) at result }
+    requires at { at < length code.now.insts.now }
+    requires op { IsOp (insts_of code.now) at target.is_merge }
+    ensures { (G : Table) → IsCode G code.now → IsFirstAt G (insts_of code.now) at result }
 {
     if has_labels(code, at) {
         None
@@ -28,15 +29,15 @@ fn merge_rule(code: &Code<'_, '_>, at: u32) -> Option<Rule>
 /// The first rule that is broken at a terminator with labels.
 fn branch_rule(code: &Code<'_, '_>, entries: &[bool], at: u32) -> Option<Rule>
     requires at { at < length code.now.insts.now }
+    requires op { IsOp (insts_of code.now) at target.is_branch }
     requires count { length entries.now ≡ length code.now.insts.now }
     requires entries { AreEntries (insts_of code.now) entries.now (length code.now.insts.now) }
-    ensures { (G : Table) → IsCode G code.now → IsOp (insts_of code.now) at target.is_branch → IsFirstAt G (insts_of code.now) at result }
+    ensures { (G : Table) → IsCode G code.now → IsFirstAt G (insts_of code.now) at result }
 {
-    if !has_labels(code, at) {
-        return Some(Rule::F1);
-    }
-    if leads_to_entry(code, entries, at) {
-        return Some(Rule::F2);
+    match targets_of(code, entries, at) {
+        Targets::Lacking => return Some(Rule::F1),
+        Targets::Entering => return Some(Rule::F2),
+        Targets::Sound => {}
     }
     if code.insts[at as usize].opcode == BRANCH_CONDITIONAL {
         if has_same_labels(code, at) {
@@ -47,6 +48,7 @@ fn branch_rule(code: &Code<'_, '_>, entries: &[bool], at: u32) -> Option<Rule>
 }
 
 /// The first rule that is broken at an instruction. No block is marked before, and where none is broken, none after.
+#[inline(always)]
 pub fn broken_at(
     code: &Code<'_, '_>,
     edges: &Edges,
@@ -57,7 +59,7 @@ pub fn broken_at(
     requires code { (G : Table) × IsCode G code.now }
     requires edges { IsEdges edges.now }
     requires count { length edges.now.heads.items ≡ length code.now.insts.now }
-    requires gathered { (G : Table) → IsCode G code.now → AreGathered G (insts_of code.now) edges.now (length code.now.insts.now) }
+    requires gathered { (G : Table) → IsCode G code.now → IsOp (insts_of code.now) at target.is_phi → AreGathered G (insts_of code.now) edges.now (length code.now.insts.now) }
     requires places { length entries.now ≡ length code.now.insts.now }
     requires entries { AreEntries (insts_of code.now) entries.now (length code.now.insts.now) }
     requires marks { length marks.old ≡ length code.now.insts.now }
@@ -67,6 +69,9 @@ pub fn broken_at(
     ensures rule { (G : Table) → IsCode G code.now → IsFirstAt G (insts_of code.now) at result }
 {
     let opcode = code.insts[at as usize].opcode;
+    if opcode < PHI {
+        return None;
+    }
     if opcode == PHI {
         if has_parents(code, edges, marks, at) {
             return None;

@@ -23,7 +23,7 @@ has_calls is n calls a f g h =
     let s = a.sound h.place h.call h.there in
     record { place = h.call.inst; call = call_moved is h.call.inst h.call.caller h.call.callee f g h.from h.to s.0.call }
 
-calls_has : (is : List PlainInst) (calls : List Call) → AreCalls is (length is) calls → (f g : ℕ) → Calls is f g → HasCall calls f g
+pub calls_has : (is : List PlainInst) (calls : List Call) → AreCalls is (length is) calls → (f g : ℕ) → Calls is f g → HasCall calls f g
 calls_has is calls a f g k =
     let r = a.complete k.place f g k.call.of.begun.within k.call in
     record { place = r.0; call = r.1; there = r.2; from = r.3; to = r.4 }

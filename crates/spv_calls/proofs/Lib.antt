@@ -6,4 +6,5 @@ pub mod Insts
 pub mod Placed
 pub mod Gathering
 pub mod Bridge
+pub mod Orders
 pub mod Worked

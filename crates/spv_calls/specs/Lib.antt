@@ -4,5 +4,6 @@ pub mod Broken
 pub mod Graph
 pub mod Marks
 pub mod Components
+pub mod Ordered
 pub mod Found
 pub mod Example

@@ -12,6 +12,7 @@ ghost use Rattle.spv_calls.specs.Broken.{Broken};
 
 use crate::cyclic::first_cyclic;
 use crate::gather::{calls_of, entries_of};
+use crate::ordered::are_ordered;
 use spv_ids::Ids;
 use spv_inst::Module;
 use spv_layout::Plan;
@@ -24,7 +25,7 @@ use std::alloc::{AllocError, Global};
 /// Calls in blocks that no branch leads to count. A call into a cycle from outside, and a cycle that no entry point leads
 /// to, break nothing.
 ///
-/// Time is linear in the words of the module, however many cycles there are.
+/// Time is linear in the words of the module, however many cycles there are. It takes no memory where the module has no call.
 ///
 /// An `AllocError` comes only where a growth of memory was refused.
 pub fn first_cycle(
@@ -42,6 +43,9 @@ pub fn first_cycle(
 {
     let insts = module.insts.as_slice();
     let calls = calls_of(alloc, insts, plan, ids)?;
+    if are_ordered(&calls) {
+        return Ok(None);
+    }
     let entries = entries_of(alloc, insts, ids)?;
     match first_cyclic(alloc, insts.len(), &calls, &entries)? {
         Some(first) => Ok(Some(calls[first].inst)),

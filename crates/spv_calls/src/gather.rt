@@ -79,6 +79,7 @@ fn is_definition(plan: &Plan, inst: u32) -> bool
 }
 
 /// The call that an instruction is.
+#[inline(always)]
 fn call_at(plan: &Plan, ids: &Ids, inst: &Inst<'_>, at: u32) -> Option<Call>
     ensures { (is : List PlainInst) → ArePlaces is plan.now → AreNumbered is ids.now → slice_get is at ≡ Some (plain_inst inst.now)
         → MatchOption result ((f g : ℕ) → ¬ (IsCall is at f g)) (IsThatCall is at) }

@@ -7,6 +7,7 @@ mod cyclic;
 mod gather;
 mod graph;
 pub mod laws;
+mod ordered;
 mod reach;
 
 pub use calls::first_cycle;

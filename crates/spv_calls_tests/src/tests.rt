@@ -228,3 +228,73 @@ fn longer_cycles(rt: HostRuntime) -> Result<(), Fail> {
     assert_eq!(rt; found, Some(7), "the first of the two calls of a cycle");
     Ok(())
 }
+
+/// %10 calls %30, which stands after it, and %30 calls %20, which stands before it. Or %20 calls %30 as well.
+#[test]
+fn calls_back_and_forth(rt: HostRuntime) -> Result<(), Fail> {
+    let call_third: &[u32] = &[0x0004_0039, 1, 12, 30];
+    let call_on: &[u32] = &[0x0004_0039, 1, 22, 30];
+    let call_back: &[u32] = &[0x0004_0039, 1, 32, 20];
+    let found = first_of(
+        rt.alloc(),
+        &[
+            MEMORY_MODEL,
+            ENTRY,
+            TYPES,
+            FIRST,
+            call_third,
+            RETURN,
+            END,
+            SECOND,
+            RETURN,
+            END,
+            THIRD,
+            call_back,
+            RETURN,
+            END,
+        ],
+    )?;
+    assert_eq!(rt; found, None, "no cycle");
+    let found = first_of(
+        rt.alloc(),
+        &[
+            MEMORY_MODEL,
+            ENTRY,
+            TYPES,
+            FIRST,
+            call_third,
+            RETURN,
+            END,
+            SECOND,
+            call_on,
+            RETURN,
+            END,
+            THIRD,
+            call_back,
+            RETURN,
+            END,
+        ],
+    )?;
+    assert_eq!(rt; found, Some(11), "not the call into the cycle from outside");
+    let found = first_of(
+        rt.alloc(),
+        &[
+            MEMORY_MODEL,
+            ENTRY,
+            TYPES,
+            SECOND,
+            RETURN,
+            END,
+            THIRD,
+            call_back,
+            RETURN,
+            END,
+            FIRST,
+            call_third,
+            RETURN,
+            END,
+        ],
+    )?;
+    assert_eq!(rt; found, None, "each call leads back in the module");
+    Ok(())
+}

@@ -1,2 +1,3 @@
+pub mod Functions
 pub mod Counts
 pub mod Refusals

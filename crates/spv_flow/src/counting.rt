@@ -10,6 +10,9 @@ ghost use Rattle.spv_flow.specs.Definitions.{HasDefinitions};
 use spv_inst::Module;
 use spv_layout::Plan;
 
+/// The opcode of OpFunction.
+const FUNCTION: u16 = 54;
+
 /// The number of section 11 among the sections.
 const DEFINITIONS: u8 = 13;
 
@@ -47,8 +50,10 @@ pub fn count_definitions(module: &Module<'_>, plan: &Plan) -> u32
 {
     let mut count = 0;
     for inst in 0..module.insts.len() as u32 {
-        if is_definition(plan, inst) {
-            count += 1;
+        if module.insts[inst as usize].opcode == FUNCTION {
+            if is_definition(plan, inst) {
+                count += 1;
+            }
         }
     }
     count

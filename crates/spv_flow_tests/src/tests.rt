@@ -8,7 +8,7 @@ use spv_layout::laws::word_counts;
 use spv_layout::lay_out;
 use spv_types::type_check;
 use spv_words::{FromRead, Image, read_image};
-use std::alloc::Global;
+use std::alloc::{AllocError, Global};
 use std::test::Fail;
 
 /// The instructions and kinds of the modules below.
@@ -28,6 +28,7 @@ const GRAMMAR: &str = r#"{
     {"opname": "OpFunctionCall", "opcode": 57, "operands": [{"kind": "IdResultType"}, {"kind": "IdResult"}, {"kind": "IdRef"},
       {"kind": "IdRef", "quantifier": "*"}]},
     {"opname": "OpLogicalNot", "opcode": 168, "operands": [{"kind": "IdResultType"}, {"kind": "IdResult"}, {"kind": "IdRef"}]},
+    {"opname": "OpPhi", "opcode": 245, "operands": [{"kind": "IdResultType"}, {"kind": "IdResult"}, {"kind": "PairIdRefIdRef", "quantifier": "*"}]},
     {"opname": "OpLabel", "opcode": 248, "operands": [{"kind": "IdResult"}]},
     {"opname": "OpBranch", "opcode": 249, "operands": [{"kind": "IdRef"}]},
     {"opname": "OpBranchConditional", "opcode": 250, "operands": [{"kind": "IdRef"}, {"kind": "IdRef"}, {"kind": "IdRef"},
@@ -44,7 +45,8 @@ const GRAMMAR: &str = r#"{
     {"category": "Literal", "kind": "LiteralString"},
     {"category": "Id", "kind": "IdResultType"},
     {"category": "Id", "kind": "IdResult"},
-    {"category": "Id", "kind": "IdRef"}
+    {"category": "Id", "kind": "IdRef"},
+    {"category": "Composite", "kind": "PairIdRefIdRef", "bases": ["IdRef", "IdRef"]}
   ]
 }"#;
 
@@ -147,6 +149,55 @@ const ENDLESS: &[u32] = &[
 /// The beginning of a third function: %30 = OpFunction %1 None %3, %31 = OpLabel
 const THIRD: &[u32] = &[0x0005_0036, 1, 30, 0, 3, 0x0002_00F8, 31];
 
+/// Two ways to a phi: OpBranchConditional %4 %7 %8, %7 = OpLabel, %9 = OpLogicalNot %2 %4, OpBranch %8, %8 = OpLabel,
+/// %10 = OpPhi %2 %4 %6 %9 %7
+const JOINED: &[u32] = &[
+    0x0004_00FA,
+    4,
+    7,
+    8,
+    0x0002_00F8,
+    7,
+    0x0004_00A8,
+    2,
+    9,
+    4,
+    0x0002_00F9,
+    8,
+    0x0002_00F8,
+    8,
+    0x0007_00F5,
+    2,
+    10,
+    4,
+    6,
+    9,
+    7,
+];
+
+/// %11 = OpFunctionCall %1 %30
+const CALL_THIRD: &[u32] = &[0x0004_0039, 1, 11, 30];
+
+/// %32 = OpFunctionCall %1 %20
+const CALL_BACK: &[u32] = &[0x0004_0039, 1, 32, 20];
+
+/// The second function with a call of the third: %22 = OpFunctionCall %1 %30
+const SECOND_CALLS: &[u32] = &[
+    0x0005_0036,
+    1,
+    20,
+    0,
+    3,
+    0x0002_00F8,
+    21,
+    0x0004_0039,
+    1,
+    22,
+    30,
+    0x0001_00FD,
+    0x0001_0038,
+];
+
 /// The image of a header and some instructions.
 fn image(alloc: Global, lines: &[&[u32]]) -> Result<Image, Fail> {
     let mut bytes = Vec::new(alloc);
@@ -180,7 +231,7 @@ fn found(alloc: Global, lines: &[&[u32]]) -> Result<Result<u32, (Rule, u32, u32)
     match flow_of(alloc, &table, &image) {
         Ok(flow) => Ok(Ok(flow.definitions())),
         Err(Stop::Fault(Fault { rule, inst, word })) => Ok(Err((rule, inst, word))),
-        Err(Stop::Memory) => Err(Fail::from("out of memory")),
+        Err(Stop::Memory) => Err(Fail::from(AllocError)),
     }
 }
 
@@ -218,5 +269,39 @@ fn order_of_stages(rt: HostRuntime) -> Result<(), Fail> {
         &[BEGINNING, ENTRY, CALL, END, ENDLESS, THIRD, MISSED, END],
     )?;
     assert_eq!(rt; value, Err((Rule::A1, 25, 73)));
+    Ok(())
+}
+
+/// A phi, a call of a later function, and one of an earlier one.
+#[test]
+fn phis_and_calls(rt: HostRuntime) -> Result<(), Fail> {
+    let three = found(
+        rt.alloc(),
+        &[
+            BEGINNING, ENTRY, JOINED, CALL_THIRD, END, SECOND, THIRD, CALL_BACK, END,
+        ],
+    )?;
+    assert_eq!(rt; three, Ok(3));
+    Ok(())
+}
+
+/// The second and the third function call one another, and the first calls the third, instruction 10: that is no call of
+/// the cycle.
+#[test]
+fn cycle_of_two(rt: HostRuntime) -> Result<(), Fail> {
+    let call = found(
+        rt.alloc(),
+        &[
+            BEGINNING,
+            ENTRY,
+            CALL_THIRD,
+            END,
+            SECOND_CALLS,
+            THIRD,
+            CALL_BACK,
+            END,
+        ],
+    )?;
+    assert_eq!(rt; call, Err((Rule::G1, 15, 46)));
     Ok(())
 }

@@ -5,6 +5,9 @@ use Rattle.spv_branches.specs.Code.{insts_of}
 use Rattle.spv_branches.proofs.Firsts.{broken_within, first_found}
 use Rattle.spv_branches.proofs.branches.first_fault.Goals as goal
 
+pub broken_at-requires-clause-gathered : goal.broken_at-requires-clause-gathered
+broken_at-requires-clause-gathered c = λ G is phi. c.in_ok-edges.ensures.gathered (c.in_ok-survey.ensures.phis c.loop-at.at (omega arith) phi) G is
+
 pub returns-in-Some : goal.returns-in-Some
 returns-in-Some c = λ G is.
     let h = c.in-Some.ensures.rule G is in

@@ -5,11 +5,19 @@ use Rattle.spv_inst.specs.declared.module.Inst.{Inst}
 use Rattle.spv_inst.specs.Module.{plain_inst, plain_operand}
 use Rattle.spv_layout.specs.declared.form.Role.TheVariants.{Label}
 use Rattle.spv_branches.specs.Code.{insts_of}
+use Rattle.spv_branches.specs.Labels.{is_labelled}
 use Rattle.std.proofs.lemmas.List.{length-map}
-use Rattle.spv_branches.proofs.Labelled.{inst_get, use_at, use_in}
+use Rattle.spv_branches.proofs.Labelled.{inst_get, op_tells, use_at, use_in}
 use Rattle.spv_branches.proofs.Taking.{taking_more, taking_other, taking_end, not_label, not_marked}
 use Rattle.spv_branches.proofs.faults.take_parents.Goals as goal
 use Rattle.spv_branches.proofs.faults.take_parents.Goals.{in-Some+in-Some-label_of+else-not-marks-parent, in_default}
+
+pub label-requires : goal.label-requires
+label-requires c =
+    let code = c.args.code.now in
+    let i : PlainInst = plain_inst (get_or code.insts.now c.args.at c.index-code-at.result) in
+    let there : slice_get (insts_of code) c.args.at ≡ Some i = inst_get code.insts.now c.args.at c.index-code-at.result c.requires.at in
+    op_tells (insts_of code) c.args.at i is_labelled there c.requires.op
 
 pub returns-in_default-label_of : goal.returns-in_default-label_of
 returns-in_default-label_of c = λ G is can.

@@ -5,10 +5,19 @@ use Rattle.spv_inst.specs.Operand.{PlainInst}
 use Rattle.spv_inst.specs.declared.module.Inst.{Inst}
 use Rattle.spv_inst.specs.Module.{plain_inst, plain_operand}
 use Rattle.spv_branches.specs.Code.{insts_of}
-use Rattle.spv_branches.proofs.Labelled.{inst_get}
+use Rattle.spv_branches.specs.Target.{is_branch}
+use Rattle.spv_branches.proofs.Places.{branch_labelled}
+use Rattle.spv_branches.proofs.Labelled.{inst_get, op_tells}
 use Rattle.spv_branches.proofs.Gathering.{adding_other, adding_none, adding_more, adding_end}
 use Rattle.spv_branches.proofs.gather.add_targets.Goals as goal
 use Rattle.spv_branches.proofs.gather.add_targets.Goals.{in-Some+in-Some-label_of+in_ok-add, in-Some+in_default-label_of, in_default}
+
+pub label-requires : goal.label-requires
+label-requires c =
+    let code = c.args.code.now in
+    let i : PlainInst = plain_inst (get_or code.insts.now c.args.at c.index-code-at.result) in
+    let there : slice_get (insts_of code) c.args.at ≡ Some i = inst_get code.insts.now c.args.at c.index-code-at.result c.requires.at in
+    branch_labelled i.opcode (op_tells (insts_of code) c.args.at i is_branch there c.requires.op)
 
 pub loop-n-preserved : goal.loop-n-preserved
 loop-n-preserved c =
@@ -30,4 +39,4 @@ returns-clause-adds c =
     let i : PlainInst = plain_inst inst in
     let there : slice_get (insts_of code) c.args.at ≡ Some i = inst_get code.insts.now c.args.at c.index-code-at.result c.requires.at in
     let all : length i.operands ≤ c.loop-n.n = omega (arith, length-map inst.operands plain_operand, ap length c.as_slice-n-end.ensures.value) in
-    λ G is branch of. adding_end code c.args.edges.now c.loop-n.edges c.args.at c.args.block c.loop-n.n i there all c.loop-n.invariant G is branch of
+    λ G is of. adding_end code c.args.edges.now c.loop-n.edges c.args.at c.args.block c.loop-n.n i there all c.loop-n.invariant G is c.requires.op of

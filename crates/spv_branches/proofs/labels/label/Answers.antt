@@ -1,9 +1,10 @@
+use Rattle.std.proofs.Common.{◌∙◌, sym}
 use Rattle.spv_inst.specs.Module.{plain_inst}
-use Rattle.spv_branches.proofs.Labelled.{label_some, label_other}
+use Rattle.spv_branches.proofs.Places.{label_told, no_label_told}
 use Rattle.spv_branches.proofs.labels.label.Goals as goal
 
-pub returns-in-Label : goal.returns-in-Label
-returns-in-Label c = λ G f. label_some G (plain_inst c.args.inst.now) c.args.n c.id_at.result c.id_at.ensures (rw c.in-Label.is at (c.in-Some.ensures G f))
+pub returns-then-is_label_at : goal.returns-then-is_label_at
+returns-then-is_label_at c = λ G f. label_told G (plain_inst c.args.inst.now) c.args.n c.id_at.result c.requires (sym c.is_label_at.ensures ∙ c.if-is_label_at.true) c.id_at.ensures f
 
-pub returns-in_default : goal.returns-in_default
-returns-in_default c = λ G f x u. label_other G (plain_inst c.args.inst.now) c.args.n c.in-Some.found x (c.in-Some.ensures G f) c.in_default.not-Label u
+pub returns-else-is_label_at : goal.returns-else-is_label_at
+returns-else-is_label_at c = λ G f x. no_label_told G (plain_inst c.args.inst.now) c.args.n x c.requires (sym c.is_label_at.ensures ∙ c.if-is_label_at.false) f

@@ -1,13 +1,51 @@
-use Rattle.std.proofs.Common.{◌≡◌, ◌∙◌, Some, get_or, sym, ap}
+use Rattle.std.proofs.Common.{◌≡◌, ◌<◌, ◌∙◌, Some, get_or, sym, ap}
 use Rattle.std.specs.Prelude.{slice_get}
 use Rattle.std.proofs.lemmas.Bool.{eqb-true, both_ways}
 use Rattle.spv_inst.specs.Operand.{PlainInst}
 use Rattle.spv_inst.specs.Module.{plain_inst}
 use Rattle.spv_branches.specs.Code.{insts_of}
+use Rattle.spv_branches.specs.Labels.{is_labelled}
 use Rattle.spv_branches.specs.Target.{is_phi, is_merge, is_branch}
 use Rattle.spv_branches.proofs.Labelled.{inst_get, op_holds, op_tells}
-use Rattle.spv_branches.proofs.Firsts.{phi_broken, phi_fine, at_other}
+use Rattle.spv_branches.proofs.Firsts.{phi_broken, phi_fine, at_other, low_phi, low_merge, low_branch}
 use Rattle.spv_branches.proofs.rules.broken_at.Goals as goal
+
+pub has_parents-requires-clause-op : goal.has_parents-requires-clause-op
+has_parents-requires-clause-op c =
+    let code = c.args.code.now in
+    let i : PlainInst = plain_inst (get_or code.insts.now c.args.at c.index-code-at.result) in
+    let there : slice_get (insts_of code) c.args.at ≡ Some i = inst_get code.insts.now c.args.at c.index-code-at.result c.requires.at in
+    op_holds (insts_of code) c.args.at i is_labelled there (ap is_labelled c.if-opcode-eq-PHI.true)
+
+pub has_parents-requires-clause-gathered : goal.has_parents-requires-clause-gathered
+has_parents-requires-clause-gathered c = λ G is.
+    let code = c.args.code.now in
+    let i : PlainInst = plain_inst (get_or code.insts.now c.args.at c.index-code-at.result) in
+    let there : slice_get (insts_of code) c.args.at ≡ Some i = inst_get code.insts.now c.args.at c.index-code-at.result c.requires.at in
+    c.requires.gathered G is (op_holds (insts_of code) c.args.at i is_phi there (ap is_phi c.if-opcode-eq-PHI.true))
+
+pub merge_rule-requires-clause-op : goal.merge_rule-requires-clause-op
+merge_rule-requires-clause-op c =
+    let code = c.args.code.now in
+    let i : PlainInst = plain_inst (get_or code.insts.now c.args.at c.index-code-at.result) in
+    let there : slice_get (insts_of code) c.args.at ≡ Some i = inst_get code.insts.now c.args.at c.index-code-at.result c.requires.at in
+    op_holds (insts_of code) c.args.at i is_merge there (sym c.is_merge.ensures ∙ c.if-is_merge.true)
+
+pub branch_rule-requires-clause-op : goal.branch_rule-requires-clause-op
+branch_rule-requires-clause-op c =
+    let code = c.args.code.now in
+    let i : PlainInst = plain_inst (get_or code.insts.now c.args.at c.index-code-at.result) in
+    let there : slice_get (insts_of code) c.args.at ≡ Some i = inst_get code.insts.now c.args.at c.index-code-at.result c.requires.at in
+    op_holds (insts_of code) c.args.at i is_branch there (sym c.is_branch.ensures ∙ c.if-is_branch.true)
+
+pub returns-then-opcode-lt-PHI-clause-rule : goal.returns-then-opcode-lt-PHI-clause-rule
+returns-then-opcode-lt-PHI-clause-rule c = λ G is q s b.
+    let code = c.args.code.now in
+    let i : PlainInst = plain_inst (get_or code.insts.now c.args.at c.index-code-at.result) in
+    let there : slice_get (insts_of code) c.args.at ≡ Some i = inst_get code.insts.now c.args.at c.index-code-at.result c.requires.at in
+    let low : i.opcode < 245 = c.if-opcode-lt-PHI.true in
+    at_other G (insts_of code) q c.args.at (λ o. low_phi i.opcode low (op_tells (insts_of code) c.args.at i is_phi there o))
+    (λ o. low_merge i.opcode low (op_tells (insts_of code) c.args.at i is_merge there o)) (λ o. low_branch i.opcode low (op_tells (insts_of code) c.args.at i is_branch there o)) s b
 
 pub returns-then-has_parents-clause-rule : goal.returns-then-has_parents-clause-rule
 returns-then-has_parents-clause-rule c = λ G is.
@@ -22,20 +60,6 @@ returns-then-opcode-eq-PHI-clause-rule c = λ G is.
     let i : PlainInst = plain_inst (get_or code.insts.now c.args.at c.index-code-at.result) in
     let there : slice_get (insts_of code) c.args.at ≡ Some i = inst_get code.insts.now c.args.at c.index-code-at.result c.requires.at in
     phi_broken G (insts_of code) c.args.at (op_holds (insts_of code) c.args.at i is_phi there (ap is_phi c.if-opcode-eq-PHI.true)) (c.if-has_parents.ensures.parents G is)
-
-pub returns-then-is_merge-clause-rule : goal.returns-then-is_merge-clause-rule
-returns-then-is_merge-clause-rule c = λ G is.
-    let code = c.args.code.now in
-    let i : PlainInst = plain_inst (get_or code.insts.now c.args.at c.index-code-at.result) in
-    let there : slice_get (insts_of code) c.args.at ≡ Some i = inst_get code.insts.now c.args.at c.index-code-at.result c.requires.at in
-    c.merge_rule.ensures G is (op_holds (insts_of code) c.args.at i is_merge there (sym c.is_merge.ensures ∙ c.if-is_merge.true))
-
-pub returns-then-is_branch-clause-rule : goal.returns-then-is_branch-clause-rule
-returns-then-is_branch-clause-rule c = λ G is.
-    let code = c.args.code.now in
-    let i : PlainInst = plain_inst (get_or code.insts.now c.args.at c.index-code-at.result) in
-    let there : slice_get (insts_of code) c.args.at ≡ Some i = inst_get code.insts.now c.args.at c.index-code-at.result c.requires.at in
-    c.branch_rule.ensures G is (op_holds (insts_of code) c.args.at i is_branch there (sym c.is_branch.ensures ∙ c.if-is_branch.true))
 
 pub returns-clause-rule : goal.returns-clause-rule
 returns-clause-rule c = λ G is q s b.

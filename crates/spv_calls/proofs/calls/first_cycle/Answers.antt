@@ -9,6 +9,7 @@ use Rattle.spv_calls.specs.Graph.{IsFirstCyclic}
 use Rattle.spv_calls.specs.Found.{ArePlaces, AreNumbered}
 use Rattle.spv_calls.proofs.Lists.{found}
 use Rattle.spv_calls.proofs.Bridge.{calls_within, entries_below, none_broken, first_told}
+use Rattle.spv_calls.proofs.Orders.{acyclic_unbroken}
 use Rattle.spv_calls.proofs.calls.first_cycle.Goals as goal
 
 pub calls_of-requires-clause-few : goal.calls_of-requires-clause-few
@@ -39,17 +40,24 @@ entries_of-requires c =
 pub first_cyclic-requires-clause-within : goal.first_cyclic-requires-clause-within
 first_cyclic-requires-clause-within c =
     let xs = c.as_slice-insts.result.now in
-    rw (c.deref.ensures.value, ← length-map xs plain_inst) (calls_within (map plain_inst xs) (length xs) c.in_ok-calls.calls.items c.in_ok-calls.ensures)
+    rw (c.deref-2.ensures.value, ← length-map xs plain_inst) (calls_within (map plain_inst xs) (length xs) c.in_ok-calls.calls.items c.in_ok-calls.ensures)
 
 pub first_cyclic-requires-clause-starts : goal.first_cyclic-requires-clause-starts
 first_cyclic-requires-clause-starts c =
     let xs = c.as_slice-insts.result.now in
-    rw (c.deref-2.ensures.value, ← length-map xs plain_inst) (entries_below (map plain_inst xs) (length xs) c.in_ok-entries.entries.items c.in_ok-entries.ensures)
+    rw (c.deref-3.ensures.value, ← length-map xs plain_inst) (entries_below (map plain_inst xs) (length xs) c.in_ok-entries.entries.items c.in_ok-entries.ensures)
+
+pub returns-then-are_ordered-clause-none : goal.returns-then-are_ordered-clause-none
+returns-then-are_ordered-clause-none c =
+    let xs = c.as_slice-insts.result.now in
+    let y = rw c.deref.ensures.value at (c.are_ordered.ensures c.if-are_ordered.true) in
+    let a = rw (← length-map xs plain_inst) at c.in_ok-calls.ensures in
+    rw (← c.as_slice-insts.ensures.value) (acyclic_unbroken (map plain_inst xs) c.in_ok-calls.calls.items a y)
 
 pub index-requires : goal.index-requires
 index-requires c =
     let calls = c.in_ok-calls.calls.items in
-    let f : IsFirstCyclic calls c.in_ok-entries.entries.items c.in-Some.first = rw (c.in-Some.is, c.deref.ensures.value, c.deref-2.ensures.value) at c.in_ok-first.ensures in
+    let f : IsFirstCyclic calls c.in_ok-entries.entries.items c.in-Some.first = rw (c.in-Some.is, c.deref-2.ensures.value, c.deref-3.ensures.value) at c.in_ok-first.ensures in
     let w = slice_get_within calls c.in-Some.first f.cyclic.call f.cyclic.there in
     let v = c.in_ok-calls.calls.ok.0 in
     omega arith
@@ -59,7 +67,7 @@ returns-in-Some-clause-first c =
     let xs = c.as_slice-insts.result.now in
     let is = map plain_inst xs in
     let calls = c.in_ok-calls.calls.items in
-    let f : IsFirstCyclic calls c.in_ok-entries.entries.items c.in-Some.first = rw (c.in-Some.is, c.deref.ensures.value, c.deref-2.ensures.value) at c.in_ok-first.ensures in
+    let f : IsFirstCyclic calls c.in_ok-entries.entries.items c.in-Some.first = rw (c.in-Some.is, c.deref-2.ensures.value, c.deref-3.ensures.value) at c.in_ok-first.ensures in
     let w = slice_get_within calls c.in-Some.first f.cyclic.call f.cyclic.there in
     let a = rw (← length-map xs plain_inst) at c.in_ok-calls.ensures in
     let b = rw (← length-map xs plain_inst) at c.in_ok-entries.ensures in
@@ -70,7 +78,7 @@ pub returns-clause-none : goal.returns-clause-none
 returns-clause-none c =
     let xs = c.as_slice-insts.result.now in
     let is = map plain_inst xs in
-    let n = rw (c.in-None.is, c.deref.ensures.value, c.deref-2.ensures.value) at c.in_ok-first.ensures in
+    let n = rw (c.in-None.is, c.deref-2.ensures.value, c.deref-3.ensures.value) at c.in_ok-first.ensures in
     let a = rw (← length-map xs plain_inst) at c.in_ok-calls.ensures in
     let b = rw (← length-map xs plain_inst) at c.in_ok-entries.ensures in
     rw (← c.as_slice-insts.ensures.value) (none_broken is c.in_ok-calls.calls.items c.in_ok-entries.entries.items a b n)
