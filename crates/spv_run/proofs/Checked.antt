@@ -1,5 +1,5 @@
 -- What a verdict says of a list of instructions, as far as a run rests on it: each field is (a part of) a rule.
-use Rattle.std.specs.Prelude.{◌≡◌, ℕ, suc, List, [], ◌∷◌, map, Some, Contains, slice_get}
+use Rattle.std.specs.Prelude.{◌≡◌, ℕ, List, [], ◌∷◌, map, Some, Contains, slice_get}
 use Rattle.spv_grammar.specs.Table.{Table}
 use Rattle.spv_inst.specs.Operand.{PlainInst, Id, type_in}
 use Rattle.spv_inst.specs.Width.{type_of}
@@ -10,9 +10,9 @@ use Rattle.spv_type_rules.specs.Function.{signature_of}
 use Rattle.spv_branches.specs.Ready.{IsLocalValue}
 use Rattle.spv_calls.specs.Chain.{Chain}
 use Rattle.spv_calls.specs.Calls.{Calls, IsEntryFunction}
-use Rattle.spv_run.specs.Act.{Act, Function, act_of}
+use Rattle.spv_run.specs.Act.{Act, act_of}
 use Rattle.spv_run.specs.At.{act_at, targets}
-use Rattle.spv_run.specs.Head.{Binding, Head, IsDefined}
+use Rattle.spv_run.specs.Head.{Binding, IsDefined}
 use Rattle.spv_run.proofs.Place.{IsOf, IsLabel}
 use Rattle.spv_run.proofs.Fit.{AllFit, HasOneDefinition}
 use Rattle.spv_run.proofs.LaidOut.{IsLaidOut}

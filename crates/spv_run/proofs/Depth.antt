@@ -5,7 +5,7 @@ use Rattle.spv_grammar.specs.Table.{Table}
 use Rattle.spv_inst.specs.Operand.{PlainInst, Id}
 use Rattle.spv_run.specs.State.{Frame}
 use Rattle.spv_calls.specs.Chain.{Chain}
-use Rattle.spv_calls.specs.Calls.{function_call, IsCall, Calls, IsEntryFunction}
+use Rattle.spv_calls.specs.Calls.{function_call, Calls, IsEntryFunction}
 use Rattle.spv_layout.specs.Place.{IsDefinition}
 use Rattle.spv_run.specs.Act.{Act, act_of}
 use Rattle.spv_run.specs.Act as act

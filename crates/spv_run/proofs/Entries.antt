@@ -1,6 +1,6 @@
 -- The functions of entry points.
-use Rattle.std.proofs.Common.{◌≡◌, ◌≢◌, ◌∙◌, ◌<◌, ◌≤◌, ◌+◌, inl, inr, ℕ, List, Option, Some, None, true, false, IsTrue, nat_eq, if◌then◌else◌, refl, sym, ap, subst, arith, length, slice_get}
-use Rattle.std.proofs.lemmas.Bool.{cases_Bool, cases_lt, eqb-true, eq-eqb}
+use Rattle.std.proofs.Common.{◌≡◌, ◌∙◌, ◌<◌, ◌≤◌, ◌+◌, inl, inr, ℕ, List, Option, Some, None, nat_eq, refl, sym, ap, arith, length, slice_get}
+use Rattle.std.proofs.lemmas.Bool.{cases_Bool, cases_lt, eqb-true}
 use Rattle.std.proofs.lemmas.Option.{same_Some, none-some, slice_get_within}
 use Rattle.spv_grammar.specs.Table.{Table}
 use Rattle.spv_inst.specs.Operand.{Plain, PlainInst}
@@ -14,7 +14,9 @@ use Rattle.spv_run.specs.Run.{IsStart, Run}
 use Rattle.spv_run.specs.Sound.{IsSound}
 use Rattle.spv_run.specs.Trace.{ending_of}
 use Rattle.spv_run.specs.declared.parts.Trace.{Trace}
+use Rattle.spv_inst.specs.declared.fault.Rule.TheVariants as rule
 use Rattle.spv_run.proofs.Sound.{checked}
+use Rattle.spv_run.proofs.Typing.{entry_of}
 use Rattle.spv_run.proofs.Theorem.{never_gets_stuck}
 
 -- no OpEntryPoint before instruction n names the id
@@ -68,6 +70,12 @@ none_at_all is n x l before e = let w = slice_get_within is e.place e.inst e.the
 -- the definition of an entry point's id is an entry point's function
 pub entry_function : (is : List PlainInst) (x g : ℕ) → IsEntryId is x → IsDefinedAt is x g → IsEntryFunction is g
 entry_function is x g e d = record { place = e.place; inst = e.inst; there = e.there; opcode = e.opcode; id = x; named = e.named; function = d }
+
+-- and it has one
+pub entry_defined : (G : Table) (bound : ℕ) (is : List PlainInst) (x : ℕ) → IsSound G bound is → IsEntryId is x → (g : ℕ) × IsDefinedAt is x g
+entry_defined G bound is x sound e =
+    let k = entry_of is e.inst.operands x e.named ((sound.capabilities rule.E2 e.place e.inst e.there).entry e.opcode) in
+    (k.function, k.defined)
 
 pub of_run : (G : Table) (bound : ℕ) (is : List PlainInst) (g : ℕ) (choices : List ℕ) (limit : ℕ) (s : State) (t : Trace) → IsSound G bound is → IsEntryFunction is g → IsStart is g choices s
     → Run G is limit s t.steps.items (ending_of t.ending) → IsOfRun G is limit s t

@@ -1,5 +1,5 @@
 -- A list whose instructions fit their rows, and which is in the layout, is laid out in functions and blocks.
-use Rattle.std.proofs.Common.{◌≡◌, ◌≢◌, ◌∙◌, ◌≤◌, ◌<◌, ◌+◌, ◌⊎◌, inl, inr, ℕ, zero, suc, List, [], ◌∷◌, Bool, true, false, not, ◌&&◌, ◌||◌, IsTrue, Option, Some, None, refl, sym, ap, subst, arith, length}
+use Rattle.std.proofs.Common.{◌≡◌, ◌≢◌, ◌∙◌, ◌≤◌, ◌<◌, ◌+◌, ◌⊎◌, inl, inr, ℕ, zero, suc, List, [], ◌∷◌, Bool, true, false, not, ◌&&◌, ◌||◌, IsTrue, Some, None, refl, sym, ap, subst, arith, length}
 use Rattle.std.specs.Prelude.{slice_get}
 use Rattle.std.proofs.lemmas.Bool.{cases_Bool, cases_order}
 use Rattle.std.proofs.lemmas.Option.{slice_get_within}
@@ -10,8 +10,6 @@ use Rattle.spv_layout.specs.declared.state.State.{State}
 use Rattle.spv_layout.specs.declared.state.State.TheVariants as at
 use Rattle.spv_layout.specs.Rows.{class_of}
 use Rattle.spv_layout.specs.Layout.{IsLayout, classes}
-use Rattle.spv_layout.specs.Shape.{Fits}
-use Rattle.spv_layout.specs.State.{next_of}
 use Rattle.spv_layout.proofs.Derivatives.{both_hold}
 use Rattle.spv_run.specs.Act.{Act, Pair, Function, Parameter, FunctionEnd, Label, Phi, Other, act_of}
 use Rattle.spv_run.specs.At.{act_at, result_at, type_at, goes_on, in_block}
@@ -22,8 +20,8 @@ use Rattle.spv_run.proofs.Fit.{AllFit}
 use Rattle.spv_run.proofs.Basics.{act_here, act_back, act_from, act_same, result_here, type_here}
 use Rattle.spv_run.proofs.Places.{of_next, in_next, below_cases}
 use Rattle.spv_run.proofs.Shapes.{View, view}
-use Rattle.spv_run.proofs.Classes.{Tests, tests, act_function, act_end, act_label, act_phi, line_result, end_result}
-use Rattle.spv_run.proofs.Passing.{Passes, Moved, moved, one_state, goes_further, within, Fine, fine_move, implies, in_head, in_function, in_a_block, in_entry, a_function, an_end, a_label, a_phi, of_head, a_terminator, of_block}
+use Rattle.spv_run.proofs.Classes.{Tests, tests, act_function, act_end, act_label, line_result, end_result}
+use Rattle.spv_run.proofs.Passing.{Passes, moved, one_state, goes_further, within, fine_move, implies, in_head, in_function, in_a_block, in_entry, a_function, an_end, a_label, a_phi, of_head, a_terminator, of_block}
 
 pub implied : (a b : Bool) → implies a b ≡ true → a ≡ true → b ≡ true
 implied true b h e = h

@@ -1,29 +1,24 @@
 -- What the code finds of instructions tells what they do to a run.
-use Rattle.std.proofs.Common.{◌≡◌, ◌≢◌, ◌∙◌, ◌≤◌, ◌<◌, ◌+◌, ◌-◌, ◌++◌, append-nil, ◌⊎◌, inl, inr, ℕ, zero, suc, List, [], ◌∷◌, map, Option, Some, None, refl, sym, ap, subst, arith, length, take, drop, Contains, Bool, true, false, Vec, Global, get_or, option_map, Result, Ok, Err}
+use Rattle.std.proofs.Common.{◌≡◌, ◌≢◌, ◌∙◌, ◌≤◌, ◌<◌, ◌+◌, ◌*◌, ◌++◌, ◌⊎◌, inl, inr, ℕ, zero, suc, List, [], ◌∷◌, Option, Some, None, refl, sym, ap, subst, arith, length, Contains, true, Result, Ok, Err}
 use Rattle.std.specs.Prelude.{slice_get, IfOk}
-use Rattle.std.specs.List.{AllZip}
 use Rattle.std.proofs.lemmas.Bool.{cases_eq, cases_lt}
-use Rattle.std.proofs.lemmas.Option.{none-some, same_Some, slice_get_within, slice_get-map, slice_get-get_or}
+use Rattle.std.proofs.lemmas.Option.{none-some, same_Some, slice_get_within}
 use Rattle.spv_grammar.specs.Table.{Table}
 use Rattle.spv_inst.specs.Operand.{Plain, PlainInst}
 use Rattle.spv_inst.specs.Operand as operand
-use Rattle.spv_inst.specs.declared.operand.Operand.{Operand as CodeOperand}
-use Rattle.spv_inst.specs.declared.operand.Operand.TheVariants as code
-use Rattle.spv_inst.specs.Module.{plain_operand, plain_operands}
 use Rattle.spv_ids.specs.declared.ids.Ids.{Ids}
 use Rattle.spv_ids.specs.Definition.{IsDefinedAt}
-use Rattle.spv_ids.specs.Outcome.{IsOnly, IsDefinitionOf, definition_in}
+use Rattle.spv_ids.specs.Outcome.{IsDefinitionOf, definition_in}
 use Rattle.spv_branches.specs.Target.{IsLabelOf}
 use Rattle.spv_calls.specs.Found.{id_in, AreNumbered}
-use Rattle.spv_run.specs.Act.{Act, Function, Parameter, FunctionEnd, Label, Branch, Choose, Call, Return, ReturnValue, Other, act_of, labels_in}
-use Rattle.spv_run.specs.Act as act
-use Rattle.spv_run.specs.declared.parts.Move.TheVariants as move
-use Rattle.spv_run.specs.Trace.{Tells, AreMoves}
-use Rattle.spv_run.specs.At.{act_at, result_at, targets}
-use Rattle.spv_run.specs.Head.{Binding, Head, end, parameter, line, IsDefined, IsDeclared}
+use Rattle.spv_run.specs.Act.{Act, Function, Parameter, FunctionEnd, Label, Branch, Choose, Call, Other, act_of, labels_in}
+use Rattle.spv_run.specs.declared.moves.Move.TheVariants as move
+use Rattle.spv_run.specs.Trace.{Tells}
+use Rattle.spv_run.specs.At.{act_at, targets}
+use Rattle.spv_run.specs.Head.{Binding, Head, IsDefined, IsDeclared}
 use Rattle.spv_run.specs.Sound.{IsSound}
-use Rattle.spv_run.specs.Moves.{IsEntry, IsHead, HaveEntries, HaveEntriesBefore, ArePlacesOf, AreMovesBefore}
-use Rattle.spv_run.proofs.Basics.{act_here, act_back, act_from, act_same, contains_here, contains_later}
+use Rattle.spv_run.specs.Bodies.{IsEntry, IsHead, HaveEntries, HaveEntriesBefore}
+use Rattle.spv_run.proofs.Basics.{act_back, act_from, act_same, contains_here, contains_at}
 use Rattle.spv_run.specs.State.{State}
 use Rattle.spv_run.specs.Run.{IsStart}
 use Rattle.spv_run.proofs.Once.{head_once, label_ends}
@@ -34,12 +29,14 @@ use Rattle.spv_run.proofs.Typing.{call_typed}
 use Rattle.spv_inst.specs.declared.fault.Rule.TheVariants as rule
 use Rattle.spv_layout.specs.declared.form.Form.{Form}
 use Rattle.spv_layout.specs.declared.form.Form.TheVariants as form
-use Rattle.spv_layout.specs.Row.{repeated, W}
-use Rattle.spv_layout.specs.Shape.{is_of, AreOf, Ends}
+use Rattle.spv_layout.specs.Row.{repeated}
+use Rattle.spv_layout.specs.Row as row
+use Rattle.spv_layout.specs.Shape.{is_of, AreOf, Ends, Fits}
+use Rattle.spv_layout.specs.declared.form.Role.TheVariants as role
 use Rattle.spv_ops.specs.Operands.{ids_in}
-use Rattle.spv_run.specs.declared.parts.Move.{Move}
+use Rattle.spv_run.specs.declared.moves.Move.{Move}
 use Rattle.spv_run.proofs.Laid.{laid_out}
-use Rattle.spv_run.proofs.Shapes.{View, view, is_other, none}
+use Rattle.spv_run.proofs.Shapes.{View, view, an_id, is_other, none}
 use Rattle.spv_run.proofs.Shapes.{take as take_form}
 use Rattle.spv_run.proofs.Standing.{label_act, label_to, defined_at, result_of}
 
@@ -206,75 +203,6 @@ head_next is g n i head at no_label no_end = record {
   over = λ k j a b e. elim (cases_lt k n) [ inl less ↦ head.over k j a less e | inr more ↦ (let same : k ≡ n = omega (arith, b, more) in let inst : j ≡ i = same_Some j i (sym e ∙ (ap (slice_get is) same ∙ at)) in λ op. no_end (ap (λ (q : PlainInst). q.opcode) (sym inst) ∙ op)) ];
 }
 
--- Targets.
-
-labels-append : (xs ys : List Plain) → labels_in (xs ++ ys) ≡ labels_in xs ++ labels_in ys
-labels-append [] ys = refl
-labels-append (operand.Id x ∷ xs) ys = ap (λ zs. x ∷ zs) (labels-append xs ys)
-labels-append (operand.OfType x ∷ xs) ys = labels-append xs ys
-labels-append (operand.Result x ∷ xs) ys = labels-append xs ys
-labels-append (operand.Word x ∷ xs) ys = labels-append xs ys
-labels-append (operand.Number a b w ∷ xs) ys = labels-append xs ys
-labels-append (operand.Text t ∷ xs) ys = labels-append xs ys
-labels-append (operand.Value k x ∷ xs) ys = labels-append xs ys
-labels-append (operand.Mask k x ∷ xs) ys = labels-append xs ys
-
-zip-append : (is : List PlainInst) (xs ns : List ℕ) (x n : ℕ) → ArePlacesOf is xs ns → ((m : ℕ) → IsDefinedAt is x m → n ≡ m) → ArePlacesOf is (xs ++ (x ∷ [])) (ns ++ (n ∷ []))
-zip-append is [] [] x n z h = (h, tt)
-zip-append is [] (k ∷ ns) x n z h = absurd z
-zip-append is (y ∷ xs) [] x n z h = absurd z
-zip-append is (y ∷ xs) (k ∷ ns) x n z h = (z.0, zip-append is xs ns x n z.1 h)
-
-take_next : (os : List Plain) (k : ℕ) (o : Plain) → slice_get os k ≡ Some o → take (suc k) os ≡ take k os ++ (o ∷ [])
-take_next [] k o h = absurd (none-some o h)
-take_next (p ∷ os) zero o h = ap (λ q. q ∷ []) (same_Some p o h)
-take_next (p ∷ os) (suc k) o h = ap (λ qs. p ∷ qs) (take_next os k o h)
-
-get_rest : (os : List Plain) (k : ℕ) → slice_get (drop 1 os) k ≡ slice_get os (suc k)
-get_rest [] k = refl
-get_rest (o ∷ os) k = refl
-
--- of the operands after the first, those before a place
-abbrev pub targets_before : List Plain → ℕ → List ℕ
-targets_before os k = labels_in (take (k - 1) (drop 1 os))
-
-before_next : (os : List Plain) (k : ℕ) (o : Plain) → 1 ≤ k → slice_get os k ≡ Some o → targets_before os (k + 1) ≡ targets_before os k ++ labels_in (o ∷ [])
-before_next os k o l h =
-    let low : k ≡ suc (k - 1) = omega (arith, l) in
-    let high : k + 1 - 1 ≡ suc (k - 1) = omega (arith, l) in
-    let there : slice_get (drop 1 os) (k - 1) ≡ Some o = get_rest os (k - 1) ∙ (ap (slice_get os) (sym low) ∙ h) in
-    ap (λ n. labels_in (take n (drop 1 os))) high ∙ (ap labels_in (take_next (drop 1 os) (k - 1) o there) ∙ labels-append (take (k - 1) (drop 1 os)) (o ∷ []))
-
-pub target_more : (is : List PlainInst) (os : List Plain) (k x n : ℕ) (ns : List ℕ) → 1 ≤ k → slice_get os k ≡ Some (operand.Id x) → ArePlacesOf is (targets_before os k) ns → ((m : ℕ) → IsDefinedAt is x m → n ≡ m)
-    → ArePlacesOf is (targets_before os (k + 1)) (ns ++ (n ∷ []))
-target_more is os k x n ns l h z d = subst (λ xs. ArePlacesOf is xs (ns ++ (n ∷ []))) (sym (before_next os k (operand.Id x) l h)) (zip-append is (targets_before os k) ns x n z d)
-
-pub target_none : (is : List PlainInst) (os : List Plain) (k : ℕ) (o : Plain) (ns : List ℕ) → 1 ≤ k → slice_get os k ≡ Some o → labels_in (o ∷ []) ≡ [] → ArePlacesOf is (targets_before os k) ns
-    → ArePlacesOf is (targets_before os (k + 1)) ns
-target_none is os k o ns l h e z =
-    let same : targets_before os (k + 1) ≡ targets_before os k = before_next os k o l h ∙ (ap (λ xs. targets_before os k ++ xs) e ∙ append-nil (targets_before os k)) in
-    subst (λ xs. ArePlacesOf is xs ns) (sym same) z
-
-take_all : (os : List Plain) (n : ℕ) → length os ≤ n → take n os ≡ os
-take_all [] zero l = refl
-take_all [] (suc n) l = refl
-take_all (o ∷ os) zero l = absurd (omega (arith, l))
-take_all (o ∷ os) (suc n) l = ap (λ ps. o ∷ ps) (take_all os n (omega (arith, l)))
-
-drop_short : (os : List Plain) → length (drop 1 os) ≤ length os - 1
-drop_short [] = omega arith
-drop_short (o ∷ os) = omega arith
-
-pub targets_all : (is : List PlainInst) (os : List Plain) (k : ℕ) (ns : List ℕ) → length os ≤ k → ArePlacesOf is (targets_before os k) ns → ArePlacesOf is (labels_in (drop 1 os)) ns
-targets_all is os k ns l z =
-    let s = drop_short os in
-    subst (λ ps. ArePlacesOf is (labels_in ps) ns) (take_all (drop 1 os) (k - 1) (omega (arith, l, s))) z
-
-pub targets_none : (is : List PlainInst) (os : List Plain) (k : ℕ) → k ≤ 1 → ArePlacesOf is (targets_before os k) []
-targets_none is os k l =
-    let e : k - 1 ≡ 0 = omega (arith, l) in
-    subst (λ n. ArePlacesOf is (labels_in (take n (drop 1 os))) []) (sym e) tt
-
 -- What instructions of an opcode tell.
 
 branch_view : (G : Table) (is : List PlainInst) (i : PlainInst) (a : Act) → View G i a → i.opcode ≡ 249 → (x : ℕ) × (a ≡ Branch x) × (i.operands ≡ operand.Id x ∷ [])
@@ -372,62 +300,150 @@ no_entry_tells is g _ x xs (IsEntry.declared e bs d) z f = (g, e, bs, f, d)
 
 -- choices
 
-labels_none : (G : Table) (gs : List Form) (os : List Plain) → Ends (repeated (W ∷ [])) gs → AreOf G gs os → labels_in os ≡ []
-labels_none G _ os (Ends.done _) a = ap labels_in (none G os a)
-labels_none G _ os (Ends.again _ gs en) a =
-    let one = take_form G W gs os a in
-    let w = a_word one.head one.fits in
-    ap labels_in (one.same ∙ ap (λ o. o ∷ one.tail) w.1) ∙ labels_none G gs one.tail en one.rest
-  where
-    a_word : (o : Plain) → is_of G form.Word o ≡ true → (x : ℕ) × (o ≡ operand.Word x)
-    a_word (operand.OfType a) h = cc
-    a_word (operand.Result a) h = cc
-    a_word (operand.Id a) h = cc
-    a_word (operand.Word a) h = (a, refl)
-    a_word (operand.Number a b w) h = cc
-    a_word (operand.Text a) h = cc
-    a_word (operand.Value a b) h = cc
-    a_word (operand.Mask a b) h = cc
+pub choose_tells : (i : PlainInst) (is : List PlainInst) → (i.opcode ≡ 250) ⊎ (i.opcode ≡ 251) → (G : Table) (bound n : ℕ) → IsSound G bound is → slice_get is n ≡ Some i → Tells is (act_of i) move.Choose
+choose_tells i is op G bound n sound at = by_view (act_of i) (view G i (sound.fits n i at)) op where
+  by_view : (a : Act) → View G i a → (i.opcode ≡ 250) ⊎ (i.opcode ≡ 251) → Tells is a move.Choose
+  by_view _ (View.condition c x y os gs e same en each) h = tt
+  by_view _ (View.switch c x os gs e same en each) h = tt
+  by_view _ (View.function a b k' m s e os) h = tt
+  by_view _ (View.parameter t b e os) h = tt
+  by_view _ (View.function_end e os) h = tt
+  by_view _ (View.call a b c os gs e same en each) h = absurd (elim h [ inl q ↦ omega (arith, e, q) | inr q ↦ omega (arith, e, q) ])
+  by_view _ (View.branch x e os) h = absurd (elim h [ inl q ↦ omega (arith, e, q) | inr q ↦ omega (arith, e, q) ])
+  by_view _ (View.phi a b os gs e same en each) h = absurd (elim h [ inl q ↦ omega (arith, e, q) | inr q ↦ omega (arith, e, q) ])
+  by_view _ (View.label b e os) h = absurd (elim h [ inl q ↦ omega (arith, e, q) | inr q ↦ omega (arith, e, q) ])
+  by_view _ (View.return e os) h = absurd (elim h [ inl q ↦ omega (arith, e, q) | inr q ↦ omega (arith, e, q) ])
+  by_view _ (View.value x e os) h = absurd (elim h [ inl q ↦ omega (arith, e, q) | inr q ↦ omega (arith, e, q) ])
+  by_view _ (View.unreachable e os) h = absurd (elim h [ inl q ↦ omega (arith, e, q) | inr q ↦ omega (arith, e, q) ])
+  by_view _ (View.other e) h = absurd (elim h [ inl q ↦ (let w : is_other 250 ≡ true = rw q at e in cc) | inr q ↦ (let w : is_other 251 ≡ true = rw q at e in cc) ])
 
-record ChooseView (i : PlainInst) (a : Act) : Type 0 where
+-- a case is a number and a label
+record Case (G : Table) (gs : List Form) (os : List Plain) : Type 0 where
+  pub number : Plain
+  pub label : ℕ
+  pub tail : List Plain
+  pub same : os ≡ number ∷ operand.Id label ∷ tail
+  pub no_label : labels_in (number ∷ operand.Id label ∷ tail) ≡ label ∷ labels_in tail
+  pub rest : AreOf G gs tail
+
+number_unseen : (G : Table) (o : Plain) → is_of G form.Number o ≡ true → (os : List Plain) → labels_in (o ∷ os) ≡ labels_in os
+number_unseen G (operand.OfType a) h os = cc
+number_unseen G (operand.Result a) h os = cc
+number_unseen G (operand.Id a) h os = cc
+number_unseen G (operand.Word a) h os = cc
+number_unseen G (operand.Number a b w) h os = refl
+number_unseen G (operand.Text a) h os = cc
+number_unseen G (operand.Value a b) h os = cc
+number_unseen G (operand.Mask a b) h os = cc
+
+a_case : (G : Table) (gs : List Form) (os : List Plain) → AreOf G (row.N ∷ row.l ∷ gs) os → Case G gs os
+a_case G gs os a =
+    let one = take_form G row.N (row.l ∷ gs) os a in
+    let two = take_form G row.l gs one.tail one.rest in
+    let q = an_id G role.Label two.head two.fits in
+    record {
+      number = one.head;
+      label = q.0;
+      tail = two.tail;
+      same = one.same ∙ ap (λ ps. one.head ∷ ps) (two.same ∙ ap (λ o. o ∷ two.tail) q.1);
+      no_label = number_unseen G one.head one.fits (operand.Id q.0 ∷ two.tail);
+      rest = two.rest;
+    }
+
+-- after a case, places are two more
+after_case : (number : Plain) (label : ℕ) (tail : List Plain) → ((k n : ℕ) → n ≡ 2 * k + 1 → id_in (slice_get tail n) ≡ slice_get (labels_in tail) k)
+    → (k n : ℕ) → n ≡ 2 * k + 1 → id_in (slice_get (number ∷ operand.Id label ∷ tail) n) ≡ slice_get (label ∷ labels_in tail) k
+after_case number label tail rest zero zero e = absurd (omega (arith, e))
+after_case number label tail rest zero (suc zero) e = refl
+after_case number label tail rest zero (suc (suc n)) e = absurd (omega (arith, e))
+after_case number label tail rest (suc k) zero e = absurd (omega (arith, e))
+after_case number label tail rest (suc k) (suc zero) e = absurd (omega (arith, e))
+after_case number label tail rest (suc k) (suc (suc n)) e = rest k n (omega (arith, e))
+
+-- of the operands after a default, every other one is a label
+case_labels : (G : Table) (gs : List Form) (os : List Plain) → Ends (repeated (row.N ∷ row.l ∷ [])) gs → AreOf G gs os → (k n : ℕ) → n ≡ 2 * k + 1 → id_in (slice_get os n) ≡ slice_get (labels_in os) k
+case_labels G _ os (Ends.done _) a k n e = rw (none G os a) refl
+case_labels G _ os (Ends.again _ gs en) a k n e =
+    let c = a_case G gs os a in
+    let labels : labels_in os ≡ c.label ∷ labels_in c.tail = ap labels_in c.same ∙ c.no_label in
+    ap (λ ps. id_in (slice_get ps n)) c.same ∙ (after_case c.number c.label c.tail (λ j m h. case_labels G gs c.tail en c.rest j m h) k n e ∙ ap (λ ls. slice_get ls k) (sym labels))
+
+same_targets : (c d : ℕ) (xs ys : List ℕ) → Choose c xs ≡ Choose d ys → xs ≡ ys
+same_targets c d xs ys e = cc
+
+-- the targets of an OpSwitch
+pub switch_target : (G : Table) (i : PlainInst) (c k n : ℕ) (xs : List ℕ) → i.opcode ≡ 251 → n ≡ 2 * k + 1 → Fits G i → act_of i ≡ Choose c xs → id_in (slice_get i.operands n) ≡ slice_get xs k
+switch_target G i c k n xs op e fits h = by_view (act_of i) (view G i fits) h where
+  by_view : (a : Act) → View G i a → a ≡ Choose c xs → id_in (slice_get i.operands n) ≡ slice_get xs k
+  by_view _ (View.switch d x os gs q same en each) h =
+      ap (λ ps. id_in (slice_get ps n)) same ∙ (after_case (operand.Id d) x os (case_labels G gs os en each) k n e ∙ ap (λ ls. slice_get ls k) (same_targets d c (x ∷ labels_in os) xs h))
+  by_view _ (View.condition d x y os gs q same en each) h = absurd (omega (arith, q, op))
+  by_view _ (View.function a b k' m s q os) h = cc
+  by_view _ (View.parameter t b q os) h = cc
+  by_view _ (View.function_end q os) h = cc
+  by_view _ (View.call a b d os gs q same en each) h = cc
+  by_view _ (View.branch x q os) h = cc
+  by_view _ (View.phi a b os gs q same en each) h = cc
+  by_view _ (View.label b q os) h = cc
+  by_view _ (View.return q os) h = cc
+  by_view _ (View.value x q os) h = cc
+  by_view _ (View.unreachable q os) h = cc
+  by_view _ (View.other q) h = cc
+
+-- an OpBranchConditional has two targets
+record Pair (i : PlainInst) (xs : List ℕ) : Type 0 where
   pub value : ℕ
-  pub labels : List ℕ
-  pub kind : a ≡ Choose value labels
-  pub after : labels_in (drop 1 i.operands) ≡ labels
+  pub one : ℕ
+  pub other : ℕ
+  pub tail : List Plain
+  pub operands : i.operands ≡ operand.Id value ∷ operand.Id one ∷ operand.Id other ∷ tail
+  pub targets : one ∷ other ∷ [] ≡ xs
 
-choose_view : (G : Table) (i : PlainInst) (a : Act) → View G i a → (i.opcode ≡ 250) ⊎ (i.opcode ≡ 251) → ChooseView i a
-choose_view G i _ (View.condition c x y os gs e same en each) h = record {
-  value = c;
-  labels = x ∷ y ∷ [];
-  kind = refl;
-  after = ap (λ ps. labels_in (drop 1 ps)) same ∙ ap (λ ls. x ∷ y ∷ ls) (labels_none G gs os en each);
-}
-choose_view G i _ (View.switch c x os gs e same en each) h = record { value = c; labels = x ∷ labels_in os; kind = refl; after = ap (λ ps. labels_in (drop 1 ps)) same }
-choose_view G i _ (View.call a b c os gs e same en each) h = absurd (elim h [ inl q ↦ omega (arith, e, q) | inr q ↦ omega (arith, e, q) ])
-choose_view G i _ (View.branch x e os) h = absurd (elim h [ inl q ↦ omega (arith, e, q) | inr q ↦ omega (arith, e, q) ])
-choose_view G i _ (View.function a b k' m s e os) h = absurd (elim h [ inl q ↦ omega (arith, e, q) | inr q ↦ omega (arith, e, q) ])
-choose_view G i _ (View.parameter t b e os) h = absurd (elim h [ inl q ↦ omega (arith, e, q) | inr q ↦ omega (arith, e, q) ])
-choose_view G i _ (View.function_end e os) h = absurd (elim h [ inl q ↦ omega (arith, e, q) | inr q ↦ omega (arith, e, q) ])
-choose_view G i _ (View.phi a b os gs e same en each) h = absurd (elim h [ inl q ↦ omega (arith, e, q) | inr q ↦ omega (arith, e, q) ])
-choose_view G i _ (View.label b e os) h = absurd (elim h [ inl q ↦ omega (arith, e, q) | inr q ↦ omega (arith, e, q) ])
-choose_view G i _ (View.return e os) h = absurd (elim h [ inl q ↦ omega (arith, e, q) | inr q ↦ omega (arith, e, q) ])
-choose_view G i _ (View.value x e os) h = absurd (elim h [ inl q ↦ omega (arith, e, q) | inr q ↦ omega (arith, e, q) ])
-choose_view G i _ (View.unreachable e os) h = absurd (elim h [ inl q ↦ omega (arith, e, q) | inr q ↦ omega (arith, e, q) ])
-choose_view G i _ (View.other e) h = absurd (elim h [ inl q ↦ (let w : is_other 250 ≡ true = rw q at e in cc) | inr q ↦ (let w : is_other 251 ≡ true = rw q at e in cc) ])
+pair : (G : Table) (i : PlainInst) (c : ℕ) (xs : List ℕ) → i.opcode ≢ 251 → (a : Act) → View G i a → a ≡ Choose c xs → Pair i xs
+pair G i c xs op _ (View.condition d x y os gs q same en each) h = record { value = d; one = x; other = y; tail = os; operands = same; targets = same_targets d c (x ∷ y ∷ []) xs h }
+pair G i c xs op _ (View.switch d x os gs q same en each) h = absurd (op q)
+pair G i c xs op _ (View.function a b k' m s q os) h = cc
+pair G i c xs op _ (View.parameter t b q os) h = cc
+pair G i c xs op _ (View.function_end q os) h = cc
+pair G i c xs op _ (View.call a b d os gs q same en each) h = cc
+pair G i c xs op _ (View.branch x q os) h = cc
+pair G i c xs op _ (View.phi a b os gs q same en each) h = cc
+pair G i c xs op _ (View.label b q os) h = cc
+pair G i c xs op _ (View.return q os) h = cc
+pair G i c xs op _ (View.value x q os) h = cc
+pair G i c xs op _ (View.unreachable q os) h = cc
+pair G i c xs op _ (View.other q) h = cc
 
-zip_labels : (is : List PlainInst) (xs ns : List ℕ) → ArePlacesOf is xs ns → ((x place : ℕ) → Contains xs x → ((m : ℕ) → IsDefinedAt is x m → place ≡ m) → IsLabelOf is x place) → AllZip (λ x n. IsLabelOf is x n) xs ns
-zip_labels is [] [] z h = tt
-zip_labels is [] (n ∷ ns) z h = absurd z
-zip_labels is (x ∷ xs) [] z h = absurd z
-zip_labels is (x ∷ xs) (n ∷ ns) z h = (h x n (contains_here x xs) z.0, zip_labels is xs ns z.1 (λ y place c. h y place (contains_later x y xs c)))
+pub one_target : (G : Table) (i : PlainInst) (c k n : ℕ) (xs : List ℕ) → i.opcode ≢ 251 → k < 2 → n ≡ k + 1 → Fits G i → act_of i ≡ Choose c xs → id_in (slice_get i.operands n) ≡ slice_get xs k
+one_target G i c k n xs op low e fits h =
+    let p = pair G i c xs op (act_of i) (view G i fits) h in
+    ap (λ ps. id_in (slice_get ps n)) p.operands ∙ (by_place p k n low e ∙ ap (λ ls. slice_get ls k) p.targets)
+  where
+    by_place : (p : Pair i xs) (k n : ℕ) → k < 2 → n ≡ k + 1 → id_in (slice_get (operand.Id p.value ∷ operand.Id p.one ∷ operand.Id p.other ∷ p.tail) n) ≡ slice_get (p.one ∷ p.other ∷ []) k
+    by_place p zero (suc zero) low e = refl
+    by_place p (suc zero) (suc (suc zero)) low e = refl
+    by_place p zero zero low e = absurd (omega (arith, e))
+    by_place p zero (suc (suc n)) low e = absurd (omega (arith, e))
+    by_place p (suc zero) zero low e = absurd (omega (arith, e))
+    by_place p (suc zero) (suc zero) low e = absurd (omega (arith, e))
+    by_place p (suc zero) (suc (suc (suc n))) low e = absurd (omega (arith, e))
+    by_place p (suc (suc k)) n low e = absurd (omega (arith, low))
 
-pub choose_tells : (i : PlainInst) (is : List PlainInst) (v : Vec ℕ Global) → (i.opcode ≡ 250) ⊎ (i.opcode ≡ 251) → ArePlacesOf is (labels_in (drop 1 i.operands)) v.items
-    → (G : Table) (bound n : ℕ) → IsSound G bound is → slice_get is n ≡ Some i → Tells is (act_of i) (move.Choose v)
-choose_tells i is v op z G bound n sound at =
-    let w = choose_view G i (act_of i) (view G i (sound.fits n i at)) op in
-    let h : act_at is n ≡ Some (Choose w.value w.labels) = act_from is n i (Choose w.value w.labels) at w.kind in
-    let z' : ArePlacesOf is w.labels v.items = subst (λ xs. ArePlacesOf is xs v.items) w.after z in
-    subst (λ a. Tells is a (move.Choose v)) (sym w.kind) (zip_labels is w.labels v.items z' (λ x place c found. label_found G bound is sound n x place (Choose w.value w.labels) h c found))
+pub no_target : (G : Table) (i : PlainInst) (c k : ℕ) (xs : List ℕ) → i.opcode ≢ 251 → 2 ≤ k → Fits G i → act_of i ≡ Choose c xs → slice_get xs k ≡ None
+no_target G i c k xs op high fits h =
+    let p = pair G i c xs op (act_of i) (view G i fits) h in
+    ap (λ ls. slice_get ls k) (sym p.targets) ∙ by_place p k high
+  where
+    by_place : (p : Pair i xs) (k : ℕ) → 2 ≤ k → slice_get (p.one ∷ p.other ∷ []) k ≡ None
+    by_place p zero high = absurd (omega (arith, high))
+    by_place p (suc zero) high = absurd (omega (arith, high))
+    by_place p (suc (suc k)) high = refl
+
+-- the label that is chosen stands where it is found
+pub chosen_label : (i : PlainInst) (x place c : ℕ) (xs : List ℕ) (is : List PlainInst) → act_of i ≡ Choose c xs → (k : ℕ) → slice_get xs k ≡ Some x → ((m : ℕ) → IsDefinedAt is x m → place ≡ m)
+    → (G : Table) (bound n : ℕ) → IsSound G bound is → slice_get is n ≡ Some i → IsLabelOf is x place
+chosen_label i x place c xs is kind k there found G bound n sound at =
+    label_found G bound is sound n x place (Choose c xs) (act_from is n i (Choose c xs) at kind) (contains_at xs k x there) found
 
 -- the rest
 
@@ -483,21 +499,6 @@ other_tells i is n1 n2 n3 n4 n5 n6 n7 G bound n sound at = by_view (act_of i) (v
   by_view _ (View.label b e os) = tt
   by_view _ (View.other e) = tt
 
--- Operands and instructions of slices.
-
-pub operand_at : (os : List CodeOperand) (k : ℕ) (d : CodeOperand) → k < length os → slice_get (plain_operands os) k ≡ Some (plain_operand (get_or os k d))
-operand_at os k d l = slice_get-map plain_operand os k ∙ ap (option_map plain_operand) (slice_get-get_or os k d l)
-
-pub not_id : (o : CodeOperand) → ((x : ℕ) → o ≡ code.Id x → ⊥) → labels_in (plain_operand o ∷ []) ≡ []
-not_id (code.Id x) h = absurd (h x refl)
-not_id (code.OfType x) h = refl
-not_id (code.Result x) h = refl
-not_id (code.Word x) h = refl
-not_id (code.Number a b w) h = refl
-not_id (code.Text t) h = refl
-not_id (code.Value k x) h = refl
-not_id (code.Mask k x) h = refl
-
 pushed : {A : Type 0} (ms : List A) (m : A) (n : ℕ) → length ms ≡ n → slice_get (ms ++ (m ∷ [])) n ≡ Some m
 pushed [] m zero h = refl
 pushed [] m (suc n) h = absurd (omega (arith, h))
@@ -508,23 +509,6 @@ kept : {A : Type 0} (ms : List A) (m : A) (k : ℕ) (x : A) → slice_get ms k �
 kept [] m k x h = absurd (none-some x h)
 kept (y ∷ ms) m zero x h = h
 kept (y ∷ ms) m (suc k) x h = kept ms m k x h
-
-pub moves_none : (is : List PlainInst) (ms : List Move) → AreMovesBefore is 0 ms
-moves_none is ms = record { each = λ k i l h. absurd (omega (arith, l)) }
-
-pub moves_more : (is : List PlainInst) (n : ℕ) (ms : List Move) (i : PlainInst) (m : Move) → length ms ≡ n → AreMovesBefore is n ms → slice_get is n ≡ Some i → Tells is (act_of i) m → AreMovesBefore is (n + 1) (ms ++ (m ∷ []))
-moves_more is n ms i m len before at tells = record {
-  each = λ k j l h. elim (cases_lt k n) [
-    | inl less ↦ (let b = before.each k j less h in (b.0, kept ms m k b.0 b.1, b.2))
-    | inr more ↦ (
-        let same : k ≡ n = omega (arith, l, more) in
-        let inst : i ≡ j = same_Some i j (sym at ∙ (ap (slice_get is) (sym same) ∙ h)) in
-        (m, pushed ms m k (len ∙ sym same), subst (λ (q : PlainInst). Tells is (act_of q) m) inst tells))
-  ];
-}
-
-pub moves_all : (is : List PlainInst) (n : ℕ) (ms : List Move) → length is ≤ n → AreMovesBefore is n ms → AreMoves is ms
-moves_all is n ms l before = λ k i h. let w = slice_get_within is k i h in before.each k i (omega (arith, l, w)) h
 
 -- Where bodies begin.
 
@@ -597,7 +581,7 @@ no_start G bound is g x xs choices s move.On sound d start (k, e, bs, f, declare
     not_both is (one_definition G bound is sound.ids) x g k start.entry e start.parameters bs d f start.defined declared
 no_start G bound is g x xs choices s (move.Call e) sound d start t no_call = no_call e refl
 no_start G bound is g x xs choices s (move.Branch n) sound d start t no_call = t
-no_start G bound is g x xs choices s (move.Choose v) sound d start t no_call = t
+no_start G bound is g x xs choices s move.Choose sound d start t no_call = t
 no_start G bound is g x xs choices s move.Return sound d start t no_call = t
 no_start G bound is g x xs choices s move.Unreachable sound d start t no_call = t
 

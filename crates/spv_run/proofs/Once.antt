@@ -6,9 +6,9 @@ use Rattle.spv_inst.specs.Operand.{PlainInst}
 use Rattle.spv_run.specs.Act.{Act, Function, Parameter, FunctionEnd, Label, Phi, Branch, Choose, Call, Return, ReturnValue, Other, act_of}
 use Rattle.spv_run.specs.At.{act_at, result_at, type_at}
 use Rattle.spv_run.specs.Head.{Binding, Head, end, parameter, line}
-use Rattle.spv_run.specs.State.{Ending, Frame, State, Outcome, Goes, Last, Before, advance, jump, enter, rebind, returned, with_top}
+use Rattle.spv_run.specs.State.{Ending, Stuck, Frame, State, Outcome, Goes, Last, Before, advance, jump, enter, rebind, returned, with_top}
 use Rattle.spv_run.specs.Machine.{Reads, ReadsAll, read_values, Lands, Enters, definition, declaration, Moves, Does, step, no_choice, bad_choice}
-use Rattle.spv_run.specs.Run.{step_of, Run, limit, next, last, before, stuck}
+use Rattle.spv_run.specs.Run.{step_of, IsStart, Run, limit, next, last, before, stuck}
 use Rattle.spv_run.specs.declared.parts.Step.{Step}
 use Rattle.spv_run.proofs.LaidOut.{IsLaidOut}
 use Rattle.spv_run.proofs.Fit.{AllFit, HasOneDefinition}
@@ -139,9 +139,9 @@ moves_choose is s a tags o c ls e m =
 same_lists : (c d : ℕ) (ls ms : List ℕ) → Choose c ls ≡ Choose d ms → ls ≡ ms
 same_lists c d ls ms e = cc
 
--- at most one thing comes of a state
-pub one_outcome : (G : Table) (is : List PlainInst) → AllFit G is → IsLayout (classes is) → IsLaidOut is → HasOneDefinition is → (s : State) (o p : Outcome) → Does G is s o → Does G is s p → o ≡ p
-one_outcome G is fits laying laid once s o p (step i xs ts at v r others row m) (step j ys us at' v' r' others' row' m') =
+-- at most one thing comes of a state, whatever the table
+pub one_outcome : (G H : Table) (is : List PlainInst) → AllFit G is → IsLayout (classes is) → IsLaidOut is → HasOneDefinition is → (s : State) (o p : Outcome) → Does G is s o → Does H is s p → o ≡ p
+one_outcome G H is fits laying laid once s o p (step i xs ts at v r others row m) (step j ys us at' v' r' others' row' m') =
     let inst : i ≡ j = same_Some i j (sym at ∙ at') in
     let P : PlainInst → Type 0 = λ k. read_values is s.top k (act_of k) ≡ Some ys in
     let values : xs ≡ ys = same_Some xs ys (sym v ∙ subst P (sym inst) v') in
@@ -150,28 +150,28 @@ one_outcome G is fits laying laid once s o p (step i xs ts at v r others row m) 
     let A : Act → Type 0 = λ a. Moves is s a us p in
     let B : List ℕ → Type 0 = λ zs. Moves is s (act_of i) zs p in
     moves_once G is fits laying laid once s (act_of i) ts o p m (subst B (sym tags) (subst A (sym (ap act_of inst)) m'))
-one_outcome G is fits laying laid once s o p (step i xs ts at v r others row m) (no_choice j c ls at' e empty h) =
+one_outcome G H is fits laying laid once s o p (step i xs ts at v r others row m) (no_choice j c ls at' e empty h) =
     let inst : i ≡ j = same_Some i j (sym at ∙ at') in
     let w = moves_choose is s (act_of i) ts o c ls (ap act_of inst ∙ e) m in
     absurd (let z : w.0 ∷ w.1 ≡ [] = sym w.3 ∙ empty in cc)
-one_outcome G is fits laying laid once s o p (step i xs ts at v r others row m) (bad_choice j c k ls left at' e some out h) =
+one_outcome G H is fits laying laid once s o p (step i xs ts at v r others row m) (bad_choice j c k ls left at' e some out h) =
     let inst : i ≡ j = same_Some i j (sym at ∙ at') in
     let w = moves_choose is s (act_of i) ts o c ls (ap act_of inst ∙ e) m in
     let same : w.0 ≡ k = first_same w.0 k w.1 left (sym w.3 ∙ some) in
     absurd (none-some w.2 (sym out ∙ (ap (slice_get ls) (sym same) ∙ w.4)))
-one_outcome G is fits laying laid once s o p (no_choice j c ls at' e empty h) (step i xs ts at v r others row m) =
+one_outcome G H is fits laying laid once s o p (no_choice j c ls at' e empty h) (step i xs ts at v r others row m) =
     let inst : i ≡ j = same_Some i j (sym at ∙ at') in
     let w = moves_choose is s (act_of i) ts p c ls (ap act_of inst ∙ e) m in
     absurd (let z : w.0 ∷ w.1 ≡ [] = sym w.3 ∙ empty in cc)
-one_outcome G is fits laying laid once s o p (no_choice j c ls at' e empty h) (no_choice i d ms at f none g) = h ∙ sym g
-one_outcome G is fits laying laid once s o p (no_choice j c ls at' e empty h) (bad_choice i d k ms left at f some out g) = absurd (let z : k ∷ left ≡ [] = sym some ∙ empty in cc)
-one_outcome G is fits laying laid once s o p (bad_choice j c k ls left at' e some out h) (step i xs ts at v r others row m) =
+one_outcome G H is fits laying laid once s o p (no_choice j c ls at' e empty h) (no_choice i d ms at f none g) = h ∙ sym g
+one_outcome G H is fits laying laid once s o p (no_choice j c ls at' e empty h) (bad_choice i d k ms left at f some out g) = absurd (let z : k ∷ left ≡ [] = sym some ∙ empty in cc)
+one_outcome G H is fits laying laid once s o p (bad_choice j c k ls left at' e some out h) (step i xs ts at v r others row m) =
     let inst : i ≡ j = same_Some i j (sym at ∙ at') in
     let w = moves_choose is s (act_of i) ts p c ls (ap act_of inst ∙ e) m in
     let same : w.0 ≡ k = first_same w.0 k w.1 left (sym w.3 ∙ some) in
     absurd (none-some w.2 (sym out ∙ (ap (slice_get ls) (sym same) ∙ w.4)))
-one_outcome G is fits laying laid once s o p (bad_choice j c k ls left at' e some out h) (no_choice i d ms at f empty g) = absurd (let z : k ∷ left ≡ [] = sym some ∙ empty in cc)
-one_outcome G is fits laying laid once s o p (bad_choice j c k ls left at' e some out h) (bad_choice i d l ms rest at f more gone g) = h ∙ sym g
+one_outcome G H is fits laying laid once s o p (bad_choice j c k ls left at' e some out h) (no_choice i d ms at f empty g) = absurd (let z : k ∷ left ≡ [] = sym some ∙ empty in cc)
+one_outcome G H is fits laying laid once s o p (bad_choice j c k ls left at' e some out h) (bad_choice i d l ms rest at f more gone g) = h ∙ sym g
 
 -- runs of one length from a state have the same steps and end
 pub record SameRun (steps others : List Step) (e f : Ending) : Type 0 where
@@ -200,37 +200,37 @@ one_run G is fits laying laid once _ _ _ _ _ _ _ _ (before n s e d) (limit t) h 
 one_run G is fits laying laid once _ _ _ _ _ _ _ _ (stuck n s d) (limit t) h g = absurd (omega (arith, h))
 one_run G is fits laying laid once _ _ _ _ _ _ _ _ (next n s u zs e d r) (next m t v bs f d' r') h g =
     let P : State → Type 0 = λ z. Does G is z (Goes v) in
-    let same = goes_goes v u (one_outcome G is fits laying laid once s (Goes v) (Goes u) (subst P (sym g) d') d) in
+    let same = goes_goes v u (one_outcome G G is fits laying laid once s (Goes v) (Goes u) (subst P (sym g) d') d) in
     let more = one_run G is fits laying laid once n m u v zs bs e f r r' (omega (arith, h)) same in
     record { steps_same = ap (λ z. step_of z ∷ zs) g ∙ ap (λ z. step_of t ∷ z) more.steps_same; ending_same = more.ending_same }
 one_run G is fits laying laid once _ _ _ _ _ _ _ _ (next n s u zs e d r) (last m t f d') h g =
     let P : State → Type 0 = λ z. Does G is z (Last f) in
-    absurd (let w = one_outcome G is fits laying laid once s (Goes u) (Last f) d (subst P (sym g) d') in cc)
+    absurd (let w = one_outcome G G is fits laying laid once s (Goes u) (Last f) d (subst P (sym g) d') in cc)
 one_run G is fits laying laid once _ _ _ _ _ _ _ _ (next n s u zs e d r) (before m t f d') h g =
     let P : State → Type 0 = λ z. Does G is z (Before f) in
-    absurd (let w = one_outcome G is fits laying laid once s (Goes u) (Before f) d (subst P (sym g) d') in cc)
+    absurd (let w = one_outcome G G is fits laying laid once s (Goes u) (Before f) d (subst P (sym g) d') in cc)
 one_run G is fits laying laid once _ _ _ _ _ _ _ _ (next n s u zs e d r) (stuck m t d') h g =
     let P : State → Type 0 = λ z. Does G is z (Goes u) in absurd (d' (Goes u) (subst P g d))
 one_run G is fits laying laid once _ _ _ _ _ _ _ _ (last n s e d) (next m t v bs f d' r') h g =
     let P : State → Type 0 = λ z. Does G is z (Goes v) in
-    absurd (let w = one_outcome G is fits laying laid once s (Last e) (Goes v) d (subst P (sym g) d') in cc)
+    absurd (let w = one_outcome G G is fits laying laid once s (Last e) (Goes v) d (subst P (sym g) d') in cc)
 one_run G is fits laying laid once _ _ _ _ _ _ _ _ (last n s e d) (last m t f d') h g =
     let P : State → Type 0 = λ z. Does G is z (Last f) in
-    record { steps_same = ap (λ z. step_of z ∷ []) g; ending_same = last_last e f (one_outcome G is fits laying laid once s (Last e) (Last f) d (subst P (sym g) d')) }
+    record { steps_same = ap (λ z. step_of z ∷ []) g; ending_same = last_last e f (one_outcome G G is fits laying laid once s (Last e) (Last f) d (subst P (sym g) d')) }
 one_run G is fits laying laid once _ _ _ _ _ _ _ _ (last n s e d) (before m t f d') h g =
     let P : State → Type 0 = λ z. Does G is z (Before f) in
-    absurd (let w = one_outcome G is fits laying laid once s (Last e) (Before f) d (subst P (sym g) d') in cc)
+    absurd (let w = one_outcome G G is fits laying laid once s (Last e) (Before f) d (subst P (sym g) d') in cc)
 one_run G is fits laying laid once _ _ _ _ _ _ _ _ (last n s e d) (stuck m t d') h g =
     let P : State → Type 0 = λ z. Does G is z (Last e) in absurd (d' (Last e) (subst P g d))
 one_run G is fits laying laid once _ _ _ _ _ _ _ _ (before n s e d) (next m t v bs f d' r') h g =
     let P : State → Type 0 = λ z. Does G is z (Goes v) in
-    absurd (let w = one_outcome G is fits laying laid once s (Before e) (Goes v) d (subst P (sym g) d') in cc)
+    absurd (let w = one_outcome G G is fits laying laid once s (Before e) (Goes v) d (subst P (sym g) d') in cc)
 one_run G is fits laying laid once _ _ _ _ _ _ _ _ (before n s e d) (last m t f d') h g =
     let P : State → Type 0 = λ z. Does G is z (Last f) in
-    absurd (let w = one_outcome G is fits laying laid once s (Before e) (Last f) d (subst P (sym g) d') in cc)
+    absurd (let w = one_outcome G G is fits laying laid once s (Before e) (Last f) d (subst P (sym g) d') in cc)
 one_run G is fits laying laid once _ _ _ _ _ _ _ _ (before n s e d) (before m t f d') h g =
     let P : State → Type 0 = λ z. Does G is z (Before f) in
-    record { steps_same = refl; ending_same = before_before e f (one_outcome G is fits laying laid once s (Before e) (Before f) d (subst P (sym g) d')) }
+    record { steps_same = refl; ending_same = before_before e f (one_outcome G G is fits laying laid once s (Before e) (Before f) d (subst P (sym g) d')) }
 one_run G is fits laying laid once _ _ _ _ _ _ _ _ (before n s e d) (stuck m t d') h g =
     let P : State → Type 0 = λ z. Does G is z (Before e) in absurd (d' (Before e) (subst P g d))
 one_run G is fits laying laid once _ _ _ _ _ _ _ _ (stuck n s d) (next m t v bs f d' r') h g =
@@ -240,3 +240,58 @@ one_run G is fits laying laid once _ _ _ _ _ _ _ _ (stuck n s d) (last m t f d')
 one_run G is fits laying laid once _ _ _ _ _ _ _ _ (stuck n s d) (before m t f d') h g =
     let P : State → Type 0 = λ z. Does G is z (Before f) in absurd (d (Before f) (subst P (sym g) d'))
 one_run G is fits laying laid once _ _ _ _ _ _ _ _ (stuck n s d) (stuck m t d') h g = record { steps_same = refl; ending_same = refl }
+
+-- the same under two tables, of runs that do not get stuck
+pub one_free_run : (G H : Table) (is : List PlainInst) → AllFit G is → IsLayout (classes is) → IsLaidOut is → HasOneDefinition is → (n m : ℕ) (s t : State) (zs bs : List Step) (e f : Ending)
+    → Run G is n s zs e → Run H is m t bs f → n ≡ m → s ≡ t → e ≢ Stuck → f ≢ Stuck → SameRun zs bs e f
+one_free_run G H is fits laying laid once _ _ _ _ _ _ _ _ (limit s) (limit t) h g x y = record { steps_same = refl; ending_same = refl }
+one_free_run G H is fits laying laid once _ _ _ _ _ _ _ _ (limit s) (next m t u bs f d r) h g x y = absurd (omega (arith, h))
+one_free_run G H is fits laying laid once _ _ _ _ _ _ _ _ (limit s) (last m t f d) h g x y = absurd (omega (arith, h))
+one_free_run G H is fits laying laid once _ _ _ _ _ _ _ _ (limit s) (before m t f d) h g x y = absurd (omega (arith, h))
+one_free_run G H is fits laying laid once _ _ _ _ _ _ _ _ (limit s) (stuck m t d) h g x y = absurd (omega (arith, h))
+one_free_run G H is fits laying laid once _ _ _ _ _ _ _ _ (next n s u zs e d r) (limit t) h g x y = absurd (omega (arith, h))
+one_free_run G H is fits laying laid once _ _ _ _ _ _ _ _ (last n s e d) (limit t) h g x y = absurd (omega (arith, h))
+one_free_run G H is fits laying laid once _ _ _ _ _ _ _ _ (before n s e d) (limit t) h g x y = absurd (omega (arith, h))
+one_free_run G H is fits laying laid once _ _ _ _ _ _ _ _ (stuck n s d) (limit t) h g x y = absurd (omega (arith, h))
+one_free_run G H is fits laying laid once _ _ _ _ _ _ _ _ (next n s u zs e d r) (next m t v bs f d' r') h g x y =
+    let P : State → Type 0 = λ z. Does H is z (Goes v) in
+    let same = goes_goes v u (sym (one_outcome G H is fits laying laid once s (Goes u) (Goes v) d (subst P (sym g) d'))) in
+    let more = one_free_run G H is fits laying laid once n m u v zs bs e f r r' (omega (arith, h)) same x y in
+    record { steps_same = ap (λ z. step_of z ∷ zs) g ∙ ap (λ z. step_of t ∷ z) more.steps_same; ending_same = more.ending_same }
+one_free_run G H is fits laying laid once _ _ _ _ _ _ _ _ (next n s u zs e d r) (last m t f d') h g x y =
+    let P : State → Type 0 = λ z. Does H is z (Last f) in
+    absurd (let w = one_outcome G H is fits laying laid once s (Goes u) (Last f) d (subst P (sym g) d') in cc)
+one_free_run G H is fits laying laid once _ _ _ _ _ _ _ _ (next n s u zs e d r) (before m t f d') h g x y =
+    let P : State → Type 0 = λ z. Does H is z (Before f) in
+    absurd (let w = one_outcome G H is fits laying laid once s (Goes u) (Before f) d (subst P (sym g) d') in cc)
+one_free_run G H is fits laying laid once _ _ _ _ _ _ _ _ (next n s u zs e d r) (stuck m t d') h g x y = absurd (y refl)
+one_free_run G H is fits laying laid once _ _ _ _ _ _ _ _ (last n s e d) (next m t v bs f d' r') h g x y =
+    let P : State → Type 0 = λ z. Does H is z (Goes v) in
+    absurd (let w = one_outcome G H is fits laying laid once s (Last e) (Goes v) d (subst P (sym g) d') in cc)
+one_free_run G H is fits laying laid once _ _ _ _ _ _ _ _ (last n s e d) (last m t f d') h g x y =
+    let P : State → Type 0 = λ z. Does H is z (Last f) in
+    record { steps_same = ap (λ z. step_of z ∷ []) g; ending_same = last_last e f (one_outcome G H is fits laying laid once s (Last e) (Last f) d (subst P (sym g) d')) }
+one_free_run G H is fits laying laid once _ _ _ _ _ _ _ _ (last n s e d) (before m t f d') h g x y =
+    let P : State → Type 0 = λ z. Does H is z (Before f) in
+    absurd (let w = one_outcome G H is fits laying laid once s (Last e) (Before f) d (subst P (sym g) d') in cc)
+one_free_run G H is fits laying laid once _ _ _ _ _ _ _ _ (last n s e d) (stuck m t d') h g x y = absurd (y refl)
+one_free_run G H is fits laying laid once _ _ _ _ _ _ _ _ (before n s e d) (next m t v bs f d' r') h g x y =
+    let P : State → Type 0 = λ z. Does H is z (Goes v) in
+    absurd (let w = one_outcome G H is fits laying laid once s (Before e) (Goes v) d (subst P (sym g) d') in cc)
+one_free_run G H is fits laying laid once _ _ _ _ _ _ _ _ (before n s e d) (last m t f d') h g x y =
+    let P : State → Type 0 = λ z. Does H is z (Last f) in
+    absurd (let w = one_outcome G H is fits laying laid once s (Before e) (Last f) d (subst P (sym g) d') in cc)
+one_free_run G H is fits laying laid once _ _ _ _ _ _ _ _ (before n s e d) (before m t f d') h g x y =
+    let P : State → Type 0 = λ z. Does H is z (Before f) in
+    record { steps_same = refl; ending_same = before_before e f (one_outcome G H is fits laying laid once s (Before e) (Before f) d (subst P (sym g) d')) }
+one_free_run G H is fits laying laid once _ _ _ _ _ _ _ _ (before n s e d) (stuck m t d') h g x y = absurd (y refl)
+one_free_run G H is fits laying laid once _ _ _ _ _ _ _ _ (stuck n s d) (next m t v bs f d' r') h g x y = absurd (x refl)
+one_free_run G H is fits laying laid once _ _ _ _ _ _ _ _ (stuck n s d) (last m t f d') h g x y = absurd (x refl)
+one_free_run G H is fits laying laid once _ _ _ _ _ _ _ _ (stuck n s d) (before m t f d') h g x y = absurd (x refl)
+one_free_run G H is fits laying laid once _ _ _ _ _ _ _ _ (stuck n s d) (stuck m t d') h g x y = absurd (x refl)
+
+pub start_once : (is : List PlainInst) (g : ℕ) (choices : List ℕ) (s t : State) → IsStart is g choices s → IsStart is g choices t → s ≡ t
+start_once is g choices s t a b =
+    let head = head_once is a.entry b.entry (suc g) (suc g) a.parameters b.parameters a.defined.head b.defined.head refl (label_ends is a.entry a.defined.entry) (label_ends is b.entry b.defined.entry) in
+    let made : ℕ → List Binding → State = λ e bs. record { top = enter g e bs; below = []; choices = choices } in
+    a.start ∙ (ap (λ e. made e a.parameters) head.place ∙ (ap (λ bs. made b.entry bs) head.parameters ∙ sym b.start))

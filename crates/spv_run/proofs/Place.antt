@@ -1,8 +1,8 @@
 -- Where instructions stand: functions, their heads, blocks, and local ids. [2.2.5, 2.4, 2.16.1]
-use Rattle.std.specs.Prelude.{◌≡◌, ◌≢◌, ◌≤◌, ◌<◌, ℕ, suc, List, [], ◌∷◌, Some, None, IsTrue}
+use Rattle.std.specs.Prelude.{◌≡◌, ◌≢◌, ◌≤◌, ◌<◌, ℕ, List, Some, IsTrue}
 use Rattle.spv_inst.specs.Operand.{PlainInst}
-use Rattle.spv_run.specs.Act.{Act, Function, Parameter, FunctionEnd, Label, Other}
-use Rattle.spv_run.specs.At.{act_at, result_at, type_at, goes_on}
+use Rattle.spv_run.specs.Act.{Act, Function, FunctionEnd, Label}
+use Rattle.spv_run.specs.At.{act_at, result_at, goes_on}
 
 -- Instruction n is of the function whose OpFunction is instruction f: from there to its OpFunctionEnd.
 pub record IsOf (is : List PlainInst) (f n : ℕ) : Type 0 where

@@ -4,7 +4,7 @@ use Rattle.std.specs.List.{AllByRecursion}
 use Rattle.std.proofs.lemmas.Option.{same_Some, none-some}
 use Rattle.std.proofs.lemmas.Bool.{cases_Bool}
 use Rattle.spv_grammar.specs.Table.{Table}
-use Rattle.spv_inst.specs.Operand.{PlainInst, type_in}
+use Rattle.spv_inst.specs.Operand.{PlainInst}
 use Rattle.spv_inst.specs.Width.{type_of}
 use Rattle.spv_run.specs.Act.{Act, Function, Parameter, FunctionEnd, Label, Phi, Choose, Call, ReturnValue, Other, Pair, act_of}
 use Rattle.spv_run.specs.At.{act_at, result_at, value_from}
@@ -15,7 +15,7 @@ use Rattle.spv_run.specs.State.{Frame, bound_type}
 use Rattle.spv_run.specs.Machine.{Reads, ReadsAll, ReadsOthers, read_values}
 use Rattle.spv_run.proofs.Checked.{IsChecked, HaveTypes}
 use Rattle.spv_run.proofs.Flow.{IsReadyOn}
-use Rattle.spv_run.proofs.Rows.{PhiTyped, phi_typed, typed_phi}
+use Rattle.spv_run.proofs.Rows.{phi_typed, typed_phi}
 use Rattle.spv_run.proofs.Basics.{result_here, type_here, type_of_result, act_from, contains_here, contains_later}
 use Rattle.spv_run.proofs.Frames.{Stands, Came, at_entry, by_jump}
 use Rattle.spv_run.proofs.Standing.{is_local, local_is}

@@ -1,6 +1,6 @@
 -- What the rows of types say of phis, calls and returns.
-use Rattle.std.proofs.Common.{◌≡◌, ◌∙◌, ◌⊎◌, inl, inr, ℕ, zero, suc, List, [], ◌∷◌, map, Bool, true, false, nat_eq, if◌then◌else◌, Option, Some, None, refl, sym, ap, subst, slice_get}
-use Rattle.std.specs.Prelude.{IsSomeAnd, option_and_then}
+use Rattle.std.proofs.Common.{◌≡◌, ◌∙◌, inl, inr, ℕ, suc, List, [], ◌∷◌, map, true, nat_eq, if◌then◌else◌, Option, Some, None, refl, sym, ap, slice_get}
+use Rattle.std.specs.Prelude.{IsSomeAnd}
 use Rattle.std.specs.List.{AllByRecursion}
 use Rattle.std.proofs.lemmas.Bool.{cases_Bool, eqb-true}
 use Rattle.std.proofs.lemmas.Option.{none-some}
@@ -10,9 +10,9 @@ use Rattle.spv_inst.specs.Width.{has_result, or_else, definition_of}
 use Rattle.spv_layout.specs.Shape.{Fits}
 use Rattle.spv_ops.specs.Types.{IsData}
 use Rattle.spv_ops.specs.Typed.{Typed}
-use Rattle.spv_type_rules.specs.Function.{signature_of, function_type_in, CallsTyped, ReturnsNothing, ReturnsTyped}
+use Rattle.spv_type_rules.specs.Function.{signature_of, CallsTyped, ReturnsNothing, ReturnsTyped}
 use Rattle.spv_run.specs.Act.{Act, Function, Phi, Pair, act_of}
-use Rattle.spv_run.specs.At.{act_at, result_at, type_at}
+use Rattle.spv_run.specs.At.{type_at}
 use Rattle.spv_run.proofs.Place.{IsFunction}
 use Rattle.spv_run.specs.Row.{Row}
 use Rattle.spv_run.proofs.Basics.{act_from, result_here, type_here}

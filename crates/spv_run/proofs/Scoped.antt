@@ -1,21 +1,20 @@
 -- Labels are in scope, walks are those of the layers below, and what is used on them is defined.
-use Rattle.std.proofs.Common.{◌≡◌, ◌≢◌, ◌∙◌, ◌≤◌, ◌<◌, ◌+◌, ◌++◌, ◌⊎◌, inl, inr, ℕ, zero, suc, List, [], ◌∷◌, map, Bool, true, false, not, ◌&&◌, ◌||◌, nat_eq, IsTrue, Option, Some, None, refl, sym, ap, subst, arith, length, Contains}
-use Rattle.std.specs.Prelude.{slice_get, option_and_then, option_map, IsSomeAnd, nat_le, All, Any}
-use Rattle.std.proofs.lemmas.Bool.{cases_Bool, cases_eq, cases_order, eq-eqb, eqb-true}
+use Rattle.std.proofs.Common.{◌≡◌, ◌∙◌, ◌≤◌, ◌<◌, ◌+◌, ◌⊎◌, inl, inr, ℕ, zero, suc, List, [], ◌∷◌, map, Bool, true, false, ◌&&◌, ◌||◌, nat_eq, IsTrue, Option, Some, None, refl, sym, ap, subst, arith, length, Contains}
+use Rattle.std.specs.Prelude.{slice_get, option_and_then, option_map, nat_le}
+use Rattle.std.proofs.lemmas.Bool.{cases_Bool, cases_eq, eqb-true}
 use Rattle.std.proofs.lemmas.Bool.Decides.{nat_tests}
 use Rattle.std.proofs.lemmas.List.Elements.{All-cons}
 use Rattle.std.proofs.lemmas.Option.{none-some, same_Some, slice_get_within, slice_get-map}
 use Rattle.spv_grammar.specs.Table.{Table}
-use Rattle.spv_inst.specs.Operand.{Plain, PlainInst, result_in, type_in}
+use Rattle.spv_inst.specs.Operand.{PlainInst, type_in}
 use Rattle.spv_inst.specs.Width.{definition_of, type_of}
 use Rattle.spv_inst.specs.declared.fault.Rule.TheVariants as rule
-use Rattle.spv_layout.specs.declared.class.Class.TheVariants as class
 use Rattle.spv_layout.specs.declared.form.Role.{Role}
 use Rattle.spv_layout.specs.declared.form.Role.TheVariants as role
 use Rattle.spv_layout.specs.First.{IsUnbroken}
 use Rattle.spv_layout.specs.Rows.{class_of}
 use Rattle.spv_layout.specs.Layout.{IsLayout, classes}
-use Rattle.spv_layout.specs.Place.{IsDefinition, IsOfFunction, IsOfSection, section_of}
+use Rattle.spv_layout.specs.Place.{IsDefinition, IsOfSection, section_of}
 use Rattle.spv_ids.specs.Broken as ids
 use Rattle.spv_ids.specs.Definition as local_ids
 use Rattle.spv_ids.specs.Definition.{IsDefinedAt, IsUsedAt}
@@ -24,25 +23,25 @@ use Rattle.spv_branches.specs.Broken as branches
 use Rattle.spv_branches.specs.Target as target
 use Rattle.spv_branches.specs.Target.{IsOp, IsLabelOf, IsTarget}
 use Rattle.spv_branches.specs.Walk as walks
-use Rattle.spv_branches.specs.Ready.{IsLocalValue, IsMissing, IsPairMissing, IsPair, ComesFrom}
+use Rattle.spv_branches.specs.Ready.{IsLocalValue}
 use Rattle.spv_run.specs.Act.{Act, Function, FunctionEnd, Label, Phi, Pair, act_of}
 use Rattle.spv_run.specs.Act as act
 use Rattle.spv_run.specs.At.{act_at, result_at, targets, goes_on, value_from}
-use Rattle.spv_run.proofs.Place.{IsOf, IsIn, IsLocal, IsLocalTo, IsLabel}
+use Rattle.spv_run.proofs.Place.{IsOf, IsIn, IsLocal}
 use Rattle.spv_run.proofs.LaidOut.{IsLaidOut}
 use Rattle.spv_run.proofs.Fit.{AllFit, HasOneDefinition}
-use Rattle.spv_run.proofs.Walk.{Next, follows, jumps, Walk, Defined, label_in, is_label, before_label, last_label}
+use Rattle.spv_run.proofs.Walk.{follows, jumps, Walk, Defined, label_in, is_label, before_label, last_label}
 use Rattle.spv_run.specs.Row.{values_of}
 use Rattle.spv_run.proofs.Checked.{HasLabelsInScope, HaveTypes, IsTyped, AreOthersReady}
 use Rattle.spv_run.proofs.Flow.{HasParents, IsPredecessor, IsReady, IsReadyOn}
-use Rattle.spv_run.proofs.Basics.{act_here, act_back, act_from, act_same, result_here, some_result}
+use Rattle.spv_run.proofs.Basics.{act_back, act_from}
 use Rattle.spv_run.proofs.Places.{of_next, one_function, label_true, label_false}
 use Rattle.spv_run.proofs.Frames.{label_after, one_block}
 use Rattle.spv_run.proofs.Shapes.{View, view, is_other}
 use Rattle.spv_run.proofs.Classes.{class_249, class_250, class_251, act_phi}
-use Rattle.spv_run.proofs.Standing.{of_function, function_of, block_place, block_of, defined_at, result_of, label_to, label_from, is_local, local_from, here_within, op_label, label_op}
+use Rattle.spv_run.proofs.Standing.{of_function, function_of, block_place, block_of, defined_at, result_of, label_to, is_local, local_from, here_within, op_label, label_op}
 use Rattle.spv_run.proofs.Rows.{defines}
-use Rattle.spv_run.proofs.Uses.{use_by, value_use, no_any, parent_paired, pair_uses, phi_forms, PhiForms}
+use Rattle.spv_run.proofs.Uses.{value_use, no_any, parent_paired, pair_uses, phi_forms}
 use Rattle.spv_run.proofs.Unbroken.{target_of}
 
 -- the section of a branch

@@ -1,5 +1,5 @@
 -- What an instruction that fits its row is to a run, and which operands it has.
-use Rattle.std.proofs.Common.{◌≡◌, ◌++◌, append-nil, ◌⊎◌, inl, inr, ℕ, List, [], ◌∷◌, Bool, true, false, not, ◌||◌, nat_eq, if◌then◌else◌, Option, Some, None, refl, sym, ap, subst, ◌∙◌}
+use Rattle.std.proofs.Common.{◌≡◌, ◌++◌, append-nil, inl, inr, ℕ, List, [], ◌∷◌, Bool, true, false, not, ◌||◌, nat_eq, if◌then◌else◌, Some, refl, sym, ap, subst, ◌∙◌}
 use Rattle.std.proofs.lemmas.Bool.{cases_Bool, eqb-true}
 use Rattle.spv_grammar.specs.Table.{Table}
 use Rattle.spv_inst.specs.Operand.{Plain, PlainInst}
@@ -10,9 +10,9 @@ use Rattle.spv_layout.specs.declared.form.Form.TheVariants as form
 use Rattle.spv_layout.specs.declared.form.Role.{Role}
 use Rattle.spv_layout.specs.declared.form.Role.TheVariants as role
 use Rattle.spv_layout.specs.declared.form.Named.TheVariants as kind_of
-use Rattle.spv_layout.specs.Row.{PlainRow, Ending, row, closed, repeated, T, R, W, N, v, l, f, t, kind}
+use Rattle.spv_layout.specs.Row.{PlainRow, row, closed, repeated, T, R, W, N, v, l, f, t, kind}
 use Rattle.spv_layout.specs.Rows.{rows, row_of}
-use Rattle.spv_layout.specs.Shape.{is_of, AreOf, Ends, HasForms, Fits}
+use Rattle.spv_layout.specs.Shape.{is_of, AreOf, Ends, Fits}
 use Rattle.spv_ops.specs.Operands.{ids_in}
 use Rattle.spv_run.specs.Act.{Act, Function, Parameter, FunctionEnd, Label, Phi, Branch, Choose, Call, Return, ReturnValue, Other, act_of, pairs, labels_in, call_in, phi_in, branch_in, condition_in, switch_in, value_in}
 use Rattle.spv_run.specs.Act as act

@@ -1,25 +1,24 @@
 -- The types of a function and its parameters are those of its signature.
-use Rattle.std.proofs.Common.{◌≡◌, ◌≢◌, ◌∙◌, ◌≤◌, ◌<◌, ◌+◌, ◌⊎◌, inl, inr, ℕ, zero, suc, List, [], ◌∷◌, map, Bool, true, false, not, ◌||◌, nat_eq, if◌then◌else◌, Option, Some, None, refl, sym, ap, subst, arith, length, drop}
+use Rattle.std.proofs.Common.{◌≡◌, ◌≢◌, ◌∙◌, ◌≤◌, ◌<◌, ◌+◌, ℕ, zero, suc, List, [], ◌∷◌, map, true, false, ◌||◌, nat_eq, if◌then◌else◌, Option, Some, None, refl, sym, ap, subst, arith, length, drop}
 use Rattle.std.specs.Prelude.{slice_get, option_and_then, IsSomeAnd}
-use Rattle.std.proofs.lemmas.Bool.{cases_eq, ne_eqb}
+use Rattle.std.proofs.lemmas.Bool.{ne_eqb}
 use Rattle.std.proofs.lemmas.Option.{none-some, same_Some, slice_get_within}
 use Rattle.spv_grammar.specs.Table.{Table}
 use Rattle.spv_inst.specs.Operand.{Plain, PlainInst, Id, type_in}
 use Rattle.spv_inst.specs.Operand as operand
 use Rattle.spv_inst.specs.declared.fault.Rule.TheVariants as rule
-use Rattle.spv_layout.specs.Place.{IsOfFunction}
 use Rattle.spv_ops.specs.Parts.{id_in}
-use Rattle.spv_type_rules.specs.Function.{OfFunction, signature_of, ReturnsAfter, parameters_in, parameters_after, parameters_between, parameter_type_of}
+use Rattle.spv_type_rules.specs.Function.{signature_of, ReturnsAfter, parameters_in, parameters_after, parameters_between, parameter_type_of}
 use Rattle.spv_type_rules.specs.Counted.{AreCounted}
 use Rattle.spv_type_rules.proofs.Counting.{none_counted, counted_next, at_function, at_parameter, at_other, counted_at, front_ends, front_counts, front_passes}
-use Rattle.spv_run.specs.Act.{Act, Function, Parameter, FunctionEnd, Label, Other, act_of}
-use Rattle.spv_run.specs.At.{act_at, type_at}
-use Rattle.spv_run.specs.Head.{Binding, Head, end, parameter, line, IsDefined}
+use Rattle.spv_run.specs.Act.{Act, Function, Parameter, Label, Other, act_of}
+use Rattle.spv_run.specs.At.{act_at}
+use Rattle.spv_run.specs.Head.{Binding, Head, end, parameter, line}
 use Rattle.spv_run.proofs.Place.{IsOf}
 use Rattle.spv_run.proofs.LaidOut.{IsLaidOut}
 use Rattle.spv_run.proofs.Fit.{AllFit}
 use Rattle.spv_run.proofs.Checked.{HasSignatures}
-use Rattle.spv_run.proofs.Basics.{act_here, act_back, act_from, type_here}
+use Rattle.spv_run.proofs.Basics.{act_back, type_here}
 use Rattle.spv_run.proofs.Places.{of_next}
 use Rattle.spv_run.proofs.Shapes.{View, view, is_other}
 use Rattle.spv_run.proofs.Standing.{of_function, here_within}

@@ -8,7 +8,7 @@ use Rattle.spv_run.specs.At.{act_at, type_at, targets, goes_on}
 use Rattle.spv_run.specs.Head.{IsDefined, Binding}
 use Rattle.spv_run.proofs.Place.{IsFunction}
 use Rattle.spv_run.specs.Row.{Row}
-use Rattle.spv_run.proofs.Rows.{CallFits, call_fits, phi_typed, PhiTyped, same_head, same_tail, ids_same, returned_value}
+use Rattle.spv_run.proofs.Rows.{CallFits, call_fits, phi_typed, PhiTyped, ids_same, returned_value}
 use Rattle.spv_run.specs.State.{Frame, State, Outcome, Goes, Last, Before, advance, jump, enter, rebind, returned, with_top}
 use Rattle.spv_run.specs.Machine.{Lands, definition, declaration, Moves, Does, step, no_choice, bad_choice}
 use Rattle.spv_run.specs.Run.{IsStart, Reaches, none, more}

@@ -1,18 +1,16 @@
 -- Functions, blocks, local ids and labels are those of the layers below.
-use Rattle.std.proofs.Common.{◌≡◌, ◌≢◌, ◌∙◌, ◌≤◌, ◌<◌, ◌+◌, ◌-◌, ◌⊎◌, inl, inr, ℕ, zero, suc, List, [], ◌∷◌, Bool, true, false, not, ◌||◌, IsTrue, Option, Some, None, refl, sym, ap, subst, arith, length}
-use Rattle.std.specs.Prelude.{slice_get, option_map, IsSomeAnd}
-use Rattle.std.proofs.lemmas.Bool.{cases_order, cases_lt, eq-eqb, eqb-true}
-use Rattle.std.proofs.lemmas.Option.{slice_get-map, slice_get_within, same_Some, none-some}
+use Rattle.std.proofs.Common.{◌≡◌, ◌≢◌, ◌∙◌, ◌≤◌, ◌<◌, ◌+◌, ◌-◌, inl, inr, ℕ, zero, suc, List, [], ◌∷◌, Bool, true, false, not, ◌||◌, Option, Some, None, refl, sym, ap, subst, arith, length}
+use Rattle.std.specs.Prelude.{slice_get, option_map}
+use Rattle.std.proofs.lemmas.Bool.{cases_lt, eqb-true}
+use Rattle.std.proofs.lemmas.Option.{slice_get-map, slice_get_within, none-some}
 use Rattle.spv_grammar.specs.Table.{Table}
-use Rattle.spv_inst.specs.Operand.{PlainInst, result_in}
+use Rattle.spv_inst.specs.Operand.{PlainInst}
 use Rattle.spv_layout.specs.declared.class.Class.{Class}
 use Rattle.spv_layout.specs.declared.class.Class.TheVariants as class
-use Rattle.spv_layout.specs.declared.state.State.{State}
 use Rattle.spv_layout.specs.Class.{is_among}
 use Rattle.spv_layout.specs.Rows.{class_of}
 use Rattle.spv_layout.specs.Layout.{IsLayout, classes}
-use Rattle.spv_layout.specs.Place.{IsAt, IsLast, IsWithin, IsOfFunction, IsOfBlock, IsDefinition, terminators}
-use Rattle.spv_layout.specs.Shape.{Fits}
+use Rattle.spv_layout.specs.Place.{IsAt, IsOfFunction, IsOfBlock, IsDefinition, terminators}
 use Rattle.spv_ids.specs.Definition as ids
 use Rattle.spv_ids.specs.Definition.{IsDefinedAt}
 use Rattle.spv_branches.specs.Target as target
@@ -23,12 +21,12 @@ use Rattle.spv_run.proofs.Place.{IsOf, IsIn, IsLocalTo, IsLocal, IsLabel}
 use Rattle.spv_run.proofs.LaidOut.{IsLaidOut}
 use Rattle.spv_run.proofs.Fit.{AllFit}
 use Rattle.spv_run.proofs.Basics.{act_here, act_back, act_from, act_same, result_here, some_result}
-use Rattle.spv_run.proofs.Places.{of_next, in_next, in_start, one_function, goes_no_end}
+use Rattle.spv_run.proofs.Places.{in_next, in_start, one_function, goes_no_end}
 use Rattle.spv_run.proofs.Frames.{one_block}
 use Rattle.spv_run.proofs.Shapes.{View, view}
-use Rattle.spv_run.proofs.Classes.{Tests, tests, act_end}
-use Rattle.spv_run.proofs.Laid.{Inst, inst_of, block_at, implied, is_function_act, is_end_act, is_label_act, not_terminator}
-use Rattle.spv_run.proofs.Passing.{Moved, moved, in_a_block, of_block, a_terminator, an_end}
+use Rattle.spv_run.proofs.Classes.{tests, act_end}
+use Rattle.spv_run.proofs.Laid.{inst_of, block_at, implied, is_function_act, is_end_act, is_label_act, not_terminator}
+use Rattle.spv_run.proofs.Passing.{moved, in_a_block, of_block, a_terminator, an_end}
 
 class_at : (is : List PlainInst) (n : ℕ) (i : PlainInst) → slice_get is n ≡ Some i → slice_get (classes is) n ≡ Some (class_of i.opcode)
 class_at is n i h = slice_get-map (λ j. class_of j.opcode) is n ∙ ap (option_map (λ j. class_of j.opcode)) h

@@ -1,17 +1,15 @@
 -- Types: in a function the values that are used have declared types, and the rows hold with them; signatures; entry points.
-use Rattle.std.proofs.Common.{◌≡◌, ◌≢◌, ◌∙◌, ◌≤◌, ◌<◌, ◌+◌, ◌++◌, ◌⊎◌, inl, inr, ℕ, zero, suc, List, [], ◌∷◌, map, Bool, true, false, not, ◌||◌, nat_eq, if◌then◌else◌, cond, Option, Some, None, refl, sym, ap, subst, arith, length, take, drop}
-use Rattle.std.specs.Prelude.{slice_get, option_and_then, option_map, IsSomeAnd, count_by, take_while}
-use Rattle.std.proofs.lemmas.Bool.{cases_Bool, cases_eq, cases_order, cases_lt, eq-eqb, eqb-true}
-use Rattle.std.proofs.lemmas.Option.{none-some, same_Some, slice_get_within}
+use Rattle.std.proofs.Common.{◌≡◌, ◌≢◌, ◌∙◌, ◌≤◌, ◌<◌, inl, inr, ℕ, suc, List, [], ◌∷◌, map, Option, Some, None, refl, sym, ap, subst, arith, take}
+use Rattle.std.specs.Prelude.{slice_get, option_and_then, option_map, IsSomeAnd}
+use Rattle.std.proofs.lemmas.Bool.{cases_eq, cases_lt}
+use Rattle.std.proofs.lemmas.Option.{none-some, same_Some}
 use Rattle.spv_grammar.specs.Table.{Table}
 use Rattle.spv_inst.specs.Operand.{Plain, PlainInst, Id, result_in, type_in}
 use Rattle.spv_inst.specs.Operand as operand
 use Rattle.spv_inst.specs.Width.{definition_of, type_of}
 use Rattle.spv_inst.specs.declared.fault.Rule.{Rule}
 use Rattle.spv_inst.specs.declared.fault.Rule.TheVariants as rule
-use Rattle.spv_layout.specs.Layout.{IsLayout, classes}
-use Rattle.spv_layout.specs.Place.{IsOfFunction, IsDefinition}
-use Rattle.spv_ids.specs.Definition.{IsDefinedAt}
+use Rattle.spv_layout.specs.Place.{IsDefinition}
 use Rattle.spv_ops.specs.Operands.{ids_in}
 use Rattle.spv_ops.specs.Values.{types_of, paired_ids_in}
 use Rattle.spv_ops.specs.Values as rows
@@ -20,18 +18,16 @@ use Rattle.spv_ops.proofs.Judged.{told}
 use Rattle.spv_capabilities.specs.Keeps as capability_rules
 use Rattle.spv_capabilities.specs.Entry.{IsSoundEntry, IsKernelFunction}
 use Rattle.spv_type_rules.specs.Keeps as type_rules
-use Rattle.spv_type_rules.specs.Function.{OfFunction, CallsTyped, CallsSoundly, IsSoundCall, ReturnsNothing, ReturnsTyped, signature_of}
-use Rattle.spv_calls.specs.Calls.{IsEntryFunction}
-use Rattle.spv_run.specs.Act.{Act, Pair, Function, Parameter, FunctionEnd, Label, Phi, Choose, Call, Return, ReturnValue, Other, act_of, pairs}
-use Rattle.spv_run.specs.Act as act
-use Rattle.spv_run.specs.At.{act_at, result_at, type_at}
-use Rattle.spv_run.specs.Head.{Binding, Head, end, parameter, line, IsDefined, IsDeclared}
+use Rattle.spv_type_rules.specs.Function.{OfFunction, CallsTyped, IsSoundCall, ReturnsNothing, ReturnsTyped}
+use Rattle.spv_run.specs.Act.{Act, Pair, Parameter, FunctionEnd, Label, Call, ReturnValue, Other, act_of, pairs}
+use Rattle.spv_run.specs.At.{act_at}
+use Rattle.spv_run.specs.Head.{Binding, Head, end, parameter, line, IsDeclared}
 use Rattle.spv_run.proofs.Place.{IsOf}
 use Rattle.spv_run.proofs.LaidOut.{IsLaidOut}
 use Rattle.spv_run.proofs.Fit.{AllFit, HasOneDefinition}
 use Rattle.spv_run.specs.Row.{values_of, Row}
 use Rattle.spv_run.proofs.Checked.{HaveTypes, IsTyped, HasEntries}
-use Rattle.spv_run.proofs.Basics.{act_here, act_back, act_from, act_same, result_here, type_here}
+use Rattle.spv_run.proofs.Basics.{act_same}
 use Rattle.spv_run.proofs.Places.{one_function}
 use Rattle.spv_run.proofs.Frames.{label_after}
 use Rattle.spv_run.proofs.Shapes.{View, view}
@@ -166,7 +162,7 @@ undeclared G is fits g e bs d declared =
       ]
     ]
 
-entry_of : (is : List PlainInst) (os : List Plain) (x : ℕ) → slice_get os 1 ≡ Some (Id x) → IsSoundEntry is os → IsKernelFunction is x
+pub entry_of : (is : List PlainInst) (os : List Plain) (x : ℕ) → slice_get os 1 ≡ Some (Id x) → IsSoundEntry is os → IsKernelFunction is x
 entry_of is (operand.Value k m ∷ operand.Id y ∷ os) x h s = let e : y ≡ x = cc in subst (λ z. IsKernelFunction is z) e s.1
 entry_of is _ x h s = absurd s
 

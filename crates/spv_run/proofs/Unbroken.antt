@@ -1,41 +1,29 @@
 -- What a run rests on holds where no rule is broken.
-use Rattle.std.proofs.Common.{◌≡◌, ◌≢◌, ◌∙◌, ◌≤◌, ◌<◌, ◌+◌, ◌++◌, ◌⊎◌, inl, inr, ℕ, zero, suc, List, [], ◌∷◌, map, Bool, true, false, not, ◌&&◌, nat_eq, IsTrue, Option, Some, None, refl, sym, ap, subst, arith, length, Contains}
-use Rattle.std.specs.Prelude.{slice_get, option_and_then, option_map, IsSomeAnd, All, Any}
-use Rattle.std.proofs.lemmas.Bool.{cases_Bool, cases_eq, cases_order, eq-eqb, eqb-true}
-use Rattle.std.proofs.lemmas.Option.{none-some, same_Some, slice_get_within}
+use Rattle.std.proofs.Common.{◌≡◌, ◌∙◌, ◌⊎◌, inl, inr, ℕ, zero, suc, List, [], ◌∷◌, Bool, true, false, ◌&&◌, Option, Some, None, refl, sym, ap, subst, arith, Contains}
+use Rattle.std.specs.Prelude.{slice_get}
+use Rattle.std.proofs.lemmas.Bool.{cases_Bool, cases_order, eq-eqb, eqb-true}
+use Rattle.std.proofs.lemmas.Option.{none-some, same_Some}
 use Rattle.spv_grammar.specs.Table.{Table}
-use Rattle.spv_inst.specs.Operand.{Plain, PlainInst, result_in, type_in}
-use Rattle.spv_inst.specs.Width.{has_result, definition_of, type_of}
+use Rattle.spv_inst.specs.Operand.{PlainInst, result_in}
+use Rattle.spv_inst.specs.Width.{has_result}
 use Rattle.spv_inst.specs.declared.fault.Rule.TheVariants as rule
-use Rattle.spv_layout.specs.declared.form.Role.{Role}
-use Rattle.spv_layout.specs.declared.form.Role.TheVariants as role
 use Rattle.spv_layout.specs.First.{IsUnbroken}
-use Rattle.spv_layout.specs.Layout.{IsLayout, classes}
-use Rattle.spv_layout.specs.Shape.{Fits}
 use Rattle.spv_ids.specs.Broken as ids
-use Rattle.spv_ids.specs.Definition.{IsDefinedAt, IsUsedAt}
 use Rattle.spv_branches.specs.Broken as branches
 use Rattle.spv_branches.specs.Target as target
 use Rattle.spv_branches.specs.Target.{IsOp, IsLabelOf, IsTarget}
-use Rattle.spv_branches.specs.Walk as walks
-use Rattle.spv_branches.specs.Ready.{IsLocalValue}
 use Rattle.spv_calls.specs.Broken as calls
-use Rattle.spv_calls.specs.Chain.{Chain}
-use Rattle.spv_calls.specs.Calls.{Calls, IsEntryFunction}
-use Rattle.spv_run.specs.Act.{Act, Function, FunctionEnd, Label, Phi, Pair, Branch, Choose, act_of}
-use Rattle.spv_run.specs.At.{act_at, result_at, targets, goes_on, value_from}
-use Rattle.spv_run.proofs.Place.{IsOf, IsIn, IsLocal, IsLocalTo, IsLabel}
-use Rattle.spv_run.proofs.LaidOut.{IsLaidOut}
+use Rattle.spv_run.specs.Act.{Act, Label, act_of}
+use Rattle.spv_run.specs.At.{act_at, targets}
+use Rattle.spv_run.proofs.Place.{IsLabel}
 use Rattle.spv_run.proofs.Fit.{AllFit, HasOneDefinition}
-use Rattle.spv_run.proofs.Checked.{HasNoCycle, HasLabelsInScope}
+use Rattle.spv_run.proofs.Checked.{HasNoCycle}
 use Rattle.spv_run.proofs.Flow.{HasLabels}
-use Rattle.spv_run.proofs.Basics.{act_here, act_back, act_from, act_same, result_here, some_result}
-use Rattle.spv_run.proofs.Places.{one_function}
-use Rattle.spv_run.proofs.Frames.{label_after}
+use Rattle.spv_run.proofs.Basics.{act_back, act_from, result_here}
 use Rattle.spv_run.proofs.Shapes.{View, view}
 use Rattle.spv_run.proofs.Classes.{act_label}
 use Rattle.spv_run.proofs.Laid.{is_label_act}
-use Rattle.spv_run.proofs.Standing.{of_function, function_of, defined_at, result_of, label_to, label_from, is_local, local_from, here_within}
+use Rattle.spv_run.proofs.Standing.{defined_at, label_from}
 use Rattle.spv_run.proofs.Uses.{target_use}
 
 -- G1

@@ -1,5 +1,5 @@
 -- The values, targets and pairs that a run reads are uses in their roles.
-use Rattle.std.proofs.Common.{◌≡◌, ◌≢◌, ◌∙◌, ◌<◌, ◌+◌, ◌++◌, ◌⊎◌, inl, inr, ℕ, zero, suc, List, [], ◌∷◌, map, Bool, true, false, nat_eq, if◌then◌else◌, Option, Some, None, refl, sym, ap, subst, arith, Contains}
+use Rattle.std.proofs.Common.{◌≡◌, ◌≢◌, ◌∙◌, ◌+◌, ◌++◌, ◌⊎◌, inl, inr, ℕ, zero, suc, List, [], ◌∷◌, map, true, nat_eq, if◌then◌else◌, Some, None, refl, sym, ap, subst, arith, Contains}
 use Rattle.std.specs.Prelude.{slice_get}
 use Rattle.std.proofs.lemmas.Bool.{cases_Bool, eq-eqb, eqb-true}
 use Rattle.std.proofs.lemmas.Option.{none-some, same_Some}
@@ -10,9 +10,9 @@ use Rattle.spv_layout.specs.declared.form.Form.{Form}
 use Rattle.spv_layout.specs.declared.form.Form.TheVariants as form
 use Rattle.spv_layout.specs.declared.form.Role.{Role}
 use Rattle.spv_layout.specs.declared.form.Role.TheVariants as role
-use Rattle.spv_layout.specs.Row.{PlainRow, Ending, repeated, T, R, W, N, v, l, f}
+use Rattle.spv_layout.specs.Row.{PlainRow, repeated, T, R, N, v, l, f}
 use Rattle.spv_layout.specs.Rows.{row_of}
-use Rattle.spv_layout.specs.Shape.{is_of, AreOf, Ends, HasForms, Fits, role_of, id_of, IsUse}
+use Rattle.spv_layout.specs.Shape.{is_of, AreOf, Ends, Fits, role_of, id_of, IsUse}
 use Rattle.spv_ids.specs.Definition.{IsUsedAt}
 use Rattle.spv_ops.specs.declared.row.Row.{Row}
 use Rattle.spv_ops.specs.declared.row.Row.TheVariants as types_row
@@ -21,10 +21,10 @@ use Rattle.spv_ops.specs.Values.{values_of as rows_values_of}
 use Rattle.spv_ops.proofs.ValuePlaces.{values_agree}
 use Rattle.spv_run.specs.Row.{values_of}
 use Rattle.spv_ops.specs.Operands.{ids_in}
-use Rattle.spv_ops.specs.Values.{value_in, used_in}
-use Rattle.spv_run.specs.Act.{Act, Pair, Phi, Branch, Choose, Call, ReturnValue, act_of, pairs, labels_in}
+use Rattle.spv_ops.specs.Values.{used_in}
+use Rattle.spv_run.specs.Act.{Act, Pair, Phi, act_of, pairs, labels_in}
 use Rattle.spv_run.specs.At.{targets, value_from}
-use Rattle.spv_run.proofs.Shapes.{Took, take, none, an_id, Led, led, View, view, row_57, row_245, row_249, row_250, row_251, row_254}
+use Rattle.spv_run.proofs.Shapes.{take, none, led, View, view, row_57, row_245, row_249, row_250, row_251, row_254}
 
 -- Some operand of a form is an id in the role.
 pub data HasUse (r : Role) (x : ℕ) : List Form → List Plain → Type 0 where

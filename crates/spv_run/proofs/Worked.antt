@@ -1,30 +1,34 @@
 -- The run of a function that only returns.
-use Rattle.std.proofs.Common.{◌≡◌, ◌∙◌, ◌++◌, append-nil, ℕ, zero, suc, List, [], ◌∷◌, Bool, true, false, not, ◌&&◌, Option, Some, None, refl, sym, ap, subst, arith}
+use Rattle.std.proofs.Common.{◌≡◌, ◌∙◌, ◌++◌, append-nil, ℕ, zero, suc, List, [], ◌∷◌, Bool, true, false, not, ◌&&◌, Some, refl, sym, ap, subst, arith}
 use Rattle.std.specs.Prelude.{slice_get}
 use Rattle.std.proofs.lemmas.Option.{none-some, same_Some}
 use Rattle.spv_grammar.specs.Table.{Table}
-use Rattle.spv_inst.specs.Operand.{Plain, PlainInst, OfType, Result, Id, Mask}
-use Rattle.spv_inst.specs.Operand as operand
+use Rattle.spv_inst.specs.Operand.{Plain, PlainInst, Result}
 use Rattle.spv_layout.specs.declared.class.Class.{Class}
 use Rattle.spv_layout.specs.declared.form.Form.{Form}
 use Rattle.spv_layout.specs.declared.form.Form.TheVariants as form
-use Rattle.spv_layout.specs.declared.form.Role.{Role}
 use Rattle.spv_layout.specs.declared.form.Role.TheVariants as role
-use Rattle.spv_layout.specs.Row.{PlainRow, row, closed}
+use Rattle.spv_layout.specs.Row.{row, closed}
 use Rattle.spv_layout.specs.Rows.{row_of}
 use Rattle.spv_layout.specs.Shape.{Ends, role_of, IsUse}
-use Rattle.spv_ids.specs.Definition.{IsUsedAt}
 use Rattle.spv_ops.specs.Example.{inst}
 use Rattle.spv_run.specs.Act.{Label, Return, FunctionEnd, act_of}
 use Rattle.spv_run.specs.At.{act_at, result_at, type_at}
 use Rattle.spv_run.specs.Head.{end, IsDefined, IsDeclared}
-use Rattle.spv_run.specs.State.{Ending, Finished, Limit, Stuck, Outcome, Goes, Last, Before}
+use Rattle.spv_run.specs.State.{Ending, Finished, Limit, Stuck, State, Outcome, Goes, Last, Before}
 use Rattle.spv_run.specs.Machine.{ReadsOthers, Does, step, no_choice, bad_choice}
-use Rattle.spv_run.specs.Run.{Run, limit, next, last, stuck}
+use Rattle.spv_run.specs.Run.{IsStart, Run, limit, next, last, stuck}
 use Rattle.spv_run.specs.declared.parts.Step.{Step}
-use Rattle.spv_run.specs.Example.{lone, standing, step_at}
+use Rattle.spv_run.specs.Example.{lone, unended, standing, step_at}
+use Rattle.spv_calls.specs.Broken.{Broken}
+use Rattle.spv_calls.specs.Calls.{IsEntryFunction}
+use Rattle.spv_calls.specs.Example.{entry, function, functions, looped}
+use Rattle.spv_inst.specs.declared.fault.Rule.TheVariants.{G1}
+use Rattle.spv_run.specs.Entry.{IsEntryId}
+use Rattle.spv_run.specs.Promise.{NeverGetsStuck}
+use Rattle.spv_run.specs.Sound.{IsSound}
 use Rattle.spv_run.proofs.Shapes.{row_248, row_253}
-use Rattle.spv_run.proofs.Uses.{Forms, forms_of}
+use Rattle.spv_run.proofs.Uses.{forms_of}
 
 -- Rows without the role any.
 
@@ -78,9 +82,9 @@ return_free : free [] ≡ true
 unfolding free
 return_free = refl
 
-none_at_label : (G : Table) → ReadsOthers G lone (standing 3).top
-none_at_label G k x used local =
-    let same : inst 248 (Result 4 ∷ []) ≡ used.inst = same_Some (inst 248 (Result 4 ∷ [])) used.inst used.there in
+none_at_label : (G : Table) (is : List PlainInst) → slice_get is 3 ≡ Some (inst 248 (Result 4 ∷ [])) → ReadsOthers G is (standing 3).top
+none_at_label G is at k x used local =
+    let same : inst 248 (Result 4 ∷ []) ≡ used.inst = same_Some (inst 248 (Result 4 ∷ [])) used.inst (sym at ∙ used.there) in
     absurd (no_any G (inst 248 (Result 4 ∷ [])) 248 248 _ _ k x row_248 label_free (subst (λ (i : PlainInst). IsUse G i k x role.Any) (sym same) used.used))
 
 none_at_return : (G : Table) → ReadsOthers G lone (standing 4).top
@@ -98,7 +102,7 @@ undeclared d = let e : Some Label ≡ Some FunctionEnd = d.over in let w = same_
 
 pub at_label : (G : Table) → Does G lone (standing 3) (Goes (standing 4))
 unfolding act_of result_at
-at_label G = step (inst 248 (Result 4 ∷ [])) [] [] refl refl tt (none_at_label G) tt refl
+at_label G = step (inst 248 (Result 4 ∷ [])) [] [] refl refl tt (none_at_label G lone refl) tt refl
 
 pub at_return : (G : Table) → Does G lone (standing 4) (Last Finished)
 unfolding act_of type_at
@@ -139,3 +143,47 @@ sooner G _ _ _ (stuck n s none) h g = none (Goes (standing 4)) (at_label G)
 
 pub not_nothing : (G : Table) → ¬ (Run G lone 9 (standing 3) [] Stuck)
 not_nothing G r = sooner G 9 [] Stuck r refl refl
+
+-- Where runs begin.
+
+pub starts : IsStart lone 2 [] (standing 3)
+starts = record { entry = 3; parameters = []; defined = defined; start = refl }
+
+pub starts_before : ¬ (IsStart lone 2 [] (standing 4))
+unfolding act_at act_of
+starts_before s =
+    let e : 4 ≡ s.entry = ap (λ (t : State). t.top.position) s.start in
+    let h : act_at lone 4 ≡ Some Label = ap (act_at lone) e ∙ s.defined.entry in
+    let w = same_Some Return Label h in
+    cc
+
+pub entry_id : IsEntryId looped 1
+entry_id = record { place = 0; inst = entry 1; there = refl; opcode = refl; named = refl }
+
+pub no_entry_id : ((f : ℕ) → ¬ (IsEntryFunction functions f)) → ¬ (IsEntryId functions 1)
+no_entry_id none e = none 0 (record { place = e.place; inst = e.inst; there = e.there; opcode = e.opcode; id = 1; named = e.named; function = record { inst = function 1; there = refl; result = refl } })
+
+-- A block without a terminator.
+
+unended_label : (G : Table) → Does G unended (standing 3) (Goes (standing 4))
+unfolding act_of result_at
+unended_label G = step (inst 248 (Result 4 ∷ [])) [] [] refl refl tt (none_at_label G unended refl) tt refl
+
+unended_over : (G : Table) (o : Outcome) → ¬ (Does G unended (standing 4) o)
+unfolding act_of
+unended_over G o (step i xs tags at v r others row m) =
+    let same : inst 56 [] ≡ i = same_Some (inst 56 []) i at in
+    absurd (rw (← same) at m)
+unended_over G o (no_choice i c ls at e empty h) = let same : inst 56 [] ≡ i = same_Some (inst 56 []) i at in let e' = rw (← same) at e in cc
+unended_over G o (bad_choice i c k ls left at e some out h) = let same : inst 56 [] ≡ i = same_Some (inst 56 []) i at in let e' = rw (← same) at e in cc
+
+unended_start : IsStart unended 2 [] (standing 3)
+unfolding act_at act_of
+unended_start = record { entry = 3; parameters = []; defined = record { function = refl; head = end; entry = refl }; start = refl }
+
+pub gets_stuck : (G : Table) → ¬ (NeverGetsStuck G unended 2 [])
+gets_stuck G never =
+    never.free (standing 3) 9 (step_at 0 3 ∷ []) Stuck unended_start (next 8 (standing 3) (standing 4) [] Stuck (unended_label G) (stuck 7 (standing 4) (unended_over G))) refl
+
+pub not_sound : (G : Table) (bound : ℕ) → Broken looped G1 8 → ¬ (IsSound G bound looped)
+not_sound G bound b sound = sound.calls G1 8 refl b

@@ -1,8 +1,8 @@
 -- A small module, and states of its run.
-use Rattle.std.specs.Prelude.{ℕ, List, [], ◌∷◌, Option, None}
+use Rattle.std.specs.Prelude.{ℕ, List, [], ◌∷◌}
 use Rattle.spv_inst.specs.Operand.{OfType, Result, Id, Number, Mask, PlainInst}
 use Rattle.spv_ops.specs.Example.{inst}
-use Rattle.spv_run.specs.State.{Frame, State, enter}
+use Rattle.spv_run.specs.State.{State, enter}
 use Rattle.spv_run.specs.declared.parts.Step.{Step}
 
 -- OpSwitch %7 %8 0 %9 1 %8
@@ -24,7 +24,17 @@ lone =
     inst 56 [] ∷  -- OpFunctionEnd
     []
 
--- the state in which its run stands at an instruction
+-- the same, whose block has no terminator
+abbrev pub unended : List PlainInst
+unended =
+    inst 19 (Result 1 ∷ []) ∷  -- %1 = OpTypeVoid
+    inst 33 (Result 2 ∷ Id 1 ∷ []) ∷  -- %2 = OpTypeFunction %1
+    inst 54 (OfType 1 ∷ Result 3 ∷ Mask 9 0 ∷ Id 2 ∷ []) ∷  -- %3 = OpFunction %1 None %2
+    inst 248 (Result 4 ∷ []) ∷  -- %4 = OpLabel
+    inst 56 [] ∷  -- OpFunctionEnd
+    []
+
+-- the state in which a run of them stands at an instruction
 abbrev pub standing : ℕ → State
 standing n = record { top = enter 2 n []; below = []; choices = [] }
 

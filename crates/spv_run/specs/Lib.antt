@@ -9,6 +9,6 @@ pub mod Definitions
 pub mod Sound
 pub mod Promise
 pub mod Trace
-pub mod Moves
+pub mod Bodies
 pub mod Entry
 pub mod Example

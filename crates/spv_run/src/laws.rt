@@ -1,6 +1,6 @@
 //! Laws of runs. Each function does nothing: its contract is what is proved.
 
-ghost use Rattle.std.specs.Prelude.{◌≡◌, ℕ, List, [], ◌∷◌, Some, None};
+ghost use Rattle.std.specs.Prelude.{◌≡◌, ◌≢◌, ℕ, List, [], ◌∷◌, Some, None};
 ghost use Rattle.spv_grammar.specs.Table.{Table};
 ghost use Rattle.spv_inst.specs.Operand.{PlainInst};
 ghost use Rattle.spv_calls.specs.Calls.{IsEntryFunction};
@@ -12,11 +12,13 @@ ghost use Rattle.spv_run.specs.Act.{Label, Choose, Call, ReturnValue, Misfit, ac
 ghost use Rattle.spv_run.specs.At.{act_at};
 ghost use Rattle.spv_run.specs.Head.{IsDefined, IsDeclared};
 ghost use Rattle.spv_run.specs.Row.{Row};
-ghost use Rattle.spv_run.specs.Example.{switch, return_value, lone, standing, step_at};
+ghost use Rattle.spv_run.specs.Example.{switch, return_value, lone, unended, standing, step_at};
 ghost use Rattle.spv_run.specs.State.{Ending, Finished, Limit, Stuck, State, Outcome, Goes, Last};
 ghost use Rattle.spv_run.specs.Machine.{Does};
-ghost use Rattle.spv_run.specs.Run.{Run};
+ghost use Rattle.spv_run.specs.Run.{IsStart, Run};
 ghost use Rattle.spv_run.specs.Promise.{NeverGetsStuck};
+ghost use Rattle.spv_run.specs.Entry.{IsEntryId};
+ghost use Rattle.spv_calls.specs.Example.{functions, looped};
 
 /// A module on which no rule is broken never gets stuck: from each entry point's function, for all choices and numbers of steps,
 /// the run ends otherwise, bound ids have their declared types, and the frames are fewer than the definitions.
@@ -24,15 +26,21 @@ pub fn run_never_gets_stuck()
     ensures { (G : Table) (bound : ℕ) (is : List PlainInst) → IsSound G bound is → (g : ℕ) → IsEntryFunction is g → (choices : List ℕ) → NeverGetsStuck G is g choices }
 {}
 
-/// At most one thing comes of a state, where no rule is broken.
+/// At most one thing comes of a state, where no rule is broken: under whatever table.
 pub fn one_outcome()
-    ensures { (G : Table) (bound : ℕ) (is : List PlainInst) → IsSound G bound is → (s : State) (o p : Outcome) → Does G is s o → Does G is s p → o ≡ p }
+    ensures { (G H : Table) (bound : ℕ) (is : List PlainInst) → IsSound G bound is → (s : State) (o p : Outcome) → Does G is s o → Does H is s p → o ≡ p }
 {}
 
 /// So a state has at most one run of each length.
 pub fn one_run()
     ensures { (G : Table) (bound : ℕ) (is : List PlainInst) → IsSound G bound is → (n : ℕ) (s : State) (steps others : List Step) (e f : Ending)
         → Run G is n s steps e → Run G is n s others f → (steps ≡ others) × (e ≡ f) }
+{}
+
+/// So it has under any two tables, if neither run gets stuck.
+pub fn one_free_run()
+    ensures { (G H : Table) (bound : ℕ) (is : List PlainInst) → IsSound G bound is → (n : ℕ) (s : State) (steps others : List Step) (e f : Ending)
+        → Run G is n s steps e → Run H is n s others f → e ≢ Stuck → f ≢ Stuck → (steps ≡ others) × (e ≡ f) }
 {}
 
 /// What instructions are to a run: an OpSwitch has its targets in order, each as often as it stands there.
@@ -66,3 +74,19 @@ pub fn run_examples()
     ensures stuck { (G : Table) → Run G lone 9 (standing 5) [] Stuck }
     ensures not_stuck { (G : Table) → ¬ (Run G lone 9 (standing 3) [] Stuck) }
 {}
+
+/// Where runs begin, which ids are those of entry points, and lists that no run is promised of.
+pub fn promise_examples()
+    // The function of instruction 2 begins at its OpLabel, and not after that.
+    ensures start { IsStart lone 2 [] (standing 3) }
+    ensures no_start { ¬ (IsStart lone 2 [] (standing 4)) }
+    // An OpEntryPoint names %1. Without it none does.
+    ensures entry { IsEntryId looped 1 }
+    ensures no_entry { ¬ (IsEntryId functions 1) }
+    // A block without a terminator: the run gets stuck after the OpLabel.
+    ensures stuck { (G : Table) → ¬ (NeverGetsStuck G unended 2 []) }
+    // A function that an entry point leads to calls itself.
+    ensures unsound { (G : Table) (bound : ℕ) → ¬ (IsSound G bound looped) }
+{
+    spv_calls::laws::call_examples();
+}

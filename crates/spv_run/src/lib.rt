@@ -1,6 +1,7 @@
 //! Runs of a checked module: a machine of frames, its steps, and that it never gets stuck.
 #![tactic(auto)]
 
+mod bodies;
 mod entry;
 pub mod laws;
 mod moves;
@@ -9,7 +10,5 @@ mod tracer;
 mod whole;
 
 pub use entry::is_entry;
-pub use moves::moves_of;
-pub use parts::{Ending, Move, Step, Trace, TraceError};
-pub use tracer::trace;
+pub use parts::{Code, Ending, Step, Trace, TraceError};
 pub use whole::trace_function;

@@ -3,22 +3,20 @@
 ghost use Rattle.std.specs.Prelude.{◌≡◌};
 ghost use Rattle.spv_run.specs.declared.parts.TraceError.TheVariants.{X2};
 
+use spv_ids::Ids;
+use spv_inst::Inst;
 use std::alloc::AllocError;
 use thiserror::Error;
 
-/// What an instruction of a function's body does to a run. Numbers are those of instructions.
-#[derive(Debug, Drop)]
-pub enum Move {
-    /// Goes on to the next.
-    On,
-    /// Goes to a label.
-    Branch(u32),
-    /// Goes to one of these labels.
-    Choose(Vec<u32>),
-    /// Calls the definition whose body begins at this label.
-    Call(u32),
-    Return,
-    Unreachable,
+/// The instructions of a module, and what is known of them.
+#[derive(Clone, Copy)]
+pub struct Code<'m, 'a> {
+    /// The instructions, numbered from 0.
+    pub insts: &'m [Inst<'a>],
+    /// Which instruction defines each id.
+    pub ids: &'m Ids,
+    /// How many function definitions there are: as many frames as memory is taken for at the start of a run.
+    pub definitions: u32,
 }
 
 /// How a run ends (own).

@@ -1,6 +1,9 @@
 //! The steps of a run, by what each instruction does.
 
-use crate::parts::{Ending, Move, Step, Trace};
+use crate::moves::{Move, move_of, place_of, target_of};
+use crate::parts::{Code, Ending, Step, Trace};
+use spv_ids::Ids;
+use spv_inst::Inst;
 use std::alloc::{AllocError, Global};
 
 /// Where a run stands, where the calls that it is in go on, the last one last, and how many choices it took.
@@ -19,39 +22,68 @@ enum Turn {
     Before(Ending),
 }
 
+/// Where a run begins: the label of the entry block, and where the bodies of functions begin.
+#[derive(Clone, Copy)]
+pub struct Start<'m> {
+    pub entry: u32,
+    /// At each OpFunction the OpLabel with which its body begins, or 0.
+    pub entries: &'m [u32],
+}
+
 impl Walker {
-    ghost use Rattle.std.specs.Prelude.{◌≡◌, ◌≤◌, ◌+◌, ℕ, length, IfOk};
-    ghost use Rattle.spv_run.specs.Trace.{kept, turned, turn};
+    ghost use Rattle.std.specs.Prelude.{◌≡◌, ◌≤◌, ◌+◌, ℕ, List, Some, length, map, slice_get, IfOk};
+    ghost use Rattle.spv_grammar.specs.Table.{Table};
+    ghost use Rattle.spv_inst.specs.Operand.{PlainInst};
+    ghost use Rattle.spv_inst.specs.Module.{plain_inst};
+    ghost use Rattle.spv_calls.specs.Found.{AreNumbered};
+    ghost use Rattle.spv_run.specs.Act.{Choose, act_of};
+    ghost use Rattle.spv_run.specs.Sound.{IsSound};
+    ghost use Rattle.spv_run.specs.Trace.{kept, turned, IsTurn, ByChoice};
+
+    /// Goes to the target that is chosen next, if there is one.
+    fn choose(&mut self, inst: &Inst<'_>, ids: &Ids, choices: &[u32]) -> Turn
+        ensures callers { self.new.callers ≡ self.old.callers }
+        ensures turn { (is : List PlainInst) (G : Table) (bound n c : ℕ) (xs : List ℕ) → IsSound G bound is → AreNumbered is ids.now → slice_get is n ≡ Some (plain_inst inst.now)
+            → act_of (plain_inst inst.now) ≡ Choose c xs → ByChoice is (kept self.old choices.now) xs (kept self.old choices.now).choices (turned result (kept self.new choices.now)) }
+    {
+        let Some(choice) = choices.get(self.taken) else {
+            return Turn::Before(Ending::NoChoice);
+        };
+        let Some(label) = target_of(inst, *choice) else {
+            return Turn::Before(Ending::BadChoice);
+        };
+        self.taken += 1;
+        self.position = place_of(ids, label);
+        Turn::Goes
+    }
 
     /// Goes by the instruction at the position; where there is none, it goes nowhere.
-    fn turn(&mut self, moves: &[Move], choices: &[u32]) -> Result<Turn, AllocError>
-        requires { length moves.now ≤ 4194304 }
+    fn turn(
+        &mut self,
+        code: Code<'_, '_>,
+        entries: &[u32],
+        choices: &[u32],
+    ) -> Result<Turn, AllocError>
+        requires { length code.insts.now ≤ 4194304 }
         ensures depth { IfOk result (λ r. length self.new.callers.items ≤ length self.old.callers.items + 1) }
-        ensures turn { IfOk result (λ r. turn moves.now (kept self.old choices.now) ≡ turned r (kept self.new choices.now)) }
+        ensures turn { IfOk result (λ r. IsTurn (map plain_inst code.entry.insts.now) code.entry.ids.now entries.now (kept self.old choices.now) (turned r (kept self.new choices.now))) }
     {
-        let Some(instruction) = moves.get(self.position as usize) else {
+        let Some(inst) = code.insts.get(self.position as usize) else {
             return Ok(Turn::Before(Ending::Limit));
         };
-        match instruction {
+        match move_of(inst, code.ids, entries) {
             Move::On => {
                 self.position += 1;
             }
             Move::Branch(label) => {
-                self.position = *label;
+                self.position = label;
             }
-            Move::Choose(labels) => {
-                let Some(choice) = choices.get(self.taken) else {
-                    return Ok(Turn::Before(Ending::NoChoice));
-                };
-                let Some(label) = labels.get(*choice as usize) else {
-                    return Ok(Turn::Before(Ending::BadChoice));
-                };
-                self.taken += 1;
-                self.position = *label;
+            Move::Choose => {
+                return Ok(self.choose(inst, code.ids, choices));
             }
             Move::Call(label) => {
                 self.callers.push(self.position + 1)?;
-                self.position = *label;
+                self.position = label;
             }
             Move::Return => {
                 let Some(caller) = self.callers.pop() else {
@@ -67,26 +99,26 @@ impl Walker {
     }
 }
 
-ghost use Rattle.std.specs.Prelude.{◌≤◌, length, IfOk};
+ghost use Rattle.std.specs.Prelude.{◌≤◌, length, map, IfOk};
+ghost use Rattle.spv_inst.specs.Module.{plain_inst};
 ghost use Rattle.spv_run.specs.Trace.{IsRun};
 
-/// The steps of a run in at most `limit` steps, from the label `entry` on, and how it ended. Memory for `frames` frames is taken
-/// at the start; a run of no more frames takes more for its steps alone.
-pub fn trace(
+/// The steps of a run in at most `limit` steps, from the label where it begins, and how it ended. Memory for as many frames as
+/// there are function definitions is taken at the start; a run of no more frames takes more for its steps alone.
+pub fn steps_of(
     alloc: Global,
-    moves: &[Move],
-    entry: u32,
-    frames: u32,
+    code: Code<'_, '_>,
+    start: Start<'_>,
     choices: &[u32],
     limit: u32,
 ) -> Result<Trace, AllocError>
-    requires { length moves.now ≤ 4194304 }
-    ensures { IfOk result (λ t. IsRun moves.now entry choices.now limit t.steps.items t.ending) }
+    requires { length code.insts.now ≤ 4194304 }
+    ensures { IfOk result (λ t. IsRun (map plain_inst code.entry.insts.now) code.entry.ids.now start.entry.entries.now start.entry.entry choices.now limit t.steps.items t.ending) }
 {
-    let callers = Vec::with_capacity(alloc, frames as usize)?;
+    let callers = Vec::with_capacity(alloc, code.definitions as usize)?;
     let mut steps = Vec::new(alloc);
     let mut walker = Walker {
-        position: entry,
+        position: start.entry,
         callers,
         taken: 0,
     };
@@ -95,7 +127,7 @@ pub fn trace(
             depth: walker.callers.len() as u32,
             inst: walker.position,
         };
-        match walker.turn(moves, choices)? {
+        match walker.turn(code, start.entries, choices)? {
             Turn::Goes => steps.push(step)?,
             Turn::Last(ending) => {
                 steps.push(step)?;

@@ -2,6 +2,7 @@ pub mod Answer
 pub mod Broken
 pub mod Checked
 pub mod Program
+pub mod Run
 pub mod Stream
 pub mod Text
 pub mod Valid

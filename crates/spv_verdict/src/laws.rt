@@ -5,16 +5,21 @@ ghost use Rattle.spv_inst.specs.Operand.{PlainInst};
 ghost use Rattle.spv_inst.specs.declared.fault.Fault.{Fault};
 ghost use Rattle.spv_inst.specs.declared.fault.Rule.{Rule};
 ghost use Rattle.spv_inst.specs.declared.fault.Rule.TheVariants.{A1, G1, I7, L2, Y7};
+ghost use Rattle.spv_calls.specs.Calls.{IsEntryFunction};
 ghost use Rattle.spv_calls.specs.Example.{functions, looped};
+ghost use Rattle.spv_run.specs.Promise.{NeverGetsStuck};
 ghost use Rattle.spv_verdict.specs.Answer.{IsFault};
-ghost use Rattle.spv_verdict.specs.Checked.{IsChecked};
+ghost use Rattle.spv_verdict.specs.Checked.{IsChecked, IsKept};
 ghost use Rattle.spv_verdict.specs.Program.{Program};
 ghost use Rattle.spv_verdict.specs.Broken.{Broken, IsFirst, Precedes};
+ghost use Rattle.spv_verdict.specs.Run.{IsTraceOf};
+ghost use Rattle.spv_run.specs.declared.parts.Trace.{Trace};
 ghost use Rattle.spv_verdict.specs.Stream.{Begins, Tells};
 ghost use Rattle.spv_verdict.specs.Valid.{IsValid};
 ghost use Rattle.spv_verdict.specs.Verdict.{IsVerdict, fault_line, line_end, valid_line};
 
 use spv_inst::{listed_or_dead, one_death, one_listing};
+use spv_run::laws::run_never_gets_stuck;
 
 /// Bytes have one verdict line.
 pub fn one_verdict()
@@ -47,6 +52,20 @@ pub fn one_answer()
 /// Of all broken rules at most one is told, at one instruction.
 pub fn one_first()
     ensures { (G : Table) (bound : ℕ) (is : List PlainInst) (q r : Rule) (m n : ℕ) → IsFirst G bound is q m → IsFirst G bound is r n → (q ≡ r) × (m ≡ n) }
+{}
+
+/// A checked module never gets stuck: from each entry point's function, for all choices and numbers of steps, the run ends
+/// otherwise, bound ids have their declared types, and the frames are fewer than the function definitions.
+pub fn never_stuck()
+    ensures { (G : Table) (p : Program) → IsKept G p → (g : ℕ) → IsEntryFunction p.insts g → (choices : List ℕ) → NeverGetsStuck G p.insts g choices }
+{
+    run_never_gets_stuck();
+}
+
+/// A program has one trace of an id, choices and a limit, whatever the tables by which it is valid.
+pub fn one_trace()
+    ensures { (p : Program) (x : ℕ) (choices : List ℕ) (limit : ℕ) (t u : Trace) → IsTraceOf p x choices limit t → IsTraceOf p x choices limit u
+        → (t.steps.items ≡ u.steps.items) × (t.ending ≡ u.ending) }
 {}
 
 /// Worked examples.

@@ -2,7 +2,7 @@
 
 use spv_grammar::Table;
 use spv_inst::{Fault, Rule};
-use spv_verdict::{Verdict, check, check_stream};
+use spv_verdict::{Ending, Trace, TraceError, Verdict, check, check_stream, trace};
 use spv_words::{FromRead, FromWrite, Image, read_image};
 use std::alloc::Global;
 use std::test::Fail;
@@ -140,6 +140,35 @@ const ENDLESS: &[u32] = &[
     0x0001_0038,
 ];
 
+/// Instructions 10 to 13: OpBranchConditional %4 %7 %8, %7 = OpLabel, OpBranch %8, %8 = OpLabel
+const CHOICE: &[u32] = &[
+    0x0004_00FA,
+    4,
+    7,
+    8,
+    0x0002_00F8,
+    7,
+    0x0002_00F9,
+    8,
+    0x0002_00F8,
+    8,
+];
+
+/// Instructions 10 to 14, which never end: OpBranch %7, %7 = OpLabel, %11 = OpFunctionCall %1 %20, OpBranch %7, OpFunctionEnd
+const ROUND: &[u32] = &[
+    0x0002_00F9,
+    7,
+    0x0002_00F8,
+    7,
+    0x0004_0039,
+    1,
+    11,
+    20,
+    0x0002_00F9,
+    7,
+    0x0001_0038,
+];
+
 /// The image of a header and some instructions.
 fn image(alloc: Global, lines: &[&[u32]]) -> Result<Image, Fail> {
     let mut bytes = Vec::new(alloc);
@@ -238,5 +267,85 @@ fn verdict_lines(rt: HostRuntime) -> Result<(), Fail> {
     let (out, answer) = written(rt.alloc(), &[BEGINNING, ENTRY, CALL, END, ENDLESS])?;
     assert_eq!(rt; out.as_slice(), b"fault G1 inst 15 word 46\n".as_slice());
     assert!(rt; !answer);
+    Ok(())
+}
+
+/// The trace of the function %id in some lines, or why there is none.
+fn traced(
+    alloc: Global,
+    lines: &[&[u32]],
+    id: u32,
+    choices: &[u32],
+    limit: u32,
+) -> Result<Result<Trace, TraceError>, Fail> {
+    let table = Table::from_slice(alloc, GRAMMAR.as_bytes())?;
+    let image = image(alloc, lines)?;
+    match check(alloc, &table, &image)? {
+        Verdict::Valid(checked) => Ok(trace(alloc, &checked, id, choices, limit)),
+        Verdict::Fault(_) => Err(Fail::from("a valid module")),
+    }
+}
+
+/// Whether it is a trace of these depths and instructions, with that end. Want of memory is an error.
+fn is_trace(
+    told: Result<Trace, TraceError>,
+    steps: &[(u32, u32)],
+    ending: Ending,
+) -> Result<bool, TraceError> {
+    let told = told?;
+    let mut same = told.steps.len() == steps.len() && told.ending == ending;
+    for (step, expected) in told.steps.iter().zip(steps) {
+        if (step.depth, step.inst) != *expected {
+            same = false;
+        }
+    }
+    Ok(same)
+}
+
+#[test]
+fn traces_a_call(rt: HostRuntime) -> Result<(), Fail> {
+    let lines: &[&[u32]] = &[BEGINNING, ENTRY, CALL, END, SECOND];
+    let told = traced(rt.alloc(), lines, 5, &[], 4_294_967_295)?;
+    let steps: &[(u32, u32)] = &[(0, 9), (0, 10), (1, 14), (1, 15), (0, 11)];
+    assert!(rt; is_trace(told, steps, Ending::Finished)?);
+    let short = traced(rt.alloc(), lines, 5, &[], 3)?;
+    let steps: &[(u32, u32)] = &[(0, 9), (0, 10), (1, 14)];
+    assert!(rt; is_trace(short, steps, Ending::Limit)?);
+    // The second function is that of no entry point.
+    let refused = traced(rt.alloc(), lines, 20, &[], 3)?;
+    assert!(rt;
+        match refused {
+            Ok(_) => false,
+            Err(error) => error == TraceError::X1,
+        }
+    );
+    Ok(())
+}
+
+#[test]
+fn traces_choices(rt: HostRuntime) -> Result<(), Fail> {
+    let lines: &[&[u32]] = &[BEGINNING, ENTRY, CHOICE, END];
+    let one = traced(rt.alloc(), lines, 5, &[0, 9], 9)?;
+    let steps: &[(u32, u32)] = &[(0, 9), (0, 10), (0, 11), (0, 12), (0, 13), (0, 14)];
+    assert!(rt; is_trace(one, steps, Ending::Finished)?);
+    let other = traced(rt.alloc(), lines, 5, &[1], 9)?;
+    let steps: &[(u32, u32)] = &[(0, 9), (0, 10), (0, 13), (0, 14)];
+    assert!(rt; is_trace(other, steps, Ending::Finished)?);
+    let none = traced(rt.alloc(), lines, 5, &[], 9)?;
+    assert!(rt; is_trace(none, &[(0, 9)], Ending::NoChoice)?);
+    let bad = traced(rt.alloc(), lines, 5, &[2], 9)?;
+    assert!(rt; is_trace(bad, &[(0, 9)], Ending::BadChoice)?);
+    Ok(())
+}
+
+#[test]
+fn traces_rounds(rt: HostRuntime) -> Result<(), Fail> {
+    let lines: &[&[u32]] = &[BEGINNING, ENTRY, ROUND, SECOND];
+    let told = traced(rt.alloc(), lines, 5, &[], 100_000)??;
+    assert_eq!(rt; told.steps.len(), 100_000);
+    assert!(rt; told.ending == Ending::Limit);
+    // Two steps come before the first round of five: a label, a call, the callee's label and return, and a branch.
+    let last = told.steps.as_slice()[99_999];
+    assert_eq!(rt; (last.depth, last.inst), (1, 16));
     Ok(())
 }

@@ -1,4 +1,4 @@
-use Rattle.std.proofs.Common.{◌≡◌, refl}
+use Rattle.std.proofs.Common.{refl}
 use Rattle.spv_run.proofs.Worked.{defined, undeclared}
 use Rattle.spv_run.proofs.laws.row_examples.Goals as goal
 

@@ -13,14 +13,10 @@ returns-in-None c = λ is G bound n sound num have at.
     absurd (branch_named (plain_inst c.args.inst.now) is c.if-opcode-eq-BRANCH.true (sym c.id_at.ensures ∙ c.in-None.is) G bound n sound at)
 
 pub returns-then-opcode-eq-BRANCH_CONDITIONAL : goal.returns-then-opcode-eq-BRANCH_CONDITIONAL
-returns-then-opcode-eq-BRANCH_CONDITIONAL c = λ is G bound n sound num have at.
-    choose_tells (plain_inst c.args.inst.now) is c.in_ok-targets_of.field-0 (inl c.if-opcode-eq-BRANCH_CONDITIONAL.true)
-    (c.in_ok-targets_of.ensures is num) G bound n sound at
+returns-then-opcode-eq-BRANCH_CONDITIONAL c = λ is G bound n sound num have at. choose_tells (plain_inst c.args.inst.now) is (inl c.if-opcode-eq-BRANCH_CONDITIONAL.true) G bound n sound at
 
 pub returns-then-opcode-eq-SWITCH : goal.returns-then-opcode-eq-SWITCH
-returns-then-opcode-eq-SWITCH c = λ is G bound n sound num have at.
-    choose_tells (plain_inst c.args.inst.now) is c.in_ok-targets_of-2.field-0 (inr c.if-opcode-eq-SWITCH.true)
-    (c.in_ok-targets_of-2.ensures is num) G bound n sound at
+returns-then-opcode-eq-SWITCH c = λ is G bound n sound num have at. choose_tells (plain_inst c.args.inst.now) is (inr c.if-opcode-eq-SWITCH.true) G bound n sound at
 
 pub returns-in-Some-id_at : goal.returns-in-Some-id_at
 returns-in-Some-id_at c = λ is G bound n sound num have at.

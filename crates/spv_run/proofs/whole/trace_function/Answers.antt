@@ -5,7 +5,7 @@ use Rattle.spv_run.proofs.whole.trace_function.Goals as goal
 
 pub returns-clause-trace : goal.returns-clause-trace
 returns-clause-trace c =
-    let is = map plain_inst c.args.insts.now in
+    let is = map plain_inst c.args.code.insts.now in
     let entry = c.is_entry.ensures.0 c.if-not-is_entry.false in
     record {
       entry = entry;

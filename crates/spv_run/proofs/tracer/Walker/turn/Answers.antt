@@ -1,40 +1,75 @@
-use Rattle.std.proofs.Common.{drop, reverse, arith}
-use Rattle.spv_run.specs.declared.parts.Move.TheVariants as move
-use Rattle.spv_run.proofs.Turns.{found, found_as, on_turn, branch_turn, unreachable_turn, choice_turn, bad_turn, no_turn, call_turn, return_turn, end_turn, none_left}
+use Rattle.std.proofs.Common.{drop, reverse, arith, refl}
+use Rattle.spv_inst.specs.Module.{plain_inst}
+use Rattle.spv_run.specs.Act.{act_of}
+use Rattle.spv_run.specs.Trace.{kept}
+use Rattle.spv_run.proofs.Turns.{found, lost, turning, on_comes, branch_comes, choose_comes, call_comes, return_comes, unreachable_comes, on_turn, call_turn, return_turn, end_turn, none_left}
 use Rattle.spv_run.proofs.tracer.Walker.turn.Goals as goal
 
-pub returns-in_default-get-clause-turn : goal.returns-in_default-get-clause-turn
-returns-in_default-get-clause-turn c =
-    no_turn c.args.moves.now c.args.self.now.position c.args.self.now.taken (reverse c.args.self.now.callers.items) c.args.choices.now c.in-Choose.labels (found_as c.args.moves.now c.args.self.now.position c.in-Some.instruction.now (move.Choose c.in-Choose.labels) c.in-Some.ensures.lookup.3.0 c.in-Some.ensures.lookup.1 c.in-Choose.is)
-    c.in_default-get.ensures.lookup.3
+pub returns-in_default-clause-turn : goal.returns-in_default-clause-turn
+returns-in_default-clause-turn c = lost c.args.code.insts.now c.args.code.ids.now c.args.entries.now (kept c.args.self.now c.args.choices.now) _ c.in_default.ensures.lookup.3
 
-pub returns-in_default-get-2-clause-turn : goal.returns-in_default-get-2-clause-turn
-returns-in_default-get-2-clause-turn c =
-    bad_turn c.args.moves.now c.args.self.now.position c.args.self.now.taken c.in-Some-get.choice.now (reverse c.args.self.now.callers.items) c.args.choices.now c.in-Choose.labels c.deref.result.now (found_as c.args.moves.now c.args.self.now.position c.in-Some.instruction.now (move.Choose c.in-Choose.labels) c.in-Some.ensures.lookup.3.0 c.in-Some.ensures.lookup.1 c.in-Choose.is)
-    (found c.args.choices.now c.args.self.now.taken c.in-Some-get.choice.now c.in-Some-get.ensures.lookup.3.0 c.in-Some-get.ensures.lookup.1) c.deref.ensures.value c.in_default-get-2.ensures.lookup.3
-
-pub returns-in-Some-get-2-clause-turn : goal.returns-in-Some-get-2-clause-turn
-returns-in-Some-get-2-clause-turn c =
-    choice_turn c.args.moves.now c.args.self.now.position c.args.self.now.taken c.in-Some-get.choice.now (reverse c.args.self.now.callers.items) c.args.choices.now c.in-Choose.labels c.deref.result.now c.in-Some-get-2.label.now (found_as c.args.moves.now c.args.self.now.position c.in-Some.instruction.now (move.Choose c.in-Choose.labels) c.in-Some.ensures.lookup.3.0 c.in-Some.ensures.lookup.1 c.in-Choose.is)
-    (found c.args.choices.now c.args.self.now.taken c.in-Some-get.choice.now c.in-Some-get.ensures.lookup.3.0 c.in-Some-get.ensures.lookup.1) c.deref.ensures.value (found c.deref.result.now c.in-Some-get.choice.now c.in-Some-get-2.label.now c.in-Some-get-2.ensures.lookup.3.0 c.in-Some-get-2.ensures.lookup.1)
+pub returns-in-Choose-clause-turn : goal.returns-in-Choose-clause-turn
+returns-in-Choose-clause-turn c =
+    let k = kept c.args.self.now c.args.choices.now in
+    let i = plain_inst c.in-Some.inst.now in
+    turning c.args.code.insts.now c.args.code.ids.now c.args.entries.now k _ c.in-Some.inst.now
+    (found c.args.code.insts.now c.args.self.now.position c.in-Some.inst.now c.in-Some.ensures.lookup.3.0 c.in-Some.ensures.lookup.1)
+    (λ is G bound sound num have there. choose_comes is (act_of i) c.move_of.result k _ c.in-Choose.is
+    (λ v xs kind. c.choose.ensures.turn is G bound c.args.self.now.position v xs sound num there kind) (c.move_of.ensures is G bound c.args.self.now.position sound num have there))
 
 pub returns-in-On-clause-turn : goal.returns-in-On-clause-turn
-returns-in-On-clause-turn c = on_turn c.args.moves.now c.args.self.now.position (reverse c.args.self.now.callers.items) (drop c.args.self.now.taken c.args.choices.now) (found_as c.args.moves.now c.args.self.now.position c.in-Some.instruction.now move.On c.in-Some.ensures.lookup.3.0 c.in-Some.ensures.lookup.1 c.in-On.is)
+returns-in-On-clause-turn c =
+    let k = kept c.args.self.now c.args.choices.now in
+    let i = plain_inst c.in-Some.inst.now in
+    turning c.args.code.insts.now c.args.code.ids.now c.args.entries.now k _ c.in-Some.inst.now
+    (found c.args.code.insts.now c.args.self.now.position c.in-Some.inst.now c.in-Some.ensures.lookup.3.0 c.in-Some.ensures.lookup.1)
+    (λ is G bound sound num have there. on_comes is (act_of i) c.move_of.result k _ c.in-On.is
+    (on_turn c.args.self.now.position (reverse c.args.self.now.callers.items) (drop c.args.self.now.taken c.args.choices.now)) (c.move_of.ensures is G bound c.args.self.now.position sound num have there))
 
 pub returns-in-Branch-clause-turn : goal.returns-in-Branch-clause-turn
-returns-in-Branch-clause-turn c = branch_turn c.args.moves.now c.args.self.now.position c.in-Branch.label (reverse c.args.self.now.callers.items) (drop c.args.self.now.taken c.args.choices.now) (found_as c.args.moves.now c.args.self.now.position c.in-Some.instruction.now (move.Branch c.in-Branch.label) c.in-Some.ensures.lookup.3.0 c.in-Some.ensures.lookup.1 c.in-Branch.is)
+returns-in-Branch-clause-turn c =
+    let k = kept c.args.self.now c.args.choices.now in
+    let i = plain_inst c.in-Some.inst.now in
+    turning c.args.code.insts.now c.args.code.ids.now c.args.entries.now k _ c.in-Some.inst.now
+    (found c.args.code.insts.now c.args.self.now.position c.in-Some.inst.now c.in-Some.ensures.lookup.3.0 c.in-Some.ensures.lookup.1)
+    (λ is G bound sound num have there. branch_comes is (act_of i) c.move_of.result c.in-Branch.label k _ c.in-Branch.is refl
+    (c.move_of.ensures is G bound c.args.self.now.position sound num have there))
 
 pub returns-in-Unreachable-clause-turn : goal.returns-in-Unreachable-clause-turn
-returns-in-Unreachable-clause-turn c = unreachable_turn c.args.moves.now c.args.self.now.position (reverse c.args.self.now.callers.items) (drop c.args.self.now.taken c.args.choices.now) (found_as c.args.moves.now c.args.self.now.position c.in-Some.instruction.now move.Unreachable c.in-Some.ensures.lookup.3.0 c.in-Some.ensures.lookup.1 c.in-Unreachable.is)
+returns-in-Unreachable-clause-turn c =
+    let k = kept c.args.self.now c.args.choices.now in
+    let i = plain_inst c.in-Some.inst.now in
+    turning c.args.code.insts.now c.args.code.ids.now c.args.entries.now k _ c.in-Some.inst.now
+    (found c.args.code.insts.now c.args.self.now.position c.in-Some.inst.now c.in-Some.ensures.lookup.3.0 c.in-Some.ensures.lookup.1)
+    (λ is G bound sound num have there. unreachable_comes is (act_of i) c.move_of.result k _ c.in-Unreachable.is refl
+    (c.move_of.ensures is G bound c.args.self.now.position sound num have there))
 
 pub returns-in_ok-push-in-Call-clause-turn : goal.returns-in_ok-push-in-Call-clause-turn
 returns-in_ok-push-in-Call-clause-turn c =
-    call_turn c.args.moves.now c.args.self.now.position c.in-Call.label c.args.self.now.callers.items c.push.new.self.items (drop c.args.self.now.taken c.args.choices.now) (found_as c.args.moves.now c.args.self.now.position c.in-Some.instruction.now (move.Call c.in-Call.label) c.in-Some.ensures.lookup.3.0 c.in-Some.ensures.lookup.1 c.in-Call.is) c.in_ok-push-in-Call.ensures.items
+    let k = kept c.args.self.now c.args.choices.now in
+    let i = plain_inst c.in-Some.inst.now in
+    turning c.args.code.insts.now c.args.code.ids.now c.args.entries.now k _ c.in-Some.inst.now
+    (found c.args.code.insts.now c.args.self.now.position c.in-Some.inst.now c.in-Some.ensures.lookup.3.0 c.in-Some.ensures.lookup.1)
+    (λ is G bound sound num have there. call_comes is (act_of i) c.move_of.result c.in-Call.label k _ c.in-Call.is
+    (call_turn c.args.self.now.position c.in-Call.label c.args.self.now.callers.items c.push.new.self.items (drop c.args.self.now.taken c.args.choices.now) c.in_ok-push-in-Call.ensures.items)
+    (c.move_of.ensures is G bound c.args.self.now.position sound num have there))
 
 pub returns-in-Some-pop-clause-turn : goal.returns-in-Some-pop-clause-turn
 returns-in-Some-pop-clause-turn c =
-    return_turn c.args.moves.now c.args.self.now.position c.in-Some-pop.caller c.args.self.now.callers.items c.pop.new.self.items (drop c.args.self.now.taken c.args.choices.now) (found_as c.args.moves.now c.args.self.now.position c.in-Some.instruction.now move.Return c.in-Some.ensures.lookup.3.0 c.in-Some.ensures.lookup.1 c.in-Return.is) c.in-Some-pop.ensures.items
+    let k = kept c.args.self.now c.args.choices.now in
+    let i = plain_inst c.in-Some.inst.now in
+    turning c.args.code.insts.now c.args.code.ids.now c.args.entries.now k _ c.in-Some.inst.now
+    (found c.args.code.insts.now c.args.self.now.position c.in-Some.inst.now c.in-Some.ensures.lookup.3.0 c.in-Some.ensures.lookup.1)
+    (λ is G bound sound num have there. return_comes is (act_of i) c.move_of.result k _ c.in-Return.is
+    (return_turn c.args.self.now.position c.in-Some-pop.caller c.args.self.now.callers.items c.pop.new.self.items (drop c.args.self.now.taken c.args.choices.now) c.in-Some-pop.ensures.items)
+    (c.move_of.ensures is G bound c.args.self.now.position sound num have there))
 
 pub returns-in_default-pop-clause-turn : goal.returns-in_default-pop-clause-turn
 returns-in_default-pop-clause-turn c =
-    end_turn c.args.moves.now c.args.self.now.position c.args.self.now.callers.items (drop c.args.self.now.taken c.args.choices.now) (found_as c.args.moves.now c.args.self.now.position c.in-Some.instruction.now move.Return c.in-Some.ensures.lookup.3.0 c.in-Some.ensures.lookup.1 c.in-Return.is) (none_left c.args.self.now.callers.items (omega (arith, c.args.self.now.callers.ok, c.in_default-pop.ensures.cases.0)))
+    let k = kept c.args.self.now c.args.choices.now in
+    let i = plain_inst c.in-Some.inst.now in
+    turning c.args.code.insts.now c.args.code.ids.now c.args.entries.now k _ c.in-Some.inst.now
+    (found c.args.code.insts.now c.args.self.now.position c.in-Some.inst.now c.in-Some.ensures.lookup.3.0 c.in-Some.ensures.lookup.1)
+    (λ is G bound sound num have there. return_comes is (act_of i) c.move_of.result k _ c.in-Return.is
+    (end_turn c.args.self.now.position c.args.self.now.callers.items (drop c.args.self.now.taken c.args.choices.now) (none_left c.args.self.now.callers.items (omega (arith, c.args.self.now.callers.ok, c.in_default-pop.ensures.cases.0))))
+    (c.move_of.ensures is G bound c.args.self.now.position sound num have there))

@@ -1,9 +1,9 @@
 use Rattle.std.proofs.Common.{◌≡◌, ◌+◌, [], ◌∷◌, map, length, length-append, ap, sym, subst, arith}
 use Rattle.std.proofs.lemmas.List.{length-map}
 use Rattle.spv_inst.specs.Module.{plain_inst}
-use Rattle.spv_run.specs.Moves.{HaveEntriesBefore}
+use Rattle.spv_run.specs.Bodies.{HaveEntriesBefore}
 use Rattle.spv_run.proofs.Moving.{entries_none, entries_more, entries_all}
-use Rattle.spv_run.proofs.moves.entries_of.Goals as goal
+use Rattle.spv_run.proofs.bodies.entries_of.Goals as goal
 
 pub loop-at-init : goal.loop-at-init
 loop-at-init c = (ap length c.in_ok-entries.ensures.items, entries_none (map plain_inst c.args.insts.now) c.in_ok-entries.entries.items)

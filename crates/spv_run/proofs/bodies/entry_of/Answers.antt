@@ -3,7 +3,7 @@ use Rattle.std.proofs.lemmas.List.{length-map}
 use Rattle.spv_inst.specs.Module.{plain_inst}
 use Rattle.spv_branches.proofs.Labelled.{inst_get}
 use Rattle.spv_run.proofs.Moving.{head_start, head_next, at_label, at_over, at_nothing}
-use Rattle.spv_run.proofs.moves.entry_of.Goals as goal
+use Rattle.spv_run.proofs.bodies.entry_of.Goals as goal
 
 pub loop-at-init : goal.loop-at-init
 loop-at-init c = head_start (map plain_inst c.args.insts.now) c.args.function (c.args.function + 1) (omega arith)

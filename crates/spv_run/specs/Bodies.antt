@@ -1,15 +1,11 @@
--- What is found of the instructions of a module for its runs. (For the code alone.)
+-- Where the bodies of functions begin, as it is found of a module. (For the code alone.)
 use Rattle.std.specs.Prelude.{◌≡◌, ◌<◌, ℕ, List, Some, slice_get}
-use Rattle.std.specs.List.{AllZip}
 use Rattle.spv_inst.specs.Operand.{PlainInst}
-use Rattle.spv_ids.specs.Definition.{IsDefinedAt}
-use Rattle.spv_run.specs.declared.parts.Move.{Move}
 use Rattle.spv_grammar.specs.Table.{Table}
-use Rattle.spv_run.specs.Act.{Function, act_of}
+use Rattle.spv_run.specs.Act.{Function}
 use Rattle.spv_run.specs.At.{act_at}
 use Rattle.spv_run.specs.Sound.{IsSound}
 use Rattle.spv_run.specs.Head.{Binding, IsDefined, IsDeclared}
-use Rattle.spv_run.specs.Trace.{Tells}
 
 -- the OpLabel with which a function's body begins, or 0 of a declaration
 pub data IsEntry (is : List PlainInst) (g : ℕ) : ℕ → Type 0 where
@@ -24,15 +20,7 @@ HaveEntries is es = (G : Table) (bound g : ℕ) → IsSound G bound is → act_a
 pub record HaveEntriesBefore (is : List PlainInst) (n : ℕ) (es : List ℕ) : Type 0 where
   pub each : (G : Table) (bound g : ℕ) → IsSound G bound is → g < n → act_at is g ≡ Some Function → (e : ℕ) × (slice_get es g ≡ Some e) × IsEntry is g e
 
--- the instructions whose results ids are, where there are some
-abbrev pub ArePlacesOf : List PlainInst → List ℕ → List ℕ → Type 0
-ArePlacesOf is xs ns = AllZip (λ x n. (m : ℕ) → IsDefinedAt is x m → n ≡ m) xs ns
-
 -- between two instructions there is no OpLabel (248) and no OpFunctionEnd (56)
 pub record IsHead (is : List PlainInst) (f n : ℕ) : Type 0 where
   pub label : (k : ℕ) (i : PlainInst) → f < k → k < n → slice_get is k ≡ Some i → ¬ (i.opcode ≡ 248)
   pub over : (k : ℕ) (i : PlainInst) → f < k → k < n → slice_get is k ≡ Some i → ¬ (i.opcode ≡ 56)
-
--- the moves of the first instructions
-pub record AreMovesBefore (is : List PlainInst) (n : ℕ) (ms : List Move) : Type 0 where
-  pub each : (k : ℕ) (i : PlainInst) → k < n → slice_get is k ≡ Some i → (m : Move) × (slice_get ms k ≡ Some m) × Tells is (act_of i) m

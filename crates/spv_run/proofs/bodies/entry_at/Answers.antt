@@ -2,7 +2,7 @@ use Rattle.std.proofs.Common.{map, get_or}
 use Rattle.spv_inst.specs.Module.{plain_inst}
 use Rattle.spv_branches.proofs.Labelled.{inst_get}
 use Rattle.spv_run.proofs.Moving.{no_function}
-use Rattle.spv_run.proofs.moves.entry_at.Goals as goal
+use Rattle.spv_run.proofs.bodies.entry_at.Goals as goal
 
 pub returns-else-opcode-eq-FUNCTION : goal.returns-else-opcode-eq-FUNCTION
 returns-else-opcode-eq-FUNCTION c = λ G bound sound f.

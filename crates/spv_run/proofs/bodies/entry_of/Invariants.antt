@@ -1,7 +1,7 @@
 use Rattle.std.proofs.Common.{map}
 use Rattle.spv_inst.specs.Module.{plain_inst}
-use Rattle.spv_run.specs.Moves.{IsHead}
-use Rattle.spv_run.proofs.moves.entry_of.Given as goal
+use Rattle.spv_run.specs.Bodies.{IsHead}
+use Rattle.spv_run.proofs.bodies.entry_of.Given as goal
 
 abbrev pub invariant-loop-at : goal.invariant-loop-at
 invariant-loop-at l = IsHead (map plain_inst l.insts) l.function l.at

@@ -1,7 +1,7 @@
 use Rattle.std.proofs.Common.{◌≡◌, map, length}
 use Rattle.spv_inst.specs.Module.{plain_inst}
-use Rattle.spv_run.specs.Moves.{HaveEntriesBefore}
-use Rattle.spv_run.proofs.moves.entries_of.Given as goal
+use Rattle.spv_run.specs.Bodies.{HaveEntriesBefore}
+use Rattle.spv_run.proofs.bodies.entries_of.Given as goal
 
 abbrev pub invariant-loop-at : goal.invariant-loop-at
 invariant-loop-at l = (length l.entries.items ≡ l.at) × HaveEntriesBefore (map plain_inst l.insts) l.at l.entries.items

@@ -1,0 +1,41 @@
+//! The run of a checked module from an entry point.
+ghost use Rattle.std.specs.Prelude.{IfOk, IfErr};
+ghost use Rattle.spv_grammar.specs.Table.{Table};
+ghost use Rattle.spv_run.specs.Entry.{IsRefused};
+ghost use Rattle.spv_verdict.specs.Checked.{IsKept};
+ghost use Rattle.spv_verdict.specs.Run.{IsRunOf, IsTraceOf};
+
+use crate::checked::Checked;
+use spv_run::{Code, Trace, TraceError, trace_function};
+use std::alloc::Global;
+
+/// The steps of a run of a checked module in at most `limit` steps, and how it ended (own). It begins at the entry block of the
+/// function whose id is `function`, its parameters bound to their types; `choices` are the places of the targets that are taken,
+/// from 0, one for each OpBranchConditional and OpSwitch that is executed, and those left over are ignored.
+///
+/// Each instruction that is executed is a step, lines too. A step's `depth` is the number of frames below its own, which is less
+/// than the number of the module's function definitions. Memory for as many frames is taken at the start, and after that only the
+/// growth of the steps takes memory; none is taken by the limit.
+///
+/// `X1` comes exactly where the id is the function of no OpEntryPoint (SPIR-V Specification 1.6, section 3.49.5). `X2` comes only
+/// where a growth of memory was refused.
+pub fn trace(
+    alloc: Global,
+    checked: &Checked<'_>,
+    function: u32,
+    choices: &[u32],
+    limit: u32,
+) -> Result<Trace, TraceError>
+    // It is of the run under some table by which the module is valid, and under each.
+    ensures trace { IfOk result (λ t. IsTraceOf checked.now function choices.now limit t) }
+    ensures each { (G : Table) → IsKept G checked.now → IfOk result (λ t. IsRunOf G checked.now function choices.now limit t) }
+    ensures refused { IfErr result (λ e. IsRefused checked.now.insts function e) }
+{
+    let parts = checked.parts();
+    let code = Code {
+        insts: parts.module.insts.as_slice(),
+        ids: parts.ids,
+        definitions: parts.flow.definitions(),
+    };
+    trace_function(alloc, code, function, choices, limit)
+}
