@@ -4,11 +4,14 @@ pub mod Defined
 pub mod Escapes
 pub mod HexDigits
 pub mod BitNames
+pub mod Digits
 pub mod Floats
+pub mod Along
 pub mod Texts
 pub mod Begins
 pub mod Walks
 pub mod Taken
+pub mod Plainly
 pub mod Gathered
 pub mod Headed
 pub mod Cutting

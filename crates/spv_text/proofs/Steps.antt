@@ -143,7 +143,7 @@ pub at_first : (form : Form) (G : Table) (r : Option ℕ) (before : List PlainIn
     → Written form G r (start before opcode) pattern (plain_operands items) us t → At form G r before opcode items ds old out t 0
 at_first form G r before opcode items ds pattern old out us t e f m = rw (e, f) (record { words = us; rest = t; all = refl; written = m })
 
-left_is : (items : List Operand) (i : ℕ) (o x : Operand) → i < length items → o ≡ get_or items i x → plain_operands (drop i items) ≡ plain_operand o ∷ plain_operands (drop (i + 1) items)
+pub left_is : (items : List Operand) (i : ℕ) (o x : Operand) → i < length items → o ≡ get_or items i x → plain_operands (drop i items) ≡ plain_operand o ∷ plain_operands (drop (i + 1) items)
 left_is items i o x h e = let f = drop_more items i x h in rw (f, ← e) refl
 
 pub so_far : (items : List Operand) (i : ℕ) (o x : Operand) → i < length items → o ≡ get_or items i x → plain_operands (take (i + 1) items) ≡ plain_operands (take i items) ++ (plain_operand o ∷ [])

@@ -18,23 +18,12 @@ use Rattle.spv_lines.specs.Refusal.{IsBreak, Pends, Refuses, OperandsFail}
 use Rattle.spv_lines.proofs.Walking.{nearer, waiting, words_joined}
 use Rattle.spv_text.specs.declared.ids.Ids.{Ids}
 use Rattle.spv_text.specs.Begun.{IsOfOperands}
-use Rattle.spv_text.specs.Reading.{IsStep, RefusesOr, OperandsFailOr}
-
-abbrev pub context_of : List PlainInst → ℕ → List Plain → Context
-context_of before opcode os = record { before = before; opcode = opcode; operands = os }
+use Rattle.spv_text.specs.Reading.{IsStep, RefusesOr, OperandsFailOr, SoFar, context_of}
 
 -- whether something is left: of the line, or its result
 abbrev pub IsMore : Bool → Option ℕ → Context → List ℕ → Type 0
 IsMore true r c t = (t ≢ []) ⊎ Pends r c
 IsMore false r c t = (t ≡ []) × (r ≡ result_in c.operands)
-
-pub record SoFar (G : Table) (r : Option ℕ) (before : List PlainInst) (opcode : ℕ) (pattern : List Due) (line : List ℕ) (kept : Ids) (ds : List Due) (t words : List ℕ) : Type 0 where
-  pub operands : List Plain
-  pub ids : IsOfOperands kept operands
-  pub broken : IsBreak t
-  pub small : AreWords words
-  pub written : (os : List Plain) (us : List ℕ) → Written (IsRead G) G r (context_of before opcode operands) ds os us t → Written (IsRead G) G r (start before opcode) pattern (operands ++ os) (words ++ us) line
-  pub failed : (code : AsmCode) → OperandsFail G r (context_of before opcode operands) ds t code → OperandsFail G r (start before opcode) pattern line code
 
 pub so_far_first : (G : Table) (r : Option ℕ) (before : List PlainInst) (opcode : ℕ) (pattern ds : List Due) (line words : List ℕ) (ids : Ids) → ds ≡ pattern → words ≡ [] → IsBreak line → IsOfOperands ids []
     → SoFar G r before opcode pattern line ids ds line words
@@ -145,6 +134,15 @@ so_far_more G r before opcode pattern ds es later line t rest words new ids next
           rw (append_assoc a.operands (o ∷ []) os, ← z) y;
       failed = λ code k. a.failed code (leads_failed G r c ds s es true t code l' m (OperandsFail.after c s es o slots t rest code h.stands k));
     })
+
+-- an operand for an item of the pattern that is due where something is left
+pub so_far_plain : (G : Table) (r : Option ℕ) (before : List PlainInst) (opcode : ℕ) (pattern ds es : List Due) (line t rest words new : List ℕ) (ids next : Ids) (s : Slot)
+    → (a : SoFar G r before opcode pattern line ids ds t words) → settled true ds ≡ OneOf s ∷ es → IsStep G r (context_of before opcode a.operands) s t rest next words new es es → SoFar G r before opcode pattern line next es rest new
+so_far_plain G r before opcode pattern ds es line t rest words new ids next s a e h =
+    let c = context_of before opcode a.operands in
+    let n = step_more G r c s h.operand h.stands.piece t rest h.stands.written h.stands.all in
+    let l : LeadsTo G (settled true ds) s es = record { slot = s; rest = es; first = e; opened = Opens.leaf } in
+    so_far_more G r before opcode pattern ds es es line t rest words new ids next s true a n l h
 
 pub so_far_refused : (G : Table) (r : Option ℕ) (before : List PlainInst) (opcode : ℕ) (pattern ds es : List Due) (line t words : List ℕ) (ids : Ids) (s : Slot) (more : Bool) (code : AsmCode)
     → (a : SoFar G r before opcode pattern line ids ds t words) → IsMore more r (context_of before opcode a.operands) t → LeadsTo G (settled more ds) s es → IsLeaf (shape_of G (context_of before opcode a.operands) s)

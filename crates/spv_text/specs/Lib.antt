@@ -3,3 +3,4 @@ pub mod Kept
 pub mod Reading
 pub mod Heading
 pub mod Lines
+pub mod Named

@@ -15,7 +15,7 @@ use Rattle.spv_lines.specs.declared.asm_error.AsmCode.{AsmCode}
 use Rattle.spv_lines.specs.declared.asm_error.AsmCode.TheVariants.{S3, S4, S6}
 use Rattle.spv_lines.specs.Operand.{quoted, IsRead}
 use Rattle.spv_lines.specs.Written.{Written}
-use Rattle.spv_lines.specs.Line.{AreWords, IsReadLine}
+use Rattle.spv_lines.specs.Line.{AreWords, IsReadLine, before_space, from_space}
 use Rattle.spv_lines.specs.Refusal.{IsBreak, Stands, Refuses, OperandsFail, is_front}
 use Rattle.spv_lines.specs.Fault.{IsFailure, LineFails}
 use Rattle.spv_tokens.specs.declared.misread.Misread.{Misread}
@@ -93,3 +93,27 @@ LineFailsOr G before written line code = LineFails G before written line code
 abbrev pub IsAsmFailure : Table → List ℕ → AsmCode → ℕ → Type 0
 IsAsmFailure G t S6 n = n ≡ 0
 IsAsmFailure G t code n = IsFailure G t code n
+
+-- the context of an instruction's operands
+abbrev pub context_of : List PlainInst → ℕ → List Plain → Context
+context_of before opcode os = record { before = before; opcode = opcode; operands = os }
+
+-- Some operands of a line were read: what they are, and that what is due and what is left of the line go on from there. (For the code alone.)
+pub record SoFar (G : Table) (r : Option ℕ) (before : List PlainInst) (opcode : ℕ) (pattern : List Due) (line : List ℕ) (kept : Ids) (ds : List Due) (t words : List ℕ) : Type 0 where
+  pub operands : List Plain
+  pub ids : IsOfOperands kept operands
+  pub broken : IsBreak t
+  pub small : AreWords words
+  pub written : (os : List Plain) (us : List ℕ) → Written (IsRead G) G r (context_of before opcode operands) ds os us t → Written (IsRead G) G r (start before opcode) pattern (operands ++ os) (words ++ us) line
+  pub failed : (code : AsmCode) → OperandsFail G r (context_of before opcode operands) ds t code → OperandsFail G r (start before opcode) pattern line code
+
+-- Behind a space the rest of a line has a token, up to the next space or the end.
+pub record HasCell (t token rest : List ℕ) : Type 0 where
+  pub behind : List ℕ
+  pub all : t ≡ 32 ∷ behind
+  pub front : before_space behind ≡ token
+  pub back : from_space behind ≡ rest
+
+-- An operand of one word and without parameters was taken, whatever words there are and whatever is due.
+abbrev pub IsPlainStep : Table → Option ℕ → Context → Slot → List ℕ → List ℕ → Ids → ℕ → Type 0
+IsPlainStep G r c s t rest next word = (old : List ℕ) (ds : List Due) → IsStep G r c s t rest next old (old ++ (word ∷ [])) ds ds

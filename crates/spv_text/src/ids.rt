@@ -80,6 +80,7 @@ fn beginning_of(operands: &[Operand]) -> Beginning
 }
 
 /// The result that an operand is.
+#[inline(always)]
 fn result_of(operand: &Operand) -> Option<u32>
     ensures { result ≡ plain.result_in (plain_operand operand.now ∷ []) }
 {
@@ -90,6 +91,7 @@ fn result_of(operand: &Operand) -> Option<u32>
 }
 
 /// The result type that an operand is.
+#[inline(always)]
 fn type_of(operand: &Operand) -> Option<u32>
     ensures { result ≡ plain.type_in (plain_operand operand.now ∷ []) }
 {
@@ -100,6 +102,7 @@ fn type_of(operand: &Operand) -> Option<u32>
 }
 
 /// The id that an operand is.
+#[inline(always)]
 fn id_of(operand: &Operand) -> Option<u32>
     ensures { result ≡ width.first_id (plain_operand operand.now ∷ []) }
 {
@@ -110,6 +113,7 @@ fn id_of(operand: &Operand) -> Option<u32>
 }
 
 /// The first of two ids that is there.
+#[inline(always)]
 fn either(one: Option<u32>, other: Option<u32>) -> Option<u32>
     ensures { result ≡ kept.either one other }
 {
@@ -120,6 +124,7 @@ fn either(one: Option<u32>, other: Option<u32>) -> Option<u32>
 }
 
 /// What the first operand is, if that is an id, with one operand more.
+#[inline(always)]
 fn first_after(beginning: Beginning, first: Option<u32>, operand: &Operand) -> Option<u32>
     ensures { result ≡ kept.first_after beginning first (plain_operand operand.now) }
 {
@@ -132,6 +137,7 @@ fn first_after(beginning: Beginning, first: Option<u32>, operand: &Operand) -> O
 }
 
 /// How operands begin with one operand more.
+#[inline(always)]
 fn begun(beginning: Beginning, operand: &Operand) -> Beginning
     ensures { result ≡ kept.begun beginning (plain_operand operand.now) }
 {
@@ -178,6 +184,7 @@ impl Ids {
     }
 
     /// The ids of the operands so far and one more.
+    #[inline(always)]
     pub fn and_then(self, operand: &Operand) -> Ids
         ensures { (os : List Plain) → IsOfOperands self os → IsOfOperands result (os ++ plain_operand operand.now ∷ []) }
     {

@@ -4,7 +4,7 @@ ghost use Rattle.std.specs.Prelude.{◌≡◌, ◌++◌, ◌∷◌, [], ℕ, Lis
 ghost use Rattle.spv_inst.specs.Form.{form_of};
 ghost use Rattle.spv_inst.specs.Operand.{PlainInst, start};
 ghost use Rattle.spv_inst.specs.Module.{plain_inst, plain_operands};
-ghost use Rattle.spv_inst.specs.Flat.{due};
+ghost use Rattle.spv_inst.specs.Flat.{Due, due};
 ghost use Rattle.spv_inst.specs.Agenda.{items_of};
 ghost use Rattle.spv_inst.specs.Operand as operand;
 ghost use Rattle.spv_inst.specs.Width as width;
@@ -12,16 +12,21 @@ ghost use Rattle.spv_lines.specs.Operand.{Shown};
 ghost use Rattle.spv_lines.specs.Written.{Written};
 ghost use Rattle.spv_lines.specs.Line.{IsShownLine, shown_result};
 ghost use Rattle.spv_text.specs.Kept.{Knows};
+ghost use Rattle.spv_text.specs.Named.{AreNames};
 
 use crate::ids::Ids;
 use crate::name::push_name;
-use crate::number::push_id;
-use crate::operand::{is_passed, push_piece};
+use crate::names::Names;
+use crate::number::push_front;
+use crate::operand::{is_passed, push_piece, push_plain};
 use crate::types::Types;
 use spv_grammar::{Item, Table};
 use spv_inst::due::{Agenda, Form};
 use spv_inst::{Inst, Operand};
 use std::alloc::AllocError;
+
+/// The opcode of OpSwitch.
+const SWITCH: u16 = 251;
 
 /// What does not change while an instruction is shown.
 #[derive(Clone, Copy)]
@@ -38,6 +43,7 @@ pub struct Setting<'t, 'd> {
 fn push_operands<'t>(
     out: &mut String,
     setting: &Setting<'t, '_>,
+    names: &mut Names,
     agenda: &mut Agenda<'t>,
     pattern: &'t [Item],
     ids: Ids,
@@ -46,9 +52,11 @@ fn push_operands<'t>(
     requires forms { setting.now.forms.now ≡ map form_of setting.now.table.now.kinds }
     requires type_id { ids.type_id ≡ operand.type_in (plain_operands operands.now) }
     requires first { ids.first ≡ width.first_id (plain_operands operands.now) }
-    ensures { (before : List PlainInst) (opcode : ℕ) (r : Option ℕ) (us t : List ℕ) → Knows setting.now.types.now before
+    requires names { AreNames setting.now.table.now names.old }
+    ensures text { (before : List PlainInst) (opcode : ℕ) (r : Option ℕ) (us t : List ℕ) → Knows setting.now.types.now before
         → Written (Shown setting.now.table.now) setting.now.table.now r (start before opcode) (map due (items_of pattern.now)) (plain_operands operands.now) us t
         → OnOk result (string_bytes out.new ≡ string_bytes out.old ++ t) }
+    ensures names { AreNames setting.now.table.now names.new }
 {
     agenda.start(pattern);
     let mut passed = false;
@@ -60,6 +68,7 @@ fn push_operands<'t>(
             out,
             setting.table,
             setting.types,
+            names,
             ids,
             passed,
             asked,
@@ -71,15 +80,44 @@ fn push_operands<'t>(
     Ok(())
 }
 
+/// The same for an instruction other than OpSwitch: its operands alone tell what stands in its line.
+fn push_plain_operands(
+    out: &mut String,
+    setting: &Setting<'_, '_>,
+    names: &mut Names,
+    ids: Ids,
+    operands: &[Operand],
+) -> Result<(), AllocError>
+    requires type_id { ids.type_id ≡ operand.type_in (plain_operands operands.now) }
+    requires first { ids.first ≡ width.first_id (plain_operands operands.now) }
+    requires names { AreNames setting.now.table.now names.old }
+    ensures text { (before : List PlainInst) (opcode : ℕ) (r : Option ℕ) (ds : List Due) (us t : List ℕ) → Knows setting.now.types.now before → (opcode ≡ 251 → ⊥)
+        → Written (Shown setting.now.table.now) setting.now.table.now r (start before opcode) ds (plain_operands operands.now) us t
+        → OnOk result (string_bytes out.new ≡ string_bytes out.old ++ t) }
+    ensures names { AreNames setting.now.table.now names.new }
+{
+    let mut passed = false;
+    for operand in operands {
+        push_plain(
+            out,
+            setting.table,
+            setting.types,
+            names,
+            ids,
+            passed,
+            operand,
+        )?;
+        passed = is_passed(passed, operand);
+    }
+    Ok(())
+}
+
 /// Adds a result and ` = `, if there is a result. Where memory runs out, nothing is said of what is left.
 fn push_result(out: &mut String, id: Option<u32>) -> Result<(), AllocError>
     ensures { OnOk result (string_bytes out.new ≡ string_bytes out.old ++ shown_result id) }
 {
     match id {
-        Some(id) => {
-            push_id(out, id)?;
-            out.push_str(" = ")
-        }
+        Some(id) => push_front(out, id),
         None => Ok(()),
     }
 }
@@ -91,6 +129,7 @@ fn push_result(out: &mut String, id: Option<u32>) -> Result<(), AllocError>
 pub fn push_line<'t>(
     out: &mut String,
     setting: &Setting<'t, '_>,
+    names: &mut Names,
     agenda: &mut Agenda<'t>,
     ids: Ids,
     inst: &Inst,
@@ -99,21 +138,29 @@ pub fn push_line<'t>(
     requires result { ids.result ≡ operand.result_in (plain_inst inst.now).operands }
     requires type_id { ids.type_id ≡ operand.type_in (plain_inst inst.now).operands }
     requires first { ids.first ≡ width.first_id (plain_inst inst.now).operands }
-    ensures { (before : List PlainInst) (further line : List ℕ) → Knows setting.now.types.now before → IsShownLine setting.now.table.now before (plain_inst inst.now) further line
+    requires names { AreNames setting.now.table.now names.old }
+    ensures text { (before : List PlainInst) (further line : List ℕ) → Knows setting.now.types.now before → IsShownLine setting.now.table.now before (plain_inst inst.now) further line
         → OnOk result (string_bytes out.new ≡ string_bytes out.old ++ (line ++ 10 ∷ [])) }
+    ensures names { AreNames setting.now.table.now names.new }
 {
     let Some(entry) = setting.table.entry(inst.opcode) else {
         return Ok(());
     };
     push_result(out, ids.result)?;
-    push_name(out, setting.table, inst.opcode, entry)?;
-    push_operands(
-        out,
-        setting,
-        agenda,
-        entry.operands.as_slice(),
-        ids,
-        inst.operands.as_slice(),
-    )?;
+    push_name(out, setting.table, names, inst.opcode, entry)?;
+    let operands = inst.operands.as_slice();
+    if inst.opcode == SWITCH {
+        push_operands(
+            out,
+            setting,
+            names,
+            agenda,
+            entry.operands.as_slice(),
+            ids,
+            operands,
+        )?;
+    } else {
+        push_plain_operands(out, setting, names, ids, operands)?;
+    }
     out.push('\n')
 }

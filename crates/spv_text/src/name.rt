@@ -1,32 +1,49 @@
 //! Names of instructions, values and masks as a text shows them.
 
-ghost use Rattle.std.specs.Prelude.{◌≡◌, ◌++◌, ◌∷◌, [], ℕ, List, Some, true, OnOk, string_bytes, option_map, is_some, if◌then◌else◌};
-ghost use Rattle.spv_grammar.specs.Table.{kind_of};
+ghost use Rattle.std.specs.Prelude.{◌≡◌, ◌++◌, ◌∷◌, [], ℕ, List, Some, true, false, OnOk, string_bytes, option_map, is_some, if◌then◌else◌};
+ghost use Rattle.spv_grammar.specs.Table.{entry_of, kind_of};
 ghost use Rattle.spv_inst.specs.Reading.{enumerants_at};
-ghost use Rattle.spv_lines.specs.Name.{first_name, joined, names_from, shown_value, shown_mask};
+ghost use Rattle.spv_lines.specs.Name.{by_number, first_name, joined, names_from, shown_value, shown_mask};
 ghost use Rattle.spv_lines.specs.Line.{shown_name};
+ghost use Rattle.spv_text.specs.Named.{AreNames};
 
+use crate::names::Names;
 use crate::number::push_nameless;
 use spv_grammar::{Entry, Table};
 use spv_tokens::is_plain;
 use std::alloc::AllocError;
+
+/// Whether the name of an opcode's entry is plain and looks up the opcode.
+fn is_name_of(table: &Table, opcode: u16, entry: &Entry) -> bool
+    ensures named { result ≡ true → shown_name table.now opcode entry.now ≡ entry.now.name }
+    ensures nameless { result ≡ false → shown_name table.now opcode entry.now ≡ by_number opcode }
+{
+    let name = entry.name.as_str();
+    is_plain(name) && table.named(name) == Some(opcode)
+}
 
 /// Adds the name of an opcode's entry, if it is plain and looks up the opcode, else the opcode after `#`. Where memory runs
 /// out, nothing is said of what is left.
 pub fn push_name(
     out: &mut String,
     table: &Table,
+    names: &mut Names,
     opcode: u16,
     entry: &Entry,
 ) -> Result<(), AllocError>
-    ensures { OnOk result (string_bytes out.new ≡ string_bytes out.old ++ shown_name table.now opcode entry.now) }
+    requires entry { entry_of table.now opcode ≡ Some entry.now }
+    requires names { AreNames table.now names.old }
+    ensures text { OnOk result (string_bytes out.new ≡ string_bytes out.old ++ shown_name table.now opcode entry.now) }
+    ensures names { AreNames table.now names.new }
 {
-    let name = entry.name.as_str();
-    if is_plain(name) && table.named(name) == Some(opcode) {
-        out.push_str(name)
-    } else {
-        push_nameless(out, u32::from(opcode))
+    if names.has_opcode(opcode) {
+        return out.push_str(entry.name.as_str());
     }
+    if is_name_of(table, opcode, entry) {
+        names.keep_opcode(opcode);
+        return out.push_str(entry.name.as_str());
+    }
+    push_nameless(out, u32::from(opcode))
 }
 
 /// The name of the first enumerant of a kind with a value, if it is plain and looks up the value.
@@ -43,11 +60,25 @@ fn plain_name(table: &Table, kind: u32, value: u32) -> Option<&str>
 }
 
 /// Adds a value of a kind: its name, or the value after `#`. Where memory runs out, nothing is said of what is left.
-pub fn push_value(out: &mut String, table: &Table, kind: u32, value: u32) -> Result<(), AllocError>
-    ensures { OnOk result (string_bytes out.new ≡ string_bytes out.old ++ shown_value (enumerants_at (kind_of table.now kind)) value) }
+pub fn push_value(
+    out: &mut String,
+    table: &Table,
+    names: &mut Names,
+    kind: u32,
+    value: u32,
+) -> Result<(), AllocError>
+    requires { AreNames table.now names.old }
+    ensures text { OnOk result (string_bytes out.new ≡ string_bytes out.old ++ shown_value (enumerants_at (kind_of table.now kind)) value) }
+    ensures names { AreNames table.now names.new }
 {
+    if names.has_value(kind, value) {
+        return push_known(out, table, kind, value);
+    }
     match plain_name(table, kind, value) {
-        Some(name) => out.push_str(name),
+        Some(name) => {
+            names.keep_value(kind, value);
+            out.push_str(name)
+        }
         None => push_nameless(out, value),
     }
 }
@@ -109,16 +140,40 @@ fn push_names(out: &mut String, table: &Table, kind: u32, mask: u32) -> Result<(
     Ok(())
 }
 
+/// Whether each set bit of a mask has a name to be shown, as it was found or is found now.
+fn must_name(table: &Table, names: &mut Names, kind: u32, mask: u32) -> bool
+    requires { AreNames table.now names.old }
+    ensures named { result ≡ is_some (names_from (enumerants_at (kind_of table.now kind)) mask 0) }
+    ensures names { AreNames table.now names.new }
+{
+    if names.has_mask(kind, mask) {
+        return true;
+    }
+    if has_names(table, kind, mask) {
+        names.keep_mask(kind, mask);
+        return true;
+    }
+    false
+}
+
 /// Adds a mask of a kind: the names of its set bits, that of 0, or the mask after `#`. Where memory runs out, nothing is
 /// said of what is left.
-pub fn push_mask(out: &mut String, table: &Table, kind: u32, mask: u32) -> Result<(), AllocError>
-    ensures { OnOk result (string_bytes out.new ≡ string_bytes out.old ++ shown_mask (enumerants_at (kind_of table.now kind)) mask) }
+pub fn push_mask(
+    out: &mut String,
+    table: &Table,
+    names: &mut Names,
+    kind: u32,
+    mask: u32,
+) -> Result<(), AllocError>
+    requires { AreNames table.now names.old }
+    ensures text { OnOk result (string_bytes out.new ≡ string_bytes out.old ++ shown_mask (enumerants_at (kind_of table.now kind)) mask) }
+    ensures names { AreNames table.now names.new }
 {
     if mask == 0 {
-        push_value(out, table, kind, 0)
-    } else if has_names(table, kind, mask) {
-        push_names(out, table, kind, mask)
-    } else {
-        push_nameless(out, mask)
+        return push_value(out, table, names, kind, 0);
     }
+    if must_name(table, names, kind, mask) {
+        return push_names(out, table, kind, mask);
+    }
+    push_nameless(out, mask)
 }

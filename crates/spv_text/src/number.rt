@@ -1,12 +1,16 @@
 //! Numbers as a text shows them.
 
-ghost use Rattle.std.specs.Prelude.{◌≡◌, ◌++◌, ◌∷◌, ◌<◌, OnOk, string_bytes, decimal};
+ghost use Rattle.std.specs.Prelude.{◌≡◌, ◌++◌, ◌∷◌, ◌<◌, OnOk, codes, string_bytes, decimal};
 ghost use Rattle.spv_lines.specs.Digits.{hex_digit, hex_digits};
 ghost use Rattle.spv_lines.specs.Name.{by_number};
 ghost use Rattle.spv_lines.specs.Operand.{id_text, number_text};
 
-use itoa::Buffer;
+use itoa::{Buffer, write_digits};
 use std::alloc::AllocError;
+use std::str::from_utf8_unchecked;
+
+/// Room for the digits of a word, with marks around them.
+const TOKEN_SIZE: usize = 16;
 
 /// Adds a number in decimal. Where memory runs out, nothing is said of what is left.
 pub fn push_decimal(out: &mut String, number: u64) -> Result<(), AllocError>
@@ -16,12 +20,35 @@ pub fn push_decimal(out: &mut String, number: u64) -> Result<(), AllocError>
     out.push_str(buffer.format(number))
 }
 
-/// Adds an id, as `%7`. Where memory runs out, nothing is said of what is left.
-pub fn push_id(out: &mut String, id: u32) -> Result<(), AllocError>
-    ensures { OnOk result (string_bytes out.new ≡ string_bytes out.old ++ id_text id) }
+/// Adds a space and an id, as ` %7`. Where memory runs out, nothing is said of what is left.
+pub fn push_spaced_id(out: &mut String, id: u32) -> Result<(), AllocError>
+    ensures { OnOk result (string_bytes out.new ≡ string_bytes out.old ++ (32 ∷ id_text id)) }
 {
-    out.push('%')?;
-    push_decimal(out, u64::from(id))
+    let mut token = [b' '; TOKEN_SIZE];
+    let start = write_digits(u64::from(id), &mut token, TOKEN_SIZE);
+    token[start - 1] = b'%';
+    token[start - 2] = b' ';
+    out.push_str(unsafe { from_utf8_unchecked(&token[start - 2..]) })
+}
+
+/// Adds a space and a word in decimal, as ` 7`. Where memory runs out, nothing is said of what is left.
+pub fn push_spaced_word(out: &mut String, word: u32) -> Result<(), AllocError>
+    ensures { OnOk result (string_bytes out.new ≡ string_bytes out.old ++ (32 ∷ decimal word)) }
+{
+    let mut token = [b' '; TOKEN_SIZE];
+    let start = write_digits(u64::from(word), &mut token, TOKEN_SIZE);
+    token[start - 1] = b' ';
+    out.push_str(unsafe { from_utf8_unchecked(&token[start - 1..]) })
+}
+
+/// Adds a result that stands in front, as `%7 = `. Where memory runs out, nothing is said of what is left.
+pub fn push_front(out: &mut String, id: u32) -> Result<(), AllocError>
+    ensures { OnOk result (string_bytes out.new ≡ string_bytes out.old ++ (id_text id ++ codes " = ")) }
+{
+    let mut token = *b"             = ";
+    let start = write_digits(u64::from(id), &mut token, 12);
+    token[start - 1] = b'%';
+    out.push_str(unsafe { from_utf8_unchecked(&token[start - 1..]) })
 }
 
 /// Adds what stands for a number without a name, as `#7`. Where memory runs out, nothing is said of what is left.

@@ -13,10 +13,12 @@ ghost use Rattle.spv_inst.specs.Agenda.{plain_slot};
 ghost use Rattle.spv_lines.specs.Operand.{Shown, shown_operand, is_float, is_result};
 ghost use Rattle.spv_lines.specs.Written.{Piece};
 ghost use Rattle.spv_text.specs.Kept.{IsAmid};
+ghost use Rattle.spv_text.specs.Named.{AreNames};
 
 use crate::ids::Ids;
 use crate::name::{push_mask, push_value};
-use crate::number::{push_decimal, push_id, push_number};
+use crate::names::Names;
+use crate::number::{push_number, push_spaced_id, push_spaced_word};
 use crate::quoted::push_quoted;
 use crate::types::Types;
 use spv_grammar::Table;
@@ -42,22 +44,48 @@ fn is_hexadecimal(types: &Types, ids: Ids, leaf: Leaf, operand: &Operand) -> boo
     }
 }
 
-/// Adds an operand, a number in hexadecimal or in decimal. Where memory runs out, nothing is said of what is left.
+/// Whether an operand is a number of a float type, in an instruction other than OpSwitch: its numbers have its result type.
+fn is_float_number(types: &Types, ids: Ids, operand: &Operand) -> bool
+    ensures { (G : Table) (c : Context) (s : shape.Slot) (passed : Bool) (ws : List ℕ) (ss : List shape.Slot) → IsAmid types.now ids passed c → (c.opcode ≡ 251 → ⊥)
+        → Takes s.kind (shape_of G c s) (plain_operand operand.now) ws ss → shown_operand G result (plain_operand operand.now) ≡ shown_operand G (is_float G c s) (plain_operand operand.now) }
+{
+    match operand {
+        Operand::Number { .. } => types.is_float(ids.type_id),
+        _ => false,
+    }
+}
+
+/// Adds a space and an operand, a number in hexadecimal or in decimal. Where memory runs out, nothing is said of what is left.
 fn push_operand(
     out: &mut String,
     table: &Table,
+    names: &mut Names,
     hexadecimal: bool,
     operand: &Operand,
 ) -> Result<(), AllocError>
-    ensures { OnOk result (string_bytes out.new ≡ string_bytes out.old ++ shown_operand table.now hexadecimal (plain_operand operand.now)) }
+    requires { AreNames table.now names.old }
+    ensures text { OnOk result (string_bytes out.new ≡ string_bytes out.old ++ (32 ∷ shown_operand table.now hexadecimal (plain_operand operand.now))) }
+    ensures names { AreNames table.now names.new }
 {
     match operand {
-        Operand::OfType(id) | Operand::Result(id) | Operand::Id(id) => push_id(out, *id),
-        Operand::Word(word) => push_decimal(out, u64::from(*word)),
-        Operand::Number { low, high, words } => push_number(out, hexadecimal, *low, *high, *words),
-        Operand::Text(text) => push_quoted(out, text),
-        Operand::Value { kind, value } => push_value(out, table, *kind, *value),
-        Operand::Mask { kind, value } => push_mask(out, table, *kind, *value),
+        Operand::OfType(id) | Operand::Result(id) | Operand::Id(id) => push_spaced_id(out, *id),
+        Operand::Word(word) => push_spaced_word(out, *word),
+        Operand::Number { low, high, words } => {
+            out.push(' ')?;
+            push_number(out, hexadecimal, *low, *high, *words)
+        }
+        Operand::Text(text) => {
+            out.push(' ')?;
+            push_quoted(out, text)
+        }
+        Operand::Value { kind, value } => {
+            out.push(' ')?;
+            push_value(out, table, names, *kind, *value)
+        }
+        Operand::Mask { kind, value } => {
+            out.push(' ')?;
+            push_mask(out, table, names, *kind, *value)
+        }
     }
 }
 
@@ -94,19 +122,45 @@ pub fn push_piece(
     out: &mut String,
     table: &Table,
     types: &Types,
+    names: &mut Names,
     ids: Ids,
     passed: bool,
     asked: Asked,
     operand: &Operand,
 ) -> Result<(), AllocError>
-    ensures { (c : Context) (r : Option ℕ) (ws p : List ℕ) (ss : List shape.Slot) → IsAmid types.now ids passed c → form_at (kind_of table.now asked.slot.kind) ≡ LeafForm asked.leaf
+    requires { AreNames table.now names.old }
+    ensures text { (c : Context) (r : Option ℕ) (ws p : List ℕ) (ss : List shape.Slot) → IsAmid types.now ids passed c → form_at (kind_of table.now asked.slot.kind) ≡ LeafForm asked.leaf
         → Takes asked.slot.kind (shape_of table.now c (plain_slot asked.slot)) (plain_operand operand.now) ws ss → Piece (Shown table.now) table.now r c (plain_slot asked.slot) (plain_operand operand.now) p
         → OnOk result (string_bytes out.new ≡ string_bytes out.old ++ p) }
+    ensures names { AreNames table.now names.new }
 {
     if is_in_front(passed, operand) {
         return Ok(());
     }
-    out.push(' ')?;
     let hexadecimal = is_hexadecimal(types, ids, asked.leaf, operand);
-    push_operand(out, table, hexadecimal, operand)
+    push_operand(out, table, names, hexadecimal, operand)
+}
+
+/// The same in an instruction other than OpSwitch, whatever is due.
+///
+/// An `AllocError` comes only where a growth of memory was refused, and then nothing is said of what is left.
+pub fn push_plain(
+    out: &mut String,
+    table: &Table,
+    types: &Types,
+    names: &mut Names,
+    ids: Ids,
+    passed: bool,
+    operand: &Operand,
+) -> Result<(), AllocError>
+    requires { AreNames table.now names.old }
+    ensures text { (c : Context) (s : shape.Slot) (r : Option ℕ) (ws p : List ℕ) (ss : List shape.Slot) → IsAmid types.now ids passed c → (c.opcode ≡ 251 → ⊥)
+        → Takes s.kind (shape_of table.now c s) (plain_operand operand.now) ws ss → Piece (Shown table.now) table.now r c s (plain_operand operand.now) p → OnOk result (string_bytes out.new ≡ string_bytes out.old ++ p) }
+    ensures names { AreNames table.now names.new }
+{
+    if is_in_front(passed, operand) {
+        return Ok(());
+    }
+    let hexadecimal = is_float_number(types, ids, operand);
+    push_operand(out, table, names, hexadecimal, operand)
 }

@@ -1,6 +1,6 @@
 //! The operands of a line.
 
-ghost use Rattle.std.specs.Prelude.{◌≡◌, ◌≢◌, ℕ, List, Option, Bool, true, false, IfOk, IfErr, map};
+ghost use Rattle.std.specs.Prelude.{◌≡◌, ◌≢◌, [], ℕ, List, Option, Bool, true, false, IfOk, IfErr, map};
 ghost use Rattle.spv_inst.specs.Form.{form_of};
 ghost use Rattle.spv_inst.specs.Operand.{PlainInst, start};
 ghost use Rattle.spv_inst.specs.Flat.{due};
@@ -11,6 +11,7 @@ ghost use Rattle.spv_text.specs.Reading.{AreRead, OperandsFailOr};
 
 use crate::ids::Ids;
 use crate::line::Setting;
+use crate::plain::{Behind, read_plain};
 use crate::taking::{Desk, Place, take_operand};
 use spv_grammar::Item;
 use spv_lines::AsmCode;
@@ -29,6 +30,19 @@ fn differ(one: Option<u32>, other: Option<u32>) -> bool
             None => false,
         },
     }
+}
+
+/// Whether nothing is left of a line, of its pattern and of its result.
+fn is_whole(line: Behind<'_, '_>, result_id: Option<u32>) -> bool
+    ensures { result ≡ true → (line.entry.rest.now ≡ []) × (line.entry.items.now ≡ []) × (result_id ≡ line.entry.ids.result) }
+{
+    if !line.rest.is_empty() {
+        return false;
+    }
+    if !line.items.is_empty() {
+        return false;
+    }
+    !differ(result_id, line.ids.result)
 }
 
 /// Reads the operands of a line by the pattern of its instruction, and gives their ids. Their words are then those of the desk.
@@ -54,9 +68,13 @@ pub fn read_operands<'t>(
         → IfErr result (λ e. OperandsFailOr setting.now.table.now result_id (start before opcode) (map due (items_of pattern.now)) operands.now e) }
 {
     desk.words.clear();
-    desk.agenda.start(pattern);
-    let mut ids = Ids::none();
-    let mut rest = operands;
+    let begun = read_plain(setting, &mut desk.words, result_id, pattern, operands)?;
+    if is_whole(begun, result_id) {
+        return Ok(begun.ids);
+    }
+    desk.agenda.start(begun.items);
+    let mut ids = begun.ids;
+    let mut rest = begun.rest;
     loop {
         let more = !rest.is_empty() || differ(result_id, ids.result);
         let Some(asked) = desk.agenda.next_leaf(setting.table, setting.forms, more)? else {

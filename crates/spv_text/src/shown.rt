@@ -8,6 +8,7 @@ ghost use Rattle.spv_lines.specs.Text.{IsShownText, ShownLines, ended, header_li
 
 use crate::ids::Ids;
 use crate::line::{Setting, push_line};
+use crate::names::Names;
 use crate::number::push_decimal;
 use crate::types::Types;
 use spv_grammar::Table;
@@ -38,6 +39,7 @@ fn push_lines(
 {
     let forms = forms_of(alloc, table)?;
     let mut types = Types::new(alloc);
+    let mut names = Names::new(alloc)?;
     let mut agenda = Agenda::new(alloc);
     for inst in &module.insts {
         let setting = Setting {
@@ -46,7 +48,7 @@ fn push_lines(
             types: &types,
         };
         let ids = Ids::of(inst.operands.as_slice());
-        push_line(out, &setting, &mut agenda, ids, inst)?;
+        push_line(out, &setting, &mut names, &mut agenda, ids, inst)?;
         types.add(inst.opcode, ids)?;
     }
     Ok(())

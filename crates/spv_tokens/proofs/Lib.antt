@@ -1,3 +1,4 @@
+pub mod Fronts
 pub mod Reader
 pub mod Numerals
 pub mod Taking

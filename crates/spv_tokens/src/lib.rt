@@ -1,6 +1,7 @@
 //! The parts of a line: numbers, names, masks and texts in quotes.
 #![tactic(auto)]
 
+mod front;
 mod mask;
 mod misread;
 mod name;
@@ -8,6 +9,7 @@ mod number;
 mod quoted;
 mod split;
 
+pub use front::{Cell, read_front};
 pub use misread::Misread;
 pub use name::{is_plain, read_mask, read_value};
 pub use number::{

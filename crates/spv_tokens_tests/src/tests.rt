@@ -3,9 +3,9 @@
 use spv_grammar::Table;
 use spv_inst::Operand::{Id, Mask, Number, OfType, Result as Made, Value, Word};
 use spv_tokens::{
-    Misread, behind, is_plain, read_behind, read_id, read_mask, read_number, read_quoted,
-    read_result_id, read_short, read_type_id, read_value, read_word, split_around, split_before,
-    split_line, split_token,
+    Misread, behind, is_plain, read_behind, read_front, read_id, read_mask, read_number,
+    read_quoted, read_result_id, read_short, read_type_id, read_value, read_word, split_around,
+    split_before, split_line, split_token,
 };
 use std::test::Fail;
 
@@ -36,6 +36,26 @@ fn reads_numbers(rt: HostRuntime) -> Result<(), Fail> {
     }
     assert_eq!(rt; read_behind(b'#', b"#7"), Ok(7));
     assert_eq!(rt; read_behind(b'#', b"%7"), Err(Misread::IllFormed));
+    Ok(())
+}
+
+/// Texts, and the numbers that their first tokens are, with what stands behind these.
+const FRONTS: [(&str, Option<(u32, &str)>); 7] = [
+    ("7", Some((7, ""))),
+    ("0 %12", Some((0, " %12"))),
+    ("3999999999 x", Some((3999999999, " x"))),
+    ("07", None),
+    ("", None),
+    (" 7", None),
+    ("7x", None),
+];
+
+#[test]
+fn reads_numbers_in_front(rt: HostRuntime) -> Result<(), Fail> {
+    for (text, cell) in FRONTS {
+        let found = read_front(text).map(|it| (it.number, it.rest));
+        assert_eq!(rt; found, cell, "{}", text);
+    }
     Ok(())
 }
 

@@ -23,13 +23,14 @@ loop-operand-preserved c =
           let a = c.loop-operand.invariant.shown before opcode r us t k m in
           let f = at_front (Shown G) G r before opcode items (agenda_due G c.loop-operand.agenda) (agenda_due G c.next_leaf.new.self) (string_bytes c.args.out.now) (string_bytes c.loop-operand.out) t i s c.in-Some.asked.leaf o (code.OfType 0) a h refl l d in
           let n = amid c.args.setting.now.types.now c.args.ids c.loop-operand.passed before opcode items i k c.requires.type_id c.requires.first c.loop-operand.invariant.is_passed in
-          let p = c.in_ok-push_piece.ensures (context_at before opcode (plain_operands (take i items))) r f.words f.piece f.slots n l f.takes f.is_piece in
+          let p = c.in_ok-push_piece.ensures.text (context_at before opcode (plain_operands (take i items))) r f.words f.piece f.slots n l f.takes f.is_piece in
           at_step (Shown G) G r before opcode items (agenda_due G c.loop-operand.agenda) (agenda_due G c.open.new.self) (agenda_due G c.next_leaf.new.self) (string_bytes c.args.out.now) (string_bytes c.loop-operand.out)
           (string_bytes c.push_piece.new.out) t i s c.in-Some.asked.leaf o (code.OfType 0) a h refl l f c.in_ok-open.ensures p;
+      names = c.in_ok-push_piece.ensures.names;
     }
 
-pub returns : goal.returns
-returns c = λ before opcode r us t k m.
+pub returns-clause-text : goal.returns-clause-text
+returns-clause-text c = λ before opcode r us t k m.
     let G = c.args.setting.now.table.now in
     let h : length c.args.operands.now ≤ c.loop-operand.operand-index = omega arith in
     at_done (Shown G) G r before opcode c.args.operands.now _ _ _ t c.loop-operand.operand-index (c.loop-operand.invariant.shown before opcode r us t k m) h

@@ -1,6 +1,14 @@
-use Rattle.std.proofs.Common.{string_bytes}
+use Rattle.std.proofs.Common.{◌++◌, ◌∙◌, ap, arith, string_bytes}
+use Rattle.spv_inst.specs.Module.{plain_operand}
+use Rattle.spv_lines.specs.Operand.{shown_operand}
+use Rattle.spv_text.proofs.Along.{cell_written}
 use Rattle.spv_text.proofs.Floats.{mask_written}
 use Rattle.spv_text.proofs.operand.push_operand.Goals as goal
 
-pub returns-in-Mask : goal.returns-in-Mask
-returns-in-Mask c = mask_written c.push_mask.result c.args.table.now c.args.hexadecimal c.args.operand.now _ _ (string_bytes c.push_mask.new.out) (string_bytes c.args.out.now) c.in-Mask.is c.push_mask.ensures
+pub returns-in_ok-push-in-Mask-clause-text : goal.returns-in_ok-push-in-Mask-clause-text
+returns-in_ok-push-in-Mask-clause-text c =
+    let old = string_bytes c.args.out.now in
+    let mid = string_bytes c.push-in-Mask.new.self in
+    let G = c.args.table.now in
+    let m = mask_written c.push_mask.result G c.args.hexadecimal c.args.operand.now _ _ (string_bytes c.push_mask.new.out) mid c.in-Mask.is c.push_mask.ensures.text in
+    cell_written c.push_mask.result old mid (string_bytes c.push_mask.new.out) (shown_operand G c.args.hexadecimal (plain_operand c.args.operand.now)) (c.in_ok-push-in-Mask.ensures.bytes ∙ ap (λ z. old ++ z) (c.in_ok-push-in-Mask.ensures.ascii (omega arith))) m

@@ -1,10 +1,10 @@
-use Rattle.std.proofs.Common.{refl, rules, map}
+use Rattle.std.proofs.Common.{◌≡◌, ◌∙◌, [], false, refl, rules, map}
 use Rattle.std.proofs.lemmas.Result.{err_from_is_err_and}
 use Rattle.spv_inst.specs.Flat.{due}
-use Rattle.spv_inst.specs.Agenda.{items_of, agenda_due, plain_slot}
+use Rattle.spv_inst.specs.Agenda.{items_of, agenda_due, plain_slot, settled}
 use Rattle.spv_inst.proofs.Shapes.{shape_is_leaf}
-use Rattle.spv_text.specs.Reading.{IsAt}
-use Rattle.spv_text.proofs.Walks.{IsMore, context_of, so_far_more, so_far_nearer, so_far_left, so_far_done, so_far_stopped, more_then, more_else}
+use Rattle.spv_text.specs.Reading.{IsAt, context_of}
+use Rattle.spv_text.proofs.Walks.{IsMore, so_far_more, so_far_nearer, so_far_left, so_far_done, so_far_stopped, more_then, more_else}
 use Rattle.spv_text.proofs.operands.read_operands.Goals as goal
 use Rattle.spv_text.proofs.operands.read_operands.Goals.{then-not-is_empty, else-not-is_empty}
 
@@ -104,3 +104,14 @@ returns-in_err-front-clause-failed c =
     let es = agenda_due G c.next_leaf.new.self in
     let t = c.in_err-front.ensures.refused d i e a.broken in
     rw (q.1, q.2) (so_far_stopped G r before c.args.opcode pattern ds es c.args.operands.now l.rest.now l.desk.words.items l.ids s more _ a n u (shape_is_leaf G d s c.in-Some.asked.leaf e) t)
+
+pub returns-then-is_whole-clause-read : goal.returns-then-is_whole-clause-read
+returns-then-is_whole-clause-read c = λ before k.
+    let G = c.args.setting.now.table.now in
+    let r = c.args.result_id in
+    let q = c.is_whole.ensures c.if-is_whole.true in
+    let b = c.in_ok-begun.begun in
+    let a = c.in_ok-begun.ensures before c.args.opcode in
+    let pattern = map due (items_of c.args.pattern.now) in
+    let e : settled false (map due (items_of b.items.now)) ≡ [] = rw q.1 refl in
+    so_far_done G r before c.args.opcode pattern (map due (items_of b.items.now)) c.args.operands.now b.rest.now c.read_plain.new.words.items b.ids false a (q.0, q.2 ∙ a.ids.result) e refl

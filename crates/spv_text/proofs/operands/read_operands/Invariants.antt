@@ -4,7 +4,7 @@ use Rattle.spv_inst.specs.Flat.{due}
 use Rattle.spv_inst.specs.Agenda.{items_of, agenda_due}
 use Rattle.spv_lines.proofs.Walking.{waiting}
 use Rattle.spv_text.specs.Kept.{Knows}
-use Rattle.spv_text.proofs.Walks.{SoFar}
+use Rattle.spv_text.specs.Reading.{SoFar}
 use denote.Shadow.{shadow}
 use denote.Text.{Utf8}
 use Rattle.spv_text.proofs.operands.read_operands.Given as goal

@@ -8,7 +8,7 @@ use Rattle.spv_text.proofs.Texts.{lines_first, lines_step, lines_done, insts_mor
 use Rattle.spv_text.proofs.shown.push_lines.Goals as goal
 
 pub loop-inst-init : goal.loop-inst-init
-loop-inst-init c = record { types = c.new-types.ensures; shown = λ lines s. lines_first c.args.table.now c.args.module.now.insts.items lines (string_bytes c.args.out.now) s }
+loop-inst-init c = record { types = c.new-types.ensures; shown = λ lines s. lines_first c.args.table.now c.args.module.now.insts.items lines (string_bytes c.args.out.now) s; names = c.in_ok-names.ensures c.args.table.now }
 
 pub loop-inst-preserved : goal.loop-inst-preserved
 loop-inst-preserved c =
@@ -26,7 +26,8 @@ loop-inst-preserved c =
       types = rw (insts_more insts i o o h e) k;
       shown = λ lines s.
           lines_step c.args.table.now insts lines (string_bytes c.args.out.now) (string_bytes c.loop-inst.out) (string_bytes c.push_line.new.out) i o o (c.loop-inst.invariant.shown lines s) h e
-          (λ further line l. c.in_ok-push_line.ensures (map plain_inst (take i insts)) further line c.loop-inst.invariant.types l);
+          (λ further line l. c.in_ok-push_line.ensures.text (map plain_inst (take i insts)) further line c.loop-inst.invariant.types l);
+      names = c.in_ok-push_line.ensures.names;
     }
 
 pub returns : goal.returns

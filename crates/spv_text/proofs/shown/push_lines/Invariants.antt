@@ -2,6 +2,7 @@ use Rattle.std.proofs.Common.{ℕ, List, [], map, take, string_bytes}
 use Rattle.spv_inst.specs.Module.{plain_inst, plain_insts}
 use Rattle.spv_lines.specs.Text.{ShownLines}
 use Rattle.spv_text.specs.Kept.{Knows}
+use Rattle.spv_text.specs.Named.{AreNames}
 use Rattle.spv_text.proofs.Texts.{LinesAt}
 use Rattle.spv_text.proofs.shown.push_lines.Given as goal
 
@@ -9,4 +10,5 @@ abbrev pub invariant-loop-inst : goal.invariant-loop-inst
 invariant-loop-inst l = record {
   types : Knows l.types (map plain_inst (take l.inst-index l.module.insts.items));
   shown : (lines : List (List ℕ)) → ShownLines l.table [] (plain_insts l.module) lines → LinesAt l.table l.module.insts.items lines (string_bytes l.fn.out) (string_bytes l.out) l.inst-index;
+  names : AreNames l.table l.names;
 }

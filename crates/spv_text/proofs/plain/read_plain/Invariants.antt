@@ -1,0 +1,15 @@
+use Rattle.std.proofs.Common.{◌+◌, ℕ, List, map, length}
+use Rattle.spv_inst.specs.Operand.{PlainInst}
+use Rattle.spv_inst.specs.Flat.{due}
+use Rattle.spv_inst.specs.Agenda.{items_of}
+use Rattle.spv_lines.proofs.Walking.{waiting}
+use Rattle.spv_text.specs.Reading.{SoFar}
+use denote.Shadow.{shadow}
+use denote.Text.{Utf8}
+use Rattle.spv_text.proofs.plain.read_plain.Given as goal
+
+abbrev pub invariant-loop-kind : goal.invariant-loop-kind
+invariant-loop-kind l = shadow (Utf8 l.rest) × ((before : List PlainInst) (opcode : ℕ) → SoFar l.setting.table.now l.result_id before opcode (map due (items_of l.pattern)) l.operands l.ids (map due (items_of l.items)) l.rest l.words.items)
+
+abbrev pub decreases-loop-kind : goal.decreases-loop-kind
+decreases-loop-kind l = length l.rest + waiting l.ids.result
