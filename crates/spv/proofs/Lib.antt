@@ -1,6 +1,9 @@
 pub mod Asking
 pub mod Assemblings
+pub mod Numerals
 pub mod Showings
 pub mod Tasks
+pub mod TraceLines
+pub mod Tracings
 pub mod Troubles
 pub mod Worked

@@ -30,5 +30,5 @@ empty_given g = record { tree = empty_tree; utf8 = empty_utf8; is_tree = empty_r
 pub nothing_given : (G : Table) → ¬ (IsTableOf [] G)
 nothing_given G t = let e = t.is_tree in let n = nothing_read in cc
 
-pub nothing_breaks : (failed : Type 0) → IsErrorLine [] failed (codes "error J1" ++ line_end)
-nothing_breaks failed = broken J1 (λ _. nothing_read)
+pub nothing_breaks : (failed strange : Type 0) → IsErrorLine [] failed strange (codes "error J1" ++ line_end)
+nothing_breaks failed strange = broken J1 (λ _. nothing_read)

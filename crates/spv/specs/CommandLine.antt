@@ -1,14 +1,15 @@
 -- The words of the command line (own): what `clap` is told of them, and which command they give.
-use Rattle.std.specs.Prelude.{◌≡◌, ◌≢◌, ◌⊎◌, ◌↔◌, List, [], true, IsTrue, Option, Some, None, option_map, option_and_then, codes, Result, Ok, Err}
+use Rattle.std.specs.Prelude.{◌≡◌, ◌≢◌, ◌⊎◌, ◌↔◌, ℕ, List, [], Bool, true, false, IsTrue, Option, Some, None, option_map, option_and_then, codes, Result, Ok, Err}
 use Rattle.clap.specs.Words.{App, IsAmong, Row, Rule, Shape, Text, fault_of, first_of, new_app, new_rule, subcommand_of, with_rule, with_subcommand}
 use Rattle.clap.specs.Simple.{on_top}
 use Rattle.clap.specs.declared.builder.action.ArgAction.TheVariants.{SetTrue}
 use Rattle.clap.specs.declared.error.kind.ErrorKind.{ErrorKind}
 use Rattle.clap.specs.declared.error.kind.ErrorKind.TheVariants.{DisplayHelp, OutOfMemory}
 use Rattle.spv.specs.declared.command_line.Command.{Command}
-use Rattle.spv.specs.declared.command_line.Command.TheVariants.{Check, Show, Asm}
+use Rattle.spv.specs.declared.command_line.Command.TheVariants.{Check, Show, Asm, Trace}
 use Rattle.spv.specs.declared.command_line.UseError.{UseError}
 use Rattle.spv.specs.declared.command_line.UseError.TheVariants.{U1, U2, U3}
+use Rattle.spv.specs.Number.{AreNumbersOf, IsNumberOf}
 
 -- `--grammar G`, which must be given
 abbrev pub grammar_option : Rule
@@ -26,6 +27,20 @@ out_option = record (new_rule (codes "out")) { long = Some (codes "out"); value_
 abbrev pub big_flag : Rule
 big_flag = record (new_rule (codes "big")) { long = Some (codes "big"); action = Some SetTrue }
 
+-- an option of numbers, which must be given or may be
+abbrev pub number_option : Text → Bool → Rule
+number_option name must = record (new_rule name) { long = Some name; value_names = 1; required = must }
+
+-- `--function ID` and `--limit N`, which must be given, and `--choices LIST`
+abbrev pub function_option : Rule
+function_option = number_option (codes "function") true
+
+abbrev pub choices_option : Rule
+choices_option = number_option (codes "choices") false
+
+abbrev pub limit_option : Rule
+limit_option = number_option (codes "limit") true
+
 -- `NAME --grammar G FILE`
 abbrev pub file_command : Text → Shape
 file_command name = (with_rule (with_rule (new_app name) grammar_option) file_word).top
@@ -34,7 +49,12 @@ file_command name = (with_rule (with_rule (new_app name) grammar_option) file_wo
 abbrev pub asm_command : Shape
 asm_command = (with_rule (with_rule (with_rule (with_rule (new_app (codes "asm")) grammar_option) file_word) out_option) big_flag).top
 
--- the commands that read a module; the words begin after the program's name
+-- `trace --grammar G FILE --function ID [--choices LIST] --limit N`
+abbrev pub trace_command : Shape
+trace_command =
+    (with_rule (with_rule (with_rule (with_rule (with_rule (new_app (codes "trace")) grammar_option) file_word) function_option) choices_option) limit_option).top
+
+-- the commands that judge or show a module; the words begin after the program's name
 abbrev pub module_program : App
 module_program =
     with_subcommand
@@ -44,7 +64,7 @@ module_program =
 
 -- all commands, of which one must be given
 abbrev pub program : App
-program = with_subcommand module_program asm_command
+program = with_subcommand (with_subcommand module_program asm_command) trace_command
 
 -- the name of the command with the text of `--grammar` and of `FILE`, as `clap` reads them
 abbrev pub texts_in : Option (Text × List Row) → Option (Text × Option Text × Option Text)
@@ -58,23 +78,34 @@ text_in name found = option_and_then (λ p. first_of name p.1) found
 abbrev pub IsAsked : Option (Text × List Row) → Text → Text → Text → Type 0
 IsAsked found name grammar file = texts_in found ≡ Some (name, Some grammar, Some file)
 
+-- they are `trace` with both of its texts, and with the numbers that its options are in decimal
+pub record IsTrace (found : Option (Text × List Row)) (grammar file : Text) (function : ℕ) (choices : List ℕ) (limit : ℕ) : Type 0 where
+  pub asked : IsAsked found (codes "trace") grammar file
+  pub function_is : IsNumberOf (text_in (codes "function") found) function
+  pub choices_are : AreNumbersOf (text_in (codes "choices") found) choices
+  pub limit_is : IsNumberOf (text_in (codes "limit") found) limit
+
 -- they are a command with all of its texts; a flag that was read has the text `true`
 abbrev pub IsCommand : Option (Text × List Row) → Command → Type 0
 IsCommand found (Check grammar file) = IsAsked found (codes "check") grammar.now file.now
 IsCommand found (Show grammar file) = IsAsked found (codes "show") grammar.now file.now
 IsCommand found (Asm grammar file out big) =
     IsAsked found (codes "asm") grammar.now file.now × (text_in (codes "out") found ≡ Some out.now) × (IsTrue big ↔ (text_in (codes "big") found ≡ Some (codes "true")))
+IsCommand found (Trace grammar file function choices limit) = IsTrace found grammar.now file.now function choices.items limit
 
 -- they are no command with all of its texts
 pub record IsNoCommand (found : Option (Text × List Row)) : Type 0 where
   pub check : (grammar file : Text) → ¬ (IsAsked found (codes "check") grammar file)
   pub show : (grammar file : Text) → ¬ (IsAsked found (codes "show") grammar file)
   pub asm : (grammar file out : Text) → IsAsked found (codes "asm") grammar file → ¬ (text_in (codes "out") found ≡ Some out)
+  pub trace : (grammar file : Text) (function : ℕ) (choices : List ℕ) (limit : ℕ) → ¬ (IsTrace found grammar file function choices limit)
 
 -- what `clap` read is the command, or none
-abbrev pub IsCommandOf : Option (Text × List Row) → Option Command → Type 0
-IsCommandOf found (Some c) = IsCommand found c
-IsCommandOf found None = IsNoCommand found
+abbrev pub IsCommandOf : Option (Text × List Row) → Result Command UseError → Type 0
+IsCommandOf found (Ok c) = IsCommand found c
+IsCommandOf found (Err U1) = IsNoCommand found
+IsCommandOf found (Err U2) = Unit {0}
+IsCommandOf found (Err U3) = ⊥
 
 -- the code for a kind of error of `clap`
 abbrev pub error_of : ErrorKind → UseError
@@ -99,3 +130,14 @@ IsAsmOf rows g f (Some (Asm grammar file out big)) =
     (grammar.now ≡ g) × (file.now ≡ f) × (first_of (codes "out") rows ≡ Some out.now) × (IsTrue big ↔ (first_of (codes "big") rows ≡ Some (codes "true")))
 IsAsmOf rows g f (Some _) = ⊥
 IsAsmOf rows g f None = first_of (codes "out") rows ≡ None
+
+-- of these rows the command is `trace` with these two texts and its own numbers, or these have none (for the code alone)
+abbrev pub IsTraceOf : List Row → Text → Text → Result Command UseError → Type 0
+IsTraceOf rows g f (Ok (Trace grammar file function choices limit)) =
+    (grammar.now ≡ g) × (file.now ≡ f) × IsNumberOf (first_of (codes "function") rows) function × AreNumbersOf (first_of (codes "choices") rows) choices.items
+    × IsNumberOf (first_of (codes "limit") rows) limit
+IsTraceOf rows g f (Ok _) = ⊥
+IsTraceOf rows g f (Err U1) = (function : ℕ) (choices : List ℕ) (limit : ℕ) → IsNumberOf (first_of (codes "function") rows) function
+    → AreNumbersOf (first_of (codes "choices") rows) choices → IsNumberOf (first_of (codes "limit") rows) limit → ⊥
+IsTraceOf rows g f (Err U2) = Unit {0}
+IsTraceOf rows g f (Err U3) = ⊥

@@ -21,6 +21,10 @@ memory_line = codes "error memory" ++ line_end
 abbrev pub file_line : List ℕ
 file_line = codes "error file" ++ line_end
 
+-- the line that tells an id that is no entry point's function
+abbrev pub entry_line : List ℕ
+entry_line = codes "error X1" ++ line_end
+
 -- the line of a refused grammar file; J8 is want of memory
 abbrev pub grammar_text : GrammarError → List ℕ
 grammar_text grammar.J1 = codes "error J1" ++ line_end
@@ -37,6 +41,7 @@ abbrev pub trouble_text : Trouble → List ℕ
 trouble_text trouble.Use = codes "error use" ++ line_end
 trouble_text trouble.File = file_line
 trouble_text trouble.Memory = memory_line
+trouble_text trouble.NoEntry = entry_line
 trouble_text (trouble.Grammar e) = grammar_text e
 
 -- what an error of a check of a stream is told as
@@ -44,12 +49,13 @@ abbrev pub trouble_from : WordError → Trouble
 trouble_from W9 = trouble.Memory
 trouble_from _ = trouble.File
 
--- The error line of a check whose grammar file has this text, for a reason: the text breaks a code, a read or a write
--- `failed`, or memory was refused. No clause can tell when memory is refused, so the last stands for itself.
-pub data IsErrorLine (text : List ℕ) (failed : Type 0) : List ℕ → Type 0 where
-  refused : (e : GrammarError) → text_breaks text e → IsErrorLine text failed (grammar_text e)
-  file : failed → IsErrorLine text failed file_line
-  memory : IsErrorLine text failed memory_line
+-- The error line of a run whose grammar file has this text, for a reason: the text breaks a code, a read or a write
+-- `failed`, an id is `strange`, or memory was refused. No clause can tell when memory is refused, so the last stands for itself.
+pub data IsErrorLine (text : List ℕ) (failed strange : Type 0) : List ℕ → Type 0 where
+  refused : (e : GrammarError) → text_breaks text e → IsErrorLine text failed strange (grammar_text e)
+  file : failed → IsErrorLine text failed strange file_line
+  entry : strange → IsErrorLine text failed strange entry_line
+  memory : IsErrorLine text failed strange memory_line
 
 -- A writer that held the bytes `old` now also holds a beginning of the line, and nothing else.
 pub record BeginsWith (line old : List ℕ) (new : Option (List ℕ)) : Type 0 where

@@ -1,16 +1,18 @@
 //! The words of the command line, read by `clap`.
-ghost use Rattle.std.specs.Prelude.{◌≡◌, ◌↔◌, false, codes, IfOk, IsTrue, map, Some};
-ghost use Rattle.clap.specs.Words.{app_of, first_of, found_of, rows_of, shape_of, subcommand_rows_of};
+ghost use Rattle.std.specs.Prelude.{◌≡◌, ◌↔◌, ℕ, List, false, codes, IfOk, IsTrue, MatchOption, map, Some};
+ghost use Rattle.clap.specs.Words.{app_of, first_of, found_of, rows_of, rule_of, shape_of, subcommand_rows_of};
 ghost use Rattle.clap.specs.declared.builder.command.Command.TheViews.{out-Command};
-ghost use Rattle.spv.specs.CommandLine.{AnswersTo, IsAsmOf, IsCommandOf, asm_command, error_of, file_command, module_program, program};
+ghost use Rattle.spv.specs.CommandLine.{AnswersTo, IsAsmOf, IsCommandOf, IsTraceOf, asm_command, error_of, file_command, module_program, number_option, program, trace_command};
+ghost use Rattle.spv.specs.Number.{AreNumbersOf, IsNumberOf};
 
+use crate::number::{number_in, numbers_in};
 use clap::error::ErrorKind;
 use clap::{Arg, ArgAction, ArgMatches};
 use std::alloc::{AllocError, Global};
 use thiserror::Error;
 
 /// What the program is asked to do.
-#[derive(Clone, Copy, Debug, PartialEq, Eq)]
+#[derive(Debug, Drop, PartialEq, Eq)]
 pub enum Command<'a> {
     /// `spv check --grammar G FILE`: the verdict on a module.
     Check {
@@ -36,6 +38,19 @@ pub enum Command<'a> {
         out: &'a str,
         /// Whether the bytes of its words stand from the highest to the lowest.
         big: bool,
+    },
+    /// `spv trace --grammar G --function ID [--choices 0,1] --limit N FILE`: the run of an entry point's function.
+    Trace {
+        /// The path of the grammar file.
+        grammar: &'a str,
+        /// The path of the module.
+        file: &'a str,
+        /// The id of the function.
+        function: u32,
+        /// The places of the targets that are taken, from 0: one for each branch on a condition or switch that is executed.
+        choices: Vec<u32>,
+        /// The greatest number of steps.
+        limit: u32,
     },
 }
 
@@ -108,7 +123,44 @@ fn asm_words<'a>(alloc: Global) -> Result<clap::Command<'a>, AllocError>
         .arg(big)
 }
 
-/// The command line of the commands that read a module.
+/// An option of numbers.
+fn number_words<'a>(
+    alloc: Global,
+    name: &'a str,
+    value: &'a str,
+    must: bool,
+    what: &'a str,
+) -> Arg<'a>
+    ensures rule { rule_of result ≡ number_option name.now must }
+    ensures local { result.global ≡ false }
+{
+    Arg::new(alloc, name)
+        .long(name)
+        .value_name(value)
+        .required(must)
+        .help(what)
+}
+
+/// The command that writes the run of a function.
+fn trace_words<'a>(alloc: Global) -> Result<clap::Command<'a>, AllocError>
+    ensures shape { IfOk result (λ c. shape_of c ≡ trace_command) }
+    ensures local { IfOk result (λ c. (out-Command c).has_globals ≡ false) }
+{
+    let about = "Writes the run of an entry point's function";
+    let id = "The id of an entry point's function";
+    let targets = "The targets that are taken, from 0, as 0,1";
+    let most =
+        "The greatest number of steps; the run is written once it is whole, or `error memory` alone where it does not fit";
+    let function = number_words(alloc, "function", "ID", true, id);
+    let choices = number_words(alloc, "choices", "LIST", false, targets);
+    let limit = number_words(alloc, "limit", "N", true, most);
+    file_words(alloc, "trace", about, "The module")?
+        .arg(function)?
+        .arg(choices)?
+        .arg(limit)
+}
+
+/// The command line of the commands that judge or show a module.
 fn module_words<'a>(alloc: Global) -> Result<clap::Command<'a>, AllocError>
     ensures { IfOk result (λ c. app_of c ≡ module_program) }
 {
@@ -120,7 +172,7 @@ fn module_words<'a>(alloc: Global) -> Result<clap::Command<'a>, AllocError>
     )?;
     let show = file_words(alloc, "show", "Writes the text of a module", "The module")?;
     clap::Command::new(alloc, "spv")
-        .about("Checks, shows and assembles SPIR-V 1.6 kernel modules")
+        .about("Checks, shows, assembles and traces SPIR-V 1.6 kernel modules")
         .no_binary_name(true)
         .subcommand_required(true)
         .disable_help_subcommand(true)
@@ -133,7 +185,8 @@ fn all_words<'a>(alloc: Global) -> Result<clap::Command<'a>, AllocError>
     ensures { IfOk result (λ c. app_of c ≡ program) }
 {
     let asm = asm_words(alloc)?;
-    module_words(alloc)?.subcommand(asm)
+    let trace = trace_words(alloc)?;
+    module_words(alloc)?.subcommand(asm)?.subcommand(trace)
 }
 
 /// The error for what `clap` refused.
@@ -181,22 +234,83 @@ fn asm_in<'a>(found: &ArgMatches<'a>, grammar: &'a str, file: &'a str) -> Option
     })
 }
 
+/// The number of an option that must be given. None where it is not, or its text is no number of 32 bits.
+fn number_of(found: &ArgMatches<'_>, option: &str) -> Option<u32>
+    ensures { MatchOption result ((n : ℕ) → ¬ (IsNumberOf (first_of option.now (rows_of (found_of found.now))) n)) (λ n. IsNumberOf (first_of option.now (rows_of (found_of found.now))) n) }
+{
+    match found.get_str(option) {
+        Some(text) => number_in(text.as_bytes()),
+        None => None,
+    }
+}
+
+/// The numbers of an option that may be given. None where its text is no numbers of 32 bits joined by commas.
+fn numbers_of(
+    alloc: Global,
+    found: &ArgMatches<'_>,
+    option: &str,
+) -> Result<Option<Vec<u32>>, AllocError>
+    ensures { IfOk result (λ o. MatchOption o ((ns : List ℕ) → ¬ (AreNumbersOf (first_of option.now (rows_of (found_of found.now))) ns)) (λ v. AreNumbersOf (first_of option.now (rows_of (found_of found.now))) v.items)) }
+{
+    match found.get_str(option) {
+        Some(text) => numbers_in(alloc, text.as_bytes()),
+        None => Ok(Some(Vec::new(alloc))),
+    }
+}
+
+/// The command `trace` with the texts of these, if its own are numbers too.
+fn trace_in<'a>(
+    alloc: Global,
+    found: &ArgMatches<'a>,
+    grammar: &'a str,
+    file: &'a str,
+) -> Result<Command<'a>, UseError>
+    ensures { IsTraceOf (rows_of (found_of found.now)) grammar.now file.now result }
+{
+    let Some(function) = number_of(found, "function") else {
+        return Err(UseError::U1);
+    };
+    let Some(limit) = number_of(found, "limit") else {
+        return Err(UseError::U1);
+    };
+    let Some(choices) = numbers_of(alloc, found, "choices")? else {
+        return Err(UseError::U1);
+    };
+    Ok(Command::Trace {
+        grammar,
+        file,
+        function,
+        choices,
+        limit,
+    })
+}
+
 /// The command that `clap` read, if it is one with all its texts.
-fn command_in<'a>(matches: &ArgMatches<'a>) -> Option<Command<'a>>
+fn command_in<'a>(alloc: Global, matches: &ArgMatches<'a>) -> Result<Command<'a>, UseError>
     ensures { IsCommandOf (subcommand_rows_of matches.now) result }
 {
-    let (name, found) = matches.subcommand()?;
-    let grammar = found.get_str("grammar")?;
-    let file = found.get_str("file")?;
+    let Some((name, found)) = matches.subcommand() else {
+        return Err(UseError::U1);
+    };
+    let Some(grammar) = found.get_str("grammar") else {
+        return Err(UseError::U1);
+    };
+    let Some(file) = found.get_str("file") else {
+        return Err(UseError::U1);
+    };
     match name {
-        "check" => Some(Command::Check { grammar, file }),
-        "show" => Some(Command::Show { grammar, file }),
-        "asm" => asm_in(found, grammar, file),
-        _ => None,
+        "check" => Ok(Command::Check { grammar, file }),
+        "show" => Ok(Command::Show { grammar, file }),
+        "asm" => asm_in(found, grammar, file).ok_or(UseError::U1),
+        "trace" => trace_in(alloc, found, grammar, file),
+        _ => Err(UseError::U1),
     }
 }
 
 /// The command that the words after the program's name give. The texts are lent by the words.
+///
+/// A number is one or more ASCII digits, and one of 32 bits in decimal; choices are numbers joined by commas, none where the
+/// option is not given.
 ///
 /// `U1`: the words fit no command, or an option is given twice. `U2`: a growth of memory was refused. `U3`: they ask
 /// for help, by `--help` or `-h`.
@@ -208,7 +322,7 @@ pub fn arguments<'a>(alloc: Global, words: &'a [&'a str]) -> Result<Command<'a>,
         Ok(matches) => matches,
         Err(error) => return Err(refusal(error.kind())),
     };
-    command_in(&matches).ok_or(UseError::U1)
+    command_in(alloc, &matches)
 }
 
 /// The text that `--help` prints.

@@ -9,8 +9,11 @@ ghost use Rattle.spv_grammar.specs.Example.{empty_table};
 ghost use Rattle.spv.specs.Example.{empty_grammar};
 ghost use Rattle.spv.specs.Show.{BeginsShowing, IsShowing, Shows};
 ghost use Rattle.spv.specs.Assemble.{Assembles, BeginsAssembling};
+ghost use Rattle.spv.specs.Number.{AreNumbers, IsNumber};
+ghost use Rattle.spv.specs.Trace.{BeginsTracing, HasNoEntry, Traces, step_line, trace_text};
+ghost use Rattle.spv_run.specs.declared.parts.Ending.TheVariants.{Finished, Limit};
 ghost use Rattle.spv.specs.Task.{BeginsByText, DoesByText, MakesNothing};
-ghost use Rattle.spv.specs.Trouble.{BeginsWith, IsErrorLine, IsTableOf, Writes, file_line, memory_line};
+ghost use Rattle.spv.specs.Trouble.{BeginsWith, IsErrorLine, IsTableOf, Writes, entry_line, file_line, memory_line};
 ghost use Rattle.spv.specs.declared.command_line.Command.{Command};
 ghost use Rattle.spv_verdict.specs.Verdict.{line_end, valid_line};
 
@@ -62,6 +65,36 @@ pub fn assemble_examples()
     ensures begins_none { (G : Table) (o : Order) (old new : Option (List ℕ)) → ¬ (BeginsAssembling G o (1 ∷ 2 ∷ 3 ∷ []) old new (Some []) (Some (3 ∷ []))) }
 {}
 
+/// Worked examples of numbers of the command line.
+pub fn number_examples()
+    // `007` is a number, and `+7`, no text and 4,294,967,296 are none.
+    ensures number { IsNumber (codes "007") 7 }
+    ensures no_sign { (n : ℕ) → ¬ (IsNumber (codes "+7") n) }
+    ensures no_digit { (n : ℕ) → ¬ (IsNumber [] n) }
+    ensures too_large { (n : ℕ) → ¬ (IsNumber (codes "4294967296") n) }
+    // Two numbers, and no two where a comma stands at the end.
+    ensures numbers { AreNumbers (codes "0,12") (0 ∷ 12 ∷ []) }
+    ensures no_numbers { (ns : List ℕ) → ¬ (AreNumbers (codes "0,") ns) }
+{}
+
+/// Worked examples of what is traced.
+pub fn trace_examples()
+    // The lines of a step and of an end, and the text of both.
+    ensures step { step_line (record { depth = 0; inst = 7 }) ≡ codes "0 7" ++ line_end }
+    ensures text { trace_text (record { depth = 1; inst = 2 } ∷ []) Limit ≡ codes "1 2" ++ line_end ++ codes "end limit" ++ line_end }
+    ensures other_text { ¬ (trace_text [] Finished ≡ codes "end limit" ++ line_end) }
+    // A writer that held the byte 9 got the verdict line of three bytes, which are no module and have no run.
+    ensures traces { (G : Table) (function : ℕ) (choices : List ℕ) (limit : ℕ) → Traces G function choices limit (1 ∷ 2 ∷ 3 ∷ []) (9 ∷ []) (Some (9 ∷ codes "fault W2" ++ line_end)) false }
+    ensures traces_none { (G : Table) (function : ℕ) (choices : List ℕ) (limit : ℕ) (new : Option (List ℕ)) → ¬ (Traces G function choices limit (1 ∷ 2 ∷ 3 ∷ []) [] new true) }
+    // The first five bytes of that line.
+    ensures begins { (G : Table) (function : ℕ) (choices : List ℕ) (limit : ℕ) → BeginsTracing G function choices limit (1 ∷ 2 ∷ 3 ∷ []) (9 ∷ []) (Some (9 ∷ codes "fault")) }
+    // No id is told of bytes that are no module.
+    ensures no_entry { (G : Table) (function : ℕ) → ¬ (HasNoEntry G (1 ∷ 2 ∷ 3 ∷ []) function) }
+{
+    spv_words::laws::examples();
+    spv_words::laws::one_refusal();
+}
+
 /// Worked examples of what a run leaves in its outputs.
 pub fn run_examples()
     // The first five bytes of `error file`, and of another line.
@@ -78,12 +111,15 @@ pub fn run_examples()
     ensures does_nothing { (command : Command) (bytes : List ℕ) (old new held kept : Option (List ℕ)) (answer : Bool) → ¬ (DoesByText command [] bytes old new held kept answer) }
     ensures begins { (command : Command) → MakesNothing command → BeginsByText command empty_grammar (1 ∷ 2 ∷ 3 ∷ []) (Some (9 ∷ [])) (Some (9 ∷ codes "fault")) None None }
     ensures begins_nothing { (command : Command) (bytes : List ℕ) (old new held kept : Option (List ℕ)) → ¬ (BeginsByText command [] bytes old new held kept) }
-    // No text at all breaks J1, memory can always be told, and `error file` only after a failed call.
-    ensures refused { IsErrorLine [] ⊥ (codes "error J1" ++ line_end) }
-    ensures memory { (text : List ℕ) → IsErrorLine text ⊥ memory_line }
-    ensures no_failure { (text : List ℕ) → ¬ (IsErrorLine text ⊥ file_line) }
+    // No text at all breaks J1, memory can always be told, `error X1` of an id that is strange, and `error file` only after a
+    // failed call.
+    ensures refused { IsErrorLine [] ⊥ ⊥ (codes "error J1" ++ line_end) }
+    ensures memory { (text : List ℕ) → IsErrorLine text ⊥ ⊥ memory_line }
+    ensures no_entry { (text : List ℕ) → IsErrorLine text ⊥ (Unit {0}) entry_line }
+    ensures no_failure { (text : List ℕ) → ¬ (IsErrorLine text ⊥ ⊥ file_line) }
 {
     spv_grammar::laws::table_examples();
     spv_verdict::laws::stream_examples();
     show_examples();
+    trace_examples();
 }

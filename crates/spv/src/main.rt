@@ -1,14 +1,17 @@
-//! `spv` checks, shows and assembles SPIR-V 1.6 kernel modules.
+//! `spv` checks, shows, assembles and traces SPIR-V 1.6 kernel modules.
 #![tactic(auto)]
 
 mod assembling;
 mod command_line;
 pub mod laws;
+mod number;
 mod program;
 mod showing;
 #[cfg(test)]
 mod tests;
 mod text_fault;
+mod trace_lines;
+mod tracing;
 
 use crate::command_line::{Command, UseError, arguments, help};
 use crate::program::{Trouble, report, run};
@@ -63,7 +66,8 @@ fn with_made<F: Read + Drop, O: Write + Drop>(
 fn with_files(rt: &HostRuntime, command: &Command) -> Result<u8, Trouble> {
     let (Command::Check { grammar, file }
     | Command::Show { grammar, file }
-    | Command::Asm { grammar, file, .. }) = command;
+    | Command::Asm { grammar, file, .. }
+    | Command::Trace { grammar, file, .. }) = command;
     let grammar = fs::read(rt, *grammar).map_err(trouble_of)?;
     let file = fs::open(rt, *file).map_err(trouble_of)?;
     let status = match command {

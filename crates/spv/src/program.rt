@@ -6,18 +6,21 @@ ghost use Rattle.spv_grammar.specs.declared.error.GrammarError.TheVariants.{J8};
 ghost use Rattle.spv.specs.Assemble.{Assembles, BeginsAssembling, order_of};
 ghost use Rattle.spv_verdict.specs.Stream.{Begins, Tells};
 ghost use Rattle.spv.specs.Show.{BeginsShowing, Shows};
-ghost use Rattle.spv.specs.Task.{BeginsByText, BeginsToDo, Does, DoesByText, IsNoText, MakesNothing};
+ghost use Rattle.spv.specs.Task.{BeginsByText, BeginsToDo, Does, DoesByText, IsNoText, LacksEntry, LacksEntryByText, MakesNothing};
+ghost use Rattle.spv.specs.Trace.{BeginsTracing, HasNoEntry, Traces};
 ghost use Rattle.spv.specs.Trouble.{IsErrorLine, Writes, file_line, grammar_text, memory_line, trouble_from, trouble_text};
-ghost use Rattle.spv.specs.declared.program.Trouble.TheVariants.{File, Grammar, Memory};
+ghost use Rattle.spv.specs.declared.program.Trouble.TheVariants.{File, Grammar, Memory, NoEntry};
 
 use crate::assembling::{TextError, assemble_stream};
 use crate::command_line::Command;
 use crate::laws::one_grammar;
 use crate::showing::show_stream;
+use crate::tracing::{RunError, trace_stream};
 use spv_grammar::{GrammarError, Table};
 use spv_verdict::check_stream;
 use spv_words::{Order, Sink, Source, WordError, write_all};
 use std::alloc::Global;
+use std::mem::forget;
 
 /// Why the program ends with the exit status 2.
 #[derive(Clone, Copy, Debug, PartialEq, Eq)]
@@ -28,6 +31,8 @@ pub enum Trouble {
     File,
     /// A growth of memory was refused.
     Memory,
+    /// The id whose run is asked for is no entry point's function.
+    NoEntry,
     /// The grammar file is refused.
     Grammar(GrammarError),
 }
@@ -40,6 +45,7 @@ fn trouble_line(trouble: Trouble) -> &'static [u8]
         Trouble::Use => b"error use\n",
         Trouble::File => b"error file\n",
         Trouble::Memory => b"error memory\n",
+        Trouble::NoEntry => b"error X1\n",
         Trouble::Grammar(error) => grammar_line(error),
     }
 }
@@ -140,7 +146,31 @@ fn assembled<S: Source, W: Sink, O: Sink>(
     }
 }
 
-/// Does what a command asks by a table: whether the module is valid, has a text or was made.
+/// Writes the run of a function of the module by a table: whether the module is valid.
+fn traced<S: Source, W: Sink>(
+    alloc: Global,
+    table: &Table,
+    function: u32,
+    choices: &[u32],
+    limit: u32,
+    file: &mut S,
+    out: &mut W,
+) -> Result<bool, Trouble>
+    ensures traced { IfSome (S.remaining file.old) (λ bytes. IfSome (W.contents out.old) (λ old. IfOk result (λ answer. Traces table.now function choices.now limit bytes old (W.contents out.new) answer))) }
+    ensures failed { ((S.failures file.new ≢ S.failures file.old) ⊎ (W.failures out.new ≢ W.failures out.old)) ↔ IsErrOf result File }
+    ensures why { IfErr result (λ t. (t ≡ File) ⊎ ((t ≡ NoEntry) × IfSome (S.remaining file.old) (λ bytes. HasNoEntry table.now bytes function)) ⊎ (t ≡ Memory)) }
+    ensures unwritten { IsErr result → W.failures out.new ≡ W.failures out.old → out.new ≡ out.old }
+    ensures begun { W.failures out.new ≢ W.failures out.old → IfSome (S.remaining file.old) (λ bytes. IfSome (W.contents out.old) (λ old. BeginsTracing table.now function choices.now limit bytes old (W.contents out.new))) }
+{
+    match trace_stream(alloc, table, function, choices, limit, file, out) {
+        Ok(answer) => Ok(answer),
+        Err(RunError::Failed) => Err(Trouble::File),
+        Err(RunError::NoEntry) => Err(Trouble::NoEntry),
+        Err(RunError::Memory) => Err(Trouble::Memory),
+    }
+}
+
+/// Does what a command asks by a table: whether the module is valid, has a text, was made or has a run.
 fn done_by<S: Source, W: Sink, O: Sink>(
     alloc: Global,
     command: &Command,
@@ -151,7 +181,7 @@ fn done_by<S: Source, W: Sink, O: Sink>(
 ) -> Result<bool, Trouble>
     ensures done { IfSome (S.remaining file.old) (λ bytes. IfOk result (λ answer. Does command.now table.now bytes (W.contents out.old) (W.contents out.new) (O.contents made.old) (O.contents made.new) answer)) }
     ensures failed { (S.failures file.new ≢ S.failures file.old) ⊎ (W.failures out.new ≢ W.failures out.old) ⊎ (O.failures made.new ≢ O.failures made.old) → IsErrOf result File }
-    ensures why { IfErr result (λ t. ((t ≡ File) × (((S.failures file.new ≢ S.failures file.old) ⊎ (W.failures out.new ≢ W.failures out.old) ⊎ (O.failures made.new ≢ O.failures made.old)) ⊎ IsNoText command.now (S.remaining file.old))) ⊎ (t ≡ Memory)) }
+    ensures why { IfErr result (λ t. ((t ≡ File) × (((S.failures file.new ≢ S.failures file.old) ⊎ (W.failures out.new ≢ W.failures out.old) ⊎ (O.failures made.new ≢ O.failures made.old)) ⊎ IsNoText command.now (S.remaining file.old))) ⊎ ((t ≡ NoEntry) × LacksEntry command.now table.now (S.remaining file.old)) ⊎ (t ≡ Memory)) }
     ensures unwritten { IsErr result → W.failures out.new ≡ W.failures out.old → out.new ≡ out.old }
     ensures unmade { IsErr result → O.failures made.new ≡ O.failures made.old → made.new ≡ made.old }
     ensures begun { (W.failures out.new ≢ W.failures out.old) ⊎ (O.failures made.new ≢ O.failures made.old) → IfSome (S.remaining file.old) (λ bytes. BeginsToDo command.now table.now bytes (W.contents out.old) (W.contents out.new) (O.contents made.old) (O.contents made.new)) }
@@ -161,10 +191,17 @@ fn done_by<S: Source, W: Sink, O: Sink>(
         Command::Check { .. } => judged(alloc, table, file, out),
         Command::Show { .. } => shown(alloc, table, file, out),
         Command::Asm { big, .. } => assembled(alloc, table, *big, file, out, made),
+        Command::Trace {
+            function,
+            choices,
+            limit,
+            ..
+        } => traced(alloc, table, *function, choices, *limit, file, out),
     }
 }
 
-/// Judges the grammar file, and then does what a command asks: whether the module is valid, has a text or was made.
+/// Judges the grammar file, and then does what a command asks: whether the module is valid, has a
+/// text, was made or has a run.
 fn done<S: Source, W: Sink, O: Sink>(
     alloc: Global,
     command: &Command,
@@ -175,7 +212,7 @@ fn done<S: Source, W: Sink, O: Sink>(
 ) -> Result<bool, Trouble>
     ensures done { IfSome (S.remaining file.old) (λ bytes. IfOk result (λ answer. DoesByText command.now grammar.now bytes (W.contents out.old) (W.contents out.new) (O.contents made.old) (O.contents made.new) answer)) }
     ensures failed { (S.failures file.new ≢ S.failures file.old) ⊎ (W.failures out.new ≢ W.failures out.old) ⊎ (O.failures made.new ≢ O.failures made.old) → IsErrOf result File }
-    ensures reason { IfErr result (λ t. IsErrorLine grammar.now (((S.failures file.new ≢ S.failures file.old) ⊎ (W.failures out.new ≢ W.failures out.old) ⊎ (O.failures made.new ≢ O.failures made.old)) ⊎ IsNoText command.now (S.remaining file.old)) (trouble_text t)) }
+    ensures reason { IfErr result (λ t. IsErrorLine grammar.now (((S.failures file.new ≢ S.failures file.old) ⊎ (W.failures out.new ≢ W.failures out.old) ⊎ (O.failures made.new ≢ O.failures made.old)) ⊎ IsNoText command.now (S.remaining file.old)) (LacksEntryByText command.now grammar.now (S.remaining file.old)) (trouble_text t)) }
     ensures refused { (e : GrammarError) → text_breaks grammar.now e → (file.new ≡ file.old) × (out.new ≡ out.old) × (made.new ≡ made.old) × (IsErrOf result (Grammar e) ⊎ IsErrOf result (Grammar J8)) }
     ensures unwritten { IsErr result → W.failures out.new ≡ W.failures out.old → out.new ≡ out.old }
     ensures unmade { IsErr result → O.failures made.new ≡ O.failures made.old → made.new ≡ made.old }
@@ -184,18 +221,24 @@ fn done<S: Source, W: Sink, O: Sink>(
 {
     one_grammar();
     match Table::from_slice(alloc, grammar) {
-        Ok(table) => done_by(alloc, command, &table, file, out, made),
+        Ok(table) => {
+            let answer = done_by(alloc, command, &table, file, out, made);
+            // The process ends soon, which gives back its memory at once.
+            forget(table);
+            answer
+        }
         Err(error) => Err(Trouble::Grammar(error)),
     }
 }
 
 /// Does what a command asks, and answers the exit status.
 ///
-/// `file` is the module or the text, `out` the standard output, `made` the file that a command makes (`check` and `show` make
-/// none), `err` the standard error. 0: the module is valid, or its text or the module of a text was written. 1: a fault line
+/// `file` is the module or the text, `out` the standard output, `made` the file that a command makes (only `asm` makes one),
+/// `err` the standard error. 0: the module is valid, or its text, the module of a text or a run was written. 1: a fault line
 /// was written. 2: one line was written to `err`: `error J1` to `error J7` where the grammar file is refused, which is told
-/// first, `error file` where a read or a write failed or a text is not UTF-8, `error memory` where a growth of memory was
-/// refused. Where the write to `err` fails too, it has got a beginning of that line, and the status is 2 all the same.
+/// first, `error file` where a read or a write failed or a text is not UTF-8, `error X1` where the id whose run is asked for is
+/// no entry point's function, `error memory` where a growth of memory was refused. Where the write to `err` fails too, it has
+/// got a beginning of that line, and the status is 2 all the same.
 pub fn run<S: Source, W: Sink, O: Sink, E: Sink>(
     alloc: Global,
     command: &Command,
@@ -206,11 +249,11 @@ pub fn run<S: Source, W: Sink, O: Sink, E: Sink>(
     err: &mut E,
 ) -> u8
     ensures status { result ≤ 2 }
-    // With 0 and 1 the verdict line, the text or the module was written, by the table that the grammar file gives: 0 goes with
-    // `valid` alone, with the text of a module or with the module of a text.
+    // With 0 and 1 the verdict line, the text, the module or the run was written, by the table that the grammar file gives: 0
+    // goes with `valid` alone, with the text of a module, with the module of a text or with a run.
     ensures done { result ≤ 1 → IfSome (S.remaining file.old) (λ bytes. DoesByText command.now grammar.now bytes (W.contents out.old) (W.contents out.new) (O.contents made.old) (O.contents made.new) (result == 0)) }
     // With 2 an error line was written to the standard error, and there is a reason for it.
-    ensures error { result ≡ 2 → (line : List ℕ) × IsErrorLine grammar.now (((S.failures file.new ≢ S.failures file.old) ⊎ (W.failures out.new ≢ W.failures out.old) ⊎ (O.failures made.new ≢ O.failures made.old)) ⊎ IsNoText command.now (S.remaining file.old)) line × Writes line (E.contents err.old) (E.contents err.new) (E.failures err.old) (E.failures err.new) }
+    ensures error { result ≡ 2 → (line : List ℕ) × IsErrorLine grammar.now (((S.failures file.new ≢ S.failures file.old) ⊎ (W.failures out.new ≢ W.failures out.old) ⊎ (O.failures made.new ≢ O.failures made.old)) ⊎ IsNoText command.now (S.remaining file.old)) (LacksEntryByText command.now grammar.now (S.remaining file.old)) line × Writes line (E.contents err.old) (E.contents err.new) (E.failures err.old) (E.failures err.new) }
     // A refused grammar file is told first, before anything is read or written: by its code, or as want of memory.
     ensures refused { (e : GrammarError) → text_breaks grammar.now e → (result ≡ 2) × (file.new ≡ file.old) × (out.new ≡ out.old) × (made.new ≡ made.old) × (Writes (grammar_text e) (E.contents err.old) (E.contents err.new) (E.failures err.old) (E.failures err.new) ⊎ Writes memory_line (E.contents err.old) (E.contents err.new) (E.failures err.old) (E.failures err.new)) }
     // A failed read or write is told by `error file`.
@@ -219,7 +262,7 @@ pub fn run<S: Source, W: Sink, O: Sink, E: Sink>(
     ensures unwritten { result ≡ 2 → W.failures out.new ≡ W.failures out.old → out.new ≡ out.old }
     ensures unmade { result ≡ 2 → O.failures made.new ≡ O.failures made.old → made.new ≡ made.old }
     ensures begun { (W.failures out.new ≢ W.failures out.old) ⊎ (O.failures made.new ≢ O.failures made.old) → IfSome (S.remaining file.old) (λ bytes. BeginsByText command.now grammar.now bytes (W.contents out.old) (W.contents out.new) (O.contents made.old) (O.contents made.new)) }
-    // `check` and `show` make no file.
+    // `check`, `show` and `trace` make no file.
     ensures nothing { MakesNothing command.now → made.new ≡ made.old }
     // The standard error gets a line only with the status 2.
     ensures quiet { result ≤ 1 → err.new ≡ err.old }

@@ -278,6 +278,115 @@ fn tells_a_failed_call_of_asm(rt: HostRuntime) -> Result<(), Fail> {
     Ok(())
 }
 
+/// Runs `trace`, with so many calls that go well at the writer.
+fn trace_run(alloc: Global, function: u32, limit: u32, bytes: &[u8], writes: u64) -> Outcome {
+    let mut file = FromRead::new(Pieces {
+        rest: bytes,
+        piece: 50,
+        calls_left: u64::MAX,
+    });
+    let mut out = FromWrite::new(Shelf {
+        kept: Vec::new(alloc),
+        piece: 6,
+        calls_left: writes,
+    });
+    let mut made = FromWrite::new(io::sink());
+    let mut err = FromWrite::new(Shelf {
+        kept: Vec::new(alloc),
+        piece: 5,
+        calls_left: u64::MAX,
+    });
+    let command = Command::Trace {
+        grammar: "G",
+        file: "F",
+        function,
+        choices: Vec::new(alloc),
+        limit,
+    };
+    let status = run(
+        alloc, &command, GRAMMAR, &mut file, &mut out, &mut made, &mut err,
+    );
+    Outcome {
+        status,
+        out: out.inner.kept,
+        err: err.inner.kept,
+    }
+}
+
+#[test]
+fn traces(rt: HostRuntime) -> Result<(), Fail> {
+    let a = rt.alloc();
+    let bytes = bytes_of(a, &KERNEL)?;
+    let whole = trace_run(a, 3, u32::MAX, &bytes, u64::MAX);
+    assert_eq!(rt; whole.status, 0);
+    assert_eq!(rt;
+        whole.out.as_slice(),
+        b"0 7\n0 8\nend finished\n".as_slice()
+    );
+    assert!(rt; whole.err.is_empty());
+    let short = trace_run(a, 3, 1, &bytes, u64::MAX);
+    assert_eq!(rt; short.status, 0);
+    assert_eq!(rt; short.out.as_slice(), b"0 7\nend limit\n".as_slice());
+    let other = trace_run(a, 4, 9, &bytes, u64::MAX);
+    assert_eq!(rt; other.status, 2);
+    assert!(rt; other.out.is_empty());
+    assert_eq!(rt; other.err.as_slice(), b"error X1\n".as_slice());
+    let refused = trace_run(a, 3, 9, b"\x03\x02#\x07", u64::MAX);
+    assert_eq!(rt; refused.status, 1);
+    assert_eq!(rt; refused.out.as_slice(), b"fault W2\n".as_slice());
+    Ok(())
+}
+
+#[test]
+fn tells_a_failed_write_of_trace(rt: HostRuntime) -> Result<(), Fail> {
+    let a = rt.alloc();
+    let bytes = bytes_of(a, &KERNEL)?;
+    for writes in 0..4u64 {
+        let begun = trace_run(a, 3, 9, &bytes, writes);
+        assert_eq!(rt; begun.status, 2, "after {writes} writes");
+        assert!(rt; b"0 7\n0 8\nend finished\n".starts_with(begun.out.as_slice()));
+        assert_eq!(rt; begun.err.as_slice(), b"error file\n".as_slice());
+    }
+    Ok(())
+}
+
+#[test]
+fn reads_the_numbers(rt: HostRuntime) -> Result<(), Fail> {
+    let a = rt.alloc();
+    let words = [
+        "trace",
+        "--grammar",
+        "G",
+        "--function",
+        "0012",
+        "--choices",
+        "0,4294967295",
+        "--limit",
+        "7",
+        "F",
+    ];
+    let wanted = Command::Trace {
+        grammar: "G",
+        file: "F",
+        function: 12,
+        choices: Vec::from_slice(a, &[0, u32::MAX])?,
+        limit: 7,
+    };
+    assert_eq!(rt; arguments(a, &words), Ok(wanted));
+    for wrong in &["", "+7", "7x", "4294967296", "7,7"] {
+        let limit = [
+            "trace",
+            "--grammar=G",
+            "--function=3",
+            "--limit",
+            *wrong,
+            "F",
+        ];
+        assert_eq!(rt; arguments(a, &limit), Err(UseError::U1), "{wrong}");
+    }
+    Ok(())
+}
+
 #[test]
 fn reads_the_words(rt: HostRuntime) {
     let check = Ok(Command::Check {

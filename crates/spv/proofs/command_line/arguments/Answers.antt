@@ -15,7 +15,7 @@ returns c =
     let words : List Text = map (λ w. w.now) c.args.words.now in
     let kinds = c.in-Ok.ensures.kinds (ap is_simple_and_free c.in_ok-program.ensures ∙ is_free_lem) in
     let found = (c.in-Ok.ensures.matches (ap is_simple c.in_ok-program.ensures ∙ is_simple_lem)).1 in
-    rw c.ok_or.ensures.value (answered words (subcommand_rows_of c.in-Ok.matches) _
+    answered words (subcommand_rows_of c.in-Ok.matches) _
     (subst (λ (a : App). fault_of a words ≡ []) c.in_ok-program.ensures kinds)
     (subst (λ (a : App). subcommand_rows_of c.in-Ok.matches ≡ subcommand_of a words) c.in_ok-program.ensures found)
-    c.command_in.ensures)
+    c.command_in.ensures
