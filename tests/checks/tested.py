@@ -15,7 +15,7 @@ from .refused import MOST_GROWTHS, TALLY, compiler, library
 CRATES = TESTS.parent / "crates"
 FINE = (0, "\ntest result: ok\n")
 NO_MEMORY = re.compile(
-    r"error: (J8|W9|Memory|AllocError|AllocFailed \{ \.\. \}|Error\(out of memory\)"
+    r"error: (J8|W9|X2|Memory|AllocError|AllocFailed \{ \.\. \}|Error\(out of memory\)"
     r"|EncodeError \{ code: N4, inst: 0 \}|AsmError \{ code: S6, line: 0 \})\n"
     r"the test failed: its result gives status 1\n"
 )

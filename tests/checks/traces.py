@@ -1,0 +1,78 @@
+"""The memory that a run takes: frames are reserved once, so calls make no growth of their own, and
+a run without an end is want of memory, of which nothing is written."""
+
+import resource
+import subprocess
+import sys
+
+from .common import TESTS, Answer, Check, difference, run
+from .refused import NO_MEMORY, compiler, library, refused_run
+
+STEPS = 122
+KERNEL = "3"
+GREATEST = (1 << 32) - 1
+SPACE = 64 << 20
+
+
+def generated(folder, *shapes):
+    """Writes the modules of these shapes, which are for runs."""
+    words = [sys.executable, str(TESTS / "generate"), "--bytes", "4096", str(folder), *shapes]
+    subprocess.run(words, check=True)
+
+
+def traced(folder, shape, limit):
+    """The words of a run of this shape's kernel."""
+    words = ["trace", "--grammar", TESTS / "profile.json", "--function", KERNEL]
+    return [*words, "--limit", str(limit), folder / f"{shape}.spv"]
+
+
+def growths(program, folder, preload, shape, limit):
+    """The answer of a run of this shape's kernel, and how many growths of memory it made."""
+    words = traced(folder, shape, limit)
+    got, (_, asked, _) = refused_run(program, words, folder, preload, 0, False)
+    return got, asked
+
+
+def growths_of_steps(program, folder, preload, shape):
+    """How many growths all steps of this shape's kernel make more than none, or what went wrong."""
+    none, before = growths(program, folder, preload, shape, 0)
+    wrong = difference(Answer(b"end limit\n", b"", 0), none)
+    if wrong is not None:
+        return wrong
+    whole, after = growths(program, folder, preload, shape, 10 * STEPS)
+    lines = whole.out.decode().splitlines()
+    if whole.status != 0 or len(lines) != STEPS + 1 or lines[-1] != "end finished":
+        return f"  wanted: {STEPS} steps and 'end finished'\n  got:    {whole}"
+    return after - before
+
+
+def calls_take_no_memory(program, folder):
+    """A run through a chain of 40 calls makes as many growths as one of as many steps without a call,
+    in modules of as many definitions."""
+    generated(folder, "chained", "unchained")
+    preload = library(folder)
+    found = [growths_of_steps(program, folder, preload, shape) for shape in ("chained", "unchained")]
+    if isinstance(found[0], int) and found[0] == found[1]:
+        return None
+    return f"  wanted: as many growths for calls as without\n  got:    {found[0]}\n          {found[1]}"
+
+
+def endless_is_want_of_memory(program, folder):
+    """The greatest limit on a loop without an end, in an address space of 64 MiB."""
+    generated(folder, "rounds")
+
+    def limit_it():
+        resource.setrlimit(resource.RLIMIT_AS, (SPACE, SPACE))
+
+    got = run(program, traced(folder, "rounds", GREATEST), folder, preexec_fn=limit_it)
+    return difference(NO_MEMORY, got)
+
+
+def checks():
+    """Two checks, of the layer of traces."""
+    layers = frozenset({"trace"})
+    found = [Check("trace: endless", layers, endless_is_want_of_memory)]
+    if compiler() is None:
+        print("growths of a run: skipped, there is no C compiler")
+        return found
+    return [*found, Check("trace: calls take no memory", layers, calls_take_no_memory)]
