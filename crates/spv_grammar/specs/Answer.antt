@@ -39,6 +39,10 @@ pub record Gives (d : Data) (G : Table) : Type 0 where
   pub unbroken : file_breaks file ≡ None
   pub table : IsTable file G
 
+-- Some file gives the table.
+abbrev pub IsGiven : Table → Type 0
+IsGiven G = (d : Data) × Gives d G
+
 -- a text that is no JSON breaks J1, and another what its tree breaks
 abbrev pub text_breaks : List ℕ → GrammarError → Type 0
 text_breaks text J1 = IsUtf8 text → read text ≡ None

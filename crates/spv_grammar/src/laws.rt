@@ -15,13 +15,20 @@ ghost use Rattle.spv_grammar.specs.File.{quantifier_of, operand_of, bit_value_of
 ghost use Rattle.spv_grammar.specs.Kinds.{first_kinds, number_in};
 ghost use Rattle.spv_grammar.specs.Made.{entry_from, enumerant_from, is_kept, sort_from, IsTable};
 ghost use Rattle.spv_grammar.specs.Implied.{Lists, Implied};
-ghost use Rattle.spv_grammar.specs.Answer.{file_breaks, tree_breaks, Gives};
+ghost use Rattle.spv_grammar.specs.Answer.{file_breaks, tree_breaks, Gives, IsGiven};
+ghost use Rattle.spv_grammar.specs.Apart.{has_other_parts};
+ghost use Rattle.std.specs.List.{list_all};
 ghost use Rattle.spv_grammar.specs.Example.{a_kind, b_kind, a_again, once, unknown, instruction, no_opcode, file_with, valued, empty_tree, empty_table, operand_tree, result_kind, composite, file_of_kinds, twice_file, twice_table, dropped_one, kept_one, capability_table};
 
 /// A tree gives at most one table, and one that gives a table breaks no code.
 pub fn one_table()
     ensures once { (d : Data) (G H : Table) → Gives d G → Gives d H → G ≡ H }
     ensures never { (d : Data) (G : Table) (e : GrammarError) → Gives d G → ¬ (tree_breaks d ≡ Some e) }
+{}
+
+/// In a table that a file gives, no parameter and no base is of the kind of results: a file in which one is breaks J6.
+pub fn kinds_apart()
+    ensures { (G : Table) → IsGiven G → list_all (has_other_parts G) G.kinds ≡ true }
 {}
 
 /// The look-ups in a file's table answer what the first elements of the file make.

@@ -11,7 +11,8 @@ use Rattle.spv_inst.specs.Shape.{Slot, alone, Shape, AsType, AsResult, AsId, AsW
 use Rattle.spv_inst.specs.Width.{switch_width, context_width}
 use Rattle.spv_inst.specs.Spelling.{Takes, parameters_of, parameters_of_all, mask_parameters, set_bits}
 use Rattle.spv_lines.specs.Fault.{is_result_shape}
-use Rattle.spv_lines.specs.Tidy.{IsTidy, AreNoResults, is_id, is_other_sort, is_other, has_other_parts}
+use Rattle.spv_grammar.specs.Apart.{is_id, is_other_sort, is_other, has_other_parts}
+use Rattle.spv_lines.specs.Tidy.{IsTidy, AreNoResults}
 use Rattle.spv_lines.proofs.Results.{literal_no}
 
 -- a test that passes where there is nothing to be tested

@@ -2,6 +2,8 @@
 ghost use Rattle.std.specs.Prelude.{◌≡◌, true, ◌<◌, ◌≤◌, ◌+◌, ◌^◌, ◌⊎◌, ℕ, List, length};
 ghost use Rattle.spv_words.specs.declared.words.Header.{Header};
 ghost use Rattle.spv_grammar.specs.Table.{IsWhole, Table};
+ghost use Rattle.spv_grammar.specs.Answer.{IsGiven};
+ghost use Rattle.spv_grammar.specs.Apart.{has_other_parts};
 ghost use Rattle.spv_inst.specs.Operand.{PlainInst};
 ghost use Rattle.spv_inst.specs.Instruction.{IsListing};
 ghost use Rattle.spv_inst.specs.Encoding.{Fits, greatest_length};
@@ -9,7 +11,7 @@ ghost use Rattle.spv_lines.specs.Line.{AreWords};
 ghost use Rattle.spv_lines.specs.Text.{IsReadText, IsShownText};
 ghost use Rattle.spv_lines.specs.declared.asm_error.AsmCode.{AsmCode};
 ghost use Rattle.spv_lines.specs.Fault.{IsFailure};
-ghost use Rattle.spv_lines.specs.Tidy.{IsTidy, has_other_parts};
+ghost use Rattle.spv_lines.specs.Tidy.{IsTidy};
 ghost use Rattle.std.specs.List.{list_all};
 
 /// A header and a list of instructions have at most one shown text.
@@ -57,4 +59,9 @@ pub fn shown_assembled()
 /// A table is tidy where the parameters and bases of its kinds are of other kinds than that of results, as rule J6 asks of a file.
 pub fn tidy_by_kinds()
     ensures { (G : Table) → list_all (has_other_parts G) G.kinds ≡ true → IsTidy G }
+{}
+
+/// A table that a grammar file gives is tidy: a file in which a result kind stands among parameters or bases breaks J6.
+pub fn files_are_tidy()
+    ensures { (G : Table) → IsGiven G → IsTidy G }
 {}
