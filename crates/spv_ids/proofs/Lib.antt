@@ -10,3 +10,5 @@ mod Used
 mod Starts
 mod Sound
 mod Opens
+mod Pairs
+mod Noting

@@ -1,6 +1,7 @@
 pub mod Definition
 pub mod Order
 pub mod Broken
+pub mod Scattered
 pub mod Notes
 pub mod Known
 pub mod Uses

@@ -1,16 +1,18 @@
 //! The definitions of ids, as far as the first one that is out of range or comes again.
 
-ghost use Rattle.std.specs.Prelude.{◌≡◌, ◌<◌, ◌≤◌, ◌↔◌, ℕ, List, length, map, ◌+◌, IfOk, OnOk, IsTrue, MatchOption, MatchBool, Some, slice_get};
+ghost use Rattle.std.specs.Prelude.{◌≡◌, ◌<◌, ◌≤◌, ◌↔◌, ℕ, List, length, map, ◌+◌, IfOk, OnOk, IsTrue, MatchOption, MatchBool, Some, None, slice_get};
 ghost use Rattle.spv_inst.specs.Operand.{PlainInst};
 ghost use Rattle.spv_inst.specs.Module.{plain_inst};
 ghost use Rattle.spv_layout.specs.Place.{IsOfFunction, IsOfSection};
 ghost use Rattle.spv_ids.specs.Definition.{IsDefinedAt};
 ghost use Rattle.spv_ids.specs.Broken.{IsOutOfRange};
+ghost use Rattle.spv_ids.specs.Notes.{kept};
 ghost use Rattle.spv_ids.specs.Uses.{AreEarly};
 ghost use Rattle.spv_ids.specs.Known.{AreFirst, AreLater, IsEnd, IsHome, IsAsLocal, IsFunctionOf};
 ghost use Rattle.spv_ids.specs.Survey.{ArePlaces};
 
 use crate::notes::{NONE, Notes};
+use crate::room::sparse_room;
 use crate::uses::result_of;
 use spv_inst::Inst;
 use spv_layout::Plan;
@@ -23,6 +25,8 @@ pub struct Firsts {
     pub definitions: Notes,
     /// The first instruction whose result is out of range or has an earlier definition, or the number of instructions.
     pub end: u32,
+    /// How many they are.
+    pub count: u32,
 }
 
 /// Whether an id is 0 or not below the bound.
@@ -33,41 +37,20 @@ pub fn is_out_of_range(bound: u32, id: u32) -> bool
     id == 0 || bound <= id
 }
 
-/// How many instructions have a result, or `most` where more of them have one.
-#[inline(never)]
-pub fn count_results(insts: &[Inst<'_>], most: usize) -> usize
-    ensures { result ≤ length insts.now }
-{
-    let mut count = 0;
-    for inst in insts {
-        if count == most {
-            return count;
-        }
-        if result_of(inst).is_some() {
-            count += 1;
-        }
-    }
-    count
-}
-
-/// The definitions up to the first result that is out of range or comes again. `places` is how many small ids are kept
-/// in a list.
+/// The definitions up to the first result that is out of range or comes again. `room` keeps nothing yet.
 ///
 /// An `AllocError` comes only where a growth of memory was refused.
 #[inline(never)]
-pub fn first_definitions(
-    alloc: Global,
-    insts: &[Inst<'_>],
-    bound: u32,
-    places: usize,
-) -> Result<Firsts, AllocError>
+fn first_definitions(insts: &[Inst<'_>], bound: u32, room: Notes) -> Result<Firsts, AllocError>
     requires most { length insts.now ≤ 4194304 }
     requires results { AreEarly (map plain_inst insts.now) }
+    requires empty { (x : ℕ) → kept room x ≡ None }
     ensures firsts { IfOk result (λ f. AreFirst bound (map plain_inst insts.now) f.end f.definitions) }
     ensures end { IfOk result (λ f. IsEnd bound (map plain_inst insts.now) f.end) }
     ensures within { IfOk result (λ f. f.end ≤ length insts.now) }
 {
-    let mut definitions = Notes::new(alloc, places)?;
+    let mut definitions = room;
+    let mut count = 0;
     for (i, inst) in insts.iter().enumerate() {
         let at = i as u32;
         if let Some(id) = result_of(inst) {
@@ -75,15 +58,42 @@ pub fn first_definitions(
                 return Ok(Firsts {
                     definitions,
                     end: at,
+                    count,
                 });
             }
             definitions.put(id, at)?;
+            count += 1;
         }
     }
     Ok(Firsts {
         definitions,
         end: insts.len() as u32,
+        count,
     })
+}
+
+/// The definitions up to the first result that is out of range or comes again. Where they are all, they take at most 8 bytes
+/// each, and 4 more.
+///
+/// An `AllocError` comes only where a growth of memory was refused.
+#[inline(never)]
+pub fn find_definitions(alloc: Global, insts: &[Inst<'_>], bound: u32) -> Result<Firsts, AllocError>
+    requires most { length insts.now ≤ 4194304 }
+    requires results { AreEarly (map plain_inst insts.now) }
+    ensures firsts { IfOk result (λ f. AreFirst bound (map plain_inst insts.now) f.end f.definitions) }
+    ensures end { IfOk result (λ f. IsEnd bound (map plain_inst insts.now) f.end) }
+    ensures within { IfOk result (λ f. f.end ≤ length insts.now) }
+{
+    // A list of all ids serves where at least half of them are results, and memory is taken for it where there are so many
+    // instructions.
+    let half = bound as usize / 2;
+    if half <= insts.len() {
+        let firsts = first_definitions(insts, bound, Notes::new(alloc, bound as usize)?)?;
+        if half <= firsts.count as usize || (firsts.end as usize) < insts.len() {
+            return Ok(firsts);
+        }
+    }
+    first_definitions(insts, bound, sparse_room(alloc, insts)?)
 }
 
 /// The function that an instruction is of.

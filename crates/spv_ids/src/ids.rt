@@ -11,7 +11,7 @@ ghost use Rattle.spv_ids.specs.Known.{AreFirst};
 ghost use Rattle.spv_ids.specs.Survey.{ArePlaces, AreGlobal};
 ghost use Rattle.spv_ids.specs.Outcome.{AreIds, IsRefusal, IsStopAt, definition_in};
 
-use crate::definitions::{count_results, first_definitions, later_definitions};
+use crate::definitions::{find_definitions, later_definitions};
 use crate::notes::Notes;
 use crate::survey::{Found, Survey};
 use spv_inst::{Fault, Module, Stop};
@@ -75,8 +75,8 @@ fn stop_at(plan: &Plan, found: Found) -> Stop
 
 /// The definitions of a module's ids. `plan` is what `lay_out` answered of that module.
 ///
-/// Time is linear in the words of the module; where ids are sparse, each takes the time of a look-up in a map besides.
-/// What is kept grows with the instructions that have a result, and not with the bound.
+/// Time is linear in the words of the module; where ids are sparse, each takes the time of a search among those in order
+/// besides. What is kept takes at most 8 bytes for each instruction that has a result, and 4 more, whatever the bound.
 ///
 /// A `Fault` tells the first rule that is broken, with its instruction and that instruction's first word (words and
 /// instructions from 0). At one instruction the first in this order is told:
@@ -98,9 +98,8 @@ pub fn number(alloc: Global, module: &Module<'_>, plan: &Plan) -> Result<Ids, St
 {
     let insts = module.insts.as_slice();
     let bound = module.header.bound;
-    let count = count_results(insts, bound as usize / 2 + 1);
-    let places = (2 * count).min(bound as usize);
-    let firsts = first_definitions(alloc, insts, bound, places)?;
+    let firsts = find_definitions(alloc, insts, bound)?;
+    let places = insts.len().min(bound as usize);
     let later = later_definitions(alloc, insts, plan, firsts.end, places)?;
     let survey = Survey {
         insts,

@@ -5,6 +5,8 @@ mod definitions;
 mod ids;
 pub mod laws;
 mod notes;
+mod room;
+mod scattered;
 mod survey;
 mod uses;
 

@@ -3,8 +3,9 @@
 ghost use Rattle.std.specs.Prelude.{◌≡◌, ◌<◌, ◌≤◌, length, ℕ, Some, None, nat_eq, if◌then◌else◌, OnOk, IfOk};
 ghost use Rattle.std.specs.Ordering.{nat_cmp};
 ghost use Rattle.std.specs.BTreeMap.{get};
-ghost use Rattle.spv_ids.specs.Notes.{kept, number_in};
+ghost use Rattle.spv_ids.specs.Notes.{kept, kept_far, number_in};
 
+use crate::scattered::Scattered;
 use std::alloc::{AllocError, Global};
 use std::collections::BTreeMap;
 
@@ -13,13 +14,16 @@ pub const NONE: u32 = u32::MAX;
 
 /// At most one number of each id.
 ///
-/// Ids are mostly small and dense, so a list with a place for each small id serves most of them. A map has the others, so
-/// that the memory taken grows with the ids that something is kept of, and not with the ids themselves.
+/// Ids are mostly small and dense, so a list with a place for each small id serves most of them. Others have places in order,
+/// where it is known beforehand which they are, and a map has what is left: so the memory taken grows with the ids that
+/// something is kept of, and not with the ids themselves.
 #[derive(Drop)]
 pub struct Notes {
     /// At an id's place 0, or one more than what is kept of it.
     near: Vec<u32>,
-    /// What is kept of the ids past the list.
+    /// The same of ids past the list.
+    scattered: Scattered,
+    /// What is kept of the ids that have no such place.
     far: BTreeMap<u32, u32>,
 }
 
@@ -45,6 +49,13 @@ fn mark_at(place: u32) -> u32
     }
 }
 
+/// A map of no ids.
+fn empty_map(alloc: Global) -> BTreeMap<u32, u32>
+    ensures { (x : ℕ) → get nat_cmp result x ≡ None }
+{
+    BTreeMap::new(alloc)
+}
+
 impl Notes {
     /// Nothing is kept of any id. The list has a place for each id below `places`.
     ///
@@ -52,9 +63,23 @@ impl Notes {
     pub fn new(alloc: Global, places: usize) -> Result<Notes, AllocError>
         ensures { IfOk result (λ notes. (x : ℕ) → kept notes x ≡ None) }
     {
+        Notes::of(alloc, places, &[])
+    }
+
+    /// Nothing is kept of any id. The list has a place for each id below `places`, and so has each of these ids, which come in
+    /// order.
+    ///
+    /// An `AllocError` comes only where a growth of memory was refused.
+    pub fn of(alloc: Global, places: usize, ids: &[u32]) -> Result<Notes, AllocError>
+        ensures { IfOk result (λ notes. (x : ℕ) → kept notes x ≡ None) }
+    {
+        let near = vec![in alloc; 0; places]?;
+        let scattered = Scattered::of(alloc, ids)?;
+        let far = empty_map(alloc);
         Ok(Notes {
-            near: vec![in alloc; 0; places]?,
-            far: BTreeMap::new(alloc),
+            near,
+            scattered,
+            far,
         })
     }
 
@@ -67,7 +92,19 @@ impl Notes {
         if place < self.near.len() {
             number_at(self.near[place])
         } else {
-            self.far.get(&id).copied()
+            self.get_far(id)
+        }
+    }
+
+    /// What is kept of an id past the list.
+    #[cold]
+    #[inline(never)]
+    fn get_far(&self, id: u32) -> Option<u32>
+        ensures { result ≡ kept_far self.now id }
+    {
+        match self.scattered.get(id) {
+            Some(place) => number_at(place),
+            None => self.far.get(&id).copied(),
         }
     }
 
@@ -85,12 +122,13 @@ impl Notes {
     }
 
     /// What is kept of an id past the list, or `NONE`.
+    #[cold]
     #[inline(never)]
     fn mark_far(&self, id: u32) -> u32
-        ensures { result < 4294967295 → get nat_cmp self.now.far id ≡ Some result }
+        ensures { result < 4294967295 → kept_far self.now id ≡ Some result }
     {
-        match self.far.get(&id) {
-            Some(number) => *number,
+        match self.get_far(id) {
+            Some(number) => number,
             None => NONE,
         }
     }
@@ -112,12 +150,16 @@ impl Notes {
     }
 
     /// Keeps a number of an id past the list.
+    #[cold]
     #[inline(never)]
     fn put_far(&mut self, id: u32, number: u32) -> Result<(), AllocError>
-        requires { length self.old.near.items ≤ id }
+        requires number { number < 4294967295 }
+        requires past { length self.old.near.items ≤ id }
         ensures { OnOk result ((x : ℕ) → kept self.new x ≡ (if nat_eq id x then Some number else kept self.old x)) }
     {
-        self.far.insert(id, number)?;
+        if !self.scattered.set(id, number + 1) {
+            self.far.insert(id, number)?;
+        }
         Ok(())
     }
 }

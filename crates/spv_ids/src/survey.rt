@@ -190,6 +190,7 @@ fn earlier(one: Option<Rule>, other: Rule) -> Rule
 }
 
 /// The id that an instruction has as its first operand, if that is one.
+#[cold]
 #[inline(never)]
 fn first_id(inst: &Inst<'_>) -> Option<u32>
     ensures { result ≡ id_in (slice_get (plain_inst inst.now).operands 0) }
@@ -434,6 +435,7 @@ impl<'m, 'a> Survey<'m, 'a> {
     }
 
     /// The first rule that a use among operands breaks.
+    #[cold]
     #[inline(never)]
     fn uses_fault(&self, inst: u32, announced: &Notes, operands: &[Operand<'_>]) -> Option<Rule>
         requires survey { IsSurvey self.now }

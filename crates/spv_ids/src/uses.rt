@@ -10,6 +10,7 @@ use spv_inst::{Inst, Operand};
 const EXT_INST: u16 = 12;
 
 /// The first four operands, or all where they are fewer.
+#[cold]
 #[inline(never)]
 fn first_four<'i, 'a>(operands: &'i [Operand<'a>]) -> &'i [Operand<'a>]
     ensures { plain_operands result.now ≡ take 4 (plain_operands operands.now) }

@@ -7,7 +7,7 @@ use spv_inst::{Fault, Rule, Stop, decode};
 use spv_layout::laws::word_counts;
 use spv_layout::lay_out;
 use spv_words::{FromRead, Image, read_image};
-use std::alloc::Global;
+use std::alloc::{AllocError, Global};
 use std::test::Fail;
 
 /// The instructions and kinds of the modules below.
@@ -104,13 +104,22 @@ fn ids(alloc: Global, bound: u32, lines: &[&[u32]]) -> Result<Result<Ids, Stop>,
     Ok(numbered(alloc, &table, &image))
 }
 
-/// The fault that the ids of some lines have, under the bound 9.
-fn fault(alloc: Global, lines: &[&[u32]]) -> Result<Option<(Rule, u32, u32)>, Fail> {
-    match ids(alloc, 9, lines)? {
+/// The fault that the ids of some lines have, under a bound.
+fn fault_under(
+    alloc: Global,
+    bound: u32,
+    lines: &[&[u32]],
+) -> Result<Option<(Rule, u32, u32)>, Fail> {
+    match ids(alloc, bound, lines)? {
         Ok(_) => Ok(None),
         Err(Stop::Fault(Fault { rule, inst, word })) => Ok(Some((rule, inst, word))),
-        Err(Stop::Memory) => Err(Fail::from("out of memory")),
+        Err(Stop::Memory) => Err(Fail::from(AllocError)),
     }
+}
+
+/// The fault that the ids of some lines have, under the bound 9.
+fn fault(alloc: Global, lines: &[&[u32]]) -> Result<Option<(Rule, u32, u32)>, Fail> {
+    fault_under(alloc, 9, lines)
 }
 
 #[test]
@@ -134,8 +143,55 @@ fn sound_module(rt: HostRuntime) -> Result<(), Fail> {
             assert_eq!(rt; ids.definition(5), None);
             assert_eq!(rt; ids.definition(4_000_000_000), None);
         }
+        Err(Stop::Memory) => return Err(Fail::from(AllocError)),
         Err(_) => assert!(rt; false, "sound module"),
     }
+    Ok(())
+}
+
+/// %4000000 = OpTypeVoid
+const FAR_VOID: &[u32] = &[0x0002_0013, 4_000_000];
+
+/// %70 = OpTypeFunction %4000000
+const FAR_FUNCTION_TYPE: &[u32] = &[0x0003_0021, 70, 4_000_000];
+
+/// %3000000 = OpTypeVoid
+const OTHER_FAR_VOID: &[u32] = &[0x0002_0013, 3_000_000];
+
+/// What a module with ids that are far from one another says of some ids.
+#[test]
+fn scattered_ids(rt: HostRuntime) -> Result<(), Fail> {
+    let lines = [MEMORY_MODEL, FAR_VOID, FAR_FUNCTION_TYPE, OTHER_FAR_VOID];
+    match ids(rt.alloc(), 4_194_303, &lines)? {
+        Ok(ids) => {
+            assert_eq!(rt; ids.definition(4_000_000), Some(1));
+            assert_eq!(rt; ids.definition(70), Some(2));
+            assert_eq!(rt; ids.definition(3_000_000), Some(3));
+            assert_eq!(rt; ids.definition(0), None);
+            assert_eq!(rt; ids.definition(69), None);
+            assert_eq!(rt; ids.definition(71), None);
+            assert_eq!(rt; ids.definition(3_999_999), None);
+            assert_eq!(rt; ids.definition(4_000_001), None);
+        }
+        Err(Stop::Memory) => return Err(Fail::from(AllocError)),
+        Err(_) => assert!(rt; false, "scattered ids"),
+    }
+    Ok(())
+}
+
+#[test]
+fn broken_rules_of_scattered_ids(rt: HostRuntime) -> Result<(), Fail> {
+    let lines = [MEMORY_MODEL, FAR_VOID, OTHER_FAR_VOID, FAR_VOID];
+    let found = fault_under(rt.alloc(), 4_194_303, &lines)?;
+    assert_eq!(rt; found, Some((Rule::D2, 3, 12)), "result twice");
+    let found = fault_under(rt.alloc(), 3_500_000, &lines)?;
+    assert_eq!(rt; found, Some((Rule::D1, 1, 8)), "result not below the bound");
+    let lines = [MEMORY_MODEL, OTHER_FAR_VOID, FAR_FUNCTION_TYPE];
+    let found = fault_under(rt.alloc(), 4_194_303, &lines)?;
+    assert_eq!(rt; found, Some((Rule::D3, 2, 10)), "undefined id");
+    let lines = [MEMORY_MODEL, FAR_FUNCTION_TYPE, FAR_VOID];
+    let found = fault_under(rt.alloc(), 4_194_303, &lines)?;
+    assert_eq!(rt; found, Some((Rule::D4, 1, 8)), "use before the definition");
     Ok(())
 }
 

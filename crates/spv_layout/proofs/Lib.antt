@@ -19,4 +19,5 @@ pub mod Numbers
 pub mod Following
 pub mod Keeping
 pub mod Singles
+pub mod Rooms
 pub mod Tables

@@ -1,9 +1,13 @@
 -- What a plan keeps of instructions, and the places that it gives. (For the code alone; `IsPlan` says what the places are.)
-use Rattle.std.specs.Prelude.{ℕ, ◌+◌, List, [], ◌∷◌, ◌++◌, if◌then◌else◌, Option, Some, None, nat_lt, map, length}
+use Rattle.std.specs.Prelude.{◌≡◌, ◌≢◌, ◌<◌, ◌≤◌, ◌⊎◌, ℕ, ◌+◌, slice_get, List, [], ◌∷◌, ◌++◌, if◌then◌else◌, Option, Some, None, nat_lt, map, length}
 use Rattle.spv_layout.specs.declared.place.Early.{Early}
 use Rattle.spv_layout.specs.declared.place.Standing.{Standing}
 use Rattle.spv_layout.specs.declared.place.Place.{Place}
 use Rattle.spv_layout.specs.declared.span.Spans.{Spans}
+use Rattle.spv_inst.specs.Operand.{PlainInst}
+use Rattle.spv_layout.specs.declared.class.Class.{Class}
+use Rattle.spv_layout.specs.Layout.{classes}
+use Rattle.spv_layout.specs.Place.{section_of}
 use Rattle.spv_layout.specs.Span.{mark}
 
 abbrev pub early_place : Early → Place
@@ -32,3 +36,18 @@ early_with (Some section) word es = es ++ (record { section = section; word = wo
 abbrev pub late_with : Option ℕ → Spans → ℕ → List Standing → List Standing
 late_with None spans word ss = ss ++ (record { function = spans.function; block = spans.block; word = word } ∷ [])
 late_with (Some section) spans word ss = ss
+
+-- how many are kept of later sections
+abbrev pub count_with : Option ℕ → ℕ → ℕ
+count_with None n = n + 1
+count_with (Some section) n = n
+
+-- Each instruction before n is of a class that stands in one section alone.
+pub record AreSectioned (is : List PlainInst) (n : ℕ) : Type 0 where
+  pub each : (k : ℕ) (c : Class) → k < n → slice_get (classes is) k ≡ Some c → section_of c ≢ None
+
+-- There is room for all that is kept of later sections, of which there is none before instruction `first`: so many are kept
+-- of n instructions of `count`.
+pub record HasRoom (first count n size capacity : ℕ) : Type 0 where
+  pub kept : (size ≡ 0) ⊎ (size + first ≤ n)
+  pub room : count ≤ first + capacity

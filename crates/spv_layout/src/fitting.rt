@@ -6,6 +6,8 @@ ghost use Rattle.spv_inst.specs.Module.{plain_inst, plain_operand};
 ghost use Rattle.spv_layout.specs.Row.{has_masks, plain_ending, plain_row};
 ghost use Rattle.spv_layout.specs.Rows.{class_of};
 ghost use Rattle.spv_layout.specs.Shape.{Fits, is_of};
+ghost use Rattle.spv_layout.specs.Single.{IsFront};
+ghost use Rattle.spv_layout.specs.declared.form.Form.TheVariants.{Kind};
 ghost use Rattle.spv_layout.specs.Test.{sort_of, sort_for, are_of, are_others, are_rounds, fits_ending, fits_row};
 
 use crate::form::{Ending, Form, Named, Role, Row};
@@ -14,6 +16,7 @@ use crate::rows::row;
 use spv_inst::{Inst, Operand};
 
 /// Whether a kind's operands are masks.
+#[inline(always)]
 fn is_mask(kind: Named) -> bool
     ensures { result ≡ has_masks kind }
 {
@@ -61,6 +64,18 @@ fn sort_asked(form: Form) -> u8
     }
 }
 
+/// Whether an operand is a value or mask of a kind.
+#[inline(always)]
+fn is_of_kind(kinds: &Kinds<'_>, kind: Named, operand: Operand<'_>) -> bool
+    ensures { result ≡ is_of kinds.now (Kind kind) (plain_operand operand.entry) }
+{
+    match operand {
+        Operand::Value { kind: number, .. } => !is_mask(kind) && kinds.is_kind(kind, number),
+        Operand::Mask { kind: number, .. } => is_mask(kind) && kinds.is_kind(kind, number),
+        _ => false,
+    }
+}
+
 /// Whether an operand is of a form.
 #[inline(always)]
 fn is_of_form(kinds: &Kinds<'_>, form: Form, operand: Operand<'_>) -> bool
@@ -74,21 +89,29 @@ fn is_of_form(kinds: &Kinds<'_>, form: Form, operand: Operand<'_>) -> bool
         Form::Text => matches!(operand, Operand::Text(_)),
         Form::Id(_) => matches!(operand, Operand::Id(_)),
         Form::Unseen => matches!(operand, Operand::Id(_)),
-        Form::Kind(kind) => match operand {
-            Operand::Value { kind: number, .. } => !is_mask(kind) && kinds.is_kind(kind, number),
-            Operand::Mask { kind: number, .. } => is_mask(kind) && kinds.is_kind(kind, number),
-            _ => false,
-        },
+        Form::Kind(kind) => is_of_kind(kinds, kind, operand),
         Form::Other => !matches!(operand, Operand::OfType(_) | Operand::Result(_)),
     }
 }
 
-/// Whether an operand is of a form that asks for more or less than a sort.
+/// Whether an operand is of a form, one that is seldom asked for or not fitted.
+#[cold]
 #[inline(never)]
 fn is_of_rare_form(kinds: &Kinds<'_>, form: Form, operand: Operand<'_>) -> bool
     ensures { result ≡ is_of kinds.now form (plain_operand operand.entry) }
 {
     is_of_form(kinds, form, operand)
+}
+
+/// Whether an operand is of a form that asks for more or less than a sort.
+#[inline(always)]
+fn is_of_other_form(kinds: &Kinds<'_>, form: Form, operand: Operand<'_>) -> bool
+    ensures { result ≡ is_of kinds.now form (plain_operand operand.entry) }
+{
+    match form {
+        Form::Kind(kind) => is_of_kind(kinds, kind, operand),
+        _ => is_of_rare_form(kinds, form, operand),
+    }
 }
 
 /// Whether an operand is of a form: most forms ask for a sort alone.
@@ -99,7 +122,7 @@ fn has_form(kinds: &Kinds<'_>, form: Form, operand: Operand<'_>) -> bool
     if sort(operand) == sort_asked(form) {
         true
     } else {
-        is_of_rare_form(kinds, form, operand)
+        is_of_other_form(kinds, form, operand)
     }
 }
 
@@ -172,6 +195,7 @@ fn have_ending(kinds: &Kinds<'_>, ending: Ending, operands: &[Operand<'_>]) -> b
 }
 
 /// Whether operands fit a row with an ending.
+#[cold]
 #[inline(never)]
 fn have_parts(kinds: &Kinds<'_>, row: &Row, operands: &[Operand<'_>]) -> bool
     ensures { result ≡ fits_row kinds.now (Some (plain_row row.now)) (map plain_operand operands.now) }
@@ -203,6 +227,7 @@ pub fn fitting(kinds: &Kinds<'_>, inst: &Inst<'_>) -> Option<&'static Row>
     ensures class { IfSome result (λ r. r.now.class ≡ class_of inst.now.opcode) }
     ensures section { IfSome result (λ r. r.now.section ≡ section_of r.now.class) }
     ensures single { IfSome result (λ r. r.now.single ≡ true → word_count (plain_inst inst.now) ≡ 1 + length (plain_inst inst.now).operands) }
+    ensures front { IfSome result (λ r. IsFront (plain_inst inst.now).operands r.now.front) }
     ensures misfit { IfNone result (¬ (Fits kinds.now (plain_inst inst.now))) }
 {
     let Some(row) = row(inst.opcode) else {

@@ -86,4 +86,6 @@ pub struct Row {
     pub ending: Ending,
     /// Whether the operands that it asks for take one word each, whatever they are.
     pub single: bool,
+    /// How many of its fixed operands are known to take one word each: all of them, or none.
+    pub front: u8,
 }

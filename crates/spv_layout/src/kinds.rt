@@ -28,6 +28,7 @@ impl<'a> Model for Kinds<'a> {
 }
 
 /// The place of a kind in their order.
+#[inline(always)]
 fn place(kind: Named) -> usize
     ensures place { result ≡ place_of kind }
     ensures within { result < 12 }
@@ -73,6 +74,7 @@ impl<'a> Kinds<'a> {
     }
 
     /// Whether a number is that of a kind.
+    #[inline(always)]
     pub fn is_kind(&self, kind: Named, number: u32) -> bool
         ensures { result ≡ is_number number (number_named self.now (name_of kind)) }
     {

@@ -1,9 +1,12 @@
-ghost use Rattle.std.specs.Prelude.{◌≡◌, ◌+◌, ◌≤◌, true, length, IfErr, OnOk};
+ghost use Rattle.std.specs.Prelude.{◌≡◌, ◌+◌, ◌<◌, ◌≤◌, true, length, None, IfErr, OnOk};
+ghost use Rattle.std.specs.Vec.{vec_len, vec_capacity};
+ghost use Rattle.spv_layout.specs.Single.{IsFront};
 ghost use Rattle.spv_inst.specs.Module.{plain_inst, plain_operand};
 ghost use Rattle.spv_inst.specs.declared.fault.Stop.TheVariants.{Memory};
 ghost use Rattle.spv_layout.specs.Place as specs;
-ghost use Rattle.spv_layout.specs.Kept.{early_with, late_with, early_place, late_place};
+ghost use Rattle.spv_layout.specs.Kept.{early_with, late_with, count_with, early_place, late_place};
 
+use crate::form::Row;
 use crate::span::{Spans, number};
 use spv_inst::{Inst, Operand, Stop};
 
@@ -71,7 +74,8 @@ impl Standing {
     }
 }
 
-/// Keeps an instruction with its first word. `section` is that of its class, if it is one of sections 1 to 8.
+/// Keeps an instruction with its first word. `section` is that of its class, if it is one of sections 1 to 8; for one of
+/// the others there is room.
 #[inline(always)]
 pub fn keep(
     early: &mut Vec<Early>,
@@ -80,17 +84,20 @@ pub fn keep(
     spans: Spans,
     word: u32,
 ) -> Result<(), Stop>
+    requires { section ≡ None → vec_len late.old < vec_capacity late.old }
     ensures early { OnOk result (early.new.items ≡ early_with section word early.old.items) }
     ensures late { OnOk result (late.new.items ≡ late_with section spans word late.old.items) }
+    ensures len { OnOk result (vec_len late.new ≡ count_with section (vec_len late.old)) }
+    ensures capacity { vec_capacity late.new ≡ vec_capacity late.old }
     ensures memory { IfErr result (λ e. e ≡ Memory) }
 {
     match section {
         Some(section) => early.push(Early { section, word })?,
-        None => late.push(Standing {
+        None => late.push_reserved(Standing {
             function: spans.function,
             block: spans.block,
             word,
-        })?,
+        }),
     }
     Ok(())
 }
@@ -107,18 +114,36 @@ fn operand_words(operand: Operand<'_>) -> usize
     }
 }
 
-/// How many words an instruction has, of which it may be known that each operand takes one.
+/// How many words an instruction has that fits a row.
 #[inline(always)]
-pub fn words_of(inst: &Inst<'_>, single: bool) -> u32
+pub fn words_of(inst: &Inst<'_>, row: &Row) -> u32
     requires words { specs.word_count (plain_inst inst.now) ≤ 4194304 }
-    requires single { single ≡ true → specs.word_count (plain_inst inst.now) ≡ 1 + length (plain_inst inst.now).operands }
+    requires single { row.now.single ≡ true → specs.word_count (plain_inst inst.now) ≡ 1 + length (plain_inst inst.now).operands }
+    requires front { IsFront (plain_inst inst.now).operands row.now.front }
     ensures { result ≡ specs.word_count (plain_inst inst.now) }
 {
-    if single {
+    if row.single {
         inst.operands.len() as u32 + 1
     } else {
-        inst_words(inst)
+        words_past(inst, row.front)
     }
+}
+
+/// How many words an instruction has of which so many first operands take one each.
+#[cold]
+#[inline(never)]
+fn words_past(inst: &Inst<'_>, front: u8) -> u32
+    requires words { specs.word_count (plain_inst inst.now) ≤ 4194304 }
+    requires front { IsFront (plain_inst inst.now).operands front }
+    ensures { result ≡ specs.word_count (plain_inst inst.now) }
+{
+    let known = usize::from(front);
+    let (_, rest) = inst.operands.as_slice().split_at(known);
+    let mut count = 1 + known;
+    for operand in rest {
+        count += operand_words(*operand);
+    }
+    count as u32
 }
 
 /// How many words an instruction has.

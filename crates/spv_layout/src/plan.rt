@@ -8,6 +8,7 @@ ghost use Rattle.spv_layout.specs.Broken.{Broken};
 ghost use Rattle.spv_layout.specs.DeadPlace.{IsDeadPlace};
 ghost use Rattle.spv_layout.specs.Shape.{Fits};
 ghost use Rattle.spv_layout.specs.Place.{word_count, first_word_of};
+ghost use Rattle.spv_layout.specs.Kept.{AreSectioned};
 ghost use Rattle.spv_layout.specs.Plan.{IsPlan, IsRefusal};
 
 use crate::fitting::fitting;
@@ -120,7 +121,8 @@ fn refused(kinds: &Kinds<'_>, insts: &[Inst<'_>], rule: Rule, inst: usize, word:
 
 /// How many instructions stand before the first one of a class of sections 9 to 11.
 fn count_early(insts: &[Inst<'_>]) -> usize
-    ensures { result ≤ length insts.now }
+    ensures within { result ≤ length insts.now }
+    ensures early { AreSectioned (map plain_inst insts.now) result }
 {
     for (i, inst) in insts.iter().enumerate() {
         let Some(row) = row(inst.opcode) else {
@@ -157,7 +159,7 @@ fn plan_of(alloc: Global, kinds: &Kinds<'_>, insts: &[Inst<'_>]) -> Result<Plan,
         spans.enter(row.class, i as u32);
         keep(&mut early, &mut late, row.section, spans, word)?;
         spans.leave(row.class);
-        word += words_of(inst, row.single);
+        word += words_of(inst, row);
     }
     if !stops(state) {
         return Err(refused(kinds, insts, Rule::L2, insts.len(), word));

@@ -1,5 +1,5 @@
 ghost use Rattle.std.specs.Prelude.{◌≡◌, IfSome, IsTrue, option_map, map, slice_get};
-ghost use Rattle.spv_layout.specs.Single.{is_single_row, are_flagged};
+ghost use Rattle.spv_layout.specs.Single.{is_single_row, front_of, are_flagged};
 ghost use Rattle.spv_layout.specs.Row.{plain_row, numbered};
 ghost use Rattle.spv_layout.specs.Place.{section_of};
 ghost use Rattle.spv_layout.specs.Rows.{row_of};
@@ -45,6 +45,7 @@ static ROWS: [Row; 92] = [
         fixed: &[],
         ending: Ending::Closed,
         single: true,
+        front: 0,
     },
     // Undef
     Row {
@@ -55,6 +56,7 @@ static ROWS: [Row; 92] = [
         fixed: &[T, R],
         ending: Ending::Closed,
         single: true,
+        front: 2,
     },
     // SourceContinued
     Row {
@@ -65,6 +67,7 @@ static ROWS: [Row; 92] = [
         fixed: &[S],
         ending: Ending::Closed,
         single: false,
+        front: 0,
     },
     // Source
     Row {
@@ -75,6 +78,7 @@ static ROWS: [Row; 92] = [
         fixed: &[Form::Kind(Named::SourceLanguage), W],
         ending: Ending::FileAndText,
         single: false,
+        front: 2,
     },
     // SourceExtension
     Row {
@@ -85,6 +89,7 @@ static ROWS: [Row; 92] = [
         fixed: &[S],
         ending: Ending::Closed,
         single: false,
+        front: 0,
     },
     // Name
     Row {
@@ -95,6 +100,7 @@ static ROWS: [Row; 92] = [
         fixed: &[ANY, S],
         ending: Ending::Closed,
         single: false,
+        front: 0,
     },
     // MemberName
     Row {
@@ -105,6 +111,7 @@ static ROWS: [Row; 92] = [
         fixed: &[ANY, W, S],
         ending: Ending::Closed,
         single: false,
+        front: 0,
     },
     // String
     Row {
@@ -115,6 +122,7 @@ static ROWS: [Row; 92] = [
         fixed: &[R, S],
         ending: Ending::Closed,
         single: false,
+        front: 0,
     },
     // Line
     Row {
@@ -125,6 +133,7 @@ static ROWS: [Row; 92] = [
         fixed: &[STRING, W, W],
         ending: Ending::Closed,
         single: true,
+        front: 3,
     },
     // Extension
     Row {
@@ -135,6 +144,7 @@ static ROWS: [Row; 92] = [
         fixed: &[S],
         ending: Ending::Closed,
         single: false,
+        front: 0,
     },
     // ExtInstImport
     Row {
@@ -145,6 +155,7 @@ static ROWS: [Row; 92] = [
         fixed: &[R, S],
         ending: Ending::Closed,
         single: false,
+        front: 0,
     },
     // ExtInst
     Row {
@@ -155,6 +166,7 @@ static ROWS: [Row; 92] = [
         fixed: &[T, R, SET, W],
         ending: Ending::Repeated(&[X]),
         single: true,
+        front: 4,
     },
     // MemoryModel
     Row {
@@ -168,6 +180,7 @@ static ROWS: [Row; 92] = [
         ],
         ending: Ending::Closed,
         single: true,
+        front: 2,
     },
     // EntryPoint
     Row {
@@ -178,6 +191,7 @@ static ROWS: [Row; 92] = [
         fixed: &[Form::Kind(Named::ExecutionModel), FUNCTION, S],
         ending: Ending::Repeated(&[GLOBAL]),
         single: false,
+        front: 0,
     },
     // ExecutionMode
     Row {
@@ -188,6 +202,7 @@ static ROWS: [Row; 92] = [
         fixed: &[FUNCTION, Form::Kind(Named::ExecutionMode)],
         ending: Ending::Others,
         single: false,
+        front: 2,
     },
     // Capability
     Row {
@@ -198,6 +213,7 @@ static ROWS: [Row; 92] = [
         fixed: &[Form::Kind(Named::Capability)],
         ending: Ending::Closed,
         single: true,
+        front: 1,
     },
     // TypeVoid, TypeBool
     Row {
@@ -208,6 +224,7 @@ static ROWS: [Row; 92] = [
         fixed: &[R],
         ending: Ending::Closed,
         single: true,
+        front: 1,
     },
     // TypeInt
     Row {
@@ -218,6 +235,7 @@ static ROWS: [Row; 92] = [
         fixed: &[R, W, W],
         ending: Ending::Closed,
         single: true,
+        front: 3,
     },
     // TypeFloat
     Row {
@@ -228,6 +246,7 @@ static ROWS: [Row; 92] = [
         fixed: &[R, W],
         ending: Ending::Closed,
         single: true,
+        front: 2,
     },
     // TypeVector
     Row {
@@ -238,6 +257,7 @@ static ROWS: [Row; 92] = [
         fixed: &[R, TYPE, W],
         ending: Ending::Closed,
         single: true,
+        front: 3,
     },
     // TypeArray
     Row {
@@ -248,6 +268,7 @@ static ROWS: [Row; 92] = [
         fixed: &[R, TYPE, VALUE],
         ending: Ending::Closed,
         single: true,
+        front: 3,
     },
     // TypeStruct
     Row {
@@ -258,6 +279,7 @@ static ROWS: [Row; 92] = [
         fixed: &[R],
         ending: Ending::Repeated(&[TYPE]),
         single: true,
+        front: 1,
     },
     // TypeOpaque
     Row {
@@ -268,6 +290,7 @@ static ROWS: [Row; 92] = [
         fixed: &[R, S],
         ending: Ending::Closed,
         single: false,
+        front: 0,
     },
     // TypePointer
     Row {
@@ -278,6 +301,7 @@ static ROWS: [Row; 92] = [
         fixed: &[R, Form::Kind(Named::StorageClass), TYPE],
         ending: Ending::Closed,
         single: true,
+        front: 3,
     },
     // TypeFunction
     Row {
@@ -288,6 +312,7 @@ static ROWS: [Row; 92] = [
         fixed: &[R, TYPE],
         ending: Ending::Repeated(&[TYPE]),
         single: true,
+        front: 2,
     },
     // TypeForwardPointer
     Row {
@@ -298,6 +323,7 @@ static ROWS: [Row; 92] = [
         fixed: &[TYPE, Form::Kind(Named::StorageClass)],
         ending: Ending::Closed,
         single: true,
+        front: 2,
     },
     // ConstantTrue, ConstantFalse
     Row {
@@ -308,6 +334,7 @@ static ROWS: [Row; 92] = [
         fixed: &[T, R],
         ending: Ending::Closed,
         single: true,
+        front: 2,
     },
     // Constant
     Row {
@@ -318,6 +345,7 @@ static ROWS: [Row; 92] = [
         fixed: &[T, R, N],
         ending: Ending::Closed,
         single: false,
+        front: 0,
     },
     // ConstantComposite
     Row {
@@ -328,6 +356,7 @@ static ROWS: [Row; 92] = [
         fixed: &[T, R],
         ending: Ending::Repeated(&[VALUE]),
         single: true,
+        front: 2,
     },
     // ConstantNull
     Row {
@@ -338,6 +367,7 @@ static ROWS: [Row; 92] = [
         fixed: &[T, R],
         ending: Ending::Closed,
         single: true,
+        front: 2,
     },
     // SpecConstantTrue, SpecConstantFalse
     Row {
@@ -348,6 +378,7 @@ static ROWS: [Row; 92] = [
         fixed: &[T, R],
         ending: Ending::Closed,
         single: true,
+        front: 2,
     },
     // SpecConstant
     Row {
@@ -358,6 +389,7 @@ static ROWS: [Row; 92] = [
         fixed: &[T, R, N],
         ending: Ending::Closed,
         single: false,
+        front: 0,
     },
     // SpecConstantComposite
     Row {
@@ -368,6 +400,7 @@ static ROWS: [Row; 92] = [
         fixed: &[T, R],
         ending: Ending::Repeated(&[VALUE]),
         single: true,
+        front: 2,
     },
     // Function
     Row {
@@ -378,6 +411,7 @@ static ROWS: [Row; 92] = [
         fixed: &[T, R, Form::Kind(Named::FunctionControl), TYPE],
         ending: Ending::Closed,
         single: true,
+        front: 4,
     },
     // FunctionParameter
     Row {
@@ -388,6 +422,7 @@ static ROWS: [Row; 92] = [
         fixed: &[T, R],
         ending: Ending::Closed,
         single: true,
+        front: 2,
     },
     // FunctionEnd
     Row {
@@ -398,6 +433,7 @@ static ROWS: [Row; 92] = [
         fixed: &[],
         ending: Ending::Closed,
         single: true,
+        front: 0,
     },
     // FunctionCall
     Row {
@@ -408,6 +444,7 @@ static ROWS: [Row; 92] = [
         fixed: &[T, R, FUNCTION],
         ending: Ending::Repeated(&[VALUE]),
         single: true,
+        front: 3,
     },
     // Variable
     Row {
@@ -418,6 +455,7 @@ static ROWS: [Row; 92] = [
         fixed: &[T, R, Form::Kind(Named::StorageClass)],
         ending: Ending::Maybe(VALUE),
         single: true,
+        front: 3,
     },
     // Load
     Row {
@@ -428,6 +466,7 @@ static ROWS: [Row; 92] = [
         fixed: &[T, R, VALUE],
         ending: Ending::MaybeOthers(Form::Kind(Named::MemoryAccess)),
         single: false,
+        front: 3,
     },
     // Store, CopyMemory
     Row {
@@ -438,6 +477,7 @@ static ROWS: [Row; 92] = [
         fixed: &[VALUE, VALUE],
         ending: Ending::MaybeOthers(Form::Kind(Named::MemoryAccess)),
         single: false,
+        front: 2,
     },
     // CopyMemorySized
     Row {
@@ -448,6 +488,7 @@ static ROWS: [Row; 92] = [
         fixed: &[VALUE, VALUE, VALUE],
         ending: Ending::MaybeOthers(Form::Kind(Named::MemoryAccess)),
         single: false,
+        front: 3,
     },
     // AccessChain, InBoundsAccessChain
     Row {
@@ -458,6 +499,7 @@ static ROWS: [Row; 92] = [
         fixed: &[T, R, VALUE],
         ending: Ending::Repeated(&[VALUE]),
         single: true,
+        front: 3,
     },
     // PtrAccessChain
     Row {
@@ -468,6 +510,7 @@ static ROWS: [Row; 92] = [
         fixed: &[T, R, VALUE, VALUE],
         ending: Ending::Repeated(&[VALUE]),
         single: true,
+        front: 4,
     },
     // InBoundsPtrAccessChain
     Row {
@@ -478,6 +521,7 @@ static ROWS: [Row; 92] = [
         fixed: &[T, R, VALUE, VALUE],
         ending: Ending::Repeated(&[VALUE]),
         single: true,
+        front: 4,
     },
     // Decorate
     Row {
@@ -488,6 +532,7 @@ static ROWS: [Row; 92] = [
         fixed: &[ANY, Form::Kind(Named::Decoration)],
         ending: Ending::Others,
         single: false,
+        front: 2,
     },
     // MemberDecorate
     Row {
@@ -498,6 +543,7 @@ static ROWS: [Row; 92] = [
         fixed: &[ANY, W, Form::Kind(Named::Decoration)],
         ending: Ending::Others,
         single: false,
+        front: 3,
     },
     // VectorExtractDynamic
     Row {
@@ -508,6 +554,7 @@ static ROWS: [Row; 92] = [
         fixed: &[T, R, VALUE, VALUE],
         ending: Ending::Closed,
         single: true,
+        front: 4,
     },
     // VectorInsertDynamic
     Row {
@@ -518,6 +565,7 @@ static ROWS: [Row; 92] = [
         fixed: &[T, R, VALUE, VALUE, VALUE],
         ending: Ending::Closed,
         single: true,
+        front: 5,
     },
     // VectorShuffle
     Row {
@@ -528,6 +576,7 @@ static ROWS: [Row; 92] = [
         fixed: &[T, R, VALUE, VALUE],
         ending: Ending::Repeated(&[W]),
         single: true,
+        front: 4,
     },
     // CompositeConstruct
     Row {
@@ -538,6 +587,7 @@ static ROWS: [Row; 92] = [
         fixed: &[T, R],
         ending: Ending::Repeated(&[VALUE]),
         single: true,
+        front: 2,
     },
     // CompositeExtract
     Row {
@@ -548,6 +598,7 @@ static ROWS: [Row; 92] = [
         fixed: &[T, R, VALUE],
         ending: Ending::Repeated(&[W]),
         single: true,
+        front: 3,
     },
     // CompositeInsert
     Row {
@@ -558,6 +609,7 @@ static ROWS: [Row; 92] = [
         fixed: &[T, R, VALUE, VALUE],
         ending: Ending::Repeated(&[W]),
         single: true,
+        front: 4,
     },
     // CopyObject
     Row {
@@ -568,6 +620,7 @@ static ROWS: [Row; 92] = [
         fixed: &[T, R, VALUE],
         ending: Ending::Closed,
         single: true,
+        front: 3,
     },
     // ConvertFToU to ConvertUToF
     Row {
@@ -578,6 +631,7 @@ static ROWS: [Row; 92] = [
         fixed: &[T, R, VALUE],
         ending: Ending::Closed,
         single: true,
+        front: 3,
     },
     // UConvert, SConvert, FConvert
     Row {
@@ -588,6 +642,7 @@ static ROWS: [Row; 92] = [
         fixed: &[T, R, VALUE],
         ending: Ending::Closed,
         single: true,
+        front: 3,
     },
     // ConvertPtrToU
     Row {
@@ -598,6 +653,7 @@ static ROWS: [Row; 92] = [
         fixed: &[T, R, VALUE],
         ending: Ending::Closed,
         single: true,
+        front: 3,
     },
     // ConvertUToPtr
     Row {
@@ -608,6 +664,7 @@ static ROWS: [Row; 92] = [
         fixed: &[T, R, VALUE],
         ending: Ending::Closed,
         single: true,
+        front: 3,
     },
     // PtrCastToGeneric, GenericCastToPtr
     Row {
@@ -618,6 +675,7 @@ static ROWS: [Row; 92] = [
         fixed: &[T, R, VALUE],
         ending: Ending::Closed,
         single: true,
+        front: 3,
     },
     // Bitcast
     Row {
@@ -628,6 +686,7 @@ static ROWS: [Row; 92] = [
         fixed: &[T, R, VALUE],
         ending: Ending::Closed,
         single: true,
+        front: 3,
     },
     // SNegate, FNegate
     Row {
@@ -638,6 +697,7 @@ static ROWS: [Row; 92] = [
         fixed: &[T, R, VALUE],
         ending: Ending::Closed,
         single: true,
+        front: 3,
     },
     // IAdd to FDiv
     Row {
@@ -648,6 +708,7 @@ static ROWS: [Row; 92] = [
         fixed: &[T, R, VALUE, VALUE],
         ending: Ending::Closed,
         single: true,
+        front: 4,
     },
     // UMod to FMod
     Row {
@@ -658,6 +719,7 @@ static ROWS: [Row; 92] = [
         fixed: &[T, R, VALUE, VALUE],
         ending: Ending::Closed,
         single: true,
+        front: 4,
     },
     // LogicalEqual to LogicalAnd
     Row {
@@ -668,6 +730,7 @@ static ROWS: [Row; 92] = [
         fixed: &[T, R, VALUE, VALUE],
         ending: Ending::Closed,
         single: true,
+        front: 4,
     },
     // LogicalNot
     Row {
@@ -678,6 +741,7 @@ static ROWS: [Row; 92] = [
         fixed: &[T, R, VALUE],
         ending: Ending::Closed,
         single: true,
+        front: 3,
     },
     // Select
     Row {
@@ -688,6 +752,7 @@ static ROWS: [Row; 92] = [
         fixed: &[T, R, VALUE, VALUE, VALUE],
         ending: Ending::Closed,
         single: true,
+        front: 5,
     },
     // IEqual to SLessThanEqual
     Row {
@@ -698,6 +763,7 @@ static ROWS: [Row; 92] = [
         fixed: &[T, R, VALUE, VALUE],
         ending: Ending::Closed,
         single: true,
+        front: 4,
     },
     // FOrdEqual to FUnordGreaterThanEqual
     Row {
@@ -708,6 +774,7 @@ static ROWS: [Row; 92] = [
         fixed: &[T, R, VALUE, VALUE],
         ending: Ending::Closed,
         single: true,
+        front: 4,
     },
     // ShiftRightLogical to ShiftLeftLogical
     Row {
@@ -718,6 +785,7 @@ static ROWS: [Row; 92] = [
         fixed: &[T, R, VALUE, VALUE],
         ending: Ending::Closed,
         single: true,
+        front: 4,
     },
     // BitwiseOr, BitwiseXor, BitwiseAnd
     Row {
@@ -728,6 +796,7 @@ static ROWS: [Row; 92] = [
         fixed: &[T, R, VALUE, VALUE],
         ending: Ending::Closed,
         single: true,
+        front: 4,
     },
     // Not
     Row {
@@ -738,6 +807,7 @@ static ROWS: [Row; 92] = [
         fixed: &[T, R, VALUE],
         ending: Ending::Closed,
         single: true,
+        front: 3,
     },
     // ControlBarrier
     Row {
@@ -748,6 +818,7 @@ static ROWS: [Row; 92] = [
         fixed: &[VALUE, VALUE, VALUE],
         ending: Ending::Closed,
         single: true,
+        front: 3,
     },
     // MemoryBarrier
     Row {
@@ -758,6 +829,7 @@ static ROWS: [Row; 92] = [
         fixed: &[VALUE, VALUE],
         ending: Ending::Closed,
         single: true,
+        front: 2,
     },
     // AtomicLoad
     Row {
@@ -768,6 +840,7 @@ static ROWS: [Row; 92] = [
         fixed: &[T, R, VALUE, VALUE, VALUE],
         ending: Ending::Closed,
         single: true,
+        front: 5,
     },
     // AtomicStore
     Row {
@@ -778,6 +851,7 @@ static ROWS: [Row; 92] = [
         fixed: &[VALUE, VALUE, VALUE, VALUE],
         ending: Ending::Closed,
         single: true,
+        front: 4,
     },
     // AtomicExchange
     Row {
@@ -788,6 +862,7 @@ static ROWS: [Row; 92] = [
         fixed: &[T, R, VALUE, VALUE, VALUE, VALUE],
         ending: Ending::Closed,
         single: true,
+        front: 6,
     },
     // AtomicCompareExchange
     Row {
@@ -798,6 +873,7 @@ static ROWS: [Row; 92] = [
         fixed: &[T, R, VALUE, VALUE, VALUE, VALUE, VALUE, VALUE],
         ending: Ending::Closed,
         single: true,
+        front: 8,
     },
     // AtomicIIncrement, AtomicIDecrement
     Row {
@@ -808,6 +884,7 @@ static ROWS: [Row; 92] = [
         fixed: &[T, R, VALUE, VALUE, VALUE],
         ending: Ending::Closed,
         single: true,
+        front: 5,
     },
     // AtomicIAdd to AtomicUMax
     Row {
@@ -818,6 +895,7 @@ static ROWS: [Row; 92] = [
         fixed: &[T, R, VALUE, VALUE, VALUE, VALUE],
         ending: Ending::Closed,
         single: true,
+        front: 6,
     },
     // AtomicAnd, AtomicOr, AtomicXor
     Row {
@@ -828,6 +906,7 @@ static ROWS: [Row; 92] = [
         fixed: &[T, R, VALUE, VALUE, VALUE, VALUE],
         ending: Ending::Closed,
         single: true,
+        front: 6,
     },
     // Phi
     Row {
@@ -838,6 +917,7 @@ static ROWS: [Row; 92] = [
         fixed: &[T, R],
         ending: Ending::Repeated(&[VALUE, LABEL]),
         single: true,
+        front: 2,
     },
     // LoopMerge
     Row {
@@ -848,6 +928,7 @@ static ROWS: [Row; 92] = [
         fixed: &[LABEL, LABEL, Form::Kind(Named::LoopControl)],
         ending: Ending::Others,
         single: false,
+        front: 3,
     },
     // SelectionMerge
     Row {
@@ -858,6 +939,7 @@ static ROWS: [Row; 92] = [
         fixed: &[LABEL, Form::Kind(Named::SelectionControl)],
         ending: Ending::Closed,
         single: true,
+        front: 2,
     },
     // Label
     Row {
@@ -868,6 +950,7 @@ static ROWS: [Row; 92] = [
         fixed: &[R],
         ending: Ending::Closed,
         single: true,
+        front: 1,
     },
     // Branch
     Row {
@@ -878,6 +961,7 @@ static ROWS: [Row; 92] = [
         fixed: &[LABEL],
         ending: Ending::Closed,
         single: true,
+        front: 1,
     },
     // BranchConditional
     Row {
@@ -888,6 +972,7 @@ static ROWS: [Row; 92] = [
         fixed: &[VALUE, LABEL, LABEL],
         ending: Ending::Repeated(&[W]),
         single: true,
+        front: 3,
     },
     // Switch
     Row {
@@ -898,6 +983,7 @@ static ROWS: [Row; 92] = [
         fixed: &[VALUE, LABEL],
         ending: Ending::Repeated(&[N, LABEL]),
         single: false,
+        front: 2,
     },
     // Return
     Row {
@@ -908,6 +994,7 @@ static ROWS: [Row; 92] = [
         fixed: &[],
         ending: Ending::Closed,
         single: true,
+        front: 0,
     },
     // ReturnValue
     Row {
@@ -918,6 +1005,7 @@ static ROWS: [Row; 92] = [
         fixed: &[VALUE],
         ending: Ending::Closed,
         single: true,
+        front: 1,
     },
     // Unreachable
     Row {
@@ -928,6 +1016,7 @@ static ROWS: [Row; 92] = [
         fixed: &[],
         ending: Ending::Closed,
         single: true,
+        front: 0,
     },
     // LifetimeStart, LifetimeStop
     Row {
@@ -938,6 +1027,7 @@ static ROWS: [Row; 92] = [
         fixed: &[VALUE, W],
         ending: Ending::Closed,
         single: true,
+        front: 2,
     },
     // NoLine
     Row {
@@ -948,6 +1038,7 @@ static ROWS: [Row; 92] = [
         fixed: &[],
         ending: Ending::Closed,
         single: true,
+        front: 0,
     },
     // ModuleProcessed
     Row {
@@ -958,6 +1049,7 @@ static ROWS: [Row; 92] = [
         fixed: &[S],
         ending: Ending::Closed,
         single: false,
+        front: 0,
     },
 ];
 
@@ -986,6 +1078,7 @@ fn row_at(numbers: &'static [u8], rows: &'static [Row], opcode: u16) -> Option<&
     ensures row { option_map (λ r. plain_row r.now) result ≡ numbered (map plain_row rows.now) (slice_get numbers.now opcode) }
     ensures section { IfSome result (λ r. r.now.section ≡ section_of r.now.class) }
     ensures single { IfSome result (λ r. r.now.single ≡ is_single_row (plain_row r.now)) }
+    ensures front { IfSome result (λ r. r.now.front ≡ front_of r.now.fixed.now) }
 {
     match numbers.get(usize::from(opcode)) {
         Some(number) => {
@@ -1006,6 +1099,7 @@ pub fn row(opcode: u16) -> Option<&'static Row>
     ensures row { option_map (λ r. plain_row r.now) result ≡ row_of opcode }
     ensures section { IfSome result (λ r. r.now.section ≡ section_of r.now.class) }
     ensures single { IfSome result (λ r. r.now.single ≡ is_single_row (plain_row r.now)) }
+    ensures front { IfSome result (λ r. r.now.front ≡ front_of r.now.fixed.now) }
 {
     row_at(&NUMBERS, &ROWS, opcode)
 }

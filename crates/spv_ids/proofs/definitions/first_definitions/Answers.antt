@@ -8,7 +8,7 @@ use Rattle.spv_ids.proofs.definitions.first_definitions.Goals.{then-is_out_of_ra
 use Rattle.spv_ids.proofs.definitions.first_definitions.Goals as goal
 
 pub loop-i-init : goal.loop-i-init
-loop-i-init c = first_none c.args.bound (map plain_inst c.args.insts.now) c.in_ok-definitions.definitions c.in_ok-definitions.ensures
+loop-i-init c = record { first = first_none c.args.bound (map plain_inst c.args.insts.now) c.args.room c.requires.empty; few = omega arith }
 
 pub returns-then-is_out_of_range-clause-end : goal.returns-then-is_out_of_range-clause-end
 returns-then-is_out_of_range-clause-end c =
@@ -21,7 +21,7 @@ returns-then-is_out_of_range-clause-end c =
       | then-is_out_of_range-via-else-is_out_of_range+then-is_some w ↦
           let e = sym w.is_some.ensures ∙ w.if-is_some.true in
           let e' = rw w.get.ensures at e in
-          bad_again c.args.bound is c.loop-i.i c.in-Some.id i c.loop-i.definitions t r c.loop-i.invariant (some_tells (kept c.loop-i.definitions c.in-Some.id) e')
+          bad_again c.args.bound is c.loop-i.i c.in-Some.id i c.loop-i.definitions t r c.loop-i.invariant.first (some_tells (kept c.loop-i.definitions c.in-Some.id) e')
     ])
 
 pub loop-i-preserved : goal.loop-i-preserved
@@ -34,13 +34,19 @@ loop-i-preserved c =
           let r = sym w.in-Some.is ∙ c.result_of.ensures ∙ sym (c.requires.results.result c.loop-i.i i t) in
           let e = sym w.is_some.ensures ∙ w.if-is_some.false in
           let e' = rw w.get.ensures at e in
-          rw w.definitions-is
-          (first_result c.args.bound is c.loop-i.i w.in-Some.id i c.loop-i.definitions w.put.new.self t r (λ o. false_true (sym w.if-is_out_of_range.false ∙ w.is_out_of_range.ensures.1 o))
-          (none_tells (kept c.loop-i.definitions w.in-Some.id) e') w.in_ok-put.ensures c.loop-i.invariant)
-      | in_default w ↦ rw w.definitions-is (first_no_result c.args.bound is c.loop-i.i i c.loop-i.definitions t (sym w.in_default.is ∙ c.result_of.ensures ∙ sym (c.requires.results.result c.loop-i.i i t)) c.loop-i.invariant)
+          record {
+            first = rw w.definitions-is
+                (first_result c.args.bound is c.loop-i.i w.in-Some.id i c.loop-i.definitions w.put.new.self t r (λ o. false_true (sym w.if-is_out_of_range.false ∙ w.is_out_of_range.ensures.1 o))
+                (none_tells (kept c.loop-i.definitions w.in-Some.id) e') w.in_ok-put.ensures c.loop-i.invariant.first);
+            few = let f = w.count-is in let k = c.loop-i.invariant.few in omega arith;
+          }
+      | in_default w ↦ record {
+        first = rw w.definitions-is (first_no_result c.args.bound is c.loop-i.i i c.loop-i.definitions t (sym w.in_default.is ∙ c.result_of.ensures ∙ sym (c.requires.results.result c.loop-i.i i t)) c.loop-i.invariant.first);
+        few = let f = w.count-is in let k = c.loop-i.invariant.few in omega arith;
+      }
     ]
 
 pub returns-clause-firsts : goal.returns-clause-firsts
 returns-clause-firsts c =
     let e : c.loop-i.i ≡ length c.args.insts.now = omega arith in
-    first_moved c.args.bound (map plain_inst c.args.insts.now) c.loop-i.i (length c.args.insts.now) c.loop-i.definitions e c.loop-i.invariant
+    first_moved c.args.bound (map plain_inst c.args.insts.now) c.loop-i.i (length c.args.insts.now) c.loop-i.definitions e c.loop-i.invariant.first

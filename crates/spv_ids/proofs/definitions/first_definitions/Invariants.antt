@@ -1,7 +1,7 @@
-use Rattle.std.proofs.Common.{map}
+use Rattle.std.proofs.Common.{◌≤◌, map}
 use Rattle.spv_inst.specs.Module.{plain_inst}
 use Rattle.spv_ids.specs.Known.{AreFirst}
 use Rattle.spv_ids.proofs.definitions.first_definitions.Given as goal
 
 abbrev pub invariant-loop-i : goal.invariant-loop-i
-invariant-loop-i l = AreFirst l.bound (map plain_inst l.insts) l.i l.definitions
+invariant-loop-i l = record { first : AreFirst l.bound (map plain_inst l.insts) l.i l.definitions; few : l.count ≤ l.i }

@@ -9,8 +9,8 @@ use Rattle.spv_ids.proofs.Defining.{short_list}
 use Rattle.spv_ids.proofs.Broke.{places_of, first_within, refusal_told, clean_told, definitions_told}
 use Rattle.spv_ids.proofs.ids.number.Goals as goal
 
-pub first_definitions-requires-clause-most : goal.first_definitions-requires-clause-most
-first_definitions-requires-clause-most c =
+pub find_definitions-requires-clause-most : goal.find_definitions-requires-clause-most
+find_definitions-requires-clause-most c =
     let v = c.as_slice-insts.ensures.value in
     let xs = c.as_slice-insts.result.now in
     let s = short_list (map plain_inst xs) in
@@ -18,8 +18,8 @@ first_definitions-requires-clause-most c =
     let q : 5 + sum_by word_count (map plain_inst xs) ≤ 4194304 = rw v c.requires.words in
     omega arith
 
-pub first_definitions-requires-clause-results : goal.first_definitions-requires-clause-results
-first_definitions-requires-clause-results c =
+pub find_definitions-requires-clause-results : goal.find_definitions-requires-clause-results
+find_definitions-requires-clause-results c =
     let p = c.requires.plan in
     let a = places_of p.0 (plain_insts c.args.module.now) c.args.plan.now p.1 in
     rw c.as_slice-insts.ensures.value a.early

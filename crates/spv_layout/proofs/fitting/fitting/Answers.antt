@@ -3,7 +3,7 @@ use Rattle.spv_inst.specs.Module.{plain_inst}
 use Rattle.spv_layout.specs.Row.{plain_row}
 use Rattle.spv_layout.specs.Rows.{class_in}
 use Rattle.spv_layout.proofs.Tested.{fits_iff}
-use Rattle.spv_layout.proofs.Singles.{single_words}
+use Rattle.spv_layout.proofs.Singles.{single_words, front_words}
 use Rattle.spv_layout.proofs.fitting.fitting.Goals as goal
 
 pub returns-then-have_row-clause-fits : goal.returns-then-have_row-clause-fits
@@ -20,6 +20,12 @@ returns-then-have_row-clause-single c = λ h.
     let t = rw c.as_slice.ensures.value at (sym c.have_row.ensures) in
     let f = fits_iff c.args.kinds.now (plain_inst c.args.inst.now) (Some (plain_row c.in-Some.row.now)) c.have_row.result (sym c.in-Some.ensures.row) t in
     single_words c.args.kinds.now (plain_inst c.args.inst.now) (plain_row c.in-Some.row.now) (f.0 c.if-have_row.true) (sym c.in-Some.ensures.row) (sym c.in-Some.ensures.single ∙ h)
+
+pub returns-then-have_row-clause-front : goal.returns-then-have_row-clause-front
+returns-then-have_row-clause-front c =
+    let t = rw c.as_slice.ensures.value at (sym c.have_row.ensures) in
+    let f = fits_iff c.args.kinds.now (plain_inst c.args.inst.now) (Some (plain_row c.in-Some.row.now)) c.have_row.result (sym c.in-Some.ensures.row) t in
+    front_words c.args.kinds.now (plain_inst c.args.inst.now) (plain_row c.in-Some.row.now) c.in-Some.row.now.front (f.0 c.if-have_row.true) (sym c.in-Some.ensures.row) c.in-Some.ensures.front
 
 pub returns-else-have_row-clause-misfit : goal.returns-else-have_row-clause-misfit
 returns-else-have_row-clause-misfit c = λ g.

@@ -1,11 +1,12 @@
-use Rattle.std.proofs.Common.{◌≡◌, ◌<◌, refl, sym, arith, length, map, true, false, Some, None, inl}
+use Rattle.std.proofs.Common.{◌≡◌, ◌∙◌, ◌<◌, refl, sym, arith, length, map, true, false, Some, None, inl}
 use Rattle.std.specs.Prelude.{slice_get}
+use Rattle.std.specs.Vec.{vec_len, vec_capacity}
 use Rattle.std.proofs.lemmas.List.{length-map}
 use Rattle.spv_inst.specs.Module.{plain_inst}
 use Rattle.spv_layout.specs.declared.state.State.TheVariants as at
 use Rattle.spv_layout.specs.Rows.{class_of}
 use Rattle.spv_layout.specs.Layout.{classes}
-use Rattle.spv_layout.specs.Place.{word_count}
+use Rattle.spv_layout.specs.Place.{section_of, word_count}
 use Rattle.spv_layout.specs.Span.{no_number}
 use Rattle.spv_layout.specs.State.{next_of, may_stop}
 use Rattle.spv_layout.proofs.Layouts.{leads_first}
@@ -14,6 +15,7 @@ use Rattle.spv_layout.proofs.Misfits.{fit_none, fit_more, fit_all, inst_there, m
 use Rattle.spv_layout.proofs.Sums.{sum_more, sum_bound}
 use Rattle.spv_layout.proofs.Following.{none_follows, stands_at, follows_on}
 use Rattle.spv_layout.proofs.Keeping.{class_there, none_kept, keeps, planned}
+use Rattle.spv_layout.proofs.Rooms.{room_left, room_more}
 use Rattle.spv_layout.proofs.plan.plan_of.Goals as goal
 
 pub loop-i-init : goal.loop-i-init
@@ -22,8 +24,19 @@ loop-i-init c = record {
   leads = leads_first;
   follows = rw c.new-spans.ensures (none_follows (map plain_inst c.args.insts.now));
   kept = none_kept (map plain_inst c.args.insts.now) at.Capabilities c.in_ok-early.early.items c.in_ok-late.late.items c.in_ok-early.ensures.items c.in_ok-late.ensures.items;
+  room = let e = c.in_ok-late.ensures.exact in let w = c.count_early-count.ensures.within in record { kept = inl c.in_ok-late.ensures.len; room = omega arith };
   word = refl;
 }
+
+pub keep-requires : goal.keep-requires
+keep-requires c = λ e.
+    let is = map plain_inst c.args.insts.now in
+    let same = c.in-Some.ensures.class in
+    let t = class_there c.args.insts.now c.loop-i.i c.index-insts-i.result c.loop-i-test.true c.index-insts-i.is in
+    let k : slice_get (classes is) c.loop-i.i ≡ Some c.in-Some.row.now.class = rw same t in
+    let z : section_of c.in-Some.row.now.class ≡ None = sym c.in-Some.ensures.section ∙ e in
+    room_left is c.count_early-count.result (length c.args.insts.now) c.loop-i.i (vec_len c.loop-i.late) (vec_capacity c.loop-i.late) c.in-Some.row.now.class c.count_early-count.ensures.early k z
+    c.loop-i-test.true c.loop-i.invariant.room
 
 pub fault-requires : goal.fault-requires
 fault-requires c =
@@ -92,6 +105,8 @@ loop-i-preserved c =
       follows = rw (c.leave.ensures, c.enter.ensures) (follows_on is n c.loop-i.state c.in-Some-next.after c.in-Some.row.now.class c.loop-i.spans e h m k c.loop-i.invariant.follows);
       kept = keeps is n c.loop-i.state c.in-Some-next.after c.in-Some.row.now.class c.enter.new.self c.loop-i.word c.loop-i.early.items c.keep.new.early.items c.loop-i.late.items c.keep.new.late.items e
           early late k c.loop-i.invariant.word (rw c.enter.ensures stands) c.loop-i.invariant.kept;
+      room = room_more is c.count_early-count.result (length c.args.insts.now) n (vec_len c.loop-i.late) (vec_len c.keep.new.late) (vec_capacity c.loop-i.late) (vec_capacity c.keep.new.late)
+          c.in-Some.row.now.class c.count_early-count.ensures.early k (rw c.in-Some.ensures.section at c.in_ok-keep.ensures.len) c.keep.ensures.capacity c.loop-i.invariant.room;
       word = let a = c.loop-i.invariant.word in let b = c.words_of-word.ensures in omega arith;
     }
 

@@ -1,7 +1,9 @@
-use Rattle.std.proofs.Common.{◌≡◌, map, take}
+use Rattle.std.proofs.Common.{◌≡◌, length, map, take}
+use Rattle.std.specs.Vec.{vec_len, vec_capacity}
 use Rattle.spv_inst.specs.Module.{plain_inst}
 use Rattle.spv_layout.specs.Layout.{classes}
 use Rattle.spv_layout.specs.Place.{first_word_of}
+use Rattle.spv_layout.specs.Kept.{HasRoom}
 use Rattle.spv_layout.proofs.Layouts.{Leads}
 use Rattle.spv_layout.proofs.Misfits.{FitBelow}
 use Rattle.spv_layout.proofs.Following.{Follows}
@@ -14,5 +16,6 @@ invariant-loop-i l = record {
   leads : Leads (classes (map plain_inst (take l.i l.insts))) l.state;
   follows : Follows (map plain_inst l.insts) l.i l.state l.spans;
   kept : Kept (map plain_inst l.insts) l.i l.state l.early.items l.late.items;
+  room : HasRoom l.count (length l.insts) l.i (vec_len l.late) (vec_capacity l.late);
   word : l.word ≡ first_word_of (map plain_inst l.insts) l.i;
 }

@@ -5,8 +5,8 @@ use Rattle.std.proofs.lemmas.Option.{slice_get_read, slice_get_past, slice_get-g
 use Rattle.spv_layout.specs.declared.form.Row.{Row}
 use Rattle.spv_layout.specs.Place.{section_of}
 use Rattle.spv_layout.specs.Row.{plain_row}
-use Rattle.spv_layout.specs.Single.{is_single_row, are_flagged}
-use Rattle.spv_layout.proofs.Singles.{flagged_at, section_at}
+use Rattle.spv_layout.specs.Single.{is_single_row, front_of, are_flagged}
+use Rattle.spv_layout.proofs.Singles.{flagged_at, section_at, front_at}
 use Rattle.spv_layout.proofs.rows.row_at.Goals as goal
 
 flag_in : (rs : List Row) (k : ℕ) (d : Row) → are_flagged rs ≡ true → k < length rs → (get_or rs k d).single ≡ is_single_row (plain_row (get_or rs k d))
@@ -15,11 +15,17 @@ flag_in rs k d f l = flagged_at rs k (get_or rs k d) f (slice_get-get_or rs k d 
 section_in : (rs : List Row) (k : ℕ) (d : Row) → are_flagged rs ≡ true → k < length rs → (get_or rs k d).section ≡ section_of (get_or rs k d).class
 section_in rs k d f l = section_at rs k (get_or rs k d) f (slice_get-get_or rs k d l)
 
+front_in : (rs : List Row) (k : ℕ) (d : Row) → are_flagged rs ≡ true → k < length rs → (get_or rs k d).front ≡ front_of (get_or rs k d).fixed.now
+front_in rs k d f l = front_at rs k (get_or rs k d) f (slice_get-get_or rs k d l)
+
 pub returns-then-place-rows-clause-single : goal.returns-then-place-rows-clause-single
 returns-then-place-rows-clause-single c = flag_in c.args.rows.now c.from-place.result _ c.requires c.if-place-rows.true
 
 pub returns-then-place-rows-clause-section : goal.returns-then-place-rows-clause-section
 returns-then-place-rows-clause-section c = section_in c.args.rows.now c.from-place.result _ c.requires c.if-place-rows.true
+
+pub returns-then-place-rows-clause-front : goal.returns-then-place-rows-clause-front
+returns-then-place-rows-clause-front c = front_in c.args.rows.now c.from-place.result _ c.requires c.if-place-rows.true
 
 pub returns-else-place-rows-clause-row : goal.returns-else-place-rows-clause-row
 returns-else-place-rows-clause-row c =
