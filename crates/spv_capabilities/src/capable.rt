@@ -65,6 +65,7 @@ pub fn is_covered_entry(survey: &Survey<'_, '_>, opcode: u16) -> bool
 }
 
 /// Whether a kind is the one named Capability.
+#[inline(always)]
 pub fn is_capability_kind(survey: &Survey<'_, '_>, kind: u32) -> bool
     ensures { IsTrue result ↔ (number_named survey.now.table (codes "Capability") ≡ Some kind) }
 {

@@ -54,6 +54,17 @@ pub fn entry_examples()
     ensures exported { ¬ (IsSoundLinkage small (declaration 0) 1) }
 {}
 
+/// What C1, C2 and E1 demand of instructions.
+pub fn capable_examples()
+    ensures kernel { Keeps small vectors rule.C1 0 (inst 14 []) }
+    ensures no_kernel { ¬ (Keeps small linked rule.C1 0 (inst 14 [])) }
+    // OpTypeOpaque lists Kernel.
+    ensures capable { Keeps small vectors rule.C2 0 (inst 31 (Result 1 ∷ [])) }
+    ensures not_capable { ¬ (Keeps small linked rule.C2 0 (inst 31 (Result 1 ∷ []))) }
+    ensures linkage { Keeps small linked rule.E1 0 (inst 14 []) }
+    ensures no_linkage { ¬ (Keeps small vectors rule.E1 0 (inst 14 [])) }
+{}
+
 /// What M1 and E2 demand of instructions.
 pub fn demand_examples()
     ensures model { Keeps small kernel rule.M1 0 (inst 14 (Value 3 2 ∷ Value 4 2 ∷ [])) }

@@ -4,7 +4,7 @@ ghost use Rattle.std.specs.Prelude.{◌≡◌, ◌↔◌, ◌^◌, ◌/◌, ◌%
 ghost use Rattle.std.specs.List.{AllByRecursion};
 ghost use Rattle.spv_inst.specs.Module.{plain_inst, plain_operand, plain_operands};
 ghost use Rattle.spv_capabilities.specs.Subject.{Subject};
-ghost use Rattle.spv_capabilities.specs.Capable.{IsCoveredEntry, IsCoveredValue, IsCoveredMask, IsCoveredOperand, IsCapable};
+ghost use Rattle.spv_capabilities.specs.Capable.{IsCoveredEntry, IsCoveredValue, IsCoveredMask, IsOtherKind, IsCoveredOperand, IsCapable};
 ghost use Rattle.spv_capabilities.specs.Known.{IsKnown, AreCovered, answer_of};
 
 use crate::capable::{
@@ -195,9 +195,12 @@ impl Memo {
     #[inline(never)]
     fn ask_mask(&mut self, survey: &Survey<'_, '_>, kind: u32, mask: u32) -> Result<bool, Memory>
         requires { IsKnown survey.now self.old }
-        ensures answer { IfOk result (λ b. IsTrue b ↔ IsCoveredMask survey.now.table survey.now.insts kind mask) }
+        ensures answer { IfOk result (λ b. IsTrue b ↔ (IsOtherKind survey.now.table kind → IsCoveredMask survey.now.table survey.now.insts kind mask)) }
         ensures known { IsKnown survey.now self.new }
     {
+        if is_capability_kind(survey, kind) {
+            return Ok(true);
+        }
         let covered = self.are_covered_bits(survey, kind, mask)?;
         if covered {
             self.mask = mask;
@@ -206,7 +209,7 @@ impl Memo {
         Ok(covered)
     }
 
-    /// Whether the enumerants of a mask's set bits are covered.
+    /// Whether a mask is of kind Capability, or the enumerants of its set bits are covered.
     #[inline(always)]
     fn is_covered_mask(
         &mut self,
@@ -215,7 +218,7 @@ impl Memo {
         mask: u32,
     ) -> Result<bool, Memory>
         requires { IsKnown survey.now self.old }
-        ensures answer { IfOk result (λ b. IsTrue b ↔ IsCoveredMask survey.now.table survey.now.insts kind mask) }
+        ensures answer { IfOk result (λ b. IsTrue b ↔ (IsOtherKind survey.now.table kind → IsCoveredMask survey.now.table survey.now.insts kind mask)) }
         ensures known { IsKnown survey.now self.new }
     {
         if mask == self.mask && kind == self.mask_kind {
@@ -241,11 +244,7 @@ impl Memo {
             } else {
                 self.is_covered_value(survey, *kind, *value)
             },
-            Operand::Mask { kind, value } => if is_capability_kind(survey, *kind) {
-                Ok(true)
-            } else {
-                self.is_covered_mask(survey, *kind, *value)
-            },
+            Operand::Mask { kind, value } => self.is_covered_mask(survey, *kind, *value),
             _ => Ok(true),
         }
     }

@@ -95,6 +95,7 @@ impl<'m, 'a> Survey<'m, 'a> {
     }
 
     /// The number of the kind named Capability.
+    #[inline(always)]
     pub fn capability_kind(&self) -> Option<u32>
         ensures { result ≡ number_named self.now.table (codes "Capability") }
     {
@@ -123,6 +124,7 @@ impl<'m, 'a> Survey<'m, 'a> {
     }
 
     /// Whether an instruction is the OpFunction of a function that is a definition.
+    #[inline(always)]
     pub fn is_definition(&self, function: u32) -> bool
         requires { function < length self.now.insts }
         ensures { IsTrue result ↔ IsDefinition self.now.insts function }
@@ -148,6 +150,7 @@ impl<'m, 'a> Survey<'m, 'a> {
     }
 
     /// Whether an instruction defines what is imported.
+    #[inline(always)]
     pub fn is_imported(&self, function: u32) -> bool
         ensures { IsTrue result ↔ IsImported self.now.table self.now.insts function }
     {
@@ -156,6 +159,7 @@ impl<'m, 'a> Survey<'m, 'a> {
 }
 
 /// Whether a place is that of the OpFunction of a number, and of section 11.
+#[inline(always)]
 fn is_defined(place: Place, function: u32) -> bool
     ensures { (is : List PlainInst) → IsPlaceOf is function place → IsTrue result ↔ IsDefinition is function }
 {
@@ -166,6 +170,7 @@ fn is_defined(place: Place, function: u32) -> bool
 }
 
 /// Whether an instruction is marked.
+#[inline(always)]
 fn is_marked(marks: &[bool], inst: u32) -> bool
     ensures { (names : PlainInst → Option ℕ) (is : List PlainInst) → AreMarked names is (length is) marks.now → IsTrue result ↔ IsNamed names is inst }
 {

@@ -48,3 +48,11 @@ small =
 -- %8 = OpVariable %7 CrossWorkgroup
 abbrev pub lone_variable : List PlainInst
 lone_variable = inst 59 (OfType 7 ∷ Result 8 ∷ Value 0 5 ∷ []) ∷ []
+
+-- the small module's types, and before them %21 = OpTypeFloat 64
+abbrev pub with_double : List PlainInst
+with_double = inst 22 (Result 21 ∷ Word 64 ∷ []) ∷ small
+
+-- the variable after its type: %7 = OpTypePointer CrossWorkgroup %6
+abbrev pub pointed_variable : List PlainInst
+pointed_variable = inst 32 (Result 7 ∷ Value 0 5 ∷ Id 6 ∷ []) ∷ lone_variable

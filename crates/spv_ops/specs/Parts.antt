@@ -2,6 +2,9 @@
 use Rattle.std.specs.Prelude.{◌+◌, ◌*◌, ℕ, List, [], ◌∷◌, Option, Some, None, nat_eq, nat_lt, ◌||◌, if◌then◌else◌, option_and_then, option_map, slice_get, length}
 use Rattle.spv_inst.specs.Operand.{Plain, OfType, Result, Id, Number, PlainInst}
 use Rattle.spv_inst.specs.Width.{definition_of}
+use Rattle.spv_inst.specs.Module.{plain_operands}
+use Rattle.spv_ops.specs.declared.parts.Parts.{Parts}
+use Rattle.spv_ops.specs.declared.parts.Parts.TheVariants as parts
 use Rattle.spv_ops.specs.declared.form.Form.{Form}
 use Rattle.spv_ops.specs.declared.form.Form.TheVariants as form
 use Rattle.spv_ops.specs.Form.{form_of}
@@ -65,3 +68,9 @@ count_of is t = option_and_then (count_in is t) (form_of is t)
 -- the type of the part k, where k is below the number of parts (for the code alone)
 abbrev pub inner_part_of : List PlainInst → ℕ → ℕ → Option ℕ
 inner_part_of is t k = option_and_then (λ n. if nat_lt k n then part_of is t k else None) (count_of is t)
+
+-- the type of the part k, where the types of the parts are looked up (for the code alone)
+abbrev pub part_among : Parts → ℕ → Option ℕ
+part_among (parts.Alike t) k = Some t
+part_among (parts.Members ms) k = option_and_then id_in (slice_get (plain_operands ms.now) k)
+part_among parts.Absent k = None

@@ -66,6 +66,7 @@ impl<'m, 'a> Definitions<'m, 'a> {
     }
 
     /// Where the instruction of a number stands.
+    #[inline(always)]
     pub fn place(&self, number: u32) -> Place
         requires { number < length self.now }
         ensures { IsPlaceOf self.now number result }

@@ -2,25 +2,26 @@
 
 ghost use Rattle.std.specs.Prelude.{◌≡◌, ◌≢◌, ◌↔◌, ℕ, List, [], ◌∷◌, Some, None, slice_get};
 ghost use Rattle.spv_grammar.specs.Table.{Table};
-ghost use Rattle.spv_inst.specs.Operand.{PlainInst};
+ghost use Rattle.spv_inst.specs.Operand.{PlainInst, Value};
 ghost use Rattle.spv_inst.specs.Example.{small as table};
 ghost use Rattle.spv_layout.specs.Shape.{Fits};
 ghost use Rattle.spv_ops.specs.declared.form.Sort.TheVariants as sort;
 ghost use Rattle.spv_ops.specs.declared.row.Row.TheVariants as row;
-ghost use Rattle.spv_ops.specs.declared.row.Calculation.TheVariants.{IntToFloat, ResizeInt, ToGeneric, Bitcast, Compare, Shift, Select};
-ghost use Rattle.spv_ops.specs.declared.row.Access.TheVariants.{Load, Store, Lifetime, MemoryBarrier, AtomicExchange, AtomicUpdate};
-ghost use Rattle.spv_ops.specs.declared.row.Composite.TheVariants.{Shuffle, Extract, Insert};
+ghost use Rattle.spv_ops.specs.declared.row.Calculation.TheVariants.{FloatToInt, IntToFloat, ResizeInt, ResizeFloat, PointerToInt, IntToPointer, ToGeneric, FromGeneric, Bitcast, Unary, Binary, Compare, Shift, Select};
+ghost use Rattle.spv_ops.specs.declared.row.Access.TheVariants.{Load, Store, CopyMemory, CopyMemorySized, Lifetime, ControlBarrier, MemoryBarrier, AtomicLoad, AtomicStore, AtomicExchange, AtomicCompareExchange, AtomicStep, AtomicUpdate};
+ghost use Rattle.spv_ops.specs.declared.row.Composite.TheVariants.{ExtractDynamic, InsertDynamic, Shuffle, Extract, Insert, CopyObject};
 ghost use Rattle.spv_ops.specs.Reach.{Reaches, AreWithin, Leads};
 ghost use Rattle.spv_ops.specs.Form.{form_of};
-ghost use Rattle.spv_ops.specs.Types.{IsI, IsF, IsB, IsData, PointsTo};
+ghost use Rattle.spv_ops.specs.Types.{IsInt, IsFloat, IsBool, IsSomeInt, IsNumber, IsI, IsF, IsB, HasSort, IsOf, IsVector, IsPointer, IsData, PointsTo};
 ghost use Rattle.spv_ops.specs.Row.{row_of};
-ghost use Rattle.spv_ops.specs.Calculation.{Calculates};
-ghost use Rattle.spv_ops.specs.Access.{Accesses};
-ghost use Rattle.spv_ops.specs.Composite.{Composes, Constructs};
-ghost use Rattle.spv_ops.specs.Variable.{IsConstant, IsGlobal, IsClassAt};
+ghost use Rattle.spv_ops.specs.Calculation.{IsNamedClass, Calculates};
+ghost use Rattle.spv_ops.specs.Access.{IsScope, Accesses};
+ghost use Rattle.spv_ops.specs.Composite.{IsComponent, AreParts, Composes, Constructs};
+ghost use Rattle.spv_ops.specs.Chain.{LeadsByPointer, Chains, ChainsByElement};
+ghost use Rattle.spv_ops.specs.Variable.{IsConstant, IsGlobal, IsInitializer, IsClassAt, Declares};
 ghost use Rattle.spv_ops.specs.Values.{AreValues, types_of, values_of};
-ghost use Rattle.spv_ops.specs.Typed.{Typed, IsTyped, IsTypedAt};
-ghost use Rattle.spv_ops.specs.Example.{small, lone_variable, to_member, add, add_floats, one_weight, label};
+ghost use Rattle.spv_ops.specs.Typed.{Holds, Typed, IsTyped, IsTypedAt};
+ghost use Rattle.spv_ops.specs.Example.{small, with_double, lone_variable, pointed_variable, to_member, add, add_floats, one_weight, label};
 ghost use Rattle.spv_ops.specs.Walk.{walk, choices};
 
 /// By a list of indexes a type reaches at most one type.
@@ -70,6 +71,33 @@ pub fn type_examples()
     ensures none { form_of small 5 ≡ None }
 {}
 
+/// Scalars, vectors and pointers among them, by what they are.
+pub fn sort_examples()
+    ensures int { IsInt small 14 64 }
+    ensures other_width { ¬ (IsInt small 14 32) }
+    ensures float { IsFloat small 2 32 }
+    ensures no_float { ¬ (IsFloat small 1 32) }
+    ensures boolean { IsBool small 12 }
+    ensures no_boolean { ¬ (IsBool small 13) }
+    ensures some_int { IsSomeInt small 14 }
+    ensures no_int { ¬ (IsSomeInt small 2) }
+    ensures number { IsNumber small 2 }
+    ensures no_number { ¬ (IsNumber small 12) }
+    ensures ints { HasSort sort.Int small 3 }
+    ensures no_floats { ¬ (HasSort sort.Float small 3) }
+    ensures four { IsOf sort.Bool small 13 4 }
+    ensures no_two { ¬ (IsOf sort.Bool small 13 2) }
+    ensures vector { IsVector small 3 1 4 }
+    ensures other_count { ¬ (IsVector small 3 1 2) }
+    ensures pointer { IsPointer small 4 5 2 }
+    ensures other_class { ¬ (IsPointer small 4 7 2) }
+    // Scopes and semantics; storage classes that a pointer may be converted from.
+    ensures scope { IsScope small 1 }
+    ensures wide_scope { ¬ (IsScope small 14) }
+    ensures named { IsNamedClass 5 }
+    ensures generic { ¬ (IsNamedClass 8) }
+{}
+
 /// What indexes reach in it.
 pub fn reach_examples()
     ensures member { Reaches small 6 (1 ∷ []) 2 }
@@ -111,6 +139,24 @@ pub fn calculation_examples()
     ensures no_choice { ¬ (Calculates small Select 1 (13 ∷ 1 ∷ 1 ∷ [])) }
 {}
 
+/// Further conversions, and calculations of one sort. `%21` is a float of width 64 beside these types.
+pub fn conversion_examples()
+    ensures to_int { Calculates small FloatToInt 1 (2 ∷ []) }
+    ensures from_int { ¬ (Calculates small FloatToInt 1 (14 ∷ [])) }
+    ensures resize { Calculates with_double ResizeFloat 21 (2 ∷ []) }
+    ensures same_width { ¬ (Calculates with_double ResizeFloat 2 (2 ∷ [])) }
+    ensures pointer { Calculates small PointerToInt 14 (4 ∷ []) }
+    ensures no_pointer { ¬ (Calculates small PointerToInt 14 (1 ∷ [])) }
+    ensures to_pointer { Calculates small IntToPointer 4 (14 ∷ []) }
+    ensures float_to_pointer { ¬ (Calculates small IntToPointer 4 (2 ∷ [])) }
+    ensures from_generic { Calculates small FromGeneric 4 (16 ∷ []) }
+    ensures other_pointee { ¬ (Calculates small FromGeneric 17 (16 ∷ [])) }
+    ensures unary { Calculates small (Unary sort.Int) 3 (3 ∷ []) }
+    ensures other_sort { ¬ (Calculates small (Unary sort.Float) 3 (3 ∷ [])) }
+    ensures binary { Calculates small (Binary sort.Float) 2 (2 ∷ 2 ∷ []) }
+    ensures two_widths { ¬ (Calculates small (Binary sort.Int) 1 (1 ∷ 14 ∷ [])) }
+{}
+
 /// Memory and atomics.
 pub fn access_examples()
     ensures load { Accesses small Load (Some 2) (4 ∷ []) }
@@ -125,6 +171,25 @@ pub fn access_examples()
     // Floats are exchanged, and not added.
     ensures exchange { Accesses small AtomicExchange (Some 2) (4 ∷ 1 ∷ 1 ∷ 2 ∷ []) }
     ensures no_update { ¬ (Accesses small AtomicUpdate (Some 2) (4 ∷ 1 ∷ 1 ∷ 2 ∷ [])) }
+{}
+
+/// Copies, a barrier and further atomics. `%4` and `%16` point to the same type.
+pub fn memory_examples()
+    ensures copy { Accesses small CopyMemory None (4 ∷ 16 ∷ []) }
+    ensures other_copy { ¬ (Accesses small CopyMemory None (4 ∷ 7 ∷ [])) }
+    ensures sized { Accesses small CopyMemorySized None (4 ∷ 7 ∷ 14 ∷ []) }
+    ensures float_size { ¬ (Accesses small CopyMemorySized None (4 ∷ 7 ∷ 2 ∷ [])) }
+    ensures barrier { Accesses small ControlBarrier None (1 ∷ 1 ∷ 1 ∷ []) }
+    ensures wide_scope { ¬ (Accesses small ControlBarrier None (1 ∷ 14 ∷ 1 ∷ [])) }
+    ensures load { Accesses small AtomicLoad (Some 2) (4 ∷ 1 ∷ 1 ∷ []) }
+    ensures struct_load { ¬ (Accesses small AtomicLoad (Some 6) (7 ∷ 1 ∷ 1 ∷ [])) }
+    ensures store { Accesses small AtomicStore None (4 ∷ 1 ∷ 1 ∷ 2 ∷ []) }
+    ensures other_store { ¬ (Accesses small AtomicStore None (4 ∷ 1 ∷ 1 ∷ 1 ∷ [])) }
+    ensures exchange { Accesses small AtomicCompareExchange (Some 1) (17 ∷ 1 ∷ 1 ∷ 1 ∷ 1 ∷ 1 ∷ []) }
+    ensures float_exchange { ¬ (Accesses small AtomicCompareExchange (Some 2) (4 ∷ 1 ∷ 1 ∷ 1 ∷ 2 ∷ 2 ∷ [])) }
+    ensures step { Accesses small AtomicStep (Some 1) (17 ∷ 1 ∷ 1 ∷ []) }
+    ensures float_step { ¬ (Accesses small AtomicStep (Some 2) (4 ∷ 1 ∷ 1 ∷ [])) }
+    ensures update { Accesses small AtomicUpdate (Some 1) (17 ∷ 1 ∷ 1 ∷ 1 ∷ []) }
 {}
 
 /// Composites. The last list of a row has the literals.
@@ -145,6 +210,30 @@ pub fn composite_examples()
     ensures composite_first { ¬ (Composes small Insert 6 (6 ∷ 2 ∷ []) (1 ∷ [])) }
 {}
 
+/// Components chosen by values, copies and parts.
+pub fn part_examples()
+    ensures extract { Composes small ExtractDynamic 1 (3 ∷ 14 ∷ []) [] }
+    ensures other_result { ¬ (Composes small ExtractDynamic 2 (3 ∷ 14 ∷ []) []) }
+    ensures insert { Composes small InsertDynamic 3 (3 ∷ 1 ∷ 14 ∷ []) [] }
+    ensures other_vector { ¬ (Composes small InsertDynamic 3 (15 ∷ 1 ∷ 14 ∷ []) []) }
+    ensures copy { Composes small CopyObject 6 (6 ∷ []) [] }
+    ensures other_copy { ¬ (Composes small CopyObject 6 (7 ∷ []) []) }
+    ensures parts { AreParts small 6 (1 ∷ 2 ∷ []) }
+    ensures one_part { ¬ (AreParts small 6 (1 ∷ [])) }
+    ensures component { IsComponent 4 3 }
+    ensures no_component { ¬ (IsComponent 4 4) }
+{}
+
+/// Access chains: from the struct `%6` to its member of type `%2`, and by an index that is no int.
+pub fn chain_examples()
+    ensures leads { LeadsByPointer small 4 7 (5 ∷ []) }
+    ensures no_pointer { ¬ (LeadsByPointer small 4 2 (5 ∷ [])) }
+    ensures chain { Chains small 4 (7 ∷ 1 ∷ []) (8 ∷ 5 ∷ []) }
+    ensures float_index { ¬ (Chains small 4 (7 ∷ 2 ∷ []) (8 ∷ 5 ∷ [])) }
+    ensures element { ChainsByElement small 4 (7 ∷ 1 ∷ 1 ∷ []) (8 ∷ 5 ∷ 5 ∷ []) }
+    ensures float_element { ¬ (ChainsByElement small 4 (7 ∷ 2 ∷ 1 ∷ []) (8 ∷ 5 ∷ 5 ∷ [])) }
+{}
+
 /// Initializers and storage classes of variables.
 pub fn variable_examples()
     ensures constant { IsConstant small 18 }
@@ -154,6 +243,12 @@ pub fn variable_examples()
     ensures no_global { ¬ (IsGlobal lone_variable 7) }
     ensures class { IsClassAt lone_variable 0 5 }
     ensures no_class { ¬ (IsClassAt lone_variable 0 7) }
+    ensures initializer { IsInitializer small 18 }
+    // `%7` is no result in it.
+    ensures no_initializer { ¬ (IsInitializer lone_variable 7) }
+    // `%8` beside its type, a pointer of CrossWorkgroup.
+    ensures declares { Declares pointed_variable 1 7 (Value 0 5 ∷ []) [] }
+    ensures other_class { ¬ (Declares pointed_variable 1 7 (Value 0 4 ∷ []) []) }
 {}
 
 /// Value operands: those of an access chain are all its ids, those of a label none.
@@ -177,4 +272,21 @@ pub fn row_examples()
     ensures no_bool { ¬ (IsTyped table small 8 one_weight) }
     // No row speaks of a label.
     ensures free { IsTyped table small 8 label }
+    ensures row { row_of 128 ≡ row.Calculation (Binary sort.Int) }
+    ensures no_row { row_of 248 ≡ row.Free }
+    // The first instruction of the module is a type declaration, of which no row speaks; OpFAdd of ints stands first in the other.
+    ensures at { IsTypedAt table small 0 }
+    ensures not_at { ¬ (IsTypedAt table (add_floats ∷ small) 0) }
+{}
+
+/// What the rows of results, phis, branches and switches say, of types that are given.
+pub fn hold_examples()
+    ensures undef { Holds small 8 label row.Undef (Some 7) [] }
+    ensures no_undef { ¬ (Holds small 8 label row.Undef None []) }
+    ensures phi { Holds small 8 label row.Phi (Some 6) (6 ∷ 6 ∷ []) }
+    ensures no_phi { ¬ (Holds small 8 label row.Phi (Some 6) (6 ∷ 7 ∷ [])) }
+    ensures branch { Holds small 8 label row.BranchConditional None (12 ∷ []) }
+    ensures no_branch { ¬ (Holds small 8 label row.BranchConditional None (1 ∷ [])) }
+    ensures choice { Holds small 8 label row.Switch None (14 ∷ []) }
+    ensures no_choice { ¬ (Holds small 8 label row.Switch None (12 ∷ [])) }
 {}

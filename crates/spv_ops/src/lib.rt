@@ -23,7 +23,7 @@ pub use calculation::is_data;
 pub use construct::fills;
 pub use definitions::{Definitions, type_in};
 pub use form::{Components, Form, Scalar, Sort, form_in};
-pub use parts::{after_result, length};
+pub use parts::{Parts, after_result, count, length, parts_of};
 pub use row::{Access, Calculation, Composite, Row};
 pub use several::id_count;
 pub use typed::{after_head, inst_holds, op_holds};

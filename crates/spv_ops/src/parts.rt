@@ -1,7 +1,7 @@
-ghost use Rattle.std.specs.Prelude.{◌≡◌, Some, None, option_map};
+ghost use Rattle.std.specs.Prelude.{◌≡◌, Some, None, option_map, ℕ};
 ghost use Rattle.spv_inst.specs.Module.{plain_inst, plain_operands};
 ghost use Rattle.spv_ops.specs.Parts as spec;
-ghost use Rattle.spv_ops.specs.Parts.{constant_of, length_of, members_of, member_of, part_of, count_of, inner_part_of};
+ghost use Rattle.spv_ops.specs.Parts.{constant_of, length_of, members_of, member_of, part_of, count_of, inner_part_of, part_among};
 ghost use Rattle.spv_ops.specs.Operands.{words_in, ids_in};
 ghost use Rattle.spv_ops.specs.Walk.{walk, choice, choices};
 
@@ -47,6 +47,7 @@ pub fn length(definitions: &Definitions, id: u32) -> Option<u64>
 }
 
 /// What follows the result.
+#[inline(always)]
 pub fn after_result<'o, 'a>(operands: &'o [Operand<'a>]) -> &'o [Operand<'a>]
     ensures { plain_operands result.now ≡ spec.after_result (plain_operands operands.now) }
 {
@@ -82,6 +83,49 @@ pub fn part(definitions: &Definitions, t: u32, k: u64) -> Option<u32>
         Form::Array { element, .. } => Some(element),
         Form::Struct => member(definitions, t, k),
         _ => None,
+    }
+}
+
+/// The types of the parts of a type, looked up once.
+#[derive(Clone, Copy)]
+pub enum Parts<'m, 'a> {
+    /// The components of a vector, or the elements of an array: all of this type.
+    Alike(u32),
+    /// The members of a struct, each of the type that stands at its place.
+    Members(&'m [Operand<'a>]),
+    /// A type that has no parts, or no type.
+    Absent,
+}
+
+impl<'m, 'a> Parts<'m, 'a> {
+    /// The type of a part.
+    #[inline(always)]
+    pub fn at(self, k: usize) -> Option<u32>
+        ensures { result ≡ part_among self.entry k }
+    {
+        match self {
+            Parts::Alike(t) => Some(t),
+            Parts::Members(members) => match members.get(k)? {
+                Operand::Id(x) => Some(*x),
+                _ => None,
+            },
+            Parts::Absent => None,
+        }
+    }
+}
+
+/// The types of the parts of a type: at each place what `part` answers.
+pub fn parts_of<'m, 'a>(definitions: &Definitions<'m, 'a>, t: u32) -> Parts<'m, 'a>
+    ensures { (k : ℕ) → part_among result k ≡ part_of definitions.now t k }
+{
+    match definitions.form(t) {
+        Some(Form::Vector { component, .. }) => Parts::Alike(component),
+        Some(Form::Array { element, .. }) => Parts::Alike(element),
+        Some(Form::Struct) => match members(definitions, t) {
+            Some(members) => Parts::Members(members),
+            None => Parts::Absent,
+        },
+        _ => Parts::Absent,
     }
 }
 

@@ -10,7 +10,7 @@ ghost use Rattle.spv_ops.specs.Values.{paired_ids_in, types_of};
 
 use crate::definitions::Definitions;
 use crate::form::{Form, Scalar};
-use crate::parts::part;
+use crate::parts::parts_of;
 use spv_inst::Operand;
 
 /// Whether an id stands for an int.
@@ -56,12 +56,13 @@ pub fn is_typed(definitions: &Definitions, t: u32, x: u32) -> bool
 pub fn are_parts(definitions: &Definitions, t: u32, operands: &[Operand]) -> bool
     ensures { result ≡ are_parts_from definitions.now t 0 (ids_in (plain_operands operands.now)) }
 {
+    let parts = parts_of(definitions, t);
     let mut k = 0;
     for operand in operands {
         let Operand::Id(x) = operand else {
             return true;
         };
-        match part(definitions, t, k) {
+        match parts.at(k) {
             Some(u) if is_typed(definitions, u, *x) => k += 1,
             _ => return false,
         }

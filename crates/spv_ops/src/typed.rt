@@ -34,6 +34,7 @@ use spv_inst::{Inst, Module, Operand};
 use spv_layout::Plan;
 
 /// What follows the result type and the result.
+#[inline(always)]
 pub fn after_head<'o, 'a>(operands: &'o [Operand<'a>]) -> &'o [Operand<'a>]
     ensures { plain_operands result.now ≡ spec.after_head (plain_operands operands.now) }
 {

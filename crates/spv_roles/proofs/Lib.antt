@@ -1,3 +1,4 @@
 mod Casting
+mod Worked
 pub mod Listed
 pub mod Asking

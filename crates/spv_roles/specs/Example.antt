@@ -11,3 +11,11 @@ few =
     inst 54 (OfType 1 ∷ Result 3 ∷ []) ∷
     inst 7 (Result 4 ∷ []) ∷
     []
+
+-- %2 = OpUndef %5, where no instruction has the result %5
+abbrev pub stray : List PlainInst
+stray = inst 1 (OfType 5 ∷ Result 2 ∷ []) ∷ []
+
+-- %5 = OpExtInstImport .., before the few
+abbrev pub with_set : List PlainInst
+with_set = inst 11 (Result 5 ∷ []) ∷ few

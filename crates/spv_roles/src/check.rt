@@ -15,7 +15,7 @@ ghost use Rattle.spv_roles.specs.Known.{IsInRole, IsMiscast, AreInRoleBefore, Ha
 ghost use Rattle.spv_roles.specs.Outcome.{AreInRole, IsRefusal};
 
 use crate::asked::{Asked, asked_of};
-use crate::role::{are_values, defines_type, plays};
+use crate::role::{are_type_and, are_values, defines_type, plays};
 use spv_ids::Ids;
 use spv_inst::{Fault, Inst, Module, Operand, Rule};
 use spv_layout::{Plan, Role, role};
@@ -92,6 +92,40 @@ fn each_played(definitions: &Definitions<'_, '_>, asked: Asked, operands: &[Oper
     true
 }
 
+/// Whether types are types, and ids play the roles that are asked for. Operands of which one or two are looked at stand first: a
+/// result of one id, a function, a label, and a condition before two labels.
+#[inline(always)]
+fn are_few_played(definitions: &Definitions<'_, '_>, asked: Asked, operands: &[Operand<'_>]) -> bool
+    ensures { MatchBool result (ArePlayed definitions.now asked.first asked.others asked.masked (plain_operands operands.now))
+        (IsOneMiscast definitions.now asked.first asked.others asked.masked (plain_operands operands.now)) }
+{
+    match (asked.first, asked.others, operands) {
+        (first, _, [Operand::OfType(t), Operand::Result(_), Operand::Id(a)]) => are_type_and(
+            definitions,
+            *t,
+            first,
+            *a,
+        ),
+        (
+            _,
+            _,
+            [
+                Operand::OfType(t),
+                Operand::Result(_),
+                Operand::Mask { .. },
+                Operand::Id(a),
+            ],
+        ) => are_type_and(definitions, *t, asked.masked, *a),
+        (Role::Any, _, [Operand::Id(_)]) => true,
+        (first, Role::Any, [Operand::Id(a), Operand::Id(_), Operand::Id(_)]) => plays(
+            definitions,
+            first,
+            *a,
+        ),
+        _ => each_played(definitions, asked, operands),
+    }
+}
+
 /// Whether types are types, and ids play the roles that are asked for. Operands as they mostly stand are looked at first: a result
 /// of two values, and two values before a memory access of one literal.
 #[inline(always)]
@@ -120,7 +154,7 @@ fn are_played(definitions: &Definitions<'_, '_>, asked: Asked, operands: &[Opera
                 Operand::Word(_),
             ],
         ) => are_values(definitions, *a, *b),
-        _ => each_played(definitions, asked, operands),
+        _ => are_few_played(definitions, asked, operands),
     }
 }
 

@@ -8,7 +8,9 @@ ghost use Rattle.spv_layout.specs.declared.form.Role.TheVariants as role;
 ghost use Rattle.spv_roles.specs.Broken.{Broken};
 ghost use Rattle.spv_roles.specs.Outcome.{AreInRole};
 ghost use Rattle.spv_roles.specs.Role.{Plays};
-ghost use Rattle.spv_roles.specs.Example.{few};
+ghost use Rattle.spv_roles.specs.Example.{few, stray, with_set};
+ghost use Rattle.spv_ops.specs.Example.{lone_variable};
+ghost use Rattle.spv_inst.specs.declared.fault.Rule.TheVariants.{Y1};
 
 /// Where each id that is used plays its role, Y1 is broken nowhere.
 pub fn played_is_unbroken()
@@ -27,7 +29,19 @@ pub fn role_examples()
     ensures no_function { ¬ (Plays few role.Function 2) }
     ensures text { Plays few role.Text 4 }
     ensures no_text { ¬ (Plays few role.Text 1) }
+    ensures set { Plays with_set role.Set 5 }
     // There is no %5.
     ensures no_set { ¬ (Plays few role.Set 5) }
     ensures any { Plays few role.Any 5 }
+    // An OpVariable that stands alone is outside functions.
+    ensures global { Plays lone_variable role.Global 8 }
+    ensures no_global { ¬ (Plays lone_variable role.Global 7) }
+{}
+
+/// Instructions at which Y1 is broken or not.
+pub fn broken_examples()
+    // No instruction has the result %5, which is asked to be a type.
+    ensures stray { (G : Table) → Broken G stray Y1 0 }
+    // OpTypeVoid uses nothing.
+    ensures unused { (G : Table) → ¬ (Broken G few Y1 0) }
 {}

@@ -40,6 +40,7 @@ fn is_type(inst: &Inst<'_>) -> bool
 }
 
 /// Whether the definition of an id has an opcode.
+#[inline(always)]
 fn has_opcode(definitions: &Definitions<'_, '_>, id: u32, opcode: u16) -> bool
     ensures { IsTrue result ↔ IsSomeAnd (definition_of definitions.now id) (HasOpcode opcode) }
 {
@@ -96,4 +97,15 @@ pub fn plays(definitions: &Definitions<'_, '_>, role: Role, id: u32) -> bool
         Role::Global => definitions.is_global(id),
         Role::Label | Role::Any => true,
     }
+}
+
+/// Whether an id is that of a type, and another plays a role.
+#[inline(always)]
+pub fn are_type_and(definitions: &Definitions<'_, '_>, t: u32, due: Role, x: u32) -> bool
+    ensures { MatchBool result (Plays definitions.now role.OfType t × Plays definitions.now due x) ((¬ (Plays definitions.now role.OfType t)) ⊎ (¬ (Plays definitions.now due x))) }
+{
+    if !defines_type(definitions, t) {
+        return false;
+    }
+    plays(definitions, due, x)
 }

@@ -7,3 +7,5 @@ pub mod Adding
 pub mod Pointers
 pub mod Repeating
 pub mod Concerns
+pub mod Parted
+mod Worked

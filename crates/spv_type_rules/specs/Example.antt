@@ -1,6 +1,6 @@
 -- A small module: types, a constant, a function and a call.
 use Rattle.std.specs.Prelude.{List, [], ◌∷◌}
-use Rattle.spv_inst.specs.Operand.{OfType, Result, Id, Word, Number, Mask, PlainInst}
+use Rattle.spv_inst.specs.Operand.{OfType, Result, Id, Word, Number, Value, Mask, PlainInst}
 use Rattle.spv_ops.specs.Example.{inst}
 
 -- %6 = OpConstant %1 300, where %1 is an int of width 8
@@ -31,4 +31,28 @@ small =
     inst 54 (OfType 1 ∷ Result 4 ∷ Mask 9 0 ∷ Id 3 ∷ []) ∷  -- %4 = OpFunction %1 None %3
     inst 55 (OfType 1 ∷ Result 8 ∷ []) ∷  -- %8 = OpFunctionParameter %1
     inst 56 [] ∷  -- OpFunctionEnd
+    []
+
+-- %4 = OpFunction %1 None %3, and %8 = OpFunctionParameter %1
+abbrev pub function : PlainInst
+function = inst 54 (OfType 1 ∷ Result 4 ∷ Mask 9 0 ∷ Id 3 ∷ [])
+
+abbrev pub parameter : PlainInst
+parameter = inst 55 (OfType 1 ∷ Result 8 ∷ [])
+
+-- the small module after %10 = OpTypeStruct %1 %1 and %11 = OpTypeBool
+abbrev pub with_struct : List PlainInst
+with_struct = inst 30 (Result 10 ∷ Id 1 ∷ Id 1 ∷ []) ∷ inst 20 (Result 11 ∷ []) ∷ small
+
+-- OpTypeForwardPointer %1 CrossWorkgroup, and %1 = OpTypePointer CrossWorkgroup %1
+abbrev pub pointers : List PlainInst
+pointers = inst 39 (Id 1 ∷ Value 0 5 ∷ []) ∷ inst 32 (Result 1 ∷ Value 0 5 ∷ Id 1 ∷ []) ∷ []
+
+-- a function that returns void
+abbrev pub returning : List PlainInst
+returning =
+    inst 19 (Result 1 ∷ []) ∷  -- %1 = OpTypeVoid
+    inst 54 (OfType 1 ∷ Result 3 ∷ Mask 8 0 ∷ Id 2 ∷ []) ∷  -- %3 = OpFunction %1 None %2
+    inst 248 (Result 4 ∷ []) ∷  -- %4 = OpLabel
+    inst 253 [] ∷  -- OpReturn
     []

@@ -1,14 +1,18 @@
-ghost use Rattle.std.specs.Prelude.{◌≡◌, ◌↔◌, IsTrue, IsSomeAnd};
-ghost use Rattle.std.specs.List.{AllByRecursion};
+ghost use Rattle.std.specs.Prelude.{◌≡◌, ◌↔◌, Some, IsTrue, true, length, nat_eq};
 ghost use Rattle.spv_inst.specs.Module.{plain_inst, plain_operands};
+ghost use Rattle.spv_inst.specs.Operand as operand;
+ghost use Rattle.spv_inst.specs.Width.{definition_of};
 ghost use Rattle.spv_ops.specs.Operands.{ids_in};
+ghost use Rattle.spv_ops.specs.Parts.{count_of};
+ghost use Rattle.spv_ops.specs.Tests.{passes};
 ghost use Rattle.spv_ops.specs.Types.{IsBool};
 ghost use Rattle.spv_type_rules.specs.Constant as rules;
 ghost use Rattle.spv_type_rules.specs.declared.constant.Constant.TheVariants as constant_form;
-ghost use Rattle.spv_type_rules.specs.Constant.{FitsWidth, IsPart, AreConstantParts, Constitutes, IsSoundConstant};
+ghost use Rattle.spv_type_rules.specs.Constant.{FitsWidth, AreConstantParts, Constitutes, IsSoundConstant};
+ghost use Rattle.spv_type_rules.specs.Found as found;
 
 use spv_inst::{Inst, Operand};
-use spv_ops::{Definitions, Form, Scalar, after_head, fills, is_data, type_in};
+use spv_ops::{Definitions, Form, Scalar, after_head, count, id_count, is_data, parts_of, type_in};
 
 /// The constants by what they are made of (SPIR-V Specification 1.6, section 3.49.7), the spec forms too.
 #[derive(Clone, Copy, Debug, PartialEq, Eq)]
@@ -56,34 +60,62 @@ fn is_part_opcode(spec: bool, opcode: u16) -> bool
     }
 }
 
-fn is_part(definitions: &Definitions, spec: bool, x: u32) -> bool
-    ensures { IsTrue result ↔ IsPart definitions.now spec x }
+/// Whether the result of an instruction is of a type.
+#[inline(always)]
+fn is_of_type(inst: &Inst, t: u32) -> bool
+    ensures { result ≡ passes (λ u. nat_eq u t) (operand.type_in (plain_inst inst.now).operands) }
 {
-    match definitions.definition(x) {
-        Some(inst) => is_part_opcode(spec, inst.opcode),
+    match type_in(inst.operands.as_slice()) {
+        Some(u) => u == t,
         None => false,
     }
 }
 
-/// Whether a composite constant may be made of the ids at the front of the operands.
-fn are_parts(definitions: &Definitions, spec: bool, operands: &[Operand]) -> bool
-    ensures { IsTrue result ↔ AllByRecursion (IsPart definitions.now spec) (ids_in (plain_operands operands.now)) }
+/// Whether an id stands for a value of a part's type, of which a composite constant may be made.
+#[inline(always)]
+fn is_typed_part(definitions: &Definitions, spec: bool, part: Option<u32>, x: u32) -> bool
+    ensures { result ≡ found.is_typed_part spec part (definition_of definitions.now x) }
 {
+    match (definitions.definition(x), part) {
+        (Some(inst), Some(t)) => is_of_type(inst, t) && is_part_opcode(spec, inst.opcode),
+        _ => false,
+    }
+}
+
+/// Whether the ids at the front of the operands stand for such values, for the parts of a type in order.
+fn are_typed_parts(definitions: &Definitions, spec: bool, r: u32, operands: &[Operand]) -> bool
+    ensures { result ≡ found.are_typed_parts definitions.now spec r 0 (ids_in (plain_operands operands.now)) }
+{
+    let parts = parts_of(definitions, r);
+    let mut k = 0;
     for operand in operands {
         let Operand::Id(x) = operand else {
             return true;
         };
-        if !is_part(definitions, spec, *x) {
+        if !is_typed_part(definitions, spec, parts.at(k), *x) {
             return false;
         }
+        k += 1;
     }
     true
 }
 
+/// Whether they do, and there are as many as parts.
+fn are_all_parts(definitions: &Definitions, spec: bool, r: u32, operands: &[Operand]) -> bool
+    ensures { IsTrue result ↔ ((found.are_typed_parts definitions.now spec r 0 (ids_in (plain_operands operands.now)) ≡ true) × (count_of definitions.now r ≡ Some (length (ids_in (plain_operands operands.now))))) }
+{
+    match count(definitions, r) {
+        Some(count) => count == id_count(operands) as u64
+            && are_typed_parts(definitions, spec, r, operands),
+        None => false,
+    }
+}
+
+/// Whether a composite constant of a type may be made of the ids at the front of the operands.
 fn are_constant_parts(definitions: &Definitions, spec: bool, r: u32, operands: &[Operand]) -> bool
     ensures { IsTrue result ↔ AreConstantParts definitions.now spec r (ids_in (plain_operands operands.now)) }
 {
-    are_parts(definitions, spec, operands) && fills(definitions, r, operands)
+    are_all_parts(definitions, spec, r, operands)
 }
 
 fn is_bool(definitions: &Definitions, r: u32) -> bool

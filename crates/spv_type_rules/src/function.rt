@@ -24,6 +24,7 @@ pub struct Function<'m, 'a> {
 }
 
 /// The function that the instruction of a number is of.
+#[inline(always)]
 fn function_of<'m, 'a>(definitions: &Definitions<'m, 'a>, number: u32) -> Option<Function<'m, 'a>>
     requires { number < length definitions.now }
     ensures { MatchOption result ((f : ℕ) → ¬ (IsOfFunction definitions.now number f)) (λ f. IsOfOne definitions.now number f.number (plain_inst f.inst.now)) }
@@ -39,11 +40,12 @@ fn function_of<'m, 'a>(definitions: &Definitions<'m, 'a>, number: u32) -> Option
 }
 
 /// Whether a function returns void.
+#[inline(always)]
 fn returns_nothing(definitions: &Definitions, function: &Inst) -> bool
     ensures { IsTrue result ↔ ReturnsNothing definitions.now (plain_inst function.now) }
 {
     match type_in(function.operands.as_slice()) {
-        Some(r) => match definitions.form(r) {
+        Some(r) => match definitions.read_form(r) {
             Some(Form::Void) => true,
             _ => false,
         },
@@ -52,6 +54,7 @@ fn returns_nothing(definitions: &Definitions, function: &Inst) -> bool
 }
 
 /// Whether Y7 is unbroken at the OpReturn of a number.
+#[inline(always)]
 pub fn is_sound_return(definitions: &Definitions, number: u32) -> bool
     requires { number < length definitions.now }
     ensures { IsTrue result ↔ IsSoundReturn definitions.now number }
@@ -90,6 +93,7 @@ pub fn is_sound_return_value(definitions: &Definitions, number: u32, inst: &Inst
 }
 
 /// The function type that an OpFunction names.
+#[inline(always)]
 fn function_type(function: &Inst) -> Option<u32>
     ensures { result ≡ function_type_in (plain_inst function.now) }
 {
@@ -100,6 +104,7 @@ fn function_type(function: &Inst) -> Option<u32>
 }
 
 /// What follows the result of a function's type: what it returns, and what it takes.
+#[inline(always)]
 fn signature<'m, 'a>(
     definitions: &Definitions<'m, 'a>,
     function: &Inst,
@@ -147,6 +152,7 @@ fn are_all_typed(definitions: &Definitions, arguments: &[Operand], types: &[Oper
 }
 
 /// Whether what a function type names is r, and then the types that the ids at the front of the arguments are declared with.
+#[inline(always)]
 fn fits_signature(
     definitions: &Definitions,
     r: u32,
@@ -163,6 +169,7 @@ fn fits_signature(
 }
 
 /// Whether a function returns r and takes the types that the arguments are declared with.
+#[inline(always)]
 fn takes(definitions: &Definitions, r: u32, callee: &Inst, arguments: &[Operand]) -> bool
     ensures { IsTrue result ↔ IsSomeAnd (types_of definitions.now (ids_in (plain_operands arguments.now))) (CallsTyped definitions.now (plain_inst callee.now) r) }
 {
@@ -173,6 +180,7 @@ fn takes(definitions: &Definitions, r: u32, callee: &Inst, arguments: &[Operand]
 }
 
 /// Whether the operands after the head of a call with the result type r begin with a function of that type.
+#[inline(always)]
 fn calls_soundly(definitions: &Definitions, r: u32, operands: &[Operand]) -> bool
     ensures { IsTrue result ↔ CallsSoundly definitions.now r (plain_operands operands.now) }
 {
@@ -186,6 +194,7 @@ fn calls_soundly(definitions: &Definitions, r: u32, operands: &[Operand]) -> boo
 }
 
 /// Whether Y8 is unbroken at an OpFunctionCall.
+#[inline(always)]
 pub fn is_sound_call(definitions: &Definitions, inst: &Inst) -> bool
     ensures { IsTrue result ↔ IsSoundCall definitions.now (plain_inst inst.now) }
 {
@@ -204,6 +213,7 @@ fn ends_parameters(opcode: u16) -> bool
 }
 
 /// How many parameters there are before the first OpLabel or OpFunctionEnd.
+#[inline(always)]
 pub fn count_parameters(insts: &[Inst]) -> usize
     ensures { result ≡ parameters_in (map plain_inst insts.now) }
 {
@@ -220,6 +230,7 @@ pub fn count_parameters(insts: &[Inst]) -> usize
 }
 
 /// Whether a function type's return type is r, and so many parameters follow it.
+#[inline(always)]
 fn returns_after(r: Option<u32>, count: usize, signature: &[Operand]) -> bool
     ensures { IsTrue result ↔ ReturnsAfter r count (plain_operands signature.now) }
 {
@@ -230,6 +241,7 @@ fn returns_after(r: Option<u32>, count: usize, signature: &[Operand]) -> bool
 }
 
 /// Whether Y6 is unbroken at the OpFunction of a number, which so many parameters follow.
+#[inline(always)]
 pub fn is_sound_function(definitions: &Definitions, number: u32, inst: &Inst, count: usize) -> bool
     requires { parameters_after definitions.now number ≡ count }
     ensures { IsTrue result ↔ IsSoundFunction definitions.now number (plain_inst inst.now) }

@@ -1,16 +1,18 @@
 //! Worked examples. Each function does nothing: its contract is what is proved.
 
-ghost use Rattle.std.specs.Prelude.{◌≡◌, [], ◌∷◌};
+ghost use Rattle.std.specs.Prelude.{◌≡◌, [], ◌∷◌, Some, false};
 ghost use Rattle.spv_grammar.specs.Table.{Table};
 ghost use Rattle.spv_inst.specs.declared.fault.Rule.TheVariants as rule;
-ghost use Rattle.spv_inst.specs.Operand.{PlainInst, OfType, Result, Id, Word, Mask};
+ghost use Rattle.spv_inst.specs.Operand.{PlainInst, OfType, Result, Id, Word, Value, Mask};
 ghost use Rattle.spv_ops.specs.Example.{inst};
-ghost use Rattle.spv_type_rules.specs.Declaration.{IsSoundDeclaration};
-ghost use Rattle.spv_type_rules.specs.Constant.{IsSoundConstant};
-ghost use Rattle.spv_type_rules.specs.Repeat.{Repeats};
-ghost use Rattle.spv_type_rules.specs.Function.{IsSoundFunction, IsSoundCall, ReturnsNothing, ReturnsTyped, parameters_between};
+ghost use Rattle.spv_type_rules.specs.Declaration.{IsIntWidth, IsFloatWidth, IsVectorCount, IsLength, IsPointee, IsReturned, IsPointerAfter, Declares, IsSoundDeclaration};
+ghost use Rattle.spv_type_rules.specs.declared.declaration.Declaration.TheVariants as kind;
+ghost use Rattle.spv_type_rules.specs.declared.constant.Constant.TheVariants as constant_kind;
+ghost use Rattle.spv_type_rules.specs.Constant.{IsPart, FitsWidth, AreConstantParts, Constitutes, IsSoundConstant};
+ghost use Rattle.spv_type_rules.specs.Repeat.{AreAlike, Repeats};
+ghost use Rattle.spv_type_rules.specs.Function.{ReturnsAfter, IsSoundFunction, IsSoundParameter, IsSoundReturn, IsSoundReturnValue, CallsTyped, IsSoundCall, ReturnsNothing, ReturnsTyped, parameters_between};
 ghost use Rattle.spv_type_rules.specs.Keeps.{Keeps};
-ghost use Rattle.spv_type_rules.specs.Example.{small, constant, wide_constant, again, call, short_call};
+ghost use Rattle.spv_type_rules.specs.Example.{small, constant, wide_constant, again, call, short_call, function, parameter, with_struct, pointers, returning};
 
 /// Declarations and constants of a small module that are sound, and such as are not.
 pub fn declaration_examples()
@@ -49,4 +51,74 @@ pub fn demand_examples()
     ensures no_constant { (G : Table) → ¬ (Keeps G small rule.Y4 7 wide_constant) }
     ensures call { (G : Table) → Keeps G small rule.Y8 7 call }
     ensures no_call { (G : Table) → ¬ (Keeps G small rule.Y8 7 short_call) }
+{}
+
+/// Widths, counts, lengths, and what pointers and functions may name.
+pub fn width_examples()
+    ensures int_width { IsIntWidth 16 }
+    ensures no_int_width { ¬ (IsIntWidth 24) }
+    ensures float_width { IsFloatWidth 64 }
+    ensures no_float_width { ¬ (IsFloatWidth 8) }
+    ensures count { IsVectorCount 3 }
+    ensures no_count { ¬ (IsVectorCount 5) }
+    ensures length { IsLength small 5 }
+    ensures no_length { ¬ (IsLength small 2) }
+    // `%2` is void, which is returned and not pointed to; `%3` is a function type.
+    ensures pointee { IsPointee small 1 }
+    ensures no_pointee { ¬ (IsPointee small 2) }
+    ensures returned { IsReturned small 2 }
+    ensures not_returned { ¬ (IsReturned small 3) }
+    // The pointer stands after the first instruction, and is of CrossWorkgroup.
+    ensures pointer_after { IsPointerAfter pointers 0 1 5 }
+    ensures other_class { ¬ (IsPointerAfter pointers 0 1 7) }
+{}
+
+/// Operands of declarations.
+pub fn operand_examples()
+    ensures int { Declares small 7 kind.Int (Result 9 ∷ Word 16 ∷ Word 0 ∷ []) }
+    ensures signed { ¬ (Declares small 7 kind.Int (Result 9 ∷ Word 16 ∷ Word 1 ∷ [])) }
+    ensures float { Declares small 7 kind.Float (Result 9 ∷ Word 32 ∷ []) }
+    ensures short_float { ¬ (Declares small 7 kind.Float (Result 9 ∷ Word 8 ∷ [])) }
+    ensures members { Declares small 7 kind.Struct (Result 9 ∷ Id 1 ∷ Id 1 ∷ []) }
+    ensures void_member { ¬ (Declares small 7 kind.Struct (Result 9 ∷ Id 2 ∷ [])) }
+    ensures pointer { Declares small 7 kind.Pointer (Result 9 ∷ Value 0 5 ∷ Id 1 ∷ []) }
+    ensures void_pointer { ¬ (Declares small 7 kind.Pointer (Result 9 ∷ Value 0 5 ∷ Id 2 ∷ [])) }
+    ensures function { Declares small 7 kind.Function (Result 9 ∷ Id 2 ∷ Id 1 ∷ []) }
+    ensures void_parameter { ¬ (Declares small 7 kind.Function (Result 9 ∷ Id 1 ∷ Id 2 ∷ [])) }
+    ensures forward { Declares pointers 0 kind.Forward (Id 1 ∷ Value 0 5 ∷ []) }
+    ensures other_forward { ¬ (Declares pointers 0 kind.Forward (Id 1 ∷ Value 0 7 ∷ [])) }
+{}
+
+/// What constants are made of.
+pub fn part_examples()
+    ensures part { IsPart small false 5 }
+    ensures no_part { ¬ (IsPart small false 1) }
+    ensures fits { FitsWidth small 1 255 }
+    ensures wide { ¬ (FitsWidth small 1 256) }
+    ensures parts { AreConstantParts with_struct false 10 (5 ∷ 5 ∷ []) }
+    ensures one_part { ¬ (AreConstantParts with_struct false 10 (5 ∷ [])) }
+    ensures boolean { Constitutes with_struct constant_kind.Bool 11 [] }
+    ensures no_boolean { ¬ (Constitutes with_struct constant_kind.Bool 1 []) }
+    ensures null { Constitutes small constant_kind.Null 1 [] }
+    ensures void_null { ¬ (Constitutes small constant_kind.Null 2 []) }
+    // The same opcode and operands, the result aside.
+    ensures alike { AreAlike again (inst 21 (Result 1 ∷ Word 8 ∷ Word 0 ∷ [])) }
+    ensures unlike { ¬ (AreAlike again (inst 21 (Result 7 ∷ Word 16 ∷ Word 0 ∷ []))) }
+{}
+
+/// Signatures, parameters and returns.
+pub fn return_examples()
+    ensures after { ReturnsAfter (Some 1) 1 (Id 1 ∷ Id 1 ∷ []) }
+    ensures fewer { ¬ (ReturnsAfter (Some 1) 2 (Id 1 ∷ Id 1 ∷ [])) }
+    ensures called { CallsTyped small function 1 (1 ∷ []) }
+    ensures no_argument { ¬ (CallsTyped small function 1 []) }
+    ensures nothing { ReturnsNothing returning (inst 54 (OfType 1 ∷ Result 3 ∷ Mask 8 0 ∷ Id 2 ∷ [])) }
+    // The parameter of the function stands at instruction 5, as would a value that is returned.
+    ensures parameter { IsSoundParameter small 5 parameter }
+    ensures other_parameter { ¬ (IsSoundParameter small 5 (inst 55 (OfType 2 ∷ Result 8 ∷ []))) }
+    ensures value { IsSoundReturnValue small 5 (inst 254 (Id 5 ∷ [])) }
+    // `%2` is a type, and has none.
+    ensures no_value { ¬ (IsSoundReturnValue small 5 (inst 254 (Id 2 ∷ []))) }
+    ensures void_return { IsSoundReturn returning 3 }
+    ensures int_return { ¬ (IsSoundReturn small 5) }
 {}

@@ -1,6 +1,6 @@
 //! Types that are declared twice.
 
-ghost use Rattle.std.specs.Prelude.{◌≡◌, ◌+◌, ◌++◌, ◌↔◌, ◌⊎◌, ℕ, List, Some, IsTrue, IfOk, OnOk, slice_get, map, [], ◌∷◌, MatchBool};
+ghost use Rattle.std.specs.Prelude.{◌≡◌, ◌+◌, ◌++◌, ◌↔◌, ◌⊎◌, ℕ, List, Some, IsTrue, IfOk, OnOk, slice_get, map, [], ◌∷◌, MatchBool, true};
 ghost use Rattle.spv_inst.specs.Operand.{PlainInst};
 ghost use Rattle.spv_inst.specs.Module.{plain_inst, plain_operand};
 ghost use Rattle.spv_type_rules.specs.Repeat as spec;
@@ -142,9 +142,23 @@ impl Seen {
         Ok(added)
     }
 
+    /// Whether an instruction declares a type again that may be declared once only. It is then among those that are declared.
+    #[inline(never)]
+    fn is_declared_again(&mut self, alloc: Global, inst: &Inst<'_>) -> Result<bool, AllocError>
+        requires { spec.is_declared_once (plain_inst inst.now).opcode ≡ true }
+        ensures repeats { IfOk result (λ r. (is : List PlainInst) (n : ℕ) → slice_get is n ≡ Some (plain_inst inst.now) → AreSeen is n self.old
+            → IsTrue r ↔ Repeats is n (plain_inst inst.now)) }
+        ensures seen { OnOk result ((is : List PlainInst) (n : ℕ) → slice_get is n ≡ Some (plain_inst inst.now) → AreSeen is n self.old → AreSeen is (n + 1) self.new) }
+    {
+        let key = key_of(alloc, inst)?;
+        let added = self.add(key)?;
+        Ok(!added)
+    }
+
     /// Whether an instruction declares a type again. It is then among those that are declared.
     ///
     /// An `AllocError` comes only where a growth of memory was refused.
+    #[inline(always)]
     pub fn repeats(&mut self, alloc: Global, inst: &Inst<'_>) -> Result<bool, AllocError>
         ensures repeats { IfOk result (λ r. (is : List PlainInst) (n : ℕ) → slice_get is n ≡ Some (plain_inst inst.now) → AreSeen is n self.old
             → IsTrue r ↔ Repeats is n (plain_inst inst.now)) }
@@ -153,8 +167,6 @@ impl Seen {
         if !is_declared_once(inst.opcode) {
             return Ok(false);
         }
-        let key = key_of(alloc, inst)?;
-        let added = self.add(key)?;
-        Ok(!added)
+        self.is_declared_again(alloc, inst)
     }
 }

@@ -69,6 +69,7 @@ impl<'m, 'a> Rules<'m, 'a> {
     }
 
     /// Whether Y6 is unbroken at an instruction.
+    #[inline(never)]
     fn keeps_functions(&self, number: u32, inst: &Inst<'a>, parameters: u32) -> bool
         requires rules { AreRules self.now }
         requires inst { slice_get (rules_insts self.now) number ≡ Some (plain_inst inst.now) }
@@ -86,6 +87,7 @@ impl<'m, 'a> Rules<'m, 'a> {
     }
 
     /// Whether Y7 is unbroken at an instruction.
+    #[inline(never)]
     fn keeps_returns(&self, number: u32, inst: &Inst<'a>) -> bool
         requires rules { AreRules self.now }
         requires inst { slice_get (rules_insts self.now) number ≡ Some (plain_inst inst.now) }
@@ -99,6 +101,7 @@ impl<'m, 'a> Rules<'m, 'a> {
     }
 
     /// Whether Y8 is unbroken at an instruction.
+    #[inline(never)]
     fn keeps_calls(&self, inst: &Inst<'a>) -> bool
         requires { AreRules self.now }
         ensures { IsTrue result ↔ CallsAreSound (rules_insts self.now) (plain_inst inst.now) }
@@ -112,6 +115,7 @@ impl<'m, 'a> Rules<'m, 'a> {
 
     /// The first of the rules Y2 to Y8 that is broken at the instruction of a number, by what is known of those before it.
     /// Time is linear in the instruction's words; at an OpFunction, in those up to its first block too.
+    #[inline(always)]
     pub fn first_at(&self, number: u32, inst: &Inst<'a>, known: Known) -> Option<Rule>
         requires rules { AreRules self.now }
         requires inst { slice_get (rules_insts self.now) number ≡ Some (plain_inst inst.now) }

@@ -1,4 +1,4 @@
-use Rattle.std.proofs.Common.{[], ◌∷◌, refl, inr}
+use Rattle.std.proofs.Common.{[], ◌∷◌, refl, inl, inr}
 use Rattle.spv_ops.specs.Reach.{Reaches, Chooses}
 use Rattle.spv_ops.proofs.Worked.{chain_forms, add_forms}
 use Rattle.spv_ops.proofs.laws.row_examples.Goals as goal
@@ -24,3 +24,6 @@ returns-clause-chain c = inr (
     },
   ),
 )
+
+pub returns-clause-at : goal.returns-clause-at
+returns-clause-at c = record { inst = _; there = refl; typed = inl refl }
