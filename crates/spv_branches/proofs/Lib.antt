@@ -7,3 +7,4 @@ pub mod Gathering
 pub mod Entries
 pub mod Taking
 pub mod Firsts
+pub mod Direct

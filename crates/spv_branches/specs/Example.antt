@@ -1,6 +1,6 @@
 -- Small examples.
 use Rattle.std.specs.Prelude.{ℕ, List, [], ◌∷◌}
-use Rattle.spv_inst.specs.Operand.{Result, Id, PlainInst}
+use Rattle.spv_inst.specs.Operand.{OfType, Result, Id, PlainInst}
 
 -- %x = OpLabel
 abbrev pub label : ℕ → PlainInst
@@ -24,3 +24,25 @@ return_void = record { opcode = 253; operands = [] }
 -- %1 = OpLabel, OpBranch %2, %2 = OpLabel, OpReturn
 abbrev pub two_blocks : List PlainInst
 two_blocks = function ∷ label 1 ∷ branch 2 ∷ label 2 ∷ return_void ∷ []
+
+-- %9 = OpPhi %20 %5 %p, and with no pair
+abbrev pub phi : ℕ → PlainInst
+phi p = record { opcode = 245; operands = OfType 20 ∷ Result 9 ∷ Id 5 ∷ Id p ∷ [] }
+
+abbrev pub bare_phi : PlainInst
+bare_phi = record { opcode = 245; operands = OfType 20 ∷ Result 9 ∷ [] }
+
+-- %1 = OpLabel, OpBranch %2, %2 = OpLabel, and an OpPhi that names the block of %p, or none
+abbrev pub paired : ℕ → List PlainInst
+paired p = function ∷ label 1 ∷ branch 2 ∷ label 2 ∷ phi p ∷ []
+
+abbrev pub unpaired : List PlainInst
+unpaired = function ∷ label 1 ∷ branch 2 ∷ label 2 ∷ bare_phi ∷ []
+
+-- %r = OpNot %20 %x
+abbrev pub negation : ℕ → ℕ → PlainInst
+negation r x = record { opcode = 200; operands = OfType 20 ∷ Result r ∷ Id x ∷ [] }
+
+-- %1 = OpLabel, %6 = OpNot %20 %7, %7 = OpNot %20 %6
+abbrev pub early : List PlainInst
+early = function ∷ label 1 ∷ negation 6 7 ∷ negation 7 6 ∷ []

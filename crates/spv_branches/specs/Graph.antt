@@ -74,6 +74,20 @@ AreTargets G is n Lacking = LacksLabel G is n
 AreTargets G is n Entering = HasLabels G is n × LeadsToEntry G is n
 AreTargets G is n Sound = HasLabels G is n × ¬ (LeadsToEntry G is n)
 
+-- What is found of one label.
+abbrev pub IsTargetOf : List PlainInst → ℕ → Targets → Type 0
+IsTargetOf is x Lacking = (m : ℕ) → ¬ (IsLabelOf is x m)
+IsTargetOf is x Entering = (m : ℕ) × IsLabelOf is x m × IsEntryLabel is m
+IsTargetOf is x Sound = (m : ℕ) × IsLabelOf is x m × ¬ (IsEntryLabel is m)
+
+-- what is found of two labels together
+abbrev pub joined : Targets → Targets → Targets
+joined Lacking t = Lacking
+joined Entering Lacking = Lacking
+joined Entering Entering = Entering
+joined Entering Sound = Entering
+joined Sound t = t
+
 -- Operands 1 and 2 of instruction n are the same label.
 pub record HasSameLabels (G : Table) (is : List PlainInst) (n : ℕ) : Type 0 where
   pub id : ℕ

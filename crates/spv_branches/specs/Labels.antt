@@ -6,6 +6,10 @@ use Rattle.spv_branches.specs.Target.{is_phi, is_merge, is_branch}
 abbrev pub is_labelled : ℕ → Bool
 is_labelled opcode = is_phi opcode || (is_merge opcode || is_branch opcode)
 
+-- that of OpBranch
+abbrev pub is_jump : ℕ → Bool
+is_jump opcode = nat_eq opcode 249
+
 -- whether operand n of such an instruction is a label, if there is one: of OpSwitch, OpPhi, OpBranchConditional, OpLoopMerge,
 -- and OpBranch and OpSelectionMerge
 abbrev pub is_label_at : ℕ → ℕ → Bool

@@ -61,7 +61,7 @@ impl Code<'_, '_> {
     }
 }
 
-/// The opcodes of OpFunction, OpPhi, OpLoopMerge, OpLabel, OpBranchConditional and OpSwitch.
+/// The opcodes of OpFunction, OpPhi, OpLoopMerge, OpLabel, OpBranch, OpBranchConditional and OpSwitch.
 pub const FUNCTION: u16 = 54;
 
 pub const PHI: u16 = 245;
@@ -69,6 +69,8 @@ pub const PHI: u16 = 245;
 pub const LOOP_MERGE: u16 = 246;
 
 pub const LABEL: u16 = 248;
+
+pub const BRANCH: u16 = 249;
 
 pub const BRANCH_CONDITIONAL: u16 = 250;
 

@@ -4,13 +4,15 @@ ghost use Rattle.std.specs.Prelude.{◌≡◌, ◌<◌, ℕ, true, false, length
 ghost use Rattle.spv_grammar.specs.Table.{Table};
 ghost use Rattle.spv_branches.specs.Code.{insts_of, IsCode};
 ghost use Rattle.spv_branches.specs.Edges.{IsEdges, marked};
-ghost use Rattle.spv_branches.specs.Graph.{AreGathered, AreEntries, CanTake, Takes, HasLabels, LacksLabel, AreTargets, HasSameLabels};
-ghost use Rattle.spv_branches.specs.Labels.{is_labelled};
+ghost use Rattle.spv_branches.specs.Graph.{AreGathered, AreEntries, CanTake, Takes, HasLabels, LacksLabel, IsTargetOf, AreTargets, HasSameLabels};
+ghost use Rattle.spv_branches.specs.Graph as graph;
+ghost use Rattle.spv_branches.specs.Labels.{is_labelled, is_jump};
 ghost use Rattle.spv_branches.specs.Target.{IsOp, HasParents};
+ghost use Rattle.spv_branches.specs.Target as target;
 
-use crate::code::Code;
+use crate::code::{BRANCH, BRANCH_CONDITIONAL, Code};
 use crate::edges::Edges;
-use crate::labels::label;
+use crate::labels::{id_at, label};
 
 /// What the labels of a branch are.
 #[derive(Clone, Copy, Debug)]
@@ -86,8 +88,8 @@ pub fn has_labels(code: &Code<'_, '_>, at: u32) -> bool
     true
 }
 
-/// Looks at the labels of a branch.
-pub fn targets_of(code: &Code<'_, '_>, entries: &[bool], at: u32) -> Targets
+/// Looks at the labels of a branch, operand by operand.
+fn targets_by_operand(code: &Code<'_, '_>, entries: &[bool], at: u32) -> Targets
     requires at { at < length code.now.insts.now }
     requires op { IsOp (insts_of code.now) at is_labelled }
     requires count { length entries.now ≡ length code.now.insts.now }
@@ -113,17 +115,107 @@ pub fn targets_of(code: &Code<'_, '_>, entries: &[bool], at: u32) -> Targets
     }
 }
 
-/// Whether operands 1 and 2 of an instruction are the same label.
+/// Looks at one label.
+#[inline(always)]
+fn target_of(code: &Code<'_, '_>, entries: &[bool], id: u32) -> Targets
+    requires count { length entries.now ≡ length code.now.insts.now }
+    requires entries { AreEntries (insts_of code.now) entries.now (length code.now.insts.now) }
+    ensures { (G : Table) → IsCode G code.now → IsTargetOf (insts_of code.now) id result }
+{
+    let Some(target) = code.label_of(id) else {
+        return Targets::Lacking;
+    };
+    if entries[target as usize] {
+        Targets::Entering
+    } else {
+        Targets::Sound
+    }
+}
+
+/// What two labels are together.
+#[inline(always)]
+fn joined(one: Targets, two: Targets) -> Targets
+    ensures { result ≡ graph.joined one two }
+{
+    match one {
+        Targets::Lacking => Targets::Lacking,
+        Targets::Entering => match two {
+            Targets::Lacking => Targets::Lacking,
+            Targets::Entering => Targets::Entering,
+            Targets::Sound => Targets::Entering,
+        },
+        Targets::Sound => two,
+    }
+}
+
+/// Looks at the two labels of an OpBranchConditional.
+#[inline(always)]
+fn conditional_targets(code: &Code<'_, '_>, entries: &[bool], at: u32) -> Targets
+    requires at { at < length code.now.insts.now }
+    requires op { IsOp (insts_of code.now) at target.is_conditional }
+    requires count { length entries.now ≡ length code.now.insts.now }
+    requires entries { AreEntries (insts_of code.now) entries.now (length code.now.insts.now) }
+    ensures { (G : Table) → IsCode G code.now → AreTargets G (insts_of code.now) at result }
+{
+    let inst = &code.insts[at as usize];
+    let Some(one) = id_at(inst, 1) else {
+        return targets_by_operand(code, entries, at);
+    };
+    let Some(two) = id_at(inst, 2) else {
+        return targets_by_operand(code, entries, at);
+    };
+    let first = target_of(code, entries, one);
+    let second = target_of(code, entries, two);
+    joined(first, second)
+}
+
+/// Looks at the label of an OpBranch.
+#[inline(always)]
+fn jump_targets(code: &Code<'_, '_>, entries: &[bool], at: u32) -> Targets
+    requires at { at < length code.now.insts.now }
+    requires op { IsOp (insts_of code.now) at is_jump }
+    requires count { length entries.now ≡ length code.now.insts.now }
+    requires entries { AreEntries (insts_of code.now) entries.now (length code.now.insts.now) }
+    ensures { (G : Table) → IsCode G code.now → AreTargets G (insts_of code.now) at result }
+{
+    let inst = &code.insts[at as usize];
+    let Some(id) = id_at(inst, 0) else {
+        return targets_by_operand(code, entries, at);
+    };
+    target_of(code, entries, id)
+}
+
+/// Looks at the labels of a branch.
+#[inline(always)]
+pub fn targets_of(code: &Code<'_, '_>, entries: &[bool], at: u32) -> Targets
+    requires at { at < length code.now.insts.now }
+    requires op { IsOp (insts_of code.now) at target.is_branch }
+    requires count { length entries.now ≡ length code.now.insts.now }
+    requires entries { AreEntries (insts_of code.now) entries.now (length code.now.insts.now) }
+    ensures { (G : Table) → IsCode G code.now → AreTargets G (insts_of code.now) at result }
+{
+    let opcode = code.insts[at as usize].opcode;
+    if opcode == BRANCH_CONDITIONAL {
+        return conditional_targets(code, entries, at);
+    }
+    if opcode == BRANCH {
+        return jump_targets(code, entries, at);
+    }
+    targets_by_operand(code, entries, at)
+}
+
+/// Whether the two labels of an OpBranchConditional are the same.
+#[inline(always)]
 pub fn has_same_labels(code: &Code<'_, '_>, at: u32) -> bool
     requires at { at < length code.now.insts.now }
-    requires op { IsOp (insts_of code.now) at is_labelled }
+    requires op { IsOp (insts_of code.now) at target.is_conditional }
     ensures { (G : Table) → IsCode G code.now → MatchBool result (HasSameLabels G (insts_of code.now) at) (¬ (HasSameLabels G (insts_of code.now) at)) }
 {
     let inst = &code.insts[at as usize];
-    let Some(one) = label(inst, 1) else {
+    let Some(one) = id_at(inst, 1) else {
         return false;
     };
-    let Some(two) = label(inst, 2) else {
+    let Some(two) = id_at(inst, 2) else {
         return false;
     };
     one == two

@@ -27,7 +27,7 @@ fn id_of(operand: Operand<'_>) -> Option<u32>
 
 /// The id that operand `n` is, if there is one.
 #[inline(always)]
-fn id_at(inst: &Inst<'_>, n: usize) -> Option<u32>
+pub fn id_at(inst: &Inst<'_>, n: usize) -> Option<u32>
     ensures { result ≡ option_and_then shape.id_of (slice_get (plain_inst inst.now).operands n) }
 {
     let operands = inst.operands.as_slice();

@@ -5,13 +5,13 @@ ghost use Rattle.spv_grammar.specs.Table.{Table};
 ghost use Rattle.spv_inst.specs.Operand.{PlainInst};
 ghost use Rattle.spv_inst.specs.Example.{small};
 ghost use Rattle.spv_inst.specs.declared.fault.Rule.{Rule};
-ghost use Rattle.spv_inst.specs.declared.fault.Rule.TheVariants.{F1, F4};
+ghost use Rattle.spv_inst.specs.declared.fault.Rule.TheVariants.{F1, F2, F3, F4, A1};
 ghost use Rattle.spv_layout.specs.First.{IsFirst};
-ghost use Rattle.spv_branches.specs.Target.{IsLabelOf, IsTarget, IsEntryLabel};
-ghost use Rattle.spv_branches.specs.Walk.{Next, IsResultAmong, IsLastLabel};
-ghost use Rattle.spv_branches.specs.Ready.{IsMissing, IsPairMissing, IsReady};
+ghost use Rattle.spv_branches.specs.Target.{IsLabelOf, IsTarget, Leads, IsPredecessor, HasParents, IsEntryLabel};
+ghost use Rattle.spv_branches.specs.Walk.{Next, IsWalk, IsResultAmong, IsLastLabel};
+ghost use Rattle.spv_branches.specs.Ready.{IsLocalValue, IsMissing, IsPairMissing, IsReady};
 ghost use Rattle.spv_branches.specs.Broken.{Broken};
-ghost use Rattle.spv_branches.specs.Example.{branch, conditional, two_blocks};
+ghost use Rattle.spv_branches.specs.Example.{branch, conditional, label, function, two_blocks, paired, unpaired, early};
 
 /// Of each stage at most one rule is broken first, at one instruction.
 pub fn one_fault()
@@ -45,4 +45,29 @@ pub fn flow_examples()
     ensures not_last { ¬ (IsLastLabel two_blocks (2 ∷ 1 ∷ 0 ∷ []) 2 (1 ∷ 0 ∷ [])) }
     ensures defined { IsResultAmong two_blocks (2 ∷ 1 ∷ 0 ∷ []) 1 }
     ensures undefined { ¬ (IsResultAmong two_blocks (2 ∷ 1 ∷ 0 ∷ []) 2) }
+    // A walk to the return, and none from the first OpLabel to the second.
+    ensures walk { IsWalk small two_blocks 0 (3 ∷ 2 ∷ 1 ∷ 0 ∷ []) 4 }
+    ensures no_walk { ¬ (IsWalk small two_blocks 0 (1 ∷ 0 ∷ []) 3) }
+    // The first block leads to the second, and not to itself.
+    ensures leads { Leads small two_blocks 2 1 3 }
+    ensures not_back { ¬ (Leads small two_blocks 2 1 1) }
+    // A branch to the entry block, and one to another.
+    ensures to_entry { Broken small (function ∷ label 1 ∷ branch 1 ∷ []) F2 2 }
+    ensures to_other { ¬ (Broken small two_blocks F2 2) }
+{}
+
+/// Parents of an OpPhi, and values that a walk has or misses.
+pub fn ready_examples()
+    // The second block has the first as its predecessor, and not itself.
+    ensures predecessor { IsPredecessor small (paired 1) 3 1 }
+    ensures no_predecessor { ¬ (IsPredecessor small (paired 1) 3 3) }
+    // An OpPhi that names its predecessor, and one that names none.
+    ensures parents { HasParents small (paired 1) 4 }
+    ensures no_parents { Broken small unpaired F3 4 }
+    // A use before the definition, and an instruction that uses no value.
+    ensures missing { Broken small early A1 2 }
+    ensures not_missing { ¬ (IsMissing small two_blocks 2) }
+    // A value with a type, defined in a function, and a label.
+    ensures local { IsLocalValue early 7 }
+    ensures not_local { ¬ (IsLocalValue two_blocks 2) }
 {}

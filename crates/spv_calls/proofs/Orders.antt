@@ -5,17 +5,19 @@ use Rattle.spv_inst.specs.Operand.{PlainInst}
 use Rattle.spv_inst.specs.declared.fault.Rule.{Rule}
 use Rattle.spv_layout.specs.First.{IsUnbroken}
 use Rattle.spv_calls.specs.declared.graph.Call.{Call}
+use Rattle.spv_calls.specs.declared.ordered.Way.{Way}
+use Rattle.spv_calls.specs.declared.ordered.Way.TheVariants.{Back, On}
 use Rattle.spv_calls.specs.Chain.{Chain, alone, more}
 use Rattle.spv_calls.specs.Calls.{Calls}
 use Rattle.spv_calls.specs.Broken.{Broken, on_cycle}
 use Rattle.spv_calls.specs.Components.{number_of}
 use Rattle.spv_calls.specs.Graph.{HasCall, NoneBefore}
 use Rattle.spv_calls.specs.Found.{AreCalls}
-use Rattle.spv_calls.specs.Ordered.{AreBackward, AreForward, AreFalling, AreAcyclic}
+use Rattle.spv_calls.specs.Ordered.{Leads, AllLead, AreFalling, AreAcyclic}
 use Rattle.spv_calls.proofs.Bridge.{calls_has}
 use Rattle.spv_calls.proofs.Chains.{mapped, moved}
 
-goes_backward : (calls : List Call) → AreBackward calls → (f g : ℕ) → Chain (HasCall calls) f g → g ≤ f
+goes_backward : (calls : List Call) → AllLead Back calls → (f g : ℕ) → Chain (HasCall calls) f g → g ≤ f
 goes_backward calls a f _ alone = omega arith
 goes_backward calls a f _ (more g h c k) =
     let i = goes_backward calls a f g c in
@@ -24,7 +26,7 @@ goes_backward calls a f _ (more g h c k) =
     let y = k.to in
     omega (arith, i, e, x, y)
 
-goes_forward : (calls : List Call) → AreForward calls → (f g : ℕ) → Chain (HasCall calls) f g → f ≤ g
+goes_forward : (calls : List Call) → AllLead On calls → (f g : ℕ) → Chain (HasCall calls) f g → f ≤ g
 goes_forward calls a f _ alone = omega arith
 goes_forward calls a f _ (more g h c k) =
     let i = goes_forward calls a f g c in
@@ -43,11 +45,9 @@ falls calls numbers a f _ (more g h c k) =
     let e = falls_at numbers g h k.call k.from k.to (a.each k.place k.call k.there) in
     omega (arith, i, e)
 
-pub backward_acyclic : (calls : List Call) → AreBackward calls → AreAcyclic calls
-backward_acyclic calls a = record { each = λ k c h b. let i = goes_backward calls a c.callee c.caller b in let e = a.each k c h in absurd (omega (arith, i, e)) }
-
-pub forward_acyclic : (calls : List Call) → AreForward calls → AreAcyclic calls
-forward_acyclic calls a = record { each = λ k c h b. let i = goes_forward calls a c.callee c.caller b in let e = a.each k c h in absurd (omega (arith, i, e)) }
+pub leading_acyclic : (calls : List Call) (way : Way) → AllLead way calls → AreAcyclic calls
+leading_acyclic calls Back a = record { each = λ k c h b. let i = goes_backward calls a c.callee c.caller b in let e = a.each k c h in absurd (omega (arith, i, e)) }
+leading_acyclic calls On a = record { each = λ k c h b. let i = goes_forward calls a c.callee c.caller b in let e = a.each k c h in absurd (omega (arith, i, e)) }
 
 pub falling_acyclic : (calls : List Call) (numbers : List ℕ) → AreFalling calls numbers → AreAcyclic calls
 falling_acyclic calls numbers a = record { each = λ k c h b. let i = falls calls numbers a c.callee c.caller b in let e = a.each k c h in absurd (omega (arith, i, e)) }

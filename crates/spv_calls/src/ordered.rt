@@ -1,29 +1,37 @@
 //! Calls that are in an order, so that none is on a cycle.
 
 ghost use Rattle.std.specs.Prelude.{◌<◌, IsTrue};
-ghost use Rattle.spv_calls.specs.Ordered.{AreBackward, AreForward, AreFalling, AreAcyclic};
+ghost use Rattle.spv_calls.specs.Ordered.{Leads, AllLead, AreFalling, AreAcyclic};
 
 use crate::components::number_at;
 use crate::graph::Call;
 
-/// Whether each call is of a function before its caller.
-fn are_backward(calls: &[Call]) -> bool
-    ensures { IsTrue result → AreBackward calls.now }
-{
-    for call in calls {
-        if call.caller <= call.callee {
-            return false;
-        }
-    }
-    true
+/// Which way calls lead in the module.
+#[derive(Clone, Copy, Debug)]
+pub enum Way {
+    /// To a function before the caller.
+    Back,
+    /// To a function after the caller.
+    On,
 }
 
-/// Whether each call is of a function after its caller.
-fn are_forward(calls: &[Call]) -> bool
-    ensures { IsTrue result → AreForward calls.now }
+/// Whether a call leads one way.
+#[inline(always)]
+fn leads(call: Call, way: Way) -> bool
+    ensures { IsTrue result → Leads way call }
+{
+    match way {
+        Way::Back => call.callee < call.caller,
+        Way::On => call.caller < call.callee,
+    }
+}
+
+/// Whether each call leads one way.
+fn all_lead(calls: &[Call], way: Way) -> bool
+    ensures { IsTrue result → AllLead way calls.now }
 {
     for call in calls {
-        if call.callee <= call.caller {
+        if !leads(*call, way) {
             return false;
         }
     }
@@ -34,7 +42,7 @@ fn are_forward(calls: &[Call]) -> bool
 pub fn are_ordered(calls: &[Call]) -> bool
     ensures { IsTrue result → AreAcyclic calls.now }
 {
-    are_backward(calls) || are_forward(calls)
+    all_lead(calls, Way::Back) || all_lead(calls, Way::On)
 }
 
 /// Whether each call leads to a lower component.

@@ -3,6 +3,7 @@ pub mod Trails
 pub mod Walking
 pub mod Pairs
 pub mod Ended
+pub mod Alone
 pub mod Places
 pub mod Used
 pub mod Coded

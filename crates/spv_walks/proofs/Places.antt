@@ -6,7 +6,7 @@ use Rattle.std.proofs.lemmas.Bool.Decides.{nat_tests}
 use Rattle.std.proofs.lemmas.Option.{slice_get_within}
 use Rattle.spv_inst.specs.Operand.{PlainInst}
 use Rattle.spv_layout.specs.declared.class.Class.{Class}
-use Rattle.spv_layout.specs.declared.class.Class.TheVariants.{Function, Label}
+use Rattle.spv_layout.specs.declared.class.Class.TheVariants.{Function, FunctionEnd, Label}
 use Rattle.spv_layout.specs.Class.{is_among}
 use Rattle.spv_layout.specs.Rows.{rows, class_of}
 use Rattle.spv_layout.specs.Layout.{classes}
@@ -22,6 +22,10 @@ at_by is n k i cs h e c = rw (class_at is n i h, e) c
 function_class : is_among (class_of 54) (Function ∷ []) ≡ true
 unfolding rows
 function_class = refl
+
+end_class : is_among (class_of 56) (FunctionEnd ∷ []) ≡ true
+unfolding rows
+end_class = refl
 
 label_class : is_among (class_of 248) (Label ∷ []) ≡ true
 unfolding rows
@@ -65,6 +69,9 @@ switch_late = refl
 
 pub function_at : (is : List PlainInst) (n : ℕ) → IsOp is n is_function → IsAt is n (Function ∷ [])
 function_at is n op = let h = holds is n is_function op in at_by is n 54 h.inst (Function ∷ []) h.there (eqb-true h.inst.opcode 54 h.holds) function_class
+
+pub end_at : (is : List PlainInst) (n : ℕ) (i : PlainInst) → slice_get is n ≡ Some i → i.opcode ≡ 56 → IsAt is n (FunctionEnd ∷ [])
+end_at is n i there e = at_by is n 56 i (FunctionEnd ∷ []) there e end_class
 
 pub label_at : (is : List PlainInst) (n : ℕ) → IsOp is n is_label → IsAt is n (Label ∷ [])
 label_at is n op = let h = holds is n is_label op in at_by is n 248 h.inst (Label ∷ []) h.there (eqb-true h.inst.opcode 248 h.holds) label_class

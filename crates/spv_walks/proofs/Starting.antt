@@ -4,10 +4,13 @@ use Rattle.std.specs.Prelude.{slice_get, slice_index, MatchBool}
 use Rattle.std.proofs.lemmas.Bool.{cases_lt, cases_order, eqb-true}
 use Rattle.std.proofs.lemmas.List.{get_or-set_same, get_or-set_other, length-append, get_or_append_left}
 use Rattle.spv_inst.specs.Operand.{PlainInst}
-use Rattle.spv_layout.specs.Place.{IsOfFunction}
-use Rattle.spv_branches.specs.Target.{is_function, is_label, is_terminator, IsOp}
+use Rattle.spv_layout.specs.declared.class.Class.TheVariants.{Function, FunctionEnd}
+use Rattle.spv_layout.specs.Place.{IsAt, IsOfFunction}
+use Rattle.spv_branches.specs.Target.{is_function, is_phi, is_label, is_terminator, IsOp}
+use Rattle.spv_branches.proofs.Firsts.{holds}
 use Rattle.spv_branches.proofs.Labelled.{op_tells, op_holds}
 use Rattle.std.proofs.lemmas.List.{length-map}
+use Rattle.std.proofs.lemmas.Option.{slice_get_within}
 use Rattle.spv_inst.specs.Module.{plain_inst}
 use Rattle.spv_walks.specs.declared.code.Code.{Code}
 use Rattle.spv_walks.specs.declared.edges.Blocks.{Blocks}
@@ -15,18 +18,43 @@ use Rattle.spv_walks.specs.Code.{insts_of}
 use Rattle.spv_walks.specs.Divided.{IsIn, IsBegin}
 use Rattle.spv_walks.specs.Starts.{IsExtent, IsRising, AreStarts, IsLaid}
 use Rattle.spv_walks.specs.Leading.{AreBlocks}
-use Rattle.spv_walks.proofs.Places.{of_itself, of_before}
+use Rattle.spv_walks.proofs.Alone.{function_opcode, end_opcode}
+use Rattle.spv_walks.proofs.Places.{function_at, end_at, of_before}
 use Rattle.spv_walks.proofs.Walking.{begin_first}
 
--- the function as far as instruction n
-pub first_of_function : (is : List PlainInst) (f n : ℕ) → IsOp is f is_function → f ≤ n → n < f + 1 → IsOfFunction is n f
-first_of_function is f n op from to = let e : f ≡ n = omega arith in subst (λ (k : ℕ). IsOfFunction is k f) e (of_itself is f op)
+-- From an OpFunction to before instruction n there is no other one, and no OpFunctionEnd.
+pub record IsOpenTo (is : List PlainInst) (f n : ℕ) : Type 0 where
+  pub alone : (k : ℕ) → f < k → k < n → ¬ (IsAt is k (Function ∷ []))
+  pub unended : (k : ℕ) → f ≤ k → k < n → ¬ (IsAt is k (FunctionEnd ∷ []))
 
-pub more_of_function : (is : List PlainInst) (f at : ℕ) → ((n : ℕ) → f ≤ n → n < at → IsOfFunction is n f) → IsOfFunction is at f → (n : ℕ) → f ≤ n → n < at + 1 → IsOfFunction is n f
-more_of_function is f at before here n from to = elim (cases_lt n at) [
-  | inl less ↦ before n from less
-  | inr more ↦ (let e : at ≡ n = omega (arith, to, more) in subst (λ (k : ℕ). IsOfFunction is k f) e here)
-]
+pub open_start : (is : List PlainInst) (f : ℕ) → IsOp is f is_function → IsOpenTo is f (f + 1)
+open_start is f op = record {
+  alone = λ k l u. absurd (omega (arith, l, u));
+  unended = λ k l u a. (
+      let h = holds is f is_function op in
+      let e : k ≡ f = omega (arith, l, u) in
+      let x = end_opcode is f h.inst h.there (subst (λ (n : ℕ). IsAt is n (FunctionEnd ∷ [])) e a) in
+      let y = eqb-true h.inst.opcode 54 h.holds in
+      omega (arith, x, y));
+}
+
+pub open_more : (is : List PlainInst) (f n : ℕ) (i : PlainInst) → slice_get is n ≡ Some i → (i.opcode ≡ 54 → ⊥) → (i.opcode ≡ 56 → ⊥) → IsOpenTo is f n → IsOpenTo is f (n + 1)
+open_more is f n i there isnt unended before = record {
+  alone = λ k l u a. elim (cases_lt k n) [
+    | inl less ↦ before.alone k l less a
+    | inr more ↦ (let e : k ≡ n = omega (arith, u, more) in isnt (function_opcode is n i there (subst (λ (j : ℕ). IsAt is j (Function ∷ [])) e a)))
+  ];
+  unended = λ k l u a. elim (cases_lt k n) [
+    | inl less ↦ before.unended k l less a
+    | inr more ↦ (let e : k ≡ n = omega (arith, u, more) in unended (end_opcode is n i there (subst (λ (j : ℕ). IsAt is j (FunctionEnd ∷ [])) e a)))
+  ];
+}
+
+open_of : (is : List PlainInst) (f at n : ℕ) → IsOp is f is_function → IsOpenTo is f at → at ≤ length is → f ≤ n → n < at → IsOfFunction is n f
+open_of is f at n op o within from to = record {
+  begun = record { within = omega (arith, within, to); up_to = from; there = function_at is f op; last = λ k l u. o.alone k l (omega (arith, u, to)) };
+  not_ended = λ k l u. o.unended k l (omega (arith, u, to));
+}
 
 pub extent_to : (is : List PlainInst) (f at : ℕ) → IsOp is f is_function → f < at → at ≤ length is → ((n : ℕ) → f ≤ n → n < at → IsOfFunction is n f) → (at < length is → ¬ (IsOfFunction is at f)) → IsExtent is f at
 extent_to is f at op some within before not = record {
@@ -42,6 +70,57 @@ extent_to is f at op some within before not = record {
     ],
   );
 }
+
+-- a function that ends with its OpFunctionEnd, before another OpFunction, and with the module
+pub extent_ended : (is : List PlainInst) (f n : ℕ) (i : PlainInst) → IsOp is f is_function → f < n → slice_get is n ≡ Some i → i.opcode ≡ 56 → IsOpenTo is f n → IsExtent is f (n + 1)
+extent_ended is f n i op some there e o =
+    let w = slice_get_within is n i there in
+    let last : IsOfFunction is n f = record {
+      begun = record {
+        within = w;
+        up_to = omega (arith, some);
+        there = function_at is f op;
+        last = λ k l u a. elim (cases_lt k n) [
+          | inl less ↦ o.alone k l less a
+          | inr more ↦ (let s : k ≡ n = omega (arith, u, more) in let x = function_opcode is n i there (subst (λ (j : ℕ). IsAt is j (Function ∷ [])) s a) in omega (arith, x, e))
+        ];
+      };
+      not_ended = o.unended;
+    } in
+    extent_to is f (n + 1) op (omega (arith, some)) (omega (arith, w))
+    (λ m from to. elim (cases_lt m n) [
+      | inl less ↦ open_of is f n m op o (omega (arith, w)) from less
+      | inr more ↦ (let s : n ≡ m = omega (arith, to, more) in subst (λ (k : ℕ). IsOfFunction is k f) s last)
+    ])
+    (λ lt of. of.not_ended n (omega (arith, some)) (omega arith) (end_at is n i there e))
+
+pub extent_before : (is : List PlainInst) (f n : ℕ) → IsOp is f is_function → f < n → IsOp is n is_function → IsOpenTo is f n → IsExtent is f n
+extent_before is f n op some next o =
+    let h = holds is n is_function next in
+    let w = slice_get_within is n h.inst h.there in
+    extent_to is f n op some (omega (arith, w)) (λ m from to. open_of is f n m op o (omega (arith, w)) from to) (λ lt of. of.begun.last n some (omega arith) (function_at is n next))
+
+pub extent_last : (is : List PlainInst) (f n at : ℕ) → IsOp is f is_function → n ≡ length is → n ≤ at → IsOpenTo is f at → IsExtent is f n
+extent_last is f n at op e all o =
+    let h = holds is f is_function op in
+    let w = slice_get_within is f h.inst h.there in
+    let less : IsOpenTo is f n = record { alone = λ k l u. o.alone k l (omega (arith, u, all)); unended = λ k l u. o.unended k l (omega (arith, u, all)) } in
+    extent_to is f n op (omega (arith, w, e)) (omega (arith, e)) (λ m from to. open_of is f n m op less (omega (arith, e)) from to) (λ lt. absurd (omega (arith, lt, e)))
+
+-- no OpPhi as far as instruction n
+pub unmarked_start : (is : List PlainInst) (f : ℕ) → IsOp is f is_function → (n : ℕ) → f ≤ n → n < f + 1 → ¬ (IsOp is n is_phi)
+unmarked_start is f op n from to phi =
+    let h = holds is f is_function op in
+    let e : n ≡ f = omega (arith, from, to) in
+    let x = eqb-true h.inst.opcode 245 (op_tells is f h.inst is_phi h.there (subst (λ (k : ℕ). IsOp is k is_phi) e phi)) in
+    let y = eqb-true h.inst.opcode 54 h.holds in
+    omega (arith, x, y)
+
+pub unmarked_more : (is : List PlainInst) (f at : ℕ) (i : PlainInst) → slice_get is at ≡ Some i → (i.opcode ≡ 245 → ⊥) → ((n : ℕ) → f ≤ n → n < at → ¬ (IsOp is n is_phi)) → (n : ℕ) → f ≤ n → n < at + 1 → ¬ (IsOp is n is_phi)
+unmarked_more is f at i there isnt before n from to phi = elim (cases_lt n at) [
+  | inl less ↦ before n from less phi
+  | inr more ↦ (let e : n ≡ at = omega (arith, to, more) in isnt (eqb-true i.opcode 245 (op_tells is at i is_phi there (subst (λ (k : ℕ). IsOp is k is_phi) e phi))))
+]
 
 -- whether an instruction that is no OpLabel begins a block
 pub begins_by : (is : List PlainInst) (n m : ℕ) (i j : PlainInst) (b : Bool) → slice_get is n ≡ Some i → (i.opcode ≡ 248 → ⊥) → m + 1 ≡ n → slice_get is m ≡ Some j → b ≡ is_terminator j.opcode → MatchBool b (IsBegin is n) (¬ (IsBegin is n))

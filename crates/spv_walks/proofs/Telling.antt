@@ -20,6 +20,7 @@ use Rattle.spv_branches.proofs.Labelled.{op_tells, op_holds}
 use Rattle.spv_walks.specs.declared.code.Code.{Code}
 use Rattle.spv_walks.specs.Code.{insts_of, IsCode}
 use Rattle.spv_walks.specs.Found.{IsRefusal}
+use Rattle.spv_walks.specs.Starts.{IsExtent}
 use Rattle.spv_walks.specs.Missed.{IsMissedIn, IsFirstIn, IsMissedAt, IsFirstOf, IsRuleAt}
 use Rattle.spv_walks.proofs.Places.{function_at}
 use Rattle.spv_walks.proofs.Deciding.{walk_within}
@@ -41,8 +42,9 @@ walked : (G : Table) (is : List PlainInst) (f n : ℕ) → IsMissedIn G is f n �
 walked G is f n (inl (m, e)) = subst (λ (g : ℕ). IsWalked G is g n) e (record { function = walk_function G is m.function m.past n m.walk; of = walk_within G is m.function m.past n m.walk })
 walked G is f n (inr (m, e)) = subst (λ (g : ℕ). IsWalked G is g n) e (record { function = walk_function G is m.comes.function m.comes.past n m.comes.walk; of = walk_within G is m.comes.function m.comes.past n m.comes.walk })
 
-pub sound_start : (c : Code) → AreSound c 0
-sound_start c = record { none = λ G is f m lt. absurd (omega (arith, lt)) }
+-- no function begins before the first OpFunction
+pub sound_start : (c : Code) → AreSound c c.globals
+sound_start c = record { none = λ G is f m lt missed. is.global f lt (walked G (insts_of c) f m missed).function }
 
 pub sound_other : (c : Code) (n : ℕ) (i : PlainInst) → slice_get (insts_of c) n ≡ Some i → (i.opcode ≡ 54 → ⊥) → AreSound c n → AreSound c (n + 1)
 sound_other c n i there isnt before = record {
@@ -55,11 +57,15 @@ sound_other c n i there isnt before = record {
   ];
 }
 
-pub sound_more : (c : Code) (n : ℕ) → ((G : Table) → IsCode G c → (m : ℕ) → ¬ (IsMissedIn G (insts_of c) n m)) → AreSound c n → AreSound c (n + 1)
-sound_more c n here before = record {
-  none = λ G is f m lt missed. elim (cases_lt f n) [
-    | inl less ↦ before.none G is f m less missed
-    | inr more ↦ (let e : f ≡ n = omega (arith, lt, more) in here G is m (subst (λ (k : ℕ). IsMissedIn G (insts_of c) k m) e missed))
+-- after a function comes the next one
+pub sound_more : (c : Code) (n end : ℕ) → IsExtent (insts_of c) n end → ((G : Table) → IsCode G c → (m : ℕ) → ¬ (IsMissedIn G (insts_of c) n m)) → AreSound c n → AreSound c end
+sound_more c n end x here before = record {
+  none = λ G is f m lt missed. elim (cases_order f n) [
+    | inl same ↦ here G is m (subst (λ (k : ℕ). IsMissedIn G (insts_of c) k m) same missed)
+    | inr apart ↦ elim apart [
+      | inl less ↦ before.none G is f m less missed
+      | inr more ↦ (x.of f (omega (arith, more)) lt).begun.last f more (omega arith) (function_at (insts_of c) f (walked G (insts_of c) f m missed).function)
+    ]
   ];
 }
 

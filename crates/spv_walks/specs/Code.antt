@@ -1,5 +1,5 @@
 -- What is known of the instructions that are looked at. (For the code alone.)
-use Rattle.std.specs.Prelude.{◌≤◌, ℕ, List, map, length}
+use Rattle.std.specs.Prelude.{◌≤◌, ◌<◌, ℕ, List, map, length}
 use Rattle.spv_grammar.specs.Table.{Table}
 use Rattle.spv_inst.specs.Operand.{PlainInst}
 use Rattle.spv_inst.specs.Module.{plain_inst}
@@ -7,15 +7,17 @@ use Rattle.spv_layout.specs.First.{IsUnbroken}
 use Rattle.spv_layout.specs.Plan.{IsPlan}
 use Rattle.spv_ids.specs.Outcome.{AreIds}
 use Rattle.spv_branches.specs.Broken.{Broken}
+use Rattle.spv_branches.specs.Target.{is_function, IsOp}
 use Rattle.spv_walks.specs.declared.code.Code.{Code}
 
 abbrev pub insts_of : Code → List PlainInst
 insts_of c = map plain_inst c.insts.now
 
--- The plan and the ids are those of the instructions, and the branches are sound.
+-- The plan and the ids are those of the instructions, the branches are sound, and the first OpFunction is known.
 pub record IsCode (G : Table) (c : Code) : Type 0 where
   pub plan : IsPlan G (insts_of c) c.plan.now
   pub bound : ℕ
   pub ids : AreIds G bound (insts_of c) c.ids.now
   pub branches : IsUnbroken (Broken G (insts_of c)) 6
   pub most : length c.insts.now ≤ 4194304
+  pub global : (k : ℕ) → k < c.globals → ¬ (IsOp (insts_of c) k is_function)

@@ -1,15 +1,17 @@
 //! What is asked of the graph of a function's blocks.
 
-ghost use Rattle.std.specs.Prelude.{◌≡◌, ◌<◌, ◌≤◌, ◌+◌, ℕ, List, length, slice_index, OnOk, IfSome, MatchOption};
+ghost use Rattle.std.specs.Prelude.{◌<◌, ◌≤◌, ◌+◌, ℕ, length, OnOk, IfSome, MatchOption, MatchBool};
 ghost use Rattle.spv_grammar.specs.Table.{Table};
 ghost use Rattle.spv_availability.specs.declared.asks.Ask as declared;
+ghost use Rattle.spv_ids.specs.Definition.{IsDefinedAt};
+ghost use Rattle.spv_branches.specs.Ready.{IsLocalValue};
 ghost use Rattle.spv_walks.specs.Code.{insts_of, IsCode};
 ghost use Rattle.spv_walks.specs.Divided.{IsIn};
 ghost use Rattle.spv_walks.specs.Adds.{AddsBy};
 ghost use Rattle.spv_walks.specs.Leading.{AreBlocks};
 ghost use Rattle.spv_walks.specs.Due.{IsFoundAt, IsPairedAt, IsUseAsk, IsPairAsk, HasUseAsk, HasPairAsk, IsAskAt, IsAskIn, IsAsk};
 
-use crate::code::{Code, LABEL, PHI};
+use crate::code::{Code, LABEL, PHI, has_type};
 use crate::edges::{Blocks, target};
 use crate::operands::{other_id, used, value};
 use spv_availability::Ask;
@@ -26,18 +28,34 @@ fn defined_at(code: &Code<'_, '_>, at: u32, n: usize) -> Option<u32>
     code.definition(id)
 }
 
+/// Whether the result of an instruction is a local value. In the function that is divided its operands tell.
+fn is_local_in(code: &Code<'_, '_>, blocks: &Blocks<'_>, place: u32) -> bool
+    requires blocks { AreBlocks (insts_of code.now) blocks.now }
+    requires place { place < length code.now.insts.now }
+    ensures { (G : Table) (x : ℕ) → IsCode G code.now → IsDefinedAt (insts_of code.now) x place → MatchBool result (IsLocalValue (insts_of code.now) x) (¬ (IsLocalValue (insts_of code.now) x)) }
+{
+    if blocks.function < place && place < blocks.end {
+        has_type(code.insts[place as usize].operands.as_slice())
+    } else {
+        code.is_local(place)
+    }
+}
+
 /// What is asked for the use that operand `n` of an instruction is, if it is one of a value that no earlier instruction of the block
 /// defines.
-fn use_ask(code: &Code<'_, '_>, start: u32, block: u32, at: u32, n: usize) -> Option<Ask>
-    requires { at < length code.now.insts.now }
-    ensures { (G : Table) (starts : List ℕ) → IsCode G code.now → start ≡ slice_index starts block
-        → MatchOption result ((a : declared.Ask) → ¬ (IsUseAsk G (insts_of code.now) starts block at n a)) (λ a. IsUseAsk G (insts_of code.now) starts block at n a) }
+fn use_ask(code: &Code<'_, '_>, blocks: &Blocks<'_>, block: u32, at: u32, n: usize) -> Option<Ask>
+    requires blocks { AreBlocks (insts_of code.now) blocks.now }
+    requires block { block + 1 < length blocks.now.starts.now }
+    requires at { at < length code.now.insts.now }
+    ensures { (G : Table) → IsCode G code.now
+        → MatchOption result ((a : declared.Ask) → ¬ (IsUseAsk G (insts_of code.now) blocks.now.starts.now block at n a)) (λ a. IsUseAsk G (insts_of code.now) blocks.now.starts.now block at n a) }
 {
     let value = defined_at(code, at, n)?;
+    let start = blocks.starts[block as usize];
     if start <= value && value < at {
         return None;
     }
-    if code.is_local(value) {
+    if is_local_in(code, blocks, value) {
         used(&code.insts[at as usize], n)?;
         Some(Ask {
             block,
@@ -97,13 +115,13 @@ fn add_uses(
     asks: &mut Vec<Ask>,
 ) -> Result<(), AllocError>
     requires code { (G : Table) × IsCode G code.now }
+    requires blocks { AreBlocks (insts_of code.now) blocks.now }
     requires block { block + 1 < length blocks.now.starts.now }
     requires at { at < length code.now.insts.now }
     ensures { OnOk result (AddsBy code.now (λ G a. HasUseAsk G (insts_of code.now) blocks.now.starts.now block at a) asks.old.items asks.new.items) }
 {
-    let start = blocks.starts[block as usize];
     for n in 0..code.insts[at as usize].operands.as_slice().len() {
-        if let Some(ask) = use_ask(code, start, block, at, n) {
+        if let Some(ask) = use_ask(code, blocks, block, at, n) {
             asks.push(ask)?;
         }
     }

@@ -15,6 +15,8 @@ pub struct Code<'m, 'a> {
     pub insts: &'m [Inst<'a>],
     pub plan: &'m Plan,
     pub ids: &'m Ids,
+    /// How many instructions stand before the first OpFunction.
+    pub globals: u32,
 }
 
 impl Code<'_, '_> {
@@ -71,6 +73,9 @@ impl Code<'_, '_> {
         requires { place < length self.now.insts.now }
         ensures { (G : Table) (x : ℕ) → IsCode G self.now → IsDefinedAt (insts_of self.now) x place → MatchBool result (IsLocalValue (insts_of self.now) x) (¬ (IsLocalValue (insts_of self.now) x)) }
     {
+        if place < self.globals {
+            return false;
+        }
         let Some(function) = self.function_of(place) else {
             return false;
         };
@@ -79,7 +84,7 @@ impl Code<'_, '_> {
 }
 
 /// Whether one of the operands is a result type.
-fn has_type(operands: &[Operand<'_>]) -> bool
+pub fn has_type(operands: &[Operand<'_>]) -> bool
     ensures { result ≡ is_some (operand.type_in (plain_operands operands.now)) }
 {
     for operand in operands {
@@ -90,8 +95,10 @@ fn has_type(operands: &[Operand<'_>]) -> bool
     false
 }
 
-/// The opcodes of OpFunction, OpPhi and OpLabel.
+/// The opcodes of OpFunction, OpFunctionEnd, OpPhi and OpLabel.
 pub const FUNCTION: u16 = 54;
+
+pub const FUNCTION_END: u16 = 56;
 
 pub const PHI: u16 = 245;
 

@@ -1,6 +1,6 @@
 //! Functions divided into blocks.
 
-ghost use Rattle.std.specs.Prelude.{◌≡◌, ◌<◌, ◌≤◌, ℕ, length, map, OnOk, MatchBool};
+ghost use Rattle.std.specs.Prelude.{◌≡◌, ◌<◌, ◌≤◌, ℕ, false, length, map, OnOk, MatchBool};
 ghost use Rattle.spv_grammar.specs.Table.{Table};
 ghost use Rattle.spv_inst.specs.Module.{plain_inst};
 ghost use Rattle.spv_branches.specs.Target.{IsOp};
@@ -9,28 +9,47 @@ ghost use Rattle.spv_walks.specs.Code.{insts_of, IsCode};
 ghost use Rattle.spv_walks.specs.Divided.{IsBegin};
 ghost use Rattle.spv_walks.specs.Starts.{IsExtent, IsLaid};
 
-use crate::code::{Code, LABEL, is_terminator};
+use crate::code::{Code, FUNCTION, FUNCTION_END, LABEL, PHI, is_terminator};
 use spv_inst::Inst;
 use std::alloc::AllocError;
 
-/// The instruction after the last one of a function.
-pub fn function_end(code: &Code<'_, '_>, function: u32) -> u32
+/// How far a function goes.
+#[derive(Clone, Copy, Debug)]
+pub struct Extent {
+    /// The instruction after its last one.
+    pub end: u32,
+    /// Whether one of its instructions is an OpPhi.
+    pub has_phis: bool,
+}
+
+/// How far the function of an OpFunction goes: to its OpFunctionEnd.
+pub fn function_extent(code: &Code<'_, '_>, function: u32) -> Extent
     requires code { (G : Table) × IsCode G code.now }
     requires function { IsOp (insts_of code.now) function target.is_function }
-    ensures { IsExtent (insts_of code.now) function result }
+    ensures extent { IsExtent (insts_of code.now) function result.end }
+    ensures phis { result.has_phis ≡ false → (n : ℕ) → function ≤ n → n < result.end → ¬ (IsOp (insts_of code.now) n target.is_phi) }
 {
     let count = code.insts.len() as u32;
+    let mut has_phis = false;
     for at in function + 1..count {
-        match code.function_of(at) {
-            Some(other) => {
-                if other != function {
-                    return at;
-                }
-            }
-            None => return at,
+        let opcode = code.insts[at as usize].opcode;
+        if opcode == FUNCTION_END {
+            return Extent {
+                end: at + 1,
+                has_phis,
+            };
+        }
+        if opcode == FUNCTION {
+            return Extent { end: at, has_phis };
+        }
+        if opcode == PHI {
+            has_phis = true;
         }
     }
-    count
+    Extent {
+        end: count,
+        has_phis,
+    }
 }
 
 /// Whether an instruction after the first begins a block: an OpLabel, or one after a terminator.

@@ -1,7 +1,6 @@
 //! The first use of a value that some walk of a function misses.
 
-ghost use Rattle.std.specs.Prelude.{◌≡◌, ◌≤◌, ◌<◌, ℕ, List, false, length, map, OnOk, IfOk};
-ghost use Rattle.spv_inst.specs.Module.{plain_inst};
+ghost use Rattle.std.specs.Prelude.{◌≡◌, ◌≤◌, ◌<◌, ℕ, false, length, OnOk, IfOk};
 ghost use Rattle.std.specs.List.Sorted.{IsPermutation};
 ghost use Rattle.spv_grammar.specs.Table.{Table};
 ghost use Rattle.spv_availability.specs.First.{AreInOrder};
@@ -9,14 +8,14 @@ ghost use Rattle.spv_branches.specs.Target as target;
 ghost use Rattle.spv_branches.specs.Target.{IsOp};
 ghost use Rattle.spv_walks.specs.Code.{insts_of, IsCode};
 ghost use Rattle.spv_walks.specs.Missed.{IsFirstIn};
+ghost use Rattle.spv_walks.specs.Starts.{IsExtent};
 
 use crate::asks::add_all;
-use crate::code::{Code, PHI};
-use crate::divide::{divide, function_end};
+use crate::code::Code;
+use crate::divide::{Extent, divide};
 use crate::edges::{Blocks, build};
 use crate::least::missed_first;
 use spv_availability::{Ask, Graph, first_missed};
-use spv_inst::Inst;
 use spv_trees::open_asks;
 use std::alloc::{AllocError, Global};
 
@@ -55,50 +54,38 @@ fn sort(asks: &mut [Ask])
     asks.sort_unstable_by_key(|ask| ask.value);
 }
 
-/// Whether one of the instructions from one to before another is an OpPhi.
-fn has_phi(insts: &[Inst<'_>], from: u32, to: u32) -> bool
-    requires { to ≤ length insts.now }
-    ensures { result ≡ false → (n : ℕ) → from ≤ n → n < to → ¬ (IsOp (map plain_inst insts.now) n target.is_phi) }
-{
-    for at in from..to {
-        if insts[at as usize].opcode == PHI {
-            return true;
-        }
-    }
-    false
-}
-
 /// The first instruction at which a walk of the function misses a value that is used there.
 pub fn first_in_function(
     alloc: Global,
     code: &Code<'_, '_>,
     function: u32,
+    extent: Extent,
     buffers: &mut Buffers,
 ) -> Result<Option<u32>, AllocError>
     requires code { (G : Table) × IsCode G code.now }
-    requires function { IsOp (insts_of code.now) function target.is_function }
+    requires extent { IsExtent (insts_of code.now) function extent.end }
+    requires phis { extent.has_phis ≡ false → (n : ℕ) → function ≤ n → n < extent.end → ¬ (IsOp (insts_of code.now) n target.is_phi) }
     requires count { length buffers.old.numbers.items ≡ length code.now.insts.now }
     requires most { length code.now.insts.now ≤ 4194304 }
     ensures count { OnOk result (length buffers.new.numbers.items ≡ length code.now.insts.now) }
     ensures first { IfOk result (λ o. (G : Table) → IsCode G code.now → IsFirstIn G (insts_of code.now) function o) }
 {
-    let end = function_end(code, function);
     divide(
         code,
         function,
-        end,
+        extent.end,
         &mut buffers.starts,
         &mut buffers.numbers,
     )?;
     let blocks = Blocks {
         function,
-        end,
+        end: extent.end,
         starts: buffers.starts.as_slice(),
         numbers: buffers.numbers.as_slice(),
     };
     buffers.asks.clear();
     add_all(code, &blocks, &mut buffers.asks)?;
-    if buffers.asks.is_empty() && !has_phi(code.insts, function, end) {
+    if buffers.asks.is_empty() && !extent.has_phis {
         return Ok(None);
     }
     build(code, &blocks, &mut buffers.graph)?;

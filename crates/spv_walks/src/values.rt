@@ -1,24 +1,40 @@
 //! The first use of a value that some walk misses.
 
-ghost use Rattle.std.specs.Prelude.{◌≡◌, ◌≤◌, ◌<◌, ◌+◌, List, length, sum_by, IfOk, IfErr};
+ghost use Rattle.std.specs.Prelude.{◌≤◌, ◌<◌, ◌+◌, ℕ, List, length, map, sum_by, IfOk, IfErr};
 ghost use Rattle.spv_grammar.specs.Table.{Table};
-ghost use Rattle.spv_inst.specs.Module.{plain_insts};
+ghost use Rattle.spv_inst.specs.Module.{plain_inst, plain_insts};
 ghost use Rattle.spv_inst.specs.Operand.{PlainInst};
 ghost use Rattle.spv_layout.specs.First.{IsUnbroken};
 ghost use Rattle.spv_layout.specs.Place.{word_count};
 ghost use Rattle.spv_layout.specs.Plan.{IsPlan};
 ghost use Rattle.spv_ids.specs.Outcome.{AreIds, IsStopAt};
 ghost use Rattle.spv_branches.specs.Broken.{Broken};
+ghost use Rattle.spv_branches.specs.Target.{IsOp};
+ghost use Rattle.spv_branches.specs.Target as target;
 ghost use Rattle.spv_walks.specs.Code.{insts_of, IsCode};
 ghost use Rattle.spv_walks.specs.Found.{IsRefusal};
 ghost use Rattle.spv_walks.specs.Missed.{IsFirstOf, IsRuleAt};
 
 use crate::code::{Code, FUNCTION, PHI};
+use crate::divide::function_extent;
 use crate::function::{Buffers, first_in_function};
 use spv_ids::Ids;
-use spv_inst::{Fault, Module, Rule, Stop};
+use spv_inst::{Fault, Inst, Module, Rule, Stop};
 use spv_layout::Plan;
 use std::alloc::{AllocError, Global};
+
+/// How many instructions stand before the first OpFunction.
+fn count_globals(insts: &[Inst<'_>]) -> u32
+    requires { length insts.now ≤ 4194304 }
+    ensures { (k : ℕ) → k < result → ¬ (IsOp (map plain_inst insts.now) k target.is_function) }
+{
+    for at in 0..insts.len() {
+        if insts[at].opcode == FUNCTION {
+            return at as u32;
+        }
+    }
+    insts.len() as u32
+}
 
 /// The first instruction at which a walk misses a value that is used there.
 fn first_missing(alloc: Global, code: &Code<'_, '_>) -> Result<Option<u32>, AllocError>
@@ -27,11 +43,17 @@ fn first_missing(alloc: Global, code: &Code<'_, '_>) -> Result<Option<u32>, Allo
     ensures { IfOk result (λ o. (G : Table) → IsCode G code.now → IsFirstOf G (insts_of code.now) o) }
 {
     let mut buffers = Buffers::new(alloc, code.insts.len())?;
-    for at in 0..code.insts.len() {
-        if code.insts[at].opcode == FUNCTION {
-            if let Some(inst) = first_in_function(alloc, code, at as u32, &mut buffers)? {
+    let count = code.insts.len() as u32;
+    let mut at = code.globals;
+    while at < count {
+        if code.insts[at as usize].opcode == FUNCTION {
+            let extent = function_extent(code, at);
+            if let Some(inst) = first_in_function(alloc, code, at, extent, &mut buffers)? {
                 return Ok(Some(inst));
             }
+            at = extent.end;
+        } else {
+            at += 1;
         }
     }
     Ok(None)
@@ -86,7 +108,13 @@ pub fn check_values(alloc: Global, module: &Module<'_>, plan: &Plan, ids: &Ids) 
         → IfErr result (λ s. IsRefusal G (plain_insts «module».now) s) }
 {
     let insts = module.insts.as_slice();
-    let code = Code { insts, plan, ids };
+    let globals = count_globals(insts);
+    let code = Code {
+        insts,
+        plan,
+        ids,
+        globals,
+    };
     if let Some(inst) = first_missing(alloc, &code)? {
         return Err(stop_at(plan, rule(&code, inst), inst));
     }

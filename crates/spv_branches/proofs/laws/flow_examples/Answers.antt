@@ -1,17 +1,21 @@
-use Rattle.std.proofs.Common.{◌≡◌, ◌<◌, ℕ, zero, suc, [], ◌∷◌, refl, subst, arith, inl}
+use Rattle.std.proofs.Common.{◌≡◌, ◌<◌, ◌≤◌, ℕ, zero, suc, List, [], ◌∷◌, refl, subst, arith, inl, inr}
 use Rattle.std.proofs.lemmas.Option.{same_Some}
 use Rattle.spv_inst.specs.Example.{small}
 use Rattle.spv_inst.specs.Operand.{Id}
-use Rattle.spv_layout.specs.declared.class.Class.TheVariants.{Branch, BranchConditional}
+use Rattle.spv_inst.specs.declared.fault.Rule.{Rule}
+use Rattle.spv_inst.specs.declared.fault.Rule.TheVariants.{F2}
+use Rattle.spv_layout.specs.declared.class.Class.TheVariants.{Function, FunctionEnd, Label, Branch, BranchConditional}
+use Rattle.spv_layout.specs.Place.{IsAt, IsOfFunction, IsOfBlock, terminators}
 use Rattle.spv_layout.specs.declared.form.Role.TheVariants as role
 use Rattle.spv_layout.specs.Row.{row, v, l, W, closed, repeated}
 use Rattle.spv_layout.specs.Rows.{rows}
 use Rattle.spv_layout.specs.Shape.{AreOf, Ends, HasForms, IsUse}
-use Rattle.spv_ids.specs.Definition.{IsDefinedAt}
-use Rattle.spv_branches.specs.Target.{is_function, IsOp, IsLabelOf, IsTarget, IsEntryLabel}
-use Rattle.spv_branches.specs.Walk.{Next, IsResultAmong, IsLastLabel}
+use Rattle.spv_ids.specs.Definition.{IsDefinedAt, IsUsedAt}
+use Rattle.spv_branches.specs.Target.{is_function, IsOp, IsLabelOf, IsTarget, Leads, IsEntryLabel}
+use Rattle.spv_branches.specs.Walk.{Next, IsWalk, IsResultAmong, IsLastLabel}
 use Rattle.spv_branches.specs.Broken.{Broken}
-use Rattle.spv_branches.specs.Example.{branch, conditional, label, function, two_blocks}
+use Rattle.spv_branches.specs.Example.{branch, conditional, label, function, return_void, two_blocks}
+use Rattle.spv_branches.proofs.Direct.{jump_only}
 use Rattle.spv_branches.proofs.laws.flow_examples.Goals as goal
 
 branch_forms : (x : ℕ) → HasForms small (branch x) (l ∷ [])
@@ -88,6 +92,100 @@ undefined (suc zero, n, lt, e, d) = let f : n ≡ 1 = cc in at_1 n f d
 undefined (suc (suc zero), n, lt, e, d) = let f : n ≡ 0 = cc in at_0 n f d
 undefined (suc (suc (suc k)), n, lt, e, d) = absurd (omega (arith, lt))
 
+-- all instructions are of the function
+no_function : (k : ℕ) → 0 < k → k < 5 → ¬ (IsAt two_blocks k (Function ∷ []))
+unfolding rows
+no_function zero l u a = absurd (omega (arith, l))
+no_function (suc zero) l u a = cc
+no_function (suc (suc zero)) l u a = cc
+no_function (suc (suc (suc zero))) l u a = cc
+no_function (suc (suc (suc (suc zero)))) l u a = cc
+no_function (suc (suc (suc (suc (suc k))))) l u a = absurd (omega (arith, u))
+
+no_end : (k : ℕ) → k < 4 → ¬ (IsAt two_blocks k (FunctionEnd ∷ []))
+unfolding rows
+no_end zero u a = cc
+no_end (suc zero) u a = cc
+no_end (suc (suc zero)) u a = cc
+no_end (suc (suc (suc zero))) u a = cc
+no_end (suc (suc (suc (suc k)))) u a = absurd (omega (arith, u))
+
+of_function : (n : ℕ) → n < 5 → IsOfFunction two_blocks n 0
+unfolding rows
+of_function n lt = record {
+  begun = record { within = omega (arith, lt); up_to = omega arith; there = refl; last = λ k l u. no_function k l (omega (arith, u, lt)) };
+  not_ended = λ k l u. no_end k (omega (arith, u, lt));
+}
+
+walked : IsWalk small two_blocks 0 (3 ∷ 2 ∷ 1 ∷ 0 ∷ []) 4
+walked =
+    let w0 : IsWalk small two_blocks 0 [] 0 = IsWalk.begins refl in
+    let w1 : IsWalk small two_blocks 0 (0 ∷ []) 1 = IsWalk.goes [] 0 1 w0 (Next.follows (λ t. let e = t in cc)) (of_function 1 (omega arith)) in
+    let w2 : IsWalk small two_blocks 0 (1 ∷ 0 ∷ []) 2 = IsWalk.goes (0 ∷ []) 1 2 w1 (Next.follows (λ t. let e = t in cc)) (of_function 2 (omega arith)) in
+    let w3 : IsWalk small two_blocks 0 (2 ∷ 1 ∷ 0 ∷ []) 3 = IsWalk.goes (1 ∷ 0 ∷ []) 2 3 w2 (Next.jumps 2 3 leads labelled) (of_function 3 (omega arith)) in
+    IsWalk.goes (2 ∷ 1 ∷ 0 ∷ []) 3 4 w3 (Next.follows (λ t. let e = t in cc)) (of_function 4 (omega arith))
+
+last_step : (q : List ℕ) (m h : ℕ) (past : List ℕ) → IsWalk small two_blocks 0 q m → q ≡ h ∷ past → Next small two_blocks h m
+last_step _ _ h past (IsWalk.begins op) e = cc
+last_step _ _ h past (IsWalk.goes p n m walk next of) e = (let s : n ≡ h = cc in subst (λ (k : ℕ). Next small two_blocks k m) s next)
+
+after_label : (m : ℕ) → Next small two_blocks 1 m → m ≡ 2
+after_label _ (Next.jumps x m t k) = absurd (let e = t.branch in cc)
+after_label _ (Next.follows not) = refl
+
+no_walk : ¬ (IsWalk small two_blocks 0 (1 ∷ 0 ∷ []) 3)
+no_walk w = let e = after_label 3 (last_step (1 ∷ 0 ∷ []) 3 1 (0 ∷ []) w refl) in omega (arith, e)
+
+-- the first block
+no_label_after : (k : ℕ) → 1 < k → k ≤ 2 → ¬ (IsAt two_blocks k (Label ∷ []))
+unfolding rows
+no_label_after zero l u a = absurd (omega (arith, l))
+no_label_after (suc zero) l u a = absurd (omega (arith, l))
+no_label_after (suc (suc zero)) l u a = cc
+no_label_after (suc (suc (suc k))) l u a = absurd (omega (arith, u))
+
+not_ended : (k : ℕ) → 1 ≤ k → k < 2 → ¬ (IsAt two_blocks k terminators)
+unfolding rows
+not_ended zero l u a = absurd (omega (arith, l))
+not_ended (suc zero) l u a = cc
+not_ended (suc (suc k)) l u a = absurd (omega (arith, u))
+
+of_block : IsOfBlock two_blocks 2 1
+unfolding rows
+of_block = record { begun = record { within = omega arith; up_to = omega arith; there = refl; last = no_label_after }; not_ended = not_ended }
+
+branch_id : (n x : ℕ) → IsUsedAt small two_blocks 2 n x role.Label → x ≡ 2
+branch_id n x u = elim (jump_only small two_blocks 2 2 (branch 2) refl refl (record { forms = l ∷ []; has = branch_forms 2 }) (record { inst = branch 2; there = refl; used = branch_used 2 }) n x u) [ inl e ↦ e | inr e ↦ e ]
+
+not_back : ¬ (Leads small two_blocks 2 1 1)
+not_back h = let e = branch_id h.target.operand h.id h.target.used in none_1 (subst (λ (x : ℕ). IsDefinedAt two_blocks x 1) e h.label.defined)
+
+-- %2 is the result of instruction 3
+defined_by_2 : (m : ℕ) → IsDefinedAt two_blocks 2 m → m ≡ 3
+defined_by_2 zero d = absurd (none_0 d)
+defined_by_2 (suc zero) d = absurd (none_1 d)
+defined_by_2 (suc (suc zero)) d = absurd (none_2 d)
+defined_by_2 (suc (suc (suc zero))) d = refl
+defined_by_2 (suc (suc (suc (suc zero)))) d = let t = d.there in let e : return_void ≡ d.inst = cc in let r = rw (← e) at d.result in cc
+defined_by_2 (suc (suc (suc (suc (suc k))))) d = let t = d.there in cc
+
+not_entered : (q : Rule) (n : ℕ) → Broken small two_blocks q n → q ≡ F2 → n ≡ 2 → ⊥
+not_entered _ _ (Broken.no_label n k x op used none) s e = cc
+not_entered _ _ (Broken.to_entry n x m target d entry) s e =
+    let u : IsUsedAt small two_blocks 2 target.operand x role.Label = subst (λ (k : ℕ). IsUsedAt small two_blocks k target.operand x role.Label) e target.used in
+    let f = branch_id target.operand x u in
+    let g = defined_by_2 m (subst (λ (y : ℕ). IsDefinedAt two_blocks y m) f d) in
+    later (subst (λ (k : ℕ). IsEntryLabel two_blocks k) g entry)
+not_entered _ _ (Broken.parents n phi not) s e = cc
+not_entered _ _ (Broken.same_labels n x op u w) s e = cc
+not_entered _ _ (Broken.missing n m) s e = cc
+not_entered _ _ (Broken.pair_missing n m) s e = cc
+
+to_entry : Broken small (function ∷ label 1 ∷ branch 1 ∷ []) F2 2
+to_entry =
+    Broken.to_entry 2 1 1 (record { branch = refl; operand = 0; used = record { inst = branch 1; there = refl; used = branch_used 1 } }) (record { inst = label 1; there = refl; result = refl })
+    (record { label = refl; function = 0; there = refl; after = omega arith; first = λ k a b. absurd (omega (arith, a, b)); same = λ k a b. absurd (omega (arith, a, b)) })
+
 pub returns : goal.returns
 returns c = record {
   no_label = Broken.no_label 0 0 1 (inl refl) (record { inst = branch 1; there = refl; used = branch_used 1 }) none_labelled;
@@ -104,4 +202,10 @@ returns c = record {
   not_last = not_last;
   defined = (1, 1, omega arith, refl, record { inst = label 1; there = refl; result = refl });
   undefined = undefined;
+  walk = walked;
+  no_walk = no_walk;
+  leads = record { of = of_block; id = 2; target = leads; label = labelled };
+  not_back = not_back;
+  to_entry = to_entry;
+  to_other = λ b. not_entered F2 2 b refl refl;
 }

@@ -4,18 +4,17 @@ use Rattle.std.proofs.lemmas.Bool.{eqb-true}
 use Rattle.spv_inst.specs.Operand.{PlainInst}
 use Rattle.spv_inst.specs.Module.{plain_inst}
 use Rattle.spv_branches.specs.Code.{insts_of}
-use Rattle.spv_branches.specs.Labels.{is_labelled}
-use Rattle.spv_branches.specs.Target.{is_branch, is_conditional, IsOp}
+use Rattle.spv_branches.specs.Target.{is_conditional, IsOp}
 use Rattle.spv_branches.proofs.Labelled.{inst_get, op_holds, op_tells}
-use Rattle.spv_branches.proofs.Firsts.{op_moved, branch_lacks, branch_enters, branch_same, branch_fine}
-use Rattle.spv_branches.proofs.Places.{branch_labelled}
+use Rattle.spv_branches.proofs.Firsts.{branch_lacks, branch_enters, branch_same, branch_fine}
 use Rattle.spv_branches.proofs.rules.branch_rule.Goals as goal
 
-pub targets_of-requires-clause-op : goal.targets_of-requires-clause-op
-targets_of-requires-clause-op c = op_moved (insts_of c.args.code.now) c.args.at is_branch is_labelled branch_labelled c.requires.op
-
 pub has_same_labels-requires-clause-op : goal.has_same_labels-requires-clause-op
-has_same_labels-requires-clause-op c = op_moved (insts_of c.args.code.now) c.args.at is_branch is_labelled branch_labelled c.requires.op
+has_same_labels-requires-clause-op c =
+    let code = c.args.code.now in
+    let i : PlainInst = plain_inst (get_or code.insts.now c.args.at c.index-code-at.result) in
+    let there : slice_get (insts_of code) c.args.at ≡ Some i = inst_get code.insts.now c.args.at c.index-code-at.result c.requires.at in
+    op_holds (insts_of code) c.args.at i is_conditional there (ap is_conditional c.if-code-at-eq-BRANCH_CONDITIONAL.true)
 
 pub returns-in-Lacking : goal.returns-in-Lacking
 returns-in-Lacking c = λ G is. let t = rw c.in-Lacking.is at (c.targets_of.ensures G is) in branch_lacks G (insts_of c.args.code.now) c.args.at c.requires.op t

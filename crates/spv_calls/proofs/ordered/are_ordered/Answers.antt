@@ -1,8 +1,9 @@
-use Rattle.spv_calls.proofs.Orders.{backward_acyclic, forward_acyclic}
+use Rattle.spv_calls.specs.declared.ordered.Way.TheVariants.{Back, On}
+use Rattle.spv_calls.proofs.Orders.{leading_acyclic}
 use Rattle.spv_calls.proofs.ordered.are_ordered.Goals as goal
 
-pub returns-then-are_backward : goal.returns-then-are_backward
-returns-then-are_backward c = λ t. backward_acyclic c.args.calls.now (c.are_backward.ensures c.if-are_backward.true)
+pub returns-then-all_lead : goal.returns-then-all_lead
+returns-then-all_lead c = λ t. leading_acyclic c.args.calls.now Back (c.all_lead.ensures c.if-all_lead.true)
 
-pub returns-else-are_backward : goal.returns-else-are_backward
-returns-else-are_backward c = λ t. forward_acyclic c.args.calls.now (c.are_forward.ensures t)
+pub returns-else-all_lead : goal.returns-else-all_lead
+returns-else-all_lead c = λ t. leading_acyclic c.args.calls.now On (c.all_lead-else-all_lead.ensures t)

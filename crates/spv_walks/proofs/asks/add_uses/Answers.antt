@@ -1,4 +1,4 @@
-use Rattle.std.proofs.Common.{◌≡◌, ◌≤◌, ◌+◌, ◌++◌, ℕ, List, [], ◌∷◌, Vec, Global, Some, length, get_or, refl, sym, ap, subst, arith}
+use Rattle.std.proofs.Common.{◌≡◌, ◌≤◌, ◌+◌, ◌++◌, ℕ, List, [], ◌∷◌, Vec, Global, Some, length, get_or, sym, ap, subst, arith}
 use Rattle.std.specs.Prelude.{slice_get}
 use Rattle.std.proofs.lemmas.List.{length-map}
 use Rattle.spv_grammar.specs.Table.{Table}
@@ -25,12 +25,12 @@ loop-n-preserved c =
     let P : Table → ℕ → Ask → Type 0 = λ G j a. IsUseAsk G (insts_of code) starts c.args.block c.args.at j a in
     elim c.match-use_ask.branch [
       | in-Some+in_ok-push w ↦ (
-          let one = adds_one code (λ G a. P G n a) now w.in-Some.ask (λ G is. w.in-Some.ensures G starts is refl) (λ G is a p. one_use G code starts c.args.block c.args.at c.loop-n.n w.in-Some.ask a is (w.in-Some.ensures G starts is refl) p) in
+          let one = adds_one code (λ G a. P G n a) now w.in-Some.ask (λ G is. w.in-Some.ensures G is) (λ G is a p. one_use G code starts c.args.block c.args.at c.loop-n.n w.in-Some.ask a is (w.in-Some.ensures G is) p) in
           let all = adds_step code P n old now (now ++ w.in-Some.ask ∷ []) c.loop-n.invariant one in
           let pushed = subst (λ (xs : List Ask). AddsBy code (UpTo (n + 1) P) old xs) (sym w.in_ok-push.ensures.items) all in
           subst (λ (v : Vec Ask Global). AddsBy code (UpTo (n + 1) P) old v.items) (sym w.asks-is) pushed)
       | in_default w ↦ (
-          let none = adds_none code (λ G a. P G n a) now (λ G is. w.in_default.ensures G starts is refl) in
+          let none = adds_none code (λ G a. P G n a) now (λ G is. w.in_default.ensures G is) in
           let all = adds_step code P n old now now c.loop-n.invariant none in
           subst (λ (v : Vec Ask Global). AddsBy code (UpTo (n + 1) P) old v.items) (sym w.asks-is) all)
     ]

@@ -5,31 +5,29 @@ use Rattle.spv_walks.proofs.Asking.{no_use, no_value, no_need, no_role, use_aske
 use Rattle.spv_walks.proofs.asks.use_ask.Goals as goal
 
 pub returns-in_err-value : goal.returns-in_err-value
-returns-in_err-value c = λ G starts is e. rw c.from_residual.ensures (no_use G c.args.code.now starts c.args.block c.args.at c.args.n (c.in_err-value.ensures.used G is))
+returns-in_err-value c = λ G is. rw c.from_residual.ensures (no_use G c.args.code.now c.args.blocks.now.starts.now c.args.block c.args.at c.args.n (c.in_err-value.ensures.used G is))
 
 pub returns-then-value-at : goal.returns-then-value-at
-returns-then-value-at c = λ G starts is e.
-    let from = c.if-start-value.true in
-    no_need G c.args.code.now starts c.args.block c.args.at c.args.n c.in_ok-value.value is (c.in_ok-value.ensures.used G is) (omega (arith, from, e)) c.if-value-at.true
+returns-then-value-at c = λ G is. no_need G c.args.code.now c.args.blocks.now.starts.now c.args.block c.args.at c.args.n c.in_ok-value.value is (c.in_ok-value.ensures.used G is) c.if-start-value.true c.if-value-at.true
 
 pub returns-in_err-used : goal.returns-in_err-used
-returns-in_err-used c = λ G starts is e.
+returns-in_err-used c = λ G is.
     let code = c.args.code.now in
     let i = plain_inst (get_or code.insts.now c.args.at c.index-code-at.result) in
-    let there = inst_get code.insts.now c.args.at c.index-code-at.result c.requires in
-    rw c.from_residual-in_err-used.ensures (no_role G code starts c.args.block c.args.at c.args.n i there (c.in_err-used.ensures G (is.plan.fits c.args.at i there)))
+    let there = inst_get code.insts.now c.args.at c.index-code-at.result c.requires.at in
+    rw c.from_residual-in_err-used.ensures (no_role G code c.args.blocks.now.starts.now c.args.block c.args.at c.args.n i there (c.in_err-used.ensures G (is.plan.fits c.args.at i there)))
 
 pub returns-in_ok-used : goal.returns-in_ok-used
-returns-in_ok-used c = λ G starts is e.
+returns-in_ok-used c = λ G is.
     let code = c.args.code.now in
     let i = plain_inst (get_or code.insts.now c.args.at c.index-code-at.result) in
-    let there = inst_get code.insts.now c.args.at c.index-code-at.result c.requires in
-    use_asked G code starts c.args.block c.args.at c.args.n c.in_ok-used.field-0 c.in_ok-value.value i there (c.in_ok-value.ensures.used G is) (c.in_ok-used.ensures G (is.plan.fits c.args.at i there))
-    (λ y at. c.if-is_local.ensures G y is at)
+    let there = inst_get code.insts.now c.args.at c.index-code-at.result c.requires.at in
+    use_asked G code c.args.blocks.now.starts.now c.args.block c.args.at c.args.n c.in_ok-used.field-0 c.in_ok-value.value i there (c.in_ok-value.ensures.used G is) (c.in_ok-used.ensures G (is.plan.fits c.args.at i there))
+    (λ y at. c.if-is_local_in.ensures G y is at)
     (λ h. elim c.else-start-value.either [
       | inl late ↦ (let k = late.1 in let l = h.1 in omega (arith, k, l))
-      | inr early ↦ (let k = h.0 in omega (arith, early, k, e))
+      | inr early ↦ (let k = h.0 in omega (arith, early, k))
     ])
 
-pub returns-else-is_local : goal.returns-else-is_local
-returns-else-is_local c = λ G starts is e. no_value G c.args.code.now starts c.args.block c.args.at c.args.n c.in_ok-value.value (c.in_ok-value.ensures.used G is) (λ y at. c.if-is_local.ensures G y is at)
+pub returns-else-is_local_in : goal.returns-else-is_local_in
+returns-else-is_local_in c = λ G is. no_value G c.args.code.now c.args.blocks.now.starts.now c.args.block c.args.at c.args.n c.in_ok-value.value (c.in_ok-value.ensures.used G is) (λ y at. c.if-is_local_in.ensures G y is at)

@@ -1,5 +1,5 @@
-use Rattle.std.proofs.Common.{◌≡◌, ◌∙◌, ℕ, List, Option, Some, length, sym, ap, subst, arith}
-use Rattle.std.specs.Prelude.{IfSome}
+use Rattle.std.proofs.Common.{◌≡◌, ◌∙◌, ℕ, List, Bool, true, false, Option, Some, length, refl, sym, ap, subst, arith}
+use Rattle.std.specs.Prelude.{not, IfSome}
 use Rattle.std.specs.List.Sorted.{IsPermutation}
 use Rattle.std.proofs.lemmas.List.Sorted.{IsPermutation-refl}
 use Rattle.std.proofs.lemmas.List.{length-map}
@@ -17,14 +17,18 @@ use Rattle.spv_walks.specs.Missed.{IsFirstIn}
 use Rattle.spv_walks.proofs.Deciding.{graph_of, is_graph, of_blocks, asked, all_by, first_by, if_first, none_by, none_asked, is_none}
 use Rattle.spv_walks.proofs.function.first_in_function.Goals as goal
 
+not_tells : (b : Bool) → not b ≡ true → b ≡ false
+not_tells true h = cc
+not_tells false h = refl
+
 pub missed_first-requires-clause-graph : goal.missed_first-requires-clause-graph
 missed_first-requires-clause-graph c =
     let code = c.args.code.now in
-    let b : Blocks = record { function = c.args.function; end = c.function_end-end.result; starts = c.as_slice.result; numbers = c.as_slice-2.result } in
+    let b : Blocks = record { function = c.args.function; end = c.args.extent.end; starts = c.as_slice.result; numbers = c.as_slice-2.result } in
     let numbered : c.as_slice-2.result.now ≡ c.divide.new.numbers = c.as_slice-2.ensures.value ∙ taken c.divide.new.numbers _ _ (let l = c.divide.auto.numbers in let m = c.deref_mut.ensures.len in omega (arith, l, m)) in
-    let laid : IsLaid (insts_of code) c.args.function c.function_end-end.result c.as_slice.result.now c.as_slice-2.result.now =
-    subst (λ (xs : List ℕ). IsLaid (insts_of code) c.args.function c.function_end-end.result xs c.as_slice-2.result.now) (sym c.as_slice.ensures.value)
-    (subst (λ (xs : List ℕ). IsLaid (insts_of code) c.args.function c.function_end-end.result c.divide.new.starts.items xs) (sym numbered) c.in_ok-divide.ensures) in
+    let laid : IsLaid (insts_of code) c.args.function c.args.extent.end c.as_slice.result.now c.as_slice-2.result.now =
+    subst (λ (xs : List ℕ). IsLaid (insts_of code) c.args.function c.args.extent.end xs c.as_slice-2.result.now) (sym c.as_slice.ensures.value)
+    (subst (λ (xs : List ℕ). IsLaid (insts_of code) c.args.function c.args.extent.end c.divide.new.starts.items xs) (sym numbered) c.in_ok-divide.ensures) in
     let are : AreBlocks (insts_of code) b = record {
       laid = laid;
       count = (
@@ -40,11 +44,11 @@ missed_first-requires-clause-graph c =
 pub missed_first-requires-clause-asks : goal.missed_first-requires-clause-asks
 missed_first-requires-clause-asks c =
     let code = c.args.code.now in
-    let b : Blocks = record { function = c.args.function; end = c.function_end-end.result; starts = c.as_slice.result; numbers = c.as_slice-2.result } in
+    let b : Blocks = record { function = c.args.function; end = c.args.extent.end; starts = c.as_slice.result; numbers = c.as_slice-2.result } in
     let numbered : c.as_slice-2.result.now ≡ c.divide.new.numbers = c.as_slice-2.ensures.value ∙ taken c.divide.new.numbers _ _ (let l = c.divide.auto.numbers in let m = c.deref_mut.ensures.len in omega (arith, l, m)) in
-    let laid : IsLaid (insts_of code) c.args.function c.function_end-end.result c.as_slice.result.now c.as_slice-2.result.now =
-    subst (λ (xs : List ℕ). IsLaid (insts_of code) c.args.function c.function_end-end.result xs c.as_slice-2.result.now) (sym c.as_slice.ensures.value)
-    (subst (λ (xs : List ℕ). IsLaid (insts_of code) c.args.function c.function_end-end.result c.divide.new.starts.items xs) (sym numbered) c.in_ok-divide.ensures) in
+    let laid : IsLaid (insts_of code) c.args.function c.args.extent.end c.as_slice.result.now c.as_slice-2.result.now =
+    subst (λ (xs : List ℕ). IsLaid (insts_of code) c.args.function c.args.extent.end xs c.as_slice-2.result.now) (sym c.as_slice.ensures.value)
+    (subst (λ (xs : List ℕ). IsLaid (insts_of code) c.args.function c.args.extent.end c.divide.new.starts.items xs) (sym numbered) c.in_ok-divide.ensures) in
     let are : AreBlocks (insts_of code) b = record {
       laid = laid;
       count = (
@@ -66,11 +70,11 @@ missed_first-requires-clause-asks c =
 pub returns-in-Some-clause-first : goal.returns-in-Some-clause-first
 returns-in-Some-clause-first c =
     let code = c.args.code.now in
-    let b : Blocks = record { function = c.args.function; end = c.function_end-end.result; starts = c.as_slice.result; numbers = c.as_slice-2.result } in
+    let b : Blocks = record { function = c.args.function; end = c.args.extent.end; starts = c.as_slice.result; numbers = c.as_slice-2.result } in
     let numbered : c.as_slice-2.result.now ≡ c.divide.new.numbers = c.as_slice-2.ensures.value ∙ taken c.divide.new.numbers _ _ (let l = c.divide.auto.numbers in let m = c.deref_mut.ensures.len in omega (arith, l, m)) in
-    let laid : IsLaid (insts_of code) c.args.function c.function_end-end.result c.as_slice.result.now c.as_slice-2.result.now =
-    subst (λ (xs : List ℕ). IsLaid (insts_of code) c.args.function c.function_end-end.result xs c.as_slice-2.result.now) (sym c.as_slice.ensures.value)
-    (subst (λ (xs : List ℕ). IsLaid (insts_of code) c.args.function c.function_end-end.result c.divide.new.starts.items xs) (sym numbered) c.in_ok-divide.ensures) in
+    let laid : IsLaid (insts_of code) c.args.function c.args.extent.end c.as_slice.result.now c.as_slice-2.result.now =
+    subst (λ (xs : List ℕ). IsLaid (insts_of code) c.args.function c.args.extent.end xs c.as_slice-2.result.now) (sym c.as_slice.ensures.value)
+    (subst (λ (xs : List ℕ). IsLaid (insts_of code) c.args.function c.args.extent.end c.divide.new.starts.items xs) (sym numbered) c.in_ok-divide.ensures) in
     let are : AreBlocks (insts_of code) b = record {
       laid = laid;
       count = (
@@ -90,27 +94,27 @@ returns-in-Some-clause-first c =
     let all = all_by G code b.starts.now c.build.new.graph c.clear.new.self.items c.add_all.new.asks.items left left is c.clear.ensures.items c.in_ok-add_all.ensures opened (IsPermutation-refl left) in
     first_by G code c.args.function b.starts.now c.build.new.graph left is g all (Some c.in-Some.inst) (subst (λ (xs : List Ask). IsFirstMissed c.build.new.graph xs (Some c.in-Some.inst)) c.as_slice-4.ensures.value first)
 
-pub returns-then-not-has_phi-clause-first : goal.returns-then-not-has_phi-clause-first
-returns-then-not-has_phi-clause-first c =
+pub returns-then-not-extent-clause-first : goal.returns-then-not-extent-clause-first
+returns-then-not-extent-clause-first c =
     let code = c.args.code.now in
-    let b : Blocks = record { function = c.args.function; end = c.function_end-end.result; starts = c.as_slice.result; numbers = c.as_slice-2.result } in
+    let b : Blocks = record { function = c.args.function; end = c.args.extent.end; starts = c.as_slice.result; numbers = c.as_slice-2.result } in
     let numbered : c.as_slice-2.result.now ≡ c.divide.new.numbers = c.as_slice-2.ensures.value ∙ taken c.divide.new.numbers _ _ (let l = c.divide.auto.numbers in let m = c.deref_mut.ensures.len in omega (arith, l, m)) in
-    let laid : IsLaid (insts_of code) c.args.function c.function_end-end.result c.as_slice.result.now c.as_slice-2.result.now =
-    subst (λ (xs : List ℕ). IsLaid (insts_of code) c.args.function c.function_end-end.result xs c.as_slice-2.result.now) (sym c.as_slice.ensures.value)
-    (subst (λ (xs : List ℕ). IsLaid (insts_of code) c.args.function c.function_end-end.result c.divide.new.starts.items xs) (sym numbered) c.in_ok-divide.ensures) in
+    let laid : IsLaid (insts_of code) c.args.function c.args.extent.end c.as_slice.result.now c.as_slice-2.result.now =
+    subst (λ (xs : List ℕ). IsLaid (insts_of code) c.args.function c.args.extent.end xs c.as_slice-2.result.now) (sym c.as_slice.ensures.value)
+    (subst (λ (xs : List ℕ). IsLaid (insts_of code) c.args.function c.args.extent.end c.divide.new.starts.items xs) (sym numbered) c.in_ok-divide.ensures) in
     let still = is_none c.add_all.new.asks.items c.add_all.new.asks.len c.is_empty.result (let o = c.add_all.new.asks.ok.0 in omega (arith, o)) c.is_empty.ensures c.if-is_empty.true in
     λ G is.
     none_by G code c.args.function b.starts.now laid.divided (none_asked G code b.starts.now c.clear.new.self.items c.add_all.new.asks.items is c.clear.ensures.items still c.in_ok-add_all.ensures)
-    (λ n of op. let x = laid.extent.all n of in c.has_phi.ensures c.if-not-has_phi.true n x.0 x.1 op)
+    (λ n of op. let x = laid.extent.all n of in c.requires.phis (not_tells c.args.extent.has_phis c.if-not-extent.true) n x.0 x.1 op)
 
 pub open_asks-requires-clause-graph : goal.open_asks-requires-clause-graph
 open_asks-requires-clause-graph c =
     let code = c.args.code.now in
-    let b : Blocks = record { function = c.args.function; end = c.function_end-end.result; starts = c.as_slice.result; numbers = c.as_slice-2.result } in
+    let b : Blocks = record { function = c.args.function; end = c.args.extent.end; starts = c.as_slice.result; numbers = c.as_slice-2.result } in
     let numbered : c.as_slice-2.result.now ≡ c.divide.new.numbers = c.as_slice-2.ensures.value ∙ taken c.divide.new.numbers _ _ (let l = c.divide.auto.numbers in let m = c.deref_mut.ensures.len in omega (arith, l, m)) in
-    let laid : IsLaid (insts_of code) c.args.function c.function_end-end.result c.as_slice.result.now c.as_slice-2.result.now =
-    subst (λ (xs : List ℕ). IsLaid (insts_of code) c.args.function c.function_end-end.result xs c.as_slice-2.result.now) (sym c.as_slice.ensures.value)
-    (subst (λ (xs : List ℕ). IsLaid (insts_of code) c.args.function c.function_end-end.result c.divide.new.starts.items xs) (sym numbered) c.in_ok-divide.ensures) in
+    let laid : IsLaid (insts_of code) c.args.function c.args.extent.end c.as_slice.result.now c.as_slice-2.result.now =
+    subst (λ (xs : List ℕ). IsLaid (insts_of code) c.args.function c.args.extent.end xs c.as_slice-2.result.now) (sym c.as_slice.ensures.value)
+    (subst (λ (xs : List ℕ). IsLaid (insts_of code) c.args.function c.args.extent.end c.divide.new.starts.items xs) (sym numbered) c.in_ok-divide.ensures) in
     let are : AreBlocks (insts_of code) b = record {
       laid = laid;
       count = (
@@ -126,11 +130,11 @@ open_asks-requires-clause-graph c =
 pub open_asks-requires-clause-asks : goal.open_asks-requires-clause-asks
 open_asks-requires-clause-asks c =
     let code = c.args.code.now in
-    let b : Blocks = record { function = c.args.function; end = c.function_end-end.result; starts = c.as_slice.result; numbers = c.as_slice-2.result } in
+    let b : Blocks = record { function = c.args.function; end = c.args.extent.end; starts = c.as_slice.result; numbers = c.as_slice-2.result } in
     let numbered : c.as_slice-2.result.now ≡ c.divide.new.numbers = c.as_slice-2.ensures.value ∙ taken c.divide.new.numbers _ _ (let l = c.divide.auto.numbers in let m = c.deref_mut.ensures.len in omega (arith, l, m)) in
-    let laid : IsLaid (insts_of code) c.args.function c.function_end-end.result c.as_slice.result.now c.as_slice-2.result.now =
-    subst (λ (xs : List ℕ). IsLaid (insts_of code) c.args.function c.function_end-end.result xs c.as_slice-2.result.now) (sym c.as_slice.ensures.value)
-    (subst (λ (xs : List ℕ). IsLaid (insts_of code) c.args.function c.function_end-end.result c.divide.new.starts.items xs) (sym numbered) c.in_ok-divide.ensures) in
+    let laid : IsLaid (insts_of code) c.args.function c.args.extent.end c.as_slice.result.now c.as_slice-2.result.now =
+    subst (λ (xs : List ℕ). IsLaid (insts_of code) c.args.function c.args.extent.end xs c.as_slice-2.result.now) (sym c.as_slice.ensures.value)
+    (subst (λ (xs : List ℕ). IsLaid (insts_of code) c.args.function c.args.extent.end c.divide.new.starts.items xs) (sym numbered) c.in_ok-divide.ensures) in
     let are : AreBlocks (insts_of code) b = record {
       laid = laid;
       count = (
@@ -150,11 +154,11 @@ open_asks-requires-clause-asks c =
 pub first_missed-requires-clause-graph : goal.first_missed-requires-clause-graph
 first_missed-requires-clause-graph c =
     let code = c.args.code.now in
-    let b : Blocks = record { function = c.args.function; end = c.function_end-end.result; starts = c.as_slice.result; numbers = c.as_slice-2.result } in
+    let b : Blocks = record { function = c.args.function; end = c.args.extent.end; starts = c.as_slice.result; numbers = c.as_slice-2.result } in
     let numbered : c.as_slice-2.result.now ≡ c.divide.new.numbers = c.as_slice-2.ensures.value ∙ taken c.divide.new.numbers _ _ (let l = c.divide.auto.numbers in let m = c.deref_mut.ensures.len in omega (arith, l, m)) in
-    let laid : IsLaid (insts_of code) c.args.function c.function_end-end.result c.as_slice.result.now c.as_slice-2.result.now =
-    subst (λ (xs : List ℕ). IsLaid (insts_of code) c.args.function c.function_end-end.result xs c.as_slice-2.result.now) (sym c.as_slice.ensures.value)
-    (subst (λ (xs : List ℕ). IsLaid (insts_of code) c.args.function c.function_end-end.result c.divide.new.starts.items xs) (sym numbered) c.in_ok-divide.ensures) in
+    let laid : IsLaid (insts_of code) c.args.function c.args.extent.end c.as_slice.result.now c.as_slice-2.result.now =
+    subst (λ (xs : List ℕ). IsLaid (insts_of code) c.args.function c.args.extent.end xs c.as_slice-2.result.now) (sym c.as_slice.ensures.value)
+    (subst (λ (xs : List ℕ). IsLaid (insts_of code) c.args.function c.args.extent.end c.divide.new.starts.items xs) (sym numbered) c.in_ok-divide.ensures) in
     let are : AreBlocks (insts_of code) b = record {
       laid = laid;
       count = (
@@ -170,11 +174,11 @@ first_missed-requires-clause-graph c =
 pub first_missed-requires-clause-asks : goal.first_missed-requires-clause-asks
 first_missed-requires-clause-asks c =
     let code = c.args.code.now in
-    let b : Blocks = record { function = c.args.function; end = c.function_end-end.result; starts = c.as_slice.result; numbers = c.as_slice-2.result } in
+    let b : Blocks = record { function = c.args.function; end = c.args.extent.end; starts = c.as_slice.result; numbers = c.as_slice-2.result } in
     let numbered : c.as_slice-2.result.now ≡ c.divide.new.numbers = c.as_slice-2.ensures.value ∙ taken c.divide.new.numbers _ _ (let l = c.divide.auto.numbers in let m = c.deref_mut.ensures.len in omega (arith, l, m)) in
-    let laid : IsLaid (insts_of code) c.args.function c.function_end-end.result c.as_slice.result.now c.as_slice-2.result.now =
-    subst (λ (xs : List ℕ). IsLaid (insts_of code) c.args.function c.function_end-end.result xs c.as_slice-2.result.now) (sym c.as_slice.ensures.value)
-    (subst (λ (xs : List ℕ). IsLaid (insts_of code) c.args.function c.function_end-end.result c.divide.new.starts.items xs) (sym numbered) c.in_ok-divide.ensures) in
+    let laid : IsLaid (insts_of code) c.args.function c.args.extent.end c.as_slice.result.now c.as_slice-2.result.now =
+    subst (λ (xs : List ℕ). IsLaid (insts_of code) c.args.function c.args.extent.end xs c.as_slice-2.result.now) (sym c.as_slice.ensures.value)
+    (subst (λ (xs : List ℕ). IsLaid (insts_of code) c.args.function c.args.extent.end c.divide.new.starts.items xs) (sym numbered) c.in_ok-divide.ensures) in
     let are : AreBlocks (insts_of code) b = record {
       laid = laid;
       count = (
@@ -198,11 +202,11 @@ first_missed-requires-clause-asks c =
 pub returns-clause-first : goal.returns-clause-first
 returns-clause-first c =
     let code = c.args.code.now in
-    let b : Blocks = record { function = c.args.function; end = c.function_end-end.result; starts = c.as_slice.result; numbers = c.as_slice-2.result } in
+    let b : Blocks = record { function = c.args.function; end = c.args.extent.end; starts = c.as_slice.result; numbers = c.as_slice-2.result } in
     let numbered : c.as_slice-2.result.now ≡ c.divide.new.numbers = c.as_slice-2.ensures.value ∙ taken c.divide.new.numbers _ _ (let l = c.divide.auto.numbers in let m = c.deref_mut.ensures.len in omega (arith, l, m)) in
-    let laid : IsLaid (insts_of code) c.args.function c.function_end-end.result c.as_slice.result.now c.as_slice-2.result.now =
-    subst (λ (xs : List ℕ). IsLaid (insts_of code) c.args.function c.function_end-end.result xs c.as_slice-2.result.now) (sym c.as_slice.ensures.value)
-    (subst (λ (xs : List ℕ). IsLaid (insts_of code) c.args.function c.function_end-end.result c.divide.new.starts.items xs) (sym numbered) c.in_ok-divide.ensures) in
+    let laid : IsLaid (insts_of code) c.args.function c.args.extent.end c.as_slice.result.now c.as_slice-2.result.now =
+    subst (λ (xs : List ℕ). IsLaid (insts_of code) c.args.function c.args.extent.end xs c.as_slice-2.result.now) (sym c.as_slice.ensures.value)
+    (subst (λ (xs : List ℕ). IsLaid (insts_of code) c.args.function c.args.extent.end c.divide.new.starts.items xs) (sym numbered) c.in_ok-divide.ensures) in
     let are : AreBlocks (insts_of code) b = record {
       laid = laid;
       count = (

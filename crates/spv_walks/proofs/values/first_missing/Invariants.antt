@@ -1,4 +1,4 @@
-use Rattle.std.proofs.Common.{◌≡◌, length}
+use Rattle.std.proofs.Common.{◌≡◌, ◌-◌, length}
 use Rattle.spv_walks.proofs.Telling.{AreSound}
 use Rattle.spv_walks.proofs.values.first_missing.Given as goal
 
@@ -7,3 +7,6 @@ invariant-loop-at l = record {
   count : length l.buffers.numbers.items ≡ length l.code.insts.now;
   sound : AreSound l.code l.at;
 }
+
+abbrev pub decreases-loop-at : goal.decreases-loop-at
+decreases-loop-at l = l.count - l.at

@@ -6,8 +6,16 @@ use Rattle.spv_inst.specs.Module.{plain_inst, plain_operands}
 use Rattle.spv_branches.specs.Ready.{IsLocalValue}
 use Rattle.spv_branches.proofs.Labelled.{inst_get}
 use Rattle.spv_walks.specs.Code.{insts_of}
+use Rattle.spv_walks.proofs.Alone.{function_op}
 use Rattle.spv_walks.proofs.Coded.{value_here, value_inside, value_typed, value_not, by_type, by_order}
 use Rattle.spv_walks.proofs.code.Code.is_local.Goals as goal
+
+pub returns-then-place-self : goal.returns-then-place-self
+returns-then-place-self c = λ G x is at v.
+    let r = value_inside G c.args.self.now x c.args.place is at v in
+    let lt = c.if-place-self.true in
+    let after = r.1 in
+    is.global r.0 (omega (arith, lt, after)) (function_op (insts_of c.args.self.now) r.0 r.2.begun.there)
 
 pub returns-in_default : goal.returns-in_default
 returns-in_default c = λ G x is at v.

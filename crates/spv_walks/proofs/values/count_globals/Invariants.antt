@@ -1,0 +1,7 @@
+use Rattle.std.proofs.Common.{ℕ, ◌<◌, map}
+use Rattle.spv_inst.specs.Module.{plain_inst}
+use Rattle.spv_branches.specs.Target.{is_function, IsOp}
+use Rattle.spv_walks.proofs.values.count_globals.Given as goal
+
+abbrev pub invariant-loop-at : goal.invariant-loop-at
+invariant-loop-at l = (k : ℕ) → k < l.at → ¬ (IsOp (map plain_inst l.insts) k is_function)
