@@ -19,3 +19,7 @@ pub mod Patterns
 pub mod LineRead
 pub mod ShownBack
 pub mod Imaged
+pub mod Opening
+pub mod Celled
+pub mod OneBit
+pub mod Backs

@@ -1,5 +1,5 @@
 -- Operands of one number each, at the front of a line's operands.
-use Rattle.std.proofs.Common.{◌≡◌, ◌≢◌, ◌++◌, ◌∙◌, ◌<◌, ◌^◌, ℕ, List, [], ◌∷◌, Option, Some, None, true, false, map, refl, sym, ap, arith}
+use Rattle.std.proofs.Common.{◌≡◌, ◌≢◌, ◌++◌, ◌∙◌, ◌<◌, ◌^◌, ℕ, List, [], ◌∷◌, Option, Some, None, map, refl, sym, ap}
 use Rattle.std.specs.Prelude.{decimal}
 use Rattle.spv_grammar.specs.Table.{Table, kind_of}
 use Rattle.spv_inst.specs.declared.form.Leaf as declared
@@ -8,7 +8,7 @@ use Rattle.spv_inst.specs.declared.form.Form.TheVariants.{Leaf}
 use Rattle.spv_inst.specs.Form.{form_at}
 use Rattle.spv_inst.specs.Operand.{Plain, OfType, Result, Id, Word, Context, result_in}
 use Rattle.spv_inst.specs.Shape.{Slot, alone, AsResult, shape_of}
-use Rattle.spv_inst.specs.Flat.{Due, OneOf}
+use Rattle.spv_inst.specs.Flat.{OneOf}
 use Rattle.spv_inst.specs.Agenda.{opened_kinds}
 use Rattle.spv_inst.specs.Written.{operand_words}
 use Rattle.spv_inst.proofs.Shapes.{shape_leaf}

@@ -13,7 +13,6 @@ use Rattle.spv_lines.specs.declared.asm_error.AsmCode.{AsmCode}
 use Rattle.spv_lines.specs.declared.asm_error.AsmCode.TheVariants.{S1, S2, S3, S4, S5, S6}
 use Rattle.spv_lines.specs.Operand.{IsRead}
 use Rattle.spv_lines.specs.Written.{Piece, Written}
-use Rattle.spv_lines.specs.Line.{AreWords}
 use Rattle.spv_lines.specs.Refusal.{IsBreak, Pends, Refuses, OperandsFail}
 use Rattle.spv_lines.proofs.Walking.{nearer, waiting, words_joined}
 use Rattle.spv_text.specs.declared.ids.Ids.{Ids}

@@ -4,3 +4,6 @@ pub mod Reading
 pub mod Heading
 pub mod Lines
 pub mod Named
+pub mod Lookup
+pub mod Cells
+pub mod Back

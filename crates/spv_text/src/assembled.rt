@@ -10,6 +10,7 @@ ghost use Rattle.spv_inst.specs.Encoding.{greatest_count, greatest_length};
 ghost use Rattle.spv_lines.specs.Text.{IsReadText, lines_of};
 ghost use Rattle.spv_inst.specs.Form.{form_of};
 ghost use Rattle.spv_text.specs.Kept.{Knows};
+ghost use Rattle.spv_text.specs.Lookup.{IsKnown};
 ghost use Rattle.spv_text.specs.Reading.{IsAsmFailure, LineFailsOr};
 ghost use Rattle.spv_text.specs.Lines.{HasLine, HasLines, IsTooLongOr, LinesFailOr, told_line};
 
@@ -75,16 +76,19 @@ fn line_error(code: AsmCode, before: u32) -> AsmError
 fn assemble_line<'t>(
     setting: &Setting<'t, '_>,
     desk: &mut Desk<'t>,
+    last: &mut Option<u16>,
     draft: &mut Draft,
     line: &str,
 ) -> Result<Line, AsmCode>
     requires forms { setting.now.forms.now ≡ map form_of setting.now.table.now.kinds }
     requires known { (before : List PlainInst) × Knows setting.now.types.now before }
     requires short { length draft.old ≤ 4194304 }
+    requires last { IsKnown setting.now.table.now last.old }
     ensures read { (before : List PlainInst) → Knows setting.now.types.now before → IfOk result (λ l. HasLine setting.now.table.now before line.now draft.old draft.new l.opcode l.ids) }
     ensures failed { (before : List PlainInst) → Knows setting.now.types.now before → IfErr result (λ e. LineFailsOr setting.now.table.now before (length draft.old) line.now e) }
+    ensures last { IsKnown setting.now.table.now last.new }
 {
-    let line = read_line(setting, desk, line)?;
+    let line = read_line(setting, desk, last, line)?;
     put_instruction(draft, line.opcode, desk.words.as_slice())?;
     Ok(line)
 }
@@ -108,6 +112,7 @@ fn assemble_lines(
         words: Vec::new(alloc),
         text: String::new(alloc),
     };
+    let mut last = None;
     let mut rest = text;
     let mut number = 0u32;
     while !rest.is_empty() {
@@ -117,7 +122,7 @@ fn assemble_lines(
             forms: forms.as_slice(),
             types: &types,
         };
-        match assemble_line(&setting, &mut desk, draft, line) {
+        match assemble_line(&setting, &mut desk, &mut last, draft, line) {
             Ok(line) => types.add(line.opcode, line.ids)?,
             Err(code) => return Err(line_error(code, number)),
         }

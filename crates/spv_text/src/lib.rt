@@ -2,15 +2,19 @@
 #![tactic(auto)]
 
 mod assembled;
+mod back;
+mod cells;
 mod header;
 mod ids;
 mod laws;
 mod line;
 mod name;
+mod named;
 mod names;
 mod number;
 mod operand;
 mod operands;
+mod parameters;
 mod plain;
 mod quoted;
 mod reading;

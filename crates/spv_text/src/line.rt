@@ -1,6 +1,7 @@
 //! The line of an instruction.
 
-ghost use Rattle.std.specs.Prelude.{◌≡◌, ◌++◌, ◌∷◌, [], ℕ, List, Option, OnOk, map, string_bytes};
+ghost use Rattle.std.specs.Prelude.{◌≡◌, ◌++◌, ◌∷◌, [], ℕ, List, Option, Some, OnOk, map, string_bytes};
+ghost use Rattle.spv_grammar.specs.Table.{entry_of};
 ghost use Rattle.spv_inst.specs.Form.{form_of};
 ghost use Rattle.spv_inst.specs.Operand.{PlainInst, start};
 ghost use Rattle.spv_inst.specs.Module.{plain_inst, plain_operands};
@@ -14,13 +15,14 @@ ghost use Rattle.spv_lines.specs.Line.{IsShownLine, shown_result};
 ghost use Rattle.spv_text.specs.Kept.{Knows};
 ghost use Rattle.spv_text.specs.Named.{AreNames};
 
+use crate::back::push_short;
 use crate::ids::Ids;
 use crate::name::push_name;
 use crate::names::Names;
 use crate::number::push_front;
 use crate::operand::{is_passed, push_piece, push_plain};
 use crate::types::Types;
-use spv_grammar::{Item, Table};
+use spv_grammar::{Entry, Item, Table};
 use spv_inst::due::{Agenda, Form};
 use spv_inst::{Inst, Operand};
 use std::alloc::AllocError;
@@ -122,6 +124,45 @@ fn push_result(out: &mut String, id: Option<u32>) -> Result<(), AllocError>
     }
 }
 
+/// Adds the line of an instruction, with its line feed, part by part, as `push_line` does.
+fn push_parts<'t>(
+    out: &mut String,
+    setting: &Setting<'t, '_>,
+    names: &mut Names,
+    agenda: &mut Agenda<'t>,
+    ids: Ids,
+    entry: &'t Entry,
+    inst: &Inst,
+) -> Result<(), AllocError>
+    requires forms { setting.now.forms.now ≡ map form_of setting.now.table.now.kinds }
+    requires entry { entry_of setting.now.table.now (plain_inst inst.now).opcode ≡ Some entry.now }
+    requires result { ids.result ≡ operand.result_in (plain_inst inst.now).operands }
+    requires type_id { ids.type_id ≡ operand.type_in (plain_inst inst.now).operands }
+    requires first { ids.first ≡ width.first_id (plain_inst inst.now).operands }
+    requires names { AreNames setting.now.table.now names.old }
+    ensures text { (before : List PlainInst) (further line : List ℕ) → Knows setting.now.types.now before → IsShownLine setting.now.table.now before (plain_inst inst.now) further line
+        → OnOk result (string_bytes out.new ≡ string_bytes out.old ++ (line ++ 10 ∷ [])) }
+    ensures names { AreNames setting.now.table.now names.new }
+{
+    push_result(out, ids.result)?;
+    push_name(out, setting.table, names, inst.opcode, entry)?;
+    let operands = inst.operands.as_slice();
+    if inst.opcode == SWITCH {
+        push_operands(
+            out,
+            setting,
+            names,
+            agenda,
+            entry.operands.as_slice(),
+            ids,
+            operands,
+        )?;
+    } else {
+        push_plain_operands(out, setting, names, ids, operands)?;
+    }
+    out.push('\n')
+}
+
 /// Adds the line of an instruction, with its line feed. `ids` are the instruction's own. Where no words spell the
 /// instruction, nothing is said of what is added.
 ///
@@ -146,21 +187,8 @@ pub fn push_line<'t>(
     let Some(entry) = setting.table.entry(inst.opcode) else {
         return Ok(());
     };
-    push_result(out, ids.result)?;
-    push_name(out, setting.table, names, inst.opcode, entry)?;
-    let operands = inst.operands.as_slice();
-    if inst.opcode == SWITCH {
-        push_operands(
-            out,
-            setting,
-            names,
-            agenda,
-            entry.operands.as_slice(),
-            ids,
-            operands,
-        )?;
-    } else {
-        push_plain_operands(out, setting, names, ids, operands)?;
+    if push_short(out, setting.table, names, ids.result, entry, inst)? {
+        return Ok(());
     }
-    out.push('\n')
+    push_parts(out, setting, names, agenda, ids, entry, inst)
 }

@@ -36,16 +36,16 @@ pub struct Behind<'t, 'a> {
 
 /// An operand of one word, and what is left behind it.
 #[derive(Clone, Copy, Debug)]
-struct Step<'a> {
-    word: u32,
-    rest: &'a str,
+pub struct Step<'a> {
+    pub word: u32,
+    pub rest: &'a str,
     /// The ids of the operands up to it.
-    ids: Ids,
+    pub ids: Ids,
 }
 
 /// The kind of the first item of a pattern, which is due where something is left, and the items that are left then.
 #[inline(always)]
-fn first_item<'t>(items: &'t [Item]) -> Option<(u32, &'t [Item])>
+pub fn first_item<'t>(items: &'t [Item]) -> Option<(u32, &'t [Item])>
     ensures { IfSome result (λ p. settled true (map due (items_of items.now)) ≡ OneOf (alone p.0) ∷ map due (items_of p.1.now)) }
 {
     let Some((item, later)) = items.split_first() else {
@@ -164,7 +164,12 @@ fn result_step<'a>(result_id: Option<u32>, ids: Ids, rest: &'a str) -> Option<St
 /// Takes the operand for a kind of that form, if it is an id or a literal of one word. None where another operand is due, or
 /// what stands there is no such number.
 #[inline(always)]
-fn plain_step<'a>(form: Form, result_id: Option<u32>, ids: Ids, rest: &'a str) -> Option<Step<'a>>
+pub fn plain_step<'a>(
+    form: Form,
+    result_id: Option<u32>,
+    ids: Ids,
+    rest: &'a str,
+) -> Option<Step<'a>>
     ensures { (G : grammar.Table) (c : Context) (kind : ℕ) → form ≡ form_at (kind_of G kind) → IsOfOperands ids c.operands → IsBreak rest.now
         → IfSome result (λ s. IsPlainStep G result_id c (alone kind) rest.now s.rest.now s.ids s.word) }
 {

@@ -1,6 +1,6 @@
 //! A line that is read.
 
-ghost use Rattle.std.specs.Prelude.{◌≡◌, ◌<◌, ◌≤◌, ◌+◌, ◌∷◌, ℕ, List, Some, None, true, false, IfOk, IfErr, MatchOption, map, length, take, drop, slice_index, option_map};
+ghost use Rattle.std.specs.Prelude.{◌≡◌, ◌<◌, ◌≤◌, ◌+◌, ◌∷◌, ℕ, List, Some, None, true, false, IfOk, IfErr, IfSome, MatchOption, map, length, take, drop, slice_index, option_map};
 ghost use Rattle.std.specs.List.{list_any};
 ghost use Rattle.spv_grammar.specs.declared.table.Entry as code;
 ghost use Rattle.spv_grammar.specs.Table as grammar;
@@ -16,6 +16,7 @@ ghost use Rattle.spv_tokens.specs.Answer.{IsNamed};
 ghost use Rattle.spv_text.specs.Kept.{Knows};
 ghost use Rattle.spv_text.specs.Reading.{IsLine, LineFailsOr};
 ghost use Rattle.spv_text.specs.Heading.{IsFront, IsOpcodeText, plain_parts};
+ghost use Rattle.spv_text.specs.Lookup.{IsKnown};
 
 use crate::ids::Ids;
 use crate::line::Setting;
@@ -126,7 +127,7 @@ fn opcode_of(table: &Table, name: &str) -> Option<u16>
 }
 
 /// The opcode and the entry that a name stands for. None where the table has no entry of it.
-fn find_name<'t>(table: &'t Table, name: &str) -> Option<(u16, &'t Entry)>
+fn look_up<'t>(table: &'t Table, name: &str) -> Option<(u16, &'t Entry)>
     ensures { MatchOption result ((opcode : ℕ) (entry : code.Entry) → IsInstName table.now name.now opcode entry → ⊥) (λ p. IsInstName table.now name.now p.0 p.1.now) }
 {
     let Some(opcode) = opcode_of(table, name) else {
@@ -135,6 +136,49 @@ fn find_name<'t>(table: &'t Table, name: &str) -> Option<(u16, &'t Entry)>
     let Some(entry) = table.entry(opcode) else {
         return None;
     };
+    Some((opcode, entry))
+}
+
+/// The opcode that was looked up last and its entry, if the name is that of the entry.
+fn same_name<'t>(table: &'t Table, last: Option<u16>, name: &str) -> Option<(u16, &'t Entry)>
+    requires { IsKnown table.now last }
+    ensures { IfSome result (λ p. IsInstName table.now name.now p.0 p.1.now) }
+{
+    let Some(opcode) = last else {
+        return None;
+    };
+    let Some(entry) = table.entry(opcode) else {
+        return None;
+    };
+    if entry.name.as_str() == name {
+        return Some((opcode, entry));
+    }
+    None
+}
+
+/// The opcode that a name stands for, if the name is that of the opcode's entry.
+fn own_name(opcode: u16, entry: &Entry, name: &str) -> Option<u16>
+    ensures { (G : grammar.Table) → IsInstName G name.now opcode entry.now → IsKnown G result }
+{
+    if entry.name.as_str() == name {
+        return Some(opcode);
+    }
+    None
+}
+
+/// The same as `look_up`, by the name of the last line first.
+fn find_name<'t>(table: &'t Table, last: &mut Option<u16>, name: &str) -> Option<(u16, &'t Entry)>
+    requires { IsKnown table.now last.old }
+    ensures found { MatchOption result ((opcode : ℕ) (entry : code.Entry) → IsInstName table.now name.now opcode entry → ⊥) (λ p. IsInstName table.now name.now p.0 p.1.now) }
+    ensures last { IsKnown table.now last.new }
+{
+    if let Some((opcode, entry)) = same_name(table, *last, name) {
+        return Some((opcode, entry));
+    }
+    let Some((opcode, entry)) = look_up(table, name) else {
+        return None;
+    };
+    *last = own_name(opcode, entry, name);
     Some((opcode, entry))
 }
 
@@ -222,17 +266,20 @@ fn read_front(forms: &[Form], pattern: &[Item], front: Option<&str>) -> Result<O
 pub fn read_line<'t>(
     setting: &Setting<'t, '_>,
     desk: &mut Desk<'t>,
+    last: &mut Option<u16>,
     line: &str,
 ) -> Result<Line, AsmCode>
     requires forms { setting.now.forms.now ≡ map form_of setting.now.table.now.kinds }
     requires known { (before : List PlainInst) × Knows setting.now.types.now before }
+    requires last { IsKnown setting.now.table.now last.old }
     ensures read { (before : List PlainInst) → Knows setting.now.types.now before → IfOk result (λ l. IsLine setting.now.table.now before line.now desk.new.words.items l.opcode l.ids) }
     ensures failed { (before : List PlainInst) (written : ℕ) → Knows setting.now.types.now before → IfErr result (λ e. LineFailsOr setting.now.table.now before written line.now e) }
+    ensures last { IsKnown setting.now.table.now last.new }
 {
     let Some(parts) = divide(line) else {
         return Err(AsmCode::S2);
     };
-    let Some((opcode, entry)) = find_name(setting.table, parts.name) else {
+    let Some((opcode, entry)) = find_name(setting.table, last, parts.name) else {
         return Err(AsmCode::S2);
     };
     let pattern = entry.operands.as_slice();

@@ -70,7 +70,7 @@ fn put_operand<'t>(
 }
 
 /// Whether the operands of a line end there, or a space stands before the next.
-fn is_break(rest: &str) -> bool
+pub fn is_break(rest: &str) -> bool
     ensures { (result ≡ true → IsBreak rest.now) × (result ≡ false → IsBreak rest.now → ⊥) }
 {
     match rest.as_bytes() {
@@ -80,7 +80,7 @@ fn is_break(rest: &str) -> bool
 }
 
 /// Whether a text has no zero octet.
-fn is_text(text: &str) -> bool
+pub fn is_text(text: &str) -> bool
     ensures { result ≡ is_without_zero text.now }
 {
     let octets = text.as_bytes();

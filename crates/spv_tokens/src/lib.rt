@@ -15,5 +15,5 @@ pub use name::{is_plain, read_mask, read_value};
 pub use number::{
     read_behind, read_id, read_number, read_result_id, read_short, read_type_id, read_word,
 };
-pub use quoted::read_quoted;
+pub use quoted::{Quotation, read_quoted, read_unescaped};
 pub use split::{behind, split_around, split_before, split_line, split_token};

@@ -1,6 +1,6 @@
 //! Texts in quotes.
 
-ghost use Rattle.std.specs.Prelude.{◌≡◌, ◌≢◌, ◌<◌, ◌++◌, ◌∷◌, [], ℕ, List, Some, None, IfOk, MatchOption, length, drop, slice_index, string_bytes};
+ghost use Rattle.std.specs.Prelude.{◌≡◌, ◌≢◌, ◌<◌, ◌++◌, ◌∷◌, [], ℕ, List, Some, None, IfOk, IfSome, MatchOption, length, drop, slice_index, string_bytes};
 ghost use Rattle.spv_lines.specs.Operand.{escaped, quoted};
 ghost use Rattle.spv_tokens.specs.Quoted.{IsMark};
 
@@ -66,4 +66,28 @@ pub fn read_quoted<'a>(out: &mut String, text: &'a str) -> Result<Option<&'a str
         }
     }
     Ok(None)
+}
+
+/// A text in quotes that has no escapes, and what stands behind the closing quote.
+#[derive(Clone, Copy, Debug)]
+pub struct Quotation<'a> {
+    pub text: &'a str,
+    pub rest: &'a str,
+}
+
+/// Lends the text in quotes at the front of a text, if that has no escapes. None where no such text in quotes stands there.
+pub fn read_unescaped(text: &str) -> Option<Quotation<'_>>
+    ensures { IfSome result (λ q. text.now ≡ quoted q.text.now ++ q.rest.now) }
+{
+    let Some(inside) = behind(text, b'"') else {
+        return None;
+    };
+    let Some(at) = memchr3(b'"', b'\\', b'\n', inside.as_bytes()) else {
+        return None;
+    };
+    let (plain, marked) = split_before(inside, at);
+    let Some(rest) = behind(marked, b'"') else {
+        return None;
+    };
+    Some(Quotation { text: plain, rest })
 }

@@ -4,8 +4,8 @@ use spv_grammar::Table;
 use spv_inst::Operand::{Id, Mask, Number, OfType, Result as Made, Value, Word};
 use spv_tokens::{
     Misread, behind, is_plain, read_behind, read_front, read_id, read_mask, read_number,
-    read_quoted, read_result_id, read_short, read_type_id, read_value, read_word, split_around,
-    split_before, split_line, split_token,
+    read_quoted, read_result_id, read_short, read_type_id, read_unescaped, read_value, read_word,
+    split_around, split_before, split_line, split_token,
 };
 use std::test::Fail;
 
@@ -130,6 +130,15 @@ fn reads_quotes(rt: HostRuntime) -> Result<(), Fail> {
     assert_eq!(rt; text.as_str(), "a\"\\\nö");
     assert_eq!(rt; read_quoted(&mut text, "\"a\\t\"")?, None);
     assert_eq!(rt; read_quoted(&mut text, "\"a")?, None);
+    Ok(())
+}
+
+#[test]
+fn reads_quotes_without_escapes(rt: HostRuntime) -> Result<(), Fail> {
+    let found = read_unescaped("\"aö\" %7").map(|it| (it.text, it.rest));
+    assert_eq!(rt; found, Some(("aö", " %7")));
+    assert!(rt; read_unescaped("\"a\\n\"").is_none());
+    assert!(rt; read_unescaped("\"a").is_none());
     Ok(())
 }
 

@@ -20,6 +20,7 @@ loop-rest-preserved c =
       search rules,
       lines_more c.args.table.now (lines_of c.args.text.now) c.args.draft.now l.draft c.assemble_line.new.draft l.types c.add.new.self c.split_line.result.0.now (lines_of l.rest.now) (lines_of c.split_line.result.1.now) l.number c.in-Ok.line.opcode
           c.in-Ok.line.ids a c.split_line.ensures.lines h (c.in_ok-add-in-Ok.ensures.knows a.insts h.line.inst h.line.opcode (sym i.result) (sym i.type_id) (sym i.beginning) a.types),
+      c.assemble_line.ensures.last,
     )
 
 pub returns-clause-read : goal.returns-clause-read

@@ -1,4 +1,4 @@
-use Rattle.std.proofs.Common.{◌++◌, ◌∷◌, ◌∙◌, [], ap, arith, string_bytes}
+use Rattle.std.proofs.Common.{◌++◌, ◌∙◌, [], ap, arith, string_bytes}
 use Rattle.spv_text.proofs.Defined.{on_pushed}
 use Rattle.spv_text.proofs.Digits.{fits_room, marks_room, word_token, word_utf8, as_utf8}
 use Rattle.spv_text.proofs.number.push_spaced_word.Goals as goal

@@ -10,7 +10,7 @@ returns-in_default-clause-failed c = λ before written k. line_undivided c.args.
 
 pub returns-in_default-find_name-clause-failed : goal.returns-in_default-find_name-clause-failed
 returns-in_default-find_name-clause-failed c = λ before written k.
-    line_unnamed c.args.setting.now.table.now before written c.args.line.now (plain_parts c.in-Some.parts) (sym c.in-Some.ensures) c.in_default-find_name.ensures
+    line_unnamed c.args.setting.now.table.now before written c.args.line.now (plain_parts c.in-Some.parts) (sym c.in-Some.ensures) c.in_default-find_name.ensures.found
 
 pub returns-in_err-result_id-clause-failed : goal.returns-in_err-result_id-clause-failed
 returns-in_err-result_id-clause-failed c =
@@ -18,7 +18,7 @@ returns-in_err-result_id-clause-failed c =
     λ before written k.
     let G = c.args.setting.now.table.now in
     let h = rw c.as_slice-pattern.ensures at (c.in_err-result_id.ensures G (start before c.in-Some-find_name.opcode) c.requires.forms) in
-    rw (q.1, q.2) (line_result_failed G before written c.args.line.now (plain_parts c.in-Some.parts) c.in-Some-find_name.opcode c.in-Some-find_name.entry.now _ (sym c.in-Some.ensures) c.in-Some-find_name.ensures h)
+    rw (q.1, q.2) (line_result_failed G before written c.args.line.now (plain_parts c.in-Some.parts) c.in-Some-find_name.opcode c.in-Some-find_name.entry.now _ (sym c.in-Some.ensures) c.in-Some-find_name.ensures.found h)
 
 pub read_operands-requires-clause-broken : goal.read_operands-requires-clause-broken
 read_operands-requires-clause-broken c = divided_break c.args.line.now (plain_parts c.in-Some.parts) (sym c.in-Some.ensures)
@@ -30,7 +30,7 @@ returns-in_err-ids-clause-failed c =
     let G = c.args.setting.now.table.now in
     let h = rw c.as_slice-pattern.ensures at (c.in_ok-result_id.ensures G (start before c.in-Some-find_name.opcode) c.requires.forms) in
     let f = rw c.as_slice-pattern.ensures at (c.in_err-ids.ensures.failed before k) in
-    rw (q.1, q.2) (line_operands_failed G before written c.args.line.now (plain_parts c.in-Some.parts) c.in-Some-find_name.opcode c.in-Some-find_name.entry.now c.in_ok-result_id.result_id _ (sym c.in-Some.ensures) c.in-Some-find_name.ensures h f)
+    rw (q.1, q.2) (line_operands_failed G before written c.args.line.now (plain_parts c.in-Some.parts) c.in-Some-find_name.opcode c.in-Some-find_name.entry.now c.in_ok-result_id.result_id _ (sym c.in-Some.ensures) c.in-Some-find_name.ensures.found h f)
 
 pub returns-clause-read : goal.returns-clause-read
 returns-clause-read c = λ before k.
@@ -38,4 +38,4 @@ returns-clause-read c = λ before k.
     let h = rw c.as_slice-pattern.ensures at (c.in_ok-result_id.ensures G (start before c.in-Some-find_name.opcode) c.requires.forms) in
     let f = rw c.as_slice-pattern.ensures at (c.in_ok-ids.ensures.read before k) in
     line_read G before c.args.line.now c.read_operands.new.desk.words.items (plain_parts c.in-Some.parts) c.in-Some-find_name.opcode c.in-Some-find_name.entry.now c.in_ok-result_id.result_id c.in_ok-ids.ids (sym c.in-Some.ensures)
-    c.in-Some-find_name.ensures h.0 f
+    c.in-Some-find_name.ensures.found h.0 f

@@ -1,4 +1,4 @@
-use Rattle.std.proofs.Common.{◌≡◌, ◌≢◌, ◌<◌, ◌≤◌, ◌^◌, arith, length, get_or, sym}
+use Rattle.std.proofs.Common.{◌≢◌, ◌<◌, ◌^◌, arith, length, get_or}
 use Rattle.spv_tokens.proofs.Fronts.{front_before, front_whole}
 use Rattle.spv_tokens.proofs.front.cell_at.Goals as goal
 use Rattle.spv_tokens.proofs.front.cell_at.Goals.{else-at-gt1-via-then-at-gt1+else-octets-eq48, else-at-gt1-via-else-at-gt1}

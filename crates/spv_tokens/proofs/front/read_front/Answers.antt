@@ -1,5 +1,4 @@
-use Rattle.std.proofs.Common.{◌≡◌, ◌<◌, ◌≤◌, ◌+◌, ◌-◌, ◌*◌, arith, refl, length, take, get_or}
-use Rattle.spv_lines.specs.Digits.{value}
+use Rattle.std.proofs.Common.{◌≤◌, ◌+◌, arith, refl, length}
 use Rattle.spv_tokens.proofs.Reader.{digits_more, value_more}
 use Rattle.spv_tokens.proofs.front.read_front.Goals as goal
 

@@ -7,7 +7,7 @@ use Rattle.spv_text.specs.Kept.{Knows}
 use Rattle.spv_text.specs.Reading.{SoFar}
 use denote.Shadow.{shadow}
 use denote.Text.{Utf8}
-use Rattle.spv_text.proofs.operands.read_operands.Given as goal
+use Rattle.spv_text.proofs.operands.read_left.Given as goal
 
 abbrev pub invariant-loop-more : goal.invariant-loop-more
 invariant-loop-more l = shadow (Utf8 l.rest) × ((before : List PlainInst) → Knows l.setting.types.now before
