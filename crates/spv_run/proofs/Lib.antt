@@ -30,5 +30,9 @@ pub mod Simulates
 pub mod Turns
 pub mod Tracing
 pub mod Worked
+pub mod Lone
+pub mod Elements
+pub mod Kernel
+pub mod KernelRun
 pub mod Moving
 pub mod Entries

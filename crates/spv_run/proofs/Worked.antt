@@ -17,9 +17,10 @@ use Rattle.spv_run.specs.At.{act_at, result_at, type_at}
 use Rattle.spv_run.specs.Head.{end, IsDefined, IsDeclared}
 use Rattle.spv_run.specs.State.{Ending, Finished, Limit, Stuck, State, Outcome, Goes, Last, Before}
 use Rattle.spv_run.specs.Machine.{ReadsOthers, Does, step, no_choice, bad_choice}
+use Rattle.spv_run.specs.Row.{Row}
 use Rattle.spv_run.specs.Run.{IsStart, Run, limit, next, last, stuck}
 use Rattle.spv_run.specs.declared.parts.Step.{Step}
-use Rattle.spv_run.specs.Example.{lone, unended, standing, step_at}
+use Rattle.spv_run.specs.Example.{lone_before, lone, unended, standing, step_at}
 use Rattle.spv_calls.specs.Broken.{Broken}
 use Rattle.spv_calls.specs.Calls.{IsEntryFunction}
 use Rattle.spv_calls.specs.Example.{entry, function, functions, looped}
@@ -87,26 +88,36 @@ none_at_label G is at k x used local =
     let same : inst 248 (Result 4 ∷ []) ≡ used.inst = same_Some (inst 248 (Result 4 ∷ [])) used.inst (sym at ∙ used.there) in
     absurd (no_any G (inst 248 (Result 4 ∷ [])) 248 248 _ _ k x row_248 label_free (subst (λ (i : PlainInst). IsUse G i k x role.Any) (sym same) used.used))
 
-none_at_return : (G : Table) → ReadsOthers G lone (standing 4).top
-none_at_return G k x used local =
-    let same : inst 253 [] ≡ used.inst = same_Some (inst 253 []) used.inst used.there in
+none_at_return : (G : Table) (is : List PlainInst) → slice_get is 4 ≡ Some (inst 253 []) → ReadsOthers G is (standing 4).top
+none_at_return G is at k x used local =
+    let same : inst 253 [] ≡ used.inst = same_Some (inst 253 []) used.inst (sym at ∙ used.there) in
     absurd (no_any G (inst 253 []) 253 253 _ _ k x row_253 return_free (subst (λ (i : PlainInst). IsUse G i k x role.Any) (sym same) used.used))
 
-pub defined : IsDefined lone 2 3 []
+pub defined : (rest : List PlainInst) → IsDefined (lone_before rest) 2 3 []
 unfolding act_at act_of
-defined = record { function = refl; head = end; entry = refl }
+defined rest = record { function = refl; head = end; entry = refl }
 
 pub undeclared : ¬ (IsDeclared lone 2 3 [])
 unfolding act_at act_of
 undeclared d = let e : Some Label ≡ Some FunctionEnd = d.over in let w = same_Some Label FunctionEnd e in cc
 
-pub at_label : (G : Table) → Does G lone (standing 3) (Goes (standing 4))
+pub at_label : (G : Table) (rest : List PlainInst) → Does G (lone_before rest) (standing 3) (Goes (standing 4))
 unfolding act_of result_at
-at_label G = step (inst 248 (Result 4 ∷ [])) [] [] refl refl tt (none_at_label G lone refl) tt refl
+at_label G rest = step (inst 248 (Result 4 ∷ [])) [] [] refl refl tt (none_at_label G (lone_before rest) refl) tt refl
 
-pub at_return : (G : Table) → Does G lone (standing 4) (Last Finished)
+-- The function's type says that it returns void, as an OpReturn asks.
+abbrev pub ReturnsVoid : List PlainInst → Type 0
+ReturnsVoid rest = Row (lone_before rest) 2 4 (inst 253 []) Return []
+
+pub alone_void : ReturnsVoid []
+alone_void = refl
+
+pub entered_void : ReturnsVoid (entry 3 ∷ [])
+entered_void = refl
+
+pub at_return : (G : Table) (rest : List PlainInst) → ReturnsVoid rest → Does G (lone_before rest) (standing 4) (Last Finished)
 unfolding act_of type_at
-at_return G = step (inst 253 []) [] [] refl refl tt (none_at_return G) refl (1, refl, refl)
+at_return G rest void = step (inst 253 []) [] [] refl refl tt (none_at_return G (lone_before rest) refl) void (1, refl, refl)
 
 pub at_end : (G : Table) (o : Outcome) → ¬ (Does G lone (standing 5) o)
 unfolding act_of
@@ -116,11 +127,11 @@ at_end G o (step i xs tags at v r others row m) =
 at_end G o (no_choice i c ls at e empty h) = let same : inst 56 [] ≡ i = same_Some (inst 56 []) i at in let e' = rw (← same) at e in cc
 at_end G o (bad_choice i c k ls left at e some out h) = let same : inst 56 [] ≡ i = same_Some (inst 56 []) i at in let e' = rw (← same) at e in cc
 
-pub whole : (G : Table) → Run G lone 9 (standing 3) (step_at 0 3 ∷ step_at 0 4 ∷ []) Finished
-whole G = next 8 (standing 3) (standing 4) (step_at 0 4 ∷ []) Finished (at_label G) (last 7 (standing 4) Finished (at_return G))
+pub whole : (G : Table) (rest : List PlainInst) → ReturnsVoid rest → Run G (lone_before rest) 9 (standing 3) (step_at 0 3 ∷ step_at 0 4 ∷ []) Finished
+whole G rest void = next 8 (standing 3) (standing 4) (step_at 0 4 ∷ []) Finished (at_label G rest) (last 7 (standing 4) Finished (at_return G rest void))
 
 pub short : (G : Table) → Run G lone 1 (standing 3) (step_at 0 3 ∷ []) Limit
-short G = next 0 (standing 3) (standing 4) [] Limit (at_label G) (limit (standing 4))
+short G = next 0 (standing 3) (standing 4) [] Limit (at_label G []) (limit (standing 4))
 
 pub at_the_end : (G : Table) → Run G lone 9 (standing 5) [] Stuck
 at_the_end G = stuck 8 (standing 5) (at_end G)
@@ -139,15 +150,15 @@ sooner G _ _ _ (limit s) h g = absurd (omega (arith, h))
 sooner G _ _ _ (next n s after steps e d r) h g = cc
 sooner G _ _ _ (last n s e d) h g = cc
 sooner G _ _ _ (Run.before n s e d) h g = never G e d
-sooner G _ _ _ (stuck n s none) h g = none (Goes (standing 4)) (at_label G)
+sooner G _ _ _ (stuck n s none) h g = none (Goes (standing 4)) (at_label G [])
 
-pub not_nothing : (G : Table) → ¬ (Run G lone 9 (standing 3) [] Stuck)
-not_nothing G r = sooner G 9 [] Stuck r refl refl
+pub not_nothing : (G : Table) (e : Ending) → ¬ (Run G lone 9 (standing 3) [] e)
+not_nothing G e r = sooner G 9 [] e r refl refl
 
 -- Where runs begin.
 
-pub starts : IsStart lone 2 [] (standing 3)
-starts = record { entry = 3; parameters = []; defined = defined; start = refl }
+pub starts : (rest : List PlainInst) → IsStart (lone_before rest) 2 [] (standing 3)
+starts rest = record { entry = 3; parameters = []; defined = defined rest; start = refl }
 
 pub starts_before : ¬ (IsStart lone 2 [] (standing 4))
 unfolding act_at act_of

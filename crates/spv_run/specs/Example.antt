@@ -2,6 +2,7 @@
 use Rattle.std.specs.Prelude.{ℕ, List, [], ◌∷◌}
 use Rattle.spv_inst.specs.Operand.{OfType, Result, Id, Number, Mask, PlainInst}
 use Rattle.spv_ops.specs.Example.{inst}
+use Rattle.spv_calls.specs.Example.{entry}
 use Rattle.spv_run.specs.State.{State, enter}
 use Rattle.spv_run.specs.declared.parts.Step.{Step}
 
@@ -13,16 +14,24 @@ switch = inst 251 (Id 7 ∷ Id 8 ∷ Number 0 0 1 ∷ Id 9 ∷ Number 1 0 1 ∷ 
 abbrev pub return_value : PlainInst
 return_value = inst 254 (Id 9 ∷ [])
 
--- a function that only returns
-abbrev pub lone : List PlainInst
-lone =
+-- a function that only returns, and what comes after it
+abbrev pub lone_before : List PlainInst → List PlainInst
+lone_before rest =
     inst 19 (Result 1 ∷ []) ∷  -- %1 = OpTypeVoid
     inst 33 (Result 2 ∷ Id 1 ∷ []) ∷  -- %2 = OpTypeFunction %1
     inst 54 (OfType 1 ∷ Result 3 ∷ Mask 9 0 ∷ Id 2 ∷ []) ∷  -- %3 = OpFunction %1 None %2
     inst 248 (Result 4 ∷ []) ∷  -- %4 = OpLabel
     inst 253 [] ∷  -- OpReturn
     inst 56 [] ∷  -- OpFunctionEnd
-    []
+    rest
+
+-- the function alone
+abbrev pub lone : List PlainInst
+lone = lone_before []
+
+-- the function, and an OpEntryPoint that names it (where that stands does not matter to a run)
+abbrev pub entered : List PlainInst
+entered = lone_before (entry 3 ∷ [])
 
 -- the same, whose block has no terminator
 abbrev pub unended : List PlainInst

@@ -12,3 +12,4 @@ pub mod Trace
 pub mod Bodies
 pub mod Entry
 pub mod Example
+pub mod Kernel

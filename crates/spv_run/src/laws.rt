@@ -17,7 +17,10 @@ ghost use Rattle.spv_run.specs.State.{Ending, Finished, Limit, Stuck, State, Out
 ghost use Rattle.spv_run.specs.Machine.{Does};
 ghost use Rattle.spv_run.specs.Run.{IsStart, Run};
 ghost use Rattle.spv_run.specs.Promise.{NeverGetsStuck};
-ghost use Rattle.spv_run.specs.Entry.{IsEntryId};
+ghost use Rattle.spv_run.specs.Entry.{IsEntryId, IsOfRun};
+ghost use Rattle.spv_run.specs.Kernel.{grammar, kernel};
+ghost use Rattle.spv_run.specs.Trace.{ending_of};
+ghost use Rattle.spv_run.specs.declared.parts.Trace.{Trace};
 ghost use Rattle.spv_calls.specs.Example.{functions, looped};
 
 /// A module on which no rule is broken never gets stuck: from each entry point's function, for all choices and numbers of steps,
@@ -75,7 +78,7 @@ pub fn run_examples()
     ensures not_stuck { (G : Table) → ¬ (Run G lone 9 (standing 3) [] Stuck) }
 {}
 
-/// Where runs begin, which ids are those of entry points, and lists that no run is promised of.
+/// Where runs begin, which ids are those of entry points, and of which functions a run is promised.
 pub fn promise_examples()
     // The function of instruction 2 begins at its OpLabel, and not after that.
     ensures start { IsStart lone 2 [] (standing 3) }
@@ -83,10 +86,28 @@ pub fn promise_examples()
     // An OpEntryPoint names %1. Without it none does.
     ensures entry { IsEntryId looped 1 }
     ensures no_entry { ¬ (IsEntryId functions 1) }
+    // All runs of the function that only returns end otherwise than stuck.
+    ensures free { (G : Table) → NeverGetsStuck G lone 2 [] }
     // A block without a terminator: the run gets stuck after the OpLabel.
     ensures stuck { (G : Table) → ¬ (NeverGetsStuck G unended 2 []) }
     // A function that an entry point leads to calls itself.
     ensures unsound { (G : Table) (bound : ℕ) → ¬ (IsSound G bound looped) }
 {
     spv_calls::laws::call_examples();
+}
+
+/// Traces of the function that only returns: of at most nine steps, that of its two steps, and none without a step.
+pub fn trace_examples()
+    ensures of_run { (G : Table) (t : Trace) → t.steps.items ≡ step_at 0 3 ∷ step_at 0 4 ∷ [] → ending_of t.ending ≡ Finished → IsOfRun G lone 9 (standing 3) t }
+    ensures not_of_run { (G : Table) (t : Trace) → t.steps.items ≡ [] → ¬ (IsOfRun G lone 9 (standing 3) t) }
+{}
+
+/// The smallest kernel, under a small grammar table: no rule is broken on it, and so its function never gets stuck.
+pub fn sound_examples()
+    ensures sound { IsSound grammar 5 kernel }
+    // Under the bound 4 the label's id is out of range.
+    ensures out_of_range { ¬ (IsSound grammar 4 kernel) }
+    ensures free { (choices : List ℕ) → NeverGetsStuck grammar kernel 6 choices }
+{
+    run_never_gets_stuck();
 }

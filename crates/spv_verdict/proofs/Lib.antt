@@ -1,5 +1,7 @@
 pub mod Checks
 pub mod Firsts
+pub mod Kernel
+pub mod KernelParts
 pub mod Runs
 pub mod Stages
 pub mod Verdicts

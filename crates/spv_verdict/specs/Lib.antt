@@ -1,6 +1,7 @@
 pub mod Answer
 pub mod Broken
 pub mod Checked
+pub mod Example
 pub mod Program
 pub mod Run
 pub mod Stream

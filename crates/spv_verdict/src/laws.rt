@@ -2,24 +2,35 @@
 ghost use Rattle.std.specs.Prelude.{◌≡◌, ◌↔◌, ◌++◌, ◌∷◌, [], ℕ, List, Option, true, false, codes};
 ghost use Rattle.spv_grammar.specs.Table.{Table};
 ghost use Rattle.spv_inst.specs.Operand.{PlainInst};
+ghost use Rattle.spv_inst.specs.Module.{plain_insts};
 ghost use Rattle.spv_inst.specs.declared.fault.Fault.{Fault};
 ghost use Rattle.spv_inst.specs.declared.fault.Rule.{Rule};
 ghost use Rattle.spv_inst.specs.declared.fault.Rule.TheVariants.{A1, G1, I7, L2, Y7};
+ghost use Rattle.spv_inst.specs.declared.module.Module.{Module};
+ghost use Rattle.spv_layout.specs.declared.place.Place.{Place};
+ghost use Rattle.spv_ids.specs.declared.ids.Ids.{Ids};
+ghost use Rattle.spv_ids.specs.Outcome.{IsDefinitionOf, definition_in};
+ghost use Rattle.spv_flow.specs.declared.flow.Flow.{Flow};
 ghost use Rattle.spv_calls.specs.Calls.{IsEntryFunction};
 ghost use Rattle.spv_calls.specs.Example.{functions, looped};
 ghost use Rattle.spv_run.specs.Promise.{NeverGetsStuck};
 ghost use Rattle.spv_verdict.specs.Answer.{IsFault};
-ghost use Rattle.spv_verdict.specs.Checked.{IsChecked, IsKept};
+ghost use Rattle.spv_verdict.specs.Checked.{AreParts, IsChecked, IsKept};
 ghost use Rattle.spv_verdict.specs.Program.{Program};
-ghost use Rattle.spv_verdict.specs.Broken.{Broken, IsFirst, Precedes};
-ghost use Rattle.spv_verdict.specs.Run.{IsTraceOf};
+ghost use Rattle.spv_verdict.specs.Broken.{Broken, IsFirst, IsSound, Precedes};
+ghost use Rattle.spv_verdict.specs.Example.{kernel_bytes, kernel_places, kernel_program, kernel_words, other_program};
+ghost use Rattle.spv_verdict.specs.Run.{IsRunOf, IsTraceOf};
 ghost use Rattle.spv_run.specs.declared.parts.Trace.{Trace};
+ghost use Rattle.spv_run.specs.Example.{entered, step_at};
+ghost use Rattle.spv_run.specs.Kernel.{grammar, kernel};
+ghost use Rattle.spv_run.specs.State.{Finished};
+ghost use Rattle.spv_run.specs.Trace.{ending_of};
 ghost use Rattle.spv_verdict.specs.Stream.{Begins, Tells};
 ghost use Rattle.spv_verdict.specs.Valid.{IsValid};
 ghost use Rattle.spv_verdict.specs.Verdict.{IsVerdict, fault_line, line_end, valid_line};
 
 use spv_inst::{listed_or_dead, one_death, one_listing};
-use spv_run::laws::run_never_gets_stuck;
+use spv_run::laws::{promise_examples, run_never_gets_stuck};
 
 /// Bytes have one verdict line.
 pub fn one_verdict()
@@ -105,4 +116,37 @@ pub fn stream_examples()
 {
     spv_words::laws::examples();
     one_verdict();
+}
+
+/// Worked examples of traces.
+pub fn trace_examples()
+    // A function that only returns, which an OpEntryPoint names: its two steps, under any table.
+    ensures run { (G : Table) (p : Program) (t : Trace) → p.insts ≡ entered → t.steps.items ≡ step_at 0 3 ∷ step_at 0 4 ∷ [] → ending_of t.ending ≡ Finished → IsRunOf G p 3 [] 9 t }
+    // Functions that no OpEntryPoint names.
+    ensures no_entry { (p : Program) (choices : List ℕ) (limit : ℕ) (t : Trace) → p.insts ≡ functions → ¬ (IsTraceOf p 1 choices limit t) }
+    // The smallest kernel.
+    ensures kernel { (t : Trace) → t.steps.items ≡ step_at 0 7 ∷ step_at 0 8 ∷ [] → ending_of t.ending ≡ Finished → IsTraceOf kernel_program 3 [] 9 t }
+{
+    promise_examples();
+}
+
+/// The smallest kernel, under a small grammar table.
+pub fn kernel_examples()
+    ensures sound { IsSound grammar 5 kernel }
+    ensures kept { IsKept grammar kernel_program }
+    // A function that an entry point leads to calls itself.
+    ensures not_kept { (G : Table) (bound : ℕ) → ¬ (IsKept G (record { bound = bound; insts = looped })) }
+    // Its places, and what is kept of the definitions of its ids and of its functions; it has not those of another program.
+    ensures parts { (m : Module) (ids : Ids) (flow : Flow) → m.header.bound ≡ 5 → plain_insts m ≡ kernel → ((x : ℕ) → IsDefinitionOf kernel x (definition_in ids x)) → flow.definitions ≡ 1
+        → AreParts grammar kernel_program m kernel_places ids flow }
+    ensures other_parts { (G : Table) (m : Module) (places : List Place) (ids : Ids) (flow : Flow) → m.header.bound ≡ 5 → ¬ (AreParts G other_program m places ids flow) }
+    // The words are that module, and not one with another bound.
+    ensures checked { IsChecked grammar kernel_words kernel_program }
+    ensures other_bound { ¬ (IsChecked grammar kernel_words other_program) }
+    ensures valid { IsValid grammar kernel_bytes }
+    ensures line { IsVerdict grammar kernel_bytes valid_line }
+    // Three bytes.
+    ensures not_valid { (G : Table) → ¬ (IsValid G (1 ∷ 2 ∷ 3 ∷ [])) }
+{
+    examples();
 }

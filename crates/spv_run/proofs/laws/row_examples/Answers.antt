@@ -1,10 +1,10 @@
-use Rattle.std.proofs.Common.{refl}
+use Rattle.std.proofs.Common.{[], refl}
 use Rattle.spv_run.proofs.Worked.{defined, undeclared}
 use Rattle.spv_run.proofs.laws.row_examples.Goals as goal
 
 pub returns : goal.returns
 returns c = record {
-  defined = defined;
+  defined = defined [];
   undeclared = undeclared;
   argument = refl;
   other_argument = λ r. cc;
