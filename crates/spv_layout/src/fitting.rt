@@ -1,6 +1,6 @@
 //! Whether an instruction fits its row.
 
-ghost use Rattle.std.specs.Prelude.{◌≡◌, ◌+◌, [], true, length, map, Some, IfSome, IfNone};
+ghost use Rattle.std.specs.Prelude.{◌≡◌, ◌+◌, ◌&&◌, [], true, length, map, Some, IfSome, IfNone};
 ghost use Rattle.spv_layout.specs.Place.{section_of, word_count};
 ghost use Rattle.spv_inst.specs.Module.{plain_inst, plain_operand};
 ghost use Rattle.spv_layout.specs.Row.{has_masks, plain_ending, plain_row};
@@ -8,7 +8,7 @@ ghost use Rattle.spv_layout.specs.Rows.{class_of};
 ghost use Rattle.spv_layout.specs.Shape.{Fits, is_of};
 ghost use Rattle.spv_layout.specs.Single.{IsFront};
 ghost use Rattle.spv_layout.specs.declared.form.Form.TheVariants.{Kind};
-ghost use Rattle.spv_layout.specs.Test.{sort_of, sort_for, are_of, are_others, are_rounds, fits_ending, fits_row};
+ghost use Rattle.spv_layout.specs.Test.{sort_of, sort_for, are_of, are_others, are_rounds, is_kind_and_others, fits_ending, fits_row};
 
 use crate::form::{Ending, Form, Named, Role, Row};
 use crate::kinds::Kinds;
@@ -126,8 +126,46 @@ fn has_form(kinds: &Kinds<'_>, form: Form, operand: Operand<'_>) -> bool
     }
 }
 
-/// Whether operands are of these forms, one by one.
+/// Whether it is told at once that an operand is of a form: by its sort, or by its kind.
 #[inline(always)]
+fn is_told(kinds: &Kinds<'_>, form: Form, operand: Operand<'_>) -> bool
+    ensures { result ≡ true → is_of kinds.now form (plain_operand operand.entry) ≡ true }
+{
+    if sort(operand) == sort_asked(form) {
+        true
+    } else {
+        match form {
+            Form::Kind(kind) => is_of_kind(kinds, kind, operand),
+            _ => false,
+        }
+    }
+}
+
+/// Whether it is told at once that operands are of these forms, one by one: of four at most, which most instructions have.
+#[inline(always)]
+fn are_told(kinds: &Kinds<'_>, forms: &[Form], operands: &[Operand<'_>]) -> bool
+    ensures { result ≡ true → are_of kinds.now forms.now (map plain_operand operands.now) ≡ true }
+{
+    match (forms, operands) {
+        ([], []) => true,
+        ([a], [w]) => is_told(kinds, *a, *w),
+        ([a, b], [w, x]) => is_told(kinds, *a, *w) && is_told(kinds, *b, *x),
+        ([a, b, c], [w, x, y]) => {
+            is_told(kinds, *a, *w) && is_told(kinds, *b, *x) && is_told(kinds, *c, *y)
+        }
+        ([a, b, c, d], [w, x, y, z]) => {
+            is_told(kinds, *a, *w)
+                && is_told(kinds, *b, *x)
+                && is_told(kinds, *c, *y)
+                && is_told(kinds, *d, *z)
+        }
+        _ => false,
+    }
+}
+
+/// Whether operands are of these forms, one by one.
+#[cold]
+#[inline(never)]
 fn have_forms(kinds: &Kinds<'_>, forms: &[Form], operands: &[Operand<'_>]) -> bool
     ensures { result ≡ are_of kinds.now forms.now (map plain_operand operands.now) }
 {
@@ -140,6 +178,14 @@ fn have_forms(kinds: &Kinds<'_>, forms: &[Form], operands: &[Operand<'_>]) -> bo
         }
     }
     true
+}
+
+/// Whether operands are of a row's fixed forms, one by one.
+#[inline(always)]
+fn have_fixed(kinds: &Kinds<'_>, forms: &[Form], operands: &[Operand<'_>]) -> bool
+    ensures { result ≡ are_of kinds.now forms.now (map plain_operand operands.now) }
+{
+    are_told(kinds, forms, operands) || have_forms(kinds, forms, operands)
 }
 
 /// Whether operands are neither types nor results.
@@ -171,11 +217,24 @@ fn have_rounds(kinds: &Kinds<'_>, forms: &[Form], operands: &[Operand<'_>]) -> b
     at == forms.len()
 }
 
-/// Whether operands fit an ending.
-fn have_ending(kinds: &Kinds<'_>, ending: Ending, operands: &[Operand<'_>]) -> bool
-    ensures { result ≡ fits_ending kinds.now (plain_ending ending) (map plain_operand operands.now) }
+/// Whether operands are one of a form and any number of others that are neither types nor results, or none.
+#[inline(always)]
+fn have_first(kinds: &Kinds<'_>, form: Form, operands: &[Operand<'_>]) -> bool
+    ensures { result ≡ is_kind_and_others kinds.now form (map plain_operand operands.now) }
 {
-    match ending {
+    match operands {
+        [] => true,
+        [first, rest @ ..] => has_form(kinds, form, *first) && are_free(kinds, rest),
+    }
+}
+
+/// Whether operands fit the ending of a row.
+#[cold]
+#[inline(never)]
+fn have_ending(kinds: &Kinds<'_>, row: &Row, operands: &[Operand<'_>]) -> bool
+    ensures { result ≡ fits_ending kinds.now (plain_ending row.now.ending) (map plain_operand operands.now) }
+{
+    match row.ending {
         Ending::Closed => operands.is_empty(),
         Ending::Maybe(form) => operands.is_empty() || have_forms(kinds, &[form], operands),
         Ending::FileAndText => match operands {
@@ -187,11 +246,43 @@ fn have_ending(kinds: &Kinds<'_>, ending: Ending, operands: &[Operand<'_>]) -> b
         },
         Ending::Repeated(forms) => have_rounds(kinds, forms, operands),
         Ending::Others => are_free(kinds, operands),
-        Ending::MaybeOthers(form) => match operands {
-            [] => true,
-            [first, rest @ ..] => is_of_form(kinds, form, *first) && are_free(kinds, rest),
-        },
+        Ending::MaybeOthers(form) => have_first(kinds, form, operands),
     }
+}
+
+/// Whether it is told at once that operands are one of a form and any number of others that are neither types nor results,
+/// or none.
+#[inline(always)]
+fn is_first_told(kinds: &Kinds<'_>, form: Form, operands: &[Operand<'_>]) -> bool
+    ensures { result ≡ true → is_kind_and_others kinds.now form (map plain_operand operands.now) ≡ true }
+{
+    match operands {
+        [] => true,
+        [first, rest @ ..] => is_told(kinds, form, *first) && are_free(kinds, rest),
+    }
+}
+
+/// Whether operands fit the ending of a row: that of loads and stores is looked at first.
+#[inline(always)]
+fn have_rest(kinds: &Kinds<'_>, row: &Row, operands: &[Operand<'_>]) -> bool
+    ensures { result ≡ fits_ending kinds.now (plain_ending row.now.ending) (map plain_operand operands.now) }
+{
+    match row.ending {
+        Ending::MaybeOthers(form) => {
+            is_first_told(kinds, form, operands) || have_ending(kinds, row, operands)
+        }
+        _ => have_ending(kinds, row, operands),
+    }
+}
+
+/// Whether operands are of a row's fixed forms, one by one, and others fit its ending.
+#[cold]
+#[inline(never)]
+fn have_both(kinds: &Kinds<'_>, row: &Row, front: &[Operand<'_>], rest: &[Operand<'_>]) -> bool
+    ensures { result ≡ (are_of kinds.now row.now.fixed.now (map plain_operand front.now)
+        && fits_ending kinds.now (plain_ending row.now.ending) (map plain_operand rest.now)) }
+{
+    have_forms(kinds, row.fixed, front) && have_ending(kinds, row, rest)
 }
 
 /// Whether operands fit a row with an ending.
@@ -205,7 +296,11 @@ fn have_parts(kinds: &Kinds<'_>, row: &Row, operands: &[Operand<'_>]) -> bool
         return false;
     }
     let (front, rest) = operands.split_at(fixed);
-    have_forms(kinds, row.fixed, front) && have_ending(kinds, row.ending, rest)
+    if are_told(kinds, row.fixed, front) {
+        have_rest(kinds, row, rest)
+    } else {
+        have_both(kinds, row, front, rest)
+    }
 }
 
 /// Whether operands fit a row. Where they are as many as its fixed ones, its ending allows that none come after them.
@@ -214,7 +309,7 @@ fn have_row(kinds: &Kinds<'_>, row: &Row, operands: &[Operand<'_>]) -> bool
     ensures { result ≡ fits_row kinds.now (Some (plain_row row.now)) (map plain_operand operands.now) }
 {
     if operands.len() == row.fixed.len() {
-        have_forms(kinds, row.fixed, operands)
+        have_fixed(kinds, row.fixed, operands)
     } else {
         have_parts(kinds, row, operands)
     }

@@ -27,12 +27,13 @@ use std::marker::Model;
 /// It keeps 8 bytes for an instruction of sections 1 to 8, and 12 for one of sections 9 to 11.
 #[derive(Debug, Drop)]
 pub struct Plan {
+    /// Where section 10 begins, as in `Spans`.
+    functions: u32,
     /// The instructions of sections 1 to 8.
     early: Vec<Early>,
     /// Those after them.
     late: Vec<Standing>,
-    /// Where section 10 begins, and section 11, as in `Spans`.
-    functions: u32,
+    /// Where section 11 begins, as in `Spans`.
     definitions: u32,
 }
 
@@ -65,6 +66,8 @@ impl Plan {
 }
 
 /// A broken rule at an instruction with that first word.
+#[cold]
+#[inline(never)]
 fn fault(rule: Rule, inst: usize, word: u32) -> Stop
     requires { inst ≤ 4194304 }
     ensures { result ≡ stop.Fault (record { rule = rule; inst = inst; word = word }) }
@@ -105,6 +108,7 @@ fn word_at(insts: &[Inst<'_>], n: usize) -> u32
 
 /// The first broken rule of a module with a dead place, whose first word is told: P1 at the first instruction that does
 /// not fit its row, or the rule of the place.
+#[cold]
 #[inline(never)]
 fn refused(kinds: &Kinds<'_>, insts: &[Inst<'_>], rule: Rule, inst: usize, word: u32) -> Stop
     requires words { 5 + sum_by word_count (map plain_inst insts.now) ≤ 4194304 }

@@ -9,4 +9,4 @@ pub returns-then-operands-row : goal.returns-then-operands-row
 returns-then-operands-row c =
     let l = length-map c.args.operands.now plain_operand in
     let e : length (map plain_operand c.args.operands.now) ≡ length (plain_row c.args.row.now).fixed = omega arith in
-    c.have_forms.ensures ∙ row_exact c.args.kinds.now (plain_row c.args.row.now) (map plain_operand c.args.operands.now) e
+    c.have_fixed.ensures ∙ row_exact c.args.kinds.now (plain_row c.args.row.now) (map plain_operand c.args.operands.now) e
