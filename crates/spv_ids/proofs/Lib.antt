@@ -12,3 +12,4 @@ mod Sound
 mod Opens
 mod Pairs
 mod Noting
+mod Passing

@@ -108,14 +108,23 @@ impl Notes {
         }
     }
 
-    /// What is kept of an id, or `NONE` where nothing is. It takes no memory.
+    /// The list: at an id's place 0, or one more than what is kept of it.
     #[inline(always)]
-    pub fn mark(&self, id: u32) -> u32
+    pub fn front(&self) -> &[u32]
+        ensures { result.now ≡ self.now.near.items }
+    {
+        self.near.as_slice()
+    }
+
+    /// What is kept of an id, or `NONE` where nothing is. `front` is the list. It takes no memory.
+    #[inline(always)]
+    pub fn mark(&self, front: &[u32], id: u32) -> u32
+        requires { front.now ≡ self.now.near.items }
         ensures { result < 4294967295 → kept self.now id ≡ Some result }
     {
         let place = id as usize;
-        if place < self.near.len() {
-            mark_at(self.near[place])
+        if place < front.len() {
+            mark_at(front[place])
         } else {
             self.mark_far(id)
         }

@@ -9,7 +9,8 @@ ghost use Rattle.spv_layout.specs.First.{stage_of, rank_of};
 ghost use Rattle.spv_layout.specs.Place.{IsOfFunction, IsOfSection};
 ghost use Rattle.spv_ids.specs.declared.survey.Survey as declared;
 ghost use Rattle.spv_ids.specs.Definition.{IsDefinedAt, IsLocal};
-ghost use Rattle.spv_ids.specs.Order.{IsInOrder, IsInScope, IsOrdered, IsScoped};
+ghost use Rattle.spv_ids.specs.Order.{IsInOrder, IsInScope, IsOrdered, IsScoped, Announces};
+ghost use Rattle.spv_ids.specs.declared.notes.Notes.{Notes};
 ghost use Rattle.spv_ids.specs.Broken.{IsOutOfRange};
 ghost use Rattle.spv_ids.specs.Notes.{kept};
 ghost use Rattle.spv_ids.specs.Known.{AreAnnounced, IsEnd, IsBadResult, IsHomeOf, IsOpen};
@@ -72,6 +73,15 @@ pub struct Site {
     pub section: u8,
     /// The number of the OpFunction of the function that the instruction is of.
     pub function: Option<u32>,
+}
+
+/// How far instructions were passed.
+#[derive(Clone, Copy, Debug)]
+struct Passed {
+    /// The first one that was not passed, or the end of the survey.
+    to: u32,
+    /// The function that is open before it, or `NONE`.
+    floor: u32,
 }
 
 /// A broken rule, and its instruction.
@@ -399,11 +409,38 @@ impl<'m, 'a> Survey<'m, 'a> {
         self.is_own(inst, floor, definition)
     }
 
+    /// Whether a use is sound since its definition is the next instruction, as the label after a branch often is: both are
+    /// of the function `floor`, and begin and end none.
+    #[inline(always)]
+    fn is_next(&self, inst: u32, floor: u32, definition: u32) -> bool
+        requires survey { IsSurvey self.now }
+        requires below { inst < self.now.end }
+        requires floor { floor < 4294967295 → IsOfFunction (insts_of self.now) inst floor }
+        ensures { (x : ℕ) → (definition < 4294967295 → kept self.now.firsts.now x ≡ Some definition) → IsTrue result → (q : Rule) → ¬ (IsBadUse self.now.bound (insts_of self.now) inst x q) }
+    {
+        if definition >= self.end {
+            return false;
+        }
+        if floor == NONE {
+            return false;
+        }
+        let there = &self.insts[inst as usize];
+        if there.opcode <= FUNCTION_END {
+            return false;
+        }
+        let next = &self.insts[definition as usize];
+        if next.opcode <= FUNCTION_END {
+            return false;
+        }
+        definition == inst + 1
+    }
+
     /// Whether each use among operands is sound at once, by an instruction of the function `floor`. One that is not may be
     /// sound all the same.
     #[inline(always)]
-    fn are_sound(&self, inst: u32, floor: u32, operands: &[Operand<'_>]) -> bool
+    fn are_sound(&self, inst: u32, floor: u32, front: &[u32], operands: &[Operand<'_>]) -> bool
         requires survey { IsSurvey self.now }
+        requires front { front.now ≡ self.now.firsts.now.near.items }
         requires below { inst < self.now.end }
         requires floor { floor < 4294967295 → IsOfFunction (insts_of self.now) inst floor }
         requires operands { AreSeen (insts_of self.now) inst (plain_operands operands.now) }
@@ -411,7 +448,7 @@ impl<'m, 'a> Survey<'m, 'a> {
     {
         for operand in operands {
             if let Some(id) = used_id(*operand) {
-                if !self.is_use_sound(inst, floor, id) {
+                if !self.is_use_sound(inst, floor, front, id) {
                     return false;
                 }
             }
@@ -421,14 +458,18 @@ impl<'m, 'a> Survey<'m, 'a> {
 
     /// Whether a use of an id is sound at once, by an instruction of the function `floor`.
     #[inline(always)]
-    fn is_use_sound(&self, inst: u32, floor: u32, id: u32) -> bool
+    fn is_use_sound(&self, inst: u32, floor: u32, front: &[u32], id: u32) -> bool
         requires survey { IsSurvey self.now }
+        requires front { front.now ≡ self.now.firsts.now.near.items }
         requires below { inst < self.now.end }
         requires floor { floor < 4294967295 → IsOfFunction (insts_of self.now) inst floor }
         ensures { IsTrue result → IsLeast (IsBadUse self.now.bound (insts_of self.now) inst id) None }
     {
-        let definition = self.firsts.mark(id);
+        let definition = self.firsts.mark(front, id);
         if self.is_plain(inst, floor, definition) {
+            return true;
+        }
+        if self.is_next(inst, floor, definition) {
             return true;
         }
         self.is_sound(inst, floor, definition)
@@ -453,28 +494,6 @@ impl<'m, 'a> Survey<'m, 'a> {
             }
         }
         least
-    }
-
-    /// The first rule that a use among operands breaks, by an instruction of the function `floor`.
-    #[inline(always)]
-    fn inst_fault(
-        &self,
-        inst: u32,
-        floor: u32,
-        announced: &Notes,
-        operands: &[Operand<'_>],
-    ) -> Option<Rule>
-        requires survey { IsSurvey self.now }
-        requires below { inst < self.now.end }
-        requires floor { floor < 4294967295 → IsOfFunction (insts_of self.now) inst floor }
-        requires announced { AreAnnounced (insts_of self.now) inst announced.now }
-        requires operands { AreSeen (insts_of self.now) inst (plain_operands operands.now) }
-        ensures { IsLeast (HasBadUse self.now.bound (insts_of self.now) inst (length operands.now)) result }
-    {
-        if self.are_sound(inst, floor, operands) {
-            return None;
-        }
-        self.uses_fault(inst, announced, operands)
     }
 
     /// Whether a use among operands is out of range.
@@ -531,6 +550,64 @@ impl<'m, 'a> Survey<'m, 'a> {
         }
     }
 
+    /// The function that is open after an instruction, or `NONE`, if its uses are sound at once and it announces no id.
+    /// `floor` is the function that is open before it.
+    #[inline(always)]
+    fn after(&self, inst: u32, floor: u32, front: &[u32]) -> Option<u32>
+        requires survey { IsSurvey self.now }
+        requires front { front.now ≡ self.now.firsts.now.near.items }
+        requires below { inst < self.now.end }
+        requires open { floor < 4294967295 → IsOpen (insts_of self.now) inst floor }
+        ensures clean { IfSome result (λ f. (q : Rule) → ¬ (IsFaulty self.now.bound (insts_of self.now) inst q)) }
+        ensures silent { IfSome result (λ f. (x : ℕ) → ¬ (Announces (insts_of self.now) inst x)) }
+        ensures open { IfSome result (λ f. f < 4294967295 → IsOpen (insts_of self.now) (inst + 1) f) }
+    {
+        let there = &self.insts[inst as usize];
+        // Most instructions of a function: none of them begins or ends one, and none announces an id.
+        if FUNCTION_END < there.opcode {
+            if self.are_sound(inst, floor, front, seen(there)) {
+                return Some(floor);
+            }
+            return None;
+        }
+        if there.opcode == TYPE_FORWARD_POINTER {
+            return None;
+        }
+        let here = entered(there, floor, inst);
+        if self.are_sound(inst, here, front, seen(there)) {
+            return Some(left(there, here));
+        }
+        None
+    }
+
+    /// The instructions from one on whose uses are sound at once and that announce no id. `floor` is the function that is open
+    /// before it.
+    #[inline(never)]
+    fn pass(&self, from: u32, floor: u32) -> Passed
+        requires survey { IsSurvey self.now }
+        requires within { from ≤ self.now.end }
+        requires clean { AreClean self.now.bound (insts_of self.now) from }
+        requires open { floor < 4294967295 → IsOpen (insts_of self.now) from floor }
+        ensures within { result.to ≤ self.now.end }
+        ensures further { from ≤ result.to }
+        ensures clean { AreClean self.now.bound (insts_of self.now) result.to }
+        ensures announced { (a : Notes) → AreAnnounced (insts_of self.now) from a → AreAnnounced (insts_of self.now) result.to a }
+        ensures open { result.floor < 4294967295 → IsOpen (insts_of self.now) result.to result.floor }
+    {
+        let front = self.firsts.front();
+        let mut here = floor;
+        for n in from..self.end {
+            let Some(after) = self.after(n, here, front) else {
+                return Passed { to: n, floor: here };
+            };
+            here = after;
+        }
+        Passed {
+            to: self.end,
+            floor: here,
+        }
+    }
+
     /// The first broken rule of the module.
     ///
     /// An `AllocError` comes only where a growth of memory was refused.
@@ -542,15 +619,16 @@ impl<'m, 'a> Survey<'m, 'a> {
             (λ f. IsFirstFault self.now.bound (insts_of self.now) f.rule f.inst)) }
     {
         let mut announced = Notes::new(alloc, 0)?;
-        let mut floor = NONE;
-        for n in 0..self.end {
+        let mut passed = self.pass(0, NONE);
+        while passed.to < self.end {
+            let n = passed.to;
             let inst = &self.insts[n as usize];
-            let here = entered(inst, floor, n);
-            if let Some(rule) = self.inst_fault(n, here, &announced, seen(inst)) {
+            if let Some(rule) = self.uses_fault(n, &announced, seen(inst)) {
                 return Ok(Some(Found { rule, inst: n }));
             }
-            floor = left(inst, here);
             announce(&mut announced, inst, n)?;
+            let here = entered(inst, passed.floor, n);
+            passed = self.pass(n + 1, left(inst, here));
         }
         if self.end as usize == self.insts.len() {
             return Ok(None);
