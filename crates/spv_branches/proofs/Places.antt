@@ -8,6 +8,7 @@ use Rattle.spv_grammar.specs.Table.{Table}
 use Rattle.spv_inst.specs.Operand.{Plain, PlainInst}
 use Rattle.spv_inst.specs.Operand as operand
 use Rattle.spv_layout.specs.declared.class.Class.TheVariants.{Phi, LoopMerge, SelectionMerge, Branch, BranchConditional, Switch}
+use Rattle.spv_layout.specs.declared.class.Class.TheVariants as class
 use Rattle.spv_layout.specs.declared.form.Named.TheVariants as kind_of
 use Rattle.spv_layout.specs.declared.form.Role.{Role}
 use Rattle.spv_layout.specs.declared.form.Role.TheVariants.{Label}
@@ -340,3 +341,78 @@ branch_labelled x h = grind (arith, nat_tests)
 
 pub merge_labelled : (x : ℕ) → is_merge x ≡ true → is_labelled x ≡ true
 merge_labelled x h = grind (arith, nat_tests)
+
+-- A branch uses its labels, and beside them its first operand at most: that of OpBranch is a label.
+
+no_use_by : (G : Table) (i : PlainInst) (r : PlainRow) (n : ℕ) (o : Plain) → Stands G i r n o → option_and_then (λ f. role_of f o) (form_at r o n) ≡ None → (x : ℕ) (q : Role) → ¬ (IsUse G i n x q)
+no_use_by G i r n o s e = role_by i n r i.operands o (form_at r o n) None s.known refl s.there refl (sym e) G s.fits
+
+jump_use : (G : Table) (i : PlainInst) (n x : ℕ) (q : Role) → i.opcode ≡ 249 → Fits G i → nat_eq n 0 ≡ false → ¬ (IsUse G i n x q)
+jump_use G i n x q e fits h u =
+    let o = u.operand in
+    let k = eqb-false n 0 h in
+    no_use_by G i branch_row n o (standing G i branch_row n 249 o branch_known e fits u.operand_at) (ap (option_and_then (λ f. role_of f o)) (later_form branch_row o n (omega (arith, k)))) x q u
+
+word_role : (k : ℕ) (o : Plain) → option_and_then (λ f. role_of f o) (slice_get (W ∷ []) k) ≡ None
+word_role zero o = refl
+word_role (suc k) o = refl
+
+conditional_use : (G : Table) (i : PlainInst) (n x : ℕ) (q : Role) → i.opcode ≡ 250 → Fits G i → nat_le 1 n && nat_le n 2 ≡ false → IsUse G i n x q → n ≡ 0
+conditional_use G i n x q e fits h u =
+    let o = u.operand in
+    elim (cases_Bool (nat_le 1 n)) [
+      | inl t ↦ (
+          let b = le_denies n 2 (and_false (nat_le 1 n) (nat_le n 2) h t) in
+          let none = ap (option_and_then (λ f. role_of f o)) (later_form conditional_row o n (omega (arith, b))) ∙ word_role ((n - 3) % 1) o in
+          absurd (no_use_by G i conditional_row n o (standing G i conditional_row n 250 o conditional_known e fits u.operand_at) none x q u))
+      | inr f ↦ (let b = le_denies 1 n f in omega (arith, b))
+    ]
+
+switch_use : (G : Table) (i : PlainInst) (n x : ℕ) (q : Role) → i.opcode ≡ 251 → Fits G i → nat_eq (n % 2) 1 ≡ false → IsUse G i n x q → n ≡ 0
+switch_use G i n x q e fits h u =
+    let o = u.operand in
+    let z : n % 2 ≡ 0 = even n h in
+    elim (cases_lt n 2) [
+      | inl lt ↦ (let m : n % 2 ≡ n = mod-eq_of_lt lt in sym m ∙ z)
+      | inr ge ↦ (
+          let none = ap (option_and_then (λ f. role_of f o)) (later_form switch_row o n ge ∙ ap (slice_get (N ∷ l ∷ [])) (odd_rest n ge ∙ z)) in
+          absurd (no_use_by G i switch_row n o (standing G i switch_row n 251 o switch_known e fits u.operand_at) none x q u))
+    ]
+
+branch_bounds : (x : ℕ) → is_branch x ≡ true → (249 ≤ x) × (x ≤ 251)
+branch_bounds x h = (grind (arith, nat_tests), grind (arith, nat_tests))
+
+at_place : (x k n : ℕ) → x ≡ k → is_label_at x n ≡ false → is_label_at k n ≡ false
+at_place x k n e h = sym (ap (λ (o : ℕ). is_label_at o n) e) ∙ h
+
+pub first_use : (G : Table) (i : PlainInst) (n x : ℕ) (q : Role) → is_branch i.opcode ≡ true → is_label_at i.opcode n ≡ false → Fits G i → IsUse G i n x q → (n ≡ 0) × (i.opcode ≢ 249)
+first_use G i n x q h t fits u =
+    let b = branch_bounds i.opcode h in
+    let lo = b.0 in
+    let hi = b.1 in
+    elim (cases_eq i.opcode 249) [
+      | inl e ↦ absurd (jump_use G i n x q e fits (at_place i.opcode 249 n e t) u)
+      | inr a ↦ elim (cases_eq i.opcode 250) [
+        | inl e ↦ (conditional_use G i n x q e fits (at_place i.opcode 250 n e t) u, a)
+        | inr c ↦ (let e : i.opcode ≡ 251 = omega (arith, lo, hi, a, c) in (switch_use G i n x q e fits (at_place i.opcode 251 n e t) u, a))
+      ]
+    ]
+
+-- An OpLabel uses nothing.
+abbrev pub label_row : PlainRow
+label_row = row 248 248 class.Label (R ∷ []) closed
+
+pub label_known : row_of 248 ≡ Some label_row
+unfolding rows
+label_known = refl
+
+label_forms : (n : ℕ) (o : Plain) → option_and_then (λ f. role_of f o) (form_at label_row o n) ≡ None
+label_forms n o = elim (cases_lt n 1) [
+  | inl lt ↦ (let z : n ≡ 0 = omega (arith, lt) in ap (option_and_then (λ f. role_of f o)) (fixed_form label_row o n lt ∙ ap (slice_get (R ∷ [])) z))
+  | inr ge ↦ ap (option_and_then (λ f. role_of f o)) (later_form label_row o n ge)
+]
+
+pub label_use : (G : Table) (i : PlainInst) (n x : ℕ) (q : Role) → i.opcode ≡ 248 → Fits G i → ¬ (IsUse G i n x q)
+label_use G i n x q e fits u =
+    let o = u.operand in
+    no_use_by G i label_row n o (standing G i label_row n 248 o label_known e fits u.operand_at) (label_forms n o) x q u

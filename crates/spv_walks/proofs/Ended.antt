@@ -1,19 +1,21 @@
--- An OpFunctionEnd has no result.
-use Rattle.std.proofs.Common.{◌≡◌, ◌∙◌, ◌≤◌, ◌++◌, ℕ, List, [], ◌∷◌, refl, ap, Bool, true, false, cond, Some, arith}
+-- An OpFunctionEnd has no result, and an OpLabel no type.
+use Rattle.std.proofs.Common.{◌≡◌, ◌∙◌, ◌≤◌, ◌++◌, ℕ, List, [], ◌∷◌, refl, sym, ap, Bool, true, false, cond, Some, None, arith}
 use Rattle.std.specs.Prelude.{slice_get, option_map, nat_le, not, ◌&&◌, ◌||◌}
 use Rattle.std.proofs.lemmas.Bool.Decides.{nat_tests}
 use Rattle.std.proofs.lemmas.Option.{slice_get-map}
 use Rattle.spv_grammar.specs.Table.{Table}
-use Rattle.spv_inst.specs.Operand.{Plain, PlainInst}
+use Rattle.spv_inst.specs.Operand.{Plain, PlainInst, type_in}
+use Rattle.spv_inst.specs.Operand as operand
 use Rattle.spv_layout.specs.declared.class.Class.TheVariants.{FunctionEnd}
 use Rattle.spv_layout.specs.declared.form.Form.{Form}
 use Rattle.spv_layout.specs.Class.{is_among}
-use Rattle.spv_layout.specs.Row.{PlainRow, Ending, closed, row_in}
-use Rattle.spv_layout.specs.Rows.{rows, class_of, class_in}
+use Rattle.spv_layout.specs.Row.{PlainRow, Ending, closed, row_in, R}
+use Rattle.spv_layout.specs.Rows.{rows, row_of, class_of, class_in}
 use Rattle.spv_layout.specs.Layout.{classes}
 use Rattle.spv_layout.specs.Place.{IsAt}
-use Rattle.spv_layout.specs.Shape.{AreOf, Ends, HasForms, Fits}
+use Rattle.spv_layout.specs.Shape.{is_of, AreOf, Ends, HasForms, Fits}
 use Rattle.spv_ids.specs.Definition.{IsDefinedAt}
+use Rattle.spv_branches.proofs.Places.{label_row, label_known}
 
 is_nil : List Form → Bool
 is_nil [] = true
@@ -120,3 +122,35 @@ no_result_at_end G is f n x d a =
     let o = end_operands G i (f n i d.there).forms h c' in
     let r = rw o at d.result in
     cc
+
+-- An OpLabel has its result alone.
+
+no_type : (G : Table) (o : Plain) → is_of G R o ≡ true → type_in (o ∷ []) ≡ None
+no_type G (operand.OfType x) h = cc
+no_type G (operand.Result x) h = refl
+no_type G (operand.Id x) h = refl
+no_type G (operand.Word x) h = refl
+no_type G (operand.Number a b d) h = refl
+no_type G (operand.Text t) h = refl
+no_type G (operand.Value k x) h = refl
+no_type G (operand.Mask k x) h = refl
+
+result_alone : (G : Table) (fs : List Form) (os : List Plain) → AreOf G fs os → fs ≡ R ∷ [] → type_in os ≡ None
+result_alone G _ _ AreOf.none h = cc
+result_alone G _ _ (AreOf.more f o fs os p r) h =
+    let e : f ≡ R = cc in
+    let n : fs ≡ [] = cc in
+    let m : os ≡ [] = none_of G fs os r n in
+    rw m (no_type G o (rw e at p))
+
+label_forms : (G : Table) (i : PlainInst) (fs : List Form) (h : HasForms G i fs) → i.opcode ≡ 248 → fs ≡ R ∷ []
+unfolding is_closed
+label_forms G i fs h e =
+    let s : Some h.row ≡ Some label_row = sym h.known ∙ ap row_of e ∙ label_known in
+    let r : h.row ≡ label_row = cc in
+    let b : h.rest ≡ [] = ends_closed h.row.ending h.rest (ap (λ (q : PlainRow). is_closed q.ending) r) h.ending in
+    let n : h.row.fixed ++ h.rest ≡ R ∷ [] = rw (r, b) refl in
+    h.forms ∙ n
+
+pub label_typeless : (G : Table) (i : PlainInst) → Fits G i → i.opcode ≡ 248 → type_in i.operands ≡ None
+label_typeless G i f e = result_alone G f.forms i.operands f.has.each (label_forms G i f.forms f.has e)

@@ -1,13 +1,11 @@
 -- The first ask alone.
-use Rattle.std.proofs.Common.{◌≡◌, ◌<◌, ◌≤◌, ◌+◌, ◌∙◌, ℕ, zero, suc, List, [], ◌∷◌, Option, Some, None, length, refl, sym, ap, subst, arith}
-use Rattle.std.specs.Prelude.{Contains, All, IfSome, slice_get, slice_index_or}
-use Rattle.std.proofs.lemmas.Bool.{cases_lt}
+use Rattle.std.proofs.Common.{◌≡◌, ◌∙◌, ℕ, zero, suc, List, [], ◌∷◌, Option, Some, None, length, refl, sym, ap, subst, arith}
+use Rattle.std.specs.Prelude.{Contains, IfSome, slice_get}
 use Rattle.std.proofs.lemmas.Option.{slice_get_within, slice_get_read, get_or_from_slice_get}
 use Rattle.spv_availability.specs.declared.graph.Graph.{Graph}
 use Rattle.spv_availability.specs.declared.asks.Ask.{Ask}
 use Rattle.spv_availability.specs.Path.{IsMissed}
-use Rattle.spv_availability.specs.Graph.{block_count}
-use Rattle.spv_availability.specs.First.{AreOfBlocks, AreInOrder, IsFirstMissed}
+use Rattle.spv_availability.specs.First.{AreInOrder, IsFirstMissed}
 use Rattle.spv_walks.specs.Least.{IsLeast}
 
 only_one : (a b : Ask) (k : ℕ) → slice_get (a ∷ []) k ≡ Some b → a ≡ b

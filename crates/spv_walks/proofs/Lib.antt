@@ -10,6 +10,7 @@ pub mod Coded
 pub mod Adding
 pub mod Starting
 pub mod Asking
+pub mod Branching
 pub mod Targets
 pub mod Parents
 pub mod Deciding

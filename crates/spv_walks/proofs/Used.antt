@@ -1,16 +1,18 @@
 -- The ids among the operands of an instruction, by role.
-use Rattle.std.proofs.Common.{◌≡◌, ◌∙◌, ℕ, zero, suc, List, true, Option, Some, None, sym, ap, subst}
+use Rattle.std.proofs.Common.{◌≡◌, ◌∙◌, ℕ, zero, suc, List, true, Option, Some, None, map, ap, subst}
 use Rattle.std.specs.Prelude.{slice_get, option_and_then, MatchOption}
 use Rattle.spv_grammar.specs.Table.{Table}
 use Rattle.spv_inst.specs.Operand.{Plain, PlainInst}
 use Rattle.spv_inst.specs.Operand as operand
+use Rattle.spv_inst.specs.declared.operand.Operand.{Operand}
+use Rattle.spv_inst.specs.Module.{plain_operand}
 use Rattle.spv_layout.specs.declared.form.Role.{Role}
 use Rattle.spv_layout.specs.declared.form.Role.TheVariants.{Value}
 use Rattle.spv_layout.specs.declared.form.Form.{Form}
 use Rattle.spv_layout.specs.declared.form.Form.TheVariants as form
 use Rattle.spv_layout.specs.Shape.{is_of, AreOf, IsUse, IsRole, role_of, id_of}
 use Rattle.spv_layout.proofs.Shapes.{use_same}
-use Rattle.spv_ids.specs.Definition.{IsDefinedAt, IsUsedAt}
+use Rattle.spv_ids.specs.Definition.{IsDefinedAt}
 use Rattle.spv_ids.specs.Uses.{used_id}
 use Rattle.spv_branches.proofs.Labelled.{use_in}
 use Rattle.spv_walks.specs.Due.{IsFoundAt}
@@ -67,3 +69,7 @@ found_by G is m n x i there e (Some d) h = λ y r u.
     let k = use_other G i n y r (use_in G is m n y r i there u) in
     let s : x ≡ y = cc in
     subst (λ (z : ℕ). IsDefinedAt is z d) s h
+
+-- the id of an operand of a slice
+pub id_in : (os xs : List Operand) (n : ℕ) → xs ≡ os → option_and_then used_id (slice_get (map plain_operand xs) n) ≡ option_and_then used_id (slice_get (map plain_operand os) n)
+id_in os xs n e = ap (λ (ys : List Operand). option_and_then used_id (slice_get (map plain_operand ys) n)) e

@@ -1,19 +1,22 @@
 //! What is asked of the graph of a function's blocks.
 
-ghost use Rattle.std.specs.Prelude.{◌<◌, ◌≤◌, ◌+◌, ℕ, length, OnOk, IfSome, MatchOption, MatchBool};
+ghost use Rattle.std.specs.Prelude.{◌≡◌, ◌<◌, ◌≤◌, ◌+◌, ℕ, Some, nat_le, ◌&&◌, length, slice_get, option_and_then, OnOk, IfSome, MatchOption, MatchBool};
 ghost use Rattle.spv_grammar.specs.Table.{Table};
+ghost use Rattle.spv_inst.specs.Operand.{PlainInst};
 ghost use Rattle.spv_availability.specs.declared.asks.Ask as declared;
 ghost use Rattle.spv_ids.specs.Definition.{IsDefinedAt};
+ghost use Rattle.spv_ids.specs.Uses as uses;
 ghost use Rattle.spv_branches.specs.Ready.{IsLocalValue};
+ghost use Rattle.spv_branches.specs.Target.{IsOp};
 ghost use Rattle.spv_walks.specs.Code.{insts_of, IsCode};
 ghost use Rattle.spv_walks.specs.Divided.{IsIn};
 ghost use Rattle.spv_walks.specs.Adds.{AddsBy};
 ghost use Rattle.spv_walks.specs.Leading.{AreBlocks};
 ghost use Rattle.spv_walks.specs.Due.{IsFoundAt, IsPairedAt, IsUseAsk, IsPairAsk, HasUseAsk, HasPairAsk, IsAskAt, IsAskIn, IsAsk};
 
-use crate::code::{Code, LABEL, PHI, has_type};
+use crate::code::{BRANCH, Code, LABEL, PHI, has_type, is_label_or_branch};
 use crate::edges::{Blocks, target};
-use crate::operands::{other_id, used, value};
+use crate::operands::{other_id, other_id_in, used, value};
 use spv_availability::Ask;
 use std::alloc::AllocError;
 
@@ -41,16 +44,25 @@ fn is_local_in(code: &Code<'_, '_>, blocks: &Blocks<'_>, place: u32) -> bool
     }
 }
 
-/// What is asked for the use that operand `n` of an instruction is, if it is one of a value that no earlier instruction of the block
-/// defines.
-fn use_ask(code: &Code<'_, '_>, blocks: &Blocks<'_>, block: u32, at: u32, n: usize) -> Option<Ask>
+/// What is asked for the use of an id as operand `n` of an instruction, if it is one of a value that no earlier instruction of the
+/// block defines.
+#[inline(always)]
+fn use_ask(
+    code: &Code<'_, '_>,
+    blocks: &Blocks<'_>,
+    block: u32,
+    at: u32,
+    n: usize,
+    id: u32,
+) -> Option<Ask>
     requires blocks { AreBlocks (insts_of code.now) blocks.now }
     requires block { block + 1 < length blocks.now.starts.now }
     requires at { at < length code.now.insts.now }
+    requires id { (i : PlainInst) × (slice_get (insts_of code.now) at ≡ Some i) × (Some id ≡ option_and_then uses.used_id (slice_get i.operands n)) }
     ensures { (G : Table) → IsCode G code.now
         → MatchOption result ((a : declared.Ask) → ¬ (IsUseAsk G (insts_of code.now) blocks.now.starts.now block at n a)) (λ a. IsUseAsk G (insts_of code.now) blocks.now.starts.now block at n a) }
 {
-    let value = defined_at(code, at, n)?;
+    let value = code.definition(id)?;
     let start = blocks.starts[block as usize];
     if start <= value && value < at {
         return None;
@@ -114,14 +126,44 @@ fn add_uses(
     at: u32,
     asks: &mut Vec<Ask>,
 ) -> Result<(), AllocError>
-    requires code { (G : Table) × IsCode G code.now }
     requires blocks { AreBlocks (insts_of code.now) blocks.now }
     requires block { block + 1 < length blocks.now.starts.now }
     requires at { at < length code.now.insts.now }
     ensures { OnOk result (AddsBy code.now (λ G a. HasUseAsk G (insts_of code.now) blocks.now.starts.now block at a) asks.old.items asks.new.items) }
 {
-    for n in 0..code.insts[at as usize].operands.as_slice().len() {
-        if let Some(ask) = use_ask(code, blocks, block, at, n) {
+    let operands = code.insts[at as usize].operands.as_slice();
+    for n in 0..operands.len() {
+        if let Some(id) = other_id_in(operands, n) {
+            if let Some(ask) = use_ask(code, blocks, block, at, n, id) {
+                asks.push(ask)?;
+            }
+        }
+    }
+    Ok(())
+}
+
+/// Adds what is asked for the uses of a branch or an OpLabel. Labels are no values, so it is asked for the first operand alone, and
+/// for that of an OpBranchConditional or an OpSwitch.
+#[inline(always)]
+fn add_first_use(
+    code: &Code<'_, '_>,
+    blocks: &Blocks<'_>,
+    block: u32,
+    at: u32,
+    asks: &mut Vec<Ask>,
+) -> Result<(), AllocError>
+    requires blocks { AreBlocks (insts_of code.now) blocks.now }
+    requires block { block + 1 < length blocks.now.starts.now }
+    requires at { at < length code.now.insts.now }
+    requires op { IsOp (insts_of code.now) at (λ n. nat_le 248 n && nat_le n 251) }
+    ensures { OnOk result (AddsBy code.now (λ G a. HasUseAsk G (insts_of code.now) blocks.now.starts.now block at a) asks.old.items asks.new.items) }
+{
+    let inst = &code.insts[at as usize];
+    if inst.opcode <= BRANCH {
+        return Ok(());
+    }
+    if let Some(id) = other_id(inst, 0) {
+        if let Some(ask) = use_ask(code, blocks, block, at, 0, id) {
             asks.push(ask)?;
         }
     }
@@ -162,7 +204,11 @@ fn add_asks(
     requires at { at < length code.now.insts.now }
     ensures { OnOk result (AddsBy code.now (λ G a. IsAskAt G (insts_of code.now) blocks.now.starts.now block at a) asks.old.items asks.new.items) }
 {
-    if code.insts[at as usize].opcode != PHI {
+    let opcode = code.insts[at as usize].opcode;
+    if is_label_or_branch(opcode) {
+        return add_first_use(code, blocks, block, at, asks);
+    }
+    if opcode != PHI {
         return add_uses(code, blocks, block, at, asks);
     }
     let start = blocks.starts[block as usize];

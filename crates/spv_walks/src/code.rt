@@ -1,6 +1,6 @@
 //! The instructions that are looked at, with their places and ids.
 
-ghost use Rattle.std.specs.Prelude.{◌≡◌, is_some};
+ghost use Rattle.std.specs.Prelude.{◌≡◌, ◌&&◌, nat_le, is_some};
 ghost use Rattle.spv_branches.specs.Target as target;
 ghost use Rattle.spv_inst.specs.Module.{plain_operands};
 ghost use Rattle.spv_inst.specs.Operand as operand;
@@ -39,6 +39,7 @@ impl Code<'_, '_> {
     }
 
     /// The instruction whose result an id is.
+    #[inline(always)]
     pub fn definition(&self, id: u32) -> Option<u32>
         ensures there { (G : Table) → IsCode G self.now → MatchOption result ((d : ℕ) → ¬ (IsDefinedAt (insts_of self.now) id d)) (λ d. IsDefinedAt (insts_of self.now) id d) }
         ensures within { IfSome result (λ d. d < length self.now.insts.now) }
@@ -95,7 +96,7 @@ pub fn has_type(operands: &[Operand<'_>]) -> bool
     false
 }
 
-/// The opcodes of OpFunction, OpFunctionEnd, OpPhi and OpLabel.
+/// The opcodes of OpFunction, OpFunctionEnd, OpPhi, OpLabel and OpBranch.
 pub const FUNCTION: u16 = 54;
 
 pub const FUNCTION_END: u16 = 56;
@@ -104,11 +105,22 @@ pub const PHI: u16 = 245;
 
 pub const LABEL: u16 = 248;
 
+pub const BRANCH: u16 = 249;
+
 /// Whether an opcode is that of a terminator with labels: OpBranch, OpBranchConditional or OpSwitch.
+#[inline(always)]
 pub fn is_branch(opcode: u16) -> bool
     ensures { result ≡ target.is_branch opcode }
 {
     249 <= opcode && opcode <= 251
+}
+
+/// Whether an opcode is that of an OpLabel or of a terminator with labels.
+#[inline(always)]
+pub fn is_label_or_branch(opcode: u16) -> bool
+    ensures { result ≡ nat_le 248 opcode && nat_le opcode 251 }
+{
+    248 <= opcode && opcode <= 251
 }
 
 /// Whether an opcode is that of a terminator: a branch, OpReturn, OpReturnValue or OpUnreachable.

@@ -1,6 +1,6 @@
 //! The ids among the operands of an instruction.
 
-ghost use Rattle.std.specs.Prelude.{◌≡◌, ℕ, MatchOption, slice_get, option_and_then};
+ghost use Rattle.std.specs.Prelude.{◌≡◌, ℕ, MatchOption, map, slice_get, option_and_then};
 ghost use Rattle.spv_grammar.specs.Table.{Table};
 ghost use Rattle.spv_inst.specs.Module.{plain_inst, plain_operand};
 ghost use Rattle.spv_layout.specs.Shape.{Fits, IsUse};
@@ -25,6 +25,7 @@ fn id_of(operand: Operand<'_>) -> Option<u32>
 }
 
 /// The id that an operand is, if it is one and no result.
+#[inline(always)]
 fn other_id_of(operand: Operand<'_>) -> Option<u32>
     ensures { result ≡ uses.used_id (plain_operand operand.entry) }
 {
@@ -47,16 +48,23 @@ fn id_at(inst: &Inst<'_>, n: usize) -> Option<u32>
     }
 }
 
-/// The id that operand `n` is, if it is one and no result: only such operands are uses.
-pub fn other_id(inst: &Inst<'_>, n: usize) -> Option<u32>
-    ensures { result ≡ option_and_then uses.used_id (slice_get (plain_inst inst.now).operands n) }
+/// The id that operand `n` of a list is, if it is one and no result: only such operands are uses.
+#[inline(always)]
+pub fn other_id_in(operands: &[Operand<'_>], n: usize) -> Option<u32>
+    ensures { result ≡ option_and_then uses.used_id (slice_get (map plain_operand operands.now) n) }
 {
-    let operands = inst.operands.as_slice();
     if n < operands.len() {
         other_id_of(operands[n])
     } else {
         None
     }
+}
+
+/// The id that operand `n` of an instruction is, if it is one and no result.
+pub fn other_id(inst: &Inst<'_>, n: usize) -> Option<u32>
+    ensures { result ≡ option_and_then uses.used_id (slice_get (plain_inst inst.now).operands n) }
+{
+    other_id_in(inst.operands.as_slice(), n)
 }
 
 /// The id that operand `n` uses as a label, if it does.

@@ -1,4 +1,4 @@
-use Rattle.std.proofs.Common.{◌≡◌, ◌≤◌, ◌+◌, ◌++◌, ℕ, List, [], ◌∷◌, Vec, Global, Some, length, get_or, sym, ap, subst, arith}
+use Rattle.std.proofs.Common.{◌≡◌, ◌≤◌, ◌+◌, ◌++◌, ◌∙◌, ℕ, List, [], ◌∷◌, Vec, Global, Some, length, get_or, sym, ap, subst, arith}
 use Rattle.std.specs.Prelude.{slice_get}
 use Rattle.std.proofs.lemmas.List.{length-map}
 use Rattle.spv_grammar.specs.Table.{Table}
@@ -11,9 +11,18 @@ use Rattle.spv_walks.specs.Code.{insts_of}
 use Rattle.spv_walks.specs.Due.{IsUseAsk}
 use Rattle.spv_walks.specs.Adds.{AddsBy}
 use Rattle.spv_walks.proofs.Adding.{UpTo, adds_none, adds_one, adds_step, adds_end}
-use Rattle.spv_walks.proofs.Asking.{one_use}
+use Rattle.spv_walks.proofs.Asking.{no_use, one_use}
+use Rattle.spv_walks.proofs.Used.{none_found, id_in}
 use Rattle.spv_walks.proofs.asks.add_uses.Goals as goal
-use Rattle.spv_walks.proofs.asks.add_uses.Goals.{in-Some+in_ok-push, in_default}
+use Rattle.spv_walks.proofs.asks.add_uses.Goals.{in-Some+in-Some-use_ask+in_ok-push, in-Some+in_default-use_ask, in_default}
+
+pub use_ask-requires-clause-id : goal.use_ask-requires-clause-id
+use_ask-requires-clause-id c =
+    let code = c.args.code.now in
+    let inst : Inst = get_or code.insts.now c.args.at c.index-code-at.result in
+    let there = inst_get code.insts.now c.args.at c.index-code-at.result c.requires.at in
+    let e = id_in inst.operands c.as_slice-operands.result.now c.loop-n.n c.as_slice-operands.ensures.value in
+    (plain_inst inst, there, sym c.in-Some.is ∙ c.other_id_in.ensures ∙ e)
 
 pub loop-n-preserved : goal.loop-n-preserved
 loop-n-preserved c =
@@ -22,15 +31,24 @@ loop-n-preserved c =
     let n = c.loop-n.n in
     let old = c.args.asks.now.items in
     let now = c.loop-n.asks.items in
+    let inst : Inst = get_or code.insts.now c.args.at c.index-code-at.result in
+    let there = inst_get code.insts.now c.args.at c.index-code-at.result c.requires.at in
+    let e = id_in inst.operands c.as_slice-operands.result.now n c.as_slice-operands.ensures.value in
     let P : Table → ℕ → Ask → Type 0 = λ G j a. IsUseAsk G (insts_of code) starts c.args.block c.args.at j a in
-    elim c.match-use_ask.branch [
-      | in-Some+in_ok-push w ↦ (
-          let one = adds_one code (λ G a. P G n a) now w.in-Some.ask (λ G is. w.in-Some.ensures G is) (λ G is a p. one_use G code starts c.args.block c.args.at c.loop-n.n w.in-Some.ask a is (w.in-Some.ensures G is) p) in
-          let all = adds_step code P n old now (now ++ w.in-Some.ask ∷ []) c.loop-n.invariant one in
+    elim c.match-other_id_in.branch [
+      | in-Some+in-Some-use_ask+in_ok-push w ↦ (
+          let ask = w.in-Some-use_ask.ask in
+          let one = adds_one code (λ G a. P G n a) now ask (λ G is. w.in-Some-use_ask.ensures G is) (λ G is a p. one_use G code starts c.args.block c.args.at c.loop-n.n ask a is (w.in-Some-use_ask.ensures G is) p) in
+          let all = adds_step code P n old now (now ++ ask ∷ []) c.loop-n.invariant one in
           let pushed = subst (λ (xs : List Ask). AddsBy code (UpTo (n + 1) P) old xs) (sym w.in_ok-push.ensures.items) all in
           subst (λ (v : Vec Ask Global). AddsBy code (UpTo (n + 1) P) old v.items) (sym w.asks-is) pushed)
+      | in-Some+in_default-use_ask w ↦ (
+          let none = adds_none code (λ G a. P G n a) now (λ G is. w.in_default-use_ask.ensures G is) in
+          let all = adds_step code P n old now now c.loop-n.invariant none in
+          subst (λ (v : Vec Ask Global). AddsBy code (UpTo (n + 1) P) old v.items) (sym w.asks-is) all)
       | in_default w ↦ (
-          let none = adds_none code (λ G a. P G n a) now (λ G is. w.in_default.ensures G is) in
+          let unused = sym w.in_default.is ∙ c.other_id_in.ensures ∙ e in
+          let none = adds_none code (λ G a. P G n a) now (λ G is. no_use G code starts c.args.block c.args.at n (none_found G (insts_of code) c.args.at n (plain_inst inst) there unused)) in
           let all = adds_step code P n old now now c.loop-n.invariant none in
           subst (λ (v : Vec Ask Global). AddsBy code (UpTo (n + 1) P) old v.items) (sym w.asks-is) all)
     ]
@@ -42,6 +60,7 @@ returns c =
     let inst : Inst = get_or code.insts.now c.args.at c.index-code-at.result in
     let i : PlainInst = plain_inst inst in
     let there : slice_get (insts_of code) c.args.at ≡ Some i = inst_get code.insts.now c.args.at c.index-code-at.result c.requires.at in
-    let all : length i.operands ≤ c.loop-n.n = omega (arith, length-map inst.operands plain_operand, ap length c.as_slice-n-end.ensures.value) in
+    let end = c.loop-n-test.false in
+    let all : length i.operands ≤ c.loop-n.n = omega (arith, end, length-map inst.operands plain_operand, ap length c.as_slice-operands.ensures.value) in
     adds_end code (λ (G : Table) (j : ℕ) (a : Ask). IsUseAsk G (insts_of code) starts c.args.block c.args.at j a) c.loop-n.n c.args.asks.now.items c.loop-n.asks.items c.loop-n.invariant
     (λ G is j a u. let lt = use_within G i j u.id u.role (use_in G (insts_of code) c.args.at j u.id u.role i there u.used) in omega (arith, lt, all))

@@ -1,10 +1,10 @@
-use Rattle.std.proofs.Common.{◌≡◌, ◌<◌, ◌≤◌, ◌+◌, ℕ, false, length, get_or, sym, ◌∙◌, eq-eqb, subst, arith}
+use Rattle.std.proofs.Common.{ℕ, length, get_or, eq-eqb, arith}
 use Rattle.std.proofs.lemmas.List.{length-map}
 use Rattle.spv_inst.specs.Module.{plain_inst}
-use Rattle.spv_branches.specs.Target.{is_function, is_phi, IsOp}
+use Rattle.spv_branches.specs.Target.{is_function}
 use Rattle.spv_branches.proofs.Labelled.{inst_get, op_holds}
 use Rattle.spv_walks.specs.Code.{insts_of}
-use Rattle.spv_walks.proofs.Starting.{IsOpenTo, open_start, open_more, extent_ended, extent_before, extent_last, unmarked_start, unmarked_more}
+use Rattle.spv_walks.proofs.Starting.{open_start, open_more, extent_ended, extent_before, extent_last, unmarked_start, unmarked_more}
 use Rattle.spv_walks.proofs.divide.function_extent.Goals as goal
 use Rattle.spv_walks.proofs.divide.function_extent.Goals.{then-opcode-eq-PHI, else-opcode-eq-PHI}
 

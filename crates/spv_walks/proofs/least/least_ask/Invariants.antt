@@ -1,4 +1,4 @@
-use Rattle.std.proofs.Common.{◌≡◌, ◌≤◌, ◌<◌, ℕ, Some, length}
+use Rattle.std.proofs.Common.{◌≡◌, ◌≤◌, ◌<◌, ℕ, Some}
 use Rattle.std.specs.Prelude.{Contains, slice_get}
 use Rattle.spv_availability.specs.declared.asks.Ask.{Ask}
 use Rattle.spv_walks.proofs.least.least_ask.Given as goal

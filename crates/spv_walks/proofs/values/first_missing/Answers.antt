@@ -1,4 +1,4 @@
-use Rattle.std.proofs.Common.{◌≡◌, ◌<◌, ◌+◌, ℕ, Option, length, get_or, eq-eqb, subst, arith}
+use Rattle.std.proofs.Common.{ℕ, Option, get_or, eq-eqb, subst, arith}
 use Rattle.std.proofs.lemmas.List.{length-map}
 use Rattle.spv_grammar.specs.Table.{Table}
 use Rattle.spv_inst.specs.Module.{plain_inst}
