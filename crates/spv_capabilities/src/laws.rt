@@ -1,10 +1,10 @@
 //! Worked examples of the definitions. Each function does nothing: its contract is what is proved.
 
-ghost use Rattle.std.specs.Prelude.{[], ◌∷◌};
+ghost use Rattle.std.specs.Prelude.{[], ◌∷◌, Some, None};
 ghost use Rattle.spv_inst.specs.Operand.{Result, Id, Word, Value, Mask};
 ghost use Rattle.spv_capabilities.specs.Capable.{Has, IsKernel, IsCoveredEntry, IsCoveredOperand, HasNeeded, needs_of};
 ghost use Rattle.spv_capabilities.specs.Memory.{IsModel};
-ghost use Rattle.spv_capabilities.specs.Keeps.{Keeps};
+ghost use Rattle.spv_capabilities.specs.Keeps.{Keeps, IsFirstAt};
 ghost use Rattle.spv_inst.specs.declared.fault.Rule.TheVariants as rule;
 ghost use Rattle.spv_capabilities.specs.Entry.{HasEntry, IsKernelFunction, IsSoundEntry, IsSoundMode, IsSoundLinkage};
 ghost use Rattle.spv_capabilities.specs.Example.{small, inst, vectors, linked, entry, void_function, kernel, called, declaration};
@@ -73,4 +73,14 @@ pub fn demand_examples()
     ensures other { Keeps small kernel rule.M1 1 (inst 19 (Result 1 ∷ [])) }
     ensures entry { Keeps small kernel rule.E2 0 entry }
     ensures no_entry { ¬ (Keeps small kernel rule.E2 0 (inst 15 (Value 9 5 ∷ Id 3 ∷ []))) }
+{}
+
+/// The first of these rules that is broken at an instruction.
+pub fn first_examples()
+    // A module without Kernel breaks C1, which comes before M1.
+    ensures first { IsFirstAt small linked 0 (inst 14 []) (Some rule.C1) }
+    ensures later { ¬ (IsFirstAt small linked 0 (inst 14 []) (Some rule.M1)) }
+    ensures some { ¬ (IsFirstAt small linked 0 (inst 14 []) None) }
+    // OpTypeVoid breaks none of them.
+    ensures none { IsFirstAt small linked 0 (inst 19 (Result 1 ∷ [])) None }
 {}

@@ -1,4 +1,4 @@
-mod Casting
-mod Worked
+pub mod Casting
+pub mod Worked
 pub mod Listed
 pub mod Asking

@@ -1,5 +1,5 @@
 -- The worked examples of Y1.
-use Rattle.std.proofs.Common.{◌≡◌, ℕ, zero, suc, List, [], ◌∷◌, Some, None, refl, sym, subst}
+use Rattle.std.proofs.Common.{◌≡◌, ◌+◌, ℕ, zero, suc, List, [], ◌∷◌, Some, None, true, refl, subst, arith, lit≤}
 use Rattle.std.specs.Prelude.{slice_get}
 use Rattle.spv_grammar.specs.Table.{Table}
 use Rattle.spv_inst.specs.Operand.{OfType, Result, PlainInst}
@@ -12,11 +12,17 @@ use Rattle.spv_layout.specs.declared.form.Role.TheVariants as role
 use Rattle.spv_layout.specs.Row.{row, closed}
 use Rattle.spv_layout.specs.Rows.{rows}
 use Rattle.spv_layout.specs.Shape.{HasForms, IsUse, AreOf, Ends}
+use Rattle.spv_ids.specs.Definition.{IsUsedAt}
 use Rattle.spv_ops.specs.Example.{inst}
+use Rattle.spv_roles.specs.declared.asked.Asked.{Asked}
+use Rattle.spv_roles.specs.Asked.{asked_of, ArePlayed}
 use Rattle.spv_roles.specs.Broken.{Broken}
-use Rattle.spv_roles.specs.Example.{few, stray}
+use Rattle.spv_roles.specs.Example.{few, stray, typed}
+use Rattle.spv_roles.specs.Known.{IsMiscast}
+use Rattle.spv_roles.specs.Outcome.{AreInRole, IsRefusal}
 use Rattle.spv_roles.specs.Role.{Plays}
-use Rattle.spv_roles.proofs.Casting.{no_operand}
+use Rattle.spv_roles.proofs.Asking.{judged}
+use Rattle.spv_roles.proofs.Casting.{no_operand, none_up_to, first_miscast}
 
 undef_forms : (G : Table) → HasForms G (inst 1 (OfType 5 ∷ Result 2 ∷ [])) (form.OfType ∷ form.Result ∷ [])
 unfolding rows
@@ -29,15 +35,14 @@ undef_forms G = record {
   each = AreOf.more _ _ _ _ refl (AreOf.more _ _ _ _ refl AreOf.none);
 }
 
+stray_use : (G : Table) → IsUse G (inst 1 (OfType 5 ∷ Result 2 ∷ [])) 0 5 role.OfType
+stray_use G = record { forms = _; has = undef_forms G; form = form.OfType; operand = OfType 5; form_at = refl; operand_at = refl; role = refl; id = refl }
+
+stray_used : (G : Table) → IsUsedAt G stray 0 0 5 role.OfType
+stray_used G = record { inst = inst 1 (OfType 5 ∷ Result 2 ∷ []); there = refl; used = stray_use G }
+
 pub stray_broken : (G : Table) → Broken G stray Y1 0
-stray_broken G =
-    Broken.miscast 0 0 5 role.OfType
-    (record {
-      inst = inst 1 (OfType 5 ∷ Result 2 ∷ []);
-      there = refl;
-      used = record { forms = _; has = undef_forms G; form = form.OfType; operand = OfType 5; form_at = refl; operand_at = refl; role = refl; id = refl };
-    })
-    (λ p. p)
+stray_broken G = Broken.miscast 0 0 5 role.OfType (stray_used G) (λ p. p)
 
 -- the one operand of an OpTypeVoid is no use
 none_used : (G : Table) (k x : ℕ) (q : Role) → IsUse G (inst 19 (Result 1 ∷ [])) k x q → Plays few q x
@@ -52,3 +57,39 @@ unbroken_at G _ _ e (Broken.miscast n k x q u never) =
 
 pub unused_unbroken : (G : Table) → ¬ (Broken G few Y1 0)
 unused_unbroken G b = unbroken_at G Y1 0 refl b
+
+-- The uses of an instruction whose operands are what is asked of them.
+pub played : (G : Table) (is : List PlainInst) (i : PlainInst) (a : Asked) → asked_of i.opcode ≡ Some a → ArePlayed is a.first a.others a.masked i.operands
+    → (k x : ℕ) (r : Role) → IsUse G i k x r → Plays is r x
+played G is i a e p k x r u = (judged G is i a (k + 1) true e (record { forms = u.forms; has = u.has }) p).each k (omega arith) x r u
+
+-- nothing more is asked than types
+abbrev types_alone : Asked
+types_alone = record { first = role.Any; others = role.Any; masked = role.Any }
+
+typed_at : (G : Table) (n k x : ℕ) (r : Role) (i : PlainInst) → slice_get typed n ≡ Some i → IsUse G i k x r → Plays typed r x
+typed_at G zero k x r i at u =
+    let same : i ≡ inst 19 (Result 1 ∷ []) = cc in
+    played G typed (inst 19 (Result 1 ∷ [])) types_alone refl (tt, tt) k x r (subst (λ (j : PlainInst). IsUse G j k x r) same u)
+typed_at G (suc zero) k x r i at u =
+    let same : i ≡ inst 1 (OfType 1 ∷ Result 2 ∷ []) = cc in
+    played G typed (inst 1 (OfType 1 ∷ Result 2 ∷ [])) types_alone refl ((lit≤ tt, lit≤ tt), (tt, tt)) k x r (subst (λ (j : PlainInst). IsUse G j k x r) same u)
+typed_at G (suc (suc n)) k x r i at u = cc
+
+pub typed_in_role : (G : Table) → AreInRole G typed
+typed_in_role G = record { each = λ n k x r u. typed_at G n k x r u.inst u.there u.used }
+
+pub stray_not_in_role : (G : Table) → ¬ (AreInRole G stray)
+stray_not_in_role G a = a.each 0 0 5 role.OfType (stray_used G)
+
+stray_miscast : (G : Table) → IsMiscast G stray (inst 1 (OfType 5 ∷ Result 2 ∷ [])) 0
+stray_miscast G = record { id = 5; role = role.OfType; used = stray_use G; not = λ p. p }
+
+pub stray_refused : (G : Table) → IsRefusal G stray (record { rule = Y1; inst = 0; word = 5 })
+stray_refused G = record {
+  first = first_miscast G stray 0 (inst 1 (OfType 5 ∷ Result 2 ∷ [])) refl (record { place = 0; miscast = stray_miscast G }) (none_up_to G stray);
+  word = refl;
+}
+
+pub no_other_word : (G : Table) → ¬ (IsRefusal G stray (record { rule = Y1; inst = 0; word = 6 }))
+no_other_word G f = let e : 6 ≡ 5 = f.word in absurd (omega (arith, e))

@@ -12,6 +12,10 @@ few =
     inst 7 (Result 4 ∷ []) ∷
     []
 
+-- the first two of them
+abbrev pub typed : List PlainInst
+typed = inst 19 (Result 1 ∷ []) ∷ inst 1 (OfType 1 ∷ Result 2 ∷ []) ∷ []
+
 -- %2 = OpUndef %5, where no instruction has the result %5
 abbrev pub stray : List PlainInst
 stray = inst 1 (OfType 5 ∷ Result 2 ∷ []) ∷ []

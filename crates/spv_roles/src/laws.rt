@@ -6,9 +6,9 @@ ghost use Rattle.spv_inst.specs.Operand.{PlainInst};
 ghost use Rattle.spv_layout.specs.First.{IsUnbroken};
 ghost use Rattle.spv_layout.specs.declared.form.Role.TheVariants as role;
 ghost use Rattle.spv_roles.specs.Broken.{Broken};
-ghost use Rattle.spv_roles.specs.Outcome.{AreInRole};
+ghost use Rattle.spv_roles.specs.Outcome.{AreInRole, IsRefusal};
 ghost use Rattle.spv_roles.specs.Role.{Plays};
-ghost use Rattle.spv_roles.specs.Example.{few, stray, with_set};
+ghost use Rattle.spv_roles.specs.Example.{few, stray, typed, with_set};
 ghost use Rattle.spv_ops.specs.Example.{lone_variable};
 ghost use Rattle.spv_inst.specs.declared.fault.Rule.TheVariants.{Y1};
 
@@ -44,4 +44,13 @@ pub fn broken_examples()
     ensures stray { (G : Table) → Broken G stray Y1 0 }
     // OpTypeVoid uses nothing.
     ensures unused { (G : Table) → ¬ (Broken G few Y1 0) }
+{}
+
+/// What is answered of a module whose ids play their roles, and of one with an id that does not.
+pub fn outcome_examples()
+    ensures in_role { (G : Table) → AreInRole G typed }
+    ensures miscast { (G : Table) → ¬ (AreInRole G stray) }
+    // The first instruction begins at word 5.
+    ensures refusal { (G : Table) → IsRefusal G stray (record { rule = Y1; inst = 0; word = 5 }) }
+    ensures other_word { (G : Table) → ¬ (IsRefusal G stray (record { rule = Y1; inst = 0; word = 6 })) }
 {}

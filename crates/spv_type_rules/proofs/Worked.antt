@@ -1,7 +1,9 @@
 -- What the small modules of the worked examples have.
-use Rattle.std.proofs.Common.{◌≡◌, ◌<◌, ℕ, zero, suc, List, [], ◌∷◌, Option, Some, None, true, false, refl, sym, subst, arith}
+use Rattle.std.proofs.Common.{◌≡◌, ◌<◌, ℕ, zero, suc, List, [], ◌∷◌, Option, Some, None, true, false, refl, sym, subst, inl, inr, arith, lit<, lit≤}
 use Rattle.std.specs.Prelude.{slice_get, take, IsSomeAnd}
-use Rattle.spv_inst.specs.Operand.{OfType, Result, Id, Value, PlainInst, type_in}
+use Rattle.spv_grammar.specs.Table.{Table}
+use Rattle.spv_inst.specs.Operand.{Plain, OfType, Result, Id, Word, Value, PlainInst, type_in}
+use Rattle.spv_inst.specs.declared.fault.Rule.TheVariants as rule
 use Rattle.spv_layout.specs.declared.class.Class.TheVariants.{Function, FunctionEnd}
 use Rattle.spv_layout.specs.Rows.{rows}
 use Rattle.spv_layout.specs.Place.{IsAt, IsOfFunction}
@@ -11,9 +13,13 @@ use Rattle.spv_ops.specs.Form.{form_in, form_of}
 use Rattle.spv_ops.specs.Operands.{ids_in}
 use Rattle.spv_ops.specs.Types.{class_in}
 use Rattle.spv_ops.specs.Values.{types_of}
-use Rattle.spv_type_rules.specs.Declaration.{IsPointerAfter}
+use Rattle.spv_type_rules.specs.Declaration.{IsPointerAfter, IsVectorCount}
+use Rattle.spv_type_rules.specs.Keeps.{Keeps, KeepsFunctions, KeepsReturns, CallsAreSound}
+use Rattle.spv_type_rules.specs.Repeat.{Repeats}
+use Rattle.spv_type_rules.specs.Rules.{IsFirstRule}
+use Rattle.spv_type_rules.proofs.Firsts.{keeps_below, first_y8}
 use Rattle.spv_type_rules.specs.Function.{OfFunction, ReturnsNothing, ReturnsTyped, IsSoundParameter, IsSoundReturn, IsSoundReturnValue, parameter_type_of, parameters_between}
-use Rattle.spv_type_rules.specs.Example.{small, pointers, returning}
+use Rattle.spv_type_rules.specs.Example.{small, pointers, returning, again, short_call, function, parameter}
 
 -- the class of each pointer
 class_at : (n : ℕ) (i : PlainInst) → slice_get pointers n ≡ Some i → class_in (form_in i) ≡ Some 7 → ⊥
@@ -97,3 +103,68 @@ no_value o = at_four (λ f d. IsSomeAnd (types_of small (take 1 (ids_in (Id 2 �
 
 pub no_return : ¬ (IsSoundReturn small 5)
 no_return o = let e : form_of small 1 ≡ Some form.Void = at_four (λ f d. ReturnsNothing small d) o in cc
+
+-- What the rules demand of single instructions.
+
+pub repeated : Repeats small 7 again
+repeated = record { once = refl; place = 0; earlier = lit< tt; other = inst 21 (Result 1 ∷ Word 8 ∷ Word 0 ∷ []); there = refl; alike = (refl, refl) }
+
+pub not_earlier : ¬ (Repeats small 0 again)
+not_earlier r = let l = r.earlier in absurd (omega (arith, l))
+
+pub function_kept : KeepsFunctions small 4 function
+function_kept = record { function = λ e. (refl, refl); parameter = λ e. absurd (omega (arith, e)) }
+
+pub function_not_kept : ¬ (KeepsFunctions small 5 function)
+function_not_kept k = let e = (k.function refl).1 in absurd (omega (arith, e))
+
+pub parameter_kept : KeepsFunctions small 5 parameter
+parameter_kept = record { function = λ e. absurd (omega (arith, e)); parameter = λ e. (4, of_small, refl) }
+
+pub parameter_not_kept : ¬ (KeepsFunctions small 5 (inst 55 (OfType 2 ∷ Result 8 ∷ [])))
+parameter_not_kept k = no_parameter (k.parameter refl)
+
+pub return_kept : KeepsReturns returning 3 (inst 253 [])
+return_kept = record { nothing = λ e. (1, of_returning, refl); value = λ e. absurd (omega (arith, e)) }
+
+pub return_not_kept : ¬ (KeepsReturns small 5 (inst 253 []))
+return_not_kept k = no_return (k.nothing refl)
+
+-- Which rule is broken first.
+
+pub not_five : ¬ (IsVectorCount 5)
+not_five (inl e) = absurd (omega (arith, e))
+not_five (inr (inl e)) = absurd (omega (arith, e))
+not_five (inr (inr (inl e))) = absurd (omega (arith, e))
+not_five (inr (inr (inr (inl e)))) = absurd (omega (arith, e))
+not_five (inr (inr (inr (inr e)))) = absurd (omega (arith, e))
+
+abbrev vector_of_five : PlainInst
+vector_of_five = inst 23 (Result 9 ∷ Id 1 ∷ Word 5 ∷ [])
+
+pub vector_first : (G : Table) → IsFirstRule G small 7 vector_of_five rule.Y2
+vector_first G = record {
+  of_stage = refl;
+  last = lit≤ tt;
+  broken = not_five;
+  least = λ q l. keeps_below G small 7 vector_of_five 26 (λ k. absurd (omega arith)) (λ k. absurd (omega arith)) (λ k. absurd (omega arith)) (λ k. absurd (omega arith)) (λ k. absurd (omega arith)) (λ k. absurd (omega arith)) (λ k. absurd (omega arith)) q l;
+}
+
+pub vector_before : (G : Table) → ¬ (IsFirstRule G small 7 vector_of_five rule.Y3)
+vector_before G f = not_five (f.least rule.Y2 (lit< tt))
+
+short_not_sound : ¬ (CallsAreSound small short_call)
+short_not_sound k = let e : ◌≡◌ {A = Option (List Plain)} (Some (Id 1 ∷ Id 1 ∷ [])) (Some (Id 1 ∷ [])) = k refl in cc
+
+short_not_again : ¬ (Repeats small 7 short_call)
+short_not_again r = let no : false ≡ true = r.once in cc
+
+pub call_first : (G : Table) → IsFirstRule G small 7 short_call rule.Y8
+call_first G =
+    first_y8 G small 7 short_call tt short_not_again tt (inl refl)
+    (record { function = λ e. absurd (omega (arith, e)); parameter = λ e. absurd (omega (arith, e)) })
+    (record { nothing = λ e. absurd (omega (arith, e)); value = λ e. absurd (omega (arith, e)) })
+    short_not_sound
+
+pub call_broken : (G : Table) → ¬ (Keeps G small rule.Y8 7 short_call)
+call_broken G = short_not_sound

@@ -1,17 +1,19 @@
 //! Worked examples. Each function does nothing: its contract is what is proved.
 
-ghost use Rattle.std.specs.Prelude.{◌≡◌, [], ◌∷◌, Some, false};
+ghost use Rattle.std.specs.Prelude.{◌≡◌, [], ◌∷◌, Some, None, false};
 ghost use Rattle.spv_grammar.specs.Table.{Table};
 ghost use Rattle.spv_inst.specs.declared.fault.Rule.TheVariants as rule;
 ghost use Rattle.spv_inst.specs.Operand.{PlainInst, OfType, Result, Id, Word, Value, Mask};
-ghost use Rattle.spv_ops.specs.Example.{inst};
+ghost use Rattle.spv_inst.specs.Example.{small as table};
+ghost use Rattle.spv_ops.specs.Example.{inst, add, add_floats};
 ghost use Rattle.spv_type_rules.specs.Declaration.{IsIntWidth, IsFloatWidth, IsVectorCount, IsLength, IsPointee, IsReturned, IsPointerAfter, Declares, IsSoundDeclaration};
 ghost use Rattle.spv_type_rules.specs.declared.declaration.Declaration.TheVariants as kind;
 ghost use Rattle.spv_type_rules.specs.declared.constant.Constant.TheVariants as constant_kind;
 ghost use Rattle.spv_type_rules.specs.Constant.{IsPart, FitsWidth, AreConstantParts, Constitutes, IsSoundConstant};
 ghost use Rattle.spv_type_rules.specs.Repeat.{AreAlike, Repeats};
-ghost use Rattle.spv_type_rules.specs.Function.{ReturnsAfter, IsSoundFunction, IsSoundParameter, IsSoundReturn, IsSoundReturnValue, CallsTyped, IsSoundCall, ReturnsNothing, ReturnsTyped, parameters_between};
+ghost use Rattle.spv_type_rules.specs.Function.{ReturnsAfter, IsSoundFunction, IsSoundParameter, IsSoundReturn, IsSoundReturnValue, CallsTyped, CallsSoundly, IsSoundCall, ReturnsNothing, ReturnsTyped, parameters_between};
 ghost use Rattle.spv_type_rules.specs.Keeps.{Keeps};
+ghost use Rattle.spv_type_rules.specs.Rules.{IsFirstRule, IsFirstHere};
 ghost use Rattle.spv_type_rules.specs.Example.{small, constant, wide_constant, again, call, short_call, function, parameter, with_struct, pointers, returning};
 
 /// Declarations and constants of a small module that are sound, and such as are not.
@@ -121,4 +123,33 @@ pub fn return_examples()
     ensures no_value { ¬ (IsSoundReturnValue small 5 (inst 254 (Id 2 ∷ []))) }
     ensures void_return { IsSoundReturn returning 3 }
     ensures int_return { ¬ (IsSoundReturn small 5) }
+{}
+
+/// What Y3, Y5, Y6 and Y7 demand of instructions.
+pub fn keep_examples()
+    // A type of ints of width 8 in the place of the first, and after it.
+    ensures first { (G : Table) → Keeps G small rule.Y3 0 again }
+    ensures again { (G : Table) → ¬ (Keeps G small rule.Y3 7 again) }
+    // Sums of two ints, as of ints and as of floats.
+    ensures add { Keeps table small rule.Y5 7 add }
+    ensures add_floats { ¬ (Keeps table small rule.Y5 7 add_floats) }
+    ensures function { (G : Table) → Keeps G small rule.Y6 4 function }
+    // Before another instruction, no parameter would follow.
+    ensures no_function { (G : Table) → ¬ (Keeps G small rule.Y6 5 function) }
+    ensures parameter { (G : Table) → Keeps G small rule.Y6 5 parameter }
+    ensures other_parameter { (G : Table) → ¬ (Keeps G small rule.Y6 5 (inst 55 (OfType 2 ∷ Result 8 ∷ []))) }
+    ensures returned { (G : Table) → Keeps G returning rule.Y7 3 (inst 253 []) }
+    // The function %4 returns an int.
+    ensures not_returned { (G : Table) → ¬ (Keeps G small rule.Y7 5 (inst 253 [])) }
+{}
+
+/// Calls of the function `%4`, and the first rule that is broken at an instruction.
+pub fn first_examples()
+    ensures call { CallsSoundly small 1 (Id 4 ∷ Id 5 ∷ []) }
+    ensures no_argument { ¬ (CallsSoundly small 1 (Id 4 ∷ [])) }
+    // A vector of five breaks Y2, which comes before Y3.
+    ensures vector { (G : Table) → IsFirstRule G small 7 (inst 23 (Result 9 ∷ Id 1 ∷ Word 5 ∷ [])) rule.Y2 }
+    ensures later { (G : Table) → ¬ (IsFirstRule G small 7 (inst 23 (Result 9 ∷ Id 1 ∷ Word 5 ∷ [])) rule.Y3) }
+    ensures here { (G : Table) → IsFirstHere G small 7 short_call (Some rule.Y8) }
+    ensures none_here { (G : Table) → ¬ (IsFirstHere G small 7 short_call None) }
 {}

@@ -1,3 +1,4 @@
 mod Firsts
 mod Listed
 mod Worked
+mod Outcomes

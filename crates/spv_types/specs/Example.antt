@@ -1,6 +1,7 @@
 -- Small modules.
 use Rattle.std.specs.Prelude.{List, [], ◌∷◌}
-use Rattle.spv_inst.specs.Operand.{Value, PlainInst}
+use Rattle.spv_grammar.specs.Table.{Table}
+use Rattle.spv_inst.specs.Operand.{OfType, Result, Word, Number, Value, PlainInst}
 use Rattle.spv_ops.specs.Example.{inst}
 
 -- OpMemoryModel Physical64 OpenCL, alone
@@ -10,3 +11,11 @@ physical = inst 14 (Value 3 2 ∷ Value 4 2 ∷ []) ∷ []
 -- OpMemoryModel Logical OpenCL, alone
 abbrev pub logical : List PlainInst
 logical = inst 14 (Value 3 0 ∷ Value 4 2 ∷ []) ∷ []
+
+-- a table without kinds and instructions
+abbrev pub table : Table
+table = record { kinds = []; entries = [] }
+
+-- %1 = OpTypeInt 32 0, and %2 = OpConstant %1 7
+abbrev pub numbers : List PlainInst
+numbers = inst 21 (Result 1 ∷ Word 32 ∷ Word 0 ∷ []) ∷ inst 43 (OfType 1 ∷ Result 2 ∷ Number 7 0 1 ∷ []) ∷ []

@@ -1,13 +1,15 @@
 //! Laws of the rules, and a worked example. Each function does nothing: its contract is what is proved.
 
-ghost use Rattle.std.specs.Prelude.{◌≡◌, ℕ, List};
+ghost use Rattle.std.specs.Prelude.{◌≡◌, ℕ, List, []};
 ghost use Rattle.spv_grammar.specs.Table.{Table};
 ghost use Rattle.spv_inst.specs.Operand.{PlainInst};
 ghost use Rattle.spv_inst.specs.declared.fault.Rule.{Rule};
 ghost use Rattle.spv_layout.specs.First.{IsFirst};
-ghost use Rattle.spv_inst.specs.declared.fault.Rule.TheVariants.{M1};
+ghost use Rattle.spv_inst.specs.declared.fault.Rule.TheVariants.{C1, M1};
+ghost use Rattle.spv_inst.specs.declared.fault.Stop.TheVariants.{Fault};
 ghost use Rattle.spv_types.specs.Broken.{Broken};
-ghost use Rattle.spv_types.specs.Example.{logical, physical};
+ghost use Rattle.spv_types.specs.Example.{logical, physical, numbers, table};
+ghost use Rattle.spv_types.specs.Outcome.{AreTypes, IsRefusal};
 
 /// Of each stage at most one rule is broken first, at one instruction.
 pub fn one_fault()
@@ -18,4 +20,14 @@ pub fn one_fault()
 pub fn broken_examples()
     ensures logical { (G : Table) → Broken G logical M1 0 }
     ensures physical { (G : Table) → ¬ (Broken G physical M1 0) }
+{}
+
+/// What is answered of a type and a constant of it, and of a memory model without capabilities.
+pub fn outcome_examples()
+    ensures types { AreTypes table numbers (record { definitions = numbers }) }
+    // The constant has a type.
+    ensures no_types { ¬ (AreTypes table numbers (record { definitions = [] })) }
+    // C1 is told, which comes before M1.
+    ensures refusal { (G : Table) → IsRefusal G logical (Fault (record { rule = C1; inst = 0; word = 5 })) }
+    ensures later { (G : Table) → ¬ (IsRefusal G logical (Fault (record { rule = M1; inst = 0; word = 5 }))) }
 {}

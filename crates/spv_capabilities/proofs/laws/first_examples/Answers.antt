@@ -1,0 +1,20 @@
+use Rattle.std.proofs.Common.{[], ◌∷◌, refl, inl, arith, lit<}
+use Rattle.spv_inst.specs.Operand.{Result}
+use Rattle.spv_inst.specs.declared.fault.Rule.TheVariants as rule
+use Rattle.spv_capabilities.specs.Example.{small, inst, linked}
+use Rattle.spv_capabilities.proofs.Firsts.{all_kept, kept_before_c1}
+use Rattle.spv_capabilities.proofs.Worked.{has_no_kernel}
+use Rattle.spv_capabilities.proofs.laws.first_examples.Goals as goal
+
+pub returns : goal.returns
+returns c = record {
+  first = (λ k. has_no_kernel (k refl).0, kept_before_c1 small linked 0 (inst 14 []));
+  later = λ f. has_no_kernel (f.1 rule.C1 (lit< tt) refl).0;
+  some = λ k. has_no_kernel (k rule.C1 refl).0;
+  none = all_kept small linked 0 (inst 19 (Result 1 ∷ []))
+      (λ e. absurd (omega (arith, e)))
+      (record { entry = tt; operands = (tt, tt); widths = inl refl })
+      (λ e. absurd (omega (arith, e)))
+      (λ e. absurd (omega (arith, e)))
+      (record { entry = λ e. absurd (omega (arith, e)); mode = λ e. absurd (omega (arith, e)); linkage = λ e. absurd (omega (arith, e)) });
+}
