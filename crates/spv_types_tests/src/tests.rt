@@ -9,7 +9,7 @@ use spv_layout::lay_out;
 use spv_roles::roles_check;
 use spv_types::type_check;
 use spv_words::{FromRead, Image, read_image};
-use std::alloc::Global;
+use std::alloc::{AllocError, Global};
 use std::test::Fail;
 
 /// The instructions and kinds of the modules below.
@@ -154,7 +154,7 @@ fn fault(alloc: Global, lines: &[&[u32]]) -> Result<Option<(Rule, u32, u32)>, Fa
     match types(alloc, lines, &[])? {
         Ok(_) => Ok(None),
         Err(Stop::Fault(Fault { rule, inst, word })) => Ok(Some((rule, inst, word))),
-        Err(Stop::Memory) => Err(Fail::from("out of memory")),
+        Err(Stop::Memory) => Err(Fail::from(AllocError)),
     }
 }
 
@@ -213,12 +213,16 @@ fn sound_module(rt: HostRuntime) -> Result<(), Fail> {
     ];
     match types(rt.alloc(), &lines, &asked)? {
         Ok(types) => assert_eq!(rt; types.as_slice(), wanted, "types of ids"),
+        Err(Stop::Memory) => return Err(Fail::from(AllocError)),
         Err(_) => assert!(rt; false, "sound module"),
     }
     let table = Table::from_slice(rt.alloc(), GRAMMAR.as_bytes())?;
     let image = image(rt.alloc(), &lines)?;
-    assert!(rt; cast(rt.alloc(), &table, &image).is_ok(), "roles");
-    Ok(())
+    match cast(rt.alloc(), &table, &image) {
+        Ok(()) => Ok(()),
+        Err(Stop::Memory) => Err(Fail::from(AllocError)),
+        Err(_) => Err(Fail::from("a use in a wrong role")),
+    }
 }
 
 #[test]

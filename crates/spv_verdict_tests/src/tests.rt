@@ -194,11 +194,11 @@ fn fault(alloc: Global, lines: &[&[u32]]) -> Result<Option<(Rule, u32, u32)>, Fa
     }
 }
 
-/// What a check of some lines writes and answers.
+/// What a check of some lines writes and answers. There is room for the line, so that no write fails for want of memory.
 fn written(alloc: Global, lines: &[&[u32]]) -> Result<(Vec<u8>, bool), Fail> {
     let table = Table::from_slice(alloc, GRAMMAR.as_bytes())?;
     let image = image(alloc, lines)?;
-    let mut out = Vec::new(alloc);
+    let mut out = Vec::with_capacity(alloc, 64)?;
     let answer = check_stream(
         alloc,
         &table,

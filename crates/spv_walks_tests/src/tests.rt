@@ -1,5 +1,6 @@
 //! Small modules in which values are defined on every walk or not, with answers that were worked out by hand.
 
+use crate::plain::first_missing;
 use spv_branches::check_branches;
 use spv_grammar::Table;
 use spv_ids::number;
@@ -8,7 +9,7 @@ use spv_layout::laws::word_counts;
 use spv_layout::lay_out;
 use spv_walks::check_values;
 use spv_words::{FromRead, Image, read_image};
-use std::alloc::Global;
+use std::alloc::{AllocError, Global};
 use std::test::Fail;
 
 /// The instructions and kinds of the modules below.
@@ -21,6 +22,7 @@ const GRAMMAR: &str = r#"{
     {"opname": "OpConstantTrue", "opcode": 41, "operands": [{"kind": "IdResultType"}, {"kind": "IdResult"}]},
     {"opname": "OpFunction", "opcode": 54, "operands": [{"kind": "IdResultType"}, {"kind": "IdResult"},
       {"kind": "FunctionControl"}, {"kind": "IdRef"}]},
+    {"opname": "OpFunctionParameter", "opcode": 55, "operands": [{"kind": "IdResultType"}, {"kind": "IdResult"}]},
     {"opname": "OpFunctionEnd", "opcode": 56},
     {"opname": "OpLogicalNot", "opcode": 168, "operands": [{"kind": "IdResultType"}, {"kind": "IdResult"}, {"kind": "IdRef"}]},
     {"opname": "OpPhi", "opcode": 245, "operands": [{"kind": "IdResultType"}, {"kind": "IdResult"}, {"kind": "PairIdRefIdRef", "quantifier": "*"}]},
@@ -44,7 +46,7 @@ const GRAMMAR: &str = r#"{
 }"#;
 
 /// Up to the function's OpFunction: %1 void, %2 bool, %3 a function type, %4 true, %5 the function.
-const BEGINNING: &[u32] = &[
+pub const BEGINNING: &[u32] = &[
     0x0003_000E,
     2,
     2,
@@ -107,7 +109,7 @@ const AFTER: &[u32] = &[0x0002_00F8, 8];
 /// The image of a header and some instructions.
 fn image(alloc: Global, lines: &[&[u32]]) -> Result<Image, Fail> {
     let mut bytes = Vec::new(alloc);
-    for word in [0x0723_0203u32, 0x0001_0600, 0, 20, 0] {
+    for word in [0x0723_0203u32, 0x0001_0600, 0, 5000, 0] {
         bytes.extend_from_slice(&word.to_le_bytes())?;
     }
     for line in lines {
@@ -130,15 +132,34 @@ fn looked_at(alloc: Global, table: &Table, image: &Image) -> Result<(), Stop> {
     check_values(alloc, &module, &plan, &ids)
 }
 
-/// The fault that some lines have.
-fn fault(alloc: Global, lines: &[&[u32]]) -> Result<Option<(Rule, u32, u32)>, Fail> {
+/// What the plain program says of an image.
+fn plainly(alloc: Global, table: &Table, image: &Image) -> Result<Option<(Rule, usize)>, Stop> {
+    let module = decode(alloc, table, image)?;
+    Ok(first_missing(alloc, module.insts.as_slice())?)
+}
+
+/// What a stop comes to where no fault is looked for.
+fn failure(stop: Stop) -> Fail {
+    match stop {
+        Stop::Memory => Fail::from(AllocError),
+        Stop::Fault(_) => Fail::from("no module"),
+    }
+}
+
+/// The fault that some lines have. The plain program must say the same.
+pub fn fault(alloc: Global, lines: &[&[u32]]) -> Result<Option<(Rule, u32, u32)>, Fail> {
     let table = Table::from_slice(alloc, GRAMMAR.as_bytes())?;
     let image = image(alloc, lines)?;
-    match looked_at(alloc, &table, &image) {
-        Ok(()) => Ok(None),
-        Err(Stop::Fault(Fault { rule, inst, word })) => Ok(Some((rule, inst, word))),
-        Err(Stop::Memory) => Err(Fail::from("out of memory")),
+    let found = match looked_at(alloc, &table, &image) {
+        Ok(()) => None,
+        Err(Stop::Fault(Fault { rule, inst, word })) => Some((rule, inst, word)),
+        Err(Stop::Memory) => return Err(Fail::from(AllocError)),
+    };
+    let plain = plainly(alloc, &table, &image).map_err(failure)?;
+    if found.map(|(rule, inst, _)| (rule, inst as usize)) != plain {
+        return Err(Fail::from("the plain program says something else"));
     }
+    Ok(found)
 }
 
 #[test]
