@@ -8,3 +8,4 @@ pub mod Entries
 pub mod Taking
 pub mod Firsts
 pub mod Direct
+pub mod Worked

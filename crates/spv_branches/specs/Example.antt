@@ -25,16 +25,22 @@ return_void = record { opcode = 253; operands = [] }
 abbrev pub two_blocks : List PlainInst
 two_blocks = function ∷ label 1 ∷ branch 2 ∷ label 2 ∷ return_void ∷ []
 
--- %9 = OpPhi %20 %5 %p, and with no pair
+-- %9 = OpPhi %20 %x %p, and with no pair
+abbrev pub phi_of : ℕ → ℕ → PlainInst
+phi_of x p = record { opcode = 245; operands = OfType 20 ∷ Result 9 ∷ Id x ∷ Id p ∷ [] }
+
 abbrev pub phi : ℕ → PlainInst
-phi p = record { opcode = 245; operands = OfType 20 ∷ Result 9 ∷ Id 5 ∷ Id p ∷ [] }
+phi p = phi_of 5 p
 
 abbrev pub bare_phi : PlainInst
 bare_phi = record { opcode = 245; operands = OfType 20 ∷ Result 9 ∷ [] }
 
--- %1 = OpLabel, OpBranch %2, %2 = OpLabel, and an OpPhi that names the block of %p, or none
+-- %1 = OpLabel, OpBranch %2, %2 = OpLabel, and an OpPhi that pairs %x, or %5, with the block of %p, or names none
+abbrev pub valued : ℕ → ℕ → List PlainInst
+valued x p = function ∷ label 1 ∷ branch 2 ∷ label 2 ∷ phi_of x p ∷ []
+
 abbrev pub paired : ℕ → List PlainInst
-paired p = function ∷ label 1 ∷ branch 2 ∷ label 2 ∷ phi p ∷ []
+paired p = valued 5 p
 
 abbrev pub unpaired : List PlainInst
 unpaired = function ∷ label 1 ∷ branch 2 ∷ label 2 ∷ bare_phi ∷ []

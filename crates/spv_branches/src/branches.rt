@@ -1,6 +1,6 @@
 //! The first of the rules F1 to F4 that a module breaks.
 
-ghost use Rattle.std.specs.Prelude.{◌≡◌, ◌≤◌, ◌<◌, ◌+◌, ℕ, List, length, sum_by, IfOk, IfErr, MatchOption};
+ghost use Rattle.std.specs.Prelude.{◌≡◌, ◌≤◌, ◌<◌, ◌+◌, ℕ, List, false, length, sum_by, IsTrue, IfOk, IfErr, MatchOption};
 ghost use Rattle.spv_grammar.specs.Table.{Table};
 ghost use Rattle.spv_inst.specs.Module.{plain_insts};
 ghost use Rattle.spv_inst.specs.Operand.{PlainInst};
@@ -10,6 +10,7 @@ ghost use Rattle.spv_layout.specs.Plan.{IsPlan};
 ghost use Rattle.spv_ids.specs.Outcome.{AreIds, IsStopAt};
 ghost use Rattle.spv_branches.specs.Code.{insts_of, IsCode};
 ghost use Rattle.spv_branches.specs.Broken.{Broken};
+ghost use Rattle.spv_branches.specs.Edges.{marked};
 ghost use Rattle.spv_branches.specs.Found.{IsRefusal};
 
 use crate::code::Code;
@@ -27,6 +28,16 @@ pub struct Found {
     pub inst: u32,
 }
 
+/// A mark for each instruction, none of which is set, where some is an OpPhi: nothing else asks for them. Where none is, it
+/// takes no memory.
+fn marks_for(alloc: Global, count: usize, has_phis: bool) -> Result<Vec<bool>, AllocError>
+    ensures count { IfOk result (λ v. IsTrue has_phis → length v.items ≡ count) }
+    ensures clean { IfOk result (λ v. (p : ℕ) → marked v.items p ≡ false) }
+{
+    let room = if has_phis { count } else { 0 };
+    vec![in alloc; false; room]
+}
+
 /// The first of the rules F1 to F4 that is broken.
 fn first_fault(alloc: Global, code: &Code<'_, '_>) -> Result<Option<Found>, AllocError>
     requires { (G : Table) × IsCode G code.now }
@@ -34,7 +45,7 @@ fn first_fault(alloc: Global, code: &Code<'_, '_>) -> Result<Option<Found>, Allo
 {
     let survey = survey(alloc, code.insts)?;
     let edges = edges_for(alloc, code, survey.has_phis)?;
-    let mut marks = vec![in alloc; false; code.insts.len()]?;
+    let mut marks = marks_for(alloc, code.insts.len(), survey.has_phis)?;
     for at in 0..code.insts.len() {
         if let Some(rule) = broken_at(code, &edges, &survey.entries, &mut marks, at as u32) {
             return Ok(Some(Found {

@@ -86,17 +86,17 @@ pub fn gather(alloc: Global, code: &Code<'_, '_>) -> Result<Edges, AllocError>
     Ok(edges)
 }
 
-/// The edges of all instructions, where some is an OpPhi: nothing else asks for them.
+/// The edges of all instructions, where some is an OpPhi: nothing else asks for them. Where none is, it takes no memory.
 pub fn edges_for(alloc: Global, code: &Code<'_, '_>, has_phis: bool) -> Result<Edges, AllocError>
     requires { (G : Table) × IsCode G code.now }
     ensures edges { IfOk result IsEdges }
-    ensures count { IfOk result (λ e. length e.heads.items ≡ length code.now.insts.now) }
+    ensures count { IfOk result (λ e. IsTrue has_phis → length e.heads.items ≡ length code.now.insts.now) }
     ensures gathered { IfOk result (λ e. IsTrue has_phis → (G : Table) → IsCode G code.now → AreGathered G (insts_of code.now) e (length code.now.insts.now)) }
 {
     if has_phis {
         gather(alloc, code)
     } else {
-        Edges::new(alloc, code.insts.len())
+        Edges::new(alloc, 0)
     }
 }
 

@@ -5,13 +5,13 @@ ghost use Rattle.spv_grammar.specs.Table.{Table};
 ghost use Rattle.spv_inst.specs.Operand.{PlainInst};
 ghost use Rattle.spv_inst.specs.Example.{small};
 ghost use Rattle.spv_inst.specs.declared.fault.Rule.{Rule};
-ghost use Rattle.spv_inst.specs.declared.fault.Rule.TheVariants.{F1, F2, F3, F4, A1};
+ghost use Rattle.spv_inst.specs.declared.fault.Rule.TheVariants.{F1, F2, F3, F4, A1, A2};
 ghost use Rattle.spv_layout.specs.First.{IsFirst};
 ghost use Rattle.spv_branches.specs.Target.{IsLabelOf, IsTarget, Leads, IsPredecessor, HasParents, IsEntryLabel};
 ghost use Rattle.spv_branches.specs.Walk.{Next, IsWalk, IsResultAmong, IsLastLabel};
-ghost use Rattle.spv_branches.specs.Ready.{IsLocalValue, IsMissing, IsPairMissing, IsReady};
+ghost use Rattle.spv_branches.specs.Ready.{ComesFrom, IsLocalValue, IsMissing, IsPair, IsPairMissing, IsReady};
 ghost use Rattle.spv_branches.specs.Broken.{Broken};
-ghost use Rattle.spv_branches.specs.Example.{branch, conditional, label, function, two_blocks, paired, unpaired, early};
+ghost use Rattle.spv_branches.specs.Example.{branch, conditional, label, function, two_blocks, valued, paired, unpaired, early};
 
 /// Of each stage at most one rule is broken first, at one instruction.
 pub fn one_fault()
@@ -70,4 +70,20 @@ pub fn ready_examples()
     // A value with a type, defined in a function, and a label.
     ensures local { IsLocalValue early 7 }
     ensures not_local { ¬ (IsLocalValue two_blocks 2) }
+{}
+
+/// Pairs of an OpPhi, and instructions that are ready or not.
+pub fn pair_examples()
+    // The OpPhi pairs %5 with the first block, and not with its own.
+    ensures pair { IsPair small (paired 1) 4 5 1 }
+    ensures no_pair { ¬ (IsPair small (paired 1) 4 5 3) }
+    // A walk to the OpPhi comes from the first block. It comes from no branch.
+    ensures comes { ComesFrom small (paired 1) 4 1 (2 ∷ 1 ∷ 0 ∷ []) }
+    ensures not_from { ¬ (ComesFrom small (paired 1) 4 2 (2 ∷ 1 ∷ 0 ∷ [])) }
+    // An OpPhi that pairs its own result with the first block, where that was not defined; and one whose value is not local.
+    ensures pair_missing { Broken small (valued 9 1) A2 4 }
+    ensures not_missing { ¬ (IsPairMissing small (paired 1) 4) }
+    // A branch uses no value, and what is used before its definition is not ready.
+    ensures ready { IsReady small two_blocks 2 }
+    ensures unready { ¬ (IsReady small early 2) }
 {}

@@ -58,11 +58,11 @@ pub fn broken_at(
 ) -> Option<Rule>
     requires code { (G : Table) × IsCode G code.now }
     requires edges { IsEdges edges.now }
-    requires count { length edges.now.heads.items ≡ length code.now.insts.now }
+    requires count { IsOp (insts_of code.now) at target.is_phi → length edges.now.heads.items ≡ length code.now.insts.now }
     requires gathered { (G : Table) → IsCode G code.now → IsOp (insts_of code.now) at target.is_phi → AreGathered G (insts_of code.now) edges.now (length code.now.insts.now) }
     requires places { length entries.now ≡ length code.now.insts.now }
     requires entries { AreEntries (insts_of code.now) entries.now (length code.now.insts.now) }
-    requires marks { length marks.old ≡ length code.now.insts.now }
+    requires marks { IsOp (insts_of code.now) at target.is_phi → length marks.old ≡ length code.now.insts.now }
     requires clean { (p : ℕ) → marked marks.old p ≡ false }
     requires at { at < length code.now.insts.now }
     ensures clean { IfNone result ((p : ℕ) → marked marks.new p ≡ false) }

@@ -1,4 +1,4 @@
-use Rattle.std.proofs.Common.{arith}
+use Rattle.std.proofs.Common.{◌∙◌, length, ap, arith}
 use Rattle.std.proofs.lemmas.List.{length-map}
 use Rattle.spv_inst.specs.Module.{plain_inst}
 use Rattle.spv_branches.specs.Code.{insts_of}
@@ -7,6 +7,12 @@ use Rattle.spv_branches.proofs.branches.first_fault.Goals as goal
 
 pub broken_at-requires-clause-gathered : goal.broken_at-requires-clause-gathered
 broken_at-requires-clause-gathered c = λ G is phi. c.in_ok-edges.ensures.gathered (c.in_ok-survey.ensures.phis c.loop-at.at (omega arith) phi) G is
+
+pub broken_at-requires-clause-count : goal.broken_at-requires-clause-count
+broken_at-requires-clause-count c = λ phi. c.in_ok-edges.ensures.count (c.in_ok-survey.ensures.phis c.loop-at.at (omega arith) phi)
+
+pub broken_at-requires-clause-marks : goal.broken_at-requires-clause-marks
+broken_at-requires-clause-marks c = λ phi. ap length c.deref_mut.ensures.value ∙ c.loop-at.invariant.count (c.in_ok-survey.ensures.phis c.loop-at.at (omega arith) phi)
 
 pub returns-in-Some : goal.returns-in-Some
 returns-in-Some c = λ G is.

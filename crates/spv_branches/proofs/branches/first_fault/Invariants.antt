@@ -1,4 +1,5 @@
 use Rattle.std.proofs.Common.{◌≡◌, ◌<◌, ℕ, false, length}
+use Rattle.std.specs.Prelude.{IsTrue}
 use Rattle.spv_grammar.specs.Table.{Table}
 use Rattle.spv_inst.specs.declared.fault.Rule.{Rule}
 use Rattle.spv_layout.specs.First.{stage_of}
@@ -9,7 +10,7 @@ use Rattle.spv_branches.proofs.branches.first_fault.Given as goal
 
 abbrev pub invariant-loop-at : goal.invariant-loop-at
 invariant-loop-at l = record {
-  count : length l.marks.items ≡ length l.code.insts.now;
+  count : IsTrue l.survey.has_phis → length l.marks.items ≡ length l.code.insts.now;
   clean : (p : ℕ) → marked l.marks.items p ≡ false;
   unbroken : (G : Table) → IsCode G l.code → (q : Rule) (m : ℕ) → m < l.at → stage_of q ≡ 6 → ¬ (Broken G (insts_of l.code) q m);
 }

@@ -1,4 +1,4 @@
-use Rattle.std.proofs.Common.{◌≡◌, ◌∙◌, ℕ, true, Some, get_or, refl, sym}
+use Rattle.std.proofs.Common.{◌≡◌, ◌∙◌, true, Some, get_or, refl, sym}
 use Rattle.std.specs.Prelude.{slice_get}
 use Rattle.std.proofs.lemmas.Bool.{eqb-true}
 use Rattle.spv_inst.specs.Operand.{PlainInst}

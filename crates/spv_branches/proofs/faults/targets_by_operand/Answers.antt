@@ -1,4 +1,4 @@
-use Rattle.std.proofs.Common.{◌≡◌, ◌≤◌, ◌∙◌, ℕ, Some, true, length, get_or, sym, ap, arith}
+use Rattle.std.proofs.Common.{◌≡◌, ◌≤◌, Some, length, get_or, ap, arith}
 use Rattle.std.specs.Prelude.{slice_get}
 use Rattle.spv_inst.specs.Operand.{PlainInst}
 use Rattle.spv_inst.specs.declared.module.Inst.{Inst}
@@ -8,7 +8,6 @@ use Rattle.spv_branches.specs.Code.{insts_of}
 use Rattle.spv_branches.specs.Labels.{is_labelled}
 use Rattle.std.proofs.lemmas.Bool.{both_ways}
 use Rattle.std.proofs.lemmas.List.{length-map}
-use Rattle.std.proofs.lemmas.Option.{slice_get_within}
 use Rattle.spv_branches.specs.Edges.{marked}
 use Rattle.spv_branches.specs.Target.{IsEntryLabel}
 use Rattle.spv_branches.proofs.Labelled.{inst_get, op_tells, use_at, use_in}

@@ -4,7 +4,7 @@ use Rattle.std.proofs.lemmas.Result.{on_ok_weaker}
 use Rattle.spv_inst.specs.Operand.{PlainInst}
 use Rattle.spv_inst.specs.Module.{plain_inst}
 use Rattle.spv_branches.specs.Code.{insts_of}
-use Rattle.spv_branches.specs.Target.{is_branch, IsOp}
+use Rattle.spv_branches.specs.Target.{is_branch}
 use Rattle.spv_branches.proofs.Labelled.{inst_get, op_holds}
 use Rattle.spv_branches.proofs.Gathering.{none_added}
 use Rattle.spv_branches.proofs.gather.gather_at.Goals as goal

@@ -24,6 +24,20 @@ has_parents-requires-clause-gathered c = λ G is.
     let there : slice_get (insts_of code) c.args.at ≡ Some i = inst_get code.insts.now c.args.at c.index-code-at.result c.requires.at in
     c.requires.gathered G is (op_holds (insts_of code) c.args.at i is_phi there (ap is_phi c.if-opcode-eq-PHI.true))
 
+pub has_parents-requires-clause-count : goal.has_parents-requires-clause-count
+has_parents-requires-clause-count c =
+    let code = c.args.code.now in
+    let i : PlainInst = plain_inst (get_or code.insts.now c.args.at c.index-code-at.result) in
+    let there : slice_get (insts_of code) c.args.at ≡ Some i = inst_get code.insts.now c.args.at c.index-code-at.result c.requires.at in
+    c.requires.count (op_holds (insts_of code) c.args.at i is_phi there (ap is_phi c.if-opcode-eq-PHI.true))
+
+pub has_parents-requires-clause-marks : goal.has_parents-requires-clause-marks
+has_parents-requires-clause-marks c =
+    let code = c.args.code.now in
+    let i : PlainInst = plain_inst (get_or code.insts.now c.args.at c.index-code-at.result) in
+    let there : slice_get (insts_of code) c.args.at ≡ Some i = inst_get code.insts.now c.args.at c.index-code-at.result c.requires.at in
+    c.requires.marks (op_holds (insts_of code) c.args.at i is_phi there (ap is_phi c.if-opcode-eq-PHI.true))
+
 pub merge_rule-requires-clause-op : goal.merge_rule-requires-clause-op
 merge_rule-requires-clause-op c =
     let code = c.args.code.now in

@@ -1,0 +1,314 @@
+-- What the small functions of the worked examples have.
+use Rattle.std.proofs.Common.{◌≡◌, ◌<◌, ◌≤◌, ◌∙◌, ℕ, zero, suc, [], ◌∷◌, refl, sym, subst, arith}
+use Rattle.std.proofs.lemmas.Option.{same_Some}
+use Rattle.spv_inst.specs.Example.{small}
+use Rattle.spv_inst.specs.Operand.{Id, OfType, Result}
+use Rattle.spv_layout.specs.declared.class.Class.TheVariants.{Function, FunctionEnd, Label, Phi, Body, Branch}
+use Rattle.spv_layout.specs.declared.form.Role.{Role}
+use Rattle.spv_layout.specs.declared.form.Role.TheVariants as role
+use Rattle.spv_layout.specs.Row.{row, v, l, T, R, closed, repeated}
+use Rattle.spv_layout.specs.Rows.{rows}
+use Rattle.spv_layout.specs.Shape.{AreOf, Ends, HasForms, IsUse}
+use Rattle.spv_layout.specs.Place.{IsAt, IsOfFunction, IsOfBlock, terminators}
+use Rattle.spv_layout.proofs.Places.{block_same}
+use Rattle.spv_layout.proofs.Shapes.{use_same}
+use Rattle.spv_ids.specs.Definition.{IsDefinedAt, IsUsedAt}
+use Rattle.spv_branches.specs.Target.{is_branch, IsOp, IsLabelOf, IsTarget, Leads, IsParentAt, HasParents}
+use Rattle.spv_branches.specs.Walk.{Next, IsWalk, IsResultAmong}
+use Rattle.spv_branches.specs.Ready.{IsLocalValue, IsMissing}
+use Rattle.spv_branches.specs.Example.{branch, label, function, return_void, two_blocks, phi, bare_phi, paired, unpaired, negation, early}
+use Rattle.spv_branches.proofs.Labelled.{use_in, use_within, one_id}
+use Rattle.spv_branches.proofs.Direct.{placed_at}
+
+-- the branch to %2
+
+branch_forms : (x : ℕ) → HasForms small (branch x) (l ∷ [])
+unfolding rows
+branch_forms x = record { row = row 249 249 Branch (l ∷ []) closed; rest = []; known = refl; forms = refl; ending = Ends.nothing; each = AreOf.more l (Id x) [] [] refl AreOf.none }
+
+pub branch_used : (x : ℕ) → IsUse small (branch x) 0 x role.Label
+branch_used x = record { forms = l ∷ []; has = branch_forms x; form = l; operand = Id x; form_at = refl; operand_at = refl; role = refl; id = refl }
+
+at_zero : (k x y : ℕ) (r : Role) → k ≡ 0 → IsUse small (branch x) k y r → (y ≡ x) × (r ≡ role.Label)
+at_zero k x y r e u = (let s = use_same small (branch x) 0 y x r role.Label (subst (λ (j : ℕ). IsUse small (branch x) j y r) e u) (branch_used x) in (s.id, s.role))
+
+pub branch_only : (k x y : ℕ) (r : Role) → IsUse small (branch x) k y r → (y ≡ x) × (r ≡ role.Label)
+branch_only k x y r u = (let w = use_within small (branch x) k y r u in at_zero k x y r (omega (arith, w)) u)
+
+-- the only branch of the two lists is instruction 2
+pub branch_at : (t : ℕ) → IsOp (paired 1) t is_branch → t ≡ 2
+branch_at zero o = let e = o in cc
+branch_at (suc zero) o = let e = o in cc
+branch_at (suc (suc zero)) o = refl
+branch_at (suc (suc (suc zero))) o = let e = o in cc
+branch_at (suc (suc (suc (suc zero)))) o = let e = o in cc
+branch_at (suc (suc (suc (suc (suc t))))) o = absurd o
+
+-- blocks
+no_label_to_2 : (k : ℕ) → 1 < k → k ≤ 2 → ¬ (IsAt (paired 1) k (Label ∷ []))
+unfolding rows
+no_label_to_2 zero a b h = absurd (omega (arith, a))
+no_label_to_2 (suc zero) a b h = absurd (omega (arith, a))
+no_label_to_2 (suc (suc zero)) a b h = cc
+no_label_to_2 (suc (suc (suc k))) a b h = absurd (omega (arith, b))
+
+no_end_to_2 : (k : ℕ) → 1 ≤ k → k < 2 → ¬ (IsAt (paired 1) k terminators)
+unfolding rows
+no_end_to_2 zero a b h = absurd (omega (arith, a))
+no_end_to_2 (suc zero) a b h = cc
+no_end_to_2 (suc (suc k)) a b h = absurd (omega (arith, b))
+
+pub first_block : IsOfBlock (paired 1) 2 1
+unfolding rows
+first_block = record { begun = record { within = omega arith; up_to = omega arith; there = refl; last = no_label_to_2 }; not_ended = no_end_to_2 }
+
+no_label_to_4 : (k : ℕ) → 3 < k → k ≤ 4 → ¬ (IsAt (paired 1) k (Label ∷ []))
+unfolding rows
+no_label_to_4 zero a b h = absurd (omega (arith, a))
+no_label_to_4 (suc zero) a b h = absurd (omega (arith, a))
+no_label_to_4 (suc (suc zero)) a b h = absurd (omega (arith, a))
+no_label_to_4 (suc (suc (suc zero))) a b h = absurd (omega (arith, a))
+no_label_to_4 (suc (suc (suc (suc zero)))) a b h = cc
+no_label_to_4 (suc (suc (suc (suc (suc k))))) a b h = absurd (omega (arith, b))
+
+no_end_to_4 : (k : ℕ) → 3 ≤ k → k < 4 → ¬ (IsAt (paired 1) k terminators)
+unfolding rows
+no_end_to_4 zero a b h = absurd (omega (arith, a))
+no_end_to_4 (suc zero) a b h = absurd (omega (arith, a))
+no_end_to_4 (suc (suc zero)) a b h = absurd (omega (arith, a))
+no_end_to_4 (suc (suc (suc zero))) a b h = cc
+no_end_to_4 (suc (suc (suc (suc k)))) a b h = absurd (omega (arith, b))
+
+second_block : IsOfBlock (paired 1) 4 3
+unfolding rows
+second_block = record { begun = record { within = omega arith; up_to = omega arith; there = refl; last = no_label_to_4 }; not_ended = no_end_to_4 }
+
+-- predecessors
+target : IsTarget small (paired 1) 2 2
+target = record { branch = refl; operand = 0; used = record { inst = branch 2; there = refl; used = branch_used 2 } }
+
+pub leads : Leads small (paired 1) 2 1 3
+leads = record { of = first_block; id = 2; target = target; label = record { defined = record { inst = label 2; there = refl; result = refl }; label = refl } }
+
+first_only : (t p : ℕ) → Leads small (paired 1) t p 3 → p ≡ 1
+first_only t p h =
+    let e = branch_at t h.target.branch in
+    block_same (paired 1) 2 p 1 (subst (λ (k : ℕ). IsOfBlock (paired 1) k p) e h.of) first_block
+
+-- parents
+phi_forms : HasForms small (phi 1) (T ∷ R ∷ v ∷ l ∷ [])
+unfolding rows
+phi_forms = record {
+  row = row 245 245 Phi (T ∷ R ∷ []) (repeated (v ∷ l ∷ []));
+  rest = v ∷ l ∷ [];
+  known = refl;
+  forms = refl;
+  ending = Ends.again (v ∷ l ∷ []) [] (Ends.done (v ∷ l ∷ []));
+  each = AreOf.more T (OfType 20) (R ∷ v ∷ l ∷ []) (Result 9 ∷ Id 5 ∷ Id 1 ∷ []) refl (AreOf.more R (Result 9) (v ∷ l ∷ []) (Id 5 ∷ Id 1 ∷ []) refl (AreOf.more v (Id 5) (l ∷ []) (Id 1 ∷ []) refl (AreOf.more l (Id 1) [] [] refl AreOf.none)));
+}
+
+phi_used : IsUse small (phi 1) 3 1 role.Label
+phi_used = record { forms = T ∷ R ∷ v ∷ l ∷ []; has = phi_forms; form = l; operand = Id 1; form_at = refl; operand_at = refl; role = refl; id = refl }
+
+named : IsUsedAt small (paired 1) 4 3 1 role.Label
+named = record { inst = phi 1; there = refl; used = phi_used }
+
+pub label_place : (k x : ℕ) → IsUsedAt small (paired 1) 4 k x role.Label → k ≡ 3
+label_place zero x u = (let t = placed_at small (paired 1) 4 0 x 245 (phi 1) refl refl refl (record { forms = T ∷ R ∷ v ∷ l ∷ []; has = phi_forms }) u in cc)
+label_place (suc zero) x u = (let t = placed_at small (paired 1) 4 1 x 245 (phi 1) refl refl refl (record { forms = T ∷ R ∷ v ∷ l ∷ []; has = phi_forms }) u in cc)
+label_place (suc (suc zero)) x u = (let t = placed_at small (paired 1) 4 2 x 245 (phi 1) refl refl refl (record { forms = T ∷ R ∷ v ∷ l ∷ []; has = phi_forms }) u in cc)
+label_place (suc (suc (suc zero))) x u = refl
+label_place (suc (suc (suc (suc k)))) x u = (let w = use_within small (phi 1) (suc (suc (suc (suc k)))) x role.Label (use_in small (paired 1) 4 (suc (suc (suc (suc k)))) x role.Label (phi 1) refl u) in absurd (omega (arith, w)))
+
+pub label_name : (k x : ℕ) → IsUsedAt small (paired 1) 4 k x role.Label → x ≡ 1
+label_name k x u = one_id small (paired 1) 4 3 x 1 role.Label role.Label (subst (λ (j : ℕ). IsUsedAt small (paired 1) 4 j x role.Label) (label_place k x u) u) named
+
+of_1 : IsLabelOf (paired 1) 1 1
+of_1 = record { defined = record { inst = label 1; there = refl; result = refl }; label = refl }
+
+parent : (p : ℕ) → p ≡ 1 → IsParentAt small (paired 1) 4 3 p
+parent p e = record { id = 1; used = named; label = subst (λ (q : ℕ). IsLabelOf (paired 1) 1 q) (sym e) of_1 }
+
+pub has_parents : HasParents small (paired 1) 4
+has_parents = record {
+  block = 3;
+  of = second_block;
+  each = λ k x u. (1, subst (λ (y : ℕ). IsLabelOf (paired 1) y 1) (sym (label_name k x u)) of_1, (2, leads));
+  once = λ j k p a b. label_place j a.id a.used ∙ sym (label_place k b.id b.used);
+  all = λ p (t, h). (3, parent p (first_only t p h));
+}
+
+-- an OpPhi with no pair
+bare_forms : HasForms small bare_phi (T ∷ R ∷ [])
+unfolding rows
+bare_forms = record {
+  row = row 245 245 Phi (T ∷ R ∷ []) (repeated (v ∷ l ∷ []));
+  rest = [];
+  known = refl;
+  forms = refl;
+  ending = Ends.done (v ∷ l ∷ []);
+  each = AreOf.more T (OfType 20) (R ∷ []) (Result 9 ∷ []) refl (AreOf.more R (Result 9) [] [] refl AreOf.none);
+}
+
+bare_label : (k x : ℕ) → ¬ (IsUsedAt small unpaired 4 k x role.Label)
+bare_label zero x u = (let t = placed_at small unpaired 4 0 x 245 bare_phi refl refl refl (record { forms = T ∷ R ∷ []; has = bare_forms }) u in cc)
+bare_label (suc zero) x u = (let t = placed_at small unpaired 4 1 x 245 bare_phi refl refl refl (record { forms = T ∷ R ∷ []; has = bare_forms }) u in cc)
+bare_label (suc (suc k)) x u = (let w = use_within small bare_phi (suc (suc k)) x role.Label (use_in small unpaired 4 (suc (suc k)) x role.Label bare_phi refl u) in omega (arith, w))
+
+no_label_u2 : (k : ℕ) → 1 < k → k ≤ 2 → ¬ (IsAt unpaired k (Label ∷ []))
+unfolding rows
+no_label_u2 zero a b h = absurd (omega (arith, a))
+no_label_u2 (suc zero) a b h = absurd (omega (arith, a))
+no_label_u2 (suc (suc zero)) a b h = cc
+no_label_u2 (suc (suc (suc k))) a b h = absurd (omega (arith, b))
+
+no_end_u2 : (k : ℕ) → 1 ≤ k → k < 2 → ¬ (IsAt unpaired k terminators)
+unfolding rows
+no_end_u2 zero a b h = absurd (omega (arith, a))
+no_end_u2 (suc zero) a b h = cc
+no_end_u2 (suc (suc k)) a b h = absurd (omega (arith, b))
+
+u_block : IsOfBlock unpaired 2 1
+unfolding rows
+u_block = record { begun = record { within = omega arith; up_to = omega arith; there = refl; last = no_label_u2 }; not_ended = no_end_u2 }
+
+no_label_u4 : (k : ℕ) → 3 < k → k ≤ 4 → ¬ (IsAt unpaired k (Label ∷ []))
+unfolding rows
+no_label_u4 zero a b h = absurd (omega (arith, a))
+no_label_u4 (suc zero) a b h = absurd (omega (arith, a))
+no_label_u4 (suc (suc zero)) a b h = absurd (omega (arith, a))
+no_label_u4 (suc (suc (suc zero))) a b h = absurd (omega (arith, a))
+no_label_u4 (suc (suc (suc (suc zero)))) a b h = cc
+no_label_u4 (suc (suc (suc (suc (suc k))))) a b h = absurd (omega (arith, b))
+
+no_end_u4 : (k : ℕ) → 3 ≤ k → k < 4 → ¬ (IsAt unpaired k terminators)
+unfolding rows
+no_end_u4 zero a b h = absurd (omega (arith, a))
+no_end_u4 (suc zero) a b h = absurd (omega (arith, a))
+no_end_u4 (suc (suc zero)) a b h = absurd (omega (arith, a))
+no_end_u4 (suc (suc (suc zero))) a b h = cc
+no_end_u4 (suc (suc (suc (suc k)))) a b h = absurd (omega (arith, b))
+
+phi_block : IsOfBlock unpaired 4 3
+unfolding rows
+phi_block = record { begun = record { within = omega arith; up_to = omega arith; there = refl; last = no_label_u4 }; not_ended = no_end_u4 }
+
+u_leads : Leads small unpaired 2 1 3
+u_leads = record {
+  of = u_block;
+  id = 2;
+  target = record { branch = refl; operand = 0; used = record { inst = branch 2; there = refl; used = branch_used 2 } };
+  label = record { defined = record { inst = label 2; there = refl; result = refl }; label = refl };
+}
+
+pub no_parents : ¬ (HasParents small unpaired 4)
+no_parents h =
+    let e : h.block ≡ 3 = block_same unpaired 4 h.block 3 h.of phi_block in
+    let a = h.all 1 (2, subst (λ (b : ℕ). Leads small unpaired 2 1 b) (sym e) u_leads) in
+    bare_label a.0 a.1.id a.1.used
+
+-- a use before the definition
+negation_forms : (r x : ℕ) → HasForms small (negation r x) (T ∷ R ∷ v ∷ [])
+unfolding rows
+negation_forms r x = record {
+  row = row 200 200 Body (T ∷ R ∷ v ∷ []) closed;
+  rest = [];
+  known = refl;
+  forms = refl;
+  ending = Ends.nothing;
+  each = AreOf.more T (OfType 20) (R ∷ v ∷ []) (Result r ∷ Id x ∷ []) refl (AreOf.more R (Result r) (v ∷ []) (Id x ∷ []) refl (AreOf.more v (Id x) [] [] refl AreOf.none));
+}
+
+no_function : (k : ℕ) → 0 < k → k ≤ 3 → ¬ (IsAt early k (Function ∷ []))
+unfolding rows
+no_function zero a b h = absurd (omega (arith, a))
+no_function (suc zero) a b h = cc
+no_function (suc (suc zero)) a b h = cc
+no_function (suc (suc (suc zero))) a b h = cc
+no_function (suc (suc (suc (suc k)))) a b h = absurd (omega (arith, b))
+
+no_end : (k : ℕ) → k ≤ 3 → ¬ (IsAt early k (FunctionEnd ∷ []))
+unfolding rows
+no_end zero b h = cc
+no_end (suc zero) b h = cc
+no_end (suc (suc zero)) b h = cc
+no_end (suc (suc (suc zero))) b h = cc
+no_end (suc (suc (suc (suc k)))) b h = absurd (omega (arith, b))
+
+of_function : (n : ℕ) → n ≤ 3 → IsOfFunction early n 0
+unfolding rows
+of_function n lt = record {
+  begun = record { within = omega (arith, lt); up_to = omega arith; there = refl; last = λ k a b. no_function k a (omega (arith, b, lt)) };
+  not_ended = λ k a b. no_end k (omega (arith, b, lt));
+}
+
+pub local_7 : IsLocalValue early 7
+local_7 = record {
+  local = (0, record { place = 3; defined = record { inst = negation 7 6; there = refl; result = refl }; of = of_function 3 (omega arith); after = omega arith; before = no_end 3 (omega arith) });
+  place = 3;
+  defined = record { inst = negation 7 6; there = refl; result = refl };
+  inst = negation 7 6;
+  there = refl;
+  of_type = 20;
+  typed = refl;
+}
+
+none_at_1 : ¬ (IsDefinedAt early 7 1)
+none_at_1 d = let t = d.there in let e : label 1 ≡ d.inst = cc in let r = rw (← e) at d.result in absurd (omega (arith, same_Some 1 7 r))
+
+none_at_0 : ¬ (IsDefinedAt early 7 0)
+none_at_0 d = let t = d.there in let e : function ≡ d.inst = cc in let r = rw (← e) at d.result in cc
+
+at_1 : (n : ℕ) → n ≡ 1 → ¬ (IsDefinedAt early 7 n)
+at_1 n f d = none_at_1 (subst (λ (k : ℕ). IsDefinedAt early 7 k) f d)
+
+at_0 : (n : ℕ) → n ≡ 0 → ¬ (IsDefinedAt early 7 n)
+at_0 n f d = none_at_0 (subst (λ (k : ℕ). IsDefinedAt early 7 k) f d)
+
+undefined : ¬ (IsResultAmong early (1 ∷ 0 ∷ []) 7)
+undefined (zero, n, lt, e, d) = let f : n ≡ 1 = cc in at_1 n f d
+undefined (suc zero, n, lt, e, d) = let f : n ≡ 0 = cc in at_0 n f d
+undefined (suc (suc k), n, lt, e, d) = absurd (omega (arith, lt))
+
+walked : IsWalk small early 0 (1 ∷ 0 ∷ []) 2
+walked =
+    let w0 : IsWalk small early 0 [] 0 = IsWalk.begins refl in
+    let w1 : IsWalk small early 0 (0 ∷ []) 1 = IsWalk.goes [] 0 1 w0 (Next.follows (λ t. let e = t in cc)) (of_function 1 (omega arith)) in
+    IsWalk.goes (0 ∷ []) 1 2 w1 (Next.follows (λ t. let e = t in cc)) (of_function 2 (omega arith))
+
+pub missed : IsMissing small early 2
+missed = record {
+  other = λ t. let e = t in cc;
+  function = 0;
+  past = 1 ∷ 0 ∷ [];
+  walk = walked;
+  operand = 2;
+  id = 7;
+  role = role.Value;
+  used = record { inst = negation 6 7; there = refl; used = record { forms = T ∷ R ∷ v ∷ []; has = negation_forms 6 7; form = v; operand = Id 7; form_at = refl; operand_at = refl; role = refl; id = refl } };
+  local = local_7;
+  undefined = undefined;
+}
+
+-- a label has no type
+label_2 : (m : ℕ) → IsDefinedAt two_blocks 2 m → m ≡ 3
+label_2 zero d = let t = d.there in let e : function ≡ d.inst = cc in let r = rw (← e) at d.result in cc
+label_2 (suc zero) d = let t = d.there in let e : label 1 ≡ d.inst = cc in let r = rw (← e) at d.result in absurd (omega (arith, same_Some 1 2 r))
+label_2 (suc (suc zero)) d = let t = d.there in let e : branch 2 ≡ d.inst = cc in let r = rw (← e) at d.result in cc
+label_2 (suc (suc (suc zero))) d = refl
+label_2 (suc (suc (suc (suc zero)))) d = let t = d.there in let e : return_void ≡ d.inst = cc in let r = rw (← e) at d.result in cc
+label_2 (suc (suc (suc (suc (suc k))))) d = let t = d.there in cc
+
+pub not_local : ¬ (IsLocalValue two_blocks 2)
+not_local h =
+    let e = label_2 h.place h.defined in
+    let t = rw e at h.there in
+    let s : label 2 ≡ h.inst = cc in
+    let y = rw (← s) at h.typed in
+    cc
+
+pub not_missing : ¬ (IsMissing small two_blocks 2)
+not_missing h =
+    let u = use_in small two_blocks 2 h.operand h.id h.role (branch 2) refl h.used in
+    let e = (branch_only h.operand 2 h.id h.role u).0 in
+    not_local (subst (λ (x : ℕ). IsLocalValue two_blocks x) e h.local)
