@@ -1,6 +1,7 @@
 //! Which capabilities are asked for: the rules C1 and C2, without what was asked before.
 
-ghost use Rattle.std.specs.Prelude.{◌≡◌, ◌↔◌, IsTrue, Some, IsSomeAnd, codes};
+ghost use Rattle.std.specs.Prelude.{◌≡◌, ◌↔◌, [], IsTrue, Some, IfSome, IsSomeAnd, codes, option_and_then};
+ghost use Rattle.spv_grammar.specs.Table.{enumerant_of, kind_of};
 ghost use Rattle.spv_grammar.specs.Lookups.{value_named, number_named};
 ghost use Rattle.spv_grammar.specs.Implied.{capabilities_in};
 ghost use Rattle.spv_inst.specs.Module.{plain_inst, plain_operands};
@@ -88,7 +89,8 @@ pub fn is_covered_value(survey: &Survey<'_, '_>, kind: u32, value: u32) -> bool
 /// Whether the enumerant of a value of a kind, if there is one, lists no capabilities.
 #[inline(always)]
 pub fn asks_nothing(survey: &Survey<'_, '_>, kind: u32, value: u32) -> bool
-    ensures { IsTrue result → IsCoveredValue survey.now.table survey.now.insts kind value }
+    ensures exactly { IsTrue result ↔ IfSome (option_and_then (λ s. enumerant_of s.enumerants value) (kind_of survey.now.table kind)) (λ e. e.capabilities ≡ []) }
+    ensures covered { IsTrue result → IsCoveredValue survey.now.table survey.now.insts kind value }
 {
     match survey.table().enumerant(kind, value) {
         Some(enumerant) => enumerant.capabilities.as_slice().is_empty(),

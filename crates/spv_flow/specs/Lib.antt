@@ -1,2 +1,3 @@
 pub mod Definitions
 pub mod Outcome
+pub mod Example
