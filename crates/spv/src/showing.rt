@@ -8,8 +8,8 @@ ghost use Rattle.spv.specs.Show.{BeginsShowing, IsShowing, Shows};
 ghost use Rattle.spv.specs.Shown.{is_text, output_of, shown_refusal, shown_stop};
 
 use spv_grammar::Table;
-use spv_inst::{Stop, decode};
-use spv_text::show_listed;
+use spv_inst::Stop;
+use spv_text::show_image;
 use spv_verdict::{Judgment, line_for};
 use spv_words::{Image, Sink, Source, WordError, read_image, write_all};
 use std::alloc::Global;
@@ -46,18 +46,14 @@ fn unlisted(stop: Stop) -> Result<Shown, WordError>
 
 /// What is shown of the words of a module.
 ///
-/// `W9`: a growth of memory was refused. There is no other error: a module that was decoded has a text.
+/// `W9`: a growth of memory was refused. There is no other error.
 fn shown_of(alloc: Global, table: &Table, image: &Image) -> Result<Shown, WordError>
     ensures shown { (bytes : List ℕ) (order : Order) → IsModule order bytes image.now → IfOk result (λ s. IsShowing table.now bytes (output_of s) (is_text s)) }
     ensures only { IfErr result (λ e. e ≡ W9) }
 {
-    let module = match decode(alloc, table, image) {
-        Ok(module) => module,
-        Err(stop) => return unlisted(stop),
-    };
-    match show_listed(alloc, table, &module) {
+    match show_image(alloc, table, image) {
         Ok(text) => Ok(Shown::Text(text)),
-        Err(_) => Err(WordError::W9),
+        Err(stop) => unlisted(stop),
     }
 }
 

@@ -372,6 +372,22 @@ word_next G c pattern words out out' ds es fs k ks image first at end w o s f h 
     let q : (at - first) + 1 ≡ (at + 1) - first = omega arith in
     rw (n, j, ← q) (at_operand G c pattern words out (alone k) es (at - first) o (w ∷ []) (between image (at + 1) end) (map alone ks) s2 t)
 
+-- some words are taken as an operand
+pub words_next : (G : Table) (c : Context) (pattern : List Due) (words : List ℕ) (out out' : List Plain) (ds es fs : List Due) (k : ℕ) (ks : List ℕ) (image : List ℕ) (first at end n : ℕ) (o : Plain)
+    → Sofar G c pattern words out ds (between image at end) (at - first) → first ≤ at → at < end → end ≤ length image → n ≤ end - at
+    → settled true ds ≡ OneOf (alone k) ∷ es → Takes k (shape_of G (after c out) (alone k)) o (take n (between image at end)) (map alone ks) → out' ≡ out ++ (o ∷ [])
+    → fs ≡ map OneOf (map alone ks) ++ es → Sofar G c pattern words out' fs (between image (at + n) end) ((at + n) - first)
+words_next G c pattern words out out' ds es fs k ks image first at end n o s f h l w e t m j =
+    let b = length-between image at end l in
+    let h0 : 0 < length (between image at end) = omega arith in
+    let h1 : n ≤ length (between image at end) = omega arith in
+    let s1 : Sofar G c pattern words out (OneOf (alone k) ∷ es) (between image at end) (at - first) = rw e at (settled_some G c pattern words out ds (at - first) (between image at end) h0 s) in
+    let s2 : Sofar G c pattern words out (OneOf (alone k) ∷ es) (take n (between image at end) ++ drop n (between image at end)) (at - first) = rw (take-append-drop n (between image at end)) s1 in
+    let q : (at - first) + n ≡ (at + n) - first = omega arith in
+    rw (m, j)
+    (rw (length-take-le n (between image at end) h1, drop-between image at end n w, q) at
+    (at_operand G c pattern words out (alone k) es (at - first) o (take n (between image at end)) (drop n (between image at end)) (map alone ks) s2 t))
+
 -- the loop begins after some operands
 pub turn_from : (G : Table) (defined : Definitions) (known : Known) (b : List PlainInst) (p : ℕ) (pattern : List Item) (image : List ℕ) (first at end : ℕ) (out : List Plain) (ds es : List Due)
     → first ≤ at → at ≤ end → Sofar G (start b p) (map due pattern) (between image first end) out ds (between image at end) (at - first) → es ≡ ds

@@ -118,6 +118,7 @@ impl Definitions {
     }
 
     /// Keeps what is new of an id. Where memory runs out, nothing is said of what is left.
+    #[inline(always)]
     fn put(&mut self, id: u32, definition: Definition) -> Result<(), AllocError>
         ensures latest { OnOk result ((x : ℕ) → kept self.new x ≡ (if nat_eq id x then Some definition else kept self.old x)) }
         ensures reach { self.new.reach ≡ self.old.reach }
@@ -147,6 +148,7 @@ impl Definitions {
     /// Goes on after one instruction more, of that opcode and with those operands: where it has a result, it is now the last definition of that id.
     ///
     /// An `AllocError` comes only where a growth of memory was refused, and then nothing is said of what is left.
+    #[inline(always)]
     pub fn add(&mut self, opcode: u16, operands: &[Operand]) -> Result<(), AllocError>
         ensures knows { OnOk result ((before : List PlainInst) → Knows self.old before → Knows self.new (before ++ record { opcode = opcode; operands = plain_operands operands.now } ∷ [])) }
         // The list may grow no less than before.
@@ -158,6 +160,23 @@ impl Definitions {
         let definition = Definition {
             type_id: type_in(operands),
             width: declared_width(opcode, operands),
+        };
+        self.reach = self.reach.saturating_add(REACH_FOR_EACH);
+        self.put(id, definition)
+    }
+
+    /// Goes on after one instruction more, with that result and that type of it, if it has one, which declares no width: its
+    /// opcode is neither OpTypeInt's nor OpTypeFloat's.
+    ///
+    /// An `AllocError` comes only where a growth of memory was refused, and then nothing is said of what is left.
+    pub fn add_result(&mut self, id: u32, type_id: Option<u32>) -> Result<(), AllocError>
+        ensures knows { OnOk result ((before : List PlainInst) (i : PlainInst) → operand.result_in i.operands ≡ Some id → operand.type_in i.operands ≡ type_id → width.declared_width i ≡ None
+            → Knows self.old before → Knows self.new (before ++ i ∷ [])) }
+        ensures reach { self.old.reach ≤ self.new.reach }
+    {
+        let definition = Definition {
+            type_id,
+            width: None,
         };
         self.reach = self.reach.saturating_add(REACH_FOR_EACH);
         self.put(id, definition)

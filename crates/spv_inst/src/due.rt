@@ -2,7 +2,10 @@
 //! than words.
 
 pub use crate::agenda::{Agenda, Asked, form_in};
-pub use crate::enumerant::{knows, knows_bits};
+pub use crate::definitions::Definitions;
+pub use crate::enumerant::{joined, knows, knows_bits, mask_kinds, value_kinds};
 pub use crate::form::{Form, Leaf, forms_of};
-pub use crate::reader::Slot;
+pub use crate::instruction::{Read, read_instruction};
+pub use crate::plain::{Next, next_kind};
+pub use crate::reader::{Scene, Slot};
 pub use crate::written::{push_operand, read_text};

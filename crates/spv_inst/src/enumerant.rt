@@ -20,6 +20,7 @@ pub fn knows(table: &Table, kind: u32, value: u32) -> bool
 
 /// The kinds of the parameters of an enumerant, by the number of its kind, from 0, and its value. None where the kind has no
 /// such enumerant.
+#[inline(always)]
 pub fn value_kinds<'t>(table: &'t Table, kind: u32, value: u32) -> Option<&'t [u32]>
     ensures { option_map (λ ks. ks.now) result ≡ parameters_of (enumerants_at (kind_of table.now kind)) value }
 {
@@ -45,6 +46,7 @@ pub fn joined<'t>(first: &'t [u32], second: &'t [u32]) -> Option<&'t [u32]>
 
 /// The kinds of the parameters of a mask of a kind, those of the smaller bit first, where no more than one of its set bits
 /// has parameters. None where more of them have, or where one of them is the value of no enumerant.
+#[inline(always)]
 pub fn mask_kinds<'t>(table: &'t Table, kind: u32, mask: u32) -> Option<&'t [u32]>
     ensures { IfSome result (λ ks. mask_parameters (enumerants_at (kind_of table.now kind)) mask ≡ Some ks.now) }
 {

@@ -1,13 +1,16 @@
 //! One instruction.
 
-ghost use Rattle.std.specs.Prelude.{◌≡◌, ◌≤◌, ◌<◌, ◌+◌, ◌++◌, ◌∷◌, [], List, length, map, take, drop, IfOk, IfErr, OnOk};
-ghost use Rattle.spv_grammar.specs.Table.{pattern_of, IsWhole};
+ghost use Rattle.std.specs.Prelude.{◌≡◌, ◌≤◌, ◌<◌, ◌+◌, ◌-◌, ◌++◌, ◌∷◌, [], List, length, map, take, drop, IfOk, IfErr, OnOk};
+ghost use Rattle.spv_grammar.specs.Table.{Item, pattern_of, IsWhole};
+ghost use Rattle.spv_inst.specs.Agenda.{due_first};
+ghost use Rattle.spv_inst.specs.Flat.{due};
 ghost use Rattle.spv_inst.specs.Form.{form_of};
 ghost use Rattle.spv_inst.specs.Instruction.{IsInstruction};
 ghost use Rattle.spv_inst.specs.Known.{Knows};
 ghost use Rattle.spv_inst.specs.Module.{plain_operand, plain_operands};
 ghost use Rattle.spv_inst.specs.Operand.{PlainInst, type_in, start};
 ghost use Rattle.spv_inst.specs.Reading.{between};
+ghost use Rattle.spv_inst.specs.Sofar.{Sofar};
 ghost use Rattle.spv_inst.specs.Spelling.{Match};
 ghost use Rattle.spv_inst.specs.Step.{IsMisfit, IsDeadFrom};
 ghost use Rattle.spv_inst.specs.Width.{first_id};
@@ -16,7 +19,7 @@ use crate::agenda::Agenda;
 use crate::definitions;
 use crate::fault::{Fault, Rule, Stop};
 use crate::operand::Operand;
-use crate::plain::{next_kind, read_words};
+use crate::plain::{Rest, next_kind, read_words};
 use crate::reader::{Known, Scene, take_operand};
 use spv_grammar::Entry;
 use spv_words::word;
@@ -122,8 +125,60 @@ fn known_of(opcode: u16, operands: &[Operand<'_>]) -> Known
     }
 }
 
+/// Reads what is left of an instruction after some operands, by the agenda, which is begun anew: `begin` is the place of the
+/// instruction's first operand in the list, and `rest` what is still due and the word from which on. It has a body of its
+/// own, so that the crates that read instructions share it. After an error nothing is said of what is left of the list.
+#[inline(never)]
+fn read_rest<'t, 'a>(
+    scene: &Scene<'t, '_, 'a>,
+    agenda: &mut Agenda<'t>,
+    operands: &mut Vec<Operand<'a>>,
+    place: Place,
+    begin: usize,
+    rest: Rest<'t>,
+) -> Result<(), Stop>
+    requires forms { scene.now.forms.now ≡ map form_of scene.now.table.now.kinds }
+    requires whole { IsWhole scene.now.table.now }
+    requires within { (place.first ≤ rest.at) × (rest.at ≤ place.end) }
+    requires fits { place.end ≤ length scene.now.image.now }
+    requires room { begin ≤ length operands.now.items }
+    // With the operands that stand there already, what is added is what the words from the first up to the end spell.
+    ensures read { (before : List PlainInst) (pattern : List Item) → Knows scene.now.definitions.now before
+        → Sofar scene.now.table.now (start before place.opcode) (map due pattern) (between scene.now.image.now place.first place.end) (plain_operands (drop begin operands.old.items)) (due_first rest.entry.kinds.now rest.entry.items.now) (between scene.now.image.now rest.entry.at place.end) (rest.entry.at - place.first)
+        → OnOk result (Match scene.now.table.now (start before place.opcode) pattern (plain_operands (drop begin operands.new.items)) (between scene.now.image.now place.first place.end)) }
+    ensures kept { OnOk result (take begin operands.new.items ≡ take begin operands.old.items) }
+    ensures few { OnOk result (length operands.new.items + rest.entry.at ≤ length operands.old.items + place.end) }
+    // A fault tells what refuses these words.
+    ensures misfit { (before : List PlainInst) (pattern : List Item) → Knows scene.now.definitions.now before
+        → Sofar scene.now.table.now (start before place.opcode) (map due pattern) (between scene.now.image.now place.first place.end) (plain_operands (drop begin operands.old.items)) (due_first rest.entry.kinds.now rest.entry.items.now) (between scene.now.image.now rest.entry.at place.end) (rest.entry.at - place.first)
+        → IfErr result (λ e. IsMisfit scene.now.table.now (start before place.opcode) pattern (between scene.now.image.now place.first place.end) place.number place.first e) }
+{
+    let mut known = known_of(place.opcode, &operands[begin..]);
+    let mut at = rest.at;
+    agenda.resume(rest.kinds, rest.items)?;
+    while at < place.end {
+        let Some(asked) = agenda.next_leaf(scene.table, scene.forms, true)? else {
+            return Err(fault_at(place.number, Rule::I5, at));
+        };
+        match take_operand(scene, known, asked.slot, asked.leaf, at, place.end) {
+            Ok(taken) => {
+                agenda.open(scene.table, &taken.operand)?;
+                known = known_after(known, &operands[begin..], &taken.operand);
+                operands.push(taken.operand)?;
+                at += taken.words;
+            }
+            Err(refusal) => return Err(fault_at(place.number, refusal.rule, at + refusal.word)),
+        }
+    }
+    match agenda.next_leaf(scene.table, scene.forms, false)? {
+        Some(_) => Err(fault_at(place.number, Rule::I4, at)),
+        None => Ok(()),
+    }
+}
+
 /// Adds the operands of an instruction to a list, by its entry: all of its further words, and no fewer. After an error nothing
 /// is said of what is left of the list.
+#[inline(always)]
 fn read_operands<'t, 'a>(
     scene: &Scene<'t, '_, 'a>,
     agenda: &mut Agenda<'t>,
@@ -160,27 +215,7 @@ fn read_operands<'t, 'a>(
             return Ok(());
         }
     }
-    let mut known = known_of(place.opcode, &operands[start..]);
-    let mut at = rest.at;
-    agenda.resume(rest.kinds, rest.items)?;
-    while at < place.end {
-        let Some(asked) = agenda.next_leaf(scene.table, scene.forms, true)? else {
-            return Err(fault_at(place.number, Rule::I5, at));
-        };
-        match take_operand(scene, known, asked.slot, asked.leaf, at, place.end) {
-            Ok(taken) => {
-                agenda.open(scene.table, &taken.operand)?;
-                known = known_after(known, &operands[start..], &taken.operand);
-                operands.push(taken.operand)?;
-                at += taken.words;
-            }
-            Err(refusal) => return Err(fault_at(place.number, refusal.rule, at + refusal.word)),
-        }
-    }
-    match agenda.next_leaf(scene.table, scene.forms, false)? {
-        Some(_) => Err(fault_at(place.number, Rule::I4, at)),
-        None => Ok(()),
-    }
+    read_rest(scene, agenda, operands, place, start, rest)
 }
 
 /// Reads the instruction whose first word is the module's word `at`, counted from 0, after so many instructions (SPIR-V
@@ -191,6 +226,7 @@ fn read_operands<'t, 'a>(
 /// opcode has no entry in the table (I3); by the first word left where nothing more is due (I5); by the word after the last
 /// where an operand is missing (I4); and else by the word at which an operand is refused (`take_operand`). `Memory` comes
 /// only where a growth of memory was refused. After an error nothing is said of what is left of the list.
+#[inline(always)]
 pub fn read_instruction<'t, 'a>(
     scene: &Scene<'t, '_, 'a>,
     agenda: &mut Agenda<'t>,

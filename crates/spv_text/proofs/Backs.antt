@@ -115,44 +115,46 @@ line_put G before i further line name b1 b2 b3 e id passed a1 a2 a3 h k j n b t 
 pub line_utf8 : (name b1 b2 b3 front : List ℕ) (a1 a2 a3 : ℕ) → IsUtf8 name → IsUtf8 front → IsUtf8 (drop a1 b1) → drop a2 b2 ≡ name ++ drop a1 b1 → drop a3 b3 ≡ front ++ drop a2 b2 → IsUtf8 (drop a3 b3)
 line_utf8 name b1 b2 b3 front a1 a2 a3 n f b t u = rw (u, t) (IsUtf8-append front (name ++ drop a1 b1) f (IsUtf8-append name (drop a1 b1) n b))
 
+-- what an operand that is no result has in its line
+pub cell_by : (G : Table) (o : Plain) → result_in (o ∷ []) ≡ None → 32 ∷ shown_operand G false o ≡ cell_of G o
+cell_by G (OfType x) n = refl
+cell_by G (Result x) n = cc
+cell_by G (Id x) n = refl
+cell_by G (Word x) n = refl
+cell_by G (Number a b w) n = refl
+cell_by G (Text u) n = refl
+cell_by G (Value k x) n = refl
+cell_by G (Mask k x) n = refl
+
+-- and it is no result
+pub count_by : (os : List Plain) (o : Plain) → result_in (o ∷ []) ≡ None → results_of (o ∷ os) ≡ results_of os
+count_by os (OfType x) n = refl
+count_by os (Result x) n = cc
+count_by os (Id x) n = refl
+count_by os (Word x) n = refl
+count_by os (Number a b w) n = refl
+count_by os (Text u) n = refl
+count_by os (Value k x) n = refl
+count_by os (Mask k x) n = refl
+
 -- one operand more
 pub back_more : (G : Table) (o : Plain) (os : List Plain) (passed : Bool) (end at : ℕ) (old new : List ℕ) → length new ≡ length old → IsBack G os passed end old → IsPut G o end at old new → IsBack G (o ∷ os) passed at new
 back_more G o os passed end at old new s b p =
     let n = p.other in
     let w = b.within in
     let l = p.low in
-    let c : 32 ∷ shown_operand G false o ≡ cell_of G o = cell_by o n in
+    let c : 32 ∷ shown_operand G false o ≡ cell_of G o = cell_by G o n in
     let t : drop at new ≡ (cell_of G o ++ cells_of G os) ++ (10 ∷ []) = p.text ∙ (ap (λ z. z ++ drop end old) c ∙ (ap (λ z. cell_of G o ++ z) b.text ∙ sym (append_assoc (cell_of G o) (cells_of G os) (10 ∷ [])))) in
     record {
       within = omega arith;
       text = t;
       steady = both (is_steady o) (list_all is_steady os) p.steady b.steady;
-      count = count_by o n ∙ b.count;
+      count = count_by os o n ∙ b.count;
       utf8 = rw p.text (IsUtf8-append (32 ∷ shown_operand G false o) (drop end old) p.utf8 b.utf8);
     }
   where
     both : (a b : Bool) → a ≡ true → b ≡ true → (a && b) ≡ true
     both a b e f = rw (e, f) refl
-
-    cell_by : (o : Plain) → result_in (o ∷ []) ≡ None → 32 ∷ shown_operand G false o ≡ cell_of G o
-    cell_by (OfType x) n = refl
-    cell_by (Result x) n = cc
-    cell_by (Id x) n = refl
-    cell_by (Word x) n = refl
-    cell_by (Number a b w) n = refl
-    cell_by (Text u) n = refl
-    cell_by (Value k x) n = refl
-    cell_by (Mask k x) n = refl
-
-    count_by : (o : Plain) → result_in (o ∷ []) ≡ None → results_of (o ∷ os) ≡ results_of os
-    count_by (OfType x) n = refl
-    count_by (Result x) n = cc
-    count_by (Id x) n = refl
-    count_by (Word x) n = refl
-    count_by (Number a b w) n = refl
-    count_by (Text u) n = refl
-    count_by (Value k x) n = refl
-    count_by (Mask k x) n = refl
 
 pub back_result : (G : Table) (x : ℕ) (o : Plain) (os : List Plain) (passed : Bool) (at : ℕ) (buffer : List ℕ) → o ≡ Result x → passed ≡ false → IsBack G os passed at buffer → IsBack G (o ∷ os) true at buffer
 back_result G x o os passed at buffer e n b =

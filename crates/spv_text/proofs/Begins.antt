@@ -5,7 +5,7 @@ use Rattle.spv_inst.specs.Width.{first_id}
 use Rattle.spv_text.specs.declared.ids.Ids.{Ids}
 use Rattle.spv_text.specs.Begun.{beginning_of, begun, either, first_after, IsOfOperands}
 
-result_snoc : (os : List Plain) (o : Plain) → either (result_in os) (result_in (o ∷ [])) ≡ result_in (os ++ (o ∷ []))
+pub result_snoc : (os : List Plain) (o : Plain) → either (result_in os) (result_in (o ∷ [])) ≡ result_in (os ++ (o ∷ []))
 result_snoc [] o = refl
 result_snoc (Result x ∷ os) o = refl
 result_snoc (OfType x ∷ os) o = result_snoc os o
@@ -16,7 +16,7 @@ result_snoc (Text t ∷ os) o = result_snoc os o
 result_snoc (Value k x ∷ os) o = result_snoc os o
 result_snoc (Mask k x ∷ os) o = result_snoc os o
 
-type_snoc : (os : List Plain) (o : Plain) → either (type_in os) (type_in (o ∷ [])) ≡ type_in (os ++ (o ∷ []))
+pub type_snoc : (os : List Plain) (o : Plain) → either (type_in os) (type_in (o ∷ [])) ≡ type_in (os ++ (o ∷ []))
 type_snoc [] o = refl
 type_snoc (OfType x ∷ os) o = refl
 type_snoc (Result x ∷ os) o = type_snoc os o

@@ -109,3 +109,10 @@ float_missing t before x k e = float_at (definition_of before x) None (e ∙ k.l
 pub on_pushed : {T E : Type 0} (r : Answer T E) (P : Type 0) (out old t : List ℕ) → out ≡ (if is_ok r then old ++ t else old) → (out ≡ old ++ t → P) → OnOk r P
 on_pushed (Ok _) P out old t e f = f e
 on_pushed (Err _) P out old t e f = tt
+
+-- of another instruction than OpTypeInt and OpTypeFloat
+pub other_width : (i : PlainInst) → nat_eq i.opcode 21 ≡ false → nat_eq i.opcode 22 ≡ false → declared_width i ≡ None
+other_width i a b = rw (a, b) refl
+
+pub other_summary : (i : PlainInst) (t : Option ℕ) → type_in i.operands ≡ t → nat_eq i.opcode 21 ≡ false → nat_eq i.opcode 22 ≡ false → record { type_id = t; is_float = false; width = None } ≡ summary i
+other_summary i t e a b = rw (← e, a, b) refl

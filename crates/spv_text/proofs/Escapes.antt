@@ -15,7 +15,7 @@ cut (x ∷ xs) (suc i) l = let m : i < length xs = omega arith in let e : suc i 
 abbrev pub mark : ℕ → List ℕ
 mark b = if nat_eq b 34 then codes "\\\"" else (if nat_eq b 92 then codes "\\\\" else (if nat_eq b 10 then codes "\\n" else b ∷ []))
 
-escaped-append : (a b : List ℕ) → escaped (a ++ b) ≡ escaped a ++ escaped b
+pub escaped-append : (a b : List ℕ) → escaped (a ++ b) ≡ escaped a ++ escaped b
 escaped-append [] b = refl
 escaped-append (x ∷ a) b = ap (λ z. mark x ++ z) (escaped-append a b) ∙ sym (append_assoc (mark x) (escaped a) (escaped b))
 

@@ -1,9 +1,9 @@
 -- What is kept while the lines of a text are read: the instructions so far, and that the lines left go on from there.
-use Rattle.std.proofs.Common.{◌≡◌, ◌++◌, ◌∙◌, inl, inr, ◌<◌, ◌≤◌, ◌+◌, ◌^◌, ℕ, suc, List, [], ◌∷◌, Bool, true, length, drop, refl, sym, ap, arith, append_assoc, append-nil, length-append}
+use Rattle.std.proofs.Common.{◌≡◌, ◌++◌, ◌∙◌, inl, inr, ◌<◌, ◌≤◌, ◌+◌, ◌^◌, ℕ, suc, List, [], ◌∷◌, Option, None, Bool, true, length, drop, refl, sym, ap, arith, append_assoc, append-nil, length-append}
 use Rattle.std.specs.Prelude.{◌==◌}
 use Rattle.std.proofs.lemmas.Bool.Decides.{nat_tests}
 use Rattle.spv_grammar.specs.Table.{Table}
-use Rattle.spv_inst.specs.Operand.{PlainInst}
+use Rattle.spv_inst.specs.Operand.{Plain, PlainInst, result_in}
 use Rattle.spv_words.specs.declared.words.Header.{Header}
 use Rattle.spv_inst.specs.Instruction.{first_word, IsListing}
 use Rattle.spv_inst.specs.Outcome.{IsHeaderOf}
@@ -15,7 +15,7 @@ use Rattle.spv_lines.specs.Fault.{LineFails, LinesFail, HeaderFails, IsFailure}
 use Rattle.spv_text.specs.declared.types.Types.{Types}
 use Rattle.spv_text.specs.declared.ids.Ids.{Ids}
 use Rattle.spv_text.specs.Kept.{Knows}
-use Rattle.spv_text.specs.Reading.{IsLine, LineFailsOr, IsAsmFailure}
+use Rattle.spv_text.specs.Reading.{AreKept, IsLine, LineFailsOr, IsAsmFailure}
 use Rattle.spv_text.specs.Lines.{HasLine, HasLines, IsTooLongOr, LinesFailOr, told_line}
 
 pub record LinesSoFar (G : Table) (lines : List (List ℕ)) (header draft : List ℕ) (kept : Types) (left : List (List ℕ)) (number : ℕ) : Type 0 where
@@ -40,7 +40,7 @@ lines_first G lines header types e k = record {
   failed = λ code n m. let m' : LinesFail G [] 5 lines code n = rw e at m in let z : 0 + n ≡ n = omega arith in rw z m';
 }
 
-pub lines_more : (G : Table) (lines : List (List ℕ)) (header draft new : List ℕ) (types next : Types) (line : List ℕ) (left rest : List (List ℕ)) (number opcode : ℕ) (ids : Ids) (a : LinesSoFar G lines header draft types left number)
+pub lines_more : (G : Table) (lines : List (List ℕ)) (header draft new : List ℕ) (types next : Types) (line : List ℕ) (left rest : List (List ℕ)) (number opcode : ℕ) (ids : Option Ids) (a : LinesSoFar G lines header draft types left number)
     → left ≡ line ∷ rest → (h : HasLine G a.insts line draft new opcode ids) → Knows next (a.insts ++ (h.line.inst ∷ [])) → LinesSoFar G lines header new next rest (number + 1)
 lines_more G lines header draft new types next line left rest number opcode ids a e h k =
     let i = h.line.inst in
@@ -93,8 +93,11 @@ lines_done G lines header draft types left number a e =
     let r = a.read [] [] m in
     record { insts = a.insts; words = a.words; read = rw (append-nil a.insts, append-nil a.words) at r; all = a.all; short = a.short }
 
+pub none_kept : (ids : Option Ids) (os : List Plain) → ids ≡ None → AreKept ids os → result_in os ≡ None
+none_kept ids os e h = rw e at h
+
 -- an instruction that is too long
-pub long_failed : (G : Table) (before : List PlainInst) (line further : List ℕ) (written opcode : ℕ) (ids : Ids) (code : AsmCode) → IsLine G before line further opcode ids → IsTooLongOr further written code → LineFailsOr G before written line code
+pub long_failed : (G : Table) (before : List PlainInst) (line further : List ℕ) (written opcode : ℕ) (ids : Option Ids) (code : AsmCode) → IsLine G before line further opcode ids → IsTooLongOr further written code → LineFailsOr G before written line code
 long_failed G before line further written opcode ids S1 l h = absurd h
 long_failed G before line further written opcode ids S2 l h = absurd h
 long_failed G before line further written opcode ids S3 l h = absurd h

@@ -23,3 +23,10 @@ pub mod Opening
 pub mod Celled
 pub mod OneBit
 pub mod Backs
+pub mod ImageLines
+pub mod Forwards
+pub mod Shorts
+pub mod Barely
+pub mod Labels
+pub mod Nearby
+pub mod Namely

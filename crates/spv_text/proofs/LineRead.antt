@@ -1,8 +1,8 @@
 -- A line is read, or fails, by its parts.
-use Rattle.std.proofs.Common.{◌≡◌, ◌∙◌, ℕ, List, Option, Some, None, map, option_map, refl, ap}
+use Rattle.std.proofs.Common.{◌≡◌, ◌∙◌, ℕ, List, Option, Some, None, map, option_map, refl, sym, ap}
 use Rattle.spv_grammar.specs.declared.table.Entry.{Entry}
 use Rattle.spv_grammar.specs.Table.{Table, pattern_of}
-use Rattle.spv_inst.specs.Operand.{PlainInst, start, result_in}
+use Rattle.spv_inst.specs.Operand.{Plain, PlainInst, start, result_in}
 use Rattle.spv_inst.specs.Flat.{due}
 use Rattle.spv_lines.specs.declared.asm_error.AsmCode.{AsmCode}
 use Rattle.spv_lines.specs.declared.asm_error.AsmCode.TheVariants.{S1, S2, S3, S4, S5, S6}
@@ -14,7 +14,9 @@ use Rattle.spv_lines.specs.Fault.{IsResult, ResultFails, LineFails}
 use Rattle.spv_lines.proofs.Failing.{is_result_id}
 use Rattle.spv_lines.proofs.Whole.{parts_break}
 use Rattle.spv_text.specs.declared.ids.Ids.{Ids}
-use Rattle.spv_text.specs.Reading.{AreRead, IsLine, LineFailsOr, OperandsFailOr}
+use Rattle.spv_text.specs.Begun.{IsOfOperands}
+use Rattle.spv_text.specs.Cells.{AreBare, Holds, asked}
+use Rattle.spv_text.specs.Reading.{AreKept, AreRead, IsLine, LineFailsOr, OperandsFailOr}
 
 pub line_undivided : (G : Table) (before : List PlainInst) (written : ℕ) (line : List ℕ) → parts_of line ≡ None → LineFailsOr G before written line S2
 line_undivided G before written line e = LineFails.undivided e
@@ -41,7 +43,7 @@ line_operands_failed G before written line P opcode entry r S5 e n f h = LineFai
 line_operands_failed G before written line P opcode entry r S6 e n f h = tt
 
 pub line_read : (G : Table) (before : List PlainInst) (line words : List ℕ) (P : Parts) (opcode : ℕ) (entry : Entry) (r : Option ℕ) (ids : Ids) → parts_of line ≡ Some P → IsInstName G P.name opcode entry → IsResult P.result r
-    → AreRead G r before opcode (map due (pattern_of entry)) P.operands words ids → IsLine G before line words opcode ids
+    → AreRead G r before opcode (map due (pattern_of entry)) P.operands words ids → IsLine G before line words opcode (Some ids)
 line_read G before line words P opcode entry r ids e n f a =
     let h = is_result_id P.result r f in
     let m = a.written in
@@ -51,6 +53,24 @@ line_read G before line words P opcode entry r ids e n f a =
       read = record { parts = P; entry = entry; divided = e; name = n; result = h.first ∙ ap (option_map id_text) a.result; written = m'; small = a.small };
       opcode = refl;
       ids = a.ids;
+    }
+
+are_kept : (kept : Option Ids) (ids : Ids) (os : List Plain) → Holds kept ids → IsOfOperands ids os → AreKept kept os
+are_kept (Some k) ids os e h = rw (← e) h
+are_kept None ids os e h = sym h.result ∙ e
+
+-- a line that is read without the agenda
+pub line_bare : (G : Table) (kept : Option Ids) (before : List PlainInst) (line words : List ℕ) (P : Parts) (opcode : ℕ) (entry : Entry) → parts_of line ≡ Some P → IsInstName G P.name opcode entry → P.result ≡ option_map id_text (asked kept)
+    → AreBare G kept before opcode (map due (pattern_of entry)) P.operands words → IsLine G before line words opcode kept
+line_bare G kept before line words P opcode entry e n f a =
+    let k = a.read in
+    let m = k.written in
+    let m' : Written (IsRead G) G (result_in k.operands) (start before opcode) (map due (pattern_of entry)) k.operands words P.operands = rw k.result at m in
+    record {
+      inst = record { opcode = opcode; operands = k.operands };
+      read = record { parts = P; entry = entry; divided = e; name = n; result = f ∙ ap (option_map id_text) k.result; written = m'; small = k.small };
+      opcode = refl;
+      ids = are_kept kept a.ids k.operands a.holds k.ids;
     }
 
 pub divided_break : (line : List ℕ) (P : Parts) → parts_of line ≡ Some P → IsBreak P.operands

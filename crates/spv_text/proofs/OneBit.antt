@@ -17,7 +17,7 @@ no_bits (suc p) =
     let f : bits_in (p + 1) 1 0 ≡ [] = clear_more p 0 (pow_pos p) ∙ no_bits p in
     ap (λ n. bits_in n 1 0) e ∙ f
 
-one_bit : (p : ℕ) → p < 32 → set_bits (2 ^ p) ≡ 2 ^ p ∷ []
+pub one_bit : (p : ℕ) → p < 32 → set_bits (2 ^ p) ≡ 2 ^ p ∷ []
 one_bit p h =
     let z : 0 < 2 ^ p = pow_pos p in
     let e : 0 + 2 ^ p ≡ 2 ^ p = omega arith in

@@ -35,12 +35,12 @@ use Rattle.spv_text.specs.Reading.{IsStep, HasQuoted, RefusesOr, told}
 use Rattle.spv_text.proofs.KindForms.{type_by_context, type_by_switch}
 
 -- the token before a space
-record Spaced (u : List ℕ) : Type 0 where
+pub record Spaced (u : List ℕ) : Type 0 where
   pub all : u ≡ before_space u ++ from_space u
   pub spaceless : NoSpace (before_space u)
   pub broken : IsBreak (from_space u)
 
-spaced : (u : List ℕ) → Spaced u
+pub spaced : (u : List ℕ) → Spaced u
 spaced [] = record { all = refl; spaceless = tt; broken = at_end }
 spaced (b ∷ u) = step (nat_eq b 32) refl (spaced u)
   where

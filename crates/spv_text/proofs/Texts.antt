@@ -63,7 +63,7 @@ lines_done G insts lines old out i a h =
     let n = none_left G (map plain_inst (take i insts)) (map plain_inst (drop i insts)) a.left a.shown f in
     sym (a.all ∙ (ap (λ z. out ++ ended z) n ∙ append-nil out))
 
-ended-append : (a b : List (List ℕ)) → ended (a ++ b) ≡ ended a ++ ended b
+pub ended-append : (a b : List (List ℕ)) → ended (a ++ b) ≡ ended a ++ ended b
 ended-append [] b = refl
 ended-append (l ∷ a) b = ap (λ z. l ++ (10 ∷ z)) (ended-append a b) ∙ sym (append_assoc l (10 ∷ ended a) (ended b))
 

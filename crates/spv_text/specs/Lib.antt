@@ -7,3 +7,7 @@ pub mod Named
 pub mod Lookup
 pub mod Cells
 pub mod Back
+pub mod Image
+pub mod Forward
+pub mod Noted
+pub mod Valued

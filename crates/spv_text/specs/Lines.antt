@@ -1,5 +1,5 @@
 -- What the reading of a text's lines keeps and answers. (Own.)
-use Rattle.std.specs.Prelude.{◌≡◌, ◌<◌, ◌≤◌, ◌+◌, ◌^◌, ◌++◌, ◌∷◌, [], ◌⊎◌, ℕ, List, Some, true, length, slice_get}
+use Rattle.std.specs.Prelude.{◌≡◌, ◌<◌, ◌≤◌, ◌+◌, ◌^◌, ◌++◌, ◌∷◌, [], ◌⊎◌, ℕ, List, Option, Some, true, length, slice_get}
 use Rattle.spv_grammar.specs.Table.{Table}
 use Rattle.spv_inst.specs.Operand.{PlainInst}
 use Rattle.spv_inst.specs.Instruction.{first_word}
@@ -26,9 +26,9 @@ IsTooLongOr further written S6 = Unit {0}
 IsTooLongOr further written _ = ⊥
 
 -- A line was read after the instructions before, and its instruction's words are added.
-pub record HasLine (G : Table) (before : List PlainInst) (octets old new : List ℕ) (opcode : ℕ) (ids : Ids) : Type 0 where
+pub record HasLine (G : Table) (before : List PlainInst) (octets old new : List ℕ) (opcode : ℕ) (kept : Option Ids) : Type 0 where
   pub further : List ℕ
-  pub line : IsLine G before octets further opcode ids
+  pub line : IsLine G before octets further opcode kept
   pub words : new ≡ old ++ (first_word opcode further ∷ further)
   pub count : length further + 1 ≤ greatest_count
   pub short : length old + (length further + 1) ≤ greatest_length

@@ -1,9 +1,9 @@
 -- What the name of the last line stands for. (For the code alone.)
-use Rattle.std.specs.Prelude.{◌≡◌, ℕ, Option, Some, IfSome}
-use Rattle.spv_grammar.specs.declared.table.Entry.{Entry}
-use Rattle.spv_grammar.specs.Table.{Table, entry_of}
+use Rattle.std.specs.Prelude.{Option, IfSome}
+use Rattle.spv_grammar.specs.Table.{Table}
 use Rattle.spv_lines.specs.Line.{IsInstName}
+use Rattle.spv_text.specs.declared.naming.Last.{Last}
 
--- The name of an opcode's entry, if there is an opcode, stands for it.
-abbrev pub IsKnown : Table → Option ℕ → Type 0
-IsKnown G last = IfSome last (λ x. (e : Entry) → entry_of G x ≡ Some e → IsInstName G e.name x e)
+-- The name of the entry that is kept, if one is, stands for it.
+abbrev pub IsKnown : Table → Option Last → Type 0
+IsKnown G last = IfSome last (λ l. IsInstName G l.entry.now.name l.opcode l.entry.now)

@@ -1,5 +1,5 @@
 -- What the reading of a line keeps and answers. (Own.)
-use Rattle.std.specs.Prelude.{◌≡◌, ◌≢◌, ◌++◌, ◌∷◌, [], ℕ, List, Option, true, false, map, option_and_then}
+use Rattle.std.specs.Prelude.{◌≡◌, ◌≢◌, ◌++◌, ◌∷◌, [], ℕ, List, Option, Some, None, true, false, map, option_and_then}
 use Rattle.spv_grammar.specs.Table.{Table, kind_of}
 use Rattle.spv_inst.specs.declared.form.Leaf.TheVariants as leaf
 use Rattle.spv_inst.specs.declared.form.Form.TheVariants.{Leaf}
@@ -77,12 +77,17 @@ pub record AreRead (G : Table) (r : Option ℕ) (before : List PlainInst) (opcod
   pub result : r ≡ result_in operands
   pub ids : IsOfOperands kept operands
 
+-- What is kept of operands is theirs; where nothing is, they have no result.
+abbrev pub AreKept : Option Ids → List Plain → Type 0
+AreKept (Some ids) os = IsOfOperands ids os
+AreKept None os = result_in os ≡ None
+
 -- A line was read: its instruction, and what is kept of it.
-pub record IsLine (G : Table) (before : List PlainInst) (line words : List ℕ) (number : ℕ) (kept : Ids) : Type 0 where
+pub record IsLine (G : Table) (before : List PlainInst) (line words : List ℕ) (number : ℕ) (kept : Option Ids) : Type 0 where
   pub inst : PlainInst
   pub read : IsReadLine G before inst words line
   pub opcode : inst.opcode ≡ number
-  pub ids : IsOfOperands kept inst.operands
+  pub ids : AreKept kept inst.operands
 
 -- a line fails with a code, or want of memory
 abbrev pub LineFailsOr : Table → List PlainInst → ℕ → List ℕ → AsmCode → Type 0

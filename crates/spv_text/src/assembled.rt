@@ -11,11 +11,14 @@ ghost use Rattle.spv_lines.specs.Text.{IsReadText, lines_of};
 ghost use Rattle.spv_inst.specs.Form.{form_of};
 ghost use Rattle.spv_text.specs.Kept.{Knows};
 ghost use Rattle.spv_text.specs.Lookup.{IsKnown};
-ghost use Rattle.spv_text.specs.Reading.{IsAsmFailure, LineFailsOr};
+ghost use Rattle.spv_text.specs.Noted.{IsNoted};
+ghost use Rattle.spv_text.specs.Reading.{AreKept, IsAsmFailure, LineFailsOr};
 ghost use Rattle.spv_text.specs.Lines.{HasLine, HasLines, IsTooLongOr, LinesFailOr, told_line};
 
 use crate::header::read_header;
 use crate::line::Setting;
+use crate::naming::Last;
+use crate::noted::Noted;
 use crate::reading::{Line, read_line};
 use crate::taking::Desk;
 use crate::types::Types;
@@ -60,6 +63,18 @@ fn put_instruction(draft: &mut Draft, opcode: u16, further: &[u32]) -> Result<()
     Ok(())
 }
 
+/// Keeps what a line tells of its instruction's result, if that has one.
+///
+/// An `AllocError` comes only where a growth of memory was refused, and then nothing is said of what is left.
+fn add_line(types: &mut Types, line: Line) -> Result<(), AllocError>
+    ensures { OnOk result ((before : List PlainInst) (i : PlainInst) → i.opcode ≡ line.opcode → AreKept line.ids i.operands → Knows types.old before → Knows types.new (before ++ i ∷ [])) }
+{
+    match line.ids {
+        Some(ids) => types.add(line.opcode, ids),
+        None => Ok(()),
+    }
+}
+
 /// The error of a line, by how many lines of instructions stand before it.
 fn line_error(code: AsmCode, before: u32) -> AsmError
     requires { before < 4294967290 }
@@ -73,22 +88,25 @@ fn line_error(code: AsmCode, before: u32) -> AsmError
 }
 
 /// Reads a line, and adds its instruction to a draft. After an error nothing is said of what is left.
-fn assemble_line<'t>(
+fn assemble_line<'t, 'a>(
     setting: &Setting<'t, '_>,
     desk: &mut Desk<'t>,
-    last: &mut Option<u16>,
+    last: &mut Option<Last<'t>>,
+    noted: &mut Option<Noted<'t, 'a>>,
     draft: &mut Draft,
-    line: &str,
+    line: &'a str,
 ) -> Result<Line, AsmCode>
     requires forms { setting.now.forms.now ≡ map form_of setting.now.table.now.kinds }
     requires known { (before : List PlainInst) × Knows setting.now.types.now before }
     requires short { length draft.old ≤ 4194304 }
     requires last { IsKnown setting.now.table.now last.old }
+    requires noted { IsNoted setting.now.table.now noted.old }
     ensures read { (before : List PlainInst) → Knows setting.now.types.now before → IfOk result (λ l. HasLine setting.now.table.now before line.now draft.old draft.new l.opcode l.ids) }
     ensures failed { (before : List PlainInst) → Knows setting.now.types.now before → IfErr result (λ e. LineFailsOr setting.now.table.now before (length draft.old) line.now e) }
     ensures last { IsKnown setting.now.table.now last.new }
+    ensures noted { IsNoted setting.now.table.now noted.new }
 {
-    let line = read_line(setting, desk, last, line)?;
+    let line = read_line(setting, desk, last, noted, line)?;
     put_instruction(draft, line.opcode, desk.words.as_slice())?;
     Ok(line)
 }
@@ -111,8 +129,10 @@ fn assemble_lines(
         agenda: Agenda::new(alloc),
         words: Vec::new(alloc),
         text: String::new(alloc),
+        slow: None,
     };
     let mut last = None;
+    let mut noted = None;
     let mut rest = text;
     let mut number = 0u32;
     while !rest.is_empty() {
@@ -122,8 +142,8 @@ fn assemble_lines(
             forms: forms.as_slice(),
             types: &types,
         };
-        match assemble_line(&setting, &mut desk, &mut last, draft, line) {
-            Ok(line) => types.add(line.opcode, line.ids)?,
+        match assemble_line(&setting, &mut desk, &mut last, &mut noted, draft, line) {
+            Ok(line) => add_line(&mut types, line)?,
             Err(code) => return Err(line_error(code, number)),
         }
         number += 1;

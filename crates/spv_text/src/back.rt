@@ -3,7 +3,7 @@
 ghost use Rattle.std.specs.Prelude.{◌≡◌, ◌≢◌, ◌<◌, ◌≤◌, ◌+◌, ◌^◌, ◌++◌, ◌∷◌, [], ℕ, List, Bool, true, false, Some, IfOk, IfSome, IsUtf8, codes, decimal, drop, length, string_bytes};
 ghost use Rattle.spv_grammar.specs.Table as grammar;
 ghost use Rattle.spv_grammar.specs.Table.{entry_of, kind_of};
-ghost use Rattle.spv_inst.specs.Module.{plain_inst, plain_operand, plain_operands};
+ghost use Rattle.spv_inst.specs.Module.{plain_operand, plain_operands};
 ghost use Rattle.spv_inst.specs.Operand.{PlainInst, Plain, result_in};
 ghost use Rattle.spv_inst.specs.Reading.{enumerants_at};
 ghost use Rattle.spv_lines.specs.Name.{shown_mask, shown_value};
@@ -16,7 +16,7 @@ use crate::names::Names;
 use itoa::write_digits;
 use memchr::memchr3;
 use spv_grammar::{Entry, Table};
-use spv_inst::{Inst, Operand};
+use spv_inst::Operand;
 use std::alloc::AllocError;
 use std::str::from_utf8_unchecked;
 
@@ -27,7 +27,7 @@ const SIZE: usize = 192;
 const LEAST: usize = 16;
 
 /// Puts ` %7` before a place, and gives where it begins.
-fn put_id(buffer: &mut [u8], id: u32, end: usize) -> usize
+pub fn put_id(buffer: &mut [u8], id: u32, end: usize) -> usize
     requires room { 16 ≤ end }
     requires within { end ≤ length buffer.old }
     ensures low { result ≤ end }
@@ -41,7 +41,7 @@ fn put_id(buffer: &mut [u8], id: u32, end: usize) -> usize
 }
 
 /// Puts ` 7` before a place, and gives where it begins.
-fn put_word(buffer: &mut [u8], word: u32, end: usize) -> usize
+pub fn put_word(buffer: &mut [u8], word: u32, end: usize) -> usize
     requires room { 16 ≤ end }
     requires within { end ≤ length buffer.old }
     ensures low { result ≤ end }
@@ -269,35 +269,54 @@ fn put_result(buffer: &mut [u8], id: Option<u32>, end: usize) -> Option<usize>
     Some(start - 1)
 }
 
+/// Puts the name of an instruction and its result before its operands, which begin at a place, and gives where the line begins.
+/// None where there is no room.
+#[inline(always)]
+pub fn put_head(
+    buffer: &mut [u8],
+    result_id: Option<u32>,
+    entry: &Entry,
+    end: usize,
+) -> Option<usize>
+    requires { end ≤ length buffer.old }
+    ensures within { IfSome result (λ at. at ≤ length buffer.new) }
+    ensures utf8 { (G : grammar.Table) (os : List Plain) (passed : Bool) → IsBack G os passed end buffer.old → IfSome result (λ at. IsUtf8 (drop at buffer.new)) }
+    ensures line { (G : grammar.Table) (before : List PlainInst) (i : PlainInst) (further line : List ℕ) (passed : Bool) → IsBack G i.operands passed end buffer.old → entry_of G i.opcode ≡ Some entry.now
+        → result_id ≡ result_in i.operands → shown_name G i.opcode entry.now ≡ entry.now.name → IsShownLine G before i further line → IfSome result (λ at. drop at buffer.new ≡ line ++ 10 ∷ []) }
+{
+    let name = entry.name.as_str();
+    if name.len() > end {
+        return None;
+    }
+    let at = put_octets(buffer, name.as_bytes(), end);
+    put_result(buffer, result_id, at)
+}
+
 /// Puts the line of an instruction at the end of a buffer, and gives where it begins. None where it is not put.
 fn put_line(
     buffer: &mut [u8],
     table: &Table,
     names: &Names,
     result_id: Option<u32>,
+    opcode: u16,
     entry: &Entry,
-    inst: &Inst,
+    operands: &[Operand],
 ) -> Option<usize>
     requires room { 0 < length buffer.old }
-    requires result { result_id ≡ result_in (plain_inst inst.now).operands }
-    requires entry { entry_of table.now (plain_inst inst.now).opcode ≡ Some entry.now }
+    requires result { result_id ≡ result_in (plain_operands operands.now) }
+    requires entry { entry_of table.now opcode ≡ Some entry.now }
     requires names { AreNames table.now names.now }
     ensures within { IfSome result (λ at. at ≤ length buffer.new) }
     ensures utf8 { IfSome result (λ at. IsUtf8 (drop at buffer.new)) }
-    ensures line { (before : List PlainInst) (further line : List ℕ) → IsShownLine table.now before (plain_inst inst.now) further line → IfSome result (λ at. drop at buffer.new ≡ line ++ 10 ∷ []) }
+    ensures line { (before : List PlainInst) (further line : List ℕ) → IsShownLine table.now before (record { opcode = opcode; operands = plain_operands operands.now }) further line → IfSome result (λ at. drop at buffer.new ≡ line ++ 10 ∷ []) }
 {
-    if !names.has_opcode(inst.opcode) {
+    if !names.has_opcode(opcode) {
         return None;
     }
-    let Some(cells) = put_cells(buffer, table, names, inst.operands.as_slice()) else {
+    let Some(cells) = put_cells(buffer, table, names, operands) else {
         return None;
     };
-    let name = entry.name.as_str();
-    if name.len() > cells.at {
-        return None;
-    }
-    let at = put_octets(buffer, name.as_bytes(), cells.at);
-    put_result(buffer, result_id, at)
+    put_head(buffer, result_id, entry, cells.at)
 }
 
 /// Adds the line of an instruction, with its line feed, if it fits the buffer and its names are known to be shown: whether it
@@ -309,17 +328,26 @@ pub fn push_short(
     table: &Table,
     names: &Names,
     result_id: Option<u32>,
+    opcode: u16,
     entry: &Entry,
-    inst: &Inst,
+    operands: &[Operand],
 ) -> Result<bool, AllocError>
-    requires result { result_id ≡ result_in (plain_inst inst.now).operands }
-    requires entry { entry_of table.now (plain_inst inst.now).opcode ≡ Some entry.now }
+    requires result { result_id ≡ result_in (plain_operands operands.now) }
+    requires entry { entry_of table.now opcode ≡ Some entry.now }
     requires names { AreNames table.now names.now }
-    ensures { (before : List PlainInst) (further line : List ℕ) → IsShownLine table.now before (plain_inst inst.now) further line
+    ensures { (before : List PlainInst) (further line : List ℕ) → IsShownLine table.now before (record { opcode = opcode; operands = plain_operands operands.now }) further line
         → IfOk result (λ b. (b ≡ true → string_bytes out.new ≡ string_bytes out.old ++ (line ++ 10 ∷ [])) × (b ≡ false → string_bytes out.new ≡ string_bytes out.old)) }
 {
     let mut buffer = [0u8; SIZE];
-    let Some(at) = put_line(&mut buffer, table, names, result_id, entry, inst) else {
+    let Some(at) = put_line(
+        &mut buffer,
+        table,
+        names,
+        result_id,
+        opcode,
+        entry,
+        operands,
+    ) else {
         return Ok(false);
     };
     out.push_str(unsafe { from_utf8_unchecked(&buffer[at..]) })?;

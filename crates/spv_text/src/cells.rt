@@ -19,12 +19,12 @@ ghost use Rattle.spv_text.specs.Cells.{IsFreeStep};
 use crate::ids::Ids;
 use crate::line::Setting;
 use crate::named::read_named;
-use crate::parameters::{joined, kinds_behind};
+use crate::parameters::kinds_behind;
 use crate::plain::{Behind, first_item, plain_step};
 use crate::taking::{is_break, is_text};
 use spv_grammar::{Item, Table};
 use spv_inst::Operand;
-use spv_inst::due::{Form, Leaf, form_in, push_operand, read_text};
+use spv_inst::due::{Form, Leaf, form_in, joined, push_operand, read_text};
 use spv_tokens::{Quotation, behind, read_unescaped, split_token};
 use std::alloc::AllocError;
 
@@ -99,7 +99,8 @@ fn take_named<'t, 'a>(
 }
 
 /// The text in quotes at the front, if it has no escapes and no zero octet and behind it the line ends or has a space.
-fn bare_quotes(rest: &str) -> Option<Quotation<'_>>
+#[inline(never)]
+pub fn bare_quotes(rest: &str) -> Option<Quotation<'_>>
     ensures { IfSome result (λ q. HasQuoted rest.now q.text.now q.rest.now) }
 {
     let Some(quotation) = read_unescaped(rest) else {

@@ -114,7 +114,7 @@ fn id_of(operand: &Operand) -> Option<u32>
 
 /// The first of two ids that is there.
 #[inline(always)]
-fn either(one: Option<u32>, other: Option<u32>) -> Option<u32>
+pub fn either(one: Option<u32>, other: Option<u32>) -> Option<u32>
     ensures { result ≡ kept.either one other }
 {
     match one {

@@ -3,7 +3,10 @@
 
 mod assembled;
 mod back;
+mod bare;
+mod by_words;
 mod cells;
+mod forward;
 mod header;
 mod ids;
 mod laws;
@@ -11,6 +14,9 @@ mod line;
 mod name;
 mod named;
 mod names;
+mod naming;
+mod near;
+mod noted;
 mod number;
 mod operand;
 mod operands;
@@ -18,12 +24,15 @@ mod parameters;
 mod plain;
 mod quoted;
 mod reading;
+mod short;
 mod shown;
 mod taking;
 mod token;
 mod types;
+mod valued;
 
 pub use assembled::assemble;
+pub use by_words::show_image;
 pub use laws::{decoded_assembles, one_assembling, shown_assembles};
 pub use shown::{show, show_listed};
 pub use spv_lines::{AsmCode, AsmError};

@@ -4,7 +4,7 @@ ghost use Rattle.std.specs.Prelude.{◌≡◌, ◌++◌, ◌∷◌, [], ℕ, Lis
 ghost use Rattle.spv_grammar.specs.Table.{entry_of};
 ghost use Rattle.spv_inst.specs.Form.{form_of};
 ghost use Rattle.spv_inst.specs.Operand.{PlainInst, start};
-ghost use Rattle.spv_inst.specs.Module.{plain_inst, plain_operands};
+ghost use Rattle.spv_inst.specs.Module.{plain_operands};
 ghost use Rattle.spv_inst.specs.Flat.{Due, due};
 ghost use Rattle.spv_inst.specs.Agenda.{items_of};
 ghost use Rattle.spv_inst.specs.Operand as operand;
@@ -23,8 +23,8 @@ use crate::number::push_front;
 use crate::operand::{is_passed, push_piece, push_plain};
 use crate::types::Types;
 use spv_grammar::{Entry, Item, Table};
+use spv_inst::Operand;
 use spv_inst::due::{Agenda, Form};
-use spv_inst::{Inst, Operand};
 use std::alloc::AllocError;
 
 /// The opcode of OpSwitch.
@@ -131,23 +131,23 @@ fn push_parts<'t>(
     names: &mut Names,
     agenda: &mut Agenda<'t>,
     ids: Ids,
+    opcode: u16,
     entry: &'t Entry,
-    inst: &Inst,
+    operands: &[Operand],
 ) -> Result<(), AllocError>
     requires forms { setting.now.forms.now ≡ map form_of setting.now.table.now.kinds }
-    requires entry { entry_of setting.now.table.now (plain_inst inst.now).opcode ≡ Some entry.now }
-    requires result { ids.result ≡ operand.result_in (plain_inst inst.now).operands }
-    requires type_id { ids.type_id ≡ operand.type_in (plain_inst inst.now).operands }
-    requires first { ids.first ≡ width.first_id (plain_inst inst.now).operands }
+    requires entry { entry_of setting.now.table.now opcode ≡ Some entry.now }
+    requires result { ids.result ≡ operand.result_in (plain_operands operands.now) }
+    requires type_id { ids.type_id ≡ operand.type_in (plain_operands operands.now) }
+    requires first { ids.first ≡ width.first_id (plain_operands operands.now) }
     requires names { AreNames setting.now.table.now names.old }
-    ensures text { (before : List PlainInst) (further line : List ℕ) → Knows setting.now.types.now before → IsShownLine setting.now.table.now before (plain_inst inst.now) further line
+    ensures text { (before : List PlainInst) (further line : List ℕ) → Knows setting.now.types.now before → IsShownLine setting.now.table.now before (record { opcode = opcode; operands = plain_operands operands.now }) further line
         → OnOk result (string_bytes out.new ≡ string_bytes out.old ++ (line ++ 10 ∷ [])) }
     ensures names { AreNames setting.now.table.now names.new }
 {
     push_result(out, ids.result)?;
-    push_name(out, setting.table, names, inst.opcode, entry)?;
-    let operands = inst.operands.as_slice();
-    if inst.opcode == SWITCH {
+    push_name(out, setting.table, names, opcode, entry)?;
+    if opcode == SWITCH {
         push_operands(
             out,
             setting,
@@ -163,7 +163,7 @@ fn push_parts<'t>(
     out.push('\n')
 }
 
-/// Adds the line of an instruction, with its line feed. `ids` are the instruction's own. Where no words spell the
+/// Adds the line of an instruction, with its line feed, by its opcode and operands. `ids` are its own. Where no words spell the
 /// instruction, nothing is said of what is added.
 ///
 /// An `AllocError` comes only where a growth of memory was refused, and then nothing is said of what is left.
@@ -173,22 +173,31 @@ pub fn push_line<'t>(
     names: &mut Names,
     agenda: &mut Agenda<'t>,
     ids: Ids,
-    inst: &Inst,
+    opcode: u16,
+    operands: &[Operand],
 ) -> Result<(), AllocError>
     requires forms { setting.now.forms.now ≡ map form_of setting.now.table.now.kinds }
-    requires result { ids.result ≡ operand.result_in (plain_inst inst.now).operands }
-    requires type_id { ids.type_id ≡ operand.type_in (plain_inst inst.now).operands }
-    requires first { ids.first ≡ width.first_id (plain_inst inst.now).operands }
+    requires result { ids.result ≡ operand.result_in (plain_operands operands.now) }
+    requires type_id { ids.type_id ≡ operand.type_in (plain_operands operands.now) }
+    requires first { ids.first ≡ width.first_id (plain_operands operands.now) }
     requires names { AreNames setting.now.table.now names.old }
-    ensures text { (before : List PlainInst) (further line : List ℕ) → Knows setting.now.types.now before → IsShownLine setting.now.table.now before (plain_inst inst.now) further line
+    ensures text { (before : List PlainInst) (further line : List ℕ) → Knows setting.now.types.now before → IsShownLine setting.now.table.now before (record { opcode = opcode; operands = plain_operands operands.now }) further line
         → OnOk result (string_bytes out.new ≡ string_bytes out.old ++ (line ++ 10 ∷ [])) }
     ensures names { AreNames setting.now.table.now names.new }
 {
-    let Some(entry) = setting.table.entry(inst.opcode) else {
+    let Some(entry) = setting.table.entry(opcode) else {
         return Ok(());
     };
-    if push_short(out, setting.table, names, ids.result, entry, inst)? {
+    if push_short(
+        out,
+        setting.table,
+        names,
+        ids.result,
+        opcode,
+        entry,
+        operands,
+    )? {
         return Ok(());
     }
-    push_parts(out, setting, names, agenda, ids, entry, inst)
+    push_parts(out, setting, names, agenda, ids, opcode, entry, operands)
 }

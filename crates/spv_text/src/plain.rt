@@ -60,7 +60,7 @@ pub fn first_item<'t>(items: &'t [Item]) -> Option<(u32, &'t [Item])>
 
 /// The id at the front of what is left of a line, behind a space and `%`.
 #[inline(always)]
-fn front_id(rest: &str) -> Option<Cell<'_>>
+pub fn front_id(rest: &str) -> Option<Cell<'_>>
     ensures { IfSome result (λ c. (c.number < 2 ^ 32) × HasCell rest.now (id_text c.number) c.rest.now) }
 {
     let Some(spaced) = behind(rest, b' ') else {
@@ -74,7 +74,7 @@ fn front_id(rest: &str) -> Option<Cell<'_>>
 
 /// The number at the front of what is left of a line, behind a space.
 #[inline(always)]
-fn front_word(rest: &str) -> Option<Cell<'_>>
+pub fn front_word(rest: &str) -> Option<Cell<'_>>
     ensures { IfSome result (λ c. (c.number < 2 ^ 32) × HasCell rest.now (decimal c.number) c.rest.now) }
 {
     let Some(spaced) = behind(rest, b' ') else {

@@ -8,24 +8,33 @@ ghost use Rattle.spv_grammar.specs.Lookups.{opcode_named};
 ghost use Rattle.spv_inst.specs.Form.{form_of};
 ghost use Rattle.spv_inst.specs.Operand.{Context, PlainInst};
 ghost use Rattle.spv_inst.specs.Shape.{alone, shape_of};
+ghost use Rattle.spv_inst.specs.Flat.{due};
 ghost use Rattle.spv_inst.specs.Agenda.{items_of};
 ghost use Rattle.spv_lines.specs.Line as spec;
-ghost use Rattle.spv_lines.specs.Line.{IsInstName, cut_at_equals, parts_of};
+ghost use Rattle.spv_lines.specs.Line.{IsInstName, before_space, cut_at_equals, parts_of};
 ghost use Rattle.spv_lines.specs.Fault.{is_result_shape, may_have_result, must_have_result};
+ghost use Rattle.spv_lines.specs.Operand.{id_text};
+ghost use Rattle.spv_lines.specs.Refusal.{IsBreak};
 ghost use Rattle.spv_tokens.specs.Answer.{IsNamed};
 ghost use Rattle.spv_text.specs.Kept.{Knows};
 ghost use Rattle.spv_text.specs.Reading.{IsLine, LineFailsOr};
 ghost use Rattle.spv_text.specs.Heading.{IsFront, IsOpcodeText, plain_parts};
 ghost use Rattle.spv_text.specs.Lookup.{IsKnown};
+ghost use Rattle.spv_text.specs.Cells.{AreBare, asked};
+ghost use Rattle.spv_text.specs.Noted.{IsNoted};
 
+use crate::bare::{begin_bare, read_bare};
 use crate::ids::Ids;
 use crate::line::Setting;
+use crate::naming::{Last, Named, named_again};
+use crate::noted::Noted;
 use crate::operands::read_operands;
 use crate::taking::Desk;
 use spv_grammar::{Entry, Item, Quantifier, Table};
 use spv_inst::due::{Form, Leaf, form_in};
 use spv_lines::AsmCode;
 use spv_tokens::{Misread, is_plain, read_behind, split_around, split_before, split_token};
+use std::alloc::AllocError;
 
 /// What a line is divided into.
 #[derive(Clone, Copy, Debug)]
@@ -37,11 +46,13 @@ pub struct Parts<'a> {
     pub operands: &'a str,
 }
 
-/// A line that was read: the opcode and the ids of its instruction.
+/// A line that was read.
 #[derive(Clone, Copy, Debug)]
 pub struct Line {
+    /// The opcode of its instruction.
     pub opcode: u16,
-    pub ids: Ids,
+    /// The ids of its instruction. None where that has no result.
+    pub ids: Option<Ids>,
 }
 
 /// Whether ` = ` stands at a place.
@@ -67,21 +78,9 @@ fn find_equals(text: &[u8]) -> Option<usize>
     None
 }
 
-/// The name at the front of a text, and the operands behind it.
-fn parts_behind<'a>(front: Option<&'a str>, text: &'a str) -> Parts<'a>
-    ensures { plain_parts result ≡ spec.parts_behind (option_map (λ t. t.now) front.entry) text.now }
-{
-    let (name, operands) = split_token(text);
-    Parts {
-        result: front,
-        name,
-        operands,
-    }
-}
-
-/// Divides a line. None where it begins with `%` and has no ` = `.
-fn divide(line: &str) -> Option<Parts<'_>>
-    ensures { option_map plain_parts result ≡ parts_of line.now }
+/// Cuts off what stands in front of ` = `, where a line begins with `%`. None where it does and has no ` = `.
+fn cut_front(line: &str) -> Option<(Option<&str>, &str)>
+    ensures { option_map (λ p. spec.parts_behind (option_map (λ t. t.now) p.0) (p.1).now) result ≡ parts_of line.now }
 {
     match line.as_bytes() {
         [b'%', ..] => {
@@ -90,9 +89,9 @@ fn divide(line: &str) -> Option<Parts<'_>>
             };
             let (front, _) = split_before(line, at);
             let (_, back) = split_around(line, at + 2);
-            Some(parts_behind(Some(front), back))
+            Some((Some(front), back))
         }
-        _ => Some(parts_behind(None, line)),
+        _ => Some((None, line)),
     }
 }
 
@@ -139,47 +138,47 @@ fn look_up<'t>(table: &'t Table, name: &str) -> Option<(u16, &'t Entry)>
     Some((opcode, entry))
 }
 
-/// The opcode that was looked up last and its entry, if the name is that of the entry.
-fn same_name<'t>(table: &'t Table, last: Option<u16>, name: &str) -> Option<(u16, &'t Entry)>
-    requires { IsKnown table.now last }
-    ensures { IfSome result (λ p. IsInstName table.now name.now p.0 p.1.now) }
-{
-    let Some(opcode) = last else {
-        return None;
-    };
-    let Some(entry) = table.entry(opcode) else {
-        return None;
-    };
-    if entry.name.as_str() == name {
-        return Some((opcode, entry));
-    }
-    None
-}
-
-/// The opcode that a name stands for, if the name is that of the opcode's entry.
-fn own_name(opcode: u16, entry: &Entry, name: &str) -> Option<u16>
+/// The instruction that a name stands for, if the name is that of its entry.
+fn own_name<'t>(opcode: u16, entry: &'t Entry, name: &str) -> Option<Last<'t>>
     ensures { (G : grammar.Table) → IsInstName G name.now opcode entry.now → IsKnown G result }
 {
     if entry.name.as_str() == name {
-        return Some(opcode);
+        return Some(Last { opcode, entry });
     }
     None
 }
 
-/// The same as `look_up`, by the name of the last line first.
-fn find_name<'t>(table: &'t Table, last: &mut Option<u16>, name: &str) -> Option<(u16, &'t Entry)>
+/// The parts of a line by what stands in front of ` = ` and what behind it, and the instruction that its name stands for, by
+/// the name of the last line first.
+fn name_parts<'t, 'a>(
+    table: &'t Table,
+    last: &mut Option<Last<'t>>,
+    front: Option<&'a str>,
+    text: &'a str,
+) -> Option<Named<'t, 'a>>
     requires { IsKnown table.now last.old }
-    ensures found { MatchOption result ((opcode : ℕ) (entry : code.Entry) → IsInstName table.now name.now opcode entry → ⊥) (λ p. IsInstName table.now name.now p.0 p.1.now) }
+    ensures parts { IfSome result (λ n. plain_parts n.parts ≡ spec.parts_behind (option_map (λ t. t.now) front.entry) text.now) }
+    ensures named { MatchOption result ((opcode : ℕ) (entry : code.Entry) → IsInstName table.now (before_space text.now) opcode entry → ⊥) (λ n. IsInstName table.now n.parts.name.now n.opcode n.entry.now) }
     ensures last { IsKnown table.now last.new }
 {
-    if let Some((opcode, entry)) = same_name(table, *last, name) {
-        return Some((opcode, entry));
+    if let Some(named) = named_again(*last, front, text) {
+        return Some(named);
     }
+    let (name, operands) = split_token(text);
     let Some((opcode, entry)) = look_up(table, name) else {
         return None;
     };
     *last = own_name(opcode, entry, name);
-    Some((opcode, entry))
+    let parts = Parts {
+        result: front,
+        name,
+        operands,
+    };
+    Some(Named {
+        parts,
+        opcode,
+        entry,
+    })
 }
 
 /// Whether a kind is that of a result.
@@ -257,33 +256,102 @@ fn read_front(forms: &[Form], pattern: &[Item], front: Option<&str>) -> Result<O
     }
 }
 
+/// Whether an opcode is the one that is kept, if one is.
+#[inline(always)]
+fn is_kept(kept: Option<u16>, opcode: u16) -> bool {
+    match kept {
+        Some(other) => other == opcode,
+        None => false,
+    }
+}
+
+/// Reads the operands of a line as far as `begin_bare` and `read_bare` do, and gives what is to be kept of them. Their words are
+/// then those of the desk. None where another operand is due, or something else stands there.
+///
+/// An `AllocError` comes only where a growth of memory was refused.
+#[inline(always)]
+fn read_quickly<'t, 'a>(
+    setting: &Setting<'t, '_>,
+    desk: &mut Desk<'t>,
+    noted: &mut Option<Noted<'t, 'a>>,
+    opcode: u16,
+    parts: Parts<'a>,
+    pattern: &'t [Item],
+) -> Result<Option<Option<Ids>>, AllocError>
+    requires forms { setting.now.forms.now ≡ map form_of setting.now.table.now.kinds }
+    requires broken { IsBreak parts.operands.now }
+    requires noted { IsNoted setting.now.table.now noted.old }
+    ensures read { (before : List PlainInst) (number : ℕ) → IfOk result (λ o. IfSome o (λ kept. AreBare setting.now.table.now kept before number (map due (items_of pattern.now)) parts.entry.operands.now desk.new.words.items)) }
+    ensures asked { IfOk result (λ o. IfSome o (λ kept. option_map (λ t. t.now) parts.entry.result ≡ option_map id_text (asked kept))) }
+    ensures noted { IsNoted setting.now.table.now noted.new }
+{
+    if is_kept(desk.slow, opcode) {
+        return Ok(None);
+    }
+    desk.words.clear();
+    let begun = begin_bare(
+        setting,
+        &mut desk.words,
+        parts.result,
+        pattern,
+        parts.operands,
+    )?;
+    let Some(front) = begun else {
+        desk.slow = Some(opcode);
+        return Ok(None);
+    };
+    if read_bare(
+        setting,
+        noted,
+        &mut desk.words,
+        pattern,
+        parts.operands,
+        front,
+    )? {
+        return Ok(Some(front.kept));
+    }
+    Ok(None)
+}
+
 /// Reads a line. Its further words are then those of the desk.
 ///
 /// # Errors
 ///
 /// `S2`: no known name of an instruction stands at its place. `S3`: an operand or a result is missing, one too many, ill-formed
 /// or unknown. `S4`: a number is too large for its place. `S6`: a growth of memory was refused.
-pub fn read_line<'t>(
+pub fn read_line<'t, 'a>(
     setting: &Setting<'t, '_>,
     desk: &mut Desk<'t>,
-    last: &mut Option<u16>,
-    line: &str,
+    last: &mut Option<Last<'t>>,
+    noted: &mut Option<Noted<'t, 'a>>,
+    line: &'a str,
 ) -> Result<Line, AsmCode>
     requires forms { setting.now.forms.now ≡ map form_of setting.now.table.now.kinds }
     requires known { (before : List PlainInst) × Knows setting.now.types.now before }
     requires last { IsKnown setting.now.table.now last.old }
+    requires noted { IsNoted setting.now.table.now noted.old }
     ensures read { (before : List PlainInst) → Knows setting.now.types.now before → IfOk result (λ l. IsLine setting.now.table.now before line.now desk.new.words.items l.opcode l.ids) }
     ensures failed { (before : List PlainInst) (written : ℕ) → Knows setting.now.types.now before → IfErr result (λ e. LineFailsOr setting.now.table.now before written line.now e) }
     ensures last { IsKnown setting.now.table.now last.new }
+    ensures noted { IsNoted setting.now.table.now noted.new }
 {
-    let Some(parts) = divide(line) else {
+    let Some((front, text)) = cut_front(line) else {
         return Err(AsmCode::S2);
     };
-    let Some((opcode, entry)) = find_name(setting.table, last, parts.name) else {
+    let Some(named) = name_parts(setting.table, last, front, text) else {
         return Err(AsmCode::S2);
     };
-    let pattern = entry.operands.as_slice();
+    let opcode = named.opcode;
+    let parts = named.parts;
+    let pattern = named.entry.operands.as_slice();
+    let quick = read_quickly(setting, desk, noted, opcode, parts, pattern)?;
+    if let Some(kept) = quick {
+        return Ok(Line { opcode, ids: kept });
+    }
     let result_id = read_front(setting.forms, pattern, parts.result)?;
     let ids = read_operands(setting, desk, opcode, result_id, pattern, parts.operands)?;
-    Ok(Line { opcode, ids })
+    Ok(Line {
+        opcode,
+        ids: Some(ids),
+    })
 }

@@ -18,7 +18,7 @@ use spv_words::Header;
 use std::alloc::{AllocError, Global};
 
 /// Adds the lines of a header, of version 1.6 and schema 0. Where memory runs out, nothing is said of what is left.
-fn push_header(out: &mut String, header: Header) -> Result<(), AllocError>
+pub fn push_header(out: &mut String, header: Header) -> Result<(), AllocError>
     ensures { OnOk result (string_bytes out.new ≡ string_bytes out.old ++ ended (header_lines header)) }
 {
     out.push_str("; SPIR-V\n; Version: 1.6\n; Generator: ")?;
@@ -47,8 +47,17 @@ fn push_lines(
             forms: forms.as_slice(),
             types: &types,
         };
-        let ids = Ids::of(inst.operands.as_slice());
-        push_line(out, &setting, &mut names, &mut agenda, ids, inst)?;
+        let operands = inst.operands.as_slice();
+        let ids = Ids::of(operands);
+        push_line(
+            out,
+            &setting,
+            &mut names,
+            &mut agenda,
+            ids,
+            inst.opcode,
+            operands,
+        )?;
         types.add(inst.opcode, ids)?;
     }
     Ok(())

@@ -53,6 +53,8 @@ pub struct Desk<'t> {
     pub words: Vec<u32>,
     /// A text without its quotes and escapes.
     pub text: String,
+    /// The opcode of the last line that does not begin as `begin_bare` takes it.
+    pub slow: Option<u16>,
 }
 
 /// Adds the words of an operand, and makes its parameters due. Where memory runs out, nothing is said of what is left.

@@ -1,4 +1,4 @@
-ghost use Rattle.std.specs.Prelude.{◌≡◌, ◌++◌, ◌∷◌, ◌<◌, ◌≤◌, [], ℕ, List, Some, None, nat_eq, slice_index_or, if◌then◌else◌, length, OnOk, option_and_then};
+ghost use Rattle.std.specs.Prelude.{◌≡◌, ◌++◌, ◌∷◌, ◌<◌, ◌≤◌, [], ℕ, List, Some, None, false, nat_eq, slice_index_or, if◌then◌else◌, length, OnOk, option_and_then};
 ghost use Rattle.spv_inst.specs.Operand.{PlainInst, result_in, type_in};
 ghost use Rattle.spv_inst.specs.Width as widths;
 ghost use Rattle.spv_inst.specs.Width.{type_of};
@@ -131,6 +131,25 @@ impl Types {
             type_id: ids.type_id,
             is_float: opcode == TYPE_FLOAT,
             width: width_of(opcode, ids.beginning),
+        };
+        self.reach = self.reach.saturating_add(REACH_FOR_EACH);
+        self.put(id, definition)
+    }
+
+    /// Goes on after one instruction more, with that result and that type of it, if it has one, which is neither OpTypeInt nor
+    /// OpTypeFloat.
+    ///
+    /// An `AllocError` comes only where a growth of memory was refused, and then nothing is said of what is left.
+    pub fn add_result(&mut self, id: u32, type_id: Option<u32>) -> Result<(), AllocError>
+        ensures knows { OnOk result ((before : List PlainInst) (i : PlainInst) → result_in i.operands ≡ Some id → type_in i.operands ≡ type_id → nat_eq i.opcode 21 ≡ false → nat_eq i.opcode 22 ≡ false
+            → Knows self.old before → Knows self.new (before ++ i ∷ [])) }
+        // The list may grow no less than before.
+        ensures reach { self.old.reach ≤ self.new.reach }
+    {
+        let definition = Definition {
+            type_id,
+            is_float: false,
+            width: None,
         };
         self.reach = self.reach.saturating_add(REACH_FOR_EACH);
         self.put(id, definition)

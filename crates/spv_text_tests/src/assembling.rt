@@ -1,8 +1,8 @@
 //! Texts and their images or faults, as worked out by hand.
 
 use spv_grammar::Table;
-use spv_inst::decode;
-use spv_text::{AsmCode, AsmError, assemble, show_listed};
+use spv_inst::{Fault, Rule, Stop, decode};
+use spv_text::{AsmCode, AsmError, assemble, show_image, show_listed};
 use spv_words::{Image, word};
 use std::alloc::Global;
 use std::test::Fail;
@@ -156,6 +156,62 @@ fn shows_what_decodes(rt: HostRuntime) -> Result<(), Fail> {
     let image = assemble(rt.alloc(), &table, text.as_str())?;
     let again = text_again(rt.alloc(), &table, &image)?;
     assert_eq!(rt; again.as_str(), text.as_str());
+    Ok(())
+}
+
+/// Lines as they are shown: names, values and masks that come once and again, texts with and without escapes, results and none.
+const SHOWN: &str = "OpCapability Kernel
+OpCapability Kernel
+OpName %1 \"main\"
+OpName %2 \"a\"
+OpName %3 \"\\\"b\\\"\"
+OpName %4294967295 \"\"
+%2 = OpTypeInt 32 0
+%3 = OpTypeFloat 32
+%4 = OpConstant %2 7
+%5 = OpConstant %3 0x40490fdb
+%9 = OpLoad %2 %8 Volatile|Aligned 4
+%10 = OpLoad %2 %8 Aligned 16
+%11 = OpLoad %2 %8 Aligned 4
+%12 = OpLoad %2 %8 None
+%13 = OpLoad %2 %8
+OpNop
+OpNop
+OpSwitch %4 %7 1 %8
+";
+
+#[test]
+fn shows_images(rt: HostRuntime) -> Result<(), Fail> {
+    let table = Table::from_slice(rt.alloc(), PROFILE.as_bytes())?;
+    let text = text_of(rt.alloc(), SHOWN)?;
+    let image = assemble(rt.alloc(), &table, text.as_str())?;
+    let Ok(shown) = show_image(rt.alloc(), &table, &image) else {
+        return Err(Fail::from("no text"));
+    };
+    assert_eq!(rt; shown.as_str(), text.as_str());
+    let again = text_again(rt.alloc(), &table, &image)?;
+    assert_eq!(rt; again.as_str(), text.as_str());
+    Ok(())
+}
+
+/// A grammar without OpNop.
+const BARE: &str = r#"{"instructions": [], "operand_kinds": []}"#;
+
+#[test]
+fn shows_no_dead_image(rt: HostRuntime) -> Result<(), Fail> {
+    let table = Table::from_slice(rt.alloc(), PROFILE.as_bytes())?;
+    let text = text_of(rt.alloc(), "OpNop\n")?;
+    let image = assemble(rt.alloc(), &table, text.as_str())?;
+    let bare = Table::from_slice(rt.alloc(), BARE.as_bytes())?;
+    let fault = Fault {
+        rule: Rule::I3,
+        inst: 0,
+        word: 5,
+    };
+    assert_eq!(rt;
+        show_image(rt.alloc(), &bare, &image).err(),
+        Some(Stop::Fault(fault))
+    );
     Ok(())
 }
 

@@ -1,6 +1,6 @@
 -- What a token is for the shapes of values and masks.
 use Rattle.std.proofs.Common.{◌≡◌, ◌∙◌, ◌<◌, ◌^◌, ℕ, List, [], ◌∷◌, Option, Some, None, Bool, true, false, ◌&&◌, nat_eq, is_some, option_and_then, refl, sym, ap, arith}
-use Rattle.std.specs.Prelude.{decimal, Result as Answer, Ok, Err}
+use Rattle.std.specs.Prelude.{decimal, not, option_map, Result as Answer, Ok, Err}
 use Rattle.std.proofs.lemmas.List.Splits.{join_with_byte-slice_split}
 use Rattle.std.proofs.lemmas.Bool.Decides.{nat_tests}
 use Rattle.spv_grammar.specs.declared.table.Enumerant.{Enumerant}
@@ -20,8 +20,9 @@ use Rattle.spv_lines.proofs.Naming.{cells_joined}
 use Rattle.spv_lines.proofs.Large.{place, mask_some}
 use Rattle.spv_tokens.specs.declared.misread.Misread.{Misread}
 use Rattle.spv_tokens.specs.declared.misread.Misread.TheVariants.{IllFormed, TooLarge}
-use Rattle.spv_tokens.specs.Answer.{IsBehind, IsNamed, IsNamedBits, IsNamedMask, IsValueText, IsMaskText, IsTaken, IsNone, cells, names_in}
+use Rattle.spv_tokens.specs.Answer.{IsBehind, IsNamed, IsNamedBits, IsNamedMask, IsValueText, IsMaskText, IsTaken, IsNone, cells, cells_left, names_in}
 use Rattle.spv_tokens.proofs.Taking.{Refused, over_marked}
+use Rattle.spv_tokens.proofs.CellNames.{no_first}
 
 looked : (o : Option Sort) (t : List ℕ) → option_and_then (λ s. value_named s.enumerants t) o ≡ value_named (enumerants_at o) t
 looked None t = refl
@@ -158,8 +159,26 @@ mask_refused G hex k t IllFormed b = record {
 bits_of : (x : ℕ) → 0 < x → mask_values x ≡ set_bits x
 bits_of x n = let e : nat_eq x 0 ≡ false = grind (arith, nat_tests) in rw e refl
 
-pub nought_named : (lookup : List ℕ → Option ℕ) (t : List ℕ) (x : ℕ) → IsNamed lookup t (Some x) → x ≡ 0 → IsNamedMask lookup t (Some 0)
-nought_named lookup t x n e = let n' : IsNameOf lookup 0 t = rw e at n in (t ∷ [], (n', tt), refl)
+-- a text of one name
+whole_cell : (lookup : List ℕ → Option ℕ) (t : List ℕ) (x : ℕ) → IsNameOf lookup x t → cells t ≡ t ∷ []
+whole_cell lookup t x n = cells_joined lookup (x ∷ []) (t ∷ []) (n, tt) (λ e. cc)
+
+some_cell : (t : List ℕ) → cells t ≡ [] → ⊥
+some_cell t e =
+    let f : t ≡ [] = sym (join_with_byte-slice_split 124 t) ∙ ap joined e in
+    let g : cells [] ≡ [] = rw f at e in
+    cc
+
+pub nought_named : {X : Type 0} (f : X → List ℕ) (lookup : List ℕ → Option ℕ) (t name : List ℕ) (x : ℕ) (rest : Option X) (b : Bool) → cells t ≡ name ∷ cells_left (option_map f rest) → IsNamed lookup name (Some x) → x ≡ 0
+    → is_some rest ≡ not b → b ≡ true → IsNamedMask lookup t (Some 0)
+nought_named f lookup t name x None b c n e g h = let n' : IsNameOf lookup 0 name = rw e at n in (name ∷ [], (n', tt), sym (join_with_byte-slice_split 124 t) ∙ ap joined c)
+nought_named f lookup t name x (Some u) b c n e g h = let k : true ≡ false = rw h at g in cc
+
+pub not_alone : {X : Type 0} (rest : Option X) (b : Bool) → is_some rest ≡ not b → b ≡ false → rest ≡ None → ⊥
+not_alone rest b g h e =
+    let k : false ≡ not b = rw e at g in
+    let m : false ≡ true = rw h at k in
+    cc
 
 pub bits_named : (lookup : List ℕ → Option ℕ) (t : List ℕ) (r : Option ℕ) → ((n : IsNameOf lookup 0 t) → ⊥) → IsNamedBits lookup t r → IsNamedMask lookup t r
 bits_named lookup t (Some x) d b =
@@ -195,3 +214,26 @@ bits_named lookup t None d b = λ x h ts n e. step x h ts n e (nat_eq x 0) refl
         let n' : AreNamesOf lookup (set_bits x) ts = rw (bits_of x p) at n in
         let n'' : AreNamesOf lookup (set_bits x) (cells t) = rw c' at n' in
         b x p h n''
+
+-- the first name is none
+pub no_first_named : (lookup : List ℕ → Option ℕ) (t name : List ℕ) (rest : Option (List ℕ)) → cells t ≡ name ∷ cells_left rest → IsNamed lookup name None → IsNamedMask lookup t None
+no_first_named lookup t name rest c n = bits_named lookup t None (λ z. let w = whole_cell lookup t 0 z in let e : t ≡ name = cc in let z' : IsNameOf lookup 0 name = rw e at z in n 0 z') (no_first lookup t name rest c n)
+
+-- the first name is not that of 0, or another one stands behind it
+pub first_named : {X : Type 0} (f : X → List ℕ) (lookup : List ℕ → Option ℕ) (t name : List ℕ) (x : ℕ) (rest : Option X) (r : Option ℕ) → cells t ≡ name ∷ cells_left (option_map f rest) → IsNamed lookup name (Some x) → (x ≡ 0 → rest ≡ None → ⊥) → IsNamedBits lookup t r
+    → IsNamedMask lookup t r
+first_named {X = X} f lookup t name x rest r c n d b = bits_named lookup t r (λ z. alone rest z c d) b
+  where
+    alone : (rest : Option X) → IsNameOf lookup 0 t → cells t ≡ name ∷ cells_left (option_map f rest) → (x ≡ 0 → rest ≡ None → ⊥) → ⊥
+    alone None z c d =
+        let w = whole_cell lookup t 0 z in
+        let e : t ≡ name = cc in
+        let z' : IsNameOf lookup 0 name = rw e at z in
+        let p = z'.found in
+        let q = n.found in
+        let g : x ≡ 0 = cc in
+        d g refl
+    alone (Some u) z c d =
+        let w = whole_cell lookup t 0 z in
+        let g : cells (f u) ≡ [] = cc in
+        some_cell (f u) g

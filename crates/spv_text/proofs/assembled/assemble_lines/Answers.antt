@@ -1,29 +1,29 @@
-use Rattle.std.proofs.Common.{sym, rules}
+use Rattle.std.proofs.Common.{rules}
 use Rattle.spv_lines.specs.Text.{lines_of}
 use Rattle.spv_text.proofs.Gathered.{lines_more, lines_failed, lines_done, lines_empty}
 use Rattle.spv_text.proofs.assembled.assemble_lines.Goals as goal
 
 pub returns-in-Err-clause-failed : goal.returns-in-Err-clause-failed
 returns-in-Err-clause-failed c =
-    let l = c.loop-rest in
+    let l = c.loop-last in
     let a = l.invariant.1 in
     rw c.line_error.ensures
     (lines_failed c.args.table.now (lines_of c.args.text.now) c.args.draft.now l.draft l.types c.split_line.result.0.now (lines_of l.rest.now) (lines_of c.split_line.result.1.now) l.number c.in-Err.code a c.split_line.ensures.lines
     (c.in-Err.ensures.failed a.insts a.types))
 
-pub loop-rest-preserved : goal.loop-rest-preserved
-loop-rest-preserved c =
-    let l = c.loop-rest in
+pub loop-last-preserved : goal.loop-last-preserved
+loop-last-preserved c =
+    let l = c.loop-last in
     let a = l.invariant.1 in
-    let h = c.in-Ok.ensures.read a.insts a.types in
-    let i = h.line.ids in (
+    let h = c.in-Ok.ensures.read a.insts a.types in (
       search rules,
-      lines_more c.args.table.now (lines_of c.args.text.now) c.args.draft.now l.draft c.assemble_line.new.draft l.types c.add.new.self c.split_line.result.0.now (lines_of l.rest.now) (lines_of c.split_line.result.1.now) l.number c.in-Ok.line.opcode
-          c.in-Ok.line.ids a c.split_line.ensures.lines h (c.in_ok-add-in-Ok.ensures.knows a.insts h.line.inst h.line.opcode (sym i.result) (sym i.type_id) (sym i.beginning) a.types),
+      lines_more c.args.table.now (lines_of c.args.text.now) c.args.draft.now l.draft c.assemble_line.new.draft l.types c.add_line.new.types c.split_line.result.0.now (lines_of l.rest.now) (lines_of c.split_line.result.1.now) l.number c.in-Ok.line.opcode
+          c.in-Ok.line.ids a c.split_line.ensures.lines h (c.in_ok-add_line-in-Ok.ensures a.insts h.line.inst h.line.opcode h.line.ids a.types),
       c.assemble_line.ensures.last,
+      c.assemble_line.ensures.noted,
     )
 
 pub returns-clause-read : goal.returns-clause-read
 returns-clause-read c =
-    let l = c.loop-rest in
-    lines_done c.args.table.now (lines_of c.args.text.now) c.args.draft.now l.draft l.types (lines_of l.rest.now) l.number l.invariant.1 (lines_empty c.is_empty.result l.rest.now c.is_empty.ensures c.loop-rest-test.false)
+    let l = c.loop-last in
+    lines_done c.args.table.now (lines_of c.args.text.now) c.args.draft.now l.draft l.types (lines_of l.rest.now) l.number l.invariant.1 (lines_empty c.is_empty.result l.rest.now c.is_empty.ensures c.loop-last-test.false)

@@ -17,7 +17,7 @@ loop-inst-preserved c =
     let o = c.inst-item.result in
     let h : i < length insts = omega arith in
     let e = c.inst-item.is ∙ ap (λ (xs : List Inst). get_or xs i o) c.deref-inst-items.ensures.value in
-    let v = c.as_slice-in-loop-inst.ensures.value in
+    let v = c.as_slice-operands.ensures.value in
     let r = sym (c.of-ids.ensures.result ∙ ap (λ (os : List Operand). result_in (plain_operands os)) v) in
     let t = sym (c.of-ids.ensures.type_id ∙ ap (λ (os : List Operand). type_in (plain_operands os)) v) in
     let b = sym (c.of-ids.ensures.beginning ∙ ap (λ (os : List Operand). beginning_of (plain_operands os)) v) in
@@ -26,7 +26,7 @@ loop-inst-preserved c =
       types = rw (insts_more insts i o o h e) k;
       shown = λ lines s.
           lines_step c.args.table.now insts lines (string_bytes c.args.out.now) (string_bytes c.loop-inst.out) (string_bytes c.push_line.new.out) i o o (c.loop-inst.invariant.shown lines s) h e
-          (λ further line l. c.in_ok-push_line.ensures.text (map plain_inst (take i insts)) further line c.loop-inst.invariant.types l);
+          (λ further line l. c.in_ok-push_line.ensures.text (map plain_inst (take i insts)) further line c.loop-inst.invariant.types (rw v l));
       names = c.in_ok-push_line.ensures.names;
     }
 

@@ -1,0 +1,26 @@
+use Rattle.std.proofs.Common.{◌≡◌, ◌≤◌, ◌+◌, ◌-◌, List, length, map, take, drop}
+use Rattle.spv_grammar.specs.Table.{Item}
+use Rattle.spv_inst.specs.Operand.{PlainInst, start}
+use Rattle.spv_inst.specs.Known.{Knows}
+use Rattle.spv_inst.specs.Module.{plain_operands}
+use Rattle.spv_inst.specs.Agenda.{agenda_due, due_first}
+use Rattle.spv_inst.specs.Flat.{due}
+use Rattle.spv_inst.specs.Reading.{between}
+use Rattle.spv_inst.specs.Sofar.{Sofar}
+use Rattle.spv_inst.proofs.Turns.{Turn}
+use Rattle.spv_inst.proofs.instruction.read_rest.Given as goal
+
+abbrev pub invariant-loop-at : goal.invariant-loop-at
+invariant-loop-at l = record {
+  after : l.rest.at ≤ l.at;
+  upto : l.at ≤ l.place.end;
+  room : l.begin ≤ length l.operands.items;
+  kept : take l.begin l.operands.items ≡ take l.begin l.fn.operands.items;
+  few : length l.operands.items + l.rest.at ≤ length l.fn.operands.items + l.at;
+  turn : (before : List PlainInst) (pattern : List Item) → Knows l.scene.definitions.now before
+      → Sofar l.scene.table.now (start before l.place.opcode) (map due pattern) (between l.scene.image.now l.place.first l.place.end) (plain_operands (drop l.begin l.fn.operands.items)) (due_first l.rest.kinds.now l.rest.items.now) (between l.scene.image.now l.rest.at l.place.end) (l.rest.at - l.place.first)
+      → Turn l.scene.table.now l.scene.definitions.now l.known before l.place.opcode pattern l.scene.image.now l.place.first l.at l.place.end (plain_operands (drop l.begin l.operands.items)) (agenda_due l.scene.table.now l.agenda);
+}
+
+abbrev pub decreases-loop-at : goal.decreases-loop-at
+decreases-loop-at l = l.place.end - l.at

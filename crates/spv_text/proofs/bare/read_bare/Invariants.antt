@@ -1,0 +1,17 @@
+use Rattle.std.proofs.Common.{ℕ, List, map, length}
+use Rattle.spv_inst.specs.Operand.{PlainInst}
+use Rattle.spv_inst.specs.Flat.{due}
+use Rattle.spv_inst.specs.Agenda.{due_first, items_of}
+use Rattle.spv_text.specs.Noted.{IsNoted}
+use Rattle.spv_text.specs.Cells.{BareSoFar}
+use denote.Shadow.{shadow}
+use denote.Text.{Utf8}
+use Rattle.spv_text.proofs.bare.read_bare.Given as goal
+
+abbrev pub invariant-loop-next : goal.invariant-loop-next
+invariant-loop-next l = shadow (Utf8 l.rest)
+    × ((before : List PlainInst) (opcode : ℕ) → BareSoFar l.setting.table.now l.front.kept before opcode (map due (items_of l.pattern)) l.operands (due_first l.kinds l.items) l.rest l.words.items)
+    × IsNoted l.setting.table.now l.noted
+
+abbrev pub decreases-loop-next : goal.decreases-loop-next
+decreases-loop-next l = length l.rest
