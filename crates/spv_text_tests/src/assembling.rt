@@ -4,7 +4,7 @@ use spv_grammar::Table;
 use spv_inst::{Fault, Rule, Stop, decode};
 use spv_text::{AsmCode, AsmError, assemble, show_image, show_listed};
 use spv_words::{Image, word};
-use std::alloc::Global;
+use std::alloc::{AllocError, Global};
 use std::test::Fail;
 
 /// Instructions of the profile, with their kinds.
@@ -139,12 +139,17 @@ fn reads_lines(rt: HostRuntime) -> Result<(), Fail> {
     Ok(())
 }
 
+/// Why an image that the test takes for a module's is none.
+fn refusal(stop: Stop) -> Fail {
+    match stop {
+        Stop::Memory => Fail::from(AllocError),
+        Stop::Fault(_) => Fail::from("no module"),
+    }
+}
+
 /// The text of the module of an image.
 fn text_again(alloc: Global, table: &Table, image: &Image) -> Result<String, Fail> {
-    let module = match decode(alloc, table, image) {
-        Ok(module) => module,
-        Err(_) => return Err(Fail::from("no module")),
-    };
+    let module = decode(alloc, table, image).map_err(refusal)?;
     let text = show_listed(alloc, table, &module)?;
     Ok(text)
 }
@@ -185,9 +190,7 @@ fn shows_images(rt: HostRuntime) -> Result<(), Fail> {
     let table = Table::from_slice(rt.alloc(), PROFILE.as_bytes())?;
     let text = text_of(rt.alloc(), SHOWN)?;
     let image = assemble(rt.alloc(), &table, text.as_str())?;
-    let Ok(shown) = show_image(rt.alloc(), &table, &image) else {
-        return Err(Fail::from("no text"));
-    };
+    let shown = show_image(rt.alloc(), &table, &image).map_err(refusal)?;
     assert_eq!(rt; shown.as_str(), text.as_str());
     let again = text_again(rt.alloc(), &table, &image)?;
     assert_eq!(rt; again.as_str(), text.as_str());
