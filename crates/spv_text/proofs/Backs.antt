@@ -1,6 +1,6 @@
 -- Lines that are put together from the back.
 use Rattle.std.proofs.Common.{◌≡◌, ◌++◌, ◌∙◌, ◌⊎◌, inl, inr, ◌<◌, ◌≤◌, ◌+◌, ◌-◌, ◌^◌, ℕ, suc, List, [], ◌∷◌, Option, Some, None, Bool, true, false, ◌&&◌, not, is_some, length, map, take, drop, set, refl, sym, ap, arith, append_assoc, length-drop, length-set, length-take-le, drop-drop, take_all}
-use Rattle.std.specs.Prelude.{IfSome, IsUtf8, codes, decimal, if◌then◌else◌}
+use Rattle.std.specs.Prelude.{⊤, IfSome, IsUtf8, codes, decimal, if◌then◌else◌}
 use Rattle.std.specs.List.{list_all}
 use Rattle.std.proofs.lemmas.List.{drop-set, drop_all}
 use Rattle.std.proofs.lemmas.Str.{IsUtf8-append, IsUtf8-from_ascii}
@@ -10,14 +10,15 @@ use Rattle.spv_grammar.specs.declared.table.Entry.{Entry}
 use Rattle.spv_grammar.specs.declared.table.Enumerant.{Enumerant}
 use Rattle.spv_grammar.specs.Table.{Table, entry_of, kind_of, pattern_of}
 use Rattle.spv_inst.specs.Reading.{enumerants_at}
-use Rattle.spv_inst.specs.Operand.{Plain, OfType, Result, Id, Word, Number, Text, Value, Mask, PlainInst, Context, start, and_then, result_in}
-use Rattle.spv_inst.specs.Shape.{Slot}
+use Rattle.spv_inst.specs.Operand.{Plain, OfType, Result, Id, Word, Number, Text, Value, Mask, PlainInst, Context, start, and_then, after, result_in}
+use Rattle.spv_inst.specs.Shape.{Slot, shape_of}
+use Rattle.spv_inst.specs.Spelling.{Takes}
 use Rattle.spv_inst.specs.Flat.{Due, OneOf, ManyOf, due}
 use Rattle.spv_lines.specs.Operand.{Shown, shown_operand, is_float, is_result, quoted, escaped, id_text}
 use Rattle.spv_lines.specs.Name.{shown_mask, shown_value}
 use Rattle.spv_lines.specs.Written.{Piece, Written}
 use Rattle.spv_lines.specs.Line.{IsShownLine, shown_name, shown_result}
-use Rattle.spv_text.specs.Back.{IsBack, IsPut, cell_of, cells_of, is_steady, results_of}
+use Rattle.spv_text.specs.Back.{IsBack, IsPut, IsTail, cell_of, cells_of, is_steady, results_of}
 use Rattle.spv_text.proofs.BitNames.{zero_mask}
 use Rattle.spv_text.proofs.Digits.{marked, twice_marked, marks_room, front_utf8}
 
@@ -61,31 +62,57 @@ no_front : (c : Context) (x : ℕ) (os : List Plain) → is_result c (Result x) 
 no_front c x os n (inl m) = omega arith
 no_front c x os n (inr m) = let e : not (is_some (result_in c.operands)) ≡ true = rw m.0 refl in let f : true ≡ false = sym e ∙ n in cc
 
-other_cell : (G : Table) (c : Context) (hex : Bool) (o : Plain) (os : List Plain) (t : List ℕ) → is_result c o ≡ false → t ≡ shown_operand G hex o → is_steady o ≡ true → IsLone c (o ∷ os) → 32 ∷ t ≡ cell_of G o
-other_cell G c hex (OfType x) os t n e s l = ap (λ z. 32 ∷ z) e
-other_cell G c hex (Result x) os t n e s l = absurd (no_front c x os n l)
-other_cell G c hex (Id x) os t n e s l = ap (λ z. 32 ∷ z) e
-other_cell G c hex (Word x) os t n e s l = ap (λ z. 32 ∷ z) e
-other_cell G c hex (Number a b w) os t n e s l = cc
-other_cell G c hex (Text u) os t n e s l = ap (λ z. 32 ∷ z) e
-other_cell G c hex (Value k x) os t n e s l = ap (λ z. 32 ∷ z) e
-other_cell G c hex (Mask k x) os t n e s l = ap (λ z. 32 ∷ z) e
+-- An operand is shown alike where it stands and where no number is a float.
+abbrev pub IsCalm : Table → Context → Plain → Type 0
+IsCalm G c o = (s : Slot) (ws : List ℕ) (ss : List Slot) → Takes s.kind (shape_of G c s) o ws ss → shown_operand G (is_float G c s) o ≡ shown_operand G false o
 
-piece_cell : (G : Table) (r : Option ℕ) (c : Context) (s : Slot) (o : Plain) (os : List Plain) (p : List ℕ) → Piece (Shown G) G r c s o p → is_steady o ≡ true → IsLone c (o ∷ os) → p ≡ cell_of G o
-piece_cell G r c s _ os _ (Piece.result x n e) st l = refl
-piece_cell G r c s _ os _ (Piece.other o t n e) st l = other_cell G c (is_float G c s) o os t n e st l
+abbrev pub AreCalm : Table → Context → List Plain → Type 0
+AreCalm G c [] = ⊤
+AreCalm G c (o ∷ os) = IsCalm G c o × AreCalm G (and_then c o) os
+
+steady_one : (G : Table) (c : Context) (o : Plain) → is_steady o ≡ true → IsCalm G c o
+steady_one G c (OfType x) e s ws ss t = refl
+steady_one G c (Result x) e s ws ss t = refl
+steady_one G c (Id x) e s ws ss t = refl
+steady_one G c (Word x) e s ws ss t = refl
+steady_one G c (Number a b w) e s ws ss t = cc
+steady_one G c (Text u) e s ws ss t = refl
+steady_one G c (Value k x) e s ws ss t = refl
+steady_one G c (Mask k x) e s ws ss t = refl
 
 both_true : (a b : Bool) → (a && b) ≡ true → (a ≡ true) × (b ≡ true)
 both_true true true e = (refl, refl)
 both_true true false e = cc
 both_true false b e = cc
 
-cells_shown : (G : Table) (r : Option ℕ) (c : Context) (ds : List Due) (os : List Plain) (us t : List ℕ) → Written (Shown G) G r c ds os us t → list_all is_steady os ≡ true → IsLone c os → t ≡ cells_of G os
+pub steady_calm : (G : Table) (c : Context) (os : List Plain) → list_all is_steady os ≡ true → AreCalm G c os
+steady_calm G c [] e = tt
+steady_calm G c (o ∷ os) e = let a = both_true (is_steady o) (list_all is_steady os) e in (steady_one G c o a.0, steady_calm G (and_then c o) os a.1)
+
+-- a last operand that is no steady one
+pub calm_snoc : (G : Table) (c : Context) (os : List Plain) (o : Plain) → list_all is_steady os ≡ true → IsCalm G (after c os) o → AreCalm G c (os ++ (o ∷ []))
+calm_snoc G c [] o e h = (h, tt)
+calm_snoc G c (p ∷ os) o e h = let a = both_true (is_steady p) (list_all is_steady os) e in (steady_one G c p a.0, calm_snoc G (and_then c p) os o a.1 h)
+
+other_cell : (G : Table) (c : Context) (hex : Bool) (o : Plain) (os : List Plain) (t : List ℕ) → is_result c o ≡ false → t ≡ shown_operand G false o → IsLone c (o ∷ os) → 32 ∷ t ≡ cell_of G o
+other_cell G c hex (OfType x) os t n e l = ap (λ z. 32 ∷ z) e
+other_cell G c hex (Result x) os t n e l = absurd (no_front c x os n l)
+other_cell G c hex (Id x) os t n e l = ap (λ z. 32 ∷ z) e
+other_cell G c hex (Word x) os t n e l = ap (λ z. 32 ∷ z) e
+other_cell G c hex (Number a b w) os t n e l = ap (λ z. 32 ∷ z) e
+other_cell G c hex (Text u) os t n e l = ap (λ z. 32 ∷ z) e
+other_cell G c hex (Value k x) os t n e l = ap (λ z. 32 ∷ z) e
+other_cell G c hex (Mask k x) os t n e l = ap (λ z. 32 ∷ z) e
+
+piece_cell : (G : Table) (r : Option ℕ) (c : Context) (s : Slot) (o : Plain) (os : List Plain) (p : List ℕ) → Piece (Shown G) G r c s o p → shown_operand G (is_float G c s) o ≡ shown_operand G false o → IsLone c (o ∷ os) → p ≡ cell_of G o
+piece_cell G r c s _ os _ (Piece.result x n e) st l = refl
+piece_cell G r c s _ os _ (Piece.other o t n e) st l = other_cell G c (is_float G c s) o os t n (e ∙ st) l
+
+pub cells_shown : (G : Table) (r : Option ℕ) (c : Context) (ds : List Due) (os : List Plain) (us t : List ℕ) → Written (Shown G) G r c ds os us t → AreCalm G c os → IsLone c os → t ≡ cells_of G os
 cells_shown G r _ _ _ _ _ (Written.end c) st l = refl
 cells_shown G r _ _ _ _ _ (Written.take c s ds o ws ss p os us t x y m) st l =
-    let a = both_true (is_steady o) (list_all is_steady os) st in
-    let e = piece_cell G r c s o os p y a.0 l in
-    let f = cells_shown G r (and_then c o) (map OneOf ss ++ ds) os us t m a.1 (lone_more c o os l) in
+    let e = piece_cell G r c s o os p y (st.0 s ws ss x) l in
+    let f = cells_shown G r (and_then c o) (map OneOf ss ++ ds) os us t m st.1 (lone_more c o os l) in
     ap (λ z. z ++ t) e ∙ ap (λ z. cell_of G o ++ z) f
 cells_shown G r _ _ _ _ _ (Written.parts c s ds ss os us t k m) st l = cells_shown G r c (map OneOf ss ++ ds) os us t m st l
 cells_shown G r _ _ _ _ _ (Written.no_maybe c s ds os t m) st l = cells_shown G r c ds os [] t m st l
@@ -93,23 +120,28 @@ cells_shown G r _ _ _ _ _ (Written.maybe c s ds os u us t m) st l = cells_shown 
 cells_shown G r _ _ _ _ _ (Written.no_many c s ds os t m) st l = cells_shown G r c ds os [] t m st l
 cells_shown G r _ _ _ _ _ (Written.many c s ds os u us t m) st l = cells_shown G r c (OneOf s ∷ ManyOf s ∷ ds) os (u ∷ us) t m st l
 
-lone_by : (b : Bool) (c : Context) (os : List Plain) → result_in c.operands ≡ None → results_of os ≡ (if b then 1 else 0) → IsLone c os
+pub lone_by : (b : Bool) (c : Context) (os : List Plain) → result_in c.operands ≡ None → results_of os ≡ (if b then 1 else 0) → IsLone c os
 lone_by true c os n e = inr (n, e)
 lone_by false c os n e = inl e
 
 same_some : (e f : Entry) (o : Option Entry) → o ≡ Some e → o ≡ Some f → f ≡ e
 same_some e f o g h = let i : Some f ≡ Some e = sym h ∙ g in cc
 
-pub line_put : (G : Table) (before : List PlainInst) (i : PlainInst) (further line name b1 b2 b3 : List ℕ) (e : Entry) (id : Option ℕ) (passed : Bool) (a1 a2 a3 : ℕ) → IsShownLine G before i further line → entry_of G i.opcode ≡ Some e → id ≡ result_in i.operands
-    → name ≡ shown_name G i.opcode e → IsBack G i.operands passed a1 b1 → drop a2 b2 ≡ name ++ drop a1 b1 → drop a3 b3 ≡ shown_result id ++ drop a2 b2 → drop a3 b3 ≡ line ++ (10 ∷ [])
-line_put G before i further line name b1 b2 b3 e id passed a1 a2 a3 h k j n b t u =
+-- what is put from the back is what is written of the operands
+pub back_tail : (G : Table) (before : List PlainInst) (i : PlainInst) (passed : Bool) (at : ℕ) (buffer : List ℕ) → IsBack G i.operands passed at buffer → IsTail G before i at buffer
+back_tail G before i passed at buffer b = λ r ds us t w.
+    let c = start before i.opcode in
+    b.text ∙ ap (λ z. z ++ (10 ∷ [])) (sym (cells_shown G r c ds i.operands us t w (steady_calm G c i.operands b.steady) (lone_by passed c i.operands refl b.count)))
+
+pub line_put : (G : Table) (before : List PlainInst) (i : PlainInst) (further line name b1 b2 b3 : List ℕ) (e : Entry) (id : Option ℕ) (a1 a2 a3 : ℕ) → IsShownLine G before i further line → entry_of G i.opcode ≡ Some e → id ≡ result_in i.operands
+    → name ≡ shown_name G i.opcode e → IsTail G before i a1 b1 → drop a2 b2 ≡ name ++ drop a1 b1 → drop a3 b3 ≡ shown_result id ++ drop a2 b2 → drop a3 b3 ≡ line ++ (10 ∷ [])
+line_put G before i further line name b1 b2 b3 e id a1 a2 a3 h k j n b t u =
     let f = same_some e h.entry (entry_of G i.opcode) k h.known in
-    let c = cells_shown G (result_in i.operands) (start before i.opcode) (map due (pattern_of h.entry)) i.operands further h.operands h.written b.steady (lone_by passed (start before i.opcode) i.operands refl b.count) in
+    let c = b (result_in i.operands) (map due (pattern_of h.entry)) further h.operands h.written in
     let name' : shown_name G i.opcode h.entry ≡ name = ap (shown_name G i.opcode) f ∙ sym n in
-    let cells = cells_of G i.operands in
-    let l : line ≡ shown_result id ++ (name ++ cells) = h.all ∙ (ap (λ z. shown_result z ++ (shown_name G i.opcode h.entry ++ h.operands)) (sym j) ∙ (ap (λ z. shown_result id ++ (z ++ h.operands)) name' ∙ ap (λ z. shown_result id ++ (name ++ z)) c)) in
-    let g : drop a3 b3 ≡ shown_result id ++ (name ++ (cells ++ (10 ∷ []))) = u ∙ (ap (λ z. shown_result id ++ z) t ∙ ap (λ z. shown_result id ++ (name ++ z)) b.text) in
-    let m : (shown_result id ++ (name ++ cells)) ++ (10 ∷ []) ≡ shown_result id ++ (name ++ (cells ++ (10 ∷ []))) = simp append_assoc in
+    let l : line ≡ shown_result id ++ (name ++ h.operands) = h.all ∙ (ap (λ z. shown_result z ++ (shown_name G i.opcode h.entry ++ h.operands)) (sym j) ∙ ap (λ z. shown_result id ++ (z ++ h.operands)) name') in
+    let g : drop a3 b3 ≡ shown_result id ++ (name ++ (h.operands ++ (10 ∷ []))) = u ∙ (ap (λ z. shown_result id ++ z) t ∙ ap (λ z. shown_result id ++ (name ++ z)) c) in
+    let m : (shown_result id ++ (name ++ h.operands)) ++ (10 ∷ []) ≡ shown_result id ++ (name ++ (h.operands ++ (10 ∷ []))) = simp append_assoc in
     g ∙ (sym m ∙ ap (λ z. z ++ (10 ∷ [])) (sym l))
 
 pub line_utf8 : (name b1 b2 b3 front : List ℕ) (a1 a2 a3 : ℕ) → IsUtf8 name → IsUtf8 front → IsUtf8 (drop a1 b1) → drop a2 b2 ≡ name ++ drop a1 b1 → drop a3 b3 ≡ front ++ drop a2 b2 → IsUtf8 (drop a3 b3)
@@ -261,12 +293,12 @@ pub mask_cell : (G : Table) (o : Plain) (k x end : ℕ) (r : Option ℕ) (old ne
 mask_cell G o k x end None old new e h = tt
 mask_cell G o k x end (Some at) old new e h = rw e (record { low = h.0; text = h.2; steady = refl; other = refl; utf8 = h.1 })
 
-pub line_utf8_at : (r : Option ℕ) (G : Table) (os : List Plain) (passed : Bool) (name b1 b2 b3 front : List ℕ) (a1 a2 : ℕ) → IsUtf8 name → IfSome r (λ at. IsUtf8 front) → IsBack G os passed a1 b1 → drop a2 b2 ≡ name ++ drop a1 b1
+pub line_utf8_at : (r : Option ℕ) (name b1 b2 b3 front : List ℕ) (a1 a2 : ℕ) → IsUtf8 name → IfSome r (λ at. IsUtf8 front) → IsUtf8 (drop a1 b1) → drop a2 b2 ≡ name ++ drop a1 b1
     → IfSome r (λ at. (at ≤ a2) × (drop at b3 ≡ front ++ drop a2 b2)) → IfSome r (λ at. IsUtf8 (drop at b3))
-line_utf8_at None G os passed name b1 b2 b3 front a1 a2 n f b t u = tt
-line_utf8_at (Some a3) G os passed name b1 b2 b3 front a1 a2 n f b t u = line_utf8 name b1 b2 b3 front a1 a2 a3 n f b.utf8 t u.1
+line_utf8_at None name b1 b2 b3 front a1 a2 n f b t u = tt
+line_utf8_at (Some a3) name b1 b2 b3 front a1 a2 n f b t u = line_utf8 name b1 b2 b3 front a1 a2 a3 n f b t u.1
 
-pub line_put_at : (r : Option ℕ) (G : Table) (before : List PlainInst) (i : PlainInst) (further line name b1 b2 b3 : List ℕ) (e : Entry) (id : Option ℕ) (passed : Bool) (a1 a2 : ℕ) → IsShownLine G before i further line → entry_of G i.opcode ≡ Some e → id ≡ result_in i.operands
-    → shown_name G i.opcode e ≡ e.name → name ≡ e.name → IsBack G i.operands passed a1 b1 → drop a2 b2 ≡ name ++ drop a1 b1 → IfSome r (λ at. (at ≤ a2) × (drop at b3 ≡ shown_result id ++ drop a2 b2)) → IfSome r (λ at. drop at b3 ≡ line ++ (10 ∷ []))
-line_put_at None G before i further line name b1 b2 b3 e id passed a1 a2 h k j n m b t u = tt
-line_put_at (Some a3) G before i further line name b1 b2 b3 e id passed a1 a2 h k j n m b t u = line_put G before i further line name b1 b2 b3 e id passed a1 a2 a3 h k j (m ∙ sym n) b t u.1
+pub line_put_at : (r : Option ℕ) (G : Table) (before : List PlainInst) (i : PlainInst) (further line name b1 b2 b3 : List ℕ) (e : Entry) (id : Option ℕ) (a1 a2 : ℕ) → IsShownLine G before i further line → entry_of G i.opcode ≡ Some e → id ≡ result_in i.operands
+    → shown_name G i.opcode e ≡ e.name → name ≡ e.name → IsTail G before i a1 b1 → drop a2 b2 ≡ name ++ drop a1 b1 → IfSome r (λ at. (at ≤ a2) × (drop at b3 ≡ shown_result id ++ drop a2 b2)) → IfSome r (λ at. drop at b3 ≡ line ++ (10 ∷ []))
+line_put_at None G before i further line name b1 b2 b3 e id a1 a2 h k j n m b t u = tt
+line_put_at (Some a3) G before i further line name b1 b2 b3 e id a1 a2 h k j n m b t u = line_put G before i further line name b1 b2 b3 e id a1 a2 a3 h k j (m ∙ sym n) b t u.1

@@ -1,25 +1,20 @@
 -- Lines that are put together one operand behind the other.
-use Rattle.std.proofs.Common.{◌≡◌, ◌++◌, ◌∙◌, ◌<◌, ◌≤◌, ◌+◌, ◌-◌, ℕ, List, [], ◌∷◌, Option, Some, None, Bool, true, false, ◌&&◌, get_or, is_some, length, map, suc, zero, take, drop, set, refl, sym, ap, arith, append_assoc, append-nil, length-append, length-drop, length-set, length-take-le}
+use Rattle.std.proofs.Common.{◌≡◌, ◌++◌, ◌∙◌, ◌<◌, ◌≤◌, ◌+◌, ◌-◌, ℕ, List, [], ◌∷◌, Option, Some, None, Bool, true, false, ◌&&◌, get_or, is_some, length, suc, zero, take, drop, set, refl, sym, ap, arith, append_assoc, append-nil, length-append, length-drop, length-set, length-take-le}
 use Rattle.std.specs.Prelude.{IsUtf8, if◌then◌else◌}
 use Rattle.std.specs.List.{list_all}
 use Rattle.std.proofs.lemmas.List.{take-append-le, drop-append-le, take_more, take_more_set, drop_all}
 use Rattle.std.proofs.lemmas.Str.{IsUtf8-append, IsUtf8-nil}
-use Rattle.std.proofs.Math.Seq.{take-append-add, take-append_seam, take-length}
+use Rattle.std.proofs.Math.Seq.{take-append-add, take-append_seam}
 use Rattle.std.proofs.lemmas.Bool.Decides.{nat_tests}
 use Rattle.memchr.specs.Find.{is_byte3}
-use Rattle.spv_grammar.specs.declared.table.Item as declared
 use Rattle.spv_grammar.specs.Table.{Table}
-use Rattle.spv_inst.specs.Agenda.{items_of}
-use Rattle.spv_inst.specs.Flat.{Due, due}
-use Rattle.spv_inst.specs.Reading.{between}
-use Rattle.spv_inst.specs.Sofar.{Sofar}
-use Rattle.spv_inst.specs.Operand.{Context, Plain, OfType, Result, Id, Word, Number, Text, Value, Mask, result_in, type_in}
+use Rattle.spv_inst.specs.Operand.{Plain, PlainInst, OfType, Result, Id, Word, Number, Text, Value, Mask, result_in, start, type_in}
 use Rattle.spv_lines.specs.Operand.{escaped, quoted, shown_operand}
-use Rattle.spv_text.specs.Back.{IsBack, cell_of, cells_of, is_steady, results_of}
+use Rattle.spv_text.specs.Back.{IsTail, cell_of, cells_of, is_steady, results_of}
 use Rattle.spv_text.specs.Begun.{either}
-use Rattle.spv_text.specs.Forward.{AreCells, IsAdded}
+use Rattle.spv_text.specs.Forward.{AreCells, AreCharacters, IsAdded, IsLineOf}
 use Rattle.spv_text.specs.declared.forward.Cells.{Cells}
-use Rattle.spv_text.proofs.Backs.{cell_by, feed_utf8}
+use Rattle.spv_text.proofs.Backs.{cell_by, cells_shown, feed_utf8, lone_by, steady_calm}
 use Rattle.spv_text.proofs.Escapes.{escaped-append, plain_escaped}
 use Rattle.spv_text.proofs.Begins.{result_snoc, type_snoc}
 
@@ -38,7 +33,7 @@ piece_taken cell piece rest start end room e l m h =
     let n : end - start ≡ length piece = omega arith in
     rw (e, n) (take-append_seam piece rest)
 
-cells_snoc : (G : Table) (os : List Plain) (o : Plain) → cells_of G (os ++ (o ∷ [])) ≡ cells_of G os ++ cell_of G o
+pub cells_snoc : (G : Table) (os : List Plain) (o : Plain) → cells_of G (os ++ (o ∷ [])) ≡ cells_of G os ++ cell_of G o
 cells_snoc G [] o = append-nil (cell_of G o)
 cells_snoc G (p ∷ os) o = ap (λ z. cell_of G p ++ z) (cells_snoc G os o) ∙ sym (append_assoc (cell_of G p) (cells_of G os) (cell_of G o))
 
@@ -50,7 +45,7 @@ steady_snoc (p ∷ os) o h e = next (is_steady p) (list_all is_steady os) (list_
     next true b c h f = f h
     next false b c h f = cc
 
-other_count : (os : List Plain) (o : Plain) → result_in (o ∷ []) ≡ None → results_of (os ++ (o ∷ [])) ≡ results_of os
+pub other_count : (os : List Plain) (o : Plain) → result_in (o ∷ []) ≡ None → results_of (os ++ (o ∷ [])) ≡ results_of os
 other_count [] (OfType x) n = refl
 other_count [] (Result x) n = cc
 other_count [] (Id x) n = refl
@@ -146,22 +141,32 @@ cells_result G os o x c next buffer e n a i r t =
     in
     rw e steps
 
+-- the operands are those of a line after any instructions
+pub cells_line : (G : Table) (before : List PlainInst) (i : PlainInst) (c : Cells) (buffer : List ℕ) → AreCells G i.operands c buffer → IsLineOf G before i c buffer
+cells_line G before i c buffer a =
+    let b = start before i.opcode in
+    record {
+      text = λ r ds us t w. a.text ∙ sym (cells_shown G r b ds i.operands us t w (steady_calm G b i.operands a.steady) (lone_by (is_some c.result) b i.operands refl a.count));
+      result = a.result;
+      type_id = a.type_id;
+    }
+
+pub cells_characters : (G : Table) (os : List Plain) (c : Cells) (buffer : List ℕ) → AreCells G os c buffer → AreCharacters c buffer
+cells_characters G os c buffer a = record { low = a.low; within = a.within; utf8 = a.utf8 }
+
 -- the line feed behind them
-pub cells_ended : (G : Table) (os : List Plain) (c : Cells) (buffer : List ℕ) → AreCells G os c buffer → c.at < length buffer → IsBack G os (is_some c.result) 128 (take (c.at + 1) (set buffer c.at 10))
-cells_ended G os c buffer a h =
+pub characters_ended : (c : Cells) (buffer : List ℕ) → AreCharacters c buffer → c.at < length buffer → drop 128 (take (c.at + 1) (set buffer c.at 10)) ≡ drop 128 (take c.at buffer) ++ (10 ∷ [])
+characters_ended c buffer a h =
     let low = a.low in
     let l = length-take-le c.at buffer a.within in
     let m = take_more_set buffer c.at 10 h in
-    let d : drop 128 (take (c.at + 1) (set buffer c.at 10)) ≡ drop 128 (take c.at buffer) ++ (10 ∷ []) = ap (drop 128) m ∙ drop-append-le 128 (take c.at buffer) (10 ∷ []) (omega arith) in
-    let n : length (take (c.at + 1) (set buffer c.at 10)) ≡ length (take c.at buffer ++ (10 ∷ [])) = ap length m in
-    let k = length-append (take c.at buffer) (10 ∷ []) in
-    record {
-      within = omega arith;
-      text = d ∙ ap (λ z. z ++ (10 ∷ [])) a.text;
-      steady = a.steady;
-      count = a.count;
-      utf8 = rw d (IsUtf8-append (drop 128 (take c.at buffer)) (10 ∷ []) a.utf8 feed_utf8);
-    }
+    ap (drop 128) m ∙ drop-append-le 128 (take c.at buffer) (10 ∷ []) (omega arith)
+
+pub ended_utf8 : (c : Cells) (buffer : List ℕ) → AreCharacters c buffer → c.at < length buffer → IsUtf8 (drop 128 (take (c.at + 1) (set buffer c.at 10)))
+ended_utf8 c buffer a h = rw (characters_ended c buffer a h) (IsUtf8-append (drop 128 (take c.at buffer)) (10 ∷ []) a.utf8 feed_utf8)
+
+pub ended_tail : (G : Table) (before : List PlainInst) (i : PlainInst) (c : Cells) (buffer : List ℕ) → AreCharacters c buffer → IsLineOf G before i c buffer → c.at < length buffer → IsTail G before i 128 (take (c.at + 1) (set buffer c.at 10))
+ended_tail G before i c buffer a l h = λ r ds us t w. characters_ended c buffer a h ∙ ap (λ z. z ++ (10 ∷ [])) (l.text r ds us t w)
 
 -- a text in quotes that is put octet by octet
 pub quoted_begun : (old : List ℕ) (at : ℕ) → at + 96 ≤ length old → take (at + 2 + 0) (set (set old at 32) (at + 1) 34) ≡ take at old ++ (32 ∷ 34 ∷ [])

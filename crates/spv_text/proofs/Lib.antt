@@ -29,4 +29,5 @@ pub mod Shorts
 pub mod Barely
 pub mod Labels
 pub mod Nearby
+pub mod Numbered
 pub mod Namely

@@ -1,9 +1,11 @@
 -- Lines that are put together from the back. (For the code alone.)
-use Rattle.std.specs.Prelude.{◌≡◌, ◌≤◌, ◌++◌, ◌∷◌, [], ℕ, suc, List, None, Bool, true, false, IsUtf8, length, drop, if◌then◌else◌}
+use Rattle.std.specs.Prelude.{◌≡◌, ◌≤◌, ◌++◌, ◌∷◌, [], ℕ, suc, List, Option, None, Bool, true, false, IsUtf8, length, drop, if◌then◌else◌}
 use Rattle.std.specs.List.{list_all}
 use Rattle.spv_grammar.specs.Table.{Table}
-use Rattle.spv_inst.specs.Operand.{Plain, Result, Number, result_in}
-use Rattle.spv_lines.specs.Operand.{shown_operand}
+use Rattle.spv_inst.specs.Flat.{Due}
+use Rattle.spv_inst.specs.Operand.{Plain, PlainInst, Result, Number, result_in, start}
+use Rattle.spv_lines.specs.Operand.{Shown, shown_operand}
+use Rattle.spv_lines.specs.Written.{Written}
 
 -- what an operand has in its line behind the name, a result nothing
 abbrev pub cell_of : Table → Plain → List ℕ
@@ -32,6 +34,11 @@ pub record IsBack (G : Table) (os : List Plain) (passed : Bool) (at : ℕ) (buff
   pub steady : list_all is_steady os ≡ true
   pub count : results_of os ≡ (if passed then 1 else 0)
   pub utf8 : IsUtf8 (drop at buffer)
+
+-- From a place on, a buffer has what is written for the operands of an instruction after those before it, and a line feed.
+abbrev pub IsTail : Table → List PlainInst → PlainInst → ℕ → List ℕ → Type 0
+IsTail G before i at buffer =
+    (r : Option ℕ) (ds : List Due) (us t : List ℕ) → Written (Shown G) G r (start before i.opcode) ds i.operands us t → drop at buffer ≡ t ++ (10 ∷ [])
 
 -- Before a place an operand was put, which is no result and no number.
 pub record IsPut (G : Table) (o : Plain) (end at : ℕ) (old new : List ℕ) : Type 0 where

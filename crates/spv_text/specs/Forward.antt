@@ -1,18 +1,19 @@
 -- Lines that are put together from words, one operand behind the other. (For the code alone.)
-use Rattle.std.specs.Prelude.{◌≡◌, ◌<◌, ◌≤◌, ◌+◌, ◌-◌, ◌++◌, ◌∷◌, [], ℕ, List, None, true, false, nat_eq, is_some, IsUtf8, length, drop, map, take, if◌then◌else◌}
+use Rattle.std.specs.Prelude.{◌≡◌, ◌<◌, ◌≤◌, ◌+◌, ◌-◌, ◌++◌, ◌∷◌, [], ℕ, List, Option, None, true, false, nat_eq, is_some, IsUtf8, length, drop, map, take, if◌then◌else◌}
 use Rattle.std.specs.List.{list_all}
 use Rattle.spv_grammar.specs.declared.table.Item.{Item}
 use Rattle.spv_grammar.specs.Table.{Table}
 use Rattle.spv_inst.specs.Agenda.{items_of}
 use Rattle.spv_inst.specs.Flat.{Due, due}
 use Rattle.spv_inst.specs.Instruction.{IsInstruction}
-use Rattle.spv_inst.specs.Operand.{Context, Plain, PlainInst, Text, result_in, type_in}
+use Rattle.spv_inst.specs.Operand.{Context, Plain, PlainInst, Text, result_in, start, type_in}
 use Rattle.spv_inst.specs.Reading.{between}
 use Rattle.spv_inst.specs.Shape.{AsText, alone, shape_of}
 use Rattle.spv_inst.specs.Sofar.{Sofar}
 use Rattle.spv_inst.specs.Spelling.{Match, Takes}
 use Rattle.spv_lines.specs.Line.{IsShownLine}
-use Rattle.spv_lines.specs.Operand.{quoted, shown_operand}
+use Rattle.spv_lines.specs.Operand.{Shown, quoted, shown_operand}
+use Rattle.spv_lines.specs.Written.{Written}
 use Rattle.spv_text.specs.Back.{cells_of, is_steady, results_of}
 use Rattle.spv_text.specs.declared.forward.Cells.{Cells}
 use Rattle.spv_text.specs.declared.forward.Direct.{Direct}
@@ -46,17 +47,29 @@ pub record AreCells (G : Table) (os : List Plain) (c : Cells) (buffer : List ℕ
   pub type_id : type_in os ≡ c.type_id
   pub utf8 : IsUtf8 (drop 128 (take c.at buffer))
 
+-- From place 128 up to the end of the cells a buffer has characters.
+pub record AreCharacters (c : Cells) (buffer : List ℕ) : Type 0 where
+  pub low : 128 ≤ c.at
+  pub within : c.at ≤ length buffer
+  pub utf8 : IsUtf8 (drop 128 (take c.at buffer))
+
+-- They are what is written for the operands of an instruction after those before it; what is kept of these is theirs.
+pub record IsLineOf (G : Table) (before : List PlainInst) (i : PlainInst) (c : Cells) (buffer : List ℕ) : Type 0 where
+  pub text : (r : Option ℕ) (ds : List Due) (us t : List ℕ) → Written (Shown G) G r (start before i.opcode) ds i.operands us t → drop 128 (take c.at buffer) ≡ t
+  pub result : result_in i.operands ≡ c.result
+  pub type_id : type_in i.operands ≡ c.type_id
+
 -- One operand more is that of a kind, by its words; the kinds of its parameters are these.
 pub record IsPiece (G : Table) (kind : ℕ) (words kinds : List ℕ) (c next : Cells) (old new : List ℕ) : Type 0 where
   pub operand : Plain
   pub takes : (b : Context) → Takes kind (shape_of G b (alone kind)) operand words (map alone kinds)
   pub added : (os : List Plain) → AreCells G os c old → AreCells G (os ++ (operand ∷ [])) next new
 
--- The operands in the buffer are those that words spell by a pattern.
-pub record AreWords (G : Table) (words : List ℕ) (pattern : List Item) (first end : ℕ) (c : Cells) (buffer : List ℕ) : Type 0 where
+-- The operands in the buffer are those that words spell by the pattern of an instruction after those before it.
+pub record IsSpelled (G : Table) (words : List ℕ) (before : List PlainInst) (opcode : ℕ) (pattern : List Item) (first end : ℕ) (c : Cells) (buffer : List ℕ) : Type 0 where
   pub operands : List Plain
-  pub cells : AreCells G operands c buffer
-  pub matches : (b : Context) → Match G b (items_of pattern) operands (between words first end)
+  pub line : IsLineOf G before (record { opcode = opcode; operands = operands }) c buffer
+  pub matches : Match G (start before opcode) (items_of pattern) operands (between words first end)
 
 -- The operands so far, what is due behind them, and the words that are left.
 pub record SoFarAdded (G : Table) (words : List ℕ) (pattern : List Item) (first at end : ℕ) (ds : List Due) (c : Cells) (buffer : List ℕ) : Type 0 where
@@ -71,11 +84,11 @@ pub record IsTold (i : PlainInst) (d : Direct) : Type 0 where
   pub no_integer : nat_eq i.opcode 21 ≡ false
   pub no_float : nat_eq i.opcode 22 ≡ false
 
--- The words from a place on are those of an instruction whose line was added to a text.
-pub record IsDirect (G : Table) (words old new : List ℕ) (at : ℕ) (d : Direct) : Type 0 where
+-- The words from a place on are those of an instruction, after those before it, whose line was added to a text.
+pub record IsDirect (G : Table) (words : List ℕ) (before : List PlainInst) (old new : List ℕ) (at : ℕ) (d : Direct) : Type 0 where
   pub inst : PlainInst
   pub some : at < d.end
   pub within : d.end ≤ length words
-  pub read : (before : List PlainInst) → IsInstruction G before inst (between words at d.end)
-  pub text : (before : List PlainInst) (further line : List ℕ) → IsShownLine G before inst further line → new ≡ old ++ (line ++ (10 ∷ []))
+  pub read : IsInstruction G before inst (between words at d.end)
+  pub text : (further line : List ℕ) → IsShownLine G before inst further line → new ≡ old ++ (line ++ (10 ∷ []))
   pub told : IsTold inst d

@@ -10,7 +10,7 @@ ghost use Rattle.spv_lines.specs.Name.{shown_mask, shown_value};
 ghost use Rattle.spv_lines.specs.Operand.{id_text, quoted, shown_operand};
 ghost use Rattle.spv_lines.specs.Line.{IsShownLine, shown_name, shown_result};
 ghost use Rattle.spv_text.specs.Named.{AreNames};
-ghost use Rattle.spv_text.specs.Back.{IsBack, IsPut, cells_of};
+ghost use Rattle.spv_text.specs.Back.{IsBack, IsPut, IsTail, cells_of};
 
 use crate::names::Names;
 use itoa::write_digits;
@@ -280,8 +280,8 @@ pub fn put_head(
 ) -> Option<usize>
     requires { end ≤ length buffer.old }
     ensures within { IfSome result (λ at. at ≤ length buffer.new) }
-    ensures utf8 { (G : grammar.Table) (os : List Plain) (passed : Bool) → IsBack G os passed end buffer.old → IfSome result (λ at. IsUtf8 (drop at buffer.new)) }
-    ensures line { (G : grammar.Table) (before : List PlainInst) (i : PlainInst) (further line : List ℕ) (passed : Bool) → IsBack G i.operands passed end buffer.old → entry_of G i.opcode ≡ Some entry.now
+    ensures utf8 { IsUtf8 (drop end buffer.old) → IfSome result (λ at. IsUtf8 (drop at buffer.new)) }
+    ensures line { (G : grammar.Table) (before : List PlainInst) (i : PlainInst) (further line : List ℕ) → IsTail G before i end buffer.old → entry_of G i.opcode ≡ Some entry.now
         → result_id ≡ result_in i.operands → shown_name G i.opcode entry.now ≡ entry.now.name → IsShownLine G before i further line → IfSome result (λ at. drop at buffer.new ≡ line ++ 10 ∷ []) }
 {
     let name = entry.name.as_str();

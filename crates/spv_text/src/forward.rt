@@ -1,6 +1,7 @@
 //! Lines that are put together from the words of an instruction, one operand behind the other, in a buffer.
 
-ghost use Rattle.std.specs.Prelude.{◌≡◌, ◌<◌, ◌≤◌, ◌+◌, ◌-◌, ◌++◌, ◌∷◌, [], ℕ, List, Some, true, false, IfOk, IfSome, IsUtf8, MatchOption, decimal, drop, length, map, take, string_bytes};
+ghost use Rattle.std.specs.Prelude.{⊤, ◌≡◌, ◌<◌, ◌≤◌, ◌+◌, ◌-◌, ◌++◌, ◌∷◌, [], ℕ, List, Some, true, false, IfOk, IfSome, IsUtf8, MatchOption, decimal, drop, length, map, take, string_bytes};
+ghost use Rattle.spv_grammar.specs.declared.table.Item as declared;
 ghost use Rattle.spv_grammar.specs.Table as grammar;
 ghost use Rattle.spv_grammar.specs.Table.{entry_of, kind_of};
 ghost use Rattle.spv_inst.specs.declared.form.Form.TheVariants.{Leaf as LeafForm};
@@ -11,13 +12,15 @@ ghost use Rattle.spv_inst.specs.Operand.{Plain, PlainInst, result_in};
 ghost use Rattle.spv_inst.specs.Reading.{between};
 ghost use Rattle.spv_lines.specs.Operand.{id_text};
 ghost use Rattle.spv_lines.specs.Line.{IsShownLine, shown_name};
-ghost use Rattle.spv_text.specs.Forward.{AreCells, AreWords, IsDirect, IsPiece, SoFarAdded};
+ghost use Rattle.spv_text.specs.Forward.{AreCells, AreCharacters, IsDirect, IsLineOf, IsPiece, IsSpelled, SoFarAdded};
+ghost use Rattle.spv_text.specs.Kept.{Knows};
 ghost use Rattle.spv_text.specs.Named.{AreNames};
 
 use crate::back::{put_head, put_id, put_word};
 use crate::ids::either;
 use crate::names::Names;
 use crate::short::put_short;
+use crate::types::Types;
 use crate::valued::{add_name, label_of};
 use spv_grammar::{Entry, Item, Table};
 use spv_inst::due::{Form, Leaf, form_in, joined, next_kind};
@@ -42,6 +45,9 @@ const TYPE_INT: u16 = 21;
 
 /// The opcode of OpTypeFloat.
 const TYPE_FLOAT: u16 = 22;
+
+/// The opcode of OpSwitch.
+const SWITCH: u16 = 251;
 
 /// What does not change from one instruction to the next.
 #[derive(Clone, Copy)]
@@ -309,12 +315,78 @@ fn add_front<'t>(
     Part { cells, items, at }
 }
 
-/// Adds the operands that the words of an instruction from `first` up to `end` are, both counted in words of the module from
-/// 0, by its pattern. None where an operand is not added, or the words are no such operands.
+/// Whether a kind of that form asks for a number whose type the instruction has.
+#[inline(always)]
+fn is_number(form: Form) -> bool
+    ensures { result ≡ true → form ≡ LeafForm leaf.ContextNumber }
+{
+    match form {
+        Form::Leaf(leaf) => match leaf {
+            Leaf::ContextNumber => true,
+            _ => false,
+        },
+        Form::Parts { .. } => false,
+    }
+}
+
+/// Adds the number that stands last among the operands of an instruction of the opcode, behind the part that is in the buffer,
+/// where its type is an integer type of at most 32 bits. `end` is the end of its words, counted in words of the module from 0.
+/// None for OpSwitch, where something else is due, and where there is no room, and then nothing is added.
+#[inline(always)]
+fn add_number(
+    buffer: &mut [u8],
+    source: &Source<'_, '_, '_>,
+    types: &Types,
+    opcode: u16,
+    part: Part<'_>,
+    end: u32,
+) -> Option<Cells>
+    requires forms { source.now.forms.now ≡ map form_of source.now.table.now.kinds }
+    requires fits { end ≤ length source.now.image.now }
+    ensures same { MatchOption result (buffer.new ≡ buffer.old) (λ c. ⊤) }
+    ensures put { (os : List Plain) → AreCells source.now.table.now os part.entry.cells buffer.old → IfSome result (λ c. AreCharacters c buffer.new) }
+    ensures line { (before : List PlainInst) (pattern : List declared.Item) (first : ℕ) → Knows types.now before → first ≤ part.entry.at
+        → SoFarAdded source.now.table.now source.now.image.now pattern first part.entry.at end (due_first [] part.entry.items.now) part.entry.cells buffer.old
+        → IfSome result (λ c. IsSpelled source.now.table.now source.now.image.now before opcode pattern first end c buffer.new) }
+{
+    let Part { cells, items, at } = part;
+    if at >= end || end - at > 1 || opcode == SWITCH {
+        return None;
+    }
+    let Some(next) = next_kind(&[], items, true) else {
+        return None;
+    };
+    if !next.kinds.is_empty() {
+        return None;
+    }
+    if !is_number(form_in(source.forms, next.kind)) {
+        return None;
+    }
+    if let Some(_) = next_kind(&[], next.items, false) {
+        return None;
+    }
+    if !types.is_narrow(cells.type_id) {
+        return None;
+    }
+    if cells.at >= buffer.len() || buffer.len() - cells.at < ROOM {
+        return None;
+    }
+    Some(Cells {
+        at: add_word(buffer, word(source.image, at), cells.at),
+        result: cells.result,
+        type_id: cells.type_id,
+    })
+}
+
+/// Adds the operands that the words of an instruction of the opcode from `first` up to `end` are, both counted in words of the
+/// module from 0, by its pattern. `types` are those that the instructions before tell. None where an operand is not added, or
+/// the words are no such operands.
 fn add_words(
     buffer: &mut [u8],
     source: &Source<'_, '_, '_>,
     names: &Names,
+    types: &Types,
+    opcode: u16,
     pattern: &[Item],
     first: u32,
     end: u32,
@@ -324,9 +396,14 @@ fn add_words(
     requires order { first ≤ end }
     requires fits { end ≤ length source.now.image.now }
     requires names { AreNames source.now.table.now names.now }
-    ensures { IfSome result (λ c. AreWords source.now.table.now source.now.image.now pattern.now first end c buffer.new) }
+    ensures put { IfSome result (λ c. AreCharacters c buffer.new) }
+    ensures line { (before : List PlainInst) → Knows types.now before → IfSome result (λ c. IsSpelled source.now.table.now source.now.image.now before opcode pattern.now first end c buffer.new) }
 {
     let part = add_front(buffer, source, pattern, first, end);
+    let numbered = add_number(buffer, source, types, opcode, part, end);
+    if let Some(cells) = numbered {
+        return Some(cells);
+    }
     let mut kinds: &[u32] = &[];
     let mut items = part.items;
     let mut at = part.at;
@@ -360,8 +437,8 @@ fn push_cells(
     entry: &Entry,
     cells: Cells,
 ) -> Result<bool, AllocError>
-    requires { (G : grammar.Table) × (os : List Plain) × AreCells G os cells buffer.old }
-    ensures line { (G : grammar.Table) (before : List PlainInst) (i : PlainInst) (further line : List ℕ) → AreCells G i.operands cells buffer.old → entry_of G i.opcode ≡ Some entry.now
+    requires { AreCharacters cells buffer.old }
+    ensures line { (G : grammar.Table) (before : List PlainInst) (i : PlainInst) (further line : List ℕ) → IsLineOf G before i cells buffer.old → entry_of G i.opcode ≡ Some entry.now
         → shown_name G i.opcode entry.now ≡ entry.now.name → IsShownLine G before i further line
         → IfOk result (λ b. b ≡ true → string_bytes out.new ≡ string_bytes out.old ++ (line ++ 10 ∷ [])) }
     ensures same { IfOk result (λ b. b ≡ false → string_bytes out.new ≡ string_bytes out.old) }
@@ -379,7 +456,8 @@ fn push_cells(
 }
 
 /// Adds the line of the instruction at a word, with its line feed, straight from its words, if these are an instruction whose
-/// name and operands can be put in the buffer, and which declares no width. None where they are not, and then nothing is added.
+/// name and operands can be put in the buffer, and which declares no width. `types` are those that the instructions before
+/// tell. None where they are not, and then nothing is added.
 ///
 /// An `AllocError` comes only where a growth of memory was refused, and then nothing is said of what is left.
 pub fn push_direct(
@@ -387,13 +465,15 @@ pub fn push_direct(
     buffer: &mut [u8],
     source: &Source<'_, '_, '_>,
     names: &Names,
+    types: &Types,
     at: u32,
 ) -> Result<Option<Direct>, AllocError>
     requires size { 128 ≤ length buffer.old }
     requires forms { source.now.forms.now ≡ map form_of source.now.table.now.kinds }
     requires fits { at < length source.now.image.now }
     requires names { AreNames source.now.table.now names.now }
-    ensures { IfOk result (λ o. MatchOption o (string_bytes out.new ≡ string_bytes out.old) (λ d. IsDirect source.now.table.now source.now.image.now (string_bytes out.old) (string_bytes out.new) at d)) }
+    ensures same { IfOk result (λ o. MatchOption o (string_bytes out.new ≡ string_bytes out.old) (λ d. ⊤)) }
+    ensures direct { (before : List PlainInst) → Knows types.now before → IfOk result (λ o. IfSome o (λ d. IsDirect source.now.table.now source.now.image.now before (string_bytes out.old) (string_bytes out.new) at d)) }
 {
     let head = word(source.image, at);
     let count = head / 65536;
@@ -415,7 +495,7 @@ pub fn push_direct(
     };
     let end = at + count;
     let pattern = entry.operands.as_slice();
-    let Some(cells) = add_words(buffer, source, names, pattern, at + 1, end) else {
+    let Some(cells) = add_words(buffer, source, names, types, opcode, pattern, at + 1, end) else {
         return Ok(None);
     };
     if push_cells(out, buffer, entry, cells)? {

@@ -1,10 +1,10 @@
-ghost use Rattle.std.specs.Prelude.{◌≡◌, ◌++◌, ◌∷◌, ◌<◌, ◌≤◌, [], ℕ, List, Some, None, false, nat_eq, slice_index_or, if◌then◌else◌, length, OnOk, option_and_then};
+ghost use Rattle.std.specs.Prelude.{◌≡◌, ◌++◌, ◌∷◌, ◌<◌, ◌≤◌, [], ℕ, List, Some, None, true, false, nat_eq, slice_index_or, if◌then◌else◌, length, OnOk, option_and_then};
 ghost use Rattle.spv_inst.specs.Operand.{PlainInst, result_in, type_in};
 ghost use Rattle.spv_inst.specs.Width as widths;
 ghost use Rattle.spv_inst.specs.Width.{type_of};
 ghost use Rattle.spv_lines.specs.Operand.{is_float_type};
 ghost use Rattle.spv_text.specs.Begun.{beginning_of, told_width};
-ghost use Rattle.spv_text.specs.Kept.{Knows, kept};
+ghost use Rattle.spv_text.specs.Kept.{IsNarrow, Knows, kept};
 
 use crate::ids::{Beginning, Ids};
 use std::alloc::{AllocError, Global};
@@ -182,6 +182,20 @@ impl Types {
                 None => None,
             },
             None => None,
+        }
+    }
+
+    /// Whether an id, if there is one, is that of an integer type of at most 32 bits.
+    #[inline(always)]
+    pub fn is_narrow(&self, type_id: Option<u32>) -> bool
+        ensures { (before : List PlainInst) → Knows self.now before → result ≡ true → IsNarrow before type_id }
+    {
+        if self.is_float(type_id) {
+            return false;
+        }
+        match self.width(type_id) {
+            Some(width) => width <= 32,
+            None => false,
         }
     }
 

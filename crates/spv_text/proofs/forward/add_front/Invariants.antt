@@ -1,4 +1,4 @@
-use Rattle.std.proofs.Common.{◌≤◌, ◌-◌, [], length}
+use Rattle.std.proofs.Common.{◌≤◌, ◌-◌, []}
 use Rattle.spv_inst.specs.Agenda.{due_first}
 use Rattle.spv_text.specs.Forward.{SoFarAdded}
 use Rattle.spv_text.proofs.forward.add_front.Given as goal

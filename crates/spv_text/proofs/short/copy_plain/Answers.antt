@@ -1,4 +1,4 @@
-use Rattle.std.proofs.Common.{◌≡◌, ◌≢◌, ◌<◌, ◌+◌, ◌++◌, ◌∙◌, [], refl, sym, arith, take, append-nil, length-set}
+use Rattle.std.proofs.Common.{◌≡◌, ◌≢◌, ◌<◌, ◌+◌, ◌∙◌, refl, sym, arith, take, append-nil, length-set}
 use Rattle.std.proofs.lemmas.List.{take_more}
 use Rattle.spv_text.proofs.Forwards.{plain_next}
 use Rattle.spv_text.proofs.Shorts.{all_snoc, copied_next}

@@ -1,4 +1,4 @@
-use Rattle.std.proofs.Common.{◌≡◌, ◌<◌, ◌≤◌, ◌+◌, ◌∙◌, length, length-set, set, take, refl, arith}
+use Rattle.std.proofs.Common.{◌≡◌, ◌<◌, ◌+◌, ◌∙◌, length, length-set, set, take, refl, arith}
 use Rattle.spv_inst.proofs.TextOctets.{each_all}
 use Rattle.spv_inst.proofs.TextPlaces.{takes}
 use Rattle.spv_text.proofs.Backs.{quoted_utf8}
