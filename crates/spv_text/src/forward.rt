@@ -12,7 +12,7 @@ ghost use Rattle.spv_inst.specs.Operand.{Plain, PlainInst, result_in};
 ghost use Rattle.spv_inst.specs.Reading.{between};
 ghost use Rattle.spv_lines.specs.Operand.{id_text};
 ghost use Rattle.spv_lines.specs.Line.{IsShownLine, shown_name};
-ghost use Rattle.spv_text.specs.Forward.{AreCells, AreCharacters, IsDirect, IsLineOf, IsPiece, IsSpelled, SoFarAdded};
+ghost use Rattle.spv_text.specs.Forward.{AreCells, AreCharacters, IsDirect, IsLineOf, IsNumberLast, IsPiece, IsSpelled, SoFarAdded};
 ghost use Rattle.spv_text.specs.Kept.{Knows};
 ghost use Rattle.spv_text.specs.Named.{AreNames};
 
@@ -329,6 +329,23 @@ fn is_number(form: Form) -> bool
     }
 }
 
+/// Whether a number whose type the instruction has is due for what is left of a pattern, and nothing has to stand behind it.
+#[inline(never)]
+fn is_number_last(forms: &[Form], items: &[Item]) -> bool
+    ensures { (G : grammar.Table) → forms.now ≡ map form_of G.kinds → result ≡ true → IsNumberLast G items.now }
+{
+    let Some(next) = next_kind(&[], items, true) else {
+        return false;
+    };
+    if !next.kinds.is_empty() {
+        return false;
+    }
+    if !is_number(form_in(forms, next.kind)) {
+        return false;
+    }
+    next_kind(&[], next.items, false).is_none()
+}
+
 /// Adds the number that stands last among the operands of an instruction of the opcode, behind the part that is in the buffer,
 /// where its type is an integer type of at most 32 bits. `end` is the end of its words, counted in words of the module from 0.
 /// None for OpSwitch, where something else is due, and where there is no room, and then nothing is added.
@@ -353,16 +370,7 @@ fn add_number(
     if at >= end || end - at > 1 || opcode == SWITCH {
         return None;
     }
-    let Some(next) = next_kind(&[], items, true) else {
-        return None;
-    };
-    if !next.kinds.is_empty() {
-        return None;
-    }
-    if !is_number(form_in(source.forms, next.kind)) {
-        return None;
-    }
-    if let Some(_) = next_kind(&[], next.items, false) {
+    if !is_number_last(source.forms, items) {
         return None;
     }
     if !types.is_narrow(cells.type_id) {

@@ -186,7 +186,7 @@ impl Types {
     }
 
     /// Whether an id, if there is one, is that of an integer type of at most 32 bits.
-    #[inline(always)]
+    #[inline(never)]
     pub fn is_narrow(&self, type_id: Option<u32>) -> bool
         ensures { (before : List PlainInst) → Knows self.now before → result ≡ true → IsNarrow before type_id }
     {

@@ -1,8 +1,4 @@
-use Rattle.std.proofs.Common.{◌∙◌, ◌∷◌, [], refl, sym, ap, arith}
-use Rattle.spv_inst.proofs.Frames.{by_empty}
-use Rattle.spv_inst.specs.Agenda.{due_first}
-use Rattle.spv_inst.specs.Flat.{OneOf}
-use Rattle.spv_inst.specs.Shape.{alone}
+use Rattle.std.proofs.Common.{refl, sym, arith}
 use Rattle.spv_text.proofs.Numbered.{number_characters, number_line, number_matches}
 use Rattle.spv_text.proofs.forward.add_number.Goals as goal
 
@@ -20,12 +16,9 @@ returns-clause-line c = λ before pattern first k f s.
     let x = c.word.result in
     let m = c.if-opcode-eq-SWITCH.false in
     let n = rw (sym s.cells.type_id) at (c.is_narrow.ensures before k c.if-not-is_narrow.false) in
-    let z = by_empty c.in-Some.next.kinds.now c.if-not-is_empty.ensures in
-    let es = due_first [] c.in-Some.next.items.now in
-    let e = c.in-Some.ensures ∙ ap (λ ks. OneOf (alone c.in-Some.next.kind) ∷ due_first ks c.in-Some.next.items.now) z in
-    let i = sym (c.form_in.ensures G c.requires.forms) ∙ c.is_number.ensures c.if-not-is_number.false in
+    let l = c.is_number_last.ensures G c.requires.forms c.if-not-is_number_last.false in
     record {
       operands = _;
       line = number_line c.args.types.now G before c.args.opcode x s.operands c.args.part.cells _ c.args.buffer.now c.add_word.new.buffer k m n s.cells c.add_word.ensures.text refl refl;
-      matches = number_matches G before c.args.opcode c.in-Some.next.kind x pattern s.operands _ es image first c.args.part.at c.args.end (s.front _) f (omega (arith, c.if-at-end.false)) (omega (arith, c.if-end-at-gt1.false)) c.requires.fits e (rw c.in_default-next_kind.is at c.next_kind-2.ensures) c.word.ensures i n;
+      matches = number_matches G before c.args.opcode l.kind x pattern s.operands _ l.behind image first c.args.part.at c.args.end (s.front _) f (omega (arith, c.if-at-end.false)) (omega (arith, c.if-end-at-gt1.false)) c.requires.fits l.first l.last c.word.ensures l.number n;
     }
