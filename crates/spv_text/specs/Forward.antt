@@ -2,12 +2,9 @@
 use Rattle.std.specs.Prelude.{◌≡◌, ◌<◌, ◌≤◌, ◌+◌, ◌-◌, ◌++◌, ◌∷◌, [], ℕ, List, Option, None, true, false, nat_eq, is_some, IsUtf8, length, drop, map, take, if◌then◌else◌}
 use Rattle.std.specs.List.{list_all}
 use Rattle.spv_grammar.specs.declared.table.Item.{Item}
-use Rattle.spv_grammar.specs.Table.{Table, kind_of}
-use Rattle.spv_inst.specs.declared.form.Form.TheVariants.{Leaf}
-use Rattle.spv_inst.specs.declared.form.Leaf.TheVariants as leaf
-use Rattle.spv_inst.specs.Agenda.{due_first, items_of, settled}
-use Rattle.spv_inst.specs.Flat.{Due, OneOf, due}
-use Rattle.spv_inst.specs.Form.{form_at}
+use Rattle.spv_grammar.specs.Table.{Table}
+use Rattle.spv_inst.specs.Agenda.{items_of}
+use Rattle.spv_inst.specs.Flat.{Due, due}
 use Rattle.spv_inst.specs.Instruction.{IsInstruction}
 use Rattle.spv_inst.specs.Operand.{Context, Plain, PlainInst, Text, result_in, start, type_in}
 use Rattle.spv_inst.specs.Reading.{between}
@@ -79,14 +76,6 @@ pub record SoFarAdded (G : Table) (words : List ℕ) (pattern : List Item) (firs
   pub operands : List Plain
   pub cells : AreCells G operands c buffer
   pub front : (b : Context) → Sofar G b (map due (items_of pattern)) (between words first end) operands ds (between words at end) (at - first)
-
--- What is left of a pattern asks for a number whose type the instruction has, and for nothing that has to stand behind it.
-pub record IsNumberLast (G : Table) (items : List Item) : Type 0 where
-  pub kind : ℕ
-  pub behind : List Due
-  pub first : settled true (due_first [] items) ≡ OneOf (alone kind) ∷ behind
-  pub last : settled false behind ≡ []
-  pub number : form_at (kind_of G kind) ≡ Leaf leaf.ContextNumber
 
 -- What is kept of an instruction is its own, and it declares no width.
 pub record IsTold (i : PlainInst) (d : Direct) : Type 0 where

@@ -6,13 +6,15 @@ ghost use Rattle.spv_grammar.specs.Table as grammar;
 ghost use Rattle.spv_grammar.specs.Table.{entry_of, kind_of};
 ghost use Rattle.spv_inst.specs.declared.form.Form.TheVariants.{Leaf as LeafForm};
 ghost use Rattle.spv_inst.specs.declared.form.Leaf.TheVariants as leaf;
-ghost use Rattle.spv_inst.specs.Agenda.{due_first};
+ghost use Rattle.spv_inst.specs.Agenda.{due_first, settled};
+ghost use Rattle.spv_inst.specs.Flat.{Due, OneOf};
+ghost use Rattle.spv_inst.specs.Shape.{alone};
 ghost use Rattle.spv_inst.specs.Form.{form_at, form_of};
 ghost use Rattle.spv_inst.specs.Operand.{Plain, PlainInst, result_in};
 ghost use Rattle.spv_inst.specs.Reading.{between};
 ghost use Rattle.spv_lines.specs.Operand.{id_text};
 ghost use Rattle.spv_lines.specs.Line.{IsShownLine, shown_name};
-ghost use Rattle.spv_text.specs.Forward.{AreCells, AreCharacters, IsDirect, IsLineOf, IsNumberLast, IsPiece, IsSpelled, SoFarAdded};
+ghost use Rattle.spv_text.specs.Forward.{AreCells, AreCharacters, IsDirect, IsLineOf, IsPiece, IsSpelled, SoFarAdded};
 ghost use Rattle.spv_text.specs.Kept.{Knows};
 ghost use Rattle.spv_text.specs.Named.{AreNames};
 
@@ -23,7 +25,7 @@ use crate::short::put_short;
 use crate::types::Types;
 use crate::valued::{add_name, label_of};
 use spv_grammar::{Entry, Item, Table};
-use spv_inst::due::{Form, Leaf, form_in, joined, next_kind};
+use spv_inst::due::{Form, Leaf, Next, form_in, joined, next_kind};
 use spv_words::{Image, word};
 use std::alloc::AllocError;
 use std::str::from_utf8_unchecked;
@@ -329,48 +331,32 @@ fn is_number(form: Form) -> bool
     }
 }
 
-/// Whether a number whose type the instruction has is due for what is left of a pattern, and nothing has to stand behind it.
+/// Adds the number that a word is, if it is the last one of an instruction of the opcode, nothing has to stand behind it, and its
+/// type is an integer type of at most 32 bits. `next` is what is due, `at` and `end` count in words of the module from 0. None
+/// also for OpSwitch, and where there is no room; then nothing is said of the buffer.
 #[inline(never)]
-fn is_number_last(forms: &[Form], items: &[Item]) -> bool
-    ensures { (G : grammar.Table) → forms.now ≡ map form_of G.kinds → result ≡ true → IsNumberLast G items.now }
-{
-    let Some(next) = next_kind(&[], items, true) else {
-        return false;
-    };
-    if !next.kinds.is_empty() {
-        return false;
-    }
-    if !is_number(form_in(forms, next.kind)) {
-        return false;
-    }
-    next_kind(&[], next.items, false).is_none()
-}
-
-/// Adds the number that stands last among the operands of an instruction of the opcode, behind the part that is in the buffer,
-/// where its type is an integer type of at most 32 bits. `end` is the end of its words, counted in words of the module from 0.
-/// None for OpSwitch, where something else is due, and where there is no room, and then nothing is added.
-#[inline(always)]
 fn add_number(
     buffer: &mut [u8],
     source: &Source<'_, '_, '_>,
     types: &Types,
     opcode: u16,
-    part: Part<'_>,
+    next: Next<'_>,
+    at: u32,
     end: u32,
+    cells: Cells,
 ) -> Option<Cells>
-    requires forms { source.now.forms.now ≡ map form_of source.now.table.now.kinds }
+    requires some { at < end }
     requires fits { end ≤ length source.now.image.now }
-    ensures same { MatchOption result (buffer.new ≡ buffer.old) (λ c. ⊤) }
-    ensures put { (os : List Plain) → AreCells source.now.table.now os part.entry.cells buffer.old → IfSome result (λ c. AreCharacters c buffer.new) }
-    ensures line { (before : List PlainInst) (pattern : List declared.Item) (first : ℕ) → Knows types.now before → first ≤ part.entry.at
-        → SoFarAdded source.now.table.now source.now.image.now pattern first part.entry.at end (due_first [] part.entry.items.now) part.entry.cells buffer.old
+    ensures put { (os : List Plain) → AreCells source.now.table.now os cells buffer.old → IfSome result (λ c. AreCharacters c buffer.new) }
+    ensures line { (before : List PlainInst) (pattern : List declared.Item) (ds : List Due) (first : ℕ) → Knows types.now before → first ≤ at
+        → form_at (kind_of source.now.table.now next.entry.kind) ≡ LeafForm leaf.ContextNumber → settled true ds ≡ OneOf (alone next.entry.kind) ∷ due_first next.entry.kinds.now next.entry.items.now
+        → SoFarAdded source.now.table.now source.now.image.now pattern first at end ds cells buffer.old
         → IfSome result (λ c. IsSpelled source.now.table.now source.now.image.now before opcode pattern first end c buffer.new) }
 {
-    let Part { cells, items, at } = part;
-    if at >= end || end - at > 1 || opcode == SWITCH {
+    if end - at > 1 || opcode == SWITCH {
         return None;
     }
-    if !is_number_last(source.forms, items) {
+    if let Some(_) = next_kind(next.kinds, next.items, false) {
         return None;
     }
     if !types.is_narrow(cells.type_id) {
@@ -408,10 +394,6 @@ fn add_words(
     ensures line { (before : List PlainInst) → Knows types.now before → IfSome result (λ c. IsSpelled source.now.table.now source.now.image.now before opcode pattern.now first end c buffer.new) }
 {
     let part = add_front(buffer, source, pattern, first, end);
-    let numbered = add_number(buffer, source, types, opcode, part, end);
-    if let Some(cells) = numbered {
-        return Some(cells);
-    }
     let mut kinds: &[u32] = &[];
     let mut items = part.items;
     let mut at = part.at;
@@ -420,6 +402,9 @@ fn add_words(
         let Some(next) = next_kind(kinds, items, true) else {
             return None;
         };
+        if is_number(form_in(source.forms, next.kind)) {
+            return add_number(buffer, source, types, opcode, next, at, end, cells);
+        }
         let Some(piece) = add_piece(buffer, source, names, next.kind, at, end, cells) else {
             return None;
         };

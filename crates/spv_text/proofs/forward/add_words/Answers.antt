@@ -1,4 +1,4 @@
-use Rattle.std.proofs.Common.{◌≤◌, ◌++◌, ◌∷◌, [], map, refl, arith}
+use Rattle.std.proofs.Common.{sym, ◌∙◌, ◌≤◌, ◌++◌, ◌∷◌, [], map, refl, arith}
 use Rattle.spv_inst.specs.Agenda.{items_of}
 use Rattle.spv_inst.specs.Flat.{due}
 use Rattle.spv_inst.specs.Operand.{PlainInst, start}
@@ -9,8 +9,7 @@ use Rattle.spv_text.proofs.forward.add_words.Goals as goal
 
 pub loop-at-init : goal.loop-at-init
 loop-at-init c =
-    let e = rw c.in_default.is at c.add_number-numbered.ensures.same in
-    record { from = c.add_front-part.ensures.from; upto = c.add_front-part.ensures.upto; added = rw e c.add_front-part.ensures.added }
+    record { from = c.add_front-part.ensures.from; upto = c.add_front-part.ensures.upto; added = c.add_front-part.ensures.added }
 
 pub loop-at-preserved : goal.loop-at-preserved
 loop-at-preserved c =
@@ -30,19 +29,19 @@ loop-at-preserved c =
         operands = a.operands ++ (e.operand ∷ []);
         cells = e.added a.operands a.cells;
         front = λ k.
-            words_next G k _ _ _ _ _ _ _ c.in-Some-next_kind.next.kind p.kinds.now c.args.source.now.image.now c.args.first c.loop-at.at c.args.end p.words _ (a.front k) f t c.requires.fits w1 c.in-Some-next_kind.ensures
+            words_next G k _ _ _ _ _ _ _ c.in-Some.next.kind p.kinds.now c.args.source.now.image.now c.args.first c.loop-at.at c.args.end p.words _ (a.front k) f t c.requires.fits w1 c.in-Some.ensures
             (e.takes _) refl
-            (due_joined p.kinds.now c.in-Some-next_kind.next.kinds.now c.in-Some-joined.due.now (map due (items_of c.in-Some-next_kind.next.items.now)) c.in-Some-joined.ensures);
+            (due_joined p.kinds.now c.in-Some.next.kinds.now c.in-Some-joined.due.now (map due (items_of c.in-Some.next.items.now)) c.in-Some-joined.ensures);
       };
     }
 
-pub returns-in-Some-clause-put : goal.returns-in-Some-clause-put
-returns-in-Some-clause-put c =
-    let a = c.add_front-part.ensures.added in
-    rw c.in-Some.is at (c.add_number-numbered.ensures.put a.operands a.cells)
+pub returns-then-is_number-clause-put : goal.returns-then-is_number-clause-put
+returns-then-is_number-clause-put c = let a = c.loop-at.invariant.added in c.add_number.ensures.put a.operands a.cells
 
-pub returns-in-Some-clause-line : goal.returns-in-Some-clause-line
-returns-in-Some-clause-line c = λ before k. rw c.in-Some.is at (c.add_number-numbered.ensures.line before c.args.pattern.now c.args.first k c.add_front-part.ensures.from c.add_front-part.ensures.added)
+pub returns-then-is_number-clause-line : goal.returns-then-is_number-clause-line
+returns-then-is_number-clause-line c = λ before k.
+    let i = sym (c.form_in.ensures c.args.source.now.table.now c.requires.forms) ∙ c.is_number.ensures c.if-is_number.true in
+    c.add_number.ensures.line before c.args.pattern.now _ c.args.first k c.loop-at.invariant.from i c.in-Some.ensures c.loop-at.invariant.added
 
 pub returns-in-None-clause-put : goal.returns-in-None-clause-put
 returns-in-None-clause-put c = let a = c.loop-at.invariant.added in cells_characters c.args.source.now.table.now a.operands _ _ a.cells
