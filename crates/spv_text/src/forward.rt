@@ -14,7 +14,7 @@ ghost use Rattle.spv_inst.specs.Operand.{Plain, PlainInst, result_in};
 ghost use Rattle.spv_inst.specs.Reading.{between};
 ghost use Rattle.spv_lines.specs.Operand.{id_text};
 ghost use Rattle.spv_lines.specs.Line.{IsShownLine, shown_name};
-ghost use Rattle.spv_text.specs.Forward.{AreCells, AreCharacters, IsDirect, IsLineOf, IsPiece, IsSpelled, SoFarAdded};
+ghost use Rattle.spv_text.specs.Forward.{AreCells, AreCharacters, IsDirect, IsHead, IsLineOf, IsPiece, IsSpelled, SoFarAdded};
 ghost use Rattle.spv_text.specs.Kept.{Knows};
 ghost use Rattle.spv_text.specs.Named.{AreNames};
 
@@ -25,7 +25,7 @@ use crate::short::put_short;
 use crate::types::Types;
 use crate::valued::{add_name, label_of};
 use spv_grammar::{Entry, Item, Table};
-use spv_inst::due::{Form, Leaf, Next, form_in, joined, next_kind};
+use spv_inst::due::{Form, Leaf, form_in, joined, next_kind};
 use spv_words::{Image, word};
 use std::alloc::AllocError;
 use std::str::from_utf8_unchecked;
@@ -48,8 +48,11 @@ const TYPE_INT: u16 = 21;
 /// The opcode of OpTypeFloat.
 const TYPE_FLOAT: u16 = 22;
 
-/// The opcode of OpSwitch.
-const SWITCH: u16 = 251;
+/// The opcode of OpConstant.
+const CONSTANT: u16 = 43;
+
+/// The opcode of OpSpecConstant.
+const SPEC_CONSTANT: u16 = 50;
 
 /// What does not change from one instruction to the next.
 #[derive(Clone, Copy)]
@@ -88,6 +91,15 @@ struct Part<'t> {
     items: &'t [Item],
     /// The number of the next word in the module, from 0.
     at: u32,
+}
+
+/// An instruction whose words are there.
+#[derive(Clone, Copy, Debug)]
+struct Head<'t> {
+    opcode: u16,
+    entry: &'t Entry,
+    /// The number of the word behind it.
+    end: u32,
 }
 
 /// An instruction whose line was added.
@@ -331,29 +343,35 @@ fn is_number(form: Form) -> bool
     }
 }
 
-/// Adds the number that a word is, if it is the last one of an instruction of the opcode, nothing has to stand behind it, and its
-/// type is an integer type of at most 32 bits. `next` is what is due, `at` and `end` count in words of the module from 0. None
-/// also for OpSwitch, and where there is no room; then nothing is said of the buffer.
-#[inline(never)]
-fn add_number(
+/// Adds the operands that the words of an instruction of the opcode from `first` up to `end` are, both counted in words of the
+/// module from 0, by its pattern: ids and literals of one word, and last a number of an integer type of at most 32 bits. `types`
+/// are those that the instructions before tell. None where they are others, or there is no room.
+#[inline(always)]
+fn add_numbered(
     buffer: &mut [u8],
     source: &Source<'_, '_, '_>,
     types: &Types,
     opcode: u16,
-    next: Next<'_>,
-    at: u32,
+    pattern: &[Item],
+    first: u32,
     end: u32,
-    cells: Cells,
 ) -> Option<Cells>
-    requires some { at < end }
+    requires size { 128 ≤ length buffer.old }
+    requires forms { source.now.forms.now ≡ map form_of source.now.table.now.kinds }
+    requires order { first ≤ end }
     requires fits { end ≤ length source.now.image.now }
-    ensures put { (os : List Plain) → AreCells source.now.table.now os cells buffer.old → IfSome result (λ c. AreCharacters c buffer.new) }
-    ensures line { (before : List PlainInst) (pattern : List declared.Item) (ds : List Due) (first : ℕ) → Knows types.now before → first ≤ at
-        → form_at (kind_of source.now.table.now next.entry.kind) ≡ LeafForm leaf.ContextNumber → settled true ds ≡ OneOf (alone next.entry.kind) ∷ due_first next.entry.kinds.now next.entry.items.now
-        → SoFarAdded source.now.table.now source.now.image.now pattern first at end ds cells buffer.old
-        → IfSome result (λ c. IsSpelled source.now.table.now source.now.image.now before opcode pattern first end c buffer.new) }
+    requires other { opcode ≡ 251 → ⊥ }
+    ensures put { IfSome result (λ c. AreCharacters c buffer.new) }
+    ensures line { (before : List PlainInst) → Knows types.now before → IfSome result (λ c. IsSpelled source.now.table.now source.now.image.now before opcode pattern.now first end c buffer.new) }
 {
-    if end - at > 1 || opcode == SWITCH {
+    let Part { cells, items, at } = add_front(buffer, source, pattern, first, end);
+    if at >= end || end - at > 1 {
+        return None;
+    }
+    let Some(next) = next_kind(&[], items, true) else {
+        return None;
+    };
+    if !is_number(form_in(source.forms, next.kind)) {
         return None;
     }
     if let Some(_) = next_kind(next.kinds, next.items, false) {
@@ -372,15 +390,12 @@ fn add_number(
     })
 }
 
-/// Adds the operands that the words of an instruction of the opcode from `first` up to `end` are, both counted in words of the
-/// module from 0, by its pattern. `types` are those that the instructions before tell. None where an operand is not added, or
-/// the words are no such operands.
+/// Adds the operands that the words of an instruction from `first` up to `end` are, both counted in words of the module from
+/// 0, by its pattern. None where an operand is not added, or the words are no such operands.
 fn add_words(
     buffer: &mut [u8],
     source: &Source<'_, '_, '_>,
     names: &Names,
-    types: &Types,
-    opcode: u16,
     pattern: &[Item],
     first: u32,
     end: u32,
@@ -391,7 +406,7 @@ fn add_words(
     requires fits { end ≤ length source.now.image.now }
     requires names { AreNames source.now.table.now names.now }
     ensures put { IfSome result (λ c. AreCharacters c buffer.new) }
-    ensures line { (before : List PlainInst) → Knows types.now before → IfSome result (λ c. IsSpelled source.now.table.now source.now.image.now before opcode pattern.now first end c buffer.new) }
+    ensures line { (before : List PlainInst) (opcode : ℕ) → IfSome result (λ c. IsSpelled source.now.table.now source.now.image.now before opcode pattern.now first end c buffer.new) }
 {
     let part = add_front(buffer, source, pattern, first, end);
     let mut kinds: &[u32] = &[];
@@ -402,9 +417,6 @@ fn add_words(
         let Some(next) = next_kind(kinds, items, true) else {
             return None;
         };
-        if is_number(form_in(source.forms, next.kind)) {
-            return add_number(buffer, source, types, opcode, next, at, end, cells);
-        }
         let Some(piece) = add_piece(buffer, source, names, next.kind, at, end, cells) else {
             return None;
         };
@@ -448,12 +460,74 @@ fn push_cells(
     Ok(true)
 }
 
-/// Adds the line of the instruction at a word, with its line feed, straight from its words, if these are an instruction whose
-/// name and operands can be put in the buffer, and which declares no width. `types` are those that the instructions before
-/// tell. None where they are not, and then nothing is added.
-///
-/// An `AllocError` comes only where a growth of memory was refused, and then nothing is said of what is left.
-pub fn push_direct(
+/// The instruction at a word, if its words are there, it declares no width, and its name is known to be shown.
+#[inline(always)]
+fn head_at<'t>(source: &Source<'t, '_, '_>, names: &Names, at: u32) -> Option<Head<'t>>
+    requires fits { at < length source.now.image.now }
+    requires names { AreNames source.now.table.now names.now }
+    ensures { IfSome result (λ h. IsHead source.now.table.now source.now.image.now at h) }
+{
+    let head = word(source.image, at);
+    let count = head / 65536;
+    let opcode = (head % 65536) as u16;
+    if count == 0 {
+        return None;
+    }
+    if count > source.image.len() - at {
+        return None;
+    }
+    if opcode == TYPE_INT || opcode == TYPE_FLOAT {
+        return None;
+    }
+    if !names.has_opcode(opcode) {
+        return None;
+    }
+    let Some(entry) = source.table.entry(opcode) else {
+        return None;
+    };
+    Some(Head {
+        opcode,
+        entry,
+        end: at + count,
+    })
+}
+
+/// Adds the line of an instruction whose operands are in the buffer, with its line feed. None where there is no room for its
+/// name, and then nothing is added.
+#[inline(always)]
+fn push_head(
+    out: &mut String,
+    buffer: &mut [u8],
+    head: Head<'_>,
+    cells: Cells,
+) -> Result<Option<Direct>, AllocError>
+    requires { AreCharacters cells buffer.old }
+    ensures same { IfOk result (λ o. MatchOption o (string_bytes out.new ≡ string_bytes out.old) (λ d. ⊤)) }
+    ensures direct { (G : grammar.Table) (words : List ℕ) (before : List PlainInst) (at : ℕ) → IsHead G words at head.entry → IsSpelled G words before head.entry.opcode head.entry.entry.now.operands (at + 1) head.entry.end cells buffer.old
+        → IfOk result (λ o. IfSome o (λ d. IsDirect G words before (string_bytes out.old) (string_bytes out.new) at d)) }
+{
+    if push_cells(out, buffer, head.entry, cells)? {
+        return Ok(Some(Direct {
+            end: head.end,
+            result: cells.result,
+            type_id: cells.type_id,
+        }));
+    }
+    Ok(None)
+}
+
+/// Whether an opcode is that of OpConstant or OpSpecConstant.
+#[inline(always)]
+fn is_constant(opcode: u16) -> bool
+    ensures { result ≡ true → opcode ≡ 251 → ⊥ }
+{
+    opcode == CONSTANT || opcode == SPEC_CONSTANT
+}
+
+/// The same as `push_direct`, but for OpConstant and OpSpecConstant alone, whose numbers ask for what the instructions before
+/// tell of types.
+#[inline(never)]
+fn push_constant(
     out: &mut String,
     buffer: &mut [u8],
     source: &Source<'_, '_, '_>,
@@ -468,35 +542,82 @@ pub fn push_direct(
     ensures same { IfOk result (λ o. MatchOption o (string_bytes out.new ≡ string_bytes out.old) (λ d. ⊤)) }
     ensures direct { (before : List PlainInst) → Knows types.now before → IfOk result (λ o. IfSome o (λ d. IsDirect source.now.table.now source.now.image.now before (string_bytes out.old) (string_bytes out.new) at d)) }
 {
-    let head = word(source.image, at);
-    let count = head / 65536;
-    let opcode = (head % 65536) as u16;
-    if count == 0 {
-        return Ok(None);
-    }
-    if count > source.image.len() - at {
-        return Ok(None);
-    }
-    if opcode == TYPE_INT || opcode == TYPE_FLOAT {
-        return Ok(None);
-    }
-    if !names.has_opcode(opcode) {
-        return Ok(None);
-    }
-    let Some(entry) = source.table.entry(opcode) else {
+    let Some(head) = head_at(source, names, at) else {
         return Ok(None);
     };
-    let end = at + count;
-    let pattern = entry.operands.as_slice();
-    let Some(cells) = add_words(buffer, source, names, types, opcode, pattern, at + 1, end) else {
+    if !is_constant(head.opcode) {
+        return Ok(None);
+    }
+    let pattern = head.entry.operands.as_slice();
+    let Some(cells) = add_numbered(
+        buffer,
+        source,
+        types,
+        head.opcode,
+        pattern,
+        at + 1,
+        head.end,
+    ) else {
         return Ok(None);
     };
-    if push_cells(out, buffer, entry, cells)? {
-        return Ok(Some(Direct {
-            end,
-            result: cells.result,
-            type_id: cells.type_id,
-        }));
+    push_head(out, buffer, head, cells)
+}
+
+/// Adds the line of the instruction at a word, with its line feed, straight from its words, if these are an instruction whose
+/// name and operands can be put in the buffer, and which declares no width. None where they are not, and for OpConstant and
+/// OpSpecConstant, and then nothing is added.
+///
+/// An `AllocError` comes only where a growth of memory was refused, and then nothing is said of what is left.
+fn push_direct(
+    out: &mut String,
+    buffer: &mut [u8],
+    source: &Source<'_, '_, '_>,
+    names: &Names,
+    at: u32,
+) -> Result<Option<Direct>, AllocError>
+    requires size { 128 ≤ length buffer.old }
+    requires forms { source.now.forms.now ≡ map form_of source.now.table.now.kinds }
+    requires fits { at < length source.now.image.now }
+    requires names { AreNames source.now.table.now names.now }
+    ensures same { IfOk result (λ o. MatchOption o (string_bytes out.new ≡ string_bytes out.old) (λ d. ⊤)) }
+    ensures direct { (before : List PlainInst) → IfOk result (λ o. IfSome o (λ d. IsDirect source.now.table.now source.now.image.now before (string_bytes out.old) (string_bytes out.new) at d)) }
+{
+    let Some(head) = head_at(source, names, at) else {
+        return Ok(None);
+    };
+    if is_constant(head.opcode) {
+        return Ok(None);
     }
-    Ok(None)
+    let pattern = head.entry.operands.as_slice();
+    let Some(cells) = add_words(buffer, source, names, pattern, at + 1, head.end) else {
+        return Ok(None);
+    };
+    push_head(out, buffer, head, cells)
+}
+
+/// Adds the line of the instruction at a word, with its line feed, straight from its words, as `push_direct` or `push_constant`
+/// does. `types` are those that the instructions before tell. None where neither does, and then nothing is added.
+///
+/// An `AllocError` comes only where a growth of memory was refused, and then nothing is said of what is left.
+#[inline(always)]
+pub fn push_quickly(
+    out: &mut String,
+    buffer: &mut [u8],
+    source: &Source<'_, '_, '_>,
+    names: &Names,
+    types: &Types,
+    at: u32,
+) -> Result<Option<Direct>, AllocError>
+    requires size { 128 ≤ length buffer.old }
+    requires forms { source.now.forms.now ≡ map form_of source.now.table.now.kinds }
+    requires fits { at < length source.now.image.now }
+    requires names { AreNames source.now.table.now names.now }
+    ensures same { IfOk result (λ o. MatchOption o (string_bytes out.new ≡ string_bytes out.old) (λ d. ⊤)) }
+    ensures direct { (before : List PlainInst) → Knows types.now before → IfOk result (λ o. IfSome o (λ d. IsDirect source.now.table.now source.now.image.now before (string_bytes out.old) (string_bytes out.new) at d)) }
+{
+    let direct = push_direct(out, buffer, source, names, at)?;
+    if let Some(direct) = direct {
+        return Ok(Some(direct));
+    }
+    push_constant(out, buffer, source, names, types, at)
 }

@@ -1,4 +1,4 @@
-use Rattle.std.proofs.Common.{sym, ◌∙◌, ◌≤◌, ◌++◌, ◌∷◌, [], map, refl, arith}
+use Rattle.std.proofs.Common.{◌≤◌, ◌++◌, ◌∷◌, [], map, refl, arith}
 use Rattle.spv_inst.specs.Agenda.{items_of}
 use Rattle.spv_inst.specs.Flat.{due}
 use Rattle.spv_inst.specs.Operand.{PlainInst, start}
@@ -35,22 +35,14 @@ loop-at-preserved c =
       };
     }
 
-pub returns-then-is_number-clause-put : goal.returns-then-is_number-clause-put
-returns-then-is_number-clause-put c = let a = c.loop-at.invariant.added in c.add_number.ensures.put a.operands a.cells
-
-pub returns-then-is_number-clause-line : goal.returns-then-is_number-clause-line
-returns-then-is_number-clause-line c = λ before k.
-    let i = sym (c.form_in.ensures c.args.source.now.table.now c.requires.forms) ∙ c.is_number.ensures c.if-is_number.true in
-    c.add_number.ensures.line before c.args.pattern.now _ c.args.first k c.loop-at.invariant.from i c.in-Some.ensures c.loop-at.invariant.added
-
 pub returns-in-None-clause-put : goal.returns-in-None-clause-put
 returns-in-None-clause-put c = let a = c.loop-at.invariant.added in cells_characters c.args.source.now.table.now a.operands _ _ a.cells
 
 pub returns-in-None-clause-line : goal.returns-in-None-clause-line
-returns-in-None-clause-line c = λ before k.
+returns-in-None-clause-line c = λ before opcode.
     let G = c.args.source.now.table.now in
     let a = c.loop-at.invariant.added in
     let l : c.args.end ≤ c.loop-at.at = omega (arith, c.loop-at-test.false) in
-    let b = start before c.args.opcode in
-    let i : PlainInst = record { opcode = c.args.opcode; operands = a.operands } in
+    let b = start before opcode in
+    let i : PlainInst = record { opcode = opcode; operands = a.operands } in
     record { operands = a.operands; line = cells_line G before i _ _ a.cells; matches = words_end G b (items_of c.args.pattern.now) _ _ _ _ _ _ _ (a.front b) l c.in-None.ensures }
