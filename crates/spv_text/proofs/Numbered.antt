@@ -1,6 +1,6 @@
 -- A number that stands last among the operands of a line.
-use Rattle.std.proofs.Common.{◌≡◌, ◌≤◌, ◌<◌, ◌+◌, ◌-◌, ◌*◌, ◌++◌, ◌∙◌, ◌∷◌, [], ℕ, List, Some, None, true, false, is_some, length, map, take, drop, slice_index, refl, sym, ap, arith, length-take-le}
-use Rattle.std.specs.Prelude.{IsUtf8, decimal}
+use Rattle.std.proofs.Common.{◌≡◌, ◌≤◌, ◌<◌, ◌+◌, ◌-◌, ◌*◌, ◌++◌, ◌∙◌, ◌∷◌, [], ℕ, List, Option, Bool, Some, None, true, false, is_some, length, map, take, drop, slice_index, refl, sym, ap, arith, length-take-le}
+use Rattle.std.specs.Prelude.{IsUtf8, MatchOption, not, decimal}
 use Rattle.std.proofs.lemmas.List.{drop-append-le}
 use Rattle.std.proofs.lemmas.Str.{IsUtf8-append}
 use Rattle.spv_grammar.specs.declared.table.Item.{Item}
@@ -90,3 +90,8 @@ number_matches G before opcode kind w pattern os ds es image first at end s f h 
     let o = Number w 0 1 in
     let m = word_next G c (map due (items_of pattern)) (between image first end) os (os ++ (o ∷ [])) ds es es kind [] image first at end w o s f h z e i (narrow_takes G before opcode kind w os n t) refl refl in
     words_end G c (items_of pattern) image first (at + 1) end ((at + 1) - first) (os ++ (o ∷ [])) es m l d
+
+-- nothing is left to be due
+pub none_left : {A : Type 0} (r : Option A) (ds : List Due) (P : A → Type 0) (b : Bool) → MatchOption r (ds ≡ []) P → is_some r ≡ not b → b ≡ true → ds ≡ []
+none_left None ds P b m e t = m
+none_left (Some x) ds P b m e t = cc

@@ -1,23 +1,25 @@
 -- Lines that are put together from words, one operand behind the other. (For the code alone.)
-use Rattle.std.specs.Prelude.{◌≡◌, ◌<◌, ◌≤◌, ◌+◌, ◌-◌, ◌++◌, ◌∷◌, [], ℕ, List, Option, Some, None, true, false, nat_eq, is_some, IsUtf8, length, drop, map, take, if◌then◌else◌}
+use Rattle.std.specs.Prelude.{◌≡◌, ◌<◌, ◌≤◌, ◌+◌, ◌-◌, ◌++◌, ◌∷◌, [], ℕ, List, Option, None, true, false, nat_eq, is_some, IsUtf8, length, drop, map, take, if◌then◌else◌}
 use Rattle.std.specs.List.{list_all}
 use Rattle.spv_grammar.specs.declared.table.Item.{Item}
-use Rattle.spv_grammar.specs.Table.{Table, entry_of, pattern_of}
-use Rattle.spv_inst.specs.Agenda.{items_of}
-use Rattle.spv_inst.specs.Flat.{Due, due}
+use Rattle.spv_grammar.specs.Table.{Table, kind_of}
+use Rattle.spv_inst.specs.declared.form.Form.TheVariants.{Leaf}
+use Rattle.spv_inst.specs.declared.form.Leaf.TheVariants as leaf
+use Rattle.spv_inst.specs.Agenda.{due_first, items_of, settled}
+use Rattle.spv_inst.specs.Flat.{Due, OneOf, due}
+use Rattle.spv_inst.specs.Form.{form_at}
 use Rattle.spv_inst.specs.Instruction.{IsInstruction}
 use Rattle.spv_inst.specs.Operand.{Context, Plain, PlainInst, Text, result_in, start, type_in}
 use Rattle.spv_inst.specs.Reading.{between}
 use Rattle.spv_inst.specs.Shape.{AsText, alone, shape_of}
 use Rattle.spv_inst.specs.Sofar.{Sofar}
 use Rattle.spv_inst.specs.Spelling.{Match, Takes}
-use Rattle.spv_lines.specs.Line.{IsShownLine, shown_name}
+use Rattle.spv_lines.specs.Line.{IsShownLine}
 use Rattle.spv_lines.specs.Operand.{Shown, quoted, shown_operand}
 use Rattle.spv_lines.specs.Written.{Written}
 use Rattle.spv_text.specs.Back.{cells_of, is_steady, results_of}
 use Rattle.spv_text.specs.declared.forward.Cells.{Cells}
 use Rattle.spv_text.specs.declared.forward.Direct.{Direct}
-use Rattle.spv_text.specs.declared.forward.Head.{Head}
 
 -- Behind a place an operand was added, which is no result and no number.
 pub record IsAdded (G : Table) (o : Plain) (at end : ℕ) (old new : List ℕ) : Type 0 where
@@ -78,16 +80,13 @@ pub record SoFarAdded (G : Table) (words : List ℕ) (pattern : List Item) (firs
   pub cells : AreCells G operands c buffer
   pub front : (b : Context) → Sofar G b (map due (items_of pattern)) (between words first end) operands ds (between words at end) (at - first)
 
--- At a place of the words there is an instruction, whose words any operands are that its pattern has there; its name is shown, and it declares no width.
-pub record IsHead (G : Table) (words : List ℕ) (at : ℕ) (h : Head) : Type 0 where
-  pub some : at < h.end
-  pub within : h.end ≤ length words
-  pub known : entry_of G h.opcode ≡ Some h.entry.now
-  pub named : shown_name G h.opcode h.entry.now ≡ h.entry.now.name
-  pub no_integer : nat_eq h.opcode 21 ≡ false
-  pub no_float : nat_eq h.opcode 22 ≡ false
-  pub read : (before : List PlainInst) (os : List Plain) → Match G (start before h.opcode) (pattern_of h.entry.now) os (between words (at + 1) h.end)
-      → IsInstruction G before (record { opcode = h.opcode; operands = os }) (between words at h.end)
+-- What is left of a pattern asks for a number whose type the instruction has, and for nothing that has to stand behind it.
+pub record IsNumberLast (G : Table) (items : List Item) : Type 0 where
+  pub kind : ℕ
+  pub behind : List Due
+  pub first : settled true (due_first [] items) ≡ OneOf (alone kind) ∷ behind
+  pub last : settled false behind ≡ []
+  pub number : form_at (kind_of G kind) ≡ Leaf leaf.ContextNumber
 
 -- What is kept of an instruction is its own, and it declares no width.
 pub record IsTold (i : PlainInst) (d : Direct) : Type 0 where

@@ -12,7 +12,7 @@ ghost use Rattle.spv_text.specs.Image.{AreAdded, IsNext, IsShownImage};
 ghost use Rattle.spv_text.specs.Kept.{Knows};
 ghost use Rattle.spv_text.specs.Named.{AreNames};
 
-use crate::forward::{Direct, SIZE, Source, push_quickly};
+use crate::forward::{Direct, SIZE, Source, push_direct};
 use crate::ids::Ids;
 use crate::line::{Setting, push_line};
 use crate::names::Names;
@@ -120,7 +120,7 @@ fn push_next<'t, 'a>(
     ensures dead { (before : List PlainInst) → known.Knows kept.old.definitions before → IfErr result (λ e. IsDeadFrom source.now.table.now before source.now.image.now number at e) }
     ensures names { AreNames source.now.table.now kept.new.names }
 {
-    let answer = push_quickly(out, &mut kept.buffer, source, &kept.names, &kept.types, at)?;
+    let answer = push_direct(out, &mut kept.buffer, source, &kept.names, &kept.types, at)?;
     let Some(direct) = answer else {
         return push_read(out, source, kept, number, at);
     };

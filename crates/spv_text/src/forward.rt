@@ -6,15 +6,13 @@ ghost use Rattle.spv_grammar.specs.Table as grammar;
 ghost use Rattle.spv_grammar.specs.Table.{entry_of, kind_of};
 ghost use Rattle.spv_inst.specs.declared.form.Form.TheVariants.{Leaf as LeafForm};
 ghost use Rattle.spv_inst.specs.declared.form.Leaf.TheVariants as leaf;
-ghost use Rattle.spv_inst.specs.Agenda.{due_first, settled};
-ghost use Rattle.spv_inst.specs.Flat.{Due, OneOf};
-ghost use Rattle.spv_inst.specs.Shape.{alone};
+ghost use Rattle.spv_inst.specs.Agenda.{due_first};
 ghost use Rattle.spv_inst.specs.Form.{form_at, form_of};
 ghost use Rattle.spv_inst.specs.Operand.{Plain, PlainInst, result_in};
 ghost use Rattle.spv_inst.specs.Reading.{between};
 ghost use Rattle.spv_lines.specs.Operand.{id_text};
 ghost use Rattle.spv_lines.specs.Line.{IsShownLine, shown_name};
-ghost use Rattle.spv_text.specs.Forward.{AreCells, AreCharacters, IsDirect, IsHead, IsLineOf, IsPiece, IsSpelled, SoFarAdded};
+ghost use Rattle.spv_text.specs.Forward.{AreCells, AreCharacters, IsDirect, IsLineOf, IsNumberLast, IsPiece, IsSpelled, SoFarAdded};
 ghost use Rattle.spv_text.specs.Kept.{Knows};
 ghost use Rattle.spv_text.specs.Named.{AreNames};
 
@@ -48,11 +46,8 @@ const TYPE_INT: u16 = 21;
 /// The opcode of OpTypeFloat.
 const TYPE_FLOAT: u16 = 22;
 
-/// The opcode of OpConstant.
-const CONSTANT: u16 = 43;
-
-/// The opcode of OpSpecConstant.
-const SPEC_CONSTANT: u16 = 50;
+/// The opcode of OpSwitch.
+const SWITCH: u16 = 251;
 
 /// What does not change from one instruction to the next.
 #[derive(Clone, Copy)]
@@ -91,15 +86,6 @@ struct Part<'t> {
     items: &'t [Item],
     /// The number of the next word in the module, from 0.
     at: u32,
-}
-
-/// An instruction whose words are there.
-#[derive(Clone, Copy, Debug)]
-struct Head<'t> {
-    opcode: u16,
-    entry: &'t Entry,
-    /// The number of the word behind it.
-    end: u32,
 }
 
 /// An instruction whose line was added.
@@ -343,38 +329,48 @@ fn is_number(form: Form) -> bool
     }
 }
 
-/// Adds the operands that the words of an instruction of the opcode from `first` up to `end` are, both counted in words of the
-/// module from 0, by its pattern: ids and literals of one word, and last a number of an integer type of at most 32 bits. `types`
-/// are those that the instructions before tell. None where they are others, or there is no room.
+/// Whether a number whose type the instruction has is due for what is left of a pattern, and nothing has to stand behind it.
+#[inline(never)]
+fn is_number_last(forms: &[Form], items: &[Item]) -> bool
+    ensures { (G : grammar.Table) → forms.now ≡ map form_of G.kinds → result ≡ true → IsNumberLast G items.now }
+{
+    let Some(next) = next_kind(&[], items, true) else {
+        return false;
+    };
+    if !next.kinds.is_empty() {
+        return false;
+    }
+    if !is_number(form_in(forms, next.kind)) {
+        return false;
+    }
+    next_kind(&[], next.items, false).is_none()
+}
+
+/// Adds the number that stands last among the operands of an instruction of the opcode, behind the part that is in the buffer,
+/// where its type is an integer type of at most 32 bits. `end` is the end of its words, counted in words of the module from 0.
+/// None for OpSwitch, where something else is due, and where there is no room, and then nothing is added.
 #[inline(always)]
-fn add_numbered(
+fn add_number(
     buffer: &mut [u8],
     source: &Source<'_, '_, '_>,
     types: &Types,
     opcode: u16,
-    pattern: &[Item],
-    first: u32,
+    part: Part<'_>,
     end: u32,
 ) -> Option<Cells>
-    requires size { 128 ≤ length buffer.old }
     requires forms { source.now.forms.now ≡ map form_of source.now.table.now.kinds }
-    requires order { first ≤ end }
     requires fits { end ≤ length source.now.image.now }
-    requires other { opcode ≡ 251 → ⊥ }
-    ensures put { IfSome result (λ c. AreCharacters c buffer.new) }
-    ensures line { (before : List PlainInst) → Knows types.now before → IfSome result (λ c. IsSpelled source.now.table.now source.now.image.now before opcode pattern.now first end c buffer.new) }
+    ensures same { MatchOption result (buffer.new ≡ buffer.old) (λ c. ⊤) }
+    ensures put { (os : List Plain) → AreCells source.now.table.now os part.entry.cells buffer.old → IfSome result (λ c. AreCharacters c buffer.new) }
+    ensures line { (before : List PlainInst) (pattern : List declared.Item) (first : ℕ) → Knows types.now before → first ≤ part.entry.at
+        → SoFarAdded source.now.table.now source.now.image.now pattern first part.entry.at end (due_first [] part.entry.items.now) part.entry.cells buffer.old
+        → IfSome result (λ c. IsSpelled source.now.table.now source.now.image.now before opcode pattern first end c buffer.new) }
 {
-    let Part { cells, items, at } = add_front(buffer, source, pattern, first, end);
-    if at >= end || end - at > 1 {
+    let Part { cells, items, at } = part;
+    if at >= end || end - at > 1 || opcode == SWITCH {
         return None;
     }
-    let Some(next) = next_kind(&[], items, true) else {
-        return None;
-    };
-    if !is_number(form_in(source.forms, next.kind)) {
-        return None;
-    }
-    if let Some(_) = next_kind(next.kinds, next.items, false) {
+    if !is_number_last(source.forms, items) {
         return None;
     }
     if !types.is_narrow(cells.type_id) {
@@ -390,12 +386,15 @@ fn add_numbered(
     })
 }
 
-/// Adds the operands that the words of an instruction from `first` up to `end` are, both counted in words of the module from
-/// 0, by its pattern. None where an operand is not added, or the words are no such operands.
+/// Adds the operands that the words of an instruction of the opcode from `first` up to `end` are, both counted in words of the
+/// module from 0, by its pattern. `types` are those that the instructions before tell. None where an operand is not added, or
+/// the words are no such operands.
 fn add_words(
     buffer: &mut [u8],
     source: &Source<'_, '_, '_>,
     names: &Names,
+    types: &Types,
+    opcode: u16,
     pattern: &[Item],
     first: u32,
     end: u32,
@@ -406,9 +405,13 @@ fn add_words(
     requires fits { end ≤ length source.now.image.now }
     requires names { AreNames source.now.table.now names.now }
     ensures put { IfSome result (λ c. AreCharacters c buffer.new) }
-    ensures line { (before : List PlainInst) (opcode : ℕ) → IfSome result (λ c. IsSpelled source.now.table.now source.now.image.now before opcode pattern.now first end c buffer.new) }
+    ensures line { (before : List PlainInst) → Knows types.now before → IfSome result (λ c. IsSpelled source.now.table.now source.now.image.now before opcode pattern.now first end c buffer.new) }
 {
     let part = add_front(buffer, source, pattern, first, end);
+    let numbered = add_number(buffer, source, types, opcode, part, end);
+    if let Some(cells) = numbered {
+        return Some(cells);
+    }
     let mut kinds: &[u32] = &[];
     let mut items = part.items;
     let mut at = part.at;
@@ -460,164 +463,55 @@ fn push_cells(
     Ok(true)
 }
 
-/// The instruction at a word, if its words are there, it declares no width, and its name is known to be shown.
-#[inline(always)]
-fn head_at<'t>(source: &Source<'t, '_, '_>, names: &Names, at: u32) -> Option<Head<'t>>
+/// Adds the line of the instruction at a word, with its line feed, straight from its words, if these are an instruction whose
+/// name and operands can be put in the buffer, and which declares no width. `types` are those that the instructions before
+/// tell. None where they are not, and then nothing is added.
+///
+/// An `AllocError` comes only where a growth of memory was refused, and then nothing is said of what is left.
+pub fn push_direct(
+    out: &mut String,
+    buffer: &mut [u8],
+    source: &Source<'_, '_, '_>,
+    names: &Names,
+    types: &Types,
+    at: u32,
+) -> Result<Option<Direct>, AllocError>
+    requires size { 128 ≤ length buffer.old }
+    requires forms { source.now.forms.now ≡ map form_of source.now.table.now.kinds }
     requires fits { at < length source.now.image.now }
     requires names { AreNames source.now.table.now names.now }
-    ensures { IfSome result (λ h. IsHead source.now.table.now source.now.image.now at h) }
+    ensures same { IfOk result (λ o. MatchOption o (string_bytes out.new ≡ string_bytes out.old) (λ d. ⊤)) }
+    ensures direct { (before : List PlainInst) → Knows types.now before → IfOk result (λ o. IfSome o (λ d. IsDirect source.now.table.now source.now.image.now before (string_bytes out.old) (string_bytes out.new) at d)) }
 {
     let head = word(source.image, at);
     let count = head / 65536;
     let opcode = (head % 65536) as u16;
     if count == 0 {
-        return None;
+        return Ok(None);
     }
     if count > source.image.len() - at {
-        return None;
+        return Ok(None);
     }
     if opcode == TYPE_INT || opcode == TYPE_FLOAT {
-        return None;
+        return Ok(None);
     }
     if !names.has_opcode(opcode) {
-        return None;
+        return Ok(None);
     }
     let Some(entry) = source.table.entry(opcode) else {
-        return None;
+        return Ok(None);
     };
-    Some(Head {
-        opcode,
-        entry,
-        end: at + count,
-    })
-}
-
-/// Adds the line of an instruction whose operands are in the buffer, with its line feed. None where there is no room for its
-/// name, and then nothing is added.
-#[inline(always)]
-fn push_head(
-    out: &mut String,
-    buffer: &mut [u8],
-    head: Head<'_>,
-    cells: Cells,
-) -> Result<Option<Direct>, AllocError>
-    requires { AreCharacters cells buffer.old }
-    ensures same { IfOk result (λ o. MatchOption o (string_bytes out.new ≡ string_bytes out.old) (λ d. ⊤)) }
-    ensures direct { (G : grammar.Table) (words : List ℕ) (before : List PlainInst) (at : ℕ) → IsHead G words at head.entry → IsSpelled G words before head.entry.opcode head.entry.entry.now.operands (at + 1) head.entry.end cells buffer.old
-        → IfOk result (λ o. IfSome o (λ d. IsDirect G words before (string_bytes out.old) (string_bytes out.new) at d)) }
-{
-    if push_cells(out, buffer, head.entry, cells)? {
+    let end = at + count;
+    let pattern = entry.operands.as_slice();
+    let Some(cells) = add_words(buffer, source, names, types, opcode, pattern, at + 1, end) else {
+        return Ok(None);
+    };
+    if push_cells(out, buffer, entry, cells)? {
         return Ok(Some(Direct {
-            end: head.end,
+            end,
             result: cells.result,
             type_id: cells.type_id,
         }));
     }
     Ok(None)
-}
-
-/// Whether an opcode is that of OpConstant or OpSpecConstant.
-#[inline(always)]
-fn is_constant(opcode: u16) -> bool
-    ensures { result ≡ true → opcode ≡ 251 → ⊥ }
-{
-    opcode == CONSTANT || opcode == SPEC_CONSTANT
-}
-
-/// The same as `push_direct`, but for OpConstant and OpSpecConstant alone, whose numbers ask for what the instructions before
-/// tell of types.
-#[inline(never)]
-fn push_constant(
-    out: &mut String,
-    buffer: &mut [u8],
-    source: &Source<'_, '_, '_>,
-    names: &Names,
-    types: &Types,
-    at: u32,
-) -> Result<Option<Direct>, AllocError>
-    requires size { 128 ≤ length buffer.old }
-    requires forms { source.now.forms.now ≡ map form_of source.now.table.now.kinds }
-    requires fits { at < length source.now.image.now }
-    requires names { AreNames source.now.table.now names.now }
-    ensures same { IfOk result (λ o. MatchOption o (string_bytes out.new ≡ string_bytes out.old) (λ d. ⊤)) }
-    ensures direct { (before : List PlainInst) → Knows types.now before → IfOk result (λ o. IfSome o (λ d. IsDirect source.now.table.now source.now.image.now before (string_bytes out.old) (string_bytes out.new) at d)) }
-{
-    let Some(head) = head_at(source, names, at) else {
-        return Ok(None);
-    };
-    if !is_constant(head.opcode) {
-        return Ok(None);
-    }
-    let pattern = head.entry.operands.as_slice();
-    let Some(cells) = add_numbered(
-        buffer,
-        source,
-        types,
-        head.opcode,
-        pattern,
-        at + 1,
-        head.end,
-    ) else {
-        return Ok(None);
-    };
-    push_head(out, buffer, head, cells)
-}
-
-/// Adds the line of the instruction at a word, with its line feed, straight from its words, if these are an instruction whose
-/// name and operands can be put in the buffer, and which declares no width. None where they are not, and for OpConstant and
-/// OpSpecConstant, and then nothing is added.
-///
-/// An `AllocError` comes only where a growth of memory was refused, and then nothing is said of what is left.
-fn push_direct(
-    out: &mut String,
-    buffer: &mut [u8],
-    source: &Source<'_, '_, '_>,
-    names: &Names,
-    at: u32,
-) -> Result<Option<Direct>, AllocError>
-    requires size { 128 ≤ length buffer.old }
-    requires forms { source.now.forms.now ≡ map form_of source.now.table.now.kinds }
-    requires fits { at < length source.now.image.now }
-    requires names { AreNames source.now.table.now names.now }
-    ensures same { IfOk result (λ o. MatchOption o (string_bytes out.new ≡ string_bytes out.old) (λ d. ⊤)) }
-    ensures direct { (before : List PlainInst) → IfOk result (λ o. IfSome o (λ d. IsDirect source.now.table.now source.now.image.now before (string_bytes out.old) (string_bytes out.new) at d)) }
-{
-    let Some(head) = head_at(source, names, at) else {
-        return Ok(None);
-    };
-    if is_constant(head.opcode) {
-        return Ok(None);
-    }
-    let pattern = head.entry.operands.as_slice();
-    let Some(cells) = add_words(buffer, source, names, pattern, at + 1, head.end) else {
-        return Ok(None);
-    };
-    push_head(out, buffer, head, cells)
-}
-
-/// Adds the line of the instruction at a word, with its line feed, straight from its words, as `push_direct` or `push_constant`
-/// does. `types` are those that the instructions before tell. None where neither does, and then nothing is added.
-///
-/// An `AllocError` comes only where a growth of memory was refused, and then nothing is said of what is left.
-#[inline(always)]
-pub fn push_quickly(
-    out: &mut String,
-    buffer: &mut [u8],
-    source: &Source<'_, '_, '_>,
-    names: &Names,
-    types: &Types,
-    at: u32,
-) -> Result<Option<Direct>, AllocError>
-    requires size { 128 ≤ length buffer.old }
-    requires forms { source.now.forms.now ≡ map form_of source.now.table.now.kinds }
-    requires fits { at < length source.now.image.now }
-    requires names { AreNames source.now.table.now names.now }
-    ensures same { IfOk result (λ o. MatchOption o (string_bytes out.new ≡ string_bytes out.old) (λ d. ⊤)) }
-    ensures direct { (before : List PlainInst) → Knows types.now before → IfOk result (λ o. IfSome o (λ d. IsDirect source.now.table.now source.now.image.now before (string_bytes out.old) (string_bytes out.new) at d)) }
-{
-    let direct = push_direct(out, buffer, source, names, at)?;
-    if let Some(direct) = direct {
-        return Ok(Some(direct));
-    }
-    push_constant(out, buffer, source, names, types, at)
 }

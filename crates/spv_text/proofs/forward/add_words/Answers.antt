@@ -9,7 +9,8 @@ use Rattle.spv_text.proofs.forward.add_words.Goals as goal
 
 pub loop-at-init : goal.loop-at-init
 loop-at-init c =
-    record { from = c.add_front-part.ensures.from; upto = c.add_front-part.ensures.upto; added = c.add_front-part.ensures.added }
+    let e = rw c.in_default.is at c.add_number-numbered.ensures.same in
+    record { from = c.add_front-part.ensures.from; upto = c.add_front-part.ensures.upto; added = rw e c.add_front-part.ensures.added }
 
 pub loop-at-preserved : goal.loop-at-preserved
 loop-at-preserved c =
@@ -29,20 +30,28 @@ loop-at-preserved c =
         operands = a.operands ++ (e.operand ∷ []);
         cells = e.added a.operands a.cells;
         front = λ k.
-            words_next G k _ _ _ _ _ _ _ c.in-Some.next.kind p.kinds.now c.args.source.now.image.now c.args.first c.loop-at.at c.args.end p.words _ (a.front k) f t c.requires.fits w1 c.in-Some.ensures
+            words_next G k _ _ _ _ _ _ _ c.in-Some-next_kind.next.kind p.kinds.now c.args.source.now.image.now c.args.first c.loop-at.at c.args.end p.words _ (a.front k) f t c.requires.fits w1 c.in-Some-next_kind.ensures
             (e.takes _) refl
-            (due_joined p.kinds.now c.in-Some.next.kinds.now c.in-Some-joined.due.now (map due (items_of c.in-Some.next.items.now)) c.in-Some-joined.ensures);
+            (due_joined p.kinds.now c.in-Some-next_kind.next.kinds.now c.in-Some-joined.due.now (map due (items_of c.in-Some-next_kind.next.items.now)) c.in-Some-joined.ensures);
       };
     }
+
+pub returns-in-Some-clause-put : goal.returns-in-Some-clause-put
+returns-in-Some-clause-put c =
+    let a = c.add_front-part.ensures.added in
+    rw c.in-Some.is at (c.add_number-numbered.ensures.put a.operands a.cells)
+
+pub returns-in-Some-clause-line : goal.returns-in-Some-clause-line
+returns-in-Some-clause-line c = λ before k. rw c.in-Some.is at (c.add_number-numbered.ensures.line before c.args.pattern.now c.args.first k c.add_front-part.ensures.from c.add_front-part.ensures.added)
 
 pub returns-in-None-clause-put : goal.returns-in-None-clause-put
 returns-in-None-clause-put c = let a = c.loop-at.invariant.added in cells_characters c.args.source.now.table.now a.operands _ _ a.cells
 
 pub returns-in-None-clause-line : goal.returns-in-None-clause-line
-returns-in-None-clause-line c = λ before opcode.
+returns-in-None-clause-line c = λ before k.
     let G = c.args.source.now.table.now in
     let a = c.loop-at.invariant.added in
     let l : c.args.end ≤ c.loop-at.at = omega (arith, c.loop-at-test.false) in
-    let b = start before opcode in
-    let i : PlainInst = record { opcode = opcode; operands = a.operands } in
+    let b = start before c.args.opcode in
+    let i : PlainInst = record { opcode = c.args.opcode; operands = a.operands } in
     record { operands = a.operands; line = cells_line G before i _ _ a.cells; matches = words_end G b (items_of c.args.pattern.now) _ _ _ _ _ _ _ (a.front b) l c.in-None.ensures }
