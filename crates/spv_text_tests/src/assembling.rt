@@ -149,7 +149,10 @@ fn refusal(stop: Stop) -> Fail {
 
 /// The text of the module of an image.
 fn text_again(alloc: Global, table: &Table, image: &Image) -> Result<String, Fail> {
-    let module = decode(alloc, table, image).map_err(refusal)?;
+    let module = match decode(alloc, table, image) {
+        Ok(module) => module,
+        Err(stop) => return Err(refusal(stop)),
+    };
     let text = show_listed(alloc, table, &module)?;
     Ok(text)
 }
