@@ -1,20 +1,19 @@
 -- Short texts in quotes.
-use Rattle.std.proofs.Common.{◌≡◌, ◌≢◌, ◌++◌, ◌∙◌, ◌<◌, ◌≤◌, ◌+◌, ℕ, Bool, List, [], ◌∷◌, true, false, not, ◌||◌, nat_eq, length, take, drop, get_or, refl, sym, ap, arith, append_assoc}
+use Rattle.std.proofs.Common.{◌≡◌, ◌≢◌, ◌++◌, ◌∙◌, ◌<◌, ◌≤◌, ◌+◌, ◌-◌, ◌*◌, ℕ, suc, Bool, List, [], ◌∷◌, true, false, not, ◌||◌, nat_eq, length, take, drop, get_or, refl, sym, ap, arith, append_assoc, length-append}
 use Rattle.std.specs.List.{list_any}
-use Rattle.std.proofs.lemmas.List.{take_more, drop_more, take-append-drop}
+use Rattle.std.proofs.lemmas.List.{drop_more, take-append-drop}
+use Rattle.std.proofs.Math.Seq.{take-length}
 use Rattle.std.proofs.lemmas.Bool.Decides.{nat_tests}
-use Rattle.spv_inst.specs.Written.{is_without_zero}
+use Rattle.spv_inst.specs.Written.{is_without_zero, text_words}
 use Rattle.spv_lines.specs.Operand.{escaped, quoted}
 use Rattle.spv_lines.proofs.Tokens.{Escape, escape_of}
 use Rattle.spv_lines.specs.Refusal.{IsBreak}
 use Rattle.spv_text.specs.Reading.{HasQuoted}
+use Rattle.spv_text.specs.Quotes.{BeginsWord, IsClosed}
 
 -- an octet that stands for itself
 abbrev IsPlain : ℕ → Type 0
 IsPlain b = (b ≢ 34) × (b ≢ 92) × (b ≢ 10) × (b ≢ 0)
-
-plain_of : (b : ℕ) → (b ≡ 34 → ⊥) → 34 ≤ b → (b ≡ 92 → ⊥) → IsPlain b
-plain_of b n l m = (n, m, (λ e. let f : 34 ≤ 10 = rw (sym e) l in omega (arith, f)), (λ e. let f : 34 ≤ 0 = rw (sym e) l in omega (arith, f)))
 
 escaped_one : (b : ℕ) → IsPlain b → escaped (b ∷ []) ≡ b ∷ []
 escaped_one b n = by (escaped (b ∷ [])) (escape_of b [])
@@ -29,25 +28,103 @@ escaped_more : (xs ys : List ℕ) → escaped (xs ++ ys) ≡ escaped xs ++ escap
 escaped_more [] ys = refl
 escaped_more (a ∷ xs) ys = rw (escaped_more xs ys) (sym (append_assoc _ (escaped xs) (escaped ys)))
 
-without_snoc : (b : ℕ) (xs : List ℕ) → b ≢ 0 → is_without_zero xs ≡ true → is_without_zero (xs ++ (b ∷ [])) ≡ true
-without_snoc b [] n h = grind (arith, nat_tests)
-without_snoc b (x ∷ xs) n h = by (without_snoc b xs n) (nat_eq x 0) h
+without_more : (xs ys : List ℕ) → is_without_zero xs ≡ true → is_without_zero ys ≡ true → is_without_zero (xs ++ ys) ≡ true
+without_more [] ys n h = h
+without_more (x ∷ xs) ys n h = by (λ m. without_more xs ys m h) (nat_eq x 0) n
   where
-    by : (is_without_zero xs ≡ true → is_without_zero (xs ++ (b ∷ [])) ≡ true) → (y : Bool) → not (y || list_any (λ k. nat_eq k 0) xs) ≡ true → not (y || list_any (λ k. nat_eq k 0) (xs ++ (b ∷ []))) ≡ true
+    by : (is_without_zero xs ≡ true → is_without_zero (xs ++ ys) ≡ true) → (y : Bool) → not (y || list_any (λ k. nat_eq k 0) xs) ≡ true → not (y || list_any (λ k. nat_eq k 0) (xs ++ ys)) ≡ true
     by more true g = cc
     by more false g = more g
 
--- one octet more
-pub near_escaped : (xs : List ℕ) (i : ℕ) → i < length xs → (get_or xs i 0 ≡ 34 → ⊥) → 34 ≤ get_or xs i 0 → (get_or xs i 0 ≡ 92 → ⊥) → escaped (take i xs) ≡ take i xs → escaped (take (i + 1) xs) ≡ take (i + 1) xs
-near_escaped xs i l n g m e = rw (take_more xs i 0 l) (escaped_more (take i xs) (get_or xs i 0 ∷ []) ∙ rw (e, escaped_one (get_or xs i 0) (plain_of (get_or xs i 0) n g m)) refl)
+-- a text that stands for itself and has no zero octet
+abbrev AreClear : List ℕ → Type 0
+AreClear t = (escaped t ≡ t) × (is_without_zero t ≡ true)
 
-pub near_without : (xs : List ℕ) (i : ℕ) → i < length xs → 34 ≤ get_or xs i 0 → is_without_zero (take i xs) ≡ true → is_without_zero (take (i + 1) xs) ≡ true
-near_without xs i l g e = rw (take_more xs i 0 l) (without_snoc (get_or xs i 0) (take i xs) (λ z. let f : 34 ≤ 0 = rw (sym z) g in omega (arith, f)) e)
+clear_more : (xs ys : List ℕ) → AreClear xs → AreClear ys → AreClear (xs ++ ys)
+clear_more xs ys h g = (escaped_more xs ys ∙ rw (h.0, g.0) refl, without_more xs ys h.1 g.1)
+
+clear_one : (b : ℕ) → IsPlain b → AreClear (b ∷ [])
+clear_one b n = (escaped_one b n, let m = n.3 in grind (arith, nat_tests))
+
+-- Of a text in quotes those octets are read, and their words added.
+pub record QuotedSoFar (octets rest old new : List ℕ) : Type 0 where
+  pub front : List ℕ
+  pub all : octets ≡ front ++ rest
+  pub clear : AreClear front
+  pub words : (xs : List ℕ) → new ++ text_words xs ≡ old ++ text_words (front ++ xs)
+
+pub quoted_first : (octets words : List ℕ) → QuotedSoFar octets octets words words
+quoted_first octets words = record { front = []; all = refl; clear = (refl, refl); words = λ xs. refl }
+
+-- four octets more
+pub quoted_more : (octets rest later old new next : List ℕ) (w : ℕ) → QuotedSoFar octets rest old new → BeginsWord rest w later → next ≡ new ++ (w ∷ []) → QuotedSoFar octets later old next
+quoted_more octets rest later old new next w s b e =
+    record {
+      front = s.front ++ b.front;
+      all = s.all ∙ (ap (λ z. s.front ++ z) b.all ∙ sym (append_assoc s.front b.front later));
+      clear = clear_more s.front b.front s.clear (b.plain, b.no_zero);
+      words = λ xs.
+          let p : next ++ text_words xs ≡ new ++ (w ∷ text_words xs) = rw e (append_assoc new (w ∷ []) (text_words xs)) in
+          p ∙ (ap (λ z. new ++ z) (sym (b.words xs)) ∙ (s.words (b.front ++ xs) ∙ ap (λ z. old ++ text_words z) (sym (append_assoc s.front b.front xs))));
+    }
+
+pub word_shorter : (octets rest : List ℕ) (w : ℕ) → BeginsWord octets w rest → length rest < length octets
+word_shorter octets rest w b =
+    let m = b.count in
+    let n : length octets ≡ length b.front + length rest = ap length b.all ∙ length-append b.front rest in
+    omega (arith, m, n)
+
+all_but : (n : ℕ) → suc (suc (suc (suc n))) - 4 ≡ n
+all_but n = omega arith
+
+pub begins_four : (octets : List ℕ) (w : ℕ) → 4 ≤ length octets → IsPlain (get_or octets 0 0) → IsPlain (get_or octets 1 0) → IsPlain (get_or octets 2 0) → IsPlain (get_or octets 3 0)
+    → w ≡ get_or octets 0 0 + 256 * get_or octets 1 0 + 65536 * get_or octets 2 0 + 16777216 * get_or octets 3 0 → BeginsWord octets w (take (length octets - 4) (drop 4 octets))
+begins_four [] w l f g h i j = absurd (omega arith)
+begins_four (a ∷ []) w l f g h i j = absurd (omega arith)
+begins_four (a ∷ b ∷ []) w l f g h i j = absurd (omega arith)
+begins_four (a ∷ b ∷ c ∷ []) w l f g h i j = absurd (omega arith)
+begins_four (a ∷ b ∷ c ∷ d ∷ rest) w l f g h i j =
+    let front : List ℕ = a ∷ b ∷ c ∷ d ∷ [] in
+    let clear = clear_more (a ∷ []) (b ∷ c ∷ d ∷ []) (clear_one a f) (clear_more (b ∷ []) (c ∷ d ∷ []) (clear_one b g) (clear_more (c ∷ []) (d ∷ []) (clear_one c h) (clear_one d i))) in
+    let all : take (length (a ∷ b ∷ c ∷ d ∷ rest) - 4) rest ≡ rest = ap (λ n. take n rest) (all_but (length rest)) ∙ take-length rest in
+    rw all (record { front = front; all = refl; count = refl; plain = clear.0; no_zero = clear.1; words = λ xs. ap (λ z. z ∷ text_words xs) (sym j) })
+
+zero_add : (n : ℕ) → 0 + n ≡ n
+zero_add n = omega arith
+
+suc_add : (m n : ℕ) → suc m + n ≡ suc (m + n)
+suc_add m n = omega arith
+
+take_front : (xs ys : List ℕ) (n : ℕ) → take (length xs + n) (xs ++ ys) ≡ xs ++ take n ys
+take_front [] ys n = ap (λ k. take k ys) (zero_add n)
+take_front (x ∷ xs) ys n = ap (λ k. take k (x ∷ (xs ++ ys))) (suc_add (length xs) n) ∙ ap (λ z. x ∷ z) (take_front xs ys n)
+
+get_front : (xs ys : List ℕ) (n : ℕ) → get_or (xs ++ ys) (length xs + n) 0 ≡ get_or ys n 0
+get_front [] ys n = ap (λ k. get_or ys k 0) (zero_add n)
+get_front (x ∷ xs) ys n = ap (λ k. get_or (x ∷ (xs ++ ys)) k 0) (suc_add (length xs) n) ∙ get_front xs ys n
+
+-- the octets before the closing quote
+pub quoted_last : (octets rest old new next : List ℕ) (at n w : ℕ) → QuotedSoFar octets rest old new → at ≡ length octets - length rest → IsClosed rest n → text_words (take n rest) ≡ w ∷ [] → next ≡ new ++ (w ∷ []) → IsClosed octets (at + n) × (next ≡ old ++ text_words (take (at + n) octets))
+quoted_last octets rest old new next at n w s o c t e =
+    let f = s.front in
+    let b : length octets ≡ length f + length rest = ap length s.all ∙ length-append f rest in
+    let m : length f ≡ at = omega (arith, b, o) in
+    let cut : take (at + n) octets ≡ f ++ take n rest = rw (s.all, ← m) (take_front f rest n) in
+    let clear = clear_more f (take n rest) s.clear (c.plain, c.no_zero) in
+    let l = c.within in
+    let k : length octets ≡ at + length rest = omega (arith, b, m) in
+    let q : get_or octets (at + n) 0 ≡ 34 = rw (s.all, ← m) (get_front f rest n ∙ c.quote) in (
+      record { within = omega (arith, l, k); quote = q; plain = rw cut clear.0; no_zero = rw cut clear.1 },
+      e ∙ (ap (λ z. new ++ z) (sym t) ∙ (s.words (take n rest) ∙ ap (λ z. old ++ text_words z) (sym cut))),
+    )
 
 -- the closing quote
-pub near_quoted : (front inside t rest : List ℕ) (at : ℕ) → front ≡ 34 ∷ inside → at < length inside → get_or inside at 0 ≡ 34 → escaped (take at inside) ≡ take at inside → is_without_zero (take at inside) ≡ true
-    → t ≡ take at inside → rest ≡ drop (at + 1) inside → IsBreak rest → HasQuoted front t rest
-near_quoted front inside t rest at e l q s z f g b =
+pub near_quoted : (front inside t rest : List ℕ) (at : ℕ) → front ≡ 34 ∷ inside → IsClosed inside at → t ≡ take at inside → rest ≡ drop (at + 1) inside → IsBreak rest → HasQuoted front t rest
+near_quoted front inside t rest at e c f g b =
+    let l = c.within in
+    let q = c.quote in
+    let s = c.plain in
+    let z = c.no_zero in
     let d : drop at inside ≡ 34 ∷ drop (at + 1) inside = rw q at (drop_more inside at 0 l) in
     let cut : take at inside ++ (34 ∷ drop (at + 1) inside) ≡ inside = ap (λ x. take at inside ++ x) (sym d) ∙ take-append-drop at inside in
     let h : quoted (take at inside) ++ drop (at + 1) inside ≡ 34 ∷ inside = ap (λ x. 34 ∷ x) (append_assoc (escaped (take at inside)) (34 ∷ []) (drop (at + 1) inside) ∙ ap (λ x. x ++ (34 ∷ drop (at + 1) inside)) s ∙ cut) in

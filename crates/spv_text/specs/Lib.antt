@@ -10,4 +10,5 @@ pub mod Back
 pub mod Image
 pub mod Forward
 pub mod Noted
+pub mod Quotes
 pub mod Valued

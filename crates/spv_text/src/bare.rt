@@ -18,13 +18,14 @@ ghost use Rattle.spv_text.specs.Noted.{IsNoted};
 
 use crate::ids::{Beginning, Ids};
 use crate::line::Setting;
-use crate::near::{lend_quotes, push_text};
+use crate::near::push_quoted;
 use crate::noted::{Noted, find_named};
 use crate::plain::{first_item, front_id, front_word};
+use crate::taking::is_break;
 use spv_grammar::{Item, Table};
 use spv_inst::Operand;
 use spv_inst::due::{Form, Leaf, form_in, joined, next_kind, read_text};
-use spv_tokens::{behind, read_front, split_token};
+use spv_tokens::{behind, read_front, split_around, split_token};
 use std::alloc::AllocError;
 
 /// What is left of a line behind an operand that is no result.
@@ -122,14 +123,20 @@ fn take_text<'t, 'a>(
     let Some(spaced) = behind(rest, b' ') else {
         return Ok(None);
     };
-    let Some(quotation) = lend_quotes(spaced) else {
+    let Some(inside) = behind(spaced, b'"') else {
         return Ok(None);
     };
-    read_text(&Operand::Text(quotation.text));
-    push_text(words, quotation.text.as_bytes())?;
+    let Some(at) = push_quoted(words, inside.as_bytes())? else {
+        return Ok(None);
+    };
+    let (text, later) = split_around(inside, at);
+    if !is_break(later) {
+        return Ok(None);
+    }
+    read_text(&Operand::Text(text));
     Ok(Some(Bare {
         kinds: &[],
-        rest: quotation.rest,
+        rest: later,
     }))
 }
 

@@ -100,7 +100,7 @@ fn take_named<'t, 'a>(
 
 /// The text in quotes at the front, if it has no escapes and no zero octet and behind it the line ends or has a space.
 #[inline(never)]
-pub fn bare_quotes(rest: &str) -> Option<Quotation<'_>>
+fn bare_quotes(rest: &str) -> Option<Quotation<'_>>
     ensures { IfSome result (λ q. HasQuoted rest.now q.text.now q.rest.now) }
 {
     let Some(quotation) = read_unescaped(rest) else {

@@ -1,81 +1,20 @@
-//! Short texts in quotes.
+//! Texts in quotes without escapes, whose words are added as they are read.
 
-ghost use Rattle.std.specs.Prelude.{◌≡◌, ◌++◌, ◌*◌, ◌+◌, ◌<◌, true, IfSome, OnOk, length, slice_index, take};
-ghost use Rattle.spv_inst.specs.Written.{is_without_zero, text_words};
-ghost use Rattle.spv_lines.specs.Operand.{escaped};
-ghost use Rattle.spv_text.specs.Reading.{HasQuoted};
+ghost use Rattle.std.specs.Prelude.{◌≡◌, ◌≢◌, ◌∷◌, ◌++◌, ◌*◌, ◌+◌, [], true, IfOk, IfSome, take};
+ghost use Rattle.spv_inst.specs.Written.{text_words};
+ghost use Rattle.spv_text.specs.Quotes.{BeginsWord, IsClosed};
 
-use crate::cells::bare_quotes;
-use crate::taking::is_break;
-use spv_tokens::{Quotation, behind, split_around};
 use std::alloc::AllocError;
 
-/// How many octets are looked at one by one for a closing quote.
-const NEAR: usize = 32;
-
-/// Where the quote stands that closes a text of few octets, each behind `"` in ASCII and none of them `\`. None where another
-/// octet stands before it, or it is not near.
+/// Whether an octet stands in quotes as it is, and is no control character.
 #[inline(always)]
-fn near_end(octets: &[u8]) -> Option<usize>
-    ensures { IfSome result (λ at. (at < length octets.now) × (slice_index octets.now at ≡ 34) × (escaped (take at octets.now) ≡ take at octets.now) × (is_without_zero (take at octets.now) ≡ true)) }
+fn is_clear(octet: u8) -> bool
+    ensures some { result ≡ true → octet ≢ 0 }
+    ensures quote { result ≡ true → octet ≢ 34 }
+    ensures mark { result ≡ true → octet ≢ 92 }
+    ensures feed { result ≡ true → octet ≢ 10 }
 {
-    let end = if octets.len() < NEAR {
-        octets.len()
-    } else {
-        NEAR
-    };
-    let mut at = 0;
-    while at < end {
-        let octet = octets[at];
-        if octet <= b'"' {
-            return if octet == b'"' { Some(at) } else { None };
-        }
-        if octet == b'\\' {
-            return None;
-        }
-        at += 1;
-    }
-    None
-}
-
-/// The text in quotes at the front, if its end is near by `near_end` and behind it the line ends or has a space.
-#[inline(always)]
-fn near_quotes(rest: &str) -> Option<Quotation<'_>>
-    ensures { IfSome result (λ q. HasQuoted rest.now q.text.now q.rest.now) }
-{
-    let Some(inside) = behind(rest, b'"') else {
-        return None;
-    };
-    let Some(at) = near_end(inside.as_bytes()) else {
-        return None;
-    };
-    let (text, later) = split_around(inside, at);
-    if is_break(later) {
-        return Some(Quotation { text, rest: later });
-    }
-    None
-}
-
-/// The same as `bare_quotes`, at less cost where the text is short.
-#[inline(always)]
-pub fn lend_quotes(rest: &str) -> Option<Quotation<'_>>
-    ensures { IfSome result (λ q. HasQuoted rest.now q.text.now q.rest.now) }
-{
-    match near_quotes(rest) {
-        Some(quotation) => Some(quotation),
-        None => bare_quotes(rest),
-    }
-}
-
-/// An octet of a text, or 0 past its end.
-#[inline(always)]
-fn octet_at(octets: &[u8], place: usize) -> u8
-    ensures { result ≡ slice_index octets.now place }
-{
-    match octets.get(place) {
-        Some(octet) => *octet,
-        None => 0,
-    }
+    octet >= b' ' && octet != b'"' && octet != b'\\'
 }
 
 /// Four octets as a word, the first lowest. (2.2.1)
@@ -89,23 +28,79 @@ fn word_of(first: u8, second: u8, third: u8, fourth: u8) -> u32
         + 16777216 * u32::from(fourth)
 }
 
-/// Adds the words of a text: its octets, and zeros up to a whole word, one of them at least. (2.2.1)
-///
-/// An `AllocError` comes only where a growth of memory was refused, and then nothing is said of what is left.
+/// The word of the first four octets of a text in quotes, and what stands behind them. None where there are fewer, or one of
+/// them is not clear (`is_clear`).
 #[inline(always)]
-pub fn push_text(words: &mut Vec<u32>, octets: &[u8]) -> Result<(), AllocError>
-    ensures { OnOk result (words.new.items ≡ words.old.items ++ text_words octets.now) }
+fn first_word(octets: &[u8]) -> Option<(u32, &[u8])>
+    ensures { IfSome result (λ p. BeginsWord octets.now p.0 (p.1).now) }
 {
-    let mut at = 0;
-    while octets.len() - at >= 4 {
-        words.push(word_of(octets[at], octets[at + 1], octets[at + 2], octets[at + 3]))?;
-        at += 4;
+    let [first, second, third, fourth, rest @ ..] = octets else {
+        return None;
+    };
+    if is_clear(*first) && is_clear(*second) && is_clear(*third) && is_clear(*fourth) {
+        return Some((word_of(*first, *second, *third, *fourth), rest));
     }
-    words.push(word_of(
-        octet_at(octets, at),
-        octet_at(octets, at + 1),
-        octet_at(octets, at + 2),
-        0,
-    ))?;
-    Ok(())
+    None
+}
+
+/// The last octets of a text in quotes.
+#[derive(Clone, Copy, Debug)]
+struct Tail {
+    /// How many octets they are, up to three.
+    count: usize,
+    /// Their word, in which zeros stand behind them. (2.2.1)
+    word: u32,
+}
+
+/// The octets up to the closing quote. None where they are more than three, or one of them is not clear (`is_clear`).
+#[inline(always)]
+fn read_tail(octets: &[u8]) -> Option<Tail>
+    ensures { IfSome result (λ t. IsClosed octets.now t.count × (text_words (take t.count octets.now) ≡ t.word ∷ [])) }
+{
+    match octets {
+        [b'"', ..] => Some(Tail { count: 0, word: 0 }),
+        [first, b'"', ..] => {
+            if is_clear(*first) {
+                let word = word_of(*first, 0, 0, 0);
+                return Some(Tail { count: 1, word });
+            }
+            None
+        }
+        [first, second, b'"', ..] => {
+            if is_clear(*first) && is_clear(*second) {
+                let word = word_of(*first, *second, 0, 0);
+                return Some(Tail { count: 2, word });
+            }
+            None
+        }
+        [first, second, third, b'"', ..] => {
+            if is_clear(*first) && is_clear(*second) && is_clear(*third) {
+                let word = word_of(*first, *second, *third, 0);
+                return Some(Tail { count: 3, word });
+            }
+            None
+        }
+        _ => None,
+    }
+}
+
+/// Adds the words of a text up to its closing quote, its octets and zeros up to a whole word, one of them at least (2.2.1), and
+/// gives how many octets it has. None where an octet before the quote is not clear (`is_clear`), or there is no quote; then
+/// nothing is said of the words.
+///
+/// An `AllocError` comes only where a growth of memory was refused.
+#[inline(always)]
+pub fn push_quoted(words: &mut Vec<u32>, octets: &[u8]) -> Result<Option<usize>, AllocError>
+    ensures { IfOk result (λ o. IfSome o (λ at. IsClosed octets.now at × (words.new.items ≡ words.old.items ++ text_words (take at octets.now)))) }
+{
+    let mut rest = octets;
+    while let Some((word, later)) = first_word(rest) {
+        words.push(word)?;
+        rest = later;
+    }
+    let Some(tail) = read_tail(rest) else {
+        return Ok(None);
+    };
+    words.push(tail.word)?;
+    Ok(Some(octets.len() - rest.len() + tail.count))
 }
