@@ -1,8 +1,8 @@
--- Short texts in quotes.
+-- Texts in quotes, whose words are added as they are read.
 use Rattle.std.proofs.Common.{◌≡◌, ◌≢◌, ◌++◌, ◌∙◌, ◌<◌, ◌≤◌, ◌+◌, ◌-◌, ◌*◌, ℕ, suc, Bool, List, [], ◌∷◌, true, false, not, ◌||◌, nat_eq, length, take, drop, get_or, refl, sym, ap, arith, append_assoc, length-append}
 use Rattle.std.specs.List.{list_any}
-use Rattle.std.proofs.lemmas.List.{drop_more, take-append-drop}
-use Rattle.std.proofs.Math.Seq.{take-length}
+use Rattle.std.proofs.lemmas.List.{drop_more, get_or-append-add, take-append-drop}
+use Rattle.std.proofs.Math.Seq.{take-append-add, take-length}
 use Rattle.std.proofs.lemmas.Bool.Decides.{nat_tests}
 use Rattle.spv_inst.specs.Written.{is_without_zero, text_words}
 use Rattle.spv_lines.specs.Operand.{escaped, quoted}
@@ -53,9 +53,6 @@ pub record QuotedSoFar (octets rest old new : List ℕ) : Type 0 where
   pub clear : AreClear front
   pub words : (xs : List ℕ) → new ++ text_words xs ≡ old ++ text_words (front ++ xs)
 
-pub quoted_first : (octets words : List ℕ) → QuotedSoFar octets octets words words
-quoted_first octets words = record { front = []; all = refl; clear = (refl, refl); words = λ xs. refl }
-
 -- four octets more
 pub quoted_more : (octets rest later old new next : List ℕ) (w : ℕ) → QuotedSoFar octets rest old new → BeginsWord rest w later → next ≡ new ++ (w ∷ []) → QuotedSoFar octets later old next
 quoted_more octets rest later old new next w s b e =
@@ -89,31 +86,17 @@ begins_four (a ∷ b ∷ c ∷ d ∷ rest) w l f g h i j =
     let all : take (length (a ∷ b ∷ c ∷ d ∷ rest) - 4) rest ≡ rest = ap (λ n. take n rest) (all_but (length rest)) ∙ take-length rest in
     rw all (record { front = front; all = refl; count = refl; plain = clear.0; no_zero = clear.1; words = λ xs. ap (λ z. z ∷ text_words xs) (sym j) })
 
-zero_add : (n : ℕ) → 0 + n ≡ n
-zero_add n = omega arith
-
-suc_add : (m n : ℕ) → suc m + n ≡ suc (m + n)
-suc_add m n = omega arith
-
-take_front : (xs ys : List ℕ) (n : ℕ) → take (length xs + n) (xs ++ ys) ≡ xs ++ take n ys
-take_front [] ys n = ap (λ k. take k ys) (zero_add n)
-take_front (x ∷ xs) ys n = ap (λ k. take k (x ∷ (xs ++ ys))) (suc_add (length xs) n) ∙ ap (λ z. x ∷ z) (take_front xs ys n)
-
-get_front : (xs ys : List ℕ) (n : ℕ) → get_or (xs ++ ys) (length xs + n) 0 ≡ get_or ys n 0
-get_front [] ys n = ap (λ k. get_or ys k 0) (zero_add n)
-get_front (x ∷ xs) ys n = ap (λ k. get_or (x ∷ (xs ++ ys)) k 0) (suc_add (length xs) n) ∙ get_front xs ys n
-
 -- the octets before the closing quote
 pub quoted_last : (octets rest old new next : List ℕ) (at n w : ℕ) → QuotedSoFar octets rest old new → at ≡ length octets - length rest → IsClosed rest n → text_words (take n rest) ≡ w ∷ [] → next ≡ new ++ (w ∷ []) → IsClosed octets (at + n) × (next ≡ old ++ text_words (take (at + n) octets))
 quoted_last octets rest old new next at n w s o c t e =
     let f = s.front in
     let b : length octets ≡ length f + length rest = ap length s.all ∙ length-append f rest in
     let m : length f ≡ at = omega (arith, b, o) in
-    let cut : take (at + n) octets ≡ f ++ take n rest = rw (s.all, ← m) (take_front f rest n) in
+    let cut : take (at + n) octets ≡ f ++ take n rest = rw (s.all, ← m) (take-append-add f rest n) in
     let clear = clear_more f (take n rest) s.clear (c.plain, c.no_zero) in
     let l = c.within in
     let k : length octets ≡ at + length rest = omega (arith, b, m) in
-    let q : get_or octets (at + n) 0 ≡ 34 = rw (s.all, ← m) (get_front f rest n ∙ c.quote) in (
+    let q : get_or octets (at + n) 0 ≡ 34 = rw (s.all, ← m) (get_or-append-add f rest n 0 ∙ c.quote) in (
       record { within = omega (arith, l, k); quote = q; plain = rw cut clear.0; no_zero = rw cut clear.1 },
       e ∙ (ap (λ z. new ++ z) (sym t) ∙ (s.words (take n rest) ∙ ap (λ z. old ++ text_words z) (sym cut))),
     )

@@ -1,4 +1,4 @@
--- Texts in quotes that are read octet by octet. (For the code alone.)
+-- Texts in quotes whose words are added as they are read. (For the code alone.)
 use Rattle.std.specs.Prelude.{◌≡◌, ◌<◌, ◌∷◌, ◌++◌, ℕ, List, true, length, slice_index, take}
 use Rattle.spv_inst.specs.Written.{is_without_zero, text_words}
 use Rattle.spv_lines.specs.Operand.{escaped}
