@@ -6,7 +6,7 @@ use Rattle.std.proofs.KnownBytes.{Keeps-refl}
 use Rattle.spv_words.specs.Streams.{Holds}
 use Rattle.spv_words.proofs.Gathered.{ends}
 use Rattle.spv_words.specs.declared.words.Order.{Order}
-use Rattle.spv_grammar.specs.Table.{Table}
+use Rattle.spv_table.specs.Table.{Table}
 use Rattle.spv_lines.specs.Fault.{IsFailure, HeaderLine, Magic, Version, Generator, Bound, Schema, header, number_of, IsHeaderLine, line_at}
 use Rattle.spv_lines.specs.Text.{lines_of}
 use Rattle.spv_lines.specs.declared.asm_error.AsmError.{AsmError}

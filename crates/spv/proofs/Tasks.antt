@@ -3,7 +3,7 @@ use Rattle.std.proofs.Common.{ℕ, List, [], ◌∷◌, ◌++◌, Some, None, Bo
 use Rattle.spv_words.specs.Header.{IsFirstBroken, IsModule}
 use Rattle.spv_words.specs.declared.words.Order.{Order}
 use Rattle.spv_words.specs.declared.words.WordError.TheVariants.{W2}
-use Rattle.spv_grammar.specs.Table.{Table}
+use Rattle.spv_table.specs.Table.{Table}
 use Rattle.spv.specs.declared.command_line.Command.{Command}
 use Rattle.spv.specs.declared.command_line.Command.TheVariants.{Check, Show, Asm, Trace}
 use Rattle.spv.specs.Example.{empty_grammar}

@@ -5,7 +5,7 @@ use Rattle.spv_words.specs.Header.{IsFirstBroken, IsModule, Refuses}
 use Rattle.spv_words.specs.declared.words.Order.{Order}
 use Rattle.spv_words.specs.declared.words.WordError.{WordError}
 use Rattle.spv_words.specs.declared.words.WordError.TheVariants as word
-use Rattle.spv_grammar.specs.Table.{Table}
+use Rattle.spv_table.specs.Table.{Table}
 use Rattle.spv_run.specs.Entry.{IsEntryId, IsRefused}
 use Rattle.spv_run.specs.declared.parts.Trace.{Trace}
 use Rattle.spv_run.specs.declared.parts.TraceError.{TraceError}

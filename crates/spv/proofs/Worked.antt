@@ -1,6 +1,6 @@
 -- Worked examples of grammar files.
 use Rattle.std.proofs.Common.{◌≡◌, ◌++◌, [], Some, None, IsUtf8, codes, refl}
-use Rattle.spv_grammar.specs.Table.{Table}
+use Rattle.spv_table.specs.Table.{Table}
 use Rattle.spv_grammar.specs.declared.error.GrammarError.TheVariants.{J1}
 use Rattle.serde_json.specs.Read.{read as read_text}
 use Rattle.serde_json.proofs.OnLiterals.{serde_json_on_literals}

@@ -6,7 +6,7 @@ use Rattle.spv_words.specs.Streams.{Holds}
 use Rattle.spv_words.specs.declared.words.Header.{Header}
 use Rattle.spv_words.specs.declared.words.Order.{Order}
 use Rattle.spv_words.specs.declared.words.Order.TheVariants.{Little, Big}
-use Rattle.spv_grammar.specs.Table.{Table}
+use Rattle.spv_table.specs.Table.{Table}
 use Rattle.spv_inst.specs.Operand.{PlainInst}
 use Rattle.spv_inst.specs.Outcome.{IsHeaderOf}
 use Rattle.spv_lines.specs.Text.{IsReadText}

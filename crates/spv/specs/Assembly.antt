@@ -1,6 +1,6 @@
 -- What a text comes to, as the code keeps it. (For the code alone.)
 use Rattle.std.specs.Prelude.{ℕ, List, IsUtf8, Result, Ok, Err}
-use Rattle.spv_grammar.specs.Table.{Table}
+use Rattle.spv_table.specs.Table.{Table}
 use Rattle.spv_lines.specs.Fault.{IsFailure}
 use Rattle.spv_lines.specs.declared.asm_error.AsmCode.TheVariants.{S6}
 use Rattle.spv_lines.specs.declared.asm_error.AsmError.{AsmError}

@@ -1,6 +1,6 @@
 -- What a command does, by the text of its grammar file (own).
 use Rattle.std.specs.Prelude.{ℕ, List, Option, Bool, IfSome, IsUtf8}
-use Rattle.spv_grammar.specs.Table.{Table}
+use Rattle.spv_table.specs.Table.{Table}
 use Rattle.spv.specs.declared.command_line.Command.{Command}
 use Rattle.spv.specs.declared.command_line.Command.TheVariants.{Check, Show, Asm, Trace}
 use Rattle.spv.specs.Assemble.{Assembles, BeginsAssembling, order_of}

@@ -2,7 +2,7 @@
 use Rattle.std.specs.Prelude.{◌≡◌, ◌≢◌, ◌≤◌, ◌++◌, ℕ, List, Option, Some, Bool, true, false, length, take, codes, decimal, flat_map}
 use Rattle.spv_words.specs.Header.{IsModule}
 use Rattle.spv_words.specs.declared.words.Order.{Order}
-use Rattle.spv_grammar.specs.Table.{Table}
+use Rattle.spv_table.specs.Table.{Table}
 use Rattle.spv_run.specs.Entry.{IsEntryId}
 use Rattle.spv_run.specs.declared.parts.Ending.{Ending}
 use Rattle.spv_run.specs.declared.parts.Ending.TheVariants.{Finished, Unreachable, Limit, NoChoice, BadChoice}

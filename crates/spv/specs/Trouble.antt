@@ -6,7 +6,7 @@ use Rattle.serde_json.specs.Read.{read as read_text}
 use Rattle.spv_words.specs.declared.words.WordError.{WordError}
 use Rattle.spv_words.specs.declared.words.WordError.TheVariants.{W9}
 use Rattle.spv_grammar.specs.Answer.{Gives, text_breaks}
-use Rattle.spv_grammar.specs.Table.{Table}
+use Rattle.spv_table.specs.Table.{Table}
 use Rattle.spv_grammar.specs.declared.error.GrammarError.{GrammarError}
 use Rattle.spv_grammar.specs.declared.error.GrammarError.TheVariants as grammar
 use Rattle.spv.specs.declared.program.Trouble.{Trouble}

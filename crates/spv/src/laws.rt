@@ -2,7 +2,7 @@
 //! is what is proved.
 ghost use Rattle.std.specs.Prelude.{◌≡◌, ◌++◌, ◌∷◌, [], ℕ, List, Option, Bool, true, false, codes};
 ghost use Rattle.spv_words.specs.declared.words.Order.{Order};
-ghost use Rattle.spv_grammar.specs.Table.{Table};
+ghost use Rattle.spv_table.specs.Table.{Table};
 ghost use Rattle.spv_grammar.specs.Answer.{text_breaks};
 ghost use Rattle.spv_grammar.specs.declared.error.GrammarError.{GrammarError};
 ghost use Rattle.spv_grammar.specs.Example.{empty_table};

@@ -1,6 +1,6 @@
 -- Which rules on flow and availability are broken, and where. [2.4, 2.16]
 use Rattle.std.specs.Prelude.{◌⊎◌, ℕ, List}
-use Rattle.spv_grammar.specs.Table.{Table}
+use Rattle.spv_table.specs.Table.{Table}
 use Rattle.spv_inst.specs.Operand.{PlainInst}
 use Rattle.spv_inst.specs.declared.fault.Rule.{Rule}
 use Rattle.spv_inst.specs.declared.fault.Rule.TheVariants.{F1, F2, F3, F4, A1, A2}

@@ -1,6 +1,6 @@
 -- What the look for broken rules finds. (For the code alone, but for `IsRefusal`.)
 use Rattle.std.specs.Prelude.{◌≡◌, List}
-use Rattle.spv_grammar.specs.Table.{Table}
+use Rattle.spv_table.specs.Table.{Table}
 use Rattle.spv_inst.specs.Operand.{PlainInst}
 use Rattle.spv_inst.specs.declared.fault.Stop.{Stop}
 use Rattle.spv_inst.specs.declared.fault.Stop.TheVariants.{Fault, Memory}

@@ -1,6 +1,6 @@
 -- What is gathered of the branches and the labels of a module. (For the code alone.)
 use Rattle.std.specs.Prelude.{◌≡◌, ◌≤◌, ◌<◌, ◌⊎◌, ℕ, List, Bool, true, false, Option, MatchOption}
-use Rattle.spv_grammar.specs.Table.{Table}
+use Rattle.spv_table.specs.Table.{Table}
 use Rattle.spv_inst.specs.Operand.{PlainInst}
 use Rattle.spv_branches.specs.declared.edges.Edges.{Edges}
 use Rattle.spv_branches.specs.declared.faults.Targets.{Targets}

@@ -1,7 +1,7 @@
 //! The first of the rules F1 to F4 that a module breaks.
 
 ghost use Rattle.std.specs.Prelude.{◌≡◌, ◌≤◌, ◌<◌, ◌+◌, ℕ, List, false, length, sum_by, IsTrue, IfOk, IfErr, MatchOption};
-ghost use Rattle.spv_grammar.specs.Table.{Table};
+ghost use Rattle.spv_table.specs.Table.{Table};
 ghost use Rattle.spv_inst.specs.Module.{plain_insts};
 ghost use Rattle.spv_inst.specs.Operand.{PlainInst};
 ghost use Rattle.spv_layout.specs.First.{IsFirst, IsUnbroken};

@@ -17,7 +17,7 @@ pub struct Code<'m, 'a> {
 
 impl Code<'_, '_> {
     ghost use Rattle.std.specs.Prelude.{◌≡◌, ◌<◌, ℕ, length, IfSome, MatchOption, MatchBool};
-    ghost use Rattle.spv_grammar.specs.Table.{Table};
+    ghost use Rattle.spv_table.specs.Table.{Table};
     ghost use Rattle.spv_branches.specs.Code.{insts_of, IsCode};
     ghost use Rattle.spv_branches.specs.Target.{IsLabelOf};
     ghost use Rattle.spv_layout.specs.Place.{IsOfBlock};

@@ -1,7 +1,7 @@
 //! The edges and the entry labels of a module.
 
 ghost use Rattle.std.specs.Prelude.{◌≡◌, ◌<◌, ◌≤◌, ◌+◌, ℕ, length, map, IsTrue, IfOk, OnOk};
-ghost use Rattle.spv_grammar.specs.Table.{Table};
+ghost use Rattle.spv_table.specs.Table.{Table};
 ghost use Rattle.spv_inst.specs.Module.{plain_inst};
 ghost use Rattle.spv_branches.specs.Code.{insts_of, IsCode};
 ghost use Rattle.spv_branches.specs.Edges.{IsEdges};

@@ -1,7 +1,7 @@
 //! The labels among the operands of an instruction.
 
 ghost use Rattle.std.specs.Prelude.{◌≡◌, ℕ, IsTrue, MatchOption, slice_get, option_and_then};
-ghost use Rattle.spv_grammar.specs.Table.{Table};
+ghost use Rattle.spv_table.specs.Table.{Table};
 ghost use Rattle.spv_inst.specs.Module.{plain_inst, plain_operand};
 ghost use Rattle.spv_layout.specs.Shape.{Fits, IsUse};
 ghost use Rattle.spv_layout.specs.Shape as shape;

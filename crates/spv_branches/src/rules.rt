@@ -1,7 +1,7 @@
 //! Which of the rules F1 to F4 is broken first at an instruction.
 
 ghost use Rattle.std.specs.Prelude.{◌≡◌, ◌<◌, ℕ, false, length, IfNone};
-ghost use Rattle.spv_grammar.specs.Table.{Table};
+ghost use Rattle.spv_table.specs.Table.{Table};
 ghost use Rattle.spv_branches.specs.Code.{insts_of, IsCode};
 ghost use Rattle.spv_branches.specs.Edges.{IsEdges, marked};
 ghost use Rattle.spv_branches.specs.Graph.{AreGathered, AreEntries, IsFirstAt};

@@ -1,7 +1,7 @@
 //! The first call on a cycle.
 
 ghost use Rattle.std.specs.Prelude.{◌+◌, ◌≤◌, ℕ, sum_by, IfOk, IfSome, IfNone};
-ghost use Rattle.spv_grammar.specs.Table.{Table};
+ghost use Rattle.spv_table.specs.Table.{Table};
 ghost use Rattle.spv_inst.specs.Module.{plain_insts};
 ghost use Rattle.spv_inst.specs.declared.fault.Rule.TheVariants.{G1};
 ghost use Rattle.spv_layout.specs.First.{IsFirst, IsUnbroken};

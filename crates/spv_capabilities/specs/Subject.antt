@@ -1,6 +1,6 @@
 -- What a survey is of.
 use Rattle.std.specs.Prelude.{List}
-use Rattle.spv_grammar.specs.Table.{Table}
+use Rattle.spv_table.specs.Table.{Table}
 use Rattle.spv_inst.specs.Operand.{PlainInst}
 
 -- a grammar table, and a module's instructions

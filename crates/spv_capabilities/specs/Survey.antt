@@ -2,7 +2,7 @@
 use Rattle.std.specs.Prelude.{◌≡◌, ◌<◌, ◌↔◌, ℕ, List, Option, Some, Bool, IsTrue, codes, filter_map, length, map, slice_get, take}
 use Rattle.std.specs.BTreeSet.{contains}
 use Rattle.std.specs.Ordering.{nat_cmp}
-use Rattle.spv_grammar.specs.Lookups.{number_named}
+use Rattle.spv_table.specs.Lookups.{number_named}
 use Rattle.spv_inst.specs.Operand.{PlainInst}
 use Rattle.spv_inst.specs.Module.{plain_inst}
 use Rattle.spv_layout.specs.declared.place.Place.{Place}

@@ -1,8 +1,8 @@
 //! A module that is surveyed: which capabilities it has, and which of its functions are called, entered and imported.
 
 ghost use Rattle.std.specs.Prelude.{◌≡◌, ◌↔◌, ◌<◌, ℕ, List, Option, IsTrue, IfOk, Some, codes, length, map, slice_get};
-ghost use Rattle.spv_grammar.specs.Table.{Table};
-ghost use Rattle.spv_grammar.specs.Lookups.{number_named};
+ghost use Rattle.spv_table.specs.Table.{Table};
+ghost use Rattle.spv_table.specs.Lookups.{number_named};
 ghost use Rattle.spv_inst.specs.Operand.{PlainInst};
 ghost use Rattle.spv_inst.specs.Module.{plain_inst};
 ghost use Rattle.spv_layout.specs.Place.{IsDefinition};

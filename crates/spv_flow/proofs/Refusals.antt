@@ -1,6 +1,6 @@
 -- What the three looks at the flow refuse.
 use Rattle.std.proofs.Common.{ℕ, List}
-use Rattle.spv_grammar.specs.Table.{Table}
+use Rattle.spv_table.specs.Table.{Table}
 use Rattle.spv_inst.specs.Operand.{PlainInst}
 use Rattle.spv_inst.specs.declared.fault.Rule.TheVariants.{G1}
 use Rattle.spv_inst.specs.declared.fault.Stop.{Stop}

@@ -1,6 +1,6 @@
 -- What `flow_check` answers of a module whose places and ids are known.
 use Rattle.std.specs.Prelude.{◌≡◌, ℕ, List}
-use Rattle.spv_grammar.specs.Table.{Table}
+use Rattle.spv_table.specs.Table.{Table}
 use Rattle.spv_inst.specs.Operand.{PlainInst}
 use Rattle.spv_inst.specs.declared.fault.Rule.{Rule}
 use Rattle.spv_inst.specs.declared.fault.Stop.{Stop}

@@ -1,7 +1,7 @@
 //! The first of the rules F, A and G that a module breaks.
 
 ghost use Rattle.std.specs.Prelude.{◌≡◌, ◌≤◌, ◌<◌, ◌+◌, ℕ, List, length, sum_by, IfOk, IfErr};
-ghost use Rattle.spv_grammar.specs.Table.{Table};
+ghost use Rattle.spv_table.specs.Table.{Table};
 ghost use Rattle.spv_inst.specs.Operand.{PlainInst};
 ghost use Rattle.spv_inst.specs.Module.{plain_insts};
 ghost use Rattle.spv_inst.specs.declared.fault.Rule.TheVariants.{G1};

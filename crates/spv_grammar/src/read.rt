@@ -8,7 +8,7 @@ ghost use Rattle.spv_grammar.specs.File.{Reads, each, text_at, items_at, quantif
 use crate::error::GrammarError;
 use crate::file::{File, FileEnumerant, FileInstruction, FileKind, FileOperand};
 use crate::lent::{Lent, LentName};
-use crate::table::{Category, Quantifier};
+use spv_table::{Category, Quantifier};
 use bumpalo::Bump;
 use json_tree::Tree;
 

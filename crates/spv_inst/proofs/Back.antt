@@ -2,7 +2,7 @@
 use Rattle.std.proofs.Common.{◌≡◌, ◌∙◌, ◌-◌, ℕ, List, [], drop, refl, sym}
 use Rattle.spv_words.specs.declared.words.Header.{Header}
 use Rattle.spv_words.specs.Header.{IsHeader}
-use Rattle.spv_grammar.specs.Table.{Table}
+use Rattle.spv_table.specs.Table.{Table}
 use Rattle.spv_inst.specs.declared.fault.Stop.{Stop}
 use Rattle.spv_inst.specs.declared.fault.Stop.TheVariants.{Fault, Memory}
 use Rattle.spv_inst.specs.declared.module.Module.{Module}

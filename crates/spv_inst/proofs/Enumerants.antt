@@ -5,8 +5,8 @@ use Rattle.std.proofs.lemmas.Grind.{common_steps}
 use Rattle.std.proofs.lemmas.Nat.{pow_pos}
 use Rattle.std.proofs.Math.Pow.{pow-lt}
 use Rattle.std.proofs.Math.Nat.{div-eq_of_lt, lt-div-mul-add, mod-eq_of_lt}
-use Rattle.spv_grammar.specs.declared.table.Enumerant.{Enumerant}
-use Rattle.spv_grammar.specs.Table.{Table, Sort, kind_of, enumerant_of}
+use Rattle.spv_table.specs.declared.table.Enumerant.{Enumerant}
+use Rattle.spv_table.specs.Table.{Table, Sort, kind_of, enumerant_of}
 use Rattle.spv_inst.specs.Operand.{Value, Mask}
 use Rattle.spv_inst.specs.Shape.{alone, AsValue, AsMask}
 use Rattle.spv_inst.specs.Spelling.{bits_from, parameters_of, parameters_of_all, mask_parameters, Takes}

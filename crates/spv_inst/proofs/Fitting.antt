@@ -2,7 +2,7 @@
 use Rattle.std.proofs.Common.{◌≡◌, ◌<◌, ◌≤◌, ◌+◌, ◌-◌, ℕ, List, [], ◌∷◌, Bool, true, false, Ok, Err, length, map, take, slice_index, refl, ◌∙◌, arith}
 use Rattle.std.specs.Prelude.{Result, IfOk, IfErr, nat_eq}
 use Rattle.std.proofs.lemmas.Bool.{ne_eqb}
-use Rattle.spv_grammar.specs.Table.{Table}
+use Rattle.spv_table.specs.Table.{Table}
 use Rattle.spv_inst.specs.declared.fault.Rule.TheVariants.{I4, I12}
 use Rattle.spv_inst.specs.declared.operand.Operand.{Operand}
 use Rattle.spv_inst.specs.declared.reader.Taken.{Taken}

@@ -2,7 +2,7 @@
 use Rattle.std.proofs.Common.{◌≡◌, Option, Some, None, Result, Ok, Err, IfOk, MatchOption, ◌++◌, ◌∙◌, ◌==◌, ◌<◌, ℕ, Bool, true, false, length, arith, List, [], ◌∷◌, map, refl, sym, ap, append_assoc, append-nil}
 use Rattle.std.proofs.lemmas.Bool.Decides.{nat_tests}
 use Rattle.std.specs.declared.alloc.AllocError.{AllocError}
-use Rattle.spv_grammar.specs.Table.{Table}
+use Rattle.spv_table.specs.Table.{Table}
 use Rattle.spv_inst.specs.declared.agenda.Frame.{Frame}
 use Rattle.spv_inst.specs.declared.agenda.Frame.TheVariants.{Bits}
 use Rattle.spv_inst.specs.declared.reader.Slot as code

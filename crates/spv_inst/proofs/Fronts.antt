@@ -1,6 +1,6 @@
 -- A failure of the flat form is a misfit of a pattern.
 use Rattle.std.proofs.Common.{◌≡◌, ◌++◌, ◌∙◌, ◌+◌, ℕ, List, [], ◌∷◌, length, map, refl, sym, ap, arith, append_assoc, length-append}
-use Rattle.spv_grammar.specs.Table.{Table, Item, One, Maybe, Many}
+use Rattle.spv_table.specs.Table.{Table, Item, One, Maybe, Many}
 use Rattle.spv_inst.specs.Operand.{Plain, Context, and_then, after}
 use Rattle.spv_inst.specs.Shape.{Slot, alone, AsParts, shape_of}
 use Rattle.spv_inst.specs.Spelling.{Takes, Spells, SpellsAll}

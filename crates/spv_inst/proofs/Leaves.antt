@@ -6,7 +6,7 @@ use Rattle.std.specs.Prelude.{IsUtf8}
 use Rattle.std.specs.List.{AllByRecursion}
 use Rattle.spv_inst.specs.Operand.{OfType, Result, Id, Word, Number, Text, Value, Mask}
 use Rattle.spv_inst.specs.Shape.{Shape, AsType, AsResult, AsId, AsWord, AsNumber, AsText, AsValue, AsMask, AsParts, AsNothing}
-use Rattle.spv_grammar.specs.declared.table.Enumerant.{Enumerant}
+use Rattle.spv_table.specs.declared.table.Enumerant.{Enumerant}
 use Rattle.spv_inst.specs.Spelling.{octets_of, Holds, AreZeros, Takes, parameters_of, mask_parameters}
 use Rattle.spv_inst.specs.declared.fault.Rule.TheVariants.{I4, I6, I7, I8, I9, I10, I11, I12}
 use Rattle.spv_inst.specs.Refusal.{Refuses, IsLeaf, Meets}

@@ -1,6 +1,6 @@
 -- A misfit of a pattern is a failure of the flat form.
 use Rattle.std.proofs.Common.{◌≡◌, ◌≢◌, ◌++◌, ◌+◌, ℕ, List, [], ◌∷◌, length, map, refl, arith, append_assoc, length-append}
-use Rattle.spv_grammar.specs.Table.{Table, Item, Many}
+use Rattle.spv_table.specs.Table.{Table, Item, Many}
 use Rattle.spv_inst.specs.Operand.{Plain, Context, and_then, after}
 use Rattle.spv_inst.specs.Shape.{Slot, alone}
 use Rattle.spv_inst.specs.Spelling.{Spells, SpellsAll}

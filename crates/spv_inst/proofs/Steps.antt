@@ -1,6 +1,6 @@
 -- What a decoder keeps from one operand to the next. It needs no completeness: that comes of the laws of uniqueness.
 use Rattle.std.proofs.Common.{◌≡◌, ◌++◌, ◌∙◌, ◌+◌, ℕ, List, [], ◌∷◌, length, map, refl, ap, arith, append_assoc, append-nil}
-use Rattle.spv_grammar.specs.Table.{Table}
+use Rattle.spv_table.specs.Table.{Table}
 use Rattle.spv_inst.specs.Operand.{Plain, Context, and_then, after}
 use Rattle.spv_inst.specs.Shape.{Slot, AsParts, shape_of}
 use Rattle.spv_inst.specs.Spelling.{Takes}

@@ -2,8 +2,8 @@
 use Rattle.std.proofs.Common.{◌≡◌, ◌++◌, ◌∙◌, ◌<◌, ◌≤◌, ◌+◌, ◌⊎◌, inl, inr, ℕ, zero, suc, List, [], ◌∷◌, Some, map, length, drop, refl, sym, ap, arith, append_assoc, append-nil, length-append}
 use Rattle.spv_words.specs.declared.words.Header.{Header}
 use Rattle.spv_words.specs.Header.{IsHeader}
-use Rattle.spv_grammar.specs.declared.table.Entry.{Entry}
-use Rattle.spv_grammar.specs.Table.{Table, entry_of, pattern_of}
+use Rattle.spv_table.specs.declared.table.Entry.{Entry}
+use Rattle.spv_table.specs.Table.{Table, entry_of, pattern_of}
 use Rattle.spv_inst.specs.declared.module.Module.{Module}
 use Rattle.spv_inst.specs.declared.obstacle.EncodeCode.{EncodeCode}
 use Rattle.spv_inst.specs.declared.obstacle.EncodeCode.TheVariants.{N1, N2, N3, N4}

@@ -1,7 +1,7 @@
 -- Worked examples of encoding.
 use Rattle.std.proofs.Common.{◌≡◌, inr, ℕ, List, [], ◌∷◌, Some, length, refl, sym, subst, suc, ap, arith}
-use Rattle.spv_grammar.specs.declared.table.Entry.{Entry}
-use Rattle.spv_grammar.specs.Table.{entry_of, pattern_of, One}
+use Rattle.spv_table.specs.declared.table.Entry.{Entry}
+use Rattle.spv_table.specs.Table.{entry_of, pattern_of, One}
 use Rattle.spv_inst.specs.declared.obstacle.EncodeCode.{EncodeCode}
 use Rattle.spv_inst.specs.declared.obstacle.EncodeCode.TheVariants.{N2, N3}
 use Rattle.spv_inst.specs.Operand.{Plain, Result, Text, PlainInst, start, and_then}

@@ -1,14 +1,14 @@
 -- Worked examples under a small table.
 use Rattle.std.proofs.Common.{◌≡◌, ◌++◌, ℕ, List, [], ◌∷◌, refl, arith, map, ap, length, append-nil}
 use Rattle.std.specs.Prelude.{IsUtf8, codes}
-use Rattle.spv_grammar.specs.Table.{One, Maybe, Many}
+use Rattle.spv_table.specs.Table.{One, Maybe, Many}
 use Rattle.spv_inst.specs.Operand.{Plain, OfType, Result, Id, Word, Number, Text, Mask, Context, and_then, start}
 use Rattle.spv_inst.specs.Shape.{AsText, AsWord, alone, shape_of}
 use Rattle.spv_inst.specs.Spelling.{Takes, Holds, mask_parameters, Match, Spells, SpellsAll}
 use Rattle.spv_inst.specs.declared.fault.Rule.{Rule}
 use Rattle.spv_inst.specs.declared.fault.Rule.TheVariants.{I4, I7, I8}
 use Rattle.spv_inst.specs.Refusal.{Refuses, Misfit}
-use Rattle.spv_grammar.specs.Table.{pattern_of}
+use Rattle.spv_table.specs.Table.{pattern_of}
 use Rattle.spv_inst.specs.Flat.{Matches, Fails, due}
 use Rattle.spv_inst.specs.Instruction.{IsInstruction, first_word}
 use Rattle.spv_inst.specs.Example.{load_entry, string_entry, switch_entry, access, small, load, string, long_value, switch}

@@ -1,8 +1,8 @@
 -- What the decoder keeps of what is due, as a list.
 use Rattle.std.specs.Prelude.{◌≡◌, ◌++◌, ◌-◌, ◌/◌, ◌%◌, ◌^◌, ℕ, List, [], ◌∷◌, Bool, true, false, nat_eq, filter, map, unwrap_or}
-use Rattle.spv_grammar.specs.declared.table.Enumerant.{Enumerant}
-use Rattle.spv_grammar.specs.declared.table.Item as declared
-use Rattle.spv_grammar.specs.Table.{Table, Item, quantified, kind_of}
+use Rattle.spv_table.specs.declared.table.Enumerant.{Enumerant}
+use Rattle.spv_table.specs.declared.table.Item as declared
+use Rattle.spv_table.specs.Table.{Table, Item, quantified, kind_of}
 use Rattle.spv_inst.specs.declared.agenda.Frame.{Frame}
 use Rattle.spv_inst.specs.declared.agenda.Frame.TheVariants.{Kinds, Bits}
 use Rattle.spv_inst.specs.declared.agenda.Agenda.{Agenda}

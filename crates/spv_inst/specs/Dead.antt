@@ -1,7 +1,7 @@
 -- The dead instruction: its code, its number, and its word.
 use Rattle.std.specs.Prelude.{◌≡◌, ◌<◌, ◌+◌, ◌*◌, ℕ, suc, List, [], ◌∷◌, ◌++◌, length, Some, None}
-use Rattle.spv_grammar.specs.declared.table.Entry.{Entry}
-use Rattle.spv_grammar.specs.Table.{Table, entry_of, pattern_of}
+use Rattle.spv_table.specs.declared.table.Entry.{Entry}
+use Rattle.spv_table.specs.Table.{Table, entry_of, pattern_of}
 use Rattle.spv_inst.specs.Operand.{PlainInst, start}
 use Rattle.spv_inst.specs.Instruction.{IsInstruction, first_word}
 use Rattle.spv_inst.specs.declared.fault.Rule.{Rule}

@@ -1,11 +1,11 @@
 -- A small table, and instructions under it.
 use Rattle.std.specs.Prelude.{ℕ, List, [], ◌∷◌, codes}
-use Rattle.spv_grammar.specs.declared.table.Category.{Category}
-use Rattle.spv_grammar.specs.declared.table.Category.TheVariants.{Id, Literal, BitEnum, Composite}
-use Rattle.spv_grammar.specs.declared.table.Quantifier.TheVariants.{One, Maybe, Many}
-use Rattle.spv_grammar.specs.declared.table.Enumerant.{Enumerant}
-use Rattle.spv_grammar.specs.declared.table.Entry.{Entry}
-use Rattle.spv_grammar.specs.Table.{Sort, Table}
+use Rattle.spv_table.specs.declared.table.Category.{Category}
+use Rattle.spv_table.specs.declared.table.Category.TheVariants.{Id, Literal, BitEnum, Composite}
+use Rattle.spv_table.specs.declared.table.Quantifier.TheVariants.{One, Maybe, Many}
+use Rattle.spv_table.specs.declared.table.Enumerant.{Enumerant}
+use Rattle.spv_table.specs.declared.table.Entry.{Entry}
+use Rattle.spv_table.specs.Table.{Sort, Table}
 use Rattle.spv_inst.specs.Operand.{Plain, OfType, Result, Word, Number, Text, Mask, PlainInst}
 use Rattle.spv_inst.specs.Operand as operand
 

@@ -1,6 +1,6 @@
 -- The same by one relation over what is due and all the words left of the instruction, as a decoder goes.
 use Rattle.std.specs.Prelude.{◌≡◌, ◌+◌, ℕ, List, [], ◌∷◌, ◌++◌, map, length}
-use Rattle.spv_grammar.specs.Table.{Table, Item, One, Maybe, Many}
+use Rattle.spv_table.specs.Table.{Table, Item, One, Maybe, Many}
 use Rattle.spv_inst.specs.Operand.{Plain, Context, and_then}
 use Rattle.spv_inst.specs.Shape.{Slot, alone, AsParts, shape_of}
 use Rattle.spv_inst.specs.Spelling.{Takes}

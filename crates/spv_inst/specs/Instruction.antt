@@ -1,7 +1,7 @@
 -- Which words spell an instruction, and a list of instructions.
 use Rattle.std.specs.Prelude.{◌≡◌, ◌<◌, ◌+◌, ◌*◌, ℕ, List, [], ◌∷◌, ◌++◌, length, Some}
-use Rattle.spv_grammar.specs.declared.table.Entry.{Entry}
-use Rattle.spv_grammar.specs.Table.{Table, entry_of, pattern_of}
+use Rattle.spv_table.specs.declared.table.Entry.{Entry}
+use Rattle.spv_table.specs.Table.{Table, entry_of, pattern_of}
 use Rattle.spv_inst.specs.Operand.{PlainInst, start}
 use Rattle.spv_inst.specs.Spelling.{Match}
 

@@ -1,7 +1,7 @@
 -- What `decode` answers.
 use Rattle.std.specs.Prelude.{◌≡◌, ◌≤◌, ◌-◌, ℕ, List, drop, slice_index}
 use Rattle.spv_words.specs.declared.words.Header.{Header}
-use Rattle.spv_grammar.specs.Table.{Table}
+use Rattle.spv_table.specs.Table.{Table}
 use Rattle.spv_inst.specs.declared.fault.Stop.{Stop}
 use Rattle.spv_inst.specs.declared.fault.Stop.TheVariants.{Fault, Memory}
 use Rattle.spv_inst.specs.Operand.{PlainInst}

@@ -1,8 +1,8 @@
 -- What refuses the words of an instruction, and where.
 use Rattle.std.specs.Prelude.{◌≡◌, ◌≢◌, ◌<◌, ◌+◌, ℕ, List, [], ◌∷◌, ◌++◌, Some, None, length, IsUtf8}
 use Rattle.std.specs.List.{AllByRecursion}
-use Rattle.spv_grammar.specs.declared.table.Enumerant.{Enumerant}
-use Rattle.spv_grammar.specs.Table.{Table, Item, One, Maybe, Many}
+use Rattle.spv_table.specs.declared.table.Enumerant.{Enumerant}
+use Rattle.spv_table.specs.Table.{Table, Item, One, Maybe, Many}
 use Rattle.spv_inst.specs.declared.fault.Rule.{Rule}
 use Rattle.spv_inst.specs.declared.fault.Rule.TheVariants.{I4, I5, I6, I7, I8, I9, I10, I11, I12}
 use Rattle.spv_inst.specs.Operand.{Plain, Context, and_then, after}

@@ -1,9 +1,9 @@
 -- What a kind asks for at its place.
 use Rattle.std.specs.Prelude.{ℕ, List, map, Option, Some, None, Bool, false, nat_eq, bytes_eq, codes, ◌&&◌, ◌||◌, if◌then◌else◌}
-use Rattle.spv_grammar.specs.declared.table.Enumerant.{Enumerant}
-use Rattle.spv_grammar.specs.declared.table.Category.{Category}
-use Rattle.spv_grammar.specs.declared.table.Category.TheVariants as category
-use Rattle.spv_grammar.specs.Table.{Table, Sort, kind_of}
+use Rattle.spv_table.specs.declared.table.Enumerant.{Enumerant}
+use Rattle.spv_table.specs.declared.table.Category.{Category}
+use Rattle.spv_table.specs.declared.table.Category.TheVariants as category
+use Rattle.spv_table.specs.Table.{Table, Sort, kind_of}
 use Rattle.spv_inst.specs.Operand.{Context}
 use Rattle.spv_inst.specs.Width.{context_width, switch_width}
 

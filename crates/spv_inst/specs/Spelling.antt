@@ -1,8 +1,8 @@
 -- Which words spell operands of a kind, and of a pattern.
 use Rattle.std.specs.Prelude.{◌≡◌, ◌≢◌, ◌<◌, ◌≤◌, ◌*◌, ◌/◌, ◌%◌, ℕ, zero, suc, List, [], ◌∷◌, ◌++◌, Option, Some, nat_eq, filter, map, length, option_map, option_and_then, IsUtf8}
 use Rattle.std.specs.List.{AllByRecursion}
-use Rattle.spv_grammar.specs.declared.table.Enumerant.{Enumerant}
-use Rattle.spv_grammar.specs.Table.{Table, enumerant_of, Item, One, Maybe, Many}
+use Rattle.spv_table.specs.declared.table.Enumerant.{Enumerant}
+use Rattle.spv_table.specs.Table.{Table, enumerant_of, Item, One, Maybe, Many}
 use Rattle.spv_inst.specs.Operand.{Plain, OfType, Result, Id, Word, Number, Text, Value, Mask, Context, and_then, after}
 use Rattle.spv_inst.specs.Shape.{Slot, alone, Shape, AsType, AsResult, AsId, AsWord, AsNumber, AsText, AsValue, AsMask, AsParts, shape_of}
 

@@ -1,6 +1,6 @@
 -- What the reading of one instruction answers.
 use Rattle.std.specs.Prelude.{◌≡◌, ◌≤◌, ◌-◌, ℕ, List, drop}
-use Rattle.spv_grammar.specs.Table.{Table, Item}
+use Rattle.spv_table.specs.Table.{Table, Item}
 use Rattle.spv_inst.specs.declared.fault.Stop.{Stop}
 use Rattle.spv_inst.specs.declared.fault.Stop.TheVariants.{Fault, Memory}
 use Rattle.spv_inst.specs.Operand.{PlainInst, Context}

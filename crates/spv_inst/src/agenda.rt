@@ -1,7 +1,7 @@
 //! What is due in an instruction.
 
 ghost use Rattle.std.specs.Prelude.{◌≡◌, ◌++◌, ◌∷◌, [], ◌<◌, map, length, IfOk, IfSome, OnOk, MatchOption, unwrap_or};
-ghost use Rattle.spv_grammar.specs.Table.{Table, kind_of};
+ghost use Rattle.spv_table.specs.Table.{Table, kind_of};
 ghost use Rattle.spv_inst.specs.declared.form.Form.TheVariants.{Leaf as LeafForm};
 ghost use Rattle.spv_inst.specs.Form.{form_of, form_at};
 ghost use Rattle.spv_inst.specs.Module.{plain_operand};

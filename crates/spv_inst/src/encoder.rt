@@ -2,7 +2,7 @@
 
 ghost use Rattle.std.specs.Prelude.{◌≡◌, ◌≤◌, ◌<◌, ◌+◌, ◌^◌, ◌↔◌, IsTrue, ◌*◌, ◌++◌, ◌∷◌, [], List, length, drop, map, IfOk, IfErr, IfSome, OnOk, MatchOption, slice_index};
 ghost use Rattle.spv_words.specs.Header.{IsHeader};
-ghost use Rattle.spv_grammar.specs.Table.{kind_of};
+ghost use Rattle.spv_table.specs.Table.{kind_of};
 ghost use Rattle.spv_inst.specs.declared.form.Form.TheVariants.{Leaf as LeafForm};
 ghost use Rattle.spv_inst.specs.Form.{form_of, form_at};
 ghost use Rattle.spv_inst.specs.Operand.{PlainInst, Context, start};

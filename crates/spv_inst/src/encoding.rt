@@ -2,7 +2,7 @@
 
 ghost use Rattle.std.specs.Prelude.{◌≡◌, ◌≤◌, ◌+◌, ℕ, List, [], ◌∷◌, drop, length};
 ghost use Rattle.spv_words.specs.Header.{IsHeader};
-ghost use Rattle.spv_grammar.specs.Table.{Table};
+ghost use Rattle.spv_table.specs.Table.{Table};
 ghost use Rattle.spv_inst.specs.Operand.{PlainInst, Result, Text};
 ghost use Rattle.spv_inst.specs.Instruction.{IsListing};
 ghost use Rattle.spv_inst.specs.Module.{plain_insts};

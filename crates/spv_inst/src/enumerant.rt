@@ -1,5 +1,5 @@
 ghost use Rattle.std.specs.Prelude.{◌≡◌, ℕ, List, [], ◌∷◌, ◌++◌, Some, map, is_some, option_map, IfOk, IfErr, IfSome, unwrap_or};
-ghost use Rattle.spv_grammar.specs.Table.{kind_of};
+ghost use Rattle.spv_table.specs.Table.{kind_of};
 ghost use Rattle.spv_inst.specs.Shape.{alone, AsValue, AsMask};
 ghost use Rattle.spv_inst.specs.Spelling.{Takes, parameters_of, mask_parameters};
 ghost use Rattle.spv_inst.specs.Refusal.{Refuses};

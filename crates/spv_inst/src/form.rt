@@ -1,5 +1,5 @@
 ghost use Rattle.std.specs.Prelude.{◌≡◌, map, IfOk};
-ghost use Rattle.spv_grammar.specs.Table.{IsWhole};
+ghost use Rattle.spv_table.specs.Table.{IsWhole};
 ghost use Rattle.spv_inst.specs.Form.{form_of, id_leaf, literal_leaf, category_form};
 
 use spv_grammar::{Category, Kind, Table};

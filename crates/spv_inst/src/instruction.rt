@@ -1,7 +1,7 @@
 //! One instruction.
 
 ghost use Rattle.std.specs.Prelude.{◌≡◌, ◌≤◌, ◌<◌, ◌+◌, ◌-◌, ◌++◌, ◌∷◌, [], List, length, map, take, drop, IfOk, IfErr, OnOk};
-ghost use Rattle.spv_grammar.specs.Table.{Item, pattern_of, IsWhole};
+ghost use Rattle.spv_table.specs.Table.{Item, pattern_of, IsWhole};
 ghost use Rattle.spv_inst.specs.Agenda.{due_first};
 ghost use Rattle.spv_inst.specs.Flat.{due};
 ghost use Rattle.spv_inst.specs.Form.{form_of};

@@ -1,7 +1,7 @@
 ghost use Rattle.std.specs.Prelude.{◌≡◌, ◌<◌, ◌^◌, ◌↔◌, ℕ, List, [], ◌∷◌, Some, None, map};
 ghost use Rattle.std.specs.List.{AllByRecursion};
 ghost use Rattle.spv_inst.specs.Shape.{Shape, AsText, alone};
-ghost use Rattle.spv_grammar.specs.Table.{Table, Item, pattern_of};
+ghost use Rattle.spv_table.specs.Table.{Table, Item, pattern_of};
 ghost use Rattle.spv_inst.specs.Operand.{Plain, PlainInst, Context, Mask, Word, start};
 ghost use Rattle.spv_inst.specs.Width.{width_of, type_of};
 ghost use Rattle.spv_inst.specs.Spelling.{Match, Spells};

@@ -1,5 +1,5 @@
 ghost use Rattle.std.specs.Prelude.{◌≡◌, ◌≤◌, ◌<◌, ◌-◌, ℕ, [], length, take, IfOk, IfErr};
-ghost use Rattle.spv_grammar.specs.Table.{Table};
+ghost use Rattle.spv_table.specs.Table.{Table};
 ghost use Rattle.spv_inst.specs.Known.{IsNear};
 ghost use Rattle.spv_inst.specs.Operand.{Context};
 ghost use Rattle.spv_inst.specs.Width as width;

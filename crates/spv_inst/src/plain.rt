@@ -1,8 +1,8 @@
 //! Operands of one word.
 
 ghost use Rattle.std.specs.Prelude.{◌≡◌, List, ◌≤◌, ◌<◌, ◌+◌, ◌-◌, ◌++◌, ◌∷◌, [], length, map, take, drop, IfOk, IfSome, MatchOption};
-ghost use Rattle.spv_grammar.specs.Table.{Table, kind_of};
-ghost use Rattle.spv_grammar.specs.declared.table.Enumerant.{Enumerant};
+ghost use Rattle.spv_table.specs.Table.{Table, kind_of};
+ghost use Rattle.spv_table.specs.declared.table.Enumerant.{Enumerant};
 ghost use Rattle.spv_inst.specs.declared.form.Form.TheVariants.{Leaf as LeafForm};
 ghost use Rattle.spv_inst.specs.Form.{form_of, form_at};
 ghost use Rattle.spv_inst.specs.Operand.{Context};

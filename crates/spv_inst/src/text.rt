@@ -1,7 +1,7 @@
 ghost use Rattle.std.specs.Prelude.{◌≡◌, ◌≤◌, ◌<◌, ◌-◌, ◌/◌, ◌%◌, ◌↔◌, ℕ, [], length, take, IfOk, IfErr, IsTrue};
 ghost use Rattle.spv_words.specs.Words.{words_of};
 ghost use Rattle.spv_words.specs.declared.words.Order.TheVariants.{Little};
-ghost use Rattle.spv_grammar.specs.Table.{Table};
+ghost use Rattle.spv_table.specs.Table.{Table};
 ghost use Rattle.spv_inst.specs.Module.{plain_operand};
 ghost use Rattle.spv_inst.specs.Shape.{AsText};
 ghost use Rattle.spv_inst.specs.Spelling.{AreZeros, Takes};

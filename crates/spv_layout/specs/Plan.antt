@@ -1,6 +1,6 @@
 -- What a plan of a module says, and what a refusal says. (2.4; the order of the rules own.)
 use Rattle.std.specs.Prelude.{◌≡◌, ◌⊎◌, ℕ, List, Some, MatchOption, length, slice_get}
-use Rattle.spv_grammar.specs.Table.{Table}
+use Rattle.spv_table.specs.Table.{Table}
 use Rattle.spv_inst.specs.Operand.{PlainInst}
 use Rattle.spv_layout.specs.declared.place.Place.{Place}
 use Rattle.spv_inst.specs.declared.fault.Stop.{Stop}

@@ -1,5 +1,5 @@
 ghost use Rattle.std.specs.Prelude.{◌≡◌, ◌<◌};
-ghost use Rattle.spv_grammar.specs.Lookups.{number_named, is_number};
+ghost use Rattle.spv_table.specs.Lookups.{number_named, is_number};
 ghost use Rattle.spv_layout.specs.Kinds.{place_of};
 ghost use Rattle.spv_layout.specs.Row.{name_of};
 
@@ -16,7 +16,7 @@ pub struct Kinds<'a> {
 }
 
 impl<'a> Model for Kinds<'a> {
-    ghost use Rattle.spv_grammar.specs.Table.{Table};
+    ghost use Rattle.spv_table.specs.Table.{Table};
 
     ghost Value = { Table };
 

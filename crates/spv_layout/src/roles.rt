@@ -1,7 +1,7 @@
 //! What the operands of an instruction are used as.
 
 ghost use Rattle.std.specs.Prelude.{◌≡◌, ◌≤◌, ◌<◌, ◌-◌, ◌%◌, ℕ, length, map, slice_get, Some};
-ghost use Rattle.spv_grammar.specs.Table.{Table};
+ghost use Rattle.spv_table.specs.Table.{Table};
 ghost use Rattle.spv_inst.specs.Module.{plain_inst, plain_operand};
 ghost use Rattle.spv_layout.specs.Row.{plain_ending, plain_row};
 ghost use Rattle.spv_layout.specs.Rows.{row_of};

@@ -3,8 +3,8 @@ use Rattle.std.proofs.Common.{◌≡◌, ◌≢◌, ◌++◌, ◌∙◌, ◌<◌
 use Rattle.std.specs.Prelude.{decimal}
 use Rattle.std.specs.List.{list_all}
 use Rattle.std.proofs.lemmas.Bool.Decides.{nat_tests}
-use Rattle.spv_grammar.specs.Table.{Table, kind_of}
-use Rattle.spv_grammar.specs.Lookups.{value_named}
+use Rattle.spv_table.specs.Table.{Table, kind_of}
+use Rattle.spv_table.specs.Lookups.{value_named}
 use Rattle.spv_inst.specs.Operand.{Plain, Result, Context, result_in}
 use Rattle.spv_inst.specs.Shape.{Slot, Shape, AsNumber, shape_of}
 use Rattle.spv_inst.specs.Spelling.{Takes}

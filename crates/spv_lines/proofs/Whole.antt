@@ -4,9 +4,9 @@ use Rattle.std.specs.Prelude.{decimal, codes, slice_get}
 use Rattle.std.specs.List.{list_any}
 use Rattle.std.proofs.lemmas.List.{append_cancel_left}
 use Rattle.spv_words.specs.declared.words.Header.{Header}
-use Rattle.spv_grammar.specs.declared.table.Entry.{Entry}
-use Rattle.spv_grammar.specs.Table.{Table, Item, entry_of, pattern_of, IsWhole}
-use Rattle.spv_grammar.specs.Lookups.{opcode_named}
+use Rattle.spv_table.specs.declared.table.Entry.{Entry}
+use Rattle.spv_table.specs.Table.{Table, Item, entry_of, pattern_of, IsWhole}
+use Rattle.spv_table.specs.Lookups.{opcode_named}
 use Rattle.spv_inst.specs.Operand.{Plain, PlainInst, Context, start, result_in}
 use Rattle.spv_inst.specs.Flat.{due}
 use Rattle.spv_inst.specs.Instruction.{first_word}

@@ -4,8 +4,8 @@ use Rattle.std.specs.Prelude.{codes, decimal, nat_eq, IsUtf8}
 use Rattle.std.proofs.lemmas.Bool.Decides.{nat_tests}
 use Rattle.std.specs.Fmt.{digits}
 use Rattle.std.specs.List.{AllByRecursion, list_all}
-use Rattle.spv_grammar.specs.Table.{pattern_of}
-use Rattle.spv_grammar.specs.Lookups.{value_named, opcode_named}
+use Rattle.spv_table.specs.Table.{pattern_of}
+use Rattle.spv_table.specs.Lookups.{value_named, opcode_named}
 use Rattle.spv_inst.specs.Operand.{OfType, Result, Id, Word, Number, Text, Mask, start}
 use Rattle.spv_inst.specs.Shape.{alone, shape_of}
 use Rattle.spv_inst.specs.Spelling.{Takes, Holds, mask_parameters}

@@ -1,7 +1,7 @@
 -- Tables in which results stand in patterns alone, as rule J6 asks of a file. (Own.)
 use Rattle.std.specs.Prelude.{◌≡◌, ℕ, List, false}
 use Rattle.std.specs.List.{AllByRecursion}
-use Rattle.spv_grammar.specs.Table.{Table}
+use Rattle.spv_table.specs.Table.{Table}
 use Rattle.spv_inst.specs.Operand.{Plain, Context}
 use Rattle.spv_inst.specs.Shape.{Slot, AsParts, shape_of}
 use Rattle.spv_inst.specs.Spelling.{Takes}

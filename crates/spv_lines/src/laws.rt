@@ -1,9 +1,9 @@
 //! What follows from the definitions of the text. Each function does nothing: its contract is what is proved.
 ghost use Rattle.std.specs.Prelude.{◌≡◌, true, ◌<◌, ◌≤◌, ◌+◌, ◌^◌, ◌⊎◌, ℕ, List, length};
 ghost use Rattle.spv_words.specs.declared.words.Header.{Header};
-ghost use Rattle.spv_grammar.specs.Table.{IsWhole, Table};
+ghost use Rattle.spv_table.specs.Table.{IsWhole, Table};
 ghost use Rattle.spv_grammar.specs.Answer.{IsGiven};
-ghost use Rattle.spv_grammar.specs.Apart.{has_other_parts};
+ghost use Rattle.spv_table.specs.Table.{has_other_parts};
 ghost use Rattle.spv_inst.specs.Operand.{PlainInst};
 ghost use Rattle.spv_inst.specs.Instruction.{IsListing};
 ghost use Rattle.spv_inst.specs.Encoding.{Fits, greatest_length};

@@ -1,7 +1,7 @@
 //! What the ids of a module stand for.
 
 ghost use Rattle.std.specs.Prelude.{◌≡◌, ◌↔◌, ◌<◌, ℕ, IsTrue, Some, length, map, option_map, slice_get};
-ghost use Rattle.spv_grammar.specs.Table.{Table};
+ghost use Rattle.spv_table.specs.Table.{Table};
 ghost use Rattle.spv_inst.specs.Width as width;
 ghost use Rattle.spv_inst.specs.Width.{definition_of};
 ghost use Rattle.spv_inst.specs.Module.{plain_inst, plain_insts, plain_operands};

@@ -1,6 +1,6 @@
 -- Y1: which uses are not in their role, and where. [2.16]
 use Rattle.std.specs.Prelude.{ℕ, List}
-use Rattle.spv_grammar.specs.Table.{Table}
+use Rattle.spv_table.specs.Table.{Table}
 use Rattle.spv_inst.specs.Operand.{PlainInst}
 use Rattle.spv_inst.specs.declared.fault.Rule.{Rule}
 use Rattle.spv_inst.specs.declared.fault.Rule.TheVariants.{Y1}

@@ -1,6 +1,6 @@
 -- What `roles_check` answers of a module.
 use Rattle.std.specs.Prelude.{◌≡◌, ℕ, List}
-use Rattle.spv_grammar.specs.Table.{Table}
+use Rattle.spv_table.specs.Table.{Table}
 use Rattle.spv_inst.specs.Operand.{PlainInst}
 use Rattle.spv_inst.specs.declared.fault.Fault.{Fault}
 use Rattle.spv_layout.specs.declared.form.Role.{Role}

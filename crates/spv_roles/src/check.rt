@@ -1,5 +1,5 @@
 ghost use Rattle.std.specs.Prelude.{◌≡◌, ◌+◌, ◌≤◌, ◌<◌, ℕ, List, length, slice_get, sum_by, Some, OnOk, IfErr, MatchBool};
-ghost use Rattle.spv_grammar.specs.Table.{Table};
+ghost use Rattle.spv_table.specs.Table.{Table};
 ghost use Rattle.spv_inst.specs.Operand.{PlainInst};
 ghost use Rattle.spv_inst.specs.Module.{plain_inst, plain_insts, plain_operand, plain_operands};
 ghost use Rattle.spv_ids.specs.Uses as uses;

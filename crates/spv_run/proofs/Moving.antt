@@ -3,7 +3,7 @@ use Rattle.std.proofs.Common.{◌≡◌, ◌≢◌, ◌∙◌, ◌≤◌, ◌<�
 use Rattle.std.specs.Prelude.{slice_get, IfOk}
 use Rattle.std.proofs.lemmas.Bool.{cases_eq, cases_lt}
 use Rattle.std.proofs.lemmas.Option.{none-some, same_Some, slice_get_within}
-use Rattle.spv_grammar.specs.Table.{Table}
+use Rattle.spv_table.specs.Table.{Table}
 use Rattle.spv_inst.specs.Operand.{Plain, PlainInst}
 use Rattle.spv_inst.specs.Operand as operand
 use Rattle.spv_ids.specs.declared.ids.Ids.{Ids}

@@ -1,6 +1,6 @@
 -- Runs. (Own.)
 use Rattle.std.specs.Prelude.{◌≡◌, ℕ, zero, suc, List, [], ◌∷◌, length}
-use Rattle.spv_grammar.specs.Table.{Table}
+use Rattle.spv_table.specs.Table.{Table}
 use Rattle.spv_inst.specs.Operand.{PlainInst}
 use Rattle.spv_run.specs.Head.{Binding, IsDefined}
 use Rattle.spv_run.specs.declared.parts.Step.{Step}

@@ -1,7 +1,7 @@
 //! Where the bodies of functions begin.
 
 ghost use Rattle.std.specs.Prelude.{◌≡◌, ◌<◌, ◌≤◌, ℕ, Some, map, length, IfOk};
-ghost use Rattle.spv_grammar.specs.Table.{Table};
+ghost use Rattle.spv_table.specs.Table.{Table};
 ghost use Rattle.spv_inst.specs.Module.{plain_inst};
 ghost use Rattle.spv_run.specs.Act.{Function};
 ghost use Rattle.spv_run.specs.At.{act_at};

@@ -32,7 +32,7 @@ pub struct Start<'m> {
 
 impl Walker {
     ghost use Rattle.std.specs.Prelude.{◌≡◌, ◌≤◌, ◌+◌, ℕ, List, Some, length, map, slice_get, IfOk};
-    ghost use Rattle.spv_grammar.specs.Table.{Table};
+    ghost use Rattle.spv_table.specs.Table.{Table};
     ghost use Rattle.spv_inst.specs.Operand.{PlainInst};
     ghost use Rattle.spv_inst.specs.Module.{plain_inst};
     ghost use Rattle.spv_calls.specs.Found.{AreNumbered};

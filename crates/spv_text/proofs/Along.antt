@@ -2,7 +2,7 @@
 use Rattle.std.proofs.Common.{◌≡◌, ◌++◌, ◌∙◌, ◌<◌, ◌≤◌, ◌+◌, ℕ, List, [], ◌∷◌, Option, Bool, true, false, ◌&&◌, nat_eq, length, map, take, drop, get_or, refl, sym, ap, append_assoc, arith}
 use Rattle.std.specs.Prelude.{Result as Answer, Ok, Err, OnOk}
 use Rattle.std.proofs.lemmas.Bool.Decides.{nat_tests}
-use Rattle.spv_grammar.specs.Table.{Table, kind_of}
+use Rattle.spv_table.specs.Table.{Table, kind_of}
 use Rattle.spv_inst.specs.declared.form.Leaf as declared
 use Rattle.spv_inst.specs.declared.form.Leaf.TheVariants as leaf
 use Rattle.spv_inst.specs.declared.form.Form as forms

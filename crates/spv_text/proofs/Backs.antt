@@ -6,9 +6,9 @@ use Rattle.std.proofs.lemmas.List.{drop-set, drop_all}
 use Rattle.std.proofs.lemmas.Str.{IsUtf8-append, IsUtf8-from_ascii}
 use Rattle.std.proofs.lemmas.Str.Ascii.{IsAscii-cons, IsAscii-nil}
 use Rattle.std.proofs.Math.Seq.{drop-append_seam}
-use Rattle.spv_grammar.specs.declared.table.Entry.{Entry}
-use Rattle.spv_grammar.specs.declared.table.Enumerant.{Enumerant}
-use Rattle.spv_grammar.specs.Table.{Table, entry_of, kind_of, pattern_of}
+use Rattle.spv_table.specs.declared.table.Entry.{Entry}
+use Rattle.spv_table.specs.declared.table.Enumerant.{Enumerant}
+use Rattle.spv_table.specs.Table.{Table, entry_of, kind_of, pattern_of}
 use Rattle.spv_inst.specs.Reading.{enumerants_at}
 use Rattle.spv_inst.specs.Operand.{Plain, OfType, Result, Id, Word, Number, Text, Value, Mask, PlainInst, Context, start, and_then, after, result_in}
 use Rattle.spv_inst.specs.Shape.{Slot, shape_of}

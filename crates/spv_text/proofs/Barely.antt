@@ -1,8 +1,8 @@
 -- Operands of a line without a result.
 use Rattle.std.proofs.Common.{◌≡◌, ◌++◌, ◌∙◌, ◌<◌, ◌^◌, ℕ, Bool, List, [], ◌∷◌, Option, Some, None, true, false, not, length, map, refl, sym, ap, arith, append-nil}
 use Rattle.std.specs.Prelude.{◌==◌, decimal}
-use Rattle.spv_grammar.specs.Table.{Table, kind_of}
-use Rattle.spv_grammar.specs.declared.table.Item as declared_item
+use Rattle.spv_table.specs.Table.{Table, kind_of}
+use Rattle.spv_table.specs.declared.table.Item as declared_item
 use Rattle.spv_inst.specs.declared.form.Leaf as declared
 use Rattle.spv_inst.specs.declared.form.Leaf.TheVariants as leaf
 use Rattle.spv_inst.specs.declared.form.Form.TheVariants.{Leaf}

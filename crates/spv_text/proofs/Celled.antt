@@ -2,8 +2,8 @@
 use Rattle.std.proofs.Common.{◌≡◌, ◌++◌, ◌∙◌, inl, inr, ℕ, suc, Bool, List, [], ◌∷◌, Option, Some, None, true, length, map, refl, sym, arith}
 use Rattle.std.specs.Prelude.{◌==◌}
 use Rattle.std.proofs.lemmas.Bool.Decides.{nat_tests}
-use Rattle.spv_grammar.specs.Table.{Table, kind_of}
-use Rattle.spv_grammar.specs.declared.table.Item as declared_item
+use Rattle.spv_table.specs.Table.{Table, kind_of}
+use Rattle.spv_table.specs.declared.table.Item as declared_item
 use Rattle.spv_inst.specs.declared.form.Leaf as declared
 use Rattle.spv_inst.specs.declared.form.Leaf.TheVariants as leaf
 use Rattle.spv_inst.specs.declared.form.Form.TheVariants.{Leaf}

@@ -1,7 +1,7 @@
 -- What is kept of types tells how a number is shown; what an operand has in its line.
 use Rattle.std.proofs.Common.{◌≡◌, ◌++◌, ◌∙◌, ◌<◌, ◌+◌, zero, suc, length, take, get_or, append_assoc, ℕ, List, [], ◌∷◌, Option, Some, None, Bool, true, false, ◌||◌, is_some, option_and_then, refl, sym, ap}
 use Rattle.std.specs.Prelude.{Result as Answer, Ok, Err, OnOk}
-use Rattle.spv_grammar.specs.Table.{Table, kind_of}
+use Rattle.spv_table.specs.Table.{Table, kind_of}
 use Rattle.spv_inst.specs.declared.form.Leaf as declared
 use Rattle.spv_inst.specs.declared.form.Leaf.TheVariants as leaf
 use Rattle.spv_inst.specs.declared.form.Form.TheVariants.{Leaf}

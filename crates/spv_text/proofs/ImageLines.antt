@@ -1,6 +1,6 @@
 -- The lines of an image's instructions, one after another.
 use Rattle.std.proofs.Common.{◌≡◌, ◌++◌, ◌∙◌, ◌+◌, ℕ, List, [], ◌∷◌, map, length, refl, sym, ap, arith, append_assoc, append-nil, length-append}
-use Rattle.spv_grammar.specs.Table.{Table, pattern_of}
+use Rattle.spv_table.specs.Table.{Table, pattern_of}
 use Rattle.spv_inst.specs.declared.definitions.Definitions.{Definitions}
 use Rattle.spv_inst.specs.Flat.{due}
 use Rattle.spv_inst.specs.Instruction.{IsInstruction}

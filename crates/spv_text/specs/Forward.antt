@@ -1,8 +1,8 @@
 -- Lines that are put together from words, one operand behind the other. (For the code alone.)
 use Rattle.std.specs.Prelude.{◌≡◌, ◌<◌, ◌≤◌, ◌+◌, ◌-◌, ◌++◌, ◌∷◌, [], ℕ, List, Option, None, true, false, nat_eq, is_some, IsUtf8, length, drop, map, take, if◌then◌else◌}
 use Rattle.std.specs.List.{list_all}
-use Rattle.spv_grammar.specs.declared.table.Item.{Item}
-use Rattle.spv_grammar.specs.Table.{Table, kind_of}
+use Rattle.spv_table.specs.declared.table.Item.{Item}
+use Rattle.spv_table.specs.Table.{Table, kind_of}
 use Rattle.spv_inst.specs.declared.form.Form.TheVariants.{Leaf}
 use Rattle.spv_inst.specs.declared.form.Leaf.TheVariants as leaf
 use Rattle.spv_inst.specs.Agenda.{due_first, items_of, settled}

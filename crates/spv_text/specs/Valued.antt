@@ -1,7 +1,7 @@
 -- Names that stand for values and masks. (For the code alone.)
 use Rattle.std.specs.Prelude.{◌≡◌, [], ◌∷◌, ℕ, List, Some, None, true, false, map}
-use Rattle.spv_grammar.specs.declared.table.Enumerant.{Enumerant}
-use Rattle.spv_grammar.specs.Table.{Table, enumerant_of}
+use Rattle.spv_table.specs.declared.table.Enumerant.{Enumerant}
+use Rattle.spv_table.specs.Table.{Table, enumerant_of}
 use Rattle.spv_inst.specs.Operand.{Context, Plain, result_in, type_in}
 use Rattle.spv_inst.specs.Shape.{alone, shape_of}
 use Rattle.spv_inst.specs.Spelling.{Takes}

@@ -1,8 +1,8 @@
 //! Lines that are put together from the back, in a buffer.
 
 ghost use Rattle.std.specs.Prelude.{◌≡◌, ◌≢◌, ◌<◌, ◌≤◌, ◌+◌, ◌^◌, ◌++◌, ◌∷◌, [], ℕ, List, Bool, true, false, Some, IfOk, IfSome, IsUtf8, codes, decimal, drop, length, string_bytes};
-ghost use Rattle.spv_grammar.specs.Table as grammar;
-ghost use Rattle.spv_grammar.specs.Table.{entry_of, kind_of};
+ghost use Rattle.spv_table.specs.Table as grammar;
+ghost use Rattle.spv_table.specs.Table.{entry_of, kind_of};
 ghost use Rattle.spv_inst.specs.Module.{plain_operand, plain_operands};
 ghost use Rattle.spv_inst.specs.Operand.{PlainInst, Plain, result_in};
 ghost use Rattle.spv_inst.specs.Reading.{enumerants_at};

@@ -1,8 +1,8 @@
 //! The operands of a line that has no result, or begins with its type and it, and asks for no number by its context.
 
 ghost use Rattle.std.specs.Prelude.{◌≡◌, ◌<◌, ◌^◌, [], ℕ, List, Option, Some, true, IfOk, IfSome, map, option_map};
-ghost use Rattle.spv_grammar.specs.Table as grammar;
-ghost use Rattle.spv_grammar.specs.Table.{kind_of};
+ghost use Rattle.spv_table.specs.Table as grammar;
+ghost use Rattle.spv_table.specs.Table.{kind_of};
 ghost use Rattle.spv_inst.specs.declared.form.Form.TheVariants.{Leaf as LeafForm};
 ghost use Rattle.spv_inst.specs.declared.form.Leaf.TheVariants as leaves;
 ghost use Rattle.spv_inst.specs.Form.{form_at, form_of};

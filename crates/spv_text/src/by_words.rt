@@ -1,7 +1,7 @@
 //! From an image to its text, without a list of its instructions.
 
 ghost use Rattle.std.specs.Prelude.{◌≡◌, ◌<◌, ◌++◌, ◌∷◌, [], List, IfOk, IfErr, OnOk, length, map, string_bytes};
-ghost use Rattle.spv_grammar.specs.Table.{IsWhole};
+ghost use Rattle.spv_table.specs.Table.{IsWhole};
 ghost use Rattle.spv_inst.specs.Form.{form_of};
 ghost use Rattle.spv_inst.specs.Known as known;
 ghost use Rattle.spv_inst.specs.Operand.{PlainInst};

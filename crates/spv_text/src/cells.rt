@@ -1,8 +1,8 @@
 //! Operands at the front of a line's operands that are read without the agenda.
 
 ghost use Rattle.std.specs.Prelude.{◌≡◌, ◌++◌, ◌∷◌, [], ℕ, List, Option, true, IfOk, IfSome, MatchOption, map};
-ghost use Rattle.spv_grammar.specs.Table as grammar;
-ghost use Rattle.spv_grammar.specs.Table.{kind_of};
+ghost use Rattle.spv_table.specs.Table as grammar;
+ghost use Rattle.spv_table.specs.Table.{kind_of};
 ghost use Rattle.spv_inst.specs.declared.form.Form.TheVariants.{Leaf as LeafForm};
 ghost use Rattle.spv_inst.specs.declared.form.Leaf.TheVariants as leaves;
 ghost use Rattle.spv_inst.specs.Form.{form_at, form_of};

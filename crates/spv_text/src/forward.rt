@@ -1,9 +1,9 @@
 //! Lines that are put together from the words of an instruction, one operand behind the other, in a buffer.
 
 ghost use Rattle.std.specs.Prelude.{⊤, ◌≡◌, ◌<◌, ◌≤◌, ◌+◌, ◌-◌, ◌++◌, ◌∷◌, [], ℕ, List, Some, true, false, IfOk, IfSome, IsUtf8, MatchOption, decimal, drop, length, map, take, string_bytes};
-ghost use Rattle.spv_grammar.specs.declared.table.Item as declared;
-ghost use Rattle.spv_grammar.specs.Table as grammar;
-ghost use Rattle.spv_grammar.specs.Table.{entry_of, kind_of};
+ghost use Rattle.spv_table.specs.declared.table.Item as declared;
+ghost use Rattle.spv_table.specs.Table as grammar;
+ghost use Rattle.spv_table.specs.Table.{entry_of, kind_of};
 ghost use Rattle.spv_inst.specs.declared.form.Form.TheVariants.{Leaf as LeafForm};
 ghost use Rattle.spv_inst.specs.declared.form.Leaf.TheVariants as leaf;
 ghost use Rattle.spv_inst.specs.Agenda.{due_first};

@@ -2,7 +2,7 @@
 ghost use Rattle.std.specs.Prelude.{◌≡◌, ◌<◌, ◌≤◌, ◌+◌, ◌^◌, ℕ, List, length, drop};
 ghost use Rattle.spv_words.specs.declared.words.Header.{Header};
 ghost use Rattle.spv_words.specs.Header.{IsHeader};
-ghost use Rattle.spv_grammar.specs.Table.{Table};
+ghost use Rattle.spv_table.specs.Table.{Table};
 ghost use Rattle.spv_inst.specs.Operand.{PlainInst};
 ghost use Rattle.spv_inst.specs.Instruction.{IsListing};
 ghost use Rattle.spv_inst.specs.Outcome.{IsHeaderOf};

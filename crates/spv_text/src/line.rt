@@ -1,7 +1,7 @@
 //! The line of an instruction.
 
 ghost use Rattle.std.specs.Prelude.{◌≡◌, ◌++◌, ◌∷◌, [], ℕ, List, Option, Some, OnOk, map, string_bytes};
-ghost use Rattle.spv_grammar.specs.Table.{entry_of};
+ghost use Rattle.spv_table.specs.Table.{entry_of};
 ghost use Rattle.spv_inst.specs.Form.{form_of};
 ghost use Rattle.spv_inst.specs.Operand.{PlainInst, start};
 ghost use Rattle.spv_inst.specs.Module.{plain_operands};

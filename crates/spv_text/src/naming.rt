@@ -1,7 +1,7 @@
 //! The name of a line's instruction, where it is that of the last line.
 
 ghost use Rattle.std.specs.Prelude.{◌≡◌, ◌++◌, IfSome, option_map};
-ghost use Rattle.spv_grammar.specs.Table.{Table};
+ghost use Rattle.spv_table.specs.Table.{Table};
 ghost use Rattle.spv_lines.specs.Line as spec;
 ghost use Rattle.spv_lines.specs.Line.{IsInstName};
 ghost use Rattle.spv_lines.specs.Refusal.{IsBreak};

@@ -1,8 +1,8 @@
 //! The value or the mask that was read last.
 
 ghost use Rattle.std.specs.Prelude.{◌≡◌, ◌∷◌, [], None, IfSome};
-ghost use Rattle.spv_grammar.specs.Table as grammar;
-ghost use Rattle.spv_grammar.specs.Table.{kind_of};
+ghost use Rattle.spv_table.specs.Table as grammar;
+ghost use Rattle.spv_table.specs.Table.{kind_of};
 ghost use Rattle.spv_inst.specs.declared.form.Form.TheVariants.{Leaf as LeafForm};
 ghost use Rattle.spv_inst.specs.Form.{form_at};
 ghost use Rattle.spv_inst.specs.Operand.{result_in};

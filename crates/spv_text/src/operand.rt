@@ -1,7 +1,7 @@
 //! Operands as a text shows them.
 
 ghost use Rattle.std.specs.Prelude.{◌≡◌, ◌++◌, ◌∷◌, [], ◌||◌, ℕ, List, Option, Bool, OnOk, string_bytes, is_some};
-ghost use Rattle.spv_grammar.specs.Table.{Table, kind_of};
+ghost use Rattle.spv_table.specs.Table.{Table, kind_of};
 ghost use Rattle.spv_inst.specs.declared.form.Form.TheVariants.{Leaf as LeafForm};
 ghost use Rattle.spv_inst.specs.Form.{form_at};
 ghost use Rattle.spv_inst.specs.Operand.{Context, result_in};

@@ -2,9 +2,9 @@
 
 ghost use Rattle.std.specs.Prelude.{◌≡◌, ◌<◌, ◌≤◌, ◌+◌, ◌∷◌, ℕ, List, Some, None, true, false, IfOk, IfErr, IfSome, MatchOption, map, length, take, drop, slice_index, option_map};
 ghost use Rattle.std.specs.List.{list_any};
-ghost use Rattle.spv_grammar.specs.declared.table.Entry as code;
-ghost use Rattle.spv_grammar.specs.Table as grammar;
-ghost use Rattle.spv_grammar.specs.Lookups.{opcode_named};
+ghost use Rattle.spv_table.specs.declared.table.Entry as code;
+ghost use Rattle.spv_table.specs.Table as grammar;
+ghost use Rattle.spv_table.specs.Lookups.{opcode_named};
 ghost use Rattle.spv_inst.specs.Form.{form_of};
 ghost use Rattle.spv_inst.specs.Operand.{Context, PlainInst};
 ghost use Rattle.spv_inst.specs.Shape.{alone, shape_of};

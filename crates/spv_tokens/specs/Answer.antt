@@ -1,8 +1,8 @@
 -- What the readers of tokens answer. (Own.)
 use Rattle.std.specs.Prelude.{◌≡◌, ◌<◌, ◌^◌, ◌++◌, ◌∷◌, [], ℕ, List, Option, Some, None, Bool, true, false, nat_eq, decimal, Result, Ok, Err}
 use Rattle.std.specs.List.{slice_split}
-use Rattle.spv_grammar.specs.Table.{Table, kind_of}
-use Rattle.spv_grammar.specs.Lookups.{value_named}
+use Rattle.spv_table.specs.Table.{Table, kind_of}
+use Rattle.spv_table.specs.Lookups.{value_named}
 use Rattle.spv_inst.specs.declared.operand.Operand.{Operand}
 use Rattle.spv_inst.specs.Operand.{Plain}
 use Rattle.spv_inst.specs.Module.{plain_operand}

@@ -1,6 +1,6 @@
 -- The first of the rules Y2 to Y8 that is broken at an instruction. (The order own.)
 use Rattle.std.specs.Prelude.{◌≡◌, ◌<◌, ◌≤◌, ℕ, List, Option, MatchOption}
-use Rattle.spv_grammar.specs.Table.{Table}
+use Rattle.spv_table.specs.Table.{Table}
 use Rattle.spv_inst.specs.Operand.{PlainInst}
 use Rattle.spv_inst.specs.Module.{plain_insts}
 use Rattle.spv_inst.specs.declared.fault.Rule.{Rule}

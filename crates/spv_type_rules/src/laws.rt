@@ -1,7 +1,7 @@
 //! Worked examples. Each function does nothing: its contract is what is proved.
 
 ghost use Rattle.std.specs.Prelude.{◌≡◌, [], ◌∷◌, Some, None, false};
-ghost use Rattle.spv_grammar.specs.Table.{Table};
+ghost use Rattle.spv_table.specs.Table.{Table};
 ghost use Rattle.spv_inst.specs.declared.fault.Rule.TheVariants as rule;
 ghost use Rattle.spv_inst.specs.Operand.{PlainInst, OfType, Result, Id, Word, Value, Mask};
 ghost use Rattle.spv_inst.specs.Example.{small as table};

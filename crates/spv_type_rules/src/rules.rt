@@ -1,7 +1,7 @@
 //! The rules of types at an instruction.
 
 ghost use Rattle.std.specs.Prelude.{◌≡◌, ◌<◌, ◌↔◌, ℕ, length, map, Some, None, IsTrue, if◌then◌else◌, slice_get};
-ghost use Rattle.spv_grammar.specs.Table.{Table};
+ghost use Rattle.spv_table.specs.Table.{Table};
 ghost use Rattle.spv_inst.specs.Module.{plain_inst, plain_insts};
 ghost use Rattle.spv_layout.specs.Place.{IsOfFunction};
 ghost use Rattle.spv_layout.specs.Plan.{IsPlan};

@@ -1,7 +1,7 @@
 -- The worked examples of what `type_check` answers.
 use Rattle.std.proofs.Common.{◌≡◌, ◌≤◌, ℕ, zero, suc, [], ◌∷◌, Option, Some, None, true, false, refl, subst, inl, inr, arith, lit≤}
 use Rattle.std.specs.Prelude.{slice_get}
-use Rattle.spv_grammar.specs.Table.{Table}
+use Rattle.spv_table.specs.Table.{Table}
 use Rattle.spv_inst.specs.Operand.{OfType, Result, Word, Number, Value, PlainInst}
 use Rattle.spv_inst.specs.declared.fault.Rule.{Rule}
 use Rattle.spv_inst.specs.declared.fault.Rule.TheVariants.{C1, M1}

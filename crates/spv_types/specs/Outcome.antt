@@ -1,6 +1,6 @@
 -- What `type_check` answers of a module whose ids are numbered.
 use Rattle.std.specs.Prelude.{◌≡◌, ◌⊎◌, ℕ, List, Option, Some, slice_get}
-use Rattle.spv_grammar.specs.Table.{Table}
+use Rattle.spv_table.specs.Table.{Table}
 use Rattle.spv_inst.specs.Operand.{PlainInst}
 use Rattle.spv_inst.specs.Width as width
 use Rattle.spv_inst.specs.declared.fault.Rule.{Rule}

@@ -1,7 +1,7 @@
 //! Laws of the rules, and a worked example. Each function does nothing: its contract is what is proved.
 
 ghost use Rattle.std.specs.Prelude.{◌≡◌, ℕ, List, []};
-ghost use Rattle.spv_grammar.specs.Table.{Table};
+ghost use Rattle.spv_table.specs.Table.{Table};
 ghost use Rattle.spv_inst.specs.Operand.{PlainInst};
 ghost use Rattle.spv_inst.specs.declared.fault.Rule.{Rule};
 ghost use Rattle.spv_layout.specs.First.{IsFirst};

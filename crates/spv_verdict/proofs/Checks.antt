@@ -2,8 +2,8 @@
 use Rattle.std.proofs.Common.{◌≡◌, ◌↔◌, ◌+◌, ◌≤◌, ℕ, List, Result, Ok, IfOk, drop, slice_index, refl}
 use Rattle.spv_words.specs.Header.{IsModule}
 use Rattle.spv_words.specs.declared.words.Order.{Order}
-use Rattle.spv_grammar.specs.Table.{Table}
-use Rattle.spv_grammar.specs.declared.error.Memory.{Memory as OutOfMemory}
+use Rattle.spv_table.specs.Table.{Table}
+use Rattle.spv_table.specs.declared.error.Memory.{Memory as OutOfMemory}
 use Rattle.spv_inst.specs.Operand.{PlainInst}
 use Rattle.spv_inst.specs.Instruction.{IsListing}
 use Rattle.spv_inst.specs.Outcome.{IsDeath, IsHeaderOf}

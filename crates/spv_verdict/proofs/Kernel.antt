@@ -8,8 +8,8 @@ use Rattle.spv_words.specs.declared.words.Order.TheVariants.{Little}
 use Rattle.spv_words.specs.Header.{IsModule}
 use Rattle.spv_words.proofs.Standing.{Octets}
 use Rattle.spv_words.proofs.Refusal.{found_module}
-use Rattle.spv_grammar.specs.declared.table.Entry.{Entry}
-use Rattle.spv_grammar.specs.Table.{entry_of, pattern_of}
+use Rattle.spv_table.specs.declared.table.Entry.{Entry}
+use Rattle.spv_table.specs.Table.{entry_of, pattern_of}
 use Rattle.spv_inst.specs.Operand.{Plain, OfType, Result, Id, Text, Value, Mask, PlainInst, start}
 use Rattle.spv_inst.specs.Shape.{shape_of}
 use Rattle.spv_inst.specs.Spelling.{Takes, Holds, mask_parameters}

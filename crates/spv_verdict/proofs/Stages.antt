@@ -1,6 +1,6 @@
 -- Which stage the rules of roles, capabilities, entry points and types are of.
 use Rattle.std.proofs.Common.{◌≡◌, ◌⊎◌, ℕ, List, refl, inl, inr}
-use Rattle.spv_grammar.specs.Table.{Table}
+use Rattle.spv_table.specs.Table.{Table}
 use Rattle.spv_inst.specs.Operand.{PlainInst}
 use Rattle.spv_inst.specs.declared.fault.Rule.{Rule}
 use Rattle.spv_inst.specs.declared.fault.Rule.TheVariants as rule

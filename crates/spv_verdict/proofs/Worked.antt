@@ -4,7 +4,7 @@ use Rattle.std.proofs.lemmas.Fmt.{decimal_digit}
 use Rattle.spv_words.specs.Header.{IsFirstBroken, IsModule}
 use Rattle.spv_words.specs.declared.words.Order.TheVariants.{Big}
 use Rattle.spv_words.specs.declared.words.WordError.TheVariants.{W2}
-use Rattle.spv_grammar.specs.Table.{Table}
+use Rattle.spv_table.specs.Table.{Table}
 use Rattle.spv_inst.specs.Instruction.{end}
 use Rattle.spv_inst.specs.declared.fault.Rule.TheVariants.{I7, L2}
 use Rattle.spv_inst.specs.Operand.{PlainInst}

@@ -1,7 +1,7 @@
 -- What `check` answers of an image, and the parts that are lent of a checked module.
 use Rattle.std.specs.Prelude.{◌≡◌, ◌≤◌, ◌-◌, ℕ, List, Result, Ok, IfOk, drop, slice_index}
-use Rattle.spv_grammar.specs.Table.{Table}
-use Rattle.spv_grammar.specs.declared.error.Memory.{Memory}
+use Rattle.spv_table.specs.Table.{Table}
+use Rattle.spv_table.specs.declared.error.Memory.{Memory}
 use Rattle.spv_inst.specs.Operand.{PlainInst}
 use Rattle.spv_inst.specs.Dead.{IsDeadAt}
 use Rattle.spv_inst.specs.Instruction.{IsListing}

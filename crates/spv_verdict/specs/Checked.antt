@@ -1,6 +1,6 @@
 -- What a module keeps that breaks no rule, and what is kept of it. (Own.)
 use Rattle.std.specs.Prelude.{◌≡◌, ◌≤◌, ◌+◌, ℕ, List, Some, drop, slice_get, slice_index, sum_by}
-use Rattle.spv_grammar.specs.Table.{Table}
+use Rattle.spv_table.specs.Table.{Table}
 use Rattle.spv_inst.specs.Operand.{PlainInst}
 use Rattle.spv_inst.specs.Instruction.{IsListing}
 use Rattle.spv_inst.specs.Module.{plain_insts}

@@ -49,7 +49,7 @@ impl<'a> Model for Checked<'a> {
 
     ghost Value = { Program };
 
-    ghost use Rattle.spv_grammar.specs.Table.{Table};
+    ghost use Rattle.spv_table.specs.Table.{Table};
     ghost use Rattle.spv_inst.specs.Module.{plain_insts};
     ghost use Rattle.spv_verdict.specs.Checked.{AreParts};
 
@@ -60,7 +60,7 @@ impl<'a> Model for Checked<'a> {
 
 impl<'a> Checked<'a> {
     ghost use Rattle.std.specs.Prelude.{◌≡◌};
-    ghost use Rattle.spv_grammar.specs.Table.{Table};
+    ghost use Rattle.spv_table.specs.Table.{Table};
     ghost use Rattle.spv_inst.specs.Module.{plain_insts};
     ghost use Rattle.spv_verdict.specs.Program.{Program};
     ghost use Rattle.spv_verdict.specs.Checked.{AreParts, IsKept};

@@ -1,7 +1,7 @@
 -- The ids among the operands of an instruction, by role.
 use Rattle.std.proofs.Common.{◌≡◌, ◌∙◌, ℕ, zero, suc, List, true, Option, Some, None, map, ap, subst}
 use Rattle.std.specs.Prelude.{slice_get, option_and_then, MatchOption}
-use Rattle.spv_grammar.specs.Table.{Table}
+use Rattle.spv_table.specs.Table.{Table}
 use Rattle.spv_inst.specs.Operand.{Plain, PlainInst}
 use Rattle.spv_inst.specs.Operand as operand
 use Rattle.spv_inst.specs.declared.operand.Operand.{Operand}

@@ -1,6 +1,6 @@
 -- What a refusal by A1 and A2 says.
 use Rattle.std.specs.Prelude.{◌≡◌, List}
-use Rattle.spv_grammar.specs.Table.{Table}
+use Rattle.spv_table.specs.Table.{Table}
 use Rattle.spv_inst.specs.Operand.{PlainInst}
 use Rattle.spv_inst.specs.declared.fault.Stop.{Stop}
 use Rattle.spv_inst.specs.declared.fault.Stop.TheVariants.{Fault, Memory}

@@ -1,5 +1,5 @@
 use Rattle.std.proofs.Common.{ℕ, List, Bool}
-use Rattle.spv_grammar.specs.Table.{Table}
+use Rattle.spv_table.specs.Table.{Table}
 use Rattle.spv.specs.Show.{IsShowing}
 use Rattle.spv.proofs.Showings.{SameShowing}
 use Rattle.spv.proofs.Showings as showings

@@ -1,6 +1,6 @@
 use Rattle.std.proofs.Common.{◌≡◌, ◌≤◌, ◌-◌, ◌++◌, ◌∷◌, [], ◌∙◌, length, take, drop, refl, ap, arith, length-append}
 use Rattle.std.proofs.lemmas.List.{take-append-le, drop-append-le, take_all, length-drop}
-use Rattle.spv_grammar.specs.Table.{pattern_of}
+use Rattle.spv_table.specs.Table.{pattern_of}
 use Rattle.spv_inst.specs.Agenda.{plain_slot}
 use Rattle.spv_inst.specs.Module.{plain_operands}
 use Rattle.spv_inst.specs.Operand.{start}

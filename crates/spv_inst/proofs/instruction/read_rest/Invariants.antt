@@ -1,5 +1,5 @@
 use Rattle.std.proofs.Common.{◌≡◌, ◌≤◌, ◌+◌, ◌-◌, List, length, map, take, drop}
-use Rattle.spv_grammar.specs.Table.{Item}
+use Rattle.spv_table.specs.Table.{Item}
 use Rattle.spv_inst.specs.Operand.{PlainInst, start}
 use Rattle.spv_inst.specs.Known.{Knows}
 use Rattle.spv_inst.specs.Module.{plain_operands}

@@ -1,5 +1,5 @@
 use Rattle.std.proofs.Common.{◌∙◌, sym}
-use Rattle.spv_grammar.specs.Table.{kind_of}
+use Rattle.spv_table.specs.Table.{kind_of}
 use Rattle.spv_inst.specs.declared.form.Leaf.TheVariants as leaf
 use Rattle.spv_inst.specs.Shape.{alone}
 use Rattle.spv_inst.specs.Spelling.{Takes}

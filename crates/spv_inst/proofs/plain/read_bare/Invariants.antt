@@ -1,5 +1,5 @@
 use Rattle.std.proofs.Common.{◌≡◌, ◌≤◌, ◌+◌, ◌-◌, length, map, take, drop}
-use Rattle.spv_grammar.specs.Table.{Table}
+use Rattle.spv_table.specs.Table.{Table}
 use Rattle.spv_inst.specs.Form.{form_of}
 use Rattle.spv_inst.specs.Operand.{Context}
 use Rattle.spv_inst.specs.Module.{plain_operands}

@@ -1,4 +1,4 @@
-use Rattle.spv_grammar.specs.Table.{Table}
+use Rattle.spv_table.specs.Table.{Table}
 use Rattle.spv_inst.specs.Module.{plain_inst}
 use Rattle.spv_layout.specs.Shape.{Fits}
 use Rattle.spv_roles.specs.Known.{AreInRoleBefore}
