@@ -7,11 +7,11 @@ use Rattle.spv_words.specs.declared.words.Order.{Order}
 use Rattle.spv_words.specs.declared.words.WordError.{WordError}
 use Rattle.spv_words.specs.declared.words.WordError.TheVariants as word
 use Rattle.spv_table.specs.Table.{Table}
-use Rattle.spv_inst.specs.Operand.{PlainInst}
-use Rattle.spv_inst.specs.Instruction.{IsListing}
+use Rattle.spv_module.specs.Operand.{PlainInst}
+use Rattle.spv_module.specs.Instruction.{IsListing}
 use Rattle.spv_inst.specs.Outcome.{IsDeath, IsHeaderOf}
-use Rattle.spv_inst.specs.declared.fault.Stop.{Stop}
-use Rattle.spv_inst.specs.declared.fault.Stop.TheVariants.{Fault as Dies, Memory}
+use Rattle.spv_module.specs.declared.fault.Stop.{Stop}
+use Rattle.spv_module.specs.declared.fault.Stop.TheVariants.{Fault as Dies, Memory}
 use Rattle.spv_lines.specs.Text.{IsShownText}
 use Rattle.spv_verdict.specs.Verdict.{fault_line, refused_line}
 use Rattle.spv_verdict.proofs.Verdicts.{Laws, dead_list, same_module}

@@ -20,7 +20,7 @@ use Rattle.spv_verdict.specs.declared.checked.Verdict.{Verdict}
 use Rattle.spv_verdict.specs.declared.checked.Verdict.TheVariants.{Valid, Fault}
 use Rattle.spv_verdict.proofs.Checks.{fault_judged}
 use Rattle.spv_verdict.proofs.Verdicts.{fault_is_not_valid, refused_is_not_valid}
-use Rattle.spv_inst.specs.declared.fault.Fault as fault
+use Rattle.spv_module.specs.declared.fault.Fault as fault
 use Rattle.spv.specs.Trace.{BeginsTracing, HasNoEntry, IsProgram, IsTracing, Traces, judged, traced, trace_text}
 use Rattle.spv.specs.Traced.{is_run, output_of, traced_refusal, traced_stop}
 use Rattle.spv.specs.declared.tracing.RunError.{RunError}

@@ -5,7 +5,8 @@ use Rattle.spv_grammar.specs.declared.error.GrammarError.TheVariants.{J1}
 use Rattle.serde_json.specs.Read.{read as read_text}
 use Rattle.serde_json.proofs.OnLiterals.{serde_json_on_literals}
 use Rattle.spv_grammar.specs.Answer.{Gives}
-use Rattle.spv_grammar.specs.Example.{empty_table, empty_tree}
+use Rattle.spv_table.specs.Example.{empty_table}
+use Rattle.spv_grammar.specs.Example.{empty_tree}
 use Rattle.spv.specs.Example.{empty_grammar}
 use Rattle.spv.specs.Trouble.{IsErrorLine, IsTableOf}
 use Rattle.spv.specs.Trouble.IsErrorLine.{refused as broken}

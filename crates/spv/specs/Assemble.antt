@@ -7,7 +7,7 @@ use Rattle.spv_words.specs.declared.words.Header.{Header}
 use Rattle.spv_words.specs.declared.words.Order.{Order}
 use Rattle.spv_words.specs.declared.words.Order.TheVariants.{Little, Big}
 use Rattle.spv_table.specs.Table.{Table}
-use Rattle.spv_inst.specs.Operand.{PlainInst}
+use Rattle.spv_module.specs.Operand.{PlainInst}
 use Rattle.spv_inst.specs.Outcome.{IsHeaderOf}
 use Rattle.spv_lines.specs.Text.{IsReadText}
 use Rattle.spv_lines.specs.Fault.{IsFailure}

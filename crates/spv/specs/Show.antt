@@ -5,11 +5,11 @@ use Rattle.spv_words.specs.declared.words.Header.{Header}
 use Rattle.spv_words.specs.declared.words.Order.{Order}
 use Rattle.spv_words.specs.declared.words.WordError.{WordError}
 use Rattle.spv_table.specs.Table.{Table}
-use Rattle.spv_inst.specs.Operand.{PlainInst}
-use Rattle.spv_inst.specs.Instruction.{IsListing}
+use Rattle.spv_module.specs.Operand.{PlainInst}
+use Rattle.spv_module.specs.Instruction.{IsListing}
 use Rattle.spv_inst.specs.Outcome.{IsHeaderOf}
-use Rattle.spv_inst.specs.Dead.{IsDeadAt}
-use Rattle.spv_inst.specs.declared.fault.Rule.{Rule}
+use Rattle.spv_module.specs.Dead.{IsDeadAt}
+use Rattle.spv_module.specs.declared.fault.Rule.{Rule}
 use Rattle.spv_lines.specs.Text.{IsShownText}
 use Rattle.spv_verdict.specs.Verdict.{fault_line, refused_line}
 

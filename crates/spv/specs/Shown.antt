@@ -2,8 +2,8 @@
 use Rattle.std.specs.Prelude.{ℕ, List, Bool, true, false, Result, Ok, Err, string_bytes}
 use Rattle.spv_words.specs.declared.words.WordError.{WordError}
 use Rattle.spv_words.specs.declared.words.WordError.TheVariants.{W1, W9}
-use Rattle.spv_inst.specs.declared.fault.Stop.{Stop}
-use Rattle.spv_inst.specs.declared.fault.Stop.TheVariants.{Fault, Memory}
+use Rattle.spv_module.specs.declared.fault.Stop.{Stop}
+use Rattle.spv_module.specs.declared.fault.Stop.TheVariants.{Fault, Memory}
 use Rattle.spv_verdict.specs.declared.verdict_line.Judgment.TheVariants.{Refused, Broken}
 use Rattle.spv.specs.declared.showing.Shown.{Shown}
 use Rattle.spv.specs.declared.showing.Shown.TheVariants.{Text, Line}

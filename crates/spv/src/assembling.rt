@@ -6,7 +6,7 @@ ghost use Rattle.spv.specs.declared.assembling.TextError.TheVariants as trouble;
 
 use crate::text_fault::text_fault;
 use simdutf8::basic::from_utf8;
-use spv_grammar::Table;
+use spv_table::Table;
 use spv_text::{AsmCode, AsmError, assemble};
 use spv_words::{Failed, Image, Order, Sink, Source, write_all, write_image};
 use std::alloc::{AllocError, Global};

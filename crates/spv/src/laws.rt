@@ -5,7 +5,7 @@ ghost use Rattle.spv_words.specs.declared.words.Order.{Order};
 ghost use Rattle.spv_table.specs.Table.{Table};
 ghost use Rattle.spv_grammar.specs.Answer.{text_breaks};
 ghost use Rattle.spv_grammar.specs.declared.error.GrammarError.{GrammarError};
-ghost use Rattle.spv_grammar.specs.Example.{empty_table};
+ghost use Rattle.spv_table.specs.Example.{empty_table};
 ghost use Rattle.spv.specs.Example.{empty_grammar};
 ghost use Rattle.spv.specs.Show.{BeginsShowing, IsShowing, Shows};
 ghost use Rattle.spv.specs.Assemble.{Assembles, BeginsAssembling};

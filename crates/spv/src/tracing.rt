@@ -9,7 +9,7 @@ ghost use Rattle.spv.specs.Traced.{is_run, output_of, traced_refusal, traced_sto
 ghost use Rattle.spv.specs.declared.tracing.RunError.TheVariants as trouble;
 
 use crate::trace_lines::write_trace;
-use spv_grammar::Table;
+use spv_table::Table;
 use spv_verdict::{Checked, Judgment, Trace, TraceError, Verdict, check, line_for, trace};
 use spv_words::{Image, Sink, Source, WordError, read_image, write_all};
 use std::alloc::Global;

@@ -4,7 +4,7 @@ ghost use Rattle.std.specs.Prelude.{◌≡◌};
 ghost use Rattle.spv_branches.specs.Target as target;
 
 use spv_ids::Ids;
-use spv_inst::Inst;
+use spv_module::Inst;
 use spv_layout::Plan;
 
 /// The instructions of a module, with what `lay_out` and `number` answered of it.

@@ -11,7 +11,7 @@ ghost use Rattle.spv_branches.specs.Target as target;
 use crate::code::{BRANCH_CONDITIONAL, Code, PHI, is_branch, is_merge};
 use crate::edges::Edges;
 use crate::faults::{Targets, has_labels, has_parents, has_same_labels, targets_of};
-use spv_inst::Rule;
+use spv_module::Rule;
 
 /// The rule that is broken at a merge.
 fn merge_rule(code: &Code<'_, '_>, at: u32) -> Option<Rule>

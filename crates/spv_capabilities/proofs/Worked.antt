@@ -6,7 +6,7 @@ use Rattle.spv_table.specs.Table.{enumerant_of}
 use Rattle.spv_table.specs.Lookups.{value_named, number_named}
 use Rattle.spv_table.specs.Implied.{Lists, Chain, capabilities_in}
 use Rattle.spv_table.proofs.Search.{in_cons}
-use Rattle.spv_inst.specs.Operand.{PlainInst}
+use Rattle.spv_module.specs.Operand.{PlainInst}
 use Rattle.spv_layout.specs.declared.class.Class.TheVariants.{Function, FunctionEnd, Label}
 use Rattle.spv_layout.specs.Rows.{rows}
 use Rattle.spv_layout.specs.Place.{IsAt, IsDefinition}

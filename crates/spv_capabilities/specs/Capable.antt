@@ -4,8 +4,8 @@ use Rattle.std.specs.List.{AllByRecursion}
 use Rattle.spv_table.specs.Table.{Table, kind_of, entry_of, enumerant_of}
 use Rattle.spv_table.specs.Lookups.{value_named, number_named}
 use Rattle.spv_table.specs.Implied.{Implied, capabilities_in}
-use Rattle.spv_inst.specs.Operand.{Plain, Result, Word, Id, Value, Mask, PlainInst}
-use Rattle.spv_inst.specs.Spelling.{set_bits}
+use Rattle.spv_module.specs.Operand.{Plain, Result, Word, Id, Value, Mask, PlainInst}
+use Rattle.spv_module.specs.Spelling.{set_bits}
 
 -- the capability that an OpCapability (17) declares
 abbrev pub first_value : List Plain → Option ℕ

@@ -8,7 +8,7 @@ use Rattle.spv_inst.specs.declared.agenda.Frame.TheVariants.{Bits}
 use Rattle.spv_inst.specs.declared.reader.Slot as code
 use Rattle.spv_inst.specs.Agenda.{plain_slot, slots_of, parameters_from, frame_due, frames_due}
 use Rattle.spv_inst.specs.Flat.{Due, OneOf}
-use Rattle.spv_inst.specs.Shape.{Slot}
+use Rattle.spv_module.specs.Shape.{Slot}
 
 pub frames-push : (G : Table) (fs : List Frame) (f : Frame) → frames_due G (fs ++ (f ∷ [])) ≡ frame_due G f ++ frames_due G fs
 frames-push G [] f = sym (append-nil (frame_due G f))

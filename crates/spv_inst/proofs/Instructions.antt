@@ -3,13 +3,13 @@ use Rattle.std.proofs.Common.{◌≡◌, ◌++◌, ◌∙◌, ◌+◌, ◌-◌, 
 use Rattle.std.proofs.lemmas.List.{drop_more, drop-drop, take-append-drop, length-drop}
 use Rattle.spv_table.specs.declared.table.Entry.{Entry}
 use Rattle.spv_table.specs.Table.{Table, entry_of, pattern_of}
-use Rattle.spv_inst.specs.declared.fault.Rule.TheVariants.{I1, I2, I3}
-use Rattle.spv_inst.specs.declared.fault.Stop.{Stop}
-use Rattle.spv_inst.specs.declared.fault.Stop.TheVariants.{Fault, Memory}
-use Rattle.spv_inst.specs.Operand.{Plain, PlainInst, start}
-use Rattle.spv_inst.specs.Spelling.{Match}
-use Rattle.spv_inst.specs.Instruction.{IsInstruction, first_word}
-use Rattle.spv_inst.specs.Dead.{IsDead}
+use Rattle.spv_module.specs.declared.fault.Rule.TheVariants.{I1, I2, I3}
+use Rattle.spv_module.specs.declared.fault.Stop.{Stop}
+use Rattle.spv_module.specs.declared.fault.Stop.TheVariants.{Fault, Memory}
+use Rattle.spv_module.specs.Operand.{Plain, PlainInst, start}
+use Rattle.spv_module.specs.Spelling.{Match}
+use Rattle.spv_module.specs.Instruction.{IsInstruction, first_word}
+use Rattle.spv_module.specs.Dead.{IsDead}
 use Rattle.spv_inst.specs.Reading.{between}
 use Rattle.spv_inst.specs.Step.{IsMisfit, IsDeadFrom}
 use Rattle.spv_inst.proofs.Turns.{length-between}

@@ -7,9 +7,9 @@ use Rattle.spv_inst.specs.declared.agenda.Frame.{Frame}
 use Rattle.spv_inst.specs.declared.agenda.Frame.TheVariants.{Kinds, Bits}
 use Rattle.spv_inst.specs.declared.agenda.Agenda.{Agenda}
 use Rattle.spv_inst.specs.declared.reader.Slot as code
-use Rattle.spv_inst.specs.Operand.{Plain, Value, Mask, Context}
-use Rattle.spv_inst.specs.Shape.{Slot, alone, AsParts, shape_of}
-use Rattle.spv_inst.specs.Spelling.{bits_from, parameters_of}
+use Rattle.spv_module.specs.Operand.{Plain, Value, Mask, Context}
+use Rattle.spv_module.specs.Shape.{Slot, alone, AsParts, shape_of}
+use Rattle.spv_module.specs.Spelling.{bits_from, parameters_of}
 use Rattle.spv_inst.specs.Reading.{enumerants_at}
 use Rattle.spv_inst.specs.Flat.{Due, OneOf, MaybeOf, ManyOf, due}
 

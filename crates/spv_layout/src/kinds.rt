@@ -4,7 +4,7 @@ ghost use Rattle.spv_layout.specs.Kinds.{place_of};
 ghost use Rattle.spv_layout.specs.Row.{name_of};
 
 use crate::form::Named;
-use spv_grammar::Table;
+use spv_table::Table;
 use std::marker::Model;
 
 /// A grammar table, with the numbers of the kinds that rows name: they are looked up once. Contracts see it as the table.

@@ -6,9 +6,9 @@ use Rattle.std.proofs.lemmas.Bool.Decides.{nat_tests}
 use Rattle.spv_words.specs.declared.words.Header.{Header}
 use Rattle.spv_table.specs.Table.{Table, pattern_of}
 use Rattle.spv_table.specs.Lookups.{opcode_named}
-use Rattle.spv_inst.specs.Operand.{PlainInst, start, result_in}
+use Rattle.spv_module.specs.Operand.{PlainInst, start, result_in}
 use Rattle.spv_inst.specs.Flat.{Matches, due}
-use Rattle.spv_inst.specs.Instruction.{IsInstruction, Listing, IsListing, first_word}
+use Rattle.spv_module.specs.Instruction.{IsInstruction, Listing, IsListing, first_word}
 use Rattle.spv_inst.specs.Encoding.{Fits, greatest_length}
 use Rattle.spv_inst.proofs.Joined.{match_flat}
 use Rattle.spv_inst.proofs.Flat.{spelled_once}

@@ -8,9 +8,9 @@ use Rattle.spv_table.specs.Table.{Table, Sort, kind_of, is_simple, is_simple_cat
 use Rattle.spv_inst.specs.declared.form.Form.{Form}
 use Rattle.spv_inst.specs.declared.form.Form.TheVariants.{Leaf, Parts}
 use Rattle.spv_inst.specs.Form.{category_form, form_at}
-use Rattle.spv_inst.specs.Operand.{Plain, OfType, Result, Id, Word, Number, Text, Value, Mask, Context, and_then, result_in}
-use Rattle.spv_inst.specs.Shape.{Slot, AsParts, shape_of}
-use Rattle.spv_inst.specs.Refusal.{IsLeaf}
+use Rattle.spv_module.specs.Operand.{Plain, OfType, Result, Id, Word, Number, Text, Value, Mask, Context, and_then, result_in}
+use Rattle.spv_module.specs.Shape.{Slot, AsParts, shape_of}
+use Rattle.spv_module.specs.Refusal.{IsLeaf}
 use Rattle.spv_inst.specs.Flat.{Due, OneOf, MaybeOf, ManyOf}
 use Rattle.spv_inst.proofs.Bases.{passes_at, and_first}
 use Rattle.spv_inst.proofs.Shapes.{bases_at, shape_parts, shape_is_leaf}

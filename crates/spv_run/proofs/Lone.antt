@@ -3,8 +3,8 @@ use Rattle.std.proofs.Common.{◌≡◌, ◌≢◌, ◌≤◌, ◌<◌, ◌∙�
 use Rattle.std.specs.List.{AllByRecursion}
 use Rattle.std.proofs.lemmas.Option.{none-some, same_Some}
 use Rattle.spv_table.specs.Table.{Table}
-use Rattle.spv_inst.specs.Operand.{PlainInst, Result}
-use Rattle.spv_inst.specs.Width.{type_of}
+use Rattle.spv_module.specs.Operand.{PlainInst, Result}
+use Rattle.spv_module.specs.Width.{type_of}
 use Rattle.spv_layout.specs.declared.class.Class.TheVariants.{Function, FunctionEnd, Label}
 use Rattle.spv_layout.specs.Rows.{rows}
 use Rattle.spv_layout.specs.Place.{IsAt, IsDefinition}

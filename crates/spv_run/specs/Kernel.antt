@@ -6,8 +6,8 @@ use Rattle.spv_table.specs.declared.table.Item.{Item}
 use Rattle.spv_table.specs.declared.table.Entry.{Entry}
 use Rattle.spv_table.specs.declared.table.Enumerant.{Enumerant}
 use Rattle.spv_table.specs.Table.{Sort, Table}
-use Rattle.spv_inst.specs.Operand.{OfType, Result, Id, Text, Value, Mask, PlainInst}
-use Rattle.spv_inst.specs.Example.{plain_kind}
+use Rattle.spv_module.specs.Operand.{OfType, Result, Id, Text, Value, Mask, PlainInst}
+use Rattle.spv_module.specs.Example.{plain_kind}
 use Rattle.spv_capabilities.specs.Example.{enumerant, value_kind}
 use Rattle.spv_ops.specs.Example.{inst}
 

@@ -10,10 +10,10 @@ use Rattle.spv_inst.specs.declared.form.Leaf as declared
 use Rattle.spv_inst.specs.declared.form.Leaf.TheVariants as leaf
 use Rattle.spv_inst.specs.declared.form.Form.TheVariants.{Leaf}
 use Rattle.spv_inst.specs.Form.{form_at, category_form}
-use Rattle.spv_inst.specs.Operand.{Plain, Number, Context, type_in}
-use Rattle.spv_inst.specs.Shape.{Slot, alone, Shape, AsNumber, AsWord, AsValue, AsMask, shape_of}
-use Rattle.spv_inst.specs.Width.{context_width, switch_width, type_of, first_id}
-use Rattle.spv_inst.specs.Spelling.{Takes, parameters_of, mask_parameters}
+use Rattle.spv_module.specs.Operand.{Plain, Number, Context, type_in}
+use Rattle.spv_module.specs.Shape.{Slot, alone, Shape, AsNumber, AsWord, AsValue, AsMask, shape_of}
+use Rattle.spv_module.specs.Width.{context_width, switch_width, type_of, first_id}
+use Rattle.spv_module.specs.Spelling.{Takes, parameters_of, mask_parameters}
 use Rattle.spv_inst.specs.Reading.{enumerants_at}
 use Rattle.spv_inst.specs.Agenda.{opened_kinds}
 use Rattle.spv_inst.proofs.Shapes.{leaf_shape, shape_leaf}

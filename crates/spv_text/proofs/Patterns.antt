@@ -7,8 +7,8 @@ use Rattle.spv_table.specs.declared.table.Quantifier.{Quantifier}
 use Rattle.spv_table.specs.declared.table.Quantifier.TheVariants as quantifier
 use Rattle.spv_table.specs.declared.table.Item as declared
 use Rattle.spv_table.specs.Table.{Table, Item, quantified}
-use Rattle.spv_inst.specs.Operand.{Context}
-use Rattle.spv_inst.specs.Shape.{alone, shape_of}
+use Rattle.spv_module.specs.Operand.{Context}
+use Rattle.spv_module.specs.Shape.{alone, shape_of}
 use Rattle.spv_inst.specs.Agenda.{items_of}
 use Rattle.spv_lines.specs.Fault.{is_result_shape, may_have_result, must_have_result}
 

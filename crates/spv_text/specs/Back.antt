@@ -3,7 +3,7 @@ use Rattle.std.specs.Prelude.{◌≡◌, ◌≤◌, ◌++◌, ◌∷◌, [], ℕ
 use Rattle.std.specs.List.{list_all}
 use Rattle.spv_table.specs.Table.{Table}
 use Rattle.spv_inst.specs.Flat.{Due}
-use Rattle.spv_inst.specs.Operand.{Plain, PlainInst, Result, Number, result_in, start}
+use Rattle.spv_module.specs.Operand.{Plain, PlainInst, Result, Number, result_in, start}
 use Rattle.spv_lines.specs.Operand.{Shown, shown_operand}
 use Rattle.spv_lines.specs.Written.{Written}
 

@@ -8,12 +8,12 @@ use Rattle.spv_inst.specs.declared.form.Leaf.TheVariants as leaf
 use Rattle.spv_inst.specs.Agenda.{due_first, items_of, settled}
 use Rattle.spv_inst.specs.Flat.{Due, OneOf, due}
 use Rattle.spv_inst.specs.Form.{form_at}
-use Rattle.spv_inst.specs.Instruction.{IsInstruction}
-use Rattle.spv_inst.specs.Operand.{Context, Plain, PlainInst, Text, result_in, start, type_in}
+use Rattle.spv_module.specs.Instruction.{IsInstruction}
+use Rattle.spv_module.specs.Operand.{Context, Plain, PlainInst, Text, result_in, start, type_in}
 use Rattle.spv_inst.specs.Reading.{between}
-use Rattle.spv_inst.specs.Shape.{AsText, alone, shape_of}
+use Rattle.spv_module.specs.Shape.{AsText, alone, shape_of}
 use Rattle.spv_inst.specs.Sofar.{Sofar}
-use Rattle.spv_inst.specs.Spelling.{Match, Takes}
+use Rattle.spv_module.specs.Spelling.{Match, Takes}
 use Rattle.spv_lines.specs.Line.{IsShownLine}
 use Rattle.spv_lines.specs.Operand.{Shown, quoted, shown_operand}
 use Rattle.spv_lines.specs.Written.{Written}

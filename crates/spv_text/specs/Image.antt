@@ -3,8 +3,8 @@ use Rattle.std.specs.Prelude.{◌≡◌, ◌<◌, ◌≤◌, ◌++◌, ◌∷◌
 use Rattle.spv_words.specs.declared.words.Header.{Header}
 use Rattle.spv_table.specs.Table.{Table}
 use Rattle.spv_inst.specs.declared.definitions.Definitions.{Definitions}
-use Rattle.spv_inst.specs.Operand.{PlainInst}
-use Rattle.spv_inst.specs.Instruction.{IsInstruction, IsListing}
+use Rattle.spv_module.specs.Operand.{PlainInst}
+use Rattle.spv_module.specs.Instruction.{IsInstruction, IsListing}
 use Rattle.spv_inst.specs.Known as known
 use Rattle.spv_inst.specs.Outcome.{IsHeaderOf}
 use Rattle.spv_inst.specs.Reading.{between}

@@ -9,7 +9,7 @@ ghost use Rattle.spv_text.specs.Named.{AreNames};
 
 use crate::names::Names;
 use crate::number::push_nameless;
-use spv_grammar::{Entry, Table};
+use spv_table::{Entry, Table};
 use spv_tokens::is_plain;
 use std::alloc::AllocError;
 

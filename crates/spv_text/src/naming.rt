@@ -9,7 +9,7 @@ ghost use Rattle.spv_text.specs.Heading.{plain_parts};
 ghost use Rattle.spv_text.specs.Lookup.{IsKnown};
 
 use crate::reading::Parts;
-use spv_grammar::Entry;
+use spv_table::Entry;
 use spv_tokens::split_before;
 
 /// A line's parts, and the instruction that its name stands for.

@@ -4,13 +4,13 @@ ghost use Rattle.std.specs.Prelude.{◌≡◌, ◌<◌, ◌≤◌, ◌+◌, ◌^
 ghost use Rattle.spv_table.specs.Table.{kind_of};
 ghost use Rattle.spv_inst.specs.Form.{form_at};
 ghost use Rattle.spv_inst.specs.Reading.{enumerants_at};
-ghost use Rattle.spv_inst.specs.Spelling.{parameters_of, mask_parameters};
+ghost use Rattle.spv_module.specs.Spelling.{parameters_of, mask_parameters};
 ghost use Rattle.spv_lines.specs.Name.{shown_mask, shown_value};
 ghost use Rattle.spv_text.specs.Named.{AreNames};
 ghost use Rattle.spv_text.specs.Valued.{IsNamed, IsNamedBy};
 
 use crate::names::Names;
-use spv_grammar::Table;
+use spv_table::Table;
 use spv_inst::due::{Form, Leaf};
 
 /// What stands in a line for a word, and the kinds of the parameters that are due after it.

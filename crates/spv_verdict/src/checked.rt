@@ -2,7 +2,7 @@
 
 use spv_flow::Flow;
 use spv_ids::Ids;
-use spv_inst::{Fault, Module};
+use spv_module::{Fault, Module};
 use spv_layout::Plan;
 use std::marker::Model;
 
@@ -50,7 +50,7 @@ impl<'a> Model for Checked<'a> {
     ghost Value = { Program };
 
     ghost use Rattle.spv_table.specs.Table.{Table};
-    ghost use Rattle.spv_inst.specs.Module.{plain_insts};
+    ghost use Rattle.spv_module.specs.Module.{plain_insts};
     ghost use Rattle.spv_verdict.specs.Checked.{AreParts};
 
     ghost view = { λ c. record { bound = c.«module».header.bound; insts = plain_insts c.«module» } };
@@ -61,7 +61,7 @@ impl<'a> Model for Checked<'a> {
 impl<'a> Checked<'a> {
     ghost use Rattle.std.specs.Prelude.{◌≡◌};
     ghost use Rattle.spv_table.specs.Table.{Table};
-    ghost use Rattle.spv_inst.specs.Module.{plain_insts};
+    ghost use Rattle.spv_module.specs.Module.{plain_insts};
     ghost use Rattle.spv_verdict.specs.Program.{Program};
     ghost use Rattle.spv_verdict.specs.Checked.{AreParts, IsKept};
     ghost use Rattle.spv_verdict.specs.Answer.{ArePartsOf};

@@ -2,11 +2,11 @@
 
 ghost use Rattle.std.specs.Prelude.{◌≡◌, ◌&&◌, nat_le, is_some};
 ghost use Rattle.spv_branches.specs.Target as target;
-ghost use Rattle.spv_inst.specs.Module.{plain_operands};
-ghost use Rattle.spv_inst.specs.Operand as operand;
+ghost use Rattle.spv_module.specs.Module.{plain_operands};
+ghost use Rattle.spv_module.specs.Operand as operand;
 
 use spv_ids::Ids;
-use spv_inst::{Inst, Operand};
+use spv_module::{Inst, Operand};
 use spv_layout::Plan;
 
 /// The instructions of a module, with what `lay_out` and `number` answered of it.

@@ -1,6 +1,6 @@
 use Rattle.std.proofs.Common.{refl, lit≤, arith}
 use Rattle.spv.specs.Trouble.{entry, memory}
-use Rattle.spv_grammar.specs.Example.{empty_table}
+use Rattle.spv_table.specs.Example.{empty_table}
 use Rattle.spv.proofs.Tasks.{begins_short, does_short}
 use Rattle.spv.proofs.Worked.{empty_given, nothing_breaks, nothing_given}
 use Rattle.spv.proofs.laws.run_examples.Goals as goal

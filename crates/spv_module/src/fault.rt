@@ -108,7 +108,7 @@ pub enum Stop {
 }
 
 impl From<AllocError> for Stop {
-    ghost use Rattle.spv_inst.specs.declared.fault.Stop.TheVariants.{Memory};
+    ghost use Rattle.spv_module.specs.declared.fault.Stop.TheVariants.{Memory};
 
     ghost from_gives = { λ _ e. e ≡ Memory };
 
@@ -118,7 +118,7 @@ impl From<AllocError> for Stop {
 }
 
 impl<T: Drop> From<AllocFailed<T>> for Stop {
-    ghost use Rattle.spv_inst.specs.declared.fault.Stop.TheVariants.{Memory};
+    ghost use Rattle.spv_module.specs.declared.fault.Stop.TheVariants.{Memory};
 
     ghost from_gives = { λ _ e. e ≡ Memory };
 

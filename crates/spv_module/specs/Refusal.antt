@@ -3,11 +3,11 @@ use Rattle.std.specs.Prelude.{◌≡◌, ◌≢◌, ◌<◌, ◌+◌, ℕ, List,
 use Rattle.std.specs.List.{AllByRecursion}
 use Rattle.spv_table.specs.declared.table.Enumerant.{Enumerant}
 use Rattle.spv_table.specs.Table.{Table, Item, One, Maybe, Many}
-use Rattle.spv_inst.specs.declared.fault.Rule.{Rule}
-use Rattle.spv_inst.specs.declared.fault.Rule.TheVariants.{I4, I5, I6, I7, I8, I9, I10, I11, I12}
-use Rattle.spv_inst.specs.Operand.{Plain, Context, and_then, after}
-use Rattle.spv_inst.specs.Shape.{Slot, alone, Shape, AsNumber, AsText, AsValue, AsMask, AsParts, AsNothing, shape_of}
-use Rattle.spv_inst.specs.Spelling.{octets_of, Holds, AreZeros, parameters_of, mask_parameters, Takes, Spells}
+use Rattle.spv_module.specs.declared.fault.Rule.{Rule}
+use Rattle.spv_module.specs.declared.fault.Rule.TheVariants.{I4, I5, I6, I7, I8, I9, I10, I11, I12}
+use Rattle.spv_module.specs.Operand.{Plain, Context, and_then, after}
+use Rattle.spv_module.specs.Shape.{Slot, alone, Shape, AsNumber, AsText, AsValue, AsMask, AsParts, AsNothing, shape_of}
+use Rattle.spv_module.specs.Spelling.{octets_of, Holds, AreZeros, parameters_of, mask_parameters, Takes, Spells}
 
 -- a shape that takes one word at least
 abbrev pub IsLeaf : Shape → Type 0

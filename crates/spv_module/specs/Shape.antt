@@ -4,8 +4,8 @@ use Rattle.spv_table.specs.declared.table.Enumerant.{Enumerant}
 use Rattle.spv_table.specs.declared.table.Category.{Category}
 use Rattle.spv_table.specs.declared.table.Category.TheVariants as category
 use Rattle.spv_table.specs.Table.{Table, Sort, kind_of}
-use Rattle.spv_inst.specs.Operand.{Context}
-use Rattle.spv_inst.specs.Width.{context_width, switch_width}
+use Rattle.spv_module.specs.Operand.{Context}
+use Rattle.spv_module.specs.Width.{context_width, switch_width}
 
 -- a kind that is due, and whether it is a base of PairLiteralIntegerIdRef
 pub record Slot : Type 0 where

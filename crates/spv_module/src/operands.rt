@@ -1,7 +1,7 @@
 ghost use Rattle.std.specs.Prelude.{◌≡◌, ◌<◌, ◌≤◌, ◌+◌, length, take, drop, IfOk};
 
 use crate::operand::Operand;
-use spv_grammar::Memory;
+use spv_table::Memory;
 use std::alloc::{AllocError, Global};
 use std::fmt::{self, Debug, Formatter, Write};
 use std::marker::Model;
@@ -22,7 +22,7 @@ pub struct Operands<'a> {
 
 impl<'a> Model for Operands<'a> {
     ghost use Rattle.std.specs.Prelude.{◌≤◌, ◌+◌, List, length, take, drop};
-    ghost use Rattle.spv_inst.specs.declared.operand.Operand.{Operand};
+    ghost use Rattle.spv_module.specs.declared.operand.Operand.{Operand};
 
     ghost Value = { List Operand };
 
@@ -49,7 +49,7 @@ impl<'a> Operands<'a> {
     }
 
     /// So many operands of a shared list, from a place on. The error is want of memory.
-    pub(crate) fn part(
+    pub fn part(
         shared: &Rc<Vec<Operand<'a>>>,
         first: u32,
         count: u32,

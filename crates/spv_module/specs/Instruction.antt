@@ -2,8 +2,8 @@
 use Rattle.std.specs.Prelude.{◌≡◌, ◌<◌, ◌+◌, ◌*◌, ℕ, List, [], ◌∷◌, ◌++◌, length, Some}
 use Rattle.spv_table.specs.declared.table.Entry.{Entry}
 use Rattle.spv_table.specs.Table.{Table, entry_of, pattern_of}
-use Rattle.spv_inst.specs.Operand.{PlainInst, start}
-use Rattle.spv_inst.specs.Spelling.{Match}
+use Rattle.spv_module.specs.Operand.{PlainInst, start}
+use Rattle.spv_module.specs.Spelling.{Match}
 
 -- The first word of an instruction is 65536 times its number of words, itself included, plus its opcode.
 abbrev pub first_word : ℕ → List ℕ → ℕ

@@ -2,11 +2,11 @@
 use Rattle.std.specs.Prelude.{◌≡◌, ◌<◌, ◌+◌, ◌*◌, ℕ, suc, List, [], ◌∷◌, ◌++◌, length, Some, None}
 use Rattle.spv_table.specs.declared.table.Entry.{Entry}
 use Rattle.spv_table.specs.Table.{Table, entry_of, pattern_of}
-use Rattle.spv_inst.specs.Operand.{PlainInst, start}
-use Rattle.spv_inst.specs.Instruction.{IsInstruction, first_word}
-use Rattle.spv_inst.specs.declared.fault.Rule.{Rule}
-use Rattle.spv_inst.specs.declared.fault.Rule.TheVariants.{I1, I2, I3}
-use Rattle.spv_inst.specs.Refusal.{Misfit}
+use Rattle.spv_module.specs.Operand.{PlainInst, start}
+use Rattle.spv_module.specs.Instruction.{IsInstruction, first_word}
+use Rattle.spv_module.specs.declared.fault.Rule.{Rule}
+use Rattle.spv_module.specs.declared.fault.Rule.TheVariants.{I1, I2, I3}
+use Rattle.spv_module.specs.Refusal.{Misfit}
 
 -- After the instructions before, the words left of the module begin with an instruction that is dead, with the code,
 -- at a word counted from its first.

@@ -1,13 +1,13 @@
-ghost use Rattle.std.specs.Prelude.{◌≡◌, ◌++◌, ◌∷◌, [], IfOk, OnOk, OnErr, map};
-ghost use Rattle.spv_inst.specs.Module.{plain_inst, plain_insts, plain_operands};
-ghost use Rattle.spv_inst.specs.Operand.{result_in, type_in};
+ghost use Rattle.std.specs.Prelude.{◌≡◌, ◌++◌, ◌∷◌, [], OnOk, OnErr, map};
+ghost use Rattle.spv_module.specs.Module.{plain_inst, plain_insts, plain_operands};
+ghost use Rattle.spv_module.specs.Operand.{result_in, type_in};
 
-use crate::definitions;
 use crate::operand::Operand;
 use crate::operands::Operands;
-use spv_grammar::Memory;
+use crate::results;
+use spv_table::Memory;
 use spv_words::Header;
-use std::alloc::{AllocError, Global};
+use std::alloc::Global;
 
 /// An instruction (SPIR-V Specification 1.6, section 2.3), whatever its operands: `decode` answers those alone that words
 /// spell by the grammar table, and `encode` refuses the others.
@@ -25,7 +25,7 @@ impl<'a> Inst<'a> {
     pub fn type_id(&self) -> Option<u32>
         ensures { result ≡ type_in (plain_inst self.now).operands }
     {
-        definitions::type_in(self.operands.as_slice())
+        results::type_in(self.operands.as_slice())
     }
 
     /// The id of its result: that of its first operand of the kind IdResult (SPIR-V Specification 1.6, section 2.2.1). None
@@ -33,7 +33,7 @@ impl<'a> Inst<'a> {
     pub fn result_id(&self) -> Option<u32>
         ensures { result ≡ result_in (plain_inst self.now).operands }
     {
-        definitions::result_in(self.operands.as_slice())
+        results::result_in(self.operands.as_slice())
     }
 }
 
@@ -60,20 +60,6 @@ impl<'a> Module<'a> {
             insts: Vec::new(alloc),
             alloc,
         }
-    }
-
-    /// A module with that header and no instruction, with room for so many. The error is want of memory.
-    pub(crate) fn with_room(
-        alloc: Global,
-        header: Header,
-        count: usize,
-    ) -> Result<Module<'a>, AllocError>
-        ensures header { IfOk result (λ m. m.header ≡ header) }
-        ensures insts { IfOk result (λ m. plain_insts m ≡ []) }
-    {
-        let mut module = Module::new(alloc, header);
-        module.insts = Vec::with_capacity(alloc, count)?;
-        Ok(module)
     }
 
     /// Adds an instruction of that opcode, with those operands in order, at the end of the list. It asks nothing of them:

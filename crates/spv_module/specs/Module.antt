@@ -1,11 +1,11 @@
 -- Operands and instructions of the code, without where they lie in memory.
 use Rattle.std.specs.Prelude.{List, map}
-use Rattle.spv_inst.specs.Operand.{Plain, PlainInst}
-use Rattle.spv_inst.specs.Operand as plain
-use Rattle.spv_inst.specs.declared.operand.Operand.{Operand}
-use Rattle.spv_inst.specs.declared.operand.Operand.TheVariants as code
-use Rattle.spv_inst.specs.declared.module.Inst.{Inst}
-use Rattle.spv_inst.specs.declared.module.Module.{Module}
+use Rattle.spv_module.specs.Operand.{Plain, PlainInst}
+use Rattle.spv_module.specs.Operand as plain
+use Rattle.spv_module.specs.declared.operand.Operand.{Operand}
+use Rattle.spv_module.specs.declared.operand.Operand.TheVariants as code
+use Rattle.spv_module.specs.declared.module.Inst.{Inst}
+use Rattle.spv_module.specs.declared.module.Module.{Module}
 
 abbrev pub plain_operand : Operand → Plain
 plain_operand (code.OfType x) = plain.OfType x
