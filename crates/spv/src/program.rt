@@ -16,7 +16,7 @@ use crate::command_line::Command;
 use crate::laws::one_grammar;
 use crate::showing::show_stream;
 use crate::tracing::{RunError, trace_stream};
-use spv_grammar::GrammarError;
+use spv_grammar::{FromGrammar, GrammarError};
 use spv_table::Table;
 use spv_verdict::check_stream;
 use spv_words::{Order, Sink, Source, WordError, write_all};

@@ -16,7 +16,6 @@ ghost use Rattle.spv_inst.specs.Step.{IsMisfit, IsDeadFrom};
 ghost use Rattle.spv_module.specs.Width.{first_id};
 
 use crate::agenda::Agenda;
-use crate::definitions;
 use spv_module::{Fault, Operand, Rule, Stop};
 use crate::plain::{Rest, next_kind, read_words};
 use crate::reader::{Known, Scene, take_operand};
@@ -119,7 +118,7 @@ fn known_of(opcode: u16, operands: &[Operand<'_>]) -> Known
     };
     Known {
         opcode,
-        type_id: definitions::type_in(operands),
+        type_id: spv_module::type_in(operands),
         first,
     }
 }
