@@ -1,6 +1,9 @@
-//! What no clause says: that calls succeed, and the words, lines and exit statuses of whole runs.
+//! What no clause says: what a reader or a writer that fails comes to, and the texts that people read. What commands
+//! answer to good files is told by the stored run of all cases.
 use spv_commands::{Command, UseError, arguments, help, run};
-use spv_words::{FromRead, FromWrite};
+use spv_grammar::Table;
+use spv_verdict::check_stream;
+use spv_words::{FromRead, FromWrite, WordError};
 use std::alloc::Global;
 use std::io::{self, ErrorKind, Read, Write};
 use std::test::Fail;
@@ -8,11 +11,14 @@ use std::test::Fail;
 /// A grammar of the nine instructions that the smallest kernel uses.
 const GRAMMAR: &[u8] = br#"{"instructions": [
 {"opname": "OpMemoryModel", "opcode": 14, "operands": [{"kind": "AddressingModel"}, {"kind": "MemoryModel"}]},
-{"opname": "OpEntryPoint", "opcode": 15, "operands": [{"kind": "ExecutionModel"}, {"kind": "IdRef"}, {"kind": "LiteralString"}, {"kind": "IdRef", "quantifier": "*"}]},
+{"opname": "OpEntryPoint", "opcode": 15, "operands": [{"kind": "ExecutionModel"}, {"kind": "IdRef"},
+  {"kind": "LiteralString"}, {"kind": "IdRef", "quantifier": "*"}]},
 {"opname": "OpCapability", "opcode": 17, "operands": [{"kind": "Capability"}]},
 {"opname": "OpTypeVoid", "opcode": 19, "operands": [{"kind": "IdResult"}]},
-{"opname": "OpTypeFunction", "opcode": 33, "operands": [{"kind": "IdResult"}, {"kind": "IdRef"}, {"kind": "IdRef", "quantifier": "*"}]},
-{"opname": "OpFunction", "opcode": 54, "operands": [{"kind": "IdResultType"}, {"kind": "IdResult"}, {"kind": "FunctionControl"}, {"kind": "IdRef"}]},
+{"opname": "OpTypeFunction", "opcode": 33, "operands": [{"kind": "IdResult"}, {"kind": "IdRef"},
+  {"kind": "IdRef", "quantifier": "*"}]},
+{"opname": "OpFunction", "opcode": 54, "operands": [{"kind": "IdResultType"}, {"kind": "IdResult"},
+  {"kind": "FunctionControl"}, {"kind": "IdRef"}]},
 {"opname": "OpFunctionEnd", "opcode": 56},
 {"opname": "OpLabel", "opcode": 248, "operands": [{"kind": "IdResult"}]},
 {"opname": "OpReturn", "opcode": 253}
@@ -21,7 +27,8 @@ const GRAMMAR: &[u8] = br#"{"instructions": [
 {"category": "ValueEnum", "kind": "AddressingModel", "enumerants": [{"enumerant": "Physical64", "value": 2}]},
 {"category": "ValueEnum", "kind": "MemoryModel", "enumerants": [{"enumerant": "OpenCL", "value": 2}]},
 {"category": "ValueEnum", "kind": "ExecutionModel", "enumerants": [{"enumerant": "Kernel", "value": 6}]},
-{"category": "ValueEnum", "kind": "Capability", "enumerants": [{"enumerant": "Addresses", "value": 4}, {"enumerant": "Kernel", "value": 6}]},
+{"category": "ValueEnum", "kind": "Capability", "enumerants": [{"enumerant": "Addresses", "value": 4},
+  {"enumerant": "Kernel", "value": 6}]},
 {"category": "Id", "kind": "IdResultType"}, {"category": "Id", "kind": "IdResult"}, {"category": "Id", "kind": "IdRef"},
 {"category": "Literal", "kind": "LiteralString"}
 ]}"#;
@@ -60,98 +67,13 @@ const KERNEL: [u32; 30] = [
     0x0001_0038,
 ];
 
-/// The bytes of words, the lowest first.
-fn bytes_of(alloc: Global, words: &[u32]) -> Result<Vec<u8>, Fail> {
+/// The bytes of the smallest kernel, the lowest of a word first.
+fn kernel(alloc: Global) -> Result<Vec<u8>, Fail> {
     let mut bytes = Vec::new(alloc);
-    for word in words {
+    for word in &KERNEL {
         bytes.extend_from_slice(&word.to_le_bytes())?;
     }
     Ok(bytes)
-}
-
-/// Gives the bytes of a slice in pieces, and fails at a call.
-#[derive(Drop)]
-struct Pieces<'a> {
-    rest: &'a [u8],
-    piece: usize,
-    calls_left: u64,
-}
-
-impl Read for Pieces<'_> {
-    fn read(&mut self, buf: &mut [u8]) -> io::Result<usize> {
-        if self.calls_left == 0 {
-            return Err(io::Error::from(ErrorKind::Interrupted));
-        }
-        self.calls_left -= 1;
-        let n = self.piece.min(buf.len()).min(self.rest.len());
-        buf[..n].copy_from_slice(&self.rest[..n]);
-        self.rest = &self.rest[n..];
-        Ok(n)
-    }
-}
-
-/// Keeps the bytes that are written to it, in pieces, and takes nothing at a call.
-#[derive(Drop)]
-struct Shelf {
-    kept: Vec<u8>,
-    piece: usize,
-    calls_left: u64,
-}
-
-impl Write for Shelf {
-    fn write(&mut self, buf: &[u8]) -> io::Result<usize> {
-        if self.calls_left == 0 {
-            return Ok(0);
-        }
-        self.calls_left -= 1;
-        let n = self.piece.min(buf.len());
-        self.kept.extend_from_slice(&buf[..n])?;
-        Ok(n)
-    }
-
-    fn flush(&mut self) -> io::Result<()> {
-        Ok(())
-    }
-}
-
-/// The exit status of a run, and what it wrote to its standard output and its standard error.
-#[derive(Drop)]
-struct Outcome {
-    status: u8,
-    out: Vec<u8>,
-    err: Vec<u8>,
-}
-
-/// Runs `check`, with so many calls that go well at the reader and at the writer.
-fn check_run(alloc: Global, grammar: &[u8], bytes: &[u8], reads: u64, writes: u64) -> Outcome {
-    let mut file = FromRead::new(Pieces {
-        rest: bytes,
-        piece: 7,
-        calls_left: reads,
-    });
-    let mut out = FromWrite::new(Shelf {
-        kept: Vec::new(alloc),
-        piece: 3,
-        calls_left: writes,
-    });
-    let mut made = FromWrite::new(io::sink());
-    let mut err = FromWrite::new(Shelf {
-        kept: Vec::new(alloc),
-        piece: 5,
-        calls_left: u64::MAX,
-    });
-    let command = Command::Check {
-        grammar: "G",
-        file: "F",
-    };
-    let status = run(
-        alloc, &command, grammar, &mut file, &mut out, &mut made, &mut err,
-    );
-    Outcome {
-        status,
-        out: out.inner.kept,
-        err: err.inner.kept,
-    }
 }
 
 /// The text of the smallest kernel.
@@ -172,347 +94,319 @@ OpReturn
 OpFunctionEnd
 "#;
 
-/// The exit status of a run of `asm`, what it wrote to its outputs, and what it made.
+/// How many calls of a reader or a writer go well, and what the others answer: an error, or no bytes where it has none.
+#[derive(Clone, Copy)]
+struct Calls {
+    good: usize,
+    error: Option<ErrorKind>,
+}
+
+impl Calls {
+    /// All calls go well.
+    const ALL: Calls = Calls {
+        good: usize::MAX,
+        error: None,
+    };
+
+    /// Counts a call: how many bytes it moves of those that it may.
+    fn next(&mut self, most: usize) -> io::Result<usize> {
+        if self.good > 0 {
+            self.good -= 1;
+            return Ok(most);
+        }
+        match self.error {
+            Some(kind) => Err(io::Error::from(kind)),
+            None => Ok(0),
+        }
+    }
+}
+
+/// Gives the bytes of a slice in pieces.
 #[derive(Drop)]
-struct Assembled {
-    status: u8,
-    out: Vec<u8>,
-    err: Vec<u8>,
-    made: Vec<u8>,
+struct Pieces<'a> {
+    rest: &'a [u8],
+    piece: usize,
+    calls: Calls,
 }
 
-/// Runs `asm`, with so many calls that go well at the reader and at the file that is made.
-fn asm_run(alloc: Global, text: &[u8], big: bool, reads: u64, writes: u64) -> Assembled {
-    let mut file = FromRead::new(Pieces {
-        rest: text,
-        piece: 100,
-        calls_left: reads,
-    });
-    let mut out = FromWrite::new(Shelf {
-        kept: Vec::new(alloc),
-        piece: 3,
-        calls_left: u64::MAX,
-    });
-    let mut made = FromWrite::new(Shelf {
-        kept: Vec::new(alloc),
-        piece: 50,
-        calls_left: writes,
-    });
-    let mut err = FromWrite::new(Shelf {
-        kept: Vec::new(alloc),
-        piece: 5,
-        calls_left: u64::MAX,
-    });
-    let command = Command::Asm {
-        grammar: "G",
-        file: "F",
-        out: "O",
-        big,
-    };
-    let status = run(
-        alloc, &command, GRAMMAR, &mut file, &mut out, &mut made, &mut err,
-    );
-    Assembled {
-        status,
-        out: out.inner.kept,
-        err: err.inner.kept,
-        made: made.inner.kept,
+impl Read for Pieces<'_> {
+    fn read(&mut self, buf: &mut [u8]) -> io::Result<usize> {
+        let most = self.piece.min(buf.len()).min(self.rest.len());
+        let n = self.calls.next(most)?.min(most);
+        buf[..n].copy_from_slice(&self.rest[..n]);
+        self.rest = &self.rest[n..];
+        Ok(n)
     }
 }
 
-#[test]
-fn assembles(rt: HostRuntime) -> Result<(), Fail> {
-    let a = rt.alloc();
-    let little = asm_run(a, TEXT, false, u64::MAX, u64::MAX);
-    assert_eq!(rt; little.status, 0);
-    assert_eq!(rt; little.made, bytes_of(a, &KERNEL)?);
-    assert!(rt; little.out.is_empty());
-    assert!(rt; little.err.is_empty());
-    let big = asm_run(a, TEXT, true, u64::MAX, u64::MAX);
-    let mut bytes = Vec::new(a);
-    for word in &KERNEL {
-        bytes.extend_from_slice(&word.to_be_bytes())?;
+/// Keeps the bytes that are written to it, in pieces.
+#[derive(Drop)]
+struct Shelf {
+    kept: Vec<u8>,
+    piece: usize,
+    calls: Calls,
+}
+
+impl Shelf {
+    /// An empty one.
+    fn new(alloc: Global, piece: usize, calls: Calls) -> FromWrite<Shelf> {
+        FromWrite::new(Shelf {
+            kept: Vec::new(alloc),
+            piece,
+            calls,
+        })
     }
-    assert_eq!(rt; big.status, 0);
-    assert_eq!(rt; big.made, bytes);
-    Ok(())
 }
 
-#[test]
-fn tells_a_line(rt: HostRuntime) {
-    let a = rt.alloc();
-    let text =
-        b"; SPIR-V\n; Version: 1.6\n; Generator: 0\n; Bound: 5\n; Schema: 0\nOpCapability Kernel\nOpMemoryModel Physical64\n";
-    let short = asm_run(a, text, false, u64::MAX, u64::MAX);
-    assert_eq!(rt; short.status, 1);
-    assert_eq!(rt; short.out.as_slice(), b"fault S3 line 7\n".as_slice());
-    assert!(rt; short.made.is_empty());
-    assert!(rt; short.err.is_empty());
-}
-
-#[test]
-fn tells_what_is_no_text(rt: HostRuntime) {
-    let a = rt.alloc();
-    let other = asm_run(a, b"; SPIR-V\n\xff", false, u64::MAX, u64::MAX);
-    assert_eq!(rt; other.status, 2);
-    assert_eq!(rt; other.err.as_slice(), b"error file\n".as_slice());
-    assert!(rt; other.out.is_empty());
-    assert!(rt; other.made.is_empty());
-}
-
-#[test]
-fn tells_a_failed_call_of_asm(rt: HostRuntime) -> Result<(), Fail> {
-    let a = rt.alloc();
-    let bytes = bytes_of(a, &KERNEL)?;
-    for calls in 0..3u64 {
-        let unread = asm_run(a, TEXT, false, calls, u64::MAX);
-        assert_eq!(rt; unread.status, 2, "after {calls} reads");
-        assert!(rt; unread.made.is_empty());
-        assert_eq!(rt; unread.err.as_slice(), b"error file\n".as_slice());
-        let begun = asm_run(a, TEXT, false, u64::MAX, calls);
-        assert_eq!(rt; begun.status, 2, "after {calls} writes");
-        assert!(rt; bytes.as_slice().starts_with(begun.made.as_slice()));
-        assert_eq!(rt; begun.err.as_slice(), b"error file\n".as_slice());
+impl Write for Shelf {
+    fn write(&mut self, buf: &[u8]) -> io::Result<usize> {
+        let most = self.piece.min(buf.len());
+        let n = self.calls.next(most)?.min(most);
+        self.kept.extend_from_slice(&buf[..n])?;
+        Ok(n)
     }
-    Ok(())
+
+    fn flush(&mut self) -> io::Result<()> {
+        Ok(())
+    }
 }
 
-/// Runs `trace`, with so many calls that go well at the writer.
-fn trace_run(alloc: Global, function: u32, limit: u32, bytes: &[u8], writes: u64) -> Outcome {
-    let mut file = FromRead::new(Pieces {
-        rest: bytes,
-        piece: 50,
-        calls_left: u64::MAX,
-    });
-    let mut out = FromWrite::new(Shelf {
-        kept: Vec::new(alloc),
-        piece: 6,
-        calls_left: writes,
-    });
-    let mut made = FromWrite::new(io::sink());
-    let mut err = FromWrite::new(Shelf {
-        kept: Vec::new(alloc),
-        piece: 5,
-        calls_left: u64::MAX,
-    });
-    let command = Command::Trace {
-        grammar: "G",
-        file: "F",
-        function,
+/// A command, what it reads, and what it writes: `asm` to the file that it makes, the others to the standard output.
+#[derive(Drop)]
+struct Task<'a> {
+    command: Command<'a>,
+    input: &'a [u8],
+    written: &'a [u8],
+}
+
+/// The four commands on the smallest kernel.
+fn tasks<'a>(alloc: Global, kernel: &'a [u8]) -> [Task<'a>; 4] {
+    let (grammar, file) = ("G", "F");
+    let trace = Command::Trace {
+        grammar,
+        file,
+        function: 3,
         choices: Vec::new(alloc),
-        limit,
+        limit: 9,
     };
-    let status = run(
-        alloc, &command, GRAMMAR, &mut file, &mut out, &mut made, &mut err,
-    );
-    Outcome {
-        status,
-        out: out.inner.kept,
-        err: err.inner.kept,
-    }
-}
-
-#[test]
-fn traces(rt: HostRuntime) -> Result<(), Fail> {
-    let a = rt.alloc();
-    let bytes = bytes_of(a, &KERNEL)?;
-    let whole = trace_run(a, 3, u32::MAX, &bytes, u64::MAX);
-    assert_eq!(rt; whole.status, 0);
-    assert_eq!(rt;
-        whole.out.as_slice(),
-        b"0 7\n0 8\nend finished\n".as_slice()
-    );
-    assert!(rt; whole.err.is_empty());
-    let short = trace_run(a, 3, 1, &bytes, u64::MAX);
-    assert_eq!(rt; short.status, 0);
-    assert_eq!(rt; short.out.as_slice(), b"0 7\nend limit\n".as_slice());
-    let other = trace_run(a, 4, 9, &bytes, u64::MAX);
-    assert_eq!(rt; other.status, 2);
-    assert!(rt; other.out.is_empty());
-    assert_eq!(rt; other.err.as_slice(), b"error X1\n".as_slice());
-    let refused = trace_run(a, 3, 9, b"\x03\x02#\x07", u64::MAX);
-    assert_eq!(rt; refused.status, 1);
-    assert_eq!(rt; refused.out.as_slice(), b"fault W2\n".as_slice());
-    Ok(())
-}
-
-#[test]
-fn tells_a_failed_write_of_trace(rt: HostRuntime) -> Result<(), Fail> {
-    let a = rt.alloc();
-    let bytes = bytes_of(a, &KERNEL)?;
-    for writes in 0..4u64 {
-        let begun = trace_run(a, 3, 9, &bytes, writes);
-        assert_eq!(rt; begun.status, 2, "after {writes} writes");
-        assert!(rt; b"0 7\n0 8\nend finished\n".starts_with(begun.out.as_slice()));
-        assert_eq!(rt; begun.err.as_slice(), b"error file\n".as_slice());
-    }
-    Ok(())
-}
-
-#[test]
-fn reads_the_numbers(rt: HostRuntime) -> Result<(), Fail> {
-    let a = rt.alloc();
-    let words = [
-        "trace",
-        "--grammar",
-        "G",
-        "--function",
-        "0012",
-        "--choices",
-        "0,4294967295",
-        "--limit",
-        "7",
-        "F",
-    ];
-    let wanted = Command::Trace {
-        grammar: "G",
-        file: "F",
-        function: 12,
-        choices: Vec::from_slice(a, &[0, u32::MAX])?,
-        limit: 7,
-    };
-    assert_eq!(rt; arguments(a, &words), Ok(wanted));
-    for wrong in &["", "+7", "7x", "4294967296", "7,7"] {
-        let limit = [
-            "trace",
-            "--grammar=G",
-            "--function=3",
-            "--limit",
-            *wrong,
-            "F",
-        ];
-        assert_eq!(rt; arguments(a, &limit), Err(UseError::U1), "{wrong}");
-    }
-    Ok(())
-}
-
-#[test]
-fn reads_the_words(rt: HostRuntime) {
-    let check = Ok(Command::Check {
-        grammar: "G",
-        file: "F",
-    });
-    let a = rt.alloc();
-    assert_eq!(rt; arguments(a, &["check", "--grammar", "G", "F"]), check);
-    assert_eq!(rt; arguments(a, &["check", "F", "--grammar", "G"]), check);
-    assert_eq!(rt; arguments(a, &["check", "--grammar=G", "F"]), check);
-    let asm = Ok(Command::Asm {
-        grammar: "G",
-        file: "F",
+    let asm = Command::Asm {
+        grammar,
+        file,
         out: "O",
         big: false,
+    };
+    [
+        Task {
+            command: Command::Check { grammar, file },
+            input: kernel,
+            written: b"valid\n",
+        },
+        Task {
+            command: Command::Show { grammar, file },
+            input: kernel,
+            written: TEXT,
+        },
+        Task {
+            command: asm,
+            input: TEXT,
+            written: kernel,
+        },
+        Task {
+            command: trace,
+            input: kernel,
+            written: b"0 7\n0 8\nend finished\n",
+        },
+    ]
+}
+
+/// What a run came to: its exit status, what it wrote, what it wrote to the standard error, and how many of the other
+/// writes failed.
+#[derive(Drop)]
+struct Outcome {
+    status: u8,
+    written: Vec<u8>,
+    err: Vec<u8>,
+    failures: u64,
+}
+
+/// How many bytes a reader gives, or a writer takes, at a call of a run.
+const PIECE: usize = 7;
+
+/// Runs a task, with a reader and writers whose calls fail as told.
+fn outcome(alloc: Global, task: &Task, reads: Calls, writes: Calls) -> Outcome {
+    let mut file = FromRead::new(Pieces {
+        rest: task.input,
+        piece: PIECE,
+        calls: reads,
     });
-    let big = Ok(Command::Asm {
-        grammar: "G",
-        file: "F",
-        out: "O",
-        big: true,
+    let mut out = Shelf::new(alloc, PIECE, writes);
+    let mut made = Shelf::new(alloc, PIECE, writes);
+    let mut err = Shelf::new(alloc, PIECE, Calls::ALL);
+    let status = run(
+        alloc,
+        &task.command,
+        GRAMMAR,
+        &mut file,
+        &mut out,
+        &mut made,
+        &mut err,
+    );
+    let target = match task.command {
+        Command::Asm { .. } => made,
+        _ => out,
+    };
+    Outcome {
+        status,
+        written: target.inner.kept,
+        err: err.inner.kept,
+        failures: target.failures,
+    }
+}
+
+#[test]
+fn reads_that_fail(rt: HostRuntime) -> Result<(), Fail> {
+    let a = rt.alloc();
+    let bytes = kernel(a)?;
+    for (number, task) in tasks(a, &bytes).iter().enumerate() {
+        let whole = outcome(a, task, Calls::ALL, Calls::ALL);
+        assert_eq!(rt; whole.status, 0, "task {number}");
+        assert_eq!(rt; whole.written.as_slice(), task.written, "task {number}");
+        // The last read tells the end of input.
+        for good in 0..task.input.len().div_ceil(PIECE) + 1 {
+            for kind in [ErrorKind::Other, ErrorKind::Interrupted] {
+                let error = Some(kind);
+                let failed = outcome(a, task, Calls { good, error }, Calls::ALL);
+                assert_eq!(rt; failed.status, 2, "task {number} after {good} reads");
+                assert!(rt; failed.written.is_empty());
+                assert_eq!(rt; failed.err.as_slice(), b"error file\n".as_slice());
+            }
+        }
+    }
+    Ok(())
+}
+
+#[test]
+fn writes_that_fail(rt: HostRuntime) -> Result<(), Fail> {
+    let a = rt.alloc();
+    let bytes = kernel(a)?;
+    for (number, task) in tasks(a, &bytes).iter().enumerate() {
+        for error in [None, Some(ErrorKind::Other), Some(ErrorKind::Interrupted)] {
+            let mut good = 0;
+            let mut begun = outcome(a, task, Calls::ALL, Calls { good, error });
+            while begun.failures > 0 && good < task.written.len() {
+                assert_eq!(rt; begun.status, 2, "task {number} after {good} writes");
+                assert!(rt; task.written.starts_with(begun.written.as_slice()));
+                assert_eq!(rt; begun.err.as_slice(), b"error file\n".as_slice());
+                good += 1;
+                begun = outcome(a, task, Calls::ALL, Calls { good, error });
+            }
+            assert_eq!(rt; begun.status, 0, "task {number} after {good} writes");
+            assert_eq!(rt; begun.written.as_slice(), task.written);
+        }
+    }
+    Ok(())
+}
+
+/// What `check_stream` answers to bytes that come in pieces of a size, and what it wrote.
+fn verdict(
+    alloc: Global,
+    table: &Table,
+    bytes: &[u8],
+    piece: usize,
+    reads: Calls,
+    writes: Calls,
+) -> (Result<bool, WordError>, Vec<u8>) {
+    let mut file = FromRead::new(Pieces {
+        rest: bytes,
+        piece,
+        calls: reads,
     });
-    assert_eq!(rt;
-        arguments(a, &["asm", "--grammar", "G", "--out", "O", "F"]),
-        asm
-    );
-    assert_eq!(rt;
-        arguments(a, &["asm", "--grammar", "G", "--out", "O", "--big", "F"]),
-        big
-    );
-    assert_eq!(rt;
-        arguments(a, &["asm", "--big", "F", "--out=O", "--grammar=G"]),
-        big
-    );
+    let mut out = Shelf::new(alloc, 1, writes);
+    let answer = check_stream(alloc, table, &mut file, &mut out);
+    (answer, out.inner.kept)
+}
+
+#[test]
+fn pieces(rt: HostRuntime) -> Result<(), Fail> {
+    let a = rt.alloc();
+    let table = Table::from_slice(a, GRAMMAR)?;
+    let bytes = kernel(a)?;
+    for piece in [1, 3, 4, 7, 120] {
+        let (answer, line) = verdict(a, &table, &bytes, piece, Calls::ALL, Calls::ALL);
+        assert_eq!(rt; answer, Ok(true), "in pieces of {piece}");
+        assert_eq!(rt; line.as_slice(), b"valid\n".as_slice());
+        for good in 0..bytes.len().div_ceil(piece) + 1 {
+            for kind in [ErrorKind::Other, ErrorKind::Interrupted] {
+                let error = Some(kind);
+                let (answer, line) = verdict(
+                    a,
+                    &table,
+                    &bytes,
+                    piece,
+                    Calls { good, error },
+                    Calls::ALL,
+                );
+                assert_eq!(rt;
+                    answer,
+                    Err(WordError::W1),
+                    "in pieces of {piece} after {good} reads"
+                );
+                assert!(rt; line.is_empty());
+            }
+        }
+    }
+    Ok(())
+}
+
+#[test]
+fn verdict_lines(rt: HostRuntime) -> Result<(), Fail> {
+    let a = rt.alloc();
+    let table = Table::from_slice(a, GRAMMAR)?;
+    let bytes = kernel(a)?;
+    let rows: [(usize, &[u8]); 3] = [
+        (120, b"valid\n"),
+        (116, b"fault L2 inst 9 word 29\n"),
+        (119, b"fault W3\n"),
+    ];
+    for (length, line) in rows {
+        for good in 0..line.len() {
+            for error in [None, Some(ErrorKind::Other), Some(ErrorKind::Interrupted)] {
+                let (answer, begun) = verdict(
+                    a,
+                    &table,
+                    &bytes[..length],
+                    120,
+                    Calls::ALL,
+                    Calls { good, error },
+                );
+                assert_eq!(rt;
+                    answer,
+                    Err(WordError::W1),
+                    "of {length} bytes after {good} writes"
+                );
+                assert_eq!(rt; begun.as_slice(), &line[..good]);
+            }
+        }
+        let (answer, whole) = verdict(a, &table, &bytes[..length], 120, Calls::ALL, Calls::ALL);
+        assert_eq!(rt; answer, Ok(length == 120));
+        assert_eq!(rt; whole.as_slice(), line);
+    }
+    Ok(())
+}
+
+#[test]
+fn words_and_messages(rt: HostRuntime) -> Result<(), Fail> {
+    let a = rt.alloc();
+    let rows = [
+        (UseError::U1, "the words fit no command"),
+        (UseError::U2, "out of memory"),
+        (UseError::U3, "help is asked for"),
+    ];
+    for (error, message) in rows {
+        assert_eq!(rt; format!(in a; "{error}")?.as_str(), message);
+    }
     assert_eq!(rt; arguments(a, &["--help"]), Err(UseError::U3));
-    assert_eq!(rt; arguments(a, &["check", "--help"]), Err(UseError::U3));
-}
-
-#[test]
-fn refuses_other_words(rt: HostRuntime) {
-    let a = rt.alloc();
-    let refused = Err(UseError::U1);
-    assert_eq!(rt; arguments(a, &[]), refused);
-    assert_eq!(rt; arguments(a, &["check2", "--grammar", "G", "F"]), refused);
-    assert_eq!(rt; arguments(a, &["check", "F"]), refused);
-    assert_eq!(rt; arguments(a, &["check", "--grammar", "G"]), refused);
-    assert_eq!(rt; arguments(a, &["asm", "--grammar", "G", "F"]), refused);
-    assert_eq!(rt;
-        arguments(a, &["check", "--grammar", "G", "--big", "F"]),
-        refused
-    );
-    assert_eq!(rt;
-        arguments(a, &["check", "--grammar", "G", "F", "F"]),
-        refused
-    );
-    assert_eq!(rt;
-        arguments(a, &["check", "--grammar", "G", "--limit", "3", "F"]),
-        refused
-    );
-    assert_eq!(rt;
-        arguments(a, &["check", "--grammar", "G", "--grammar", "G", "F"]),
-        refused
-    );
-}
-
-#[test]
-fn helps(rt: HostRuntime) -> Result<(), Fail> {
-    let text = help(rt.alloc())?;
-    assert!(rt; text.as_str().contains("Usage: spv <COMMAND>"));
-    Ok(())
-}
-
-#[test]
-fn judges(rt: HostRuntime) -> Result<(), Fail> {
-    let a = rt.alloc();
-    let mut words = KERNEL;
-    let valid = check_run(a, GRAMMAR, &bytes_of(a, &words)?, u64::MAX, u64::MAX);
-    assert_eq!(rt; valid.status, 0);
-    assert_eq!(rt; valid.out.as_slice(), b"valid\n".as_slice());
-    assert!(rt; valid.err.is_empty());
-    words[6] = 9;
-    let dead = check_run(a, GRAMMAR, &bytes_of(a, &words)?, u64::MAX, u64::MAX);
-    assert_eq!(rt; dead.status, 1);
-    assert_eq!(rt; dead.out.as_slice(), b"fault I6 inst 0 word 6\n".as_slice());
-    words[29] = 0x0002_0038;
-    words[6] = 4;
-    let short = check_run(a, GRAMMAR, &bytes_of(a, &words)?, u64::MAX, u64::MAX);
-    assert_eq!(rt;
-        short.out.as_slice(),
-        b"fault I2 inst 9 word 29\n".as_slice()
-    );
-    let refused = check_run(a, GRAMMAR, b"\x03\x02\x23\x07", u64::MAX, u64::MAX);
-    assert_eq!(rt; refused.status, 1);
-    assert_eq!(rt; refused.out.as_slice(), b"fault W2\n".as_slice());
-    Ok(())
-}
-
-#[test]
-fn tells_a_refused_grammar_first(rt: HostRuntime) {
-    let refused = check_run(rt.alloc(), b"[1", b"", u64::MAX, u64::MAX);
-    assert_eq!(rt; refused.status, 2);
-    assert!(rt; refused.out.is_empty());
-    assert_eq!(rt; refused.err.as_slice(), b"error J1\n".as_slice());
-}
-
-#[test]
-fn tells_a_failed_read(rt: HostRuntime) -> Result<(), Fail> {
-    let a = rt.alloc();
-    let bytes = bytes_of(a, &KERNEL)?;
-    for reads in 0..19u64 {
-        let failed = check_run(a, GRAMMAR, &bytes, reads, u64::MAX);
-        assert_eq!(rt; failed.status, 2, "after {reads} reads");
-        assert!(rt; failed.out.is_empty());
-        assert_eq!(rt; failed.err.as_slice(), b"error file\n".as_slice());
-    }
-    Ok(())
-}
-
-#[test]
-fn tells_a_failed_write(rt: HostRuntime) -> Result<(), Fail> {
-    let a = rt.alloc();
-    let bytes = bytes_of(a, &KERNEL)?;
-    for writes in 0..2u64 {
-        let failed = check_run(a, GRAMMAR, &bytes, u64::MAX, writes);
-        assert_eq!(rt; failed.status, 2, "after {writes} writes");
-        assert!(rt; b"valid\n".starts_with(failed.out.as_slice()));
-        assert_eq!(rt; failed.err.as_slice(), b"error file\n".as_slice());
-    }
+    assert_eq!(rt; arguments(a, &["check", "-h"]), Err(UseError::U3));
+    assert!(rt; help(a)?.as_str().contains("Usage: spv <COMMAND>"));
     Ok(())
 }
