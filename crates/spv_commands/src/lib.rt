@@ -12,5 +12,8 @@ mod text_fault;
 mod trace_lines;
 mod tracing;
 
+pub use assembling::{TextError, assemble_stream};
 pub use command_line::{Command, UseError, arguments, help};
 pub use program::{Trouble, report, run};
+pub use showing::show_stream;
+pub use tracing::{RunError, trace_stream};
