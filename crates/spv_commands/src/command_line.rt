@@ -45,11 +45,11 @@ pub enum Command<'a> {
         grammar: &'a str,
         /// The path of the module.
         file: &'a str,
-        /// The id of the function.
+        /// The id of the function, as an OpEntryPoint names it.
         function: u32,
         /// The places of the targets that are taken, from 0: one for each branch on a condition or switch that is executed.
         choices: Vec<u32>,
-        /// The greatest number of steps.
+        /// The greatest number of steps; a step is one instruction that is executed.
         limit: u32,
     },
 }
@@ -307,10 +307,13 @@ fn command_in<'a>(alloc: Global, matches: &ArgMatches<'a>) -> Result<Command<'a>
     }
 }
 
-/// The command that the words after the program's name give. The texts are lent by the words.
+/// The command that the words after the program's name give, by the surface of the program (own). The texts are lent by
+/// the words. Options may stand in any order, each once.
 ///
 /// A number is one or more ASCII digits, and one of 32 bits in decimal; choices are numbers joined by commas, none where the
 /// option is not given.
+///
+/// # Errors
 ///
 /// `U1`: the words fit no command, or an option is given twice. `U2`: a growth of memory was refused. `U3`: they ask
 /// for help, by `--help` or `-h`.
@@ -325,11 +328,11 @@ pub fn arguments<'a>(alloc: Global, words: &'a [&'a str]) -> Result<Command<'a>,
     command_in(alloc, &matches)
 }
 
-/// The text that `--help` prints.
+/// The text that `--help` prints: the commands of the program, a line each.
 ///
 /// # Errors
 ///
-/// Where a growth of memory was refused.
+/// Where a growth of memory was refused; there is no other.
 pub fn help(alloc: Global) -> Result<String, AllocError> {
     let mut program = all_words(alloc)?;
     program.render_long_help()

@@ -22,18 +22,18 @@ use spv_words::{Order, Sink, Source, WordError, write_all};
 use std::alloc::Global;
 use std::mem::forget;
 
-/// Why the program ends with the exit status 2.
+/// Why the program ends with the exit status 2 (own). `report` writes its line.
 #[derive(Clone, Copy, Debug, PartialEq, Eq)]
 pub enum Trouble {
-    /// The words of the command line fit no command.
+    /// The words of the command line fit no command: `error use`.
     Use,
-    /// A file does not open, a read or a write failed, or a text is not UTF-8.
+    /// A file does not open, a read or a write failed, or a text is not UTF-8: `error file`.
     File,
-    /// A growth of memory was refused.
+    /// A growth of memory was refused: `error memory`.
     Memory,
-    /// The id whose run is asked for is no entry point's function.
+    /// The id whose run is asked for is no entry point's function: `error X1`.
     NoEntry,
-    /// The grammar file is refused.
+    /// The grammar file is refused: `error J1` to `error J7`, and `error memory` for J8.
     Grammar(GrammarError),
 }
 
@@ -66,7 +66,8 @@ fn grammar_line(error: GrammarError) -> &'static [u8]
     }
 }
 
-/// Writes the line of a trouble. Where that fails too, there is nowhere left to tell it, and a beginning was written.
+/// Writes the line of a trouble, its line feed included. Where that fails too, there is nowhere left to tell it, and a
+/// beginning was written.
 pub fn report<E: Sink>(trouble: Trouble, err: &mut E)
     ensures { Writes (trouble_text trouble) (E.contents err.old) (E.contents err.new) (E.failures err.old) (E.failures err.new) }
 {

@@ -102,6 +102,8 @@ impl Shown {
 /// Writes the text of the module that a reader's bytes up to the end of input are, and answers true; or, where they are no
 /// words of a module or no list of instructions, their verdict line, and answers false.
 ///
+/// # Errors
+///
 /// `W1`: a read or a write failed. After a failed read nothing was written, after a failed write a beginning of the
 /// output. `W9`: a growth of memory was refused, and nothing was written. There is no other error.
 pub fn show_stream<R: Source, W: Sink>(
