@@ -17,8 +17,8 @@ use crate::code::Code;
 use crate::gather::{edges_for, survey};
 use crate::rules::broken_at;
 use spv_ids::Ids;
-use spv_module::{Fault, Module, Rule, Stop};
 use spv_layout::Plan;
+use spv_module::{Fault, Module, Rule, Stop};
 use std::alloc::{AllocError, Global};
 
 /// A broken rule at an instruction.

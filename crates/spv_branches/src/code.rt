@@ -4,8 +4,8 @@ ghost use Rattle.std.specs.Prelude.{◌≡◌};
 ghost use Rattle.spv_branches.specs.Target as target;
 
 use spv_ids::Ids;
-use spv_module::Inst;
 use spv_layout::Plan;
+use spv_module::Inst;
 
 /// The instructions of a module, with what `lay_out` and `number` answered of it.
 #[derive(Clone, Copy)]

@@ -14,8 +14,8 @@ use crate::cyclic::first_cyclic;
 use crate::gather::{calls_of, entries_of};
 use crate::ordered::are_ordered;
 use spv_ids::Ids;
-use spv_module::Module;
 use spv_layout::Plan;
+use spv_module::Module;
 use std::alloc::{AllocError, Global};
 
 /// The first OpFunctionCall that breaks G1 (own): a call in a definition f of a definition g, where a chain of calls leads

@@ -9,8 +9,8 @@ ghost use Rattle.spv_calls.specs.Found.{id_in, callee_in, entry_in, ArePlaces, A
 
 use crate::graph::Call;
 use spv_ids::Ids;
-use spv_module::{Inst, Operand};
 use spv_layout::Plan;
+use spv_module::{Inst, Operand};
 use std::alloc::{AllocError, Global};
 
 /// The opcode of OpEntryPoint.

@@ -8,8 +8,8 @@ ghost use Rattle.spv_module.specs.Module.{plain_inst, plain_operands};
 ghost use Rattle.spv_capabilities.specs.Capable.{Has, HasNamed, HasNeeded, IsKernel, IsCovered, IsCoveredEntry, IsCoveredValue, int_needs, float_needs, vector_needs, needs_of};
 
 use crate::surveyed::Survey;
-use spv_table::Name;
 use spv_module::{Inst, Operand};
+use spv_table::Name;
 
 /// Whether the module has Kernel and has not Shader.
 pub fn is_kernel(survey: &Survey<'_, '_>) -> bool

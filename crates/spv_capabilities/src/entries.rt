@@ -17,10 +17,10 @@ use crate::capable::is_kernel;
 use crate::entry::{has_entry, is_model, keeps_entries, keeps_linkage};
 use crate::memo::Memo;
 use crate::surveyed::Survey;
-use spv_table::{Memory, Table};
 use spv_ids::Ids;
-use spv_module::{Inst, Module, Rule};
 use spv_layout::Plan;
+use spv_module::{Inst, Module, Rule};
+use spv_table::{Memory, Table};
 use std::alloc::Global;
 use std::marker::Model;
 

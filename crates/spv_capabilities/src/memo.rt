@@ -11,8 +11,8 @@ use crate::capable::{
     asks_nothing, has_needed, is_capability_kind, is_covered_entry, is_covered_value,
 };
 use crate::surveyed::Survey;
-use spv_table::Memory;
 use spv_module::{Inst, Operand};
+use spv_table::Memory;
 use std::alloc::{AllocError, Global};
 use std::collections::BTreeMap;
 

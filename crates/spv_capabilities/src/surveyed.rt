@@ -14,10 +14,10 @@ ghost use Rattle.spv_capabilities.specs.Entry.{IsNamed, IsCalled, IsEntered, IsI
 ghost use Rattle.spv_capabilities.specs.Survey.{AreMarked};
 
 use crate::gather::{Gathered, gather};
-use spv_table::{Memory, Table};
 use spv_ids::Ids;
-use spv_module::Inst;
 use spv_layout::{Place, Plan};
+use spv_module::Inst;
+use spv_table::{Memory, Table};
 use std::alloc::Global;
 use std::collections::BTreeSet;
 use std::marker::Model;

@@ -7,8 +7,8 @@ ghost use Rattle.spv_words.specs.declared.words.WordError.TheVariants.{W1, W9};
 ghost use Rattle.spv_commands.specs.Show.{BeginsShowing, IsShowing, Shows};
 ghost use Rattle.spv_commands.specs.Shown.{is_text, output_of, shown_refusal, shown_stop};
 
-use spv_table::Table;
 use spv_module::Stop;
+use spv_table::Table;
 use spv_text::show_image;
 use spv_verdict::{Judgment, line_for};
 use spv_words::{Image, Sink, Source, WordError, read_image, write_all};

@@ -7,8 +7,8 @@ ghost use Rattle.spv_layout.specs.Place.{IsDefinition};
 ghost use Rattle.spv_calls.specs.Found.{ArePlaces, IsLate, IsOfDefinition};
 ghost use Rattle.spv_flow.specs.Definitions.{HasDefinitions};
 
-use spv_module::Module;
 use spv_layout::Plan;
+use spv_module::Module;
 
 /// The opcode of OpFunction.
 const FUNCTION: u16 = 54;

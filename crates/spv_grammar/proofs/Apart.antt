@@ -13,8 +13,8 @@ use Rattle.spv_table.specs.Table.{Table, Sort}
 use Rattle.spv_grammar.specs.Kinds.{first_kinds, number_in, bears, is_id_category, is_result}
 use Rattle.spv_grammar.specs.Kinds as kinds
 use Rattle.spv_grammar.specs.Rules.{has_no_results, are_no_results, places_results}
-use Rattle.spv_grammar.specs.Made.{all_of, parameter_of, enumerant_from, is_kept, sort_from, IsTable}
-use Rattle.spv_grammar.specs.Answer.{Gives, IsGiven, file_breaks}
+use Rattle.spv_grammar.specs.Made.{all_of, parameter_of, enumerant_from, is_kept, sort_from}
+use Rattle.spv_grammar.specs.Answer.{IsGiven, file_breaks}
 use Rattle.spv_grammar.proofs.Whole.{and_left, and_right, and_both, all_kept, all_firsts, some_same, not_some, parts_of, all_follow, next_of, place_is, rules_kept, file_whole}
 use Rattle.spv_table.specs.Table.{is_id, is_other_sort, is_other, has_other_parts, IsWhole}
 

@@ -1,6 +1,6 @@
 //! A table from a grammar file.
 
-ghost use Rattle.std.specs.Prelude.{◌≡◌, ◌≢◌, ◌<◌, ◌^◌, length, None, Some, IfOk, IfErr, IsErrOf, IsUtf8, map};
+ghost use Rattle.std.specs.Prelude.{◌≡◌, ◌≢◌, ◌<◌, ◌^◌, length, None, Some, IfOk, IfErr, IsErrOf, IsUtf8};
 ghost use Rattle.serde_json.specs.View.{view};
 ghost use Rattle.json_tree.specs.View.{view as tree_view};
 ghost use Rattle.serde_json.specs.Data.{Data};

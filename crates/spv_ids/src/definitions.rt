@@ -14,8 +14,8 @@ ghost use Rattle.spv_ids.specs.Survey.{ArePlaces};
 use crate::notes::{NONE, Notes};
 use crate::room::sparse_room;
 use crate::uses::result_of;
-use spv_module::Inst;
 use spv_layout::Plan;
+use spv_module::Inst;
 use std::alloc::{AllocError, Global};
 
 /// The definitions before an instruction.

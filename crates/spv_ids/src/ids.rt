@@ -14,8 +14,8 @@ ghost use Rattle.spv_ids.specs.Outcome.{AreIds, IsRefusal, IsStopAt, definition_
 use crate::definitions::{find_definitions, later_definitions};
 use crate::notes::Notes;
 use crate::survey::{Found, Survey};
-use spv_module::{Fault, Module, Stop};
 use spv_layout::Plan;
+use spv_module::{Fault, Module, Stop};
 use std::alloc::Global;
 
 /// The definitions of a module's ids (SPIR-V Specification 1.6, section 2.16): each id that is used has exactly one, in

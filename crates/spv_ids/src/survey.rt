@@ -23,8 +23,8 @@ ghost use Rattle.spv_ids.specs.Survey.{ArePlaces, IsSurvey, IsSite, insts_of};
 use crate::definitions::{floor_of, home, is_out_of_range, section_of};
 use crate::notes::{NONE, Notes};
 use crate::uses::{result_of, seen, used_id};
-use spv_module::{Inst, Operand, Rule};
 use spv_layout::Plan;
+use spv_module::{Inst, Operand, Rule};
 use std::alloc::{AllocError, Global};
 
 /// The opcode of OpString: no opcode of section 7a is higher.

@@ -12,8 +12,8 @@ ghost use Rattle.spv_inst.specs.Flat.{OneOf, due};
 ghost use Rattle.spv_inst.specs.Agenda.{plain_slot, slots_of, parameters_from, frame_due, frames_due, items_of, due_first, agenda_due, settled, LeadsTo, Opens, opened_kinds};
 
 use crate::form::{Form, Leaf};
-use spv_module::Operand;
 use crate::reader::Slot;
+use spv_module::Operand;
 use spv_table::{Item, Quantifier, Table};
 use std::alloc::{AllocError, Global};
 

@@ -6,8 +6,8 @@ ghost use Rattle.spv_module.specs.Refusal.{Refuses};
 ghost use Rattle.spv_module.specs.Module.{plain_operand};
 ghost use Rattle.spv_inst.specs.Reading.{enumerants_at, parameter_kinds};
 
-use spv_module::{Operand, Rule};
 use crate::reader::{Refusal, Taken};
+use spv_module::{Operand, Rule};
 use spv_table::Table;
 
 /// Whether the kind of a number, from 0, has an enumerant of a value. A kind that the table has not has none.

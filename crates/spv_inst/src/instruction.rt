@@ -16,9 +16,9 @@ ghost use Rattle.spv_inst.specs.Step.{IsMisfit, IsDeadFrom};
 ghost use Rattle.spv_module.specs.Width.{first_id};
 
 use crate::agenda::Agenda;
-use spv_module::{Fault, Operand, Rule, Stop};
 use crate::plain::{Rest, next_kind, read_words};
 use crate::reader::{Known, Scene, take_operand};
+use spv_module::{Fault, Operand, Rule, Stop};
 use spv_table::Entry;
 use spv_words::word;
 

@@ -10,8 +10,8 @@ ghost use Rattle.spv_module.specs.Module.{plain_operand};
 ghost use Rattle.spv_inst.specs.Reading.{between, parameter_kinds};
 
 use crate::definitions::Definitions;
-use spv_module::{Operand, Rule};
 use crate::reader::{Known, Refusal, Taken};
+use spv_module::{Operand, Rule};
 use spv_words::{Image, word};
 
 /// The opcode of OpSwitch.

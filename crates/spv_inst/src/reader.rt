@@ -8,10 +8,10 @@ ghost use Rattle.spv_inst.specs.Reading.{between, TakesFront, RefusesFront};
 
 use crate::definitions::Definitions;
 use crate::enumerant::{take_mask, take_value};
-use spv_module::{Operand, Rule};
 use crate::form::{Form, Leaf};
 use crate::number::{SWITCH, context_width, switch_width, take_number};
 use crate::text::take_text;
+use spv_module::{Operand, Rule};
 use spv_table::Table;
 use spv_words::{Image, word};
 

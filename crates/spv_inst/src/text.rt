@@ -8,10 +8,10 @@ ghost use Rattle.spv_module.specs.Spelling.{AreZeros, Takes};
 ghost use Rattle.spv_module.specs.Refusal.{Refuses};
 ghost use Rattle.spv_inst.specs.Reading.{between, parameter_kinds};
 
-use spv_module::{Operand, Rule};
 use crate::reader::{Refusal, Taken};
 use memchr::memchr;
 use simdutf8::basic::from_utf8;
+use spv_module::{Operand, Rule};
 use spv_words::Image;
 
 /// Whether each octet is zero.

@@ -19,8 +19,8 @@ use crate::definitions::Definitions;
 use crate::enumerant::{knows, knows_bits};
 use crate::form::Leaf;
 use crate::number::{SWITCH, context_width, switch_width};
-use spv_module::Operand;
 use crate::reader::Known;
+use spv_module::Operand;
 use spv_table::Table;
 use std::alloc::AllocError;
 

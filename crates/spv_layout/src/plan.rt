@@ -17,8 +17,8 @@ use crate::place::{Early, Place, Standing, inst_words, keep, words_of};
 use crate::rows::row;
 use crate::span::Spans;
 use crate::state::{State, next, stops};
-use spv_table::Table;
 use spv_module::{Fault, Inst, Module, Rule, Stop};
+use spv_table::Table;
 use std::alloc::Global;
 use std::marker::Model;
 

@@ -6,7 +6,7 @@ use Rattle.spv_table.specs.declared.table.Quantifier.TheVariants.{One, Maybe, Ma
 use Rattle.spv_table.specs.declared.table.Enumerant.{Enumerant}
 use Rattle.spv_table.specs.declared.table.Entry.{Entry}
 use Rattle.spv_table.specs.Table.{Sort, Table}
-use Rattle.spv_module.specs.Operand.{Plain, OfType, Result, Word, Number, Text, Mask, PlainInst}
+use Rattle.spv_module.specs.Operand.{OfType, Result, Word, Number, Text, Mask, PlainInst}
 use Rattle.spv_module.specs.Operand as operand
 
 -- Volatile (bit 1) takes no parameters, Aligned (bit 2) a LiteralInteger

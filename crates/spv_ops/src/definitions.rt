@@ -14,8 +14,8 @@ ghost use Rattle.spv_ops.specs.Variable.{IsGlobal};
 
 use crate::form::{Components, Form, Scalar, form_in};
 use spv_ids::Ids;
-use spv_module::{Inst, Module, Operand};
 use spv_layout::{Place, Plan};
+use spv_module::{Inst, Module, Operand};
 use std::marker::Model;
 
 /// The opcode of OpVariable.

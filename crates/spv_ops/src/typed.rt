@@ -30,8 +30,8 @@ use crate::row::{Row, row_of};
 use crate::several::{all_pairs_of_type, stands_for_int};
 use crate::variable::variable_holds;
 use spv_ids::Ids;
-use spv_module::{Inst, Module, Operand};
 use spv_layout::Plan;
+use spv_module::{Inst, Module, Operand};
 
 /// What follows the result type and the result.
 #[inline(always)]

@@ -13,8 +13,8 @@ ghost use Rattle.spv_ops.specs.Variable.{IsConstant, IsInitializer, IsClassAt, D
 use crate::definitions::{DECLARATIONS, Definitions};
 use crate::form::Form;
 use crate::several::all_pointees;
-use spv_module::Operand;
 use spv_layout::Place;
+use spv_module::Operand;
 
 /// The storage class Function.
 const FUNCTION: u32 = 7;

@@ -17,8 +17,8 @@ ghost use Rattle.spv_roles.specs.Outcome.{AreInRole, IsRefusal};
 use crate::asked::{Asked, asked_of};
 use crate::role::{are_type_and, are_values, defines_type, plays};
 use spv_ids::Ids;
-use spv_module::{Fault, Inst, Module, Operand, Rule};
 use spv_layout::{Plan, Role, role};
+use spv_module::{Fault, Inst, Module, Operand, Rule};
 use spv_ops::Definitions;
 
 /// The id that an operand uses, if it is an id other than a result.

@@ -1,9 +1,7 @@
 -- Maps that are filled from the last element of a list to the first, so that the first of a number or a name stays.
-use Rattle.std.proofs.Common.{◌≡◌, ◌≢◌, ℕ, ◌<◌, ◌≤◌, ◌+◌, ◌-◌, suc, Bool, true, false, cond, nat_eq, nat_lt, List, [], ◌∷◌, Option, Some, None, option_map, option_and_then, slice_get, length, get_or, set, drop, if◌then◌else◌, refl, sym, ap, ◌∙◌, drop-cons, arith}
-use Rattle.std.specs.List.{find, position, position_from, position_or_len}
-use Rattle.std.specs.Str.{bytes_eq}
+use Rattle.std.proofs.Common.{◌≡◌, ◌≢◌, ℕ, ◌<◌, ◌≤◌, ◌+◌, ◌-◌, suc, Bool, true, false, cond, nat_eq, nat_lt, List, [], ◌∷◌, Option, Some, None, option_and_then, slice_get, length, get_or, set, drop, if◌then◌else◌, refl, sym, ap, ◌∙◌, drop-cons, arith}
+use Rattle.std.specs.List.{position, position_from, position_or_len}
 use Rattle.std.specs.Ordering.{nat_cmp, is_eq}
-use Rattle.std.specs.Cmp.Lexicographic.{nat_list_eq_equiv}
 use Rattle.std.proofs.lemmas.Bool.Decides.{nat_tests}
 use Rattle.std.proofs.lemmas.Grind.{common_steps}
 use Rattle.std.proofs.lemmas.Option.{slice_get_read}

@@ -94,11 +94,7 @@ impl Named for Sort {
 
 impl Sort {
     /// A kind with these enumerants. The error is want of memory, or of places: there may be 4,294,967,295.
-    pub fn new(
-        alloc: Global,
-        kind: Kind,
-        enumerants: Vec<Enumerant>,
-    ) -> Result<Sort, AllocError>
+    pub fn new(alloc: Global, kind: Kind, enumerants: Vec<Enumerant>) -> Result<Sort, AllocError>
         ensures { IfOk result (λ s. s ≡ record { kind = kind; enumerants = enumerants.items }) }
     {
         if enumerants.len() > 0xffff_ffff {

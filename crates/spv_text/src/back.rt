@@ -15,8 +15,8 @@ ghost use Rattle.spv_text.specs.Back.{IsBack, IsPut, IsTail, cells_of};
 use crate::names::Names;
 use itoa::write_digits;
 use memchr::memchr3;
-use spv_table::{Entry, Table};
 use spv_module::Operand;
+use spv_table::{Entry, Table};
 use std::alloc::AllocError;
 use std::str::from_utf8_unchecked;
 

@@ -22,9 +22,9 @@ use crate::near::push_quoted;
 use crate::noted::{Noted, find_named};
 use crate::plain::{first_item, front_id, front_word};
 use crate::taking::is_break;
-use spv_table::{Item, Table};
-use spv_module::Operand;
 use spv_inst::due::{Form, Leaf, form_in, joined, next_kind, read_text};
+use spv_module::Operand;
+use spv_table::{Item, Table};
 use spv_tokens::{behind, read_front, split_around, split_token};
 use std::alloc::AllocError;
 

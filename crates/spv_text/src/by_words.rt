@@ -18,9 +18,9 @@ use crate::line::{Setting, push_line};
 use crate::names::Names;
 use crate::shown::push_header;
 use crate::types::Types;
-use spv_table::Table;
 use spv_inst::due::{Agenda, Definitions, Scene, forms_of, read_instruction};
 use spv_module::{Operand, Stop};
+use spv_table::Table;
 use spv_words::Image;
 use std::alloc::{AllocError, Global};
 

@@ -22,9 +22,9 @@ use crate::named::read_named;
 use crate::parameters::kinds_behind;
 use crate::plain::{Behind, first_item, plain_step};
 use crate::taking::{is_break, is_text};
-use spv_table::{Item, Table};
-use spv_module::Operand;
 use spv_inst::due::{Form, Leaf, form_in, joined, push_operand, read_text};
+use spv_module::Operand;
+use spv_table::{Item, Table};
 use spv_tokens::{Quotation, behind, read_unescaped, split_token};
 use std::alloc::AllocError;
 

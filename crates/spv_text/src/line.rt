@@ -22,9 +22,9 @@ use crate::names::Names;
 use crate::number::push_front;
 use crate::operand::{is_passed, push_piece, push_plain};
 use crate::types::Types;
-use spv_table::{Entry, Item, Table};
-use spv_module::Operand;
 use spv_inst::due::{Agenda, Form};
+use spv_module::Operand;
+use spv_table::{Entry, Item, Table};
 use std::alloc::AllocError;
 
 /// The opcode of OpSwitch.

@@ -9,9 +9,9 @@ ghost use Rattle.spv_module.specs.Module.{plain_operand};
 ghost use Rattle.spv_module.specs.Shape.{alone, shape_of};
 ghost use Rattle.spv_tokens.specs.Answer.{IsTaken};
 
-use spv_table::Table;
-use spv_module::Operand;
 use spv_inst::due::Leaf;
+use spv_module::Operand;
+use spv_table::Table;
 use spv_tokens::{read_mask, read_value};
 
 /// The value or the mask that a token is. None where it is none of its kind, and for other kinds.

@@ -12,9 +12,9 @@ ghost use Rattle.spv_text.specs.Noted.{IsNoted, StandsFor};
 
 use crate::named::read_named;
 use crate::parameters::kinds_behind;
-use spv_table::Table;
-use spv_module::Operand;
 use spv_inst::due::Leaf;
+use spv_module::Operand;
+use spv_table::Table;
 
 /// A value or a mask that was read, and the octets of the token that stood for it.
 #[derive(Clone, Copy, Debug)]

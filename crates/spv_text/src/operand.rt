@@ -21,9 +21,9 @@ use crate::names::Names;
 use crate::number::{push_number, push_spaced_id, push_spaced_word};
 use crate::quoted::push_quoted;
 use crate::types::Types;
-use spv_table::Table;
-use spv_module::Operand;
 use spv_inst::due::{Asked, Leaf};
+use spv_module::Operand;
+use spv_table::Table;
 use std::alloc::AllocError;
 
 /// Whether an operand is a number of a float type: a LiteralContextDependentNumber has the result type of its instruction,

@@ -14,8 +14,8 @@ use crate::ids::Ids;
 use crate::line::Setting;
 use crate::plain::{Behind, read_plain};
 use crate::taking::{Desk, Place, take_operand};
-use spv_table::Item;
 use spv_lines::AsmCode;
+use spv_table::Item;
 
 /// Whether two ids, if there are any, differ.
 fn differ(one: Option<u32>, other: Option<u32>) -> bool

@@ -17,9 +17,9 @@ ghost use Rattle.spv_text.specs.Reading.{HasCell, IsPlainStep, SoFar};
 
 use crate::ids::Ids;
 use crate::line::Setting;
-use spv_table::{Item, Quantifier};
-use spv_module::Operand;
 use spv_inst::due::{Form, Leaf, form_in};
+use spv_module::Operand;
+use spv_table::{Item, Quantifier};
 use spv_tokens::{Cell, behind, read_front};
 use std::alloc::AllocError;
 

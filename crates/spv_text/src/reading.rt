@@ -30,9 +30,9 @@ use crate::naming::{Last, Named, named_again};
 use crate::noted::Noted;
 use crate::operands::read_operands;
 use crate::taking::Desk;
-use spv_table::{Entry, Item, Quantifier, Table};
 use spv_inst::due::{Form, Leaf, form_in};
 use spv_lines::AsmCode;
+use spv_table::{Entry, Item, Quantifier, Table};
 use spv_tokens::{Misread, is_plain, read_behind, split_around, split_before, split_token};
 use std::alloc::AllocError;
 

@@ -11,10 +11,10 @@ use crate::line::{Setting, push_line};
 use crate::names::Names;
 use crate::number::push_decimal;
 use crate::types::Types;
-use spv_table::Table;
 use spv_inst::due::{Agenda, forms_of};
 use spv_inst::{EncodeError, encode};
 use spv_module::Module;
+use spv_table::Table;
 use spv_words::Header;
 use std::alloc::{AllocError, Global};
 

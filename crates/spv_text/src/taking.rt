@@ -19,10 +19,10 @@ ghost use Rattle.spv_text.specs.Reading.{HasQuoted, IsAt, IsDueToken, IsStep, Re
 use crate::ids::Ids;
 use crate::line::Setting;
 use crate::token::read_token;
-use spv_table::Table;
-use spv_module::Operand;
 use spv_inst::due::{Agenda, Asked, Leaf, push_operand, read_text};
 use spv_lines::AsmCode;
+use spv_module::Operand;
+use spv_table::Table;
 use spv_tokens::{Misread, behind, read_quoted, split_token};
 use std::alloc::AllocError;
 

@@ -17,9 +17,9 @@ ghost use Rattle.spv_text.specs.Reading.{IsAt, switch_type};
 
 use crate::ids::Ids;
 use crate::types::Types;
-use spv_table::Table;
-use spv_module::Operand;
 use spv_inst::due::{Asked, Leaf};
+use spv_module::Operand;
+use spv_table::Table;
 use spv_tokens::{
     Misread, read_id, read_mask, read_number, read_result_id, read_type_id, read_value, read_word,
 };

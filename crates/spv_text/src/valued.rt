@@ -10,8 +10,8 @@ ghost use Rattle.spv_text.specs.Named.{AreNames};
 ghost use Rattle.spv_text.specs.Valued.{IsNamed, IsNamedBy};
 
 use crate::names::Names;
-use spv_table::Table;
 use spv_inst::due::{Form, Leaf};
+use spv_table::Table;
 
 /// What stands in a line for a word, and the kinds of the parameters that are due after it.
 #[derive(Clone, Copy, Debug)]

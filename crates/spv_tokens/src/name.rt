@@ -11,9 +11,9 @@ ghost use Rattle.spv_tokens.specs.Answer.{IsMaskText, IsNamed, IsToken, IsValueT
 use crate::mask::named_mask;
 use crate::misread::Misread;
 use crate::number::read_behind;
-use spv_table::Table;
-use spv_module::Operand;
 use spv_inst::due::{knows, knows_bits};
+use spv_module::Operand;
+use spv_table::Table;
 
 /// Whether an octet is an ASCII letter, a digit or `_`.
 fn is_name_octet(octet: u8) -> bool

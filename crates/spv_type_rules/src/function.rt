@@ -12,8 +12,8 @@ ghost use Rattle.spv_type_rules.specs.Function.{ReturnsNothing, ReturnsTyped, Is
 ghost use Rattle.spv_type_rules.specs.Found.{IsOfOne, are_typed, has_signature, has_type};
 
 use crate::opcode::{FUNCTION, FUNCTION_END, LABEL, PARAMETER, TYPE_FUNCTION};
-use spv_module::{Inst, Operand};
 use spv_layout::laws::one_standing;
+use spv_module::{Inst, Operand};
 use spv_ops::{Definitions, Form, after_head, after_result, type_in};
 
 /// A function, and the number of its OpFunction.

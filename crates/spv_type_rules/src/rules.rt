@@ -21,8 +21,8 @@ use crate::function::{
 };
 use crate::opcode::{FUNCTION, FUNCTION_CALL, PARAMETER, RETURN, RETURN_VALUE};
 use spv_ids::Ids;
-use spv_module::{Inst, Module, Rule};
 use spv_layout::Plan;
+use spv_module::{Inst, Module, Rule};
 use spv_ops::{Definitions, inst_holds};
 
 /// A rule, unless it is kept.

@@ -8,8 +8,8 @@ ghost use Rattle.spv_type_rules.specs.Rules.{AreRules, rules_insts};
 ghost use Rattle.spv_types.specs.Pass.{AreKept, IsFirstFault};
 
 use spv_capabilities::Entries;
-use spv_table::Memory;
 use spv_module::{Inst, Rule};
+use spv_table::Memory;
 use spv_type_rules::{Known, Rules, Seen, next_count};
 use std::alloc::Global;
 

@@ -13,12 +13,12 @@ ghost use Rattle.spv_types.specs.Outcome.{AreTypes, IsRefusal, type_in};
 
 use crate::pass::{Found, first_fault};
 use spv_capabilities::survey;
-use spv_table::Table;
 use spv_ids::Ids;
-use spv_module::{Fault, Module, Stop};
 use spv_layout::Plan;
+use spv_module::{Fault, Module, Stop};
 use spv_ops::Definitions;
 use spv_roles::roles_check;
+use spv_table::Table;
 use spv_type_rules::Rules;
 use std::alloc::Global;
 

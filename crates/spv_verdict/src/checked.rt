@@ -2,8 +2,8 @@
 
 use spv_flow::Flow;
 use spv_ids::Ids;
-use spv_module::{Fault, Module};
 use spv_layout::Plan;
+use spv_module::{Fault, Module};
 use std::marker::Model;
 
 /// A module that breaks no rule, with what the layers know of it. Only `check` makes one.

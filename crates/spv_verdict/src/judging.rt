@@ -11,12 +11,12 @@ ghost use Rattle.spv_verdict.specs.Valid.{IsValid};
 
 use crate::checked::{Checked, Verdict};
 use spv_flow::flow_check;
-use spv_table::{Memory, Table};
 use spv_ids::number;
 use spv_inst::{decode, listed_or_dead, one_death, one_listing};
-use spv_module::{Module, Stop};
 use spv_layout::laws::{member_or_dead, word_counts};
 use spv_layout::lay_out;
+use spv_module::{Module, Stop};
+use spv_table::{Memory, Table};
 use spv_types::type_check;
 use spv_words::Image;
 use std::alloc::Global;

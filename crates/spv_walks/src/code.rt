@@ -6,8 +6,8 @@ ghost use Rattle.spv_module.specs.Module.{plain_operands};
 ghost use Rattle.spv_module.specs.Operand as operand;
 
 use spv_ids::Ids;
-use spv_module::{Inst, Operand};
 use spv_layout::Plan;
+use spv_module::{Inst, Operand};
 
 /// The instructions of a module, with what `lay_out` and `number` answered of it.
 #[derive(Clone, Copy)]

@@ -9,8 +9,8 @@ ghost use Rattle.spv_ids.specs.Uses as uses;
 ghost use Rattle.spv_layout.specs.declared.form.Role as declared;
 ghost use Rattle.spv_layout.specs.declared.form.Role.TheVariants as role;
 
-use spv_module::{Inst, Operand};
 use spv_layout::{Role, role};
+use spv_module::{Inst, Operand};
 
 /// The id that an operand is.
 fn id_of(operand: Operand<'_>) -> Option<u32>

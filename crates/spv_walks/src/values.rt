@@ -19,8 +19,8 @@ use crate::code::{Code, FUNCTION, PHI};
 use crate::divide::function_extent;
 use crate::function::{Buffers, first_in_function};
 use spv_ids::Ids;
-use spv_module::{Fault, Inst, Module, Rule, Stop};
 use spv_layout::Plan;
+use spv_module::{Fault, Inst, Module, Rule, Stop};
 use std::alloc::{AllocError, Global};
 
 /// How many instructions stand before the first OpFunction.

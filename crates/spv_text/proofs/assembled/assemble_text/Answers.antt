@@ -2,7 +2,7 @@ use Rattle.std.proofs.Common.{◌++◌, ◌∙◌, ap}
 use Rattle.std.proofs.lemmas.Result.{err_from_is_err_and}
 use Rattle.spv_lines.specs.Text.{lines_of}
 use Rattle.spv_text.proofs.Gathered.{header_failed, text_failed, text_read, five_words}
-use Rattle.spv_text.proofs.assembled.assemble.Goals as goal
+use Rattle.spv_text.proofs.assembled.assemble_text.Goals as goal
 
 pub returns-in_err-header-clause-failed : goal.returns-in_err-header-clause-failed
 returns-in_err-header-clause-failed c =
