@@ -10,7 +10,7 @@ use Rattle.spv_grammar.specs.declared.file.FileEnumerant.{FileEnumerant}
 use Rattle.spv_grammar.specs.declared.file.FileKind.{FileKind}
 use Rattle.spv_table.specs.Table.{Sort, first_with}
 use Rattle.spv_grammar.specs.Kinds.{number_in}
-use Rattle.spv_grammar.specs.FileLookups.{is_number}
+use Rattle.spv_table.specs.Lookups.{is_number}
 use Rattle.spv_grammar.specs.Made.{all_of, item_of, entry_from, parameter_of, enumerant_from, is_kept, sort_from}
 use Rattle.spv_table.proofs.Backward.{position_from-zero}
 use Rattle.spv_grammar.proofs.Whole.{some_same, not_some, parts_of}

@@ -1,14 +1,10 @@
 -- The first elements of a file with a number or a name. (Own.)
-use Rattle.std.specs.Prelude.{ℕ, Bool, false, List, Option, Some, None, nat_eq}
+use Rattle.std.specs.Prelude.{ℕ, List, Option}
 use Rattle.std.specs.List.{find}
 use Rattle.std.specs.Str.{bytes_eq}
+use Rattle.spv_table.specs.Lookups.{is_number}
 use Rattle.spv_grammar.specs.declared.file.FileInstruction.{FileInstruction}
 use Rattle.spv_grammar.specs.declared.file.FileEnumerant.{FileEnumerant}
-
--- whether a number that may be missing is n
-abbrev pub is_number : ℕ → Option ℕ → Bool
-is_number n None = false
-is_number n (Some m) = nat_eq m n
 
 -- the first instruction of a file with the opcode
 abbrev pub instruction_with : List FileInstruction → ℕ → Option FileInstruction

@@ -1,5 +1,5 @@
 -- The look-ups by name: the first element that bears it. (Own.)
-use Rattle.std.specs.Prelude.{ℕ, List, Option, option_map, position}
+use Rattle.std.specs.Prelude.{ℕ, Bool, false, List, Option, Some, None, nat_eq, option_map, position}
 use Rattle.std.specs.List.{find}
 use Rattle.std.specs.Str.{bytes_eq}
 use Rattle.spv_table.specs.declared.table.Entry.{Entry}
@@ -17,3 +17,8 @@ value_named es name = option_map (λ e. e.value) (find (λ e. bytes_eq name e.na
 -- the number of the kind of a name
 abbrev pub number_named : Table → List ℕ → Option ℕ
 number_named G name = position (λ s. bytes_eq name s.kind.name) G.kinds
+
+-- whether a number that may be missing is n
+abbrev pub is_number : ℕ → Option ℕ → Bool
+is_number n None = false
+is_number n (Some m) = nat_eq m n
