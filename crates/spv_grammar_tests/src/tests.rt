@@ -1,7 +1,7 @@
 //! What no contract says: that the codes come on files that people wrote, that calls answer with
 //! ample memory, and the messages.
 use serde_json::Value;
-use spv_grammar::{Category, GrammarError, Listed, Memory, Name, Quantifier, Table};
+use spv_grammar::{Category, FromGrammar, GrammarError, Listed, Memory, Name, Quantifier, Table};
 use std::alloc::Global;
 use std::test::Fail;
 

@@ -10,7 +10,7 @@ mod switches;
 mod texts;
 mod whole;
 
-use spv_grammar::Table;
+use spv_grammar::{FromGrammar, Table};
 use spv_inst::{Fault, Operand, Rule, Stop, decode};
 use spv_words::{FromRead, Image, read_image};
 use std::alloc::Global;
