@@ -1,3 +1,5 @@
+//! Trees of texts that people wrote.
+
 use bumpalo::Bump;
 use json::Scratch;
 use json_tree::{Refused, Tree};

@@ -1,3 +1,5 @@
+//! Modules are read and written by readers and writers that do well, and by those that fail once.
+
 use crate::fakes::{Pieces, Shelf, Trouble};
 use spv_words::{
     Failed, FromRead, FromWrite, Header, Image, Order, WordError, laws, read_image, word,
@@ -29,70 +31,24 @@ fn answer(alloc: Global, bytes: &[u8], piece: usize) -> Result<(Image, Order), W
     read_image(alloc, &mut reader)
 }
 
-/// The code that bytes are refused with, or none.
-fn code(alloc: Global, bytes: &[u8]) -> Option<WordError> {
-    match answer(alloc, bytes, 7) {
-        Ok(_) => None,
-        Err(e) => Some(e),
-    }
-}
-
 #[test]
-fn reads_a_header(rt: HostRuntime) -> Result<(), Fail> {
-    for (bytes, want) in [(HEADER, Order::Little), (BIG_HEADER, Order::Big)] {
-        let (image, order) = answer(rt.alloc(), &bytes, 120)?;
-        assert_eq!(rt; order, want);
-        assert_eq!(rt; image.len(), 5);
-        let header = Header {
-            version: 0x0001_0600,
-            generator: 9,
-            bound: 5,
-            schema: 0,
-        };
-        assert_eq!(rt; image.header(), header);
-        assert_eq!(rt; word(&image, 0), 0x0723_0203);
-        assert_eq!(rt; word(&image, 2), 9);
-        assert_eq!(rt; image.octets(), HEADER.as_slice());
-    }
-    Ok(())
-}
-
-#[test]
-fn pieces_do_not_matter(rt: HostRuntime) -> Result<(), Fail> {
-    let bytes = long_module(rt.alloc(), 1000)?;
+fn reads_pieces(rt: HostRuntime) -> Result<(), Fail> {
+    let header = Header {
+        version: 0x0001_0600,
+        generator: 9,
+        bound: 5,
+        schema: 0,
+    };
     for piece in [1, 3, 4, 7, 120] {
-        let (image, order) = answer(rt.alloc(), &bytes, piece)?;
-        assert_eq!(rt; order, Order::Little);
-        assert_eq!(rt; image.octets(), bytes.as_slice(), "pieces of {piece}");
+        for (bytes, want) in [(HEADER, Order::Little), (BIG_HEADER, Order::Big)] {
+            let (image, order) = answer(rt.alloc(), &bytes, piece)?;
+            assert_eq!(rt; order, want);
+            assert_eq!(rt; image.len(), 5);
+            assert_eq!(rt; image.header(), header);
+            assert_eq!(rt; word(&image, 0), 0x0723_0203);
+            assert_eq!(rt; image.octets(), HEADER.as_slice(), "pieces of {piece}");
+        }
     }
-    Ok(())
-}
-
-#[test]
-fn refuses_by_the_first_code(rt: HostRuntime) -> Result<(), Fail> {
-    let mut bytes = HEADER;
-    assert_eq!(rt; code(rt.alloc(), &bytes), None);
-    assert_eq!(rt; code(rt.alloc(), &bytes[..19]), Some(WordError::W2));
-    assert_eq!(rt; code(rt.alloc(), &[]), Some(WordError::W2));
-    bytes[14] = 0x3f;
-    bytes[13] = 0xff;
-    bytes[12] = 0xff;
-    assert_eq!(rt; code(rt.alloc(), &bytes), None);
-    bytes[14] = 0x40;
-    bytes[13] = 0;
-    bytes[12] = 0;
-    assert_eq!(rt; code(rt.alloc(), &bytes), Some(WordError::W7));
-    bytes[14] = 0;
-    assert_eq!(rt; code(rt.alloc(), &bytes), Some(WordError::W7));
-    bytes[16] = 1;
-    assert_eq!(rt; code(rt.alloc(), &bytes), Some(WordError::W6));
-    bytes[5] = 5;
-    assert_eq!(rt; code(rt.alloc(), &bytes), Some(WordError::W5));
-    bytes[0] = 4;
-    assert_eq!(rt; code(rt.alloc(), &bytes), Some(WordError::W4));
-    let mut odd = bytes.to_vec(rt.alloc())?;
-    odd.push(0)?;
-    assert_eq!(rt; code(rt.alloc(), &odd), Some(WordError::W3));
     Ok(())
 }
 
@@ -118,19 +74,7 @@ fn a_failed_read_is_told(rt: HostRuntime) -> Result<(), Fail> {
 }
 
 #[test]
-fn an_endless_reader_is_refused(rt: HostRuntime) -> Result<(), Fail> {
-    let block = [0; 1000];
-    let mut pieces = Pieces::new(&block, 1000);
-    pieces.is_endless = true;
-    let mut reader = FromRead::new(pieces);
-    let result = read_image(rt.alloc(), &mut reader);
-    assert!(rt; matches!(result, Err(WordError::W8)));
-    assert_eq!(rt; reader.inner.given, 16_777_217);
-    Ok(())
-}
-
-#[test]
-fn writes_in_either_order(rt: HostRuntime) -> Result<(), Fail> {
+fn writes_pieces(rt: HostRuntime) -> Result<(), Fail> {
     let bytes = long_module(rt.alloc(), 9000)?;
     let (image, _) = answer(rt.alloc(), &bytes, 4096)?;
     for piece in [1, 3, 4, 7, 120] {
@@ -201,13 +145,6 @@ fn the_greatest_module_goes_both_ways(rt: HostRuntime) -> Result<(), Fail> {
     let (again, order) = answer(rt.alloc(), &writer.inner.kept, 4096)?;
     assert_eq!(rt; order, Order::Big);
     assert!(rt; again.octets() == bytes.as_slice());
-    Ok(())
-}
-
-#[test]
-fn one_byte_too_many(rt: HostRuntime) -> Result<(), Fail> {
-    let bytes = long_module(rt.alloc(), 16_777_217)?;
-    assert_eq!(rt; code(rt.alloc(), &bytes), Some(WordError::W8));
     Ok(())
 }
 
