@@ -71,7 +71,7 @@ def read_cases(path):
 
 
 def piece(case, text):
-    """The bytes that a line 'F' tells."""
+    """The bytes that a line 'F' tells, and how many times they stand there."""
     form = PIECE.fullmatch(text)
     if form is None:
         raise case.tell(f"no input: {text}")
@@ -79,7 +79,7 @@ def piece(case, text):
     content = bytes.fromhex(name) if is_hex else (TESTS / name).read_bytes()
     if first is not None:
         content = content[: int(first)]
-    return content * int(times or 1)
+    return content, int(times or 1)
 
 
 def grammar(case):
@@ -112,10 +112,19 @@ def output(case):
     return "".join(line + "\n" for line in lines).encode()
 
 
-def made(case, got):
-    """None if OUT holds what the case wants, else both."""
+def made(case):
+    """The bytes that the case wants in OUT, or None if it says nothing of it."""
     text = case.one("made")
-    wanted = b"" if text == "nothing" else (TESTS / text).read_bytes()
+    if text is None:
+        return None
+    return b"" if text == "nothing" else (TESTS / text).read_bytes()
+
+
+def difference_made(wanted, path):
+    """None if OUT holds what is wanted, else what is wrong."""
+    if not path.exists():
+        return "  OUT was not made"
+    got = path.read_bytes()
     return None if wanted == got else f"  wanted: {shown(wanted)}\n  made:   {shown(got)}"
 
 
@@ -123,7 +132,7 @@ def laid_out(case, folder):
     """Puts the case's files into the folder, and answers the words to run the program with."""
     pieces = [piece(case, text) for text in case.all("F")]
     if pieces:
-        (folder / "F").write_bytes(b"".join(pieces))
+        (folder / "F").write_bytes(b"".join(content * times for content, times in pieces))
     content = grammar(case)
     if content is not None:
         (folder / "G").write_bytes(content)
@@ -141,9 +150,9 @@ def run_case(case, program, folder):
     """Runs the case in an empty folder: None if it passes, else what was wrong."""
     got = run(program, laid_out(case, folder), folder)
     wrong = difference(wanted_answer(case), got)
-    if wrong is None and case.one("made") is not None:
-        path = folder / "O"
-        wrong = made(case, path.read_bytes()) if path.exists() else "  OUT was not made"
+    wanted = made(case)
+    if wrong is None and wanted is not None:
+        wrong = difference_made(wanted, folder / "O")
     return wrong
 
 

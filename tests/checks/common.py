@@ -28,14 +28,16 @@ class Unusable(Exception):
 
 @dataclass(frozen=True)
 class Check:
-    """One check: its name, the layers that it needs, and what it does.
+    """One check: its name, the layers and the tools that it needs, and what it does.
 
-    `run` is given the program and an empty folder, and answers None, or what went wrong.
+    `run` is given the program and an empty folder, and answers None, or what went wrong. The tools
+    are those of tools.py, by name.
     """
 
     name: str
     layers: FrozenSet[str]
     run: Callable[[Path, Path], Optional[str]]
+    tools: FrozenSet[str] = frozenset()
 
 
 def layers_of(text):

@@ -1,26 +1,38 @@
 """The instructions of the processor that runs take, by bench/count, beside those that are kept."""
 
-import shutil
 import subprocess
 
 from .common import TESTS, Check
 
 COUNT = TESTS.parent / "bench/count"
 SECONDS = 900
+LAYERS = frozenset({"first path"})
 
 
-def counted(program, _folder):
-    """None if no count is more than a tenth above the one kept."""
-    words = [str(COUNT), "--program", str(program)]
-    ended = subprocess.run(
-        words, stdout=subprocess.PIPE, stderr=subprocess.STDOUT, timeout=SECONDS, check=False
-    )
-    return None if ended.returncode == 0 else f"  {ended.stdout.decode(errors='replace')}"
+def counted(*words):
+    """The check that no count of `bench/count` with these words is more than a tenth above the one kept."""
+
+    def check(program, _folder):
+        ended = subprocess.run(
+            [str(COUNT), "--program", str(program), *words],
+            stdout=subprocess.PIPE,
+            stderr=subprocess.STDOUT,
+            timeout=SECONDS,
+            check=False,
+        )
+        return None if ended.returncode == 0 else f"  {ended.stdout.decode(errors='replace')}"
+
+    return check
 
 
 def checks():
-    """One check of all counts, where valgrind is installed."""
-    if shutil.which("valgrind") is None:
-        print("counts of instructions: skipped, there is no valgrind")
-        return []
-    return [Check("counts of instructions", frozenset({"first path"}), counted)]
+    """All counts, and apart from them the one under Khronos' grammar."""
+    return [
+        Check("counts", LAYERS, counted("--without", "khronos"), frozenset({"valgrind"})),
+        Check(
+            "counts: Khronos' grammar",
+            LAYERS,
+            counted("tiny-khronos"),
+            frozenset({"valgrind", "khronos"}),
+        ),
+    ]

@@ -1,11 +1,10 @@
 """Hostile graphs of blocks and of calls: their verdicts, and that time and memory grow with words.
 
-A shape is made twice: large, for its time and memory, and small, where SPIRV-Tools are installed,
-for what spirv-val says of it.
+A shape is made twice: large, for its time and memory, and small, for what spirv-val of SPIRV-Tools
+says of it.
 """
 
 import os
-import shutil
 import subprocess
 import threading
 from importlib.machinery import SourceFileLoader
@@ -337,7 +336,7 @@ def large(shape):
     return check
 
 
-def small(shape, tool):
+def small(shape):
     """The check that spirv-val says the same of a small module."""
 
     def check(program, folder):
@@ -347,7 +346,7 @@ def small(shape, tool):
         if got != wanted:
             return difference(wanted, got)
         ended = subprocess.run(
-            [tool, "--target-env", "spv1.6", str(module)],
+            ["spirv-val", "--target-env", "spv1.6", str(module)],
             stdin=subprocess.DEVNULL,
             stdout=subprocess.PIPE,
             stderr=subprocess.STDOUT,
@@ -363,14 +362,11 @@ def small(shape, tool):
 
 
 def checks():
-    """Each shape large, and small where spirv-val is there."""
+    """Each shape large, and small beside spirv-val."""
     layers = frozenset({"flow", "calls"})
     found = [Check(f"flow: {shape.__name__}", layers, large(shape)) for shape in LARGE]
-    tool = shutil.which("spirv-val")
-    if tool is None:
-        print("flow beside spirv-val: skipped, there is no spirv-val")
-        return found
+    tools = frozenset({"spirv-val"})
     for shape in SMALL:
         name = f"flow beside spirv-val: {shape.__name__}"
-        found.append(Check(name, layers, small(shape, tool)))
+        found.append(Check(name, layers, small(shape), tools))
     return found

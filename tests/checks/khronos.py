@@ -1,4 +1,4 @@
-"""Khronos' own grammar file, where Debian's package spirv-headers is installed.
+"""Khronos' own grammar file, which Debian's package spirv-headers has.
 
 The file is read where it lies, and no copy of it is kept in the repository.
 """
@@ -12,7 +12,7 @@ GRAMMAR = Path("/usr/include/spirv/unified1/spirv.core.grammar.json")
 VERSION = (1, 6)
 
 
-def reason_to_skip():
+def missing():
     """Why there is no file to read, or None."""
     if not GRAMMAR.is_file():
         return f"there is no {GRAMMAR} (Debian's package spirv-headers)"
@@ -36,14 +36,10 @@ def under_khronos(content, wanted):
 
 def checks():
     """The smallest kernel and an empty file. They need the instructions, for all of its kinds."""
-    reason = reason_to_skip()
-    if reason is not None:
-        print(f"Khronos' grammar: skipped, {reason}")
-        return []
     kernel = (TESTS / "modules/smallest-kernel.spv").read_bytes()
     found = [
         ("smallest-kernel", under_khronos(kernel, Answer(b"valid\n", b"", 0))),
         ("empty-file", under_khronos(b"", Answer(b"fault W2\n", b"", 1))),
     ]
-    layers = frozenset({"instructions"})
-    return [Check(f"Khronos' grammar: {name}", layers, run_it) for name, run_it in found]
+    layers, tools = frozenset({"instructions"}), frozenset({"khronos"})
+    return [Check(f"Khronos' grammar: {name}", layers, run_it, tools) for name, run_it in found]

@@ -20,15 +20,6 @@ ERROR = re.compile(r"^(\S+?):(\d+):\d+: error\[(\S+)\]", re.MULTILINE)
 MOVED_WHILE_BORROWED = "borrow-e0505"
 
 
-def reason_to_skip():
-    """Why the programs can't be compiled here, or None."""
-    if shutil.which("rt") is None:
-        return "there is no rt on the PATH"
-    if not (TOP / "crates/spv_inst/out").is_dir():
-        return "there is no crates/spv_inst/out, which rt ci makes"
-    return None
-
-
 def lines_of(name):
     """The lines of a program of tests/lent."""
     return (TESTS / "lent" / name).read_text(encoding="utf-8").splitlines()
@@ -85,10 +76,6 @@ def checks():
     """Both programs. They need the instructions, whose texts are lent."""
     if sorted(lines_of("use_first.rattle")) != sorted(lines_of("drop_first.rattle")):
         raise Unusable("tests/lent: the two programs must differ in the order of lines alone")
-    reason = reason_to_skip()
-    if reason is not None:
-        print(f"lent texts: skipped, {reason}")
-        return []
     found = [("use-first", use_first), ("drop-first", drop_first)]
-    layers = frozenset({"instructions"})
-    return [Check(f"lent texts: {name}", layers, run_it) for name, run_it in found]
+    layers, tools = frozenset({"instructions"}), frozenset({"rt"})
+    return [Check(f"lent texts: {name}", layers, run_it, tools) for name, run_it in found]

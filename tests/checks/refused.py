@@ -74,9 +74,7 @@ def chosen_cases():
 
 def checks():
     """Two checks for each chosen case: one growth refused, and all from one on."""
-    if compiler() is None:
-        print("refused memory: skipped, there is no C compiler")
-        return []
+    tools = frozenset({"cc"})
 
     def check(case, all_later):
         later = " and all later" if all_later else ""
@@ -84,6 +82,7 @@ def checks():
             f"each growth{later} refused: {case.one('case')}",
             layers_of(case.one("layer")),
             lambda program, folder: each_refused(case, all_later, program, folder),
+            tools,
         )
 
     return [check(case, all_later) for case in chosen_cases() for all_later in (False, True)]

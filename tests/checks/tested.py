@@ -10,7 +10,7 @@ import re
 import subprocess
 
 from .common import SECONDS, TESTS, Check, Unusable
-from .refused import MOST_GROWTHS, TALLY, compiler, library
+from .refused import MOST_GROWTHS, TALLY, library
 
 CRATES = TESTS.parent / "crates"
 FINE = (0, "\ntest result: ok\n")
@@ -75,20 +75,14 @@ def chosen_tests():
 
 def checks():
     """One check for each chosen test."""
-    chosen = chosen_tests()
-    if compiler() is None:
-        print("refused memory in tests: skipped, there is no C compiler")
-        return []
-    absent = sorted({crate for crate, _ in chosen if not test_program(crate).exists()})
-    if absent:
-        print(f"refused memory in tests: skipped, rt ci has not built those of {', '.join(absent)}")
-        return []
+    tools = frozenset({"cc", "tests"})
 
     def check(crate, test):
         return Check(
             f"each growth refused in a test: {crate} {test}",
             frozenset({"instructions"}),
             lambda _, folder: each_refused(crate, test, folder),
+            tools,
         )
 
-    return [check(crate, test) for crate, test in chosen]
+    return [check(crate, test) for crate, test in chosen_tests()]

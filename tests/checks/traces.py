@@ -6,7 +6,7 @@ import subprocess
 import sys
 
 from .common import TESTS, Answer, Check, difference, run
-from .refused import NO_MEMORY, compiler, library, refused_run
+from .refused import NO_MEMORY, library, refused_run
 
 STEPS = 122
 KERNEL = "3"
@@ -71,8 +71,8 @@ def endless_is_want_of_memory(program, folder):
 def checks():
     """Two checks, of the layer of traces."""
     layers = frozenset({"trace"})
-    found = [Check("trace: endless", layers, endless_is_want_of_memory)]
-    if compiler() is None:
-        print("growths of a run: skipped, there is no C compiler")
-        return found
-    return [*found, Check("trace: calls take no memory", layers, calls_take_no_memory)]
+    tools = frozenset({"cc"})
+    return [
+        Check("trace: endless", layers, endless_is_want_of_memory),
+        Check("trace: calls take no memory", layers, calls_take_no_memory, tools),
+    ]

@@ -1,20 +1,7 @@
 //! `spv` checks, shows, assembles and traces SPIR-V 1.6 kernel modules.
 #![tactic(auto)]
 
-mod assembling;
-mod command_line;
-pub mod laws;
-mod number;
-mod program;
-mod showing;
-#[cfg(test)]
-mod tests;
-mod text_fault;
-mod trace_lines;
-mod tracing;
-
-use crate::command_line::{Command, UseError, arguments, help};
-use crate::program::{Trouble, report, run};
+use spv_commands::{Command, Trouble, UseError, arguments, help, report, run};
 use spv_words::{FromRead, FromWrite};
 use std::io::{ErrorKind, Read, Write};
 use std::process::ExitCode;

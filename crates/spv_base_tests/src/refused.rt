@@ -2,7 +2,7 @@
 //! rightly.
 
 use serde_json::Value;
-use spv_grammar::{GrammarError, Table};
+use spv_grammar::{FromGrammar, GrammarError, Table};
 use spv_samples::{
     CALL_OF_LATER_FUNCTION, Growths, LOAD_WITH_MASK, LOOP_WITH_PHI, PROFILE, SMALLEST_KERNEL, Told,
     words_of,

@@ -1,6 +1,6 @@
 //! Codes of grammar files, look-ups in the table of a small one, what capabilities imply, and the messages.
 
-use spv_grammar::{Category, GrammarError, Listed, Memory, Name, Quantifier, Table};
+use spv_grammar::{Category, FromGrammar, GrammarError, Listed, Memory, Name, Quantifier, Table};
 use std::alloc::Global;
 use std::test::Fail;
 

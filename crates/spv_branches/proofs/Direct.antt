@@ -3,8 +3,8 @@ use Rattle.std.proofs.Common.{◌≡◌, ◌≤◌, ◌∙◌, ◌⊎◌, inl, i
 use Rattle.std.specs.Prelude.{slice_get, option_and_then}
 use Rattle.std.proofs.lemmas.Bool.{cases_Bool, cases_lt, eqb-true}
 use Rattle.std.proofs.lemmas.Bool.Decides.{nat_tests}
-use Rattle.spv_grammar.specs.Table.{Table}
-use Rattle.spv_inst.specs.Operand.{PlainInst}
+use Rattle.spv_table.specs.Table.{Table}
+use Rattle.spv_module.specs.Operand.{PlainInst}
 use Rattle.spv_layout.specs.declared.form.Role.TheVariants.{Label}
 use Rattle.spv_layout.specs.Shape.{Fits, id_of}
 use Rattle.spv_ids.specs.Definition.{IsUsedAt}

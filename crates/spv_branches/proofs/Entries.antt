@@ -2,7 +2,7 @@
 use Rattle.std.proofs.Common.{◌≡◌, ◌≤◌, ◌<◌, ◌+◌, ◌⊎◌, ◌∙◌, inl, inr, ℕ, zero, suc, List, Bool, true, false, Some, length, replicate, set, refl, sym, ap, subst, arith}
 use Rattle.std.specs.Prelude.{slice_get}
 use Rattle.std.proofs.lemmas.Bool.{cases_lt, cases_eq, eqb-true}
-use Rattle.spv_inst.specs.Operand.{PlainInst}
+use Rattle.spv_module.specs.Operand.{PlainInst}
 use Rattle.spv_branches.specs.Target.{is_label, is_function, IsOp, IsEntryLabel}
 use Rattle.spv_branches.specs.Edges.{marked}
 use Rattle.spv_branches.specs.Graph.{IsOpen, AreEntries}

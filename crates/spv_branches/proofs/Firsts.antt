@@ -5,13 +5,13 @@ use Rattle.std.proofs.lemmas.Bool.{eqb-true, cases_order}
 use Rattle.std.proofs.lemmas.Bool.Decides.{nat_tests}
 use Rattle.std.proofs.lemmas.Option.{slice_get_within}
 use Rattle.std.proofs.lemmas.List.Sums.{sum_by-cons}
-use Rattle.spv_grammar.specs.Table.{Table}
-use Rattle.spv_inst.specs.Operand.{PlainInst}
-use Rattle.spv_inst.specs.declared.fault.Rule.{Rule}
-use Rattle.spv_inst.specs.declared.fault.Rule.TheVariants.{F1, F2, F3, F4}
+use Rattle.spv_table.specs.Table.{Table}
+use Rattle.spv_module.specs.Operand.{PlainInst}
+use Rattle.spv_module.specs.declared.fault.Rule.{Rule}
+use Rattle.spv_module.specs.declared.fault.Rule.TheVariants.{F1, F2, F3, F4}
 use Rattle.spv_layout.specs.First.{stage_of, rank_of, IsFirst}
-use Rattle.spv_inst.specs.declared.fault.Stop.{Stop}
-use Rattle.spv_inst.specs.declared.fault.Stop.TheVariants.{Fault, Memory}
+use Rattle.spv_module.specs.declared.fault.Stop.{Stop}
+use Rattle.spv_module.specs.declared.fault.Stop.TheVariants.{Fault, Memory}
 use Rattle.spv_layout.specs.Place.{word_count, first_word_of}
 use Rattle.spv_ids.specs.Outcome.{IsStopAt}
 use Rattle.spv_branches.specs.Found.{IsRefusal}

@@ -4,9 +4,9 @@ use Rattle.std.specs.Prelude.{slice_get, option_and_then, MatchOption, MatchBool
 use Rattle.std.proofs.Math.Nat.{mod-lt, mod-eq_of_lt, add-mod_left}
 use Rattle.std.proofs.lemmas.Bool.{cases_Bool, cases_eq, cases_lt, eqb-true, eqb-false}
 use Rattle.std.proofs.lemmas.Bool.Decides.{nat_tests}
-use Rattle.spv_grammar.specs.Table.{Table}
-use Rattle.spv_inst.specs.Operand.{Plain, PlainInst}
-use Rattle.spv_inst.specs.Operand as operand
+use Rattle.spv_table.specs.Table.{Table}
+use Rattle.spv_module.specs.Operand.{Plain, PlainInst}
+use Rattle.spv_module.specs.Operand as operand
 use Rattle.spv_layout.specs.declared.class.Class.TheVariants.{Phi, LoopMerge, SelectionMerge, Branch, BranchConditional, Switch}
 use Rattle.spv_layout.specs.declared.class.Class.TheVariants as class
 use Rattle.spv_layout.specs.declared.form.Named.TheVariants as kind_of

@@ -1,8 +1,8 @@
 -- What the small functions of the worked examples have.
 use Rattle.std.proofs.Common.{◌≡◌, ◌<◌, ◌≤◌, ◌∙◌, ℕ, zero, suc, [], ◌∷◌, refl, sym, subst, arith}
 use Rattle.std.proofs.lemmas.Option.{same_Some}
-use Rattle.spv_inst.specs.Example.{small}
-use Rattle.spv_inst.specs.Operand.{Id, OfType, Result}
+use Rattle.spv_module.specs.Example.{small}
+use Rattle.spv_module.specs.Operand.{Id, OfType, Result}
 use Rattle.spv_layout.specs.declared.class.Class.TheVariants.{Function, FunctionEnd, Label, Phi, Body, Branch}
 use Rattle.spv_layout.specs.declared.form.Role.{Role}
 use Rattle.spv_layout.specs.declared.form.Role.TheVariants as role

@@ -1,9 +1,9 @@
 -- Which rules on flow and availability are broken, and where. [2.4, 2.16]
 use Rattle.std.specs.Prelude.{◌⊎◌, ℕ, List}
-use Rattle.spv_grammar.specs.Table.{Table}
-use Rattle.spv_inst.specs.Operand.{PlainInst}
-use Rattle.spv_inst.specs.declared.fault.Rule.{Rule}
-use Rattle.spv_inst.specs.declared.fault.Rule.TheVariants.{F1, F2, F3, F4, A1, A2}
+use Rattle.spv_table.specs.Table.{Table}
+use Rattle.spv_module.specs.Operand.{PlainInst}
+use Rattle.spv_module.specs.declared.fault.Rule.{Rule}
+use Rattle.spv_module.specs.declared.fault.Rule.TheVariants.{F1, F2, F3, F4, A1, A2}
 use Rattle.spv_layout.specs.declared.form.Role.TheVariants.{Label}
 use Rattle.spv_ids.specs.Definition.{IsDefinedAt, IsUsedAt}
 use Rattle.spv_branches.specs.Target.{is_phi, is_merge, is_branch, is_conditional, IsOp, IsLabelOf, IsTarget, HasParents, IsEntryLabel}

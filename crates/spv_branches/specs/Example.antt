@@ -1,6 +1,6 @@
 -- Small examples.
 use Rattle.std.specs.Prelude.{ℕ, List, [], ◌∷◌}
-use Rattle.spv_inst.specs.Operand.{OfType, Result, Id, PlainInst}
+use Rattle.spv_module.specs.Operand.{OfType, Result, Id, PlainInst}
 
 -- %x = OpLabel
 abbrev pub label : ℕ → PlainInst

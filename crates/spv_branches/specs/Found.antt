@@ -1,9 +1,9 @@
 -- What the look for broken rules finds. (For the code alone, but for `IsRefusal`.)
 use Rattle.std.specs.Prelude.{◌≡◌, List}
-use Rattle.spv_grammar.specs.Table.{Table}
-use Rattle.spv_inst.specs.Operand.{PlainInst}
-use Rattle.spv_inst.specs.declared.fault.Stop.{Stop}
-use Rattle.spv_inst.specs.declared.fault.Stop.TheVariants.{Fault, Memory}
+use Rattle.spv_table.specs.Table.{Table}
+use Rattle.spv_module.specs.Operand.{PlainInst}
+use Rattle.spv_module.specs.declared.fault.Stop.{Stop}
+use Rattle.spv_module.specs.declared.fault.Stop.TheVariants.{Fault, Memory}
 use Rattle.spv_layout.specs.First.{IsFirst}
 use Rattle.spv_layout.specs.Place.{first_word_of}
 use Rattle.spv_branches.specs.Broken.{Broken}

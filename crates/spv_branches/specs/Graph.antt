@@ -1,11 +1,11 @@
 -- What is gathered of the branches and the labels of a module. (For the code alone.)
 use Rattle.std.specs.Prelude.{◌≡◌, ◌≤◌, ◌<◌, ◌⊎◌, ℕ, List, Bool, true, false, Option, MatchOption}
-use Rattle.spv_grammar.specs.Table.{Table}
-use Rattle.spv_inst.specs.Operand.{PlainInst}
+use Rattle.spv_table.specs.Table.{Table}
+use Rattle.spv_module.specs.Operand.{PlainInst}
 use Rattle.spv_branches.specs.declared.edges.Edges.{Edges}
 use Rattle.spv_branches.specs.declared.faults.Targets.{Targets}
 use Rattle.spv_branches.specs.declared.faults.Targets.TheVariants.{Lacking, Entering, Sound}
-use Rattle.spv_inst.specs.declared.fault.Rule.{Rule}
+use Rattle.spv_module.specs.declared.fault.Rule.{Rule}
 use Rattle.spv_layout.specs.declared.form.Role.TheVariants.{Label}
 use Rattle.spv_layout.specs.First.{stage_of, rank_of}
 use Rattle.spv_ids.specs.Definition.{IsDefinedAt, IsUsedAt}

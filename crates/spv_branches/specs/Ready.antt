@@ -1,7 +1,7 @@
 -- Whether the values that an instruction uses are defined on every walk to it. [2.16, said by walks instead of dominators]
 use Rattle.std.specs.Prelude.{◌≡◌, ◌+◌, ℕ, List, Some, slice_get}
-use Rattle.spv_grammar.specs.Table.{Table}
-use Rattle.spv_inst.specs.Operand.{PlainInst, type_in}
+use Rattle.spv_table.specs.Table.{Table}
+use Rattle.spv_module.specs.Operand.{PlainInst, type_in}
 use Rattle.spv_layout.specs.declared.form.Role.{Role}
 use Rattle.spv_layout.specs.declared.form.Role.TheVariants.{Value, Label}
 use Rattle.spv_ids.specs.Definition.{IsDefinedAt, IsUsedAt, IsLocal}

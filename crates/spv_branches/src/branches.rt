@@ -1,9 +1,9 @@
 //! The first of the rules F1 to F4 that a module breaks.
 
 ghost use Rattle.std.specs.Prelude.{◌≡◌, ◌≤◌, ◌<◌, ◌+◌, ℕ, List, false, length, sum_by, IsTrue, IfOk, IfErr, MatchOption};
-ghost use Rattle.spv_grammar.specs.Table.{Table};
-ghost use Rattle.spv_inst.specs.Module.{plain_insts};
-ghost use Rattle.spv_inst.specs.Operand.{PlainInst};
+ghost use Rattle.spv_table.specs.Table.{Table};
+ghost use Rattle.spv_module.specs.Module.{plain_insts};
+ghost use Rattle.spv_module.specs.Operand.{PlainInst};
 ghost use Rattle.spv_layout.specs.First.{IsFirst, IsUnbroken};
 ghost use Rattle.spv_layout.specs.Place.{word_count};
 ghost use Rattle.spv_layout.specs.Plan.{IsPlan};
@@ -17,8 +17,8 @@ use crate::code::Code;
 use crate::gather::{edges_for, survey};
 use crate::rules::broken_at;
 use spv_ids::Ids;
-use spv_inst::{Fault, Module, Rule, Stop};
 use spv_layout::Plan;
+use spv_module::{Fault, Module, Rule, Stop};
 use std::alloc::{AllocError, Global};
 
 /// A broken rule at an instruction.

@@ -4,8 +4,8 @@ ghost use Rattle.std.specs.Prelude.{◌≡◌};
 ghost use Rattle.spv_branches.specs.Target as target;
 
 use spv_ids::Ids;
-use spv_inst::Inst;
 use spv_layout::Plan;
+use spv_module::Inst;
 
 /// The instructions of a module, with what `lay_out` and `number` answered of it.
 #[derive(Clone, Copy)]
@@ -17,7 +17,7 @@ pub struct Code<'m, 'a> {
 
 impl Code<'_, '_> {
     ghost use Rattle.std.specs.Prelude.{◌≡◌, ◌<◌, ℕ, length, IfSome, MatchOption, MatchBool};
-    ghost use Rattle.spv_grammar.specs.Table.{Table};
+    ghost use Rattle.spv_table.specs.Table.{Table};
     ghost use Rattle.spv_branches.specs.Code.{insts_of, IsCode};
     ghost use Rattle.spv_branches.specs.Target.{IsLabelOf};
     ghost use Rattle.spv_layout.specs.Place.{IsOfBlock};

@@ -1,7 +1,7 @@
 //! What the rules F1 to F4 ask of an instruction.
 
 ghost use Rattle.std.specs.Prelude.{◌≡◌, ◌<◌, ℕ, true, false, length, IsTrue, MatchBool};
-ghost use Rattle.spv_grammar.specs.Table.{Table};
+ghost use Rattle.spv_table.specs.Table.{Table};
 ghost use Rattle.spv_branches.specs.Code.{insts_of, IsCode};
 ghost use Rattle.spv_branches.specs.Edges.{IsEdges, marked};
 ghost use Rattle.spv_branches.specs.Graph.{AreGathered, AreEntries, CanTake, Takes, HasLabels, LacksLabel, IsTargetOf, AreTargets, HasSameLabels};

@@ -1,8 +1,8 @@
 //! The edges and the entry labels of a module.
 
 ghost use Rattle.std.specs.Prelude.{◌≡◌, ◌<◌, ◌≤◌, ◌+◌, ℕ, length, map, IsTrue, IfOk, OnOk};
-ghost use Rattle.spv_grammar.specs.Table.{Table};
-ghost use Rattle.spv_inst.specs.Module.{plain_inst};
+ghost use Rattle.spv_table.specs.Table.{Table};
+ghost use Rattle.spv_module.specs.Module.{plain_inst};
 ghost use Rattle.spv_branches.specs.Code.{insts_of, IsCode};
 ghost use Rattle.spv_branches.specs.Edges.{IsEdges};
 ghost use Rattle.spv_branches.specs.Graph.{AddsTargets, AreGathered, AreEntries};
@@ -13,7 +13,7 @@ ghost use Rattle.spv_layout.specs.Place.{IsOfBlock};
 use crate::code::{Code, FUNCTION, LABEL, PHI, is_branch};
 use crate::edges::Edges;
 use crate::labels::label;
-use spv_inst::Inst;
+use spv_module::Inst;
 use std::alloc::{AllocError, Global};
 
 /// What a look at all opcodes tells.

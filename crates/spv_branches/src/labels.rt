@@ -1,8 +1,8 @@
 //! The labels among the operands of an instruction.
 
 ghost use Rattle.std.specs.Prelude.{◌≡◌, ℕ, IsTrue, MatchOption, slice_get, option_and_then};
-ghost use Rattle.spv_grammar.specs.Table.{Table};
-ghost use Rattle.spv_inst.specs.Module.{plain_inst, plain_operand};
+ghost use Rattle.spv_table.specs.Table.{Table};
+ghost use Rattle.spv_module.specs.Module.{plain_inst, plain_operand};
 ghost use Rattle.spv_layout.specs.Shape.{Fits, IsUse};
 ghost use Rattle.spv_layout.specs.Shape as shape;
 ghost use Rattle.spv_layout.specs.declared.form.Role.TheVariants as role;
@@ -10,7 +10,7 @@ ghost use Rattle.spv_branches.specs.Labels.{is_labelled};
 ghost use Rattle.spv_branches.specs.Labels as labels;
 
 use crate::code::{BRANCH_CONDITIONAL, LOOP_MERGE, PHI, SWITCH};
-use spv_inst::{Inst, Operand};
+use spv_module::{Inst, Operand};
 
 /// The id that an operand is.
 #[inline(always)]

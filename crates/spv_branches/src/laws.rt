@@ -1,11 +1,11 @@
 //! Laws of the definitions, and worked examples. Each function does nothing: its contract is what is proved.
 
 ghost use Rattle.std.specs.Prelude.{◌≡◌, ℕ, List, [], ◌∷◌};
-ghost use Rattle.spv_grammar.specs.Table.{Table};
-ghost use Rattle.spv_inst.specs.Operand.{PlainInst};
-ghost use Rattle.spv_inst.specs.Example.{small};
-ghost use Rattle.spv_inst.specs.declared.fault.Rule.{Rule};
-ghost use Rattle.spv_inst.specs.declared.fault.Rule.TheVariants.{F1, F2, F3, F4, A1, A2};
+ghost use Rattle.spv_table.specs.Table.{Table};
+ghost use Rattle.spv_module.specs.Operand.{PlainInst};
+ghost use Rattle.spv_module.specs.Example.{small};
+ghost use Rattle.spv_module.specs.declared.fault.Rule.{Rule};
+ghost use Rattle.spv_module.specs.declared.fault.Rule.TheVariants.{F1, F2, F3, F4, A1, A2};
 ghost use Rattle.spv_layout.specs.First.{IsFirst};
 ghost use Rattle.spv_branches.specs.Target.{IsLabelOf, IsTarget, Leads, IsPredecessor, HasParents, IsEntryLabel};
 ghost use Rattle.spv_branches.specs.Walk.{Next, IsWalk, IsResultAmong, IsLastLabel};

@@ -1,7 +1,7 @@
 //! Which of the rules F1 to F4 is broken first at an instruction.
 
 ghost use Rattle.std.specs.Prelude.{◌≡◌, ◌<◌, ℕ, false, length, IfNone};
-ghost use Rattle.spv_grammar.specs.Table.{Table};
+ghost use Rattle.spv_table.specs.Table.{Table};
 ghost use Rattle.spv_branches.specs.Code.{insts_of, IsCode};
 ghost use Rattle.spv_branches.specs.Edges.{IsEdges, marked};
 ghost use Rattle.spv_branches.specs.Graph.{AreGathered, AreEntries, IsFirstAt};
@@ -11,7 +11,7 @@ ghost use Rattle.spv_branches.specs.Target as target;
 use crate::code::{BRANCH_CONDITIONAL, Code, PHI, is_branch, is_merge};
 use crate::edges::Edges;
 use crate::faults::{Targets, has_labels, has_parents, has_same_labels, targets_of};
-use spv_inst::Rule;
+use spv_module::Rule;
 
 /// The rule that is broken at a merge.
 fn merge_rule(code: &Code<'_, '_>, at: u32) -> Option<Rule>

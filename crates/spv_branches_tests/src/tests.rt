@@ -1,7 +1,7 @@
 //! Small modules whose branches are sound or not, with answers that were worked out by hand.
 
 use spv_branches::check_branches;
-use spv_grammar::Table;
+use spv_grammar::{FromGrammar, Table};
 use spv_ids::number;
 use spv_inst::{Fault, Rule, Stop, decode};
 use spv_layout::laws::word_counts;

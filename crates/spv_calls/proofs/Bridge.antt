@@ -3,9 +3,9 @@ use Rattle.std.proofs.Common.{◌≡◌, ◌∙◌, ℕ, List, refl, sym, ap, su
 use Rattle.std.specs.Prelude.{slice_get}
 use Rattle.std.proofs.lemmas.Bool.{cases_order}
 use Rattle.std.proofs.lemmas.Option.{slice_get_within}
-use Rattle.spv_inst.specs.Operand.{PlainInst}
-use Rattle.spv_inst.specs.declared.fault.Rule.{Rule}
-use Rattle.spv_inst.specs.declared.fault.Rule.TheVariants.{G1}
+use Rattle.spv_module.specs.Operand.{PlainInst}
+use Rattle.spv_module.specs.declared.fault.Rule.{Rule}
+use Rattle.spv_module.specs.declared.fault.Rule.TheVariants.{G1}
 use Rattle.spv_layout.specs.First.{IsFirst, IsUnbroken, rank_of}
 use Rattle.spv_calls.proofs.Insts.{defined_within}
 use Rattle.spv_calls.specs.declared.graph.Call.{Call}

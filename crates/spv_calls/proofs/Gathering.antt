@@ -3,7 +3,7 @@ use Rattle.std.proofs.Common.{◌≡◌, ◌∙◌, ◌<◌, ◌+◌, ◌++◌, 
 use Rattle.std.specs.Prelude.{slice_get}
 use Rattle.std.proofs.lemmas.Bool.{cases_Bool, eqb-true}
 use Rattle.std.proofs.lemmas.Option.{slice_get_within}
-use Rattle.spv_inst.specs.Operand.{Plain, PlainInst, OfType, Result, Id, Word, Number, Text, Value, Mask}
+use Rattle.spv_module.specs.Operand.{Plain, PlainInst, OfType, Result, Id, Word, Number, Text, Value, Mask}
 use Rattle.spv_layout.specs.Place.{IsDefinition}
 use Rattle.spv_layout.proofs.Places.{function_same}
 use Rattle.spv_ids.specs.declared.ids.Ids.{Ids}

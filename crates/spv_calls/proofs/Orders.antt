@@ -1,8 +1,8 @@
 -- Calls that are in an order are on no cycle.
 use Rattle.std.proofs.Common.{◌≡◌, ◌<◌, ◌≤◌, ℕ, List, sym, Some, length, arith}
 use Rattle.std.specs.Prelude.{slice_get}
-use Rattle.spv_inst.specs.Operand.{PlainInst}
-use Rattle.spv_inst.specs.declared.fault.Rule.{Rule}
+use Rattle.spv_module.specs.Operand.{PlainInst}
+use Rattle.spv_module.specs.declared.fault.Rule.{Rule}
 use Rattle.spv_layout.specs.First.{IsUnbroken}
 use Rattle.spv_calls.specs.declared.graph.Call.{Call}
 use Rattle.spv_calls.specs.declared.ordered.Way.{Way}

@@ -2,7 +2,7 @@
 use Rattle.std.proofs.Common.{◌≡◌, ◌∙◌, ℕ, List, [], ◌∷◌, refl, ap, Option, Some, None, IsTrue, arith}
 use Rattle.std.specs.Prelude.{slice_get, IsSomeAnd, option_map, MatchOption}
 use Rattle.std.proofs.lemmas.Option.{slice_get-map}
-use Rattle.spv_inst.specs.Operand.{PlainInst}
+use Rattle.spv_module.specs.Operand.{PlainInst}
 use Rattle.spv_layout.specs.declared.class.Class.{Class}
 use Rattle.spv_layout.specs.declared.class.Class.TheVariants.{Capability, Extension, Import, MemoryModel, EntryPoint, ExecutionMode, Source, Name, Processed, Decoration, Function}
 use Rattle.spv_layout.specs.declared.place.Place.{Place}

@@ -1,8 +1,8 @@
 -- Where calls make a cycle that an entry point reaches. (Own.)
 use Rattle.std.specs.Prelude.{ℕ, List}
-use Rattle.spv_inst.specs.Operand.{PlainInst}
-use Rattle.spv_inst.specs.declared.fault.Rule.{Rule}
-use Rattle.spv_inst.specs.declared.fault.Rule.TheVariants.{G1}
+use Rattle.spv_module.specs.Operand.{PlainInst}
+use Rattle.spv_module.specs.declared.fault.Rule.{Rule}
+use Rattle.spv_module.specs.declared.fault.Rule.TheVariants.{G1}
 use Rattle.spv_calls.specs.Chain.{Chain}
 use Rattle.spv_calls.specs.Calls.{IsCall, Calls, IsEntryFunction}
 

@@ -1,6 +1,6 @@
 -- Which definitions call which, and which of them entry points name. A function is the number of its OpFunction. [2.4, 2.16]
 use Rattle.std.specs.Prelude.{◌≡◌, ℕ, List, Some, slice_get}
-use Rattle.spv_inst.specs.Operand.{PlainInst, Id}
+use Rattle.spv_module.specs.Operand.{PlainInst, Id}
 use Rattle.spv_layout.specs.Place.{IsOfFunction, IsDefinition}
 use Rattle.spv_ids.specs.Definition.{IsDefinedAt}
 

@@ -1,6 +1,6 @@
 -- Small examples, of which the operands that no rule on calls looks at do not matter.
 use Rattle.std.specs.Prelude.{ℕ, List, [], ◌∷◌}
-use Rattle.spv_inst.specs.Operand.{PlainInst, OfType, Result, Id, Value, Text}
+use Rattle.spv_module.specs.Operand.{PlainInst, OfType, Result, Id, Value, Text}
 
 -- OpEntryPoint Kernel %f ""
 abbrev pub entry : ℕ → PlainInst

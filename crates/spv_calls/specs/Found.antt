@@ -1,6 +1,6 @@
 -- What is gathered of a module. (For the code alone.)
 use Rattle.std.specs.Prelude.{◌≡◌, ◌<◌, ℕ, List, Option, Some, None, nat_eq, if◌then◌else◌, length, slice_get}
-use Rattle.spv_inst.specs.Operand.{Plain, PlainInst, Id}
+use Rattle.spv_module.specs.Operand.{Plain, PlainInst, Id}
 use Rattle.spv_layout.specs.declared.class.Class.{Class}
 use Rattle.spv_layout.specs.declared.place.Place.{Place}
 use Rattle.spv_layout.specs.Layout.{classes}

@@ -1,9 +1,9 @@
 //! The first call on a cycle.
 
 ghost use Rattle.std.specs.Prelude.{◌+◌, ◌≤◌, ℕ, sum_by, IfOk, IfSome, IfNone};
-ghost use Rattle.spv_grammar.specs.Table.{Table};
-ghost use Rattle.spv_inst.specs.Module.{plain_insts};
-ghost use Rattle.spv_inst.specs.declared.fault.Rule.TheVariants.{G1};
+ghost use Rattle.spv_table.specs.Table.{Table};
+ghost use Rattle.spv_module.specs.Module.{plain_insts};
+ghost use Rattle.spv_module.specs.declared.fault.Rule.TheVariants.{G1};
 ghost use Rattle.spv_layout.specs.First.{IsFirst, IsUnbroken};
 ghost use Rattle.spv_layout.specs.Place.{word_count};
 ghost use Rattle.spv_layout.specs.Plan.{IsPlan};
@@ -14,8 +14,8 @@ use crate::cyclic::first_cyclic;
 use crate::gather::{calls_of, entries_of};
 use crate::ordered::are_ordered;
 use spv_ids::Ids;
-use spv_inst::Module;
 use spv_layout::Plan;
+use spv_module::Module;
 use std::alloc::{AllocError, Global};
 
 /// The first OpFunctionCall that breaks G1 (own): a call in a definition f of a definition g, where a chain of calls leads

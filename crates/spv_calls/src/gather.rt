@@ -1,16 +1,16 @@
 //! The calls and entry points of a module.
 
 ghost use Rattle.std.specs.Prelude.{◌≡◌, ◌≤◌, ◌↔◌, ℕ, List, Some, length, map, slice_get, IsTrue, MatchOption, IfOk};
-ghost use Rattle.spv_inst.specs.Operand.{PlainInst};
-ghost use Rattle.spv_inst.specs.Module.{plain_inst};
+ghost use Rattle.spv_module.specs.Operand.{PlainInst};
+ghost use Rattle.spv_module.specs.Module.{plain_inst};
 ghost use Rattle.spv_layout.specs.Place.{IsDefinition};
 ghost use Rattle.spv_calls.specs.Calls.{IsCall};
 ghost use Rattle.spv_calls.specs.Found.{id_in, callee_in, entry_in, ArePlaces, AreNumbered, IsLate, IsOfDefinition, IsThatCall, AreCalls, AreEntries};
 
 use crate::graph::Call;
 use spv_ids::Ids;
-use spv_inst::{Inst, Operand};
 use spv_layout::Plan;
+use spv_module::{Inst, Operand};
 use std::alloc::{AllocError, Global};
 
 /// The opcode of OpEntryPoint.

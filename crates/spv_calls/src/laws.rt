@@ -1,9 +1,9 @@
 //! Laws of calls. Each function does nothing: its contract is what is proved.
 
 ghost use Rattle.std.specs.Prelude.{◌≡◌, ℕ, List};
-ghost use Rattle.spv_inst.specs.Operand.{PlainInst};
-ghost use Rattle.spv_inst.specs.declared.fault.Rule.{Rule};
-ghost use Rattle.spv_inst.specs.declared.fault.Rule.TheVariants.{G1};
+ghost use Rattle.spv_module.specs.Operand.{PlainInst};
+ghost use Rattle.spv_module.specs.declared.fault.Rule.{Rule};
+ghost use Rattle.spv_module.specs.declared.fault.Rule.TheVariants.{G1};
 ghost use Rattle.spv_layout.specs.First.{IsFirst, IsUnbroken};
 ghost use Rattle.spv_calls.specs.Chain.{Chain};
 ghost use Rattle.spv_calls.specs.Calls.{IsCall, Calls, IsEntryFunction};

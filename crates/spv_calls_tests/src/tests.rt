@@ -1,7 +1,7 @@
 //! Small modules with and without cycles of calls, with answers that were worked out by hand.
 
 use spv_calls::first_cycle;
-use spv_grammar::Table;
+use spv_grammar::{FromGrammar, Table};
 use spv_ids::number;
 use spv_inst::{Stop, decode};
 use spv_layout::laws::word_counts;

@@ -1,10 +1,10 @@
 -- The first broken rule, where the rules were asked one after another.
 use Rattle.std.proofs.Common.{◌≡◌, ◌<◌, ◌∙◌, inl, ℕ, List, [], Bool, true, false, nat_eq, refl, sym, arith}
 use Rattle.std.proofs.lemmas.Bool.{eqb-true}
-use Rattle.spv_grammar.specs.Table.{Table}
-use Rattle.spv_inst.specs.Operand.{PlainInst}
-use Rattle.spv_inst.specs.declared.fault.Rule.{Rule}
-use Rattle.spv_inst.specs.declared.fault.Rule.TheVariants as rule
+use Rattle.spv_table.specs.Table.{Table}
+use Rattle.spv_module.specs.Operand.{PlainInst}
+use Rattle.spv_module.specs.declared.fault.Rule.{Rule}
+use Rattle.spv_module.specs.declared.fault.Rule.TheVariants as rule
 use Rattle.spv_layout.specs.First.{rank_of}
 use Rattle.spv_capabilities.specs.Capable.{IsCapable, HasNeeded, needs_of}
 use Rattle.spv_capabilities.specs.Known.{AreCovered, is_asked_more}

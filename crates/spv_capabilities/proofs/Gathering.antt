@@ -5,9 +5,9 @@ use Rattle.std.proofs.lemmas.List.{append-nil}
 use Rattle.std.proofs.lemmas.List.Elements.{filter_map-append}
 use Rattle.std.proofs.lemmas.Option.{slice_get-map, slice_get_read, slice_get_within}
 use Rattle.std.proofs.lemmas.Bool.Decides.{nat_tests}
-use Rattle.spv_inst.specs.Operand.{PlainInst}
-use Rattle.spv_inst.specs.Module.{plain_inst}
-use Rattle.spv_inst.specs.declared.module.Inst.{Inst}
+use Rattle.spv_module.specs.Operand.{PlainInst}
+use Rattle.spv_module.specs.Module.{plain_inst}
+use Rattle.spv_module.specs.declared.module.Inst.{Inst}
 use Rattle.spv_ids.specs.Order.{HasOpcode}
 use Rattle.spv_capabilities.specs.Capable.{declared_by, first_value}
 use Rattle.spv_capabilities.specs.Entry.{called_by, entered_by, imported_by, third_id, second_id, linked_id}

@@ -1,7 +1,7 @@
 -- Whether an OpFunction is that of a definition is told by its place.
 use Rattle.std.proofs.Common.{◌≡◌, ◌<◌, ℕ, List, [], ◌∷◌, refl, Option, Some, None, true, false, IsTrue, length, arith}
 use Rattle.std.specs.Prelude.{slice_get, MatchOption, IsSomeAnd}
-use Rattle.spv_inst.specs.Operand.{PlainInst}
+use Rattle.spv_module.specs.Operand.{PlainInst}
 use Rattle.spv_layout.specs.declared.class.Class.{Class}
 use Rattle.spv_layout.specs.declared.class.Class.TheVariants.{Function}
 use Rattle.spv_layout.specs.declared.place.Place.{Place}

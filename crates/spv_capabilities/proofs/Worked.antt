@@ -1,12 +1,12 @@
 -- What the small modules of the worked examples have.
 use Rattle.std.proofs.Common.{◌≡◌, ◌≢◌, ◌∙◌, ◌⊎◌, ℕ, zero, suc, List, [], ◌∷◌, Option, Some, None, Contains, true, false, refl, ap, sym, subst, inl, inr, codes, option_and_then, arith}
 use Rattle.std.specs.Prelude.{slice_get}
-use Rattle.spv_grammar.specs.declared.table.Enumerant.{Enumerant}
-use Rattle.spv_grammar.specs.Table.{enumerant_of}
-use Rattle.spv_grammar.specs.Lookups.{value_named, number_named}
-use Rattle.spv_grammar.specs.Implied.{Lists, Chain, capabilities_in}
-use Rattle.spv_grammar.proofs.Search.{in_cons}
-use Rattle.spv_inst.specs.Operand.{PlainInst}
+use Rattle.spv_table.specs.declared.table.Enumerant.{Enumerant}
+use Rattle.spv_table.specs.Table.{enumerant_of}
+use Rattle.spv_table.specs.Lookups.{value_named, number_named}
+use Rattle.spv_table.specs.Implied.{Lists, Chain, capabilities_in}
+use Rattle.spv_table.proofs.Search.{in_cons}
+use Rattle.spv_module.specs.Operand.{PlainInst}
 use Rattle.spv_layout.specs.declared.class.Class.TheVariants.{Function, FunctionEnd, Label}
 use Rattle.spv_layout.specs.Rows.{rows}
 use Rattle.spv_layout.specs.Place.{IsAt, IsDefinition}

@@ -1,11 +1,11 @@
 -- The capabilities that a module has, and those that its instructions ask for: C1 and C2. [2.16.1, 3.31; widths and counts own]
 use Rattle.std.specs.Prelude.{◌≡◌, ◌≢◌, ◌⊎◌, ℕ, List, [], ◌∷◌, Option, Some, None, codes, filter_map, option_and_then, nat_eq, ◌||◌, if◌then◌else◌, IfSome, IsSomeAnd}
 use Rattle.std.specs.List.{AllByRecursion}
-use Rattle.spv_grammar.specs.Table.{Table, kind_of, entry_of, enumerant_of}
-use Rattle.spv_grammar.specs.Lookups.{value_named, number_named}
-use Rattle.spv_grammar.specs.Implied.{Implied, capabilities_in}
-use Rattle.spv_inst.specs.Operand.{Plain, Result, Word, Id, Value, Mask, PlainInst}
-use Rattle.spv_inst.specs.Spelling.{set_bits}
+use Rattle.spv_table.specs.Table.{Table, kind_of, entry_of, enumerant_of}
+use Rattle.spv_table.specs.Lookups.{value_named, number_named}
+use Rattle.spv_table.specs.Implied.{Implied, capabilities_in}
+use Rattle.spv_module.specs.Operand.{Plain, Result, Word, Id, Value, Mask, PlainInst}
+use Rattle.spv_module.specs.Spelling.{set_bits}
 
 -- the capability that an OpCapability (17) declares
 abbrev pub first_value : List Plain → Option ℕ

@@ -1,8 +1,8 @@
 -- Entry points, execution modes and imports: E1 and E2. A function is named by the number of its OpFunction. [2.4, 2.16.1, 3.17, 3.49.5]
 use Rattle.std.specs.Prelude.{◌≡◌, ◌↔◌, ◌⊎◌, ℕ, List, ◌∷◌, Option, Some, None, nat_eq, ◌&&◌, if◌then◌else◌, slice_get, codes}
-use Rattle.spv_grammar.specs.Table.{Table}
-use Rattle.spv_grammar.specs.Lookups.{number_named}
-use Rattle.spv_inst.specs.Operand.{Plain, OfType, Result, Id, Text, Value, PlainInst, type_in}
+use Rattle.spv_table.specs.Table.{Table}
+use Rattle.spv_table.specs.Lookups.{number_named}
+use Rattle.spv_module.specs.Operand.{Plain, OfType, Result, Id, Text, Value, PlainInst, type_in}
 use Rattle.spv_layout.specs.Place.{IsDefinition}
 use Rattle.spv_ids.specs.Definition.{IsDefinedAt}
 use Rattle.spv_ids.specs.Order.{HasOpcode}

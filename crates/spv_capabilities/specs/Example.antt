@@ -1,9 +1,9 @@
 -- A small table, and small modules.
 use Rattle.std.specs.Prelude.{ℕ, List, [], ◌∷◌, codes}
-use Rattle.spv_grammar.specs.declared.table.Category.TheVariants.{ValueEnum, BitEnum}
-use Rattle.spv_grammar.specs.declared.table.Enumerant.{Enumerant}
-use Rattle.spv_grammar.specs.Table.{Sort, Table}
-use Rattle.spv_inst.specs.Operand.{Plain, OfType, Result, Id, Text, Value, Mask, PlainInst}
+use Rattle.spv_table.specs.declared.table.Category.TheVariants.{ValueEnum, BitEnum}
+use Rattle.spv_table.specs.declared.table.Enumerant.{Enumerant}
+use Rattle.spv_table.specs.Table.{Sort, Table}
+use Rattle.spv_module.specs.Operand.{Plain, OfType, Result, Id, Text, Value, Mask, PlainInst}
 
 abbrev pub enumerant : List ℕ → ℕ → List (List ℕ) → Enumerant
 enumerant name value names = record { name = name; value = value; parameters = []; capabilities = names }

@@ -1,9 +1,9 @@
 -- What each of the rules C1, C2, M1, E1 and E2 demands of an instruction. [2.4, 2.16.1, 3.31]
 use Rattle.std.specs.Prelude.{◌≡◌, ◌<◌, ℕ, List, Option, MatchOption}
-use Rattle.spv_grammar.specs.Table.{Table}
-use Rattle.spv_inst.specs.Operand.{PlainInst}
-use Rattle.spv_inst.specs.declared.fault.Rule.{Rule}
-use Rattle.spv_inst.specs.declared.fault.Rule.TheVariants as rule
+use Rattle.spv_table.specs.Table.{Table}
+use Rattle.spv_module.specs.Operand.{PlainInst}
+use Rattle.spv_module.specs.declared.fault.Rule.{Rule}
+use Rattle.spv_module.specs.declared.fault.Rule.TheVariants as rule
 use Rattle.spv_layout.specs.First.{rank_of}
 use Rattle.spv_capabilities.specs.Capable.{IsKernel, IsCapable}
 use Rattle.spv_capabilities.specs.Memory.{IsModel}

@@ -7,8 +7,8 @@ use Rattle.std.specs.declared.cmp.Ordering.{Ordering}
 use Rattle.spv_capabilities.specs.declared.memo.Answer.{Answer}
 use Rattle.spv_capabilities.specs.declared.memo.Answer.TheVariants.{Unknown, Yes, No}
 use Rattle.spv_capabilities.specs.declared.memo.Memo.{Memo}
-use Rattle.spv_grammar.specs.Table.{Table}
-use Rattle.spv_inst.specs.Operand.{PlainInst}
+use Rattle.spv_table.specs.Table.{Table}
+use Rattle.spv_module.specs.Operand.{PlainInst}
 use Rattle.spv_capabilities.specs.Subject.{Subject}
 use Rattle.spv_capabilities.specs.Capable.{IsCoveredEntry, IsCoveredValue, IsCoveredMask, IsCoveredOperand}
 

@@ -1,6 +1,6 @@
 -- M1: the addressing and memory model. [3.4, 3.5; the choice own]
 use Rattle.std.specs.Prelude.{◌≡◌, ◌⊎◌, List, [], ◌∷◌}
-use Rattle.spv_inst.specs.Operand.{Plain, Value}
+use Rattle.spv_module.specs.Operand.{Plain, Value}
 
 -- The operands of an OpMemoryModel are Physical32 (1) or Physical64 (2), and OpenCL (2).
 abbrev pub IsModel : List Plain → Type 0

@@ -1,7 +1,7 @@
 -- What a survey is of.
 use Rattle.std.specs.Prelude.{List}
-use Rattle.spv_grammar.specs.Table.{Table}
-use Rattle.spv_inst.specs.Operand.{PlainInst}
+use Rattle.spv_table.specs.Table.{Table}
+use Rattle.spv_module.specs.Operand.{PlainInst}
 
 -- a grammar table, and a module's instructions
 pub record Subject : Type 0 where

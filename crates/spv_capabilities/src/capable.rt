@@ -1,15 +1,15 @@
 //! Which capabilities are asked for: the rules C1 and C2, without what was asked before.
 
 ghost use Rattle.std.specs.Prelude.{◌≡◌, ◌↔◌, [], IsTrue, Some, IfSome, IsSomeAnd, codes, option_and_then};
-ghost use Rattle.spv_grammar.specs.Table.{enumerant_of, kind_of};
-ghost use Rattle.spv_grammar.specs.Lookups.{value_named, number_named};
-ghost use Rattle.spv_grammar.specs.Implied.{capabilities_in};
-ghost use Rattle.spv_inst.specs.Module.{plain_inst, plain_operands};
+ghost use Rattle.spv_table.specs.Table.{enumerant_of, kind_of};
+ghost use Rattle.spv_table.specs.Lookups.{value_named, number_named};
+ghost use Rattle.spv_table.specs.Implied.{capabilities_in};
+ghost use Rattle.spv_module.specs.Module.{plain_inst, plain_operands};
 ghost use Rattle.spv_capabilities.specs.Capable.{Has, HasNamed, HasNeeded, IsKernel, IsCovered, IsCoveredEntry, IsCoveredValue, int_needs, float_needs, vector_needs, needs_of};
 
 use crate::surveyed::Survey;
-use spv_grammar::Name;
-use spv_inst::{Inst, Operand};
+use spv_module::{Inst, Operand};
+use spv_table::Name;
 
 /// Whether the module has Kernel and has not Shader.
 pub fn is_kernel(survey: &Survey<'_, '_>) -> bool

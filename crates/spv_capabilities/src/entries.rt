@@ -1,9 +1,9 @@
 //! Which of the rules is broken at an instruction.
 
 ghost use Rattle.std.specs.Prelude.{◌≡◌, ◌↔◌, ◌<◌, ℕ, IfOk, IsTrue, Some, length, slice_get};
-ghost use Rattle.spv_grammar.specs.Table.{Table};
-ghost use Rattle.spv_inst.specs.Operand.{PlainInst};
-ghost use Rattle.spv_inst.specs.Module.{plain_inst, plain_insts};
+ghost use Rattle.spv_table.specs.Table.{Table};
+ghost use Rattle.spv_module.specs.Operand.{PlainInst};
+ghost use Rattle.spv_module.specs.Module.{plain_inst, plain_insts};
 ghost use Rattle.spv_layout.specs.Plan.{IsPlan};
 ghost use Rattle.spv_ids.specs.Outcome.{IsDefinitionOf, definition_in};
 ghost use Rattle.spv_capabilities.specs.Capable.{IsKernel};
@@ -17,10 +17,10 @@ use crate::capable::is_kernel;
 use crate::entry::{has_entry, is_model, keeps_entries, keeps_linkage};
 use crate::memo::Memo;
 use crate::surveyed::Survey;
-use spv_grammar::{Memory, Table};
 use spv_ids::Ids;
-use spv_inst::{Inst, Module, Rule};
 use spv_layout::Plan;
+use spv_module::{Inst, Module, Rule};
+use spv_table::{Memory, Table};
 use std::alloc::Global;
 use std::marker::Model;
 

@@ -1,8 +1,8 @@
 //! The memory model and the entry points: the rules M1, E1 and E2.
 
 ghost use Rattle.std.specs.Prelude.{◌≡◌, ◌↔◌, ◌<◌, ℕ, List, IsTrue, length, slice_get, Some};
-ghost use Rattle.spv_inst.specs.Module.{plain_inst, plain_operands};
-ghost use Rattle.spv_inst.specs.Operand as operand;
+ghost use Rattle.spv_module.specs.Module.{plain_inst, plain_operands};
+ghost use Rattle.spv_module.specs.Operand as operand;
 ghost use Rattle.spv_layout.specs.Place.{IsDefinition};
 ghost use Rattle.spv_ids.specs.Definition.{IsDefinedAt};
 ghost use Rattle.spv_ids.specs.Order.{HasOpcode};
@@ -11,7 +11,7 @@ ghost use Rattle.spv_capabilities.specs.Entry.{HasEntry, ReturnsVoid, IsCalled, 
 ghost use Rattle.spv_capabilities.specs.Keeps.{KeepsEntries};
 
 use crate::surveyed::Survey;
-use spv_inst::{Inst, Operand};
+use spv_module::{Inst, Operand};
 
 /// The opcodes of OpEntryPoint, OpExecutionMode, OpTypeVoid and OpFunction.
 const ENTRY_POINT: u16 = 15;

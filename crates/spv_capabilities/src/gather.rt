@@ -1,15 +1,15 @@
 //! What is gathered of a module's instructions.
 
 ghost use Rattle.std.specs.Prelude.{◌≡◌, ◌+◌, ◌&&◌, ℕ, List, Option, Some, IfOk, OnOk, length, map, nat_eq, slice_get};
-ghost use Rattle.spv_inst.specs.Operand.{PlainInst};
-ghost use Rattle.spv_inst.specs.Module.{plain_inst, plain_operands};
+ghost use Rattle.spv_module.specs.Operand.{PlainInst};
+ghost use Rattle.spv_module.specs.Module.{plain_inst, plain_operands};
 ghost use Rattle.spv_ids.specs.Outcome.{IsDefinitionOf, definition_in};
 ghost use Rattle.spv_capabilities.specs.Capable as capable;
 ghost use Rattle.spv_capabilities.specs.Entry as spec;
 ghost use Rattle.spv_capabilities.specs.Survey.{AreGathered, AreMarked};
 
 use spv_ids::Ids;
-use spv_inst::{Inst, Operand};
+use spv_module::{Inst, Operand};
 use std::alloc::{AllocError, Global};
 
 /// The opcodes of the instructions of which something is gathered.

@@ -2,7 +2,7 @@
 
 ghost use Rattle.std.specs.Prelude.{◌≡◌, ◌↔◌, ◌^◌, ◌/◌, ◌%◌, ◌<◌, IsTrue, IfOk, nat_eq, true};
 ghost use Rattle.std.specs.List.{AllByRecursion};
-ghost use Rattle.spv_inst.specs.Module.{plain_inst, plain_operand, plain_operands};
+ghost use Rattle.spv_module.specs.Module.{plain_inst, plain_operand, plain_operands};
 ghost use Rattle.spv_capabilities.specs.Subject.{Subject};
 ghost use Rattle.spv_capabilities.specs.Capable.{IsCoveredEntry, IsCoveredValue, IsCoveredMask, IsOtherKind, IsCoveredOperand, IsCapable};
 ghost use Rattle.spv_capabilities.specs.Known.{IsKnown, AreCovered, answer_of};
@@ -11,8 +11,8 @@ use crate::capable::{
     asks_nothing, has_needed, is_capability_kind, is_covered_entry, is_covered_value,
 };
 use crate::surveyed::Survey;
-use spv_grammar::Memory;
-use spv_inst::{Inst, Operand};
+use spv_module::{Inst, Operand};
+use spv_table::Memory;
 use std::alloc::{AllocError, Global};
 use std::collections::BTreeMap;
 

@@ -1,10 +1,10 @@
 //! A module that is surveyed: which capabilities it has, and which of its functions are called, entered and imported.
 
 ghost use Rattle.std.specs.Prelude.{◌≡◌, ◌↔◌, ◌<◌, ℕ, List, Option, IsTrue, IfOk, Some, codes, length, map, slice_get};
-ghost use Rattle.spv_grammar.specs.Table.{Table};
-ghost use Rattle.spv_grammar.specs.Lookups.{number_named};
-ghost use Rattle.spv_inst.specs.Operand.{PlainInst};
-ghost use Rattle.spv_inst.specs.Module.{plain_inst};
+ghost use Rattle.spv_table.specs.Table.{Table};
+ghost use Rattle.spv_table.specs.Lookups.{number_named};
+ghost use Rattle.spv_module.specs.Operand.{PlainInst};
+ghost use Rattle.spv_module.specs.Module.{plain_inst};
 ghost use Rattle.spv_layout.specs.Place.{IsDefinition};
 ghost use Rattle.spv_layout.specs.Plan.{IsPlan, IsPlaceOf};
 ghost use Rattle.spv_ids.specs.Order.{HasOpcode};
@@ -14,10 +14,10 @@ ghost use Rattle.spv_capabilities.specs.Entry.{IsNamed, IsCalled, IsEntered, IsI
 ghost use Rattle.spv_capabilities.specs.Survey.{AreMarked};
 
 use crate::gather::{Gathered, gather};
-use spv_grammar::{Memory, Table};
 use spv_ids::Ids;
-use spv_inst::Inst;
 use spv_layout::{Place, Plan};
+use spv_module::Inst;
+use spv_table::{Memory, Table};
 use std::alloc::Global;
 use std::collections::BTreeSet;
 use std::marker::Model;
@@ -41,7 +41,7 @@ pub struct Survey<'m, 'a> {
 
 impl<'m, 'a> Model for Survey<'m, 'a> {
     ghost use Rattle.std.specs.Prelude.{map};
-    ghost use Rattle.spv_inst.specs.Module.{plain_inst};
+    ghost use Rattle.spv_module.specs.Module.{plain_inst};
     ghost use Rattle.spv_capabilities.specs.Subject.{Subject};
     ghost use Rattle.spv_capabilities.specs.Survey.{IsSurvey};
 

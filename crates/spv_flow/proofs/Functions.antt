@@ -4,7 +4,7 @@ use Rattle.std.specs.Prelude.{slice_get, nat_le, not, ◌&&◌, ◌||◌, option
 use Rattle.std.proofs.lemmas.Bool.{eqb-true}
 use Rattle.std.proofs.lemmas.Bool.Decides.{nat_tests}
 use Rattle.std.proofs.lemmas.Option.{slice_get-map}
-use Rattle.spv_inst.specs.Operand.{PlainInst}
+use Rattle.spv_module.specs.Operand.{PlainInst}
 use Rattle.spv_layout.specs.declared.class.Class.TheVariants.{Function}
 use Rattle.spv_layout.specs.Class.{is_among}
 use Rattle.spv_layout.specs.Row.{PlainRow, row_in}

@@ -1,10 +1,10 @@
 -- What the three looks at the flow refuse.
 use Rattle.std.proofs.Common.{ℕ, List}
-use Rattle.spv_grammar.specs.Table.{Table}
-use Rattle.spv_inst.specs.Operand.{PlainInst}
-use Rattle.spv_inst.specs.declared.fault.Rule.TheVariants.{G1}
-use Rattle.spv_inst.specs.declared.fault.Stop.{Stop}
-use Rattle.spv_inst.specs.declared.fault.Stop.TheVariants.{Fault, Memory}
+use Rattle.spv_table.specs.Table.{Table}
+use Rattle.spv_module.specs.Operand.{PlainInst}
+use Rattle.spv_module.specs.declared.fault.Rule.TheVariants.{G1}
+use Rattle.spv_module.specs.declared.fault.Stop.{Stop}
+use Rattle.spv_module.specs.declared.fault.Stop.TheVariants.{Fault, Memory}
 use Rattle.spv_layout.specs.First.{IsFirst, IsUnbroken}
 use Rattle.spv_ids.specs.Outcome.{IsStopAt}
 use Rattle.spv_branches.specs.Broken as branch_rules

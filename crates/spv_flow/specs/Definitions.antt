@@ -1,6 +1,6 @@
 -- The function definitions of a module. A function goes by the number of its OpFunction. [2.4]
 use Rattle.std.specs.Prelude.{◌≡◌, ◌<◌, ℕ, List, Some, length, slice_get}
-use Rattle.spv_inst.specs.Operand.{PlainInst}
+use Rattle.spv_module.specs.Operand.{PlainInst}
 use Rattle.spv_layout.specs.Place.{IsDefinition}
 
 -- The definitions before instruction n are just these functions, in order.

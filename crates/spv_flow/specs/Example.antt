@@ -1,6 +1,6 @@
 -- Small examples.
 use Rattle.std.specs.Prelude.{List, [], ◌∷◌}
-use Rattle.spv_inst.specs.Operand.{PlainInst}
+use Rattle.spv_module.specs.Operand.{PlainInst}
 use Rattle.spv_calls.specs.Example.{function, label, return_op, end}
 
 -- the definition of %1, of one block

@@ -1,14 +1,14 @@
 //! How many function definitions a module has.
 
 ghost use Rattle.std.specs.Prelude.{◌≡◌, ◌≤◌, ◌↔◌, ℕ, List, length, IsTrue, MatchOption};
-ghost use Rattle.spv_inst.specs.Operand.{PlainInst};
-ghost use Rattle.spv_inst.specs.Module.{plain_insts};
+ghost use Rattle.spv_module.specs.Operand.{PlainInst};
+ghost use Rattle.spv_module.specs.Module.{plain_insts};
 ghost use Rattle.spv_layout.specs.Place.{IsDefinition};
 ghost use Rattle.spv_calls.specs.Found.{ArePlaces, IsLate, IsOfDefinition};
 ghost use Rattle.spv_flow.specs.Definitions.{HasDefinitions};
 
-use spv_inst::Module;
 use spv_layout::Plan;
+use spv_module::Module;
 
 /// The opcode of OpFunction.
 const FUNCTION: u16 = 54;

@@ -1,10 +1,10 @@
 //! The first of the rules F, A and G that a module breaks.
 
 ghost use Rattle.std.specs.Prelude.{◌≡◌, ◌≤◌, ◌<◌, ◌+◌, ℕ, List, length, sum_by, IfOk, IfErr};
-ghost use Rattle.spv_grammar.specs.Table.{Table};
-ghost use Rattle.spv_inst.specs.Operand.{PlainInst};
-ghost use Rattle.spv_inst.specs.Module.{plain_insts};
-ghost use Rattle.spv_inst.specs.declared.fault.Rule.TheVariants.{G1};
+ghost use Rattle.spv_table.specs.Table.{Table};
+ghost use Rattle.spv_module.specs.Operand.{PlainInst};
+ghost use Rattle.spv_module.specs.Module.{plain_insts};
+ghost use Rattle.spv_module.specs.declared.fault.Rule.TheVariants.{G1};
 ghost use Rattle.spv_layout.specs.Place.{word_count};
 ghost use Rattle.spv_layout.specs.Plan.{IsPlan};
 ghost use Rattle.spv_ids.specs.Outcome.{AreIds, IsStopAt};
@@ -14,8 +14,8 @@ use crate::counting::count_definitions;
 use spv_branches::check_branches;
 use spv_calls::first_cycle;
 use spv_ids::Ids;
-use spv_inst::{Fault, Module, Rule, Stop};
 use spv_layout::Plan;
+use spv_module::{Fault, Module, Rule, Stop};
 use spv_types::Types;
 use spv_walks::check_values;
 use std::alloc::Global;

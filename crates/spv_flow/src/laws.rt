@@ -1,7 +1,7 @@
 //! Laws of the definitions, and worked examples. Each function does nothing: its contract is what is proved.
 
 ghost use Rattle.std.specs.Prelude.{◌≡◌, ℕ, List};
-ghost use Rattle.spv_inst.specs.Operand.{PlainInst};
+ghost use Rattle.spv_module.specs.Operand.{PlainInst};
 ghost use Rattle.spv_flow.specs.Definitions.{HasDefinitions};
 ghost use Rattle.spv_flow.specs.Example.{alone};
 

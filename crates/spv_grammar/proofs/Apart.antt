@@ -1,22 +1,22 @@
 -- In a table that a grammar file gives, no result kind stands among parameters or bases: rule J6.
-use Rattle.std.proofs.Common.{◌≡◌, ◌∙◌, ℕ, Bool, true, false, not, ◌&&◌, ◌||◌, List, [], ◌∷◌, Option, Some, None, option_map, option_and_then, slice_get, length, nat_lt, bytes_eq, codes, refl, sym, ap, true≢false}
+use Rattle.std.proofs.Common.{◌≡◌, ◌∙◌, ℕ, Bool, true, false, not, ◌&&◌, ◌||◌, List, [], ◌∷◌, Option, Some, None, option_map, option_and_then, slice_get, length, nat_lt, ◌<◌, ◌^◌, bytes_eq, codes, refl, sym, ap, true≢false}
 use Rattle.std.specs.List.{list_all, filter, find, position_or_len}
 use Rattle.std.proofs.lemmas.Slice.Eq.{bytes_eq-Decides}
-use Rattle.spv_grammar.specs.declared.table.Category.{Category}
-use Rattle.spv_grammar.specs.declared.table.Category.TheVariants as category
-use Rattle.spv_grammar.specs.declared.table.Enumerant.{Enumerant}
+use Rattle.spv_table.specs.declared.table.Category.{Category}
+use Rattle.spv_table.specs.declared.table.Category.TheVariants as category
+use Rattle.spv_table.specs.declared.table.Enumerant.{Enumerant}
 use Rattle.spv_grammar.specs.declared.file.FileOperand.{FileOperand}
 use Rattle.spv_grammar.specs.declared.file.FileEnumerant.{FileEnumerant}
 use Rattle.spv_grammar.specs.declared.file.FileKind.{FileKind}
 use Rattle.spv_grammar.specs.declared.file.File.{File}
-use Rattle.spv_grammar.specs.Table.{Table, Sort}
+use Rattle.spv_table.specs.Table.{Table, Sort}
 use Rattle.spv_grammar.specs.Kinds.{first_kinds, number_in, bears, is_id_category, is_result}
 use Rattle.spv_grammar.specs.Kinds as kinds
 use Rattle.spv_grammar.specs.Rules.{has_no_results, are_no_results, places_results}
-use Rattle.spv_grammar.specs.Made.{all_of, parameter_of, enumerant_from, is_kept, sort_from, IsTable}
-use Rattle.spv_grammar.specs.Answer.{Gives, IsGiven, file_breaks}
-use Rattle.spv_grammar.proofs.Whole.{and_left, and_right, and_both, all_kept, all_firsts, some_same, not_some, parts_of, all_follow, next_of, place_is, rules_kept}
-use Rattle.spv_grammar.specs.Apart.{is_id, is_other_sort, is_other, has_other_parts}
+use Rattle.spv_grammar.specs.Made.{all_of, parameter_of, enumerant_from, is_kept, sort_from}
+use Rattle.spv_grammar.specs.Answer.{IsGiven, file_breaks}
+use Rattle.spv_grammar.proofs.Whole.{and_left, and_right, and_both, all_kept, all_firsts, some_same, not_some, parts_of, all_follow, next_of, place_is, rules_kept, file_whole}
+use Rattle.spv_table.specs.Table.{is_id, is_other_sort, is_other, has_other_parts, IsWhole}
 
 -- ---- what is made of a kind and of an enumerant
 
@@ -121,12 +121,22 @@ module _ (firsts : List FileKind) (G : Table) (made : all_of (sort_from firsts) 
       (filter (is_kept k.category) k.enumerants) s.enumerants m.enumerants_are (all_kept (λ (e : FileEnumerant). are_no_results firsts e.parameters) (is_kept k.category) k.enumerants parameters))
       (all_follow (number_in firsts) (λ (name : List ℕ). not (is_result firsts name)) (is_other G) number_other k.bases s.kind.bases m.bases_are bases)
 
-file_apart : (file : File) (G : Table) → file_breaks file ≡ None → IsTable file G → list_all (has_other_parts G) G.kinds ≡ true
-file_apart file G unbroken table =
+kinds_apart : (file : File) (G : Table) → file_breaks file ≡ None → all_of (sort_from (first_kinds file.kinds)) (first_kinds file.kinds) ≡ Some G.kinds → list_all (has_other_parts G) G.kinds ≡ true
+kinds_apart file G unbroken made =
     let firsts = first_kinds file.kinds in
     let kept = rules_kept file firsts refl unbroken in
     let none = and_right (list_all (λ i. places_results firsts i.operands) file.instructions) (list_all (has_no_results firsts) file.kinds) kept.results in
-    all_follow (sort_from firsts) (has_no_results firsts) (has_other_parts G) (sort_other firsts G table.kinds) firsts G.kinds table.kinds (all_firsts (has_no_results firsts) file.kinds none)
+    all_follow (sort_from firsts) (has_no_results firsts) (has_other_parts G) (sort_other firsts G made) firsts G.kinds made (all_firsts (has_no_results firsts) file.kinds none)
+
+-- the table that an unbroken file makes is whole
+pub made_whole : (file : File) (firsts : List FileKind) (G : Table) → firsts ≡ first_kinds file.kinds → file_breaks file ≡ None → all_of (sort_from firsts) firsts ≡ Some G.kinds → length firsts < 2 ^ 32 → IsWhole G
+made_whole file firsts G numbered unbroken made few =
+    let based = file_whole file firsts numbered unbroken G made few in
+    record {
+      sound = based.sound;
+      count = based.count;
+      apart = kinds_apart file G unbroken (ap (λ (ks : List FileKind). all_of (sort_from ks) ks) (sym numbered) ∙ made);
+    }
 
 pub given_apart : (G : Table) → IsGiven G → list_all (has_other_parts G) G.kinds ≡ true
-given_apart G given = let g = given.1 in file_apart g.file G g.unbroken g.table
+given_apart G given = let g = given.1 in kinds_apart g.file G g.unbroken g.table.kinds

@@ -1,18 +1,18 @@
 -- The first of the elements that a list makes is what its first element makes.
 use Rattle.std.proofs.Common.{◌≡◌, ℕ, ◌+◌, zero, suc, Bool, true, false, cond, nat_eq, List, [], ◌∷◌, Option, Some, None, option_map, option_and_then, slice_get, position, filter, refl, sym, ap, ◌∙◌}
 use Rattle.std.specs.List.{find, position_from}
-use Rattle.spv_grammar.specs.declared.table.Category.{Category}
-use Rattle.spv_grammar.specs.declared.table.Item.{Item}
-use Rattle.spv_grammar.specs.declared.table.Entry.{Entry}
-use Rattle.spv_grammar.specs.declared.table.Enumerant.{Enumerant}
+use Rattle.spv_table.specs.declared.table.Category.{Category}
+use Rattle.spv_table.specs.declared.table.Item.{Item}
+use Rattle.spv_table.specs.declared.table.Entry.{Entry}
+use Rattle.spv_table.specs.declared.table.Enumerant.{Enumerant}
 use Rattle.spv_grammar.specs.declared.file.FileInstruction.{FileInstruction}
 use Rattle.spv_grammar.specs.declared.file.FileEnumerant.{FileEnumerant}
 use Rattle.spv_grammar.specs.declared.file.FileKind.{FileKind}
-use Rattle.spv_grammar.specs.Table.{Sort, first_with}
+use Rattle.spv_table.specs.Table.{Sort, first_with}
 use Rattle.spv_grammar.specs.Kinds.{number_in}
-use Rattle.spv_grammar.specs.Lookups.{is_number}
+use Rattle.spv_grammar.specs.FileLookups.{is_number}
 use Rattle.spv_grammar.specs.Made.{all_of, item_of, entry_from, parameter_of, enumerant_from, is_kept, sort_from}
-use Rattle.spv_grammar.proofs.Backward.{position_from-zero}
+use Rattle.spv_table.proofs.Backward.{position_from-zero}
 use Rattle.spv_grammar.proofs.Whole.{some_same, not_some, parts_of}
 
 pub first_with-is : {A : Type 0} (number : A → ℕ) (n : ℕ) (xs : List A) → first_with number n xs ≡ find (λ x. nat_eq (number x) n) xs

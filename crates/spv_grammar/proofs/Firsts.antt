@@ -1,9 +1,7 @@
 -- The kinds, each name once, as a list grows at its end.
-use Rattle.std.proofs.Common.{◌≡◌, ℕ, ◌<◌, ◌+◌, Bool, true, false, not, if◌then◌else◌, List, [], ◌∷◌, ◌++◌, Option, option_and_then, slice_get, nat_lt, ◌≤◌, refl, sym, ap, ◌∙◌, filter, map, length, take, get_or, position, add-one, arith, Bor}
+use Rattle.std.proofs.Common.{◌≡◌, ℕ, ◌<◌, ◌+◌, Bool, true, false, not, if◌then◌else◌, List, [], ◌∷◌, ◌++◌, refl, sym, ap, ◌∙◌, filter, map, length, take, get_or, position, add-one, arith, Bor}
 use Rattle.std.proofs.lemmas.List.{length-map}
-use Rattle.std.specs.List.{list_any, position_or_len, find}
-use Rattle.std.proofs.lemmas.List.Folds.{find_at}
-use Rattle.std.proofs.lemmas.Option.{slice_get_past}
+use Rattle.std.specs.List.{list_any, position_or_len}
 use Rattle.std.specs.Str.{bytes_eq}
 use Rattle.std.specs.Cmp.Lexicographic.{nat_list_eq_equiv}
 use Rattle.std.proofs.lemmas.List.Elements.{filter-append}
@@ -71,13 +69,3 @@ pub same_numbers : (keys : List (Bor (List ℕ))) (firsts : List (Bor FileKind))
     → position (λ y. bytes_eq name y.now) keys ≡ number_in (map (λ k. k.now) firsts) name
 same_numbers keys firsts name e =
     sym (position-map (bytes_eq name) (λ (k : Bor (List ℕ)). k.now) keys) ∙ ap (position (bytes_eq name)) e ∙ position-map (bytes_eq name) (λ (k : Bor FileKind). k.now.name) firsts ∙ sym (position-map (bears name) (λ (k : Bor FileKind). k.now) firsts)
-
--- the element at the first place
-pub found_at : {X : Type 0} (p : X → Bool) (xs : List X) (r : Option ℕ) → r ≡ position p xs → find p xs ≡ option_and_then (slice_get xs) r
-found_at p xs r e = by (nat_lt (position_or_len p xs) (length xs)) refl
-  where
-    by : (b : Bool) → nat_lt (position_or_len p xs) (length xs) ≡ b → find p xs ≡ option_and_then (slice_get xs) r
-    by true t = rw (e, t) (find_at p xs)
-    by false t =
-        let past : length xs ≤ position_or_len p xs = grind (arith, common_steps) in
-        rw (e, t) (find_at p xs ∙ slice_get_past xs (position_or_len p xs) past)

@@ -3,8 +3,5 @@ pub mod Hex
 pub mod Firsts
 pub mod Whole
 pub mod Apart
-pub mod Backward
-pub mod Search
 pub mod Elements
 mod Turns
-mod Slots

@@ -1,9 +1,9 @@
 -- A file that keeps the rules makes a table, and a whole one.
 use Rattle.std.proofs.Common.{◌≡◌, ℕ, ◌<◌, ◌+◌, suc, Bool, true, false, not, ◌&&◌, List, [], ◌∷◌, Option, Some, None, option_map, option_and_then, is_some, slice_get, length, unwrap_or, cond, nat_lt, ◌^◌, Err, if◌then◌else◌, refl, sym, ap, ◌∙◌, true≢false, arith}
 use Rattle.std.specs.List.{list_all, filter, find, position_or_len}
-use Rattle.spv_grammar.specs.declared.table.Category.{Category}
-use Rattle.spv_grammar.specs.declared.table.Category.TheVariants as category
-use Rattle.spv_grammar.specs.declared.table.Enumerant.{Enumerant}
+use Rattle.spv_table.specs.declared.table.Category.{Category}
+use Rattle.spv_table.specs.declared.table.Category.TheVariants as category
+use Rattle.spv_table.specs.declared.table.Enumerant.{Enumerant}
 use Rattle.spv_grammar.specs.declared.error.GrammarError.{GrammarError}
 use Rattle.spv_grammar.specs.declared.error.GrammarError.TheVariants.{J1, J2, J3, J4, J5, J6, J7, J8}
 use Rattle.spv_grammar.specs.declared.file.FileOperand.{FileOperand}
@@ -11,7 +11,7 @@ use Rattle.spv_grammar.specs.declared.file.FileInstruction.{FileInstruction}
 use Rattle.spv_grammar.specs.declared.file.FileEnumerant.{FileEnumerant}
 use Rattle.spv_grammar.specs.declared.file.FileKind.{FileKind}
 use Rattle.spv_grammar.specs.declared.file.File.{File}
-use Rattle.spv_grammar.specs.Table.{Table, Sort, is_simple, is_simple_category, is_sound, is_sound_category, are_bases, kind_of, IsWhole}
+use Rattle.spv_table.specs.Table.{Table, Sort, is_simple, is_simple_category, is_sound, is_sound_category, are_bases, kind_of}
 use Rattle.spv_grammar.specs.Kinds.{first_kinds, number_in, kind_named, bears, is_part, is_part_category}
 use Rattle.spv_grammar.specs.Rules.{has_opcodes, has_values, are_named, have_named, are_kinds, names_kinds, are_quantified, have_quantified, is_known_kind, are_parts, composes, is_composed, has_numbers, has_kinds, is_known, has_results, has_bases}
 use Rattle.spv_grammar.specs.Made.{all_of, item_of, entry_from, parameter_of, enumerant_from, is_kept, sort_from, Makes}
@@ -239,8 +239,13 @@ module _ (firsts : List FileKind) (G : Table) (made : all_of (sort_from firsts) 
       let p = sort_parts firsts k s h in
       category_sound s.kind.category k.bases s.kind.bases (ap (λ c. composes firsts c k.bases) (sym p.category_is) ∙ composed) p.bases_are
 
--- the table that a file with right bases makes is whole
-pub whole : (ks firsts : List FileKind) (G : Table) → firsts ≡ first_kinds ks → list_all (is_composed firsts) ks ≡ true → all_of (sort_from firsts) firsts ≡ Some G.kinds → length firsts < 2 ^ 32 → IsWhole G
+-- what the bases of a file and the number of its kinds make of a table
+pub record IsBased (G : Table) : Type 0 where
+  pub sound : list_all (is_sound G) G.kinds ≡ true
+  pub count : length G.kinds < 2 ^ 32
+
+-- so is the table that a file with right bases makes
+pub whole : (ks firsts : List FileKind) (G : Table) → firsts ≡ first_kinds ks → list_all (is_composed firsts) ks ≡ true → all_of (sort_from firsts) firsts ≡ Some G.kinds → length firsts < 2 ^ 32 → IsBased G
 whole ks firsts G e composed made few = record {
   sound = all_follow (sort_from firsts) (is_composed firsts) (is_sound G) (sort_sound firsts G made) firsts G.kinds made (ap (list_all (is_composed firsts)) e ∙ all_firsts (is_composed firsts) ks composed);
   count = rw (made_length (sort_from firsts) firsts G.kinds made) few;
@@ -298,5 +303,5 @@ module _ (file : File) (firsts : List FileKind) (numbered : firsts ≡ first_kin
       (and_right (list_all (λ i. are_named firsts i.operands) file.instructions) (list_all (names_kinds firsts) file.kinds) named)
       (and_right (list_all (λ i. are_quantified i.operands) file.instructions) (list_all is_known_kind file.kinds) rules_kept.known)
 
-  pub file_whole : (G : Table) → all_of (sort_from firsts) firsts ≡ Some G.kinds → length firsts < 2 ^ 32 → IsWhole G
+  pub file_whole : (G : Table) → all_of (sort_from firsts) firsts ≡ Some G.kinds → length firsts < 2 ^ 32 → IsBased G
   file_whole G made few = whole file.kinds firsts G numbered (ap (λ ks. has_bases ks file) numbered ∙ rules_kept.bases) made few

@@ -5,7 +5,7 @@ use Rattle.serde_json.specs.Read.{read}
 use Rattle.spv_grammar.specs.declared.error.GrammarError.{GrammarError}
 use Rattle.spv_grammar.specs.declared.error.GrammarError.TheVariants.{J1, J2, J3, J4, J5, J6, J7}
 use Rattle.spv_grammar.specs.declared.file.File.{File}
-use Rattle.spv_grammar.specs.Table.{Table}
+use Rattle.spv_table.specs.Table.{Table}
 use Rattle.spv_grammar.specs.Kinds.{first_kinds}
 use Rattle.spv_grammar.specs.File.{file_of}
 use Rattle.spv_grammar.specs.Rules.{has_numbers, has_kinds, is_known, has_results, has_bases}

@@ -1,15 +1,15 @@
 -- Small parts of a file, for the worked examples.
 use Rattle.std.specs.Prelude.{ℕ, List, [], ◌∷◌, Some, None, codes}
 use Rattle.serde_json.specs.Data.{Data, string, array, object, no_items, no_members, member}
-use Rattle.spv_grammar.specs.declared.table.Category.TheVariants as category
-use Rattle.spv_grammar.specs.declared.table.Quantifier.TheVariants as quantifier
-use Rattle.spv_grammar.specs.declared.table.Enumerant.{Enumerant}
+use Rattle.spv_table.specs.declared.table.Category.TheVariants as category
+use Rattle.spv_table.specs.declared.table.Quantifier.TheVariants as quantifier
+use Rattle.spv_table.specs.declared.table.Enumerant.{Enumerant}
 use Rattle.spv_grammar.specs.declared.file.FileOperand.{FileOperand}
 use Rattle.spv_grammar.specs.declared.file.FileInstruction.{FileInstruction}
 use Rattle.spv_grammar.specs.declared.file.FileEnumerant.{FileEnumerant}
 use Rattle.spv_grammar.specs.declared.file.FileKind.{FileKind}
 use Rattle.spv_grammar.specs.declared.file.File.{File}
-use Rattle.spv_grammar.specs.Table.{Table}
+use Rattle.spv_table.specs.Table.{Table}
 
 -- kinds A and B of ids, and a literal that bears the name A again
 abbrev pub a_kind : FileKind
@@ -46,9 +46,6 @@ valued v = record { name = codes "E"; value = Some v; parameters = []; capabilit
 abbrev pub empty_tree : Data
 empty_tree = object (member (codes "instructions") (array no_items) (member (codes "operand_kinds") (array no_items) no_members))
 
-abbrev pub empty_table : Table
-empty_table = record { kinds = []; entries = [] }
-
 -- the tree {"kind":"A","quantifier":"?"}
 abbrev pub operand_tree : Data
 operand_tree = object (member (codes "kind") (string (codes "A")) (member (codes "quantifier") (string (codes "?")) no_members))
@@ -84,11 +81,3 @@ kept_one = record { name = codes "Kept"; value = 1; parameters = []; capabilitie
 -- a table of these two kinds, where the first has some enumerants
 abbrev pub twice_table : List Enumerant → Table
 twice_table es = record { kinds = record { kind = record { name = codes "Twice"; category = category.ValueEnum; bases = [] }; enumerants = es } ∷ record { kind = record { name = codes "A"; category = category.Id; bases = [] }; enumerants = [] } ∷ []; entries = [] }
-
--- a capability that lists names
-abbrev pub capability : List ℕ → ℕ → List (List ℕ) → Enumerant
-capability name value names = record { name = name; value = value; parameters = []; capabilities = names }
-
--- a table of the kind Capability: 1 lists nothing, 2 lists 1, 3 lists 2, and 4 lists a name that no capability bears
-abbrev pub capability_table : Table
-capability_table = record { kinds = record { kind = record { name = codes "Capability"; category = category.ValueEnum; bases = [] }; enumerants = capability (codes "A") 1 [] ∷ capability (codes "B") 2 (codes "A" ∷ []) ∷ capability (codes "C") 3 (codes "B" ∷ []) ∷ capability (codes "D") 4 (codes "X" ∷ []) ∷ [] } ∷ []; entries = [] }

@@ -5,10 +5,10 @@ use Rattle.serde_json.specs.Data.{Num, Data, Items, no_items, item}
 use Rattle.serde_json.specs.Find.{get, as_array, as_number, as_str, as_u64}
 use Rattle.spv_grammar.specs.declared.error.GrammarError.{GrammarError}
 use Rattle.spv_grammar.specs.declared.error.GrammarError.TheVariants.{J2, J8}
-use Rattle.spv_grammar.specs.declared.table.Quantifier.{Quantifier}
-use Rattle.spv_grammar.specs.declared.table.Quantifier.TheVariants as quantifier
-use Rattle.spv_grammar.specs.declared.table.Category.{Category}
-use Rattle.spv_grammar.specs.declared.table.Category.TheVariants as category
+use Rattle.spv_table.specs.declared.table.Quantifier.{Quantifier}
+use Rattle.spv_table.specs.declared.table.Quantifier.TheVariants as quantifier
+use Rattle.spv_table.specs.declared.table.Category.{Category}
+use Rattle.spv_table.specs.declared.table.Category.TheVariants as category
 use Rattle.spv_grammar.specs.declared.file.FileOperand.{FileOperand}
 use Rattle.spv_grammar.specs.declared.file.FileInstruction.{FileInstruction}
 use Rattle.spv_grammar.specs.declared.file.FileEnumerant.{FileEnumerant}

@@ -4,17 +4,17 @@ use Rattle.std.specs.List.{list_all, filter}
 use Rattle.std.specs.Int.{is_power_of_two}
 use Rattle.spv_grammar.specs.declared.error.GrammarError.{GrammarError}
 use Rattle.spv_grammar.specs.declared.error.GrammarError.TheVariants.{J8}
-use Rattle.spv_grammar.specs.declared.table.Category.{Category}
-use Rattle.spv_grammar.specs.declared.table.Category.TheVariants as category
-use Rattle.spv_grammar.specs.declared.table.Item.{Item}
-use Rattle.spv_grammar.specs.declared.table.Entry.{Entry}
-use Rattle.spv_grammar.specs.declared.table.Enumerant.{Enumerant}
+use Rattle.spv_table.specs.declared.table.Category.{Category}
+use Rattle.spv_table.specs.declared.table.Category.TheVariants as category
+use Rattle.spv_table.specs.declared.table.Item.{Item}
+use Rattle.spv_table.specs.declared.table.Entry.{Entry}
+use Rattle.spv_table.specs.declared.table.Enumerant.{Enumerant}
 use Rattle.spv_grammar.specs.declared.file.FileOperand.{FileOperand}
 use Rattle.spv_grammar.specs.declared.file.FileInstruction.{FileInstruction}
 use Rattle.spv_grammar.specs.declared.file.FileEnumerant.{FileEnumerant}
 use Rattle.spv_grammar.specs.declared.file.FileKind.{FileKind}
 use Rattle.spv_grammar.specs.declared.file.File.{File}
-use Rattle.spv_grammar.specs.Table.{Table, Sort}
+use Rattle.spv_table.specs.Table.{Table, Sort}
 use Rattle.spv_grammar.specs.Kinds.{first_kinds, number_in}
 use Rattle.spv_grammar.specs.Rules.{is_one}
 

@@ -1,7 +1,7 @@
 //! What a grammar file holds, before kinds are numbered and codes other than J2 are looked for.
 
 use crate::lent::{Lent, LentName};
-use crate::table::{Category, Quantifier};
+use spv_table::{Category, Quantifier};
 
 /// An operand of an instruction, or a parameter of an enumerant.
 #[derive(Debug, Drop)]

@@ -5,20 +5,23 @@ ghost use Rattle.std.specs.Prelude.{◌≡◌, ℕ, List, [], ◌∷◌, Some, N
 ghost use Rattle.serde_json.specs.Data.{Data, object, no_members};
 ghost use Rattle.spv_grammar.specs.declared.error.GrammarError.{GrammarError};
 ghost use Rattle.spv_grammar.specs.declared.error.GrammarError.TheVariants.{J2, J3, J4, J5, J6, J7};
-ghost use Rattle.spv_grammar.specs.declared.table.Category.TheVariants.{BitEnum, ValueEnum};
-ghost use Rattle.spv_grammar.specs.declared.table.Quantifier.TheVariants.{Maybe};
+ghost use Rattle.spv_table.specs.declared.table.Category.TheVariants.{BitEnum, ValueEnum};
+ghost use Rattle.spv_table.specs.declared.table.Quantifier.TheVariants.{Maybe};
 ghost use Rattle.spv_grammar.specs.declared.file.File.{File};
 ghost use Rattle.spv_grammar.specs.declared.file.FileKind.{FileKind};
-ghost use Rattle.spv_grammar.specs.Table.{Table, Sort, entry_of, kind_of, enumerant_of};
-ghost use Rattle.spv_grammar.specs.Lookups.{opcode_named, value_named, number_named, instruction_with, instruction_named, enumerant_with, enumerant_named};
+ghost use Rattle.spv_table.specs.Table.{Table, Sort, entry_of, kind_of, enumerant_of};
+ghost use Rattle.spv_table.specs.Lookups.{opcode_named, value_named, number_named};
+ghost use Rattle.spv_grammar.specs.FileLookups.{instruction_with, instruction_named, enumerant_with, enumerant_named};
 ghost use Rattle.spv_grammar.specs.File.{quantifier_of, operand_of, bit_value_of, file_of};
 ghost use Rattle.spv_grammar.specs.Kinds.{first_kinds, number_in};
 ghost use Rattle.spv_grammar.specs.Made.{entry_from, enumerant_from, is_kept, sort_from, IsTable};
-ghost use Rattle.spv_grammar.specs.Implied.{Lists, Implied};
 ghost use Rattle.spv_grammar.specs.Answer.{file_breaks, tree_breaks, Gives, IsGiven};
-ghost use Rattle.spv_grammar.specs.Apart.{has_other_parts};
+ghost use Rattle.spv_table.specs.Table.{has_other_parts};
 ghost use Rattle.std.specs.List.{list_all};
-ghost use Rattle.spv_grammar.specs.Example.{a_kind, b_kind, a_again, once, unknown, instruction, no_opcode, file_with, valued, empty_tree, empty_table, operand_tree, result_kind, composite, file_of_kinds, twice_file, twice_table, dropped_one, kept_one, capability_table};
+ghost use Rattle.spv_grammar.specs.Example.{a_kind, b_kind, a_again, once, unknown, instruction, no_opcode, file_with, valued, empty_tree, operand_tree, result_kind, composite, file_of_kinds, twice_file, twice_table, dropped_one, kept_one};
+ghost use Rattle.spv_table.specs.Example.{empty_table};
+
+pub use spv_table::laws::capability_examples;
 
 /// A tree gives at most one table, and one that gives a table breaks no code.
 pub fn one_table()
@@ -88,18 +91,4 @@ pub fn more_table_examples()
     // Of two enumerants of one value the table has the second alone where the first is dropped.
     ensures kept { IsTable twice_file (twice_table (kept_one ∷ [])) }
     ensures dropped { ¬ IsTable twice_file (twice_table (dropped_one ∷ kept_one ∷ [])) }
-{}
-
-/// Worked examples of what declared capabilities imply.
-pub fn capability_examples()
-    // 3 lists 2, which lists 1.
-    ensures listed { Lists capability_table 3 2 }
-    ensures implied { Implied capability_table (3 ∷ []) 1 }
-    // 1 lists nothing, so 3 is not implied by it.
-    ensures not_backward { ¬ Implied capability_table (1 ∷ []) 3 }
-    // A declared number is implied though there is no such capability.
-    ensures declared { Implied capability_table (9 ∷ []) 9 }
-    // A name that no capability bears lists nothing, and nor does a table without the kind Capability.
-    ensures unknown_name { (c : ℕ) → ¬ Lists capability_table 4 c }
-    ensures no_kind { (a c : ℕ) → ¬ Lists empty_table a c }
 {}

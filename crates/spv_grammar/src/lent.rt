@@ -2,9 +2,9 @@
 
 ghost use Rattle.std.specs.Prelude.{◌≡◌, IfOk};
 
-use crate::listed::Name;
 use bumpalo::Bump;
 use bumpalo::collections::into_bump_slice;
+use spv_table::Name;
 use std::alloc::{AllocError, Global};
 use std::marker::Model;
 

@@ -1,23 +1,19 @@
-//! The grammar table: which instructions, operand kinds and enumerants a grammar file has.
+//! The grammar table of a grammar file.
 #![tactic(auto)]
 
 mod error;
 mod file;
-mod implied;
 pub mod laws;
 mod lent;
-mod listed;
 mod load;
 mod make;
-mod named;
 mod numbers;
-mod places;
 mod read;
 mod rules;
 mod shared;
-mod sort;
-mod table;
 
-pub use error::{GrammarError, Memory};
-pub use listed::{Listed, Name, NameList};
-pub use table::{Category, Entry, Enumerant, Item, Kind, Quantifier, Table};
+pub use error::GrammarError;
+pub use load::FromGrammar;
+pub use spv_table::{
+    Category, Entry, Enumerant, Item, Kind, Listed, Memory, Name, NameList, Quantifier, Table,
+};

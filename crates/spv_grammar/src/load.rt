@@ -1,6 +1,6 @@
 //! A table from a grammar file.
 
-ghost use Rattle.std.specs.Prelude.{◌≡◌, ◌≢◌, ◌<◌, ◌^◌, length, None, Some, IfOk, IfErr, IsErrOf, IsUtf8, map};
+ghost use Rattle.std.specs.Prelude.{◌≡◌, ◌≢◌, ◌<◌, ◌^◌, length, None, Some, IfOk, IfErr, IsErrOf, IsUtf8};
 ghost use Rattle.serde_json.specs.View.{view};
 ghost use Rattle.json_tree.specs.View.{view as tree_view};
 ghost use Rattle.serde_json.specs.Data.{Data};
@@ -14,12 +14,12 @@ use crate::error::GrammarError;
 use crate::file::File;
 use crate::numbers::Numbers;
 use crate::read::read_file;
-use crate::table::Table;
 use crate::{make, rules};
 use bumpalo::Bump;
 use json::Scratch;
 use json_tree::{Refused, Tree};
 use serde_json::Value;
+use spv_table::Table;
 use std::alloc::Global;
 
 /// The least of J3 to J7 that a file breaks.
@@ -52,7 +52,7 @@ fn made(alloc: Global, numbers: &Numbers<'_>, file: &File<'_>) -> Result<Table, 
 {
     let entries = make::entries(alloc, numbers, file.instructions.as_slice())?;
     let sorts = make::sorts(alloc, numbers)?;
-    Table::new(alloc, sorts, entries)
+    Ok(Table::new(alloc, sorts, entries)?)
 }
 
 /// The table that a file makes, or the least of J3 to J7 that it breaks.
@@ -67,11 +67,22 @@ fn from_file(alloc: Global, file: &File<'_>) -> Result<Table, GrammarError>
     }
 }
 
-impl Table {
-    /// The table of a grammar file's tree.
+/// What a grammar file gives: a `Table`.
+pub trait FromGrammar: Sized {
+    /// The table of a grammar file's tree, in the form of `spirv.core.grammar.json`.
     ///
     /// Of J2 to J7 the least that the tree breaks is told, and J8 where memory ran out.
-    pub fn from_value(alloc: Global, value: &Value) -> Result<Table, GrammarError>
+    fn from_value(alloc: Global, value: &Value) -> Result<Self, GrammarError>;
+
+    /// The table of a grammar file's text.
+    ///
+    /// J1 is told where the text is no JSON of at most 127 levels, and else what `from_value` tells
+    /// of its tree.
+    fn from_slice(alloc: Global, text: &[u8]) -> Result<Self, GrammarError>;
+}
+
+impl FromGrammar for Table {
+    fn from_value(alloc: Global, value: &Value) -> Result<Table, GrammarError>
         ensures table { IfOk result (λ G. Gives (view value.now) G) }
         ensures refused { IfErr result (λ e. e ≢ J8 → tree_breaks (view value.now) ≡ Some e) }
     {
@@ -80,11 +91,7 @@ impl Table {
         from_tree(alloc, &arena, &tree)
     }
 
-    /// The table of a grammar file's text.
-    ///
-    /// J1 is told where the text is no JSON of at most 127 levels, and else what `from_value` tells
-    /// of its tree.
-    pub fn from_slice(alloc: Global, text: &[u8]) -> Result<Table, GrammarError>
+    fn from_slice(alloc: Global, text: &[u8]) -> Result<Table, GrammarError>
         ensures table { IfOk result (λ G. (d : Data) × IsUtf8 text.now × (read_text text.now ≡ Some d) × Gives d G) }
         ensures refused { IfErr result (λ e. e ≢ J8 → text_breaks text.now e) }
     {

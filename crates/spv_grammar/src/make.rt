@@ -9,12 +9,10 @@ ghost use Rattle.spv_grammar.specs.Rules.{is_one};
 use crate::error::GrammarError;
 use crate::file::{FileEnumerant, FileInstruction, FileKind, FileOperand};
 use crate::lent::LentName;
-use crate::listed::Listed;
 use crate::numbers::Numbers;
 use crate::rules::is_one;
 use crate::shared::Lists;
-use crate::sort::Sort;
-use crate::table::{Category, Entry, Enumerant, Item, Kind};
+use spv_table::{Category, Entry, Enumerant, Item, Kind, Listed, Sort};
 use std::alloc::Global;
 
 /// An item of a pattern.

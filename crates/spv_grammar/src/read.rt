@@ -8,9 +8,9 @@ ghost use Rattle.spv_grammar.specs.File.{Reads, each, text_at, items_at, quantif
 use crate::error::GrammarError;
 use crate::file::{File, FileEnumerant, FileInstruction, FileKind, FileOperand};
 use crate::lent::{Lent, LentName};
-use crate::table::{Category, Quantifier};
 use bumpalo::Bump;
 use json_tree::Tree;
+use spv_table::{Category, Quantifier};
 
 /// The text at a key.
 fn text<'a>(value: &Tree<'a>, key: &str) -> Option<&'a str>

@@ -8,7 +8,7 @@ ghost use Rattle.spv_grammar.specs.Kinds.{kind_named, is_part_category, is_id_ca
 use crate::file::{File, FileEnumerant, FileInstruction, FileKind, FileOperand};
 use crate::lent::LentName;
 use crate::numbers::Numbers;
-use crate::table::{Category, Quantifier};
+use spv_table::{Category, Quantifier};
 
 /// Whether each opcode is in its range.
 fn has_opcodes(instructions: &[FileInstruction<'_>]) -> bool

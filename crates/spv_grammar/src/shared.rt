@@ -3,7 +3,7 @@
 ghost use Rattle.std.specs.Prelude.{◌≡◌, IsTrue, IfOk};
 
 use crate::lent::LentName;
-use crate::listed::{Name, NameList};
+use spv_table::{Name, NameList};
 use std::alloc::{AllocError, Global};
 
 /// Whether two lists of names are equal.

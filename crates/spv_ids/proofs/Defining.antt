@@ -5,9 +5,9 @@ use Rattle.std.proofs.lemmas.List.Sums.{sum_by-cons}
 use Rattle.spv_layout.specs.Place.{word_count}
 use Rattle.std.proofs.lemmas.Bool.{cases_order}
 use Rattle.std.proofs.lemmas.Option.{slice_get-map, slice_get-get_or, slice_get_read, slice_get_within}
-use Rattle.spv_inst.specs.declared.module.Inst.{Inst}
-use Rattle.spv_inst.specs.Operand.{PlainInst, result_in}
-use Rattle.spv_inst.specs.Module.{plain_inst}
+use Rattle.spv_module.specs.declared.module.Inst.{Inst}
+use Rattle.spv_module.specs.Operand.{PlainInst, result_in}
+use Rattle.spv_module.specs.Module.{plain_inst}
 use Rattle.spv_ids.specs.Definition.{IsDefinedAt}
 
 -- below n, or n

@@ -2,11 +2,11 @@
 use Rattle.std.proofs.Common.{◌≡◌, ◌<◌, ◌≤◌, ◌+◌, ℕ, List, refl, sym, Some, None, length, map, arith, get_or}
 use Rattle.std.specs.Prelude.{slice_get}
 use Rattle.std.proofs.lemmas.List.{length-map}
-use Rattle.spv_inst.specs.declared.module.Inst.{Inst}
-use Rattle.spv_inst.specs.declared.operand.Operand.{Operand}
-use Rattle.spv_inst.specs.declared.fault.Rule.{Rule}
-use Rattle.spv_inst.specs.Operand.{PlainInst}
-use Rattle.spv_inst.specs.Module.{plain_inst, plain_operand}
+use Rattle.spv_module.specs.declared.module.Inst.{Inst}
+use Rattle.spv_module.specs.declared.operand.Operand.{Operand}
+use Rattle.spv_module.specs.declared.fault.Rule.{Rule}
+use Rattle.spv_module.specs.Operand.{PlainInst}
+use Rattle.spv_module.specs.Module.{plain_inst, plain_operand}
 use Rattle.spv_ids.specs.declared.notes.Notes.{Notes}
 use Rattle.spv_ids.specs.declared.survey.Survey.{Survey}
 use Rattle.spv_ids.specs.Order.{Announces}

@@ -3,9 +3,9 @@ use Rattle.std.proofs.Common.{◌≡◌, ◌∙◌, ◌<◌, ◌≤◌, ℕ, Lis
 use Rattle.std.specs.Prelude.{MatchOption, MatchBool, IfSome, not, ◌&&◌, ◌||◌}
 use Rattle.std.specs.Option.{is_some}
 use Rattle.std.proofs.lemmas.Bool.{cases_lt}
-use Rattle.spv_inst.specs.Operand.{PlainInst}
-use Rattle.spv_inst.specs.declared.fault.Rule.{Rule}
-use Rattle.spv_inst.specs.declared.fault.Rule.TheVariants.{D1, D3, D4, D5}
+use Rattle.spv_module.specs.Operand.{PlainInst}
+use Rattle.spv_module.specs.declared.fault.Rule.{Rule}
+use Rattle.spv_module.specs.declared.fault.Rule.TheVariants.{D1, D3, D4, D5}
 use Rattle.spv_layout.specs.First.{rank_of}
 use Rattle.spv_layout.specs.Place.{IsOfSection, IsOfFunction}
 use Rattle.spv_layout.proofs.Places.{section_same, function_same}

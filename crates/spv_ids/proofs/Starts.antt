@@ -1,9 +1,9 @@
 -- The result of an instruction that fits its row is its first or second operand.
 use Rattle.std.proofs.Common.{◌≡◌, ◌++◌, ℕ, List, [], ◌∷◌, refl, Bool, true, false, Some, None}
 use Rattle.std.specs.Prelude.{slice_get, not, ◌&&◌}
-use Rattle.spv_grammar.specs.Table.{Table}
-use Rattle.spv_inst.specs.Operand.{Plain, PlainInst, result_in}
-use Rattle.spv_inst.specs.Operand as operand
+use Rattle.spv_table.specs.Table.{Table}
+use Rattle.spv_module.specs.Operand.{Plain, PlainInst, result_in}
+use Rattle.spv_module.specs.Operand as operand
 use Rattle.spv_layout.specs.declared.form.Form.{Form}
 use Rattle.spv_layout.specs.declared.form.Form.TheVariants as form
 use Rattle.spv_layout.specs.Row.{PlainRow, Ending, closed, maybe, file_and_text, repeated, others, maybe_others}

@@ -3,8 +3,8 @@ use Rattle.std.proofs.Common.{◌≡◌, ◌∙◌, ◌<◌, ◌≤◌, ◌+◌,
 use Rattle.std.specs.Prelude.{slice_get, nat_eq}
 use Rattle.std.proofs.lemmas.Bool.{cases_eq}
 use Rattle.std.proofs.lemmas.Bool.Decides.{nat_tests}
-use Rattle.spv_inst.specs.Operand.{Plain, PlainInst, OfType, Id, result_in}
-use Rattle.spv_inst.specs.Operand as operand
+use Rattle.spv_module.specs.Operand.{Plain, PlainInst, OfType, Id, result_in}
+use Rattle.spv_module.specs.Operand as operand
 use Rattle.spv_ids.specs.declared.notes.Notes.{Notes}
 use Rattle.spv_ids.specs.Definition.{IsDefinedAt}
 use Rattle.spv_ids.specs.Order.{Announces}

@@ -1,6 +1,6 @@
 -- What is known of the definitions of ids. (For the code alone.)
 use Rattle.std.specs.Prelude.{◌≡◌, ◌<◌, ◌≤◌, ◌⊎◌, ℕ, List, [], ◌∷◌, Option, Some, MatchOption, length}
-use Rattle.spv_inst.specs.Operand.{PlainInst}
+use Rattle.spv_module.specs.Operand.{PlainInst}
 use Rattle.spv_layout.specs.declared.class.Class.TheVariants.{Function, FunctionEnd}
 use Rattle.spv_layout.specs.Place.{IsAt, IsOfFunction}
 use Rattle.spv_ids.specs.declared.notes.Notes.{Notes}

@@ -1,6 +1,6 @@
 -- What holds of a use where no rule on ids is broken. [2.16]
 use Rattle.std.specs.Prelude.{ℕ, List}
-use Rattle.spv_inst.specs.Operand.{PlainInst}
+use Rattle.spv_module.specs.Operand.{PlainInst}
 use Rattle.spv_ids.specs.Definition.{IsLocal}
 use Rattle.spv_ids.specs.Order.{IsInOrder, IsInScope, IsOrdered, IsScoped}
 use Rattle.spv_ids.specs.Outcome.{IsOnly}

@@ -1,7 +1,7 @@
 -- Tests of the code, on numbers alone. (For the code alone.)
 use Rattle.std.specs.Prelude.{ℕ, Option, Some, None, Bool, false, not, ◌&&◌, ◌||◌, nat_eq, nat_lt, if◌then◌else◌, slice_get}
 use Rattle.std.specs.Option.{is_some}
-use Rattle.spv_inst.specs.Operand.{Plain, PlainInst, Id}
+use Rattle.spv_module.specs.Operand.{Plain, PlainInst, Id}
 use Rattle.spv_ids.specs.Order.{type_struct, type_forward_pointer}
 
 -- whether a definition is lower

@@ -1,6 +1,6 @@
 -- The uses of an instruction that fits its row, by its operands alone. (For the code alone.)
 use Rattle.std.specs.Prelude.{◌≡◌, ◌<◌, ℕ, List, Option, Some, None, nat_eq, if◌then◌else◌, take, slice_get}
-use Rattle.spv_inst.specs.Operand.{Plain, PlainInst, OfType, Result, Id, result_in}
+use Rattle.spv_module.specs.Operand.{Plain, PlainInst, OfType, Result, Id, result_in}
 
 -- the opcode of OpExtInst
 abbrev pub ext_inst : ℕ

@@ -1,8 +1,8 @@
 //! The definitions of ids, as far as the first one that is out of range or comes again.
 
 ghost use Rattle.std.specs.Prelude.{◌≡◌, ◌<◌, ◌≤◌, ◌↔◌, ℕ, List, length, map, ◌+◌, IfOk, OnOk, IsTrue, MatchOption, MatchBool, Some, None, slice_get};
-ghost use Rattle.spv_inst.specs.Operand.{PlainInst};
-ghost use Rattle.spv_inst.specs.Module.{plain_inst};
+ghost use Rattle.spv_module.specs.Operand.{PlainInst};
+ghost use Rattle.spv_module.specs.Module.{plain_inst};
 ghost use Rattle.spv_layout.specs.Place.{IsOfFunction, IsOfSection};
 ghost use Rattle.spv_ids.specs.Definition.{IsDefinedAt};
 ghost use Rattle.spv_ids.specs.Broken.{IsOutOfRange};
@@ -14,8 +14,8 @@ ghost use Rattle.spv_ids.specs.Survey.{ArePlaces};
 use crate::notes::{NONE, Notes};
 use crate::room::sparse_room;
 use crate::uses::result_of;
-use spv_inst::Inst;
 use spv_layout::Plan;
+use spv_module::Inst;
 use std::alloc::{AllocError, Global};
 
 /// The definitions before an instruction.

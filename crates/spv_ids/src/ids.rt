@@ -1,9 +1,9 @@
 //! The ids of a module.
 
 ghost use Rattle.std.specs.Prelude.{◌≡◌, ◌+◌, ◌≤◌, ◌<◌, ℕ, List, IfOk, IfErr, length, sum_by};
-ghost use Rattle.spv_grammar.specs.Table.{Table};
-ghost use Rattle.spv_inst.specs.Operand.{PlainInst};
-ghost use Rattle.spv_inst.specs.Module.{plain_insts};
+ghost use Rattle.spv_table.specs.Table.{Table};
+ghost use Rattle.spv_module.specs.Operand.{PlainInst};
+ghost use Rattle.spv_module.specs.Module.{plain_insts};
 ghost use Rattle.spv_layout.specs.Place.{word_count};
 ghost use Rattle.spv_layout.specs.Plan.{IsPlan};
 ghost use Rattle.spv_ids.specs.declared.notes.Notes as declared;
@@ -14,8 +14,8 @@ ghost use Rattle.spv_ids.specs.Outcome.{AreIds, IsRefusal, IsStopAt, definition_
 use crate::definitions::{find_definitions, later_definitions};
 use crate::notes::Notes;
 use crate::survey::{Found, Survey};
-use spv_inst::{Fault, Module, Stop};
 use spv_layout::Plan;
+use spv_module::{Fault, Module, Stop};
 use std::alloc::Global;
 
 /// The definitions of a module's ids (SPIR-V Specification 1.6, section 2.16): each id that is used has exactly one, in

@@ -1,13 +1,13 @@
 //! Laws of the rules on ids. Each function does nothing: its contract is what is proved.
 
 ghost use Rattle.std.specs.Prelude.{◌≡◌, ℕ, List, [], ◌∷◌};
-ghost use Rattle.spv_inst.specs.Example.{small};
-ghost use Rattle.spv_inst.specs.declared.fault.Rule.TheVariants.{D1, D2, D3, D4, D5};
+ghost use Rattle.spv_module.specs.Example.{small};
+ghost use Rattle.spv_module.specs.declared.fault.Rule.TheVariants.{D1, D2, D3, D4, D5};
 ghost use Rattle.spv_ids.specs.Example.{void, of_void, used_inside, used_outside};
 ghost use Rattle.spv_ids.specs.Order.{IsInOrder, IsInScope};
-ghost use Rattle.spv_grammar.specs.Table.{Table};
-ghost use Rattle.spv_inst.specs.Operand.{PlainInst};
-ghost use Rattle.spv_inst.specs.declared.fault.Rule.{Rule};
+ghost use Rattle.spv_table.specs.Table.{Table};
+ghost use Rattle.spv_module.specs.Operand.{PlainInst};
+ghost use Rattle.spv_module.specs.declared.fault.Rule.{Rule};
 ghost use Rattle.spv_layout.specs.declared.form.Role.{Role};
 ghost use Rattle.spv_layout.specs.declared.place.Place.{Place};
 ghost use Rattle.spv_layout.specs.Plan.{IsPlan};

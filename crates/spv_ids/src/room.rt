@@ -5,7 +5,7 @@ ghost use Rattle.spv_ids.specs.Notes.{kept};
 
 use crate::notes::Notes;
 use crate::uses::result_of;
-use spv_inst::Inst;
+use spv_module::Inst;
 use std::alloc::{AllocError, Global};
 
 /// Of an id the number of its highest bit, from 0.

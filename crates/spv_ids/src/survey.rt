@@ -1,10 +1,10 @@
 //! The uses of a module, instruction by instruction.
 
 ghost use Rattle.std.specs.Prelude.{◌≡◌, ◌+◌, ◌≤◌, ◌<◌, ◌↔◌, ℕ, List, length, map, IsTrue, IfOk, OnOk, MatchBool, MatchOption, IfSome, slice_get, Some, None, ◌||◌};
-ghost use Rattle.spv_inst.specs.Operand.{PlainInst};
-ghost use Rattle.spv_inst.specs.Module.{plain_inst, plain_operands};
-ghost use Rattle.spv_inst.specs.declared.fault.Rule.{Rule};
-ghost use Rattle.spv_inst.specs.declared.fault.Rule.TheVariants.{D1};
+ghost use Rattle.spv_module.specs.Operand.{PlainInst};
+ghost use Rattle.spv_module.specs.Module.{plain_inst, plain_operands};
+ghost use Rattle.spv_module.specs.declared.fault.Rule.{Rule};
+ghost use Rattle.spv_module.specs.declared.fault.Rule.TheVariants.{D1};
 ghost use Rattle.spv_layout.specs.First.{stage_of, rank_of};
 ghost use Rattle.spv_layout.specs.Place.{IsOfFunction, IsOfSection};
 ghost use Rattle.spv_ids.specs.declared.survey.Survey as declared;
@@ -23,8 +23,8 @@ ghost use Rattle.spv_ids.specs.Survey.{ArePlaces, IsSurvey, IsSite, insts_of};
 use crate::definitions::{floor_of, home, is_out_of_range, section_of};
 use crate::notes::{NONE, Notes};
 use crate::uses::{result_of, seen, used_id};
-use spv_inst::{Inst, Operand, Rule};
 use spv_layout::Plan;
+use spv_module::{Inst, Operand, Rule};
 use std::alloc::{AllocError, Global};
 
 /// The opcode of OpString: no opcode of section 7a is higher.

@@ -1,10 +1,10 @@
 //! Which operands of an instruction are uses.
 
 ghost use Rattle.std.specs.Prelude.{◌≡◌, slice_get, take};
-ghost use Rattle.spv_inst.specs.Module.{plain_inst, plain_operand, plain_operands};
+ghost use Rattle.spv_module.specs.Module.{plain_inst, plain_operand, plain_operands};
 ghost use Rattle.spv_ids.specs.Uses as uses;
 
-use spv_inst::{Inst, Operand};
+use spv_module::{Inst, Operand};
 
 /// The opcode of OpExtInst.
 const EXT_INST: u16 = 12;

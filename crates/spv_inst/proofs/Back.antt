@@ -2,12 +2,12 @@
 use Rattle.std.proofs.Common.{◌≡◌, ◌∙◌, ◌-◌, ℕ, List, [], drop, refl, sym}
 use Rattle.spv_words.specs.declared.words.Header.{Header}
 use Rattle.spv_words.specs.Header.{IsHeader}
-use Rattle.spv_grammar.specs.Table.{Table}
-use Rattle.spv_inst.specs.declared.fault.Stop.{Stop}
-use Rattle.spv_inst.specs.declared.fault.Stop.TheVariants.{Fault, Memory}
-use Rattle.spv_inst.specs.declared.module.Module.{Module}
-use Rattle.spv_inst.specs.Module.{plain_insts}
-use Rattle.spv_inst.specs.Instruction.{IsListing}
+use Rattle.spv_table.specs.Table.{Table}
+use Rattle.spv_module.specs.declared.fault.Stop.{Stop}
+use Rattle.spv_module.specs.declared.fault.Stop.TheVariants.{Fault, Memory}
+use Rattle.spv_module.specs.declared.module.Module.{Module}
+use Rattle.spv_module.specs.Module.{plain_insts}
+use Rattle.spv_module.specs.Instruction.{IsListing}
 use Rattle.spv_inst.specs.Outcome.{IsDeath, IsHeaderOf}
 use Rattle.spv_inst.specs.Encoding.{IsImageOf}
 use Rattle.spv_inst.proofs.Lists.{listing_same, dies_not}

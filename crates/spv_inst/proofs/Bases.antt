@@ -1,14 +1,14 @@
 -- Kinds that are Composites, and their bases.
 use Rattle.std.proofs.Common.{◌≡◌, ◌++◌, ◌∙◌, ◌&&◌, ℕ, List, [], ◌∷◌, zero, suc, Option, Some, None, Bool, true, false, bytes_eq, codes, map, option_map, refl, sym, ap, append_assoc}
 use Rattle.std.specs.List.{list_all, slice_get}
-use Rattle.spv_grammar.specs.declared.table.Category.{Category}
-use Rattle.spv_grammar.specs.declared.table.Category.TheVariants as category
-use Rattle.spv_grammar.specs.declared.table.Kind.{Kind}
-use Rattle.spv_grammar.specs.Table.{Table, Sort, kind_of, is_simple, is_simple_category, are_bases, is_sound, is_sound_category, IsWhole}
+use Rattle.spv_table.specs.declared.table.Category.{Category}
+use Rattle.spv_table.specs.declared.table.Category.TheVariants as category
+use Rattle.spv_table.specs.declared.table.Kind.{Kind}
+use Rattle.spv_table.specs.Table.{Table, Sort, kind_of, is_simple, is_simple_category, are_bases, is_sound, is_sound_category, IsWhole}
 use Rattle.spv_inst.specs.declared.form.Form.TheVariants.{Parts}
 use Rattle.spv_inst.specs.Form.{category_form, form_of, form_at}
-use Rattle.spv_inst.specs.Operand.{Context}
-use Rattle.spv_inst.specs.Shape.{Slot, AsParts, category_shape, kind_shape, shape_of}
+use Rattle.spv_module.specs.Operand.{Context}
+use Rattle.spv_module.specs.Shape.{Slot, AsParts, category_shape, kind_shape, shape_of}
 use Rattle.spv_inst.specs.Flat.{Due, OneOf}
 use Rattle.spv_inst.specs.declared.reader.Slot as code
 use Rattle.spv_inst.specs.Agenda.{plain_slot, slots_of, Opens}

@@ -2,10 +2,10 @@
 use Rattle.std.proofs.Common.{◌≡◌, ◌++◌, ◌∙◌, ◌≤◌, ◌<◌, ◌+◌, ◌-◌, ℕ, zero, suc, List, [], ◌∷◌, map, length, take, drop, get_or, refl, sym, ap, arith, append_assoc}
 use Rattle.std.proofs.lemmas.List.{take-append-drop, drop-append-le, take-append-le, length-drop, length-take-le, take_more, take_all}
 use Rattle.spv_inst.specs.declared.batch.Head.{Head}
-use Rattle.spv_inst.specs.declared.operand.Operand.{Operand}
-use Rattle.spv_inst.specs.declared.module.Inst.{Inst}
-use Rattle.spv_inst.specs.Module.{plain_operands, plain_inst}
-use Rattle.spv_inst.specs.Operand.{PlainInst}
+use Rattle.spv_module.specs.declared.operand.Operand.{Operand}
+use Rattle.spv_module.specs.declared.module.Inst.{Inst}
+use Rattle.spv_module.specs.Module.{plain_operands, plain_inst}
+use Rattle.spv_module.specs.Operand.{PlainInst}
 use Rattle.spv_inst.specs.Batch.{head_inst, AreWithin}
 use Rattle.spv_inst.proofs.Decoding.{plain-insts-push}
 

@@ -2,8 +2,8 @@
 use Rattle.std.proofs.Common.{◌≡◌, ◌++◌, ◌∙◌, ℕ, List, [], ◌∷◌, Some, None, refl}
 use Rattle.spv_inst.specs.declared.definitions.Definitions.{Definitions}
 use Rattle.spv_inst.specs.declared.reader.Known.{Known}
-use Rattle.spv_inst.specs.Operand.{Plain, OfType, Context, and_then, type_in}
-use Rattle.spv_inst.specs.Width.{first_id}
+use Rattle.spv_module.specs.Operand.{Plain, OfType, Context, and_then, type_in}
+use Rattle.spv_module.specs.Width.{first_id}
 use Rattle.spv_inst.specs.Known.{IsNear}
 
 pub type_kept : (os : List Plain) (o : Plain) (t : ℕ) → type_in os ≡ Some t → type_in (os ++ (o ∷ [])) ≡ Some t

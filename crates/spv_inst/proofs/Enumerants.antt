@@ -5,13 +5,13 @@ use Rattle.std.proofs.lemmas.Grind.{common_steps}
 use Rattle.std.proofs.lemmas.Nat.{pow_pos}
 use Rattle.std.proofs.Math.Pow.{pow-lt}
 use Rattle.std.proofs.Math.Nat.{div-eq_of_lt, lt-div-mul-add, mod-eq_of_lt}
-use Rattle.spv_grammar.specs.declared.table.Enumerant.{Enumerant}
-use Rattle.spv_grammar.specs.Table.{Table, Sort, kind_of, enumerant_of}
-use Rattle.spv_inst.specs.Operand.{Value, Mask}
-use Rattle.spv_inst.specs.Shape.{alone, AsValue, AsMask}
-use Rattle.spv_inst.specs.Spelling.{bits_from, parameters_of, parameters_of_all, mask_parameters, Takes}
-use Rattle.spv_inst.specs.declared.fault.Rule.TheVariants.{I6, I7}
-use Rattle.spv_inst.specs.Refusal.{Refuses}
+use Rattle.spv_table.specs.declared.table.Enumerant.{Enumerant}
+use Rattle.spv_table.specs.Table.{Table, Sort, kind_of, enumerant_of}
+use Rattle.spv_module.specs.Operand.{Value, Mask}
+use Rattle.spv_module.specs.Shape.{alone, AsValue, AsMask}
+use Rattle.spv_module.specs.Spelling.{bits_from, parameters_of, parameters_of_all, mask_parameters, Takes}
+use Rattle.spv_module.specs.declared.fault.Rule.TheVariants.{I6, I7}
+use Rattle.spv_module.specs.Refusal.{Refuses}
 use Rattle.spv_inst.specs.Reading.{enumerants_at, parameter_kinds}
 
 none_from : {A : Type 0} (o : Option A) → is_some o ≡ false → o ≡ None

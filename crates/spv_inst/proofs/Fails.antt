@@ -1,9 +1,9 @@
 -- The same words fail in one way, and do not match then.
 use Rattle.std.proofs.Common.{◌≡◌, ◌++◌, ℕ, List, [], ◌∷◌, length, map, refl, sym, ap, arith}
-use Rattle.spv_grammar.specs.Table.{Table}
-use Rattle.spv_inst.specs.Operand.{Plain, Context, and_then}
-use Rattle.spv_inst.specs.Shape.{Slot, shape_of}
-use Rattle.spv_inst.specs.declared.fault.Rule.{Rule}
+use Rattle.spv_table.specs.Table.{Table}
+use Rattle.spv_module.specs.Operand.{Plain, Context, and_then}
+use Rattle.spv_module.specs.Shape.{Slot, shape_of}
+use Rattle.spv_module.specs.declared.fault.Rule.{Rule}
 use Rattle.spv_inst.specs.Flat.{Due, OneOf, ManyOf, Matches, Fails}
 use Rattle.spv_inst.proofs.Flat.{same_bases}
 use Rattle.spv_inst.proofs.Takes.{takes_same, takes_no_parts}

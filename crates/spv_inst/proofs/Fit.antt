@@ -3,13 +3,13 @@ use Rattle.std.proofs.Common.{◌≡◌, ◌∙◌, ◌≤◌, ◌<◌, ◌+◌,
 use Rattle.std.specs.Prelude.{is_some, unwrap_or}
 use Rattle.std.specs.List.{list_any, AllByRecursion}
 use Rattle.std.proofs.lemmas.Bool.Decides.{nat_tests}
-use Rattle.spv_grammar.specs.Table.{Table, kind_of}
+use Rattle.spv_table.specs.Table.{Table, kind_of}
 use Rattle.spv_inst.specs.declared.form.Leaf as declared
 use Rattle.spv_inst.specs.declared.form.Leaf.TheVariants as leaf
-use Rattle.spv_inst.specs.Operand.{Plain, OfType, Result, Id, Word, Number, Text, Value, Mask, Context}
-use Rattle.spv_inst.specs.Width.{context_width}
-use Rattle.spv_inst.specs.Shape.{Slot, Shape, alone, AsType, AsResult, AsId, AsWord, AsNumber, AsText, AsValue, AsMask, AsNothing, shape_of}
-use Rattle.spv_inst.specs.Spelling.{Takes, Holds, AreZeros, parameters_of, mask_parameters}
+use Rattle.spv_module.specs.Operand.{Plain, OfType, Result, Id, Word, Number, Text, Value, Mask, Context}
+use Rattle.spv_module.specs.Width.{context_width}
+use Rattle.spv_module.specs.Shape.{Slot, Shape, alone, AsType, AsResult, AsId, AsWord, AsNumber, AsText, AsValue, AsMask, AsNothing, shape_of}
+use Rattle.spv_module.specs.Spelling.{Takes, Holds, AreZeros, parameters_of, mask_parameters}
 use Rattle.spv_inst.specs.Reading.{enumerants_at}
 use Rattle.spv_inst.specs.Agenda.{opened_kinds}
 use Rattle.spv_inst.specs.Written.{text_words, operand_words, fits_width, is_without_zero, is_fit, HasText}

@@ -2,17 +2,17 @@
 use Rattle.std.proofs.Common.{◌≡◌, ◌<◌, ◌≤◌, ◌+◌, ◌-◌, ℕ, List, [], ◌∷◌, Bool, true, false, Ok, Err, length, map, take, slice_index, refl, ◌∙◌, arith}
 use Rattle.std.specs.Prelude.{Result, IfOk, IfErr, nat_eq}
 use Rattle.std.proofs.lemmas.Bool.{ne_eqb}
-use Rattle.spv_grammar.specs.Table.{Table}
-use Rattle.spv_inst.specs.declared.fault.Rule.TheVariants.{I4, I12}
-use Rattle.spv_inst.specs.declared.operand.Operand.{Operand}
+use Rattle.spv_table.specs.Table.{Table}
+use Rattle.spv_module.specs.declared.fault.Rule.TheVariants.{I4, I12}
+use Rattle.spv_module.specs.declared.operand.Operand.{Operand}
 use Rattle.spv_inst.specs.declared.reader.Taken.{Taken}
 use Rattle.spv_inst.specs.declared.reader.Refusal.{Refusal}
-use Rattle.spv_inst.specs.Operand.{Context}
-use Rattle.spv_inst.specs.Width.{switch_width}
-use Rattle.spv_inst.specs.Shape.{Slot, Shape, AsNumber, AsWord, AsNothing, alone, integer_shape, shape_of}
-use Rattle.spv_inst.specs.Spelling.{Takes}
-use Rattle.spv_inst.specs.Refusal.{Refuses, IsLeaf}
-use Rattle.spv_inst.specs.Module.{plain_operand}
+use Rattle.spv_module.specs.Operand.{Context}
+use Rattle.spv_module.specs.Width.{switch_width}
+use Rattle.spv_module.specs.Shape.{Slot, Shape, AsNumber, AsWord, AsNothing, alone, integer_shape, shape_of}
+use Rattle.spv_module.specs.Spelling.{Takes}
+use Rattle.spv_module.specs.Refusal.{Refuses, IsLeaf}
+use Rattle.spv_module.specs.Module.{plain_operand}
 use Rattle.spv_inst.specs.Reading.{between, parameter_kinds, TakesFront, RefusesFront}
 use Rattle.spv_inst.proofs.Between.{front, nothing, take_one}
 use Rattle.spv_inst.proofs.Turns.{refuses_within, length-between}

@@ -1,8 +1,8 @@
 -- What is due and the words left tell the operands; these and what is due tell the words.
 use Rattle.std.proofs.Common.{◌≡◌, ◌≢◌, ◌++◌, ◌∙◌, ℕ, List, [], ◌∷◌, map, refl, sym}
-use Rattle.spv_grammar.specs.Table.{Table}
-use Rattle.spv_inst.specs.Operand.{Plain, Context, and_then}
-use Rattle.spv_inst.specs.Shape.{Slot, Shape, AsParts, shape_of}
+use Rattle.spv_table.specs.Table.{Table}
+use Rattle.spv_module.specs.Operand.{Plain, Context, and_then}
+use Rattle.spv_module.specs.Shape.{Slot, Shape, AsParts, shape_of}
 use Rattle.spv_inst.specs.Flat.{Due, OneOf, ManyOf, Matches, end, take, parts, no_maybe, maybe, no_many, many}
 use Rattle.spv_inst.proofs.Takes.{takes_same, takes_back, takes_no_parts, takes_nonempty}
 

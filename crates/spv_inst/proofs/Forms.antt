@@ -1,8 +1,8 @@
 -- The forms of the kinds, in order.
 use Rattle.std.proofs.Common.{◌≡◌, ◌+◌, ◌++◌, ℕ, zero, suc, List, [], ◌∷◌, Some, map, take, refl, ap, add-one}
 use Rattle.std.specs.Prelude.{option_map, slice_get}
-use Rattle.spv_grammar.specs.declared.table.Kind.{Kind}
-use Rattle.spv_grammar.specs.Table.{Sort}
+use Rattle.spv_table.specs.declared.table.Kind.{Kind}
+use Rattle.spv_table.specs.Table.{Sort}
 use Rattle.spv_inst.specs.Form.{form_of, category_form}
 
 front_form : (k l : Kind) → k ≡ l → category_form l.name l.category ∷ [] ≡ category_form k.name k.category ∷ []

@@ -2,13 +2,13 @@
 use Rattle.std.proofs.Common.{◌≡◌, Option, Some, None, Result, Ok, Err, IfOk, MatchOption, ◌++◌, ◌∙◌, ◌==◌, ◌<◌, ℕ, Bool, true, false, length, arith, List, [], ◌∷◌, map, refl, sym, ap, append_assoc, append-nil}
 use Rattle.std.proofs.lemmas.Bool.Decides.{nat_tests}
 use Rattle.std.specs.declared.alloc.AllocError.{AllocError}
-use Rattle.spv_grammar.specs.Table.{Table}
+use Rattle.spv_table.specs.Table.{Table}
 use Rattle.spv_inst.specs.declared.agenda.Frame.{Frame}
 use Rattle.spv_inst.specs.declared.agenda.Frame.TheVariants.{Bits}
 use Rattle.spv_inst.specs.declared.reader.Slot as code
 use Rattle.spv_inst.specs.Agenda.{plain_slot, slots_of, parameters_from, frame_due, frames_due}
 use Rattle.spv_inst.specs.Flat.{Due, OneOf}
-use Rattle.spv_inst.specs.Shape.{Slot}
+use Rattle.spv_module.specs.Shape.{Slot}
 
 pub frames-push : (G : Table) (fs : List Frame) (f : Frame) → frames_due G (fs ++ (f ∷ [])) ≡ frame_due G f ++ frames_due G fs
 frames-push G [] f = sym (append-nil (frame_due G f))

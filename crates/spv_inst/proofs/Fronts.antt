@@ -1,11 +1,11 @@
 -- A failure of the flat form is a misfit of a pattern.
 use Rattle.std.proofs.Common.{◌≡◌, ◌++◌, ◌∙◌, ◌+◌, ℕ, List, [], ◌∷◌, length, map, refl, sym, ap, arith, append_assoc, length-append}
-use Rattle.spv_grammar.specs.Table.{Table, Item, One, Maybe, Many}
-use Rattle.spv_inst.specs.Operand.{Plain, Context, and_then, after}
-use Rattle.spv_inst.specs.Shape.{Slot, alone, AsParts, shape_of}
-use Rattle.spv_inst.specs.Spelling.{Takes, Spells, SpellsAll}
-use Rattle.spv_inst.specs.declared.fault.Rule.{Rule}
-use Rattle.spv_inst.specs.Refusal.{Refuses, Stops, StopsAll, Misfit}
+use Rattle.spv_table.specs.Table.{Table, Item, One, Maybe, Many}
+use Rattle.spv_module.specs.Operand.{Plain, Context, and_then, after}
+use Rattle.spv_module.specs.Shape.{Slot, alone, AsParts, shape_of}
+use Rattle.spv_module.specs.Spelling.{Takes, Spells, SpellsAll}
+use Rattle.spv_module.specs.declared.fault.Rule.{Rule}
+use Rattle.spv_module.specs.Refusal.{Refuses, Stops, StopsAll, Misfit}
 use Rattle.spv_inst.specs.Flat.{Due, OneOf, ManyOf, due, Fails}
 use Rattle.spv_inst.proofs.Joined.{after-append, map_due, only, split}
 

@@ -1,15 +1,15 @@
 -- One instruction at a word of the module.
 use Rattle.std.proofs.Common.{◌≡◌, ◌++◌, ◌∙◌, ◌+◌, ◌-◌, ◌*◌, ◌/◌, ◌%◌, ◌≤◌, ◌<◌, ℕ, zero, suc, List, ◌∷◌, Some, None, length, take, drop, slice_index, refl, sym, ap, arith}
 use Rattle.std.proofs.lemmas.List.{drop_more, drop-drop, take-append-drop, length-drop}
-use Rattle.spv_grammar.specs.declared.table.Entry.{Entry}
-use Rattle.spv_grammar.specs.Table.{Table, entry_of, pattern_of}
-use Rattle.spv_inst.specs.declared.fault.Rule.TheVariants.{I1, I2, I3}
-use Rattle.spv_inst.specs.declared.fault.Stop.{Stop}
-use Rattle.spv_inst.specs.declared.fault.Stop.TheVariants.{Fault, Memory}
-use Rattle.spv_inst.specs.Operand.{Plain, PlainInst, start}
-use Rattle.spv_inst.specs.Spelling.{Match}
-use Rattle.spv_inst.specs.Instruction.{IsInstruction, first_word}
-use Rattle.spv_inst.specs.Dead.{IsDead}
+use Rattle.spv_table.specs.declared.table.Entry.{Entry}
+use Rattle.spv_table.specs.Table.{Table, entry_of, pattern_of}
+use Rattle.spv_module.specs.declared.fault.Rule.TheVariants.{I1, I2, I3}
+use Rattle.spv_module.specs.declared.fault.Stop.{Stop}
+use Rattle.spv_module.specs.declared.fault.Stop.TheVariants.{Fault, Memory}
+use Rattle.spv_module.specs.Operand.{Plain, PlainInst, start}
+use Rattle.spv_module.specs.Spelling.{Match}
+use Rattle.spv_module.specs.Instruction.{IsInstruction, first_word}
+use Rattle.spv_module.specs.Dead.{IsDead}
 use Rattle.spv_inst.specs.Reading.{between}
 use Rattle.spv_inst.specs.Step.{IsMisfit, IsDeadFrom}
 use Rattle.spv_inst.proofs.Turns.{length-between}

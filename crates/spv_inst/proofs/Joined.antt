@@ -1,10 +1,10 @@
 -- The joined form says the same as the flat one.
 use Rattle.std.proofs.Common.{◌≡◌, ◌≢◌, ◌++◌, ◌∙◌, ℕ, List, [], ◌∷◌, map, refl, sym, ap, append_assoc, append-nil}
-use Rattle.spv_grammar.specs.Table.{Table, Item, One, Maybe, Many}
-use Rattle.spv_inst.specs.Operand.{Plain, Context, and_then, after}
-use Rattle.spv_inst.specs.Shape.{Slot, alone, AsParts, shape_of}
-use Rattle.spv_inst.specs.Spelling.{Takes, Spells, operand, parts, SpellsAll, none, more, Match}
-use Rattle.spv_inst.specs.Spelling as spelling
+use Rattle.spv_table.specs.Table.{Table, Item, One, Maybe, Many}
+use Rattle.spv_module.specs.Operand.{Plain, Context, and_then, after}
+use Rattle.spv_module.specs.Shape.{Slot, alone, AsParts, shape_of}
+use Rattle.spv_module.specs.Spelling.{Takes, Spells, operand, parts, SpellsAll, none, more, Match}
+use Rattle.spv_module.specs.Spelling as spelling
 use Rattle.spv_inst.specs.Flat.{Due, OneOf, MaybeOf, ManyOf, due, Matches}
 use Rattle.spv_inst.specs.Flat as flat
 

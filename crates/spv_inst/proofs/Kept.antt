@@ -2,8 +2,8 @@
 use Rattle.std.proofs.Common.{◌≡◌, ◌++◌, ◌∷◌, [], ◌∙◌, sym, ℕ, List, Option, Some, None, Bool, true, false, cond, refl, ap}
 use Rattle.std.specs.Prelude.{Result, Ok, Err, OnOk, option_map, nat_eq, if◌then◌else◌}
 use Rattle.spv_inst.specs.declared.definitions.Definitions.{Definitions}
-use Rattle.spv_inst.specs.Operand.{PlainInst, result_in, type_in}
-use Rattle.spv_inst.specs.Width.{definition_of, declared_width, has_result, or_else}
+use Rattle.spv_module.specs.Operand.{PlainInst, result_in, type_in}
+use Rattle.spv_module.specs.Width.{definition_of, declared_width, has_result, or_else}
 use Rattle.spv_inst.specs.Known.{Knows, summary, kept}
 
 or_none : (a : Option PlainInst) → or_else a None ≡ a

@@ -4,12 +4,12 @@ use Rattle.std.proofs.lemmas.Str.{IsUtf8-from_is_utf8, is_utf8-from_IsUtf8}
 use Rattle.std.specs.Str.{is_utf8}
 use Rattle.std.specs.Prelude.{IsUtf8}
 use Rattle.std.specs.List.{AllByRecursion}
-use Rattle.spv_inst.specs.Operand.{OfType, Result, Id, Word, Number, Text, Value, Mask}
-use Rattle.spv_inst.specs.Shape.{Shape, AsType, AsResult, AsId, AsWord, AsNumber, AsText, AsValue, AsMask, AsParts, AsNothing}
-use Rattle.spv_grammar.specs.declared.table.Enumerant.{Enumerant}
-use Rattle.spv_inst.specs.Spelling.{octets_of, Holds, AreZeros, Takes, parameters_of, mask_parameters}
-use Rattle.spv_inst.specs.declared.fault.Rule.TheVariants.{I4, I6, I7, I8, I9, I10, I11, I12}
-use Rattle.spv_inst.specs.Refusal.{Refuses, IsLeaf, Meets}
+use Rattle.spv_module.specs.Operand.{OfType, Result, Id, Word, Number, Text, Value, Mask}
+use Rattle.spv_module.specs.Shape.{Shape, AsType, AsResult, AsId, AsWord, AsNumber, AsText, AsValue, AsMask, AsParts, AsNothing}
+use Rattle.spv_table.specs.declared.table.Enumerant.{Enumerant}
+use Rattle.spv_module.specs.Spelling.{octets_of, Holds, AreZeros, Takes, parameters_of, mask_parameters}
+use Rattle.spv_module.specs.declared.fault.Rule.TheVariants.{I4, I6, I7, I8, I9, I10, I11, I12}
+use Rattle.spv_module.specs.Refusal.{Refuses, IsLeaf, Meets}
 
 -- the words up to the first zero octet, or none has one
 data Found : List ℕ → Type 0 where

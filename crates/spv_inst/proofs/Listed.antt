@@ -4,15 +4,15 @@ use Rattle.std.proofs.lemmas.List.{drop_more, take_more, length-take-le, take-ap
 use Rattle.std.proofs.Math.ListN.{drop_of_length-le}
 use Rattle.spv_words.specs.declared.words.Header.{Header}
 use Rattle.spv_words.specs.Header.{IsHeader}
-use Rattle.spv_grammar.specs.Table.{Table}
+use Rattle.spv_table.specs.Table.{Table}
 use Rattle.spv_inst.specs.declared.definitions.Definitions.{Definitions}
-use Rattle.spv_inst.specs.declared.module.Inst.{Inst}
-use Rattle.spv_inst.specs.declared.module.Module.{Module}
+use Rattle.spv_module.specs.declared.module.Inst.{Inst}
+use Rattle.spv_module.specs.declared.module.Module.{Module}
 use Rattle.spv_inst.specs.declared.obstacle.EncodeCode.{EncodeCode}
 use Rattle.spv_inst.specs.declared.obstacle.EncodeCode.TheVariants.{N1, N2, N3, N4}
-use Rattle.spv_inst.specs.Operand.{PlainInst}
-use Rattle.spv_inst.specs.Module.{plain_inst, plain_insts}
-use Rattle.spv_inst.specs.Instruction.{IsInstruction, Listing, IsListing}
+use Rattle.spv_module.specs.Operand.{PlainInst}
+use Rattle.spv_module.specs.Module.{plain_inst, plain_insts}
+use Rattle.spv_module.specs.Instruction.{IsInstruction, Listing, IsListing}
 use Rattle.spv_inst.specs.Known.{Knows}
 use Rattle.spv_inst.specs.Outcome.{IsHeaderOf}
 use Rattle.spv_inst.specs.Encoding.{Fits, Hinders, StopsAt, IsRefused}

@@ -1,13 +1,13 @@
 -- Instructions, lists of them, and the dead one: each at most once.
 use Rattle.std.proofs.Common.{◌≡◌, ◌≢◌, ◌++◌, ◌∙◌, ◌<◌, ◌+◌, ◌*◌, ℕ, List, [], ◌∷◌, Some, None, length, map, refl, sym, ap, arith, length-append}
-use Rattle.spv_grammar.specs.declared.table.Entry.{Entry}
-use Rattle.spv_grammar.specs.Table.{Table, entry_of, pattern_of}
-use Rattle.spv_inst.specs.Operand.{Plain, PlainInst, start}
-use Rattle.spv_inst.specs.Spelling.{Match}
-use Rattle.spv_inst.specs.Instruction.{IsInstruction, first_word, Listing}
-use Rattle.spv_inst.specs.declared.fault.Rule.{Rule}
-use Rattle.spv_inst.specs.Refusal.{Misfit}
-use Rattle.spv_inst.specs.Dead.{IsDead, DiesAt}
+use Rattle.spv_table.specs.declared.table.Entry.{Entry}
+use Rattle.spv_table.specs.Table.{Table, entry_of, pattern_of}
+use Rattle.spv_module.specs.Operand.{Plain, PlainInst, start}
+use Rattle.spv_module.specs.Spelling.{Match}
+use Rattle.spv_module.specs.Instruction.{IsInstruction, first_word, Listing}
+use Rattle.spv_module.specs.declared.fault.Rule.{Rule}
+use Rattle.spv_module.specs.Refusal.{Misfit}
+use Rattle.spv_module.specs.Dead.{IsDead, DiesAt}
 use Rattle.spv_inst.specs.Flat.{due}
 use Rattle.spv_inst.proofs.Texts.{parts_same}
 use Rattle.spv_inst.proofs.Flat.{unique, spelled_once}

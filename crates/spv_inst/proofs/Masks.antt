@@ -4,9 +4,9 @@ use Rattle.std.specs.List.{filter}
 use Rattle.std.proofs.Math.Nat.{pow-succ', div-div-eq-div-mul}
 use Rattle.std.proofs.lemmas.Nat.{one_shl}
 use Rattle.std.proofs.lemmas.Bool.Decides.{nat_tests}
-use Rattle.spv_grammar.specs.declared.table.Enumerant.{Enumerant}
-use Rattle.spv_grammar.specs.Table.{Table, Sort, kind_of, enumerant_of}
-use Rattle.spv_inst.specs.Spelling.{bits_from, set_bits, parameters_of, parameters_of_all, mask_parameters}
+use Rattle.spv_table.specs.declared.table.Enumerant.{Enumerant}
+use Rattle.spv_table.specs.Table.{Table, Sort, kind_of, enumerant_of}
+use Rattle.spv_module.specs.Spelling.{bits_from, set_bits, parameters_of, parameters_of_all, mask_parameters}
 use Rattle.spv_inst.specs.Reading.{enumerants_at}
 use Rattle.spv_inst.specs.Agenda.{parameters_of_known, parameters_from}
 

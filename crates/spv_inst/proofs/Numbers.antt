@@ -1,10 +1,10 @@
 -- Numbers at the front of the words left.
 use Rattle.std.proofs.Common.{◌≡◌, ◌<◌, ◌≤◌, ◌+◌, ◌-◌, ℕ, List, [], Option, Some, None, length, take, slice_index}
-use Rattle.spv_inst.specs.Operand.{Number}
-use Rattle.spv_inst.specs.Shape.{AsNumber}
-use Rattle.spv_inst.specs.Spelling.{Takes}
-use Rattle.spv_inst.specs.declared.fault.Rule.TheVariants.{I4, I11}
-use Rattle.spv_inst.specs.Refusal.{Refuses}
+use Rattle.spv_module.specs.Operand.{Number}
+use Rattle.spv_module.specs.Shape.{AsNumber}
+use Rattle.spv_module.specs.Spelling.{Takes}
+use Rattle.spv_module.specs.declared.fault.Rule.TheVariants.{I4, I11}
+use Rattle.spv_module.specs.Refusal.{Refuses}
 use Rattle.spv_inst.specs.Reading.{between}
 use Rattle.spv_inst.proofs.Between.{front, lone, take_one, take_two}
 

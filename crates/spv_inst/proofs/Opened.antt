@@ -3,10 +3,10 @@ use Rattle.std.proofs.Common.{◌≡◌, ◌<◌, ◌+◌, ◌-◌, ◌*◌, ◌
 use Rattle.std.specs.Prelude.{option_map, filter, nat_eq}
 use Rattle.std.proofs.lemmas.Nat.{pow_pos}
 use Rattle.std.proofs.Math.Nat.{div-eq_of_lt}
-use Rattle.spv_grammar.specs.declared.table.Enumerant.{Enumerant}
+use Rattle.spv_table.specs.declared.table.Enumerant.{Enumerant}
 use Rattle.spv_inst.specs.Flat.{Due, OneOf}
-use Rattle.spv_inst.specs.Shape.{alone}
-use Rattle.spv_inst.specs.Spelling.{bits_from, parameters_of, parameters_of_all, mask_parameters}
+use Rattle.spv_module.specs.Shape.{alone}
+use Rattle.spv_module.specs.Spelling.{bits_from, parameters_of, parameters_of_all, mask_parameters}
 use Rattle.spv_inst.proofs.Enumerants.{step, lt_from_div}
 
 -- the parameters of the set bits from bit `b` up, of `n` bits

@@ -2,10 +2,10 @@
 use Rattle.std.proofs.Common.{◌≡◌, ◌<◌, ◌≤◌, ◌+◌, ℕ, List, [], ◌∷◌, Bool, true, false, map, length, get_or, drop, refl}
 use Rattle.std.proofs.lemmas.List.{drop_more}
 use Rattle.std.proofs.Math.ListN.{drop_of_length-le}
-use Rattle.spv_grammar.specs.declared.table.Item as declared
-use Rattle.spv_grammar.specs.declared.table.Quantifier.TheVariants as quantifier
-use Rattle.spv_grammar.specs.Table.{quantified}
-use Rattle.spv_inst.specs.Shape.{alone}
+use Rattle.spv_table.specs.declared.table.Item as declared
+use Rattle.spv_table.specs.declared.table.Quantifier.TheVariants as quantifier
+use Rattle.spv_table.specs.Table.{quantified}
+use Rattle.spv_module.specs.Shape.{alone}
 use Rattle.spv_inst.specs.Flat.{Due, OneOf, ManyOf, due}
 use Rattle.spv_inst.specs.Agenda.{items_of, settled}
 

@@ -2,15 +2,15 @@
 use Rattle.std.proofs.Common.{◌≡◌, ◌++◌, ◌<◌, ◌≤◌, ◌+◌, ℕ, List, [], ◌∷◌, true, false, map, length, take, drop, get_or, refl, ap}
 use Rattle.std.proofs.lemmas.List.{drop_more, take_more}
 use Rattle.std.proofs.Math.ListN.{drop_of_length-le}
-use Rattle.spv_grammar.specs.Table.{Table, Item}
+use Rattle.spv_table.specs.Table.{Table, Item}
 use Rattle.spv_inst.specs.declared.definitions.Definitions.{Definitions}
-use Rattle.spv_inst.specs.declared.operand.Operand.{Operand}
+use Rattle.spv_module.specs.declared.operand.Operand.{Operand}
 use Rattle.spv_inst.specs.declared.reader.Known.{Known}
-use Rattle.spv_inst.specs.Operand.{Plain, PlainInst, Context, start, and_then}
-use Rattle.spv_inst.specs.Module.{plain_operand, plain_operands}
-use Rattle.spv_inst.specs.Shape.{Slot, Shape, AsParts, shape_of}
-use Rattle.spv_inst.specs.Refusal.{IsLeaf}
-use Rattle.spv_inst.specs.Spelling.{Match}
+use Rattle.spv_module.specs.Operand.{Plain, PlainInst, Context, start, and_then}
+use Rattle.spv_module.specs.Module.{plain_operand, plain_operands}
+use Rattle.spv_module.specs.Shape.{Slot, Shape, AsParts, shape_of}
+use Rattle.spv_module.specs.Refusal.{IsLeaf}
+use Rattle.spv_module.specs.Spelling.{Match}
 use Rattle.spv_inst.specs.Flat.{Due, OneOf, due, Matches}
 use Rattle.spv_inst.specs.Agenda.{LeadsTo, settled}
 use Rattle.spv_inst.specs.Known.{IsNear}

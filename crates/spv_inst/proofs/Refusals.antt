@@ -1,11 +1,11 @@
 -- The same words are refused in one way, and not where they are taken.
 use Rattle.std.proofs.Common.{◌≡◌, ◌≢◌, ◌++◌, ◌∙◌, ℕ, List, [], ◌∷◌, length, refl, sym, ap, arith, append_assoc}
 use Rattle.std.specs.List.{AllByRecursion}
-use Rattle.spv_inst.specs.Operand.{Plain}
-use Rattle.spv_inst.specs.Shape.{Slot, Shape, AsParts}
-use Rattle.spv_inst.specs.Spelling.{octets_of, Holds, AreZeros, Takes, result_type, result, id, word, narrow, wide, text, value, mask}
-use Rattle.spv_inst.specs.declared.fault.Rule.{Rule}
-use Rattle.spv_inst.specs.Refusal.{Refuses, IsLeaf, missing, half, unknown_value, unknown_bit, endless, padded, no_text, no_width, no_form}
+use Rattle.spv_module.specs.Operand.{Plain}
+use Rattle.spv_module.specs.Shape.{Slot, Shape, AsParts}
+use Rattle.spv_module.specs.Spelling.{octets_of, Holds, AreZeros, Takes, result_type, result, id, word, narrow, wide, text, value, mask}
+use Rattle.spv_module.specs.declared.fault.Rule.{Rule}
+use Rattle.spv_module.specs.Refusal.{Refuses, IsLeaf, missing, half, unknown_value, unknown_bit, endless, padded, no_text, no_width, no_form}
 use Rattle.spv_inst.proofs.Texts.{text_same, octets-append}
 use Rattle.spv_inst.proofs.Takes.{text_nonempty}
 use Rattle.spv_inst.proofs.Flat.{nonempty-append}

@@ -1,19 +1,19 @@
 -- What a kind asks for at its place, by its form.
 use Rattle.std.proofs.Common.{◌≡◌, ◌∙◌, ℕ, List, Option, Some, None, Bool, true, false, [], map, refl, ap}
 use Rattle.std.specs.Prelude.{bytes_eq, codes, ◌||◌, if◌then◌else◌}
-use Rattle.spv_grammar.specs.declared.table.Enumerant.{Enumerant}
-use Rattle.spv_grammar.specs.declared.table.Category.{Category}
-use Rattle.spv_grammar.specs.declared.table.Category.TheVariants as category
-use Rattle.spv_grammar.specs.Table.{Table, Sort, kind_of}
+use Rattle.spv_table.specs.declared.table.Enumerant.{Enumerant}
+use Rattle.spv_table.specs.declared.table.Category.{Category}
+use Rattle.spv_table.specs.declared.table.Category.TheVariants as category
+use Rattle.spv_table.specs.Table.{Table, Sort, kind_of}
 use Rattle.spv_inst.specs.declared.form.Leaf as declared
 use Rattle.spv_inst.specs.declared.form.Leaf.TheVariants as leaf
 use Rattle.spv_inst.specs.declared.form.Form.{Form}
 use Rattle.spv_inst.specs.declared.form.Form.TheVariants.{Leaf, Parts}
-use Rattle.spv_inst.specs.Operand.{Context}
-use Rattle.spv_inst.specs.Width.{context_width, switch_width}
+use Rattle.spv_module.specs.Operand.{Context}
+use Rattle.spv_module.specs.Width.{context_width, switch_width}
 use Rattle.spv_inst.specs.Form.{category_form, form_at}
-use Rattle.spv_inst.specs.Shape.{Slot, Shape, AsType, AsResult, AsId, AsWord, AsNumber, AsText, AsValue, AsMask, AsParts, AsNothing, integer_shape, category_shape, kind_shape, shape_of}
-use Rattle.spv_inst.specs.Refusal.{IsLeaf}
+use Rattle.spv_module.specs.Shape.{Slot, Shape, AsType, AsResult, AsId, AsWord, AsNumber, AsText, AsValue, AsMask, AsParts, AsNothing, integer_shape, category_shape, kind_shape, shape_of}
+use Rattle.spv_module.specs.Refusal.{IsLeaf}
 use Rattle.spv_inst.specs.Reading.{enumerants_at}
 
 -- what a leaf asks for

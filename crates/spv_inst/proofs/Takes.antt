@@ -1,8 +1,8 @@
 -- One shape takes the same words in one way.
 use Rattle.std.proofs.Common.{◌≡◌, ◌≢◌, ◌++◌, ℕ, List, [], ◌∷◌, map, refl, ap, arith}
-use Rattle.spv_inst.specs.Operand.{Plain, Text}
-use Rattle.spv_inst.specs.Shape.{Slot, alone, Shape, AsParts}
-use Rattle.spv_inst.specs.Spelling.{Takes, result_type, result, id, word, narrow, wide, text, value, mask, parameters_of, mask_parameters}
+use Rattle.spv_module.specs.Operand.{Plain, Text}
+use Rattle.spv_module.specs.Shape.{Slot, alone, Shape, AsParts}
+use Rattle.spv_module.specs.Spelling.{Takes, result_type, result, id, word, narrow, wide, text, value, mask, parameters_of, mask_parameters}
 use Rattle.spv_inst.proofs.Texts.{text_same, spelling_same}
 
 -- what two ways of taking share
@@ -74,7 +74,7 @@ takes_no_parts k _ _ _ _ ts (value es x ks h) e = cc
 takes_no_parts k _ _ _ _ ts (mask es x ks h) e = cc
 
 -- a text takes a word at least
-pub text_nonempty : (ws t p : List ℕ) → Rattle.spv_inst.specs.Spelling.Holds ws t p → ws ≢ []
+pub text_nonempty : (ws t p : List ℕ) → Rattle.spv_module.specs.Spelling.Holds ws t p → ws ≢ []
 text_nonempty [] [] p h e = let o = h.octets in cc
 text_nonempty [] (x ∷ t) p h e = let o = h.octets in cc
 text_nonempty (w ∷ ws) t p h e = cc

@@ -3,7 +3,7 @@ use Rattle.std.proofs.Common.{◌≡◌, ◌<◌, ◌-◌, ◌*◌, ◌/◌, ◌
 use Rattle.std.specs.List.{AllByRecursion}
 use Rattle.spv_words.specs.declared.words.Order.TheVariants.{Little}
 use Rattle.spv_words.specs.Words.{words_of, word_of}
-use Rattle.spv_inst.specs.Spelling.{octets_of}
+use Rattle.spv_module.specs.Spelling.{octets_of}
 use Rattle.spv_inst.specs.Reading.{between}
 
 -- what holds at each place holds of each element

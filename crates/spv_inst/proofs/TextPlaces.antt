@@ -7,11 +7,11 @@ use Rattle.std.specs.Prelude.{IsUtf8}
 use Rattle.std.specs.List.{AllByRecursion}
 use Rattle.spv_words.specs.declared.words.Order.TheVariants.{Little}
 use Rattle.spv_words.specs.Words.{words_of, word_of}
-use Rattle.spv_inst.specs.declared.fault.Rule.TheVariants.{I4, I8, I9, I10}
-use Rattle.spv_inst.specs.Operand.{Text}
-use Rattle.spv_inst.specs.Shape.{AsText}
-use Rattle.spv_inst.specs.Spelling.{octets_of, Holds, AreZeros, Takes}
-use Rattle.spv_inst.specs.Refusal.{Refuses}
+use Rattle.spv_module.specs.declared.fault.Rule.TheVariants.{I4, I8, I9, I10}
+use Rattle.spv_module.specs.Operand.{Text}
+use Rattle.spv_module.specs.Shape.{AsText}
+use Rattle.spv_module.specs.Spelling.{octets_of, Holds, AreZeros, Takes}
+use Rattle.spv_module.specs.Refusal.{Refuses}
 use Rattle.spv_inst.proofs.TextOctets.{each_all, all_take, length-words, take-words, octets-words, words-below}
 
 -- the first zero octet is at a place

@@ -1,7 +1,7 @@
 -- The words of a text tell the text, and the text its words.
 use Rattle.std.proofs.Common.{◌≡◌, ◌≢◌, ◌++◌, ◌∙◌, ◌<◌, ◌+◌, ◌*◌, ◌/◌, ◌%◌, ℕ, List, [], ◌∷◌, length, refl, sym, ap, arith, append_assoc, length-append}
 use Rattle.std.specs.List.{AllByRecursion}
-use Rattle.spv_inst.specs.Spelling.{octets_of, Holds, AreZeros}
+use Rattle.spv_module.specs.Spelling.{octets_of, Holds, AreZeros}
 
 pub octets-append : (ws us : List ℕ) → octets_of (ws ++ us) ≡ octets_of ws ++ octets_of us
 octets-append [] us = refl

@@ -2,22 +2,22 @@
 use Rattle.std.proofs.Common.{◌≡◌, ◌++◌, ◌∙◌, ◌+◌, ◌-◌, ◌≤◌, ◌<◌, ◌&&◌, ◌||◌, ℕ, List, [], ◌∷◌, Option, Some, None, Bool, true, false, nat_eq, bytes_eq, codes, cond, length, map, take, drop, slice_index, unwrap_or, refl, sym, ap, arith, length-append}
 use Rattle.std.proofs.lemmas.List.{drop-drop, take-append-drop, length-take-le, length-drop, drop-take}
 use Rattle.std.specs.List.{list_all}
-use Rattle.spv_grammar.specs.declared.table.Category.{Category}
-use Rattle.spv_grammar.specs.declared.table.Category.TheVariants as category
-use Rattle.spv_grammar.specs.declared.table.Enumerant.{Enumerant}
-use Rattle.spv_grammar.specs.Table.{Item, Table, Sort, kind_of, is_simple, is_simple_category, are_bases, is_sound, IsWhole}
-use Rattle.spv_inst.specs.declared.operand.Operand as declared
-use Rattle.spv_inst.specs.declared.fault.Rule.{Rule}
-use Rattle.spv_inst.specs.declared.fault.Rule.TheVariants.{I4, I5}
-use Rattle.spv_inst.specs.Module.{plain_operand, plain_operands}
+use Rattle.spv_table.specs.declared.table.Category.{Category}
+use Rattle.spv_table.specs.declared.table.Category.TheVariants as category
+use Rattle.spv_table.specs.declared.table.Enumerant.{Enumerant}
+use Rattle.spv_table.specs.Table.{Item, Table, Sort, kind_of, is_simple, is_simple_category, are_bases, is_sound, IsWhole}
+use Rattle.spv_module.specs.declared.operand.Operand as declared
+use Rattle.spv_module.specs.declared.fault.Rule.{Rule}
+use Rattle.spv_module.specs.declared.fault.Rule.TheVariants.{I4, I5}
+use Rattle.spv_module.specs.Module.{plain_operand, plain_operands}
 use Rattle.spv_inst.specs.declared.definitions.Definitions.{Definitions}
 use Rattle.spv_inst.specs.declared.reader.Known.{Known}
 use Rattle.spv_inst.specs.Known.{IsNear, Knows}
-use Rattle.spv_inst.specs.Operand.{PlainInst, start, type_in, Plain, Value, Mask, Context, after}
-use Rattle.spv_inst.specs.Shape.{Slot, alone, Shape, AsType, AsResult, AsId, AsWord, AsNumber, AsText, AsMask, AsParts, AsNothing, bases, category_shape, kind_shape, shape_of}
-use Rattle.spv_inst.specs.Width.{switch_width, context_width, first_id}
-use Rattle.spv_inst.specs.Spelling.{Takes, Match, mask_parameters}
-use Rattle.spv_inst.specs.Refusal.{IsLeaf, Refuses, Misfit}
+use Rattle.spv_module.specs.Operand.{PlainInst, start, type_in, Plain, Value, Mask, Context, after}
+use Rattle.spv_module.specs.Shape.{Slot, alone, Shape, AsType, AsResult, AsId, AsWord, AsNumber, AsText, AsMask, AsParts, AsNothing, bases, category_shape, kind_shape, shape_of}
+use Rattle.spv_module.specs.Width.{switch_width, context_width, first_id}
+use Rattle.spv_module.specs.Spelling.{Takes, Match, mask_parameters}
+use Rattle.spv_module.specs.Refusal.{IsLeaf, Refuses, Misfit}
 use Rattle.spv_inst.specs.Sofar.{Sofar}
 use Rattle.spv_inst.specs.Flat.{due, Due, OneOf, MaybeOf, ManyOf, Fails}
 use Rattle.spv_inst.specs.Reading.{between, enumerants_at, parameter_kinds, TakesFront, RefusesFront}

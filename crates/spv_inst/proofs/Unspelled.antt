@@ -1,15 +1,15 @@
 -- Worked examples of encoding.
 use Rattle.std.proofs.Common.{◌≡◌, inr, ℕ, List, [], ◌∷◌, Some, length, refl, sym, subst, suc, ap, arith}
-use Rattle.spv_grammar.specs.declared.table.Entry.{Entry}
-use Rattle.spv_grammar.specs.Table.{entry_of, pattern_of, One}
+use Rattle.spv_table.specs.declared.table.Entry.{Entry}
+use Rattle.spv_table.specs.Table.{entry_of, pattern_of, One}
 use Rattle.spv_inst.specs.declared.obstacle.EncodeCode.{EncodeCode}
 use Rattle.spv_inst.specs.declared.obstacle.EncodeCode.TheVariants.{N2, N3}
-use Rattle.spv_inst.specs.Operand.{Plain, Result, Text, PlainInst, start, and_then}
-use Rattle.spv_inst.specs.Shape.{Slot, alone, AsText, AsParts, shape_of}
-use Rattle.spv_inst.specs.Spelling.{Takes, Match}
-use Rattle.spv_inst.specs.Instruction.{Listing, IsListing}
+use Rattle.spv_module.specs.Operand.{Plain, Result, Text, PlainInst, start, and_then}
+use Rattle.spv_module.specs.Shape.{Slot, alone, AsText, AsParts, shape_of}
+use Rattle.spv_module.specs.Spelling.{Takes, Match}
+use Rattle.spv_module.specs.Instruction.{Listing, IsListing}
 use Rattle.spv_inst.specs.Flat.{Due, OneOf, Matches}
-use Rattle.spv_inst.specs.Example.{small, string, string_entry}
+use Rattle.spv_module.specs.Example.{small, string, string_entry}
 use Rattle.spv_inst.specs.Encoding.{HasNoWords, IsTooLong, StopsAt}
 use Rattle.spv_inst.proofs.Joined.{match_flat}
 use Rattle.spv_inst.proofs.Worked.{string_spelled}

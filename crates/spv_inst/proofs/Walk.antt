@@ -1,9 +1,9 @@
 -- What an encoder keeps from one operand to the next: the words written, and what is due and the operands left.
 use Rattle.std.proofs.Common.{◌≡◌, ◌++◌, ◌∙◌, ℕ, List, [], ◌∷◌, true, false, map, refl, sym, ap, append_assoc, append-nil}
-use Rattle.spv_grammar.specs.Table.{Table}
-use Rattle.spv_inst.specs.Operand.{Plain, Context, and_then}
-use Rattle.spv_inst.specs.Shape.{Slot, AsParts, shape_of}
-use Rattle.spv_inst.specs.Spelling.{Takes}
+use Rattle.spv_table.specs.Table.{Table}
+use Rattle.spv_module.specs.Operand.{Plain, Context, and_then}
+use Rattle.spv_module.specs.Shape.{Slot, AsParts, shape_of}
+use Rattle.spv_module.specs.Spelling.{Takes}
 use Rattle.spv_inst.specs.Flat.{Due, OneOf, MaybeOf, ManyOf, Matches}
 use Rattle.spv_inst.specs.Agenda.{settled, Opens}
 use Rattle.spv_inst.proofs.Takes.{takes_back, takes_no_parts}

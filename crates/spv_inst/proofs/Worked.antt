@@ -1,17 +1,17 @@
 -- Worked examples under a small table.
 use Rattle.std.proofs.Common.{◌≡◌, ◌++◌, ℕ, List, [], ◌∷◌, refl, arith, map, ap, length, append-nil}
 use Rattle.std.specs.Prelude.{IsUtf8, codes}
-use Rattle.spv_grammar.specs.Table.{One, Maybe, Many}
-use Rattle.spv_inst.specs.Operand.{Plain, OfType, Result, Id, Word, Number, Text, Mask, Context, and_then, start}
-use Rattle.spv_inst.specs.Shape.{AsText, AsWord, alone, shape_of}
-use Rattle.spv_inst.specs.Spelling.{Takes, Holds, mask_parameters, Match, Spells, SpellsAll}
-use Rattle.spv_inst.specs.declared.fault.Rule.{Rule}
-use Rattle.spv_inst.specs.declared.fault.Rule.TheVariants.{I4, I7, I8}
-use Rattle.spv_inst.specs.Refusal.{Refuses, Misfit}
-use Rattle.spv_grammar.specs.Table.{pattern_of}
+use Rattle.spv_table.specs.Table.{One, Maybe, Many}
+use Rattle.spv_module.specs.Operand.{Plain, OfType, Result, Id, Word, Number, Text, Mask, Context, and_then, start}
+use Rattle.spv_module.specs.Shape.{AsText, AsWord, alone, shape_of}
+use Rattle.spv_module.specs.Spelling.{Takes, Holds, mask_parameters, Match, Spells, SpellsAll}
+use Rattle.spv_module.specs.declared.fault.Rule.{Rule}
+use Rattle.spv_module.specs.declared.fault.Rule.TheVariants.{I4, I7, I8}
+use Rattle.spv_module.specs.Refusal.{Refuses, Misfit}
+use Rattle.spv_table.specs.Table.{pattern_of}
 use Rattle.spv_inst.specs.Flat.{Matches, Fails, due}
-use Rattle.spv_inst.specs.Instruction.{IsInstruction, first_word}
-use Rattle.spv_inst.specs.Example.{load_entry, string_entry, switch_entry, access, small, load, string, long_value, switch}
+use Rattle.spv_module.specs.Instruction.{IsInstruction, first_word}
+use Rattle.spv_module.specs.Example.{load_entry, string_entry, switch_entry, access, small, load, string, long_value, switch}
 use Rattle.spv_inst.proofs.Joined.{flat_match, match_flat}
 use Rattle.spv_inst.proofs.Fails.{fails_not}
 use Rattle.spv_inst.proofs.Misfits.{misfit_fails}
@@ -105,10 +105,10 @@ unknown_spells_nothing os m =
     unknown_fails (match_flat small (start [] 61) (One 0 ∷ One 1 ∷ One 2 ∷ Maybe 3 ∷ []) os (2 ∷ 9 ∷ 8 ∷ 4 ∷ []) m) refl
 
 -- 0x0005003D 2 9 8 4
-pub unknown_dead : Rattle.spv_inst.specs.Dead.IsDeadAt small (327741 ∷ 2 ∷ 9 ∷ 8 ∷ 4 ∷ []) I7 0 4
+pub unknown_dead : Rattle.spv_module.specs.Dead.IsDeadAt small (327741 ∷ 2 ∷ 9 ∷ 8 ∷ 4 ∷ []) I7 0 4
 unknown_dead =
-    Rattle.spv_inst.specs.Dead.DiesAt.here [] (327741 ∷ 2 ∷ 9 ∷ 8 ∷ 4 ∷ []) I7 4
-    (Rattle.spv_inst.specs.Dead.IsDead.misfit 61 (2 ∷ 9 ∷ 8 ∷ 4 ∷ []) [] load_entry I7 3 (omega arith) refl
+    Rattle.spv_module.specs.Dead.DiesAt.here [] (327741 ∷ 2 ∷ 9 ∷ 8 ∷ 4 ∷ []) I7 4
+    (Rattle.spv_module.specs.Dead.IsDead.misfit 61 (2 ∷ 9 ∷ 8 ∷ 4 ∷ []) [] load_entry I7 3 (omega arith) refl
     (Rattle.spv_inst.proofs.Fronts.fails_misfit small (start [] 61) (One 0 ∷ One 1 ∷ One 2 ∷ Maybe 3 ∷ []) (2 ∷ 9 ∷ 8 ∷ 4 ∷ []) I7 3 unknown_fails))
 
 -- 3 4 as a MemoryAccess
@@ -163,5 +163,5 @@ short_count i =
     let l : length i.further ≡ 5 = ap length f in
     omega arith
 
-pub string_listed : Rattle.spv_inst.specs.Instruction.IsListing small (string ∷ []) (196615 ∷ 5 ∷ 6513249 ∷ [])
-string_listed = Rattle.spv_inst.specs.Instruction.Listing.more [] string [] (196615 ∷ 5 ∷ 6513249 ∷ []) [] string_spelled (Rattle.spv_inst.specs.Instruction.Listing.end _)
+pub string_listed : Rattle.spv_module.specs.Instruction.IsListing small (string ∷ []) (196615 ∷ 5 ∷ 6513249 ∷ [])
+string_listed = Rattle.spv_module.specs.Instruction.Listing.more [] string [] (196615 ∷ 5 ∷ 6513249 ∷ []) [] string_spelled (Rattle.spv_module.specs.Instruction.Listing.end _)

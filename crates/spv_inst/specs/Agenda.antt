@@ -1,15 +1,15 @@
 -- What the decoder keeps of what is due, as a list.
 use Rattle.std.specs.Prelude.{◌≡◌, ◌++◌, ◌-◌, ◌/◌, ◌%◌, ◌^◌, ℕ, List, [], ◌∷◌, Bool, true, false, nat_eq, filter, map, unwrap_or}
-use Rattle.spv_grammar.specs.declared.table.Enumerant.{Enumerant}
-use Rattle.spv_grammar.specs.declared.table.Item as declared
-use Rattle.spv_grammar.specs.Table.{Table, Item, quantified, kind_of}
+use Rattle.spv_table.specs.declared.table.Enumerant.{Enumerant}
+use Rattle.spv_table.specs.declared.table.Item as declared
+use Rattle.spv_table.specs.Table.{Table, Item, quantified, kind_of}
 use Rattle.spv_inst.specs.declared.agenda.Frame.{Frame}
 use Rattle.spv_inst.specs.declared.agenda.Frame.TheVariants.{Kinds, Bits}
 use Rattle.spv_inst.specs.declared.agenda.Agenda.{Agenda}
 use Rattle.spv_inst.specs.declared.reader.Slot as code
-use Rattle.spv_inst.specs.Operand.{Plain, Value, Mask, Context}
-use Rattle.spv_inst.specs.Shape.{Slot, alone, AsParts, shape_of}
-use Rattle.spv_inst.specs.Spelling.{bits_from, parameters_of}
+use Rattle.spv_module.specs.Operand.{Plain, Value, Mask, Context}
+use Rattle.spv_module.specs.Shape.{Slot, alone, AsParts, shape_of}
+use Rattle.spv_module.specs.Spelling.{bits_from, parameters_of}
 use Rattle.spv_inst.specs.Reading.{enumerants_at}
 use Rattle.spv_inst.specs.Flat.{Due, OneOf, MaybeOf, ManyOf, due}
 

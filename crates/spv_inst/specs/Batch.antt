@@ -3,9 +3,9 @@ use Rattle.std.specs.Prelude.{◌≤◌, ◌+◌, ℕ, List, map, take, drop, le
 use Rattle.std.specs.List.{AllByRecursion}
 use Rattle.spv_inst.specs.declared.batch.Head.{Head}
 use Rattle.spv_inst.specs.declared.batch.Batch.{Batch}
-use Rattle.spv_inst.specs.declared.operand.Operand.{Operand}
-use Rattle.spv_inst.specs.Module.{plain_operands}
-use Rattle.spv_inst.specs.Operand.{PlainInst}
+use Rattle.spv_module.specs.declared.operand.Operand.{Operand}
+use Rattle.spv_module.specs.Module.{plain_operands}
+use Rattle.spv_module.specs.Operand.{PlainInst}
 
 -- the instruction whose operands lie in the list where the head tells
 abbrev pub head_inst : List Operand → Head → PlainInst

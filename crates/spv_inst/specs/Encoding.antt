@@ -2,15 +2,15 @@
 use Rattle.std.specs.Prelude.{◌≡◌, ◌≤◌, ◌<◌, ◌+◌, ◌⊎◌, ℕ, List, ◌∷◌, ◌++◌, length, drop, Some}
 use Rattle.spv_words.specs.declared.words.Header.{Header}
 use Rattle.spv_words.specs.Header.{version_number, greatest_bound, IsHeader}
-use Rattle.spv_grammar.specs.declared.table.Entry.{Entry}
-use Rattle.spv_grammar.specs.Table.{Table, entry_of, pattern_of}
+use Rattle.spv_table.specs.declared.table.Entry.{Entry}
+use Rattle.spv_table.specs.Table.{Table, entry_of, pattern_of}
 use Rattle.spv_inst.specs.declared.obstacle.EncodeCode.{EncodeCode}
 use Rattle.spv_inst.specs.declared.obstacle.EncodeCode.TheVariants.{N1, N2, N3, N4}
-use Rattle.spv_inst.specs.declared.module.Module.{Module}
-use Rattle.spv_inst.specs.Operand.{PlainInst, start}
-use Rattle.spv_inst.specs.Spelling.{Match}
-use Rattle.spv_inst.specs.Instruction.{IsListing}
-use Rattle.spv_inst.specs.Module.{plain_insts}
+use Rattle.spv_module.specs.declared.module.Module.{Module}
+use Rattle.spv_module.specs.Operand.{PlainInst, start}
+use Rattle.spv_module.specs.Spelling.{Match}
+use Rattle.spv_module.specs.Instruction.{IsListing}
+use Rattle.spv_module.specs.Module.{plain_insts}
 use Rattle.spv_inst.specs.Outcome.{IsHeaderOf}
 
 -- The greatest number of words of a module, those of the header too. [own]

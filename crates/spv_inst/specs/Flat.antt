@@ -1,12 +1,12 @@
 -- The same by one relation over what is due and all the words left of the instruction, as a decoder goes.
 use Rattle.std.specs.Prelude.{◌≡◌, ◌+◌, ℕ, List, [], ◌∷◌, ◌++◌, map, length}
-use Rattle.spv_grammar.specs.Table.{Table, Item, One, Maybe, Many}
-use Rattle.spv_inst.specs.Operand.{Plain, Context, and_then}
-use Rattle.spv_inst.specs.Shape.{Slot, alone, AsParts, shape_of}
-use Rattle.spv_inst.specs.Spelling.{Takes}
-use Rattle.spv_inst.specs.declared.fault.Rule.{Rule}
-use Rattle.spv_inst.specs.declared.fault.Rule.TheVariants.{I5}
-use Rattle.spv_inst.specs.Refusal.{Refuses}
+use Rattle.spv_table.specs.Table.{Table, Item, One, Maybe, Many}
+use Rattle.spv_module.specs.Operand.{Plain, Context, and_then}
+use Rattle.spv_module.specs.Shape.{Slot, alone, AsParts, shape_of}
+use Rattle.spv_module.specs.Spelling.{Takes}
+use Rattle.spv_module.specs.declared.fault.Rule.{Rule}
+use Rattle.spv_module.specs.declared.fault.Rule.TheVariants.{I5}
+use Rattle.spv_module.specs.Refusal.{Refuses}
 
 -- what is due
 pub data Due : Type 0 where

@@ -5,8 +5,8 @@ use Rattle.std.specs.BTreeMap.{get}
 use Rattle.spv_inst.specs.declared.definitions.Definition.{Definition}
 use Rattle.spv_inst.specs.declared.definitions.Definitions.{Definitions}
 use Rattle.spv_inst.specs.declared.reader.Known.{Known}
-use Rattle.spv_inst.specs.Operand.{PlainInst, Context, type_in}
-use Rattle.spv_inst.specs.Width.{definition_of, declared_width, first_id}
+use Rattle.spv_module.specs.Operand.{PlainInst, Context, type_in}
+use Rattle.spv_module.specs.Width.{definition_of, declared_width, first_id}
 
 -- what is kept of a definition: its first result type, and the width that it declares
 abbrev pub summary : PlainInst → Definition

@@ -1,13 +1,4 @@
-pub mod Operand
-pub mod Width
-pub mod Shape
-pub mod Spelling
-pub mod Instruction
-pub mod Refusal
-pub mod Dead
 pub mod Flat
-pub mod Example
-pub mod Module
 pub mod Outcome
 pub mod Form
 pub mod Known

@@ -1,12 +1,12 @@
 -- What `decode` answers.
 use Rattle.std.specs.Prelude.{◌≡◌, ◌≤◌, ◌-◌, ℕ, List, drop, slice_index}
 use Rattle.spv_words.specs.declared.words.Header.{Header}
-use Rattle.spv_grammar.specs.Table.{Table}
-use Rattle.spv_inst.specs.declared.fault.Stop.{Stop}
-use Rattle.spv_inst.specs.declared.fault.Stop.TheVariants.{Fault, Memory}
-use Rattle.spv_inst.specs.Operand.{PlainInst}
-use Rattle.spv_inst.specs.Instruction.{IsListing}
-use Rattle.spv_inst.specs.Dead.{IsDeadAt}
+use Rattle.spv_table.specs.Table.{Table}
+use Rattle.spv_module.specs.declared.fault.Stop.{Stop}
+use Rattle.spv_module.specs.declared.fault.Stop.TheVariants.{Fault, Memory}
+use Rattle.spv_module.specs.Operand.{PlainInst}
+use Rattle.spv_module.specs.Instruction.{IsListing}
+use Rattle.spv_module.specs.Dead.{IsDeadAt}
 
 -- words 1 to 4 of a module
 pub record IsHeaderOf (words : List ℕ) (header : Header) : Type 0 where

@@ -1,14 +1,14 @@
 -- What the decoder's steps say of the words left of an instruction.
 use Rattle.std.specs.Prelude.{◌-◌, ℕ, List, [], Option, Some, None, take, drop, map, unwrap_or}
-use Rattle.spv_grammar.specs.Table.{Table, Sort, kind_of}
-use Rattle.spv_inst.specs.declared.fault.Rule.{Rule}
-use Rattle.spv_inst.specs.declared.operand.Operand.{Operand}
-use Rattle.spv_inst.specs.Module.{plain_operand}
-use Rattle.spv_inst.specs.Operand.{Plain, Value, Mask, Context}
-use Rattle.spv_inst.specs.Shape.{Slot, alone, shape_of}
-use Rattle.spv_inst.specs.Spelling.{Takes, parameters_of, mask_parameters}
-use Rattle.spv_inst.specs.Refusal.{Refuses}
-use Rattle.spv_grammar.specs.declared.table.Enumerant.{Enumerant}
+use Rattle.spv_table.specs.Table.{Table, Sort, kind_of}
+use Rattle.spv_module.specs.declared.fault.Rule.{Rule}
+use Rattle.spv_module.specs.declared.operand.Operand.{Operand}
+use Rattle.spv_module.specs.Module.{plain_operand}
+use Rattle.spv_module.specs.Operand.{Plain, Value, Mask, Context}
+use Rattle.spv_module.specs.Shape.{Slot, alone, shape_of}
+use Rattle.spv_module.specs.Spelling.{Takes, parameters_of, mask_parameters}
+use Rattle.spv_module.specs.Refusal.{Refuses}
+use Rattle.spv_table.specs.declared.table.Enumerant.{Enumerant}
 
 -- the words from one place up to another
 abbrev pub between : List ℕ → ℕ → ℕ → List ℕ

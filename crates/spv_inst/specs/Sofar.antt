@@ -1,8 +1,8 @@
 -- What a decoder keeps from one operand to the next.
 use Rattle.std.specs.Prelude.{◌+◌, ℕ, List, ◌++◌}
-use Rattle.spv_grammar.specs.Table.{Table}
-use Rattle.spv_inst.specs.Operand.{Plain, Context, after}
-use Rattle.spv_inst.specs.declared.fault.Rule.{Rule}
+use Rattle.spv_table.specs.Table.{Table}
+use Rattle.spv_module.specs.Operand.{Plain, Context, after}
+use Rattle.spv_module.specs.declared.fault.Rule.{Rule}
 use Rattle.spv_inst.specs.Flat.{Due, Matches, Fails}
 
 -- From the pattern and all the further words: the operands so far, what is due, the words left, and how many were taken.

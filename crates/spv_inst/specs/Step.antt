@@ -1,11 +1,11 @@
 -- What the reading of one instruction answers.
 use Rattle.std.specs.Prelude.{◌≡◌, ◌≤◌, ◌-◌, ℕ, List, drop}
-use Rattle.spv_grammar.specs.Table.{Table, Item}
-use Rattle.spv_inst.specs.declared.fault.Stop.{Stop}
-use Rattle.spv_inst.specs.declared.fault.Stop.TheVariants.{Fault, Memory}
-use Rattle.spv_inst.specs.Operand.{PlainInst, Context}
-use Rattle.spv_inst.specs.Refusal.{Misfit}
-use Rattle.spv_inst.specs.Dead.{IsDead}
+use Rattle.spv_table.specs.Table.{Table, Item}
+use Rattle.spv_module.specs.declared.fault.Stop.{Stop}
+use Rattle.spv_module.specs.declared.fault.Stop.TheVariants.{Fault, Memory}
+use Rattle.spv_module.specs.Operand.{PlainInst, Context}
+use Rattle.spv_module.specs.Refusal.{Misfit}
+use Rattle.spv_module.specs.Dead.{IsDead}
 
 -- Want of memory, or what refuses the further words of the instruction of a number, which begin at a word.
 abbrev pub IsMisfit : Table → Context → List Item → List ℕ → ℕ → ℕ → Stop → Type 0

@@ -3,19 +3,19 @@ use Rattle.std.specs.Prelude.{◌≡◌, ◌≤◌, ◌<◌, ◌+◌, ◌*◌, �
 use Rattle.std.specs.List.{list_any, AllByRecursion}
 use Rattle.spv_words.specs.declared.words.Header.{Header}
 use Rattle.spv_words.specs.Header.{magic_number}
-use Rattle.spv_grammar.specs.Table.{Table, Item}
+use Rattle.spv_table.specs.Table.{Table, Item}
 use Rattle.spv_inst.specs.declared.obstacle.EncodeCode.{EncodeCode}
 use Rattle.spv_inst.specs.declared.obstacle.EncodeCode.TheVariants.{N2, N3, N4}
-use Rattle.spv_inst.specs.Operand.{Plain, OfType, Result, Id, Word, Number, Text, Value, Mask, PlainInst, Context}
-use Rattle.spv_inst.specs.Shape.{Slot, Shape, alone, shape_of, AsType, AsResult, AsId, AsWord, AsNumber, AsText, AsValue, AsMask}
-use Rattle.spv_inst.specs.Spelling.{parameters_of, mask_parameters, Takes, Match}
-use Rattle.spv_inst.specs.Instruction.{IsInstruction, IsListing}
+use Rattle.spv_module.specs.Operand.{Plain, OfType, Result, Id, Word, Number, Text, Value, Mask, PlainInst, Context}
+use Rattle.spv_module.specs.Shape.{Slot, Shape, alone, shape_of, AsType, AsResult, AsId, AsWord, AsNumber, AsText, AsValue, AsMask}
+use Rattle.spv_module.specs.Spelling.{parameters_of, mask_parameters, Takes, Match}
+use Rattle.spv_module.specs.Instruction.{IsInstruction, IsListing}
 use Rattle.spv_inst.specs.Flat.{Due, OneOf}
 use Rattle.spv_inst.specs.Agenda.{LeadsTo, settled, opened_kinds}
-use Rattle.spv_inst.specs.Refusal.{IsLeaf}
+use Rattle.spv_module.specs.Refusal.{IsLeaf}
 use Rattle.spv_inst.specs.Encoding.{Hinders, greatest_length}
-use Rattle.spv_inst.specs.declared.module.Module.{Module}
-use Rattle.spv_inst.specs.Module.{plain_insts}
+use Rattle.spv_module.specs.declared.module.Module.{Module}
+use Rattle.spv_module.specs.Module.{plain_insts}
 
 -- the words of a text, a zero octet and up to three more added
 abbrev pub text_words : List ℕ → List ℕ

@@ -1,20 +1,20 @@
 //! What is due in an instruction.
 
 ghost use Rattle.std.specs.Prelude.{◌≡◌, ◌++◌, ◌∷◌, [], ◌<◌, map, length, IfOk, IfSome, OnOk, MatchOption, unwrap_or};
-ghost use Rattle.spv_grammar.specs.Table.{Table, kind_of};
+ghost use Rattle.spv_table.specs.Table.{Table, kind_of};
 ghost use Rattle.spv_inst.specs.declared.form.Form.TheVariants.{Leaf as LeafForm};
 ghost use Rattle.spv_inst.specs.Form.{form_of, form_at};
-ghost use Rattle.spv_inst.specs.Module.{plain_operand};
-ghost use Rattle.spv_inst.specs.Shape.{alone};
-ghost use Rattle.spv_inst.specs.Spelling.{parameters_of};
+ghost use Rattle.spv_module.specs.Module.{plain_operand};
+ghost use Rattle.spv_module.specs.Shape.{alone};
+ghost use Rattle.spv_module.specs.Spelling.{parameters_of};
 ghost use Rattle.spv_inst.specs.Reading.{enumerants_at};
 ghost use Rattle.spv_inst.specs.Flat.{OneOf, due};
 ghost use Rattle.spv_inst.specs.Agenda.{plain_slot, slots_of, parameters_from, frame_due, frames_due, items_of, due_first, agenda_due, settled, LeadsTo, Opens, opened_kinds};
 
 use crate::form::{Form, Leaf};
-use crate::operand::Operand;
 use crate::reader::Slot;
-use spv_grammar::{Item, Quantifier, Table};
+use spv_module::Operand;
+use spv_table::{Item, Quantifier, Table};
 use std::alloc::{AllocError, Global};
 
 /// A place in an open list of parameters.

@@ -1,10 +1,8 @@
 ghost use Rattle.std.specs.Prelude.{◌≡◌, ◌++◌, ◌∷◌, ◌≤◌, [], length, take, drop, map, OnOk};
-ghost use Rattle.spv_inst.specs.Module.{plain_inst, plain_operands};
+ghost use Rattle.spv_module.specs.Module.{plain_inst, plain_operands};
 ghost use Rattle.spv_inst.specs.Batch.{batch_insts, head_inst, IsTidy, AreWithin};
 
-use crate::module::Inst;
-use crate::operand::Operand;
-use crate::operands::Operands;
+use spv_module::{Inst, Operand, Operands};
 use std::alloc::{AllocError, Global};
 use std::mem::replace;
 use std::rc::Rc;

@@ -1,23 +1,32 @@
-ghost use Rattle.std.specs.Prelude.{◌≡◌, List, drop, IfOk, IfErr};
-ghost use Rattle.spv_inst.specs.Operand.{PlainInst};
-ghost use Rattle.spv_inst.specs.Module.{plain_insts};
-ghost use Rattle.spv_inst.specs.Instruction.{IsListing};
+ghost use Rattle.std.specs.Prelude.{◌≡◌, List, [], drop, IfOk, IfErr};
+ghost use Rattle.spv_module.specs.Operand.{PlainInst};
+ghost use Rattle.spv_module.specs.Module.{plain_insts};
+ghost use Rattle.spv_module.specs.Instruction.{IsListing};
 ghost use Rattle.spv_inst.specs.Outcome.{HasNoList, IsDeath, IsHeaderOf};
 
 use crate::agenda::Agenda;
 use crate::batch::Batch;
 use crate::definitions::Definitions;
-use crate::fault::Stop;
 use crate::form::forms_of;
 use crate::instruction::{Read, read_instruction};
-use crate::module::Module;
 use crate::reader::Scene;
-use spv_grammar::Table;
-use spv_words::Image;
-use std::alloc::Global;
+use spv_module::{Module, Stop};
+use spv_table::Table;
+use spv_words::{Header, Image};
+use std::alloc::{AllocError, Global};
 
 /// How many words the decoder reckons an instruction has, to keep room for all of them from the start.
 const WORDS_FOR_EACH: u32 = 4;
+
+/// A module with that header and no instruction, with room for so many. The error is want of memory.
+fn with_room<'a>(alloc: Global, header: Header, count: usize) -> Result<Module<'a>, AllocError>
+    ensures header { IfOk result (λ m. m.header ≡ header) }
+    ensures insts { IfOk result (λ m. plain_insts m ≡ []) }
+{
+    let mut module = Module::new(alloc, header);
+    module.insts = Vec::with_capacity(alloc, count)?;
+    Ok(module)
+}
 
 /// The instructions of an image by a grammar table, with texts lent by the image.
 ///
@@ -39,7 +48,7 @@ pub fn decode<'a>(alloc: Global, table: &Table, image: &'a Image) -> Result<Modu
     let mut definitions = Definitions::new(alloc);
     let mut agenda = Agenda::new(alloc);
     let len = image.len();
-    let mut module = Module::with_room(alloc, image.header(), (len / WORDS_FOR_EACH) as usize)?;
+    let mut module = with_room(alloc, image.header(), (len / WORDS_FOR_EACH) as usize)?;
     let mut batch = Batch::new(alloc);
     let mut number = 0;
     let mut at = 5;

@@ -1,12 +1,12 @@
 ghost use Rattle.std.specs.Prelude.{◌≡◌, ◌++◌, ◌∷◌, ◌<◌, ◌≤◌, [], ℕ, List, Some, None, nat_eq, slice_index_or, if◌then◌else◌, length, OnOk};
-ghost use Rattle.spv_inst.specs.Operand.{PlainInst};
-ghost use Rattle.spv_inst.specs.Operand as operand;
-ghost use Rattle.spv_inst.specs.Width as width;
-ghost use Rattle.spv_inst.specs.Width.{width_of, type_of};
-ghost use Rattle.spv_inst.specs.Module.{plain_operands};
+ghost use Rattle.spv_module.specs.Operand.{PlainInst};
+ghost use Rattle.spv_module.specs.Operand as operand;
+ghost use Rattle.spv_module.specs.Width as width;
+ghost use Rattle.spv_module.specs.Width.{width_of, type_of};
+ghost use Rattle.spv_module.specs.Module.{plain_operands};
 ghost use Rattle.spv_inst.specs.Known.{Knows, kept};
 
-use crate::operand::Operand;
+use spv_module::{Operand, result_in, type_in};
 use std::alloc::{AllocError, Global};
 use std::collections::BTreeMap;
 
@@ -24,30 +24,6 @@ const TYPE_INT: u16 = 21;
 
 /// The opcode of OpTypeFloat.
 const TYPE_FLOAT: u16 = 22;
-
-/// The first result of the operands.
-pub fn result_in(operands: &[Operand]) -> Option<u32>
-    ensures { result ≡ operand.result_in (plain_operands operands.now) }
-{
-    for operand in operands {
-        if let Operand::Result(id) = operand {
-            return Some(*id);
-        }
-    }
-    None
-}
-
-/// The first result type of the operands.
-pub fn type_in(operands: &[Operand]) -> Option<u32>
-    ensures { result ≡ operand.type_in (plain_operands operands.now) }
-{
-    for operand in operands {
-        if let Operand::OfType(id) = operand {
-            return Some(*id);
-        }
-    }
-    None
-}
 
 /// The width that operands beginning with a result and a word tell, in bits.
 fn width_in(operands: &[Operand]) -> Option<u8>

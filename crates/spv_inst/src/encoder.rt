@@ -2,12 +2,12 @@
 
 ghost use Rattle.std.specs.Prelude.{◌≡◌, ◌≤◌, ◌<◌, ◌+◌, ◌^◌, ◌↔◌, IsTrue, ◌*◌, ◌++◌, ◌∷◌, [], List, length, drop, map, IfOk, IfErr, IfSome, OnOk, MatchOption, slice_index};
 ghost use Rattle.spv_words.specs.Header.{IsHeader};
-ghost use Rattle.spv_grammar.specs.Table.{kind_of};
+ghost use Rattle.spv_table.specs.Table.{kind_of};
 ghost use Rattle.spv_inst.specs.declared.form.Form.TheVariants.{Leaf as LeafForm};
 ghost use Rattle.spv_inst.specs.Form.{form_of, form_at};
-ghost use Rattle.spv_inst.specs.Operand.{PlainInst, Context, start};
-ghost use Rattle.spv_inst.specs.Module.{plain_operand, plain_operands, plain_inst, plain_insts};
-ghost use Rattle.spv_inst.specs.Instruction.{IsListing};
+ghost use Rattle.spv_module.specs.Operand.{PlainInst, Context, start};
+ghost use Rattle.spv_module.specs.Module.{plain_operand, plain_operands, plain_inst, plain_insts};
+ghost use Rattle.spv_module.specs.Instruction.{IsListing};
 ghost use Rattle.spv_inst.specs.Known.{IsNear, Knows};
 ghost use Rattle.spv_inst.specs.Agenda.{plain_slot, items_of, agenda_due, settled};
 ghost use Rattle.spv_inst.specs.Outcome.{IsHeaderOf};
@@ -18,12 +18,11 @@ use crate::agenda::Agenda;
 use crate::definitions::Definitions;
 use crate::form::{Form, forms_of};
 use crate::instruction::known_after;
-use crate::module::{Inst, Module};
 use crate::obstacle::{EncodeCode, EncodeError};
-use crate::operand::Operand;
 use crate::reader::Known;
 use crate::written::{fits, push_operand, read_text};
-use spv_grammar::{Item, Table};
+use spv_module::{Inst, Module, Operand};
+use spv_table::{Item, Table};
 use spv_words::{Draft, GREATEST_BOUND, GREATEST_LENGTH, Header, Image, MAGIC_NUMBER, VERSION};
 use std::alloc::{AllocError, Global};
 

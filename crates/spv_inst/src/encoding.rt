@@ -2,17 +2,17 @@
 
 ghost use Rattle.std.specs.Prelude.{◌≡◌, ◌≤◌, ◌+◌, ℕ, List, [], ◌∷◌, drop, length};
 ghost use Rattle.spv_words.specs.Header.{IsHeader};
-ghost use Rattle.spv_grammar.specs.Table.{Table};
-ghost use Rattle.spv_inst.specs.Operand.{PlainInst, Result, Text};
-ghost use Rattle.spv_inst.specs.Instruction.{IsListing};
-ghost use Rattle.spv_inst.specs.Module.{plain_insts};
+ghost use Rattle.spv_table.specs.Table.{Table};
+ghost use Rattle.spv_module.specs.Operand.{PlainInst, Result, Text};
+ghost use Rattle.spv_module.specs.Instruction.{IsListing};
+ghost use Rattle.spv_module.specs.Module.{plain_insts};
 ghost use Rattle.spv_inst.specs.Outcome.{IsDeath, IsHeaderOf};
-ghost use Rattle.spv_inst.specs.declared.fault.Stop.{Stop};
-ghost use Rattle.spv_inst.specs.declared.fault.Stop.TheVariants.{Memory};
-ghost use Rattle.spv_inst.specs.declared.module.Module.{Module};
+ghost use Rattle.spv_module.specs.declared.fault.Stop.{Stop};
+ghost use Rattle.spv_module.specs.declared.fault.Stop.TheVariants.{Memory};
+ghost use Rattle.spv_module.specs.declared.module.Module.{Module};
 ghost use Rattle.spv_inst.specs.declared.obstacle.EncodeCode.{EncodeCode};
 ghost use Rattle.spv_inst.specs.declared.obstacle.EncodeCode.TheVariants.{N2, N4};
-ghost use Rattle.spv_inst.specs.Example.{small, string};
+ghost use Rattle.spv_module.specs.Example.{small, string};
 ghost use Rattle.spv_inst.specs.Encoding.{Fits, IsTooLong, IsImageOf, IsRefused, StopsAt, greatest_length};
 
 /// Where words spell a list of instructions and are not too many, the list stops at none. So a module that was decoded

@@ -1,15 +1,14 @@
 ghost use Rattle.std.specs.Prelude.{◌≡◌, ℕ, List, [], ◌∷◌, ◌++◌, Some, map, is_some, option_map, IfOk, IfErr, IfSome, unwrap_or};
-ghost use Rattle.spv_grammar.specs.Table.{kind_of};
-ghost use Rattle.spv_inst.specs.Shape.{alone, AsValue, AsMask};
-ghost use Rattle.spv_inst.specs.Spelling.{Takes, parameters_of, mask_parameters};
-ghost use Rattle.spv_inst.specs.Refusal.{Refuses};
-ghost use Rattle.spv_inst.specs.Module.{plain_operand};
+ghost use Rattle.spv_table.specs.Table.{kind_of};
+ghost use Rattle.spv_module.specs.Shape.{alone, AsValue, AsMask};
+ghost use Rattle.spv_module.specs.Spelling.{Takes, parameters_of, mask_parameters};
+ghost use Rattle.spv_module.specs.Refusal.{Refuses};
+ghost use Rattle.spv_module.specs.Module.{plain_operand};
 ghost use Rattle.spv_inst.specs.Reading.{enumerants_at, parameter_kinds};
 
-use crate::fault::Rule;
-use crate::operand::Operand;
 use crate::reader::{Refusal, Taken};
-use spv_grammar::Table;
+use spv_module::{Operand, Rule};
+use spv_table::Table;
 
 /// Whether the kind of a number, from 0, has an enumerant of a value. A kind that the table has not has none.
 pub fn knows(table: &Table, kind: u32, value: u32) -> bool

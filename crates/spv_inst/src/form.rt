@@ -1,8 +1,8 @@
 ghost use Rattle.std.specs.Prelude.{◌≡◌, map, IfOk};
-ghost use Rattle.spv_grammar.specs.Table.{IsWhole};
+ghost use Rattle.spv_table.specs.Table.{IsWhole};
 ghost use Rattle.spv_inst.specs.Form.{form_of, id_leaf, literal_leaf, category_form};
 
-use spv_grammar::{Category, Kind, Table};
+use spv_table::{Category, Kind, Table};
 use std::alloc::{AllocError, Global};
 
 /// What a kind of one operand asks for (SPIR-V Specification 1.6, section 2.2.1).

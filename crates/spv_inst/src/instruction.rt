@@ -1,27 +1,25 @@
 //! One instruction.
 
 ghost use Rattle.std.specs.Prelude.{◌≡◌, ◌≤◌, ◌<◌, ◌+◌, ◌-◌, ◌++◌, ◌∷◌, [], List, length, map, take, drop, IfOk, IfErr, OnOk};
-ghost use Rattle.spv_grammar.specs.Table.{Item, pattern_of, IsWhole};
+ghost use Rattle.spv_table.specs.Table.{Item, pattern_of, IsWhole};
 ghost use Rattle.spv_inst.specs.Agenda.{due_first};
 ghost use Rattle.spv_inst.specs.Flat.{due};
 ghost use Rattle.spv_inst.specs.Form.{form_of};
-ghost use Rattle.spv_inst.specs.Instruction.{IsInstruction};
+ghost use Rattle.spv_module.specs.Instruction.{IsInstruction};
 ghost use Rattle.spv_inst.specs.Known.{Knows};
-ghost use Rattle.spv_inst.specs.Module.{plain_operand, plain_operands};
-ghost use Rattle.spv_inst.specs.Operand.{PlainInst, type_in, start};
+ghost use Rattle.spv_module.specs.Module.{plain_operand, plain_operands};
+ghost use Rattle.spv_module.specs.Operand.{PlainInst, type_in, start};
 ghost use Rattle.spv_inst.specs.Reading.{between};
 ghost use Rattle.spv_inst.specs.Sofar.{Sofar};
-ghost use Rattle.spv_inst.specs.Spelling.{Match};
+ghost use Rattle.spv_module.specs.Spelling.{Match};
 ghost use Rattle.spv_inst.specs.Step.{IsMisfit, IsDeadFrom};
-ghost use Rattle.spv_inst.specs.Width.{first_id};
+ghost use Rattle.spv_module.specs.Width.{first_id};
 
 use crate::agenda::Agenda;
-use crate::definitions;
-use crate::fault::{Fault, Rule, Stop};
-use crate::operand::Operand;
 use crate::plain::{Rest, next_kind, read_words};
 use crate::reader::{Known, Scene, take_operand};
-use spv_grammar::Entry;
+use spv_module::{Fault, Operand, Rule, Stop};
+use spv_table::Entry;
 use spv_words::word;
 
 /// Where an instruction lies.
@@ -120,7 +118,7 @@ fn known_of(opcode: u16, operands: &[Operand<'_>]) -> Known
     };
     Known {
         opcode,
-        type_id: definitions::type_in(operands),
+        type_id: spv_module::type_in(operands),
         first,
     }
 }

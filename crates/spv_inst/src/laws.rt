@@ -1,16 +1,16 @@
 ghost use Rattle.std.specs.Prelude.{◌≡◌, ◌<◌, ◌^◌, ◌↔◌, ℕ, List, [], ◌∷◌, Some, None, map};
 ghost use Rattle.std.specs.List.{AllByRecursion};
-ghost use Rattle.spv_inst.specs.Shape.{Shape, AsText, alone};
-ghost use Rattle.spv_grammar.specs.Table.{Table, Item, pattern_of};
-ghost use Rattle.spv_inst.specs.Operand.{Plain, PlainInst, Context, Mask, Word, start};
-ghost use Rattle.spv_inst.specs.Width.{width_of, type_of};
-ghost use Rattle.spv_inst.specs.Spelling.{Match, Spells};
-ghost use Rattle.spv_inst.specs.Instruction.{IsInstruction, IsListing};
-ghost use Rattle.spv_inst.specs.declared.fault.Rule.{Rule};
-ghost use Rattle.spv_inst.specs.declared.fault.Rule.TheVariants.{I7, I8};
-ghost use Rattle.spv_inst.specs.Refusal.{Misfit, IsLeaf, Meets, Refuses};
-ghost use Rattle.spv_inst.specs.Dead.{IsDeadAt};
-ghost use Rattle.spv_inst.specs.Example.{small, load, load_entry, string, long_value, declared_twice, switch};
+ghost use Rattle.spv_module.specs.Shape.{Shape, AsText, alone};
+ghost use Rattle.spv_table.specs.Table.{Table, Item, pattern_of};
+ghost use Rattle.spv_module.specs.Operand.{Plain, PlainInst, Context, Mask, Word, start};
+ghost use Rattle.spv_module.specs.Width.{width_of, type_of};
+ghost use Rattle.spv_module.specs.Spelling.{Match, Spells};
+ghost use Rattle.spv_module.specs.Instruction.{IsInstruction, IsListing};
+ghost use Rattle.spv_module.specs.declared.fault.Rule.{Rule};
+ghost use Rattle.spv_module.specs.declared.fault.Rule.TheVariants.{I7, I8};
+ghost use Rattle.spv_module.specs.Refusal.{Misfit, IsLeaf, Meets, Refuses};
+ghost use Rattle.spv_module.specs.Dead.{IsDeadAt};
+ghost use Rattle.spv_module.specs.Example.{small, load, load_entry, string, long_value, declared_twice, switch};
 ghost use Rattle.spv_inst.specs.Flat.{Matches, Fails, due};
 
 /// The same words have at most one operand list by a pattern.

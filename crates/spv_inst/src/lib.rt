@@ -9,15 +9,11 @@ pub mod due;
 mod encoder;
 mod encoding;
 mod enumerant;
-mod fault;
 mod form;
 mod instruction;
 mod laws;
-mod module;
 mod number;
 mod obstacle;
-mod operand;
-mod operands;
 mod plain;
 mod reader;
 mod text;
@@ -29,14 +25,10 @@ pub use encoding::{
     decodes_back, encodes_back, encoding_examples, image_or_refused, listed_or_stopped, one_image,
     one_stop,
 };
-pub use fault::{Fault, Rule, Stop};
 pub use laws::{
     instruction_examples, kind_examples, list_examples, listed_or_dead, no_gap, one_death,
     one_listing, one_listing_spelling, one_reading, one_spelling, pattern_examples,
     refusal_examples, same_matches, same_misfits, width_examples,
 };
-pub use module::{Inst, Module};
 pub use obstacle::{EncodeCode, EncodeError};
-pub use operand::Operand;
-pub use operands::Operands;
-pub use spv_grammar::Memory;
+pub use spv_module::{Fault, Inst, Memory, Module, Operand, Operands, Rule, Stop};

@@ -1,18 +1,17 @@
 ghost use Rattle.std.specs.Prelude.{◌≡◌, ◌≤◌, ◌<◌, ◌-◌, ℕ, [], length, take, IfOk, IfErr};
-ghost use Rattle.spv_grammar.specs.Table.{Table};
+ghost use Rattle.spv_table.specs.Table.{Table};
 ghost use Rattle.spv_inst.specs.Known.{IsNear};
-ghost use Rattle.spv_inst.specs.Operand.{Context};
-ghost use Rattle.spv_inst.specs.Width as width;
-ghost use Rattle.spv_inst.specs.Shape.{AsNumber};
-ghost use Rattle.spv_inst.specs.Spelling.{Takes};
-ghost use Rattle.spv_inst.specs.Refusal.{Refuses};
-ghost use Rattle.spv_inst.specs.Module.{plain_operand};
+ghost use Rattle.spv_module.specs.Operand.{Context};
+ghost use Rattle.spv_module.specs.Width as width;
+ghost use Rattle.spv_module.specs.Shape.{AsNumber};
+ghost use Rattle.spv_module.specs.Spelling.{Takes};
+ghost use Rattle.spv_module.specs.Refusal.{Refuses};
+ghost use Rattle.spv_module.specs.Module.{plain_operand};
 ghost use Rattle.spv_inst.specs.Reading.{between, parameter_kinds};
 
 use crate::definitions::Definitions;
-use crate::fault::Rule;
-use crate::operand::Operand;
 use crate::reader::{Known, Refusal, Taken};
+use spv_module::{Operand, Rule};
 use spv_words::{Image, word};
 
 /// The opcode of OpSwitch.

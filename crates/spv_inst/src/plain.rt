@@ -1,14 +1,14 @@
 //! Operands of one word.
 
 ghost use Rattle.std.specs.Prelude.{◌≡◌, List, ◌≤◌, ◌<◌, ◌+◌, ◌-◌, ◌++◌, ◌∷◌, [], length, map, take, drop, IfOk, IfSome, MatchOption};
-ghost use Rattle.spv_grammar.specs.Table.{Table, kind_of};
-ghost use Rattle.spv_grammar.specs.declared.table.Enumerant.{Enumerant};
+ghost use Rattle.spv_table.specs.Table.{Table, kind_of};
+ghost use Rattle.spv_table.specs.declared.table.Enumerant.{Enumerant};
 ghost use Rattle.spv_inst.specs.declared.form.Form.TheVariants.{Leaf as LeafForm};
 ghost use Rattle.spv_inst.specs.Form.{form_of, form_at};
-ghost use Rattle.spv_inst.specs.Operand.{Context};
-ghost use Rattle.spv_inst.specs.Module.{plain_operand, plain_operands};
-ghost use Rattle.spv_inst.specs.Shape.{alone, shape_of, AsMask};
-ghost use Rattle.spv_inst.specs.Spelling.{Takes};
+ghost use Rattle.spv_module.specs.Operand.{Context};
+ghost use Rattle.spv_module.specs.Module.{plain_operand, plain_operands};
+ghost use Rattle.spv_module.specs.Shape.{alone, shape_of, AsMask};
+ghost use Rattle.spv_module.specs.Spelling.{Takes};
 ghost use Rattle.spv_inst.specs.Reading.{between};
 ghost use Rattle.spv_inst.specs.Agenda.{items_of, settled, due_first};
 ghost use Rattle.spv_inst.specs.Flat.{OneOf, due};
@@ -17,8 +17,8 @@ ghost use Rattle.spv_inst.specs.Sofar.{Sofar};
 use crate::agenda::{form_in, next_item};
 use crate::enumerant::{joined, mask_kinds, value_kinds};
 use crate::form::{Form, Leaf};
-use crate::operand::Operand;
-use spv_grammar::{Item, Table};
+use spv_module::Operand;
+use spv_table::{Item, Table};
 use spv_words::{Image, word};
 use std::alloc::AllocError;
 

@@ -1,19 +1,18 @@
 ghost use Rattle.std.specs.Prelude.{◌≡◌, ◌≤◌, ◌<◌, ◌-◌, ℕ, None, length, IfOk, IfErr};
-ghost use Rattle.spv_grammar.specs.Table.{kind_of};
+ghost use Rattle.spv_table.specs.Table.{kind_of};
 ghost use Rattle.spv_inst.specs.declared.form.Form.TheVariants.{Leaf as LeafForm};
 ghost use Rattle.spv_inst.specs.Form.{form_at};
 ghost use Rattle.spv_inst.specs.Known.{IsNear};
-ghost use Rattle.spv_inst.specs.Operand.{Context};
+ghost use Rattle.spv_module.specs.Operand.{Context};
 ghost use Rattle.spv_inst.specs.Reading.{between, TakesFront, RefusesFront};
 
 use crate::definitions::Definitions;
 use crate::enumerant::{take_mask, take_value};
-use crate::fault::Rule;
 use crate::form::{Form, Leaf};
 use crate::number::{SWITCH, context_width, switch_width, take_number};
-use crate::operand::Operand;
 use crate::text::take_text;
-use spv_grammar::Table;
+use spv_module::{Operand, Rule};
+use spv_table::Table;
 use spv_words::{Image, word};
 
 /// What does not change while an instruction is decoded.

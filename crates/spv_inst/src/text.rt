@@ -1,18 +1,17 @@
 ghost use Rattle.std.specs.Prelude.{◌≡◌, ◌≤◌, ◌<◌, ◌-◌, ◌/◌, ◌%◌, ◌↔◌, ℕ, [], length, take, IfOk, IfErr, IsTrue};
 ghost use Rattle.spv_words.specs.Words.{words_of};
 ghost use Rattle.spv_words.specs.declared.words.Order.TheVariants.{Little};
-ghost use Rattle.spv_grammar.specs.Table.{Table};
-ghost use Rattle.spv_inst.specs.Module.{plain_operand};
-ghost use Rattle.spv_inst.specs.Shape.{AsText};
-ghost use Rattle.spv_inst.specs.Spelling.{AreZeros, Takes};
-ghost use Rattle.spv_inst.specs.Refusal.{Refuses};
+ghost use Rattle.spv_table.specs.Table.{Table};
+ghost use Rattle.spv_module.specs.Module.{plain_operand};
+ghost use Rattle.spv_module.specs.Shape.{AsText};
+ghost use Rattle.spv_module.specs.Spelling.{AreZeros, Takes};
+ghost use Rattle.spv_module.specs.Refusal.{Refuses};
 ghost use Rattle.spv_inst.specs.Reading.{between, parameter_kinds};
 
-use crate::fault::Rule;
-use crate::operand::Operand;
 use crate::reader::{Refusal, Taken};
 use memchr::memchr;
 use simdutf8::basic::from_utf8;
+use spv_module::{Operand, Rule};
 use spv_words::Image;
 
 /// Whether each octet is zero.

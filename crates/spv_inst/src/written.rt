@@ -2,12 +2,12 @@
 
 ghost use Rattle.std.specs.Prelude.{◌≡◌, ◌++◌, ◌+◌, ◌*◌, ◌<◌, ◌∷◌, [], ℕ, length, OnOk, IsUtf8, slice_index};
 ghost use Rattle.std.specs.List.{AllByRecursion};
-ghost use Rattle.spv_grammar.specs.Table.{kind_of};
+ghost use Rattle.spv_table.specs.Table.{kind_of};
 ghost use Rattle.spv_inst.specs.declared.form.Form.TheVariants.{Leaf as LeafForm};
 ghost use Rattle.spv_inst.specs.Form.{form_at};
-ghost use Rattle.spv_inst.specs.Operand.{Context};
-ghost use Rattle.spv_inst.specs.Module.{plain_operand};
-ghost use Rattle.spv_inst.specs.Shape.{shape_of, AsType, AsResult, AsId, AsWord, AsNumber, AsText, AsValue, AsMask};
+ghost use Rattle.spv_module.specs.Operand.{Context};
+ghost use Rattle.spv_module.specs.Module.{plain_operand};
+ghost use Rattle.spv_module.specs.Shape.{shape_of, AsType, AsResult, AsId, AsWord, AsNumber, AsText, AsValue, AsMask};
 ghost use Rattle.spv_inst.specs.Reading.{enumerants_at};
 ghost use Rattle.spv_inst.specs.Agenda.{plain_slot};
 ghost use Rattle.spv_inst.specs.Written as written;
@@ -19,9 +19,9 @@ use crate::definitions::Definitions;
 use crate::enumerant::{knows, knows_bits};
 use crate::form::Leaf;
 use crate::number::{SWITCH, context_width, switch_width};
-use crate::operand::Operand;
 use crate::reader::Known;
-use spv_grammar::Table;
+use spv_module::Operand;
+use spv_table::Table;
 use std::alloc::AllocError;
 
 /// Whether a number of a high word, with so many words, has the width, in bits.

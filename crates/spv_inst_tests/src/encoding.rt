@@ -1,6 +1,6 @@
 //! Modules that are put together and written, and those that no words spell.
 
-use spv_grammar::Table;
+use spv_grammar::{FromGrammar, Table};
 use spv_inst::Operand::{Id, Mask, Number, OfType, Result as Made, Text, Value, Word};
 use spv_inst::{EncodeCode, EncodeError, Module, Operand, Operands, decode, encode};
 use spv_samples::PROFILE;

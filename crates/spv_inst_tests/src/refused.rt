@@ -1,7 +1,7 @@
 //! Each growth of memory refused in turn: the call answers its own error for want of memory. With none refused it answers
 //! rightly.
 
-use spv_grammar::Table;
+use spv_grammar::{FromGrammar, Table};
 use spv_inst::Operand::{Id, OfType, Result as Made, Text};
 use spv_inst::{EncodeCode, EncodeError, Inst, Memory, Module, Stop, decode, encode};
 use spv_samples::{

@@ -3,11 +3,11 @@ use Rattle.std.proofs.Common.{◌≡◌, ◌≢◌, ◌≤◌, ◌∙◌, ◌++�
 use Rattle.std.proofs.lemmas.Bool.Decides.{eqb_tells}
 use Rattle.std.proofs.Math.ListN.{drop_of_length-le}
 use Rattle.std.proofs.lemmas.List.{length-drop, length-take, take_all, take-map, drop-map}
-use Rattle.spv_inst.specs.declared.operand.Operand.{Operand}
-use Rattle.spv_inst.specs.Module.{plain_operand}
-use Rattle.spv_grammar.specs.Table.{Table}
-use Rattle.spv_inst.specs.Operand.{Plain, PlainInst}
-use Rattle.spv_inst.specs.Operand as operand
+use Rattle.spv_module.specs.declared.operand.Operand.{Operand}
+use Rattle.spv_module.specs.Module.{plain_operand}
+use Rattle.spv_table.specs.Table.{Table}
+use Rattle.spv_module.specs.Operand.{Plain, PlainInst}
+use Rattle.spv_module.specs.Operand as operand
 use Rattle.spv_layout.specs.declared.form.Role.TheVariants as role
 use Rattle.spv_layout.specs.declared.form.Form.{Form}
 use Rattle.spv_layout.specs.declared.form.Form.TheVariants as form

@@ -4,7 +4,7 @@ use Rattle.spv_layout.specs.declared.place.Early.{Early}
 use Rattle.spv_layout.specs.declared.place.Standing.{Standing}
 use Rattle.spv_layout.specs.declared.place.Place.{Place}
 use Rattle.spv_layout.specs.declared.span.Spans.{Spans}
-use Rattle.spv_inst.specs.Operand.{PlainInst}
+use Rattle.spv_module.specs.Operand.{PlainInst}
 use Rattle.spv_layout.specs.declared.class.Class.{Class}
 use Rattle.spv_layout.specs.Layout.{classes}
 use Rattle.spv_layout.specs.Place.{section_of}

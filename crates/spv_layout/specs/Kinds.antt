@@ -1,6 +1,6 @@
 -- The numbers that are kept of a grammar table. (For the code alone.)
 use Rattle.std.specs.Prelude.{◌≡◌, ℕ, Some, slice_get}
-use Rattle.spv_grammar.specs.Lookups.{number_named}
+use Rattle.spv_table.specs.Lookups.{number_named}
 use Rattle.spv_layout.specs.declared.form.Named.{Named}
 use Rattle.spv_layout.specs.declared.form.Named.TheVariants as kind_of
 use Rattle.spv_layout.specs.declared.kinds.Kinds.TheInside.{Inside}

@@ -1,6 +1,6 @@
 -- What rows say of themselves besides: whether their operands, or the fixed ones, take one word each, and the section of their class. (For the code alone.)
 use Rattle.std.specs.Prelude.{◌≡◌, ◌≤◌, ◌+◌, ℕ, List, [], ◌∷◌, Bool, true, false, not, ◌&&◌, if◌then◌else◌, nat_eq, Option, Some, None, length, drop, sum_by}
-use Rattle.spv_inst.specs.Operand.{Plain}
+use Rattle.spv_module.specs.Operand.{Plain}
 use Rattle.spv_layout.specs.declared.form.Form.{Form}
 use Rattle.spv_layout.specs.declared.form.Form.TheVariants as form
 use Rattle.spv_layout.specs.declared.form.Row as declared

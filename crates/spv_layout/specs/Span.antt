@@ -1,6 +1,6 @@
 -- What a pass over the instructions keeps of functions and blocks. (For the code alone.)
 use Rattle.std.specs.Prelude.{◌<◌, ◌≤◌, ℕ, List, [], ◌∷◌, Bool, if◌then◌else◌, Option, Some, None, nat_lt, nat_eq}
-use Rattle.spv_inst.specs.Operand.{PlainInst}
+use Rattle.spv_module.specs.Operand.{PlainInst}
 use Rattle.spv_layout.specs.declared.class.Class.{Class}
 use Rattle.spv_layout.specs.declared.class.Class.TheVariants as class
 use Rattle.spv_layout.specs.declared.span.Spans.{Spans}

@@ -2,7 +2,7 @@
 
 ghost use Rattle.std.specs.Prelude.{◌≡◌, ◌+◌, ◌&&◌, [], true, length, map, Some, IfSome, IfNone};
 ghost use Rattle.spv_layout.specs.Place.{section_of, word_count};
-ghost use Rattle.spv_inst.specs.Module.{plain_inst, plain_operand};
+ghost use Rattle.spv_module.specs.Module.{plain_inst, plain_operand};
 ghost use Rattle.spv_layout.specs.Row.{has_masks, plain_ending, plain_row};
 ghost use Rattle.spv_layout.specs.Rows.{class_of};
 ghost use Rattle.spv_layout.specs.Shape.{Fits, is_of};
@@ -13,7 +13,7 @@ ghost use Rattle.spv_layout.specs.Test.{sort_of, sort_for, are_of, are_others, a
 use crate::form::{Ending, Form, Named, Role, Row};
 use crate::kinds::Kinds;
 use crate::rows::row;
-use spv_inst::{Inst, Operand};
+use spv_module::{Inst, Operand};
 
 /// Whether a kind's operands are masks.
 #[inline(always)]

@@ -1,10 +1,10 @@
 ghost use Rattle.std.specs.Prelude.{◌≡◌, ◌<◌};
-ghost use Rattle.spv_grammar.specs.Lookups.{number_named, is_number};
+ghost use Rattle.spv_table.specs.Lookups.{number_named, is_number};
 ghost use Rattle.spv_layout.specs.Kinds.{place_of};
 ghost use Rattle.spv_layout.specs.Row.{name_of};
 
 use crate::form::Named;
-use spv_grammar::Table;
+use spv_table::Table;
 use std::marker::Model;
 
 /// A grammar table, with the numbers of the kinds that rows name: they are looked up once. Contracts see it as the table.
@@ -16,7 +16,7 @@ pub struct Kinds<'a> {
 }
 
 impl<'a> Model for Kinds<'a> {
-    ghost use Rattle.spv_grammar.specs.Table.{Table};
+    ghost use Rattle.spv_table.specs.Table.{Table};
 
     ghost Value = { Table };
 

@@ -1,14 +1,14 @@
 ghost use Rattle.std.specs.Prelude.{◌≡◌, ◌+◌, ◌<◌, ◌≤◌, true, length, None, IfErr, OnOk};
 ghost use Rattle.std.specs.Vec.{vec_len, vec_capacity};
 ghost use Rattle.spv_layout.specs.Single.{IsFront};
-ghost use Rattle.spv_inst.specs.Module.{plain_inst, plain_operand};
-ghost use Rattle.spv_inst.specs.declared.fault.Stop.TheVariants.{Memory};
+ghost use Rattle.spv_module.specs.Module.{plain_inst, plain_operand};
+ghost use Rattle.spv_module.specs.declared.fault.Stop.TheVariants.{Memory};
 ghost use Rattle.spv_layout.specs.Place as specs;
 ghost use Rattle.spv_layout.specs.Kept.{early_with, late_with, count_with, early_place, late_place};
 
 use crate::form::Row;
 use crate::span::{Spans, number};
-use spv_inst::{Inst, Operand, Stop};
+use spv_module::{Inst, Operand, Stop};
 
 /// Where an instruction stands.
 #[derive(Clone, Copy, Debug, PartialEq, Eq)]

@@ -1,8 +1,8 @@
 ghost use Rattle.std.specs.Prelude.{◌≡◌, ◌+◌, ◌≤◌, ◌<◌, ℕ, length, map, sum_by, slice_get, IfOk, IfErr, IfSome, IfNone, Some};
-ghost use Rattle.spv_inst.specs.Module.{plain_inst, plain_insts};
-ghost use Rattle.spv_inst.specs.Operand.{PlainInst};
-ghost use Rattle.spv_inst.specs.declared.fault.Rule.TheVariants as rule;
-ghost use Rattle.spv_inst.specs.declared.fault.Stop.TheVariants as stop;
+ghost use Rattle.spv_module.specs.Module.{plain_inst, plain_insts};
+ghost use Rattle.spv_module.specs.Operand.{PlainInst};
+ghost use Rattle.spv_module.specs.declared.fault.Rule.TheVariants as rule;
+ghost use Rattle.spv_module.specs.declared.fault.Stop.TheVariants as stop;
 ghost use Rattle.spv_layout.specs.First.{IsFirst};
 ghost use Rattle.spv_layout.specs.Broken.{Broken};
 ghost use Rattle.spv_layout.specs.DeadPlace.{IsDeadPlace};
@@ -17,8 +17,8 @@ use crate::place::{Early, Place, Standing, inst_words, keep, words_of};
 use crate::rows::row;
 use crate::span::Spans;
 use crate::state::{State, next, stops};
-use spv_grammar::Table;
-use spv_inst::{Fault, Inst, Module, Rule, Stop};
+use spv_module::{Fault, Inst, Module, Rule, Stop};
+use spv_table::Table;
 use std::alloc::Global;
 use std::marker::Model;
 

@@ -1,8 +1,8 @@
 //! What the operands of an instruction are used as.
 
 ghost use Rattle.std.specs.Prelude.{◌≡◌, ◌≤◌, ◌<◌, ◌-◌, ◌%◌, ℕ, length, map, slice_get, Some};
-ghost use Rattle.spv_grammar.specs.Table.{Table};
-ghost use Rattle.spv_inst.specs.Module.{plain_inst, plain_operand};
+ghost use Rattle.spv_table.specs.Table.{Table};
+ghost use Rattle.spv_module.specs.Module.{plain_inst, plain_operand};
 ghost use Rattle.spv_layout.specs.Row.{plain_ending, plain_row};
 ghost use Rattle.spv_layout.specs.Rows.{row_of};
 ghost use Rattle.spv_layout.specs.Shape.{Fits, IsRole};
@@ -11,7 +11,7 @@ ghost use Rattle.spv_layout.specs.Test as test;
 
 use crate::form::{Ending, Form, Role, Row};
 use crate::rows::row;
-use spv_inst::{Inst, Operand};
+use spv_module::{Inst, Operand};
 
 /// The role in which an operand of a form is used.
 fn role_of(form: Form, operand: Operand<'_>) -> Option<Role>

@@ -1,10 +1,10 @@
 -- The words of a text that is read, and of one that is shown.
 use Rattle.std.proofs.Common.{◌≡◌, ◌++◌, ◌∙◌, ◌<◌, ◌≤◌, ◌+◌, ◌^◌, ℕ, List, [], ◌∷◌, length, map, refl, sym, ap, arith}
 use Rattle.spv_words.specs.declared.words.Header.{Header}
-use Rattle.spv_grammar.specs.Table.{Table, pattern_of}
-use Rattle.spv_inst.specs.Operand.{PlainInst, start, result_in}
+use Rattle.spv_table.specs.Table.{Table, pattern_of}
+use Rattle.spv_module.specs.Operand.{PlainInst, start, result_in}
 use Rattle.spv_inst.specs.Flat.{due}
-use Rattle.spv_inst.specs.Instruction.{IsInstruction, Listing, IsListing, first_word}
+use Rattle.spv_module.specs.Instruction.{IsInstruction, Listing, IsListing, first_word}
 use Rattle.spv_inst.specs.Encoding.{Fits, greatest_length}
 use Rattle.spv_inst.proofs.Joined.{flat_match}
 use Rattle.spv_lines.specs.declared.asm_error.AsmCode.{AsmCode}

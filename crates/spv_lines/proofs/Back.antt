@@ -3,13 +3,13 @@ use Rattle.std.proofs.Common.{◌≡◌, ◌≢◌, ◌++◌, ◌∙◌, ℕ, Li
 use Rattle.std.specs.Prelude.{decimal, codes, unwrap_or}
 use Rattle.std.specs.List.{AllByRecursion, list_all}
 use Rattle.std.proofs.lemmas.Bool.Decides.{nat_tests}
-use Rattle.spv_grammar.specs.declared.table.Enumerant.{Enumerant}
-use Rattle.spv_grammar.specs.declared.table.Entry.{Entry}
-use Rattle.spv_grammar.specs.Table.{Table, enumerant_of, kind_of}
-use Rattle.spv_grammar.specs.Lookups.{opcode_named, value_named, is_number}
-use Rattle.spv_inst.specs.Operand.{Plain, OfType, Result, Id, Word, Number, Text, Value, Mask, Context, and_then, result_in}
-use Rattle.spv_inst.specs.Shape.{Slot, Shape, shape_of}
-use Rattle.spv_inst.specs.Spelling.{Takes}
+use Rattle.spv_table.specs.declared.table.Enumerant.{Enumerant}
+use Rattle.spv_table.specs.declared.table.Entry.{Entry}
+use Rattle.spv_table.specs.Table.{Table, enumerant_of, kind_of}
+use Rattle.spv_table.specs.Lookups.{opcode_named, value_named, is_number}
+use Rattle.spv_module.specs.Operand.{Plain, OfType, Result, Id, Word, Number, Text, Value, Mask, Context, and_then, result_in}
+use Rattle.spv_module.specs.Shape.{Slot, Shape, shape_of}
+use Rattle.spv_module.specs.Spelling.{Takes}
 use Rattle.spv_inst.specs.Reading.{enumerants_at}
 use Rattle.spv_inst.specs.Flat.{Due, OneOf, ManyOf, Matches}
 use Rattle.spv_lines.specs.Name.{is_plain, IsNameOf, AreNamesOf, Names, NamesMask, joined, by_number, mask_values, if_plain, first_name, first_names, shown_value, shown_mask}

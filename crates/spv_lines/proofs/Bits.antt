@@ -3,7 +3,7 @@ use Rattle.std.proofs.Common.{◌≡◌, ◌∙◌, ◌<◌, ◌+◌, ◌*◌, �
 use Rattle.std.specs.List.{filter}
 use Rattle.std.proofs.Math.Nat.{pow-succ', div-div-eq-div-mul}
 use Rattle.std.proofs.lemmas.Bool.Decides.{nat_tests}
-use Rattle.spv_inst.specs.Spelling.{bits_from}
+use Rattle.spv_module.specs.Spelling.{bits_from}
 use Rattle.spv_lines.specs.Name.{mask_values}
 
 abbrev pub total : List ℕ → ℕ

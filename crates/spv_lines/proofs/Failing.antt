@@ -3,11 +3,11 @@ use Rattle.std.proofs.Common.{◌≡◌, ◌++◌, ◌∙◌, ◌⊎◌, inl, in
 use Rattle.std.specs.Prelude.{decimal}
 use Rattle.std.specs.List.{list_any}
 use Rattle.spv_words.specs.declared.words.Header.{Header}
-use Rattle.spv_grammar.specs.declared.table.Entry.{Entry}
-use Rattle.spv_grammar.specs.Table.{Table, Item, pattern_of}
-use Rattle.spv_inst.specs.Operand.{Plain, PlainInst, Context, start, result_in}
+use Rattle.spv_table.specs.declared.table.Entry.{Entry}
+use Rattle.spv_table.specs.Table.{Table, Item, pattern_of}
+use Rattle.spv_module.specs.Operand.{Plain, PlainInst, Context, start, result_in}
 use Rattle.spv_inst.specs.Flat.{Matches, due}
-use Rattle.spv_inst.specs.Instruction.{first_word}
+use Rattle.spv_module.specs.Instruction.{first_word}
 use Rattle.spv_inst.specs.Encoding.{Fits, greatest_count, greatest_length}
 use Rattle.spv_inst.proofs.Flat.{spelled_once}
 use Rattle.spv_lines.specs.declared.asm_error.AsmCode.{AsmCode}

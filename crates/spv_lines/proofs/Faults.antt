@@ -1,10 +1,10 @@
 -- Operands that are read do not fail, and those that fail do so with one code.
 use Rattle.std.proofs.Common.{◌≡◌, ◌≢◌, ◌++◌, ◌∙◌, ◌⊎◌, inl, inr, ℕ, List, [], ◌∷◌, Option, Some, None, map, refl, sym, ap}
 use Rattle.std.proofs.lemmas.List.{append-nil}
-use Rattle.spv_grammar.specs.Table.{Table}
-use Rattle.spv_inst.specs.Operand.{Plain, Context, and_then, result_in}
-use Rattle.spv_inst.specs.Shape.{Slot, Shape, AsParts, shape_of}
-use Rattle.spv_inst.specs.Refusal.{IsLeaf}
+use Rattle.spv_table.specs.Table.{Table}
+use Rattle.spv_module.specs.Operand.{Plain, Context, and_then, result_in}
+use Rattle.spv_module.specs.Shape.{Slot, Shape, AsParts, shape_of}
+use Rattle.spv_module.specs.Refusal.{IsLeaf}
 use Rattle.spv_inst.specs.Flat.{Due, OneOf, ManyOf}
 use Rattle.spv_inst.proofs.Flat.{same_bases, no_words, no_operands}
 use Rattle.spv_inst.proofs.Takes.{takes_back, takes_no_parts}

@@ -1,17 +1,17 @@
 -- A table of whose kinds none has a result among its parameters or bases is tidy.
 use Rattle.std.proofs.Common.{◌≡◌, ◌∙◌, ◌++◌, ℕ, zero, suc, nat_eq, Bool, true, false, not, ◌&&◌, ◌||◌, List, [], ◌∷◌, Option, Some, None, option_map, option_and_then, slice_get, map, bytes_eq, codes, if◌then◌else◌, refl, sym, ap, true≢false}
 use Rattle.std.specs.List.{list_all, AllByRecursion}
-use Rattle.spv_grammar.specs.declared.table.Category.{Category}
-use Rattle.spv_grammar.specs.declared.table.Category.TheVariants as category
-use Rattle.spv_grammar.specs.declared.table.Enumerant.{Enumerant}
-use Rattle.spv_grammar.specs.Table.{Table, Sort, kind_of, first_with}
+use Rattle.spv_table.specs.declared.table.Category.{Category}
+use Rattle.spv_table.specs.declared.table.Category.TheVariants as category
+use Rattle.spv_table.specs.declared.table.Enumerant.{Enumerant}
+use Rattle.spv_table.specs.Table.{Table, Sort, kind_of, first_with}
 use Rattle.spv_grammar.proofs.Whole.{and_left, and_right, some_same, not_some}
-use Rattle.spv_inst.specs.Operand.{Plain, Context}
-use Rattle.spv_inst.specs.Shape.{Slot, alone, Shape, AsType, AsResult, AsId, AsWord, AsNumber, AsText, AsValue, AsMask, AsParts, AsNothing, bases, integer_shape, shape_of, kind_shape, category_shape}
-use Rattle.spv_inst.specs.Width.{switch_width, context_width}
-use Rattle.spv_inst.specs.Spelling.{Takes, parameters_of, parameters_of_all, mask_parameters, set_bits}
+use Rattle.spv_module.specs.Operand.{Plain, Context}
+use Rattle.spv_module.specs.Shape.{Slot, alone, Shape, AsType, AsResult, AsId, AsWord, AsNumber, AsText, AsValue, AsMask, AsParts, AsNothing, bases, integer_shape, shape_of, kind_shape, category_shape}
+use Rattle.spv_module.specs.Width.{switch_width, context_width}
+use Rattle.spv_module.specs.Spelling.{Takes, parameters_of, parameters_of_all, mask_parameters, set_bits}
 use Rattle.spv_lines.specs.Fault.{is_result_shape}
-use Rattle.spv_grammar.specs.Apart.{is_id, is_other_sort, is_other, has_other_parts}
+use Rattle.spv_table.specs.Table.{is_id, is_other_sort, is_other, has_other_parts}
 use Rattle.spv_lines.specs.Tidy.{IsTidy, AreNoResults}
 use Rattle.spv_lines.proofs.Results.{literal_no}
 

@@ -3,11 +3,11 @@ use Rattle.std.proofs.Common.{◌≡◌, ◌≢◌, ◌++◌, ◌∙◌, ◌<◌
 use Rattle.std.specs.Prelude.{decimal}
 use Rattle.std.specs.List.{list_all}
 use Rattle.std.proofs.lemmas.Bool.Decides.{nat_tests}
-use Rattle.spv_grammar.specs.Table.{Table, kind_of}
-use Rattle.spv_grammar.specs.Lookups.{value_named}
-use Rattle.spv_inst.specs.Operand.{Plain, Result, Context, result_in}
-use Rattle.spv_inst.specs.Shape.{Slot, Shape, AsNumber, shape_of}
-use Rattle.spv_inst.specs.Spelling.{Takes}
+use Rattle.spv_table.specs.Table.{Table, kind_of}
+use Rattle.spv_table.specs.Lookups.{value_named}
+use Rattle.spv_module.specs.Operand.{Plain, Result, Context, result_in}
+use Rattle.spv_module.specs.Shape.{Slot, Shape, AsNumber, shape_of}
+use Rattle.spv_module.specs.Spelling.{Takes}
 use Rattle.spv_inst.specs.Reading.{enumerants_at}
 use Rattle.spv_lines.specs.Digits.{IsLarge}
 use Rattle.spv_lines.specs.Name.{is_plain, is_name_octet, Names, NamesMask, by_number, mask_values, joined}

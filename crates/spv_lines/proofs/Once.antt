@@ -1,10 +1,10 @@
 -- A list of instructions has one shown text.
 use Rattle.std.proofs.Common.{◌≡◌, ◌++◌, ◌∙◌, ℕ, List, [], ◌∷◌, Option, Some, None, true, false, map, refl, sym, ap}
 use Rattle.spv_words.specs.declared.words.Header.{Header}
-use Rattle.spv_grammar.specs.declared.table.Entry.{Entry}
-use Rattle.spv_grammar.specs.Table.{Table, entry_of, pattern_of}
-use Rattle.spv_inst.specs.Operand.{Plain, Result, PlainInst, Context, and_then, start, result_in}
-use Rattle.spv_inst.specs.Shape.{Slot, shape_of}
+use Rattle.spv_table.specs.declared.table.Entry.{Entry}
+use Rattle.spv_table.specs.Table.{Table, entry_of, pattern_of}
+use Rattle.spv_module.specs.Operand.{Plain, Result, PlainInst, Context, and_then, start, result_in}
+use Rattle.spv_module.specs.Shape.{Slot, shape_of}
 use Rattle.spv_inst.specs.Flat.{Due, OneOf, ManyOf, Matches, due}
 use Rattle.spv_inst.proofs.Flat.{spelled_once, same_bases}
 use Rattle.spv_inst.proofs.Takes.{takes_back, takes_no_parts}

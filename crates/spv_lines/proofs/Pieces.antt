@@ -3,11 +3,11 @@ use Rattle.std.proofs.Common.{◌≡◌, ◌++◌, ◌∙◌, ◌<◌, ◌+◌, 
 use Rattle.std.specs.Prelude.{decimal, codes}
 use Rattle.std.proofs.lemmas.Fmt.{decimal_injective}
 use Rattle.std.proofs.lemmas.List.{append_cancel_left}
-use Rattle.spv_grammar.specs.Table.{Table, kind_of}
-use Rattle.spv_grammar.specs.Lookups.{value_named}
-use Rattle.spv_inst.specs.Operand.{Plain, OfType, Result, Id, Word, Number, Text, Value, Mask, Context, result_in}
-use Rattle.spv_inst.specs.Shape.{Slot, Shape}
-use Rattle.spv_inst.specs.Spelling.{Takes, result_type, result, id, word, narrow, wide, text, value, mask}
+use Rattle.spv_table.specs.Table.{Table, kind_of}
+use Rattle.spv_table.specs.Lookups.{value_named}
+use Rattle.spv_module.specs.Operand.{Plain, OfType, Result, Id, Word, Number, Text, Value, Mask, Context, result_in}
+use Rattle.spv_module.specs.Shape.{Slot, Shape}
+use Rattle.spv_module.specs.Spelling.{Takes, result_type, result, id, word, narrow, wide, text, value, mask}
 use Rattle.spv_inst.specs.Reading.{enumerants_at}
 use Rattle.spv_inst.proofs.Texts.{parts_same}
 use Rattle.spv_lines.specs.Digits.{hex_digits}

@@ -4,12 +4,12 @@ use Rattle.std.specs.Prelude.{decimal, codes}
 use Rattle.std.proofs.lemmas.Fmt.{decimal_injective}
 use Rattle.std.proofs.lemmas.List.{append-nil, append_cancel_left}
 use Rattle.spv_words.specs.declared.words.Header.{Header}
-use Rattle.spv_grammar.specs.declared.table.Entry.{Entry}
-use Rattle.spv_grammar.specs.Table.{Table, pattern_of}
-use Rattle.spv_grammar.specs.Lookups.{opcode_named}
-use Rattle.spv_inst.specs.Operand.{Plain, Result, PlainInst, Context, and_then, start, result_in}
-use Rattle.spv_inst.specs.Shape.{Slot, Shape, shape_of}
-use Rattle.spv_inst.specs.Spelling.{Takes, result_type, result, id, word, narrow, wide, text, value, mask}
+use Rattle.spv_table.specs.declared.table.Entry.{Entry}
+use Rattle.spv_table.specs.Table.{Table, pattern_of}
+use Rattle.spv_table.specs.Lookups.{opcode_named}
+use Rattle.spv_module.specs.Operand.{Plain, Result, PlainInst, Context, and_then, start, result_in}
+use Rattle.spv_module.specs.Shape.{Slot, Shape, shape_of}
+use Rattle.spv_module.specs.Spelling.{Takes, result_type, result, id, word, narrow, wide, text, value, mask}
 use Rattle.spv_inst.specs.Flat.{Due, OneOf, ManyOf, Matches, due}
 use Rattle.spv_inst.specs.Encoding.{Fits}
 use Rattle.spv_inst.proofs.Flat.{same_bases, no_words, no_operands}

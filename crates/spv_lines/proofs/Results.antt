@@ -2,13 +2,13 @@
 use Rattle.std.proofs.Common.{◌≡◌, ◌++◌, ◌∙◌, ℕ, List, [], ◌∷◌, Option, Some, None, Bool, true, false, ◌||◌, ◌&&◌, nat_eq, if◌then◌else◌, map, refl, sym}
 use Rattle.std.specs.Prelude.{bytes_eq, codes}
 use Rattle.std.specs.List.{AllByRecursion, list_any}
-use Rattle.spv_grammar.specs.declared.table.Category.{Category}
-use Rattle.spv_grammar.specs.declared.table.Category.TheVariants as category
-use Rattle.spv_grammar.specs.Table.{Table, Sort, Item, One, Maybe, Many, kind_of}
-use Rattle.spv_inst.specs.Operand.{Plain, Context, and_then, result_in}
-use Rattle.spv_inst.specs.Shape.{Slot, alone, Shape, AsParts, AsNumber, AsWord, AsText, AsNothing, shape_of, kind_shape, category_shape, literal_shape, integer_shape}
-use Rattle.spv_inst.specs.Width.{switch_width, context_width}
-use Rattle.spv_inst.specs.Spelling.{Takes}
+use Rattle.spv_table.specs.declared.table.Category.{Category}
+use Rattle.spv_table.specs.declared.table.Category.TheVariants as category
+use Rattle.spv_table.specs.Table.{Table, Sort, Item, One, Maybe, Many, kind_of}
+use Rattle.spv_module.specs.Operand.{Plain, Context, and_then, result_in}
+use Rattle.spv_module.specs.Shape.{Slot, alone, Shape, AsParts, AsNumber, AsWord, AsText, AsNothing, shape_of, kind_shape, category_shape, literal_shape, integer_shape}
+use Rattle.spv_module.specs.Width.{switch_width, context_width}
+use Rattle.spv_module.specs.Spelling.{Takes}
 use Rattle.spv_inst.specs.Flat.{Due, OneOf, MaybeOf, ManyOf, Matches, due}
 use Rattle.spv_lines.specs.Fault.{is_result_shape, must_have_result, may_have_result}
 use Rattle.spv_lines.specs.Tidy.{IsTidy, AreNoResults}

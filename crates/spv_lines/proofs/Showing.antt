@@ -4,11 +4,11 @@ use Rattle.std.specs.Prelude.{decimal, codes}
 use Rattle.std.specs.List.{list_all}
 use Rattle.std.proofs.lemmas.Bool.Decides.{nat_tests}
 use Rattle.spv_words.specs.declared.words.Header.{Header}
-use Rattle.spv_grammar.specs.Table.{Table, pattern_of}
-use Rattle.spv_grammar.specs.Lookups.{opcode_named}
-use Rattle.spv_inst.specs.Operand.{PlainInst, start, result_in}
+use Rattle.spv_table.specs.Table.{Table, pattern_of}
+use Rattle.spv_table.specs.Lookups.{opcode_named}
+use Rattle.spv_module.specs.Operand.{PlainInst, start, result_in}
 use Rattle.spv_inst.specs.Flat.{Matches, due}
-use Rattle.spv_inst.specs.Instruction.{IsInstruction, Listing, IsListing, first_word}
+use Rattle.spv_module.specs.Instruction.{IsInstruction, Listing, IsListing, first_word}
 use Rattle.spv_inst.specs.Encoding.{Fits, greatest_length}
 use Rattle.spv_inst.proofs.Joined.{match_flat}
 use Rattle.spv_inst.proofs.Flat.{spelled_once}

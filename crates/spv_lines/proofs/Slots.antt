@@ -4,12 +4,12 @@ use Rattle.std.specs.Prelude.{IsUtf8}
 use Rattle.std.specs.Str.{is_utf8}
 use Rattle.std.proofs.lemmas.Str.{IsUtf8-from_is_utf8, is_utf8-from_IsUtf8}
 use Rattle.std.specs.List.{AllByRecursion}
-use Rattle.spv_grammar.specs.Table.{Table}
-use Rattle.spv_inst.specs.Operand.{Plain, Result, Text, Context, result_in}
+use Rattle.spv_table.specs.Table.{Table}
+use Rattle.spv_module.specs.Operand.{Plain, Result, Text, Context, result_in}
 use Rattle.spv_inst.specs.declared.form.Leaf.TheVariants as leaf
-use Rattle.spv_inst.specs.Shape.{Slot, Shape, AsType, AsResult, AsId, AsWord, AsNumber, AsText, AsValue, AsMask, AsParts, AsNothing, shape_of}
-use Rattle.spv_inst.specs.Spelling.{Takes, octets_of}
-use Rattle.spv_inst.specs.Refusal.{IsLeaf}
+use Rattle.spv_module.specs.Shape.{Slot, Shape, AsType, AsResult, AsId, AsWord, AsNumber, AsText, AsValue, AsMask, AsParts, AsNothing, shape_of}
+use Rattle.spv_module.specs.Spelling.{Takes, octets_of}
+use Rattle.spv_module.specs.Refusal.{IsLeaf}
 use Rattle.spv_inst.specs.Written.{text_words, is_without_zero, is_fit}
 use Rattle.spv_inst.proofs.Fit.{fit_takes, takes_fit}
 use Rattle.spv_lines.specs.declared.asm_error.AsmCode.{AsmCode}

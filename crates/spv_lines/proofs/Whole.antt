@@ -4,12 +4,12 @@ use Rattle.std.specs.Prelude.{decimal, codes, slice_get}
 use Rattle.std.specs.List.{list_any}
 use Rattle.std.proofs.lemmas.List.{append_cancel_left}
 use Rattle.spv_words.specs.declared.words.Header.{Header}
-use Rattle.spv_grammar.specs.declared.table.Entry.{Entry}
-use Rattle.spv_grammar.specs.Table.{Table, Item, entry_of, pattern_of, IsWhole}
-use Rattle.spv_grammar.specs.Lookups.{opcode_named}
-use Rattle.spv_inst.specs.Operand.{Plain, PlainInst, Context, start, result_in}
+use Rattle.spv_table.specs.declared.table.Entry.{Entry}
+use Rattle.spv_table.specs.Table.{Table, Item, entry_of, pattern_of, IsWhole}
+use Rattle.spv_table.specs.Lookups.{opcode_named}
+use Rattle.spv_module.specs.Operand.{Plain, PlainInst, Context, start, result_in}
 use Rattle.spv_inst.specs.Flat.{due}
-use Rattle.spv_inst.specs.Instruction.{first_word}
+use Rattle.spv_module.specs.Instruction.{first_word}
 use Rattle.spv_inst.specs.Encoding.{Fits, greatest_count, greatest_length}
 use Rattle.spv_lines.specs.declared.asm_error.AsmCode.{AsmCode}
 use Rattle.spv_lines.specs.declared.asm_error.AsmCode.TheVariants.{S1, S2, S3, S4, S5}

@@ -4,13 +4,13 @@ use Rattle.std.specs.Prelude.{codes, decimal, nat_eq, IsUtf8}
 use Rattle.std.proofs.lemmas.Bool.Decides.{nat_tests}
 use Rattle.std.specs.Fmt.{digits}
 use Rattle.std.specs.List.{AllByRecursion, list_all}
-use Rattle.spv_grammar.specs.Table.{pattern_of}
-use Rattle.spv_grammar.specs.Lookups.{value_named, opcode_named}
-use Rattle.spv_inst.specs.Operand.{OfType, Result, Id, Word, Number, Text, Mask, start}
-use Rattle.spv_inst.specs.Shape.{alone, shape_of}
-use Rattle.spv_inst.specs.Spelling.{Takes, Holds, mask_parameters}
+use Rattle.spv_table.specs.Table.{pattern_of}
+use Rattle.spv_table.specs.Lookups.{value_named, opcode_named}
+use Rattle.spv_module.specs.Operand.{OfType, Result, Id, Word, Number, Text, Mask, start}
+use Rattle.spv_module.specs.Shape.{alone, shape_of}
+use Rattle.spv_module.specs.Spelling.{Takes, Holds, mask_parameters}
 use Rattle.spv_inst.specs.Flat.{due}
-use Rattle.spv_inst.specs.Example.{load_entry, string_entry, switch_entry, access, small, load, string, long_value, switch}
+use Rattle.spv_module.specs.Example.{load_entry, string_entry, switch_entry, access, small, load, string, long_value, switch}
 use Rattle.spv_inst.proofs.Worked.{string_listed}
 use Rattle.spv_lines.specs.declared.asm_error.AsmCode.TheVariants.{S1, S2, S3, S4}
 use Rattle.spv_lines.specs.Digits.{hex_digits}

@@ -3,10 +3,10 @@ use Rattle.std.specs.Prelude.{◌≡◌, ◌<◌, ◌≤◌, ◌+◌, ◌^◌, �
 use Rattle.std.specs.List.{list_any}
 use Rattle.spv_words.specs.declared.words.Header.{Header}
 use Rattle.spv_words.specs.Header.{greatest_bound}
-use Rattle.spv_grammar.specs.declared.table.Entry.{Entry}
-use Rattle.spv_grammar.specs.Table.{Table, Item, One, Maybe, Many, pattern_of}
-use Rattle.spv_inst.specs.Operand.{PlainInst, Context, start}
-use Rattle.spv_inst.specs.Shape.{alone, Shape, AsResult, shape_of}
+use Rattle.spv_table.specs.declared.table.Entry.{Entry}
+use Rattle.spv_table.specs.Table.{Table, Item, One, Maybe, Many, pattern_of}
+use Rattle.spv_module.specs.Operand.{PlainInst, Context, start}
+use Rattle.spv_module.specs.Shape.{alone, Shape, AsResult, shape_of}
 use Rattle.spv_inst.specs.Flat.{due}
 use Rattle.spv_inst.specs.Encoding.{Fits, greatest_count, greatest_length}
 use Rattle.spv_lines.specs.declared.asm_error.AsmCode.{AsmCode}

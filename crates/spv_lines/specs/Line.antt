@@ -1,10 +1,10 @@
 -- The line of an instruction: how it is shown, what it is read as. (Own.)
 use Rattle.std.specs.Prelude.{◌≡◌, ◌<◌, ◌++◌, ℕ, List, [], ◌∷◌, Option, Some, None, Bool, false, nat_eq, ◌&&◌, if◌then◌else◌, map, option_map, unwrap_or, codes}
 use Rattle.std.specs.List.{AllByRecursion}
-use Rattle.spv_grammar.specs.declared.table.Entry.{Entry}
-use Rattle.spv_grammar.specs.Table.{Table, entry_of, pattern_of}
-use Rattle.spv_grammar.specs.Lookups.{opcode_named}
-use Rattle.spv_inst.specs.Operand.{PlainInst, start, result_in}
+use Rattle.spv_table.specs.declared.table.Entry.{Entry}
+use Rattle.spv_table.specs.Table.{Table, entry_of, pattern_of}
+use Rattle.spv_table.specs.Lookups.{opcode_named}
+use Rattle.spv_module.specs.Operand.{PlainInst, start, result_in}
 use Rattle.spv_inst.specs.Flat.{due}
 use Rattle.spv_lines.specs.Name.{Names, if_plain, by_number}
 use Rattle.spv_lines.specs.Operand.{id_text, Shown, IsRead}

@@ -1,10 +1,10 @@
 -- Names of instructions, values and masks, and `#N` where there is none. (Own.)
 use Rattle.std.specs.Prelude.{◌≡◌, ◌-◌, ◌/◌, ◌%◌, ◌^◌, ℕ, List, [], ◌∷◌, Option, Some, None, Bool, true, false, nat_eq, nat_le, ◌&&◌, ◌||◌, if◌then◌else◌, option_map, option_and_then, unwrap_or, decimal}
 use Rattle.std.specs.List.{list_all, filter, join_with_byte}
-use Rattle.spv_grammar.specs.declared.table.Enumerant.{Enumerant}
-use Rattle.spv_grammar.specs.Table.{enumerant_of}
-use Rattle.spv_grammar.specs.Lookups.{value_named, is_number}
-use Rattle.spv_inst.specs.Spelling.{bits_from, set_bits}
+use Rattle.spv_table.specs.declared.table.Enumerant.{Enumerant}
+use Rattle.spv_table.specs.Table.{enumerant_of}
+use Rattle.spv_table.specs.Lookups.{value_named, is_number}
+use Rattle.spv_module.specs.Spelling.{bits_from, set_bits}
 
 -- an ASCII letter, a digit or `_`
 abbrev pub is_name_octet : ℕ → Bool

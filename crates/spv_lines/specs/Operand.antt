@@ -1,10 +1,10 @@
 -- The text of one operand. (Own.)
 use Rattle.std.specs.Prelude.{◌≡◌, ◌+◌, ◌*◌, ◌++◌, ℕ, List, [], ◌∷◌, Option, Some, None, Bool, true, false, not, nat_eq, is_some, if◌then◌else◌, option_map, option_and_then, unwrap_or, bytes_eq, codes, decimal}
-use Rattle.spv_grammar.specs.Table.{Table, Sort, kind_of}
-use Rattle.spv_grammar.specs.Lookups.{value_named}
-use Rattle.spv_inst.specs.Operand.{Plain, OfType, Result, Id, Word, Number, Text, Value, Mask, PlainInst, Context, result_in, type_in}
-use Rattle.spv_inst.specs.Width.{definition_of, type_of, first_id}
-use Rattle.spv_inst.specs.Shape.{Slot}
+use Rattle.spv_table.specs.Table.{Table, Sort, kind_of}
+use Rattle.spv_table.specs.Lookups.{value_named}
+use Rattle.spv_module.specs.Operand.{Plain, OfType, Result, Id, Word, Number, Text, Value, Mask, PlainInst, Context, result_in, type_in}
+use Rattle.spv_module.specs.Width.{definition_of, type_of, first_id}
+use Rattle.spv_module.specs.Shape.{Slot}
 use Rattle.spv_inst.specs.Reading.{enumerants_at}
 use Rattle.spv_lines.specs.Digits.{hex_digits}
 use Rattle.spv_lines.specs.Name.{Names, NamesMask, shown_value, shown_mask}

@@ -1,10 +1,10 @@
 -- Where the operands of a line fail, and with which code. (Own.)
 use Rattle.std.specs.Prelude.{◌≡◌, ◌≢◌, ◌^◌, ◌++◌, ◌⊎◌, ℕ, List, [], ◌∷◌, Option, Some, None, Bool, true, false, not, is_some, nat_le, if◌then◌else◌, map, codes}
-use Rattle.spv_grammar.specs.Table.{Table}
-use Rattle.spv_inst.specs.Operand.{Plain, Context, and_then, result_in}
-use Rattle.spv_inst.specs.Shape.{Slot, Shape, AsType, AsResult, AsId, AsWord, AsNumber, AsText, AsValue, AsMask, AsParts, AsNothing, shape_of}
-use Rattle.spv_inst.specs.Spelling.{Takes}
-use Rattle.spv_inst.specs.Refusal.{IsLeaf}
+use Rattle.spv_table.specs.Table.{Table}
+use Rattle.spv_module.specs.Operand.{Plain, Context, and_then, result_in}
+use Rattle.spv_module.specs.Shape.{Slot, Shape, AsType, AsResult, AsId, AsWord, AsNumber, AsText, AsValue, AsMask, AsParts, AsNothing, shape_of}
+use Rattle.spv_module.specs.Spelling.{Takes}
+use Rattle.spv_module.specs.Refusal.{IsLeaf}
 use Rattle.spv_inst.specs.Flat.{Due, OneOf, MaybeOf, ManyOf}
 use Rattle.spv_lines.specs.declared.asm_error.AsmCode.{AsmCode}
 use Rattle.spv_lines.specs.declared.asm_error.AsmCode.TheVariants.{S3, S4}

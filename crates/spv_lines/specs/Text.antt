@@ -2,9 +2,9 @@
 use Rattle.std.specs.Prelude.{◌≡◌, ◌<◌, ◌≤◌, ◌+◌, ◌^◌, ◌++◌, ℕ, List, [], ◌∷◌, nat_eq, if◌then◌else◌, length, codes, decimal}
 use Rattle.std.specs.List.{onto_first}
 use Rattle.spv_words.specs.declared.words.Header.{Header}
-use Rattle.spv_grammar.specs.Table.{Table}
-use Rattle.spv_inst.specs.Operand.{PlainInst}
-use Rattle.spv_inst.specs.Instruction.{first_word}
+use Rattle.spv_table.specs.Table.{Table}
+use Rattle.spv_module.specs.Operand.{PlainInst}
+use Rattle.spv_module.specs.Instruction.{first_word}
 use Rattle.spv_inst.specs.Encoding.{Fits, greatest_count, greatest_length}
 use Rattle.spv_lines.specs.Line.{IsShownLine, IsReadLine}
 

@@ -1,10 +1,10 @@
 -- Tables in which results stand in patterns alone, as rule J6 asks of a file. (Own.)
 use Rattle.std.specs.Prelude.{◌≡◌, ℕ, List, false}
 use Rattle.std.specs.List.{AllByRecursion}
-use Rattle.spv_grammar.specs.Table.{Table}
-use Rattle.spv_inst.specs.Operand.{Plain, Context}
-use Rattle.spv_inst.specs.Shape.{Slot, AsParts, shape_of}
-use Rattle.spv_inst.specs.Spelling.{Takes}
+use Rattle.spv_table.specs.Table.{Table}
+use Rattle.spv_module.specs.Operand.{Plain, Context}
+use Rattle.spv_module.specs.Shape.{Slot, AsParts, shape_of}
+use Rattle.spv_module.specs.Spelling.{Takes}
 use Rattle.spv_lines.specs.Fault.{is_result_shape}
 
 -- none of the slots is one of a result

@@ -1,9 +1,9 @@
 //! Worked examples of the definitions, under the small table of `spv_inst`. Each function does nothing.
 ghost use Rattle.std.specs.Prelude.{◌≡◌, ◌^◌, ◌∷◌, [], ℕ, List, Some, None, true, false, codes};
-ghost use Rattle.spv_grammar.specs.Lookups.{value_named};
-ghost use Rattle.spv_inst.specs.Operand.{PlainInst, result_in, start, Text, Number};
-ghost use Rattle.spv_inst.specs.Shape.{alone};
-ghost use Rattle.spv_inst.specs.Example.{access, load, long_value, small, string, switch};
+ghost use Rattle.spv_table.specs.Lookups.{value_named};
+ghost use Rattle.spv_module.specs.Operand.{PlainInst, result_in, start, Text, Number};
+ghost use Rattle.spv_module.specs.Shape.{alone};
+ghost use Rattle.spv_module.specs.Example.{access, load, long_value, small, string, switch};
 ghost use Rattle.spv_lines.specs.Digits.{IsLarge, hex_digits, is_number, value};
 ghost use Rattle.spv_lines.specs.Name.{Names, NamesMask, is_plain, shown_mask, shown_value};
 ghost use Rattle.spv_lines.specs.Operand.{number_text, quoted};

@@ -1,11 +1,9 @@
 //! What follows from the definitions of the text. Each function does nothing: its contract is what is proved.
 ghost use Rattle.std.specs.Prelude.{◌≡◌, true, ◌<◌, ◌≤◌, ◌+◌, ◌^◌, ◌⊎◌, ℕ, List, length};
 ghost use Rattle.spv_words.specs.declared.words.Header.{Header};
-ghost use Rattle.spv_grammar.specs.Table.{IsWhole, Table};
-ghost use Rattle.spv_grammar.specs.Answer.{IsGiven};
-ghost use Rattle.spv_grammar.specs.Apart.{has_other_parts};
-ghost use Rattle.spv_inst.specs.Operand.{PlainInst};
-ghost use Rattle.spv_inst.specs.Instruction.{IsListing};
+ghost use Rattle.spv_table.specs.Table.{IsWhole, Table, has_other_parts};
+ghost use Rattle.spv_module.specs.Operand.{PlainInst};
+ghost use Rattle.spv_module.specs.Instruction.{IsListing};
 ghost use Rattle.spv_inst.specs.Encoding.{Fits, greatest_length};
 ghost use Rattle.spv_lines.specs.Line.{AreWords};
 ghost use Rattle.spv_lines.specs.Text.{IsReadText, IsShownText};
@@ -61,7 +59,7 @@ pub fn tidy_by_kinds()
     ensures { (G : Table) → list_all (has_other_parts G) G.kinds ≡ true → IsTidy G }
 {}
 
-/// A table that a grammar file gives is tidy: a file in which a result kind stands among parameters or bases breaks J6.
-pub fn files_are_tidy()
-    ensures { (G : Table) → IsGiven G → IsTidy G }
+/// Every table is tidy that is whole, as each `Table` is: a file in which a result kind stands among parameters or bases breaks J6.
+pub fn tables_are_tidy()
+    ensures { (G : Table) → IsWhole G → IsTidy G }
 {}

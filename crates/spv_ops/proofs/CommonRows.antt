@@ -1,8 +1,8 @@
 -- The rows that most instructions have, of operands as they mostly stand.
 use Rattle.std.proofs.Common.{◌≡◌, ◌↔◌, inl, ℕ, List, [], ◌∷◌, Option, Some, None, Bool, refl, sym, subst}
 use Rattle.std.specs.Prelude.{IsTrue, IsSomeAnd, option_and_then, option_map}
-use Rattle.spv_inst.specs.Operand.{Plain, OfType, Result, Id, Mask, PlainInst}
-use Rattle.spv_inst.specs.Width.{type_of}
+use Rattle.spv_module.specs.Operand.{Plain, OfType, Result, Id, Mask, PlainInst}
+use Rattle.spv_module.specs.Width.{type_of}
 use Rattle.spv_ops.specs.declared.form.Sort.{Sort}
 use Rattle.spv_ops.specs.declared.row.Row.TheVariants as row
 use Rattle.spv_ops.specs.declared.row.Calculation.TheVariants as calculation

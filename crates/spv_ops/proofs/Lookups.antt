@@ -3,8 +3,8 @@ use Rattle.std.proofs.Common.{◌≡◌, ◌≢◌, ◌<◌, ◌↔◌, inl, inr
 use Rattle.std.specs.Prelude.{slice_get, MatchOption}
 use Rattle.std.proofs.lemmas.Bool.{eqb-true, eq-eqb}
 use Rattle.std.proofs.lemmas.Option.{none-some, slice_get_within}
-use Rattle.spv_inst.specs.Operand.{PlainInst, result_in}
-use Rattle.spv_inst.specs.Width.{definition_of, has_result, or_else}
+use Rattle.spv_module.specs.Operand.{PlainInst, result_in}
+use Rattle.spv_module.specs.Width.{definition_of, has_result, or_else}
 use Rattle.spv_layout.specs.declared.class.Class.{Class}
 use Rattle.spv_layout.specs.declared.class.Class.TheVariants as class
 use Rattle.spv_layout.specs.Place.{IsOfSection, IsOfFunction, section_of}

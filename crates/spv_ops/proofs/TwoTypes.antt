@@ -2,8 +2,8 @@
 use Rattle.std.proofs.Common.{◌≡◌, ℕ, List, [], ◌∷◌, Option, Some, None, true, nat_eq}
 use Rattle.std.specs.Prelude.{IsSomeAnd, option_and_then, option_map}
 use Rattle.std.proofs.lemmas.Bool.{eqb-true, eq-eqb}
-use Rattle.spv_inst.specs.Operand.{PlainInst}
-use Rattle.spv_inst.specs.Width.{type_of}
+use Rattle.spv_module.specs.Operand.{PlainInst}
+use Rattle.spv_module.specs.Width.{type_of}
 use Rattle.spv_ops.specs.declared.form.Sort.{Sort}
 use Rattle.spv_ops.specs.declared.row.Calculation.TheVariants.{Binary}
 use Rattle.spv_ops.specs.Types.{HasSort}

@@ -1,8 +1,8 @@
 -- Worked examples.
 use Rattle.std.proofs.Common.{◌≡◌, ℕ, zero, suc, [], ◌∷◌, Option, Some, true, false, refl, sym, subst}
 use Rattle.std.specs.Prelude.{slice_get}
-use Rattle.spv_inst.specs.Operand.{OfType, Result, Value, PlainInst, result_in}
-use Rattle.spv_inst.specs.Example.{small as table}
+use Rattle.spv_module.specs.Operand.{OfType, Result, Value, PlainInst, result_in}
+use Rattle.spv_module.specs.Example.{small as table}
 use Rattle.spv_layout.specs.declared.class.Class.TheVariants as class
 use Rattle.spv_layout.specs.declared.form.Form.TheVariants as form
 use Rattle.spv_layout.specs.declared.form.Role.TheVariants as role

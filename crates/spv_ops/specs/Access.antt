@@ -1,6 +1,6 @@
 -- The rows of memory that their types alone decide: r is the result type, if there is one, and the types of the value operands are given in order. [3.49.8 Memory, 3.49.17 OpLifetimeStart and OpLifetimeStop, 3.49.18 Atomic, 3.49.20 Barrier]
 use Rattle.std.specs.Prelude.{◌≡◌, ℕ, List, [], ◌∷◌, Option, Some, None}
-use Rattle.spv_inst.specs.Operand.{PlainInst}
+use Rattle.spv_module.specs.Operand.{PlainInst}
 use Rattle.spv_ops.specs.declared.row.Access.{Access}
 use Rattle.spv_ops.specs.declared.row.Access.TheVariants.{Load, Store, CopyMemory, CopyMemorySized, Lifetime, ControlBarrier, MemoryBarrier, AtomicLoad, AtomicStore, AtomicExchange, AtomicCompareExchange, AtomicStep, AtomicUpdate}
 use Rattle.spv_ops.specs.Types.{IsInt, IsSomeInt, IsNumber, IsPointer, PointsTo, IsData}

@@ -1,6 +1,6 @@
 -- The rows of conversions, arithmetic, comparisons and bits: r is the result type, and the types of the value operands are given in order. [3.49.11 Conversion, 3.49.13 Arithmetic, 3.49.14 Bit, 3.49.15 Relational and Logical]
 use Rattle.std.specs.Prelude.{◌≡◌, ◌≢◌, ◌*◌, ◌⊎◌, ℕ, List, [], ◌∷◌, Option, Some, None, option_and_then}
-use Rattle.spv_inst.specs.Operand.{PlainInst}
+use Rattle.spv_module.specs.Operand.{PlainInst}
 use Rattle.spv_ops.specs.declared.row.Calculation.{Calculation}
 use Rattle.spv_ops.specs.declared.row.Calculation.TheVariants.{FloatToInt, IntToFloat, ResizeInt, ResizeFloat, PointerToInt, IntToPointer, ToGeneric, FromGeneric, Bitcast, Unary, Binary, Select, Compare, Shift}
 use Rattle.spv_ops.specs.declared.form.Scalar.{Scalar}

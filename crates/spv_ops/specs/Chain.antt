@@ -2,7 +2,7 @@
 -- value operands, since constants among the indexes tell members. [3.49.8]
 use Rattle.std.specs.Prelude.{ℕ, List, ◌∷◌}
 use Rattle.std.specs.List.{AllByRecursion}
-use Rattle.spv_inst.specs.Operand.{PlainInst}
+use Rattle.spv_module.specs.Operand.{PlainInst}
 use Rattle.spv_ops.specs.Types.{IsSomeInt, IsPointer}
 use Rattle.spv_ops.specs.Reach.{Leads}
 

@@ -1,6 +1,6 @@
 -- The rows that most instructions have. (For the code alone.)
 use Rattle.std.specs.Prelude.{◌≡◌, ℕ, List, [], ◌∷◌, Option, Some, None}
-use Rattle.spv_inst.specs.Operand.{Plain, OfType, Result, Id, Mask, PlainInst}
+use Rattle.spv_module.specs.Operand.{Plain, OfType, Result, Id, Mask, PlainInst}
 use Rattle.spv_ops.specs.Types.{IsBool}
 use Rattle.spv_ops.specs.declared.common.Binary.{Binary as Ids}
 use Rattle.spv_ops.specs.declared.common.Two.{Two}

@@ -1,7 +1,7 @@
 -- The rows of composites: r is the result type, the types of the value operands are given in order, and then the literals. [3.49.12 Composite]
 use Rattle.std.specs.Prelude.{◌≡◌, ◌≢◌, ◌<◌, ◌+◌, ◌⊎◌, ℕ, List, [], ◌∷◌, Option, Some, None, nat_eq, if◌then◌else◌, option_and_then, option_map, length}
 use Rattle.std.specs.List.{AllByRecursion}
-use Rattle.spv_inst.specs.Operand.{PlainInst}
+use Rattle.spv_module.specs.Operand.{PlainInst}
 use Rattle.spv_ops.specs.declared.form.Form.{Form}
 use Rattle.spv_ops.specs.declared.form.Form.TheVariants as form
 use Rattle.spv_ops.specs.declared.row.Composite.{Composite}

@@ -1,6 +1,6 @@
 -- A small module's types, constants and variables, and instructions over them.
 use Rattle.std.specs.Prelude.{ℕ, List, [], ◌∷◌}
-use Rattle.spv_inst.specs.Operand.{Plain, OfType, Result, Id, Word, Number, Value, PlainInst}
+use Rattle.spv_module.specs.Operand.{Plain, OfType, Result, Id, Word, Number, Value, PlainInst}
 
 abbrev pub inst : ℕ → List Plain → PlainInst
 inst opcode operands = record { opcode = opcode; operands = operands }

@@ -1,7 +1,7 @@
 -- What a type id declares: its definition is the instruction whose result it is. [2.2.2, 3.49.6]
 use Rattle.std.specs.Prelude.{ℕ, List, ◌∷◌, Option, Some, None, nat_eq, if◌then◌else◌, option_and_then}
-use Rattle.spv_inst.specs.Operand.{Plain, Result, Id, Word, Value, PlainInst}
-use Rattle.spv_inst.specs.Width.{definition_of}
+use Rattle.spv_module.specs.Operand.{Plain, Result, Id, Word, Value, PlainInst}
+use Rattle.spv_module.specs.Width.{definition_of}
 use Rattle.spv_ops.specs.declared.form.Scalar.TheVariants as scalar
 use Rattle.spv_ops.specs.declared.form.Form.{Form}
 use Rattle.spv_ops.specs.declared.form.Form.TheVariants as form

@@ -1,7 +1,7 @@
 -- What is kept of a module whose places and definitions are known. (For the code alone.)
 use Rattle.std.specs.Prelude.{◌≡◌, ℕ, List, Some, length, slice_get, option_and_then}
-use Rattle.spv_inst.specs.Operand.{PlainInst}
-use Rattle.spv_inst.specs.Width.{definition_of}
+use Rattle.spv_module.specs.Operand.{PlainInst}
+use Rattle.spv_module.specs.Width.{definition_of}
 use Rattle.spv_layout.specs.declared.place.Place.{Place}
 use Rattle.spv_layout.specs.Plan.{IsPlaceOf}
 use Rattle.spv_ids.specs.declared.ids.Ids.{Ids}

@@ -1,6 +1,6 @@
 -- The operands of an instruction that the rows of types speak of.
 use Rattle.std.specs.Prelude.{ℕ, List, [], ◌∷◌, Option, Some, None}
-use Rattle.spv_inst.specs.Operand.{Plain, OfType, Result, Id, Word}
+use Rattle.spv_module.specs.Operand.{Plain, OfType, Result, Id, Word}
 
 -- the literals of one word, in order
 abbrev pub words_in : List Plain → List ℕ

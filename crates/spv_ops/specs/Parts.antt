@@ -1,8 +1,8 @@
 -- The parts of a type, and how many they are. [2.2.2; own: Reach]
 use Rattle.std.specs.Prelude.{◌+◌, ◌*◌, ℕ, List, [], ◌∷◌, Option, Some, None, nat_eq, nat_lt, ◌||◌, if◌then◌else◌, option_and_then, option_map, slice_get, length}
-use Rattle.spv_inst.specs.Operand.{Plain, OfType, Result, Id, Number, PlainInst}
-use Rattle.spv_inst.specs.Width.{definition_of}
-use Rattle.spv_inst.specs.Module.{plain_operands}
+use Rattle.spv_module.specs.Operand.{Plain, OfType, Result, Id, Number, PlainInst}
+use Rattle.spv_module.specs.Width.{definition_of}
+use Rattle.spv_module.specs.Module.{plain_operands}
 use Rattle.spv_ops.specs.declared.parts.Parts.{Parts}
 use Rattle.spv_ops.specs.declared.parts.Parts.TheVariants as parts
 use Rattle.spv_ops.specs.declared.form.Form.{Form}

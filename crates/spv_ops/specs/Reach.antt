@@ -1,6 +1,6 @@
 -- Reach: which type a list of indexes reaches. [own; the indexes of 3.49.8 OpAccessChain and 3.49.12 OpCompositeExtract]
 use Rattle.std.specs.Prelude.{◌≡◌, ◌≢◌, ◌<◌, ℕ, List, [], ◌∷◌, Some}
-use Rattle.spv_inst.specs.Operand.{PlainInst}
+use Rattle.spv_module.specs.Operand.{PlainInst}
 use Rattle.spv_ops.specs.declared.form.Form.TheVariants as form
 use Rattle.spv_ops.specs.Form.{form_of}
 use Rattle.spv_ops.specs.Parts.{part_of, count_of, constant_of}

@@ -1,7 +1,7 @@
 -- Tests of the types that ids are declared with. (For the code alone.)
 use Rattle.std.specs.Prelude.{ℕ, List, [], ◌∷◌, Option, Some, None, Bool, true, false, nat_eq, nat_le, ◌&&◌, ◌+◌, ◌-◌, if◌then◌else◌, option_and_then}
-use Rattle.spv_inst.specs.Operand.{PlainInst}
-use Rattle.spv_inst.specs.Width.{type_of}
+use Rattle.spv_module.specs.Operand.{PlainInst}
+use Rattle.spv_module.specs.Width.{type_of}
 use Rattle.spv_ops.specs.declared.form.Form.{Form}
 use Rattle.spv_ops.specs.declared.form.Form.TheVariants as form
 use Rattle.spv_ops.specs.declared.form.Scalar.TheVariants as scalar

@@ -1,8 +1,8 @@
 -- Typed: what holds between the result type of an instruction, the types of its value operands and its literals. [own: table C, Y5]
 use Rattle.std.specs.Prelude.{◌≡◌, ◌⊎◌, ℕ, List, [], ◌∷◌, Option, Some, None, IsSomeAnd, length, slice_get}
 use Rattle.std.specs.List.{AllByRecursion}
-use Rattle.spv_grammar.specs.Table.{Table}
-use Rattle.spv_inst.specs.Operand.{PlainInst}
+use Rattle.spv_table.specs.Table.{Table}
+use Rattle.spv_module.specs.Operand.{PlainInst}
 use Rattle.spv_ops.specs.declared.row.Row.{Row}
 use Rattle.spv_ops.specs.declared.row.Row.TheVariants.{Free, Undef, Variable, Calculation, Access, Composite, Construct, Chain, ElementChain, Phi, BranchConditional, Switch}
 use Rattle.spv_ops.specs.Form.{form_of}

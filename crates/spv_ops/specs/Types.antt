@@ -1,6 +1,6 @@
 -- The words of the rows of types. `is` are the instructions of the module, and types are named by their ids. [2.2.2]
 use Rattle.std.specs.Prelude.{◌≡◌, ◌⊎◌, ℕ, List, Option, Some, None, option_and_then, option_map, IsSomeAnd}
-use Rattle.spv_inst.specs.Operand.{PlainInst}
+use Rattle.spv_module.specs.Operand.{PlainInst}
 use Rattle.spv_ops.specs.declared.form.Scalar.{Scalar}
 use Rattle.spv_ops.specs.declared.form.Scalar.TheVariants as scalar
 use Rattle.spv_ops.specs.declared.form.Form.{Form}

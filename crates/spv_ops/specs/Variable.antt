@@ -1,8 +1,8 @@
 -- The row of OpVariable (59). [3.49.8]
 use Rattle.std.specs.Prelude.{◌≡◌, ◌≢◌, ◌⊎◌, ℕ, List, ◌∷◌, Some, Bool, nat_eq, nat_le, ◌&&◌, ◌||◌, IsTrue, IsSomeAnd}
 use Rattle.std.specs.List.{AllByRecursion}
-use Rattle.spv_inst.specs.Operand.{Plain, Value, PlainInst}
-use Rattle.spv_inst.specs.Width.{definition_of}
+use Rattle.spv_module.specs.Operand.{Plain, Value, PlainInst}
+use Rattle.spv_module.specs.Width.{definition_of}
 use Rattle.spv_layout.specs.Place.{IsOfSection, IsOfFunction}
 use Rattle.spv_ids.specs.Definition.{IsDefinedAt}
 use Rattle.spv_ops.specs.Form.{form_of}

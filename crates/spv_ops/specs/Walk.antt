@@ -1,6 +1,6 @@
 -- Reach as a function, one index after another. (For the code alone: `reach_decided` and `chain_decided` say what it means.)
 use Rattle.std.specs.Prelude.{ℕ, List, [], ◌∷◌, Option, Some, option_and_then}
-use Rattle.spv_inst.specs.Operand.{PlainInst}
+use Rattle.spv_module.specs.Operand.{PlainInst}
 use Rattle.spv_ops.specs.declared.form.Form.{Form}
 use Rattle.spv_ops.specs.declared.form.Form.TheVariants as form
 use Rattle.spv_ops.specs.Form.{form_of}

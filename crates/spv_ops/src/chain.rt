@@ -1,7 +1,7 @@
 ghost use Rattle.std.specs.Prelude.{◌≡◌, ◌↔◌, ◌∷◌, Some, true, IsTrue, IsSomeAnd};
 ghost use Rattle.std.specs.List.{list_all};
 ghost use Rattle.spv_ops.specs.Types.{IsSomeInt};
-ghost use Rattle.spv_inst.specs.Module.{plain_operands};
+ghost use Rattle.spv_module.specs.Module.{plain_operands};
 ghost use Rattle.spv_ops.specs.Operands.{ids_in};
 ghost use Rattle.spv_ops.specs.Walk.{choices};
 ghost use Rattle.spv_ops.specs.Tests.{has_int};
@@ -14,7 +14,7 @@ use crate::definitions::Definitions;
 use crate::form::Form;
 use crate::parts::led;
 use crate::several::all_ints;
-use spv_inst::Operand;
+use spv_module::Operand;
 
 /// Whether the indexes go from a type to another, one after another.
 fn goes(definitions: &Definitions, from: u32, indexes: &[Operand], to: u32) -> bool

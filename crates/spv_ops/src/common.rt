@@ -1,7 +1,7 @@
 //! The rows of types that most instructions have.
 
 ghost use Rattle.std.specs.Prelude.{◌≡◌, ◌↔◌, ◌∷◌, [], IsTrue, IsSomeAnd, Some, None};
-ghost use Rattle.spv_inst.specs.Module.{plain_operands};
+ghost use Rattle.spv_module.specs.Module.{plain_operands};
 ghost use Rattle.spv_ops.specs.Access.{Accesses};
 ghost use Rattle.spv_ops.specs.Common as spec;
 ghost use Rattle.spv_ops.specs.Common.{IsCommon, IsCondition};
@@ -13,7 +13,7 @@ ghost use Rattle.spv_ops.specs.declared.row.Access.TheVariants.{Load, Store};
 use crate::calculation::is_data;
 use crate::definitions::Definitions;
 use crate::form::{Form, Scalar, Sort};
-use spv_inst::Operand;
+use spv_module::Operand;
 
 /// A row that is looked at before the others.
 #[derive(Clone, Copy, Debug)]

@@ -1,6 +1,6 @@
 ghost use Rattle.std.specs.Prelude.{◌≡◌, ◌≢◌, ◌↔◌, ◌+◌, ℕ, [], ◌∷◌, Some, IsTrue, length};
 ghost use Rattle.std.specs.List.{AllByRecursion};
-ghost use Rattle.spv_inst.specs.Module.{plain_operands};
+ghost use Rattle.spv_module.specs.Module.{plain_operands};
 ghost use Rattle.spv_ops.specs.Operands.{words_in};
 ghost use Rattle.spv_ops.specs.Reach.{Reaches, AreWithin};
 ghost use Rattle.spv_ops.specs.Walk.{walk};
@@ -13,7 +13,7 @@ use crate::definitions::Definitions;
 use crate::form::Form;
 use crate::parts::reached;
 use crate::row::Composite;
-use spv_inst::Operand;
+use spv_module::Operand;
 
 fn extract_dynamic(definitions: &Definitions, r: u32, o: u32, p: u32) -> bool
     ensures { IsTrue result ↔ Composes definitions.now ExtractDynamic r (o ∷ p ∷ []) [] }

@@ -1,6 +1,6 @@
 ghost use Rattle.std.specs.Prelude.{◌≡◌, ◌<◌, ◌↔◌, Some, true, IsTrue, IsSomeAnd, length};
 ghost use Rattle.std.specs.List.{AllByRecursion, list_all};
-ghost use Rattle.spv_inst.specs.Module.{plain_operands};
+ghost use Rattle.spv_module.specs.Module.{plain_operands};
 ghost use Rattle.spv_ops.specs.Operands.{ids_in};
 ghost use Rattle.spv_ops.specs.Parts.{count_of};
 ghost use Rattle.spv_ops.specs.Form.{form_of};
@@ -12,7 +12,7 @@ use crate::definitions::Definitions;
 use crate::form::Form;
 use crate::parts::count;
 use crate::several::{are_parts, id_count, left_after_all};
-use spv_inst::Operand;
+use spv_module::Operand;
 
 /// Whether the values of two ids or more use up so many components.
 fn uses_up(definitions: &Definitions, c: u32, n: u32, operands: &[Operand]) -> bool

@@ -1,11 +1,11 @@
 //! What the ids of a module stand for.
 
 ghost use Rattle.std.specs.Prelude.{◌≡◌, ◌↔◌, ◌<◌, ℕ, IsTrue, Some, length, map, option_map, slice_get};
-ghost use Rattle.spv_grammar.specs.Table.{Table};
-ghost use Rattle.spv_inst.specs.Width as width;
-ghost use Rattle.spv_inst.specs.Width.{definition_of};
-ghost use Rattle.spv_inst.specs.Module.{plain_inst, plain_insts, plain_operands};
-ghost use Rattle.spv_inst.specs.Operand as operand;
+ghost use Rattle.spv_table.specs.Table.{Table};
+ghost use Rattle.spv_module.specs.Width as width;
+ghost use Rattle.spv_module.specs.Width.{definition_of};
+ghost use Rattle.spv_module.specs.Module.{plain_inst, plain_insts, plain_operands};
+ghost use Rattle.spv_module.specs.Operand as operand;
 ghost use Rattle.spv_layout.specs.Plan.{IsPlan, IsPlaceOf};
 ghost use Rattle.spv_ids.specs.Outcome.{IsDefinitionOf, IsOnly, definition_in};
 ghost use Rattle.spv_ops.specs.Form.{form_of};
@@ -14,8 +14,8 @@ ghost use Rattle.spv_ops.specs.Variable.{IsGlobal};
 
 use crate::form::{Components, Form, Scalar, form_in};
 use spv_ids::Ids;
-use spv_inst::{Inst, Module, Operand};
 use spv_layout::{Place, Plan};
+use spv_module::{Inst, Module, Operand};
 use std::marker::Model;
 
 /// The opcode of OpVariable.
@@ -34,8 +34,8 @@ pub struct Definitions<'m, 'a> {
 
 impl<'m, 'a> Model for Definitions<'m, 'a> {
     ghost use Rattle.std.specs.Prelude.{List, map};
-    ghost use Rattle.spv_inst.specs.Operand.{PlainInst};
-    ghost use Rattle.spv_inst.specs.Module.{plain_inst};
+    ghost use Rattle.spv_module.specs.Operand.{PlainInst};
+    ghost use Rattle.spv_module.specs.Module.{plain_inst};
     ghost use Rattle.spv_ops.specs.Found.{AreFound};
 
     ghost Value = { List PlainInst };

@@ -1,5 +1,5 @@
 ghost use Rattle.std.specs.Prelude.{◌↔◌, ◌∷◌, [], IsTrue, IsSomeAnd};
-ghost use Rattle.spv_inst.specs.Module.{plain_operands};
+ghost use Rattle.spv_module.specs.Module.{plain_operands};
 ghost use Rattle.spv_ops.specs.Operands.{ids_in, words_in};
 ghost use Rattle.spv_ops.specs.Calculation.{Calculates};
 ghost use Rattle.spv_ops.specs.declared.row.Calculation.TheVariants.{Binary};
@@ -15,7 +15,7 @@ use crate::form::Sort;
 use crate::gather::{MOST, gather};
 use crate::row::{Access, Calculation, Composite};
 use crate::several::is_typed;
-use spv_inst::Operand;
+use spv_module::Operand;
 
 /// Whether the row of a binary operation holds of the result type and the declared types of two ids.
 #[inline(always)]

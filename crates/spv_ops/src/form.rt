@@ -1,9 +1,9 @@
 ghost use Rattle.std.specs.Prelude.{◌≡◌, ◌↔◌, IsTrue};
-ghost use Rattle.spv_inst.specs.Module.{plain_inst, plain_operands};
+ghost use Rattle.spv_module.specs.Module.{plain_inst, plain_operands};
 ghost use Rattle.spv_ops.specs.Form as spec;
 ghost use Rattle.spv_ops.specs.Types.{sort_of};
 
-use spv_inst::{Inst, Operand};
+use spv_module::{Inst, Operand};
 
 /// A scalar type (SPIR-V Specification 1.6, section 2.2.2). Ints and floats have a width in bits.
 #[derive(Clone, Copy, Debug, PartialEq, Eq)]

@@ -1,10 +1,10 @@
 ghost use Rattle.std.specs.Prelude.{◌≡◌, ◌≤◌, ◌<◌, ℕ, List, Some, IfSome, IfNone, length, take};
-ghost use Rattle.spv_inst.specs.Module.{plain_operands};
+ghost use Rattle.spv_module.specs.Module.{plain_operands};
 ghost use Rattle.spv_ops.specs.Operands.{ids_in};
 ghost use Rattle.spv_ops.specs.Values.{types_of};
 
 use crate::definitions::Definitions;
-use spv_inst::Operand;
+use spv_module::Operand;
 
 /// The most value operands of an instruction that has a number of them of its own.
 pub const MOST: usize = 6;

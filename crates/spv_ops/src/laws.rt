@@ -1,9 +1,9 @@
 //! Laws of the definitions, and worked examples. Each function does nothing: its contract is what is proved.
 
 ghost use Rattle.std.specs.Prelude.{◌≡◌, ◌≢◌, ◌↔◌, ℕ, List, [], ◌∷◌, Some, None, slice_get};
-ghost use Rattle.spv_grammar.specs.Table.{Table};
-ghost use Rattle.spv_inst.specs.Operand.{PlainInst, Value};
-ghost use Rattle.spv_inst.specs.Example.{small as table};
+ghost use Rattle.spv_table.specs.Table.{Table};
+ghost use Rattle.spv_module.specs.Operand.{PlainInst, Value};
+ghost use Rattle.spv_module.specs.Example.{small as table};
 ghost use Rattle.spv_layout.specs.Shape.{Fits};
 ghost use Rattle.spv_ops.specs.declared.form.Sort.TheVariants as sort;
 ghost use Rattle.spv_ops.specs.declared.row.Row.TheVariants as row;

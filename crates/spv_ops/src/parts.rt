@@ -1,5 +1,5 @@
 ghost use Rattle.std.specs.Prelude.{◌≡◌, Some, None, option_map, ℕ};
-ghost use Rattle.spv_inst.specs.Module.{plain_inst, plain_operands};
+ghost use Rattle.spv_module.specs.Module.{plain_inst, plain_operands};
 ghost use Rattle.spv_ops.specs.Parts as spec;
 ghost use Rattle.spv_ops.specs.Parts.{constant_of, length_of, members_of, member_of, part_of, count_of, inner_part_of, part_among};
 ghost use Rattle.spv_ops.specs.Operands.{words_in, ids_in};
@@ -7,7 +7,7 @@ ghost use Rattle.spv_ops.specs.Walk.{walk, choice, choices};
 
 use crate::definitions::Definitions;
 use crate::form::Form;
-use spv_inst::{Inst, Operand};
+use spv_module::{Inst, Operand};
 
 /// The number of a constant: 64 bits, the low word first.
 fn number_in(operands: &[Operand]) -> Option<u64>

@@ -1,7 +1,7 @@
 ghost use Rattle.std.specs.Prelude.{◌≡◌, ◌↔◌, IsTrue, IsSomeAnd, option_and_then, length};
 ghost use Rattle.std.specs.List.{list_all, AllByRecursion};
-ghost use Rattle.spv_inst.specs.Module.{plain_operands};
-ghost use Rattle.spv_inst.specs.Width.{type_of};
+ghost use Rattle.spv_module.specs.Module.{plain_operands};
+ghost use Rattle.spv_module.specs.Width.{type_of};
 ghost use Rattle.spv_ops.specs.Operands.{ids_in};
 ghost use Rattle.spv_ops.specs.Composite.{share_of};
 ghost use Rattle.spv_ops.specs.Types.{PointsTo};
@@ -11,7 +11,7 @@ ghost use Rattle.spv_ops.specs.Values.{paired_ids_in, types_of};
 use crate::definitions::Definitions;
 use crate::form::{Form, Scalar};
 use crate::parts::parts_of;
-use spv_inst::Operand;
+use spv_module::Operand;
 
 /// Whether an id stands for an int.
 pub fn stands_for_int(definitions: &Definitions, x: u32) -> bool

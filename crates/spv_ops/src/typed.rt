@@ -1,7 +1,7 @@
 ghost use Rattle.std.specs.Prelude.{◌≡◌, ◌↔◌, ◌⊎◌, ◌<◌, ℕ, [], length, Some, None, IsTrue, IsSomeAnd};
 ghost use Rattle.std.specs.List.{AllByRecursion};
-ghost use Rattle.spv_grammar.specs.Table.{Table};
-ghost use Rattle.spv_inst.specs.Module.{plain_inst, plain_insts, plain_operands};
+ghost use Rattle.spv_table.specs.Table.{Table};
+ghost use Rattle.spv_module.specs.Module.{plain_inst, plain_insts, plain_operands};
 ghost use Rattle.spv_layout.specs.Plan.{IsPlan};
 ghost use Rattle.spv_ids.specs.Outcome.{IsDefinitionOf, definition_in};
 ghost use Rattle.spv_ops.specs.Operands as spec;
@@ -30,8 +30,8 @@ use crate::row::{Row, row_of};
 use crate::several::{all_pairs_of_type, stands_for_int};
 use crate::variable::variable_holds;
 use spv_ids::Ids;
-use spv_inst::{Inst, Module, Operand};
 use spv_layout::Plan;
+use spv_module::{Inst, Module, Operand};
 
 /// What follows the result type and the result.
 #[inline(always)]

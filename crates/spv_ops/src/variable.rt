@@ -2,7 +2,7 @@
 
 ghost use Rattle.std.specs.Prelude.{◌≡◌, ◌≢◌, ◌↔◌, ◌<◌, Some, IsTrue, IsSomeAnd, length};
 ghost use Rattle.std.specs.List.{AllByRecursion};
-ghost use Rattle.spv_inst.specs.Module.{plain_operands};
+ghost use Rattle.spv_module.specs.Module.{plain_operands};
 ghost use Rattle.spv_ops.specs.Values.{types_of, initializers_in};
 ghost use Rattle.spv_ops.specs.Operands.{ids_in};
 ghost use Rattle.spv_ops.specs.Types.{class_in};
@@ -13,8 +13,8 @@ ghost use Rattle.spv_ops.specs.Variable.{IsConstant, IsInitializer, IsClassAt, D
 use crate::definitions::{DECLARATIONS, Definitions};
 use crate::form::Form;
 use crate::several::all_pointees;
-use spv_inst::Operand;
 use spv_layout::Place;
+use spv_module::Operand;
 
 /// The storage class Function.
 const FUNCTION: u32 = 7;

@@ -1,6 +1,6 @@
 //! A small module whose operations are typed, but for one, with answers that were worked out by hand.
 
-use spv_grammar::Table;
+use spv_grammar::{FromGrammar, Table};
 use spv_ids::number;
 use spv_inst::{Stop, decode};
 use spv_layout::laws::word_counts;

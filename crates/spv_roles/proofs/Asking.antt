@@ -1,10 +1,10 @@
 -- What is asked of an instruction's ids by its opcode is what its row of the table of shapes asks.
 use Rattle.std.proofs.Common.{◌≡◌, ◌∙◌, ◌++◌, ◌&&◌, ⊎_elim, ℕ, zero, suc, List, [], ◌∷◌, Option, Some, None, Bool, true, false, not, if◌then◌else◌, refl, sym, subst, MatchBool}
 use Rattle.std.specs.Prelude.{slice_get}
-use Rattle.spv_grammar.specs.Table.{Table}
-use Rattle.spv_grammar.specs.Lookups.{number_named, is_number}
-use Rattle.spv_inst.specs.Operand.{Plain, PlainInst}
-use Rattle.spv_inst.specs.Operand as operand
+use Rattle.spv_table.specs.Table.{Table}
+use Rattle.spv_table.specs.Lookups.{number_named, is_number}
+use Rattle.spv_module.specs.Operand.{Plain, PlainInst}
+use Rattle.spv_module.specs.Operand as operand
 use Rattle.spv_layout.specs.declared.form.Role.{Role}
 use Rattle.spv_layout.specs.declared.form.Role.TheVariants as role
 use Rattle.spv_layout.specs.declared.form.Form.{Form}

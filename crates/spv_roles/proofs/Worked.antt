@@ -1,10 +1,10 @@
 -- The worked examples of Y1.
 use Rattle.std.proofs.Common.{◌≡◌, ◌+◌, ℕ, zero, suc, List, [], ◌∷◌, Some, None, true, refl, subst, arith, lit≤}
 use Rattle.std.specs.Prelude.{slice_get}
-use Rattle.spv_grammar.specs.Table.{Table}
-use Rattle.spv_inst.specs.Operand.{OfType, Result, PlainInst}
-use Rattle.spv_inst.specs.declared.fault.Rule.{Rule}
-use Rattle.spv_inst.specs.declared.fault.Rule.TheVariants.{Y1}
+use Rattle.spv_table.specs.Table.{Table}
+use Rattle.spv_module.specs.Operand.{OfType, Result, PlainInst}
+use Rattle.spv_module.specs.declared.fault.Rule.{Rule}
+use Rattle.spv_module.specs.declared.fault.Rule.TheVariants.{Y1}
 use Rattle.spv_layout.specs.declared.class.Class.TheVariants as class
 use Rattle.spv_layout.specs.declared.form.Form.TheVariants as form
 use Rattle.spv_layout.specs.declared.form.Role.{Role}

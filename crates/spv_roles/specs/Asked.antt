@@ -1,6 +1,6 @@
 -- The roles that an opcode asks for, and what they say of operands. (For the code alone.)
 use Rattle.std.specs.Prelude.{◌⊎◌, ℕ, List, [], ◌∷◌, Bool, Option, Some, None, nat_eq, nat_le, ◌&&◌, ◌||◌, if◌then◌else◌}
-use Rattle.spv_inst.specs.Operand.{Plain, OfType, Id, Mask, PlainInst}
+use Rattle.spv_module.specs.Operand.{Plain, OfType, Id, Mask, PlainInst}
 use Rattle.spv_layout.specs.declared.form.Role.{Role}
 use Rattle.spv_layout.specs.declared.form.Role.TheVariants as role
 use Rattle.spv_roles.specs.declared.asked.Asked.{Asked}

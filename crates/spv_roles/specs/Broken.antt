@@ -1,9 +1,9 @@
 -- Y1: which uses are not in their role, and where. [2.16]
 use Rattle.std.specs.Prelude.{ℕ, List}
-use Rattle.spv_grammar.specs.Table.{Table}
-use Rattle.spv_inst.specs.Operand.{PlainInst}
-use Rattle.spv_inst.specs.declared.fault.Rule.{Rule}
-use Rattle.spv_inst.specs.declared.fault.Rule.TheVariants.{Y1}
+use Rattle.spv_table.specs.Table.{Table}
+use Rattle.spv_module.specs.Operand.{PlainInst}
+use Rattle.spv_module.specs.declared.fault.Rule.{Rule}
+use Rattle.spv_module.specs.declared.fault.Rule.TheVariants.{Y1}
 use Rattle.spv_layout.specs.declared.form.Role.{Role}
 use Rattle.spv_ids.specs.Definition.{IsUsedAt}
 use Rattle.spv_roles.specs.Role.{Plays}

@@ -1,6 +1,6 @@
 -- Small examples.
 use Rattle.std.specs.Prelude.{List, [], ◌∷◌}
-use Rattle.spv_inst.specs.Operand.{OfType, Result, PlainInst}
+use Rattle.spv_module.specs.Operand.{OfType, Result, PlainInst}
 use Rattle.spv_ops.specs.Example.{inst}
 
 -- %1 = OpTypeVoid, %2 = OpUndef %1, %3 = OpFunction %1 .., %4 = OpString ..

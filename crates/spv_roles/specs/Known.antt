@@ -1,7 +1,7 @@
 -- What is known of the uses of an instruction. (For the code alone.)
 use Rattle.std.specs.Prelude.{◌<◌, ℕ, List, [], ◌∷◌, Bool, true, false}
-use Rattle.spv_grammar.specs.Table.{Table}
-use Rattle.spv_inst.specs.Operand.{Plain, Result, PlainInst}
+use Rattle.spv_table.specs.Table.{Table}
+use Rattle.spv_module.specs.Operand.{Plain, Result, PlainInst}
 use Rattle.spv_layout.specs.declared.form.Role.{Role}
 use Rattle.spv_layout.specs.Shape.{IsUse}
 use Rattle.spv_ids.specs.Definition.{IsUsedAt}

@@ -1,8 +1,8 @@
 -- What `roles_check` answers of a module.
 use Rattle.std.specs.Prelude.{◌≡◌, ℕ, List}
-use Rattle.spv_grammar.specs.Table.{Table}
-use Rattle.spv_inst.specs.Operand.{PlainInst}
-use Rattle.spv_inst.specs.declared.fault.Fault.{Fault}
+use Rattle.spv_table.specs.Table.{Table}
+use Rattle.spv_module.specs.Operand.{PlainInst}
+use Rattle.spv_module.specs.declared.fault.Fault.{Fault}
 use Rattle.spv_layout.specs.declared.form.Role.{Role}
 use Rattle.spv_layout.specs.First.{IsFirst}
 use Rattle.spv_layout.specs.Place.{first_word_of}

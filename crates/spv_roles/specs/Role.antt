@@ -1,7 +1,7 @@
 -- Which roles an id plays: what its definition must be. [2.2.1, 2.16]
 use Rattle.std.specs.Prelude.{◌≡◌, ◌≢◌, ◌≤◌, ℕ, List, IsSome, IsSomeAnd}
-use Rattle.spv_inst.specs.Operand.{PlainInst, type_in}
-use Rattle.spv_inst.specs.Width.{definition_of}
+use Rattle.spv_module.specs.Operand.{PlainInst, type_in}
+use Rattle.spv_module.specs.Width.{definition_of}
 use Rattle.spv_layout.specs.declared.form.Role.{Role}
 use Rattle.spv_layout.specs.declared.form.Role.TheVariants as role
 use Rattle.spv_ops.specs.Variable.{IsGlobal}

@@ -1,7 +1,7 @@
 ghost use Rattle.std.specs.Prelude.{◌≡◌, ◌+◌, ◌≤◌, ◌<◌, ℕ, List, length, slice_get, sum_by, Some, OnOk, IfErr, MatchBool};
-ghost use Rattle.spv_grammar.specs.Table.{Table};
-ghost use Rattle.spv_inst.specs.Operand.{PlainInst};
-ghost use Rattle.spv_inst.specs.Module.{plain_inst, plain_insts, plain_operand, plain_operands};
+ghost use Rattle.spv_table.specs.Table.{Table};
+ghost use Rattle.spv_module.specs.Operand.{PlainInst};
+ghost use Rattle.spv_module.specs.Module.{plain_inst, plain_insts, plain_operand, plain_operands};
 ghost use Rattle.spv_ids.specs.Uses as uses;
 ghost use Rattle.spv_layout.specs.First.{IsUnbroken};
 ghost use Rattle.spv_layout.specs.Place.{word_count};
@@ -17,8 +17,8 @@ ghost use Rattle.spv_roles.specs.Outcome.{AreInRole, IsRefusal};
 use crate::asked::{Asked, asked_of};
 use crate::role::{are_type_and, are_values, defines_type, plays};
 use spv_ids::Ids;
-use spv_inst::{Fault, Inst, Module, Operand, Rule};
 use spv_layout::{Plan, Role, role};
+use spv_module::{Fault, Inst, Module, Operand, Rule};
 use spv_ops::Definitions;
 
 /// The id that an operand uses, if it is an id other than a result.

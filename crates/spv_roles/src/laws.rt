@@ -1,8 +1,8 @@
 //! Laws of roles, and worked examples. Each function does nothing: its contract is what is proved.
 
 ghost use Rattle.std.specs.Prelude.{ℕ, List};
-ghost use Rattle.spv_grammar.specs.Table.{Table};
-ghost use Rattle.spv_inst.specs.Operand.{PlainInst};
+ghost use Rattle.spv_table.specs.Table.{Table};
+ghost use Rattle.spv_module.specs.Operand.{PlainInst};
 ghost use Rattle.spv_layout.specs.First.{IsUnbroken};
 ghost use Rattle.spv_layout.specs.declared.form.Role.TheVariants as role;
 ghost use Rattle.spv_roles.specs.Broken.{Broken};
@@ -10,7 +10,7 @@ ghost use Rattle.spv_roles.specs.Outcome.{AreInRole, IsRefusal};
 ghost use Rattle.spv_roles.specs.Role.{Plays};
 ghost use Rattle.spv_roles.specs.Example.{few, stray, typed, with_set};
 ghost use Rattle.spv_ops.specs.Example.{lone_variable};
-ghost use Rattle.spv_inst.specs.declared.fault.Rule.TheVariants.{Y1};
+ghost use Rattle.spv_module.specs.declared.fault.Rule.TheVariants.{Y1};
 
 /// Where each id that is used plays its role, Y1 is broken nowhere.
 pub fn played_is_unbroken()

@@ -1,11 +1,11 @@
 ghost use Rattle.std.specs.Prelude.{◌≡◌, ◌↔◌, ◌⊎◌, IsTrue, IsSomeAnd, MatchBool};
-ghost use Rattle.spv_inst.specs.Module.{plain_inst};
-ghost use Rattle.spv_inst.specs.Width.{definition_of};
+ghost use Rattle.spv_module.specs.Module.{plain_inst};
+ghost use Rattle.spv_module.specs.Width.{definition_of};
 ghost use Rattle.spv_layout.specs.declared.form.Role.TheVariants as role;
 ghost use Rattle.spv_roles.specs.Role.{IsTypeDeclaration, IsValue, HasOpcode, Plays};
 
-use spv_inst::Inst;
 use spv_layout::Role;
+use spv_module::Inst;
 use spv_ops::{Definitions, type_in};
 
 /// The opcode of OpString.

@@ -2,8 +2,8 @@
 use Rattle.std.proofs.Common.{◌≡◌, ◌≢◌, ◌∙◌, ℕ, zero, suc, List, [], ◌∷◌, true, false, nat_eq, Option, Some, None, refl, sym, ap, arith, slice_get, option_map, option_and_then, Contains}
 use Rattle.std.proofs.lemmas.Option.{same_Some, none-some, slice_get_within, get_or_from_slice_get}
 use Rattle.std.proofs.lemmas.Bool.{eq-eqb, ne_eqb}
-use Rattle.spv_inst.specs.Operand.{PlainInst, result_in, type_in}
-use Rattle.spv_inst.specs.Width.{has_result, definition_of, type_of}
+use Rattle.spv_module.specs.Operand.{PlainInst, result_in, type_in}
+use Rattle.spv_module.specs.Width.{has_result, definition_of, type_of}
 use Rattle.spv_run.specs.Act.{Act, act_of}
 use Rattle.spv_run.specs.At.{act_at, result_at, type_at}
 use Rattle.spv_run.specs.Head.{Binding}

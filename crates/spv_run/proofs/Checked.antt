@@ -1,8 +1,8 @@
 -- What a verdict says of a list of instructions, as far as a run rests on it: each field is (a part of) a rule.
 use Rattle.std.specs.Prelude.{◌≡◌, ℕ, List, [], ◌∷◌, map, Some, Contains, slice_get}
-use Rattle.spv_grammar.specs.Table.{Table}
-use Rattle.spv_inst.specs.Operand.{PlainInst, Id, type_in}
-use Rattle.spv_inst.specs.Width.{type_of}
+use Rattle.spv_table.specs.Table.{Table}
+use Rattle.spv_module.specs.Operand.{PlainInst, Id, type_in}
+use Rattle.spv_module.specs.Width.{type_of}
 use Rattle.spv_layout.specs.declared.form.Role.TheVariants.{Any}
 use Rattle.spv_layout.specs.Layout.{IsLayout, classes}
 use Rattle.spv_ids.specs.Definition.{IsUsedAt}

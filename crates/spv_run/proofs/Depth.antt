@@ -1,8 +1,8 @@
 -- No function comes twice among the frames, so there are at most as many frames as definitions.
 use Rattle.std.proofs.Common.{◌≡◌, ◌≤◌, ◌<◌, ◌∙◌, ◌⊎◌, inl, inr, ℕ, zero, suc, Some, Contains, slice_get, List, [], ◌∷◌, true, nat_eq, if◌then◌else◌, refl, sym, ap, subst, arith, length}
 use Rattle.std.proofs.lemmas.Bool.{cases_Bool, eqb-true, eq-eqb}
-use Rattle.spv_grammar.specs.Table.{Table}
-use Rattle.spv_inst.specs.Operand.{PlainInst, Id}
+use Rattle.spv_table.specs.Table.{Table}
+use Rattle.spv_module.specs.Operand.{PlainInst, Id}
 use Rattle.spv_run.specs.State.{Frame}
 use Rattle.spv_calls.specs.Chain.{Chain}
 use Rattle.spv_calls.specs.Calls.{function_call, Calls, IsEntryFunction}

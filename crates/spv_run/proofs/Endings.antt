@@ -1,7 +1,7 @@
 -- The ends that come of a state.
 use Rattle.std.proofs.Common.{◌≡◌, ◌≢◌, ◌∙◌, ℕ, List, [], ◌∷◌, Bool, true, false, refl, ap}
-use Rattle.spv_grammar.specs.Table.{Table}
-use Rattle.spv_inst.specs.Operand.{PlainInst}
+use Rattle.spv_table.specs.Table.{Table}
+use Rattle.spv_module.specs.Operand.{PlainInst}
 use Rattle.spv_run.specs.Act.{Act, Function, Parameter, FunctionEnd, Label, Phi, Branch, Choose, Call, Return, ReturnValue, Other, act_of}
 use Rattle.spv_run.specs.State.{Ending, Stuck, Frame, State, Outcome, Last, Before, returned}
 use Rattle.spv_run.specs.Machine.{definition, declaration, Moves, Does, step, no_choice, bad_choice}

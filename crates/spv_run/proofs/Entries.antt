@@ -2,9 +2,9 @@
 use Rattle.std.proofs.Common.{◌≡◌, ◌∙◌, ◌<◌, ◌≤◌, ◌+◌, inl, inr, ℕ, List, Option, Some, None, nat_eq, refl, sym, ap, arith, length, slice_get}
 use Rattle.std.proofs.lemmas.Bool.{cases_Bool, cases_lt, eqb-true}
 use Rattle.std.proofs.lemmas.Option.{same_Some, none-some, slice_get_within}
-use Rattle.spv_grammar.specs.Table.{Table}
-use Rattle.spv_inst.specs.Operand.{Plain, PlainInst}
-use Rattle.spv_inst.specs.Operand as operand
+use Rattle.spv_table.specs.Table.{Table}
+use Rattle.spv_module.specs.Operand.{Plain, PlainInst}
+use Rattle.spv_module.specs.Operand as operand
 use Rattle.spv_ids.specs.Definition.{IsDefinedAt}
 use Rattle.spv_calls.specs.Calls.{entry_point, IsEntryFunction}
 use Rattle.spv_calls.specs.Found.{id_in, entry_in}
@@ -14,7 +14,7 @@ use Rattle.spv_run.specs.Run.{IsStart, Run}
 use Rattle.spv_run.specs.Sound.{IsSound}
 use Rattle.spv_run.specs.Trace.{ending_of}
 use Rattle.spv_run.specs.declared.parts.Trace.{Trace}
-use Rattle.spv_inst.specs.declared.fault.Rule.TheVariants as rule
+use Rattle.spv_module.specs.declared.fault.Rule.TheVariants as rule
 use Rattle.spv_run.proofs.Sound.{checked}
 use Rattle.spv_run.proofs.Typing.{entry_of}
 use Rattle.spv_run.proofs.Theorem.{never_gets_stuck}

@@ -1,7 +1,7 @@
 -- Lists whose instructions fit their rows, and in which each id has one definition at most.
 use Rattle.std.specs.Prelude.{◌≡◌, ℕ, List, Some, slice_get}
-use Rattle.spv_grammar.specs.Table.{Table}
-use Rattle.spv_inst.specs.Operand.{PlainInst}
+use Rattle.spv_table.specs.Table.{Table}
+use Rattle.spv_module.specs.Operand.{PlainInst}
 use Rattle.spv_layout.specs.Shape.{Fits}
 use Rattle.spv_run.specs.At.{result_at}
 

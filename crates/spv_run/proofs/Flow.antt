@@ -1,6 +1,6 @@
 -- Rules of flow, as far as a run rests on them. [2.2.5, 2.16.1]
 use Rattle.std.specs.Prelude.{◌≡◌, ℕ, List, Some, Contains, slice_get}
-use Rattle.spv_inst.specs.Operand.{PlainInst}
+use Rattle.spv_module.specs.Operand.{PlainInst}
 use Rattle.spv_run.specs.Act.{Act, Phi, Pair, act_of}
 use Rattle.spv_run.specs.At.{act_at, result_at, targets, value_from}
 use Rattle.spv_run.proofs.Place.{IsIn, IsLocal, IsLabel}

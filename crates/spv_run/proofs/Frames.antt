@@ -2,8 +2,8 @@
 use Rattle.std.proofs.Common.{◌≡◌, ◌≤◌, ◌<◌, ◌∙◌, ◌⊎◌, inl, inr, ℕ, zero, suc, List, [], ◌∷◌, true, false, IsTrue, Option, Some, None, refl, sym, ap, subst, arith, Contains}
 use Rattle.std.proofs.lemmas.Option.{same_Some, none-some}
 use Rattle.std.proofs.lemmas.Bool.{cases_eq, cases_order}
-use Rattle.spv_inst.specs.Operand.{PlainInst}
-use Rattle.spv_inst.specs.Width.{type_of}
+use Rattle.spv_module.specs.Operand.{PlainInst}
+use Rattle.spv_module.specs.Width.{type_of}
 use Rattle.spv_run.specs.Act.{Act, Function, FunctionEnd, Label}
 use Rattle.spv_run.specs.At.{act_at, result_at, type_at, targets, goes_on, in_block}
 use Rattle.spv_run.specs.Head.{Binding, IsDefined}

@@ -4,13 +4,13 @@ use Rattle.std.specs.Prelude.{slice_get, slice_index_or, IsSomeAnd, IsTrue}
 use Rattle.std.specs.List.{AllByRecursion}
 use Rattle.std.specs.Option.{is_some}
 use Rattle.std.proofs.lemmas.Option.{none-some, same_Some}
-use Rattle.spv_grammar.specs.declared.table.Enumerant.{Enumerant}
-use Rattle.spv_grammar.specs.Table.{enumerant_of}
-use Rattle.spv_grammar.specs.Lookups.{number_named}
-use Rattle.spv_grammar.specs.Implied.{Lists, Chain, capabilities_in}
-use Rattle.spv_inst.specs.Operand.{Plain, PlainInst, result_in}
-use Rattle.spv_inst.specs.declared.fault.Rule.{Rule}
-use Rattle.spv_inst.specs.declared.fault.Rule.TheVariants as rule
+use Rattle.spv_table.specs.declared.table.Enumerant.{Enumerant}
+use Rattle.spv_table.specs.Table.{enumerant_of}
+use Rattle.spv_table.specs.Lookups.{number_named}
+use Rattle.spv_table.specs.Implied.{Lists, Chain, capabilities_in}
+use Rattle.spv_module.specs.Operand.{Plain, PlainInst, result_in}
+use Rattle.spv_module.specs.declared.fault.Rule.{Rule}
+use Rattle.spv_module.specs.declared.fault.Rule.TheVariants as rule
 use Rattle.spv_layout.specs.declared.class.Class.{Class}
 use Rattle.spv_layout.specs.declared.class.Class.TheVariants as class
 use Rattle.spv_layout.specs.declared.form.Form.{Form}

@@ -1,6 +1,6 @@
 -- Layout, as far as a run rests on it. [2.4]
 use Rattle.std.specs.Prelude.{◌≡◌, ◌≢◌, ◌⊎◌, ℕ, suc, List, Some, None, false, IsTrue}
-use Rattle.spv_inst.specs.Operand.{PlainInst}
+use Rattle.spv_module.specs.Operand.{PlainInst}
 use Rattle.spv_run.specs.Act.{Act, Function, Label, Phi, Pair}
 use Rattle.spv_run.specs.At.{act_at, result_at, type_at, goes_on, in_block}
 use Rattle.spv_run.specs.Head.{Binding, IsDefined, IsDeclared}

@@ -2,9 +2,9 @@
 use Rattle.std.proofs.Common.{◌≡◌, ◌≢◌, ◌≤◌, ◌<◌, ◌∙◌, ◌⊎◌, inl, inr, ℕ, zero, suc, List, [], ◌∷◌, Some, None, Contains, refl, sym, ap, subst, arith, length}
 use Rattle.std.specs.List.{AllByRecursion}
 use Rattle.std.proofs.lemmas.Option.{none-some, same_Some}
-use Rattle.spv_grammar.specs.Table.{Table}
-use Rattle.spv_inst.specs.Operand.{PlainInst, Result}
-use Rattle.spv_inst.specs.Width.{type_of}
+use Rattle.spv_table.specs.Table.{Table}
+use Rattle.spv_module.specs.Operand.{PlainInst, Result}
+use Rattle.spv_module.specs.Width.{type_of}
 use Rattle.spv_layout.specs.declared.class.Class.TheVariants.{Function, FunctionEnd, Label}
 use Rattle.spv_layout.specs.Rows.{rows}
 use Rattle.spv_layout.specs.Place.{IsAt, IsDefinition}

@@ -1,6 +1,6 @@
 -- Where instructions stand: functions, their heads, blocks, and local ids. [2.2.5, 2.4, 2.16.1]
 use Rattle.std.specs.Prelude.{◌≡◌, ◌≢◌, ◌≤◌, ◌<◌, ℕ, List, Some, IsTrue}
-use Rattle.spv_inst.specs.Operand.{PlainInst}
+use Rattle.spv_module.specs.Operand.{PlainInst}
 use Rattle.spv_run.specs.Act.{Act, Function, FunctionEnd, Label}
 use Rattle.spv_run.specs.At.{act_at, result_at, goes_on}
 

@@ -1,7 +1,7 @@
 -- Where the running frame stands on a walk, something comes of the state.
 use Rattle.std.proofs.Common.{◌≡◌, ◌∙◌, ◌⊎◌, inl, inr, ℕ, List, [], ◌∷◌, true, false, IsTrue, Option, Some, None, refl, sym, subst, Contains, slice_get}
-use Rattle.spv_grammar.specs.Table.{Table}
-use Rattle.spv_inst.specs.Operand.{PlainInst}
+use Rattle.spv_table.specs.Table.{Table}
+use Rattle.spv_module.specs.Operand.{PlainInst}
 use Rattle.spv_run.specs.Act.{Act, Function, Parameter, FunctionEnd, Label, Phi, Branch, Choose, Call, Return, ReturnValue, Other, act_of}
 use Rattle.spv_run.specs.At.{act_at, type_at, targets, in_block}
 use Rattle.spv_run.specs.Row.{Row}

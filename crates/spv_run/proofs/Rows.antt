@@ -4,9 +4,9 @@ use Rattle.std.specs.Prelude.{IsSomeAnd}
 use Rattle.std.specs.List.{AllByRecursion}
 use Rattle.std.proofs.lemmas.Bool.{cases_Bool, eqb-true}
 use Rattle.std.proofs.lemmas.Option.{none-some}
-use Rattle.spv_grammar.specs.Table.{Table}
-use Rattle.spv_inst.specs.Operand.{Plain, PlainInst, Id, result_in, type_in}
-use Rattle.spv_inst.specs.Width.{has_result, or_else, definition_of}
+use Rattle.spv_table.specs.Table.{Table}
+use Rattle.spv_module.specs.Operand.{Plain, PlainInst, Id, result_in, type_in}
+use Rattle.spv_module.specs.Width.{has_result, or_else, definition_of}
 use Rattle.spv_layout.specs.Shape.{Fits}
 use Rattle.spv_ops.specs.Types.{IsData}
 use Rattle.spv_ops.specs.Typed.{Typed}

@@ -3,10 +3,10 @@ use Rattle.std.proofs.Common.{◌≡◌, ◌≢◌, ◌∙◌, ◌≤◌, ◌<�
 use Rattle.std.specs.Prelude.{slice_get, option_and_then, IsSomeAnd}
 use Rattle.std.proofs.lemmas.Bool.{ne_eqb}
 use Rattle.std.proofs.lemmas.Option.{none-some, same_Some, slice_get_within}
-use Rattle.spv_grammar.specs.Table.{Table}
-use Rattle.spv_inst.specs.Operand.{Plain, PlainInst, Id, type_in}
-use Rattle.spv_inst.specs.Operand as operand
-use Rattle.spv_inst.specs.declared.fault.Rule.TheVariants as rule
+use Rattle.spv_table.specs.Table.{Table}
+use Rattle.spv_module.specs.Operand.{Plain, PlainInst, Id, type_in}
+use Rattle.spv_module.specs.Operand as operand
+use Rattle.spv_module.specs.declared.fault.Rule.TheVariants as rule
 use Rattle.spv_ops.specs.Parts.{id_in}
 use Rattle.spv_type_rules.specs.Function.{signature_of, ReturnsAfter, parameters_in, parameters_after, parameters_between, parameter_type_of}
 use Rattle.spv_type_rules.specs.Counted.{AreCounted}

@@ -1,7 +1,7 @@
 -- What a run rests on holds of a list on which no rule is broken.
 use Rattle.std.proofs.Common.{ℕ, List}
-use Rattle.spv_grammar.specs.Table.{Table}
-use Rattle.spv_inst.specs.Operand.{PlainInst}
+use Rattle.spv_table.specs.Table.{Table}
+use Rattle.spv_module.specs.Operand.{PlainInst}
 use Rattle.spv_run.specs.Sound.{IsSound}
 use Rattle.spv_run.proofs.Checked.{IsChecked}
 use Rattle.spv_run.proofs.Laid.{laid_out}

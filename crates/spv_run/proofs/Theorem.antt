@@ -1,8 +1,8 @@
 -- A checked module never gets stuck.
 use Rattle.std.proofs.Common.{◌≢◌, ◌<◌, ℕ, zero, suc, List, [], ◌∷◌, refl, length}
 use Rattle.std.specs.List.{AllByRecursion}
-use Rattle.spv_grammar.specs.Table.{Table}
-use Rattle.spv_inst.specs.Operand.{PlainInst}
+use Rattle.spv_table.specs.Table.{Table}
+use Rattle.spv_module.specs.Operand.{PlainInst}
 use Rattle.spv_run.specs.State.{Ending, Limit, Stuck, Frame, State, Outcome, Goes, Last, Before, enter}
 use Rattle.spv_run.specs.Machine.{Does}
 use Rattle.spv_run.specs.Run.{step_of, Run, limit, next, last, before, stuck}

@@ -1,8 +1,8 @@
 -- What the loop of the trace keeps.
 use Rattle.std.proofs.Common.{◌≡◌, ◌<◌, ◌+◌, ◌-◌, ◌∙◌, ◌++◌, ℕ, suc, List, [], ◌∷◌, refl, sym, ap, subst, arith, append_assoc, append-nil, length, reverse, drop, Some, slice_get}
 use Rattle.std.proofs.lemmas.List.{length-reverse, length-map}
-use Rattle.spv_grammar.specs.Table.{Table}
-use Rattle.spv_inst.specs.Operand.{PlainInst}
+use Rattle.spv_table.specs.Table.{Table}
+use Rattle.spv_module.specs.Operand.{PlainInst}
 use Rattle.spv_run.specs.declared.parts.Ending.{Ending}
 use Rattle.spv_run.specs.declared.parts.Step.{Step}
 use Rattle.spv_run.specs.declared.parts.Ending.TheVariants as ending

@@ -3,12 +3,12 @@ use Rattle.std.proofs.Common.{◌≡◌, ◌≢◌, ◌∙◌, ◌≤◌, ◌<�
 use Rattle.std.specs.Prelude.{slice_get, option_and_then, option_map, IsSomeAnd}
 use Rattle.std.proofs.lemmas.Bool.{cases_eq, cases_lt}
 use Rattle.std.proofs.lemmas.Option.{none-some, same_Some}
-use Rattle.spv_grammar.specs.Table.{Table}
-use Rattle.spv_inst.specs.Operand.{Plain, PlainInst, Id, result_in, type_in}
-use Rattle.spv_inst.specs.Operand as operand
-use Rattle.spv_inst.specs.Width.{definition_of, type_of}
-use Rattle.spv_inst.specs.declared.fault.Rule.{Rule}
-use Rattle.spv_inst.specs.declared.fault.Rule.TheVariants as rule
+use Rattle.spv_table.specs.Table.{Table}
+use Rattle.spv_module.specs.Operand.{Plain, PlainInst, Id, result_in, type_in}
+use Rattle.spv_module.specs.Operand as operand
+use Rattle.spv_module.specs.Width.{definition_of, type_of}
+use Rattle.spv_module.specs.declared.fault.Rule.{Rule}
+use Rattle.spv_module.specs.declared.fault.Rule.TheVariants as rule
 use Rattle.spv_layout.specs.Place.{IsDefinition}
 use Rattle.spv_ops.specs.Operands.{ids_in}
 use Rattle.spv_ops.specs.Values.{types_of, paired_ids_in}

@@ -1,6 +1,6 @@
 -- Walks through a function, and what is defined on them. [2.16.1]
 use Rattle.std.specs.Prelude.{◌≡◌, ◌⊎◌, ℕ, suc, List, [], ◌∷◌, Bool, true, false, Option, Some, None, IsTrue, Contains, if◌then◌else◌}
-use Rattle.spv_inst.specs.Operand.{PlainInst}
+use Rattle.spv_module.specs.Operand.{PlainInst}
 use Rattle.spv_run.specs.Act.{Act, Function, Label}
 use Rattle.spv_run.specs.At.{act_at, result_at, targets, goes_on}
 use Rattle.spv_run.proofs.Place.{IsLabel}

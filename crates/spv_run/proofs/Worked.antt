@@ -2,8 +2,8 @@
 use Rattle.std.proofs.Common.{◌≡◌, ◌∙◌, ◌++◌, append-nil, ℕ, zero, suc, List, [], ◌∷◌, Bool, true, false, not, ◌&&◌, Some, refl, sym, ap, subst, arith}
 use Rattle.std.specs.Prelude.{slice_get}
 use Rattle.std.proofs.lemmas.Option.{none-some, same_Some}
-use Rattle.spv_grammar.specs.Table.{Table}
-use Rattle.spv_inst.specs.Operand.{Plain, PlainInst, Result}
+use Rattle.spv_table.specs.Table.{Table}
+use Rattle.spv_module.specs.Operand.{Plain, PlainInst, Result}
 use Rattle.spv_layout.specs.declared.class.Class.{Class}
 use Rattle.spv_layout.specs.declared.form.Form.{Form}
 use Rattle.spv_layout.specs.declared.form.Form.TheVariants as form
@@ -24,7 +24,7 @@ use Rattle.spv_run.specs.Example.{lone_before, lone, unended, standing, step_at}
 use Rattle.spv_calls.specs.Broken.{Broken}
 use Rattle.spv_calls.specs.Calls.{IsEntryFunction}
 use Rattle.spv_calls.specs.Example.{entry, function, functions, looped}
-use Rattle.spv_inst.specs.declared.fault.Rule.TheVariants.{G1}
+use Rattle.spv_module.specs.declared.fault.Rule.TheVariants.{G1}
 use Rattle.spv_run.specs.Entry.{IsEntryId}
 use Rattle.spv_run.specs.Promise.{NeverGetsStuck}
 use Rattle.spv_run.specs.Sound.{IsSound}

@@ -1,7 +1,7 @@
 -- Where the bodies of functions begin, as it is found of a module. (For the code alone.)
 use Rattle.std.specs.Prelude.{◌≡◌, ◌<◌, ℕ, List, Some, slice_get}
-use Rattle.spv_inst.specs.Operand.{PlainInst}
-use Rattle.spv_grammar.specs.Table.{Table}
+use Rattle.spv_module.specs.Operand.{PlainInst}
+use Rattle.spv_table.specs.Table.{Table}
 use Rattle.spv_run.specs.Act.{Function}
 use Rattle.spv_run.specs.At.{act_at}
 use Rattle.spv_run.specs.Sound.{IsSound}

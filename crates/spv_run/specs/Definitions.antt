@@ -1,6 +1,6 @@
 -- Lists of the definitions of functions. (Own.)
 use Rattle.std.specs.Prelude.{ℕ, List, Contains}
-use Rattle.spv_inst.specs.Operand.{PlainInst}
+use Rattle.spv_module.specs.Operand.{PlainInst}
 use Rattle.spv_layout.specs.Place.{IsDefinition}
 
 -- The list has the number of the OpFunction of each definition.

@@ -1,8 +1,8 @@
 -- Runs from entry points, as a caller is told of them. [3.49.5; own: X1]
 use Rattle.std.specs.Prelude.{◌≡◌, ◌<◌, ℕ, List, Some, length, slice_get}
 use Rattle.std.specs.List.{AllByRecursion}
-use Rattle.spv_grammar.specs.Table.{Table}
-use Rattle.spv_inst.specs.Operand.{PlainInst, Id}
+use Rattle.spv_table.specs.Table.{Table}
+use Rattle.spv_module.specs.Operand.{PlainInst, Id}
 use Rattle.spv_ids.specs.declared.ids.Ids.{Ids}
 use Rattle.spv_ids.specs.Definition.{IsDefinedAt}
 use Rattle.spv_calls.specs.Calls.{entry_point}

@@ -1,6 +1,6 @@
 -- Heads of functions: their parameters, and where their bodies begin. [2.4]
 use Rattle.std.specs.Prelude.{◌≡◌, ℕ, suc, List, [], ◌∷◌, Some, None}
-use Rattle.spv_inst.specs.Operand.{PlainInst}
+use Rattle.spv_module.specs.Operand.{PlainInst}
 use Rattle.spv_run.specs.Act.{Function, Parameter, FunctionEnd, Label, Other}
 use Rattle.spv_run.specs.At.{act_at, result_at, type_at}
 

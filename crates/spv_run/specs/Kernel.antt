@@ -1,13 +1,13 @@
 -- The smallest kernel, and a small grammar table under which it is a module.
 use Rattle.std.specs.Prelude.{ℕ, List, [], ◌∷◌, codes}
-use Rattle.spv_grammar.specs.declared.table.Category.TheVariants as category
-use Rattle.spv_grammar.specs.declared.table.Quantifier.TheVariants as quantifier
-use Rattle.spv_grammar.specs.declared.table.Item.{Item}
-use Rattle.spv_grammar.specs.declared.table.Entry.{Entry}
-use Rattle.spv_grammar.specs.declared.table.Enumerant.{Enumerant}
-use Rattle.spv_grammar.specs.Table.{Sort, Table}
-use Rattle.spv_inst.specs.Operand.{OfType, Result, Id, Text, Value, Mask, PlainInst}
-use Rattle.spv_inst.specs.Example.{plain_kind}
+use Rattle.spv_table.specs.declared.table.Category.TheVariants as category
+use Rattle.spv_table.specs.declared.table.Quantifier.TheVariants as quantifier
+use Rattle.spv_table.specs.declared.table.Item.{Item}
+use Rattle.spv_table.specs.declared.table.Entry.{Entry}
+use Rattle.spv_table.specs.declared.table.Enumerant.{Enumerant}
+use Rattle.spv_table.specs.Table.{Sort, Table}
+use Rattle.spv_module.specs.Operand.{OfType, Result, Id, Text, Value, Mask, PlainInst}
+use Rattle.spv_module.specs.Example.{plain_kind}
 use Rattle.spv_capabilities.specs.Example.{enumerant, value_kind}
 use Rattle.spv_ops.specs.Example.{inst}
 

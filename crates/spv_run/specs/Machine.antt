@@ -1,8 +1,8 @@
 -- The machine: its states, and its steps. (Own; by the instructions of 3.49.9 and 3.49.17.)
 use Rattle.std.specs.Prelude.{◌≡◌, ℕ, List, [], ◌∷◌, Option, Some, None, option_map, option_and_then, slice_get}
-use Rattle.spv_grammar.specs.Table.{Table}
-use Rattle.spv_inst.specs.Operand.{PlainInst}
-use Rattle.spv_inst.specs.Width.{type_of}
+use Rattle.spv_table.specs.Table.{Table}
+use Rattle.spv_module.specs.Operand.{PlainInst}
+use Rattle.spv_module.specs.Width.{type_of}
 use Rattle.spv_layout.specs.declared.form.Role.TheVariants.{Any}
 use Rattle.spv_layout.specs.Place.{IsOfFunction, IsOfBlock}
 use Rattle.spv_ids.specs.Definition.{IsDefinedAt, IsUsedAt, IsLocal}

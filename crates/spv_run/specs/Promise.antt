@@ -1,9 +1,9 @@
 -- What is promised of runs.
 use Rattle.std.specs.Prelude.{◌≡◌, ◌≢◌, ◌<◌, ℕ, List, Some, length}
 use Rattle.std.specs.List.{AllByRecursion}
-use Rattle.spv_grammar.specs.Table.{Table}
-use Rattle.spv_inst.specs.Operand.{PlainInst}
-use Rattle.spv_inst.specs.Width.{type_of}
+use Rattle.spv_table.specs.Table.{Table}
+use Rattle.spv_module.specs.Operand.{PlainInst}
+use Rattle.spv_module.specs.Width.{type_of}
 use Rattle.spv_run.specs.State.{Frame, State, Stuck, Ending, bound_type}
 use Rattle.spv_run.specs.Run.{IsStart, Run, Reaches}
 use Rattle.spv_run.specs.declared.parts.Step.{Step}

@@ -1,7 +1,7 @@
 -- Which values an instruction uses, and what its rule on types says of the types that are read for them. [own: table C]
 use Rattle.std.specs.Prelude.{ℕ, List, [], ◌∷◌, map, IsSomeAnd, slice_get}
-use Rattle.spv_inst.specs.Operand.{PlainInst, type_in}
-use Rattle.spv_inst.specs.Width.{definition_of}
+use Rattle.spv_module.specs.Operand.{PlainInst, type_in}
+use Rattle.spv_module.specs.Width.{definition_of}
 use Rattle.spv_ops.specs.Values as rows
 use Rattle.spv_ops.specs.Typed.{Typed}
 use Rattle.spv_type_rules.specs.Function.{ReturnsNothing, ReturnsTyped, CallsTyped}

@@ -1,7 +1,7 @@
 -- Runs. (Own.)
 use Rattle.std.specs.Prelude.{◌≡◌, ℕ, zero, suc, List, [], ◌∷◌, length}
-use Rattle.spv_grammar.specs.Table.{Table}
-use Rattle.spv_inst.specs.Operand.{PlainInst}
+use Rattle.spv_table.specs.Table.{Table}
+use Rattle.spv_module.specs.Operand.{PlainInst}
 use Rattle.spv_run.specs.Head.{Binding, IsDefined}
 use Rattle.spv_run.specs.declared.parts.Step.{Step}
 use Rattle.spv_run.specs.State.{Ending, Limit, Stuck, State, Outcome, Goes, Last, Before, enter}

@@ -1,6 +1,6 @@
 -- The states of the machine. (Own.)
 use Rattle.std.specs.Prelude.{ℕ, suc, List, [], ◌∷◌, Option, Some, None, nat_eq, if◌then◌else◌}
-use Rattle.spv_inst.specs.Operand.{PlainInst}
+use Rattle.spv_module.specs.Operand.{PlainInst}
 use Rattle.spv_run.specs.At.{result_at}
 use Rattle.spv_run.specs.Head.{Binding}
 

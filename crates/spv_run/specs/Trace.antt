@@ -1,7 +1,7 @@
 -- A run without types: what each instruction does, and what comes of it. (For the code alone, but for `ending_of`.)
 use Rattle.std.specs.Prelude.{◌≡◌, ℕ, suc, List, [], ◌∷◌, Option, Some, None, reverse, drop, slice_get}
-use Rattle.spv_inst.specs.Operand.{PlainInst}
-use Rattle.spv_grammar.specs.Table.{Table}
+use Rattle.spv_module.specs.Operand.{PlainInst}
+use Rattle.spv_table.specs.Table.{Table}
 use Rattle.spv_ids.specs.declared.ids.Ids.{Ids}
 use Rattle.spv_ids.specs.Definition.{IsDefinedAt}
 use Rattle.spv_branches.specs.Target.{IsLabelOf}

@@ -1,14 +1,14 @@
 //! Where the bodies of functions begin.
 
 ghost use Rattle.std.specs.Prelude.{◌≡◌, ◌<◌, ◌≤◌, ℕ, Some, map, length, IfOk};
-ghost use Rattle.spv_grammar.specs.Table.{Table};
-ghost use Rattle.spv_inst.specs.Module.{plain_inst};
+ghost use Rattle.spv_table.specs.Table.{Table};
+ghost use Rattle.spv_module.specs.Module.{plain_inst};
 ghost use Rattle.spv_run.specs.Act.{Function};
 ghost use Rattle.spv_run.specs.At.{act_at};
 ghost use Rattle.spv_run.specs.Sound.{IsSound};
 ghost use Rattle.spv_run.specs.Bodies.{IsEntry, HaveEntries};
 
-use spv_inst::Inst;
+use spv_module::Inst;
 use std::alloc::{AllocError, Global};
 
 /// The opcodes of OpFunction, OpFunctionEnd and OpLabel.

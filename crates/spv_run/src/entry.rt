@@ -1,12 +1,12 @@
 //! The functions of entry points.
 
 ghost use Rattle.std.specs.Prelude.{◌≡◌, ◌↔◌, IsTrue, map, slice_get};
-ghost use Rattle.spv_inst.specs.Module.{plain_inst};
+ghost use Rattle.spv_module.specs.Module.{plain_inst};
 ghost use Rattle.spv_calls.specs.Found.{entry_in};
 ghost use Rattle.spv_run.specs.Entry.{IsEntryId};
 
 use crate::moves::id_at;
-use spv_inst::Inst;
+use spv_module::Inst;
 
 /// The opcode of OpEntryPoint.
 const ENTRY_POINT: u16 = 15;

@@ -1,9 +1,9 @@
 //! What each instruction of a module does to a run.
 
 ghost use Rattle.std.specs.Prelude.{◌≡◌, ◌<◌, ℕ, List, Some, slice_get};
-ghost use Rattle.spv_inst.specs.Operand.{PlainInst};
-ghost use Rattle.spv_grammar.specs.Table.{Table};
-ghost use Rattle.spv_inst.specs.Module.{plain_inst};
+ghost use Rattle.spv_module.specs.Operand.{PlainInst};
+ghost use Rattle.spv_table.specs.Table.{Table};
+ghost use Rattle.spv_module.specs.Module.{plain_inst};
 ghost use Rattle.spv_layout.specs.Shape.{Fits};
 ghost use Rattle.spv_ids.specs.Definition.{IsDefinedAt};
 ghost use Rattle.spv_calls.specs.Found.{id_in, AreNumbered};
@@ -14,7 +14,7 @@ ghost use Rattle.spv_run.specs.Trace.{Tells};
 ghost use Rattle.spv_run.specs.Bodies.{HaveEntries};
 
 use spv_ids::Ids;
-use spv_inst::{Inst, Operand};
+use spv_module::{Inst, Operand};
 
 /// The opcodes of OpFunctionCall and the terminators.
 const FUNCTION_CALL: u16 = 57;

@@ -4,7 +4,7 @@ ghost use Rattle.std.specs.Prelude.{◌≡◌};
 ghost use Rattle.spv_run.specs.declared.parts.TraceError.TheVariants.{X2};
 
 use spv_ids::Ids;
-use spv_inst::Inst;
+use spv_module::Inst;
 use std::alloc::AllocError;
 use thiserror::Error;
 

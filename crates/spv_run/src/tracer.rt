@@ -3,7 +3,7 @@
 use crate::moves::{Move, move_of, place_of, target_of};
 use crate::parts::{Code, Ending, Step, Trace};
 use spv_ids::Ids;
-use spv_inst::Inst;
+use spv_module::Inst;
 use std::alloc::{AllocError, Global};
 
 /// Where a run stands, where the calls that it is in go on, the last one last, and how many choices it took.
@@ -32,9 +32,9 @@ pub struct Start<'m> {
 
 impl Walker {
     ghost use Rattle.std.specs.Prelude.{◌≡◌, ◌≤◌, ◌+◌, ℕ, List, Some, length, map, slice_get, IfOk};
-    ghost use Rattle.spv_grammar.specs.Table.{Table};
-    ghost use Rattle.spv_inst.specs.Operand.{PlainInst};
-    ghost use Rattle.spv_inst.specs.Module.{plain_inst};
+    ghost use Rattle.spv_table.specs.Table.{Table};
+    ghost use Rattle.spv_module.specs.Operand.{PlainInst};
+    ghost use Rattle.spv_module.specs.Module.{plain_inst};
     ghost use Rattle.spv_calls.specs.Found.{AreNumbered};
     ghost use Rattle.spv_run.specs.Act.{Choose, act_of};
     ghost use Rattle.spv_run.specs.Sound.{IsSound};
@@ -100,7 +100,7 @@ impl Walker {
 }
 
 ghost use Rattle.std.specs.Prelude.{◌≤◌, length, map, IfOk};
-ghost use Rattle.spv_inst.specs.Module.{plain_inst};
+ghost use Rattle.spv_module.specs.Module.{plain_inst};
 ghost use Rattle.spv_run.specs.Trace.{IsRun};
 
 /// The steps of a run in at most `limit` steps, from the label where it begins, and how it ended. Memory for as many frames as

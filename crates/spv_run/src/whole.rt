@@ -1,8 +1,8 @@
 //! The run of a function of a module.
 
 ghost use Rattle.std.specs.Prelude.{ℕ, ◌≤◌, length, map, IfOk, IfErr};
-ghost use Rattle.spv_grammar.specs.Table.{Table};
-ghost use Rattle.spv_inst.specs.Module.{plain_inst};
+ghost use Rattle.spv_table.specs.Table.{Table};
+ghost use Rattle.spv_module.specs.Module.{plain_inst};
 ghost use Rattle.spv_ids.specs.Definition.{IsDefinedAt};
 ghost use Rattle.spv_calls.specs.Found.{AreNumbered};
 ghost use Rattle.spv_calls.specs.Calls.{IsEntryFunction};

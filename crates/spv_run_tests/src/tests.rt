@@ -1,6 +1,6 @@
 //! Traces of two small modules, with answers that were worked out by hand.
 
-use spv_grammar::Table;
+use spv_grammar::{FromGrammar, Table};
 use spv_ids::number;
 use spv_inst::decode;
 use spv_layout::laws::word_counts;

@@ -2,17 +2,17 @@
 use Rattle.std.proofs.Common.{◌≡◌, ◌++◌, ◌∙◌, ◌<◌, ◌≤◌, ◌+◌, ℕ, List, [], ◌∷◌, Option, Bool, true, false, ◌&&◌, nat_eq, length, map, take, drop, get_or, refl, sym, ap, append_assoc, arith}
 use Rattle.std.specs.Prelude.{Result as Answer, Ok, Err, OnOk}
 use Rattle.std.proofs.lemmas.Bool.Decides.{nat_tests}
-use Rattle.spv_grammar.specs.Table.{Table, kind_of}
+use Rattle.spv_table.specs.Table.{Table, kind_of}
 use Rattle.spv_inst.specs.declared.form.Leaf as declared
 use Rattle.spv_inst.specs.declared.form.Leaf.TheVariants as leaf
 use Rattle.spv_inst.specs.declared.form.Form as forms
 use Rattle.spv_inst.specs.declared.form.Form.TheVariants.{Leaf, Parts}
-use Rattle.spv_inst.specs.declared.operand.Operand.{Operand}
+use Rattle.spv_module.specs.declared.operand.Operand.{Operand}
 use Rattle.spv_inst.specs.Form.{form_at}
-use Rattle.spv_inst.specs.Module.{plain_operand, plain_operands}
-use Rattle.spv_inst.specs.Operand.{Plain, Number, PlainInst, Context, start, and_then}
-use Rattle.spv_inst.specs.Shape.{Slot, Shape, AsWord, shape_of}
-use Rattle.spv_inst.specs.Spelling.{Takes}
+use Rattle.spv_module.specs.Module.{plain_operand, plain_operands}
+use Rattle.spv_module.specs.Operand.{Plain, Number, PlainInst, Context, start, and_then}
+use Rattle.spv_module.specs.Shape.{Slot, Shape, AsWord, shape_of}
+use Rattle.spv_module.specs.Spelling.{Takes}
 use Rattle.spv_inst.specs.Flat.{Due, OneOf, ManyOf}
 use Rattle.spv_inst.specs.Reading.{enumerants_at}
 use Rattle.spv_inst.proofs.Shapes.{shape_leaf, shape_parts, leaf_shape}

@@ -6,13 +6,13 @@ use Rattle.std.proofs.lemmas.List.{drop-set, drop_all}
 use Rattle.std.proofs.lemmas.Str.{IsUtf8-append, IsUtf8-from_ascii}
 use Rattle.std.proofs.lemmas.Str.Ascii.{IsAscii-cons, IsAscii-nil}
 use Rattle.std.proofs.Math.Seq.{drop-append_seam}
-use Rattle.spv_grammar.specs.declared.table.Entry.{Entry}
-use Rattle.spv_grammar.specs.declared.table.Enumerant.{Enumerant}
-use Rattle.spv_grammar.specs.Table.{Table, entry_of, kind_of, pattern_of}
+use Rattle.spv_table.specs.declared.table.Entry.{Entry}
+use Rattle.spv_table.specs.declared.table.Enumerant.{Enumerant}
+use Rattle.spv_table.specs.Table.{Table, entry_of, kind_of, pattern_of}
 use Rattle.spv_inst.specs.Reading.{enumerants_at}
-use Rattle.spv_inst.specs.Operand.{Plain, OfType, Result, Id, Word, Number, Text, Value, Mask, PlainInst, Context, start, and_then, after, result_in}
-use Rattle.spv_inst.specs.Shape.{Slot, shape_of}
-use Rattle.spv_inst.specs.Spelling.{Takes}
+use Rattle.spv_module.specs.Operand.{Plain, OfType, Result, Id, Word, Number, Text, Value, Mask, PlainInst, Context, start, and_then, after, result_in}
+use Rattle.spv_module.specs.Shape.{Slot, shape_of}
+use Rattle.spv_module.specs.Spelling.{Takes}
 use Rattle.spv_inst.specs.Flat.{Due, OneOf, ManyOf, due}
 use Rattle.spv_lines.specs.Operand.{Shown, shown_operand, is_float, is_result, quoted, escaped, id_text}
 use Rattle.spv_lines.specs.Name.{shown_mask, shown_value}

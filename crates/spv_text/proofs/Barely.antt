@@ -1,15 +1,15 @@
 -- Operands of a line without a result.
 use Rattle.std.proofs.Common.{◌≡◌, ◌++◌, ◌∙◌, ◌<◌, ◌^◌, ℕ, Bool, List, [], ◌∷◌, Option, Some, None, true, false, not, length, map, refl, sym, ap, arith, append-nil}
 use Rattle.std.specs.Prelude.{◌==◌, decimal}
-use Rattle.spv_grammar.specs.Table.{Table, kind_of}
-use Rattle.spv_grammar.specs.declared.table.Item as declared_item
+use Rattle.spv_table.specs.Table.{Table, kind_of}
+use Rattle.spv_table.specs.declared.table.Item as declared_item
 use Rattle.spv_inst.specs.declared.form.Leaf as declared
 use Rattle.spv_inst.specs.declared.form.Leaf.TheVariants as leaf
 use Rattle.spv_inst.specs.declared.form.Form.TheVariants.{Leaf}
 use Rattle.spv_inst.specs.Form.{form_at}
-use Rattle.spv_inst.specs.Operand.{Plain, PlainInst, OfType, Result, Id, Word, Text, Context, result_in, type_in}
-use Rattle.spv_inst.specs.Width.{first_id}
-use Rattle.spv_inst.specs.Shape.{Slot, alone}
+use Rattle.spv_module.specs.Operand.{Plain, PlainInst, OfType, Result, Id, Word, Text, Context, result_in, type_in}
+use Rattle.spv_module.specs.Width.{first_id}
+use Rattle.spv_module.specs.Shape.{Slot, alone}
 use Rattle.spv_inst.specs.Flat.{Due, OneOf}
 use Rattle.spv_inst.specs.Agenda.{due_first, settled}
 use Rattle.spv_inst.specs.Written.{HasText, operand_words}

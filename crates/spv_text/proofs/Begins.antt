@@ -1,7 +1,7 @@
 -- What is kept of operands, with one operand more.
 use Rattle.std.proofs.Common.{◌≡◌, ◌++◌, ◌∙◌, List, [], ◌∷◌, refl, ap}
-use Rattle.spv_inst.specs.Operand.{Plain, OfType, Result, Id, Word, Number, Text, Value, Mask, result_in, type_in}
-use Rattle.spv_inst.specs.Width.{first_id}
+use Rattle.spv_module.specs.Operand.{Plain, OfType, Result, Id, Word, Number, Text, Value, Mask, result_in, type_in}
+use Rattle.spv_module.specs.Width.{first_id}
 use Rattle.spv_text.specs.declared.ids.Ids.{Ids}
 use Rattle.spv_text.specs.Begun.{beginning_of, begun, either, first_after, IsOfOperands}
 

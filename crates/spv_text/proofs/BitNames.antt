@@ -5,11 +5,11 @@ use Rattle.std.specs.List.{filter, list_all}
 use Rattle.std.proofs.Math.Nat.{pow-succ', div-div-eq-div-mul}
 use Rattle.std.proofs.lemmas.Nat.{one_shl}
 use Rattle.std.proofs.lemmas.Bool.Decides.{nat_tests}
-use Rattle.spv_grammar.specs.declared.table.Enumerant.{Enumerant}
-use Rattle.spv_grammar.specs.Table.{Sort, enumerant_of}
-use Rattle.spv_grammar.specs.Lookups.{value_named, is_number}
+use Rattle.spv_table.specs.declared.table.Enumerant.{Enumerant}
+use Rattle.spv_table.specs.Table.{Sort, enumerant_of}
+use Rattle.spv_table.specs.Lookups.{value_named, is_number}
 use Rattle.spv_inst.specs.Reading.{enumerants_at}
-use Rattle.spv_inst.specs.Spelling.{bits_from, set_bits}
+use Rattle.spv_module.specs.Spelling.{bits_from, set_bits}
 use Rattle.spv_lines.specs.Name.{is_plain, is_name_octet, joined, by_number, mask_values, first_name, first_names, if_plain, names_from, shown_value, shown_mask}
 
 pub plain_by : (t : List ℕ) → 0 < Rattle.std.proofs.Common.length t → list_all is_name_octet t ≡ is_plain t

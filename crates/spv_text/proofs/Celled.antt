@@ -2,14 +2,14 @@
 use Rattle.std.proofs.Common.{◌≡◌, ◌++◌, ◌∙◌, inl, inr, ℕ, suc, Bool, List, [], ◌∷◌, Option, Some, None, true, length, map, refl, sym, arith}
 use Rattle.std.specs.Prelude.{◌==◌}
 use Rattle.std.proofs.lemmas.Bool.Decides.{nat_tests}
-use Rattle.spv_grammar.specs.Table.{Table, kind_of}
-use Rattle.spv_grammar.specs.declared.table.Item as declared_item
+use Rattle.spv_table.specs.Table.{Table, kind_of}
+use Rattle.spv_table.specs.declared.table.Item as declared_item
 use Rattle.spv_inst.specs.declared.form.Leaf as declared
 use Rattle.spv_inst.specs.declared.form.Leaf.TheVariants as leaf
 use Rattle.spv_inst.specs.declared.form.Form.TheVariants.{Leaf}
 use Rattle.spv_inst.specs.Form.{form_at}
-use Rattle.spv_inst.specs.Operand.{Plain, PlainInst, Text, Context}
-use Rattle.spv_inst.specs.Shape.{Slot, alone, shape_of}
+use Rattle.spv_module.specs.Operand.{Plain, PlainInst, Text, Context}
+use Rattle.spv_module.specs.Shape.{Slot, alone, shape_of}
 use Rattle.spv_inst.specs.Flat.{Due, OneOf, due}
 use Rattle.spv_inst.specs.Agenda.{Opens, LeadsTo, due_first, items_of, opened_kinds, settled}
 use Rattle.spv_inst.specs.Written.{HasText, operand_words}

@@ -1,8 +1,8 @@
 -- What is kept of the definitions of ids, after one instruction more; and what it tells of types.
 use Rattle.std.proofs.Common.{◌≡◌, ◌++◌, ◌∷◌, [], ◌∙◌, sym, ℕ, List, Option, Some, None, Bool, true, false, cond, refl, ap}
 use Rattle.std.specs.Prelude.{Result as Answer, Ok, Err, OnOk, is_ok, option_map, option_and_then, unwrap_or, nat_eq, ◌||◌, if◌then◌else◌}
-use Rattle.spv_inst.specs.Operand.{Plain, OfType, Result, Id, Word, Number, Text, Value, Mask, PlainInst, result_in, type_in}
-use Rattle.spv_inst.specs.Width.{definition_of, declared_width, has_result, or_else, width_in, width_of}
+use Rattle.spv_module.specs.Operand.{Plain, OfType, Result, Id, Word, Number, Text, Value, Mask, PlainInst, result_in, type_in}
+use Rattle.spv_module.specs.Width.{definition_of, declared_width, has_result, or_else, width_in, width_of}
 use Rattle.spv_text.specs.declared.types.Definition.{Definition}
 use Rattle.spv_text.specs.declared.types.Types.{Types}
 use Rattle.spv_lines.specs.Operand.{is_float_type}

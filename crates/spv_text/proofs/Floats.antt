@@ -1,20 +1,20 @@
 -- What is kept of types tells how a number is shown; what an operand has in its line.
 use Rattle.std.proofs.Common.{◌≡◌, ◌++◌, ◌∙◌, ◌<◌, ◌+◌, zero, suc, length, take, get_or, append_assoc, ℕ, List, [], ◌∷◌, Option, Some, None, Bool, true, false, ◌||◌, is_some, option_and_then, refl, sym, ap}
 use Rattle.std.specs.Prelude.{Result as Answer, Ok, Err, OnOk}
-use Rattle.spv_grammar.specs.Table.{Table, kind_of}
+use Rattle.spv_table.specs.Table.{Table, kind_of}
 use Rattle.spv_inst.specs.declared.form.Leaf as declared
 use Rattle.spv_inst.specs.declared.form.Leaf.TheVariants as leaf
 use Rattle.spv_inst.specs.declared.form.Form.TheVariants.{Leaf}
-use Rattle.spv_inst.specs.declared.operand.Operand.{Operand}
-use Rattle.spv_inst.specs.declared.operand.Operand.TheVariants as code
+use Rattle.spv_module.specs.declared.operand.Operand.{Operand}
+use Rattle.spv_module.specs.declared.operand.Operand.TheVariants as code
 use Rattle.spv_inst.specs.Reading.{enumerants_at}
 use Rattle.spv_lines.specs.Name.{shown_mask}
 use Rattle.spv_inst.specs.Form.{form_at}
-use Rattle.spv_inst.specs.Module.{plain_operand, plain_operands}
-use Rattle.spv_inst.specs.Operand.{Plain, OfType, Result, Id, Word, Number, Text, Value, Mask, PlainInst, Context, result_in, type_in}
-use Rattle.spv_inst.specs.Width.{width_of, type_of, first_id}
-use Rattle.spv_inst.specs.Shape.{Slot, shape_of}
-use Rattle.spv_inst.specs.Spelling.{Takes}
+use Rattle.spv_module.specs.Module.{plain_operand, plain_operands}
+use Rattle.spv_module.specs.Operand.{Plain, OfType, Result, Id, Word, Number, Text, Value, Mask, PlainInst, Context, result_in, type_in}
+use Rattle.spv_module.specs.Width.{width_of, type_of, first_id}
+use Rattle.spv_module.specs.Shape.{Slot, shape_of}
+use Rattle.spv_module.specs.Spelling.{Takes}
 use Rattle.spv_text.specs.declared.ids.Ids.{Ids}
 use Rattle.spv_text.specs.declared.types.Types.{Types}
 use Rattle.spv_lines.specs.Operand.{Form, Shown, shown_operand, is_float, is_float_type, is_result, number_type}

@@ -2,10 +2,10 @@
 use Rattle.std.proofs.Common.{◌≡◌, ◌++◌, ◌∙◌, inl, inr, ◌<◌, ◌≤◌, ◌+◌, ◌^◌, ℕ, suc, List, [], ◌∷◌, Option, None, Bool, true, length, drop, refl, sym, ap, arith, append_assoc, append-nil, length-append}
 use Rattle.std.specs.Prelude.{◌==◌}
 use Rattle.std.proofs.lemmas.Bool.Decides.{nat_tests}
-use Rattle.spv_grammar.specs.Table.{Table}
-use Rattle.spv_inst.specs.Operand.{Plain, PlainInst, result_in}
+use Rattle.spv_table.specs.Table.{Table}
+use Rattle.spv_module.specs.Operand.{Plain, PlainInst, result_in}
 use Rattle.spv_words.specs.declared.words.Header.{Header}
-use Rattle.spv_inst.specs.Instruction.{first_word, IsListing}
+use Rattle.spv_module.specs.Instruction.{first_word, IsListing}
 use Rattle.spv_inst.specs.Outcome.{IsHeaderOf}
 use Rattle.spv_inst.specs.Encoding.{Fits, greatest_length}
 use Rattle.spv_lines.specs.declared.asm_error.AsmCode.{AsmCode}

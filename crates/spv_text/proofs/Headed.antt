@@ -2,20 +2,20 @@
 use Rattle.std.proofs.Common.{◌≡◌, ◌≢◌, ◌++◌, ◌∙◌, ◌⊎◌, inl, inr, ◌<◌, ◌≤◌, ◌+◌, ◌-◌, ◌^◌, ℕ, zero, suc, List, [], ◌∷◌, Option, Some, None, Bool, true, false, nat_eq, length, take, drop, get_or, map, option_map, refl, sym, ap, arith}
 use Rattle.std.specs.Prelude.{decimal, codes, slice_get, Result as Answer, Ok, Err}
 use Rattle.std.specs.List.{list_any}
-use Rattle.spv_grammar.specs.declared.table.Entry.{Entry}
-use Rattle.spv_grammar.specs.Table.{Table, Item, entry_of}
-use Rattle.spv_grammar.specs.Lookups.{opcode_named}
-use Rattle.spv_grammar.specs.declared.table.Enumerant.{Enumerant}
-use Rattle.spv_grammar.specs.Table.{kind_of}
+use Rattle.spv_table.specs.declared.table.Entry.{Entry}
+use Rattle.spv_table.specs.Table.{Table, Item, entry_of}
+use Rattle.spv_table.specs.Lookups.{opcode_named}
+use Rattle.spv_table.specs.declared.table.Enumerant.{Enumerant}
+use Rattle.spv_table.specs.Table.{kind_of}
 use Rattle.spv_inst.specs.declared.form.Leaf as declared
 use Rattle.spv_inst.specs.declared.form.Leaf.TheVariants as leaf
 use Rattle.spv_inst.specs.declared.form.Form.TheVariants.{Leaf, Parts}
 use Rattle.spv_inst.specs.Form.{form_at}
-use Rattle.spv_inst.specs.Width.{switch_width}
-use Rattle.spv_inst.specs.Shape.{alone, AsResult, AsNumber, AsWord, shape_of}
+use Rattle.spv_module.specs.Width.{switch_width}
+use Rattle.spv_module.specs.Shape.{alone, AsResult, AsNumber, AsWord, shape_of}
 use Rattle.spv_inst.specs.Reading.{enumerants_at}
 use Rattle.spv_inst.proofs.Shapes.{leaf_shape, shape_leaf, shape_parts}
-use Rattle.spv_inst.specs.Operand.{Context}
+use Rattle.spv_module.specs.Operand.{Context}
 use Rattle.spv_lines.specs.declared.asm_error.AsmCode.{AsmCode}
 use Rattle.spv_lines.specs.declared.asm_error.AsmCode.TheVariants.{S1, S3, S4}
 use Rattle.spv_lines.specs.Digits.{is_number, IsLarge}

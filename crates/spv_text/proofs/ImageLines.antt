@@ -1,11 +1,11 @@
 -- The lines of an image's instructions, one after another.
 use Rattle.std.proofs.Common.{◌≡◌, ◌++◌, ◌∙◌, ◌+◌, ℕ, List, [], ◌∷◌, map, length, refl, sym, ap, arith, append_assoc, append-nil, length-append}
-use Rattle.spv_grammar.specs.Table.{Table, pattern_of}
+use Rattle.spv_table.specs.Table.{Table, pattern_of}
 use Rattle.spv_inst.specs.declared.definitions.Definitions.{Definitions}
 use Rattle.spv_inst.specs.Flat.{due}
-use Rattle.spv_inst.specs.Instruction.{IsInstruction}
+use Rattle.spv_module.specs.Instruction.{IsInstruction}
 use Rattle.spv_inst.specs.Known as known
-use Rattle.spv_inst.specs.Operand.{PlainInst, start, result_in}
+use Rattle.spv_module.specs.Operand.{PlainInst, start, result_in}
 use Rattle.spv_inst.proofs.Decoding.{SofarListed, listed_next}
 use Rattle.spv_inst.proofs.Joined.{match_flat}
 use Rattle.spv_lines.specs.Line.{IsShownLine, shown_result, shown_name}

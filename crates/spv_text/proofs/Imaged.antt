@@ -2,9 +2,9 @@
 use Rattle.std.proofs.Common.{◌≡◌, ◌++◌, ◌∙◌, ◌<◌, ◌≤◌, ◌+◌, ◌^◌, ℕ, List, [], ◌∷◌, length, drop, refl, sym, ap, arith}
 use Rattle.spv_words.specs.declared.words.Header.{Header}
 use Rattle.spv_words.specs.Header.{IsHeader}
-use Rattle.spv_grammar.specs.Table.{Table}
-use Rattle.spv_inst.specs.Operand.{PlainInst}
-use Rattle.spv_inst.specs.Instruction.{IsListing}
+use Rattle.spv_table.specs.Table.{Table, IsWhole}
+use Rattle.spv_module.specs.Operand.{PlainInst}
+use Rattle.spv_module.specs.Instruction.{IsListing}
 use Rattle.spv_inst.specs.Outcome.{IsHeaderOf}
 use Rattle.spv_inst.specs.Encoding.{Fits, greatest_length}
 use Rattle.spv_inst.specs.Written.{header_words}
@@ -14,7 +14,9 @@ use Rattle.spv_lines.specs.Tidy.{IsTidy}
 use Rattle.spv_lines.specs.declared.asm_error.AsmCode.{AsmCode}
 use Rattle.spv_lines.specs.declared.asm_error.AsmCode.TheVariants.{S6}
 use Rattle.spv_lines.proofs.Assembled.{read_words_once}
+use Rattle.spv_lines.proofs.Given.{free_tidy}
 use Rattle.spv_lines.proofs.Reading.{reads_once}
+use Rattle.spv_text.specs.Image.{IsShownImage}
 use Rattle.spv_text.specs.Reading.{IsAsmFailure}
 use Rattle.spv_text.proofs.ShownBack.{image_back, only_memory}
 
@@ -81,3 +83,11 @@ memory_alone G h is ws t code line y f w n o l s e =
     let q = sound ws h f o w in
     let m = q.short in
     only_memory G h is (drop 5 ws) t code line y s l q.words (fits_so ws h f o) q.generator (omega arith) e
+
+-- what a whole table's shown text is read as, and how it fails: by want of memory alone
+pub shown_again : (G : Table) (k : Header) (js : List PlainInst) (ws image t : List ℕ) → IsHeader ws → AreWords ws → length ws ≤ greatest_length → IsShownImage G ws t
+    → IsHeader image → IsHeaderOf image k → IsReadText G k js (drop 5 image) t → image ≡ ws
+shown_again G k js ws image t f w n s g p r = image_again G s.header k s.insts js ws image t f w n s.told s.listed s.shown g p r
+
+pub shown_memory : (G : Table) (ws t : List ℕ) (code : AsmCode) (line : ℕ) → IsWhole G → IsHeader ws → AreWords ws → length ws ≤ greatest_length → IsShownImage G ws t → IsAsmFailure G t code line → (code ≡ S6) × (line ≡ 0)
+shown_memory G ws t code line whole f w n s e = memory_alone G s.header s.insts ws t code line (free_tidy G whole.apart) f w n s.told s.listed s.shown e

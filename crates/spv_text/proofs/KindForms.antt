@@ -2,18 +2,18 @@
 use Rattle.std.proofs.Common.{◌≡◌, ℕ, List, [], Option, Some, None, Bool, true, false, ◌&&◌, ◌||◌, nat_eq, cond, map, option_and_then, refl, sym, ap}
 use Rattle.std.specs.Prelude.{bytes_eq, codes, unwrap_or, if◌then◌else◌}
 use Rattle.std.proofs.lemmas.Slice.Eq.{bytes_eq-Decides}
-use Rattle.spv_grammar.specs.declared.table.Enumerant.{Enumerant}
-use Rattle.spv_grammar.specs.declared.table.Category.{Category}
-use Rattle.spv_grammar.specs.declared.table.Category.TheVariants as category
-use Rattle.spv_grammar.specs.Table.{Table, Sort, kind_of}
+use Rattle.spv_table.specs.declared.table.Enumerant.{Enumerant}
+use Rattle.spv_table.specs.declared.table.Category.{Category}
+use Rattle.spv_table.specs.declared.table.Category.TheVariants as category
+use Rattle.spv_table.specs.Table.{Table, Sort, kind_of}
 use Rattle.spv_inst.specs.declared.form.Leaf as declared
 use Rattle.spv_inst.specs.declared.form.Leaf.TheVariants as leaf
 use Rattle.spv_inst.specs.declared.form.Form.TheVariants.{Leaf}
 use Rattle.spv_inst.specs.Form.{form_at, category_form}
-use Rattle.spv_inst.specs.Operand.{Plain, Number, Context, type_in}
-use Rattle.spv_inst.specs.Shape.{Slot, alone, Shape, AsNumber, AsWord, AsValue, AsMask, shape_of}
-use Rattle.spv_inst.specs.Width.{context_width, switch_width, type_of, first_id}
-use Rattle.spv_inst.specs.Spelling.{Takes, parameters_of, mask_parameters}
+use Rattle.spv_module.specs.Operand.{Plain, Number, Context, type_in}
+use Rattle.spv_module.specs.Shape.{Slot, alone, Shape, AsNumber, AsWord, AsValue, AsMask, shape_of}
+use Rattle.spv_module.specs.Width.{context_width, switch_width, type_of, first_id}
+use Rattle.spv_module.specs.Spelling.{Takes, parameters_of, mask_parameters}
 use Rattle.spv_inst.specs.Reading.{enumerants_at}
 use Rattle.spv_inst.specs.Agenda.{opened_kinds}
 use Rattle.spv_inst.proofs.Shapes.{leaf_shape, shape_leaf}

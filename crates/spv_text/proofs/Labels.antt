@@ -4,17 +4,17 @@ use Rattle.std.specs.Prelude.{IfSome, IsUtf8}
 use Rattle.std.proofs.lemmas.List.{take_more_set}
 use Rattle.std.proofs.lemmas.Str.{IsUtf8-append}
 use Rattle.std.proofs.Math.Seq.{take-length}
-use Rattle.spv_grammar.specs.declared.table.Enumerant.{Enumerant}
-use Rattle.spv_grammar.specs.Table.{Table, enumerant_of, kind_of}
+use Rattle.spv_table.specs.declared.table.Enumerant.{Enumerant}
+use Rattle.spv_table.specs.Table.{Table, enumerant_of, kind_of}
 use Rattle.spv_inst.specs.declared.form.Leaf as declared
 use Rattle.spv_inst.specs.declared.form.Form.{Form}
 use Rattle.spv_inst.specs.declared.form.Form.TheVariants.{Leaf}
 use Rattle.spv_inst.specs.declared.form.Leaf.TheVariants as leaf
 use Rattle.spv_inst.specs.Form.{form_at}
-use Rattle.spv_inst.specs.Operand.{Plain, Value, Mask, type_in}
+use Rattle.spv_module.specs.Operand.{Plain, Value, Mask, type_in}
 use Rattle.spv_inst.specs.Reading.{enumerants_at}
-use Rattle.spv_inst.specs.Shape.{alone}
-use Rattle.spv_inst.specs.Spelling.{Takes, set_bits, parameters_of, parameters_of_all, mask_parameters}
+use Rattle.spv_module.specs.Shape.{alone}
+use Rattle.spv_module.specs.Spelling.{Takes, set_bits, parameters_of, parameters_of_all, mask_parameters}
 use Rattle.spv_inst.proofs.Opened.{kinds_begin, kinds_rest_at}
 use Rattle.spv_inst.proofs.Shapes.{shape_leaf}
 use Rattle.spv_lines.specs.Name.{names_from, shown_mask, shown_value}

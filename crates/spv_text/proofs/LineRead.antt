@@ -1,8 +1,8 @@
 -- A line is read, or fails, by its parts.
 use Rattle.std.proofs.Common.{◌≡◌, ◌∙◌, ℕ, List, Option, Some, None, map, option_map, refl, sym, ap}
-use Rattle.spv_grammar.specs.declared.table.Entry.{Entry}
-use Rattle.spv_grammar.specs.Table.{Table, pattern_of}
-use Rattle.spv_inst.specs.Operand.{Plain, PlainInst, start, result_in}
+use Rattle.spv_table.specs.declared.table.Entry.{Entry}
+use Rattle.spv_table.specs.Table.{Table, pattern_of}
+use Rattle.spv_module.specs.Operand.{Plain, PlainInst, start, result_in}
 use Rattle.spv_inst.specs.Flat.{due}
 use Rattle.spv_lines.specs.declared.asm_error.AsmCode.{AsmCode}
 use Rattle.spv_lines.specs.declared.asm_error.AsmCode.TheVariants.{S1, S2, S3, S4, S5, S6}

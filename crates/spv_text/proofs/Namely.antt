@@ -1,8 +1,8 @@
 -- The name at the front of a line.
 use Rattle.std.proofs.Common.{◌≡◌, ◌++◌, ◌<◌, ◌+◌, ℕ, List, ◌∷◌, length, drop, get_or, arith}
 use Rattle.std.proofs.lemmas.List.{drop_more}
-use Rattle.spv_grammar.specs.declared.table.Entry.{Entry}
-use Rattle.spv_grammar.specs.Table.{Table}
+use Rattle.spv_table.specs.declared.table.Entry.{Entry}
+use Rattle.spv_table.specs.Table.{Table}
 use Rattle.spv_lines.specs.Line.{IsInstName, before_space, from_space}
 use Rattle.spv_lines.specs.Refusal.{IsBreak, at_space}
 use Rattle.spv_lines.proofs.Pieces.{names_tame}

@@ -3,19 +3,19 @@ use Rattle.std.proofs.Common.{◌≡◌, ◌≤◌, ◌<◌, ◌+◌, ◌-◌, �
 use Rattle.std.specs.Prelude.{IsUtf8, MatchOption, not, decimal}
 use Rattle.std.proofs.lemmas.List.{drop-append-le}
 use Rattle.std.proofs.lemmas.Str.{IsUtf8-append}
-use Rattle.spv_grammar.specs.declared.table.Item.{Item}
-use Rattle.spv_grammar.specs.Table.{Table, kind_of}
+use Rattle.spv_table.specs.declared.table.Item.{Item}
+use Rattle.spv_table.specs.Table.{Table, kind_of}
 use Rattle.spv_inst.specs.declared.form.Form.TheVariants.{Leaf}
 use Rattle.spv_inst.specs.declared.form.Leaf.TheVariants as leaf
 use Rattle.spv_inst.specs.Agenda.{items_of, settled}
 use Rattle.spv_inst.specs.Flat.{Due, OneOf, due}
 use Rattle.spv_inst.specs.Form.{form_at}
-use Rattle.spv_inst.specs.Operand.{Number, Plain, PlainInst, after, result_in, start, type_in}
+use Rattle.spv_module.specs.Operand.{Number, Plain, PlainInst, after, result_in, start, type_in}
 use Rattle.spv_inst.specs.Reading.{between, enumerants_at}
-use Rattle.spv_inst.specs.Shape.{AsNumber, alone, shape_of}
+use Rattle.spv_module.specs.Shape.{AsNumber, alone, shape_of}
 use Rattle.spv_inst.specs.Sofar.{Sofar}
-use Rattle.spv_inst.specs.Spelling.{Match, Takes}
-use Rattle.spv_inst.specs.Width.{first_id}
+use Rattle.spv_module.specs.Spelling.{Match, Takes}
+use Rattle.spv_module.specs.Width.{first_id}
 use Rattle.spv_inst.proofs.Shapes.{leaf_shape, shape_leaf}
 use Rattle.spv_inst.proofs.Steps.{after_is}
 use Rattle.spv_inst.proofs.Turns.{word_next, words_end}

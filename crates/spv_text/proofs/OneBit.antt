@@ -3,9 +3,9 @@ use Rattle.std.proofs.Common.{◌≡◌, ◌≢◌, ◌++◌, ◌∙◌, ◌<◌
 use Rattle.std.specs.Prelude.{unwrap_or}
 use Rattle.std.proofs.lemmas.Nat.{pow_pos}
 use Rattle.std.proofs.lemmas.Bool.Decides.{nat_tests}
-use Rattle.spv_grammar.specs.declared.table.Enumerant.{Enumerant}
-use Rattle.spv_grammar.specs.Table.{enumerant_of}
-use Rattle.spv_inst.specs.Spelling.{set_bits}
+use Rattle.spv_table.specs.declared.table.Enumerant.{Enumerant}
+use Rattle.spv_table.specs.Table.{enumerant_of}
+use Rattle.spv_module.specs.Spelling.{set_bits}
 use Rattle.spv_lines.specs.Name.{joined, by_number, mask_values, first_name, first_names, names_from, shown_value, shown_mask}
 use Rattle.spv_tokens.proofs.MaskBits.{bits_in, all_below, clear_more, doubled, set_more}
 use Rattle.spv_text.proofs.BitNames.{named_shown}

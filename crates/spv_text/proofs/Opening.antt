@@ -1,17 +1,17 @@
 -- The kinds of the parameters that an operand brings, as the code finds them.
 use Rattle.std.proofs.Common.{◌≡◌, ℕ, List, Bool, Option, Some, None, refl}
 use Rattle.std.specs.Prelude.{IfSome, Ok, option_map}
-use Rattle.spv_grammar.specs.Table.{Table, kind_of}
+use Rattle.spv_table.specs.Table.{Table, kind_of}
 use Rattle.spv_inst.specs.declared.form.Leaf as declared
 use Rattle.spv_inst.specs.declared.form.Leaf.TheVariants as leaf
 use Rattle.spv_inst.specs.declared.form.Form.TheVariants.{Leaf}
-use Rattle.spv_inst.specs.declared.operand.Operand.{Operand}
+use Rattle.spv_module.specs.declared.operand.Operand.{Operand}
 use Rattle.spv_inst.specs.Form.{form_at}
-use Rattle.spv_inst.specs.Operand.{Plain, Value, Mask, Context}
-use Rattle.spv_inst.specs.Module.{plain_operand}
-use Rattle.spv_inst.specs.Shape.{AsValue, AsMask, alone, shape_of}
+use Rattle.spv_module.specs.Operand.{Plain, Value, Mask, Context}
+use Rattle.spv_module.specs.Module.{plain_operand}
+use Rattle.spv_module.specs.Shape.{AsValue, AsMask, alone, shape_of}
 use Rattle.spv_inst.specs.Reading.{enumerants_at}
-use Rattle.spv_inst.specs.Spelling.{parameters_of, mask_parameters}
+use Rattle.spv_module.specs.Spelling.{parameters_of, mask_parameters}
 use Rattle.spv_inst.specs.Agenda.{opened_kinds}
 use Rattle.spv_inst.proofs.Masks.{whole_mask}
 use Rattle.spv_inst.proofs.Shapes.{shape_leaf}

@@ -3,12 +3,12 @@ use Rattle.std.proofs.Common.{◌≡◌, ◌≢◌, ◌∙◌, ◌<◌, ◌≤�
 use Rattle.std.specs.List.{list_any}
 use Rattle.std.proofs.lemmas.List.{drop_more}
 use Rattle.std.proofs.Math.ListN.{drop_of_length-le}
-use Rattle.spv_grammar.specs.declared.table.Quantifier.{Quantifier}
-use Rattle.spv_grammar.specs.declared.table.Quantifier.TheVariants as quantifier
-use Rattle.spv_grammar.specs.declared.table.Item as declared
-use Rattle.spv_grammar.specs.Table.{Table, Item, quantified}
-use Rattle.spv_inst.specs.Operand.{Context}
-use Rattle.spv_inst.specs.Shape.{alone, shape_of}
+use Rattle.spv_table.specs.declared.table.Quantifier.{Quantifier}
+use Rattle.spv_table.specs.declared.table.Quantifier.TheVariants as quantifier
+use Rattle.spv_table.specs.declared.table.Item as declared
+use Rattle.spv_table.specs.Table.{Table, Item, quantified}
+use Rattle.spv_module.specs.Operand.{Context}
+use Rattle.spv_module.specs.Shape.{alone, shape_of}
 use Rattle.spv_inst.specs.Agenda.{items_of}
 use Rattle.spv_lines.specs.Fault.{is_result_shape, may_have_result, must_have_result}
 

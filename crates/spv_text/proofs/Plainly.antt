@@ -1,13 +1,13 @@
 -- Operands of one number each, at the front of a line's operands.
 use Rattle.std.proofs.Common.{◌≡◌, ◌≢◌, ◌++◌, ◌∙◌, ◌<◌, ◌^◌, ℕ, List, [], ◌∷◌, Option, Some, None, map, refl, sym, ap}
 use Rattle.std.specs.Prelude.{decimal}
-use Rattle.spv_grammar.specs.Table.{Table, kind_of}
+use Rattle.spv_table.specs.Table.{Table, kind_of}
 use Rattle.spv_inst.specs.declared.form.Leaf as declared
 use Rattle.spv_inst.specs.declared.form.Leaf.TheVariants as leaf
 use Rattle.spv_inst.specs.declared.form.Form.TheVariants.{Leaf}
 use Rattle.spv_inst.specs.Form.{form_at}
-use Rattle.spv_inst.specs.Operand.{Plain, OfType, Result, Id, Word, Context, result_in}
-use Rattle.spv_inst.specs.Shape.{Slot, alone, AsResult, shape_of}
+use Rattle.spv_module.specs.Operand.{Plain, OfType, Result, Id, Word, Context, result_in}
+use Rattle.spv_module.specs.Shape.{Slot, alone, AsResult, shape_of}
 use Rattle.spv_inst.specs.Flat.{OneOf}
 use Rattle.spv_inst.specs.Agenda.{opened_kinds}
 use Rattle.spv_inst.specs.Written.{operand_words}

@@ -2,16 +2,16 @@
 use Rattle.std.proofs.Common.{◌≡◌, ◌++◌, ◌∙◌, ◌<◌, ◌≤◌, ◌+◌, ℕ, List, [], ◌∷◌, Option, true, map, length, take, drop, get_or, refl, sym, ap, append_assoc, append-nil}
 use Rattle.std.proofs.lemmas.List.{drop_more, take_more}
 use Rattle.std.proofs.Math.ListN.{drop_of_length-le}
-use Rattle.spv_grammar.specs.Table.{Table, kind_of}
+use Rattle.spv_table.specs.Table.{Table, kind_of}
 use Rattle.spv_inst.specs.declared.form.Leaf as declared
 use Rattle.spv_inst.specs.declared.form.Form.TheVariants.{Leaf}
-use Rattle.spv_inst.specs.declared.operand.Operand.{Operand}
+use Rattle.spv_module.specs.declared.operand.Operand.{Operand}
 use Rattle.spv_inst.specs.Form.{form_at}
-use Rattle.spv_inst.specs.Operand.{Plain, PlainInst, Context, and_then, start}
-use Rattle.spv_inst.specs.Module.{plain_operand, plain_operands}
-use Rattle.spv_inst.specs.Shape.{Slot, alone, Shape, AsParts, shape_of}
-use Rattle.spv_inst.specs.Spelling.{Takes}
-use Rattle.spv_inst.specs.Refusal.{IsLeaf}
+use Rattle.spv_module.specs.Operand.{Plain, PlainInst, Context, and_then, start}
+use Rattle.spv_module.specs.Module.{plain_operand, plain_operands}
+use Rattle.spv_module.specs.Shape.{Slot, alone, Shape, AsParts, shape_of}
+use Rattle.spv_module.specs.Spelling.{Takes}
+use Rattle.spv_module.specs.Refusal.{IsLeaf}
 use Rattle.spv_inst.specs.Flat.{Due, OneOf, MaybeOf, ManyOf}
 use Rattle.spv_inst.specs.Agenda.{settled, Opens, LeadsTo, opened_kinds}
 use Rattle.spv_inst.proofs.Takes.{takes_no_parts}

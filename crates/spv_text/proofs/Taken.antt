@@ -2,16 +2,16 @@
 use Rattle.std.proofs.Common.{◌≡◌, ◌≢◌, ◌++◌, ◌∙◌, ◌⊎◌, inl, inr, ◌<◌, ◌^◌, ℕ, List, [], ◌∷◌, Option, Some, None, Bool, true, false, ◌&&◌, not, is_some, nat_eq, map, option_and_then, refl, sym, ap, arith}
 use Rattle.std.specs.Prelude.{Result as Answer, Err, if◌then◌else◌}
 use Rattle.std.proofs.lemmas.Bool.Decides.{nat_tests}
-use Rattle.spv_grammar.specs.declared.table.Enumerant.{Enumerant}
-use Rattle.spv_grammar.specs.Table.{Table, kind_of}
+use Rattle.spv_table.specs.declared.table.Enumerant.{Enumerant}
+use Rattle.spv_table.specs.Table.{Table, kind_of}
 use Rattle.spv_inst.specs.declared.form.Leaf as declared
 use Rattle.spv_inst.specs.declared.form.Leaf.TheVariants as leaf
 use Rattle.spv_inst.specs.declared.form.Form.TheVariants.{Leaf}
 use Rattle.spv_inst.specs.Form.{form_at}
-use Rattle.spv_inst.specs.Operand.{Plain, Result, Text, Context, result_in, type_in}
-use Rattle.spv_inst.specs.Width.{width_of, type_of, first_id, context_width, switch_width}
-use Rattle.spv_inst.specs.Shape.{Slot, alone, Shape, AsResult, AsWord, AsNumber, AsText, AsNothing, shape_of}
-use Rattle.spv_inst.specs.Spelling.{Takes}
+use Rattle.spv_module.specs.Operand.{Plain, Result, Text, Context, result_in, type_in}
+use Rattle.spv_module.specs.Width.{width_of, type_of, first_id, context_width, switch_width}
+use Rattle.spv_module.specs.Shape.{Slot, alone, Shape, AsResult, AsWord, AsNumber, AsText, AsNothing, shape_of}
+use Rattle.spv_module.specs.Spelling.{Takes}
 use Rattle.spv_inst.specs.Reading.{enumerants_at}
 use Rattle.spv_inst.specs.Flat.{Due, OneOf}
 use Rattle.spv_inst.specs.Agenda.{opened_kinds}
@@ -161,14 +161,14 @@ end_refused G r c s _ f at_end n = Refuses.wrong
 end_refused G r c s _ f (at_space u) n = absurd (n u refl)
 
 -- the shape of a leaf
-pub as_leaf : (G : Table) (c : Context) (s : Slot) (k l : declared.Leaf) (hex : Bool) (t : List ℕ) (r : Answer Rattle.spv_inst.specs.declared.operand.Operand.Operand Misread) → form_at (kind_of G s.kind) ≡ Leaf k → k ≡ l
+pub as_leaf : (G : Table) (c : Context) (s : Slot) (k l : declared.Leaf) (hex : Bool) (t : List ℕ) (r : Answer Rattle.spv_module.specs.declared.operand.Operand.Operand Misread) → form_at (kind_of G s.kind) ≡ Leaf k → k ≡ l
     → IsToken G hex s.kind (leaf_shape c s.paired (enumerants_at (kind_of G s.kind)) l) t r → IsToken G hex s.kind (shape_of G c s) t r
 as_leaf G c s k l hex t r e f h = let g = shape_leaf G c s l l (e ∙ ap Leaf f) refl in rw g h
 
 float_context : (G : Table) (c : Context) (s : Slot) → form_at (kind_of G s.kind) ≡ Leaf leaf.ContextNumber → is_float G c s ≡ is_float_type c.before (type_in c.operands)
 float_context G c s e = ap (is_float_type c.before) (type_by_context c (kind_of G s.kind) e)
 
-pub context_token : (G : Table) (c : Context) (s : Slot) (k : declared.Leaf) (x : Option ℕ) (t : List ℕ) (r : Answer Rattle.spv_inst.specs.declared.operand.Operand.Operand Misread) → form_at (kind_of G s.kind) ≡ Leaf k → k ≡ leaf.ContextNumber
+pub context_token : (G : Table) (c : Context) (s : Slot) (k : declared.Leaf) (x : Option ℕ) (t : List ℕ) (r : Answer Rattle.spv_module.specs.declared.operand.Operand.Operand Misread) → form_at (kind_of G s.kind) ≡ Leaf k → k ≡ leaf.ContextNumber
     → x ≡ type_in c.operands → IsToken G (is_float_type c.before x) s.kind (AsNumber (option_and_then (width_of c.before) x)) t r → IsToken G (is_float G c s) s.kind (shape_of G c s) t r
 context_token G c s k x t r e f g h =
     let h' : IsToken G (is_float_type c.before (type_in c.operands)) s.kind (AsNumber (context_width c)) t r = rw g at h in
@@ -178,7 +178,7 @@ context_token G c s k x t r e f g h =
 switch_at : (c : Context) (p : Bool) (opcode : ℕ) → p ≡ true → c.opcode ≡ opcode → opcode ≡ 251 → (p && nat_eq c.opcode 251) ≡ true
 switch_at c p opcode e f g = let h : nat_eq c.opcode 251 ≡ true = rw (f, g) refl in rw (e, h) refl
 
-pub switch_token : (G : Table) (c : Context) (s : Slot) (k : declared.Leaf) (opcode : ℕ) (x : Option ℕ) (t : List ℕ) (r : Answer Rattle.spv_inst.specs.declared.operand.Operand.Operand Misread) → form_at (kind_of G s.kind) ≡ Leaf k
+pub switch_token : (G : Table) (c : Context) (s : Slot) (k : declared.Leaf) (opcode : ℕ) (x : Option ℕ) (t : List ℕ) (r : Answer Rattle.spv_module.specs.declared.operand.Operand.Operand Misread) → form_at (kind_of G s.kind) ≡ Leaf k
     → k ≡ leaf.Integer → s.paired ≡ true → c.opcode ≡ opcode → opcode ≡ 251 → x ≡ option_and_then (type_of c.before) (first_id c.operands)
     → IsToken G (is_float_type c.before x) s.kind (AsNumber (option_and_then (width_of c.before) x)) t r → IsToken G (is_float G c s) s.kind (shape_of G c s) t r
 switch_token G c s k opcode x t r e f p q o g h =
@@ -188,7 +188,7 @@ switch_token G c s k opcode x t r e f p q o g h =
     let h'' : IsToken G (is_float G c s) s.kind (AsNumber (switch_width c)) t r = rw i h' in
     as_leaf G c s k leaf.Integer (is_float G c s) t r e f (rw b h'')
 
-pub plain_integer : (G : Table) (c : Context) (s : Slot) (k : declared.Leaf) (opcode : ℕ) (t : List ℕ) (r : Answer Rattle.spv_inst.specs.declared.operand.Operand.Operand Misread) → form_at (kind_of G s.kind) ≡ Leaf k
+pub plain_integer : (G : Table) (c : Context) (s : Slot) (k : declared.Leaf) (opcode : ℕ) (t : List ℕ) (r : Answer Rattle.spv_module.specs.declared.operand.Operand.Operand Misread) → form_at (kind_of G s.kind) ≡ Leaf k
     → k ≡ leaf.Integer → c.opcode ≡ opcode → (s.paired && nat_eq opcode 251) ≡ false → IsToken G (is_float G c s) s.kind AsWord t r → IsToken G (is_float G c s) s.kind (shape_of G c s) t r
 plain_integer G c s k opcode t r e f q b h =
     let b' : (s.paired && nat_eq c.opcode 251) ≡ false = rw q b in

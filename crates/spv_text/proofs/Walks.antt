@@ -2,11 +2,11 @@
 use Rattle.std.proofs.Common.{◌≡◌, ◌≢◌, ◌++◌, ◌∙◌, ◌⊎◌, inl, inr, ◌<◌, ◌+◌, ℕ, List, [], ◌∷◌, Option, Some, None, Bool, true, false, not, length, map, refl, sym, ap, arith, append_assoc, append-nil}
 use Rattle.std.specs.Prelude.{◌==◌}
 use Rattle.std.proofs.lemmas.Bool.Decides.{nat_tests}
-use Rattle.spv_grammar.specs.Table.{Table}
-use Rattle.spv_inst.specs.Operand.{Plain, PlainInst, Context, start, result_in}
-use Rattle.spv_inst.specs.Shape.{Slot, alone, Shape, shape_of}
-use Rattle.spv_inst.specs.Spelling.{Takes}
-use Rattle.spv_inst.specs.Refusal.{IsLeaf}
+use Rattle.spv_table.specs.Table.{Table}
+use Rattle.spv_module.specs.Operand.{Plain, PlainInst, Context, start, result_in}
+use Rattle.spv_module.specs.Shape.{Slot, alone, Shape, shape_of}
+use Rattle.spv_module.specs.Spelling.{Takes}
+use Rattle.spv_module.specs.Refusal.{IsLeaf}
 use Rattle.spv_inst.specs.Flat.{Due, OneOf, MaybeOf, ManyOf}
 use Rattle.spv_inst.specs.Agenda.{settled, Opens, LeadsTo, opened_kinds}
 use Rattle.spv_lines.specs.declared.asm_error.AsmCode.{AsmCode}

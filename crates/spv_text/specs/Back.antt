@@ -1,9 +1,9 @@
 -- Lines that are put together from the back. (For the code alone.)
 use Rattle.std.specs.Prelude.{◌≡◌, ◌≤◌, ◌++◌, ◌∷◌, [], ℕ, suc, List, Option, None, Bool, true, false, IsUtf8, length, drop, if◌then◌else◌}
 use Rattle.std.specs.List.{list_all}
-use Rattle.spv_grammar.specs.Table.{Table}
+use Rattle.spv_table.specs.Table.{Table}
 use Rattle.spv_inst.specs.Flat.{Due}
-use Rattle.spv_inst.specs.Operand.{Plain, PlainInst, Result, Number, result_in, start}
+use Rattle.spv_module.specs.Operand.{Plain, PlainInst, Result, Number, result_in, start}
 use Rattle.spv_lines.specs.Operand.{Shown, shown_operand}
 use Rattle.spv_lines.specs.Written.{Written}
 

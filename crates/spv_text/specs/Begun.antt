@@ -1,7 +1,7 @@
 -- How the operands of an instruction begin, and what is kept of them.
 use Rattle.std.specs.Prelude.{◌≡◌, ℕ, List, [], ◌∷◌, Option, Some, None, nat_eq, nat_le, ◌&&◌, ◌||◌, if◌then◌else◌}
-use Rattle.spv_inst.specs.Operand.{Plain, Result, Word, result_in, type_in}
-use Rattle.spv_inst.specs.Width.{first_id}
+use Rattle.spv_module.specs.Operand.{Plain, Result, Word, result_in, type_in}
+use Rattle.spv_module.specs.Width.{first_id}
 use Rattle.spv_text.specs.declared.ids.Beginning.{Beginning}
 use Rattle.spv_text.specs.declared.ids.Beginning.TheVariants.{Nothing, Made, MadeWord, Other}
 use Rattle.spv_text.specs.declared.ids.Ids.{Ids}

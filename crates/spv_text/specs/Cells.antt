@@ -1,12 +1,12 @@
 -- What the loop over values, masks and texts keeps. (For the code alone.)
 use Rattle.std.specs.Prelude.{◌≡◌, ◌++◌, ◌∷◌, ℕ, List, Option, Some, None, true, map}
-use Rattle.spv_grammar.specs.Table.{Table, kind_of}
+use Rattle.spv_table.specs.Table.{Table, kind_of}
 use Rattle.spv_inst.specs.declared.form.Leaf.TheVariants as leaf
 use Rattle.spv_inst.specs.declared.form.Form.TheVariants.{Leaf}
 use Rattle.spv_inst.specs.Form.{form_at}
 use Rattle.spv_inst.specs.Agenda.{settled}
-use Rattle.spv_inst.specs.Operand.{Plain, PlainInst, Context}
-use Rattle.spv_inst.specs.Shape.{Slot, alone}
+use Rattle.spv_module.specs.Operand.{Plain, PlainInst, Context}
+use Rattle.spv_module.specs.Shape.{Slot, alone}
 use Rattle.spv_inst.specs.Flat.{Due, OneOf}
 use Rattle.spv_text.specs.declared.ids.Ids.{Ids}
 use Rattle.spv_text.specs.declared.ids.Beginning.TheVariants.{Other}

@@ -1,19 +1,19 @@
 -- Lines that are put together from words, one operand behind the other. (For the code alone.)
 use Rattle.std.specs.Prelude.{◌≡◌, ◌<◌, ◌≤◌, ◌+◌, ◌-◌, ◌++◌, ◌∷◌, [], ℕ, List, Option, None, true, false, nat_eq, is_some, IsUtf8, length, drop, map, take, if◌then◌else◌}
 use Rattle.std.specs.List.{list_all}
-use Rattle.spv_grammar.specs.declared.table.Item.{Item}
-use Rattle.spv_grammar.specs.Table.{Table, kind_of}
+use Rattle.spv_table.specs.declared.table.Item.{Item}
+use Rattle.spv_table.specs.Table.{Table, kind_of}
 use Rattle.spv_inst.specs.declared.form.Form.TheVariants.{Leaf}
 use Rattle.spv_inst.specs.declared.form.Leaf.TheVariants as leaf
 use Rattle.spv_inst.specs.Agenda.{due_first, items_of, settled}
 use Rattle.spv_inst.specs.Flat.{Due, OneOf, due}
 use Rattle.spv_inst.specs.Form.{form_at}
-use Rattle.spv_inst.specs.Instruction.{IsInstruction}
-use Rattle.spv_inst.specs.Operand.{Context, Plain, PlainInst, Text, result_in, start, type_in}
+use Rattle.spv_module.specs.Instruction.{IsInstruction}
+use Rattle.spv_module.specs.Operand.{Context, Plain, PlainInst, Text, result_in, start, type_in}
 use Rattle.spv_inst.specs.Reading.{between}
-use Rattle.spv_inst.specs.Shape.{AsText, alone, shape_of}
+use Rattle.spv_module.specs.Shape.{AsText, alone, shape_of}
 use Rattle.spv_inst.specs.Sofar.{Sofar}
-use Rattle.spv_inst.specs.Spelling.{Match, Takes}
+use Rattle.spv_module.specs.Spelling.{Match, Takes}
 use Rattle.spv_lines.specs.Line.{IsShownLine}
 use Rattle.spv_lines.specs.Operand.{Shown, quoted, shown_operand}
 use Rattle.spv_lines.specs.Written.{Written}

@@ -1,7 +1,7 @@
 -- What the reading of a line's name and of what stands in front of it answers. (Own.)
 use Rattle.std.specs.Prelude.{◌<◌, ℕ, List, Option, Some, None, Result, Ok, Err, option_map}
-use Rattle.spv_grammar.specs.Table.{Table, Item}
-use Rattle.spv_inst.specs.Operand.{Context}
+use Rattle.spv_table.specs.Table.{Table, Item}
+use Rattle.spv_module.specs.Operand.{Context}
 use Rattle.spv_lines.specs.declared.asm_error.AsmCode.{AsmCode}
 use Rattle.spv_lines.specs.Name.{Names}
 use Rattle.spv_lines.specs.Line as plain

@@ -1,10 +1,10 @@
 -- What is shown of the words of an image.
 use Rattle.std.specs.Prelude.{◌≡◌, ◌<◌, ◌≤◌, ◌++◌, ◌∷◌, [], ℕ, List, drop, length}
 use Rattle.spv_words.specs.declared.words.Header.{Header}
-use Rattle.spv_grammar.specs.Table.{Table}
+use Rattle.spv_table.specs.Table.{Table}
 use Rattle.spv_inst.specs.declared.definitions.Definitions.{Definitions}
-use Rattle.spv_inst.specs.Operand.{PlainInst}
-use Rattle.spv_inst.specs.Instruction.{IsInstruction, IsListing}
+use Rattle.spv_module.specs.Operand.{PlainInst}
+use Rattle.spv_module.specs.Instruction.{IsInstruction, IsListing}
 use Rattle.spv_inst.specs.Known as known
 use Rattle.spv_inst.specs.Outcome.{IsHeaderOf}
 use Rattle.spv_inst.specs.Reading.{between}

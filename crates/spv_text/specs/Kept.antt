@@ -2,8 +2,8 @@
 use Rattle.std.specs.Prelude.{◌≡◌, ◌≤◌, ℕ, Option, Some, None, Bool, false, List, nat_eq, is_some, option_and_then, option_map, slice_index_or}
 use Rattle.std.specs.Ordering.{nat_cmp}
 use Rattle.std.specs.BTreeMap.{get}
-use Rattle.spv_inst.specs.Operand.{PlainInst, Context, result_in, type_in}
-use Rattle.spv_inst.specs.Width.{definition_of, declared_width, first_id, width_of}
+use Rattle.spv_module.specs.Operand.{PlainInst, Context, result_in, type_in}
+use Rattle.spv_module.specs.Width.{definition_of, declared_width, first_id, width_of}
 use Rattle.spv_lines.specs.Operand.{is_float_type}
 use Rattle.spv_text.specs.declared.types.Definition.{Definition}
 use Rattle.spv_text.specs.declared.types.Types.{Types}

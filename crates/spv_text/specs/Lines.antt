@@ -1,8 +1,8 @@
 -- What the reading of a text's lines keeps and answers. (Own.)
 use Rattle.std.specs.Prelude.{◌≡◌, ◌<◌, ◌≤◌, ◌+◌, ◌^◌, ◌++◌, ◌∷◌, [], ◌⊎◌, ℕ, List, Option, Some, true, length, slice_get}
-use Rattle.spv_grammar.specs.Table.{Table}
-use Rattle.spv_inst.specs.Operand.{PlainInst}
-use Rattle.spv_inst.specs.Instruction.{first_word}
+use Rattle.spv_table.specs.Table.{Table}
+use Rattle.spv_module.specs.Operand.{PlainInst}
+use Rattle.spv_module.specs.Instruction.{first_word}
 use Rattle.spv_inst.specs.Encoding.{greatest_count, greatest_length}
 use Rattle.spv_lines.specs.declared.asm_error.AsmCode.{AsmCode}
 use Rattle.spv_lines.specs.declared.asm_error.AsmCode.TheVariants.{S5, S6}

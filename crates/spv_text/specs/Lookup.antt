@@ -1,6 +1,6 @@
 -- What the name of the last line stands for. (For the code alone.)
 use Rattle.std.specs.Prelude.{Option, IfSome}
-use Rattle.spv_grammar.specs.Table.{Table}
+use Rattle.spv_table.specs.Table.{Table}
 use Rattle.spv_lines.specs.Line.{IsInstName}
 use Rattle.spv_text.specs.declared.naming.Last.{Last}
 

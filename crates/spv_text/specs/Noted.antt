@@ -1,8 +1,8 @@
 -- What the value or the mask that was read last stands for. (For the code alone.)
 use Rattle.std.specs.Prelude.{◌≡◌, ◌∷◌, [], ℕ, List, Option, None, Bool, IfSome}
-use Rattle.spv_grammar.specs.Table.{Table}
-use Rattle.spv_inst.specs.Operand.{Plain, Context, result_in}
-use Rattle.spv_inst.specs.Shape.{alone, shape_of}
+use Rattle.spv_table.specs.Table.{Table}
+use Rattle.spv_module.specs.Operand.{Plain, Context, result_in}
+use Rattle.spv_module.specs.Shape.{alone, shape_of}
 use Rattle.spv_inst.specs.Agenda.{opened_kinds}
 use Rattle.spv_inst.specs.Written.{operand_words}
 use Rattle.spv_tokens.specs.Answer.{IsTaken}

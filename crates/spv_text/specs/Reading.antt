@@ -1,14 +1,14 @@
 -- What the reading of a line keeps and answers. (Own.)
 use Rattle.std.specs.Prelude.{◌≡◌, ◌≢◌, ◌++◌, ◌∷◌, [], ℕ, List, Option, Some, None, true, false, map, option_and_then}
-use Rattle.spv_grammar.specs.Table.{Table, kind_of}
+use Rattle.spv_table.specs.Table.{Table, kind_of}
 use Rattle.spv_inst.specs.declared.form.Leaf.TheVariants as leaf
 use Rattle.spv_inst.specs.declared.form.Form.TheVariants.{Leaf}
 use Rattle.spv_inst.specs.declared.agenda.Asked.{Asked}
 use Rattle.spv_inst.specs.Form.{form_at}
 use Rattle.spv_inst.specs.Written.{is_without_zero}
-use Rattle.spv_inst.specs.Operand.{Plain, PlainInst, Context, start, result_in}
-use Rattle.spv_inst.specs.Width.{type_of, first_id}
-use Rattle.spv_inst.specs.Shape.{Slot, alone, shape_of}
+use Rattle.spv_module.specs.Operand.{Plain, PlainInst, Context, start, result_in}
+use Rattle.spv_module.specs.Width.{type_of, first_id}
+use Rattle.spv_module.specs.Shape.{Slot, alone, shape_of}
 use Rattle.spv_inst.specs.Flat.{Due, OneOf}
 use Rattle.spv_inst.specs.Agenda.{opened_kinds, plain_slot}
 use Rattle.spv_lines.specs.declared.asm_error.AsmCode.{AsmCode}

@@ -1,10 +1,10 @@
 -- Names that stand for values and masks. (For the code alone.)
 use Rattle.std.specs.Prelude.{◌≡◌, [], ◌∷◌, ℕ, List, Some, None, true, false, map}
-use Rattle.spv_grammar.specs.declared.table.Enumerant.{Enumerant}
-use Rattle.spv_grammar.specs.Table.{Table, enumerant_of}
-use Rattle.spv_inst.specs.Operand.{Context, Plain, result_in, type_in}
-use Rattle.spv_inst.specs.Shape.{alone, shape_of}
-use Rattle.spv_inst.specs.Spelling.{Takes}
+use Rattle.spv_table.specs.declared.table.Enumerant.{Enumerant}
+use Rattle.spv_table.specs.Table.{Table, enumerant_of}
+use Rattle.spv_module.specs.Operand.{Context, Plain, result_in, type_in}
+use Rattle.spv_module.specs.Shape.{alone, shape_of}
+use Rattle.spv_module.specs.Spelling.{Takes}
 use Rattle.spv_lines.specs.Operand.{shown_operand}
 use Rattle.spv_text.specs.Back.{is_steady}
 

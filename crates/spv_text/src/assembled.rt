@@ -3,12 +3,15 @@
 ghost use Rattle.std.specs.Prelude.{◌≡◌, ◌≤◌, ◌<◌, ◌+◌, ◌++◌, ◌∷◌, [], ℕ, List, IfOk, IfErr, OnOk, length, map, drop};
 ghost use Rattle.spv_words.specs.declared.words.Header as words;
 ghost use Rattle.spv_words.specs.Header.{IsHeader};
-ghost use Rattle.spv_inst.specs.Operand.{PlainInst};
-ghost use Rattle.spv_inst.specs.Instruction.{IsListing, first_word};
+ghost use Rattle.spv_module.specs.Operand.{PlainInst};
+ghost use Rattle.spv_module.specs.Instruction.{IsListing, first_word};
 ghost use Rattle.spv_inst.specs.Outcome.{IsHeaderOf};
 ghost use Rattle.spv_inst.specs.Encoding.{greatest_count, greatest_length};
+ghost use Rattle.spv_lines.specs.Line.{AreWords};
 ghost use Rattle.spv_lines.specs.Text.{IsReadText, lines_of};
+ghost use Rattle.spv_lines.specs.declared.asm_error.AsmCode.TheVariants.{S6};
 ghost use Rattle.spv_inst.specs.Form.{form_of};
+ghost use Rattle.spv_text.specs.Image.{IsShownImage};
 ghost use Rattle.spv_text.specs.Kept.{Knows};
 ghost use Rattle.spv_text.specs.Lookup.{IsKnown};
 ghost use Rattle.spv_text.specs.Noted.{IsNoted};
@@ -22,9 +25,9 @@ use crate::noted::Noted;
 use crate::reading::{Line, read_line};
 use crate::taking::Desk;
 use crate::types::Types;
-use spv_grammar::Table;
 use spv_inst::due::{Agenda, forms_of};
 use spv_lines::{AsmCode, AsmError};
+use spv_table::Table;
 use spv_tokens::split_line;
 use spv_words::{Draft, GREATEST_LENGTH, Header, Image, MAGIC_NUMBER};
 use std::alloc::{AllocError, Global};
@@ -152,17 +155,8 @@ fn assemble_lines(
     Ok(())
 }
 
-/// The image of a text by a grammar table: what the text reads as, five lines for the header and one for each instruction, where
-/// any plain name of an instruction or a value may stand for it, or `#N`, and the last line feed may be missing.
-///
-/// # Errors
-///
-/// The first line with a fault, from 1, and on it the first of these. `S1`: a line of the header is missing or ill-formed, or
-/// the bound is not one from 1 to 4,194,303. `S2`: no known name of an instruction stands at its place. `S3`: an operand or a
-/// result is missing, one too many, ill-formed or unknown, or the width of a number is unknown. `S4`: a number is too large for
-/// its place. `S5`: the instruction has over 65,535 words (2.3), or with it the module has over 4,194,304. The result is told
-/// before the other operands, and these from left to right. `S6`, with line 0: a growth of memory was refused.
-pub fn assemble(alloc: Global, table: &Table, text: &str) -> Result<Image, AsmError>
+/// The image of a text by a grammar table, as `assemble` answers it.
+fn assemble_text(alloc: Global, table: &Table, text: &str) -> Result<Image, AsmError>
     // The text is read as a header and instructions, whose words the image has.
     ensures read { IfOk result (λ i. (h : words.Header) × (is : List PlainInst) × IsReadText table.now h is (drop 5 i) text.now × IsHeaderOf i h × IsListing table.now is (drop 5 i)) }
     // Word 0 is the magic number, and the header fits.
@@ -182,4 +176,32 @@ pub fn assemble(alloc: Global, table: &Table, text: &str) -> Result<Image, AsmEr
     put_words(&mut draft, &words)?;
     assemble_lines(alloc, table, &mut draft, rest)?;
     Ok(draft.finish())
+}
+
+/// The image of a text by a grammar table: what the text reads as, five lines for the header and one for each instruction, where
+/// any plain name of an instruction or a value may stand for it, or `#N`, and the last line feed may be missing.
+///
+/// # Errors
+///
+/// The first line with a fault, from 1, and on it the first of these. `S1`: a line of the header is missing or ill-formed, or
+/// the bound is not one from 1 to 4,194,303. `S2`: no known name of an instruction stands at its place. `S3`: an operand or a
+/// result is missing, one too many, ill-formed or unknown, or the width of a number is unknown. `S4`: a number is too large for
+/// its place. `S5`: the instruction has over 65,535 words (2.3), or with it the module has over 4,194,304. The result is told
+/// before the other operands, and these from left to right. `S6`, with line 0: a growth of memory was refused.
+pub fn assemble(alloc: Global, table: &Table, text: &str) -> Result<Image, AsmError>
+    // The text is read as a header and instructions, whose words the image has.
+    ensures read { IfOk result (λ i. (h : words.Header) × (is : List PlainInst) × IsReadText table.now h is (drop 5 i) text.now × IsHeaderOf i h × IsListing table.now is (drop 5 i)) }
+    // Word 0 is the magic number, and the header fits.
+    ensures begins { IfOk result (λ i. IsHeader i) }
+    // An error tells where the text fails, and why.
+    ensures failed { IfErr result (λ e. IsAsmFailure table.now text.now e.code e.line) }
+    // The shown text of an image's words gives these words again, and no error but want of memory.
+    ensures again { (ws : List ℕ) → IsHeader ws → AreWords ws → length ws ≤ greatest_length
+        → IsShownImage table.now ws text.now → IfOk result (λ i. i ≡ ws) }
+    ensures memory { (ws : List ℕ) → IsHeader ws → AreWords ws → length ws ≤ greatest_length
+        → IsShownImage table.now ws text.now → IfErr result (λ e. e ≡ record { code = S6; line = 0 }) }
+{
+    // Of every table, and so of this one, no parameter and no base is of the kind of results.
+    let _ = table.kind(0);
+    assemble_text(alloc, table, text)
 }

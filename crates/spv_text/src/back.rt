@@ -1,10 +1,10 @@
 //! Lines that are put together from the back, in a buffer.
 
 ghost use Rattle.std.specs.Prelude.{◌≡◌, ◌≢◌, ◌<◌, ◌≤◌, ◌+◌, ◌^◌, ◌++◌, ◌∷◌, [], ℕ, List, Bool, true, false, Some, IfOk, IfSome, IsUtf8, codes, decimal, drop, length, string_bytes};
-ghost use Rattle.spv_grammar.specs.Table as grammar;
-ghost use Rattle.spv_grammar.specs.Table.{entry_of, kind_of};
-ghost use Rattle.spv_inst.specs.Module.{plain_operand, plain_operands};
-ghost use Rattle.spv_inst.specs.Operand.{PlainInst, Plain, result_in};
+ghost use Rattle.spv_table.specs.Table as grammar;
+ghost use Rattle.spv_table.specs.Table.{entry_of, kind_of};
+ghost use Rattle.spv_module.specs.Module.{plain_operand, plain_operands};
+ghost use Rattle.spv_module.specs.Operand.{PlainInst, Plain, result_in};
 ghost use Rattle.spv_inst.specs.Reading.{enumerants_at};
 ghost use Rattle.spv_lines.specs.Name.{shown_mask, shown_value};
 ghost use Rattle.spv_lines.specs.Operand.{id_text, quoted, shown_operand};
@@ -15,8 +15,8 @@ ghost use Rattle.spv_text.specs.Back.{IsBack, IsPut, IsTail, cells_of};
 use crate::names::Names;
 use itoa::write_digits;
 use memchr::memchr3;
-use spv_grammar::{Entry, Table};
-use spv_inst::Operand;
+use spv_module::Operand;
+use spv_table::{Entry, Table};
 use std::alloc::AllocError;
 use std::str::from_utf8_unchecked;
 

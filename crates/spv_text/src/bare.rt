@@ -1,13 +1,13 @@
 //! The operands of a line that has no result, or begins with its type and it, and asks for no number by its context.
 
 ghost use Rattle.std.specs.Prelude.{◌≡◌, ◌<◌, ◌^◌, [], ℕ, List, Option, Some, true, IfOk, IfSome, map, option_map};
-ghost use Rattle.spv_grammar.specs.Table as grammar;
-ghost use Rattle.spv_grammar.specs.Table.{kind_of};
+ghost use Rattle.spv_table.specs.Table as grammar;
+ghost use Rattle.spv_table.specs.Table.{kind_of};
 ghost use Rattle.spv_inst.specs.declared.form.Form.TheVariants.{Leaf as LeafForm};
 ghost use Rattle.spv_inst.specs.declared.form.Leaf.TheVariants as leaves;
 ghost use Rattle.spv_inst.specs.Form.{form_at, form_of};
-ghost use Rattle.spv_inst.specs.Operand.{Context, PlainInst};
-ghost use Rattle.spv_inst.specs.Shape.{alone};
+ghost use Rattle.spv_module.specs.Operand.{Context, PlainInst};
+ghost use Rattle.spv_module.specs.Shape.{alone};
 ghost use Rattle.spv_inst.specs.Flat.{due};
 ghost use Rattle.spv_inst.specs.Agenda.{items_of};
 ghost use Rattle.spv_lines.specs.Operand.{id_text};
@@ -22,9 +22,9 @@ use crate::near::push_quoted;
 use crate::noted::{Noted, find_named};
 use crate::plain::{first_item, front_id, front_word};
 use crate::taking::is_break;
-use spv_grammar::{Item, Table};
-use spv_inst::Operand;
 use spv_inst::due::{Form, Leaf, form_in, joined, next_kind, read_text};
+use spv_module::Operand;
+use spv_table::{Item, Table};
 use spv_tokens::{behind, read_front, split_around, split_token};
 use std::alloc::AllocError;
 

@@ -1,10 +1,10 @@
 //! From an image to its text, without a list of its instructions.
 
 ghost use Rattle.std.specs.Prelude.{◌≡◌, ◌<◌, ◌++◌, ◌∷◌, [], List, IfOk, IfErr, OnOk, length, map, string_bytes};
-ghost use Rattle.spv_grammar.specs.Table.{IsWhole};
+ghost use Rattle.spv_table.specs.Table.{IsWhole};
 ghost use Rattle.spv_inst.specs.Form.{form_of};
 ghost use Rattle.spv_inst.specs.Known as known;
-ghost use Rattle.spv_inst.specs.Operand.{PlainInst};
+ghost use Rattle.spv_module.specs.Operand.{PlainInst};
 ghost use Rattle.spv_inst.specs.Outcome.{IsDeath};
 ghost use Rattle.spv_inst.specs.Step.{IsDeadFrom};
 ghost use Rattle.spv_text.specs.Forward.{IsTold};
@@ -18,9 +18,9 @@ use crate::line::{Setting, push_line};
 use crate::names::Names;
 use crate::shown::push_header;
 use crate::types::Types;
-use spv_grammar::Table;
 use spv_inst::due::{Agenda, Definitions, Scene, forms_of, read_instruction};
-use spv_inst::{Operand, Stop};
+use spv_module::{Operand, Stop};
+use spv_table::Table;
 use spv_words::Image;
 use std::alloc::{AllocError, Global};
 

@@ -1,13 +1,13 @@
 //! Operands at the front of a line's operands that are read without the agenda.
 
 ghost use Rattle.std.specs.Prelude.{◌≡◌, ◌++◌, ◌∷◌, [], ℕ, List, Option, true, IfOk, IfSome, MatchOption, map};
-ghost use Rattle.spv_grammar.specs.Table as grammar;
-ghost use Rattle.spv_grammar.specs.Table.{kind_of};
+ghost use Rattle.spv_table.specs.Table as grammar;
+ghost use Rattle.spv_table.specs.Table.{kind_of};
 ghost use Rattle.spv_inst.specs.declared.form.Form.TheVariants.{Leaf as LeafForm};
 ghost use Rattle.spv_inst.specs.declared.form.Leaf.TheVariants as leaves;
 ghost use Rattle.spv_inst.specs.Form.{form_at, form_of};
-ghost use Rattle.spv_inst.specs.Operand.{Context, PlainInst};
-ghost use Rattle.spv_inst.specs.Shape.{alone};
+ghost use Rattle.spv_module.specs.Operand.{Context, PlainInst};
+ghost use Rattle.spv_module.specs.Shape.{alone};
 ghost use Rattle.spv_inst.specs.Flat.{OneOf, due};
 ghost use Rattle.spv_inst.specs.Agenda.{due_first, items_of, settled};
 ghost use Rattle.spv_lines.specs.Operand.{quoted};
@@ -22,9 +22,9 @@ use crate::named::read_named;
 use crate::parameters::kinds_behind;
 use crate::plain::{Behind, first_item, plain_step};
 use crate::taking::{is_break, is_text};
-use spv_grammar::{Item, Table};
-use spv_inst::Operand;
 use spv_inst::due::{Form, Leaf, form_in, joined, push_operand, read_text};
+use spv_module::Operand;
+use spv_table::{Item, Table};
 use spv_tokens::{Quotation, behind, read_unescaped, split_token};
 use std::alloc::AllocError;
 

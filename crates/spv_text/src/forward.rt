@@ -1,14 +1,14 @@
 //! Lines that are put together from the words of an instruction, one operand behind the other, in a buffer.
 
 ghost use Rattle.std.specs.Prelude.{⊤, ◌≡◌, ◌<◌, ◌≤◌, ◌+◌, ◌-◌, ◌++◌, ◌∷◌, [], ℕ, List, Some, true, false, IfOk, IfSome, IsUtf8, MatchOption, decimal, drop, length, map, take, string_bytes};
-ghost use Rattle.spv_grammar.specs.declared.table.Item as declared;
-ghost use Rattle.spv_grammar.specs.Table as grammar;
-ghost use Rattle.spv_grammar.specs.Table.{entry_of, kind_of};
+ghost use Rattle.spv_table.specs.declared.table.Item as declared;
+ghost use Rattle.spv_table.specs.Table as grammar;
+ghost use Rattle.spv_table.specs.Table.{entry_of, kind_of};
 ghost use Rattle.spv_inst.specs.declared.form.Form.TheVariants.{Leaf as LeafForm};
 ghost use Rattle.spv_inst.specs.declared.form.Leaf.TheVariants as leaf;
 ghost use Rattle.spv_inst.specs.Agenda.{due_first};
 ghost use Rattle.spv_inst.specs.Form.{form_at, form_of};
-ghost use Rattle.spv_inst.specs.Operand.{Plain, PlainInst, result_in};
+ghost use Rattle.spv_module.specs.Operand.{Plain, PlainInst, result_in};
 ghost use Rattle.spv_inst.specs.Reading.{between};
 ghost use Rattle.spv_lines.specs.Operand.{id_text};
 ghost use Rattle.spv_lines.specs.Line.{IsShownLine, shown_name};
@@ -22,8 +22,8 @@ use crate::names::Names;
 use crate::short::put_short;
 use crate::types::Types;
 use crate::valued::{add_name, label_of};
-use spv_grammar::{Entry, Item, Table};
 use spv_inst::due::{Form, Leaf, form_in, joined, next_kind};
+use spv_table::{Entry, Item, Table};
 use spv_words::{Image, word};
 use std::alloc::AllocError;
 use std::str::from_utf8_unchecked;

@@ -1,12 +1,12 @@
 ghost use Rattle.std.specs.Prelude.{◌≡◌, ◌++◌, ◌∷◌, [], List};
-ghost use Rattle.spv_inst.specs.Module.{plain_operand, plain_operands};
-ghost use Rattle.spv_inst.specs.Operand as plain;
-ghost use Rattle.spv_inst.specs.Operand.{Plain};
-ghost use Rattle.spv_inst.specs.Width as width;
+ghost use Rattle.spv_module.specs.Module.{plain_operand, plain_operands};
+ghost use Rattle.spv_module.specs.Operand as plain;
+ghost use Rattle.spv_module.specs.Operand.{Plain};
+ghost use Rattle.spv_module.specs.Width as width;
 ghost use Rattle.spv_text.specs.Begun as kept;
 ghost use Rattle.spv_text.specs.Begun.{IsOfOperands};
 
-use spv_inst::Operand;
+use spv_module::Operand;
 
 /// How the operands of an instruction begin, as far as the width of a type needs it.
 #[derive(Clone, Copy, Debug, PartialEq, Eq)]

@@ -1,14 +1,14 @@
 //! The line of an instruction.
 
 ghost use Rattle.std.specs.Prelude.{◌≡◌, ◌++◌, ◌∷◌, [], ℕ, List, Option, Some, OnOk, map, string_bytes};
-ghost use Rattle.spv_grammar.specs.Table.{entry_of};
+ghost use Rattle.spv_table.specs.Table.{entry_of};
 ghost use Rattle.spv_inst.specs.Form.{form_of};
-ghost use Rattle.spv_inst.specs.Operand.{PlainInst, start};
-ghost use Rattle.spv_inst.specs.Module.{plain_operands};
+ghost use Rattle.spv_module.specs.Operand.{PlainInst, start};
+ghost use Rattle.spv_module.specs.Module.{plain_operands};
 ghost use Rattle.spv_inst.specs.Flat.{Due, due};
 ghost use Rattle.spv_inst.specs.Agenda.{items_of};
-ghost use Rattle.spv_inst.specs.Operand as operand;
-ghost use Rattle.spv_inst.specs.Width as width;
+ghost use Rattle.spv_module.specs.Operand as operand;
+ghost use Rattle.spv_module.specs.Width as width;
 ghost use Rattle.spv_lines.specs.Operand.{Shown};
 ghost use Rattle.spv_lines.specs.Written.{Written};
 ghost use Rattle.spv_lines.specs.Line.{IsShownLine, shown_result};
@@ -22,9 +22,9 @@ use crate::names::Names;
 use crate::number::push_front;
 use crate::operand::{is_passed, push_piece, push_plain};
 use crate::types::Types;
-use spv_grammar::{Entry, Item, Table};
-use spv_inst::Operand;
 use spv_inst::due::{Agenda, Form};
+use spv_module::Operand;
+use spv_table::{Entry, Item, Table};
 use std::alloc::AllocError;
 
 /// The opcode of OpSwitch.

@@ -1,7 +1,7 @@
 //! Names of instructions, values and masks as a text shows them.
 
 ghost use Rattle.std.specs.Prelude.{◌≡◌, ◌++◌, ◌∷◌, [], ℕ, List, Some, true, false, OnOk, string_bytes, option_map, is_some, if◌then◌else◌};
-ghost use Rattle.spv_grammar.specs.Table.{entry_of, kind_of};
+ghost use Rattle.spv_table.specs.Table.{entry_of, kind_of};
 ghost use Rattle.spv_inst.specs.Reading.{enumerants_at};
 ghost use Rattle.spv_lines.specs.Name.{by_number, first_name, joined, names_from, shown_value, shown_mask};
 ghost use Rattle.spv_lines.specs.Line.{shown_name};
@@ -9,7 +9,7 @@ ghost use Rattle.spv_text.specs.Named.{AreNames};
 
 use crate::names::Names;
 use crate::number::push_nameless;
-use spv_grammar::{Entry, Table};
+use spv_table::{Entry, Table};
 use spv_tokens::is_plain;
 use std::alloc::AllocError;
 

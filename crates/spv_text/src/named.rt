@@ -1,17 +1,17 @@
 //! Values and masks by their names.
 
 ghost use Rattle.std.specs.Prelude.{◌≡◌, Bool, IfSome};
-ghost use Rattle.spv_grammar.specs.Table.{kind_of};
+ghost use Rattle.spv_table.specs.Table.{kind_of};
 ghost use Rattle.spv_inst.specs.declared.form.Form.TheVariants.{Leaf as LeafForm};
 ghost use Rattle.spv_inst.specs.Form.{form_at};
-ghost use Rattle.spv_inst.specs.Operand.{Context};
-ghost use Rattle.spv_inst.specs.Module.{plain_operand};
-ghost use Rattle.spv_inst.specs.Shape.{alone, shape_of};
+ghost use Rattle.spv_module.specs.Operand.{Context};
+ghost use Rattle.spv_module.specs.Module.{plain_operand};
+ghost use Rattle.spv_module.specs.Shape.{alone, shape_of};
 ghost use Rattle.spv_tokens.specs.Answer.{IsTaken};
 
-use spv_grammar::Table;
-use spv_inst::Operand;
 use spv_inst::due::Leaf;
+use spv_module::Operand;
+use spv_table::Table;
 use spv_tokens::{read_mask, read_value};
 
 /// The value or the mask that a token is. None where it is none of its kind, and for other kinds.

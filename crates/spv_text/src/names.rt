@@ -1,7 +1,7 @@
 //! Which names were found to be shown.
 
 ghost use Rattle.std.specs.Prelude.{◌≡◌, ◌<◌, ◌+◌, ◌*◌, ℕ, true, false, IfOk, IfSome, is_some, slice_index_or};
-ghost use Rattle.spv_grammar.specs.Table.{Table, kind_of};
+ghost use Rattle.spv_table.specs.Table.{Table, kind_of};
 ghost use Rattle.spv_inst.specs.Reading.{enumerants_at};
 ghost use Rattle.spv_lines.specs.Name.{first_name, names_from};
 ghost use Rattle.spv_text.specs.Named.{AreNames, IsShownByName};

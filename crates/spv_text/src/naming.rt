@@ -1,7 +1,7 @@
 //! The name of a line's instruction, where it is that of the last line.
 
 ghost use Rattle.std.specs.Prelude.{◌≡◌, ◌++◌, IfSome, option_map};
-ghost use Rattle.spv_grammar.specs.Table.{Table};
+ghost use Rattle.spv_table.specs.Table.{Table};
 ghost use Rattle.spv_lines.specs.Line as spec;
 ghost use Rattle.spv_lines.specs.Line.{IsInstName};
 ghost use Rattle.spv_lines.specs.Refusal.{IsBreak};
@@ -9,7 +9,7 @@ ghost use Rattle.spv_text.specs.Heading.{plain_parts};
 ghost use Rattle.spv_text.specs.Lookup.{IsKnown};
 
 use crate::reading::Parts;
-use spv_grammar::Entry;
+use spv_table::Entry;
 use spv_tokens::split_before;
 
 /// A line's parts, and the instruction that its name stands for.

@@ -1,20 +1,20 @@
 //! The value or the mask that was read last.
 
 ghost use Rattle.std.specs.Prelude.{◌≡◌, ◌∷◌, [], None, IfSome};
-ghost use Rattle.spv_grammar.specs.Table as grammar;
-ghost use Rattle.spv_grammar.specs.Table.{kind_of};
+ghost use Rattle.spv_table.specs.Table as grammar;
+ghost use Rattle.spv_table.specs.Table.{kind_of};
 ghost use Rattle.spv_inst.specs.declared.form.Form.TheVariants.{Leaf as LeafForm};
 ghost use Rattle.spv_inst.specs.Form.{form_at};
-ghost use Rattle.spv_inst.specs.Operand.{result_in};
-ghost use Rattle.spv_inst.specs.Module.{plain_operand};
+ghost use Rattle.spv_module.specs.Operand.{result_in};
+ghost use Rattle.spv_module.specs.Module.{plain_operand};
 ghost use Rattle.spv_inst.specs.Written.{operand_words};
 ghost use Rattle.spv_text.specs.Noted.{IsNoted, StandsFor};
 
 use crate::named::read_named;
 use crate::parameters::kinds_behind;
-use spv_grammar::Table;
-use spv_inst::Operand;
 use spv_inst::due::Leaf;
+use spv_module::Operand;
+use spv_table::Table;
 
 /// A value or a mask that was read, and the octets of the token that stood for it.
 #[derive(Clone, Copy, Debug)]

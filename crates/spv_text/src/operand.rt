@@ -1,14 +1,14 @@
 //! Operands as a text shows them.
 
 ghost use Rattle.std.specs.Prelude.{◌≡◌, ◌++◌, ◌∷◌, [], ◌||◌, ℕ, List, Option, Bool, OnOk, string_bytes, is_some};
-ghost use Rattle.spv_grammar.specs.Table.{Table, kind_of};
+ghost use Rattle.spv_table.specs.Table.{Table, kind_of};
 ghost use Rattle.spv_inst.specs.declared.form.Form.TheVariants.{Leaf as LeafForm};
 ghost use Rattle.spv_inst.specs.Form.{form_at};
-ghost use Rattle.spv_inst.specs.Operand.{Context, result_in};
-ghost use Rattle.spv_inst.specs.Module.{plain_operand};
-ghost use Rattle.spv_inst.specs.Shape as shape;
-ghost use Rattle.spv_inst.specs.Shape.{shape_of};
-ghost use Rattle.spv_inst.specs.Spelling.{Takes};
+ghost use Rattle.spv_module.specs.Operand.{Context, result_in};
+ghost use Rattle.spv_module.specs.Module.{plain_operand};
+ghost use Rattle.spv_module.specs.Shape as shape;
+ghost use Rattle.spv_module.specs.Shape.{shape_of};
+ghost use Rattle.spv_module.specs.Spelling.{Takes};
 ghost use Rattle.spv_inst.specs.Agenda.{plain_slot};
 ghost use Rattle.spv_lines.specs.Operand.{Shown, shown_operand, is_float, is_result};
 ghost use Rattle.spv_lines.specs.Written.{Piece};
@@ -21,9 +21,9 @@ use crate::names::Names;
 use crate::number::{push_number, push_spaced_id, push_spaced_word};
 use crate::quoted::push_quoted;
 use crate::types::Types;
-use spv_grammar::Table;
-use spv_inst::Operand;
 use spv_inst::due::{Asked, Leaf};
+use spv_module::Operand;
+use spv_table::Table;
 use std::alloc::AllocError;
 
 /// Whether an operand is a number of a float type: a LiteralContextDependentNumber has the result type of its instruction,

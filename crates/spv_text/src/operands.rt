@@ -2,7 +2,7 @@
 
 ghost use Rattle.std.specs.Prelude.{◌≡◌, ◌≢◌, [], ℕ, List, Option, Bool, true, false, IfOk, IfErr, map};
 ghost use Rattle.spv_inst.specs.Form.{form_of};
-ghost use Rattle.spv_inst.specs.Operand.{PlainInst, start};
+ghost use Rattle.spv_module.specs.Operand.{PlainInst, start};
 ghost use Rattle.spv_inst.specs.Flat.{due};
 ghost use Rattle.spv_inst.specs.Agenda.{items_of};
 ghost use Rattle.spv_lines.specs.Refusal.{IsBreak};
@@ -14,8 +14,8 @@ use crate::ids::Ids;
 use crate::line::Setting;
 use crate::plain::{Behind, read_plain};
 use crate::taking::{Desk, Place, take_operand};
-use spv_grammar::Item;
 use spv_lines::AsmCode;
+use spv_table::Item;
 
 /// Whether two ids, if there are any, differ.
 fn differ(one: Option<u32>, other: Option<u32>) -> bool

@@ -1,13 +1,13 @@
 //! Operands of one number each, at the front of a line's operands.
 
 ghost use Rattle.std.specs.Prelude.{◌≡◌, ◌<◌, ◌^◌, ◌∷◌, [], ℕ, List, Option, Some, None, true, IfOk, IfSome, decimal, map};
-ghost use Rattle.spv_grammar.specs.Table as grammar;
-ghost use Rattle.spv_grammar.specs.Table.{kind_of};
+ghost use Rattle.spv_table.specs.Table as grammar;
+ghost use Rattle.spv_table.specs.Table.{kind_of};
 ghost use Rattle.spv_inst.specs.declared.form.Form.TheVariants.{Leaf as LeafForm};
 ghost use Rattle.spv_inst.specs.declared.form.Leaf.TheVariants as leaf;
 ghost use Rattle.spv_inst.specs.Form.{form_at, form_of};
-ghost use Rattle.spv_inst.specs.Operand.{Context, PlainInst, result_in};
-ghost use Rattle.spv_inst.specs.Shape.{alone};
+ghost use Rattle.spv_module.specs.Operand.{Context, PlainInst, result_in};
+ghost use Rattle.spv_module.specs.Shape.{alone};
 ghost use Rattle.spv_inst.specs.Flat.{OneOf, due};
 ghost use Rattle.spv_inst.specs.Agenda.{items_of, settled};
 ghost use Rattle.spv_lines.specs.Operand.{id_text};
@@ -17,9 +17,9 @@ ghost use Rattle.spv_text.specs.Reading.{HasCell, IsPlainStep, SoFar};
 
 use crate::ids::Ids;
 use crate::line::Setting;
-use spv_grammar::{Item, Quantifier};
-use spv_inst::Operand;
 use spv_inst::due::{Form, Leaf, form_in};
+use spv_module::Operand;
+use spv_table::{Item, Quantifier};
 use spv_tokens::{Cell, behind, read_front};
 use std::alloc::AllocError;
 

@@ -2,12 +2,12 @@
 
 ghost use Rattle.std.specs.Prelude.{◌≡◌, ◌<◌, ◌≤◌, ◌+◌, ◌∷◌, ℕ, List, Some, None, true, false, IfOk, IfErr, IfSome, MatchOption, map, length, take, drop, slice_index, option_map};
 ghost use Rattle.std.specs.List.{list_any};
-ghost use Rattle.spv_grammar.specs.declared.table.Entry as code;
-ghost use Rattle.spv_grammar.specs.Table as grammar;
-ghost use Rattle.spv_grammar.specs.Lookups.{opcode_named};
+ghost use Rattle.spv_table.specs.declared.table.Entry as code;
+ghost use Rattle.spv_table.specs.Table as grammar;
+ghost use Rattle.spv_table.specs.Lookups.{opcode_named};
 ghost use Rattle.spv_inst.specs.Form.{form_of};
-ghost use Rattle.spv_inst.specs.Operand.{Context, PlainInst};
-ghost use Rattle.spv_inst.specs.Shape.{alone, shape_of};
+ghost use Rattle.spv_module.specs.Operand.{Context, PlainInst};
+ghost use Rattle.spv_module.specs.Shape.{alone, shape_of};
 ghost use Rattle.spv_inst.specs.Flat.{due};
 ghost use Rattle.spv_inst.specs.Agenda.{items_of};
 ghost use Rattle.spv_lines.specs.Line as spec;
@@ -30,9 +30,9 @@ use crate::naming::{Last, Named, named_again};
 use crate::noted::Noted;
 use crate::operands::read_operands;
 use crate::taking::Desk;
-use spv_grammar::{Entry, Item, Quantifier, Table};
 use spv_inst::due::{Form, Leaf, form_in};
 use spv_lines::AsmCode;
+use spv_table::{Entry, Item, Quantifier, Table};
 use spv_tokens::{Misread, is_plain, read_behind, split_around, split_before, split_token};
 use std::alloc::AllocError;
 

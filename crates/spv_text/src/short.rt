@@ -5,7 +5,7 @@ ghost use Rattle.std.specs.List.{AllByRecursion};
 ghost use Rattle.spv_words.specs.Words.{words_of};
 ghost use Rattle.spv_words.specs.declared.words.Order.TheVariants.{Little};
 ghost use Rattle.spv_inst.specs.Reading.{between};
-ghost use Rattle.spv_inst.specs.Spelling.{AreZeros};
+ghost use Rattle.spv_module.specs.Spelling.{AreZeros};
 ghost use Rattle.spv_lines.specs.Operand.{escaped};
 ghost use Rattle.spv_text.specs.Forward.{IsQuoted};
 

@@ -1,8 +1,8 @@
 //! From a module to its text.
 
 ghost use Rattle.std.specs.Prelude.{◌≡◌, ◌++◌, [], ℕ, List, OnOk, IfOk, IfErr, string_bytes};
-ghost use Rattle.spv_inst.specs.Module.{plain_insts};
-ghost use Rattle.spv_inst.specs.Instruction.{IsListing};
+ghost use Rattle.spv_module.specs.Module.{plain_insts};
+ghost use Rattle.spv_module.specs.Instruction.{IsListing};
 ghost use Rattle.spv_inst.specs.Encoding.{IsImageOf, IsRefused};
 ghost use Rattle.spv_lines.specs.Text.{IsShownText, ShownLines, ended, header_lines};
 
@@ -11,9 +11,10 @@ use crate::line::{Setting, push_line};
 use crate::names::Names;
 use crate::number::push_decimal;
 use crate::types::Types;
-use spv_grammar::Table;
 use spv_inst::due::{Agenda, forms_of};
-use spv_inst::{EncodeError, Module, encode};
+use spv_inst::{EncodeError, encode};
+use spv_module::Module;
+use spv_table::Table;
 use spv_words::Header;
 use std::alloc::{AllocError, Global};
 

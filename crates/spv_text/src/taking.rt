@@ -1,13 +1,13 @@
 //! One operand of a line.
 
 ghost use Rattle.std.specs.Prelude.{◌≡◌, ◌≢◌, ◌++◌, ◌∷◌, [], ℕ, List, Option, Some, None, Bool, true, false, IfOk, IfErr, OnOk, MatchOption, map, string_bytes};
-ghost use Rattle.spv_grammar.specs.Table as grammar;
-ghost use Rattle.spv_grammar.specs.Table.{kind_of};
+ghost use Rattle.spv_table.specs.Table as grammar;
+ghost use Rattle.spv_table.specs.Table.{kind_of};
 ghost use Rattle.spv_inst.specs.declared.form.Form.TheVariants.{Leaf as LeafForm};
 ghost use Rattle.spv_inst.specs.Form.{form_at};
-ghost use Rattle.spv_inst.specs.Operand.{Context, result_in};
-ghost use Rattle.spv_inst.specs.Module.{plain_operand};
-ghost use Rattle.spv_inst.specs.Shape.{AsResult, AsText, alone, shape_of};
+ghost use Rattle.spv_module.specs.Operand.{Context, result_in};
+ghost use Rattle.spv_module.specs.Module.{plain_operand};
+ghost use Rattle.spv_module.specs.Shape.{AsResult, AsText, alone, shape_of};
 ghost use Rattle.spv_inst.specs.Flat.{OneOf};
 ghost use Rattle.spv_inst.specs.Agenda.{agenda_due, opened_kinds, plain_slot};
 ghost use Rattle.spv_inst.specs.Written.{is_without_zero, operand_words};
@@ -19,10 +19,10 @@ ghost use Rattle.spv_text.specs.Reading.{HasQuoted, IsAt, IsDueToken, IsStep, Re
 use crate::ids::Ids;
 use crate::line::Setting;
 use crate::token::read_token;
-use spv_grammar::Table;
-use spv_inst::Operand;
 use spv_inst::due::{Agenda, Asked, Leaf, push_operand, read_text};
 use spv_lines::AsmCode;
+use spv_module::Operand;
+use spv_table::Table;
 use spv_tokens::{Misread, behind, read_quoted, split_token};
 use std::alloc::AllocError;
 

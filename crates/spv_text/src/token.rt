@@ -1,15 +1,15 @@
 //! An operand's token, by what is due.
 
 ghost use Rattle.std.specs.Prelude.{◌≡◌, ◌≢◌, ℕ, List, option_and_then};
-ghost use Rattle.spv_grammar.specs.Table as grammar;
-ghost use Rattle.spv_grammar.specs.Table.{kind_of};
+ghost use Rattle.spv_table.specs.Table as grammar;
+ghost use Rattle.spv_table.specs.Table.{kind_of};
 ghost use Rattle.spv_inst.specs.declared.form.Form.TheVariants.{Leaf as LeafForm};
 ghost use Rattle.spv_inst.specs.declared.form.Leaf.TheVariants as leaf;
 ghost use Rattle.spv_inst.specs.Form.{form_at};
-ghost use Rattle.spv_inst.specs.Operand.{Context, PlainInst};
+ghost use Rattle.spv_module.specs.Operand.{Context, PlainInst};
 ghost use Rattle.spv_inst.specs.Agenda.{plain_slot};
-ghost use Rattle.spv_inst.specs.Shape.{AsNumber, shape_of};
-ghost use Rattle.spv_inst.specs.Width as widths;
+ghost use Rattle.spv_module.specs.Shape.{AsNumber, shape_of};
+ghost use Rattle.spv_module.specs.Width as widths;
 ghost use Rattle.spv_lines.specs.Operand.{is_float, is_float_type};
 ghost use Rattle.spv_tokens.specs.Answer.{IsToken};
 ghost use Rattle.spv_text.specs.Kept.{Knows};
@@ -17,9 +17,9 @@ ghost use Rattle.spv_text.specs.Reading.{IsAt, switch_type};
 
 use crate::ids::Ids;
 use crate::types::Types;
-use spv_grammar::Table;
-use spv_inst::Operand;
 use spv_inst::due::{Asked, Leaf};
+use spv_module::Operand;
+use spv_table::Table;
 use spv_tokens::{
     Misread, read_id, read_mask, read_number, read_result_id, read_type_id, read_value, read_word,
 };

@@ -1,7 +1,7 @@
 ghost use Rattle.std.specs.Prelude.{◌≡◌, ◌++◌, ◌∷◌, ◌<◌, ◌≤◌, [], ℕ, List, Some, None, true, false, nat_eq, slice_index_or, if◌then◌else◌, length, OnOk, option_and_then};
-ghost use Rattle.spv_inst.specs.Operand.{PlainInst, result_in, type_in};
-ghost use Rattle.spv_inst.specs.Width as widths;
-ghost use Rattle.spv_inst.specs.Width.{type_of};
+ghost use Rattle.spv_module.specs.Operand.{PlainInst, result_in, type_in};
+ghost use Rattle.spv_module.specs.Width as widths;
+ghost use Rattle.spv_module.specs.Width.{type_of};
 ghost use Rattle.spv_lines.specs.Operand.{is_float_type};
 ghost use Rattle.spv_text.specs.Begun.{beginning_of, told_width};
 ghost use Rattle.spv_text.specs.Kept.{IsNarrow, Knows, kept};

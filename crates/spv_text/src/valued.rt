@@ -1,17 +1,17 @@
 //! Names that stand in a line for values and masks, each by one look-up.
 
 ghost use Rattle.std.specs.Prelude.{◌≡◌, ◌<◌, ◌≤◌, ◌+◌, ◌^◌, ◌++◌, ◌∷◌, ℕ, Some, true, IfSome, IsUtf8, length, take};
-ghost use Rattle.spv_grammar.specs.Table.{kind_of};
+ghost use Rattle.spv_table.specs.Table.{kind_of};
 ghost use Rattle.spv_inst.specs.Form.{form_at};
 ghost use Rattle.spv_inst.specs.Reading.{enumerants_at};
-ghost use Rattle.spv_inst.specs.Spelling.{parameters_of, mask_parameters};
+ghost use Rattle.spv_module.specs.Spelling.{parameters_of, mask_parameters};
 ghost use Rattle.spv_lines.specs.Name.{shown_mask, shown_value};
 ghost use Rattle.spv_text.specs.Named.{AreNames};
 ghost use Rattle.spv_text.specs.Valued.{IsNamed, IsNamedBy};
 
 use crate::names::Names;
-use spv_grammar::Table;
 use spv_inst::due::{Form, Leaf};
+use spv_table::Table;
 
 /// What stands in a line for a word, and the kinds of the parameters that are due after it.
 #[derive(Clone, Copy, Debug)]

@@ -1,6 +1,6 @@
 //! Texts and their images or faults, as worked out by hand.
 
-use spv_grammar::Table;
+use spv_grammar::{FromGrammar, Table};
 use spv_inst::{Fault, Rule, Stop, decode};
 use spv_text::{AsmCode, AsmError, assemble, show_image, show_listed};
 use spv_words::{Image, word};

@@ -1,6 +1,6 @@
 //! Modules and their texts, as worked out by hand.
 
-use spv_grammar::Table;
+use spv_grammar::{FromGrammar, Table};
 use spv_inst::Operand::{Id, Mask, Number, OfType, Result as Made, Text, Value, Word};
 use spv_inst::{EncodeCode, EncodeError, Module};
 use spv_text::show;

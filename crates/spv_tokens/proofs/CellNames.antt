@@ -2,7 +2,7 @@
 use Rattle.std.proofs.Common.{◌≡◌, ◌≢◌, ◌++◌, ◌∙◌, ◌<◌, ◌≤◌, ◌+◌, ◌-◌, ◌*◌, ◌%◌, ◌^◌, ℕ, List, [], ◌∷◌, Option, Some, None, sym, ap, arith, append_assoc}
 use Rattle.std.specs.Prelude.{option_map}
 use Rattle.std.proofs.lemmas.Nat.{one_shl}
-use Rattle.spv_inst.specs.Spelling.{set_bits}
+use Rattle.spv_module.specs.Spelling.{set_bits}
 use Rattle.spv_lines.specs.Name.{IsNameOf, AreNamesOf}
 use Rattle.spv_lines.proofs.Naming.{head_name}
 use Rattle.spv_tokens.specs.Answer.{cells, cells_left, IsNamed, IsNamedBits}

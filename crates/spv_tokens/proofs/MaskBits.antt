@@ -4,7 +4,7 @@ use Rattle.std.specs.Prelude.{if◌then◌else◌}
 use Rattle.std.specs.List.{filter}
 use Rattle.std.proofs.Math.Nat.{pow-succ', div-div-eq-div-mul, add-mul-div_left}
 use Rattle.std.proofs.lemmas.Bool.Decides.{nat_tests}
-use Rattle.spv_inst.specs.Spelling.{bits_from, set_bits}
+use Rattle.spv_module.specs.Spelling.{bits_from, set_bits}
 
 -- is a bit of a mask set
 abbrev pub is_set : ℕ → ℕ → Bool

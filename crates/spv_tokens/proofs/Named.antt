@@ -3,12 +3,12 @@ use Rattle.std.proofs.Common.{◌≡◌, ◌∙◌, ◌<◌, ◌^◌, ℕ, List,
 use Rattle.std.specs.Prelude.{decimal, not, option_map, Result as Answer, Ok, Err}
 use Rattle.std.proofs.lemmas.List.Splits.{join_with_byte-slice_split}
 use Rattle.std.proofs.lemmas.Bool.Decides.{nat_tests}
-use Rattle.spv_grammar.specs.declared.table.Enumerant.{Enumerant}
-use Rattle.spv_grammar.specs.Table.{Table, Sort, kind_of}
-use Rattle.spv_grammar.specs.Lookups.{value_named}
-use Rattle.spv_inst.specs.Operand.{Plain, Value, Mask}
-use Rattle.spv_inst.specs.Shape.{Slot, AsValue, AsMask}
-use Rattle.spv_inst.specs.Spelling.{Takes, parameters_of, mask_parameters, set_bits}
+use Rattle.spv_table.specs.declared.table.Enumerant.{Enumerant}
+use Rattle.spv_table.specs.Table.{Table, Sort, kind_of}
+use Rattle.spv_table.specs.Lookups.{value_named}
+use Rattle.spv_module.specs.Operand.{Plain, Value, Mask}
+use Rattle.spv_module.specs.Shape.{Slot, AsValue, AsMask}
+use Rattle.spv_module.specs.Spelling.{Takes, parameters_of, mask_parameters, set_bits}
 use Rattle.spv_inst.specs.Reading.{enumerants_at}
 use Rattle.spv_lines.specs.Digits.{IsLarge}
 use Rattle.spv_lines.specs.Name.{is_plain, IsNameOf, AreNamesOf, Names, NamesMask, by_number, mask_values, joined}

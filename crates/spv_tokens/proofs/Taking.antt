@@ -2,10 +2,10 @@
 use Rattle.std.proofs.Common.{◌≡◌, ◌≢◌, ◌++◌, ◌∙◌, ◌<◌, ◌≤◌, ◌+◌, ◌*◌, ◌/◌, ◌%◌, ◌^◌, ℕ, List, [], ◌∷◌, Option, Some, None, Bool, true, false, nat_eq, nat_le, length, take, drop, refl, sym, ap, arith}
 use Rattle.std.specs.Prelude.{decimal, codes, Err}
 use Rattle.std.proofs.lemmas.List.{append_cancel_left}
-use Rattle.spv_grammar.specs.Table.{Table}
-use Rattle.spv_inst.specs.Operand.{Plain, OfType, Result, Id, Word, Number}
-use Rattle.spv_inst.specs.Shape.{Slot, Shape, AsType, AsResult, AsId, AsWord, AsNumber}
-use Rattle.spv_inst.specs.Spelling.{Takes}
+use Rattle.spv_table.specs.Table.{Table}
+use Rattle.spv_module.specs.Operand.{Plain, OfType, Result, Id, Word, Number}
+use Rattle.spv_module.specs.Shape.{Slot, Shape, AsType, AsResult, AsId, AsWord, AsNumber}
+use Rattle.spv_module.specs.Spelling.{Takes}
 use Rattle.spv_inst.specs.Written.{fits_width}
 use Rattle.spv_lines.specs.Digits.{is_number, hex_digits, IsLarge}
 use Rattle.spv_lines.specs.Operand.{IsRead}

@@ -1,13 +1,13 @@
 -- What the readers of tokens answer. (Own.)
 use Rattle.std.specs.Prelude.{◌≡◌, ◌<◌, ◌^◌, ◌++◌, ◌∷◌, [], ℕ, List, Option, Some, None, Bool, true, false, nat_eq, decimal, Result, Ok, Err}
 use Rattle.std.specs.List.{slice_split}
-use Rattle.spv_grammar.specs.Table.{Table, kind_of}
-use Rattle.spv_grammar.specs.Lookups.{value_named}
-use Rattle.spv_inst.specs.declared.operand.Operand.{Operand}
-use Rattle.spv_inst.specs.Operand.{Plain}
-use Rattle.spv_inst.specs.Module.{plain_operand}
-use Rattle.spv_inst.specs.Shape.{Slot, Shape}
-use Rattle.spv_inst.specs.Spelling.{Takes, set_bits}
+use Rattle.spv_table.specs.Table.{Table, kind_of}
+use Rattle.spv_table.specs.Lookups.{value_named}
+use Rattle.spv_module.specs.declared.operand.Operand.{Operand}
+use Rattle.spv_module.specs.Operand.{Plain}
+use Rattle.spv_module.specs.Module.{plain_operand}
+use Rattle.spv_module.specs.Shape.{Slot, Shape}
+use Rattle.spv_module.specs.Spelling.{Takes, set_bits}
 use Rattle.spv_inst.specs.Reading.{enumerants_at}
 use Rattle.spv_inst.specs.Written.{is_fit, HasText, operand_words}
 use Rattle.spv_lines.specs.Digits.{is_number, hex_digit, hex_digits, IsLarge}

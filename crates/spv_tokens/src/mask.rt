@@ -6,7 +6,7 @@ ghost use Rattle.spv_tokens.specs.Answer.{IsNamedBits, IsNamedMask, cells, cells
 
 use crate::name::named_value;
 use crate::split::split_cell;
-use spv_grammar::Table;
+use spv_table::Table;
 
 /// The mask of a kind whose bits plain names tell, joined by `|`, the smaller bit first. `first` is the value of the first name,
 /// and `names` what stands behind its `|`, if there is one.

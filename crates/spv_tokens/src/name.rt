@@ -2,8 +2,8 @@
 
 ghost use Rattle.std.specs.Prelude.{◌≡◌, ◌<◌, ◌^◌, ◌∷◌, ℕ, List, Bool, true, false, Some, None};
 ghost use Rattle.std.specs.List.{list_all};
-ghost use Rattle.spv_grammar.specs.Table.{kind_of};
-ghost use Rattle.spv_inst.specs.Shape.{AsMask, AsValue};
+ghost use Rattle.spv_table.specs.Table.{kind_of};
+ghost use Rattle.spv_module.specs.Shape.{AsMask, AsValue};
 ghost use Rattle.spv_inst.specs.Reading.{enumerants_at};
 ghost use Rattle.spv_lines.specs.Name as spec;
 ghost use Rattle.spv_tokens.specs.Answer.{IsMaskText, IsNamed, IsToken, IsValueText, names_in};
@@ -11,9 +11,9 @@ ghost use Rattle.spv_tokens.specs.Answer.{IsMaskText, IsNamed, IsToken, IsValueT
 use crate::mask::named_mask;
 use crate::misread::Misread;
 use crate::number::read_behind;
-use spv_grammar::Table;
-use spv_inst::Operand;
 use spv_inst::due::{knows, knows_bits};
+use spv_module::Operand;
+use spv_table::Table;
 
 /// Whether an octet is an ASCII letter, a digit or `_`.
 fn is_name_octet(octet: u8) -> bool

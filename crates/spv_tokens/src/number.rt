@@ -1,13 +1,13 @@
 //! Numbers as a text has them.
 
 ghost use Rattle.std.specs.Prelude.{◌≡◌, ◌<◌, ◌≤◌, ◌+◌, ◌*◌, ◌^◌, ◌++◌, ◌∷◌, ℕ, List, Bool, true, false, not, Some, None, SomeIff, MatchOption, option_map};
-ghost use Rattle.spv_grammar.specs.Table.{Table};
-ghost use Rattle.spv_inst.specs.Shape.{AsId, AsNumber, AsResult, AsType, AsWord};
+ghost use Rattle.spv_table.specs.Table.{Table};
+ghost use Rattle.spv_module.specs.Shape.{AsId, AsNumber, AsResult, AsType, AsWord};
 ghost use Rattle.spv_lines.specs.Digits.{hex_digits, is_lean};
 ghost use Rattle.spv_tokens.specs.Answer.{IsBehind, IsBelow, IsDigit, IsEight, IsToken};
 
 use crate::misread::Misread;
-use spv_inst::Operand;
+use spv_module::Operand;
 
 /// A number below this one has room for one more digit.
 const SHORT: u64 = 1_000_000_000_000_000_000;

@@ -1,6 +1,6 @@
 //! Tokens, and the operands that they are, as worked out by hand.
 
-use spv_grammar::Table;
+use spv_grammar::{FromGrammar, Table};
 use spv_inst::Operand::{Id, Mask, Number, OfType, Result as Made, Value, Word};
 use spv_tokens::{
     Misread, behind, is_plain, read_behind, read_front, read_id, read_mask, read_number,

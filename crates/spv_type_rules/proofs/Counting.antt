@@ -8,9 +8,9 @@ use Rattle.std.proofs.lemmas.List.Sums.{length-filter}
 use Rattle.std.proofs.lemmas.List.Elements.{filter-append}
 use Rattle.std.proofs.lemmas.List.{drop_all, length-take, take_more, drop-append-le}
 use Rattle.std.proofs.lemmas.Option.{slice_get-map, slice_get_within}
-use Rattle.spv_inst.specs.Operand.{PlainInst}
-use Rattle.spv_inst.specs.Module.{plain_inst}
-use Rattle.spv_inst.specs.declared.module.Inst.{Inst}
+use Rattle.spv_module.specs.Operand.{PlainInst}
+use Rattle.spv_module.specs.Module.{plain_inst}
+use Rattle.spv_module.specs.declared.module.Inst.{Inst}
 use Rattle.spv_layout.specs.declared.class.Class.TheVariants.{Function}
 use Rattle.spv_layout.specs.Class.{is_among}
 use Rattle.spv_layout.specs.Row.{PlainRow, row_in}

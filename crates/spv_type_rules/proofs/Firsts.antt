@@ -1,10 +1,10 @@
 -- The rules Y2 to Y8 in their order.
 use Rattle.std.proofs.Common.{◌≡◌, ◌<◌, ◌↔◌, ℕ, List, Some, Bool, true, false, refl, sym, ◌∙◌, subst, arith, lit<, lit≤}
 use Rattle.std.specs.Prelude.{IsTrue, slice_get}
-use Rattle.spv_grammar.specs.Table.{Table}
-use Rattle.spv_inst.specs.Operand.{PlainInst}
-use Rattle.spv_inst.specs.declared.fault.Rule.{Rule}
-use Rattle.spv_inst.specs.declared.fault.Rule.TheVariants as rule
+use Rattle.spv_table.specs.Table.{Table}
+use Rattle.spv_module.specs.Operand.{PlainInst}
+use Rattle.spv_module.specs.declared.fault.Rule.{Rule}
+use Rattle.spv_module.specs.declared.fault.Rule.TheVariants as rule
 use Rattle.spv_layout.specs.First.{rank_of}
 use Rattle.spv_ops.specs.Typed.{IsTyped, IsTypedAt}
 use Rattle.spv_type_rules.specs.Keeps.{Keeps, KeepsFunctions, KeepsReturns, CallsAreSound}

@@ -1,7 +1,7 @@
 -- An instruction without its result is told by its key.
 use Rattle.std.proofs.Common.{◌≡◌, ◌+◌, ℕ, List, [], ◌∷◌, ◌++◌, refl, sym, ap, map, arith, nat_eq, true, false}
 use Rattle.std.proofs.lemmas.Bool.{eq-eqb}
-use Rattle.spv_inst.specs.Operand.{Plain, OfType, Result, Id, Word, Number, Text, Value, Mask, PlainInst}
+use Rattle.spv_module.specs.Operand.{Plain, OfType, Result, Id, Word, Number, Text, Value, Mask, PlainInst}
 use Rattle.spv_ops.specs.Parts.{after_result}
 use Rattle.spv_type_rules.specs.Repeat.{AreAlike}
 use Rattle.spv_type_rules.specs.Key.{operand_numbers, all_numbers, all_numbers_of, mixed, key_of}

@@ -2,8 +2,8 @@
 use Rattle.std.proofs.Common.{◌≡◌, ◌+◌, ◌↔◌, ℕ, List, [], ◌∷◌, Option, Some, None, Bool, true, false, ◌&&◌, option_and_then, length, refl}
 use Rattle.std.specs.Prelude.{IsTrue, IsSomeAnd}
 use Rattle.std.specs.List.{AllByRecursion}
-use Rattle.spv_inst.specs.Operand.{PlainInst, type_in}
-use Rattle.spv_inst.specs.Width.{definition_of, type_of}
+use Rattle.spv_module.specs.Operand.{PlainInst, type_in}
+use Rattle.spv_module.specs.Width.{definition_of, type_of}
 use Rattle.spv_ops.specs.Parts.{part_of, count_of}
 use Rattle.spv_ops.specs.Tests.{are_same, are_parts_from}
 use Rattle.spv_ops.proofs.TagTests.{fills_typed}

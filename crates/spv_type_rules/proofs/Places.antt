@@ -1,7 +1,7 @@
 -- The function that an instruction is of.
 use Rattle.std.proofs.Common.{◌≡◌, ◌↔◌, ℕ, List, Some, subst}
 use Rattle.std.specs.Prelude.{slice_get, IsSomeAnd}
-use Rattle.spv_inst.specs.Operand.{PlainInst}
+use Rattle.spv_module.specs.Operand.{PlainInst}
 use Rattle.spv_layout.specs.Place.{IsOfFunction}
 use Rattle.spv_type_rules.specs.Function.{OfFunction}
 use Rattle.spv_type_rules.specs.Found.{IsOfOne}

@@ -1,7 +1,7 @@
 -- Whether an id is defined after an instruction as a pointer, by its one definition.
 use Rattle.std.proofs.Common.{◌≡◌, ◌<◌, ◌↔◌, ℕ, List, Option, Some, None, sym, ◌∙◌, subst}
 use Rattle.std.specs.Prelude.{slice_get, IsTrue, false}
-use Rattle.spv_inst.specs.Operand.{PlainInst}
+use Rattle.spv_module.specs.Operand.{PlainInst}
 use Rattle.spv_ids.specs.Outcome.{IsDefinitionOf, IsOnly}
 use Rattle.spv_ops.specs.Form.{form_in}
 use Rattle.spv_ops.specs.Types.{class_in}

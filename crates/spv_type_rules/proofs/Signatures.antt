@@ -2,8 +2,8 @@
 use Rattle.std.proofs.Common.{◌≡◌, ℕ, List, [], ◌∷◌, Option, Some, None, Bool, true, false, nat_eq, ◌&&◌, option_and_then, option_map, ◌↔◌, refl, map, sym, ◌∙◌, ap}
 use Rattle.std.specs.Prelude.{IsSomeAnd}
 use Rattle.std.proofs.lemmas.Bool.{eqb-true, eq-eqb}
-use Rattle.spv_inst.specs.Operand.{Plain, PlainInst, OfType, Result, Id, Word, Number, Text, Value, Mask}
-use Rattle.spv_inst.specs.Width.{type_of}
+use Rattle.spv_module.specs.Operand.{Plain, PlainInst, OfType, Result, Id, Word, Number, Text, Value, Mask}
+use Rattle.spv_module.specs.Width.{type_of}
 use Rattle.spv_ops.specs.Tests.{passes}
 use Rattle.spv_ops.specs.Values.{types_of}
 use Rattle.spv_type_rules.specs.Found.{are_typed, has_signature}

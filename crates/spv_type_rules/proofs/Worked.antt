@@ -1,9 +1,9 @@
 -- What the small modules of the worked examples have.
 use Rattle.std.proofs.Common.{◌≡◌, ◌<◌, ℕ, zero, suc, List, [], ◌∷◌, Option, Some, None, true, false, refl, sym, subst, inl, inr, arith, lit<, lit≤}
 use Rattle.std.specs.Prelude.{slice_get, take, IsSomeAnd}
-use Rattle.spv_grammar.specs.Table.{Table}
-use Rattle.spv_inst.specs.Operand.{Plain, OfType, Result, Id, Word, Value, PlainInst, type_in}
-use Rattle.spv_inst.specs.declared.fault.Rule.TheVariants as rule
+use Rattle.spv_table.specs.Table.{Table}
+use Rattle.spv_module.specs.Operand.{Plain, OfType, Result, Id, Word, Value, PlainInst, type_in}
+use Rattle.spv_module.specs.declared.fault.Rule.TheVariants as rule
 use Rattle.spv_layout.specs.declared.class.Class.TheVariants.{Function, FunctionEnd}
 use Rattle.spv_layout.specs.Rows.{rows}
 use Rattle.spv_layout.specs.Place.{IsAt, IsOfFunction}

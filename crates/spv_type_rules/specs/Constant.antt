@@ -1,8 +1,8 @@
 -- Y4: constants. [3.49.7]
 use Rattle.std.specs.Prelude.{◌<◌, ◌^◌, ◌⊎◌, ℕ, List, [], ◌∷◌, Option, Some, None, Bool, true, false, nat_eq, nat_le, ◌&&◌, ◌||◌, if◌then◌else◌, IsTrue, IsSomeAnd, MatchOption}
 use Rattle.std.specs.List.{AllByRecursion}
-use Rattle.spv_inst.specs.Operand.{Plain, Number, PlainInst, type_in}
-use Rattle.spv_inst.specs.Width.{definition_of}
+use Rattle.spv_module.specs.Operand.{Plain, Number, PlainInst, type_in}
+use Rattle.spv_module.specs.Width.{definition_of}
 use Rattle.spv_ops.specs.Types.{IsInt, IsFloat, IsBool, IsData}
 use Rattle.spv_ops.specs.Operands.{ids_in, after_head}
 use Rattle.spv_ops.specs.Composite.{AreParts}

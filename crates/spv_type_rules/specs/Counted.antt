@@ -1,6 +1,6 @@
 -- How many parameters stand after the last OpFunction before an instruction. (For the code alone.)
 use Rattle.std.specs.Prelude.{◌≡◌, ◌<◌, ◌≤◌, ℕ, List, [], ◌∷◌}
-use Rattle.spv_inst.specs.Operand.{PlainInst}
+use Rattle.spv_module.specs.Operand.{PlainInst}
 use Rattle.spv_layout.specs.declared.class.Class.TheVariants.{Function}
 use Rattle.spv_layout.specs.Place.{IsAt}
 use Rattle.spv_type_rules.specs.Function.{parameters_between}

@@ -1,8 +1,8 @@
 -- Y2: type declarations. [3.49.6; widths and counts own]
 use Rattle.std.specs.Prelude.{◌≡◌, ◌≤◌, ◌<◌, ◌⊎◌, ℕ, List, [], ◌∷◌, Option, Some, None, nat_eq, if◌then◌else◌, IsSomeAnd, MatchOption}
 use Rattle.std.specs.List.{AllByRecursion}
-use Rattle.spv_inst.specs.Operand.{Plain, Result, Id, Word, Value, PlainInst}
-use Rattle.spv_inst.specs.Width.{type_of}
+use Rattle.spv_module.specs.Operand.{Plain, Result, Id, Word, Value, PlainInst}
+use Rattle.spv_module.specs.Width.{type_of}
 use Rattle.spv_ids.specs.Definition.{IsDefinedAt}
 use Rattle.spv_ops.specs.declared.form.Form.TheVariants as form
 use Rattle.spv_ops.specs.Form.{form_in, form_of}

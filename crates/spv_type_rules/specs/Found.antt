@@ -1,7 +1,7 @@
 -- What the code finds of functions and arguments, and of the parts of constants. (For the code alone.)
 use Rattle.std.specs.Prelude.{◌≡◌, ◌+◌, ℕ, List, [], ◌∷◌, Option, Some, None, Bool, true, false, nat_eq, ◌&&◌, slice_get}
-use Rattle.spv_inst.specs.Operand.{Plain, Id, PlainInst, type_in}
-use Rattle.spv_inst.specs.Width.{definition_of}
+use Rattle.spv_module.specs.Operand.{Plain, Id, PlainInst, type_in}
+use Rattle.spv_module.specs.Width.{definition_of}
 use Rattle.spv_layout.specs.Place.{IsOfFunction}
 use Rattle.spv_ops.specs.Parts.{part_of}
 use Rattle.spv_ops.specs.Tests as tests

@@ -1,7 +1,7 @@
 -- Y6, Y7 and Y8: functions, parameters, returns and calls against function types. [3.49.9, 3.49.17]
 use Rattle.std.specs.Prelude.{◌≡◌, ◌+◌, ℕ, List, [], ◌∷◌, Option, Some, None, nat_eq, not, ◌||◌, if◌then◌else◌, count_by, length, map, take, drop, take_while, slice_get, option_and_then, IsSomeAnd}
-use Rattle.spv_inst.specs.Operand.{Plain, Id, PlainInst, type_in}
-use Rattle.spv_inst.specs.Width.{definition_of}
+use Rattle.spv_module.specs.Operand.{Plain, Id, PlainInst, type_in}
+use Rattle.spv_module.specs.Width.{definition_of}
 use Rattle.spv_layout.specs.Place.{IsOfFunction}
 use Rattle.spv_ops.specs.declared.form.Form.TheVariants as form
 use Rattle.spv_ops.specs.Form.{form_of}

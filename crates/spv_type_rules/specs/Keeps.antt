@@ -1,9 +1,9 @@
 -- What the rules Y2 to Y8 demand of an instruction. (Own: table C.)
 use Rattle.std.specs.Prelude.{◌≡◌, ℕ, List}
-use Rattle.spv_grammar.specs.Table.{Table}
-use Rattle.spv_inst.specs.declared.fault.Rule.{Rule}
-use Rattle.spv_inst.specs.declared.fault.Rule.TheVariants as rule
-use Rattle.spv_inst.specs.Operand.{PlainInst}
+use Rattle.spv_table.specs.Table.{Table}
+use Rattle.spv_module.specs.declared.fault.Rule.{Rule}
+use Rattle.spv_module.specs.declared.fault.Rule.TheVariants as rule
+use Rattle.spv_module.specs.Operand.{PlainInst}
 use Rattle.spv_ops.specs.Typed.{IsTyped}
 use Rattle.spv_type_rules.specs.Declaration.{IsSoundDeclaration}
 use Rattle.spv_type_rules.specs.Repeat.{Repeats}

@@ -1,7 +1,7 @@
 -- An instruction without its result, as a list of numbers, after a fingerprint of them. (For the code alone; `one_key` says that it is told
 -- by them.)
 use Rattle.std.specs.Prelude.{ℕ, ◌+◌, ◌*◌, ◌%◌, List, [], ◌∷◌, ◌++◌, map}
-use Rattle.spv_inst.specs.Operand.{Plain, OfType, Result, Id, Word, Number, Text, Value, Mask, PlainInst}
+use Rattle.spv_module.specs.Operand.{Plain, OfType, Result, Id, Word, Number, Text, Value, Mask, PlainInst}
 use Rattle.spv_ops.specs.Parts.{after_result}
 
 -- an operand; a text by its octets, each a number above 0, and a 0

@@ -1,6 +1,6 @@
 -- Y3: types that are declared twice. [2.8]
 use Rattle.std.specs.Prelude.{◌≡◌, ◌<◌, ℕ, List, Some, Bool, nat_eq, nat_le, ◌&&◌, ◌||◌, IsTrue, slice_get}
-use Rattle.spv_inst.specs.Operand.{PlainInst}
+use Rattle.spv_module.specs.Operand.{PlainInst}
 use Rattle.spv_ops.specs.Parts.{after_result}
 
 -- OpTypeVoid, Bool, Int, Float and Vector (19 to 23), OpTypeOpaque (31) and OpTypeFunction (33)

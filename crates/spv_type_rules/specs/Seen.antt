@@ -2,7 +2,7 @@
 use Rattle.std.specs.Prelude.{◌≡◌, ◌<◌, ◌⊎◌, ℕ, List, [], ◌∷◌, Some, IsTrue, slice_get}
 use Rattle.std.specs.Prelude.{Vec}
 use Rattle.std.specs.Global.{Global}
-use Rattle.spv_inst.specs.Operand.{PlainInst}
+use Rattle.spv_module.specs.Operand.{PlainInst}
 use Rattle.spv_type_rules.specs.declared.repeat.Seen.{Seen}
 use Rattle.spv_type_rules.specs.Repeat.{is_declared_once}
 use Rattle.spv_type_rules.specs.Key.{key_of}

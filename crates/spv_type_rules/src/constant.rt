@@ -1,7 +1,7 @@
 ghost use Rattle.std.specs.Prelude.{◌≡◌, ◌↔◌, Some, IsTrue, true, length, nat_eq};
-ghost use Rattle.spv_inst.specs.Module.{plain_inst, plain_operands};
-ghost use Rattle.spv_inst.specs.Operand as operand;
-ghost use Rattle.spv_inst.specs.Width.{definition_of};
+ghost use Rattle.spv_module.specs.Module.{plain_inst, plain_operands};
+ghost use Rattle.spv_module.specs.Operand as operand;
+ghost use Rattle.spv_module.specs.Width.{definition_of};
 ghost use Rattle.spv_ops.specs.Operands.{ids_in};
 ghost use Rattle.spv_ops.specs.Parts.{count_of};
 ghost use Rattle.spv_ops.specs.Tests.{passes};
@@ -11,7 +11,7 @@ ghost use Rattle.spv_type_rules.specs.declared.constant.Constant.TheVariants as 
 ghost use Rattle.spv_type_rules.specs.Constant.{FitsWidth, AreConstantParts, Constitutes, IsSoundConstant};
 ghost use Rattle.spv_type_rules.specs.Found as found;
 
-use spv_inst::{Inst, Operand};
+use spv_module::{Inst, Operand};
 use spv_ops::{Definitions, Form, Scalar, after_head, count, id_count, is_data, parts_of, type_in};
 
 /// The constants by what they are made of (SPIR-V Specification 1.6, section 3.49.7), the spec forms too.

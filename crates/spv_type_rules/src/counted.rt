@@ -1,10 +1,10 @@
 ghost use Rattle.std.specs.Prelude.{◌≡◌, ◌<◌, ◌+◌, ℕ, List, Some, slice_get, nat_eq, if◌then◌else◌};
-ghost use Rattle.spv_inst.specs.Operand.{PlainInst};
-ghost use Rattle.spv_inst.specs.Module.{plain_inst};
+ghost use Rattle.spv_module.specs.Operand.{PlainInst};
+ghost use Rattle.spv_module.specs.Module.{plain_inst};
 ghost use Rattle.spv_type_rules.specs.Counted.{AreCounted};
 
 use crate::opcode::{FUNCTION, PARAMETER};
-use spv_inst::Inst;
+use spv_module::Inst;
 
 /// How many parameters stand after the last OpFunction before the instruction after one of an opcode.
 #[inline(always)]

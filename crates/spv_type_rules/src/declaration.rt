@@ -1,6 +1,6 @@
 ghost use Rattle.std.specs.Prelude.{◌≡◌, ◌≤◌, ◌↔◌, ℕ, [], IsTrue, IsSomeAnd, MatchOption, Some};
 ghost use Rattle.std.specs.List.{AllByRecursion};
-ghost use Rattle.spv_inst.specs.Module.{plain_inst, plain_operands};
+ghost use Rattle.spv_module.specs.Module.{plain_inst, plain_operands};
 ghost use Rattle.spv_ops.specs.Operands.{ids_in};
 ghost use Rattle.spv_ids.specs.Outcome.{IsDefinitionOf, definition_in};
 ghost use Rattle.spv_ops.specs.Types.{IsData, class_in};
@@ -10,7 +10,7 @@ ghost use Rattle.spv_type_rules.specs.declared.declaration.Declaration.TheVarian
 ghost use Rattle.spv_type_rules.specs.Declaration.{IsIntWidth, IsFloatWidth, IsVectorCount, IsLength, IsPointee, IsReturned, IsPointerAfter, Declares, IsSoundDeclaration};
 
 use spv_ids::Ids;
-use spv_inst::{Inst, Operand};
+use spv_module::{Inst, Operand};
 use spv_ops::{Definitions, Form, form_in, is_data, is_int, length};
 
 /// The type declarations that may be unsound (SPIR-V Specification 1.6, section 3.49.6).

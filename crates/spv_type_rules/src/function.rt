@@ -1,8 +1,8 @@
 //! Functions, parameters, returns and calls against function types.
 
 ghost use Rattle.std.specs.Prelude.{◌≡◌, ◌<◌, ◌+◌, ◌↔◌, ◌∷◌, ℕ, List, Some, true, take, map, slice_get, length, IsTrue, IsSomeAnd, option_map, option_and_then, MatchOption, nat_eq, ◌||◌};
-ghost use Rattle.spv_inst.specs.Operand.{PlainInst, Id, type_in as plain_type_in};
-ghost use Rattle.spv_inst.specs.Module.{plain_inst, plain_operand, plain_operands};
+ghost use Rattle.spv_module.specs.Operand.{PlainInst, Id, type_in as plain_type_in};
+ghost use Rattle.spv_module.specs.Module.{plain_inst, plain_operand, plain_operands};
 ghost use Rattle.spv_layout.specs.Place.{IsOfFunction};
 ghost use Rattle.spv_ops.specs.Operands.{ids_in};
 ghost use Rattle.spv_ops.specs.Parts.{id_in};
@@ -12,8 +12,8 @@ ghost use Rattle.spv_type_rules.specs.Function.{ReturnsNothing, ReturnsTyped, Is
 ghost use Rattle.spv_type_rules.specs.Found.{IsOfOne, are_typed, has_signature, has_type};
 
 use crate::opcode::{FUNCTION, FUNCTION_END, LABEL, PARAMETER, TYPE_FUNCTION};
-use spv_inst::{Inst, Operand};
 use spv_layout::laws::one_standing;
+use spv_module::{Inst, Operand};
 use spv_ops::{Definitions, Form, after_head, after_result, type_in};
 
 /// A function, and the number of its OpFunction.

@@ -1,10 +1,10 @@
 //! Worked examples. Each function does nothing: its contract is what is proved.
 
 ghost use Rattle.std.specs.Prelude.{◌≡◌, [], ◌∷◌, Some, None, false};
-ghost use Rattle.spv_grammar.specs.Table.{Table};
-ghost use Rattle.spv_inst.specs.declared.fault.Rule.TheVariants as rule;
-ghost use Rattle.spv_inst.specs.Operand.{PlainInst, OfType, Result, Id, Word, Value, Mask};
-ghost use Rattle.spv_inst.specs.Example.{small as table};
+ghost use Rattle.spv_table.specs.Table.{Table};
+ghost use Rattle.spv_module.specs.declared.fault.Rule.TheVariants as rule;
+ghost use Rattle.spv_module.specs.Operand.{PlainInst, OfType, Result, Id, Word, Value, Mask};
+ghost use Rattle.spv_module.specs.Example.{small as table};
 ghost use Rattle.spv_ops.specs.Example.{inst, add, add_floats};
 ghost use Rattle.spv_type_rules.specs.Declaration.{IsIntWidth, IsFloatWidth, IsVectorCount, IsLength, IsPointee, IsReturned, IsPointerAfter, Declares, IsSoundDeclaration};
 ghost use Rattle.spv_type_rules.specs.declared.declaration.Declaration.TheVariants as kind;

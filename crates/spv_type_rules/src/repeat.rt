@@ -1,15 +1,15 @@
 //! Types that are declared twice.
 
 ghost use Rattle.std.specs.Prelude.{◌≡◌, ◌+◌, ◌++◌, ◌↔◌, ◌⊎◌, ℕ, List, Some, IsTrue, IfOk, OnOk, slice_get, map, [], ◌∷◌, MatchBool, true};
-ghost use Rattle.spv_inst.specs.Operand.{PlainInst};
-ghost use Rattle.spv_inst.specs.Module.{plain_inst, plain_operand};
+ghost use Rattle.spv_module.specs.Operand.{PlainInst};
+ghost use Rattle.spv_module.specs.Module.{plain_inst, plain_operand};
 ghost use Rattle.spv_type_rules.specs.Repeat as spec;
 ghost use Rattle.spv_type_rules.specs.Repeat.{Repeats};
 ghost use Rattle.spv_type_rules.specs.Key as key;
 ghost use Rattle.spv_type_rules.specs.Key.{operand_numbers};
 ghost use Rattle.spv_type_rules.specs.Seen.{AreSeen, HasKey};
 
-use spv_inst::{Inst, Operand};
+use spv_module::{Inst, Operand};
 use spv_ops::after_result;
 use std::alloc::{AllocError, Global};
 use std::collections::BTreeSet;

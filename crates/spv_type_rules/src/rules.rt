@@ -1,8 +1,8 @@
 //! The rules of types at an instruction.
 
 ghost use Rattle.std.specs.Prelude.{◌≡◌, ◌<◌, ◌↔◌, ℕ, length, map, Some, None, IsTrue, if◌then◌else◌, slice_get};
-ghost use Rattle.spv_grammar.specs.Table.{Table};
-ghost use Rattle.spv_inst.specs.Module.{plain_inst, plain_insts};
+ghost use Rattle.spv_table.specs.Table.{Table};
+ghost use Rattle.spv_module.specs.Module.{plain_inst, plain_insts};
 ghost use Rattle.spv_layout.specs.Place.{IsOfFunction};
 ghost use Rattle.spv_layout.specs.Plan.{IsPlan};
 ghost use Rattle.spv_ids.specs.Outcome.{IsDefinitionOf, definition_in};
@@ -21,8 +21,8 @@ use crate::function::{
 };
 use crate::opcode::{FUNCTION, FUNCTION_CALL, PARAMETER, RETURN, RETURN_VALUE};
 use spv_ids::Ids;
-use spv_inst::{Inst, Module, Rule};
 use spv_layout::Plan;
+use spv_module::{Inst, Module, Rule};
 use spv_ops::{Definitions, inst_holds};
 
 /// A rule, unless it is kept.

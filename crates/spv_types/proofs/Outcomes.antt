@@ -1,11 +1,11 @@
 -- The worked examples of what `type_check` answers.
 use Rattle.std.proofs.Common.{◌≡◌, ◌≤◌, ℕ, zero, suc, [], ◌∷◌, Option, Some, None, true, false, refl, subst, inl, inr, arith, lit≤}
 use Rattle.std.specs.Prelude.{slice_get}
-use Rattle.spv_grammar.specs.Table.{Table}
-use Rattle.spv_inst.specs.Operand.{OfType, Result, Word, Number, Value, PlainInst}
-use Rattle.spv_inst.specs.declared.fault.Rule.{Rule}
-use Rattle.spv_inst.specs.declared.fault.Rule.TheVariants.{C1, M1}
-use Rattle.spv_inst.specs.declared.fault.Stop.TheVariants.{Fault}
+use Rattle.spv_table.specs.Table.{Table}
+use Rattle.spv_module.specs.Operand.{OfType, Result, Word, Number, Value, PlainInst}
+use Rattle.spv_module.specs.declared.fault.Rule.{Rule}
+use Rattle.spv_module.specs.declared.fault.Rule.TheVariants.{C1, M1}
+use Rattle.spv_module.specs.declared.fault.Stop.TheVariants.{Fault}
 use Rattle.spv_layout.specs.declared.form.Role.{Role}
 use Rattle.spv_layout.specs.declared.form.Role.TheVariants as role
 use Rattle.spv_layout.specs.Shape.{IsUse}

@@ -1,8 +1,8 @@
 -- Which rules of roles, capabilities, entry points and types are broken, and where. (Own.)
 use Rattle.std.specs.Prelude.{◌≡◌, ℕ, List, Some, slice_get}
-use Rattle.spv_grammar.specs.Table.{Table}
-use Rattle.spv_inst.specs.Operand.{PlainInst}
-use Rattle.spv_inst.specs.declared.fault.Rule.{Rule}
+use Rattle.spv_table.specs.Table.{Table}
+use Rattle.spv_module.specs.Operand.{PlainInst}
+use Rattle.spv_module.specs.declared.fault.Rule.{Rule}
 use Rattle.spv_roles.specs.Broken as roles
 use Rattle.spv_capabilities.specs.Keeps as capabilities
 use Rattle.spv_type_rules.specs.Keeps as types

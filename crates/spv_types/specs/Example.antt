@@ -1,7 +1,7 @@
 -- Small modules.
 use Rattle.std.specs.Prelude.{List, [], ◌∷◌}
-use Rattle.spv_grammar.specs.Table.{Table}
-use Rattle.spv_inst.specs.Operand.{OfType, Result, Word, Number, Value, PlainInst}
+use Rattle.spv_table.specs.Table.{Table}
+use Rattle.spv_module.specs.Operand.{OfType, Result, Word, Number, Value, PlainInst}
 use Rattle.spv_ops.specs.Example.{inst}
 
 -- OpMemoryModel Physical64 OpenCL, alone

@@ -1,12 +1,12 @@
 //! Laws of the rules, and a worked example. Each function does nothing: its contract is what is proved.
 
 ghost use Rattle.std.specs.Prelude.{◌≡◌, ℕ, List, []};
-ghost use Rattle.spv_grammar.specs.Table.{Table};
-ghost use Rattle.spv_inst.specs.Operand.{PlainInst};
-ghost use Rattle.spv_inst.specs.declared.fault.Rule.{Rule};
+ghost use Rattle.spv_table.specs.Table.{Table};
+ghost use Rattle.spv_module.specs.Operand.{PlainInst};
+ghost use Rattle.spv_module.specs.declared.fault.Rule.{Rule};
 ghost use Rattle.spv_layout.specs.First.{IsFirst};
-ghost use Rattle.spv_inst.specs.declared.fault.Rule.TheVariants.{C1, M1};
-ghost use Rattle.spv_inst.specs.declared.fault.Stop.TheVariants.{Fault};
+ghost use Rattle.spv_module.specs.declared.fault.Rule.TheVariants.{C1, M1};
+ghost use Rattle.spv_module.specs.declared.fault.Stop.TheVariants.{Fault};
 ghost use Rattle.spv_types.specs.Broken.{Broken};
 ghost use Rattle.spv_types.specs.Example.{logical, physical, numbers, table};
 ghost use Rattle.spv_types.specs.Outcome.{AreTypes, IsRefusal};

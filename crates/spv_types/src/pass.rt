@@ -1,15 +1,15 @@
 //! The instructions of a module, one after another.
 
 ghost use Rattle.std.specs.Prelude.{◌≡◌, ◌≤◌, ℕ, IfOk, MatchOption, length, map};
-ghost use Rattle.spv_inst.specs.Module.{plain_inst};
+ghost use Rattle.spv_module.specs.Module.{plain_inst};
 ghost use Rattle.spv_layout.specs.Plan.{IsPlan};
 ghost use Rattle.spv_capabilities.specs.Subject as subject;
 ghost use Rattle.spv_type_rules.specs.Rules.{AreRules, rules_insts};
 ghost use Rattle.spv_types.specs.Pass.{AreKept, IsFirstFault};
 
 use spv_capabilities::Entries;
-use spv_grammar::Memory;
-use spv_inst::{Inst, Rule};
+use spv_module::{Inst, Rule};
+use spv_table::Memory;
 use spv_type_rules::{Known, Rules, Seen, next_count};
 use std::alloc::Global;
 

@@ -1,9 +1,9 @@
 //! The types of a module.
 
 ghost use Rattle.std.specs.Prelude.{◌≡◌, ◌+◌, ◌<◌, ◌≤◌, ℕ, List, IfOk, IfErr, OnOk, Some, length, map, slice_get, sum_by};
-ghost use Rattle.spv_inst.specs.Operand.{PlainInst};
+ghost use Rattle.spv_module.specs.Operand.{PlainInst};
 ghost use Rattle.spv_layout.specs.declared.place.Place.{Place};
-ghost use Rattle.spv_inst.specs.Module.{plain_inst, plain_insts};
+ghost use Rattle.spv_module.specs.Module.{plain_inst, plain_insts};
 ghost use Rattle.spv_layout.specs.First.{IsUnbroken};
 ghost use Rattle.spv_layout.specs.Place.{word_count};
 ghost use Rattle.spv_layout.specs.Plan.{IsPlan, IsPlaceOf};
@@ -13,12 +13,12 @@ ghost use Rattle.spv_types.specs.Outcome.{AreTypes, IsRefusal, type_in};
 
 use crate::pass::{Found, first_fault};
 use spv_capabilities::survey;
-use spv_grammar::Table;
 use spv_ids::Ids;
-use spv_inst::{Fault, Module, Stop};
 use spv_layout::Plan;
+use spv_module::{Fault, Module, Stop};
 use spv_ops::Definitions;
 use spv_roles::roles_check;
+use spv_table::Table;
 use spv_type_rules::Rules;
 use std::alloc::Global;
 

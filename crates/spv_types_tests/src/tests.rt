@@ -1,7 +1,7 @@
 //! Small modules whose types are sound or not, with answers that were worked out by hand. Each case has a name, which a
 //! failed assertion tells.
 
-use spv_grammar::Table;
+use spv_grammar::{FromGrammar, Table};
 use spv_ids::number;
 use spv_inst::{Fault, Rule, Stop, decode};
 use spv_layout::laws::word_counts;

@@ -2,14 +2,14 @@
 use Rattle.std.proofs.Common.{◌≡◌, ◌↔◌, ◌+◌, ◌≤◌, ℕ, List, Result, Ok, IfOk, drop, slice_index, refl}
 use Rattle.spv_words.specs.Header.{IsModule}
 use Rattle.spv_words.specs.declared.words.Order.{Order}
-use Rattle.spv_grammar.specs.Table.{Table}
-use Rattle.spv_grammar.specs.declared.error.Memory.{Memory as OutOfMemory}
-use Rattle.spv_inst.specs.Operand.{PlainInst}
-use Rattle.spv_inst.specs.Instruction.{IsListing}
+use Rattle.spv_table.specs.Table.{Table}
+use Rattle.spv_table.specs.declared.error.Memory.{Memory as OutOfMemory}
+use Rattle.spv_module.specs.Operand.{PlainInst}
+use Rattle.spv_module.specs.Instruction.{IsListing}
 use Rattle.spv_inst.specs.Outcome.{IsDeath, IsHeaderOf}
-use Rattle.spv_inst.specs.Module.{plain_insts}
-use Rattle.spv_inst.specs.declared.fault.Stop.{Stop}
-use Rattle.spv_inst.specs.declared.fault.Stop.TheVariants.{Fault as Faulty, Memory}
+use Rattle.spv_module.specs.Module.{plain_insts}
+use Rattle.spv_module.specs.declared.fault.Stop.{Stop}
+use Rattle.spv_module.specs.declared.fault.Stop.TheVariants.{Fault as Faulty, Memory}
 use Rattle.spv_layout.specs.Place.{word_count}
 use Rattle.spv_verdict.specs.Answer.{IsAnswer, IsFault, SaysValid, StopsAs}
 use Rattle.spv_verdict.specs.Broken.{IsSound, IsTold}
@@ -18,7 +18,7 @@ use Rattle.spv_verdict.specs.Program.{Program}
 use Rattle.spv_verdict.specs.Valid.{IsValid}
 use Rattle.spv_verdict.specs.declared.checked.Verdict.{Verdict}
 use Rattle.spv_verdict.specs.declared.checked.Verdict.TheVariants.{Valid, Fault}
-use Rattle.spv_inst.specs.declared.fault.Rule.{Rule}
+use Rattle.spv_module.specs.declared.fault.Rule.{Rule}
 use Rattle.spv_layout.specs.Broken as layout_rules
 use Rattle.spv_layout.specs.First.{IsUnbroken}
 use Rattle.spv_layout.specs.Plan.{IsPlan}
@@ -30,10 +30,10 @@ use Rattle.spv_type_rules.specs.Keeps as typing_rules
 use Rattle.spv_flow.specs.Outcome.{IsFlow}
 use Rattle.std.specs.Prelude.{Some, slice_get, sum_by}
 use Rattle.spv_verdict.proofs.Firsts.{IsBefore, sound}
-use Rattle.spv_inst.specs.declared.fault.Fault as fault
+use Rattle.spv_module.specs.declared.fault.Fault as fault
 use Rattle.spv_verdict.specs.Verdict.{IsVerdict, fault_line, valid_line}
 use Rattle.spv_verdict.proofs.Verdicts.{Laws, fault_invalid, fault_verdict, valid_of, valid_verdict}
-use Rattle.spv_inst.specs.declared.module.Module.{Module}
+use Rattle.spv_module.specs.declared.module.Module.{Module}
 use Rattle.spv_layout.specs.declared.place.Place.{Place}
 use Rattle.spv_ids.specs.declared.ids.Ids.{Ids}
 use Rattle.spv_flow.specs.declared.flow.Flow.{Flow}

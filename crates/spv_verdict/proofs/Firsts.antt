@@ -1,8 +1,8 @@
 -- The first broken rule of a module, put together from what the layers say of their stages.
 use Rattle.std.proofs.Common.{◌≡◌, ◌<◌, ◌≤◌, ◌⊎◌, ℕ, List, refl, inl, inr, arith}
-use Rattle.spv_grammar.specs.Table.{Table}
-use Rattle.spv_inst.specs.Operand.{PlainInst}
-use Rattle.spv_inst.specs.declared.fault.Rule.{Rule}
+use Rattle.spv_table.specs.Table.{Table}
+use Rattle.spv_module.specs.Operand.{PlainInst}
+use Rattle.spv_module.specs.declared.fault.Rule.{Rule}
 use Rattle.spv_layout.specs.declared.place.Place.{Place}
 use Rattle.spv_layout.specs.DeadPlace.{IsDeadPlace}
 use Rattle.spv_layout.specs.Layout.{IsLayout, classes}
@@ -12,8 +12,8 @@ use Rattle.spv_layout.specs.Broken as layout
 use Rattle.spv_layout.specs.Plan.{IsPlan}
 use Rattle.spv_layout.specs.Plan as plan
 use Rattle.spv_ids.specs.Outcome as outcome
-use Rattle.spv_inst.specs.declared.fault.Stop.{Stop}
-use Rattle.spv_inst.specs.declared.fault.Stop.TheVariants.{Fault, Memory}
+use Rattle.spv_module.specs.declared.fault.Stop.{Stop}
+use Rattle.spv_module.specs.declared.fault.Stop.TheVariants.{Fault, Memory}
 use Rattle.spv_layout.proofs.Brokens.{dead_stage}
 use Rattle.spv_layout.proofs.Firsts.{rank_apart}
 use Rattle.spv_ids.specs.Broken as ids

@@ -8,14 +8,14 @@ use Rattle.spv_words.specs.declared.words.Order.TheVariants.{Little}
 use Rattle.spv_words.specs.Header.{IsModule}
 use Rattle.spv_words.proofs.Standing.{Octets}
 use Rattle.spv_words.proofs.Refusal.{found_module}
-use Rattle.spv_grammar.specs.declared.table.Entry.{Entry}
-use Rattle.spv_grammar.specs.Table.{entry_of, pattern_of}
-use Rattle.spv_inst.specs.Operand.{Plain, OfType, Result, Id, Text, Value, Mask, PlainInst, start}
-use Rattle.spv_inst.specs.Shape.{shape_of}
-use Rattle.spv_inst.specs.Spelling.{Takes, Holds, mask_parameters}
+use Rattle.spv_table.specs.declared.table.Entry.{Entry}
+use Rattle.spv_table.specs.Table.{entry_of, pattern_of}
+use Rattle.spv_module.specs.Operand.{Plain, OfType, Result, Id, Text, Value, Mask, PlainInst, start}
+use Rattle.spv_module.specs.Shape.{shape_of}
+use Rattle.spv_module.specs.Spelling.{Takes, Holds, mask_parameters}
 use Rattle.spv_inst.specs.Flat.{Matches, due}
-use Rattle.spv_inst.specs.Instruction.{IsInstruction, IsListing, Listing, first_word}
-use Rattle.spv_inst.specs.declared.fault.Rule.{Rule}
+use Rattle.spv_module.specs.Instruction.{IsInstruction, IsListing, Listing, first_word}
+use Rattle.spv_module.specs.declared.fault.Rule.{Rule}
 use Rattle.spv_inst.proofs.Joined.{flat_match}
 use Rattle.spv_layout.specs.declared.form.Role.{Role}
 use Rattle.spv_layout.specs.declared.form.Role.TheVariants as role

@@ -2,8 +2,8 @@
 use Rattle.std.proofs.Common.{◌≡◌, ◌<◌, ◌≤◌, ℕ, zero, suc, List, [], ◌∷◌, Option, Some, None, MatchOption, refl, sym, subst, arith, lit<, lit≤}
 use Rattle.std.specs.Prelude.{slice_get}
 use Rattle.std.proofs.lemmas.Option.{none-some, same_Some}
-use Rattle.spv_inst.specs.Module.{plain_insts}
-use Rattle.spv_inst.specs.declared.module.Module.{Module}
+use Rattle.spv_module.specs.Module.{plain_insts}
+use Rattle.spv_module.specs.declared.module.Module.{Module}
 use Rattle.spv_layout.specs.declared.class.Class.{Class}
 use Rattle.spv_layout.specs.declared.class.Class.TheVariants as class
 use Rattle.spv_layout.specs.declared.place.Place.{Place}

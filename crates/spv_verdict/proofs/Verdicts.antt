@@ -4,12 +4,12 @@ use Rattle.spv_words.specs.Header.{IsFirstBroken, IsModule, Refuses}
 use Rattle.spv_words.specs.declared.words.Order.{Order}
 use Rattle.spv_words.specs.declared.words.WordError.{WordError}
 use Rattle.spv_words.specs.declared.words.WordError.TheVariants as word
-use Rattle.spv_grammar.specs.Table.{Table}
-use Rattle.spv_inst.specs.Operand.{PlainInst}
-use Rattle.spv_inst.specs.Instruction.{IsListing}
-use Rattle.spv_inst.specs.Dead.{IsDeadAt}
-use Rattle.spv_inst.specs.declared.fault.Rule.{Rule}
-use Rattle.spv_inst.specs.declared.fault.Fault.{Fault}
+use Rattle.spv_table.specs.Table.{Table}
+use Rattle.spv_module.specs.Operand.{PlainInst}
+use Rattle.spv_module.specs.Instruction.{IsListing}
+use Rattle.spv_module.specs.Dead.{IsDeadAt}
+use Rattle.spv_module.specs.declared.fault.Rule.{Rule}
+use Rattle.spv_module.specs.declared.fault.Fault.{Fault}
 use Rattle.spv_layout.specs.Place.{first_word_of}
 use Rattle.spv_verdict.specs.Broken.{IsFirst, IsSound}
 use Rattle.spv_verdict.specs.Answer.{IsFault}

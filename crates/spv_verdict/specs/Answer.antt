@@ -1,13 +1,13 @@
 -- What `check` answers of an image, and the parts that are lent of a checked module.
 use Rattle.std.specs.Prelude.{◌≡◌, ◌≤◌, ◌-◌, ℕ, List, Result, Ok, IfOk, drop, slice_index}
-use Rattle.spv_grammar.specs.Table.{Table}
-use Rattle.spv_grammar.specs.declared.error.Memory.{Memory}
-use Rattle.spv_inst.specs.Operand.{PlainInst}
-use Rattle.spv_inst.specs.Dead.{IsDeadAt}
-use Rattle.spv_inst.specs.Instruction.{IsListing}
-use Rattle.spv_inst.specs.declared.fault.Fault as fault
-use Rattle.spv_inst.specs.declared.fault.Stop.{Stop}
-use Rattle.spv_inst.specs.declared.fault.Stop.TheVariants as stop
+use Rattle.spv_table.specs.Table.{Table}
+use Rattle.spv_table.specs.declared.error.Memory.{Memory}
+use Rattle.spv_module.specs.Operand.{PlainInst}
+use Rattle.spv_module.specs.Dead.{IsDeadAt}
+use Rattle.spv_module.specs.Instruction.{IsListing}
+use Rattle.spv_module.specs.declared.fault.Fault as fault
+use Rattle.spv_module.specs.declared.fault.Stop.{Stop}
+use Rattle.spv_module.specs.declared.fault.Stop.TheVariants as stop
 use Rattle.spv_layout.specs.Place.{first_word_of}
 use Rattle.spv_verdict.specs.Broken.{IsFirst}
 use Rattle.spv_verdict.specs.Checked.{AreParts, IsChecked}

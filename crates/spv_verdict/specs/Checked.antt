@@ -1,11 +1,11 @@
 -- What a module keeps that breaks no rule, and what is kept of it. (Own.)
 use Rattle.std.specs.Prelude.{◌≡◌, ◌≤◌, ◌+◌, ℕ, List, Some, drop, slice_get, slice_index, sum_by}
-use Rattle.spv_grammar.specs.Table.{Table}
-use Rattle.spv_inst.specs.Operand.{PlainInst}
-use Rattle.spv_inst.specs.Instruction.{IsListing}
-use Rattle.spv_inst.specs.Module.{plain_insts}
-use Rattle.spv_inst.specs.declared.fault.Rule.{Rule}
-use Rattle.spv_inst.specs.declared.module.Module.{Module}
+use Rattle.spv_table.specs.Table.{Table}
+use Rattle.spv_module.specs.Operand.{PlainInst}
+use Rattle.spv_module.specs.Instruction.{IsListing}
+use Rattle.spv_module.specs.Module.{plain_insts}
+use Rattle.spv_module.specs.declared.fault.Rule.{Rule}
+use Rattle.spv_module.specs.declared.module.Module.{Module}
 use Rattle.spv_layout.specs.First.{IsUnbroken}
 use Rattle.spv_layout.specs.Layout.{IsLayout, classes}
 use Rattle.spv_layout.specs.Place.{word_count}

@@ -1,6 +1,6 @@
 -- The smallest kernel as words and as bytes.
 use Rattle.std.specs.Prelude.{List, ℕ, [], ◌∷◌, Option, Some, None}
-use Rattle.spv_inst.specs.Spelling.{octets_of}
+use Rattle.spv_module.specs.Spelling.{octets_of}
 use Rattle.spv_layout.specs.declared.place.Place.{Place}
 use Rattle.spv_run.specs.Kernel.{kernel}
 use Rattle.spv_verdict.specs.Program.{Program}

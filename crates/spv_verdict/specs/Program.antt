@@ -1,6 +1,6 @@
 -- What a contract sees of a checked module.
 use Rattle.std.specs.Prelude.{ℕ, List}
-use Rattle.spv_inst.specs.Operand.{PlainInst}
+use Rattle.spv_module.specs.Operand.{PlainInst}
 
 -- the bound of its ids and its instructions
 pub record Program : Type 0 where

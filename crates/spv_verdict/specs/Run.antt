@@ -1,6 +1,6 @@
 -- The trace of a checked module from an entry point. [3.49.5; own]
 use Rattle.std.specs.Prelude.{ℕ, List}
-use Rattle.spv_grammar.specs.Table.{Table}
+use Rattle.spv_table.specs.Table.{Table}
 use Rattle.spv_ids.specs.Definition.{IsDefinedAt}
 use Rattle.spv_run.specs.Entry.{IsEntryId, IsOfRun}
 use Rattle.spv_run.specs.Run.{IsStart}

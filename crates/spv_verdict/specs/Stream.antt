@@ -1,6 +1,6 @@
 -- What a check of a stream leaves in the writer. (Own.)
 use Rattle.std.specs.Prelude.{◌≡◌, ◌↔◌, ◌≤◌, ◌++◌, ℕ, List, Option, Some, IsTrue, Bool, length, take}
-use Rattle.spv_grammar.specs.Table.{Table}
+use Rattle.spv_table.specs.Table.{Table}
 use Rattle.spv_verdict.specs.Verdict.{IsVerdict, valid_line}
 
 -- A writer that held the bytes `old` now also holds the verdict line of the bytes, and nothing else; the answer tells

@@ -2,9 +2,9 @@
 use Rattle.std.specs.Prelude.{ℕ, List, drop, slice_index}
 use Rattle.spv_words.specs.Header.{IsModule}
 use Rattle.spv_words.specs.declared.words.Order.{Order}
-use Rattle.spv_grammar.specs.Table.{Table}
-use Rattle.spv_inst.specs.Operand.{PlainInst}
-use Rattle.spv_inst.specs.Instruction.{IsListing}
+use Rattle.spv_table.specs.Table.{Table}
+use Rattle.spv_module.specs.Operand.{PlainInst}
+use Rattle.spv_module.specs.Instruction.{IsListing}
 use Rattle.spv_verdict.specs.Broken.{IsSound}
 
 -- The bytes stand, in an order, for words with a good header; from word 5 on these are the joined spellings of a list of

@@ -2,8 +2,8 @@
 
 use spv_flow::Flow;
 use spv_ids::Ids;
-use spv_inst::{Fault, Module};
 use spv_layout::Plan;
+use spv_module::{Fault, Module};
 use std::marker::Model;
 
 /// A module that breaks no rule, with what the layers know of it. Only `check` makes one.
@@ -49,8 +49,8 @@ impl<'a> Model for Checked<'a> {
 
     ghost Value = { Program };
 
-    ghost use Rattle.spv_grammar.specs.Table.{Table};
-    ghost use Rattle.spv_inst.specs.Module.{plain_insts};
+    ghost use Rattle.spv_table.specs.Table.{Table};
+    ghost use Rattle.spv_module.specs.Module.{plain_insts};
     ghost use Rattle.spv_verdict.specs.Checked.{AreParts};
 
     ghost view = { λ c. record { bound = c.«module».header.bound; insts = plain_insts c.«module» } };
@@ -60,8 +60,8 @@ impl<'a> Model for Checked<'a> {
 
 impl<'a> Checked<'a> {
     ghost use Rattle.std.specs.Prelude.{◌≡◌};
-    ghost use Rattle.spv_grammar.specs.Table.{Table};
-    ghost use Rattle.spv_inst.specs.Module.{plain_insts};
+    ghost use Rattle.spv_table.specs.Table.{Table};
+    ghost use Rattle.spv_module.specs.Module.{plain_insts};
     ghost use Rattle.spv_verdict.specs.Program.{Program};
     ghost use Rattle.spv_verdict.specs.Checked.{AreParts, IsKept};
     ghost use Rattle.spv_verdict.specs.Answer.{ArePartsOf};

@@ -2,7 +2,7 @@
 ghost use Rattle.std.specs.Prelude.{◌≡◌, ◌+◌, ◌≤◌, ◌↔◌, List, ℕ, sum_by, IfOk, IfErr};
 ghost use Rattle.spv_words.specs.Header.{IsModule};
 ghost use Rattle.spv_words.specs.declared.words.Order.{Order};
-ghost use Rattle.spv_inst.specs.Module.{plain_insts};
+ghost use Rattle.spv_module.specs.Module.{plain_insts};
 ghost use Rattle.spv_layout.specs.Place.{word_count};
 ghost use Rattle.spv_verdict.specs.Answer.{IsAnswer, SaysValid, StopsAs};
 ghost use Rattle.spv_verdict.specs.Broken.{IsSound, IsTold};
@@ -11,11 +11,12 @@ ghost use Rattle.spv_verdict.specs.Valid.{IsValid};
 
 use crate::checked::{Checked, Verdict};
 use spv_flow::flow_check;
-use spv_grammar::{Memory, Table};
 use spv_ids::number;
-use spv_inst::{Module, Stop, decode, listed_or_dead, one_death, one_listing};
+use spv_inst::{decode, listed_or_dead, one_death, one_listing};
 use spv_layout::laws::{member_or_dead, word_counts};
 use spv_layout::lay_out;
+use spv_module::{Module, Stop};
+use spv_table::{Memory, Table};
 use spv_types::type_check;
 use spv_words::Image;
 use std::alloc::Global;

@@ -1,12 +1,12 @@
 //! What follows from the definitions of a verdict. Each function does nothing: its contract is what is proved.
 ghost use Rattle.std.specs.Prelude.{◌≡◌, ◌↔◌, ◌++◌, ◌∷◌, [], ℕ, List, Option, true, false, codes};
-ghost use Rattle.spv_grammar.specs.Table.{Table};
-ghost use Rattle.spv_inst.specs.Operand.{PlainInst};
-ghost use Rattle.spv_inst.specs.Module.{plain_insts};
-ghost use Rattle.spv_inst.specs.declared.fault.Fault.{Fault};
-ghost use Rattle.spv_inst.specs.declared.fault.Rule.{Rule};
-ghost use Rattle.spv_inst.specs.declared.fault.Rule.TheVariants.{A1, G1, I7, L2, Y7};
-ghost use Rattle.spv_inst.specs.declared.module.Module.{Module};
+ghost use Rattle.spv_table.specs.Table.{Table};
+ghost use Rattle.spv_module.specs.Operand.{PlainInst};
+ghost use Rattle.spv_module.specs.Module.{plain_insts};
+ghost use Rattle.spv_module.specs.declared.fault.Fault.{Fault};
+ghost use Rattle.spv_module.specs.declared.fault.Rule.{Rule};
+ghost use Rattle.spv_module.specs.declared.fault.Rule.TheVariants.{A1, G1, I7, L2, Y7};
+ghost use Rattle.spv_module.specs.declared.module.Module.{Module};
 ghost use Rattle.spv_layout.specs.declared.place.Place.{Place};
 ghost use Rattle.spv_ids.specs.declared.ids.Ids.{Ids};
 ghost use Rattle.spv_ids.specs.Outcome.{IsDefinitionOf, definition_in};

@@ -10,7 +10,7 @@ ghost use Rattle.spv_verdict.specs.Stream.{Begins, Tells};
 use crate::checked::Verdict;
 use crate::judging::check;
 use crate::verdict_line::{Judgment, line_for};
-use spv_grammar::Table;
+use spv_table::Table;
 use spv_words::{Image, Sink, Source, WordError, read_image, write_all};
 use std::alloc::Global;
 

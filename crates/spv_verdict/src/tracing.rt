@@ -1,6 +1,6 @@
 //! The run of a checked module from an entry point.
 ghost use Rattle.std.specs.Prelude.{IfOk, IfErr};
-ghost use Rattle.spv_grammar.specs.Table.{Table};
+ghost use Rattle.spv_table.specs.Table.{Table};
 ghost use Rattle.spv_run.specs.Entry.{IsRefused};
 ghost use Rattle.spv_verdict.specs.Checked.{IsKept};
 ghost use Rattle.spv_verdict.specs.Run.{IsRunOf, IsTraceOf};

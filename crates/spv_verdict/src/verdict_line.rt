@@ -4,7 +4,7 @@ ghost use Rattle.spv_verdict.specs.Verdict.{code_text, fault_line, refused_line,
 ghost use Rattle.spv_verdict.specs.Text.{line_of, text_of};
 
 use crate::line::Line;
-use spv_inst::{Fault, Rule};
+use spv_module::{Fault, Rule};
 use spv_words::WordError;
 
 /// What a stream of bytes comes to.

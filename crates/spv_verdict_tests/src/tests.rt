@@ -1,6 +1,6 @@
 //! Verdicts on small modules, with answers that were worked out by hand.
 
-use spv_grammar::Table;
+use spv_grammar::{FromGrammar, Table};
 use spv_inst::{Fault, Rule};
 use spv_verdict::{Ending, Trace, TraceError, Verdict, check, check_stream, trace};
 use spv_words::{FromRead, FromWrite, Image, read_image};

@@ -1,11 +1,11 @@
 -- The ids among the operands of an instruction, by role.
 use Rattle.std.proofs.Common.{◌≡◌, ◌∙◌, ℕ, zero, suc, List, true, Option, Some, None, map, ap, subst}
 use Rattle.std.specs.Prelude.{slice_get, option_and_then, MatchOption}
-use Rattle.spv_grammar.specs.Table.{Table}
-use Rattle.spv_inst.specs.Operand.{Plain, PlainInst}
-use Rattle.spv_inst.specs.Operand as operand
-use Rattle.spv_inst.specs.declared.operand.Operand.{Operand}
-use Rattle.spv_inst.specs.Module.{plain_operand}
+use Rattle.spv_table.specs.Table.{Table}
+use Rattle.spv_module.specs.Operand.{Plain, PlainInst}
+use Rattle.spv_module.specs.Operand as operand
+use Rattle.spv_module.specs.declared.operand.Operand.{Operand}
+use Rattle.spv_module.specs.Module.{plain_operand}
 use Rattle.spv_layout.specs.declared.form.Role.{Role}
 use Rattle.spv_layout.specs.declared.form.Role.TheVariants.{Value}
 use Rattle.spv_layout.specs.declared.form.Form.{Form}

@@ -1,6 +1,6 @@
 -- What is added to a list. (For the code alone.)
 use Rattle.std.specs.Prelude.{◌≡◌, ◌++◌, List, Contains}
-use Rattle.spv_grammar.specs.Table.{Table}
+use Rattle.spv_table.specs.Table.{Table}
 use Rattle.spv_walks.specs.declared.code.Code.{Code}
 use Rattle.spv_walks.specs.Code.{IsCode}
 

@@ -1,7 +1,7 @@
 -- A function divided into blocks, and the graph of these blocks. (Own; for the code alone.)
 use Rattle.std.specs.Prelude.{◌≡◌, ◌↔◌, ◌≤◌, ◌<◌, ◌+◌, ◌⊎◌, ℕ, List, length, slice_index, Contains}
-use Rattle.spv_grammar.specs.Table.{Table}
-use Rattle.spv_inst.specs.Operand.{PlainInst}
+use Rattle.spv_table.specs.Table.{Table}
+use Rattle.spv_module.specs.Operand.{PlainInst}
 use Rattle.spv_layout.specs.Place.{IsOfFunction}
 use Rattle.spv_availability.specs.declared.graph.Graph.{Graph}
 use Rattle.spv_availability.specs.Graph.{block_count, targets_of, Defines}

@@ -1,7 +1,7 @@
 -- The blocks that a block leads to. (For the code alone.)
 use Rattle.std.specs.Prelude.{◌≡◌, ◌≤◌, ◌<◌, ◌+◌, ℕ, List, Some, length, slice_index, slice_get, slice_range, Contains}
-use Rattle.spv_grammar.specs.Table.{Table}
-use Rattle.spv_inst.specs.Operand.{PlainInst}
+use Rattle.spv_table.specs.Table.{Table}
+use Rattle.spv_module.specs.Operand.{PlainInst}
 use Rattle.spv_layout.specs.declared.form.Role.TheVariants.{Label}
 use Rattle.spv_ids.specs.Definition.{IsUsedAt}
 use Rattle.spv_branches.specs.Target.{IsLabelOf}

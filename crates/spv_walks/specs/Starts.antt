@@ -1,6 +1,6 @@
 -- Where the blocks of a function begin. (For the code alone.)
 use Rattle.std.specs.Prelude.{◌≡◌, ◌≤◌, ◌<◌, ◌-◌, ℕ, List, length, slice_index}
-use Rattle.spv_inst.specs.Operand.{PlainInst}
+use Rattle.spv_module.specs.Operand.{PlainInst}
 use Rattle.spv_layout.specs.Place.{IsOfFunction}
 use Rattle.spv_branches.specs.Target.{is_function, IsOp}
 use Rattle.spv_walks.specs.Divided.{IsBegin, IsDivided}

@@ -1,8 +1,8 @@
 //! What is asked of the graph of a function's blocks.
 
 ghost use Rattle.std.specs.Prelude.{◌≡◌, ◌<◌, ◌≤◌, ◌+◌, ℕ, Some, nat_le, ◌&&◌, length, slice_get, option_and_then, OnOk, IfSome, MatchOption, MatchBool};
-ghost use Rattle.spv_grammar.specs.Table.{Table};
-ghost use Rattle.spv_inst.specs.Operand.{PlainInst};
+ghost use Rattle.spv_table.specs.Table.{Table};
+ghost use Rattle.spv_module.specs.Operand.{PlainInst};
 ghost use Rattle.spv_availability.specs.declared.asks.Ask as declared;
 ghost use Rattle.spv_ids.specs.Definition.{IsDefinedAt};
 ghost use Rattle.spv_ids.specs.Uses as uses;

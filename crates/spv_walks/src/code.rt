@@ -2,12 +2,12 @@
 
 ghost use Rattle.std.specs.Prelude.{◌≡◌, ◌&&◌, nat_le, is_some};
 ghost use Rattle.spv_branches.specs.Target as target;
-ghost use Rattle.spv_inst.specs.Module.{plain_operands};
-ghost use Rattle.spv_inst.specs.Operand as operand;
+ghost use Rattle.spv_module.specs.Module.{plain_operands};
+ghost use Rattle.spv_module.specs.Operand as operand;
 
 use spv_ids::Ids;
-use spv_inst::{Inst, Operand};
 use spv_layout::Plan;
+use spv_module::{Inst, Operand};
 
 /// The instructions of a module, with what `lay_out` and `number` answered of it.
 #[derive(Clone, Copy)]
@@ -21,7 +21,7 @@ pub struct Code<'m, 'a> {
 
 impl Code<'_, '_> {
     ghost use Rattle.std.specs.Prelude.{◌≡◌, ◌<◌, ℕ, length, IfSome, MatchOption, MatchBool};
-    ghost use Rattle.spv_grammar.specs.Table.{Table};
+    ghost use Rattle.spv_table.specs.Table.{Table};
     ghost use Rattle.spv_walks.specs.Code.{insts_of, IsCode};
     ghost use Rattle.spv_branches.specs.Target.{IsLabelOf};
     ghost use Rattle.spv_branches.specs.Ready.{IsLocalValue};

@@ -1,8 +1,8 @@
 //! Functions divided into blocks.
 
 ghost use Rattle.std.specs.Prelude.{◌≡◌, ◌<◌, ◌≤◌, ℕ, false, length, map, OnOk, MatchBool};
-ghost use Rattle.spv_grammar.specs.Table.{Table};
-ghost use Rattle.spv_inst.specs.Module.{plain_inst};
+ghost use Rattle.spv_table.specs.Table.{Table};
+ghost use Rattle.spv_module.specs.Module.{plain_inst};
 ghost use Rattle.spv_branches.specs.Target.{IsOp};
 ghost use Rattle.spv_branches.specs.Target as target;
 ghost use Rattle.spv_walks.specs.Code.{insts_of, IsCode};
@@ -10,7 +10,7 @@ ghost use Rattle.spv_walks.specs.Divided.{IsBegin};
 ghost use Rattle.spv_walks.specs.Starts.{IsExtent, IsLaid};
 
 use crate::code::{Code, FUNCTION, FUNCTION_END, LABEL, PHI, is_terminator};
-use spv_inst::Inst;
+use spv_module::Inst;
 use std::alloc::AllocError;
 
 /// How far a function goes.

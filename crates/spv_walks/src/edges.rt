@@ -1,8 +1,8 @@
 //! The graph of a function's blocks.
 
 ghost use Rattle.std.specs.Prelude.{◌≡◌, ◌<◌, ◌≤◌, ◌+◌, ◌-◌, ℕ, List, length, slice_index, OnOk, MatchOption};
-ghost use Rattle.spv_grammar.specs.Table.{Table};
-ghost use Rattle.spv_inst.specs.Operand.{PlainInst};
+ghost use Rattle.spv_table.specs.Table.{Table};
+ghost use Rattle.spv_module.specs.Operand.{PlainInst};
 ghost use Rattle.spv_layout.specs.Place.{IsOfFunction};
 ghost use Rattle.spv_branches.specs.Target as target;
 ghost use Rattle.spv_branches.specs.Target.{IsOp};

@@ -2,7 +2,7 @@
 
 ghost use Rattle.std.specs.Prelude.{◌≡◌, ◌≤◌, ◌<◌, ℕ, false, length, OnOk, IfOk};
 ghost use Rattle.std.specs.List.Sorted.{IsPermutation};
-ghost use Rattle.spv_grammar.specs.Table.{Table};
+ghost use Rattle.spv_table.specs.Table.{Table};
 ghost use Rattle.spv_availability.specs.First.{AreInOrder};
 ghost use Rattle.spv_branches.specs.Target as target;
 ghost use Rattle.spv_branches.specs.Target.{IsOp};

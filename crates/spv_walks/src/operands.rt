@@ -1,16 +1,16 @@
 //! The ids among the operands of an instruction.
 
 ghost use Rattle.std.specs.Prelude.{◌≡◌, ℕ, MatchOption, map, slice_get, option_and_then};
-ghost use Rattle.spv_grammar.specs.Table.{Table};
-ghost use Rattle.spv_inst.specs.Module.{plain_inst, plain_operand};
+ghost use Rattle.spv_table.specs.Table.{Table};
+ghost use Rattle.spv_module.specs.Module.{plain_inst, plain_operand};
 ghost use Rattle.spv_layout.specs.Shape.{Fits, IsUse};
 ghost use Rattle.spv_layout.specs.Shape as shape;
 ghost use Rattle.spv_ids.specs.Uses as uses;
 ghost use Rattle.spv_layout.specs.declared.form.Role as declared;
 ghost use Rattle.spv_layout.specs.declared.form.Role.TheVariants as role;
 
-use spv_inst::{Inst, Operand};
 use spv_layout::{Role, role};
+use spv_module::{Inst, Operand};
 
 /// The id that an operand is.
 fn id_of(operand: Operand<'_>) -> Option<u32>

@@ -1,9 +1,9 @@
 //! The first use of a value that some walk misses.
 
 ghost use Rattle.std.specs.Prelude.{◌≤◌, ◌<◌, ◌+◌, ℕ, List, length, map, sum_by, IfOk, IfErr};
-ghost use Rattle.spv_grammar.specs.Table.{Table};
-ghost use Rattle.spv_inst.specs.Module.{plain_inst, plain_insts};
-ghost use Rattle.spv_inst.specs.Operand.{PlainInst};
+ghost use Rattle.spv_table.specs.Table.{Table};
+ghost use Rattle.spv_module.specs.Module.{plain_inst, plain_insts};
+ghost use Rattle.spv_module.specs.Operand.{PlainInst};
 ghost use Rattle.spv_layout.specs.First.{IsUnbroken};
 ghost use Rattle.spv_layout.specs.Place.{word_count};
 ghost use Rattle.spv_layout.specs.Plan.{IsPlan};
@@ -19,8 +19,8 @@ use crate::code::{Code, FUNCTION, PHI};
 use crate::divide::function_extent;
 use crate::function::{Buffers, first_in_function};
 use spv_ids::Ids;
-use spv_inst::{Fault, Inst, Module, Rule, Stop};
 use spv_layout::Plan;
+use spv_module::{Fault, Inst, Module, Rule, Stop};
 use std::alloc::{AllocError, Global};
 
 /// How many instructions stand before the first OpFunction.

@@ -2,7 +2,7 @@
 
 use crate::plain::first_missing;
 use spv_branches::check_branches;
-use spv_grammar::Table;
+use spv_grammar::{FromGrammar, Table};
 use spv_ids::number;
 use spv_inst::{Fault, Rule, Stop, decode};
 use spv_layout::laws::word_counts;

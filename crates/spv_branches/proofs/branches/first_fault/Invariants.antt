@@ -1,7 +1,7 @@
 use Rattle.std.proofs.Common.{◌≡◌, ◌<◌, ℕ, false, length}
 use Rattle.std.specs.Prelude.{IsTrue}
-use Rattle.spv_grammar.specs.Table.{Table}
-use Rattle.spv_inst.specs.declared.fault.Rule.{Rule}
+use Rattle.spv_table.specs.Table.{Table}
+use Rattle.spv_module.specs.declared.fault.Rule.{Rule}
 use Rattle.spv_layout.specs.First.{stage_of}
 use Rattle.spv_branches.specs.Code.{insts_of, IsCode}
 use Rattle.spv_branches.specs.Broken.{Broken}

@@ -1,9 +1,9 @@
 use Rattle.std.proofs.Common.{◌≡◌, ◌<◌, ℕ, Bool, true, false, List, length, arith}
 use Rattle.std.specs.Prelude.{not, IsTrue, MatchBool}
 use Rattle.std.proofs.lemmas.List.{length-map}
-use Rattle.spv_grammar.specs.Table.{Table}
-use Rattle.spv_inst.specs.Operand.{PlainInst}
-use Rattle.spv_inst.specs.Module.{plain_inst}
+use Rattle.spv_table.specs.Table.{Table}
+use Rattle.spv_module.specs.Operand.{PlainInst}
+use Rattle.spv_module.specs.Module.{plain_inst}
 use Rattle.spv_layout.specs.Place.{IsOfBlock}
 use Rattle.spv_branches.specs.declared.edges.Edges.{Edges}
 use Rattle.spv_branches.specs.declared.code.Code.{Code}

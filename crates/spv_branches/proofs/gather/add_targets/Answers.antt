@@ -1,9 +1,9 @@
 use Rattle.std.proofs.Common.{◌≡◌, ◌≤◌, Some, length, get_or, ap, arith}
 use Rattle.std.specs.Prelude.{slice_get}
 use Rattle.std.proofs.lemmas.List.{length-map}
-use Rattle.spv_inst.specs.Operand.{PlainInst}
-use Rattle.spv_inst.specs.declared.module.Inst.{Inst}
-use Rattle.spv_inst.specs.Module.{plain_inst, plain_operand}
+use Rattle.spv_module.specs.Operand.{PlainInst}
+use Rattle.spv_module.specs.declared.module.Inst.{Inst}
+use Rattle.spv_module.specs.Module.{plain_inst, plain_operand}
 use Rattle.spv_branches.specs.Code.{insts_of}
 use Rattle.spv_branches.specs.Target.{is_branch}
 use Rattle.spv_branches.proofs.Places.{branch_labelled}

@@ -1,5 +1,5 @@
 use Rattle.std.proofs.Common.{◌≡◌, length}
-use Rattle.spv_grammar.specs.Table.{Table}
+use Rattle.spv_table.specs.Table.{Table}
 use Rattle.spv_branches.specs.Code.{insts_of, IsCode}
 use Rattle.spv_branches.specs.Edges.{IsEdges}
 use Rattle.spv_branches.specs.Graph.{AreGathered}

@@ -1,6 +1,6 @@
 use Rattle.std.proofs.Common.{◌≡◌, ◌<◌, ℕ, length, map}
 use Rattle.std.specs.Prelude.{IsTrue}
-use Rattle.spv_inst.specs.Module.{plain_inst}
+use Rattle.spv_module.specs.Module.{plain_inst}
 use Rattle.spv_branches.specs.Target.{is_phi, IsOp}
 use Rattle.spv_branches.proofs.Entries.{IsFollowing}
 use Rattle.spv_branches.proofs.gather.survey.Given as goal

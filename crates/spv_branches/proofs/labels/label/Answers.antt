@@ -1,5 +1,5 @@
 use Rattle.std.proofs.Common.{◌∙◌, sym}
-use Rattle.spv_inst.specs.Module.{plain_inst}
+use Rattle.spv_module.specs.Module.{plain_inst}
 use Rattle.spv_branches.proofs.Places.{label_told, no_label_told}
 use Rattle.spv_branches.proofs.labels.label.Goals as goal
 

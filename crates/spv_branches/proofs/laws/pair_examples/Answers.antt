@@ -1,8 +1,8 @@
 use Rattle.std.proofs.Common.{◌≡◌, ◌<◌, ◌≤◌, ◌+◌, ℕ, zero, suc, [], ◌∷◌, refl, subst, arith}
 use Rattle.std.specs.Prelude.{slice_index_or}
 use Rattle.std.proofs.lemmas.Option.{same_Some}
-use Rattle.spv_inst.specs.Example.{small}
-use Rattle.spv_inst.specs.Operand.{Id, OfType, Result}
+use Rattle.spv_module.specs.Example.{small}
+use Rattle.spv_module.specs.Operand.{Id, OfType, Result}
 use Rattle.spv_layout.specs.declared.class.Class.TheVariants.{Function, FunctionEnd, Phi}
 use Rattle.spv_layout.specs.declared.form.Role.{Role}
 use Rattle.spv_layout.specs.declared.form.Role.TheVariants as role

@@ -1,5 +1,5 @@
 use Rattle.std.proofs.Common.{◌∙◌, sym}
-use Rattle.spv_inst.specs.Module.{plain_inst}
+use Rattle.spv_module.specs.Module.{plain_inst}
 use Rattle.spv_calls.proofs.Gathering.{no_definition, no_caller, no_called}
 use Rattle.spv_calls.proofs.gather.call_at.Goals as goal
 

@@ -1,5 +1,5 @@
 use Rattle.std.proofs.Common.{map}
-use Rattle.spv_inst.specs.Module.{plain_inst}
+use Rattle.spv_module.specs.Module.{plain_inst}
 use Rattle.spv_calls.proofs.Insts.{inst_there}
 use Rattle.spv_calls.proofs.Gathering.{calls_more, calls_past}
 use Rattle.spv_calls.proofs.gather.calls_of.Goals.{in-Some+in_ok-push, in_default}

@@ -1,5 +1,5 @@
 use Rattle.std.proofs.Common.{◌∙◌, sym, map}
-use Rattle.spv_inst.specs.Module.{plain_inst}
+use Rattle.spv_module.specs.Module.{plain_inst}
 use Rattle.spv_calls.proofs.Insts.{inst_there}
 use Rattle.spv_calls.proofs.Gathering.{entries_more, entries_past, entries_undefined}
 use Rattle.spv_calls.proofs.gather.entries_of.Goals.{in-Some+in-Some-definition+in_ok-push, in-Some+in_default-definition, in_default}

@@ -1,5 +1,5 @@
 use Rattle.std.proofs.Common.{map}
-use Rattle.spv_inst.specs.Module.{plain_inst}
+use Rattle.spv_module.specs.Module.{plain_inst}
 use Rattle.spv_calls.specs.Found.{AreEntries}
 use Rattle.spv_calls.proofs.gather.entries_of.Given as goal
 

@@ -1,5 +1,5 @@
 use Rattle.std.proofs.Common.{refl}
-use Rattle.spv_inst.specs.declared.fault.Rule.TheVariants.{G1}
+use Rattle.spv_module.specs.declared.fault.Rule.TheVariants.{G1}
 use Rattle.spv_calls.specs.Broken.{on_cycle}
 use Rattle.spv_calls.proofs.laws.no_way_back.Goals as goal
 

@@ -1,5 +1,5 @@
 use Rattle.std.proofs.Common.{◌≡◌, ◌∙◌, sym, true, false}
-use Rattle.spv_inst.specs.Module.{plain_inst}
+use Rattle.spv_module.specs.Module.{plain_inst}
 use Rattle.spv_capabilities.proofs.Firsts.{kept_before_e1}
 use Rattle.spv_capabilities.proofs.entries.first_of_several.Goals as goal
 

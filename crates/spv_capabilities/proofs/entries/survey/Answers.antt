@@ -1,6 +1,6 @@
 use Rattle.std.proofs.Common.{List, map, sym, subst}
-use Rattle.spv_inst.specs.declared.module.Inst.{Inst}
-use Rattle.spv_inst.specs.Module.{plain_inst}
+use Rattle.spv_module.specs.declared.module.Inst.{Inst}
+use Rattle.spv_module.specs.Module.{plain_inst}
 use Rattle.spv_ids.specs.Outcome.{IsDefinitionOf, definition_in}
 use Rattle.spv_capabilities.proofs.entries.survey.Goals as goal
 

@@ -1,5 +1,5 @@
 use Rattle.std.proofs.Common.{subst, ℕ, Option}
-use Rattle.spv_inst.specs.Module.{plain_inst}
+use Rattle.spv_module.specs.Module.{plain_inst}
 use Rattle.spv_ids.specs.Outcome.{IsDefinitionOf}
 use Rattle.spv_capabilities.proofs.Sound.{void_tells, no_void, one_within}
 use Rattle.spv_capabilities.proofs.entry.is_void.Goals as goal

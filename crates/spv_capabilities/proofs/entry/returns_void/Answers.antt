@@ -1,6 +1,6 @@
 use Rattle.std.proofs.Common.{◌≡◌, ◌∙◌, sym, ap}
-use Rattle.spv_inst.specs.Operand.{type_in}
-use Rattle.spv_inst.specs.Module.{plain_inst, plain_operands}
+use Rattle.spv_module.specs.Operand.{type_in}
+use Rattle.spv_module.specs.Module.{plain_inst, plain_operands}
 use Rattle.spv_capabilities.proofs.Sound.{returns_tells, no_returns}
 use Rattle.spv_capabilities.proofs.entry.returns_void.Goals as goal
 

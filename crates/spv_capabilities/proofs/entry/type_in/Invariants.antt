@@ -1,6 +1,6 @@
 use Rattle.std.proofs.Common.{◌≡◌, drop}
-use Rattle.spv_inst.specs.Module.{plain_operands}
-use Rattle.spv_inst.specs.Operand.{type_in}
+use Rattle.spv_module.specs.Module.{plain_operands}
+use Rattle.spv_module.specs.Operand.{type_in}
 use Rattle.spv_capabilities.proofs.entry.type_in.Given as goal
 
 abbrev pub invariant-loop-operand : goal.invariant-loop-operand

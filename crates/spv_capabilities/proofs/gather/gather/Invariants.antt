@@ -1,5 +1,5 @@
 use Rattle.std.proofs.Common.{map}
-use Rattle.spv_inst.specs.Module.{plain_inst}
+use Rattle.spv_module.specs.Module.{plain_inst}
 use Rattle.spv_capabilities.specs.Survey.{AreGathered}
 use Rattle.spv_capabilities.proofs.gather.gather.Given as goal
 

@@ -1,6 +1,6 @@
 use Rattle.std.proofs.Common.{[], ◌∷◌, refl, inl, arith, lit<}
-use Rattle.spv_inst.specs.Operand.{Result}
-use Rattle.spv_inst.specs.declared.fault.Rule.TheVariants as rule
+use Rattle.spv_module.specs.Operand.{Result}
+use Rattle.spv_module.specs.declared.fault.Rule.TheVariants as rule
 use Rattle.spv_capabilities.specs.Example.{small, inst, linked}
 use Rattle.spv_capabilities.proofs.Firsts.{all_kept, kept_before_c1}
 use Rattle.spv_capabilities.proofs.Worked.{has_no_kernel}

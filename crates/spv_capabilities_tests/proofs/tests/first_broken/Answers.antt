@@ -1,6 +1,6 @@
 use Rattle.std.proofs.Common.{◌≡◌, ap, length, map, arith}
 use Rattle.std.proofs.lemmas.List.{length-map}
-use Rattle.spv_inst.specs.Module.{plain_inst}
+use Rattle.spv_module.specs.Module.{plain_inst}
 use Rattle.spv_capabilities.specs.Subject.{Subject}
 use Rattle.spv_capabilities_tests.proofs.tests.first_broken.Goals as goal
 

@@ -1,7 +1,7 @@
 use Rattle.std.proofs.Common.{◌≡◌, ◌<◌, Some, length, arith}
 use Rattle.std.specs.Prelude.{slice_get}
 use Rattle.std.proofs.lemmas.List.{length-map}
-use Rattle.spv_inst.specs.Module.{plain_inst, plain_insts}
+use Rattle.spv_module.specs.Module.{plain_inst, plain_insts}
 use Rattle.spv_branches.proofs.Labelled.{inst_at}
 use Rattle.spv_flow.proofs.Functions.{no_definition}
 use Rattle.spv_flow.proofs.Counts.{count_most, none_more, one_more}

@@ -1,4 +1,4 @@
-use Rattle.spv_inst.specs.Module.{plain_insts}
+use Rattle.spv_module.specs.Module.{plain_insts}
 use Rattle.spv_flow.specs.Definitions.{IsCount}
 use Rattle.spv_flow.proofs.counting.count_definitions.Given as goal
 

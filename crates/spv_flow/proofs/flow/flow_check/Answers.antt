@@ -1,6 +1,6 @@
 use Rattle.std.proofs.Common.{arith}
 use Rattle.std.proofs.lemmas.Result.{err_from_is_err_and}
-use Rattle.spv_inst.specs.Module.{plain_insts}
+use Rattle.spv_module.specs.Module.{plain_insts}
 use Rattle.spv_calls.proofs.Insts.{short_list}
 use Rattle.spv_flow.proofs.Refusals.{by_branches, by_calls}
 use Rattle.spv_flow.proofs.flow.flow_check.Goals as goal

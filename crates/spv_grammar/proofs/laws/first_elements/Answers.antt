@@ -1,9 +1,9 @@
 use Rattle.std.proofs.Common.{ℕ, Some, option_map, nat_eq, filter, sym, ap, ◌∙◌}
 use Rattle.std.specs.List.{find}
 use Rattle.std.specs.Str.{bytes_eq}
-use Rattle.spv_grammar.specs.declared.table.Entry.{Entry}
+use Rattle.spv_table.specs.declared.table.Entry.{Entry}
 use Rattle.spv_grammar.specs.Kinds.{first_kinds, bears}
-use Rattle.spv_grammar.specs.Lookups.{is_number}
+use Rattle.spv_grammar.specs.FileLookups.{is_number}
 use Rattle.spv_grammar.specs.Made.{entry_from, enumerant_from, sort_from, is_kept}
 use Rattle.spv_grammar.proofs.Elements.{first_with-is, then_some, then_itself, first_made, place_made, at_made, entry_parts, enumerant_parts, kind_parts, same_number}
 use Rattle.spv_grammar.proofs.laws.first_elements.Goals as goal

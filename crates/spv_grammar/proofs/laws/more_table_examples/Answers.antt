@@ -1,5 +1,5 @@
 use Rattle.std.proofs.Common.{ℕ, List, [], ◌∷◌, Option, Some, None, length, refl, ap, arith}
-use Rattle.spv_grammar.specs.Table.{Sort}
+use Rattle.spv_table.specs.Table.{Sort}
 use Rattle.spv_grammar.proofs.laws.more_table_examples.Goals as goal
 
 -- how many enumerants the first kind has

@@ -1,6 +1,6 @@
 use Rattle.std.proofs.Common.{◌≡◌, ap, sym, subst, ◌∙◌}
 use Rattle.spv_grammar.specs.declared.file.File.{File}
-use Rattle.spv_grammar.specs.Table.{Table}
+use Rattle.spv_table.specs.Table.{Table}
 use Rattle.spv_grammar.specs.Made.{IsTable}
 use Rattle.spv_grammar.specs.Answer.{read_breaks}
 use Rattle.spv_grammar.proofs.Whole.{some_same, not_some}

@@ -1,6 +1,6 @@
 use Rattle.std.proofs.Common.{Vec, Global}
 use Rattle.std.proofs.lemmas.Result.{err_from_is_err_and}
-use Rattle.spv_grammar.specs.Table.{Sort}
+use Rattle.spv_table.specs.Table.{Sort}
 use Rattle.spv_grammar.specs.Made.{sort_from}
 use Rattle.spv_grammar.proofs.Turns.{made_step, none_step, refused}
 use Rattle.spv_grammar.proofs.make.sorts.Goals as goal

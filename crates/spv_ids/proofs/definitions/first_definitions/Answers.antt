@@ -1,5 +1,5 @@
 use Rattle.std.proofs.Common.{◌≡◌, ◌∙◌, sym, inr, map, length, arith}
-use Rattle.spv_inst.specs.Module.{plain_inst}
+use Rattle.spv_module.specs.Module.{plain_inst}
 use Rattle.spv_ids.specs.Notes.{kept}
 use Rattle.spv_ids.proofs.Bools.{false_true, some_tells, none_tells}
 use Rattle.spv_ids.proofs.Defining.{inst_there}

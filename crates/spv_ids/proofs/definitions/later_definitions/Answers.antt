@@ -1,7 +1,7 @@
 use Rattle.std.proofs.Common.{◌≡◌, ◌∙◌, sym, map, length, arith}
 use Rattle.std.proofs.lemmas.List.{length-map}
 use Rattle.std.proofs.lemmas.Option.{slice_get_within}
-use Rattle.spv_inst.specs.Module.{plain_inst}
+use Rattle.spv_module.specs.Module.{plain_inst}
 use Rattle.spv_ids.proofs.Defining.{inst_there, defined_here}
 use Rattle.spv_ids.proofs.Steps.{later_no_result, later_moved}
 use Rattle.spv_ids.proofs.definitions.later_definitions.Goals.{in-Some-result_of+in_ok-keep_later, in_default-result_of}

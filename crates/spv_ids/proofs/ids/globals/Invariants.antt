@@ -1,5 +1,5 @@
 use Rattle.std.proofs.Common.{◌<◌, ℕ, List}
-use Rattle.spv_inst.specs.Operand.{PlainInst}
+use Rattle.spv_module.specs.Operand.{PlainInst}
 use Rattle.spv_layout.specs.Place.{IsOfFunction}
 use Rattle.spv_ids.specs.Survey.{ArePlaces}
 use Rattle.spv_ids.proofs.ids.globals.Given as goal

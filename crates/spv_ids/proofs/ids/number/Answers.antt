@@ -1,7 +1,7 @@
 use Rattle.std.proofs.Common.{◌≤◌, ◌+◌, sym, map, arith}
 use Rattle.std.specs.Prelude.{sum_by}
 use Rattle.std.proofs.lemmas.List.{length-map}
-use Rattle.spv_inst.specs.Module.{plain_inst, plain_insts}
+use Rattle.spv_module.specs.Module.{plain_inst, plain_insts}
 use Rattle.spv_layout.specs.Place.{word_count}
 use Rattle.spv_ids.specs.Survey.{ArePlaces}
 use Rattle.spv_ids.specs.Outcome.{AreIds}

@@ -1,10 +1,10 @@
 use Rattle.std.proofs.Common.{◌≡◌, ◌+◌, ℕ, zero, suc, [], ◌∷◌, Some, refl, arith, inl, inr}
 use Rattle.std.specs.Prelude.{slice_get}
 use Rattle.std.proofs.lemmas.Option.{slice_get_within}
-use Rattle.spv_inst.specs.Example.{small}
-use Rattle.spv_inst.specs.Operand.{Plain, Result, Id}
-use Rattle.spv_inst.specs.declared.fault.Rule.{Rule}
-use Rattle.spv_inst.specs.declared.fault.Rule.TheVariants.{D2, D4, D5}
+use Rattle.spv_module.specs.Example.{small}
+use Rattle.spv_module.specs.Operand.{Plain, Result, Id}
+use Rattle.spv_module.specs.declared.fault.Rule.{Rule}
+use Rattle.spv_module.specs.declared.fault.Rule.TheVariants.{D2, D4, D5}
 use Rattle.spv_layout.specs.declared.class.Class.TheVariants.{Declaration, Function}
 use Rattle.spv_layout.specs.declared.form.Role.TheVariants as role
 use Rattle.spv_layout.specs.Row.{row, R, t, repeated}

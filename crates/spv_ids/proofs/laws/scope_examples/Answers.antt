@@ -1,9 +1,9 @@
 use Rattle.std.proofs.Common.{◌≡◌, ◌+◌, ℕ, zero, suc, [], ◌∷◌, Some, refl, arith, inr}
 use Rattle.std.specs.Prelude.{slice_get}
-use Rattle.spv_inst.specs.Example.{small}
-use Rattle.spv_inst.specs.Operand.{Plain, OfType, Result, Id}
-use Rattle.spv_inst.specs.declared.fault.Rule.{Rule}
-use Rattle.spv_inst.specs.declared.fault.Rule.TheVariants.{D5}
+use Rattle.spv_module.specs.Example.{small}
+use Rattle.spv_module.specs.Operand.{Plain, OfType, Result, Id}
+use Rattle.spv_module.specs.declared.fault.Rule.{Rule}
+use Rattle.spv_module.specs.declared.fault.Rule.TheVariants.{D5}
 use Rattle.spv_layout.specs.declared.class.Class.TheVariants.{Undef, Body, Function, FunctionEnd, Label}
 use Rattle.spv_layout.specs.declared.form.Role.TheVariants as role
 use Rattle.spv_layout.specs.Example.{bare}

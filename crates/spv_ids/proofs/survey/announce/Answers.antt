@@ -1,5 +1,5 @@
 use Rattle.std.proofs.Common.{◌∙◌, sym}
-use Rattle.spv_inst.specs.Module.{plain_inst}
+use Rattle.spv_module.specs.Module.{plain_inst}
 use Rattle.spv_ids.proofs.Steps.{announces_id, announces_none, announced_put, announced_nothing}
 use Rattle.spv_ids.proofs.survey.announce.Goals as goal
 

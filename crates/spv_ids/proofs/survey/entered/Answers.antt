@@ -1,4 +1,4 @@
-use Rattle.spv_inst.specs.Module.{plain_inst}
+use Rattle.spv_module.specs.Module.{plain_inst}
 use Rattle.spv_ids.proofs.Opens.{opened, goes_on}
 use Rattle.spv_ids.proofs.survey.entered.Goals as goal
 

@@ -1,5 +1,5 @@
 use Rattle.std.proofs.Common.{arith}
-use Rattle.spv_inst.specs.Module.{plain_inst}
+use Rattle.spv_module.specs.Module.{plain_inst}
 use Rattle.spv_ids.proofs.Opens.{stays_open}
 use Rattle.spv_ids.proofs.survey.left.Goals as goal
 

@@ -1,5 +1,5 @@
 use Rattle.std.proofs.Common.{◌≡◌, ◌++◌, ◌≤◌, ◌-◌, length}
-use Rattle.spv_inst.specs.Module.{plain_insts}
+use Rattle.spv_module.specs.Module.{plain_insts}
 use Rattle.spv_inst.specs.Batch.{batch_insts, IsTidy}
 use Rattle.spv_inst.specs.Known.{Knows}
 use Rattle.spv_inst.specs.Outcome.{IsHeaderOf}

@@ -1,6 +1,6 @@
 use Rattle.std.proofs.Common.{◌<◌, ◌∙◌, map, take, length, arith, ap, List, get_or}
-use Rattle.spv_inst.specs.declared.module.Inst.{Inst}
-use Rattle.spv_inst.specs.Module.{plain_inst}
+use Rattle.spv_module.specs.declared.module.Inst.{Inst}
+use Rattle.spv_module.specs.Module.{plain_inst}
 use Rattle.spv_inst.proofs.Listed.{put_first, put_step, put_refused}
 use Rattle.spv_inst.proofs.encoder.put_instructions.Goals as goal
 

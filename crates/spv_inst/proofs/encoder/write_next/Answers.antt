@@ -1,7 +1,7 @@
 use Rattle.std.proofs.Common.{◌∙◌, sym, refl}
 use Rattle.spv_inst.specs.Agenda.{plain_slot, agenda_due}
-use Rattle.spv_inst.specs.Module.{plain_operand}
-use Rattle.spv_inst.specs.Shape.{shape_of}
+use Rattle.spv_module.specs.Module.{plain_operand}
+use Rattle.spv_module.specs.Shape.{shape_of}
 use Rattle.spv_inst.specs.Written.{Stuck, operand_words}
 use Rattle.spv_inst.proofs.Shapes.{shape_leaf, shape_is_leaf}
 use Rattle.spv_inst.proofs.Fit.{fit_takes, unfit_takes}

@@ -1,9 +1,9 @@
 use Rattle.std.proofs.Common.{◌≤◌, ◌<◌, refl, map, take, length, arith, ap, List, get_or}
-use Rattle.spv_inst.specs.declared.operand.Operand.{Operand}
-use Rattle.spv_inst.specs.declared.operand.Operand.TheVariants as code
+use Rattle.spv_module.specs.declared.operand.Operand.{Operand}
+use Rattle.spv_module.specs.declared.operand.Operand.TheVariants as code
 use Rattle.spv_inst.specs.Agenda.{plain_slot, items_of}
 use Rattle.spv_inst.specs.Flat.{due}
-use Rattle.spv_inst.specs.Module.{plain_operands}
+use Rattle.spv_module.specs.Module.{plain_operands}
 use Rattle.spv_inst.proofs.Shapes.{shape_is_leaf}
 use Rattle.spv_inst.proofs.Contexts.{near_after}
 use Rattle.spv_inst.proofs.Progress.{context_at, at_first, at_step, at_stuck, at_done, at_missing}

@@ -1,5 +1,5 @@
 use Rattle.std.proofs.Common.{◌≡◌, ◌%◌, ℕ, ◌∙◌, sym, arith}
-use Rattle.spv_grammar.specs.Table.{kind_of}
+use Rattle.spv_table.specs.Table.{kind_of}
 use Rattle.spv_inst.specs.Reading.{enumerants_at}
 use Rattle.spv_inst.proofs.Enumerants.{knows_all, knows_end, knows_rest_at, knows_set_at, knows_unset_at, knows_not_at, shifted}
 use Rattle.spv_inst.proofs.enumerant.knows_bits.Goals as goal

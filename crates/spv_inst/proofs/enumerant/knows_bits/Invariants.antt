@@ -1,7 +1,7 @@
 use Rattle.std.proofs.Common.{◌≡◌, ◌-◌, ◌^◌}
 use Rattle.std.specs.Prelude.{is_some}
-use Rattle.spv_grammar.specs.Table.{kind_of}
-use Rattle.spv_inst.specs.Spelling.{mask_parameters}
+use Rattle.spv_table.specs.Table.{kind_of}
+use Rattle.spv_module.specs.Spelling.{mask_parameters}
 use Rattle.spv_inst.specs.Reading.{enumerants_at}
 use Rattle.spv_inst.proofs.Enumerants.{knows_from}
 use Rattle.spv_inst.proofs.enumerant.knows_bits.Given as goal

@@ -1,5 +1,5 @@
 use Rattle.std.proofs.Common.{◌≡◌, ◌%◌, ℕ, List, Bor, ◌∙◌, sym, ap, arith}
-use Rattle.spv_grammar.specs.Table.{kind_of}
+use Rattle.spv_table.specs.Table.{kind_of}
 use Rattle.spv_inst.specs.Reading.{enumerants_at}
 use Rattle.spv_inst.proofs.Enumerants.{shifted}
 use Rattle.spv_inst.proofs.Opened.{kinds_begin, kinds_set_at, kinds_unset_at, kinds_rest_at, kinds_end_at}

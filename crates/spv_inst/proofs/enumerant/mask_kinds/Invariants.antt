@@ -1,6 +1,6 @@
 use Rattle.std.proofs.Common.{◌≡◌, ◌-◌, ◌^◌}
-use Rattle.spv_grammar.specs.Table.{kind_of}
-use Rattle.spv_inst.specs.Spelling.{mask_parameters}
+use Rattle.spv_table.specs.Table.{kind_of}
+use Rattle.spv_module.specs.Spelling.{mask_parameters}
 use Rattle.spv_inst.specs.Reading.{enumerants_at}
 use Rattle.spv_inst.proofs.Opened.{kinds_from, with_kinds}
 use Rattle.spv_inst.proofs.enumerant.mask_kinds.Given as goal

@@ -1,5 +1,5 @@
 use Rattle.std.proofs.Common.{sym}
-use Rattle.spv_grammar.specs.Table.{kind_of}
+use Rattle.spv_table.specs.Table.{kind_of}
 use Rattle.spv_inst.specs.Reading.{enumerants_at}
 use Rattle.spv_inst.proofs.Enumerants.{value_taken, value_refused}
 use Rattle.spv_inst.proofs.enumerant.take_value.Goals as goal

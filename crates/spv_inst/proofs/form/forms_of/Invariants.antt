@@ -1,5 +1,5 @@
 use Rattle.std.proofs.Common.{◌≡◌, ◌<◌, map, take}
-use Rattle.spv_grammar.specs.Table.{IsWhole}
+use Rattle.spv_table.specs.Table.{IsWhole}
 use Rattle.spv_inst.specs.Form.{form_of}
 use Rattle.spv_inst.proofs.form.forms_of.Given as goal
 

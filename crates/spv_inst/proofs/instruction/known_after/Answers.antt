@@ -1,5 +1,5 @@
 use Rattle.std.proofs.Common.{sym, ◌∙◌}
-use Rattle.spv_inst.specs.Module.{plain_operand, plain_operands}
+use Rattle.spv_module.specs.Module.{plain_operand, plain_operands}
 use Rattle.spv_inst.proofs.Contexts.{type_kept, type_found}
 use Rattle.spv_inst.proofs.instruction.known_after.Goals as goal
 use Rattle.spv_inst.proofs.instruction.known_after.Goals.{in-Some, in-None}

@@ -1,6 +1,6 @@
 use Rattle.std.proofs.Common.{◌<◌, ◌/◌, ◌%◌, ◌≡◌, length, drop, refl, arith}
 use Rattle.std.proofs.lemmas.Result.{err_from_is_err_and}
-use Rattle.spv_inst.specs.Module.{plain_operands}
+use Rattle.spv_module.specs.Module.{plain_operands}
 use Rattle.spv_inst.proofs.Instructions.{dies_uncounted, dies_past, dies_unknown, dies_misfit, is_instruction, front_of}
 use Rattle.spv_inst.proofs.instruction.read_instruction.Goals as goal
 

@@ -1,8 +1,8 @@
 use Rattle.std.proofs.Common.{◌≡◌, ◌≤◌, ◌+◌, ◌-◌, List, length, map, take, drop}
-use Rattle.spv_grammar.specs.Table.{Item}
-use Rattle.spv_inst.specs.Operand.{PlainInst, start}
+use Rattle.spv_table.specs.Table.{Item}
+use Rattle.spv_module.specs.Operand.{PlainInst, start}
 use Rattle.spv_inst.specs.Known.{Knows}
-use Rattle.spv_inst.specs.Module.{plain_operands}
+use Rattle.spv_module.specs.Module.{plain_operands}
 use Rattle.spv_inst.specs.Agenda.{agenda_due, due_first}
 use Rattle.spv_inst.specs.Flat.{due}
 use Rattle.spv_inst.specs.Reading.{between}

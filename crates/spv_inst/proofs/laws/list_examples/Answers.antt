@@ -1,6 +1,6 @@
 use Rattle.std.proofs.Common.{[], refl, ◌∷◌}
-use Rattle.spv_inst.specs.declared.fault.Rule.TheVariants.{I7}
-use Rattle.spv_inst.specs.Example.{small, string}
+use Rattle.spv_module.specs.declared.fault.Rule.TheVariants.{I7}
+use Rattle.spv_module.specs.Example.{small, string}
 use Rattle.spv_inst.proofs.Lists.{dies_not}
 use Rattle.spv_inst.proofs.Worked.{string_listed, unknown_dead}
 use Rattle.spv_inst.proofs.laws.list_examples.Goals as goal

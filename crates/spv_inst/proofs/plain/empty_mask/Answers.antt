@@ -1,6 +1,6 @@
 use Rattle.std.proofs.Common.{◌≡◌, [], Some, List, ◌∙◌, ap, refl}
-use Rattle.spv_grammar.specs.declared.table.Enumerant.{Enumerant}
-use Rattle.spv_inst.specs.Spelling.{Takes, mask_parameters}
+use Rattle.spv_table.specs.declared.table.Enumerant.{Enumerant}
+use Rattle.spv_module.specs.Spelling.{Takes, mask_parameters}
 use Rattle.spv_inst.proofs.plain.empty_mask.Goals as goal
 
 -- no bit has parameters

@@ -1,6 +1,6 @@
 use Rattle.std.proofs.Common.{◌≡◌, ◌++◌, ◌∷◌, [], ◌∙◌, length, drop, map, refl, ap, arith, length-append}
 use Rattle.std.proofs.lemmas.List.{take-append-le, drop-append-le}
-use Rattle.spv_inst.specs.Module.{plain_operands}
+use Rattle.spv_module.specs.Module.{plain_operands}
 use Rattle.spv_inst.proofs.Turns.{word_next, plain-push}
 use Rattle.spv_inst.specs.Agenda.{items_of}
 use Rattle.spv_inst.specs.Flat.{due}

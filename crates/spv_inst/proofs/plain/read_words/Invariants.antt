@@ -1,7 +1,7 @@
 use Rattle.std.proofs.Common.{◌≡◌, ◌≤◌, ◌+◌, ◌-◌, length, map, take, drop}
 use Rattle.spv_inst.specs.Form.{form_of}
-use Rattle.spv_inst.specs.Operand.{Context}
-use Rattle.spv_inst.specs.Module.{plain_operands}
+use Rattle.spv_module.specs.Operand.{Context}
+use Rattle.spv_module.specs.Module.{plain_operands}
 use Rattle.spv_inst.specs.Reading.{between}
 use Rattle.spv_inst.specs.Agenda.{items_of, due_first}
 use Rattle.spv_inst.specs.Flat.{due}

@@ -1,8 +1,8 @@
 use Rattle.std.proofs.Common.{◌≡◌, ◌<◌, ◌≤◌, ◌∙◌, sym, ap, arith}
-use Rattle.spv_grammar.specs.Table.{kind_of}
+use Rattle.spv_table.specs.Table.{kind_of}
 use Rattle.spv_inst.specs.declared.form.Leaf.TheVariants as leaf
-use Rattle.spv_inst.specs.Shape.{AsType, AsResult, AsId, AsWord, AsNumber, AsText, AsValue, AsMask, integer_shape}
-use Rattle.spv_inst.specs.Spelling.{Takes}
+use Rattle.spv_module.specs.Shape.{AsType, AsResult, AsId, AsWord, AsNumber, AsText, AsValue, AsMask, integer_shape}
+use Rattle.spv_module.specs.Spelling.{Takes}
 use Rattle.spv_inst.specs.Reading.{enumerants_at}
 use Rattle.spv_inst.proofs.Shapes.{shape_leaf, shape_is_leaf}
 use Rattle.spv_inst.proofs.Fitting.{one_taken, answer_one, answer_front, refusal_front, refusal_one, missing_front, nothing_front, within_front, within_one, integer_number, integer_unpaired, integer_other}

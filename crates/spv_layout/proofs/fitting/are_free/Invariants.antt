@@ -1,5 +1,5 @@
 use Rattle.std.proofs.Common.{◌≡◌, map, drop}
-use Rattle.spv_inst.specs.Module.{plain_operand}
+use Rattle.spv_module.specs.Module.{plain_operand}
 use Rattle.spv_layout.specs.Test.{are_others}
 use Rattle.spv_layout.proofs.fitting.are_free.Given as goal
 

@@ -1,5 +1,5 @@
 use Rattle.std.proofs.Common.{◌≡◌, ◌∙◌, sym, ap, true, Some}
-use Rattle.spv_inst.specs.Module.{plain_inst}
+use Rattle.spv_module.specs.Module.{plain_inst}
 use Rattle.spv_layout.specs.Row.{plain_row}
 use Rattle.spv_layout.specs.Rows.{class_in}
 use Rattle.spv_layout.proofs.Tested.{fits_iff}

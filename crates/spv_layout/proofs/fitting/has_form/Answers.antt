@@ -1,5 +1,5 @@
 use Rattle.std.proofs.Common.{◌∙◌, sym}
-use Rattle.spv_inst.specs.Module.{plain_operand}
+use Rattle.spv_module.specs.Module.{plain_operand}
 use Rattle.spv_layout.proofs.Tested.{sort_tells}
 use Rattle.spv_layout.proofs.fitting.has_form.Goals as goal
 

@@ -1,5 +1,5 @@
 use Rattle.std.proofs.Common.{◌≡◌, ◌≤◌, [], map, drop, length}
-use Rattle.spv_inst.specs.Module.{plain_operand}
+use Rattle.spv_module.specs.Module.{plain_operand}
 use Rattle.spv_layout.specs.Test.{are_rounds}
 use Rattle.spv_layout.proofs.fitting.have_rounds.Given as goal
 

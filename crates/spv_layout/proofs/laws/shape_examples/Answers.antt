@@ -1,7 +1,7 @@
 use Rattle.std.proofs.Common.{◌≡◌, ℕ, [], ◌∷◌, refl, Some, None, List}
 use Rattle.std.specs.Prelude.{slice_get}
-use Rattle.spv_inst.specs.Example.{small, load, string}
-use Rattle.spv_inst.specs.Operand.{Id}
+use Rattle.spv_module.specs.Example.{small, load, string}
+use Rattle.spv_module.specs.Operand.{Id}
 use Rattle.spv_layout.specs.declared.form.Role.{Role}
 use Rattle.spv_layout.specs.declared.form.Form.{Form}
 use Rattle.spv_layout.specs.declared.form.Form.TheVariants as form

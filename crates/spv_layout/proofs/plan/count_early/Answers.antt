@@ -1,6 +1,6 @@
 use Rattle.std.proofs.Common.{◌≡◌, ◌∙◌, sym, ap, length, map, Some, arith}
 use Rattle.std.specs.Prelude.{slice_get}
-use Rattle.spv_inst.specs.Module.{plain_inst}
+use Rattle.spv_module.specs.Module.{plain_inst}
 use Rattle.spv_layout.specs.Layout.{classes}
 use Rattle.spv_layout.specs.Rows.{class_in, class_of}
 use Rattle.spv_layout.proofs.Keeping.{class_there}

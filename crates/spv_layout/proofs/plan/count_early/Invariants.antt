@@ -1,5 +1,5 @@
 use Rattle.std.proofs.Common.{map}
-use Rattle.spv_inst.specs.Module.{plain_inst}
+use Rattle.spv_module.specs.Module.{plain_inst}
 use Rattle.spv_layout.specs.Kept.{AreSectioned}
 use Rattle.spv_layout.proofs.plan.count_early.Given as goal
 

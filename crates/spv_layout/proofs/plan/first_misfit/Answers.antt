@@ -1,6 +1,6 @@
 use Rattle.std.proofs.Common.{◌≡◌, arith, length, map}
 use Rattle.std.proofs.lemmas.List.{length-map}
-use Rattle.spv_inst.specs.Module.{plain_inst}
+use Rattle.spv_module.specs.Module.{plain_inst}
 use Rattle.spv_layout.proofs.Misfits.{inst_there, fit_more, fit_all, misfit_first}
 use Rattle.spv_layout.proofs.plan.first_misfit.Goals as goal
 

@@ -1,5 +1,5 @@
 use Rattle.std.proofs.Common.{map}
-use Rattle.spv_inst.specs.Module.{plain_inst}
+use Rattle.spv_module.specs.Module.{plain_inst}
 use Rattle.spv_layout.proofs.Misfits.{FitBelow}
 use Rattle.spv_layout.proofs.plan.first_misfit.Given as goal
 

@@ -1,6 +1,6 @@
 use Rattle.std.proofs.Common.{arith, map, inr}
 use Rattle.std.proofs.lemmas.List.{length-map}
-use Rattle.spv_inst.specs.Module.{plain_inst}
+use Rattle.spv_module.specs.Module.{plain_inst}
 use Rattle.spv_layout.proofs.Misfits.{fit_unbroken, short_list}
 use Rattle.spv_layout.proofs.Brokens.{dead_first}
 use Rattle.spv_layout.proofs.plan.refused.Goals as goal

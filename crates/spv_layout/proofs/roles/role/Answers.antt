@@ -1,8 +1,8 @@
 use Rattle.std.proofs.Common.{◌≡◌, ◌∙◌, ◌<◌, refl, sym, ap, arith, length, map, Some, None, get_or, option_map}
 use Rattle.std.specs.Prelude.{slice_get}
 use Rattle.std.proofs.lemmas.Option.{slice_get-map, slice_get-get_or}
-use Rattle.spv_inst.specs.declared.operand.Operand.TheVariants as code
-use Rattle.spv_inst.specs.Module.{plain_inst, plain_operand}
+use Rattle.spv_module.specs.declared.operand.Operand.TheVariants as code
+use Rattle.spv_module.specs.Module.{plain_inst, plain_operand}
 use Rattle.spv_layout.specs.Row.{plain_row}
 use Rattle.spv_layout.proofs.Uses.{role_by}
 use Rattle.spv_layout.proofs.roles.role.Goals as goal

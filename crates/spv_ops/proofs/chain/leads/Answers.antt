@@ -1,4 +1,4 @@
-use Rattle.spv_inst.specs.Module.{plain_operands}
+use Rattle.spv_module.specs.Module.{plain_operands}
 use Rattle.spv_ops.specs.Operands.{ids_in}
 use Rattle.spv_ops.proofs.Choices.{choices_decide}
 use Rattle.spv_ops.proofs.chain.leads.Goals as goal

@@ -1,4 +1,4 @@
-use Rattle.spv_inst.specs.Module.{plain_operands}
+use Rattle.spv_module.specs.Module.{plain_operands}
 use Rattle.spv_ops.specs.Operands.{words_in}
 use Rattle.spv_ops.proofs.Walks.{walk_decides}
 use Rattle.spv_ops.proofs.composite.reaches.Goals as goal

@@ -1,4 +1,4 @@
-use Rattle.spv_inst.specs.Module.{plain_operands}
+use Rattle.spv_module.specs.Module.{plain_operands}
 use Rattle.spv_ops.specs.Operands.{ids_in}
 use Rattle.spv_ops.proofs.TagTests.{fills_typed}
 use Rattle.spv_ops.proofs.construct.fills.Goals as goal

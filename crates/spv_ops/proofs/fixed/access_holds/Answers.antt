@@ -1,5 +1,5 @@
 use Rattle.std.proofs.Common.{rules}
-use Rattle.spv_inst.specs.Module.{plain_operands}
+use Rattle.spv_module.specs.Module.{plain_operands}
 use Rattle.spv_ops.specs.Operands.{ids_in}
 use Rattle.spv_ops.specs.Access.{Accesses}
 use Rattle.spv_ops.proofs.Short.{short_access, too_long}

@@ -1,6 +1,6 @@
 use Rattle.std.proofs.Common.{◌≡◌, ◌≤◌, ◌++◌, drop, take, length}
 use Rattle.std.specs.Prelude.{option_map}
-use Rattle.spv_inst.specs.Module.{plain_operands}
+use Rattle.spv_module.specs.Module.{plain_operands}
 use Rattle.spv_ops.specs.Operands.{ids_in}
 use Rattle.spv_ops.proofs.gather.gather.Given as goal
 use Rattle.spv_ops.specs.Values.{types_of}

@@ -1,5 +1,5 @@
 use Rattle.std.proofs.Common.{◌≡◌, ℕ, List, [], ◌∷◌, refl}
-use Rattle.spv_inst.specs.Example.{small as table}
+use Rattle.spv_module.specs.Example.{small as table}
 use Rattle.spv_ops.specs.Example.{to_member}
 use Rattle.spv_ops.specs.Values.{used_in}
 use Rattle.spv_ops.proofs.ValuePlaces.{values_agree}

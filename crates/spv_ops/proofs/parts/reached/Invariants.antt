@@ -1,5 +1,5 @@
 use Rattle.std.proofs.Common.{◌≡◌, drop}
-use Rattle.spv_inst.specs.Module.{plain_operands}
+use Rattle.spv_module.specs.Module.{plain_operands}
 use Rattle.spv_ops.specs.Operands.{words_in}
 use Rattle.spv_ops.specs.Walk.{walk}
 use Rattle.spv_ops.proofs.parts.reached.Given as goal

@@ -1,5 +1,5 @@
 use Rattle.std.proofs.Common.{◌∙◌, sym}
-use Rattle.spv_inst.specs.Module.{plain_operands}
+use Rattle.spv_module.specs.Module.{plain_operands}
 use Rattle.spv_ops.proofs.TagTests.{all_same}
 use Rattle.spv_ops.proofs.several.all_pairs_of_type.Goals as goal
 use Rattle.spv_ops.specs.Values.{paired_ids_in}

@@ -1,5 +1,5 @@
 use Rattle.std.proofs.Common.{◌∙◌, sym}
-use Rattle.spv_inst.specs.Module.{plain_operands}
+use Rattle.spv_module.specs.Module.{plain_operands}
 use Rattle.spv_ops.specs.Operands.{ids_in}
 use Rattle.spv_ops.proofs.TagTests.{all_pointees_typed}
 use Rattle.spv_ops.proofs.several.all_pointees.Goals as goal

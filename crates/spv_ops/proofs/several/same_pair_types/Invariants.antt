@@ -1,6 +1,6 @@
 use Rattle.std.proofs.Common.{◌≡◌, length}
 use Rattle.std.specs.List.{list_all}
-use Rattle.spv_inst.specs.Module.{plain_operands}
+use Rattle.spv_module.specs.Module.{plain_operands}
 use Rattle.spv_ops.specs.Tests.{has_type}
 use Rattle.spv_ops.proofs.several.same_pair_types.Given as goal
 use Rattle.spv_ops.specs.Values.{paired_ids_in}

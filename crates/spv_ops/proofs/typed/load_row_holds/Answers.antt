@@ -1,5 +1,5 @@
 use Rattle.std.proofs.Common.{sym, ap, ◌∙◌}
-use Rattle.spv_inst.specs.Module.{plain_inst, plain_operands}
+use Rattle.spv_module.specs.Module.{plain_inst, plain_operands}
 use Rattle.spv_ops.proofs.CommonRows.{load_typed}
 use Rattle.spv_ops.proofs.typed.load_row_holds.Goals as goal
 

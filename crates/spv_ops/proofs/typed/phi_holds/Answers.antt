@@ -1,6 +1,6 @@
 use Rattle.std.proofs.Common.{◌≡◌}
 use Rattle.std.specs.List.{AllByRecursion}
-use Rattle.spv_inst.specs.Module.{plain_operands}
+use Rattle.spv_module.specs.Module.{plain_operands}
 use Rattle.spv_ops.specs.Types.{IsData}
 use Rattle.spv_ops.proofs.TagTests.{apart}
 use Rattle.spv_ops.proofs.typed.phi_holds.Goals as goal

@@ -1,5 +1,5 @@
 use Rattle.std.proofs.Common.{◌≡◌, ◌∙◌, length, refl, sym, ap, subst, MatchBool}
-use Rattle.spv_inst.specs.Module.{plain_inst, plain_operands}
+use Rattle.spv_module.specs.Module.{plain_inst, plain_operands}
 use Rattle.spv_roles.specs.Asked.{ArePlayed, IsOneMiscast}
 use Rattle.spv_roles.specs.Known.{uses_nothing}
 use Rattle.spv_roles.proofs.Asking.{judged}

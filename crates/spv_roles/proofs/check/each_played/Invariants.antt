@@ -1,5 +1,5 @@
 use Rattle.std.proofs.Common.{drop}
-use Rattle.spv_inst.specs.Module.{plain_operands}
+use Rattle.spv_module.specs.Module.{plain_operands}
 use Rattle.spv_roles.specs.Asked.{ArePlayed, IsOneMiscast}
 use Rattle.spv_roles.proofs.check.each_played.Given as goal
 

@@ -1,7 +1,7 @@
 use Rattle.std.proofs.Common.{◌≡◌, ◌≤◌, ◌+◌, Some, length, sym, ap, map, subst, arith, ◌∙◌}
 use Rattle.std.specs.Prelude.{slice_get, sum_by}
 use Rattle.std.proofs.lemmas.List.{length-map}
-use Rattle.spv_inst.specs.Module.{plain_inst, plain_insts, plain_operand}
+use Rattle.spv_module.specs.Module.{plain_inst, plain_insts, plain_operand}
 use Rattle.spv_layout.specs.Place.{word_count, first_word_of}
 use Rattle.spv_ids.specs.Outcome.{IsDefinitionOf, definition_in}
 use Rattle.spv_roles.proofs.Listed.{short_list, inst_there}

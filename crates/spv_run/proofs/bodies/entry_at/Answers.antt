@@ -1,5 +1,5 @@
 use Rattle.std.proofs.Common.{map, get_or}
-use Rattle.spv_inst.specs.Module.{plain_inst}
+use Rattle.spv_module.specs.Module.{plain_inst}
 use Rattle.spv_branches.proofs.Labelled.{inst_get}
 use Rattle.spv_run.proofs.Moving.{no_function}
 use Rattle.spv_run.proofs.bodies.entry_at.Goals as goal

@@ -1,6 +1,6 @@
 use Rattle.std.proofs.Common.{map, get_or, length, arith, ◌≡◌, ◌+◌}
 use Rattle.std.proofs.lemmas.List.{length-map}
-use Rattle.spv_inst.specs.Module.{plain_inst}
+use Rattle.spv_module.specs.Module.{plain_inst}
 use Rattle.spv_branches.proofs.Labelled.{inst_get}
 use Rattle.spv_run.proofs.Moving.{head_start, head_next, at_label, at_over, at_nothing}
 use Rattle.spv_run.proofs.bodies.entry_of.Goals as goal

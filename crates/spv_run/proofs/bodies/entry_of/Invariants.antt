@@ -1,5 +1,5 @@
 use Rattle.std.proofs.Common.{map}
-use Rattle.spv_inst.specs.Module.{plain_inst}
+use Rattle.spv_module.specs.Module.{plain_inst}
 use Rattle.spv_run.specs.Bodies.{IsHead}
 use Rattle.spv_run.proofs.bodies.entry_of.Given as goal
 

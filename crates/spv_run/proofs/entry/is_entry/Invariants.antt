@@ -1,5 +1,5 @@
 use Rattle.std.proofs.Common.{map}
-use Rattle.spv_inst.specs.Module.{plain_inst}
+use Rattle.spv_module.specs.Module.{plain_inst}
 use Rattle.spv_run.proofs.Entries.{NoEntryBefore}
 use Rattle.spv_run.proofs.entry.is_entry.Given as goal
 

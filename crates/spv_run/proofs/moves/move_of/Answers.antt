@@ -1,5 +1,5 @@
 use Rattle.std.proofs.Common.{sym, ◌∙◌, inl, inr}
-use Rattle.spv_inst.specs.Module.{plain_inst}
+use Rattle.spv_module.specs.Module.{plain_inst}
 use Rattle.spv_run.proofs.Moving.{branch_tells, branch_named, choose_tells, call_tells, call_named, return_tells, unreachable_tells, other_tells}
 use Rattle.spv_run.proofs.moves.move_of.Goals as goal
 

@@ -1,5 +1,5 @@
 use Rattle.std.proofs.Common.{◌∙◌, ◌+◌, ◌*◌, sym, arith}
-use Rattle.spv_inst.specs.Module.{plain_inst}
+use Rattle.spv_module.specs.Module.{plain_inst}
 use Rattle.spv_run.proofs.Moving.{switch_target, one_target, no_target}
 use Rattle.spv_run.proofs.moves.target_of.Goals as goal
 

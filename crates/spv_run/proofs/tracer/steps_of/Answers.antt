@@ -1,5 +1,5 @@
 use Rattle.std.proofs.Common.{refl, arith, ap, subst, length, map}
-use Rattle.spv_inst.specs.Module.{plain_inst}
+use Rattle.spv_module.specs.Module.{plain_inst}
 use Rattle.spv_run.specs.declared.tracer.Turn.{Turn}
 use Rattle.spv_run.specs.Trace.{kept, turned, IsTurn}
 use Rattle.spv_run.proofs.Tracing.{Found, going_init, going_on, going_last, going_before, going_end}

@@ -1,5 +1,5 @@
 use Rattle.std.proofs.Common.{◌≤◌, length, map}
-use Rattle.spv_inst.specs.Module.{plain_inst}
+use Rattle.spv_module.specs.Module.{plain_inst}
 use Rattle.spv_run.proofs.Tracing.{Going}
 use Rattle.spv_run.proofs.tracer.steps_of.Given as goal
 

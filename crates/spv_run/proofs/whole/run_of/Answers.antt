@@ -1,6 +1,6 @@
 use Rattle.std.proofs.Common.{◌≡◌, [], Some, ℕ, map, sym, subst}
-use Rattle.spv_grammar.specs.Table.{Table}
-use Rattle.spv_inst.specs.Module.{plain_inst}
+use Rattle.spv_table.specs.Table.{Table}
+use Rattle.spv_module.specs.Module.{plain_inst}
 use Rattle.spv_ids.specs.Definition.{IsDefinedAt}
 use Rattle.spv_calls.specs.Calls.{IsEntryFunction}
 use Rattle.spv_calls.specs.Found.{AreNumbered}

@@ -1,5 +1,5 @@
 use Rattle.std.proofs.Common.{map}
-use Rattle.spv_inst.specs.Module.{plain_inst}
+use Rattle.spv_module.specs.Module.{plain_inst}
 use Rattle.spv_run.proofs.Entries.{entry_function, of_run}
 use Rattle.spv_run.proofs.whole.trace_function.Goals as goal
 

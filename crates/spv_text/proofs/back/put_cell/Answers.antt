@@ -1,5 +1,5 @@
 use Rattle.std.proofs.Common.{ap}
-use Rattle.spv_inst.specs.Module.{plain_operand}
+use Rattle.spv_module.specs.Module.{plain_operand}
 use Rattle.spv_text.proofs.Backs.{type_cell, id_cell, word_cell, text_cell, value_cell, mask_cell}
 use Rattle.spv_text.proofs.back.put_cell.Goals as goal
 

@@ -1,5 +1,5 @@
-use Rattle.spv_inst.specs.Module.{plain_operands}
-use Rattle.spv_inst.specs.Operand.{PlainInst}
+use Rattle.spv_module.specs.Module.{plain_operands}
+use Rattle.spv_module.specs.Operand.{PlainInst}
 use Rattle.spv_text.proofs.Backs.{back_tail}
 use Rattle.spv_text.proofs.back.put_line.Goals as goal
 

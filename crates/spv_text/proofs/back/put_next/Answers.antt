@@ -1,4 +1,4 @@
-use Rattle.spv_inst.specs.Module.{plain_operand}
+use Rattle.spv_module.specs.Module.{plain_operand}
 use Rattle.spv_text.proofs.Backs.{back_more}
 use Rattle.spv_text.proofs.back.put_next.Goals as goal
 

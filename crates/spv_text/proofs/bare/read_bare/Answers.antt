@@ -1,7 +1,7 @@
 use Rattle.std.proofs.Common.{[], refl, rules, map}
 use Rattle.spv_inst.specs.Flat.{due}
 use Rattle.spv_inst.specs.Agenda.{items_of}
-use Rattle.spv_inst.specs.Shape.{alone}
+use Rattle.spv_module.specs.Shape.{alone}
 use Rattle.spv_text.specs.Reading.{context_of}
 use Rattle.spv_text.proofs.Barely.{bare_more, bare_nearer, bare_begun, bare_done}
 use Rattle.spv_text.proofs.bare.read_bare.Goals as goal

@@ -1,5 +1,5 @@
 use Rattle.std.proofs.Common.{ℕ, List, map, length}
-use Rattle.spv_inst.specs.Operand.{PlainInst}
+use Rattle.spv_module.specs.Operand.{PlainInst}
 use Rattle.spv_inst.specs.Flat.{due}
 use Rattle.spv_inst.specs.Agenda.{due_first, items_of}
 use Rattle.spv_text.specs.Noted.{IsNoted}

@@ -1,7 +1,7 @@
 use Rattle.std.proofs.Common.{◌≡◌, ◌∙◌, List, length, refl, sym, ap}
-use Rattle.spv_inst.specs.declared.operand.Operand.{Operand}
-use Rattle.spv_inst.specs.Module.{plain_operands}
-use Rattle.spv_inst.specs.Operand.{PlainInst, result_in, type_in}
+use Rattle.spv_module.specs.declared.operand.Operand.{Operand}
+use Rattle.spv_module.specs.Module.{plain_operands}
+use Rattle.spv_module.specs.Operand.{PlainInst, result_in, type_in}
 use Rattle.spv_text.specs.Begun.{beginning_of}
 use Rattle.spv_text.proofs.ImageLines.{line_of}
 use Rattle.spv_text.proofs.by_words.push_read.Goals as goal

@@ -1,7 +1,7 @@
 use Rattle.std.proofs.Common.{[], refl, rules, map}
 use Rattle.spv_inst.specs.Flat.{due}
 use Rattle.spv_inst.specs.Agenda.{items_of}
-use Rattle.spv_inst.specs.Shape.{alone}
+use Rattle.spv_module.specs.Shape.{alone}
 use Rattle.spv_text.specs.Reading.{context_of}
 use Rattle.spv_text.proofs.Walks.{so_far_nearer}
 use Rattle.spv_text.proofs.Celled.{so_far_cell, so_far_kept, none_by}

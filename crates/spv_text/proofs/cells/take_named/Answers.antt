@@ -1,4 +1,4 @@
-use Rattle.spv_inst.specs.Module.{plain_operand}
+use Rattle.spv_module.specs.Module.{plain_operand}
 use Rattle.spv_text.proofs.Celled.{named_step}
 use Rattle.spv_text.proofs.cells.take_named.Goals as goal
 

@@ -1,4 +1,4 @@
-use Rattle.spv_inst.specs.Shape.{alone}
+use Rattle.spv_module.specs.Shape.{alone}
 use Rattle.spv_text.proofs.Celled.{plain_freed}
 use Rattle.spv_text.proofs.cells.take_plain.Goals as goal
 

@@ -1,8 +1,8 @@
 use Rattle.std.proofs.Common.{◌∙◌, refl, sym}
 use Rattle.spv_inst.specs.declared.form.Leaf.TheVariants as leaf
-use Rattle.spv_inst.specs.Operand.{OfType, Result, Id, Word}
-use Rattle.spv_inst.specs.Shape.{alone}
-use Rattle.spv_inst.specs.Spelling.{Takes}
+use Rattle.spv_module.specs.Operand.{OfType, Result, Id, Word}
+use Rattle.spv_module.specs.Shape.{alone}
+use Rattle.spv_module.specs.Spelling.{Takes}
 use Rattle.spv_inst.proofs.Shapes.{shape_leaf}
 use Rattle.spv_text.proofs.Forwards.{cells_result, either_none, word_added}
 use Rattle.spv_text.proofs.forward.add_bare.Goals as goal

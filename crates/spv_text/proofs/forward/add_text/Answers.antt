@@ -1,7 +1,7 @@
 use Rattle.std.proofs.Common.{refl}
 use Rattle.spv_inst.specs.declared.form.Leaf.TheVariants as leaf
-use Rattle.spv_inst.specs.Operand.{Text}
-use Rattle.spv_inst.specs.Shape.{alone}
+use Rattle.spv_module.specs.Operand.{Text}
+use Rattle.spv_module.specs.Shape.{alone}
 use Rattle.spv_inst.proofs.Shapes.{shape_leaf}
 use Rattle.spv_text.proofs.Forwards.{text_added}
 use Rattle.spv_text.proofs.forward.add_text.Goals as goal

@@ -1,7 +1,7 @@
 use Rattle.std.proofs.Common.{◌≤◌, ◌++◌, ◌∷◌, [], map, refl, arith}
 use Rattle.spv_inst.specs.Agenda.{items_of}
 use Rattle.spv_inst.specs.Flat.{due}
-use Rattle.spv_inst.specs.Operand.{PlainInst, start}
+use Rattle.spv_module.specs.Operand.{PlainInst, start}
 use Rattle.spv_inst.proofs.Opened.{due_joined}
 use Rattle.spv_inst.proofs.Turns.{words_next, words_end}
 use Rattle.spv_text.proofs.Forwards.{cells_characters, cells_line}

@@ -1,7 +1,7 @@
 use Rattle.std.proofs.Common.{◌∙◌, ◌∷◌, [], sym, ap}
 use Rattle.spv_inst.specs.Agenda.{due_first}
 use Rattle.spv_inst.specs.Flat.{OneOf}
-use Rattle.spv_inst.specs.Shape.{alone}
+use Rattle.spv_module.specs.Shape.{alone}
 use Rattle.spv_inst.proofs.Frames.{by_empty}
 use Rattle.spv_text.proofs.Numbered.{none_left}
 use Rattle.spv_text.proofs.forward.is_number_last.Goals as goal

@@ -1,7 +1,7 @@
 use Rattle.std.proofs.Common.{◌≤◌, ◌∙◌, refl, arith, length, take, get_or, string_bytes}
-use Rattle.spv_inst.specs.declared.operand.Operand.TheVariants as code
+use Rattle.spv_module.specs.declared.operand.Operand.TheVariants as code
 use Rattle.spv_inst.specs.Agenda.{plain_slot, agenda_due}
-use Rattle.spv_inst.specs.Module.{plain_operands}
+use Rattle.spv_module.specs.Module.{plain_operands}
 use Rattle.spv_lines.specs.Operand.{Shown}
 use Rattle.spv_text.proofs.Steps.{context_at, at_front, at_step, at_done}
 use Rattle.spv_text.proofs.Floats.{amid, passed_more}

@@ -1,6 +1,6 @@
 use Rattle.std.proofs.Common.{◌≡◌, ℕ, List, Option, is_some, map, take, string_bytes}
-use Rattle.spv_inst.specs.Operand.{PlainInst, start, result_in}
-use Rattle.spv_inst.specs.Module.{plain_operands}
+use Rattle.spv_module.specs.Operand.{PlainInst, start, result_in}
+use Rattle.spv_module.specs.Module.{plain_operands}
 use Rattle.spv_inst.specs.Flat.{due}
 use Rattle.spv_inst.specs.Agenda.{items_of, agenda_due}
 use Rattle.spv_lines.specs.Operand.{Shown}

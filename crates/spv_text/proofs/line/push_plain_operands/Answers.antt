@@ -1,6 +1,6 @@
 use Rattle.std.proofs.Common.{◌≤◌, ◌∙◌, refl, arith, length, take, get_or, string_bytes}
-use Rattle.spv_inst.specs.declared.operand.Operand.TheVariants as code
-use Rattle.spv_inst.specs.Module.{plain_operands}
+use Rattle.spv_module.specs.declared.operand.Operand.TheVariants as code
+use Rattle.spv_module.specs.Module.{plain_operands}
 use Rattle.spv_lines.specs.Operand.{Shown}
 use Rattle.spv_text.proofs.Steps.{context_at}
 use Rattle.spv_text.proofs.Floats.{amid, passed_more}

@@ -1,5 +1,5 @@
 use Rattle.std.proofs.Common.{◌∙◌, sym, ap, not, is_some}
-use Rattle.spv_grammar.specs.Table.{kind_of}
+use Rattle.spv_table.specs.Table.{kind_of}
 use Rattle.spv_inst.specs.Reading.{enumerants_at}
 use Rattle.spv_text.proofs.BitNames.{no_names, past_names, named_bit, nameless_bit, clear_names}
 use Rattle.spv_text.proofs.name.has_names.Goals as goal

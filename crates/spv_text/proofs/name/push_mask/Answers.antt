@@ -1,5 +1,5 @@
 use Rattle.std.proofs.Common.{◌∙◌, sym, string_bytes}
-use Rattle.spv_grammar.specs.Table.{kind_of}
+use Rattle.spv_table.specs.Table.{kind_of}
 use Rattle.spv_inst.specs.Reading.{enumerants_at}
 use Rattle.spv_text.proofs.BitNames.{nameless_mask, mask_shown}
 use Rattle.spv_text.proofs.name.push_mask.Goals as goal

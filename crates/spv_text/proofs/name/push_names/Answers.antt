@@ -1,5 +1,5 @@
 use Rattle.std.proofs.Common.{◌∙◌, ap, string_bytes}
-use Rattle.spv_grammar.specs.Table.{kind_of}
+use Rattle.spv_table.specs.Table.{kind_of}
 use Rattle.spv_inst.specs.Reading.{enumerants_at}
 use Rattle.spv_text.proofs.BitNames.{no_names, past_names, left_first, left_named, left_set, left_clear, left_none}
 use Rattle.spv_text.proofs.name.push_names.Goals as goal

@@ -1,5 +1,5 @@
 use Rattle.std.proofs.Common.{ap}
-use Rattle.spv_inst.specs.Module.{plain_operand}
+use Rattle.spv_module.specs.Module.{plain_operand}
 use Rattle.spv_text.proofs.Along.{shown_plain}
 use Rattle.spv_text.proofs.operand.is_float_number.Goals as goal
 

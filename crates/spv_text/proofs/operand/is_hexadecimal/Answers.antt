@@ -1,5 +1,5 @@
 use Rattle.std.proofs.Common.{◌∙◌, false, ap}
-use Rattle.spv_inst.specs.Module.{plain_operand}
+use Rattle.spv_module.specs.Module.{plain_operand}
 use Rattle.spv_lines.specs.Operand.{is_float_type}
 use Rattle.spv_text.proofs.Floats.{shown_context, shown_switch, shown_no_switch}
 use Rattle.spv_text.proofs.operand.is_hexadecimal.Goals as goal

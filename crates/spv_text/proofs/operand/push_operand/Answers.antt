@@ -1,5 +1,5 @@
 use Rattle.std.proofs.Common.{◌++◌, ◌∙◌, ap, arith, string_bytes}
-use Rattle.spv_inst.specs.Module.{plain_operand}
+use Rattle.spv_module.specs.Module.{plain_operand}
 use Rattle.spv_lines.specs.Operand.{shown_operand}
 use Rattle.spv_text.proofs.Along.{cell_written}
 use Rattle.spv_text.proofs.Floats.{mask_written}

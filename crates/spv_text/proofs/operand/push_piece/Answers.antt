@@ -1,5 +1,5 @@
 use Rattle.std.proofs.Common.{◌∙◌, sym, string_bytes}
-use Rattle.spv_inst.specs.Module.{plain_operand}
+use Rattle.spv_module.specs.Module.{plain_operand}
 use Rattle.spv_inst.specs.Agenda.{plain_slot}
 use Rattle.spv_text.proofs.Along.{piece_shown}
 use Rattle.spv_text.proofs.Floats.{other_piece}

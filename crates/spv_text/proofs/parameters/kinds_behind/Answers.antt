@@ -1,5 +1,5 @@
 use Rattle.std.proofs.Common.{ap, List, ℕ, Bor}
-use Rattle.spv_inst.specs.Module.{plain_operand}
+use Rattle.spv_module.specs.Module.{plain_operand}
 use Rattle.spv_text.proofs.Opening.{value_opened, mask_opened}
 use Rattle.spv_text.proofs.parameters.kinds_behind.Goals as goal
 

@@ -2,7 +2,7 @@ use Rattle.std.proofs.Common.{◌≤◌, ◌∙◌, sym, arith, length}
 use Rattle.spv_text.proofs.Patterns.{must_here, must_skip, must_pass, must_end}
 use Rattle.spv_text.proofs.reading.must_have.Goals as goal
 use Rattle.spv_text.proofs.reading.must_have.Goals.{in-One+else-is_result, in-Maybe, in-Many}
-use Rattle.spv_grammar.specs.declared.table.Quantifier.TheVariants.{Maybe, Many}
+use Rattle.spv_table.specs.declared.table.Quantifier.TheVariants.{Maybe, Many}
 
 pub returns-then-is_result : goal.returns-then-is_result
 returns-then-is_result c = λ G d h. must_here G d c.args.pattern.now c.loop-item.item-index _ c.loop-item-test.true c.in-One.is (sym (c.is_result.ensures G d h) ∙ c.if-is_result.true) (c.loop-item.invariant G d h)

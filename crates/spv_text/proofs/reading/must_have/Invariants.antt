@@ -1,7 +1,7 @@
 use Rattle.std.proofs.Common.{◌≡◌, drop, map}
 use Rattle.std.specs.List.{list_any}
-use Rattle.spv_grammar.specs.Table.{Table}
-use Rattle.spv_inst.specs.Operand.{Context}
+use Rattle.spv_table.specs.Table.{Table}
+use Rattle.spv_module.specs.Operand.{Context}
 use Rattle.spv_inst.specs.Form.{form_of}
 use Rattle.spv_inst.specs.Agenda.{items_of}
 use Rattle.spv_lines.specs.Fault.{must_have_result}

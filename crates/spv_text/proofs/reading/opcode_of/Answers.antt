@@ -1,5 +1,5 @@
 use Rattle.std.proofs.Common.{arith}
-use Rattle.spv_grammar.specs.Lookups.{opcode_named}
+use Rattle.spv_table.specs.Lookups.{opcode_named}
 use Rattle.spv_text.proofs.Headed.{opcode_by_name, opcode_by_number, opcode_too_large, opcode_none}
 use Rattle.spv_text.proofs.reading.opcode_of.Goals as goal
 

@@ -1,6 +1,6 @@
 use Rattle.std.proofs.Common.{Some, ap, sym, ◌∙◌}
 use Rattle.std.proofs.lemmas.Result.{err_from_is_err_and}
-use Rattle.spv_inst.specs.Operand.{start}
+use Rattle.spv_module.specs.Operand.{start}
 use Rattle.spv_text.specs.Heading.{plain_parts}
 use Rattle.spv_text.proofs.LineRead.{line_undivided, line_unnamed, line_result_failed, line_operands_failed, line_read, line_bare, divided_break}
 use Rattle.spv_text.proofs.reading.read_line.Goals as goal

@@ -1,8 +1,8 @@
 use Rattle.std.proofs.Common.{◌<◌, ◌≤◌, ◌∙◌, refl, sym, ap, arith, List, length, map, take, get_or, string_bytes}
-use Rattle.spv_inst.specs.declared.module.Inst.{Inst}
-use Rattle.spv_inst.specs.declared.operand.Operand.{Operand}
-use Rattle.spv_inst.specs.Operand.{result_in, type_in}
-use Rattle.spv_inst.specs.Module.{plain_inst, plain_operands}
+use Rattle.spv_module.specs.declared.module.Inst.{Inst}
+use Rattle.spv_module.specs.declared.operand.Operand.{Operand}
+use Rattle.spv_module.specs.Operand.{result_in, type_in}
+use Rattle.spv_module.specs.Module.{plain_inst, plain_operands}
 use Rattle.spv_text.specs.Begun.{beginning_of}
 use Rattle.spv_text.proofs.Texts.{lines_first, lines_step, lines_done, insts_more}
 use Rattle.spv_text.proofs.shown.push_lines.Goals as goal

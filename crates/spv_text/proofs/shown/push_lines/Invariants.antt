@@ -1,5 +1,5 @@
 use Rattle.std.proofs.Common.{ℕ, List, [], map, take, string_bytes}
-use Rattle.spv_inst.specs.Module.{plain_inst, plain_insts}
+use Rattle.spv_module.specs.Module.{plain_inst, plain_insts}
 use Rattle.spv_lines.specs.Text.{ShownLines}
 use Rattle.spv_text.specs.Kept.{Knows}
 use Rattle.spv_text.specs.Named.{AreNames}

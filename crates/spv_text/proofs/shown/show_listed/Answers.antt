@@ -1,5 +1,5 @@
 use Rattle.std.proofs.Common.{[], string_bytes}
-use Rattle.spv_inst.specs.Module.{plain_insts}
+use Rattle.spv_module.specs.Module.{plain_insts}
 use Rattle.spv_lines.specs.Text.{header_lines}
 use Rattle.spv_lines.proofs.Showing.{shown_lines}
 use Rattle.spv_text.proofs.Texts.{whole_text}

@@ -1,4 +1,4 @@
-use Rattle.spv_inst.specs.Module.{plain_operand}
+use Rattle.spv_module.specs.Module.{plain_operand}
 use Rattle.spv_inst.specs.Agenda.{plain_slot}
 use Rattle.spv_text.proofs.Taken.{token_step, token_refused}
 use Rattle.spv_text.proofs.taking.take_token.Goals as goal

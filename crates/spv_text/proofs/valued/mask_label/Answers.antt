@@ -1,4 +1,4 @@
-use Rattle.spv_grammar.specs.Table.{kind_of}
+use Rattle.spv_table.specs.Table.{kind_of}
 use Rattle.spv_inst.specs.Reading.{enumerants_at}
 use Rattle.spv_text.proofs.Labels.{bit_label, some_by, zero_label}
 use Rattle.spv_text.proofs.valued.mask_label.Goals as goal

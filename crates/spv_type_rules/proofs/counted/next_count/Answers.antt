@@ -1,4 +1,4 @@
-use Rattle.spv_inst.specs.Module.{plain_inst}
+use Rattle.spv_module.specs.Module.{plain_inst}
 use Rattle.spv_type_rules.proofs.Counting.{counted_next}
 use Rattle.spv_type_rules.proofs.counted.next_count.Goals as goal
 

@@ -1,6 +1,6 @@
 use Rattle.std.proofs.Common.{◌≡◌, Some, sym, ◌∙◌, arith}
 use borrow.Author.Tests.{ltb-true}
-use Rattle.spv_inst.specs.Module.{plain_inst}
+use Rattle.spv_module.specs.Module.{plain_inst}
 use Rattle.spv_ids.specs.Outcome.{definition_in}
 use Rattle.spv_ops.proofs.Lookups.{kept_one}
 use Rattle.spv_type_rules.proofs.Pointers.{pointer_told, no_pointer, never_true}

@@ -1,5 +1,5 @@
 use Rattle.std.proofs.Common.{◌≡◌, ◌≤◌, ◌+◌, map, drop}
-use Rattle.spv_inst.specs.Module.{plain_inst}
+use Rattle.spv_module.specs.Module.{plain_inst}
 use Rattle.spv_type_rules.specs.Function.{parameters_in}
 use Rattle.spv_type_rules.proofs.function.count_parameters.Given as goal
 

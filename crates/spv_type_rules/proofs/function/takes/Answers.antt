@@ -1,5 +1,5 @@
 use Rattle.std.proofs.Common.{sym, ◌∙◌}
-use Rattle.spv_inst.specs.Module.{plain_inst, plain_operands}
+use Rattle.spv_module.specs.Module.{plain_inst, plain_operands}
 use Rattle.spv_ops.specs.Operands.{ids_in}
 use Rattle.spv_type_rules.proofs.Pointers.{never_true}
 use Rattle.spv_type_rules.proofs.Signatures.{calls_told, never_called}

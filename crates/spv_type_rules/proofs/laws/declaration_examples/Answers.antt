@@ -1,5 +1,5 @@
 use Rattle.std.proofs.Common.{inl, refl, lit<, lit≤}
-use Rattle.spv_inst.specs.Operand.{Result, Word}
+use Rattle.spv_module.specs.Operand.{Result, Word}
 use Rattle.std.specs.Prelude.{[], ◌∷◌}
 use Rattle.spv_ops.specs.Example.{inst}
 use Rattle.spv_type_rules.proofs.laws.declaration_examples.Goals as goal

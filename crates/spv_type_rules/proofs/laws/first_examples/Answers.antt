@@ -1,4 +1,4 @@
-use Rattle.spv_inst.specs.declared.fault.Rule.TheVariants as rule
+use Rattle.spv_module.specs.declared.fault.Rule.TheVariants as rule
 use Rattle.spv_type_rules.proofs.Worked.{vector_first, vector_before, call_first, call_broken}
 use Rattle.spv_type_rules.proofs.laws.first_examples.Goals as goal
 

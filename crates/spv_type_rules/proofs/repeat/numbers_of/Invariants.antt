@@ -1,5 +1,5 @@
 use Rattle.std.proofs.Common.{◌≡◌, ◌++◌, ◌∷◌, drop}
-use Rattle.spv_inst.specs.Module.{plain_operands}
+use Rattle.spv_module.specs.Module.{plain_operands}
 use Rattle.spv_type_rules.specs.Key.{all_numbers}
 use Rattle.spv_type_rules.proofs.repeat.numbers_of.Given as goal
 

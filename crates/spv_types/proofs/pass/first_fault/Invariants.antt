@@ -1,5 +1,5 @@
 use Rattle.std.proofs.Common.{◌≡◌, map}
-use Rattle.spv_inst.specs.Module.{plain_inst}
+use Rattle.spv_module.specs.Module.{plain_inst}
 use Rattle.spv_type_rules.specs.Seen.{AreSeen}
 use Rattle.spv_type_rules.specs.Counted.{AreCounted}
 use Rattle.spv_types.specs.Pass.{AreKept}

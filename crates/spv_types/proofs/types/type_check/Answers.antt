@@ -2,8 +2,8 @@ use Rattle.std.proofs.Common.{◌≡◌, ◌≤◌, ◌+◌, inl, length, map, s
 use Rattle.std.specs.Prelude.{sum_by}
 use Rattle.std.proofs.lemmas.List.{length-map}
 use Rattle.std.proofs.lemmas.Option.{slice_get_within}
-use Rattle.spv_inst.specs.Module.{plain_inst, plain_insts}
-use Rattle.spv_inst.specs.Width.{type_of}
+use Rattle.spv_module.specs.Module.{plain_inst, plain_insts}
+use Rattle.spv_module.specs.Width.{type_of}
 use Rattle.spv_layout.specs.Place.{word_count}
 use Rattle.spv_layout.specs.Plan.{IsPlan}
 use Rattle.spv_ids.specs.Outcome.{IsDefinitionOf, definition_in}

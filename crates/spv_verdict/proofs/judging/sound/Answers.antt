@@ -1,4 +1,4 @@
-use Rattle.spv_inst.specs.Module.{plain_insts}
+use Rattle.spv_module.specs.Module.{plain_insts}
 use Rattle.spv_verdict.proofs.Checks.{kept_of, parts_of, program_of, sound_of}
 use Rattle.spv_verdict.proofs.Firsts.{IsBefore, planned, told_flow, told_ids, told_layout, told_types}
 use Rattle.spv_verdict.proofs.judging.sound.Goals as goal

@@ -1,5 +1,5 @@
 use Rattle.std.proofs.Common.{[], ◌∷◌, refl}
-use Rattle.spv_inst.specs.Operand.{OfType, Result, Id, Mask}
+use Rattle.spv_module.specs.Operand.{OfType, Result, Id, Mask}
 use Rattle.spv_ops.specs.Example.{inst}
 use Rattle.spv_calls.specs.Example.{entry}
 use Rattle.spv_run.specs.Example.{standing}

@@ -1,7 +1,7 @@
 use Rattle.std.proofs.Common.{◌≡◌, ◌∙◌, List, IfOk, arith, ap, length, map, subst}
 use Rattle.std.proofs.lemmas.List.{length-map}
-use Rattle.spv_inst.specs.Operand.{PlainInst}
-use Rattle.spv_inst.specs.Module.{plain_inst}
+use Rattle.spv_module.specs.Operand.{PlainInst}
+use Rattle.spv_module.specs.Module.{plain_inst}
 use Rattle.spv_calls.proofs.Insts.{short_list}
 use Rattle.spv_run.specs.Entry.{IsTraced}
 use Rattle.spv_verdict.proofs.Runs.{each_run, numbered, some_run}

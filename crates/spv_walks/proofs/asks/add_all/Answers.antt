@@ -1,7 +1,7 @@
 use Rattle.std.proofs.Common.{ℕ, arith}
 use Rattle.std.proofs.lemmas.List.{length-map}
-use Rattle.spv_grammar.specs.Table.{Table}
-use Rattle.spv_inst.specs.Module.{plain_inst}
+use Rattle.spv_table.specs.Table.{Table}
+use Rattle.spv_module.specs.Module.{plain_inst}
 use Rattle.spv_availability.specs.declared.asks.Ask.{Ask}
 use Rattle.spv_walks.specs.Code.{insts_of}
 use Rattle.spv_walks.specs.Due.{IsAskIn}

@@ -2,8 +2,8 @@ use Rattle.std.proofs.Common.{◌∙◌, inl, inr, nat_le, ◌&&◌, get_or, sym
 use Rattle.std.specs.Prelude.{slice_index}
 use Rattle.std.proofs.lemmas.Bool.{eqb-true}
 use Rattle.std.proofs.lemmas.Result.{on_ok_weaker}
-use Rattle.spv_grammar.specs.Table.{Table}
-use Rattle.spv_inst.specs.Module.{plain_inst}
+use Rattle.spv_table.specs.Table.{Table}
+use Rattle.spv_module.specs.Module.{plain_inst}
 use Rattle.spv_availability.specs.declared.asks.Ask.{Ask}
 use Rattle.spv_branches.specs.Target.{is_phi, is_label, IsOp}
 use Rattle.spv_branches.proofs.Labelled.{inst_get, op_tells, op_holds}

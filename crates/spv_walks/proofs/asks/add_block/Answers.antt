@@ -1,5 +1,5 @@
 use Rattle.std.proofs.Common.{ℕ, arith}
-use Rattle.spv_grammar.specs.Table.{Table}
+use Rattle.spv_table.specs.Table.{Table}
 use Rattle.spv_availability.specs.declared.asks.Ask.{Ask}
 use Rattle.spv_walks.specs.Code.{insts_of}
 use Rattle.spv_walks.specs.Divided.{IsIn}

@@ -1,8 +1,8 @@
 use Rattle.std.proofs.Common.{◌≡◌, ◌++◌, ◌∙◌, [], ◌∷◌, Some, nat_le, ◌&&◌, get_or, sym}
 use Rattle.std.specs.Prelude.{slice_get}
-use Rattle.spv_grammar.specs.Table.{Table}
-use Rattle.spv_inst.specs.Operand.{PlainInst}
-use Rattle.spv_inst.specs.Module.{plain_inst}
+use Rattle.spv_table.specs.Table.{Table}
+use Rattle.spv_module.specs.Operand.{PlainInst}
+use Rattle.spv_module.specs.Module.{plain_inst}
 use Rattle.spv_availability.specs.declared.asks.Ask.{Ask}
 use Rattle.spv_branches.proofs.Labelled.{inst_get, op_tells}
 use Rattle.spv_walks.specs.Code.{insts_of}

@@ -1,5 +1,5 @@
 use Rattle.std.proofs.Common.{get_or}
-use Rattle.spv_inst.specs.Module.{plain_inst}
+use Rattle.spv_module.specs.Module.{plain_inst}
 use Rattle.spv_branches.proofs.Labelled.{inst_get}
 use Rattle.spv_walks.specs.Code.{insts_of}
 use Rattle.spv_walks.proofs.Used.{none_found, found_by}

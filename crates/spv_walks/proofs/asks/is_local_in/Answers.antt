@@ -1,8 +1,8 @@
 use Rattle.std.proofs.Common.{◌≡◌, List, get_or, subst, arith}
 use Rattle.std.specs.Prelude.{is_some}
-use Rattle.spv_inst.specs.declared.operand.Operand.{Operand}
-use Rattle.spv_inst.specs.Operand.{type_in}
-use Rattle.spv_inst.specs.Module.{plain_inst, plain_operands}
+use Rattle.spv_module.specs.declared.operand.Operand.{Operand}
+use Rattle.spv_module.specs.Operand.{type_in}
+use Rattle.spv_module.specs.Module.{plain_inst, plain_operands}
 use Rattle.spv_branches.specs.Ready.{IsLocalValue}
 use Rattle.spv_branches.proofs.Labelled.{inst_get}
 use Rattle.spv_walks.specs.Code.{insts_of}

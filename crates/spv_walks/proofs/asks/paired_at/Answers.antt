@@ -1,5 +1,5 @@
 use Rattle.std.proofs.Common.{get_or}
-use Rattle.spv_inst.specs.Module.{plain_inst}
+use Rattle.spv_module.specs.Module.{plain_inst}
 use Rattle.spv_branches.proofs.Labelled.{inst_get}
 use Rattle.spv_walks.proofs.Asking.{none_paired, not_paired, no_paired, paired}
 use Rattle.spv_walks.proofs.asks.paired_at.Goals as goal

@@ -1,7 +1,7 @@
 use Rattle.std.proofs.Common.{◌≡◌, drop}
 use Rattle.std.specs.Prelude.{is_some}
-use Rattle.spv_inst.specs.Module.{plain_operands}
-use Rattle.spv_inst.specs.Operand.{type_in}
+use Rattle.spv_module.specs.Module.{plain_operands}
+use Rattle.spv_module.specs.Operand.{type_in}
 use Rattle.spv_walks.proofs.code.has_type.Given as goal
 
 abbrev pub invariant-loop-operand : goal.invariant-loop-operand

@@ -1,5 +1,5 @@
 use Rattle.std.proofs.Common.{◌-◌, map, get_or, arith}
-use Rattle.spv_inst.specs.Module.{plain_inst}
+use Rattle.spv_module.specs.Module.{plain_inst}
 use Rattle.spv_branches.proofs.Labelled.{inst_get}
 use Rattle.spv_walks.proofs.Starting.{begins_by}
 use Rattle.spv_walks.proofs.divide.begins.Goals as goal

@@ -1,6 +1,6 @@
 use Rattle.std.proofs.Common.{ℕ, length, get_or, eq-eqb, arith}
 use Rattle.std.proofs.lemmas.List.{length-map}
-use Rattle.spv_inst.specs.Module.{plain_inst}
+use Rattle.spv_module.specs.Module.{plain_inst}
 use Rattle.spv_branches.specs.Target.{is_function}
 use Rattle.spv_branches.proofs.Labelled.{inst_get, op_holds}
 use Rattle.spv_walks.specs.Code.{insts_of}

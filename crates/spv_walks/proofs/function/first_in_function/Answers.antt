@@ -3,8 +3,8 @@ use Rattle.std.specs.Prelude.{not, IfSome}
 use Rattle.std.specs.List.Sorted.{IsPermutation}
 use Rattle.std.proofs.lemmas.List.Sorted.{IsPermutation-refl}
 use Rattle.std.proofs.lemmas.List.{length-map}
-use Rattle.spv_inst.specs.Module.{plain_inst}
-use Rattle.spv_grammar.specs.Table.{Table}
+use Rattle.spv_module.specs.Module.{plain_inst}
+use Rattle.spv_table.specs.Table.{Table}
 use Rattle.spv_availability.specs.declared.asks.Ask.{Ask}
 use Rattle.spv_availability.specs.First.{AreOfBlocks, IsFirstMissed}
 use Rattle.spv_trees.specs.Open.{AreOpen}

@@ -1,4 +1,4 @@
-use Rattle.spv_inst.specs.Module.{plain_inst}
+use Rattle.spv_module.specs.Module.{plain_inst}
 use Rattle.spv_branches.proofs.Labelled.{label_some, label_other}
 use Rattle.spv_walks.proofs.operands.label.Goals as goal
 

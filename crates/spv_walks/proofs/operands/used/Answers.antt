@@ -1,4 +1,4 @@
-use Rattle.spv_inst.specs.Module.{plain_inst}
+use Rattle.spv_module.specs.Module.{plain_inst}
 use Rattle.spv_walks.proofs.Used.{used_some}
 use Rattle.spv_walks.proofs.operands.used.Goals as goal
 

@@ -1,4 +1,4 @@
-use Rattle.spv_inst.specs.Module.{plain_inst}
+use Rattle.spv_module.specs.Module.{plain_inst}
 use Rattle.spv_walks.proofs.Used.{value_some, value_other}
 use Rattle.spv_walks.proofs.operands.value.Goals as goal
 

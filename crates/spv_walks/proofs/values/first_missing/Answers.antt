@@ -1,7 +1,7 @@
 use Rattle.std.proofs.Common.{ℕ, Option, get_or, eq-eqb, subst, arith}
 use Rattle.std.proofs.lemmas.List.{length-map}
-use Rattle.spv_grammar.specs.Table.{Table}
-use Rattle.spv_inst.specs.Module.{plain_inst}
+use Rattle.spv_table.specs.Table.{Table}
+use Rattle.spv_module.specs.Module.{plain_inst}
 use Rattle.spv_branches.specs.Target.{is_function}
 use Rattle.spv_branches.proofs.Labelled.{inst_get, op_holds}
 use Rattle.spv_walks.specs.Code.{insts_of, IsCode}

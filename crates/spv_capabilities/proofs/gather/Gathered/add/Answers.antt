@@ -1,5 +1,5 @@
 use Rattle.std.proofs.Common.{◌≡◌, ◌∙◌, ap, arith}
-use Rattle.spv_inst.specs.Module.{plain_inst, plain_operands}
+use Rattle.spv_module.specs.Module.{plain_inst, plain_operands}
 use Rattle.spv_capabilities.specs.Capable.{first_value}
 use Rattle.spv_capabilities.specs.Entry.{called_by, entered_by, imported_by, third_id, second_id, linked_id}
 use Rattle.spv_capabilities.proofs.Marked.{marks_none}

@@ -1,6 +1,6 @@
 use Rattle.std.proofs.Common.{◌↔◌, drop}
 use Rattle.std.specs.List.{AllByRecursion}
-use Rattle.spv_inst.specs.Module.{plain_operands}
+use Rattle.spv_module.specs.Module.{plain_operands}
 use Rattle.spv_capabilities.specs.Capable.{IsCoveredOperand}
 use Rattle.spv_capabilities.specs.Known.{IsKnown}
 use Rattle.spv_capabilities.proofs.memo.Memo.are_covered_operands.Given as goal

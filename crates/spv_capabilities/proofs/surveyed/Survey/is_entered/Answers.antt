@@ -1,5 +1,5 @@
 use Rattle.std.proofs.Common.{◌↔◌, sym, subst, map, length, List, Bool, IsTrue}
-use Rattle.spv_inst.specs.Module.{plain_inst}
+use Rattle.spv_module.specs.Module.{plain_inst}
 use Rattle.spv_capabilities.specs.Subject.{Subject}
 use Rattle.spv_capabilities.specs.Entry.{entered_by, IsEntered}
 use Rattle.spv_capabilities.specs.Survey.{AreMarked}

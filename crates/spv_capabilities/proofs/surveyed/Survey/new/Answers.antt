@@ -2,8 +2,8 @@ use Rattle.std.proofs.Common.{◌≡◌, ◌↔◌, ◌∙◌, ℕ, List, Option
 use Rattle.std.specs.Prelude.{filter_map}
 use Rattle.std.specs.BTreeSet.{contains}
 use Rattle.std.proofs.Math.Seq.{take-length}
-use Rattle.spv_grammar.specs.Implied.{Implied}
-use Rattle.spv_inst.specs.Module.{plain_inst}
+use Rattle.spv_table.specs.Implied.{Implied}
+use Rattle.spv_module.specs.Module.{plain_inst}
 use Rattle.spv_capabilities.specs.Capable.{declared_by}
 use Rattle.spv_capabilities.specs.Survey.{AreGathered}
 use Rattle.spv_capabilities.proofs.surveyed.Survey.new.Goals as goal

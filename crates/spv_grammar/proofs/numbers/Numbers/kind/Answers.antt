@@ -2,7 +2,8 @@ use Rattle.std.proofs.Common.{◌<◌, map, option_map, length, ap, sym, refl, �
 use Rattle.std.proofs.lemmas.Grind.{common_steps}
 use Rattle.std.proofs.lemmas.Option.{slice_get_read, slice_get-map}
 use Rattle.spv_grammar.specs.Kinds.{bears, kind_named}
-use Rattle.spv_grammar.proofs.Firsts.{same_numbers, found_at}
+use Rattle.spv_grammar.proofs.Firsts.{same_numbers}
+use Rattle.spv_table.proofs.Found.{found_at}
 use Rattle.spv_grammar.proofs.numbers.Numbers.kind.Goals as goal
 
 pub returns-in_err-place : goal.returns-in_err-place

@@ -1,5 +1,5 @@
 use Rattle.std.proofs.Common.{arith, get_or}
-use Rattle.spv_inst.specs.Module.{plain_inst}
+use Rattle.spv_module.specs.Module.{plain_inst}
 use Rattle.spv_ids.specs.Survey.{insts_of}
 use Rattle.spv_ids.proofs.Opens.{goes_on, stays_open}
 use Rattle.spv_ids.proofs.Passing.{above, inst_of, not_announced, clean_at}

@@ -1,8 +1,8 @@
 use Rattle.std.proofs.Common.{◌≡◌, ◌∙◌, ◌<◌, sym, length, map, arith, get_or}
 use Rattle.std.proofs.lemmas.List.{length-map}
-use Rattle.spv_inst.specs.Module.{plain_inst, plain_operand}
+use Rattle.spv_module.specs.Module.{plain_inst, plain_operand}
 use Rattle.spv_ids.specs.Survey.{insts_of}
-use Rattle.spv_inst.specs.declared.fault.Rule.TheVariants.{D1}
+use Rattle.spv_module.specs.declared.fault.Rule.TheVariants.{D1}
 use Rattle.spv_ids.specs.Uses.{AreSeen}
 use Rattle.spv_ids.specs.Faulty.{IsFaulty}
 use Rattle.spv_ids.proofs.Bools.{false_true, match_true, match_false}

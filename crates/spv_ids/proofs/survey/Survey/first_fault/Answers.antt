@@ -1,6 +1,6 @@
 use Rattle.std.proofs.Common.{◌≡◌, refl, sym, length, map, get_or}
 use Rattle.std.proofs.lemmas.List.{length-map}
-use Rattle.spv_inst.specs.Module.{plain_inst, plain_operand}
+use Rattle.spv_module.specs.Module.{plain_inst, plain_operand}
 use Rattle.spv_ids.specs.Survey.{insts_of}
 use Rattle.std.specs.Prelude.{Some, None}
 use Rattle.spv_ids.specs.Uses.{AreSeen}

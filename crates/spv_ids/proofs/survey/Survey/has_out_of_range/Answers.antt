@@ -1,7 +1,7 @@
 use Rattle.std.proofs.Common.{◌≡◌, ◌∙◌, sym, length, arith}
 use Rattle.std.proofs.lemmas.Option.{slice_get-get_or}
-use Rattle.spv_inst.specs.declared.operand.Operand.TheVariants as code
-use Rattle.spv_inst.specs.declared.fault.Rule.TheVariants.{D1}
+use Rattle.spv_module.specs.declared.operand.Operand.TheVariants as code
+use Rattle.spv_module.specs.declared.fault.Rule.TheVariants.{D1}
 use Rattle.spv_ids.specs.Faulty.{IsBadUse}
 use Rattle.spv_ids.proofs.Bools.{false_true}
 use Rattle.spv_ids.proofs.Leasts.{bad_at, no_range, no_range_no_use, has_moved, none_yet}

@@ -1,7 +1,7 @@
 use Rattle.std.proofs.Common.{ℕ, List}
-use Rattle.spv_inst.specs.Operand.{PlainInst}
-use Rattle.spv_inst.specs.Module.{plain_operands}
-use Rattle.spv_inst.specs.declared.fault.Rule.TheVariants.{D1}
+use Rattle.spv_module.specs.Operand.{PlainInst}
+use Rattle.spv_module.specs.Module.{plain_operands}
+use Rattle.spv_module.specs.declared.fault.Rule.TheVariants.{D1}
 use Rattle.spv_ids.specs.Uses.{AreSeen}
 use Rattle.spv_ids.specs.Faulty.{HasBadUse}
 use Rattle.spv_ids.proofs.survey.Survey.has_out_of_range.Given as goal

@@ -1,6 +1,6 @@
 use Rattle.std.proofs.Common.{◌<◌, ◌+◌, get_or, arith}
 use Rattle.std.proofs.lemmas.List.{length-map}
-use Rattle.spv_inst.specs.Module.{plain_inst}
+use Rattle.spv_module.specs.Module.{plain_inst}
 use Rattle.spv_ids.proofs.Bools.{eq_tells}
 use Rattle.spv_ids.proofs.Passing.{inst_of, sound_next}
 use Rattle.spv_ids.proofs.survey.Survey.is_next.Goals as goal

@@ -1,6 +1,6 @@
 use Rattle.std.proofs.Common.{◌<◌, ◌≤◌, length, arith}
 use Rattle.std.proofs.lemmas.List.{length-map}
-use Rattle.spv_inst.specs.Module.{plain_inst}
+use Rattle.spv_module.specs.Module.{plain_inst}
 use Rattle.spv_ids.specs.Survey.{insts_of}
 use Rattle.spv_ids.proofs.Bools.{eq_tells}
 use Rattle.spv_ids.proofs.Scopes.{sound_nowhere, sound_here}

@@ -1,6 +1,6 @@
 use Rattle.std.proofs.Common.{◌<◌, arith}
 use Rattle.std.proofs.lemmas.List.{length-map}
-use Rattle.spv_inst.specs.Module.{plain_inst}
+use Rattle.spv_module.specs.Module.{plain_inst}
 use Rattle.spv_ids.proofs.Bools.{lt_tells}
 use Rattle.spv_ids.proofs.Scopes.{plain_global, plain_function}
 use Rattle.spv_ids.proofs.survey.Survey.is_plain.Goals as goal

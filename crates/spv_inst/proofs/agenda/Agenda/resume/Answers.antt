@@ -1,5 +1,5 @@
 use Rattle.std.proofs.Common.{◌∙◌, ◌++◌, ap, map, refl}
-use Rattle.spv_inst.specs.Shape.{alone}
+use Rattle.spv_module.specs.Shape.{alone}
 use Rattle.spv_inst.specs.Flat.{OneOf, due}
 use Rattle.spv_inst.specs.Agenda.{items_of}
 use Rattle.spv_inst.proofs.Frames.{opened_due}

@@ -1,6 +1,6 @@
 use Rattle.std.proofs.Common.{◌≡◌, None, Some}
-use Rattle.spv_inst.specs.Operand.{result_in}
-use Rattle.spv_inst.specs.Module.{plain_operands}
+use Rattle.spv_module.specs.Operand.{result_in}
+use Rattle.spv_module.specs.Module.{plain_operands}
 use Rattle.spv_inst.proofs.Kept.{same_kept, more_kept, on_ok}
 use Rattle.spv_inst.proofs.definitions.Definitions.add.Goals as goal
 

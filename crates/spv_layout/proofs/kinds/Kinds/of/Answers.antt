@@ -1,6 +1,6 @@
 use Rattle.std.proofs.Common.{◌≡◌, ap, Some}
 use Rattle.std.specs.Prelude.{slice_get}
-use Rattle.spv_grammar.specs.Lookups.{number_named}
+use Rattle.spv_table.specs.Lookups.{number_named}
 use Rattle.spv_layout.specs.declared.form.Named.{Named}
 use Rattle.spv_layout.specs.declared.form.Named.TheVariants as kind_of
 use Rattle.spv_layout.specs.declared.kinds.Kinds.TheInside.{Inside}

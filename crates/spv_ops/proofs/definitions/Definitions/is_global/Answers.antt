@@ -1,5 +1,5 @@
 use Rattle.std.proofs.Common.{◌≡◌, Some, None, map, subst, sym, ◌∙◌}
-use Rattle.spv_inst.specs.Module.{plain_inst}
+use Rattle.spv_module.specs.Module.{plain_inst}
 use Rattle.spv_ids.specs.Outcome.{IsOnly, definition_in}
 use Rattle.spv_ops.specs.Variable.{IsGlobal}
 use Rattle.spv_ops.proofs.Lookups.{kept_one, no_global}

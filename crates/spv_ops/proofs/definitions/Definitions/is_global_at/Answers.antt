@@ -1,4 +1,4 @@
-use Rattle.spv_inst.specs.Module.{plain_inst}
+use Rattle.spv_module.specs.Module.{plain_inst}
 use Rattle.spv_ops.proofs.Lookups.{global_told}
 use Rattle.spv_ops.proofs.definitions.Definitions.is_global_at.Goals as goal
 

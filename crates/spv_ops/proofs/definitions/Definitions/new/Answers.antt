@@ -1,5 +1,5 @@
 use Rattle.std.specs.Prelude.{map}
-use Rattle.spv_inst.specs.Module.{plain_inst}
+use Rattle.spv_module.specs.Module.{plain_inst}
 use Rattle.spv_ids.specs.Outcome.{definition_in}
 use Rattle.spv_ops.proofs.Lookups.{finds}
 use Rattle.spv_ops.proofs.definitions.Definitions.new.Goals as goal

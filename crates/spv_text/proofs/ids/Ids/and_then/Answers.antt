@@ -1,5 +1,5 @@
 use Rattle.std.proofs.Common.{◌∙◌, ap}
-use Rattle.spv_inst.specs.Module.{plain_operand}
+use Rattle.spv_module.specs.Module.{plain_operand}
 use Rattle.spv_text.specs.Begun.{either}
 use Rattle.spv_text.proofs.Begins.{of_more}
 use Rattle.spv_text.proofs.ids.Ids.and_then.Goals as goal

@@ -1,4 +1,4 @@
-use Rattle.spv_inst.specs.Module.{plain_inst}
+use Rattle.spv_module.specs.Module.{plain_inst}
 use Rattle.spv_type_rules.proofs.Repeating.{repeats_told, seen_more}
 use Rattle.spv_type_rules.proofs.repeat.Seen.is_declared_again.Goals as goal
 

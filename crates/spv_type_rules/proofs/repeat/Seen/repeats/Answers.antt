@@ -1,5 +1,5 @@
 use Rattle.std.proofs.Common.{sym, ◌∙◌}
-use Rattle.spv_inst.specs.Module.{plain_inst}
+use Rattle.spv_module.specs.Module.{plain_inst}
 use Rattle.spv_type_rules.proofs.Repeating.{not_once}
 use Rattle.spv_type_rules.proofs.repeat.Seen.repeats.Goals as goal
 

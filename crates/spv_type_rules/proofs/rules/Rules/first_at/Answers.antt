@@ -1,7 +1,7 @@
 use Rattle.std.proofs.Common.{refl, sym, subst, ◌∙◌, ◌<◌, ◌↔◌, false, length}
 use Rattle.std.specs.Prelude.{IsTrue}
 use Rattle.std.proofs.lemmas.Option.{slice_get_within}
-use Rattle.spv_inst.specs.Module.{plain_inst, plain_insts}
+use Rattle.spv_module.specs.Module.{plain_inst, plain_insts}
 use Rattle.spv_layout.specs.Plan.{IsPlan}
 use Rattle.spv_ids.specs.Outcome.{IsDefinitionOf, definition_in}
 use Rattle.spv_type_rules.specs.Repeat.{Repeats}

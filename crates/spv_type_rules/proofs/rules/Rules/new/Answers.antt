@@ -1,5 +1,5 @@
 use Rattle.std.proofs.Common.{◌≡◌, sym, ap, map, subst, ◌∙◌}
-use Rattle.spv_inst.specs.Module.{plain_inst, plain_insts}
+use Rattle.spv_module.specs.Module.{plain_inst, plain_insts}
 use Rattle.spv_layout.specs.Plan.{IsPlan}
 use Rattle.spv_ids.specs.Outcome.{IsDefinitionOf, definition_in}
 use Rattle.spv_type_rules.proofs.rules.Rules.new.Goals as goal

@@ -1,0 +1,130 @@
+-- What is traced of bytes that were read.
+use Rattle.std.proofs.Common.{◌≡◌, ◌≢◌, ◌⊎◌, ◌↔◌, ◌≤◌, ◌++◌, ◌∙◌, ℕ, List, [], ◌∷◌, Option, Some, None, Result, Ok, Err, IfSome, IfOk, IfErr, IsErrOf, Bool, true, false, length, take, ap, refl, inl, inr, codes, lit≤}
+use Rattle.std.specs.Io.KnownBytes.{Appends}
+use Rattle.spv_words.specs.Header.{IsFirstBroken, IsModule, Refuses}
+use Rattle.spv_words.specs.declared.words.Order.{Order}
+use Rattle.spv_words.specs.declared.words.WordError.{WordError}
+use Rattle.spv_words.specs.declared.words.WordError.TheVariants as word
+use Rattle.spv_table.specs.Table.{Table}
+use Rattle.spv_run.specs.Entry.{IsEntryId, IsRefused}
+use Rattle.spv_run.specs.declared.parts.Trace.{Trace}
+use Rattle.spv_run.specs.declared.parts.TraceError.{TraceError}
+use Rattle.spv_run.specs.declared.parts.TraceError.TheVariants.{X1, X2}
+use Rattle.spv_verdict.specs.Answer.{IsAnswer}
+use Rattle.spv_verdict.specs.Checked.{IsChecked, IsKept}
+use Rattle.spv_verdict.specs.Program.{Program}
+use Rattle.spv_verdict.specs.Run.{IsRunOf}
+use Rattle.spv_verdict.specs.Text.{line_of}
+use Rattle.spv_verdict.specs.Verdict.{IsVerdict, fault_line, line_end, refused_line, valid_line}
+use Rattle.spv_verdict.specs.declared.checked.Verdict.{Verdict}
+use Rattle.spv_verdict.specs.declared.checked.Verdict.TheVariants.{Valid, Fault}
+use Rattle.spv_verdict.proofs.Checks.{fault_judged}
+use Rattle.spv_verdict.proofs.Verdicts.{fault_is_not_valid, refused_is_not_valid}
+use Rattle.spv_module.specs.declared.fault.Fault as fault
+use Rattle.spv_commands.specs.Trace.{BeginsTracing, HasNoEntry, IsProgram, IsTracing, Traces, judged, traced, trace_text}
+use Rattle.spv_commands.specs.Traced.{is_run, output_of, traced_refusal, traced_stop}
+use Rattle.spv_commands.specs.declared.tracing.RunError.{RunError}
+use Rattle.spv_commands.specs.declared.tracing.RunError.TheVariants as trouble
+use Rattle.spv_commands.specs.declared.tracing.Traced.{Traced}
+
+refused_line_written : (G : Table) (function : ℕ) (choices : List ℕ) (limit : ℕ) (bytes : List ℕ) (code : WordError) → IsFirstBroken code bytes
+    → IsTracing G function choices limit bytes (refused_line code) false
+refused_line_written G function choices limit bytes code h = judged (refused_line code) (IsVerdict.refused code h) (λ e. refused_is_not_valid code e)
+
+-- a code that was read
+pub refused_bytes : (G : Table) (function : ℕ) (choices : List ℕ) (limit : ℕ) (known : Option (List ℕ)) (code : WordError) → IfSome known (λ xs. Refuses code xs)
+    → IfSome known (λ xs. IfOk (traced_refusal code) (λ t. IsTracing G function choices limit xs (output_of t) (is_run t)))
+refused_bytes G function choices limit None code h = tt
+refused_bytes G function choices limit (Some xs) word.W1 h = tt
+refused_bytes G function choices limit (Some xs) word.W9 h = tt
+refused_bytes G function choices limit (Some xs) word.W2 h = refused_line_written G function choices limit xs word.W2 h
+refused_bytes G function choices limit (Some xs) word.W3 h = refused_line_written G function choices limit xs word.W3 h
+refused_bytes G function choices limit (Some xs) word.W4 h = refused_line_written G function choices limit xs word.W4 h
+refused_bytes G function choices limit (Some xs) word.W5 h = refused_line_written G function choices limit xs word.W5 h
+refused_bytes G function choices limit (Some xs) word.W6 h = refused_line_written G function choices limit xs word.W6 h
+refused_bytes G function choices limit (Some xs) word.W7 h = refused_line_written G function choices limit xs word.W7 h
+refused_bytes G function choices limit (Some xs) word.W8 h = refused_line_written G function choices limit xs word.W8 h
+
+pub refused_stranger : (P : Type 0) (code : WordError) → IsErrOf (traced_refusal code) trouble.NoEntry → P
+refused_stranger P word.W1 e = cc
+refused_stranger P word.W9 e = cc
+refused_stranger P code e = cc
+
+-- W1 is told where it was read
+pub refused_count : {X : Type 0} (P : Type 0) (code : WordError) (r : Result X WordError) → r ≡ Err code → (P ↔ IsErrOf r word.W1) → (P ↔ IsErrOf (traced_refusal code) trouble.Failed)
+refused_count P word.W1 r q h = (λ p. refl, λ e. h.1 q)
+refused_count P word.W9 r q h = (λ p. let e = h.0 p in cc, λ e. cc)
+refused_count P code r q h = (λ p. let e = h.0 p in cc, λ e. cc)
+
+-- the line of words that are no valid module
+pub fault_traced : (G : Table) (function : ℕ) (choices : List ℕ) (limit : ℕ) (bytes words : List ℕ) (order : Order) (v : Verdict) (f : fault.Fault) → v ≡ Fault f
+    → IsModule order bytes words → IsAnswer G words v → IsTracing G function choices limit bytes (fault_line f.rule f.inst f.word) false
+fault_traced G function choices limit bytes words order v f e h a =
+    judged (fault_line f.rule f.inst f.word) (fault_judged G bytes words order v f e h a) (λ q. fault_is_not_valid f.rule f.inst f.word q)
+
+-- a module that was checked
+pub checked_by : (G : Table) (words : List ℕ) (v : Verdict) (p : Program) → v ≡ Valid p → IsAnswer G words v → IsChecked G words p
+checked_by G words v p e a = rw e at a
+
+pub program_of : (G : Table) (bytes words : List ℕ) (order : Order) (p : Program) → IsModule order bytes words → IsChecked G words p → IsProgram G bytes p
+program_of G bytes words order p h c = record { words = words; order = order; is_module = h; checked = c }
+
+-- its run, and that there is none
+pub run_traced : (G : Table) (function : ℕ) (choices : List ℕ) (limit : ℕ) (bytes words : List ℕ) (order : Order) (p : Program) (t : Trace) → IsModule order bytes words → IsChecked G words p
+    → IsRunOf G p function choices limit t → IsTracing G function choices limit bytes (trace_text t.steps.items t.ending) true
+run_traced G function choices limit bytes words order p t h c r = traced p t (program_of G bytes words order p h c) r
+
+pub lacks_entry : (G : Table) (function : ℕ) (bytes words : List ℕ) (order : Order) (p : Program) (e : TraceError) → IsModule order bytes words → IsChecked G words p
+    → IsRefused p.insts function e → traced_stop e ≡ trouble.NoEntry → HasNoEntry G bytes function
+lacks_entry G function bytes words order p X1 h c r q = record { program = p; valid = program_of G bytes words order p h c; none = r }
+lacks_entry G function bytes words order p X2 h c r q = cc
+
+pub stop_is_no_failure : (e : TraceError) → traced_stop e ≢ trouble.Failed
+stop_is_no_failure X1 q = cc
+stop_is_no_failure X2 q = cc
+
+-- what is written of the words that were read
+pub known_tracing : (G : Table) (function : ℕ) (choices : List ℕ) (limit : ℕ) (known : Option (List ℕ)) (words : List ℕ) (order : Order) (r : Result Traced RunError)
+    → IfSome known (λ xs. IsModule order xs words)
+    → ((bytes : List ℕ) (o : Order) → IsModule o bytes words → IfOk r (λ t. IsTracing G function choices limit bytes (output_of t) (is_run t)))
+    → IfSome known (λ xs. IfOk r (λ t. IsTracing G function choices limit xs (output_of t) (is_run t)))
+known_tracing G function choices limit None words order r h v = tt
+known_tracing G function choices limit (Some xs) words order r h v = v xs order h
+
+pub known_stranger : (G : Table) (function : ℕ) (known : Option (List ℕ)) (words : List ℕ) (order : Order) (P : Type 0) → IfSome known (λ xs. IsModule order xs words)
+    → ((bytes : List ℕ) (o : Order) → IsModule o bytes words → P → HasNoEntry G bytes function) → P → IfSome known (λ bytes. HasNoEntry G bytes function)
+known_stranger G function None words order P h v p = tt
+known_stranger G function (Some xs) words order P h v p = v xs order h p
+
+-- it was written whole
+pub traces : (G : Table) (function : ℕ) (choices : List ℕ) (limit : ℕ) (known kept new : Option (List ℕ)) (t : Traced) (answer : Bool)
+    → IfSome known (λ bs. IsTracing G function choices limit bs (output_of t) (is_run t)) → answer ≡ is_run t → Appends kept new (output_of t)
+    → IfSome known (λ bs. IfSome kept (λ old. Traces G function choices limit bs old new answer))
+traces G function choices limit None kept new t answer h e w = tt
+traces G function choices limit (Some bs) None new t answer h e w = tt
+traces G function choices limit (Some bs) (Some old) None t answer h e w = absurd w
+traces G function choices limit (Some bs) (Some old) (Some xs) t answer h e w = record { output = output_of t; tracing = rw e h; written = ap Some w }
+
+-- a beginning of it was
+pub begins_tracing : (G : Table) (function : ℕ) (choices : List ℕ) (limit : ℕ) (known kept new : Option (List ℕ)) (t : Traced)
+    → IfSome known (λ bs. IsTracing G function choices limit bs (output_of t) (is_run t))
+    → IfSome kept (λ xs. (n : ℕ) × (n ≤ length (output_of t)) × (new ≡ Some (xs ++ take n (output_of t)))) → IfSome known (λ bs. IfSome kept (λ old. BeginsTracing G function choices limit bs old new))
+begins_tracing G function choices limit None kept new t h w = tt
+begins_tracing G function choices limit (Some bs) None new t h w = tt
+begins_tracing G function choices limit (Some bs) (Some old) new t h w = record { output = output_of t; answer = is_run t; tracing = h; count = w.0; fits = w.1; written = w.2 }
+
+-- three bytes are no module, and have no run
+pub short_traced : (G : Table) (function : ℕ) (choices : List ℕ) (limit : ℕ) → IsFirstBroken word.W2 (1 ∷ 2 ∷ 3 ∷ [])
+    → Traces G function choices limit (1 ∷ 2 ∷ 3 ∷ []) (9 ∷ []) (Some (9 ∷ codes "fault W2" ++ line_end)) false
+short_traced G function choices limit h =
+    record { output = refused_line word.W2; tracing = refused_line_written G function choices limit (1 ∷ 2 ∷ 3 ∷ []) word.W2 h; written = refl }
+
+pub short_begun_tracing : (G : Table) (function : ℕ) (choices : List ℕ) (limit : ℕ) → IsFirstBroken word.W2 (1 ∷ 2 ∷ 3 ∷ [])
+    → BeginsTracing G function choices limit (1 ∷ 2 ∷ 3 ∷ []) (9 ∷ []) (Some (9 ∷ codes "fault"))
+short_begun_tracing G function choices limit h =
+    record { output = refused_line word.W2; answer = false; tracing = refused_line_written G function choices limit (1 ∷ 2 ∷ 3 ∷ []) word.W2 h; count = 5; fits = lit≤ tt; written = refl }
+
+pub no_run : (G : Table) (function : ℕ) (choices : List ℕ) (limit : ℕ) (bytes output : List ℕ) (answer : Bool) → answer ≡ true → ((o : Order) (ws : List ℕ) → ¬ (IsModule o bytes ws))
+    → ¬ (IsTracing G function choices limit bytes output answer)
+no_run G function choices limit bytes _ _ e never (IsTracing.judged line v n) = cc
+no_run G function choices limit bytes _ _ e never (IsTracing.traced p t h r) = never h.order h.words h.is_module

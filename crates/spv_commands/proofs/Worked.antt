@@ -1,0 +1,35 @@
+-- Worked examples of grammar files.
+use Rattle.std.proofs.Common.{◌≡◌, ◌++◌, [], Some, None, IsUtf8, codes, refl}
+use Rattle.spv_table.specs.Table.{Table}
+use Rattle.spv_grammar.specs.declared.error.GrammarError.TheVariants.{J1}
+use Rattle.serde_json.specs.Read.{read as read_text}
+use Rattle.serde_json.proofs.OnLiterals.{serde_json_on_literals}
+use Rattle.spv_grammar.specs.Answer.{Gives}
+use Rattle.spv_table.specs.Example.{empty_table}
+use Rattle.spv_grammar.specs.Example.{empty_tree}
+use Rattle.spv_commands.specs.Example.{empty_grammar}
+use Rattle.spv_commands.specs.Trouble.{IsErrorLine, IsTableOf}
+use Rattle.spv_commands.specs.Trouble.IsErrorLine.{refused as broken}
+use Rattle.spv_verdict.specs.Verdict.{line_end}
+
+-- the text of two empty lists, and no text at all
+pub empty_utf8 : IsUtf8 empty_grammar
+unfolding lib.Utf8.encode
+empty_utf8 = (empty_grammar, (refl, refl))
+
+pub empty_read : read_text empty_grammar ≡ Some empty_tree
+unfolding serde_json_on_literals
+empty_read = refl
+
+pub nothing_read : read_text [] ≡ None
+unfolding serde_json_on_literals
+nothing_read = refl
+
+pub empty_given : Gives empty_tree empty_table → IsTableOf empty_grammar empty_table
+empty_given g = record { tree = empty_tree; utf8 = empty_utf8; is_tree = empty_read; gives = g }
+
+pub nothing_given : (G : Table) → ¬ (IsTableOf [] G)
+nothing_given G t = let e = t.is_tree in let n = nothing_read in cc
+
+pub nothing_breaks : (failed strange : Type 0) → IsErrorLine [] failed strange (codes "error J1" ++ line_end)
+nothing_breaks failed strange = broken J1 (λ _. nothing_read)

@@ -1,0 +1,39 @@
+use Rattle.std.proofs.Common.{refl, lit≤, arith}
+use Rattle.spv_commands.specs.Trouble.{entry, memory}
+use Rattle.spv_table.specs.Example.{empty_table}
+use Rattle.spv_commands.proofs.Tasks.{begins_short, does_short}
+use Rattle.spv_commands.proofs.Worked.{empty_given, nothing_breaks, nothing_given}
+use Rattle.spv_commands.proofs.laws.run_examples.Goals as goal
+
+pub returns-clause-begins_with : goal.returns-clause-begins_with
+returns-clause-begins_with c = record { count = 5; fits = lit≤ tt; written = refl }
+
+pub returns-clause-writes_beginning : goal.returns-clause-writes_beginning
+returns-clause-writes_beginning c = record { whole = λ e. absurd (omega arith); begun = record { count = 5; fits = lit≤ tt; written = refl } }
+
+pub returns-clause-table : goal.returns-clause-table
+returns-clause-table c = empty_given c.table_examples.ensures.gives
+
+pub returns-clause-no_table : goal.returns-clause-no_table
+returns-clause-no_table c = nothing_given
+
+pub returns-clause-does : goal.returns-clause-does
+returns-clause-does c = λ command n. does_short command _ n (empty_given c.table_examples.ensures.gives) (c.stream_examples.ensures.tells empty_table) (c.show_examples.ensures.shows empty_table) (c.trace_examples.ensures.traces empty_table)
+
+pub returns-clause-does_nothing : goal.returns-clause-does_nothing
+returns-clause-does_nothing c = λ command bytes old new held kept answer t. nothing_given t.table t.given
+
+pub returns-clause-begins : goal.returns-clause-begins
+returns-clause-begins c = λ command n. begins_short command _ n (empty_given c.table_examples.ensures.gives) (c.stream_examples.ensures.begins empty_table) (c.show_examples.ensures.begins empty_table) (c.trace_examples.ensures.begins empty_table)
+
+pub returns-clause-begins_nothing : goal.returns-clause-begins_nothing
+returns-clause-begins_nothing c = λ command bytes old new held kept t. nothing_given t.table t.given
+
+pub returns-clause-refused : goal.returns-clause-refused
+returns-clause-refused c = nothing_breaks ⊥ ⊥
+
+pub returns-clause-memory : goal.returns-clause-memory
+returns-clause-memory c = λ text. memory
+
+pub returns-clause-no_entry : goal.returns-clause-no_entry
+returns-clause-no_entry c = λ text. entry tt

@@ -1,0 +1,45 @@
+use Rattle.spv_commands.proofs.Troubles.{no_entry_lacks, no_second, no_third, shown_in, three_reasons, told_in, traced_in, two_reasons}
+use Rattle.spv_commands.proofs.program.done_by.Goals as goal
+
+pub returns-in-Check-clause-done : goal.returns-in-Check-clause-done
+returns-in-Check-clause-done g c = rw c.in-Check.is (told_in c.args.table.now (g.S.Source.remaining c.args.file.now) (g.W.Sink.contents c.args.out.now) (g.W.Sink.contents c.judged.new.out) c.judged.result c.judged.ensures.verdict)
+
+pub returns-in-Check-clause-failed : goal.returns-in-Check-clause-failed
+returns-in-Check-clause-failed g c = no_third _ _ _ _ c.judged.ensures.failed.0
+
+pub returns-in-Check-clause-why : goal.returns-in-Check-clause-why
+returns-in-Check-clause-why g c = two_reasons _ _ _ _ _ _ c.judged.ensures.only c.judged.ensures.failed
+
+pub returns-in-Check-clause-begun : goal.returns-in-Check-clause-begun
+returns-in-Check-clause-begun g c = rw c.in-Check.is (no_second _ _ _ c.judged.ensures.begun)
+
+pub returns-in-Show-clause-done : goal.returns-in-Show-clause-done
+returns-in-Show-clause-done g c = rw c.in-Show.is (shown_in c.args.table.now (g.S.Source.remaining c.args.file.now) (g.W.Sink.contents c.args.out.now) (g.W.Sink.contents c.shown.new.out) c.shown.result c.shown.ensures.shown)
+
+pub returns-in-Show-clause-failed : goal.returns-in-Show-clause-failed
+returns-in-Show-clause-failed g c = no_third _ _ _ _ c.shown.ensures.failed.0
+
+pub returns-in-Show-clause-why : goal.returns-in-Show-clause-why
+returns-in-Show-clause-why g c = two_reasons _ _ _ _ _ _ c.shown.ensures.only c.shown.ensures.failed
+
+pub returns-in-Show-clause-begun : goal.returns-in-Show-clause-begun
+returns-in-Show-clause-begun g c = rw c.in-Show.is (no_second _ _ _ c.shown.ensures.begun)
+
+pub returns-in-Asm-clause-why : goal.returns-in-Asm-clause-why
+returns-in-Asm-clause-why g c = rw c.in-Asm.is (no_entry_lacks _ _ c.assembled.result c.assembled.ensures.why)
+
+pub returns-in-Trace-clause-done : goal.returns-in-Trace-clause-done
+returns-in-Trace-clause-done g c =
+    let t = traced_in c.args.table.now _ _ _ (g.S.Source.remaining c.args.file.now) (g.W.Sink.contents c.args.out.now) (g.W.Sink.contents c.traced.new.out) c.traced.result c.traced.ensures.traced in
+    rw c.in-Trace.is (rw c.deref.ensures.value at t)
+
+pub returns-in-Trace-clause-failed : goal.returns-in-Trace-clause-failed
+returns-in-Trace-clause-failed g c = no_third _ _ _ _ c.traced.ensures.failed.0
+
+pub returns-in-Trace-clause-why : goal.returns-in-Trace-clause-why
+returns-in-Trace-clause-why g c = rw c.in-Trace.is (three_reasons _ _ _ _ _ _ c.traced.ensures.why c.traced.ensures.failed)
+
+pub returns-in-Trace-clause-begun : goal.returns-in-Trace-clause-begun
+returns-in-Trace-clause-begun g c =
+    let b = rw c.deref.ensures.value at c.traced.ensures.begun in
+    rw c.in-Trace.is (no_second _ _ _ b)

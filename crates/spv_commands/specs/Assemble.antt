@@ -1,0 +1,61 @@
+-- What `asm` makes of a text. (Own.)
+use Rattle.std.specs.Prelude.{◌++◌, ◌*◌, ℕ, List, length, Option, Bool, true, false, IfSome, IsUtf8, drop, codes, decimal, if◌then◌else◌}
+use Rattle.std.specs.Io.KnownBytes.{Appends, Keeps}
+use Rattle.spv_words.specs.Header.{IsHeader}
+use Rattle.spv_words.specs.Streams.{Holds}
+use Rattle.spv_words.specs.declared.words.Header.{Header}
+use Rattle.spv_words.specs.declared.words.Order.{Order}
+use Rattle.spv_words.specs.declared.words.Order.TheVariants.{Little, Big}
+use Rattle.spv_table.specs.Table.{Table}
+use Rattle.spv_module.specs.Operand.{PlainInst}
+use Rattle.spv_inst.specs.Outcome.{IsHeaderOf}
+use Rattle.spv_lines.specs.Text.{IsReadText}
+use Rattle.spv_lines.specs.Fault.{IsFailure}
+use Rattle.spv_lines.specs.declared.asm_error.AsmCode.{AsmCode}
+use Rattle.spv_lines.specs.declared.asm_error.AsmCode.TheVariants.{S1, S2, S3, S4, S5, S6}
+use Rattle.spv_commands.specs.Trouble.{BeginsWith}
+use Rattle.spv_verdict.specs.Verdict.{line_end}
+
+-- the code of a text's fault, as text
+abbrev pub asm_code_text : AsmCode → List ℕ
+asm_code_text S1 = codes "S1"
+asm_code_text S2 = codes "S2"
+asm_code_text S3 = codes "S3"
+asm_code_text S4 = codes "S4"
+asm_code_text S5 = codes "S5"
+asm_code_text S6 = codes "S6"
+
+-- `fault S3 line 7`, as an example: lines are counted from 1
+abbrev pub text_fault_line : AsmCode → ℕ → List ℕ
+text_fault_line code line = codes "fault " ++ asm_code_text code ++ codes " line " ++ decimal line ++ line_end
+
+-- the order of the bytes that are made
+abbrev pub order_of : Bool → Order
+order_of big = if big then Big else Little
+
+-- The text is UTF-8 and is read, under the grammar table, as a header and a list of instructions; the words are those of the
+-- header, and behind them those of the list.
+pub record IsImageOf (G : Table) (text words : List ℕ) : Type 0 where
+  pub utf8 : IsUtf8 text
+  pub header : Header
+  pub insts : List PlainInst
+  pub read : IsReadText G header insts (drop 5 words) text
+  pub begins : IsHeader words
+  pub told : IsHeaderOf words header
+
+-- The standard output that held the bytes `old`, where they are known, holds `new`, and the file that held the bytes `held`,
+-- where they are known, holds `kept`. The answer tells whether the text is that of a module.
+pub data Assembles (G : Table) (o : Order) (text : List ℕ) (old new held kept : Option (List ℕ)) : Bool → Type 0 where
+  -- it is: the file also holds all the bytes that stand for the words in the order, and the standard output is as it was
+  made : (words : List ℕ) → IsImageOf G text words → Keeps old new → IfSome held (λ xs. Holds o words xs kept (4 * length words))
+      → Assembles G o text old new held kept true
+  -- it is not: the standard output also holds the line of the first fault, and the file is as it was
+  failed : (code : AsmCode) (line : ℕ) → IsUtf8 text → IsFailure G text code line → Appends old new (text_fault_line code line) → Keeps held kept
+      → Assembles G o text old new held kept false
+
+-- The same for a beginning of the bytes or of the line.
+pub data BeginsAssembling (G : Table) (o : Order) (text : List ℕ) (old new held kept : Option (List ℕ)) : Type 0 where
+  made : (words : List ℕ) → IsImageOf G text words → Keeps old new → IfSome held (λ xs. (n : ℕ) × Holds o words xs kept n)
+      → BeginsAssembling G o text old new held kept
+  failed : (code : AsmCode) (line : ℕ) → IsUtf8 text → IsFailure G text code line → IfSome old (λ xs. BeginsWith (text_fault_line code line) xs new) → Keeps held kept
+      → BeginsAssembling G o text old new held kept

@@ -1,0 +1,143 @@
+-- The words of the command line (own): what `clap` is told of them, and which command they give.
+use Rattle.std.specs.Prelude.{◌≡◌, ◌≢◌, ◌⊎◌, ◌↔◌, ℕ, List, [], Bool, true, false, IsTrue, Option, Some, None, option_map, option_and_then, codes, Result, Ok, Err}
+use Rattle.clap.specs.Words.{App, IsAmong, Row, Rule, Shape, Text, fault_of, first_of, new_app, new_rule, subcommand_of, with_rule, with_subcommand}
+use Rattle.clap.specs.Simple.{on_top}
+use Rattle.clap.specs.declared.builder.action.ArgAction.TheVariants.{SetTrue}
+use Rattle.clap.specs.declared.error.kind.ErrorKind.{ErrorKind}
+use Rattle.clap.specs.declared.error.kind.ErrorKind.TheVariants.{DisplayHelp, OutOfMemory}
+use Rattle.spv_commands.specs.declared.command_line.Command.{Command}
+use Rattle.spv_commands.specs.declared.command_line.Command.TheVariants.{Check, Show, Asm, Trace}
+use Rattle.spv_commands.specs.declared.command_line.UseError.{UseError}
+use Rattle.spv_commands.specs.declared.command_line.UseError.TheVariants.{U1, U2, U3}
+use Rattle.spv_commands.specs.Number.{AreNumbersOf, IsNumberOf}
+
+-- `--grammar G`, which must be given
+abbrev pub grammar_option : Rule
+grammar_option = record (new_rule (codes "grammar")) { long = Some (codes "grammar"); value_names = 1; required = true }
+
+-- `FILE`, which must be given
+abbrev pub file_word : Rule
+file_word = record (new_rule (codes "file")) { value_names = 1; required = true }
+
+-- `--out OUT`, which must be given
+abbrev pub out_option : Rule
+out_option = record (new_rule (codes "out")) { long = Some (codes "out"); value_names = 1; required = true }
+
+-- `--big`, which may be given
+abbrev pub big_flag : Rule
+big_flag = record (new_rule (codes "big")) { long = Some (codes "big"); action = Some SetTrue }
+
+-- an option of numbers, which must be given or may be
+abbrev pub number_option : Text → Bool → Rule
+number_option name must = record (new_rule name) { long = Some name; value_names = 1; required = must }
+
+-- `--function ID` and `--limit N`, which must be given, and `--choices LIST`
+abbrev pub function_option : Rule
+function_option = number_option (codes "function") true
+
+abbrev pub choices_option : Rule
+choices_option = number_option (codes "choices") false
+
+abbrev pub limit_option : Rule
+limit_option = number_option (codes "limit") true
+
+-- `NAME --grammar G FILE`
+abbrev pub file_command : Text → Shape
+file_command name = (with_rule (with_rule (new_app name) grammar_option) file_word).top
+
+-- `asm --grammar G FILE --out OUT [--big]`
+abbrev pub asm_command : Shape
+asm_command = (with_rule (with_rule (with_rule (with_rule (new_app (codes "asm")) grammar_option) file_word) out_option) big_flag).top
+
+-- `trace --grammar G FILE --function ID [--choices LIST] --limit N`
+abbrev pub trace_command : Shape
+trace_command =
+    (with_rule (with_rule (with_rule (with_rule (with_rule (new_app (codes "trace")) grammar_option) file_word) function_option) choices_option) limit_option).top
+
+-- the commands that judge or show a module; the words begin after the program's name
+abbrev pub module_program : App
+module_program =
+    with_subcommand
+    (with_subcommand (on_top (λ s. record s { no_binary_name = true; subcommand_required = true; disable_help_subcommand = true }) (new_app (codes "spv")))
+    (file_command (codes "check")))
+    (file_command (codes "show"))
+
+-- all commands, of which one must be given
+abbrev pub program : App
+program = with_subcommand (with_subcommand module_program asm_command) trace_command
+
+-- the name of the command with the text of `--grammar` and of `FILE`, as `clap` reads them
+abbrev pub texts_in : Option (Text × List Row) → Option (Text × Option Text × Option Text)
+texts_in found = option_map (λ p. (p.0, first_of (codes "grammar") p.1, first_of (codes "file") p.1)) found
+
+-- the text of another of its options
+abbrev pub text_in : Text → Option (Text × List Row) → Option Text
+text_in name found = option_and_then (λ p. first_of name p.1) found
+
+-- they are the command of that name with both of its texts
+abbrev pub IsAsked : Option (Text × List Row) → Text → Text → Text → Type 0
+IsAsked found name grammar file = texts_in found ≡ Some (name, Some grammar, Some file)
+
+-- they are `trace` with both of its texts, and with the numbers that its options are in decimal
+pub record IsTrace (found : Option (Text × List Row)) (grammar file : Text) (function : ℕ) (choices : List ℕ) (limit : ℕ) : Type 0 where
+  pub asked : IsAsked found (codes "trace") grammar file
+  pub function_is : IsNumberOf (text_in (codes "function") found) function
+  pub choices_are : AreNumbersOf (text_in (codes "choices") found) choices
+  pub limit_is : IsNumberOf (text_in (codes "limit") found) limit
+
+-- they are a command with all of its texts; a flag that was read has the text `true`
+abbrev pub IsCommand : Option (Text × List Row) → Command → Type 0
+IsCommand found (Check grammar file) = IsAsked found (codes "check") grammar.now file.now
+IsCommand found (Show grammar file) = IsAsked found (codes "show") grammar.now file.now
+IsCommand found (Asm grammar file out big) =
+    IsAsked found (codes "asm") grammar.now file.now × (text_in (codes "out") found ≡ Some out.now) × (IsTrue big ↔ (text_in (codes "big") found ≡ Some (codes "true")))
+IsCommand found (Trace grammar file function choices limit) = IsTrace found grammar.now file.now function choices.items limit
+
+-- they are no command with all of its texts
+pub record IsNoCommand (found : Option (Text × List Row)) : Type 0 where
+  pub check : (grammar file : Text) → ¬ (IsAsked found (codes "check") grammar file)
+  pub show : (grammar file : Text) → ¬ (IsAsked found (codes "show") grammar file)
+  pub asm : (grammar file out : Text) → IsAsked found (codes "asm") grammar file → ¬ (text_in (codes "out") found ≡ Some out)
+  pub trace : (grammar file : Text) (function : ℕ) (choices : List ℕ) (limit : ℕ) → ¬ (IsTrace found grammar file function choices limit)
+
+-- what `clap` read is the command, or none
+abbrev pub IsCommandOf : Option (Text × List Row) → Result Command UseError → Type 0
+IsCommandOf found (Ok c) = IsCommand found c
+IsCommandOf found (Err U1) = IsNoCommand found
+IsCommandOf found (Err U2) = Unit {0}
+IsCommandOf found (Err U3) = ⊥
+
+-- the code for a kind of error of `clap`
+abbrev pub error_of : ErrorKind → UseError
+error_of OutOfMemory = U2
+error_of DisplayHelp = U3
+error_of _ = U1
+
+-- `clap` finds a fault in the words, or they do not give a command with all of its texts
+abbrev pub IsRefused : List Text → Type 0
+IsRefused words = ((k : ErrorKind) × IsAmong k (fault_of program words) × (k ≢ DisplayHelp)) ⊎ IsNoCommand (subcommand_of program words)
+
+-- what may be answered to the words
+abbrev pub AnswersTo : List Text → Result Command UseError → Type 0
+AnswersTo words (Ok c) = (fault_of program words ≡ []) × IsCommand (subcommand_of program words) c
+AnswersTo words (Err U1) = IsRefused words
+AnswersTo words (Err U2) = Unit {0}
+AnswersTo words (Err U3) = IsAmong DisplayHelp (fault_of program words)
+
+-- of these rows the command is `asm` with these two texts and its own, or it has none (for the code alone)
+abbrev pub IsAsmOf : List Row → Text → Text → Option Command → Type 0
+IsAsmOf rows g f (Some (Asm grammar file out big)) =
+    (grammar.now ≡ g) × (file.now ≡ f) × (first_of (codes "out") rows ≡ Some out.now) × (IsTrue big ↔ (first_of (codes "big") rows ≡ Some (codes "true")))
+IsAsmOf rows g f (Some _) = ⊥
+IsAsmOf rows g f None = first_of (codes "out") rows ≡ None
+
+-- of these rows the command is `trace` with these two texts and its own numbers, or these have none (for the code alone)
+abbrev pub IsTraceOf : List Row → Text → Text → Result Command UseError → Type 0
+IsTraceOf rows g f (Ok (Trace grammar file function choices limit)) =
+    (grammar.now ≡ g) × (file.now ≡ f) × IsNumberOf (first_of (codes "function") rows) function × AreNumbersOf (first_of (codes "choices") rows) choices.items
+    × IsNumberOf (first_of (codes "limit") rows) limit
+IsTraceOf rows g f (Ok _) = ⊥
+IsTraceOf rows g f (Err U1) = (function : ℕ) (choices : List ℕ) (limit : ℕ) → IsNumberOf (first_of (codes "function") rows) function
+    → AreNumbersOf (first_of (codes "choices") rows) choices → IsNumberOf (first_of (codes "limit") rows) limit → ⊥
+IsTraceOf rows g f (Err U2) = Unit {0}
+IsTraceOf rows g f (Err U3) = ⊥

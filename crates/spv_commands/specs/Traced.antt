@@ -1,0 +1,34 @@
+-- What is traced, as the code keeps it. (For the code alone.)
+use Rattle.std.specs.Prelude.{ℕ, List, Bool, true, false, Result, Ok, Err}
+use Rattle.spv_words.specs.declared.words.WordError.{WordError}
+use Rattle.spv_words.specs.declared.words.WordError.TheVariants.{W1, W9}
+use Rattle.spv_run.specs.declared.parts.TraceError.{TraceError}
+use Rattle.spv_run.specs.declared.parts.TraceError.TheVariants.{X1, X2}
+use Rattle.spv_verdict.specs.declared.verdict_line.Judgment.TheVariants.{Refused}
+use Rattle.spv_verdict.specs.Text.{line_of}
+use Rattle.spv_commands.specs.Trace.{trace_text}
+use Rattle.spv_commands.specs.declared.tracing.RunError.{RunError}
+use Rattle.spv_commands.specs.declared.tracing.RunError.TheVariants as trouble
+use Rattle.spv_commands.specs.declared.tracing.Traced.{Traced}
+use Rattle.spv_commands.specs.declared.tracing.Traced.TheVariants.{Run, Line}
+
+-- the octets that are written
+abbrev pub output_of : Traced → List ℕ
+output_of (Run t) = trace_text t.steps.items t.ending
+output_of (Line v) = line_of v
+
+-- is it a run
+abbrev pub is_run : Traced → Bool
+is_run (Run t) = true
+is_run (Line v) = false
+
+-- a failed read and want of memory are errors, and of all other codes the line is written
+abbrev pub traced_refusal : WordError → Result Traced RunError
+traced_refusal W1 = Err trouble.Failed
+traced_refusal W9 = Err trouble.Memory
+traced_refusal code = Ok (Line (Refused code))
+
+-- what the error of a trace is told as
+abbrev pub traced_stop : TraceError → RunError
+traced_stop X1 = trouble.NoEntry
+traced_stop X2 = trouble.Memory

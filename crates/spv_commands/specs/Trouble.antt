@@ -1,0 +1,77 @@
+-- What a run leaves in its outputs, and why it ends without a verdict (own).
+use Rattle.std.specs.Prelude.{◌≡◌, ◌≤◌, ◌++◌, ℕ, List, Option, Some, IfSome, IsUtf8, length, take, codes}
+use Rattle.std.specs.Io.KnownBytes.{Appends}
+use Rattle.serde_json.specs.Data.{Data}
+use Rattle.serde_json.specs.Read.{read as read_text}
+use Rattle.spv_words.specs.declared.words.WordError.{WordError}
+use Rattle.spv_words.specs.declared.words.WordError.TheVariants.{W9}
+use Rattle.spv_grammar.specs.Answer.{Gives, text_breaks}
+use Rattle.spv_table.specs.Table.{Table}
+use Rattle.spv_grammar.specs.declared.error.GrammarError.{GrammarError}
+use Rattle.spv_grammar.specs.declared.error.GrammarError.TheVariants as grammar
+use Rattle.spv_commands.specs.declared.program.Trouble.{Trouble}
+use Rattle.spv_commands.specs.declared.program.Trouble.TheVariants as trouble
+use Rattle.spv_verdict.specs.Verdict.{line_end}
+
+-- the line that tells want of memory
+abbrev pub memory_line : List ℕ
+memory_line = codes "error memory" ++ line_end
+
+-- the line that tells a failed read or write, and a file that does not open
+abbrev pub file_line : List ℕ
+file_line = codes "error file" ++ line_end
+
+-- the line that tells an id that is no entry point's function
+abbrev pub entry_line : List ℕ
+entry_line = codes "error X1" ++ line_end
+
+-- the line of a refused grammar file; J8 is want of memory
+abbrev pub grammar_text : GrammarError → List ℕ
+grammar_text grammar.J1 = codes "error J1" ++ line_end
+grammar_text grammar.J2 = codes "error J2" ++ line_end
+grammar_text grammar.J3 = codes "error J3" ++ line_end
+grammar_text grammar.J4 = codes "error J4" ++ line_end
+grammar_text grammar.J5 = codes "error J5" ++ line_end
+grammar_text grammar.J6 = codes "error J6" ++ line_end
+grammar_text grammar.J7 = codes "error J7" ++ line_end
+grammar_text grammar.J8 = memory_line
+
+-- the line of a trouble
+abbrev pub trouble_text : Trouble → List ℕ
+trouble_text trouble.Use = codes "error use" ++ line_end
+trouble_text trouble.File = file_line
+trouble_text trouble.Memory = memory_line
+trouble_text trouble.NoEntry = entry_line
+trouble_text (trouble.Grammar e) = grammar_text e
+
+-- what an error of a check of a stream is told as
+abbrev pub trouble_from : WordError → Trouble
+trouble_from W9 = trouble.Memory
+trouble_from _ = trouble.File
+
+-- The error line of a run whose grammar file has this text, for a reason: the text breaks a code, a read or a write
+-- `failed`, an id is `strange`, or memory was refused. No clause can tell when memory is refused, so the last stands for itself.
+pub data IsErrorLine (text : List ℕ) (failed strange : Type 0) : List ℕ → Type 0 where
+  refused : (e : GrammarError) → text_breaks text e → IsErrorLine text failed strange (grammar_text e)
+  file : failed → IsErrorLine text failed strange file_line
+  entry : strange → IsErrorLine text failed strange entry_line
+  memory : IsErrorLine text failed strange memory_line
+
+-- A writer that held the bytes `old` now also holds a beginning of the line, and nothing else.
+pub record BeginsWith (line old : List ℕ) (new : Option (List ℕ)) : Type 0 where
+  pub count : ℕ
+  pub fits : count ≤ length line
+  pub written : new ≡ Some (old ++ take count line)
+
+-- A writer that held the bytes `old`, where they are known, now also holds the line, and nothing else. Where a write
+-- failed, so that the count of its failures, `before`, became another one, it holds a beginning of the line.
+pub record Writes (line : List ℕ) (old new : Option (List ℕ)) (before after : ℕ) : Type 0 where
+  pub whole : after ≡ before → Appends old new line
+  pub begun : IfSome old (λ xs. BeginsWith line xs new)
+
+-- The text of a grammar file is JSON, and its tree gives the table.
+pub record IsTableOf (text : List ℕ) (G : Table) : Type 0 where
+  pub tree : Data
+  pub utf8 : IsUtf8 text
+  pub is_tree : read_text text ≡ Some tree
+  pub gives : Gives tree G

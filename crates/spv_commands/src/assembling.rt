@@ -1,0 +1,153 @@
+//! What `asm` makes of the text of a stream.
+ghost use Rattle.std.specs.Prelude.{◌≡◌, ◌≢◌, ◌⊎◌, ◌↔◌, IfOk, IfErr, IfSome, IsErr, IsErrOf, IsUtf8};
+ghost use Rattle.spv_commands.specs.Assemble.{Assembles, BeginsAssembling};
+ghost use Rattle.spv_commands.specs.Assembly.{ComesTo, fault_of};
+ghost use Rattle.spv_commands.specs.declared.assembling.TextError.TheVariants as trouble;
+
+use crate::text_fault::text_fault;
+use simdutf8::basic::from_utf8;
+use spv_table::Table;
+use spv_text::{AsmCode, AsmError, assemble};
+use spv_words::{Failed, Image, Order, Sink, Source, write_all, write_image};
+use std::alloc::{AllocError, Global};
+
+/// How many bytes are read at a time.
+const BLOCK_SIZE: usize = 65_536;
+
+/// Why nothing can be said of a text.
+#[derive(Clone, Copy, Debug, PartialEq, Eq)]
+pub enum TextError {
+    /// A read or a write failed.
+    Failed,
+    /// The bytes are not UTF-8.
+    NotText,
+    /// A growth of memory was refused.
+    Memory,
+}
+
+impl From<Failed> for TextError {
+    ghost use Rattle.std.specs.Prelude.{◌≡◌};
+    ghost use Rattle.spv_commands.specs.declared.assembling.TextError.TheVariants as trouble;
+
+    ghost from_gives = { λ _ e. e ≡ trouble.Failed };
+
+    fn from(_error: Failed) -> TextError {
+        TextError::Failed
+    }
+}
+
+impl From<AllocError> for TextError {
+    ghost use Rattle.std.specs.Prelude.{◌≡◌};
+    ghost use Rattle.spv_commands.specs.declared.assembling.TextError.TheVariants as trouble;
+
+    ghost from_gives = { λ _ e. e ≡ trouble.Memory };
+
+    fn from(_error: AllocError) -> TextError {
+        TextError::Memory
+    }
+}
+
+/// What a text comes to.
+#[derive(Drop)]
+pub enum Assembly {
+    /// The image of its words.
+    Made(Image),
+    /// Its first fault, of S1 to S5.
+    Fault(AsmError),
+}
+
+/// All the bytes of a reader.
+#[tactic(auto, using(crate::proofs::Assemblings::all_read))]
+fn read_all<R: Source>(alloc: Global, r: &mut R) -> Result<Vec<u8>, TextError>
+    ensures known { IfSome (R.remaining r.old) (λ xs. IfOk result (λ v. v.items ≡ xs)) }
+    ensures count { R.failures r.new ≢ R.failures r.old ↔ IsErrOf result trouble.Failed }
+    ensures only { IfErr result (λ e. e ≢ trouble.NotText) }
+{
+    let mut bytes = Vec::with_capacity(alloc, BLOCK_SIZE)?;
+    let mut block = [0u8; BLOCK_SIZE];
+    // Memory is refused long before.
+    while bytes.len() < usize::MAX {
+        let n = r.read(&mut block)?;
+        if n == 0 {
+            return Ok(bytes);
+        }
+        bytes.extend_from_slice(&block[..n])?;
+    }
+    Err(TextError::Memory)
+}
+
+/// What a text comes to that has no image: S6 is want of memory, and any other fault is told.
+fn faulty(error: AsmError) -> Result<Assembly, TextError>
+    ensures { result ≡ fault_of error }
+{
+    match error.code {
+        AsmCode::S6 => Err(TextError::Memory),
+        _ => Ok(Assembly::Fault(error)),
+    }
+}
+
+/// What bytes come to as a text.
+fn assembly_of(alloc: Global, table: &Table, bytes: &[u8]) -> Result<Assembly, TextError>
+    ensures comes { IfOk result (λ a. ComesTo table.now bytes.now a) }
+    ensures no_text { IsErrOf result trouble.NotText → ¬ IsUtf8 bytes.now }
+    ensures only { IfErr result (λ e. e ≢ trouble.Failed) }
+{
+    let text = match from_utf8(bytes) {
+        Ok(text) => text,
+        Err(_) => return Err(TextError::NotText),
+    };
+    match assemble(alloc, table, text) {
+        Ok(image) => Ok(Assembly::Made(image)),
+        Err(error) => faulty(error),
+    }
+}
+
+/// What all the bytes of a reader come to as a text.
+#[tactic(auto, using(crate::proofs::Assemblings::all_known))]
+fn assembly_on<R: Source>(alloc: Global, table: &Table, r: &mut R) -> Result<Assembly, TextError>
+    ensures comes { IfSome (R.remaining r.old) (λ bytes. IfOk result (λ a. ComesTo table.now bytes a)) }
+    ensures no_text { IsErrOf result trouble.NotText → IfSome (R.remaining r.old) (λ bytes. ¬ IsUtf8 bytes) }
+    ensures count { R.failures r.new ≢ R.failures r.old ↔ IsErrOf result trouble.Failed }
+{
+    let bytes = read_all(alloc, r)?;
+    assembly_of(alloc, table, &bytes)
+}
+
+/// Makes the module of the text that a reader's bytes up to the end of input are: writes its bytes in an order to `made`,
+/// and answers true; or, where the text fails, writes the line of its fault to `out`, and answers false.
+///
+/// # Errors
+///
+/// `Failed`: a read or a write failed. After a failed read nothing was written, after a failed write a beginning of the
+/// bytes or of the line. `NotText`: the bytes are not UTF-8, and `Memory`: a growth of memory was refused; nothing was
+/// written then.
+pub fn assemble_stream<R: Source, W: Sink, O: Sink>(
+    alloc: Global,
+    table: &Table,
+    order: Order,
+    r: &mut R,
+    out: &mut W,
+    made: &mut O,
+) -> Result<bool, TextError>
+    // The bytes or the line of all the bytes that the reader still gave were written, and nothing else.
+    ensures assembled { IfSome (R.remaining r.old) (λ bytes. IfOk result (λ answer. Assembles table.now order bytes (W.contents out.old) (W.contents out.new) (O.contents made.old) (O.contents made.new) answer)) }
+    // The answer is `Failed` exactly where a read or a write failed.
+    ensures count { ((R.failures r.new ≢ R.failures r.old) ⊎ (W.failures out.new ≢ W.failures out.old) ⊎ (O.failures made.new ≢ O.failures made.old)) ↔ IsErrOf result trouble.Failed }
+    ensures no_text { IsErrOf result trouble.NotText → IfSome (R.remaining r.old) (λ bytes. ¬ IsUtf8 bytes) }
+    // With an error a writer that did not fail is as it was.
+    ensures unwritten { IsErr result → W.failures out.new ≡ W.failures out.old → out.new ≡ out.old }
+    ensures unmade { IsErr result → O.failures made.new ≡ O.failures made.old → made.new ≡ made.old }
+    // After a failed write a beginning was written.
+    ensures begun { (W.failures out.new ≢ W.failures out.old) ⊎ (O.failures made.new ≢ O.failures made.old) → IfSome (R.remaining r.old) (λ bytes. BeginsAssembling table.now order bytes (W.contents out.old) (W.contents out.new) (O.contents made.old) (O.contents made.new)) }
+{
+    match assembly_on(alloc, table, r)? {
+        Assembly::Made(image) => match write_image(&image, order, made) {
+            Ok(()) => Ok(true),
+            Err(_) => Err(TextError::Failed),
+        },
+        Assembly::Fault(error) => match write_all(text_fault(error).as_slice(), out) {
+            Ok(()) => Ok(false),
+            Err(_) => Err(TextError::Failed),
+        },
+    }
+}

@@ -1,0 +1,125 @@
+//! What follows from the definitions of what is shown and of a grammar file's table. Each function does nothing: its contract
+//! is what is proved.
+ghost use Rattle.std.specs.Prelude.{◌≡◌, ◌++◌, ◌∷◌, [], ℕ, List, Option, Bool, true, false, codes};
+ghost use Rattle.spv_words.specs.declared.words.Order.{Order};
+ghost use Rattle.spv_table.specs.Table.{Table};
+ghost use Rattle.spv_grammar.specs.Answer.{text_breaks};
+ghost use Rattle.spv_grammar.specs.declared.error.GrammarError.{GrammarError};
+ghost use Rattle.spv_table.specs.Example.{empty_table};
+ghost use Rattle.spv_commands.specs.Example.{empty_grammar};
+ghost use Rattle.spv_commands.specs.Show.{BeginsShowing, IsShowing, Shows};
+ghost use Rattle.spv_commands.specs.Assemble.{Assembles, BeginsAssembling};
+ghost use Rattle.spv_commands.specs.Number.{AreNumbers, IsNumber};
+ghost use Rattle.spv_commands.specs.Trace.{BeginsTracing, HasNoEntry, Traces, step_line, trace_text};
+ghost use Rattle.spv_run.specs.declared.parts.Ending.TheVariants.{Finished, Limit};
+ghost use Rattle.spv_commands.specs.Task.{BeginsByText, DoesByText, MakesNothing};
+ghost use Rattle.spv_commands.specs.Trouble.{BeginsWith, IsErrorLine, IsTableOf, Writes, entry_line, file_line, memory_line};
+ghost use Rattle.spv_commands.specs.declared.command_line.Command.{Command};
+ghost use Rattle.spv_verdict.specs.Verdict.{line_end, valid_line};
+
+use spv_grammar::laws::one_table;
+use spv_inst::{listed_or_dead, one_death, one_listing};
+use spv_lines::one_shown;
+
+/// Bytes are shown in one way.
+pub fn one_showing()
+    ensures output { (G : Table) (bytes one other : List ℕ) (a b : Bool) → IsShowing G bytes one a → IsShowing G bytes other b → one ≡ other }
+    ensures answer { (G : Table) (bytes one other : List ℕ) (a b : Bool) → IsShowing G bytes one a → IsShowing G bytes other b → a ≡ b }
+{
+    spv_words::laws::one_word_list();
+    spv_words::laws::one_refusal();
+    one_death();
+    one_listing();
+    listed_or_dead();
+    one_shown();
+}
+
+/// The text of a grammar file gives at most one table, breaks at most one code, and not both.
+pub fn one_grammar()
+    ensures table { (text : List ℕ) (G H : Table) → IsTableOf text G → IsTableOf text H → G ≡ H }
+    ensures code { (text : List ℕ) (d e : GrammarError) → text_breaks text d → text_breaks text e → d ≡ e }
+    ensures never { (text : List ℕ) (G : Table) (e : GrammarError) → IsTableOf text G → ¬ (text_breaks text e) }
+{
+    one_table();
+}
+
+/// Worked examples of what is shown.
+pub fn show_examples()
+    // A writer that held the byte 9 got the line of three bytes, which are no module and have no text.
+    ensures shows { (G : Table) → Shows G (1 ∷ 2 ∷ 3 ∷ []) (9 ∷ []) (Some (9 ∷ codes "fault W2" ++ line_end)) false }
+    ensures shows_text { (G : Table) (new : Option (List ℕ)) → ¬ (Shows G (1 ∷ 2 ∷ 3 ∷ []) [] new true) }
+    // The first five bytes of that line.
+    ensures begins { (G : Table) → BeginsShowing G (1 ∷ 2 ∷ 3 ∷ []) (9 ∷ []) (Some (9 ∷ codes "fault")) }
+{
+    spv_words::laws::examples();
+    spv_words::laws::one_refusal();
+}
+
+/// Worked examples of what a text is assembled to.
+pub fn assemble_examples()
+    // Three characters are no header: the writer that held the byte 9 got the line, and nothing is made.
+    ensures assembles { (G : Table) (o : Order) → Assembles G o (1 ∷ 2 ∷ 3 ∷ []) (Some (9 ∷ [])) (Some (9 ∷ codes "fault S1 line 1" ++ line_end)) (Some []) (Some []) false }
+    ensures assembles_none { (G : Table) (o : Order) (old new held kept : Option (List ℕ)) → ¬ (Assembles G o (1 ∷ 2 ∷ 3 ∷ []) old new held kept true) }
+    // The first five bytes of that line, and other bytes.
+    ensures begins { (G : Table) (o : Order) → BeginsAssembling G o (1 ∷ 2 ∷ 3 ∷ []) (Some (9 ∷ [])) (Some (9 ∷ codes "fault")) (Some []) (Some []) }
+    ensures begins_none { (G : Table) (o : Order) (old new : Option (List ℕ)) → ¬ (BeginsAssembling G o (1 ∷ 2 ∷ 3 ∷ []) old new (Some []) (Some (3 ∷ []))) }
+{}
+
+/// Worked examples of numbers of the command line.
+pub fn number_examples()
+    // `007` is a number, and `+7`, no text and 4,294,967,296 are none.
+    ensures number { IsNumber (codes "007") 7 }
+    ensures no_sign { (n : ℕ) → ¬ (IsNumber (codes "+7") n) }
+    ensures no_digit { (n : ℕ) → ¬ (IsNumber [] n) }
+    ensures too_large { (n : ℕ) → ¬ (IsNumber (codes "4294967296") n) }
+    // Two numbers, and no two where a comma stands at the end.
+    ensures numbers { AreNumbers (codes "0,12") (0 ∷ 12 ∷ []) }
+    ensures no_numbers { (ns : List ℕ) → ¬ (AreNumbers (codes "0,") ns) }
+{}
+
+/// Worked examples of what is traced.
+pub fn trace_examples()
+    // The lines of a step and of an end, and the text of both.
+    ensures step { step_line (record { depth = 0; inst = 7 }) ≡ codes "0 7" ++ line_end }
+    ensures text { trace_text (record { depth = 1; inst = 2 } ∷ []) Limit ≡ codes "1 2" ++ line_end ++ codes "end limit" ++ line_end }
+    ensures other_text { ¬ (trace_text [] Finished ≡ codes "end limit" ++ line_end) }
+    // A writer that held the byte 9 got the verdict line of three bytes, which are no module and have no run.
+    ensures traces { (G : Table) (function : ℕ) (choices : List ℕ) (limit : ℕ) → Traces G function choices limit (1 ∷ 2 ∷ 3 ∷ []) (9 ∷ []) (Some (9 ∷ codes "fault W2" ++ line_end)) false }
+    ensures traces_none { (G : Table) (function : ℕ) (choices : List ℕ) (limit : ℕ) (new : Option (List ℕ)) → ¬ (Traces G function choices limit (1 ∷ 2 ∷ 3 ∷ []) [] new true) }
+    // The first five bytes of that line.
+    ensures begins { (G : Table) (function : ℕ) (choices : List ℕ) (limit : ℕ) → BeginsTracing G function choices limit (1 ∷ 2 ∷ 3 ∷ []) (9 ∷ []) (Some (9 ∷ codes "fault")) }
+    // No id is told of bytes that are no module.
+    ensures no_entry { (G : Table) (function : ℕ) → ¬ (HasNoEntry G (1 ∷ 2 ∷ 3 ∷ []) function) }
+{
+    spv_words::laws::examples();
+    spv_words::laws::one_refusal();
+}
+
+/// Worked examples of what a run leaves in its outputs.
+pub fn run_examples()
+    // The first five bytes of `error file`, and of another line.
+    ensures begins_with { BeginsWith file_line (9 ∷ []) (Some (9 ∷ codes "error")) }
+    ensures begins_with_another { ¬ (BeginsWith file_line [] (Some (codes "fault"))) }
+    // The line whole, a beginning where a write failed, and nothing where none did.
+    ensures writes { Writes file_line (Some []) (Some file_line) 0 0 }
+    ensures writes_beginning { Writes file_line (Some []) (Some (codes "error")) 0 1 }
+    ensures writes_nothing { ¬ (Writes file_line (Some []) (Some []) 0 0) }
+    // Two empty lists give the table of nothing, and no text at all gives none.
+    ensures table { IsTableOf empty_grammar empty_table }
+    ensures no_table { (G : Table) → ¬ (IsTableOf [] G) }
+    ensures does { (command : Command) → MakesNothing command → DoesByText command empty_grammar (1 ∷ 2 ∷ 3 ∷ []) (Some (9 ∷ [])) (Some (9 ∷ codes "fault W2" ++ line_end)) None None false }
+    ensures does_nothing { (command : Command) (bytes : List ℕ) (old new held kept : Option (List ℕ)) (answer : Bool) → ¬ (DoesByText command [] bytes old new held kept answer) }
+    ensures begins { (command : Command) → MakesNothing command → BeginsByText command empty_grammar (1 ∷ 2 ∷ 3 ∷ []) (Some (9 ∷ [])) (Some (9 ∷ codes "fault")) None None }
+    ensures begins_nothing { (command : Command) (bytes : List ℕ) (old new held kept : Option (List ℕ)) → ¬ (BeginsByText command [] bytes old new held kept) }
+    // No text at all breaks J1, memory can always be told, `error X1` of an id that is strange, and `error file` only after a
+    // failed call.
+    ensures refused { IsErrorLine [] ⊥ ⊥ (codes "error J1" ++ line_end) }
+    ensures memory { (text : List ℕ) → IsErrorLine text ⊥ ⊥ memory_line }
+    ensures no_entry { (text : List ℕ) → IsErrorLine text ⊥ (Unit {0}) entry_line }
+    ensures no_failure { (text : List ℕ) → ¬ (IsErrorLine text ⊥ ⊥ file_line) }
+{
+    spv_grammar::laws::table_examples();
+    spv_verdict::laws::stream_examples();
+    show_examples();
+    trace_examples();
+}

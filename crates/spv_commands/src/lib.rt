@@ -1,0 +1,19 @@
+//! The commands of `spv`, over values: the words of the command line, and what the program does once its files are open.
+//! It opens no file, so a program of its own can call it on any readers and writers.
+#![tactic(auto)]
+
+mod assembling;
+mod command_line;
+pub mod laws;
+mod number;
+mod program;
+mod showing;
+mod text_fault;
+mod trace_lines;
+mod tracing;
+
+pub use assembling::{TextError, assemble_stream};
+pub use command_line::{Command, UseError, arguments, help};
+pub use program::{Trouble, report, run};
+pub use showing::show_stream;
+pub use tracing::{RunError, trace_stream};

@@ -1,0 +1,280 @@
+//! What the program does once its words are read and its files are open.
+ghost use Rattle.std.specs.Prelude.{◌≡◌, ◌≢◌, ◌≤◌, ◌⊎◌, ◌↔◌, ◌==◌, ℕ, List, IfOk, IfErr, IfSome, IsErr, IsErrOf, IsUtf8};
+ghost use Rattle.spv_grammar.specs.Answer.{text_breaks};
+ghost use Rattle.spv_grammar.specs.declared.error.GrammarError.{GrammarError};
+ghost use Rattle.spv_grammar.specs.declared.error.GrammarError.TheVariants.{J8};
+ghost use Rattle.spv_commands.specs.Assemble.{Assembles, BeginsAssembling, order_of};
+ghost use Rattle.spv_verdict.specs.Stream.{Begins, Tells};
+ghost use Rattle.spv_commands.specs.Show.{BeginsShowing, Shows};
+ghost use Rattle.spv_commands.specs.Task.{BeginsByText, BeginsToDo, Does, DoesByText, IsNoText, LacksEntry, LacksEntryByText, MakesNothing};
+ghost use Rattle.spv_commands.specs.Trace.{BeginsTracing, HasNoEntry, Traces};
+ghost use Rattle.spv_commands.specs.Trouble.{IsErrorLine, Writes, file_line, grammar_text, memory_line, trouble_from, trouble_text};
+ghost use Rattle.spv_commands.specs.declared.program.Trouble.TheVariants.{File, Grammar, Memory, NoEntry};
+
+use crate::assembling::{TextError, assemble_stream};
+use crate::command_line::Command;
+use crate::laws::one_grammar;
+use crate::showing::show_stream;
+use crate::tracing::{RunError, trace_stream};
+use spv_grammar::{FromGrammar, GrammarError};
+use spv_table::Table;
+use spv_verdict::check_stream;
+use spv_words::{Order, Sink, Source, WordError, write_all};
+use std::alloc::Global;
+use std::mem::forget;
+
+/// Why the program ends with the exit status 2 (own). `report` writes its line.
+#[derive(Clone, Copy, Debug, PartialEq, Eq)]
+pub enum Trouble {
+    /// The words of the command line fit no command: `error use`.
+    Use,
+    /// A file does not open, a read or a write failed, or a text is not UTF-8: `error file`.
+    File,
+    /// A growth of memory was refused: `error memory`.
+    Memory,
+    /// The id whose run is asked for is no entry point's function: `error X1`.
+    NoEntry,
+    /// The grammar file is refused: `error J1` to `error J7`, and `error memory` for J8.
+    Grammar(GrammarError),
+}
+
+/// The line that tells a trouble.
+fn trouble_line(trouble: Trouble) -> &'static [u8]
+    ensures { result.now ≡ trouble_text trouble }
+{
+    match trouble {
+        Trouble::Use => b"error use\n",
+        Trouble::File => b"error file\n",
+        Trouble::Memory => b"error memory\n",
+        Trouble::NoEntry => b"error X1\n",
+        Trouble::Grammar(error) => grammar_line(error),
+    }
+}
+
+/// The line that tells a refused grammar file. J8 is want of memory.
+fn grammar_line(error: GrammarError) -> &'static [u8]
+    ensures { result.now ≡ grammar_text error }
+{
+    match error {
+        GrammarError::J1 => b"error J1\n",
+        GrammarError::J2 => b"error J2\n",
+        GrammarError::J3 => b"error J3\n",
+        GrammarError::J4 => b"error J4\n",
+        GrammarError::J5 => b"error J5\n",
+        GrammarError::J6 => b"error J6\n",
+        GrammarError::J7 => b"error J7\n",
+        GrammarError::J8 => b"error memory\n",
+    }
+}
+
+/// Writes the line of a trouble, its line feed included. Where that fails too, there is nowhere left to tell it, and a
+/// beginning was written.
+pub fn report<E: Sink>(trouble: Trouble, err: &mut E)
+    ensures { Writes (trouble_text trouble) (E.contents err.old) (E.contents err.new) (E.failures err.old) (E.failures err.new) }
+{
+    let _ = write_all(trouble_line(trouble), err);
+}
+
+/// What an error of a check is told as: want of memory, or else a failed read or write.
+fn stream_trouble(code: WordError) -> Trouble
+    ensures { result ≡ trouble_from code }
+{
+    match code {
+        WordError::W9 => Trouble::Memory,
+        _ => Trouble::File,
+    }
+}
+
+/// Judges the module by a table: whether it is valid.
+fn judged<S: Source, W: Sink>(
+    alloc: Global,
+    table: &Table,
+    file: &mut S,
+    out: &mut W,
+) -> Result<bool, Trouble>
+    ensures verdict { IfSome (S.remaining file.old) (λ bytes. IfSome (W.contents out.old) (λ old. IfOk result (λ valid. Tells table.now bytes old (W.contents out.new) valid))) }
+    ensures failed { ((S.failures file.new ≢ S.failures file.old) ⊎ (W.failures out.new ≢ W.failures out.old)) ↔ IsErrOf result File }
+    ensures only { IfErr result (λ t. (t ≡ File) ⊎ (t ≡ Memory)) }
+    ensures unwritten { IsErr result → W.failures out.new ≡ W.failures out.old → out.new ≡ out.old }
+    ensures begun { W.failures out.new ≢ W.failures out.old → IfSome (S.remaining file.old) (λ bytes. IfSome (W.contents out.old) (λ old. Begins table.now bytes old (W.contents out.new))) }
+{
+    check_stream(alloc, table, file, out).map_err(stream_trouble)
+}
+
+/// Shows the module by a table: whether it is one that has a text.
+fn shown<S: Source, W: Sink>(
+    alloc: Global,
+    table: &Table,
+    file: &mut S,
+    out: &mut W,
+) -> Result<bool, Trouble>
+    ensures shown { IfSome (S.remaining file.old) (λ bytes. IfSome (W.contents out.old) (λ old. IfOk result (λ answer. Shows table.now bytes old (W.contents out.new) answer))) }
+    ensures failed { ((S.failures file.new ≢ S.failures file.old) ⊎ (W.failures out.new ≢ W.failures out.old)) ↔ IsErrOf result File }
+    ensures only { IfErr result (λ t. (t ≡ File) ⊎ (t ≡ Memory)) }
+    ensures unwritten { IsErr result → W.failures out.new ≡ W.failures out.old → out.new ≡ out.old }
+    ensures begun { W.failures out.new ≢ W.failures out.old → IfSome (S.remaining file.old) (λ bytes. IfSome (W.contents out.old) (λ old. BeginsShowing table.now bytes old (W.contents out.new))) }
+{
+    show_stream(alloc, table, file, out).map_err(stream_trouble)
+}
+
+/// The order in which the bytes of words are written.
+fn order_by(big: bool) -> Order
+    ensures { result ≡ order_of big }
+{
+    if big { Order::Big } else { Order::Little }
+}
+
+/// Makes the module of a text by a table: whether the text is that of one.
+fn assembled<S: Source, W: Sink, O: Sink>(
+    alloc: Global,
+    table: &Table,
+    big: bool,
+    file: &mut S,
+    out: &mut W,
+    made: &mut O,
+) -> Result<bool, Trouble>
+    ensures done { IfSome (S.remaining file.old) (λ bytes. IfOk result (λ answer. Assembles table.now (order_of big) bytes (W.contents out.old) (W.contents out.new) (O.contents made.old) (O.contents made.new) answer)) }
+    ensures failed { (S.failures file.new ≢ S.failures file.old) ⊎ (W.failures out.new ≢ W.failures out.old) ⊎ (O.failures made.new ≢ O.failures made.old) → IsErrOf result File }
+    ensures why { IfErr result (λ t. ((t ≡ File) × (((S.failures file.new ≢ S.failures file.old) ⊎ (W.failures out.new ≢ W.failures out.old) ⊎ (O.failures made.new ≢ O.failures made.old)) ⊎ IfSome (S.remaining file.old) (λ bytes. ¬ IsUtf8 bytes))) ⊎ (t ≡ Memory)) }
+    ensures unwritten { IsErr result → W.failures out.new ≡ W.failures out.old → out.new ≡ out.old }
+    ensures unmade { IsErr result → O.failures made.new ≡ O.failures made.old → made.new ≡ made.old }
+    ensures begun { (W.failures out.new ≢ W.failures out.old) ⊎ (O.failures made.new ≢ O.failures made.old) → IfSome (S.remaining file.old) (λ bytes. BeginsAssembling table.now (order_of big) bytes (W.contents out.old) (W.contents out.new) (O.contents made.old) (O.contents made.new)) }
+{
+    match assemble_stream(alloc, table, order_by(big), file, out, made) {
+        Ok(answer) => Ok(answer),
+        Err(TextError::Failed) => Err(Trouble::File),
+        Err(TextError::NotText) => Err(Trouble::File),
+        Err(TextError::Memory) => Err(Trouble::Memory),
+    }
+}
+
+/// Writes the run of a function of the module by a table: whether the module is valid.
+fn traced<S: Source, W: Sink>(
+    alloc: Global,
+    table: &Table,
+    function: u32,
+    choices: &[u32],
+    limit: u32,
+    file: &mut S,
+    out: &mut W,
+) -> Result<bool, Trouble>
+    ensures traced { IfSome (S.remaining file.old) (λ bytes. IfSome (W.contents out.old) (λ old. IfOk result (λ answer. Traces table.now function choices.now limit bytes old (W.contents out.new) answer))) }
+    ensures failed { ((S.failures file.new ≢ S.failures file.old) ⊎ (W.failures out.new ≢ W.failures out.old)) ↔ IsErrOf result File }
+    ensures why { IfErr result (λ t. (t ≡ File) ⊎ ((t ≡ NoEntry) × IfSome (S.remaining file.old) (λ bytes. HasNoEntry table.now bytes function)) ⊎ (t ≡ Memory)) }
+    ensures unwritten { IsErr result → W.failures out.new ≡ W.failures out.old → out.new ≡ out.old }
+    ensures begun { W.failures out.new ≢ W.failures out.old → IfSome (S.remaining file.old) (λ bytes. IfSome (W.contents out.old) (λ old. BeginsTracing table.now function choices.now limit bytes old (W.contents out.new))) }
+{
+    match trace_stream(alloc, table, function, choices, limit, file, out) {
+        Ok(answer) => Ok(answer),
+        Err(RunError::Failed) => Err(Trouble::File),
+        Err(RunError::NoEntry) => Err(Trouble::NoEntry),
+        Err(RunError::Memory) => Err(Trouble::Memory),
+    }
+}
+
+/// Does what a command asks by a table: whether the module is valid, has a text, was made or has a run.
+fn done_by<S: Source, W: Sink, O: Sink>(
+    alloc: Global,
+    command: &Command,
+    table: &Table,
+    file: &mut S,
+    out: &mut W,
+    made: &mut O,
+) -> Result<bool, Trouble>
+    ensures done { IfSome (S.remaining file.old) (λ bytes. IfOk result (λ answer. Does command.now table.now bytes (W.contents out.old) (W.contents out.new) (O.contents made.old) (O.contents made.new) answer)) }
+    ensures failed { (S.failures file.new ≢ S.failures file.old) ⊎ (W.failures out.new ≢ W.failures out.old) ⊎ (O.failures made.new ≢ O.failures made.old) → IsErrOf result File }
+    ensures why { IfErr result (λ t. ((t ≡ File) × (((S.failures file.new ≢ S.failures file.old) ⊎ (W.failures out.new ≢ W.failures out.old) ⊎ (O.failures made.new ≢ O.failures made.old)) ⊎ IsNoText command.now (S.remaining file.old))) ⊎ ((t ≡ NoEntry) × LacksEntry command.now table.now (S.remaining file.old)) ⊎ (t ≡ Memory)) }
+    ensures unwritten { IsErr result → W.failures out.new ≡ W.failures out.old → out.new ≡ out.old }
+    ensures unmade { IsErr result → O.failures made.new ≡ O.failures made.old → made.new ≡ made.old }
+    ensures begun { (W.failures out.new ≢ W.failures out.old) ⊎ (O.failures made.new ≢ O.failures made.old) → IfSome (S.remaining file.old) (λ bytes. BeginsToDo command.now table.now bytes (W.contents out.old) (W.contents out.new) (O.contents made.old) (O.contents made.new)) }
+    ensures nothing { MakesNothing command.now → made.new ≡ made.old }
+{
+    match command {
+        Command::Check { .. } => judged(alloc, table, file, out),
+        Command::Show { .. } => shown(alloc, table, file, out),
+        Command::Asm { big, .. } => assembled(alloc, table, *big, file, out, made),
+        Command::Trace {
+            function,
+            choices,
+            limit,
+            ..
+        } => traced(alloc, table, *function, choices, *limit, file, out),
+    }
+}
+
+/// Judges the grammar file, and then does what a command asks: whether the module is valid, has a
+/// text, was made or has a run.
+fn done<S: Source, W: Sink, O: Sink>(
+    alloc: Global,
+    command: &Command,
+    grammar: &[u8],
+    file: &mut S,
+    out: &mut W,
+    made: &mut O,
+) -> Result<bool, Trouble>
+    ensures done { IfSome (S.remaining file.old) (λ bytes. IfOk result (λ answer. DoesByText command.now grammar.now bytes (W.contents out.old) (W.contents out.new) (O.contents made.old) (O.contents made.new) answer)) }
+    ensures failed { (S.failures file.new ≢ S.failures file.old) ⊎ (W.failures out.new ≢ W.failures out.old) ⊎ (O.failures made.new ≢ O.failures made.old) → IsErrOf result File }
+    ensures reason { IfErr result (λ t. IsErrorLine grammar.now (((S.failures file.new ≢ S.failures file.old) ⊎ (W.failures out.new ≢ W.failures out.old) ⊎ (O.failures made.new ≢ O.failures made.old)) ⊎ IsNoText command.now (S.remaining file.old)) (LacksEntryByText command.now grammar.now (S.remaining file.old)) (trouble_text t)) }
+    ensures refused { (e : GrammarError) → text_breaks grammar.now e → (file.new ≡ file.old) × (out.new ≡ out.old) × (made.new ≡ made.old) × (IsErrOf result (Grammar e) ⊎ IsErrOf result (Grammar J8)) }
+    ensures unwritten { IsErr result → W.failures out.new ≡ W.failures out.old → out.new ≡ out.old }
+    ensures unmade { IsErr result → O.failures made.new ≡ O.failures made.old → made.new ≡ made.old }
+    ensures begun { (W.failures out.new ≢ W.failures out.old) ⊎ (O.failures made.new ≢ O.failures made.old) → IfSome (S.remaining file.old) (λ bytes. BeginsByText command.now grammar.now bytes (W.contents out.old) (W.contents out.new) (O.contents made.old) (O.contents made.new)) }
+    ensures nothing { MakesNothing command.now → made.new ≡ made.old }
+{
+    one_grammar();
+    match Table::from_slice(alloc, grammar) {
+        Ok(table) => {
+            let answer = done_by(alloc, command, &table, file, out, made);
+            // The process ends soon, which gives back its memory at once.
+            forget(table);
+            answer
+        }
+        Err(error) => Err(Trouble::Grammar(error)),
+    }
+}
+
+/// Does what a command asks, and answers the exit status.
+///
+/// `file` is the module or the text, `out` the standard output, `made` the file that a command makes (only `asm` makes one),
+/// `err` the standard error. 0: the module is valid, or its text, the module of a text or a run was written. 1: a fault line
+/// was written. 2: one line was written to `err`: `error J1` to `error J7` where the grammar file is refused, which is told
+/// first, `error file` where a read or a write failed or a text is not UTF-8, `error X1` where the id whose run is asked for is
+/// no entry point's function, `error memory` where a growth of memory was refused. Where the write to `err` fails too, it has
+/// got a beginning of that line, and the status is 2 all the same.
+pub fn run<S: Source, W: Sink, O: Sink, E: Sink>(
+    alloc: Global,
+    command: &Command,
+    grammar: &[u8],
+    file: &mut S,
+    out: &mut W,
+    made: &mut O,
+    err: &mut E,
+) -> u8
+    ensures status { result ≤ 2 }
+    // With 0 and 1 the verdict line, the text, the module or the run was written, by the table that the grammar file gives: 0
+    // goes with `valid` alone, with the text of a module, with the module of a text or with a run.
+    ensures done { result ≤ 1 → IfSome (S.remaining file.old) (λ bytes. DoesByText command.now grammar.now bytes (W.contents out.old) (W.contents out.new) (O.contents made.old) (O.contents made.new) (result == 0)) }
+    // With 2 an error line was written to the standard error, and there is a reason for it.
+    ensures error { result ≡ 2 → (line : List ℕ) × IsErrorLine grammar.now (((S.failures file.new ≢ S.failures file.old) ⊎ (W.failures out.new ≢ W.failures out.old) ⊎ (O.failures made.new ≢ O.failures made.old)) ⊎ IsNoText command.now (S.remaining file.old)) (LacksEntryByText command.now grammar.now (S.remaining file.old)) line × Writes line (E.contents err.old) (E.contents err.new) (E.failures err.old) (E.failures err.new) }
+    // A refused grammar file is told first, before anything is read or written: by its code, or as want of memory.
+    ensures refused { (e : GrammarError) → text_breaks grammar.now e → (result ≡ 2) × (file.new ≡ file.old) × (out.new ≡ out.old) × (made.new ≡ made.old) × (Writes (grammar_text e) (E.contents err.old) (E.contents err.new) (E.failures err.old) (E.failures err.new) ⊎ Writes memory_line (E.contents err.old) (E.contents err.new) (E.failures err.old) (E.failures err.new)) }
+    // A failed read or write is told by `error file`.
+    ensures failed { (S.failures file.new ≢ S.failures file.old) ⊎ (W.failures out.new ≢ W.failures out.old) ⊎ (O.failures made.new ≢ O.failures made.old) → (result ≡ 2) × Writes file_line (E.contents err.old) (E.contents err.new) (E.failures err.old) (E.failures err.new) }
+    // With 2 the standard output and the file that is made are as they were, or, after a failed write, have got a beginning.
+    ensures unwritten { result ≡ 2 → W.failures out.new ≡ W.failures out.old → out.new ≡ out.old }
+    ensures unmade { result ≡ 2 → O.failures made.new ≡ O.failures made.old → made.new ≡ made.old }
+    ensures begun { (W.failures out.new ≢ W.failures out.old) ⊎ (O.failures made.new ≢ O.failures made.old) → IfSome (S.remaining file.old) (λ bytes. BeginsByText command.now grammar.now bytes (W.contents out.old) (W.contents out.new) (O.contents made.old) (O.contents made.new)) }
+    // `check`, `show` and `trace` make no file.
+    ensures nothing { MakesNothing command.now → made.new ≡ made.old }
+    // The standard error gets a line only with the status 2.
+    ensures quiet { result ≤ 1 → err.new ≡ err.old }
+{
+    match done(alloc, command, grammar, file, out, made) {
+        Ok(true) => 0,
+        Ok(false) => 1,
+        Err(trouble) => {
+            report(trouble, err);
+            2
+        }
+    }
+}

@@ -1,0 +1,168 @@
+//! What `trace` writes of the bytes of a stream.
+ghost use Rattle.std.specs.Prelude.{◌≡◌, ◌≢◌, ◌≤◌, ◌⊎◌, ◌↔◌, ◌++◌, ℕ, List, Some, IfOk, IfErr, IfSome, IsErr, IsErrOf, OnOk, length, take};
+ghost use Rattle.std.specs.Io.KnownBytes.{Appends};
+ghost use Rattle.spv_words.specs.Header.{IsModule};
+ghost use Rattle.spv_words.specs.declared.words.Order.{Order};
+ghost use Rattle.spv_words.specs.declared.words.WordError.TheVariants.{W1};
+ghost use Rattle.spv_commands.specs.Trace.{BeginsTracing, HasNoEntry, IsTracing, Traces};
+ghost use Rattle.spv_commands.specs.Traced.{is_run, output_of, traced_refusal, traced_stop};
+ghost use Rattle.spv_commands.specs.declared.tracing.RunError.TheVariants as trouble;
+
+use crate::trace_lines::write_trace;
+use spv_table::Table;
+use spv_verdict::{Checked, Judgment, Trace, TraceError, Verdict, check, line_for, trace};
+use spv_words::{Image, Sink, Source, WordError, read_image, write_all};
+use std::alloc::Global;
+
+/// Why nothing is written of a stream of bytes, or not the whole.
+#[derive(Clone, Copy, Debug, PartialEq, Eq)]
+pub enum RunError {
+    /// A read or a write failed.
+    Failed,
+    /// The id is no entry point's function.
+    NoEntry,
+    /// A growth of memory was refused.
+    Memory,
+}
+
+/// What is written of a stream of bytes.
+#[derive(Drop)]
+pub enum Traced {
+    /// The run of a valid module.
+    Run(Trace),
+    /// The verdict line of bytes that are no valid module.
+    Line(Judgment),
+}
+
+/// What is written of bytes that gave no image: W1 and W9 are errors, and of the others the verdict line is written.
+fn refused(code: WordError) -> Result<Traced, RunError>
+    ensures { result ≡ traced_refusal code }
+{
+    match code {
+        WordError::W1 => Err(RunError::Failed),
+        WordError::W9 => Err(RunError::Memory),
+        _ => Ok(Traced::Line(Judgment::Refused(code))),
+    }
+}
+
+/// What the error of a trace is told as.
+fn stopped(error: TraceError) -> RunError
+    ensures { result ≡ traced_stop error }
+{
+    match error {
+        TraceError::X1 => RunError::NoEntry,
+        TraceError::X2 => RunError::Memory,
+    }
+}
+
+/// What is written of the words of a module.
+fn traced_of(
+    alloc: Global,
+    table: &Table,
+    image: &Image,
+    function: u32,
+    choices: &[u32],
+    limit: u32,
+) -> Result<Traced, RunError>
+    ensures traced { (bytes : List ℕ) (order : Order) → IsModule order bytes image.now → IfOk result (λ t. IsTracing table.now function choices.now limit bytes (output_of t) (is_run t)) }
+    ensures stranger { (bytes : List ℕ) (order : Order) → IsModule order bytes image.now → IsErrOf result trouble.NoEntry → HasNoEntry table.now bytes function }
+    ensures only { IfErr result (λ e. e ≢ trouble.Failed) }
+{
+    let checked = match check(alloc, table, image) {
+        Ok(Verdict::Valid(checked)) => checked,
+        Ok(Verdict::Fault(fault)) => return Ok(Traced::Line(Judgment::Broken(fault))),
+        Err(_) => return Err(RunError::Memory),
+    };
+    match trace(alloc, &checked, function, choices, limit) {
+        Ok(run) => Ok(Traced::Run(run)),
+        Err(error) => Err(stopped(error)),
+    }
+}
+
+/// What is written of all the bytes of a reader.
+fn traced_on<R: Source>(
+    alloc: Global,
+    table: &Table,
+    function: u32,
+    choices: &[u32],
+    limit: u32,
+    r: &mut R,
+) -> Result<Traced, RunError>
+    ensures known { IfSome (R.remaining r.old) (λ bytes. IfOk result (λ t. IsTracing table.now function choices.now limit bytes (output_of t) (is_run t))) }
+    ensures stranger { IsErrOf result trouble.NoEntry → IfSome (R.remaining r.old) (λ bytes. HasNoEntry table.now bytes function) }
+    ensures count { R.failures r.new ≢ R.failures r.old ↔ IsErrOf result trouble.Failed }
+{
+    let image = match read_image(alloc, r) {
+        Ok((image, _)) => image,
+        Err(code) => return refused(code),
+    };
+    traced_of(alloc, table, &image, function, choices, limit)
+}
+
+impl Traced {
+    /// Whether it is a run.
+    fn is_run(&self) -> bool
+        ensures { result ≡ is_run self.now }
+    {
+        match self {
+            Traced::Run(_) => true,
+            Traced::Line(_) => false,
+        }
+    }
+
+    /// Writes it. After a failure, W1, a beginning of it was written.
+    fn write<W: Sink>(&self, w: &mut W) -> Result<(), WordError>
+        ensures all { OnOk result (Appends (W.contents w.old) (W.contents w.new) (output_of self.now)) }
+        ensures begun { IfSome (W.contents w.old) (λ xs. (n : ℕ) × (n ≤ length (output_of self.now)) × (W.contents w.new ≡ Some (xs ++ take n (output_of self.now)))) }
+        ensures only { IfErr result (λ e. e ≡ W1) }
+        ensures count { W.failures w.new ≢ W.failures w.old ↔ IsErrOf result W1 }
+        ensures steady { OnOk result (W.failures w.new ≡ W.failures w.old) }
+    {
+        match self {
+            Traced::Run(run) => write_trace(run.steps.as_slice(), run.ending, w),
+            Traced::Line(verdict) => {
+                let line = line_for(*verdict);
+                write_all(line.as_slice(), w)
+            }
+        }
+    }
+}
+
+/// Writes the run of a function of the module that a reader's bytes up to the end of input are, and answers true; or, where
+/// they are no valid module, their verdict line, and answers false.
+///
+/// `function` is the id of an entry point's function; `choices` are the places of the targets that are taken, from 0, one for
+/// each OpBranchConditional and OpSwitch that is executed; `limit` is the greatest number of steps. The run has a line for
+/// each instruction that is executed, and one for its end. Nothing is written before it is whole: it is kept, eight bytes a
+/// step, and no limit is too great for the call, but only for the memory.
+///
+/// # Errors
+///
+/// `Failed`: a read or a write failed. After a failed read nothing was written, after a failed write a beginning of the output.
+/// `NoEntry`: the bytes are a valid module, and the id is the function of no OpEntryPoint. `Memory`: a growth of memory was
+/// refused. Nothing was written with these two.
+pub fn trace_stream<R: Source, W: Sink>(
+    alloc: Global,
+    table: &Table,
+    function: u32,
+    choices: &[u32],
+    limit: u32,
+    r: &mut R,
+    w: &mut W,
+) -> Result<bool, RunError>
+    // The writer has got what is written of all the bytes that the reader still gave.
+    ensures traced { IfSome (R.remaining r.old) (λ bytes. IfSome (W.contents w.old) (λ old. IfOk result (λ answer. Traces table.now function choices.now limit bytes old (W.contents w.new) answer))) }
+    // The answer is `Failed` exactly where a read or a write failed.
+    ensures count { ((R.failures r.new ≢ R.failures r.old) ⊎ (W.failures w.new ≢ W.failures w.old)) ↔ IsErrOf result trouble.Failed }
+    ensures stranger { IsErrOf result trouble.NoEntry → IfSome (R.remaining r.old) (λ bytes. HasNoEntry table.now bytes function) }
+    // With an error a writer that did not fail is as it was.
+    ensures unwritten { IsErr result → W.failures w.new ≡ W.failures w.old → w.new ≡ w.old }
+    // After a failed write it has got a beginning of what is written.
+    ensures begun { W.failures w.new ≢ W.failures w.old → IfSome (R.remaining r.old) (λ bytes. IfSome (W.contents w.old) (λ old. BeginsTracing table.now function choices.now limit bytes old (W.contents w.new))) }
+{
+    let traced = traced_on(alloc, table, function, choices, limit, r)?;
+    match traced.write(w) {
+        Ok(()) => Ok(traced.is_run()),
+        Err(_) => Err(RunError::Failed),
+    }
+}

@@ -1,0 +1,412 @@
+//! What no clause says: what a reader or a writer that fails comes to, and the texts that people read. What commands
+//! answer to good files is told by the stored run of all cases.
+use spv_commands::{Command, UseError, arguments, help, run};
+use spv_grammar::{FromGrammar, Table};
+use spv_verdict::check_stream;
+use spv_words::{FromRead, FromWrite, WordError};
+use std::alloc::Global;
+use std::io::{self, ErrorKind, Read, Write};
+use std::test::Fail;
+
+/// A grammar of the nine instructions that the smallest kernel uses.
+const GRAMMAR: &[u8] = br#"{"instructions": [
+{"opname": "OpMemoryModel", "opcode": 14, "operands": [{"kind": "AddressingModel"}, {"kind": "MemoryModel"}]},
+{"opname": "OpEntryPoint", "opcode": 15, "operands": [{"kind": "ExecutionModel"}, {"kind": "IdRef"},
+  {"kind": "LiteralString"}, {"kind": "IdRef", "quantifier": "*"}]},
+{"opname": "OpCapability", "opcode": 17, "operands": [{"kind": "Capability"}]},
+{"opname": "OpTypeVoid", "opcode": 19, "operands": [{"kind": "IdResult"}]},
+{"opname": "OpTypeFunction", "opcode": 33, "operands": [{"kind": "IdResult"}, {"kind": "IdRef"},
+  {"kind": "IdRef", "quantifier": "*"}]},
+{"opname": "OpFunction", "opcode": 54, "operands": [{"kind": "IdResultType"}, {"kind": "IdResult"},
+  {"kind": "FunctionControl"}, {"kind": "IdRef"}]},
+{"opname": "OpFunctionEnd", "opcode": 56},
+{"opname": "OpLabel", "opcode": 248, "operands": [{"kind": "IdResult"}]},
+{"opname": "OpReturn", "opcode": 253}
+], "operand_kinds": [
+{"category": "BitEnum", "kind": "FunctionControl", "enumerants": [{"enumerant": "None", "value": "0x0000"}]},
+{"category": "ValueEnum", "kind": "AddressingModel", "enumerants": [{"enumerant": "Physical64", "value": 2}]},
+{"category": "ValueEnum", "kind": "MemoryModel", "enumerants": [{"enumerant": "OpenCL", "value": 2}]},
+{"category": "ValueEnum", "kind": "ExecutionModel", "enumerants": [{"enumerant": "Kernel", "value": 6}]},
+{"category": "ValueEnum", "kind": "Capability", "enumerants": [{"enumerant": "Addresses", "value": 4},
+  {"enumerant": "Kernel", "value": 6}]},
+{"category": "Id", "kind": "IdResultType"}, {"category": "Id", "kind": "IdResult"}, {"category": "Id", "kind": "IdRef"},
+{"category": "Literal", "kind": "LiteralString"}
+]}"#;
+
+/// The smallest kernel.
+const KERNEL: [u32; 30] = [
+    0x0723_0203,
+    0x0001_0600,
+    0,
+    5,
+    0,
+    0x0002_0011,
+    4,
+    0x0002_0011,
+    6,
+    0x0003_000e,
+    2,
+    2,
+    0x0004_000f,
+    6,
+    3,
+    0x6b,
+    0x0002_0013,
+    1,
+    0x0003_0021,
+    2,
+    1,
+    0x0005_0036,
+    1,
+    3,
+    0,
+    2,
+    0x0002_00f8,
+    4,
+    0x0001_00fd,
+    0x0001_0038,
+];
+
+/// The bytes of the smallest kernel, the lowest of a word first.
+fn kernel(alloc: Global) -> Result<Vec<u8>, Fail> {
+    let mut bytes = Vec::new(alloc);
+    for word in &KERNEL {
+        bytes.extend_from_slice(&word.to_le_bytes())?;
+    }
+    Ok(bytes)
+}
+
+/// The text of the smallest kernel.
+const TEXT: &[u8] = br#"; SPIR-V
+; Version: 1.6
+; Generator: 0
+; Bound: 5
+; Schema: 0
+OpCapability Addresses
+OpCapability Kernel
+OpMemoryModel Physical64 OpenCL
+OpEntryPoint Kernel %3 "k"
+%1 = OpTypeVoid
+%2 = OpTypeFunction %1
+%3 = OpFunction %1 None %2
+%4 = OpLabel
+OpReturn
+OpFunctionEnd
+"#;
+
+/// How many calls of a reader or a writer go well, and what the others answer: an error, or no bytes where it has none.
+#[derive(Clone, Copy)]
+struct Calls {
+    good: usize,
+    error: Option<ErrorKind>,
+}
+
+impl Calls {
+    /// All calls go well.
+    const ALL: Calls = Calls {
+        good: usize::MAX,
+        error: None,
+    };
+
+    /// Counts a call: how many bytes it moves of those that it may.
+    fn next(&mut self, most: usize) -> io::Result<usize> {
+        if self.good > 0 {
+            self.good -= 1;
+            return Ok(most);
+        }
+        match self.error {
+            Some(kind) => Err(io::Error::from(kind)),
+            None => Ok(0),
+        }
+    }
+}
+
+/// Gives the bytes of a slice in pieces.
+#[derive(Drop)]
+struct Pieces<'a> {
+    rest: &'a [u8],
+    piece: usize,
+    calls: Calls,
+}
+
+impl Read for Pieces<'_> {
+    fn read(&mut self, buf: &mut [u8]) -> io::Result<usize> {
+        let most = self.piece.min(buf.len()).min(self.rest.len());
+        let n = self.calls.next(most)?.min(most);
+        buf[..n].copy_from_slice(&self.rest[..n]);
+        self.rest = &self.rest[n..];
+        Ok(n)
+    }
+}
+
+/// Keeps the bytes that are written to it, in pieces.
+#[derive(Drop)]
+struct Shelf {
+    kept: Vec<u8>,
+    piece: usize,
+    calls: Calls,
+}
+
+impl Shelf {
+    /// An empty one.
+    fn new(alloc: Global, piece: usize, calls: Calls) -> FromWrite<Shelf> {
+        FromWrite::new(Shelf {
+            kept: Vec::new(alloc),
+            piece,
+            calls,
+        })
+    }
+}
+
+impl Write for Shelf {
+    fn write(&mut self, buf: &[u8]) -> io::Result<usize> {
+        let most = self.piece.min(buf.len());
+        let n = self.calls.next(most)?.min(most);
+        self.kept.extend_from_slice(&buf[..n])?;
+        Ok(n)
+    }
+
+    fn flush(&mut self) -> io::Result<()> {
+        Ok(())
+    }
+}
+
+/// A command, what it reads, and what it writes: `asm` to the file that it makes, the others to the standard output.
+#[derive(Drop)]
+struct Task<'a> {
+    command: Command<'a>,
+    input: &'a [u8],
+    written: &'a [u8],
+}
+
+/// The four commands on the smallest kernel.
+fn tasks<'a>(alloc: Global, kernel: &'a [u8]) -> [Task<'a>; 4] {
+    let (grammar, file) = ("G", "F");
+    let trace = Command::Trace {
+        grammar,
+        file,
+        function: 3,
+        choices: Vec::new(alloc),
+        limit: 9,
+    };
+    let asm = Command::Asm {
+        grammar,
+        file,
+        out: "O",
+        big: false,
+    };
+    [
+        Task {
+            command: Command::Check { grammar, file },
+            input: kernel,
+            written: b"valid\n",
+        },
+        Task {
+            command: Command::Show { grammar, file },
+            input: kernel,
+            written: TEXT,
+        },
+        Task {
+            command: asm,
+            input: TEXT,
+            written: kernel,
+        },
+        Task {
+            command: trace,
+            input: kernel,
+            written: b"0 7\n0 8\nend finished\n",
+        },
+    ]
+}
+
+/// What a run came to: its exit status, what it wrote, what it wrote to the standard error, and how many of the other
+/// writes failed.
+#[derive(Drop)]
+struct Outcome {
+    status: u8,
+    written: Vec<u8>,
+    err: Vec<u8>,
+    failures: u64,
+}
+
+/// How many bytes a reader gives, or a writer takes, at a call of a run.
+const PIECE: usize = 7;
+
+/// Runs a task, with a reader and writers whose calls fail as told.
+fn outcome(alloc: Global, task: &Task, reads: Calls, writes: Calls) -> Outcome {
+    let mut file = FromRead::new(Pieces {
+        rest: task.input,
+        piece: PIECE,
+        calls: reads,
+    });
+    let mut out = Shelf::new(alloc, PIECE, writes);
+    let mut made = Shelf::new(alloc, PIECE, writes);
+    let mut err = Shelf::new(alloc, PIECE, Calls::ALL);
+    let status = run(
+        alloc,
+        &task.command,
+        GRAMMAR,
+        &mut file,
+        &mut out,
+        &mut made,
+        &mut err,
+    );
+    let target = match task.command {
+        Command::Asm { .. } => made,
+        _ => out,
+    };
+    Outcome {
+        status,
+        written: target.inner.kept,
+        err: err.inner.kept,
+        failures: target.failures,
+    }
+}
+
+#[test]
+fn reads_that_fail(rt: HostRuntime) -> Result<(), Fail> {
+    let a = rt.alloc();
+    let bytes = kernel(a)?;
+    for (number, task) in tasks(a, &bytes).iter().enumerate() {
+        let whole = outcome(a, task, Calls::ALL, Calls::ALL);
+        assert_eq!(rt; whole.status, 0, "task {number}");
+        assert_eq!(rt; whole.written.as_slice(), task.written, "task {number}");
+        // The last read tells the end of input.
+        for good in 0..task.input.len().div_ceil(PIECE) + 1 {
+            for kind in [ErrorKind::Other, ErrorKind::Interrupted] {
+                let error = Some(kind);
+                let failed = outcome(a, task, Calls { good, error }, Calls::ALL);
+                assert_eq!(rt; failed.status, 2, "task {number} after {good} reads");
+                assert!(rt; failed.written.is_empty());
+                assert_eq!(rt; failed.err.as_slice(), b"error file\n".as_slice());
+            }
+        }
+    }
+    Ok(())
+}
+
+#[test]
+fn writes_that_fail(rt: HostRuntime) -> Result<(), Fail> {
+    let a = rt.alloc();
+    let bytes = kernel(a)?;
+    for (number, task) in tasks(a, &bytes).iter().enumerate() {
+        for error in [None, Some(ErrorKind::Other), Some(ErrorKind::Interrupted)] {
+            let mut good = 0;
+            let mut begun = outcome(a, task, Calls::ALL, Calls { good, error });
+            while begun.failures > 0 && good < task.written.len() {
+                assert_eq!(rt; begun.status, 2, "task {number} after {good} writes");
+                assert!(rt; task.written.starts_with(begun.written.as_slice()));
+                assert_eq!(rt; begun.err.as_slice(), b"error file\n".as_slice());
+                good += 1;
+                begun = outcome(a, task, Calls::ALL, Calls { good, error });
+            }
+            assert_eq!(rt; begun.status, 0, "task {number} after {good} writes");
+            assert_eq!(rt; begun.written.as_slice(), task.written);
+        }
+    }
+    Ok(())
+}
+
+/// What `check_stream` answers to bytes that come in pieces of a size, and what it wrote.
+fn verdict(
+    alloc: Global,
+    table: &Table,
+    bytes: &[u8],
+    piece: usize,
+    reads: Calls,
+    writes: Calls,
+) -> (Result<bool, WordError>, Vec<u8>) {
+    let mut file = FromRead::new(Pieces {
+        rest: bytes,
+        piece,
+        calls: reads,
+    });
+    let mut out = Shelf::new(alloc, 1, writes);
+    let answer = check_stream(alloc, table, &mut file, &mut out);
+    (answer, out.inner.kept)
+}
+
+#[test]
+fn pieces(rt: HostRuntime) -> Result<(), Fail> {
+    let a = rt.alloc();
+    let table = Table::from_slice(a, GRAMMAR)?;
+    let bytes = kernel(a)?;
+    for piece in [1, 3, 4, 7, 120] {
+        let (answer, line) = verdict(a, &table, &bytes, piece, Calls::ALL, Calls::ALL);
+        assert_eq!(rt; answer, Ok(true), "in pieces of {piece}");
+        assert_eq!(rt; line.as_slice(), b"valid\n".as_slice());
+        for good in 0..bytes.len().div_ceil(piece) + 1 {
+            for kind in [ErrorKind::Other, ErrorKind::Interrupted] {
+                let error = Some(kind);
+                let (answer, line) = verdict(
+                    a,
+                    &table,
+                    &bytes,
+                    piece,
+                    Calls { good, error },
+                    Calls::ALL,
+                );
+                assert_eq!(rt;
+                    answer,
+                    Err(WordError::W1),
+                    "in pieces of {piece} after {good} reads"
+                );
+                assert!(rt; line.is_empty());
+            }
+        }
+    }
+    Ok(())
+}
+
+#[test]
+fn verdict_lines(rt: HostRuntime) -> Result<(), Fail> {
+    let a = rt.alloc();
+    let table = Table::from_slice(a, GRAMMAR)?;
+    let bytes = kernel(a)?;
+    let rows: [(usize, &[u8]); 3] = [
+        (120, b"valid\n"),
+        (116, b"fault L2 inst 9 word 29\n"),
+        (119, b"fault W3\n"),
+    ];
+    for (length, line) in rows {
+        for good in 0..line.len() {
+            for error in [None, Some(ErrorKind::Other), Some(ErrorKind::Interrupted)] {
+                let (answer, begun) = verdict(
+                    a,
+                    &table,
+                    &bytes[..length],
+                    120,
+                    Calls::ALL,
+                    Calls { good, error },
+                );
+                assert_eq!(rt;
+                    answer,
+                    Err(WordError::W1),
+                    "of {length} bytes after {good} writes"
+                );
+                assert_eq!(rt; begun.as_slice(), &line[..good]);
+            }
+        }
+        let (answer, whole) = verdict(a, &table, &bytes[..length], 120, Calls::ALL, Calls::ALL);
+        assert_eq!(rt; answer, Ok(length == 120));
+        assert_eq!(rt; whole.as_slice(), line);
+    }
+    Ok(())
+}
+
+#[test]
+fn words_and_messages(rt: HostRuntime) -> Result<(), Fail> {
+    let a = rt.alloc();
+    let rows = [
+        (UseError::U1, "the words fit no command"),
+        (UseError::U2, "out of memory"),
+        (UseError::U3, "help is asked for"),
+    ];
+    for (error, message) in rows {
+        assert_eq!(rt; format!(in a; "{error}")?.as_str(), message);
+    }
+    assert_eq!(rt; arguments(a, &["--help"]), Err(UseError::U3));
+    assert_eq!(rt; arguments(a, &["check", "-h"]), Err(UseError::U3));
+    assert!(rt; help(a)?.as_str().contains("Usage: spv <COMMAND>"));
+    Ok(())
+}

@@ -1,6 +1,0 @@
-use Rattle.std.proofs.Common.{take}
-use Rattle.spv_grammar.specs.Reached.{AddsAll}
-use Rattle.spv_grammar.proofs.implied.Reached.add_all.Given as goal
-
-abbrev pub invariant-loop-capability : goal.invariant-loop-capability
-invariant-loop-capability l = AddsAll (take l.capability-index l.capabilities) l.initial.self l.self

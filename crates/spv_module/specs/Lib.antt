@@ -1,0 +1,9 @@
+pub mod Operand
+pub mod Width
+pub mod Shape
+pub mod Spelling
+pub mod Instruction
+pub mod Refusal
+pub mod Dead
+pub mod Module
+pub mod Example

@@ -1,0 +1,128 @@
+ghost use Rattle.std.specs.Prelude.{◌≡◌};
+
+use std::alloc::{AllocError, AllocFailed};
+
+/// A rule of the profile, by its code: I of single instructions, P of the profile, L of layout, D of ids, Y, C, M and E
+/// of types and declarations, F and A of flow, G of calls. Of these only I1 to I12 are told so far. The numbers in
+/// brackets are sections of the Khronos SPIR-V Specification 1.6.
+#[derive(Clone, Copy, Debug, PartialEq, Eq)]
+pub enum Rule {
+    /// The first word of an instruction tells a count of 0 words. (2.3)
+    I1,
+    /// The count passes the end of the module. (2.3)
+    I2,
+    /// The opcode has no entry in the grammar table.
+    I3,
+    /// An operand's word is missing; it is told by the word after the instruction's last.
+    I4,
+    /// Words are left after the pattern of the operands.
+    I5,
+    /// A value that no enumerant of its kind has.
+    I6,
+    /// A mask with a set bit that no enumerant of its kind has.
+    I7,
+    /// A string without a zero octet in its instruction. (2.2.1)
+    I8,
+    /// Octets other than zero after the end of a string, in its last word. (2.2.1)
+    I9,
+    /// A string that is not UTF-8. (2.2.1)
+    I10,
+    /// A number of unknown width.
+    I11,
+    /// A literal of a kind that the profile does not know.
+    I12,
+    /// An instruction outside the profile.
+    P1,
+    /// An instruction that no module may have at its place. (2.4)
+    L1,
+    /// The module ends too early. (2.4)
+    L2,
+    /// An id that is 0 or not below the bound. (2.3)
+    D1,
+    /// A result that an earlier instruction has. (2.16)
+    D2,
+    /// A use of an id that no instruction has as its result. (2.16)
+    D3,
+    /// A use before the definition, where the order counts. (2.16)
+    D4,
+    /// A use of a local id outside its function. (2.16)
+    D5,
+    /// A use of an id in another role than the operand asks for.
+    Y1,
+    /// A type declaration.
+    Y2,
+    /// A type that is declared twice. (2.8)
+    Y3,
+    /// A constant.
+    Y4,
+    /// The types of an instruction's operands or result.
+    Y5,
+    /// A function or a parameter against the function's type.
+    Y6,
+    /// A return against the function's result type.
+    Y7,
+    /// A call against the callee's type.
+    Y8,
+    /// Kernel is not declared, or Shader is. (2.16)
+    C1,
+    /// A capability that is missing. (2.16)
+    C2,
+    /// The addressing or memory model.
+    M1,
+    /// No entry point, and no Linkage.
+    E1,
+    /// An entry point, an execution mode or a declaration.
+    E2,
+    /// A label operand that is no label.
+    F1,
+    /// A branch to a function's entry block.
+    F2,
+    /// An OpPhi whose parents are not the block's predecessors.
+    F3,
+    /// A conditional branch with equal labels.
+    F4,
+    /// A value that is used where some walk does not have it.
+    A1,
+    /// A value of an OpPhi that some walk does not have.
+    A2,
+    /// A call on a cycle of calls that an entry point reaches.
+    G1,
+}
+
+/// The first broken rule of a module, and where.
+#[derive(Clone, Copy, Debug, PartialEq, Eq)]
+pub struct Fault {
+    pub rule: Rule,
+    /// The number of the instruction, from 0.
+    pub inst: u32,
+    /// The number of the word in the module, from 0.
+    pub word: u32,
+}
+
+/// Why a layer stops.
+#[derive(Clone, Copy, Debug, PartialEq, Eq)]
+pub enum Stop {
+    Fault(Fault),
+    /// A growth of memory was refused.
+    Memory,
+}
+
+impl From<AllocError> for Stop {
+    ghost use Rattle.spv_module.specs.declared.fault.Stop.TheVariants.{Memory};
+
+    ghost from_gives = { λ _ e. e ≡ Memory };
+
+    fn from(_e: AllocError) -> Stop {
+        Stop::Memory
+    }
+}
+
+impl<T: Drop> From<AllocFailed<T>> for Stop {
+    ghost use Rattle.spv_module.specs.declared.fault.Stop.TheVariants.{Memory};
+
+    ghost from_gives = { λ _ e. e ≡ Memory };
+
+    fn from(_e: AllocFailed<T>) -> Stop {
+        Stop::Memory
+    }
+}

@@ -1,0 +1,15 @@
+//! Instructions and modules: operands, lists of instructions, the rules of the profile, and what words spell.
+#![tactic(auto)]
+
+mod fault;
+mod module;
+mod operand;
+mod operands;
+mod results;
+
+pub use fault::{Fault, Rule, Stop};
+pub use module::{Inst, Module};
+pub use operand::Operand;
+pub use operands::Operands;
+pub use results::{result_in, type_in};
+pub use spv_table::Memory;

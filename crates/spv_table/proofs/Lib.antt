@@ -1,0 +1,4 @@
+pub mod Backward
+pub mod Search
+pub mod Found
+mod Slots

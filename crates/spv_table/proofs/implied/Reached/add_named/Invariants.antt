@@ -1,0 +1,10 @@
+use Rattle.std.proofs.Common.{take}
+use Rattle.std.specs.List.{filter_map}
+use Rattle.spv_table.specs.Table.{kind_of}
+use Rattle.spv_table.specs.Lookups.{value_named}
+use Rattle.spv_table.specs.Implied.{enumerants_of}
+use Rattle.spv_table.specs.inner.Reached.{AddsAll}
+use Rattle.spv_table.proofs.implied.Reached.add_named.Given as goal
+
+abbrev pub invariant-loop-name : goal.invariant-loop-name
+invariant-loop-name l = AddsAll (filter_map (value_named (enumerants_of (kind_of l.table l.kind))) (take l.name-index l.names)) l.initial.self l.self

@@ -1,0 +1,5 @@
+pub mod Table
+pub mod Lookups
+pub mod Implied
+pub mod Example
+pub mod inner

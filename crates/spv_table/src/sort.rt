@@ -1,0 +1,147 @@
+ghost use Rattle.std.specs.Prelude.{◌≡◌, ◌<◌, ◌≤◌, ◌^◌, ℕ, List, length, option_map, option_and_then, slice_get, slice_index_or, IfOk};
+ghost use Rattle.std.specs.BTreeMap as tree;
+ghost use Rattle.std.specs.Ordering.{nat_cmp};
+ghost use Rattle.spv_table.specs.Table.{enumerant_of};
+ghost use Rattle.spv_table.specs.Lookups.{value_named};
+
+use crate::named::{Named, Names};
+use crate::places::widen;
+use crate::table::{Enumerant, Kind};
+use std::alloc::{AllocError, Global};
+use std::collections::BTreeMap;
+use std::marker::Model;
+
+/// A kind with its enumerants. Contracts see the two.
+#[derive(Debug, Drop)]
+pub struct Sort {
+    kind: Kind,
+    enumerants: Vec<Enumerant>,
+    /// For each value below `SMALL` the place of the first enumerant that has it. 4,294,967,295 stands where none has it, and
+    /// the list may end before.
+    near: Vec<u32>,
+    /// The place of the first enumerant with a greater value.
+    far: BTreeMap<u32, usize>,
+    /// Where the names of the enumerants are.
+    names: Names,
+}
+
+impl Model for Sort {
+    ghost use Rattle.std.specs.Prelude.{◌≡◌, ◌<◌, ◌≤◌, ℕ, List, option_and_then, slice_get, slice_index_or};
+    ghost use Rattle.std.specs.BTreeMap as tree;
+    ghost use Rattle.std.specs.Ordering.{nat_cmp};
+    ghost use Rattle.spv_table.specs.Table.{Sort};
+
+    ghost Value = { Sort };
+
+    ghost use Rattle.spv_table.specs.Table.{enumerant_of};
+    ghost use Rattle.spv_table.specs.inner.Named.{Finds};
+
+    ghost view = { λ s. record { kind = s.kind; enumerants = s.enumerants.items } };
+
+    ghost invariant = { λ s. ((v : ℕ) → v < 64 → slice_get s.enumerants.items (slice_index_or s.near.items v 4294967295) ≡ enumerant_of s.enumerants.items v)
+        × ((v : ℕ) → 64 ≤ v → option_and_then (slice_get s.enumerants.items) (tree.get nat_cmp s.far v) ≡ enumerant_of s.enumerants.items v)
+        × Finds (λ e. e.name) s.enumerants.items s.names };
+}
+
+/// Below which number a value has a place in a list of its own.
+const SMALL: u32 = 64;
+
+/// For each value below `SMALL` the place of the first enumerant that has it.
+fn near_places(alloc: Global, enumerants: &[Enumerant]) -> Result<Vec<u32>, AllocError>
+    requires { length enumerants.now < 2 ^ 32 }
+    ensures { IfOk result (λ places. (v : ℕ) → v < 64 → slice_get enumerants.now (slice_index_or places.items v 4294967295) ≡ enumerant_of enumerants.now v) }
+{
+    let mut places = Vec::new(alloc);
+    for i in (0..enumerants.len()).rev() {
+        let value = enumerants[i].value;
+        if value < SMALL {
+            widen(&mut places, value as usize)?;
+            places[value as usize] = i as u32;
+        }
+    }
+    Ok(places)
+}
+
+/// For each value from `SMALL` on the place of the first enumerant that has it.
+fn far_places(alloc: Global, enumerants: &[Enumerant]) -> Result<BTreeMap<u32, usize>, AllocError>
+    ensures { IfOk result (λ places. (v : ℕ) → 64 ≤ v → option_and_then (slice_get enumerants.now) (tree.get nat_cmp places v) ≡ enumerant_of enumerants.now v) }
+{
+    let mut places = BTreeMap::new(alloc);
+    for i in (0..enumerants.len()).rev() {
+        let value = enumerants[i].value;
+        if value >= SMALL {
+            places.insert(value, i)?;
+        }
+    }
+    Ok(places)
+}
+
+impl Named for Enumerant {
+    ghost name = { λ e. e.name };
+
+    fn name(&self) -> &str {
+        self.name.as_str()
+    }
+}
+
+impl Named for Sort {
+    ghost name = { λ s. s.kind.name };
+
+    fn name(&self) -> &str {
+        self.kind.name.as_str()
+    }
+}
+
+impl Sort {
+    /// A kind with these enumerants. The error is want of memory, or of places: there may be 4,294,967,295.
+    pub fn new(alloc: Global, kind: Kind, enumerants: Vec<Enumerant>) -> Result<Sort, AllocError>
+        ensures { IfOk result (λ s. s ≡ record { kind = kind; enumerants = enumerants.items }) }
+    {
+        if enumerants.len() > 0xffff_ffff {
+            return Err(AllocError);
+        }
+        let near = near_places(alloc, enumerants.as_slice())?;
+        let far = far_places(alloc, enumerants.as_slice())?;
+        let names = Names::of(alloc, enumerants.as_slice())?;
+        Ok(Sort {
+            kind,
+            enumerants,
+            near,
+            far,
+            names,
+        })
+    }
+
+    /// The kind.
+    pub fn kind(&self) -> &Kind
+        ensures { result.now ≡ self.now.kind }
+    {
+        &self.kind
+    }
+
+    /// The first enumerant with a value: in constant time where the value is below `SMALL`.
+    pub fn enumerant(&self, value: u32) -> Option<&Enumerant>
+        ensures { option_map (λ e. e.now) result ≡ enumerant_of self.now.enumerants value }
+    {
+        if value < SMALL {
+            let place = match self.near.get(value as usize) {
+                Some(place) => *place,
+                None => u32::MAX,
+            };
+            return self.enumerants.get(place as usize);
+        }
+        let place = *self.far.get(&value)?;
+        self.enumerants.get(place)
+    }
+
+    /// The value of the first enumerant with a name.
+    pub fn value(&self, name: &str) -> Option<u32>
+        ensures { result ≡ value_named self.now.enumerants name.now }
+    {
+        let place = self.names.place(self.enumerants.as_slice(), name)?;
+        match self.enumerants.get(place) {
+            Some(enumerant) => Some(enumerant.value),
+            None => None,
+        }
+    }
+}

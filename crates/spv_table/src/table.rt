@@ -1,0 +1,213 @@
+ghost use Rattle.std.specs.Prelude.{◌≡◌, ◌<◌, ◌^◌, ℕ, List, length, slice_get, slice_index_or, option_map, option_and_then, IfOk};
+ghost use Rattle.spv_table.specs.Table.{entry_of, kind_of, enumerant_of, first_with, IsWhole};
+ghost use Rattle.spv_table.specs.Lookups.{opcode_named, value_named, number_named};
+
+use crate::listed::{Listed, Name, NameList};
+use crate::named::{Named, Names};
+use crate::places::widen;
+use crate::sort::Sort;
+use std::alloc::{AllocError, Global};
+use std::marker::Model;
+
+/// How often an operand comes.
+#[derive(Clone, Copy, Debug, PartialEq, Eq)]
+pub enum Quantifier {
+    /// Once.
+    One,
+    /// Once or not at all: `?`.
+    Maybe,
+    /// Any number of times: `*`.
+    Many,
+}
+
+/// An operand of an entry's pattern.
+#[derive(Clone, Copy, Debug, PartialEq, Eq)]
+pub struct Item {
+    /// The number of its kind.
+    pub kind: u32,
+    pub quantifier: Quantifier,
+}
+
+/// An instruction of the grammar file.
+#[derive(Debug, Drop)]
+pub struct Entry {
+    pub name: Name,
+    /// The pattern of its operands, in order.
+    pub operands: Listed<Item>,
+    /// The names of the capabilities of which one is needed.
+    pub capabilities: NameList,
+}
+
+/// What sort of operands a kind has.
+#[derive(Clone, Copy, Debug, PartialEq, Eq)]
+pub enum Category {
+    BitEnum,
+    ValueEnum,
+    Id,
+    Literal,
+    Composite,
+}
+
+/// A kind of operands.
+#[derive(Debug, Drop)]
+pub struct Kind {
+    pub name: Name,
+    pub category: Category,
+    /// The numbers of the kinds that a Composite is made of, in order; none for others.
+    pub bases: Listed<u32>,
+}
+
+/// A value of a ValueEnum, or a bit of a BitEnum.
+#[derive(Debug, Drop)]
+pub struct Enumerant {
+    pub name: Name,
+    pub value: u32,
+    /// The numbers of the kinds of its parameters, in order.
+    pub parameters: Listed<u32>,
+    /// The names of the capabilities of which one is needed.
+    pub capabilities: NameList,
+}
+
+/// What a grammar file says. Contracts see its kinds and its entries, as lists.
+#[derive(Debug, Drop)]
+pub struct Table {
+    sorts: Vec<Sort>,
+    entries: Vec<(u16, Entry)>,
+    /// For each opcode the place of its first entry. 4,294,967,295 stands where it has none, and the list ends with the
+    /// greatest opcode that has one.
+    places: Vec<u32>,
+    /// Where the names of the entries are.
+    names: Names,
+    /// Where the names of the kinds are.
+    kind_names: Names,
+}
+
+impl Model for Table {
+    ghost use Rattle.std.specs.Prelude.{◌≡◌, ℕ, List, slice_get, slice_index_or};
+    ghost use Rattle.spv_table.specs.Table.{Table};
+
+    ghost Value = { Table };
+
+    ghost use Rattle.spv_table.specs.Table.{IsWhole, first_with};
+    ghost use Rattle.spv_table.specs.inner.Named.{Finds};
+
+    ghost view = { λ t. record { kinds = t.sorts.items; entries = t.entries.items } };
+
+    ghost invariant = { λ t. IsWhole (record { kinds = t.sorts.items; entries = t.entries.items })
+        × ((n : ℕ) → slice_get t.entries.items (slice_index_or t.places.items n 4294967295) ≡ first_with (λ e. e.0) n t.entries.items)
+        × Finds (λ e. e.1.name) t.entries.items t.names
+        × Finds (λ s. s.kind.name) t.sorts.items t.kind_names };
+}
+
+/// For each opcode the place of its first entry.
+fn opcode_places(alloc: Global, entries: &[(u16, Entry)]) -> Result<Vec<u32>, AllocError>
+    requires { length entries.now < 2 ^ 32 }
+    ensures { IfOk result (λ places. (n : ℕ) → slice_get entries.now (slice_index_or places.items n 4294967295) ≡ first_with (λ e. e.0) n entries.now) }
+{
+    let mut places = Vec::new(alloc);
+    for i in (0..entries.len()).rev() {
+        let opcode = usize::from(entries[i].0);
+        widen(&mut places, opcode)?;
+        places[opcode] = i as u32;
+    }
+    Ok(places)
+}
+
+impl Named for (u16, Entry) {
+    ghost name = { λ e. e.1.name };
+
+    fn name(&self) -> &str {
+        self.1.name.as_str()
+    }
+}
+
+impl Table {
+    /// The table of these kinds and entries. The error is want of memory, or of places: there may be
+    /// 4,294,967,295 entries.
+    pub fn new(
+        alloc: Global,
+        sorts: Vec<Sort>,
+        entries: Vec<(u16, Entry)>,
+    ) -> Result<Table, AllocError>
+        requires { IsWhole (record { kinds = sorts.items; entries = entries.items }) }
+        ensures { IfOk result (λ G. G ≡ record { kinds = sorts.items; entries = entries.items }) }
+    {
+        if entries.len() > 0xffff_ffff {
+            return Err(AllocError);
+        }
+        let places = opcode_places(alloc, entries.as_slice())?;
+        let names = Names::of(alloc, entries.as_slice())?;
+        let kind_names = Names::of(alloc, sorts.as_slice())?;
+        Ok(Table {
+            sorts,
+            entries,
+            places,
+            names,
+            kind_names,
+        })
+    }
+
+    /// The kind of a number.
+    pub fn kind(&self, number: u32) -> Option<&Kind>
+        ensures kind { option_map (λ k. k.now) result ≡ option_map (λ s. s.kind) (kind_of self.now number) }
+        ensures whole { IsWhole self.now }
+    {
+        match self.sorts.get(number as usize) {
+            Some(sort) => Some(sort.kind()),
+            None => None,
+        }
+    }
+
+    /// The number of the kind of a name.
+    pub fn kind_named(&self, name: &str) -> Option<u32>
+        ensures { result ≡ number_named self.now name.now }
+    {
+        let place = self.kind_names.place(self.sorts.as_slice(), name)?;
+        Some(place as u32)
+    }
+
+    /// The enumerant of a kind's value or bit: the first of the file that is not dropped.
+    pub fn enumerant(&self, kind: u32, value: u32) -> Option<&Enumerant>
+        ensures { option_map (λ e. e.now) result ≡ option_and_then (λ s. enumerant_of s.enumerants value) (kind_of self.now kind) }
+    {
+        let Some(sort) = self.sorts.get(kind as usize) else {
+            return None;
+        };
+        sort.enumerant(value)
+    }
+
+    /// The value of the enumerant of a kind that bears a name: of the first that is not dropped.
+    pub fn enumerant_named(&self, kind: u32, name: &str) -> Option<u32>
+        ensures { result ≡ option_and_then (λ s. value_named s.enumerants name.now) (kind_of self.now kind) }
+    {
+        let Some(sort) = self.sorts.get(kind as usize) else {
+            return None;
+        };
+        sort.value(name)
+    }
+
+    /// The entry of an opcode: the first of the file.
+    pub fn entry(&self, opcode: u16) -> Option<&Entry>
+        ensures { option_map (λ e. e.now) result ≡ entry_of self.now opcode }
+    {
+        let place = match self.places.get(usize::from(opcode)) {
+            Some(place) => *place,
+            None => u32::MAX,
+        };
+        match self.entries.get(place as usize) {
+            Some((_, entry)) => Some(entry),
+            None => None,
+        }
+    }
+
+    /// The opcode of the first instruction that bears a name.
+    pub fn named(&self, name: &str) -> Option<u16>
+        ensures { result ≡ opcode_named self.now.entries name.now }
+    {
+        let place = self.names.place(self.entries.as_slice(), name)?;
+        match self.entries.get(place) {
+            Some((opcode, _)) => Some(*opcode),
+            None => None,
+        }
+    }
+}
