@@ -5,7 +5,6 @@ use Rattle.spv_table.specs.declared.table.Category.{Category}
 use Rattle.spv_table.specs.declared.table.Category.TheVariants as category
 use Rattle.spv_table.specs.declared.table.Enumerant.{Enumerant}
 use Rattle.spv_table.specs.Table.{Table, Sort, kind_of, first_with}
-use Rattle.spv_grammar.proofs.Whole.{and_left, and_right, some_same, not_some}
 use Rattle.spv_module.specs.Operand.{Plain, Context}
 use Rattle.spv_module.specs.Shape.{Slot, alone, Shape, AsType, AsResult, AsId, AsWord, AsNumber, AsText, AsValue, AsMask, AsParts, AsNothing, bases, integer_shape, shape_of, kind_shape, category_shape}
 use Rattle.spv_module.specs.Width.{switch_width, context_width}
@@ -14,6 +13,22 @@ use Rattle.spv_lines.specs.Fault.{is_result_shape}
 use Rattle.spv_table.specs.Table.{is_id, is_other_sort, is_other, has_other_parts}
 use Rattle.spv_lines.specs.Tidy.{IsTidy, AreNoResults}
 use Rattle.spv_lines.proofs.Results.{literal_no}
+
+-- ---- conjunctions and options
+
+and_left : (a b : Bool) → (a && b) ≡ true → a ≡ true
+and_left true b h = refl
+and_left false b h = h
+
+and_right : (a b : Bool) → (a && b) ≡ true → b ≡ true
+and_right true b h = h
+and_right false b h = absurd (true≢false (sym h))
+
+some_same : {A : Type 0} {a b : A} → Some a ≡ Some b → a ≡ b
+some_same e = cc
+
+not_some : {A P : Type 0} (a : A) → None ≡ Some a → P
+not_some a e = absurd (let no : None ≡ Some a = e in cc)
 
 -- a test that passes where there is nothing to be tested
 abbrev if_any : {A : Type 0} → (A → Bool) → Option A → Bool
