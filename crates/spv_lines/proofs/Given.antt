@@ -1,5 +1,6 @@
 -- A table of whose kinds none has a result among its parameters or bases is tidy.
 use Rattle.std.proofs.Common.{◌≡◌, ◌∙◌, ◌++◌, ℕ, zero, suc, nat_eq, Bool, true, false, not, ◌&&◌, ◌||◌, List, [], ◌∷◌, Option, Some, None, option_map, option_and_then, slice_get, map, bytes_eq, codes, if◌then◌else◌, refl, sym, ap, true≢false}
+use Rattle.std.specs.Prelude.{unwrap_or}
 use Rattle.std.specs.List.{list_all, AllByRecursion}
 use Rattle.spv_table.specs.declared.table.Category.{Category}
 use Rattle.spv_table.specs.declared.table.Category.TheVariants as category
@@ -25,10 +26,10 @@ and_right true b h = h
 and_right false b h = absurd (true≢false (sym h))
 
 some_same : {A : Type 0} {a b : A} → Some a ≡ Some b → a ≡ b
-some_same e = cc
+some_same {a = a} h = ap (λ o. unwrap_or o a) h
 
-not_some : {A P : Type 0} (a : A) → None ≡ Some a → P
-not_some a e = absurd (let no : None ≡ Some a = e in cc)
+not_some : {A : Type 0} (a : A) {P : Type 0} → None ≡ Some a → P
+not_some a h = cc
 
 -- a test that passes where there is nothing to be tested
 abbrev if_any : {A : Type 0} → (A → Bool) → Option A → Bool
