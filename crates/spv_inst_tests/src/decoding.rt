@@ -107,7 +107,11 @@ fn operands(alloc: Global, table: &Table, words: &str) -> Result<String, Fail> {
 }
 
 /// The name of the first row that is not as it says, or how many rows there are.
-fn differing<'a>(alloc: Global, table: &Table, rows: &'a str) -> Result<Result<u32, &'a str>, Fail> {
+fn differing<'a>(
+    alloc: Global,
+    table: &Table,
+    rows: &'a str,
+) -> Result<Result<u32, &'a str>, Fail> {
     let mut count = 0u32;
     for row in rows.lines() {
         if let Some((words, wanted)) = row.split_once(" = ") {

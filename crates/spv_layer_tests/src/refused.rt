@@ -15,7 +15,12 @@ const MOST: u32 = 100_000;
 
 /// Decodes an image of so many function definitions and lays it out, numbers its ids, checks its types and its flow, with
 /// each growth refused.
-fn check_refused(alloc: Global, table: &Table, image: &Image, definitions: u32) -> Result<(), Fail> {
+fn check_refused(
+    alloc: Global,
+    table: &Table,
+    image: &Image,
+    definitions: u32,
+) -> Result<(), Fail> {
     let mut growths = Growths::new(alloc);
     for _ in 0..MOST {
         growths.refuse_next();

@@ -24,7 +24,12 @@ fn assemble_refused(alloc: Global, table: &Table, text: &str, image: &Image) -> 
         growths.end();
         let told = match made {
             Ok(made) if made.octets() == image.octets() => Told::Right,
-            Err(AsmError { code: AsmCode::S6, line: 0 }) => Told::NoMemory,
+            Err(
+                AsmError {
+                    code: AsmCode::S6,
+                    line: 0,
+                },
+            ) => Told::NoMemory,
             _ => Told::Wrong,
         };
         if growths.are_through(told)? {
@@ -46,7 +51,12 @@ fn show_refused(alloc: Global, table: &Table, text: &str, image: &Image) -> Resu
         growths.end();
         let told = match shown {
             Ok(shown) if shown.as_str() == text => Told::Right,
-            Err(EncodeError { code: EncodeCode::N4, inst: 0 }) => Told::NoMemory,
+            Err(
+                EncodeError {
+                    code: EncodeCode::N4,
+                    inst: 0,
+                },
+            ) => Told::NoMemory,
             _ => Told::Wrong,
         };
         if growths.are_through(told)? {
@@ -77,7 +87,12 @@ fn show_image_refused(alloc: Global, table: &Table, text: &str, image: &Image) -
 
 /// The modules that are shown and assembled.
 fn samples() -> [Sample<'static>; 4] {
-    [SMALLEST_KERNEL, LOOP_WITH_PHI, LOAD_WITH_MASK, CALL_OF_LATER_FUNCTION]
+    [
+        SMALLEST_KERNEL,
+        LOOP_WITH_PHI,
+        LOAD_WITH_MASK,
+        CALL_OF_LATER_FUNCTION,
+    ]
 }
 
 #[test]

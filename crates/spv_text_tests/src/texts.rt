@@ -58,7 +58,10 @@ fn shows_what_it_reads(rt: HostRuntime) -> Result<(), Fail> {
     let table = Table::from_slice(rt.alloc(), PROFILE.as_bytes())?;
     let image = assemble(rt.alloc(), &table, SHOWN)?;
     let header = image.header();
-    assert_eq!(rt; (header.generator, header.bound, header.schema), (9, 100, 0));
+    assert_eq!(rt;
+        (header.generator, header.bound, header.schema),
+        (9, 100, 0)
+    );
     let shown = show_image(rt.alloc(), &table, &image).map_err(refusal)?;
     assert_eq!(rt; shown.as_str(), SHOWN);
     let again = text_again(rt.alloc(), &table, &image)?;
@@ -98,11 +101,20 @@ fn refuses(rt: HostRuntime) -> Result<(), Fail> {
 #[test]
 fn messages(rt: HostRuntime) -> Result<(), Fail> {
     for (code, message) in [
-        (AsmCode::S1, "line 7: a line of the header is missing or ill-formed"),
+        (
+            AsmCode::S1,
+            "line 7: a line of the header is missing or ill-formed",
+        ),
         (AsmCode::S2, "line 7: no known instruction"),
-        (AsmCode::S3, "line 7: an operand is missing, too many, ill-formed or unknown"),
+        (
+            AsmCode::S3,
+            "line 7: an operand is missing, too many, ill-formed or unknown",
+        ),
         (AsmCode::S4, "line 7: a number is too large"),
-        (AsmCode::S5, "line 7: the instruction or the module is too long"),
+        (
+            AsmCode::S5,
+            "line 7: the instruction or the module is too long",
+        ),
         (AsmCode::S6, "line 7: out of memory"),
     ] {
         let error = AsmError { code, line: 7 };

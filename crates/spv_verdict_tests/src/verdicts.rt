@@ -22,7 +22,10 @@ fn parts_of_a_valid_module(rt: HostRuntime) -> Result<(), Fail> {
     assert_eq!(rt; parts.types.of(16), Some(2));
     assert_eq!(rt; parts.flow.definitions(), 2);
     let place = parts.plan.at(15).ok_or("a place")?;
-    assert_eq!(rt; (place.function, place.block, place.word), (Some(9), Some(14), 52));
+    assert_eq!(rt;
+        (place.function, place.block, place.word),
+        (Some(9), Some(14), 52)
+    );
     Ok(())
 }
 
