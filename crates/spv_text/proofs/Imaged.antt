@@ -1,5 +1,6 @@
 -- Images of one text, and of the shown text of an image.
 use Rattle.std.proofs.Common.{◌≡◌, ◌++◌, ◌∙◌, ◌<◌, ◌≤◌, ◌+◌, ◌^◌, ℕ, List, [], ◌∷◌, length, drop, refl, sym, ap, arith}
+use Rattle.std.specs.Prelude.{Result, Ok, Err, IfOk, IfErr}
 use Rattle.spv_words.specs.declared.words.Header.{Header}
 use Rattle.spv_words.specs.Header.{IsHeader}
 use Rattle.spv_table.specs.Table.{Table, IsWhole}
@@ -12,6 +13,7 @@ use Rattle.spv_lines.specs.Line.{AreWords}
 use Rattle.spv_lines.specs.Text.{IsReadText, IsShownText}
 use Rattle.spv_lines.specs.Tidy.{IsTidy}
 use Rattle.spv_lines.specs.declared.asm_error.AsmCode.{AsmCode}
+use Rattle.spv_lines.specs.declared.asm_error.AsmError.{AsmError}
 use Rattle.spv_lines.specs.declared.asm_error.AsmCode.TheVariants.{S6}
 use Rattle.spv_lines.proofs.Assembled.{read_words_once}
 use Rattle.spv_lines.proofs.Given.{free_tidy}
@@ -91,3 +93,14 @@ shown_again G k js ws image t f w n s g p r = image_again G s.header k s.insts j
 
 pub shown_memory : (G : Table) (ws t : List ℕ) (code : AsmCode) (line : ℕ) → IsWhole G → IsHeader ws → AreWords ws → length ws ≤ greatest_length → IsShownImage G ws t → IsAsmFailure G t code line → (code ≡ S6) × (line ≡ 0)
 shown_memory G ws t code line whole f w n s e = memory_alone G s.header s.insts ws t code line (free_tidy G whole.apart) f w n s.told s.listed s.shown e
+
+-- the same of what `assemble` answers
+pub again_by : (G : Table) (ws t : List ℕ) (r : Result (List ℕ) AsmError) → IfOk r (λ i. (h : Header) × (is : List PlainInst) × IsReadText G h is (drop 5 i) t × IsHeaderOf i h × IsListing G is (drop 5 i))
+    → IfOk r (λ i. IsHeader i) → IsHeader ws → AreWords ws → length ws ≤ greatest_length → IsShownImage G ws t → IfOk r (λ i. i ≡ ws)
+again_by G ws t (Ok i) read begins f w n s = shown_again G read.0 read.1 ws i t f w n s begins read.3 read.2
+again_by G ws t (Err e) read begins f w n s = tt
+
+pub memory_by : (G : Table) (ws t : List ℕ) (r : Result (List ℕ) AsmError) → IfErr r (λ e. IsAsmFailure G t e.code e.line) → IsWhole G
+    → IsHeader ws → AreWords ws → length ws ≤ greatest_length → IsShownImage G ws t → IfErr r (λ e. (e.code ≡ S6) × (e.line ≡ 0))
+memory_by G ws t (Ok i) failed whole f w n s = tt
+memory_by G ws t (Err e) failed whole f w n s = shown_memory G ws t e.code e.line whole f w n s failed

@@ -199,7 +199,7 @@ pub fn assemble(alloc: Global, table: &Table, text: &str) -> Result<Image, AsmEr
     ensures again { (ws : List ℕ) → IsHeader ws → AreWords ws → length ws ≤ greatest_length
         → IsShownImage table.now ws text.now → IfOk result (λ i. i ≡ ws) }
     ensures memory { (ws : List ℕ) → IsHeader ws → AreWords ws → length ws ≤ greatest_length
-        → IsShownImage table.now ws text.now → IfErr result (λ e. e ≡ record { code = S6; line = 0 }) }
+        → IsShownImage table.now ws text.now → IfErr result (λ e. (e.code ≡ S6) × (e.line ≡ 0)) }
 {
     // Of every table, and so of this one, no parameter and no base is of the kind of results.
     let _ = table.kind(0);
