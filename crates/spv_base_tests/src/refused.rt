@@ -1,5 +1,5 @@
-//! Each growth of memory refused in turn: the call answers its own error for want of memory. With none refused it answers
-//! rightly.
+//! Each growth of memory refused in turn: the call answers its own error for want of memory.
+//! With none refused it answers rightly.
 
 use serde_json::Value;
 use spv_grammar::{FromGrammar, GrammarError, Table};
@@ -108,7 +108,12 @@ fn read_refused(alloc: Global, bytes: &[u8]) -> Result<(), Fail> {
 
 #[test]
 fn images(rt: HostRuntime) -> Result<(), Fail> {
-    for sample in [SMALLEST_KERNEL, LOOP_WITH_PHI, LOAD_WITH_MASK, CALL_OF_LATER_FUNCTION] {
+    for sample in [
+        SMALLEST_KERNEL,
+        LOOP_WITH_PHI,
+        LOAD_WITH_MASK,
+        CALL_OF_LATER_FUNCTION,
+    ] {
         let bytes = bytes_of(rt.alloc(), sample.words)?;
         read_refused(rt.alloc(), &bytes)?;
     }

@@ -81,7 +81,10 @@ fn entries(rt: HostRuntime) -> Result<(), Fail> {
     assert_eq!(rt; entry.capabilities.as_slice().len(), 2);
     let operands = entry.operands.as_slice();
     assert_eq!(rt; operands.len(), 3);
-    assert_eq!(rt; (operands[0].kind, operands[1].kind, operands[2].kind), (1, 0, 2));
+    assert_eq!(rt;
+        (operands[0].kind, operands[1].kind, operands[2].kind),
+        (1, 0, 2)
+    );
     assert_eq!(rt; operands[0].quantifier, Quantifier::One);
     assert_eq!(rt; operands[1].quantifier, Quantifier::Maybe);
     assert_eq!(rt; operands[2].quantifier, Quantifier::Many);
@@ -162,11 +165,26 @@ fn lists_and_names(rt: HostRuntime) -> Result<(), Fail> {
 #[test]
 fn messages(rt: HostRuntime) -> Result<(), Fail> {
     for (code, message) in [
-        (GrammarError::J1, "the grammar is not JSON of at most 127 levels"),
-        (GrammarError::J2, "a key of the grammar is missing or has another sort of value"),
-        (GrammarError::J3, "an opcode or a value of the grammar is out of its range or form"),
-        (GrammarError::J4, "the grammar names a kind that it does not have"),
-        (GrammarError::J5, "the grammar has an unknown category or quantifier"),
+        (
+            GrammarError::J1,
+            "the grammar is not JSON of at most 127 levels",
+        ),
+        (
+            GrammarError::J2,
+            "a key of the grammar is missing or has another sort of value",
+        ),
+        (
+            GrammarError::J3,
+            "an opcode or a value of the grammar is out of its range or form",
+        ),
+        (
+            GrammarError::J4,
+            "the grammar names a kind that it does not have",
+        ),
+        (
+            GrammarError::J5,
+            "the grammar has an unknown category or quantifier",
+        ),
         (
             GrammarError::J6,
             "a result kind of the grammar stands twice, is quantified, or stands in parameters or bases",
@@ -179,6 +197,9 @@ fn messages(rt: HostRuntime) -> Result<(), Fail> {
     ] {
         assert_eq!(rt; format!(in rt.alloc(); "{code}")?.as_str(), message);
     }
-    assert_eq!(rt; format!(in rt.alloc(); "{Memory}")?.as_str(), "out of memory");
+    assert_eq!(rt;
+        format!(in rt.alloc(); "{Memory}")?.as_str(),
+        "out of memory"
+    );
     Ok(())
 }

@@ -56,20 +56,76 @@ fn refuses_operands_that_do_not_fit(rt: HostRuntime) -> Result<(), Fail> {
     assert_eq!(rt; octet, N2, "encode-a-zero-octet");
     let half = refusal(alloc, 100, 245, &[OfType(1), Made(2), Id(3)])?;
     assert_eq!(rt; half, N2, "encode-half-a-pair");
-    let opencl_c = Value { kind: LANGUAGE, value: 3 };
+    let opencl_c = Value {
+        kind: LANGUAGE,
+        value: 3,
+    };
     let skipped = refusal(alloc, 100, 3, &[opencl_c, Word(100), Text("a")])?;
     assert_eq!(rt; skipped, N2, "encode-optional-skipped");
-    let unknown = refusal(alloc, 100, 17, &[Value { kind: CAPABILITY, value: 1000 }])?;
+    let unknown = refusal(
+        alloc,
+        100,
+        17,
+        &[Value {
+            kind: CAPABILITY,
+            value: 1000,
+        }],
+    )?;
     assert_eq!(rt; unknown, N2, "encode-an-unknown-enumerant");
-    let bit = refusal(alloc, 100, 247, &[Id(1), Mask { kind: CONTROL, value: 8 }])?;
+    let bit = refusal(
+        alloc,
+        100,
+        247,
+        &[
+            Id(1),
+            Mask {
+                kind: CONTROL,
+                value: 8,
+            },
+        ],
+    )?;
     assert_eq!(rt; bit, N2, "encode-an-unknown-bit");
-    let other = refusal(alloc, 100, 17, &[Value { kind: LINKAGE, value: 1 }])?;
+    let other = refusal(
+        alloc,
+        100,
+        17,
+        &[Value {
+            kind: LINKAGE,
+            value: 1,
+        }],
+    )?;
     assert_eq!(rt; other, N2, "encode-a-value-of-another-kind");
     let opcode = refusal(alloc, 100, 9999, &[])?;
     assert_eq!(rt; opcode, N2, "encode-an-unknown-opcode");
-    let high = refusal(alloc, 100, 43, &[OfType(1), Made(2), Number { low: 5, high: 1, words: 1 }])?;
+    let high = refusal(
+        alloc,
+        100,
+        43,
+        &[
+            OfType(1),
+            Made(2),
+            Number {
+                low: 5,
+                high: 1,
+                words: 1,
+            },
+        ],
+    )?;
     assert_eq!(rt; high, N2, "encode-a-number-with-a-high-word-too-many");
-    let size = refusal(alloc, 100, 43, &[OfType(1), Made(2), Number { low: 5, high: 0, words: 2 }])?;
+    let size = refusal(
+        alloc,
+        100,
+        43,
+        &[
+            OfType(1),
+            Made(2),
+            Number {
+                low: 5,
+                high: 0,
+                words: 2,
+            },
+        ],
+    )?;
     assert_eq!(rt; size, N2, "encode-a-number-of-the-wrong-size");
     Ok(())
 }
@@ -81,12 +137,20 @@ fn refuses_headers(rt: HostRuntime) -> Result<(), Fail> {
         code: EncodeCode::N1,
         inst: 0,
     };
-    assert_eq!(rt; refusal(rt.alloc(), 0, 253, &[Word(1)])?, Some(n1), "encode-bound-zero");
+    assert_eq!(rt;
+        refusal(rt.alloc(), 0, 253, &[Word(1)])?,
+        Some(n1),
+        "encode-bound-zero"
+    );
     for (version, schema) in [(0x0001_0500, 0), (0x0001_0600, 1)] {
         let mut module = Module::new(rt.alloc(), header(100));
         module.header.version = version;
         module.header.schema = schema;
-        assert_eq!(rt; encode(rt.alloc(), &table, &module).err(), Some(n1), "{version} {schema}");
+        assert_eq!(rt;
+            encode(rt.alloc(), &table, &module).err(),
+            Some(n1),
+            "{version} {schema}"
+        );
     }
     Ok(())
 }
@@ -116,7 +180,16 @@ fn encodes_what_decodes(rt: HostRuntime) -> Result<(), Fail> {
     let table = Table::from_slice(rt.alloc(), PROFILE.as_bytes())?;
     let mut module = Module::new(rt.alloc(), header(5));
     // OpSource OpenCL_C 100, without a file and a text; OpExtension "abcd"; %3 = OpIAdd %1 %2 %2
-    module.push(3, &[Value { kind: LANGUAGE, value: 3 }, Word(100)])?;
+    module.push(
+        3,
+        &[
+            Value {
+                kind: LANGUAGE,
+                value: 3,
+            },
+            Word(100),
+        ],
+    )?;
     module.push(10, &[Text("abcd")])?;
     module.push(128, &[OfType(1), Made(3), Id(2), Id(2)])?;
     let image = encode(rt.alloc(), &table, &module)?;
@@ -126,7 +199,10 @@ fn encodes_what_decodes(rt: HostRuntime) -> Result<(), Fail> {
     assert_eq!(rt; again.header, header(5));
     assert_eq!(rt; again.insts.len(), 3);
     assert_eq!(rt; again.insts[1].opcode, 10);
-    assert_eq!(rt; again.insts[1].operands.as_slice(), [Text("abcd")].as_slice());
+    assert_eq!(rt;
+        again.insts[1].operands.as_slice(),
+        [Text("abcd")].as_slice()
+    );
     assert_eq!(rt; again.insts[1].result_id(), None);
     assert_eq!(rt; again.insts[2].type_id(), Some(1));
     assert_eq!(rt; again.insts[2].result_id(), Some(3));
@@ -145,8 +221,14 @@ fn copies_operands(rt: HostRuntime) -> Result<(), Fail> {
 fn messages(rt: HostRuntime) -> Result<(), Fail> {
     for (code, message) in [
         (EncodeCode::N1, "instruction 7: the header does not fit"),
-        (EncodeCode::N2, "instruction 7: no words spell the instruction"),
-        (EncodeCode::N3, "instruction 7: the instruction or the module is too long"),
+        (
+            EncodeCode::N2,
+            "instruction 7: no words spell the instruction",
+        ),
+        (
+            EncodeCode::N3,
+            "instruction 7: the instruction or the module is too long",
+        ),
         (EncodeCode::N4, "instruction 7: out of memory"),
     ] {
         let error = EncodeError { code, inst: 7 };

@@ -1,5 +1,5 @@
-//! Each growth of memory refused in turn: the call answers its own error for want of memory. With none refused it answers
-//! rightly.
+//! Each growth of memory refused in turn: the call answers its own error for want of memory.
+//! With none refused it answers rightly.
 
 use spv_grammar::{FromGrammar, Table};
 use spv_inst::Operand::{Id, OfType, Result as Made, Text};
@@ -53,7 +53,12 @@ fn encode_refused(alloc: Global, table: &Table, image: &Image) -> Result<(), Fai
         growths.end();
         let told = match written {
             Ok(again) if again.octets() == image.octets() => Told::Right,
-            Err(EncodeError { code: EncodeCode::N4, inst: 0 }) => Told::NoMemory,
+            Err(
+                EncodeError {
+                    code: EncodeCode::N4,
+                    inst: 0,
+                },
+            ) => Told::NoMemory,
             _ => Told::Wrong,
         };
         if growths.are_through(told)? {
@@ -82,21 +87,30 @@ fn decodes_and_encodes(rt: HostRuntime) -> Result<(), Fail> {
 /// Whether these are the instructions that were pushed before.
 fn are_as_before(insts: &[Inst<'_>], count: usize) -> bool {
     insts.len() == count
-        && insts
-            .iter()
-            .all(|inst| inst.opcode == 128 && inst.operands.as_slice() == [OfType(1), Made(2), Id(3), Id(3)].as_slice())
+        && insts.iter().all(|inst| inst.opcode == 128
+            && inst.operands.as_slice() == [OfType(1), Made(2), Id(3), Id(3)].as_slice())
 }
 
 /// How a push after so many answers: where it is refused, the module is as it was before.
-fn told_of_push(module: &Module<'_>, header: Header, count: usize, pushed: Result<(), Memory>) -> Told {
+fn told_of_push(
+    module: &Module<'_>,
+    header: Header,
+    count: usize,
+    pushed: Result<(), Memory>,
+) -> Told {
     if module.header != header {
         return Told::Wrong;
     }
     let insts = module.insts.as_slice();
     match (pushed, insts.split_last()) {
         (Ok(()), Some((last, before))) => {
-            let is_right = last.opcode == 10 && last.operands.as_slice() == [Text("abc")].as_slice();
-            if is_right && are_as_before(before, count) { Told::Right } else { Told::Wrong }
+            let is_right = last.opcode == 10
+                && last.operands.as_slice() == [Text("abc")].as_slice();
+            if is_right && are_as_before(before, count) {
+                Told::Right
+            } else {
+                Told::Wrong
+            }
         }
         (Err(_), _) if are_as_before(insts, count) => Told::NoMemory,
         _ => Told::Wrong,

@@ -29,8 +29,8 @@ fn diamond(alloc: Global) -> Result<Graph, AllocError> {
     Ok(Graph { blocks, targets })
 }
 
-/// The first step at which some of these values, one a step from 7 on, are missed where a block begins, and how many asks
-/// the tree of blocks leaves open.
+/// The first step at which some of these values, one a step from 7 on, are missed where a block begins, and how many
+/// asks the tree of blocks leaves open.
 fn answers(
     rt: &impl Abort,
     alloc: Global,
@@ -58,11 +58,27 @@ fn answers(
 #[test]
 fn values_in_a_diamond(rt: HostRuntime) -> Result<(), Fail> {
     let graph = diamond(rt.alloc())?;
-    assert_eq!(rt; answers(&rt, rt.alloc(), &graph, 3, &[0])?, (None, 0), "of the first block");
-    assert_eq!(rt; answers(&rt, rt.alloc(), &graph, 3, &[0, 1])?, (Some(8), 1), "of one side");
-    assert_eq!(rt; answers(&rt, rt.alloc(), &graph, 3, &[2])?, (Some(7), 1), "of its own block");
+    assert_eq!(rt;
+        answers(&rt, rt.alloc(), &graph, 3, &[0])?,
+        (None, 0),
+        "of the first block"
+    );
+    assert_eq!(rt;
+        answers(&rt, rt.alloc(), &graph, 3, &[0, 1])?,
+        (Some(8), 1),
+        "of one side"
+    );
+    assert_eq!(rt;
+        answers(&rt, rt.alloc(), &graph, 3, &[2])?,
+        (Some(7), 1),
+        "of its own block"
+    );
     // A value that no block defines, over 512 values later.
-    assert_eq!(rt; answers(&rt, rt.alloc(), &graph, 1, &[0, 2000])?, (Some(8), 1), "of no block");
+    assert_eq!(rt;
+        answers(&rt, rt.alloc(), &graph, 1, &[0, 2000])?,
+        (Some(8), 1),
+        "of no block"
+    );
     Ok(())
 }
 

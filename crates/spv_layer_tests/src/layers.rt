@@ -50,7 +50,13 @@ struct Seen {
 }
 
 /// What the layers tell of an image's instruction and id.
-fn look_at(alloc: Global, table: &Table, image: &Image, inst: u32, id: u32) -> Result<Option<Seen>, Stop> {
+fn look_at(
+    alloc: Global,
+    table: &Table,
+    image: &Image,
+    inst: u32,
+    id: u32,
+) -> Result<Option<Seen>, Stop> {
     word_counts();
     let _words = image.len();
     let module = decode(alloc, table, image)?;

@@ -1,5 +1,5 @@
-//! Each growth of memory refused in turn: the call answers its own error for want of memory. With none refused it answers
-//! rightly.
+//! Each growth of memory refused in turn: the call answers its own error for want of memory.
+//! With none refused it answers rightly.
 
 use spv_grammar::{FromGrammar, Table};
 use spv_samples::{

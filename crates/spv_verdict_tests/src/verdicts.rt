@@ -21,7 +21,10 @@ fn parts_of_a_valid_module(rt: HostRuntime) -> Result<(), Fail> {
     assert_eq!(rt; parts.ids.definition(16), Some(15));
     assert_eq!(rt; parts.flow.definitions(), 2);
     let place = parts.plan.at(15).ok_or("a place")?;
-    assert_eq!(rt; (place.function, place.block, place.word), (Some(9), Some(14), 52));
+    assert_eq!(rt;
+        (place.function, place.block, place.word),
+        (Some(9), Some(14), 52)
+    );
     Ok(())
 }
 
