@@ -32,7 +32,8 @@ source-text-without-a-file: 40003 3 64 61 = [Value { kind: 4, value: 3 }, Word(1
 const OTHER_ROWS: &str = r#"
 {"instructions": [{"opname": "OpA", "opcode": 1, "operands": [{"kind": "K"}]}], "operand_kinds": [
  {"kind": "K", "category": "BitEnum", "enumerants": [
- {"enumerant": "None", "value": "0x0", "parameters": [{"kind": "LiteralInteger"}]}, {"enumerant": "A", "value": "0x1"}]},
+ {"enumerant": "None", "value": "0x0", "parameters": [{"kind": "LiteralInteger"}]},
+ {"enumerant": "A", "value": "0x1"}]},
  {"kind": "LiteralInteger", "category": "Literal"}]}
 
 zero-mask-takes-no-words: 20001 0 = [Mask { kind: 0, value: 0 }];
