@@ -32,7 +32,7 @@ def words(path):
     found = ["%x" % word for (word,) in struct.iter_unpack(order + "I", data)]
     lines = [[]]
     for word in found:
-        if sum(len(other) + 1 for other in lines[-1]) + len(word) > 116:
+        if sum(len(other) + 1 for other in lines[-1]) + len(word) > 104:
             lines.append([])
         lines[-1].append(word)
     return "\n".join(" ".join(line) for line in lines)

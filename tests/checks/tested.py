@@ -1,24 +1,24 @@
-"""Some tests of the crates with each growth of memory refused in turn.
+"""Some tests of the crates with each growth of memory in a call refused in turn.
 
-These are the calls that the program does not make by itself: each is called in a test, whose
-program `rt ci` leaves in its crate's folder out/. With a growth refused the test must pass, or end
-by the error that says so, and stop at no assertion.
+The tests call what the program does not call by itself, again and again, and have the library in
+refuse/ refuse the first growth of the call, then the second, and so on until none is refused
+(crates/spv_samples/src/growths.rt). Each call must answer its own error for want of memory, and with
+none refused rightly; where it answers rightly although one was refused, refuse/tests must say so.
+Their programs are left by `rt ci` in the crates' folders out/. That the constants which they read are
+the files of this folder is a check of its own.
 """
 
 import os
-import re
+import struct
 import subprocess
 
+from . import samples
 from .common import SECONDS, TESTS, Check, Unusable
-from .refused import MOST_GROWTHS, TALLY, library
+from .refused import library
 
 CRATES = TESTS.parent / "crates"
 FINE = (0, "\ntest result: ok\n")
-NO_MEMORY = re.compile(
-    r"error: (J8|W9|X2|Memory|AllocError|AllocFailed \{ \.\. \}|Error\(out of memory\)"
-    r"|EncodeError \{ code: N4, inst: 0 \}|AsmError \{ code: S6, line: 0 \})\n"
-    r"the test failed: its result gives status 1\n"
-)
+TALLY = struct.Struct("=5Q")
 
 
 def test_program(crate):
@@ -26,19 +26,14 @@ def test_program(crate):
     return CRATES / crate / "out" / f"{crate}_tests"
 
 
-def refused_run(crate, test, folder, preload, number):
-    """Runs the test with this growth refused: how it ended, and the three numbers of the tally."""
+def run_with_refusals(crate, test, folder):
+    """Runs the test with the library: how it ended, and the numbers of the tally."""
     tally = folder / "tally"
     tally.write_bytes(bytes(TALLY.size))
     ended = subprocess.run(
         [str(test_program(crate)), test],
         cwd=folder,
-        env={
-            **os.environ,
-            "LD_PRELOAD": str(preload),
-            "REFUSE_TELL": str(tally),
-            "REFUSE_AT": str(number),
-        },
+        env={**os.environ, "LD_PRELOAD": str(library(folder)), "REFUSE_TELL": str(tally)},
         stdin=subprocess.DEVNULL,
         stdout=subprocess.PIPE,
         stderr=subprocess.STDOUT,
@@ -49,40 +44,54 @@ def refused_run(crate, test, folder, preload, number):
     return answer, TALLY.unpack(tally.read_bytes())
 
 
-def each_refused(crate, test, folder):
-    """Refuses the growths of the test one by one, until a run is refused none."""
-    preload = library(folder)
-    for number in range(1, MOST_GROWTHS):
-        answer, (began, _, refused) = refused_run(crate, test, folder, preload, number)
-        if not began:
-            return "  the library did not take hold: is the program linked with the C library?"
-        if not refused:
-            return None if answer == FINE else f"  none refused\n  got:    {answer}"
-        if answer != FINE and not NO_MEMORY.fullmatch(answer[1]):
-            return f"  growth {number} refused\n  got:    {answer}"
-    return f"  over {MOST_GROWTHS} growths"
+def each_refused(crate, test, does_without, folder):
+    """Runs the test, and tells what is wrong, if anything."""
+    answer, (began, _, refused, stretches, without) = run_with_refusals(crate, test, folder)
+    if not began:
+        return "  the library did not take hold: is the program linked with the C library?"
+    if answer != FINE:
+        return f"  after {refused} growths refused\n  got:    {answer}"
+    if refused == 0 or refused >= stretches:
+        return f"  {refused} growths refused in {stretches} stretches: the marks are not understood"
+    if (without > 0) != does_without:
+        return f"  {without} calls answered rightly without a growth: tests/refuse/tests is to say so"
+    return None
 
 
 def chosen_tests():
-    """The tests that tests/refuse/tests names, each with its crate."""
+    """The tests that tests/refuse/tests names: the crate, the test, and whether it does without a growth."""
     lines = (TESTS / "refuse/tests").read_text(encoding="utf-8").splitlines()
-    found = [line.split() for line in lines if line and not line.startswith("#")]
-    for words in found:
-        if len(words) != 2 or not (CRATES / words[0] / "src").is_dir():
-            raise Unusable(f"tests/refuse/tests: no crate and test: {' '.join(words)}")
+    found = []
+    for line in lines:
+        words = line.split()
+        if not words or line.startswith("#"):
+            continue
+        if len(words) > 3 or words[2:] not in ([], ["without"]) or len(words) < 2:
+            raise Unusable(f"tests/refuse/tests: no crate and test: {line}")
+        if not (CRATES / words[0] / "src").is_dir():
+            raise Unusable(f"tests/refuse/tests: no such crate: {words[0]}")
+        found.append((words[0], words[1], words[2:] == ["without"]))
     return found
 
 
-def checks():
-    """One check for each chosen test."""
-    tools = frozenset({"cc", "tests"})
+def same_samples():
+    """None if the constants of spv_samples are as the files give them."""
+    wrong = [path.name for path in samples.differing()]
+    return f"  tests/samples writes something else: {', '.join(wrong)}" if wrong else None
 
-    def check(crate, test):
+
+def checks():
+    """One check of the samples, and one for each chosen test."""
+    tools = frozenset({"cc", "tests"})
+    layer = frozenset({"instructions"})
+
+    def check(crate, test, does_without):
         return Check(
             f"each growth refused in a test: {crate} {test}",
-            frozenset({"instructions"}),
-            lambda _, folder: each_refused(crate, test, folder),
+            layer,
+            lambda _, folder: each_refused(crate, test, does_without, folder),
             tools,
         )
 
-    return [check(crate, test) for crate, test in chosen_tests()]
+    found = [Check("samples of the crates' tests", layer, lambda *_: same_samples(), frozenset())]
+    return found + [check(*chosen) for chosen in chosen_tests()]

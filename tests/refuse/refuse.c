@@ -3,8 +3,14 @@
 // A growth is a call of malloc, calloc, realloc, reallocarray, aligned_alloc, memalign or
 // posix_memalign between the start and the end of main. They count from 1. REFUSE_AT tells the
 // first that is refused, REFUSE_ALL, if it is set, that all after it are refused too. REFUSE_TELL
-// names a file of 24 bytes, in which three numbers are kept: 1 once main began, the growths asked
-// for, and those refused.
+// names a file of 24 or 40 bytes, in which numbers are kept: 1 once main began, the growths asked
+// for, those refused, and of marks (if it has room) how many stretches were begun, and in how many
+// a call answered rightly although a growth was refused.
+//
+// A program may have growths refused itself, by marks: growths of sizes that nothing else asks for
+// (crates/spv_samples/src/growths.rt). REFUSE and N bytes begin a stretch in which the Nth growth is
+// refused, END bytes end it, and are refused if one was. DONE_WITHOUT bytes tell of a call that
+// answered rightly without the growth that was refused.
 #define _GNU_SOURCE
 #include <dlfcn.h>
 #include <errno.h>
@@ -25,34 +31,71 @@ struct tally {
     uint64_t began;
     uint64_t asked;
     uint64_t refused;
+    uint64_t stretches;
+    uint64_t done_without;
 };
+
+enum { DONE_WITHOUT = 6999998, END = 6999999, REFUSE = 7000000, LAST_REFUSE = 7100000 };
 
 static struct tally unread;
 static struct tally *tally = &unread;
 static uint64_t refuse_at;
 static int refuse_all;
 static int in_main;
+// The number in its stretch of the growth that is refused, or 0; and how many were asked for there.
+static uint64_t stretch_at;
+static uint64_t stretch_asked;
+static uint64_t stretch_refused;
 static int (*real_main)(int, char **, char **);
 
-static int is_refused(void) {
-    if (!in_main) return 0;
-    uint64_t number = __atomic_add_fetch(&tally->asked, 1, __ATOMIC_SEQ_CST);
-    if (refuse_at == 0 || number < refuse_at) return 0;
-    if (number > refuse_at && !refuse_all) return 0;
-    __atomic_add_fetch(&tally->refused, 1, __ATOMIC_SEQ_CST);
-    errno = ENOMEM;
+// Whether a growth is a mark; then it tells whether it is refused.
+static int is_mark(size_t size, int *refused) {
+    *refused = size == END && stretch_refused > 0;
+    if (size == DONE_WITHOUT) {
+        tally->done_without++;
+    } else if (size == END) {
+        stretch_at = 0;
+    } else if (size > REFUSE && size <= LAST_REFUSE) {
+        stretch_at = size - REFUSE;
+        stretch_asked = stretch_refused = 0;
+        tally->stretches++;
+    } else {
+        return 0;
+    }
     return 1;
 }
 
-void *malloc(size_t size) { return is_refused() ? NULL : __libc_malloc(size); }
+static int is_chosen(void) {
+    if (stretch_at > 0 && ++stretch_asked == stretch_at) {
+        stretch_refused++;
+        return 1;
+    }
+    uint64_t number = __atomic_add_fetch(&tally->asked, 1, __ATOMIC_SEQ_CST);
+    return refuse_at != 0 && (number == refuse_at || (number > refuse_at && refuse_all));
+}
 
-void *calloc(size_t count, size_t size) { return is_refused() ? NULL : __libc_calloc(count, size); }
+static int is_refused(size_t size) {
+    int refused;
+    if (!in_main) return 0;
+    if (!is_mark(size, &refused)) {
+        refused = is_chosen();
+        if (refused) __atomic_add_fetch(&tally->refused, 1, __ATOMIC_SEQ_CST);
+    }
+    if (refused) errno = ENOMEM;
+    return refused;
+}
 
-void *realloc(void *old, size_t size) { return is_refused() ? NULL : __libc_realloc(old, size); }
+void *malloc(size_t size) { return is_refused(size) ? NULL : __libc_malloc(size); }
+
+void *calloc(size_t count, size_t size) {
+    return is_refused(count * size) ? NULL : __libc_calloc(count, size);
+}
+
+void *realloc(void *old, size_t size) { return is_refused(size) ? NULL : __libc_realloc(old, size); }
 
 void *reallocarray(void *old, size_t count, size_t size) {
     size_t bytes;
-    if (is_refused()) return NULL;
+    if (is_refused(count * size)) return NULL;
     if (__builtin_mul_overflow(count, size, &bytes)) {
         errno = ENOMEM;
         return NULL;
@@ -61,15 +104,15 @@ void *reallocarray(void *old, size_t count, size_t size) {
 }
 
 void *aligned_alloc(size_t alignment, size_t size) {
-    return is_refused() ? NULL : __libc_memalign(alignment, size);
+    return is_refused(size) ? NULL : __libc_memalign(alignment, size);
 }
 
 void *memalign(size_t alignment, size_t size) {
-    return is_refused() ? NULL : __libc_memalign(alignment, size);
+    return is_refused(size) ? NULL : __libc_memalign(alignment, size);
 }
 
 int posix_memalign(void **out, size_t alignment, size_t size) {
-    void *memory = is_refused() ? NULL : __libc_memalign(alignment, size);
+    void *memory = is_refused(size) ? NULL : __libc_memalign(alignment, size);
     if (memory == NULL) return ENOMEM;
     *out = memory;
     return 0;

@@ -1,5 +1,5 @@
-//! Each growth of memory refused in turn: the call answers its own error for want of memory. With none refused it answers
-//! rightly.
+//! Each growth of memory refused in turn: the call answers its own error for want of memory.
+//! With none refused it answers rightly.
 
 use serde_json::Value;
 use spv_grammar::{FromGrammar, GrammarError, Table};
@@ -61,7 +61,7 @@ fn implied(rt: HostRuntime) -> Result<(), Fail> {
         // Vector16 lists Kernel.
         let found = table.implied(rt.alloc(), &[7]);
         growths.end();
-        let told = match found {
+        let told = match &found {
             Ok(all) if all.contains(&6) && all.contains(&7) => Told::Right,
             Ok(_) => Told::Wrong,
             Err(_) => Told::NoMemory,

@@ -155,12 +155,22 @@ fn refuses_headers(rt: HostRuntime) -> Result<(), Fail> {
     Ok(())
 }
 
+/// The operands of an OpString.
+fn string(text: &str) -> [Operand<'_>; 2] {
+    [Id(1), Text(text)]
+}
+
+/// The same with an id behind, which no words spell.
+fn string_and_id(text: &str) -> [Operand<'_>; 3] {
+    [Id(1), Text(text), Id(1)]
+}
+
 #[test]
 fn an_instruction_has_65535_words(rt: HostRuntime) -> Result<(), Fail> {
     let table = Table::from_slice(rt.alloc(), PROFILE.as_bytes())?;
     let name = "a".repeat(rt.alloc(), 262_131)?;
     let mut module = Module::new(rt.alloc(), header(5));
-    module.push(5, &[Id(1), Text(name.as_str())])?;
+    module.push(5, &string(name.as_str()))?;
     let image = encode(rt.alloc(), &table, &module)?;
     assert_eq!(rt; image.len(), 65_540, "encode-the-longest-name");
     let longer = "a".repeat(rt.alloc(), 262_132)?;
@@ -168,9 +178,9 @@ fn an_instruction_has_65535_words(rt: HostRuntime) -> Result<(), Fail> {
         code: EncodeCode::N3,
         inst: 1,
     };
-    let long = refusal(rt.alloc(), 5, 5, &[Id(1), Text(longer.as_str())])?;
+    let long = refusal(rt.alloc(), 5, 5, &string(longer.as_str()))?;
     assert_eq!(rt; long, Some(n3), "encode-a-name-too-long");
-    let also = refusal(rt.alloc(), 5, 5, &[Id(1), Text(longer.as_str()), Id(1)])?;
+    let also = refusal(rt.alloc(), 5, 5, &string_and_id(longer.as_str()))?;
     assert_eq!(rt; also, N2, "encode-too-long-and-not-of-its-pattern");
     Ok(())
 }

@@ -1,5 +1,5 @@
-//! Each growth of memory refused in turn: the call answers its own error for want of memory. With none refused it answers
-//! rightly.
+//! Each growth of memory refused in turn: the call answers its own error for want of memory.
+//! With none refused it answers rightly.
 
 use spv_grammar::{FromGrammar, Table};
 use spv_inst::Operand::{Id, OfType, Result as Made, Text};
@@ -51,7 +51,7 @@ fn encode_refused(alloc: Global, table: &Table, image: &Image) -> Result<(), Fai
         growths.refuse_next();
         let written = encode(alloc, table, &module);
         growths.end();
-        let told = match written {
+        let told = match &written {
             Ok(again) if again.octets() == image.octets() => Told::Right,
             Err(
                 EncodeError {

@@ -29,15 +29,8 @@ fn diamond(alloc: Global) -> Result<Graph, AllocError> {
     Ok(Graph { blocks, targets })
 }
 
-/// The first step at which some of these values, one a step from 7 on, are missed where a block begins, and how many asks
-/// the tree of blocks leaves open.
-fn answers(
-    rt: &impl Abort,
-    alloc: Global,
-    graph: &Graph,
-    block: u32,
-    values: &[u32],
-) -> Result<(Option<u32>, usize), AllocError> {
+/// Asks for values, one a step from 7 on, where a block begins.
+fn asks_of(alloc: Global, block: u32, values: &[u32]) -> Result<Vec<Ask>, AllocError> {
     let mut asks = Vec::new(alloc);
     let mut step = 7u32;
     for value in values {
@@ -48,36 +41,47 @@ fn answers(
         })?;
         step = step.wrapping_add(1);
     }
+    Ok(asks)
+}
+
+/// The first step at which a value is missed, and how many asks the tree of blocks leaves open.
+fn answers(
+    rt: &impl Abort,
+    alloc: Global,
+    graph: &Graph,
+    asks: &[Ask],
+) -> Result<(Option<u32>, usize), AllocError> {
     assert!(rt; graph.is_graph());
-    assert!(rt; are_asks(graph, asks.as_slice()));
-    let first = first_missed(alloc, graph, asks.as_slice())?;
-    let open = open_asks(alloc, graph, asks.as_slice())?;
+    assert!(rt; are_asks(graph, asks));
+    let first = first_missed(alloc, graph, asks)?;
+    let open = open_asks(alloc, graph, asks)?;
     Ok((first, open.len()))
 }
 
 #[test]
 fn values_in_a_diamond(rt: HostRuntime) -> Result<(), Fail> {
-    let graph = diamond(rt.alloc())?;
+    let alloc = rt.alloc();
+    let graph = diamond(alloc)?;
+    let of_first = asks_of(alloc, 3, &[0])?;
     assert_eq!(rt;
-        answers(&rt, rt.alloc(), &graph, 3, &[0])?,
-        (None, 0),
-        "of the first block"
+        answers(&rt, alloc, &graph, of_first.as_slice())?,
+        (None, 0)
     );
+    let of_one_side = asks_of(alloc, 3, &[0, 1])?;
     assert_eq!(rt;
-        answers(&rt, rt.alloc(), &graph, 3, &[0, 1])?,
-        (Some(8), 1),
-        "of one side"
+        answers(&rt, alloc, &graph, of_one_side.as_slice())?,
+        (Some(8), 1)
     );
+    let of_its_own = asks_of(alloc, 3, &[2])?;
     assert_eq!(rt;
-        answers(&rt, rt.alloc(), &graph, 3, &[2])?,
-        (Some(7), 1),
-        "of its own block"
+        answers(&rt, alloc, &graph, of_its_own.as_slice())?,
+        (Some(7), 1)
     );
     // A value that no block defines, over 512 values later.
+    let of_none = asks_of(alloc, 1, &[0, 2000])?;
     assert_eq!(rt;
-        answers(&rt, rt.alloc(), &graph, 1, &[0, 2000])?,
-        (Some(8), 1),
-        "of no block"
+        answers(&rt, alloc, &graph, of_none.as_slice())?,
+        (Some(8), 1)
     );
     Ok(())
 }

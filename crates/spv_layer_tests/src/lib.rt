@@ -1,5 +1,5 @@
-//! The calls of the layers from spv_layout to spv_flow, with ample memory and with growths refused, and availability beside
-//! a plain program that tells the same. Which rule each layer tells of a module is shown by the program.
+//! The calls of the layers from spv_layout to spv_flow, with ample memory and with growths refused, and availability
+//! beside a plain program that tells the same. Which rule each layer tells of a module is shown by the program.
 #![tactic(auto)]
 
 #[cfg(test)]

@@ -13,8 +13,8 @@ use std::test::Fail;
 /// The most growths of the layers.
 const MOST: u32 = 100_000;
 
-/// Decodes an image of so many function definitions and lays it out, numbers its ids, checks its types and its flow, with
-/// each growth refused.
+/// Decodes an image of so many function definitions and lays it out, numbers its ids, checks its types and its flow,
+/// with each growth refused.
 fn check_refused(
     alloc: Global,
     table: &Table,

@@ -1,7 +1,7 @@
 //! How a test has each growth of memory in a call refused, one after another.
 //!
-//! A test speaks with the C library of `tests/refuse` by growths of sizes that nothing else asks for. Without that library
-//! they are growths like any other, and nothing is refused.
+//! A test speaks with the C library of `tests/refuse` by growths of sizes that nothing else asks for. Without that
+//! library they are growths like any other, and nothing is refused.
 
 use std::alloc::Global;
 

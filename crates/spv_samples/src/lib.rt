@@ -1,5 +1,5 @@
-//! What several crates of tests read: the grammar file of the profile, modules, and the way in which a test speaks with the
-//! library of `tests/refuse`.
+//! What several crates of tests read: the grammar file of the profile, modules, and the way in which a test speaks with
+//! the library of `tests/refuse`.
 #![tactic(auto)]
 
 mod growths;

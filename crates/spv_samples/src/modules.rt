@@ -4,7 +4,8 @@ use crate::Sample;
 
 /// `tests/modules/smallest-kernel.spv`.
 pub const SMALLEST_KERNEL: Sample<'static> = Sample {
-    words: "7230203 10600 0 5 0 20011 4 20011 6 3000e 2 2 4000f 6 3 6b 20013 1 30021 2 1 50036 1 3 0 2 200f8 4 100fd 10038",
+    words: "7230203 10600 0 5 0 20011 4 20011 6 3000e 2 2 4000f 6 3 6b 20013 1 30021 2 1 50036 1 3 0 2 200f8 4 100fd
+10038",
     text: r#"; SPIR-V
 ; Version: 1.6
 ; Generator: 0
@@ -25,9 +26,9 @@ OpFunctionEnd
 
 /// `tests/modules/loop-with-phi.spv`.
 pub const LOOP_WITH_PHI: Sample<'static> = Sample {
-    words: "7230203 10600 0 13 0 20011 4 20011 6 3000e 2 2 4000f 6 a 6b 20013 1 40015 2 20 0 20014 3 50021 4 1 2 3 50036 1 a 0 4
-30037 2 b 30037 3 c 200f8 d 200f9 e 200f8 e 700f5 2 11 b d 12 f 400fa c f 10 200f8 f 50080 2 12 11 b 200f9 e 200f8
-10 100fd 10038",
+    words: "7230203 10600 0 13 0 20011 4 20011 6 3000e 2 2 4000f 6 a 6b 20013 1 40015 2 20 0 20014 3 50021 4 1 2 3
+50036 1 a 0 4 30037 2 b 30037 3 c 200f8 d 200f9 e 200f8 e 700f5 2 11 b d 12 f 400fa c f 10 200f8 f 50080
+2 12 11 b 200f9 e 200f8 10 100fd 10038",
     text: r#"; SPIR-V
 ; Version: 1.6
 ; Generator: 0
@@ -72,9 +73,9 @@ pub const LOAD_WITH_MASK: Sample<'static> = Sample {
 
 /// `tests/modules/call-of-a-later-function.spv`.
 pub const CALL_OF_LATER_FUNCTION: Sample<'static> = Sample {
-    words: "7230203 10600 0 18 0 20011 4 20011 6 3000e 2 2 4000f 6 a 6b 20013 1 40015 2 20 0 20014 3 50021 4 1 2 3 40021 5 2 2
-50036 1 a 0 4 30037 2 b 30037 3 c 200f8 d 400fa c e f 200f8 e 50039 2 10 14 b 200f9 f 200f8 f 100fd 10038 50036 2 14
-0 5 30037 2 15 200f8 16 50080 2 17 15 15 200fe 17 10038",
+    words: "7230203 10600 0 18 0 20011 4 20011 6 3000e 2 2 4000f 6 a 6b 20013 1 40015 2 20 0 20014 3 50021 4 1 2 3
+40021 5 2 2 50036 1 a 0 4 30037 2 b 30037 3 c 200f8 d 400fa c e f 200f8 e 50039 2 10 14 b 200f9 f 200f8
+f 100fd 10038 50036 2 14 0 5 30037 2 15 200f8 16 50080 2 17 15 15 200fe 17 10038",
     text: r#"; SPIR-V
 ; Version: 1.6
 ; Generator: 0

@@ -1,5 +1,5 @@
-//! Each growth of memory refused in turn: the call answers its own error for want of memory. With none refused it answers
-//! rightly.
+//! Each growth of memory refused in turn: the call answers its own error for want of memory.
+//! With none refused it answers rightly.
 
 use spv_grammar::{FromGrammar, Table};
 use spv_inst::{EncodeCode, EncodeError, Stop, decode};
@@ -22,7 +22,7 @@ fn assemble_refused(alloc: Global, table: &Table, text: &str, image: &Image) -> 
         growths.refuse_next();
         let made = assemble(alloc, table, text);
         growths.end();
-        let told = match made {
+        let told = match &made {
             Ok(made) if made.octets() == image.octets() => Told::Right,
             Err(
                 AsmError {
@@ -49,7 +49,7 @@ fn show_refused(alloc: Global, table: &Table, text: &str, image: &Image) -> Resu
         growths.refuse_next();
         let shown = show(alloc, table, &module);
         growths.end();
-        let told = match shown {
+        let told = match &shown {
             Ok(shown) if shown.as_str() == text => Told::Right,
             Err(
                 EncodeError {
@@ -73,7 +73,7 @@ fn show_image_refused(alloc: Global, table: &Table, text: &str, image: &Image) -
         growths.refuse_next();
         let shown = show_image(alloc, table, image);
         growths.end();
-        let told = match shown {
+        let told = match &shown {
             Ok(shown) if shown.as_str() == text => Told::Right,
             Err(Stop::Memory) => Told::NoMemory,
             _ => Told::Wrong,

@@ -13,7 +13,8 @@ use std::test::Fail;
 const PROFILE: &str = r#"{
   "instructions": [],
   "operand_kinds": [
-    {"category": "ValueEnum", "kind": "Capability", "enumerants": [{"enumerant": "Kernel", "value": 6}, {"enumerant": "", "value": 7}]},
+    {"category": "ValueEnum", "kind": "Capability", "enumerants": [
+      {"enumerant": "Kernel", "value": 6}, {"enumerant": "", "value": 7}]},
     {"category": "BitEnum", "kind": "MemoryAccess", "enumerants": [{"enumerant": "None", "value": "0x0000"},
       {"enumerant": "Volatile", "value": "0x0001"}, {"enumerant": "Aligned", "value": "0x0002"}]}
   ]

@@ -1,5 +1,5 @@
-//! Each growth of memory refused in turn: the call answers its own error for want of memory. With none refused it answers
-//! rightly.
+//! Each growth of memory refused in turn: the call answers its own error for want of memory.
+//! With none refused it answers rightly.
 
 use spv_grammar::{FromGrammar, Table};
 use spv_samples::{
@@ -79,7 +79,7 @@ fn trace_refused(alloc: Global, checked: &Checked<'_>) -> Result<(), Fail> {
         growths.refuse_next();
         let found = trace(alloc, checked, 10, &[0], 100);
         growths.end();
-        let told = match found {
+        let told = match &found {
             Ok(told) if told.steps.len() == 10 && told.ending == Ending::Finished => Told::Right,
             Err(TraceError::X2) => Told::NoMemory,
             _ => Told::Wrong,

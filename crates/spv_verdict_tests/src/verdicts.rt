@@ -19,7 +19,6 @@ fn parts_of_a_valid_module(rt: HostRuntime) -> Result<(), Fail> {
     assert_eq!(rt; parts.module.insts.len(), 26);
     assert_eq!(rt; parts.module.header.bound, 24);
     assert_eq!(rt; parts.ids.definition(16), Some(15));
-    assert_eq!(rt; parts.types.of(16), Some(2));
     assert_eq!(rt; parts.flow.definitions(), 2);
     let place = parts.plan.at(15).ok_or("a place")?;
     assert_eq!(rt;
