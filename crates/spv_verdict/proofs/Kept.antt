@@ -36,18 +36,29 @@ pub record LayoutLaw : Type 0 where
   pub one : (is : List PlainInst) → IsLayout (classes is) ⊎ ((a : Rule) × (k : ℕ) × IsDeadPlace is a k)
   pub not_both : (is : List PlainInst) (a : Rule) (k : ℕ) → IsLayout (classes is) → ¬ (IsDeadPlace is a k)
 
-fitting : (G : Table) (p : Program) → IsSound G p.bound p.insts → (n : ℕ) (i : PlainInst) → slice_get p.insts n ≡ Some i → Fits G i
+fitting : (G : Table) (p : Program) → IsSound G p.bound p.insts → (n : ℕ) (i : PlainInst)
+    → slice_get p.insts n ≡ Some i → Fits G i
 fitting G p s n i at = held (fits_or_not G i) (λ no. s P1 n (Broken.of_layout P1 n (layout.misfit i n at no)))
 
-pub kept : LayoutLaw → (G : Table) (p : Program) → 5 + sum_by word_count p.insts ≤ 4194304 → IsSound G p.bound p.insts → IsKept G p
+pub kept : LayoutLaw → (G : Table) (p : Program) → 5 + sum_by word_count p.insts ≤ 4194304
+    → IsSound G p.bound p.insts → IsKept G p
 kept law G p few s = record {
   few = few;
   fits = fitting G p s;
-  layout = elim (law.one p.insts) [ inl l ↦ l | inr d ↦ absurd (s d.0 d.1 (Broken.of_layout d.0 d.1 (layout.dead d.0 d.1 d.2))) ];
+  layout = elim (law.one p.insts) [
+    | inl l ↦ l
+    | inr d ↦ absurd
+        (s d.0 d.1 (Broken.of_layout d.0 d.1 (layout.dead d.0 d.1 d.2)))
+  ];
   ids = λ r n e b. s r n (Broken.of_ids r n b);
-  roles = record { each = λ n k x r u. held (plays_or_not p.insts r x) (λ no. s Y1 n (Broken.of_types Y1 n (types.of_roles Y1 n (roles.miscast n k x r u no)))) };
-  capabilities = λ r n i at. held (capability_or_not G p.insts r n i) (λ no. s r n (Broken.of_types r n (types.of_capabilities r n i at no)));
-  rules = λ r n i at. keeps G p.insts r n i at (fitting G p s n i at) (λ no. s r n (Broken.of_types r n (types.of_types r n i at no)));
+  roles = record {
+    each = λ n k x r u. held (plays_or_not p.insts r x)
+        (λ no. s Y1 n (Broken.of_types Y1 n (types.of_roles Y1 n (roles.miscast n k x r u no))));
+  };
+  capabilities = λ r n i at. held (capability_or_not G p.insts r n i)
+      (λ no. s r n (Broken.of_types r n (types.of_capabilities r n i at no)));
+  rules = λ r n i at. keeps G p.insts r n i at (fitting G p s n i at)
+      (λ no. s r n (Broken.of_types r n (types.of_types r n i at no)));
   types = (λ r n e b. s r n (Broken.of_types r n b), λ r n e b. s r n (Broken.of_types r n b));
   branches = λ r n e b. s r n (Broken.of_flow r n b);
   values = λ r n e b. s r n (Broken.of_flow r n b);
