@@ -1,9 +1,8 @@
 -- What the rules C1, C2, M1, E1 and E2 demand: decided.
-use Rattle.std.proofs.Common.{◌≡◌, ◌≢◌, ◌<◌, ◌⊎◌, ◌∙◌, ℕ, zero, suc, List, [], ◌∷◌, Option, Some, None, Bool, true, false, refl, sym, ap, subst, inl, inr, length, arith}
-use Rattle.std.specs.Prelude.{IsSomeAnd, IfSome, Contains, filter_map, slice_get, codes, nat_eq, option_and_then}
-use Rattle.std.specs.List.{AllByRecursion}
+use Rattle.std.proofs.Common.{◌≡◌, ◌⊎◌, ℕ, zero, suc, List, [], ◌∷◌, Option, Some, None, refl, sym, subst, inl, inr, length, arith}
+use Rattle.std.specs.Prelude.{Contains, filter_map, slice_get, codes, nat_eq, option_and_then}
 use Rattle.std.proofs.lemmas.Bool.{cases_eq, cases_Bool, eqb-true}
-use Rattle.std.proofs.lemmas.Option.{same_Some, slice_get_within}
+use Rattle.std.proofs.lemmas.Option.{slice_get_within}
 use Rattle.spv_grammar.specs.declared.table.Enumerant.{Enumerant}
 use Rattle.spv_grammar.specs.Table.{Table, kind_of, entry_of, enumerant_of}
 use Rattle.spv_grammar.specs.Lookups.{value_named, number_named}
@@ -15,7 +14,7 @@ use Rattle.spv_inst.specs.declared.fault.Rule.TheVariants as rule
 use Rattle.spv_layout.specs.Place.{IsDefinition}
 use Rattle.spv_ids.specs.Definition.{IsDefinedAt}
 use Rattle.spv_ids.specs.Order.{HasOpcode}
-use Rattle.spv_capabilities.specs.Capable.{declared_by, Has, IsKernel, HasNamed, IsCovered, IsCoveredEntry, IsCoveredValue, IsCoveredMask, IsOtherKind, IsCoveredOperand, needs_of, HasOneOf, HasNeeded, IsCapable}
+use Rattle.spv_capabilities.specs.Capable.{declared_by, Has, IsKernel, HasNamed, IsCovered, IsCoveredEntry, IsCoveredValue, IsCoveredMask, IsOtherKind, IsCoveredOperand, needs_of, HasOneOf, IsCapable}
 use Rattle.spv_capabilities.specs.Memory.{IsModel}
 use Rattle.spv_capabilities.specs.Entry.{IsNamed, IsCalled, IsEntered, IsImported, HasEntry, ReturnsVoid, IsKernelFunction, IsSoundEntry, IsSoundMode, IsSoundLinkage, called_by, entered_by, imported_by}
 use Rattle.spv_capabilities.specs.Keeps.{KeepsEntries, Keeps}

@@ -1,6 +1,6 @@
 -- A list on which no rule is broken keeps all that the layers demand, and the other way round.
-use Rattle.std.proofs.Common.{◌≡◌, ◌+◌, ◌≤◌, ◌⊎◌, ℕ, List, Some, Bool, true, false, refl, inl, inr}
-use Rattle.std.specs.Prelude.{IsTrue, slice_get, sum_by}
+use Rattle.std.proofs.Common.{◌≡◌, ◌+◌, ◌≤◌, ◌⊎◌, ℕ, List, Some, refl, inl, inr}
+use Rattle.std.specs.Prelude.{slice_get, sum_by}
 use Rattle.spv_grammar.specs.Table.{Table}
 use Rattle.spv_inst.specs.Operand.{PlainInst}
 use Rattle.spv_inst.specs.declared.fault.Rule.{Rule}
@@ -9,14 +9,11 @@ use Rattle.spv_layout.specs.Broken as layout
 use Rattle.spv_layout.specs.DeadPlace.{IsDeadPlace}
 use Rattle.spv_layout.specs.Layout.{IsLayout, classes}
 use Rattle.spv_layout.specs.Place.{word_count}
-use Rattle.spv_layout.specs.Row.{PlainRow}
 use Rattle.spv_layout.specs.Rows.{row_of}
 use Rattle.spv_layout.specs.Shape.{Fits}
 use Rattle.spv_layout.specs.Test.{fits_row}
 use Rattle.spv_layout.proofs.Tested.{fits_iff}
 use Rattle.spv_roles.specs.Broken as roles
-use Rattle.spv_capabilities.specs.Keeps as capability_rules
-use Rattle.spv_type_rules.specs.Keeps as typing_rules
 use Rattle.spv_types.specs.Broken as types
 use Rattle.spv_verdict.specs.Broken.{Broken, IsSound}
 use Rattle.spv_verdict.specs.Checked.{IsKept}

@@ -1,12 +1,11 @@
 -- What a type id declares, and the rows of types: decided.
-use Rattle.std.proofs.Common.{◌≡◌, ◌≢◌, ◌<◌, ◌⊎◌, ◌∙◌, ◌+◌, ℕ, suc, List, [], ◌∷◌, Option, Some, None, refl, sym, ap, subst, inl, inr, length}
-use Rattle.std.specs.Prelude.{IsSomeAnd, IsTrue}
+use Rattle.std.proofs.Common.{◌≡◌, ◌≢◌, ◌∙◌, ◌+◌, ℕ, List, [], ◌∷◌, Option, Some, None, refl, sym, ap, subst, inl, inr, length}
+use Rattle.std.specs.Prelude.{IsTrue}
 use Rattle.std.specs.List.{AllByRecursion}
-use Rattle.std.proofs.lemmas.Bool.{cases_eq, cases_lt}
+use Rattle.std.proofs.lemmas.Bool.{cases_eq}
 use Rattle.std.proofs.lemmas.Option.{same_Some}
 use Rattle.spv_inst.specs.Operand.{Plain, Value, PlainInst}
 use Rattle.spv_inst.specs.Width.{definition_of}
-use Rattle.spv_layout.specs.Place.{IsOfFunction}
 use Rattle.spv_ops.specs.declared.form.Scalar.{Scalar}
 use Rattle.spv_ops.specs.declared.form.Scalar.TheVariants as scalar
 use Rattle.spv_ops.specs.declared.form.Form.{Form}
@@ -23,7 +22,7 @@ use Rattle.spv_ops.specs.declared.row.Access.TheVariants as access
 use Rattle.spv_ops.specs.declared.row.Composite as composites
 use Rattle.spv_ops.specs.declared.row.Composite.TheVariants as composite
 use Rattle.spv_ops.specs.Form.{form_of}
-use Rattle.spv_ops.specs.Types.{components_of, IsDataForm, IsData, IsSomeInt, IsNumber, IsBool, IsVector, IsPointer, PointsTo, IsB, IsOf, HasSort, sort_of, pointee_in, class_in}
+use Rattle.spv_ops.specs.Types.{components_of, IsDataForm, IsData, IsSomeInt, IsNumber, IsVector, IsPointer, PointsTo, IsB, IsOf, HasSort, sort_of, pointee_in, class_in}
 use Rattle.spv_ops.specs.Operands.{words_in, ids_in, after_head, result_type_in}
 use Rattle.spv_ops.specs.Parts.{part_of, count_of}
 use Rattle.spv_ops.specs.Calculation.{Calculates, IsNamedClass, bits_of}
@@ -32,7 +31,7 @@ use Rattle.spv_ops.specs.Composite.{Composes, Constructs, IsComponent, AreParts,
 use Rattle.spv_ops.specs.Reach.{AreWithin, Reaches, Leads}
 use Rattle.spv_ops.specs.Walk.{walk, choices}
 use Rattle.spv_ops.specs.Chain.{LeadsByPointer, Chains, ChainsByElement}
-use Rattle.spv_ops.specs.Variable.{IsClassAt, IsConstant, IsInitializer, Declares, is_constant_opcode}
+use Rattle.spv_ops.specs.Variable.{IsClassAt, IsInitializer, Declares, is_constant_opcode}
 use Rattle.spv_ops.specs.Row.{row_of}
 use Rattle.spv_ops.specs.Values.{types_of, values_of}
 use Rattle.spv_ops.specs.Typed.{Holds, Typed, IsTypedIn}

@@ -1,7 +1,6 @@
 -- What the rules Y1 to Y8 demand: decided.
-use Rattle.std.proofs.Common.{◌≡◌, ◌≢◌, ◌<◌, ◌≤◌, ◌⊎◌, ◌∙◌, ◌^◌, ℕ, suc, List, [], ◌∷◌, Option, Some, None, Bool, true, false, refl, sym, ap, subst, inl, inr, length}
-use Rattle.std.specs.Prelude.{IsSomeAnd, IsSome, IsTrue, MatchOption, slice_get, map, take}
-use Rattle.std.specs.List.{AllByRecursion}
+use Rattle.std.proofs.Common.{◌≡◌, ◌<◌, ◌≤◌, ◌∙◌, ◌^◌, ℕ, List, [], ◌∷◌, Option, Some, None, Bool, true, false, refl, sym, ap, subst, inl, inr, length}
+use Rattle.std.specs.Prelude.{IsSomeAnd, IsSome, IsTrue, slice_get, map, take}
 use Rattle.std.proofs.lemmas.Bool.{cases_eq}
 use Rattle.std.proofs.lemmas.Option.{same_Some}
 use Rattle.spv_grammar.specs.Table.{Table}
@@ -12,28 +11,27 @@ use Rattle.spv_inst.specs.declared.fault.Rule.TheVariants as rule
 use Rattle.spv_layout.specs.declared.form.Role.{Role}
 use Rattle.spv_layout.specs.declared.form.Role.TheVariants as role
 use Rattle.spv_layout.specs.Shape.{Fits}
-use Rattle.spv_layout.specs.Place.{IsOfFunction}
 use Rattle.spv_layout.proofs.Places.{function_same}
 use Rattle.spv_ids.specs.Definition.{IsDefinedAt}
 use Rattle.spv_ops.specs.declared.form.Form.TheVariants as form
 use Rattle.spv_ops.specs.Form.{form_in, form_of}
-use Rattle.spv_ops.specs.Types.{scalar_in, class_in, IsSomeInt, IsInt, IsFloat, IsData}
+use Rattle.spv_ops.specs.Types.{scalar_in, class_in, IsSomeInt, IsData}
 use Rattle.spv_ops.specs.Parts.{length_of}
 use Rattle.spv_ops.specs.Operands.{ids_in, after_head}
 use Rattle.spv_ops.specs.Composite.{AreParts}
 use Rattle.spv_ops.specs.Values.{types_of}
-use Rattle.spv_ops.specs.Typed.{IsTyped, IsTypedAt, IsTypedIn}
+use Rattle.spv_ops.specs.Typed.{IsTyped}
 use Rattle.spv_ops.proofs.Judged.{told}
 use Rattle.spv_roles.specs.Role.{IsTypeDeclaration, IsValue, HasOpcode, Plays}
 use Rattle.spv_type_rules.specs.declared.declaration.Declaration.{Declaration}
 use Rattle.spv_type_rules.specs.declared.declaration.Declaration.TheVariants.{Int, Float, Vector, Array, Struct, Pointer, Function, Forward}
 use Rattle.spv_type_rules.specs.declared.constant.Constant.{Constant}
 use Rattle.spv_type_rules.specs.declared.constant.Constant.TheVariants as constant
-use Rattle.spv_type_rules.specs.Declaration.{declaration_of, IsIntWidth, IsFloatWidth, IsVectorCount, IsLength, IsPointee, IsReturned, IsPointerAfter, Declares, IsSoundDeclaration}
+use Rattle.spv_type_rules.specs.Declaration.{declaration_of, IsIntWidth, IsFloatWidth, IsVectorCount, IsLength, IsPointerAfter, Declares, IsSoundDeclaration}
 use Rattle.spv_type_rules.specs.Constant.{constant_of, is_part_opcode, IsPart, FitsWidth, AreConstantParts, Constitutes, IsSoundConstant}
-use Rattle.spv_type_rules.specs.Function.{signature_of, parameters_after, ReturnsAfter, IsSoundFunction, parameters_between, parameter_type_of, OfFunction, IsSoundParameter, ReturnsNothing, ReturnsTyped, IsSoundReturn, IsSoundReturnValue, CallsTyped, CallsSoundly, IsSoundCall}
+use Rattle.spv_type_rules.specs.Function.{signature_of, parameters_after, ReturnsAfter, parameters_between, parameter_type_of, OfFunction, ReturnsNothing, ReturnsTyped, CallsTyped, CallsSoundly}
 use Rattle.spv_type_rules.specs.Keeps.{KeepsFunctions, KeepsReturns, CallsAreSound, Keeps}
-use Rattle.spv_verdict.proofs.Decided.{Decided, held, anew, both, three, either, opposite, given, some_and, matched, pinned, number_same, all_or_not, is_true}
+use Rattle.spv_verdict.proofs.Decided.{Decided, held, anew, both, either, opposite, given, some_and, matched, pinned, number_same, all_or_not, is_true}
 use Rattle.spv_verdict.proofs.Standing.{least_or_not, less_or_not, defined_with, function_or_none, global_or_not}
 use Rattle.spv_verdict.proofs.Rows.{int_or_not, float_or_not, bool_or_not, void_or_not, opaque_or_not, data_or_not, some_int, parts_or_not, typed_or_not}
 

@@ -1,6 +1,6 @@
 -- Where instructions stand, and how ids are defined: decided.
-use Rattle.std.proofs.Common.{◌≡◌, ◌<◌, ◌≤◌, ◌⊎◌, ◌∙◌, ℕ, zero, suc, List, [], ◌∷◌, Option, Some, None, refl, sym, ap, subst, inl, inr, length, arith}
-use Rattle.std.specs.Prelude.{IsSomeAnd, IsTrue, slice_get}
+use Rattle.std.proofs.Common.{◌≡◌, ◌<◌, ◌≤◌, ◌∙◌, ℕ, zero, suc, List, [], ◌∷◌, Option, Some, None, refl, sym, ap, subst, inl, inr, length, arith}
+use Rattle.std.specs.Prelude.{IsTrue, slice_get}
 use Rattle.std.proofs.lemmas.Bool.{cases_eq, cases_lt}
 use Rattle.std.proofs.lemmas.Option.{same_Some, slice_get_within}
 use Rattle.spv_inst.specs.Operand.{PlainInst, result_in}
@@ -154,7 +154,8 @@ pub global_or_not : (is : List PlainInst) (x : ℕ) → Decided (IsGlobal is x)
 global_or_not is x = anew
     (λ h. record { place = h.0; defined = h.1.0; variable = opcode_of is x h.0 59 h.1.0 h.1.1.0; section = h.1.1.1 })
     (λ g. (
-    let opcode : HasOpcode is g.place 59 = record { inst = g.defined.inst; there = g.defined.there; same = g.variable } in
-    (g.place, (g.defined, (opcode, g.section)))))
+    let d = g.defined in
+    let opcode : HasOpcode is g.place 59 = record { inst = d.inst; there = d.there; same = g.variable } in
+    (g.place, (d, (opcode, g.section)))))
     (defined_with is x (λ (n : ℕ). HasOpcode is n 59 × IsOfSection is n 11)
     (λ n. both (opcode_or_not is n 59) (global_section_or_not is n)))
