@@ -5,9 +5,8 @@ use Rattle.std.proofs.lemmas.Bool.{cases_eq}
 use Rattle.std.proofs.lemmas.Option.{same_Some}
 use Rattle.spv_grammar.specs.Table.{Table}
 use Rattle.spv_inst.specs.Operand.{PlainInst, result_in}
-use Rattle.spv_inst.specs.declared.fault.Rule.{Rule}
 use Rattle.spv_inst.specs.declared.fault.Rule.TheVariants.{A1, A2}
-use Rattle.spv_layout.specs.First.{IsUnbroken, stage_of}
+use Rattle.spv_layout.specs.First.{IsUnbroken}
 use Rattle.spv_ids.specs.Definition.{IsDefinedAt}
 use Rattle.spv_branches.specs.Walk.{IsResultAmong}
 use Rattle.spv_branches.specs.Ready.{IsMissing, IsPairMissing, IsReady}
