@@ -1,8 +1,8 @@
 -- What holds or does not, and what does because it cannot be that it does not.
-use Rattle.std.proofs.Common.{◌≡◌, ◌<◌, ◌≤◌, ◌⊎◌, ◌∙◌, ℕ, zero, suc, List, [], ◌∷◌, Option, Some, None, Bool, true, false, refl, sym, ap, subst, inl, inr, arith}
+use Rattle.std.proofs.Common.{◌≡◌, ◌<◌, ◌⊎◌, ℕ, zero, suc, List, [], ◌∷◌, Option, Some, None, Bool, true, false, refl, sym, ap, subst, inl, inr, arith}
 use Rattle.std.specs.Prelude.{IsSomeAnd, MatchOption, IsTrue}
 use Rattle.std.specs.List.{AllByRecursion}
-use Rattle.std.proofs.lemmas.Bool.{cases_eq, cases_lt, cases_Bool}
+use Rattle.std.proofs.lemmas.Bool.{cases_eq, cases_lt}
 use Rattle.std.proofs.lemmas.Option.{same_Some}
 
 abbrev pub Decided : Type 0 → Type 0
@@ -52,7 +52,8 @@ module _ {A : Type 0} where
   some_and None P d = inr (λ h. absurd h)
   some_and (Some x) P d = d x
 
-  pub matched : (o : Option A) (N : Type 0) (P : A → Type 0) → Decided N → ((x : A) → Decided (P x)) → Decided (MatchOption o N P)
+  pub matched : (o : Option A) (N : Type 0) (P : A → Type 0) → Decided N → ((x : A) → Decided (P x))
+      → Decided (MatchOption o N P)
   matched None N P n d = n
   matched (Some x) N P n d = d x
 
@@ -74,7 +75,8 @@ module _ {A : Type 0} where
   list_same d [] [] = inl refl
   list_same d [] (y ∷ ys) = inr (λ e. cc)
   list_same d (x ∷ xs) [] = inr (λ e. cc)
-  list_same d (x ∷ xs) (y ∷ ys) = anew (λ h. let a = h.0 in let b = h.1 in cc) (λ e. (cc, cc)) (both (d x y) (list_same d xs ys))
+  list_same d (x ∷ xs) (y ∷ ys) = anew (λ h. let a = h.0 in let b = h.1 in cc) (λ e. (cc, cc))
+      (both (d x y) (list_same d xs ys))
 
 pub number_same : (o p : Option ℕ) → Decided (o ≡ p)
 number_same = option_same cases_eq
@@ -103,7 +105,11 @@ module _ (P : ℕ → Type 0) (d : (n : ℕ) → Decided (P n)) where
   pub all_below : (m : ℕ) → Decided ((n : ℕ) → n < m → P n)
   all_below zero = inl (λ n l. absurd (omega (arith, l)))
   all_below (suc m) = elim (d m) [
-    | inl p ↦ anew (λ f n l. elim (cases_lt n m) [ inl k ↦ f n k | inr g ↦ (let e : m ≡ n = omega (arith, l, g) in subst P e p) ])
+    | inl p ↦ anew (λ f n l. elim (cases_lt n m) [
+      | inl k ↦ f n k
+      | inr g ↦
+          (let e : m ≡ n = omega (arith, l, g) in subst P e p)
+    ])
         (λ f n l. f n (omega (arith, l))) (all_below m)
     | inr none ↦ inr (λ f. none (f m (omega arith)))
   ]

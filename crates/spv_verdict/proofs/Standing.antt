@@ -1,6 +1,6 @@
 -- Where instructions stand, and how ids are defined: decided.
-use Rattle.std.proofs.Common.{◌≡◌, ◌<◌, ◌≤◌, ◌⊎◌, ◌∙◌, ℕ, zero, suc, List, [], ◌∷◌, Option, Some, None, refl, sym, ap, subst, inl, inr, length, arith}
-use Rattle.std.specs.Prelude.{IsSomeAnd, IsTrue, slice_get}
+use Rattle.std.proofs.Common.{◌≡◌, ◌<◌, ◌≤◌, ◌∙◌, ℕ, zero, suc, List, [], ◌∷◌, Option, Some, None, refl, sym, ap, subst, inl, inr, length, arith}
+use Rattle.std.specs.Prelude.{IsTrue, slice_get}
 use Rattle.std.proofs.lemmas.Bool.{cases_eq, cases_lt}
 use Rattle.std.proofs.lemmas.Option.{same_Some, slice_get_within}
 use Rattle.spv_module.specs.Operand.{PlainInst, result_in}
@@ -50,14 +50,16 @@ last_or_none is c n = elim (cases_lt n (length is)) [
   | inr out ↦ inr (λ h. let w = h.1.within in omega (arith, out, w))
 ]
 
-within_or_not : (is : List PlainInst) (c : Class) (others : List Class) (n : ℕ) → Decided ((f : ℕ) × IsWithin is c others n f)
+within_or_not : (is : List PlainInst) (c : Class) (others : List Class) (n : ℕ)
+    → Decided ((f : ℕ) × IsWithin is c others n f)
 within_or_not is c others n = elim (last_or_none is c n) [
   | inr none ↦ inr (λ h. none (h.0, h.1.begun))
   | inl l ↦ anew (λ q. (l.0, record { begun = l.1; not_ended = λ k a b. q k b a }))
       (λ h k b a. (
       let e : h.0 ≡ l.0 = last_same is c n h.0 l.0 h.1.begun l.1 in
       h.1.not_ended k (omega (arith, a, e)) b))
-      (all_below (λ (k : ℕ). l.0 ≤ k → ¬ (IsAt is k others)) (λ k. given (least_or_not l.0 k) (opposite (at_or_not is k others))) n)
+      (all_below (λ (k : ℕ). l.0 ≤ k
+      → ¬ (IsAt is k others)) (λ k. given (least_or_not l.0 k) (opposite (at_or_not is k others))) n)
 ]
 
 pub function_or_none : (is : List PlainInst) (n : ℕ) → Decided ((f : ℕ) × IsOfFunction is n f)
@@ -66,12 +68,14 @@ function_or_none is n = within_or_not is Function (FunctionEnd ∷ []) n
 pub of_function_or_not : (is : List PlainInst) (n f : ℕ) → Decided (IsOfFunction is n f)
 of_function_or_not is n f = elim (function_or_none is n) [
   | inr none ↦ inr (λ h. none (f, h))
-  | inl g ↦ anew (λ e. subst (λ (k : ℕ). IsOfFunction is n k) e g.1) (λ h. function_same is n g.0 f g.1 h) (cases_eq g.0 f)
+  | inl g ↦ anew (λ e. subst (λ (k : ℕ). IsOfFunction is n k) e g.1) (λ h. function_same is n g.0 f g.1 h)
+      (cases_eq g.0 f)
 ]
 
 pub definition_or_not : (is : List PlainInst) (f : ℕ) → Decided (IsDefinition is f)
 definition_or_not is f = anew (λ h. record { label = h.0; there = h.1.0; of = h.1.1 }) (λ d. (d.label, (d.there, d.of)))
-    (somewhere (λ (k : ℕ). IsAt is k (Label ∷ []) × IsOfFunction is k f) (λ k. both (at_or_not is k (Label ∷ [])) (of_function_or_not is k f)) (length is) (λ k p. p.1.begun.within))
+    (somewhere (λ (k : ℕ). IsAt is k (Label ∷ []) × IsOfFunction is k f)
+    (λ k. both (at_or_not is k (Label ∷ [])) (of_function_or_not is k f)) (length is) (λ k p. p.1.begun.within))
 
 -- section 9, which is the 11th
 
@@ -100,7 +104,8 @@ global_at is n _ (IsOfSection.global c at e none) q = record { class = c; there 
 global_at is n _ (IsOfSection.declaration c f at e l d) q = absurd (omega (arith, q))
 global_at is n _ (IsOfSection.definition c f at e l d) q = absurd (omega (arith, q))
 
-by_section : (is : List PlainInst) (n : ℕ) (c : Class) (o : Option ℕ) → slice_get (classes is) n ≡ Some c → section_of c ≡ o → Decided (IsOfSection is n 11)
+by_section : (is : List PlainInst) (n : ℕ) (c : Class) (o : Option ℕ) → slice_get (classes is) n ≡ Some c
+    → section_of c ≡ o → Decided (IsOfSection is n 11)
 by_section is n c (Some s) at e = inr (λ h.
     let g = global_at is n 11 h refl in
     let same : c ≡ g.class = same_Some c g.class (sym at ∙ g.there) in
@@ -112,8 +117,12 @@ by_section is n c None at e = elim (last_or_none is Function n) [
   | inr none ↦ inl (IsOfSection.global c at e (λ f l. none (f, l)))
 ]
 
-by_class : (is : List PlainInst) (n : ℕ) (o : Option Class) → slice_get (classes is) n ≡ o → Decided (IsOfSection is n 11)
-by_class is n None at = inr (λ h. let g = global_at is n 11 h refl in let no : None ≡ Some g.class = sym at ∙ g.there in cc)
+by_class : (is : List PlainInst) (n : ℕ) (o : Option Class) → slice_get (classes is) n ≡ o
+    → Decided (IsOfSection is n 11)
+by_class is n None at = inr (λ h.
+    let g = global_at is n 11 h refl in
+    let apart : None ≡ Some g.class = sym at ∙ g.there in
+    cc)
 by_class is n (Some c) at = by_section is n c (section_of c) at refl
 
 pub global_section_or_not : (is : List PlainInst) (n : ℕ) → Decided (IsOfSection is n 11)
@@ -133,8 +142,10 @@ pub place_within : (is : List PlainInst) (x n : ℕ) → IsDefinedAt is x n → 
 place_within is x n d = slice_get_within is n d.inst d.there
 
 -- an id is defined somewhere with what holds there
-pub defined_with : (is : List PlainInst) (x : ℕ) (P : ℕ → Type 0) → ((n : ℕ) → Decided (P n)) → Decided ((n : ℕ) × (IsDefinedAt is x n × P n))
-defined_with is x P d = somewhere (λ (n : ℕ). IsDefinedAt is x n × P n) (λ n. both (defined_or_not is x n) (d n)) (length is) (λ n p. place_within is x n p.0)
+pub defined_with : (is : List PlainInst) (x : ℕ) (P : ℕ → Type 0) → ((n : ℕ) → Decided (P n))
+    → Decided ((n : ℕ) × (IsDefinedAt is x n × P n))
+defined_with is x P d = somewhere (λ (n : ℕ). IsDefinedAt is x n × P n) (λ n. both (defined_or_not is x n) (d n))
+    (length is) (λ n p. place_within is x n p.0)
 
 opcode_of : (is : List PlainInst) (x n k : ℕ) (d : IsDefinedAt is x n) → HasOpcode is n k → d.inst.opcode ≡ k
 opcode_of is x n k d h = ap (λ (i : PlainInst). i.opcode) (same_Some d.inst h.inst (sym d.there ∙ h.there)) ∙ h.same
@@ -142,5 +153,9 @@ opcode_of is x n k d h = ap (λ (i : PlainInst). i.opcode) (same_Some d.inst h.i
 pub global_or_not : (is : List PlainInst) (x : ℕ) → Decided (IsGlobal is x)
 global_or_not is x = anew
     (λ h. record { place = h.0; defined = h.1.0; variable = opcode_of is x h.0 59 h.1.0 h.1.1.0; section = h.1.1.1 })
-    (λ g. (g.place, (g.defined, (record { inst = g.defined.inst; there = g.defined.there; same = g.variable }, g.section))))
-    (defined_with is x (λ (n : ℕ). HasOpcode is n 59 × IsOfSection is n 11) (λ n. both (opcode_or_not is n 59) (global_section_or_not is n)))
+    (λ g. (
+    let d = g.defined in
+    let opcode : HasOpcode is g.place 59 = record { inst = d.inst; there = d.there; same = g.variable } in
+    (g.place, (d, (opcode, g.section)))))
+    (defined_with is x (λ (n : ℕ). HasOpcode is n 59 × IsOfSection is n 11)
+    (λ n. both (opcode_or_not is n 59) (global_section_or_not is n)))
