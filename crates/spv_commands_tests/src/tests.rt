@@ -233,7 +233,7 @@ struct Outcome {
 const PIECE: usize = 7;
 
 /// Runs a task, with a reader and writers whose calls fail as told.
-fn outcome(alloc: Global, task: &Task, reads: Calls, writes: Calls) -> Outcome {
+fn run_task(alloc: Global, task: &Task, reads: Calls, writes: Calls) -> Outcome {
     let mut file = FromRead::new(Pieces {
         rest: task.input,
         piece: PIECE,
@@ -268,14 +268,14 @@ fn reads_that_fail(rt: HostRuntime) -> Result<(), Fail> {
     let a = rt.alloc();
     let bytes = kernel(a)?;
     for (number, task) in tasks(a, &bytes).iter().enumerate() {
-        let whole = outcome(a, task, Calls::ALL, Calls::ALL);
+        let whole = run_task(a, task, Calls::ALL, Calls::ALL);
         assert_eq!(rt; whole.status, 0, "task {number}");
         assert_eq!(rt; whole.written.as_slice(), task.written, "task {number}");
         // The last read tells the end of input.
         for good in 0..=task.input.len().div_ceil(PIECE) {
             for kind in [ErrorKind::Other, ErrorKind::Interrupted] {
                 let error = Some(kind);
-                let failed = outcome(a, task, Calls { good, error }, Calls::ALL);
+                let failed = run_task(a, task, Calls { good, error }, Calls::ALL);
                 assert_eq!(rt; failed.status, 2, "task {number} after {good} reads");
                 assert!(rt; failed.written.is_empty());
                 assert_eq!(rt; failed.err.as_slice(), b"error file\n".as_slice());
@@ -292,13 +292,13 @@ fn writes_that_fail(rt: HostRuntime) -> Result<(), Fail> {
     for (number, task) in tasks(a, &bytes).iter().enumerate() {
         for error in [None, Some(ErrorKind::Other), Some(ErrorKind::Interrupted)] {
             let mut good = 0;
-            let mut begun = outcome(a, task, Calls::ALL, Calls { good, error });
+            let mut begun = run_task(a, task, Calls::ALL, Calls { good, error });
             while begun.failures > 0 && good < task.written.len() {
                 assert_eq!(rt; begun.status, 2, "task {number} after {good} writes");
                 assert!(rt; task.written.starts_with(begun.written.as_slice()));
                 assert_eq!(rt; begun.err.as_slice(), b"error file\n".as_slice());
                 good += 1;
-                begun = outcome(a, task, Calls::ALL, Calls { good, error });
+                begun = run_task(a, task, Calls::ALL, Calls { good, error });
             }
             assert_eq!(rt; begun.status, 0, "task {number} after {good} writes");
             assert_eq!(rt; begun.written.as_slice(), task.written);
@@ -327,7 +327,7 @@ fn verdict(
 }
 
 #[test]
-fn pieces(rt: HostRuntime) -> Result<(), Fail> {
+fn reads_in_pieces(rt: HostRuntime) -> Result<(), Fail> {
     let a = rt.alloc();
     let table = Table::from_slice(a, GRAMMAR)?;
     let bytes = kernel(a)?;
