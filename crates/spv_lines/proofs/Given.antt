@@ -1,11 +1,11 @@
 -- A table of whose kinds none has a result among its parameters or bases is tidy.
 use Rattle.std.proofs.Common.{◌≡◌, ◌∙◌, ◌++◌, ℕ, zero, suc, nat_eq, Bool, true, false, not, ◌&&◌, ◌||◌, List, [], ◌∷◌, Option, Some, None, option_map, option_and_then, slice_get, map, bytes_eq, codes, if◌then◌else◌, refl, sym, ap, true≢false}
+use Rattle.std.specs.Prelude.{unwrap_or}
 use Rattle.std.specs.List.{list_all, AllByRecursion}
 use Rattle.spv_table.specs.declared.table.Category.{Category}
 use Rattle.spv_table.specs.declared.table.Category.TheVariants as category
 use Rattle.spv_table.specs.declared.table.Enumerant.{Enumerant}
 use Rattle.spv_table.specs.Table.{Table, Sort, kind_of, first_with}
-use Rattle.spv_grammar.proofs.Whole.{and_left, and_right, some_same, not_some}
 use Rattle.spv_module.specs.Operand.{Plain, Context}
 use Rattle.spv_module.specs.Shape.{Slot, alone, Shape, AsType, AsResult, AsId, AsWord, AsNumber, AsText, AsValue, AsMask, AsParts, AsNothing, bases, integer_shape, shape_of, kind_shape, category_shape}
 use Rattle.spv_module.specs.Width.{switch_width, context_width}
@@ -14,6 +14,22 @@ use Rattle.spv_lines.specs.Fault.{is_result_shape}
 use Rattle.spv_table.specs.Table.{is_id, is_other_sort, is_other, has_other_parts}
 use Rattle.spv_lines.specs.Tidy.{IsTidy, AreNoResults}
 use Rattle.spv_lines.proofs.Results.{literal_no}
+
+-- ---- conjunctions and options
+
+and_left : (a b : Bool) → (a && b) ≡ true → a ≡ true
+and_left true b h = refl
+and_left false b h = h
+
+and_right : (a b : Bool) → (a && b) ≡ true → b ≡ true
+and_right true b h = h
+and_right false b h = absurd (true≢false (sym h))
+
+some_same : {A : Type 0} {a b : A} → Some a ≡ Some b → a ≡ b
+some_same {a = a} h = ap (λ o. unwrap_or o a) h
+
+not_some : {A : Type 0} (a : A) {P : Type 0} → None ≡ Some a → P
+not_some a h = cc
 
 -- a test that passes where there is nothing to be tested
 abbrev if_any : {A : Type 0} → (A → Bool) → Option A → Bool

@@ -24,7 +24,7 @@ ghost use Rattle.spv_run.specs.declared.parts.Trace.{Trace};
 ghost use Rattle.spv_calls.specs.Example.{functions, looped};
 
 /// A module on which no rule is broken never gets stuck: from each entry point's function, for all choices and numbers of steps,
-/// the run ends otherwise, bound ids have their declared types, and the frames are fewer than the definitions.
+/// the run ends otherwise, bound ids have their declared types, and there are no more frames than function definitions.
 pub fn run_never_gets_stuck()
     ensures { (G : Table) (bound : ℕ) (is : List PlainInst) → IsSound G bound is → (g : ℕ) → IsEntryFunction is g → (choices : List ℕ) → NeverGetsStuck G is g choices }
 {}

@@ -1,7 +1,10 @@
-//! The calls of spv_text on modules that people wrote, with ample memory.
+//! The calls of spv_tokens and spv_text, with ample memory and with growths refused. What each line is read as and shown as is
+//! shown by the program.
 #![tactic(auto)]
 
 #[cfg(test)]
-mod assembling;
+mod refused;
 #[cfg(test)]
-mod tests;
+mod texts;
+#[cfg(test)]
+mod tokens;

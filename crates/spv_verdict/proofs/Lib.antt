@@ -6,3 +6,9 @@ pub mod Runs
 pub mod Stages
 pub mod Verdicts
 pub mod Worked
+pub mod Decided
+pub mod Standing
+pub mod Rows
+pub mod Capable
+pub mod RulesDecided
+pub mod Kept

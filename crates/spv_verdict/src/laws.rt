@@ -1,5 +1,5 @@
 //! What follows from the definitions of a verdict. Each function does nothing: its contract is what is proved.
-ghost use Rattle.std.specs.Prelude.{◌≡◌, ◌↔◌, ◌++◌, ◌∷◌, [], ℕ, List, Option, true, false, codes};
+ghost use Rattle.std.specs.Prelude.{◌≡◌, ◌↔◌, ◌≤◌, ◌+◌, ◌++◌, ◌∷◌, [], ℕ, List, Option, true, false, codes, sum_by};
 ghost use Rattle.spv_table.specs.Table.{Table};
 ghost use Rattle.spv_module.specs.Operand.{PlainInst};
 ghost use Rattle.spv_module.specs.Module.{plain_insts};
@@ -7,6 +7,7 @@ ghost use Rattle.spv_module.specs.declared.fault.Fault.{Fault};
 ghost use Rattle.spv_module.specs.declared.fault.Rule.{Rule};
 ghost use Rattle.spv_module.specs.declared.fault.Rule.TheVariants.{A1, G1, I7, L2, Y7};
 ghost use Rattle.spv_module.specs.declared.module.Module.{Module};
+ghost use Rattle.spv_layout.specs.Place.{word_count};
 ghost use Rattle.spv_layout.specs.declared.place.Place.{Place};
 ghost use Rattle.spv_ids.specs.declared.ids.Ids.{Ids};
 ghost use Rattle.spv_ids.specs.Outcome.{IsDefinitionOf, definition_in};
@@ -30,6 +31,7 @@ ghost use Rattle.spv_verdict.specs.Valid.{IsValid};
 ghost use Rattle.spv_verdict.specs.Verdict.{IsVerdict, fault_line, line_end, valid_line};
 
 use spv_inst::{listed_or_dead, one_death, one_listing};
+use spv_layout::laws::member_or_dead;
 use spv_run::laws::{promise_examples, run_never_gets_stuck};
 
 /// Bytes have one verdict line.
@@ -65,8 +67,17 @@ pub fn one_first()
     ensures { (G : Table) (bound : ℕ) (is : List PlainInst) (q r : Rule) (m n : ℕ) → IsFirst G bound is q m → IsFirst G bound is r n → (q ≡ r) × (m ≡ n) }
 {}
 
+/// No rule is broken on a program of few enough words exactly where it keeps all that the layers demand, which is said
+/// without a `not`.
+pub fn kept_exactly()
+    ensures { (G : Table) (p : Program) → 5 + sum_by word_count p.insts ≤ 4194304
+        → IsSound G p.bound p.insts ↔ IsKept G p }
+{
+    member_or_dead();
+}
+
 /// A checked module never gets stuck: from each entry point's function, for all choices and numbers of steps, the run ends
-/// otherwise, bound ids have their declared types, and the frames are fewer than the function definitions.
+/// otherwise, bound ids have their declared types, and there are no more frames than function definitions.
 pub fn never_stuck()
     ensures { (G : Table) (p : Program) → IsKept G p → (g : ℕ) → IsEntryFunction p.insts g → (choices : List ℕ) → NeverGetsStuck G p.insts g choices }
 {

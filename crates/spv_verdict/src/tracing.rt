@@ -1,7 +1,9 @@
 //! The run of a checked module from an entry point.
-ghost use Rattle.std.specs.Prelude.{IfOk, IfErr};
+ghost use Rattle.std.specs.Prelude.{ℕ, List, IfOk, IfErr};
 ghost use Rattle.spv_table.specs.Table.{Table};
+ghost use Rattle.spv_calls.specs.Calls.{IsEntryFunction};
 ghost use Rattle.spv_run.specs.Entry.{IsRefused};
+ghost use Rattle.spv_run.specs.Promise.{NeverGetsStuck};
 ghost use Rattle.spv_verdict.specs.Checked.{IsKept};
 ghost use Rattle.spv_verdict.specs.Run.{IsRunOf, IsTraceOf};
 
@@ -30,6 +32,11 @@ pub fn trace(
     ensures trace { IfOk result (λ t. IsTraceOf checked.now function choices.now limit t) }
     ensures each { (G : Table) → IsKept G checked.now → IfOk result (λ t. IsRunOf G checked.now function choices.now limit t) }
     ensures refused { IfErr result (λ e. IsRefused checked.now.insts function e) }
+    // Whatever is answered, the module is valid under some table. Under each by which it is, from each entry point's
+    // function, for all choices and numbers of steps, the run does not get stuck, and bound ids have their declared types.
+    ensures kept { (G : Table) × IsKept G checked.now }
+    ensures free { (G : Table) → IsKept G checked.now → (g : ℕ) → IsEntryFunction checked.now.insts g → (xs : List ℕ)
+        → NeverGetsStuck G checked.now.insts g xs }
 {
     let parts = checked.parts();
     let code = Code {

@@ -1,5 +1,8 @@
-//! The calls of spv_verdict on small modules, with ample memory.
+//! The calls of spv_verdict, with ample memory and with growths refused. Which verdict and which trace a module has is shown
+//! by the program.
 #![tactic(auto)]
 
 #[cfg(test)]
-mod tests;
+mod refused;
+#[cfg(test)]
+mod verdicts;

@@ -16,3 +16,4 @@ pub mod Parents
 pub mod Deciding
 pub mod Telling
 pub mod Firsts
+pub mod Ready

@@ -1,8 +1,9 @@
 //! Laws of the definitions, and worked examples. Each function does nothing: its contract is what is proved.
 
-ghost use Rattle.std.specs.Prelude.{◌≡◌, ◌≤◌, ◌<◌, ◌+◌, ℕ, List, [], ◌∷◌, length, slice_index, Contains};
+ghost use Rattle.std.specs.Prelude.{◌≡◌, ◌↔◌, ◌≤◌, ◌<◌, ◌+◌, ℕ, List, [], ◌∷◌, length, slice_index, Contains};
 ghost use Rattle.spv_table.specs.Table.{Table};
 ghost use Rattle.spv_module.specs.Operand.{PlainInst};
+ghost use Rattle.spv_layout.specs.First.{IsUnbroken};
 ghost use Rattle.spv_ids.specs.Definition.{IsDefinedAt};
 ghost use Rattle.spv_availability.specs.declared.graph.Graph.{Graph};
 ghost use Rattle.spv_availability.specs.Graph.{targets_of};
@@ -10,7 +11,8 @@ ghost use Rattle.spv_availability.specs.Path.{IsAvailable, IsMissed};
 ghost use Rattle.spv_branches.specs.Target.{IsOp};
 ghost use Rattle.spv_branches.specs.Target as target;
 ghost use Rattle.spv_branches.specs.Walk.{IsWalk, IsResultAmong};
-ghost use Rattle.spv_branches.specs.Ready.{ComesFrom};
+ghost use Rattle.spv_branches.specs.Ready.{ComesFrom, IsReady};
+ghost use Rattle.spv_branches.specs.Broken.{Broken};
 ghost use Rattle.spv_branches.specs.Example.{two_blocks};
 ghost use Rattle.spv_walks.specs.Divided.{IsIn, IsBegin, IsGraphOf};
 
@@ -30,6 +32,11 @@ pub fn pairs_ask_parents()
     ensures missing { (G : Table) (is : List PlainInst) (f : ℕ) (starts : List ℕ) (graph : Graph) (b h n x d : ℕ) → IsGraphOf G is f starts graph → IsIn starts b n → IsOp is n target.is_phi
         → h + 1 < length starts → IsOp is (slice_index starts h) target.is_label → Contains (targets_of graph h) b → ((k : ℕ) → IsDefinedAt is x k → k ≡ d) → ¬ (IsIn starts h d) → IsMissed graph d h
         → (before : List ℕ) × ComesFrom G is n (slice_index starts h) before × ¬ (IsResultAmong is before x) }
+{}
+
+/// Neither A1 nor A2 is broken, at any instruction, exactly where every instruction is ready.
+pub fn all_ready()
+    ensures { (G : Table) (is : List PlainInst) → IsUnbroken (Broken G is) 7 ↔ ((n : ℕ) → IsReady G is n) }
 {}
 
 /// A function of two blocks: OpFunction, the first block's OpLabel and its branch, the second's OpLabel and OpReturn.

@@ -4,7 +4,9 @@ use Rattle.spv_module.specs.Operand.{PlainInst}
 use Rattle.spv_module.specs.Module.{plain_inst}
 use Rattle.spv_calls.proofs.Insts.{short_list}
 use Rattle.spv_run.specs.Entry.{IsTraced}
-use Rattle.spv_verdict.proofs.Runs.{each_run, numbered, some_run}
+use Rattle.spv_run.proofs.Sound.{checked}
+use Rattle.spv_run.proofs.Theorem.{never_gets_stuck}
+use Rattle.spv_verdict.proofs.Runs.{each_run, numbered, some_run, sound_run}
 use Rattle.spv_verdict.proofs.tracing.trace.Goals as goal
 
 pub trace_function-requires : goal.trace_function-requires
@@ -37,3 +39,11 @@ returns-clause-each c = λ G kept.
     let same : map plain_inst c.as_slice.result.now ≡ p.insts = ap (map plain_inst) c.as_slice.ensures.value ∙ a.insts in
     let told = subst (λ (is : List PlainInst). IfOk c.trace_function.result (λ t. IsTraced is ids c.args.function c.args.choices.now c.args.limit t)) same c.trace_function.ensures.trace in
     each_run G p ids c.args.function c.args.choices.now c.args.limit c.trace_function.result kept (numbered G p.bound p.insts ids a.numbered) told
+
+pub returns-clause-kept : goal.returns-clause-kept
+returns-clause-kept c = (c.parts-parts.ensures.some.0, c.parts-parts.ensures.some.1.kept)
+
+pub returns-clause-free : goal.returns-clause-free
+returns-clause-free c = λ G kept g entry xs.
+    let p = c.args.checked.now in
+    never_gets_stuck G p.insts (checked G p.bound p.insts (sound_run G p kept)) g entry xs

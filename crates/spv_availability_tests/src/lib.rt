@@ -1,5 +1,0 @@
-//! The calls of spv_availability.
-#![tactic(auto)]
-
-#[cfg(test)]
-mod tests;

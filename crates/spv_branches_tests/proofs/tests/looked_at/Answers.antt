@@ -1,7 +1,0 @@
-use Rattle.spv_branches_tests.proofs.tests.looked_at.Goals as goal
-
-pub number-requires-clause-plan : goal.number-requires-clause-plan
-number-requires-clause-plan c = (c.args.table.now, c.in_ok-plan.ensures.plan)
-
-pub check_branches-requires-clause-known : goal.check_branches-requires-clause-known
-check_branches-requires-clause-known c = (c.args.table.now, c.in_ok-plan.ensures.plan, c.in_ok-ids.ensures.ids c.args.table.now c.in_ok-plan.ensures.plan)

@@ -1,5 +1,0 @@
-use Rattle.spv_calls.specs.Graph.{AreWithin}
-use Rattle.spv_calls_tests.proofs.graphs.ring.Given as goal
-
-abbrev pub invariant-loop-caller : goal.invariant-loop-caller
-invariant-loop-caller l = AreWithin l.count l.calls.items

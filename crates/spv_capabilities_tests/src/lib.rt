@@ -1,5 +1,0 @@
-//! Tests of `spv_capabilities`.
-#![tactic(auto)]
-
-#[cfg(test)]
-mod tests;

@@ -1,0 +1,5 @@
+use Rattle.spv_calls.specs.Graph.{AreWithin}
+use Rattle.spv_layer_tests.proofs.calls.some_calls.Given as goal
+
+abbrev pub invariant-loop-inst : goal.invariant-loop-inst
+invariant-loop-inst l = AreWithin l.count l.calls.items

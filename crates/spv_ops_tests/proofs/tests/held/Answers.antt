@@ -1,7 +1,0 @@
-use Rattle.spv_ops_tests.proofs.tests.held.Goals as goal
-
-pub number-requires-clause-plan : goal.number-requires-clause-plan
-number-requires-clause-plan c = (c.args.table.now, c.in_ok-plan.ensures.plan)
-
-pub op_holds-requires-clause-ids : goal.op_holds-requires-clause-ids
-op_holds-requires-clause-ids c = (c.in_ok-ids.ensures.ids c.args.table.now c.in_ok-plan.ensures.plan).each

@@ -1,5 +1,0 @@
-//! Traces of modules that people wrote, with ample memory.
-#![tactic(auto)]
-
-#[cfg(test)]
-mod tests;

@@ -1,5 +1,0 @@
-//! The calls of spv_trees.
-#![tactic(auto)]
-
-#[cfg(test)]
-mod tests;

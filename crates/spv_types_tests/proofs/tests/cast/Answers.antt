@@ -1,7 +1,0 @@
-use Rattle.spv_types_tests.proofs.tests.cast.Goals as goal
-
-pub number-requires-clause-plan : goal.number-requires-clause-plan
-number-requires-clause-plan c = (c.args.table.now, c.in_ok-plan.ensures.plan)
-
-pub roles_check-requires-clause-ids : goal.roles_check-requires-clause-ids
-roles_check-requires-clause-ids c = (c.in_ok-ids.ensures.ids c.args.table.now c.in_ok-plan.ensures.plan).each
