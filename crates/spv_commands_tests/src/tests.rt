@@ -233,7 +233,7 @@ struct Outcome {
 const PIECE: usize = 7;
 
 /// Runs a task, with a reader and writers whose calls fail as told.
-fn outcome(alloc: Global, task: &Task, reads: Calls, writes: Calls) -> Outcome {
+fn run_task(alloc: Global, task: &Task, reads: Calls, writes: Calls) -> Outcome {
     let mut file = FromRead::new(Pieces {
         rest: task.input,
         piece: PIECE,
@@ -268,14 +268,14 @@ fn reads_that_fail(rt: HostRuntime) -> Result<(), Fail> {
     let a = rt.alloc();
     let bytes = kernel(a)?;
     for (number, task) in tasks(a, &bytes).iter().enumerate() {
-        let whole = outcome(a, task, Calls::ALL, Calls::ALL);
+        let whole = run_task(a, task, Calls::ALL, Calls::ALL);
         assert_eq!(rt; whole.status, 0, "task {number}");
         assert_eq!(rt; whole.written.as_slice(), task.written, "task {number}");
         // The last read tells the end of input.
-        for good in 0..task.input.len().div_ceil(PIECE) + 1 {
+        for good in 0..=task.input.len().div_ceil(PIECE) {
             for kind in [ErrorKind::Other, ErrorKind::Interrupted] {
                 let error = Some(kind);
-                let failed = outcome(a, task, Calls { good, error }, Calls::ALL);
+                let failed = run_task(a, task, Calls { good, error }, Calls::ALL);
                 assert_eq!(rt; failed.status, 2, "task {number} after {good} reads");
                 assert!(rt; failed.written.is_empty());
                 assert_eq!(rt; failed.err.as_slice(), b"error file\n".as_slice());
@@ -291,17 +291,18 @@ fn writes_that_fail(rt: HostRuntime) -> Result<(), Fail> {
     let bytes = kernel(a)?;
     for (number, task) in tasks(a, &bytes).iter().enumerate() {
         for error in [None, Some(ErrorKind::Other), Some(ErrorKind::Interrupted)] {
-            let mut good = 0;
-            let mut begun = outcome(a, task, Calls::ALL, Calls { good, error });
-            while begun.failures > 0 && good < task.written.len() {
+            for good in 0..=task.written.len() {
+                let begun = run_task(a, task, Calls::ALL, Calls { good, error });
+                if begun.failures == 0 {
+                    assert_eq!(rt; begun.status, 0, "task {number} after {good} writes");
+                    assert_eq!(rt; begun.written.as_slice(), task.written);
+                    break;
+                }
+                assert!(rt; good < task.written.len());
                 assert_eq!(rt; begun.status, 2, "task {number} after {good} writes");
                 assert!(rt; task.written.starts_with(begun.written.as_slice()));
                 assert_eq!(rt; begun.err.as_slice(), b"error file\n".as_slice());
-                good += 1;
-                begun = outcome(a, task, Calls::ALL, Calls { good, error });
             }
-            assert_eq!(rt; begun.status, 0, "task {number} after {good} writes");
-            assert_eq!(rt; begun.written.as_slice(), task.written);
         }
     }
     Ok(())
@@ -327,30 +328,21 @@ fn verdict(
 }
 
 #[test]
-fn pieces(rt: HostRuntime) -> Result<(), Fail> {
+fn reads_in_pieces(rt: HostRuntime) -> Result<(), Fail> {
     let a = rt.alloc();
     let table = Table::from_slice(a, GRAMMAR)?;
     let bytes = kernel(a)?;
-    for piece in [1, 3, 4, 7, 120] {
+    // The size of a piece, and how many reads there are with the one that tells the end of input.
+    for (piece, reads) in [(1, 121), (3, 41), (4, 31), (7, 19), (120, 2)] {
         let (answer, line) = verdict(a, &table, &bytes, piece, Calls::ALL, Calls::ALL);
         assert_eq!(rt; answer, Ok(true), "in pieces of {piece}");
         assert_eq!(rt; line.as_slice(), b"valid\n".as_slice());
-        for good in 0..bytes.len().div_ceil(piece) + 1 {
+        for good in 0..reads {
             for kind in [ErrorKind::Other, ErrorKind::Interrupted] {
                 let error = Some(kind);
-                let (answer, line) = verdict(
-                    a,
-                    &table,
-                    &bytes,
-                    piece,
-                    Calls { good, error },
-                    Calls::ALL,
-                );
-                assert_eq!(rt;
-                    answer,
-                    Err(WordError::W1),
-                    "in pieces of {piece} after {good} reads"
-                );
+                let reads = Calls { good, error };
+                let (answer, line) = verdict(a, &table, &bytes, piece, reads, Calls::ALL);
+                assert_eq!(rt; answer, Err(WordError::W1), "{good} reads of {piece}");
                 assert!(rt; line.is_empty());
             }
         }
@@ -363,33 +355,24 @@ fn verdict_lines(rt: HostRuntime) -> Result<(), Fail> {
     let a = rt.alloc();
     let table = Table::from_slice(a, GRAMMAR)?;
     let bytes = kernel(a)?;
-    let rows: [(usize, &[u8]); 3] = [
-        (120, b"valid\n"),
-        (116, b"fault L2 inst 9 word 29\n"),
-        (119, b"fault W3\n"),
+    let whole = bytes.as_slice();
+    let rows: [(&[u8], &[u8]); 3] = [
+        (whole, b"valid\n"),
+        (&whole[..whole.len().min(116)], b"fault L2 inst 9 word 29\n"),
+        (&whole[..whole.len().min(119)], b"fault W3\n"),
     ];
-    for (length, line) in rows {
+    for (module, line) in rows {
         for good in 0..line.len() {
             for error in [None, Some(ErrorKind::Other), Some(ErrorKind::Interrupted)] {
-                let (answer, begun) = verdict(
-                    a,
-                    &table,
-                    &bytes[..length],
-                    120,
-                    Calls::ALL,
-                    Calls { good, error },
-                );
-                assert_eq!(rt;
-                    answer,
-                    Err(WordError::W1),
-                    "of {length} bytes after {good} writes"
-                );
+                let writes = Calls { good, error };
+                let (answer, begun) = verdict(a, &table, module, 120, Calls::ALL, writes);
+                assert_eq!(rt; answer, Err(WordError::W1), "after {good} writes");
                 assert_eq!(rt; begun.as_slice(), &line[..good]);
             }
         }
-        let (answer, whole) = verdict(a, &table, &bytes[..length], 120, Calls::ALL, Calls::ALL);
-        assert_eq!(rt; answer, Ok(length == 120));
-        assert_eq!(rt; whole.as_slice(), line);
+        let (answer, written) = verdict(a, &table, module, 120, Calls::ALL, Calls::ALL);
+        assert_eq!(rt; answer, Ok(module.len() == 120));
+        assert_eq!(rt; written.as_slice(), line);
     }
     Ok(())
 }
