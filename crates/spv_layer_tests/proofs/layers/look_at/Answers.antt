@@ -8,9 +8,3 @@ type_check-requires-clause-ids c = (c.in_ok-ids.ensures.ids c.args.table.now c.i
 
 pub op_holds-requires-clause-ids : goal.op_holds-requires-clause-ids
 op_holds-requires-clause-ids c = (c.in_ok-ids.ensures.ids c.args.table.now c.in_ok-plan.ensures.plan).each
-
-pub first_cycle-requires-clause-plan : goal.first_cycle-requires-clause-plan
-first_cycle-requires-clause-plan c = (c.args.table.now, c.in_ok-plan.ensures.plan)
-
-pub first_cycle-requires-clause-ids : goal.first_cycle-requires-clause-ids
-first_cycle-requires-clause-ids c = (c.in_ok-ids.ensures.ids c.args.table.now c.in_ok-plan.ensures.plan).each

@@ -1,0 +1,10 @@
+use Rattle.spv_layer_tests.proofs.layers.cycle_of.Goals as goal
+
+pub number-requires-clause-plan : goal.number-requires-clause-plan
+number-requires-clause-plan c = (c.args.table.now, c.in_ok-plan.ensures.plan)
+
+pub first_cycle-requires-clause-plan : goal.first_cycle-requires-clause-plan
+first_cycle-requires-clause-plan c = (c.args.table.now, c.in_ok-plan.ensures.plan)
+
+pub first_cycle-requires-clause-ids : goal.first_cycle-requires-clause-ids
+first_cycle-requires-clause-ids c = (c.in_ok-ids.ensures.ids c.args.table.now c.in_ok-plan.ensures.plan).each
