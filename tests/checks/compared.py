@@ -1,0 +1,81 @@
+"""What docs/COMPARED.md says of spirv-val and of the program: both are run on each module that it names.
+
+The page's tables of modules have the module's name first, and then what one program says, or both do.
+"""
+
+import subprocess
+
+from .common import SECONDS, TESTS, Answer, Check, Unusable, difference, run
+from .khronos import GRAMMAR
+
+PAGE = TESTS.parent / "docs/COMPARED.md"
+MODULES = TESTS / "compared"
+# The head of each table of modules, and the columns of what the program and what spirv-val say.
+HEADS = {
+    "| Module | What is wrong | spirv-val |": (None, 2),
+    "| Module | Rule | spv |": (2, None),
+    "| Module | spv | spirv-val |": (1, 2),
+}
+
+
+def rows():
+    """The rows of the page: a module's name, the program's line, and what spirv-val says (None: it accepts)."""
+    columns = None
+    for line in PAGE.read_text(encoding="utf-8").splitlines():
+        if line in HEADS:
+            columns = HEADS[line]
+        elif not line.startswith("|"):
+            columns = None
+        elif columns and not line.startswith("|---"):
+            cells = [cell.strip() for cell in line.strip("|").split("|")]
+            ours, theirs = columns
+            yield cells[0], cells[ours].strip("`") if ours else "valid", cells[theirs] if theirs else None
+
+
+def said_by_peer(module, folder):
+    """What spirv-val says of a module: its first line without the place, or None where it accepts it."""
+    words = ["spirv-val", "--target-env", "spv1.6", module]
+    ended = subprocess.run(words, cwd=folder, capture_output=True, text=True, timeout=SECONDS, check=False)
+    if ended.returncode == 0:
+        return None
+    first = ended.stderr.splitlines()[0]
+    return first.split(": ", 2)[-1].strip()
+
+
+def as_said(name, ours, theirs, program, folder):
+    """None if both programs say of the module what the page says."""
+    module = folder / "module.spv"
+    text = MODULES / f"{name}.spvasm"
+    words = ["spirv-as", "--target-env", "spv1.6", "--preserve-numeric-ids", "-o", module, text]
+    subprocess.run(words, check=True, timeout=SECONDS)
+    peer = said_by_peer(module, folder)
+    if peer != theirs:
+        return f"  spirv-val\n  wanted: {theirs}\n  got:    {peer}"
+    wanted = Answer(f"{ours}\n".encode(), b"", 0 if ours == "valid" else 1)
+    return difference(wanted, run(program, ["check", "--grammar", GRAMMAR, module], folder))
+
+
+def all_named(named):
+    """None if the page names each module of the folder once."""
+    there = sorted(path.stem for path in MODULES.glob("*.spvasm"))
+    return None if sorted(named) == there else f"  named: {sorted(named)}\n  there: {there}"
+
+
+def checks():
+    """One check for each module of the page, and one that it names all of them."""
+    found = list(rows())
+    if not found:
+        raise Unusable("docs/COMPARED.md has no table of modules")
+    layers, tools = frozenset({"trace"}), frozenset({"khronos", "spirv-val"})
+
+    def check(name, ours, theirs):
+        return Check(
+            f"beside spirv-val: {name}",
+            layers,
+            lambda program, folder: as_said(name, ours, theirs, program, folder),
+            tools,
+        )
+
+    names = [name for name, _, _ in found]
+    whole = Check("beside spirv-val: all modules", layers, lambda *_: all_named(names))
+    return [whole, *(check(*row) for row in found)]
