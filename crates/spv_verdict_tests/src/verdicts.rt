@@ -3,7 +3,7 @@
 use spv_grammar::{FromGrammar, Table};
 use spv_inst::{Fault, Rule};
 use spv_samples::{CALL_OF_LATER_FUNCTION, LOAD_WITH_MASK, PROFILE, image_of};
-use spv_verdict::{Checked, Ending, TraceError, Verdict, check, check_stream, trace};
+use spv_verdict::{TraceError, Verdict, check, check_stream};
 use spv_words::{FromRead, FromWrite};
 use std::alloc::Global;
 use std::test::Fail;
@@ -60,59 +60,6 @@ fn verdict_lines(rt: HostRuntime) -> Result<(), Fail> {
     let (out, answer) = written(rt.alloc(), LOAD_WITH_MASK.words)?;
     assert_eq!(rt; out.as_slice(), b"fault L1 inst 0 word 5\n".as_slice());
     assert!(rt; !answer);
-    Ok(())
-}
-
-/// The steps of a run and its end, as the program prints them but in one line, or why there is none.
-fn traced(
-    alloc: Global,
-    checked: &Checked<'_>,
-    id: u32,
-    choices: &[u32],
-    limit: u32,
-) -> Result<String, Fail> {
-    let mut text = String::new(alloc);
-    match trace(alloc, checked, id, choices, limit) {
-        Ok(told) => {
-            for step in &told.steps {
-                text.push_str(format!(in alloc; "{} {}, ", step.depth, step.inst)?.as_str())?;
-            }
-            text.push_str(match told.ending {
-                Ending::Finished => "finished",
-                Ending::Unreachable => "unreachable",
-                Ending::Limit => "limit",
-                Ending::NoChoice => "nochoice",
-                Ending::BadChoice => "badchoice",
-            })?;
-        }
-        Err(error) => text.push_str(format!(in alloc; "{error}")?.as_str())?,
-    }
-    Ok(text)
-}
-
-/// The whole run of the first function.
-const RUN: &str = "0 12, 0 13, 0 14, 0 15, 1 22, 1 23, 1 24, 0 16, 0 17, 0 18, finished";
-
-#[test]
-fn traces(rt: HostRuntime) -> Result<(), Fail> {
-    let table = Table::from_slice(rt.alloc(), PROFILE.as_bytes())?;
-    let image = image_of(rt.alloc(), CALL_OF_LATER_FUNCTION.words)?;
-    let Verdict::Valid(checked) = check(rt.alloc(), &table, &image)? else {
-        return Err(Fail::from("no valid module"));
-    };
-    let whole = traced(rt.alloc(), &checked, 10, &[0], 4_294_967_295)?;
-    assert_eq!(rt; whole.as_str(), RUN);
-    let cut = traced(rt.alloc(), &checked, 10, &[0], 3)?;
-    assert_eq!(rt; cut.as_str(), "0 12, 0 13, 0 14, limit");
-    let other = traced(rt.alloc(), &checked, 10, &[1], 100)?;
-    assert_eq!(rt; other.as_str(), "0 12, 0 13, 0 17, 0 18, finished");
-    let none = traced(rt.alloc(), &checked, 10, &[], 100)?;
-    assert_eq!(rt; none.as_str(), "0 12, nochoice");
-    let bad = traced(rt.alloc(), &checked, 10, &[2], 100)?;
-    assert_eq!(rt; bad.as_str(), "0 12, badchoice");
-    // The second function is that of no entry point.
-    let refused = traced(rt.alloc(), &checked, 20, &[0], 100)?;
-    assert_eq!(rt; refused.as_str(), "the id is no entry point's function");
     Ok(())
 }
 
