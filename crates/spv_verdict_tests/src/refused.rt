@@ -6,7 +6,7 @@ use spv_samples::{
     CALL_OF_LATER_FUNCTION, Growths, LOOP_WITH_PHI, PROFILE, SMALLEST_KERNEL, Sample, Told,
     image_of,
 };
-use spv_verdict::{Verdict, check, check_stream};
+use spv_verdict::{Checked, Ending, Trace, TraceError, Verdict, check, check_stream, trace};
 use spv_words::{FromRead, FromWrite, Image, WordError};
 use std::alloc::Global;
 use std::test::Fail;
@@ -70,4 +70,38 @@ fn checks(rt: HostRuntime) -> Result<(), Fail> {
         stream_refused(rt.alloc(), &table, &image)?;
     }
     Ok(())
+}
+
+/// The run of a function that calls another: the call by itself, so that no loop below has to carry what it promises.
+fn run_of(alloc: Global, checked: &Checked<'_>) -> Result<Trace, TraceError> {
+    trace(alloc, checked, 10, &[0], 100)
+}
+
+/// Traces a function that calls another, with each growth refused.
+fn trace_refused(alloc: Global, checked: &Checked<'_>) -> Result<(), Fail> {
+    let mut growths = Growths::new(alloc);
+    for _ in 0..MOST {
+        growths.refuse_next();
+        let found = run_of(alloc, checked);
+        growths.end();
+        let told = match &found {
+            Ok(told) if told.steps.len() == 10 && told.ending == Ending::Finished => Told::Right,
+            Err(TraceError::X2) => Told::NoMemory,
+            _ => Told::Wrong,
+        };
+        if growths.are_through(told)? {
+            return Ok(());
+        }
+    }
+    Err(Fail::from("too many growths"))
+}
+
+#[test]
+fn traces(rt: HostRuntime) -> Result<(), Fail> {
+    let table = Table::from_slice(rt.alloc(), PROFILE.as_bytes())?;
+    let image = image_of(rt.alloc(), CALL_OF_LATER_FUNCTION.words)?;
+    let Verdict::Valid(checked) = check(rt.alloc(), &table, &image)? else {
+        return Err(Fail::from("no valid module"));
+    };
+    trace_refused(rt.alloc(), &checked)
 }

@@ -3,7 +3,7 @@
 use spv_grammar::{FromGrammar, Table};
 use spv_inst::{Fault, Rule};
 use spv_samples::{CALL_OF_LATER_FUNCTION, LOAD_WITH_MASK, PROFILE, image_of};
-use spv_verdict::{TraceError, Verdict, check, check_stream};
+use spv_verdict::{Checked, Ending, Trace, TraceError, Verdict, check, check_stream, trace};
 use spv_words::{FromRead, FromWrite};
 use std::alloc::Global;
 use std::test::Fail;
@@ -60,6 +60,70 @@ fn verdict_lines(rt: HostRuntime) -> Result<(), Fail> {
     let (out, answer) = written(rt.alloc(), LOAD_WITH_MASK.words)?;
     assert_eq!(rt; out.as_slice(), b"fault L1 inst 0 word 5\n".as_slice());
     assert!(rt; !answer);
+    Ok(())
+}
+
+/// A run: the call by itself, so that no loop below has to carry what it promises.
+fn run_of(
+    alloc: Global,
+    checked: &Checked<'_>,
+    id: u32,
+    choices: &[u32],
+    limit: u32,
+) -> Result<Trace, TraceError> {
+    trace(alloc, checked, id, choices, limit)
+}
+
+/// The steps of a run and its end, as the program prints them but in one line, or why there is none.
+fn traced(
+    alloc: Global,
+    checked: &Checked<'_>,
+    id: u32,
+    choices: &[u32],
+    limit: u32,
+) -> Result<String, Fail> {
+    let mut text = String::new(alloc);
+    match run_of(alloc, checked, id, choices, limit) {
+        Ok(told) => {
+            for step in &told.steps {
+                text.push_str(format!(in alloc; "{} {}, ", step.depth, step.inst)?.as_str())?;
+            }
+            text.push_str(match told.ending {
+                Ending::Finished => "finished",
+                Ending::Unreachable => "unreachable",
+                Ending::Limit => "limit",
+                Ending::NoChoice => "nochoice",
+                Ending::BadChoice => "badchoice",
+            })?;
+        }
+        Err(error) => text.push_str(format!(in alloc; "{error}")?.as_str())?,
+    }
+    Ok(text)
+}
+
+/// The whole run of the first function.
+const RUN: &str = "0 12, 0 13, 0 14, 0 15, 1 22, 1 23, 1 24, 0 16, 0 17, 0 18, finished";
+
+#[test]
+fn traces(rt: HostRuntime) -> Result<(), Fail> {
+    let table = Table::from_slice(rt.alloc(), PROFILE.as_bytes())?;
+    let image = image_of(rt.alloc(), CALL_OF_LATER_FUNCTION.words)?;
+    let Verdict::Valid(checked) = check(rt.alloc(), &table, &image)? else {
+        return Err(Fail::from("no valid module"));
+    };
+    // The second function is that of no entry point.
+    let rows: [(u32, &[u32], u32, &str); 6] = [
+        (10, &[0], 4_294_967_295, RUN),
+        (10, &[0], 3, "0 12, 0 13, 0 14, limit"),
+        (10, &[1], 100, "0 12, 0 13, 0 17, 0 18, finished"),
+        (10, &[], 100, "0 12, nochoice"),
+        (10, &[2], 100, "0 12, badchoice"),
+        (20, &[0], 100, "the id is no entry point's function"),
+    ];
+    for (id, choices, limit, wanted) in rows {
+        let told = traced(rt.alloc(), &checked, id, choices, limit)?;
+        assert_eq!(rt; told.as_str(), wanted);
+    }
     Ok(())
 }
 
