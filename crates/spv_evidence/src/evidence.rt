@@ -1,0 +1,158 @@
+use spv_layout::Role;
+use spv_table::Listed;
+
+/// What lists the capabilities of which none is there (C2).
+#[derive(Clone, Copy, Debug, PartialEq, Eq)]
+pub enum Lister {
+    /// The entry of the instruction's opcode.
+    Entry,
+    /// The value that the operand of that number is.
+    Value { operand: u32 },
+    /// A bit of the mask that the operand of that number is. The bit is given by its value.
+    Bit { operand: u32, bit: u32 },
+    /// The width of a number, or the count of a vector's components.
+    Width,
+}
+
+/// Which part of E2 is broken.
+#[derive(Clone, Copy, Debug, PartialEq, Eq)]
+pub enum EntryPart {
+    /// The execution model of an OpEntryPoint is not Kernel.
+    Model,
+    /// The function of an OpEntryPoint is a declaration.
+    Declared,
+    /// The function of an OpEntryPoint does not return void.
+    Returns,
+    /// The function of an OpEntryPoint is called, by the OpFunctionCall of that number.
+    Called { inst: u32 },
+    /// The function of an OpExecutionMode is that of no OpEntryPoint.
+    Unnamed,
+    /// A definition is imported.
+    Imported,
+    /// A declaration is not imported.
+    Missing,
+}
+
+/// Where two types, or two counts, are to be the same (Y6 to Y8).
+#[derive(Clone, Copy, Debug, PartialEq, Eq)]
+pub enum Side {
+    /// The type of a function, which is to be an OpTypeFunction. What is found is its id.
+    Function,
+    /// The type that a function returns: of an OpFunction, a return or a call.
+    Return,
+    /// How many parameters or arguments there are.
+    Number,
+    /// The parameter of that number, from 0.
+    Parameter { number: u32 },
+    /// The argument of that number, from 0.
+    Argument { number: u32 },
+}
+
+/// A value, and the type that it is declared with: two ids.
+#[derive(Clone, Copy, Debug, PartialEq, Eq)]
+pub struct Typed {
+    pub value: u32,
+    pub of: u32,
+}
+
+/// What shows that a rule is broken at an instruction, in numbers alone. Operands and instructions count from 0; a block goes by
+/// the number of its OpLabel, and a function by that of its OpFunction.
+#[derive(Debug, Drop)]
+pub enum Evidence {
+    /// I1 to I3: the opcode.
+    Opcode {
+        opcode: u16,
+    },
+    /// I4 to I12: the opcode, the number of the operand that fails, and the number of the kind that is due there.
+    Due {
+        opcode: u16,
+        operand: u32,
+        kind: u32,
+    },
+    /// P1: the opcode, and whether the profile has it.
+    Shape {
+        opcode: u16,
+        known: bool,
+    },
+    /// L1 and L2: the opcodes that may come at that place, and whether the module may end there.
+    MayCome {
+        opcodes: Listed<u32>,
+        end: bool,
+    },
+    /// D1, D3, F2, F4, M1, Y2 and Y4: the operand that breaks the rule, or at which the rule first fails.
+    Operand {
+        operand: u32,
+    },
+    /// D2 and Y3: the earlier instruction that has the same result, or declares the same type.
+    Earlier {
+        inst: u32,
+    },
+    /// D4 and F1: the operand, and the instruction that defines its id.
+    Defined {
+        operand: u32,
+        inst: u32,
+    },
+    /// D5: the operand, an instruction that defines its id, and the function that this is local to.
+    Local {
+        operand: u32,
+        inst: u32,
+        function: u32,
+    },
+    /// Y1: the operand, the role in which it is used, and the instruction that defines its id.
+    Miscast {
+        operand: u32,
+        role: Role,
+        inst: u32,
+    },
+    /// C1: a capability that a kernel has and that is not implied, or one that it has not and that is implied.
+    Capability {
+        capability: u32,
+        implied: bool,
+    },
+    /// C2: what lists the capabilities of which none is implied.
+    Needs {
+        lister: Lister,
+    },
+    /// E1: there is no entry point.
+    NoEntry,
+    /// E2: which part of the rule is broken.
+    Entry {
+        part: EntryPart,
+    },
+    /// Y5: the result type, if there is one, and the value operands in order with their types.
+    Types {
+        result: Option<u32>,
+        values: Listed<Typed>,
+    },
+    /// Y6 to Y8: where types or counts differ, and the ones that are wanted and found there, if any is. Types are ids.
+    Mismatch {
+        side: Side,
+        wanted: Option<u32>,
+        found: Option<u32>,
+    },
+    /// F3: a predecessor that no pair names.
+    MissingParent {
+        block: u32,
+    },
+    /// F3: the operand that names a parent which is no predecessor.
+    NoPredecessor {
+        operand: u32,
+    },
+    /// F3: the two operands that name one parent.
+    Twice {
+        first: u32,
+        second: u32,
+    },
+    /// A1 and A2: the operand, the instruction that defines its value, and the blocks of a walk on which the value is not defined,
+    /// from the entry block of the function to the block of the instruction.
+    Walk {
+        operand: u32,
+        inst: u32,
+        walk: Listed<u32>,
+    },
+    /// G1: functions of which each calls the next, from an entry point's to the caller, and from the callee to the caller.
+    Cycle {
+        calls: Listed<u32>,
+        cycle: Listed<u32>,
+    },
+}
