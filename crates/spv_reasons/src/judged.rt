@@ -1,0 +1,104 @@
+//! What a module comes to, layer by layer.
+
+use spv_branch_reasons::branch_evidence;
+use spv_call_reasons::call_evidence;
+use spv_capability_reasons::capability_evidence;
+use spv_evidence::Evidence;
+use spv_flow::flow_check;
+use spv_id_reasons::{id_evidence, role_evidence};
+use spv_ids::{Ids, number};
+use spv_layout::laws::member_or_dead;
+use spv_layout::{Plan, lay_out};
+use spv_module::{Fault, Module, Rule, Stop};
+use spv_table::{Memory, Table};
+use spv_type_reasons::type_evidence;
+use spv_types::type_check;
+use spv_verdict::Checked;
+use spv_walk_reasons::walk_evidence;
+use std::alloc::Global;
+
+/// What a module comes to.
+#[derive(Drop)]
+pub enum Judged<'a> {
+    /// No rule is broken.
+    Valid(Checked<'a>),
+    /// The first rule that is broken, what shows that it is broken there, and the module.
+    Fault {
+        fault: Fault,
+        evidence: Evidence,
+        module: Module<'a>,
+    },
+}
+
+/// The opcode of an instruction, 0 where there is none.
+fn opcode_of(module: &Module<'_>, inst: u32) -> u16 {
+    match module.insts.as_slice().get(inst as usize) {
+        Some(inst) => inst.opcode,
+        None => 0,
+    }
+}
+
+/// A fault of the shapes and the layout.
+fn misplaced<'a>(module: Module<'a>, stop: Stop) -> Result<Judged<'a>, Memory>
+{
+    match stop {
+        Stop::Fault(fault) => {
+            let opcode = opcode_of(&module, fault.inst);
+            Ok(Judged::Fault {
+                fault,
+                evidence: Evidence::Opcode { opcode },
+                module,
+            })
+        }
+        Stop::Memory => Err(Memory),
+    }
+}
+
+/// A fault of the ids.
+fn misnumbered<'a>(alloc: Global, module: Module<'a>, plan: &Plan, stop: Stop) -> Result<Judged<'a>, Memory>
+{
+    match stop {
+        Stop::Fault(fault) => {
+            let evidence = id_evidence(alloc, &module, plan, fault.rule, fault.inst)?;
+            Ok(Judged::Fault {
+                fault,
+                evidence,
+                module,
+            })
+        }
+        Stop::Memory => Err(Memory),
+    }
+}
+
+/// What shows that a rule on roles, capabilities, entry points or types is broken at an instruction.
+fn typing_evidence(
+    alloc: Global,
+    table: &Table,
+    module: &Module<'_>,
+    plan: &Plan,
+    ids: &Ids,
+    fault: Fault,
+) -> Result<Evidence, Memory> {
+    match fault.rule {
+        Rule::Y1 => Ok(role_evidence(module, plan, ids, fault.inst)),
+        Rule::C1 | Rule::C2 | Rule::M1 | Rule::E1 | Rule::E2 => {
+            Ok(capability_evidence(alloc, table, module, plan, ids, fault.rule, fault.inst)?)
+        }
+        _ => Ok(type_evidence(alloc, module, plan, ids, fault.rule, fault.inst)?),
+    }
+}
+
+/// What shows that a rule on flow is broken at an instruction.
+fn flow_evidence(
+    alloc: Global,
+    module: &Module<'_>,
+    plan: &Plan,
+    ids: &Ids,
+    fault: Fault,
+) -> Result<Evidence, Memory> {
+    match fault.rule {
+        Rule::A1 | Rule::A2 => Ok(walk_evidence(alloc, module, plan, ids, fault.rule, fault.inst)?),
+        Rule::G1 => Ok(call_evidence(alloc, module, plan, ids, fault.inst)?),
+        _ => Ok(branch_evidence(alloc, module, plan, ids, fault.rule, fault.inst)?),
+    }
+}
