@@ -39,8 +39,7 @@ fn opcode_of(module: &Module<'_>, inst: u32) -> u16 {
 }
 
 /// A fault of the shapes and the layout.
-fn misplaced<'a>(module: Module<'a>, stop: Stop) -> Result<Judged<'a>, Memory>
-{
+fn misplaced<'a>(module: Module<'a>, stop: Stop) -> Result<Judged<'a>, Memory> {
     match stop {
         Stop::Fault(fault) => {
             let opcode = opcode_of(&module, fault.inst);
@@ -55,8 +54,12 @@ fn misplaced<'a>(module: Module<'a>, stop: Stop) -> Result<Judged<'a>, Memory>
 }
 
 /// A fault of the ids.
-fn misnumbered<'a>(alloc: Global, module: Module<'a>, plan: &Plan, stop: Stop) -> Result<Judged<'a>, Memory>
-{
+fn misnumbered<'a>(
+    alloc: Global,
+    module: Module<'a>,
+    plan: &Plan,
+    stop: Stop,
+) -> Result<Judged<'a>, Memory> {
     match stop {
         Stop::Fault(fault) => {
             let evidence = id_evidence(alloc, &module, plan, fault.rule, fault.inst)?;
@@ -101,4 +104,74 @@ fn flow_evidence(
         Rule::G1 => Ok(call_evidence(alloc, module, plan, ids, fault.inst)?),
         _ => Ok(branch_evidence(alloc, module, plan, ids, fault.rule, fault.inst)?),
     }
+}
+
+/// A fault of the roles, capabilities, entry points or types.
+fn mistyped<'a>(
+    alloc: Global,
+    table: &Table,
+    module: Module<'a>,
+    plan: &Plan,
+    ids: &Ids,
+    stop: Stop,
+) -> Result<Judged<'a>, Memory> {
+    match stop {
+        Stop::Fault(fault) => {
+            let evidence = typing_evidence(alloc, table, &module, plan, ids, fault)?;
+            Ok(Judged::Fault {
+                fault,
+                evidence,
+                module,
+            })
+        }
+        Stop::Memory => Err(Memory),
+    }
+}
+
+/// A fault of the flow.
+fn misled<'a>(
+    alloc: Global,
+    module: Module<'a>,
+    plan: &Plan,
+    ids: &Ids,
+    stop: Stop,
+) -> Result<Judged<'a>, Memory> {
+    match stop {
+        Stop::Fault(fault) => {
+            let evidence = flow_evidence(alloc, &module, plan, ids, fault)?;
+            Ok(Judged::Fault {
+                fault,
+                evidence,
+                module,
+            })
+        }
+        Stop::Memory => Err(Memory),
+    }
+}
+
+/// What a module comes to: the stages are looked at in the order in which `check` looks at them, and where one finds a fault, the
+/// instruction at which it is told is looked at again.
+///
+/// `Memory` comes only where a growth of memory was refused.
+pub fn judge<'a>(alloc: Global, table: &Table, module: Module<'a>) -> Result<Judged<'a>, Memory>
+    requires { 5 + sum_by word_count (plain_insts «module») ≤ 4194304 }
+    ensures { IfOk result (λ j. IsJudged table.now «module».entry.header.bound (plain_insts «module».entry) j) }
+{
+    member_or_dead();
+    let plan = match lay_out(alloc, table, &module) {
+        Ok(plan) => plan,
+        Err(stop) => return misplaced(module, stop),
+    };
+    let ids = match number(alloc, &module, &plan) {
+        Ok(ids) => ids,
+        Err(stop) => return misnumbered(alloc, module, &plan, stop),
+    };
+    let stop = match type_check(alloc, table, &module, &plan, &ids) {
+        Ok(types) => match flow_check(alloc, &module, &plan, &ids, &types) {
+            Ok(flow) => return Ok(Judged::Valid(Checked::new(module, plan, ids, flow))),
+            Err(stop) => stop,
+        },
+        Err(stop) => return mistyped(alloc, table, module, &plan, &ids, stop),
+    };
+    misled(alloc, module, &plan, &ids, stop)
 }

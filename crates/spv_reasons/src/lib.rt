@@ -1,11 +1,17 @@
 //! Why a module is refused: a fault with what shows it, and the lines that tell it to a person.
 #![tactic(auto)]
 
+mod about;
 mod context;
+mod explained;
+mod judged;
 mod needs;
-mod page;
 mod place;
 mod sentences;
+mod stream;
 mod told;
 
+pub use explained::{Explained, explain};
 pub use sentences::{sentence, word_sentence};
+pub use spv_evidence::{EntryPart, Evidence, Lister, Side, Typed};
+pub use stream::explain_stream;

@@ -1,7 +1,7 @@
 //! The lines of evidence.
 
+use crate::about::{About, number_line, text_line};
 use crate::needs::needs_of;
-use crate::page::Page;
 use spv_evidence::{EntryPart, Evidence, Lister, Role, Side, Typed};
 use std::alloc::AllocError;
 
@@ -20,175 +20,204 @@ fn role_name(role: Role) -> &'static str {
 }
 
 /// Adds the line of the capabilities of which one is needed.
-fn needed_line(page: &mut Page<'_, '_>, inst: u32, lister: Lister) -> Result<(), AllocError> {
-    page.push("needs one of:")?;
-    let Some(at) = page.inst(inst) else {
-        return page.end();
+fn needed_line(
+    about: About<'_, '_>,
+    out: &mut String,
+    inst: u32,
+    lister: Lister,
+) -> Result<(), AllocError> {
+    out.push_str("needs one of:")?;
+    let Some(at) = about.inst(inst) else {
+        return out.push_str("\n");
     };
-    let table = page.table();
+    let table = about.table;
     let operands = at.operands.as_slice();
     let listed = match lister {
         Lister::Entry => table.entry(at.opcode).map(|entry| &entry.capabilities),
-        Lister::Value { operand } => page.capabilities_of(operands, operand, None),
-        Lister::Bit { operand, bit } => page.capabilities_of(operands, operand, Some(bit)),
+        Lister::Value { operand } => about.capabilities_of(operands, operand, None),
+        Lister::Bit { operand, bit } => about.capabilities_of(operands, operand, Some(bit)),
         Lister::Width => None,
     };
     match listed {
         Some(names) => for name in names.as_slice() {
-            page.push(" ")?;
-            page.push(name.as_str())?;
+            out.push_str(" ")?;
+            out.push_str(name.as_str())?;
         },
         None => for capability in needs_of(at.opcode, operands) {
-            page.push_value("Capability", *capability)?;
+            about.push_value(out, "Capability", *capability)?;
         },
     }
-    page.end()
+    out.push_str("\n")
 }
 
 /// Adds the lines of what lists capabilities of which none is there.
-fn needs_lines(page: &mut Page<'_, '_>, inst: u32, lister: Lister) -> Result<(), AllocError> {
+fn needs_lines(
+    about: About<'_, '_>,
+    out: &mut String,
+    inst: u32,
+    lister: Lister,
+) -> Result<(), AllocError> {
     match lister {
         Lister::Entry | Lister::Width => {}
-        Lister::Value { operand } => page.operand_line(inst, operand)?,
+        Lister::Value { operand } => about.operand_line(out, inst, operand)?,
         Lister::Bit { operand, bit } => {
-            page.operand_line(inst, operand)?;
-            page.number_line("bit", bit)?;
+            about.operand_line(out, inst, operand)?;
+            number_line(out, "bit", bit)?;
         }
     }
-    needed_line(page, inst, lister)
+    needed_line(about, out, inst, lister)
 }
 
 /// Adds the line of a broken part of E2.
-fn entry_line(page: &mut Page<'_, '_>, part: EntryPart) -> Result<(), AllocError> {
+fn entry_line(about: About<'_, '_>, out: &mut String, part: EntryPart) -> Result<(), AllocError> {
     match part {
-        EntryPart::Model => page.text_line("part", "the execution model is not Kernel"),
-        EntryPart::Declared => page.text_line("part", "the function is a declaration"),
-        EntryPart::Returns => page.text_line("part", "the function does not return void"),
-        EntryPart::Called { inst } => page.inst_line("called", inst),
-        EntryPart::Unnamed => page.text_line("part", "the function is that of no OpEntryPoint"),
-        EntryPart::Imported => page.text_line("part", "a definition is imported"),
-        EntryPart::Missing => page.text_line("part", "a declaration is not imported"),
+        EntryPart::Model => text_line(out, "part", "the execution model is not Kernel"),
+        EntryPart::Declared => text_line(out, "part", "the function is a declaration"),
+        EntryPart::Returns => text_line(out, "part", "the function does not return void"),
+        EntryPart::Called { inst } => about.inst_line(out, "called", inst),
+        EntryPart::Unnamed => text_line(out, "part", "the function is that of no OpEntryPoint"),
+        EntryPart::Imported => text_line(out, "part", "a definition is imported"),
+        EntryPart::Missing => text_line(out, "part", "a declaration is not imported"),
     }
 }
 
 /// Adds the lines of types: the result's, and then those of the values.
 fn types_lines(
-    page: &mut Page<'_, '_>,
+    about: About<'_, '_>,
+    out: &mut String,
     of_result: Option<u32>,
     values: &[Typed],
 ) -> Result<(), AllocError> {
-    let definitions = page.definitions()?;
-    let mut types = page.list();
+    let definitions = about.definitions()?;
+    let mut types = Vec::new(about.alloc);
     if let Some(id) = of_result {
         types.push(id)?;
     }
     for value in values {
         types.push(value.of)?;
     }
-    page.defined_lines("type", types.as_slice(), definitions.as_slice())
+    about.defined_lines(out, "type", types.as_slice(), definitions.as_slice())
 }
 
 /// Adds a line of one of two things that are to be the same: a count, or a type.
 fn same_line(
-    page: &mut Page<'_, '_>,
+    about: About<'_, '_>,
+    out: &mut String,
     key: &str,
     side: Side,
     what: Option<u32>,
 ) -> Result<(), AllocError> {
     match (side, what) {
-        (_, None) => page.text_line(key, "nothing"),
-        (Side::Number, Some(count)) => page.number_line(key, count),
-        (_, Some(id)) => page.definition_line(key, id),
+        (_, None) => text_line(out, key, "nothing"),
+        (Side::Number, Some(count)) => number_line(out, key, count),
+        (_, Some(id)) => about.definition_line(out, key, id),
     }
 }
 
 /// Adds the line of the place where two things are to be the same.
-fn side_line(page: &mut Page<'_, '_>, side: Side) -> Result<(), AllocError> {
+fn side_line(about: About<'_, '_>, out: &mut String, side: Side) -> Result<(), AllocError> {
     match side {
-        Side::Function => page.text_line("place", "function type"),
-        Side::Return => page.text_line("place", "return type"),
-        Side::Number => page.text_line("place", "number"),
-        Side::Parameter { number } => page.number_line("parameter", number),
-        Side::Argument { number } => page.number_line("argument", number),
+        Side::Function => text_line(out, "place", "function type"),
+        Side::Return => text_line(out, "place", "return type"),
+        Side::Number => text_line(out, "place", "number"),
+        Side::Parameter { number } => number_line(out, "parameter", number),
+        Side::Argument { number } => number_line(out, "argument", number),
     }
 }
 
 /// Adds the lines of what has to do with operands.
 fn operand_lines(
-    page: &mut Page<'_, '_>,
+    about: About<'_, '_>,
+    out: &mut String,
     inst: u32,
     evidence: &Evidence,
 ) -> Result<(), AllocError> {
     match evidence {
-        Evidence::Operand { operand } => page.operand_line(inst, *operand),
+        Evidence::Operand { operand } => about.operand_line(out, inst, *operand),
         Evidence::Defined {
             operand,
             inst: place,
         } => {
-            page.operand_line(inst, *operand)?;
-            page.inst_line("defined", *place)
+            about.operand_line(out, inst, *operand)?;
+            about.inst_line(out, "defined", *place)
         }
         Evidence::Local {
             operand,
             inst: place,
             function,
         } => {
-            page.operand_line(inst, *operand)?;
-            page.inst_line("defined", *place)?;
-            page.results_line("local to", &[*function])
+            about.operand_line(out, inst, *operand)?;
+            about.inst_line(out, "defined", *place)?;
+            about.results_line(out, "local to", &[*function])
         }
         Evidence::Miscast {
             operand,
             role,
             inst: place,
         } => {
-            page.operand_line(inst, *operand)?;
-            page.text_line("role", role_name(*role))?;
-            page.inst_line("defined", *place)
+            about.operand_line(out, inst, *operand)?;
+            text_line(out, "role", role_name(*role))?;
+            about.inst_line(out, "defined", *place)
         }
-        Evidence::NoPredecessor { operand } => page.parents_line("no predecessor", inst, *operand),
-        Evidence::Twice { second, .. } => page.parents_line("twice", inst, *second),
+        Evidence::NoPredecessor { operand } => about.parents_line(
+            out,
+            "no predecessor",
+            inst,
+            *operand,
+        ),
+        Evidence::Twice { second, .. } => about.parents_line(out, "twice", inst, *second),
         Evidence::Walk {
             operand,
             inst: place,
             walk,
         } => {
-            page.operand_line(inst, *operand)?;
-            page.inst_line("defined", *place)?;
-            page.results_line("walk", walk.as_slice())
+            about.operand_line(out, inst, *operand)?;
+            about.inst_line(out, "defined", *place)?;
+            about.results_line(out, "walk", walk.as_slice())
         }
         _ => Ok(()),
     }
 }
 
 /// Adds the lines of the classes that may come.
-fn may_come_line(page: &mut Page<'_, '_>, opcodes: &[u32], end: bool) -> Result<(), AllocError> {
-    page.push("may come:")?;
+fn may_come_line(
+    about: About<'_, '_>,
+    out: &mut String,
+    opcodes: &[u32],
+    end: bool,
+) -> Result<(), AllocError> {
+    out.push_str("may come:")?;
     for opcode in opcodes {
-        page.push_opcode((*opcode & 0xffff) as u16)?;
+        about.push_opcode(out, (*opcode & 0xffff) as u16)?;
     }
     if end {
-        page.push(" end of module")?;
+        out.push_str(" end of module")?;
     }
-    page.end()
+    out.push_str("\n")
 }
 
 /// Adds the lines of a chain of calls and of a cycle, which begins with the caller.
-fn cycle_lines(page: &mut Page<'_, '_>, calls: &[u32], cycle: &[u32]) -> Result<(), AllocError> {
-    page.results_line("calls", calls)?;
-    page.push("cycle:")?;
+fn cycle_lines(
+    about: About<'_, '_>,
+    out: &mut String,
+    calls: &[u32],
+    cycle: &[u32],
+) -> Result<(), AllocError> {
+    about.results_line(out, "calls", calls)?;
+    out.push_str("cycle:")?;
     if let Some(caller) = cycle.last() {
-        page.push_result(*caller)?;
+        about.push_result(out, *caller)?;
     }
     for function in cycle {
-        page.push_result(*function)?;
+        about.push_result(out, *function)?;
     }
-    page.end()
+    out.push_str("\n")
 }
 
 /// Adds the lines of what shows that a rule is broken at an instruction.
 pub fn evidence_lines(
-    page: &mut Page<'_, '_>,
+    about: About<'_, '_>,
+    out: &mut String,
     inst: u32,
     evidence: &Evidence,
 ) -> Result<(), AllocError> {
@@ -196,38 +225,43 @@ pub fn evidence_lines(
         Evidence::Opcode { opcode }
         | Evidence::Due { opcode, .. }
         | Evidence::Shape { opcode, .. } => {
-            page.push("opcode:")?;
-            page.push_opcode(*opcode)?;
-            page.end()
+            out.push_str("opcode:")?;
+            about.push_opcode(out, *opcode)?;
+            out.push_str("\n")
         }
-        Evidence::MayCome { opcodes, end } => may_come_line(page, opcodes.as_slice(), *end),
-        Evidence::Earlier { inst: place } => page.inst_line("earlier", *place),
+        Evidence::MayCome { opcodes, end } => may_come_line(about, out, opcodes.as_slice(), *end),
+        Evidence::Earlier { inst: place } => about.inst_line(out, "earlier", *place),
         Evidence::Capability {
             capability,
             implied,
         } => {
-            page.push(if *implied { "implied:" } else { "not implied:" })?;
-            page.push_value("Capability", *capability)?;
-            page.end()
+            out.push_str(if *implied { "implied:" } else { "not implied:" })?;
+            about.push_value(out, "Capability", *capability)?;
+            out.push_str("\n")
         }
-        Evidence::Needs { lister } => needs_lines(page, inst, *lister),
-        Evidence::NoEntry => page.text_line("missing", "OpEntryPoint"),
-        Evidence::Entry { part } => entry_line(page, *part),
+        Evidence::Needs { lister } => needs_lines(about, out, inst, *lister),
+        Evidence::NoEntry => text_line(out, "missing", "OpEntryPoint"),
+        Evidence::Entry { part } => entry_line(about, out, *part),
         Evidence::Types {
             result: of_result,
             values,
-        } => types_lines(page, *of_result, values.as_slice()),
+        } => types_lines(about, out, *of_result, values.as_slice()),
         Evidence::Mismatch {
             side,
             wanted,
             found,
         } => {
-            side_line(page, *side)?;
-            same_line(page, "wanted", *side, *wanted)?;
-            same_line(page, "found", *side, *found)
+            side_line(about, out, *side)?;
+            same_line(about, out, "wanted", *side, *wanted)?;
+            same_line(about, out, "found", *side, *found)
         }
-        Evidence::MissingParent { block } => page.results_line("missing parent", &[*block]),
-        Evidence::Cycle { calls, cycle } => cycle_lines(page, calls.as_slice(), cycle.as_slice()),
-        _ => operand_lines(page, inst, evidence),
+        Evidence::MissingParent { block } => about.results_line(out, "missing parent", &[*block]),
+        Evidence::Cycle { calls, cycle } => cycle_lines(
+            about,
+            out,
+            calls.as_slice(),
+            cycle.as_slice(),
+        ),
+        _ => operand_lines(about, out, inst, evidence),
     }
 }

@@ -6,7 +6,7 @@ use spv_layout::Plan;
 use spv_module::{Fault, Module};
 use std::marker::Model;
 
-/// A module that breaks no rule, with what the layers know of it. Only `check` makes one.
+/// A module that breaks no rule, with what the layers know of it. `check` makes one.
 ///
 /// Contracts see the bound of its ids and its instructions. That it breaks no rule, by some table, and that the parts are its
 /// own, is true of every value of this type.
@@ -66,8 +66,8 @@ impl<'a> Checked<'a> {
     ghost use Rattle.spv_verdict.specs.Checked.{AreParts, IsKept};
     ghost use Rattle.spv_verdict.specs.Answer.{ArePartsOf};
 
-    /// A module with what was answered of it.
-    pub(crate) fn new(module: Module<'a>, plan: Plan, ids: Ids, flow: Flow) -> Checked<'a>
+    /// A module with what `lay_out`, `number` and `flow_check` answered of it, where no rule is broken. It takes no memory.
+    pub fn new(module: Module<'a>, plan: Plan, ids: Ids, flow: Flow) -> Checked<'a>
         requires { (G : Table) × AreParts G (record { bound = «module».header.bound; insts = plain_insts «module» }) «module» plan ids flow }
         ensures { result ≡ record { bound = «module».entry.header.bound; insts = plain_insts «module».entry } }
     {

@@ -11,13 +11,57 @@ use std::alloc::{AllocError, Global};
 /// How many lines of a module's text are its header's.
 const HEADER_LINES: usize = 5;
 
-/// Lines that are put together about a module, each ended by a line feed.
-#[derive(Drop)]
-pub struct Page<'m, 'a> {
-    alloc: Global,
-    table: &'m Table,
-    module: &'m Module<'a>,
-    text: String,
+/// What lines are about: a module, under the table of a grammar.
+#[derive(Clone, Copy)]
+pub struct About<'m, 'a> {
+    /// Where texts are kept.
+    pub alloc: Global,
+    /// The table of the grammar.
+    pub table: &'m Table,
+    /// The module.
+    pub module: &'m Module<'a>,
+}
+
+/// Adds a number in decimal.
+pub fn push_number(out: &mut String, number: u32) -> Result<(), AllocError> {
+    let mut buffer = Buffer::new();
+    out.push_str(buffer.format(number))
+}
+
+/// Adds a space and an id, as ` %7`.
+pub fn push_id(out: &mut String, id: u32) -> Result<(), AllocError> {
+    out.push_str(" %")?;
+    push_number(out, id)
+}
+
+/// Adds an operand, if it is an id or a number: a space and its text.
+fn push_operand(out: &mut String, operand: Operand<'_>) -> Result<(), AllocError> {
+    match operand {
+        Operand::OfType(id) | Operand::Result(id) | Operand::Id(id) => push_id(out, id),
+        Operand::Word(number)
+        | Operand::Value { value: number, .. }
+        | Operand::Mask { value: number, .. } => {
+            out.push_str(" ")?;
+            push_number(out, number)
+        }
+        _ => Ok(()),
+    }
+}
+
+/// Adds a line of a text.
+pub fn text_line(out: &mut String, key: &str, text: &str) -> Result<(), AllocError> {
+    out.push_str(key)?;
+    out.push_str(": ")?;
+    out.push_str(text)?;
+    out.push_str("\n")
+}
+
+/// Adds a line of a number.
+pub fn number_line(out: &mut String, key: &str, number: u32) -> Result<(), AllocError> {
+    out.push_str(key)?;
+    out.push_str(": ")?;
+    push_number(out, number)?;
+    out.push_str("\n")
 }
 
 /// The last line of a text, without its line feed.
@@ -28,54 +72,17 @@ fn last_line(text: &str) -> &str {
     }
 }
 
-impl<'m, 'a> Page<'m, 'a> {
-    /// No line yet.
-    pub fn new(alloc: Global, table: &'m Table, module: &'m Module<'a>) -> Page<'m, 'a> {
-        Page {
-            alloc,
-            table,
-            module,
-            text: String::new(alloc),
-        }
-    }
-
-    /// The text of the lines.
-    pub fn into_text(self) -> String {
-        self.text
-    }
-
-    /// Adds a text.
-    pub fn push(&mut self, text: &str) -> Result<(), AllocError> {
-        self.text.push_str(text)
-    }
-
-    /// Adds a number in decimal.
-    pub fn push_number(&mut self, number: u32) -> Result<(), AllocError> {
-        let mut buffer = Buffer::new();
-        self.text.push_str(buffer.format(number))
-    }
-
-    /// Adds a space and an id.
-    pub fn push_id(&mut self, id: u32) -> Result<(), AllocError> {
-        self.push(" %")?;
-        self.push_number(id)
-    }
-
-    /// Ends the line.
-    pub fn end(&mut self) -> Result<(), AllocError> {
-        self.push("\n")
-    }
-
+impl<'m, 'a> About<'m, 'a> {
     /// The instruction of that number.
     pub fn inst(&self, inst: u32) -> Option<&'m Inst<'a>> {
         self.module.insts.as_slice().get(inst as usize)
     }
 
     /// Adds a space and the result of an instruction, if it has one.
-    pub fn push_result(&mut self, inst: u32) -> Result<(), AllocError> {
+    pub fn push_result(&self, out: &mut String, inst: u32) -> Result<(), AllocError> {
         match self.inst(inst) {
             Some(at) => match at.result_id() {
-                Some(id) => self.push_id(id),
+                Some(id) => push_id(out, id),
                 None => Ok(()),
             },
             None => Ok(()),
@@ -83,118 +90,99 @@ impl<'m, 'a> Page<'m, 'a> {
     }
 
     /// Adds a space and an instruction as `show` writes it. Nothing where it has no text by itself.
-    pub fn push_inst(&mut self, inst: u32) -> Result<(), AllocError> {
+    pub fn push_inst(&self, out: &mut String, inst: u32) -> Result<(), AllocError> {
         let Ok(small) = alone(self.alloc, self.module, inst as usize) else {
             return Err(AllocError);
         };
         match self.shown(&small)? {
             Some(text) => {
-                self.push(" ")?;
-                self.push(last_line(text.as_str()))
+                out.push_str(" ")?;
+                out.push_str(last_line(text.as_str()))
             }
             None => Ok(()),
         }
     }
 
     /// Adds a line of an instruction, with its number.
-    pub fn inst_line(&mut self, key: &str, inst: u32) -> Result<(), AllocError> {
-        self.push(key)?;
-        self.push(": inst ")?;
-        self.push_number(inst)?;
-        self.push(",")?;
-        self.push_inst(inst)?;
-        self.end()
+    pub fn inst_line(&self, out: &mut String, key: &str, inst: u32) -> Result<(), AllocError> {
+        out.push_str(key)?;
+        out.push_str(": inst ")?;
+        push_number(out, inst)?;
+        out.push_str(",")?;
+        self.push_inst(out, inst)?;
+        out.push_str("\n")
     }
 
     /// Adds a line of the results of instructions.
-    pub fn results_line(&mut self, key: &str, insts: &[u32]) -> Result<(), AllocError> {
-        self.push(key)?;
-        self.push(":")?;
+    pub fn results_line(
+        &self,
+        out: &mut String,
+        key: &str,
+        insts: &[u32],
+    ) -> Result<(), AllocError> {
+        out.push_str(key)?;
+        out.push_str(":")?;
         for inst in insts {
-            self.push_result(*inst)?;
+            self.push_result(out, *inst)?;
         }
-        self.end()
-    }
-
-    /// Adds an operand: an id, or a number.
-    fn push_operand(&mut self, operand: Operand<'a>) -> Result<(), AllocError> {
-        match operand {
-            Operand::OfType(id) | Operand::Result(id) | Operand::Id(id) => self.push_id(id),
-            Operand::Word(number)
-            | Operand::Value { value: number, .. }
-            | Operand::Mask { value: number, .. } => {
-                self.push(" ")?;
-                self.push_number(number)
-            }
-            _ => Ok(()),
-        }
+        out.push_str("\n")
     }
 
     /// Adds the line of an operand of an instruction, with its number.
-    pub fn operand_line(&mut self, inst: u32, number: u32) -> Result<(), AllocError> {
-        self.push("operand: ")?;
-        self.push_number(number)?;
+    pub fn operand_line(&self, out: &mut String, inst: u32, number: u32) -> Result<(), AllocError> {
+        out.push_str("operand: ")?;
+        push_number(out, number)?;
         if let Some(inst) = self.inst(inst) {
             if let Some(operand) = inst.operands.as_slice().get(number as usize) {
-                self.push_operand(*operand)?;
+                push_operand(out, *operand)?;
             }
         }
-        self.end()
+        out.push_str("\n")
     }
 
     /// Adds the name of an opcode, or its number where the grammar has none.
-    pub fn push_opcode(&mut self, opcode: u16) -> Result<(), AllocError> {
+    pub fn push_opcode(&self, out: &mut String, opcode: u16) -> Result<(), AllocError> {
         match self.table.entry(opcode) {
             Some(entry) => {
-                self.push(" ")?;
-                self.push(entry.name.as_str())
+                out.push_str(" ")?;
+                out.push_str(entry.name.as_str())
             }
             None => {
-                self.push(" ")?;
-                self.push_number(u32::from(opcode))
+                out.push_str(" ")?;
+                push_number(out, u32::from(opcode))
             }
         }
     }
 
     /// Adds a space and the name of a value of a kind, or its number where the grammar has none.
-    pub fn push_value(&mut self, kind: &str, value: u32) -> Result<(), AllocError> {
-        self.push(" ")?;
+    pub fn push_value(&self, out: &mut String, kind: &str, value: u32) -> Result<(), AllocError> {
+        out.push_str(" ")?;
         let name = match self.table.kind_named(kind) {
             Some(kind) => self.table.enumerant(kind, value),
             None => None,
         };
         match name {
-            Some(enumerant) => self.push(enumerant.name.as_str()),
-            None => self.push_number(value),
+            Some(enumerant) => out.push_str(enumerant.name.as_str()),
+            None => push_number(out, value),
         }
-    }
-
-    /// Adds a line of a text.
-    pub fn text_line(&mut self, key: &str, text: &str) -> Result<(), AllocError> {
-        self.push(key)?;
-        self.push(": ")?;
-        self.push(text)?;
-        self.end()
-    }
-
-    /// Adds a line of a number.
-    pub fn number_line(&mut self, key: &str, number: u32) -> Result<(), AllocError> {
-        self.push(key)?;
-        self.push(": ")?;
-        self.push_number(number)?;
-        self.end()
     }
 
     /// Adds a line of the id that an operand of an instruction is.
-    pub fn parents_line(&mut self, key: &str, inst: u32, number: u32) -> Result<(), AllocError> {
-        self.push(key)?;
-        self.push(":")?;
+    pub fn parents_line(
+        &self,
+        out: &mut String,
+        key: &str,
+        inst: u32,
+        number: u32,
+    ) -> Result<(), AllocError> {
+        out.push_str(key)?;
+        out.push_str(":")?;
         if let Some(inst) = self.inst(inst) {
             if let Some(operand) = inst.operands.as_slice().get(number as usize) {
-                self.push_operand(*operand)?;
+                push_operand(out, *operand)?;
             }
         }
-        self.end()
+        out.push_str("\n")
     }
 
     /// The capabilities that the enumerant of an operand's value lists, or of that bit of its mask.
@@ -232,7 +220,8 @@ impl<'m, 'a> Page<'m, 'a> {
 
     /// Adds a line for each id: the instruction that has it as its result.
     pub fn defined_lines(
-        &mut self,
+        &self,
+        out: &mut String,
         key: &str,
         ids: &[u32],
         definitions: &[u32],
@@ -251,25 +240,25 @@ impl<'m, 'a> Page<'m, 'a> {
             return Ok(());
         };
         for line in text.as_str().lines().skip(HEADER_LINES) {
-            self.text_line(key, line)?;
+            text_line(out, key, line)?;
         }
         Ok(())
     }
 
     /// Adds a line of the instruction that has an id as its result.
-    pub fn definition_line(&mut self, key: &str, id: u32) -> Result<(), AllocError> {
+    pub fn definition_line(&self, out: &mut String, key: &str, id: u32) -> Result<(), AllocError> {
         let found = self
             .module
             .insts
             .iter()
             .position(|inst| inst.result_id() == Some(id));
-        self.push(key)?;
-        self.push(":")?;
+        out.push_str(key)?;
+        out.push_str(":")?;
         match found {
-            Some(at) => self.push_inst(at as u32)?,
-            None => self.push_id(id)?,
+            Some(at) => self.push_inst(out, at as u32)?,
+            None => push_id(out, id)?,
         }
-        self.end()
+        out.push_str("\n")
     }
 
     /// The text of a small module. None where it has no text.
@@ -284,10 +273,5 @@ impl<'m, 'a> Page<'m, 'a> {
             ) => Err(AllocError),
             Err(_) => Ok(None),
         }
-    }
-
-    /// The table of the grammar.
-    pub fn table(&self) -> &'m Table {
-        self.table
     }
 }

@@ -1,0 +1,120 @@
+//! The verdict on the words of a module, with what shows a fault.
+
+use crate::judged::{Judged, judge};
+use spv_evidence::Evidence;
+use spv_inst::{decode, listed_or_dead, one_death, one_listing};
+use spv_layout::laws::word_counts;
+use spv_module::{Fault, Module, Stop};
+use spv_table::{Memory, Table};
+use spv_verdict::Checked;
+use spv_words::{Image, word};
+use std::alloc::Global;
+
+/// The verdict on the words of a module, and of a fault what shows it.
+#[derive(Drop)]
+pub enum Explained<'a> {
+    /// No rule is broken.
+    Valid(Checked<'a>),
+    /// The first rule that is broken, with the instruction and the word by which it is told; and what shows that it is broken.
+    Fault(Fault, Evidence),
+}
+
+/// A verdict with all that is to be told of it.
+#[derive(Drop)]
+pub enum Reading<'a> {
+    /// No rule is broken.
+    Valid(Checked<'a>),
+    /// The words spell no list of instructions. The place is that of the first word of the instruction that fails.
+    Malformed {
+        fault: Fault,
+        place: u32,
+    },
+    /// The first rule that a module breaks, and what shows it.
+    Broken {
+        fault: Fault,
+        evidence: Evidence,
+        module: Module<'a>,
+    },
+}
+
+/// The place of the first word of an instruction among the words of an image: the instructions before it tell how many words they have.
+fn first_word(image: &Image, inst: u32) -> u32 {
+    let mut at = 5u32;
+    for _ in 0..inst {
+        if at >= image.len() {
+            return at;
+        }
+        at = at.saturating_add(word(image, at) >> 16);
+    }
+    at
+}
+
+/// The opcode that a word tells, 0 where there is no such word.
+fn opcode_at(image: &Image, place: u32) -> u16 {
+    if place < image.len() {
+        (word(image, place) & 0xffff) as u16
+    } else {
+        0
+    }
+}
+
+/// Reads the words of a module as `explain` does, and keeps what was read.
+///
+/// `Memory` comes only where a growth of memory was refused.
+pub fn reading_of<'a>(
+    alloc: Global,
+    table: &Table,
+    image: &'a Image,
+) -> Result<Reading<'a>, Memory> {
+    word_counts();
+    let module = match decode(alloc, table, image) {
+        Ok(module) => module,
+        Err(Stop::Fault(fault)) => {
+            return Ok(Reading::Malformed {
+                fault,
+                place: first_word(image, fault.inst),
+            });
+        }
+        Err(Stop::Memory) => return Err(Memory),
+    };
+    match judge(alloc, table, module)? {
+        Judged::Valid(checked) => Ok(Reading::Valid(checked)),
+        Judged::Fault {
+            fault,
+            evidence,
+            module,
+        } => Ok(Reading::Broken {
+            fault,
+            evidence,
+            module,
+        }),
+    }
+}
+
+/// The verdict on the words of a module, under a grammar table, just as `check` answers it; and of a fault what shows that the rule is broken there.
+/// A fault of the stages D to G always comes with evidence that shows it by itself. Of a fault of the stages I, P and L the evidence is
+/// the opcode of the instruction.
+///
+/// Time is linear in the words of the module besides what `check` takes, and at most as much again.
+///
+/// `Memory` comes only where a growth of memory was refused.
+pub fn explain<'a>(
+    alloc: Global,
+    table: &Table,
+    image: &'a Image,
+) -> Result<Explained<'a>, Memory> {
+    match reading_of(alloc, table, image)? {
+        Reading::Valid(checked) => Ok(Explained::Valid(checked)),
+        Reading::Malformed { fault, place } => Ok(Explained::Fault(
+            fault,
+            Evidence::Opcode {
+                opcode: opcode_at(image, place),
+            },
+        )),
+        Reading::Broken {
+            fault,
+            evidence,
+            ..
+        } => Ok(Explained::Fault(fault, evidence)),
+    }
+}
