@@ -1,3 +1,5 @@
 pub mod Evidence
 pub mod Explained
+pub mod Lines
+pub mod Stream
 pub mod inner

@@ -1,10 +1,15 @@
 //! The lines that tell a fault to a person.
+ghost use Rattle.std.specs.Prelude.{◌≡◌, ◌++◌, [], ◌∷◌, decimal, flat_map, option_map, slice_get, string_bytes, OnOk};
+ghost use Rattle.spv_module.specs.Module.{plain_inst, plain_insts, plain_operand};
+ghost use Rattle.spv_reasons.specs.Lines as lines;
+ghost use Rattle.spv_reasons.specs.inner.Adding.{Adds};
+ghost use Rattle.spv_reasons.specs.Lines.{id_part, inst_begin, number_part, operand_at, operand_part, result_part};
 
 use crate::context::alone;
 use itoa::Buffer;
 use spv_inst::{EncodeCode, EncodeError};
 use spv_module::{Inst, Module, Operand};
-use spv_table::{NameList, Table};
+use spv_table::{Memory, NameList, Table};
 use spv_text::show;
 use std::alloc::{AllocError, Global};
 
@@ -23,41 +28,68 @@ pub struct About<'m, 'a> {
 }
 
 /// Adds a number in decimal.
-pub fn push_number(out: &mut String, number: u32) -> Result<(), AllocError> {
+pub fn push_number(out: &mut String, number: u32) -> Result<(), AllocError>
+    ensures { OnOk result (string_bytes out.new ≡ string_bytes out.old ++ decimal number) }
+{
     let mut buffer = Buffer::new();
     out.push_str(buffer.format(number))
 }
 
 /// Adds a space and an id, as ` %7`.
-pub fn push_id(out: &mut String, id: u32) -> Result<(), AllocError> {
+pub fn push_id(out: &mut String, id: u32) -> Result<(), AllocError>
+    ensures { OnOk result (string_bytes out.new ≡ string_bytes out.old ++ id_part id) }
+{
     out.push_str(" %")?;
     push_number(out, id)
 }
 
-/// Adds an operand, if it is an id or a number: a space and its text.
-fn push_operand(out: &mut String, operand: Operand<'_>) -> Result<(), AllocError> {
+/// Adds a space and a number.
+fn push_spaced(out: &mut String, number: u32) -> Result<(), AllocError>
+    ensures { OnOk result (string_bytes out.new ≡ string_bytes out.old ++ number_part number) }
+{
+    out.push_str(" ")?;
+    push_number(out, number)
+}
+
+/// Adds a space and an operand, if there is one that is an id or a number.
+fn push_operand(out: &mut String, operand: Option<Operand<'_>>) -> Result<(), AllocError>
+    ensures { OnOk result (string_bytes out.new ≡ string_bytes out.old ++ operand_part (option_map plain_operand operand.entry)) }
+{
     match operand {
-        Operand::OfType(id) | Operand::Result(id) | Operand::Id(id) => push_id(out, id),
-        Operand::Word(number)
-        | Operand::Value { value: number, .. }
-        | Operand::Mask { value: number, .. } => {
-            out.push_str(" ")?;
-            push_number(out, number)
-        }
+        Some(Operand::OfType(id)) => push_id(out, id),
+        Some(Operand::Result(id)) => push_id(out, id),
+        Some(Operand::Id(id)) => push_id(out, id),
+        Some(Operand::Word(number)) => push_spaced(out, number),
+        Some(Operand::Value { value, .. }) => push_spaced(out, value),
+        Some(Operand::Mask { value, .. }) => push_spaced(out, value),
         _ => Ok(()),
     }
 }
 
 /// Adds a line of a text.
-pub fn text_line(out: &mut String, key: &str, text: &str) -> Result<(), AllocError> {
+pub fn text_line(out: &mut String, key: &str, text: &str) -> Result<(), AllocError>
+    ensures { OnOk result (Adds [] (string_bytes out.old) (string_bytes out.new)) }
+{
     out.push_str(key)?;
     out.push_str(": ")?;
     out.push_str(text)?;
     out.push_str("\n")
 }
 
+/// Adds a line for each line of a module's text after those of its header.
+fn text_lines(out: &mut String, key: &str, text: &str) -> Result<(), AllocError>
+    ensures { OnOk result (Adds [] (string_bytes out.old) (string_bytes out.new)) }
+{
+    for line in text.lines().skip(HEADER_LINES) {
+        text_line(out, key, line)?;
+    }
+    Ok(())
+}
+
 /// Adds a line of a number.
-pub fn number_line(out: &mut String, key: &str, number: u32) -> Result<(), AllocError> {
+pub fn number_line(out: &mut String, key: &str, number: u32) -> Result<(), AllocError>
+    ensures { OnOk result (Adds [] (string_bytes out.old) (string_bytes out.new)) }
+{
     out.push_str(key)?;
     out.push_str(": ")?;
     push_number(out, number)?;
@@ -74,23 +106,56 @@ fn last_line(text: &str) -> &str {
 
 impl<'m, 'a> About<'m, 'a> {
     /// The instruction of that number.
-    pub fn inst(&self, inst: u32) -> Option<&'m Inst<'a>> {
+    pub fn inst(&self, inst: u32) -> Option<&'m Inst<'a>>
+        ensures { option_map (λ i. plain_inst i.now) result ≡ slice_get (plain_insts self.now.«module».now) inst }
+    {
         self.module.insts.as_slice().get(inst as usize)
     }
 
-    /// Adds a space and the result of an instruction, if it has one.
-    pub fn push_result(&self, out: &mut String, inst: u32) -> Result<(), AllocError> {
+    /// The result of an instruction, if it has one.
+    fn result_of(&self, inst: u32) -> Option<u32>
+        ensures { result ≡ lines.result_of (plain_insts self.now.«module».now) inst }
+    {
         match self.inst(inst) {
-            Some(at) => match at.result_id() {
-                Some(id) => push_id(out, id),
-                None => Ok(()),
-            },
+            Some(inst) => inst.result_id(),
+            None => None,
+        }
+    }
+
+    /// The operand of that number of an instruction.
+    fn operand_of(&self, inst: u32, number: u32) -> Option<Operand<'a>>
+        ensures { option_map plain_operand result ≡ operand_at (plain_insts self.now.«module».now) inst number }
+    {
+        match self.inst(inst) {
+            Some(inst) => inst.operands.as_slice().get(number as usize).copied(),
+            None => None,
+        }
+    }
+
+    /// Adds a space and the result of an instruction, if it has one.
+    pub fn push_result(&self, out: &mut String, inst: u32) -> Result<(), AllocError>
+        ensures { OnOk result (string_bytes out.new ≡ string_bytes out.old ++ result_part (plain_insts self.now.«module».now) inst) }
+    {
+        match self.result_of(inst) {
+            Some(id) => push_id(out, id),
             None => Ok(()),
         }
     }
 
+    /// Adds the results of instructions, each after a space.
+    pub fn push_results(&self, out: &mut String, insts: &[u32]) -> Result<(), AllocError>
+        ensures { OnOk result (string_bytes out.new ≡ string_bytes out.old ++ flat_map (result_part (plain_insts self.now.«module».now)) insts.now) }
+    {
+        for inst in insts {
+            self.push_result(out, *inst)?;
+        }
+        Ok(())
+    }
+
     /// Adds a space and an instruction as `show` writes it. Nothing where it has no text by itself.
-    pub fn push_inst(&self, out: &mut String, inst: u32) -> Result<(), AllocError> {
+    pub fn push_inst(&self, out: &mut String, inst: u32) -> Result<(), AllocError>
+        ensures { OnOk result (Adds [] (string_bytes out.old) (string_bytes out.new)) }
+    {
         let Ok(small) = alone(self.alloc, self.module, inst as usize) else {
             return Err(AllocError);
         };
@@ -104,7 +169,9 @@ impl<'m, 'a> About<'m, 'a> {
     }
 
     /// Adds a line of an instruction, with its number.
-    pub fn inst_line(&self, out: &mut String, key: &str, inst: u32) -> Result<(), AllocError> {
+    pub fn inst_line(&self, out: &mut String, key: &str, inst: u32) -> Result<(), AllocError>
+        ensures { OnOk result (Adds (inst_begin key.now inst ∷ []) (string_bytes out.old) (string_bytes out.new)) }
+    {
         out.push_str(key)?;
         out.push_str(": inst ")?;
         push_number(out, inst)?;
@@ -114,34 +181,29 @@ impl<'m, 'a> About<'m, 'a> {
     }
 
     /// Adds a line of the results of instructions.
-    pub fn results_line(
-        &self,
-        out: &mut String,
-        key: &str,
-        insts: &[u32],
-    ) -> Result<(), AllocError> {
+    pub fn results_line(&self, out: &mut String, key: &str, insts: &[u32]) -> Result<(), AllocError>
+        ensures { OnOk result (string_bytes out.new ≡ string_bytes out.old ++ lines.results_line (plain_insts self.now.«module».now) key.now insts.now) }
+    {
         out.push_str(key)?;
         out.push_str(":")?;
-        for inst in insts {
-            self.push_result(out, *inst)?;
-        }
+        self.push_results(out, insts)?;
         out.push_str("\n")
     }
 
     /// Adds the line of an operand of an instruction, with its number.
-    pub fn operand_line(&self, out: &mut String, inst: u32, number: u32) -> Result<(), AllocError> {
+    pub fn operand_line(&self, out: &mut String, inst: u32, number: u32) -> Result<(), AllocError>
+        ensures { OnOk result (string_bytes out.new ≡ string_bytes out.old ++ lines.operand_line (plain_insts self.now.«module».now) inst number) }
+    {
         out.push_str("operand: ")?;
         push_number(out, number)?;
-        if let Some(inst) = self.inst(inst) {
-            if let Some(operand) = inst.operands.as_slice().get(number as usize) {
-                push_operand(out, *operand)?;
-            }
-        }
+        push_operand(out, self.operand_of(inst, number))?;
         out.push_str("\n")
     }
 
     /// Adds the name of an opcode, or its number where the grammar has none.
-    pub fn push_opcode(&self, out: &mut String, opcode: u16) -> Result<(), AllocError> {
+    pub fn push_opcode(&self, out: &mut String, opcode: u16) -> Result<(), AllocError>
+        ensures { OnOk result (Adds [] (string_bytes out.old) (string_bytes out.new)) }
+    {
         match self.table.entry(opcode) {
             Some(entry) => {
                 out.push_str(" ")?;
@@ -155,7 +217,9 @@ impl<'m, 'a> About<'m, 'a> {
     }
 
     /// Adds a space and the name of a value of a kind, or its number where the grammar has none.
-    pub fn push_value(&self, out: &mut String, kind: &str, value: u32) -> Result<(), AllocError> {
+    pub fn push_value(&self, out: &mut String, kind: &str, value: u32) -> Result<(), AllocError>
+        ensures { OnOk result (Adds [] (string_bytes out.old) (string_bytes out.new)) }
+    {
         out.push_str(" ")?;
         let name = match self.table.kind_named(kind) {
             Some(kind) => self.table.enumerant(kind, value),
@@ -174,14 +238,12 @@ impl<'m, 'a> About<'m, 'a> {
         key: &str,
         inst: u32,
         number: u32,
-    ) -> Result<(), AllocError> {
+    ) -> Result<(), AllocError>
+        ensures { OnOk result (Adds [] (string_bytes out.old) (string_bytes out.new)) }
+    {
         out.push_str(key)?;
         out.push_str(":")?;
-        if let Some(inst) = self.inst(inst) {
-            if let Some(operand) = inst.operands.as_slice().get(number as usize) {
-                push_operand(out, *operand)?;
-            }
-        }
+        push_operand(out, self.operand_of(inst, number))?;
         out.push_str("\n")
     }
 
@@ -208,14 +270,29 @@ impl<'m, 'a> About<'m, 'a> {
     /// Of each id below the bound the number of the first instruction that has it as its result, or the greatest number.
     pub fn definitions(&self) -> Result<Vec<u32>, AllocError> {
         let mut found = vec![in self.alloc; u32::MAX; self.module.header.bound as usize]?;
-        for (at, inst) in self.module.insts.iter().enumerate() {
+        let mut at = 0u32;
+        for inst in &self.module.insts {
             if let Some(id) = inst.result_id() {
                 if let Some(place) = found.get_mut(id as usize) {
-                    *place = (*place).min(at as u32);
+                    *place = (*place).min(at);
+                }
+            }
+            at = at.saturating_add(1);
+        }
+        Ok(found)
+    }
+
+    /// A small module of the instructions that have these ids as results.
+    fn gathered(&self, ids: &[u32], definitions: &[u32]) -> Result<Module<'a>, Memory> {
+        let mut small = Module::new(self.alloc, self.module.header);
+        for id in ids {
+            if let Some(place) = definitions.get(*id as usize) {
+                if let Some(inst) = self.inst(*place) {
+                    small.push(inst.opcode, inst.operands.as_slice())?;
                 }
             }
         }
-        Ok(found)
+        Ok(small)
     }
 
     /// Adds a line for each id: the instruction that has it as its result.
@@ -225,28 +302,22 @@ impl<'m, 'a> About<'m, 'a> {
         key: &str,
         ids: &[u32],
         definitions: &[u32],
-    ) -> Result<(), AllocError> {
-        let mut small = Module::new(self.alloc, self.module.header);
-        for id in ids {
-            if let Some(place) = definitions.get(*id as usize) {
-                if let Some(inst) = self.inst(*place) {
-                    if small.push(inst.opcode, inst.operands.as_slice()).is_err() {
-                        return Err(AllocError);
-                    }
-                }
-            }
-        }
-        let Some(text) = self.shown(&small)? else {
-            return Ok(());
+    ) -> Result<(), AllocError>
+        ensures { OnOk result (Adds [] (string_bytes out.old) (string_bytes out.new)) }
+    {
+        let Ok(small) = self.gathered(ids, definitions) else {
+            return Err(AllocError);
         };
-        for line in text.as_str().lines().skip(HEADER_LINES) {
-            text_line(out, key, line)?;
+        match self.shown(&small)? {
+            Some(text) => text_lines(out, key, text.as_str()),
+            None => Ok(()),
         }
-        Ok(())
     }
 
     /// Adds a line of the instruction that has an id as its result.
-    pub fn definition_line(&self, out: &mut String, key: &str, id: u32) -> Result<(), AllocError> {
+    pub fn definition_line(&self, out: &mut String, key: &str, id: u32) -> Result<(), AllocError>
+        ensures { OnOk result (Adds [] (string_bytes out.old) (string_bytes out.new)) }
+    {
         let found = self
             .module
             .insts

@@ -9,9 +9,7 @@ const SWITCH: u16 = 251;
 
 /// The last instruction before `end` that has the id as its result.
 fn last_before(insts: &[Inst<'_>], end: usize, id: u32) -> Option<usize> {
-    let mut at = end.min(insts.len());
-    while at > 0 {
-        at -= 1;
+    for at in (0..end.min(insts.len())).rev() {
         if insts[at].result_id() == Some(id) {
             return Some(at);
         }

@@ -16,30 +16,30 @@ fn is_terminator(opcode: u16) -> bool {
 
 /// The number of the OpFunction whose function an instruction is of.
 pub fn function_of(insts: &[Inst<'_>], inst: u32) -> Option<u32> {
-    let mut at = inst as usize;
-    while at < insts.len() {
-        if insts[at].opcode == FUNCTION {
-            return Some(at as u32);
+    let end = inst.saturating_add(1);
+    for at in (0..end).rev() {
+        let before = insts.get(at as usize)?;
+        if before.opcode == FUNCTION {
+            return Some(at);
         }
-        if at == 0 || insts[at - 1].opcode == FUNCTION_END {
+        if before.opcode == FUNCTION_END && at < inst {
             return None;
         }
-        at -= 1;
     }
     None
 }
 
 /// The number of the OpLabel whose block an instruction is of.
 pub fn block_of(insts: &[Inst<'_>], inst: u32) -> Option<u32> {
-    let mut at = inst as usize;
-    while at < insts.len() {
-        if insts[at].opcode == LABEL {
-            return Some(at as u32);
+    let end = inst.saturating_add(1);
+    for at in (0..end).rev() {
+        let before = insts.get(at as usize)?;
+        if before.opcode == LABEL {
+            return Some(at);
         }
-        if at == 0 || is_terminator(insts[at - 1].opcode) {
+        if is_terminator(before.opcode) && at < inst {
             return None;
         }
-        at -= 1;
     }
     None
 }

@@ -1,4 +1,8 @@
 //! The lines of evidence.
+ghost use Rattle.std.specs.Prelude.{[], ◌∷◌, string_bytes, OnOk};
+ghost use Rattle.spv_module.specs.Module.{plain_insts};
+ghost use Rattle.spv_reasons.specs.Lines.{told_of};
+ghost use Rattle.spv_reasons.specs.inner.Adding.{Adds};
 
 use crate::about::{About, number_line, text_line};
 use crate::needs::needs_of;
@@ -25,7 +29,9 @@ fn needed_line(
     out: &mut String,
     inst: u32,
     lister: Lister,
-) -> Result<(), AllocError> {
+) -> Result<(), AllocError>
+    ensures { OnOk result (Adds [] (string_bytes out.old) (string_bytes out.new)) }
+{
     out.push_str("needs one of:")?;
     let Some(at) = about.inst(inst) else {
         return out.push_str("\n");
@@ -56,7 +62,9 @@ fn needs_lines(
     out: &mut String,
     inst: u32,
     lister: Lister,
-) -> Result<(), AllocError> {
+) -> Result<(), AllocError>
+    ensures { OnOk result (Adds [] (string_bytes out.old) (string_bytes out.new)) }
+{
     match lister {
         Lister::Entry | Lister::Width => {}
         Lister::Value { operand } => about.operand_line(out, inst, operand)?,
@@ -69,7 +77,9 @@ fn needs_lines(
 }
 
 /// Adds the line of a broken part of E2.
-fn entry_line(about: About<'_, '_>, out: &mut String, part: EntryPart) -> Result<(), AllocError> {
+fn entry_line(about: About<'_, '_>, out: &mut String, part: EntryPart) -> Result<(), AllocError>
+    ensures { OnOk result (Adds [] (string_bytes out.old) (string_bytes out.new)) }
+{
     match part {
         EntryPart::Model => text_line(out, "part", "the execution model is not Kernel"),
         EntryPart::Declared => text_line(out, "part", "the function is a declaration"),
@@ -87,7 +97,9 @@ fn types_lines(
     out: &mut String,
     of_result: Option<u32>,
     values: &[Typed],
-) -> Result<(), AllocError> {
+) -> Result<(), AllocError>
+    ensures { OnOk result (Adds [] (string_bytes out.old) (string_bytes out.new)) }
+{
     let definitions = about.definitions()?;
     let mut types = Vec::new(about.alloc);
     if let Some(id) = of_result {
@@ -106,7 +118,9 @@ fn same_line(
     key: &str,
     side: Side,
     what: Option<u32>,
-) -> Result<(), AllocError> {
+) -> Result<(), AllocError>
+    ensures { OnOk result (Adds [] (string_bytes out.old) (string_bytes out.new)) }
+{
     match (side, what) {
         (_, None) => text_line(out, key, "nothing"),
         (Side::Number, Some(count)) => number_line(out, key, count),
@@ -115,7 +129,9 @@ fn same_line(
 }
 
 /// Adds the line of the place where two things are to be the same.
-fn side_line(about: About<'_, '_>, out: &mut String, side: Side) -> Result<(), AllocError> {
+fn side_line(about: About<'_, '_>, out: &mut String, side: Side) -> Result<(), AllocError>
+    ensures { OnOk result (Adds [] (string_bytes out.old) (string_bytes out.new)) }
+{
     match side {
         Side::Function => text_line(out, "place", "function type"),
         Side::Return => text_line(out, "place", "return type"),
@@ -131,7 +147,9 @@ fn operand_lines(
     out: &mut String,
     inst: u32,
     evidence: &Evidence,
-) -> Result<(), AllocError> {
+) -> Result<(), AllocError>
+    ensures { OnOk result (Adds (told_of (plain_insts about.entry.«module».now) inst evidence.now) (string_bytes out.old) (string_bytes out.new)) }
+{
     match evidence {
         Evidence::Operand { operand } => about.operand_line(out, inst, *operand),
         Evidence::Defined {
@@ -185,7 +203,9 @@ fn may_come_line(
     out: &mut String,
     opcodes: &[u32],
     end: bool,
-) -> Result<(), AllocError> {
+) -> Result<(), AllocError>
+    ensures { OnOk result (Adds [] (string_bytes out.old) (string_bytes out.new)) }
+{
     out.push_str("may come:")?;
     for opcode in opcodes {
         about.push_opcode(out, (*opcode & 0xffff) as u16)?;
@@ -220,7 +240,9 @@ pub fn evidence_lines(
     out: &mut String,
     inst: u32,
     evidence: &Evidence,
-) -> Result<(), AllocError> {
+) -> Result<(), AllocError>
+    ensures { OnOk result (Adds (told_of (plain_insts about.entry.«module».now) inst evidence.now) (string_bytes out.old) (string_bytes out.new)) }
+{
     match evidence {
         Evidence::Opcode { opcode }
         | Evidence::Due { opcode, .. }
