@@ -27,7 +27,10 @@ memory_is (o ∷ []) k m e s = absurd (none_is (Value k m) e)
 memory_is (o ∷ p ∷ os) k m e s = let q : p ≡ Value k m = cc in subst (λ (x : Plain). HasMemory (o ∷ x ∷ os)) (sym q) s
 
 pub other_addressing : (os : List Plain) → ¬ (HasAddressing os) → IsOtherModel os 0
-other_addressing os h = IsOtherModel.addressing (λ k a e. (λ p. h (addressing_is os k a e (inl p)), λ p. h (addressing_is os k a e (inr p))))
+other_addressing os h = IsOtherModel.addressing (λ k a e. (
+  λ p. h (addressing_is os k a e (inl p)),
+  λ p. h (addressing_is os k a e (inr p)),
+))
 
 pub other_memory : (os : List Plain) → ¬ (HasMemory os) → IsOtherModel os 1
 other_memory os h = IsOtherModel.memory (λ k m e p. h (memory_is os k m e p))

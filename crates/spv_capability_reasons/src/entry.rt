@@ -3,8 +3,9 @@
 ghost use Rattle.std.specs.Prelude.{◌≡◌, ◌↔◌, ◌≤◌, ◌<◌, ℕ, IsTrue, MatchOption, Some, length, map, slice_get};
 ghost use Rattle.spv_module.specs.Operand.{PlainInst};
 ghost use Rattle.spv_module.specs.Module.{plain_inst, plain_operands};
-ghost use Rattle.spv_capabilities.specs.Entry.{IsImported, IsKernelFunction, IsSoundEntry, IsSoundLinkage, called_by, entered_by, second_id};
 ghost use Rattle.spv_layout.specs.Place.{IsDefinition};
+ghost use Rattle.spv_capabilities.specs.Entry.{IsImported, IsKernelFunction, IsSoundEntry, IsSoundLinkage};
+ghost use Rattle.spv_capabilities.specs.Entry.{called_by, entered_by, second_id};
 ghost use Rattle.spv_capabilities.specs.Keeps.{KeepsEntries};
 ghost use Rattle.spv_capability_reasons.specs.Evidence.{IsUnsound};
 ghost use Rattle.spv_capability_reasons.specs.inner.Calls.{AreNoCalls, IsCallOf};
@@ -126,7 +127,8 @@ fn entry_part(survey: &Survey<'_, '_>, insts: &[Inst<'_>], operands: &[Operand<'
 /// Whether the OpFunction of a number is that of a definition, and is imported.
 fn is_imported_definition(survey: &Survey<'_, '_>, number: u32) -> bool
     requires { number < length survey.now.insts }
-    ensures { IsTrue result ↔ (IsImported survey.now.table survey.now.insts number × IsDefinition survey.now.insts number) }
+    ensures { IsTrue result ↔
+        (IsImported survey.now.table survey.now.insts number × IsDefinition survey.now.insts number) }
 {
     survey.is_imported(number) && survey.is_definition(number)
 }

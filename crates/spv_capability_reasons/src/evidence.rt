@@ -48,11 +48,11 @@ fn evidence_at(
     }
 }
 
-/// The evidence for the rule C1, C2, M1, E1 or E2 that is broken at the instruction of a number, from 0. `plan` is what `lay_out`
-/// answered of that module, by some table, and `ids` what `number` answered.
+/// The evidence for the rule C1, C2, M1, E1 or E2 that is broken at the instruction of a number, from 0. `plan` is what
+/// `lay_out` answered of that module, by some table, and `ids` what `number` answered.
 ///
-/// Time is linear in the instructions, besides what the capabilities take that are declared, and what the operands of that
-/// instruction ask for.
+/// Time is linear in the instructions, besides what the capabilities take that are declared, and in the operands of that
+/// instruction.
 ///
 /// `Memory` comes only where a growth of memory was refused.
 pub fn capability_evidence(
@@ -67,7 +67,8 @@ pub fn capability_evidence(
     requires most { length (plain_insts «module».now) ≤ 4194304 }
     requires plan { (G : Table) × IsPlan G (plain_insts «module».now) plan.now }
     requires ids { (x : ℕ) → IsDefinitionOf (plain_insts «module».now) x (definition_in ids.now x) }
-    requires broken { (i : PlainInst) × (slice_get (plain_insts «module».now) inst ≡ Some i) × (¬ (Keeps table.now (plain_insts «module».now) rule inst i)) }
+    requires broken { (i : PlainInst) × (slice_get (plain_insts «module».now) inst ≡ Some i)
+        × (¬ (Keeps table.now (plain_insts «module».now) rule inst i)) }
     ensures { IfOk result (λ e. IsEvidence table.now (plain_insts «module».now) rule inst e) }
 {
     let insts = module.insts.as_slice();

@@ -22,7 +22,8 @@ const KERNEL: u32 = 6;
 /// The evidence for C1: that the module has Shader, or that it has not Kernel.
 pub fn capability(survey: &Survey<'_, '_>) -> Evidence
     requires { ¬ (IsKernel survey.now.table survey.now.insts) }
-    ensures { (n : ℕ) → HasOpcode survey.now.insts n 14 → IsEvidence survey.now.table survey.now.insts rule.C1 n result }
+    ensures { (n : ℕ) → HasOpcode survey.now.insts n 14
+        → IsEvidence survey.now.table survey.now.insts rule.C1 n result }
 {
     if survey.has(SHADER) {
         Evidence::Capability {

@@ -4,7 +4,8 @@ ghost use Rattle.std.specs.Prelude.{◌≡◌, ◌<◌, ◌/◌, ◌%◌, ◌^�
 ghost use Rattle.std.specs.List.{AllByRecursion};
 ghost use Rattle.spv_module.specs.Operand.{PlainInst, Value, Mask};
 ghost use Rattle.spv_module.specs.Module.{plain_inst, plain_operand, plain_operands};
-ghost use Rattle.spv_capabilities.specs.Capable.{IsCapable, IsCoveredValue, IsCoveredMask, IsCoveredOperand, IsOtherKind};
+ghost use Rattle.spv_capabilities.specs.Capable.{IsCapable, IsOtherKind};
+ghost use Rattle.spv_capabilities.specs.Capable.{IsCoveredValue, IsCoveredMask, IsCoveredOperand};
 ghost use Rattle.spv_capability_reasons.specs.Evidence.{IsUncovered};
 ghost use Rattle.spv_capability_reasons.specs.inner.Bits.{IsSet, IsUncoveredAt, IsUncoveredBit};
 
@@ -23,7 +24,8 @@ fn is_set(mask: u32, position: u32) -> bool
 /// The bit at a position, if a mask has it and its enumerant is not covered.
 fn uncovered_at(survey: &Survey<'_, '_>, kind: u32, mask: u32, position: u32) -> Option<u32>
     requires { position < 32 }
-    ensures { MatchOption result (IsSet mask position → IsCoveredValue survey.now.table survey.now.insts kind (2 ^ position))
+    ensures { MatchOption result
+        (IsSet mask position → IsCoveredValue survey.now.table survey.now.insts kind (2 ^ position))
         (IsUncoveredAt survey.now.table survey.now.insts kind mask position) }
 {
     let bit = 1 << position;
@@ -49,7 +51,8 @@ fn uncovered_bit(survey: &Survey<'_, '_>, kind: u32, mask: u32) -> Option<u32>
 
 /// The operand of a number, if it is a value that is not covered.
 fn uncovered_value(survey: &Survey<'_, '_>, operand: u32, kind: u32, value: u32) -> Option<Lister>
-    ensures { MatchOption result (IsOtherKind survey.now.table kind → IsCoveredValue survey.now.table survey.now.insts kind value)
+    ensures { MatchOption result
+        (IsOtherKind survey.now.table kind → IsCoveredValue survey.now.table survey.now.insts kind value)
         (λ l. (i : PlainInst) → slice_get i.operands operand ≡ Some (Value kind value)
         → IsUncovered survey.now.table survey.now.insts i l) }
 {
@@ -64,7 +67,8 @@ fn uncovered_value(survey: &Survey<'_, '_>, operand: u32, kind: u32, value: u32)
 
 /// The operand of a number with one of its bits, if it is a mask with a bit that is not covered.
 fn uncovered_mask(survey: &Survey<'_, '_>, operand: u32, kind: u32, mask: u32) -> Option<Lister>
-    ensures { MatchOption result (IsOtherKind survey.now.table kind → IsCoveredMask survey.now.table survey.now.insts kind mask)
+    ensures { MatchOption result
+        (IsOtherKind survey.now.table kind → IsCoveredMask survey.now.table survey.now.insts kind mask)
         (λ l. (i : PlainInst) → slice_get i.operands operand ≡ Some (Mask kind mask)
         → IsUncovered survey.now.table survey.now.insts i l) }
 {
@@ -92,7 +96,7 @@ fn uncovered_at_operand(
     }
 }
 
-/// The first operand that is not covered, or the first bit of it.
+/// The first operand that is not covered: a value, or a mask with its first bit that is not.
 fn uncovered_operand(survey: &Survey<'_, '_>, operands: &[Operand<'_>]) -> Option<Lister>
     requires { length operands.now < 4294967296 }
     ensures { MatchOption result

@@ -21,7 +21,9 @@ loop-number-preserved c =
     let i = c.index-insts-number.result in
     let l : c.loop-number.number < length c.args.insts.now = omega arith in
     let t = inst_there c.args.insts.now c.loop-number.number i l c.index-insts-number.is in
-    one_more (map plain_inst c.args.insts.now) c.args.function c.loop-number.number (plain_inst i) c.loop-number.invariant t (iff_false c.calls.ensures c.if-calls.false)
+    let not = iff_false c.calls.ensures c.if-calls.false in
+    let is = map plain_inst c.args.insts.now in
+    one_more is c.args.function c.loop-number.number (plain_inst i) c.loop-number.invariant t not
 
 pub returns : goal.returns
 returns c =

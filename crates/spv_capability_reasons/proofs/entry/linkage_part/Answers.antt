@@ -14,5 +14,6 @@ pub returns-else-is_imported_definition : goal.returns-else-is_imported_definiti
 returns-else-is_imported_definition c = λ i o.
     let P = IsImported c.args.survey.now.table c.args.survey.now.insts c.args.number in
     let Q = IsDefinition c.args.survey.now.insts c.args.number in
-    let neither = not_linked P Q c.requires.broken (iff_false c.is_imported_definition.ensures c.if-is_imported_definition.false) in
+    let not = iff_false c.is_imported_definition.ensures c.if-is_imported_definition.false in
+    let neither = not_linked P Q c.requires.broken not in
     IsUnsound.missing o neither.0 neither.1

@@ -8,7 +8,10 @@ pub loop-position-init : goal.loop-position-init
 loop-position-init c = all_bits c.args.survey.now.table c.args.survey.now.insts c.args.kind c.args.mask
 
 pub returns-in-Some : goal.returns-in-Some
-returns-in-Some c = bit_found c.args.survey.now.table c.args.survey.now.insts c.args.kind c.args.mask c.loop-position.position c.in-Some.bit c.loop-position-test.true c.in-Some.ensures
+returns-in-Some c =
+    let s = c.args.survey.now in
+    let p = c.loop-position.position in
+    bit_found s.table s.insts c.args.kind c.args.mask p c.in-Some.bit c.loop-position-test.true c.in-Some.ensures
 
 pub loop-position-preserved : goal.loop-position-preserved
 loop-position-preserved c =

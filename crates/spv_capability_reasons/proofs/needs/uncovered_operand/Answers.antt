@@ -12,7 +12,10 @@ loop-number-preserved c =
     let n = c.loop-number.number in
     let o : Operand = OfType 0 in
     let t = operand_there c.args.operands.now n o c.loop-number-test.true in
-    one_more c.args.survey.now.table c.args.survey.now.insts (plain_operands c.args.operands.now) n (plain_operand (get_or c.args.operands.now n o)) c.loop-number.invariant t c.in_default.ensures
+    let s = c.args.survey.now in
+    let os = plain_operands c.args.operands.now in
+    let p = plain_operand (get_or c.args.operands.now n o) in
+    one_more s.table s.insts os n p c.loop-number.invariant t c.in_default.ensures
 
 pub returns : goal.returns
 returns c =
