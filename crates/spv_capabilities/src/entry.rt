@@ -68,7 +68,7 @@ fn is_void(survey: &Survey<'_, '_>, id: u32) -> bool
 }
 
 /// Whether the result type of a function is void.
-fn returns_void(survey: &Survey<'_, '_>, function: u32) -> bool
+pub fn returns_void(survey: &Survey<'_, '_>, function: u32) -> bool
     requires { function < length survey.now.insts }
     ensures { IsTrue result ↔ ReturnsVoid survey.now.insts function }
 {

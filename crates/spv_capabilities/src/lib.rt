@@ -10,4 +10,7 @@ pub mod laws;
 mod memo;
 mod surveyed;
 
+pub use capable::{is_capability_kind, is_covered_entry, is_covered_value};
 pub use entries::{Entries, survey};
+pub use entry::returns_void;
+pub use surveyed::Survey;

@@ -1,0 +1,6 @@
+pub mod Suffices
+pub mod Worked
+pub mod Models
+pub mod Needed
+pub mod Calling
+pub mod Ruled

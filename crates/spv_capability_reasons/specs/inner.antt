@@ -1,0 +1,5 @@
+-- Definitions that serve the code alone.
+pub mod Models
+pub mod Bits
+pub mod Operands
+pub mod Calls
