@@ -1,0 +1,5 @@
+pub mod Blocks
+pub mod Sufficing
+pub mod Looking
+pub mod Naming
+pub mod Known

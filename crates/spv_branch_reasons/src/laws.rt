@@ -1,0 +1,27 @@
+//! That evidence suffices, and worked examples. Each function does nothing: its contract is what is proved.
+
+ghost use Rattle.std.specs.Prelude.{ℕ, List, [], ◌∷◌};
+ghost use Rattle.spv_table.specs.Table.{Table};
+ghost use Rattle.spv_module.specs.Operand.{PlainInst};
+ghost use Rattle.spv_module.specs.Example.{small};
+ghost use Rattle.spv_module.specs.declared.fault.Rule.{Rule};
+ghost use Rattle.spv_module.specs.declared.fault.Rule.TheVariants.{F3, F4};
+ghost use Rattle.spv_evidence.specs.declared.evidence.Evidence.{Evidence};
+ghost use Rattle.spv_evidence.specs.declared.evidence.Evidence.TheVariants.{Operand};
+ghost use Rattle.spv_branches.specs.Broken.{Broken};
+ghost use Rattle.spv_branches.specs.Example.{conditional, paired};
+ghost use Rattle.spv_branch_reasons.specs.Evidence.{IsEvidence};
+
+/// Evidence shows that the rule is broken at the instruction.
+pub fn suffices()
+    ensures { (G : Table) (is : List PlainInst) (r : Rule) (n : ℕ) (e : Evidence) → IsEvidence G is r n e → Broken G is r n }
+{}
+
+/// Small functions, under a small table.
+pub fn evidence_examples()
+    // An OpBranchConditional with the same label twice: its operand 2 shows it, and its operand 1 does not.
+    ensures same { IsEvidence small (conditional 9 2 2 ∷ []) F4 0 (Operand 2) }
+    ensures not_first { ¬ (IsEvidence small (conditional 9 2 2 ∷ []) F4 0 (Operand 1)) }
+    // Nothing shows that an OpPhi breaks F3 that names its predecessor.
+    ensures parents { (e : Evidence) → ¬ (IsEvidence small (paired 1) F3 4 e) }
+{}
