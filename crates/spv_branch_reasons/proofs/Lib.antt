@@ -3,3 +3,4 @@ pub mod Sufficing
 pub mod Looking
 pub mod Naming
 pub mod Known
+pub mod Worked

@@ -1,5 +1,5 @@
 -- Which operand of an OpPhi names which block, operand by operand.
-use Rattle.std.proofs.Common.{◌≡◌, ◌≢◌, ◌≤◌, ◌<◌, ◌+◌, ◌∙◌, ◌++◌, inl, inr, ℕ, List, Bool, true, false, Option, Some, None, length, set, take, drop, sym, ap, subst, arith}
+use Rattle.std.proofs.Common.{◌≡◌, ◌≢◌, ◌≤◌, ◌<◌, ◌+◌, ◌∙◌, ◌++◌, inl, inr, ℕ, List, Bool, true, false, Option, Some, None, length, set, take, sym, ap, subst, arith}
 use Rattle.std.specs.Prelude.{slice_get}
 use Rattle.std.proofs.Math.Seq.{take-append_seam}
 use Rattle.std.proofs.lemmas.Bool.{cases_lt, cases_eq, both_ways}
@@ -14,7 +14,7 @@ use Rattle.spv_ids.specs.Definition.{IsUsedAt}
 use Rattle.spv_branches.specs.declared.code.Code.{Code}
 use Rattle.spv_branches.specs.Code.{insts_of, IsCode}
 use Rattle.spv_branches.specs.Edges.{marked}
-use Rattle.spv_branches.specs.Target.{is_phi, IsOp, IsLabelOf, IsParentAt, HasParents, IsPredecessor}
+use Rattle.spv_branches.specs.Target.{is_phi, IsOp, IsLabelOf, IsParentAt, HasParents}
 use Rattle.spv_branches.proofs.Labelled.{use_in, use_within, one_id, one_label, one_parent}
 use Rattle.spv_evidence.specs.declared.evidence.Evidence.TheVariants.{MissingParent, NoPredecessor, Twice}
 use Rattle.spv_branch_reasons.specs.Evidence.{IsEvidence}

@@ -10,7 +10,8 @@ use Rattle.spv_ids.specs.Definition.{IsDefinedAt, IsUsedAt}
 use Rattle.spv_branches.specs.Target.{is_phi, is_merge, is_branch, is_conditional, IsOp}
 use Rattle.spv_branches.specs.Target.{IsLabelOf, IsPredecessor, IsParentAt, IsEntryLabel}
 use Rattle.spv_evidence.specs.declared.evidence.Evidence.{Evidence}
-use Rattle.spv_evidence.specs.declared.evidence.Evidence.TheVariants.{Operand, Defined, MissingParent, NoPredecessor, Twice}
+use Rattle.spv_evidence.specs.declared.evidence.Evidence.TheVariants.{Operand, Defined}
+use Rattle.spv_evidence.specs.declared.evidence.Evidence.TheVariants.{MissingParent, NoPredecessor, Twice}
 
 -- The evidence shows that the rule is broken at the instruction of that number.
 pub data IsEvidence (G : Table) (is : List PlainInst) : Rule → ℕ → Evidence → Type 0 where

@@ -19,13 +19,13 @@ use spv_layout::Plan;
 use spv_module::{Module, Rule};
 use std::alloc::{AllocError, Global};
 
-/// What shows that a rule of F1 to F4 is broken at an instruction, where `check_branches` told it. `plan` and `ids` are what
-/// `lay_out` and `number` answered of that module.
+/// What shows that a rule of F1 to F4 is broken at an instruction, where `check_branches` told it (SPIR-V Specification
+/// 1.6, sections 2.4 and 2.16). `plan` and `ids` are what `lay_out` and `number` answered of that module.
 ///
 /// - F1: the first operand that is a label of no OpLabel, and the instruction that defines its id.
 /// - F2: the first operand that is the label of an entry block.
-/// - F3: the first operand that names no predecessor, or one that an earlier operand names, with that operand; where there is
-///   none, the first predecessor that no operand names.
+/// - F3: the first operand that names no predecessor, or one that an earlier operand names, with that operand; where
+///   there is none, the first predecessor that no operand names.
 /// - F4: operand 2, the second label.
 ///
 /// Time is linear in the words of the module. F1 and F4 take no memory.
@@ -39,11 +39,14 @@ pub fn branch_evidence(
     rule: Rule,
     inst: u32,
 ) -> Result<Evidence, AllocError>
-    // The condition of `lay_out`; that the plan and the ids are what was answered, by some table; and that the rule is the first of these that is broken.
+    // The conditions of `check_branches`, and that this is the first broken rule and its instruction, by some table.
     requires words { 5 + sum_by word_count (plain_insts «module».now) ≤ 4194304 }
-    requires known { (G : Table) × IsPlan G (plain_insts «module».now) plan.now × AreIds G «module».now.header.bound (plain_insts «module».now) ids.now }
-    requires first { (G : Table) × IsPlan G (plain_insts «module».now) plan.now × IsFirst (Broken G (plain_insts «module».now)) 6 rule inst }
-    ensures { (G : Table) → IsPlan G (plain_insts «module».now) plan.now → IsFirst (Broken G (plain_insts «module».now)) 6 rule inst
+    requires known { (G : Table) × IsPlan G (plain_insts «module».now) plan.now
+        × AreIds G «module».now.header.bound (plain_insts «module».now) ids.now }
+    requires first { (G : Table) × IsPlan G (plain_insts «module».now) plan.now
+        × IsFirst (Broken G (plain_insts «module».now)) 6 rule inst }
+    ensures { (G : Table) → IsPlan G (plain_insts «module».now) plan.now
+        → IsFirst (Broken G (plain_insts «module».now)) 6 rule inst
         → IfOk result (λ e. IsEvidence G (plain_insts «module».now) rule inst e) }
 {
     let code = Code {

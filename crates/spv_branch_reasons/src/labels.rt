@@ -3,13 +3,12 @@
 ghost use Rattle.std.specs.Prelude.{◌≡◌, ◌<◌, ◌⊎◌, ℕ, length, MatchBool};
 ghost use Rattle.spv_table.specs.Table.{Table};
 ghost use Rattle.spv_module.specs.declared.fault.Rule.TheVariants as rule;
-ghost use Rattle.spv_ids.specs.Definition.{IsDefinedAt};
 ghost use Rattle.spv_branches.specs.Code.{insts_of, IsCode};
 ghost use Rattle.spv_branches.specs.Graph.{AreEntries, LacksLabel, LeadsToEntry};
-ghost use Rattle.spv_branches.specs.Target.{IsOp, IsEntryLabel};
+ghost use Rattle.spv_branches.specs.Target.{IsOp};
 ghost use Rattle.spv_branches.specs.Target as target;
 ghost use Rattle.spv_branch_reasons.specs.Evidence.{IsEvidence};
-ghost use Rattle.spv_branch_reasons.specs.inner.Known.{HasDefinitions};
+ghost use Rattle.spv_branch_reasons.specs.inner.Known.{HasDefinitions, IsEntryId};
 
 use spv_branches::{Code, label};
 use spv_evidence::Evidence;
@@ -41,7 +40,8 @@ pub fn label_evidence(code: &Code<'_, '_>, at: u32) -> Evidence
 fn is_entry(code: &Code<'_, '_>, entries: &[bool], id: u32) -> bool
     requires count { length entries.now ≡ length code.now.insts.now }
     requires entries { AreEntries (insts_of code.now) entries.now (length code.now.insts.now) }
-    ensures { (G : Table) → IsCode G code.now → MatchBool result ((m : ℕ) × IsDefinedAt (insts_of code.now) id m × IsEntryLabel (insts_of code.now) m) ((m : ℕ) → IsDefinedAt (insts_of code.now) id m → ¬ (IsEntryLabel (insts_of code.now) m)) }
+    ensures { (G : Table) → IsCode G code.now
+        → MatchBool result (IsEntryId (insts_of code.now) id) (¬ (IsEntryId (insts_of code.now) id)) }
 {
     match code.label_of(id) {
         Some(target) => entries[target as usize],

@@ -28,7 +28,8 @@ fn predecessors(alloc: Global, code: &Code<'_, '_>, block: u32) -> Result<Vec<bo
     requires code { (G : Table) × IsCode G code.now }
     requires block { block < length code.now.insts.now }
     ensures count { IfOk result (λ v. length v.items ≡ length code.now.insts.now) }
-    ensures marks { IfOk result (λ v. (G : Table) → IsCode G code.now → ArePredecessors G (insts_of code.now) block v.items) }
+    ensures marks { IfOk result (λ v. (G : Table) → IsCode G code.now
+        → ArePredecessors G (insts_of code.now) block v.items) }
 {
     let edges = edges_for(alloc, code, true)?;
     let mut marks = no_marks(alloc, code.insts.len())?;
@@ -36,8 +37,8 @@ fn predecessors(alloc: Global, code: &Code<'_, '_>, block: u32) -> Result<Vec<bo
     Ok(marks)
 }
 
-/// The first pair of an OpPhi whose parent is no predecessor of its block, or was named before. `names` has of each block the
-/// operand that names it: none before, and where no pair is wrong, all after.
+/// The first pair of an OpPhi whose parent is no predecessor of its block, or was named before. `names` has of each
+/// block the operand that names it: none before, and where no pair is wrong, all after.
 fn wrong_pair(
     code: &Code<'_, '_>,
     predecessors: &[bool],
@@ -49,8 +50,10 @@ fn wrong_pair(
     requires marks { length predecessors.now ≡ length code.now.insts.now }
     requires names { length names.old ≡ length code.now.insts.now }
     requires none { (p : ℕ) → name_of names.old p ≡ None }
-    ensures { (G : Table) (block : ℕ) → IsCode G code.now → IsOfBlock (insts_of code.now) at block → ArePredecessors G (insts_of code.now) block predecessors.now
-        → MatchOption result (HasNames G (insts_of code.now) at predecessors.now names.new) (λ e. IsEvidence G (insts_of code.now) rule.F3 at e) }
+    ensures { (G : Table) (block : ℕ) → IsCode G code.now → IsOfBlock (insts_of code.now) at block
+        → ArePredecessors G (insts_of code.now) block predecessors.now
+        → MatchOption result (HasNames G (insts_of code.now) at predecessors.now names.new)
+        (λ e. IsEvidence G (insts_of code.now) rule.F3 at e) }
 {
     let inst = &code.insts[at as usize];
     for k in 0..inst.operands.as_slice().len() {
@@ -76,7 +79,8 @@ fn wrong_pair(
 fn unnamed(predecessors: &[bool], names: &[Option<u32>]) -> Option<u32>
     requires few { length predecessors.now ≤ 4194304 }
     requires count { length names.now ≡ length predecessors.now }
-    ensures { MatchOption result ((p : ℕ) → marked predecessors.now p ≡ true → ¬ (name_of names.now p ≡ None)) (λ p. (marked predecessors.now p ≡ true) × (name_of names.now p ≡ None)) }
+    ensures { MatchOption result ((p : ℕ) → marked predecessors.now p ≡ true → ¬ (name_of names.now p ≡ None))
+        (λ p. (marked predecessors.now p ≡ true) × (name_of names.now p ≡ None)) }
 {
     for block in 0..predecessors.len() {
         if predecessors[block] && names[block].is_none() {
@@ -86,7 +90,8 @@ fn unnamed(predecessors: &[bool], names: &[Option<u32>]) -> Option<u32>
     None
 }
 
-/// F3: the first pair of an OpPhi that is wrong, or where none is, the first predecessor of its block that no pair names.
+/// F3: the first pair of an OpPhi that is wrong, or where none is, the first predecessor of its block that no pair
+/// names.
 ///
 /// The error is want of memory.
 pub fn parents_evidence(alloc: Global, code: &Code<'_, '_>, at: u32) -> Result<Evidence, AllocError>

@@ -1,8 +1,7 @@
 use Rattle.std.proofs.lemmas.Result.{IfOk-weaker}
 use Rattle.spv_table.specs.Table.{Table}
 use Rattle.spv_module.specs.Module.{plain_inst, plain_insts}
-use Rattle.spv_module.specs.declared.fault.Rule.TheVariants.{F1, F2, F3, F4}
-use Rattle.spv_evidence.specs.declared.evidence.Evidence.{Evidence}
+use Rattle.spv_module.specs.declared.fault.Rule.TheVariants.{F1, F2, F3}
 use Rattle.spv_branches.specs.declared.code.Code.{Code}
 use Rattle.spv_branches.specs.Code.{insts_of, IsCode}
 use Rattle.spv_branch_reasons.specs.Evidence.{IsEvidence}

@@ -1,4 +1,4 @@
-use Rattle.std.proofs.Common.{◌≡◌, ◌∙◌, ℕ, List, true, Option, None, drop, length, sym, ap, arith}
+use Rattle.std.proofs.Common.{◌≡◌, ◌∙◌, ℕ, true, None, drop, length, sym, ap, arith}
 use Rattle.spv_branches.specs.Code.{insts_of}
 use Rattle.spv_branches.specs.Edges.{marked}
 use Rattle.spv_branch_reasons.specs.inner.Known.{ArePredecessors, HasNames, name_of}
