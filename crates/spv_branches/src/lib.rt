@@ -11,3 +11,7 @@ pub mod laws;
 mod rules;
 
 pub use branches::check_branches;
+pub use code::Code;
+pub use edges::Edges;
+pub use gather::{Overview, edges_for, survey};
+pub use labels::label;
