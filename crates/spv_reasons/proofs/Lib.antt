@@ -1,1 +1,2 @@
-mod Kinds
+mod Appending
+mod Stages

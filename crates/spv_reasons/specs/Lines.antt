@@ -1,5 +1,6 @@
 -- What stands on the lines that explain a fault. (Own.)
-use Rattle.std.specs.Prelude.{◌≡◌, ◌++◌, ℕ, List, [], ◌∷◌, Option, Some, None, All, codes, decimal, flat_map, option_and_then, slice_get}
+use Rattle.std.specs.Prelude.{◌≡◌, ◌++◌, ◌-◌, ℕ, List, [], ◌∷◌, Option, Some, None, codes, decimal, drop, flat_map, length, option_and_then, slice_get}
+use Rattle.std.specs.List.{AllByRecursion}
 use Rattle.spv_module.specs.Operand.{Plain, OfType, Result, Id, Word, Value, Mask, PlainInst, result_in}
 use Rattle.spv_lines.specs.Operand.{id_text}
 use Rattle.spv_verdict.specs.Verdict.{line_end}
@@ -51,18 +52,9 @@ results_line is key ns = key ++ codes ":" ++ flat_map (result_part is) ns ++ lin
 abbrev pub inst_begin : List ℕ → ℕ → List ℕ
 inst_begin key m = key ++ codes ": inst " ++ decimal m ++ codes ","
 
--- the caller of the call that closes a cycle: the last of its functions
-abbrev pub caller_part : List PlainInst → List ℕ → List ℕ
-caller_part is fs = flat_map (result_part is) (last_of fs)
-  where
-    last_of : List ℕ → List ℕ
-    last_of [] = []
-    last_of (f ∷ []) = f ∷ []
-    last_of (f ∷ fs) = last_of fs
-
--- `cycle: %20 %30 %20`, which begins with the caller
+-- `cycle: %20 %30 %20`: the functions of a cycle, and before them the last of them, the caller
 abbrev pub cycle_line : List PlainInst → List ℕ → List ℕ
-cycle_line is fs = codes "cycle:" ++ caller_part is fs ++ flat_map (result_part is) fs ++ line_end
+cycle_line is fs = codes "cycle:" ++ flat_map (result_part is) (drop (length fs - 1) fs) ++ flat_map (result_part is) fs ++ line_end
 
 -- What stands on the lines of evidence at instruction n: operands, other instructions, walks and chains. Of other evidence nothing is
 -- said here.
@@ -85,4 +77,4 @@ pub record HasPart (text part : List ℕ) : Type 0 where
 
 -- All parts stand in the text.
 abbrev pub AreIn : List (List ℕ) → List ℕ → Type 0
-AreIn parts text = All (HasPart text) parts
+AreIn parts text = AllByRecursion (HasPart text) parts

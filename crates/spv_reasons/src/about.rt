@@ -9,7 +9,7 @@ use crate::context::alone;
 use itoa::Buffer;
 use spv_inst::{EncodeCode, EncodeError};
 use spv_module::{Inst, Module, Operand};
-use spv_table::{Memory, NameList, Table};
+use spv_table::{Memory, Name, NameList, Table};
 use spv_text::show;
 use std::alloc::{AllocError, Global};
 
@@ -96,6 +96,27 @@ pub fn number_line(out: &mut String, key: &str, number: u32) -> Result<(), Alloc
     out.push_str("\n")
 }
 
+/// Adds what the line of an instruction begins with.
+fn push_inst_begin(out: &mut String, key: &str, inst: u32) -> Result<(), AllocError>
+    ensures { OnOk result (string_bytes out.new ≡ string_bytes out.old ++ inst_begin key.now inst) }
+{
+    out.push_str(key)?;
+    out.push_str(": inst ")?;
+    push_number(out, inst)?;
+    out.push_str(",")
+}
+
+/// Adds names, each after a space.
+pub fn push_names(out: &mut String, names: &[Name]) -> Result<(), AllocError>
+    ensures { OnOk result (Adds [] (string_bytes out.old) (string_bytes out.new)) }
+{
+    for name in names {
+        out.push_str(" ")?;
+        out.push_str(name.as_str())?;
+    }
+    Ok(())
+}
+
 /// The last line of a text, without its line feed.
 fn last_line(text: &str) -> &str {
     match text.lines().last() {
@@ -156,7 +177,14 @@ impl<'m, 'a> About<'m, 'a> {
     pub fn push_inst(&self, out: &mut String, inst: u32) -> Result<(), AllocError>
         ensures { OnOk result (Adds [] (string_bytes out.old) (string_bytes out.new)) }
     {
-        let Ok(small) = alone(self.alloc, self.module, inst as usize) else {
+        self.push_at(out, inst as usize)
+    }
+
+    /// The same by the place of the instruction in the list.
+    fn push_at(&self, out: &mut String, at: usize) -> Result<(), AllocError>
+        ensures { OnOk result (Adds [] (string_bytes out.old) (string_bytes out.new)) }
+    {
+        let Ok(small) = alone(self.alloc, self.module, at) else {
             return Err(AllocError);
         };
         match self.shown(&small)? {
@@ -172,17 +200,14 @@ impl<'m, 'a> About<'m, 'a> {
     pub fn inst_line(&self, out: &mut String, key: &str, inst: u32) -> Result<(), AllocError>
         ensures { OnOk result (Adds (inst_begin key.now inst ∷ []) (string_bytes out.old) (string_bytes out.new)) }
     {
-        out.push_str(key)?;
-        out.push_str(": inst ")?;
-        push_number(out, inst)?;
-        out.push_str(",")?;
+        push_inst_begin(out, key, inst)?;
         self.push_inst(out, inst)?;
         out.push_str("\n")
     }
 
     /// Adds a line of the results of instructions.
     pub fn results_line(&self, out: &mut String, key: &str, insts: &[u32]) -> Result<(), AllocError>
-        ensures { OnOk result (string_bytes out.new ≡ string_bytes out.old ++ lines.results_line (plain_insts self.now.«module».now) key.now insts.now) }
+        ensures { OnOk result (Adds (lines.results_line (plain_insts self.now.«module».now) key.now insts.now ∷ []) (string_bytes out.old) (string_bytes out.new)) }
     {
         out.push_str(key)?;
         out.push_str(":")?;
@@ -192,7 +217,7 @@ impl<'m, 'a> About<'m, 'a> {
 
     /// Adds the line of an operand of an instruction, with its number.
     pub fn operand_line(&self, out: &mut String, inst: u32, number: u32) -> Result<(), AllocError>
-        ensures { OnOk result (string_bytes out.new ≡ string_bytes out.old ++ lines.operand_line (plain_insts self.now.«module».now) inst number) }
+        ensures { OnOk result (Adds (lines.operand_line (plain_insts self.now.«module».now) inst number ∷ []) (string_bytes out.old) (string_bytes out.new)) }
     {
         out.push_str("operand: ")?;
         push_number(out, number)?;
@@ -229,6 +254,30 @@ impl<'m, 'a> About<'m, 'a> {
             Some(enumerant) => out.push_str(enumerant.name.as_str()),
             None => push_number(out, value),
         }
+    }
+
+    /// Adds the names of opcodes, each after a space.
+    pub fn push_opcodes(&self, out: &mut String, opcodes: &[u32]) -> Result<(), AllocError>
+        ensures { OnOk result (Adds [] (string_bytes out.old) (string_bytes out.new)) }
+    {
+        for opcode in opcodes {
+            self.push_opcode(out, (*opcode & 0xffff) as u16)?;
+        }
+        Ok(())
+    }
+
+    /// Adds the names of capabilities, each after a space.
+    pub fn push_capabilities(
+        &self,
+        out: &mut String,
+        capabilities: &[u32],
+    ) -> Result<(), AllocError>
+        ensures { OnOk result (Adds [] (string_bytes out.old) (string_bytes out.new)) }
+    {
+        for capability in capabilities {
+            self.push_value(out, "Capability", *capability)?;
+        }
+        Ok(())
     }
 
     /// Adds a line of the id that an operand of an instruction is.
@@ -326,7 +375,7 @@ impl<'m, 'a> About<'m, 'a> {
         out.push_str(key)?;
         out.push_str(":")?;
         match found {
-            Some(at) => self.push_inst(out, at as u32)?,
+            Some(at) => self.push_at(out, at)?,
             None => push_id(out, id)?,
         }
         out.push_str("\n")

@@ -1,10 +1,12 @@
 //! The lines of evidence.
-ghost use Rattle.std.specs.Prelude.{[], ◌∷◌, string_bytes, OnOk};
+ghost use Rattle.std.specs.Prelude.{[], ◌∷◌, codes, string_bytes, OnOk};
 ghost use Rattle.spv_module.specs.Module.{plain_insts};
-ghost use Rattle.spv_reasons.specs.Lines.{told_of};
+ghost use Rattle.spv_evidence.specs.declared.evidence.Evidence.TheVariants as evidence;
+ghost use Rattle.spv_reasons.specs.Lines as lines;
+ghost use Rattle.spv_reasons.specs.Lines.{inst_begin, operand_line, results_line, told_of};
 ghost use Rattle.spv_reasons.specs.inner.Adding.{Adds};
 
-use crate::about::{About, number_line, text_line};
+use crate::about::{About, number_line, push_names, text_line};
 use crate::needs::needs_of;
 use spv_evidence::{EntryPart, Evidence, Lister, Role, Side, Typed};
 use std::alloc::AllocError;
@@ -45,13 +47,8 @@ fn needed_line(
         Lister::Width => None,
     };
     match listed {
-        Some(names) => for name in names.as_slice() {
-            out.push_str(" ")?;
-            out.push_str(name.as_str())?;
-        },
-        None => for capability in needs_of(at.opcode, operands) {
-            about.push_value(out, "Capability", *capability)?;
-        },
+        Some(names) => push_names(out, names.as_slice())?,
+        None => about.push_capabilities(out, needs_of(at.opcode, operands))?,
     }
     out.push_str("\n")
 }
@@ -141,60 +138,64 @@ fn side_line(about: About<'_, '_>, out: &mut String, side: Side) -> Result<(), A
     }
 }
 
-/// Adds the lines of what has to do with operands.
-fn operand_lines(
+/// Adds the lines of an operand, and of the instruction that defines its id.
+fn defined_lines(
     about: About<'_, '_>,
     out: &mut String,
     inst: u32,
-    evidence: &Evidence,
+    operand: u32,
+    place: u32,
 ) -> Result<(), AllocError>
-    ensures { OnOk result (Adds (told_of (plain_insts about.entry.«module».now) inst evidence.now) (string_bytes out.old) (string_bytes out.new)) }
+    ensures { OnOk result (Adds (operand_line (plain_insts about.entry.«module».now) inst operand ∷ inst_begin (codes "defined") place ∷ []) (string_bytes out.old) (string_bytes out.new)) }
 {
-    match evidence {
-        Evidence::Operand { operand } => about.operand_line(out, inst, *operand),
-        Evidence::Defined {
-            operand,
-            inst: place,
-        } => {
-            about.operand_line(out, inst, *operand)?;
-            about.inst_line(out, "defined", *place)
-        }
-        Evidence::Local {
-            operand,
-            inst: place,
-            function,
-        } => {
-            about.operand_line(out, inst, *operand)?;
-            about.inst_line(out, "defined", *place)?;
-            about.results_line(out, "local to", &[*function])
-        }
-        Evidence::Miscast {
-            operand,
-            role,
-            inst: place,
-        } => {
-            about.operand_line(out, inst, *operand)?;
-            text_line(out, "role", role_name(*role))?;
-            about.inst_line(out, "defined", *place)
-        }
-        Evidence::NoPredecessor { operand } => about.parents_line(
-            out,
-            "no predecessor",
-            inst,
-            *operand,
-        ),
-        Evidence::Twice { second, .. } => about.parents_line(out, "twice", inst, *second),
-        Evidence::Walk {
-            operand,
-            inst: place,
-            walk,
-        } => {
-            about.operand_line(out, inst, *operand)?;
-            about.inst_line(out, "defined", *place)?;
-            about.results_line(out, "walk", walk.as_slice())
-        }
-        _ => Ok(()),
-    }
+    about.operand_line(out, inst, operand)?;
+    about.inst_line(out, "defined", place)
+}
+
+/// Adds the lines of an operand, of the instruction that defines its id, and of the function that this is local to.
+fn local_lines(
+    about: About<'_, '_>,
+    out: &mut String,
+    inst: u32,
+    operand: u32,
+    place: u32,
+    function: u32,
+) -> Result<(), AllocError>
+    ensures { OnOk result (Adds (told_of (plain_insts about.entry.«module».now) inst (evidence.Local operand place function)) (string_bytes out.old) (string_bytes out.new)) }
+{
+    defined_lines(about, out, inst, operand, place)?;
+    about.results_line(out, "local to", &[function])
+}
+
+/// Adds the lines of an operand, of the role that is asked of it, and of the instruction that defines its id.
+fn miscast_lines(
+    about: About<'_, '_>,
+    out: &mut String,
+    inst: u32,
+    operand: u32,
+    role: Role,
+    place: u32,
+) -> Result<(), AllocError>
+    ensures { OnOk result (Adds (told_of (plain_insts about.entry.«module».now) inst (evidence.Miscast operand role place)) (string_bytes out.old) (string_bytes out.new)) }
+{
+    about.operand_line(out, inst, operand)?;
+    text_line(out, "role", role_name(role))?;
+    about.inst_line(out, "defined", place)
+}
+
+/// Adds the lines of an operand, of the instruction that defines its value, and of a walk without it.
+fn walk_lines(
+    about: About<'_, '_>,
+    out: &mut String,
+    inst: u32,
+    operand: u32,
+    place: u32,
+    walk: &[u32],
+) -> Result<(), AllocError>
+    ensures { OnOk result (Adds (operand_line (plain_insts about.entry.«module».now) inst operand ∷ inst_begin (codes "defined") place ∷ results_line (plain_insts about.entry.«module».now) (codes "walk") walk.now ∷ []) (string_bytes out.old) (string_bytes out.new)) }
+{
+    defined_lines(about, out, inst, operand, place)?;
+    about.results_line(out, "walk", walk)
 }
 
 /// Adds the lines of the classes that may come.
@@ -207,31 +208,73 @@ fn may_come_line(
     ensures { OnOk result (Adds [] (string_bytes out.old) (string_bytes out.new)) }
 {
     out.push_str("may come:")?;
-    for opcode in opcodes {
-        about.push_opcode(out, (*opcode & 0xffff) as u16)?;
-    }
+    about.push_opcodes(out, opcodes)?;
     if end {
         out.push_str(" end of module")?;
     }
     out.push_str("\n")
 }
 
-/// Adds the lines of a chain of calls and of a cycle, which begins with the caller.
+/// Adds the line of a cycle, which begins with the caller.
+fn cycle_line(about: About<'_, '_>, out: &mut String, cycle: &[u32]) -> Result<(), AllocError>
+    ensures { OnOk result (Adds (lines.cycle_line (plain_insts about.entry.«module».now) cycle.now ∷ []) (string_bytes out.old) (string_bytes out.new)) }
+{
+    out.push_str("cycle:")?;
+    let caller = cycle.len().saturating_sub(1);
+    about.push_results(out, &cycle[caller..])?;
+    about.push_results(out, cycle)?;
+    out.push_str("\n")
+}
+
+/// Adds the lines of a chain of calls and of a cycle.
 fn cycle_lines(
     about: About<'_, '_>,
     out: &mut String,
     calls: &[u32],
     cycle: &[u32],
-) -> Result<(), AllocError> {
+) -> Result<(), AllocError>
+    ensures { OnOk result (Adds (results_line (plain_insts about.entry.«module».now) (codes "calls") calls.now ∷ lines.cycle_line (plain_insts about.entry.«module».now) cycle.now ∷ []) (string_bytes out.old) (string_bytes out.new)) }
+{
     about.results_line(out, "calls", calls)?;
-    out.push_str("cycle:")?;
-    if let Some(caller) = cycle.last() {
-        about.push_result(out, *caller)?;
-    }
-    for function in cycle {
-        about.push_result(out, *function)?;
-    }
+    cycle_line(about, out, cycle)
+}
+
+/// Adds the line of an opcode.
+fn opcode_line(about: About<'_, '_>, out: &mut String, opcode: u16) -> Result<(), AllocError>
+    ensures { OnOk result (Adds [] (string_bytes out.old) (string_bytes out.new)) }
+{
+    out.push_str("opcode:")?;
+    about.push_opcode(out, opcode)?;
     out.push_str("\n")
+}
+
+/// Adds the line of a capability that is implied and may not be, or is not and must be.
+fn capability_line(
+    about: About<'_, '_>,
+    out: &mut String,
+    capability: u32,
+    implied: bool,
+) -> Result<(), AllocError>
+    ensures { OnOk result (Adds [] (string_bytes out.old) (string_bytes out.new)) }
+{
+    out.push_str(if implied { "implied:" } else { "not implied:" })?;
+    about.push_value(out, "Capability", capability)?;
+    out.push_str("\n")
+}
+
+/// Adds the lines of two things that are to be the same.
+fn mismatch_lines(
+    about: About<'_, '_>,
+    out: &mut String,
+    side: Side,
+    wanted: Option<u32>,
+    found: Option<u32>,
+) -> Result<(), AllocError>
+    ensures { OnOk result (Adds [] (string_bytes out.old) (string_bytes out.new)) }
+{
+    side_line(about, out, side)?;
+    same_line(about, out, "wanted", side, wanted)?;
+    same_line(about, out, "found", side, found)
 }
 
 /// Adds the lines of what shows that a rule is broken at an instruction.
@@ -244,23 +287,30 @@ pub fn evidence_lines(
     ensures { OnOk result (Adds (told_of (plain_insts about.entry.«module».now) inst evidence.now) (string_bytes out.old) (string_bytes out.new)) }
 {
     match evidence {
-        Evidence::Opcode { opcode }
-        | Evidence::Due { opcode, .. }
-        | Evidence::Shape { opcode, .. } => {
-            out.push_str("opcode:")?;
-            about.push_opcode(out, *opcode)?;
-            out.push_str("\n")
-        }
+        Evidence::Opcode { opcode } => opcode_line(about, out, *opcode),
+        Evidence::Due { opcode, .. } => opcode_line(about, out, *opcode),
+        Evidence::Shape { opcode, .. } => opcode_line(about, out, *opcode),
         Evidence::MayCome { opcodes, end } => may_come_line(about, out, opcodes.as_slice(), *end),
+        Evidence::Operand { operand } => about.operand_line(out, inst, *operand),
         Evidence::Earlier { inst: place } => about.inst_line(out, "earlier", *place),
+        Evidence::Defined {
+            operand,
+            inst: place,
+        } => defined_lines(about, out, inst, *operand, *place),
+        Evidence::Local {
+            operand,
+            inst: place,
+            function,
+        } => local_lines(about, out, inst, *operand, *place, *function),
+        Evidence::Miscast {
+            operand,
+            role,
+            inst: place,
+        } => miscast_lines(about, out, inst, *operand, *role, *place),
         Evidence::Capability {
             capability,
             implied,
-        } => {
-            out.push_str(if *implied { "implied:" } else { "not implied:" })?;
-            about.push_value(out, "Capability", *capability)?;
-            out.push_str("\n")
-        }
+        } => capability_line(about, out, *capability, *implied),
         Evidence::Needs { lister } => needs_lines(about, out, inst, *lister),
         Evidence::NoEntry => text_line(out, "missing", "OpEntryPoint"),
         Evidence::Entry { part } => entry_line(about, out, *part),
@@ -272,18 +322,25 @@ pub fn evidence_lines(
             side,
             wanted,
             found,
-        } => {
-            side_line(about, out, *side)?;
-            same_line(about, out, "wanted", *side, *wanted)?;
-            same_line(about, out, "found", *side, *found)
-        }
+        } => mismatch_lines(about, out, *side, *wanted, *found),
         Evidence::MissingParent { block } => about.results_line(out, "missing parent", &[*block]),
+        Evidence::NoPredecessor { operand } => about.parents_line(
+            out,
+            "no predecessor",
+            inst,
+            *operand,
+        ),
+        Evidence::Twice { second, .. } => about.parents_line(out, "twice", inst, *second),
+        Evidence::Walk {
+            operand,
+            inst: place,
+            walk,
+        } => walk_lines(about, out, inst, *operand, *place, walk.as_slice()),
         Evidence::Cycle { calls, cycle } => cycle_lines(
             about,
             out,
             calls.as_slice(),
             cycle.as_slice(),
         ),
-        _ => operand_lines(about, out, inst, evidence),
     }
 }

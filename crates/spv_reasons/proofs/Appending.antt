@@ -1,0 +1,48 @@
+-- Texts that are put together part by part.
+use Rattle.std.proofs.Common.{◌≡◌, ◌++◌, ◌∙◌, [], ◌∷◌, ℕ, List, refl, sym, ap, append_assoc}
+use Rattle.std.proofs.lemmas.List.{append-nil}
+use Rattle.std.specs.List.{AllByRecursion}
+use Rattle.spv_reasons.specs.Lines.{HasPart, AreIn}
+use Rattle.spv_reasons.specs.inner.Adding.{Adds}
+
+-- a part of a text is one of a longer text
+within : (front text back part : List ℕ) → HasPart text part → HasPart (front ++ (text ++ back)) part
+within front text back part h = record {
+  before = front ++ h.before;
+  after = h.after ++ back;
+  whole = ap (λ t. front ++ (t ++ back)) h.whole ∙ simp append_assoc;
+}
+
+all_within : (front text back : List ℕ) (parts : List (List ℕ)) → AreIn parts text → AreIn parts (front ++ (text ++ back))
+all_within front text back [] h = tt
+all_within front text back (p ∷ ps) h = (within front text back p h.0, all_within front text back ps h.1)
+
+joined : (text : List ℕ) (ps qs : List (List ℕ)) → AreIn ps text → AreIn qs text → AreIn (ps ++ qs) text
+joined text [] qs h i = i
+joined text (p ∷ ps) qs h i = (h.0, joined text ps qs h.1 i)
+
+-- nothing was added; a text; a part
+pub adds_nothing : (old : List ℕ) → Adds [] old old
+adds_nothing old = record { more = []; added = sym (append-nil old); has = tt }
+
+pub adds_text : (old new text : List ℕ) → new ≡ old ++ text → Adds [] old new
+adds_text old new text e = record { more = text; added = e; has = tt }
+
+pub adds_part : (old new part : List ℕ) → new ≡ old ++ part → Adds (part ∷ []) old new
+adds_part old new part e = record { more = part; added = e; has = (record { before = []; after = []; whole = sym (append-nil part) }, tt) }
+
+-- one text after the other
+pub adds_then : (ps qs : List (List ℕ)) (a b c : List ℕ) → Adds ps a b → Adds qs b c → Adds (ps ++ qs) a c
+adds_then ps qs a b c f g = record {
+  more = f.more ++ g.more;
+  added = g.added ∙ ap (λ t. t ++ g.more) f.added ∙ append_assoc a f.more g.more;
+  has = joined (f.more ++ g.more) ps qs
+      (all_within [] f.more g.more ps f.has)
+      (subst (λ t. AreIn qs t) (ap (λ t. f.more ++ t) (append-nil g.more)) (all_within f.more g.more [] qs g.has));
+}
+
+pub quiet_then : (qs : List (List ℕ)) (a b c : List ℕ) → Adds [] a b → Adds qs b c → Adds qs a c
+quiet_then qs a b c f g = adds_then [] qs a b c f g
+
+pub part_then : (p : List ℕ) (qs : List (List ℕ)) (a b c : List ℕ) → Adds (p ∷ []) a b → Adds qs b c → Adds (p ∷ qs) a c
+part_then p qs a b c f g = adds_then (p ∷ []) qs a b c f g
