@@ -23,7 +23,7 @@ use spv_ops::Definitions;
 
 /// The id that an operand uses, if it is an id other than a result.
 #[inline(always)]
-fn used_id(operand: Operand<'_>) -> Option<u32>
+pub fn used_id(operand: Operand<'_>) -> Option<u32>
     ensures { result ≡ uses.used_id (plain_operand operand.entry) }
 {
     match operand {

@@ -6,4 +6,5 @@ mod check;
 pub mod laws;
 mod role;
 
-pub use check::roles_check;
+pub use check::{roles_check, used_id};
+pub use role::plays;

@@ -1,0 +1,14 @@
+pub mod Sufficing
+pub mod Using
+pub mod Casting
+pub mod Rules
+pub mod Ranging
+pub mod Keeping
+pub mod Telling
+pub mod Undefining
+pub mod Announcing
+pub mod Ordering
+pub mod Ending
+pub mod Scoping
+pub mod Worked
+pub mod WorkedScope
