@@ -7,7 +7,7 @@ use Rattle.std.proofs.lemmas.List.{take_more, append_assoc, append-nil}
 use Rattle.std.proofs.lemmas.List.Elements.{Contains-append_left, Contains-push}
 use Rattle.std.proofs.lemmas.List.Sums.{count_by-le-length}
 use Rattle.spv_ways.specs.declared.steps.Step.{Step}
-use Rattle.spv_ways.specs.inner.Steps.{unknown, step_of, level_of, before_of, unknown_count, AreFirst, AreFalling, IsTrail, IsTraced}
+use Rattle.spv_ways.specs.inner.Steps.{unknown, level_of, before_of, unknown_count, AreFirst, AreFalling, IsTraced, IsTrace}
 use Rattle.spv_ways.proofs.Stepping.{step_same, step_other, count_found}
 
 -- a node of a list with one more at its end
@@ -81,6 +81,5 @@ traced_on steps goal nodes b f t l =
       on = λ past r. let s = t.on (before_of steps b ∷ past) (l, refl, r) in (s.0, s.1, s.2 ∙ sym (append_assoc nodes (before_of steps b ∷ []) past));
     }
 
-pub traced_all : (steps : List Step) (goal : ℕ) (nodes : List ℕ) (b : ℕ) → IsTraced steps goal nodes b → level_of steps b ≡ 0
-    → (past : List ℕ) × IsTrail steps past goal × (reverse nodes ≡ reverse (goal ∷ past))
-traced_all steps goal nodes b t z = let s = t.on [] z in (s.0, s.1, ap reverse (sym (s.2 ∙ append-nil nodes)))
+pub traced_all : (steps : List Step) (goal : ℕ) (nodes : List ℕ) (b : ℕ) → IsTraced steps goal nodes b → level_of steps b ≡ 0 → IsTrace steps goal (reverse nodes)
+traced_all steps goal nodes b t z = let s = t.on [] z in record { past = s.0; trail = s.1; listed = ap reverse (sym (s.2 ∙ append-nil nodes)) }

@@ -1,5 +1,5 @@
 -- Laws of steps.
-use Rattle.std.proofs.Common.{◌≡◌, ◌≢◌, ◌<◌, ◌≤◌, ◌+◌, ◌∙◌, ◌⊎◌, ℕ, List, [], ◌∷◌, refl, sym, ap, subst, inl, inr, Some, Bool, true, false, cond, leb, length, get_or-set_same, get_or-set_other, arith}
+use Rattle.std.proofs.Common.{◌≡◌, ◌≢◌, ◌<◌, ◌≤◌, ◌+◌, ◌∙◌, ℕ, List, [], ◌∷◌, refl, sym, ap, inl, inr, Some, Bool, false, cond, leb, length, get_or-set_same, get_or-set_other, arith}
 use Rattle.std.specs.Prelude.{slice_get, reverse, Contains}
 use Rattle.std.proofs.Math.ListN.{set, length-set}
 use Rattle.std.proofs.lemmas.Bool.{cases_eq, cases_lt, le-leb, lt-leb}
@@ -8,14 +8,7 @@ use Rattle.std.proofs.lemmas.List.Sums.{sum_by-set}
 use Rattle.spv_ways.specs.declared.edge.Edge.{Edge}
 use Rattle.spv_ways.specs.declared.steps.Step.{Step}
 use Rattle.spv_ways.specs.Way.{HasEdge, IsWay, IsShortest}
-use Rattle.spv_ways.specs.inner.Steps.{unknown, step_of, level_of, before_of, unknown_count, IsReached, start, along, AreSteps, AreFirst, Keeps, Shortens, IsShorter, AreSettled, AreFalling, IsTrail}
-
--- the steps after coming along an edge
-abbrev pub step_by : List Step → Edge → Step
-step_by steps e = record { level = level_of steps e.from + 1; before = e.from }
-
-abbrev pub come : List Step → Edge → List Step
-come steps e = set steps e.to (step_by steps e)
+use Rattle.spv_ways.specs.inner.Steps.{unknown, step_of, level_of, before_of, unknown_count, step_by, come, IsReached, start, along, AreSteps, AreFirst, Keeps, Shortens, AreSettled, AreFalling, IsTrail, IsTrace}
 
 pub step_same : (steps : List Step) (b : ℕ) (s : Step) → b < length steps → step_of (set steps b s) b ≡ s
 step_same steps b s h = get_or-set_same steps b s (record { level = unknown; before = 0 }) h
@@ -236,14 +229,14 @@ pub way_none : (edges : List Edge) (starts : List ℕ) (closed : List Bool) (ste
     → unknown ≤ level_of steps goal → (past : List ℕ) → ¬ (IsWay edges starts closed past goal)
 way_none edges starts closed steps goal a s e past w = let k = (way_low edges starts closed steps a s past goal w).known in absurd (omega (arith, e, k))
 
-pub way_shortest : (edges : List Edge) (starts : List ℕ) (closed : List Bool) (steps : List Step) (goal : ℕ) (nodes past : List ℕ) → AreSteps edges starts closed steps
-    → AreSettled edges closed steps → level_of steps goal < unknown → IsTrail steps past goal → nodes ≡ reverse (goal ∷ past) → IsShortest edges starts closed goal nodes
-way_shortest edges starts closed steps goal nodes past a s l t e =
-    let w = trail_way edges starts closed steps a past goal l t in
+pub way_shortest : (edges : List Edge) (starts : List ℕ) (closed : List Bool) (steps : List Step) (goal : ℕ) (nodes : List ℕ) → AreSteps edges starts closed steps
+    → AreSettled edges closed steps → level_of steps goal < unknown → IsTrace steps goal nodes → IsShortest edges starts closed goal nodes
+way_shortest edges starts closed steps goal nodes a s l t =
+    let w = trail_way edges starts closed steps a t.past goal l t.trail in
     let short = w.short in
     record {
-      past = past;
+      past = t.past;
       way = w.way;
-      listed = e;
+      listed = t.listed;
       least = λ other v. let k = (way_low edges starts closed steps a s other goal v).level in omega (arith, short, k);
     }

@@ -10,8 +10,8 @@ pub record HasEdge (edges : List Edge) (p b : ℕ) : Type 0 where
   pub from : edge.from ≡ p
   pub to : edge.to ≡ b
 
--- A way begins with one of the starts, each next node is one that an edge leads to from the one before, and only its last
--- node may be closed. It ends at b, and `past` are the nodes before, the last of them first.
+-- A way begins with one of the starts, each next node is one that an edge leads to from the one before, and only its
+-- last node may be closed. It ends at b, and `past` are the nodes before, the last of them first.
 abbrev pub IsWay : List Edge → List ℕ → List Bool → List ℕ → ℕ → Type 0
 IsWay edges starts closed [] b = Contains starts b
 IsWay edges starts closed (h ∷ past) b =

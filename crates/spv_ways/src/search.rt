@@ -2,7 +2,7 @@
 
 ghost use Rattle.std.specs.Prelude.{◌≡◌, ◌∷◌, ◌<◌, ◌≤◌, ℕ, List, Bool, Some, false, length, reverse, slice_get, MatchBool, MatchOption, IfOk, OnOk};
 ghost use Rattle.spv_ways.specs.Way.{IsWay, IsShortest, AreWithin, AreBelow};
-ghost use Rattle.spv_ways.specs.inner.Steps.{unknown, level_of, AreFirst, AreFalling, Keeps, Shortens, IsShorter, AreSettled, IsTrail};
+ghost use Rattle.spv_ways.specs.inner.Steps.{unknown, level_of, AreFirst, AreFalling, Keeps, Shortens, IsShorter, AreSettled, IsTrace};
 
 use crate::edge::Edge;
 use crate::rows::Rows;
@@ -100,7 +100,8 @@ fn spread(
 
 /// An edge that makes a shorter way than is known.
 fn find_shorter(edges: &[Edge], closed: &[bool], steps: &[Step]) -> Option<Edge>
-    ensures { MatchOption result (AreSettled edges.now closed.now steps.now) (IsShorter edges.now closed.now steps.now) }
+    ensures { MatchOption result (AreSettled edges.now closed.now steps.now)
+        (IsShorter edges.now closed.now steps.now) }
 {
     for edge in edges {
         if shortens(*edge, closed, steps) {
@@ -114,7 +115,7 @@ fn find_shorter(edges: &[Edge], closed: &[bool], steps: &[Step]) -> Option<Edge>
 fn trace(alloc: Global, steps: &[Step], goal: u32) -> Result<Vec<u32>, AllocError>
     requires falling { AreFalling steps.now }
     requires known { level_of steps.now goal < unknown }
-    ensures { IfOk result (λ nodes. (past : List ℕ) × IsTrail steps.now past goal × (nodes.items ≡ reverse (goal ∷ past))) }
+    ensures { IfOk result (λ nodes. IsTrace steps.now goal nodes.items) }
 {
     let mut nodes = Vec::from_slice(alloc, &[goal])?;
     let mut node = goal;
@@ -126,8 +127,9 @@ fn trace(alloc: Global, steps: &[Step], goal: u32) -> Result<Vec<u32>, AllocErro
     Ok(nodes)
 }
 
-/// The nodes of a shortest way from one of the starts to the goal, from the first on; None where there is no way. The nodes of
-/// the graph are those that `closed` tells of. A way goes on from no node that is closed, but may begin or end with one.
+/// The nodes of a shortest way from one of the starts to the goal, from the first on; None where there is no way.
+/// The nodes of the graph are those that `closed` tells of. A way goes on from no node that is closed, but may end with
+/// one.
 ///
 /// Time and memory are linear in the nodes, the edges and the starts.
 ///
@@ -143,7 +145,8 @@ pub fn shortest_way(
     requires starts { AreBelow (length closed.now) starts.now }
     requires goal { goal < length closed.now }
     requires few { length closed.now ≤ 4194304 }
-    ensures { IfOk result (λ o. MatchOption o ((past : List ℕ) → ¬ (IsWay edges.now starts.now closed.now past goal))
+    ensures { IfOk result (λ o. MatchOption o
+        ((past : List ℕ) → ¬ (IsWay edges.now starts.now closed.now past goal))
         (λ w. IsShortest edges.now starts.now closed.now goal w.items)) }
 {
     let rows = Rows::of(alloc, closed.len(), edges)?;
@@ -161,104 +164,4 @@ pub fn shortest_way(
 }
 
 #[cfg(test)]
-mod tests {
-    ghost use Rattle.std.specs.Prelude.{IsTrue};
-    ghost use Rattle.spv_ways.specs.Way.{AreWithin, AreBelow};
-
-    use super::*;
-    use std::test::Fail;
-
-    /// Whether both ends of each edge are below `count`.
-    fn are_within(count: usize, edges: &[Edge]) -> bool
-        ensures { IsTrue result → AreWithin count edges.now }
-    {
-        for edge in edges {
-            if edge.from as usize >= count || edge.to as usize >= count {
-                return false;
-            }
-        }
-        true
-    }
-
-    /// Whether nodes are below `count`.
-    fn are_below(count: usize, nodes: &[u32]) -> bool
-        ensures { IsTrue result → AreBelow count nodes.now }
-    {
-        for node in nodes {
-            if *node as usize >= count {
-                return false;
-            }
-        }
-        true
-    }
-
-    /// Of edges, given by their ends, a shortest way, or no node where there is none.
-    fn way_of(
-        alloc: Global,
-        ends: &[(u32, u32)],
-        starts: &[u32],
-        closed: &[bool],
-        goal: u32,
-    ) -> Result<Vec<u32>, Fail> {
-        let count = closed.len();
-        let mut edges = Vec::new(alloc);
-        for (from, to) in ends {
-            edges.push(Edge {
-                from: *from,
-                to: *to,
-            })?;
-        }
-        if count > 16 || goal as usize >= count {
-            return Err(Fail::from("no such node"));
-        }
-        if !are_within(count, &edges) || !are_below(count, starts) {
-            return Err(Fail::from("no such node"));
-        }
-        match shortest_way(alloc, &edges, starts, closed, goal)? {
-            Some(nodes) => Ok(nodes),
-            None => Ok(Vec::new(alloc)),
-        }
-    }
-
-    #[test]
-    fn finds_the_shorter_way(rt: HostRuntime) -> Result<(), Fail> {
-        // By 1 and 2, or by 3; 5 leads back.
-        let ends = [(0, 1), (1, 2), (2, 4), (0, 3), (3, 4), (4, 5), (5, 0)];
-        let closed = [false; 6];
-        let long = way_of(rt.alloc(), &ends, &[0], &closed, 5)?;
-        assert_eq!(rt; long.as_slice(), [0, 3, 4, 5].as_slice());
-        let nearer = way_of(rt.alloc(), &ends, &[0, 2, 0], &closed, 5)?;
-        assert_eq!(rt; nearer.as_slice(), [2, 4, 5].as_slice());
-        let alone = way_of(rt.alloc(), &ends, &[3, 0], &closed, 3)?;
-        assert_eq!(rt; alone.as_slice(), [3].as_slice());
-        Ok(())
-    }
-
-    #[test]
-    fn finds_no_way(rt: HostRuntime) -> Result<(), Fail> {
-        // Nothing leads from 0 and 1 to 2 and 3.
-        let ends = [(0, 1), (1, 0), (2, 1), (2, 3), (1, 1)];
-        let closed = [false; 4];
-        let none = way_of(rt.alloc(), &ends, &[0], &closed, 3)?;
-        assert_eq!(rt; none.as_slice(), [].as_slice());
-        let unbegun = way_of(rt.alloc(), &ends, &[], &closed, 1)?;
-        assert_eq!(rt; unbegun.as_slice(), [].as_slice());
-        Ok(())
-    }
-
-    #[test]
-    fn goes_on_from_no_closed_node(rt: HostRuntime) -> Result<(), Fail> {
-        // By 1 or, longer, by 2 and 3; 5 comes after 1 alone.
-        let ends = [(0, 1), (1, 4), (0, 2), (2, 3), (3, 4), (1, 5)];
-        let closed = [false, true, false, false, false, false];
-        let round = way_of(rt.alloc(), &ends, &[0], &closed, 4)?;
-        assert_eq!(rt; round.as_slice(), [0, 2, 3, 4].as_slice());
-        let ending = way_of(rt.alloc(), &ends, &[0], &closed, 1)?;
-        assert_eq!(rt; ending.as_slice(), [0, 1].as_slice());
-        let barred = way_of(rt.alloc(), &ends, &[0], &closed, 5)?;
-        assert_eq!(rt; barred.as_slice(), [].as_slice());
-        let begun = way_of(rt.alloc(), &ends, &[1], &closed, 1)?;
-        assert_eq!(rt; begun.as_slice(), [1].as_slice());
-        Ok(())
-    }
-}
+mod tests;

@@ -1,7 +1,7 @@
 //! The steps by which nodes are come to.
 
-ghost use Rattle.std.specs.Prelude.{◌≡◌, ◌+◌, ◌<◌, length, slice_set};
-ghost use Rattle.spv_ways.specs.inner.Steps.{unknown, step_of, level_of};
+ghost use Rattle.std.specs.Prelude.{◌≡◌, ◌<◌, length};
+ghost use Rattle.spv_ways.specs.inner.Steps.{unknown, step_of, level_of, come};
 
 use crate::edge::Edge;
 
@@ -35,7 +35,7 @@ pub fn step_at(steps: &[Step], node: u32) -> Step
 pub fn step_along(edge: Edge, steps: &mut Vec<Step>)
     requires from { level_of steps.old.items edge.from < unknown }
     requires to { edge.to < length steps.old.items }
-    ensures { steps.new.items ≡ slice_set steps.old.items edge.to (record { level = level_of steps.old.items edge.from + 1; before = edge.from }) }
+    ensures { steps.new.items ≡ come steps.old.items edge }
 {
     let level = step_at(steps, edge.from).level + 1;
     steps[edge.to as usize] = Step {

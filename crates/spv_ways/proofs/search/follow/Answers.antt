@@ -1,7 +1,7 @@
 use Rattle.std.proofs.Common.{◌<◌, refl, length, arith}
 use Rattle.std.proofs.lemmas.Option.{slice_get_read}
-use Rattle.spv_ways.specs.inner.Steps.{Shortens}
-use Rattle.spv_ways.proofs.Stepping.{come, keeps_on, keeps_by}
+use Rattle.spv_ways.specs.inner.Steps.{Shortens, come}
+use Rattle.spv_ways.proofs.Stepping.{keeps_on, keeps_by}
 use Rattle.spv_ways.proofs.search.follow.Goals.{in-Some+then-shortens+in_ok-push_back, in-Some+else-shortens, in_default}
 use Rattle.spv_ways.proofs.search.follow.Goals as goal
 

@@ -1,7 +1,7 @@
-use Rattle.std.proofs.Common.{◌<◌, ◌≤◌, ◌≡◌, ℕ, length, ap, arith}
+use Rattle.std.proofs.Common.{◌<◌, ◌≤◌, ◌≡◌, length, ap, arith}
 use Rattle.spv_ways.specs.declared.steps.Step.{Step}
-use Rattle.spv_ways.specs.inner.Steps.{unknown, level_of, AreSteps, AreSettled, IsShorter}
-use Rattle.spv_ways.proofs.Stepping.{come, keeps_on, keeps_by, first_is, falling, way_none, way_shortest}
+use Rattle.spv_ways.specs.inner.Steps.{unknown, level_of, AreSteps, AreSettled, IsShorter, come}
+use Rattle.spv_ways.proofs.Stepping.{keeps_on, keeps_by, first_is, falling, way_none, way_shortest}
 use Rattle.spv_ways.proofs.search.shortest_way.Goals as goal
 
 pub loop-edge-preserved : goal.loop-edge-preserved
@@ -56,4 +56,4 @@ returns-then-step_at-lt-UNKNOWN c =
     let e : c.step_at.result.level ≡ level_of steps goal = ap (λ (x : Step). x.level) (rw c.deref-2.ensures.value at c.step_at.ensures) in
     let l : level_of steps goal < unknown = omega arith in
     let t = rw c.deref-then-step_at-lt-UNKNOWN.ensures.value at c.in_ok-trace.ensures in
-    way_shortest edges starts closed steps goal nodes t.0 a s l t.1 t.2
+    way_shortest edges starts closed steps goal nodes a s l t

@@ -1,4 +1,4 @@
-use Rattle.std.specs.Prelude.{List, sum_by}
+use Rattle.std.specs.Prelude.{sum_by}
 use Rattle.spv_ways.specs.declared.steps.Step.{Step}
 use Rattle.spv_ways.specs.inner.Steps.{Keeps}
 use Rattle.spv_ways.proofs.search.shortest_way.Given as goal
