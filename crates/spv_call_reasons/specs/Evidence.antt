@@ -1,4 +1,4 @@
--- What shows that a call is on a cycle which an entry point reaches. Functions go by the numbers of their OpFunctions. (Own.)
+-- What shows that a call is on a cycle which an entry point reaches. Functions are numbers of OpFunctions. (Own.)
 use Rattle.std.specs.Prelude.{◌≤◌, ℕ, List, [], ◌∷◌, length}
 use Rattle.spv_module.specs.Operand.{PlainInst}
 use Rattle.spv_module.specs.declared.fault.Rule.{Rule}
