@@ -12,4 +12,5 @@ mod reach;
 
 pub use calls::first_cycle;
 pub use cyclic::{first_cyclic, first_cyclic_plainly};
+pub use gather::{calls_of, entries_of};
 pub use graph::Call;

@@ -1,0 +1,3 @@
+pub mod Stepping
+pub mod Beginning
+pub mod Worked
