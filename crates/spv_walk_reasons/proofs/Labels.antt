@@ -20,7 +20,7 @@ use Rattle.spv_walk_reasons.specs.inner.Way.{labels_of}
 
 -- whether an instruction is a label
 
-label_there : (is : List PlainInst) (n : ℕ) → IsOp is n is_label → is_label_at is n ≡ true
+pub label_there : (is : List PlainInst) (n : ℕ) → IsOp is n is_label → is_label_at is n ≡ true
 label_there is n op = let h = holds is n is_label op in rw h.there h.holds
 
 label_by : (is : List PlainInst) (n : ℕ) (o : Option PlainInst) → slice_get is n ≡ o → ¬ (IsOp is n is_label)
