@@ -43,7 +43,8 @@ pub record IsWalkPast (G : Table) (is : List PlainInst) (f n x : ℕ) (labels : 
   pub undefined : ¬ (IsResultAmong is past x)
   pub blocks : blocks_of is past ≡ labels
 
-pub use_walk : (G : Table) (is : List PlainInst) (f : ℕ) (starts : List ℕ) (graph : Graph) → IsGraphOf G is f starts graph
+pub use_walk : (G : Table) (is : List PlainInst) (f : ℕ) (starts : List ℕ) (graph : Graph)
+    → IsGraphOf G is f starts graph
     → (b n x d : ℕ) (blocks : List ℕ) → IsIn starts b n → ((k : ℕ) → IsDefinedAt is x k → k ≡ d)
     → ¬ ((slice_index starts b ≤ d) × (d < n)) → ¬ (IsOp is n is_label) → IsPath graph blocks b
     → ¬ (IsDefinedOn graph blocks d)
@@ -82,7 +83,8 @@ walk_count G is f starts graph g past n c not =
     (omega (arith, at, to)) some in
     ap (λ (xs : List ℕ). length (blocks_of is xs)) c.divided ∙ ap length all ∙ many_labels starts c.blocks c.block
 
-pub use_fewest : (G : Table) (is : List PlainInst) (f : ℕ) (starts : List ℕ) (graph : Graph) → IsGraphOf G is f starts graph
+pub use_fewest : (G : Table) (is : List PlainInst) (f : ℕ) (starts : List ℕ) (graph : Graph)
+    → IsGraphOf G is f starts graph
     → (b n x d : ℕ) (blocks : List ℕ) → IsIn starts b n → IsDefinedAt is x d → ¬ (IsOp is n is_label)
     → ((other : List ℕ) → IsPath graph other b → ¬ (IsDefinedOn graph other d) → length blocks ≤ length other)
     → AreFewest G is n x (labels_of starts (reverse (b ∷ blocks)))

@@ -20,7 +20,7 @@ is_label_at is n = unwrap_or (option_map (λ i. is_label i.opcode) (slice_get is
 abbrev pub blocks_of : List PlainInst → List ℕ → List ℕ
 blocks_of is past = reverse (filter (is_label_at is) past)
 
--- Every walk to instruction n on which the id is not the result of an earlier place passes as many blocks.
+-- Every walk to instruction n on which the id is not the result of an earlier place passes at least as many blocks.
 abbrev pub AreFewest : Table → List PlainInst → ℕ → ℕ → List ℕ → Type 0
 AreFewest G is n x blocks =
     (f : ℕ) (past : List ℕ) → IsWalk G is f past n → ¬ (IsResultAmong is past x)

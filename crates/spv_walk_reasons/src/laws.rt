@@ -24,8 +24,8 @@ pub fn evidence_examples()
     ensures walk { IsEvidence small early A1 2 (Walk 2 3 (1 ∷ [])) }
     // No walk comes to it past no OpLabel.
     ensures no_walk { ¬ (IsEvidence small early A1 2 (Walk 2 3 [])) }
-    // Operand 2 of the OpPhi is what it defines itself. The walk comes from the OpLabel 1 to the OpLabel 3, and does not
-    // end before.
+    // Operand 2 of the OpPhi is what it defines itself. The walk comes from the OpLabel 1 to the OpLabel 3, and does
+    // not end before.
     ensures pair { IsEvidence small (valued 9 1) A2 4 (Walk 2 4 (1 ∷ 3 ∷ [])) }
     ensures no_end { ¬ (IsEvidence small (valued 9 1) A2 4 (Walk 2 4 (1 ∷ []))) }
 {}

@@ -49,7 +49,8 @@ returns c =
     let same : IsPermutation left sorted =
     subst (λ (xs : List Ask). IsPermutation xs sorted) c.deref_mut.ensures.value c.sort.ensures.same in
     let e : c.as_slice-2.result.now ≡ sorted = c.as_slice-2.ensures.value ∙ taken sorted _ _ (omega (arith, l, m)) in
-    IfOk-weaker c.first_missed.result (IsFirstMissed graph c.as_slice-2.result.now) (IsFirstMissed graph c.args.asks.now)
+    IfOk-weaker c.first_missed.result (IsFirstMissed graph c.as_slice-2.result.now)
+    (IsFirstMissed graph c.args.asks.now)
     (λ o h. first_of_left graph c.args.asks.now left sorted c.in_ok-left.ensures same o
     (subst (λ (xs : List Ask). IsFirstMissed graph xs o) e h))
     c.first_missed.ensures
