@@ -143,7 +143,7 @@ result_alone G _ _ (AreOf.more f o fs os p r) h =
     let m : os ≡ [] = none_of G fs os r n in
     rw m (no_type G o (rw e at p))
 
-label_forms : (G : Table) (i : PlainInst) (fs : List Form) (h : HasForms G i fs) → i.opcode ≡ 248 → fs ≡ R ∷ []
+pub label_forms : (G : Table) (i : PlainInst) (fs : List Form) (h : HasForms G i fs) → i.opcode ≡ 248 → fs ≡ R ∷ []
 unfolding is_closed
 label_forms G i fs h e =
     let s : Some h.row ≡ Some label_row = sym h.known ∙ ap row_of e ∙ label_known in

@@ -87,7 +87,7 @@ last_label G is f starts graph g (h ∷ blocks) b (suc k) m before path inside s
     (r.0, r.1)
 
 -- and it is the last label of them
-is_last_label : (is : List PlainInst) (f : ℕ) (starts : List ℕ) → IsDivided is f starts
+pub is_last_label : (is : List PlainInst) (f : ℕ) (starts : List ℕ) → IsDivided is f starts
     → (b k : ℕ) (before : List ℕ) → b + 1 < length starts → 0 < k → slice_index starts b + k ≤ slice_index starts (b + 1) → IsOp is (slice_index starts b) is_label
     → IsLastLabel is (run (slice_index starts b) k ++ before) (slice_index starts b) before
 is_last_label is f starts d b zero before inside some to label = absurd (omega (arith, some))
@@ -116,7 +116,7 @@ first_no_phi G is f starts graph g (h ∷ blocks) b path phi =
     label_no_phi is (slice_index starts b) (target_label G is f starts graph g h b (omega (arith, path.0, g.count)) path.1).1 phi
 
 -- an OpPhi on a path is not the first instruction of its block
-after_first : (G : Table) (is : List PlainInst) (f : ℕ) (starts : List ℕ) (graph : Graph) → IsGraphOf G is f starts graph
+pub after_first : (G : Table) (is : List PlainInst) (f : ℕ) (starts : List ℕ) (graph : Graph) → IsGraphOf G is f starts graph
     → (blocks : List ℕ) (b n : ℕ) → IsPath graph blocks b → IsIn starts b n → IsOp is n is_phi → slice_index starts b < n
 after_first G is f starts graph g blocks b n path i phi = elim (cases_lt (slice_index starts b) n) [
   | inl later ↦ later

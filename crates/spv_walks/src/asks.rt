@@ -47,7 +47,7 @@ fn is_local_in(code: &Code<'_, '_>, blocks: &Blocks<'_>, place: u32) -> bool
 /// What is asked for the use of an id as operand `n` of an instruction, if it is one of a value that no earlier instruction of the
 /// block defines.
 #[inline(always)]
-fn use_ask(
+pub fn use_ask(
     code: &Code<'_, '_>,
     blocks: &Blocks<'_>,
     block: u32,
@@ -95,7 +95,7 @@ fn paired_at(code: &Code<'_, '_>, at: u32, n: usize) -> Option<u32>
 
 /// What is asked for the pair that operands `n` and `n` + 1 of an OpPhi are, if it is one of a value that its parent does not
 /// define.
-fn pair_ask(code: &Code<'_, '_>, blocks: &Blocks<'_>, at: u32, n: usize) -> Option<Ask>
+pub fn pair_ask(code: &Code<'_, '_>, blocks: &Blocks<'_>, at: u32, n: usize) -> Option<Ask>
     requires code { (G : Table) × IsCode G code.now }
     requires blocks { AreBlocks (insts_of code.now) blocks.now }
     requires at { at < length code.now.insts.now }

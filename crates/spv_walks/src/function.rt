@@ -47,7 +47,7 @@ impl Buffers {
 }
 
 /// Brings asks into the order of their values.
-fn sort(asks: &mut [Ask])
+pub fn sort(asks: &mut [Ask])
     ensures order { AreInOrder asks.new }
     ensures same { IsPermutation asks.old asks.new }
 {

@@ -2,13 +2,17 @@
 #![tactic(auto)]
 
 mod asks;
-mod code;
-mod divide;
-mod edges;
+pub mod code;
+pub mod divide;
+pub mod edges;
 mod function;
 pub mod laws;
 mod least;
 mod operands;
 mod values;
 
-pub use values::check_values;
+pub use asks::{pair_ask, use_ask};
+pub use function::sort;
+pub use least::missed_first;
+pub use operands::other_id;
+pub use values::{check_values, count_globals};

@@ -24,7 +24,7 @@ use spv_module::{Fault, Inst, Module, Rule, Stop};
 use std::alloc::{AllocError, Global};
 
 /// How many instructions stand before the first OpFunction.
-fn count_globals(insts: &[Inst<'_>]) -> u32
+pub fn count_globals(insts: &[Inst<'_>]) -> u32
     requires { length insts.now ≤ 4194304 }
     ensures { (k : ℕ) → k < result → ¬ (IsOp (map plain_inst insts.now) k target.is_function) }
 {

@@ -1,0 +1,9 @@
+pub mod Sufficing
+pub mod Worked
+pub mod Labels
+pub mod Walks
+pub mod Paired
+pub mod Asked
+pub mod Left
+pub mod Edges
+pub mod Showing

@@ -1,0 +1,18 @@
+-- The edges of a graph of blocks, one by one.
+use Rattle.std.specs.Prelude.{◌<◌, ℕ, List, Bool, Contains, nat_le, nat_lt, ◌&&◌}
+use Rattle.spv_availability.specs.declared.graph.Graph.{Graph}
+use Rattle.spv_availability.specs.declared.graph.Block.{Block}
+use Rattle.spv_availability.specs.Graph.{targets_of}
+use Rattle.spv_ways.specs.declared.edge.Edge.{Edge}
+
+abbrev pub edge : ℕ → ℕ → Edge
+edge b t = record { from = b; to = t }
+
+-- The edges are those from the first n blocks to their targets.
+pub record AreEdges (graph : Graph) (n : ℕ) (edges : List Edge) : Type 0 where
+  pub sound : (e : Edge) → Contains edges e → (e.from < n) × Contains (targets_of graph e.from) e.to
+  pub complete : (b t : ℕ) → b < n → Contains (targets_of graph b) t → Contains edges (edge b t)
+
+-- whether a block defines the value
+abbrev pub defines : ℕ → Block → Bool
+defines v s = nat_le s.first_value v && nat_lt v s.end_value

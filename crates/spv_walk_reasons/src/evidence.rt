@@ -1,0 +1,178 @@
+//! The evidence that a walk misses a value.
+
+ghost use Rattle.std.specs.Prelude.{◌≡◌, ◌≤◌, ◌<◌, ◌+◌, ◌-◌, ℕ, length, sum_by, IfOk};
+ghost use Rattle.spv_table.specs.Table.{Table};
+ghost use Rattle.spv_module.specs.Module.{plain_insts};
+ghost use Rattle.spv_layout.specs.First.{IsUnbroken};
+ghost use Rattle.spv_layout.specs.Place.{word_count, IsOfFunction};
+ghost use Rattle.spv_layout.specs.Plan.{IsPlan};
+ghost use Rattle.spv_ids.specs.Outcome.{AreIds};
+ghost use Rattle.spv_branches.specs.Broken.{Broken};
+ghost use Rattle.spv_walks.specs.Code.{insts_of, IsCode};
+ghost use Rattle.spv_walks.specs.Divided.{IsIn};
+ghost use Rattle.spv_walks.specs.Leading.{AreBlocks, AreInGraph};
+ghost use Rattle.spv_walk_reasons.specs.Evidence.{IsEvidence};
+ghost use Rattle.spv_walk_reasons.specs.inner.Asked.{MissesValue, IsMissedAsk};
+ghost use Rattle.spv_walk_reasons.specs.inner.Shown.{IsShown};
+
+use crate::asks::{Taking, ask_at, asks_of, taking_of};
+use crate::missed::least_missed;
+use crate::way::{labels_on, way_past, whole_way};
+use spv_availability::{Ask, Graph};
+use spv_evidence::{Evidence, Listed};
+use spv_ids::Ids;
+use spv_layout::Plan;
+use spv_module::{Module, Rule};
+use spv_walks::code::Code;
+use spv_walks::count_globals;
+use spv_walks::divide::{divide, function_extent};
+use spv_walks::edges::{Blocks, build};
+use std::alloc::{AllocError, Global};
+
+/// The block that an instruction of the function is of.
+fn block_of(code: &Code<'_, '_>, blocks: &Blocks<'_>, inst: u32) -> u32
+    requires blocks { AreBlocks (insts_of code.now) blocks.now }
+    requires of { IsOfFunction (insts_of code.now) inst blocks.now.function }
+    requires most { length code.now.insts.now ≤ 4194304 }
+    ensures { IsIn blocks.now.starts.now result inst }
+{
+    for next in 1..blocks.starts.len() {
+        if inst < blocks.starts[next] {
+            return next as u32 - 1;
+        }
+    }
+    unreachable!()
+}
+
+/// Of what is asked for the operands of an instruction the first that is missed. Its step is the number of the operand.
+fn missed_ask(
+    alloc: Global,
+    code: &Code<'_, '_>,
+    blocks: &Blocks<'_>,
+    graph: &Graph,
+    taking: Taking,
+    block: u32,
+    inst: u32,
+) -> Result<Ask, AllocError>
+    requires code { (G : Table) × IsCode G code.now × MissesValue G (insts_of code.now) taking inst }
+    requires blocks { AreBlocks (insts_of code.now) blocks.now }
+    requires graph { AreInGraph code.now blocks.now.starts.now graph.now (length blocks.now.starts.now - 1) }
+    requires inside { IsIn blocks.now.starts.now block inst }
+    requires at { inst < length code.now.insts.now }
+    ensures { IfOk result (λ a. (G : Table) → IsCode G code.now
+        → IsMissedAsk G (insts_of code.now) blocks.now.starts.now graph.now taking block inst a) }
+{
+    let asks = asks_of(alloc, code, blocks, taking, block, inst)?;
+    let Some(operand) = least_missed(alloc, graph, asks.as_slice())? else {
+        unreachable!();
+    };
+    let Some(ask) = ask_at(code, blocks, taking, block, inst, operand as usize) else {
+        unreachable!();
+    };
+    Ok(Ask {
+        block: ask.block,
+        value: ask.value,
+        step: operand,
+    })
+}
+
+/// The evidence that a walk of a function misses a value which an instruction takes.
+fn evidence_in(
+    alloc: Global,
+    code: &Code<'_, '_>,
+    blocks: &Blocks<'_>,
+    taking: Taking,
+    inst: u32,
+) -> Result<Evidence, AllocError>
+    requires code { (G : Table) × IsCode G code.now × MissesValue G (insts_of code.now) taking inst }
+    requires blocks { AreBlocks (insts_of code.now) blocks.now }
+    requires of { IsOfFunction (insts_of code.now) inst blocks.now.function }
+    requires most { length code.now.insts.now ≤ 4194304 }
+    ensures { IfOk result (λ e. (G : Table) → IsCode G code.now → IsShown G (insts_of code.now) taking inst e) }
+{
+    let block = block_of(code, blocks, inst);
+    let mut graph = Graph {
+        blocks: Vec::new(alloc),
+        targets: Vec::new(alloc),
+    };
+    build(code, blocks, &mut graph)?;
+    let ask = missed_ask(alloc, code, blocks, &graph, taking, block, inst)?;
+    let to_asked = way_past(alloc, &graph, ask.value, ask.block)?;
+    let way = whole_way(taking, block, to_asked)?;
+    let walk = labels_on(alloc, blocks.starts, way.as_slice())?;
+    Ok(Evidence::Walk {
+        operand: ask.step,
+        inst: ask.value,
+        walk: Listed::from_vec(walk),
+    })
+}
+
+/// The evidence that a walk misses a value which an instruction takes.
+fn evidence_at(
+    alloc: Global,
+    code: &Code<'_, '_>,
+    taking: Taking,
+    inst: u32,
+) -> Result<Evidence, AllocError>
+    requires code { (G : Table) × IsCode G code.now × MissesValue G (insts_of code.now) taking inst }
+    requires most { length code.now.insts.now ≤ 4194304 }
+    ensures { IfOk result (λ e. (G : Table) → IsCode G code.now → IsShown G (insts_of code.now) taking inst e) }
+{
+    let Some(function) = code.function_of(inst) else {
+        unreachable!();
+    };
+    let extent = function_extent(code, function);
+    let mut starts = Vec::new(alloc);
+    let mut numbers = vec![in alloc; 0u32; code.insts.len()]?;
+    divide(code, function, extent.end, &mut starts, &mut numbers)?;
+    let blocks = Blocks {
+        function,
+        end: extent.end,
+        starts: starts.as_slice(),
+        numbers: numbers.as_slice(),
+    };
+    evidence_in(alloc, code, &blocks, taking, inst)
+}
+
+/// What shows that A1 or A2 is broken at an instruction, which is given by its number: the first operand that takes a
+/// local value which a walk to the instruction misses, the instruction that defines the value, and the blocks of such a
+/// walk, each by its OpLabel, from the entry block on. No other walk that misses the value passes fewer; of an OpPhi,
+/// none that comes from the same parent. `plan` and `ids` are what `lay_out` and `number` answered of that module, in
+/// which `check_branches` found no fault.
+///
+/// It looks for what is missed as `check_values` does, at that instruction alone, and then goes through the blocks of
+/// its function once.
+///
+/// # Errors
+///
+/// `AllocError` comes only where a growth of memory was refused.
+pub fn walk_evidence(
+    alloc: Global,
+    module: &Module<'_>,
+    plan: &Plan,
+    ids: &Ids,
+    rule: Rule,
+    inst: u32,
+) -> Result<Evidence, AllocError>
+    // The condition of `lay_out`, and that the rule is broken there, by some table, in a module of which the plan and
+    // the ids are what was answered, and whose branches are sound.
+    requires words { 5 + sum_by word_count (plain_insts «module».now) ≤ 4194304 }
+    requires broken { (G : Table) × IsPlan G (plain_insts «module».now) plan.now
+        × AreIds G «module».now.header.bound (plain_insts «module».now) ids.now
+        × IsUnbroken (Broken G (plain_insts «module».now)) 6
+        × Broken G (plain_insts «module».now) rule inst }
+    ensures { (G : Table) → IsPlan G (plain_insts «module».now) plan.now
+        → AreIds G «module».now.header.bound (plain_insts «module».now) ids.now
+        → IsUnbroken (Broken G (plain_insts «module».now)) 6
+        → IfOk result (λ e. IsEvidence G (plain_insts «module».now) rule inst e) }
+{
+    let insts = module.insts.as_slice();
+    let globals = count_globals(insts);
+    let code = Code {
+        insts,
+        plan,
+        ids,
+        globals,
+    };
+    evidence_at(alloc, &code, taking_of(rule), inst)
+}
