@@ -1,7 +1,9 @@
 -- Texts that are put together part by part.
-use Rattle.std.proofs.Common.{◌≡◌, ◌++◌, ◌∙◌, [], ◌∷◌, ℕ, List, refl, sym, ap, append_assoc}
+use Rattle.std.proofs.Common.{◌≡◌, ◌++◌, ◌∙◌, [], ◌∷◌, ℕ, List, refl, sym, ap, subst, append_assoc}
 use Rattle.std.proofs.lemmas.List.{append-nil}
 use Rattle.std.specs.List.{AllByRecursion}
+use Rattle.std.specs.Prelude.{OnOk, Ok, Err}
+use Rattle.std.specs.Prelude.{Result as Answer}
 use Rattle.spv_reasons.specs.Lines.{HasPart, AreIn}
 use Rattle.spv_reasons.specs.inner.Adding.{Adds}
 
@@ -41,8 +43,11 @@ adds_then ps qs a b c f g = record {
       (subst (λ t. AreIn qs t) (ap (λ t. f.more ++ t) (append-nil g.more)) (all_within f.more g.more [] qs g.has));
 }
 
-pub quiet_then : (qs : List (List ℕ)) (a b c : List ℕ) → Adds [] a b → Adds qs b c → Adds qs a c
-quiet_then qs a b c f g = adds_then [] qs a b c f g
+-- the same of what a call adds that may fail
+pub ok_then : {T E : Type 0} (ps qs : List (List ℕ)) (a b c : List ℕ) (r : Answer T E) → Adds ps a b → OnOk r (Adds qs b c) → OnOk r (Adds (ps ++ qs) a c)
+ok_then ps qs a b c (Ok _) f g = adds_then ps qs a b c f g
+ok_then ps qs a b c (Err _) f g = tt
 
-pub part_then : (p : List ℕ) (qs : List (List ℕ)) (a b c : List ℕ) → Adds (p ∷ []) a b → Adds qs b c → Adds (p ∷ qs) a c
-part_then p qs a b c f g = adds_then (p ∷ []) qs a b c f g
+pub ok_part : {T E : Type 0} (a b p : List ℕ) (r : Answer T E) → OnOk r (b ≡ a ++ p) → OnOk r (Adds (p ∷ []) a b)
+ok_part a b p (Ok _) e = adds_part a b p e
+ok_part a b p (Err _) e = tt

@@ -4,7 +4,8 @@ use Rattle.spv_table.specs.Table.{Table}
 use Rattle.spv_module.specs.Operand.{PlainInst}
 use Rattle.spv_module.specs.declared.fault.Rule.{Rule}
 use Rattle.spv_evidence.specs.declared.evidence.Evidence.{Evidence}
-use Rattle.spv_id_reasons.specs.Evidence as ids
+use Rattle.spv_id_reasons.specs.Ids as ids
+use Rattle.spv_id_reasons.specs.Roles as roles
 use Rattle.spv_branch_reasons.specs.Evidence as branches
 use Rattle.spv_walk_reasons.specs.Evidence as walks
 use Rattle.spv_call_reasons.specs.Evidence as calls
@@ -13,8 +14,10 @@ use Rattle.spv_type_reasons.specs.Evidence as types
 
 -- Under the bound of ids, this shows that the rule is broken at the instruction of that number.
 pub data IsEvidence (G : Table) (bound : ℕ) (is : List PlainInst) : Rule → ℕ → Evidence → Type 0 where
-  -- D and Y1
+  -- D
   of_ids : (r : Rule) (n : ℕ) (e : Evidence) → ids.IsEvidence G bound is r n e → IsEvidence G bound is r n e
+  -- Y1
+  of_roles : (r : Rule) (n : ℕ) (e : Evidence) → roles.IsEvidence G is r n e → IsEvidence G bound is r n e
   -- C1, C2, M1, E1 and E2
   of_capabilities : (r : Rule) (n : ℕ) (e : Evidence) → capabilities.IsEvidence G is r n e → IsEvidence G bound is r n e
   -- Y2 to Y8

@@ -207,7 +207,7 @@ impl<'m, 'a> About<'m, 'a> {
 
     /// Adds a line of the results of instructions.
     pub fn results_line(&self, out: &mut String, key: &str, insts: &[u32]) -> Result<(), AllocError>
-        ensures { OnOk result (Adds (lines.results_line (plain_insts self.now.«module».now) key.now insts.now ∷ []) (string_bytes out.old) (string_bytes out.new)) }
+        ensures { OnOk result (string_bytes out.new ≡ string_bytes out.old ++ lines.results_line (plain_insts self.now.«module».now) key.now insts.now) }
     {
         out.push_str(key)?;
         out.push_str(":")?;
@@ -217,7 +217,7 @@ impl<'m, 'a> About<'m, 'a> {
 
     /// Adds the line of an operand of an instruction, with its number.
     pub fn operand_line(&self, out: &mut String, inst: u32, number: u32) -> Result<(), AllocError>
-        ensures { OnOk result (Adds (lines.operand_line (plain_insts self.now.«module».now) inst number ∷ []) (string_bytes out.old) (string_bytes out.new)) }
+        ensures { OnOk result (string_bytes out.new ≡ string_bytes out.old ++ lines.operand_line (plain_insts self.now.«module».now) inst number) }
     {
         out.push_str("operand: ")?;
         push_number(out, number)?;

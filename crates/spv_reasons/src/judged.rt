@@ -1,5 +1,18 @@
 //! What a module comes to, layer by layer.
+ghost use Rattle.std.specs.Prelude.{◌+◌, ◌≤◌, ℕ, sum_by, IfOk};
+ghost use Rattle.spv_table.specs.Table.{Table};
+ghost use Rattle.spv_module.specs.Module.{plain_insts};
+ghost use Rattle.spv_layout.specs.Place.{word_count};
+ghost use Rattle.spv_layout.specs.Plan.{IsPlan};
+ghost use Rattle.spv_ids.specs.Outcome.{AreIds};
+ghost use Rattle.spv_ids.specs.Outcome as id_outcome;
+ghost use Rattle.spv_types.specs.Outcome as type_outcome;
+ghost use Rattle.spv_flow.specs.Outcome as flow_outcome;
+ghost use Rattle.spv_verdict.specs.Broken.{IsTold};
+ghost use Rattle.spv_module.specs.declared.fault.Stop.TheVariants as stops;
+ghost use Rattle.spv_reasons.specs.inner.Judged.{IsEarly, IsJudged, IsShownAt};
 
+use crate::kinds::{is_of_calls, is_of_capabilities, is_of_roles, is_of_values};
 use spv_branch_reasons::branch_evidence;
 use spv_call_reasons::call_evidence;
 use spv_capability_reasons::capability_evidence;
@@ -9,7 +22,7 @@ use spv_id_reasons::{id_evidence, role_evidence};
 use spv_ids::{Ids, number};
 use spv_layout::laws::member_or_dead;
 use spv_layout::{Plan, lay_out};
-use spv_module::{Fault, Module, Rule, Stop};
+use spv_module::{Fault, Module, Stop};
 use spv_table::{Memory, Table};
 use spv_type_reasons::type_evidence;
 use spv_types::type_check;
@@ -39,7 +52,9 @@ fn opcode_of(module: &Module<'_>, inst: u32) -> u16 {
 }
 
 /// A fault of the shapes and the layout.
-fn misplaced<'a>(module: Module<'a>, stop: Stop) -> Result<Judged<'a>, Memory> {
+fn misplaced<'a>(module: Module<'a>, stop: Stop) -> Result<Judged<'a>, Memory>
+    ensures { (G : Table) (bound : ℕ) → IsTold G bound (plain_insts «module».entry) stop → IsEarly stop → IfOk result (λ j. IsJudged G bound (plain_insts «module».entry) j) }
+{
     match stop {
         Stop::Fault(fault) => {
             let opcode = opcode_of(&module, fault.inst);
@@ -59,7 +74,11 @@ fn misnumbered<'a>(
     module: Module<'a>,
     plan: &Plan,
     stop: Stop,
-) -> Result<Judged<'a>, Memory> {
+) -> Result<Judged<'a>, Memory>
+    requires words { 5 + sum_by word_count (plain_insts «module») ≤ 4194304 }
+    requires refused { (G : Table) × IsPlan G (plain_insts «module») plan.now × id_outcome.IsRefusal G «module».header.bound (plain_insts «module») stop }
+    ensures { (G : Table) → IsPlan G (plain_insts «module».entry) plan.now → IsTold G «module».entry.header.bound (plain_insts «module».entry) stop → IfOk result (λ j. IsJudged G «module».entry.header.bound (plain_insts «module».entry) j) }
+{
     match stop {
         Stop::Fault(fault) => {
             let evidence = id_evidence(alloc, &module, plan, fault.rule, fault.inst)?;
@@ -81,14 +100,20 @@ fn typing_evidence(
     plan: &Plan,
     ids: &Ids,
     fault: Fault,
-) -> Result<Evidence, Memory> {
-    match fault.rule {
-        Rule::Y1 => Ok(role_evidence(module, plan, ids, fault.inst)),
-        Rule::C1 | Rule::C2 | Rule::M1 | Rule::E1 | Rule::E2 => {
-            Ok(capability_evidence(alloc, table, module, plan, ids, fault.rule, fault.inst)?)
-        }
-        _ => Ok(type_evidence(alloc, module, plan, ids, fault.rule, fault.inst)?),
+) -> Result<Evidence, Memory>
+    requires words { 5 + sum_by word_count (plain_insts «module».now) ≤ 4194304 }
+    requires plan { IsPlan table.now (plain_insts «module».now) plan.now }
+    requires ids { AreIds table.now «module».now.header.bound (plain_insts «module».now) ids.now }
+    requires refused { type_outcome.IsRefusal table.now (plain_insts «module».now) (stops.Fault fault) }
+    ensures { IfOk result (λ e. IsShownAt table.now «module».now.header.bound (plain_insts «module».now) fault e) }
+{
+    if is_of_roles(fault.rule) {
+        return Ok(role_evidence(module, plan, ids, fault.inst));
     }
+    if is_of_capabilities(fault.rule) {
+        return capability_evidence(alloc, table, module, plan, ids, fault.rule, fault.inst);
+    }
+    Ok(type_evidence(alloc, module, plan, ids, fault.rule, fault.inst)?)
 }
 
 /// What shows that a rule on flow is broken at an instruction.
@@ -98,12 +123,19 @@ fn flow_evidence(
     plan: &Plan,
     ids: &Ids,
     fault: Fault,
-) -> Result<Evidence, Memory> {
-    match fault.rule {
-        Rule::A1 | Rule::A2 => Ok(walk_evidence(alloc, module, plan, ids, fault.rule, fault.inst)?),
-        Rule::G1 => Ok(call_evidence(alloc, module, plan, ids, fault.inst)?),
-        _ => Ok(branch_evidence(alloc, module, plan, ids, fault.rule, fault.inst)?),
+) -> Result<Evidence, Memory>
+    requires words { 5 + sum_by word_count (plain_insts «module».now) ≤ 4194304 }
+    requires known { (G : Table) × IsPlan G (plain_insts «module».now) plan.now × AreIds G «module».now.header.bound (plain_insts «module».now) ids.now × flow_outcome.IsFirstOfFlow G (plain_insts «module».now) fault.rule fault.inst }
+    ensures { (G : Table) → IsPlan G (plain_insts «module».now) plan.now → AreIds G «module».now.header.bound (plain_insts «module».now) ids.now → flow_outcome.IsFirstOfFlow G (plain_insts «module».now) fault.rule fault.inst
+        → IfOk result (λ e. IsShownAt G «module».now.header.bound (plain_insts «module».now) fault e) }
+{
+    if is_of_values(fault.rule) {
+        return Ok(walk_evidence(alloc, module, plan, ids, fault.rule, fault.inst)?);
     }
+    if is_of_calls(fault.rule) {
+        return Ok(call_evidence(alloc, module, plan, ids, fault.inst)?);
+    }
+    Ok(branch_evidence(alloc, module, plan, ids, fault.rule, fault.inst)?)
 }
 
 /// A fault of the roles, capabilities, entry points or types.
@@ -114,7 +146,13 @@ fn mistyped<'a>(
     plan: &Plan,
     ids: &Ids,
     stop: Stop,
-) -> Result<Judged<'a>, Memory> {
+) -> Result<Judged<'a>, Memory>
+    requires words { 5 + sum_by word_count (plain_insts «module») ≤ 4194304 }
+    requires plan { IsPlan table.now (plain_insts «module») plan.now }
+    requires ids { AreIds table.now «module».header.bound (plain_insts «module») ids.now }
+    requires refused { type_outcome.IsRefusal table.now (plain_insts «module») stop }
+    ensures { IsTold table.now «module».entry.header.bound (plain_insts «module».entry) stop → IfOk result (λ j. IsJudged table.now «module».entry.header.bound (plain_insts «module».entry) j) }
+{
     match stop {
         Stop::Fault(fault) => {
             let evidence = typing_evidence(alloc, table, &module, plan, ids, fault)?;
@@ -135,7 +173,12 @@ fn misled<'a>(
     plan: &Plan,
     ids: &Ids,
     stop: Stop,
-) -> Result<Judged<'a>, Memory> {
+) -> Result<Judged<'a>, Memory>
+    requires words { 5 + sum_by word_count (plain_insts «module») ≤ 4194304 }
+    requires known { (G : Table) × IsPlan G (plain_insts «module») plan.now × AreIds G «module».header.bound (plain_insts «module») ids.now × flow_outcome.IsRefusal G (plain_insts «module») stop }
+    ensures { (G : Table) → IsPlan G (plain_insts «module».entry) plan.now → AreIds G «module».entry.header.bound (plain_insts «module».entry) ids.now → flow_outcome.IsRefusal G (plain_insts «module».entry) stop
+        → IsTold G «module».entry.header.bound (plain_insts «module».entry) stop → IfOk result (λ j. IsJudged G «module».entry.header.bound (plain_insts «module».entry) j) }
+{
     match stop {
         Stop::Fault(fault) => {
             let evidence = flow_evidence(alloc, &module, plan, ids, fault)?;

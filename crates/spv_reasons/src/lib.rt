@@ -5,6 +5,7 @@ mod about;
 mod context;
 mod explained;
 mod judged;
+mod kinds;
 mod needs;
 mod place;
 mod sentences;

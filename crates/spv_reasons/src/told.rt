@@ -1,5 +1,5 @@
 //! The lines of evidence.
-ghost use Rattle.std.specs.Prelude.{[], ◌∷◌, codes, string_bytes, OnOk};
+ghost use Rattle.std.specs.Prelude.{◌≡◌, ◌++◌, [], ◌∷◌, codes, string_bytes, OnOk};
 ghost use Rattle.spv_module.specs.Module.{plain_insts};
 ghost use Rattle.spv_evidence.specs.declared.evidence.Evidence.TheVariants as evidence;
 ghost use Rattle.spv_reasons.specs.Lines as lines;
@@ -217,7 +217,7 @@ fn may_come_line(
 
 /// Adds the line of a cycle, which begins with the caller.
 fn cycle_line(about: About<'_, '_>, out: &mut String, cycle: &[u32]) -> Result<(), AllocError>
-    ensures { OnOk result (Adds (lines.cycle_line (plain_insts about.entry.«module».now) cycle.now ∷ []) (string_bytes out.old) (string_bytes out.new)) }
+    ensures { OnOk result (string_bytes out.new ≡ string_bytes out.old ++ lines.cycle_line (plain_insts about.entry.«module».now) cycle.now) }
 {
     out.push_str("cycle:")?;
     let caller = cycle.len().saturating_sub(1);
