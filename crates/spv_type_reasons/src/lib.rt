@@ -1,0 +1,9 @@
+//! What shows that a rule of types is broken: evidence for the rules Y2 to Y8.
+#![tactic(auto)]
+
+mod call;
+mod function;
+pub mod laws;
+mod repeat;
+mod returns;
+mod signature;
