@@ -7,5 +7,6 @@ pub mod Calling
 pub mod Placed
 pub mod Differing
 pub mod Returning
+pub mod Valued
 pub mod Parameters
 pub mod Repeating

@@ -4,6 +4,7 @@
 mod call;
 mod function;
 pub mod laws;
+mod operation;
 mod repeat;
 mod returns;
 mod signature;
