@@ -7,6 +7,7 @@ pub mod Calling
 pub mod Placed
 pub mod Differing
 pub mod Returning
+pub mod Firsts
 pub mod Valued
 pub mod Parameters
 pub mod Repeating

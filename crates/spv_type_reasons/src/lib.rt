@@ -2,8 +2,11 @@
 #![tactic(auto)]
 
 mod call;
+mod declaration;
+mod first;
 mod function;
 pub mod laws;
+mod operands;
 mod operation;
 mod repeat;
 mod returns;
