@@ -39,7 +39,7 @@ pub fn constant_of(opcode: u16) -> Option<Constant>
 }
 
 /// Whether the bits of a number's low word from the width of its type up are 0.
-fn fits_width(definitions: &Definitions, r: u32, low: u32) -> bool
+pub fn fits_width(definitions: &Definitions, r: u32, low: u32) -> bool
     ensures { IsTrue result ↔ FitsWidth definitions.now r low }
 {
     match definitions.form(r) {
@@ -73,7 +73,7 @@ fn is_of_type(inst: &Inst, t: u32) -> bool
 
 /// Whether an id stands for a value of a part's type, of which a composite constant may be made.
 #[inline(always)]
-fn is_typed_part(definitions: &Definitions, spec: bool, part: Option<u32>, x: u32) -> bool
+pub fn is_typed_part(definitions: &Definitions, spec: bool, part: Option<u32>, x: u32) -> bool
     ensures { result ≡ found.is_typed_part spec part (definition_of definitions.now x) }
 {
     match (definitions.definition(x), part) {
@@ -118,7 +118,7 @@ fn are_constant_parts(definitions: &Definitions, spec: bool, r: u32, operands: &
     are_all_parts(definitions, spec, r, operands)
 }
 
-fn is_bool(definitions: &Definitions, r: u32) -> bool
+pub fn is_bool(definitions: &Definitions, r: u32) -> bool
     ensures { IsTrue result ↔ IsBool definitions.now r }
 {
     match definitions.form(r) {

@@ -44,7 +44,7 @@ pub fn declaration_of(opcode: u16) -> Option<Declaration>
     }
 }
 
-fn is_int_width(width: u32) -> bool
+pub fn is_int_width(width: u32) -> bool
     ensures { IsTrue result ↔ IsIntWidth width }
 {
     match width {
@@ -53,7 +53,7 @@ fn is_int_width(width: u32) -> bool
     }
 }
 
-fn is_float_width(width: u32) -> bool
+pub fn is_float_width(width: u32) -> bool
     ensures { IsTrue result ↔ IsFloatWidth width }
 {
     match width {
@@ -62,7 +62,7 @@ fn is_float_width(width: u32) -> bool
     }
 }
 
-fn is_vector_count(count: u32) -> bool
+pub fn is_vector_count(count: u32) -> bool
     ensures { IsTrue result ↔ IsVectorCount count }
 {
     match count {
@@ -72,7 +72,7 @@ fn is_vector_count(count: u32) -> bool
 }
 
 /// Whether a constant may be the length of an array.
-fn is_length(definitions: &Definitions, x: u32) -> bool
+pub fn is_length(definitions: &Definitions, x: u32) -> bool
     ensures { IsTrue result ↔ IsLength definitions.now x }
 {
     match (definitions.type_of(x), length(definitions, x)) {
@@ -81,7 +81,7 @@ fn is_length(definitions: &Definitions, x: u32) -> bool
     }
 }
 
-fn is_pointee(definitions: &Definitions, t: u32) -> bool
+pub fn is_pointee(definitions: &Definitions, t: u32) -> bool
     ensures { IsTrue result ↔ IsPointee definitions.now t }
 {
     match definitions.form(t) {
@@ -90,7 +90,7 @@ fn is_pointee(definitions: &Definitions, t: u32) -> bool
     }
 }
 
-fn is_returned(definitions: &Definitions, t: u32) -> bool
+pub fn is_returned(definitions: &Definitions, t: u32) -> bool
     ensures { IsTrue result ↔ IsReturned definitions.now t }
 {
     match definitions.form(t) {
@@ -204,7 +204,13 @@ fn is_pointer_of(inst: &Inst, class: u32) -> bool
 }
 
 /// Whether an id is defined after the instruction of a number, as a pointer type of a storage class.
-fn is_pointer_after(definitions: &Definitions, ids: &Ids, number: u32, id: u32, class: u32) -> bool
+pub fn is_pointer_after(
+    definitions: &Definitions,
+    ids: &Ids,
+    number: u32,
+    id: u32,
+    class: u32,
+) -> bool
     requires { (x : ℕ) → IsDefinitionOf definitions.now x (definition_in ids.now x) }
     ensures { IsTrue result ↔ IsPointerAfter definitions.now number id class }
 {

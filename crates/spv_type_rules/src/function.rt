@@ -25,7 +25,10 @@ pub struct Function<'m, 'a> {
 
 /// The function that the instruction of a number is of.
 #[inline(always)]
-fn function_of<'m, 'a>(definitions: &Definitions<'m, 'a>, number: u32) -> Option<Function<'m, 'a>>
+pub fn function_of<'m, 'a>(
+    definitions: &Definitions<'m, 'a>,
+    number: u32,
+) -> Option<Function<'m, 'a>>
     requires { number < length definitions.now }
     ensures { MatchOption result ((f : ℕ) → ¬ (IsOfFunction definitions.now number f)) (λ f. IsOfOne definitions.now number f.number (plain_inst f.inst.now)) }
 {
@@ -94,7 +97,7 @@ pub fn is_sound_return_value(definitions: &Definitions, number: u32, inst: &Inst
 
 /// The function type that an OpFunction names.
 #[inline(always)]
-fn function_type(function: &Inst) -> Option<u32>
+pub fn function_type(function: &Inst) -> Option<u32>
     ensures { result ≡ function_type_in (plain_inst function.now) }
 {
     match (function.opcode, after_head(function.operands.as_slice())) {
@@ -105,7 +108,7 @@ fn function_type(function: &Inst) -> Option<u32>
 
 /// What follows the result of a function's type: what it returns, and what it takes.
 #[inline(always)]
-fn signature<'m, 'a>(
+pub fn signature<'m, 'a>(
     definitions: &Definitions<'m, 'a>,
     function: &Inst,
 ) -> Option<&'m [Operand<'a>]>
@@ -253,7 +256,7 @@ pub fn is_sound_function(definitions: &Definitions, number: u32, inst: &Inst, co
 }
 
 /// The type of a parameter by the type of its function, where so many parameters are before it.
-fn parameter_type(definitions: &Definitions, function: &Inst, before: u32) -> Option<u32>
+pub fn parameter_type(definitions: &Definitions, function: &Inst, before: u32) -> Option<u32>
     ensures { result ≡ parameter_type_of definitions.now (plain_inst function.now) before }
 {
     let signature = signature(definitions, function)?;

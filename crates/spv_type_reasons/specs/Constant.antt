@@ -1,0 +1,40 @@
+-- Y4, operand by operand. [3.49.7]
+use Rattle.std.specs.Prelude.{◌≡◌, ◌+◌, ◌<◌, ℕ, List, [], ◌∷◌, Bool, true, false, Some, IsSomeAnd, length, slice_get}
+use Rattle.spv_module.specs.Operand.{Plain, Number, PlainInst, type_in}
+use Rattle.spv_module.specs.Width.{type_of}
+use Rattle.spv_ops.specs.Operands.{ids_in, after_head}
+use Rattle.spv_ops.specs.Parts.{part_of, count_of}
+use Rattle.spv_ops.specs.Types.{IsBool, IsNumber, IsData}
+use Rattle.spv_type_rules.specs.declared.constant.Constant.{Constant}
+use Rattle.spv_type_rules.specs.declared.constant.Constant.TheVariants as kind
+use Rattle.spv_type_rules.specs.Constant.{IsPart, FitsWidth, constant_of}
+
+-- the id stands for a constant, of the type of the part k of the type r
+abbrev pub IsPartOf : List PlainInst → Bool → ℕ → ℕ → ℕ → Type 0
+IsPartOf is spec r k x = IsPart is spec x × IsSomeAnd (part_of is r k) (λ t. type_of is x ≡ Some t)
+
+-- what a composite constant of the type r asks of operand k: as many parts as r has, and of each the type at its place
+abbrev pub AsksParts : List PlainInst → Bool → ℕ → List ℕ → ℕ → Type 0
+AsksParts is spec r xs k =
+    (k ≡ 0 → count_of is r ≡ Some (length xs)) × ((j x : ℕ) → k ≡ 2 + j → slice_get xs j ≡ Some x → IsPartOf is spec r j x)
+
+-- What a constant of the type r asks of operand k, from 0, by what follows the type and the result: all of these together are
+-- what Y4 demands of it. An operand that is not named is free.
+abbrev pub AsksOf : List PlainInst → Constant → ℕ → List Plain → ℕ → Type 0
+AsksOf is kind.Bool r os k = k ≡ 0 → IsBool is r
+AsksOf is kind.Number r (Number low high words ∷ []) k = (k ≡ 0 → IsNumber is r) × (k ≡ 2 → FitsWidth is r low)
+AsksOf is kind.Composite r os k = AsksParts is false r (ids_in os) k
+AsksOf is kind.SpecComposite r os k = AsksParts is true r (ids_in os) k
+AsksOf is kind.Null r os k = k ≡ 0 → IsData is r
+AsksOf is _ r os k = ⊥
+
+-- the same of the operands of an instruction
+abbrev pub Asks : List PlainInst → Constant → List Plain → ℕ → Type 0
+Asks is c os k = IsSomeAnd (type_in os) (λ r. AsksOf is c r (after_head os) k)
+
+-- A constant fails first at operand k: what is asked of it does not hold, and what is asked of those before it does.
+pub record FailsFirst (is : List PlainInst) (i : PlainInst) (k : ℕ) : Type 0 where
+  pub kind : Constant
+  pub makes : constant_of i.opcode ≡ Some kind
+  pub fails : ¬ (Asks is kind i.operands k)
+  pub before : (j : ℕ) → j < k → Asks is kind i.operands j

@@ -1,0 +1,39 @@
+-- Y2, operand by operand. [3.49.6; widths and counts own]
+use Rattle.std.specs.Prelude.{◌≡◌, ◌+◌, ◌<◌, ℕ, List, [], ◌∷◌, Some, slice_get}
+use Rattle.spv_module.specs.Operand.{Plain, Result, Id, Word, Value, PlainInst}
+use Rattle.spv_ops.specs.Form.{form_of}
+use Rattle.spv_ops.specs.Operands.{ids_in}
+use Rattle.spv_ops.specs.Types.{scalar_in, IsData}
+use Rattle.spv_ops.specs.declared.form.Scalar.{Scalar}
+use Rattle.spv_type_rules.specs.declared.declaration.Declaration.{Declaration}
+use Rattle.spv_type_rules.specs.declared.declaration.Declaration.TheVariants as kind
+use Rattle.spv_type_rules.specs.Declaration.{IsIntWidth, IsFloatWidth, IsVectorCount, IsLength, IsPointee}
+use Rattle.spv_type_rules.specs.Declaration.{IsReturned, IsPointerAfter, declaration_of}
+
+-- the id declares a scalar type
+abbrev pub IsScalar : List PlainInst → ℕ → Type 0
+IsScalar is c = (s : Scalar) × (scalar_in (form_of is c) ≡ Some s)
+
+-- The ids that follow operand `first` are of data types: what is asked of operand k of these.
+abbrev pub AsksData : List PlainInst → ℕ → List Plain → ℕ → Type 0
+AsksData is first os k = (j t : ℕ) → k ≡ first + j → slice_get (ids_in os) j ≡ Some t → IsData is t
+
+-- What a declaration at instruction n asks of its operand k, from 0: all of these together are what Y2 demands of it. An operand
+-- that is not named is free.
+abbrev pub Asks : List PlainInst → ℕ → Declaration → List Plain → ℕ → Type 0
+Asks is n kind.Int (Result t ∷ Word w ∷ Word s ∷ []) k = (k ≡ 1 → IsIntWidth w) × (k ≡ 2 → s ≡ 0)
+Asks is n kind.Float (Result t ∷ Word w ∷ []) k = k ≡ 1 → IsFloatWidth w
+Asks is n kind.Vector (Result t ∷ Id c ∷ Word m ∷ []) k = (k ≡ 1 → IsScalar is c) × (k ≡ 2 → IsVectorCount m)
+Asks is n kind.Array (Result t ∷ Id e ∷ Id l ∷ []) k = (k ≡ 1 → IsData is e) × (k ≡ 2 → IsLength is l)
+Asks is n kind.Struct (Result t ∷ os) k = AsksData is 1 os k
+Asks is n kind.Pointer (Result t ∷ Value j class ∷ Id p ∷ []) k = k ≡ 2 → IsPointee is p
+Asks is n kind.Function (Result t ∷ Id r ∷ os) k = (k ≡ 1 → IsReturned is r) × AsksData is 2 os k
+Asks is n kind.Forward (Id p ∷ Value j class ∷ []) k = k ≡ 0 → IsPointerAfter is n p class
+Asks is n _ os k = ⊥
+
+-- A declaration fails first at operand k: what is asked of it does not hold, and what is asked of those before it does.
+pub record FailsFirst (is : List PlainInst) (n : ℕ) (i : PlainInst) (k : ℕ) : Type 0 where
+  pub kind : Declaration
+  pub declares : declaration_of i.opcode ≡ Some kind
+  pub fails : ¬ (Asks is n kind i.operands k)
+  pub before : (j : ℕ) → j < k → Asks is n kind i.operands j

@@ -1,0 +1,6 @@
+pub mod Declaration
+pub mod Constant
+pub mod Function
+pub mod Evidence
+pub mod Example
+pub mod inner

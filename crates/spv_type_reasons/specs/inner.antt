@@ -1,0 +1,5 @@
+pub mod Known
+pub mod Differences
+pub mod Values
+pub mod First
+pub mod Operands

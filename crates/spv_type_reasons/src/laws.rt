@@ -1,0 +1,38 @@
+//! Laws of evidence, and worked examples. Each function does nothing: its contract is what is proved.
+
+ghost use Rattle.std.specs.Prelude.{◌≡◌, ◌↔◌, ℕ, List, Some, None, slice_get, IsSomeAnd};
+ghost use Rattle.spv_table.specs.Table.{Table};
+ghost use Rattle.spv_module.specs.Operand.{Plain, PlainInst, type_in};
+ghost use Rattle.spv_module.specs.declared.fault.Rule.{Rule};
+ghost use Rattle.spv_module.specs.declared.fault.Rule.TheVariants.{Y2, Y3, Y8};
+ghost use Rattle.spv_type_rules.specs.declared.declaration.Declaration.{Declaration};
+ghost use Rattle.spv_type_rules.specs.declared.constant.Constant.{Constant};
+ghost use Rattle.spv_type_rules.specs.Declaration.{Declares};
+ghost use Rattle.spv_type_rules.specs.Constant.{Constitutes};
+ghost use Rattle.spv_type_rules.specs.Keeps.{Keeps};
+ghost use Rattle.spv_ops.specs.Operands.{after_head};
+ghost use Rattle.spv_evidence.specs.declared.evidence.Evidence.{Evidence};
+ghost use Rattle.spv_evidence.specs.declared.evidence.Evidence.TheVariants.{Operand, Earlier, Mismatch};
+ghost use Rattle.spv_evidence.specs.declared.evidence.Side.TheVariants.{Number};
+ghost use Rattle.spv_type_reasons.specs.Declaration as declaration;
+ghost use Rattle.spv_type_reasons.specs.Constant as constant;
+ghost use Rattle.spv_type_reasons.specs.Evidence.{IsEvidence};
+ghost use Rattle.spv_type_reasons.specs.Example.{with_vector, with_again, with_short_call};
+
+/// What is evidence for a rule shows that the instruction does not keep what the rule demands.
+pub fn suffices()
+    ensures { (G : Table) (is : List PlainInst) (r : Rule) (n : ℕ) (e : Evidence) → IsEvidence G is r n e
+        → (i : PlainInst) → slice_get is n ≡ Some i → ¬ (Keeps G is r n i) }
+{}
+
+/// What a declaration asks of its operands, all together, is what Y2 demands of it.
+pub fn operands_declare()
+    ensures { (is : List PlainInst) (n : ℕ) (d : Declaration) (os : List Plain)
+        → ((k : ℕ) → declaration.Asks is n d os k) ↔ Declares is n d os }
+{}
+
+/// What a constant asks of its operands, all together, is what Y4 demands of it.
+pub fn operands_make()
+    ensures { (is : List PlainInst) (c : Constant) (os : List Plain)
+        → ((k : ℕ) → constant.Asks is c os k) ↔ IsSomeAnd (type_in os) (λ r. Constitutes is c r (after_head os)) }
+{}

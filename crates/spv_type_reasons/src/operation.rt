@@ -1,0 +1,102 @@
+//! Evidence for Y5.
+
+ghost use Rattle.std.specs.Prelude.{◌≡◌, ◌↔◌, ℕ, IfOk, IsTrue, option_and_then, slice_get};
+ghost use Rattle.spv_table.specs.Table.{Table};
+ghost use Rattle.spv_module.specs.declared.fault.Rule.TheVariants.{Y5};
+ghost use Rattle.spv_module.specs.Module.{plain_inst, plain_operands};
+ghost use Rattle.spv_layout.specs.Shape.{Fits};
+ghost use Rattle.spv_ops.specs.Operands.{result_type_in};
+ghost use Rattle.spv_ops.specs.Parts.{id_in};
+ghost use Rattle.spv_ops.specs.Typed.{IsTyped};
+ghost use Rattle.spv_type_reasons.specs.Evidence.{AreTyped, Shows};
+ghost use Rattle.spv_type_reasons.specs.inner.Values as values;
+ghost use Rattle.spv_type_reasons.specs.inner.Values.{IsValueAt, IsTypeable};
+
+use spv_evidence::{Evidence, Listed, Role, Typed};
+use spv_layout::role;
+use spv_module::{Inst, Operand};
+use spv_ops::Definitions;
+use std::alloc::{AllocError, Global};
+
+/// Whether a role is that of a value.
+fn is_value(role: Option<Role>) -> bool
+    ensures { result ≡ values.is_value role }
+{
+    match role {
+        Some(Role::Value) => true,
+        _ => false,
+    }
+}
+
+/// The id that operand `k` is, if it is one that is neither a type nor a result.
+fn id_at(operands: &[Operand], k: usize) -> Option<u32>
+    ensures { result ≡ option_and_then id_in (slice_get (plain_operands operands.now) k) }
+{
+    match operands.get(k) {
+        Some(Operand::Id(x)) => Some(*x),
+        _ => None,
+    }
+}
+
+/// The id that operand `k` of an instruction uses as a value, if it does.
+fn value_at(inst: &Inst, k: usize) -> Option<u32>
+    ensures { (G : Table) → Fits G (plain_inst inst.now) → IsValueAt G (plain_inst inst.now) k result }
+{
+    if is_value(role(inst, k)) {
+        id_at(inst.operands.as_slice(), k)
+    } else {
+        None
+    }
+}
+
+/// The value operands of an instruction, in order, each with the type that it is declared with.
+///
+/// The error is want of memory.
+fn typed_values(
+    alloc: Global,
+    definitions: &Definitions,
+    inst: &Inst,
+) -> Result<Vec<Typed>, AllocError>
+    requires { (G : Table) × IsTypeable G definitions.now (plain_inst inst.now) }
+    ensures { IfOk result (λ vs. (G : Table) → Fits G (plain_inst inst.now) → AreTyped G definitions.now (plain_inst inst.now) vs.items) }
+{
+    let mut values = Vec::new(alloc);
+    for k in 0..inst.operands.as_slice().len() {
+        if let Some(value) = value_at(inst, k) {
+            let Some(of) = definitions.type_of(value) else {
+                unreachable!();
+            };
+            values.push(Typed { value, of })?;
+        }
+    }
+    Ok(values)
+}
+
+/// The result type, which is the first operand.
+fn result_type(operands: &[Operand]) -> Option<u32>
+    ensures { result ≡ result_type_in (plain_operands operands.now) }
+{
+    match operands {
+        [Operand::OfType(id), ..] => Some(*id),
+        _ => None,
+    }
+}
+
+/// What shows that Y5 is broken at an instruction: its result type, and its value operands with their types.
+///
+/// The error is want of memory.
+pub fn operation_evidence(
+    alloc: Global,
+    definitions: &Definitions,
+    inst: &Inst,
+) -> Result<Evidence, AllocError>
+    requires { (G : Table) × IsTypeable G definitions.now (plain_inst inst.now) }
+    ensures { IfOk result (λ e. (G : Table) (n : ℕ) → Fits G (plain_inst inst.now) → ¬ (IsTyped G definitions.now n (plain_inst inst.now))
+        → Shows G definitions.now n (plain_inst inst.now) Y5 e) }
+{
+    let values = typed_values(alloc, definitions, inst)?;
+    Ok(Evidence::Types {
+        result: result_type(inst.operands.as_slice()),
+        values: Listed::from_vec(values),
+    })
+}
