@@ -1,5 +1,5 @@
 -- Of which part a broken rule is, by its name.
-use Rattle.std.proofs.Common.{◌≡◌, ◌⊎◌, ℕ, List, Bool, true, false, refl, arith}
+use Rattle.std.proofs.Common.{◌≡◌, ◌⊎◌, ℕ, List, Bool, true, false, refl, inl, inr, subst, arith}
 use Rattle.std.specs.Prelude.{Some, slice_get}
 use Rattle.spv_table.specs.Table.{Table}
 use Rattle.spv_module.specs.Operand.{PlainInst}
@@ -9,7 +9,13 @@ use Rattle.spv_layout.specs.First.{stage_of, IsFirst, IsUnbroken}
 use Rattle.spv_roles.specs.Broken as roles
 use Rattle.spv_capabilities.specs.Keeps as capabilities
 use Rattle.spv_type_rules.specs.Keeps as rules
+use Rattle.spv_roles.specs.Outcome.{AreInRole}
 use Rattle.spv_types.specs.Broken as types
+use Rattle.spv_branches.specs.Broken as branches
+use Rattle.spv_calls.specs.Broken as calls
+use Rattle.spv_flow.specs.Outcome.{IsFirstOfFlow}
+use Rattle.spv_verdict.proofs.Decided.{held}
+use Rattle.spv_verdict.proofs.RulesDecided.{plays_or_not}
 use Rattle.spv_reasons.specs.inner.Kinds.{is_of_roles, is_of_capabilities, is_of_values, is_of_calls}
 
 -- rules by what is said of them
@@ -223,7 +229,7 @@ of_values rule.A1 e = refl
 of_values rule.A2 e = refl
 of_values rule.G1 e = absurd (let h : false ≡ true = e in cc)
 
-pub eighth : (r : Rule) → stage_of r ≡ 8 → r ≡ rule.G1
+pub eighth : (r : Rule) → stage_of r ≡ 8 → is_of_calls r ≡ true
 eighth rule.I1 e = absurd (omega (arith, e))
 eighth rule.I2 e = absurd (omega (arith, e))
 eighth rule.I3 e = absurd (omega (arith, e))
@@ -264,6 +270,48 @@ eighth rule.F4 e = absurd (omega (arith, e))
 eighth rule.A1 e = absurd (omega (arith, e))
 eighth rule.A2 e = absurd (omega (arith, e))
 eighth rule.G1 e = refl
+
+pub of_calls : (r : Rule) → is_of_calls r ≡ true → stage_of r ≡ 8
+of_calls rule.I1 e = absurd (let h : false ≡ true = e in cc)
+of_calls rule.I2 e = absurd (let h : false ≡ true = e in cc)
+of_calls rule.I3 e = absurd (let h : false ≡ true = e in cc)
+of_calls rule.I4 e = absurd (let h : false ≡ true = e in cc)
+of_calls rule.I5 e = absurd (let h : false ≡ true = e in cc)
+of_calls rule.I6 e = absurd (let h : false ≡ true = e in cc)
+of_calls rule.I7 e = absurd (let h : false ≡ true = e in cc)
+of_calls rule.I8 e = absurd (let h : false ≡ true = e in cc)
+of_calls rule.I9 e = absurd (let h : false ≡ true = e in cc)
+of_calls rule.I10 e = absurd (let h : false ≡ true = e in cc)
+of_calls rule.I11 e = absurd (let h : false ≡ true = e in cc)
+of_calls rule.I12 e = absurd (let h : false ≡ true = e in cc)
+of_calls rule.P1 e = absurd (let h : false ≡ true = e in cc)
+of_calls rule.L1 e = absurd (let h : false ≡ true = e in cc)
+of_calls rule.L2 e = absurd (let h : false ≡ true = e in cc)
+of_calls rule.D1 e = absurd (let h : false ≡ true = e in cc)
+of_calls rule.D2 e = absurd (let h : false ≡ true = e in cc)
+of_calls rule.D3 e = absurd (let h : false ≡ true = e in cc)
+of_calls rule.D4 e = absurd (let h : false ≡ true = e in cc)
+of_calls rule.D5 e = absurd (let h : false ≡ true = e in cc)
+of_calls rule.Y1 e = absurd (let h : false ≡ true = e in cc)
+of_calls rule.C1 e = absurd (let h : false ≡ true = e in cc)
+of_calls rule.C2 e = absurd (let h : false ≡ true = e in cc)
+of_calls rule.M1 e = absurd (let h : false ≡ true = e in cc)
+of_calls rule.E1 e = absurd (let h : false ≡ true = e in cc)
+of_calls rule.E2 e = absurd (let h : false ≡ true = e in cc)
+of_calls rule.Y2 e = absurd (let h : false ≡ true = e in cc)
+of_calls rule.Y3 e = absurd (let h : false ≡ true = e in cc)
+of_calls rule.Y4 e = absurd (let h : false ≡ true = e in cc)
+of_calls rule.Y5 e = absurd (let h : false ≡ true = e in cc)
+of_calls rule.Y6 e = absurd (let h : false ≡ true = e in cc)
+of_calls rule.Y7 e = absurd (let h : false ≡ true = e in cc)
+of_calls rule.Y8 e = absurd (let h : false ≡ true = e in cc)
+of_calls rule.F1 e = absurd (let h : false ≡ true = e in cc)
+of_calls rule.F2 e = absurd (let h : false ≡ true = e in cc)
+of_calls rule.F3 e = absurd (let h : false ≡ true = e in cc)
+of_calls rule.F4 e = absurd (let h : false ≡ true = e in cc)
+of_calls rule.A1 e = absurd (let h : false ≡ true = e in cc)
+of_calls rule.A2 e = absurd (let h : false ≡ true = e in cc)
+of_calls rule.G1 e = refl
 
 pub the_call : (r : Rule) → is_of_calls r ≡ true → r ≡ rule.G1
 the_call rule.I1 e = absurd (let h : false ≡ true = e in cc)
@@ -326,3 +374,74 @@ pub types_of : (G : Table) (is : List PlainInst) (r : Rule) (n : ℕ) → is_of_
 types_of G is _ _ d e (types.of_roles _ _ (roles.miscast n k x r used plays)) = absurd (let h : true ≡ false = d in cc)
 types_of G is _ _ d e (types.of_capabilities r n i at h) = absurd (no_capability G is r n i e h)
 types_of G is _ _ d e (types.of_types r n i at h) = (i, at, h)
+
+-- a broken rule of stage 4 or 5
+pub broken_in : (G : Table) (is : List PlainInst) (r : Rule) (n : ℕ) → (IsFirst (types.Broken G is) 4 r n ⊎ (IsUnbroken (types.Broken G is) 4 × IsFirst (types.Broken G is) 5 r n)) → types.Broken G is r n
+broken_in G is r n (inl f) = f.broken
+broken_in G is r n (inr f) = f.1.broken
+
+-- where the rule is none on roles, no rule on roles is broken, so all uses are in their roles
+pub in_roles : (G : Table) (is : List PlainInst) → IsUnbroken (types.Broken G is) 4 → AreInRole G is
+in_roles G is u = record { each = λ n k x r used. held (plays_or_not is r x) (λ h. u rule.Y1 n refl (types.of_roles rule.Y1 n (roles.miscast n k x r used h))) }
+
+fourth : (r : Rule) → stage_of r ≡ 4 → is_of_roles r ≡ true
+fourth rule.I1 e = absurd (omega (arith, e))
+fourth rule.I2 e = absurd (omega (arith, e))
+fourth rule.I3 e = absurd (omega (arith, e))
+fourth rule.I4 e = absurd (omega (arith, e))
+fourth rule.I5 e = absurd (omega (arith, e))
+fourth rule.I6 e = absurd (omega (arith, e))
+fourth rule.I7 e = absurd (omega (arith, e))
+fourth rule.I8 e = absurd (omega (arith, e))
+fourth rule.I9 e = absurd (omega (arith, e))
+fourth rule.I10 e = absurd (omega (arith, e))
+fourth rule.I11 e = absurd (omega (arith, e))
+fourth rule.I12 e = absurd (omega (arith, e))
+fourth rule.P1 e = absurd (omega (arith, e))
+fourth rule.L1 e = absurd (omega (arith, e))
+fourth rule.L2 e = absurd (omega (arith, e))
+fourth rule.D1 e = absurd (omega (arith, e))
+fourth rule.D2 e = absurd (omega (arith, e))
+fourth rule.D3 e = absurd (omega (arith, e))
+fourth rule.D4 e = absurd (omega (arith, e))
+fourth rule.D5 e = absurd (omega (arith, e))
+fourth rule.Y1 e = refl
+fourth rule.C1 e = absurd (omega (arith, e))
+fourth rule.C2 e = absurd (omega (arith, e))
+fourth rule.M1 e = absurd (omega (arith, e))
+fourth rule.E1 e = absurd (omega (arith, e))
+fourth rule.E2 e = absurd (omega (arith, e))
+fourth rule.Y2 e = absurd (omega (arith, e))
+fourth rule.Y3 e = absurd (omega (arith, e))
+fourth rule.Y4 e = absurd (omega (arith, e))
+fourth rule.Y5 e = absurd (omega (arith, e))
+fourth rule.Y6 e = absurd (omega (arith, e))
+fourth rule.Y7 e = absurd (omega (arith, e))
+fourth rule.Y8 e = absurd (omega (arith, e))
+fourth rule.F1 e = absurd (omega (arith, e))
+fourth rule.F2 e = absurd (omega (arith, e))
+fourth rule.F3 e = absurd (omega (arith, e))
+fourth rule.F4 e = absurd (omega (arith, e))
+fourth rule.A1 e = absurd (omega (arith, e))
+fourth rule.A2 e = absurd (omega (arith, e))
+fourth rule.G1 e = absurd (omega (arith, e))
+
+pub later : (G : Table) (is : List PlainInst) (r : Rule) (n : ℕ) → is_of_roles r ≡ false → (IsFirst (types.Broken G is) 4 r n ⊎ (IsUnbroken (types.Broken G is) 4 × IsFirst (types.Broken G is) 5 r n)) → AreInRole G is
+later G is r n d (inl f) = let e = fourth r f.of_stage in absurd cc
+later G is r n d (inr f) = in_roles G is f.0
+
+-- the rules on values, on calls and on branches
+pub values_of : (G : Table) (is : List PlainInst) (r : Rule) (n : ℕ) → is_of_values r ≡ true → IsFirstOfFlow G is r n → IsUnbroken (branches.Broken G is) 6 × branches.Broken G is r n
+values_of G is r n e (IsFirstOfFlow.of_branches f) = let s = of_values r e in let t = f.of_stage in absurd (omega (arith, s, t))
+values_of G is r n e (IsFirstOfFlow.of_values u f) = (u, f.broken)
+values_of G is r n e (IsFirstOfFlow.of_calls u v f) = let s = of_values r e in let t = f.of_stage in absurd (omega (arith, s, t))
+
+pub calls_of : (G : Table) (is : List PlainInst) (r : Rule) (n : ℕ) → is_of_calls r ≡ true → IsFirstOfFlow G is r n → calls.Broken is rule.G1 n
+calls_of G is r n e (IsFirstOfFlow.of_branches f) = let s = of_calls r e in let t = f.of_stage in absurd (omega (arith, s, t))
+calls_of G is r n e (IsFirstOfFlow.of_values u f) = let s = of_calls r e in let t = f.of_stage in absurd (omega (arith, s, t))
+calls_of G is r n e (IsFirstOfFlow.of_calls u v f) = subst (λ q. calls.Broken is q n) (the_call r e) f.broken
+
+pub branches_of : (G : Table) (is : List PlainInst) (r : Rule) (n : ℕ) → is_of_values r ≡ false → is_of_calls r ≡ false → IsFirstOfFlow G is r n → IsFirst (branches.Broken G is) 6 r n
+branches_of G is r n d e (IsFirstOfFlow.of_branches f) = f
+branches_of G is r n d e (IsFirstOfFlow.of_values u f) = let s = seventh r f.of_stage in absurd cc
+branches_of G is r n d e (IsFirstOfFlow.of_calls u v f) = let s = eighth r f.of_stage in absurd cc

@@ -1,3 +1,4 @@
 pub mod Adding
 pub mod Judged
 pub mod Kinds
+pub mod Reading

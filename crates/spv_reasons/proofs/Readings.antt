@@ -1,0 +1,77 @@
+-- What a module of words comes to, and what its lines tell.
+use Rattle.std.proofs.Common.{◌≡◌, ◌≤◌, ℕ, List, drop, slice_index, ap, refl, sym, subst, arith}
+use Rattle.spv_words.specs.Header.{IsFirstBroken, IsModule}
+use Rattle.spv_words.specs.declared.words.Order.{Order}
+use Rattle.spv_words.specs.declared.words.WordError.{WordError}
+use Rattle.spv_table.specs.Table.{Table}
+use Rattle.spv_module.specs.Operand.{PlainInst}
+use Rattle.spv_module.specs.Module.{plain_insts}
+use Rattle.spv_module.specs.Instruction.{IsListing}
+use Rattle.spv_module.specs.declared.fault.Rule.{Rule}
+use Rattle.spv_module.specs.declared.fault.Fault.{Fault}
+use Rattle.spv_module.specs.declared.fault.Stop.TheVariants as stop
+use Rattle.spv_module.specs.declared.module.Module.{Module}
+use Rattle.spv_layout.specs.First.{stage_of}
+use Rattle.spv_inst.specs.Outcome.{IsDeath}
+use Rattle.spv_evidence.specs.declared.evidence.Evidence.{Evidence}
+use Rattle.spv_verdict.specs.Answer.{IsAnswer, IsFault}
+use Rattle.spv_verdict.specs.Broken.{IsFirst, IsTold}
+use Rattle.spv_verdict.specs.Checked.{IsChecked}
+use Rattle.spv_verdict.specs.Program.{Program}
+use Rattle.spv_verdict.specs.declared.checked.Verdict.TheVariants as verdict
+use Rattle.spv_verdict.proofs.Firsts.{one_first}
+use Rattle.spv_verdict.proofs.Verdicts.{Laws, dead_list, same_module}
+use Rattle.spv_reasons.specs.Evidence.{IsEvidence}
+use Rattle.spv_reasons.specs.Explained.{IsShown}
+use Rattle.spv_reasons.specs.Lines.{AreIn, told_of}
+use Rattle.spv_reasons.specs.Stream.{AreLinesOf, Explain}
+use Rattle.spv_reasons.specs.declared.explained.Explained.TheVariants as explained
+use Rattle.spv_reasons.specs.inner.Judged.{IsShownAt}
+use Rattle.spv_reasons.specs.inner.Reading.{IsBrokenModule}
+
+-- a module of the words that is judged
+pub broken_module : (G : Table) (words : List ℕ) (bound : ℕ) (is : List PlainInst) (f : Fault) (e : Evidence) (m : Module) → bound ≡ slice_index words 3
+    → IsListing G is (drop 5 words) → IsTold G bound is (stop.Fault f) → IsShownAt G bound is f e → plain_insts m ≡ is → IsBrokenModule G words f e m
+broken_module G words bound is f e m b l t s same = record {
+  listing = rw same l;
+  told = (rw same (rw b at t.0), rw same t.1);
+  shown = rw same (rw b at s);
+}
+
+-- its fault is that of the words, and is shown
+pub broken_fault : (G : Table) (words : List ℕ) (f : Fault) (e : Evidence) (m : Module) → IsBrokenModule G words f e m → IsFault G words f
+broken_fault G words f e m h = IsFault.broken (plain_insts m) h.listing h.told.0 h.told.1
+
+pub broken_shown : ((G : Table) (is js : List PlainInst) (ws : List ℕ) → IsListing G is ws → IsListing G js ws → is ≡ js)
+    → (G : Table) (words : List ℕ) (f : Fault) (e : Evidence) (m : Module) → IsBrokenModule G words f e m → IsShown G words (explained.Fault f e)
+broken_shown one G words f e m h = λ is l s. let same : plain_insts m ≡ is = one G (plain_insts m) is (drop 5 words) h.listing l in subst (λ js. IsEvidence G (slice_index words 3) js f.rule f.inst e) same (h.shown s)
+
+-- lines of a fault
+pub explains : Laws → (G : Table) (bytes words : List ℕ) (order : Order) (f : Fault) (e : Evidence) (m : Module) (lines : List ℕ) → IsModule order bytes words
+    → IsBrokenModule G words f e m → AreIn (told_of (plain_insts m) f.inst e) lines → Explain G bytes lines
+explains laws G bytes words order f e m lines h b t = λ ws p js r n g l first s.
+    let same = same_module laws G bytes words ws order p (plain_insts m) js h g b.listing l in
+    let told : IsFirst G (slice_index ws 3) js f.rule f.inst = rw (same.words, same.insts) at b.told.0 in
+    let one = one_first G (slice_index ws 3) js f.rule r f.inst n told first in
+    let shown : IsShownAt G (slice_index ws 3) js f e = rw (same.words, same.insts) at b.shown in
+    let late : 3 ≤ stage_of f.rule = subst (λ q. 3 ≤ stage_of q) (sym one.rule) s in
+    let there : IsEvidence G (slice_index ws 3) js f.rule f.inst e = shown late in
+    let parts : AreIn (told_of js f.inst e) lines = rw same.insts at t in
+    record {
+      evidence = e;
+      shows = subst (λ q. IsEvidence G (slice_index ws 3) js q n e) one.rule (subst (λ k. IsEvidence G (slice_index ws 3) js f.rule k e) one.inst there);
+      told = subst (λ k. AreIn (told_of js k e) lines) one.inst parts;
+    }
+
+-- nothing is to be told of a valid module, of words that are no list, and of bytes that are no words
+pub valid_explains : Laws → (G : Table) (bytes words : List ℕ) (order : Order) (p : Program) (lines : List ℕ) → IsModule order bytes words → IsChecked G words p → Explain G bytes lines
+valid_explains laws G bytes words order p lines h c = λ ws q js r n g l first s.
+    let same = same_module laws G bytes words ws order q p.insts js h g c.listing l in
+    let told : IsFirst G (slice_index words 3) p.insts r n = rw (sym same.words, sym same.insts) at first in
+    absurd (c.sound r n (rw c.bound told.broken))
+
+pub dead_explains : Laws → (G : Table) (bytes words : List ℕ) (order : Order) (f : Fault) (lines : List ℕ) → IsModule order bytes words → IsDeath G words (stop.Fault f) → Explain G bytes lines
+dead_explains laws G bytes words order f lines h d = λ ws q js r n g l first s. absurd (dead_list laws G bytes ws words q order js f.rule f.inst _ g h l d.1)
+
+pub refused_explains : Laws → (G : Table) (bytes : List ℕ) (code : WordError) (lines : List ℕ) → IsFirstBroken code bytes → Explain G bytes lines
+refused_explains laws G bytes code lines b = λ ws q js r n g l first s. absurd (laws.never code q bytes ws g b)
