@@ -3,6 +3,7 @@ pub mod Making
 pub mod Sufficing
 pub mod Standing
 pub mod Knowing
+mod Worked
 pub mod Shaped
 pub mod Calling
 pub mod Placed
