@@ -1,5 +1,5 @@
 -- The first operand of which what is asked does not hold.
-use Rattle.std.proofs.Common.{◌≡◌, ◌≢◌, ◌∙◌, ◌<◌, ◌≤◌, ◌+◌, ◌↔◌, inl, inr, Bool, true, false, get_or, nat_eq, ℕ, zero, suc, List, [], ◌∷◌, Option, Some, None, refl, sym, ap, subst, length, arith}
+use Rattle.std.proofs.Common.{◌≡◌, ◌≢◌, ◌∙◌, ◌<◌, ◌≤◌, ◌+◌, ◌↔◌, inl, inr, Bool, true, get_or, nat_eq, ℕ, zero, suc, List, [], ◌∷◌, Option, Some, None, refl, sym, ap, subst, length, arith}
 use Rattle.std.specs.Prelude.{slice_get, IsTrue, MatchOption}
 use Rattle.std.proofs.lemmas.Bool.{eqb-true, eq-eqb}
 use Rattle.std.proofs.lemmas.Option.{slice_get_within, some_pair_parts}
@@ -56,39 +56,43 @@ ids_stop (_ ∷ os) k o e never j t at = cc
 pub record AreBefore (P : ℕ → ℕ → Type 0) (os : List Plain) (k : ℕ) : Type 0 where
   pub each : (j : ℕ) → j < k → (t : ℕ) × (slice_get os j ≡ Some (operand.Id t)) × P j t
 
-abbrev AreData : List PlainInst → ℕ → ℕ → Type 0
-AreData is j t = IsData is t
+-- what is asked of each of them, where the first is operand `first`
+abbrev pub AsksEach : (ℕ → ℕ → Type 0) → ℕ → List Plain → ℕ → Type 0
+AsksEach Q first os k = (j t : ℕ) → k ≡ first + j → slice_get (ids_in os) j ≡ Some t → Q j t
 
 -- an operand that is no id ends them
-pub ends_data : (is : List PlainInst) (first k : ℕ) (os : List Plain) (o : Plain) → slice_get os k ≡ Some o → ((x : ℕ) → o ≢ operand.Id x) → AreBefore (AreData is) os k → (m : ℕ) → AsksData is first os m
-ends_data is first k os o e never before m = λ j t q at.
+ends_each : (Q : ℕ → ℕ → Type 0) (first k : ℕ) (os : List Plain) (o : Plain) → slice_get os k ≡ Some o → ((x : ℕ) → o ≢ operand.Id x) → AreBefore Q os k → (m : ℕ) → AsksEach Q first os m
+ends_each Q first k os o e never before m = λ j t q at.
     let l = ids_stop os k o e never j t at in
     let b = before.each j l in
     let same : Some (operand.Id b.0) ≡ Some (operand.Id t) = sym b.1 ∙ ids_back os j t at in
     let it : b.0 ≡ t = cc in
-    subst (IsData is) it b.2
+    subst (Q j) it b.2
 
 -- there is no operand after them
-pub all_data : (is : List PlainInst) (first k : ℕ) (os : List Plain) → length os ≤ k → AreBefore (AreData is) os k → (m : ℕ) → AsksData is first os m
-all_data is first k os past before m = λ j t q at.
+pub all_each : (Q : ℕ → ℕ → Type 0) (first k : ℕ) (os : List Plain) → length os ≤ k → AreBefore Q os k → (m : ℕ) → AsksEach Q first os m
+all_each Q first k os past before m = λ j t q at.
     let there = ids_back os j t at in
     let w = slice_get_within os j (operand.Id t) there in
     let b = before.each j (omega arith) in
     let same : Some (operand.Id b.0) ≡ Some (operand.Id t) = sym b.1 ∙ there in
     let it : b.0 ≡ t = cc in
-    subst (IsData is) it b.2
+    subst (Q j) it b.2
 
--- one of them declares no data type
-pub one_no_data : (is : List PlainInst) (first k t : ℕ) (os : List Plain) → slice_get os k ≡ Some (operand.Id t) → (IsData is t → ⊥) → AreBefore (AreData is) os k
-    → IsFirstOf (AsksData is first os) (Some (first + k))
-one_no_data is first k t os e never before = (
+-- of one of them it does not hold
+pub one_fails : (Q : ℕ → ℕ → Type 0) (first k t : ℕ) (os : List Plain) → slice_get os k ≡ Some (operand.Id t) → (Q k t → ⊥) → AreBefore Q os k → IsFirstOf (AsksEach Q first os) (Some (first + k))
+one_fails Q first k t os e never before = (
   λ a. never (a k t refl (ids_forth os k t (λ j l. let b = before.each j l in (b.0, b.1)) e)),
   λ m l j u q at.
       let b = before.each j (omega arith) in
       let same : Some (operand.Id b.0) ≡ Some (operand.Id u) = sym b.1 ∙ ids_back os j u at in
       let it : b.0 ≡ u = cc in
-      subst (IsData is) it b.2,
+      subst (Q j) it b.2,
 )
+
+-- it is one of the ids
+pub among_ids : (Q : ℕ → ℕ → Type 0) (k t : ℕ) (os : List Plain) → slice_get os k ≡ Some (operand.Id t) → AreBefore Q os k → k < length (ids_in os)
+among_ids Q k t os e before = slice_get_within (ids_in os) k t (ids_forth os k t (λ j l. let b = before.each j l in (b.0, b.1)) e)
 
 pub none_before : (P : ℕ → ℕ → Type 0) (os : List Plain) → AreBefore P os 0
 none_before P os = record { each = λ j l. absurd (omega arith) }
@@ -116,9 +120,9 @@ no_id (code.Text t) h x e = cc
 no_id (code.Value a b) h x e = cc
 no_id (code.Mask a b) h x e = cc
 
-pub ends_here : (is : List PlainInst) (first k : ℕ) (s : List Operand) (d : Operand) → k < length s → ((x : ℕ) → get_or s k d ≡ code.Id x → ⊥) → AreBefore (AreData is) (plain_operands s) k
-    → (m : ℕ) → AsksData is first (plain_operands s) m
-ends_here is first k s d l never before = ends_data is first k (plain_operands s) (plain_operand (get_or s k d)) (operand_there s k d l) (no_id (get_or s k d) never) before
+pub ends_here : (Q : ℕ → ℕ → Type 0) (first k : ℕ) (s : List Operand) (d : Operand) → k < length s → ((x : ℕ) → get_or s k d ≡ code.Id x → ⊥) → AreBefore Q (plain_operands s) k
+    → (m : ℕ) → AsksEach Q first (plain_operands s) m
+ends_here Q first k s d l never before = ends_each Q first k (plain_operands s) (plain_operand (get_or s k d)) (operand_there s k d l) (no_id (get_or s k d) never) before
 
 -- Two operands, and their kinds.
 

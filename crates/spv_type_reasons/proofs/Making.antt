@@ -28,7 +28,7 @@ same_told (Some u) None = (λ h. absurd (let no : false ≡ true = h in cc), λ 
 same_told (Some u) (Some t) = (λ h. ap Some (eqb-true t u h), λ h. eq-eqb t u (let e : Some t ≡ Some u = h in cc))
 
 -- one part
-part_told : (spec : Bool) (part : Option ℕ) (o : Option PlainInst)
+pub part_told : (spec : Bool) (part : Option ℕ) (o : Option PlainInst)
     → (is_typed_part spec part o ≡ true) ↔ (IsSomeAnd o (λ d. IsTrue (is_part_opcode spec d.opcode)) × IsSomeAnd part (λ t. option_and_then (λ i. type_in i.operands) o ≡ Some t))
 part_told spec part None = (λ y. absurd (let no : false ≡ true = y in cc), λ p. absurd p.0)
 part_told spec part (Some i) =

@@ -188,10 +188,10 @@ values_typed G is gs (o ∷ os) (Ends.again _ hs e) (AreOf.more _ _ _ _ i a) h =
 
 -- How many operands there are.
 
-one_word : (o : Plain) (os : List Plain) → sum_by operand_words os ≤ sum_by operand_words (o ∷ os)
+pub one_word : (o : Plain) (os : List Plain) → sum_by operand_words os ≤ sum_by operand_words (o ∷ os)
 one_word o os = let e = sum_by-cons operand_words o os in omega arith
 
-few_ids : (os : List Plain) → length (ids_in os) ≤ sum_by operand_words os
+pub few_ids : (os : List Plain) → length (ids_in os) ≤ sum_by operand_words os
 few_ids [] = omega arith
 few_ids (operand.Id x ∷ os) = let r = few_ids os in let e : sum_by operand_words (operand.Id x ∷ os) ≡ 1 + sum_by operand_words os = sum_by-cons operand_words (operand.Id x) os in omega arith
 few_ids (operand.OfType x ∷ os) = omega arith
@@ -202,7 +202,7 @@ few_ids (operand.Text x ∷ os) = omega arith
 few_ids (operand.Value a b ∷ os) = omega arith
 few_ids (operand.Mask a b ∷ os) = omega arith
 
-few_words : (is : List PlainInst) (n : ℕ) (i : PlainInst) → slice_get is n ≡ Some i → sum_by operand_words i.operands ≤ sum_by word_count is
+pub few_words : (is : List PlainInst) (n : ℕ) (i : PlainInst) → slice_get is n ≡ Some i → sum_by operand_words i.operands ≤ sum_by word_count is
 few_words [] n i h = cc
 few_words (j ∷ is) zero i h =
     let e : j ≡ i = cc in

@@ -1,7 +1,7 @@
 -- The value operands of an instruction, one by one.
-use Rattle.std.proofs.Common.{◌≡◌, ◌≢◌, ◌∙◌, ◌<◌, ◌≤◌, ◌+◌, ◌++◌, inl, inr, ℕ, zero, suc, List, [], ◌∷◌, Option, Some, None, Bool, true, false, refl, sym, ap, subst, length, map, drop, arith, option_and_then, option_map, append_assoc, add-one}
+use Rattle.std.proofs.Common.{◌≡◌, ◌∙◌, ◌<◌, ◌≤◌, ◌+◌, ◌++◌, inl, inr, ℕ, zero, suc, List, [], ◌∷◌, Option, Some, None, true, false, refl, sym, ap, subst, length, map, drop, arith, option_and_then, option_map, append_assoc}
 use Rattle.std.specs.Prelude.{slice_get, option_to_list}
-use Rattle.std.proofs.lemmas.Option.{none-some, slice_get_within}
+use Rattle.std.proofs.lemmas.Option.{none-some}
 use Rattle.std.proofs.lemmas.List.{drop_all, map-append, append-nil}
 use Rattle.spv_table.specs.Table.{Table}
 use Rattle.spv_module.specs.Operand.{Plain, PlainInst}
@@ -17,7 +17,7 @@ use Rattle.spv_layout.proofs.Shapes.{forms_same, use_same}
 use Rattle.spv_ops.specs.Parts.{id_in}
 use Rattle.spv_ops.specs.Operands.{result_type_in}
 use Rattle.spv_ops.specs.Typed.{IsTyped}
-use Rattle.spv_ops.specs.Values.{AreValues, types_of, value_in, used_in}
+use Rattle.spv_ops.specs.Values.{types_of, value_in, used_in}
 use Rattle.spv_evidence.specs.declared.evidence.Evidence.TheVariants as evidence
 use Rattle.spv_evidence.specs.declared.evidence.Typed.{Typed}
 use Rattle.spv_type_reasons.specs.Evidence.{AreTyped, Shows}

@@ -36,3 +36,16 @@ pub fn operands_make()
     ensures { (is : List PlainInst) (c : Constant) (os : List Plain)
         → ((k : ℕ) → constant.Asks is c os k) ↔ IsSomeAnd (type_in os) (λ r. Constitutes is c r (after_head os)) }
 {}
+
+/// What shows that a rule is broken at the last instruction of a small module, and what does not.
+pub fn evidence_examples()
+    // No count of a vector is 5; its component type is an int.
+    ensures count { (G : Table) → IsEvidence G with_vector Y2 7 (Operand 2) }
+    ensures component { (G : Table) → ¬ (IsEvidence G with_vector Y2 7 (Operand 1)) }
+    // The first instruction declares an int of width 8 too, and the second void.
+    ensures again { (G : Table) → IsEvidence G with_again Y3 7 (Earlier 0) }
+    ensures other { (G : Table) → ¬ (IsEvidence G with_again Y3 7 (Earlier 1)) }
+    // The function takes one argument, and the call has none.
+    ensures call { (G : Table) → IsEvidence G with_short_call Y8 7 (Mismatch Number (Some 1) (Some 0)) }
+    ensures no_call { (G : Table) → ¬ (IsEvidence G with_short_call Y8 7 (Mismatch Number (Some 0) (Some 1))) }
+{}

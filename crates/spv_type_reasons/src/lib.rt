@@ -2,7 +2,9 @@
 #![tactic(auto)]
 
 mod call;
+mod constant;
 mod declaration;
+mod evidence;
 mod first;
 mod function;
 pub mod laws;
@@ -11,3 +13,5 @@ mod operation;
 mod repeat;
 mod returns;
 mod signature;
+
+pub use evidence::type_evidence;

@@ -1,4 +1,4 @@
-//! The operands of type declarations, where they are such as the declaration has.
+//! The operands of type declarations and constants, where they are such as the instruction has.
 
 ghost use Rattle.std.specs.Prelude.{◌≡◌, option_map};
 ghost use Rattle.spv_module.specs.Module.{plain_operands};
@@ -100,6 +100,16 @@ pub fn signature_in<'o, 'a>(operands: &'o [Operand<'a>]) -> Option<(u32, &'o [Op
         [Operand::Result(_), Operand::Id(returned), parameters @ ..] => Some((
             *returned, parameters,
         )),
+        _ => None,
+    }
+}
+
+/// The low word of an OpConstant, by what follows its type and its result.
+pub fn low_in(operands: &[Operand]) -> Option<u32>
+    ensures { result ≡ spec.low_in (plain_operands operands.now) }
+{
+    match operands {
+        [Operand::Number { low, .. }] => Some(*low),
         _ => None,
     }
 }

@@ -20,5 +20,5 @@ pub use declaration::{
 pub use function::{
     Function, count_parameters, function_of, function_type, parameter_type, signature,
 };
-pub use repeat::{Seen, is_declared_once};
+pub use repeat::Seen;
 pub use rules::{Known, Rules};

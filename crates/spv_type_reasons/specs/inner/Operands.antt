@@ -1,6 +1,6 @@
--- The operands of declarations. (For the code alone.)
+-- The operands of declarations and constants. (For the code alone.)
 use Rattle.std.specs.Prelude.{ℕ, List, [], ◌∷◌, Option, Some, None}
-use Rattle.spv_module.specs.Operand.{Plain, Result, Id, Word, Value}
+use Rattle.spv_module.specs.Operand.{Plain, Result, Id, Word, Number, Value}
 
 -- of an OpTypeInt, its width and signedness
 abbrev pub int_in : List Plain → Option (ℕ × ℕ)
@@ -41,3 +41,8 @@ members_in _ = None
 abbrev pub signature_in : List Plain → Option (ℕ × List Plain)
 signature_in (Result t ∷ Id r ∷ os) = Some (r, os)
 signature_in _ = None
+
+-- of an OpConstant, the low word, by what follows its type and its result
+abbrev pub low_in : List Plain → Option ℕ
+low_in (Number low high words ∷ []) = Some low
+low_in _ = None

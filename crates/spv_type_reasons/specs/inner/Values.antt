@@ -1,5 +1,5 @@
 -- The value operands of an instruction, one by one. (For the code alone.)
-use Rattle.std.specs.Prelude.{◌≡◌, ◌++◌, ℕ, List, map, drop, Option, Some, None, Bool, true, false, option_to_list, slice_get}
+use Rattle.std.specs.Prelude.{◌≡◌, ◌++◌, ℕ, List, map, drop, Option, Some, Bool, true, false, option_to_list, slice_get}
 use Rattle.spv_table.specs.Table.{Table}
 use Rattle.spv_module.specs.Operand.{Plain, Id, PlainInst}
 use Rattle.spv_module.specs.Width.{type_of}

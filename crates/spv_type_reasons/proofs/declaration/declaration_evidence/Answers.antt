@@ -1,7 +1,5 @@
-use Rattle.std.proofs.Common.{◌≡◌, ℕ, Some, ap, subst}
-use Rattle.std.specs.Prelude.{MatchOption}
+use Rattle.std.proofs.Common.{ℕ, Some, ap, subst}
 use Rattle.spv_module.specs.Module.{plain_inst, plain_operands}
-use Rattle.spv_type_rules.specs.Declaration.{declaration_of, Declares}
 use Rattle.spv_type_reasons.specs.Declaration.{Asks}
 use Rattle.spv_type_reasons.specs.inner.First.{IsFirstOf}
 use Rattle.spv_type_reasons.proofs.Firsts.{declaration_shows, declaration_sound}
