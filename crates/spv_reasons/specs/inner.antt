@@ -2,3 +2,4 @@ pub mod Adding
 pub mod Judged
 pub mod Kinds
 pub mod Reading
+pub mod Told

@@ -1,8 +1,12 @@
 //! The verdict on the words of a module, with what shows a fault.
+ghost use Rattle.std.specs.Prelude.{IfOk};
+ghost use Rattle.spv_verdict.specs.Answer.{IsAnswer};
+ghost use Rattle.spv_reasons.specs.Explained.{IsShown, verdict_in};
+ghost use Rattle.spv_reasons.specs.inner.Reading.{IsReading};
 
 use crate::judged::{Judged, judge};
 use spv_evidence::Evidence;
-use spv_inst::{decode, listed_or_dead, one_death, one_listing};
+use spv_inst::{decode, listed_or_dead, one_listing};
 use spv_layout::laws::word_counts;
 use spv_module::{Fault, Module, Stop};
 use spv_table::{Memory, Table};
@@ -61,11 +65,9 @@ fn opcode_at(image: &Image, place: u32) -> u16 {
 /// Reads the words of a module as `explain` does, and keeps what was read.
 ///
 /// `Memory` comes only where a growth of memory was refused.
-pub fn reading_of<'a>(
-    alloc: Global,
-    table: &Table,
-    image: &'a Image,
-) -> Result<Reading<'a>, Memory> {
+pub fn reading_of<'a>(alloc: Global, table: &Table, image: &'a Image) -> Result<Reading<'a>, Memory>
+    ensures { IfOk result (λ r. IsReading table.now image.now r) }
+{
     word_counts();
     let module = match decode(alloc, table, image) {
         Ok(module) => module,
@@ -98,19 +100,20 @@ pub fn reading_of<'a>(
 /// Time is linear in the words of the module besides what `check` takes, and at most as much again.
 ///
 /// `Memory` comes only where a growth of memory was refused.
-pub fn explain<'a>(
-    alloc: Global,
-    table: &Table,
-    image: &'a Image,
-) -> Result<Explained<'a>, Memory> {
+pub fn explain<'a>(alloc: Global, table: &Table, image: &'a Image) -> Result<Explained<'a>, Memory>
+    // The verdict is that of `check`.
+    ensures verdict { IfOk result (λ e. IsAnswer table.now image.now (verdict_in e)) }
+    // A fault of the stages D to G is shown.
+    ensures shown { IfOk result (λ e. IsShown table.now image.now e) }
+{
+    one_listing();
+    listed_or_dead();
     match reading_of(alloc, table, image)? {
         Reading::Valid(checked) => Ok(Explained::Valid(checked)),
-        Reading::Malformed { fault, place } => Ok(Explained::Fault(
-            fault,
-            Evidence::Opcode {
-                opcode: opcode_at(image, place),
-            },
-        )),
+        Reading::Malformed { fault, place } => {
+            let opcode = opcode_at(image, place);
+            Ok(Explained::Fault(fault, Evidence::Opcode { opcode }))
+        }
         Reading::Broken {
             fault,
             evidence,

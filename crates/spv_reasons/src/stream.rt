@@ -1,4 +1,16 @@
 //! What is written of the bytes of a stream.
+ghost use Rattle.std.specs.Prelude.{◌≡◌, ◌≢◌, ◌⊎◌, ◌↔◌, ◌++◌, ℕ, List, [], Ok, OnOk, IfOk, IfErr, IfSome, IsErrOf, IsTrue, string_bytes};
+ghost use Rattle.spv_words.specs.Header.{IsModule};
+ghost use Rattle.spv_words.specs.declared.words.Order.{Order};
+ghost use Rattle.spv_words.specs.declared.words.WordError.TheVariants.{W1, W9};
+ghost use Rattle.spv_module.specs.Module.{plain_insts};
+ghost use Rattle.spv_verdict.specs.Verdict.{valid_line};
+ghost use Rattle.spv_verdict.specs.Text.{line_of, refusal_of};
+ghost use Rattle.spv_reasons.specs.Lines.{AreIn, told_of};
+ghost use Rattle.spv_reasons.specs.Stream.{BeginsExplaining, Explains};
+ghost use Rattle.spv_verdict.specs.declared.verdict_line.Judgment.TheVariants as judgments;
+ghost use Rattle.spv_reasons.specs.inner.Adding.{Adds};
+ghost use Rattle.spv_reasons.specs.inner.Told.{IsToldOf};
 
 use crate::about::About;
 use crate::explained::{Reading, reading_of};
@@ -6,6 +18,7 @@ use crate::place::{block_of, function_of};
 use crate::sentences::{sentence, word_sentence};
 use crate::told::evidence_lines;
 use spv_evidence::Evidence;
+use spv_inst::{listed_or_dead, one_death, one_listing};
 use spv_module::{Fault, Module, Rule};
 use spv_table::Table;
 use spv_verdict::{Judgment, line_for};
@@ -18,8 +31,10 @@ const WORDS: u32 = 16;
 
 /// The verdict on bytes, and the lines that tell it.
 #[derive(Drop)]
-struct Told {
+pub struct Told {
+    /// The verdict.
     judgment: Judgment,
+    /// The lines after its own, each ended by a line feed.
     lines: String,
 }
 
@@ -33,7 +48,9 @@ fn rule_line(alloc: Global, sentence: &str) -> Result<String, AllocError> {
 }
 
 /// Adds the line of the function and the block that an instruction is of, if it is of one.
-fn place_line(about: About<'_, '_>, out: &mut String, inst: u32) -> Result<(), AllocError> {
+fn place_line(about: About<'_, '_>, out: &mut String, inst: u32) -> Result<(), AllocError>
+    ensures { OnOk result (Adds [] (string_bytes out.old) (string_bytes out.new)) }
+{
     let insts = about.module.insts.as_slice();
     let Some(function) = function_of(insts, inst) else {
         return Ok(());
@@ -47,105 +64,175 @@ fn place_line(about: About<'_, '_>, out: &mut String, inst: u32) -> Result<(), A
     out.push_str("\n")
 }
 
-/// The lines of a fault after the one of its rule.
-fn fault_lines(
+/// Adds the lines of the instruction at which a rule is told, and of its place. At the end of a module there is none.
+fn at_lines(about: About<'_, '_>, out: &mut String, fault: Fault) -> Result<(), AllocError>
+    ensures { OnOk result (Adds [] (string_bytes out.old) (string_bytes out.new)) }
+{
+    if matches!(fault.rule, Rule::L2) {
+        return Ok(());
+    }
+    out.push_str("at:")?;
+    about.push_inst(out, fault.inst)?;
+    out.push_str("\n")?;
+    place_line(about, out, fault.inst)
+}
+
+/// The verdict of a fault, and its lines.
+fn broken_told(
     alloc: Global,
     table: &Table,
     module: &Module<'_>,
     fault: Fault,
     evidence: &Evidence,
-) -> Result<String, AllocError> {
+) -> Result<Told, AllocError>
+    ensures verdict { IfOk result (λ t. t.judgment ≡ judgments.Broken fault) }
+    ensures lines { IfOk result (λ t. AreIn (told_of (plain_insts «module».now) fault.inst evidence.now) (string_bytes t.lines)) }
+{
     let about = About {
         alloc,
         table,
         module,
     };
-    let mut out = String::new(alloc);
-    match fault.rule {
-        Rule::L2 => {}
-        _ => {
-            out.push_str("at:")?;
-            about.push_inst(&mut out, fault.inst)?;
-            out.push_str("\n")?;
-            place_line(about, &mut out, fault.inst)?;
-        }
-    }
-    evidence_lines(about, &mut out, fault.inst, evidence)?;
-    Ok(out)
+    let mut lines = rule_line(alloc, sentence(fault.rule))?;
+    at_lines(about, &mut lines, fault)?;
+    evidence_lines(about, &mut lines, fault.inst, evidence)?;
+    Ok(Told {
+        judgment: Judgment::Broken(fault),
+        lines,
+    })
 }
 
-/// The line of the words of an instruction, in hexadecimal: those that its first word counts and the image has, the first 16 of them.
-fn words_line(alloc: Global, image: &Image, place: u32) -> Result<String, AllocError> {
-    let mut text = String::new(alloc);
-    text.push_str("words:")?;
-    if place < image.len() {
-        let count = word(image, place) >> 16;
-        let end = place.saturating_add(count.max(1)).min(image.len());
-        for at in place..end {
-            if at - place == WORDS {
-                text.push_str(" ..")?;
-                break;
-            }
-            write!(text, " {:08x}", word(image, at))?;
+/// Adds the words from one place to before another, in hexadecimal, 16 of them at most.
+fn push_words(out: &mut String, image: &Image, from: u32, to: u32) -> Result<(), AllocError> {
+    for at in from..to.min(image.len()) {
+        if at.saturating_sub(from) >= WORDS {
+            return out.push_str(" ..");
         }
+        write!(out, " {:08x}", word(image, at))?;
     }
-    text.push_str("\n")?;
-    Ok(text)
+    Ok(())
+}
+
+/// The verdict of words that are no list of instructions, and its lines: with the words of the instruction that fails, as many as its
+/// first word counts.
+fn malformed_told(
+    alloc: Global,
+    image: &Image,
+    fault: Fault,
+    place: u32,
+) -> Result<Told, AllocError>
+    ensures { IfOk result (λ t. t.judgment ≡ judgments.Broken fault) }
+{
+    let mut lines = rule_line(alloc, sentence(fault.rule))?;
+    lines.push_str("words:")?;
+    push_words(&mut lines, image, place, end_of(image, place))?;
+    lines.push_str("\n")?;
+    Ok(Told {
+        judgment: Judgment::Broken(fault),
+        lines,
+    })
+}
+
+/// The place after the words of an instruction, as its first word counts them: one at least.
+fn end_of(image: &Image, place: u32) -> u32 {
+    let count = if place < image.len() {
+        word(image, place) >> 16
+    } else {
+        1
+    };
+    place.saturating_add(count.max(1))
 }
 
 /// The lines that tell what the words of an image come to.
-fn told_of(alloc: Global, table: &Table, image: &Image) -> Result<Told, AllocError> {
-    let reading = match reading_of(alloc, table, image) {
-        Ok(reading) => reading,
-        Err(_) => return Err(AllocError),
-    };
-    match reading {
-        Reading::Valid(_) => Ok(Told {
+fn told_by(alloc: Global, table: &Table, image: &Image) -> Result<Told, AllocError>
+    ensures { (bytes : List ℕ) (order : Order) → IsModule order bytes image.now → IfOk result (λ t. IsToldOf table.now bytes t) }
+{
+    spv_words::laws::one_word_list();
+    spv_words::laws::one_refusal();
+    one_death();
+    one_listing();
+    listed_or_dead();
+    match reading_of(alloc, table, image) {
+        Ok(Reading::Valid(_)) => Ok(Told {
             judgment: Judgment::Valid,
             lines: String::new(alloc),
         }),
-        Reading::Malformed { fault, place } => {
-            let mut lines = rule_line(alloc, sentence(fault.rule))?;
-            lines.push_str(words_line(alloc, image, place)?.as_str())?;
-            Ok(Told {
-                judgment: Judgment::Broken(fault),
-                lines,
-            })
-        }
-        Reading::Broken {
-            fault,
-            evidence,
-            module,
-        } => {
-            let mut lines = rule_line(alloc, sentence(fault.rule))?;
-            lines.push_str(fault_lines(alloc, table, &module, fault, &evidence)?.as_str())?;
-            Ok(Told {
-                judgment: Judgment::Broken(fault),
-                lines,
-            })
-        }
+        Ok(Reading::Malformed { fault, place }) => malformed_told(alloc, image, fault, place),
+        Ok(
+            Reading::Broken {
+                fault,
+                evidence,
+                module,
+            },
+        ) => broken_told(alloc, table, &module, fault, &evidence),
+        Err(_) => Err(AllocError),
     }
 }
 
+/// The verdict of bytes that are no words of a module, and its lines.
+fn refused_told(alloc: Global, code: WordError) -> Result<Told, AllocError>
+    ensures { IfOk result (λ t. t.judgment ≡ judgments.Refused code) }
+{
+    Ok(Told {
+        judgment: Judgment::Refused(code),
+        lines: rule_line(alloc, word_sentence(code))?,
+    })
+}
+
 /// The lines that tell bytes which gave no image. W1 and W9 are errors.
-fn told_refusal(alloc: Global, code: WordError) -> Result<Told, WordError> {
+fn refusal(alloc: Global, code: WordError) -> Result<Told, WordError>
+    ensures refused { IfOk result (λ t. refusal_of code ≡ Ok t.judgment) }
+    ensures count { code ≡ W1 ↔ IsErrOf result W1 }
+    ensures only { IfErr result (λ e. (e ≡ W1) ⊎ (e ≡ W9)) }
+{
     match code {
         WordError::W1 => Err(WordError::W1),
         WordError::W9 => Err(WordError::W9),
-        _ => Ok(Told {
-            judgment: Judgment::Refused(code),
-            lines: rule_line(alloc, word_sentence(code))?,
-        }),
+        _ => match refused_told(alloc, code) {
+            Ok(told) => Ok(told),
+            Err(_) => Err(WordError::W9),
+        },
     }
 }
 
 /// The lines that tell all the bytes of a reader.
-fn told_on<R: Source>(alloc: Global, table: &Table, r: &mut R) -> Result<Told, WordError> {
+fn told_on<R: Source>(alloc: Global, table: &Table, r: &mut R) -> Result<Told, WordError>
+    ensures known { IfSome (R.remaining r.old) (λ bytes. IfOk result (λ t. IsToldOf table.now bytes t)) }
+    ensures count { R.failures r.new ≢ R.failures r.old ↔ IsErrOf result W1 }
+    ensures only { IfErr result (λ e. (e ≡ W1) ⊎ (e ≡ W9)) }
+{
+    spv_words::laws::one_refusal();
     let image = match read_image(alloc, r) {
         Ok((image, _)) => image,
-        Err(code) => return told_refusal(alloc, code),
+        Err(code) => return refusal(alloc, code),
     };
-    Ok(told_of(alloc, table, &image)?)
+    match told_by(alloc, table, &image) {
+        Ok(told) => Ok(told),
+        Err(_) => Err(WordError::W9),
+    }
+}
+
+impl Told {
+    /// The bytes of its lines, with that of the verdict first.
+    fn bytes(&self, alloc: Global) -> Result<Vec<u8>, AllocError>
+        ensures { IfOk result (λ v. v.items ≡ line_of self.now.judgment ++ string_bytes self.now.lines) }
+    {
+        let line = line_for(self.judgment);
+        let mut bytes = Vec::from_slice(alloc, line.as_slice())?;
+        bytes.extend_from_slice(self.lines.as_bytes())?;
+        Ok(bytes)
+    }
+
+    /// Whether no rule is broken.
+    fn is_valid(&self) -> bool
+        ensures { IsTrue result ↔ (line_of self.now.judgment ≡ valid_line) }
+    {
+        match self.judgment {
+            Judgment::Valid => true,
+            Judgment::Refused(_) => false,
+            Judgment::Broken(_) => false,
+        }
+    }
 }
 
 /// Writes the verdict line of a reader's bytes up to the end of input, as `check_stream` does, and after the line of a fault further
@@ -158,11 +245,23 @@ pub fn explain_stream<R: Source, W: Sink>(
     table: &Table,
     r: &mut R,
     w: &mut W,
-) -> Result<bool, WordError> {
+) -> Result<bool, WordError>
+    // The writer has got the verdict line of all the bytes that the reader still gave, and lines that explain it.
+    ensures explained { IfSome (R.remaining r.old) (λ bytes. IfSome (W.contents w.old) (λ old. IfOk result (λ answer. Explains table.now bytes old (W.contents w.new) answer))) }
+    // The answer is W1 exactly where a read or a write failed.
+    ensures count { ((R.failures r.new ≢ R.failures r.old) ⊎ (W.failures w.new ≢ W.failures w.old)) ↔ IsErrOf result W1 }
+    ensures only { IfErr result (λ e. (e ≡ W1) ⊎ (e ≡ W9)) }
+    // After a failed read, or for want of memory, the writer is as it was.
+    ensures read { R.failures r.new ≢ R.failures r.old → w.new ≡ w.old }
+    ensures memory { IsErrOf result W9 → w.new ≡ w.old }
+    // After a failed write it has got a beginning of the lines.
+    ensures begun { W.failures w.new ≢ W.failures w.old → IfSome (R.remaining r.old) (λ bytes. IfSome (W.contents w.old) (λ old. BeginsExplaining table.now bytes old (W.contents w.new))) }
+{
     let told = told_on(alloc, table, r)?;
-    let line = line_for(told.judgment);
-    let mut text = Vec::from_slice(alloc, line.as_slice())?;
-    text.extend_from_slice(told.lines.as_bytes())?;
-    write_all(text.as_slice(), w)?;
-    Ok(matches!(told.judgment, Judgment::Valid))
+    let bytes = match told.bytes(alloc) {
+        Ok(bytes) => bytes,
+        Err(_) => return Err(WordError::W9),
+    };
+    write_all(bytes.as_slice(), w)?;
+    Ok(told.is_valid())
 }

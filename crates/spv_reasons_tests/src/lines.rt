@@ -1,0 +1,66 @@
+//! The lines that explain faults, of modules whose faults are known.
+
+use crate::modules::{
+    CYCLE_OF_TWO_FUNCTIONS, LABEL_WITH_THE_ID_OF_THE_FUNCTION, PHI_WITH_CROSSED_VALUES,
+    VALUE_MISSING_ON_ONE_BRANCH,
+};
+use spv_grammar::{FromGrammar, Table};
+use spv_reasons::{Evidence, Explained, explain, explain_stream};
+use spv_samples::{PROFILE, SMALLEST_KERNEL, image_of};
+use spv_words::{FromRead, FromWrite};
+use std::alloc::Global;
+use std::test::Fail;
+
+/// What is written of the words of a module, and what is answered: the call by itself, so that no caller has to carry what it
+/// promises.
+fn written(alloc: Global, words: &str) -> Result<(Vec<u8>, bool), Fail> {
+    let table = Table::from_slice(alloc, PROFILE.as_bytes())?;
+    let image = image_of(alloc, words)?;
+    let mut out = Vec::new(alloc);
+    let mut reader = FromRead::new(image.octets());
+    let answer = explain_stream(alloc, &table, &mut reader, &mut FromWrite::new(&mut out))?;
+    Ok((out, answer))
+}
+
+/// Fails where other lines are written of a module than these.
+fn are_lines(alloc: Global, words: &str, lines: &str) -> Result<(), Fail> {
+    let (out, answer) = written(alloc, words)?;
+    if answer {
+        return Err(Fail::from("a valid module"));
+    }
+    if out.as_slice() != lines.as_bytes() {
+        return Err(Fail::from("other lines"));
+    }
+    Ok(())
+}
+
+#[test]
+fn lines_of_a_walk(rt: HostRuntime) -> Result<(), Fail> {
+    are_lines(
+        rt.alloc(),
+        VALUE_MISSING_ON_ONE_BRANCH,
+        "fault A1 inst 19 word 61\nrule: A value is defined, on every walk through the function, before it is used. [2.16]\nat: %18 = OpIAdd %2 %17 %11\nin: function %10, block %16\noperand: 2 %17\ndefined: inst 14, %17 = OpIAdd %2 %11 %11\nwalk: %13 %15 %16\n",
+    )
+}
+
+#[test]
+fn a_valid_module(rt: HostRuntime) -> Result<(), Fail> {
+    let (out, answer) = written(rt.alloc(), SMALLEST_KERNEL.words)?;
+    assert_eq!(rt; out.as_slice(), b"valid\n".as_slice());
+    assert!(rt; answer);
+    Ok(())
+}
+
+/// The evidence by itself.
+#[test]
+fn evidence_of_a_second_result(rt: HostRuntime) -> Result<(), Fail> {
+    let table = Table::from_slice(rt.alloc(), PROFILE.as_bytes())?;
+    let image = image_of(rt.alloc(), LABEL_WITH_THE_ID_OF_THE_FUNCTION)?;
+    match explain(rt.alloc(), &table, &image)? {
+        Explained::Fault(_, Evidence::Earlier { inst }) => {
+            assert_eq!(rt; inst, 6);
+            Ok(())
+        }
+        _ => Err(Fail::from("other evidence")),
+    }
+}
