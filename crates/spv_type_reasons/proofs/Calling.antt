@@ -18,7 +18,7 @@ use Rattle.spv_evidence.specs.declared.evidence.Side.TheVariants as side
 use Rattle.spv_type_reasons.specs.Function.{Differs, Calls}
 use Rattle.spv_type_reasons.specs.Evidence.{Shows}
 use Rattle.spv_type_reasons.specs.inner.Known.{IsFunction, CallsOne}
-use Rattle.spv_type_reasons.specs.inner.Differences.{AreSame, AreOther, CallDiffers, IsCallable}
+use Rattle.spv_type_reasons.specs.inner.Differences.{AreOther, CallDiffers, IsCallable}
 
 -- ids as operands
 id_there : (xs : List ℕ) (k x : ℕ) → slice_get xs k ≡ Some x → slice_get (map Id xs) k ≡ Some (Id x)
@@ -130,19 +130,6 @@ found_call is i c t x f rest d e q =
       few = subst (λ os. length (ids_in os) ≤ 4194304) others c.few;
     }
 
-pub few_arguments : (is : List PlainInst) (i : PlainInst) (c : CallsOne is i) (xs : List Operand) → c.rest ≡ plain_operands xs → length xs ≤ 4194304
-few_arguments is i c xs e =
-    let long : length xs ≡ length (ids_in c.rest) = sym (length-map xs plain_operand) ∙ ap length (sym e ∙ c.ids) ∙ ids_length (ids_in c.rest) in
-    let few = c.few in
-    omega arith
-
-pub no_callee : (is : List PlainInst) (i : PlainInst) (c : CallsOne is i) (t x f : ℕ) (rest : List Plain) → i.operands ≡ OfType t ∷ Result x ∷ Id f ∷ rest → None ≡ definition_of is f → ⊥
-no_callee is i c t x f rest e q =
-    let same : OfType c.result_type ∷ Result c.result ∷ Id c.callee ∷ c.rest ≡ OfType t ∷ Result x ∷ Id f ∷ rest = sym c.operands ∙ e in
-    let callee : c.callee ≡ f = cc in
-    let function : Some c.function ≡ None = sym c.defined ∙ ap (definition_of is) callee ∙ sym q in
-    cc
-
 pub head_differs : (is : List PlainInst) (d : PlainInst) (r : ℕ) (xs : List Operand) (s : Side) (wanted found : Option ℕ) → Differs is d r (length xs) s wanted found
     → CallDiffers is d r (plain_operands xs) s wanted found
 head_differs is d r xs s wanted found f =
@@ -151,13 +138,3 @@ head_differs is d r xs s wanted found f =
 pub argument_differs : (is : List PlainInst) (d : PlainInst) (r t : ℕ) (os : List Plain) (ps : List Operand) (xs : List Operand) (k wanted found : ℕ) → Some os ≡ signature_of is d → os ≡ Id t ∷ plain_operands ps
     → AreOther is (plain_operands ps) (plain_operands xs) k wanted found → CallDiffers is d r (plain_operands xs) (side.Argument k) (Some wanted) (Some found)
 argument_differs is d r t os ps xs k wanted found e f a = CallDiffers.argument (Id t) (plain_operands ps) k wanted found (sym e ∙ ap Some f) a
-
-pub all_callable : (is : List PlainInst) (d : PlainInst) (r t : ℕ) (os : List Plain) (ps xs : List Operand) → IsSomeAnd (signature_of is d) (ReturnsAfter (Some r) (length xs)) → Some os ≡ signature_of is d
-    → os ≡ Id t ∷ plain_operands ps → ((k : ℕ) → AreSame is (plain_operands ps) (plain_operands xs) k) → IsCallable is d r (plain_operands xs)
-all_callable is d r t os ps xs h e f a = record {
-  head = subst (λ m. IsSomeAnd (signature_of is d) (ReturnsAfter (Some r) m)) (sym (length-map xs plain_operand)) h;
-  arguments = λ o qs k g.
-      let same : Some (o ∷ qs) ≡ Some (Id t ∷ plain_operands ps) = sym g ∙ sym e ∙ ap Some f in
-      let rest : qs ≡ plain_operands ps = cc in
-      subst (λ rs. AreSame is rs (plain_operands xs) k) (sym rest) (a k);
-}

@@ -7,7 +7,7 @@ use Rattle.spv_module.specs.Operand.{Plain, Id, PlainInst, type_in}
 use Rattle.spv_module.specs.Module.{plain_operand, plain_operands}
 use Rattle.spv_module.specs.declared.operand.Operand.{Operand}
 use Rattle.spv_module.specs.declared.fault.Rule.TheVariants.{Y6}
-use Rattle.spv_type_rules.specs.Function.{function_type_in, signature_of, parameters_after, IsSoundFunction, ReturnsAfter}
+use Rattle.spv_type_rules.specs.Function.{function_type_in, signature_of, parameters_after, ReturnsAfter}
 use Rattle.spv_evidence.specs.declared.evidence.Evidence.TheVariants as evidence
 use Rattle.spv_evidence.specs.declared.evidence.Side.{Side}
 use Rattle.spv_evidence.specs.declared.evidence.Side.TheVariants as side
@@ -39,11 +39,6 @@ few_parameters is d t os xs f e g =
 pub function_shows : (G : Table) (is : List PlainInst) (n r : ℕ) (i : PlainInst) (s : Side) (wanted found : Option ℕ) (count : ℕ) → i.opcode ≡ 54 → Some r ≡ type_in i.operands → parameters_after is n ≡ count
     → Differs is i r count s wanted found → Shows G is n i Y6 (evidence.Mismatch s wanted found)
 function_shows G is n r i s wanted found count o t e f = Shows.function r s wanted found o (sym t) (subst (λ m. Differs is i r m s wanted found) (sym e) f)
-
-pub sound_function : (is : List PlainInst) (n r : ℕ) (i : PlainInst) (count : ℕ) → Some r ≡ type_in i.operands → parameters_after is n ≡ count → IsSomeAnd (signature_of is i) (ReturnsAfter (Some r) count) → IsSoundFunction is n i
-sound_function is n r i count t e h =
-    let a : IsSomeAnd (signature_of is i) (ReturnsAfter (Some r) (parameters_after is n)) = subst (λ m. IsSomeAnd (signature_of is i) (ReturnsAfter (Some r) m)) (sym e) h in
-    subst (λ p. IsSomeAnd (signature_of is i) (ReturnsAfter p (parameters_after is n))) t a
 
 pub no_difference : (is : List PlainInst) (d : PlainInst) (r count t : ℕ) (os : List Plain) (xs : List Operand) → Some os ≡ signature_of is d → os ≡ Id t ∷ plain_operands xs → t ≡ r → length xs ≡ count
     → IsSomeAnd (signature_of is d) (ReturnsAfter (Some r) count)

@@ -94,9 +94,6 @@ one_fails Q first k t os e never before = (
 pub among_ids : (Q : ℕ → ℕ → Type 0) (k t : ℕ) (os : List Plain) → slice_get os k ≡ Some (operand.Id t) → AreBefore Q os k → k < length (ids_in os)
 among_ids Q k t os e before = slice_get_within (ids_in os) k t (ids_forth os k t (λ j l. let b = before.each j l in (b.0, b.1)) e)
 
-pub none_before : (P : ℕ → ℕ → Type 0) (os : List Plain) → AreBefore P os 0
-none_before P os = record { each = λ j l. absurd (omega arith) }
-
 pub one_before : (P : ℕ → ℕ → Type 0) (os : List Plain) (k t : ℕ) → slice_get os k ≡ Some (operand.Id t) → P k t → AreBefore P os k → AreBefore P os (k + 1)
 one_before P os k t e p before = record {
   each = λ j l. elim (cases_lt j k) [

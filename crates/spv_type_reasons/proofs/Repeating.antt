@@ -53,9 +53,6 @@ all_same s t k long l h =
     let b = length-map t plain_operand in
     same_lists (plain_operands s) (plain_operands t) (a ∙ long ∙ sym b) (λ j c. h j (omega arith))
 
-pub other_lengths : (s t : List Operand) → (length s ≡ length t → ⊥) → plain_operands s ≡ plain_operands t → ⊥
-other_lengths s t ne same = ne (sym (length-map s plain_operand) ∙ ap length same ∙ length-map t plain_operand)
-
 inst_there : (xs : List Inst) (k : ℕ) (x : Inst) → k < length xs → x ≡ get_or xs k x → slice_get (map plain_inst xs) k ≡ Some (plain_inst x)
 inst_there xs k x l e = slice_get-map plain_inst xs k ∙ ap (option_map plain_inst) (slice_get_read xs (length xs) k x refl l e)
 
@@ -81,6 +78,3 @@ not_before xs m i x b w e off h before k j below at = elim (cases_lt k m) [
       let it : plain_inst x ≡ j = cc in
       λ alike. let yes : b ≡ true = h.1 (subst (AreAlike i) (sym it) alike) in cc
 ]
-
-pub never_repeats : (is : List PlainInst) (n m : ℕ) (i : PlainInst) → n ≤ m → ((k : ℕ) (j : PlainInst) → k < m → slice_get is k ≡ Some j → ¬ (AreAlike i j)) → ¬ (¬ (Repeats is n i)) → ⊥
-never_repeats is n m i l h broken = broken (λ r. let e = r.earlier in h r.place r.other (omega arith) r.there r.alike)

@@ -161,10 +161,6 @@ value_typed (Some d) h = of (type_in d.operands) h.0 where
   of None k = cc
   of (Some u) k = (u, refl)
 
--- Each id that stands where a value is due has a type.
-AreTypeable : List PlainInst → List Form → List Plain → Type 0
-AreTypeable is gs os = (k x : ℕ) → slice_get gs k ≡ Some (form.Id role.Value) → slice_get os k ≡ Some (operand.Id x) → (u : ℕ) × (type_of is x ≡ Some u)
-
 pub typeable : (G : Table) (is : List PlainInst) (n : ℕ) (i : PlainInst) (gs : List Form) → IsKnown G is → slice_get is n ≡ Some i → HasForms G i gs
     → (k x : ℕ) → slice_get gs k ≡ Some (form.Id role.Value) → slice_get i.operands k ≡ Some (operand.Id x) → (u : ℕ) × (type_of is x ≡ Some u)
 typeable G is n i gs known at has k x g o =

@@ -124,9 +124,6 @@ types_push is (y ∷ xs) us x u e t = one (λ ts h. types_push is xs ts x u h t)
   one rest (Some v) None a b = cc
   one rest (Some v) (Some ts) a b = let list : v ∷ ts ≡ us = cc in rw (← list, rest ts a) refl
 
-pub none_so_far : (is : List PlainInst) (i : PlainInst) → AreSoFar is i 0 []
-none_so_far is i = record { rest = λ G fs has. refl; types = refl }
-
 pub one_more : (is : List PlainInst) (i : PlainInst) (k x u : ℕ) (vs : List Typed) → k < length i.operands → ((G : Table) → Fits G i → IsValueAt G i k (Some x)) → type_of is x ≡ Some u → AreSoFar is i k vs
     → AreSoFar is i (k + 1) (vs ++ (record { value = x; of = u } ∷ []))
 one_more is i k x u vs l told t a =

@@ -16,10 +16,11 @@ IsPartOf is spec r k x = IsPart is spec x × IsSomeAnd (part_of is r k) (λ t. t
 -- what a composite constant of the type r asks of operand k: as many parts as r has, and of each the type at its place
 abbrev pub AsksParts : List PlainInst → Bool → ℕ → List ℕ → ℕ → Type 0
 AsksParts is spec r xs k =
-    (k ≡ 0 → count_of is r ≡ Some (length xs)) × ((j x : ℕ) → k ≡ 2 + j → slice_get xs j ≡ Some x → IsPartOf is spec r j x)
+    (k ≡ 0 → count_of is r ≡ Some (length xs))
+    × ((j x : ℕ) → k ≡ 2 + j → slice_get xs j ≡ Some x → IsPartOf is spec r j x)
 
--- What a constant of the type r asks of operand k, from 0, by what follows the type and the result: all of these together are
--- what Y4 demands of it. An operand that is not named is free.
+-- What a constant of the type r asks of operand k, from 0, by what follows the type and the result: all of these
+-- together are what Y4 demands of it. An operand that is not named is free.
 abbrev pub AsksOf : List PlainInst → Constant → ℕ → List Plain → ℕ → Type 0
 AsksOf is kind.Bool r os k = k ≡ 0 → IsBool is r
 AsksOf is kind.Number r (Number low high words ∷ []) k = (k ≡ 0 → IsNumber is r) × (k ≡ 2 → FitsWidth is r low)

@@ -18,8 +18,8 @@ IsScalar is c = (s : Scalar) × (scalar_in (form_of is c) ≡ Some s)
 abbrev pub AsksData : List PlainInst → ℕ → List Plain → ℕ → Type 0
 AsksData is first os k = (j t : ℕ) → k ≡ first + j → slice_get (ids_in os) j ≡ Some t → IsData is t
 
--- What a declaration at instruction n asks of its operand k, from 0: all of these together are what Y2 demands of it. An operand
--- that is not named is free.
+-- What a declaration at instruction n asks of its operand k, from 0: all of these together are what Y2 demands of it.
+-- An operand that is not named is free.
 abbrev pub Asks : List PlainInst → ℕ → Declaration → List Plain → ℕ → Type 0
 Asks is n kind.Int (Result t ∷ Word w ∷ Word s ∷ []) k = (k ≡ 1 → IsIntWidth w) × (k ≡ 2 → s ≡ 0)
 Asks is n kind.Float (Result t ∷ Word w ∷ []) k = k ≡ 1 → IsFloatWidth w

@@ -32,8 +32,9 @@ fn other_argument(
     arguments: &[Operand],
     number: u32,
 ) -> Option<Argument>
-    ensures { MatchOption result (AreSame definitions.now (plain_operands parameters.now) (plain_operands arguments.now) number)
-        (λ a. AreOther definitions.now (plain_operands parameters.now) (plain_operands arguments.now) a.number a.wanted a.found) }
+    ensures { let ps = plain_operands parameters.now in let os = plain_operands arguments.now in
+        MatchOption result (AreSame definitions.now ps os number)
+        (λ a. AreOther definitions.now ps os a.number a.wanted a.found) }
 {
     let Some(Operand::Id(wanted)) = parameters.get(number as usize) else {
         return None;
@@ -59,8 +60,9 @@ fn first_argument(
     arguments: &[Operand],
 ) -> Option<Argument>
     requires { length arguments.now ≤ 4194304 }
-    ensures { MatchOption result ((k : ℕ) → AreSame definitions.now (plain_operands parameters.now) (plain_operands arguments.now) k)
-        (λ a. AreOther definitions.now (plain_operands parameters.now) (plain_operands arguments.now) a.number a.wanted a.found) }
+    ensures { let ps = plain_operands parameters.now in let os = plain_operands arguments.now in
+        MatchOption result ((k : ℕ) → AreSame definitions.now ps os k)
+        (λ a. AreOther definitions.now ps os a.number a.wanted a.found) }
 {
     for number in 0..arguments.len() as u32 {
         if let Some(argument) = other_argument(definitions, parameters, arguments, number) {
@@ -79,8 +81,9 @@ fn call_difference(
 ) -> Option<Difference>
     requires callee { IsFunction definitions.now (plain_inst callee.now) }
     requires few { length arguments.now ≤ 4194304 }
-    ensures { MatchOption result (IsCallable definitions.now (plain_inst callee.now) r (plain_operands arguments.now))
-        (λ d. CallDiffers definitions.now (plain_inst callee.now) r (plain_operands arguments.now) d.side d.wanted d.found) }
+    ensures { let os = plain_operands arguments.now in
+        MatchOption result (IsCallable definitions.now (plain_inst callee.now) r os)
+        (λ d. CallDiffers definitions.now (plain_inst callee.now) r os d.side d.wanted d.found) }
 {
     if let Some(difference) = first_difference(definitions, callee, r, arguments.len() as u32) {
         return Some(difference);
@@ -111,7 +114,8 @@ struct Call<'o, 'a> {
 /// The operands of an OpFunctionCall, one by one.
 fn call_of<'o, 'a>(operands: &'o [Operand<'a>]) -> Call<'o, 'a>
     requires { AreOfCall (plain_operands operands.now) }
-    ensures { plain_operands operands.now ≡ OfType result.result_type ∷ Result result.result ∷ Id result.callee ∷ plain_operands result.arguments.now }
+    ensures { plain_operands operands.now
+        ≡ OfType result.result_type ∷ Result result.result ∷ Id result.callee ∷ plain_operands result.arguments.now }
 {
     let [
         Operand::OfType(result_type),
@@ -130,8 +134,8 @@ fn call_of<'o, 'a>(operands: &'o [Operand<'a>]) -> Call<'o, 'a>
     }
 }
 
-/// What shows that Y8 is broken at an OpFunctionCall: where the callee's type first differs from the call's result type and its
-/// arguments.
+/// What shows that Y8 is broken at an OpFunctionCall: where the callee's type first differs from the call's result
+/// type and its arguments.
 pub fn call_evidence(definitions: &Definitions, inst: &Inst) -> Evidence
     requires call { (plain_inst inst.now).opcode ≡ 57 }
     requires shape { CallsOne definitions.now (plain_inst inst.now) }

@@ -40,11 +40,12 @@ fn has_count(definitions: &Definitions, r: u32, operands: &[Operand]) -> bool
     }
 }
 
-/// The operand of the first of the ids at the front that is no constant of the type at its place in the type `r`, if one is such.
-/// The first id is operand 2.
+/// The operand of the first of the ids at the front that is no constant of the type at its place in the type `r`, if
+/// one is such. The first id is operand 2.
 fn first_no_part(definitions: &Definitions, spec: bool, r: u32, operands: &[Operand]) -> Option<u32>
     requires { length (ids_in (plain_operands operands.now)) ≤ 4194304 }
-    ensures { IsFirstOf (λ k. (j x : ℕ) → k ≡ 2 + j → slice_get (ids_in (plain_operands operands.now)) j ≡ Some x → IsPartOf definitions.now spec r j x) result }
+    ensures { let xs = ids_in (plain_operands operands.now) in
+        IsFirstOf (λ k. (j x : ℕ) → k ≡ 2 + j → slice_get xs j ≡ Some x → IsPartOf definitions.now spec r j x) result }
 {
     let parts = parts_of(definitions, r);
     for k in 0..operands.len() {

@@ -34,8 +34,8 @@ fn is_scalar(definitions: &Definitions, c: u32) -> bool
     }
 }
 
-/// The operand of the first of the ids at the front that declares no data type, if one is such. `first` is the operand of the
-/// first id.
+/// The operand of the first of the ids at the front that declares no data type, if one is such. `first` is the
+/// operand of the first id.
 fn first_no_data(definitions: &Definitions, operands: &[Operand], first: u32) -> Option<u32>
     requires { first + length operands.now ≤ 4294967296 }
     ensures { IsFirstOf (AsksData definitions.now first (plain_operands operands.now)) result }

@@ -38,7 +38,8 @@ const RETURN: u16 = 253;
 /// The opcode of OpReturnValue.
 const RETURN_VALUE: u16 = 254;
 
-/// What shows that Y6 is broken at the OpFunction or OpFunctionParameter of a number. `insts` are the instructions of the module.
+/// What shows that Y6 is broken at the OpFunction or OpFunctionParameter of a number. `insts` are the instructions of
+/// the module.
 fn evidence_of_function(
     definitions: &Definitions,
     insts: &[Inst],
@@ -76,11 +77,12 @@ fn evidence_of_return(definitions: &Definitions, number: u32, inst: &Inst) -> Ev
     }
 }
 
-/// What shows that a rule of Y2 to Y8 is broken at the instruction of a number, from 0 (SPIR-V Specification 1.6, section 2.16).
-/// `plan` and `ids` are what `lay_out` and `number` answered of that module; each id that is used plays its role, as `roles_check`
-/// tells.
+/// What shows that a rule of Y2 to Y8 is broken at the instruction of a number, from 0 (SPIR-V Specification 1.6,
+/// section 2.16). `plan` and `ids` are what `lay_out` and `number` answered of that module; each id that is used
+/// plays its role, as `roles_check` tells.
 ///
-/// Time is linear in the words of the instruction; at a repeated type and at a function or a parameter, in those of the module.
+/// Time is linear in the words of the instruction; at a repeated type and at a function or a parameter, in those of the
+/// module.
 ///
 /// The error is want of memory: it comes only where a growth was refused.
 pub fn type_evidence(

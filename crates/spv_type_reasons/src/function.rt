@@ -19,8 +19,8 @@ use spv_type_rules::{function_of, parameter_type};
 /// The opcode of OpFunctionParameter.
 const PARAMETER: u16 = 55;
 
-/// What shows that Y6 is broken at the OpFunction of a number, which so many parameters follow: where its type first differs from
-/// its result type and its parameters.
+/// What shows that Y6 is broken at the OpFunction of a number, which so many parameters follow: where its type first
+/// differs from its result type and its parameters.
 pub fn function_evidence(
     definitions: &Definitions,
     number: u32,
@@ -56,8 +56,8 @@ fn parameter_count(insts: &[Inst]) -> u32
     count
 }
 
-/// What shows that Y6 is broken at the OpFunctionParameter of a number: the type at its place in its function's type, and its own.
-/// `insts` are the instructions of the module.
+/// What shows that Y6 is broken at the OpFunctionParameter of a number: the type at its place in its function's type,
+/// and its own. `insts` are the instructions of the module.
 pub fn parameter_evidence(
     definitions: &Definitions,
     insts: &[Inst],

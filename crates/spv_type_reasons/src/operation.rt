@@ -58,7 +58,8 @@ fn typed_values(
     inst: &Inst,
 ) -> Result<Vec<Typed>, AllocError>
     requires { (G : Table) × IsTypeable G definitions.now (plain_inst inst.now) }
-    ensures { IfOk result (λ vs. (G : Table) → Fits G (plain_inst inst.now) → AreTyped G definitions.now (plain_inst inst.now) vs.items) }
+    ensures { let i = plain_inst inst.now in
+        IfOk result (λ vs. (G : Table) → Fits G i → AreTyped G definitions.now i vs.items) }
 {
     let mut values = Vec::new(alloc);
     for k in 0..inst.operands.as_slice().len() {
@@ -91,8 +92,9 @@ pub fn operation_evidence(
     inst: &Inst,
 ) -> Result<Evidence, AllocError>
     requires { (G : Table) × IsTypeable G definitions.now (plain_inst inst.now) }
-    ensures { IfOk result (λ e. (G : Table) (n : ℕ) → Fits G (plain_inst inst.now) → ¬ (IsTyped G definitions.now n (plain_inst inst.now))
-        → Shows G definitions.now n (plain_inst inst.now) Y5 e) }
+    ensures { let i = plain_inst inst.now in
+        IfOk result (λ e. (G : Table) (n : ℕ) → Fits G i → ¬ (IsTyped G definitions.now n i)
+        → Shows G definitions.now n i Y5 e) }
 {
     let values = typed_values(alloc, definitions, inst)?;
     Ok(Evidence::Types {

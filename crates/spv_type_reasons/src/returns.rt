@@ -55,7 +55,8 @@ fn first_id(operands: &[Operand]) -> Option<u32>
     }
 }
 
-/// What shows that Y7 is broken at the OpReturnValue of a number: the type that its function returns, and that of the value.
+/// What shows that Y7 is broken at the OpReturnValue of a number: the type that its function returns, and that of the
+/// value.
 pub fn value_evidence(definitions: &Definitions, number: u32, inst: &Inst) -> Evidence
     requires within { number < length definitions.now }
     requires opcode { (plain_inst inst.now).opcode ≡ 254 }

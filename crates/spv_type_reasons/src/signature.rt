@@ -53,8 +53,9 @@ pub fn first_difference(
     count: u32,
 ) -> Option<Difference>
     requires { IsFunction definitions.now (plain_inst function.now) }
-    ensures { MatchOption result (IsSomeAnd (signature_of definitions.now (plain_inst function.now)) (ReturnsAfter (Some r) count))
-        (λ d. Differs definitions.now (plain_inst function.now) r count d.side d.wanted d.found) }
+    ensures { let f = plain_inst function.now in
+        MatchOption result (IsSomeAnd (signature_of definitions.now f) (ReturnsAfter (Some r) count))
+        (λ d. Differs definitions.now f r count d.side d.wanted d.found) }
 {
     let Some(signature) = signature(definitions, function) else {
         return Some(Difference {

@@ -12,7 +12,8 @@ use Rattle.spv_roles.specs.Outcome.{AreInRole}
 use Rattle.spv_type_rules.specs.Function.{function_type_in, signature_of}
 use Rattle.spv_type_reasons.specs.Function.{IsOf}
 
--- The instructions fit their rows and are laid out as a module, each id plays the role that it is used in, and they are few.
+-- The instructions fit their rows and are laid out as a module, each id plays the role that it is used in, and they are
+-- few.
 pub record IsKnown (G : Table) (is : List PlainInst) : Type 0 where
   pub fits : (n : ℕ) (i : PlainInst) → slice_get is n ≡ Some i → Fits G i
   pub laid : IsLayout (classes is)

@@ -17,8 +17,9 @@ is_value _ = false
 
 -- operand k is an id that is used as a value, or there is none
 abbrev pub IsValueAt : Table → PlainInst → ℕ → Option ℕ → Type 0
-IsValueAt G i k r = (fs : List Form) → HasForms G i fs → (f : Form) (o : Plain) → slice_get fs k ≡ Some f → slice_get i.operands k ≡ Some o
-    → value_in f o ≡ option_to_list r
+IsValueAt G i k r =
+    (fs : List Form) → HasForms G i fs → (f : Form) (o : Plain) → slice_get fs k ≡ Some f
+    → slice_get i.operands k ≡ Some o → value_in f o ≡ option_to_list r
 
 -- Each id that the instruction uses as a value is declared with a type.
 pub record IsTypeable (G : Table) (is : List PlainInst) (i : PlainInst) : Type 0 where
