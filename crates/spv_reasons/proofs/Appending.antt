@@ -51,3 +51,7 @@ ok_then ps qs a b c (Err _) f g = tt
 pub ok_part : {T E : Type 0} (a b p : List ℕ) (r : Answer T E) → OnOk r (b ≡ a ++ p) → OnOk r (Adds (p ∷ []) a b)
 ok_part a b p (Ok _) e = adds_part a b p e
 ok_part a b p (Err _) e = tt
+
+-- what was added stands in the whole text
+pub in_all : (ps : List (List ℕ)) (a b : List ℕ) → Adds ps a b → AreIn ps b
+in_all ps a b f = subst (λ t. AreIn ps t) (ap (λ t. a ++ t) (append-nil f.more) ∙ sym f.added) (all_within a f.more [] ps f.has)

@@ -1,3 +1,5 @@
 mod Appending
 mod Readings
+mod Shown
 mod Stages
+mod Tellings

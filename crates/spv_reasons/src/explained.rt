@@ -69,6 +69,7 @@ pub fn reading_of<'a>(alloc: Global, table: &Table, image: &'a Image) -> Result<
     ensures { IfOk result (λ r. IsReading table.now image.now r) }
 {
     word_counts();
+    let _words = image.len();
     let module = match decode(alloc, table, image) {
         Ok(module) => module,
         Err(Stop::Fault(fault)) => {

@@ -209,12 +209,12 @@ pub fn judge<'a>(alloc: Global, table: &Table, module: Module<'a>) -> Result<Jud
         Ok(ids) => ids,
         Err(stop) => return misnumbered(alloc, module, &plan, stop),
     };
-    let stop = match type_check(alloc, table, &module, &plan, &ids) {
-        Ok(types) => match flow_check(alloc, &module, &plan, &ids, &types) {
-            Ok(flow) => return Ok(Judged::Valid(Checked::new(module, plan, ids, flow))),
-            Err(stop) => stop,
-        },
+    let types = match type_check(alloc, table, &module, &plan, &ids) {
+        Ok(types) => types,
         Err(stop) => return mistyped(alloc, table, module, &plan, &ids, stop),
     };
-    misled(alloc, module, &plan, &ids, stop)
+    match flow_check(alloc, &module, &plan, &ids, &types) {
+        Ok(flow) => Ok(Judged::Valid(Checked::new(module, plan, ids, flow))),
+        Err(stop) => misled(alloc, module, &plan, &ids, stop),
+    }
 }

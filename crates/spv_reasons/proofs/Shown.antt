@@ -1,0 +1,49 @@
+-- What a finder hands out shows a fault.
+use Rattle.std.proofs.Common.{◌≡◌, ◌≤◌, ℕ, List, sym, subst, inl, inr, arith}
+use Rattle.std.specs.Prelude.{IfOk, Ok, Err}
+use Rattle.std.specs.Prelude.{Result as Answer}
+use Rattle.spv_table.specs.Table.{Table}
+use Rattle.spv_module.specs.Operand.{PlainInst}
+use Rattle.spv_module.specs.declared.fault.Fault.{Fault}
+use Rattle.spv_module.specs.declared.fault.Rule.TheVariants as rule
+use Rattle.spv_module.specs.declared.fault.Stop.{Stop}
+use Rattle.spv_module.specs.declared.fault.Stop.TheVariants as stop
+use Rattle.spv_layout.specs.Plan as plan
+use Rattle.spv_evidence.specs.declared.evidence.Evidence.{Evidence}
+use Rattle.spv_id_reasons.specs.Ids as ids
+use Rattle.spv_id_reasons.specs.Roles as roles
+use Rattle.spv_capability_reasons.specs.Evidence as capabilities
+use Rattle.spv_type_reasons.specs.Evidence as types
+use Rattle.spv_branch_reasons.specs.Evidence as branches
+use Rattle.spv_walk_reasons.specs.Evidence as walks
+use Rattle.spv_call_reasons.specs.Evidence as calls
+use Rattle.spv_reasons.specs.Evidence.{IsEvidence}
+use Rattle.spv_reasons.specs.inner.Judged.{IsEarly, IsShownAt}
+
+pub role_shown : (G : Table) (bound : ℕ) (is : List PlainInst) (f : Fault) (e : Evidence) → f.rule ≡ rule.Y1 → roles.IsEvidence G is rule.Y1 f.inst e → IsShownAt G bound is f e
+role_shown G bound is f e one h = λ s. IsEvidence.of_roles f.rule f.inst e (subst (λ r. roles.IsEvidence G is r f.inst e) (sym one) h)
+
+pub capability_shown : {E : Type 0} (G : Table) (bound : ℕ) (is : List PlainInst) (f : Fault) (r : Answer Evidence E) → IfOk r (λ e. capabilities.IsEvidence G is f.rule f.inst e)
+    → IfOk r (λ e. IsShownAt G bound is f e)
+capability_shown G bound is f (Ok e) h = λ s. IsEvidence.of_capabilities f.rule f.inst e h
+capability_shown G bound is f (Err _) h = tt
+
+pub type_shown : (G : Table) (bound : ℕ) (is : List PlainInst) (f : Fault) (e : Evidence) → types.IsEvidence G is f.rule f.inst e → IsShownAt G bound is f e
+type_shown G bound is f e h = λ s. IsEvidence.of_types f.rule f.inst e h
+
+pub walk_shown : (G : Table) (bound : ℕ) (is : List PlainInst) (f : Fault) (e : Evidence) → walks.IsEvidence G is f.rule f.inst e → IsShownAt G bound is f e
+walk_shown G bound is f e h = λ s. IsEvidence.of_walks f.rule f.inst e h
+
+pub branch_shown : (G : Table) (bound : ℕ) (is : List PlainInst) (f : Fault) (e : Evidence) → branches.IsEvidence G is f.rule f.inst e → IsShownAt G bound is f e
+branch_shown G bound is f e h = λ s. IsEvidence.of_branches f.rule f.inst e h
+
+pub call_shown : (G : Table) (bound : ℕ) (is : List PlainInst) (f : Fault) (e : Evidence) → f.rule ≡ rule.G1 → calls.IsEvidence is rule.G1 f.inst e → IsShownAt G bound is f e
+call_shown G bound is f e one h = λ s. IsEvidence.of_calls f.rule f.inst e (subst (λ r. calls.IsEvidence is r f.inst e) (sym one) h)
+
+pub id_shown : (G : Table) (bound : ℕ) (is : List PlainInst) (f : Fault) (e : Evidence) → ids.IsEvidence G bound is f.rule f.inst e → IsShownAt G bound is f e
+id_shown G bound is f e h = λ s. IsEvidence.of_ids f.rule f.inst e h
+
+-- a refusal of the layout
+pub early : (G : Table) (is : List PlainInst) (s : Stop) → plan.IsRefusal G is s → IsEarly s
+early G is stop.Memory h = tt
+early G is (stop.Fault f) h = elim h.0 [ inl a ↦ (let e = a.of_stage in omega (arith, e)) | inr b ↦ (let e = b.1.of_stage in omega (arith, e)) ]
