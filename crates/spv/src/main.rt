@@ -1,4 +1,4 @@
-//! `spv` checks, shows, assembles and traces SPIR-V 1.6 kernel modules.
+//! `spv` checks, explains, shows, assembles and traces SPIR-V 1.6 kernel modules.
 #![tactic(auto)]
 
 use spv_commands::{Command, Trouble, UseError, arguments, help, report, run};
@@ -52,6 +52,7 @@ fn with_made<F: Read + Drop, O: Write + Drop>(
 /// Opens the files of a command, makes the one that it makes empty, does what it asks, and answers the exit status.
 fn with_files(rt: &HostRuntime, command: &Command) -> Result<u8, Trouble> {
     let (Command::Check { grammar, file }
+    | Command::Explain { grammar, file }
     | Command::Show { grammar, file }
     | Command::Asm { grammar, file, .. }
     | Command::Trace { grammar, file, .. }) = command;

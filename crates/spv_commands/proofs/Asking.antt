@@ -12,7 +12,7 @@ use Rattle.clap.specs.declared.parser.matches.ArgMatches.TheViews.{out-ArgMatche
 use Rattle.clap.proofs.OnLiterals.{clap_on_literals}
 use Rattle.std.specs.Borrow.{Bor}
 use Rattle.spv_commands.specs.declared.command_line.Command.{Command}
-use Rattle.spv_commands.specs.declared.command_line.Command.TheVariants.{Check, Show, Asm, Trace}
+use Rattle.spv_commands.specs.declared.command_line.Command.TheVariants.{Check, Explain, Show, Asm, Trace}
 use Rattle.spv_commands.specs.declared.command_line.UseError.{UseError}
 use Rattle.spv_commands.specs.declared.command_line.UseError.TheVariants.{U1, U2, U3}
 use Rattle.spv_commands.specs.CommandLine.{AnswersTo, IsAsked, IsAsmOf, IsCommandOf, IsNoCommand, IsTraceOf, error_of, program, text_in, texts_in}
@@ -52,6 +52,9 @@ texts_met m name rows e f = ap texts_in (met (out-ArgMatches m).subcommand name 
 asm_is_no_check : ¬ (codes "asm" ≡ codes "check")
 asm_is_no_check e = cc
 
+asm_is_no_explain : ¬ (codes "asm" ≡ codes "explain")
+asm_is_no_explain e = cc
+
 asm_is_no_show : ¬ (codes "asm" ≡ codes "show")
 asm_is_no_show e = cc
 
@@ -61,6 +64,9 @@ letters_differ m n e f h = omega arith
 
 trace_is_no_check : ¬ (codes "trace" ≡ codes "check")
 trace_is_no_check e = letters_differ 116 99 refl (omega arith) (ap (λ (l : List ℕ). slice_index l 0) e)
+
+trace_is_no_explain : ¬ (codes "trace" ≡ codes "explain")
+trace_is_no_explain e = letters_differ 116 101 refl (omega arith) (ap (λ (l : List ℕ). slice_index l 0) e)
 
 trace_is_no_show : ¬ (codes "trace" ≡ codes "show")
 trace_is_no_show e = letters_differ 116 115 refl (omega arith) (ap (λ (l : List ℕ). slice_index l 0) e)
@@ -99,6 +105,7 @@ is_asked found name m grammar file g f e n p q = e ∙ rw (n, p, q) refl
 pub no_command_without_grammar : (found : Option (Text × List Row)) (name : Text) (grammar file : Option Text) → texts_in found ≡ Some (name, grammar, file) → grammar ≡ None → IsNoCommand found
 no_command_without_grammar found name grammar file e none = record {
   check = no_grammar found name grammar file e none (codes "check");
+  explain = no_grammar found name grammar file e none (codes "explain");
   show = no_grammar found name grammar file e none (codes "show");
   asm = λ g f out h. absurd (no_grammar found name grammar file e none (codes "asm") g f h);
   trace = λ g f function choices limit h. no_grammar found name grammar file e none (codes "trace") g f h.asked;
@@ -107,6 +114,7 @@ no_command_without_grammar found name grammar file e none = record {
 pub no_command_without_file : (found : Option (Text × List Row)) (name : Text) (grammar file : Option Text) → texts_in found ≡ Some (name, grammar, file) → file ≡ None → IsNoCommand found
 no_command_without_file found name grammar file e none = record {
   check = no_file found name grammar file e none (codes "check");
+  explain = no_file found name grammar file e none (codes "explain");
   show = no_file found name grammar file e none (codes "show");
   asm = λ g f out h. absurd (no_file found name grammar file e none (codes "asm") g f h);
   trace = λ g f function choices limit h. no_file found name grammar file e none (codes "trace") g f h.asked;
@@ -114,9 +122,10 @@ no_command_without_file found name grammar file e none = record {
 
 -- with another name there is none
 pub no_command_of_name : (found : Option (Text × List Row)) (name : Text) (grammar file : Option Text) → texts_in found ≡ Some (name, grammar, file)
-    → ¬ (name ≡ codes "check") → ¬ (name ≡ codes "show") → ¬ (name ≡ codes "asm") → ¬ (name ≡ codes "trace") → IsNoCommand found
-no_command_of_name found name grammar file e p q r s = record {
+    → ¬ (name ≡ codes "check") → ¬ (name ≡ codes "explain") → ¬ (name ≡ codes "show") → ¬ (name ≡ codes "asm") → ¬ (name ≡ codes "trace") → IsNoCommand found
+no_command_of_name found name grammar file e p x q r s = record {
   check = other_name found name grammar file e (codes "check") p;
+  explain = other_name found name grammar file e (codes "explain") x;
   show = other_name found name grammar file e (codes "show") q;
   asm = λ g f out h. absurd (other_name found name grammar file e (codes "asm") r g f h);
   trace = λ g f function choices limit h. other_name found name grammar file e (codes "trace") s g f h.asked;
@@ -133,6 +142,7 @@ no_command_met found e = no_command found (no_rows found e)
     no_command : (found : Option (Text × List Row)) → found ≡ None → IsNoCommand found
     no_command found none = record {
       check = λ g f h. cc;
+      explain = λ g f h. cc;
       show = λ g f h. cc;
       asm = λ g f out h. cc;
       trace = λ g f function choices limit h. let a = h.asked in cc;
@@ -150,11 +160,13 @@ pub asm_met : (found : Option (Text × List Row)) (rows : List Row) (g f : Text)
     → ((option : Text) → text_in option found ≡ first_of option rows) → IsAsmOf rows g f o → IsCommandOf found (ok_or o U1)
 asm_met found rows g f None e t h = record {
   check = other_name found _ _ _ e (codes "check") asm_is_no_check;
+  explain = other_name found _ _ _ e (codes "explain") asm_is_no_explain;
   show = other_name found _ _ _ e (codes "show") asm_is_no_show;
   asm = λ a b out _ w. let n = t (codes "out") in cc;
   trace = λ a b function choices limit k. other_name found _ _ _ e (codes "trace") asm_is_no_trace a b k.asked;
 }
 asm_met found rows g f (Some (Check a b)) e t h = absurd h
+asm_met found rows g f (Some (Explain a b)) e t h = absurd h
 asm_met found rows g f (Some (Show a b)) e t h = absurd h
 asm_met found rows g f (Some (Trace a b function choices limit)) e t h = absurd h
 asm_met found rows g f (Some (Asm a b out big)) e t h = (rw (h.0, h.1) e, t (codes "out") ∙ h.2, rw (t (codes "big")) h.3)
@@ -163,6 +175,7 @@ asm_met found rows g f (Some (Asm a b out big)) e t h = (rw (h.0, h.1) e, t (cod
 pub trace_met : (found : Option (Text × List Row)) (rows : List Row) (g f : Text) (r : Result Command UseError) → texts_in found ≡ Some (codes "trace", Some g, Some f)
     → ((option : Text) → text_in option found ≡ first_of option rows) → IsTraceOf rows g f r → IsCommandOf found r
 trace_met found rows g f (Ok (Check a b)) e t h = absurd h
+trace_met found rows g f (Ok (Explain a b)) e t h = absurd h
 trace_met found rows g f (Ok (Show a b)) e t h = absurd h
 trace_met found rows g f (Ok (Asm a b out big)) e t h = absurd h
 trace_met found rows g f (Ok (Trace a b function choices limit)) e t h = record {
@@ -173,6 +186,7 @@ trace_met found rows g f (Ok (Trace a b function choices limit)) e t h = record 
 }
 trace_met found rows g f (Err U1) e t h = record {
   check = other_name found _ _ _ e (codes "check") trace_is_no_check;
+  explain = other_name found _ _ _ e (codes "explain") trace_is_no_explain;
   show = other_name found _ _ _ e (codes "show") trace_is_no_show;
   asm = λ a b out k. absurd (other_name found _ _ _ e (codes "asm") trace_is_no_asm a b k);
   trace = λ a b function choices limit k. h function choices limit

@@ -9,6 +9,7 @@ use Rattle.spv_commands.specs.Task.{LacksEntry, LacksEntryByText}
 use Rattle.spv_commands.specs.Trace.{Traces}
 use Rattle.spv_commands.specs.declared.command_line.Command.{Command}
 use Rattle.spv_verdict.specs.Stream.{Tells}
+use Rattle.spv_reasons.specs.Stream.{Explains}
 use Rattle.spv_commands.specs.Trouble.{IsErrorLine, IsTableOf, refused, file, entry, memory, grammar_text, trouble_text}
 use Rattle.spv_commands.specs.declared.program.Trouble.{Trouble}
 use Rattle.spv_commands.specs.declared.program.Trouble.TheVariants.{File, Memory, NoEntry}
@@ -61,6 +62,11 @@ swapped (Some x) (Some y) r P h = h
 pub told_in : (G : Table) (known kept new : Option (List ℕ)) (r : Result Bool Trouble) → IfSome known (λ bytes. IfSome kept (λ old. IfOk r (λ answer. Tells G bytes old new answer)))
     → IfSome known (λ bytes. IfOk r (λ answer. IfSome kept (λ old. Tells G bytes old new answer)))
 told_in G known kept new r h = swapped known kept r (λ bytes old answer. Tells G bytes old new answer) h
+
+pub explained_in : (G : Table) (known kept new : Option (List ℕ)) (r : Result Bool Trouble)
+    → IfSome known (λ bytes. IfSome kept (λ old. IfOk r (λ answer. Explains G bytes old new answer)))
+    → IfSome known (λ bytes. IfOk r (λ answer. IfSome kept (λ old. Explains G bytes old new answer)))
+explained_in G known kept new r h = swapped known kept r (λ bytes old answer. Explains G bytes old new answer) h
 
 pub shown_in : (G : Table) (known kept new : Option (List ℕ)) (r : Result Bool Trouble) → IfSome known (λ bytes. IfSome kept (λ old. IfOk r (λ answer. Shows G bytes old new answer)))
     → IfSome known (λ bytes. IfOk r (λ answer. IfSome kept (λ old. Shows G bytes old new answer)))

@@ -6,7 +6,7 @@ use Rattle.clap.specs.declared.builder.action.ArgAction.TheVariants.{SetTrue}
 use Rattle.clap.specs.declared.error.kind.ErrorKind.{ErrorKind}
 use Rattle.clap.specs.declared.error.kind.ErrorKind.TheVariants.{DisplayHelp, OutOfMemory}
 use Rattle.spv_commands.specs.declared.command_line.Command.{Command}
-use Rattle.spv_commands.specs.declared.command_line.Command.TheVariants.{Check, Show, Asm, Trace}
+use Rattle.spv_commands.specs.declared.command_line.Command.TheVariants.{Check, Explain, Show, Asm, Trace}
 use Rattle.spv_commands.specs.declared.command_line.UseError.{UseError}
 use Rattle.spv_commands.specs.declared.command_line.UseError.TheVariants.{U1, U2, U3}
 use Rattle.spv_commands.specs.Number.{AreNumbersOf, IsNumberOf}
@@ -54,17 +54,21 @@ abbrev pub trace_command : Shape
 trace_command =
     (with_rule (with_rule (with_rule (with_rule (with_rule (new_app (codes "trace")) grammar_option) file_word) function_option) choices_option) limit_option).top
 
--- the commands that judge or show a module; the words begin after the program's name
-abbrev pub module_program : App
-module_program =
+-- the commands that judge a module; the words begin after the program's name
+abbrev pub judging_program : App
+judging_program =
     with_subcommand
     (with_subcommand (on_top (λ s. record s { no_binary_name = true; subcommand_required = true; disable_help_subcommand = true }) (new_app (codes "spv")))
     (file_command (codes "check")))
-    (file_command (codes "show"))
+    (file_command (codes "explain"))
+
+-- the same with those that show a module and make one
+abbrev pub module_program : App
+module_program = with_subcommand (with_subcommand judging_program (file_command (codes "show"))) asm_command
 
 -- all commands, of which one must be given
 abbrev pub program : App
-program = with_subcommand (with_subcommand module_program asm_command) trace_command
+program = with_subcommand module_program trace_command
 
 -- the name of the command with the text of `--grammar` and of `FILE`, as `clap` reads them
 abbrev pub texts_in : Option (Text × List Row) → Option (Text × Option Text × Option Text)
@@ -88,6 +92,7 @@ pub record IsTrace (found : Option (Text × List Row)) (grammar file : Text) (fu
 -- they are a command with all of its texts; a flag that was read has the text `true`
 abbrev pub IsCommand : Option (Text × List Row) → Command → Type 0
 IsCommand found (Check grammar file) = IsAsked found (codes "check") grammar.now file.now
+IsCommand found (Explain grammar file) = IsAsked found (codes "explain") grammar.now file.now
 IsCommand found (Show grammar file) = IsAsked found (codes "show") grammar.now file.now
 IsCommand found (Asm grammar file out big) =
     IsAsked found (codes "asm") grammar.now file.now × (text_in (codes "out") found ≡ Some out.now) × (IsTrue big ↔ (text_in (codes "big") found ≡ Some (codes "true")))
@@ -96,6 +101,7 @@ IsCommand found (Trace grammar file function choices limit) = IsTrace found gram
 -- they are no command with all of its texts
 pub record IsNoCommand (found : Option (Text × List Row)) : Type 0 where
   pub check : (grammar file : Text) → ¬ (IsAsked found (codes "check") grammar file)
+  pub explain : (grammar file : Text) → ¬ (IsAsked found (codes "explain") grammar file)
   pub show : (grammar file : Text) → ¬ (IsAsked found (codes "show") grammar file)
   pub asm : (grammar file out : Text) → IsAsked found (codes "asm") grammar file → ¬ (text_in (codes "out") found ≡ Some out)
   pub trace : (grammar file : Text) (function : ℕ) (choices : List ℕ) (limit : ℕ) → ¬ (IsTrace found grammar file function choices limit)

@@ -2,7 +2,7 @@
 ghost use Rattle.std.specs.Prelude.{◌≡◌, ◌↔◌, ℕ, List, false, codes, IfOk, IsTrue, MatchOption, map, Some};
 ghost use Rattle.clap.specs.Words.{app_of, first_of, found_of, rows_of, rule_of, shape_of, subcommand_rows_of};
 ghost use Rattle.clap.specs.declared.builder.command.Command.TheViews.{out-Command};
-ghost use Rattle.spv_commands.specs.CommandLine.{AnswersTo, IsAsmOf, IsCommandOf, IsTraceOf, asm_command, error_of, file_command, module_program, number_option, program, trace_command};
+ghost use Rattle.spv_commands.specs.CommandLine.{AnswersTo, IsAsmOf, IsCommandOf, IsTraceOf, asm_command, error_of, file_command, judging_program, module_program, number_option, program, trace_command};
 ghost use Rattle.spv_commands.specs.Number.{AreNumbersOf, IsNumberOf};
 
 use crate::number::{number_in, numbers_in};
@@ -16,6 +16,13 @@ use thiserror::Error;
 pub enum Command<'a> {
     /// `spv check --grammar G FILE`: the verdict on a module.
     Check {
+        /// The path of the grammar file.
+        grammar: &'a str,
+        /// The path of the module.
+        file: &'a str,
+    },
+    /// `spv explain --grammar G FILE`: the verdict on a module, and what explains it.
+    Explain {
         /// The path of the grammar file.
         grammar: &'a str,
         /// The path of the module.
@@ -160,9 +167,9 @@ fn trace_words<'a>(alloc: Global) -> Result<clap::Command<'a>, AllocError>
         .arg(limit)
 }
 
-/// The command line of the commands that judge or show a module.
-fn module_words<'a>(alloc: Global) -> Result<clap::Command<'a>, AllocError>
-    ensures { IfOk result (λ c. app_of c ≡ module_program) }
+/// The command line of the commands that judge a module.
+fn judging_words<'a>(alloc: Global) -> Result<clap::Command<'a>, AllocError>
+    ensures { IfOk result (λ c. app_of c ≡ judging_program) }
 {
     let check = file_words(
         alloc,
@@ -170,23 +177,36 @@ fn module_words<'a>(alloc: Global) -> Result<clap::Command<'a>, AllocError>
         "Writes the verdict on a module",
         "The module",
     )?;
-    let show = file_words(alloc, "show", "Writes the text of a module", "The module")?;
+    let explain = file_words(
+        alloc,
+        "explain",
+        "Writes the verdict on a module and what explains it",
+        "The module",
+    )?;
     clap::Command::new(alloc, "spv")
-        .about("Checks, shows, assembles and traces SPIR-V 1.6 kernel modules")
+        .about("Checks, explains, shows, assembles and traces SPIR-V 1.6 kernel modules")
         .no_binary_name(true)
         .subcommand_required(true)
         .disable_help_subcommand(true)
         .subcommand(check)?
-        .subcommand(show)
+        .subcommand(explain)
+}
+
+/// The same with those that show a module and make one.
+fn module_words<'a>(alloc: Global) -> Result<clap::Command<'a>, AllocError>
+    ensures { IfOk result (λ c. app_of c ≡ module_program) }
+{
+    let show = file_words(alloc, "show", "Writes the text of a module", "The module")?;
+    let asm = asm_words(alloc)?;
+    judging_words(alloc)?.subcommand(show)?.subcommand(asm)
 }
 
 /// The whole command line.
 fn all_words<'a>(alloc: Global) -> Result<clap::Command<'a>, AllocError>
     ensures { IfOk result (λ c. app_of c ≡ program) }
 {
-    let asm = asm_words(alloc)?;
     let trace = trace_words(alloc)?;
-    module_words(alloc)?.subcommand(asm)?.subcommand(trace)
+    module_words(alloc)?.subcommand(trace)
 }
 
 /// The error for what `clap` refused.
@@ -300,6 +320,7 @@ fn command_in<'a>(alloc: Global, matches: &ArgMatches<'a>) -> Result<Command<'a>
     };
     match name {
         "check" => Ok(Command::Check { grammar, file }),
+        "explain" => Ok(Command::Explain { grammar, file }),
         "show" => Ok(Command::Show { grammar, file }),
         "asm" => asm_in(found, grammar, file).ok_or(UseError::U1),
         "trace" => trace_in(alloc, found, grammar, file),

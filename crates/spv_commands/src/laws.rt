@@ -7,6 +7,7 @@ ghost use Rattle.spv_grammar.specs.Answer.{text_breaks};
 ghost use Rattle.spv_grammar.specs.declared.error.GrammarError.{GrammarError};
 ghost use Rattle.spv_table.specs.Example.{empty_table};
 ghost use Rattle.spv_commands.specs.Example.{empty_grammar};
+ghost use Rattle.spv_reasons.specs.Stream.{BeginsExplaining, Explains};
 ghost use Rattle.spv_commands.specs.Show.{BeginsShowing, IsShowing, Shows};
 ghost use Rattle.spv_commands.specs.Assemble.{Assembles, BeginsAssembling};
 ghost use Rattle.spv_commands.specs.Number.{AreNumbers, IsNumber};
@@ -50,6 +51,17 @@ pub fn show_examples()
     ensures shows_text { (G : Table) (new : Option (List ℕ)) → ¬ (Shows G (1 ∷ 2 ∷ 3 ∷ []) [] new true) }
     // The first five bytes of that line.
     ensures begins { (G : Table) → BeginsShowing G (1 ∷ 2 ∷ 3 ∷ []) (9 ∷ []) (Some (9 ∷ codes "fault")) }
+{
+    spv_words::laws::examples();
+    spv_words::laws::one_refusal();
+}
+
+/// Worked examples of what is explained.
+pub fn explain_examples()
+    // A writer that held the byte 9 got the verdict line of three bytes, which are no module and have no evidence.
+    ensures explains { (G : Table) → Explains G (1 ∷ 2 ∷ 3 ∷ []) (9 ∷ []) (Some (9 ∷ codes "fault W2" ++ line_end)) false }
+    // The first five bytes of that line.
+    ensures begins { (G : Table) → BeginsExplaining G (1 ∷ 2 ∷ 3 ∷ []) (9 ∷ []) (Some (9 ∷ codes "fault")) }
 {
     spv_words::laws::examples();
     spv_words::laws::one_refusal();
@@ -120,6 +132,7 @@ pub fn run_examples()
 {
     spv_grammar::laws::table_examples();
     spv_verdict::laws::stream_examples();
+    explain_examples();
     show_examples();
     trace_examples();
 }

@@ -5,6 +5,7 @@ ghost use Rattle.spv_grammar.specs.declared.error.GrammarError.{GrammarError};
 ghost use Rattle.spv_grammar.specs.declared.error.GrammarError.TheVariants.{J8};
 ghost use Rattle.spv_commands.specs.Assemble.{Assembles, BeginsAssembling, order_of};
 ghost use Rattle.spv_verdict.specs.Stream.{Begins, Tells};
+ghost use Rattle.spv_reasons.specs.Stream.{BeginsExplaining, Explains};
 ghost use Rattle.spv_commands.specs.Show.{BeginsShowing, Shows};
 ghost use Rattle.spv_commands.specs.Task.{BeginsByText, BeginsToDo, Does, DoesByText, IsNoText, LacksEntry, LacksEntryByText, MakesNothing};
 ghost use Rattle.spv_commands.specs.Trace.{BeginsTracing, HasNoEntry, Traces};
@@ -17,6 +18,7 @@ use crate::laws::one_grammar;
 use crate::showing::show_stream;
 use crate::tracing::{RunError, trace_stream};
 use spv_grammar::{FromGrammar, GrammarError};
+use spv_reasons::explain_stream;
 use spv_table::Table;
 use spv_verdict::check_stream;
 use spv_words::{Order, Sink, Source, WordError, write_all};
@@ -99,6 +101,22 @@ fn judged<S: Source, W: Sink>(
     ensures begun { W.failures out.new ≢ W.failures out.old → IfSome (S.remaining file.old) (λ bytes. IfSome (W.contents out.old) (λ old. Begins table.now bytes old (W.contents out.new))) }
 {
     check_stream(alloc, table, file, out).map_err(stream_trouble)
+}
+
+/// Judges the module by a table, with what explains the verdict: whether it is valid.
+fn explained<S: Source, W: Sink>(
+    alloc: Global,
+    table: &Table,
+    file: &mut S,
+    out: &mut W,
+) -> Result<bool, Trouble>
+    ensures explained { IfSome (S.remaining file.old) (λ bytes. IfSome (W.contents out.old) (λ old. IfOk result (λ valid. Explains table.now bytes old (W.contents out.new) valid))) }
+    ensures failed { ((S.failures file.new ≢ S.failures file.old) ⊎ (W.failures out.new ≢ W.failures out.old)) ↔ IsErrOf result File }
+    ensures only { IfErr result (λ t. (t ≡ File) ⊎ (t ≡ Memory)) }
+    ensures unwritten { IsErr result → W.failures out.new ≡ W.failures out.old → out.new ≡ out.old }
+    ensures begun { W.failures out.new ≢ W.failures out.old → IfSome (S.remaining file.old) (λ bytes. IfSome (W.contents out.old) (λ old. BeginsExplaining table.now bytes old (W.contents out.new))) }
+{
+    explain_stream(alloc, table, file, out).map_err(stream_trouble)
 }
 
 /// Shows the module by a table: whether it is one that has a text.
@@ -191,6 +209,7 @@ fn done_by<S: Source, W: Sink, O: Sink>(
 {
     match command {
         Command::Check { .. } => judged(alloc, table, file, out),
+        Command::Explain { .. } => explained(alloc, table, file, out),
         Command::Show { .. } => shown(alloc, table, file, out),
         Command::Asm { big, .. } => assembled(alloc, table, *big, file, out, made),
         Command::Trace {
@@ -251,8 +270,9 @@ pub fn run<S: Source, W: Sink, O: Sink, E: Sink>(
     err: &mut E,
 ) -> u8
     ensures status { result ≤ 2 }
-    // With 0 and 1 the verdict line, the text, the module or the run was written, by the table that the grammar file gives: 0
-    // goes with `valid` alone, with the text of a module, with the module of a text or with a run.
+    // With 0 and 1 the verdict line, with or without lines that explain it, the text, the module or the run was written, by the
+    // table that the grammar file gives: 0 goes with `valid` alone, with the text of a module, with the module of a text or with
+    // a run.
     ensures done { result ≤ 1 → IfSome (S.remaining file.old) (λ bytes. DoesByText command.now grammar.now bytes (W.contents out.old) (W.contents out.new) (O.contents made.old) (O.contents made.new) (result == 0)) }
     // With 2 an error line was written to the standard error, and there is a reason for it.
     ensures error { result ≡ 2 → (line : List ℕ) × IsErrorLine grammar.now (((S.failures file.new ≢ S.failures file.old) ⊎ (W.failures out.new ≢ W.failures out.old) ⊎ (O.failures made.new ≢ O.failures made.old)) ⊎ IsNoText command.now (S.remaining file.old)) (LacksEntryByText command.now grammar.now (S.remaining file.old)) line × Writes line (E.contents err.old) (E.contents err.new) (E.failures err.old) (E.failures err.new) }
@@ -264,7 +284,7 @@ pub fn run<S: Source, W: Sink, O: Sink, E: Sink>(
     ensures unwritten { result ≡ 2 → W.failures out.new ≡ W.failures out.old → out.new ≡ out.old }
     ensures unmade { result ≡ 2 → O.failures made.new ≡ O.failures made.old → made.new ≡ made.old }
     ensures begun { (W.failures out.new ≢ W.failures out.old) ⊎ (O.failures made.new ≢ O.failures made.old) → IfSome (S.remaining file.old) (λ bytes. BeginsByText command.now grammar.now bytes (W.contents out.old) (W.contents out.new) (O.contents made.old) (O.contents made.new)) }
-    // `check`, `show` and `trace` make no file.
+    // `check`, `explain`, `show` and `trace` make no file.
     ensures nothing { MakesNothing command.now → made.new ≡ made.old }
     // The standard error gets a line only with the status 2.
     ensures quiet { result ≤ 1 → err.new ≡ err.old }

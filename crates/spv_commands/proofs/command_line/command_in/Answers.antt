@@ -30,6 +30,15 @@ returns-in-check c =
     let file : first_of (codes "file") rows ≡ Some c.in-Some-get_str-2.file.now = sym (first_value-rows (found_of c.in-Some.found.now) (codes "file")) ∙ sym c.in-Some-get_str-2.ensures in
     is_asked _ _ (codes "check") _ _ _ _ texts name grammar file
 
+pub returns-in-explain : goal.returns-in-explain
+returns-in-explain c =
+    let rows = rows_of (found_of c.in-Some.found.now) in
+    let texts = texts_met c.args.matches.now c.in-Some.name.now rows (sym c.in-Some.ensures.name) (sym c.in-Some.ensures.rows) in
+    let name : c.in-Some.name.now ≡ codes "explain" = search rules in
+    let grammar : first_of (codes "grammar") rows ≡ Some c.in-Some-get_str.grammar.now = sym (first_value-rows (found_of c.in-Some.found.now) (codes "grammar")) ∙ sym c.in-Some-get_str.ensures in
+    let file : first_of (codes "file") rows ≡ Some c.in-Some-get_str-2.file.now = sym (first_value-rows (found_of c.in-Some.found.now) (codes "file")) ∙ sym c.in-Some-get_str-2.ensures in
+    is_asked _ _ (codes "explain") _ _ _ _ texts name grammar file
+
 pub returns-in-show : goal.returns-in-show
 returns-in-show c =
     let rows = rows_of (found_of c.in-Some.found.now) in
@@ -63,4 +72,4 @@ pub returns-in_default-name : goal.returns-in_default-name
 returns-in_default-name c =
     let rows = rows_of (found_of c.in-Some.found.now) in
     let texts = texts_met c.args.matches.now c.in-Some.name.now rows (sym c.in-Some.ensures.name) (sym c.in-Some.ensures.rows) in
-    no_command_of_name _ _ _ _ texts (search rules) (search rules) (search rules) (search rules)
+    no_command_of_name _ _ _ _ texts (search rules) (search rules) (search rules) (search rules) (search rules)
