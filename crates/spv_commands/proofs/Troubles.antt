@@ -33,6 +33,23 @@ pub no_second : (B P : Type 0) (n : ℕ) → (B → P) → B ⊎ (n ≢ n) → P
 no_second B P n f (inl b) = f b
 no_second B P n f (inr c) = absurd (c refl)
 
+-- where one write alone may have failed
+pub middle : (B P : Type 0) (m n : ℕ) → (B → P) → (m ≢ m) ⊎ B ⊎ (n ≢ n) → P
+middle B P m n f (inl a) = absurd (a refl)
+middle B P m n f (inr (inl b)) = f b
+middle B P m n f (inr (inr c)) = absurd (c refl)
+
+pub one_reason : (A B C N L : Type 0) (r : Result Bool Trouble) → IfErr r (λ t. (t ≡ File) ⊎ (t ≡ Memory)) → (B ↔ IsErrOf r File)
+    → IfErr r (λ t. ((t ≡ File) × ((A ⊎ B ⊎ C) ⊎ N)) ⊎ ((t ≡ NoEntry) × L) ⊎ (t ≡ Memory))
+one_reason A B C N L (Ok v) o f = tt
+one_reason A B C N L (Err t) (inr e) f = inr (inr e)
+one_reason A B C N L (Err t) (inl e) f = inl (e, inl (inr (inl (f.1 (ap Err e)))))
+
+-- what holds of any bytes
+pub any_bytes : (o : Option (List ℕ)) (P : Type 0) → P → IfSome o (λ bytes. P)
+any_bytes None P h = tt
+any_bytes (Some x) P h = h
+
 pub two_reasons : (A B C N L : Type 0) (r : Result Bool Trouble) → IfErr r (λ t. (t ≡ File) ⊎ (t ≡ Memory)) → (A ⊎ B ↔ IsErrOf r File)
     → IfErr r (λ t. ((t ≡ File) × ((A ⊎ B ⊎ C) ⊎ N)) ⊎ ((t ≡ NoEntry) × L) ⊎ (t ≡ Memory))
 two_reasons A B C N L (Ok v) o f = tt

@@ -13,7 +13,7 @@ ghost use Rattle.spv_commands.specs.Assemble.{Assembles, BeginsAssembling};
 ghost use Rattle.spv_commands.specs.Number.{AreNumbers, IsNumber};
 ghost use Rattle.spv_commands.specs.Trace.{BeginsTracing, HasNoEntry, Traces, step_line, trace_text};
 ghost use Rattle.spv_run.specs.declared.parts.Ending.TheVariants.{Finished, Limit};
-ghost use Rattle.spv_commands.specs.Task.{BeginsByText, DoesByText, MakesNothing};
+ghost use Rattle.spv_commands.specs.Task.{BeginsByText, DoesByText, MakesNothing, ReadsGrammar};
 ghost use Rattle.spv_commands.specs.Trouble.{BeginsWith, IsErrorLine, IsTableOf, Writes, entry_line, file_line, memory_line};
 ghost use Rattle.spv_commands.specs.declared.command_line.Command.{Command};
 ghost use Rattle.spv_verdict.specs.Verdict.{line_end, valid_line};
@@ -119,9 +119,9 @@ pub fn run_examples()
     // Two empty lists give the table of nothing, and no text at all gives none.
     ensures table { IsTableOf empty_grammar empty_table }
     ensures no_table { (G : Table) → ¬ (IsTableOf [] G) }
-    ensures does { (command : Command) → MakesNothing command → DoesByText command empty_grammar (1 ∷ 2 ∷ 3 ∷ []) (Some (9 ∷ [])) (Some (9 ∷ codes "fault W2" ++ line_end)) None None false }
+    ensures does { (command : Command) → ReadsGrammar command → MakesNothing command → DoesByText command empty_grammar (1 ∷ 2 ∷ 3 ∷ []) (Some (9 ∷ [])) (Some (9 ∷ codes "fault W2" ++ line_end)) None None false }
     ensures does_nothing { (command : Command) (bytes : List ℕ) (old new held kept : Option (List ℕ)) (answer : Bool) → ¬ (DoesByText command [] bytes old new held kept answer) }
-    ensures begins { (command : Command) → MakesNothing command → BeginsByText command empty_grammar (1 ∷ 2 ∷ 3 ∷ []) (Some (9 ∷ [])) (Some (9 ∷ codes "fault")) None None }
+    ensures begins { (command : Command) → ReadsGrammar command → MakesNothing command → BeginsByText command empty_grammar (1 ∷ 2 ∷ 3 ∷ []) (Some (9 ∷ [])) (Some (9 ∷ codes "fault")) None None }
     ensures begins_nothing { (command : Command) (bytes : List ℕ) (old new held kept : Option (List ℕ)) → ¬ (BeginsByText command [] bytes old new held kept) }
     // No text at all breaks J1, memory can always be told, `error X1` of an id that is strange, and `error file` only after a
     // failed call.

@@ -1,4 +1,4 @@
-use Rattle.spv_commands.proofs.Troubles.{explained_in, no_entry_lacks, no_second, no_third, shown_in, three_reasons, told_in, traced_in, two_reasons}
+use Rattle.spv_commands.proofs.Troubles.{any_bytes, explained_in, middle, no_entry_lacks, no_second, no_third, one_reason, shown_in, three_reasons, told_in, traced_in, two_reasons}
 use Rattle.spv_commands.proofs.program.done_by.Goals as goal
 
 pub returns-in-Check-clause-done : goal.returns-in-Check-clause-done
@@ -55,3 +55,15 @@ pub returns-in-Trace-clause-begun : goal.returns-in-Trace-clause-begun
 returns-in-Trace-clause-begun g c =
     let b = rw c.deref.ensures.value at c.traced.ensures.begun in
     rw c.in-Trace.is (no_second _ _ _ b)
+
+pub returns-in-Rules-clause-done : goal.returns-in-Rules-clause-done
+returns-in-Rules-clause-done g c = rw c.in-Rules.is (any_bytes (g.S.Source.remaining c.args.file.now) _ c.ruled.ensures.written)
+
+pub returns-in-Rules-clause-failed : goal.returns-in-Rules-clause-failed
+returns-in-Rules-clause-failed g c = middle _ _ _ _ c.ruled.ensures.failed.0
+
+pub returns-in-Rules-clause-why : goal.returns-in-Rules-clause-why
+returns-in-Rules-clause-why g c = one_reason _ _ _ _ _ _ c.ruled.ensures.only c.ruled.ensures.failed
+
+pub returns-in-Rules-clause-begun : goal.returns-in-Rules-clause-begun
+returns-in-Rules-clause-begun g c = rw c.in-Rules.is (λ f. any_bytes (g.S.Source.remaining c.args.file.now) _ (no_second _ _ _ c.ruled.ensures.begun f))
