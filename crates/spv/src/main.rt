@@ -1,4 +1,4 @@
-//! `spv` checks, shows, assembles and traces SPIR-V 1.6 kernel modules.
+//! `spv` checks, explains, shows, assembles and traces SPIR-V 1.6 kernel modules, and tells its rules.
 #![tactic(auto)]
 
 use spv_commands::{Command, Trouble, UseError, arguments, help, report, run};
@@ -50,11 +50,16 @@ fn with_made<F: Read + Drop, O: Write + Drop>(
 }
 
 /// Opens the files of a command, makes the one that it makes empty, does what it asks, and answers the exit status.
+/// `rules` has none.
 fn with_files(rt: &HostRuntime, command: &Command) -> Result<u8, Trouble> {
     let (Command::Check { grammar, file }
+    | Command::Explain { grammar, file }
     | Command::Show { grammar, file }
     | Command::Asm { grammar, file, .. }
-    | Command::Trace { grammar, file, .. }) = command;
+    | Command::Trace { grammar, file, .. }) = command
+    else {
+        return Ok(with_made(rt, command, &[], io::empty(), io::sink()));
+    };
     let grammar = fs::read(rt, *grammar).map_err(trouble_of)?;
     let file = fs::open(rt, *file).map_err(trouble_of)?;
     let status = match command {

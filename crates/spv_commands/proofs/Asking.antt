@@ -1,21 +1,22 @@
 -- How the matches of `clap` lead to a command.
-use Rattle.std.proofs.Common.{◌≡◌, ◌⊎◌, ◌↔◌, ◌∙◌, ◌≤◌, inl, inr, refl, ap, sym, subst, slice_index, arith, true, false, Bool, IsTrue, ℕ, List, [], Option, Some, None, option_map, codes}
+use Rattle.std.proofs.Common.{◌≡◌, ◌⊎◌, ◌↔◌, ◌∙◌, ◌≤◌, ◌<◌, inl, inr, refl, ap, sym, subst, slice_index, arith, true, false, Bool, IsTrue, ℕ, List, [], Option, Some, None, option_map, codes}
 use Rattle.std.specs.Prelude.{Box, Result, Ok, Err, IfOk, MatchOption, ok_or}
 use Rattle.std.specs.Box.{box_value}
-use Rattle.clap.specs.Words.{IsAmong, Row, Text, fault_of, first_of, is_simple, subcommand_of, subcommand_rows, subcommand_rows_of}
+use Rattle.clap.specs.Words.{IsAmong, Row, Text, fault_of, first_of, is_simple, subcommand_of, subcommand_rows}
 use Rattle.clap.specs.Faults.{is_simple_and_free}
 use Rattle.clap.specs.declared.error.kind.ErrorKind.{ErrorKind}
 use Rattle.clap.specs.declared.error.kind.ErrorKind.TheVariants.{DisplayHelp, OutOfMemory}
-use Rattle.clap.specs.declared.parser.matches.ArgMatches.{ArgMatches}
 use Rattle.clap.specs.declared.parser.matches.SubCommand.{SubCommand}
-use Rattle.clap.specs.declared.parser.matches.ArgMatches.TheViews.{out-ArgMatches, out-SubCommand}
+use Rattle.clap.specs.declared.parser.matches.ArgMatches.TheViews.{out-SubCommand}
 use Rattle.clap.proofs.OnLiterals.{clap_on_literals}
 use Rattle.std.specs.Borrow.{Bor}
 use Rattle.spv_commands.specs.declared.command_line.Command.{Command}
-use Rattle.spv_commands.specs.declared.command_line.Command.TheVariants.{Check, Show, Asm, Trace}
+use Rattle.spv_commands.specs.declared.command_line.Command.TheVariants.{Check, Explain, Show, Asm, Trace, Rules}
 use Rattle.spv_commands.specs.declared.command_line.UseError.{UseError}
 use Rattle.spv_commands.specs.declared.command_line.UseError.TheVariants.{U1, U2, U3}
-use Rattle.spv_commands.specs.CommandLine.{AnswersTo, IsAsked, IsAsmOf, IsCommandOf, IsNoCommand, IsTraceOf, error_of, program, text_in, texts_in}
+use Rattle.spv_commands.specs.CommandLine.{AnswersTo, IsAsked, IsAsmOf, IsCodeOf, IsCommandOf, IsNoCommand, IsRules, IsRulesOf, IsTraceOf, error_of, program, text_in, texts_in}
+use Rattle.spv_reasons.specs.Rules.{name_of}
+use Rattle.spv_reasons.specs.declared.rules.Code.{Code}
 use Rattle.spv_commands.specs.Number.{AreNumbers, AreNumbersOf, IsNumber, IsNumberOf}
 
 -- the command line is one of which `clap` tells the matches and the faults
@@ -36,21 +37,17 @@ refused words k (inl e) = cc
 refused words k (inr m) = inl (k, m, λ e. cc)
 
 -- the subcommand's name and its rows, told one by one
-met : {Z : Type 0} (o : Option (Box SubCommand Z)) (name : Text) (rows : List Row)
+pub met : {Z : Type 0} (o : Option (Box SubCommand Z)) (name : Text) (rows : List Row)
     → option_map (λ b. (out-SubCommand (box_value b)).name.now) o ≡ Some name → option_map (λ p. p.1) (subcommand_rows o) ≡ Some rows
     → subcommand_rows o ≡ Some (name, rows)
 met None name rows e f = cc
 met (Some b) name rows e f = cc
 
--- and the texts that they have
-pub texts_met : (m : ArgMatches) (name : Text) (rows : List Row)
-    → option_map (λ b. (out-SubCommand (box_value b)).name.now) (out-ArgMatches m).subcommand ≡ Some name
-    → option_map (λ p. p.1) (subcommand_rows_of m) ≡ Some rows
-    → texts_in (subcommand_rows_of m) ≡ Some (name, first_of (codes "grammar") rows, first_of (codes "file") rows)
-texts_met m name rows e f = ap texts_in (met (out-ArgMatches m).subcommand name rows e f)
-
 asm_is_no_check : ¬ (codes "asm" ≡ codes "check")
 asm_is_no_check e = cc
+
+asm_is_no_explain : ¬ (codes "asm" ≡ codes "explain")
+asm_is_no_explain e = cc
 
 asm_is_no_show : ¬ (codes "asm" ≡ codes "show")
 asm_is_no_show e = cc
@@ -62,6 +59,9 @@ letters_differ m n e f h = omega arith
 trace_is_no_check : ¬ (codes "trace" ≡ codes "check")
 trace_is_no_check e = letters_differ 116 99 refl (omega arith) (ap (λ (l : List ℕ). slice_index l 0) e)
 
+trace_is_no_explain : ¬ (codes "trace" ≡ codes "explain")
+trace_is_no_explain e = letters_differ 116 101 refl (omega arith) (ap (λ (l : List ℕ). slice_index l 0) e)
+
 trace_is_no_show : ¬ (codes "trace" ≡ codes "show")
 trace_is_no_show e = letters_differ 116 115 refl (omega arith) (ap (λ (l : List ℕ). slice_index l 0) e)
 
@@ -70,6 +70,25 @@ trace_is_no_asm e = letters_differ 116 97 refl (omega arith) (ap (λ (l : List �
 
 asm_is_no_trace : ¬ (codes "asm" ≡ codes "trace")
 asm_is_no_trace e = trace_is_no_asm (sym e)
+
+-- `rules` begins with another letter
+heads_differ : (m n : ℕ) → n < m → ¬ (m ≡ n)
+heads_differ m n h e = omega arith
+
+rules_is_no_check : ¬ (codes "rules" ≡ codes "check")
+rules_is_no_check e = heads_differ 114 99 (omega arith) (ap (λ (l : List ℕ). slice_index l 0) e)
+
+rules_is_no_explain : ¬ (codes "rules" ≡ codes "explain")
+rules_is_no_explain e = heads_differ 114 101 (omega arith) (ap (λ (l : List ℕ). slice_index l 0) e)
+
+rules_is_no_show : ¬ (codes "rules" ≡ codes "show")
+rules_is_no_show e = heads_differ 115 114 (omega arith) (ap (λ (l : List ℕ). slice_index l 0) (sym e))
+
+rules_is_no_asm : ¬ (codes "rules" ≡ codes "asm")
+rules_is_no_asm e = heads_differ 114 97 (omega arith) (ap (λ (l : List ℕ). slice_index l 0) e)
+
+rules_is_no_trace : ¬ (codes "rules" ≡ codes "trace")
+rules_is_no_trace e = heads_differ 116 114 (omega arith) (ap (λ (l : List ℕ). slice_index l 0) (sym e))
 
 -- without the one text, or the other, or with another name, there is no command
 pub no_grammar : (found : Option (Text × List Row)) (name : Text) (grammar file : Option Text)
@@ -95,31 +114,47 @@ pub is_asked : (found : Option (Text × List Row)) (name m : Text) (grammar file
     → texts_in found ≡ Some (name, grammar, file) → name ≡ m → grammar ≡ Some g → file ≡ Some f → IsAsked found m g f
 is_asked found name m grammar file g f e n p q = e ∙ rw (n, p, q) refl
 
+-- with another name the command is not `rules`
+pub no_rules_of_name : (name : Text) (rows : List Row) → ¬ (name ≡ codes "rules") → (code : Option Code) → ¬ (IsRules (Some (name, rows)) code)
+no_rules_of_name name rows other code h =
+    let a : Some name ≡ Some (codes "rules") = h.asked in
+    let same : name ≡ codes "rules" = cc in
+    other same
+
 -- without the one text, or the other, there is none
-pub no_command_without_grammar : (found : Option (Text × List Row)) (name : Text) (grammar file : Option Text) → texts_in found ≡ Some (name, grammar, file) → grammar ≡ None → IsNoCommand found
-no_command_without_grammar found name grammar file e none = record {
+pub no_command_without_grammar : (found : Option (Text × List Row)) (name : Text) (grammar file : Option Text) → texts_in found ≡ Some (name, grammar, file) → grammar ≡ None
+    → ((code : Option Code) → ¬ (IsRules found code)) → IsNoCommand found
+no_command_without_grammar found name grammar file e none other = record {
   check = no_grammar found name grammar file e none (codes "check");
+  explain = no_grammar found name grammar file e none (codes "explain");
   show = no_grammar found name grammar file e none (codes "show");
   asm = λ g f out h. absurd (no_grammar found name grammar file e none (codes "asm") g f h);
   trace = λ g f function choices limit h. no_grammar found name grammar file e none (codes "trace") g f h.asked;
+  rules = other;
 }
 
-pub no_command_without_file : (found : Option (Text × List Row)) (name : Text) (grammar file : Option Text) → texts_in found ≡ Some (name, grammar, file) → file ≡ None → IsNoCommand found
-no_command_without_file found name grammar file e none = record {
+pub no_command_without_file : (found : Option (Text × List Row)) (name : Text) (grammar file : Option Text) → texts_in found ≡ Some (name, grammar, file) → file ≡ None
+    → ((code : Option Code) → ¬ (IsRules found code)) → IsNoCommand found
+no_command_without_file found name grammar file e none other = record {
   check = no_file found name grammar file e none (codes "check");
+  explain = no_file found name grammar file e none (codes "explain");
   show = no_file found name grammar file e none (codes "show");
   asm = λ g f out h. absurd (no_file found name grammar file e none (codes "asm") g f h);
   trace = λ g f function choices limit h. no_file found name grammar file e none (codes "trace") g f h.asked;
+  rules = other;
 }
 
 -- with another name there is none
 pub no_command_of_name : (found : Option (Text × List Row)) (name : Text) (grammar file : Option Text) → texts_in found ≡ Some (name, grammar, file)
-    → ¬ (name ≡ codes "check") → ¬ (name ≡ codes "show") → ¬ (name ≡ codes "asm") → ¬ (name ≡ codes "trace") → IsNoCommand found
-no_command_of_name found name grammar file e p q r s = record {
+    → ¬ (name ≡ codes "check") → ¬ (name ≡ codes "explain") → ¬ (name ≡ codes "show") → ¬ (name ≡ codes "asm") → ¬ (name ≡ codes "trace")
+    → ((code : Option Code) → ¬ (IsRules found code)) → IsNoCommand found
+no_command_of_name found name grammar file e p x q r s other = record {
   check = other_name found name grammar file e (codes "check") p;
+  explain = other_name found name grammar file e (codes "explain") x;
   show = other_name found name grammar file e (codes "show") q;
   asm = λ g f out h. absurd (other_name found name grammar file e (codes "asm") r g f h);
   trace = λ g f function choices limit h. other_name found name grammar file e (codes "trace") s g f h.asked;
+  rules = other;
 }
 
 no_rows : (found : Option (Text × List Row)) → option_map (λ p. p.1) found ≡ None → found ≡ None
@@ -133,55 +168,91 @@ no_command_met found e = no_command found (no_rows found e)
     no_command : (found : Option (Text × List Row)) → found ≡ None → IsNoCommand found
     no_command found none = record {
       check = λ g f h. cc;
+      explain = λ g f h. cc;
       show = λ g f h. cc;
       asm = λ g f out h. cc;
       trace = λ g f function choices limit h. let a = h.asked in cc;
+      rules = λ code h. let a = h.asked in cc;
     }
-
--- the text of an option
-pub text_met : (m : ArgMatches) (name : Text) (rows : List Row) (option : Text)
-    → option_map (λ b. (out-SubCommand (box_value b)).name.now) (out-ArgMatches m).subcommand ≡ Some name
-    → option_map (λ p. p.1) (subcommand_rows_of m) ≡ Some rows
-    → text_in option (subcommand_rows_of m) ≡ first_of option rows
-text_met m name rows option e f = ap (text_in option) (met (out-ArgMatches m).subcommand name rows e f)
 
 -- `asm` with all of its texts, or none
 pub asm_met : (found : Option (Text × List Row)) (rows : List Row) (g f : Text) (o : Option Command) → texts_in found ≡ Some (codes "asm", Some g, Some f)
-    → ((option : Text) → text_in option found ≡ first_of option rows) → IsAsmOf rows g f o → IsCommandOf found (ok_or o U1)
-asm_met found rows g f None e t h = record {
+    → ((option : Text) → text_in option found ≡ first_of option rows) → ((code : Option Code) → ¬ (IsRules found code)) → IsAsmOf rows g f o
+    → IsCommandOf found (ok_or o U1)
+asm_met found rows g f None e t other h = record {
   check = other_name found _ _ _ e (codes "check") asm_is_no_check;
+  explain = other_name found _ _ _ e (codes "explain") asm_is_no_explain;
   show = other_name found _ _ _ e (codes "show") asm_is_no_show;
   asm = λ a b out _ w. let n = t (codes "out") in cc;
   trace = λ a b function choices limit k. other_name found _ _ _ e (codes "trace") asm_is_no_trace a b k.asked;
+  rules = other;
 }
-asm_met found rows g f (Some (Check a b)) e t h = absurd h
-asm_met found rows g f (Some (Show a b)) e t h = absurd h
-asm_met found rows g f (Some (Trace a b function choices limit)) e t h = absurd h
-asm_met found rows g f (Some (Asm a b out big)) e t h = (rw (h.0, h.1) e, t (codes "out") ∙ h.2, rw (t (codes "big")) h.3)
+asm_met found rows g f (Some (Check a b)) e t other h = absurd h
+asm_met found rows g f (Some (Explain a b)) e t other h = absurd h
+asm_met found rows g f (Some (Show a b)) e t other h = absurd h
+asm_met found rows g f (Some (Trace a b function choices limit)) e t other h = absurd h
+asm_met found rows g f (Some (Rules code)) e t other h = absurd h
+asm_met found rows g f (Some (Asm a b out big)) e t other h = (rw (h.0, h.1) e, t (codes "out") ∙ h.2, rw (t (codes "big")) h.3)
 
 -- `trace` with all of its texts and numbers, or none
 pub trace_met : (found : Option (Text × List Row)) (rows : List Row) (g f : Text) (r : Result Command UseError) → texts_in found ≡ Some (codes "trace", Some g, Some f)
-    → ((option : Text) → text_in option found ≡ first_of option rows) → IsTraceOf rows g f r → IsCommandOf found r
-trace_met found rows g f (Ok (Check a b)) e t h = absurd h
-trace_met found rows g f (Ok (Show a b)) e t h = absurd h
-trace_met found rows g f (Ok (Asm a b out big)) e t h = absurd h
-trace_met found rows g f (Ok (Trace a b function choices limit)) e t h = record {
+    → ((option : Text) → text_in option found ≡ first_of option rows) → ((code : Option Code) → ¬ (IsRules found code)) → IsTraceOf rows g f r
+    → IsCommandOf found r
+trace_met found rows g f (Ok (Check a b)) e t other h = absurd h
+trace_met found rows g f (Ok (Explain a b)) e t other h = absurd h
+trace_met found rows g f (Ok (Show a b)) e t other h = absurd h
+trace_met found rows g f (Ok (Asm a b out big)) e t other h = absurd h
+trace_met found rows g f (Ok (Rules code)) e t other h = absurd h
+trace_met found rows g f (Ok (Trace a b function choices limit)) e t other h = record {
   asked = rw (h.0, h.1) e;
   function_is = subst (λ (o : Option Text). IsNumberOf o function) (sym (t (codes "function"))) h.2;
   choices_are = subst (λ (o : Option Text). AreNumbersOf o choices.items) (sym (t (codes "choices"))) h.3;
   limit_is = subst (λ (o : Option Text). IsNumberOf o limit) (sym (t (codes "limit"))) h.4;
 }
-trace_met found rows g f (Err U1) e t h = record {
+trace_met found rows g f (Err U1) e t other h = record {
   check = other_name found _ _ _ e (codes "check") trace_is_no_check;
+  explain = other_name found _ _ _ e (codes "explain") trace_is_no_explain;
   show = other_name found _ _ _ e (codes "show") trace_is_no_show;
   asm = λ a b out k. absurd (other_name found _ _ _ e (codes "asm") trace_is_no_asm a b k);
   trace = λ a b function choices limit k. h function choices limit
       (subst (λ (o : Option Text). IsNumberOf o function) (t (codes "function")) k.function_is)
       (subst (λ (o : Option Text). AreNumbersOf o choices) (t (codes "choices")) k.choices_are)
       (subst (λ (o : Option Text). IsNumberOf o limit) (t (codes "limit")) k.limit_is);
+  rules = other;
 }
-trace_met found rows g f (Err U2) e t h = tt
-trace_met found rows g f (Err U3) e t h = absurd h
+trace_met found rows g f (Err U2) e t other h = tt
+trace_met found rows g f (Err U3) e t other h = absurd h
+
+-- a text that is no code's name
+pub code_unknown : (text : Option Text) (name : Text) → text ≡ Some name → ((code : Code) → ¬ (name ≡ name_of code)) → (code : Option Code) → ¬ (IsCodeOf text code)
+code_unknown text name e h None k = let n : Some name ≡ None = sym e ∙ k in cc
+code_unknown text name e h (Some code) k =
+    let same : Some name ≡ Some (name_of code) = sym e ∙ k in
+    let y : name ≡ name_of code = cc in
+    h code y
+
+-- `rules` with its code, or none
+pub rules_met : (found : Option (Text × List Row)) (name : Text) (rows : List Row) (r : Result Command UseError) → found ≡ Some (name, rows) → name ≡ codes "rules"
+    → IsRulesOf rows r → IsCommandOf found r
+rules_met found name rows (Ok (Check a b)) e n h = absurd h
+rules_met found name rows (Ok (Explain a b)) e n h = absurd h
+rules_met found name rows (Ok (Show a b)) e n h = absurd h
+rules_met found name rows (Ok (Asm a b out big)) e n h = absurd h
+rules_met found name rows (Ok (Trace a b function choices limit)) e n h = absurd h
+rules_met found name rows (Ok (Rules code)) e n h = record {
+  asked = ap (λ (o : Option (Text × List Row)). option_map (λ p. p.0) o) e ∙ ap Some n;
+  code_is = ap (text_in (codes "code")) e ∙ h;
+}
+rules_met found name rows (Err U1) e n h = record {
+  check = other_name found _ _ _ (ap texts_in e) (codes "check") (λ q. rules_is_no_check (sym n ∙ q));
+  explain = other_name found _ _ _ (ap texts_in e) (codes "explain") (λ q. rules_is_no_explain (sym n ∙ q));
+  show = other_name found _ _ _ (ap texts_in e) (codes "show") (λ q. rules_is_no_show (sym n ∙ q));
+  asm = λ a b out k. absurd (other_name found _ _ _ (ap texts_in e) (codes "asm") (λ q. rules_is_no_asm (sym n ∙ q)) a b k);
+  trace = λ a b function choices limit k. other_name found _ _ _ (ap texts_in e) (codes "trace") (λ q. rules_is_no_trace (sym n ∙ q)) a b k.asked;
+  rules = λ code k. h code (sym (ap (text_in (codes "code")) e) ∙ k.code_is);
+}
+rules_met found name rows (Err U2) e n h = absurd h
+rules_met found name rows (Err U3) e n h = absurd h
 
 -- what an option is as a number
 pub number_read : (r : Option (Bor Text)) (read text : Option Text) (s : Bor Text) (o : Option ℕ) → option_map (λ b. b.now) r ≡ read → read ≡ text → r ≡ Some s

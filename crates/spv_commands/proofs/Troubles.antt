@@ -9,6 +9,7 @@ use Rattle.spv_commands.specs.Task.{LacksEntry, LacksEntryByText}
 use Rattle.spv_commands.specs.Trace.{Traces}
 use Rattle.spv_commands.specs.declared.command_line.Command.{Command}
 use Rattle.spv_verdict.specs.Stream.{Tells}
+use Rattle.spv_reasons.specs.Stream.{Explains}
 use Rattle.spv_commands.specs.Trouble.{IsErrorLine, IsTableOf, refused, file, entry, memory, grammar_text, trouble_text}
 use Rattle.spv_commands.specs.declared.program.Trouble.{Trouble}
 use Rattle.spv_commands.specs.declared.program.Trouble.TheVariants.{File, Memory, NoEntry}
@@ -31,6 +32,23 @@ no_third A B P n f (inr (inr c)) = absurd (c refl)
 pub no_second : (B P : Type 0) (n : ℕ) → (B → P) → B ⊎ (n ≢ n) → P
 no_second B P n f (inl b) = f b
 no_second B P n f (inr c) = absurd (c refl)
+
+-- where one write alone may have failed
+pub middle : (B P : Type 0) (m n : ℕ) → (B → P) → (m ≢ m) ⊎ B ⊎ (n ≢ n) → P
+middle B P m n f (inl a) = absurd (a refl)
+middle B P m n f (inr (inl b)) = f b
+middle B P m n f (inr (inr c)) = absurd (c refl)
+
+pub one_reason : (A B C N L : Type 0) (r : Result Bool Trouble) → IfErr r (λ t. (t ≡ File) ⊎ (t ≡ Memory)) → (B ↔ IsErrOf r File)
+    → IfErr r (λ t. ((t ≡ File) × ((A ⊎ B ⊎ C) ⊎ N)) ⊎ ((t ≡ NoEntry) × L) ⊎ (t ≡ Memory))
+one_reason A B C N L (Ok v) o f = tt
+one_reason A B C N L (Err t) (inr e) f = inr (inr e)
+one_reason A B C N L (Err t) (inl e) f = inl (e, inl (inr (inl (f.1 (ap Err e)))))
+
+-- what holds of any bytes
+pub any_bytes : (o : Option (List ℕ)) (P : Type 0) → P → IfSome o (λ bytes. P)
+any_bytes None P h = tt
+any_bytes (Some x) P h = h
 
 pub two_reasons : (A B C N L : Type 0) (r : Result Bool Trouble) → IfErr r (λ t. (t ≡ File) ⊎ (t ≡ Memory)) → (A ⊎ B ↔ IsErrOf r File)
     → IfErr r (λ t. ((t ≡ File) × ((A ⊎ B ⊎ C) ⊎ N)) ⊎ ((t ≡ NoEntry) × L) ⊎ (t ≡ Memory))
@@ -61,6 +79,11 @@ swapped (Some x) (Some y) r P h = h
 pub told_in : (G : Table) (known kept new : Option (List ℕ)) (r : Result Bool Trouble) → IfSome known (λ bytes. IfSome kept (λ old. IfOk r (λ answer. Tells G bytes old new answer)))
     → IfSome known (λ bytes. IfOk r (λ answer. IfSome kept (λ old. Tells G bytes old new answer)))
 told_in G known kept new r h = swapped known kept r (λ bytes old answer. Tells G bytes old new answer) h
+
+pub explained_in : (G : Table) (known kept new : Option (List ℕ)) (r : Result Bool Trouble)
+    → IfSome known (λ bytes. IfSome kept (λ old. IfOk r (λ answer. Explains G bytes old new answer)))
+    → IfSome known (λ bytes. IfOk r (λ answer. IfSome kept (λ old. Explains G bytes old new answer)))
+explained_in G known kept new r h = swapped known kept r (λ bytes old answer. Explains G bytes old new answer) h
 
 pub shown_in : (G : Table) (known kept new : Option (List ℕ)) (r : Result Bool Trouble) → IfSome known (λ bytes. IfSome kept (λ old. IfOk r (λ answer. Shows G bytes old new answer)))
     → IfSome known (λ bytes. IfOk r (λ answer. IfSome kept (λ old. Shows G bytes old new answer)))

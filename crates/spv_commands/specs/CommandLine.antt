@@ -6,9 +6,11 @@ use Rattle.clap.specs.declared.builder.action.ArgAction.TheVariants.{SetTrue}
 use Rattle.clap.specs.declared.error.kind.ErrorKind.{ErrorKind}
 use Rattle.clap.specs.declared.error.kind.ErrorKind.TheVariants.{DisplayHelp, OutOfMemory}
 use Rattle.spv_commands.specs.declared.command_line.Command.{Command}
-use Rattle.spv_commands.specs.declared.command_line.Command.TheVariants.{Check, Show, Asm, Trace}
+use Rattle.spv_commands.specs.declared.command_line.Command.TheVariants.{Check, Explain, Show, Asm, Trace, Rules}
 use Rattle.spv_commands.specs.declared.command_line.UseError.{UseError}
 use Rattle.spv_commands.specs.declared.command_line.UseError.TheVariants.{U1, U2, U3}
+use Rattle.spv_reasons.specs.Rules.{name_of}
+use Rattle.spv_reasons.specs.declared.rules.Code.{Code}
 use Rattle.spv_commands.specs.Number.{AreNumbersOf, IsNumberOf}
 
 -- `--grammar G`, which must be given
@@ -41,6 +43,10 @@ choices_option = number_option (codes "choices") false
 abbrev pub limit_option : Rule
 limit_option = number_option (codes "limit") true
 
+-- `CODE`, which may be given
+abbrev pub code_word : Rule
+code_word = record (new_rule (codes "code")) { value_names = 1 }
+
 -- `NAME --grammar G FILE`
 abbrev pub file_command : Text → Shape
 file_command name = (with_rule (with_rule (new_app name) grammar_option) file_word).top
@@ -54,17 +60,25 @@ abbrev pub trace_command : Shape
 trace_command =
     (with_rule (with_rule (with_rule (with_rule (with_rule (new_app (codes "trace")) grammar_option) file_word) function_option) choices_option) limit_option).top
 
--- the commands that judge or show a module; the words begin after the program's name
-abbrev pub module_program : App
-module_program =
+-- `rules [CODE]`
+abbrev pub rules_command : Shape
+rules_command = (with_rule (new_app (codes "rules")) code_word).top
+
+-- the commands that judge a module; the words begin after the program's name
+abbrev pub judging_program : App
+judging_program =
     with_subcommand
     (with_subcommand (on_top (λ s. record s { no_binary_name = true; subcommand_required = true; disable_help_subcommand = true }) (new_app (codes "spv")))
     (file_command (codes "check")))
-    (file_command (codes "show"))
+    (file_command (codes "explain"))
+
+-- the same with those that show a module and make one
+abbrev pub module_program : App
+module_program = with_subcommand (with_subcommand judging_program (file_command (codes "show"))) asm_command
 
 -- all commands, of which one must be given
 abbrev pub program : App
-program = with_subcommand (with_subcommand module_program asm_command) trace_command
+program = with_subcommand (with_subcommand module_program trace_command) rules_command
 
 -- the name of the command with the text of `--grammar` and of `FILE`, as `clap` reads them
 abbrev pub texts_in : Option (Text × List Row) → Option (Text × Option Text × Option Text)
@@ -85,20 +99,33 @@ pub record IsTrace (found : Option (Text × List Row)) (grammar file : Text) (fu
   pub choices_are : AreNumbersOf (text_in (codes "choices") found) choices
   pub limit_is : IsNumberOf (text_in (codes "limit") found) limit
 
+-- the text of the word is the name of the code, or there are neither
+abbrev pub IsCodeOf : Option Text → Option Code → Type 0
+IsCodeOf text code = text ≡ option_map name_of code
+
+-- they are `rules` with the code, or with none
+pub record IsRules (found : Option (Text × List Row)) (code : Option Code) : Type 0 where
+  pub asked : option_map (λ p. p.0) found ≡ Some (codes "rules")
+  pub code_is : IsCodeOf (text_in (codes "code") found) code
+
 -- they are a command with all of its texts; a flag that was read has the text `true`
 abbrev pub IsCommand : Option (Text × List Row) → Command → Type 0
 IsCommand found (Check grammar file) = IsAsked found (codes "check") grammar.now file.now
+IsCommand found (Explain grammar file) = IsAsked found (codes "explain") grammar.now file.now
 IsCommand found (Show grammar file) = IsAsked found (codes "show") grammar.now file.now
 IsCommand found (Asm grammar file out big) =
     IsAsked found (codes "asm") grammar.now file.now × (text_in (codes "out") found ≡ Some out.now) × (IsTrue big ↔ (text_in (codes "big") found ≡ Some (codes "true")))
 IsCommand found (Trace grammar file function choices limit) = IsTrace found grammar.now file.now function choices.items limit
+IsCommand found (Rules code) = IsRules found code
 
 -- they are no command with all of its texts
 pub record IsNoCommand (found : Option (Text × List Row)) : Type 0 where
   pub check : (grammar file : Text) → ¬ (IsAsked found (codes "check") grammar file)
+  pub explain : (grammar file : Text) → ¬ (IsAsked found (codes "explain") grammar file)
   pub show : (grammar file : Text) → ¬ (IsAsked found (codes "show") grammar file)
   pub asm : (grammar file out : Text) → IsAsked found (codes "asm") grammar file → ¬ (text_in (codes "out") found ≡ Some out)
   pub trace : (grammar file : Text) (function : ℕ) (choices : List ℕ) (limit : ℕ) → ¬ (IsTrace found grammar file function choices limit)
+  pub rules : (code : Option Code) → ¬ (IsRules found code)
 
 -- what `clap` read is the command, or none
 abbrev pub IsCommandOf : Option (Text × List Row) → Result Command UseError → Type 0
@@ -141,3 +168,11 @@ IsTraceOf rows g f (Err U1) = (function : ℕ) (choices : List ℕ) (limit : ℕ
     → AreNumbersOf (first_of (codes "choices") rows) choices → IsNumberOf (first_of (codes "limit") rows) limit → ⊥
 IsTraceOf rows g f (Err U2) = Unit {0}
 IsTraceOf rows g f (Err U3) = ⊥
+
+-- of these rows the command is `rules` with their code, or their word is no code's name (for the code alone)
+abbrev pub IsRulesOf : List Row → Result Command UseError → Type 0
+IsRulesOf rows (Ok (Rules code)) = IsCodeOf (first_of (codes "code") rows) code
+IsRulesOf rows (Ok _) = ⊥
+IsRulesOf rows (Err U1) = (code : Option Code) → ¬ (IsCodeOf (first_of (codes "code") rows) code)
+IsRulesOf rows (Err U2) = ⊥
+IsRulesOf rows (Err U3) = ⊥

@@ -2,12 +2,13 @@
 ghost use Rattle.std.specs.Prelude.{◌≡◌, ◌↔◌, ℕ, List, false, codes, IfOk, IsTrue, MatchOption, map, Some};
 ghost use Rattle.clap.specs.Words.{app_of, first_of, found_of, rows_of, rule_of, shape_of, subcommand_rows_of};
 ghost use Rattle.clap.specs.declared.builder.command.Command.TheViews.{out-Command};
-ghost use Rattle.spv_commands.specs.CommandLine.{AnswersTo, IsAsmOf, IsCommandOf, IsTraceOf, asm_command, error_of, file_command, module_program, number_option, program, trace_command};
+ghost use Rattle.spv_commands.specs.CommandLine.{AnswersTo, IsAsmOf, IsCommandOf, IsRulesOf, IsTraceOf, asm_command, error_of, file_command, judging_program, module_program, number_option, program, rules_command, trace_command};
 ghost use Rattle.spv_commands.specs.Number.{AreNumbersOf, IsNumberOf};
 
 use crate::number::{number_in, numbers_in};
 use clap::error::ErrorKind;
 use clap::{Arg, ArgAction, ArgMatches};
+use spv_reasons::Code;
 use std::alloc::{AllocError, Global};
 use thiserror::Error;
 
@@ -16,6 +17,13 @@ use thiserror::Error;
 pub enum Command<'a> {
     /// `spv check --grammar G FILE`: the verdict on a module.
     Check {
+        /// The path of the grammar file.
+        grammar: &'a str,
+        /// The path of the module.
+        file: &'a str,
+    },
+    /// `spv explain --grammar G FILE`: the verdict on a module, and what explains it.
+    Explain {
         /// The path of the grammar file.
         grammar: &'a str,
         /// The path of the module.
@@ -51,6 +59,11 @@ pub enum Command<'a> {
         choices: Vec<u32>,
         /// The greatest number of steps; a step is one instruction that is executed.
         limit: u32,
+    },
+    /// `spv rules [CODE]`: what each code of a verdict says, or one of them. No file is read.
+    Rules {
+        /// The code, if it is only one.
+        code: Option<Code>,
     },
 }
 
@@ -160,9 +173,22 @@ fn trace_words<'a>(alloc: Global) -> Result<clap::Command<'a>, AllocError>
         .arg(limit)
 }
 
-/// The command line of the commands that judge or show a module.
-fn module_words<'a>(alloc: Global) -> Result<clap::Command<'a>, AllocError>
-    ensures { IfOk result (λ c. app_of c ≡ module_program) }
+/// The command that writes what codes say.
+fn rules_words<'a>(alloc: Global) -> Result<clap::Command<'a>, AllocError>
+    ensures shape { IfOk result (λ c. shape_of c ≡ rules_command) }
+    ensures local { IfOk result (λ c. (out-Command c).has_globals ≡ false) }
+{
+    let code = Arg::new(alloc, "code")
+        .value_name("CODE")
+        .help("The only code of which it is written");
+    clap::Command::new(alloc, "rules")
+        .about("Writes what each code of a verdict says")
+        .arg(code)
+}
+
+/// The command line of the commands that judge a module.
+fn judging_words<'a>(alloc: Global) -> Result<clap::Command<'a>, AllocError>
+    ensures { IfOk result (λ c. app_of c ≡ judging_program) }
 {
     let check = file_words(
         alloc,
@@ -170,23 +196,37 @@ fn module_words<'a>(alloc: Global) -> Result<clap::Command<'a>, AllocError>
         "Writes the verdict on a module",
         "The module",
     )?;
-    let show = file_words(alloc, "show", "Writes the text of a module", "The module")?;
+    let explain = file_words(
+        alloc,
+        "explain",
+        "Writes the verdict on a module and what explains it",
+        "The module",
+    )?;
     clap::Command::new(alloc, "spv")
-        .about("Checks, shows, assembles and traces SPIR-V 1.6 kernel modules")
+        .about("Checks, explains, shows, assembles and traces SPIR-V 1.6 kernel modules")
         .no_binary_name(true)
         .subcommand_required(true)
         .disable_help_subcommand(true)
         .subcommand(check)?
-        .subcommand(show)
+        .subcommand(explain)
+}
+
+/// The same with those that show a module and make one.
+fn module_words<'a>(alloc: Global) -> Result<clap::Command<'a>, AllocError>
+    ensures { IfOk result (λ c. app_of c ≡ module_program) }
+{
+    let show = file_words(alloc, "show", "Writes the text of a module", "The module")?;
+    let asm = asm_words(alloc)?;
+    judging_words(alloc)?.subcommand(show)?.subcommand(asm)
 }
 
 /// The whole command line.
 fn all_words<'a>(alloc: Global) -> Result<clap::Command<'a>, AllocError>
     ensures { IfOk result (λ c. app_of c ≡ program) }
 {
-    let asm = asm_words(alloc)?;
     let trace = trace_words(alloc)?;
-    module_words(alloc)?.subcommand(asm)?.subcommand(trace)
+    let rules = rules_words(alloc)?;
+    module_words(alloc)?.subcommand(trace)?.subcommand(rules)
 }
 
 /// The error for what `clap` refused.
@@ -285,13 +325,28 @@ fn trace_in<'a>(
     })
 }
 
-/// The command that `clap` read, if it is one with all its texts.
-fn command_in<'a>(alloc: Global, matches: &ArgMatches<'a>) -> Result<Command<'a>, UseError>
-    ensures { IsCommandOf (subcommand_rows_of matches.now) result }
+/// The command `rules`, if its word is the name of a code or it has none.
+fn rules_in<'a>(found: &ArgMatches<'a>) -> Result<Command<'a>, UseError>
+    ensures { IsRulesOf (rows_of (found_of found.now)) result }
 {
-    let Some((name, found)) = matches.subcommand() else {
-        return Err(UseError::U1);
+    let Some(name) = found.get_str("code") else {
+        return Ok(Command::Rules { code: None });
     };
+    match Code::named(name) {
+        Some(code) => Ok(Command::Rules { code: Some(code) }),
+        None => Err(UseError::U1),
+    }
+}
+
+/// The command of a name that is not `rules`, if it is one with all its texts.
+fn file_command_in<'a>(
+    alloc: Global,
+    name: &str,
+    found: &ArgMatches<'a>,
+) -> Result<Command<'a>, UseError>
+    requires { ¬ (name.now ≡ codes "rules") }
+    ensures { IsCommandOf (Some (name.now, rows_of (found_of found.now))) result }
+{
     let Some(grammar) = found.get_str("grammar") else {
         return Err(UseError::U1);
     };
@@ -300,10 +355,24 @@ fn command_in<'a>(alloc: Global, matches: &ArgMatches<'a>) -> Result<Command<'a>
     };
     match name {
         "check" => Ok(Command::Check { grammar, file }),
+        "explain" => Ok(Command::Explain { grammar, file }),
         "show" => Ok(Command::Show { grammar, file }),
         "asm" => asm_in(found, grammar, file).ok_or(UseError::U1),
         "trace" => trace_in(alloc, found, grammar, file),
         _ => Err(UseError::U1),
+    }
+}
+
+/// The command that `clap` read, if it is one with all its texts.
+fn command_in<'a>(alloc: Global, matches: &ArgMatches<'a>) -> Result<Command<'a>, UseError>
+    ensures { IsCommandOf (subcommand_rows_of matches.now) result }
+{
+    let Some((name, found)) = matches.subcommand() else {
+        return Err(UseError::U1);
+    };
+    match name {
+        "rules" => rules_in(found),
+        _ => file_command_in(alloc, name, found),
     }
 }
 
@@ -315,7 +384,7 @@ fn command_in<'a>(alloc: Global, matches: &ArgMatches<'a>) -> Result<Command<'a>
 ///
 /// # Errors
 ///
-/// `U1`: the words fit no command, or an option is given twice. `U2`: a growth of memory was refused. `U3`: they ask
+/// `U1`: the words fit no command, an option is given twice, or a code is unknown. `U2`: a growth of memory was refused. `U3`: they ask
 /// for help, by `--help` or `-h`.
 pub fn arguments<'a>(alloc: Global, words: &'a [&'a str]) -> Result<Command<'a>, UseError>
     ensures { AnswersTo (map (λ w. w.now) words.now) result }

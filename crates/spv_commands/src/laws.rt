@@ -7,12 +7,13 @@ ghost use Rattle.spv_grammar.specs.Answer.{text_breaks};
 ghost use Rattle.spv_grammar.specs.declared.error.GrammarError.{GrammarError};
 ghost use Rattle.spv_table.specs.Example.{empty_table};
 ghost use Rattle.spv_commands.specs.Example.{empty_grammar};
+ghost use Rattle.spv_reasons.specs.Stream.{BeginsExplaining, Explains};
 ghost use Rattle.spv_commands.specs.Show.{BeginsShowing, IsShowing, Shows};
 ghost use Rattle.spv_commands.specs.Assemble.{Assembles, BeginsAssembling};
 ghost use Rattle.spv_commands.specs.Number.{AreNumbers, IsNumber};
 ghost use Rattle.spv_commands.specs.Trace.{BeginsTracing, HasNoEntry, Traces, step_line, trace_text};
 ghost use Rattle.spv_run.specs.declared.parts.Ending.TheVariants.{Finished, Limit};
-ghost use Rattle.spv_commands.specs.Task.{BeginsByText, DoesByText, MakesNothing};
+ghost use Rattle.spv_commands.specs.Task.{BeginsByText, DoesByText, MakesNothing, ReadsGrammar};
 ghost use Rattle.spv_commands.specs.Trouble.{BeginsWith, IsErrorLine, IsTableOf, Writes, entry_line, file_line, memory_line};
 ghost use Rattle.spv_commands.specs.declared.command_line.Command.{Command};
 ghost use Rattle.spv_verdict.specs.Verdict.{line_end, valid_line};
@@ -50,6 +51,17 @@ pub fn show_examples()
     ensures shows_text { (G : Table) (new : Option (List ℕ)) → ¬ (Shows G (1 ∷ 2 ∷ 3 ∷ []) [] new true) }
     // The first five bytes of that line.
     ensures begins { (G : Table) → BeginsShowing G (1 ∷ 2 ∷ 3 ∷ []) (9 ∷ []) (Some (9 ∷ codes "fault")) }
+{
+    spv_words::laws::examples();
+    spv_words::laws::one_refusal();
+}
+
+/// Worked examples of what is explained.
+pub fn explain_examples()
+    // A writer that held the byte 9 got the verdict line of three bytes, which are no module and have no evidence.
+    ensures explains { (G : Table) → Explains G (1 ∷ 2 ∷ 3 ∷ []) (9 ∷ []) (Some (9 ∷ codes "fault W2" ++ line_end)) false }
+    // The first five bytes of that line.
+    ensures begins { (G : Table) → BeginsExplaining G (1 ∷ 2 ∷ 3 ∷ []) (9 ∷ []) (Some (9 ∷ codes "fault")) }
 {
     spv_words::laws::examples();
     spv_words::laws::one_refusal();
@@ -107,9 +119,9 @@ pub fn run_examples()
     // Two empty lists give the table of nothing, and no text at all gives none.
     ensures table { IsTableOf empty_grammar empty_table }
     ensures no_table { (G : Table) → ¬ (IsTableOf [] G) }
-    ensures does { (command : Command) → MakesNothing command → DoesByText command empty_grammar (1 ∷ 2 ∷ 3 ∷ []) (Some (9 ∷ [])) (Some (9 ∷ codes "fault W2" ++ line_end)) None None false }
+    ensures does { (command : Command) → ReadsGrammar command → MakesNothing command → DoesByText command empty_grammar (1 ∷ 2 ∷ 3 ∷ []) (Some (9 ∷ [])) (Some (9 ∷ codes "fault W2" ++ line_end)) None None false }
     ensures does_nothing { (command : Command) (bytes : List ℕ) (old new held kept : Option (List ℕ)) (answer : Bool) → ¬ (DoesByText command [] bytes old new held kept answer) }
-    ensures begins { (command : Command) → MakesNothing command → BeginsByText command empty_grammar (1 ∷ 2 ∷ 3 ∷ []) (Some (9 ∷ [])) (Some (9 ∷ codes "fault")) None None }
+    ensures begins { (command : Command) → ReadsGrammar command → MakesNothing command → BeginsByText command empty_grammar (1 ∷ 2 ∷ 3 ∷ []) (Some (9 ∷ [])) (Some (9 ∷ codes "fault")) None None }
     ensures begins_nothing { (command : Command) (bytes : List ℕ) (old new held kept : Option (List ℕ)) → ¬ (BeginsByText command [] bytes old new held kept) }
     // No text at all breaks J1, memory can always be told, `error X1` of an id that is strange, and `error file` only after a
     // failed call.
@@ -120,6 +132,7 @@ pub fn run_examples()
 {
     spv_grammar::laws::table_examples();
     spv_verdict::laws::stream_examples();
+    explain_examples();
     show_examples();
     trace_examples();
 }

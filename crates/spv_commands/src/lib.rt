@@ -16,4 +16,5 @@ pub use assembling::{TextError, assemble_stream};
 pub use command_line::{Command, UseError, arguments, help};
 pub use program::{Trouble, report, run};
 pub use showing::show_stream;
+pub use spv_reasons::Code;
 pub use tracing::{RunError, trace_stream};

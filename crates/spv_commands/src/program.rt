@@ -1,12 +1,13 @@
 //! What the program does once its words are read and its files are open.
-ghost use Rattle.std.specs.Prelude.{◌≡◌, ◌≢◌, ◌≤◌, ◌⊎◌, ◌↔◌, ◌==◌, ℕ, List, IfOk, IfErr, IfSome, IsErr, IsErrOf, IsUtf8};
+ghost use Rattle.std.specs.Prelude.{◌≡◌, ◌≢◌, ◌≤◌, ◌⊎◌, ◌↔◌, ◌==◌, ℕ, List, true, IfOk, IfErr, IfSome, IsErr, IsErrOf, IsUtf8};
 ghost use Rattle.spv_grammar.specs.Answer.{text_breaks};
 ghost use Rattle.spv_grammar.specs.declared.error.GrammarError.{GrammarError};
 ghost use Rattle.spv_grammar.specs.declared.error.GrammarError.TheVariants.{J8};
 ghost use Rattle.spv_commands.specs.Assemble.{Assembles, BeginsAssembling, order_of};
 ghost use Rattle.spv_verdict.specs.Stream.{Begins, Tells};
+ghost use Rattle.spv_reasons.specs.Stream.{BeginsExplaining, Explains};
 ghost use Rattle.spv_commands.specs.Show.{BeginsShowing, Shows};
-ghost use Rattle.spv_commands.specs.Task.{BeginsByText, BeginsToDo, Does, DoesByText, IsNoText, LacksEntry, LacksEntryByText, MakesNothing};
+ghost use Rattle.spv_commands.specs.Task.{BeginsByText, BeginsText, BeginsToDo, Does, DoesByText, IsNoText, LacksEntry, LacksEntryByText, MakesNothing, ReadsGrammar, WritesText};
 ghost use Rattle.spv_commands.specs.Trace.{BeginsTracing, HasNoEntry, Traces};
 ghost use Rattle.spv_commands.specs.Trouble.{IsErrorLine, Writes, file_line, grammar_text, memory_line, trouble_from, trouble_text};
 ghost use Rattle.spv_commands.specs.declared.program.Trouble.TheVariants.{File, Grammar, Memory, NoEntry};
@@ -17,6 +18,7 @@ use crate::laws::one_grammar;
 use crate::showing::show_stream;
 use crate::tracing::{RunError, trace_stream};
 use spv_grammar::{FromGrammar, GrammarError};
+use spv_reasons::{Code, explain_stream, rules_text};
 use spv_table::Table;
 use spv_verdict::check_stream;
 use spv_words::{Order, Sink, Source, WordError, write_all};
@@ -101,6 +103,22 @@ fn judged<S: Source, W: Sink>(
     check_stream(alloc, table, file, out).map_err(stream_trouble)
 }
 
+/// Judges the module by a table, with what explains the verdict: whether it is valid.
+fn explained<S: Source, W: Sink>(
+    alloc: Global,
+    table: &Table,
+    file: &mut S,
+    out: &mut W,
+) -> Result<bool, Trouble>
+    ensures explained { IfSome (S.remaining file.old) (λ bytes. IfSome (W.contents out.old) (λ old. IfOk result (λ valid. Explains table.now bytes old (W.contents out.new) valid))) }
+    ensures failed { ((S.failures file.new ≢ S.failures file.old) ⊎ (W.failures out.new ≢ W.failures out.old)) ↔ IsErrOf result File }
+    ensures only { IfErr result (λ t. (t ≡ File) ⊎ (t ≡ Memory)) }
+    ensures unwritten { IsErr result → W.failures out.new ≡ W.failures out.old → out.new ≡ out.old }
+    ensures begun { W.failures out.new ≢ W.failures out.old → IfSome (S.remaining file.old) (λ bytes. IfSome (W.contents out.old) (λ old. BeginsExplaining table.now bytes old (W.contents out.new))) }
+{
+    explain_stream(alloc, table, file, out).map_err(stream_trouble)
+}
+
 /// Shows the module by a table: whether it is one that has a text.
 fn shown<S: Source, W: Sink>(
     alloc: Global,
@@ -172,7 +190,26 @@ fn traced<S: Source, W: Sink>(
     }
 }
 
+/// Writes what codes say, or one of them: it is written.
+fn ruled<W: Sink>(alloc: Global, code: Option<Code>, out: &mut W) -> Result<bool, Trouble>
+    ensures written { IfOk result (λ answer. WritesText (W.contents out.old) (W.contents out.new) × (answer ≡ true)) }
+    ensures failed { (W.failures out.new ≢ W.failures out.old) ↔ IsErrOf result File }
+    ensures only { IfErr result (λ t. (t ≡ File) ⊎ (t ≡ Memory)) }
+    ensures unwritten { IsErr result → W.failures out.new ≡ W.failures out.old → out.new ≡ out.old }
+    ensures begun { W.failures out.new ≢ W.failures out.old → BeginsText (W.contents out.old) (W.contents out.new) }
+{
+    let text = match rules_text(alloc, code) {
+        Ok(text) => text,
+        Err(_) => return Err(Trouble::Memory),
+    };
+    match write_all(text.as_bytes(), out) {
+        Ok(()) => Ok(true),
+        Err(_) => Err(Trouble::File),
+    }
+}
+
 /// Does what a command asks by a table: whether the module is valid, has a text, was made or has a run.
+/// `rules` asks for no table, and is done.
 fn done_by<S: Source, W: Sink, O: Sink>(
     alloc: Global,
     command: &Command,
@@ -191,6 +228,7 @@ fn done_by<S: Source, W: Sink, O: Sink>(
 {
     match command {
         Command::Check { .. } => judged(alloc, table, file, out),
+        Command::Explain { .. } => explained(alloc, table, file, out),
         Command::Show { .. } => shown(alloc, table, file, out),
         Command::Asm { big, .. } => assembled(alloc, table, *big, file, out, made),
         Command::Trace {
@@ -199,12 +237,13 @@ fn done_by<S: Source, W: Sink, O: Sink>(
             limit,
             ..
         } => traced(alloc, table, *function, choices, *limit, file, out),
+        Command::Rules { code } => ruled(alloc, *code, out),
     }
 }
 
 /// Judges the grammar file, and then does what a command asks: whether the module is valid, has a
 /// text, was made or has a run.
-fn done<S: Source, W: Sink, O: Sink>(
+fn done_by_text<S: Source, W: Sink, O: Sink>(
     alloc: Global,
     command: &Command,
     grammar: &[u8],
@@ -233,11 +272,39 @@ fn done<S: Source, W: Sink, O: Sink>(
     }
 }
 
+/// Does what a command asks: whether the module is valid, has a text, was made or has a run, or what codes say was written.
+fn done<S: Source, W: Sink, O: Sink>(
+    alloc: Global,
+    command: &Command,
+    grammar: &[u8],
+    file: &mut S,
+    out: &mut W,
+    made: &mut O,
+) -> Result<bool, Trouble>
+    ensures done { ReadsGrammar command.now → IfSome (S.remaining file.old) (λ bytes. IfOk result (λ answer. DoesByText command.now grammar.now bytes (W.contents out.old) (W.contents out.new) (O.contents made.old) (O.contents made.new) answer)) }
+    ensures failed { (S.failures file.new ≢ S.failures file.old) ⊎ (W.failures out.new ≢ W.failures out.old) ⊎ (O.failures made.new ≢ O.failures made.old) → IsErrOf result File }
+    ensures reason { ReadsGrammar command.now → IfErr result (λ t. IsErrorLine grammar.now (((S.failures file.new ≢ S.failures file.old) ⊎ (W.failures out.new ≢ W.failures out.old) ⊎ (O.failures made.new ≢ O.failures made.old)) ⊎ IsNoText command.now (S.remaining file.old)) (LacksEntryByText command.now grammar.now (S.remaining file.old)) (trouble_text t)) }
+    ensures refused { ReadsGrammar command.now → (e : GrammarError) → text_breaks grammar.now e → (file.new ≡ file.old) × (out.new ≡ out.old) × (made.new ≡ made.old) × (IsErrOf result (Grammar e) ⊎ IsErrOf result (Grammar J8)) }
+    ensures unwritten { IsErr result → W.failures out.new ≡ W.failures out.old → out.new ≡ out.old }
+    ensures unmade { IsErr result → O.failures made.new ≡ O.failures made.old → made.new ≡ made.old }
+    ensures begun { ReadsGrammar command.now → (W.failures out.new ≢ W.failures out.old) ⊎ (O.failures made.new ≢ O.failures made.old) → IfSome (S.remaining file.old) (λ bytes. BeginsByText command.now grammar.now bytes (W.contents out.old) (W.contents out.new) (O.contents made.old) (O.contents made.new)) }
+    ensures nothing { MakesNothing command.now → made.new ≡ made.old }
+    ensures unread { ¬ (ReadsGrammar command.now) → file.new ≡ file.old }
+    ensures text { ¬ (ReadsGrammar command.now) → IfOk result (λ answer. WritesText (W.contents out.old) (W.contents out.new) × (answer ≡ true)) }
+    ensures text_begun { ¬ (ReadsGrammar command.now) → W.failures out.new ≢ W.failures out.old → BeginsText (W.contents out.old) (W.contents out.new) }
+    ensures text_only { ¬ (ReadsGrammar command.now) → IfErr result (λ t. ((t ≡ File) × (W.failures out.new ≢ W.failures out.old)) ⊎ (t ≡ Memory)) }
+{
+    match command {
+        Command::Rules { code } => ruled(alloc, *code, out),
+        _ => done_by_text(alloc, command, grammar, file, out, made),
+    }
+}
+
 /// Does what a command asks, and answers the exit status.
 ///
 /// `file` is the module or the text, `out` the standard output, `made` the file that a command makes (only `asm` makes one),
-/// `err` the standard error. 0: the module is valid, or its text, the module of a text or a run was written. 1: a fault line
-/// was written. 2: one line was written to `err`: `error J1` to `error J7` where the grammar file is refused, which is told
+/// `err` the standard error. 0: the module is valid, or its text, the module of a text, a run or what codes say was written. 1: a
+/// fault line was written. 2: one line was written to `err`: `error J1` to `error J7` where the grammar file is refused, which is told
 /// first, `error file` where a read or a write failed or a text is not UTF-8, `error X1` where the id whose run is asked for is
 /// no entry point's function, `error memory` where a growth of memory was refused. Where the write to `err` fails too, it has
 /// got a beginning of that line, and the status is 2 all the same.
@@ -251,20 +318,26 @@ pub fn run<S: Source, W: Sink, O: Sink, E: Sink>(
     err: &mut E,
 ) -> u8
     ensures status { result ≤ 2 }
-    // With 0 and 1 the verdict line, the text, the module or the run was written, by the table that the grammar file gives: 0
-    // goes with `valid` alone, with the text of a module, with the module of a text or with a run.
-    ensures done { result ≤ 1 → IfSome (S.remaining file.old) (λ bytes. DoesByText command.now grammar.now bytes (W.contents out.old) (W.contents out.new) (O.contents made.old) (O.contents made.new) (result == 0)) }
+    // With 0 and 1 the verdict line, with or without lines that explain it, the text, the module or the run was written, by the
+    // table that the grammar file gives: 0 goes with `valid` alone, with the text of a module, with the module of a text or with
+    // a run.
+    ensures done { ReadsGrammar command.now → result ≤ 1 → IfSome (S.remaining file.old) (λ bytes. DoesByText command.now grammar.now bytes (W.contents out.old) (W.contents out.new) (O.contents made.old) (O.contents made.new) (result == 0)) }
     // With 2 an error line was written to the standard error, and there is a reason for it.
-    ensures error { result ≡ 2 → (line : List ℕ) × IsErrorLine grammar.now (((S.failures file.new ≢ S.failures file.old) ⊎ (W.failures out.new ≢ W.failures out.old) ⊎ (O.failures made.new ≢ O.failures made.old)) ⊎ IsNoText command.now (S.remaining file.old)) (LacksEntryByText command.now grammar.now (S.remaining file.old)) line × Writes line (E.contents err.old) (E.contents err.new) (E.failures err.old) (E.failures err.new) }
+    ensures error { ReadsGrammar command.now → result ≡ 2 → (line : List ℕ) × IsErrorLine grammar.now (((S.failures file.new ≢ S.failures file.old) ⊎ (W.failures out.new ≢ W.failures out.old) ⊎ (O.failures made.new ≢ O.failures made.old)) ⊎ IsNoText command.now (S.remaining file.old)) (LacksEntryByText command.now grammar.now (S.remaining file.old)) line × Writes line (E.contents err.old) (E.contents err.new) (E.failures err.old) (E.failures err.new) }
     // A refused grammar file is told first, before anything is read or written: by its code, or as want of memory.
-    ensures refused { (e : GrammarError) → text_breaks grammar.now e → (result ≡ 2) × (file.new ≡ file.old) × (out.new ≡ out.old) × (made.new ≡ made.old) × (Writes (grammar_text e) (E.contents err.old) (E.contents err.new) (E.failures err.old) (E.failures err.new) ⊎ Writes memory_line (E.contents err.old) (E.contents err.new) (E.failures err.old) (E.failures err.new)) }
+    ensures refused { ReadsGrammar command.now → (e : GrammarError) → text_breaks grammar.now e → (result ≡ 2) × (file.new ≡ file.old) × (out.new ≡ out.old) × (made.new ≡ made.old) × (Writes (grammar_text e) (E.contents err.old) (E.contents err.new) (E.failures err.old) (E.failures err.new) ⊎ Writes memory_line (E.contents err.old) (E.contents err.new) (E.failures err.old) (E.failures err.new)) }
     // A failed read or write is told by `error file`.
     ensures failed { (S.failures file.new ≢ S.failures file.old) ⊎ (W.failures out.new ≢ W.failures out.old) ⊎ (O.failures made.new ≢ O.failures made.old) → (result ≡ 2) × Writes file_line (E.contents err.old) (E.contents err.new) (E.failures err.old) (E.failures err.new) }
     // With 2 the standard output and the file that is made are as they were, or, after a failed write, have got a beginning.
     ensures unwritten { result ≡ 2 → W.failures out.new ≡ W.failures out.old → out.new ≡ out.old }
     ensures unmade { result ≡ 2 → O.failures made.new ≡ O.failures made.old → made.new ≡ made.old }
-    ensures begun { (W.failures out.new ≢ W.failures out.old) ⊎ (O.failures made.new ≢ O.failures made.old) → IfSome (S.remaining file.old) (λ bytes. BeginsByText command.now grammar.now bytes (W.contents out.old) (W.contents out.new) (O.contents made.old) (O.contents made.new)) }
-    // `check`, `show` and `trace` make no file.
+    ensures begun { ReadsGrammar command.now → (W.failures out.new ≢ W.failures out.old) ⊎ (O.failures made.new ≢ O.failures made.old) → IfSome (S.remaining file.old) (λ bytes. BeginsByText command.now grammar.now bytes (W.contents out.old) (W.contents out.new) (O.contents made.old) (O.contents made.new)) }
+    // `rules` reads nothing. With 0 a text was written, with 2 want of memory is told, or a failed write, which leaves a beginning.
+    ensures unread { ¬ (ReadsGrammar command.now) → (file.new ≡ file.old) × (result ≢ 1) }
+    ensures text { ¬ (ReadsGrammar command.now) → result ≡ 0 → WritesText (W.contents out.old) (W.contents out.new) }
+    ensures text_begun { ¬ (ReadsGrammar command.now) → W.failures out.new ≢ W.failures out.old → BeginsText (W.contents out.old) (W.contents out.new) }
+    ensures text_error { ¬ (ReadsGrammar command.now) → result ≡ 2 → ((W.failures out.new ≢ W.failures out.old) × Writes file_line (E.contents err.old) (E.contents err.new) (E.failures err.old) (E.failures err.new)) ⊎ Writes memory_line (E.contents err.old) (E.contents err.new) (E.failures err.old) (E.failures err.new) }
+    // `check`, `explain`, `show`, `trace` and `rules` make no file.
     ensures nothing { MakesNothing command.now → made.new ≡ made.old }
     // The standard error gets a line only with the status 2.
     ensures quiet { result ≤ 1 → err.new ≡ err.old }

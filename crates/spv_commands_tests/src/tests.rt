@@ -1,6 +1,6 @@
 //! What no clause says: what a reader or a writer that fails comes to, and the texts that people read. What commands
 //! answer to good files is told by the stored run of all cases.
-use spv_commands::{Command, UseError, arguments, help, run};
+use spv_commands::{Code, Command, UseError, arguments, help, run};
 use spv_grammar::{FromGrammar, Table};
 use spv_verdict::check_stream;
 use spv_words::{FromRead, FromWrite, WordError};
@@ -391,5 +391,33 @@ fn words_and_messages(rt: HostRuntime) -> Result<(), Fail> {
     assert_eq!(rt; arguments(a, &["--help"]), Err(UseError::U3));
     assert_eq!(rt; arguments(a, &["check", "-h"]), Err(UseError::U3));
     assert!(rt; help(a)?.as_str().contains("Usage: spv <COMMAND>"));
+    Ok(())
+}
+
+#[test]
+fn words_of_commands(rt: HostRuntime) -> Result<(), Fail> {
+    let a = rt.alloc();
+    let (grammar, file) = ("G", "F");
+    let no_grammar: &[&str] = &["explain", "F"];
+    let two_files: &[&str] = &["explain", "--grammar", "G", "F", "F"];
+    let unknown: &[&str] = &["rules", "A3"];
+    let small: &[&str] = &["rules", "a1"];
+    let two_codes: &[&str] = &["rules", "A1", "A2"];
+    let of_file: &[&str] = &["rules", "--grammar", "G", "F"];
+    for words in [no_grammar, two_files, unknown, small, two_codes, of_file] {
+        assert_eq!(rt; arguments(a, words), Err(UseError::U1));
+    }
+    let explain = Command::Explain { grammar, file };
+    assert_eq!(rt;
+        arguments(a, &["explain", "F", "--grammar", "G"]),
+        Ok(explain)
+    );
+    let all = Command::Rules { code: None };
+    assert_eq!(rt; arguments(a, &["rules"]), Ok(all));
+    let code = Some(Code::Word(WordError::W3));
+    assert_eq!(rt; arguments(a, &["rules", "W3"]), Ok(Command::Rules { code }));
+    let code = Code::named("A1");
+    assert!(rt; code.is_some());
+    assert_eq!(rt; arguments(a, &["rules", "A1"]), Ok(Command::Rules { code }));
     Ok(())
 }

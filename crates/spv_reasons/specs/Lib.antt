@@ -1,5 +1,6 @@
 pub mod Evidence
 pub mod Explained
 pub mod Lines
+pub mod Rules
 pub mod Stream
 pub mod inner

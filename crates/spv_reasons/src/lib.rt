@@ -6,13 +6,16 @@ mod context;
 mod explained;
 mod judged;
 mod kinds;
+mod meanings;
 mod needs;
 mod place;
+mod rules;
 mod sentences;
 mod stream;
 mod told;
 
 pub use explained::{Explained, explain};
+pub use rules::{Code, rules_text};
 pub use sentences::{sentence, word_sentence};
 pub use spv_evidence::{EntryPart, Evidence, Lister, Side, Typed};
 pub use stream::explain_stream;

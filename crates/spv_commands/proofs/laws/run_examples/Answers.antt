@@ -18,13 +18,17 @@ pub returns-clause-no_table : goal.returns-clause-no_table
 returns-clause-no_table c = nothing_given
 
 pub returns-clause-does : goal.returns-clause-does
-returns-clause-does c = λ command n. does_short command _ n (empty_given c.table_examples.ensures.gives) (c.stream_examples.ensures.tells empty_table) (c.show_examples.ensures.shows empty_table) (c.trace_examples.ensures.traces empty_table)
+returns-clause-does c = λ command r n.
+    does_short command _ r n (empty_given c.table_examples.ensures.gives) (c.stream_examples.ensures.tells empty_table) (c.explain_examples.ensures.explains empty_table)
+    (c.show_examples.ensures.shows empty_table) (c.trace_examples.ensures.traces empty_table)
 
 pub returns-clause-does_nothing : goal.returns-clause-does_nothing
 returns-clause-does_nothing c = λ command bytes old new held kept answer t. nothing_given t.table t.given
 
 pub returns-clause-begins : goal.returns-clause-begins
-returns-clause-begins c = λ command n. begins_short command _ n (empty_given c.table_examples.ensures.gives) (c.stream_examples.ensures.begins empty_table) (c.show_examples.ensures.begins empty_table) (c.trace_examples.ensures.begins empty_table)
+returns-clause-begins c = λ command r n.
+    begins_short command _ r n (empty_given c.table_examples.ensures.gives) (c.stream_examples.ensures.begins empty_table) (c.explain_examples.ensures.begins empty_table)
+    (c.show_examples.ensures.begins empty_table) (c.trace_examples.ensures.begins empty_table)
 
 pub returns-clause-begins_nothing : goal.returns-clause-begins_nothing
 returns-clause-begins_nothing c = λ command bytes old new held kept t. nothing_given t.table t.given

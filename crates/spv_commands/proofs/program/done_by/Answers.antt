@@ -1,4 +1,4 @@
-use Rattle.spv_commands.proofs.Troubles.{no_entry_lacks, no_second, no_third, shown_in, three_reasons, told_in, traced_in, two_reasons}
+use Rattle.spv_commands.proofs.Troubles.{any_bytes, explained_in, middle, no_entry_lacks, no_second, no_third, one_reason, shown_in, three_reasons, told_in, traced_in, two_reasons}
 use Rattle.spv_commands.proofs.program.done_by.Goals as goal
 
 pub returns-in-Check-clause-done : goal.returns-in-Check-clause-done
@@ -12,6 +12,18 @@ returns-in-Check-clause-why g c = two_reasons _ _ _ _ _ _ c.judged.ensures.only 
 
 pub returns-in-Check-clause-begun : goal.returns-in-Check-clause-begun
 returns-in-Check-clause-begun g c = rw c.in-Check.is (no_second _ _ _ c.judged.ensures.begun)
+
+pub returns-in-Explain-clause-done : goal.returns-in-Explain-clause-done
+returns-in-Explain-clause-done g c = rw c.in-Explain.is (explained_in c.args.table.now (g.S.Source.remaining c.args.file.now) (g.W.Sink.contents c.args.out.now) (g.W.Sink.contents c.explained.new.out) c.explained.result c.explained.ensures.explained)
+
+pub returns-in-Explain-clause-failed : goal.returns-in-Explain-clause-failed
+returns-in-Explain-clause-failed g c = no_third _ _ _ _ c.explained.ensures.failed.0
+
+pub returns-in-Explain-clause-why : goal.returns-in-Explain-clause-why
+returns-in-Explain-clause-why g c = two_reasons _ _ _ _ _ _ c.explained.ensures.only c.explained.ensures.failed
+
+pub returns-in-Explain-clause-begun : goal.returns-in-Explain-clause-begun
+returns-in-Explain-clause-begun g c = rw c.in-Explain.is (no_second _ _ _ c.explained.ensures.begun)
 
 pub returns-in-Show-clause-done : goal.returns-in-Show-clause-done
 returns-in-Show-clause-done g c = rw c.in-Show.is (shown_in c.args.table.now (g.S.Source.remaining c.args.file.now) (g.W.Sink.contents c.args.out.now) (g.W.Sink.contents c.shown.new.out) c.shown.result c.shown.ensures.shown)
@@ -43,3 +55,15 @@ pub returns-in-Trace-clause-begun : goal.returns-in-Trace-clause-begun
 returns-in-Trace-clause-begun g c =
     let b = rw c.deref.ensures.value at c.traced.ensures.begun in
     rw c.in-Trace.is (no_second _ _ _ b)
+
+pub returns-in-Rules-clause-done : goal.returns-in-Rules-clause-done
+returns-in-Rules-clause-done g c = rw c.in-Rules.is (any_bytes (g.S.Source.remaining c.args.file.now) _ c.ruled.ensures.written)
+
+pub returns-in-Rules-clause-failed : goal.returns-in-Rules-clause-failed
+returns-in-Rules-clause-failed g c = middle _ _ _ _ c.ruled.ensures.failed.0
+
+pub returns-in-Rules-clause-why : goal.returns-in-Rules-clause-why
+returns-in-Rules-clause-why g c = one_reason _ _ _ _ _ _ c.ruled.ensures.only c.ruled.ensures.failed
+
+pub returns-in-Rules-clause-begun : goal.returns-in-Rules-clause-begun
+returns-in-Rules-clause-begun g c = rw c.in-Rules.is (λ f. any_bytes (g.S.Source.remaining c.args.file.now) _ (no_second _ _ _ c.ruled.ensures.begun f))

@@ -1,5 +1,5 @@
 use Rattle.spv_commands.proofs.Troubles.{grammar_reason, stream_reason}
-use Rattle.spv_commands.proofs.program.done.Goals as goal
+use Rattle.spv_commands.proofs.program.done_by_text.Goals as goal
 
 pub returns-in-Ok-clause-reason : goal.returns-in-Ok-clause-reason
 returns-in-Ok-clause-reason g c =
