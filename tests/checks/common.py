@@ -18,6 +18,10 @@ LAYERS = (
     "show",
     "text",
     "trace",
+    "use",
+    "many files",
+    "library",
+    "library texts",
 )
 SECONDS = 60
 

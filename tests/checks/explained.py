@@ -4,7 +4,7 @@ import re
 import subprocess
 
 from reading.decode import Broken, instructions, words_of
-from reading.evidence import Faulty, evidence
+from reading.evidence import Faulty, evidence, of_words
 from reading.order import check_ids, check_layout, check_shapes
 from reading.types import Types, check_types
 from reading.flow import check_flow
@@ -28,12 +28,15 @@ def output(program, *words):
 
 
 def faulty_of(grammar, content, text):
-    """What is known of a module whose fault is one of the stages D to G."""
+    """What is known of a module whose fault is one of the stages P to G."""
     words = words_of(content)
     insts = instructions(grammar, words)
-    check_shapes(insts)
-    check_layout(insts)
-    faulty = Faulty(insts, words[3], text)
+    faulty = Faulty(insts, words[3], text, grammar)
+    try:
+        check_shapes(insts)
+        check_layout(insts)
+    except Broken:
+        return faulty
     faulty.places, faulty.local = places_of(insts)
     try:
         faulty.definitions, faulty.places, faulty.local = check_ids(insts, words[3])
@@ -43,6 +46,16 @@ def faulty_of(grammar, content, text):
     except Broken:
         pass
     return faulty
+
+
+def malformed(grammar, content):
+    """The lines of a module whose words are no list of instructions."""
+    words = words_of(content)
+    try:
+        instructions(grammar, words)
+    except Broken as broken:
+        return of_words(words, broken)
+    return None
 
 
 def places_of(insts):
@@ -61,21 +74,24 @@ def places_of(insts):
 
 def difference(program, path, grammar):
     """None if the lines of a module are those of the second reading, else both."""
-    printed = output(program, "explain", "--grammar", PROFILE, path).splitlines()
-    verdict = output(program, "check", "--grammar", PROFILE, path).splitlines()
+    printed = output(program, "explain", "--grammar", PROFILE, path).split("\n")[:-1]
+    verdict = output(program, "check", "--grammar", PROFILE, path).split("\n")[:-1]
     if printed[:1] != verdict:
         return f"  {path.name}: {printed[:1]} and not {verdict}"
     found = FAULT.fullmatch(printed[0]) if printed else None
-    if found is None or found[1][0] in "IPLW":
+    if found is None or found[1][0] == "W":
         return None
-    shown = output(program, "show", "--grammar", PROFILE, path).splitlines()[5:]
+    if found[1][0] == "I":
+        rest, wanted = [tuple(line.split(": ", 1)) for line in printed[2:]], malformed(grammar, path.read_bytes())
+        return None if rest == wanted else f"  {path.name}: {rest}, and not {wanted}"
+    shown = output(program, "show", "--grammar", PROFILE, path).split("\n")[:-1][5:]
     faulty = faulty_of(grammar, path.read_bytes(), shown.__getitem__)
     rule, number = found[1], int(found[2])
     lines = [tuple(line.split(": ", 1)) for line in printed[1:]]
-    head = [("at", shown[number])]
-    if lines[0][0] != "rule" or lines[1:2] != head:
+    head = [] if rule == "L2" else [("at", shown[number])]
+    if lines[0][0] != "rule" or lines[1 : 1 + len(head)] != head:
         return f"  {path.name}: {printed}, and not {head}"
-    rest = [line for line in lines[2:] if line[0] != "in"]
+    rest = [line for line in lines[1 + len(head) :] if line[0] != "in"]
     wanted = evidence(faulty, rule, number)
     if len(wanted) == 1 and isinstance(wanted[0], set):
         return None if len(rest) == 1 and rest[0] in wanted[0] else f"  {path.name}: {rest}, and not {wanted}"

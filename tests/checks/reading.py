@@ -11,8 +11,9 @@ SECONDS = 600
 
 
 def compared(program, _folder):
-    """None if the two say the same of every module of tests/modules, of those of the table of types, and of some changed ones."""
-    words = [sys.executable, str(COMPARE), "--program", str(program), "--count", str(COUNT)]
+    """None if the two say the same, and explain it alike, of every module of tests/modules, of those of the table of types,
+    and of some changed ones."""
+    words = [sys.executable, str(COMPARE), "--program", str(program), "--count", str(COUNT), "--explain"]
     ended = subprocess.run(
         words, stdout=subprocess.PIPE, stderr=subprocess.STDOUT, timeout=SECONDS, check=False
     )

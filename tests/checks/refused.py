@@ -1,7 +1,9 @@
 """Some cases with each growth of memory refused in turn.
 
 Each run must answer `error memory` and write nothing else. A case of which tests/refuse/cases says
-`without` may answer as if nothing was refused, and must do so at one growth at least.
+`without` may answer as if nothing was refused, and must do so at one growth at least. The same holds
+of `explain` of the modules that tests/refuse/explained names, and there what must be answered is
+what is answered when nothing is refused: explained.py and faults.py are about those lines.
 """
 
 import os
@@ -10,10 +12,15 @@ import struct
 import subprocess
 
 from .cases import all_cases, laid_out, wanted_answer
+from .common import LAYERS as ALL_LAYERS
 from .common import TESTS, Answer, Check, Unusable, layers_of, run
+from .flow import GENERATE
 
 NO_MEMORY = Answer(b"", b"error memory\n", 2)
 MOST_GROWTHS = 100_000
+LAYERS = frozenset(ALL_LAYERS)
+FAULT_WORDS = 1_024
+LAST_OF_GRAMMAR = 10
 TALLY = struct.Struct("=3Q")
 
 
@@ -46,13 +53,11 @@ def refused_run(program, words, folder, preload, number, all_later):
     return got, TALLY.unpack(tally.read_bytes())
 
 
-def each_refused(case, does_without, all_later, program, folder):
-    """Refuses the growths of the case's run one by one, until a run is refused none."""
+def each_refused(words, wanted, does_without, all_later, program, folder, first=1):
+    """Refuses the growths of a run one by one from the first of these on, until it is refused none."""
     preload = library(folder)
-    words = laid_out(case, folder)
-    wanted = wanted_answer(case)
     without = []
-    for number in range(1, MOST_GROWTHS):
+    for number in range(first, MOST_GROWTHS):
         got, (began, _, refused) = refused_run(program, words, folder, preload, number, all_later)
         if not began:
             return "  the library did not take hold: is the program linked with the C library?"
@@ -67,37 +72,92 @@ def each_refused(case, does_without, all_later, program, folder):
     if got != wanted:
         return f"  none refused\n  wanted: {wanted}\n  got:    {got}"
     if without and not does_without:
-        return f"  does without the growths {without[:9]}: tests/refuse/cases is to say so"
+        return f"  does without the growths {without[:9]}: the list in tests/refuse is to say so"
     if does_without and not without and not all_later:
-        return "  does without no growth: tests/refuse/cases is not to say so"
+        return "  does without no growth: the list in tests/refuse is not to say so"
     return None
+
+
+def refused_case(case, does_without, all_later):
+    """The check of a case."""
+
+    def check(program, folder):
+        words, wanted = laid_out(case, folder), wanted_answer(case)
+        return each_refused(words, wanted, does_without, all_later, program, folder)
+
+    return check
+
+
+def explained(name, folder):
+    """The words that explain the module of this name."""
+    module = TESTS / f"modules/{name}.spv"
+    if not module.exists():
+        made = GENERATE.Module(FAULT_WORDS)
+        GENERATE.FAULTS[name](made)
+        module = folder / f"{name}.spv"
+        made.write(module)
+    return ["explain", "--grammar", TESTS / "profile.json", module]
+
+
+def growths_of_grammar(program, folder):
+    """How many growths the reading of profile.json and of no bytes makes."""
+    words = ["check", "--grammar", TESTS / "profile.json", "/dev/null"]
+    return refused_run(program, words, folder, library(folder), 0, False)[1][1]
+
+
+def refused_explanation(name, does_without, all_later):
+    """The check of what is explained of a module. The growths of reading the grammar file are left out, but for the
+    last ones: they are those of other cases."""
+
+    def check(program, folder):
+        words = explained(name, folder)
+        wanted = run(program, words, folder)
+        first = max(growths_of_grammar(program, folder) - LAST_OF_GRAMMAR, 1)
+        return each_refused(words, wanted, does_without, all_later, program, folder, first)
+
+    return check
+
+
+def chosen(name):
+    """The names that a list of tests/refuse has, and whether each does without a growth."""
+    found = []
+    for line in (TESTS / "refuse" / name).read_text(encoding="utf-8").splitlines():
+        words = line.split()
+        if not words or line.startswith("#"):
+            continue
+        if words[1:] not in ([], ["without"]):
+            raise Unusable(f"tests/refuse/{name}: no line is {line}")
+        found.append((words[0], words[1:] == ["without"]))
+    return found
 
 
 def chosen_cases():
     """The cases that tests/refuse/cases names, and whether each does without a growth."""
     by_name = {case.one("case"): case for case in all_cases()}
-    found = []
-    for line in (TESTS / "refuse/cases").read_text(encoding="utf-8").splitlines():
-        words = line.split()
-        if not words or line.startswith("#"):
-            continue
-        if words[0] not in by_name or words[1:] not in ([], ["without"]):
-            raise Unusable(f"tests/refuse/cases: no case has the name {line}")
-        found.append((by_name[words[0]], words[1:] == ["without"]))
-    return found
+    for name, does_without in chosen("cases"):
+        if name not in by_name:
+            raise Unusable(f"tests/refuse/cases: no case has the name {name}")
+        yield by_name[name], does_without
+
+
+def chosen_modules():
+    """The modules that tests/refuse/explained names, and whether each is explained without a growth."""
+    for name, does_without in chosen("explained"):
+        if name not in GENERATE.FAULTS and not (TESTS / f"modules/{name}.spv").exists():
+            raise Unusable(f"tests/refuse/explained: no module has the name {name}")
+        yield name, does_without
 
 
 def checks():
-    """Two checks for each chosen case: one growth refused, and all from one on."""
+    """Two checks for each chosen case and module: one growth refused, and all from one on."""
     tools = frozenset({"cc"})
-
-    def check(case, does_without, all_later):
-        later = " and all later" if all_later else ""
-        return Check(
-            f"each growth{later} refused: {case.one('case')}",
-            layers_of(case.one("layer")),
-            lambda program, folder: each_refused(case, does_without, all_later, program, folder),
-            tools,
-        )
-
-    return [check(*chosen, all_later) for chosen in chosen_cases() for all_later in (False, True)]
+    found = []
+    for all_later in (False, True):
+        begin = f"each growth{' and all later' if all_later else ''} refused"
+        for case, does_without in chosen_cases():
+            run_it = refused_case(case, does_without, all_later)
+            found.append(Check(f"{begin}: {case.one('case')}", layers_of(case.one("layer")), run_it, tools))
+        for name, does_without in chosen_modules():
+            run_it = refused_explanation(name, does_without, all_later)
+            found.append(Check(f"{begin}: explain {name}", LAYERS, run_it, tools))
+    return found

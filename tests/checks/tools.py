@@ -1,8 +1,10 @@
 """The tools that some checks need beside python3, by the names that `tests/run --without` takes."""
 
 import shutil
+import subprocess
+from pathlib import Path
 
-from . import khronos
+from . import khronos, library
 from .common import TESTS
 from .refused import compiler
 
@@ -23,19 +25,52 @@ def no_compiler():
     return None if compiler() else "there is no C compiler (Debian's packages gcc and libc6-dev)"
 
 
+def no_cmake():
+    """Why nothing can be built with CMake, or None."""
+    missing = [word for word in ("cmake", "make") if not shutil.which(word)]
+    return f"there is no {missing[0]} on the PATH (Debian's packages cmake and make)" if missing else None
+
+
 def no_tests():
     """Why no test of a crate can be run, or None."""
     is_built = any(CRATES.glob("*/out/*_tests"))
     return None if is_built else "there is no crates/*/out/*_tests (rt ci builds them)"
 
 
+def no_sanitizers():
+    """Why nothing can be compiled with sanitizers, or None."""
+    if not shutil.which("clang"):
+        return "there is no clang (Debian's package clang)"
+    asked = ["clang", "-print-file-name=libclang_rt.asan-x86_64.a"]
+    found = subprocess.run(asked, stdout=subprocess.PIPE, check=False).stdout.decode().strip()
+    return None if Path(found).is_absolute() else "clang has no sanitizers (Debian's package libclang-rt-dev)"
+
+
+def no_library():
+    """Why the library for C cannot be tested, or None."""
+    lacking = [it for it in (library.ARCHIVE, library.shared()) if not it.is_file()]
+    return f"there is no {lacking[0]} (make, or install/archive and then make)" if lacking else None
+
+
 TOOLS = {
+    "bash": on_path("bash", "Debian's package bash"),
+    "c++": lambda: None if library.cpp() else "there is no C++ compiler (Debian's package g++)",
+    "cargo": on_path("cargo", "Debian's packages cargo and rustc"),
     "cc": no_compiler,
+    "clang": no_sanitizers,
+    "cmake": no_cmake,
+    "fish": on_path("fish", "Debian's package fish"),
+    "groff": on_path("groff", "Debian's package groff-base"),
     "khronos": khronos.missing,
+    "library": no_library,
+    "make": on_path("make", "Debian's package make"),
+    "man": on_path("man", "Debian's package man-db"),
+    "pkg-config": on_path("pkg-config", "Debian's package pkg-config"),
     "rt": on_path("rt", "the toolchain's command"),
     "spirv-val": on_path("spirv-val", "Debian's package spirv-tools"),
     "tests": no_tests,
     "valgrind": on_path("valgrind", "Debian's package valgrind"),
+    "zsh": on_path("zsh", "Debian's package zsh"),
 }
 
 

@@ -10,12 +10,13 @@ INT, FLOAT, SWITCH = 21, 22, 251
 
 
 class Broken(Exception):
-    """A rule is broken: its code, and where it names them an instruction and a word."""
+    """A rule is broken: its code, and where it names them an instruction and a word, and the number of an operand with the kind due there."""
 
-    def __init__(self, rule, inst=None, word=None):
+    def __init__(self, rule, inst=None, word=None, operand=None, due=None):
         super().__init__(rule)
         place = "" if inst is None else f" inst {inst} word {word}"
         self.line = f"fault {rule}{place}"
+        self.inst, self.operand, self.due = inst, operand, due
 
 
 @dataclass
@@ -91,10 +92,10 @@ class Reader:
         self.grammar, self.words, self.before, self.number = grammar, words, before, number
         self.opcode = words[at] & 0xFFFF
         self.at, self.end = at + 1, end
-        self.operands = []
+        self.operands, self.due = [], None
 
     def fail(self, rule, word):
-        raise Broken(rule, self.number, word)
+        raise Broken(rule, self.number, word, len(self.operands), self.due)
 
     def pattern(self, items):
         for item in items:
@@ -110,6 +111,7 @@ class Reader:
             for base in kind["bases"]:
                 self.kind(base, name == "PairLiteralIntegerIdRef")
             return
+        self.due = name
         if self.at == self.end:
             self.fail("I4", self.end)
         if kind["category"] == "Id":
@@ -208,7 +210,7 @@ def instructions(grammar, words):
         reader = Reader(grammar, words, found, number, at, at + count)
         reader.pattern(grammar.entries[opcode].get("operands", ()))
         if reader.at < reader.end:
-            raise Broken("I5", number, reader.at)
+            raise Broken("I5", number, reader.at, len(reader.operands), "nothing")
         found.append(Inst(opcode, reader.operands, at))
         at += count
     return found

@@ -3,7 +3,7 @@
 from collections import deque
 
 from .flow import CALL, CONDITIONAL, FUNCTION, LABEL, PHI, bodies, labels, targets
-from .order import SHAPE_OF, uses, uses_by
+from .order import BEGIN, SHAPE_OF, after, may_come, may_end, uses, uses_by
 from .types import (
     ARRAY,
     DATA,
@@ -29,8 +29,8 @@ SORTS_WITH_TEXT = ("Type", "Result", "Id", "Word", "Value", "Mask")
 class Faulty:
     """A module with a broken rule: its instructions, what is known of its ids, and the text of each instruction."""
 
-    def __init__(self, insts, bound, text, definitions=None, places=None, local=None, types=None):
-        self.insts, self.bound, self.text = insts, bound, text
+    def __init__(self, insts, bound, text, grammar, definitions=None, places=None, local=None, types=None):
+        self.insts, self.bound, self.text, self.grammar = insts, bound, text, grammar
         self.definitions, self.places, self.local, self.types = definitions, places, local, types
 
     def operand(self, number, at):
@@ -63,6 +63,30 @@ def first_definitions(insts):
         if inst.result is not None:
             found.setdefault(inst.result, number)
     return found
+
+
+def of_layout(faulty, rule, number):
+    """P1, L1 and L2."""
+    entries = faulty.grammar.entries
+    if rule == "P1":
+        return [("opcode", entries[faulty.insts[number].opcode]["opname"])]
+    state = BEGIN
+    for inst in faulty.insts[:number]:
+        state = after(state, inst.opcode)
+    names = [entries[it]["opname"] for it in may_come(state) if it in entries]
+    return [("may come", " ".join(names + ["end of module"] * may_end(state)))]
+
+
+def of_words(words, broken):
+    """I1 to I12: the words of the instruction, 16 at most; from I4 on the operand that fails, and the kind that is due there."""
+    at = 5
+    for _ in range(broken.inst):
+        at += words[at] >> 16
+    told = words[at : at + max(1, words[at] >> 16)]
+    lines = [("words", " ".join([f"{it:08x}" for it in told[:16]] + [".."] * (len(told) > 16)))]
+    if broken.operand is not None:
+        lines += [("operand", str(broken.operand)), ("due", broken.due)]
+    return lines
 
 
 def of_ids(faulty, rule, number):
@@ -143,9 +167,11 @@ def entry(faulty, number):
 
 
 def of_capabilities(faulty, rule, number):
-    """C1, C2, M1, E1 and E2."""
+    """C1, C2, M1, E1 and E2. Where both parts of C1 are broken, either may be told."""
     if rule == "C1":
-        return [("not implied", "Kernel") if 6 not in faulty.types.implied else ("implied", "Shader")]
+        implied = faulty.types.implied
+        parts = {("not implied", "Kernel"): 6 not in implied, ("implied", "Shader"): 1 in implied}
+        return [{part for part, is_broken in parts.items() if is_broken}]
     if rule == "C2":
         return needs(faulty, number)
     if rule == "M1":
@@ -197,7 +223,7 @@ def differ(faulty, place, wanted, found):
     def line(key, what):
         if what is None:
             return key, "nothing"
-        return (key, str(what)) if place == ("place", "number") else faulty.of(key, what)
+        return (key, str(what)) if place == ("place", "number of parameters or arguments") else faulty.of(key, what)
 
     return [place, line("wanted", wanted), line("found", found)]
 
@@ -217,7 +243,7 @@ def function(faulty, number):
     rest = types.rest(signature)
     if rest[0] != inst.type:
         return differ(faulty, ("place", "return type"), rest[0], inst.type)
-    return differ(faulty, ("place", "number"), len(rest) - 1, len(parameters_of(types, number)))
+    return differ(faulty, ("place", "number of parameters or arguments"), len(rest) - 1, len(parameters_of(types, number)))
 
 
 def returned(faulty, number):
@@ -239,7 +265,7 @@ def call(faulty, number):
     if rest[0] != inst.type:
         return differ(faulty, ("place", "return type"), rest[0], inst.type)
     if len(rest) - 1 != len(given):
-        return differ(faulty, ("place", "number"), len(rest) - 1, len(given))
+        return differ(faulty, ("place", "number of parameters or arguments"), len(rest) - 1, len(given))
     at = next(at for at, it in enumerate(given) if it != rest[1 + at])
     return differ(faulty, ("argument", str(at)), rest[1 + at], given[at])
 
@@ -256,7 +282,7 @@ def of_types(faulty, rule, number):
     if rule == "Y5":
         of = [inst.type] if inst.operands and inst.operands[0][0] == "Type" else []
         of += [types.type_of(it) for _, it, role in used(inst) if role == "value"]
-        return [faulty.of("type", it) for it in of]
+        return [("type", f"%{it}") if it in of[:at] else faulty.of("type", it) for at, it in enumerate(of)]
     return {"Y6": function, "Y7": returned, "Y8": call}[rule](faulty, number)
 
 
@@ -413,7 +439,9 @@ def of_calls(faulty, number):
 
 
 def evidence(faulty, rule, number):
-    """The lines of what shows that a rule is broken at an instruction, of the stages D to G."""
+    """The lines of what shows that a rule is broken at an instruction, of the stages P to G."""
+    if rule[0] in "PL":
+        return of_layout(faulty, rule, number)
     if rule[0] == "D":
         return of_ids(faulty, rule, number)
     if rule == "Y1":

@@ -91,6 +91,7 @@ SECTIONS = (
     {19, 20, 21, 22, 23, 28, 30, 31, 32, 33, 39, 41, 42, 43, 44, 46, 48, 49, 50, 51, 59, 1},
 )
 MODEL, DECLARED = 3, 10
+BEGIN = ("section", 0)
 
 
 def opcodes_in(text):
@@ -190,13 +191,23 @@ def after(state, opcode):
     return moves[name].get(opcode)
 
 
+def may_end(state):
+    """Whether a module may end at a state of the layout."""
+    return state[0] == "between" or state[0] == "section" and state[1] >= MODEL
+
+
+def may_come(state):
+    """The opcodes that may come at a state of the layout, in order."""
+    return [it for it in sorted(SHAPE_OF) if after(state, it) is not None]
+
+
 def check_layout(insts):
-    state = ("section", 0)
+    state = BEGIN
     for number, inst in enumerate(insts):
         state = after(state, inst.opcode)
         if state is None:
             raise Broken("L1", number, inst.word)
-    if state[0] != "between" and not (state[0] == "section" and state[1] >= MODEL):
+    if not may_end(state):
         last = insts[-1] if insts else None
         raise Broken("L2", len(insts), end_of(last))
 

@@ -1,11 +1,19 @@
 //! `spv` checks, explains, shows, assembles and traces SPIR-V 1.6 kernel modules, and tells its rules.
 #![tactic(auto)]
 
-use spv_commands::{Command, Trouble, UseError, arguments, help, report, run};
+mod files;
+
+use files::Named;
+use spv_commands::{Command, Trouble, UseError, arguments_in, report, run, text_asked};
+use spv_files::run_each;
 use spv_words::{FromRead, FromWrite};
+use std::env::VarError;
 use std::io::{ErrorKind, Read, Write};
 use std::process::ExitCode;
 use std::{env, fs, io};
+
+/// The name of the standard input, and of the standard output.
+const STANDARD: &str = "-";
 
 /// What a failed call of the system is told as.
 fn trouble_of(error: io::Error) -> Trouble {
@@ -23,19 +31,20 @@ fn word_trouble(error: io::Error) -> Trouble {
     }
 }
 
-/// Prints the help, and answers the exit status.
-fn show_help(rt: &HostRuntime) -> Result<u8, Trouble> {
-    let text = help(rt.alloc()).map_err(|_| Trouble::Memory)?;
+/// Prints the help or the version that the words ask for, and answers the exit status.
+fn show_text(rt: &HostRuntime, words: &[&str]) -> Result<u8, Trouble> {
+    let text = text_asked(rt.alloc(), words).map_err(|_| Trouble::Memory)?;
     rt.stdout().write_all(text.as_bytes()).map_err(trouble_of)?;
     Ok(0)
 }
 
 /// Does what a command asks with its open files, and answers the exit status.
-fn with_made<F: Read + Drop, O: Write + Drop>(
+fn with_made<F: Read + Drop, W: Write + Drop, O: Write + Drop>(
     rt: &HostRuntime,
     command: &Command,
     grammar: &[u8],
     file: F,
+    out: W,
     made: O,
 ) -> u8 {
     run(
@@ -43,33 +52,76 @@ fn with_made<F: Read + Drop, O: Write + Drop>(
         command,
         grammar,
         &mut FromRead::new(file),
-        &mut FromWrite::new(rt.stdout()),
+        &mut FromWrite::new(out),
         &mut FromWrite::new(made),
         &mut FromWrite::new(rt.stderr()),
     )
 }
 
-/// Opens the files of a command, makes the one that it makes empty, does what it asks, and answers the exit status.
-/// `rules` has none.
+/// Makes the file that a command makes empty, does what it asks of its open file, and answers the exit status. Where the
+/// module that it makes goes to the standard output, the line of a fault goes to the standard error.
+fn with_file<F: Read + Drop>(
+    rt: &HostRuntime,
+    command: &Command,
+    grammar: &[u8],
+    file: F,
+) -> Result<u8, Trouble> {
+    let Command::Asm { out, .. } = command else {
+        return Ok(with_made(rt, command, grammar, file, rt.stdout(), io::sink()));
+    };
+    if *out == STANDARD {
+        return Ok(with_made(rt, command, grammar, file, rt.stderr(), rt.stdout()));
+    }
+    let made = fs::create(rt, *out).map_err(trouble_of)?;
+    Ok(with_made(rt, command, grammar, file, rt.stdout(), made))
+}
+
+/// Opens the files of a command, does what it asks, and answers the exit status. `rules` has none.
 fn with_files(rt: &HostRuntime, command: &Command) -> Result<u8, Trouble> {
-    let (Command::Check { grammar, file }
-    | Command::Explain { grammar, file }
-    | Command::Show { grammar, file }
-    | Command::Asm { grammar, file, .. }
-    | Command::Trace { grammar, file, .. }) = command
-    else {
-        return Ok(with_made(rt, command, &[], io::empty(), io::sink()));
-    };
-    let grammar = fs::read(rt, *grammar).map_err(trouble_of)?;
-    let file = fs::open(rt, *file).map_err(trouble_of)?;
-    let status = match command {
-        Command::Asm { out, .. } => {
-            let made = fs::create(rt, *out).map_err(trouble_of)?;
-            with_made(rt, command, &grammar, file, made)
+    match command {
+        Command::Check { grammar, file }
+        | Command::Explain { grammar, file }
+        | Command::Show { grammar, file }
+        | Command::Asm { grammar, file, .. }
+        | Command::Trace { grammar, file, .. } => {
+            let grammar = fs::read(rt, *grammar).map_err(trouble_of)?;
+            if *file == STANDARD {
+                return with_file(rt, command, &grammar, rt.stdin());
+            }
+            let file = fs::open(rt, *file).map_err(trouble_of)?;
+            with_file(rt, command, &grammar, file)
         }
-        _ => with_made(rt, command, &grammar, file, io::sink()),
-    };
-    Ok(status)
+        Command::Each {
+            task,
+            grammar,
+            files,
+        } => {
+            let grammar = fs::read(rt, *grammar).map_err(trouble_of)?;
+            let names = files.as_slice();
+            let mut out = FromWrite::new(rt.stdout());
+            let mut err = FromWrite::new(rt.stderr());
+            let mut files = Named { rt, names };
+            let (alloc, task) = (rt.alloc(), *task);
+            Ok(run_each(alloc, task, &grammar, names, &mut files, &mut out, &mut err))
+        }
+        Command::Rules { .. } => Ok(with_made(
+            rt,
+            command,
+            &[],
+            io::empty(),
+            rt.stdout(),
+            io::sink(),
+        )),
+    }
+}
+
+/// The path of a grammar file that the environment names, if it is text.
+fn grammar_of_environment(rt: &HostRuntime) -> Result<Option<String>, Trouble> {
+    match env::var(rt, "SPV_GRAMMAR") {
+        Ok(path) => Ok(Some(path)),
+        Err(VarError::OutOfMemory) => Err(Trouble::Memory),
+        Err(_) => Ok(None),
+    }
 }
 
 /// Reads the words of the command line and does what they ask, and answers the exit status.
@@ -82,11 +134,16 @@ fn with_words(rt: &HostRuntime) -> Result<u8, Trouble> {
     for word in &words {
         texts.push(word.as_str()).map_err(|_| Trouble::Memory)?;
     }
-    match arguments(rt.alloc(), &texts) {
+    let environment = grammar_of_environment(rt)?;
+    let grammar = match &environment {
+        Some(path) => Some(path.as_str()),
+        None => None,
+    };
+    match arguments_in(rt.alloc(), &texts, grammar) {
         Ok(command) => with_files(rt, &command),
         Err(UseError::U1) => Err(Trouble::Use),
         Err(UseError::U2) => Err(Trouble::Memory),
-        Err(UseError::U3) => show_help(rt),
+        Err(UseError::U3 | UseError::U4) => show_text(rt, &texts),
     }
 }
 

@@ -22,7 +22,7 @@ use spv_module::{Fault, Module, Rule, Stop};
 use std::alloc::{AllocError, Global};
 
 /// A broken rule at an instruction.
-#[derive(Clone, Copy, Debug)]
+#[derive(Clone, Copy)]
 pub struct Found {
     pub rule: Rule,
     pub inst: u32,

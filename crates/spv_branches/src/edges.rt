@@ -3,7 +3,7 @@
 use std::alloc::{AllocError, Global};
 
 /// An edge from a block, and where the other edges to the same block go on.
-#[derive(Clone, Copy, Debug)]
+#[derive(Clone, Copy)]
 pub struct Link {
     pub source: u32,
     /// One more than the place of the next link, or 0.

@@ -15,7 +15,7 @@ use crate::edges::Edges;
 use crate::labels::{id_at, label};
 
 /// What the labels of a branch are.
-#[derive(Clone, Copy, Debug)]
+#[derive(Clone, Copy)]
 pub enum Targets {
     /// Some label is of no OpLabel.
     Lacking,

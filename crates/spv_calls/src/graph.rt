@@ -1,7 +1,7 @@
 //! Calls as pairs of numbers.
 
 /// An OpFunctionCall of a definition in a definition.
-#[derive(Clone, Copy, Debug, PartialEq, Eq)]
+#[derive(Clone, Copy, PartialEq, Eq)]
 pub struct Call {
     /// The number of the caller's OpFunction.
     pub caller: u32,

@@ -7,7 +7,7 @@ use crate::components::number_at;
 use crate::graph::Call;
 
 /// Which way calls lead in the module.
-#[derive(Clone, Copy, Debug)]
+#[derive(Clone, Copy)]
 pub enum Way {
     /// To a function before the caller.
     Back,

@@ -5,7 +5,8 @@ use Rattle.spv_words.specs.declared.words.Order.{Order}
 use Rattle.spv_words.specs.declared.words.WordError.TheVariants.{W2}
 use Rattle.spv_table.specs.Table.{Table}
 use Rattle.spv_commands.specs.declared.command_line.Command.{Command}
-use Rattle.spv_commands.specs.declared.command_line.Command.TheVariants.{Check, Explain, Show, Asm, Trace, Rules}
+use Rattle.spv_commands.specs.declared.command_line.Command.TheVariants.{Check, Explain, Show, Asm, Trace, Rules, Each}
+use Rattle.spv_commands.specs.declared.command_line.Task.TheVariants as tasks
 use Rattle.spv_commands.specs.Example.{empty_grammar}
 use Rattle.spv_commands.specs.Show.{BeginsShowing, IsShowing, Shows}
 use Rattle.spv_reasons.specs.Stream.{BeginsExplaining, Explains}
@@ -63,6 +64,8 @@ does_short (Show g f) G r n given tells explains shows traces = record { table =
 does_short (Asm g f o b) G r n given tells explains shows traces = absurd n
 does_short (Trace g f function choices limit) G r n given tells explains shows traces = record { table = G; given = given; does = traces function choices.items limit }
 does_short (Rules code) G r n given tells explains shows traces = absurd r
+does_short (Each tasks.Check g fs) G r n given tells explains shows traces = record { table = G; given = given; does = tells }
+does_short (Each tasks.Explain g fs) G r n given tells explains shows traces = record { table = G; given = given; does = explains }
 
 pub begins_short : (c : Command) (G : Table) → ReadsGrammar c → MakesNothing c → IsTableOf empty_grammar G → Begins G (1 ∷ 2 ∷ 3 ∷ []) (9 ∷ []) (Some (9 ∷ codes "fault"))
     → BeginsExplaining G (1 ∷ 2 ∷ 3 ∷ []) (9 ∷ []) (Some (9 ∷ codes "fault"))
@@ -74,3 +77,5 @@ begins_short (Show g f) G r n given begins explained shown traced = record { tab
 begins_short (Asm g f o b) G r n given begins explained shown traced = absurd n
 begins_short (Trace g f function choices limit) G r n given begins explained shown traced = record { table = G; given = given; begins = traced function choices.items limit }
 begins_short (Rules code) G r n given begins explained shown traced = absurd r
+begins_short (Each tasks.Check g fs) G r n given begins explained shown traced = record { table = G; given = given; begins = begins }
+begins_short (Each tasks.Explain g fs) G r n given begins explained shown traced = record { table = G; given = given; begins = explained }

@@ -5,9 +5,10 @@ use Rattle.spv_grammar.specs.declared.error.GrammarError.{GrammarError}
 use Rattle.spv_grammar.specs.declared.error.GrammarError.TheVariants.{J1, J2, J3, J4, J5, J6, J7, J8}
 use Rattle.spv_table.specs.Table.{Table}
 use Rattle.spv_commands.specs.Show.{Shows}
-use Rattle.spv_commands.specs.Task.{LacksEntry, LacksEntryByText}
+use Rattle.spv_commands.specs.Task.{DoesTask, LacksEntry, LacksEntryByText}
 use Rattle.spv_commands.specs.Trace.{Traces}
 use Rattle.spv_commands.specs.declared.command_line.Command.{Command}
+use Rattle.spv_commands.specs.declared.command_line.Task.{Task}
 use Rattle.spv_verdict.specs.Stream.{Tells}
 use Rattle.spv_reasons.specs.Stream.{Explains}
 use Rattle.spv_commands.specs.Trouble.{IsErrorLine, IsTableOf, refused, file, entry, memory, grammar_text, trouble_text}
@@ -79,6 +80,11 @@ swapped (Some x) (Some y) r P h = h
 pub told_in : (G : Table) (known kept new : Option (List ℕ)) (r : Result Bool Trouble) → IfSome known (λ bytes. IfSome kept (λ old. IfOk r (λ answer. Tells G bytes old new answer)))
     → IfSome known (λ bytes. IfOk r (λ answer. IfSome kept (λ old. Tells G bytes old new answer)))
 told_in G known kept new r h = swapped known kept r (λ bytes old answer. Tells G bytes old new answer) h
+
+pub task_in : (task : Task) (G : Table) (known kept new : Option (List ℕ)) (r : Result Bool Trouble)
+    → IfSome known (λ bytes. IfSome kept (λ old. IfOk r (λ answer. DoesTask task G bytes old new answer)))
+    → IfSome known (λ bytes. IfOk r (λ answer. IfSome kept (λ old. DoesTask task G bytes old new answer)))
+task_in task G known kept new r h = swapped known kept r (λ bytes old answer. DoesTask task G bytes old new answer) h
 
 pub explained_in : (G : Table) (known kept new : Option (List ℕ)) (r : Result Bool Trouble)
     → IfSome known (λ bytes. IfSome kept (λ old. IfOk r (λ answer. Explains G bytes old new answer)))

@@ -3,7 +3,9 @@ use Rattle.std.specs.Prelude.{◌≡◌, ℕ, List, Option, Bool, true, IfSome, 
 use Rattle.std.specs.Io.KnownBytes.{Appends}
 use Rattle.spv_table.specs.Table.{Table}
 use Rattle.spv_commands.specs.declared.command_line.Command.{Command}
-use Rattle.spv_commands.specs.declared.command_line.Command.TheVariants.{Check, Explain, Show, Asm, Trace, Rules}
+use Rattle.spv_commands.specs.declared.command_line.Command.TheVariants.{Check, Explain, Show, Asm, Trace, Rules, Each}
+use Rattle.spv_commands.specs.declared.command_line.Task.{Task}
+use Rattle.spv_commands.specs.declared.command_line.Task.TheVariants as tasks
 use Rattle.spv_commands.specs.Assemble.{Assembles, BeginsAssembling, order_of}
 use Rattle.spv_commands.specs.Show.{BeginsShowing, Shows}
 use Rattle.spv_commands.specs.Trace.{BeginsTracing, HasNoEntry, Traces}
@@ -18,6 +20,7 @@ ReadsGrammar (Explain grammar file) = Unit {0}
 ReadsGrammar (Show grammar file) = Unit {0}
 ReadsGrammar (Asm grammar file out big) = Unit {0}
 ReadsGrammar (Trace grammar file function choices limit) = Unit {0}
+ReadsGrammar (Each task grammar files) = Unit {0}
 ReadsGrammar (Rules code) = ⊥
 
 -- The standard output that held the bytes `old`, where they are known, now also holds a text, and nothing else.
@@ -30,10 +33,21 @@ pub record BeginsText (old new : Option (List ℕ)) : Type 0 where
   pub text : List ℕ
   pub begun : IfSome old (λ xs. BeginsWith text xs new)
 
+-- A writer that held the bytes `old` now also holds what a task writes of a module's bytes, and nothing else: the verdict line, or that
+-- line and those that explain it. The answer tells whether the line is `valid`.
+abbrev pub DoesTask : Task → Table → List ℕ → List ℕ → Option (List ℕ) → Bool → Type 0
+DoesTask tasks.Check G bytes old new answer = Tells G bytes old new answer
+DoesTask tasks.Explain G bytes old new answer = Explains G bytes old new answer
+
+-- The same for a beginning of that.
+abbrev pub BeginsTask : Task → Table → List ℕ → List ℕ → Option (List ℕ) → Type 0
+BeginsTask tasks.Check G bytes old new = Begins G bytes old new
+BeginsTask tasks.Explain G bytes old new = BeginsExplaining G bytes old new
+
 -- The standard output that held the bytes `old`, where they are known, now also holds what the command writes of the bytes
 -- of its file, and nothing else: `check` the verdict line, `explain` that line and those that explain it, `show` the text or
 -- the line of a fault, `asm` the line of a fault or nothing, `trace` the run or the verdict line, `rules` a text, of no table and
--- no file. The file that `asm` makes held the bytes `held`, where they are known, and now also holds the module. The answer tells
+-- no file, and a command on several files what its task writes of this one. The file that `asm` makes held the bytes `held`, where they are known, and now also holds the module. The answer tells
 -- whether the line is `valid`, or the text, the module or the run was written.
 abbrev pub Does : Command → Table → List ℕ → Option (List ℕ) → Option (List ℕ) → Option (List ℕ) → Option (List ℕ) → Bool → Type 0
 Does (Check grammar file) G bytes old new held kept answer = IfSome old (λ xs. Tells G bytes xs new answer)
@@ -42,6 +56,7 @@ Does (Show grammar file) G bytes old new held kept answer = IfSome old (λ xs. S
 Does (Asm grammar file out big) G bytes old new held kept answer = Assembles G (order_of big) bytes old new held kept answer
 Does (Trace grammar file function choices limit) G bytes old new held kept answer = IfSome old (λ xs. Traces G function choices.items limit bytes xs new answer)
 Does (Rules code) G bytes old new held kept answer = WritesText old new × (answer ≡ true)
+Does (Each task grammar files) G bytes old new held kept answer = IfSome old (λ xs. DoesTask task G bytes xs new answer)
 
 -- The same for a beginning of that.
 abbrev pub BeginsToDo : Command → Table → List ℕ → Option (List ℕ) → Option (List ℕ) → Option (List ℕ) → Option (List ℕ) → Type 0
@@ -51,6 +66,7 @@ BeginsToDo (Show grammar file) G bytes old new held kept = IfSome old (λ xs. Be
 BeginsToDo (Asm grammar file out big) G bytes old new held kept = BeginsAssembling G (order_of big) bytes old new held kept
 BeginsToDo (Trace grammar file function choices limit) G bytes old new held kept = IfSome old (λ xs. BeginsTracing G function choices.items limit bytes xs new)
 BeginsToDo (Rules code) G bytes old new held kept = BeginsText old new
+BeginsToDo (Each task grammar files) G bytes old new held kept = IfSome old (λ xs. BeginsTask task G bytes xs new)
 
 -- The same under the table that the text of a grammar file gives.
 pub record DoesByText (command : Command) (text bytes : List ℕ) (old new held kept : Option (List ℕ)) (answer : Bool) : Type 0 where
@@ -70,6 +86,7 @@ MakesNothing (Explain grammar file) = Unit {0}
 MakesNothing (Show grammar file) = Unit {0}
 MakesNothing (Asm grammar file out big) = ⊥
 MakesNothing (Trace grammar file function choices limit) = Unit {0}
+MakesNothing (Each task grammar files) = Unit {0}
 MakesNothing (Rules code) = Unit {0}
 
 -- the command reads a text, and the bytes of its file, if they are known, are none
@@ -80,6 +97,7 @@ IsNoText (Show grammar file) known = ⊥
 IsNoText (Asm grammar file out big) known = IfSome known (λ bytes. ¬ (IsUtf8 bytes))
 IsNoText (Trace grammar file function choices limit) known = ⊥
 IsNoText (Rules code) known = ⊥
+IsNoText (Each task grammar files) known = ⊥
 
 -- the command asks for a run, and the bytes of its file, if they are known, are a valid module in which the id is no entry point's
 -- function
@@ -90,6 +108,7 @@ LacksEntry (Show grammar file) G known = ⊥
 LacksEntry (Asm grammar file out big) G known = ⊥
 LacksEntry (Trace grammar file function choices limit) G known = IfSome known (λ bytes. HasNoEntry G bytes function)
 LacksEntry (Rules code) G known = ⊥
+LacksEntry (Each task grammar files) G known = ⊥
 
 -- the same under the table that the text of a grammar file gives
 pub record LacksEntryByText (command : Command) (text : List ℕ) (known : Option (List ℕ)) : Type 0 where

@@ -56,9 +56,13 @@ pub enum Assembly {
     Fault(AsmError),
 }
 
-/// All the bytes of a reader.
+/// All the bytes of a reader, up to the end of input.
+///
+/// # Errors
+///
+/// `Failed` where a read failed, `Memory` where a growth of memory was refused. There is no other.
 #[tactic(auto, using(crate::proofs::Assemblings::all_read))]
-fn read_all<R: Source>(alloc: Global, r: &mut R) -> Result<Vec<u8>, TextError>
+pub fn read_all<R: Source>(alloc: Global, r: &mut R) -> Result<Vec<u8>, TextError>
     ensures known { IfSome (R.remaining r.old) (λ xs. IfOk result (λ v. v.items ≡ xs)) }
     ensures count { R.failures r.new ≢ R.failures r.old ↔ IsErrOf result trouble.Failed }
     ensures only { IfErr result (λ e. e ≢ trouble.NotText) }

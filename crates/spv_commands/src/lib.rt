@@ -5,6 +5,7 @@
 mod assembling;
 mod command_line;
 pub mod laws;
+mod manual;
 mod number;
 mod program;
 mod showing;
@@ -12,8 +13,8 @@ mod text_fault;
 mod trace_lines;
 mod tracing;
 
-pub use assembling::{TextError, assemble_stream};
-pub use command_line::{Command, UseError, arguments, help};
+pub use assembling::{TextError, assemble_stream, read_all};
+pub use command_line::{Command, Task, UseError, arguments, arguments_in, help, text_asked};
 pub use program::{Trouble, report, run};
 pub use showing::show_stream;
 pub use spv_reasons::Code;

@@ -7,13 +7,13 @@ ghost use Rattle.spv_commands.specs.Assemble.{Assembles, BeginsAssembling, order
 ghost use Rattle.spv_verdict.specs.Stream.{Begins, Tells};
 ghost use Rattle.spv_reasons.specs.Stream.{BeginsExplaining, Explains};
 ghost use Rattle.spv_commands.specs.Show.{BeginsShowing, Shows};
-ghost use Rattle.spv_commands.specs.Task.{BeginsByText, BeginsText, BeginsToDo, Does, DoesByText, IsNoText, LacksEntry, LacksEntryByText, MakesNothing, ReadsGrammar, WritesText};
+ghost use Rattle.spv_commands.specs.Task.{BeginsByText, BeginsTask, BeginsText, BeginsToDo, Does, DoesByText, DoesTask, IsNoText, LacksEntry, LacksEntryByText, MakesNothing, ReadsGrammar, WritesText};
 ghost use Rattle.spv_commands.specs.Trace.{BeginsTracing, HasNoEntry, Traces};
 ghost use Rattle.spv_commands.specs.Trouble.{IsErrorLine, Writes, file_line, grammar_text, memory_line, trouble_from, trouble_text};
 ghost use Rattle.spv_commands.specs.declared.program.Trouble.TheVariants.{File, Grammar, Memory, NoEntry};
 
 use crate::assembling::{TextError, assemble_stream};
-use crate::command_line::Command;
+use crate::command_line::{Command, Task};
 use crate::laws::one_grammar;
 use crate::showing::show_stream;
 use crate::tracing::{RunError, trace_stream};
@@ -117,6 +117,26 @@ fn explained<S: Source, W: Sink>(
     ensures begun { W.failures out.new ≢ W.failures out.old → IfSome (S.remaining file.old) (λ bytes. IfSome (W.contents out.old) (λ old. BeginsExplaining table.now bytes old (W.contents out.new))) }
 {
     explain_stream(alloc, table, file, out).map_err(stream_trouble)
+}
+
+/// Does a task on the module by a table: whether it is valid.
+fn tasked<S: Source, W: Sink>(
+    alloc: Global,
+    task: Task,
+    table: &Table,
+    file: &mut S,
+    out: &mut W,
+) -> Result<bool, Trouble>
+    ensures done { IfSome (S.remaining file.old) (λ bytes. IfSome (W.contents out.old) (λ old. IfOk result (λ valid. DoesTask task table.now bytes old (W.contents out.new) valid))) }
+    ensures failed { ((S.failures file.new ≢ S.failures file.old) ⊎ (W.failures out.new ≢ W.failures out.old)) ↔ IsErrOf result File }
+    ensures only { IfErr result (λ t. (t ≡ File) ⊎ (t ≡ Memory)) }
+    ensures unwritten { IsErr result → W.failures out.new ≡ W.failures out.old → out.new ≡ out.old }
+    ensures begun { W.failures out.new ≢ W.failures out.old → IfSome (S.remaining file.old) (λ bytes. IfSome (W.contents out.old) (λ old. BeginsTask task table.now bytes old (W.contents out.new))) }
+{
+    match task {
+        Task::Check => judged(alloc, table, file, out),
+        Task::Explain => explained(alloc, table, file, out),
+    }
 }
 
 /// Shows the module by a table: whether it is one that has a text.
@@ -238,6 +258,7 @@ fn done_by<S: Source, W: Sink, O: Sink>(
             ..
         } => traced(alloc, table, *function, choices, *limit, file, out),
         Command::Rules { code } => ruled(alloc, *code, out),
+        Command::Each { task, .. } => tasked(alloc, *task, table, file, out),
     }
 }
 
@@ -300,7 +321,8 @@ fn done<S: Source, W: Sink, O: Sink>(
     }
 }
 
-/// Does what a command asks, and answers the exit status.
+/// Does what a command asks, and answers the exit status. Of a command on several files it does the task on this one, as if it were the
+/// only one.
 ///
 /// `file` is the module or the text, `out` the standard output, `made` the file that a command makes (only `asm` makes one),
 /// `err` the standard error. 0: the module is valid, or its text, the module of a text, a run or what codes say was written. 1: a

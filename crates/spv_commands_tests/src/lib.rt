@@ -2,4 +2,8 @@
 #![tactic(auto)]
 
 #[cfg(test)]
+mod each;
+#[cfg(test)]
 mod tests;
+#[cfg(test)]
+mod words;

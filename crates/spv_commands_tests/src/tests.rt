@@ -9,7 +9,7 @@ use std::io::{self, ErrorKind, Read, Write};
 use std::test::Fail;
 
 /// A grammar of the nine instructions that the smallest kernel uses.
-const GRAMMAR: &[u8] = br#"{"instructions": [
+pub const GRAMMAR: &[u8] = br#"{"instructions": [
 {"opname": "OpMemoryModel", "opcode": 14, "operands": [{"kind": "AddressingModel"}, {"kind": "MemoryModel"}]},
 {"opname": "OpEntryPoint", "opcode": 15, "operands": [{"kind": "ExecutionModel"}, {"kind": "IdRef"},
   {"kind": "LiteralString"}, {"kind": "IdRef", "quantifier": "*"}]},
@@ -68,7 +68,7 @@ const KERNEL: [u32; 30] = [
 ];
 
 /// The bytes of the smallest kernel, the lowest of a word first.
-fn kernel(alloc: Global) -> Result<Vec<u8>, Fail> {
+pub fn kernel(alloc: Global) -> Result<Vec<u8>, Fail> {
     let mut bytes = Vec::new(alloc);
     for word in &KERNEL {
         bytes.extend_from_slice(&word.to_le_bytes())?;
@@ -384,6 +384,7 @@ fn words_and_messages(rt: HostRuntime) -> Result<(), Fail> {
         (UseError::U1, "the words fit no command"),
         (UseError::U2, "out of memory"),
         (UseError::U3, "help is asked for"),
+        (UseError::U4, "the version is asked for"),
     ];
     for (error, message) in rows {
         assert_eq!(rt; format!(in a; "{error}")?.as_str(), message);
@@ -399,7 +400,7 @@ fn words_of_commands(rt: HostRuntime) -> Result<(), Fail> {
     let a = rt.alloc();
     let (grammar, file) = ("G", "F");
     let no_grammar: &[&str] = &["explain", "F"];
-    let two_files: &[&str] = &["explain", "--grammar", "G", "F", "F"];
+    let two_files: &[&str] = &["show", "--grammar", "G", "F", "F"];
     let unknown: &[&str] = &["rules", "A3"];
     let small: &[&str] = &["rules", "a1"];
     let two_codes: &[&str] = &["rules", "A1", "A2"];

@@ -63,11 +63,12 @@ pub enum Evidence {
     Opcode {
         opcode: u16,
     },
-    /// I4 to I12: the opcode, the number of the operand that fails, and the number of the kind that is due there.
+    /// I4 to I12: the opcode, the number of the operand that fails, and the number of the kind that is due there. None is due where
+    /// words are left (I5).
     Due {
         opcode: u16,
         operand: u32,
-        kind: u32,
+        kind: Option<u32>,
     },
     /// P1: the opcode, and whether the profile has it.
     Shape {

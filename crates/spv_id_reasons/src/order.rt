@@ -32,7 +32,7 @@ const TYPE_STRUCT: u16 = 30;
 const DECLARATIONS: u8 = 11;
 
 /// Where an instruction stands.
-#[derive(Clone, Copy, Debug)]
+#[derive(Clone, Copy)]
 pub struct Site {
     /// The number of the instruction, from 0.
     pub inst: u32,

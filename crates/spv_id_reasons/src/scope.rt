@@ -23,7 +23,7 @@ use spv_module::Inst;
 use std::alloc::{AllocError, Global};
 
 /// A definition that is local to a function.
-#[derive(Clone, Copy, Debug)]
+#[derive(Clone, Copy)]
 pub struct Local {
     /// The number of the instruction, from 0.
     pub inst: u32,

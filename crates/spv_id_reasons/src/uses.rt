@@ -10,7 +10,7 @@ use spv_module::Inst;
 use spv_roles::used_id;
 
 /// A use of an id.
-#[derive(Clone, Copy, Debug)]
+#[derive(Clone, Copy)]
 pub struct Use {
     pub id: u32,
     /// What the id is used as.

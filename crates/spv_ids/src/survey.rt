@@ -66,7 +66,7 @@ pub struct Survey<'m, 'a> {
 }
 
 /// Where a use stands.
-#[derive(Clone, Copy, Debug)]
+#[derive(Clone, Copy)]
 pub struct Site {
     pub inst: u32,
     pub opcode: u16,
@@ -76,7 +76,7 @@ pub struct Site {
 }
 
 /// How far instructions were passed.
-#[derive(Clone, Copy, Debug)]
+#[derive(Clone, Copy)]
 struct Passed {
     /// The first one that was not passed, or the end of the survey.
     to: u32,
@@ -85,7 +85,7 @@ struct Passed {
 }
 
 /// A broken rule, and its instruction.
-#[derive(Clone, Copy, Debug)]
+#[derive(Clone, Copy)]
 pub struct Found {
     pub rule: Rule,
     pub inst: u32,

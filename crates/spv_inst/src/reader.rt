@@ -101,6 +101,7 @@ fn one_word(operand: Operand) -> Taken
 /// A `Refusal` counts its word from `at`. It is I4 at word 0 where no word is left, before all else, and at word 1 where
 /// one word is left of a number of two; I6 for an unknown value; I7 for a mask with a set bit that no enumerant has; I8,
 /// I9 or I10 for a text (`take_text`); I11 for a number of unknown width; I12 for a kind that nothing spells.
+#[inline(always)]
 pub fn take_operand<'a>(
     scene: &Scene<'_, '_, 'a>,
     known: Known,

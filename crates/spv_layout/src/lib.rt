@@ -14,7 +14,10 @@ mod rows;
 mod span;
 mod state;
 
+pub use class::Class;
 pub use form::Role;
 pub use place::Place;
 pub use plan::{Plan, lay_out};
 pub use roles::role;
+pub use rows::row;
+pub use state::{State, next, stops};

@@ -16,7 +16,7 @@ use crate::form::{Form, Scalar, Sort};
 use spv_module::Operand;
 
 /// A row that is looked at before the others.
-#[derive(Clone, Copy, Debug)]
+#[derive(Clone, Copy)]
 pub enum Common {
     /// Arithmetic of two ints or floats, bits of two ints, logic of two bools.
     Binary(Sort),

@@ -6,7 +6,7 @@ ghost use Rattle.spv_ops.specs.Types.{sort_of};
 use spv_module::{Inst, Operand};
 
 /// A scalar type (SPIR-V Specification 1.6, section 2.2.2). Ints and floats have a width in bits.
-#[derive(Clone, Copy, Debug, PartialEq, Eq)]
+#[derive(Clone, Copy, PartialEq, Eq)]
 pub enum Scalar {
     Int(u32),
     Float(u32),
@@ -15,7 +15,7 @@ pub enum Scalar {
 
 /// What a type declaration declares (SPIR-V Specification 1.6, section 3.49.6). Other types are named by their ids. The
 /// members of a struct, and what a function type returns and takes, are read from the declaration.
-#[derive(Clone, Copy, Debug, PartialEq, Eq)]
+#[derive(Clone, Copy, PartialEq, Eq)]
 pub enum Form {
     Void,
     Scalar(Scalar),
@@ -130,7 +130,7 @@ pub fn form_in(inst: &Inst) -> Option<Form>
 }
 
 /// What a scalar type is, whatever its width.
-#[derive(Clone, Copy, Debug, PartialEq, Eq)]
+#[derive(Clone, Copy, PartialEq, Eq)]
 pub enum Sort {
     Int,
     Float,
@@ -138,7 +138,7 @@ pub enum Sort {
 }
 
 /// A scalar type, or a vector of it: so many components. A scalar has one.
-#[derive(Clone, Copy, Debug, PartialEq, Eq)]
+#[derive(Clone, Copy, PartialEq, Eq)]
 pub struct Components {
     pub scalar: Scalar,
     pub count: u32,

@@ -5,7 +5,7 @@ ghost use Rattle.spv_ops.specs.Row.{unary_row_of, binary_row_of, access_row_of, 
 use crate::form::Sort;
 
 /// The rows of conversions, arithmetic, comparisons and bits (SPIR-V Specification 1.6, sections 3.49.11, 3.49.13 to 3.49.15).
-#[derive(Clone, Copy, Debug)]
+#[derive(Clone, Copy)]
 pub enum Calculation {
     /// OpConvertFToU, OpConvertFToS.
     FloatToInt,
@@ -38,7 +38,7 @@ pub enum Calculation {
 }
 
 /// The rows of memory (SPIR-V Specification 1.6, sections 3.49.8, 3.49.18 and 3.49.20) that their types alone decide.
-#[derive(Clone, Copy, Debug)]
+#[derive(Clone, Copy)]
 pub enum Access {
     Load,
     Store,
@@ -59,7 +59,7 @@ pub enum Access {
 }
 
 /// The rows of composites (SPIR-V Specification 1.6, section 3.49.12).
-#[derive(Clone, Copy, Debug)]
+#[derive(Clone, Copy)]
 pub enum Composite {
     /// OpVectorExtractDynamic, OpVectorInsertDynamic, OpVectorShuffle.
     ExtractDynamic,
@@ -72,7 +72,7 @@ pub enum Composite {
 }
 
 /// The rows of types by opcode.
-#[derive(Clone, Copy, Debug)]
+#[derive(Clone, Copy)]
 pub enum Row {
     /// An instruction of which no row speaks.
     Free,

@@ -2,4 +2,6 @@ mod Appending
 mod Readings
 mod Shown
 mod Stages
+mod Sufficing
 mod Tellings
+mod Worked

@@ -54,7 +54,7 @@ explains laws G bytes words order f e m lines h b t = λ ws p js r n g l first s
     let told : IsFirst G (slice_index ws 3) js f.rule f.inst = rw (same.words, same.insts) at b.told.0 in
     let one = one_first G (slice_index ws 3) js f.rule r f.inst n told first in
     let shown : IsShownAt G (slice_index ws 3) js f e = rw (same.words, same.insts) at b.shown in
-    let late : 3 ≤ stage_of f.rule = subst (λ q. 3 ≤ stage_of q) (sym one.rule) s in
+    let late : 1 ≤ stage_of f.rule = subst (λ q. 1 ≤ stage_of q) (sym one.rule) s in
     let there : IsEvidence G (slice_index ws 3) js f.rule f.inst e = shown late in
     let parts : AreIn (told_of js f.inst e) lines = rw same.insts at t in
     record {

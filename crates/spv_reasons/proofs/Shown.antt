@@ -1,5 +1,5 @@
 -- What a finder hands out shows a fault.
-use Rattle.std.proofs.Common.{◌≡◌, ◌≤◌, ℕ, List, sym, subst, inl, inr, arith}
+use Rattle.std.proofs.Common.{◌≡◌, ℕ, List, sym, subst, inl, inr}
 use Rattle.std.specs.Prelude.{IfOk, Ok, Err}
 use Rattle.std.specs.Prelude.{Result as Answer}
 use Rattle.spv_table.specs.Table.{Table}
@@ -8,8 +8,10 @@ use Rattle.spv_module.specs.declared.fault.Fault.{Fault}
 use Rattle.spv_module.specs.declared.fault.Rule.TheVariants as rule
 use Rattle.spv_module.specs.declared.fault.Stop.{Stop}
 use Rattle.spv_module.specs.declared.fault.Stop.TheVariants as stop
+use Rattle.spv_layout.specs.Broken as broken
 use Rattle.spv_layout.specs.Plan as plan
 use Rattle.spv_evidence.specs.declared.evidence.Evidence.{Evidence}
+use Rattle.spv_layout_reasons.specs.Evidence as layout
 use Rattle.spv_id_reasons.specs.Ids as ids
 use Rattle.spv_id_reasons.specs.Roles as roles
 use Rattle.spv_capability_reasons.specs.Evidence as capabilities
@@ -18,7 +20,7 @@ use Rattle.spv_branch_reasons.specs.Evidence as branches
 use Rattle.spv_walk_reasons.specs.Evidence as walks
 use Rattle.spv_call_reasons.specs.Evidence as calls
 use Rattle.spv_reasons.specs.Evidence.{IsEvidence}
-use Rattle.spv_reasons.specs.inner.Judged.{IsEarly, IsShownAt}
+use Rattle.spv_reasons.specs.inner.Judged.{IsShownAt}
 
 pub role_shown : (G : Table) (bound : ℕ) (is : List PlainInst) (f : Fault) (e : Evidence) → f.rule ≡ rule.Y1 → roles.IsEvidence G is rule.Y1 f.inst e → IsShownAt G bound is f e
 role_shown G bound is f e one h = λ s. IsEvidence.of_roles f.rule f.inst e (subst (λ r. roles.IsEvidence G is r f.inst e) (sym one) h)
@@ -43,7 +45,13 @@ call_shown G bound is f e one h = λ s. IsEvidence.of_calls f.rule f.inst e (sub
 pub id_shown : (G : Table) (bound : ℕ) (is : List PlainInst) (f : Fault) (e : Evidence) → ids.IsEvidence G bound is f.rule f.inst e → IsShownAt G bound is f e
 id_shown G bound is f e h = λ s. IsEvidence.of_ids f.rule f.inst e h
 
--- a refusal of the layout
-pub early : (G : Table) (is : List PlainInst) (s : Stop) → plan.IsRefusal G is s → IsEarly s
-early G is stop.Memory h = tt
-early G is (stop.Fault f) h = elim h.0 [ inl a ↦ (let e = a.of_stage in omega (arith, e)) | inr b ↦ (let e = b.1.of_stage in omega (arith, e)) ]
+-- a refusal of the shapes or of the layout
+pub refused_broken : (G : Table) (is : List PlainInst) (s : Stop) (f : Fault) → s ≡ stop.Fault f → plan.IsRefusal G is s
+    → broken.Broken G is f.rule f.inst
+refused_broken G is s f e h =
+    let r : plan.IsRefusal G is (stop.Fault f) = rw e at h in
+    elim r.0 [ inl a ↦ a.broken | inr b ↦ b.1.broken ]
+
+pub layout_shown : (G : Table) (bound : ℕ) (is : List PlainInst) (f : Fault) (e : Evidence)
+    → layout.IsEvidence G is f.rule f.inst e → IsShownAt G bound is f e
+layout_shown G bound is f e h = λ s. IsEvidence.of_layout f.rule f.inst e h

@@ -4,6 +4,7 @@ use Rattle.spv_table.specs.Table.{Table}
 use Rattle.spv_module.specs.Operand.{PlainInst}
 use Rattle.spv_module.specs.declared.fault.Rule.{Rule}
 use Rattle.spv_evidence.specs.declared.evidence.Evidence.{Evidence}
+use Rattle.spv_layout_reasons.specs.Evidence as layout
 use Rattle.spv_id_reasons.specs.Ids as ids
 use Rattle.spv_id_reasons.specs.Roles as roles
 use Rattle.spv_branch_reasons.specs.Evidence as branches
@@ -14,6 +15,8 @@ use Rattle.spv_type_reasons.specs.Evidence as types
 
 -- Under the bound of ids, this shows that the rule is broken at the instruction of that number.
 pub data IsEvidence (G : Table) (bound : ℕ) (is : List PlainInst) : Rule → ℕ → Evidence → Type 0 where
+  -- P and L
+  of_layout : (r : Rule) (n : ℕ) (e : Evidence) → layout.IsEvidence G is r n e → IsEvidence G bound is r n e
   -- D
   of_ids : (r : Rule) (n : ℕ) (e : Evidence) → ids.IsEvidence G bound is r n e → IsEvidence G bound is r n e
   -- Y1

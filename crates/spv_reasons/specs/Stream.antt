@@ -19,10 +19,11 @@ pub record AreLinesOf (G : Table) (bound : ℕ) (is : List PlainInst) (r : Rule)
   pub shows : IsEvidence G bound is r n evidence
   pub told : AreIn (told_of is n evidence) lines
 
--- Of bytes that are words of a list of instructions which breaks a rule of the stages D to G first, the lines tell what shows it.
+-- Of bytes that are words of a list of instructions which breaks a rule of the stages P to G first, the lines tell what shows it.
 abbrev pub Explain : Table → List ℕ → List ℕ → Type 0
-Explain G bytes lines = (words : List ℕ) (order : Order) (is : List PlainInst) (r : Rule) (n : ℕ) → IsModule order bytes words → IsListing G is (drop 5 words)
-    → IsFirst G (slice_index words 3) is r n → 3 ≤ stage_of r → AreLinesOf G (slice_index words 3) is r n lines
+Explain G bytes lines = (words : List ℕ) (order : Order) (is : List PlainInst) (r : Rule) (n : ℕ)
+    → IsModule order bytes words → IsListing G is (drop 5 words) → IsFirst G (slice_index words 3) is r n
+    → 1 ≤ stage_of r → AreLinesOf G (slice_index words 3) is r n lines
 
 -- A writer that held the bytes `old` now also holds the verdict line of the bytes, after it lines that explain it, and nothing else; the
 -- answer tells whether the line is `valid`.

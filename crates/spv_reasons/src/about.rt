@@ -6,6 +6,7 @@ ghost use Rattle.spv_reasons.specs.inner.Adding.{Adds};
 ghost use Rattle.spv_reasons.specs.Lines.{id_part, inst_begin, number_part, operand_at, operand_part, result_part};
 
 use crate::context::alone;
+use crate::once::{Told, told_once};
 use itoa::Buffer;
 use spv_inst::{EncodeCode, EncodeError};
 use spv_module::{Inst, Module, Operand};
@@ -76,14 +77,22 @@ pub fn text_line(out: &mut String, key: &str, text: &str) -> Result<(), AllocErr
     out.push_str("\n")
 }
 
-/// Adds a line for each line of a module's text after those of its header.
-fn text_lines(out: &mut String, key: &str, text: &str) -> Result<(), AllocError>
+/// Adds a line of an id.
+fn id_line(out: &mut String, key: &str, id: u32) -> Result<(), AllocError>
     ensures { OnOk result (Adds [] (string_bytes out.old) (string_bytes out.new)) }
 {
-    for line in text.lines().skip(HEADER_LINES) {
-        text_line(out, key, line)?;
+    out.push_str(key)?;
+    out.push_str(":")?;
+    push_id(out, id)?;
+    out.push_str("\n")
+}
+
+/// The line that is to be told at a place, if one is.
+fn line_of<'t>(shown: &[&'t str], lines: &[Option<usize>], at: usize) -> Option<&'t str> {
+    match lines.get(at) {
+        Some(Some(line)) => shown.get(*line).copied(),
+        _ => None,
     }
-    Ok(())
 }
 
 /// Adds a line of a number.
@@ -256,12 +265,25 @@ impl<'m, 'a> About<'m, 'a> {
         }
     }
 
-    /// Adds the names of opcodes, each after a space.
+    /// Adds a space and the name of an opcode. Nothing where the grammar has none.
+    fn push_named(&self, out: &mut String, opcode: u16) -> Result<(), AllocError>
+        ensures { OnOk result (Adds [] (string_bytes out.old) (string_bytes out.new)) }
+    {
+        match self.table.entry(opcode) {
+            Some(entry) => {
+                out.push_str(" ")?;
+                out.push_str(entry.name.as_str())
+            }
+            None => Ok(()),
+        }
+    }
+
+    /// Adds the names of opcodes, each after a space, but for those of which the grammar has none.
     pub fn push_opcodes(&self, out: &mut String, opcodes: &[u32]) -> Result<(), AllocError>
         ensures { OnOk result (Adds [] (string_bytes out.old) (string_bytes out.new)) }
     {
         for opcode in opcodes {
-            self.push_opcode(out, (*opcode & 0xffff) as u16)?;
+            self.push_named(out, (*opcode & 0xffff) as u16)?;
         }
         Ok(())
     }
@@ -311,56 +333,37 @@ impl<'m, 'a> About<'m, 'a> {
         Some(&self.table.enumerant(kind, value)?.capabilities)
     }
 
-    /// An empty list.
-    pub fn list(&self) -> Vec<u32> {
-        Vec::new(self.alloc)
-    }
-
-    /// Of each id below the bound the number of the first instruction that has it as its result, or the greatest number.
-    pub fn definitions(&self) -> Result<Vec<u32>, AllocError> {
-        let mut found = vec![in self.alloc; u32::MAX; self.module.header.bound as usize]?;
-        let mut at = 0u32;
-        for inst in &self.module.insts {
-            if let Some(id) = inst.result_id() {
-                if let Some(place) = found.get_mut(id as usize) {
-                    *place = (*place).min(at);
-                }
-            }
-            at = at.saturating_add(1);
-        }
-        Ok(found)
-    }
-
-    /// A small module of the instructions that have these ids as results.
-    fn gathered(&self, ids: &[u32], definitions: &[u32]) -> Result<Module<'a>, Memory> {
+    /// A small module of these instructions.
+    fn gathered(&self, insts: &[u32]) -> Result<Module<'a>, Memory> {
         let mut small = Module::new(self.alloc, self.module.header);
-        for id in ids {
-            if let Some(place) = definitions.get(*id as usize) {
-                if let Some(inst) = self.inst(*place) {
-                    small.push(inst.opcode, inst.operands.as_slice())?;
-                }
+        for at in insts {
+            if let Some(inst) = self.inst(*at) {
+                small.push(inst.opcode, inst.operands.as_slice())?;
             }
         }
         Ok(small)
     }
 
-    /// Adds a line for each id: the instruction that has it as its result.
-    pub fn defined_lines(
-        &self,
-        out: &mut String,
-        key: &str,
-        ids: &[u32],
-        definitions: &[u32],
-    ) -> Result<(), AllocError>
+    /// Adds a line for each id: the first time the instruction that has it as its result, and after that the id alone.
+    pub fn defined_lines(&self, out: &mut String, key: &str, ids: &[u32]) -> Result<(), AllocError>
         ensures { OnOk result (Adds [] (string_bytes out.old) (string_bytes out.new)) }
     {
-        let Ok(small) = self.gathered(ids, definitions) else {
+        let Told { insts, lines } = told_once(self.alloc, self.module, ids)?;
+        let Ok(small) = self.gathered(&insts) else {
             return Err(AllocError);
         };
-        match self.shown(&small)? {
-            Some(text) => text_lines(out, key, text.as_str()),
-            None => Ok(()),
+        let text = match self.shown(&small)? {
+            Some(text) => text,
+            None => String::new(self.alloc),
+        };
+        let shown: Vec<&str> = text.lines().skip(HEADER_LINES).collect(self.alloc)?;
+        for at in 0..ids.len() {
+            match line_of(&shown, &lines, at) {
+                Some(line) => text_line(out, key, line)?,
+                None => id_line(out, key, ids[at])?,
+            }
         }
+        Ok(())
     }
 
     /// Adds a line of the instruction that has an id as its result.

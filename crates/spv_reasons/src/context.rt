@@ -4,7 +4,11 @@ use spv_module::{Inst, Module, Operand};
 use spv_table::Memory;
 use std::alloc::Global;
 
-/// The opcode of OpSwitch.
+/// The opcodes of OpTypeInt, OpTypeFloat and OpSwitch.
+const TYPE_INT: u16 = 21;
+
+const TYPE_FLOAT: u16 = 22;
+
 const SWITCH: u16 = 251;
 
 /// The last instruction before `end` that has the id as its result.
@@ -17,10 +21,14 @@ fn last_before(insts: &[Inst<'_>], end: usize, id: u32) -> Option<usize> {
     None
 }
 
-/// The last instruction before `at` that declares the type of that instruction's result.
+/// The last instruction before `at` that declares the type of that instruction's result, if it tells a width.
 fn type_before(insts: &[Inst<'_>], at: usize) -> Option<usize> {
     let id = insts.get(at)?.type_id()?;
-    last_before(insts, at, id)
+    let found = last_before(insts, at, id)?;
+    match insts.get(found)?.opcode {
+        TYPE_INT | TYPE_FLOAT => Some(found),
+        _ => None,
+    }
 }
 
 /// The instruction that defines the value by which an OpSwitch branches.

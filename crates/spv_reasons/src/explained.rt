@@ -1,7 +1,7 @@
 //! The verdict on the words of a module, with what shows a fault.
 ghost use Rattle.std.specs.Prelude.{IfOk};
 ghost use Rattle.spv_verdict.specs.Answer.{IsAnswer};
-ghost use Rattle.spv_reasons.specs.Explained.{IsShown, verdict_in};
+ghost use Rattle.spv_reasons.specs.Explained.{IsShown, IsShownDead, verdict_in};
 ghost use Rattle.spv_reasons.specs.inner.Reading.{IsReading};
 
 use crate::judged::{Judged, judge};
@@ -11,6 +11,7 @@ use spv_layout::laws::word_counts;
 use spv_module::{Fault, Module, Stop};
 use spv_table::{Memory, Table};
 use spv_verdict::Checked;
+use spv_word_reasons::word_evidence;
 use spv_words::{Image, word};
 use std::alloc::Global;
 
@@ -28,10 +29,12 @@ pub enum Explained<'a> {
 pub enum Reading<'a> {
     /// No rule is broken.
     Valid(Checked<'a>),
-    /// The words spell no list of instructions. The place is that of the first word of the instruction that fails.
+    /// The words spell no list of instructions. The place is that of the first word of the instruction that fails, and the evidence
+    /// shows that it does.
     Malformed {
         fault: Fault,
         place: u32,
+        evidence: Evidence,
     },
     /// The first rule that a module breaks, and what shows it.
     Broken {
@@ -53,15 +56,6 @@ fn first_word(image: &Image, inst: u32) -> u32 {
     at
 }
 
-/// The opcode that a word tells, 0 where there is no such word.
-fn opcode_at(image: &Image, place: u32) -> u16 {
-    if place < image.len() {
-        (word(image, place) & 0xffff) as u16
-    } else {
-        0
-    }
-}
-
 /// Reads the words of a module as `explain` does, and keeps what was read.
 ///
 /// `Memory` comes only where a growth of memory was refused.
@@ -73,9 +67,11 @@ pub fn reading_of<'a>(alloc: Global, table: &Table, image: &'a Image) -> Result<
     let module = match decode(alloc, table, image) {
         Ok(module) => module,
         Err(Stop::Fault(fault)) => {
+            let evidence = word_evidence(alloc, table, image, fault)?;
             return Ok(Reading::Malformed {
                 fault,
                 place: first_word(image, fault.inst),
+                evidence,
             });
         }
         Err(Stop::Memory) => return Err(Memory),
@@ -95,8 +91,7 @@ pub fn reading_of<'a>(alloc: Global, table: &Table, image: &'a Image) -> Result<
 }
 
 /// The verdict on the words of a module, under a grammar table, just as `check` answers it; and of a fault what shows that the rule is broken there.
-/// A fault of the stages D to G always comes with evidence that shows it by itself. Of a fault of the stages I, P and L the evidence is
-/// the opcode of the instruction.
+/// A fault of the stages I to G always comes with evidence that shows it by itself.
 ///
 /// Time is linear in the words of the module besides what `check` takes, and at most as much again.
 ///
@@ -104,17 +99,20 @@ pub fn reading_of<'a>(alloc: Global, table: &Table, image: &'a Image) -> Result<
 pub fn explain<'a>(alloc: Global, table: &Table, image: &'a Image) -> Result<Explained<'a>, Memory>
     // The verdict is that of `check`.
     ensures verdict { IfOk result (λ e. IsAnswer table.now image.now (verdict_in e)) }
-    // A fault of the stages D to G is shown.
+    // A fault of the stages P to G is shown.
     ensures shown { IfOk result (λ e. IsShown table.now image.now e) }
+    // So is that of words that spell no list of instructions.
+    ensures dead { IfOk result (λ e. IsShownDead table.now image.now e) }
 {
     one_listing();
     listed_or_dead();
     match reading_of(alloc, table, image)? {
         Reading::Valid(checked) => Ok(Explained::Valid(checked)),
-        Reading::Malformed { fault, place } => {
-            let opcode = opcode_at(image, place);
-            Ok(Explained::Fault(fault, Evidence::Opcode { opcode }))
-        }
+        Reading::Malformed {
+            fault,
+            evidence,
+            ..
+        } => Ok(Explained::Fault(fault, evidence)),
         Reading::Broken {
             fault,
             evidence,

@@ -3,6 +3,7 @@ ghost use Rattle.std.specs.Prelude.{◌+◌, ◌≤◌, ℕ, sum_by, IfOk};
 ghost use Rattle.spv_table.specs.Table.{Table};
 ghost use Rattle.spv_module.specs.Module.{plain_insts};
 ghost use Rattle.spv_layout.specs.Place.{word_count};
+ghost use Rattle.spv_layout.specs.Plan as layout_outcome;
 ghost use Rattle.spv_layout.specs.Plan.{IsPlan};
 ghost use Rattle.spv_ids.specs.Outcome.{AreIds};
 ghost use Rattle.spv_ids.specs.Outcome as id_outcome;
@@ -10,7 +11,7 @@ ghost use Rattle.spv_types.specs.Outcome as type_outcome;
 ghost use Rattle.spv_flow.specs.Outcome as flow_outcome;
 ghost use Rattle.spv_verdict.specs.Broken.{IsTold};
 ghost use Rattle.spv_module.specs.declared.fault.Stop.TheVariants as stops;
-ghost use Rattle.spv_reasons.specs.inner.Judged.{IsEarly, IsJudged, IsShownAt};
+ghost use Rattle.spv_reasons.specs.inner.Judged.{IsJudged, IsShownAt};
 
 use crate::kinds::{is_of_calls, is_of_capabilities, is_of_roles, is_of_values};
 use spv_branch_reasons::branch_evidence;
@@ -22,6 +23,7 @@ use spv_id_reasons::{id_evidence, role_evidence};
 use spv_ids::{Ids, number};
 use spv_layout::laws::member_or_dead;
 use spv_layout::{Plan, lay_out};
+use spv_layout_reasons::layout_evidence;
 use spv_module::{Fault, Module, Stop};
 use spv_table::{Memory, Table};
 use spv_type_reasons::type_evidence;
@@ -43,24 +45,19 @@ pub enum Judged<'a> {
     },
 }
 
-/// The opcode of an instruction, 0 where there is none.
-fn opcode_of(module: &Module<'_>, inst: u32) -> u16 {
-    match module.insts.as_slice().get(inst as usize) {
-        Some(inst) => inst.opcode,
-        None => 0,
-    }
-}
-
 /// A fault of the shapes and the layout.
-fn misplaced<'a>(module: Module<'a>, stop: Stop) -> Result<Judged<'a>, Memory>
-    ensures { (G : Table) (bound : ℕ) → IsTold G bound (plain_insts «module».entry) stop → IsEarly stop → IfOk result (λ j. IsJudged G bound (plain_insts «module».entry) j) }
+fn misplaced<'a>(alloc: Global, module: Module<'a>, stop: Stop) -> Result<Judged<'a>, Memory>
+    requires refused { (G : Table) × layout_outcome.IsRefusal G (plain_insts «module») stop }
+    ensures { (G : Table) (bound : ℕ) → layout_outcome.IsRefusal G (plain_insts «module».entry) stop
+        → IsTold G bound (plain_insts «module».entry) stop
+        → IfOk result (λ j. IsJudged G bound (plain_insts «module».entry) j) }
 {
     match stop {
         Stop::Fault(fault) => {
-            let opcode = opcode_of(&module, fault.inst);
+            let evidence = layout_evidence(alloc, &module, fault.rule, fault.inst)?;
             Ok(Judged::Fault {
                 fault,
-                evidence: Evidence::Opcode { opcode },
+                evidence,
                 module,
             })
         }
@@ -203,7 +200,7 @@ pub fn judge<'a>(alloc: Global, table: &Table, module: Module<'a>) -> Result<Jud
     member_or_dead();
     let plan = match lay_out(alloc, table, &module) {
         Ok(plan) => plan,
-        Err(stop) => return misplaced(module, stop),
+        Err(stop) => return misplaced(alloc, module, stop),
     };
     let ids = match number(alloc, &module, &plan) {
         Ok(ids) => ids,

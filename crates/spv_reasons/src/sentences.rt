@@ -11,7 +11,7 @@ pub fn word_sentence(code: WordError) -> &'static str {
         WordError::W3 => "A module is a sequence of words: its bytes are a multiple of four. [2.3]",
         WordError::W4 =>
             "The first word is the magic number 0x07230203, in one of two byte orders. [2.3]",
-        WordError::W5 => "The version, word 1, is 1.6. [2.3; own]",
+        WordError::W5 => "The version, word 1, is 1.6: 0x00010600. [2.3; own]",
         WordError::W6 => "The schema, word 4, is 0. [2.3]",
         WordError::W7 => "The bound of ids, word 3, is from 1 to 4,194,303. [2.3; own]",
         WordError::W8 => "A module has at most 16,777,216 bytes. [own]",
@@ -24,11 +24,12 @@ fn inst_sentence(rule: Rule) -> &'static str {
     match rule {
         Rule::I1 => "An instruction has at least one word. [2.3]",
         Rule::I2 => "An instruction ends within the module. [2.3]",
-        Rule::I3 => "An instruction's opcode is one of the grammar. [3.49]",
+        Rule::I3 =>
+            "The grammar file has an instruction with this opcode, the low half of the first word. [3.49]",
         Rule::I4 => "An instruction has all operands that the grammar asks for. [2.3]",
         Rule::I5 => "An instruction has no words after its last operand. [2.3]",
-        Rule::I6 => "A value is that of an enumerant of its kind. [3]",
-        Rule::I7 => "Each bit of a mask is that of an enumerant of its kind. [3]",
+        Rule::I6 => "A value is one that its kind has in the grammar file. [3]",
+        Rule::I7 => "Each bit of a mask is one that its kind has in the grammar file. [3]",
         Rule::I8 => "A string ends with a zero octet within its instruction. [2.2.1]",
         Rule::I9 =>
             "After the zero octet that ends a string the rest of its last word is zero. [2.2.1]",
@@ -43,8 +44,9 @@ fn inst_sentence(rule: Rule) -> &'static str {
 fn module_sentence(rule: Rule) -> &'static str {
     match rule {
         Rule::P1 =>
-            "An instruction is one of the profile, and has operands of the shape that it asks for. [own]",
-        Rule::L1 => "Instructions stand in the order of sections, functions and blocks. [2.4]",
+            "The instruction is one that this checker knows (docs/PROFILE.md, 'Shapes of the instructions'), with the operands of its row. [own]",
+        Rule::L1 =>
+            "Instructions stand in the order of sections, functions and blocks; a block ends with its branch, return or OpUnreachable before the next OpLabel. [2.4]",
         Rule::L2 => "A module has its memory model, and each function and block its end. [2.4]",
         Rule::D1 => "An id is not 0, and below the bound. [2.3]",
         Rule::D2 => "An id is the result of one instruction only. [2.16]",
@@ -53,27 +55,30 @@ fn module_sentence(rule: Rule) -> &'static str {
             "Outside functions an id is used after the instruction whose result it is. [2.4]",
         Rule::D5 => "An id that is defined in a function is used in that function alone. [2.16]",
         _ =>
-            "An id is used as what it is: a type, a value, a function, a string, a set, a global. [2.16; own]",
+            "An id is used in the role that it has: type, value, function, string, instruction set or global variable. [2.16; own]",
     }
 }
 
 /// What a rule on capabilities, entry points or types says.
 fn type_sentence(rule: Rule) -> &'static str {
     match rule {
-        Rule::C1 => "The module has the capability Kernel, and not Shader. [2.16.1; own]",
+        Rule::C1 =>
+            "It is a kernel module: the capability Kernel is declared or implied, and Shader is not. [2.16.1; own]",
         Rule::C2 =>
-            "What lists capabilities, or needs one for a width or a count, has one of them. [3.31]",
+            "What needs a capability has one of those it lists declared or implied: an instruction, a value, a width or a count. [3.31]",
         Rule::M1 =>
             "The addressing model is Physical32 or Physical64, and the memory model OpenCL. [3.4, 3.5; own]",
         Rule::E1 => "The module has an entry point, or the capability Linkage. [2.16.1]",
         Rule::E2 => {
-            "An entry point is a kernel that is defined, returns void and is never called; modes are of entry points; a function is imported where it has no body. [2.16.1]"
+            "An entry point is a kernel that is defined, returns void and is never called; OpExecutionMode names an entry point; a function without a body has linkage Import, and one with a body has not. [2.16.1]"
         }
-        Rule::Y2 => "A type is declared with operands that it may have. [3.49.6]",
+        Rule::Y2 =>
+            "A type has a width, signedness (0), count, length and parts that it may have: see `spv rules Y2`. [3.49.6]",
         Rule::Y3 => "A type other than an array, a struct or a pointer is declared once. [2.8]",
         Rule::Y4 =>
-            "A constant is of its type, and made of constants of the types at their places. [3.49.7]",
-        Rule::Y5 => "An operation's result and operands have types that it takes. [3.49]",
+            "A constant fits its type: a bool, a number within its width, or one constituent of the right type for each part. [3.49.7]",
+        Rule::Y5 =>
+            "The types of the result and the operands are those that the operation takes: docs/PROFILE.md, 'Operations'. [3.49]",
         Rule::Y6 =>
             "A function and its parameters have the types that its function type names. [3.49.9]",
         Rule::Y7 =>
@@ -92,8 +97,10 @@ fn flow_sentence(rule: Rule) -> &'static str {
         Rule::F4 => "The two labels of OpBranchConditional are different. [3.49.17]",
         Rule::A1 =>
             "A value is defined, on every walk through the function, before it is used. [2.16]",
-        Rule::A2 => "A value of OpPhi is defined on every walk that comes from its parent. [2.16]",
-        _ => "No call is on a cycle of calls that an entry point reaches. [own]",
+        Rule::A2 =>
+            "A value that OpPhi pairs with a parent is defined on every walk to that parent's end. [2.16]",
+        _ =>
+            "Functions that an entry point reaches do not call each other in a cycle: no recursion. [own]",
     }
 }
 

@@ -16,7 +16,7 @@ use crate::about::About;
 use crate::explained::{Reading, reading_of};
 use crate::place::{block_of, function_of};
 use crate::sentences::{sentence, word_sentence};
-use crate::told::evidence_lines;
+use crate::told::{due_lines, evidence_lines};
 use spv_evidence::Evidence;
 use spv_inst::{listed_or_dead, one_death, one_listing};
 use spv_module::{Fault, Module, Rule};
@@ -114,12 +114,14 @@ fn push_words(out: &mut String, image: &Image, from: u32, to: u32) -> Result<(),
 }
 
 /// The verdict of words that are no list of instructions, and its lines: with the words of the instruction that fails, as many as its
-/// first word counts.
+/// first word counts, and the operand that fails.
 fn malformed_told(
     alloc: Global,
+    table: &Table,
     image: &Image,
     fault: Fault,
     place: u32,
+    evidence: &Evidence,
 ) -> Result<Told, AllocError>
     ensures { IfOk result (λ t. t.judgment ≡ judgments.Broken fault) }
 {
@@ -127,6 +129,7 @@ fn malformed_told(
     lines.push_str("words:")?;
     push_words(&mut lines, image, place, end_of(image, place))?;
     lines.push_str("\n")?;
+    due_lines(table, &mut lines, evidence)?;
     Ok(Told {
         judgment: Judgment::Broken(fault),
         lines,
@@ -157,7 +160,13 @@ fn told_by(alloc: Global, table: &Table, image: &Image) -> Result<Told, AllocErr
             judgment: Judgment::Valid,
             lines: String::new(alloc),
         }),
-        Ok(Reading::Malformed { fault, place }) => malformed_told(alloc, image, fault, place),
+        Ok(
+            Reading::Malformed {
+                fault,
+                place,
+                evidence,
+            },
+        ) => malformed_told(alloc, table, image, fault, place, &evidence),
         Ok(
             Reading::Broken {
                 fault,

@@ -9,6 +9,7 @@ ghost use Rattle.spv_reasons.specs.inner.Adding.{Adds};
 use crate::about::{About, number_line, push_names, text_line};
 use crate::needs::needs_of;
 use spv_evidence::{EntryPart, Evidence, Lister, Role, Side, Typed};
+use spv_table::Table;
 use std::alloc::AllocError;
 
 /// The name of a role.
@@ -97,7 +98,6 @@ fn types_lines(
 ) -> Result<(), AllocError>
     ensures { OnOk result (Adds [] (string_bytes out.old) (string_bytes out.new)) }
 {
-    let definitions = about.definitions()?;
     let mut types = Vec::new(about.alloc);
     if let Some(id) = of_result {
         types.push(id)?;
@@ -105,7 +105,7 @@ fn types_lines(
     for value in values {
         types.push(value.of)?;
     }
-    about.defined_lines(out, "type", types.as_slice(), definitions.as_slice())
+    about.defined_lines(out, "type", types.as_slice())
 }
 
 /// Adds a line of one of two things that are to be the same: a count, or a type.
@@ -132,7 +132,7 @@ fn side_line(about: About<'_, '_>, out: &mut String, side: Side) -> Result<(), A
     match side {
         Side::Function => text_line(out, "place", "function type"),
         Side::Return => text_line(out, "place", "return type"),
-        Side::Number => text_line(out, "place", "number"),
+        Side::Number => text_line(out, "place", "number of parameters or arguments"),
         Side::Parameter { number } => number_line(out, "parameter", number),
         Side::Argument { number } => number_line(out, "argument", number),
     }
@@ -198,7 +198,7 @@ fn walk_lines(
     about.results_line(out, "walk", walk)
 }
 
-/// Adds the lines of the classes that may come.
+/// Adds the line of the opcodes that may come, by their names in the grammar.
 fn may_come_line(
     about: About<'_, '_>,
     out: &mut String,
@@ -246,6 +246,24 @@ fn opcode_line(about: About<'_, '_>, out: &mut String, opcode: u16) -> Result<()
     out.push_str("opcode:")?;
     about.push_opcode(out, opcode)?;
     out.push_str("\n")
+}
+
+/// Adds the lines of the operand of an instruction that fails, and of the kind that is due there. For other evidence than that there is
+/// none.
+pub fn due_lines(table: &Table, out: &mut String, evidence: &Evidence) -> Result<(), AllocError>
+    ensures { OnOk result (Adds [] (string_bytes out.old) (string_bytes out.new)) }
+{
+    let Evidence::Due { operand, kind, .. } = evidence else {
+        return Ok(());
+    };
+    number_line(out, "operand", *operand)?;
+    let Some(number) = kind else {
+        return text_line(out, "due", "nothing");
+    };
+    match table.kind(*number) {
+        Some(kind) => text_line(out, "due", kind.name.as_str()),
+        None => number_line(out, "due", *number),
+    }
 }
 
 /// Adds the line of a capability that is implied and may not be, or is not and must be.

@@ -1,8 +1,8 @@
 //! The lines that explain faults, of modules whose faults are known.
 
 use crate::modules::{
-    CYCLE_OF_TWO_FUNCTIONS, LABEL_WITH_THE_ID_OF_THE_FUNCTION, PHI_WITH_CROSSED_VALUES,
-    VALUE_MISSING_ON_ONE_BRANCH,
+    CYCLE_OF_TWO_FUNCTIONS, KERNEL_WITHOUT_ITS_END, LABEL_WITH_THE_ID_OF_THE_FUNCTION,
+    PHI_WITH_CROSSED_VALUES, VALUE_MISSING_ON_ONE_BRANCH,
 };
 use spv_grammar::{FromGrammar, Table};
 use spv_reasons::{Evidence, Explained, explain, explain_stream};
@@ -40,6 +40,15 @@ fn lines_of_a_walk(rt: HostRuntime) -> Result<(), Fail> {
         rt.alloc(),
         VALUE_MISSING_ON_ONE_BRANCH,
         "fault A1 inst 19 word 61\nrule: A value is defined, on every walk through the function, before it is used. [2.16]\nat: %18 = OpIAdd %2 %17 %11\nin: function %10, block %16\noperand: 2 %17\ndefined: inst 14, %17 = OpIAdd %2 %11 %11\nwalk: %13 %15 %16\n",
+    )
+}
+
+#[test]
+fn lines_of_what_may_come(rt: HostRuntime) -> Result<(), Fail> {
+    are_lines(
+        rt.alloc(),
+        KERNEL_WITHOUT_ITS_END,
+        "fault L2 inst 9 word 29\nrule: A module has its memory model, and each function and block its end. [2.4]\nmay come: OpLine OpFunctionEnd OpLabel OpNoLine\n",
     )
 }
 

@@ -6,7 +6,7 @@ ghost use Rattle.spv_roles.specs.Asked as spec;
 use spv_layout::Role;
 
 /// The roles that the `Id` operands of an instruction are asked to play. Each `Type` operand is asked to be a type.
-#[derive(Clone, Copy, Debug)]
+#[derive(Clone, Copy)]
 pub struct Asked {
     /// The role of the first `Id` operand.
     pub first: Role,

@@ -32,7 +32,7 @@ const RETURN_VALUE: u16 = 254;
 const UNREACHABLE: u16 = 255;
 
 /// What an instruction of a function's body does to a run. Numbers are those of instructions.
-#[derive(Clone, Copy, Debug)]
+#[derive(Clone, Copy)]
 pub enum Move {
     /// Goes on to the next.
     On,

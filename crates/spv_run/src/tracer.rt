@@ -7,7 +7,7 @@ use spv_module::Inst;
 use std::alloc::{AllocError, Global};
 
 /// Where a run stands, where the calls that it is in go on, the last one last, and how many choices it took.
-#[derive(Debug, Drop)]
+#[derive(Drop)]
 struct Walker {
     position: u32,
     callers: Vec<u32>,
@@ -15,7 +15,7 @@ struct Walker {
 }
 
 /// What comes of an instruction: a step, a last step, or an end before the step.
-#[derive(Clone, Copy, Debug)]
+#[derive(Clone, Copy)]
 enum Turn {
     Goes,
     Last(Ending),

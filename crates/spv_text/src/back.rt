@@ -192,7 +192,7 @@ fn put_cell(
 }
 
 /// Where the operands of a line begin, and whether a result is among them.
-#[derive(Clone, Copy, Debug)]
+#[derive(Clone, Copy)]
 struct Cells {
     at: usize,
     passed: bool,

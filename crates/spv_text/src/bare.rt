@@ -29,7 +29,7 @@ use spv_tokens::{behind, read_front, split_around, split_token};
 use std::alloc::AllocError;
 
 /// What is left of a line behind an operand that is no result.
-#[derive(Clone, Copy, Debug)]
+#[derive(Clone, Copy)]
 struct Bare<'t, 'a> {
     /// The kinds of the operand's parameters, in order.
     kinds: &'t [u32],
@@ -37,7 +37,7 @@ struct Bare<'t, 'a> {
 }
 
 /// What is left of a line behind what it begins with.
-#[derive(Clone, Copy, Debug)]
+#[derive(Clone, Copy)]
 pub struct Front<'t, 'a> {
     /// What is to be kept of the operands. None where they have no result.
     pub kept: Option<Ids>,

@@ -29,7 +29,7 @@ use spv_tokens::{Quotation, behind, read_unescaped, split_token};
 use std::alloc::AllocError;
 
 /// The kind that is due next, and what is due behind it.
-#[derive(Clone, Copy, Debug)]
+#[derive(Clone, Copy)]
 struct Next<'t> {
     kind: u32,
     /// The kinds of parameters that are due behind it, in order.
@@ -39,7 +39,7 @@ struct Next<'t> {
 }
 
 /// What is left of a line behind an operand.
-#[derive(Clone, Copy, Debug)]
+#[derive(Clone, Copy)]
 struct Taken<'t, 'a> {
     /// The kinds of its parameters, in order.
     kinds: &'t [u32],

@@ -60,7 +60,7 @@ pub struct Source<'t, 'd, 'a> {
 }
 
 /// The operands of a line that are in the buffer.
-#[derive(Clone, Copy, Debug)]
+#[derive(Clone, Copy)]
 pub struct Cells {
     /// Where they end.
     at: usize,
@@ -71,7 +71,7 @@ pub struct Cells {
 }
 
 /// The operands of a line with one more, which takes so many words, and the kinds of its parameters, which are due after it.
-#[derive(Clone, Copy, Debug)]
+#[derive(Clone, Copy)]
 struct Piece<'t> {
     cells: Cells,
     words: u32,
@@ -79,7 +79,7 @@ struct Piece<'t> {
 }
 
 /// The operands at the front of a line that are in the buffer, and what is left behind them.
-#[derive(Clone, Copy, Debug)]
+#[derive(Clone, Copy)]
 struct Part<'t> {
     cells: Cells,
     /// The items left of the pattern.
@@ -89,7 +89,7 @@ struct Part<'t> {
 }
 
 /// An instruction whose line was added.
-#[derive(Clone, Copy, Debug)]
+#[derive(Clone, Copy)]
 pub struct Direct {
     /// The number of the word behind it.
     pub end: u32,

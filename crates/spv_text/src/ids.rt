@@ -9,7 +9,7 @@ ghost use Rattle.spv_text.specs.Begun.{IsOfOperands};
 use spv_module::Operand;
 
 /// How the operands of an instruction begin, as far as the width of a type needs it.
-#[derive(Clone, Copy, Debug, PartialEq, Eq)]
+#[derive(Clone, Copy, PartialEq, Eq)]
 pub enum Beginning {
     /// There is no operand.
     Nothing,
@@ -22,7 +22,7 @@ pub enum Beginning {
 }
 
 /// Ids of an instruction, and how its operands begin.
-#[derive(Clone, Copy, Debug, PartialEq, Eq)]
+#[derive(Clone, Copy, PartialEq, Eq)]
 pub struct Ids {
     /// Its first result.
     pub result: Option<u32>,

@@ -13,7 +13,7 @@ use spv_table::Entry;
 use spv_tokens::split_before;
 
 /// A line's parts, and the instruction that its name stands for.
-#[derive(Clone, Copy, Debug)]
+#[derive(Clone, Copy)]
 pub struct Named<'t, 'a> {
     pub parts: Parts<'a>,
     pub opcode: u16,
@@ -21,7 +21,7 @@ pub struct Named<'t, 'a> {
 }
 
 /// The instruction of the last line that bore the name of its entry.
-#[derive(Clone, Copy, Debug)]
+#[derive(Clone, Copy)]
 pub struct Last<'t> {
     pub opcode: u16,
     pub entry: &'t Entry,

@@ -44,7 +44,7 @@ fn first_word(octets: &[u8]) -> Option<(u32, &[u8])>
 }
 
 /// The last octets of a text in quotes.
-#[derive(Clone, Copy, Debug)]
+#[derive(Clone, Copy)]
 struct Tail {
     /// How many octets they are, up to three.
     count: usize,

@@ -17,7 +17,7 @@ use spv_module::Operand;
 use spv_table::Table;
 
 /// A value or a mask that was read, and the octets of the token that stood for it.
-#[derive(Clone, Copy, Debug)]
+#[derive(Clone, Copy)]
 pub struct Noted<'t, 'a> {
     kind: u32,
     token: &'a [u8],

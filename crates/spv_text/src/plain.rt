@@ -24,7 +24,7 @@ use spv_tokens::{Cell, behind, read_front};
 use std::alloc::AllocError;
 
 /// A line behind some of its operands.
-#[derive(Clone, Copy, Debug)]
+#[derive(Clone, Copy)]
 pub struct Behind<'t, 'a> {
     /// The items left of the pattern.
     pub items: &'t [Item],
@@ -35,7 +35,7 @@ pub struct Behind<'t, 'a> {
 }
 
 /// An operand of one word, and what is left behind it.
-#[derive(Clone, Copy, Debug)]
+#[derive(Clone, Copy)]
 pub struct Step<'a> {
     pub word: u32,
     pub rest: &'a str,

@@ -37,7 +37,7 @@ use spv_tokens::{Misread, is_plain, read_behind, split_around, split_before, spl
 use std::alloc::AllocError;
 
 /// What a line is divided into.
-#[derive(Clone, Copy, Debug)]
+#[derive(Clone, Copy)]
 pub struct Parts<'a> {
     /// What stands in front of ` = `, where the line begins with `%`.
     pub result: Option<&'a str>,
@@ -47,7 +47,7 @@ pub struct Parts<'a> {
 }
 
 /// A line that was read.
-#[derive(Clone, Copy, Debug)]
+#[derive(Clone, Copy)]
 pub struct Line {
     /// The opcode of its instruction.
     pub opcode: u16,

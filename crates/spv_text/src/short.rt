@@ -15,7 +15,7 @@ use spv_words::Image;
 const SHORT: usize = 64;
 
 /// A text that was put.
-#[derive(Clone, Copy, Debug)]
+#[derive(Clone, Copy)]
 pub struct Put {
     /// Where it ends.
     pub at: usize,

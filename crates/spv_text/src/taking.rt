@@ -27,14 +27,14 @@ use spv_tokens::{Misread, behind, read_quoted, split_token};
 use std::alloc::AllocError;
 
 /// What is left of a line behind an operand, and the ids of the operands up to it.
-#[derive(Clone, Copy, Debug)]
+#[derive(Clone, Copy)]
 pub struct Front<'a> {
     pub rest: &'a str,
     pub ids: Ids,
 }
 
 /// What is known of a line where an operand is due.
-#[derive(Clone, Copy, Debug)]
+#[derive(Clone, Copy)]
 pub struct Place {
     /// The opcode of its instruction.
     pub opcode: u16,
@@ -45,7 +45,7 @@ pub struct Place {
 }
 
 /// What is made of a line's operands.
-#[derive(Debug, Drop)]
+#[derive(Drop)]
 pub struct Desk<'t> {
     /// What is due.
     pub agenda: Agenda<'t>,

@@ -14,7 +14,7 @@ use spv_inst::due::{Form, Leaf};
 use spv_table::Table;
 
 /// What stands in a line for a word, and the kinds of the parameters that are due after it.
-#[derive(Clone, Copy, Debug)]
+#[derive(Clone, Copy)]
 pub struct Label<'t> {
     pub name: &'t str,
     pub kinds: &'t [u32],

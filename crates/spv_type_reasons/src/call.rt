@@ -18,7 +18,7 @@ use spv_ops::Definitions;
 use spv_type_rules::signature;
 
 /// An argument, by its number from 0, and the types that are wanted and found there.
-#[derive(Clone, Copy, Debug)]
+#[derive(Clone, Copy)]
 struct Argument {
     number: u32,
     wanted: u32,
@@ -103,7 +103,7 @@ fn call_difference(
 }
 
 /// The operands of an OpFunctionCall.
-#[derive(Clone, Copy, Debug)]
+#[derive(Clone, Copy)]
 struct Call<'o, 'a> {
     result_type: u32,
     result: u32,

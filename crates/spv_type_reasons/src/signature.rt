@@ -14,7 +14,7 @@ use spv_ops::Definitions;
 use spv_type_rules::{function_type, signature};
 
 /// Where types or counts differ, and the ones that are wanted and found there, if any is. Types are ids.
-#[derive(Clone, Copy, Debug)]
+#[derive(Clone, Copy)]
 pub struct Difference {
     pub side: Side,
     pub wanted: Option<u32>,

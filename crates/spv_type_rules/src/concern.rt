@@ -6,7 +6,7 @@ ghost use Rattle.spv_type_rules.specs.Concern as spec;
 use crate::opcode::{FUNCTION, FUNCTION_CALL, PARAMETER, RETURN, RETURN_VALUE};
 
 /// The rules that speak of an instruction.
-#[derive(Clone, Copy, Debug, PartialEq, Eq)]
+#[derive(Clone, Copy, PartialEq, Eq)]
 pub enum Concern {
     /// Y2 and Y3: type declarations.
     Declaration,

@@ -15,7 +15,7 @@ use spv_module::{Inst, Operand};
 use spv_ops::{Definitions, Form, Scalar, after_head, count, id_count, is_data, parts_of, type_in};
 
 /// The constants by what they are made of (SPIR-V Specification 1.6, section 3.49.7), the spec forms too.
-#[derive(Clone, Copy, Debug, PartialEq, Eq)]
+#[derive(Clone, Copy, PartialEq, Eq)]
 pub enum Constant {
     Bool,
     Number,

@@ -14,7 +14,7 @@ use spv_module::{Inst, Operand};
 use spv_ops::{Definitions, Form, form_in, is_data, is_int, length};
 
 /// The type declarations that may be unsound (SPIR-V Specification 1.6, section 3.49.6).
-#[derive(Clone, Copy, Debug, PartialEq, Eq)]
+#[derive(Clone, Copy, PartialEq, Eq)]
 pub enum Declaration {
     Int,
     Float,

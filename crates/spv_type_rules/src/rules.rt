@@ -43,7 +43,7 @@ pub struct Rules<'m, 'a> {
 }
 
 /// What is known at an instruction of those before it.
-#[derive(Clone, Copy, Debug)]
+#[derive(Clone, Copy)]
 pub struct Known {
     /// Whether it declares a type again.
     pub repeats: bool,

@@ -14,7 +14,7 @@ use spv_type_rules::{Known, Rules, Seen, next_count};
 use std::alloc::Global;
 
 /// A broken rule, and its instruction.
-#[derive(Clone, Copy, Debug)]
+#[derive(Clone, Copy)]
 pub struct Found {
     pub rule: Rule,
     pub inst: u32,

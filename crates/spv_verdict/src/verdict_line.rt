@@ -8,7 +8,7 @@ use spv_module::{Fault, Rule};
 use spv_words::WordError;
 
 /// What a stream of bytes comes to.
-#[derive(Clone, Copy, Debug, PartialEq, Eq)]
+#[derive(Clone, Copy, PartialEq, Eq)]
 pub enum Judgment {
     /// No rule is broken.
     Valid,

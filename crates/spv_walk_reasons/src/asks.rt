@@ -16,7 +16,7 @@ use spv_walks::{other_id, pair_ask, use_ask};
 use std::alloc::{AllocError, Global};
 
 /// How an instruction takes values.
-#[derive(Clone, Copy, Debug)]
+#[derive(Clone, Copy)]
 pub enum Taking {
     /// Each operand is a use of its own.
     Uses,

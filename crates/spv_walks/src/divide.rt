@@ -14,7 +14,7 @@ use spv_module::Inst;
 use std::alloc::AllocError;
 
 /// How far a function goes.
-#[derive(Clone, Copy, Debug)]
+#[derive(Clone, Copy)]
 pub struct Extent {
     /// The instruction after its last one.
     pub end: u32,

@@ -1,5 +1,5 @@
 -- What the words of a module are read as, with what shows a fault. (For the code alone.)
-use Rattle.std.specs.Prelude.{◌≡◌, ℕ, List, drop, slice_index}
+use Rattle.std.specs.Prelude.{◌≡◌, ◌-◌, ℕ, List, drop, slice_index}
 use Rattle.spv_table.specs.Table.{Table}
 use Rattle.spv_module.specs.Module.{plain_insts}
 use Rattle.spv_module.specs.Instruction.{IsListing}
@@ -13,6 +13,7 @@ use Rattle.spv_verdict.specs.Checked.{IsChecked}
 use Rattle.spv_reasons.specs.declared.explained.Reading.{Reading}
 use Rattle.spv_reasons.specs.declared.explained.Reading.TheVariants.{Valid, Malformed, Broken}
 use Rattle.spv_reasons.specs.inner.Judged.{IsShownAt}
+use Rattle.spv_word_reasons.specs.Evidence as instructions
 
 -- The module is the one of the words, and this is its fault.
 pub record IsBrokenModule (G : Table) (words : List ℕ) (f : declared.Fault) (e : Evidence) (m : Module) : Type 0 where
@@ -23,5 +24,5 @@ pub record IsBrokenModule (G : Table) (words : List ℕ) (f : declared.Fault) (e
 -- The words are a valid module, or no list of instructions, or a module with a fault.
 abbrev pub IsReading : Table → List ℕ → Reading → Type 0
 IsReading G words (Valid c) = IsChecked G words c
-IsReading G words (Malformed f place) = IsDeath G words (stop.Fault f)
+IsReading G words (Malformed f place e) = IsDeath G words (stop.Fault f) × instructions.IsEvidence G (drop 5 words) f.rule f.inst (f.word - 5) e
 IsReading G words (Broken f e m) = IsBrokenModule G words f e m

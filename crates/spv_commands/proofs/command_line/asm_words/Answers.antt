@@ -2,7 +2,7 @@ use Rattle.std.proofs.Common.{◌≡◌, ◌∙◌, ◌∷◌, ◌++◌, [], fal
 use Rattle.std.proofs.lemmas.Result.{IfOk-weaker}
 use Rattle.clap.specs.Words.{App, Rule, Shape, rule_of, shape_of}
 use Rattle.clap.specs.declared.builder.command.Command.TheViews.{out-Command}
-use Rattle.spv_commands.specs.CommandLine.{big_flag, file_command, out_option}
+use Rattle.spv_commands.specs.CommandLine.{big_flag, file_command, file_word, out_option}
 use Rattle.spv_commands.proofs.command_line.asm_words.Goals as goal
 
 -- with one argument more
@@ -11,7 +11,7 @@ added s r = record s { rules = s.rules ++ r ∷ [] }
 
 pub returns-clause-shape : goal.returns-clause-shape
 returns-clause-shape c =
-    let named : shape_of c.in_ok-file_words.field-0 ≡ file_command (codes "asm") = c.in_ok-file_words.ensures.shape in
+    let named : shape_of c.in_ok-file_words.field-0 ≡ file_command (codes "asm") file_word = c.in_ok-file_words.ensures.shape in
     let out : rule_of c.help-out.result ≡ out_option = search rules in
     let big : rule_of c.help-big.result ≡ big_flag = search rules in
     let one = ap (λ (a : App). a.top) (c.in_ok-arg.ensures.shape (search rules)) ∙ ap₂ added named out in

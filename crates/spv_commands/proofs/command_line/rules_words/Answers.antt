@@ -8,11 +8,11 @@ use Rattle.spv_commands.proofs.command_line.rules_words.Goals as goal
 
 pub returns-clause-shape : goal.returns-clause-shape
 returns-clause-shape c =
-    let named : app_of c.about.result ≡ new_app (codes "rules") = ap app_of_fields c.about.ensures ∙ c.new-2.ensures.app in
+    let named : app_of c.after_help.result ≡ new_app (codes "rules") = ap app_of_fields c.after_help.ensures ∙ ap app_of_fields c.about.ensures ∙ c.new-2.ensures.app in
     let code : rule_of c.help-code.result ≡ code_word = search rules in
     IfOk-weaker c.arg.result _ _ (λ d h. ap (λ (a : App). a.top) (h.shape (search rules) ∙ ap₂ with_rule named code)) c.arg.ensures
 
 pub returns-clause-local : goal.returns-clause-local
 returns-clause-local c =
-    let named : (out-Command c.about.result).has_globals ≡ false = rw c.about.ensures c.new-2.ensures.local in
+    let named : (out-Command c.after_help.result).has_globals ≡ false = rw (c.after_help.ensures, c.about.ensures) c.new-2.ensures.local in
     IfOk-weaker c.arg.result _ _ (λ d h. rw (h.globals, named) (search rules)) c.arg.ensures

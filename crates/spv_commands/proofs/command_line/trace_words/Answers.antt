@@ -2,7 +2,7 @@ use Rattle.std.proofs.Common.{◌≡◌, ◌∙◌, ◌∷◌, ◌++◌, [], fal
 use Rattle.std.proofs.lemmas.Result.{IfOk-weaker}
 use Rattle.clap.specs.Words.{App, Rule, Shape, rule_of, shape_of}
 use Rattle.clap.specs.declared.builder.command.Command.TheViews.{out-Command}
-use Rattle.spv_commands.specs.CommandLine.{choices_option, file_command, function_option, limit_option}
+use Rattle.spv_commands.specs.CommandLine.{choices_option, file_command, file_word, function_option, limit_option}
 use Rattle.spv_commands.proofs.command_line.trace_words.Goals as goal
 
 -- with one argument more
@@ -11,7 +11,7 @@ added s r = record s { rules = s.rules ++ r ∷ [] }
 
 pub returns-clause-shape : goal.returns-clause-shape
 returns-clause-shape c =
-    let named : shape_of c.in_ok-file_words.field-0 ≡ file_command (codes "trace") = c.in_ok-file_words.ensures.shape in
+    let named : shape_of c.in_ok-file_words.field-0 ≡ file_command (codes "trace") file_word = c.in_ok-file_words.ensures.shape in
     let function : rule_of c.number_words-function.result ≡ function_option = c.number_words-function.ensures.rule in
     let choices : rule_of c.number_words-choices.result ≡ choices_option = c.number_words-choices.ensures.rule in
     let limit : rule_of c.number_words-limit.result ≡ limit_option = c.number_words-limit.ensures.rule in

@@ -1,4 +1,4 @@
-use Rattle.spv_commands.proofs.Troubles.{any_bytes, explained_in, middle, no_entry_lacks, no_second, no_third, one_reason, shown_in, three_reasons, told_in, traced_in, two_reasons}
+use Rattle.spv_commands.proofs.Troubles.{any_bytes, explained_in, middle, no_entry_lacks, no_second, no_third, one_reason, shown_in, task_in, three_reasons, told_in, traced_in, two_reasons}
 use Rattle.spv_commands.proofs.program.done_by.Goals as goal
 
 pub returns-in-Check-clause-done : goal.returns-in-Check-clause-done
@@ -67,3 +67,15 @@ returns-in-Rules-clause-why g c = one_reason _ _ _ _ _ _ c.ruled.ensures.only c.
 
 pub returns-in-Rules-clause-begun : goal.returns-in-Rules-clause-begun
 returns-in-Rules-clause-begun g c = rw c.in-Rules.is (λ f. any_bytes (g.S.Source.remaining c.args.file.now) _ (no_second _ _ _ c.ruled.ensures.begun f))
+
+pub returns-in-Each-clause-done : goal.returns-in-Each-clause-done
+returns-in-Each-clause-done g c = rw c.in-Each.is (task_in _ c.args.table.now (g.S.Source.remaining c.args.file.now) (g.W.Sink.contents c.args.out.now) (g.W.Sink.contents c.tasked.new.out) c.tasked.result c.tasked.ensures.done)
+
+pub returns-in-Each-clause-failed : goal.returns-in-Each-clause-failed
+returns-in-Each-clause-failed g c = no_third _ _ _ _ c.tasked.ensures.failed.0
+
+pub returns-in-Each-clause-why : goal.returns-in-Each-clause-why
+returns-in-Each-clause-why g c = two_reasons _ _ _ _ _ _ c.tasked.ensures.only c.tasked.ensures.failed
+
+pub returns-in-Each-clause-begun : goal.returns-in-Each-clause-begun
+returns-in-Each-clause-begun g c = rw c.in-Each.is (no_second _ _ _ c.tasked.ensures.begun)

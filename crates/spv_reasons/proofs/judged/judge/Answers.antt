@@ -1,11 +1,15 @@
 use Rattle.spv_module.specs.Module.{plain_insts}
 use Rattle.spv_verdict.proofs.Checks.{kept_of, parts_of, program_of, sound_of}
 use Rattle.spv_verdict.proofs.Firsts.{IsBefore, planned, told_flow, told_ids, told_layout, told_types}
-use Rattle.spv_reasons.proofs.Shown.{early}
 use Rattle.spv_reasons.proofs.judged.judge.Goals as goal
 
 pub returns-in-Err : goal.returns-in-Err
-returns-in-Err c = c.misplaced.ensures c.args.table.now _ (told_layout c.args.table.now _ _ c.in-Err.stop c.in-Err.ensures.refused) (early c.args.table.now _ c.in-Err.stop c.in-Err.ensures.refused)
+returns-in-Err c =
+    let G = c.args.table.now in
+    c.misplaced.ensures G _ c.in-Err.ensures.refused (told_layout G _ _ c.in-Err.stop c.in-Err.ensures.refused)
+
+pub misplaced-requires : goal.misplaced-requires
+misplaced-requires c = record { refused = (c.args.table.now, c.in-Err.ensures.refused) }
 
 pub misnumbered-requires-clause-refused : goal.misnumbered-requires-clause-refused
 misnumbered-requires-clause-refused c =

@@ -31,7 +31,7 @@ returns-in-Ok-Malformed c = λ bytes order h.
     let G = c.args.table.now in
     let words = c.args.image.now in
     dead_told laws G bytes words order c.in-Ok-Malformed.fault c.malformed_told.result h
-    (subst (λ r. IsReading G words r) c.in-Ok-Malformed.field-0-is c.in-Ok-Malformed.ensures) c.malformed_told.ensures
+    (subst (λ r. IsReading G words r) c.in-Ok-Malformed.field-0-is c.in-Ok-Malformed.ensures).0 c.malformed_told.ensures
 
 pub returns-in-Ok-Broken : goal.returns-in-Ok-Broken
 returns-in-Ok-Broken c = λ bytes order h.

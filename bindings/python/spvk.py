@@ -1,0 +1,299 @@
+"""Checks, explains, shows and assembles SPIR-V 1.6 kernel modules, by the proved library spvk.
+
+    import spvk
+
+    with open("spirv.core.grammar.json", "rb") as file:
+        grammar = spvk.Grammar(file.read())
+    with open("kernel.spv", "rb") as file:
+        module = file.read()
+    verdict = grammar.check(module)
+    if not verdict.is_valid:
+        print(verdict, verdict.sentence)
+
+A grammar is read once and then answers about any number of modules, also from several threads at the
+same time: the calls run without Python's global lock. It is let go with its last reference.
+
+The shared library is the file that the environment's SPVK_LIBRARY names, or else libspvk.so.1 where
+the system finds it. Python 3.8 or later, and nothing else.
+"""
+
+import ctypes
+import os
+from dataclasses import dataclass
+from typing import NamedTuple, Optional, Union
+
+__all__ = [
+    "Error",
+    "Explanation",
+    "Grammar",
+    "GrammarError",
+    "ModuleFault",
+    "NotText",
+    "OutOfMemory",
+    "TextFault",
+    "Verdict",
+    "rule_name",
+    "rule_sentence",
+    "version",
+]
+
+__version__ = "1.0.0"
+
+_OK, _MEMORY, _NOT_TEXT, _J1 = 0, 1, 4, 101
+_VALID, _ASSEMBLED, _S1 = 0, 0, 1201
+_NOWHERE = 0xFFFFFFFF
+
+
+class Error(Exception):
+    """A call was refused, or a module or a text has a fault."""
+
+
+class OutOfMemory(Error, MemoryError):
+    """There was no memory. The same call may succeed later."""
+
+
+class GrammarError(Error, ValueError):
+    """A grammar file is refused. `code` is the first code that it breaks, "J1" to "J7" (docs/PROFILE.md)."""
+
+    def __init__(self, code: str) -> None:
+        super().__init__(f"the grammar file is refused: {code}")
+        self.code = code
+
+
+class NotText(Error, ValueError):
+    """What is to be assembled is no UTF-8."""
+
+
+class ModuleFault(Error):
+    """A module has no text: its bytes are no list of instructions. `verdict` has the rule of W or I."""
+
+    def __init__(self, verdict: "Verdict") -> None:
+        super().__init__(str(verdict))
+        self.verdict = verdict
+
+
+class TextFault(Error):
+    """A text stands for no module. `code` is its first fault, "S1" to "S5", and `line` its line, from 1."""
+
+    def __init__(self, code: str, line: int) -> None:
+        super().__init__(f"fault {code} line {line}")
+        self.code = code
+        self.line = line
+
+
+@dataclass(frozen=True)
+class Verdict:
+    """The verdict on a module. As a text it is the line of `spv check`.
+
+    `number` is 0 for a valid module, else the number of the first rule that the module breaks, as in
+    the header spvk.h. `inst` is the number of the instruction, from 0, and `word` that of the word in
+    the whole module, which stands at byte 4 * word; both are None where the module is valid, and where
+    its bytes are no words of a module (W2 to W8).
+    """
+
+    number: int
+    inst: Optional[int]
+    word: Optional[int]
+
+    @property
+    def is_valid(self) -> bool:
+        """Whether the module breaks no rule."""
+        return self.number == _VALID
+
+    @property
+    def code(self) -> Optional[str]:
+        """The name of the broken rule, as "I7", or None for a valid module."""
+        return rule_name(self.number)
+
+    @property
+    def sentence(self) -> Optional[str]:
+        """What the broken rule says, or None for a valid module."""
+        return rule_sentence(self.number)
+
+    def __str__(self) -> str:
+        if self.is_valid:
+            return "valid"
+        place = "" if self.inst is None else f" inst {self.inst} word {self.word}"
+        return f"fault {self.code}{place}"
+
+
+class Explanation(NamedTuple):
+    """A verdict, and the lines of `spv explain`: its own, and after that of a fault those that explain it."""
+
+    verdict: Verdict
+    text: str
+
+
+class _Grammar(ctypes.Structure):
+    _fields_ = [("held", ctypes.c_void_p)]
+
+
+class _Answer(ctypes.Structure):
+    _fields_ = [
+        ("status", ctypes.c_uint32),
+        ("code", ctypes.c_uint32),
+        ("inst", ctypes.c_uint32),
+        ("word", ctypes.c_uint32),
+    ]
+
+
+class _Buffer(ctypes.Structure):
+    _fields_ = [("data", ctypes.c_void_p), ("size", ctypes.c_size_t), ("held", ctypes.c_void_p)]
+
+
+class _Text(ctypes.Structure):
+    _fields_ = [
+        ("code", ctypes.c_uint32),
+        ("inst", ctypes.c_uint32),
+        ("word", ctypes.c_uint32),
+        ("buffer", _Buffer),
+    ]
+
+
+class _Image(ctypes.Structure):
+    _fields_ = [("code", ctypes.c_uint32), ("line", ctypes.c_uint32), ("buffer", _Buffer)]
+
+
+def _library() -> ctypes.CDLL:
+    """The shared library, with what its calls take and answer."""
+    found = ctypes.CDLL(os.environ.get("SPVK_LIBRARY", "libspvk.so.1"))
+    to = ctypes.POINTER
+    given = [ctypes.c_char_p, ctypes.c_size_t]
+    asked = [ctypes.c_void_p, *given]
+    calls = {
+        "grammar_new": (ctypes.c_uint32, [*given, to(_Grammar)]),
+        "grammar_delete": (None, [to(_Grammar)]),
+        "check": (_Answer, asked),
+        "explain": (ctypes.c_uint32, [*asked, to(_Text)]),
+        "show": (ctypes.c_uint32, [*asked, to(_Text)]),
+        "assemble_little": (ctypes.c_uint32, [*asked, to(_Image)]),
+        "assemble_big": (ctypes.c_uint32, [*asked, to(_Image)]),
+        "buffer_delete": (None, [to(_Buffer)]),
+        "rule_name": (ctypes.c_bool, [ctypes.c_uint32, to(ctypes.c_char_p)]),
+        "rule_sentence": (ctypes.c_bool, [ctypes.c_uint32, to(ctypes.c_char_p)]),
+        "version": (None, [to(ctypes.c_char_p)]),
+    }
+    for name, (answer, words) in calls.items():
+        call = getattr(found, f"spvk_raw_{name}")
+        call.restype, call.argtypes = answer, words
+    return found
+
+
+_C = _library()
+
+
+def _static_text(call, number: int) -> Optional[str]:
+    """A text that the library has for a number, or None."""
+    text = ctypes.c_char_p()
+    is_there = 0 <= number <= _NOWHERE and call(number, ctypes.byref(text))
+    return text.value.decode() if is_there else None
+
+
+def rule_name(number: int) -> Optional[str]:
+    """The name of the rule with this number, as "I7" for 107, or None where there is none."""
+    return _static_text(_C.spvk_raw_rule_name, number)
+
+
+def rule_sentence(number: int) -> Optional[str]:
+    """What the rule with this number says, or None where there is none."""
+    return _static_text(_C.spvk_raw_rule_sentence, number)
+
+
+def version() -> str:
+    """The version of the library."""
+    text = ctypes.c_char_p()
+    _C.spvk_raw_version(ctypes.byref(text))
+    return text.value.decode()
+
+
+def _done(status: int) -> None:
+    """Raises what a status stands for, if it is not that of a call that answered."""
+    if status == _OK:
+        return
+    if status == _MEMORY:
+        raise OutOfMemory("there was no memory")
+    if status == _NOT_TEXT:
+        raise NotText("the text is no UTF-8")
+    if status >= _J1:
+        raise GrammarError(f"J{status - _J1 + 1}")
+    raise Error(f"status {status}")
+
+
+def _verdict(it: Union[_Answer, _Text]) -> Verdict:
+    """A verdict as Python has it."""
+    inst, word = (None if number == _NOWHERE else number for number in (it.inst, it.word))
+    return Verdict(it.code, inst, word)
+
+
+def _made(call, held: "_Held", given: bytes, answer: Union[_Text, _Image]) -> bytes:
+    """Makes a call that puts bytes into a buffer, and takes them out of it."""
+    try:
+        _done(call(held.grammar.held, given, len(given), ctypes.byref(answer)))
+        return ctypes.string_at(answer.buffer.data, answer.buffer.size) if answer.buffer.size else b""
+    finally:
+        _C.spvk_raw_buffer_delete(ctypes.byref(answer.buffer))
+
+
+class _Held:
+    """A grammar of the library, which is let go with its last reference. So no call can lose it while it runs."""
+
+    def __init__(self, text: bytes) -> None:
+        self.grammar = _Grammar()
+        _done(_C.spvk_raw_grammar_new(text, len(text), ctypes.byref(self.grammar)))
+
+    # (At the end of the process the module's names may be gone first: so they are parameters.)
+    def __del__(self, delete=_C.spvk_raw_grammar_delete, byref=ctypes.byref) -> None:
+        delete(byref(self.grammar))
+
+
+def _octets(given) -> bytes:
+    """The bytes of what holds bytes."""
+    return given if isinstance(given, bytes) else memoryview(given).tobytes()
+
+
+class Grammar:
+    """The table of a grammar file, in the form of Khronos' spirv.core.grammar.json.
+
+    Raises GrammarError where the file is refused, and OutOfMemory. Each call below may raise
+    OutOfMemory as well, and none changes the grammar.
+    """
+
+    def __init__(self, text: bytes) -> None:
+        self._held = _Held(_octets(text))
+
+    def check(self, module: bytes) -> Verdict:
+        """The verdict on the bytes of a module, in either byte order."""
+        held, given = self._held, _octets(module)
+        answer = _C.spvk_raw_check(held.grammar.held, given, len(given))
+        _done(answer.status)
+        return _verdict(answer)
+
+    def explain(self, module: bytes) -> Explanation:
+        """The verdict on the bytes of a module, with the lines that explain it."""
+        answer = _Text()
+        lines = _made(_C.spvk_raw_explain, self._held, _octets(module), answer)
+        return Explanation(_verdict(answer), lines.decode())
+
+    def show(self, module: bytes) -> str:
+        """The text of a module, which need not be valid.
+
+        Raises ModuleFault where its bytes are no list of instructions.
+        """
+        answer = _Text()
+        text = _made(_C.spvk_raw_show, self._held, _octets(module), answer)
+        if answer.code != _VALID:
+            raise ModuleFault(_verdict(answer))
+        return text.decode()
+
+    def assemble(self, text: Union[str, bytes], big: bool = False) -> bytes:
+        """The bytes of the module that a text stands for, each word with its lowest byte first, or with its highest.
+
+        Raises TextFault where the text stands for none, and NotText where its bytes are no UTF-8.
+        """
+        answer, is_text = _Image(), isinstance(text, str)
+        given = text.encode("utf-8", "surrogatepass") if is_text else _octets(text)
+        call = _C.spvk_raw_assemble_big if big else _C.spvk_raw_assemble_little
+        module = _made(call, self._held, given, answer)
+        if answer.code != _ASSEMBLED:
+            raise TextFault(f"S{answer.code - _S1 + 1}", answer.line)
+        return module

@@ -1,0 +1,208 @@
+"""The calls of spvk.py, on the modules and the cases of tests/ at the top of the repository.
+
+    SPVK_LIBRARY=out/libspvk.so.1.0.0 PYTHONPATH=bindings/python python3 -m unittest discover bindings/python/tests
+"""
+
+import gc
+import re
+import threading
+import unittest
+from pathlib import Path
+
+import spvk
+
+TOP = Path(__file__).resolve().parents[3]
+ROWS = TOP / "crates/spv_rows"
+ANSWER = re.compile(rb"== (.*): exit (\d), out (\d+), err (\d+), made (\d+)\n")
+
+
+def read(name):
+    """The bytes of a file of tests/."""
+    return (TOP / "tests" / name).read_bytes()
+
+
+def verdict_answer(verdict, text):
+    """A verdict as the exit status, both outputs and the made file of a run."""
+    return (0 if verdict.is_valid else 1, text.encode(), b"", b"")
+
+
+def by_check(grammar, module):
+    """What `spv check` gives."""
+    verdict = grammar.check(module)
+    return verdict_answer(verdict, f"{verdict}\n")
+
+
+def by_explain(grammar, module):
+    """What `spv explain` gives."""
+    return verdict_answer(*grammar.explain(module))
+
+
+def by_show(grammar, module):
+    """What `spv show` gives."""
+    try:
+        return (0, grammar.show(module).encode(), b"", b"")
+    except spvk.ModuleFault as fault:
+        return (1, f"{fault}\n".encode(), b"", b"")
+
+
+def by_assemble(big):
+    """What `spv asm` gives."""
+
+    def answer(grammar, text):
+        try:
+            return (0, b"", b"", grammar.assemble(text, big=big))
+        except spvk.TextFault as fault:
+            return (1, f"{fault}\n".encode(), b"", b"")
+        except spvk.NotText:
+            return (2, b"", b"error file\n", b"")
+
+    return answer
+
+
+CALLS = {
+    "check --grammar G F": by_check,
+    "explain --grammar G F": by_explain,
+    "show --grammar G F": by_show,
+    "asm --grammar G --out O F": by_assemble(big=False),
+    "asm --grammar G --out O --big F": by_assemble(big=True),
+}
+
+
+def rows():
+    """The stored runs: the grammar file, the name, the words and the input of each."""
+    grammar, name, words, given = b"", "", [], b""
+    for line in (ROWS / "data/rows").read_bytes().decode().split("\n"):
+        key, _, text = line.partition(" ")
+        if key == "grammar":
+            grammar = text.encode()
+        elif key == "grammar-hex":
+            grammar = bytes.fromhex(text)
+        elif key == "row":
+            name, words, given = text, [], b""
+        elif key == "word":
+            words.append(text)
+        elif key == "input":
+            given += bytes.fromhex(text)
+        elif key == "times":
+            times, octets = text.split()
+            given += bytes.fromhex(octets) * int(times)
+        elif key == "run":
+            yield grammar, name, " ".join(words), given
+
+
+def answers():
+    """What is wanted of the stored runs: the name, and the exit status, both outputs and the made file."""
+    stored, at = (ROWS / "stdout").read_bytes(), 0
+    while at < len(stored):
+        head = ANSWER.match(stored, at)
+        status, out, err, made = map(int, head.groups()[1:])
+        at, parts = head.end(), []
+        for size in (out, err, 2 * made + (made > 0)):
+            parts.append(stored[at : at + size])
+            at += size
+        yield head[1].decode(), (status, parts[0], parts[1], bytes.fromhex(parts[2].decode()))
+
+
+class Calls(unittest.TestCase):
+    """Each call by itself."""
+
+    def setUp(self):
+        self.grammar = spvk.Grammar(read("profile.json"))
+        self.kernel = read("modules/smallest-kernel.spv")
+
+    def test_verdicts(self):
+        verdict = self.grammar.check(self.kernel)
+        self.assertEqual(verdict, spvk.Verdict(0, None, None))
+        self.assertTrue(verdict.is_valid and verdict.code is None and verdict.sentence is None)
+        cut = self.grammar.check(self.kernel[:-4])
+        self.assertEqual((cut.code, cut.inst, cut.word), ("L2", 9, 29))
+        self.assertEqual(str(cut), "fault L2 inst 9 word 29")
+        self.assertGreater(len(cut.sentence), 9)
+        self.assertEqual(str(self.grammar.check(b"")), "fault W2")
+        self.assertTrue(self.grammar.check(bytearray(self.kernel)).is_valid)
+        self.assertTrue(self.grammar.check(memoryview(self.kernel)).is_valid)
+
+    def test_explanations(self):
+        self.assertEqual(self.grammar.explain(self.kernel).text, "valid\n")
+        cut = self.grammar.explain(self.kernel[:-4])
+        self.assertEqual(cut.verdict.code, "L2")
+        self.assertTrue(cut.text.startswith("fault L2 inst 9 word 29\n"))
+
+    def test_texts_and_back(self):
+        text = self.grammar.show(self.kernel)
+        self.assertTrue(text.startswith("; SPIR-V\n"))
+        self.assertEqual(self.grammar.assemble(text), self.kernel)
+        self.assertEqual(self.grammar.assemble(text.encode()), self.kernel)
+        big = self.grammar.assemble(text, big=True)
+        self.assertEqual(big[:4], bytes.fromhex("07230203"))
+        with self.assertRaises(spvk.ModuleFault) as caught:
+            self.grammar.show(self.kernel[:8])
+        self.assertEqual(caught.exception.verdict.code, "W2")
+        with self.assertRaises(spvk.TextFault) as caught:
+            self.grammar.assemble("")
+        self.assertEqual((caught.exception.code, caught.exception.line), ("S1", 1))
+        for wrong in (b";\xff", ";\ud800"):
+            with self.assertRaises(spvk.NotText):
+                self.grammar.assemble(wrong)
+
+    def test_refused_grammars(self):
+        for text, code in ((b"", "J1"), (b"{}", "J2")):
+            with self.assertRaises(spvk.GrammarError) as caught:
+                spvk.Grammar(text)
+            self.assertEqual(caught.exception.code, code)
+
+    def test_what_is_not_bytes(self):
+        for wrong in ("a text", 5, None):
+            with self.assertRaises(TypeError):
+                self.grammar.check(wrong)
+            with self.assertRaises(TypeError):
+                spvk.Grammar(wrong)
+
+    def test_rules(self):
+        names = [name for name in map(spvk.rule_name, range(1300)) if name]
+        self.assertEqual((len(names), len(set(names))), (49, 49))
+        self.assertEqual((spvk.rule_name(107), spvk.rule_name(-1), spvk.rule_name(1 << 40)), ("I7", None, None))
+        self.assertEqual(spvk.version(), spvk.__version__)
+
+    def test_threads(self):
+        wrong = []
+
+        def run(grammar, kernel):
+            for _ in range(200):
+                if not grammar.check(kernel).is_valid:
+                    wrong.append(kernel)
+
+        grammar = spvk.Grammar(read("profile.json"))
+        threads = [threading.Thread(target=run, args=(grammar, self.kernel)) for _ in range(8)]
+        for thread in threads:
+            thread.start()
+        del grammar
+        gc.collect()
+        for thread in threads:
+            thread.join()
+        self.assertEqual(wrong, [])
+
+
+class Cases(unittest.TestCase):
+    """Every case: what the program answers."""
+
+    def test_every_case(self):
+        count, last, grammar = 0, None, None
+        for (text, name, words, given), (told, wanted) in zip(rows(), answers()):
+            self.assertEqual(name, told)
+            if words not in CALLS:
+                continue
+            if text != last:
+                last = text
+                try:
+                    grammar = spvk.Grammar(text)
+                except spvk.GrammarError as error:
+                    grammar = (2, b"", f"error {error.code}\n".encode(), b"")
+            got = CALLS[words](grammar, given) if isinstance(grammar, spvk.Grammar) else grammar
+            self.assertEqual(got, wanted, name)
+            count += 1
+        self.assertGreater(count, 700)
+
+
+if __name__ == "__main__":
+    unittest.main()

@@ -1,0 +1,191 @@
+//! Checks, explains, shows and assembles SPIR-V 1.6 kernel modules, by the proved library `spvk`.
+//!
+//! A [`Grammar`] is read once, of a file in the form of Khronos' `spirv.core.grammar.json`, and then answers about any
+//! number of modules, also from several threads at the same time.
+//!
+//! ```no_run
+//! # fn main() -> Result<(), Box<dyn std::error::Error>> {
+//! let grammar = spvk::Grammar::new(&std::fs::read("spirv.core.grammar.json")?)?;
+//! let verdict = grammar.check(&std::fs::read("kernel.spv")?)?;
+//! if let Some(fault) = verdict.fault() {
+//!     println!("{fault}: {}", fault.code.sentence());
+//! }
+//! # Ok(())
+//! # }
+//! ```
+//!
+//! What each answer means is said in docs/PROFILE.md of the library's repository, and what is proved in its README.md.
+//! This crate adds no logic: it hands slices to the library, and lets go of what the library made. No call prints, and
+//! none panics; want of memory is an error.
+#![deny(missing_docs, unsafe_op_in_unsafe_fn)]
+
+mod buffer;
+mod error;
+mod ffi;
+mod verdict;
+
+pub use buffer::{Bytes, Text};
+pub use error::{AssembleError, GrammarError, OutOfMemory, ShowError, TextCode};
+pub use verdict::{Code, Fault, Place, Verdict};
+
+use std::ffi::CStr;
+use std::os::raw::c_char;
+use std::{fmt, ptr};
+
+/// The table of a grammar file, by which modules are judged.
+pub struct Grammar(ffi::Grammar);
+
+// SAFETY: the table is plain data on malloc's heap, which belongs to no thread (include/spvk.h, "Threads").
+unsafe impl Send for Grammar {}
+// SAFETY: any number of threads may use a grammar at the same time; only its owner deletes it.
+unsafe impl Sync for Grammar {}
+
+/// In which order the bytes of a word stand.
+#[derive(Clone, Copy, Debug, PartialEq, Eq)]
+pub enum ByteOrder {
+    /// The lowest byte first.
+    Little,
+    /// The highest byte first.
+    Big,
+}
+
+/// A verdict, and the lines that explain it.
+#[derive(Debug)]
+pub struct Explanation {
+    /// The verdict.
+    pub verdict: Verdict,
+    /// The lines of `spv explain`: that of the verdict, and after that of a fault those that explain it.
+    pub text: Text,
+}
+
+impl Grammar {
+    /// The table of a grammar file's text, in the form of Khronos' `spirv.core.grammar.json`.
+    ///
+    /// # Errors
+    /// The first code of J1 to J7 that the text breaks, or want of memory.
+    pub fn new(text: &[u8]) -> Result<Grammar, GrammarError> {
+        let mut made = ffi::Grammar {
+            held: ptr::null_mut(),
+        };
+        // SAFETY: the text is lent for the call, and the handle holds no grammar.
+        match unsafe { ffi::spvk_raw_grammar_new(text.as_ptr(), text.len(), &mut made) } {
+            ffi::OK => Ok(Grammar(made)),
+            status => Err(GrammarError::of(status)),
+        }
+    }
+
+    /// The verdict on the bytes of a module, in either byte order.
+    ///
+    /// # Errors
+    /// Want of memory alone: a fault is an answer.
+    pub fn check(&self, module: &[u8]) -> Result<Verdict, OutOfMemory> {
+        // SAFETY: the grammar is not deleted while it is lent, and the module is lent for the call.
+        let answer = unsafe { ffi::spvk_raw_check(self.0.held, module.as_ptr(), module.len()) };
+        match answer.status {
+            ffi::OK => Ok(Verdict::of(answer.verdict)),
+            _ => Err(OutOfMemory),
+        }
+    }
+
+    /// The verdict on the bytes of a module, with the lines that explain it.
+    ///
+    /// # Errors
+    /// Want of memory alone.
+    pub fn explain(&self, module: &[u8]) -> Result<Explanation, OutOfMemory> {
+        let (verdict, text) = self.text_by(ffi::spvk_raw_explain, module)?;
+        Ok(Explanation { verdict, text })
+    }
+
+    /// The text of a module, which need not be valid.
+    ///
+    /// # Errors
+    /// The rule of W or I by which its bytes are no list of instructions, or want of memory.
+    pub fn show(&self, module: &[u8]) -> Result<Text, ShowError> {
+        match self.text_by(ffi::spvk_raw_show, module) {
+            Ok((Verdict::Valid, text)) => Ok(text),
+            Ok((Verdict::Fault(fault), _)) => Err(ShowError::Fault(fault)),
+            Err(OutOfMemory) => Err(ShowError::OutOfMemory),
+        }
+    }
+
+    /// The verdict and the text that one of these two calls gives.
+    fn text_by(&self, call: ffi::MakeText, module: &[u8]) -> Result<(Verdict, Text), OutOfMemory> {
+        let mut made = ffi::Text::NONE;
+        // SAFETY: as in `check`, and the text holds nothing.
+        let status = unsafe { call(self.0.held, module.as_ptr(), module.len(), &mut made) };
+        let text = Text::of(Bytes(made.buffer));
+        match status {
+            ffi::OK => Ok((Verdict::of(made.verdict), text)),
+            _ => Err(OutOfMemory),
+        }
+    }
+
+    /// The bytes of the module that a text stands for, in this order.
+    ///
+    /// # Errors
+    /// The first fault of the text with its line, or want of memory.
+    pub fn assemble(&self, text: &str, order: ByteOrder) -> Result<Bytes, AssembleError> {
+        let mut made = ffi::Image::NONE;
+        let call = match order {
+            ByteOrder::Little => ffi::spvk_raw_assemble_little,
+            ByteOrder::Big => ffi::spvk_raw_assemble_big,
+        };
+        // SAFETY: as in `text_by`.
+        let status = unsafe { call(self.0.held, text.as_ptr(), text.len(), &mut made) };
+        let bytes = Bytes(made.buffer);
+        let code = match (status, made.code) {
+            (ffi::OK, ffi::ASSEMBLED) => return Ok(bytes),
+            (ffi::OK, 1201) => TextCode::S1,
+            (ffi::OK, 1202) => TextCode::S2,
+            (ffi::OK, 1203) => TextCode::S3,
+            (ffi::OK, 1204) => TextCode::S4,
+            (ffi::OK, _) => TextCode::S5,
+            _ => return Err(AssembleError::OutOfMemory),
+        };
+        let line = made.line;
+        Err(AssembleError::Fault { code, line })
+    }
+}
+
+impl fmt::Debug for Grammar {
+    fn fmt(&self, f: &mut fmt::Formatter<'_>) -> fmt::Result {
+        f.debug_struct("Grammar").finish_non_exhaustive()
+    }
+}
+
+impl Drop for Grammar {
+    fn drop(&mut self) {
+        // SAFETY: the handle is the library's, no one uses it any more, and it is deleted once.
+        unsafe { ffi::spvk_raw_grammar_delete(&mut self.0) }
+    }
+}
+
+/// The version of the library.
+pub fn version() -> &'static str {
+    let mut text = ptr::null();
+    // SAFETY: the library puts a text there that stays, with a zero at its end.
+    unsafe {
+        ffi::spvk_raw_version(&mut text);
+        ascii(text)
+    }
+}
+
+/// A text that the library has for a number, where there is one.
+fn static_text(
+    call: unsafe extern "C" fn(u32, *mut *const c_char) -> bool,
+    number: u32,
+) -> Option<&'static str> {
+    let mut text = ptr::null();
+    // SAFETY: where the call answers true, it has put a text there that stays, with a zero at its end.
+    unsafe { call(number, &mut text).then(|| ascii(text)) }
+}
+
+/// A text with a zero at its end.
+///
+/// # Safety
+/// The pointer is that of such a text, in ASCII, which stays until the process ends.
+unsafe fn ascii(text: *const c_char) -> &'static str {
+    // SAFETY: so the caller says.
+    let text = unsafe { CStr::from_ptr(text) };
+    text.to_str().unwrap_or("?")
+}

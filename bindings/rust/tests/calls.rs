@@ -1,0 +1,111 @@
+//! The calls of the crate, on the modules of tests/ at the top of the repository.
+
+use spvk::{
+    AssembleError, ByteOrder, Code, Fault, Grammar, GrammarError, Place, ShowError, TextCode,
+    Verdict,
+};
+use std::error::Error;
+use std::path::PathBuf;
+use std::{fs, thread};
+
+fn file(name: &str) -> Vec<u8> {
+    let folder = PathBuf::from(env!("CARGO_MANIFEST_DIR")).join("../../tests");
+    fs::read(folder.join(name)).expect(name)
+}
+
+fn grammar() -> Grammar {
+    Grammar::new(&file("profile.json")).expect("the profile's grammar")
+}
+
+fn kernel() -> Vec<u8> {
+    file("modules/smallest-kernel.spv")
+}
+
+#[test]
+fn verdicts() {
+    let (grammar, kernel) = (grammar(), kernel());
+    assert_eq!(grammar.check(&kernel), Ok(Verdict::Valid));
+    let cut = grammar.check(&kernel[..kernel.len() - 4]).unwrap();
+    let fault = cut.fault().unwrap();
+    assert_eq!(fault.code.name(), "L2");
+    assert!(!fault.code.sentence().is_empty());
+    let place = Place { inst: 9, word: 29 };
+    assert_eq!(fault.place, Some(place));
+    assert_eq!(cut.to_string(), "fault L2 inst 9 word 29");
+    let none = grammar.check(&[]).unwrap();
+    assert_eq!(
+        (none.to_string().as_str(), none.fault().unwrap().place),
+        ("fault W2", None)
+    );
+}
+
+#[test]
+fn explanations() {
+    let (grammar, kernel) = (grammar(), kernel());
+    let valid = grammar.explain(&kernel).unwrap();
+    assert_eq!((valid.verdict, &*valid.text), (Verdict::Valid, "valid\n"));
+    let cut = grammar.explain(&kernel[..kernel.len() - 4]).unwrap();
+    assert!(cut.text.starts_with("fault L2 inst 9 word 29\n"));
+    assert!(cut.text.lines().count() > 1);
+}
+
+#[test]
+fn texts_and_back() {
+    let (grammar, kernel) = (grammar(), kernel());
+    let text = grammar.show(&kernel).unwrap();
+    assert!(text.starts_with("; SPIR-V\n"));
+    assert_eq!(
+        *grammar.assemble(&text, ByteOrder::Little).unwrap(),
+        *kernel
+    );
+    let big = grammar.assemble(&text, ByteOrder::Big).unwrap();
+    assert_eq!(big[..4], [7, 0x23, 2, 3]);
+    assert_eq!(grammar.check(&big), Ok(Verdict::Valid));
+    let refused = grammar.show(&kernel[..8]).unwrap_err();
+    let code = Code::new(2).unwrap();
+    assert_eq!(refused, ShowError::Fault(Fault { code, place: None }));
+    let wrong = grammar
+        .assemble(&format!("{}Op\n", &*text), ByteOrder::Little)
+        .unwrap_err();
+    let line = text.lines().count() as u32 + 1;
+    assert_eq!(
+        wrong,
+        AssembleError::Fault {
+            code: TextCode::S2,
+            line
+        }
+    );
+    assert!(grammar.assemble("", ByteOrder::Little).is_err());
+}
+
+#[test]
+fn refused_grammars() {
+    assert_eq!(Grammar::new(b"").unwrap_err(), GrammarError::J1);
+    let error: Box<dyn Error> = Box::new(Grammar::new(b"{}").unwrap_err());
+    assert_eq!(error.to_string(), "the grammar file is refused: J2");
+}
+
+#[test]
+fn rules() {
+    let codes: Vec<Code> = (0..1300).filter_map(Code::new).collect();
+    assert_eq!(codes.len(), 49);
+    assert_eq!(Code::new(107).unwrap().to_string(), "I7");
+    assert_eq!(Code::new(0), None);
+    assert_eq!(spvk::version(), env!("CARGO_PKG_VERSION"));
+}
+
+#[test]
+fn a_grammar_is_shared_by_threads_and_let_go_by_another() {
+    let (grammar, kernel) = (grammar(), kernel());
+    thread::scope(|scope| {
+        for _ in 0..8 {
+            scope.spawn(|| {
+                for _ in 0..100 {
+                    assert_eq!(grammar.check(&kernel), Ok(Verdict::Valid));
+                }
+            });
+        }
+    });
+    let text = grammar.show(&kernel).unwrap();
+    thread::spawn(move || drop((grammar, text))).join().unwrap();
+}

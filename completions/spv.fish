@@ -1,0 +1,38 @@
+# Completion of spv's command line in fish. Put it where fish looks, as ~/.config/fish/completions/spv.fish.
+
+complete -c spv -f
+
+complete -c spv -n 'not __fish_seen_subcommand_from help' -s h -l help -d 'Print help'
+complete -c spv -n __fish_use_subcommand -s V -l version -d 'Print the version'
+
+complete -c spv -n __fish_use_subcommand -a check -d 'Write the verdict on modules'
+complete -c spv -n __fish_use_subcommand -a explain -d 'Write the verdict on modules and what explains it'
+complete -c spv -n __fish_use_subcommand -a show -d 'Write the text of a module'
+complete -c spv -n __fish_use_subcommand -a asm -d 'Make the module of a text'
+complete -c spv -n __fish_use_subcommand -a trace -d "Write the run of an entry point's function"
+complete -c spv -n __fish_use_subcommand -a rules -d 'Write what each code of a verdict says'
+complete -c spv -n __fish_use_subcommand -a help -d 'Print help on a command'
+
+complete -c spv -n '__fish_seen_subcommand_from check' -F
+complete -c spv -n '__fish_seen_subcommand_from check' -l grammar -r -F -d 'The grammar file, in JSON'
+
+complete -c spv -n '__fish_seen_subcommand_from explain' -F
+complete -c spv -n '__fish_seen_subcommand_from explain' -l grammar -r -F -d 'The grammar file, in JSON'
+
+complete -c spv -n '__fish_seen_subcommand_from show' -F
+complete -c spv -n '__fish_seen_subcommand_from show' -l grammar -r -F -d 'The grammar file, in JSON'
+
+complete -c spv -n '__fish_seen_subcommand_from asm' -F
+complete -c spv -n '__fish_seen_subcommand_from asm' -l big -d 'The highest byte of a word stands first'
+complete -c spv -n '__fish_seen_subcommand_from asm' -l grammar -r -F -d 'The grammar file, in JSON'
+complete -c spv -n '__fish_seen_subcommand_from asm' -l out -r -F -d 'The module that is made'
+
+complete -c spv -n '__fish_seen_subcommand_from trace' -F
+complete -c spv -n '__fish_seen_subcommand_from trace' -l choices -x -d 'The targets that are taken, from 0, as 0,1'
+complete -c spv -n '__fish_seen_subcommand_from trace' -l function -x -d "The id of an entry point's function"
+complete -c spv -n '__fish_seen_subcommand_from trace' -l grammar -r -F -d 'The grammar file, in JSON'
+complete -c spv -n '__fish_seen_subcommand_from trace' -l limit -x -d 'The greatest number of steps'
+
+complete -c spv -n '__fish_seen_subcommand_from rules' -a 'W1 W2 W3 W4 W5 W6 W7 W8 W9 I1 I2 I3 I4 I5 I6 I7 I8 I9 I10 I11 I12 P1 L1 L2 D1 D2 D3 D4 D5 Y1 C1 C2 M1 E1 E2 Y2 Y3 Y4 Y5 Y6 Y7 Y8 F1 F2 F3 F4 A1 A2 G1'
+
+complete -c spv -n '__fish_seen_subcommand_from help' -a 'check explain show asm trace rules help'

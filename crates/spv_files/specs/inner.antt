@@ -1,0 +1,2 @@
+-- What serves the code alone.
+pub mod Progress

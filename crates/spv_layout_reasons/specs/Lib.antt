@@ -1,0 +1,3 @@
+pub mod Evidence
+pub mod Example
+pub mod inner

@@ -1,0 +1,8 @@
+use Rattle.spv_reasons.proofs.Worked.{no_first_lines, second_lines}
+use Rattle.spv_reasons.proofs.laws.stream_examples.Goals as goal
+
+pub returns-clause-lines : goal.returns-clause-lines
+returns-clause-lines c = second_lines
+
+pub returns-clause-not_first : goal.returns-clause-not_first
+returns-clause-not_first c = no_first_lines

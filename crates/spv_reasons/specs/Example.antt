@@ -1,0 +1,18 @@
+-- Small examples.
+use Rattle.std.specs.Prelude.{ℕ, List, [], ◌∷◌}
+use Rattle.spv_module.specs.Operand.{PlainInst}
+use Rattle.spv_module.specs.declared.fault.Fault.{Fault}
+use Rattle.spv_module.specs.declared.fault.Rule.TheVariants.{L1}
+use Rattle.spv_ids.specs.Example.{void}
+
+-- %1 = OpTypeVoid, twice
+abbrev pub twice_void : List PlainInst
+twice_void = void 1 ∷ void 1 ∷ []
+
+-- the header with the bound 9, and %5 = OpString "abc"
+abbrev pub string_words : List ℕ
+string_words = 119734787 ∷ 67072 ∷ 0 ∷ 9 ∷ 0 ∷ 196615 ∷ 5 ∷ 6513249 ∷ []
+
+-- no module begins with an OpString
+abbrev pub string_fault : Fault
+string_fault = record { rule = L1; inst = 0; word = 5 }

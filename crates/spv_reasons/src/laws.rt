@@ -1,0 +1,49 @@
+//! That evidence suffices, whatever the rule, and worked examples. Each function does nothing: its contract is what is
+//! proved.
+
+ghost use Rattle.std.specs.Prelude.{◌≡◌, ◌++◌, ℕ, List, [], ◌∷◌, codes, false};
+ghost use Rattle.spv_table.specs.Table.{Table};
+ghost use Rattle.spv_module.specs.Example.{small};
+ghost use Rattle.spv_module.specs.Operand.{PlainInst};
+ghost use Rattle.spv_module.specs.declared.fault.Rule.{Rule};
+ghost use Rattle.spv_module.specs.declared.fault.Rule.TheVariants.{D2};
+ghost use Rattle.spv_ids.specs.Example.{of_void};
+ghost use Rattle.spv_evidence.specs.declared.evidence.Evidence.{Evidence};
+ghost use Rattle.spv_evidence.specs.declared.evidence.Evidence.TheVariants.{Earlier, MayCome, NoEntry};
+ghost use Rattle.spv_verdict.specs.Broken.{Broken};
+ghost use Rattle.spv_verdict.specs.Verdict.{line_end};
+ghost use Rattle.spv_reasons.specs.Evidence.{IsEvidence};
+ghost use Rattle.spv_reasons.specs.Example.{string_fault, string_words, twice_void};
+ghost use Rattle.spv_reasons.specs.Explained.{IsShown};
+ghost use Rattle.spv_reasons.specs.Lines.{AreIn, operand_line, told_of};
+ghost use Rattle.spv_reasons.specs.Stream.{AreLinesOf};
+ghost use Rattle.spv_reasons.specs.declared.explained.Explained.TheVariants.{Fault};
+
+/// Evidence of whatever rule, from P to G, shows that the rule is broken at the instruction.
+pub fn suffices()
+    ensures { (G : Table) (bound : ℕ) (is : List PlainInst) (r : Rule) (n : ℕ) (e : Evidence)
+        → IsEvidence G bound is r n e → Broken G bound is r n }
+{}
+
+/// What stands on the lines of evidence, and what does not.
+pub fn line_examples()
+    // That an earlier instruction has the same result: its number is told, and not that of the later one.
+    ensures earlier { AreIn (told_of twice_void 1 (Earlier 0)) (codes "earlier: inst 0, %1 = OpTypeVoid") }
+    ensures not_later { ¬ (AreIn (told_of twice_void 1 (Earlier 0)) (codes "earlier: inst 1, %1 = OpTypeVoid")) }
+    // An operand and the id that it is.
+    ensures operand { operand_line (of_void ∷ []) 0 1 ≡ codes "operand: 1 %1" ++ line_end }
+{}
+
+/// Lines that tell what shows that a rule is broken, under the bound 5, and an instruction that no lines can blame.
+pub fn stream_examples()
+    ensures lines { AreLinesOf small 5 twice_void D2 1 (codes "earlier: inst 0, %1 = OpTypeVoid") }
+    ensures not_first { (lines : List ℕ) → ¬ (AreLinesOf small 5 twice_void D2 0 lines) }
+{}
+
+/// A module that begins with an OpString, under a small table.
+pub fn explained_examples()
+    // There may come OpExtension, OpExtInstImport, OpMemoryModel or OpCapability.
+    ensures shown { IsShown small string_words (Fault string_fault (MayCome (10 ∷ 11 ∷ 14 ∷ 17 ∷ []) false)) }
+    // That there is no entry point does not show it.
+    ensures not_shown { ¬ (IsShown small string_words (Fault string_fault NoEntry)) }
+{}

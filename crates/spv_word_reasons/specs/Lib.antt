@@ -1,0 +1,3 @@
+pub mod Front
+pub mod Evidence
+pub mod inner

@@ -1,0 +1,61 @@
+-- What was read has the verdict.
+use Rattle.std.proofs.Common.{◌≡◌, ℕ, List, Option, Some, None, Result, IfSome, IfOk, slice_index, sym, subst}
+use Rattle.spv_words.specs.Header.{IsModule, Refuses}
+use Rattle.spv_words.specs.declared.words.Order.{Order}
+use Rattle.spv_words.specs.declared.words.WordError.{WordError}
+use Rattle.spv_words.specs.declared.words.WordError.TheVariants as word
+use Rattle.spv_table.specs.Table.{Table}
+use Rattle.spv_table.specs.declared.error.Memory.{Memory}
+use Rattle.spv_module.specs.declared.fault.Fault as fault
+use Rattle.spv_verdict.specs.Answer.{IsAnswer, IsFault}
+use Rattle.spv_verdict.specs.Checked.{IsChecked}
+use Rattle.spv_verdict.specs.Program.{Program}
+use Rattle.spv_verdict.specs.Text.{line_of}
+use Rattle.spv_verdict.specs.Verdict.{IsVerdict, refused, valid, unsound, dead, fault_line, valid_line}
+use Rattle.spv_verdict.specs.declared.checked.Verdict.{Verdict}
+use Rattle.spv_verdict.specs.declared.checked.Verdict.TheVariants.{Valid, Fault}
+use Rattle.spv_verdict.specs.declared.verdict_line.Judgment.{Judgment}
+use Rattle.std.proofs.Common.{◌+◌, ◌-◌, arith}
+use Rattle.spvk.specs.inner.Refusal.{refusal_of}
+
+-- a code that was read, of bytes in memory
+pub refused_bytes : (G : Table) (known : Option (List ℕ)) (code : WordError)
+    → IfSome known (λ xs. Refuses code xs) → IfSome known (λ xs. IfOk (refusal_of code) (λ j. IsVerdict G xs (line_of j)))
+refused_bytes G None code h = tt
+refused_bytes G (Some xs) word.W1 h = tt
+refused_bytes G (Some xs) word.W9 h = tt
+refused_bytes G (Some xs) word.W2 h = refused word.W2 h
+refused_bytes G (Some xs) word.W3 h = refused word.W3 h
+refused_bytes G (Some xs) word.W4 h = refused word.W4 h
+refused_bytes G (Some xs) word.W5 h = refused word.W5 h
+refused_bytes G (Some xs) word.W6 h = refused word.W6 h
+refused_bytes G (Some xs) word.W7 h = refused word.W7 h
+refused_bytes G (Some xs) word.W8 h = refused word.W8 h
+
+fault_verdict : (G : Table) (bytes words : List ℕ) (order : Order) (f : fault.Fault) → IsModule order bytes words → IsFault G words f
+    → IsVerdict G bytes (fault_line f.rule f.inst f.word)
+fault_verdict G bytes words order f h (IsFault.dead low d) =
+    let e : 5 + (f.word - 5) ≡ f.word = omega arith in
+    subst (λ (n : ℕ). IsVerdict G bytes (fault_line f.rule f.inst n)) e (dead words order f.rule f.inst (f.word - 5) h d)
+fault_verdict G bytes words order f h (IsFault.broken is l first e) =
+    subst (λ (n : ℕ). IsVerdict G bytes (fault_line f.rule f.inst n)) (sym e) (unsound words order is f.rule f.inst h l first)
+
+valid_verdict : (G : Table) (bytes words : List ℕ) (order : Order) (p : Program) → IsModule order bytes words → IsChecked G words p
+    → IsVerdict G bytes valid_line
+valid_verdict G bytes words order p h c =
+    valid (record { words = words; order = order; is_module = h; insts = p.insts; listing = c.listing; sound = rw c.bound at c.sound })
+
+pub valid_judged : (G : Table) (bytes words : List ℕ) (order : Order) (v : Verdict) (p : Program) → v ≡ Valid p → IsModule order bytes words
+    → IsAnswer G words v → IsVerdict G bytes valid_line
+valid_judged G bytes words order v p e h a = valid_verdict G bytes words order p h (rw e at a)
+
+pub fault_judged : (G : Table) (bytes words : List ℕ) (order : Order) (v : Verdict) (f : fault.Fault) → v ≡ Fault f → IsModule order bytes words
+    → IsAnswer G words v → IsVerdict G bytes (fault_line f.rule f.inst f.word)
+fault_judged G bytes words order v f e h a = fault_verdict G bytes words order f h (rw e at a)
+
+-- the verdict on the words that were read
+pub known_verdict : (G : Table) (known : Option (List ℕ)) (words : List ℕ) (order : Order) (r : Result Judgment Memory)
+    → IfSome known (λ xs. IsModule order xs words) → ((bytes : List ℕ) (o : Order) → IsModule o bytes words → IfOk r (λ j. IsVerdict G bytes (line_of j)))
+    → IfSome known (λ xs. IfOk r (λ j. IsVerdict G xs (line_of j)))
+known_verdict G None words order r h v = tt
+known_verdict G (Some xs) words order r h v = v xs order h

@@ -1,0 +1,9 @@
+pub mod Assemblings
+pub mod BufferValues
+pub mod Explanations
+pub mod Handles
+pub mod Judgments
+pub mod Lending
+pub mod Reasons
+pub mod Showings
+pub mod Values

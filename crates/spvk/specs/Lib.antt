@@ -1,0 +1,11 @@
+pub mod Answer
+pub mod Assemble
+pub mod Buffer
+pub mod Explain
+pub mod Faults
+pub mod Grammar
+pub mod Held
+pub mod Numbers
+pub mod Show
+pub mod Status
+pub mod inner

@@ -1,0 +1,3 @@
+pub mod Faulty
+pub mod Lines
+pub mod Refusal

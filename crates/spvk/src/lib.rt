@@ -1,0 +1,24 @@
+//! `spv` as a C library: checks, explains, shows and assembles modules, by a grammar that is kept behind a handle.
+//!
+//! `include/spvk.h` declares the exports for C. Each of them ends, writes only where its contract says, and answers want
+//! of memory by a status.
+#![tactic(auto)]
+
+mod assembling;
+mod buffer;
+mod buffers;
+mod checking;
+mod collected;
+mod explaining;
+mod grammars;
+mod handle;
+mod image;
+mod judging;
+pub mod laws;
+mod loose;
+mod numbers;
+mod octets;
+mod rules;
+mod showing;
+mod status;
+mod text;

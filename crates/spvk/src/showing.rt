@@ -1,0 +1,86 @@
+//! Shows modules, for C.
+ghost use Rattle.std.specs.Prelude.{◌≡◌, ℕ, List, IfOk};
+ghost use Rattle.spv_words.specs.Header.{IsModule, Refuses};
+ghost use Rattle.spv_words.specs.declared.words.Order.{Order};
+ghost use Rattle.spv_table.specs.Table.{Table as TableView};
+ghost use base.Fml.{Lft, Share};
+ghost use types.Logic.{sem};
+ghost use Rattle.spvk.specs.Held.{shown};
+ghost use Rattle.spvk.specs.Show.{IsShowing, Shows, ShowsAt};
+
+use crate::judging::refusal;
+use crate::octets::Octets;
+use crate::status::{MEMORY, NO_GRAMMAR, OK};
+use crate::text::Text;
+use spv_module::Stop;
+use spv_table::{Memory, Table};
+use spv_text::show_image;
+use spv_verdict::Judgment;
+use spv_words::{Image, WordError, read_image};
+use std::alloc::Global;
+use std::{mem, ptr};
+
+/// What is shown of the words of an image. The error is want of memory.
+fn shown_image(alloc: Global, table: &Table, image: &Image) -> Result<Text, Memory>
+    ensures { (bytes : List ℕ) (order : Order) → IsModule order bytes image.now → IfOk result (λ t. IsShowing table.now bytes t) }
+{
+    match show_image(alloc, table, image) {
+        Ok(text) => Text::of(alloc, Judgment::Valid, text),
+        Err(Stop::Fault(fault)) => Ok(Text::none(Judgment::Broken(fault))),
+        Err(Stop::Memory) => Err(Memory),
+    }
+}
+
+/// What is shown of bytes that gave no image. The error is want of memory.
+fn refused(code: WordError) -> Result<Text, Memory>
+    ensures { (bytes : List ℕ) (G : TableView) → Refuses code bytes → IfOk result (λ t. IsShowing G bytes t) }
+{
+    match refusal(code) {
+        Ok(judgment) => Ok(Text::none(judgment)),
+        Err(memory) => Err(memory),
+    }
+}
+
+/// What is shown of these bytes. The error is want of memory.
+fn shown_bytes(alloc: Global, table: &Table, bytes: &[u8]) -> Result<Text, Memory>
+    ensures { IfOk result (λ t. IsShowing table.now bytes.now t) }
+{
+    let image = match read_image(alloc, &mut Octets::new(bytes)) {
+        Ok((image, _)) => image,
+        Err(code) => return refused(code),
+    };
+    shown_image(alloc, table, &image)
+}
+
+/// Shows a module's bytes by a table.
+pub(crate) fn show_by(alloc: Global, table: &Table, bytes: &[u8], text: &mut Text) -> u32
+    ensures { Shows table.now bytes.now text.old text.new result }
+{
+    match shown_bytes(alloc, table, bytes) {
+        Ok(made) => {
+            mem::replace(text, made).let_go(alloc);
+            OK
+        }
+        Err(_) => MEMORY,
+    }
+}
+
+/// The text of a module, or the rule by which its bytes are no list of instructions, by the grammar behind a handle's pointer,
+/// which other calls may read at the same time. The text that was there is let go.
+#[unsafe(no_mangle)]
+pub unsafe extern "C" fn spvk_raw_show(
+    alloc: Global,
+    grammar: *const u8,
+    bytes: &[u8],
+    text: &mut Text,
+) -> u32
+    ghost lent: { Lft × Share × TableView }
+    requires* { sem 𝓛 (shown grammar lent) }
+    ensures* { sem 𝓛 (shown grammar lent) ∗ ⌜ ShowsAt grammar lent.2 bytes.now text.old text.new result ⌝ }
+{
+    if grammar == ptr::null() {
+        NO_GRAMMAR
+    } else {
+        show_by(alloc, &*(grammar as *const Table), bytes, text)
+    }
+}

@@ -1,0 +1,52 @@
+//! A verdict with a text, as C sees them.
+ghost use Rattle.std.specs.Prelude.{◌≡◌, None, Some, IfOk, string_bytes};
+ghost use Rattle.spvk.specs.Numbers.{numbers_of};
+ghost use Rattle.spv_verdict.specs.declared.verdict_line.Judgment.TheVariants.{Valid};
+
+use crate::buffer::Buffer;
+use crate::numbers::{Verdict, numbers};
+use spv_table::Memory;
+use spv_verdict::Judgment;
+use std::alloc::Global;
+
+/// A verdict and a text: `spvk_text` of C.
+#[repr(C)]
+pub struct Text {
+    /// The verdict.
+    pub verdict: Verdict,
+    /// The text, if there is one.
+    pub buffer: Buffer,
+}
+
+impl Text {
+    /// A verdict without a text.
+    pub fn none(judgment: Judgment) -> Text
+        ensures verdict { result.verdict ≡ numbers_of judgment }
+        ensures buffer { result.buffer.bytes ≡ None }
+    {
+        Text {
+            verdict: numbers(judgment),
+            buffer: Buffer::none(),
+        }
+    }
+
+    /// A verdict with a text. The error is want of memory.
+    pub fn of(alloc: Global, judgment: Judgment, text: String) -> Result<Text, Memory>
+        ensures verdict { IfOk result (λ t. t.verdict ≡ numbers_of judgment) }
+        ensures buffer { IfOk result (λ t. t.buffer.bytes ≡ Some (string_bytes text)) }
+    {
+        match Buffer::of(alloc, text.into_bytes()) {
+            Ok(buffer) => Ok(Text {
+                verdict: numbers(judgment),
+                buffer,
+            }),
+            Err(_) => Err(Memory),
+        }
+    }
+
+    /// Lets the text go.
+    pub fn let_go(self, alloc: Global) {
+        let Text { verdict: _, buffer } = self;
+        buffer.let_go(alloc);
+    }
+}

@@ -1,0 +1,323 @@
+/* spvk.h: checks, explains, shows and assembles SPIR-V 1.6 kernel modules, in process.
+ *
+ *     spvk_grammar grammar = SPVK_GRAMMAR_NONE;
+ *     spvk_verdict verdict;
+ *     if (spvk_grammar_new(text, text_len, &grammar) == SPVK_OK) {
+ *         if (spvk_check(&grammar, bytes, len, &verdict) == SPVK_OK && verdict.code == SPVK_VALID) { .. }
+ *         spvk_grammar_delete(&grammar);
+ *     }
+ *
+ * C99 or later, C++17 or later. Link libspvk.a or libspvk.so.
+ *
+ * What is proved. The archive's functions, `spvk_raw_..` below, are proved: each returns, touches no memory but
+ * what it is handed and what it allocates, and answers what the definitions of the library give, or want of
+ * memory. Nothing checks what a C caller owes; it is said here. The functions `spvk_..` are written in this
+ * header, and do nothing but test pointers for null and call those.
+ *
+ * Memory. All of it comes from malloc, realloc and free, which must be one allocator. No call keeps a pointer that
+ * it is given after it has returned. Nothing is kept between calls but what grammars and buffers hold.
+ *
+ * Threads. Any number of threads may use one grammar at the same time, to check, explain, show and assemble; a
+ * grammar is made and deleted while no other thread uses it. A buffer, and each place for an answer, belongs to
+ * one call at a time. No call prints, exits, opens a file, takes a lock, starts a thread or sets errno but as
+ * malloc does. No call may come from a signal handler.
+ *
+ * Other languages bind the symbols `spvk_raw_..`: they are the same calls, but take no null pointers and no length
+ * over PTRDIFF_MAX.
+ */
+#ifndef SPVK_H
+#define SPVK_H
+
+#include <stdbool.h>
+#include <stddef.h>
+#include <stdint.h>
+
+#ifdef __cplusplus
+extern "C" {
+#endif
+
+/** The version of the library. */
+#define SPVK_VERSION "1.0.0"
+
+/** What a call comes to.
+ *
+ *  SPVK_OK: the call did what it is for; a verdict that tells a fault is an answer too. After any other status
+ *  nothing was answered: verdicts and faults are as they were, and a grammar or a buffer that was to be made is
+ *  without anything. */
+typedef enum spvk_status {
+    SPVK_OK = 0,
+    SPVK_MEMORY = 1,     /**< malloc or realloc refused; the same call may succeed later */
+    SPVK_NO_GRAMMAR = 2, /**< the grammar is a null pointer, was never made, or was deleted */
+    SPVK_NULL = 3,       /**< a null pointer with a length that is not 0, or a null pointer to where the answer goes */
+    SPVK_NOT_TEXT = 4,   /**< what is to be assembled is no UTF-8 */
+    SPVK_J1 = 101,       /**< the grammar file is no JSON, or nests deeper than 127 levels */
+    SPVK_J2 = 102,       /**< a key of it is missing, or something is of another sort than it must be */
+    SPVK_J3 = 103,       /**< an opcode or a value is out of its range or form */
+    SPVK_J4 = 104,       /**< it names a kind that it does not have */
+    SPVK_J5 = 105,       /**< it has an unknown category or quantifier */
+    SPVK_J6 = 106,       /**< a result kind stands twice in an instruction, is quantified, or is a parameter or a base */
+    SPVK_J7 = 107        /**< a composite has no bases, or one that is neither of category Id nor Literal */
+} spvk_status;
+
+/** The rule that a module breaks first, or that it breaks none: the number of its letter times a hundred, and then
+ *  the rule's own number, so that I7 is 107; W2 is 2. What each says: `spvk_rule_sentence`, and docs/PROFILE.md.
+ *  SPVK_W1 and SPVK_W9 (a failed read, want of memory) are never in a verdict. */
+typedef enum spvk_code {
+    SPVK_VALID = 0,
+    SPVK_W1 = 1, SPVK_W2 = 2, SPVK_W3 = 3, SPVK_W4 = 4, SPVK_W5 = 5, SPVK_W6 = 6, SPVK_W7 = 7, SPVK_W8 = 8, SPVK_W9 = 9,
+    SPVK_I1 = 101, SPVK_I2 = 102, SPVK_I3 = 103, SPVK_I4 = 104,
+    SPVK_I5 = 105, SPVK_I6 = 106, SPVK_I7 = 107, SPVK_I8 = 108,
+    SPVK_I9 = 109, SPVK_I10 = 110, SPVK_I11 = 111, SPVK_I12 = 112,
+    SPVK_P1 = 201,
+    SPVK_L1 = 301, SPVK_L2 = 302,
+    SPVK_D1 = 401, SPVK_D2 = 402, SPVK_D3 = 403, SPVK_D4 = 404, SPVK_D5 = 405,
+    SPVK_Y1 = 501, SPVK_Y2 = 502, SPVK_Y3 = 503, SPVK_Y4 = 504,
+    SPVK_Y5 = 505, SPVK_Y6 = 506, SPVK_Y7 = 507, SPVK_Y8 = 508,
+    SPVK_C1 = 601, SPVK_C2 = 602,
+    SPVK_M1 = 701,
+    SPVK_E1 = 801, SPVK_E2 = 802,
+    SPVK_F1 = 901, SPVK_F2 = 902, SPVK_F3 = 903, SPVK_F4 = 904,
+    SPVK_A1 = 1001, SPVK_A2 = 1002,
+    SPVK_G1 = 1101
+} spvk_code;
+
+/** Why a text was not assembled. */
+typedef enum spvk_text_code {
+    SPVK_ASSEMBLED = 0,
+    SPVK_S1 = 1201, /**< a line of the header is missing or ill-formed */
+    SPVK_S2 = 1202, /**< no known name of an instruction stands at its place */
+    SPVK_S3 = 1203, /**< an operand or a result is missing, one too many, ill-formed or unknown */
+    SPVK_S4 = 1204, /**< a number is too large for its place */
+    SPVK_S5 = 1205  /**< the instruction, or with it the module, has too many words */
+} spvk_text_code;
+
+/** Stands for no instruction and no word: in the verdict on a valid module, and in one of W2 to W8. */
+#define SPVK_NOWHERE UINT32_MAX
+
+/** The verdict on a module: the first rule that it breaks, and where. */
+typedef struct spvk_verdict {
+    uint32_t code; /**< an spvk_code: SPVK_VALID, or the rule */
+    uint32_t inst; /**< the number of the instruction, from 0, or SPVK_NOWHERE */
+    uint32_t word; /**< the number of the word in the module, from 0, or SPVK_NOWHERE; it is at byte 4 * word */
+} spvk_verdict;
+
+/** Where a text fails. */
+typedef struct spvk_fault {
+    uint32_t code; /**< an spvk_text_code: SPVK_ASSEMBLED, or the first fault */
+    uint32_t line; /**< the number of its line, from 1; 0 with SPVK_ASSEMBLED */
+} spvk_fault;
+
+/** A grammar, made by `spvk_grammar_new` and let go by `spvk_grammar_delete`. Start it as SPVK_GRAMMAR_NONE. A copy
+ *  of it is the same grammar, which is deleted once. */
+typedef struct spvk_grammar {
+    void *held; /**< the library's own; null: no grammar */
+} spvk_grammar;
+
+#define SPVK_GRAMMAR_NONE {NULL}
+
+/** Bytes that a call made, let go by `spvk_buffer_delete`. Start it as SPVK_BUFFER_NONE. They are the library's: to
+ *  be read, not written. A text is UTF-8, with a line feed at the end of each line and no zero behind it. A copy is
+ *  the same bytes, which are deleted once. */
+typedef struct spvk_buffer {
+    const uint8_t *data; /**< the first byte; null where there are none */
+    size_t size;         /**< how many bytes */
+    void *held;          /**< the library's own; null: nothing to let go */
+} spvk_buffer;
+
+#define SPVK_BUFFER_NONE {NULL, 0, NULL}
+
+/* ---- The archive's functions. ----
+ *
+ * No pointer may be null here, also with a length of 0, but `held` and what lies in a grammar or a buffer. `held`
+ * is that of a grammar: it is null, or what `spvk_raw_grammar_new` made and `spvk_raw_grammar_delete` did not take
+ * away.
+ */
+
+/** What `spvk_raw_check` answers. */
+typedef struct spvk_answer {
+    uint32_t status; /**< an spvk_status */
+    uint32_t code;   /**< as in a verdict; SPVK_NOWHERE with another status than SPVK_OK */
+    uint32_t inst;   /**< likewise */
+    uint32_t word;   /**< likewise */
+} spvk_answer;
+
+/** A verdict and a text. */
+typedef struct spvk_text {
+    spvk_verdict verdict;
+    spvk_buffer buffer; /**< at first SPVK_BUFFER_NONE, or a buffer to be let go when it is overwritten */
+} spvk_text;
+
+/** The fault of a text, and the bytes of a module. */
+typedef struct spvk_image {
+    spvk_fault fault;
+    spvk_buffer buffer; /**< as in an spvk_text */
+} spvk_image;
+
+/** As `spvk_grammar_new`, but a grammar that `grammar` holds is let go first. */
+uint32_t spvk_raw_grammar_new(const uint8_t *text, size_t len, spvk_grammar *grammar);
+/** As `spvk_grammar_delete`. */
+void spvk_raw_grammar_delete(spvk_grammar *grammar);
+/** As `spvk_check`. */
+spvk_answer spvk_raw_check(const void *held, const uint8_t *bytes, size_t len);
+/** As `spvk_explain`. After any status but SPVK_OK `text` is as it was. */
+uint32_t spvk_raw_explain(const void *held, const uint8_t *bytes, size_t len, spvk_text *text);
+/** As `spvk_show`. After any status but SPVK_OK `text` is as it was. */
+uint32_t spvk_raw_show(const void *held, const uint8_t *bytes, size_t len, spvk_text *text);
+/** As `spvk_assemble`, with the lowest byte of each word first. After any status but SPVK_OK `image` is as it was. */
+uint32_t spvk_raw_assemble_little(const void *held, const uint8_t *text, size_t len, spvk_image *image);
+/** As `spvk_assemble`, with the highest byte of each word first. After any status but SPVK_OK `image` is as it was.
+ */
+uint32_t spvk_raw_assemble_big(const void *held, const uint8_t *text, size_t len, spvk_image *image);
+/** As `spvk_buffer_delete`. */
+void spvk_raw_buffer_delete(spvk_buffer *buffer);
+/** Puts where the text of `spvk_rule_name` begins to `text`, and answers whether there is one; else `text` is as it
+ *  was. */
+bool spvk_raw_rule_name(uint32_t code, const uint8_t **text);
+/** Puts where the text of `spvk_rule_sentence` begins to `text`, and answers whether there is one; else `text` is
+ *  as it was. */
+bool spvk_raw_rule_sentence(uint32_t code, const uint8_t **text);
+/** Puts where the text of `spvk_version` begins to `text`. */
+void spvk_raw_version(const uint8_t **text);
+
+/* ---- What C calls. ---- */
+
+/** A pointer to these bytes that is not null. (For this header.) */
+static inline const uint8_t *spvk_some_bytes(const uint8_t *bytes) {
+    return bytes != NULL ? bytes : (const uint8_t *)"";
+}
+
+/** Makes a grammar of the `len` bytes of a file in the form of Khronos' spirv.core.grammar.json. The text may be
+ *  let go afterwards. What `grammar` held is not looked at: it must not hold a grammar that is still to be deleted.
+ *
+ *  SPVK_OK: `grammar` holds it, until `spvk_grammar_delete`. SPVK_J1 to SPVK_J7: the text is none; the first code
+ *  that it breaks. SPVK_MEMORY. SPVK_NULL: `grammar` is null, or `text` is with a `len` that is not 0. After any
+ *  status but SPVK_OK `grammar` holds none. */
+static inline spvk_status spvk_grammar_new(const uint8_t *text, size_t len, spvk_grammar *grammar) {
+    if (grammar == NULL) return SPVK_NULL;
+    grammar->held = NULL;
+    if (text == NULL && len != 0) return SPVK_NULL;
+    return (spvk_status)spvk_raw_grammar_new(spvk_some_bytes(text), len, grammar);
+}
+
+/** Lets a grammar go. It does nothing with a null pointer, nor with one that holds none or was deleted. */
+static inline void spvk_grammar_delete(spvk_grammar *grammar) {
+    if (grammar != NULL) spvk_raw_grammar_delete(grammar);
+}
+
+/** The verdict on the `len` bytes of a module, in either byte order, just as `spv check` gives it.
+ *
+ *  SPVK_OK: `verdict` holds it. No bytes at all are a module that breaks W2. SPVK_MEMORY. SPVK_NO_GRAMMAR.
+ *  SPVK_NULL: `verdict` is null, or `bytes` is with a `len` that is not 0. After any status but SPVK_OK `verdict`
+ *  is as it was. */
+static inline spvk_status spvk_check(const spvk_grammar *grammar, const uint8_t *bytes, size_t len,
+                                     spvk_verdict *verdict) {
+    spvk_answer answer;
+    if (grammar == NULL || grammar->held == NULL) return SPVK_NO_GRAMMAR;
+    if (verdict == NULL || (bytes == NULL && len != 0)) return SPVK_NULL;
+    answer = spvk_raw_check(grammar->held, spvk_some_bytes(bytes), len);
+    if (answer.status == SPVK_OK) {
+        verdict->code = answer.code;
+        verdict->inst = answer.inst;
+        verdict->word = answer.word;
+    }
+    return (spvk_status)answer.status;
+}
+
+/** The verdict on the bytes of a module, and the lines of `spv explain`: that of the verdict, and after that of a
+ *  fault lines that explain it.
+ *
+ *  SPVK_OK: `verdict` and `buffer` hold them, `buffer` until `spvk_buffer_delete`. The other statuses as of
+ *  `spvk_check`; also SPVK_NULL where `buffer` is null. After any status but SPVK_OK `verdict` is as it was, and
+ *  `buffer` holds nothing. What `buffer` held is not looked at. */
+static inline spvk_status spvk_explain(const spvk_grammar *grammar, const uint8_t *bytes, size_t len,
+                                       spvk_verdict *verdict, spvk_buffer *buffer) {
+    spvk_text text = {{0, 0, 0}, SPVK_BUFFER_NONE};
+    uint32_t status;
+    if (buffer != NULL) *buffer = text.buffer;
+    if (grammar == NULL || grammar->held == NULL) return SPVK_NO_GRAMMAR;
+    if (verdict == NULL || buffer == NULL || (bytes == NULL && len != 0)) return SPVK_NULL;
+    status = spvk_raw_explain(grammar->held, spvk_some_bytes(bytes), len, &text);
+    if (status == SPVK_OK) {
+        *verdict = text.verdict;
+        *buffer = text.buffer;
+    }
+    return (spvk_status)status;
+}
+
+/** The text of a module, as `spv show` writes it, or the rule of W or I by which its bytes are no list of
+ *  instructions.
+ *
+ *  SPVK_OK, and the code of `verdict` is SPVK_VALID: `buffer` holds the text, until `spvk_buffer_delete`; that the
+ *  module is valid is not said by that, which is for `spvk_check`. SPVK_OK and another code, of W or I: there is no
+ *  text, and `buffer` holds nothing. The other statuses, and what is left after them, as of `spvk_explain`. */
+static inline spvk_status spvk_show(const spvk_grammar *grammar, const uint8_t *bytes, size_t len,
+                                       spvk_verdict *verdict, spvk_buffer *buffer) {
+    spvk_text text = {{0, 0, 0}, SPVK_BUFFER_NONE};
+    uint32_t status;
+    if (buffer != NULL) *buffer = text.buffer;
+    if (grammar == NULL || grammar->held == NULL) return SPVK_NO_GRAMMAR;
+    if (verdict == NULL || buffer == NULL || (bytes == NULL && len != 0)) return SPVK_NULL;
+    status = spvk_raw_show(grammar->held, spvk_some_bytes(bytes), len, &text);
+    if (status == SPVK_OK) {
+        *verdict = text.verdict;
+        *buffer = text.buffer;
+    }
+    return (spvk_status)status;
+}
+
+/** The bytes of the module that the `len` bytes of a text stand for, as `spv asm` makes them: each word with its
+ *  highest byte first where `big`, else with its lowest.
+ *
+ *  SPVK_OK, and the code of `fault` is SPVK_ASSEMBLED: `buffer` holds the bytes, until `spvk_buffer_delete`.
+ *  SPVK_OK and another code: the first fault of the text and its line; `buffer` holds nothing. SPVK_NOT_TEXT: the
+ *  text is no UTF-8. SPVK_MEMORY. SPVK_NO_GRAMMAR. SPVK_NULL: `fault` or `buffer` is null, or `text` is with a
+ *  `len` that is not 0. After any status but SPVK_OK `fault` is as it was, and `buffer` holds nothing. What
+ *  `buffer` held is not looked at. */
+static inline spvk_status spvk_assemble(const spvk_grammar *grammar, const uint8_t *text, size_t len, bool big,
+                                        spvk_fault *fault, spvk_buffer *buffer) {
+    spvk_image image = {{0, 0}, SPVK_BUFFER_NONE};
+    uint32_t status;
+    if (buffer != NULL) *buffer = image.buffer;
+    if (grammar == NULL || grammar->held == NULL) return SPVK_NO_GRAMMAR;
+    if (fault == NULL || buffer == NULL || (text == NULL && len != 0)) return SPVK_NULL;
+    status = big ? spvk_raw_assemble_big(grammar->held, spvk_some_bytes(text), len, &image)
+                 : spvk_raw_assemble_little(grammar->held, spvk_some_bytes(text), len, &image);
+    if (status == SPVK_OK) {
+        *fault = image.fault;
+        *buffer = image.buffer;
+    }
+    return (spvk_status)status;
+}
+
+/** Lets the bytes of a buffer go. It does nothing with a null pointer, nor with one that holds nothing or was
+ *  deleted. */
+static inline void spvk_buffer_delete(spvk_buffer *buffer) {
+    if (buffer != NULL) spvk_raw_buffer_delete(buffer);
+}
+
+/** The name of a code of a verdict, as "I7", with a zero at its end; null for no code, as SPVK_VALID. It is never
+ *  let go. */
+static inline const char *spvk_rule_name(uint32_t code) {
+    const uint8_t *text = NULL;
+    return spvk_raw_rule_name(code, &text) ? (const char *)text : NULL;
+}
+
+/** What a code of a verdict says, in a sentence of ASCII with a zero at its end, as `spv rules` writes it; null for
+ *  no code. It is never let go. */
+static inline const char *spvk_rule_sentence(uint32_t code) {
+    const uint8_t *text = NULL;
+    return spvk_raw_rule_sentence(code, &text) ? (const char *)text : NULL;
+}
+
+/** The version of the library, as "1.0.0", with a zero at its end. It is never let go. */
+static inline const char *spvk_version(void) {
+    const uint8_t *text = NULL;
+    spvk_raw_version(&text);
+    return (const char *)text;
+}
+
+#ifdef __cplusplus
+}
+#endif
+
+#endif

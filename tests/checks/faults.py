@@ -1,0 +1,253 @@
+"""Large modules that each break one rule, far from what breaks it: what `explain` writes of them, and what time and
+memory it takes beside `check`.
+
+The modules are those of FAULTS in tests/generate, and what must be written is worked out from how they are made.
+"""
+
+import subprocess
+import sys
+from dataclasses import dataclass
+from typing import List
+
+from .common import SECONDS, TESTS, Check
+from .flow import GENERATE
+
+PROFILE = TESTS / "profile.json"
+MEASURE = TESTS / "checks/measure"
+LAYERS = frozenset({"layout", "ids", "types", "operations", "flow", "calls"})
+# At most so many times the seconds of `check`, and so many beside; and so of its memory, in KiB.
+TIMES, SECONDS_BESIDE = 3, 0.1
+SPACES, SPACE_BESIDE = 2, 8 << 10
+# The bytes of a module: 300,000 blocks in a chain, and as many functions in a cycle, take more than others.
+SIZE = 4 << 20
+SIZES = {"missing": 5 << 20, "cycle": 16 << 20}
+
+INT, KERNEL, ENTRY, FIRST = GENERATE.INT, GENERATE.KERNEL, GENERATE.ENTRY, GENERATE.FIRST_FREE
+# How many instructions stand before the kernel's function, and before the first of its entry block.
+DECLARATIONS, HEAD = 12, 14
+OF_VOID, OF_INT, OF_BOOL = "%1 = OpTypeVoid", "%5 = OpTypeInt 32 0", "%9 = OpTypeBool"
+
+
+def ids(values):
+    """Ids, as a line has them."""
+    return " ".join(f"%{value}" for value in values)
+
+
+class Insts:
+    """The instructions of a module, by number, from its end where the number is negative."""
+
+    def __init__(self, module):
+        self.words, self.places = module.words, []
+        at = 5
+        while at < len(self.words):
+            self.places.append(at)
+            at += max(self.words[at] >> 16, 1)
+
+    def operands(self, number):
+        """The words of an instruction but the first."""
+        at = self.places[number]
+        return self.words[at + 1 : at + (self.words[at] >> 16)]
+
+
+def missing(insts):
+    walk = [ENTRY, FIRST + 1, *range(FIRST + 3, insts.operands(-3)[1])]
+    of = FIRST + 2
+    return [f"operand: 3 %{of}", f"defined: inst {HEAD + 2}, %{of} = OpIAdd %5 %6 %6", f"walk: {ids(walk)}"]
+
+
+def crossed(insts):
+    *_, of, parent = insts.operands(-3)
+    count = len(insts.operands(-3)) // 2 - 1
+    return [
+        f"operand: {2 * count} %{of}",
+        f"defined: inst {HEAD + 2}, %{of} = OpIAdd %5 %6 %6",
+        f"walk: {ids([ENTRY, parent, FIRST + 2 * count])}",
+    ]
+
+
+def unequal(insts):
+    given = len(insts.operands(-3)) - 2
+    types = [f"type: %{FIRST} = OpTypeStruct {ids([INT] * (given + 1))}", f"type: {OF_INT}"]
+    return [*types, *["type: %5"] * (given - 1)]
+
+
+def nested(insts):
+    given = len(insts.operands(-3)) - 2
+    inner, outer = f"%{FIRST}", f"%{FIRST + 1}"
+    types = [f"type: {outer} = OpTypeStruct {ids([FIRST] * (given + 1))}"]
+    types.append(f"type: {inner} = OpTypeStruct {ids([INT] * (given + 1))}")
+    return [*types, *[f"type: {inner}"] * (given - 1)]
+
+
+def cycle(insts):
+    functions = [*range(FIRST + 3, insts.operands(-3)[1], 3), FIRST]
+    return [f"calls: {ids([KERNEL, *functions])}", f"cycle: {ids([FIRST, *functions])}"]
+
+
+def pairs(insts):
+    return [f"twice: %{insts.operands(-3)[-1]}"]
+
+
+def alike(insts):
+    result, *operands = insts.operands(-5)
+    count = (result - FIRST) // 2
+    return [f"earlier: inst {DECLARATIONS + count}, %{FIRST + count} = OpTypeFunction {ids(operands)}"]
+
+
+def astray(_):
+    return ["operand: 32001 %5", f"defined: inst 6, {OF_INT}"]
+
+
+def lacking(_):
+    return ["needs one of: Vector16"]
+
+
+def parts(insts):
+    return [f"operand: {len(insts.operands(-5)) - 1} %10"]
+
+
+def arguments(insts):
+    return [f"argument: {len(insts.operands(-3)) - 4}", f"wanted: {OF_INT}", f"found: {OF_BOOL}"]
+
+
+def parameters(insts):
+    return [f"parameter: {len(insts.operands(DECLARATIONS)) - 3}", f"wanted: {OF_INT}", f"found: {OF_BOOL}"]
+
+
+def handed(_):
+    return ["place: return type", f"wanted: {OF_VOID}", f"found: {OF_INT}"]
+
+
+def unknown(_):
+    return [f"operand: 3 %{FIRST}"]
+
+
+def forward(insts):
+    later = len(insts.places) - 5
+    return [f"operand: {len(insts.operands(-6)) - 1} %{FIRST}", f"defined: inst {later}, %{FIRST} = OpTypeArray %5 %6"]
+
+
+def abroad(_):
+    of = FIRST + 2
+    return [f"operand: 3 %{of}", f"defined: inst {HEAD}, %{of} = OpIAdd %5 %6 %7", f"local to: %{FIRST}"]
+
+
+def miscast(insts):
+    return [f"operand: {len(insts.operands(-5)) - 1} %6", "role: type", "defined: inst 7, %6 = OpConstant %5 1"]
+
+
+def called(insts):
+    call = insts.operands(-3)
+    return [f"called: inst {len(insts.places) - 3}, %{call[1]} = OpFunctionCall %1 %3"]
+
+
+def left_over(_):
+    return [f"words: ffff0000{' 00000001' * 15} .."]
+
+
+def endless_text(insts):
+    return [f"words: ffff0007 {insts.operands(-1)[0]:08x}{' 61616161' * 14} .."]
+
+
+def unended(_):
+    return []
+
+
+def misplaced(_):
+    return ["at: OpCapability Kernel"]
+
+
+@dataclass
+class Run:
+    """What a run took and wrote."""
+
+    status: int
+    seconds: float
+    space: int
+    lines: List[str]
+
+
+def measured(program, command, module, folder):
+    """A run of the program on a module."""
+    words = [sys.executable, "-S", MEASURE, folder / "out", program, command, "--grammar", PROFILE, module]
+    ended = subprocess.run(
+        [str(word) for word in words], stdout=subprocess.PIPE, stderr=subprocess.PIPE, timeout=4 * SECONDS, check=True
+    )
+    status, seconds, space = ended.stdout.split()
+    lines = (folder / "out").read_text(encoding="utf-8").split("\n")[:-1]
+    return Run(int(status), float(seconds), int(space), lines)
+
+
+def cut(line):
+    """The beginning of a line."""
+    return line[:100] + (".." if len(line) > 100 else "")
+
+
+def wrong_lines(rule, wanted, verdict, lines):
+    """None if the lines are the verdict and then the ones that are wanted, with those of the place before."""
+    if verdict[:1] != lines[:1] or not lines[0].startswith(f"fault {rule} "):
+        return f"  {lines[:1]}, and not {verdict}"
+    found = [line for line in lines[1:] if line.split(":")[0] not in ("rule", "in", "at")]
+    if rule[0] in "IL":
+        found = [line for line in lines if line in wanted]
+    for line, other in zip(wanted, found):
+        if line != other:
+            return f"  {cut(other)}, and not {cut(line)}"
+    return None if len(wanted) == len(found) else f"  {len(found)} lines, and not {len(wanted)}"
+
+
+def fault(name, rule, wanted):
+    """The check of a module, whose first broken rule is known, and the lines that show it."""
+
+    def check(program, folder):
+        made = GENERATE.Module(SIZES.get(name, SIZE) // 4)
+        GENERATE.FAULTS[name](made)
+        module = folder / f"{name}.spv"
+        made.write(module)
+        plainly, explained = (measured(program, command, module, folder) for command in ("check", "explain"))
+        wrong = wrong_lines(rule, wanted(Insts(made)), plainly.lines, explained.lines)
+        if wrong is not None or (plainly.status, explained.status) != (1, 1):
+            return wrong or f"  exit {explained.status}, and of check {plainly.status}"
+        if explained.seconds > TIMES * plainly.seconds + SECONDS_BESIDE:
+            return f"  {explained.seconds:.2f} seconds; check takes {plainly.seconds:.2f}"
+        if explained.space > SPACES * plainly.space + SPACE_BESIDE:
+            return f"  {explained.space} KiB; check takes {plainly.space}"
+        return None
+
+    return check
+
+
+# Of each module the rule that it breaks, and what its lines must be.
+FAULTS = {
+    missing: "A1",
+    crossed: "A2",
+    unequal: "Y5",
+    nested: "Y5",
+    cycle: "G1",
+    pairs: "F3",
+    alike: "Y3",
+    astray: "F1",
+    lacking: "C2",
+    parts: "Y4",
+    arguments: "Y8",
+    parameters: "Y6",
+    handed: "Y7",
+    unknown: "D3",
+    forward: "D4",
+    abroad: "D5",
+    miscast: "Y1",
+    called: "E2",
+    left_over: "I5",
+    endless_text: "I8",
+    unended: "L2",
+    misplaced: "L1",
+}
+
+
+def checks():
+    """Each of them."""
+    found = []
+    for wanted, rule in FAULTS.items():
+        name = wanted.__name__.replace("_", "-")
+        found.append(Check(f"explained: {name}", LAYERS, fault(name, rule, wanted)))
+    return found

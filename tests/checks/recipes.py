@@ -1,0 +1,164 @@
+"""The recipes of docs/USING.md and the command lines of README.md, run as they stand, with what they print.
+
+A section of docs/USING.md is a recipe, run in a folder of its own after the first one. A block of `sh` is run by a
+shell, and the block of `text` that follows it is what it prints; any other block is a file, whose name is the last word
+in the sign ` of the line above it. In README.md what is run stands after `$ `, and what it prints below.
+"""
+
+import os
+import re
+import subprocess
+from dataclasses import dataclass
+
+from .common import SECONDS, TESTS, Check, Unusable, shown
+
+PAGE = TESTS.parent / "docs/USING.md"
+README = TESTS.parent / "README.md"
+FENCE = "```"
+# The tools that a recipe needs, by a word that its blocks have.
+TOOLS = {"cc ": "cc", "cmake ": "cmake"}
+
+
+@dataclass(frozen=True)
+class Block:
+    """A block of a page: its language, the line above it, and its lines."""
+
+    language: str
+    above: str
+    text: str
+
+
+def sections_of(text):
+    """The sections of a page after its head: the name and the text of each."""
+    for part in re.split(r"^## ", text, flags=re.MULTILINE)[1:]:
+        name, _, rest = part.partition("\n")
+        yield name, rest
+
+
+def blocks_of(text):
+    """The blocks of a section in order."""
+    above, language, kept = "", None, []
+    for line in text.splitlines():
+        if not line.startswith(FENCE):
+            kept.append(line)
+            above = line if line and language is None else above
+        elif language is None:
+            language, kept = line[len(FENCE) :], []
+        else:
+            yield Block(language, above, "".join(f"{it}\n" for it in kept))
+            language = None
+
+
+def environment(program, folder):
+    """The environment of a recipe: the program on the PATH, by its name, and the grammar file of the profile."""
+    commands = folder / "commands"
+    commands.mkdir()
+    (commands / "spv").symlink_to(program)
+    grammar = str(TESTS / "profile.json")
+    return {**os.environ, "PATH": f"{commands}:{os.environ['PATH']}", "SPV_GRAMMAR": grammar, "LC_ALL": "C"}
+
+
+def run_block(text, folder, variables):
+    """Runs the lines of a block in a shell: what they print, and how they end."""
+    ended = subprocess.run(
+        ["sh", "-eu", "-c", text],
+        cwd=folder,
+        env=variables,
+        stdin=subprocess.DEVNULL,
+        stdout=subprocess.PIPE,
+        stderr=subprocess.STDOUT,
+        timeout=SECONDS,
+        check=False,
+    )
+    return ended.stdout, ended.returncode
+
+
+def run_blocks(blocks, folder, variables):
+    """Does what the blocks of a section say: None, or what went wrong."""
+    follow = [*blocks[1:], Block("", "", "")]
+    for block, following in zip(blocks, follow):
+        if block.language == "sh":
+            wanted = following.text.encode() if following.language == "text" else b""
+            got, status = run_block(block.text, folder, variables)
+            if (wanted, 0) != (got, status):
+                return f"  {block.text}  wanted: {shown(wanted)}\n  got:    {shown(got)}, exit {status}"
+        elif block.language != "text":
+            name = re.findall(r"`([^`]*)`", block.above)[-1]
+            (folder / name).write_text(block.text, encoding="utf-8")
+    return None
+
+
+def recipe(first, blocks):
+    """The check of a recipe, after the first section."""
+
+    def check(program, folder):
+        variables = environment(program, folder)
+        place = folder / "empty"
+        place.mkdir()
+        return run_blocks(first, place, variables) or run_blocks(blocks, place, variables)
+
+    return check
+
+
+def recipes():
+    """A check for each section of the page."""
+    found = [(name, list(blocks_of(text))) for name, text in sections_of(PAGE.read_text(encoding="utf-8"))]
+    if len(found) < 2 or not all(blocks for _, blocks in found):
+        raise Unusable("docs/USING.md has a section without a block")
+    layers = frozenset({"use", "many files"})
+    for name, blocks in found:
+        text = "".join(block.text for block in blocks if block.language == "sh")
+        tools = frozenset(tool for word, tool in TOOLS.items() if word in text)
+        yield Check(f"recipe: {name}", layers, recipe(found[0][1], blocks if blocks != found[0][1] else []), tools)
+
+
+# README.md
+
+
+def shown_lines(text):
+    """What README shows: each command line, and what it prints (None where only the line stands there)."""
+    for block in re.findall(r"(?:^    .*\n)+", text, re.MULTILINE):
+        lines = [line[4:] for line in block.splitlines()]
+        if not lines[0].startswith("$ "):
+            yield from ((line, None) for line in lines)
+            continue
+        for part in "\n".join(lines)[2:].split("\n$ "):
+            line, _, printed = part.partition("\n")
+            yield line, f"{printed}\n".encode() if printed else b""
+
+
+def laid_out(program, folder):
+    """A folder that is as the repository's once the program is built: `./build` there has nothing to do."""
+    built = folder / "crates/spv/out"
+    built.mkdir(parents=True)
+    (built / "spv").symlink_to(program)
+    (folder / "tests").symlink_to(TESTS)
+    build = folder / "build"
+    build.write_text("#!/bin/sh\n", encoding="utf-8")
+    build.chmod(0o755)
+
+
+def without_installing(text):
+    """README without its part on installing, whose command lines are run with the library's checks."""
+    before, title, rest = text.partition("\n## Install\n")
+    return before + rest[rest.find("\n## ") :] if title else text
+
+
+def readme(program, folder):
+    """Each command line of README prints what stands below it, and ends with 0, or with 1 where that is a fault."""
+    laid_out(program, folder)
+    count = 0
+    for line, printed in shown_lines(without_installing(README.read_text(encoding="utf-8"))):
+        if line == ".ci/run":
+            continue
+        got, status = run_block(line, folder, {**os.environ, "LC_ALL": "C"})
+        count += 1
+        due = int((printed or b"").startswith(b"fault "))
+        if status != due or printed is not None and printed != got:
+            return f"  {line}\n  wanted: {shown(printed or b'')}, exit {due}\n  got:    {shown(got)}, exit {status}"
+    return None if count >= 6 else f"  README has {count} command lines"
+
+
+def checks():
+    """The recipes, and README. They need all layers of the program."""
+    return [*recipes(), Check("README: its command lines", frozenset({"trace"}), readme)]

@@ -1,0 +1,84 @@
+"""Small modules of random blocks, phis and calls, whose values may be missing and whose calls may go round."""
+
+import struct
+
+from .flow import GENERATE
+
+INT, ONE, TWO, TRUE, VOID = GENERATE.INT, GENERATE.ONE, GENERATE.TWO, GENERATE.TRUE, GENERATE.VOID
+MOST_WORDS = 20_000
+
+
+class Body:
+    """A function in the making: its blocks with their targets, and the ids of the values that they define."""
+
+    def __init__(self, module, chance, function, callees, often):
+        self.module, self.chance, self.function, self.callees = module, chance, function, callees
+        self.often = often
+        self.labels = [module.fresh() for _ in range(chance.randrange(1, 12))]
+        self.targets = [self.some_targets(at) for at in range(len(self.labels))]
+        self.values = [[module.fresh() for _ in range(chance.randrange(3))] for _ in self.labels]
+
+    def some_targets(self, at):
+        """The places of the targets of a block: none, one, two that differ, or any of a switch."""
+        others = range(1, len(self.labels))
+        if not others or self.chance.random() < 0.15:
+            return []
+        onwards = [min(at + 1, len(self.labels) - 1), self.chance.choice(others)]
+        how = self.chance.randrange(4)
+        if how == 0 or len(others) == 1:
+            return onwards[:1]
+        if how < 3:
+            return self.chance.sample(others, 2)
+        return [self.chance.choice(others) for _ in range(self.chance.randrange(1, 5))]
+
+    def value(self):
+        """A constant or, so often, a value of some block of the function."""
+        made = [of for values in self.values for of in values]
+        return self.chance.choice(made if made and self.chance.random() < self.often else (ONE, TWO))
+
+    def put_phi(self, at):
+        """A phi with a pair for each block that has this one as a target."""
+        parents = [label for label, targets in zip(self.labels, self.targets) if at in targets]
+        pairs = [word for parent in parents for word in (self.value(), parent)]
+        self.module.put(245, INT, self.module.fresh(), *pairs)
+
+    def put_end(self, at):
+        """A terminator with the block's targets."""
+        labels = [self.labels[target] for target in self.targets[at]]
+        if not labels:
+            self.module.put(253)
+        elif len(labels) == 1:
+            self.module.put(249, *labels)
+        elif len(labels) == 2 and labels[0] != labels[1]:
+            self.module.put(250, TRUE, *labels)
+        else:
+            cases = [word for number, label in enumerate(labels[1:]) for word in (number, label)]
+            self.module.put(251, ONE, labels[0], *cases)
+
+    def put(self):
+        """The whole function."""
+        self.module.put(54, VOID, self.function, 0, GENERATE.FUNCTION_TYPE)
+        for at, label in enumerate(self.labels):
+            self.module.put(248, label)
+            if at and self.chance.random() < 0.5:
+                self.put_phi(at)
+            for value in self.values[at]:
+                self.module.put(128, INT, value, self.value(), self.value())
+            if self.callees and self.chance.random() < 0.2:
+                self.module.put(57, VOID, self.module.fresh(), self.chance.choice(self.callees))
+            self.put_end(at)
+        self.module.put(56)
+
+
+def tangle(chance):
+    """The bytes of such a module."""
+    module = GENERATE.Module(MOST_WORDS)
+    GENERATE.opened(module)
+    callees = [module.fresh() for _ in range(chance.randrange(8))]
+    functions = [GENERATE.KERNEL, *callees]
+    chance.shuffle(functions)
+    often = chance.choice((0.0, 0.01, 0.1, 0.3))
+    for function in functions:
+        Body(module, chance, function, callees, often).put()
+    module.words[3] = module.next
+    return struct.pack(f"<{len(module.words)}I", *module.words)

@@ -1,0 +1,258 @@
+// Makes each call of the library, on good arguments and on all kinds of bad ones, and looks at each status.
+//
+// usage: calls GRAMMAR MODULE LINES TEXT
+//
+// MODULE is a valid module in little byte order, LINES what `spv explain` says of it without its last four bytes,
+// TEXT what `spv show` writes of it. Exit status 0, or 1 with the line of the first check that fails. C99 and C++17.
+#include "spvk.h"
+
+#include "files.h"
+
+#include <errno.h>
+#include <string.h>
+
+#define CHECK(it)                                          \
+    do {                                                   \
+        if (!(it)) {                                       \
+            printf("calls.c:%d: %s\n", __LINE__, #it);     \
+            return 1;                                      \
+        }                                                  \
+    } while (0)
+
+// What a place for an answer holds before a call, to see that it is left alone.
+static const spvk_verdict UNTOUCHED = {7, 8, 9};
+static const spvk_fault UNTOUCHED_FAULT = {7, 8};
+
+static bool is_verdict(spvk_verdict it, uint32_t code, uint32_t inst, uint32_t word) {
+    return it.code == code && it.inst == inst && it.word == word;
+}
+
+static bool is_untouched(spvk_verdict it) { return is_verdict(it, 7, 8, 9); }
+
+static bool is_fault(spvk_fault it, uint32_t code, uint32_t line) { return it.code == code && it.line == line; }
+
+static bool is_empty(spvk_buffer it) { return it.data == NULL && it.size == 0 && it.held == NULL; }
+
+static bool has(spvk_buffer it, file wanted) {
+    return it.size == wanted.size && memcmp(it.data, wanted.bytes, wanted.size) == 0;
+}
+
+// A buffer with something in it that is not the library's: a call must not look at it.
+static spvk_buffer unread(void) {
+    spvk_buffer it = SPVK_BUFFER_NONE;
+    it.data = (const uint8_t *)"x";
+    it.size = 1;
+    it.held = (void *)1;
+    return it;
+}
+
+typedef struct refused {
+    spvk_status status;
+    const char *text;
+} refused;
+
+// One text for each code of a grammar file. (tests/cases/grammar-files.cases)
+static const refused REFUSED[] = {
+    {SPVK_J1, ""},
+    {SPVK_J1, "{\"instructions\":["},
+    {SPVK_J2, "{}"},
+    {SPVK_J3, "{\"instructions\":[{\"opname\":\"OpA\",\"opcode\":-0,\"operands\":[]}],\"operand_kinds\":[]}"},
+    {SPVK_J4, "{\"instructions\":[{\"opname\":\"OpA\",\"opcode\":1,\"operands\":[{\"kind\":\"X\"}]}],"
+              "\"operand_kinds\":[]}"},
+    {SPVK_J5, "{\"instructions\":[{\"opname\":\"OpA\",\"opcode\":1,"
+              "\"operands\":[{\"kind\":\"IdRef\",\"quantifier\":\"\"}]}],"
+              "\"operand_kinds\":[{\"kind\":\"IdRef\",\"category\":\"Id\"}]}"},
+    {SPVK_J6, "{\"instructions\":[],\"operand_kinds\":[{\"kind\":\"IdResult\",\"category\":\"Id\"},"
+              "{\"kind\":\"X\",\"category\":\"ValueEnum\",\"enumerants\":"
+              "[{\"enumerant\":\"A\",\"value\":0,\"parameters\":[{\"kind\":\"IdResult\"}]}]}]}"},
+    {SPVK_J7, "{\"instructions\":[],\"operand_kinds\":[{\"kind\":\"IdRef\",\"category\":\"Id\"},"
+              "{\"kind\":\"IdRef\",\"category\":\"Composite\",\"bases\":[]}]}"},
+};
+
+// What gives no grammar.
+static int no_grammars(file text) {
+    spvk_grammar grammar;
+    for (size_t at = 0; at < sizeof REFUSED / sizeof *REFUSED; at++) {
+        grammar.held = (void *)1; // it is not looked at
+        const uint8_t *bytes = (const uint8_t *)REFUSED[at].text;
+        spvk_status status = spvk_grammar_new(bytes, strlen(REFUSED[at].text), &grammar);
+        if (status != REFUSED[at].status) printf("%s: status %d\n", REFUSED[at].text, (int)status);
+        CHECK(status == REFUSED[at].status);
+        CHECK(grammar.held == NULL);
+    }
+    CHECK(spvk_grammar_new(NULL, 0, &grammar) == SPVK_J1 && grammar.held == NULL);
+    grammar.held = (void *)1;
+    CHECK(spvk_grammar_new(NULL, 5, &grammar) == SPVK_NULL && grammar.held == NULL);
+    CHECK(spvk_grammar_new(text.bytes, text.size, NULL) == SPVK_NULL);
+    CHECK(spvk_grammar_new(NULL, 5, NULL) == SPVK_NULL);
+    CHECK(spvk_grammar_new(text.bytes, text.size / 2, &grammar) == SPVK_J1 && grammar.held == NULL);
+    spvk_grammar_delete(NULL);
+    spvk_grammar_delete(&grammar);
+    spvk_grammar_delete(&grammar);
+    CHECK(grammar.held == NULL);
+    return 0;
+}
+
+// No call answers by a grammar that is none: a null pointer, one that was never made, one that was deleted.
+static int without_grammar(const spvk_grammar *grammar, file module, file text) {
+    spvk_verdict verdict = UNTOUCHED;
+    spvk_fault fault = UNTOUCHED_FAULT;
+    spvk_buffer buffer = unread();
+    CHECK(spvk_check(grammar, module.bytes, module.size, &verdict) == SPVK_NO_GRAMMAR);
+    CHECK(spvk_check(grammar, NULL, 9, NULL) == SPVK_NO_GRAMMAR);
+    CHECK(spvk_explain(grammar, module.bytes, module.size, &verdict, &buffer) == SPVK_NO_GRAMMAR && is_empty(buffer));
+    CHECK(spvk_explain(grammar, NULL, 9, NULL, NULL) == SPVK_NO_GRAMMAR);
+    buffer = unread();
+    CHECK(spvk_show(grammar, module.bytes, module.size, &verdict, &buffer) == SPVK_NO_GRAMMAR && is_empty(buffer));
+    CHECK(spvk_show(grammar, NULL, 9, NULL, NULL) == SPVK_NO_GRAMMAR);
+    buffer = unread();
+    CHECK(spvk_assemble(grammar, text.bytes, text.size, false, &fault, &buffer) == SPVK_NO_GRAMMAR && is_empty(buffer));
+    CHECK(spvk_assemble(grammar, NULL, 9, true, NULL, NULL) == SPVK_NO_GRAMMAR);
+    CHECK(is_untouched(verdict) && is_fault(fault, 7, 8));
+    return 0;
+}
+
+static int checks(const spvk_grammar *grammar, file module) {
+    spvk_verdict verdict = UNTOUCHED;
+    CHECK(spvk_check(grammar, NULL, 9, &verdict) == SPVK_NULL);
+    CHECK(spvk_check(grammar, module.bytes, module.size, NULL) == SPVK_NULL);
+    CHECK(is_untouched(verdict));
+    CHECK(spvk_check(grammar, module.bytes, module.size, &verdict) == SPVK_OK);
+    CHECK(is_verdict(verdict, SPVK_VALID, SPVK_NOWHERE, SPVK_NOWHERE));
+    CHECK(spvk_check(grammar, NULL, 0, &verdict) == SPVK_OK);
+    CHECK(is_verdict(verdict, SPVK_W2, SPVK_NOWHERE, SPVK_NOWHERE));
+    verdict = UNTOUCHED;
+    CHECK(spvk_check(grammar, module.bytes, 0, &verdict) == SPVK_OK && verdict.code == SPVK_W2);
+    CHECK(spvk_check(grammar, module.bytes, module.size - 1, &verdict) == SPVK_OK && verdict.code == SPVK_W3);
+    CHECK(spvk_check(grammar, module.bytes, module.size - 4, &verdict) == SPVK_OK);
+    CHECK(verdict.code == SPVK_L2 && verdict.word == module.size / 4 - 1);
+    return 0;
+}
+
+// The longest module there can be, and one byte more.
+static int longest(const spvk_grammar *grammar) {
+    const size_t most = 16777216;
+    spvk_verdict verdict = UNTOUCHED;
+    uint8_t *zeros = (uint8_t *)calloc(1, most + 1);
+    CHECK(zeros != NULL);
+    CHECK(spvk_check(grammar, zeros, most, &verdict) == SPVK_OK && verdict.code == SPVK_W4);
+    CHECK(spvk_check(grammar, zeros, most + 1, &verdict) == SPVK_OK && verdict.code == SPVK_W8);
+    free(zeros);
+    return 0;
+}
+
+static int explanations(const spvk_grammar *grammar, file module, file lines) {
+    spvk_verdict verdict = UNTOUCHED;
+    spvk_buffer buffer = unread();
+    const file valid = {(uint8_t *)"valid\n", 6}, empty = {(uint8_t *)"fault W2\n", 9};
+    CHECK(spvk_explain(grammar, NULL, 9, &verdict, &buffer) == SPVK_NULL && is_empty(buffer));
+    buffer = unread();
+    CHECK(spvk_explain(grammar, module.bytes, module.size, NULL, &buffer) == SPVK_NULL && is_empty(buffer));
+    CHECK(spvk_explain(grammar, module.bytes, module.size, &verdict, NULL) == SPVK_NULL);
+    CHECK(is_untouched(verdict));
+    buffer = unread();
+    CHECK(spvk_explain(grammar, module.bytes, module.size, &verdict, &buffer) == SPVK_OK);
+    CHECK(verdict.code == SPVK_VALID && has(buffer, valid));
+    spvk_buffer_delete(&buffer);
+    CHECK(is_empty(buffer));
+    spvk_buffer_delete(&buffer);
+    CHECK(spvk_explain(grammar, module.bytes, module.size - 4, &verdict, &buffer) == SPVK_OK);
+    CHECK(verdict.code == SPVK_L2 && has(buffer, lines));
+    spvk_buffer_delete(&buffer);
+    CHECK(spvk_explain(grammar, NULL, 0, &verdict, &buffer) == SPVK_OK);
+    CHECK(is_verdict(verdict, SPVK_W2, SPVK_NOWHERE, SPVK_NOWHERE));
+    CHECK(buffer.size >= empty.size && memcmp(buffer.data, empty.bytes, empty.size) == 0);
+    spvk_buffer_delete(&buffer);
+    return 0;
+}
+
+static int texts(const spvk_grammar *grammar, file module, file text) {
+    spvk_verdict verdict = UNTOUCHED;
+    spvk_buffer buffer = unread();
+    CHECK(spvk_show(grammar, NULL, 9, &verdict, &buffer) == SPVK_NULL && is_empty(buffer));
+    buffer = unread();
+    CHECK(spvk_show(grammar, module.bytes, module.size, NULL, &buffer) == SPVK_NULL && is_empty(buffer));
+    CHECK(spvk_show(grammar, module.bytes, module.size, &verdict, NULL) == SPVK_NULL);
+    CHECK(is_untouched(verdict));
+    buffer = unread();
+    CHECK(spvk_show(grammar, module.bytes, module.size, &verdict, &buffer) == SPVK_OK);
+    CHECK(verdict.code == SPVK_VALID && has(buffer, text));
+    spvk_buffer_delete(&buffer);
+    buffer = unread();
+    CHECK(spvk_show(grammar, NULL, 0, &verdict, &buffer) == SPVK_OK);
+    CHECK(is_verdict(verdict, SPVK_W2, SPVK_NOWHERE, SPVK_NOWHERE) && is_empty(buffer));
+    // Whether the module is valid is not asked: without its last instruction it has a text.
+    CHECK(spvk_show(grammar, module.bytes, module.size - 4, &verdict, &buffer) == SPVK_OK);
+    CHECK(verdict.code == SPVK_VALID && buffer.size < text.size && memcmp(buffer.data, text.bytes, buffer.size) == 0);
+    spvk_buffer_delete(&buffer);
+    return 0;
+}
+
+static int modules(const spvk_grammar *grammar, file module, file text) {
+    spvk_fault fault = UNTOUCHED_FAULT;
+    spvk_buffer buffer = unread();
+    const uint8_t no_text[] = {';', 0xff};
+    CHECK(spvk_assemble(grammar, NULL, 9, false, &fault, &buffer) == SPVK_NULL && is_empty(buffer));
+    buffer = unread();
+    CHECK(spvk_assemble(grammar, text.bytes, text.size, false, NULL, &buffer) == SPVK_NULL && is_empty(buffer));
+    CHECK(spvk_assemble(grammar, text.bytes, text.size, false, &fault, NULL) == SPVK_NULL);
+    buffer = unread();
+    CHECK(spvk_assemble(grammar, no_text, sizeof no_text, false, &fault, &buffer) == SPVK_NOT_TEXT && is_empty(buffer));
+    CHECK(is_fault(fault, 7, 8));
+    buffer = unread();
+    CHECK(spvk_assemble(grammar, text.bytes, text.size, false, &fault, &buffer) == SPVK_OK);
+    CHECK(is_fault(fault, SPVK_ASSEMBLED, 0) && has(buffer, module));
+    spvk_buffer_delete(&buffer);
+    CHECK(spvk_assemble(grammar, text.bytes, text.size, true, &fault, &buffer) == SPVK_OK);
+    CHECK(is_fault(fault, SPVK_ASSEMBLED, 0) && buffer.size == module.size);
+    for (size_t at = 0; at < module.size; at++) CHECK(buffer.data[at] == module.bytes[at ^ 3]);
+    spvk_buffer_delete(&buffer);
+    buffer = unread();
+    CHECK(spvk_assemble(grammar, NULL, 0, false, &fault, &buffer) == SPVK_OK);
+    CHECK(is_fault(fault, SPVK_S1, 1) && is_empty(buffer));
+    spvk_buffer_delete(NULL);
+    return 0;
+}
+
+// Names and sentences: of each code of a verdict, and of no other number.
+static int rules(void) {
+    const char letters[] = "WIPLDYCMEFAG";
+    int count = 0;
+    for (uint32_t code = 0; code < 1300; code++) {
+        const char *name = spvk_rule_name(code), *sentence = spvk_rule_sentence(code);
+        CHECK((name == NULL) == (sentence == NULL));
+        if (name == NULL) continue;
+        CHECK(name[0] == letters[code / 100] && (uint32_t)atoi(name + 1) == code % 100 && strlen(sentence) > 9);
+        CHECK(spvk_rule_name(code) == name);
+        count++;
+    }
+    CHECK(count == 49);
+    CHECK(spvk_rule_name(SPVK_VALID) == NULL && spvk_rule_name(SPVK_NOWHERE) == NULL);
+    CHECK(strcmp(spvk_rule_name(SPVK_I12), "I12") == 0 && strcmp(spvk_rule_name(SPVK_G1), "G1") == 0);
+    CHECK(strcmp(spvk_version(), SPVK_VERSION) == 0);
+    return 0;
+}
+
+int main(int count, char **words) {
+    if (count != 5) return 2;
+    file text = read_file(words[1]), module = read_file(words[2]);
+    file lines = read_file(words[3]), shown = read_file(words[4]);
+    spvk_grammar grammar = SPVK_GRAMMAR_NONE;
+    int failed = without_grammar(NULL, module, shown) || without_grammar(&grammar, module, shown) || no_grammars(text);
+    CHECK(!failed);
+    CHECK(spvk_grammar_new(text.bytes, text.size, &grammar) == SPVK_OK && grammar.held != NULL);
+    free(text.bytes);
+    errno = 0;
+    failed = checks(&grammar, module) || longest(&grammar) || explanations(&grammar, module, lines);
+    failed = failed || texts(&grammar, module, shown) || modules(&grammar, module, shown) || rules();
+    CHECK(!failed);
+    CHECK(errno == 0);
+    spvk_grammar_delete(&grammar);
+    CHECK(grammar.held == NULL);
+    CHECK(without_grammar(&grammar, module, shown) == 0);
+    spvk_grammar_delete(&grammar);
+    free(module.bytes);
+    free(lines.bytes);
+    free(shown.bytes);
+    return 0;
+}

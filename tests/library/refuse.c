@@ -1,0 +1,202 @@
+// Refuses each growth of memory of each call in turn: first the first, in the next call the second, and so on until a
+// call is refused none; then the same with all growths after it refused too.
+//
+// usage: refuse GRAMMAR MODULE
+//
+// MODULE is a valid module. A call that was refused a growth must answer SPVK_MEMORY, leave its places for answers as
+// they were, hold no memory, and answer rightly when it is made again. A call that can do without a growth may answer
+// rightly at once; how often is told. Linked with -Wl,--wrap=malloc,--wrap=realloc,--wrap=free. Exit status 0, or 1
+// with what is wrong.
+#include "spvk.h"
+
+#include "files.h"
+
+#include <string.h>
+
+void *__real_malloc(size_t size);
+void *__real_realloc(void *old, size_t size);
+void __real_free(void *block);
+
+// Growths up to the refused one, or -1 for none; whether all after it are refused; how many were; and how many blocks
+// live.
+static long left = -1, refused, blocks;
+static bool all_later;
+
+static bool is_refused(void) {
+    if (left < 0 || left-- > 0) return false;
+    left = all_later ? 0 : -1;
+    refused++;
+    return true;
+}
+
+void *__wrap_malloc(size_t size) {
+    void *block = is_refused() ? NULL : __real_malloc(size);
+    blocks += block != NULL;
+    return block;
+}
+
+void *__wrap_realloc(void *old, size_t size) {
+    void *block = is_refused() ? NULL : __real_realloc(old, size);
+    blocks += old == NULL && block != NULL;
+    return block;
+}
+
+void __wrap_free(void *block) {
+    blocks -= block != NULL;
+    __real_free(block);
+}
+
+// What the calls are made with.
+static file text, module, shown;
+static size_t faulty_size;
+static spvk_grammar grammar = SPVK_GRAMMAR_NONE;
+
+// What a call answered: its status, two numbers of its verdict or fault, and how many bytes it made.
+typedef struct answer {
+    spvk_status status;
+    uint32_t code, place;
+    size_t size;
+} answer;
+
+static const answer NOTHING = {SPVK_MEMORY, 7, 8, 0};
+
+static answer by_new(void) {
+    spvk_grammar made = SPVK_GRAMMAR_NONE;
+    answer it = {spvk_grammar_new(text.bytes, text.size, &made), 7, 8, 0};
+    it.size = made.held != NULL;
+    spvk_grammar_delete(&made);
+    return it;
+}
+
+static answer by_check_of(size_t size) {
+    spvk_verdict verdict = {7, 8, 9};
+    answer it = {spvk_check(&grammar, module.bytes, size, &verdict), 0, 0, 0};
+    it.code = verdict.code;
+    it.place = verdict.inst;
+    return it;
+}
+
+static answer by_check(void) { return by_check_of(module.size); }
+
+static answer by_check_of_fault(void) { return by_check_of(faulty_size); }
+
+static answer with_verdict(spvk_status status, spvk_verdict verdict, spvk_buffer *buffer) {
+    answer it = {status, verdict.code, verdict.inst, buffer->size};
+    spvk_buffer_delete(buffer);
+    return it;
+}
+
+static answer by_explain_of(size_t size) {
+    spvk_verdict verdict = {7, 8, 9};
+    spvk_buffer buffer = SPVK_BUFFER_NONE;
+    spvk_status status = spvk_explain(&grammar, module.bytes, size, &verdict, &buffer);
+    return with_verdict(status, verdict, &buffer);
+}
+
+static answer by_explain(void) { return by_explain_of(module.size); }
+
+static answer by_explain_of_fault(void) { return by_explain_of(faulty_size); }
+
+static answer by_show_of(size_t size) {
+    spvk_verdict verdict = {7, 8, 9};
+    spvk_buffer buffer = SPVK_BUFFER_NONE;
+    spvk_status status = spvk_show(&grammar, module.bytes, size, &verdict, &buffer);
+    return with_verdict(status, verdict, &buffer);
+}
+
+static answer by_show(void) { return by_show_of(module.size); }
+
+static answer by_show_of_fault(void) { return by_show_of(module.size - 2); }
+
+static answer by_assemble_of(size_t size) {
+    spvk_fault fault = {7, 8};
+    spvk_buffer buffer = SPVK_BUFFER_NONE;
+    answer it = {spvk_assemble(&grammar, shown.bytes, size, true, &fault, &buffer), 0, 0, 0};
+    it.code = fault.code;
+    it.place = fault.line;
+    it.size = buffer.size;
+    spvk_buffer_delete(&buffer);
+    return it;
+}
+
+static answer by_assemble(void) { return by_assemble_of(shown.size); }
+
+static answer by_assemble_of_fault(void) { return by_assemble_of(shown.size - 2); }
+
+typedef struct call {
+    const char *name;
+    answer (*make)(void);
+} call;
+
+static const call CALLS[] = {
+    {"grammar_new", by_new},
+    {"check", by_check},
+    {"check of a fault", by_check_of_fault},
+    {"explain", by_explain},
+    {"explain of a fault", by_explain_of_fault},
+    {"show", by_show},
+    {"show of a fault", by_show_of_fault},
+    {"assemble", by_assemble},
+    {"assemble of a fault", by_assemble_of_fault},
+};
+
+static bool are_equal(answer one, answer other) {
+    return one.status == other.status && one.code == other.code && one.place == other.place && one.size == other.size;
+}
+
+static int wrong(call it, long number, const char *what, answer got) {
+    printf("%s, growth %ld refused%s: %s: status %d, code %u, place %u, %lu bytes\n", it.name, number,
+           all_later ? " and all later" : "", what, (int)got.status, (unsigned)got.code, (unsigned)got.place,
+           (unsigned long)got.size);
+    return 1;
+}
+
+static int each_refused(call it) {
+    const answer wanted = it.make();
+    long number = 1, without = 0;
+    if (wanted.status != SPVK_OK) return wrong(it, 0, "no answer", wanted);
+    for (;; number++) {
+        const long before = blocks;
+        refused = 0;
+        left = number - 1;
+        const answer got = it.make();
+        left = -1;
+        if (blocks != before) return wrong(it, number, "memory is lost", got);
+        if (refused == 0 && !are_equal(got, wanted)) return wrong(it, number, "not reached, and another answer", got);
+        if (refused == 0) break;
+        if (are_equal(got, wanted)) {
+            without++;
+        } else if (!are_equal(got, NOTHING) && !(it.make == by_new && got.status == SPVK_MEMORY && got.size == 0)) {
+            return wrong(it, number, "another answer", got);
+        }
+        const answer again = it.make();
+        if (!are_equal(again, wanted)) return wrong(it, number, "made again, another answer", again);
+    }
+    printf("%s: %ld growths refused in turn%s, %ld of them done without\n", it.name, number - 1,
+           all_later ? " with all later" : "", without);
+    return 0;
+}
+
+int main(int count, char **words) {
+    spvk_verdict verdict = {0, 0, 0};
+    spvk_buffer buffer;
+    if (count != 3) return 2;
+    text = read_file(words[1]);
+    module = read_file(words[2]);
+    faulty_size = module.size - 4;
+    const long before = blocks;
+    if (spvk_grammar_new(text.bytes, text.size, &grammar) != SPVK_OK) return 2;
+    if (spvk_show(&grammar, module.bytes, module.size, &verdict, &buffer) != SPVK_OK) return 2;
+    shown.size = buffer.size;
+    shown.bytes = (uint8_t *)buffer.data;
+    for (int later = 0; later < 2; later++) {
+        all_later = later;
+        for (size_t at = 0; at < sizeof CALLS / sizeof *CALLS; at++) {
+            if (each_refused(CALLS[at])) return 1;
+        }
+    }
+    spvk_buffer_delete(&buffer);
+    spvk_grammar_delete(&grammar);
+    if (blocks != before) printf("%ld blocks are lost\n", blocks - before);
+    return blocks != before;
+}
