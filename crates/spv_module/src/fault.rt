@@ -3,8 +3,8 @@ ghost use Rattle.std.specs.Prelude.{◌≡◌};
 use std::alloc::{AllocError, AllocFailed};
 
 /// A rule of the profile, by its code: I of single instructions, P of the profile, L of layout, D of ids, Y, C, M and E
-/// of types and declarations, F and A of flow, G of calls. Of these only I1 to I12 are told so far. The numbers in
-/// brackets are sections of the Khronos SPIR-V Specification 1.6.
+/// of types and declarations, F and A of flow, G of calls. The numbers in brackets are sections of the Khronos SPIR-V
+/// Specification 1.6.
 #[derive(Clone, Copy, Debug, PartialEq, Eq)]
 pub enum Rule {
     /// The first word of an instruction tells a count of 0 words. (2.3)

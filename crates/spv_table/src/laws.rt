@@ -1,8 +1,10 @@
-//! Worked examples of the definitions. The function does nothing: its contract is what is proved.
+//! Worked examples of the definitions, and that tables may be shared. The functions do nothing: their contracts and bounds are what is proved.
 
 ghost use Rattle.std.specs.Prelude.{ℕ, [], ◌∷◌};
 ghost use Rattle.spv_table.specs.Implied.{Lists, Implied};
 ghost use Rattle.spv_table.specs.Example.{empty_table, capability_table};
+
+use crate::table::Table;
 
 /// Worked examples of what declared capabilities imply.
 pub fn capability_examples()
@@ -17,3 +19,10 @@ pub fn capability_examples()
     ensures unknown_name { (c : ℕ) → ¬ Lists capability_table 4 c }
     ensures no_kind { (a c : ℕ) → ¬ Lists empty_table a c }
 {}
+
+fn shared<T: Send + Sync>() {}
+
+/// A table may be read by several threads at the same time, and let go of by another than made it. The bounds say so.
+pub fn tables_are_shared() {
+    shared::<Table>();
+}

@@ -2,7 +2,7 @@ ghost use Rattle.std.specs.Prelude.{◌≡◌, string_bytes, IfOk};
 
 use std::alloc::{AllocError, Global};
 use std::marker::Model;
-use std::rc::Rc;
+use std::sync::Arc;
 
 /// A list that does not change. Contracts see it as the list of its items.
 #[derive(Debug, Drop)]
@@ -37,7 +37,7 @@ impl<T> Listed<T> {
 /// A list of names that several elements may share. Contracts see it as the list of the names.
 #[derive(Debug, Drop)]
 pub struct NameList {
-    names: Rc<Vec<Name>>,
+    names: Arc<Vec<Name>>,
 }
 
 impl Model for NameList {
@@ -53,7 +53,7 @@ impl NameList {
     pub fn from_vec(alloc: Global, names: Vec<Name>) -> Result<NameList, AllocError>
         ensures { IfOk result (λ l. l ≡ names.items) }
     {
-        match Rc::new(alloc, names) {
+        match Arc::new(alloc, names) {
             Ok(names) => Ok(NameList { names }),
             Err(_) => Err(AllocError),
         }
@@ -72,7 +72,7 @@ impl NameList {
     pub fn as_slice(&self) -> &[Name]
         ensures { result.now ≡ self.now }
     {
-        Rc::as_ref(&self.names).as_slice()
+        Arc::as_ref(&self.names).as_slice()
     }
 }
 

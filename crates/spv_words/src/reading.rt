@@ -123,6 +123,41 @@ fn put_in_little(bytes: &mut [u8], order: Order)
     }
 }
 
+/// The image of bytes, and their order, or the first code that they break.
+fn image_in(bytes: Vec<u8>) -> Result<(Image, Order), WordError>
+    requires { vec_len bytes ≤ greatest_size }
+    ensures gives { IfOk result (λ p. IsModule p.1 bytes.items p.0) }
+    ensures refused { IfErr result (λ e. IsFirstBroken e bytes.items) }
+    ensures codes { IfErr result (λ e. (e ≢ W1) × (e ≢ W9)) }
+{
+    let mut bytes = bytes;
+    let order = order_of_module(&bytes)?;
+    put_in_little(&mut bytes, order);
+    Ok((Image::from_octets(bytes), order))
+}
+
+/// The words of a module whose bytes are in memory, and the order that the bytes are in. (2.3)
+///
+/// The bytes are copied once.
+///
+/// # Errors
+///
+/// `W8` where there are more than 16,777,216 bytes; `W9` where memory was refused; else the first of
+/// `W2` to `W7` that the bytes break.
+pub fn image_of(alloc: Global, bytes: &[u8]) -> Result<(Image, Order), WordError>
+    // The bytes are a module's, in that order, and the image is its words.
+    ensures gives { IfOk result (λ p. IsModule p.1 bytes.now p.0) }
+    // The code is the first that the bytes break, so a module's bytes are refused by W9 alone.
+    ensures refuses { IfErr result (λ e. Refuses e bytes.now) }
+    // Nothing is read, so no read fails.
+    ensures reads { ¬ IsErrOf result W1 }
+{
+    if bytes.len() > GREATEST_SIZE {
+        return Err(WordError::W8);
+    }
+    image_in(Vec::from_slice(alloc, bytes)?)
+}
+
 /// Reads a module's bytes to the end of input: its words, and the order that the bytes are in.
 /// (2.3)
 ///
@@ -143,8 +178,5 @@ pub fn read_image<R: Source>(alloc: Global, r: &mut R) -> Result<(Image, Order),
     ensures steady { ¬ IsErrOf result W1 → R.failures r.new ≡ R.failures r.old }
     ensures most { IfSome (R.remaining r.old) (λ xs. GaveAtMost 16777217 xs (R.remaining r.new)) }
 {
-    let mut bytes = read_all(alloc, r)?;
-    let order = order_of_module(&bytes)?;
-    put_in_little(&mut bytes, order);
-    Ok((Image::from_octets(bytes), order))
+    image_in(read_all(alloc, r)?)
 }
