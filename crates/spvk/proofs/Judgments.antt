@@ -19,18 +19,17 @@ use Rattle.std.proofs.Common.{◌+◌, ◌-◌, arith}
 use Rattle.spvk.specs.inner.Refusal.{refusal_of}
 
 -- a code that was read, of bytes in memory
-pub refused_bytes : (G : Table) (known : Option (List ℕ)) (code : WordError)
-    → IfSome known (λ xs. Refuses code xs) → IfSome known (λ xs. IfOk (refusal_of code) (λ j. IsVerdict G xs (line_of j)))
-refused_bytes G None code h = tt
-refused_bytes G (Some xs) word.W1 h = tt
-refused_bytes G (Some xs) word.W9 h = tt
-refused_bytes G (Some xs) word.W2 h = refused word.W2 h
-refused_bytes G (Some xs) word.W3 h = refused word.W3 h
-refused_bytes G (Some xs) word.W4 h = refused word.W4 h
-refused_bytes G (Some xs) word.W5 h = refused word.W5 h
-refused_bytes G (Some xs) word.W6 h = refused word.W6 h
-refused_bytes G (Some xs) word.W7 h = refused word.W7 h
-refused_bytes G (Some xs) word.W8 h = refused word.W8 h
+pub refused_bytes : (G : Table) (bytes : List ℕ) (code : WordError)
+    → Refuses code bytes → IfOk (refusal_of code) (λ j. IsVerdict G bytes (line_of j))
+refused_bytes G bytes word.W1 h = tt
+refused_bytes G bytes word.W9 h = tt
+refused_bytes G bytes word.W2 h = refused word.W2 h
+refused_bytes G bytes word.W3 h = refused word.W3 h
+refused_bytes G bytes word.W4 h = refused word.W4 h
+refused_bytes G bytes word.W5 h = refused word.W5 h
+refused_bytes G bytes word.W6 h = refused word.W6 h
+refused_bytes G bytes word.W7 h = refused word.W7 h
+refused_bytes G bytes word.W8 h = refused word.W8 h
 
 fault_verdict : (G : Table) (bytes words : List ℕ) (order : Order) (f : fault.Fault) → IsModule order bytes words → IsFault G words f
     → IsVerdict G bytes (fault_line f.rule f.inst f.word)
@@ -52,10 +51,3 @@ valid_judged G bytes words order v p e h a = valid_verdict G bytes words order p
 pub fault_judged : (G : Table) (bytes words : List ℕ) (order : Order) (v : Verdict) (f : fault.Fault) → v ≡ Fault f → IsModule order bytes words
     → IsAnswer G words v → IsVerdict G bytes (fault_line f.rule f.inst f.word)
 fault_judged G bytes words order v f e h a = fault_verdict G bytes words order f h (rw e at a)
-
--- the verdict on the words that were read
-pub known_verdict : (G : Table) (known : Option (List ℕ)) (words : List ℕ) (order : Order) (r : Result Judgment Memory)
-    → IfSome known (λ xs. IsModule order xs words) → ((bytes : List ℕ) (o : Order) → IsModule o bytes words → IfOk r (λ j. IsVerdict G bytes (line_of j)))
-    → IfSome known (λ xs. IfOk r (λ j. IsVerdict G xs (line_of j)))
-known_verdict G None words order r h v = tt
-known_verdict G (Some xs) words order r h v = v xs order h

@@ -58,10 +58,3 @@ refused_shown G bytes word.W5 j t e h v b = refused word.W5 h (told_as (Refused 
 refused_shown G bytes word.W6 j t e h v b = refused word.W6 h (told_as (Refused word.W6) j t (same word.W6 j e) v) b
 refused_shown G bytes word.W7 j t e h v b = refused word.W7 h (told_as (Refused word.W7) j t (same word.W7 j e) v) b
 refused_shown G bytes word.W8 j t e h v b = refused word.W8 h (told_as (Refused word.W8) j t (same word.W8 j e) v) b
-
--- what is shown of the words that were read
-pub known_shown : (G : Table) (known : Option (List ℕ)) (words : List ℕ) (order : Order) (r : Result Text Memory)
-    → IfSome known (λ xs. IsModule order xs words) → ((bytes : List ℕ) (o : Order) → IsModule o bytes words → IfOk r (λ t. IsShowing G bytes t))
-    → IfSome known (λ xs. IfOk r (λ t. IsShowing G xs t))
-known_shown G None words order r h v = tt
-known_shown G (Some xs) words order r h v = v xs order h

@@ -6,10 +6,9 @@ ghost use Rattle.spv_verdict.specs.Verdict.{IsVerdict};
 ghost use Rattle.spv_verdict.specs.Text.{line_of};
 ghost use Rattle.spvk.specs.inner.Refusal.{refusal_of};
 
-use crate::octets::Octets;
 use spv_table::{Memory, Table};
 use spv_verdict::{Judgment, Verdict, check};
-use spv_words::{Image, WordError, read_image};
+use spv_words::{Image, WordError, image_of};
 use std::alloc::Global;
 
 /// What the code comes to with which bytes gave no image. W1 does not come of bytes in memory, and W9 is want of memory.
@@ -37,9 +36,8 @@ fn judged(alloc: Global, table: &Table, image: &Image) -> Result<Judgment, Memor
 pub fn judge(alloc: Global, table: &Table, bytes: &[u8]) -> Result<Judgment, Memory>
     ensures { IfOk result (λ j. IsVerdict table.now bytes.now (line_of j)) }
 {
-    let image = match read_image(alloc, &mut Octets::new(bytes)) {
-        Ok((image, _)) => image,
-        Err(code) => return refusal(code),
-    };
-    judged(alloc, table, &image)
+    match image_of(alloc, bytes) {
+        Ok((image, _)) => judged(alloc, table, &image),
+        Err(code) => refusal(code),
+    }
 }

@@ -9,14 +9,13 @@ ghost use Rattle.spvk.specs.Held.{shown};
 ghost use Rattle.spvk.specs.Show.{IsShowing, Shows, ShowsAt};
 
 use crate::judging::refusal;
-use crate::octets::Octets;
 use crate::status::{MEMORY, NO_GRAMMAR, OK};
 use crate::text::Text;
 use spv_module::Stop;
 use spv_table::{Memory, Table};
 use spv_text::show_image;
 use spv_verdict::Judgment;
-use spv_words::{Image, WordError, read_image};
+use spv_words::{Image, WordError, image_of};
 use std::alloc::Global;
 use std::{mem, ptr};
 
@@ -45,11 +44,10 @@ fn refused(code: WordError) -> Result<Text, Memory>
 fn shown_bytes(alloc: Global, table: &Table, bytes: &[u8]) -> Result<Text, Memory>
     ensures { IfOk result (λ t. IsShowing table.now bytes.now t) }
 {
-    let image = match read_image(alloc, &mut Octets::new(bytes)) {
-        Ok((image, _)) => image,
-        Err(code) => return refused(code),
-    };
-    shown_image(alloc, table, &image)
+    match image_of(alloc, bytes) {
+        Ok((image, _)) => shown_image(alloc, table, &image),
+        Err(code) => refused(code),
+    }
 }
 
 /// Shows a module's bytes by a table.
