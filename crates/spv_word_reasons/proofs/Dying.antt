@@ -1,6 +1,6 @@
 -- What shows that the instruction at a word is dead.
-use Rattle.std.proofs.Common.{◌≡◌, ◌++◌, ◌+◌, ◌-◌, ◌*◌, ◌/◌, ◌%◌, ◌≤◌, ◌<◌, ◌∙◌, ℕ, List, [], ◌∷◌, Some, None, length}
-use Rattle.std.proofs.Common.{drop, take, slice_index, refl, sym, ap, arith}
+use Rattle.std.proofs.Common.{◌≡◌, ◌++◌, ◌+◌, ◌-◌, ◌*◌, ◌/◌, ◌%◌, ◌<◌, ◌∙◌, ℕ, List, ◌∷◌, Some, None, length}
+use Rattle.std.proofs.Common.{drop, slice_index, sym, ap, arith}
 use Rattle.std.proofs.lemmas.List.{drop_more, drop-drop, take-append-drop, length-drop}
 use Rattle.spv_table.specs.declared.table.Entry.{Entry}
 use Rattle.spv_table.specs.Table.{Table, entry_of, pattern_of}

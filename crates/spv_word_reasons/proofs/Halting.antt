@@ -1,5 +1,5 @@
 -- Where the words of an instruction stop to spell operands: one place, and one kind.
-use Rattle.std.proofs.Common.{◌≡◌, ◌++◌, ◌+◌, ◌∙◌, ℕ, suc, List, [], ◌∷◌, Option, Some, None, length, map, refl, sym}
+use Rattle.std.proofs.Common.{◌≡◌, ◌++◌, ◌+◌, ℕ, suc, List, [], ◌∷◌, Option, Some, None, length, map, refl, sym}
 use Rattle.std.proofs.Common.{ap, arith, length-append}
 use Rattle.spv_table.specs.Table.{Table, Item}
 use Rattle.spv_module.specs.Operand.{Plain, Context, and_then, after}

@@ -1,14 +1,14 @@
 -- What words that spell operands make of what comes after them.
-use Rattle.std.proofs.Common.{◌≡◌, ◌++◌, ◌+◌, ◌∙◌, ℕ, List, [], ◌∷◌, length, map, refl, sym, ap, arith, append_assoc}
-use Rattle.std.proofs.Common.{append-nil, length-append}
+use Rattle.std.proofs.Common.{◌≡◌, ◌++◌, ◌+◌, ℕ, List, [], ◌∷◌, length, map, sym}
+use Rattle.std.proofs.Common.{length-append}
 use Rattle.spv_table.specs.Table.{Table, Item}
-use Rattle.spv_module.specs.Operand.{Plain, Context, and_then, after}
+use Rattle.spv_module.specs.Operand.{Plain, Context, after}
 use Rattle.spv_module.specs.Shape.{Slot, shape_of}
 use Rattle.spv_module.specs.Spelling.{Match}
 use Rattle.spv_module.specs.Refusal.{Refuses, Misfit}
 use Rattle.spv_module.specs.declared.fault.Rule.{Rule}
 use Rattle.spv_module.specs.declared.fault.Rule.TheVariants.{I5}
-use Rattle.spv_inst.specs.Flat.{Due, OneOf, due, Matches, Fails}
+use Rattle.spv_inst.specs.Flat.{Due, OneOf, due}
 use Rattle.spv_inst.specs.Sofar.{Sofar}
 use Rattle.spv_inst.proofs.Steps.{at_start, at_operand, at_parts, at_maybe, at_many, at_no_maybe, at_no_many, at_end}
 use Rattle.spv_inst.proofs.Steps.{at_refusal}

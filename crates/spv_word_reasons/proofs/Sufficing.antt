@@ -1,5 +1,5 @@
 -- Evidence shows that an instruction is dead.
-use Rattle.std.proofs.Common.{◌≡◌, ◌++◌, ◌+◌, ◌-◌, ◌∙◌, ℕ, zero, suc, List, [], ◌∷◌, length, refl, sym, ap, arith}
+use Rattle.std.proofs.Common.{◌≡◌, ◌++◌, ◌+◌, ◌∙◌, ℕ, suc, List, [], ◌∷◌, length, refl, sym, ap, arith}
 use Rattle.std.proofs.Common.{append_assoc, append-nil, length-append}
 use Rattle.spv_table.specs.Table.{Table, pattern_of}
 use Rattle.spv_module.specs.Operand.{PlainInst, start}
@@ -7,7 +7,7 @@ use Rattle.spv_module.specs.Instruction.{IsInstruction, Listing, IsListing}
 use Rattle.spv_module.specs.Dead.{IsDead, DiesAt, IsDeadAt}
 use Rattle.spv_module.specs.declared.fault.Rule.{Rule}
 use Rattle.spv_evidence.specs.declared.evidence.Evidence.{Evidence}
-use Rattle.spv_inst.proofs.Lists.{dead_same, instruction_same, instruction_not_dead, listing_same, dies_same}
+use Rattle.spv_inst.proofs.Lists.{dead_same, instruction_same}
 use Rattle.spv_word_reasons.specs.Evidence.{Shows, IsEvidence}
 use Rattle.spv_word_reasons.proofs.Reaching.{left_misfit, refused_misfit}
 

@@ -1,11 +1,11 @@
 -- Evidence of a rule at a word is one alone.
-use Rattle.std.proofs.Common.{◌≡◌, ◌++◌, ◌+◌, ◌*◌, ◌<◌, ◌∙◌, ℕ, suc, List, [], ◌∷◌, Option, Some, None, Bool, true}
+use Rattle.std.proofs.Common.{◌≡◌, ◌++◌, ◌+◌, ◌*◌, ◌<◌, ◌∙◌, ℕ, List, [], ◌∷◌, Option, Some, None, Bool, true}
 use Rattle.std.proofs.Common.{false, length, refl, sym, ap, arith, append_assoc}
 use Rattle.spv_table.specs.declared.table.Entry.{Entry}
 use Rattle.spv_table.specs.Table.{Table, entry_of, pattern_of}
 use Rattle.spv_module.specs.Operand.{PlainInst, start}
 use Rattle.spv_module.specs.Shape.{Shape}
-use Rattle.spv_module.specs.Instruction.{IsInstruction, Listing, first_word}
+use Rattle.spv_module.specs.Instruction.{Listing, first_word}
 use Rattle.spv_module.specs.Refusal.{Refuses}
 use Rattle.spv_module.specs.declared.fault.Rule.{Rule}
 use Rattle.spv_module.specs.declared.fault.Rule.TheVariants.{I1, I2, I3, I5}
@@ -14,7 +14,7 @@ use Rattle.spv_inst.proofs.Lists.{instruction_same}
 use Rattle.spv_evidence.specs.declared.evidence.Evidence.{Evidence}
 use Rattle.spv_evidence.specs.declared.evidence.Evidence.TheVariants as evidence
 use Rattle.spv_word_reasons.specs.Evidence.{Shows, IsEvidence}
-use Rattle.spv_word_reasons.proofs.Halting.{Halts, SameHalt, halts_same, reached_halts}
+use Rattle.spv_word_reasons.proofs.Halting.{Halts, halts_same, reached_halts}
 
 -- a shape does not refuse words by the rules that are told of an instruction's first word, or of words left over
 abbrev is_refusal : Rule → Bool

@@ -1,6 +1,6 @@
 -- The turns of the loop over an instruction's operands.
-use Rattle.std.proofs.Common.{◌≡◌, ◌≢◌, ◌++◌, ◌∙◌, ◌+◌, ◌-◌, ◌≤◌, ◌<◌, ℕ, List, [], ◌∷◌, None, Some, Bool, true}
-use Rattle.std.proofs.Common.{false, nat_lt, suc, length, map, take, drop, refl, sym, ap, arith}
+use Rattle.std.proofs.Common.{◌≡◌, ◌++◌, ◌∙◌, ◌+◌, ◌-◌, ◌≤◌, ◌<◌, ℕ, List, [], ◌∷◌, None, Some, Bool, true}
+use Rattle.std.proofs.Common.{false, nat_lt, suc, length, map, take, drop, refl, ap, arith}
 use Rattle.std.proofs.lemmas.List.{drop-drop, take-append-drop, drop-take}
 use Rattle.std.proofs.lemmas.Bool.Decides.{nat_tests}
 use Rattle.spv_table.specs.Table.{Item, Table}
@@ -9,7 +9,7 @@ use Rattle.spv_module.specs.declared.fault.Rule.{Rule}
 use Rattle.spv_module.specs.Module.{plain_operand, plain_operands}
 use Rattle.spv_module.specs.Operand.{PlainInst, Plain, Context, start, after, type_in}
 use Rattle.spv_module.specs.Width.{first_id}
-use Rattle.spv_module.specs.Shape.{Slot, alone, shape_of}
+use Rattle.spv_module.specs.Shape.{Slot, alone}
 use Rattle.spv_module.specs.Spelling.{Match}
 use Rattle.spv_inst.specs.declared.definitions.Definitions.{Definitions}
 use Rattle.spv_inst.specs.declared.reader.Known.{Known}

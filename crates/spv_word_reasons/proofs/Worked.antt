@@ -1,13 +1,13 @@
 -- Worked examples under a small table.
-use Rattle.std.proofs.Common.{◌≡◌, ◌++◌, ℕ, List, [], ◌∷◌, Some, None, refl, arith, map}
+use Rattle.std.proofs.Common.{ℕ, List, [], ◌∷◌, Some, refl, arith}
 use Rattle.spv_table.specs.Table.{pattern_of}
-use Rattle.spv_module.specs.Operand.{PlainInst, Plain, OfType, Result, Id, start}
-use Rattle.spv_module.specs.Shape.{AsResult, alone, shape_of}
+use Rattle.spv_module.specs.Operand.{OfType, Result, Id, start}
+use Rattle.spv_module.specs.Shape.{alone, shape_of}
 use Rattle.spv_module.specs.Spelling.{Takes, mask_parameters}
 use Rattle.spv_module.specs.Instruction.{Listing}
 use Rattle.spv_module.specs.Refusal.{Refuses}
 use Rattle.spv_module.specs.declared.fault.Rule.{Rule}
-use Rattle.spv_module.specs.declared.fault.Rule.TheVariants.{I3, I4, I5, I7}
+use Rattle.spv_module.specs.declared.fault.Rule.TheVariants.{I3, I4, I7}
 use Rattle.spv_module.specs.Example.{small, access, load_entry, string_entry}
 use Rattle.spv_inst.specs.Flat.{OneOf, MaybeOf}
 use Rattle.spv_inst.proofs.Lists.{dies_not}

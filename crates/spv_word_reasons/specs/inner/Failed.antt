@@ -1,5 +1,5 @@
 -- Which operand fails. (For the code alone.)
-use Rattle.std.specs.Prelude.{◌≡◌, ◌+◌, ℕ, List, [], ◌∷◌, length, Some, None}
+use Rattle.std.specs.Prelude.{ℕ, List, [], ◌∷◌, length, Some, None}
 use Rattle.spv_table.specs.Table.{Table, Item}
 use Rattle.spv_module.specs.Operand.{Plain, Context, after}
 use Rattle.spv_module.specs.Shape.{Slot, shape_of}

@@ -1,4 +1,4 @@
-use Rattle.std.proofs.Common.{◌≡◌, ◌<◌, ◌≤◌, ◌++◌, ◌∷◌, [], length, refl, arith, length-append}
+use Rattle.std.proofs.Common.{◌≡◌, ◌<◌, ◌≤◌, ◌∷◌, [], length, refl, arith, length-append}
 use Rattle.spv_table.specs.Table.{pattern_of}
 use Rattle.spv_module.specs.Module.{plain_operands}
 use Rattle.spv_inst.specs.Agenda.{plain_slot}
