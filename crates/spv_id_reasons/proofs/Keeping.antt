@@ -1,8 +1,6 @@
 -- What is kept of ids.
-use Rattle.std.proofs.Common.{◌≡◌, ◌<◌, ◌≤◌, ◌+◌, ◌∙◌, ℕ, nat_eq, if◌then◌else◌, List, Option, Some, None, refl, sym, subst, inl, inr, arith}
+use Rattle.std.proofs.Common.{◌≡◌, ◌<◌, ◌+◌, ◌∙◌, ℕ, List, Option, Some, None, refl, sym, subst, inl, inr, arith}
 use Rattle.std.specs.Prelude.{slice_get}
-use Rattle.std.specs.BTreeMap.{get}
-use Rattle.std.specs.Ordering.{nat_cmp}
 use Rattle.std.proofs.lemmas.Bool.{cases_lt, cases_eq}
 use Rattle.std.proofs.lemmas.Bool.Decides.{nat_tests}
 use Rattle.spv_module.specs.Operand.{PlainInst, result_in}
@@ -14,16 +12,6 @@ use Rattle.spv_id_reasons.proofs.Rules.{defined_here, result_here}
 -- below n, or n
 pub below_or : (A : Type 0) (k n : ℕ) → k < n + 1 → (k < n → A) → (k ≡ n → A) → A
 below_or A k n h a b = elim (cases_lt k n) [ inl l ↦ a l | inr l ↦ b (omega arith) ]
-
-pub puts_below : (k l : Kept) (id n : ℕ) → id < k.bound → l.bound ≡ k.bound → ((x : ℕ) → get nat_cmp l.places x ≡ (if nat_eq id x then Some n else get nat_cmp k.places x)) → Puts k l id n
-puts_below k l id n w b g = record {
-  same = b;
-  here = λ h. let e = g id in grind (arith, nat_tests);
-  others = λ x h. let e = g x in grind (arith, nat_tests);
-}
-
-pub puts_past : (k : Kept) (id n : ℕ) → k.bound ≤ id → Puts k k id n
-puts_past k id n w = record { same = refl; here = λ h. absurd (omega arith); others = λ x h. refl }
 
 pub kept_none : (bound : ℕ) (P : ℕ → Option ℕ → Type 0) (l : Kept) → l.bound ≡ bound → ((x : ℕ) → kept l x ≡ None) → ((x : ℕ) → P x None) → AreKept bound P l
 kept_none bound P l c n p = record { same = c; each = λ x b. subst (λ o. P x o) (sym (n x)) (p x) }
