@@ -6,12 +6,12 @@ ghost use Rattle.spv_id_reasons.specs.inner.Known.{kept, Puts};
 use std::alloc::{AllocError, Global};
 use std::collections::BTreeMap;
 
-/// Of each id below a bound the number of an instruction, if one is kept. Memory grows with the ids of which one is kept,
+/// Of each id below a bound the number of an instruction, if one is kept. Memory grows with the ids of which one is,
 /// and not with the bound.
 #[derive(Drop)]
 pub struct Kept {
     bound: u32,
-    /// What is kept of ids.
+    /// What is kept of ids, all below the bound.
     places: BTreeMap<u32, u32>,
 }
 
