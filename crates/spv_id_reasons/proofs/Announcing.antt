@@ -43,9 +43,6 @@ announced_other : (is : List PlainInst) (n x : ℕ) (o : Option ℕ) → ¬ (Ann
 announced_other is n x None h f = λ k l a. below_or ⊥ k n l (λ b. f k b a) (λ e. h (subst (λ m. Announces is m x) e a))
 announced_other is n x (Some m) h f = let b = f.below in record { below = omega arith; there = f.there }
 
-pub announced_none : (is : List PlainInst) (x : ℕ) → IsAnnouncedBefore is 0 x None
-announced_none is x = λ k l. absurd (omega arith)
-
 pub announced_put : (bound : ℕ) (is : List PlainInst) (n id : ℕ) (i : PlainInst) (l m : Kept) → slice_get is n ≡ Some i → announced_id i ≡ Some id → Puts l m id n → AreAnnounced bound is n l
     → AreAnnounced bound is (n + 1) m
 announced_put bound is n id i l m t r p a =

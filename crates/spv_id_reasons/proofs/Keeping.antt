@@ -13,9 +13,6 @@ use Rattle.spv_id_reasons.proofs.Rules.{defined_here, result_here}
 pub below_or : (A : Type 0) (k n : ℕ) → k < n + 1 → (k < n → A) → (k ≡ n → A) → A
 below_or A k n h a b = elim (cases_lt k n) [ inl l ↦ a l | inr l ↦ b (omega arith) ]
 
-pub kept_none : (bound : ℕ) (P : ℕ → Option ℕ → Type 0) (l : Kept) → l.bound ≡ bound → ((x : ℕ) → kept l x ≡ None) → ((x : ℕ) → P x None) → AreKept bound P l
-kept_none bound P l c n p = record { same = c; each = λ x b. subst (λ o. P x o) (sym (n x)) (p x) }
-
 pub kept_on : (bound : ℕ) (P Q : ℕ → Option ℕ → Type 0) (l : Kept) → AreKept bound P l → ((x : ℕ) → x < bound → P x (kept l x) → Q x (kept l x)) → AreKept bound Q l
 kept_on bound P Q l a f = record { same = a.same; each = λ x b. f x b (a.each x b) }
 
@@ -40,9 +37,6 @@ first_more is n x m f = let b = f.below in record { below = omega arith; there =
 
 first_here : (is : List PlainInst) (n x : ℕ) → IsDefinedAt is x n → IsFirstBefore is n x None → IsFirstBefore is (n + 1) x (Some n)
 first_here is n x d f = record { below = omega arith; there = d; first = f }
-
-pub first_none : (is : List PlainInst) (x : ℕ) → IsFirstBefore is 0 x None
-first_none is x = λ k l. absurd (omega arith)
 
 -- a result of which nothing is kept
 pub first_put : (bound : ℕ) (is : List PlainInst) (n id : ℕ) (i : PlainInst) (l m : Kept) → slice_get is n ≡ Some i → result_in i.operands ≡ Some id → (id < l.bound) × (kept l id ≡ None) → Puts l m id n → AreFirst bound is n l

@@ -53,9 +53,6 @@ home_same is m f g h k = function_same is m f g h.of k.of
 
 -- Local definitions: one instruction more.
 
-pub local_none : (is : List PlainInst) (here : Option ℕ) (x : ℕ) → IsLocalBefore is here 0 x None
-local_none is here x = λ k f l. absurd (omega arith)
-
 local_other : (is : List PlainInst) (here : Option ℕ) (n x : ℕ) (o : Option ℕ) → (IsDefinedAt is x n → (f : ℕ) → ¬ (IsHome is n f)) → IsLocalBefore is here n x o → IsLocalBefore is here (n + 1) x o
 local_other is here n x None h p = λ k f l d g. below_or ⊥ k n l (λ b. p k f b d g) (λ e. h (subst (λ m. IsDefinedAt is x m) e d) f (subst (λ m. IsHome is m f) e g))
 local_other is here n x (Some m) h p = record {
