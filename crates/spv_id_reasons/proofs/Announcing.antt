@@ -1,12 +1,12 @@
 -- The ids that instructions announce.
 use Rattle.std.proofs.Common.{◌≡◌, ◌+◌, ◌∙◌, ℕ, List, Bool, true, false, cond, Option, Some, None, refl, sym, subst, arith, nat_eq}
-use Rattle.std.proofs.Math.ListN.{set}
 use Rattle.std.specs.Prelude.{slice_get}
 use Rattle.std.proofs.lemmas.Bool.Decides.{nat_tests}
 use Rattle.spv_module.specs.Operand.{Plain, PlainInst, Id}
 use Rattle.spv_ids.specs.Order.{Announces}
 use Rattle.spv_ids.specs.Test.{id_in, announced_id}
-use Rattle.spv_id_reasons.specs.inner.Known.{kept}
+use Rattle.spv_id_reasons.specs.declared.kept.Kept.{Kept}
+use Rattle.spv_id_reasons.specs.inner.Known.{kept, Puts}
 use Rattle.spv_id_reasons.specs.inner.Order.{IsAnnouncedBefore, AreAnnounced}
 use Rattle.spv_id_reasons.proofs.Using.{same_inst}
 use Rattle.spv_id_reasons.proofs.Keeping.{below_or, kept_on, kept_put}
@@ -43,17 +43,14 @@ announced_other : (is : List PlainInst) (n x : ℕ) (o : Option ℕ) → ¬ (Ann
 announced_other is n x None h f = λ k l a. below_or ⊥ k n l (λ b. f k b a) (λ e. h (subst (λ m. Announces is m x) e a))
 announced_other is n x (Some m) h f = let b = f.below in record { below = omega arith; there = f.there }
 
-pub announced_none : (is : List PlainInst) (x : ℕ) → IsAnnouncedBefore is 0 x None
-announced_none is x = λ k l. absurd (omega arith)
-
-pub announced_put : (bound : ℕ) (is : List PlainInst) (n id : ℕ) (i : PlainInst) (l : List (Option ℕ)) → slice_get is n ≡ Some i → announced_id i ≡ Some id → AreAnnounced bound is n l
-    → AreAnnounced bound is (n + 1) (set l id (Some n))
-announced_put bound is n id i l t r a =
-    kept_put bound (IsAnnouncedBefore is n) (IsAnnouncedBefore is (n + 1)) l id n a
+pub announced_put : (bound : ℕ) (is : List PlainInst) (n id : ℕ) (i : PlainInst) (l m : Kept) → slice_get is n ≡ Some i → announced_id i ≡ Some id → Puts l m id n → AreAnnounced bound is n l
+    → AreAnnounced bound is (n + 1) m
+announced_put bound is n id i l m t r p a =
+    kept_put bound (IsAnnouncedBefore is n) (IsAnnouncedBefore is (n + 1)) l m id n p a
     (λ x e p. announced_other is n x (kept l x) (λ d. let q = announced_by is n x i t d in let s : Some x ≡ Some id = sym q ∙ r in e cc) p)
     (record { below = omega arith; there = announces is n id i t r })
 
-pub announced_nothing : (bound : ℕ) (is : List PlainInst) (n : ℕ) (i : PlainInst) (l : List (Option ℕ)) → slice_get is n ≡ Some i → announced_id i ≡ None → AreAnnounced bound is n l → AreAnnounced bound is (n + 1) l
+pub announced_nothing : (bound : ℕ) (is : List PlainInst) (n : ℕ) (i : PlainInst) (l : Kept) → slice_get is n ≡ Some i → announced_id i ≡ None → AreAnnounced bound is n l → AreAnnounced bound is (n + 1) l
 announced_nothing bound is n i l t r a =
     kept_on bound (IsAnnouncedBefore is n) (IsAnnouncedBefore is (n + 1)) l a
     (λ x b p. announced_other is n x (kept l x) (λ d. let q = announced_by is n x i t d in let s : Some x ≡ None = sym q ∙ r in cc) p)

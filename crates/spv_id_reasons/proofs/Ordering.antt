@@ -20,6 +20,7 @@ use Rattle.spv_ids.specs.Test.{early_test}
 use Rattle.spv_evidence.specs.declared.evidence.Evidence.TheVariants.{Defined}
 use Rattle.spv_id_reasons.specs.declared.order.Site.{Site}
 use Rattle.spv_id_reasons.specs.Ids.{IsEvidence}
+use Rattle.spv_id_reasons.specs.declared.kept.Kept.{Kept}
 use Rattle.spv_id_reasons.specs.inner.Known.{kept, IsFirstOne, IsFirstBefore, AreFirst}
 use Rattle.spv_id_reasons.specs.inner.Order.{IsAnnounced, IsAnnouncedBefore, AreAnnounced, IsSite, IsDisordered}
 use Rattle.spv_id_reasons.specs.inner.Uses.{HasUse}
@@ -59,7 +60,7 @@ not_announced : (is : List PlainInst) (n x m : ℕ) (o : Option ℕ) → IsAnnou
 not_announced is n x m None f e l = f m l
 not_announced is n x m (Some k) f e l = cc
 
-is_early : (is : List PlainInst) (bound n x : ℕ) (site : Site) (l : List (Option ℕ)) → IsSite is n site → AreAnnounced bound is n l → x < bound → early_test site.section site.opcode (kept l x) ≡ true → IsInOrder is n x
+is_early : (is : List PlainInst) (bound n x : ℕ) (site : Site) (l : Kept) → IsSite is n site → AreAnnounced bound is n l → x < bound → early_test site.section site.opcode (kept l x) ≡ true → IsInOrder is n x
 is_early is bound n x site l s a b h =
     let t = test_yes (nat_eq site.section 11) (nat_eq site.opcode 39) (nat_eq site.opcode 30) (is_some (kept l x)) h in
     let c = subst (λ m. IsOfSection is n m) (eq_tells site.section 11 t.0) s.section in
@@ -76,7 +77,7 @@ opcode_same is n a b h g =
     let r = rw e at h.same in
     sym r ∙ g.same
 
-is_late : (is : List PlainInst) (bound n x : ℕ) (site : Site) (l : List (Option ℕ)) → IsSite is n site → AreAnnounced bound is n l → x < bound → ((m : ℕ) → m < n → ¬ (IsDefinedAt is x m))
+is_late : (is : List PlainInst) (bound n x : ℕ) (site : Site) (l : Kept) → IsSite is n site → AreAnnounced bound is n l → x < bound → ((m : ℕ) → m < n → ¬ (IsDefinedAt is x m))
     → early_test site.section site.opcode (kept l x) ≡ false → ¬ (IsInOrder is n x)
 is_late is bound n x site l s a b f h (IsInOrder.lower m k d) = f m k d
 is_late is bound n x site l s a b f h (IsInOrder.announced c o) =
@@ -88,7 +89,7 @@ is_late is bound n x site l s a b f h (IsInOrder.member m c o k d) =
     let t = test_no (nat_eq site.section 11) (nat_eq site.opcode 39) (nat_eq site.opcode 30) (is_some (kept l x)) h (eq_yes site.section 11 e) in
     not_announced is n x m (kept l x) (a.each x b) (t.1 (eq_yes site.opcode 30 (opcode_same is n site.opcode 30 s.opcode o))) k d
 
-pub order_by : (is : List PlainInst) (bound n x m : ℕ) (site : Site) (l : List (Option ℕ)) (b : Bool) → IsSite is n site → AreAnnounced bound is n l → x < bound → IsFirstOne is (length is) x m → site.inst ≤ m
+pub order_by : (is : List PlainInst) (bound n x m : ℕ) (site : Site) (l : Kept) (b : Bool) → IsSite is n site → AreAnnounced bound is n l → x < bound → IsFirstOne is (length is) x m → site.inst ≤ m
     → b ≡ early_test site.section site.opcode (kept l x) → MatchBool b (IsInOrder is n x) (¬ (IsInOrder is n x))
 order_by is bound n x m site l true s a w f h e = is_early is bound n x site l s a w (sym e)
 order_by is bound n x m site l false s a w f h e = is_late is bound n x site l s a w (λ k g d. let q = s.inst in f.first k (omega arith) d) (sym e)
@@ -98,18 +99,18 @@ order_lower is n x m site s f l = let q = s.inst in IsInOrder.lower m (omega ari
 
 -- The first definition that is kept.
 
-pub first_of : (bound : ℕ) (is : List PlainInst) (n x m : ℕ) (l : List (Option ℕ)) → AreFirst bound is n l → x < bound → kept l x ≡ Some m → IsFirstOne is n x m
+pub first_of : (bound : ℕ) (is : List PlainInst) (n x m : ℕ) (l : Kept) → AreFirst bound is n l → x < bound → kept l x ≡ Some m → IsFirstOne is n x m
 first_of bound is n x m l a b e = subst (λ o. IsFirstBefore is n x o) e (a.each x b)
 
-pub none_of : (bound : ℕ) (is : List PlainInst) (x : ℕ) (l : List (Option ℕ)) → AreFirst bound is (length is) l → x < bound → kept l x ≡ None → (m : ℕ) → ¬ (IsDefinedAt is x m)
+pub none_of : (bound : ℕ) (is : List PlainInst) (x : ℕ) (l : Kept) → AreFirst bound is (length is) l → x < bound → kept l x ≡ None → (m : ℕ) → ¬ (IsDefinedAt is x m)
 none_of bound is x l a b e m d =
     let f : IsFirstBefore is (length is) x None = subst (λ o. IsFirstBefore is (length is) x o) e (a.each x b) in
     f m (slice_get_within is m d.inst d.there) d
 
-pub disordered_here : (G : Table) (bound : ℕ) (is : List PlainInst) (n : ℕ) (i : PlainInst) (k x m : ℕ) (r : Role) (l : List (Option ℕ)) → IsUse G i k x r → AreFirst bound is (length is) l → kept l x ≡ Some m
+pub disordered_here : (G : Table) (bound : ℕ) (is : List PlainInst) (n : ℕ) (i : PlainInst) (k x m : ℕ) (r : Role) (l : Kept) → IsUse G i k x r → AreFirst bound is (length is) l → kept l x ≡ Some m
     → (x < bound → IsFirstOne is (length is) x m → ¬ (IsInOrder is n x)) → HasUse G i (IsDisordered bound is n m) k
 disordered_here G bound is n i k x m r l u a e h =
-    let c = a.count in
+    let c = a.same in
     let w = kept_within l x m e in
     let b : x < bound = omega arith in
     let f = first_of bound is (length is) x m l a b e in

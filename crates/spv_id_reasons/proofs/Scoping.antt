@@ -1,6 +1,5 @@
 -- Uses that are not in scope.
 use Rattle.std.proofs.Common.{◌≡◌, ◌<◌, ◌+◌, ◌∙◌, ℕ, List, Option, Some, None, refl, sym, ap, subst, inl, inr, length, arith}
-use Rattle.std.proofs.Math.ListN.{set}
 use Rattle.std.specs.Prelude.{slice_get}
 use Rattle.std.proofs.lemmas.Bool.{cases_eq}
 use Rattle.std.proofs.lemmas.Option.{slice_get_within, slice_get-get_or}
@@ -21,7 +20,8 @@ use Rattle.spv_ids.specs.Broken.{Broken}
 use Rattle.spv_ids.specs.Known.{IsHome, IsFunctionOf}
 use Rattle.spv_evidence.specs.declared.evidence.Evidence.TheVariants.{Local}
 use Rattle.spv_id_reasons.specs.Ids.{IsEvidence, IsLocalBy}
-use Rattle.spv_id_reasons.specs.inner.Known.{kept}
+use Rattle.spv_id_reasons.specs.declared.kept.Kept.{Kept}
+use Rattle.spv_id_reasons.specs.inner.Known.{kept, Puts}
 use Rattle.spv_id_reasons.specs.inner.Scope.{IsLocalOne, IsLocalBefore, AreLocal, IsUnscoped}
 use Rattle.spv_id_reasons.specs.inner.Uses.{HasUse}
 use Rattle.spv_id_reasons.proofs.Using.{same_inst, used_within}
@@ -52,9 +52,6 @@ home_same : (is : List PlainInst) (m f g : ℕ) → IsHome is m f → IsHome is 
 home_same is m f g h k = function_same is m f g h.of k.of
 
 -- Local definitions: one instruction more.
-
-pub local_none : (is : List PlainInst) (here : Option ℕ) (x : ℕ) → IsLocalBefore is here 0 x None
-local_none is here x = λ k f l. absurd (omega arith)
 
 local_other : (is : List PlainInst) (here : Option ℕ) (n x : ℕ) (o : Option ℕ) → (IsDefinedAt is x n → (f : ℕ) → ¬ (IsHome is n f)) → IsLocalBefore is here n x o → IsLocalBefore is here (n + 1) x o
 local_other is here n x None h p = λ k f l d g. below_or ⊥ k n l (λ b. p k f b d g) (λ e. h (subst (λ m. IsDefinedAt is x m) e d) f (subst (λ m. IsHome is m f) e g))
@@ -91,34 +88,34 @@ local_more is here n x f (Some m) h e s p = record {
 not_result : (is : List PlainInst) (n x id : ℕ) (i : PlainInst) → slice_get is n ≡ Some i → result_in i.operands ≡ Some id → (x ≡ id → ⊥) → ¬ (IsDefinedAt is x n)
 not_result is n x id i t r e d = let q = result_here is n x i t d in let s : Some x ≡ Some id = sym q ∙ r in e cc
 
-pub local_put : (bound : ℕ) (is : List PlainInst) (here : Option ℕ) (n id f : ℕ) (i : PlainInst) (l : List (Option ℕ)) → slice_get is n ≡ Some i → result_in i.operands ≡ Some id → IsHome is n f
-    → here ≡ Some f → AreLocal bound is here n l → AreLocal bound is here (n + 1) (set l id (Some n))
-local_put bound is here n id f i l t r h e a =
-    kept_put bound (IsLocalBefore is here n) (IsLocalBefore is here (n + 1)) l id n a
+pub local_put : (bound : ℕ) (is : List PlainInst) (here : Option ℕ) (n id f : ℕ) (i : PlainInst) (l m : Kept) → slice_get is n ≡ Some i → result_in i.operands ≡ Some id → IsHome is n f
+    → here ≡ Some f → Puts l m id n → AreLocal bound is here n l → AreLocal bound is here (n + 1) m
+local_put bound is here n id f i l m t r h e u a =
+    kept_put bound (IsLocalBefore is here n) (IsLocalBefore is here (n + 1)) l m id n u a
     (λ x c p. local_other is here n x (kept l x) (λ d. absurd (not_result is n x id i t r c d)) p)
     (local_new is here n id f (defined_here is n id i t r) h e)
 
-pub local_put_first : (bound : ℕ) (is : List PlainInst) (here : Option ℕ) (n id f : ℕ) (i : PlainInst) (l : List (Option ℕ)) → slice_get is n ≡ Some i → result_in i.operands ≡ Some id → IsHome is n f
-    → (id < length l) × (kept l id ≡ None) → AreLocal bound is here n l → AreLocal bound is here (n + 1) (set l id (Some n))
-local_put_first bound is here n id f i l t r h s a =
-    let c = a.count in
+pub local_put_first : (bound : ℕ) (is : List PlainInst) (here : Option ℕ) (n id f : ℕ) (i : PlainInst) (l m : Kept) → slice_get is n ≡ Some i → result_in i.operands ≡ Some id → IsHome is n f
+    → (id < l.bound) × (kept l id ≡ None) → Puts l m id n → AreLocal bound is here n l → AreLocal bound is here (n + 1) m
+local_put_first bound is here n id f i l m t r h s u a =
+    let c = a.same in
     let w = s.0 in
     let p : IsLocalBefore is here n id None = subst (λ o. IsLocalBefore is here n id o) s.1 (a.each id (omega arith)) in
-    kept_put bound (IsLocalBefore is here n) (IsLocalBefore is here (n + 1)) l id n a
+    kept_put bound (IsLocalBefore is here n) (IsLocalBefore is here (n + 1)) l m id n u a
     (λ x c p. local_other is here n x (kept l x) (λ d. absurd (not_result is n x id i t r c d)) p)
     (local_first is here n id f (defined_here is n id i t r) h p)
 
-pub local_kept : (bound : ℕ) (is : List PlainInst) (here : Option ℕ) (n id f : ℕ) (i : PlainInst) (l : List (Option ℕ)) → slice_get is n ≡ Some i → result_in i.operands ≡ Some id → IsHome is n f
-    → (here ≡ Some f → ⊥) → ((id < length l) × (kept l id ≡ None) → ⊥) → AreLocal bound is here n l → AreLocal bound is here (n + 1) l
+pub local_kept : (bound : ℕ) (is : List PlainInst) (here : Option ℕ) (n id f : ℕ) (i : PlainInst) (l : Kept) → slice_get is n ≡ Some i → result_in i.operands ≡ Some id → IsHome is n f
+    → (here ≡ Some f → ⊥) → ((id < l.bound) × (kept l id ≡ None) → ⊥) → AreLocal bound is here n l → AreLocal bound is here (n + 1) l
 local_kept bound is here n id f i l t r h e s a =
-    let c = a.count in
+    let c = a.same in
     kept_on bound (IsLocalBefore is here n) (IsLocalBefore is here (n + 1)) l a
     (λ x b p. elim (cases_eq x id) [
       | inl q ↦ local_more is here n x f (kept l x) h e (λ z. s (omega arith, rw (← q) z)) p
       | inr q ↦ local_other is here n x (kept l x) (λ d. absurd (not_result is n x id i t r q d)) p
     ])
 
-pub local_nothing : (bound : ℕ) (is : List PlainInst) (here : Option ℕ) (n : ℕ) (i : PlainInst) (l : List (Option ℕ)) → slice_get is n ≡ Some i → ((x : ℕ) → IsDefinedAt is x n → (f : ℕ) → ¬ (IsHome is n f))
+pub local_nothing : (bound : ℕ) (is : List PlainInst) (here : Option ℕ) (n : ℕ) (i : PlainInst) (l : Kept) → slice_get is n ≡ Some i → ((x : ℕ) → IsDefinedAt is x n → (f : ℕ) → ¬ (IsHome is n f))
     → AreLocal bound is here n l → AreLocal bound is here (n + 1) l
 local_nothing bound is here n i l t h a = kept_on bound (IsLocalBefore is here n) (IsLocalBefore is here (n + 1)) l a (λ x b p. local_other is here n x (kept l x) (h x) p)
 
@@ -127,16 +124,16 @@ no_result is n x i t r d = let q = result_here is n x i t d in let s : Some x �
 
 -- What is kept of the id that is used.
 
-pub local_one : (bound : ℕ) (is : List PlainInst) (here : Option ℕ) (n x m : ℕ) (l : List (Option ℕ)) → AreLocal bound is here n l → kept l x ≡ Some m → IsLocalOne is here n x m
+pub local_one : (bound : ℕ) (is : List PlainInst) (here : Option ℕ) (n x m : ℕ) (l : Kept) → AreLocal bound is here n l → kept l x ≡ Some m → IsLocalOne is here n x m
 local_one bound is here n x m l a e =
-    let c = a.count in
+    let c = a.same in
     let w = kept_within l x m e in
     subst (λ o. IsLocalBefore is here n x o) e (a.each x (omega arith))
 
 pub home_of : (is : List PlainInst) (x f : ℕ) (l : IsLocalTo is x f) → IsHome is l.place f
 home_of is x f l = record { of = l.of; after = l.after; before = l.before }
 
-pub not_local : (bound : ℕ) (is : List PlainInst) (here : Option ℕ) (x m f : ℕ) (l : List (Option ℕ)) → AreLocal bound is here (length is) l → x < bound → kept l x ≡ None → ¬ (IsLocalBy is x m f)
+pub not_local : (bound : ℕ) (is : List PlainInst) (here : Option ℕ) (x m f : ℕ) (l : Kept) → AreLocal bound is here (length is) l → x < bound → kept l x ≡ None → ¬ (IsLocalBy is x m f)
 not_local bound is here x m f l a b e p =
     let q : IsLocalBefore is here (length is) x None = subst (λ o. IsLocalBefore is here (length is) x o) e (a.each x b) in
     let d = p.local in
@@ -164,10 +161,10 @@ not_in_scope bound is here n x m f o p h e s =
     let t = home_same is m f p.function h p.home in
     e (q ∙ ap Some (sym (t ∙ r)))
 
-pub unscoped_here : (G : Table) (bound : ℕ) (is : List PlainInst) (here : Option ℕ) (n : ℕ) (i : PlainInst) (k x m f : ℕ) (r : Role) (l : List (Option ℕ)) → IsUse G i k x r → IsFunctionOf is n here
+pub unscoped_here : (G : Table) (bound : ℕ) (is : List PlainInst) (here : Option ℕ) (n : ℕ) (i : PlainInst) (k x m f : ℕ) (r : Role) (l : Kept) → IsUse G i k x r → IsFunctionOf is n here
     → AreLocal bound is here (length is) l → kept l x ≡ Some m → IsHome is m f → (here ≡ Some f → ⊥) → HasUse G i (IsUnscoped bound is n m f) k
 unscoped_here G bound is here n i k x m f r l u o a e h q =
-    let c = a.count in
+    let c = a.same in
     let w = kept_within l x m e in
     let p = local_one bound is here (length is) x m l a e in
     record { id = x; role = r; used = u; holds = record { below = omega arith; local = local_by is x m f p.there h; not = not_in_scope bound is here n x m f o p h q } }

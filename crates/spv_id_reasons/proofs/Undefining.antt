@@ -13,15 +13,16 @@ use Rattle.spv_ids.specs.Definition.{IsDefinedAt, IsUsedAt}
 use Rattle.spv_ids.specs.Broken.{Broken}
 use Rattle.spv_evidence.specs.declared.evidence.Evidence.TheVariants.{Operand}
 use Rattle.spv_id_reasons.specs.Ids.{IsEvidence}
+use Rattle.spv_id_reasons.specs.declared.kept.Kept.{Kept}
 use Rattle.spv_id_reasons.specs.inner.Known.{kept, IsFirstBefore, AreFirst}
 use Rattle.spv_id_reasons.specs.inner.Undefined.{IsUndefined}
 use Rattle.spv_id_reasons.specs.inner.Uses.{HasUse}
 use Rattle.spv_id_reasons.proofs.Using.{same_inst, used_within, not_such}
 use Rattle.spv_id_reasons.proofs.Telling.{in_range}
 
-undefined_here : (bound : ℕ) (is : List PlainInst) (l : List (Option ℕ)) (x : ℕ) (r : Role) → AreFirst bound is (length is) l → (x < length l) × (kept l x ≡ None) → IsUndefined bound is x r
+undefined_here : (bound : ℕ) (is : List PlainInst) (l : Kept) (x : ℕ) (r : Role) → AreFirst bound is (length is) l → (x < l.bound) × (kept l x ≡ None) → IsUndefined bound is x r
 undefined_here bound is l x r a h =
-    let c = a.count in
+    let c = a.same in
     let w = h.0 in
     let b : x < bound = omega arith in
     let f : IsFirstBefore is (length is) x None = subst (λ o. IsFirstBefore is (length is) x o) h.1 (a.each x b) in
@@ -31,14 +32,14 @@ no_first : (is : List PlainInst) (n x : ℕ) (o : Option ℕ) → ((m : ℕ) →
 no_first is n x None h f = refl
 no_first is n x (Some m) h f = absurd (h m f.there)
 
-free_here : (bound : ℕ) (is : List PlainInst) (l : List (Option ℕ)) (x : ℕ) (r : Role) → AreFirst bound is (length is) l → IsUndefined bound is x r → (x < length l) × (kept l x ≡ None)
+free_here : (bound : ℕ) (is : List PlainInst) (l : Kept) (x : ℕ) (r : Role) → AreFirst bound is (length is) l → IsUndefined bound is x r → (x < l.bound) × (kept l x ≡ None)
 free_here bound is l x r a u =
-    let c = a.count in
+    let c = a.same in
     let b = u.below in
     (omega arith, no_first is (length is) x (kept l x) u.none (a.each x b))
 
-pub undefined_or_not : (G : Table) (bound : ℕ) (is : List PlainInst) (i : PlainInst) (l : List (Option ℕ)) (k x : ℕ) (r : Role) (b : Bool) → IsUse G i k x r → AreFirst bound is (length is) l
-    → (IsTrue b ↔ ((x < length l) × (kept l x ≡ None))) → MatchBool b (HasUse G i (IsUndefined bound is) k) (¬ (HasUse G i (IsUndefined bound is) k))
+pub undefined_or_not : (G : Table) (bound : ℕ) (is : List PlainInst) (i : PlainInst) (l : Kept) (k x : ℕ) (r : Role) (b : Bool) → IsUse G i k x r → AreFirst bound is (length is) l
+    → (IsTrue b ↔ ((x < l.bound) × (kept l x ≡ None))) → MatchBool b (HasUse G i (IsUndefined bound is) k) (¬ (HasUse G i (IsUndefined bound is) k))
 undefined_or_not G bound is i l k x r true u a h = record { id = x; role = r; used = u; holds = undefined_here bound is l x r a (h.0 refl) }
 undefined_or_not G bound is i l k x r false u a h = not_such G i (IsUndefined bound is) k x r u (λ d. let p = h.1 (free_here bound is l x r a d) in cc)
 

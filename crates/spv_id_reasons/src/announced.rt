@@ -1,6 +1,6 @@
 //! The ids that instructions announce before they are defined.
 
-ghost use Rattle.std.specs.Prelude.{◌≡◌, ◌+◌, ◌≤◌, ℕ, List, Some, IfOk, length, map, slice_get};
+ghost use Rattle.std.specs.Prelude.{◌≡◌, ◌+◌, ◌≤◌, ℕ, List, Some, OnOk, IfOk, length, map, slice_get};
 ghost use Rattle.spv_module.specs.Operand.{PlainInst};
 ghost use Rattle.spv_module.specs.Module.{plain_inst, plain_operands};
 ghost use Rattle.spv_ids.specs.Test.{id_in, announced_id};
@@ -35,14 +35,17 @@ fn announced_by(inst: &Inst<'_>) -> Option<u32>
 }
 
 /// Keeps an OpTypeForwardPointer of the id that it names.
-fn keep_announced(announced: &mut Kept, inst: &Inst<'_>, at: u32)
-    ensures { (is : List PlainInst) (bound : ℕ) → slice_get is at ≡ Some (plain_inst inst.now)
+///
+/// An `AllocError` comes only where a growth of memory was refused.
+fn keep_announced(announced: &mut Kept, inst: &Inst<'_>, at: u32) -> Result<(), AllocError>
+    ensures { OnOk result ((is : List PlainInst) (bound : ℕ) → slice_get is at ≡ Some (plain_inst inst.now)
         → AreAnnounced bound is at announced.old
-        → AreAnnounced bound is (at + 1) announced.new }
+        → AreAnnounced bound is (at + 1) announced.new) }
 {
     if let Some(id) = announced_by(inst) {
-        announced.put(id, at);
+        announced.put(id, at)?;
     }
+    Ok(())
 }
 
 /// Of each id below the bound an OpTypeForwardPointer before instruction `at` that names it.
@@ -57,9 +60,9 @@ pub fn announced_before(
     requires { at ≤ length insts.now }
     ensures { IfOk result (λ a. AreAnnounced bound (map plain_inst insts.now) at a) }
 {
-    let mut announced = Kept::new(alloc, bound)?;
+    let mut announced = Kept::new(alloc, bound);
     for m in 0..at {
-        keep_announced(&mut announced, &insts[m as usize], m);
+        keep_announced(&mut announced, &insts[m as usize], m)?;
     }
     Ok(announced)
 }

@@ -27,8 +27,9 @@ use std::alloc::{AllocError, Global};
 /// - D4: the first operand that is a use which is not in order, and the first definition of its id.
 /// - D5: the first operand that is a use which is not in scope, and a local definition of its id with its function.
 ///
-/// Time is linear in the words of the module and in its bound. D3 to D5 take memory, at most 16 bytes for each id below
-/// the bound: an `AllocError` comes only where a growth of memory was refused.
+/// Time is that of the words of the module, for D3 to D5 with a search among ids for each instruction and each operand
+/// of this one. These take memory, which grows with the ids that instructions define or announce, and not with the
+/// bound: an `AllocError` comes only where a growth of memory was refused.
 pub fn id_evidence(
     alloc: Global,
     module: &Module<'_>,

@@ -1,45 +1,38 @@
 //! What is kept of ids.
 
-ghost use Rattle.std.specs.Prelude.{◌≡◌, ◌<◌, ◌↔◌, ℕ, IsTrue, IfOk, Some, None, length, slice_set};
-ghost use Rattle.spv_id_reasons.specs.inner.Known.{kept};
+ghost use Rattle.std.specs.Prelude.{◌≡◌, ◌<◌, ◌↔◌, ℕ, IsTrue, OnOk, None};
+ghost use Rattle.spv_id_reasons.specs.inner.Known.{kept, Puts};
 
 use std::alloc::{AllocError, Global};
-use std::marker::Model;
+use std::collections::BTreeMap;
 
-/// Of each id below a bound the number of an instruction, if one is kept. Contracts see it as a list.
+/// Of each id below a bound the number of an instruction, if one is kept. Memory grows with the ids of which one is,
+/// and not with the bound.
 #[derive(Drop)]
 pub struct Kept {
-    /// At an id's place what is kept of it.
-    places: Vec<Option<u32>>,
-}
-
-impl Model for Kept {
-    ghost use Rattle.std.specs.Prelude.{List, Option, ℕ};
-
-    ghost Value = { List (Option ℕ) };
-
-    ghost view = { λ k. k.places.items };
+    bound: u32,
+    /// What is kept of ids, all below the bound.
+    places: BTreeMap<u32, u32>,
 }
 
 impl Kept {
-    /// Nothing is kept of any id below the bound. It takes 8 bytes an id.
-    ///
-    /// An `AllocError` comes only where a growth of memory was refused.
-    pub fn new(alloc: Global, bound: u32) -> Result<Kept, AllocError>
-        ensures count { IfOk result (λ k. length k ≡ bound) }
-        ensures none { IfOk result (λ k. (x : ℕ) → kept k x ≡ None) }
+    /// Nothing is kept of any id. It takes no memory.
+    pub fn new(alloc: Global, bound: u32) -> Kept
+        ensures bound { result.bound ≡ bound }
+        ensures none { (x : ℕ) → kept result x ≡ None }
     {
-        Ok(Kept {
-            places: vec![in alloc; None; bound as usize]?,
-        })
+        Kept {
+            bound,
+            places: BTreeMap::new(alloc),
+        }
     }
 
     /// The instruction that is kept of an id, if one is.
     pub fn get(&self, id: u32) -> Option<u32>
         ensures { result ≡ kept self.now id }
     {
-        if (id as usize) < self.places.len() {
-            self.places[id as usize]
+        if id < self.bound {
+            self.places.get(&id).copied()
         } else {
             None
         }
@@ -47,22 +40,21 @@ impl Kept {
 
     /// Whether an id is below the bound and nothing is kept of it.
     pub fn is_free(&self, id: u32) -> bool
-        ensures { IsTrue result ↔ ((id < length self.now) × (kept self.now id ≡ None)) }
+        ensures { IsTrue result ↔ ((id < self.now.bound) × (kept self.now id ≡ None)) }
     {
-        if (id as usize) < self.places.len() {
-            self.places[id as usize].is_none()
-        } else {
-            false
-        }
+        id < self.bound && self.get(id).is_none()
     }
 
     /// Keeps an instruction of an id, in place of what was kept of it. Nothing is kept of an id that is not below the
     /// bound.
-    pub fn put(&mut self, id: u32, inst: u32)
-        ensures { self.new ≡ slice_set self.old id (Some inst) }
+    ///
+    /// An `AllocError` comes only where a growth of memory was refused.
+    pub fn put(&mut self, id: u32, inst: u32) -> Result<(), AllocError>
+        ensures { OnOk result (Puts self.old self.new id inst) }
     {
-        if (id as usize) < self.places.len() {
-            self.places[id as usize] = Some(inst);
+        if id < self.bound {
+            self.places.insert(id, inst)?;
         }
+        Ok(())
     }
 }

@@ -113,8 +113,9 @@ fn disordered(
 /// What shows that a use comes before each definition of its id (D4): the first operand that is such a use, and the
 /// first definition. `at` is the number of the instruction, from 0.
 ///
-/// Time is linear in the operands of the instruction and of all instructions, and memory in the bound. An `AllocError`
-/// comes only where a growth of memory was refused.
+/// Time is that of the operands of the instruction and of all instructions, with a search among ids for each. Memory
+/// grows with the ids that are kept, and not with the bound. An `AllocError` comes only where a growth of memory was
+/// refused.
 pub fn not_in_order(
     alloc: Global,
     insts: &[Inst<'_>],

@@ -1,6 +1,7 @@
 //! What shows that D5 is broken.
 
-ghost use Rattle.std.specs.Prelude.{◌≡◌, ◌↔◌, ◌+◌, ◌≤◌, ℕ, List, Some, IsTrue, MatchOption, IfOk, length, map, slice_get};
+ghost use Rattle.std.specs.Prelude.{◌≡◌, ◌↔◌, ◌+◌, ◌≤◌, ℕ, List, length, map, slice_get};
+ghost use Rattle.std.specs.Prelude.{Some, IsTrue, MatchOption, OnOk, IfOk};
 ghost use Rattle.spv_table.specs.Table.{Table};
 ghost use Rattle.spv_module.specs.Operand.{PlainInst};
 ghost use Rattle.spv_module.specs.Module.{plain_inst};
@@ -63,20 +64,29 @@ fn is_here(here: Option<u32>, function: u32) -> bool
 }
 
 /// Keeps an instruction of its result, if that is local to the function `here`, or to another and nothing is kept yet.
-fn keep_local(local: &mut Kept, plan: &Plan, here: Option<u32>, inst: &Inst<'_>, at: u32)
-    ensures { (G : Table) (is : List PlainInst) (bound : ℕ) → IsPlan G is plan.now
+///
+/// An `AllocError` comes only where a growth of memory was refused.
+fn keep_local(
+    local: &mut Kept,
+    plan: &Plan,
+    here: Option<u32>,
+    inst: &Inst<'_>,
+    at: u32,
+) -> Result<(), AllocError>
+    ensures { OnOk result ((G : Table) (is : List PlainInst) (bound : ℕ) → IsPlan G is plan.now
         → slice_get is at ≡ Some (plain_inst inst.now)
-        → AreLocal bound is here at local.old → AreLocal bound is here (at + 1) local.new }
+        → AreLocal bound is here at local.old → AreLocal bound is here (at + 1) local.new) }
 {
     let Some(id) = inst.result_id() else {
-        return;
+        return Ok(());
     };
     let Some(function) = home(plan, at) else {
-        return;
+        return Ok(());
     };
     if is_here(here, function) || local.is_free(id) {
-        local.put(id, at);
+        local.put(id, at)?;
     }
+    Ok(())
 }
 
 /// Of each id below the bound a definition that is local to a function, and to the function `here` if one is.
@@ -93,9 +103,9 @@ fn local_definitions(
     requires plan { (G : Table) × IsPlan G (map plain_inst insts.now) plan.now }
     ensures { IfOk result (λ l. AreLocal bound (map plain_inst insts.now) here (length (map plain_inst insts.now)) l) }
 {
-    let mut local = Kept::new(alloc, bound)?;
+    let mut local = Kept::new(alloc, bound);
     for i in 0..insts.len() {
-        keep_local(&mut local, plan, here, &insts[i], i as u32);
+        keep_local(&mut local, plan, here, &insts[i], i as u32)?;
     }
     Ok(local)
 }
@@ -138,8 +148,9 @@ fn unscoped(
 /// is such a use, a definition of the id that is local, and the function that this is local to. `at` is the number of
 /// the instruction, from 0.
 ///
-/// Time is linear in the operands of the instruction and of all instructions, and memory in the bound. An `AllocError`
-/// comes only where a growth of memory was refused.
+/// Time is that of the operands of the instruction and of all instructions, with a search among ids for each. Memory
+/// grows with the ids that are kept, and not with the bound. An `AllocError` comes only where a growth of memory was
+/// refused.
 pub fn not_in_scope(
     alloc: Global,
     insts: &[Inst<'_>],

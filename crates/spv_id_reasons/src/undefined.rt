@@ -36,8 +36,9 @@ fn is_undefined(definitions: &Kept, inst: &Inst<'_>, k: usize) -> bool
 /// What shows that an instruction uses an id that no instruction has as its result (D3): its first operand that is such
 /// a use. `at` is the number of the instruction, from 0.
 ///
-/// Time is linear in the operands of the instruction and of all instructions, and memory in the bound. An `AllocError`
-/// comes only where a growth of memory was refused.
+/// Time is that of the operands of the instruction and of all instructions, with a search among ids for each. Memory
+/// grows with the ids that are kept, and not with the bound. An `AllocError` comes only where a growth of memory was
+/// refused.
 pub fn undefined(
     alloc: Global,
     insts: &[Inst<'_>],

@@ -5,6 +5,7 @@ use Rattle.spv_layout.specs.declared.form.Role.{Role}
 use Rattle.spv_layout.specs.Place.{IsOfSection}
 use Rattle.spv_ids.specs.Definition.{IsDefinedAt}
 use Rattle.spv_ids.specs.Order.{HasOpcode, Announces, IsInOrder}
+use Rattle.spv_id_reasons.specs.declared.kept.Kept.{Kept}
 use Rattle.spv_id_reasons.specs.declared.order.Site.{Site}
 use Rattle.spv_id_reasons.specs.inner.Known.{AreKept}
 
@@ -17,8 +18,8 @@ abbrev pub IsAnnouncedBefore : List PlainInst → ℕ → ℕ → Option ℕ →
 IsAnnouncedBefore is n x o = MatchOption o ((k : ℕ) → k < n → ¬ (Announces is k x)) (λ m. IsAnnounced is n x m)
 
 -- Of each id below the bound, an OpTypeForwardPointer before instruction n that names it is kept.
-abbrev pub AreAnnounced : ℕ → List PlainInst → ℕ → List (Option ℕ) → Type 0
-AreAnnounced bound is n places = AreKept bound (IsAnnouncedBefore is n) places
+abbrev pub AreAnnounced : ℕ → List PlainInst → ℕ → Kept → Type 0
+AreAnnounced bound is n k = AreKept bound (IsAnnouncedBefore is n) k
 
 -- The site is that of instruction n.
 pub record IsSite (is : List PlainInst) (n : ℕ) (site : Site) : Type 0 where

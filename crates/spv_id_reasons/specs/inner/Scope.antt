@@ -5,6 +5,7 @@ use Rattle.spv_layout.specs.declared.form.Role.{Role}
 use Rattle.spv_ids.specs.Definition.{IsDefinedAt}
 use Rattle.spv_ids.specs.Order.{IsInScope}
 use Rattle.spv_ids.specs.Known.{IsHome}
+use Rattle.spv_id_reasons.specs.declared.kept.Kept.{Kept}
 use Rattle.spv_id_reasons.specs.Ids.{IsLocalBy}
 use Rattle.spv_id_reasons.specs.inner.Known.{AreKept}
 
@@ -20,8 +21,8 @@ IsLocalBefore is here n x o =
     MatchOption o ((k f : ℕ) → k < n → IsDefinedAt is x k → ¬ (IsHome is k f)) (λ m. IsLocalOne is here n x m)
 
 -- Of each id below the bound, such a definition is kept.
-abbrev pub AreLocal : ℕ → List PlainInst → Option ℕ → ℕ → List (Option ℕ) → Type 0
-AreLocal bound is here n places = AreKept bound (IsLocalBefore is here n) places
+abbrev pub AreLocal : ℕ → List PlainInst → Option ℕ → ℕ → Kept → Type 0
+AreLocal bound is here n k = AreKept bound (IsLocalBefore is here n) k
 
 -- The id is below the bound and local to the function f by its definition m, and a use of it by instruction n is not in
 -- scope, in whatever role.

@@ -9,7 +9,7 @@ loop-m-preserved c =
     let m = c.loop-m-test.true in
     let q = c.requires in
     let t = inst_there c.args.insts.now c.loop-m.m c.index-insts-m.result (omega arith) c.index-insts-m.is in
-    c.keep_announced.ensures (map plain_inst c.args.insts.now) c.args.bound t c.loop-m.invariant
+    c.in_ok-keep_announced.ensures (map plain_inst c.args.insts.now) c.args.bound t c.loop-m.invariant
 
 pub returns : goal.returns
 returns c =

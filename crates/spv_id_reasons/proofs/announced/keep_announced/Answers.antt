@@ -3,9 +3,9 @@ use Rattle.spv_module.specs.Module.{plain_inst}
 use Rattle.spv_id_reasons.proofs.Announcing.{announced_put, announced_nothing}
 use Rattle.spv_id_reasons.proofs.announced.keep_announced.Goals as goal
 
-pub returns-in-Some : goal.returns-in-Some
-returns-in-Some c = λ is bound t a.
-    rw c.put.ensures (announced_put bound is c.args.at c.in-Some.id (plain_inst c.args.inst.now) c.args.announced.now t (sym c.announced_by.ensures ∙ c.in-Some.is) a)
+pub returns-in_ok-put : goal.returns-in_ok-put
+returns-in_ok-put c = λ is bound t a.
+    announced_put bound is c.args.at c.in-Some.id (plain_inst c.args.inst.now) c.args.announced.now c.put.new.self t (sym c.announced_by.ensures ∙ c.in-Some.is) c.in_ok-put.ensures a
 
 pub returns-in_default : goal.returns-in_default
 returns-in_default c = λ is bound t a.

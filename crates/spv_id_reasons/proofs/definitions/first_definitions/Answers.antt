@@ -9,7 +9,7 @@ pub loop-i-preserved : goal.loop-i-preserved
 loop-i-preserved c =
     let is = map plain_inst c.args.insts.now in
     let t = inst_there c.args.insts.now c.loop-i.i c.index-insts-i.result c.loop-i-test.true c.index-insts-i.is in
-    c.keep_first.ensures is c.args.bound t c.loop-i.invariant
+    c.in_ok-keep_first.ensures is c.args.bound t c.loop-i.invariant
 
 pub returns : goal.returns
 returns c =

@@ -3,10 +3,9 @@ use Rattle.spv_module.specs.Module.{plain_inst}
 use Rattle.spv_id_reasons.proofs.Keeping.{first_put, first_kept, first_no_result}
 use Rattle.spv_id_reasons.proofs.definitions.keep_first.Goals as goal
 
-pub returns-then-is_free : goal.returns-then-is_free
-returns-then-is_free c = λ is bound t a.
-    rw c.put.ensures
-    (first_put bound is c.args.at c.in-Some.id (plain_inst c.args.inst.now) c.args.definitions.now t (sym c.result_id.ensures ∙ c.in-Some.is) (c.is_free.ensures.0 c.if-is_free.true) a)
+pub returns-in_ok-put : goal.returns-in_ok-put
+returns-in_ok-put c = λ is bound t a.
+    first_put bound is c.args.at c.in-Some.id (plain_inst c.args.inst.now) c.args.definitions.now c.put.new.self t (sym c.result_id.ensures ∙ c.in-Some.is) (c.is_free.ensures.0 c.if-is_free.true) c.in_ok-put.ensures a
 
 pub returns-else-is_free : goal.returns-else-is_free
 returns-else-is_free c = λ is bound t a.

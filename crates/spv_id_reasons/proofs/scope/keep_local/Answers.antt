@@ -1,6 +1,7 @@
 use Rattle.std.proofs.Common.{◌≡◌, ◌∙◌, Some, sym}
 use Rattle.spv_module.specs.Module.{plain_inst}
 use Rattle.spv_module.specs.Operand.{result_in}
+use Rattle.spv_id_reasons.specs.inner.Known.{Puts}
 use Rattle.spv_id_reasons.proofs.Rules.{defined_here}
 use Rattle.spv_id_reasons.proofs.Scoping.{no_result, local_put, local_put_first, local_kept, local_nothing}
 use Rattle.spv_id_reasons.proofs.scope.keep_local.Goals.{then-is_here-via-then-is_here, then-is_here-via-else-is_here+then-is_free}
@@ -15,18 +16,18 @@ pub returns-in_default-home : goal.returns-in_default-home
 returns-in_default-home c = λ G is bound p t a.
     local_nothing bound is c.args.here c.args.at (plain_inst c.args.inst.now) c.args.local.now t (λ x d. c.in_default-home.ensures G is x p d) a
 
-pub returns-then-is_here : goal.returns-then-is_here
-returns-then-is_here c = λ G is bound p t a.
+pub returns-in_ok-put : goal.returns-in_ok-put
+returns-in_ok-put c = λ G is bound p t a.
     let i = plain_inst c.args.inst.now in
     let id = c.in-Some.id in
     let f = c.in-Some-home.function in
     let r : result_in i.operands ≡ Some id = sym c.result_id.ensures ∙ c.in-Some.is in
     let h = c.in-Some-home.ensures G is id p (defined_here is c.args.at id i t r) in
-    rw c.put.ensures
-    (elim c.then-is_here.branch [
-      | then-is_here-via-then-is_here w ↦ local_put bound is c.args.here c.args.at id f i c.args.local.now t r h (c.is_here.ensures.0 w.if-is_here.true) a
-      | then-is_here-via-else-is_here+then-is_free w ↦ local_put_first bound is c.args.here c.args.at id f i c.args.local.now t r h (w.is_free.ensures.0 w.if-is_free.true) a
-    ])
+    let u : Puts c.args.local.now c.put.new.self id c.args.at = c.in_ok-put.ensures in
+    elim c.then-is_here.branch [
+      | then-is_here-via-then-is_here w ↦ local_put bound is c.args.here c.args.at id f i c.args.local.now c.put.new.self t r h (c.is_here.ensures.0 w.if-is_here.true) u a
+      | then-is_here-via-else-is_here+then-is_free w ↦ local_put_first bound is c.args.here c.args.at id f i c.args.local.now c.put.new.self t r h (w.is_free.ensures.0 w.if-is_free.true) u a
+    ]
 
 pub returns-else-is_free : goal.returns-else-is_free
 returns-else-is_free c = λ G is bound p t a.
