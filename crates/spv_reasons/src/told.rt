@@ -248,6 +248,19 @@ fn opcode_line(about: About<'_, '_>, out: &mut String, opcode: u16) -> Result<()
     out.push_str("\n")
 }
 
+/// Adds the lines of an opcode, and of whether it has a row in the table of shapes.
+fn shape_lines(
+    about: About<'_, '_>,
+    out: &mut String,
+    opcode: u16,
+    known: bool,
+) -> Result<(), AllocError>
+    ensures { OnOk result (Adds [] (string_bytes out.old) (string_bytes out.new)) }
+{
+    opcode_line(about, out, opcode)?;
+    text_line(out, "row", if known { "other operands" } else { "none" })
+}
+
 /// Adds the lines of the operand of an instruction that fails, and of the kind that is due there. For other evidence than that there is
 /// none.
 pub fn due_lines(table: &Table, out: &mut String, evidence: &Evidence) -> Result<(), AllocError>
@@ -307,7 +320,7 @@ pub fn evidence_lines(
     match evidence {
         Evidence::Opcode { opcode } => opcode_line(about, out, *opcode),
         Evidence::Due { opcode, .. } => opcode_line(about, out, *opcode),
-        Evidence::Shape { opcode, .. } => opcode_line(about, out, *opcode),
+        Evidence::Shape { opcode, known } => shape_lines(about, out, *opcode, *known),
         Evidence::MayCome { opcodes, end } => may_come_line(about, out, opcodes.as_slice(), *end),
         Evidence::Operand { operand } => about.operand_line(out, inst, *operand),
         Evidence::Earlier { inst: place } => about.inst_line(out, "earlier", *place),
