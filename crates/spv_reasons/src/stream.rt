@@ -6,7 +6,7 @@ ghost use Rattle.spv_words.specs.declared.words.WordError.TheVariants.{W1, W9};
 ghost use Rattle.spv_module.specs.Module.{plain_insts};
 ghost use Rattle.spv_verdict.specs.Verdict.{valid_line};
 ghost use Rattle.spv_verdict.specs.Text.{line_of, refusal_of};
-ghost use Rattle.spv_reasons.specs.Lines.{AreIn, told_of};
+ghost use Rattle.spv_reasons.specs.Lines.{AreIn, dead_lines_of, told_of};
 ghost use Rattle.spv_reasons.specs.Stream.{BeginsExplaining, Explains};
 ghost use Rattle.spv_verdict.specs.declared.verdict_line.Judgment.TheVariants as judgments;
 ghost use Rattle.spv_reasons.specs.inner.Adding.{Adds};
@@ -123,7 +123,8 @@ fn malformed_told(
     place: u32,
     evidence: &Evidence,
 ) -> Result<Told, AllocError>
-    ensures { IfOk result (λ t. t.judgment ≡ judgments.Broken fault) }
+    ensures verdict { IfOk result (λ t. t.judgment ≡ judgments.Broken fault) }
+    ensures lines { IfOk result (λ t. AreIn (dead_lines_of evidence.now) (string_bytes t.lines)) }
 {
     let mut lines = rule_line(alloc, sentence(fault.rule))?;
     lines.push_str("words:")?;

@@ -3,7 +3,7 @@ ghost use Rattle.std.specs.Prelude.{◌≡◌, ◌++◌, [], ◌∷◌, codes, s
 ghost use Rattle.spv_module.specs.Module.{plain_insts};
 ghost use Rattle.spv_evidence.specs.declared.evidence.Evidence.TheVariants as evidence;
 ghost use Rattle.spv_reasons.specs.Lines as lines;
-ghost use Rattle.spv_reasons.specs.Lines.{inst_begin, operand_line, results_line, told_of};
+ghost use Rattle.spv_reasons.specs.Lines.{dead_lines_of, inst_begin, operand_line, results_line, told_of};
 ghost use Rattle.spv_reasons.specs.inner.Adding.{Adds};
 
 use crate::about::{About, number_line, push_names, text_line};
@@ -261,21 +261,30 @@ fn shape_lines(
     text_line(out, "row", if known { "other operands" } else { "none" })
 }
 
-/// Adds the lines of the operand of an instruction that fails, and of the kind that is due there. For other evidence than that there is
-/// none.
-pub fn due_lines(table: &Table, out: &mut String, evidence: &Evidence) -> Result<(), AllocError>
+/// Adds the line of the kind that is due at an operand, if one is.
+fn kind_line(table: &Table, out: &mut String, kind: Option<u32>) -> Result<(), AllocError>
     ensures { OnOk result (Adds [] (string_bytes out.old) (string_bytes out.new)) }
 {
-    let Evidence::Due { operand, kind, .. } = evidence else {
-        return Ok(());
-    };
-    number_line(out, "operand", *operand)?;
     let Some(number) = kind else {
         return text_line(out, "due", "nothing");
     };
-    match table.kind(*number) {
+    match table.kind(number) {
         Some(kind) => text_line(out, "due", kind.name.as_str()),
-        None => number_line(out, "due", *number),
+        None => number_line(out, "due", number),
+    }
+}
+
+/// Adds the lines of the operand of an instruction that fails, and of the kind that is due there. For other evidence than that there is
+/// none.
+pub fn due_lines(table: &Table, out: &mut String, evidence: &Evidence) -> Result<(), AllocError>
+    ensures { OnOk result (Adds (dead_lines_of evidence.now) (string_bytes out.old) (string_bytes out.new)) }
+{
+    match evidence {
+        Evidence::Due { operand, kind, .. } => {
+            number_line(out, "operand", *operand)?;
+            kind_line(table, out, *kind)
+        }
+        _ => Ok(()),
     }
 }
 
