@@ -1,5 +1,5 @@
 -- What a module of words comes to, and what its lines tell.
-use Rattle.std.proofs.Common.{◌≡◌, ◌≤◌, ◌-◌, ℕ, List, drop, slice_index, ap, refl, sym, subst, arith}
+use Rattle.std.proofs.Common.{◌≡◌, ◌≤◌, ◌-◌, ℕ, List, drop, slice_index, sym, subst}
 use Rattle.spv_words.specs.Header.{IsFirstBroken, IsModule}
 use Rattle.spv_words.specs.declared.words.Order.{Order}
 use Rattle.spv_words.specs.declared.words.WordError.{WordError}
@@ -8,25 +8,23 @@ use Rattle.spv_module.specs.Operand.{PlainInst}
 use Rattle.spv_module.specs.Module.{plain_insts}
 use Rattle.spv_module.specs.Instruction.{IsListing}
 use Rattle.spv_module.specs.Dead.{IsDeadAt}
-use Rattle.spv_module.specs.declared.fault.Rule.{Rule}
 use Rattle.spv_module.specs.declared.fault.Fault.{Fault}
 use Rattle.spv_module.specs.declared.fault.Stop.TheVariants as stop
 use Rattle.spv_module.specs.declared.module.Module.{Module}
 use Rattle.spv_layout.specs.First.{stage_of}
 use Rattle.spv_inst.specs.Outcome.{IsDeath}
 use Rattle.spv_evidence.specs.declared.evidence.Evidence.{Evidence}
-use Rattle.spv_verdict.specs.Answer.{IsAnswer, IsFault}
+use Rattle.spv_verdict.specs.Answer.{IsFault}
 use Rattle.spv_verdict.specs.Broken.{IsFirst, IsTold}
 use Rattle.spv_verdict.specs.Checked.{IsChecked}
 use Rattle.spv_verdict.specs.Program.{Program}
-use Rattle.spv_verdict.specs.declared.checked.Verdict.TheVariants as verdict
 use Rattle.spv_verdict.proofs.Firsts.{one_first}
 use Rattle.spv_verdict.proofs.Verdicts.{Laws, dead_list, same_module}
 use Rattle.spv_word_reasons.specs.Evidence as instructions
 use Rattle.spv_reasons.specs.Evidence.{IsEvidence}
 use Rattle.spv_reasons.specs.Explained.{IsShown}
 use Rattle.spv_reasons.specs.Lines.{AreIn, dead_lines_of, told_of}
-use Rattle.spv_reasons.specs.Stream.{AreDeadLinesOf, AreLinesOf, Explain, ExplainDead}
+use Rattle.spv_reasons.specs.Stream.{Explain, ExplainDead}
 use Rattle.spv_reasons.specs.declared.explained.Explained.TheVariants as explained
 use Rattle.spv_reasons.specs.inner.Judged.{IsShownAt}
 use Rattle.spv_reasons.specs.inner.Reading.{IsBrokenModule}

@@ -13,7 +13,7 @@ ghost use Rattle.spv_evidence.specs.declared.evidence.Evidence.TheVariants.{Earl
 ghost use Rattle.spv_verdict.specs.Broken.{Broken};
 ghost use Rattle.spv_verdict.specs.Verdict.{line_end};
 ghost use Rattle.spv_reasons.specs.Evidence.{IsEvidence};
-ghost use Rattle.spv_reasons.specs.Example.{string_fault, string_words, twice_void};
+ghost use Rattle.spv_reasons.specs.Example.{string_fault, string_words, twice_void, unknown_bit};
 ghost use Rattle.spv_reasons.specs.Explained.{IsShown};
 ghost use Rattle.spv_reasons.specs.Lines.{AreIn, operand_line, told_of};
 ghost use Rattle.spv_reasons.specs.Stream.{AreDeadLinesOf, AreLinesOf};
@@ -35,13 +35,12 @@ pub fn line_examples()
 {}
 
 /// Lines that tell what shows that a rule is broken, under the bound 5, and an instruction that no lines can blame. And
-/// lines of an OpLoad whose operand 3 is a mask with an unknown bit.
+/// a line that tells which operand has an unknown bit, and one that tells the operand beside it.
 pub fn stream_examples()
     ensures lines { AreLinesOf small 5 twice_void D2 1 (codes "earlier: inst 0, %1 = OpTypeVoid") }
     ensures not_first { (lines : List ℕ) → ¬ (AreLinesOf small 5 twice_void D2 0 lines) }
-    ensures dead { AreDeadLinesOf small (327741 ∷ 2 ∷ 9 ∷ 8 ∷ 4 ∷ []) I7 0 4 (codes "operand: 3" ++ line_end) }
-    // The number of the operand beside it is none.
-    ensures not_beside { ¬ (AreDeadLinesOf small (327741 ∷ 2 ∷ 9 ∷ 8 ∷ 4 ∷ []) I7 0 4 (codes "operand: 2" ++ line_end)) }
+    ensures dead { AreDeadLinesOf small unknown_bit I7 0 4 (codes "operand: 3" ++ line_end) }
+    ensures not_beside { ¬ (AreDeadLinesOf small unknown_bit I7 0 4 (codes "operand: 2" ++ line_end)) }
 {}
 
 /// A module that begins with an OpString, under a small table.

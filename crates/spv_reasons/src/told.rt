@@ -274,8 +274,8 @@ fn kind_line(table: &Table, out: &mut String, kind: Option<u32>) -> Result<(), A
     }
 }
 
-/// Adds the lines of the operand of an instruction that fails, and of the kind that is due there. For other evidence than that there is
-/// none.
+/// Adds the lines of the operand of an instruction that fails, and of the kind that is due there. For other evidence
+/// than that there is none.
 pub fn due_lines(table: &Table, out: &mut String, evidence: &Evidence) -> Result<(), AllocError>
     ensures { OnOk result (Adds (dead_lines_of evidence.now) (string_bytes out.old) (string_bytes out.new)) }
 {
