@@ -47,10 +47,6 @@ pub ok_then : {T E : Type 0} (ps qs : List (List ℕ)) (a b c : List ℕ) (r : A
 ok_then ps qs a b c (Ok _) f g = adds_then ps qs a b c f g
 ok_then ps qs a b c (Err _) f g = tt
 
-pub ok_text : {T E : Type 0} (a b t : List ℕ) (r : Answer T E) → OnOk r (b ≡ a ++ t) → OnOk r (Adds [] a b)
-ok_text a b t (Ok _) e = adds_text a b t e
-ok_text a b t (Err _) e = tt
-
 pub ok_part : {T E : Type 0} (a b p : List ℕ) (r : Answer T E) → OnOk r (b ≡ a ++ p) → OnOk r (Adds (p ∷ []) a b)
 ok_part a b p (Ok _) e = adds_part a b p e
 ok_part a b p (Err _) e = tt
