@@ -18,7 +18,7 @@ MEANINGS = ("Meaning", "Broken where")
 LINES = ["Key", "Code", "Text"]
 GRAMMAR = TESTS / "profile.json"
 # Keys that come with no module of tests/modules.
-SELDOM = ("bit", "opcode")
+SELDOM = ("bit", "opcode", "row")
 BELOW = "see below"
 OPERATIONS = "each operation asks for its own: docs/PROFILE.md has the table of operations"
 

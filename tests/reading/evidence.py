@@ -69,7 +69,9 @@ def of_layout(faulty, rule, number):
     """P1, L1 and L2."""
     entries = faulty.grammar.entries
     if rule == "P1":
-        return [("opcode", entries[faulty.insts[number].opcode]["opname"])]
+        opcode = faulty.insts[number].opcode
+        row = "other operands" if opcode in SHAPE_OF else "none"
+        return [("opcode", entries[opcode]["opname"]), ("row", row)]
     state = BEGIN
     for inst in faulty.insts[:number]:
         state = after(state, inst.opcode)

@@ -1,5 +1,5 @@
 -- What a module of words comes to, and what its lines tell.
-use Rattle.std.proofs.Common.{◌≡◌, ◌≤◌, ℕ, List, drop, slice_index, ap, refl, sym, subst, arith}
+use Rattle.std.proofs.Common.{◌≡◌, ◌≤◌, ◌-◌, ℕ, List, drop, slice_index, sym, subst}
 use Rattle.spv_words.specs.Header.{IsFirstBroken, IsModule}
 use Rattle.spv_words.specs.declared.words.Order.{Order}
 use Rattle.spv_words.specs.declared.words.WordError.{WordError}
@@ -7,24 +7,24 @@ use Rattle.spv_table.specs.Table.{Table}
 use Rattle.spv_module.specs.Operand.{PlainInst}
 use Rattle.spv_module.specs.Module.{plain_insts}
 use Rattle.spv_module.specs.Instruction.{IsListing}
-use Rattle.spv_module.specs.declared.fault.Rule.{Rule}
+use Rattle.spv_module.specs.Dead.{IsDeadAt}
 use Rattle.spv_module.specs.declared.fault.Fault.{Fault}
 use Rattle.spv_module.specs.declared.fault.Stop.TheVariants as stop
 use Rattle.spv_module.specs.declared.module.Module.{Module}
 use Rattle.spv_layout.specs.First.{stage_of}
 use Rattle.spv_inst.specs.Outcome.{IsDeath}
 use Rattle.spv_evidence.specs.declared.evidence.Evidence.{Evidence}
-use Rattle.spv_verdict.specs.Answer.{IsAnswer, IsFault}
+use Rattle.spv_verdict.specs.Answer.{IsFault}
 use Rattle.spv_verdict.specs.Broken.{IsFirst, IsTold}
 use Rattle.spv_verdict.specs.Checked.{IsChecked}
 use Rattle.spv_verdict.specs.Program.{Program}
-use Rattle.spv_verdict.specs.declared.checked.Verdict.TheVariants as verdict
 use Rattle.spv_verdict.proofs.Firsts.{one_first}
 use Rattle.spv_verdict.proofs.Verdicts.{Laws, dead_list, same_module}
+use Rattle.spv_word_reasons.specs.Evidence as instructions
 use Rattle.spv_reasons.specs.Evidence.{IsEvidence}
 use Rattle.spv_reasons.specs.Explained.{IsShown}
-use Rattle.spv_reasons.specs.Lines.{AreIn, told_of}
-use Rattle.spv_reasons.specs.Stream.{AreLinesOf, Explain}
+use Rattle.spv_reasons.specs.Lines.{AreIn, dead_lines_of, told_of}
+use Rattle.spv_reasons.specs.Stream.{Explain, ExplainDead}
 use Rattle.spv_reasons.specs.declared.explained.Explained.TheVariants as explained
 use Rattle.spv_reasons.specs.inner.Judged.{IsShownAt}
 use Rattle.spv_reasons.specs.inner.Reading.{IsBrokenModule}
@@ -75,3 +75,27 @@ dead_explains laws G bytes words order f lines h d = λ ws q js r n g l first s.
 
 pub refused_explains : Laws → (G : Table) (bytes : List ℕ) (code : WordError) (lines : List ℕ) → IsFirstBroken code bytes → Explain G bytes lines
 refused_explains laws G bytes code lines b = λ ws q js r n g l first s. absurd (laws.never code q bytes ws g b)
+
+-- lines of words that spell no list of instructions
+pub dead_shows : Laws → (G : Table) (bytes words : List ℕ) (order : Order) (f : Fault) (e : Evidence) (lines : List ℕ)
+    → IsModule order bytes words → IsDeath G words (stop.Fault f)
+    → instructions.IsEvidence G (drop 5 words) f.rule f.inst (f.word - 5) e → AreIn (dead_lines_of e) lines
+    → ExplainDead G bytes lines
+dead_shows laws G bytes words order f e lines h d shown t = λ ws q r n word g k.
+    let same : words ≡ ws = (laws.words order q bytes words ws h g).1 in
+    let there = subst (λ v. IsDeadAt G (drop 5 v) f.rule f.inst (f.word - 5)) same d.1 in
+    let one = laws.death G (drop 5 ws) f.rule r f.inst n (f.word - 5) word there k in
+    let of_words = subst (λ v. instructions.IsEvidence G (drop 5 v) f.rule f.inst (f.word - 5) e) same shown in
+    let of_rule = subst (λ a. instructions.IsEvidence G (drop 5 ws) a f.inst (f.word - 5) e) one.0 of_words in
+    let of_inst = subst (λ a. instructions.IsEvidence G (drop 5 ws) r a (f.word - 5) e) one.1 of_rule in
+    record {
+      evidence = e;
+      shows = subst (λ a. instructions.IsEvidence G (drop 5 ws) r n a e) one.2 of_inst;
+      told = t;
+    }
+
+-- words that spell a list have no dead instruction
+pub listed_explains : Laws → (G : Table) (bytes words : List ℕ) (order : Order) (is : List PlainInst) (lines : List ℕ)
+    → IsModule order bytes words → IsListing G is (drop 5 words) → ExplainDead G bytes lines
+listed_explains laws G bytes words order is lines h l = λ ws q r n word g k.
+    absurd (dead_list laws G bytes words ws order q is r n word h g l k)

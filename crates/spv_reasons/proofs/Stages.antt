@@ -1,5 +1,5 @@
 -- Of which part a broken rule is, by its name.
-use Rattle.std.proofs.Common.{◌≡◌, ◌⊎◌, ℕ, List, Bool, true, false, refl, inl, inr, subst, arith}
+use Rattle.std.proofs.Common.{◌≡◌, ◌⊎◌, ℕ, List, true, false, refl, inl, inr, subst, arith}
 use Rattle.std.specs.Prelude.{Some, slice_get}
 use Rattle.spv_table.specs.Table.{Table}
 use Rattle.spv_module.specs.Operand.{PlainInst}

@@ -1,18 +1,16 @@
 -- The small lists and texts of the worked examples.
-use Rattle.std.proofs.Common.{◌≡◌, ◌∙◌, ◌++◌, ◌≤◌, ◌<◌, ◌⊎◌, inl, inr, ℕ, zero, suc, List, [], ◌∷◌, refl, sym, subst}
-use Rattle.std.proofs.Common.{Bool, true, false, ◌&&◌, ◌||◌, codes, drop, append_assoc, arith}
+use Rattle.std.proofs.Common.{◌≡◌, ◌∙◌, ◌++◌, ◌<◌, inl, inr, ℕ, zero, suc, List, [], ◌∷◌, refl, sym, subst}
+use Rattle.std.proofs.Common.{Bool, true, false, ◌&&◌, ◌||◌, Some, codes, drop, append_assoc, arith}
 use Rattle.std.specs.Prelude.{nat_eq, slice_index_or}
 use Rattle.std.specs.List.{Contains}
 use Rattle.std.proofs.lemmas.Bool.{eq-eqb}
 use Rattle.std.proofs.lemmas.Fmt.{decimal_digit}
-use Rattle.spv_table.specs.Table.{Table}
 use Rattle.spv_module.specs.Example.{small, string}
 use Rattle.spv_module.specs.Operand.{PlainInst}
 use Rattle.spv_module.specs.Instruction.{IsListing}
 use Rattle.spv_module.specs.declared.fault.Rule.{Rule}
-use Rattle.spv_module.specs.declared.fault.Rule.TheVariants.{L1, D2}
+use Rattle.spv_module.specs.declared.fault.Rule.TheVariants.{I7, L1, D2}
 use Rattle.spv_layout.specs.First.{stage_of}
-use Rattle.spv_layout.specs.Layout.{classes}
 use Rattle.spv_layout.specs.Rows.{rows}
 use Rattle.spv_layout.specs.declared.state.State.TheVariants as at
 use Rattle.spv_layout.proofs.Layouts.{leads_first}
@@ -22,19 +20,21 @@ use Rattle.spv_inst.proofs.Lists.{listing_same}
 use Rattle.spv_inst.proofs.Worked.{string_listed}
 use Rattle.spv_verdict.specs.Broken.{Broken}
 use Rattle.spv_verdict.specs.Verdict.{line_end}
-use Rattle.spv_verdict.proofs.Firsts.{calls_stage, flow_stage, ids_stage, layout_stage}
+use Rattle.spv_verdict.proofs.Firsts.{calls_stage, flow_stage, layout_stage}
 use Rattle.spv_verdict.proofs.Stages.{types_stage}
 use Rattle.spv_evidence.specs.declared.evidence.Evidence.{Evidence}
-use Rattle.spv_evidence.specs.declared.evidence.Evidence.TheVariants.{Earlier, MayCome, NoEntry}
+use Rattle.spv_evidence.specs.declared.evidence.Evidence.TheVariants.{Due, Earlier, MayCome, NoEntry}
+use Rattle.spv_word_reasons.proofs.Unique.{one}
+use Rattle.spv_word_reasons.proofs.Worked.{mask_shown}
 use Rattle.spv_layout_reasons.specs.Evidence as layout
 use Rattle.spv_layout_reasons.specs.inner.Automaton.{followers}
 use Rattle.spv_layout_reasons.proofs.Opcodes.{to_come}
 use Rattle.spv_id_reasons.proofs.Worked.{again}
 use Rattle.spv_reasons.specs.Evidence.{IsEvidence}
-use Rattle.spv_reasons.specs.Example.{string_fault, string_words, twice_void}
+use Rattle.spv_reasons.specs.Example.{string_fault, string_words, twice_void, unknown_bit}
 use Rattle.spv_reasons.specs.Explained.{IsShown}
-use Rattle.spv_reasons.specs.Lines.{AreIn, HasPart, inst_begin, operand_line, told_of}
-use Rattle.spv_reasons.specs.Stream.{AreLinesOf}
+use Rattle.spv_reasons.specs.Lines.{AreIn, HasPart, dead_lines_of, inst_begin, number_line, operand_line, told_of}
+use Rattle.spv_reasons.specs.Stream.{AreDeadLinesOf, AreLinesOf}
 use Rattle.spv_reasons.specs.declared.explained.Explained.TheVariants.{Fault}
 use Rattle.spv_reasons.proofs.Sufficing.{of_layout_alone, suffices}
 
@@ -93,6 +93,28 @@ not_later_told h =
 
 pub operand_told : operand_line (of_void ∷ []) 0 1 ≡ codes "operand: 1 %1" ++ line_end
 operand_told = rw (decimal_digit 1 (omega arith)) refl
+
+number_told : number_line (codes "operand") 3 ≡ codes "operand: 3" ++ line_end
+number_told = rw (decimal_digit 3 (omega arith)) refl
+
+-- an OpLoad with an unknown bit in its mask
+mask_stands : HasPart (codes "operand: 3" ++ line_end) (codes "operand: 3" ++ line_end)
+mask_stands = record { before = []; after = []; whole = refl }
+
+pub mask_lines : AreDeadLinesOf small unknown_bit I7 0 4 (codes "operand: 3" ++ line_end)
+mask_lines = record {
+  evidence = Due 61 3 (Some 3);
+  shows = mask_shown;
+  told = (subst (λ p. HasPart (codes "operand: 3" ++ line_end) p) (sym number_told) mask_stands, tt);
+}
+
+pub no_lines_beside : ¬ (AreDeadLinesOf small unknown_bit I7 0 4 (codes "operand: 2" ++ line_end))
+no_lines_beside l =
+    let same = one small unknown_bit I7 0 4 (Due 61 3 (Some 3)) l.evidence mask_shown l.shows in
+    let told = subst (λ e. AreIn (dead_lines_of e) (codes "operand: 2" ++ line_end)) (sym same) l.told in
+    let part = subst (λ p. HasPart (codes "operand: 2" ++ line_end) p) number_told told.0 in
+    let e : has (codes "operand: 2" ++ line_end) (codes "operand: 3" ++ line_end) ≡ true = has_part _ _ part in
+    absurd cc
 
 -- a second result
 pub second_lines : AreLinesOf small 5 twice_void D2 1 (codes "earlier: inst 0, %1 = OpTypeVoid")

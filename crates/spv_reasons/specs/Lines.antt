@@ -40,6 +40,10 @@ result_of is n = option_and_then (λ i. result_in i.operands) (slice_get is n)
 abbrev pub result_part : List PlainInst → ℕ → List ℕ
 result_part is n = part_of (result_of is n)
 
+-- `operand: 2`: a key and a number
+abbrev pub number_line : List ℕ → ℕ → List ℕ
+number_line key n = key ++ codes ": " ++ decimal n ++ line_end
+
 -- `operand: 2 %17`
 abbrev pub operand_line : List PlainInst → ℕ → ℕ → List ℕ
 operand_line is n k = codes "operand: " ++ decimal k ++ operand_part (operand_at is n k) ++ line_end
@@ -68,6 +72,11 @@ told_of is n (evidence.MissingParent b) = results_line is (codes "missing parent
 told_of is n (evidence.Walk k m walk) = operand_line is n k ∷ inst_begin (codes "defined") m ∷ results_line is (codes "walk") walk ∷ []
 told_of is n (evidence.Cycle calls cycle) = results_line is (codes "calls") calls ∷ cycle_line is cycle ∷ []
 told_of is n e = []
+
+-- The same of evidence that words spell no instruction: the number of the operand that fails.
+abbrev pub dead_lines_of : Evidence → List (List ℕ)
+dead_lines_of (evidence.Due opcode k kind) = number_line (codes "operand") k ∷ []
+dead_lines_of e = []
 
 -- The part stands in the text.
 pub record HasPart (text part : List ℕ) : Type 0 where

@@ -2,4 +2,3 @@ pub mod Adding
 pub mod Judged
 pub mod Kinds
 pub mod Reading
-pub mod Told

@@ -97,7 +97,7 @@ fn line_of<'t>(shown: &[&'t str], lines: &[Option<usize>], at: usize) -> Option<
 
 /// Adds a line of a number.
 pub fn number_line(out: &mut String, key: &str, number: u32) -> Result<(), AllocError>
-    ensures { OnOk result (Adds [] (string_bytes out.old) (string_bytes out.new)) }
+    ensures { OnOk result (string_bytes out.new ≡ string_bytes out.old ++ lines.number_line key.now number) }
 {
     out.push_str(key)?;
     out.push_str(": ")?;

@@ -6,17 +6,17 @@ ghost use Rattle.spv_table.specs.Table.{Table};
 ghost use Rattle.spv_module.specs.Example.{small};
 ghost use Rattle.spv_module.specs.Operand.{PlainInst};
 ghost use Rattle.spv_module.specs.declared.fault.Rule.{Rule};
-ghost use Rattle.spv_module.specs.declared.fault.Rule.TheVariants.{D2};
+ghost use Rattle.spv_module.specs.declared.fault.Rule.TheVariants.{D2, I7};
 ghost use Rattle.spv_ids.specs.Example.{of_void};
 ghost use Rattle.spv_evidence.specs.declared.evidence.Evidence.{Evidence};
 ghost use Rattle.spv_evidence.specs.declared.evidence.Evidence.TheVariants.{Earlier, MayCome, NoEntry};
 ghost use Rattle.spv_verdict.specs.Broken.{Broken};
 ghost use Rattle.spv_verdict.specs.Verdict.{line_end};
 ghost use Rattle.spv_reasons.specs.Evidence.{IsEvidence};
-ghost use Rattle.spv_reasons.specs.Example.{string_fault, string_words, twice_void};
+ghost use Rattle.spv_reasons.specs.Example.{string_fault, string_words, twice_void, unknown_bit};
 ghost use Rattle.spv_reasons.specs.Explained.{IsShown};
 ghost use Rattle.spv_reasons.specs.Lines.{AreIn, operand_line, told_of};
-ghost use Rattle.spv_reasons.specs.Stream.{AreLinesOf};
+ghost use Rattle.spv_reasons.specs.Stream.{AreDeadLinesOf, AreLinesOf};
 ghost use Rattle.spv_reasons.specs.declared.explained.Explained.TheVariants.{Fault};
 
 /// Evidence of whatever rule, from P to G, shows that the rule is broken at the instruction.
@@ -34,10 +34,13 @@ pub fn line_examples()
     ensures operand { operand_line (of_void ∷ []) 0 1 ≡ codes "operand: 1 %1" ++ line_end }
 {}
 
-/// Lines that tell what shows that a rule is broken, under the bound 5, and an instruction that no lines can blame.
+/// Lines that tell what shows that a rule is broken, under the bound 5, and an instruction that no lines can blame. And
+/// a line that tells which operand has an unknown bit, and one that tells the operand beside it.
 pub fn stream_examples()
     ensures lines { AreLinesOf small 5 twice_void D2 1 (codes "earlier: inst 0, %1 = OpTypeVoid") }
     ensures not_first { (lines : List ℕ) → ¬ (AreLinesOf small 5 twice_void D2 0 lines) }
+    ensures dead { AreDeadLinesOf small unknown_bit I7 0 4 (codes "operand: 3" ++ line_end) }
+    ensures not_beside { ¬ (AreDeadLinesOf small unknown_bit I7 0 4 (codes "operand: 2" ++ line_end)) }
 {}
 
 /// A module that begins with an OpString, under a small table.

@@ -20,4 +20,4 @@ pub use explained::{Explained, explain};
 pub use rules::{Code, rules_text};
 pub use sentences::{sentence, word_sentence};
 pub use spv_evidence::{EntryPart, Evidence, Lister, Side, Typed};
-pub use stream::explain_stream;
+pub use stream::{Explanation, explain_bytes, explain_stream};

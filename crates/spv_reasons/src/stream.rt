@@ -6,11 +6,10 @@ ghost use Rattle.spv_words.specs.declared.words.WordError.TheVariants.{W1, W9};
 ghost use Rattle.spv_module.specs.Module.{plain_insts};
 ghost use Rattle.spv_verdict.specs.Verdict.{valid_line};
 ghost use Rattle.spv_verdict.specs.Text.{line_of, refusal_of};
-ghost use Rattle.spv_reasons.specs.Lines.{AreIn, told_of};
-ghost use Rattle.spv_reasons.specs.Stream.{BeginsExplaining, Explains};
+ghost use Rattle.spv_reasons.specs.Lines.{AreIn, dead_lines_of, told_of};
+ghost use Rattle.spv_reasons.specs.Stream.{BeginsExplaining, Explains, IsExplanation};
 ghost use Rattle.spv_verdict.specs.declared.verdict_line.Judgment.TheVariants as judgments;
 ghost use Rattle.spv_reasons.specs.inner.Adding.{Adds};
-ghost use Rattle.spv_reasons.specs.inner.Told.{IsToldOf};
 
 use crate::about::About;
 use crate::explained::{Reading, reading_of};
@@ -20,22 +19,22 @@ use crate::told::{due_lines, evidence_lines};
 use spv_evidence::Evidence;
 use spv_inst::{listed_or_dead, one_death, one_listing};
 use spv_module::{Fault, Module, Rule};
-use spv_table::Table;
+use spv_table::{Memory, Table};
 use spv_verdict::{Judgment, line_for};
-use spv_words::{Image, Sink, Source, WordError, read_image, word, write_all};
+use spv_words::{Image, Sink, Source, WordError, image_of, read_image, word, write_all};
 use std::alloc::{AllocError, Global};
 use std::fmt::Write;
 
 /// How many words of an instruction are told.
 const WORDS: u32 = 16;
 
-/// The verdict on bytes, and the lines that tell it.
+/// The verdict on the bytes of a module, and the lines that explain it.
 #[derive(Drop)]
-pub struct Told {
+pub struct Explanation {
     /// The verdict.
-    judgment: Judgment,
-    /// The lines after its own, each ended by a line feed.
-    lines: String,
+    pub judgment: Judgment,
+    /// The lines after its own, each ended by a line feed: none where no rule is broken.
+    pub lines: String,
 }
 
 /// The line of a sentence.
@@ -84,7 +83,7 @@ fn broken_told(
     module: &Module<'_>,
     fault: Fault,
     evidence: &Evidence,
-) -> Result<Told, AllocError>
+) -> Result<Explanation, AllocError>
     ensures verdict { IfOk result (λ t. t.judgment ≡ judgments.Broken fault) }
     ensures lines { IfOk result (λ t. AreIn (told_of (plain_insts «module».now) fault.inst evidence.now) (string_bytes t.lines)) }
 {
@@ -96,7 +95,7 @@ fn broken_told(
     let mut lines = rule_line(alloc, sentence(fault.rule))?;
     at_lines(about, &mut lines, fault)?;
     evidence_lines(about, &mut lines, fault.inst, evidence)?;
-    Ok(Told {
+    Ok(Explanation {
         judgment: Judgment::Broken(fault),
         lines,
     })
@@ -122,15 +121,16 @@ fn malformed_told(
     fault: Fault,
     place: u32,
     evidence: &Evidence,
-) -> Result<Told, AllocError>
-    ensures { IfOk result (λ t. t.judgment ≡ judgments.Broken fault) }
+) -> Result<Explanation, AllocError>
+    ensures verdict { IfOk result (λ t. t.judgment ≡ judgments.Broken fault) }
+    ensures lines { IfOk result (λ t. AreIn (dead_lines_of evidence.now) (string_bytes t.lines)) }
 {
     let mut lines = rule_line(alloc, sentence(fault.rule))?;
     lines.push_str("words:")?;
     push_words(&mut lines, image, place, end_of(image, place))?;
     lines.push_str("\n")?;
     due_lines(table, &mut lines, evidence)?;
-    Ok(Told {
+    Ok(Explanation {
         judgment: Judgment::Broken(fault),
         lines,
     })
@@ -147,8 +147,9 @@ fn end_of(image: &Image, place: u32) -> u32 {
 }
 
 /// The lines that tell what the words of an image come to.
-fn told_by(alloc: Global, table: &Table, image: &Image) -> Result<Told, AllocError>
-    ensures { (bytes : List ℕ) (order : Order) → IsModule order bytes image.now → IfOk result (λ t. IsToldOf table.now bytes t) }
+fn told_by(alloc: Global, table: &Table, image: &Image) -> Result<Explanation, AllocError>
+    ensures { (bytes : List ℕ) (order : Order) → IsModule order bytes image.now
+        → IfOk result (λ t. IsExplanation table.now bytes t) }
 {
     spv_words::laws::one_word_list();
     spv_words::laws::one_refusal();
@@ -156,7 +157,7 @@ fn told_by(alloc: Global, table: &Table, image: &Image) -> Result<Told, AllocErr
     one_listing();
     listed_or_dead();
     match reading_of(alloc, table, image) {
-        Ok(Reading::Valid(_)) => Ok(Told {
+        Ok(Reading::Valid(_)) => Ok(Explanation {
             judgment: Judgment::Valid,
             lines: String::new(alloc),
         }),
@@ -179,17 +180,17 @@ fn told_by(alloc: Global, table: &Table, image: &Image) -> Result<Told, AllocErr
 }
 
 /// The verdict of bytes that are no words of a module, and its lines.
-fn refused_told(alloc: Global, code: WordError) -> Result<Told, AllocError>
+fn refused_told(alloc: Global, code: WordError) -> Result<Explanation, AllocError>
     ensures { IfOk result (λ t. t.judgment ≡ judgments.Refused code) }
 {
-    Ok(Told {
+    Ok(Explanation {
         judgment: Judgment::Refused(code),
         lines: rule_line(alloc, word_sentence(code))?,
     })
 }
 
 /// The lines that tell bytes which gave no image. W1 and W9 are errors.
-fn refusal(alloc: Global, code: WordError) -> Result<Told, WordError>
+fn refusal(alloc: Global, code: WordError) -> Result<Explanation, WordError>
     ensures refused { IfOk result (λ t. refusal_of code ≡ Ok t.judgment) }
     ensures count { code ≡ W1 ↔ IsErrOf result W1 }
     ensures only { IfErr result (λ e. (e ≡ W1) ⊎ (e ≡ W9)) }
@@ -205,8 +206,8 @@ fn refusal(alloc: Global, code: WordError) -> Result<Told, WordError>
 }
 
 /// The lines that tell all the bytes of a reader.
-fn told_on<R: Source>(alloc: Global, table: &Table, r: &mut R) -> Result<Told, WordError>
-    ensures known { IfSome (R.remaining r.old) (λ bytes. IfOk result (λ t. IsToldOf table.now bytes t)) }
+fn told_on<R: Source>(alloc: Global, table: &Table, r: &mut R) -> Result<Explanation, WordError>
+    ensures known { IfSome (R.remaining r.old) (λ bytes. IfOk result (λ t. IsExplanation table.now bytes t)) }
     ensures count { R.failures r.new ≢ R.failures r.old ↔ IsErrOf result W1 }
     ensures only { IfErr result (λ e. (e ≡ W1) ⊎ (e ≡ W9)) }
 {
@@ -221,9 +222,9 @@ fn told_on<R: Source>(alloc: Global, table: &Table, r: &mut R) -> Result<Told, W
     }
 }
 
-impl Told {
-    /// The bytes of its lines, with that of the verdict first.
-    fn bytes(&self, alloc: Global) -> Result<Vec<u8>, AllocError>
+impl Explanation {
+    /// The bytes of the lines, that of the verdict first.
+    pub fn bytes(&self, alloc: Global) -> Result<Vec<u8>, AllocError>
         ensures { IfOk result (λ v. v.items ≡ line_of self.now.judgment ++ string_bytes self.now.lines) }
     {
         let line = line_for(self.judgment);
@@ -273,4 +274,26 @@ pub fn explain_stream<R: Source, W: Sink>(
     };
     write_all(bytes.as_slice(), w)?;
     Ok(told.is_valid())
+}
+
+/// The verdict on a module's bytes in memory, and of a fault the lines that explain it, as `explain_stream` writes
+/// them.
+///
+/// The bytes are copied once. `Memory` comes only where a growth of memory was refused.
+pub fn explain_bytes(alloc: Global, table: &Table, bytes: &[u8]) -> Result<Explanation, Memory>
+    // The verdict is that of the bytes, and the lines explain it.
+    ensures { IfOk result (λ e. IsExplanation table.now bytes.now e) }
+{
+    spv_words::laws::one_refusal();
+    let image = match image_of(alloc, bytes) {
+        Ok((image, _)) => image,
+        Err(code) => match refusal(alloc, code) {
+            Ok(told) => return Ok(told),
+            Err(_) => return Err(Memory),
+        },
+    };
+    match told_by(alloc, table, &image) {
+        Ok(told) => Ok(told),
+        Err(_) => Err(Memory),
+    }
 }

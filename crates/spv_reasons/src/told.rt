@@ -3,7 +3,7 @@ ghost use Rattle.std.specs.Prelude.{◌≡◌, ◌++◌, [], ◌∷◌, codes, s
 ghost use Rattle.spv_module.specs.Module.{plain_insts};
 ghost use Rattle.spv_evidence.specs.declared.evidence.Evidence.TheVariants as evidence;
 ghost use Rattle.spv_reasons.specs.Lines as lines;
-ghost use Rattle.spv_reasons.specs.Lines.{inst_begin, operand_line, results_line, told_of};
+ghost use Rattle.spv_reasons.specs.Lines.{dead_lines_of, inst_begin, operand_line, results_line, told_of};
 ghost use Rattle.spv_reasons.specs.inner.Adding.{Adds};
 
 use crate::about::{About, number_line, push_names, text_line};
@@ -248,21 +248,43 @@ fn opcode_line(about: About<'_, '_>, out: &mut String, opcode: u16) -> Result<()
     out.push_str("\n")
 }
 
-/// Adds the lines of the operand of an instruction that fails, and of the kind that is due there. For other evidence than that there is
-/// none.
-pub fn due_lines(table: &Table, out: &mut String, evidence: &Evidence) -> Result<(), AllocError>
+/// Adds the lines of an opcode, and of whether it has a row in the table of shapes.
+fn shape_lines(
+    about: About<'_, '_>,
+    out: &mut String,
+    opcode: u16,
+    known: bool,
+) -> Result<(), AllocError>
     ensures { OnOk result (Adds [] (string_bytes out.old) (string_bytes out.new)) }
 {
-    let Evidence::Due { operand, kind, .. } = evidence else {
-        return Ok(());
-    };
-    number_line(out, "operand", *operand)?;
+    opcode_line(about, out, opcode)?;
+    text_line(out, "row", if known { "other operands" } else { "none" })
+}
+
+/// Adds the line of the kind that is due at an operand, if one is.
+fn kind_line(table: &Table, out: &mut String, kind: Option<u32>) -> Result<(), AllocError>
+    ensures { OnOk result (Adds [] (string_bytes out.old) (string_bytes out.new)) }
+{
     let Some(number) = kind else {
         return text_line(out, "due", "nothing");
     };
-    match table.kind(*number) {
+    match table.kind(number) {
         Some(kind) => text_line(out, "due", kind.name.as_str()),
-        None => number_line(out, "due", *number),
+        None => number_line(out, "due", number),
+    }
+}
+
+/// Adds the lines of the operand of an instruction that fails, and of the kind that is due there. For other evidence
+/// than that there is none.
+pub fn due_lines(table: &Table, out: &mut String, evidence: &Evidence) -> Result<(), AllocError>
+    ensures { OnOk result (Adds (dead_lines_of evidence.now) (string_bytes out.old) (string_bytes out.new)) }
+{
+    match evidence {
+        Evidence::Due { operand, kind, .. } => {
+            number_line(out, "operand", *operand)?;
+            kind_line(table, out, *kind)
+        }
+        _ => Ok(()),
     }
 }
 
@@ -307,7 +329,7 @@ pub fn evidence_lines(
     match evidence {
         Evidence::Opcode { opcode } => opcode_line(about, out, *opcode),
         Evidence::Due { opcode, .. } => opcode_line(about, out, *opcode),
-        Evidence::Shape { opcode, .. } => opcode_line(about, out, *opcode),
+        Evidence::Shape { opcode, known } => shape_lines(about, out, *opcode, *known),
         Evidence::MayCome { opcodes, end } => may_come_line(about, out, opcodes.as_slice(), *end),
         Evidence::Operand { operand } => about.operand_line(out, inst, *operand),
         Evidence::Earlier { inst: place } => about.inst_line(out, "earlier", *place),

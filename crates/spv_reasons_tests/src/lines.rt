@@ -5,7 +5,7 @@ use crate::modules::{
     PHI_WITH_CROSSED_VALUES, VALUE_MISSING_ON_ONE_BRANCH,
 };
 use spv_grammar::{FromGrammar, Table};
-use spv_reasons::{Evidence, Explained, explain, explain_stream};
+use spv_reasons::{Evidence, Explained, explain, explain_bytes, explain_stream};
 use spv_samples::{PROFILE, SMALLEST_KERNEL, image_of};
 use spv_words::{FromRead, FromWrite};
 use std::alloc::Global;
@@ -58,6 +58,24 @@ fn a_valid_module(rt: HostRuntime) -> Result<(), Fail> {
     assert_eq!(rt; out.as_slice(), b"valid\n".as_slice());
     assert!(rt; answer);
     Ok(())
+}
+
+/// Fails where other lines are made of a module in memory than are written.
+fn are_written(alloc: Global, words: &str) -> Result<(), Fail> {
+    let table = Table::from_slice(alloc, PROFILE.as_bytes())?;
+    let image = image_of(alloc, words)?;
+    let bytes = explain_bytes(alloc, &table, image.octets())?.bytes(alloc)?;
+    let (out, _) = written(alloc, words)?;
+    if bytes.as_slice() != out.as_slice() {
+        return Err(Fail::from("other lines"));
+    }
+    Ok(())
+}
+
+#[test]
+fn bytes_in_memory(rt: HostRuntime) -> Result<(), Fail> {
+    are_written(rt.alloc(), SMALLEST_KERNEL.words)?;
+    are_written(rt.alloc(), VALUE_MISSING_ON_ONE_BRANCH)
 }
 
 /// The evidence by itself.

@@ -1,5 +1,5 @@
 -- What the words of a module are read as, with what shows a fault. (For the code alone.)
-use Rattle.std.specs.Prelude.{◌≡◌, ◌-◌, ℕ, List, drop, slice_index}
+use Rattle.std.specs.Prelude.{◌-◌, ℕ, List, drop, slice_index}
 use Rattle.spv_table.specs.Table.{Table}
 use Rattle.spv_module.specs.Module.{plain_insts}
 use Rattle.spv_module.specs.Instruction.{IsListing}

@@ -1,4 +1,4 @@
-use Rattle.std.proofs.Common.{◌≡◌, ◌∙◌, sym}
+use Rattle.std.proofs.Common.{◌∙◌, sym}
 use Rattle.spv_module.specs.Module.{plain_insts}
 use Rattle.spv_reasons.proofs.Stages.{branches_of, the_call, values_of}
 use Rattle.spv_reasons.proofs.Shown.{branch_shown, call_shown, walk_shown}

@@ -1,4 +1,4 @@
-use Rattle.std.proofs.Common.{◌≡◌, ◌≤◌, ◌∙◌, sym, subst, arith, Ok, Err, IfOk}
+use Rattle.std.proofs.Common.{◌∙◌, sym, subst, arith}
 use Rattle.spv_module.specs.Module.{plain_insts}
 use Rattle.spv_branches.proofs.Firsts.{few_insts}
 use Rattle.spv_types.specs.Broken as types

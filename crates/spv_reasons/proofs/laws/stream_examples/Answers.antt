@@ -1,4 +1,4 @@
-use Rattle.spv_reasons.proofs.Worked.{no_first_lines, second_lines}
+use Rattle.spv_reasons.proofs.Worked.{mask_lines, no_first_lines, no_lines_beside, second_lines}
 use Rattle.spv_reasons.proofs.laws.stream_examples.Goals as goal
 
 pub returns-clause-lines : goal.returns-clause-lines
@@ -6,3 +6,9 @@ returns-clause-lines c = second_lines
 
 pub returns-clause-not_first : goal.returns-clause-not_first
 returns-clause-not_first c = no_first_lines
+
+pub returns-clause-dead : goal.returns-clause-dead
+returns-clause-dead c = mask_lines
+
+pub returns-clause-not_beside : goal.returns-clause-not_beside
+returns-clause-not_beside c = no_lines_beside

@@ -30,8 +30,9 @@ returns-in-Ok-Malformed c = λ bytes order h.
     } in
     let G = c.args.table.now in
     let words = c.args.image.now in
-    dead_told laws G bytes words order c.in-Ok-Malformed.fault c.malformed_told.result h
-    (subst (λ r. IsReading G words r) c.in-Ok-Malformed.field-0-is c.in-Ok-Malformed.ensures).0 c.malformed_told.ensures
+    let r = subst (λ r. IsReading G words r) c.in-Ok-Malformed.field-0-is c.in-Ok-Malformed.ensures in
+    dead_told laws G bytes words order c.in-Ok-Malformed.fault c.in-Ok-Malformed.evidence c.malformed_told.result h
+    r.0 r.1 c.malformed_told.ensures.verdict c.malformed_told.ensures.lines
 
 pub returns-in-Ok-Broken : goal.returns-in-Ok-Broken
 returns-in-Ok-Broken c = λ bytes order h.
