@@ -31,6 +31,7 @@ short_explained G h never = record {
   lines = [];
   verdict = IsVerdict.refused W2 h;
   explain = λ words order is r n m listing first stage. absurd (never order words m);
+  dead = λ words order r n word m d. absurd (never order words m);
   written = refl;
   answered = (λ t. cc, λ e. absurd (refused_is_not_valid W2 e));
 }
@@ -42,6 +43,7 @@ short_begun_explaining G h never = record {
   lines = [];
   verdict = IsVerdict.refused W2 h;
   explain = λ words order is r n m listing first stage. absurd (never order words m);
+  dead = λ words order r n word m d. absurd (never order words m);
   count = 5;
   fits = lit≤ tt;
   written = refl;

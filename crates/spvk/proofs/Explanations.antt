@@ -1,33 +1,22 @@
--- The lines that were written.
-use Rattle.std.proofs.Common.{◌≡◌, ◌++◌, ℕ, List, [], Option, Some, None, IfSome, Bool, ap, ◌∙◌}
+-- What an explanation is for C.
+use Rattle.std.proofs.Common.{◌≡◌, ◌++◌, ℕ, List, Some, string_bytes}
 use Rattle.spv_table.specs.Table.{Table}
-use Rattle.spv_reasons.specs.Stream.{Explains}
+use Rattle.spv_reasons.specs.Stream.{IsExplanation}
+use Rattle.spv_reasons.specs.declared.stream.Explanation.{Explanation}
 use Rattle.spv_verdict.specs.Text.{line_of}
-use Rattle.spv_verdict.specs.Verdict.{IsVerdict}
-use Rattle.spv_verdict.specs.declared.verdict_line.Judgment.{Judgment}
 use Rattle.spvk.specs.Explain.{IsExplaining}
 use Rattle.spvk.specs.Numbers.{numbers_of}
 use Rattle.spvk.specs.declared.text.Text.{Text}
-use Rattle.spvk.specs.inner.Lines.{AreLines}
 
--- they are all that the writer holds, which held nothing
-pub lines_written : (G : Table) (bytes : List ℕ) (known kept : Option (List ℕ)) (new : List ℕ) (answer : Bool) → known ≡ Some bytes → kept ≡ Some []
-    → IfSome known (λ bs. IfSome kept (λ old. Explains G bs old (Some new) answer)) → AreLines G bytes new
-lines_written G bytes known kept new answer k o h =
-    let explained : Explains G bytes [] (Some new) answer = rw o at (rw k at h) in
-    let line = explained.line in let lines = explained.lines in
-    let written : Some new ≡ Some (line ++ lines) = explained.written in
-    let same : new ≡ line ++ lines = cc in
-    record { line = explained.line; lines = explained.lines; verdict = explained.verdict; explain = explained.explain; whole = same }
-
--- a verdict with the lines
-pub explained : (G : Table) (bytes lines : List ℕ) (j : Judgment) (t : Text) → IsVerdict G bytes (line_of j) → AreLines G bytes lines
-    → t.verdict ≡ numbers_of j → t.buffer.bytes ≡ Some lines → IsExplaining G bytes t
-explained G bytes lines j t verdict are v b = record {
-  tells = record { judgment = j; line = verdict; told = v };
-  line = are.line;
-  lines = are.lines;
-  verdict = are.verdict;
-  explain = are.explain;
-  text = b ∙ ap Some are.whole;
+pub explained : (G : Table) (bytes : List ℕ) (e : Explanation) (t : Text) → IsExplanation G bytes e
+    → t.verdict ≡ numbers_of e.judgment → t.buffer.bytes ≡ Some (line_of e.judgment ++ string_bytes e.lines)
+    → IsExplaining G bytes t
+explained G bytes e t is verdict buffer = record {
+  tells = record { judgment = e.judgment; line = is.verdict; told = verdict };
+  line = line_of e.judgment;
+  lines = string_bytes e.lines;
+  verdict = is.verdict;
+  explain = is.explain;
+  dead = is.dead;
+  text = buffer;
 }

@@ -1,3 +1,2 @@
 pub mod Faulty
-pub mod Lines
 pub mod Refusal

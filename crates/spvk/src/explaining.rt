@@ -1,45 +1,36 @@
 //! Explains verdicts, for C.
-ghost use Rattle.std.specs.Prelude.{◌≡◌, ◌++◌, ℕ, List, IfOk};
+ghost use Rattle.std.specs.Prelude.{◌≡◌, ◌++◌, Some, IfOk, string_bytes};
 ghost use Rattle.spv_table.specs.Table.{Table as TableView};
 ghost use base.Fml.{Lft, Share};
 ghost use types.Logic.{sem};
 ghost use Rattle.spvk.specs.Held.{shown};
 ghost use Rattle.spvk.specs.Explain.{Explains, ExplainsAt, IsExplaining};
-ghost use Rattle.spvk.specs.inner.Lines.{AreLines};
+ghost use Rattle.spv_verdict.specs.Text.{line_of};
 
 use crate::buffer::Buffer;
-use crate::collected::Collected;
-use crate::judging::judge;
 use crate::numbers::numbers;
-use crate::octets::Octets;
 use crate::status::{MEMORY, NO_GRAMMAR, OK};
 use crate::text::Text;
-use spv_reasons::explain_stream;
+use spv_reasons::{Explanation, explain_bytes};
 use spv_table::{Memory, Table};
-use std::alloc::Global;
+use std::alloc::{AllocError, Global};
 use std::{mem, ptr};
 
-/// The line of the verdict on these bytes, and the lines that explain it. The error is want of memory.
-fn lines_of(alloc: Global, table: &Table, bytes: &[u8]) -> Result<Vec<u8>, Memory>
-    ensures { IfOk result (λ v. AreLines table.now bytes.now v.items) }
+/// The lines of an explanation, for C. The error is want of memory.
+fn buffer_of(alloc: Global, explanation: &Explanation) -> Result<Buffer, AllocError>
+    ensures { IfOk result (λ b. b.bytes ≡ Some (line_of explanation.now.judgment ++ string_bytes explanation.now.lines)) }
 {
-    let mut written = Collected::new(alloc);
-    match explain_stream(alloc, table, &mut Octets::new(bytes), &mut written) {
-        Ok(_) => Ok(written.bytes),
-        Err(_) => Err(Memory),
-    }
+    Buffer::of(alloc, explanation.bytes(alloc)?)
 }
 
 /// What explains the verdict on these bytes. The error is want of memory.
-#[tactic(auto, using(crate::proofs::Explanations::explained))]
 fn explained_bytes(alloc: Global, table: &Table, bytes: &[u8]) -> Result<Text, Memory>
     ensures { IfOk result (λ t. IsExplaining table.now bytes.now t) }
 {
-    let judgment = judge(alloc, table, bytes)?;
-    let lines = lines_of(alloc, table, bytes)?;
-    match Buffer::of(alloc, lines) {
+    let explanation = explain_bytes(alloc, table, bytes)?;
+    match buffer_of(alloc, &explanation) {
         Ok(buffer) => Ok(Text {
-            verdict: numbers(judgment),
+            verdict: numbers(explanation.judgment),
             buffer,
         }),
         Err(_) => Err(Memory),

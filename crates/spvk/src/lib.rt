@@ -17,7 +17,6 @@ mod judging;
 pub mod laws;
 mod loose;
 mod numbers;
-mod octets;
 mod rules;
 mod showing;
 mod status;
