@@ -1,5 +1,5 @@
 -- How the matches of `clap` lead to a command.
-use Rattle.std.proofs.Common.{◌≡◌, ◌⊎◌, ◌↔◌, ◌∙◌, ◌≤◌, ◌<◌, inl, inr, refl, ap, sym, subst, slice_index, slice_index_or, get_or, take, ◌+◌, arith, ◌∷◌, length, map, unwrap_or, true, false, Bool, IsTrue, ℕ, List, [], Option, Some, None, option_map, codes}
+use Rattle.std.proofs.Common.{◌≡◌, ◌⊎◌, ◌↔◌, ◌∙◌, ◌≤◌, ◌<◌, inl, inr, refl, ap, sym, subst, slice_index, get_or, take, ◌+◌, arith, ◌∷◌, length, map, unwrap_or, true, false, Bool, IsTrue, ℕ, List, [], Option, Some, None, option_map, codes}
 use Rattle.std.specs.Prelude.{Box, Result, Ok, Err, IfOk, MatchOption, ok_or}
 use Rattle.std.specs.Box.{box_value}
 use Rattle.std.specs.Option.{option_or}

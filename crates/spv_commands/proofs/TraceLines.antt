@@ -1,11 +1,11 @@
 -- The lines of a trace, as they are put together and written.
-use Rattle.std.proofs.Common.{◌≡◌, ◌≤◌, ◌<◌, ◌+◌, ◌-◌, ◌*◌, ◌^◌, ◌++◌, ◌∷◌, [], ◌∙◌, ℕ, zero, suc, List, Option, Some, None, IfSome, length, take, drop, get_or, set, min, ap, sym, refl, codes, arith, append_assoc, length-append, length-drop, take-add, drop-cons}
+use Rattle.std.proofs.Common.{◌≡◌, ◌≤◌, ◌<◌, ◌+◌, ◌-◌, ◌*◌, ◌^◌, ◌++◌, ◌∷◌, [], ◌∙◌, ℕ, suc, List, Option, Some, None, IfSome, length, take, drop, get_or, set, ap, sym, refl, codes, arith, append_assoc, length-append, length-drop, take-add, drop-cons}
 use Rattle.std.specs.Prelude.{decimal, flat_map}
 use Rattle.std.specs.Io.KnownBytes.{Appends}
 use Rattle.std.proofs.KnownBytes.{Appends-nil, Appends-trans}
 use Rattle.std.proofs.lemmas.Fmt.{length-decimal-le}
 use Rattle.std.proofs.Math.Seq.{take-append-add}
-use Rattle.std.proofs.lemmas.List.{drop-set, length-set, take_all, take-append-drop, take-append-le, length-take-le, append-nil}
+use Rattle.std.proofs.lemmas.List.{drop-set, take_all, take-append-drop, take-append-le, length-take-le, append-nil}
 use Rattle.std.proofs.lemmas.Grind.{flat_map-append}
 use Rattle.spv_run.specs.declared.parts.Step.{Step}
 use Rattle.spv_commands.specs.Trace.{step_line}

@@ -1,21 +1,20 @@
 -- What is traced of bytes that were read.
-use Rattle.std.proofs.Common.{◌≡◌, ◌≢◌, ◌⊎◌, ◌↔◌, ◌≤◌, ◌++◌, ◌∙◌, ℕ, List, [], ◌∷◌, Option, Some, None, Result, Ok, Err, IfSome, IfOk, IfErr, IsErrOf, Bool, true, false, length, take, ap, refl, inl, inr, codes, lit≤}
+use Rattle.std.proofs.Common.{◌≡◌, ◌≢◌, ◌↔◌, ◌≤◌, ◌++◌, ℕ, List, [], ◌∷◌, Option, Some, None, Result, Err, IfSome, IfOk, IsErrOf, Bool, true, false, length, take, ap, refl, codes, lit≤}
 use Rattle.std.specs.Io.KnownBytes.{Appends}
 use Rattle.spv_words.specs.Header.{IsFirstBroken, IsModule, Refuses}
 use Rattle.spv_words.specs.declared.words.Order.{Order}
 use Rattle.spv_words.specs.declared.words.WordError.{WordError}
 use Rattle.spv_words.specs.declared.words.WordError.TheVariants as word
 use Rattle.spv_table.specs.Table.{Table}
-use Rattle.spv_run.specs.Entry.{IsEntryId, IsRefused}
+use Rattle.spv_run.specs.Entry.{IsRefused}
 use Rattle.spv_run.specs.declared.parts.Trace.{Trace}
 use Rattle.spv_run.specs.declared.parts.TraceError.{TraceError}
 use Rattle.spv_run.specs.declared.parts.TraceError.TheVariants.{X1, X2}
 use Rattle.spv_verdict.specs.Answer.{IsAnswer}
-use Rattle.spv_verdict.specs.Checked.{IsChecked, IsKept}
+use Rattle.spv_verdict.specs.Checked.{IsChecked}
 use Rattle.spv_verdict.specs.Program.{Program}
 use Rattle.spv_verdict.specs.Run.{IsRunOf}
-use Rattle.spv_verdict.specs.Text.{line_of}
-use Rattle.spv_verdict.specs.Verdict.{IsVerdict, fault_line, line_end, refused_line, valid_line}
+use Rattle.spv_verdict.specs.Verdict.{IsVerdict, fault_line, line_end, refused_line}
 use Rattle.spv_verdict.specs.declared.checked.Verdict.{Verdict}
 use Rattle.spv_verdict.specs.declared.checked.Verdict.TheVariants.{Valid, Fault}
 use Rattle.spv_verdict.proofs.Checks.{fault_judged}

@@ -5,7 +5,7 @@ use mir.Raw.{raw as bare}
 use mir.Val.{Val, vstruct, vcons, vnil, vint, of_list}
 use base.Fraction.{full_share}
 use base.Logic.{ent, guard, guard_i, via, snd∗, never_e}
-use base.Fml.{ftrue, fex, fsep}
+use base.Fml.{ftrue}
 use types.Logic.{Logic, sem}
 use types.Kit.{Item, Goal, Seq, Step, step, ‵, given, ◌$◌, drop, learn, move, use1, fsplit, fjoin, fpick, fpack, feq_i, feq_l, flt_i, flt_l}
 use contract.Monad.{fact_use}
@@ -20,7 +20,7 @@ use Rattle.std.proofs.GlobalToken.{dealloc_token-Testable}
 use Rattle.std.specs.Box.Ownership.{box_owns}
 use Rattle.std.specs.contracts.impls.GlobalAllocator.TheImpl.{ghosts}
 use Rattle.spvk.specs.Held.{heap}
-use Rattle.spvk.specs.Buffer.{LieAt, Octets, kept}
+use Rattle.spvk.specs.Buffer.{Octets, kept}
 use Rattle.spvk.specs.contracts.buffer.Buffer as buffer
 
 abbrev pub three : Ptr → ℕ → Ptr → Val

@@ -1,11 +1,10 @@
 -- What was read has the verdict.
-use Rattle.std.proofs.Common.{◌≡◌, ℕ, List, Option, Some, None, Result, IfSome, IfOk, slice_index, sym, subst}
+use Rattle.std.proofs.Common.{◌≡◌, ℕ, List, IfOk, sym, subst}
 use Rattle.spv_words.specs.Header.{IsModule, Refuses}
 use Rattle.spv_words.specs.declared.words.Order.{Order}
 use Rattle.spv_words.specs.declared.words.WordError.{WordError}
 use Rattle.spv_words.specs.declared.words.WordError.TheVariants as word
 use Rattle.spv_table.specs.Table.{Table}
-use Rattle.spv_table.specs.declared.error.Memory.{Memory}
 use Rattle.spv_module.specs.declared.fault.Fault as fault
 use Rattle.spv_verdict.specs.Answer.{IsAnswer, IsFault}
 use Rattle.spv_verdict.specs.Checked.{IsChecked}
@@ -14,7 +13,6 @@ use Rattle.spv_verdict.specs.Text.{line_of}
 use Rattle.spv_verdict.specs.Verdict.{IsVerdict, refused, valid, unsound, dead, fault_line, valid_line}
 use Rattle.spv_verdict.specs.declared.checked.Verdict.{Verdict}
 use Rattle.spv_verdict.specs.declared.checked.Verdict.TheVariants.{Valid, Fault}
-use Rattle.spv_verdict.specs.declared.verdict_line.Judgment.{Judgment}
 use Rattle.std.proofs.Common.{◌+◌, ◌-◌, arith}
 use Rattle.spvk.specs.inner.Refusal.{refusal_of}
 

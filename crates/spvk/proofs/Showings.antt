@@ -1,5 +1,5 @@
 -- What is shown of bytes that were read.
-use Rattle.std.proofs.Common.{◌≡◌, ◌+◌, ◌-◌, ℕ, List, Option, Some, None, Result, Ok, Err, IfSome, IfOk, drop, ap, sym, subst, arith}
+use Rattle.std.proofs.Common.{◌≡◌, ◌+◌, ◌-◌, ℕ, List, Some, None, Result, Ok, Err, IfOk, ap, sym, subst, arith}
 use Rattle.spv_words.specs.Header.{IsModule, Refuses}
 use Rattle.spv_words.specs.declared.words.Order.{Order}
 use Rattle.spv_words.specs.declared.words.WordError.{WordError}

@@ -1,5 +1,5 @@
 -- What a text is assembled to. (Own.)
-use Rattle.std.specs.Prelude.{◌≡◌, ◌≢◌, ◌*◌, ℕ, List, [], None, IsUtf8, drop, length}
+use Rattle.std.specs.Prelude.{◌≡◌, ◌*◌, ℕ, List, [], None, IsUtf8, drop, length}
 use Rattle.spv_words.specs.Header.{IsHeader}
 use Rattle.spv_words.specs.Streams.{Holds}
 use Rattle.spv_words.specs.declared.words.Header.{Header}

@@ -1,7 +1,6 @@
-use Rattle.std.proofs.Common.{◌≡◌, ◌∙◌, ap, sym, refl, codes, map, None, Some, Option, option_map, List}
+use Rattle.std.proofs.Common.{◌≡◌, ◌∙◌, sym, refl, codes, map, None, Some, option_map}
 use Rattle.std.specs.Option.{option_or}
-use Rattle.std.specs.Borrow.{Bor}
-use Rattle.clap.specs.Words.{Text, all_of, first_of, found_of, rows_of}
+use Rattle.clap.specs.Words.{all_of, first_of, found_of, rows_of}
 use Rattle.clap.proofs.WalkLemmas.{first_value-rows, raw_values-rows}
 use Rattle.spv_commands.proofs.Asking.{asked_of, grammar_read, no_command_without_file, no_command_without_grammar, no_rules_of_name}
 use Rattle.spv_commands.proofs.command_line.file_command_in.Goals as goal

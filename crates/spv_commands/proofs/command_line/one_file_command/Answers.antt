@@ -1,5 +1,5 @@
-use Rattle.std.proofs.Common.{◌≡◌, ◌∙◌, ◌∷◌, [], ap, sym, refl, codes, rules, Some, List, Option}
-use Rattle.clap.specs.Words.{Text, found_of, rows_of}
+use Rattle.std.proofs.Common.{◌≡◌, ◌∙◌, refl, codes, rules, Some}
+use Rattle.clap.specs.Words.{found_of, rows_of}
 use Rattle.spv_commands.proofs.Asking.{asm_met, no_command_of_name, no_rules_of_name, trace_met}
 use Rattle.spv_commands.proofs.command_line.one_file_command.Goals as goal
 

@@ -1,5 +1,5 @@
-use Rattle.std.proofs.Common.{◌≡◌, ◌∷◌, ◌+◌, drop, get_or, suc, arith, drop-cons}
-use Rattle.spv_commands.proofs.Numerals.{NumberSoFar, number_ends, number_more, number_stops, not_empty}
+use Rattle.std.proofs.Common.{◌≡◌, ◌+◌, drop, get_or, suc, arith, drop-cons}
+use Rattle.spv_commands.proofs.Numerals.{number_ends, number_more, number_stops, not_empty}
 use Rattle.spv_commands.proofs.number.number_in.Goals as goal
 
 pub returns-in-None : goal.returns-in-None

@@ -1,6 +1,5 @@
 use Rattle.std.proofs.Common.{length, suc, zero, Option, Some, None, List, ℕ}
 use Rattle.std.specs.Prelude.{option_map}
-use Rattle.std.specs.Borrow.{Bor}
 use Rattle.spv_commands.proofs.Numerals.{NumbersSoFar}
 use Rattle.spv_commands.proofs.number.numbers_in.Given as goal
 

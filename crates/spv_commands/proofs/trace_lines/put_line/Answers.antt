@@ -1,5 +1,4 @@
-use Rattle.std.proofs.Common.{◌≤◌, ◌<◌, ◌^◌, ◌-◌, length, arith}
-use Rattle.std.specs.Prelude.{decimal}
+use Rattle.std.proofs.Common.{◌-◌, arith}
 use Rattle.std.proofs.lemmas.List.{length-set}
 use Rattle.spv_commands.proofs.TraceLines.{digits_fit, line_put}
 use Rattle.spv_commands.proofs.trace_lines.put_line.Goals as goal

@@ -1,4 +1,4 @@
-use Rattle.std.proofs.Common.{◌≡◌, ◌+◌, ◌-◌, ◌≤◌, ◌∙◌, ap, length, take, drop, arith}
+use Rattle.std.proofs.Common.{◌+◌, ◌-◌, ◌∙◌, ap, arith}
 use Rattle.std.specs.Prelude.{flat_map}
 use Rattle.spv_commands.specs.Trace.{step_line}
 use Rattle.spv_commands.proofs.TraceLines.{begun_all, part_lent, rest_by, steps_all, steps_begun, steps_more}

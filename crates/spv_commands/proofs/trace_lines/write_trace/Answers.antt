@@ -1,6 +1,6 @@
 use Rattle.spv_commands.specs.Trace.{ending_line, step_line}
 use Rattle.std.specs.Prelude.{flat_map}
-use Rattle.spv_commands.proofs.TraceLines.{begun_front, begun_last}
+use Rattle.spv_commands.proofs.TraceLines.{begun_last}
 use Rattle.spv_commands.proofs.trace_lines.write_trace.Goals as goal
 
 pub returns-clause-begun : goal.returns-clause-begun

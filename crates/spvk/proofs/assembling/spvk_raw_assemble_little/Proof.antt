@@ -3,7 +3,7 @@ use Rattle.std.proofs.Common.{◌≡◌, ◌^◌, ℕ, List, [], ◌∷◌, ◌+
 use mir.Syntax.{named}
 use mir.Val.{Val, vptr, vint}
 use base.Logic.{SProp, ent, emp, id⊢}
-use base.Fml.{ftrue, flft, fres}
+use base.Fml.{ftrue, flft}
 use base.Fraction.{full_share}
 use prog.Wp.{WpFn}
 use types.Kit.{‵, raw, ◌⊛◌, some, later, at_ret, ◌$◌, ◌∵◌, !, qed, by, move, keep, drop, split, join, fsplit, fjoin, fpick, fpack, pick, suffices, use0, use1, use2, use3, await, rewrite, feq_i, feq_l, flt_i}
@@ -20,8 +20,8 @@ use denote.Opens.{shr_dup}
 use denote.Plain.{uint_Lawful}
 use denote.RattleType.{RattleType, owns}
 use denote.RawPtr.{Ptr, block_ptr, null_ptr, ptr_val, Testable, tests_null}
-use denote.Ref.{Bor, MutRef, mut_vals, mut_Tells}
-use denote.Signature.{types_at, plain, shr_slice_of, mut_ref_to}
+use denote.Ref.{Bor, MutRef, mut_Tells}
+use denote.Signature.{types_at, plain, shr_slice_of}
 use denote.Slice.{ShrSlice, slice_val, shr_slice_Tells}
 use denote.Steps.{nothing, heard, peeks}
 use denote.Triple.Call.{calls_at_last}
