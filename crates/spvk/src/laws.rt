@@ -1,7 +1,24 @@
-//! What follows from the definitions. Each function does nothing: its contract is what is proved.
-ghost use Rattle.std.specs.Prelude.{ℕ};
+//! What follows from the definitions, and worked examples. Each function does nothing: its contract is what is proved.
+ghost use Rattle.std.specs.Prelude.{◌≡◌, ◌≢◌, ℕ, List};
 ghost use Rattle.spv_table.specs.Table.{Table as TableView};
+ghost use Rattle.spv_grammar.specs.declared.error.GrammarError.TheVariants.{J4};
+ghost use Rattle.spv_lines.specs.declared.asm_error.AsmCode.TheVariants.{S2};
+ghost use Rattle.spv_module.specs.declared.fault.Rule.TheVariants.{I7};
+ghost use Rattle.spv_verdict.specs.declared.verdict_line.Judgment.TheVariants.{Valid};
+ghost use Rattle.spv_words.specs.declared.words.Order.{Order};
+ghost use Rattle.spv_words.specs.declared.words.WordError.TheVariants.{W3};
+ghost use Rattle.spvk.specs.Answer.{Answers, AnswersAt, status_alone};
+ghost use Rattle.spvk.specs.Assemble.{AssemblesAt};
+ghost use Rattle.spvk.specs.Explain.{ExplainsAt};
+ghost use Rattle.spvk.specs.Faults.{text_code_number};
+ghost use Rattle.spvk.specs.Grammar.{IsReason};
 ghost use Rattle.spvk.specs.Held.{boxed, lent};
+ghost use Rattle.spvk.specs.Numbers.{code_number, nowhere, numbers_of, rule_number};
+ghost use Rattle.spvk.specs.Show.{Shows, ShowsAt};
+ghost use Rattle.spvk.specs.Status.{status_of};
+ghost use Rattle.spvk.specs.declared.image.Assembled.{Assembled};
+ghost use Rattle.spvk.specs.declared.text.Text.{Text};
+ghost use denote.RawPtr.{null_ptr};
 ghost use types.Logic.{sem};
 
 /// The owner of a table may show it for a lifetime of its own, so the `requires*` of `spvk_raw_check` can be met.
@@ -21,3 +38,37 @@ pub unsafe fn comes_back(at: *const u8)
 {
     let _ = at;
 }
+
+/// Codes in numbers.
+pub fn number_examples()
+    ensures word { code_number W3 ≡ 3 }
+    ensures rule { rule_number I7 ≡ 107 }
+    ensures other_rule { rule_number I7 ≢ 108 }
+    ensures grammar { status_of J4 ≡ 104 }
+    ensures text { text_code_number S2 ≡ 1202 }
+    // A valid module has the code 0, and no instruction.
+    ensures valid { (numbers_of Valid).code ≡ 0 }
+    ensures nowhere { (numbers_of Valid).inst ≡ nowhere }
+    ensures not_the_first { (numbers_of Valid).inst ≢ 0 }
+{}
+
+/// What calls answer: want of memory by status 1, a null pointer by status 2.
+pub fn answer_examples()
+    ensures memory { (G : TableView) (bytes : List ℕ) → Answers G bytes (status_alone 1) }
+    ensures no_status_2 { (G : TableView) (bytes : List ℕ) → ¬ (Answers G bytes (status_alone 2)) }
+    ensures null { (G : TableView) (bytes : List ℕ) → AnswersAt null_ptr G bytes (status_alone 2) }
+    ensures null_is_told { (G : TableView) (bytes : List ℕ) → ¬ (AnswersAt null_ptr G bytes (status_alone 1)) }
+    // Want of memory is a reason for status 1, and nothing is one for status 0.
+    ensures want { (text : List ℕ) → IsReason text 1 }
+    ensures no_reason { (text : List ℕ) → ¬ (IsReason text 0) }
+{}
+
+/// What was there stays where nothing is answered.
+pub fn kept_examples()
+    ensures memory { (G : TableView) (bytes : List ℕ) (old : Text) → Shows G bytes old old 1 }
+    ensures changed { (G : TableView) (bytes : List ℕ) (old new : Text) → old ≢ new → ¬ (Shows G bytes old new 1) }
+    ensures shown { (G : TableView) (bytes : List ℕ) (old : Text) → ShowsAt null_ptr G bytes old old 2 }
+    ensures explained { (G : TableView) (bytes : List ℕ) (old : Text) → ExplainsAt null_ptr G bytes old old 2 }
+    ensures not_done { (G : TableView) (bytes : List ℕ) (old : Text) → ¬ (ExplainsAt null_ptr G bytes old old 0) }
+    ensures assembled { (G : TableView) (o : Order) (text : List ℕ) (old : Assembled) → AssemblesAt null_ptr G o text old old 2 }
+{}
