@@ -28,7 +28,7 @@ fn versions(rt: HostRuntime) -> Result<(), Fail> {
     for words in [words, short] {
         assert_eq!(rt; arguments(a, words), Err(UseError::U4));
         let text = text_asked(a, words)?;
-        let lines = "spv 1.0.0\nSPIR-V 1.6, proved with rattle-kit-13b (logic dac8208d650f15bf)\n";
+        let lines = "spv 1.0.0\nSPIR-V 1.6, proved with rattle-kit-13f (logic dac8208d650f15bf)\n";
         assert_eq!(rt; text.as_str(), lines);
     }
     Ok(())
