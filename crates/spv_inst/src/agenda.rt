@@ -305,6 +305,7 @@ impl<'t> Agenda<'t> {
     /// has none, nor has an operand that is no value and no mask.
     ///
     /// An `AllocError` comes only where a growth of memory was refused, and then nothing is said of what is left.
+    #[inline(always)]
     pub fn open(&mut self, table: &'t Table, operand: &Operand<'_>) -> Result<(), AllocError>
         ensures { OnOk result (agenda_due table.now self.new ≡ map OneOf (map alone (opened_kinds table.now (plain_operand operand.now))) ++ agenda_due table.now self.old) }
     {

@@ -29,6 +29,7 @@ pub fn context_width(definitions: &Definitions, known: Known) -> Option<u32>
 /// The width of a literal of OpSwitch, in bits: that of the type of the first operand, the selector (SPIR-V Specification
 /// 1.6, section 3, OpSwitch). None where the first operand is no id or has no type, or where the type's last definition is
 /// no OpTypeInt or OpTypeFloat with a width from 1 to 64.
+#[inline(always)]
 pub fn switch_width(definitions: &Definitions, known: Known) -> Option<u32>
     ensures { (c : Context) → IsNear definitions.now known c → result ≡ width.switch_width c }
 {
