@@ -223,6 +223,23 @@ static inline spvk_status spvk_check(const spvk_grammar *grammar, const uint8_t 
     return (spvk_status)answer.status;
 }
 
+/** What `spvk_explain` and `spvk_show` answer, by the call of the library that each makes. (For this header.) */
+static inline spvk_status spvk_told_by(uint32_t (*raw)(const void *, const uint8_t *, size_t, spvk_text *),
+                                       const spvk_grammar *grammar, const uint8_t *bytes, size_t len,
+                                       spvk_verdict *verdict, spvk_buffer *buffer) {
+    spvk_text text = {{0, 0, 0}, SPVK_BUFFER_NONE};
+    uint32_t status;
+    if (buffer != NULL) *buffer = text.buffer;
+    if (grammar == NULL || grammar->held == NULL) return SPVK_NO_GRAMMAR;
+    if (verdict == NULL || buffer == NULL || (bytes == NULL && len != 0)) return SPVK_NULL;
+    status = raw(grammar->held, spvk_some_bytes(bytes), len, &text);
+    if (status == SPVK_OK) {
+        *verdict = text.verdict;
+        *buffer = text.buffer;
+    }
+    return (spvk_status)status;
+}
+
 /** The verdict on the bytes of a module, and the lines of `spv explain`: that of the verdict, and after that of a
  *  fault lines that explain it.
  *
@@ -231,17 +248,7 @@ static inline spvk_status spvk_check(const spvk_grammar *grammar, const uint8_t 
  *  `buffer` holds nothing. What `buffer` held is not looked at. */
 static inline spvk_status spvk_explain(const spvk_grammar *grammar, const uint8_t *bytes, size_t len,
                                        spvk_verdict *verdict, spvk_buffer *buffer) {
-    spvk_text text = {{0, 0, 0}, SPVK_BUFFER_NONE};
-    uint32_t status;
-    if (buffer != NULL) *buffer = text.buffer;
-    if (grammar == NULL || grammar->held == NULL) return SPVK_NO_GRAMMAR;
-    if (verdict == NULL || buffer == NULL || (bytes == NULL && len != 0)) return SPVK_NULL;
-    status = spvk_raw_explain(grammar->held, spvk_some_bytes(bytes), len, &text);
-    if (status == SPVK_OK) {
-        *verdict = text.verdict;
-        *buffer = text.buffer;
-    }
-    return (spvk_status)status;
+    return spvk_told_by(spvk_raw_explain, grammar, bytes, len, verdict, buffer);
 }
 
 /** The text of a module, as `spv show` writes it, or the rule of W or I by which its bytes are no list of
@@ -252,17 +259,7 @@ static inline spvk_status spvk_explain(const spvk_grammar *grammar, const uint8_
  *  text, and `buffer` holds nothing. The other statuses, and what is left after them, as of `spvk_explain`. */
 static inline spvk_status spvk_show(const spvk_grammar *grammar, const uint8_t *bytes, size_t len,
                                        spvk_verdict *verdict, spvk_buffer *buffer) {
-    spvk_text text = {{0, 0, 0}, SPVK_BUFFER_NONE};
-    uint32_t status;
-    if (buffer != NULL) *buffer = text.buffer;
-    if (grammar == NULL || grammar->held == NULL) return SPVK_NO_GRAMMAR;
-    if (verdict == NULL || buffer == NULL || (bytes == NULL && len != 0)) return SPVK_NULL;
-    status = spvk_raw_show(grammar->held, spvk_some_bytes(bytes), len, &text);
-    if (status == SPVK_OK) {
-        *verdict = text.verdict;
-        *buffer = text.buffer;
-    }
-    return (spvk_status)status;
+    return spvk_told_by(spvk_raw_show, grammar, bytes, len, verdict, buffer);
 }
 
 /** The bytes of the module that the `len` bytes of a text stand for, as `spv asm` makes them: each word with its

@@ -39,7 +39,7 @@ PROMISES = (
     (
         "The text of a module",
         "`show` and `assemble`.",
-        (("spv_text", "shown.rt", "show"), ("spv_text", "assembled.rt", "assemble")),
+        (("spv_printer", "shown.rt", "show"), ("spv_parser", "assembled.rt", "assemble")),
     ),
 )
 

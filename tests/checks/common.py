@@ -79,6 +79,21 @@ def shown(text):
     return repr(text[:300])[1:] + (f" and {len(text) - 300} bytes more" if long else "")
 
 
+def joined(words, folder, seconds=SECONDS, **how):
+    """Runs a command without input in this folder: what it prints, on both outputs in order, and how it ends."""
+    ended = subprocess.run(
+        [str(word) for word in words],
+        cwd=folder,
+        stdin=subprocess.DEVNULL,
+        stdout=subprocess.PIPE,
+        stderr=subprocess.STDOUT,
+        timeout=seconds,
+        check=False,
+        **how,
+    )
+    return ended.stdout, ended.returncode
+
+
 def run(program, words, folder, **how):
     """Runs the program with these words in this folder; catches both outputs if not told else."""
     how = {"stdin": subprocess.DEVNULL, "stdout": subprocess.PIPE, **how}

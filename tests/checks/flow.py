@@ -11,7 +11,7 @@ from importlib.machinery import SourceFileLoader
 from importlib.util import module_from_spec, spec_from_loader
 from resource import RLIMIT_AS, setrlimit
 
-from .common import SECONDS, TESTS, Answer, Check, difference
+from .common import SECONDS, TESTS, Answer, Check, difference, joined
 
 PROFILE = TESTS / "profile.json"
 VALID = Answer(b"valid\n", b"", 0)
@@ -316,15 +316,21 @@ def space_of(words):
     return SPACE + SPACE_OF_BYTE * WORD * words
 
 
+def compared(shape, size, program, folder):
+    """A made module of a shape, the answer that is wanted, what is wrong with the one it gets, its words, and the seconds."""
+    module = folder / "module.spv"
+    wanted, words = made(shape, size, module)
+    got, seconds = measured(program, module, folder, space_of(words))
+    return module, wanted, None if got == wanted else difference(wanted, got), words, seconds
+
+
 def large(shape):
     """The check of a large module: its answer, in bounded time and memory."""
 
     def check(program, folder):
-        module = folder / "module.spv"
-        wanted, words = made(shape, LARGE[shape], module)
-        got, seconds = measured(program, module, folder, space_of(words))
-        if got != wanted:
-            return difference(wanted, got)
+        module, _, wrong, words, seconds = compared(shape, LARGE[shape], program, folder)
+        if wrong:
+            return wrong
         made(straight, words // 5, module)
         _, plainly = measured(program, module, folder, space_of(words))
         most = max(LEAST_SECONDS, TIMES * plainly)
@@ -340,22 +346,12 @@ def small(shape):
     """The check that spirv-val says the same of a small module."""
 
     def check(program, folder):
-        module = folder / "module.spv"
-        wanted, words = made(shape, SMALL[shape], module)
-        got, _ = measured(program, module, folder, space_of(words))
-        if got != wanted:
-            return difference(wanted, got)
-        ended = subprocess.run(
-            ["spirv-val", "--target-env", "spv1.6", str(module)],
-            stdin=subprocess.DEVNULL,
-            stdout=subprocess.PIPE,
-            stderr=subprocess.STDOUT,
-            timeout=SECONDS,
-            check=False,
-        )
-        if (ended.returncode == 0) != (wanted == VALID):
-            said = ended.stdout.decode(errors="replace")
-            return f"  wanted: {wanted}\n  spirv-val: exit {ended.returncode}: {said}"
+        module, wanted, wrong, _, _ = compared(shape, SMALL[shape], program, folder)
+        if wrong:
+            return wrong
+        said, status = joined(["spirv-val", "--target-env", "spv1.6", module], folder)
+        if (status == 0) != (wanted == VALID):
+            return f"  wanted: {wanted}\n  spirv-val: exit {status}: {said.decode(errors='replace')}"
         return None
 
     return check

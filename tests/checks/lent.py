@@ -9,9 +9,8 @@ have kept, in a copy of the repository with one crate more.
 
 import re
 import shutil
-import subprocess
 
-from .common import TESTS, Check, Unusable
+from .common import TESTS, Check, Unusable, joined
 
 TOP = TESTS.parent
 SECONDS = 900
@@ -36,16 +35,8 @@ def compiled(folder, name):
     crate = folder / "crates/lent"
     (crate / "src").mkdir(parents=True)
     shutil.copy(TESTS / "lent" / name, crate / "src/lib.rt")
-    ended = subprocess.run(
-        ["rt", "try", "--test"],
-        cwd=crate,
-        stdin=subprocess.DEVNULL,
-        stdout=subprocess.PIPE,
-        stderr=subprocess.STDOUT,
-        timeout=SECONDS,
-        check=False,
-    )
-    return ended.returncode, ended.stdout.decode(errors="replace")
+    said, status = joined(["rt", "try", "--test"], crate, SECONDS)
+    return status, said.decode(errors="replace")
 
 
 def told(output):

@@ -13,7 +13,7 @@ import tempfile
 from pathlib import Path
 
 from .cases import all_cases, laid_out, run_case
-from .common import TESTS, Check, difference, layers_that_stand, layers_of, run
+from .common import TESTS, Check, difference, joined, layers_of, layers_that_stand, run
 from .refused import compiler
 
 TOP = TESTS.parent
@@ -58,19 +58,11 @@ def cpp():
 
 def done(words, folder, **environment):
     """What the command printed; raises Wrong where it failed."""
-    ended = subprocess.run(
-        [str(word) for word in words],
-        cwd=folder,
-        env={**os.environ, **{name: str(value) for name, value in environment.items()}},
-        stdin=subprocess.DEVNULL,
-        stdout=subprocess.PIPE,
-        stderr=subprocess.STDOUT,
-        timeout=SECONDS,
-        check=False,
-    )
-    said = ended.stdout.decode(errors="replace")
-    if ended.returncode != 0:
-        raise Wrong(f"  {shlex.join(map(str, words))[:300]}: exit {ended.returncode}\n{said[-2000:]}")
+    under = {**os.environ, **{name: str(value) for name, value in environment.items()}}
+    printed, status = joined(words, folder, SECONDS, env=under)
+    said = printed.decode(errors="replace")
+    if status != 0:
+        raise Wrong(f"  {shlex.join(map(str, words))[:300]}: exit {status}\n{said[-2000:]}")
     return said
 
 
@@ -320,7 +312,7 @@ def shown_page(_program, folder):
     if ended.returncode != 0 or ended.stderr:
         raise Wrong(f"  {ended.stderr.decode()}")
     header, page = HEADER.read_text(encoding="utf-8"), PAGE.read_text(encoding="utf-8")
-    calls = set(re.findall(r"^static inline .*?\b(spvk_\w+)\(", header, re.MULTILINE)) - {"spvk_some_bytes"}
+    calls = set(re.findall(r"^static inline .*?\b(spvk_\w+)\(", header, re.MULTILINE)) - {"spvk_some_bytes", "spvk_told_by"}
     named = set(re.findall(r"\b(spvk_\w+)\(", page.split(".SH DESCRIPTION")[0]))
     if calls != named:
         raise Wrong(f"  not in both: {', '.join(sorted(calls ^ named))}")

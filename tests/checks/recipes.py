@@ -7,10 +7,9 @@ in the sign ` of the line above it. In README.md what is run stands after `$ `, 
 
 import os
 import re
-import subprocess
 from dataclasses import dataclass
 
-from .common import SECONDS, TESTS, Check, Unusable, shown
+from .common import TESTS, Check, Unusable, joined, shown
 
 PAGE = TESTS.parent / "docs/USING.md"
 README = TESTS.parent / "README.md"
@@ -60,17 +59,7 @@ def environment(program, folder):
 
 def run_block(text, folder, variables):
     """Runs the lines of a block in a shell: what they print, and how they end."""
-    ended = subprocess.run(
-        ["sh", "-eu", "-c", text],
-        cwd=folder,
-        env=variables,
-        stdin=subprocess.DEVNULL,
-        stdout=subprocess.PIPE,
-        stderr=subprocess.STDOUT,
-        timeout=SECONDS,
-        check=False,
-    )
-    return ended.stdout, ended.returncode
+    return joined(["sh", "-eu", "-c", text], folder, env=variables)
 
 
 def run_blocks(blocks, folder, variables):

@@ -141,16 +141,25 @@ static int longest(const spvk_grammar *grammar) {
     return 0;
 }
 
+// What `spvk_explain` or `spvk_show` answers where a pointer is null.
+typedef spvk_status telling(const spvk_grammar *, const uint8_t *, size_t, spvk_verdict *, spvk_buffer *);
+
+static int nulls(telling *call, const spvk_grammar *grammar, file module) {
+    spvk_verdict verdict = UNTOUCHED;
+    spvk_buffer buffer = unread();
+    CHECK(call(grammar, NULL, 9, &verdict, &buffer) == SPVK_NULL && is_empty(buffer));
+    buffer = unread();
+    CHECK(call(grammar, module.bytes, module.size, NULL, &buffer) == SPVK_NULL && is_empty(buffer));
+    CHECK(call(grammar, module.bytes, module.size, &verdict, NULL) == SPVK_NULL);
+    CHECK(is_untouched(verdict));
+    return 0;
+}
+
 static int explanations(const spvk_grammar *grammar, file module, file lines) {
     spvk_verdict verdict = UNTOUCHED;
     spvk_buffer buffer = unread();
     const file valid = {(uint8_t *)"valid\n", 6}, empty = {(uint8_t *)"fault W2\n", 9};
-    CHECK(spvk_explain(grammar, NULL, 9, &verdict, &buffer) == SPVK_NULL && is_empty(buffer));
-    buffer = unread();
-    CHECK(spvk_explain(grammar, module.bytes, module.size, NULL, &buffer) == SPVK_NULL && is_empty(buffer));
-    CHECK(spvk_explain(grammar, module.bytes, module.size, &verdict, NULL) == SPVK_NULL);
-    CHECK(is_untouched(verdict));
-    buffer = unread();
+    CHECK(nulls(spvk_explain, grammar, module) == 0);
     CHECK(spvk_explain(grammar, module.bytes, module.size, &verdict, &buffer) == SPVK_OK);
     CHECK(verdict.code == SPVK_VALID && has(buffer, valid));
     spvk_buffer_delete(&buffer);
@@ -169,12 +178,7 @@ static int explanations(const spvk_grammar *grammar, file module, file lines) {
 static int texts(const spvk_grammar *grammar, file module, file text) {
     spvk_verdict verdict = UNTOUCHED;
     spvk_buffer buffer = unread();
-    CHECK(spvk_show(grammar, NULL, 9, &verdict, &buffer) == SPVK_NULL && is_empty(buffer));
-    buffer = unread();
-    CHECK(spvk_show(grammar, module.bytes, module.size, NULL, &buffer) == SPVK_NULL && is_empty(buffer));
-    CHECK(spvk_show(grammar, module.bytes, module.size, &verdict, NULL) == SPVK_NULL);
-    CHECK(is_untouched(verdict));
-    buffer = unread();
+    CHECK(nulls(spvk_show, grammar, module) == 0);
     CHECK(spvk_show(grammar, module.bytes, module.size, &verdict, &buffer) == SPVK_OK);
     CHECK(verdict.code == SPVK_VALID && has(buffer, text));
     spvk_buffer_delete(&buffer);

@@ -80,33 +80,25 @@ static answer by_check(void) { return by_check_of(module.size); }
 
 static answer by_check_of_fault(void) { return by_check_of(faulty_size); }
 
-static answer with_verdict(spvk_status status, spvk_verdict verdict, spvk_buffer *buffer) {
-    answer it = {status, verdict.code, verdict.inst, buffer->size};
-    spvk_buffer_delete(buffer);
+// What `spvk_explain` or `spvk_show` answers of the first bytes of the module.
+typedef spvk_status telling(const spvk_grammar *, const uint8_t *, size_t, spvk_verdict *, spvk_buffer *);
+
+static answer by_text_of(telling *call, size_t size) {
+    spvk_verdict verdict = {7, 8, 9};
+    spvk_buffer buffer = SPVK_BUFFER_NONE;
+    spvk_status status = call(&grammar, module.bytes, size, &verdict, &buffer);
+    answer it = {status, verdict.code, verdict.inst, buffer.size};
+    spvk_buffer_delete(&buffer);
     return it;
 }
 
-static answer by_explain_of(size_t size) {
-    spvk_verdict verdict = {7, 8, 9};
-    spvk_buffer buffer = SPVK_BUFFER_NONE;
-    spvk_status status = spvk_explain(&grammar, module.bytes, size, &verdict, &buffer);
-    return with_verdict(status, verdict, &buffer);
-}
+static answer by_explain(void) { return by_text_of(spvk_explain, module.size); }
 
-static answer by_explain(void) { return by_explain_of(module.size); }
+static answer by_explain_of_fault(void) { return by_text_of(spvk_explain, faulty_size); }
 
-static answer by_explain_of_fault(void) { return by_explain_of(faulty_size); }
+static answer by_show(void) { return by_text_of(spvk_show, module.size); }
 
-static answer by_show_of(size_t size) {
-    spvk_verdict verdict = {7, 8, 9};
-    spvk_buffer buffer = SPVK_BUFFER_NONE;
-    spvk_status status = spvk_show(&grammar, module.bytes, size, &verdict, &buffer);
-    return with_verdict(status, verdict, &buffer);
-}
-
-static answer by_show(void) { return by_show_of(module.size); }
-
-static answer by_show_of_fault(void) { return by_show_of(module.size - 2); }
+static answer by_show_of_fault(void) { return by_text_of(spvk_show, module.size - 2); }
 
 static answer by_assemble_of(size_t size) {
     spvk_fault fault = {7, 8};

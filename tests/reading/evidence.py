@@ -1,6 +1,8 @@
 """What shows that a rule is broken: the lines of `explain`, worked out by themselves from the module alone."""
 
 from collections import deque
+from dataclasses import dataclass
+from typing import Callable, Optional
 
 from .flow import CALL, CONDITIONAL, FUNCTION, LABEL, PHI, bodies, labels, targets
 from .order import BEGIN, SHAPE_OF, after, may_come, may_end, uses, uses_by
@@ -332,30 +334,38 @@ def shortest(body, start, goal, closed):
     return None
 
 
-class Walk:
-    """A line `walk:` that must be a walk without a value, as short as any."""
+@dataclass(eq=False)
+class Path:
+    """A line of ids that must be a way from one of the starts to the goal, as short as any: so many steps, each of which
+    leads to the next. Before them may stand `front`, behind them `back`."""
 
-    def __init__(self, body, goal, closed, count, last):
-        self.body, self.goal, self.closed, self.count, self.last = body, goal, closed, count, last
+    key: str
+    starts: tuple
+    goal: int
+    count: int
+    leads: Callable
+    front: Optional[int] = None
+    back: Optional[int] = None
 
     def __eq__(self, other):
         key, text = other
-        blocks = [int(it[1:]) for it in text.split()]
-        if self.last is not None:
-            if not blocks or blocks.pop() != self.last:
-                return False
-        steps = zip(blocks, blocks[1:])
+        steps = [int(it[1:]) for it in text.split()]
+        if self.front is not None and steps[:1] == [self.front]:
+            del steps[0]
+        elif self.front is not None:
+            return False
+        if self.back is not None and (not steps or steps.pop() != self.back):
+            return False
         return (
-            key == "walk"
-            and bool(blocks)
-            and blocks[0] == self.body.entry
-            and blocks[-1] == self.goal
-            and len(blocks) == self.count
-            and all(to in targets(self.body.insts[self.body.blocks[at][-1]]) and at not in self.closed for at, to in steps)
+            key == self.key
+            and 0 < len(steps) == self.count
+            and steps[0] in self.starts
+            and steps[-1] == self.goal
+            and all(self.leads(at, to) for at, to in zip(steps, steps[1:]))
         )
 
     def __repr__(self):
-        return f"a walk of {self.count} blocks to %{self.goal}"
+        return f"{self.key}: a way of {self.count} steps to %{self.goal}"
 
 
 def of_walks(faulty, rule, number):
@@ -378,34 +388,10 @@ def of_walks(faulty, rule, number):
         closed = {it for it, inside in body.blocks.items() if first[of] in inside}
         count = shortest(body, body.entry, goal, closed)
         if count is not None:
-            last = label if rule == "A2" else None
-            return [faulty.operand(number, at), faulty.inst("defined", first[of]), Walk(body, goal, closed, count, last)]
+            leads = lambda at, to: to in targets(insts[body.blocks[at][-1]]) and at not in closed
+            walk = Path("walk", (body.entry,), goal, count, leads, back=label if rule == "A2" else None)
+            return [faulty.operand(number, at), faulty.inst("defined", first[of]), walk]
     raise AssertionError("no value is missing")
-
-
-class Chain:
-    """A line of functions of which each calls the next, as short as any."""
-
-    def __init__(self, key, calls, starts, goal, count):
-        self.key, self.calls, self.starts, self.goal, self.count = key, calls, starts, goal, count
-
-    def __eq__(self, other):
-        key, text = other
-        functions = [int(it[1:]) for it in text.split()]
-        if self.key == "cycle" and functions:
-            if functions[0] != self.goal:
-                return False
-            functions = functions[1:]
-        return (
-            key == self.key
-            and len(functions) == self.count
-            and functions[0] in self.starts
-            and functions[-1] == self.goal
-            and all(to in self.calls.get(at, ()) for at, to in zip(functions, functions[1:]))
-        )
-
-    def __repr__(self):
-        return f"a chain of {self.count} functions to %{self.goal}"
 
 
 def chain_length(calls, starts, goal):
@@ -434,9 +420,10 @@ def of_calls(faulty, number):
     body, _ = body_of(insts, number)
     caller, callee = insts[body.first].result, insts[number].operands[2][1]
     entries = [it.operands[1][1] for it in insts if it.opcode == 15]
+    leads = lambda at, to: to in calls.get(at, ())
     return [
-        Chain("calls", calls, entries, caller, chain_length(calls, entries, caller)),
-        Chain("cycle", calls, [callee], caller, chain_length(calls, [callee], caller)),
+        Path("calls", entries, caller, chain_length(calls, entries, caller), leads),
+        Path("cycle", [callee], caller, chain_length(calls, [callee], caller), leads, front=caller),
     ]
 
 

@@ -58,8 +58,8 @@ fn with_made<F: Read + Drop, W: Write + Drop, O: Write + Drop>(
     )
 }
 
-/// Makes the file that a command makes empty, does what it asks of its open file, and answers the exit status. Where the
-/// module that it makes goes to the standard output, the line of a fault goes to the standard error.
+/// Makes the file that a command makes empty, does what it asks of its open file, and answers the exit status. Where
+/// the module that it makes goes to the standard output, the line of a fault goes to the standard error.
 fn with_file<F: Read + Drop>(
     rt: &HostRuntime,
     command: &Command,

@@ -1,5 +1,7 @@
--- What a graph of blocks has: of each block, by number, the blocks that may come after it, and the values that it defines.
-use Rattle.std.specs.Prelude.{◌≡◌, ◌≤◌, ◌<◌, ◌^◌, ℕ, List, [], Some, length, slice_get, slice_range, unwrap_or, option_map, All}
+-- What a graph of blocks has: of each block, by number, the blocks that may come after it, and the values that it
+-- defines.
+use Rattle.std.specs.Prelude.{◌≡◌, ◌≤◌, ◌<◌, ◌^◌, ℕ, List, [], Some, length, slice_get}
+use Rattle.std.specs.Prelude.{slice_range, unwrap_or, option_map, All}
 use Rattle.spv_availability.specs.declared.graph.Block.{Block}
 use Rattle.spv_availability.specs.declared.graph.Graph.{Graph}
 
@@ -8,7 +10,9 @@ block_count graph = length graph.blocks.items
 
 -- the blocks that may come after a block; after what is no block none
 unfoldable pub targets_of : Graph → ℕ → List ℕ
-targets_of graph b = unwrap_or (option_map (λ s. slice_range graph.targets.items s.first_target s.end_target) (slice_get graph.blocks.items b)) []
+targets_of graph b =
+    unwrap_or
+    (option_map (λ s. slice_range graph.targets.items s.first_target s.end_target) (slice_get graph.blocks.items b)) []
 
 -- A block defines a value: one of a range of numbers.
 pub record Defines (graph : Graph) (b v : ℕ) : Type 0 where
@@ -21,5 +25,6 @@ pub record Defines (graph : Graph) (b v : ℕ) : Type 0 where
 pub record IsGraph (graph : Graph) : Type 0 where
   pub some : 0 < block_count graph
   pub few : block_count graph ≤ 2 ^ 32
-  pub ranges : All (λ s. (s.first_target ≤ s.end_target) × (s.end_target ≤ length graph.targets.items)) graph.blocks.items
+  pub ranges : All (λ s. (s.first_target ≤ s.end_target) × (s.end_target ≤ length graph.targets.items))
+      graph.blocks.items
   pub targets : All (λ t. t < block_count graph) graph.targets.items

@@ -1,9 +1,6 @@
 pub mod Graph
 pub mod Path
-pub mod Bits
 pub mod Meet
-pub mod Queue
-pub mod Window
-pub mod Buffer
 pub mod First
 pub mod Example
+pub mod inner

@@ -40,7 +40,8 @@ impl Graph {
         &self.targets[block.first_target..block.end_target]
     }
 
-    /// Whether this is a graph, as `first_missed` asks: there is a block, there are at most 2^32, and all targets are blocks.
+    /// Whether this is a graph, as `first_unavailable` asks: there is a block, there are at most 2^32, and all targets
+    /// are blocks.
     pub fn is_graph(&self) -> bool
         ensures { IsTrue result ↔ IsGraph self.now }
     {
@@ -54,7 +55,8 @@ impl Graph {
 
 /// Whether each block's targets stand among so many.
 fn are_ranges(blocks: &[Block], targets: usize) -> bool
-    ensures { IsTrue result ↔ All (λ (s : declared.Block). (s.first_target ≤ s.end_target) × (s.end_target ≤ targets)) blocks.now }
+    ensures { IsTrue result ↔ All (λ (s : declared.Block). (s.first_target ≤ s.end_target)
+        × (s.end_target ≤ targets)) blocks.now }
 {
     blocks.iter().all(|block| block.first_target <= block.end_target && block.end_target <= targets)
 }

@@ -12,7 +12,7 @@ pub struct Queue {
 
 impl Queue {
     ghost use Rattle.std.specs.Prelude.{◌≡◌, ◌<◌, ℕ, false, IfOk, OnOk, MatchOption};
-    ghost use Rattle.spv_availability.specs.Queue.{count_of, waits, IsQueue, Adds, Takes, IsDone};
+    ghost use Rattle.spv_availability.specs.inner.Queue.{count_of, waits, IsQueue, Adds, Takes, IsDone};
 
     /// None of so many blocks.
     pub fn new(alloc: Global, count: usize) -> Result<Queue, AllocError>

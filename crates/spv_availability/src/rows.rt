@@ -1,7 +1,8 @@
 //! Rows: sets of numbers as bits of words, one row after the other in one buffer.
 
-ghost use Rattle.std.specs.Prelude.{◌≡◌, ◌==◌, ◌<◌, ◌≤◌, ◌*◌, ◌||◌, ℕ, length, slice_index};
-ghost use Rattle.spv_availability.specs.Bits.{has};
+ghost use Rattle.std.specs.Prelude.{◌≡◌, ◌==◌, ◌<◌, ◌≤◌, ◌*◌, ◌||◌, ℕ, length};
+ghost use Rattle.std.specs.Prelude.{slice_index};
+ghost use Rattle.spv_availability.specs.inner.Bits.{has};
 
 use crate::words::meet;
 use std::alloc::{AllocError, Global};
@@ -39,8 +40,8 @@ pub struct Rows {
 
 impl Rows {
     ghost use Rattle.std.specs.Prelude.{◌^◌, IfOk};
-    ghost use Rattle.spv_availability.specs.Window.{row_of, AreFull};
-    ghost use Rattle.spv_availability.specs.Buffer.{rows_of, IsRows, Narrows};
+    ghost use Rattle.spv_availability.specs.inner.Window.{row_of, AreFull};
+    ghost use Rattle.spv_availability.specs.inner.Buffer.{rows_of, IsRows, Narrows};
 
     pub fn new(alloc: Global, count: usize, words: usize) -> Result<Rows, AllocError>
         requires { count * words < 2 ^ 64 }

@@ -2,7 +2,7 @@
 
 ghost use Rattle.std.specs.Prelude.{◌≡◌, ◌≤◌, ◌<◌, ◌*◌, length};
 ghost use Rattle.spv_availability.specs.Graph.{block_count};
-ghost use Rattle.spv_availability.specs.Window.{AddsValues};
+ghost use Rattle.spv_availability.specs.inner.Window.{AddsValues};
 
 use crate::graph::{Block, Graph};
 use crate::rows::{Window, add_number};

@@ -12,8 +12,8 @@ use Rattle.spv_layout.specs.Class.{is_among}
 use Rattle.spv_layout.specs.Rows.{class_of, rows}
 use Rattle.spv_layout.specs.Layout.{IsLayout, classes}
 use Rattle.spv_layout.specs.Place.{IsOfBlock, terminators}
-use Rattle.spv_layout.specs.Span.{Span, Outside, In, After, entered, left, UpTo, Before}
-use Rattle.spv_layout.specs.State.{next_of, Remains}
+use Rattle.spv_layout.specs.inner.Span.{Span, Outside, In, After, entered, left, UpTo, Before}
+use Rattle.spv_layout.specs.inner.State.{next_of, Remains}
 use Rattle.spv_layout.proofs.Remains.{goes_on, goes_no_further}
 use Rattle.spv_layout.proofs.Layouts.{layout_remains}
 use Rattle.spv_layout.proofs.Spans.{before_first, enters, leaves}

@@ -15,15 +15,15 @@ use Rattle.spv_layout.specs.declared.form.Role.TheVariants.{Label}
 use Rattle.spv_ids.specs.Broken as ids
 use Rattle.spv_ids.specs.Outcome.{IsDefinitionOf, definition_in}
 use Rattle.spv_branches.specs.declared.code.Code.{Code}
-use Rattle.spv_branches.specs.Code.{insts_of, IsCode}
+use Rattle.spv_branches.specs.inner.Code.{insts_of, IsCode}
 use Rattle.spv_branches.specs.Broken.{Broken}
-use Rattle.spv_branches.specs.Graph.{LacksLabel, LeadsToEntry}
+use Rattle.spv_branches.specs.inner.Graph.{LacksLabel, LeadsToEntry}
 use Rattle.spv_branches.specs.Target.{is_phi, is_merge, is_branch, IsOp, HasParents}
 use Rattle.spv_branches.proofs.Firsts.{broken_within, few_insts}
 use Rattle.spv_evidence.specs.declared.evidence.Evidence.{Evidence}
 use Rattle.spv_evidence.specs.declared.evidence.Evidence.TheVariants.{Operand}
 use Rattle.spv_branch_reasons.specs.Evidence.{IsEvidence}
-use Rattle.spv_branch_reasons.specs.inner.Known.{HasDefinitions}
+use Rattle.spv_branch_reasons.specs.inner.Known.{KeepsDefinitions}
 
 -- The instructions that are looked at are those of a module whose plan and ids are known.
 pub known_code : (G : Table) (c : Code) (insts : List Inst) → c.insts.now ≡ insts → 5 + sum_by word_count (map plain_inst insts) ≤ 4194304 → IsPlan G (map plain_inst insts) c.plan.now → ((x : ℕ) → IsDefinitionOf (map plain_inst insts) x (definition_in c.ids.now x))
@@ -55,7 +55,7 @@ pub found : (G : Table) (c : Code) (insts : List Inst) (q r : Rule) (n : ℕ) (e
 found G c insts q r n e same rule h =
     subst (λ (p : Rule). IsEvidence G (map plain_inst insts) p n e) (sym rule) (subst (λ (xs : List Inst). IsEvidence G (map plain_inst xs) r n e) same h)
 
-pub definitions : (G : Table) (bound : ℕ) (is : List PlainInst) (n : ℕ) → IsUnbroken (ids.Broken G bound is) 3 → HasDefinitions G is n
+pub definitions : (G : Table) (bound : ℕ) (is : List PlainInst) (n : ℕ) → IsUnbroken (ids.Broken G bound is) 3 → KeepsDefinitions G is n
 definitions G bound is n unbroken = record { each = λ k x u none. unbroken D3 n refl (ids.Broken.undefined n k x Label u none) }
 
 pub lacking : (G : Table) (is : List PlainInst) (q : Rule) (n : ℕ) → Broken G is q n → q ≡ F1 → (IsOp is n is_branch ⊎ IsOp is n is_merge) × LacksLabel G is n

@@ -8,9 +8,9 @@ use Rattle.spv_layout.specs.declared.form.Role.TheVariants.{Label}
 use Rattle.spv_ids.specs.Definition.{IsUsedAt}
 use Rattle.spv_ids.specs.Outcome.{definition_in}
 use Rattle.spv_branches.specs.declared.code.Code.{Code}
-use Rattle.spv_branches.specs.Code.{insts_of, IsCode}
+use Rattle.spv_branches.specs.inner.Code.{insts_of, IsCode}
 use Rattle.spv_branches.proofs.Labelled.{use_in, use_within, one_id, none_defined}
-use Rattle.spv_branch_reasons.specs.inner.Known.{HasDefinitions}
+use Rattle.spv_branch_reasons.specs.inner.Known.{KeepsDefinitions}
 
 -- an operand that is no label
 pub each_other : (G : Table) (is : List PlainInst) (at n : ℕ) (P : ℕ → Type 0) → ((x : ℕ) → ¬ (IsUsedAt G is at n x Label)) → ((k x : ℕ) → k < n → IsUsedAt G is at k x Label → P x) → (k x : ℕ) → k < n + 1 → IsUsedAt G is at k x Label → P x
@@ -34,6 +34,6 @@ pub each_all : (G : Table) (is : List PlainInst) (at n : ℕ) (i : PlainInst) (P
 each_all G is at n i P there all before k x u = before k x (let w = use_within G i k x Label (use_in G is at k x Label i there u) in omega (arith, w, all)) u
 
 -- a label has a definition
-pub has_definition : (G : Table) (c : Code) (at k x : ℕ) (o : Option ℕ) → o ≡ definition_in c.ids.now x → IsCode G c → HasDefinitions G (insts_of c) at → IsUsedAt G (insts_of c) at k x Label → IsSome o
+pub has_definition : (G : Table) (c : Code) (at k x : ℕ) (o : Option ℕ) → o ≡ definition_in c.ids.now x → IsCode G c → KeepsDefinitions G (insts_of c) at → IsUsedAt G (insts_of c) at k x Label → IsSome o
 has_definition G c at k x None e is has used = absurd (has.each k x used (λ m d. none_defined G c x m is (sym e) d))
 has_definition G c at k x (Some m) e is has used = refl

@@ -12,8 +12,8 @@ use Rattle.spv_layout.specs.declared.form.Role.TheVariants.{Label}
 use Rattle.spv_layout.specs.Place.{IsOfBlock}
 use Rattle.spv_ids.specs.Definition.{IsUsedAt}
 use Rattle.spv_branches.specs.declared.code.Code.{Code}
-use Rattle.spv_branches.specs.Code.{insts_of, IsCode}
-use Rattle.spv_branches.specs.Edges.{marked}
+use Rattle.spv_branches.specs.inner.Code.{insts_of, IsCode}
+use Rattle.spv_branches.specs.inner.Edges.{marked}
 use Rattle.spv_branches.specs.Target.{is_phi, IsOp, IsLabelOf, IsParentAt, HasParents}
 use Rattle.spv_branches.proofs.Labelled.{use_in, use_within, one_id, one_label, one_parent}
 use Rattle.spv_evidence.specs.declared.evidence.Evidence.TheVariants.{MissingParent, NoPredecessor, Twice}

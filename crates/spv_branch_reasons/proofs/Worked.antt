@@ -12,7 +12,7 @@ use Rattle.spv_layout.specs.Shape.{AreOf, Ends, HasForms}
 use Rattle.spv_layout.specs.Place.{IsAt, IsOfBlock, terminators}
 use Rattle.spv_layout.proofs.Places.{block_same}
 use Rattle.spv_ids.specs.Definition.{IsDefinedAt, IsUsedAt}
-use Rattle.spv_branches.specs.Target.{is_branch, IsOp, IsLabelOf, Leads, IsPredecessor}
+use Rattle.spv_branches.specs.Target.{is_branch, IsOp, IsLabelOf, LeadsToBlock, IsPredecessor}
 use Rattle.spv_branches.specs.Example.{branch, conditional, function, label, negation, paired, unpaired, bare_phi}
 use Rattle.spv_branches.proofs.Direct.{placed_at}
 use Rattle.spv_branches.proofs.Firsts.{at_phi}
@@ -107,7 +107,7 @@ second_block : IsOfBlock unpaired 4 3
 unfolding rows
 second_block = record { begun = record { within = omega arith; up_to = omega arith; there = refl; last = no_label_to_4 }; not_ended = no_end_to_4 }
 
-leads : Leads small unpaired 2 1 3
+leads : LeadsToBlock small unpaired 2 1 3
 leads = record {
   of = first_block;
   id = 2;

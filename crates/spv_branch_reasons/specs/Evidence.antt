@@ -16,10 +16,12 @@ use Rattle.spv_evidence.specs.declared.evidence.Evidence.TheVariants.{MissingPar
 -- The evidence shows that the rule is broken at the instruction of that number.
 pub data IsEvidence (G : Table) (is : List PlainInst) : Rule → ℕ → Evidence → Type 0 where
   -- an operand of a terminator or a merge that is a label of no OpLabel, and the instruction that defines its id
-  no_label : (n k x m : ℕ) → IsOp is n is_branch ⊎ IsOp is n is_merge → IsUsedAt G is n k x Label → IsDefinedAt is x m
+  no_label : (n k x m : ℕ) → IsOp is n is_branch ⊎ IsOp is n is_merge → IsUsedAt G is n k x Label
+      → IsDefinedAt is x m
       → ((l : ℕ) → ¬ (IsLabelOf is x l)) → IsEvidence G is F1 n (Defined k m)
   -- an operand of a terminator that is the label of an entry block
-  to_entry : (n k x m : ℕ) → IsOp is n is_branch → IsUsedAt G is n k x Label → IsDefinedAt is x m → IsEntryLabel is m
+  to_entry : (n k x m : ℕ) → IsOp is n is_branch → IsUsedAt G is n k x Label → IsDefinedAt is x m
+      → IsEntryLabel is m
       → IsEvidence G is F2 n (Operand k)
   -- a predecessor of the block of an OpPhi that no operand names
   missing_parent : (n b p : ℕ) → IsOp is n is_phi → IsOfBlock is n b → IsPredecessor G is b p

@@ -3,12 +3,12 @@
 ghost use Rattle.std.specs.Prelude.{◌≡◌, ◌<◌, ◌⊎◌, ℕ, length, MatchBool};
 ghost use Rattle.spv_table.specs.Table.{Table};
 ghost use Rattle.spv_module.specs.declared.fault.Rule.TheVariants as rule;
-ghost use Rattle.spv_branches.specs.Code.{insts_of, IsCode};
-ghost use Rattle.spv_branches.specs.Graph.{AreEntries, LacksLabel, LeadsToEntry};
+ghost use Rattle.spv_branches.specs.inner.Code.{insts_of, IsCode};
+ghost use Rattle.spv_branches.specs.inner.Graph.{AreEntries, LacksLabel, LeadsToEntry};
 ghost use Rattle.spv_branches.specs.Target.{IsOp};
 ghost use Rattle.spv_branches.specs.Target as target;
 ghost use Rattle.spv_branch_reasons.specs.Evidence.{IsEvidence};
-ghost use Rattle.spv_branch_reasons.specs.inner.Known.{HasDefinitions, IsEntryId};
+ghost use Rattle.spv_branch_reasons.specs.inner.Known.{KeepsDefinitions, IsEntryId};
 
 use spv_branches::{Code, label};
 use spv_evidence::Evidence;
@@ -17,7 +17,7 @@ use spv_evidence::Evidence;
 pub fn label_evidence(code: &Code<'_, '_>, at: u32) -> Evidence
     requires at { at < length code.now.insts.now }
     requires op { IsOp (insts_of code.now) at target.is_branch ⊎ IsOp (insts_of code.now) at target.is_merge }
-    requires defined { (G : Table) × IsCode G code.now × HasDefinitions G (insts_of code.now) at }
+    requires defined { (G : Table) × IsCode G code.now × KeepsDefinitions G (insts_of code.now) at }
     requires broken { (G : Table) × IsCode G code.now × LacksLabel G (insts_of code.now) at }
     ensures { (G : Table) → IsCode G code.now → IsEvidence G (insts_of code.now) rule.F1 at result }
 {

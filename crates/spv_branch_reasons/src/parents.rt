@@ -4,8 +4,8 @@ ghost use Rattle.std.specs.Prelude.{◌≡◌, ◌<◌, ◌≤◌, ℕ, true, fa
 ghost use Rattle.spv_table.specs.Table.{Table};
 ghost use Rattle.spv_module.specs.declared.fault.Rule.TheVariants as rule;
 ghost use Rattle.spv_layout.specs.Place.{IsOfBlock};
-ghost use Rattle.spv_branches.specs.Code.{insts_of, IsCode};
-ghost use Rattle.spv_branches.specs.Edges.{marked};
+ghost use Rattle.spv_branches.specs.inner.Code.{insts_of, IsCode};
+ghost use Rattle.spv_branches.specs.inner.Edges.{marked};
 ghost use Rattle.spv_branches.specs.Target.{IsOp, HasParents};
 ghost use Rattle.spv_branches.specs.Target as target;
 ghost use Rattle.spv_branch_reasons.specs.Evidence.{IsEvidence};
@@ -79,7 +79,8 @@ fn wrong_pair(
 fn unnamed(predecessors: &[bool], names: &[Option<u32>]) -> Option<u32>
     requires few { length predecessors.now ≤ 4194304 }
     requires count { length names.now ≡ length predecessors.now }
-    ensures { MatchOption result ((p : ℕ) → marked predecessors.now p ≡ true → ¬ (name_of names.now p ≡ None))
+    ensures { MatchOption result ((p : ℕ) → marked predecessors.now p ≡ true
+        → ¬ (name_of names.now p ≡ None))
         (λ p. (marked predecessors.now p ≡ true) × (name_of names.now p ≡ None)) }
 {
     for block in 0..predecessors.len() {

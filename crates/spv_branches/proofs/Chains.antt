@@ -5,7 +5,7 @@ use Rattle.std.proofs.lemmas.Bool.{cases_eq}
 use Rattle.std.proofs.lemmas.List.{get_or-set_same, get_or-set_other, length-set, length-append}
 use Rattle.std.proofs.lemmas.Option.{slice_get_within}
 use Rattle.spv_branches.specs.declared.edges.Link.{Link}
-use Rattle.spv_branches.specs.Edges.{InChain, AreEdges, Leading, AddsLink}
+use Rattle.spv_branches.specs.inner.Edges.{InChain, AreEdges, Leading, AddsLink}
 
 -- an element of a list with one more at its end
 pushed : {A : Type 0} → (xs : List A) (x : A) (k : ℕ) (y : A) → slice_get (xs ++ (x ∷ [])) k ≡ Some y → (slice_get xs k ≡ Some y) ⊎ ((k ≡ length xs) × (x ≡ y))

@@ -6,14 +6,14 @@ use Rattle.std.proofs.lemmas.Bool.Decides.{nat_tests}
 use Rattle.spv_table.specs.Table.{Table}
 use Rattle.spv_module.specs.Operand.{PlainInst}
 use Rattle.spv_layout.specs.declared.form.Role.TheVariants.{Label}
-use Rattle.spv_layout.specs.Shape.{Fits, id_of}
+use Rattle.spv_layout.specs.Shape.{FitsShape, id_of}
 use Rattle.spv_ids.specs.Definition.{IsUsedAt}
 use Rattle.spv_branches.specs.declared.code.Code.{Code}
 use Rattle.spv_branches.specs.declared.faults.Targets.{Targets}
 use Rattle.spv_branches.specs.declared.faults.Targets.TheVariants.{Lacking, Entering, Sound}
-use Rattle.spv_branches.specs.Code.{insts_of, IsCode}
-use Rattle.spv_branches.specs.Graph.{HasLabels, LacksLabel, LeadsToEntry, IsTargetOf, AreTargets, joined}
-use Rattle.spv_branches.specs.Labels.{is_labelled, is_label_at, is_jump}
+use Rattle.spv_branches.specs.inner.Code.{insts_of, IsCode}
+use Rattle.spv_branches.specs.inner.Graph.{HasLabels, LacksLabel, LeadsToEntry, IsTargetOf, AreTargets, joined}
+use Rattle.spv_branches.specs.inner.Labels.{is_labelled, is_label_at, is_jump}
 use Rattle.spv_branches.specs.Target.{is_conditional, IsLabelOf, IsEntryLabel}
 use Rattle.spv_branches.proofs.Labelled.{use_in, use_at, one_id, one_place}
 use Rattle.spv_branches.proofs.Places.{label_told, no_label_told}
@@ -25,15 +25,15 @@ pub jump_labelled : (x : ℕ) → is_jump x ≡ true → is_labelled x ≡ true
 jump_labelled x h = ap is_labelled (eqb-true x 249 h)
 
 -- the id at a label's place
-pub used_by : (G : Table) (is : List PlainInst) (at n x k : ℕ) (i : PlainInst) → slice_get is at ≡ Some i → i.opcode ≡ k → is_labelled k ≡ true → is_label_at k n ≡ true → Fits G i → Some x ≡ option_and_then id_of (slice_get i.operands n) → IsUsedAt G is at n x Label
+pub used_by : (G : Table) (is : List PlainInst) (at n x k : ℕ) (i : PlainInst) → slice_get is at ≡ Some i → i.opcode ≡ k → is_labelled k ≡ true → is_label_at k n ≡ true → FitsShape G i → Some x ≡ option_and_then id_of (slice_get i.operands n) → IsUsedAt G is at n x Label
 used_by G is at n x k i there e h t fits g = use_at G is at n x Label i there (label_told G i n (Some x) (ap is_labelled e ∙ h) (ap (λ (o : ℕ). is_label_at o n) e ∙ t) g fits)
 
 -- where none is there, none is used
-pub unused_by : (G : Table) (is : List PlainInst) (at n x k : ℕ) (i : PlainInst) → slice_get is at ≡ Some i → i.opcode ≡ k → is_labelled k ≡ true → is_label_at k n ≡ true → Fits G i → None ≡ option_and_then id_of (slice_get i.operands n) → ¬ (IsUsedAt G is at n x Label)
+pub unused_by : (G : Table) (is : List PlainInst) (at n x k : ℕ) (i : PlainInst) → slice_get is at ≡ Some i → i.opcode ≡ k → is_labelled k ≡ true → is_label_at k n ≡ true → FitsShape G i → None ≡ option_and_then id_of (slice_get i.operands n) → ¬ (IsUsedAt G is at n x Label)
 unused_by G is at n x k i there e h t fits g u = label_told G i n None (ap is_labelled e ∙ h) (ap (λ (o : ℕ). is_label_at o n) e ∙ t) g fits x (use_in G is at n x Label i there u)
 
 -- a label is at a label's place
-pub placed_at : (G : Table) (is : List PlainInst) (at n x k : ℕ) (i : PlainInst) → slice_get is at ≡ Some i → i.opcode ≡ k → is_labelled k ≡ true → Fits G i → IsUsedAt G is at n x Label → is_label_at k n ≡ true
+pub placed_at : (G : Table) (is : List PlainInst) (at n x k : ℕ) (i : PlainInst) → slice_get is at ≡ Some i → i.opcode ≡ k → is_labelled k ≡ true → FitsShape G i → IsUsedAt G is at n x Label → is_label_at k n ≡ true
 placed_at G is at n x k i there e h fits u = elim (cases_Bool (is_label_at k n)) [
   | inl t ↦ t
   | inr f ↦ absurd (no_label_told G i n x (ap is_labelled e ∙ h) (ap (λ (o : ℕ). is_label_at o n) e ∙ f) fits (use_in G is at n x Label i there u))
@@ -46,7 +46,7 @@ two_places n h =
     elim (cases_lt n 2) [ inl a ↦ inl (omega (arith, a, low)) | inr a ↦ inr (omega (arith, a, high)) ]
 
 -- a label of an OpBranchConditional is one of the two
-pub conditional_only : (G : Table) (is : List PlainInst) (at x y : ℕ) (i : PlainInst) → slice_get is at ≡ Some i → i.opcode ≡ 250 → Fits G i → IsUsedAt G is at 1 x Label → IsUsedAt G is at 2 y Label
+pub conditional_only : (G : Table) (is : List PlainInst) (at x y : ℕ) (i : PlainInst) → slice_get is at ≡ Some i → i.opcode ≡ 250 → FitsShape G i → IsUsedAt G is at 1 x Label → IsUsedAt G is at 2 y Label
     → (n z : ℕ) → IsUsedAt G is at n z Label → (z ≡ x) ⊎ (z ≡ y)
 conditional_only G is at x y i there e fits one two n z u = elim (two_places n (placed_at G is at n z 250 i there e (let h : is_labelled 250 ≡ true = refl in h) fits u)) [
   | inl s ↦ inl (one_id G is at 1 z x Label Label (subst (λ (j : ℕ). IsUsedAt G is at j z Label) s u) one)
@@ -54,7 +54,7 @@ conditional_only G is at x y i there e fits one two n z u = elim (two_places n (
 ]
 
 -- that of an OpBranch is its one
-pub jump_only : (G : Table) (is : List PlainInst) (at x : ℕ) (i : PlainInst) → slice_get is at ≡ Some i → i.opcode ≡ 249 → Fits G i → IsUsedAt G is at 0 x Label
+pub jump_only : (G : Table) (is : List PlainInst) (at x : ℕ) (i : PlainInst) → slice_get is at ≡ Some i → i.opcode ≡ 249 → FitsShape G i → IsUsedAt G is at 0 x Label
     → (n z : ℕ) → IsUsedAt G is at n z Label → (z ≡ x) ⊎ (z ≡ x)
 jump_only G is at x i there e fits one n z u =
     let s : n ≡ 0 = eqb-true n 0 (placed_at G is at n z 249 i there e (let h : is_labelled 249 ≡ true = refl in h) fits u) in

@@ -13,11 +13,11 @@ use Rattle.spv_layout.specs.First.{stage_of, rank_of, IsFirst}
 use Rattle.spv_module.specs.declared.fault.Stop.{Stop}
 use Rattle.spv_module.specs.declared.fault.Stop.TheVariants.{Fault, Memory}
 use Rattle.spv_layout.specs.Place.{word_count, first_word_of}
-use Rattle.spv_ids.specs.Outcome.{IsStopAt}
+use Rattle.spv_ids.specs.inner.Outcome.{IsStopAt}
 use Rattle.spv_branches.specs.Found.{IsRefusal}
 use Rattle.spv_branches.specs.Target.{is_phi, is_merge, is_branch, is_conditional, IsOp, HasParents}
 use Rattle.spv_branches.specs.Broken.{Broken}
-use Rattle.spv_branches.specs.Graph.{HasLabels, LacksLabel, LeadsToEntry, HasSameLabels, IsFirstAt}
+use Rattle.spv_branches.specs.inner.Graph.{HasLabels, LacksLabel, LeadsToEntry, HasSameLabels, IsFirstAt}
 use Rattle.spv_branches.proofs.Labelled.{op_tells, op_holds}
 
 -- an instruction with an opcode is there

@@ -6,15 +6,15 @@ use Rattle.spv_table.specs.Table.{Table}
 use Rattle.spv_module.specs.Operand.{PlainInst}
 use Rattle.spv_layout.specs.declared.form.Role.TheVariants.{Label}
 use Rattle.spv_layout.specs.Place.{IsOfBlock}
-use Rattle.spv_layout.specs.Shape.{Fits, IsUse}
+use Rattle.spv_layout.specs.Shape.{FitsShape, IsUse}
 use Rattle.spv_layout.proofs.Places.{block_same}
 use Rattle.spv_ids.specs.Definition.{IsUsedAt}
 use Rattle.spv_branches.specs.declared.code.Code.{Code}
 use Rattle.spv_branches.specs.declared.edges.Edges.{Edges}
-use Rattle.spv_branches.specs.Code.{insts_of, IsCode}
-use Rattle.spv_branches.specs.Edges.{IsEdges, HasEdge, AddsEdge}
-use Rattle.spv_branches.specs.Graph.{AddsTargets, AreGathered}
-use Rattle.spv_branches.specs.Target.{is_branch, IsOp, IsLabelOf, Leads}
+use Rattle.spv_branches.specs.inner.Code.{insts_of, IsCode}
+use Rattle.spv_branches.specs.inner.Edges.{IsEdges, HasEdge, AddsEdge}
+use Rattle.spv_branches.specs.inner.Graph.{AddsTargets, AreGathered}
+use Rattle.spv_branches.specs.Target.{is_branch, IsOp, IsLabelOf, LeadsToBlock}
 use Rattle.spv_branches.proofs.Labelled.{use_in, use_at, use_within, one_id, one_label}
 
 -- The edges of the first operands of an instruction of a block were added.
@@ -22,7 +22,7 @@ pub record IsAdding (c : Code) (old now : Edges) (at block n : ℕ) : Type 0 whe
   pub edges : IsEdges now
   pub count : length now.heads.items ≡ length c.insts.now
   pub kept : (p b : ℕ) → HasEdge old p b → HasEdge now p b
-  pub only : (G : Table) → IsCode G c → IsOp (insts_of c) at is_branch → IsOfBlock (insts_of c) at block → (p b : ℕ) → HasEdge now p b → HasEdge old p b ⊎ Leads G (insts_of c) at p b
+  pub only : (G : Table) → IsCode G c → IsOp (insts_of c) at is_branch → IsOfBlock (insts_of c) at block → (p b : ℕ) → HasEdge now p b → HasEdge old p b ⊎ LeadsToBlock G (insts_of c) at p b
   pub added : (G : Table) → IsCode G c → (k x b : ℕ) → k < n → IsUsedAt G (insts_of c) at k x Label → IsLabelOf (insts_of c) x b → HasEdge now block b
 
 pub adding_start : (c : Code) (old : Edges) (at block : ℕ) → IsEdges old → length old.heads.items ≡ length c.insts.now → IsAdding c old old at block 0
@@ -35,7 +35,7 @@ adding_start c old at block edges count = record {
 }
 
 -- an operand that is no label
-pub adding_other : (c : Code) (old now : Edges) (at block n : ℕ) (i : PlainInst) → slice_get (insts_of c) at ≡ Some i → ((G : Table) → Fits G i → (x : ℕ) → ¬ (IsUse G i n x Label)) → IsAdding c old now at block n → IsAdding c old now at block (n + 1)
+pub adding_other : (c : Code) (old now : Edges) (at block n : ℕ) (i : PlainInst) → slice_get (insts_of c) at ≡ Some i → ((G : Table) → FitsShape G i → (x : ℕ) → ¬ (IsUse G i n x Label)) → IsAdding c old now at block n → IsAdding c old now at block (n + 1)
 adding_other c old now at block n i there none before = record {
   edges = before.edges;
   count = before.count;
@@ -51,7 +51,7 @@ adding_other c old now at block n i there none before = record {
 }
 
 -- a label that is no OpLabel
-pub adding_none : (c : Code) (old now : Edges) (at block n y : ℕ) (i : PlainInst) → slice_get (insts_of c) at ≡ Some i → ((G : Table) → Fits G i → IsUse G i n y Label) → ((G : Table) → IsCode G c → (m : ℕ) → ¬ (IsLabelOf (insts_of c) y m))
+pub adding_none : (c : Code) (old now : Edges) (at block n y : ℕ) (i : PlainInst) → slice_get (insts_of c) at ≡ Some i → ((G : Table) → FitsShape G i → IsUse G i n y Label) → ((G : Table) → IsCode G c → (m : ℕ) → ¬ (IsLabelOf (insts_of c) y m))
     → IsAdding c old now at block n → IsAdding c old now at block (n + 1)
 adding_none c old now at block n y i there uses none before = record {
   edges = before.edges;
@@ -69,7 +69,7 @@ adding_none c old now at block n y i there uses none before = record {
 }
 
 -- a label of an OpLabel
-pub adding_more : (c : Code) (old now new : Edges) (at block n y t : ℕ) (i : PlainInst) → slice_get (insts_of c) at ≡ Some i → ((G : Table) → Fits G i → IsUse G i n y Label) → ((G : Table) → IsCode G c → IsLabelOf (insts_of c) y t)
+pub adding_more : (c : Code) (old now new : Edges) (at block n y t : ℕ) (i : PlainInst) → slice_get (insts_of c) at ≡ Some i → ((G : Table) → FitsShape G i → IsUse G i n y Label) → ((G : Table) → IsCode G c → IsLabelOf (insts_of c) y t)
     → AddsEdge now new block t → IsAdding c old now at block n → IsAdding c old new at block (n + 1)
 adding_more c old now new at block n y t i there uses label_y adds before = record {
   edges = adds.edges;
@@ -107,7 +107,7 @@ adding_end c old now at block n i there all before = λ G is branch of. record {
 }
 
 -- an instruction that is no branch, or of no block
-pub none_added : (G : Table) (is : List PlainInst) (e : Edges) (n : ℕ) → ((p b : ℕ) → ¬ (Leads G is n p b)) → AddsTargets G is e e n
+pub none_added : (G : Table) (is : List PlainInst) (e : Edges) (n : ℕ) → ((p b : ℕ) → ¬ (LeadsToBlock G is n p b)) → AddsTargets G is e e n
 none_added G is e n none = record { kept = λ p b h. h; added = λ p b l. absurd (none p b l); only = λ p b h. inl h }
 
 -- One instruction more.
@@ -115,7 +115,7 @@ pub gathered_more : (G : Table) (is : List PlainInst) (old new : Edges) (n : ℕ
 gathered_more G is old new n before adds = record {
   complete = λ t p b lt leads. elim (cases_lt t n) [
     | inl less ↦ adds.kept p b (before.complete t p b less leads)
-    | inr more ↦ (let e : t ≡ n = omega (arith, lt, more) in adds.added p b (subst (λ (u : ℕ). Leads G is u p b) e leads))
+    | inr more ↦ (let e : t ≡ n = omega (arith, lt, more) in adds.added p b (subst (λ (u : ℕ). LeadsToBlock G is u p b) e leads))
   ];
   sound = λ p b h. elim (adds.only p b h) [ inl had ↦ before.sound p b had | inr here ↦ (n, here) ];
 }

@@ -15,7 +15,7 @@ use Rattle.spv_layout.proofs.Shapes.{use_same}
 use Rattle.spv_ids.specs.Definition.{IsDefinedAt, IsUsedAt}
 use Rattle.spv_ids.specs.Outcome.{IsOnly, IsDefinitionOf, definition_in}
 use Rattle.spv_branches.specs.declared.code.Code.{Code}
-use Rattle.spv_branches.specs.Code.{insts_of, IsCode}
+use Rattle.spv_branches.specs.inner.Code.{insts_of, IsCode}
 use Rattle.spv_branches.specs.Target.{is_label, IsOp, IsLabelOf, IsParentAt}
 
 -- a role that is a label is that of a use as a label

@@ -7,8 +7,8 @@ use Rattle.spv_module.specs.Operand.{PlainInst}
 use Rattle.spv_layout.specs.declared.form.Role.TheVariants.{Label}
 use Rattle.spv_ids.specs.Definition.{IsDefinedAt, IsUsedAt}
 use Rattle.spv_branches.specs.declared.code.Code.{Code}
-use Rattle.spv_branches.specs.Code.{insts_of, IsCode}
-use Rattle.spv_branches.specs.Graph.{HasLabels, LeadsToEntry}
+use Rattle.spv_branches.specs.inner.Code.{insts_of, IsCode}
+use Rattle.spv_branches.specs.inner.Graph.{HasLabels, LeadsToEntry}
 use Rattle.spv_branches.specs.Target.{IsLabelOf, IsEntryLabel}
 use Rattle.spv_branches.proofs.Labelled.{use_in, use_within, one_id, one_place}
 

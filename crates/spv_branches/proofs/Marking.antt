@@ -4,7 +4,7 @@ use Rattle.std.specs.Prelude.{slice_get, slice_index}
 use Rattle.std.proofs.lemmas.Bool.{cases_eq}
 use Rattle.std.proofs.lemmas.List.{get_or-set_same, get_or-set_other}
 use Rattle.spv_branches.specs.declared.edges.Link.{Link}
-use Rattle.spv_branches.specs.Edges.{InChain, AreEdges, Leading, marked}
+use Rattle.spv_branches.specs.inner.Edges.{InChain, AreEdges, Leading, marked}
 use Rattle.spv_branches.proofs.Chains.{chain_some, chain_head, chain_tail, chain_split}
 
 pub set_marked : (marks : List Bool) (s : ℕ) (b : Bool) → s < length marks → marked (set marks s b) s ≡ b

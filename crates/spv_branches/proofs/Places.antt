@@ -16,11 +16,11 @@ use Rattle.spv_layout.specs.declared.form.Form.{Form}
 use Rattle.spv_layout.specs.declared.form.Form.TheVariants as form
 use Rattle.spv_layout.specs.Row.{PlainRow, row, closed, repeated, others, T, R, W, N, v, l, kind}
 use Rattle.spv_layout.specs.Rows.{rows, row_of}
-use Rattle.spv_layout.specs.Shape.{Fits, IsUse, IsRole, role_of, id_of}
-use Rattle.spv_layout.specs.Test.{form_in, form_at}
+use Rattle.spv_layout.specs.Shape.{FitsShape, IsUse, IsRole, role_of, id_of}
+use Rattle.spv_layout.specs.inner.Test.{form_in, form_at}
 use Rattle.spv_layout.proofs.Shapes.{use_same}
 use Rattle.spv_layout.proofs.Uses.{role_by}
-use Rattle.spv_branches.specs.Labels.{is_labelled, is_label_at}
+use Rattle.spv_branches.specs.inner.Labels.{is_labelled, is_label_at}
 use Rattle.spv_branches.specs.Target.{is_merge, is_branch}
 use Rattle.spv_branches.proofs.Labelled.{label_some}
 
@@ -39,7 +39,7 @@ later_form r o n h = rw (lt_false n (length r.fixed) h) refl
 
 -- What is known of an operand of an instruction that fits.
 record Stands (G : Table) (i : PlainInst) (r : PlainRow) (n : ℕ) (o : Plain) : Type 0 where
-  pub fits : Fits G i
+  pub fits : FitsShape G i
   pub known : row_of i.opcode ≡ Some r
   pub there : slice_get i.operands n ≡ Some o
 
@@ -275,7 +275,7 @@ branch_other : (n : ℕ) (o : Plain) → nat_eq n 0 ≡ false → IsOther o (for
 branch_other n o h = let x = eqb-false n 0 h in no_other o (form_at branch_row o n) (later_form branch_row o n (omega (arith, x)))
 
 -- an instruction of a known opcode
-standing : (G : Table) (i : PlainInst) (r : PlainRow) (n k : ℕ) (o : Plain) → row_of k ≡ Some r → i.opcode ≡ k → Fits G i → slice_get i.operands n ≡ Some o → Stands G i r n o
+standing : (G : Table) (i : PlainInst) (r : PlainRow) (n k : ℕ) (o : Plain) → row_of k ≡ Some r → i.opcode ≡ k → FitsShape G i → slice_get i.operands n ≡ Some o → Stands G i r n o
 standing G i r n k o known e fits there = record { fits = fits; known = ap row_of e ∙ known; there = there }
 
 -- the six opcodes
@@ -316,7 +316,7 @@ labelled_cases x h =
       ]
     ]
 
-by_opcode : (G : Table) (i : PlainInst) (n x : ℕ) (o : Plain) → Labelled x → i.opcode ≡ x → Fits G i → slice_get i.operands n ≡ Some o → Placed G i n (is_label_at x n)
+by_opcode : (G : Table) (i : PlainInst) (n x : ℕ) (o : Plain) → Labelled x → i.opcode ≡ x → FitsShape G i → slice_get i.operands n ≡ Some o → Placed G i n (is_label_at x n)
 by_opcode G i n _ o phi e fits there = placed G i phi_row n o (is_label_at 245 n) (standing G i phi_row n 245 o phi_known e fits there) (phi_label n o) (phi_other n o)
 by_opcode G i n _ o loop_merge e fits there = placed G i loop_row n o (is_label_at 246 n) (standing G i loop_row n 246 o loop_known e fits there) (loop_label n o) (loop_other n o)
 by_opcode G i n _ o selection_merge e fits there = placed G i selection_row n o (is_label_at 247 n) (standing G i selection_row n 247 o selection_known e fits there) (selection_label n o) (selection_other n o)
@@ -325,7 +325,7 @@ by_opcode G i n _ o conditional e fits there = placed G i conditional_row n o (i
 by_opcode G i n _ o switch e fits there = placed G i switch_row n o (is_label_at 251 n) (standing G i switch_row n 251 o switch_known e fits there) (switch_label n o) (switch_other n o)
 
 -- the id of an operand at a label's place
-pub label_told : (G : Table) (i : PlainInst) (n : ℕ) (p : Option ℕ) → is_labelled i.opcode ≡ true → is_label_at i.opcode n ≡ true → p ≡ option_and_then id_of (slice_get i.operands n) → Fits G i
+pub label_told : (G : Table) (i : PlainInst) (n : ℕ) (p : Option ℕ) → is_labelled i.opcode ≡ true → is_label_at i.opcode n ≡ true → p ≡ option_and_then id_of (slice_get i.operands n) → FitsShape G i
     → MatchOption p ((x : ℕ) → ¬ (IsUse G i n x Label)) (λ x. IsUse G i n x Label)
 label_told G i n p h t e fits = at_operand (slice_get i.operands n) refl
   where
@@ -333,7 +333,7 @@ label_told G i n p h t e fits = at_operand (slice_get i.operands n) refl
     at_operand None g = let f : p ≡ None = e ∙ ap (option_and_then id_of) g in rw f (λ x u. let a : None ≡ Some u.operand = sym g ∙ u.operand_at in cc)
     at_operand (Some o) g = label_some G i n p e (placed_true G i n (is_label_at i.opcode n) t (by_opcode G i n i.opcode o (labelled_cases i.opcode h) refl fits g))
 
-pub no_label_told : (G : Table) (i : PlainInst) (n x : ℕ) → is_labelled i.opcode ≡ true → is_label_at i.opcode n ≡ false → Fits G i → ¬ (IsUse G i n x Label)
+pub no_label_told : (G : Table) (i : PlainInst) (n x : ℕ) → is_labelled i.opcode ≡ true → is_label_at i.opcode n ≡ false → FitsShape G i → ¬ (IsUse G i n x Label)
 no_label_told G i n x h t fits u = placed_false G i n x (is_label_at i.opcode n) t (by_opcode G i n i.opcode u.operand (labelled_cases i.opcode h) refl fits u.operand_at) u
 
 pub branch_labelled : (x : ℕ) → is_branch x ≡ true → is_labelled x ≡ true
@@ -347,7 +347,7 @@ merge_labelled x h = grind (arith, nat_tests)
 no_use_by : (G : Table) (i : PlainInst) (r : PlainRow) (n : ℕ) (o : Plain) → Stands G i r n o → option_and_then (λ f. role_of f o) (form_at r o n) ≡ None → (x : ℕ) (q : Role) → ¬ (IsUse G i n x q)
 no_use_by G i r n o s e = role_by i n r i.operands o (form_at r o n) None s.known refl s.there refl (sym e) G s.fits
 
-jump_use : (G : Table) (i : PlainInst) (n x : ℕ) (q : Role) → i.opcode ≡ 249 → Fits G i → nat_eq n 0 ≡ false → ¬ (IsUse G i n x q)
+jump_use : (G : Table) (i : PlainInst) (n x : ℕ) (q : Role) → i.opcode ≡ 249 → FitsShape G i → nat_eq n 0 ≡ false → ¬ (IsUse G i n x q)
 jump_use G i n x q e fits h u =
     let o = u.operand in
     let k = eqb-false n 0 h in
@@ -357,7 +357,7 @@ word_role : (k : ℕ) (o : Plain) → option_and_then (λ f. role_of f o) (slice
 word_role zero o = refl
 word_role (suc k) o = refl
 
-conditional_use : (G : Table) (i : PlainInst) (n x : ℕ) (q : Role) → i.opcode ≡ 250 → Fits G i → nat_le 1 n && nat_le n 2 ≡ false → IsUse G i n x q → n ≡ 0
+conditional_use : (G : Table) (i : PlainInst) (n x : ℕ) (q : Role) → i.opcode ≡ 250 → FitsShape G i → nat_le 1 n && nat_le n 2 ≡ false → IsUse G i n x q → n ≡ 0
 conditional_use G i n x q e fits h u =
     let o = u.operand in
     elim (cases_Bool (nat_le 1 n)) [
@@ -368,7 +368,7 @@ conditional_use G i n x q e fits h u =
       | inr f ↦ (let b = le_denies 1 n f in omega (arith, b))
     ]
 
-switch_use : (G : Table) (i : PlainInst) (n x : ℕ) (q : Role) → i.opcode ≡ 251 → Fits G i → nat_eq (n % 2) 1 ≡ false → IsUse G i n x q → n ≡ 0
+switch_use : (G : Table) (i : PlainInst) (n x : ℕ) (q : Role) → i.opcode ≡ 251 → FitsShape G i → nat_eq (n % 2) 1 ≡ false → IsUse G i n x q → n ≡ 0
 switch_use G i n x q e fits h u =
     let o = u.operand in
     let z : n % 2 ≡ 0 = even n h in
@@ -385,7 +385,7 @@ branch_bounds x h = (grind (arith, nat_tests), grind (arith, nat_tests))
 at_place : (x k n : ℕ) → x ≡ k → is_label_at x n ≡ false → is_label_at k n ≡ false
 at_place x k n e h = sym (ap (λ (o : ℕ). is_label_at o n) e) ∙ h
 
-pub first_use : (G : Table) (i : PlainInst) (n x : ℕ) (q : Role) → is_branch i.opcode ≡ true → is_label_at i.opcode n ≡ false → Fits G i → IsUse G i n x q → (n ≡ 0) × (i.opcode ≢ 249)
+pub first_use : (G : Table) (i : PlainInst) (n x : ℕ) (q : Role) → is_branch i.opcode ≡ true → is_label_at i.opcode n ≡ false → FitsShape G i → IsUse G i n x q → (n ≡ 0) × (i.opcode ≢ 249)
 first_use G i n x q h t fits u =
     let b = branch_bounds i.opcode h in
     let lo = b.0 in
@@ -412,7 +412,7 @@ label_forms n o = elim (cases_lt n 1) [
   | inr ge ↦ ap (option_and_then (λ f. role_of f o)) (later_form label_row o n ge)
 ]
 
-pub label_use : (G : Table) (i : PlainInst) (n x : ℕ) (q : Role) → i.opcode ≡ 248 → Fits G i → ¬ (IsUse G i n x q)
+pub label_use : (G : Table) (i : PlainInst) (n x : ℕ) (q : Role) → i.opcode ≡ 248 → FitsShape G i → ¬ (IsUse G i n x q)
 label_use G i n x q e fits u =
     let o = u.operand in
     no_use_by G i label_row n o (standing G i label_row n 248 o label_known e fits u.operand_at) (label_forms n o) x q u

@@ -11,10 +11,10 @@ use Rattle.spv_layout.proofs.Places.{block_same}
 use Rattle.spv_ids.specs.Definition.{IsUsedAt}
 use Rattle.spv_branches.specs.declared.code.Code.{Code}
 use Rattle.spv_branches.specs.declared.edges.Edges.{Edges}
-use Rattle.spv_branches.specs.Code.{insts_of, IsCode}
-use Rattle.spv_branches.specs.Edges.{HasEdge, marked}
-use Rattle.spv_branches.specs.Graph.{AreGathered, CanTake, Takes}
-use Rattle.spv_branches.specs.Target.{IsLabelOf, IsParentAt, HasParents, Leads}
+use Rattle.spv_branches.specs.inner.Code.{insts_of, IsCode}
+use Rattle.spv_branches.specs.inner.Edges.{HasEdge, marked}
+use Rattle.spv_branches.specs.inner.Graph.{AreGathered, CanTake, Takes}
+use Rattle.spv_branches.specs.Target.{IsLabelOf, IsParentAt, HasParents, LeadsToBlock}
 use Rattle.spv_branches.proofs.Labelled.{use_in, use_within, one_id, one_label, one_parent}
 use Rattle.spv_branches.proofs.Marking.{marks_same, set_other}
 
@@ -136,7 +136,7 @@ sources e block old marks clean added only = record {
 }
 
 -- The parents that can be taken are predecessors, and if no mark is left, all of them.
-pub parents : (G : Table) (is : List PlainInst) (count : ℕ) (e : Edges) (at block : ℕ) (marks left : List Bool) → ((t : ℕ) (p b : ℕ) → Leads G is t p b → t < count) → AreGathered G is e count → IsOfBlock is at block → AreSources e block marks → Takes G is at marks left
+pub parents : (G : Table) (is : List PlainInst) (count : ℕ) (e : Edges) (at block : ℕ) (marks left : List Bool) → ((t : ℕ) (p b : ℕ) → LeadsToBlock G is t p b → t < count) → AreGathered G is e count → IsOfBlock is at block → AreSources e block marks → Takes G is at marks left
     → ((p : ℕ) → HasEdge e p block → marked left p ≡ false) → HasParents G is at
 parents G is count e at block marks left within gathered of from takes none = record {
   block = block;
@@ -156,7 +156,7 @@ unmarked true h = absurd (h refl)
 unmarked false h = refl
 
 -- a terminator is one of the instructions
-pub leads_within : (G : Table) (is : List PlainInst) (t p b : ℕ) → Leads G is t p b → t < length is
+pub leads_within : (G : Table) (is : List PlainInst) (t p b : ℕ) → LeadsToBlock G is t p b → t < length is
 leads_within G is t p b leads = slice_get_within is t leads.target.used.inst leads.target.used.there
 
 -- Nothing is left marked.
@@ -164,14 +164,14 @@ pub clean_after : (G : Table) (is : List PlainInst) (e : Edges) (at block : ℕ)
 clean_after G is e at block marks left from takes none p = unmarked (marked left p) (λ m. both_ways (marked left p) (none p (from.only p (takes.left p m))) m)
 
 -- Parents that can't be taken are not the predecessors.
-pub not_taken : (G : Table) (is : List PlainInst) (count : ℕ) (e : Edges) (at block : ℕ) (marks : List Bool) → ((t : ℕ) (p b : ℕ) → Leads G is t p b → t < count) → AreGathered G is e count → IsOfBlock is at block → AreSources e block marks → ¬ (CanTake G is at marks) → ¬ (HasParents G is at)
+pub not_taken : (G : Table) (is : List PlainInst) (count : ℕ) (e : Edges) (at block : ℕ) (marks : List Bool) → ((t : ℕ) (p b : ℕ) → LeadsToBlock G is t p b → t < count) → AreGathered G is e count → IsOfBlock is at block → AreSources e block marks → ¬ (CanTake G is at marks) → ¬ (HasParents G is at)
 not_taken G is count e at block marks within gathered of from cannot has =
     let same : has.block ≡ block = block_same is at has.block block has.of of in
     cannot (record {
       each = λ k x u.
           let h = has.each k x u in
           let t = h.2.0 in
-          let leads : Leads G is t h.0 block = subst (λ (b : ℕ). Leads G is t h.0 b) same h.2.1 in
+          let leads : LeadsToBlock G is t h.0 block = subst (λ (b : ℕ). LeadsToBlock G is t h.0 b) same h.2.1 in
           (h.0, h.1, from.added h.0 (gathered.complete t h.0 block (within t h.0 block leads) leads));
       once = has.once;
     })
@@ -181,5 +181,5 @@ pub not_named : (G : Table) (is : List PlainInst) (count : ℕ) (e : Edges) (at 
 not_named G is count e at block p marks left gathered of takes edge m has =
     let same : has.block ≡ block = block_same is at has.block block has.of of in
     let sound = gathered.sound p block edge in
-    let named = has.all p (sound.0, subst (λ (b : ℕ). Leads G is sound.0 p b) (sym same) sound.1) in
+    let named = has.all p (sound.0, subst (λ (b : ℕ). LeadsToBlock G is sound.0 p b) (sym same) sound.1) in
     both_ways (marked left p) (takes.gone named.0 p named.1) m

@@ -13,7 +13,7 @@ use Rattle.spv_layout.specs.Place.{IsAt, IsOfFunction, IsOfBlock, terminators}
 use Rattle.spv_layout.proofs.Places.{block_same}
 use Rattle.spv_layout.proofs.Shapes.{use_same}
 use Rattle.spv_ids.specs.Definition.{IsDefinedAt, IsUsedAt}
-use Rattle.spv_branches.specs.Target.{is_branch, IsOp, IsLabelOf, IsTarget, Leads, IsParentAt, HasParents}
+use Rattle.spv_branches.specs.Target.{is_branch, IsOp, IsLabelOf, IsTarget, LeadsToBlock, IsParentAt, HasParents}
 use Rattle.spv_branches.specs.Walk.{Next, IsWalk, IsResultAmong}
 use Rattle.spv_branches.specs.Ready.{IsLocalValue, IsMissing}
 use Rattle.spv_branches.specs.Example.{branch, label, function, return_void, two_blocks, phi, bare_phi, paired, unpaired, negation, early}
@@ -87,10 +87,10 @@ second_block = record { begun = record { within = omega arith; up_to = omega ari
 target : IsTarget small (paired 1) 2 2
 target = record { branch = refl; operand = 0; used = record { inst = branch 2; there = refl; used = branch_used 2 } }
 
-pub leads : Leads small (paired 1) 2 1 3
+pub leads : LeadsToBlock small (paired 1) 2 1 3
 leads = record { of = first_block; id = 2; target = target; label = record { defined = record { inst = label 2; there = refl; result = refl }; label = refl } }
 
-first_only : (t p : ℕ) → Leads small (paired 1) t p 3 → p ≡ 1
+first_only : (t p : ℕ) → LeadsToBlock small (paired 1) t p 3 → p ≡ 1
 first_only t p h =
     let e = branch_at t h.target.branch in
     block_same (paired 1) 2 p 1 (subst (λ (k : ℕ). IsOfBlock (paired 1) k p) e h.of) first_block
@@ -193,7 +193,7 @@ phi_block : IsOfBlock unpaired 4 3
 unfolding rows
 phi_block = record { begun = record { within = omega arith; up_to = omega arith; there = refl; last = no_label_u4 }; not_ended = no_end_u4 }
 
-u_leads : Leads small unpaired 2 1 3
+u_leads : LeadsToBlock small unpaired 2 1 3
 u_leads = record {
   of = u_block;
   id = 2;
@@ -204,7 +204,7 @@ u_leads = record {
 pub no_parents : ¬ (HasParents small unpaired 4)
 no_parents h =
     let e : h.block ≡ 3 = block_same unpaired 4 h.block 3 h.of phi_block in
-    let a = h.all 1 (2, subst (λ (b : ℕ). Leads small unpaired 2 1 b) (sym e) u_leads) in
+    let a = h.all 1 (2, subst (λ (b : ℕ). LeadsToBlock small unpaired 2 1 b) (sym e) u_leads) in
     bare_label a.0 a.1.id a.1.used
 
 -- a use before the definition

@@ -2,9 +2,6 @@ pub mod Target
 pub mod Walk
 pub mod Ready
 pub mod Broken
-pub mod Code
-pub mod Edges
-pub mod Labels
-pub mod Graph
 pub mod Found
 pub mod Example
+pub mod inner

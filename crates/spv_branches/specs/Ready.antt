@@ -1,4 +1,5 @@
--- Whether the values that an instruction uses are defined on every walk to it. [2.16, said by walks instead of dominators]
+-- Whether the values that an instruction uses are defined on every walk to it. [2.16, said by walks instead of
+-- dominators]
 use Rattle.std.specs.Prelude.{◌≡◌, ◌+◌, ℕ, List, Some, slice_get}
 use Rattle.spv_table.specs.Table.{Table}
 use Rattle.spv_module.specs.Operand.{PlainInst, type_in}
@@ -8,7 +9,7 @@ use Rattle.spv_ids.specs.Definition.{IsDefinedAt, IsUsedAt, IsLocal}
 use Rattle.spv_branches.specs.Target.{is_phi, IsOp, IsLabelOf}
 use Rattle.spv_branches.specs.Walk.{IsWalk, IsResultAmong, IsLastLabel}
 
--- The id is a local value: it is local to a function, and its definition has a `Type`.
+-- The id is a local value: it is local to a function, and its definition has a `Type`. [2.16]
 pub record IsLocalValue (is : List PlainInst) (x : ℕ) : Type 0 where
   pub local : IsLocal is x
   pub place : ℕ
@@ -18,7 +19,7 @@ pub record IsLocalValue (is : List PlainInst) (x : ℕ) : Type 0 where
   pub of_type : ℕ
   pub typed : type_in inst.operands ≡ Some of_type
 
--- On a walk to instruction n, no OpPhi, a local value that it uses is not the result of an earlier place.
+-- On a walk to instruction n, no OpPhi, a local value that it uses is not the result of an earlier place. [2.16]
 pub record IsMissing (G : Table) (is : List PlainInst) (n : ℕ) : Type 0 where
   pub other : ¬ (IsOp is n is_phi)
   pub function : ℕ
@@ -31,7 +32,7 @@ pub record IsMissing (G : Table) (is : List PlainInst) (n : ℕ) : Type 0 where
   pub local : IsLocalValue is id
   pub undefined : ¬ (IsResultAmong is past id)
 
--- Operands k and k + 1 of instruction n, an OpPhi, pair a value with the label of a parent.
+-- Operands k and k + 1 of instruction n, an OpPhi, pair a value with the label of a parent. [2.16]
 pub record IsPair (G : Table) (is : List PlainInst) (n value parent : ℕ) : Type 0 where
   pub operand : ℕ
   pub paired : IsUsedAt G is n operand value Value
@@ -39,8 +40,8 @@ pub record IsPair (G : Table) (is : List PlainInst) (n value parent : ℕ) : Typ
   pub named : IsUsedAt G is n (operand + 1) id Label
   pub label : IsLabelOf is id parent
 
--- A walk to an OpPhi: its last OpLabel, that of the phi's block, the places before that, and the last OpLabel among these,
--- that of the block that the walk came from.
+-- A walk to an OpPhi: its last OpLabel, that of the phi's block, the places before that, and the last OpLabel among
+-- these, that of the block that the walk came from. [2.16]
 pub record ComesFrom (G : Table) (is : List PlainInst) (n parent : ℕ) (before : List ℕ) : Type 0 where
   pub function : ℕ
   pub past : List ℕ
@@ -51,7 +52,7 @@ pub record ComesFrom (G : Table) (is : List PlainInst) (n parent : ℕ) (before 
   pub from : IsLastLabel is before parent earlier
 
 -- On a walk to instruction n, an OpPhi, the value paired with the block that the walk came from is local, and not the
--- result of a place before the walk's last OpLabel.
+-- result of a place before the walk's last OpLabel. [2.16]
 pub record IsPairMissing (G : Table) (is : List PlainInst) (n : ℕ) : Type 0 where
   pub phi : IsOp is n is_phi
   pub value : ℕ
@@ -65,5 +66,7 @@ pub record IsPairMissing (G : Table) (is : List PlainInst) (n : ℕ) : Type 0 wh
 -- On every walk to instruction n each local value that it uses is the result of an earlier place; or, at an OpPhi, the
 -- value paired with the block that the walk came from, if it is local, that of a place before the last OpLabel.
 pub record IsReady (G : Table) (is : List PlainInst) (n : ℕ) : Type 0 where
-  pub uses : ¬ (IsOp is n is_phi) → (f : ℕ) (past : List ℕ) (k x : ℕ) (r : Role) → IsWalk G is f past n → IsUsedAt G is n k x r → IsLocalValue is x → IsResultAmong is past x
-  pub pairs : IsOp is n is_phi → (value parent : ℕ) (before : List ℕ) → IsPair G is n value parent → ComesFrom G is n parent before → IsLocalValue is value → IsResultAmong is before value
+  pub uses : ¬ (IsOp is n is_phi) → (f : ℕ) (past : List ℕ) (k x : ℕ) (r : Role) → IsWalk G is f past n
+      → IsUsedAt G is n k x r → IsLocalValue is x → IsResultAmong is past x
+  pub pairs : IsOp is n is_phi → (value parent : ℕ) (before : List ℕ) → IsPair G is n value parent
+      → ComesFrom G is n parent before → IsLocalValue is value → IsResultAmong is before value

@@ -1,41 +1,46 @@
--- The labels of branches and merges, and the blocks that they lead to. A block goes by the number of its OpLabel. [2.4, 2.16]
-use Rattle.std.specs.Prelude.{◌≡◌, ◌<◌, ℕ, List, Bool, nat_eq, nat_le, ◌&&◌, ◌||◌, IsTrue, IsSomeAnd, slice_get}
+-- The labels of branches and merges, and the blocks that they lead to. A block goes by the number of its OpLabel. [2.4,
+-- 2.16]
+use Rattle.std.specs.Prelude.{◌≡◌, ◌<◌, ℕ, List, Bool, nat_eq, nat_le, ◌&&◌, ◌||◌, IsTrue}
+use Rattle.std.specs.Prelude.{IsSomeAnd, slice_get}
 use Rattle.spv_table.specs.Table.{Table}
 use Rattle.spv_module.specs.Operand.{PlainInst}
 use Rattle.spv_layout.specs.declared.form.Role.TheVariants.{Label}
 use Rattle.spv_layout.specs.Place.{IsOfBlock}
 use Rattle.spv_ids.specs.Definition.{IsDefinedAt, IsUsedAt}
 
--- the opcodes of OpFunction, OpPhi, OpLabel and OpBranchConditional
+-- the opcodes of OpFunction, OpPhi, OpLabel and OpBranchConditional [3.49.17]
 abbrev pub is_function : ℕ → Bool
 is_function opcode = nat_eq opcode 54
 
+-- OpPhi [3.49.17]
 abbrev pub is_phi : ℕ → Bool
 is_phi opcode = nat_eq opcode 245
 
+-- OpLabel [3.49.17]
 abbrev pub is_label : ℕ → Bool
 is_label opcode = nat_eq opcode 248
 
+-- OpBranchConditional [3.49.17]
 abbrev pub is_conditional : ℕ → Bool
 is_conditional opcode = nat_eq opcode 250
 
--- those of OpLoopMerge and OpSelectionMerge
+-- those of OpLoopMerge and OpSelectionMerge [3.49.17]
 abbrev pub is_merge : ℕ → Bool
 is_merge opcode = nat_le 246 opcode && nat_le opcode 247
 
--- those of the terminators with labels: OpBranch, OpBranchConditional and OpSwitch
+-- those of the terminators with labels: OpBranch, OpBranchConditional and OpSwitch [3.49.17]
 abbrev pub is_branch : ℕ → Bool
 is_branch opcode = nat_le 249 opcode && nat_le opcode 251
 
--- those of all terminators: the branches, OpReturn, OpReturnValue and OpUnreachable
+-- those of all terminators: the branches, OpReturn, OpReturnValue and OpUnreachable [3.49.17]
 abbrev pub is_terminator : ℕ → Bool
 is_terminator opcode = is_branch opcode || (nat_le 253 opcode && nat_le opcode 255)
 
--- Instruction n is there, and the test holds of its opcode.
+-- Instruction n is there, and the test holds of its opcode. [3.49.17]
 abbrev pub IsOp : List PlainInst → ℕ → (ℕ → Bool) → Type 0
 IsOp is n test = IsSomeAnd (slice_get is n) (λ i. IsTrue (test i.opcode))
 
--- The id x is the result of the OpLabel m.
+-- The id x is the result of the OpLabel m. [3.49.17]
 pub record IsLabelOf (is : List PlainInst) (x m : ℕ) : Type 0 where
   pub defined : IsDefinedAt is x m
   pub label : IsOp is m is_label
@@ -46,8 +51,8 @@ pub record IsTarget (G : Table) (is : List PlainInst) (n x : ℕ) : Type 0 where
   pub operand : ℕ
   pub used : IsUsedAt G is n operand x Label
 
--- Terminator t leads from block p to block b: it is of p, and b's label is a target of it.
-pub record Leads (G : Table) (is : List PlainInst) (t p b : ℕ) : Type 0 where
+-- Terminator t leads from block p to block b: it is of p, and b's label is a target of it. [3.49.17]
+pub record LeadsToBlock (G : Table) (is : List PlainInst) (t p b : ℕ) : Type 0 where
   pub of : IsOfBlock is t p
   pub id : ℕ
   pub target : IsTarget G is t id
@@ -55,15 +60,15 @@ pub record Leads (G : Table) (is : List PlainInst) (t p b : ℕ) : Type 0 where
 
 -- Block p is a predecessor of block b. [2.16]
 abbrev pub IsPredecessor : Table → List PlainInst → ℕ → ℕ → Type 0
-IsPredecessor G is b p = (t : ℕ) × Leads G is t p b
+IsPredecessor G is b p = (t : ℕ) × LeadsToBlock G is t p b
 
--- Block p is the parent that operand k of instruction n, an OpPhi, names.
+-- Block p is the parent that operand k of instruction n, an OpPhi, names. [3.49.17]
 pub record IsParentAt (G : Table) (is : List PlainInst) (n k p : ℕ) : Type 0 where
   pub id : ℕ
   pub used : IsUsedAt G is n k id Label
   pub label : IsLabelOf is id p
 
--- The parents of instruction n, an OpPhi, are the predecessors of its block, each exactly once. [OpPhi]
+-- The parents of instruction n, an OpPhi, are the predecessors of its block, each exactly once. [OpPhi] [3.49.17]
 pub record HasParents (G : Table) (is : List PlainInst) (n : ℕ) : Type 0 where
   pub block : ℕ
   pub of : IsOfBlock is n block
@@ -74,7 +79,7 @@ pub record HasParents (G : Table) (is : List PlainInst) (n : ℕ) : Type 0 where
   -- each predecessor is a parent
   pub all : (p : ℕ) → IsPredecessor G is block p → (k : ℕ) × IsParentAt G is n k p
 
--- Instruction m is the label of an entry block: of the OpLabels after an OpFunction the first.
+-- Instruction m is the label of an entry block: of the OpLabels after an OpFunction the first. [3.49.17]
 pub record IsEntryLabel (is : List PlainInst) (m : ℕ) : Type 0 where
   pub label : IsOp is m is_label
   pub function : ℕ

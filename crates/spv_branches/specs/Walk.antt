@@ -6,23 +6,24 @@ use Rattle.spv_layout.specs.Place.{IsOfFunction}
 use Rattle.spv_ids.specs.Definition.{IsDefinedAt}
 use Rattle.spv_branches.specs.Target.{is_function, is_label, is_terminator, IsOp, IsLabelOf, IsTarget}
 
--- On a walk, instruction m may come right after instruction n: after a terminator the OpLabel of any of its targets, and
--- after any other the following instruction.
+-- On a walk, instruction m may come right after instruction n: after a terminator the OpLabel of any of its targets,
+-- and after any other the following instruction. [2.2.5]
 pub data Next (G : Table) (is : List PlainInst) (n : ℕ) : ℕ → Type 0 where
   jumps : (x m : ℕ) → IsTarget G is n x → IsLabelOf is x m → Next G is n m
   follows : ¬ (IsOp is n is_terminator) → Next G is n (n + 1)
 
 -- A walk of the function whose OpFunction is f begins there and stays in the function. It ends at instruction n, and
--- `past` are the instructions before, the last of them first.
+-- `past` are the instructions before, the last of them first. [2.2.5]
 pub data IsWalk (G : Table) (is : List PlainInst) (f : ℕ) : List ℕ → ℕ → Type 0 where
   begins : IsOp is f is_function → IsWalk G is f [] f
-  goes : (past : List ℕ) (n m : ℕ) → IsWalk G is f past n → Next G is n m → IsOfFunction is m f → IsWalk G is f (n ∷ past) m
+  goes : (past : List ℕ) (n m : ℕ) → IsWalk G is f past n → Next G is n m → IsOfFunction is m f
+      → IsWalk G is f (n ∷ past) m
 
--- The id is the result of one of the instructions.
+-- The id is the result of one of the instructions. [2.2.5]
 abbrev pub IsResultAmong : List PlainInst → List ℕ → ℕ → Type 0
 IsResultAmong is past x = Any (λ n. IsDefinedAt is x n) past
 
--- Of the instructions, the last of them first, the last OpLabel is b, and these are the ones before it.
+-- Of the instructions, the last of them first, the last OpLabel is b, and these are the ones before it. [2.2.5]
 pub record IsLastLabel (is : List PlainInst) (past : List ℕ) (b : ℕ) (before : List ℕ) : Type 0 where
   pub later : List ℕ
   pub divided : past ≡ later ++ (b ∷ before)

@@ -1,16 +1,18 @@
 //! The first of the rules F1 to F4 that a module breaks.
 
-ghost use Rattle.std.specs.Prelude.{◌≡◌, ◌≤◌, ◌<◌, ◌+◌, ℕ, List, false, length, sum_by, IsTrue, IfOk, IfErr, MatchOption};
+ghost use Rattle.std.specs.Prelude.{◌≡◌, ◌≤◌, ◌<◌, ◌+◌, ℕ, List, false, length, sum_by, IsTrue};
+ghost use Rattle.std.specs.Prelude.{IfOk, IfErr, MatchOption};
 ghost use Rattle.spv_table.specs.Table.{Table};
 ghost use Rattle.spv_module.specs.Module.{plain_insts};
 ghost use Rattle.spv_module.specs.Operand.{PlainInst};
 ghost use Rattle.spv_layout.specs.First.{IsFirst, IsUnbroken};
 ghost use Rattle.spv_layout.specs.Place.{word_count};
 ghost use Rattle.spv_layout.specs.Plan.{IsPlan};
-ghost use Rattle.spv_ids.specs.Outcome.{AreIds, IsStopAt};
-ghost use Rattle.spv_branches.specs.Code.{insts_of, IsCode};
+ghost use Rattle.spv_ids.specs.Outcome.{AreIds};
+ghost use Rattle.spv_ids.specs.inner.Outcome.{IsStopAt};
+ghost use Rattle.spv_branches.specs.inner.Code.{insts_of, IsCode};
 ghost use Rattle.spv_branches.specs.Broken.{Broken};
-ghost use Rattle.spv_branches.specs.Edges.{marked};
+ghost use Rattle.spv_branches.specs.inner.Edges.{marked};
 ghost use Rattle.spv_branches.specs.Found.{IsRefusal};
 
 use crate::code::Code;
@@ -28,8 +30,8 @@ pub struct Found {
     pub inst: u32,
 }
 
-/// A mark for each instruction, none of which is set, where some is an OpPhi: nothing else asks for them. Where none is, it
-/// takes no memory.
+/// A mark for each instruction, none of which is set, where some is an OpPhi: nothing else asks for them. Where none
+/// is, it takes no memory.
 fn marks_for(alloc: Global, count: usize, has_phis: bool) -> Result<Vec<bool>, AllocError>
     ensures count { IfOk result (λ v. IsTrue has_phis → length v.items ≡ count) }
     ensures clean { IfOk result (λ v. (p : ℕ) → marked v.items p ≡ false) }
@@ -41,7 +43,9 @@ fn marks_for(alloc: Global, count: usize, has_phis: bool) -> Result<Vec<bool>, A
 /// The first of the rules F1 to F4 that is broken.
 fn first_fault(alloc: Global, code: &Code<'_, '_>) -> Result<Option<Found>, AllocError>
     requires { (G : Table) × IsCode G code.now }
-    ensures { IfOk result (λ o. (G : Table) → IsCode G code.now → MatchOption o (IsUnbroken (Broken G (insts_of code.now)) 6) (λ f. IsFirst (Broken G (insts_of code.now)) 6 f.rule f.inst)) }
+    ensures { IfOk result (λ o. (G : Table) → IsCode G code.now
+        → MatchOption o (IsUnbroken (Broken G (insts_of code.now)) 6)
+        (λ f. IsFirst (Broken G (insts_of code.now)) 6 f.rule f.inst)) }
 {
     let survey = survey(alloc, code.insts)?;
     let edges = edges_for(alloc, code, survey.has_phis)?;
@@ -72,11 +76,11 @@ fn stop_at(plan: &Plan, found: Found) -> Stop
     })
 }
 
-/// Looks at the branches of a module: where they lead, and which parents each OpPhi names (SPIR-V Specification 1.6, sections
-/// 2.4 and 2.16). `plan` and `ids` are what `lay_out` and `number` answered of that module.
+/// Looks at the branches of a module: where they lead, and which parents each OpPhi names (SPIR-V Specification 1.6,
+/// sections 2.4 and 2.16). `plan` and `ids` are what `lay_out` and `number` answered of that module.
 ///
-/// Time is linear in the words of the module. A block's predecessors are the blocks with a terminator that has the block's
-/// label as a target, each counted once.
+/// Time is linear in the words of the module. A block's predecessors are the blocks with a terminator that has the
+/// block's label as a target, each counted once.
 ///
 /// A `Fault` tells the first rule that is broken, with its instruction and that instruction's first word (words and
 /// instructions from 0). At one instruction the first in this order is told:
@@ -94,10 +98,13 @@ pub fn check_branches(
 ) -> Result<(), Stop>
     // The condition of `lay_out`, and that the plan and the ids are what was answered, by some table.
     requires words { 5 + sum_by word_count (plain_insts «module».now) ≤ 4194304 }
-    requires known { (G : Table) × IsPlan G (plain_insts «module».now) plan.now × AreIds G «module».now.header.bound (plain_insts «module».now) ids.now }
-    ensures unbroken { (G : Table) → IsPlan G (plain_insts «module».now) plan.now → AreIds G «module».now.header.bound (plain_insts «module».now) ids.now
+    requires known { (G : Table) × IsPlan G (plain_insts «module».now) plan.now
+        × AreIds G «module».now.header.bound (plain_insts «module».now) ids.now }
+    ensures unbroken { (G : Table) → IsPlan G (plain_insts «module».now) plan.now
+        → AreIds G «module».now.header.bound (plain_insts «module».now) ids.now
         → IfOk result (λ _. IsUnbroken (Broken G (plain_insts «module».now)) 6) }
-    ensures refused { (G : Table) → IsPlan G (plain_insts «module».now) plan.now → AreIds G «module».now.header.bound (plain_insts «module».now) ids.now
+    ensures refused { (G : Table) → IsPlan G (plain_insts «module».now) plan.now
+        → AreIds G «module».now.header.bound (plain_insts «module».now) ids.now
         → IfErr result (λ s. IsRefusal G (plain_insts «module».now) s) }
 {
     let insts = module.insts.as_slice();

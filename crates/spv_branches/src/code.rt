@@ -18,14 +18,16 @@ pub struct Code<'m, 'a> {
 impl Code<'_, '_> {
     ghost use Rattle.std.specs.Prelude.{◌≡◌, ◌<◌, ℕ, length, IfSome, MatchOption, MatchBool};
     ghost use Rattle.spv_table.specs.Table.{Table};
-    ghost use Rattle.spv_branches.specs.Code.{insts_of, IsCode};
+    ghost use Rattle.spv_branches.specs.inner.Code.{insts_of, IsCode};
     ghost use Rattle.spv_branches.specs.Target.{IsLabelOf};
     ghost use Rattle.spv_layout.specs.Place.{IsOfBlock};
 
     /// The OpLabel whose result an id is.
     #[inline(always)]
     pub fn label_of(&self, id: u32) -> Option<u32>
-        ensures label { (G : Table) → IsCode G self.now → MatchOption result ((m : ℕ) → ¬ (IsLabelOf (insts_of self.now) id m)) (λ m. IsLabelOf (insts_of self.now) id m) }
+        ensures label { (G : Table) → IsCode G self.now
+            → MatchOption result ((m : ℕ) → ¬ (IsLabelOf (insts_of self.now) id m))
+            (λ m. IsLabelOf (insts_of self.now) id m) }
         ensures within { IfSome result (λ m. m < length self.now.insts.now) }
     {
         let Some(place) = self.ids.definition(id) else {
@@ -44,15 +46,20 @@ impl Code<'_, '_> {
 
     /// Whether an id is the result of an OpLabel.
     pub fn has_label(&self, id: u32) -> bool
-        ensures { (G : Table) → IsCode G self.now → MatchBool result ((m : ℕ) × IsLabelOf (insts_of self.now) id m) ((m : ℕ) → ¬ (IsLabelOf (insts_of self.now) id m)) }
+        ensures { (G : Table) → IsCode G self.now
+            → MatchBool result ((m : ℕ) × IsLabelOf (insts_of self.now) id m)
+            ((m : ℕ) → ¬ (IsLabelOf (insts_of self.now) id m)) }
     {
         self.label_of(id).is_some()
     }
 
     /// The OpLabel of the block that an instruction is of.
     pub fn block_of(&self, inst: u32) -> Option<u32>
-        ensures block { (G : Table) → IsCode G self.now → inst < length self.now.insts.now → MatchOption result ((b : ℕ) → ¬ (IsOfBlock (insts_of self.now) inst b)) (λ b. IsOfBlock (insts_of self.now) inst b) }
-        ensures within { (G : Table) → IsCode G self.now → inst < length self.now.insts.now → IfSome result (λ b. b < length self.now.insts.now) }
+        ensures block { (G : Table) → IsCode G self.now → inst < length self.now.insts.now
+            → MatchOption result ((b : ℕ) → ¬ (IsOfBlock (insts_of self.now) inst b))
+            (λ b. IsOfBlock (insts_of self.now) inst b) }
+        ensures within { (G : Table) → IsCode G self.now → inst < length self.now.insts.now
+            → IfSome result (λ b. b < length self.now.insts.now) }
     {
         let Some(place) = self.plan.at(inst) else {
             return None;

@@ -20,7 +20,7 @@ pub struct Edges {
 
 impl Edges {
     ghost use Rattle.std.specs.Prelude.{◌≡◌, ◌<◌, ◌⊎◌, ℕ, true, false, length, IfOk, OnOk, MatchBool};
-    ghost use Rattle.spv_branches.specs.Edges.{IsEdges, HasEdge, AddsEdge, marked};
+    ghost use Rattle.spv_branches.specs.inner.Edges.{IsEdges, HasEdge, AddsEdge, marked};
 
     /// No edges, among so many instructions.
     pub fn new(alloc: Global, count: usize) -> Result<Edges, AllocError>
@@ -59,7 +59,8 @@ impl Edges {
         requires marks { length marks.old ≡ length self.now.heads.items }
         ensures kept { (p : ℕ) → marked marks.old p ≡ true → marked marks.new p ≡ true }
         ensures added { (p : ℕ) → HasEdge self.now p target → marked marks.new p ≡ true }
-        ensures only { (p : ℕ) → marked marks.new p ≡ true → (marked marks.old p ≡ true) ⊎ HasEdge self.now p target }
+        ensures only { (p : ℕ) → marked marks.new p ≡ true → (marked marks.old p ≡ true)
+            ⊎ HasEdge self.now p target }
     {
         let mut head = self.heads[target as usize];
         while head != 0 {
@@ -74,7 +75,8 @@ impl Edges {
         requires edges { IsEdges self.now }
         requires target { target < length self.now.heads.items }
         requires marks { length marks.now ≡ length self.now.heads.items }
-        ensures { MatchBool result ((p : ℕ) × HasEdge self.now p target × (marked marks.now p ≡ true)) ((p : ℕ) → HasEdge self.now p target → marked marks.now p ≡ false) }
+        ensures { MatchBool result ((p : ℕ) × HasEdge self.now p target × (marked marks.now p ≡ true))
+            ((p : ℕ) → HasEdge self.now p target → marked marks.now p ≡ false) }
     {
         let mut head = self.heads[target as usize];
         while head != 0 {

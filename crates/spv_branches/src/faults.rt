@@ -2,11 +2,12 @@
 
 ghost use Rattle.std.specs.Prelude.{◌≡◌, ◌<◌, ℕ, true, false, length, IsTrue, MatchBool};
 ghost use Rattle.spv_table.specs.Table.{Table};
-ghost use Rattle.spv_branches.specs.Code.{insts_of, IsCode};
-ghost use Rattle.spv_branches.specs.Edges.{IsEdges, marked};
-ghost use Rattle.spv_branches.specs.Graph.{AreGathered, AreEntries, CanTake, Takes, HasLabels, LacksLabel, IsTargetOf, AreTargets, HasSameLabels};
-ghost use Rattle.spv_branches.specs.Graph as graph;
-ghost use Rattle.spv_branches.specs.Labels.{is_labelled, is_jump};
+ghost use Rattle.spv_branches.specs.inner.Code.{insts_of, IsCode};
+ghost use Rattle.spv_branches.specs.inner.Edges.{IsEdges, marked};
+ghost use Rattle.spv_branches.specs.inner.Graph.{AreGathered, AreEntries, CanTake, Takes, HasLabels, LacksLabel};
+ghost use Rattle.spv_branches.specs.inner.Graph.{IsTargetOf, AreTargets, HasSameLabels};
+ghost use Rattle.spv_branches.specs.inner.Graph as graph;
+ghost use Rattle.spv_branches.specs.inner.Labels.{is_labelled, is_jump};
 ghost use Rattle.spv_branches.specs.Target.{IsOp, HasParents};
 ghost use Rattle.spv_branches.specs.Target as target;
 
@@ -30,7 +31,9 @@ fn take_parents(code: &Code<'_, '_>, marks: &mut [bool], at: u32) -> bool
     requires marks { length marks.old ≡ length code.now.insts.now }
     requires at { at < length code.now.insts.now }
     requires op { IsOp (insts_of code.now) at is_labelled }
-    ensures { (G : Table) → IsCode G code.now → MatchBool result (Takes G (insts_of code.now) at marks.old marks.new) (¬ (CanTake G (insts_of code.now) at marks.old)) }
+    ensures { (G : Table) → IsCode G code.now
+        → MatchBool result (Takes G (insts_of code.now) at marks.old marks.new)
+        (¬ (CanTake G (insts_of code.now) at marks.old)) }
 {
     let inst = &code.insts[at as usize];
     for n in 0..inst.operands.as_slice().len() {
@@ -47,19 +50,21 @@ fn take_parents(code: &Code<'_, '_>, marks: &mut [bool], at: u32) -> bool
     true
 }
 
-/// Whether the parents of an OpPhi are the predecessors of its block, each exactly once. No block is marked before, and if
-/// they are, none after.
+/// Whether the parents of an OpPhi are the predecessors of its block, each exactly once. No block is marked before, and
+/// if they are, none after.
 pub fn has_parents(code: &Code<'_, '_>, edges: &Edges, marks: &mut [bool], at: u32) -> bool
     requires code { (G : Table) × IsCode G code.now }
     requires edges { IsEdges edges.now }
     requires count { length edges.now.heads.items ≡ length code.now.insts.now }
-    requires gathered { (G : Table) → IsCode G code.now → AreGathered G (insts_of code.now) edges.now (length code.now.insts.now) }
+    requires gathered { (G : Table) → IsCode G code.now
+        → AreGathered G (insts_of code.now) edges.now (length code.now.insts.now) }
     requires marks { length marks.old ≡ length code.now.insts.now }
     requires clean { (p : ℕ) → marked marks.old p ≡ false }
     requires at { at < length code.now.insts.now }
     requires op { IsOp (insts_of code.now) at is_labelled }
     ensures clean { IsTrue result → (p : ℕ) → marked marks.new p ≡ false }
-    ensures parents { (G : Table) → IsCode G code.now → MatchBool result (HasParents G (insts_of code.now) at) (¬ (HasParents G (insts_of code.now) at)) }
+    ensures parents { (G : Table) → IsCode G code.now
+        → MatchBool result (HasParents G (insts_of code.now) at) (¬ (HasParents G (insts_of code.now) at)) }
 {
     let Some(block) = code.block_of(at) else {
         return false;
@@ -75,7 +80,8 @@ pub fn has_parents(code: &Code<'_, '_>, edges: &Edges, marks: &mut [bool], at: u
 pub fn has_labels(code: &Code<'_, '_>, at: u32) -> bool
     requires at { at < length code.now.insts.now }
     requires op { IsOp (insts_of code.now) at is_labelled }
-    ensures { (G : Table) → IsCode G code.now → MatchBool result (HasLabels G (insts_of code.now) at) (LacksLabel G (insts_of code.now) at) }
+    ensures { (G : Table) → IsCode G code.now
+        → MatchBool result (HasLabels G (insts_of code.now) at) (LacksLabel G (insts_of code.now) at) }
 {
     let inst = &code.insts[at as usize];
     for n in 0..inst.operands.as_slice().len() {
@@ -209,7 +215,8 @@ pub fn targets_of(code: &Code<'_, '_>, entries: &[bool], at: u32) -> Targets
 pub fn has_same_labels(code: &Code<'_, '_>, at: u32) -> bool
     requires at { at < length code.now.insts.now }
     requires op { IsOp (insts_of code.now) at target.is_conditional }
-    ensures { (G : Table) → IsCode G code.now → MatchBool result (HasSameLabels G (insts_of code.now) at) (¬ (HasSameLabels G (insts_of code.now) at)) }
+    ensures { (G : Table) → IsCode G code.now
+        → MatchBool result (HasSameLabels G (insts_of code.now) at) (¬ (HasSameLabels G (insts_of code.now) at)) }
 {
     let inst = &code.insts[at as usize];
     let Some(one) = id_at(inst, 1) else {

@@ -3,9 +3,9 @@
 ghost use Rattle.std.specs.Prelude.{◌≡◌, ◌<◌, ◌≤◌, ◌+◌, ℕ, length, map, IsTrue, IfOk, OnOk};
 ghost use Rattle.spv_table.specs.Table.{Table};
 ghost use Rattle.spv_module.specs.Module.{plain_inst};
-ghost use Rattle.spv_branches.specs.Code.{insts_of, IsCode};
-ghost use Rattle.spv_branches.specs.Edges.{IsEdges};
-ghost use Rattle.spv_branches.specs.Graph.{AddsTargets, AreGathered, AreEntries};
+ghost use Rattle.spv_branches.specs.inner.Code.{insts_of, IsCode};
+ghost use Rattle.spv_branches.specs.inner.Edges.{IsEdges};
+ghost use Rattle.spv_branches.specs.inner.Graph.{AddsTargets, AreGathered, AreEntries};
 ghost use Rattle.spv_branches.specs.Target.{IsOp};
 ghost use Rattle.spv_branches.specs.Target as target;
 ghost use Rattle.spv_layout.specs.Place.{IsOfBlock};
@@ -39,7 +39,8 @@ fn add_targets(
     requires block { block < length code.now.insts.now }
     ensures edges { OnOk result (IsEdges edges.new) }
     ensures count { OnOk result (length edges.new.heads.items ≡ length code.now.insts.now) }
-    ensures adds { OnOk result ((G : Table) → IsCode G code.now → IsOfBlock (insts_of code.now) at block → AddsTargets G (insts_of code.now) edges.old edges.new at) }
+    ensures adds { OnOk result ((G : Table) → IsCode G code.now → IsOfBlock (insts_of code.now) at block
+        → AddsTargets G (insts_of code.now) edges.old edges.new at) }
 {
     let inst = &code.insts[at as usize];
     for n in 0..inst.operands.as_slice().len() {
@@ -61,7 +62,8 @@ fn gather_at(code: &Code<'_, '_>, edges: &mut Edges, at: u32) -> Result<(), Allo
     requires at { at < length code.now.insts.now }
     ensures edges { OnOk result (IsEdges edges.new) }
     ensures count { OnOk result (length edges.new.heads.items ≡ length code.now.insts.now) }
-    ensures adds { OnOk result ((G : Table) → IsCode G code.now → AddsTargets G (insts_of code.now) edges.old edges.new at) }
+    ensures adds { OnOk result ((G : Table) → IsCode G code.now
+        → AddsTargets G (insts_of code.now) edges.old edges.new at) }
 {
     if !is_branch(code.insts[at as usize].opcode) {
         return Ok(());
@@ -77,7 +79,8 @@ pub fn gather(alloc: Global, code: &Code<'_, '_>) -> Result<Edges, AllocError>
     requires { (G : Table) × IsCode G code.now }
     ensures edges { IfOk result IsEdges }
     ensures count { IfOk result (λ e. length e.heads.items ≡ length code.now.insts.now) }
-    ensures gathered { IfOk result (λ e. (G : Table) → IsCode G code.now → AreGathered G (insts_of code.now) e (length code.now.insts.now)) }
+    ensures gathered { IfOk result (λ e. (G : Table) → IsCode G code.now
+        → AreGathered G (insts_of code.now) e (length code.now.insts.now)) }
 {
     let mut edges = Edges::new(alloc, code.insts.len())?;
     for at in 0..code.insts.len() {
@@ -86,12 +89,14 @@ pub fn gather(alloc: Global, code: &Code<'_, '_>) -> Result<Edges, AllocError>
     Ok(edges)
 }
 
-/// The edges of all instructions, where some is an OpPhi: nothing else asks for them. Where none is, it takes no memory.
+/// The edges of all instructions, where some is an OpPhi: nothing else asks for them. Where none is, it takes no
+/// memory.
 pub fn edges_for(alloc: Global, code: &Code<'_, '_>, has_phis: bool) -> Result<Edges, AllocError>
     requires { (G : Table) × IsCode G code.now }
     ensures edges { IfOk result IsEdges }
     ensures count { IfOk result (λ e. IsTrue has_phis → length e.heads.items ≡ length code.now.insts.now) }
-    ensures gathered { IfOk result (λ e. IsTrue has_phis → (G : Table) → IsCode G code.now → AreGathered G (insts_of code.now) e (length code.now.insts.now)) }
+    ensures gathered { IfOk result (λ e. IsTrue has_phis → (G : Table) → IsCode G code.now
+        → AreGathered G (insts_of code.now) e (length code.now.insts.now)) }
 {
     if has_phis {
         gather(alloc, code)
@@ -104,7 +109,8 @@ pub fn edges_for(alloc: Global, code: &Code<'_, '_>, has_phis: bool) -> Result<E
 pub fn survey(alloc: Global, insts: &[Inst<'_>]) -> Result<Overview, AllocError>
     ensures count { IfOk result (λ s. length s.entries.items ≡ length insts.now) }
     ensures entries { IfOk result (λ s. AreEntries (map plain_inst insts.now) s.entries.items (length insts.now)) }
-    ensures phis { IfOk result (λ s. (n : ℕ) → n < length insts.now → IsOp (map plain_inst insts.now) n target.is_phi → IsTrue s.has_phis) }
+    ensures phis { IfOk result (λ s. (n : ℕ) → n < length insts.now
+        → IsOp (map plain_inst insts.now) n target.is_phi → IsTrue s.has_phis) }
 {
     let mut entries = vec![in alloc; false; insts.len()]?;
     let mut is_open = false;

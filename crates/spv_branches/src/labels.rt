@@ -3,11 +3,11 @@
 ghost use Rattle.std.specs.Prelude.{◌≡◌, ℕ, IsTrue, MatchOption, slice_get, option_and_then};
 ghost use Rattle.spv_table.specs.Table.{Table};
 ghost use Rattle.spv_module.specs.Module.{plain_inst, plain_operand};
-ghost use Rattle.spv_layout.specs.Shape.{Fits, IsUse};
+ghost use Rattle.spv_layout.specs.Shape.{FitsShape, IsUse};
 ghost use Rattle.spv_layout.specs.Shape as shape;
 ghost use Rattle.spv_layout.specs.declared.form.Role.TheVariants as role;
-ghost use Rattle.spv_branches.specs.Labels.{is_labelled};
-ghost use Rattle.spv_branches.specs.Labels as labels;
+ghost use Rattle.spv_branches.specs.inner.Labels.{is_labelled};
+ghost use Rattle.spv_branches.specs.inner.Labels as labels;
 
 use crate::code::{BRANCH_CONDITIONAL, LOOP_MERGE, PHI, SWITCH};
 use spv_module::{Inst, Operand};
@@ -60,7 +60,9 @@ fn is_label_at(opcode: u16, n: usize) -> bool
 #[inline(always)]
 pub fn label(inst: &Inst<'_>, n: usize) -> Option<u32>
     requires { IsTrue (is_labelled (plain_inst inst.now).opcode) }
-    ensures { (G : Table) → Fits G (plain_inst inst.now) → MatchOption result ((x : ℕ) → ¬ (IsUse G (plain_inst inst.now) n x role.Label)) (λ x. IsUse G (plain_inst inst.now) n x role.Label) }
+    ensures { (G : Table) → FitsShape G (plain_inst inst.now)
+        → MatchOption result ((x : ℕ) → ¬ (IsUse G (plain_inst inst.now) n x role.Label))
+        (λ x. IsUse G (plain_inst inst.now) n x role.Label) }
 {
     if is_label_at(inst.opcode, n) {
         id_at(inst, n)

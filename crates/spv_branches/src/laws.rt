@@ -7,15 +7,17 @@ ghost use Rattle.spv_module.specs.Example.{small};
 ghost use Rattle.spv_module.specs.declared.fault.Rule.{Rule};
 ghost use Rattle.spv_module.specs.declared.fault.Rule.TheVariants.{F1, F2, F3, F4, A1, A2};
 ghost use Rattle.spv_layout.specs.First.{IsFirst};
-ghost use Rattle.spv_branches.specs.Target.{IsLabelOf, IsTarget, Leads, IsPredecessor, HasParents, IsEntryLabel};
+ghost use Rattle.spv_branches.specs.Target.{IsLabelOf, IsTarget, LeadsToBlock, IsPredecessor, HasParents, IsEntryLabel};
 ghost use Rattle.spv_branches.specs.Walk.{Next, IsWalk, IsResultAmong, IsLastLabel};
 ghost use Rattle.spv_branches.specs.Ready.{ComesFrom, IsLocalValue, IsMissing, IsPair, IsPairMissing, IsReady};
 ghost use Rattle.spv_branches.specs.Broken.{Broken};
-ghost use Rattle.spv_branches.specs.Example.{branch, conditional, label, function, two_blocks, valued, paired, unpaired, early};
+ghost use Rattle.spv_branches.specs.Example.{branch, conditional, label, function, two_blocks, valued, paired};
+ghost use Rattle.spv_branches.specs.Example.{unpaired, early};
 
 /// Of each stage at most one rule is broken first, at one instruction.
 pub fn one_fault()
-    ensures { (G : Table) (is : List PlainInst) (stage : ℕ) (q r : Rule) (m n : ℕ) → IsFirst (Broken G is) stage q m → IsFirst (Broken G is) stage r n → (q ≡ r) × (m ≡ n) }
+    ensures { (G : Table) (is : List PlainInst) (stage : ℕ) (q r : Rule) (m n : ℕ)
+        → IsFirst (Broken G is) stage q m → IsFirst (Broken G is) stage r n → (q ≡ r) × (m ≡ n) }
 {}
 
 /// An instruction at which a value is missing is not ready.
@@ -49,8 +51,8 @@ pub fn flow_examples()
     ensures walk { IsWalk small two_blocks 0 (3 ∷ 2 ∷ 1 ∷ 0 ∷ []) 4 }
     ensures no_walk { ¬ (IsWalk small two_blocks 0 (1 ∷ 0 ∷ []) 3) }
     // The first block leads to the second, and not to itself.
-    ensures leads { Leads small two_blocks 2 1 3 }
-    ensures not_back { ¬ (Leads small two_blocks 2 1 1) }
+    ensures leads { LeadsToBlock small two_blocks 2 1 3 }
+    ensures not_back { ¬ (LeadsToBlock small two_blocks 2 1 1) }
     // A branch to the entry block, and one to another.
     ensures to_entry { Broken small (function ∷ label 1 ∷ branch 1 ∷ []) F2 2 }
     ensures to_other { ¬ (Broken small two_blocks F2 2) }
@@ -80,7 +82,8 @@ pub fn pair_examples()
     // A walk to the OpPhi comes from the first block. It comes from no branch.
     ensures comes { ComesFrom small (paired 1) 4 1 (2 ∷ 1 ∷ 0 ∷ []) }
     ensures not_from { ¬ (ComesFrom small (paired 1) 4 2 (2 ∷ 1 ∷ 0 ∷ [])) }
-    // An OpPhi that pairs its own result with the first block, where that was not defined; and one whose value is not local.
+    // An OpPhi that pairs its own result with the first block, where that was not defined; and one whose value is not
+    // local.
     ensures pair_missing { Broken small (valued 9 1) A2 4 }
     ensures not_missing { ¬ (IsPairMissing small (paired 1) 4) }
     // A branch uses no value, and what is used before its definition is not ready.

@@ -2,9 +2,9 @@
 
 ghost use Rattle.std.specs.Prelude.{◌≡◌, ◌<◌, ℕ, false, length, IfNone};
 ghost use Rattle.spv_table.specs.Table.{Table};
-ghost use Rattle.spv_branches.specs.Code.{insts_of, IsCode};
-ghost use Rattle.spv_branches.specs.Edges.{IsEdges, marked};
-ghost use Rattle.spv_branches.specs.Graph.{AreGathered, AreEntries, IsFirstAt};
+ghost use Rattle.spv_branches.specs.inner.Code.{insts_of, IsCode};
+ghost use Rattle.spv_branches.specs.inner.Edges.{IsEdges, marked};
+ghost use Rattle.spv_branches.specs.inner.Graph.{AreGathered, AreEntries, IsFirstAt};
 ghost use Rattle.spv_branches.specs.Target.{IsOp};
 ghost use Rattle.spv_branches.specs.Target as target;
 
@@ -58,8 +58,10 @@ pub fn broken_at(
 ) -> Option<Rule>
     requires code { (G : Table) × IsCode G code.now }
     requires edges { IsEdges edges.now }
-    requires count { IsOp (insts_of code.now) at target.is_phi → length edges.now.heads.items ≡ length code.now.insts.now }
-    requires gathered { (G : Table) → IsCode G code.now → IsOp (insts_of code.now) at target.is_phi → AreGathered G (insts_of code.now) edges.now (length code.now.insts.now) }
+    requires count { IsOp (insts_of code.now) at target.is_phi
+        → length edges.now.heads.items ≡ length code.now.insts.now }
+    requires gathered { (G : Table) → IsCode G code.now → IsOp (insts_of code.now) at target.is_phi
+        → AreGathered G (insts_of code.now) edges.now (length code.now.insts.now) }
     requires places { length entries.now ≡ length code.now.insts.now }
     requires entries { AreEntries (insts_of code.now) entries.now (length code.now.insts.now) }
     requires marks { IsOp (insts_of code.now) at target.is_phi → length marks.old ≡ length code.now.insts.now }

@@ -15,7 +15,7 @@ use Rattle.spv_calls.specs.declared.graph.Call.{Call}
 use Rattle.spv_calls.specs.Calls.{IsCall, Calls}
 use Rattle.spv_calls.specs.Chain.{Chain, alone, more}
 use Rattle.spv_calls.specs.Broken.{Broken, on_cycle}
-use Rattle.spv_calls.specs.Found.{AreCalls, AreEntries}
+use Rattle.spv_calls.specs.inner.Found.{AreCalls, AreEntries}
 use Rattle.spv_calls.proofs.Bridge.{calls_has, calls_within, entries_below}
 use Rattle.spv_calls.proofs.Chains.{joined, single}
 use Rattle.spv_calls.proofs.Insts.{short_list}

@@ -11,8 +11,8 @@ use Rattle.spv_calls.proofs.Insts.{defined_within}
 use Rattle.spv_calls.specs.declared.graph.Call.{Call}
 use Rattle.spv_calls.specs.Calls.{IsCall, Calls}
 use Rattle.spv_calls.specs.Broken.{Broken, on_cycle}
-use Rattle.spv_calls.specs.Graph.{HasCall, AreWithin, AreBelow, IsCyclic, NoneBefore, IsFirstCyclic}
-use Rattle.spv_calls.specs.Found.{AreCalls, AreEntries}
+use Rattle.spv_calls.specs.inner.Graph.{HasCall, AreWithin, AreBelow, IsCyclic, NoneBefore, IsFirstCyclic}
+use Rattle.spv_calls.specs.inner.Found.{AreCalls, AreEntries}
 use Rattle.spv_calls.proofs.Chains.{mapped, moved}
 
 call_moved : (is : List PlainInst) (n f g h j : ℕ) → f ≡ h → g ≡ j → IsCall is n f g → IsCall is n h j

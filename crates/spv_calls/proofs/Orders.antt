@@ -10,10 +10,10 @@ use Rattle.spv_calls.specs.declared.ordered.Way.TheVariants.{Back, On}
 use Rattle.spv_calls.specs.Chain.{Chain, alone, more}
 use Rattle.spv_calls.specs.Calls.{Calls}
 use Rattle.spv_calls.specs.Broken.{Broken, on_cycle}
-use Rattle.spv_calls.specs.Components.{number_of}
-use Rattle.spv_calls.specs.Graph.{HasCall, NoneBefore}
-use Rattle.spv_calls.specs.Found.{AreCalls}
-use Rattle.spv_calls.specs.Ordered.{Leads, AllLead, AreFalling, AreAcyclic}
+use Rattle.spv_calls.specs.inner.Components.{number_of}
+use Rattle.spv_calls.specs.inner.Graph.{HasCall, NoneBefore}
+use Rattle.spv_calls.specs.inner.Found.{AreCalls}
+use Rattle.spv_calls.specs.inner.Ordered.{Leads, AllLead, AreFalling, AreAcyclic}
 use Rattle.spv_calls.proofs.Bridge.{calls_has}
 use Rattle.spv_calls.proofs.Chains.{mapped, moved}
 

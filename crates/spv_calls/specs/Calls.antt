@@ -1,13 +1,15 @@
--- Which definitions call which, and which of them entry points name. A function is the number of its OpFunction. [2.4, 2.16]
+-- Which definitions call which, and which of them entry points name. A function is the number of its OpFunction. [2.4,
+-- 2.16]
 use Rattle.std.specs.Prelude.{◌≡◌, ℕ, List, Some, slice_get}
 use Rattle.spv_module.specs.Operand.{PlainInst, Id}
 use Rattle.spv_layout.specs.Place.{IsOfFunction, IsDefinition}
 use Rattle.spv_ids.specs.Definition.{IsDefinedAt}
 
--- the opcodes of OpEntryPoint and OpFunctionCall
+-- the opcodes of OpEntryPoint and OpFunctionCall [3.49.9]
 abbrev pub entry_point : ℕ
 entry_point = 15
 
+-- OpFunctionCall [3.49.9]
 abbrev pub function_call : ℕ
 function_call = 57
 
@@ -23,7 +25,7 @@ pub record IsCall (is : List PlainInst) (n f g : ℕ) : Type 0 where
   pub function : IsDefinedAt is callee g
   pub called : IsDefinition is g
 
--- Definition f calls definition g: an instruction of f, reachable or not, is an OpFunctionCall of g.
+-- Definition f calls definition g: an instruction of f, reachable or not, is an OpFunctionCall of g. [3.49.9]
 pub record Calls (is : List PlainInst) (f g : ℕ) : Type 0 where
   pub place : ℕ
   pub call : IsCall is place f g

@@ -28,7 +28,8 @@ end = record { opcode = 56; operands = [] }
 
 -- %1 calls %4, and %4 calls itself
 abbrev pub functions : List PlainInst
-functions = function 1 ∷ label 2 ∷ call 3 4 ∷ return_op ∷ end ∷ function 4 ∷ label 5 ∷ call 6 4 ∷ return_op ∷ end ∷ []
+functions = function 1 ∷ label 2 ∷ call 3 4 ∷ return_op ∷ end ∷ function 4 ∷ label 5 ∷ call 6 4
+    ∷ return_op ∷ end ∷ []
 
 -- An entry point's function %1 calls %4, which calls itself.
 abbrev pub looped : List PlainInst

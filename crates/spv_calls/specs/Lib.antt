@@ -1,9 +1,5 @@
 pub mod Chain
 pub mod Calls
 pub mod Broken
-pub mod Graph
-pub mod Marks
-pub mod Components
-pub mod Ordered
-pub mod Found
 pub mod Example
+pub mod inner

@@ -18,14 +18,15 @@ use spv_layout::Plan;
 use spv_module::Module;
 use std::alloc::{AllocError, Global};
 
-/// The first OpFunctionCall that breaks G1 (own): a call in a definition f of a definition g, where a chain of calls leads
-/// from the function of an OpEntryPoint to f, and one leads from g back to f. Its number among the instructions, from 0;
-/// None where no call breaks the rule. `plan` and `ids` are what `lay_out` and `number` answered of the module.
+/// The first OpFunctionCall that breaks G1 (own): a call in a definition f of a definition g, where a chain of calls
+/// leads from the function of an OpEntryPoint to f, and one leads from g back to f. Its number among the instructions,
+/// from 0; None where no call breaks the rule. `plan` and `ids` are what `lay_out` and `number` answered of the module.
 ///
-/// Calls in blocks that no branch leads to count. A call into a cycle from outside, and a cycle that no entry point leads
-/// to, break nothing.
+/// Calls in blocks that no branch leads to count. A call into a cycle from outside, and a cycle that no entry point
+/// leads to, break nothing.
 ///
-/// Time is linear in the words of the module, however many cycles there are. It takes no memory where the module has no call.
+/// Time is linear in the words of the module, however many cycles there are. It takes no memory where the module has no
+/// call.
 ///
 /// An `AllocError` comes only where a growth of memory was refused.
 pub fn first_cycle(

@@ -1,11 +1,14 @@
 //! The calls and entry points of a module.
 
-ghost use Rattle.std.specs.Prelude.{◌≡◌, ◌≤◌, ◌↔◌, ℕ, List, Some, length, map, slice_get, IsTrue, MatchOption, IfOk};
+ghost use Rattle.std.specs.Prelude.{◌≡◌, ◌≤◌, ◌↔◌, ℕ, List, Some, length, map, slice_get, IsTrue};
+ghost use Rattle.std.specs.Prelude.{MatchOption, IfOk};
 ghost use Rattle.spv_module.specs.Operand.{PlainInst};
 ghost use Rattle.spv_module.specs.Module.{plain_inst};
 ghost use Rattle.spv_layout.specs.Place.{IsDefinition};
 ghost use Rattle.spv_calls.specs.Calls.{IsCall};
-ghost use Rattle.spv_calls.specs.Found.{id_in, callee_in, entry_in, ArePlaces, AreNumbered, IsLate, IsOfDefinition, IsThatCall, AreCalls, AreEntries};
+ghost use Rattle.spv_calls.specs.inner.Found.{id_in, callee_in, entry_in, ArePlaces, IsLate, IsOfDefinition};
+ghost use Rattle.spv_calls.specs.inner.Found.{IsThatCall, AreCalls, AreEntries};
+ghost use Rattle.spv_ids.specs.Outcome.{AreNumbered};
 
 use crate::graph::Call;
 use spv_ids::Ids;
@@ -56,7 +59,9 @@ fn entry_of(inst: &Inst<'_>) -> Option<u32>
 
 /// The definition that an instruction is of, if it is of a class of sections 9 to 11.
 fn definition_of(plan: &Plan, inst: u32) -> Option<u32>
-    ensures { (is : List PlainInst) → ArePlaces is plan.now → MatchOption result ((f : ℕ) → IsLate is inst → ¬ (IsOfDefinition is inst f)) (IsOfDefinition is inst) }
+    ensures { (is : List PlainInst) → ArePlaces is plan.now
+        → MatchOption result ((f : ℕ) → IsLate is inst → ¬ (IsOfDefinition is inst f))
+        (IsOfDefinition is inst) }
 {
     let Some(place) = plan.at(inst) else {
         return None;
@@ -81,7 +86,8 @@ fn is_definition(plan: &Plan, inst: u32) -> bool
 /// The call that an instruction is.
 #[inline(always)]
 fn call_at(plan: &Plan, ids: &Ids, inst: &Inst<'_>, at: u32) -> Option<Call>
-    ensures { (is : List PlainInst) → ArePlaces is plan.now → AreNumbered is ids.now → slice_get is at ≡ Some (plain_inst inst.now)
+    ensures { (is : List PlainInst) → ArePlaces is plan.now → AreNumbered is ids.now
+        → slice_get is at ≡ Some (plain_inst inst.now)
         → MatchOption result ((f g : ℕ) → ¬ (IsCall is at f g)) (IsThatCall is at) }
 {
     let Some(id) = callee_of(inst) else {

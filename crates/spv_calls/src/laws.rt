@@ -12,17 +12,21 @@ ghost use Rattle.spv_calls.specs.Example.{functions, looped};
 
 /// The rule is first broken at one instruction at most.
 pub fn one_fault()
-    ensures { (is : List PlainInst) (q r : Rule) (m n : ℕ) → IsFirst (Broken is) 8 q m → IsFirst (Broken is) 8 r n → (q ≡ r) × (m ≡ n) }
+    ensures { (is : List PlainInst) (q r : Rule) (m n : ℕ) → IsFirst (Broken is) 8 q m → IsFirst (Broken is) 8 r n
+        → (q ≡ r) × (m ≡ n) }
 {}
 
 /// A chain that ends where another one begins goes on as that one.
 pub fn chains_join()
-    ensures { (is : List PlainInst) (f g h : ℕ) → Chain (Calls is) f g → Chain (Calls is) g h → Chain (Calls is) f h }
+    ensures { (is : List PlainInst) (f g h : ℕ) → Chain (Calls is) f g → Chain (Calls is) g h
+        → Chain (Calls is) f h }
 {}
 
-/// Where the rule is broken nowhere, no chain leads from a callee back to its caller, if an entry point leads to the caller.
+/// Where the rule is broken nowhere, no chain leads from a callee back to its caller, if an entry point leads to the
+/// caller.
 pub fn no_way_back()
-    ensures { (is : List PlainInst) (e f g : ℕ) → IsUnbroken (Broken is) 8 → IsEntryFunction is e → Chain (Calls is) e f → Calls is f g → ¬ (Chain (Calls is) g f) }
+    ensures { (is : List PlainInst) (e f g : ℕ) → IsUnbroken (Broken is) 8 → IsEntryFunction is e
+        → Chain (Calls is) e f → Calls is f g → ¬ (Chain (Calls is) g f) }
 {}
 
 /// An entry point's function that calls one which calls itself. The numbers of their OpFunctions are 1 and 6.
@@ -38,7 +42,8 @@ pub fn call_examples()
     // From %1 to %4, and not back.
     ensures chain { Chain (Calls looped) 1 6 }
     ensures no_chain { ¬ (Chain (Calls looped) 6 1) }
-    // The call of %4 in %4 breaks the rule: not so the call into the cycle from outside, or where no entry point leads to it.
+    // The call of %4 in %4 breaks the rule: not so the call into the cycle from outside, or where no entry point leads
+    // to it.
     ensures broken { Broken looped G1 8 }
     ensures outside { ¬ (Broken looped G1 3) }
     ensures not_reached { (n : ℕ) → ¬ (Broken functions G1 n) }

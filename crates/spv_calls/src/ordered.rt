@@ -1,7 +1,7 @@
 //! Calls that are in an order, so that none is on a cycle.
 
 ghost use Rattle.std.specs.Prelude.{◌<◌, IsTrue};
-ghost use Rattle.spv_calls.specs.Ordered.{Leads, AllLead, AreFalling, AreAcyclic};
+ghost use Rattle.spv_calls.specs.inner.Ordered.{Leads, AllLead, AreFalling, AreAcyclic};
 
 use crate::components::number_at;
 use crate::graph::Call;

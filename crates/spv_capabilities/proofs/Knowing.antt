@@ -11,7 +11,7 @@ use Rattle.std.proofs.lemmas.Bool.Decides.{nat_tests}
 use Rattle.std.proofs.lemmas.Option.{slice_get_within, slice_get-get_or, slice_get_read, get_or_from_slice_get}
 use Rattle.spv_capabilities.specs.declared.memo.Answer.{Answer}
 use Rattle.spv_capabilities.specs.declared.memo.Answer.TheVariants.{Unknown}
-use Rattle.spv_capabilities.specs.Known.{IsAnswer, answer_of, pair_cmp}
+use Rattle.spv_capabilities.specs.inner.Known.{IsAnswer, answer_of, pair_cmp}
 
 pub answer_tells : (b : Bool) (P : Type 0) → IsTrue b ↔ P → IsAnswer (answer_of b) P
 answer_tells true P e = e.0 refl

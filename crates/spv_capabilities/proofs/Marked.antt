@@ -8,7 +8,7 @@ use Rattle.spv_module.specs.Operand.{PlainInst}
 use Rattle.spv_ids.specs.Definition.{IsDefinedAt}
 use Rattle.spv_ids.specs.Outcome.{IsDefinitionOf, IsOnly}
 use Rattle.spv_capabilities.specs.Entry.{IsNamed}
-use Rattle.spv_capabilities.specs.Survey.{IsNamedBefore, AreMarked}
+use Rattle.spv_capabilities.specs.inner.Survey.{IsNamedBefore, AreMarked}
 
 -- below n, or n
 pub below_or : (k n : ℕ) → k < n + 1 → (k < n) ⊎ (k ≡ n)

@@ -4,7 +4,7 @@ use Rattle.std.specs.Prelude.{slice_get}
 use Rattle.spv_table.specs.declared.table.Enumerant.{Enumerant}
 use Rattle.spv_table.specs.Table.{enumerant_of}
 use Rattle.spv_table.specs.Lookups.{value_named, number_named}
-use Rattle.spv_table.specs.Implied.{Lists, Chain, capabilities_in}
+use Rattle.spv_table.specs.Implied.{Lists, CapabilityChain, capabilities_in}
 use Rattle.spv_table.proofs.Search.{in_cons}
 use Rattle.spv_module.specs.Operand.{PlainInst}
 use Rattle.spv_layout.specs.declared.class.Class.TheVariants.{Function, FunctionEnd, Label}
@@ -52,29 +52,29 @@ by_five a b e l =
     let names : l.enumerant.capabilities ≡ [] = sym (ap names_of is) in
     none_of l.name (subst (λ (ns : List (List ℕ)). Contains ns l.name) names l.listed)
 
-from_six : (a c : ℕ) → Chain small a c → a ≡ 6 → c ≡ 6
-from_six _ _ (Chain.here a) e = e
-from_six _ _ (Chain.step a b c l later) e = absurd (by_six a b e l)
+from_six : (a c : ℕ) → CapabilityChain small a c → a ≡ 6 → c ≡ 6
+from_six _ _ (CapabilityChain.here a) e = e
+from_six _ _ (CapabilityChain.step a b c l later) e = absurd (by_six a b e l)
 
-from_seven : (a c : ℕ) → Chain small a c → a ≡ 7 → (c ≡ 7) ⊎ (c ≡ 6)
-from_seven _ _ (Chain.here a) e = inl e
-from_seven _ _ (Chain.step a b c l later) e = inr (from_six b c later (by_seven a b e l))
+from_seven : (a c : ℕ) → CapabilityChain small a c → a ≡ 7 → (c ≡ 7) ⊎ (c ≡ 6)
+from_seven _ _ (CapabilityChain.here a) e = inl e
+from_seven _ _ (CapabilityChain.step a b c l later) e = inr (from_six b c later (by_seven a b e l))
 
-from_five : (a c : ℕ) → Chain small a c → a ≡ 5 → c ≡ 5
-from_five _ _ (Chain.here a) e = e
-from_five _ _ (Chain.step a b c l later) e = absurd (by_five a b e l)
+from_five : (a c : ℕ) → CapabilityChain small a c → a ≡ 5 → c ≡ 5
+from_five _ _ (CapabilityChain.here a) e = e
+from_five _ _ (CapabilityChain.step a b c l later) e = absurd (by_five a b e l)
 
 pub has_kernel : Has small vectors 6
-has_kernel = record { first = 7; declares = (0, omega arith, refl); chain = Chain.step 7 6 6 seven_lists (Chain.here 6) }
+has_kernel = record { first = 7; declares = (0, omega arith, refl); chain = CapabilityChain.step 7 6 6 seven_lists (CapabilityChain.here 6) }
 
 pub has_vectors : Has small vectors 7
-has_vectors = record { first = 7; declares = (0, omega arith, refl); chain = Chain.here 7 }
+has_vectors = record { first = 7; declares = (0, omega arith, refl); chain = CapabilityChain.here 7 }
 
 pub has_no_other : (c : ℕ) → c ≢ 7 → c ≢ 6 → ¬ (Has small vectors c)
 has_no_other c a b h = elim (from_seven h.first c h.chain (sym (one_of 7 h.first h.declares))) [ inl e ↦ a e | inr e ↦ b e ]
 
 pub has_linkage : Has small linked 5
-has_linkage = record { first = 5; declares = (0, omega arith, refl); chain = Chain.here 5 }
+has_linkage = record { first = 5; declares = (0, omega arith, refl); chain = CapabilityChain.here 5 }
 
 pub has_no_kernel : ¬ (Has small linked 6)
 has_no_kernel h = let e = from_five h.first 6 h.chain (sym (one_of 5 h.first h.declares)) in absurd (omega (arith, e))

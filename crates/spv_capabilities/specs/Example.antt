@@ -10,11 +10,15 @@ enumerant name value names = record { name = name; value = value; parameters = [
 
 -- Capability (kind 0): Linkage 5, Kernel 6, and Vector16 7, which lists Kernel
 abbrev pub capabilities : List Enumerant
-capabilities = enumerant (codes "Linkage") 5 [] ∷ enumerant (codes "Kernel") 6 [] ∷ enumerant (codes "Vector16") 7 (codes "Kernel" ∷ []) ∷ []
+capabilities = enumerant (codes "Linkage") 5 [] ∷ enumerant (codes "Kernel") 6 [] ∷ enumerant (codes "Vector16") 7
+    (codes "Kernel" ∷ []) ∷ []
 
--- MemoryAccess (kind 1): None 0 lists Linkage, Volatile (bit 1) Linkage and Kernel, Nontemporal (bit 4) a name that no capability bears
+-- MemoryAccess (kind 1): None 0 lists Linkage, Volatile (bit 1) Linkage and Kernel, Nontemporal (bit 4) a name that no
+-- capability bears
 abbrev pub accesses : List Enumerant
-accesses = enumerant (codes "None") 0 (codes "Linkage" ∷ []) ∷ enumerant (codes "Volatile") 1 (codes "Linkage" ∷ codes "Kernel" ∷ []) ∷ enumerant (codes "Nontemporal") 4 (codes "Unknown" ∷ []) ∷ []
+accesses =
+    enumerant (codes "None") 0 (codes "Linkage" ∷ []) ∷ enumerant (codes "Volatile") 1
+    (codes "Linkage" ∷ codes "Kernel" ∷ []) ∷ enumerant (codes "Nontemporal") 4 (codes "Unknown" ∷ []) ∷ []
 
 abbrev pub value_kind : List ℕ → List Enumerant → Sort
 value_kind name es = record { kind = record { name = name; category = ValueEnum; bases = [] }; enumerants = es }
@@ -24,7 +28,8 @@ abbrev pub small : Table
 small = record {
   kinds =
       value_kind (codes "Capability") capabilities ∷
-      record { kind = record { name = codes "MemoryAccess"; category = BitEnum; bases = [] }; enumerants = accesses } ∷
+      record { kind = record { name = codes "MemoryAccess"; category = BitEnum; bases = [] }; enumerants = accesses }
+      ∷
       value_kind (codes "LinkageType") [] ∷
       [];
   entries = (31, record { name = codes "OpTypeOpaque"; operands = []; capabilities = codes "Kernel" ∷ [] }) ∷ [];
@@ -61,6 +66,9 @@ kernel = entry ∷ void_function
 abbrev pub called : List PlainInst
 called = inst 57 (OfType 1 ∷ Result 6 ∷ Id 3 ∷ []) ∷ kernel
 
--- a declaration, which is decorated by a linkage type: OpDecorate %3 LinkageAttributes "f" and %3 = OpFunction %1 None %2
+-- a declaration, which is decorated by a linkage type: OpDecorate %3 LinkageAttributes "f" and %3 = OpFunction %1 None
+-- %2
 abbrev pub declaration : ℕ → List PlainInst
-declaration type = inst 71 (Id 3 ∷ Value 7 41 ∷ Text (codes "f") ∷ Value 2 type ∷ []) ∷ inst 54 (OfType 1 ∷ Result 3 ∷ Mask 8 0 ∷ Id 2 ∷ []) ∷ inst 56 [] ∷ []
+declaration type =
+    inst 71 (Id 3 ∷ Value 7 41 ∷ Text (codes "f") ∷ Value 2 type ∷ []) ∷ inst 54
+    (OfType 1 ∷ Result 3 ∷ Mask 8 0 ∷ Id 2 ∷ []) ∷ inst 56 [] ∷ []

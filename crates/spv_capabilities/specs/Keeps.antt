@@ -9,13 +9,14 @@ use Rattle.spv_capabilities.specs.Capable.{IsKernel, IsCapable}
 use Rattle.spv_capabilities.specs.Memory.{IsModel}
 use Rattle.spv_capabilities.specs.Entry.{HasEntry, IsSoundEntry, IsSoundMode, IsSoundLinkage}
 
--- E2 speaks of OpEntryPoint (15), OpExecutionMode (16) and OpFunction (54).
+-- E2 speaks of OpEntryPoint (15), OpExecutionMode (16) and OpFunction (54). [own]
 pub record KeepsEntries (G : Table) (is : List PlainInst) (n : ℕ) (i : PlainInst) : Type 0 where
   pub entry : i.opcode ≡ 15 → IsSoundEntry is i.operands
   pub mode : i.opcode ≡ 16 → IsSoundMode is i.operands
   pub linkage : i.opcode ≡ 54 → IsSoundLinkage G is n
 
--- What a rule demands of the instruction i of number n; C1, M1 and E1 are asked at OpMemoryModel (14). The other rules demand nothing here.
+-- What a rule demands of the instruction i of number n; C1, M1 and E1 are asked at OpMemoryModel (14). The other rules
+-- demand nothing here. [own]
 abbrev pub Keeps : Table → List PlainInst → Rule → ℕ → PlainInst → Type 0
 Keeps G is rule.C1 n i = i.opcode ≡ 14 → IsKernel G is
 Keeps G is rule.C2 n i = IsCapable G is i

@@ -5,7 +5,8 @@ ghost use Rattle.spv_table.specs.Table.{enumerant_of, kind_of};
 ghost use Rattle.spv_table.specs.Lookups.{value_named, number_named};
 ghost use Rattle.spv_table.specs.Implied.{capabilities_in};
 ghost use Rattle.spv_module.specs.Module.{plain_inst, plain_operands};
-ghost use Rattle.spv_capabilities.specs.Capable.{Has, HasNamed, HasNeeded, IsKernel, IsCovered, IsCoveredEntry, IsCoveredValue, int_needs, float_needs, vector_needs, needs_of};
+ghost use Rattle.spv_capabilities.specs.Capable.{Has, HasNamed, HasNeeded, IsKernel, IsCovered, IsCoveredEntry};
+ghost use Rattle.spv_capabilities.specs.Capable.{IsCoveredValue, int_needs, float_needs, vector_needs, needs_of};
 
 use crate::surveyed::Survey;
 use spv_module::{Inst, Operand};
@@ -28,7 +29,8 @@ fn capability(survey: &Survey<'_, '_>, name: &Name) -> Option<u32>
 
 /// Whether the module has the capability of a name.
 fn has_name(survey: &Survey<'_, '_>, name: &Name) -> bool
-    ensures { IsTrue result ↔ IsSomeAnd (value_named (capabilities_in survey.now.table) name.now) (Has survey.now.table survey.now.insts) }
+    ensures { IsTrue result ↔ IsSomeAnd (value_named (capabilities_in survey.now.table) name.now)
+        (Has survey.now.table survey.now.insts) }
 {
     match capability(survey, name) {
         Some(capability) => survey.has(capability),
@@ -89,7 +91,9 @@ pub fn is_covered_value(survey: &Survey<'_, '_>, kind: u32, value: u32) -> bool
 /// Whether the enumerant of a value of a kind, if there is one, lists no capabilities.
 #[inline(always)]
 pub fn asks_nothing(survey: &Survey<'_, '_>, kind: u32, value: u32) -> bool
-    ensures exactly { IsTrue result ↔ IfSome (option_and_then (λ s. enumerant_of s.enumerants value) (kind_of survey.now.table kind)) (λ e. e.capabilities ≡ []) }
+    ensures exactly { IsTrue result ↔ IfSome
+        (option_and_then (λ s. enumerant_of s.enumerants value) (kind_of survey.now.table kind))
+        (λ e. e.capabilities ≡ []) }
     ensures covered { IsTrue result → IsCoveredValue survey.now.table survey.now.insts kind value }
 {
     match survey.table().enumerant(kind, value) {
@@ -111,7 +115,8 @@ fn has_int_needs(survey: &Survey<'_, '_>, operands: &[Operand<'_>]) -> bool
 
 /// Whether the module has a capability of a float's width.
 fn has_float_needs(survey: &Survey<'_, '_>, operands: &[Operand<'_>]) -> bool
-    ensures { IsTrue result ↔ HasNeeded survey.now.table survey.now.insts (float_needs (plain_operands operands.now)) }
+    ensures { IsTrue result ↔ HasNeeded survey.now.table survey.now.insts
+        (float_needs (plain_operands operands.now)) }
 {
     match operands {
         [Operand::Result(_), Operand::Word(16), ..] => survey.has(8) || survey.has(9),
@@ -122,7 +127,8 @@ fn has_float_needs(survey: &Survey<'_, '_>, operands: &[Operand<'_>]) -> bool
 
 /// Whether the module has the capability of a vector's count.
 fn has_vector_needs(survey: &Survey<'_, '_>, operands: &[Operand<'_>]) -> bool
-    ensures { IsTrue result ↔ HasNeeded survey.now.table survey.now.insts (vector_needs (plain_operands operands.now)) }
+    ensures { IsTrue result ↔ HasNeeded survey.now.table survey.now.insts
+        (vector_needs (plain_operands operands.now)) }
 {
     match operands {
         [

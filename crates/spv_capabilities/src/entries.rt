@@ -10,8 +10,8 @@ ghost use Rattle.spv_capabilities.specs.Capable.{IsKernel};
 ghost use Rattle.spv_capabilities.specs.Memory.{IsModel};
 ghost use Rattle.spv_capabilities.specs.Entry.{HasEntry};
 ghost use Rattle.spv_capabilities.specs.Keeps.{IsFirstAt};
-ghost use Rattle.spv_capabilities.specs.Known as known;
-ghost use Rattle.spv_capabilities.specs.Known.{IsKnown};
+ghost use Rattle.spv_capabilities.specs.inner.Known as known;
+ghost use Rattle.spv_capabilities.specs.inner.Known.{IsKnown};
 
 use crate::capable::is_kernel;
 use crate::entry::{has_entry, is_model, keeps_entries, keeps_linkage};
@@ -27,7 +27,8 @@ use std::marker::Model;
 /// The opcode of OpMemoryModel.
 const MEMORY_MODEL: u16 = 14;
 
-/// A module whose instructions are judged by the rules C1, C2, M1, E1 and E2. Contracts see the grammar table and the instructions.
+/// A module whose instructions are judged by the rules C1, C2, M1, E1 and E2. Contracts see the grammar table and the
+/// instructions.
 ///
 /// What a table's entries and enumerants ask for is looked up once: at the first instruction that has one.
 #[derive(Drop)]
@@ -38,8 +39,8 @@ pub struct Entries<'m, 'a> {
 }
 
 impl<'m, 'a> Model for Entries<'m, 'a> {
-    ghost use Rattle.spv_capabilities.specs.Subject.{Subject};
-    ghost use Rattle.spv_capabilities.specs.Known.{IsKnown};
+    ghost use Rattle.spv_capabilities.specs.inner.Subject.{Subject};
+    ghost use Rattle.spv_capabilities.specs.inner.Known.{IsKnown};
 
     ghost Value = { Subject };
 
@@ -48,8 +49,8 @@ impl<'m, 'a> Model for Entries<'m, 'a> {
     ghost invariant = { λ e. IsKnown e.survey e.memo };
 }
 
-/// Surveys a module, once, before its instructions are judged. `plan` is what `lay_out` answered of that module, by some table,
-/// and `ids` what `number` answered.
+/// Surveys a module, once, before its instructions are judged. `plan` is what `lay_out` answered of that module, by
+/// some table, and `ids` what `number` answered.
 ///
 /// Time is linear in the instructions, besides what the capabilities take that are declared.
 ///
@@ -92,7 +93,6 @@ fn keeps_entry(survey: &Survey<'_, '_>, inst: &Inst<'_>) -> bool
 }
 
 /// The first of the five rules that is broken at an instruction of a number, whichever speak of it.
-#[tactic(auto, using(crate::proofs::Firsts::all_kept, crate::proofs::Firsts::kept_before_c1, crate::proofs::Firsts::kept_before_c2, crate::proofs::Firsts::kept_before_m1, crate::proofs::Firsts::kept_before_e1, crate::proofs::Firsts::kept_before_e2))]
 #[inline(never)]
 fn first_of_several(
     survey: &Survey<'_, '_>,
@@ -123,7 +123,8 @@ fn first_of_several(
     Ok(None)
 }
 
-/// Whether a rule other than C2 speaks of an opcode other than that of OpFunction, or C2 asks for a width or a count there.
+/// Whether a rule other than C2 speaks of an opcode other than that of OpFunction, or C2 asks for a width or a count
+/// there.
 #[inline(always)]
 fn is_asked_more(opcode: u16) -> bool
     ensures { result ≡ known.is_asked_more opcode }
@@ -134,8 +135,8 @@ fn is_asked_more(opcode: u16) -> bool
     }
 }
 
-/// The first of the five rules that is broken at an instruction of a number. At most instructions only C2 may be, by its entry and its
-/// operands, and at an OpFunction E2.
+/// The first of the five rules that is broken at an instruction of a number. At most instructions only C2 may be, by
+/// its entry and its operands, and at an OpFunction E2.
 #[inline(always)]
 fn first_of(
     survey: &Survey<'_, '_>,
@@ -161,24 +162,30 @@ fn first_of(
 }
 
 impl<'m, 'a> Entries<'m, 'a> {
-    /// The first of the rules C1, C2, M1, E1 and E2, in this order, that is broken at the instruction of a number, from 0; or none
-    /// where none of them is.
+    /// The first of the rules C1, C2, M1, E1 and E2, in this order, that is broken at the instruction of a number, from
+    /// 0; or none where none of them is.
     ///
     /// - C1, at OpMemoryModel: the module has not Kernel, or it has Shader (2.16.1, 3.31).
-    /// - C2: the entry of the instruction in the grammar table, or an enumerant or a set bit among its operands other than those of
-    ///   kind Capability, lists capabilities of which the module has none; or the module has not the capability of a type's width or
+    /// - C2: the entry of the instruction in the grammar table, or an enumerant or a set bit among its operands other
+    ///   than those of
+    /// kind Capability, lists capabilities of which the module has none; or the module has not the capability of a
+    ///   type's width or
     ///   of a vector's count (3.31; those of widths and counts own).
-    /// - M1, at OpMemoryModel: the addressing model is not Physical32 or Physical64, or the memory model is not OpenCL (own).
+    /// - M1, at OpMemoryModel: the addressing model is not Physical32 or Physical64, or the memory model is not OpenCL
+    ///   (own).
     /// - E1, at OpMemoryModel: there is no OpEntryPoint, and the module has not Linkage (2.16.1).
-    /// - E2: an OpEntryPoint of another model than Kernel, or of a function that is no definition, does not return void, or is
-    ///   called; an OpExecutionMode of a function that is no entry point's; an OpFunction of a declaration that is not imported, or
+    /// - E2: an OpEntryPoint of another model than Kernel, or of a function that is no definition, does not return
+    ///   void, or is
+    /// called; an OpExecutionMode of a function that is no entry point's; an OpFunction of a declaration that is not
+    ///   imported, or
     ///   of a definition that is (2.4, 2.16.1, 3.17).
     ///
     /// `Memory` comes only where a growth of memory was refused: what enumerants ask for is kept.
     #[inline(always)]
     pub fn first_at(&mut self, inst: u32) -> Result<Option<Rule>, Memory>
         requires { inst < length self.old.insts }
-        ensures first { IfOk result (λ o. (i : PlainInst) → slice_get self.old.insts inst ≡ Some i → IsFirstAt self.old.table self.old.insts inst i o) }
+        ensures first { IfOk result (λ o. (i : PlainInst) → slice_get self.old.insts inst ≡ Some i
+            → IsFirstAt self.old.table self.old.insts inst i o) }
         ensures same { self.new ≡ self.old }
     {
         let held = self.survey.inst(inst);

@@ -7,7 +7,8 @@ ghost use Rattle.spv_layout.specs.Place.{IsDefinition};
 ghost use Rattle.spv_ids.specs.Definition.{IsDefinedAt};
 ghost use Rattle.spv_ids.specs.Order.{HasOpcode};
 ghost use Rattle.spv_capabilities.specs.Memory.{IsModel};
-ghost use Rattle.spv_capabilities.specs.Entry.{HasEntry, ReturnsVoid, IsCalled, IsEntered, IsKernelFunction, IsSoundEntry, IsSoundMode, IsSoundLinkage};
+ghost use Rattle.spv_capabilities.specs.Entry.{HasEntry, ReturnsVoid, IsCalled, IsEntered, IsKernelFunction};
+ghost use Rattle.spv_capabilities.specs.Entry.{IsSoundEntry, IsSoundMode, IsSoundLinkage};
 ghost use Rattle.spv_capabilities.specs.Keeps.{KeepsEntries};
 
 use crate::surveyed::Survey;
@@ -81,7 +82,8 @@ pub fn returns_void(survey: &Survey<'_, '_>, function: u32) -> bool
 /// Whether a function may be that of an entry point.
 fn may_enter(survey: &Survey<'_, '_>, function: u32) -> bool
     requires { function < length survey.now.insts }
-    ensures { IsTrue result ↔ (IsDefinition survey.now.insts function × ReturnsVoid survey.now.insts function × (¬ (IsCalled survey.now.insts function))) }
+    ensures { IsTrue result ↔ (IsDefinition survey.now.insts function × ReturnsVoid survey.now.insts function
+        × (¬ (IsCalled survey.now.insts function))) }
 {
     survey.is_definition(function) && returns_void(survey, function) && !survey.is_called(function)
 }

@@ -1,12 +1,13 @@
 //! What is gathered of a module's instructions.
 
-ghost use Rattle.std.specs.Prelude.{◌≡◌, ◌+◌, ◌&&◌, ℕ, List, Option, Some, IfOk, OnOk, length, map, nat_eq, slice_get};
+ghost use Rattle.std.specs.Prelude.{◌≡◌, ◌+◌, ◌&&◌, ℕ, List, Option, Some, IfOk, OnOk, length, map};
+ghost use Rattle.std.specs.Prelude.{nat_eq, slice_get};
 ghost use Rattle.spv_module.specs.Operand.{PlainInst};
 ghost use Rattle.spv_module.specs.Module.{plain_inst, plain_operands};
 ghost use Rattle.spv_ids.specs.Outcome.{IsDefinitionOf, definition_in};
 ghost use Rattle.spv_capabilities.specs.Capable as capable;
 ghost use Rattle.spv_capabilities.specs.Entry as spec;
-ghost use Rattle.spv_capabilities.specs.Survey.{AreGathered, AreMarked};
+ghost use Rattle.spv_capabilities.specs.inner.Survey.{AreGathered, AreMarked};
 
 use spv_ids::Ids;
 use spv_module::{Inst, Operand};
@@ -105,7 +106,9 @@ fn linked_id(linkage: Option<u32>, operands: &[Operand<'_>]) -> Option<u32>
 
 /// Marks what defines an id, if there is an id.
 fn mark(marks: &mut Vec<bool>, ids: &Ids, id: Option<u32>)
-    ensures { (names : PlainInst → Option ℕ) (is : List PlainInst) (to : ℕ) (i : PlainInst) → ((x : ℕ) → IsDefinitionOf is x (definition_in ids.now x)) → slice_get is to ≡ Some i → names i ≡ id
+    ensures { (names : PlainInst → Option ℕ) (is : List PlainInst) (to : ℕ) (i : PlainInst)
+        → ((x : ℕ) → IsDefinitionOf is x (definition_in ids.now x)) → slice_get is to ≡ Some i
+        → names i ≡ id
         → AreMarked names is to marks.old.items → AreMarked names is (to + 1) marks.new.items }
 {
     let Some(id) = id else {
@@ -123,7 +126,8 @@ fn mark(marks: &mut Vec<bool>, ids: &Ids, id: Option<u32>)
 impl Gathered {
     /// Nothing is gathered yet of so many instructions.
     fn new(alloc: Global, count: usize) -> Result<Gathered, AllocError>
-        ensures { IfOk result (λ g. (linkage : Option ℕ) (is : List PlainInst) → length is ≡ count → AreGathered linkage is 0 g) }
+        ensures { IfOk result (λ g. (linkage : Option ℕ) (is : List PlainInst) → length is ≡ count
+            → AreGathered linkage is 0 g) }
     {
         Ok(Gathered {
             declared: Vec::new(alloc),
@@ -136,7 +140,9 @@ impl Gathered {
 
     /// Gathers of one instruction more, where the kind LinkageType has that number.
     fn add(&mut self, ids: &Ids, linkage: Option<u32>, inst: &Inst<'_>) -> Result<(), AllocError>
-        ensures { OnOk result ((is : List PlainInst) (to : ℕ) → ((x : ℕ) → IsDefinitionOf is x (definition_in ids.now x)) → slice_get is to ≡ Some (plain_inst inst.now)
+        ensures { OnOk result ((is : List PlainInst) (to : ℕ)
+            → ((x : ℕ) → IsDefinitionOf is x (definition_in ids.now x))
+            → slice_get is to ≡ Some (plain_inst inst.now)
             → AreGathered linkage is to self.old → AreGathered linkage is (to + 1) self.new) }
     {
         match inst.opcode {

@@ -7,7 +7,8 @@ ghost use Rattle.spv_capabilities.specs.Memory.{IsModel};
 ghost use Rattle.spv_capabilities.specs.Keeps.{Keeps, IsFirstAt};
 ghost use Rattle.spv_module.specs.declared.fault.Rule.TheVariants as rule;
 ghost use Rattle.spv_capabilities.specs.Entry.{HasEntry, IsKernelFunction, IsSoundEntry, IsSoundMode, IsSoundLinkage};
-ghost use Rattle.spv_capabilities.specs.Example.{small, inst, vectors, linked, entry, void_function, kernel, called, declaration};
+ghost use Rattle.spv_capabilities.specs.Example.{small, inst, vectors, linked, entry, void_function, kernel, called};
+ghost use Rattle.spv_capabilities.specs.Example.{declaration};
 
 /// Capabilities that a module has, by the small table: what lists Kernel implies it.
 pub fn capability_examples()
@@ -21,7 +22,8 @@ pub fn capability_examples()
 pub fn covered_examples()
     ensures entry { IsCoveredEntry small vectors 31 }
     ensures no_entry { ¬ (IsCoveredEntry small linked 31) }
-    // Volatile lists Linkage and Kernel, of which the module has one; Nontemporal lists a name that no capability bears.
+    // Volatile lists Linkage and Kernel, of which the module has one; Nontemporal lists a name that no capability
+    // bears.
     ensures one_of_two { IsCoveredOperand small vectors (Mask 1 1) }
     ensures unknown_name { ¬ (IsCoveredOperand small vectors (Mask 1 5)) }
     // The name of no bit is not asked for, and nor is that of a capability.

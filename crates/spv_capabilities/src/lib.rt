@@ -1,5 +1,5 @@
-//! The rules on capabilities, the memory model and entry points: C1, C2, M1, E1 and E2 (SPIR-V Specification 1.6, sections 2.4,
-//! 2.16.1 and 3.31).
+//! The rules on capabilities, the memory model and entry points: C1, C2, M1, E1 and E2 (SPIR-V Specification 1.6,
+//! sections 2.4, 2.16.1 and 3.31).
 #![tactic(auto)]
 
 mod capable;

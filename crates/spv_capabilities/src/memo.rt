@@ -1,11 +1,13 @@
 //! What was asked of a table's entries and enumerants, and the rule C2.
 
-ghost use Rattle.std.specs.Prelude.{◌≡◌, ◌↔◌, ◌^◌, ◌/◌, ◌%◌, ◌<◌, IsTrue, IfOk, nat_eq, true};
+ghost use Rattle.std.specs.Prelude.{◌≡◌, ◌↔◌, ◌^◌, ◌/◌, ◌%◌, ◌<◌, IsTrue, IfOk, nat_eq};
+ghost use Rattle.std.specs.Prelude.{true};
 ghost use Rattle.std.specs.List.{AllByRecursion};
 ghost use Rattle.spv_module.specs.Module.{plain_inst, plain_operand, plain_operands};
-ghost use Rattle.spv_capabilities.specs.Subject.{Subject};
-ghost use Rattle.spv_capabilities.specs.Capable.{IsCoveredEntry, IsCoveredValue, IsCoveredMask, IsOtherKind, IsCoveredOperand, IsCapable};
-ghost use Rattle.spv_capabilities.specs.Known.{IsKnown, AreCovered, answer_of};
+ghost use Rattle.spv_capabilities.specs.inner.Subject.{Subject};
+ghost use Rattle.spv_capabilities.specs.Capable.{IsCoveredEntry, IsCoveredValue, IsCoveredMask, IsOtherKind};
+ghost use Rattle.spv_capabilities.specs.Capable.{IsCoveredOperand, IsCapable};
+ghost use Rattle.spv_capabilities.specs.inner.Known.{IsKnown, AreCovered, answer_of};
 
 use crate::capable::{
     asks_nothing, has_needed, is_capability_kind, is_covered_entry, is_covered_value,
@@ -159,7 +161,9 @@ impl Memo {
     ) -> Result<bool, Memory>
         requires known { IsKnown survey.now self.old }
         requires position { position < 32 }
-        ensures answer { IfOk result (λ b. IsTrue b ↔ (nat_eq (bits % 2) 1 ≡ true → IsCoveredValue survey.now.table survey.now.insts kind (2 ^ position))) }
+        ensures answer { IfOk result (λ b. IsTrue b
+            ↔ (nat_eq (bits % 2) 1 ≡ true
+            → IsCoveredValue survey.now.table survey.now.insts kind (2 ^ position))) }
         ensures known { IsKnown survey.now self.new }
     {
         if !is_odd(bits) {
@@ -195,7 +199,8 @@ impl Memo {
     #[inline(never)]
     fn ask_mask(&mut self, survey: &Survey<'_, '_>, kind: u32, mask: u32) -> Result<bool, Memory>
         requires { IsKnown survey.now self.old }
-        ensures answer { IfOk result (λ b. IsTrue b ↔ (IsOtherKind survey.now.table kind → IsCoveredMask survey.now.table survey.now.insts kind mask)) }
+        ensures answer { IfOk result (λ b. IsTrue b
+            ↔ (IsOtherKind survey.now.table kind → IsCoveredMask survey.now.table survey.now.insts kind mask)) }
         ensures known { IsKnown survey.now self.new }
     {
         if is_capability_kind(survey, kind) {
@@ -218,7 +223,8 @@ impl Memo {
         mask: u32,
     ) -> Result<bool, Memory>
         requires { IsKnown survey.now self.old }
-        ensures answer { IfOk result (λ b. IsTrue b ↔ (IsOtherKind survey.now.table kind → IsCoveredMask survey.now.table survey.now.insts kind mask)) }
+        ensures answer { IfOk result (λ b. IsTrue b
+            ↔ (IsOtherKind survey.now.table kind → IsCoveredMask survey.now.table survey.now.insts kind mask)) }
         ensures known { IsKnown survey.now self.new }
     {
         if mask == self.mask && kind == self.mask_kind {
@@ -235,7 +241,8 @@ impl Memo {
         operand: &Operand<'_>,
     ) -> Result<bool, Memory>
         requires { IsKnown survey.now self.old }
-        ensures answer { IfOk result (λ b. IsTrue b ↔ IsCoveredOperand survey.now.table survey.now.insts (plain_operand operand.now)) }
+        ensures answer { IfOk result (λ b. IsTrue b
+            ↔ IsCoveredOperand survey.now.table survey.now.insts (plain_operand operand.now)) }
         ensures known { IsKnown survey.now self.new }
     {
         match operand {
@@ -257,7 +264,8 @@ impl Memo {
         operands: &[Operand<'_>],
     ) -> Result<bool, Memory>
         requires { IsKnown survey.now self.old }
-        ensures answer { IfOk result (λ b. IsTrue b ↔ AllByRecursion (IsCoveredOperand survey.now.table survey.now.insts) (plain_operands operands.now)) }
+        ensures answer { IfOk result (λ b. IsTrue b
+            ↔ AllByRecursion (IsCoveredOperand survey.now.table survey.now.insts) (plain_operands operands.now)) }
         ensures known { IsKnown survey.now self.new }
     {
         for operand in operands {
@@ -272,7 +280,8 @@ impl Memo {
     #[inline(always)]
     pub fn are_covered(&mut self, survey: &Survey<'_, '_>, inst: &Inst<'_>) -> Result<bool, Memory>
         requires { IsKnown survey.now self.old }
-        ensures answer { IfOk result (λ b. IsTrue b ↔ AreCovered survey.now.table survey.now.insts (plain_inst inst.now)) }
+        ensures answer { IfOk result (λ b. IsTrue b
+            ↔ AreCovered survey.now.table survey.now.insts (plain_inst inst.now)) }
         ensures known { IsKnown survey.now self.new }
     {
         if !self.is_covered_entry(survey, inst.opcode) {
@@ -284,7 +293,8 @@ impl Memo {
     /// Whether C2 is unbroken at an instruction.
     pub fn is_capable(&mut self, survey: &Survey<'_, '_>, inst: &Inst<'_>) -> Result<bool, Memory>
         requires { IsKnown survey.now self.old }
-        ensures answer { IfOk result (λ b. IsTrue b ↔ IsCapable survey.now.table survey.now.insts (plain_inst inst.now)) }
+        ensures answer { IfOk result (λ b. IsTrue b
+            ↔ IsCapable survey.now.table survey.now.insts (plain_inst inst.now)) }
         ensures known { IsKnown survey.now self.new }
     {
         if !has_needed(survey, inst) {

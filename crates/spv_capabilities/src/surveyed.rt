@@ -1,6 +1,7 @@
 //! A module that is surveyed: which capabilities it has, and which of its functions are called, entered and imported.
 
-ghost use Rattle.std.specs.Prelude.{◌≡◌, ◌↔◌, ◌<◌, ℕ, List, Option, IsTrue, IfOk, Some, codes, length, map, slice_get};
+ghost use Rattle.std.specs.Prelude.{◌≡◌, ◌↔◌, ◌<◌, ℕ, List, Option, IsTrue, IfOk, Some, codes};
+ghost use Rattle.std.specs.Prelude.{length, map, slice_get};
 ghost use Rattle.spv_table.specs.Table.{Table};
 ghost use Rattle.spv_table.specs.Lookups.{number_named};
 ghost use Rattle.spv_module.specs.Operand.{PlainInst};
@@ -11,7 +12,7 @@ ghost use Rattle.spv_ids.specs.Order.{HasOpcode};
 ghost use Rattle.spv_ids.specs.Outcome.{IsDefinitionOf, definition_in};
 ghost use Rattle.spv_capabilities.specs.Capable.{Has};
 ghost use Rattle.spv_capabilities.specs.Entry.{IsNamed, IsCalled, IsEntered, IsImported};
-ghost use Rattle.spv_capabilities.specs.Survey.{AreMarked};
+ghost use Rattle.spv_capabilities.specs.inner.Survey.{AreMarked};
 
 use crate::gather::{Gathered, gather};
 use spv_ids::Ids;
@@ -42,8 +43,8 @@ pub struct Survey<'m, 'a> {
 impl<'m, 'a> Model for Survey<'m, 'a> {
     ghost use Rattle.std.specs.Prelude.{map};
     ghost use Rattle.spv_module.specs.Module.{plain_inst};
-    ghost use Rattle.spv_capabilities.specs.Subject.{Subject};
-    ghost use Rattle.spv_capabilities.specs.Survey.{IsSurvey};
+    ghost use Rattle.spv_capabilities.specs.inner.Subject.{Subject};
+    ghost use Rattle.spv_capabilities.specs.inner.Survey.{IsSurvey};
 
     ghost Value = { Subject };
 
@@ -172,7 +173,8 @@ fn is_defined(place: Place, function: u32) -> bool
 /// Whether an instruction is marked.
 #[inline(always)]
 fn is_marked(marks: &[bool], inst: u32) -> bool
-    ensures { (names : PlainInst → Option ℕ) (is : List PlainInst) → AreMarked names is (length is) marks.now → IsTrue result ↔ IsNamed names is inst }
+    ensures { (names : PlainInst → Option ℕ) (is : List PlainInst) → AreMarked names is (length is) marks.now
+        → IsTrue result ↔ IsNamed names is inst }
 {
     match marks.get(inst as usize) {
         Some(mark) => *mark,

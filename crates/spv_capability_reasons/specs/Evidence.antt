@@ -45,13 +45,16 @@ pub data IsUnsound (G : Table) (is : List PlainInst) (n : ℕ) (i : PlainInst) :
   model : i.opcode ≡ 15 → ((k m : ℕ) → slice_get i.operands 0 ≡ Some (Value k m) → m ≢ 6)
       → IsUnsound G is n i part.Model
   -- its function is not that of a definition
-  declared : i.opcode ≡ 15 → ((x f : ℕ) → entered_by i ≡ Some x → IsDefinedAt is x f → ¬ (IsDefinition is f))
+  declared : i.opcode ≡ 15
+      → ((x f : ℕ) → entered_by i ≡ Some x → IsDefinedAt is x f → ¬ (IsDefinition is f))
       → IsUnsound G is n i part.Declared
   -- its function does not return void
-  returns : i.opcode ≡ 15 → ((x f : ℕ) → entered_by i ≡ Some x → IsDefinedAt is x f → ¬ (ReturnsVoid is f))
+  returns : i.opcode ≡ 15
+      → ((x f : ℕ) → entered_by i ≡ Some x → IsDefinedAt is x f → ¬ (ReturnsVoid is f))
       → IsUnsound G is n i part.Returns
   -- instruction c, an OpFunctionCall, calls its function
-  called : (x c : ℕ) (call : PlainInst) → entered_by i ≡ Some x → slice_get is c ≡ Some call → called_by call ≡ Some x
+  called : (x c : ℕ) (call : PlainInst) → entered_by i ≡ Some x → slice_get is c ≡ Some call
+      → called_by call ≡ Some x
       → IsUnsound G is n i (part.Called c)
   -- the function of the OpExecutionMode is that of no OpEntryPoint
   unnamed : i.opcode ≡ 16 → ¬ (IsSoundMode is i.operands) → IsUnsound G is n i part.Unnamed
@@ -63,7 +66,8 @@ pub data IsUnsound (G : Table) (is : List PlainInst) (n : ℕ) (i : PlainInst) :
 -- The evidence shows that the rule is broken at instruction n. C1, M1 and E1 are asked at OpMemoryModel (14).
 pub data IsEvidence (G : Table) (is : List PlainInst) : Rule → ℕ → Evidence → Type 0 where
   -- the module has not Kernel (6)
-  no_kernel : (n : ℕ) → HasOpcode is n 14 → ¬ (Has G is 6) → IsEvidence G is rule.C1 n (evidence.Capability 6 false)
+  no_kernel : (n : ℕ) → HasOpcode is n 14 → ¬ (Has G is 6)
+      → IsEvidence G is rule.C1 n (evidence.Capability 6 false)
   -- the module has Shader (1)
   shader : (n : ℕ) → HasOpcode is n 14 → Has G is 1 → IsEvidence G is rule.C1 n (evidence.Capability 1 true)
   -- what lists capabilities is not covered

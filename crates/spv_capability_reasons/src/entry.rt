@@ -1,6 +1,7 @@
 //! The rule E2: which part of it an OpEntryPoint, an OpExecutionMode or an OpFunction breaks.
 
-ghost use Rattle.std.specs.Prelude.{◌≡◌, ◌↔◌, ◌≤◌, ◌<◌, ℕ, IsTrue, MatchOption, Some, length, map, slice_get};
+ghost use Rattle.std.specs.Prelude.{◌≡◌, ◌↔◌, ◌≤◌, ◌<◌, ℕ, IsTrue, MatchOption, Some, length};
+ghost use Rattle.std.specs.Prelude.{map, slice_get};
 ghost use Rattle.spv_module.specs.Operand.{PlainInst};
 ghost use Rattle.spv_module.specs.Module.{plain_inst, plain_operands};
 ghost use Rattle.spv_layout.specs.Place.{IsDefinition};

@@ -51,8 +51,8 @@ fn evidence_at(
 /// The evidence for the rule C1, C2, M1, E1 or E2 that is broken at the instruction of a number, from 0. `plan` is what
 /// `lay_out` answered of that module, by some table, and `ids` what `number` answered.
 ///
-/// Time is linear in the instructions, besides what the capabilities take that are declared, and in the operands of that
-/// instruction.
+/// Time is linear in the instructions, besides what the capabilities take that are declared, and in the operands of
+/// that instruction.
 ///
 /// `Memory` comes only where a growth of memory was refused.
 pub fn capability_evidence(

@@ -1,6 +1,7 @@
 //! The rule C2: which entry, value, bit or width lists capabilities of which the module has none.
 
-ghost use Rattle.std.specs.Prelude.{◌≡◌, ◌<◌, ◌/◌, ◌%◌, ◌^◌, ◌↔◌, IsTrue, MatchOption, Some, length, slice_get};
+ghost use Rattle.std.specs.Prelude.{◌≡◌, ◌<◌, ◌/◌, ◌%◌, ◌^◌, ◌↔◌, IsTrue, MatchOption};
+ghost use Rattle.std.specs.Prelude.{Some, length, slice_get};
 ghost use Rattle.std.specs.List.{AllByRecursion};
 ghost use Rattle.spv_module.specs.Operand.{PlainInst, Value, Mask};
 ghost use Rattle.spv_module.specs.Module.{plain_inst, plain_operand, plain_operands};

@@ -20,7 +20,8 @@ use Rattle.spv_commands.specs.declared.command_line.Task.{Task}
 use Rattle.spv_commands.specs.declared.command_line.Task.TheVariants as tasks
 use Rattle.spv_commands.specs.declared.command_line.UseError.{UseError}
 use Rattle.spv_commands.specs.declared.command_line.UseError.TheVariants.{U1, U2, U3, U4}
-use Rattle.spv_commands.specs.CommandLine.{Answers, IsAsked, IsAsmOf, IsCodeOf, IsCommandOf, IsEach, IsNoCommand, IsRules, IsRulesOf, IsTraceOf, error_of, inputs_among, program, task_name, text_in, texts_in}
+use Rattle.spv_commands.specs.CommandLine.{Answers, IsAsked, IsCodeOf, IsCommandOf, IsEach, IsNoCommand, IsRules, error_of, inputs_among, program, task_name, text_in, texts_in}
+use Rattle.spv_commands.specs.inner.CommandLine.{IsAsmOf, IsRulesOf, IsTraceOf}
 use Rattle.spv_reasons.specs.Rules.{name_of}
 use Rattle.spv_reasons.specs.declared.rules.Code.{Code}
 use Rattle.spv_commands.specs.Number.{AreNumbers, AreNumbersOf, IsNumber, IsNumberOf}

@@ -3,7 +3,7 @@ use Rattle.std.proofs.Common.{◌≡◌, ◌<◌, ◌*◌, ◌≤◌, ◌++◌, 
 use Rattle.std.proofs.lemmas.Fmt.{decimal_digit}
 use Rattle.std.specs.Io.KnownBytes.{Appends, Consumes, IsAtEnd}
 use Rattle.std.proofs.KnownBytes.{Keeps-refl}
-use Rattle.spv_words.specs.Streams.{Holds}
+use Rattle.spv_words.specs.Streams.{HoldsBytes}
 use Rattle.spv_words.proofs.Gathered.{ends}
 use Rattle.spv_words.specs.declared.words.Order.{Order}
 use Rattle.spv_table.specs.Table.{Table}
@@ -12,9 +12,9 @@ use Rattle.spv_lines.specs.Text.{lines_of}
 use Rattle.spv_lines.specs.declared.asm_error.AsmError.{AsmError}
 use Rattle.spv_lines.specs.declared.asm_error.AsmCode.{AsmCode}
 use Rattle.spv_lines.specs.declared.asm_error.AsmCode.TheVariants.{S1, S2, S3, S4, S5, S6}
-use Rattle.spv_text.specs.Reading.{IsAsmFailure}
+use Rattle.spv_lines.specs.Fault.{IsAsmFailure}
 use Rattle.spv_commands.specs.Assemble.{Assembles, BeginsAssembling, IsImageOf, text_fault_line}
-use Rattle.spv_commands.specs.Assembly.{ComesTo, fault_by}
+use Rattle.spv_commands.specs.inner.Assembly.{ComesTo, fault_by}
 use Rattle.spv_commands.specs.Trouble.{BeginsWith}
 use Rattle.spv_verdict.specs.Verdict.{line_end}
 
@@ -29,13 +29,13 @@ faulty G text S5 e q u h = (u, rw (← q) h)
 
 -- what was read comes to an image, and all its bytes were written
 pub made_all : (G : Table) (o : Order) (known : Option (List ℕ)) (words : List ℕ) (old held kept : Option (List ℕ)) → IfSome known (λ text. IsImageOf G text words)
-    → IfSome held (λ xs. Holds o words xs kept (4 * length words)) → IfSome known (λ text. Assembles G o text old old held kept true)
+    → IfSome held (λ xs. HoldsBytes o words xs kept (4 * length words)) → IfSome known (λ text. Assembles G o text old old held kept true)
 made_all G o None words old held kept h w = tt
 made_all G o (Some text) words old held kept h w = Assembles.made words h (Keeps-refl old) w
 
 -- or a beginning of them
 pub made_begun : (G : Table) (o : Order) (known : Option (List ℕ)) (words : List ℕ) (old held kept : Option (List ℕ)) → IfSome known (λ text. IsImageOf G text words)
-    → IfSome held (λ xs. (n : ℕ) × Holds o words xs kept n) → IfSome known (λ text. BeginsAssembling G o text old old held kept)
+    → IfSome held (λ xs. (n : ℕ) × HoldsBytes o words xs kept n) → IfSome known (λ text. BeginsAssembling G o text old old held kept)
 made_begun G o None words old held kept h w = tt
 made_begun G o (Some text) words old held kept h w = BeginsAssembling.made words h (Keeps-refl old) w
 

@@ -7,7 +7,7 @@ use Rattle.std.proofs.lemmas.Bool.Decides.{nat_tests}
 use Rattle.std.proofs.lemmas.List.{drop_all}
 use Rattle.spv_lines.specs.Digits.{is_digit, value, value_after}
 use Rattle.spv_commands.specs.Number.{AreNumbers, IsNumber, parts_of}
-use Rattle.spv_commands.specs.Reading.{parts_left}
+use Rattle.spv_commands.specs.inner.Reading.{parts_left}
 
 -- an octet is a digit or none
 pub digit_by : (d : ℕ) → 48 ≤ d → d ≤ 57 → is_digit d ≡ true

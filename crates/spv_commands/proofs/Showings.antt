@@ -1,7 +1,7 @@
 -- What is shown of bytes that were read.
 use Rattle.std.proofs.Common.{◌≡◌, ◌⊎◌, ◌↔◌, ◌+◌, ◌-◌, ◌≤◌, ℕ, List, Option, Some, None, Result, Err, IfSome, IfOk, IfErr, IsErrOf, Bool, false, ◌++◌, ◌∙◌, length, take, drop, ap, refl, sym, subst, inl, inr, arith}
 use Rattle.std.specs.Io.KnownBytes.{Appends}
-use Rattle.spv_words.specs.Header.{IsModule, Refuses}
+use Rattle.spv_words.specs.Header.{IsModule, RefusesBytes}
 use Rattle.spv_words.specs.declared.words.Header.{Header}
 use Rattle.spv_words.specs.declared.words.Order.{Order}
 use Rattle.spv_words.specs.declared.words.WordError.{WordError}
@@ -9,19 +9,19 @@ use Rattle.spv_words.specs.declared.words.WordError.TheVariants as word
 use Rattle.spv_table.specs.Table.{Table}
 use Rattle.spv_module.specs.Operand.{PlainInst}
 use Rattle.spv_module.specs.Instruction.{IsListing}
-use Rattle.spv_inst.specs.Outcome.{IsDeath, IsHeaderOf}
+use Rattle.spv_inst.specs.Outcome.{IsDecodeFault, IsHeaderOf}
 use Rattle.spv_module.specs.declared.fault.Stop.{Stop}
 use Rattle.spv_module.specs.declared.fault.Stop.TheVariants.{Fault as Dies, Memory}
 use Rattle.spv_lines.specs.Text.{IsShownText}
 use Rattle.spv_verdict.specs.Verdict.{fault_line, refused_line}
 use Rattle.spv_verdict.proofs.Verdicts.{Laws, dead_list, same_module}
 use Rattle.spv_commands.specs.Show.{IsShowing, refused, dead, shown, Shows, BeginsShowing}
-use Rattle.spv_commands.specs.Shown.{is_text, output_of, shown_refusal, shown_stop}
+use Rattle.spv_commands.specs.inner.Shown.{is_text, output_of, shown_refusal, shown_stop}
 use Rattle.spv_commands.specs.declared.showing.Shown.{Shown}
 
 -- a code that was read
 pub refused_bytes : (G : Table) (known : Option (List ℕ)) (code : WordError)
-    → IfSome known (λ xs. Refuses code xs) → IfSome known (λ xs. IfOk (shown_refusal code) (λ s. IsShowing G xs (output_of s) (is_text s)))
+    → IfSome known (λ xs. RefusesBytes code xs) → IfSome known (λ xs. IfOk (shown_refusal code) (λ s. IsShowing G xs (output_of s) (is_text s)))
 refused_bytes G None code h = tt
 refused_bytes G (Some xs) word.W1 h = tt
 refused_bytes G (Some xs) word.W9 h = tt
@@ -45,7 +45,7 @@ refused_count P word.W9 r q h = (λ p. let e = h.0 p in cc, λ e. cc)
 refused_count P code r q h = (λ p. let e = h.0 p in cc, λ e. cc)
 
 -- words that are no list of instructions
-pub dead_shown : (G : Table) (bytes words : List ℕ) (order : Order) (s : Stop) → IsModule order bytes words → IsDeath G words s
+pub dead_shown : (G : Table) (bytes words : List ℕ) (order : Order) (s : Stop) → IsModule order bytes words → IsDecodeFault G words s
     → IfOk (shown_stop s) (λ s. IsShowing G bytes (output_of s) (is_text s))
 dead_shown G bytes words order Memory h d = tt
 dead_shown G bytes words order (Dies f) h d =

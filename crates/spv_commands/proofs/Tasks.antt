@@ -10,7 +10,7 @@ use Rattle.spv_commands.specs.declared.command_line.Task.TheVariants as tasks
 use Rattle.spv_commands.specs.Example.{empty_grammar}
 use Rattle.spv_commands.specs.Show.{BeginsShowing, IsShowing, Shows}
 use Rattle.spv_reasons.specs.Stream.{BeginsExplaining, Explains}
-use Rattle.spv_verdict.specs.Stream.{Begins, Tells}
+use Rattle.spv_verdict.specs.Stream.{Begins, TellsVerdict}
 use Rattle.spv_verdict.specs.Verdict.{IsVerdict}
 use Rattle.spv_verdict.proofs.Verdicts.{refused_is_not_valid}
 use Rattle.spv_commands.specs.Task.{BeginsByText, DoesByText, MakesNothing, ReadsGrammar}
@@ -55,7 +55,7 @@ no_text G bytes _ _ e never (IsShowing.refused code h) = cc
 no_text G bytes _ _ e never (IsShowing.dead words order broken inst at h d) = cc
 no_text G bytes _ _ e never (IsShowing.shown words order header is text h k l t) = never order words h
 
-pub does_short : (c : Command) (G : Table) → ReadsGrammar c → MakesNothing c → IsTableOf empty_grammar G → Tells G (1 ∷ 2 ∷ 3 ∷ []) (9 ∷ []) (Some (9 ∷ codes "fault W2" ++ line_end)) false
+pub does_short : (c : Command) (G : Table) → ReadsGrammar c → MakesNothing c → IsTableOf empty_grammar G → TellsVerdict G (1 ∷ 2 ∷ 3 ∷ []) (9 ∷ []) (Some (9 ∷ codes "fault W2" ++ line_end)) false
     → Explains G (1 ∷ 2 ∷ 3 ∷ []) (9 ∷ []) (Some (9 ∷ codes "fault W2" ++ line_end)) false
     → Shows G (1 ∷ 2 ∷ 3 ∷ []) (9 ∷ []) (Some (9 ∷ codes "fault W2" ++ line_end)) false
     → ((function : ℕ) (choices : List ℕ) (limit : ℕ) → Traces G function choices limit (1 ∷ 2 ∷ 3 ∷ []) (9 ∷ []) (Some (9 ∷ codes "fault W2" ++ line_end)) false)

@@ -1,12 +1,12 @@
 -- What is traced of bytes that were read.
 use Rattle.std.proofs.Common.{◌≡◌, ◌≢◌, ◌↔◌, ◌≤◌, ◌++◌, ℕ, List, [], ◌∷◌, Option, Some, None, Result, Err, IfSome, IfOk, IsErrOf, Bool, true, false, length, take, ap, refl, codes, lit≤}
 use Rattle.std.specs.Io.KnownBytes.{Appends}
-use Rattle.spv_words.specs.Header.{IsFirstBroken, IsModule, Refuses}
+use Rattle.spv_words.specs.Header.{IsFirstBroken, IsModule, RefusesBytes}
 use Rattle.spv_words.specs.declared.words.Order.{Order}
 use Rattle.spv_words.specs.declared.words.WordError.{WordError}
 use Rattle.spv_words.specs.declared.words.WordError.TheVariants as word
 use Rattle.spv_table.specs.Table.{Table}
-use Rattle.spv_run.specs.Entry.{IsRefused}
+use Rattle.spv_run.specs.Entry.{RefusesEntry}
 use Rattle.spv_run.specs.declared.parts.Trace.{Trace}
 use Rattle.spv_run.specs.declared.parts.TraceError.{TraceError}
 use Rattle.spv_run.specs.declared.parts.TraceError.TheVariants.{X1, X2}
@@ -21,7 +21,7 @@ use Rattle.spv_verdict.proofs.Checks.{fault_judged}
 use Rattle.spv_verdict.proofs.Verdicts.{fault_is_not_valid, refused_is_not_valid}
 use Rattle.spv_module.specs.declared.fault.Fault as fault
 use Rattle.spv_commands.specs.Trace.{BeginsTracing, HasNoEntry, IsProgram, IsTracing, Traces, judged, traced, trace_text}
-use Rattle.spv_commands.specs.Traced.{is_run, output_of, traced_refusal, traced_stop}
+use Rattle.spv_commands.specs.inner.Traced.{is_run, output_of, traced_refusal, traced_stop}
 use Rattle.spv_commands.specs.declared.tracing.RunError.{RunError}
 use Rattle.spv_commands.specs.declared.tracing.RunError.TheVariants as trouble
 use Rattle.spv_commands.specs.declared.tracing.Traced.{Traced}
@@ -31,7 +31,7 @@ refused_line_written : (G : Table) (function : ℕ) (choices : List ℕ) (limit 
 refused_line_written G function choices limit bytes code h = judged (refused_line code) (IsVerdict.refused code h) (λ e. refused_is_not_valid code e)
 
 -- a code that was read
-pub refused_bytes : (G : Table) (function : ℕ) (choices : List ℕ) (limit : ℕ) (known : Option (List ℕ)) (code : WordError) → IfSome known (λ xs. Refuses code xs)
+pub refused_bytes : (G : Table) (function : ℕ) (choices : List ℕ) (limit : ℕ) (known : Option (List ℕ)) (code : WordError) → IfSome known (λ xs. RefusesBytes code xs)
     → IfSome known (λ xs. IfOk (traced_refusal code) (λ t. IsTracing G function choices limit xs (output_of t) (is_run t)))
 refused_bytes G function choices limit None code h = tt
 refused_bytes G function choices limit (Some xs) word.W1 h = tt
@@ -74,7 +74,7 @@ pub run_traced : (G : Table) (function : ℕ) (choices : List ℕ) (limit : ℕ)
 run_traced G function choices limit bytes words order p t h c r = traced p t (program_of G bytes words order p h c) r
 
 pub lacks_entry : (G : Table) (function : ℕ) (bytes words : List ℕ) (order : Order) (p : Program) (e : TraceError) → IsModule order bytes words → IsChecked G words p
-    → IsRefused p.insts function e → traced_stop e ≡ trouble.NoEntry → HasNoEntry G bytes function
+    → RefusesEntry p.insts function e → traced_stop e ≡ trouble.NoEntry → HasNoEntry G bytes function
 lacks_entry G function bytes words order p X1 h c r q = record { program = p; valid = program_of G bytes words order p h c; none = r }
 lacks_entry G function bytes words order p X2 h c r q = cc
 

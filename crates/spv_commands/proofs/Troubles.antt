@@ -9,7 +9,7 @@ use Rattle.spv_commands.specs.Task.{DoesTask, LacksEntry, LacksEntryByText}
 use Rattle.spv_commands.specs.Trace.{Traces}
 use Rattle.spv_commands.specs.declared.command_line.Command.{Command}
 use Rattle.spv_commands.specs.declared.command_line.Task.{Task}
-use Rattle.spv_verdict.specs.Stream.{Tells}
+use Rattle.spv_verdict.specs.Stream.{TellsVerdict}
 use Rattle.spv_reasons.specs.Stream.{Explains}
 use Rattle.spv_commands.specs.Trouble.{IsErrorLine, IsTableOf, refused, file, entry, memory, grammar_text, trouble_text}
 use Rattle.spv_commands.specs.declared.program.Trouble.{Trouble}
@@ -77,9 +77,9 @@ swapped (Some x) None (Ok z) P h = tt
 swapped (Some x) None (Err e) P h = tt
 swapped (Some x) (Some y) r P h = h
 
-pub told_in : (G : Table) (known kept new : Option (List ℕ)) (r : Result Bool Trouble) → IfSome known (λ bytes. IfSome kept (λ old. IfOk r (λ answer. Tells G bytes old new answer)))
-    → IfSome known (λ bytes. IfOk r (λ answer. IfSome kept (λ old. Tells G bytes old new answer)))
-told_in G known kept new r h = swapped known kept r (λ bytes old answer. Tells G bytes old new answer) h
+pub told_in : (G : Table) (known kept new : Option (List ℕ)) (r : Result Bool Trouble) → IfSome known (λ bytes. IfSome kept (λ old. IfOk r (λ answer. TellsVerdict G bytes old new answer)))
+    → IfSome known (λ bytes. IfOk r (λ answer. IfSome kept (λ old. TellsVerdict G bytes old new answer)))
+told_in G known kept new r h = swapped known kept r (λ bytes old answer. TellsVerdict G bytes old new answer) h
 
 pub task_in : (task : Task) (G : Table) (known kept new : Option (List ℕ)) (r : Result Bool Trouble)
     → IfSome known (λ bytes. IfSome kept (λ old. IfOk r (λ answer. DoesTask task G bytes old new answer)))

@@ -1,8 +1,9 @@
 -- What `asm` makes of a text. (Own.)
-use Rattle.std.specs.Prelude.{◌++◌, ◌*◌, ℕ, List, length, Option, Bool, true, false, IfSome, IsUtf8, drop, codes, decimal, if◌then◌else◌}
+use Rattle.std.specs.Prelude.{◌++◌, ◌*◌, ℕ, List, length, Option, Bool, true, false, IfSome, IsUtf8, drop}
+use Rattle.std.specs.Prelude.{codes, decimal, if◌then◌else◌}
 use Rattle.std.specs.Io.KnownBytes.{Appends, Keeps}
 use Rattle.spv_words.specs.Header.{IsHeader}
-use Rattle.spv_words.specs.Streams.{Holds}
+use Rattle.spv_words.specs.Streams.{HoldsBytes}
 use Rattle.spv_words.specs.declared.words.Header.{Header}
 use Rattle.spv_words.specs.declared.words.Order.{Order}
 use Rattle.spv_words.specs.declared.words.Order.TheVariants.{Little, Big}
@@ -33,8 +34,8 @@ text_fault_line code line = codes "fault " ++ asm_code_text code ++ codes " line
 abbrev pub order_of : Bool → Order
 order_of big = if big then Big else Little
 
--- The text is UTF-8 and is read, under the grammar table, as a header and a list of instructions; the words are those of the
--- header, and behind them those of the list.
+-- The text is UTF-8 and is read, under the grammar table, as a header and a list of instructions; the words are those
+-- of the header, and behind them those of the list.
 pub record IsImageOf (G : Table) (text words : List ℕ) : Type 0 where
   pub utf8 : IsUtf8 text
   pub header : Header
@@ -43,19 +44,26 @@ pub record IsImageOf (G : Table) (text words : List ℕ) : Type 0 where
   pub begins : IsHeader words
   pub told : IsHeaderOf words header
 
--- The standard output that held the bytes `old`, where they are known, holds `new`, and the file that held the bytes `held`,
--- where they are known, holds `kept`. The answer tells whether the text is that of a module.
-pub data Assembles (G : Table) (o : Order) (text : List ℕ) (old new held kept : Option (List ℕ)) : Bool → Type 0 where
-  -- it is: the file also holds all the bytes that stand for the words in the order, and the standard output is as it was
-  made : (words : List ℕ) → IsImageOf G text words → Keeps old new → IfSome held (λ xs. Holds o words xs kept (4 * length words))
+-- The standard output that held the bytes `old`, where they are known, holds `new`, and the file that held the bytes
+-- `held`, where they are known, holds `kept`. The answer tells whether the text is that of a module.
+pub data Assembles (G : Table) (o : Order) (text : List ℕ) (old new held kept : Option (List ℕ)) : Bool
+    → Type 0 where
+  -- it is: the file also holds all the bytes that stand for the words in the order, and the standard output is as it
+  -- was
+  made : (words : List ℕ) → IsImageOf G text words → Keeps old new
+      → IfSome held (λ xs. HoldsBytes o words xs kept (4 * length words))
       → Assembles G o text old new held kept true
   -- it is not: the standard output also holds the line of the first fault, and the file is as it was
-  failed : (code : AsmCode) (line : ℕ) → IsUtf8 text → IsFailure G text code line → Appends old new (text_fault_line code line) → Keeps held kept
+  failed : (code : AsmCode) (line : ℕ) → IsUtf8 text → IsFailure G text code line
+      → Appends old new (text_fault_line code line) → Keeps held kept
       → Assembles G o text old new held kept false
 
 -- The same for a beginning of the bytes or of the line.
-pub data BeginsAssembling (G : Table) (o : Order) (text : List ℕ) (old new held kept : Option (List ℕ)) : Type 0 where
-  made : (words : List ℕ) → IsImageOf G text words → Keeps old new → IfSome held (λ xs. (n : ℕ) × Holds o words xs kept n)
+pub data BeginsAssembling (G : Table) (o : Order) (text : List ℕ)
+    (old new held kept : Option (List ℕ)) : Type 0 where
+  made : (words : List ℕ) → IsImageOf G text words → Keeps old new
+      → IfSome held (λ xs. (n : ℕ) × HoldsBytes o words xs kept n)
       → BeginsAssembling G o text old new held kept
-  failed : (code : AsmCode) (line : ℕ) → IsUtf8 text → IsFailure G text code line → IfSome old (λ xs. BeginsWith (text_fault_line code line) xs new) → Keeps held kept
+  failed : (code : AsmCode) (line : ℕ) → IsUtf8 text → IsFailure G text code line
+      → IfSome old (λ xs. BeginsWith (text_fault_line code line) xs new) → Keeps held kept
       → BeginsAssembling G o text old new held kept

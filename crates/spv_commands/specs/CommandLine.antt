@@ -1,9 +1,12 @@
 -- The words of the command line (own): what `clap` is told of them, and which command they give.
-use Rattle.std.specs.Prelude.{◌≡◌, ◌≢◌, ◌≤◌, ◌⊎◌, ◌↔◌, ◌∷◌, ℕ, List, [], Bool, true, false, IsTrue, Option, Some, None, option_map, option_and_then, codes, length, map, count_by, Result, Ok, Err}
+use Rattle.std.specs.Prelude.{◌≡◌, ◌≢◌, ◌≤◌, ◌⊎◌, ◌↔◌, ◌∷◌, ℕ, List, [], Bool}
+use Rattle.std.specs.Prelude.{true, false, IsTrue, Option, Some, None, option_map, option_and_then, codes, length, map}
+use Rattle.std.specs.Prelude.{count_by, Result, Ok, Err}
 use Rattle.std.specs.Option.{option_or}
 use Rattle.std.specs.Str.{bytes_eq}
 use Rattle.clap.specs.Lexer.{usize_max}
-use Rattle.clap.specs.Words.{App, IsAmong, Row, Rule, Shape, Text, all_of, fault_of, first_of, new_app, new_rule, subcommand_of, with_rule, with_subcommand}
+use Rattle.clap.specs.Words.{App, IsAmong, Row, Rule, Shape, Text, all_of, fault_of, first_of, new_app, new_rule}
+use Rattle.clap.specs.Words.{subcommand_of, with_rule, with_subcommand}
 use Rattle.clap.specs.Simple.{on_top}
 use Rattle.clap.specs.declared.builder.action.ArgAction.TheVariants.{SetTrue}
 use Rattle.clap.specs.declared.error.kind.ErrorKind.{ErrorKind}
@@ -62,24 +65,31 @@ file_command name file = (with_rule (with_rule (new_app name) grammar_option) fi
 
 -- `asm [--grammar G] FILE --out OUT [--big]`
 abbrev pub asm_command : Shape
-asm_command = (with_rule (with_rule (with_rule (with_rule (new_app (codes "asm")) grammar_option) file_word) out_option) big_flag).top
+asm_command =
+    (with_rule (with_rule (with_rule (with_rule (new_app (codes "asm")) grammar_option) file_word) out_option)
+    big_flag).top
 
 -- `trace [--grammar G] FILE --function ID [--choices LIST] --limit N`
 abbrev pub trace_command : Shape
 trace_command =
-    (with_rule (with_rule (with_rule (with_rule (with_rule (new_app (codes "trace")) grammar_option) file_word) function_option) choices_option) limit_option).top
+    (with_rule (with_rule (with_rule (with_rule (with_rule (new_app (codes "trace")) grammar_option) file_word)
+    function_option) choices_option) limit_option).top
 
 -- `rules [CODE]`
 abbrev pub rules_command : Shape
 rules_command = (with_rule (new_app (codes "rules")) code_word).top
 
--- no commands yet, of which one must be given; the words begin after the program's name, and may be `--version` or begin with `help`
+-- no commands yet, of which one must be given; the words begin after the program's name, and may be `--version` or
+-- begin with `help`
 abbrev pub bare_program : App
-bare_program = on_top (λ s. record s { no_binary_name = true; subcommand_required = true; has_version = true }) (new_app (codes "spv"))
+bare_program = on_top (λ s. record s { no_binary_name = true; subcommand_required = true; has_version = true })
+    (new_app (codes "spv"))
 
 -- the commands that judge modules
 abbrev pub judging_program : App
-judging_program = with_subcommand (with_subcommand bare_program (file_command (codes "check") files_word)) (file_command (codes "explain") files_word)
+judging_program =
+    with_subcommand (with_subcommand bare_program (file_command (codes "check") files_word))
+    (file_command (codes "explain") files_word)
 
 -- the same with those that show a module and make one
 abbrev pub module_program : App
@@ -89,10 +99,11 @@ module_program = with_subcommand (with_subcommand judging_program (file_command 
 abbrev pub program : App
 program = with_subcommand (with_subcommand module_program trace_command) rules_command
 
--- the name of the command, the path of its grammar file and its files, as `clap` reads them; without `--grammar` the grammar file
--- is that of the environment, if it has one
+-- the name of the command, the path of its grammar file and its files, as `clap` reads them; without `--grammar` the
+-- grammar file is that of the environment, if it has one
 abbrev pub texts_in : Option Text → Option (Text × List Row) → Option (Text × Option Text × Option (List Text))
-texts_in environment found = option_map (λ p. (p.0, option_or (first_of (codes "grammar") p.1) environment, all_of (codes "file") p.1)) found
+texts_in environment found =
+    option_map (λ p. (p.0, option_or (first_of (codes "grammar") p.1) environment, all_of (codes "file") p.1)) found
 
 -- the text of another of its options
 abbrev pub text_in : Text → Option (Text × List Row) → Option Text
@@ -103,7 +114,8 @@ abbrev pub IsAsked : Option Text → Option (Text × List Row) → Text → Text
 IsAsked environment found name grammar files = texts_in environment found ≡ Some (name, Some grammar, Some files)
 
 -- they are `trace` of one file, with the numbers that its options are in decimal
-pub record IsTrace (environment : Option Text) (found : Option (Text × List Row)) (grammar file : Text) (function : ℕ) (choices : List ℕ) (limit : ℕ) : Type 0 where
+pub record IsTrace (environment : Option Text) (found : Option (Text × List Row)) (grammar file : Text)
+    (function : ℕ) (choices : List ℕ) (limit : ℕ) : Type 0 where
   pub asked : IsAsked environment found (codes "trace") grammar (file ∷ [])
   pub function_is : IsNumberOf (text_in (codes "function") found) function
   pub choices_are : AreNumbersOf (text_in (codes "choices") found) choices
@@ -128,30 +140,38 @@ abbrev pub inputs_among : List Text → ℕ
 inputs_among files = count_by (λ file. bytes_eq file (codes "-")) files
 
 -- they are a task on several files, of which at most one is the standard input
-pub record IsEach (environment : Option Text) (found : Option (Text × List Row)) (task : Task) (grammar : Text) (files : List Text) : Type 0 where
+pub record IsEach (environment : Option Text) (found : Option (Text × List Row)) (task : Task) (grammar : Text)
+    (files : List Text) : Type 0 where
   pub asked : IsAsked environment found (task_name task) grammar files
   pub several : 2 ≤ length files
   pub once : inputs_among files ≤ 1
 
 -- they are a command with all of its texts; a flag that was read has the text `true`
 abbrev pub IsCommand : Option Text → Option (Text × List Row) → Command → Type 0
-IsCommand environment found (Check grammar file) = IsAsked environment found (codes "check") grammar.now (file.now ∷ [])
-IsCommand environment found (Explain grammar file) = IsAsked environment found (codes "explain") grammar.now (file.now ∷ [])
+IsCommand environment found (Check grammar file) =
+    IsAsked environment found (codes "check") grammar.now (file.now ∷ [])
+IsCommand environment found (Explain grammar file) =
+    IsAsked environment found (codes "explain") grammar.now (file.now ∷ [])
 IsCommand environment found (Show grammar file) = IsAsked environment found (codes "show") grammar.now (file.now ∷ [])
 IsCommand environment found (Asm grammar file out big) =
-    IsAsked environment found (codes "asm") grammar.now (file.now ∷ []) × (text_in (codes "out") found ≡ Some out.now)
+    IsAsked environment found (codes "asm") grammar.now (file.now ∷ [])
+    × (text_in (codes "out") found ≡ Some out.now)
     × (IsTrue big ↔ (text_in (codes "big") found ≡ Some (codes "true")))
-IsCommand environment found (Trace grammar file function choices limit) = IsTrace environment found grammar.now file.now function choices.items limit
+IsCommand environment found (Trace grammar file function choices limit) =
+    IsTrace environment found grammar.now file.now function choices.items limit
 IsCommand environment found (Rules code) = IsRules found code
-IsCommand environment found (Each task grammar files) = IsEach environment found task grammar.now (map (λ file. file.now) files.items)
+IsCommand environment found (Each task grammar files) =
+    IsEach environment found task grammar.now (map (λ file. file.now) files.items)
 
 -- they are no command with all of its texts
 pub record IsNoCommand (environment : Option Text) (found : Option (Text × List Row)) : Type 0 where
   pub check : (grammar file : Text) → ¬ (IsAsked environment found (codes "check") grammar (file ∷ []))
   pub explain : (grammar file : Text) → ¬ (IsAsked environment found (codes "explain") grammar (file ∷ []))
   pub show : (grammar file : Text) → ¬ (IsAsked environment found (codes "show") grammar (file ∷ []))
-  pub asm : (grammar file out : Text) → IsAsked environment found (codes "asm") grammar (file ∷ []) → ¬ (text_in (codes "out") found ≡ Some out)
-  pub trace : (grammar file : Text) (function : ℕ) (choices : List ℕ) (limit : ℕ) → ¬ (IsTrace environment found grammar file function choices limit)
+  pub asm : (grammar file out : Text) → IsAsked environment found (codes "asm") grammar (file ∷ [])
+      → ¬ (text_in (codes "out") found ≡ Some out)
+  pub trace : (grammar file : Text) (function : ℕ) (choices : List ℕ) (limit : ℕ)
+      → ¬ (IsTrace environment found grammar file function choices limit)
   pub rules : (code : Option Code) → ¬ (IsRules found code)
   pub each : (task : Task) (grammar : Text) (files : List Text) → ¬ (IsEach environment found task grammar files)
 
@@ -178,7 +198,8 @@ IsRefused environment words =
 
 -- what may be answered to the words, where the environment names this grammar file or none
 abbrev pub Answers : Option Text → List Text → Result Command UseError → Type 0
-Answers environment words (Ok c) = (fault_of program words ≡ []) × IsCommand environment (subcommand_of program words) c
+Answers environment words (Ok c) =
+    (fault_of program words ≡ []) × IsCommand environment (subcommand_of program words) c
 Answers environment words (Err U1) = IsRefused environment words
 Answers environment words (Err U2) = Unit {0}
 Answers environment words (Err U3) = IsAmong DisplayHelp (fault_of program words)
@@ -187,31 +208,3 @@ Answers environment words (Err U4) = IsAmong DisplayVersion (fault_of program wo
 -- what may be answered to the words, where it names none
 abbrev pub AnswersTo : List Text → Result Command UseError → Type 0
 AnswersTo words result = Answers None words result
-
--- of these rows the command is `asm` with these two texts and its own, or it has none (for the code alone)
-abbrev pub IsAsmOf : List Row → Text → Text → Option Command → Type 0
-IsAsmOf rows g f (Some (Asm grammar file out big)) =
-    (grammar.now ≡ g) × (file.now ≡ f) × (first_of (codes "out") rows ≡ Some out.now) × (IsTrue big ↔ (first_of (codes "big") rows ≡ Some (codes "true")))
-IsAsmOf rows g f (Some _) = ⊥
-IsAsmOf rows g f None = first_of (codes "out") rows ≡ None
-
--- of these rows the command is `trace` with these two texts and its own numbers, or these have none (for the code alone)
-abbrev pub IsTraceOf : List Row → Text → Text → Result Command UseError → Type 0
-IsTraceOf rows g f (Ok (Trace grammar file function choices limit)) =
-    (grammar.now ≡ g) × (file.now ≡ f) × IsNumberOf (first_of (codes "function") rows) function × AreNumbersOf (first_of (codes "choices") rows) choices.items
-    × IsNumberOf (first_of (codes "limit") rows) limit
-IsTraceOf rows g f (Ok _) = ⊥
-IsTraceOf rows g f (Err U1) = (function : ℕ) (choices : List ℕ) (limit : ℕ) → IsNumberOf (first_of (codes "function") rows) function
-    → AreNumbersOf (first_of (codes "choices") rows) choices → IsNumberOf (first_of (codes "limit") rows) limit → ⊥
-IsTraceOf rows g f (Err U2) = Unit {0}
-IsTraceOf rows g f (Err U3) = ⊥
-IsTraceOf rows g f (Err U4) = ⊥
-
--- of these rows the command is `rules` with their code, or their word is no code's name (for the code alone)
-abbrev pub IsRulesOf : List Row → Result Command UseError → Type 0
-IsRulesOf rows (Ok (Rules code)) = IsCodeOf (first_of (codes "code") rows) code
-IsRulesOf rows (Ok _) = ⊥
-IsRulesOf rows (Err U1) = (code : Option Code) → ¬ (IsCodeOf (first_of (codes "code") rows) code)
-IsRulesOf rows (Err U2) = ⊥
-IsRulesOf rows (Err U3) = ⊥
-IsRulesOf rows (Err U4) = ⊥

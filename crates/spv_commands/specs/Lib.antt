@@ -1,12 +1,9 @@
 pub mod Assemble
-pub mod Assembly
 pub mod CommandLine
 pub mod Example
 pub mod Number
-pub mod Reading
 pub mod Show
-pub mod Shown
 pub mod Task
 pub mod Trace
-pub mod Traced
 pub mod Trouble
+pub mod inner

@@ -1,5 +1,6 @@
 -- What `show` writes of a stream of bytes. (Own.)
-use Rattle.std.specs.Prelude.{◌≡◌, ◌≤◌, ◌+◌, ◌++◌, ℕ, List, Option, Some, Bool, true, false, drop, length, take}
+use Rattle.std.specs.Prelude.{◌≡◌, ◌≤◌, ◌+◌, ◌++◌, ℕ, List, Option, Some, Bool, true, false, drop}
+use Rattle.std.specs.Prelude.{length, take}
 use Rattle.spv_words.specs.Header.{IsFirstBroken, IsModule}
 use Rattle.spv_words.specs.declared.words.Header.{Header}
 use Rattle.spv_words.specs.declared.words.Order.{Order}
@@ -8,7 +9,7 @@ use Rattle.spv_table.specs.Table.{Table}
 use Rattle.spv_module.specs.Operand.{PlainInst}
 use Rattle.spv_module.specs.Instruction.{IsListing}
 use Rattle.spv_inst.specs.Outcome.{IsHeaderOf}
-use Rattle.spv_module.specs.Dead.{IsDeadAt}
+use Rattle.spv_module.specs.Malformed.{IsMalformedAt}
 use Rattle.spv_module.specs.declared.fault.Rule.{Rule}
 use Rattle.spv_lines.specs.Text.{IsShownText}
 use Rattle.spv_verdict.specs.Verdict.{fault_line, refused_line}
@@ -19,13 +20,15 @@ pub data IsShowing (G : Table) (bytes : List ℕ) : List ℕ → Bool → Type 0
   refused : (code : WordError) → IsFirstBroken code bytes → IsShowing G bytes (refused_line code) false
   -- they are words of which those from word 5 on are dead at an instruction: its line
   dead : (words : List ℕ) (order : Order) (broken : Rule) (inst at : ℕ) → IsModule order bytes words
-      → IsDeadAt G (drop 5 words) broken inst at → IsShowing G bytes (fault_line broken inst (5 + at)) false
+      → IsMalformedAt G (drop 5 words) broken inst at → IsShowing G bytes (fault_line broken inst (5 + at)) false
   -- they are words of which those from word 5 on spell a list of instructions: the text of the header and the list
-  shown : (words : List ℕ) (order : Order) (header : Header) (is : List PlainInst) (text : List ℕ) → IsModule order bytes words
-      → IsHeaderOf words header → IsListing G is (drop 5 words) → IsShownText G header is text → IsShowing G bytes text true
+  shown : (words : List ℕ) (order : Order) (header : Header) (is : List PlainInst) (text : List ℕ)
+      → IsModule order bytes words
+      → IsHeaderOf words header → IsListing G is (drop 5 words) → IsShownText G header is text
+      → IsShowing G bytes text true
 
--- A writer that held the bytes `old` now also holds what is shown of the bytes, and nothing else; the answer tells whether
--- it is the text of a module.
+-- A writer that held the bytes `old` now also holds what is shown of the bytes, and nothing else; the answer tells
+-- whether it is the text of a module.
 pub record Shows (G : Table) (bytes old : List ℕ) (new : Option (List ℕ)) (answer : Bool) : Type 0 where
   pub output : List ℕ
   pub showing : IsShowing G bytes output answer

@@ -9,7 +9,7 @@ use Rattle.spv_commands.specs.declared.command_line.Task.TheVariants as tasks
 use Rattle.spv_commands.specs.Assemble.{Assembles, BeginsAssembling, order_of}
 use Rattle.spv_commands.specs.Show.{BeginsShowing, Shows}
 use Rattle.spv_commands.specs.Trace.{BeginsTracing, HasNoEntry, Traces}
-use Rattle.spv_verdict.specs.Stream.{Begins, Tells}
+use Rattle.spv_verdict.specs.Stream.{Begins, TellsVerdict}
 use Rattle.spv_reasons.specs.Stream.{BeginsExplaining, Explains}
 use Rattle.spv_commands.specs.Trouble.{BeginsWith, IsTableOf}
 
@@ -33,10 +33,10 @@ pub record BeginsText (old new : Option (List ℕ)) : Type 0 where
   pub text : List ℕ
   pub begun : IfSome old (λ xs. BeginsWith text xs new)
 
--- A writer that held the bytes `old` now also holds what a task writes of a module's bytes, and nothing else: the verdict line, or that
--- line and those that explain it. The answer tells whether the line is `valid`.
+-- A writer that held the bytes `old` now also holds what a task writes of a module's bytes, and nothing else: the
+-- verdict line, or that line and those that explain it. The answer tells whether the line is `valid`.
 abbrev pub DoesTask : Task → Table → List ℕ → List ℕ → Option (List ℕ) → Bool → Type 0
-DoesTask tasks.Check G bytes old new answer = Tells G bytes old new answer
+DoesTask tasks.Check G bytes old new answer = TellsVerdict G bytes old new answer
 DoesTask tasks.Explain G bytes old new answer = Explains G bytes old new answer
 
 -- The same for a beginning of that.
@@ -44,37 +44,47 @@ abbrev pub BeginsTask : Task → Table → List ℕ → List ℕ → Option (Lis
 BeginsTask tasks.Check G bytes old new = Begins G bytes old new
 BeginsTask tasks.Explain G bytes old new = BeginsExplaining G bytes old new
 
--- The standard output that held the bytes `old`, where they are known, now also holds what the command writes of the bytes
--- of its file, and nothing else: `check` the verdict line, `explain` that line and those that explain it, `show` the text or
--- the line of a fault, `asm` the line of a fault or nothing, `trace` the run or the verdict line, `rules` a text, of no table and
--- no file, and a command on several files what its task writes of this one. The file that `asm` makes held the bytes `held`, where they are known, and now also holds the module. The answer tells
--- whether the line is `valid`, or the text, the module or the run was written.
-abbrev pub Does : Command → Table → List ℕ → Option (List ℕ) → Option (List ℕ) → Option (List ℕ) → Option (List ℕ) → Bool → Type 0
-Does (Check grammar file) G bytes old new held kept answer = IfSome old (λ xs. Tells G bytes xs new answer)
+-- The standard output that held the bytes `old`, where they are known, now also holds what the command writes of the
+-- bytes of its file, and nothing else: `check` the verdict line, `explain` that line and those that explain it, `show`
+-- the text or the line of a fault, `asm` the line of a fault or nothing, `trace` the run or the verdict line, `rules` a
+-- text, of no table and no file, and a command on several files what its task writes of this one. The file that `asm`
+-- makes held the bytes `held`, where they are known, and now also holds the module. The answer tells whether the line
+-- is `valid`, or the text, the module or the run was written.
+abbrev pub Does : Command → Table → List ℕ → Option (List ℕ) → Option (List ℕ) → Option (List ℕ)
+    → Option (List ℕ) → Bool → Type 0
+Does (Check grammar file) G bytes old new held kept answer = IfSome old (λ xs. TellsVerdict G bytes xs new answer)
 Does (Explain grammar file) G bytes old new held kept answer = IfSome old (λ xs. Explains G bytes xs new answer)
 Does (Show grammar file) G bytes old new held kept answer = IfSome old (λ xs. Shows G bytes xs new answer)
-Does (Asm grammar file out big) G bytes old new held kept answer = Assembles G (order_of big) bytes old new held kept answer
-Does (Trace grammar file function choices limit) G bytes old new held kept answer = IfSome old (λ xs. Traces G function choices.items limit bytes xs new answer)
+Does (Asm grammar file out big) G bytes old new held kept answer =
+    Assembles G (order_of big) bytes old new held kept answer
+Does (Trace grammar file function choices limit) G bytes old new held kept answer =
+    IfSome old (λ xs. Traces G function choices.items limit bytes xs new answer)
 Does (Rules code) G bytes old new held kept answer = WritesText old new × (answer ≡ true)
-Does (Each task grammar files) G bytes old new held kept answer = IfSome old (λ xs. DoesTask task G bytes xs new answer)
+Does (Each task grammar files) G bytes old new held kept answer =
+    IfSome old (λ xs. DoesTask task G bytes xs new answer)
 
 -- The same for a beginning of that.
-abbrev pub BeginsToDo : Command → Table → List ℕ → Option (List ℕ) → Option (List ℕ) → Option (List ℕ) → Option (List ℕ) → Type 0
+abbrev pub BeginsToDo : Command → Table → List ℕ → Option (List ℕ) → Option (List ℕ) → Option (List ℕ)
+    → Option (List ℕ) → Type 0
 BeginsToDo (Check grammar file) G bytes old new held kept = IfSome old (λ xs. Begins G bytes xs new)
 BeginsToDo (Explain grammar file) G bytes old new held kept = IfSome old (λ xs. BeginsExplaining G bytes xs new)
 BeginsToDo (Show grammar file) G bytes old new held kept = IfSome old (λ xs. BeginsShowing G bytes xs new)
-BeginsToDo (Asm grammar file out big) G bytes old new held kept = BeginsAssembling G (order_of big) bytes old new held kept
-BeginsToDo (Trace grammar file function choices limit) G bytes old new held kept = IfSome old (λ xs. BeginsTracing G function choices.items limit bytes xs new)
+BeginsToDo (Asm grammar file out big) G bytes old new held kept =
+    BeginsAssembling G (order_of big) bytes old new held kept
+BeginsToDo (Trace grammar file function choices limit) G bytes old new held kept =
+    IfSome old (λ xs. BeginsTracing G function choices.items limit bytes xs new)
 BeginsToDo (Rules code) G bytes old new held kept = BeginsText old new
 BeginsToDo (Each task grammar files) G bytes old new held kept = IfSome old (λ xs. BeginsTask task G bytes xs new)
 
 -- The same under the table that the text of a grammar file gives.
-pub record DoesByText (command : Command) (text bytes : List ℕ) (old new held kept : Option (List ℕ)) (answer : Bool) : Type 0 where
+pub record DoesByText (command : Command) (text bytes : List ℕ) (old new held kept : Option (List ℕ))
+    (answer : Bool) : Type 0 where
   pub table : Table
   pub given : IsTableOf text table
   pub does : Does command table bytes old new held kept answer
 
-pub record BeginsByText (command : Command) (text bytes : List ℕ) (old new held kept : Option (List ℕ)) : Type 0 where
+pub record BeginsByText (command : Command) (text bytes : List ℕ)
+    (old new held kept : Option (List ℕ)) : Type 0 where
   pub table : Table
   pub given : IsTableOf text table
   pub begins : BeginsToDo command table bytes old new held kept
@@ -99,8 +109,8 @@ IsNoText (Trace grammar file function choices limit) known = ⊥
 IsNoText (Rules code) known = ⊥
 IsNoText (Each task grammar files) known = ⊥
 
--- the command asks for a run, and the bytes of its file, if they are known, are a valid module in which the id is no entry point's
--- function
+-- the command asks for a run, and the bytes of its file, if they are known, are a valid module in which the id is no
+-- entry point's function
 abbrev pub LacksEntry : Command → Table → Option (List ℕ) → Type 0
 LacksEntry (Check grammar file) G known = ⊥
 LacksEntry (Explain grammar file) G known = ⊥

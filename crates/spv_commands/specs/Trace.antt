@@ -1,5 +1,6 @@
 -- What `trace` writes of a stream of bytes. (Own.)
-use Rattle.std.specs.Prelude.{◌≡◌, ◌≢◌, ◌≤◌, ◌++◌, ℕ, List, Option, Some, Bool, true, false, length, take, codes, decimal, flat_map}
+use Rattle.std.specs.Prelude.{◌≡◌, ◌≢◌, ◌≤◌, ◌++◌, ℕ, List, Option, Some, Bool, true, false}
+use Rattle.std.specs.Prelude.{length, take, codes, decimal, flat_map}
 use Rattle.spv_words.specs.Header.{IsModule}
 use Rattle.spv_words.specs.declared.words.Order.{Order}
 use Rattle.spv_table.specs.Table.{Table}
@@ -36,24 +37,28 @@ pub record IsProgram (G : Table) (bytes : List ℕ) (p : Program) : Type 0 where
   pub is_module : IsModule order bytes words
   pub checked : IsChecked G words p
 
--- This is what is written of all of these bytes for a function's id, choices and a limit, under the grammar table, and whether
--- it is the text of a trace.
-pub data IsTracing (G : Table) (function : ℕ) (choices : List ℕ) (limit : ℕ) (bytes : List ℕ) : List ℕ → Bool → Type 0 where
+-- This is what is written of all of these bytes for a function's id, choices and a limit, under the grammar table, and
+-- whether it is the text of a trace.
+pub data IsTracing (G : Table) (function : ℕ) (choices : List ℕ) (limit : ℕ) (bytes : List ℕ) : List ℕ
+    → Bool → Type 0 where
   -- they are no valid module: their verdict line
-  judged : (line : List ℕ) → IsVerdict G bytes line → line ≢ valid_line → IsTracing G function choices limit bytes line false
+  judged : (line : List ℕ) → IsVerdict G bytes line → line ≢ valid_line
+      → IsTracing G function choices limit bytes line false
   -- they are a valid module, and the id is an entry point's function: the text of the trace of its run
   traced : (p : Program) (t : Trace) → IsProgram G bytes p → IsRunOf G p function choices limit t
       → IsTracing G function choices limit bytes (trace_text t.steps.items t.ending) true
 
--- A writer that held the bytes `old` now also holds what is written of the bytes, and nothing else; the answer tells whether
--- it is the text of a trace.
-pub record Traces (G : Table) (function : ℕ) (choices : List ℕ) (limit : ℕ) (bytes old : List ℕ) (new : Option (List ℕ)) (answer : Bool) : Type 0 where
+-- A writer that held the bytes `old` now also holds what is written of the bytes, and nothing else; the answer tells
+-- whether it is the text of a trace.
+pub record Traces (G : Table) (function : ℕ) (choices : List ℕ) (limit : ℕ) (bytes old : List ℕ)
+    (new : Option (List ℕ)) (answer : Bool) : Type 0 where
   pub output : List ℕ
   pub tracing : IsTracing G function choices limit bytes output answer
   pub written : new ≡ Some (old ++ output)
 
 -- A writer that held the bytes `old` now also holds a beginning of what is written, and nothing else.
-pub record BeginsTracing (G : Table) (function : ℕ) (choices : List ℕ) (limit : ℕ) (bytes old : List ℕ) (new : Option (List ℕ)) : Type 0 where
+pub record BeginsTracing (G : Table) (function : ℕ) (choices : List ℕ) (limit : ℕ) (bytes old : List ℕ)
+    (new : Option (List ℕ)) : Type 0 where
   pub output : List ℕ
   pub answer : Bool
   pub tracing : IsTracing G function choices limit bytes output answer

@@ -1,5 +1,6 @@
 -- What a run leaves in its outputs, and why it ends without a verdict (own).
-use Rattle.std.specs.Prelude.{◌≡◌, ◌≤◌, ◌++◌, ℕ, List, Option, Some, IfSome, IsUtf8, length, take, codes}
+use Rattle.std.specs.Prelude.{◌≡◌, ◌≤◌, ◌++◌, ℕ, List, Option, Some, IfSome, IsUtf8, length, take}
+use Rattle.std.specs.Prelude.{codes}
 use Rattle.std.specs.Io.KnownBytes.{Appends}
 use Rattle.serde_json.specs.Data.{Data}
 use Rattle.serde_json.specs.Read.{read as read_text}
@@ -50,7 +51,8 @@ trouble_from W9 = trouble.Memory
 trouble_from _ = trouble.File
 
 -- The error line of a run whose grammar file has this text, for a reason: the text breaks a code, a read or a write
--- `failed`, an id is `strange`, or memory was refused. No clause can tell when memory is refused, so the last stands for itself.
+-- `failed`, an id is `strange`, or memory was refused. No clause can tell when memory is refused, so the last stands
+-- for itself.
 pub data IsErrorLine (text : List ℕ) (failed strange : Type 0) : List ℕ → Type 0 where
   refused : (e : GrammarError) → text_breaks text e → IsErrorLine text failed strange (grammar_text e)
   file : failed → IsErrorLine text failed strange file_line

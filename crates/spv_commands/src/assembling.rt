@@ -1,7 +1,9 @@
 //! What `asm` makes of the text of a stream.
-ghost use Rattle.std.specs.Prelude.{◌≡◌, ◌≢◌, ◌⊎◌, ◌↔◌, IfOk, IfErr, IfSome, IsErr, IsErrOf, IsUtf8};
+ghost use Rattle.std.specs.Prelude.{◌≡◌, ◌≢◌, ◌⊎◌, ◌↔◌, IfOk, IfErr, IfSome, IsErr, IsErrOf};
+ghost use Rattle.std.specs.Prelude.{IsUtf8};
+ghost use Rattle.spv_verdict.specs.Outcome.{Failed as HasFailed, IsUntouched};
 ghost use Rattle.spv_commands.specs.Assemble.{Assembles, BeginsAssembling};
-ghost use Rattle.spv_commands.specs.Assembly.{ComesTo, fault_of};
+ghost use Rattle.spv_commands.specs.inner.Assembly.{ComesTo, fault_of};
 ghost use Rattle.spv_commands.specs.declared.assembling.TextError.TheVariants as trouble;
 
 use crate::text_fault::text_fault;
@@ -64,7 +66,7 @@ pub enum Assembly {
 #[tactic(auto, using(crate::proofs::Assemblings::all_read))]
 pub fn read_all<R: Source>(alloc: Global, r: &mut R) -> Result<Vec<u8>, TextError>
     ensures known { IfSome (R.remaining r.old) (λ xs. IfOk result (λ v. v.items ≡ xs)) }
-    ensures count { R.failures r.new ≢ R.failures r.old ↔ IsErrOf result trouble.Failed }
+    ensures count { HasFailed R.failures r.old r.new ↔ IsErrOf result trouble.Failed }
     ensures only { IfErr result (λ e. e ≢ trouble.NotText) }
 {
     let mut bytes = Vec::with_capacity(alloc, BLOCK_SIZE)?;
@@ -111,14 +113,14 @@ fn assembly_of(alloc: Global, table: &Table, bytes: &[u8]) -> Result<Assembly, T
 fn assembly_on<R: Source>(alloc: Global, table: &Table, r: &mut R) -> Result<Assembly, TextError>
     ensures comes { IfSome (R.remaining r.old) (λ bytes. IfOk result (λ a. ComesTo table.now bytes a)) }
     ensures no_text { IsErrOf result trouble.NotText → IfSome (R.remaining r.old) (λ bytes. ¬ IsUtf8 bytes) }
-    ensures count { R.failures r.new ≢ R.failures r.old ↔ IsErrOf result trouble.Failed }
+    ensures count { HasFailed R.failures r.old r.new ↔ IsErrOf result trouble.Failed }
 {
     let bytes = read_all(alloc, r)?;
     assembly_of(alloc, table, &bytes)
 }
 
-/// Makes the module of the text that a reader's bytes up to the end of input are: writes its bytes in an order to `made`,
-/// and answers true; or, where the text fails, writes the line of its fault to `out`, and answers false.
+/// Makes the module of the text that a reader's bytes up to the end of input are: writes its bytes in an order to
+/// `made`, and answers true; or, where the text fails, writes the line of its fault to `out`, and answers false.
 ///
 /// # Errors
 ///
@@ -134,15 +136,21 @@ pub fn assemble_stream<R: Source, W: Sink, O: Sink>(
     made: &mut O,
 ) -> Result<bool, TextError>
     // The bytes or the line of all the bytes that the reader still gave were written, and nothing else.
-    ensures assembled { IfSome (R.remaining r.old) (λ bytes. IfOk result (λ answer. Assembles table.now order bytes (W.contents out.old) (W.contents out.new) (O.contents made.old) (O.contents made.new) answer)) }
+    ensures assembled { IfSome (R.remaining r.old)
+        (λ bytes. IfOk result (λ answer. Assembles table.now order bytes (W.contents out.old) (W.contents out.new)
+        (O.contents made.old) (O.contents made.new) answer)) }
     // The answer is `Failed` exactly where a read or a write failed.
-    ensures count { ((R.failures r.new ≢ R.failures r.old) ⊎ (W.failures out.new ≢ W.failures out.old) ⊎ (O.failures made.new ≢ O.failures made.old)) ↔ IsErrOf result trouble.Failed }
+    ensures count { (HasFailed R.failures r.old r.new ⊎ HasFailed W.failures out.old out.new
+        ⊎ HasFailed O.failures made.old made.new) ↔ IsErrOf result trouble.Failed }
     ensures no_text { IsErrOf result trouble.NotText → IfSome (R.remaining r.old) (λ bytes. ¬ IsUtf8 bytes) }
     // With an error a writer that did not fail is as it was.
-    ensures unwritten { IsErr result → W.failures out.new ≡ W.failures out.old → out.new ≡ out.old }
-    ensures unmade { IsErr result → O.failures made.new ≡ O.failures made.old → made.new ≡ made.old }
+    ensures unwritten { IsErr result → IsUntouched W.failures out.old out.new }
+    ensures unmade { IsErr result → IsUntouched O.failures made.old made.new }
     // After a failed write a beginning was written.
-    ensures begun { (W.failures out.new ≢ W.failures out.old) ⊎ (O.failures made.new ≢ O.failures made.old) → IfSome (R.remaining r.old) (λ bytes. BeginsAssembling table.now order bytes (W.contents out.old) (W.contents out.new) (O.contents made.old) (O.contents made.new)) }
+    ensures begun { HasFailed W.failures out.old out.new ⊎ HasFailed O.failures made.old made.new
+        → IfSome (R.remaining r.old)
+        (λ bytes. BeginsAssembling table.now order bytes (W.contents out.old) (W.contents out.new)
+        (O.contents made.old) (O.contents made.new)) }
 {
     match assembly_on(alloc, table, r)? {
         Assembly::Made(image) => match write_image(&image, order, made) {

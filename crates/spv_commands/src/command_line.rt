@@ -1,10 +1,16 @@
 //! The words of the command line, read by `clap`.
-ghost use Rattle.std.specs.Prelude.{◌≡◌, ◌≤◌, ◌↔◌, ◌∷◌, ℕ, List, [], false, codes, IfOk, IsTrue, MatchOption, map, option_map, Option, Some, length};
+ghost use Rattle.std.specs.Prelude.{◌≡◌, ◌≤◌, ◌↔◌, ◌∷◌, ℕ, List, [], false, codes, IfOk};
+ghost use Rattle.std.specs.Prelude.{IsTrue, MatchOption, map, option_map, Option, Some, length};
 ghost use Rattle.std.specs.Str.{bytes_eq};
-ghost use Rattle.clap.specs.Words.{Row, Text, app_of, first_of, found_of, rows_of, rule_of, shape_of, subcommand_rows_of};
+ghost use Rattle.clap.specs.Words.{Row, Text, app_of, first_of, found_of, rows_of, rule_of, shape_of};
+ghost use Rattle.clap.specs.Words.{subcommand_rows_of};
 ghost use Rattle.clap.specs.declared.builder.command.Command.TheViews.{out-Command};
 ghost use Rattle.spv_commands.specs.declared.command_line.Command.{Command};
-ghost use Rattle.spv_commands.specs.CommandLine.{Answers, AnswersTo, IsAsked, IsAsmOf, IsCommandOf, IsRulesOf, IsTraceOf, asm_command, bare_program, error_of, file_command, file_word, files_word, grammar_option, inputs_among, judging_program, module_program, number_option, program, rules_command, task_name, trace_command};
+ghost use Rattle.spv_commands.specs.CommandLine.{Answers, AnswersTo, IsAsked, IsCommandOf, asm_command, bare_program};
+ghost use Rattle.spv_commands.specs.CommandLine.{error_of, file_command, file_word, files_word, grammar_option};
+ghost use Rattle.spv_commands.specs.CommandLine.{inputs_among, judging_program, module_program, number_option, program};
+ghost use Rattle.spv_commands.specs.CommandLine.{rules_command, task_name, trace_command};
+ghost use Rattle.spv_commands.specs.inner.CommandLine.{IsAsmOf, IsRulesOf, IsTraceOf};
 ghost use Rattle.spv_commands.specs.Number.{AreNumbersOf, IsNumberOf};
 
 use crate::manual;
@@ -67,7 +73,8 @@ pub enum Command<'a> {
         file: &'a str,
         /// The id of the function, as an OpEntryPoint names it.
         function: u32,
-        /// The places of the targets that are taken, from 0: one for each branch on a condition or switch that is executed.
+        /// The places of the targets that are taken, from 0: one for each branch on a condition or switch that is
+        /// executed.
         choices: Vec<u32>,
         /// The greatest number of steps; a step is one instruction that is executed.
         limit: u32,
@@ -362,7 +369,8 @@ fn asm_in<'a>(found: &ArgMatches<'a>, grammar: &'a str, file: &'a str) -> Option
 
 /// The number of an option that must be given. None where it is not, or its text is no number of 32 bits.
 fn number_of(found: &ArgMatches<'_>, option: &str) -> Option<u32>
-    ensures { MatchOption result ((n : ℕ) → ¬ (IsNumberOf (first_of option.now (rows_of (found_of found.now))) n)) (λ n. IsNumberOf (first_of option.now (rows_of (found_of found.now))) n) }
+    ensures { MatchOption result ((n : ℕ) → ¬ (IsNumberOf (first_of option.now (rows_of (found_of found.now))) n))
+        (λ n. IsNumberOf (first_of option.now (rows_of (found_of found.now))) n) }
 {
     match found.get_str(option) {
         Some(text) => number_in(text.as_bytes()),
@@ -376,7 +384,9 @@ fn numbers_of(
     found: &ArgMatches<'_>,
     option: &str,
 ) -> Result<Option<Vec<u32>>, AllocError>
-    ensures { IfOk result (λ o. MatchOption o ((ns : List ℕ) → ¬ (AreNumbersOf (first_of option.now (rows_of (found_of found.now))) ns)) (λ v. AreNumbersOf (first_of option.now (rows_of (found_of found.now))) v.items)) }
+    ensures { IfOk result (λ o. MatchOption o
+        ((ns : List ℕ) → ¬ (AreNumbersOf (first_of option.now (rows_of (found_of found.now))) ns))
+        (λ v. AreNumbersOf (first_of option.now (rows_of (found_of found.now))) v.items)) }
 {
     match found.get_str(option) {
         Some(text) => numbers_in(alloc, text.as_bytes()),
@@ -433,7 +443,8 @@ fn one_file_command<'a>(
     file: &'a str,
 ) -> Result<Command<'a>, UseError>
     requires { ¬ (name.now ≡ codes "rules") }
-    ensures { (environment : Option Text) → IsAsked environment (Some (name.now, rows_of (found_of found.now))) name.now grammar.now (file.now ∷ [])
+    ensures { (environment : Option Text) → IsAsked environment
+        (Some (name.now, rows_of (found_of found.now))) name.now grammar.now (file.now ∷ [])
         → IsCommandOf environment (Some (name.now, rows_of (found_of found.now))) result }
 {
     match name {
@@ -448,7 +459,8 @@ fn one_file_command<'a>(
 
 /// The task of the command of a name, if it is one on several files.
 fn task_named(name: &str) -> Option<Task>
-    ensures { MatchOption result ((task : Task) → ¬ (name.now ≡ task_name task)) (λ task. name.now ≡ task_name task) }
+    ensures { MatchOption result ((task : Task) → ¬ (name.now ≡ task_name task))
+        (λ task. name.now ≡ task_name task) }
 {
     match name {
         "check" => Some(Task::Check),
@@ -493,7 +505,8 @@ fn each_command<'a>(
 ) -> Result<Command<'a>, UseError>
     requires other { ¬ (name.now ≡ codes "rules") }
     requires several { ¬ (length files.now ≡ 1) }
-    ensures { (environment : Option Text) (rows : List Row) → IsAsked environment (Some (name.now, rows)) name.now grammar.now (map (λ file. file.now) files.now)
+    ensures { (environment : Option Text) (rows : List Row)
+        → IsAsked environment (Some (name.now, rows)) name.now grammar.now (map (λ file. file.now) files.now)
         → IsCommandOf environment (Some (name.now, rows)) result }
 {
     let Some(task) = task_named(name) else {
@@ -519,7 +532,8 @@ fn command_on<'a>(
     files: &[&'a str],
 ) -> Result<Command<'a>, UseError>
     requires { ¬ (name.now ≡ codes "rules") }
-    ensures { (environment : Option Text) → IsAsked environment (Some (name.now, rows_of (found_of found.now))) name.now grammar.now (map (λ file. file.now) files.now)
+    ensures { (environment : Option Text) → IsAsked environment
+        (Some (name.now, rows_of (found_of found.now))) name.now grammar.now (map (λ file. file.now) files.now)
         → IsCommandOf environment (Some (name.now, rows_of (found_of found.now))) result }
 {
     if files.len() == 1 {
@@ -537,7 +551,8 @@ fn file_command_in<'a>(
     environment: Option<&'a str>,
 ) -> Result<Command<'a>, UseError>
     requires { ¬ (name.now ≡ codes "rules") }
-    ensures { IsCommandOf (option_map (λ g. g.now) environment.entry) (Some (name.now, rows_of (found_of found.now))) result }
+    ensures { IsCommandOf (option_map (λ g. g.now) environment.entry)
+        (Some (name.now, rows_of (found_of found.now))) result }
 {
     let Some(grammar) = found.get_str("grammar").or(environment) else {
         return Err(UseError::U1);
@@ -565,7 +580,8 @@ fn command_in<'a>(
     }
 }
 
-/// The command that the words after the program's name give, as `arguments_in` where the environment names no grammar file.
+/// The command that the words after the program's name give, as `arguments_in` where the environment names no grammar
+/// file.
 ///
 /// # Errors
 ///
@@ -576,18 +592,18 @@ pub fn arguments<'a>(alloc: Global, words: &'a [&'a str]) -> Result<Command<'a>,
     arguments_in(alloc, words, None)
 }
 
-/// The command that the words after the program's name give, where the environment names a grammar file, or none, by the surface of
-/// the program (own). The texts are lent by the words. Options may stand in any order, each once. The grammar file is that of
-/// `--grammar`, and without it that of the environment.
+/// The command that the words after the program's name give, where the environment names a grammar file, or none, by
+/// the surface of the program (own). The texts are lent by the words. Options may stand in any order, each once. The
+/// grammar file is that of `--grammar`, and without it that of the environment.
 ///
-/// A number is one or more ASCII digits, and one of 32 bits in decimal; choices are numbers joined by commas, none where the
-/// option is not given.
+/// A number is one or more ASCII digits, and one of 32 bits in decimal; choices are numbers joined by commas, none
+/// where the option is not given.
 ///
 /// # Errors
 ///
-/// `U1`: the words fit no command, no grammar file is named where one is read, an option is given twice, `-` is two of the files,
-/// or a code is unknown. `U2`: a growth of memory was refused. `U3`: they ask for help, by `help`, `--help` or `-h`. `U4`: they ask
-/// for the version, by `--version` or `-V`.
+/// `U1`: the words fit no command, no grammar file is named where one is read, an option is given twice, `-` is two of
+/// the files, or a code is unknown. `U2`: a growth of memory was refused. `U3`: they ask for help, by `help`, `--help`
+/// or `-h`. `U4`: they ask for the version, by `--version` or `-V`.
 pub fn arguments_in<'a>(
     alloc: Global,
     words: &'a [&'a str],
@@ -613,8 +629,8 @@ pub fn help(alloc: Global) -> Result<String, AllocError> {
     program.render_long_help()
 }
 
-/// The text that the words ask for where `arguments` answers U3 or U4: the help of the program or of a command, or the version. Of
-/// other words it is what is wrong with them, and of those of a command nothing.
+/// The text that the words ask for where `arguments` answers U3 or U4: the help of the program or of a command, or the
+/// version. Of other words it is what is wrong with them, and of those of a command nothing.
 ///
 /// # Errors
 ///

@@ -1,5 +1,5 @@
-//! What follows from the definitions of what is shown and of a grammar file's table. Each function does nothing: its contract
-//! is what is proved.
+//! What follows from the definitions of what is shown and of a grammar file's table. Each function does nothing: its
+//! contract is what is proved.
 ghost use Rattle.std.specs.Prelude.{◌≡◌, ◌++◌, ◌∷◌, [], ℕ, List, Option, Bool, true, false, codes};
 ghost use Rattle.spv_words.specs.declared.words.Order.{Order};
 ghost use Rattle.spv_table.specs.Table.{Table};
@@ -14,7 +14,8 @@ ghost use Rattle.spv_commands.specs.Number.{AreNumbers, IsNumber};
 ghost use Rattle.spv_commands.specs.Trace.{BeginsTracing, HasNoEntry, Traces, step_line, trace_text};
 ghost use Rattle.spv_run.specs.declared.parts.Ending.TheVariants.{Finished, Limit};
 ghost use Rattle.spv_commands.specs.Task.{BeginsByText, DoesByText, MakesNothing, ReadsGrammar};
-ghost use Rattle.spv_commands.specs.Trouble.{BeginsWith, IsErrorLine, IsTableOf, Writes, entry_line, file_line, memory_line};
+ghost use Rattle.spv_commands.specs.Trouble.{BeginsWith, IsErrorLine, IsTableOf, Writes, entry_line, file_line};
+ghost use Rattle.spv_commands.specs.Trouble.{memory_line};
 ghost use Rattle.spv_commands.specs.declared.command_line.Command.{Command};
 ghost use Rattle.spv_verdict.specs.Verdict.{line_end, valid_line};
 
@@ -24,8 +25,10 @@ use spv_lines::one_shown;
 
 /// Bytes are shown in one way.
 pub fn one_showing()
-    ensures output { (G : Table) (bytes one other : List ℕ) (a b : Bool) → IsShowing G bytes one a → IsShowing G bytes other b → one ≡ other }
-    ensures answer { (G : Table) (bytes one other : List ℕ) (a b : Bool) → IsShowing G bytes one a → IsShowing G bytes other b → a ≡ b }
+    ensures output { (G : Table) (bytes one other : List ℕ) (a b : Bool) → IsShowing G bytes one a
+        → IsShowing G bytes other b → one ≡ other }
+    ensures answer { (G : Table) (bytes one other : List ℕ) (a b : Bool) → IsShowing G bytes one a
+        → IsShowing G bytes other b → a ≡ b }
 {
     spv_words::laws::one_word_list();
     spv_words::laws::one_refusal();
@@ -47,7 +50,8 @@ pub fn one_grammar()
 /// Worked examples of what is shown.
 pub fn show_examples()
     // A writer that held the byte 9 got the line of three bytes, which are no module and have no text.
-    ensures shows { (G : Table) → Shows G (1 ∷ 2 ∷ 3 ∷ []) (9 ∷ []) (Some (9 ∷ codes "fault W2" ++ line_end)) false }
+    ensures shows { (G : Table) → Shows G (1 ∷ 2 ∷ 3 ∷ []) (9 ∷ [])
+        (Some (9 ∷ codes "fault W2" ++ line_end)) false }
     ensures shows_text { (G : Table) (new : Option (List ℕ)) → ¬ (Shows G (1 ∷ 2 ∷ 3 ∷ []) [] new true) }
     // The first five bytes of that line.
     ensures begins { (G : Table) → BeginsShowing G (1 ∷ 2 ∷ 3 ∷ []) (9 ∷ []) (Some (9 ∷ codes "fault")) }
@@ -59,7 +63,8 @@ pub fn show_examples()
 /// Worked examples of what is explained.
 pub fn explain_examples()
     // A writer that held the byte 9 got the verdict line of three bytes, which are no module and have no evidence.
-    ensures explains { (G : Table) → Explains G (1 ∷ 2 ∷ 3 ∷ []) (9 ∷ []) (Some (9 ∷ codes "fault W2" ++ line_end)) false }
+    ensures explains { (G : Table) → Explains G (1 ∷ 2 ∷ 3 ∷ []) (9 ∷ [])
+        (Some (9 ∷ codes "fault W2" ++ line_end)) false }
     // The first five bytes of that line.
     ensures begins { (G : Table) → BeginsExplaining G (1 ∷ 2 ∷ 3 ∷ []) (9 ∷ []) (Some (9 ∷ codes "fault")) }
 {
@@ -70,11 +75,16 @@ pub fn explain_examples()
 /// Worked examples of what a text is assembled to.
 pub fn assemble_examples()
     // Three characters are no header: the writer that held the byte 9 got the line, and nothing is made.
-    ensures assembles { (G : Table) (o : Order) → Assembles G o (1 ∷ 2 ∷ 3 ∷ []) (Some (9 ∷ [])) (Some (9 ∷ codes "fault S1 line 1" ++ line_end)) (Some []) (Some []) false }
-    ensures assembles_none { (G : Table) (o : Order) (old new held kept : Option (List ℕ)) → ¬ (Assembles G o (1 ∷ 2 ∷ 3 ∷ []) old new held kept true) }
+    ensures assembles { (G : Table) (o : Order)
+        → Assembles G o (1 ∷ 2 ∷ 3 ∷ []) (Some (9 ∷ [])) (Some (9 ∷ codes "fault S1 line 1" ++ line_end))
+        (Some []) (Some []) false }
+    ensures assembles_none { (G : Table) (o : Order) (old new held kept : Option (List ℕ))
+        → ¬ (Assembles G o (1 ∷ 2 ∷ 3 ∷ []) old new held kept true) }
     // The first five bytes of that line, and other bytes.
-    ensures begins { (G : Table) (o : Order) → BeginsAssembling G o (1 ∷ 2 ∷ 3 ∷ []) (Some (9 ∷ [])) (Some (9 ∷ codes "fault")) (Some []) (Some []) }
-    ensures begins_none { (G : Table) (o : Order) (old new : Option (List ℕ)) → ¬ (BeginsAssembling G o (1 ∷ 2 ∷ 3 ∷ []) old new (Some []) (Some (3 ∷ []))) }
+    ensures begins { (G : Table) (o : Order) → BeginsAssembling G o (1 ∷ 2 ∷ 3 ∷ []) (Some (9 ∷ []))
+        (Some (9 ∷ codes "fault")) (Some []) (Some []) }
+    ensures begins_none { (G : Table) (o : Order) (old new : Option (List ℕ))
+        → ¬ (BeginsAssembling G o (1 ∷ 2 ∷ 3 ∷ []) old new (Some []) (Some (3 ∷ []))) }
 {}
 
 /// Worked examples of numbers of the command line.
@@ -93,13 +103,18 @@ pub fn number_examples()
 pub fn trace_examples()
     // The lines of a step and of an end, and the text of both.
     ensures step { step_line (record { depth = 0; inst = 7 }) ≡ codes "0 7" ++ line_end }
-    ensures text { trace_text (record { depth = 1; inst = 2 } ∷ []) Limit ≡ codes "1 2" ++ line_end ++ codes "end limit" ++ line_end }
+    ensures text { trace_text (record { depth = 1; inst = 2 } ∷ []) Limit ≡ codes "1 2" ++ line_end
+        ++ codes "end limit" ++ line_end }
     ensures other_text { ¬ (trace_text [] Finished ≡ codes "end limit" ++ line_end) }
     // A writer that held the byte 9 got the verdict line of three bytes, which are no module and have no run.
-    ensures traces { (G : Table) (function : ℕ) (choices : List ℕ) (limit : ℕ) → Traces G function choices limit (1 ∷ 2 ∷ 3 ∷ []) (9 ∷ []) (Some (9 ∷ codes "fault W2" ++ line_end)) false }
-    ensures traces_none { (G : Table) (function : ℕ) (choices : List ℕ) (limit : ℕ) (new : Option (List ℕ)) → ¬ (Traces G function choices limit (1 ∷ 2 ∷ 3 ∷ []) [] new true) }
+    ensures traces { (G : Table) (function : ℕ) (choices : List ℕ) (limit : ℕ)
+        → Traces G function choices limit (1 ∷ 2 ∷ 3 ∷ []) (9 ∷ [])
+        (Some (9 ∷ codes "fault W2" ++ line_end)) false }
+    ensures traces_none { (G : Table) (function : ℕ) (choices : List ℕ) (limit : ℕ) (new : Option (List ℕ))
+        → ¬ (Traces G function choices limit (1 ∷ 2 ∷ 3 ∷ []) [] new true) }
     // The first five bytes of that line.
-    ensures begins { (G : Table) (function : ℕ) (choices : List ℕ) (limit : ℕ) → BeginsTracing G function choices limit (1 ∷ 2 ∷ 3 ∷ []) (9 ∷ []) (Some (9 ∷ codes "fault")) }
+    ensures begins { (G : Table) (function : ℕ) (choices : List ℕ) (limit : ℕ)
+        → BeginsTracing G function choices limit (1 ∷ 2 ∷ 3 ∷ []) (9 ∷ []) (Some (9 ∷ codes "fault")) }
     // No id is told of bytes that are no module.
     ensures no_entry { (G : Table) (function : ℕ) → ¬ (HasNoEntry G (1 ∷ 2 ∷ 3 ∷ []) function) }
 {
@@ -119,12 +134,18 @@ pub fn run_examples()
     // Two empty lists give the table of nothing, and no text at all gives none.
     ensures table { IsTableOf empty_grammar empty_table }
     ensures no_table { (G : Table) → ¬ (IsTableOf [] G) }
-    ensures does { (command : Command) → ReadsGrammar command → MakesNothing command → DoesByText command empty_grammar (1 ∷ 2 ∷ 3 ∷ []) (Some (9 ∷ [])) (Some (9 ∷ codes "fault W2" ++ line_end)) None None false }
-    ensures does_nothing { (command : Command) (bytes : List ℕ) (old new held kept : Option (List ℕ)) (answer : Bool) → ¬ (DoesByText command [] bytes old new held kept answer) }
-    ensures begins { (command : Command) → ReadsGrammar command → MakesNothing command → BeginsByText command empty_grammar (1 ∷ 2 ∷ 3 ∷ []) (Some (9 ∷ [])) (Some (9 ∷ codes "fault")) None None }
-    ensures begins_nothing { (command : Command) (bytes : List ℕ) (old new held kept : Option (List ℕ)) → ¬ (BeginsByText command [] bytes old new held kept) }
-    // No text at all breaks J1, memory can always be told, `error X1` of an id that is strange, and `error file` only after a
-    // failed call.
+    ensures does { (command : Command) → ReadsGrammar command → MakesNothing command
+        → DoesByText command empty_grammar (1 ∷ 2 ∷ 3 ∷ []) (Some (9 ∷ []))
+        (Some (9 ∷ codes "fault W2" ++ line_end)) None None false }
+    ensures does_nothing { (command : Command) (bytes : List ℕ) (old new held kept : Option (List ℕ))
+        (answer : Bool) → ¬ (DoesByText command [] bytes old new held kept answer) }
+    ensures begins { (command : Command) → ReadsGrammar command → MakesNothing command
+        → BeginsByText command empty_grammar (1 ∷ 2 ∷ 3 ∷ []) (Some (9 ∷ []))
+        (Some (9 ∷ codes "fault")) None None }
+    ensures begins_nothing { (command : Command) (bytes : List ℕ) (old new held kept : Option (List ℕ))
+        → ¬ (BeginsByText command [] bytes old new held kept) }
+    // No text at all breaks J1, memory can always be told, `error X1` of an id that is strange, and `error file` only
+    // after a failed call.
     ensures refused { IsErrorLine [] ⊥ ⊥ (codes "error J1" ++ line_end) }
     ensures memory { (text : List ℕ) → IsErrorLine text ⊥ ⊥ memory_line }
     ensures no_entry { (text : List ℕ) → IsErrorLine text ⊥ (Unit {0}) entry_line }

@@ -1,5 +1,5 @@
-//! The commands of `spv`, over values: the words of the command line, and what the program does once its files are open.
-//! It opens no file, so a program of its own can call it on any readers and writers.
+//! The commands of `spv`, over values: the words of the command line, and what the program does once its files are
+//! open. It opens no file, so a program of its own can call it on any readers and writers.
 #![tactic(auto)]
 
 mod assembling;

@@ -1,15 +1,17 @@
 //! Numbers of the command line.
-ghost use Rattle.std.specs.Prelude.{◌≡◌, ◌<◌, ◌≤◌, ◌+◌, ◌*◌, ◌-◌, ◌^◌, ◌∷◌, ℕ, List, Some, None, true, length, IfOk, IfSome, MatchOption, option_map};
+ghost use Rattle.std.specs.Prelude.{◌≡◌, ◌<◌, ◌≤◌, ◌+◌, ◌*◌, ◌-◌, ◌^◌, ◌∷◌, ℕ};
+ghost use Rattle.std.specs.Prelude.{List, Some, None, true, length, IfOk, IfSome, MatchOption, option_map};
 ghost use Rattle.spv_lines.specs.Digits.{is_digit};
 ghost use Rattle.spv_commands.specs.Number.{AreNumbers, IsNumber, parts_of};
-ghost use Rattle.spv_commands.specs.Reading.{parts_left};
+ghost use Rattle.spv_commands.specs.inner.Reading.{parts_left};
 
 use memchr::memchr;
 use std::alloc::{AllocError, Global};
 
 /// The number of 32 bits that a digit behind the digits of a number makes of it.
 fn with_digit(number: u32, octet: u8) -> Option<u32>
-    ensures { MatchOption result (is_digit octet ≡ true → 2 ^ 32 ≤ number * 10 + (octet - 48)) (λ n. (is_digit octet ≡ true) × (n ≡ number * 10 + (octet - 48)) × (n < 2 ^ 32)) }
+    ensures { MatchOption result (is_digit octet ≡ true → 2 ^ 32 ≤ number * 10 + (octet - 48))
+        (λ n. (is_digit octet ≡ true) × (n ≡ number * 10 + (octet - 48)) × (n < 2 ^ 32)) }
 {
     if octet < b'0' || octet > b'9' {
         return None;
@@ -18,7 +20,8 @@ fn with_digit(number: u32, octet: u8) -> Option<u32>
     tens.checked_add(u32::from(octet - b'0'))
 }
 
-/// The number that a text is in decimal: ASCII digits, one at least. None where it is no digits, or a number over 32 bits.
+/// The number that a text is in decimal: ASCII digits, one at least. None where it is no digits, or a number over 32
+/// bits.
 pub fn number_in(text: &[u8]) -> Option<u32>
     ensures { MatchOption result ((n : ℕ) → ¬ (IsNumber text.now n)) (λ n. IsNumber text.now n) }
 {
@@ -46,13 +49,15 @@ fn split_part(text: &[u8]) -> (&[u8], Option<&[u8]>)
     }
 }
 
-/// The numbers that commas join in a text, one at least. None where what stands between two commas is no number of 32 bits.
+/// The numbers that commas join in a text, one at least. None where what stands between two commas is no number of 32
+/// bits.
 ///
 /// # Errors
 ///
 /// Where a growth of memory was refused.
 pub fn numbers_in(alloc: Global, text: &[u8]) -> Result<Option<Vec<u32>>, AllocError>
-    ensures { IfOk result (λ o. MatchOption o ((ns : List ℕ) → ¬ (AreNumbers text.now ns)) (λ v. AreNumbers text.now v.items)) }
+    ensures { IfOk result (λ o. MatchOption o ((ns : List ℕ) → ¬ (AreNumbers text.now ns))
+        (λ v. AreNumbers text.now v.items)) }
 {
     let mut numbers = Vec::new(alloc);
     let mut rest = Some(text);

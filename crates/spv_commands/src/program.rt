@@ -1,15 +1,20 @@
 //! What the program does once its words are read and its files are open.
-ghost use Rattle.std.specs.Prelude.{◌≡◌, ◌≢◌, ◌≤◌, ◌⊎◌, ◌↔◌, ◌==◌, ℕ, List, true, IfOk, IfErr, IfSome, IsErr, IsErrOf, IsUtf8};
+ghost use Rattle.std.specs.Prelude.{◌≡◌, ◌≢◌, ◌≤◌, ◌⊎◌, ◌↔◌, ◌==◌, ℕ, List, true};
+ghost use Rattle.std.specs.Prelude.{IfOk, IfErr, IfSome, IsErr, IsErrOf, IsUtf8};
 ghost use Rattle.spv_grammar.specs.Answer.{text_breaks};
 ghost use Rattle.spv_grammar.specs.declared.error.GrammarError.{GrammarError};
 ghost use Rattle.spv_grammar.specs.declared.error.GrammarError.TheVariants.{J8};
 ghost use Rattle.spv_commands.specs.Assemble.{Assembles, BeginsAssembling, order_of};
-ghost use Rattle.spv_verdict.specs.Stream.{Begins, Tells};
+ghost use Rattle.spv_verdict.specs.Outcome.{Failed, IsUntouched, OfKnown};
+ghost use Rattle.spv_verdict.specs.Stream.{Begins, TellsVerdict};
 ghost use Rattle.spv_reasons.specs.Stream.{BeginsExplaining, Explains};
 ghost use Rattle.spv_commands.specs.Show.{BeginsShowing, Shows};
-ghost use Rattle.spv_commands.specs.Task.{BeginsByText, BeginsTask, BeginsText, BeginsToDo, Does, DoesByText, DoesTask, IsNoText, LacksEntry, LacksEntryByText, MakesNothing, ReadsGrammar, WritesText};
+ghost use Rattle.spv_commands.specs.Task.{BeginsByText, BeginsTask, BeginsText, BeginsToDo, Does, DoesByText, DoesTask};
+ghost use Rattle.spv_commands.specs.Task.{IsNoText, LacksEntry, LacksEntryByText, MakesNothing, ReadsGrammar};
+ghost use Rattle.spv_commands.specs.Task.{WritesText};
 ghost use Rattle.spv_commands.specs.Trace.{BeginsTracing, HasNoEntry, Traces};
-ghost use Rattle.spv_commands.specs.Trouble.{IsErrorLine, Writes, file_line, grammar_text, memory_line, trouble_from, trouble_text};
+ghost use Rattle.spv_commands.specs.Trouble.{IsErrorLine, Writes, file_line, grammar_text, memory_line, trouble_from};
+ghost use Rattle.spv_commands.specs.Trouble.{trouble_text};
 ghost use Rattle.spv_commands.specs.declared.program.Trouble.TheVariants.{File, Grammar, Memory, NoEntry};
 
 use crate::assembling::{TextError, assemble_stream};
@@ -72,7 +77,8 @@ fn grammar_line(error: GrammarError) -> &'static [u8]
 /// Writes the line of a trouble, its line feed included. Where that fails too, there is nowhere left to tell it, and a
 /// beginning was written.
 pub fn report<E: Sink>(trouble: Trouble, err: &mut E)
-    ensures { Writes (trouble_text trouble) (E.contents err.old) (E.contents err.new) (E.failures err.old) (E.failures err.new) }
+    ensures { Writes (trouble_text trouble) (E.contents err.old) (E.contents err.new) (E.failures err.old)
+        (E.failures err.new) }
 {
     let _ = write_all(trouble_line(trouble), err);
 }
@@ -94,11 +100,15 @@ fn judged<S: Source, W: Sink>(
     file: &mut S,
     out: &mut W,
 ) -> Result<bool, Trouble>
-    ensures verdict { IfSome (S.remaining file.old) (λ bytes. IfSome (W.contents out.old) (λ old. IfOk result (λ valid. Tells table.now bytes old (W.contents out.new) valid))) }
-    ensures failed { ((S.failures file.new ≢ S.failures file.old) ⊎ (W.failures out.new ≢ W.failures out.old)) ↔ IsErrOf result File }
+    ensures verdict { OfKnown (S.remaining file.old) (W.contents out.old)
+        (λ bytes old. IfOk result (λ valid. TellsVerdict table.now bytes old (W.contents out.new) valid)) }
+    ensures failed { (Failed S.failures file.old file.new ⊎ Failed W.failures out.old out.new)
+        ↔ IsErrOf result File }
     ensures only { IfErr result (λ t. (t ≡ File) ⊎ (t ≡ Memory)) }
-    ensures unwritten { IsErr result → W.failures out.new ≡ W.failures out.old → out.new ≡ out.old }
-    ensures begun { W.failures out.new ≢ W.failures out.old → IfSome (S.remaining file.old) (λ bytes. IfSome (W.contents out.old) (λ old. Begins table.now bytes old (W.contents out.new))) }
+    ensures unwritten { IsErr result → IsUntouched W.failures out.old out.new }
+    ensures begun { Failed W.failures out.old out.new
+        → OfKnown (S.remaining file.old) (W.contents out.old)
+        (λ bytes old. Begins table.now bytes old (W.contents out.new)) }
 {
     check_stream(alloc, table, file, out).map_err(stream_trouble)
 }
@@ -110,11 +120,15 @@ fn explained<S: Source, W: Sink>(
     file: &mut S,
     out: &mut W,
 ) -> Result<bool, Trouble>
-    ensures explained { IfSome (S.remaining file.old) (λ bytes. IfSome (W.contents out.old) (λ old. IfOk result (λ valid. Explains table.now bytes old (W.contents out.new) valid))) }
-    ensures failed { ((S.failures file.new ≢ S.failures file.old) ⊎ (W.failures out.new ≢ W.failures out.old)) ↔ IsErrOf result File }
+    ensures explained { OfKnown (S.remaining file.old) (W.contents out.old)
+        (λ bytes old. IfOk result (λ valid. Explains table.now bytes old (W.contents out.new) valid)) }
+    ensures failed { (Failed S.failures file.old file.new ⊎ Failed W.failures out.old out.new)
+        ↔ IsErrOf result File }
     ensures only { IfErr result (λ t. (t ≡ File) ⊎ (t ≡ Memory)) }
-    ensures unwritten { IsErr result → W.failures out.new ≡ W.failures out.old → out.new ≡ out.old }
-    ensures begun { W.failures out.new ≢ W.failures out.old → IfSome (S.remaining file.old) (λ bytes. IfSome (W.contents out.old) (λ old. BeginsExplaining table.now bytes old (W.contents out.new))) }
+    ensures unwritten { IsErr result → IsUntouched W.failures out.old out.new }
+    ensures begun { Failed W.failures out.old out.new
+        → OfKnown (S.remaining file.old) (W.contents out.old)
+        (λ bytes old. BeginsExplaining table.now bytes old (W.contents out.new)) }
 {
     explain_stream(alloc, table, file, out).map_err(stream_trouble)
 }
@@ -127,11 +141,15 @@ fn tasked<S: Source, W: Sink>(
     file: &mut S,
     out: &mut W,
 ) -> Result<bool, Trouble>
-    ensures done { IfSome (S.remaining file.old) (λ bytes. IfSome (W.contents out.old) (λ old. IfOk result (λ valid. DoesTask task table.now bytes old (W.contents out.new) valid))) }
-    ensures failed { ((S.failures file.new ≢ S.failures file.old) ⊎ (W.failures out.new ≢ W.failures out.old)) ↔ IsErrOf result File }
+    ensures done { OfKnown (S.remaining file.old) (W.contents out.old)
+        (λ bytes old. IfOk result (λ valid. DoesTask task table.now bytes old (W.contents out.new) valid)) }
+    ensures failed { (Failed S.failures file.old file.new ⊎ Failed W.failures out.old out.new)
+        ↔ IsErrOf result File }
     ensures only { IfErr result (λ t. (t ≡ File) ⊎ (t ≡ Memory)) }
-    ensures unwritten { IsErr result → W.failures out.new ≡ W.failures out.old → out.new ≡ out.old }
-    ensures begun { W.failures out.new ≢ W.failures out.old → IfSome (S.remaining file.old) (λ bytes. IfSome (W.contents out.old) (λ old. BeginsTask task table.now bytes old (W.contents out.new))) }
+    ensures unwritten { IsErr result → IsUntouched W.failures out.old out.new }
+    ensures begun { Failed W.failures out.old out.new
+        → OfKnown (S.remaining file.old) (W.contents out.old)
+        (λ bytes old. BeginsTask task table.now bytes old (W.contents out.new)) }
 {
     match task {
         Task::Check => judged(alloc, table, file, out),
@@ -146,11 +164,15 @@ fn shown<S: Source, W: Sink>(
     file: &mut S,
     out: &mut W,
 ) -> Result<bool, Trouble>
-    ensures shown { IfSome (S.remaining file.old) (λ bytes. IfSome (W.contents out.old) (λ old. IfOk result (λ answer. Shows table.now bytes old (W.contents out.new) answer))) }
-    ensures failed { ((S.failures file.new ≢ S.failures file.old) ⊎ (W.failures out.new ≢ W.failures out.old)) ↔ IsErrOf result File }
+    ensures shown { OfKnown (S.remaining file.old) (W.contents out.old)
+        (λ bytes old. IfOk result (λ answer. Shows table.now bytes old (W.contents out.new) answer)) }
+    ensures failed { (Failed S.failures file.old file.new ⊎ Failed W.failures out.old out.new)
+        ↔ IsErrOf result File }
     ensures only { IfErr result (λ t. (t ≡ File) ⊎ (t ≡ Memory)) }
-    ensures unwritten { IsErr result → W.failures out.new ≡ W.failures out.old → out.new ≡ out.old }
-    ensures begun { W.failures out.new ≢ W.failures out.old → IfSome (S.remaining file.old) (λ bytes. IfSome (W.contents out.old) (λ old. BeginsShowing table.now bytes old (W.contents out.new))) }
+    ensures unwritten { IsErr result → IsUntouched W.failures out.old out.new }
+    ensures begun { Failed W.failures out.old out.new
+        → OfKnown (S.remaining file.old) (W.contents out.old)
+        (λ bytes old. BeginsShowing table.now bytes old (W.contents out.new)) }
 {
     show_stream(alloc, table, file, out).map_err(stream_trouble)
 }
@@ -171,12 +193,21 @@ fn assembled<S: Source, W: Sink, O: Sink>(
     out: &mut W,
     made: &mut O,
 ) -> Result<bool, Trouble>
-    ensures done { IfSome (S.remaining file.old) (λ bytes. IfOk result (λ answer. Assembles table.now (order_of big) bytes (W.contents out.old) (W.contents out.new) (O.contents made.old) (O.contents made.new) answer)) }
-    ensures failed { (S.failures file.new ≢ S.failures file.old) ⊎ (W.failures out.new ≢ W.failures out.old) ⊎ (O.failures made.new ≢ O.failures made.old) → IsErrOf result File }
-    ensures why { IfErr result (λ t. ((t ≡ File) × (((S.failures file.new ≢ S.failures file.old) ⊎ (W.failures out.new ≢ W.failures out.old) ⊎ (O.failures made.new ≢ O.failures made.old)) ⊎ IfSome (S.remaining file.old) (λ bytes. ¬ IsUtf8 bytes))) ⊎ (t ≡ Memory)) }
-    ensures unwritten { IsErr result → W.failures out.new ≡ W.failures out.old → out.new ≡ out.old }
-    ensures unmade { IsErr result → O.failures made.new ≡ O.failures made.old → made.new ≡ made.old }
-    ensures begun { (W.failures out.new ≢ W.failures out.old) ⊎ (O.failures made.new ≢ O.failures made.old) → IfSome (S.remaining file.old) (λ bytes. BeginsAssembling table.now (order_of big) bytes (W.contents out.old) (W.contents out.new) (O.contents made.old) (O.contents made.new)) }
+    ensures done { IfSome (S.remaining file.old)
+        (λ bytes. IfOk result (λ answer. Assembles table.now (order_of big) bytes (W.contents out.old)
+        (W.contents out.new) (O.contents made.old) (O.contents made.new) answer)) }
+    ensures failed { Failed S.failures file.old file.new ⊎ Failed W.failures out.old out.new
+        ⊎ Failed O.failures made.old made.new → IsErrOf result File }
+    ensures why { IfErr result (λ t. ((t ≡ File)
+        × ((Failed S.failures file.old file.new ⊎ Failed W.failures out.old out.new
+        ⊎ Failed O.failures made.old made.new) ⊎ IfSome (S.remaining file.old) (λ bytes. ¬ IsUtf8 bytes)))
+        ⊎ (t ≡ Memory)) }
+    ensures unwritten { IsErr result → IsUntouched W.failures out.old out.new }
+    ensures unmade { IsErr result → IsUntouched O.failures made.old made.new }
+    ensures begun { Failed W.failures out.old out.new ⊎ Failed O.failures made.old made.new
+        → IfSome (S.remaining file.old)
+        (λ bytes. BeginsAssembling table.now (order_of big) bytes (W.contents out.old) (W.contents out.new)
+        (O.contents made.old) (O.contents made.new)) }
 {
     match assemble_stream(alloc, table, order_by(big), file, out, made) {
         Ok(answer) => Ok(answer),
@@ -196,11 +227,18 @@ fn traced<S: Source, W: Sink>(
     file: &mut S,
     out: &mut W,
 ) -> Result<bool, Trouble>
-    ensures traced { IfSome (S.remaining file.old) (λ bytes. IfSome (W.contents out.old) (λ old. IfOk result (λ answer. Traces table.now function choices.now limit bytes old (W.contents out.new) answer))) }
-    ensures failed { ((S.failures file.new ≢ S.failures file.old) ⊎ (W.failures out.new ≢ W.failures out.old)) ↔ IsErrOf result File }
-    ensures why { IfErr result (λ t. (t ≡ File) ⊎ ((t ≡ NoEntry) × IfSome (S.remaining file.old) (λ bytes. HasNoEntry table.now bytes function)) ⊎ (t ≡ Memory)) }
-    ensures unwritten { IsErr result → W.failures out.new ≡ W.failures out.old → out.new ≡ out.old }
-    ensures begun { W.failures out.new ≢ W.failures out.old → IfSome (S.remaining file.old) (λ bytes. IfSome (W.contents out.old) (λ old. BeginsTracing table.now function choices.now limit bytes old (W.contents out.new))) }
+    ensures traced { OfKnown (S.remaining file.old) (W.contents out.old)
+        (λ bytes old. IfOk result (λ answer. Traces table.now function choices.now limit bytes old
+        (W.contents out.new) answer)) }
+    ensures failed { (Failed S.failures file.old file.new ⊎ Failed W.failures out.old out.new)
+        ↔ IsErrOf result File }
+    ensures why { IfErr result (λ t. (t ≡ File)
+        ⊎ ((t ≡ NoEntry) × IfSome (S.remaining file.old) (λ bytes. HasNoEntry table.now bytes function))
+        ⊎ (t ≡ Memory)) }
+    ensures unwritten { IsErr result → IsUntouched W.failures out.old out.new }
+    ensures begun { Failed W.failures out.old out.new
+        → OfKnown (S.remaining file.old) (W.contents out.old)
+        (λ bytes old. BeginsTracing table.now function choices.now limit bytes old (W.contents out.new)) }
 {
     match trace_stream(alloc, table, function, choices, limit, file, out) {
         Ok(answer) => Ok(answer),
@@ -212,11 +250,12 @@ fn traced<S: Source, W: Sink>(
 
 /// Writes what codes say, or one of them: it is written.
 fn ruled<W: Sink>(alloc: Global, code: Option<Code>, out: &mut W) -> Result<bool, Trouble>
-    ensures written { IfOk result (λ answer. WritesText (W.contents out.old) (W.contents out.new) × (answer ≡ true)) }
-    ensures failed { (W.failures out.new ≢ W.failures out.old) ↔ IsErrOf result File }
+    ensures written { IfOk result (λ answer. WritesText (W.contents out.old) (W.contents out.new)
+        × (answer ≡ true)) }
+    ensures failed { Failed W.failures out.old out.new ↔ IsErrOf result File }
     ensures only { IfErr result (λ t. (t ≡ File) ⊎ (t ≡ Memory)) }
-    ensures unwritten { IsErr result → W.failures out.new ≡ W.failures out.old → out.new ≡ out.old }
-    ensures begun { W.failures out.new ≢ W.failures out.old → BeginsText (W.contents out.old) (W.contents out.new) }
+    ensures unwritten { IsErr result → IsUntouched W.failures out.old out.new }
+    ensures begun { Failed W.failures out.old out.new → BeginsText (W.contents out.old) (W.contents out.new) }
 {
     let text = match rules_text(alloc, code) {
         Ok(text) => text,
@@ -238,12 +277,21 @@ fn done_by<S: Source, W: Sink, O: Sink>(
     out: &mut W,
     made: &mut O,
 ) -> Result<bool, Trouble>
-    ensures done { IfSome (S.remaining file.old) (λ bytes. IfOk result (λ answer. Does command.now table.now bytes (W.contents out.old) (W.contents out.new) (O.contents made.old) (O.contents made.new) answer)) }
-    ensures failed { (S.failures file.new ≢ S.failures file.old) ⊎ (W.failures out.new ≢ W.failures out.old) ⊎ (O.failures made.new ≢ O.failures made.old) → IsErrOf result File }
-    ensures why { IfErr result (λ t. ((t ≡ File) × (((S.failures file.new ≢ S.failures file.old) ⊎ (W.failures out.new ≢ W.failures out.old) ⊎ (O.failures made.new ≢ O.failures made.old)) ⊎ IsNoText command.now (S.remaining file.old))) ⊎ ((t ≡ NoEntry) × LacksEntry command.now table.now (S.remaining file.old)) ⊎ (t ≡ Memory)) }
-    ensures unwritten { IsErr result → W.failures out.new ≡ W.failures out.old → out.new ≡ out.old }
-    ensures unmade { IsErr result → O.failures made.new ≡ O.failures made.old → made.new ≡ made.old }
-    ensures begun { (W.failures out.new ≢ W.failures out.old) ⊎ (O.failures made.new ≢ O.failures made.old) → IfSome (S.remaining file.old) (λ bytes. BeginsToDo command.now table.now bytes (W.contents out.old) (W.contents out.new) (O.contents made.old) (O.contents made.new)) }
+    ensures done { IfSome (S.remaining file.old)
+        (λ bytes. IfOk result (λ answer. Does command.now table.now bytes (W.contents out.old) (W.contents out.new)
+        (O.contents made.old) (O.contents made.new) answer)) }
+    ensures failed { Failed S.failures file.old file.new ⊎ Failed W.failures out.old out.new
+        ⊎ Failed O.failures made.old made.new → IsErrOf result File }
+    ensures why { IfErr result (λ t. ((t ≡ File)
+        × ((Failed S.failures file.old file.new ⊎ Failed W.failures out.old out.new
+        ⊎ Failed O.failures made.old made.new) ⊎ IsNoText command.now (S.remaining file.old)))
+        ⊎ ((t ≡ NoEntry) × LacksEntry command.now table.now (S.remaining file.old)) ⊎ (t ≡ Memory)) }
+    ensures unwritten { IsErr result → IsUntouched W.failures out.old out.new }
+    ensures unmade { IsErr result → IsUntouched O.failures made.old made.new }
+    ensures begun { Failed W.failures out.old out.new ⊎ Failed O.failures made.old made.new
+        → IfSome (S.remaining file.old)
+        (λ bytes. BeginsToDo command.now table.now bytes (W.contents out.old) (W.contents out.new)
+        (O.contents made.old) (O.contents made.new)) }
     ensures nothing { MakesNothing command.now → made.new ≡ made.old }
 {
     match command {
@@ -272,13 +320,24 @@ fn done_by_text<S: Source, W: Sink, O: Sink>(
     out: &mut W,
     made: &mut O,
 ) -> Result<bool, Trouble>
-    ensures done { IfSome (S.remaining file.old) (λ bytes. IfOk result (λ answer. DoesByText command.now grammar.now bytes (W.contents out.old) (W.contents out.new) (O.contents made.old) (O.contents made.new) answer)) }
-    ensures failed { (S.failures file.new ≢ S.failures file.old) ⊎ (W.failures out.new ≢ W.failures out.old) ⊎ (O.failures made.new ≢ O.failures made.old) → IsErrOf result File }
-    ensures reason { IfErr result (λ t. IsErrorLine grammar.now (((S.failures file.new ≢ S.failures file.old) ⊎ (W.failures out.new ≢ W.failures out.old) ⊎ (O.failures made.new ≢ O.failures made.old)) ⊎ IsNoText command.now (S.remaining file.old)) (LacksEntryByText command.now grammar.now (S.remaining file.old)) (trouble_text t)) }
-    ensures refused { (e : GrammarError) → text_breaks grammar.now e → (file.new ≡ file.old) × (out.new ≡ out.old) × (made.new ≡ made.old) × (IsErrOf result (Grammar e) ⊎ IsErrOf result (Grammar J8)) }
-    ensures unwritten { IsErr result → W.failures out.new ≡ W.failures out.old → out.new ≡ out.old }
-    ensures unmade { IsErr result → O.failures made.new ≡ O.failures made.old → made.new ≡ made.old }
-    ensures begun { (W.failures out.new ≢ W.failures out.old) ⊎ (O.failures made.new ≢ O.failures made.old) → IfSome (S.remaining file.old) (λ bytes. BeginsByText command.now grammar.now bytes (W.contents out.old) (W.contents out.new) (O.contents made.old) (O.contents made.new)) }
+    ensures done { IfSome (S.remaining file.old)
+        (λ bytes. IfOk result (λ answer. DoesByText command.now grammar.now bytes (W.contents out.old)
+        (W.contents out.new) (O.contents made.old) (O.contents made.new) answer)) }
+    ensures failed { Failed S.failures file.old file.new ⊎ Failed W.failures out.old out.new
+        ⊎ Failed O.failures made.old made.new → IsErrOf result File }
+    ensures reason { IfErr result (λ t. IsErrorLine grammar.now
+        ((Failed S.failures file.old file.new ⊎ Failed W.failures out.old out.new
+        ⊎ Failed O.failures made.old made.new) ⊎ IsNoText command.now (S.remaining file.old))
+        (LacksEntryByText command.now grammar.now (S.remaining file.old)) (trouble_text t)) }
+    ensures refused { (e : GrammarError) → text_breaks grammar.now e → (file.new ≡ file.old)
+        × (out.new ≡ out.old) × (made.new ≡ made.old)
+        × (IsErrOf result (Grammar e) ⊎ IsErrOf result (Grammar J8)) }
+    ensures unwritten { IsErr result → IsUntouched W.failures out.old out.new }
+    ensures unmade { IsErr result → IsUntouched O.failures made.old made.new }
+    ensures begun { Failed W.failures out.old out.new ⊎ Failed O.failures made.old made.new
+        → IfSome (S.remaining file.old)
+        (λ bytes. BeginsByText command.now grammar.now bytes (W.contents out.old) (W.contents out.new)
+        (O.contents made.old) (O.contents made.new)) }
     ensures nothing { MakesNothing command.now → made.new ≡ made.old }
 {
     one_grammar();
@@ -293,7 +352,8 @@ fn done_by_text<S: Source, W: Sink, O: Sink>(
     }
 }
 
-/// Does what a command asks: whether the module is valid, has a text, was made or has a run, or what codes say was written.
+/// Does what a command asks: whether the module is valid, has a text, was made or has a run, or what codes say was
+/// written.
 fn done<S: Source, W: Sink, O: Sink>(
     alloc: Global,
     command: &Command,
@@ -302,18 +362,34 @@ fn done<S: Source, W: Sink, O: Sink>(
     out: &mut W,
     made: &mut O,
 ) -> Result<bool, Trouble>
-    ensures done { ReadsGrammar command.now → IfSome (S.remaining file.old) (λ bytes. IfOk result (λ answer. DoesByText command.now grammar.now bytes (W.contents out.old) (W.contents out.new) (O.contents made.old) (O.contents made.new) answer)) }
-    ensures failed { (S.failures file.new ≢ S.failures file.old) ⊎ (W.failures out.new ≢ W.failures out.old) ⊎ (O.failures made.new ≢ O.failures made.old) → IsErrOf result File }
-    ensures reason { ReadsGrammar command.now → IfErr result (λ t. IsErrorLine grammar.now (((S.failures file.new ≢ S.failures file.old) ⊎ (W.failures out.new ≢ W.failures out.old) ⊎ (O.failures made.new ≢ O.failures made.old)) ⊎ IsNoText command.now (S.remaining file.old)) (LacksEntryByText command.now grammar.now (S.remaining file.old)) (trouble_text t)) }
-    ensures refused { ReadsGrammar command.now → (e : GrammarError) → text_breaks grammar.now e → (file.new ≡ file.old) × (out.new ≡ out.old) × (made.new ≡ made.old) × (IsErrOf result (Grammar e) ⊎ IsErrOf result (Grammar J8)) }
-    ensures unwritten { IsErr result → W.failures out.new ≡ W.failures out.old → out.new ≡ out.old }
-    ensures unmade { IsErr result → O.failures made.new ≡ O.failures made.old → made.new ≡ made.old }
-    ensures begun { ReadsGrammar command.now → (W.failures out.new ≢ W.failures out.old) ⊎ (O.failures made.new ≢ O.failures made.old) → IfSome (S.remaining file.old) (λ bytes. BeginsByText command.now grammar.now bytes (W.contents out.old) (W.contents out.new) (O.contents made.old) (O.contents made.new)) }
+    ensures done { ReadsGrammar command.now → IfSome (S.remaining file.old)
+        (λ bytes. IfOk result (λ answer. DoesByText command.now grammar.now bytes (W.contents out.old)
+        (W.contents out.new) (O.contents made.old) (O.contents made.new) answer)) }
+    ensures failed { Failed S.failures file.old file.new ⊎ Failed W.failures out.old out.new
+        ⊎ Failed O.failures made.old made.new → IsErrOf result File }
+    ensures reason { ReadsGrammar command.now
+        → IfErr result
+        (λ t. IsErrorLine grammar.now ((Failed S.failures file.old file.new ⊎ Failed W.failures out.old out.new
+        ⊎ Failed O.failures made.old made.new) ⊎ IsNoText command.now (S.remaining file.old))
+        (LacksEntryByText command.now grammar.now (S.remaining file.old)) (trouble_text t)) }
+    ensures refused { ReadsGrammar command.now → (e : GrammarError) → text_breaks grammar.now e
+        → (file.new ≡ file.old) × (out.new ≡ out.old) × (made.new ≡ made.old)
+        × (IsErrOf result (Grammar e) ⊎ IsErrOf result (Grammar J8)) }
+    ensures unwritten { IsErr result → IsUntouched W.failures out.old out.new }
+    ensures unmade { IsErr result → IsUntouched O.failures made.old made.new }
+    ensures begun { ReadsGrammar command.now → Failed W.failures out.old out.new
+        ⊎ Failed O.failures made.old made.new
+        → IfSome (S.remaining file.old)
+        (λ bytes. BeginsByText command.now grammar.now bytes (W.contents out.old) (W.contents out.new)
+        (O.contents made.old) (O.contents made.new)) }
     ensures nothing { MakesNothing command.now → made.new ≡ made.old }
     ensures unread { ¬ (ReadsGrammar command.now) → file.new ≡ file.old }
-    ensures text { ¬ (ReadsGrammar command.now) → IfOk result (λ answer. WritesText (W.contents out.old) (W.contents out.new) × (answer ≡ true)) }
-    ensures text_begun { ¬ (ReadsGrammar command.now) → W.failures out.new ≢ W.failures out.old → BeginsText (W.contents out.old) (W.contents out.new) }
-    ensures text_only { ¬ (ReadsGrammar command.now) → IfErr result (λ t. ((t ≡ File) × (W.failures out.new ≢ W.failures out.old)) ⊎ (t ≡ Memory)) }
+    ensures text { ¬ (ReadsGrammar command.now)
+        → IfOk result (λ answer. WritesText (W.contents out.old) (W.contents out.new) × (answer ≡ true)) }
+    ensures text_begun { ¬ (ReadsGrammar command.now) → Failed W.failures out.old out.new
+        → BeginsText (W.contents out.old) (W.contents out.new) }
+    ensures text_only { ¬ (ReadsGrammar command.now)
+        → IfErr result (λ t. ((t ≡ File) × Failed W.failures out.old out.new) ⊎ (t ≡ Memory)) }
 {
     match command {
         Command::Rules { code } => ruled(alloc, *code, out),
@@ -321,15 +397,16 @@ fn done<S: Source, W: Sink, O: Sink>(
     }
 }
 
-/// Does what a command asks, and answers the exit status. Of a command on several files it does the task on this one, as if it were the
-/// only one.
+/// Does what a command asks, and answers the exit status. Of a command on several files it does the task on this one,
+/// as if it were the only one.
 ///
-/// `file` is the module or the text, `out` the standard output, `made` the file that a command makes (only `asm` makes one),
-/// `err` the standard error. 0: the module is valid, or its text, the module of a text, a run or what codes say was written. 1: a
-/// fault line was written. 2: one line was written to `err`: `error J1` to `error J7` where the grammar file is refused, which is told
-/// first, `error file` where a read or a write failed or a text is not UTF-8, `error X1` where the id whose run is asked for is
-/// no entry point's function, `error memory` where a growth of memory was refused. Where the write to `err` fails too, it has
-/// got a beginning of that line, and the status is 2 all the same.
+/// `file` is the module or the text, `out` the standard output, `made` the file that a command makes (only `asm` makes
+/// one), `err` the standard error. 0: the module is valid, or its text, the module of a text, a run or what codes say
+/// was written. 1: a fault line was written. 2: one line was written to `err`: `error J1` to `error J7` where the
+/// grammar file is refused, which is told first, `error file` where a read or a write failed or a text is not UTF-8,
+/// `error X1` where the id whose run is asked for is no entry point's function, `error memory` where a growth of memory
+/// was refused. Where the write to `err` fails too, it has got a beginning of that line, and the status is 2 all the
+/// same.
 pub fn run<S: Source, W: Sink, O: Sink, E: Sink>(
     alloc: Global,
     command: &Command,
@@ -340,25 +417,51 @@ pub fn run<S: Source, W: Sink, O: Sink, E: Sink>(
     err: &mut E,
 ) -> u8
     ensures status { result ≤ 2 }
-    // With 0 and 1 the verdict line, with or without lines that explain it, the text, the module or the run was written, by the
-    // table that the grammar file gives: 0 goes with `valid` alone, with the text of a module, with the module of a text or with
-    // a run.
-    ensures done { ReadsGrammar command.now → result ≤ 1 → IfSome (S.remaining file.old) (λ bytes. DoesByText command.now grammar.now bytes (W.contents out.old) (W.contents out.new) (O.contents made.old) (O.contents made.new) (result == 0)) }
+    // With 0 and 1 the verdict line, with or without lines that explain it, the text, the module or the run was
+    // written, by the table that the grammar file gives: 0 goes with `valid` alone, with the text of a module, with the
+    // module of a text or with a run.
+    ensures done { ReadsGrammar command.now → result ≤ 1
+        → IfSome (S.remaining file.old)
+        (λ bytes. DoesByText command.now grammar.now bytes (W.contents out.old) (W.contents out.new)
+        (O.contents made.old) (O.contents made.new) (result == 0)) }
     // With 2 an error line was written to the standard error, and there is a reason for it.
-    ensures error { ReadsGrammar command.now → result ≡ 2 → (line : List ℕ) × IsErrorLine grammar.now (((S.failures file.new ≢ S.failures file.old) ⊎ (W.failures out.new ≢ W.failures out.old) ⊎ (O.failures made.new ≢ O.failures made.old)) ⊎ IsNoText command.now (S.remaining file.old)) (LacksEntryByText command.now grammar.now (S.remaining file.old)) line × Writes line (E.contents err.old) (E.contents err.new) (E.failures err.old) (E.failures err.new) }
+    ensures error { ReadsGrammar command.now → result ≡ 2
+        → (line : List ℕ)
+        × IsErrorLine grammar.now
+        ((Failed S.failures file.old file.new ⊎ Failed W.failures out.old out.new
+        ⊎ Failed O.failures made.old made.new) ⊎ IsNoText command.now (S.remaining file.old))
+        (LacksEntryByText command.now grammar.now (S.remaining file.old)) line
+        × Writes line (E.contents err.old) (E.contents err.new) (E.failures err.old) (E.failures err.new) }
     // A refused grammar file is told first, before anything is read or written: by its code, or as want of memory.
-    ensures refused { ReadsGrammar command.now → (e : GrammarError) → text_breaks grammar.now e → (result ≡ 2) × (file.new ≡ file.old) × (out.new ≡ out.old) × (made.new ≡ made.old) × (Writes (grammar_text e) (E.contents err.old) (E.contents err.new) (E.failures err.old) (E.failures err.new) ⊎ Writes memory_line (E.contents err.old) (E.contents err.new) (E.failures err.old) (E.failures err.new)) }
+    ensures refused { ReadsGrammar command.now → (e : GrammarError) → text_breaks grammar.now e
+        → (result ≡ 2) × (file.new ≡ file.old) × (out.new ≡ out.old) × (made.new ≡ made.old)
+        × (Writes (grammar_text e) (E.contents err.old) (E.contents err.new) (E.failures err.old) (E.failures err.new)
+        ⊎ Writes memory_line (E.contents err.old) (E.contents err.new) (E.failures err.old) (E.failures err.new)) }
     // A failed read or write is told by `error file`.
-    ensures failed { (S.failures file.new ≢ S.failures file.old) ⊎ (W.failures out.new ≢ W.failures out.old) ⊎ (O.failures made.new ≢ O.failures made.old) → (result ≡ 2) × Writes file_line (E.contents err.old) (E.contents err.new) (E.failures err.old) (E.failures err.new) }
-    // With 2 the standard output and the file that is made are as they were, or, after a failed write, have got a beginning.
-    ensures unwritten { result ≡ 2 → W.failures out.new ≡ W.failures out.old → out.new ≡ out.old }
-    ensures unmade { result ≡ 2 → O.failures made.new ≡ O.failures made.old → made.new ≡ made.old }
-    ensures begun { ReadsGrammar command.now → (W.failures out.new ≢ W.failures out.old) ⊎ (O.failures made.new ≢ O.failures made.old) → IfSome (S.remaining file.old) (λ bytes. BeginsByText command.now grammar.now bytes (W.contents out.old) (W.contents out.new) (O.contents made.old) (O.contents made.new)) }
-    // `rules` reads nothing. With 0 a text was written, with 2 want of memory is told, or a failed write, which leaves a beginning.
+    ensures failed { Failed S.failures file.old file.new ⊎ Failed W.failures out.old out.new
+        ⊎ Failed O.failures made.old made.new
+        → (result ≡ 2) × Writes file_line (E.contents err.old) (E.contents err.new) (E.failures err.old)
+        (E.failures err.new) }
+    // With 2 the standard output and the file that is made are as they were, or, after a failed write, have got a
+    // beginning.
+    ensures unwritten { result ≡ 2 → IsUntouched W.failures out.old out.new }
+    ensures unmade { result ≡ 2 → IsUntouched O.failures made.old made.new }
+    ensures begun { ReadsGrammar command.now → Failed W.failures out.old out.new
+        ⊎ Failed O.failures made.old made.new
+        → IfSome (S.remaining file.old)
+        (λ bytes. BeginsByText command.now grammar.now bytes (W.contents out.old) (W.contents out.new)
+        (O.contents made.old) (O.contents made.new)) }
+    // `rules` reads nothing. With 0 a text was written, with 2 want of memory is told, or a failed write, which leaves
+    // a beginning.
     ensures unread { ¬ (ReadsGrammar command.now) → (file.new ≡ file.old) × (result ≢ 1) }
-    ensures text { ¬ (ReadsGrammar command.now) → result ≡ 0 → WritesText (W.contents out.old) (W.contents out.new) }
-    ensures text_begun { ¬ (ReadsGrammar command.now) → W.failures out.new ≢ W.failures out.old → BeginsText (W.contents out.old) (W.contents out.new) }
-    ensures text_error { ¬ (ReadsGrammar command.now) → result ≡ 2 → ((W.failures out.new ≢ W.failures out.old) × Writes file_line (E.contents err.old) (E.contents err.new) (E.failures err.old) (E.failures err.new)) ⊎ Writes memory_line (E.contents err.old) (E.contents err.new) (E.failures err.old) (E.failures err.new) }
+    ensures text { ¬ (ReadsGrammar command.now) → result ≡ 0
+        → WritesText (W.contents out.old) (W.contents out.new) }
+    ensures text_begun { ¬ (ReadsGrammar command.now) → Failed W.failures out.old out.new
+        → BeginsText (W.contents out.old) (W.contents out.new) }
+    ensures text_error { ¬ (ReadsGrammar command.now) → result ≡ 2
+        → (Failed W.failures out.old out.new × Writes file_line (E.contents err.old) (E.contents err.new)
+        (E.failures err.old) (E.failures err.new)) ⊎ Writes memory_line (E.contents err.old) (E.contents err.new)
+        (E.failures err.old) (E.failures err.new) }
     // `check`, `explain`, `show`, `trace` and `rules` make no file.
     ensures nothing { MakesNothing command.now → made.new ≡ made.old }
     // The standard error gets a line only with the status 2.

@@ -1,11 +1,13 @@
 //! What `show` writes of the bytes of a stream.
-ghost use Rattle.std.specs.Prelude.{◌≡◌, ◌≢◌, ◌≤◌, ◌⊎◌, ◌↔◌, ◌++◌, ℕ, List, Some, IfOk, IfErr, IfSome, IsErrOf, OnOk, length, take};
+ghost use Rattle.std.specs.Prelude.{◌≡◌, ◌≢◌, ◌≤◌, ◌⊎◌, ◌↔◌, ◌++◌, ℕ, List, Some};
+ghost use Rattle.std.specs.Prelude.{IfOk, IfErr, IfSome, IsErrOf, OnOk, length, take};
 ghost use Rattle.std.specs.Io.KnownBytes.{Appends};
 ghost use Rattle.spv_words.specs.Header.{IsModule};
 ghost use Rattle.spv_words.specs.declared.words.Order.{Order};
 ghost use Rattle.spv_words.specs.declared.words.WordError.TheVariants.{W1, W9};
+ghost use Rattle.spv_verdict.specs.Outcome.{Failed, OfKnown};
 ghost use Rattle.spv_commands.specs.Show.{BeginsShowing, IsShowing, Shows};
-ghost use Rattle.spv_commands.specs.Shown.{is_text, output_of, shown_refusal, shown_stop};
+ghost use Rattle.spv_commands.specs.inner.Shown.{is_text, output_of, shown_refusal, shown_stop};
 
 use spv_module::Stop;
 use spv_table::Table;
@@ -48,7 +50,8 @@ fn unlisted(stop: Stop) -> Result<Shown, WordError>
 ///
 /// `W9`: a growth of memory was refused. There is no other error.
 fn shown_of(alloc: Global, table: &Table, image: &Image) -> Result<Shown, WordError>
-    ensures shown { (bytes : List ℕ) (order : Order) → IsModule order bytes image.now → IfOk result (λ s. IsShowing table.now bytes (output_of s) (is_text s)) }
+    ensures shown { (bytes : List ℕ) (order : Order) → IsModule order bytes image.now
+        → IfOk result (λ s. IsShowing table.now bytes (output_of s) (is_text s)) }
     ensures only { IfErr result (λ e. e ≡ W9) }
 {
     match show_image(alloc, table, image) {
@@ -59,8 +62,9 @@ fn shown_of(alloc: Global, table: &Table, image: &Image) -> Result<Shown, WordEr
 
 /// What is shown of all the bytes of a reader.
 fn shown_on<R: Source>(alloc: Global, table: &Table, r: &mut R) -> Result<Shown, WordError>
-    ensures known { IfSome (R.remaining r.old) (λ bytes. IfOk result (λ s. IsShowing table.now bytes (output_of s) (is_text s))) }
-    ensures count { R.failures r.new ≢ R.failures r.old ↔ IsErrOf result W1 }
+    ensures known { IfSome (R.remaining r.old)
+        (λ bytes. IfOk result (λ s. IsShowing table.now bytes (output_of s) (is_text s))) }
+    ensures count { Failed R.failures r.old r.new ↔ IsErrOf result W1 }
     ensures only { IfErr result (λ e. (e ≡ W1) ⊎ (e ≡ W9)) }
 {
     let image = match read_image(alloc, r) {
@@ -84,9 +88,11 @@ impl Shown {
     /// Writes it. After a failure, W1, a beginning of it was written.
     fn write<W: Sink>(&self, w: &mut W) -> Result<(), WordError>
         ensures all { OnOk result (Appends (W.contents w.old) (W.contents w.new) (output_of self.now)) }
-        ensures begun { IfSome (W.contents w.old) (λ xs. (n : ℕ) × (n ≤ length (output_of self.now)) × (W.contents w.new ≡ Some (xs ++ take n (output_of self.now)))) }
+        ensures begun { IfSome (W.contents w.old)
+            (λ xs. (n : ℕ) × (n ≤ length (output_of self.now))
+            × (W.contents w.new ≡ Some (xs ++ take n (output_of self.now)))) }
         ensures only { IfErr result (λ e. e ≡ W1) }
-        ensures count { W.failures w.new ≢ W.failures w.old ↔ IsErrOf result W1 }
+        ensures count { Failed W.failures w.old w.new ↔ IsErrOf result W1 }
         ensures steady { OnOk result (W.failures w.new ≡ W.failures w.old) }
     {
         match self {
@@ -99,8 +105,8 @@ impl Shown {
     }
 }
 
-/// Writes the text of the module that a reader's bytes up to the end of input are, and answers true; or, where they are no
-/// words of a module or no list of instructions, their verdict line, and answers false.
+/// Writes the text of the module that a reader's bytes up to the end of input are, and answers true; or, where they are
+/// no words of a module or no list of instructions, their verdict line, and answers false.
 ///
 /// # Errors
 ///
@@ -113,15 +119,18 @@ pub fn show_stream<R: Source, W: Sink>(
     w: &mut W,
 ) -> Result<bool, WordError>
     // The writer has got what is shown of all the bytes that the reader still gave.
-    ensures shown { IfSome (R.remaining r.old) (λ bytes. IfSome (W.contents w.old) (λ old. IfOk result (λ answer. Shows table.now bytes old (W.contents w.new) answer))) }
+    ensures shown { OfKnown (R.remaining r.old) (W.contents w.old)
+        (λ bytes old. IfOk result (λ answer. Shows table.now bytes old (W.contents w.new) answer)) }
     // The answer is W1 exactly where a read or a write failed.
-    ensures count { ((R.failures r.new ≢ R.failures r.old) ⊎ (W.failures w.new ≢ W.failures w.old)) ↔ IsErrOf result W1 }
+    ensures count { (Failed R.failures r.old r.new ⊎ Failed W.failures w.old w.new) ↔ IsErrOf result W1 }
     ensures only { IfErr result (λ e. (e ≡ W1) ⊎ (e ≡ W9)) }
     // After a failed read, or for want of memory, the writer is as it was.
-    ensures read { R.failures r.new ≢ R.failures r.old → w.new ≡ w.old }
+    ensures read { Failed R.failures r.old r.new → w.new ≡ w.old }
     ensures memory { IsErrOf result W9 → w.new ≡ w.old }
     // After a failed write it has got a beginning of what is shown.
-    ensures begun { W.failures w.new ≢ W.failures w.old → IfSome (R.remaining r.old) (λ bytes. IfSome (W.contents w.old) (λ old. BeginsShowing table.now bytes old (W.contents w.new))) }
+    ensures begun { Failed W.failures w.old w.new
+        → OfKnown (R.remaining r.old) (W.contents w.old)
+        (λ bytes old. BeginsShowing table.now bytes old (W.contents w.new)) }
 {
     let shown = shown_on(alloc, table, r)?;
     shown.write(w)?;

@@ -1,7 +1,9 @@
 //! The lines of a trace.
-ghost use Rattle.std.specs.Prelude.{◌≡◌, ◌≢◌, ◌≤◌, ◌↔◌, ◌+◌, ◌*◌, ◌++◌, ℕ, Some, length, take, drop, flat_map, IfErr, IfSome, IsErrOf, OnOk};
+ghost use Rattle.std.specs.Prelude.{◌≡◌, ◌≢◌, ◌≤◌, ◌↔◌, ◌+◌, ◌*◌, ◌++◌, ℕ, Some};
+ghost use Rattle.std.specs.Prelude.{length, take, drop, flat_map, IfErr, IfSome, IsErrOf, OnOk};
 ghost use Rattle.std.specs.Io.KnownBytes.{Appends};
 ghost use Rattle.spv_words.specs.declared.words.WordError.TheVariants.{W1};
+ghost use Rattle.spv_verdict.specs.Outcome.{Failed};
 ghost use Rattle.spv_commands.specs.Trace.{ending_line, step_line, trace_text};
 
 use itoa::write_digits;
@@ -60,9 +62,11 @@ fn put_lines(steps: &[Step], block: &mut [u8]) -> usize
 /// Writes the lines of steps, in order. It takes no memory.
 fn write_steps<W: Sink>(steps: &[Step], w: &mut W) -> Result<(), WordError>
     ensures all { OnOk result (Appends (W.contents w.old) (W.contents w.new) (flat_map step_line steps.now)) }
-    ensures begun { IfSome (W.contents w.old) (λ xs. (n : ℕ) × (n ≤ length (flat_map step_line steps.now)) × (W.contents w.new ≡ Some (xs ++ take n (flat_map step_line steps.now)))) }
+    ensures begun { IfSome (W.contents w.old)
+        (λ xs. (n : ℕ) × (n ≤ length (flat_map step_line steps.now))
+        × (W.contents w.new ≡ Some (xs ++ take n (flat_map step_line steps.now)))) }
     ensures only { IfErr result (λ e. e ≡ W1) }
-    ensures count { W.failures w.new ≢ W.failures w.old ↔ IsErrOf result W1 }
+    ensures count { Failed W.failures w.old w.new ↔ IsErrOf result W1 }
     ensures steady { OnOk result (W.failures w.new ≡ W.failures w.old) }
 {
     let mut block = [0u8; BLOCK_SIZE];
@@ -83,10 +87,12 @@ fn write_steps<W: Sink>(steps: &[Step], w: &mut W) -> Result<(), WordError>
 /// Only `W1`, where a write failed or took nothing. A beginning of the text was then written.
 pub fn write_trace<W: Sink>(steps: &[Step], ending: Ending, w: &mut W) -> Result<(), WordError>
     ensures all { OnOk result (Appends (W.contents w.old) (W.contents w.new) (trace_text steps.now ending)) }
-    ensures begun { IfSome (W.contents w.old) (λ xs. (n : ℕ) × (n ≤ length (trace_text steps.now ending)) × (W.contents w.new ≡ Some (xs ++ take n (trace_text steps.now ending)))) }
+    ensures begun { IfSome (W.contents w.old)
+        (λ xs. (n : ℕ) × (n ≤ length (trace_text steps.now ending))
+        × (W.contents w.new ≡ Some (xs ++ take n (trace_text steps.now ending)))) }
     ensures only { IfErr result (λ e. e ≡ W1) }
     // The answer is W1 exactly where a write failed.
-    ensures count { W.failures w.new ≢ W.failures w.old ↔ IsErrOf result W1 }
+    ensures count { Failed W.failures w.old w.new ↔ IsErrOf result W1 }
     ensures steady { OnOk result (W.failures w.new ≡ W.failures w.old) }
 {
     write_steps(steps, w)?;

@@ -1,11 +1,13 @@
 //! What `trace` writes of the bytes of a stream.
-ghost use Rattle.std.specs.Prelude.{◌≡◌, ◌≢◌, ◌≤◌, ◌⊎◌, ◌↔◌, ◌++◌, ℕ, List, Some, IfOk, IfErr, IfSome, IsErr, IsErrOf, OnOk, length, take};
+ghost use Rattle.std.specs.Prelude.{◌≡◌, ◌≢◌, ◌≤◌, ◌⊎◌, ◌↔◌, ◌++◌, ℕ, List, Some};
+ghost use Rattle.std.specs.Prelude.{IfOk, IfErr, IfSome, IsErr, IsErrOf, OnOk, length, take};
 ghost use Rattle.std.specs.Io.KnownBytes.{Appends};
 ghost use Rattle.spv_words.specs.Header.{IsModule};
 ghost use Rattle.spv_words.specs.declared.words.Order.{Order};
 ghost use Rattle.spv_words.specs.declared.words.WordError.TheVariants.{W1};
+ghost use Rattle.spv_verdict.specs.Outcome.{Failed, IsUntouched, OfKnown};
 ghost use Rattle.spv_commands.specs.Trace.{BeginsTracing, HasNoEntry, IsTracing, Traces};
-ghost use Rattle.spv_commands.specs.Traced.{is_run, output_of, traced_refusal, traced_stop};
+ghost use Rattle.spv_commands.specs.inner.Traced.{is_run, output_of, traced_refusal, traced_stop};
 ghost use Rattle.spv_commands.specs.declared.tracing.RunError.TheVariants as trouble;
 
 use crate::trace_lines::write_trace;
@@ -64,8 +66,10 @@ fn traced_of(
     choices: &[u32],
     limit: u32,
 ) -> Result<Traced, RunError>
-    ensures traced { (bytes : List ℕ) (order : Order) → IsModule order bytes image.now → IfOk result (λ t. IsTracing table.now function choices.now limit bytes (output_of t) (is_run t)) }
-    ensures stranger { (bytes : List ℕ) (order : Order) → IsModule order bytes image.now → IsErrOf result trouble.NoEntry → HasNoEntry table.now bytes function }
+    ensures traced { (bytes : List ℕ) (order : Order) → IsModule order bytes image.now
+        → IfOk result (λ t. IsTracing table.now function choices.now limit bytes (output_of t) (is_run t)) }
+    ensures stranger { (bytes : List ℕ) (order : Order) → IsModule order bytes image.now
+        → IsErrOf result trouble.NoEntry → HasNoEntry table.now bytes function }
     ensures only { IfErr result (λ e. e ≢ trouble.Failed) }
 {
     let checked = match check(alloc, table, image) {
@@ -88,9 +92,11 @@ fn traced_on<R: Source>(
     limit: u32,
     r: &mut R,
 ) -> Result<Traced, RunError>
-    ensures known { IfSome (R.remaining r.old) (λ bytes. IfOk result (λ t. IsTracing table.now function choices.now limit bytes (output_of t) (is_run t))) }
-    ensures stranger { IsErrOf result trouble.NoEntry → IfSome (R.remaining r.old) (λ bytes. HasNoEntry table.now bytes function) }
-    ensures count { R.failures r.new ≢ R.failures r.old ↔ IsErrOf result trouble.Failed }
+    ensures known { IfSome (R.remaining r.old)
+        (λ bytes. IfOk result (λ t. IsTracing table.now function choices.now limit bytes (output_of t) (is_run t))) }
+    ensures stranger { IsErrOf result trouble.NoEntry
+        → IfSome (R.remaining r.old) (λ bytes. HasNoEntry table.now bytes function) }
+    ensures count { Failed R.failures r.old r.new ↔ IsErrOf result trouble.Failed }
 {
     let image = match read_image(alloc, r) {
         Ok((image, _)) => image,
@@ -113,9 +119,11 @@ impl Traced {
     /// Writes it. After a failure, W1, a beginning of it was written.
     fn write<W: Sink>(&self, w: &mut W) -> Result<(), WordError>
         ensures all { OnOk result (Appends (W.contents w.old) (W.contents w.new) (output_of self.now)) }
-        ensures begun { IfSome (W.contents w.old) (λ xs. (n : ℕ) × (n ≤ length (output_of self.now)) × (W.contents w.new ≡ Some (xs ++ take n (output_of self.now)))) }
+        ensures begun { IfSome (W.contents w.old)
+            (λ xs. (n : ℕ) × (n ≤ length (output_of self.now))
+            × (W.contents w.new ≡ Some (xs ++ take n (output_of self.now)))) }
         ensures only { IfErr result (λ e. e ≡ W1) }
-        ensures count { W.failures w.new ≢ W.failures w.old ↔ IsErrOf result W1 }
+        ensures count { Failed W.failures w.old w.new ↔ IsErrOf result W1 }
         ensures steady { OnOk result (W.failures w.new ≡ W.failures w.old) }
     {
         match self {
@@ -128,19 +136,19 @@ impl Traced {
     }
 }
 
-/// Writes the run of a function of the module that a reader's bytes up to the end of input are, and answers true; or, where
-/// they are no valid module, their verdict line, and answers false.
+/// Writes the run of a function of the module that a reader's bytes up to the end of input are, and answers true; or,
+/// where they are no valid module, their verdict line, and answers false.
 ///
-/// `function` is the id of an entry point's function; `choices` are the places of the targets that are taken, from 0, one for
-/// each OpBranchConditional and OpSwitch that is executed; `limit` is the greatest number of steps. The run has a line for
-/// each instruction that is executed, and one for its end. Nothing is written before it is whole: it is kept, eight bytes a
-/// step, and no limit is too great for the call, but only for the memory.
+/// `function` is the id of an entry point's function; `choices` are the places of the targets that are taken, from 0,
+/// one for each OpBranchConditional and OpSwitch that is executed; `limit` is the greatest number of steps. The run has
+/// a line for each instruction that is executed, and one for its end. Nothing is written before it is whole: it is
+/// kept, eight bytes a step, and no limit is too great for the call, but only for the memory.
 ///
 /// # Errors
 ///
-/// `Failed`: a read or a write failed. After a failed read nothing was written, after a failed write a beginning of the output.
-/// `NoEntry`: the bytes are a valid module, and the id is the function of no OpEntryPoint. `Memory`: a growth of memory was
-/// refused. Nothing was written with these two.
+/// `Failed`: a read or a write failed. After a failed read nothing was written, after a failed write a beginning of the
+/// output. `NoEntry`: the bytes are a valid module, and the id is the function of no OpEntryPoint. `Memory`: a growth
+/// of memory was refused. Nothing was written with these two.
 pub fn trace_stream<R: Source, W: Sink>(
     alloc: Global,
     table: &Table,
@@ -151,14 +159,20 @@ pub fn trace_stream<R: Source, W: Sink>(
     w: &mut W,
 ) -> Result<bool, RunError>
     // The writer has got what is written of all the bytes that the reader still gave.
-    ensures traced { IfSome (R.remaining r.old) (λ bytes. IfSome (W.contents w.old) (λ old. IfOk result (λ answer. Traces table.now function choices.now limit bytes old (W.contents w.new) answer))) }
+    ensures traced { OfKnown (R.remaining r.old) (W.contents w.old)
+        (λ bytes old. IfOk result (λ answer. Traces table.now function choices.now limit bytes old
+        (W.contents w.new) answer)) }
     // The answer is `Failed` exactly where a read or a write failed.
-    ensures count { ((R.failures r.new ≢ R.failures r.old) ⊎ (W.failures w.new ≢ W.failures w.old)) ↔ IsErrOf result trouble.Failed }
-    ensures stranger { IsErrOf result trouble.NoEntry → IfSome (R.remaining r.old) (λ bytes. HasNoEntry table.now bytes function) }
+    ensures count { (Failed R.failures r.old r.new ⊎ Failed W.failures w.old w.new)
+        ↔ IsErrOf result trouble.Failed }
+    ensures stranger { IsErrOf result trouble.NoEntry
+        → IfSome (R.remaining r.old) (λ bytes. HasNoEntry table.now bytes function) }
     // With an error a writer that did not fail is as it was.
-    ensures unwritten { IsErr result → W.failures w.new ≡ W.failures w.old → w.new ≡ w.old }
+    ensures unwritten { IsErr result → IsUntouched W.failures w.old w.new }
     // After a failed write it has got a beginning of what is written.
-    ensures begun { W.failures w.new ≢ W.failures w.old → IfSome (R.remaining r.old) (λ bytes. IfSome (W.contents w.old) (λ old. BeginsTracing table.now function choices.now limit bytes old (W.contents w.new))) }
+    ensures begun { Failed W.failures w.old w.new
+        → OfKnown (R.remaining r.old) (W.contents w.old)
+        (λ bytes old. BeginsTracing table.now function choices.now limit bytes old (W.contents w.new)) }
 {
     let traced = traced_on(alloc, table, function, choices, limit, r)?;
     match traced.write(w) {

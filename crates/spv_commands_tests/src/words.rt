@@ -1,5 +1,5 @@
-//! The words of the command line that stand for help and the version, and readers that are read whole. Several files and
-//! the grammar file of the environment are tested on the built program.
+//! The words of the command line that stand for help and the version, and readers that are read whole. Several files
+//! and the grammar file of the environment are tested on the built program.
 use spv_commands::{UseError, arguments, read_all, text_asked};
 use spv_words::FromRead;
 use std::test::Fail;

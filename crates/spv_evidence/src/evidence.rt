@@ -55,16 +55,16 @@ pub struct Typed {
     pub of: u32,
 }
 
-/// What shows that a rule is broken at an instruction, in numbers alone. Operands and instructions count from 0; a block goes by
-/// the number of its OpLabel, and a function by that of its OpFunction.
+/// What shows that a rule is broken at an instruction, in numbers alone. Operands and instructions count from 0; a
+/// block goes by the number of its OpLabel, and a function by that of its OpFunction.
 #[derive(Debug, Drop)]
 pub enum Evidence {
     /// I1 to I3: the opcode.
     Opcode {
         opcode: u16,
     },
-    /// I4 to I12: the opcode, the number of the operand that fails, and the number of the kind that is due there. None is due where
-    /// words are left (I5).
+    /// I4 to I12: the opcode, the number of the operand that fails, and the number of the kind that is due there. None
+    /// is due where words are left (I5).
     Due {
         opcode: u16,
         operand: u32,
@@ -144,14 +144,15 @@ pub enum Evidence {
         first: u32,
         second: u32,
     },
-    /// A1 and A2: the operand, the instruction that defines its value, and the blocks of a walk on which the value is not defined,
-    /// from the entry block of the function to the block of the instruction.
+    /// A1 and A2: the operand, the instruction that defines its value, and the blocks of a walk on which the value is
+    /// not defined, from the entry block of the function to the block of the instruction.
     Walk {
         operand: u32,
         inst: u32,
         walk: Listed<u32>,
     },
-    /// G1: functions of which each calls the next, from an entry point's to the caller, and from the callee to the caller.
+    /// G1: functions of which each calls the next, from an entry point's to the caller, and from the callee to the
+    /// caller.
     Cycle {
         calls: Listed<u32>,
         cycle: Listed<u32>,

@@ -1,5 +1,6 @@
 -- How the name of a file stands in a line. (Own.)
-use Rattle.std.specs.Prelude.{◌∷◌, ◌++◌, ◌+◌, ◌/◌, ◌%◌, ◌==◌, ◌||◌, ℕ, List, [], codes, flat_map, nat_lt, if◌then◌else◌}
+use Rattle.std.specs.Prelude.{◌∷◌, ◌++◌, ◌+◌, ◌/◌, ◌%◌, ◌==◌, ◌||◌, ℕ, List, [], codes}
+use Rattle.std.specs.Prelude.{flat_map, nat_lt, if◌then◌else◌}
 
 -- a digit of a number below 16, of `0` to `9` and `a` to `f`
 abbrev pub hex_digit : ℕ → ℕ

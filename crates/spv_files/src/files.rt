@@ -30,7 +30,8 @@ impl From<AllocError> for Unread {
 
 /// Files that are known by their numbers, from 0.
 pub trait Files {
-    // What the file of a number holds, where it is known: its bytes, or none where it does not open or a read of it fails.
+    // What the file of a number holds, where it is known: its bytes, or none where it does not open or a read of it
+    // fails.
     ghost known: { Self → ℕ → Known };
 
     /// Opens the file of a number, and reads all its bytes.

@@ -22,17 +22,23 @@ pub fn name_examples()
 /// Worked examples of what is written of files.
 pub fn each_examples()
     // A file that is known not to open is told on the standard error, and never judged.
-    ensures part { (G : Table) (task : Task) → IsPart G task (codes "a") (Some None) [] (codes "a: error file" ++ line_end) 2 }
-    ensures no_part { (G : Table) (task : Task) (line : List ℕ) → ¬ (IsPart G task (codes "a") (Some None) line [] 0) }
+    ensures part { (G : Table) (task : Task) → IsPart G task (codes "a") (Some None) []
+        (codes "a: error file" ++ line_end) 2 }
+    ensures no_part { (G : Table) (task : Task) (line : List ℕ)
+        → ¬ (IsPart G task (codes "a") (Some None) line [] 0) }
     // The line on a file always has its name, where memory is refused too.
     ensures starved { (G : Table) (task : Task) (known : Known)
         → IsPart G task (codes "a") known [] (codes "a: error memory" ++ line_end) 2 }
     ensures never_nameless { (G : Table) (task : Task) (known : Known) (out : List ℕ) (status : ℕ)
         → ¬ (IsPart G task (codes "a") known out memory_line status) }
     // One such file ends with 2, and no files do not.
-    ensures parts { (G : Table) (task : Task) → AreParts G task (λ n. Some None) (codes "a" ∷ []) [] (codes "a: error file" ++ line_end) 2 }
+    ensures parts { (G : Table) (task : Task)
+        → AreParts G task (λ n. Some None) (codes "a" ∷ []) [] (codes "a: error file" ++ line_end) 2 }
     ensures no_parts { (G : Table) (task : Task) (known : ℕ → Known) → ¬ (AreParts G task known [] [] [] 2) }
     // Want of memory can always be told, and a run tells of something where it ends with 2.
-    ensures ends { (text : List ℕ) (task : Task) (known : ℕ → Known) (names : List (List ℕ)) → Ends text task known names (λ o. Writes o (Some []) (Some []) 0 0) (λ e. Writes e (Some []) (Some memory_line) 0 0) (Unit {0}) 2 }
-    ensures never_ends { (text : List ℕ) (task : Task) (known : ℕ → Known) (names : List (List ℕ)) (status : ℕ) → ¬ (Ends text task known names (λ o. ⊥) (λ e. ⊥) (Unit {0}) status) }
+    ensures ends { (text : List ℕ) (task : Task) (known : ℕ → Known) (names : List (List ℕ))
+        → Ends text task known names (λ o. Writes o (Some []) (Some []) 0 0)
+        (λ e. Writes e (Some []) (Some memory_line) 0 0) (Unit {0}) 2 }
+    ensures never_ends { (text : List ℕ) (task : Task) (known : ℕ → Known) (names : List (List ℕ))
+        (status : ℕ) → ¬ (Ends text task known names (λ o. ⊥) (λ e. ⊥) (Unit {0}) status) }
 {}

@@ -6,7 +6,7 @@ use Rattle.spv_module.specs.declared.fault.Rule.TheVariants.{G1}
 use Rattle.spv_module.specs.declared.fault.Stop.{Stop}
 use Rattle.spv_module.specs.declared.fault.Stop.TheVariants.{Fault, Memory}
 use Rattle.spv_layout.specs.First.{IsFirst, IsUnbroken}
-use Rattle.spv_ids.specs.Outcome.{IsStopAt}
+use Rattle.spv_ids.specs.inner.Outcome.{IsStopAt}
 use Rattle.spv_branches.specs.Broken as branch_rules
 use Rattle.spv_branches.specs.Found as branches
 use Rattle.spv_walks.specs.Found as walks

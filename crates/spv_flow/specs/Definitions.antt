@@ -7,7 +7,8 @@ use Rattle.spv_layout.specs.Place.{IsDefinition}
 pub record AreDefinitions (is : List PlainInst) (n : ℕ) (functions : List ℕ) : Type 0 where
   pub each : (k f : ℕ) → slice_get functions k ≡ Some f → IsDefinition is f × (f < n)
   pub all : (f : ℕ) → f < n → IsDefinition is f → (k : ℕ) × (slice_get functions k ≡ Some f)
-  pub rising : (j k f g : ℕ) → j < k → slice_get functions j ≡ Some f → slice_get functions k ≡ Some g → f < g
+  pub rising : (j k f g : ℕ) → j < k → slice_get functions j ≡ Some f → slice_get functions k ≡ Some g
+      → f < g
 
 -- So many definitions stand before instruction n.
 pub record IsCount (is : List PlainInst) (n count : ℕ) : Type 0 where
@@ -16,5 +17,5 @@ pub record IsCount (is : List PlainInst) (n count : ℕ) : Type 0 where
   pub counted : length functions ≡ count
 
 -- The module has so many function definitions.
-abbrev pub HasDefinitions : List PlainInst → ℕ → Type 0
-HasDefinitions is count = IsCount is (length is) count
+abbrev pub CountsDefinitions : List PlainInst → ℕ → Type 0
+CountsDefinitions is count = IsCount is (length is) count

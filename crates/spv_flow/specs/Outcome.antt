@@ -10,7 +10,7 @@ use Rattle.spv_layout.specs.Place.{first_word_of}
 use Rattle.spv_branches.specs.Broken as branch_rules
 use Rattle.spv_calls.specs.Broken as call_rules
 use Rattle.spv_flow.specs.declared.flow.Flow.{Flow}
-use Rattle.spv_flow.specs.Definitions.{HasDefinitions}
+use Rattle.spv_flow.specs.Definitions.{CountsDefinitions}
 
 -- the number of function definitions that is kept
 abbrev pub definitions_in : Flow → ℕ
@@ -21,14 +21,16 @@ pub record IsFlow (G : Table) (is : List PlainInst) (flow : Flow) : Type 0 where
   pub branches : IsUnbroken (branch_rules.Broken G is) 6
   pub values : IsUnbroken (branch_rules.Broken G is) 7
   pub calls : IsUnbroken (call_rules.Broken is) 8
-  pub definitions : HasDefinitions is (definitions_in flow)
+  pub definitions : CountsDefinitions is (definitions_in flow)
 
--- The rule at the instruction is the first that is broken: of F1 to F4, or where none is, of A1 and A2, or where none of them
--- is either, G1.
+-- The rule at the instruction is the first that is broken: of F1 to F4, or where none is, of A1 and A2, or where none
+-- of them is either, G1.
 pub data IsFirstOfFlow (G : Table) (is : List PlainInst) (r : Rule) (n : ℕ) : Type 0 where
   of_branches : IsFirst (branch_rules.Broken G is) 6 r n → IsFirstOfFlow G is r n
-  of_values : IsUnbroken (branch_rules.Broken G is) 6 → IsFirst (branch_rules.Broken G is) 7 r n → IsFirstOfFlow G is r n
-  of_calls : IsUnbroken (branch_rules.Broken G is) 6 → IsUnbroken (branch_rules.Broken G is) 7 → IsFirst (call_rules.Broken is) 8 r n → IsFirstOfFlow G is r n
+  of_values : IsUnbroken (branch_rules.Broken G is) 6 → IsFirst (branch_rules.Broken G is) 7 r n
+      → IsFirstOfFlow G is r n
+  of_calls : IsUnbroken (branch_rules.Broken G is) 6 → IsUnbroken (branch_rules.Broken G is) 7
+      → IsFirst (call_rules.Broken is) 8 r n → IsFirstOfFlow G is r n
 
 -- What a refusal says: want of memory, or the first broken rule and the first word of its instruction.
 abbrev pub IsRefusal : Table → List PlainInst → Stop → Type 0

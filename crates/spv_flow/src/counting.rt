@@ -4,8 +4,8 @@ ghost use Rattle.std.specs.Prelude.{◌≡◌, ◌≤◌, ◌↔◌, ℕ, List, 
 ghost use Rattle.spv_module.specs.Operand.{PlainInst};
 ghost use Rattle.spv_module.specs.Module.{plain_insts};
 ghost use Rattle.spv_layout.specs.Place.{IsDefinition};
-ghost use Rattle.spv_calls.specs.Found.{ArePlaces, IsLate, IsOfDefinition};
-ghost use Rattle.spv_flow.specs.Definitions.{HasDefinitions};
+ghost use Rattle.spv_calls.specs.inner.Found.{ArePlaces, IsLate, IsOfDefinition};
+ghost use Rattle.spv_flow.specs.Definitions.{CountsDefinitions};
 
 use spv_layout::Plan;
 use spv_module::Module;
@@ -19,7 +19,9 @@ const DEFINITIONS: u8 = 13;
 /// The definition that an instruction is of, if it is of a class of sections 9 to 11.
 #[inline(always)]
 fn definition_of(plan: &Plan, inst: u32) -> Option<u32>
-    ensures { (is : List PlainInst) → ArePlaces is plan.now → MatchOption result ((f : ℕ) → IsLate is inst → ¬ (IsOfDefinition is inst f)) (IsOfDefinition is inst) }
+    ensures { (is : List PlainInst) → ArePlaces is plan.now
+        → MatchOption result ((f : ℕ) → IsLate is inst → ¬ (IsOfDefinition is inst f))
+        (IsOfDefinition is inst) }
 {
     let Some(place) = plan.at(inst) else {
         return None;
@@ -46,7 +48,7 @@ fn is_definition(plan: &Plan, inst: u32) -> bool
 pub fn count_definitions(module: &Module<'_>, plan: &Plan) -> u32
     requires few { length (plain_insts «module».now) ≤ 4194304 }
     requires places { ArePlaces (plain_insts «module».now) plan.now }
-    ensures { HasDefinitions (plain_insts «module».now) result }
+    ensures { CountsDefinitions (plain_insts «module».now) result }
 {
     let mut count = 0;
     for inst in 0..module.insts.len() as u32 {

@@ -7,7 +7,8 @@ ghost use Rattle.spv_module.specs.Module.{plain_insts};
 ghost use Rattle.spv_module.specs.declared.fault.Rule.TheVariants.{G1};
 ghost use Rattle.spv_layout.specs.Place.{word_count};
 ghost use Rattle.spv_layout.specs.Plan.{IsPlan};
-ghost use Rattle.spv_ids.specs.Outcome.{AreIds, IsStopAt};
+ghost use Rattle.spv_ids.specs.Outcome.{AreIds};
+ghost use Rattle.spv_ids.specs.inner.Outcome.{IsStopAt};
 ghost use Rattle.spv_flow.specs.Outcome.{IsFlow, IsRefusal, definitions_in};
 
 use crate::counting::count_definitions;
@@ -28,7 +29,8 @@ pub struct Flow {
 }
 
 impl Flow {
-    /// How many function definitions the module has: OpFunctions with an OpLabel before their OpFunctionEnd. It takes no memory.
+    /// How many function definitions the module has: OpFunctions with an OpLabel before their OpFunctionEnd. It takes
+    /// no memory.
     #[inline(always)]
     pub fn definitions(&self) -> u32
         ensures { result ≡ definitions_in self.now }
@@ -52,14 +54,16 @@ fn cycle_at(plan: &Plan, call: u32) -> Stop
     })
 }
 
-/// Looks at the flow of a module: its branches, then its values, then its calls. `plan`, `ids` and `types` are what `lay_out`,
-/// `number` and `type_check` answered of that module; of the types nothing is asked.
+/// Looks at the flow of a module: its branches, then its values, then its calls. `plan`, `ids` and `types` are what
+/// `lay_out`, `number` and `type_check` answered of that module; of the types nothing is asked.
 ///
 /// A `Fault` tells the first rule that is broken, with its instruction and that instruction's first word (words and
 /// instructions from 0). Each of these comes only where none of those before is broken anywhere:
-/// - F1 to F4: where branches lead, and which parents each OpPhi names (SPIR-V Specification 1.6, sections 2.4 and 2.16). See
+/// - F1 to F4: where branches lead, and which parents each OpPhi names (SPIR-V Specification 1.6, sections 2.4 and
+///   2.16). See
 ///   `check_branches`.
-/// - A1: an instruction, no OpPhi, uses a local value that is not defined on some walk to it; A2: an OpPhi's pair has one that
+/// - A1: an instruction, no OpPhi, uses a local value that is not defined on some walk to it; A2: an OpPhi's pair has
+///   one that
 ///   is not defined at the end of its parent, on some walk that came from there (2.16).
 /// - G1: an OpFunctionCall on a cycle of calls that an entry point leads to (own). See `first_cycle`.
 ///
@@ -73,10 +77,13 @@ pub fn flow_check(
 ) -> Result<Flow, Stop>
     // The condition of `lay_out`, and that the plan and the ids are what was answered, by some table.
     requires words { 5 + sum_by word_count (plain_insts «module».now) ≤ 4194304 }
-    requires known { (G : Table) × IsPlan G (plain_insts «module».now) plan.now × AreIds G «module».now.header.bound (plain_insts «module».now) ids.now }
-    ensures flow { (G : Table) → IsPlan G (plain_insts «module».now) plan.now → AreIds G «module».now.header.bound (plain_insts «module».now) ids.now
+    requires known { (G : Table) × IsPlan G (plain_insts «module».now) plan.now
+        × AreIds G «module».now.header.bound (plain_insts «module».now) ids.now }
+    ensures flow { (G : Table) → IsPlan G (plain_insts «module».now) plan.now
+        → AreIds G «module».now.header.bound (plain_insts «module».now) ids.now
         → IfOk result (λ flow. IsFlow G (plain_insts «module».now) flow) }
-    ensures refused { (G : Table) → IsPlan G (plain_insts «module».now) plan.now → AreIds G «module».now.header.bound (plain_insts «module».now) ids.now
+    ensures refused { (G : Table) → IsPlan G (plain_insts «module».now) plan.now
+        → AreIds G «module».now.header.bound (plain_insts «module».now) ids.now
         → IfErr result (λ s. IsRefusal G (plain_insts «module».now) s) }
 {
     check_branches(alloc, module, plan, ids)?;

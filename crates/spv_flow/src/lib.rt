@@ -1,5 +1,5 @@
-//! The flow of a module: where branches lead, values on every walk, and cycles of calls (SPIR-V Specification 1.6, sections 2.4
-//! and 2.16).
+//! The flow of a module: where branches lead, values on every walk, and cycles of calls (SPIR-V Specification 1.6,
+//! sections 2.4 and 2.16).
 #![tactic(auto)]
 
 mod counting;

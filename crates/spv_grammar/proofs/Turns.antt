@@ -13,7 +13,8 @@ use Rattle.serde_json.specs.Data.{Data}
 use Rattle.json_tree.specs.View.{view, items_view}
 use Rattle.json_tree.specs.declared.tree.Tree.{Tree}
 use Rattle.spv_grammar.specs.File.{each}
-use Rattle.spv_grammar.specs.Made.{Makes, all_of}
+use Rattle.spv_grammar.specs.Made.{all_of}
+use Rattle.spv_grammar.specs.inner.Made.{Makes}
 use Rattle.spv_grammar.proofs.Fronts.{with_front, joined}
 
 -- what is left, at an element

@@ -14,7 +14,8 @@ use Rattle.spv_grammar.specs.declared.file.File.{File}
 use Rattle.spv_table.specs.Table.{Table, Sort, is_simple, is_simple_category, is_sound, is_sound_category, are_bases, kind_of}
 use Rattle.spv_grammar.specs.Kinds.{first_kinds, number_in, kind_named, bears, is_part, is_part_category}
 use Rattle.spv_grammar.specs.Rules.{has_opcodes, has_values, are_named, have_named, are_kinds, names_kinds, are_quantified, have_quantified, is_known_kind, are_parts, composes, is_composed, has_numbers, has_kinds, is_known, has_results, has_bases}
-use Rattle.spv_grammar.specs.Made.{all_of, item_of, entry_from, parameter_of, enumerant_from, is_kept, sort_from, Makes}
+use Rattle.spv_grammar.specs.Made.{all_of, item_of, entry_from, parameter_of, enumerant_from, is_kept, sort_from}
+use Rattle.spv_grammar.specs.inner.Made.{Makes}
 use Rattle.spv_grammar.specs.Answer.{file_breaks}
 
 -- ---- tests of lists

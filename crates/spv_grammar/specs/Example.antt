@@ -29,7 +29,8 @@ abbrev pub unknown : List ℕ → FileOperand
 unknown name = record { kind = name; quantifier = None }
 
 abbrev pub instruction : ℕ → List FileOperand → FileInstruction
-instruction opcode operands = record { name = codes "OpA"; opcode = Some opcode; operands = operands; capabilities = [] }
+instruction opcode operands =
+    record { name = codes "OpA"; opcode = Some opcode; operands = operands; capabilities = [] }
 
 -- an instruction whose opcode is out of range, with an operand of a kind that no file has
 abbrev pub no_opcode : FileInstruction
@@ -44,11 +45,13 @@ valued v = record { name = codes "E"; value = Some v; parameters = []; capabilit
 
 -- the tree {"instructions":[],"operand_kinds":[]}
 abbrev pub empty_tree : Data
-empty_tree = object (member (codes "instructions") (array no_items) (member (codes "operand_kinds") (array no_items) no_members))
+empty_tree =
+    object (member (codes "instructions") (array no_items) (member (codes "operand_kinds") (array no_items) no_members))
 
 -- the tree {"kind":"A","quantifier":"?"}
 abbrev pub operand_tree : Data
-operand_tree = object (member (codes "kind") (string (codes "A")) (member (codes "quantifier") (string (codes "?")) no_members))
+operand_tree =
+    object (member (codes "kind") (string (codes "A")) (member (codes "quantifier") (string (codes "?")) no_members))
 
 -- the kind of results, and a composite of some bases
 abbrev pub result_kind : FileKind
@@ -62,14 +65,31 @@ file_of_kinds is kinds = record { instructions = is; kinds = kinds }
 
 -- two enumerants of one value: the first has a quantified parameter of the kind A
 abbrev pub dropped : FileEnumerant
-dropped = record { name = codes "Dropped"; value = Some 1; parameters = record { kind = codes "A"; quantifier = Some quantifier.Maybe } ∷ []; capabilities = [] }
+dropped =
+    record {
+      name = codes "Dropped";
+      value = Some 1;
+      parameters =
+          record { kind = codes "A"; quantifier = Some quantifier.Maybe } ∷ [];
+      capabilities = [];
+    }
 
 abbrev pub kept : FileEnumerant
 kept = record { name = codes "Kept"; value = Some 1; parameters = []; capabilities = [] }
 
 -- a file of a kind with the two enumerants, and the kind A
 abbrev pub twice_file : File
-twice_file = record { instructions = []; kinds = record { name = codes "Twice"; category = Some category.ValueEnum; enumerants = dropped ∷ kept ∷ []; bases = [] } ∷ a_kind ∷ [] }
+twice_file =
+    record {
+      instructions = [];
+      kinds = record {
+        name = codes "Twice";
+        category = Some category.ValueEnum;
+        enumerants =
+            dropped ∷ kept ∷ [];
+        bases = [];
+      } ∷ a_kind ∷ [];
+    }
 
 -- the two as a table would have them
 abbrev pub dropped_one : Enumerant
@@ -80,4 +100,18 @@ kept_one = record { name = codes "Kept"; value = 1; parameters = []; capabilitie
 
 -- a table of these two kinds, where the first has some enumerants
 abbrev pub twice_table : List Enumerant → Table
-twice_table es = record { kinds = record { kind = record { name = codes "Twice"; category = category.ValueEnum; bases = [] }; enumerants = es } ∷ record { kind = record { name = codes "A"; category = category.Id; bases = [] }; enumerants = [] } ∷ []; entries = [] }
+twice_table es =
+    record {
+      kinds = record {
+        kind = record {
+          name = codes "Twice";
+          category = category.ValueEnum;
+          bases =
+              [];
+        };
+        enumerants = es;
+      }
+          ∷ record { kind = record { name = codes "A"; category = category.Id; bases = [] }; enumerants = [] }
+          ∷ [];
+      entries = [];
+    }

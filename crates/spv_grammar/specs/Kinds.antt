@@ -1,5 +1,6 @@
 -- The kinds of a file, each name once, and their numbers. (Own.)
-use Rattle.std.specs.Prelude.{ℕ, Bool, true, false, not, ◌&&◌, ◌||◌, List, [], ◌∷◌, Option, Some, None, filter, position, codes}
+use Rattle.std.specs.Prelude.{ℕ, Bool, true, false, not, ◌&&◌, ◌||◌, List, [], ◌∷◌, Option, Some, None}
+use Rattle.std.specs.Prelude.{filter, position, codes}
 use Rattle.std.specs.List.{find}
 use Rattle.std.specs.Str.{bytes_eq}
 use Rattle.spv_grammar.specs.declared.file.FileKind.{FileKind}
@@ -42,4 +43,5 @@ is_id (Some k) = is_id_category k.category
 
 -- the result kinds are those of category Id named IdResultType and IdResult
 abbrev pub is_result : List FileKind → List ℕ → Bool
-is_result firsts name = (bytes_eq name (codes "IdResultType") || bytes_eq name (codes "IdResult")) && is_id (kind_named firsts name)
+is_result firsts name =
+    (bytes_eq name (codes "IdResultType") || bytes_eq name (codes "IdResult")) && is_id (kind_named firsts name)

@@ -1,9 +1,8 @@
 -- The table that a file makes. (Own.)
-use Rattle.std.specs.Prelude.{◌≡◌, ℕ, Bool, true, false, ◌&&◌, ◌||◌, List, [], ◌∷◌, Option, Some, None, option_map, option_and_then, Result, Ok, Err, nat_eq}
+use Rattle.std.specs.Prelude.{◌≡◌, ℕ, Bool, true, false, ◌&&◌, ◌||◌, List, [], ◌∷◌, Option, Some}
+use Rattle.std.specs.Prelude.{None, option_map, option_and_then, nat_eq}
 use Rattle.std.specs.List.{list_all, filter}
 use Rattle.std.specs.Int.{is_power_of_two}
-use Rattle.spv_grammar.specs.declared.error.GrammarError.{GrammarError}
-use Rattle.spv_grammar.specs.declared.error.GrammarError.TheVariants.{J8}
 use Rattle.spv_table.specs.declared.table.Category.{Category}
 use Rattle.spv_table.specs.declared.table.Category.TheVariants as category
 use Rattle.spv_table.specs.declared.table.Item.{Item}
@@ -25,11 +24,23 @@ all_of make (a ∷ later) = option_and_then (λ b. option_map (λ bs. b ∷ bs) 
 
 -- an operand: its kind by number, and how often it comes
 abbrev pub item_of : List FileKind → FileOperand → Option Item
-item_of firsts o = option_and_then (λ k. option_map (λ q. record { kind = k; quantifier = q }) o.quantifier) (number_in firsts o.kind)
+item_of firsts o =
+    option_and_then (λ k. option_map (λ q. record { kind = k; quantifier = q }) o.quantifier)
+    (number_in firsts o.kind)
 
 -- an instruction: its opcode, and its entry
 abbrev pub entry_from : List FileKind → FileInstruction → Option (ℕ × Entry)
-entry_from firsts i = option_and_then (λ opcode. option_map (λ items. (opcode, record { name = i.name; operands = items; capabilities = i.capabilities })) (all_of (item_of firsts) i.operands)) i.opcode
+entry_from firsts i =
+    option_and_then
+    (λ opcode. option_map (λ items. (
+      opcode,
+      record {
+        name = i.name;
+        operands = items;
+        capabilities =
+            i.capabilities;
+      },
+    )) (all_of (item_of firsts) i.operands)) i.opcode
 
 -- a parameter: its kind by number
 abbrev pub parameter_of : List FileKind → FileOperand → Option ℕ
@@ -37,7 +48,15 @@ parameter_of firsts o = number_in firsts o.kind
 
 -- an enumerant: its value, and its parameters' kinds by number
 abbrev pub enumerant_from : List FileKind → FileEnumerant → Option Enumerant
-enumerant_from firsts e = option_and_then (λ value. option_map (λ kinds. record { name = e.name; value = value; parameters = kinds; capabilities = e.capabilities }) (all_of (parameter_of firsts) e.parameters)) e.value
+enumerant_from firsts e =
+    option_and_then
+    (λ value. option_map (λ kinds. record {
+      name = e.name;
+      value = value;
+      parameters = kinds;
+      capabilities =
+          e.capabilities;
+    }) (all_of (parameter_of firsts) e.parameters)) e.value
 
 -- the values 0 and those of one bit
 abbrev pub is_mask : Option ℕ → Bool
@@ -55,13 +74,12 @@ is_kept c e = list_all (λ o. is_one o.quantifier) e.parameters && fits_category
 
 -- a kind: its bases by number, and its enumerants that are not dropped
 abbrev pub sort_from : List FileKind → FileKind → Option Sort
-sort_from firsts k = option_and_then (λ c. option_and_then (λ bases. option_map (λ es. record { kind = record { name = k.name; category = c; bases = bases }; enumerants = es }) (all_of (enumerant_from firsts) (filter (is_kept k.category) k.enumerants))) (all_of (number_in firsts) k.bases)) k.category
-
--- an answer is what was made, or an error where nothing can be made or memory ran out
-abbrev pub Makes : {X Y : Type 0} → (X → Y) → Result X GrammarError → Option Y → Type 0
-Makes view (Ok x) known = known ≡ Some (view x)
-Makes view (Err J8) known = Unit {0}
-Makes view (Err e) known = known ≡ None
+sort_from firsts k =
+    option_and_then
+    (λ c. option_and_then (λ bases. option_map
+    (λ es. record { kind = record { name = k.name; category = c; bases = bases }; enumerants = es })
+    (all_of (enumerant_from firsts) (filter (is_kept k.category) k.enumerants))) (all_of (number_in firsts) k.bases))
+    k.category
 
 -- the table: each instruction in order, and each name's first kind, at the place that is its number
 pub record IsTable (file : File) (G : Table) : Type 0 where

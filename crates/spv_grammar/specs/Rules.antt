@@ -1,5 +1,6 @@
 -- What a file that was read has to keep, each rule by itself. A file breaks a code where its rule is false. (Own.)
-use Rattle.std.specs.Prelude.{ℕ, Bool, true, false, ◌&&◌, List, [], ◌∷◌, Option, Some, is_some, not, ◌||◌, nat_le, count_by, codes}
+use Rattle.std.specs.Prelude.{ℕ, Bool, true, false, ◌&&◌, List, [], ◌∷◌, Option, Some, is_some, not}
+use Rattle.std.specs.Prelude.{◌||◌, nat_le, count_by, codes}
 use Rattle.std.specs.List.{list_all}
 use Rattle.std.specs.Str.{bytes_eq}
 use Rattle.spv_table.specs.declared.table.Quantifier.{Quantifier}
@@ -37,7 +38,8 @@ abbrev pub names_kinds : List FileKind → FileKind → Bool
 names_kinds firsts k = have_named firsts k.enumerants && are_kinds firsts k.bases
 
 abbrev pub has_kinds : List FileKind → File → Bool
-has_kinds firsts file = list_all (λ i. are_named firsts i.operands) file.instructions && list_all (names_kinds firsts) file.kinds
+has_kinds firsts file =
+    list_all (λ i. are_named firsts i.operands) file.instructions && list_all (names_kinds firsts) file.kinds
 
 -- J5: each category and each quantifier is known
 abbrev pub are_quantified : List FileOperand → Bool
@@ -67,16 +69,21 @@ abbrev pub is_plain : List FileKind → FileOperand → Bool
 is_plain firsts o = not (is_result firsts o.kind) || is_one o.quantifier
 
 abbrev pub places_results : List FileKind → List FileOperand → Bool
-places_results firsts operands = comes_once firsts (codes "IdResultType") operands && comes_once firsts (codes "IdResult") operands && list_all (is_plain firsts) operands
+places_results firsts operands =
+    comes_once firsts (codes "IdResultType") operands && comes_once firsts (codes "IdResult") operands && list_all
+    (is_plain firsts) operands
 
 abbrev pub are_no_results : List FileKind → List FileOperand → Bool
 are_no_results firsts operands = list_all (λ o. not (is_result firsts o.kind)) operands
 
 abbrev pub has_no_results : List FileKind → FileKind → Bool
-has_no_results firsts k = list_all (λ e. are_no_results firsts e.parameters) k.enumerants && list_all (λ name. not (is_result firsts name)) k.bases
+has_no_results firsts k =
+    list_all (λ e. are_no_results firsts e.parameters) k.enumerants && list_all
+    (λ name. not (is_result firsts name)) k.bases
 
 abbrev pub has_results : List FileKind → File → Bool
-has_results firsts file = list_all (λ i. places_results firsts i.operands) file.instructions && list_all (has_no_results firsts) file.kinds
+has_results firsts file =
+    list_all (λ i. places_results firsts i.operands) file.instructions && list_all (has_no_results firsts) file.kinds
 
 -- J7: a Composite has bases, each a kind of category Id or Literal
 abbrev pub are_parts : List FileKind → List (List ℕ) → Bool

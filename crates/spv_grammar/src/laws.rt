@@ -1,7 +1,8 @@
 //! Laws of the definitions, and worked examples. Each function does nothing: its contract is what
 //! is proved.
 
-ghost use Rattle.std.specs.Prelude.{◌≡◌, ℕ, List, [], ◌∷◌, Some, None, codes, true, false, filter, slice_get, option_map, option_and_then};
+ghost use Rattle.std.specs.Prelude.{◌≡◌, ℕ, List, [], ◌∷◌, Some, None, codes, true, false, filter};
+ghost use Rattle.std.specs.Prelude.{slice_get, option_map, option_and_then};
 ghost use Rattle.serde_json.specs.Data.{Data, object, no_members};
 ghost use Rattle.spv_grammar.specs.declared.error.GrammarError.{GrammarError};
 ghost use Rattle.spv_grammar.specs.declared.error.GrammarError.TheVariants.{J2, J3, J4, J5, J6, J7};
@@ -11,14 +12,17 @@ ghost use Rattle.spv_grammar.specs.declared.file.File.{File};
 ghost use Rattle.spv_grammar.specs.declared.file.FileKind.{FileKind};
 ghost use Rattle.spv_table.specs.Table.{Table, Sort, entry_of, kind_of, enumerant_of};
 ghost use Rattle.spv_table.specs.Lookups.{opcode_named, value_named, number_named};
-ghost use Rattle.spv_grammar.specs.FileLookups.{instruction_with, instruction_named, enumerant_with, enumerant_named};
+ghost use Rattle.spv_grammar.specs.inner.FileLookups.{instruction_with, instruction_named, enumerant_with};
+ghost use Rattle.spv_grammar.specs.inner.FileLookups.{enumerant_named};
 ghost use Rattle.spv_grammar.specs.File.{quantifier_of, operand_of, bit_value_of, file_of};
 ghost use Rattle.spv_grammar.specs.Kinds.{first_kinds, number_in};
 ghost use Rattle.spv_grammar.specs.Made.{entry_from, enumerant_from, is_kept, sort_from, IsTable};
 ghost use Rattle.spv_grammar.specs.Answer.{file_breaks, tree_breaks, Gives, IsGiven};
 ghost use Rattle.spv_table.specs.Table.{has_other_parts};
 ghost use Rattle.std.specs.List.{list_all};
-ghost use Rattle.spv_grammar.specs.Example.{a_kind, b_kind, a_again, once, unknown, instruction, no_opcode, file_with, valued, empty_tree, operand_tree, result_kind, composite, file_of_kinds, twice_file, twice_table, dropped_one, kept_one};
+ghost use Rattle.spv_grammar.specs.Example.{a_kind, b_kind, a_again, once, unknown, instruction, no_opcode, file_with};
+ghost use Rattle.spv_grammar.specs.Example.{valued, empty_tree, operand_tree, result_kind, composite, file_of_kinds};
+ghost use Rattle.spv_grammar.specs.Example.{twice_file, twice_table, dropped_one, kept_one};
 ghost use Rattle.spv_table.specs.Example.{empty_table};
 
 pub use spv_table::laws::capability_examples;
@@ -37,17 +41,25 @@ pub fn kinds_apart()
 /// The look-ups in a file's table answer what the first elements of the file make.
 pub fn first_elements()
     ensures entries { (file : File) (G : Table) (opcode : ℕ) → IsTable file G
-        → entry_of G opcode ≡ option_map (λ e. e.1) (option_and_then (entry_from (first_kinds file.kinds)) (instruction_with file.instructions opcode)) }
+        → entry_of G opcode ≡ option_map (λ e. e.1)
+        (option_and_then (entry_from (first_kinds file.kinds)) (instruction_with file.instructions opcode)) }
     ensures opcodes { (file : File) (G : Table) (name : List ℕ) → IsTable file G
-        → opcode_named G.entries name ≡ option_and_then (λ i. i.opcode) (instruction_named file.instructions name) }
-    ensures numbers { (file : File) (G : Table) (name : List ℕ) → IsTable file G → number_named G name ≡ number_in (first_kinds file.kinds) name }
+        → opcode_named G.entries name ≡ option_and_then (λ i. i.opcode)
+        (instruction_named file.instructions name) }
+    ensures numbers { (file : File) (G : Table) (name : List ℕ) → IsTable file G
+        → number_named G name ≡ number_in (first_kinds file.kinds) name }
     ensures kinds { (file : File) (G : Table) (number : ℕ) → IsTable file G
-        → kind_of G number ≡ option_and_then (sort_from (first_kinds file.kinds)) (slice_get (first_kinds file.kinds) number) }
+        → kind_of G number ≡ option_and_then (sort_from (first_kinds file.kinds))
+        (slice_get (first_kinds file.kinds) number) }
     // Of a kind of the file, the enumerants that are not dropped.
-    ensures enumerants { (firsts : List FileKind) (k : FileKind) (s : Sort) (value : ℕ) → sort_from firsts k ≡ Some s
-        → enumerant_of s.enumerants value ≡ option_and_then (enumerant_from firsts) (enumerant_with (filter (is_kept k.category) k.enumerants) value) }
-    ensures values { (firsts : List FileKind) (k : FileKind) (s : Sort) (name : List ℕ) → sort_from firsts k ≡ Some s
-        → value_named s.enumerants name ≡ option_and_then (λ e. e.value) (enumerant_named (filter (is_kept k.category) k.enumerants) name) }
+    ensures enumerants { (firsts : List FileKind) (k : FileKind) (s : Sort) (value : ℕ)
+        → sort_from firsts k ≡ Some s
+        → enumerant_of s.enumerants value ≡ option_and_then (enumerant_from firsts)
+        (enumerant_with (filter (is_kept k.category) k.enumerants) value) }
+    ensures values { (firsts : List FileKind) (k : FileKind) (s : Sort) (name : List ℕ)
+        → sort_from firsts k ≡ Some s
+        → value_named s.enumerants name ≡ option_and_then (λ e. e.value)
+        (enumerant_named (filter (is_kept k.category) k.enumerants) name) }
 {}
 
 /// Worked examples of how a file is read.
@@ -74,8 +86,10 @@ pub fn table_examples()
     // A file that breaks nothing, one that breaks J4 and J5, and one that breaks J3 and J4.
     ensures unbroken { file_breaks (file_with (instruction 1 (once (codes "A") ∷ []) ∷ [])) ≡ None }
     ensures unknown_kind { file_breaks (file_with (instruction 1 (unknown (codes "X") ∷ []) ∷ [])) ≡ Some J4 }
-    ensures unknown_quantifier { file_breaks (file_with (instruction 1 (unknown (codes "A") ∷ []) ∷ [])) ≡ Some J5 }
-    ensures least { file_breaks (file_with (instruction 1 (unknown (codes "A") ∷ []) ∷ no_opcode ∷ [])) ≡ Some J3 }
+    ensures unknown_quantifier { file_breaks (file_with (instruction 1 (unknown (codes "A") ∷ []) ∷ []))
+        ≡ Some J5 }
+    ensures least { file_breaks (file_with (instruction 1 (unknown (codes "A") ∷ []) ∷ no_opcode ∷ []))
+        ≡ Some J3 }
     // The tree of two empty arrays gives the table of nothing; an object without keys gives none.
     ensures gives { Gives empty_tree empty_table }
     ensures no_keys { tree_breaks (object no_members) ≡ Some J2 }
@@ -84,10 +98,13 @@ pub fn table_examples()
 /// Worked examples of J6 and J7, and of what becomes of an enumerant that is dropped.
 pub fn more_table_examples()
     // A file whose instruction has a result twice breaks J6, one whose composite has no bases J7.
-    ensures result_twice { file_breaks (file_of_kinds (instruction 1 (once (codes "IdResult") ∷ once (codes "IdResult") ∷ []) ∷ []) (result_kind ∷ [])) ≡ Some J6 }
+    ensures result_twice { file_breaks (file_of_kinds
+        (instruction 1 (once (codes "IdResult") ∷ once (codes "IdResult") ∷ []) ∷ []) (result_kind ∷ []))
+        ≡ Some J6 }
     ensures no_bases { file_breaks (file_of_kinds [] (composite [] ∷ [])) ≡ Some J7 }
     // A result that stands once and a composite of an id break nothing.
-    ensures unbroken { file_breaks (file_of_kinds (instruction 1 (once (codes "IdResult") ∷ []) ∷ []) (result_kind ∷ a_kind ∷ composite (codes "A" ∷ []) ∷ [])) ≡ None }
+    ensures unbroken { file_breaks (file_of_kinds (instruction 1 (once (codes "IdResult") ∷ []) ∷ [])
+        (result_kind ∷ a_kind ∷ composite (codes "A" ∷ []) ∷ [])) ≡ None }
     // Of two enumerants of one value the table has the second alone where the first is dropped.
     ensures kept { IsTable twice_file (twice_table (kept_one ∷ [])) }
     ensures dropped { ¬ IsTable twice_file (twice_table (dropped_one ∷ kept_one ∷ [])) }

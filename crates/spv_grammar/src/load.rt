@@ -1,6 +1,7 @@
 //! A table from a grammar file.
 
-ghost use Rattle.std.specs.Prelude.{◌≡◌, ◌≢◌, ◌<◌, ◌^◌, length, None, Some, IfOk, IfErr, IsErrOf, IsUtf8};
+ghost use Rattle.std.specs.Prelude.{◌≡◌, ◌≢◌, ◌<◌, ◌^◌, length, None, Some, IfOk, IfErr, IsErrOf};
+ghost use Rattle.std.specs.Prelude.{IsUtf8};
 ghost use Rattle.serde_json.specs.View.{view};
 ghost use Rattle.json_tree.specs.View.{view as tree_view};
 ghost use Rattle.serde_json.specs.Data.{Data};
@@ -92,7 +93,8 @@ impl FromGrammar for Table {
     }
 
     fn from_slice(alloc: Global, text: &[u8]) -> Result<Table, GrammarError>
-        ensures table { IfOk result (λ G. (d : Data) × IsUtf8 text.now × (read_text text.now ≡ Some d) × Gives d G) }
+        ensures table { IfOk result (λ G. (d : Data) × IsUtf8 text.now × (read_text text.now ≡ Some d)
+            × Gives d G) }
         ensures refused { IfErr result (λ e. e ≢ J8 → text_breaks text.now e) }
     {
         let mut scratch = Scratch::new(alloc);

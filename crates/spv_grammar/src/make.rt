@@ -3,7 +3,9 @@
 ghost use Rattle.std.specs.Prelude.{◌≡◌};
 ghost use Rattle.spv_grammar.specs.Kinds.{number_in};
 ghost use Rattle.std.specs.List.{list_all, filter};
-ghost use Rattle.spv_grammar.specs.Made.{Makes, all_of, item_of, entry_from, parameter_of, enumerant_from, is_kept, is_mask, fits_category, sort_from};
+ghost use Rattle.spv_grammar.specs.Made.{all_of, item_of, entry_from, parameter_of, enumerant_from, is_kept, is_mask};
+ghost use Rattle.spv_grammar.specs.Made.{fits_category, sort_from};
+ghost use Rattle.spv_grammar.specs.inner.Made.{Makes};
 ghost use Rattle.spv_grammar.specs.Rules.{is_one};
 
 use crate::error::GrammarError;
@@ -185,7 +187,8 @@ fn enumerants(
     category: Option<Category>,
     elements: &[FileEnumerant<'_>],
 ) -> Result<Vec<Enumerant>, GrammarError>
-    ensures { Makes (λ v. v.items) result (all_of (enumerant_from numbers.now) (filter (is_kept category) elements.now)) }
+    ensures { Makes (λ v. v.items) result (all_of (enumerant_from numbers.now)
+        (filter (is_kept category) elements.now)) }
 {
     let mut found = Vec::with_capacity(alloc, elements.len())?;
     for element in elements {

@@ -1,6 +1,7 @@
 //! Numbers the kinds of a grammar file by their names.
 
-ghost use Rattle.std.specs.Prelude.{◌≡◌, ◌<◌, ◌^◌, length, slice_get, position, codes, Some, IfOk, IfErr, map, option_map};
+ghost use Rattle.std.specs.Prelude.{◌≡◌, ◌<◌, ◌^◌, length, slice_get, position, codes, Some, IfOk, IfErr};
+ghost use Rattle.std.specs.Prelude.{map, option_map};
 ghost use Rattle.std.specs.Str.{bytes_eq};
 ghost use Rattle.spv_grammar.specs.Kinds.{first_kinds, number_in, kind_named};
 ghost use Rattle.spv_grammar.specs.declared.error.GrammarError.TheVariants.{J8};
@@ -16,7 +17,8 @@ use std::marker::Model;
 pub(crate) struct Numbers<'a> {
     names: IndexSet<&'a str>,
     kinds: Vec<&'a FileKind<'a>>,
-    /// The numbers of the five names that most operands bear: IdRef, IdResult, IdResultType, LiteralInteger and IdScope.
+    /// The numbers of the five names that most operands bear: IdRef, IdResult, IdResultType, LiteralInteger and
+    /// IdScope.
     reference: Option<u32>,
     result: Option<u32>,
     result_type: Option<u32>,
@@ -33,7 +35,8 @@ impl<'a> Model for Numbers<'a> {
 
     ghost view = { λ n. map (λ k. k.now) n.kinds.items };
 
-    ghost invariant = { λ n. (map (λ k. k.now) n.names.keys ≡ map (λ k. k.now.name) n.kinds.items) × (length n.kinds.items < 2 ^ 32)
+    ghost invariant = { λ n. (map (λ k. k.now) n.names.keys ≡ map (λ k. k.now.name) n.kinds.items)
+        × (length n.kinds.items < 2 ^ 32)
         × (n.reference ≡ number_in (map (λ k. k.now) n.kinds.items) (codes "IdRef"))
         × (n.result ≡ number_in (map (λ k. k.now) n.kinds.items) (codes "IdResult"))
         × (n.result_type ≡ number_in (map (λ k. k.now) n.kinds.items) (codes "IdResultType"))

@@ -3,7 +3,11 @@
 ghost use Rattle.std.specs.Prelude.{◌≡◌, ◌<◌, ◌≤◌, length, IfSome, option_map};
 ghost use Rattle.serde_json.specs.Find.{as_str};
 ghost use Rattle.json_tree.specs.View.{view, items_view};
-ghost use Rattle.spv_grammar.specs.File.{Reads, each, text_at, items_at, quantifier_of, quantifier_at, operand_of, operands_at, capabilities_at, opcode_at, instruction_of, hex_digit_of, hex_from, bit_value_of, value_at, enumerant_in, enumerants_at, bases_at, category_of, kind_in, file_of};
+ghost use Rattle.spv_grammar.specs.File.{each, text_at, items_at, quantifier_of, quantifier_at, operand_of};
+ghost use Rattle.spv_grammar.specs.File.{operands_at, capabilities_at, opcode_at, instruction_of, hex_digit_of};
+ghost use Rattle.spv_grammar.specs.File.{hex_from, bit_value_of, value_at, enumerant_in, enumerants_at, bases_at};
+ghost use Rattle.spv_grammar.specs.File.{category_of, kind_in, file_of};
+ghost use Rattle.spv_grammar.specs.inner.File.{Reads};
 
 use crate::error::GrammarError;
 use crate::file::{File, FileEnumerant, FileInstruction, FileKind, FileOperand};

@@ -2,7 +2,11 @@
 
 ghost use Rattle.std.specs.Prelude.{◌≡◌, is_some, not, option_map};
 ghost use Rattle.std.specs.List.{list_all};
-ghost use Rattle.spv_grammar.specs.Rules.{has_opcodes, has_values, has_numbers, are_named, have_named, are_kinds, names_kinds, has_kinds, are_quantified, have_quantified, is_known_kind, is_known, is_one, is_result_named, comes_once, is_plain, places_results, are_no_results, has_no_results, has_results, are_parts, composes, is_composed, has_bases};
+ghost use Rattle.spv_grammar.specs.Rules.{has_opcodes, has_values, has_numbers, are_named, have_named, are_kinds};
+ghost use Rattle.spv_grammar.specs.Rules.{names_kinds, has_kinds, are_quantified, have_quantified, is_known_kind};
+ghost use Rattle.spv_grammar.specs.Rules.{is_known, is_one, is_result_named, comes_once, is_plain, places_results};
+ghost use Rattle.spv_grammar.specs.Rules.{are_no_results, has_no_results, has_results, are_parts, composes};
+ghost use Rattle.spv_grammar.specs.Rules.{is_composed, has_bases};
 ghost use Rattle.spv_grammar.specs.Kinds.{kind_named, is_part_category, is_id_category, is_result};
 
 use crate::file::{File, FileEnumerant, FileInstruction, FileKind, FileOperand};
@@ -299,7 +303,8 @@ pub(crate) fn has_results(numbers: &Numbers<'_>, file: &File<'_>) -> bool
 
 /// Whether each name is that of a kind of category Id or Literal.
 fn name_parts(numbers: &Numbers<'_>, names: &[LentName<'_>]) -> bool
-    ensures { result ≡ list_all (λ name. Rattle.spv_grammar.specs.Kinds.is_part (kind_named numbers.now name)) names.now }
+    ensures { result ≡ list_all (λ name. Rattle.spv_grammar.specs.Kinds.is_part (kind_named numbers.now name))
+        names.now }
 {
     names.iter().all(|name| names_part(numbers, name.as_str()))
 }

@@ -4,7 +4,7 @@ use Rattle.std.specs.Prelude.{slice_get}
 use Rattle.std.proofs.lemmas.Bool.Decides.{nat_tests}
 use Rattle.spv_module.specs.Operand.{Plain, PlainInst, Id}
 use Rattle.spv_ids.specs.Order.{Announces}
-use Rattle.spv_ids.specs.Test.{id_in, announced_id}
+use Rattle.spv_ids.specs.inner.Test.{id_in, announced_id}
 use Rattle.spv_id_reasons.specs.declared.kept.Kept.{Kept}
 use Rattle.spv_id_reasons.specs.inner.Known.{kept, Puts}
 use Rattle.spv_id_reasons.specs.inner.Order.{IsAnnouncedBefore, AreAnnounced}

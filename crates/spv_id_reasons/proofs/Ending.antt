@@ -8,17 +8,17 @@ use Rattle.spv_layout.specs.declared.class.Class.TheVariants.{FunctionEnd}
 use Rattle.spv_layout.specs.declared.form.Form.{Form}
 use Rattle.spv_layout.specs.Class.{is_among}
 use Rattle.spv_layout.specs.Layout.{classes}
-use Rattle.spv_layout.specs.Row.{PlainRow, Ending, closed, row_in}
+use Rattle.spv_layout.specs.Row.{PlainRow, RowEnding, closed, row_in}
 use Rattle.spv_layout.specs.Rows.{rows, class_of, class_in}
 use Rattle.spv_layout.specs.Place.{IsAt}
-use Rattle.spv_layout.specs.Shape.{AreOf, Ends, HasForms, Fits}
+use Rattle.spv_layout.specs.Shape.{AreOf, Ends, HasForms, FitsShape}
 use Rattle.spv_ids.specs.Definition.{IsDefinedAt}
 
 is_nil : List Form → Bool
 is_nil [] = true
 is_nil (f ∷ fs) = false
 
-is_closed : Ending → Bool
+is_closed : RowEnding → Bool
 is_closed closed = true
 is_closed _ = false
 
@@ -52,7 +52,7 @@ row_tells [] n r a h = cc
 row_tells (s ∷ rs) n r a h =
     row_by s r rs n (nat_le s.from n && nat_le n s.to) (and_first (row_ends s) (all_end rs) a) (λ k. row_tells rs n r (and_second (row_ends s) (all_end rs) a) k) h
 
-ends_closed : (e : Ending) (gs : List Form) → is_closed e ≡ true → Ends e gs → gs ≡ []
+ends_closed : (e : RowEnding) (gs : List Form) → is_closed e ≡ true → Ends e gs → gs ≡ []
 unfolding is_closed
 ends_closed _ _ c Ends.nothing = refl
 ends_closed _ _ c (Ends.absent f) = cc
@@ -94,7 +94,7 @@ end_operands G i fs h c =
 class_at : (is : List PlainInst) (n : ℕ) (i : PlainInst) → slice_get is n ≡ Some i → slice_get (classes is) n ≡ Some (class_of i.opcode)
 class_at is n i h = slice_get-map (λ j. class_of j.opcode) is n ∙ ap (option_map (λ j. class_of j.opcode)) h
 
-pub no_result_at_end : (G : Table) (is : List PlainInst) (n x : ℕ) (d : IsDefinedAt is x n) → Fits G d.inst → ¬ (IsAt is n (FunctionEnd ∷ []))
+pub no_result_at_end : (G : Table) (is : List PlainInst) (n x : ℕ) (d : IsDefinedAt is x n) → FitsShape G d.inst → ¬ (IsAt is n (FunctionEnd ∷ []))
 no_result_at_end G is n x d f a =
     let i = d.inst in
     let c = rw (class_at is n i d.there) at a in

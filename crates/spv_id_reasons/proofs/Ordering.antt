@@ -16,7 +16,7 @@ use Rattle.spv_layout.proofs.Places.{section_same}
 use Rattle.spv_ids.specs.Definition.{IsDefinedAt, IsUsedAt}
 use Rattle.spv_ids.specs.Order.{HasOpcode, Announces, IsInOrder, IsOrdered}
 use Rattle.spv_ids.specs.Broken.{Broken}
-use Rattle.spv_ids.specs.Test.{early_test}
+use Rattle.spv_ids.specs.inner.Test.{early_test}
 use Rattle.spv_evidence.specs.declared.evidence.Evidence.TheVariants.{Defined}
 use Rattle.spv_id_reasons.specs.declared.order.Site.{Site}
 use Rattle.spv_id_reasons.specs.Ids.{IsEvidence}

@@ -17,7 +17,7 @@ use Rattle.spv_layout.proofs.Places.{function_same}
 use Rattle.spv_ids.specs.Definition.{IsDefinedAt, IsUsedAt, IsLocalTo}
 use Rattle.spv_ids.specs.Order.{IsInScope, IsScoped}
 use Rattle.spv_ids.specs.Broken.{Broken}
-use Rattle.spv_ids.specs.Known.{IsHome, IsFunctionOf}
+use Rattle.spv_ids.specs.inner.Known.{IsHome, IsFunctionOf}
 use Rattle.spv_evidence.specs.declared.evidence.Evidence.TheVariants.{Local}
 use Rattle.spv_id_reasons.specs.Ids.{IsEvidence, IsLocalBy}
 use Rattle.spv_id_reasons.specs.declared.kept.Kept.{Kept}

@@ -11,7 +11,7 @@ use Rattle.spv_module.specs.Module.{plain_operand, plain_operands, plain_inst}
 use Rattle.spv_layout.specs.declared.form.Role.{Role}
 use Rattle.spv_layout.specs.Shape.{IsUse, IsRole}
 use Rattle.spv_layout.proofs.Shapes.{use_same}
-use Rattle.spv_ids.specs.Uses.{used_id}
+use Rattle.spv_ids.specs.inner.Uses.{used_id}
 use Rattle.spv_roles.proofs.Listed.{inst_there}
 use Rattle.spv_roles.proofs.Casting.{use_operand, operand_at}
 use Rattle.spv_id_reasons.specs.inner.Uses.{HasUse}

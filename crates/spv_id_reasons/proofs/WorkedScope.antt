@@ -11,7 +11,7 @@ use Rattle.spv_layout.specs.Row.{row, T, R, v, closed}
 use Rattle.spv_layout.specs.Rows.{rows}
 use Rattle.spv_layout.specs.Shape.{AreOf, Ends, HasForms, IsUse}
 use Rattle.spv_layout.specs.Place.{IsLast, IsOfFunction, IsDefinition, IsOfSection}
-use Rattle.spv_layout.specs.Span.{Outside, In, After, UpTo, Before}
+use Rattle.spv_layout.specs.inner.Span.{Outside, In, After, UpTo, Before}
 use Rattle.spv_layout.proofs.Spans.{before_first, enters, leaves, within}
 use Rattle.spv_layout.proofs.Places.{function_same}
 use Rattle.spv_ids.specs.Definition.{IsDefinedAt, IsLocalTo}

@@ -30,7 +30,8 @@ pub data IsEvidence (G : Table) (bound : ℕ) (is : List PlainInst) : Rule → �
   use_out_of_range : (n k x : ℕ) (r : Role) → IsUsedAt G is n k x r → IsOutOfRange bound x
       → IsEvidence G bound is D1 n (Operand k)
   -- the earlier instruction m has the same result
-  defined_again : (n m x : ℕ) → IsDefinedAt is x n → m < n → IsDefinedAt is x m → IsEvidence G bound is D2 n (Earlier m)
+  defined_again : (n m x : ℕ) → IsDefinedAt is x n → m < n → IsDefinedAt is x m
+      → IsEvidence G bound is D2 n (Earlier m)
   -- operand k is a use of an id that no instruction has as its result
   undefined : (n k x : ℕ) (r : Role) → IsUsedAt G is n k x r → ((m : ℕ) → ¬ (IsDefinedAt is x m))
       → IsEvidence G bound is D3 n (Operand k)

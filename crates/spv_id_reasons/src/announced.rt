@@ -3,7 +3,7 @@
 ghost use Rattle.std.specs.Prelude.{◌≡◌, ◌+◌, ◌≤◌, ℕ, List, Some, OnOk, IfOk, length, map, slice_get};
 ghost use Rattle.spv_module.specs.Operand.{PlainInst};
 ghost use Rattle.spv_module.specs.Module.{plain_inst, plain_operands};
-ghost use Rattle.spv_ids.specs.Test.{id_in, announced_id};
+ghost use Rattle.spv_ids.specs.inner.Test.{id_in, announced_id};
 ghost use Rattle.spv_id_reasons.specs.inner.Order.{AreAnnounced};
 
 use crate::kept::Kept;

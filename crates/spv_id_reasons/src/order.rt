@@ -1,16 +1,17 @@
 //! What shows that D4 is broken.
 
-ghost use Rattle.std.specs.Prelude.{◌≡◌, ◌≤◌, ◌<◌, ℕ, List, Some, MatchBool, MatchOption, IfOk, length, map, slice_get};
+ghost use Rattle.std.specs.Prelude.{◌≡◌, ◌≤◌, ◌<◌, ℕ, List, Some, MatchBool, MatchOption, IfOk};
+ghost use Rattle.std.specs.Prelude.{length, map, slice_get};
 ghost use Rattle.spv_table.specs.Table.{Table};
 ghost use Rattle.spv_module.specs.Operand.{PlainInst};
 ghost use Rattle.spv_module.specs.Module.{plain_inst};
 ghost use Rattle.spv_module.specs.declared.fault.Rule.TheVariants.{D4};
 ghost use Rattle.spv_layout.specs.First.{IsFirst};
 ghost use Rattle.spv_layout.specs.Plan.{IsPlan};
-ghost use Rattle.spv_layout.specs.Shape.{Fits};
+ghost use Rattle.spv_layout.specs.Shape.{FitsShape};
 ghost use Rattle.spv_ids.specs.Broken.{Broken};
 ghost use Rattle.spv_ids.specs.Order.{IsInOrder};
-ghost use Rattle.spv_ids.specs.Test.{early_test};
+ghost use Rattle.spv_ids.specs.inner.Test.{early_test};
 ghost use Rattle.spv_id_reasons.specs.Ids.{IsEvidence};
 ghost use Rattle.spv_id_reasons.specs.inner.Known.{AreFirst, IsFirstOne, kept};
 ghost use Rattle.spv_id_reasons.specs.inner.Order.{AreAnnounced, IsSite, IsDisordered};
@@ -91,7 +92,7 @@ fn disordered(
     inst: &Inst<'_>,
     k: usize,
 ) -> Option<u32>
-    ensures { (G : Table) (bound : ℕ) (is : List PlainInst) (n : ℕ) → Fits G (plain_inst inst.now)
+    ensures { (G : Table) (bound : ℕ) (is : List PlainInst) (n : ℕ) → FitsShape G (plain_inst inst.now)
         → IsSite is n site.now
         → AreFirst bound is (length is) definitions.now → AreAnnounced bound is n announced.now
         → MatchOption result ((m : ℕ) → ¬ (HasUse G (plain_inst inst.now) (IsDisordered bound is n m) k))

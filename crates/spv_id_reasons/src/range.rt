@@ -4,9 +4,9 @@ ghost use Rattle.std.specs.Prelude.{◌≡◌, ◌↔◌, ℕ, Some, IsTrue, Mat
 ghost use Rattle.spv_table.specs.Table.{Table};
 ghost use Rattle.spv_module.specs.Module.{plain_inst, plain_operands};
 ghost use Rattle.spv_module.specs.declared.fault.Rule.TheVariants.{D1};
-ghost use Rattle.spv_layout.specs.Shape.{Fits};
+ghost use Rattle.spv_layout.specs.Shape.{FitsShape};
 ghost use Rattle.spv_ids.specs.Broken.{Broken, IsOutOfRange};
-ghost use Rattle.spv_ids.specs.Uses as uses;
+ghost use Rattle.spv_ids.specs.inner.Uses as uses;
 ghost use Rattle.spv_id_reasons.specs.Ids.{IsEvidence};
 ghost use Rattle.spv_id_reasons.specs.inner.Uses.{AreFit};
 ghost use Rattle.spv_id_reasons.specs.inner.Range.{IsOwnResult, IsIdAt, IsAstray};
@@ -48,7 +48,7 @@ fn own_result_at(inst: &Inst<'_>, k: usize) -> Option<u32>
 
 /// The id that operand `k` of an instruction is, as its result or a use.
 fn id_at(inst: &Inst<'_>, k: usize) -> Option<u32>
-    ensures { (G : Table) → Fits G (plain_inst inst.now)
+    ensures { (G : Table) → FitsShape G (plain_inst inst.now)
         → MatchOption result ((x : ℕ) → ¬ (IsIdAt G (plain_inst inst.now) k x))
         (λ x. IsIdAt G (plain_inst inst.now) k x) }
 {
@@ -60,8 +60,9 @@ fn id_at(inst: &Inst<'_>, k: usize) -> Option<u32>
 
 /// Whether operand `k` of an instruction is its result, or a use, of an id that is out of range.
 fn is_astray(inst: &Inst<'_>, bound: u32, k: usize) -> bool
-    ensures { (G : Table) → Fits G (plain_inst inst.now)
-        → MatchBool result (IsAstray G bound (plain_inst inst.now) k) (¬ (IsAstray G bound (plain_inst inst.now) k)) }
+    ensures { (G : Table) → FitsShape G (plain_inst inst.now)
+        → MatchBool result (IsAstray G bound (plain_inst inst.now) k)
+        (¬ (IsAstray G bound (plain_inst inst.now) k)) }
 {
     match id_at(inst, k) {
         Some(id) => is_out_of_range(bound, id),

@@ -6,7 +6,7 @@ ghost use Rattle.spv_module.specs.Module.{plain_inst, plain_insts};
 ghost use Rattle.spv_module.specs.declared.fault.Rule.TheVariants.{Y1};
 ghost use Rattle.spv_layout.specs.First.{IsUnbroken};
 ghost use Rattle.spv_layout.specs.Plan.{IsPlan};
-ghost use Rattle.spv_layout.specs.Shape.{Fits};
+ghost use Rattle.spv_layout.specs.Shape.{FitsShape};
 ghost use Rattle.spv_ids.specs.Broken as id_rules;
 ghost use Rattle.spv_ids.specs.Outcome.{IsDefinitionOf, definition_in};
 ghost use Rattle.spv_roles.specs.Broken.{Broken};
@@ -30,7 +30,7 @@ fn miscast_at(
     k: u32,
 ) -> Option<Evidence>
     requires ids { (x : ℕ) → IsDefinitionOf definitions.now x (definition_in ids.now x) }
-    ensures { (G : Table) (n : ℕ) → Fits G (plain_inst inst.now)
+    ensures { (G : Table) (n : ℕ) → FitsShape G (plain_inst inst.now)
         → slice_get definitions.now n ≡ Some (plain_inst inst.now)
         → MatchOption result (¬ (HasUse G (plain_inst inst.now) (IsMiscast definitions.now) k))
         (λ e. IsEvidence G definitions.now Y1 n e) }

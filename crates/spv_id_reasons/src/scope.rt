@@ -8,10 +8,10 @@ ghost use Rattle.spv_module.specs.Module.{plain_inst};
 ghost use Rattle.spv_module.specs.declared.fault.Rule.TheVariants.{D5};
 ghost use Rattle.spv_layout.specs.First.{IsFirst};
 ghost use Rattle.spv_layout.specs.Plan.{IsPlan};
-ghost use Rattle.spv_layout.specs.Shape.{Fits};
+ghost use Rattle.spv_layout.specs.Shape.{FitsShape};
 ghost use Rattle.spv_ids.specs.Broken.{Broken};
 ghost use Rattle.spv_ids.specs.Definition.{IsDefinedAt};
-ghost use Rattle.spv_ids.specs.Known.{IsHome, IsFunctionOf};
+ghost use Rattle.spv_ids.specs.inner.Known.{IsHome, IsFunctionOf};
 ghost use Rattle.spv_id_reasons.specs.Ids.{IsEvidence};
 ghost use Rattle.spv_id_reasons.specs.inner.Scope.{AreLocal, IsUnscoped};
 ghost use Rattle.spv_id_reasons.specs.inner.Uses.{HasUse};
@@ -120,7 +120,7 @@ fn unscoped(
     k: usize,
 ) -> Option<Local>
     ensures { (G : Table) (bound : ℕ) (is : List PlainInst) (n : ℕ) → IsPlan G is plan.now
-        → Fits G (plain_inst inst.now) → IsFunctionOf is n here
+        → FitsShape G (plain_inst inst.now) → IsFunctionOf is n here
         → AreLocal bound is here (length is) local.now
         → MatchOption result ((m f : ℕ) → ¬ (HasUse G (plain_inst inst.now) (IsUnscoped bound is n m f) k))
         (λ l. HasUse G (plain_inst inst.now) (IsUnscoped bound is n l.inst l.function) k) }

@@ -6,7 +6,7 @@ ghost use Rattle.spv_module.specs.Operand.{PlainInst};
 ghost use Rattle.spv_module.specs.Module.{plain_inst};
 ghost use Rattle.spv_module.specs.declared.fault.Rule.TheVariants.{D3};
 ghost use Rattle.spv_layout.specs.First.{IsFirst};
-ghost use Rattle.spv_layout.specs.Shape.{Fits};
+ghost use Rattle.spv_layout.specs.Shape.{FitsShape};
 ghost use Rattle.spv_ids.specs.Broken.{Broken};
 ghost use Rattle.spv_id_reasons.specs.Ids.{IsEvidence};
 ghost use Rattle.spv_id_reasons.specs.inner.Known.{AreFirst};
@@ -22,7 +22,7 @@ use std::alloc::{AllocError, Global};
 
 /// Whether operand `k` of an instruction is a use of an id below the bound that no instruction has as its result.
 fn is_undefined(definitions: &Kept, inst: &Inst<'_>, k: usize) -> bool
-    ensures { (G : Table) (bound : ℕ) (is : List PlainInst) → Fits G (plain_inst inst.now)
+    ensures { (G : Table) (bound : ℕ) (is : List PlainInst) → FitsShape G (plain_inst inst.now)
         → AreFirst bound is (length is) definitions.now
         → MatchBool result (HasUse G (plain_inst inst.now) (IsUndefined bound is) k)
         (¬ (HasUse G (plain_inst inst.now) (IsUndefined bound is) k)) }

@@ -2,7 +2,7 @@
 
 ghost use Rattle.spv_table.specs.Table.{Table};
 ghost use Rattle.spv_module.specs.Module.{plain_inst};
-ghost use Rattle.spv_layout.specs.Shape.{Fits};
+ghost use Rattle.spv_layout.specs.Shape.{FitsShape};
 ghost use Rattle.spv_id_reasons.specs.inner.Uses.{IsUseOf};
 
 use spv_layout::{Role, role};
@@ -19,7 +19,7 @@ pub struct Use {
 
 /// The use that operand `k` of an instruction is, if it is one.
 pub fn use_at(inst: &Inst<'_>, k: usize) -> Option<Use>
-    ensures { (G : Table) → Fits G (plain_inst inst.now) → IsUseOf G (plain_inst inst.now) k result }
+    ensures { (G : Table) → FitsShape G (plain_inst inst.now) → IsUseOf G (plain_inst inst.now) k result }
 {
     let Some(role) = role(inst, k) else {
         return None;

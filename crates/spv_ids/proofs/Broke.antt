@@ -13,16 +13,17 @@ use Rattle.spv_layout.specs.declared.form.Role.{Role}
 use Rattle.spv_layout.specs.declared.place.Place.{Place}
 use Rattle.spv_layout.specs.First.{rank_of, IsFirst, IsUnbroken}
 use Rattle.spv_layout.specs.Plan.{IsPlan}
-use Rattle.spv_layout.specs.Shape.{Fits}
+use Rattle.spv_layout.specs.Shape.{FitsShape}
 use Rattle.spv_ids.specs.Definition.{IsDefinedAt, IsUsedAt}
 use Rattle.spv_ids.specs.Broken.{Broken, IsOutOfRange}
 use Rattle.spv_ids.specs.declared.notes.Notes.{Notes}
-use Rattle.spv_ids.specs.Notes.{kept}
-use Rattle.spv_ids.specs.Known.{IsOneBefore, IsBadResult, IsEnd, AreFirst}
-use Rattle.spv_ids.specs.Outcome.{IsDefinitionOf, IsRefusal, IsStopAt}
-use Rattle.spv_ids.specs.Uses.{IsUsedBefore, AreSeen}
-use Rattle.spv_ids.specs.Faulty.{IsBadUse, HasBadUse, IsFaulty, IsLeast, AreClean, IsFirstFault}
-use Rattle.spv_ids.specs.Survey.{ArePlaces}
+use Rattle.spv_ids.specs.inner.Notes.{kept}
+use Rattle.spv_ids.specs.inner.Known.{IsOneBefore, IsBadResult, IsEnd, AreFirst}
+use Rattle.spv_ids.specs.Outcome.{IsDefinitionOf, IsRefusal}
+use Rattle.spv_ids.specs.inner.Outcome.{IsStopAt}
+use Rattle.spv_ids.specs.inner.Uses.{IsUsedBefore, AreSeen}
+use Rattle.spv_ids.specs.inner.Faulty.{IsBadUse, HasBadUse, IsFaulty, IsLeast, AreClean, IsFirstFault}
+use Rattle.spv_ids.specs.inner.Survey.{ArePlaces}
 use Rattle.spv_ids.proofs.Defining.{below_or, defined_within, same_inst}
 use Rattle.spv_ids.proofs.Leasts.{faulty_stage, has_all, used_all}
 use Rattle.spv_ids.proofs.Scopes.{least_range}
@@ -49,7 +50,7 @@ bad_broken G bound is n k x u _ w (IsBadUse.undefined h) = Broken.undefined n k 
 bad_broken G bound is n k x u _ w (IsBadUse.not_in_order o h) = Broken.not_in_order n k x u w o h
 bad_broken G bound is n k x u _ w (IsBadUse.not_in_scope s l h) = Broken.not_in_scope n k x u w s l h
 
-pub faulty_broken : (G : Table) (bound : ℕ) (is : List PlainInst) (n : ℕ) (r : Rule) → ((m : ℕ) (i : PlainInst) → slice_get is m ≡ Some i → Fits G i) → IsFaulty bound is n r → Broken G bound is r n
+pub faulty_broken : (G : Table) (bound : ℕ) (is : List PlainInst) (n : ℕ) (r : Rule) → ((m : ℕ) (i : PlainInst) → slice_get is m ≡ Some i → FitsShape G i) → IsFaulty bound is n r → Broken G bound is r n
 faulty_broken G bound is n _ f (IsFaulty.result_out_of_range x d o) = Broken.result_out_of_range n x d o
 faulty_broken G bound is n _ f (IsFaulty.defined_again m x d l e) = Broken.defined_again n m x d l e
 faulty_broken G bound is n _ f (IsFaulty.by_use to r h) = let u = told_use G is n to h.id f h.used in bad_broken G bound is n u.place h.id u.role r u.used h.bad

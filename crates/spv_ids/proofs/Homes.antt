@@ -9,9 +9,9 @@ use Rattle.spv_layout.specs.Place.{IsOfFunction}
 use Rattle.spv_layout.proofs.Places.{function_same}
 use Rattle.spv_ids.specs.Definition.{IsDefinedAt, IsLocalTo}
 use Rattle.spv_ids.specs.declared.notes.Notes.{Notes}
-use Rattle.spv_ids.specs.Notes.{kept}
-use Rattle.spv_ids.specs.Known.{IsHome, IsFunctionOf, IsAsLocal, IsOneBefore, AreFirst}
-use Rattle.spv_ids.specs.Survey.{ArePlaces, AreGlobal}
+use Rattle.spv_ids.specs.inner.Notes.{kept}
+use Rattle.spv_ids.specs.inner.Known.{IsHome, IsFunctionOf, IsAsLocal, IsOneBefore, AreFirst}
+use Rattle.spv_ids.specs.inner.Survey.{ArePlaces, AreGlobal}
 use Rattle.spv_ids.proofs.Bools.{eq_tells, ne_tells}
 use Rattle.spv_ids.proofs.Defining.{defined_within}
 

@@ -9,8 +9,8 @@ use Rattle.spv_module.specs.declared.fault.Rule.{Rule}
 use Rattle.spv_module.specs.declared.fault.Rule.TheVariants.{D1}
 use Rattle.spv_layout.specs.First.{stage_of, rank_of}
 use Rattle.spv_ids.specs.Broken.{IsOutOfRange}
-use Rattle.spv_ids.specs.Uses.{seen, used_id, IsUsedBefore, AreSeen}
-use Rattle.spv_ids.specs.Faulty.{IsBadUse, HasBadUse, IsFaulty, IsLeast, IsEarlier}
+use Rattle.spv_ids.specs.inner.Uses.{seen, used_id, IsUsedBefore, AreSeen}
+use Rattle.spv_ids.specs.inner.Faulty.{IsBadUse, HasBadUse, IsFaulty, IsLeast, IsEarlier}
 use Rattle.spv_ids.proofs.Defining.{below_or, same_inst}
 
 pub bad_stage : (bound : ℕ) (is : List PlainInst) (n x : ℕ) (r : Rule) → IsBadUse bound is n x r → stage_of r ≡ 3

@@ -2,8 +2,8 @@
 use Rattle.std.proofs.Common.{◌≡◌, ◌+◌, ℕ, zero, suc, nat_eq, nat_lt, if◌then◌else◌, Bool, true, false, List, [], ◌∷◌, length, get_or, refl, ap, Option, Some, None, arith}
 use Rattle.std.specs.Prelude.{replicate, slice_index}
 use Rattle.std.proofs.lemmas.Bool.Decides.{nat_tests}
-use Rattle.spv_ids.specs.Scattered.{Pairs, at_place, Writes, AreUnset}
-use Rattle.spv_ids.specs.Notes.{number_in, number_or}
+use Rattle.spv_ids.specs.inner.Scattered.{Pairs, at_place, Writes, AreUnset}
+use Rattle.spv_ids.specs.inner.Notes.{number_in, number_or}
 
 number_more : (n : ℕ) → number_in (n + 1) ≡ Some n
 number_more n = let e : n + 1 ≡ suc n = omega arith in rw e refl

@@ -12,7 +12,7 @@ use Rattle.spv_layout.specs.Rows.{rows, row_of, class_of, class_in}
 use Rattle.spv_layout.specs.Layout.{classes}
 use Rattle.spv_layout.specs.Place.{IsAt, IsOfFunction, IsOfSection, section_of}
 use Rattle.spv_layout.proofs.Spans.{is_at, at_moved}
-use Rattle.spv_ids.specs.Known.{IsOpen}
+use Rattle.spv_ids.specs.inner.Known.{IsOpen}
 use Rattle.spv_ids.specs.Order.{IsOrdered}
 use Rattle.spv_ids.proofs.Bools.{and_first, and_second, eq_tells}
 use Rattle.spv_ids.proofs.Defining.{below_or}

@@ -8,7 +8,7 @@ use Rattle.std.proofs.lemmas.Cmp.{ranked}
 use Rattle.std.proofs.lemmas.Grind.{common_steps}
 use Rattle.std.proofs.lemmas.List.{length-append, get_or_append_left, get_or_push}
 use Rattle.std.proofs.lemmas.List.Sorted.{IsNonDecreasingBy-from_default}
-use Rattle.spv_ids.specs.Scattered.{Pairs, at_place, id_at, AreRising, IsPlaceFor, IsGapFor, Writes, AreUnset}
+use Rattle.spv_ids.specs.inner.Scattered.{Pairs, at_place, id_at, AreRising, IsPlaceFor, IsGapFor, Writes, AreUnset}
 
 -- no pair before place k has the id
 abbrev pub NoneBefore : Pairs → ℕ → ℕ → Type 0

@@ -10,12 +10,12 @@ use Rattle.spv_module.specs.Module.{plain_inst, plain_operand}
 use Rattle.spv_ids.specs.declared.notes.Notes.{Notes}
 use Rattle.spv_ids.specs.declared.survey.Survey.{Survey}
 use Rattle.spv_ids.specs.Order.{Announces}
-use Rattle.spv_ids.specs.Known.{AreAnnounced, IsOpen}
-use Rattle.spv_ids.specs.Uses.{seen, AreSeen}
+use Rattle.spv_ids.specs.inner.Known.{AreAnnounced, IsOpen}
+use Rattle.spv_ids.specs.inner.Uses.{seen, AreSeen}
 use Rattle.spv_layout.specs.Place.{IsOfFunction}
-use Rattle.spv_ids.specs.Notes.{kept}
-use Rattle.spv_ids.specs.Faulty.{IsBadUse, HasBadUse, IsFaulty, IsLeast, AreClean}
-use Rattle.spv_ids.specs.Survey.{IsSurvey, insts_of}
+use Rattle.spv_ids.specs.inner.Notes.{kept}
+use Rattle.spv_ids.specs.inner.Faulty.{IsBadUse, HasBadUse, IsFaulty, IsLeast, AreClean}
+use Rattle.spv_ids.specs.inner.Survey.{IsSurvey, insts_of}
 use Rattle.spv_ids.proofs.Defining.{same_inst, inst_at}
 use Rattle.spv_ids.proofs.Leasts.{least_at}
 use Rattle.spv_ids.proofs.Broke.{clean_here}

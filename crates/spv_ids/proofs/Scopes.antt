@@ -15,11 +15,11 @@ use Rattle.spv_ids.specs.declared.survey.Site.{Site}
 use Rattle.spv_ids.specs.Definition.{IsDefinedAt, IsLocal}
 use Rattle.spv_ids.specs.Order.{HasOpcode, Announces, IsInOrder, IsInScope, IsOrdered, IsScoped}
 use Rattle.spv_ids.specs.Broken.{IsOutOfRange}
-use Rattle.spv_ids.specs.Notes.{kept}
-use Rattle.spv_ids.specs.Known.{IsHome, IsHomeOf, IsFunctionOf, IsOneBefore, IsLaterOne, IsAnnouncedBefore, AreAnnounced}
-use Rattle.spv_ids.specs.Test.{lower_test, early_test, home_test, scope_test}
-use Rattle.spv_ids.specs.Faulty.{IsBadUse, IsLeast}
-use Rattle.spv_ids.specs.Survey.{IsSurvey, IsSite, insts_of}
+use Rattle.spv_ids.specs.inner.Notes.{kept}
+use Rattle.spv_ids.specs.inner.Known.{IsHome, IsHomeOf, IsFunctionOf, IsOneBefore, IsLaterOne, IsAnnouncedBefore, AreAnnounced}
+use Rattle.spv_ids.specs.inner.Test.{lower_test, early_test, home_test, scope_test}
+use Rattle.spv_ids.specs.inner.Faulty.{IsBadUse, IsLeast}
+use Rattle.spv_ids.specs.inner.Survey.{IsSurvey, IsSite, insts_of}
 use Rattle.spv_ids.proofs.Bools.{and_first, and_second, and_both, or_either, or_first, or_second, eq_tells, ne_tells, eq_yes, lt_tells, ge_tells, some_tells, none_tells, holds}
 use Rattle.spv_ids.proofs.Defining.{same_inst, defined_within}
 use Rattle.spv_ids.proofs.Homes.{home_same, home_of_local, local_to, between, home_within, home_of_function}

@@ -15,8 +15,8 @@ use Rattle.spv_layout.proofs.Places.{section_same, function_same}
 use Rattle.spv_ids.specs.Definition.{IsDefinedAt, IsUsedAt, IsLocal}
 use Rattle.spv_ids.specs.Order.{HasOpcode, Announces, IsInOrder, IsInScope, IsOrdered}
 use Rattle.spv_ids.specs.Broken.{Broken}
-use Rattle.spv_ids.specs.Known.{IsFunctionOf}
-use Rattle.spv_ids.specs.Test.{announced_id}
+use Rattle.spv_ids.specs.inner.Known.{IsFunctionOf}
+use Rattle.spv_ids.specs.inner.Test.{announced_id}
 use Rattle.spv_ids.specs.Sound.{IsSoundUse}
 use Rattle.spv_ids.proofs.Defined.{one_of, defined}
 use Rattle.spv_ids.proofs.Defining.{below_or, same_inst}

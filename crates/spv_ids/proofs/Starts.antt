@@ -6,10 +6,10 @@ use Rattle.spv_module.specs.Operand.{Plain, PlainInst, result_in}
 use Rattle.spv_module.specs.Operand as operand
 use Rattle.spv_layout.specs.declared.form.Form.{Form}
 use Rattle.spv_layout.specs.declared.form.Form.TheVariants as form
-use Rattle.spv_layout.specs.Row.{PlainRow, Ending, closed, maybe, file_and_text, repeated, others, maybe_others}
+use Rattle.spv_layout.specs.Row.{PlainRow, RowEnding, closed, maybe, file_and_text, repeated, others, maybe_others}
 use Rattle.spv_layout.specs.Rows.{rows}
-use Rattle.spv_layout.specs.Shape.{is_of, AreOf, Ends, Fits}
-use Rattle.spv_ids.specs.Uses.{early_result, result_at, AreEarly}
+use Rattle.spv_layout.specs.Shape.{is_of, AreOf, Ends, FitsShape}
+use Rattle.spv_ids.specs.inner.Uses.{early_result, result_at, AreEarly}
 use Rattle.spv_ids.proofs.Bools.{and_first, and_second}
 use Rattle.spv_ids.proofs.Used.{all_rows, row_tells}
 
@@ -28,7 +28,7 @@ is_free_late [] = true
 is_free_late (f ∷ []) = true
 is_free_late (f ∷ g ∷ fs) = is_free fs
 
-ending_free : Ending → Bool
+ending_free : RowEnding → Bool
 ending_free closed = true
 ending_free (maybe f) = not (is_result f)
 ending_free file_and_text = true
@@ -70,7 +70,7 @@ unfolding is_free is_result
 others_free _ Ends.no_other = refl
 others_free _ (Ends.other gs r) = others_free gs r
 
-ends_free : (e : Ending) (gs : List Form) → ending_free e ≡ true → Ends e gs → is_free gs ≡ true
+ends_free : (e : RowEnding) (gs : List Form) → ending_free e ≡ true → Ends e gs → is_free gs ≡ true
 unfolding ending_free is_free is_result
 ends_free _ _ c Ends.nothing = refl
 ends_free _ _ c (Ends.absent f) = refl
@@ -152,7 +152,7 @@ early G _ _ AreOf.none h = refl
 early G _ _ (AreOf.more f o _ _ p AreOf.none) h = one_early o
 early G _ _ (AreOf.more f o _ _ p (AreOf.more g q fs os t r)) h = two_early o q os (no_result G fs os r h)
 
-fitting_early : (G : Table) (i : PlainInst) → Fits G i → result_in i.operands ≡ early_result i.operands
+fitting_early : (G : Table) (i : PlainInst) → FitsShape G i → result_in i.operands ≡ early_result i.operands
 unfolding row_starts
 fitting_early G i f =
     let h = f.has in
@@ -161,5 +161,5 @@ fitting_early G i f =
     let b = ends_free h.row.ending h.rest (and_second (is_free_late h.row.fixed) (ending_free h.row.ending) t.passes) h.ending in
     early G f.forms i.operands h.each (rw h.forms (late_free h.row.fixed h.rest a b))
 
-pub are_early : (G : Table) (is : List PlainInst) → ((n : ℕ) (i : PlainInst) → slice_get is n ≡ Some i → Fits G i) → AreEarly is
+pub are_early : (G : Table) (is : List PlainInst) → ((n : ℕ) (i : PlainInst) → slice_get is n ≡ Some i → FitsShape G i) → AreEarly is
 are_early G is f = record { result = λ n i h. fitting_early G i (f n i h) }

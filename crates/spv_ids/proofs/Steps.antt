@@ -9,10 +9,10 @@ use Rattle.spv_ids.specs.declared.notes.Notes.{Notes}
 use Rattle.spv_ids.specs.Definition.{IsDefinedAt}
 use Rattle.spv_ids.specs.Order.{Announces}
 use Rattle.spv_ids.specs.Broken.{IsOutOfRange}
-use Rattle.spv_ids.specs.Notes.{kept}
-use Rattle.spv_ids.specs.Known.{IsOneBefore, AreFirst, IsBadResult, IsAsLocal, IsMostLocal, IsLaterOne, AreLater, IsAnnouncedBefore, AreAnnounced}
+use Rattle.spv_ids.specs.inner.Notes.{kept}
+use Rattle.spv_ids.specs.inner.Known.{IsOneBefore, AreFirst, IsBadResult, IsAsLocal, IsMostLocal, IsLaterOne, AreLater, IsAnnouncedBefore, AreAnnounced}
 use Rattle.spv_ids.proofs.Defining.{below_or, same_inst, defined_moved, defined_here, not_defined}
-use Rattle.spv_ids.specs.Test.{id_in, announced_id}
+use Rattle.spv_ids.specs.inner.Test.{id_in, announced_id}
 use Rattle.spv_ids.proofs.Bools.{eq_tells, eq_yes}
 use Rattle.spv_ids.proofs.Homes.{as_local_self, as_local_after}
 

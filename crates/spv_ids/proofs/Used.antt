@@ -13,13 +13,13 @@ use Rattle.spv_layout.specs.declared.form.Role.TheVariants as role
 use Rattle.spv_layout.specs.declared.form.Form.{Form}
 use Rattle.spv_layout.specs.declared.form.Form.TheVariants as form
 use Rattle.spv_layout.specs.Class.{is_among}
-use Rattle.spv_layout.specs.Row.{PlainRow, Ending, closed, maybe, file_and_text, repeated, others, maybe_others, row, row_in}
+use Rattle.spv_layout.specs.Row.{PlainRow, RowEnding, closed, maybe, file_and_text, repeated, others, maybe_others, row, row_in}
 use Rattle.spv_layout.specs.Rows.{rows, row_of, class_of, class_in}
 use Rattle.spv_layout.specs.Layout.{classes}
 use Rattle.spv_layout.specs.Place.{IsAt}
-use Rattle.spv_layout.specs.Shape.{is_of, AreOf, Ends, HasForms, Fits, role_of, id_of, IsUse}
+use Rattle.spv_layout.specs.Shape.{is_of, AreOf, Ends, HasForms, FitsShape, role_of, id_of, IsUse}
 use Rattle.spv_ids.specs.Definition.{IsDefinedAt, IsUsedAt}
-use Rattle.spv_ids.specs.Uses.{seen, used_id, IsUsedBefore}
+use Rattle.spv_ids.specs.inner.Uses.{seen, used_id, IsUsedBefore}
 
 -- The rows whose operands rules look at.
 
@@ -31,7 +31,7 @@ all_seen : List Form → Bool
 all_seen [] = true
 all_seen (f ∷ fs) = not (is_unseen f) && all_seen fs
 
-ending_seen : Ending → Bool
+ending_seen : RowEnding → Bool
 ending_seen closed = true
 ending_seen (maybe f) = not (is_unseen f)
 ending_seen file_and_text = true
@@ -46,7 +46,7 @@ is_nil : List Form → Bool
 is_nil [] = true
 is_nil (f ∷ fs) = false
 
-is_closed : Ending → Bool
+is_closed : RowEnding → Bool
 is_closed closed = true
 is_closed _ = false
 
@@ -102,7 +102,7 @@ row_tells p (s ∷ rs) n r a h =
 
 -- An OpFunctionEnd has no operands.
 
-ends_closed : (e : Ending) (gs : List Form) → is_closed e ≡ true → Ends e gs → gs ≡ []
+ends_closed : (e : RowEnding) (gs : List Form) → is_closed e ≡ true → Ends e gs → gs ≡ []
 unfolding is_closed
 ends_closed _ _ c Ends.nothing = refl
 ends_closed _ _ c (Ends.absent f) = cc
@@ -144,7 +144,7 @@ end_operands G i fs h c =
 pub class_at : (is : List PlainInst) (n : ℕ) (i : PlainInst) → slice_get is n ≡ Some i → slice_get (classes is) n ≡ Some (class_of i.opcode)
 class_at is n i h = slice_get-map (λ j. class_of j.opcode) is n ∙ ap (option_map (λ j. class_of j.opcode)) h
 
-pub no_result_at_end : (G : Table) (is : List PlainInst) → ((n : ℕ) (i : PlainInst) → slice_get is n ≡ Some i → Fits G i) → (n x : ℕ) → IsDefinedAt is x n → ¬ (IsAt is n (FunctionEnd ∷ []))
+pub no_result_at_end : (G : Table) (is : List PlainInst) → ((n : ℕ) (i : PlainInst) → slice_get is n ≡ Some i → FitsShape G i) → (n x : ℕ) → IsDefinedAt is x n → ¬ (IsAt is n (FunctionEnd ∷ []))
 no_result_at_end G is f n x d a =
     let i = d.inst in
     let h = (f n i d.there).has in
@@ -204,7 +204,7 @@ unfolding all_seen is_unseen
 others_seen _ Ends.no_other = refl
 others_seen _ (Ends.other gs r) = others_seen gs r
 
-ends_seen : (e : Ending) (gs : List Form) → ending_seen e ≡ true → Ends e gs → all_seen gs ≡ true
+ends_seen : (e : RowEnding) (gs : List Form) → ending_seen e ≡ true → Ends e gs → all_seen gs ≡ true
 unfolding ending_seen all_seen is_unseen
 ends_seen _ _ c Ends.nothing = refl
 ends_seen _ _ c (Ends.absent f) = refl
@@ -249,7 +249,7 @@ round_unseen : (gs : List Form) (n : ℕ) (f : Form) → ((m : ℕ) → slice_ge
 round_unseen gs zero f r k = cc
 round_unseen gs (suc m) f r k = r m k
 
-rounds_unseen : (es : Ending) (gs : List Form) (n : ℕ) (f : Form) → es ≡ repeated (form.Unseen ∷ []) → Ends es gs → slice_get gs n ≡ Some f → f ≡ form.Unseen
+rounds_unseen : (es : RowEnding) (gs : List Form) (n : ℕ) (f : Form) → es ≡ repeated (form.Unseen ∷ []) → Ends es gs → slice_get gs n ≡ Some f → f ≡ form.Unseen
 rounds_unseen _ _ n f q Ends.nothing h = cc
 rounds_unseen _ _ n f q (Ends.absent g) h = cc
 rounds_unseen _ _ n f q (Ends.present g) h = cc
@@ -414,7 +414,7 @@ use_by G is n k x i o fs h has a u s =
       used = record { inst = i; there = h; used = record { forms = fs; has = has; form = t.form; operand = o; form_at = t.there; operand_at = a; role = r.has; id = r.id } };
     }
 
-pub told_use : (G : Table) (is : List PlainInst) (n to x : ℕ) → ((m : ℕ) (i : PlainInst) → slice_get is m ≡ Some i → Fits G i) → IsUsedBefore is n to x → IsUsedIn G is n x
+pub told_use : (G : Table) (is : List PlainInst) (n to x : ℕ) → ((m : ℕ) (i : PlainInst) → slice_get is m ≡ Some i → FitsShape G i) → IsUsedBefore is n to x → IsUsedIn G is n x
 told_use G is n to x f u =
     let i = u.inst in
     let has = (f n i u.there).has in

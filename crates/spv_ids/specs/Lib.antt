@@ -1,13 +1,7 @@
 pub mod Definition
 pub mod Order
 pub mod Broken
-pub mod Scattered
-pub mod Notes
-pub mod Known
-pub mod Uses
-pub mod Faulty
-pub mod Test
-pub mod Survey
 pub mod Outcome
 pub mod Sound
 pub mod Example
+pub mod inner

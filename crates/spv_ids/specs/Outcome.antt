@@ -2,7 +2,6 @@
 use Rattle.std.specs.Prelude.{◌≡◌, ℕ, List, Option, MatchOption}
 use Rattle.spv_table.specs.Table.{Table}
 use Rattle.spv_module.specs.Operand.{PlainInst}
-use Rattle.spv_module.specs.declared.fault.Rule.{Rule}
 use Rattle.spv_module.specs.declared.fault.Stop.{Stop}
 use Rattle.spv_module.specs.declared.fault.Stop.TheVariants.{Fault, Memory}
 use Rattle.spv_layout.specs.First.{IsFirst, IsUnbroken}
@@ -10,7 +9,7 @@ use Rattle.spv_layout.specs.Place.{first_word_of}
 use Rattle.spv_ids.specs.declared.ids.Ids.{Ids}
 use Rattle.spv_ids.specs.Definition.{IsDefinedAt}
 use Rattle.spv_ids.specs.Broken.{Broken}
-use Rattle.spv_ids.specs.Notes.{kept}
+use Rattle.spv_ids.specs.inner.Notes.{kept}
 
 -- the instruction that is kept as the definition of an id
 abbrev pub definition_in : Ids → ℕ → Option ℕ
@@ -25,6 +24,10 @@ pub record IsOnly (is : List PlainInst) (x m : ℕ) : Type 0 where
 abbrev pub IsDefinitionOf : List PlainInst → ℕ → Option ℕ → Type 0
 IsDefinitionOf is x o = MatchOption o ((k : ℕ) → ¬ (IsDefinedAt is x k)) (λ m. IsOnly is x m)
 
+-- Each id that has a definition has one, which is kept.
+pub record AreNumbered (is : List PlainInst) (ids : Ids) : Type 0 where
+  pub each : (x : ℕ) → IsDefinitionOf is x (definition_in ids x)
+
 -- No rule on ids is broken, and of each id the one definition is kept, if it has one.
 pub record AreIds (G : Table) (bound : ℕ) (is : List PlainInst) (ids : Ids) : Type 0 where
   pub unbroken : IsUnbroken (Broken G bound is) 3
@@ -34,8 +37,3 @@ pub record AreIds (G : Table) (bound : ℕ) (is : List PlainInst) (ids : Ids) : 
 abbrev pub IsRefusal : Table → ℕ → List PlainInst → Stop → Type 0
 IsRefusal G bound is Memory = Unit {0}
 IsRefusal G bound is (Fault f) = IsFirst (Broken G bound is) 3 f.rule f.inst × (f.word ≡ first_word_of is f.inst)
-
--- The stop is the fault of the rule at the instruction and its first word. (For the code alone.)
-abbrev pub IsStopAt : List PlainInst → Rule → ℕ → Stop → Type 0
-IsStopAt is r n Memory = ⊥
-IsStopAt is r n (Fault f) = (f.rule ≡ r) × (f.inst ≡ n) × (f.word ≡ first_word_of is n)

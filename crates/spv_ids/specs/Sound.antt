@@ -5,8 +5,8 @@ use Rattle.spv_ids.specs.Definition.{IsLocal}
 use Rattle.spv_ids.specs.Order.{IsInOrder, IsInScope, IsOrdered, IsScoped}
 use Rattle.spv_ids.specs.Outcome.{IsOnly}
 
--- A use of the id by instruction n is sound: the id has one definition, and the use comes in order and in scope where its
--- section asks for that.
+-- A use of the id by instruction n is sound: the id has one definition, and the use comes in order and in scope where
+-- its section asks for that.
 pub record IsSoundUse (is : List PlainInst) (n x : ℕ) : Type 0 where
   pub definition : ℕ
   pub one : IsOnly is x definition

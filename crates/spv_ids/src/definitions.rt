@@ -1,15 +1,16 @@
 //! The definitions of ids, as far as the first one that is out of range or comes again.
 
-ghost use Rattle.std.specs.Prelude.{◌≡◌, ◌<◌, ◌≤◌, ◌↔◌, ℕ, List, length, map, ◌+◌, IfOk, OnOk, IsTrue, MatchOption, MatchBool, Some, None, slice_get};
+ghost use Rattle.std.specs.Prelude.{◌≡◌, ◌<◌, ◌≤◌, ◌↔◌, ℕ, List, length, map, ◌+◌, IfOk};
+ghost use Rattle.std.specs.Prelude.{OnOk, IsTrue, MatchOption, MatchBool, Some, None, slice_get};
 ghost use Rattle.spv_module.specs.Operand.{PlainInst};
 ghost use Rattle.spv_module.specs.Module.{plain_inst};
 ghost use Rattle.spv_layout.specs.Place.{IsOfFunction, IsOfSection};
 ghost use Rattle.spv_ids.specs.Definition.{IsDefinedAt};
 ghost use Rattle.spv_ids.specs.Broken.{IsOutOfRange};
-ghost use Rattle.spv_ids.specs.Notes.{kept};
-ghost use Rattle.spv_ids.specs.Uses.{AreEarly};
-ghost use Rattle.spv_ids.specs.Known.{AreFirst, AreLater, IsEnd, IsHome, IsAsLocal, IsFunctionOf};
-ghost use Rattle.spv_ids.specs.Survey.{ArePlaces};
+ghost use Rattle.spv_ids.specs.inner.Notes.{kept};
+ghost use Rattle.spv_ids.specs.inner.Uses.{AreEarly};
+ghost use Rattle.spv_ids.specs.inner.Known.{AreFirst, AreLater, IsEnd, IsHome, IsAsLocal, IsFunctionOf};
+ghost use Rattle.spv_ids.specs.inner.Survey.{ArePlaces};
 
 use crate::notes::{NONE, Notes};
 use crate::room::sparse_room;
@@ -72,8 +73,8 @@ fn first_definitions(insts: &[Inst<'_>], bound: u32, room: Notes) -> Result<Firs
     })
 }
 
-/// The definitions up to the first result that is out of range or comes again. Where they are all, they take at most 8 bytes
-/// each, and 4 more.
+/// The definitions up to the first result that is out of range or comes again. Where they are all, they take at most 8
+/// bytes each, and 4 more.
 ///
 /// An `AllocError` comes only where a growth of memory was refused.
 #[inline(never)]
@@ -84,8 +85,8 @@ pub fn find_definitions(alloc: Global, insts: &[Inst<'_>], bound: u32) -> Result
     ensures end { IfOk result (λ f. IsEnd bound (map plain_inst insts.now) f.end) }
     ensures within { IfOk result (λ f. f.end ≤ length insts.now) }
 {
-    // A list of all ids serves where at least half of them are results, and memory is taken for it where there are so many
-    // instructions.
+    // A list of all ids serves where at least half of them are results, and memory is taken for it where there are so
+    // many instructions.
     let half = bound as usize / 2;
     if half <= insts.len() {
         let firsts = first_definitions(insts, bound, Notes::new(alloc, bound as usize)?)?;
@@ -110,8 +111,10 @@ pub fn function_of(plan: &Plan, inst: u32) -> Option<u32>
 /// The function that an instruction is of, or `NONE`.
 #[inline(always)]
 pub fn floor_of(plan: &Plan, inst: u32) -> u32
-    ensures function { (is : List PlainInst) → ArePlaces is plan.now → result < 4294967295 → IsOfFunction is inst result }
-    ensures home { (is : List PlainInst) (f : ℕ) → ArePlaces is plan.now → inst ≤ result → ¬ (IsHome is inst f) }
+    ensures function { (is : List PlainInst) → ArePlaces is plan.now → result < 4294967295
+        → IsOfFunction is inst result }
+    ensures home { (is : List PlainInst) (f : ℕ) → ArePlaces is plan.now → inst ≤ result
+        → ¬ (IsHome is inst f) }
 {
     match function_of(plan, inst) {
         Some(function) => function,
@@ -134,7 +137,8 @@ pub fn section_of(plan: &Plan, inst: u32) -> u8
 /// The function in which an instruction stands, after its OpFunction.
 #[inline(always)]
 pub fn home(plan: &Plan, inst: u32) -> Option<u32>
-    ensures { (is : List PlainInst) → (x : ℕ) → ArePlaces is plan.now → IsDefinedAt is x inst → MatchOption result ((f : ℕ) → ¬ (IsHome is inst f)) (λ f. IsHome is inst f) }
+    ensures { (is : List PlainInst) → (x : ℕ) → ArePlaces is plan.now → IsDefinedAt is x inst
+        → MatchOption result ((f : ℕ) → ¬ (IsHome is inst f)) (λ f. IsHome is inst f) }
 {
     let Some(place) = plan.at(inst) else {
         return None;
@@ -149,10 +153,11 @@ pub fn home(plan: &Plan, inst: u32) -> Option<u32>
     }
 }
 
-/// Whether one definition of an id is to be kept rather than another: where only it is local, or it is local to the function
-/// `here`.
+/// Whether one definition of an id is to be kept rather than another: where only it is local, or it is local to the
+/// function `here`.
 fn is_more_local(plan: &Plan, here: Option<u32>, one: u32, other: u32) -> bool
-    ensures { (is : List PlainInst) (x from : ℕ) → ArePlaces is plan.now → IsFunctionOf is from here → IsDefinedAt is x one → IsDefinedAt is x other
+    ensures { (is : List PlainInst) (x from : ℕ) → ArePlaces is plan.now → IsFunctionOf is from here
+        → IsDefinedAt is x one → IsDefinedAt is x other
         → MatchBool result (IsAsLocal is from one other) (IsAsLocal is from other one) }
 {
     match home(plan, other) {
@@ -173,7 +178,8 @@ fn keep_later(
     at: u32,
 ) -> Result<(), AllocError>
     requires { at < 4294967295 }
-    ensures { OnOk result ((is : List PlainInst) (from : ℕ) → ArePlaces is plan.now → IsFunctionOf is from here → from ≤ at → IsDefinedAt is id at
+    ensures { OnOk result ((is : List PlainInst) (from : ℕ) → ArePlaces is plan.now → IsFunctionOf is from here
+        → from ≤ at → IsDefinedAt is id at
         → AreLater is from at later.old → AreLater is from (at + 1) later.new) }
 {
     let keep = match later.get(id) {
@@ -186,8 +192,8 @@ fn keep_later(
     Ok(())
 }
 
-/// The definitions from an instruction on: of each id the most local one, by the function of that instruction. `places` is
-/// how many small ids are kept in a list.
+/// The definitions from an instruction on: of each id the most local one, by the function of that instruction. `places`
+/// is how many small ids are kept in a list.
 ///
 /// An `AllocError` comes only where a growth of memory was refused.
 #[inline(never)]
@@ -200,7 +206,8 @@ pub fn later_definitions(
 ) -> Result<Notes, AllocError>
     requires most { length insts.now ≤ 4194304 }
     requires places { ArePlaces (map plain_inst insts.now) plan.now }
-    ensures { IfOk result (λ later. AreLater (map plain_inst insts.now) from (length (map plain_inst insts.now)) later) }
+    ensures { IfOk result (λ later. AreLater (map plain_inst insts.now) from
+        (length (map plain_inst insts.now)) later) }
 {
     let Some(place) = plan.at(from) else {
         return Notes::new(alloc, 0);

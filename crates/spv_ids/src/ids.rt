@@ -7,9 +7,10 @@ ghost use Rattle.spv_module.specs.Module.{plain_insts};
 ghost use Rattle.spv_layout.specs.Place.{word_count};
 ghost use Rattle.spv_layout.specs.Plan.{IsPlan};
 ghost use Rattle.spv_ids.specs.declared.notes.Notes as declared;
-ghost use Rattle.spv_ids.specs.Known.{AreFirst};
-ghost use Rattle.spv_ids.specs.Survey.{ArePlaces, AreGlobal};
-ghost use Rattle.spv_ids.specs.Outcome.{AreIds, IsRefusal, IsStopAt, definition_in};
+ghost use Rattle.spv_ids.specs.inner.Known.{AreFirst};
+ghost use Rattle.spv_ids.specs.inner.Survey.{ArePlaces, AreGlobal};
+ghost use Rattle.spv_ids.specs.Outcome.{AreIds, IsRefusal, definition_in};
+ghost use Rattle.spv_ids.specs.inner.Outcome.{IsStopAt};
 
 use crate::definitions::{find_definitions, later_definitions};
 use crate::notes::Notes;
@@ -27,8 +28,8 @@ pub struct Ids {
 }
 
 impl Ids {
-    /// The number of the instruction that defines an id: that has it as its result. None where no instruction does. It takes
-    /// no memory.
+    /// The number of the instruction that defines an id: that has it as its result. None where no instruction does. It
+    /// takes no memory.
     #[inline(always)]
     pub fn definition(&self, id: u32) -> Option<u32>
         ensures { result ≡ definition_in self.now id }
@@ -37,10 +38,11 @@ impl Ids {
     }
 }
 
-/// Before which instruction each definition is local to no function: the first that is of a function; or 0 where not all
-/// instructions are before `end`.
+/// Before which instruction each definition is local to no function: the first that is of a function; or 0 where not
+/// all instructions are before `end`.
 fn globals(plan: &Plan, count: u32, end: u32) -> u32
-    ensures { (is : List PlainInst) (bound : ℕ) (firsts : declared.Notes) → ArePlaces is plan.now → count ≡ length is → AreFirst bound is end firsts → AreGlobal is result }
+    ensures { (is : List PlainInst) (bound : ℕ) (firsts : declared.Notes) → ArePlaces is plan.now
+        → count ≡ length is → AreFirst bound is end firsts → AreGlobal is result }
 {
     if end < count {
         return 0;
@@ -75,8 +77,9 @@ fn stop_at(plan: &Plan, found: Found) -> Stop
 
 /// The definitions of a module's ids. `plan` is what `lay_out` answered of that module.
 ///
-/// Time is linear in the words of the module; where ids are sparse, each takes the time of a search among those in order
-/// besides. What is kept takes at most 8 bytes for each instruction that has a result, and 4 more, whatever the bound.
+/// Time is linear in the words of the module; where ids are sparse, each takes the time of a search among those in
+/// order besides. What is kept takes at most 8 bytes for each instruction that has a result, and 4 more, whatever the
+/// bound.
 ///
 /// A `Fault` tells the first rule that is broken, with its instruction and that instruction's first word (words and
 /// instructions from 0). At one instruction the first in this order is told:
@@ -85,7 +88,8 @@ fn stop_at(plan: &Plan, found: Found) -> Stop
 /// - D3: a use is the result of no instruction (2.16).
 /// - D4: a use in section 7a or 9 comes before each of its definitions (2.16). In section 9 the operand of an
 ///   OpTypeForwardPointer may, and so may a member of an OpTypeStruct that a lower OpTypeForwardPointer names.
-/// - D5: a use in sections 9 to 11 of an id that is local to a function, by an instruction of no function to which it is
+/// - D5: a use in sections 9 to 11 of an id that is local to a function, by an instruction of no function to which it
+///   is
 ///   local (2.16).
 ///
 /// `Memory` comes only where a growth of memory was refused.
@@ -93,8 +97,10 @@ pub fn number(alloc: Global, module: &Module<'_>, plan: &Plan) -> Result<Ids, St
     // The condition of `lay_out`, and that the plan is what it answered, by some table.
     requires words { 5 + sum_by word_count (plain_insts «module».now) ≤ 4194304 }
     requires plan { (G : Table) × IsPlan G (plain_insts «module».now) plan.now }
-    ensures ids { (G : Table) → IsPlan G (plain_insts «module».now) plan.now → IfOk result (λ ids. AreIds G «module».now.header.bound (plain_insts «module».now) ids) }
-    ensures refused { (G : Table) → IsPlan G (plain_insts «module».now) plan.now → IfErr result (λ s. IsRefusal G «module».now.header.bound (plain_insts «module».now) s) }
+    ensures ids { (G : Table) → IsPlan G (plain_insts «module».now) plan.now
+        → IfOk result (λ ids. AreIds G «module».now.header.bound (plain_insts «module».now) ids) }
+    ensures refused { (G : Table) → IsPlan G (plain_insts «module».now) plan.now
+        → IfErr result (λ s. IsRefusal G «module».now.header.bound (plain_insts «module».now) s) }
 {
     let insts = module.insts.as_slice();
     let bound = module.header.bound;

@@ -18,17 +18,21 @@ ghost use Rattle.spv_ids.specs.Broken.{Broken, IsOutOfRange};
 
 /// At most one rule on ids is broken first, at one instruction.
 pub fn one_fault()
-    ensures { (G : Table) (bound : ℕ) (is : List PlainInst) (q r : Rule) (m n : ℕ) → IsFirst (Broken G bound is) 3 q m → IsFirst (Broken G bound is) 3 r n → (q ≡ r) × (m ≡ n) }
+    ensures { (G : Table) (bound : ℕ) (is : List PlainInst) (q r : Rule) (m n : ℕ)
+        → IsFirst (Broken G bound is) 3 q m → IsFirst (Broken G bound is) 3 r n → (q ≡ r) × (m ≡ n) }
 {}
 
 /// Where no rule on ids is broken, each id that is used has exactly one definition.
 pub fn one_definition()
-    ensures { (G : Table) (bound : ℕ) (is : List PlainInst) (n k x : ℕ) (r : Role) → IsUnbroken (Broken G bound is) 3 → IsUsedAt G is n k x r → (m : ℕ) × IsDefinedAt is x m × ((l : ℕ) → IsDefinedAt is x l → l ≡ m) }
+    ensures { (G : Table) (bound : ℕ) (is : List PlainInst) (n k x : ℕ) (r : Role)
+        → IsUnbroken (Broken G bound is) 3 → IsUsedAt G is n k x r → (m : ℕ) × IsDefinedAt is x m
+        × ((l : ℕ) → IsDefinedAt is x l → l ≡ m) }
 {}
 
 /// Where no rule on ids is broken, each use is of one definition, in order and in scope.
 pub fn sound_uses()
-    ensures { (G : Table) (bound : ℕ) (is : List PlainInst) (places : List Place) (n k x : ℕ) (r : Role) → IsPlan G is places → IsUnbroken (Broken G bound is) 3 → IsUsedAt G is n k x r → IsSoundUse is n x }
+    ensures { (G : Table) (bound : ℕ) (is : List PlainInst) (places : List Place) (n k x : ℕ) (r : Role)
+        → IsPlan G is places → IsUnbroken (Broken G bound is) 3 → IsUsedAt G is n k x r → IsSoundUse is n x }
 {}
 
 /// Small lists with and without faults, under a small table and the bound 5.

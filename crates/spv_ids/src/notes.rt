@@ -1,9 +1,10 @@
 //! Numbers that are kept of ids.
 
-ghost use Rattle.std.specs.Prelude.{◌≡◌, ◌<◌, ◌≤◌, length, ℕ, Some, None, nat_eq, if◌then◌else◌, OnOk, IfOk};
+ghost use Rattle.std.specs.Prelude.{◌≡◌, ◌<◌, ◌≤◌, length, ℕ, Some, None, nat_eq};
+ghost use Rattle.std.specs.Prelude.{if◌then◌else◌, OnOk, IfOk};
 ghost use Rattle.std.specs.Ordering.{nat_cmp};
 ghost use Rattle.std.specs.BTreeMap.{get};
-ghost use Rattle.spv_ids.specs.Notes.{kept, kept_far, number_in};
+ghost use Rattle.spv_ids.specs.inner.Notes.{kept, kept_far, number_in};
 
 use crate::scattered::Scattered;
 use std::alloc::{AllocError, Global};
@@ -14,9 +15,9 @@ pub const NONE: u32 = u32::MAX;
 
 /// At most one number of each id.
 ///
-/// Ids are mostly small and dense, so a list with a place for each small id serves most of them. Others have places in order,
-/// where it is known beforehand which they are, and a map has what is left: so the memory taken grows with the ids that
-/// something is kept of, and not with the ids themselves.
+/// Ids are mostly small and dense, so a list with a place for each small id serves most of them. Others have places in
+/// order, where it is known beforehand which they are, and a map has what is left: so the memory taken grows with the
+/// ids that something is kept of, and not with the ids themselves.
 #[derive(Drop)]
 pub struct Notes {
     /// At an id's place 0, or one more than what is kept of it.
@@ -66,8 +67,8 @@ impl Notes {
         Notes::of(alloc, places, &[])
     }
 
-    /// Nothing is kept of any id. The list has a place for each id below `places`, and so has each of these ids, which come in
-    /// order.
+    /// Nothing is kept of any id. The list has a place for each id below `places`, and so has each of these ids, which
+    /// come in order.
     ///
     /// An `AllocError` comes only where a growth of memory was refused.
     pub fn of(alloc: Global, places: usize, ids: &[u32]) -> Result<Notes, AllocError>
@@ -148,7 +149,8 @@ impl Notes {
     #[inline(always)]
     pub fn put(&mut self, id: u32, number: u32) -> Result<(), AllocError>
         requires { number < 4294967295 }
-        ensures { OnOk result ((x : ℕ) → kept self.new x ≡ (if nat_eq id x then Some number else kept self.old x)) }
+        ensures { OnOk result ((x : ℕ) → kept self.new x
+            ≡ (if nat_eq id x then Some number else kept self.old x)) }
     {
         let place = id as usize;
         if place < self.near.len() {
@@ -164,7 +166,8 @@ impl Notes {
     fn put_far(&mut self, id: u32, number: u32) -> Result<(), AllocError>
         requires number { number < 4294967295 }
         requires past { length self.old.near.items ≤ id }
-        ensures { OnOk result ((x : ℕ) → kept self.new x ≡ (if nat_eq id x then Some number else kept self.old x)) }
+        ensures { OnOk result ((x : ℕ) → kept self.new x
+            ≡ (if nat_eq id x then Some number else kept self.old x)) }
     {
         if !self.scattered.set(id, number + 1) {
             self.far.insert(id, number)?;

@@ -1,7 +1,7 @@
 //! Room for what is kept of the results of instructions whose ids are sparse.
 
 ghost use Rattle.std.specs.Prelude.{◌≡◌, ◌<◌, ℕ, IfOk, None};
-ghost use Rattle.spv_ids.specs.Notes.{kept};
+ghost use Rattle.spv_ids.specs.inner.Notes.{kept};
 
 use crate::notes::Notes;
 use crate::uses::result_of;
@@ -27,8 +27,8 @@ fn count_by_bits(insts: &[Inst<'_>]) -> [u32; 32] {
     counts
 }
 
-/// Below which id at least half of the ids are results: the greatest power of two, or 0. `counts` tells how many have each
-/// highest bit.
+/// Below which id at least half of the ids are results: the greatest power of two, or 0. `counts` tells how many have
+/// each highest bit.
 fn dense_front(counts: &[u32; 32]) -> usize {
     let mut below: usize = 0;
     let mut front = 0;
@@ -56,8 +56,8 @@ fn results_from(alloc: Global, insts: &[Inst<'_>], first: usize) -> Result<Vec<u
     Ok(ids)
 }
 
-/// Room for the results of instructions, in 8 bytes a result: a list of the small ids of which at least half are results,
-/// and a place for each of the others. Nothing is kept of any id.
+/// Room for the results of instructions, in 8 bytes a result: a list of the small ids of which at least half are
+/// results, and a place for each of the others. Nothing is kept of any id.
 ///
 /// An `AllocError` comes only where a growth of memory was refused.
 #[inline(never)]

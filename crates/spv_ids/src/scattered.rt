@@ -1,7 +1,7 @@
 //! Numbers that are kept of scattered ids.
 
 ghost use Rattle.std.specs.Prelude.{◌≡◌, ℕ, IfOk, IfErr, MatchBool, None};
-ghost use Rattle.spv_ids.specs.Scattered.{at_place, AreUnset, IsPlaceFor, IsGapFor, Writes};
+ghost use Rattle.spv_ids.specs.inner.Scattered.{at_place, AreUnset, IsPlaceFor, IsGapFor, Writes};
 
 use std::alloc::{AllocError, Global};
 use std::marker::Model;
@@ -14,7 +14,7 @@ pub struct Scattered {
 }
 
 impl Model for Scattered {
-    ghost use Rattle.spv_ids.specs.Scattered.{Pairs, AreRising};
+    ghost use Rattle.spv_ids.specs.inner.Scattered.{Pairs, AreRising};
 
     ghost Value = { Pairs };
 
@@ -24,8 +24,8 @@ impl Model for Scattered {
 }
 
 impl Scattered {
-    /// A place for each of these ids, with the number 0. The ids come in order: one that is not above those before it has
-    /// none.
+    /// A place for each of these ids, with the number 0. The ids come in order: one that is not above those before it
+    /// has none.
     ///
     /// An `AllocError` comes only where a growth of memory was refused.
     pub fn of(alloc: Global, ids: &[u32]) -> Result<Scattered, AllocError>
@@ -54,7 +54,8 @@ impl Scattered {
 
     /// Writes a number at an id's place, and answers whether it has one.
     pub fn set(&mut self, id: u32, number: u32) -> bool
-        ensures { MatchBool result (Writes self.old self.new id number) ((at_place self.old id ≡ None) × (self.new ≡ self.old)) }
+        ensures { MatchBool result (Writes self.old self.new id number)
+            ((at_place self.old id ≡ None) × (self.new ≡ self.old)) }
     {
         match self.search(id) {
             Ok(at) => {

@@ -1,6 +1,7 @@
 //! The uses of a module, instruction by instruction.
 
-ghost use Rattle.std.specs.Prelude.{◌≡◌, ◌+◌, ◌≤◌, ◌<◌, ◌↔◌, ℕ, List, length, map, IsTrue, IfOk, OnOk, MatchBool, MatchOption, IfSome, slice_get, Some, None, ◌||◌};
+ghost use Rattle.std.specs.Prelude.{◌≡◌, ◌+◌, ◌≤◌, ◌<◌, ◌↔◌, ℕ, List, length, map, IsTrue};
+ghost use Rattle.std.specs.Prelude.{IfOk, OnOk, MatchBool, MatchOption, IfSome, slice_get, Some, None, ◌||◌};
 ghost use Rattle.spv_module.specs.Operand.{PlainInst};
 ghost use Rattle.spv_module.specs.Module.{plain_inst, plain_operands};
 ghost use Rattle.spv_module.specs.declared.fault.Rule.{Rule};
@@ -12,13 +13,13 @@ ghost use Rattle.spv_ids.specs.Definition.{IsDefinedAt, IsLocal};
 ghost use Rattle.spv_ids.specs.Order.{IsInOrder, IsInScope, IsOrdered, IsScoped, Announces};
 ghost use Rattle.spv_ids.specs.declared.notes.Notes.{Notes};
 ghost use Rattle.spv_ids.specs.Broken.{IsOutOfRange};
-ghost use Rattle.spv_ids.specs.Notes.{kept};
-ghost use Rattle.spv_ids.specs.Known.{AreAnnounced, IsEnd, IsBadResult, IsHomeOf, IsOpen};
-ghost use Rattle.spv_ids.specs.Test.{lower_test, early_test, scope_test, home_test, id_in, announced_id};
+ghost use Rattle.spv_ids.specs.inner.Notes.{kept};
+ghost use Rattle.spv_ids.specs.inner.Known.{AreAnnounced, IsEnd, IsBadResult, IsHomeOf, IsOpen};
+ghost use Rattle.spv_ids.specs.inner.Test.{lower_test, early_test, scope_test, home_test, id_in, announced_id};
 ghost use Rattle.std.specs.Option.{is_some};
-ghost use Rattle.spv_ids.specs.Uses.{AreSeen};
-ghost use Rattle.spv_ids.specs.Faulty.{IsBadUse, HasBadUse, IsFaulty, IsLeast, IsEarlier, AreClean, IsFirstFault};
-ghost use Rattle.spv_ids.specs.Survey.{ArePlaces, IsSurvey, IsSite, insts_of};
+ghost use Rattle.spv_ids.specs.inner.Uses.{AreSeen};
+ghost use Rattle.spv_ids.specs.inner.Faulty.{IsBadUse, HasBadUse, IsFaulty, IsLeast, IsEarlier, AreClean, IsFirstFault};
+ghost use Rattle.spv_ids.specs.inner.Survey.{ArePlaces, IsSurvey, IsSite, insts_of};
 
 use crate::definitions::{floor_of, home, is_out_of_range, section_of};
 use crate::notes::{NONE, Notes};
@@ -139,7 +140,8 @@ fn is_defined(first: Option<u32>, later: Option<u32>) -> bool
     first.is_some() || later.is_some()
 }
 
-/// Whether a use is in scope, or the id is local to no function, by the function of the use and those of the definitions.
+/// Whether a use is in scope, or the id is local to no function, by the function of the use and those of the
+/// definitions.
 fn is_scope(function: Option<u32>, first: Option<u32>, later: Option<u32>) -> bool
     ensures { result ≡ scope_test function first later }
 {
@@ -163,7 +165,8 @@ fn is_home(home: Option<u32>, function: u32) -> bool
 
 /// The function in which a definition stands, if there is a definition.
 fn home_of(plan: &Plan, definition: Option<u32>) -> Option<u32>
-    ensures { (is : List PlainInst) (x : ℕ) → ArePlaces is plan.now → IfSome definition (λ m. IsDefinedAt is x m) → IsHomeOf is definition result }
+    ensures { (is : List PlainInst) (x : ℕ) → ArePlaces is plan.now → IfSome definition (λ m. IsDefinedAt is x m)
+        → IsHomeOf is definition result }
 {
     match definition {
         Some(inst) => home(plan, inst),
@@ -226,7 +229,8 @@ fn announced_by(inst: &Inst<'_>) -> Option<u32>
 /// Keeps the id that an OpTypeForwardPointer names.
 fn announce(announced: &mut Notes, inst: &Inst<'_>, at: u32) -> Result<(), AllocError>
     requires { at < 4294967295 }
-    ensures { OnOk result ((is : List PlainInst) → slice_get is at ≡ Some (plain_inst inst.now) → AreAnnounced is at announced.old → AreAnnounced is (at + 1) announced.new) }
+    ensures { OnOk result ((is : List PlainInst) → slice_get is at ≡ Some (plain_inst inst.now)
+        → AreAnnounced is at announced.old → AreAnnounced is (at + 1) announced.new) }
 {
     if let Some(id) = announced_by(inst) {
         announced.put(id, at)?;
@@ -237,7 +241,8 @@ fn announce(announced: &mut Notes, inst: &Inst<'_>, at: u32) -> Result<(), Alloc
 /// At an instruction, the function that is open, where `floor` is the one before it.
 #[inline(always)]
 fn entered(inst: &Inst<'_>, floor: u32, at: u32) -> u32
-    ensures { (is : List PlainInst) → slice_get is at ≡ Some (plain_inst inst.now) → (floor < 4294967295 → IsOpen is at floor) → result < 4294967295 → IsOfFunction is at result }
+    ensures { (is : List PlainInst) → slice_get is at ≡ Some (plain_inst inst.now)
+        → (floor < 4294967295 → IsOpen is at floor) → result < 4294967295 → IsOfFunction is at result }
 {
     if inst.opcode == FUNCTION { at } else { floor }
 }
@@ -245,7 +250,8 @@ fn entered(inst: &Inst<'_>, floor: u32, at: u32) -> u32
 /// The function that is open after an instruction of the function `floor`, or `NONE`.
 #[inline(always)]
 fn left(inst: &Inst<'_>, floor: u32) -> u32
-    ensures { (is : List PlainInst) (n : ℕ) → slice_get is n ≡ Some (plain_inst inst.now) → (floor < 4294967295 → IsOfFunction is n floor) → result < 4294967295 → IsOpen is (n + 1) result }
+    ensures { (is : List PlainInst) (n : ℕ) → slice_get is n ≡ Some (plain_inst inst.now)
+        → (floor < 4294967295 → IsOfFunction is n floor) → result < 4294967295 → IsOpen is (n + 1) result }
 {
     if inst.opcode == FUNCTION_END {
         NONE
@@ -261,7 +267,8 @@ impl<'m, 'a> Survey<'m, 'a> {
         requires site { IsSite self.now site.now }
         requires announced { AreAnnounced (insts_of self.now) site.now.inst announced.now }
         requires first { first ≡ kept self.now.firsts.now id }
-        ensures { MatchBool result (IsOrdered (insts_of self.now) site.now.inst → IsInOrder (insts_of self.now) site.now.inst id)
+        ensures { MatchBool result (IsOrdered (insts_of self.now) site.now.inst
+            → IsInOrder (insts_of self.now) site.now.inst id)
             (IsOrdered (insts_of self.now) site.now.inst × ¬ (IsInOrder (insts_of self.now) site.now.inst id)) }
     {
         if !is_ordered(site.section) {
@@ -275,8 +282,10 @@ impl<'m, 'a> Survey<'m, 'a> {
         requires survey { IsSurvey self.now }
         requires site { IsSite self.now site.now }
         requires first { first ≡ kept self.now.firsts.now id }
-        ensures { MatchBool result (IsScoped (insts_of self.now) site.now.inst → IsLocal (insts_of self.now) id → IsInScope (insts_of self.now) site.now.inst id)
-            (IsScoped (insts_of self.now) site.now.inst × IsLocal (insts_of self.now) id × ¬ (IsInScope (insts_of self.now) site.now.inst id)) }
+        ensures { MatchBool result (IsScoped (insts_of self.now) site.now.inst → IsLocal (insts_of self.now) id
+            → IsInScope (insts_of self.now) site.now.inst id)
+            (IsScoped (insts_of self.now) site.now.inst × IsLocal (insts_of self.now) id
+            × ¬ (IsInScope (insts_of self.now) site.now.inst id)) }
     {
         if !is_scoped(site.section) {
             return true;
@@ -333,7 +342,8 @@ impl<'m, 'a> Survey<'m, 'a> {
         requires survey { IsSurvey self.now }
         requires below { inst < self.now.end }
         requires floor { floor < 4294967295 → IsOfFunction (insts_of self.now) inst floor }
-        ensures { (x : ℕ) → (definition < 4294967295 → kept self.now.firsts.now x ≡ Some definition) → IsTrue result → (q : Rule) → ¬ (IsBadUse self.now.bound (insts_of self.now) inst x q) }
+        ensures { (x : ℕ) → (definition < 4294967295 → kept self.now.firsts.now x ≡ Some definition)
+            → IsTrue result → (q : Rule) → ¬ (IsBadUse self.now.bound (insts_of self.now) inst x q) }
     {
         if definition >= inst {
             return false;
@@ -352,7 +362,8 @@ impl<'m, 'a> Survey<'m, 'a> {
         self.insts.len() <= self.end as usize
     }
 
-    /// Whether an instruction is of the function `floor` and its opcode none of section 7a: its uses need not come in order.
+    /// Whether an instruction is of the function `floor` and its opcode none of section 7a: its uses need not come in
+    /// order.
     #[inline(always)]
     fn is_inside(&self, inst: u32, floor: u32) -> bool
         requires survey { IsSurvey self.now }
@@ -373,7 +384,8 @@ impl<'m, 'a> Survey<'m, 'a> {
         requires whole { length self.now.insts.now ≤ self.now.end }
         requires below { definition < self.now.end }
         requires floor { floor < 4294967295 → IsOfFunction (insts_of self.now) inst floor }
-        ensures { (x : ℕ) → kept self.now.firsts.now x ≡ Some definition → IsTrue result → IsLocal (insts_of self.now) x → IsInScope (insts_of self.now) inst x }
+        ensures { (x : ℕ) → kept self.now.firsts.now x ≡ Some definition → IsTrue result
+            → IsLocal (insts_of self.now) x → IsInScope (insts_of self.now) inst x }
     {
         let own = floor_of(self.plan, definition);
         if own >= definition {
@@ -388,7 +400,8 @@ impl<'m, 'a> Survey<'m, 'a> {
         requires survey { IsSurvey self.now }
         requires below { inst < self.now.end }
         requires floor { floor < 4294967295 → IsOfFunction (insts_of self.now) inst floor }
-        ensures { (x : ℕ) → (definition < 4294967295 → kept self.now.firsts.now x ≡ Some definition) → IsTrue result → (q : Rule) → ¬ (IsBadUse self.now.bound (insts_of self.now) inst x q) }
+        ensures { (x : ℕ) → (definition < 4294967295 → kept self.now.firsts.now x ≡ Some definition)
+            → IsTrue result → (q : Rule) → ¬ (IsBadUse self.now.bound (insts_of self.now) inst x q) }
     {
         if definition >= self.end {
             return false;
@@ -409,14 +422,15 @@ impl<'m, 'a> Survey<'m, 'a> {
         self.is_own(inst, floor, definition)
     }
 
-    /// Whether a use is sound since its definition is the next instruction, as the label after a branch often is: both are
-    /// of the function `floor`, and begin and end none.
+    /// Whether a use is sound since its definition is the next instruction, as the label after a branch often is: both
+    /// are of the function `floor`, and begin and end none.
     #[inline(always)]
     fn is_next(&self, inst: u32, floor: u32, definition: u32) -> bool
         requires survey { IsSurvey self.now }
         requires below { inst < self.now.end }
         requires floor { floor < 4294967295 → IsOfFunction (insts_of self.now) inst floor }
-        ensures { (x : ℕ) → (definition < 4294967295 → kept self.now.firsts.now x ≡ Some definition) → IsTrue result → (q : Rule) → ¬ (IsBadUse self.now.bound (insts_of self.now) inst x q) }
+        ensures { (x : ℕ) → (definition < 4294967295 → kept self.now.firsts.now x ≡ Some definition)
+            → IsTrue result → (q : Rule) → ¬ (IsBadUse self.now.bound (insts_of self.now) inst x q) }
     {
         if definition >= self.end {
             return false;
@@ -435,8 +449,8 @@ impl<'m, 'a> Survey<'m, 'a> {
         definition == inst + 1
     }
 
-    /// Whether each use among operands is sound at once, by an instruction of the function `floor`. One that is not may be
-    /// sound all the same.
+    /// Whether each use among operands is sound at once, by an instruction of the function `floor`. One that is not may
+    /// be sound all the same.
     #[inline(always)]
     fn are_sound(&self, inst: u32, floor: u32, front: &[u32], operands: &[Operand<'_>]) -> bool
         requires survey { IsSurvey self.now }
@@ -444,7 +458,8 @@ impl<'m, 'a> Survey<'m, 'a> {
         requires below { inst < self.now.end }
         requires floor { floor < 4294967295 → IsOfFunction (insts_of self.now) inst floor }
         requires operands { AreSeen (insts_of self.now) inst (plain_operands operands.now) }
-        ensures { IsTrue result → IsLeast (HasBadUse self.now.bound (insts_of self.now) inst (length operands.now)) None }
+        ensures { IsTrue result → IsLeast (HasBadUse self.now.bound (insts_of self.now) inst (length operands.now))
+            None }
     {
         for operand in operands {
             if let Some(id) = used_id(*operand) {
@@ -499,7 +514,8 @@ impl<'m, 'a> Survey<'m, 'a> {
     /// Whether a use among operands is out of range.
     fn has_out_of_range(&self, operands: &[Operand<'_>]) -> bool
         ensures { (is : List PlainInst) (n : ℕ) → AreSeen is n (plain_operands operands.now)
-            → MatchBool result (HasBadUse self.now.bound is n (length operands.now) D1) (¬ (HasBadUse self.now.bound is n (length operands.now) D1)) }
+            → MatchBool result (HasBadUse self.now.bound is n (length operands.now) D1)
+            (¬ (HasBadUse self.now.bound is n (length operands.now) D1)) }
     {
         for operand in operands {
             if let Some(id) = used_id(*operand) {
@@ -516,7 +532,8 @@ impl<'m, 'a> Survey<'m, 'a> {
         requires survey { IsSurvey self.now }
         requires bad { IsBadResult self.now.bound (insts_of self.now) self.now.end }
         ensures broken { IsFaulty self.now.bound (insts_of self.now) self.now.end result }
-        ensures least { (q : Rule) → IsFaulty self.now.bound (insts_of self.now) self.now.end q → rank_of result ≤ rank_of q }
+        ensures least { (q : Rule) → IsFaulty self.now.bound (insts_of self.now) self.now.end q
+            → rank_of result ≤ rank_of q }
     {
         let inst = &self.insts[self.end as usize];
         let Some(id) = result_of(inst) else {
@@ -580,8 +597,8 @@ impl<'m, 'a> Survey<'m, 'a> {
         None
     }
 
-    /// The instructions from one on whose uses are sound at once and that announce no id. `floor` is the function that is open
-    /// before it.
+    /// The instructions from one on whose uses are sound at once and that announce no id. `floor` is the function that
+    /// is open before it.
     #[inline(never)]
     fn pass(&self, from: u32, floor: u32) -> Passed
         requires survey { IsSurvey self.now }
@@ -591,7 +608,8 @@ impl<'m, 'a> Survey<'m, 'a> {
         ensures within { result.to ≤ self.now.end }
         ensures further { from ≤ result.to }
         ensures clean { AreClean self.now.bound (insts_of self.now) result.to }
-        ensures announced { (a : Notes) → AreAnnounced (insts_of self.now) from a → AreAnnounced (insts_of self.now) result.to a }
+        ensures announced { (a : Notes) → AreAnnounced (insts_of self.now) from a
+            → AreAnnounced (insts_of self.now) result.to a }
         ensures open { result.floor < 4294967295 → IsOpen (insts_of self.now) result.to result.floor }
     {
         let front = self.firsts.front();
@@ -615,7 +633,8 @@ impl<'m, 'a> Survey<'m, 'a> {
     pub fn first_fault(&self, alloc: Global) -> Result<Option<Found>, AllocError>
         requires survey { IsSurvey self.now }
         requires end { IsEnd self.now.bound (insts_of self.now) self.now.end }
-        ensures { IfOk result (λ o. MatchOption o (AreClean self.now.bound (insts_of self.now) (length (insts_of self.now)))
+        ensures { IfOk result (λ o. MatchOption o
+            (AreClean self.now.bound (insts_of self.now) (length (insts_of self.now)))
             (λ f. IsFirstFault self.now.bound (insts_of self.now) f.rule f.inst)) }
     {
         let mut announced = Notes::new(alloc, 0)?;

@@ -2,7 +2,7 @@
 
 ghost use Rattle.std.specs.Prelude.{◌≡◌, slice_get, take};
 ghost use Rattle.spv_module.specs.Module.{plain_inst, plain_operand, plain_operands};
-ghost use Rattle.spv_ids.specs.Uses as uses;
+ghost use Rattle.spv_ids.specs.inner.Uses as uses;
 
 use spv_module::{Inst, Operand};
 

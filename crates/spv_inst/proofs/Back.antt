@@ -8,7 +8,7 @@ use Rattle.spv_module.specs.declared.fault.Stop.TheVariants.{Fault, Memory}
 use Rattle.spv_module.specs.declared.module.Module.{Module}
 use Rattle.spv_module.specs.Module.{plain_insts}
 use Rattle.spv_module.specs.Instruction.{IsListing}
-use Rattle.spv_inst.specs.Outcome.{IsDeath, IsHeaderOf}
+use Rattle.spv_inst.specs.Outcome.{IsDecodeFault, IsHeaderOf}
 use Rattle.spv_inst.specs.Encoding.{IsImageOf}
 use Rattle.spv_inst.proofs.Lists.{listing_same, dies_not}
 
@@ -25,7 +25,7 @@ pub module_same : (G : Table) (m d : Module) (ws : List ℕ) → IsImageOf G m w
 module_same G m d ws i l h =
     (listing_same G [] (plain_insts d) (plain_insts m) (drop 5 ws) (drop 5 ws) l i.spelled refl, header_same ws d.header m.header h i.same)
 
-pub dies_for_memory : (G : Table) (m : Module) (ws : List ℕ) (stop : Stop) → IsImageOf G m ws → IsDeath G ws stop → stop ≡ Memory
+pub dies_for_memory : (G : Table) (m : Module) (ws : List ℕ) (stop : Stop) → IsImageOf G m ws → IsDecodeFault G ws stop → stop ≡ Memory
 dies_for_memory G m ws Memory i d = refl
 dies_for_memory G m ws (Fault f) i d = absurd (dies_not G [] (plain_insts m) (drop 5 ws) (drop 5 ws) f.rule f.inst (f.word - 5) d.1 i.spelled refl)
 

@@ -6,12 +6,12 @@ use Rattle.spv_table.specs.declared.table.Category.TheVariants as category
 use Rattle.spv_table.specs.declared.table.Kind.{Kind}
 use Rattle.spv_table.specs.Table.{Table, Sort, kind_of, is_simple, is_simple_category, are_bases, is_sound, is_sound_category, IsWhole}
 use Rattle.spv_inst.specs.declared.form.Form.TheVariants.{Parts}
-use Rattle.spv_inst.specs.Form.{category_form, form_of, form_at}
+use Rattle.spv_inst.specs.inner.Form.{category_form, form_of, form_at}
 use Rattle.spv_module.specs.Operand.{Context}
 use Rattle.spv_module.specs.Shape.{Slot, AsParts, category_shape, kind_shape, shape_of}
 use Rattle.spv_inst.specs.Flat.{Due, OneOf}
 use Rattle.spv_inst.specs.declared.reader.Slot as code
-use Rattle.spv_inst.specs.Agenda.{plain_slot, slots_of, Opens}
+use Rattle.spv_inst.specs.inner.Pending.{plain_slot, slots_of, Opens}
 
 parts_category : (c : Context) (q : Bool) (s : Sort) (cat : Category) (p : Bool) → category_form s.kind.name cat ≡ Parts p → category_shape c q s cat ≡ AsParts (slots_of p s.kind.bases)
 parts_category c q s category.Id p h = cc

@@ -6,7 +6,7 @@ use Rattle.spv_module.specs.declared.operand.Operand.{Operand}
 use Rattle.spv_module.specs.declared.module.Inst.{Inst}
 use Rattle.spv_module.specs.Module.{plain_operands, plain_inst}
 use Rattle.spv_module.specs.Operand.{PlainInst}
-use Rattle.spv_inst.specs.Batch.{head_inst, AreWithin}
+use Rattle.spv_inst.specs.inner.Batch.{head_inst, AreWithin}
 use Rattle.spv_inst.proofs.Decoding.{plain-insts-push}
 
 within_more : (m n : ℕ) (hs : List Head) → m ≤ n → AreWithin m hs → AreWithin n hs

@@ -1,7 +1,7 @@
 -- The words from one place up to another.
 use Rattle.std.proofs.Common.{◌≡◌, ◌<◌, ◌≤◌, ◌+◌, ◌-◌, ℕ, suc, List, [], ◌∷◌, length, take, drop, slice_index, refl, arith, add-one}
 use Rattle.std.proofs.Math.Seq.{drop-cons}
-use Rattle.spv_inst.specs.Reading.{between}
+use Rattle.spv_inst.specs.inner.Reading.{between}
 
 -- a word at the front
 pub front : (ws : List ℕ) (at end : ℕ) → at < end → end ≤ length ws → between ws at end ≡ slice_index ws at ∷ between ws (at + 1) end

@@ -4,7 +4,7 @@ use Rattle.spv_inst.specs.declared.definitions.Definitions.{Definitions}
 use Rattle.spv_inst.specs.declared.reader.Known.{Known}
 use Rattle.spv_module.specs.Operand.{Plain, OfType, Context, and_then, type_in}
 use Rattle.spv_module.specs.Width.{first_id}
-use Rattle.spv_inst.specs.Known.{IsNear}
+use Rattle.spv_inst.specs.inner.Known.{IsNear}
 
 pub type_kept : (os : List Plain) (o : Plain) (t : ℕ) → type_in os ≡ Some t → type_in (os ++ (o ∷ [])) ≡ Some t
 type_kept [] o t e = cc

@@ -10,10 +10,10 @@ use Rattle.spv_module.specs.declared.module.Inst.{Inst}
 use Rattle.spv_module.specs.Module.{plain_inst}
 use Rattle.spv_module.specs.Operand.{PlainInst}
 use Rattle.spv_module.specs.Instruction.{IsInstruction, Listing, IsListing}
-use Rattle.spv_module.specs.Dead.{DiesAt}
-use Rattle.spv_inst.specs.Reading.{between}
-use Rattle.spv_inst.specs.Outcome.{IsDeath, HasNoList}
-use Rattle.spv_inst.specs.Step.{IsDeadFrom}
+use Rattle.spv_module.specs.Malformed.{FailsAt}
+use Rattle.spv_inst.specs.inner.Reading.{between}
+use Rattle.spv_inst.specs.Outcome.{IsDecodeFault, HasNoList}
+use Rattle.spv_inst.specs.inner.Step.{IsDeadFrom}
 use Rattle.spv_inst.proofs.Turns.{length-between}
 use Rattle.spv_inst.proofs.Lists.{listing_same, dies_not}
 
@@ -23,7 +23,7 @@ pub record SofarListed (G : Table) (words : List ℕ) (insts : List PlainInst) (
   pub upto : at ≤ length words
   pub short : length insts + 5 ≤ at
   pub listed : (is : List PlainInst) → Listing G insts is (drop at words) → Listing G [] (insts ++ is) (drop 5 words)
-  pub dies : (a : Rule) (k n : ℕ) → DiesAt G insts (drop at words) a k n → DiesAt G [] (drop 5 words) a (length insts + k) ((at - 5) + n)
+  pub dies : (a : Rule) (k n : ℕ) → FailsAt G insts (drop at words) a k n → FailsAt G [] (drop 5 words) a (length insts + k) ((at - 5) + n)
 
 pub listed_first : (G : Table) (words : List ℕ) → 5 ≤ length words → SofarListed G words [] 5
 listed_first G words h = record {
@@ -43,7 +43,7 @@ rest_is words at end h =
     let d : drop (end - at) (drop at words) ≡ drop end words = rw e at (drop-drop (end - at) at words) in
     rw (← d) (sym (take-append-drop (end - at) (drop at words)))
 
-moved : (G : Table) (insts : List PlainInst) (us vs : List ℕ) (c : Rule) (j n : ℕ) → us ≡ vs → DiesAt G insts us c j n → DiesAt G insts vs c j n
+moved : (G : Table) (insts : List PlainInst) (us vs : List ℕ) (c : Rule) (j n : ℕ) → us ≡ vs → FailsAt G insts us c j n → FailsAt G insts vs c j n
 moved G insts us vs c j n e d = rw e at d
 
 pub listed_next : (G : Table) (words : List ℕ) (insts next : List PlainInst) (i : PlainInst) (at end : ℕ) → SofarListed G words insts at
@@ -63,8 +63,8 @@ listed_next G words insts next i at end k h f a e =
       listed = λ is m.
           rw (append_assoc insts (i ∷ []) is) (k.listed (i ∷ is) (rw r (Listing.more insts i is (between words at end) (drop end words) a m)));
       dies = λ c j n d.
-          let d0 : DiesAt G insts (between words at end ++ drop end words) c (suc j) (length (between words at end) + n) = DiesAt.later insts i (between words at end) (drop end words) c j n a d in
-          let d' : DiesAt G insts (drop at words) c (suc j) (length (between words at end) + n) = moved G insts (between words at end ++ drop end words) (drop at words) c (suc j) (length (between words at end) + n) (sym r) d0 in
+          let d0 : FailsAt G insts (between words at end ++ drop end words) c (suc j) (length (between words at end) + n) = FailsAt.later insts i (between words at end) (drop end words) c j n a d in
+          let d' : FailsAt G insts (drop at words) c (suc j) (length (between words at end) + n) = moved G insts (between words at end ++ drop end words) (drop at words) c (suc j) (length (between words at end) + n) (sym r) d0 in
           let p : length insts + suc j ≡ length (insts ++ (i ∷ [])) + j = omega arith in
           let q : (at - 5) + (length (between words at end) + n) ≡ (end - 5) + n = omega arith in
           rw (p, q) at (k.dies c (suc j) (length (between words at end) + n) d');
@@ -78,7 +78,7 @@ listed_all G words insts at k h =
 pub listed_only : (G : Table) (words : List ℕ) (insts is : List PlainInst) → IsListing G insts (drop 5 words) → IsListing G is (drop 5 words) → is ≡ insts
 listed_only G words insts is a b = listing_same G [] is insts (drop 5 words) (drop 5 words) b a refl
 
-pub dead_here : (G : Table) (words : List ℕ) (insts : List PlainInst) (at number : ℕ) (e : Stop) → SofarListed G words insts at → number ≡ length insts → IsDeadFrom G insts words number at e → IsDeath G words e
+pub dead_here : (G : Table) (words : List ℕ) (insts : List PlainInst) (at number : ℕ) (e : Stop) → SofarListed G words insts at → number ≡ length insts → IsDeadFrom G insts words number at e → IsDecodeFault G words e
 dead_here G words insts at number Memory k h d = tt
 dead_here G words insts at number (Fault f) k h d =
     let x = k.after_header in
@@ -86,9 +86,9 @@ dead_here G words insts at number (Fault f) k h d =
     let z = d.0 in
     let p : length insts + 0 ≡ f.inst = omega arith in
     let q : (at - 5) + (f.word - at) ≡ f.word - 5 = omega arith in
-    (omega arith, rw (p, q) at (k.dies f.rule 0 (f.word - at) (DiesAt.here insts (drop at words) f.rule (f.word - at) d.2)))
+    (omega arith, rw (p, q) at (k.dies f.rule 0 (f.word - at) (FailsAt.here insts (drop at words) f.rule (f.word - at) d.2)))
 
-pub none_there : (G : Table) (words : List ℕ) (e : Stop) → IsDeath G words e → HasNoList G words e
+pub none_there : (G : Table) (words : List ℕ) (e : Stop) → IsDecodeFault G words e → HasNoList G words e
 none_there G words Memory d = tt
 none_there G words (Fault f) d = λ is m. dies_not G [] is (drop 5 words) (drop 5 words) f.rule f.inst (f.word - 5) d.1 m refl
 

@@ -11,8 +11,9 @@ use Rattle.spv_module.specs.Operand.{Value, Mask}
 use Rattle.spv_module.specs.Shape.{alone, AsValue, AsMask}
 use Rattle.spv_module.specs.Spelling.{bits_from, parameters_of, parameters_of_all, mask_parameters, Takes}
 use Rattle.spv_module.specs.declared.fault.Rule.TheVariants.{I6, I7}
-use Rattle.spv_module.specs.Refusal.{Refuses}
-use Rattle.spv_inst.specs.Reading.{enumerants_at, parameter_kinds}
+use Rattle.spv_module.specs.Refusal.{ShapeRefuses}
+use Rattle.spv_inst.specs.Reading.{enumerants_at}
+use Rattle.spv_inst.specs.inner.Reading.{parameter_kinds}
 
 none_from : {A : Type 0} (o : Option A) → is_some o ≡ false → o ≡ None
 none_from None e = refl
@@ -39,15 +40,15 @@ pub value_taken : (G : Table) (k x : ℕ) → is_some (parameters_of (enumerants
     → Takes k (AsValue (enumerants_at (kind_of G k))) (Value k x) (x ∷ []) (map alone (parameter_kinds G (Value k x)))
 value_taken G k x h = Takes.value (enumerants_at (kind_of G k)) x _ (some_from (parameters_of (enumerants_at (kind_of G k)) x) h)
 
-pub value_refused : (es : List Enumerant) (x : ℕ) (us : List ℕ) → is_some (parameters_of es x) ≡ false → Refuses (AsValue es) (x ∷ us) I6 0
-value_refused es x us h = Refuses.unknown_value es x us (none_from (parameters_of es x) h)
+pub value_refused : (es : List Enumerant) (x : ℕ) (us : List ℕ) → is_some (parameters_of es x) ≡ false → ShapeRefuses (AsValue es) (x ∷ us) I6 0
+value_refused es x us h = ShapeRefuses.unknown_value es x us (none_from (parameters_of es x) h)
 
 pub mask_taken : (G : Table) (k x : ℕ) → is_some (mask_parameters (enumerants_at (kind_of G k)) x) ≡ true
     → Takes k (AsMask (enumerants_at (kind_of G k))) (Mask k x) (x ∷ []) (map alone (parameter_kinds G (Mask k x)))
 mask_taken G k x h = Takes.mask (enumerants_at (kind_of G k)) x _ (some_from (mask_parameters (enumerants_at (kind_of G k)) x) h)
 
-pub mask_refused : (es : List Enumerant) (x : ℕ) (us : List ℕ) → is_some (mask_parameters es x) ≡ false → Refuses (AsMask es) (x ∷ us) I7 0
-mask_refused es x us h = Refuses.unknown_bit es x us (none_from (mask_parameters es x) h)
+pub mask_refused : (es : List Enumerant) (x : ℕ) (us : List ℕ) → is_some (mask_parameters es x) ≡ false → ShapeRefuses (AsMask es) (x ∷ us) I7 0
+mask_refused es x us h = ShapeRefuses.unknown_bit es x us (none_from (mask_parameters es x) h)
 
 -- whether the set bits from bit `b` up, of `n` bits, are known
 unfoldable pub knows_from : List Enumerant → ℕ → ℕ → ℕ → Bool

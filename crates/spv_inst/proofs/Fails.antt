@@ -4,7 +4,8 @@ use Rattle.spv_table.specs.Table.{Table}
 use Rattle.spv_module.specs.Operand.{Plain, Context, and_then}
 use Rattle.spv_module.specs.Shape.{Slot, shape_of}
 use Rattle.spv_module.specs.declared.fault.Rule.{Rule}
-use Rattle.spv_inst.specs.Flat.{Due, OneOf, ManyOf, Matches, Fails}
+use Rattle.spv_inst.specs.Flat.{Due, OneOf, ManyOf}
+use Rattle.spv_inst.specs.inner.Flat.{Matches, Fails}
 use Rattle.spv_inst.proofs.Flat.{same_bases}
 use Rattle.spv_inst.proofs.Takes.{takes_same, takes_no_parts}
 use Rattle.spv_inst.proofs.Refusals.{SameRefusal, refuse_same, takes_refuses, parts_refuse}

@@ -9,12 +9,12 @@ use Rattle.spv_inst.specs.declared.form.Leaf.TheVariants as leaf
 use Rattle.spv_module.specs.Operand.{Plain, OfType, Result, Id, Word, Number, Text, Value, Mask, Context}
 use Rattle.spv_module.specs.Width.{context_width}
 use Rattle.spv_module.specs.Shape.{Slot, Shape, alone, AsType, AsResult, AsId, AsWord, AsNumber, AsText, AsValue, AsMask, AsNothing, shape_of}
-use Rattle.spv_module.specs.Spelling.{Takes, Holds, AreZeros, parameters_of, mask_parameters}
+use Rattle.spv_module.specs.Spelling.{Takes, HoldsText, AreZeros, parameters_of, mask_parameters}
 use Rattle.spv_inst.specs.Reading.{enumerants_at}
-use Rattle.spv_inst.specs.Agenda.{opened_kinds}
-use Rattle.spv_inst.specs.Written.{text_words, operand_words, fits_width, is_without_zero, is_fit, HasText}
+use Rattle.spv_inst.specs.inner.Pending.{opened_kinds}
+use Rattle.spv_inst.specs.inner.Written.{text_words, operand_words, fits_width, is_without_zero, is_fit, HasText}
 use Rattle.spv_inst.specs.declared.form.Form.TheVariants.{Leaf}
-use Rattle.spv_inst.specs.Form.{form_at}
+use Rattle.spv_inst.specs.inner.Form.{form_at}
 use Rattle.spv_inst.proofs.Shapes.{leaf_shape, shape_leaf}
 use Rattle.spv_inst.proofs.Masks.{whole_mask}
 use Rattle.spv_inst.proofs.Bases.{and_first, and_second}
@@ -40,7 +40,7 @@ gt_of a b e = grind (arith, nat_tests)
 -- the words of a text hold it
 record Spelled (t : List ℕ) : Type 0 where
   pub padding : List ℕ
-  pub holds : Holds (text_words t) t padding
+  pub holds : HoldsText (text_words t) t padding
   pub zeros : AreZeros padding
 
 four : (a b c d : ℕ) → a < 256 → b < 256 → c < 256 → d < 256

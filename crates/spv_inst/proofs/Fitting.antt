@@ -11,9 +11,9 @@ use Rattle.spv_module.specs.Operand.{Context}
 use Rattle.spv_module.specs.Width.{switch_width}
 use Rattle.spv_module.specs.Shape.{Slot, Shape, AsNumber, AsWord, AsNothing, alone, integer_shape, shape_of}
 use Rattle.spv_module.specs.Spelling.{Takes}
-use Rattle.spv_module.specs.Refusal.{Refuses, IsLeaf}
+use Rattle.spv_module.specs.Refusal.{ShapeRefuses, IsLeaf}
 use Rattle.spv_module.specs.Module.{plain_operand}
-use Rattle.spv_inst.specs.Reading.{between, parameter_kinds, TakesFront, RefusesFront}
+use Rattle.spv_inst.specs.inner.Reading.{between, parameter_kinds, TakesFront, RefusesFront}
 use Rattle.spv_inst.proofs.Between.{front, nothing, take_one}
 use Rattle.spv_inst.proofs.Turns.{refuses_within, length-between}
 
@@ -44,24 +44,24 @@ answer_front G c s sh (Err _) us e k p = tt
 
 -- a refusal, answered by a call
 pub refusal_front : (G : Table) (c : Context) (s : Slot) (sh : Shape) (r : Result Taken Refusal) (us : List ℕ)
-    → shape_of G c s ≡ sh → IfErr r (λ e. Refuses sh us e.rule e.word) → IfErr r (λ e. RefusesFront G c s e.rule e.word us)
+    → shape_of G c s ≡ sh → IfErr r (λ e. ShapeRefuses sh us e.rule e.word) → IfErr r (λ e. RefusesFront G c s e.rule e.word us)
 refusal_front G c s sh (Ok _) us e k = tt
 refusal_front G c s sh (Err _) us e k = rw e k
 
 -- a refusal that does not read past the first word
 pub refusal_one : (G : Table) (c : Context) (s : Slot) (sh : Shape) (r : Result Taken Refusal) (ws : List ℕ) (x at end : ℕ)
     → shape_of G c s ≡ sh → at < end → end ≤ length ws → x ≡ slice_index ws at
-    → ((us : List ℕ) → IfErr r (λ e. Refuses sh (x ∷ us) e.rule e.word))
+    → ((us : List ℕ) → IfErr r (λ e. ShapeRefuses sh (x ∷ us) e.rule e.word))
     → IfErr r (λ e. RefusesFront G c s e.rule e.word (between ws at end))
 refusal_one G c s sh r ws x at end e h l i k = refusal_front G c s sh r (between ws at end) e (rw (front ws at end h l, ← i) (k (between ws (at + 1) end)))
 
 -- no word is left
 pub missing_front : (G : Table) (c : Context) (s : Slot) (ws : List ℕ) (at end : ℕ) → IsLeaf (shape_of G c s) → end ≤ at → RefusesFront G c s I4 0 (between ws at end)
-missing_front G c s ws at end h l = rw (nothing ws at end l) (Refuses.missing (shape_of G c s) h)
+missing_front G c s ws at end h l = rw (nothing ws at end l) (ShapeRefuses.missing (shape_of G c s) h)
 
 -- a kind that nothing spells
 pub nothing_front : (G : Table) (c : Context) (s : Slot) (ws : List ℕ) (at end : ℕ) → shape_of G c s ≡ AsNothing → at < end → end ≤ length ws → RefusesFront G c s I12 0 (between ws at end)
-nothing_front G c s ws at end e h l = rw (e, front ws at end h l) (Refuses.no_form (slice_index ws at) (between ws (at + 1) end))
+nothing_front G c s ws at end e h l = rw (e, front ws at end h l) (ShapeRefuses.no_form (slice_index ws at) (between ws (at + 1) end))
 
 -- a LiteralInteger in a pair of OpSwitch
 pub integer_number : (c : Context) (paired : Bool) (opcode : ℕ) → paired ≡ true → opcode ≡ 251 → opcode ≡ c.opcode → integer_shape c paired ≡ AsNumber (switch_width c)
@@ -78,7 +78,7 @@ integer_other c paired opcode e f g =
 
 -- a refusal tells a word of those left, or the one after them
 pub within_front : (sh : Shape) (r : Result Taken Refusal) (ws : List ℕ) (at end : ℕ) → end ≤ length ws
-    → IfErr r (λ e. Refuses sh (between ws at end) e.rule e.word) → IfErr r (λ e. e.word ≤ end - at)
+    → IfErr r (λ e. ShapeRefuses sh (between ws at end) e.rule e.word) → IfErr r (λ e. e.word ≤ end - at)
 within_front sh (Ok _) ws at end h k = tt
 within_front sh (Err e) ws at end h k =
     let n = refuses_within sh (between ws at end) e.rule e.word k in
@@ -86,7 +86,7 @@ within_front sh (Err e) ws at end h k =
     omega arith
 
 pub within_one : (sh : Shape) (r : Result Taken Refusal) (x at end : ℕ) → at < end
-    → ((us : List ℕ) → IfErr r (λ e. Refuses sh (x ∷ us) e.rule e.word)) → IfErr r (λ e. e.word ≤ end - at)
+    → ((us : List ℕ) → IfErr r (λ e. ShapeRefuses sh (x ∷ us) e.rule e.word)) → IfErr r (λ e. e.word ≤ end - at)
 within_one sh (Ok _) x at end h k = tt
 within_one sh (Err e) x at end h k =
     let n = refuses_within sh (x ∷ []) e.rule e.word (k []) in

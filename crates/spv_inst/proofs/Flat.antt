@@ -3,7 +3,8 @@ use Rattle.std.proofs.Common.{◌≡◌, ◌≢◌, ◌++◌, ◌∙◌, ℕ, Li
 use Rattle.spv_table.specs.Table.{Table}
 use Rattle.spv_module.specs.Operand.{Plain, Context, and_then}
 use Rattle.spv_module.specs.Shape.{Slot, Shape, AsParts, shape_of}
-use Rattle.spv_inst.specs.Flat.{Due, OneOf, ManyOf, Matches, end, take, parts, no_maybe, maybe, no_many, many}
+use Rattle.spv_inst.specs.Flat.{Due, OneOf, ManyOf}
+use Rattle.spv_inst.specs.inner.Flat.{Matches, end, take, parts, no_maybe, maybe, no_many, many}
 use Rattle.spv_inst.proofs.Takes.{takes_same, takes_back, takes_no_parts, takes_nonempty}
 
 -- an append that has an element is not empty

@@ -3,7 +3,7 @@ use Rattle.std.proofs.Common.{◌≡◌, ◌+◌, ◌++◌, ℕ, zero, suc, List
 use Rattle.std.specs.Prelude.{option_map, slice_get}
 use Rattle.spv_table.specs.declared.table.Kind.{Kind}
 use Rattle.spv_table.specs.Table.{Sort}
-use Rattle.spv_inst.specs.Form.{form_of, category_form}
+use Rattle.spv_inst.specs.inner.Form.{form_of, category_form}
 
 front_form : (k l : Kind) → k ≡ l → category_form l.name l.category ∷ [] ≡ category_form k.name k.category ∷ []
 front_form k l e = rw e refl

@@ -3,10 +3,10 @@ use Rattle.std.proofs.Common.{◌≡◌, Option, Some, None, Result, Ok, Err, If
 use Rattle.std.proofs.lemmas.Bool.Decides.{nat_tests}
 use Rattle.std.specs.declared.alloc.AllocError.{AllocError}
 use Rattle.spv_table.specs.Table.{Table}
-use Rattle.spv_inst.specs.declared.agenda.Frame.{Frame}
-use Rattle.spv_inst.specs.declared.agenda.Frame.TheVariants.{Bits}
+use Rattle.spv_inst.specs.declared.pending.Frame.{Frame}
+use Rattle.spv_inst.specs.declared.pending.Frame.TheVariants.{Bits}
 use Rattle.spv_inst.specs.declared.reader.Slot as code
-use Rattle.spv_inst.specs.Agenda.{plain_slot, slots_of, parameters_from, frame_due, frames_due}
+use Rattle.spv_inst.specs.inner.Pending.{plain_slot, slots_of, parameters_from, frame_due, frames_due}
 use Rattle.spv_inst.specs.Flat.{Due, OneOf}
 use Rattle.spv_module.specs.Shape.{Slot}
 

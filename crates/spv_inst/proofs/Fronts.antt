@@ -5,8 +5,9 @@ use Rattle.spv_module.specs.Operand.{Plain, Context, and_then, after}
 use Rattle.spv_module.specs.Shape.{Slot, alone, AsParts, shape_of}
 use Rattle.spv_module.specs.Spelling.{Takes, Spells, SpellsAll}
 use Rattle.spv_module.specs.declared.fault.Rule.{Rule}
-use Rattle.spv_module.specs.Refusal.{Refuses, Stops, StopsAll, Misfit}
-use Rattle.spv_inst.specs.Flat.{Due, OneOf, ManyOf, due, Fails}
+use Rattle.spv_module.specs.Refusal.{ShapeRefuses, Stops, StopsAll, Misfit}
+use Rattle.spv_inst.specs.Flat.{Due, OneOf, ManyOf, due}
+use Rattle.spv_inst.specs.inner.Flat.{Fails}
 use Rattle.spv_inst.proofs.Joined.{after-append, map_due, only, split}
 
 -- the first of two lists of kinds stops, or it is spelled and the second stops
@@ -117,10 +118,10 @@ many_ends G c s k is _ _ _ u us e g (Ends.within ws a n f) =
     rw g (Misfit.many c k is u us a n (rw (e, g) at (one_stop G c s ws a n f)))
 many_ends G c s k is _ _ _ u us e g (Ends.beyond os ws vs a n p f) = Misfit.after_many c k is os ws vs a n (λ z. cc) (rw e at (only G c s os ws p)) f
 
-stop_here : (G : Table) (c : Context) (s s' : Slot) (ss : List Slot) (is : List Item) (us : List ℕ) (a : Rule) (n : ℕ) → s ≡ s' → Refuses (shape_of G c s) us a n
+stop_here : (G : Table) (c : Context) (s s' : Slot) (ss : List Slot) (is : List Item) (us : List ℕ) (a : Rule) (n : ℕ) → s ≡ s' → ShapeRefuses (shape_of G c s) us a n
     → Ends G c (s' ∷ ss) is us a n
 stop_here G c s s' ss is us a n e r =
-    let r' : Refuses (shape_of G c s') us a n = rw e at r in
+    let r' : ShapeRefuses (shape_of G c s') us a n = rw e at r in
     Ends.within us a n (StopsAll.first c s' ss us a n (Stops.here c s' us a n r'))
 
 slot_ends : (G : Table) (c : Context) (s s' : Slot) (ss : List Slot) (is : List Item) (us : List ℕ) (a : Rule) (n : ℕ) → s ≡ s' → Ends G c (s ∷ ss) is us a n

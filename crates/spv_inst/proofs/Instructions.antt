@@ -9,9 +9,9 @@ use Rattle.spv_module.specs.declared.fault.Stop.TheVariants.{Fault, Memory}
 use Rattle.spv_module.specs.Operand.{Plain, PlainInst, start}
 use Rattle.spv_module.specs.Spelling.{Match}
 use Rattle.spv_module.specs.Instruction.{IsInstruction, first_word}
-use Rattle.spv_module.specs.Dead.{IsDead}
-use Rattle.spv_inst.specs.Reading.{between}
-use Rattle.spv_inst.specs.Step.{IsMisfit, IsDeadFrom}
+use Rattle.spv_module.specs.Malformed.{IsMalformed}
+use Rattle.spv_inst.specs.inner.Reading.{between}
+use Rattle.spv_inst.specs.inner.Step.{IsMisfit, IsDeadFrom}
 use Rattle.spv_inst.proofs.Turns.{length-between}
 
 -- a count of words from a place on, of those that are there
@@ -64,22 +64,22 @@ whole_is ws at count opcode f =
 same_place : (at : ℕ) → at - at ≡ 0
 same_place at = omega arith
 
-pub dies_uncounted : (G : Table) (b : List PlainInst) (ws : List ℕ) (at head : ℕ) → at < length ws → head ≡ slice_index ws at → head / 65536 ≡ 0 → IsDead G b (drop at ws) I1 (at - at)
+pub dies_uncounted : (G : Table) (b : List PlainInst) (ws : List ℕ) (at head : ℕ) → at < length ws → head ≡ slice_index ws at → head / 65536 ≡ 0 → IsMalformed G b (drop at ws) I1 (at - at)
 dies_uncounted G b ws at head h e z =
     let s : head < 65536 = omega arith in
-    rw (same_place at, first_is ws at h, ← e) (IsDead.no_count head (drop (at + 1) ws) s)
+    rw (same_place at, first_is ws at h, ← e) (IsMalformed.no_count head (drop (at + 1) ws) s)
 
-pub dies_past : (G : Table) (b : List PlainInst) (ws : List ℕ) (at head : ℕ) → at < length ws → head ≡ slice_index ws at → length ws - at < head / 65536 → IsDead G b (drop at ws) I2 (at - at)
+pub dies_past : (G : Table) (b : List PlainInst) (ws : List ℕ) (at head : ℕ) → at < length ws → head ≡ slice_index ws at → length ws - at < head / 65536 → IsMalformed G b (drop at ws) I2 (at - at)
 dies_past G b ws at head h e z =
     let s : head % 65536 < 65536 = omega arith in
     let l = length-drop (at + 1) ws in
     let n : length (drop (at + 1) ws) + 1 < head / 65536 = omega arith in
     let f : slice_index ws at ≡ 65536 * (head / 65536) + head % 65536 = omega arith in
-    rw (same_place at, first_is ws at h, f) (IsDead.past_end (head / 65536) (head % 65536) (drop (at + 1) ws) s n)
+    rw (same_place at, first_is ws at h, f) (IsMalformed.past_end (head / 65536) (head % 65536) (drop (at + 1) ws) s n)
 
-pub dies_unknown : (G : Table) (b : List PlainInst) (ws : List ℕ) (at count opcode : ℕ) → Front ws at count opcode → opcode < 65536 → None ≡ entry_of G opcode → IsDead G b (drop at ws) I3 (at - at)
+pub dies_unknown : (G : Table) (b : List PlainInst) (ws : List ℕ) (at count opcode : ℕ) → Front ws at count opcode → opcode < 65536 → None ≡ entry_of G opcode → IsMalformed G b (drop at ws) I3 (at - at)
 dies_unknown G b ws at count opcode f h e =
-    rw (same_place at, front_is ws at count opcode f) (IsDead.no_entry opcode (between ws (at + 1) (at + count)) (drop (at + count) ws) h (sym e))
+    rw (same_place at, front_is ws at count opcode f) (IsMalformed.no_entry opcode (between ws (at + 1) (at + count)) (drop (at + count) ws) h (sym e))
 
 pub dies_misfit : (G : Table) (b : List PlainInst) (ws : List ℕ) (at count opcode : ℕ) (entry : Entry) (number : ℕ) (e : Stop) → Front ws at count opcode → opcode < 65536 → Some entry ≡ entry_of G opcode
     → IsMisfit G (start b opcode) (pattern_of entry) (between ws (at + 1) (at + count)) number (at + 1) e → IsDeadFrom G b ws number at e
@@ -87,7 +87,7 @@ dies_misfit G b ws at count opcode entry number Memory f h k m = tt
 dies_misfit G b ws at count opcode entry number (Fault x) f h k m =
     let i = m.1 in
     let e : 1 + (x.word - (at + 1)) ≡ x.word - at = omega arith in
-    (m.0, omega arith, rw (front_is ws at count opcode f, ← e) (IsDead.misfit opcode (between ws (at + 1) (at + count)) (drop (at + count) ws) entry x.rule (x.word - (at + 1)) h (sym k) m.2))
+    (m.0, omega arith, rw (front_is ws at count opcode f, ← e) (IsMalformed.misfit opcode (between ws (at + 1) (at + count)) (drop (at + count) ws) entry x.rule (x.word - (at + 1)) h (sym k) m.2))
 
 pub is_instruction : (G : Table) (b : List PlainInst) (ws : List ℕ) (at count opcode : ℕ) (entry : Entry) (os : List Plain) → Front ws at count opcode → opcode < 65536 → count < 65536
     → Some entry ≡ entry_of G opcode → Match G (start b opcode) (pattern_of entry) os (between ws (at + 1) (at + count))

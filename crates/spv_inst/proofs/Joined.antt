@@ -5,8 +5,9 @@ use Rattle.spv_module.specs.Operand.{Plain, Context, and_then, after}
 use Rattle.spv_module.specs.Shape.{Slot, alone, AsParts, shape_of}
 use Rattle.spv_module.specs.Spelling.{Takes, Spells, operand, parts, SpellsAll, none, more, Match}
 use Rattle.spv_module.specs.Spelling as spelling
-use Rattle.spv_inst.specs.Flat.{Due, OneOf, MaybeOf, ManyOf, due, Matches}
-use Rattle.spv_inst.specs.Flat as flat
+use Rattle.spv_inst.specs.Flat.{Due, OneOf, MaybeOf, ManyOf, due}
+use Rattle.spv_inst.specs.inner.Flat.{Matches}
+use Rattle.spv_inst.specs.inner.Flat as flat_inner
 
 pub after-append : (c : Context) (os ps : List Plain) → after c (os ++ ps) ≡ after (after c os) ps
 after-append c [] ps = refl
@@ -16,9 +17,9 @@ mutual
   pub spells_flat : (G : Table) (c : Context) (s : Slot) (os : List Plain) (us : List ℕ) → Spells G c s os us
       → (ds : List Due) (ps : List Plain) (vs : List ℕ) → Matches G (after c os) ds ps vs → Matches G c (OneOf s ∷ ds) (os ++ ps) (us ++ vs)
   spells_flat G _ _ _ _ (operand c s o ws ss os us t a) ds ps vs m =
-      rw (append_assoc ws us vs) (flat.take c s ds o ws ss (os ++ ps) (us ++ vs) t (all_flat G (and_then c o) ss os us a ds ps vs m))
+      rw (append_assoc ws us vs) (flat_inner.take c s ds o ws ss (os ++ ps) (us ++ vs) t (all_flat G (and_then c o) ss os us a ds ps vs m))
   spells_flat G _ _ _ _ (parts c s ss os us h a) ds ps vs m =
-      flat.parts c s ds ss (os ++ ps) (us ++ vs) h (all_flat G c ss os us a ds ps vs m)
+      flat_inner.parts c s ds ss (os ++ ps) (us ++ vs) h (all_flat G c ss os us a ds ps vs m)
 
   pub all_flat : (G : Table) (c : Context) (ss : List Slot) (os : List Plain) (us : List ℕ) → SpellsAll G c ss os us
       → (ds : List Due) (ps : List Plain) (vs : List ℕ) → Matches G (after c os) ds ps vs → Matches G c (map OneOf ss ++ ds) (os ++ ps) (us ++ vs)
@@ -29,19 +30,19 @@ mutual
 
 flat_maybe : (G : Table) (c : Context) (s : Slot) (ds : List Due) (os : List Plain) (us : List ℕ) → us ≢ [] → Matches G c (OneOf s ∷ ds) os us → Matches G c (MaybeOf s ∷ ds) os us
 flat_maybe G c s ds os [] h m = absurd (h refl)
-flat_maybe G c s ds os (u ∷ us) h m = flat.maybe c s ds os u us m
+flat_maybe G c s ds os (u ∷ us) h m = flat_inner.maybe c s ds os u us m
 
 flat_many : (G : Table) (c : Context) (s : Slot) (ds : List Due) (os : List Plain) (us : List ℕ) → us ≢ [] → Matches G c (OneOf s ∷ ManyOf s ∷ ds) os us → Matches G c (ManyOf s ∷ ds) os us
 flat_many G c s ds os [] h m = absurd (h refl)
-flat_many G c s ds os (u ∷ us) h m = flat.many c s ds os u us m
+flat_many G c s ds os (u ∷ us) h m = flat_inner.many c s ds os u us m
 
 pub match_flat : (G : Table) (c : Context) (is : List Item) (os : List Plain) (us : List ℕ) → Match G c is os us → Matches G c (map due is) os us
-match_flat G _ _ _ _ (spelling.nothing c) = flat.end c
+match_flat G _ _ _ _ (spelling.nothing c) = flat_inner.end c
 match_flat G _ _ _ _ (spelling.one c k is os ps us vs a m) = spells_flat G c (alone k) os us a (map due is) ps vs (match_flat G (after c os) is ps vs m)
-match_flat G _ _ _ _ (spelling.no_maybe c k is os m) = flat.no_maybe c (alone k) (map due is) os (match_flat G c is os [] m)
+match_flat G _ _ _ _ (spelling.no_maybe c k is os m) = flat_inner.no_maybe c (alone k) (map due is) os (match_flat G c is os [] m)
 match_flat G _ _ _ _ (spelling.maybe c k is os ps us vs h a m) =
     flat_maybe G c (alone k) (map due is) (os ++ ps) (us ++ vs) h (spells_flat G c (alone k) os us a (map due is) ps vs (match_flat G (after c os) is ps vs m))
-match_flat G _ _ _ _ (spelling.no_many c k is os m) = flat.no_many c (alone k) (map due is) os (match_flat G c is os [] m)
+match_flat G _ _ _ _ (spelling.no_many c k is os m) = flat_inner.no_many c (alone k) (map due is) os (match_flat G c is os [] m)
 match_flat G _ _ _ _ (spelling.many c k is os ps us vs h a m) =
     flat_many G c (alone k) (map due is) (os ++ ps) (us ++ vs) h (spells_flat G c (alone k) os us a (ManyOf (alone k) ∷ map due is) ps vs (match_flat G (after c os) (Many k ∷ is) ps vs m))
 
@@ -163,67 +164,67 @@ pattern_only G c is os us m = record { front = []; back = os; words = []; rest =
 -- kinds in order and a pattern, from the flat form
 pub joined : (G : Table) (c : Context) (ds : List Due) (os : List Plain) (us : List ℕ) → Matches G c ds os us
     → (ss : List Slot) (is : List Item) → ds ≡ map OneOf ss ++ map due is → Parted G c ss is os us
-joined G _ _ _ _ (flat.end c) [] [] e = pattern_only G c [] [] [] (spelling.nothing c)
-joined G _ _ _ _ (flat.end c) [] (i ∷ is) e = cc
-joined G _ _ _ _ (flat.end c) (s ∷ ss) is e = cc
-joined G _ _ _ _ (flat.take c s ds o ws ts os us t m) [] [] e = cc
-joined G _ _ _ _ (flat.take c s ds o ws ts os us t m) [] (One k ∷ is) e =
+joined G _ _ _ _ (flat_inner.end c) [] [] e = pattern_only G c [] [] [] (spelling.nothing c)
+joined G _ _ _ _ (flat_inner.end c) [] (i ∷ is) e = cc
+joined G _ _ _ _ (flat_inner.end c) (s ∷ ss) is e = cc
+joined G _ _ _ _ (flat_inner.take c s ds o ws ts os us t m) [] [] e = cc
+joined G _ _ _ _ (flat_inner.take c s ds o ws ts os us t m) [] (One k ∷ is) e =
     let a : s ≡ alone k = cc in
     let b : ds ≡ map due is = cc in
     let r = joined G (and_then c o) (map OneOf ts ++ ds) os us m ts is (ap (λ zs. map OneOf ts ++ zs) b) in
     pattern_only G c (One k ∷ is) (o ∷ os) (ws ++ us) (put_one G c s k is o ws ts os us a t r)
-joined G _ _ _ _ (flat.take c s ds o ws ts os us t m) [] (Maybe k ∷ is) e = cc
-joined G _ _ _ _ (flat.take c s ds o ws ts os us t m) [] (Many k ∷ is) e = cc
-joined G _ _ _ _ (flat.take c s ds o ws ts os us t m) (s' ∷ ss) is e =
+joined G _ _ _ _ (flat_inner.take c s ds o ws ts os us t m) [] (Maybe k ∷ is) e = cc
+joined G _ _ _ _ (flat_inner.take c s ds o ws ts os us t m) [] (Many k ∷ is) e = cc
+joined G _ _ _ _ (flat_inner.take c s ds o ws ts os us t m) (s' ∷ ss) is e =
     let a : s ≡ s' = cc in
     let b : ds ≡ map OneOf ss ++ map due is = cc in
     let r = joined G (and_then c o) (map OneOf ts ++ ds) os us m (ts ++ ss) is (ap (λ zs. map OneOf ts ++ zs) b ∙ map_due ts ss (map due is)) in
     put_more G c s s' ss is o ws ts os us a t r
-joined G _ _ _ _ (flat.parts c s ds ts os us h m) [] [] e = cc
-joined G _ _ _ _ (flat.parts c s ds ts os us h m) [] (One k ∷ is) e =
+joined G _ _ _ _ (flat_inner.parts c s ds ts os us h m) [] [] e = cc
+joined G _ _ _ _ (flat_inner.parts c s ds ts os us h m) [] (One k ∷ is) e =
     let a : s ≡ alone k = cc in
     let b : ds ≡ map due is = cc in
     let r = joined G c (map OneOf ts ++ ds) os us m ts is (ap (λ zs. map OneOf ts ++ zs) b) in
     pattern_only G c (One k ∷ is) os us (put_one_parts G c s k is ts os us a h r)
-joined G _ _ _ _ (flat.parts c s ds ts os us h m) [] (Maybe k ∷ is) e = cc
-joined G _ _ _ _ (flat.parts c s ds ts os us h m) [] (Many k ∷ is) e = cc
-joined G _ _ _ _ (flat.parts c s ds ts os us h m) (s' ∷ ss) is e =
+joined G _ _ _ _ (flat_inner.parts c s ds ts os us h m) [] (Maybe k ∷ is) e = cc
+joined G _ _ _ _ (flat_inner.parts c s ds ts os us h m) [] (Many k ∷ is) e = cc
+joined G _ _ _ _ (flat_inner.parts c s ds ts os us h m) (s' ∷ ss) is e =
     let a : s ≡ s' = cc in
     let b : ds ≡ map OneOf ss ++ map due is = cc in
     let r = joined G c (map OneOf ts ++ ds) os us m (ts ++ ss) is (ap (λ zs. map OneOf ts ++ zs) b ∙ map_due ts ss (map due is)) in
     put_more_parts G c s s' ss is ts os us a h r
-joined G _ _ _ _ (flat.no_maybe c s ds os m) [] [] e = cc
-joined G _ _ _ _ (flat.no_maybe c s ds os m) [] (One k ∷ is) e = cc
-joined G _ _ _ _ (flat.no_maybe c s ds os m) [] (Maybe k ∷ is) e =
+joined G _ _ _ _ (flat_inner.no_maybe c s ds os m) [] [] e = cc
+joined G _ _ _ _ (flat_inner.no_maybe c s ds os m) [] (One k ∷ is) e = cc
+joined G _ _ _ _ (flat_inner.no_maybe c s ds os m) [] (Maybe k ∷ is) e =
     let b : ds ≡ map due is = cc in
     pattern_only G c (Maybe k ∷ is) os [] (spelling.no_maybe c k is os (rest_only G c is os [] (joined G c ds os [] m [] is b)))
-joined G _ _ _ _ (flat.no_maybe c s ds os m) [] (Many k ∷ is) e = cc
-joined G _ _ _ _ (flat.no_maybe c s ds os m) (s' ∷ ss) is e = cc
-joined G _ _ _ _ (flat.maybe c s ds os u us m) [] [] e = cc
-joined G _ _ _ _ (flat.maybe c s ds os u us m) [] (One k ∷ is) e = cc
-joined G _ _ _ _ (flat.maybe c s ds os u us m) [] (Maybe k ∷ is) e =
+joined G _ _ _ _ (flat_inner.no_maybe c s ds os m) [] (Many k ∷ is) e = cc
+joined G _ _ _ _ (flat_inner.no_maybe c s ds os m) (s' ∷ ss) is e = cc
+joined G _ _ _ _ (flat_inner.maybe c s ds os u us m) [] [] e = cc
+joined G _ _ _ _ (flat_inner.maybe c s ds os u us m) [] (One k ∷ is) e = cc
+joined G _ _ _ _ (flat_inner.maybe c s ds os u us m) [] (Maybe k ∷ is) e =
     let a : s ≡ alone k = cc in
     let b : ds ≡ map due is = cc in
     let r = joined G c (OneOf s ∷ ds) os (u ∷ us) m (s ∷ []) is (ap (λ zs. OneOf s ∷ zs) b) in
     pattern_only G c (Maybe k ∷ is) os (u ∷ us) (put_maybe G c s k is os u us a r)
-joined G _ _ _ _ (flat.maybe c s ds os u us m) [] (Many k ∷ is) e = cc
-joined G _ _ _ _ (flat.maybe c s ds os u us m) (s' ∷ ss) is e = cc
-joined G _ _ _ _ (flat.no_many c s ds os m) [] [] e = cc
-joined G _ _ _ _ (flat.no_many c s ds os m) [] (One k ∷ is) e = cc
-joined G _ _ _ _ (flat.no_many c s ds os m) [] (Maybe k ∷ is) e = cc
-joined G _ _ _ _ (flat.no_many c s ds os m) [] (Many k ∷ is) e =
+joined G _ _ _ _ (flat_inner.maybe c s ds os u us m) [] (Many k ∷ is) e = cc
+joined G _ _ _ _ (flat_inner.maybe c s ds os u us m) (s' ∷ ss) is e = cc
+joined G _ _ _ _ (flat_inner.no_many c s ds os m) [] [] e = cc
+joined G _ _ _ _ (flat_inner.no_many c s ds os m) [] (One k ∷ is) e = cc
+joined G _ _ _ _ (flat_inner.no_many c s ds os m) [] (Maybe k ∷ is) e = cc
+joined G _ _ _ _ (flat_inner.no_many c s ds os m) [] (Many k ∷ is) e =
     let b : ds ≡ map due is = cc in
     pattern_only G c (Many k ∷ is) os [] (spelling.no_many c k is os (rest_only G c is os [] (joined G c ds os [] m [] is b)))
-joined G _ _ _ _ (flat.no_many c s ds os m) (s' ∷ ss) is e = cc
-joined G _ _ _ _ (flat.many c s ds os u us m) [] [] e = cc
-joined G _ _ _ _ (flat.many c s ds os u us m) [] (One k ∷ is) e = cc
-joined G _ _ _ _ (flat.many c s ds os u us m) [] (Maybe k ∷ is) e = cc
-joined G _ _ _ _ (flat.many c s ds os u us m) [] (Many k ∷ is) e =
+joined G _ _ _ _ (flat_inner.no_many c s ds os m) (s' ∷ ss) is e = cc
+joined G _ _ _ _ (flat_inner.many c s ds os u us m) [] [] e = cc
+joined G _ _ _ _ (flat_inner.many c s ds os u us m) [] (One k ∷ is) e = cc
+joined G _ _ _ _ (flat_inner.many c s ds os u us m) [] (Maybe k ∷ is) e = cc
+joined G _ _ _ _ (flat_inner.many c s ds os u us m) [] (Many k ∷ is) e =
     let a : s ≡ alone k = cc in
     let b : ManyOf s ∷ ds ≡ ManyOf (alone k) ∷ map due is = e in
     let r = joined G c (OneOf s ∷ ManyOf s ∷ ds) os (u ∷ us) m (s ∷ []) (Many k ∷ is) (ap (λ zs. OneOf s ∷ zs) b) in
     pattern_only G c (Many k ∷ is) os (u ∷ us) (put_many G c s k is os u us a r)
-joined G _ _ _ _ (flat.many c s ds os u us m) (s' ∷ ss) is e = cc
+joined G _ _ _ _ (flat_inner.many c s ds os u us m) (s' ∷ ss) is e = cc
 
 pub flat_match : (G : Table) (c : Context) (is : List Item) (os : List Plain) (us : List ℕ) → Matches G c (map due is) os us → Match G c is os us
 flat_match G c is os us m = rest_only G c is os us (joined G c (map due is) os us m [] is refl)

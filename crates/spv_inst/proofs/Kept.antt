@@ -1,10 +1,11 @@
 -- What is kept of the definitions, after one instruction more.
 use Rattle.std.proofs.Common.{◌≡◌, ◌++◌, ◌∷◌, [], ◌∙◌, sym, ℕ, List, Option, Some, None, Bool, true, false, cond, refl, ap}
 use Rattle.std.specs.Prelude.{Result, Ok, Err, OnOk, option_map, nat_eq, if◌then◌else◌}
+use Rattle.spv_inst.specs.declared.definitions.Definition.{Definition}
 use Rattle.spv_inst.specs.declared.definitions.Definitions.{Definitions}
 use Rattle.spv_module.specs.Operand.{PlainInst, result_in, type_in}
 use Rattle.spv_module.specs.Width.{definition_of, declared_width, has_result, or_else}
-use Rattle.spv_inst.specs.Known.{Knows, summary, kept}
+use Rattle.spv_inst.specs.inner.Known.{Knows, summary, kept}
 
 or_none : (a : Option PlainInst) → or_else a None ≡ a
 or_none None = refl
@@ -34,13 +35,17 @@ summary_more true i o = refl
 summary_more false i o = refl
 
 -- an instruction with a result
-pub more_kept : (d e : Definitions) (before : List PlainInst) (i : PlainInst) (r : ℕ) (t w : Option ℕ) → result_in i.operands ≡ Some r → t ≡ type_in i.operands → w ≡ declared_width i
-    → ((x : ℕ) → kept e x ≡ cond (nat_eq r x) (Some (record { type_id = t; width = w })) (kept d x))
+pub more_kept : (d e : Definitions) (before : List PlainInst) (i : PlainInst) (r : ℕ) (n : Definition) → result_in i.operands ≡ Some r → n ≡ summary i
+    → ((x : ℕ) → kept e x ≡ cond (nat_eq r x) (Some n) (kept d x))
     → Knows d before → Knows e (before ++ i ∷ [])
-more_kept d e before i r t w f g h u k = record {
-  latest = λ x.
-      rw (definition_of_more before i x, f, summary_more (nat_eq r x) i (definition_of before x), ← g, ← h, ← k.latest x) (u x);
+more_kept d e before i r n f g u k = record {
+  latest = λ x. rw (definition_of_more before i x, f, summary_more (nat_eq r x) i (definition_of before x), ← g, ← k.latest x) (u x);
 }
+
+-- what is kept of an instruction of an opcode with a type and a width is its summary
+pub summary_is : (i : PlainInst) (opcode : ℕ) (t w : Option ℕ) → i.opcode ≡ opcode → type_in i.operands ≡ t → declared_width i ≡ w
+    → record { type_id = t; is_float = nat_eq opcode 22; width = w } ≡ summary i
+summary_is i opcode t w e f g = rw (← e, ← f, ← g) refl
 
 -- what follows from a call's answer
 pub on_ok : {T E : Type 0} (r : Result T E) (P Q : Type 0) → (P → Q) → OnOk r P → OnOk r Q

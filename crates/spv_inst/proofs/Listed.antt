@@ -8,15 +8,15 @@ use Rattle.spv_table.specs.Table.{Table}
 use Rattle.spv_inst.specs.declared.definitions.Definitions.{Definitions}
 use Rattle.spv_module.specs.declared.module.Inst.{Inst}
 use Rattle.spv_module.specs.declared.module.Module.{Module}
-use Rattle.spv_inst.specs.declared.obstacle.EncodeCode.{EncodeCode}
-use Rattle.spv_inst.specs.declared.obstacle.EncodeCode.TheVariants.{N1, N2, N3, N4}
+use Rattle.spv_inst.specs.declared.encode_error.EncodeCode.{EncodeCode}
+use Rattle.spv_inst.specs.declared.encode_error.EncodeCode.TheVariants.{N1, N2, N3, N4}
 use Rattle.spv_module.specs.Operand.{PlainInst}
 use Rattle.spv_module.specs.Module.{plain_inst, plain_insts}
 use Rattle.spv_module.specs.Instruction.{IsInstruction, Listing, IsListing}
-use Rattle.spv_inst.specs.Known.{Knows}
+use Rattle.spv_inst.specs.inner.Known.{Knows}
 use Rattle.spv_inst.specs.Outcome.{IsHeaderOf}
-use Rattle.spv_inst.specs.Encoding.{Fits, Hinders, StopsAt, IsRefused}
-use Rattle.spv_inst.specs.Written.{Adds, IsWritten, HindersOrMemory, header_words, told}
+use Rattle.spv_inst.specs.Encoding.{HeaderFits, Prevents, StopsAt, RefusesModule}
+use Rattle.spv_inst.specs.inner.Written.{Adds, IsWritten, PreventsOrMemory, header_words, told}
 
 -- one instruction more
 pub listing_more : (G : Table) (b is : List PlainInst) (ws : List ℕ) (i : PlainInst) (vs : List ℕ) → Listing G b is ws → IsInstruction G (b ++ is) i vs → Listing G b (is ++ (i ∷ [])) (ws ++ vs)
@@ -105,7 +105,7 @@ whole insts i o x h e =
     ap (map plain_inst) g ∙ (map_append (take i insts) (drop i insts) ∙ ap (λ zs. map plain_inst (take i insts) ++ map plain_inst zs) k)
 
 stops : (G : Table) (m : Module) (d : Definitions) (draft : List ℕ) (i : ℕ) (o x : Inst) (code : EncodeCode) → Put G m.insts.items d m.header draft i → i < length m.insts.items → o ≡ get_or m.insts.items i x
-    → Hinders code G (map plain_inst (take i m.insts.items)) (length draft) (plain_inst o) → StopsAt G (plain_insts m) code i
+    → Prevents code G (map plain_inst (take i m.insts.items)) (length draft) (plain_inst o) → StopsAt G (plain_insts m) code i
 stops G m d draft i o x code p h e s =
     let n = put_length G m.insts.items d m.header draft i p in
     let q = p.short in
@@ -118,12 +118,12 @@ stops G m d draft i o x code p h e s =
       number = map_length (take i m.insts.items) ∙ length-take-le i m.insts.items (omega arith);
       spelled = p.spelled;
       short = omega arith;
-      hindered = rw n at s;
+      prevented = rw n at s;
     }
 
 -- an instruction that is hindered, or want of memory
-pub put_refused : (G : Table) (m : Module) (d : Definitions) (draft : List ℕ) (i : ℕ) (o x : Inst) (code : EncodeCode) → Put G m.insts.items d m.header draft i → Fits m.header → i < length m.insts.items → o ≡ get_or m.insts.items i x
-    → HindersOrMemory code G (map plain_inst (take i m.insts.items)) (length draft) (plain_inst o) → IsRefused code G m (told code i)
+pub put_refused : (G : Table) (m : Module) (d : Definitions) (draft : List ℕ) (i : ℕ) (o x : Inst) (code : EncodeCode) → Put G m.insts.items d m.header draft i → HeaderFits m.header → i < length m.insts.items → o ≡ get_or m.insts.items i x
+    → PreventsOrMemory code G (map plain_inst (take i m.insts.items)) (length draft) (plain_inst o) → RefusesModule code G m (told code i)
 put_refused G m d draft i o x N1 p f h e s = absurd s
 put_refused G m d draft i o x N2 p f h e s = (f, stops G m d draft i o x N2 p h e s)
 put_refused G m d draft i o x N3 p f h e s = (f, stops G m d draft i o x N3 p h e s)
@@ -133,7 +133,7 @@ put_refused G m d draft i o x N4 p f h e s = refl
 pub written_header : (G : Table) (m : Module) (words : List ℕ) → IsWritten G m words → IsHeaderOf words m.header
 written_header G m words w = let f = w.front in rw f (record { version = refl; generator = refl; bound = refl; schema = refl })
 
-pub written_fits : (G : Table) (m : Module) (words : List ℕ) → IsWritten G m words → Fits m.header → IsHeader words
+pub written_fits : (G : Table) (m : Module) (words : List ℕ) → IsWritten G m words → HeaderFits m.header → IsHeader words
 written_fits G m words w f =
     let e = w.front in
     rw e (record { five = omega arith; magic = refl; version = f.version; bound_least = f.bound_least; bound_most = f.bound_most; schema = f.schema })

@@ -7,7 +7,7 @@ use Rattle.spv_module.specs.Spelling.{Match}
 use Rattle.spv_module.specs.Instruction.{IsInstruction, first_word, Listing}
 use Rattle.spv_module.specs.declared.fault.Rule.{Rule}
 use Rattle.spv_module.specs.Refusal.{Misfit}
-use Rattle.spv_module.specs.Dead.{IsDead, DiesAt}
+use Rattle.spv_module.specs.Malformed.{IsMalformed, FailsAt}
 use Rattle.spv_inst.specs.Flat.{due}
 use Rattle.spv_inst.proofs.Texts.{parts_same}
 use Rattle.spv_inst.proofs.Flat.{unique, spelled_once}
@@ -68,27 +68,27 @@ no_count_first p q us xs ys h e = let w : p ≡ 65536 * (length xs + 1) + q = cc
 no_count_past : (p q c : ℕ) (us xs : List ℕ) → p < 65536 → length xs + 1 < c → p ∷ us ≡ (65536 * c + q) ∷ xs → ⊥
 no_count_past p q c us xs h l e = let w : p ≡ 65536 * c + q = cc in omega arith
 
-pub dead_same : (G : Table) (before : List PlainInst) (ws vs : List ℕ) (a b : Rule) (n m : ℕ) → IsDead G before ws a n → IsDead G before vs b m → ws ≡ vs → SameRefusal a b n m
-dead_same G before _ _ _ _ _ _ (IsDead.no_count p us h) (IsDead.no_count q vs g) e = record { code = refl; place = refl }
-dead_same G before _ _ _ _ _ _ (IsDead.no_count p us h) (IsDead.past_end c q vs g l) e = absurd (no_count_past p q c us vs h l e)
-dead_same G before _ _ _ _ _ _ (IsDead.no_count p us h) (IsDead.no_entry q vs xs g x) e = absurd (no_count_first p q us vs xs h e)
-dead_same G before _ _ _ _ _ _ (IsDead.no_count p us h) (IsDead.misfit q vs xs y b m g x f) e = absurd (no_count_first p q us vs xs h e)
-dead_same G before _ _ _ _ _ _ (IsDead.past_end c p us h l) (IsDead.no_count q vs g) e = absurd (no_count_past q p c vs us g l (sym e))
-dead_same G before _ _ _ _ _ _ (IsDead.past_end c p us h l) (IsDead.past_end d q vs g k) e = record { code = refl; place = refl }
-dead_same G before _ _ _ _ _ _ (IsDead.past_end c p us h l) (IsDead.no_entry q vs xs g x) e = absurd (passes c p q us vs xs h g l e)
-dead_same G before _ _ _ _ _ _ (IsDead.past_end c p us h l) (IsDead.misfit q vs xs y b m g x f) e = absurd (passes c p q us vs xs h g l e)
-dead_same G before _ _ _ _ _ _ (IsDead.no_entry p us xs h x) (IsDead.no_count q vs g) e = absurd (no_count_first q p vs us xs g (sym e))
-dead_same G before _ _ _ _ _ _ (IsDead.no_entry p us xs h x) (IsDead.past_end d q vs g k) e = absurd (passes d q p vs us xs g h k (sym e))
-dead_same G before _ _ _ _ _ _ (IsDead.no_entry p us xs h x) (IsDead.no_entry q vs ys g y) e = record { code = refl; place = refl }
-dead_same G before _ _ _ _ _ _ (IsDead.no_entry p us xs h x) (IsDead.misfit q vs ys z b m g y f) e =
+pub dead_same : (G : Table) (before : List PlainInst) (ws vs : List ℕ) (a b : Rule) (n m : ℕ) → IsMalformed G before ws a n → IsMalformed G before vs b m → ws ≡ vs → SameRefusal a b n m
+dead_same G before _ _ _ _ _ _ (IsMalformed.no_count p us h) (IsMalformed.no_count q vs g) e = record { code = refl; place = refl }
+dead_same G before _ _ _ _ _ _ (IsMalformed.no_count p us h) (IsMalformed.past_end c q vs g l) e = absurd (no_count_past p q c us vs h l e)
+dead_same G before _ _ _ _ _ _ (IsMalformed.no_count p us h) (IsMalformed.no_entry q vs xs g x) e = absurd (no_count_first p q us vs xs h e)
+dead_same G before _ _ _ _ _ _ (IsMalformed.no_count p us h) (IsMalformed.misfit q vs xs y b m g x f) e = absurd (no_count_first p q us vs xs h e)
+dead_same G before _ _ _ _ _ _ (IsMalformed.past_end c p us h l) (IsMalformed.no_count q vs g) e = absurd (no_count_past q p c vs us g l (sym e))
+dead_same G before _ _ _ _ _ _ (IsMalformed.past_end c p us h l) (IsMalformed.past_end d q vs g k) e = record { code = refl; place = refl }
+dead_same G before _ _ _ _ _ _ (IsMalformed.past_end c p us h l) (IsMalformed.no_entry q vs xs g x) e = absurd (passes c p q us vs xs h g l e)
+dead_same G before _ _ _ _ _ _ (IsMalformed.past_end c p us h l) (IsMalformed.misfit q vs xs y b m g x f) e = absurd (passes c p q us vs xs h g l e)
+dead_same G before _ _ _ _ _ _ (IsMalformed.no_entry p us xs h x) (IsMalformed.no_count q vs g) e = absurd (no_count_first q p vs us xs g (sym e))
+dead_same G before _ _ _ _ _ _ (IsMalformed.no_entry p us xs h x) (IsMalformed.past_end d q vs g k) e = absurd (passes d q p vs us xs g h k (sym e))
+dead_same G before _ _ _ _ _ _ (IsMalformed.no_entry p us xs h x) (IsMalformed.no_entry q vs ys g y) e = record { code = refl; place = refl }
+dead_same G before _ _ _ _ _ _ (IsMalformed.no_entry p us xs h x) (IsMalformed.misfit q vs ys z b m g y f) e =
     let r = head_same p q us xs vs ys h g e in
     let x' : entry_of G q ≡ None = rw r.opcode at x in cc
-dead_same G before _ _ _ _ _ _ (IsDead.misfit p us xs z a n h x f) (IsDead.no_count q vs g) e = absurd (no_count_first q p vs us xs g (sym e))
-dead_same G before _ _ _ _ _ _ (IsDead.misfit p us xs z a n h x f) (IsDead.past_end d q vs g k) e = absurd (passes d q p vs us xs g h k (sym e))
-dead_same G before _ _ _ _ _ _ (IsDead.misfit p us xs z a n h x f) (IsDead.no_entry q vs ys g y) e =
+dead_same G before _ _ _ _ _ _ (IsMalformed.misfit p us xs z a n h x f) (IsMalformed.no_count q vs g) e = absurd (no_count_first q p vs us xs g (sym e))
+dead_same G before _ _ _ _ _ _ (IsMalformed.misfit p us xs z a n h x f) (IsMalformed.past_end d q vs g k) e = absurd (passes d q p vs us xs g h k (sym e))
+dead_same G before _ _ _ _ _ _ (IsMalformed.misfit p us xs z a n h x f) (IsMalformed.no_entry q vs ys g y) e =
     let r = head_same p q us xs vs ys h g e in
     let x' : entry_of G q ≡ Some z = rw r.opcode at x in cc
-dead_same G before _ _ _ _ _ _ (IsDead.misfit p us xs z a n h x f) (IsDead.misfit q vs ys w b m g y k) e =
+dead_same G before _ _ _ _ _ _ (IsMalformed.misfit p us xs z a n h x f) (IsMalformed.misfit q vs ys w b m g y k) e =
     let r = head_same p q us xs vs ys h g e in
     let same = entry_same G p q z w r.opcode x y in
     let k' = misfit_moved G before p q z w us vs b m r.opcode same r.further k in
@@ -145,17 +145,17 @@ instruction_nonempty G before i ws us a e =
     let f = sym (joined_first i.opcode ws a.further us a.spelled) ∙ e in cc
 
 pub instruction_not_dead : (G : Table) (before : List PlainInst) (i : PlainInst) (ws us vs : List ℕ) (a : Rule) (n : ℕ)
-    → IsInstruction G before i ws → IsDead G before vs a n → ws ++ us ≡ vs → ⊥
-instruction_not_dead G before i ws us _ _ _ a (IsDead.no_count q vs g) e =
+    → IsInstruction G before i ws → IsMalformed G before vs a n → ws ++ us ≡ vs → ⊥
+instruction_not_dead G before i ws us _ _ _ a (IsMalformed.no_count q vs g) e =
     let f = sym (joined_first i.opcode ws a.further us a.spelled) ∙ e in no_count_first q i.opcode vs a.further us g (sym f)
-instruction_not_dead G before i ws us _ _ _ a (IsDead.past_end d q vs g k) e =
+instruction_not_dead G before i ws us _ _ _ a (IsMalformed.past_end d q vs g k) e =
     let f = sym (joined_first i.opcode ws a.further us a.spelled) ∙ e in passes d q i.opcode vs a.further us g a.opcode k (sym f)
-instruction_not_dead G before i ws us _ _ _ a (IsDead.no_entry q vs ys g y) e =
+instruction_not_dead G before i ws us _ _ _ a (IsMalformed.no_entry q vs ys g y) e =
     let f = sym (joined_first i.opcode ws a.further us a.spelled) ∙ e in
     let r = head_same i.opcode q a.further us vs ys a.opcode g f in
     let x = a.known in
     let x' : entry_of G q ≡ Some a.entry = rw r.opcode at x in cc
-instruction_not_dead G before i ws us _ _ _ a (IsDead.misfit q vs ys w b m g y k) e =
+instruction_not_dead G before i ws us _ _ _ a (IsMalformed.misfit q vs ys w b m g y k) e =
     let f = sym (joined_first i.opcode ws a.further us a.spelled) ∙ e in
     let r = head_same i.opcode q a.further us vs ys a.opcode g f in
     let n = entry_same G i.opcode q a.entry w r.opcode a.known y in
@@ -199,17 +199,17 @@ pub record SameDeath (a b : Rule) (k l n m : ℕ) : Type 0 where
   pub word : n ≡ m
 
 death_moved : (G : Table) (before : List PlainInst) (i j : PlainInst) (us : List ℕ) (a : Rule) (k n : ℕ) → i ≡ j
-    → DiesAt G (before ++ (j ∷ [])) us a k n → DiesAt G (before ++ (i ∷ [])) us a k n
+    → FailsAt G (before ++ (j ∷ [])) us a k n → FailsAt G (before ++ (i ∷ [])) us a k n
 death_moved G before i j us a k n e m = rw e m
 
-pub dies_same : (G : Table) (before : List PlainInst) (ws vs : List ℕ) (a b : Rule) (k l n m : ℕ) → DiesAt G before ws a k n → DiesAt G before vs b l m → ws ≡ vs
+pub dies_same : (G : Table) (before : List PlainInst) (ws vs : List ℕ) (a b : Rule) (k l n m : ℕ) → FailsAt G before ws a k n → FailsAt G before vs b l m → ws ≡ vs
     → SameDeath a b k l n m
-dies_same G _ _ _ _ _ _ _ _ _ (DiesAt.here before ws a n d) (DiesAt.here _ vs b m g) e =
+dies_same G _ _ _ _ _ _ _ _ _ (FailsAt.here before ws a n d) (FailsAt.here _ vs b m g) e =
     let r = dead_same G before ws vs a b n m d g e in
     record { code = r.code; inst = refl; word = r.place }
-dies_same G _ _ _ _ _ _ _ _ _ (DiesAt.here before ws a n d) (DiesAt.later _ j vs xs b l m g r) e = absurd (instruction_not_dead G before j vs xs ws a n g d (sym e))
-dies_same G _ _ _ _ _ _ _ _ _ (DiesAt.later before i ws us a k n d r) (DiesAt.here _ vs b m g) e = absurd (instruction_not_dead G before i ws us vs b m d g e)
-dies_same G _ _ _ _ _ _ _ _ _ (DiesAt.later before i ws us a k n d r) (DiesAt.later _ j vs xs b l m g q) e =
+dies_same G _ _ _ _ _ _ _ _ _ (FailsAt.here before ws a n d) (FailsAt.later _ j vs xs b l m g r) e = absurd (instruction_not_dead G before j vs xs ws a n g d (sym e))
+dies_same G _ _ _ _ _ _ _ _ _ (FailsAt.later before i ws us a k n d r) (FailsAt.here _ vs b m g) e = absurd (instruction_not_dead G before i ws us vs b m d g e)
+dies_same G _ _ _ _ _ _ _ _ _ (FailsAt.later before i ws us a k n d r) (FailsAt.later _ j vs xs b l m g q) e =
     let s = instruction_same G before i j ws vs us xs d g e in
     let t = dies_same G (before ++ (i ∷ [])) us xs a b k l n m r (death_moved G before i j xs b l m s.inst q) s.rest in
     let w : length ws ≡ length vs = ap length s.words in
@@ -217,13 +217,13 @@ dies_same G _ _ _ _ _ _ _ _ _ (DiesAt.later before i ws us a k n d r) (DiesAt.la
     let y = t.word in
     record { code = t.code; inst = omega arith; word = omega arith }
 
-pub dies_not : (G : Table) (before is : List PlainInst) (ws vs : List ℕ) (a : Rule) (k n : ℕ) → DiesAt G before ws a k n → Listing G before is vs → ws ≡ vs → ⊥
-dies_not G _ _ _ _ _ _ _ (DiesAt.here _ _ a n (IsDead.no_count p us h)) (Listing.end before) e = cc
-dies_not G _ _ _ _ _ _ _ (DiesAt.here _ _ a n (IsDead.past_end c p us h l)) (Listing.end before) e = cc
-dies_not G _ _ _ _ _ _ _ (DiesAt.here _ _ a n (IsDead.no_entry p us xs h x)) (Listing.end before) e = cc
-dies_not G _ _ _ _ _ _ _ (DiesAt.here _ _ a n (IsDead.misfit p us xs z b m h x f)) (Listing.end before) e = cc
-dies_not G _ _ _ _ _ _ _ (DiesAt.here before ws a n d) (Listing.more _ j js vs xs g m) e = instruction_not_dead G before j vs xs ws a n g d (sym e)
-dies_not G _ _ _ _ _ _ _ (DiesAt.later before i ws us a k n d r) (Listing.end _) e = instruction_nonempty G before i ws us d e
-dies_not G _ _ _ _ _ _ _ (DiesAt.later before i ws us a k n d r) (Listing.more _ j js vs xs g m) e =
+pub dies_not : (G : Table) (before is : List PlainInst) (ws vs : List ℕ) (a : Rule) (k n : ℕ) → FailsAt G before ws a k n → Listing G before is vs → ws ≡ vs → ⊥
+dies_not G _ _ _ _ _ _ _ (FailsAt.here _ _ a n (IsMalformed.no_count p us h)) (Listing.end before) e = cc
+dies_not G _ _ _ _ _ _ _ (FailsAt.here _ _ a n (IsMalformed.past_end c p us h l)) (Listing.end before) e = cc
+dies_not G _ _ _ _ _ _ _ (FailsAt.here _ _ a n (IsMalformed.no_entry p us xs h x)) (Listing.end before) e = cc
+dies_not G _ _ _ _ _ _ _ (FailsAt.here _ _ a n (IsMalformed.misfit p us xs z b m h x f)) (Listing.end before) e = cc
+dies_not G _ _ _ _ _ _ _ (FailsAt.here before ws a n d) (Listing.more _ j js vs xs g m) e = instruction_not_dead G before j vs xs ws a n g d (sym e)
+dies_not G _ _ _ _ _ _ _ (FailsAt.later before i ws us a k n d r) (Listing.end _) e = instruction_nonempty G before i ws us d e
+dies_not G _ _ _ _ _ _ _ (FailsAt.later before i ws us a k n d r) (Listing.more _ j js vs xs g m) e =
     let s = instruction_same G before i j ws vs us xs d g e in
     dies_not G (before ++ (i ∷ [])) js us xs a k n r (listing_moved G before i j js xs s.inst m) s.rest

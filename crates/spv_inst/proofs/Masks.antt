@@ -8,7 +8,7 @@ use Rattle.spv_table.specs.declared.table.Enumerant.{Enumerant}
 use Rattle.spv_table.specs.Table.{Table, Sort, kind_of, enumerant_of}
 use Rattle.spv_module.specs.Spelling.{bits_from, set_bits, parameters_of, parameters_of_all, mask_parameters}
 use Rattle.spv_inst.specs.Reading.{enumerants_at}
-use Rattle.spv_inst.specs.Agenda.{parameters_of_known, parameters_from}
+use Rattle.spv_inst.specs.inner.Pending.{parameters_of_known, parameters_from}
 
 -- is a bit of that value set in a mask
 abbrev is_set : ℕ → ℕ → Bool

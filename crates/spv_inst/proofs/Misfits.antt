@@ -6,7 +6,8 @@ use Rattle.spv_module.specs.Shape.{Slot, alone}
 use Rattle.spv_module.specs.Spelling.{Spells, SpellsAll}
 use Rattle.spv_module.specs.declared.fault.Rule.{Rule}
 use Rattle.spv_module.specs.Refusal.{Stops, StopsAll, Misfit}
-use Rattle.spv_inst.specs.Flat.{Due, OneOf, MaybeOf, ManyOf, due, Fails}
+use Rattle.spv_inst.specs.Flat.{Due, OneOf, MaybeOf, ManyOf, due}
+use Rattle.spv_inst.specs.inner.Flat.{Fails}
 use Rattle.spv_inst.proofs.Joined.{after-append}
 
 length_plus : (ws us : List ℕ) (n : ℕ) → length (ws ++ us) + n ≡ length ws + (length us + n)

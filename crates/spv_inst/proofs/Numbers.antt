@@ -4,8 +4,8 @@ use Rattle.spv_module.specs.Operand.{Number}
 use Rattle.spv_module.specs.Shape.{AsNumber}
 use Rattle.spv_module.specs.Spelling.{Takes}
 use Rattle.spv_module.specs.declared.fault.Rule.TheVariants.{I4, I11}
-use Rattle.spv_module.specs.Refusal.{Refuses}
-use Rattle.spv_inst.specs.Reading.{between}
+use Rattle.spv_module.specs.Refusal.{ShapeRefuses}
+use Rattle.spv_inst.specs.inner.Reading.{between}
 use Rattle.spv_inst.proofs.Between.{front, lone, take_one, take_two}
 
 pub narrow_taken : (k : ℕ) (width : Option ℕ) (w : ℕ) (ws : List ℕ) (at end x : ℕ) → width ≡ Some w → w ≤ 32 → at < end → end ≤ length ws → x ≡ slice_index ws at
@@ -17,9 +17,9 @@ pub wide_taken : (k : ℕ) (width : Option ℕ) (w : ℕ) (ws : List ℕ) (at en
 wide_taken k width w ws at end x y e n s l i j = rw (e, take_two ws at end x y s l i j) (Takes.wide w x y n)
 
 pub half_refused : (width : Option ℕ) (w : ℕ) (ws : List ℕ) (at end : ℕ) → width ≡ Some w → 32 < w → at < end → end - at < 2 → end ≤ length ws
-    → Refuses (AsNumber width) (between ws at end) I4 1
-half_refused width w ws at end e n h s l = rw (e, lone ws at end h s l) (Refuses.half w (slice_index ws at) n)
+    → ShapeRefuses (AsNumber width) (between ws at end) I4 1
+half_refused width w ws at end e n h s l = rw (e, lone ws at end h s l) (ShapeRefuses.half w (slice_index ws at) n)
 
 pub unknown_refused : (width : Option ℕ) (ws : List ℕ) (at end : ℕ) → width ≡ None → at < end → end ≤ length ws
-    → Refuses (AsNumber width) (between ws at end) I11 0
-unknown_refused width ws at end e h l = rw (e, front ws at end h l) (Refuses.no_width (slice_index ws at) (between ws (at + 1) end))
+    → ShapeRefuses (AsNumber width) (between ws at end) I11 0
+unknown_refused width ws at end e h l = rw (e, front ws at end h l) (ShapeRefuses.no_width (slice_index ws at) (between ws (at + 1) end))

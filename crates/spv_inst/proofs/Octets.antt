@@ -1,7 +1,7 @@
 -- The words of a text, four octets at a time.
 use Rattle.std.proofs.Common.{◌≡◌, ◌≤◌, ◌<◌, ◌++◌, ◌∙◌, ◌+◌, ◌-◌, ◌*◌, ℕ, List, [], ◌∷◌, length, drop, get_or, refl, ap, arith, append_assoc, length-drop, add-zero}
 use Rattle.std.proofs.lemmas.List.{drop_more, get_or-drop}
-use Rattle.spv_inst.specs.Written.{text_words}
+use Rattle.spv_inst.specs.inner.Written.{text_words}
 
 -- four octets more
 text_four : (t : List ℕ) (at : ℕ) → at + 4 ≤ length t

@@ -7,7 +7,7 @@ use Rattle.spv_table.specs.declared.table.Quantifier.TheVariants as quantifier
 use Rattle.spv_table.specs.Table.{quantified}
 use Rattle.spv_module.specs.Shape.{alone}
 use Rattle.spv_inst.specs.Flat.{Due, OneOf, ManyOf, due}
-use Rattle.spv_inst.specs.Agenda.{items_of, settled}
+use Rattle.spv_inst.specs.inner.Pending.{items_of, settled}
 
 -- what is due from a place of a pattern on
 abbrev pub due_from : List declared.Item → ℕ → List Due

@@ -11,10 +11,11 @@ use Rattle.spv_module.specs.Module.{plain_operand, plain_operands}
 use Rattle.spv_module.specs.Shape.{Slot, Shape, AsParts, shape_of}
 use Rattle.spv_module.specs.Refusal.{IsLeaf}
 use Rattle.spv_module.specs.Spelling.{Match}
-use Rattle.spv_inst.specs.Flat.{Due, OneOf, due, Matches}
-use Rattle.spv_inst.specs.Agenda.{LeadsTo, settled}
-use Rattle.spv_inst.specs.Known.{IsNear}
-use Rattle.spv_inst.specs.Written.{Steps, Stuck}
+use Rattle.spv_inst.specs.Flat.{Due, OneOf, due}
+use Rattle.spv_inst.specs.inner.Flat.{Matches}
+use Rattle.spv_inst.specs.inner.Pending.{LeadsTo, settled}
+use Rattle.spv_inst.specs.inner.Known.{IsNear}
+use Rattle.spv_inst.specs.inner.Written.{Steps, Stuck}
 use Rattle.spv_inst.proofs.Joined.{match_flat, flat_match}
 use Rattle.spv_inst.proofs.Walk.{Walk, walk_start, walk_settled, walk_settled_none, walk_opened, walk_operand, walk_end, walk_too_many, walk_too_few, walk_unfit}
 

@@ -3,9 +3,9 @@ use Rattle.std.proofs.Common.{◌≡◌, ◌≢◌, ◌++◌, ◌∙◌, ℕ, Li
 use Rattle.std.specs.List.{AllByRecursion}
 use Rattle.spv_module.specs.Operand.{Plain}
 use Rattle.spv_module.specs.Shape.{Slot, Shape, AsParts}
-use Rattle.spv_module.specs.Spelling.{octets_of, Holds, AreZeros, Takes, result_type, result, id, word, narrow, wide, text, value, mask}
+use Rattle.spv_module.specs.Spelling.{octets_of, HoldsText, AreZeros, Takes, result_type, result, id, word, narrow, wide, text, value, mask}
 use Rattle.spv_module.specs.declared.fault.Rule.{Rule}
-use Rattle.spv_module.specs.Refusal.{Refuses, IsLeaf, missing, half, unknown_value, unknown_bit, endless, padded, no_text, no_width, no_form}
+use Rattle.spv_module.specs.Refusal.{ShapeRefuses, IsLeaf, missing, half, unknown_value, unknown_bit, endless, padded, no_text, no_width, no_form}
 use Rattle.spv_inst.proofs.Texts.{text_same, octets-append}
 use Rattle.spv_inst.proofs.Takes.{text_nonempty}
 use Rattle.spv_inst.proofs.Flat.{nonempty-append}
@@ -14,13 +14,13 @@ zero_in : (t p : List ℕ) → AllByRecursion (λ b. b ≢ 0) (t ++ (0 ∷ p)) �
 zero_in [] p h = h.0 refl
 zero_in (x ∷ t) p h = zero_in t p h.1
 
-holds_zero : (ws t p us : List ℕ) → Holds ws t p → AllByRecursion (λ b. b ≢ 0) (octets_of (ws ++ us)) → ⊥
+holds_zero : (ws t p us : List ℕ) → HoldsText ws t p → AllByRecursion (λ b. b ≢ 0) (octets_of (ws ++ us)) → ⊥
 holds_zero ws t p us h a =
     let e : octets_of (ws ++ us) ≡ t ++ (0 ∷ (p ++ octets_of us)) =
     octets-append ws us ∙ (ap (λ zs. zs ++ octets_of us) h.octets ∙ append_assoc t (0 ∷ p) (octets_of us)) in
     zero_in t (p ++ octets_of us) (rw e at a)
 
-endless_text : (ws t p us vs : List ℕ) → Holds ws t p → AllByRecursion (λ b. b ≢ 0) (octets_of vs) → ws ++ us ≡ vs → ⊥
+endless_text : (ws t p us vs : List ℕ) → HoldsText ws t p → AllByRecursion (λ b. b ≢ 0) (octets_of vs) → ws ++ us ≡ vs → ⊥
 endless_text ws t p us vs h a e = holds_zero ws t p us h (rw (← e) at a)
 
 same_zeros : (p q : List ℕ) → p ≡ q → AreZeros p → AreZeros q
@@ -33,10 +33,10 @@ pub record SameRefusal (a b : Rule) (n m : ℕ) : Type 0 where
   pub code : a ≡ b
   pub place : n ≡ m
 
-nothing_left : (ws us t p : List ℕ) → Holds ws t p → [] ≡ ws ++ us → ⊥
+nothing_left : (ws us t p : List ℕ) → HoldsText ws t p → [] ≡ ws ++ us → ⊥
 nothing_left ws us t p h e = nonempty-append ws us (text_nonempty ws t p h) (sym e)
 
-pub refuse_same : (sh : Shape) (us vs : List ℕ) (a b : Rule) (n m : ℕ) → Refuses sh us a n → Refuses sh vs b m → us ≡ vs → SameRefusal a b n m
+pub refuse_same : (sh : Shape) (us vs : List ℕ) (a b : Rule) (n m : ℕ) → ShapeRefuses sh us a n → ShapeRefuses sh vs b m → us ≡ vs → SameRefusal a b n m
 refuse_same _ _ _ _ _ _ _ (missing sh h) (missing _ g) e = record { code = refl; place = refl }
 refuse_same _ _ _ _ _ _ _ (missing sh h) (half w x g) e = cc
 refuse_same _ _ _ _ _ _ _ (missing sh h) (unknown_value es x us g) e = cc
@@ -80,7 +80,7 @@ taken_nothing : (ws us : List ℕ) → ws ≢ [] → ws ++ us ≡ [] → ⊥
 taken_nothing ws us h e = nonempty-append ws us h e
 
 pub takes_refuses : (k : ℕ) (sh : Shape) (o : Plain) (ws : List ℕ) (ss : List Slot) (us vs : List ℕ) (a : Rule) (n : ℕ)
-    → Takes k sh o ws ss → Refuses sh vs a n → ws ++ us ≡ vs → ⊥
+    → Takes k sh o ws ss → ShapeRefuses sh vs a n → ws ++ us ≡ vs → ⊥
 takes_refuses k _ _ _ _ us _ _ _ (result_type x) (missing _ h) e = cc
 takes_refuses k _ _ _ _ us _ _ _ (result x) (missing _ h) e = cc
 takes_refuses k _ _ _ _ us _ _ _ (id x) (missing _ h) e = cc
@@ -103,7 +103,7 @@ takes_refuses k _ _ _ _ us _ _ _ (mask es x ks g) (unknown_bit _ y vs h) e = let
 parts_leaf : (sh : Shape) (ts : List Slot) → sh ≡ AsParts ts → IsLeaf sh → ⊥
 parts_leaf sh ts e h = rw e at h
 
-pub parts_refuse : (sh : Shape) (us : List ℕ) (a : Rule) (n : ℕ) (ts : List Slot) → sh ≡ AsParts ts → Refuses sh us a n → ⊥
+pub parts_refuse : (sh : Shape) (us : List ℕ) (a : Rule) (n : ℕ) (ts : List Slot) → sh ≡ AsParts ts → ShapeRefuses sh us a n → ⊥
 parts_refuse _ _ _ _ ts e (missing sh h) = parts_leaf sh ts e h
 parts_refuse _ _ _ _ ts e (half w x g) = cc
 parts_refuse _ _ _ _ ts e (unknown_value es x us g) = cc

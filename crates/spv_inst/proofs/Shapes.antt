@@ -11,7 +11,7 @@ use Rattle.spv_inst.specs.declared.form.Form.{Form}
 use Rattle.spv_inst.specs.declared.form.Form.TheVariants.{Leaf, Parts}
 use Rattle.spv_module.specs.Operand.{Context}
 use Rattle.spv_module.specs.Width.{context_width, switch_width}
-use Rattle.spv_inst.specs.Form.{category_form, form_at}
+use Rattle.spv_inst.specs.inner.Form.{category_form, form_at}
 use Rattle.spv_module.specs.Shape.{Slot, Shape, AsType, AsResult, AsId, AsWord, AsNumber, AsText, AsValue, AsMask, AsParts, AsNothing, integer_shape, category_shape, kind_shape, shape_of}
 use Rattle.spv_module.specs.Refusal.{IsLeaf}
 use Rattle.spv_inst.specs.Reading.{enumerants_at}

@@ -5,9 +5,10 @@ use Rattle.spv_module.specs.Operand.{Plain, Context, and_then, after}
 use Rattle.spv_module.specs.Shape.{Slot, AsParts, shape_of}
 use Rattle.spv_module.specs.Spelling.{Takes}
 use Rattle.spv_module.specs.declared.fault.Rule.{Rule}
-use Rattle.spv_module.specs.Refusal.{Refuses}
-use Rattle.spv_inst.specs.Sofar.{Sofar}
-use Rattle.spv_inst.specs.Flat.{Due, OneOf, MaybeOf, ManyOf, Matches, Fails}
+use Rattle.spv_module.specs.Refusal.{ShapeRefuses}
+use Rattle.spv_inst.specs.inner.Sofar.{Sofar}
+use Rattle.spv_inst.specs.Flat.{Due, OneOf, MaybeOf, ManyOf}
+use Rattle.spv_inst.specs.inner.Flat.{Matches, Fails}
 use Rattle.spv_inst.proofs.Joined.{after-append}
 
 abbrev context_of : Context → List Plain → Context
@@ -78,5 +79,5 @@ at_end G c pattern words out taken k = rw append-nil at (k.matched [] (Matches.e
 
 -- a refusal
 pub at_refusal : (G : Table) (c : Context) (pattern : List Due) (words : List ℕ) (out : List Plain) (s : Slot) (ds : List Due) (us : List ℕ) (taken : ℕ) (a : Rule) (n : ℕ)
-    → Sofar G c pattern words out (OneOf s ∷ ds) us taken → Refuses (shape_of G (after c out) s) us a n → Fails G c pattern words a (taken + n)
+    → Sofar G c pattern words out (OneOf s ∷ ds) us taken → ShapeRefuses (shape_of G (after c out) s) us a n → Fails G c pattern words a (taken + n)
 at_refusal G c pattern words out s ds us taken a n k r = k.failed a n (Fails.refused (after c out) s ds us a n r)

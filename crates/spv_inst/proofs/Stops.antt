@@ -5,16 +5,16 @@ use Rattle.spv_words.specs.Header.{IsHeader}
 use Rattle.spv_table.specs.declared.table.Entry.{Entry}
 use Rattle.spv_table.specs.Table.{Table, entry_of, pattern_of}
 use Rattle.spv_module.specs.declared.module.Module.{Module}
-use Rattle.spv_inst.specs.declared.obstacle.EncodeCode.{EncodeCode}
-use Rattle.spv_inst.specs.declared.obstacle.EncodeCode.TheVariants.{N1, N2, N3, N4}
+use Rattle.spv_inst.specs.declared.encode_error.EncodeCode.{EncodeCode}
+use Rattle.spv_inst.specs.declared.encode_error.EncodeCode.TheVariants.{N1, N2, N3, N4}
 use Rattle.spv_module.specs.Operand.{PlainInst, start}
 use Rattle.spv_module.specs.Module.{plain_insts}
 use Rattle.spv_module.specs.Spelling.{Match}
 use Rattle.spv_module.specs.Instruction.{IsInstruction, Listing, IsListing}
 use Rattle.spv_inst.specs.Flat.{due}
 use Rattle.spv_inst.specs.Outcome.{IsHeaderOf}
-use Rattle.spv_inst.specs.Encoding.{Fits, Hinders, StopsAt, IsRefused, IsImageOf}
-use Rattle.spv_inst.specs.Written.{header_words}
+use Rattle.spv_inst.specs.Encoding.{HeaderFits, Prevents, StopsAt, RefusesModule, IsImageOf}
+use Rattle.spv_inst.specs.inner.Written.{header_words}
 use Rattle.spv_inst.proofs.Joined.{match_flat}
 use Rattle.spv_inst.proofs.Flat.{spelled_once}
 use Rattle.spv_inst.proofs.Lists.{listing_once}
@@ -61,10 +61,10 @@ same_further G before i a b us vs e f m n =
     spelled_once G c (map due (pattern_of a)) i.operands i.operands us vs (match_flat G c (pattern_of a) i.operands us m) (match_flat G c (pattern_of a) i.operands vs n') refl
 
 -- an instruction that is spelled, within the limits, is not hindered
-pub not_hindered : (G : Table) (before : List PlainInst) (i : PlainInst) (ws : List ℕ) (written : ℕ) (code : EncodeCode) → IsInstruction G before i ws → written + length ws ≤ 4194304 → Hinders code G before written i → ⊥
-not_hindered G before i ws written N1 a l h = h
-not_hindered G before i ws written N2 a l h = h a.entry a.further a.known a.matches
-not_hindered G before i ws written N3 a l h = too_long h.long
+pub not_prevented : (G : Table) (before : List PlainInst) (i : PlainInst) (ws : List ℕ) (written : ℕ) (code : EncodeCode) → IsInstruction G before i ws → written + length ws ≤ 4194304 → Prevents code G before written i → ⊥
+not_prevented G before i ws written N1 a l h = h
+not_prevented G before i ws written N2 a l h = h a.entry a.further a.known a.matches
+not_prevented G before i ws written N3 a l h = too_long h.long
   where
     same : h.further ≡ a.further
     same = same_further G before i h.entry a.entry h.further a.further h.known a.known h.matches a.matches
@@ -75,7 +75,7 @@ not_hindered G before i ws written N3 a l h = too_long h.long
     too_long : (65535 < length h.further + 1) ⊎ (4194304 < written + (length h.further + 1)) → ⊥
     too_long (inl x) = let s = sizes.0 in let n = a.count in omega arith
     too_long (inr x) = let s = sizes.0 in let t = sizes.1 in omega arith
-not_hindered G before i ws written N4 a l h = h
+not_prevented G before i ws written N4 a l h = h
 
 pub not_stopped : (G : Table) (is : List PlainInst) (ws : List ℕ) (code : EncodeCode) (n : ℕ) → IsListing G is ws → 5 + length ws ≤ 4194304 → StopsAt G is code n → ⊥
 not_stopped G is ws code n l short s =
@@ -85,7 +85,7 @@ not_stopped G is ws code n l short s =
     let g : length ws ≡ length (c.front ++ (c.words ++ c.rest)) = ap length c.all in
     let h = length-append c.front (c.words ++ c.rest) in
     let k = length-append c.words c.rest in
-    not_hindered G s.before s.inst c.words (5 + length s.words) code c.spelled (omega arith) s.hindered
+    not_prevented G s.before s.inst c.words (5 + length s.words) code c.spelled (omega arith) s.prevented
 
 -- of two fronts the longer goes on as the shorter does
 record Longer (xs ys : List PlainInst) (x : PlainInst) : Type 0 where
@@ -123,9 +123,9 @@ not_earlier G is a b k l s t h =
     let g : length s.before < length t.before = omega arith in
     let r = longer s.before t.before s.later t.later s.inst t.inst (sym s.all ∙ t.all) g in
     not_stopped G t.before t.words a k t.spelled t.short
-    (record { before = s.before; inst = s.inst; later = r.between; words = s.words; all = r.longer; number = s.number; spelled = s.spelled; short = s.short; hindered = s.hindered })
+    (record { before = s.before; inst = s.inst; later = r.between; words = s.words; all = r.longer; number = s.number; spelled = s.spelled; short = s.short; prevented = s.prevented })
 
-one_code : (G : Table) (before : List PlainInst) (i : PlainInst) (x y : ℕ) (a b : EncodeCode) → Hinders a G before x i → Hinders b G before y i → a ≡ b
+one_code : (G : Table) (before : List PlainInst) (i : PlainInst) (x y : ℕ) (a b : EncodeCode) → Prevents a G before x i → Prevents b G before y i → a ≡ b
 one_code G before i x y N1 b h g = absurd h
 one_code G before i x y N2 N1 h g = absurd g
 one_code G before i x y N2 N2 h g = refl
@@ -159,8 +159,8 @@ stop_once G is a b k l s t = by_order (apart k l)
         let m = t.number in
         let g : length s.before ≡ length t.before = omega arith in
         let r = same_fronts s.before t.before s.later t.later s.inst t.inst (sym s.all ∙ t.all) g in
-        let q : Hinders b G s.before (5 + length t.words) s.inst = rw (r.0, r.1) t.hindered in
-        (one_code G s.before s.inst (5 + length s.words) (5 + length t.words) a b s.hindered q, h)
+        let q : Prevents b G s.before (5 + length t.words) s.inst = rw (r.0, r.1) t.prevented in
+        (one_code G s.before s.inst (5 + length s.words) (5 + length t.words) a b s.prevented q, h)
 
 -- a header's words
 front_is : (ws : List ℕ) (h : Header) → IsHeader ws → IsHeaderOf ws h → ws ≡ header_words h ++ drop 5 ws
@@ -182,7 +182,7 @@ image_once G m ws vs i j =
     let e = listing_once G [] (plain_insts m) (plain_insts m) (drop 5 ws) (drop 5 vs) i.spelled j.spelled refl in
     front_is ws m.header i.header i.same ∙ (ap (λ zs. header_words m.header ++ zs) e ∙ sym (front_is vs m.header j.header j.same))
 
-fits_so : (ws : List ℕ) (h : Header) → IsHeader ws → IsHeaderOf ws h → Fits h
+fits_so : (ws : List ℕ) (h : Header) → IsHeader ws → IsHeaderOf ws h → HeaderFits h
 fits_so ws h f s =
     let d = s.bound in
     let l = f.bound_least in
@@ -192,7 +192,7 @@ fits_so ws h f s =
 words_in : (ws : List ℕ) (h : Header) → IsHeader ws → IsHeaderOf ws h → 5 + length (drop 5 ws) ≡ length ws
 words_in ws h f s = sym (ap length (front_is ws h f s) ∙ omega arith)
 
-pub not_refused : (G : Table) (m : Module) (ws : List ℕ) (code : EncodeCode) (n : ℕ) → IsImageOf G m ws → length ws ≤ 4194304 → IsRefused code G m n → code ≡ N4
+pub not_refused : (G : Table) (m : Module) (ws : List ℕ) (code : EncodeCode) (n : ℕ) → IsImageOf G m ws → length ws ≤ 4194304 → RefusesModule code G m n → code ≡ N4
 not_refused G m ws N1 n i l r = absurd (r.1 (fits_so ws m.header i.header i.same))
 not_refused G m ws N2 n i l r = let w = words_in ws m.header i.header i.same in absurd (not_stopped G (plain_insts m) (drop 5 ws) N2 n i.spelled (omega arith) r.1)
 not_refused G m ws N3 n i l r = let w = words_in ws m.header i.header i.same in absurd (not_stopped G (plain_insts m) (drop 5 ws) N3 n i.spelled (omega arith) r.1)

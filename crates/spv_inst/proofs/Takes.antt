@@ -74,7 +74,7 @@ takes_no_parts k _ _ _ _ ts (value es x ks h) e = cc
 takes_no_parts k _ _ _ _ ts (mask es x ks h) e = cc
 
 -- a text takes a word at least
-pub text_nonempty : (ws t p : List ℕ) → Rattle.spv_module.specs.Spelling.Holds ws t p → ws ≢ []
+pub text_nonempty : (ws t p : List ℕ) → Rattle.spv_module.specs.Spelling.HoldsText ws t p → ws ≢ []
 text_nonempty [] [] p h e = let o = h.octets in cc
 text_nonempty [] (x ∷ t) p h e = let o = h.octets in cc
 text_nonempty (w ∷ ws) t p h e = cc

@@ -4,7 +4,7 @@ use Rattle.std.specs.List.{AllByRecursion}
 use Rattle.spv_words.specs.declared.words.Order.TheVariants.{Little}
 use Rattle.spv_words.specs.Words.{words_of, word_of}
 use Rattle.spv_module.specs.Spelling.{octets_of}
-use Rattle.spv_inst.specs.Reading.{between}
+use Rattle.spv_inst.specs.inner.Reading.{between}
 
 -- what holds at each place holds of each element
 pub each_all : (P : ℕ → Type 0) (xs : List ℕ) → ((k : ℕ) → k < length xs → P (get_or xs k 0)) → AllByRecursion P xs

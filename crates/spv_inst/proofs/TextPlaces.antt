@@ -10,8 +10,8 @@ use Rattle.spv_words.specs.Words.{words_of, word_of}
 use Rattle.spv_module.specs.declared.fault.Rule.TheVariants.{I4, I8, I9, I10}
 use Rattle.spv_module.specs.Operand.{Text}
 use Rattle.spv_module.specs.Shape.{AsText}
-use Rattle.spv_module.specs.Spelling.{octets_of, Holds, AreZeros, Takes}
-use Rattle.spv_module.specs.Refusal.{Refuses}
+use Rattle.spv_module.specs.Spelling.{octets_of, HoldsText, AreZeros, Takes}
+use Rattle.spv_module.specs.Refusal.{ShapeRefuses}
 use Rattle.spv_inst.proofs.TextOctets.{each_all, all_take, length-words, take-words, octets-words, words-below}
 
 -- the first zero octet is at a place
@@ -50,7 +50,7 @@ split_at_zero bs n p l z = rw (take-add n (1 + p) bs, drop_more bs n 0 l, z, one
 
 -- the words up to the zero octet hold the text
 holds : (bs : List ℕ) (n : ℕ) → length bs % 4 ≡ 0 → AllByRecursion (λ b. b < 256) bs → IsFirstZero bs n
-    → Holds (take (n / 4 + 1) (words_of Little bs)) (take n bs) (padding_at bs n)
+    → HoldsText (take (n / 4 + 1) (words_of Little bs)) (take n bs) (padding_at bs n)
 holds bs n whole below z =
     let within = z.within in
     let m = n / 4 * 4 + 4 in
@@ -83,37 +83,37 @@ both (suc n) [] = refl
 both (suc n) (w ∷ ws) = ap (λ vs. w ∷ vs) (both n ws)
 
 -- no word is left
-pub no_words : (bs : List ℕ) → length bs ≡ 0 → Refuses AsText (words_of Little bs) I4 0
-no_words [] e = Refuses.missing AsText tt
+pub no_words : (bs : List ℕ) → length bs ≡ 0 → ShapeRefuses AsText (words_of Little bs) I4 0
+no_words [] e = ShapeRefuses.missing AsText tt
 no_words (b ∷ bs) e = absurd (omega arith)
 
 -- no zero octet
-pub no_zero : (bs : List ℕ) → length bs % 4 ≡ 0 → AllByRecursion (λ b. b < 256) bs → 0 < length bs → AllByRecursion (λ b. b ≢ 0) bs → Refuses AsText (words_of Little bs) I8 0
+pub no_zero : (bs : List ℕ) → length bs % 4 ≡ 0 → AllByRecursion (λ b. b < 256) bs → 0 < length bs → AllByRecursion (λ b. b ≢ 0) bs → ShapeRefuses AsText (words_of Little bs) I8 0
 no_zero [] whole below l z = absurd (omega arith)
 no_zero (a ∷ []) whole below l z = absurd (omega arith)
 no_zero (a ∷ b ∷ []) whole below l z = absurd (omega arith)
 no_zero (a ∷ b ∷ c ∷ []) whole below l z = absurd (omega arith)
 no_zero (a ∷ b ∷ c ∷ d ∷ rest) whole below l z =
     let P : List ℕ → Type 0 = λ bs. AllByRecursion (λ b. b ≢ 0) bs in
-    Refuses.endless (word_of Little a b c d) (words_of Little rest) (subst P (sym (octets-words (a ∷ b ∷ c ∷ d ∷ rest) whole below)) z)
+    ShapeRefuses.endless (word_of Little a b c d) (words_of Little rest) (subst P (sym (octets-words (a ∷ b ∷ c ∷ d ∷ rest) whole below)) z)
 
 -- an octet other than zero after the zero octet
 pub padded : (bs : List ℕ) (n : ℕ) → length bs % 4 ≡ 0 → AllByRecursion (λ b. b < 256) bs → IsFirstZero bs n → ¬ (AreZeros (padding_at bs n))
-    → Refuses AsText (words_of Little bs) I9 (n / 4)
+    → ShapeRefuses AsText (words_of Little bs) I9 (n / 4)
 padded bs n whole below z other =
     let ws = take (n / 4 + 1) (words_of Little bs) in
     let us = drop (n / 4 + 1) (words_of Little bs) in
     let within = z.within in
     let fits : n / 4 + 1 ≤ length (words_of Little bs) = omega (arith, length-words bs) in
     let long : length ws ≡ n / 4 + 1 = length-take-le (n / 4 + 1) (words_of Little bs) fits in
-    let P : List ℕ → Type 0 = λ vs. Refuses AsText vs I9 (n / 4) in
-    subst P (both (n / 4 + 1) (words_of Little bs)) (Refuses.padded (take n bs) ws (padding_at bs n) us (n / 4) (holds bs n whole below z) other long)
+    let P : List ℕ → Type 0 = λ vs. ShapeRefuses AsText vs I9 (n / 4) in
+    subst P (both (n / 4 + 1) (words_of Little bs)) (ShapeRefuses.padded (take n bs) ws (padding_at bs n) us (n / 4) (holds bs n whole below z) other long)
 
 -- no UTF-8
 pub no_text : (bs : List ℕ) (n : ℕ) → length bs % 4 ≡ 0 → AllByRecursion (λ b. b < 256) bs → IsFirstZero bs n → AreZeros (padding_at bs n) → ¬ (IsUtf8 (take n bs))
-    → Refuses AsText (words_of Little bs) I10 0
+    → ShapeRefuses AsText (words_of Little bs) I10 0
 no_text bs n whole below z zeros other =
     let ws = take (n / 4 + 1) (words_of Little bs) in
     let us = drop (n / 4 + 1) (words_of Little bs) in
-    let P : List ℕ → Type 0 = λ vs. Refuses AsText vs I10 0 in
-    subst P (both (n / 4 + 1) (words_of Little bs)) (Refuses.no_text (take n bs) ws (padding_at bs n) us (holds bs n whole below z) zeros other)
+    let P : List ℕ → Type 0 = λ vs. ShapeRefuses AsText vs I10 0 in
+    subst P (both (n / 4 + 1) (words_of Little bs)) (ShapeRefuses.no_text (take n bs) ws (padding_at bs n) us (holds bs n whole below z) zeros other)

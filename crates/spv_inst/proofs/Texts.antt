@@ -1,7 +1,7 @@
 -- The words of a text tell the text, and the text its words.
 use Rattle.std.proofs.Common.{◌≡◌, ◌≢◌, ◌++◌, ◌∙◌, ◌<◌, ◌+◌, ◌*◌, ◌/◌, ◌%◌, ℕ, List, [], ◌∷◌, length, refl, sym, ap, arith, append_assoc, length-append}
 use Rattle.std.specs.List.{AllByRecursion}
-use Rattle.spv_module.specs.Spelling.{octets_of, Holds, AreZeros}
+use Rattle.spv_module.specs.Spelling.{octets_of, HoldsText, AreZeros}
 
 pub octets-append : (ws us : List ℕ) → octets_of (ws ++ us) ≡ octets_of ws ++ octets_of us
 octets-append [] us = refl
@@ -77,7 +77,7 @@ pub record SameText (ws vs t s p q us xs : List ℕ) : Type 0 where
   pub paddings : p ≡ q
   pub rests : us ≡ xs
 
-pub text_same : (ws vs t s p q us xs : List ℕ) → Holds ws t p → Holds vs s q → ws ++ us ≡ vs ++ xs → SameText ws vs t s p q us xs
+pub text_same : (ws vs t s p q us xs : List ℕ) → HoldsText ws t p → HoldsText vs s q → ws ++ us ≡ vs ++ xs → SameText ws vs t s p q us xs
 text_same ws vs t s p q us xs h g e =
     let a : octets_of ws ++ octets_of us ≡ octets_of vs ++ octets_of xs = sym (octets-append ws us) ∙ (ap octets_of e ∙ octets-append vs xs) in
     let b : (t ++ (0 ∷ p)) ++ octets_of us ≡ (s ++ (0 ∷ q)) ++ octets_of xs = rw (h.octets, g.octets) at a in
@@ -94,7 +94,7 @@ text_same ws vs t s p q us xs h g e =
     let pq = parts_same p q (octets_of us) (octets_of xs) n r.second in
     record { texts = r.first; words = k.first; paddings = pq.first; rests = k.second }
   where
-    text_length : (ws t p : List ℕ) → Holds ws t p → length t + (1 + length p) ≡ 4 * length ws
+    text_length : (ws t p : List ℕ) → HoldsText ws t p → length t + (1 + length p) ≡ 4 * length ws
     text_length ws t p h =
         let a : length (octets_of ws) ≡ length (t ++ (0 ∷ p)) = ap length h.octets in
         let b = length-octets ws in
@@ -102,7 +102,7 @@ text_same ws vs t s p q us xs h g e =
         omega arith
 
 -- a text has one spelling
-pub spelling_same : (ws vs t s p q : List ℕ) → Holds ws t p → Holds vs s q → AreZeros p → AreZeros q → t ≡ s → ws ≡ vs
+pub spelling_same : (ws vs t s p q : List ℕ) → HoldsText ws t p → HoldsText vs s q → AreZeros p → AreZeros q → t ≡ s → ws ≡ vs
 spelling_same ws vs t s p q h g z y e =
     let hp = h.short in
     let gq = g.short in

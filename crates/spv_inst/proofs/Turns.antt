@@ -12,16 +12,18 @@ use Rattle.spv_module.specs.declared.fault.Rule.TheVariants.{I4, I5}
 use Rattle.spv_module.specs.Module.{plain_operand, plain_operands}
 use Rattle.spv_inst.specs.declared.definitions.Definitions.{Definitions}
 use Rattle.spv_inst.specs.declared.reader.Known.{Known}
-use Rattle.spv_inst.specs.Known.{IsNear, Knows}
+use Rattle.spv_inst.specs.inner.Known.{IsNear, Knows}
 use Rattle.spv_module.specs.Operand.{PlainInst, start, type_in, Plain, Value, Mask, Context, after}
 use Rattle.spv_module.specs.Shape.{Slot, alone, Shape, AsType, AsResult, AsId, AsWord, AsNumber, AsText, AsMask, AsParts, AsNothing, bases, category_shape, kind_shape, shape_of}
 use Rattle.spv_module.specs.Width.{switch_width, context_width, first_id}
 use Rattle.spv_module.specs.Spelling.{Takes, Match, mask_parameters}
-use Rattle.spv_module.specs.Refusal.{IsLeaf, Refuses, Misfit}
-use Rattle.spv_inst.specs.Sofar.{Sofar}
-use Rattle.spv_inst.specs.Flat.{due, Due, OneOf, MaybeOf, ManyOf, Fails}
-use Rattle.spv_inst.specs.Reading.{between, enumerants_at, parameter_kinds, TakesFront, RefusesFront}
-use Rattle.spv_inst.specs.Agenda.{settled, Opens, opened_kinds}
+use Rattle.spv_module.specs.Refusal.{IsLeaf, ShapeRefuses, Misfit}
+use Rattle.spv_inst.specs.inner.Sofar.{Sofar}
+use Rattle.spv_inst.specs.Flat.{due, Due, OneOf, MaybeOf, ManyOf}
+use Rattle.spv_inst.specs.inner.Flat.{Fails}
+use Rattle.spv_inst.specs.Reading.{enumerants_at}
+use Rattle.spv_inst.specs.inner.Reading.{between, parameter_kinds, TakesFront, RefusesFront}
+use Rattle.spv_inst.specs.inner.Pending.{settled, Opens, opened_kinds}
 use Rattle.spv_inst.proofs.Joined.{flat_match}
 use Rattle.spv_inst.proofs.Fronts.{fails_misfit}
 use Rattle.spv_inst.proofs.Steps.{after_is, at_end, at_operand, at_parts, at_maybe, at_many, at_no_maybe, at_no_many, at_refusal}
@@ -135,16 +137,16 @@ at_taken G c pattern words out s ds rest taken o n k h t =
     rw p (rw l at (at_operand G c pattern words out s ds taken (plain_operand o) (take n rest) (drop n rest) (map alone (parameter_kinds G (plain_operand o))) k' t))
 
 -- a refusal is told within the words left
-pub refuses_within : (sh : Shape) (us : List ℕ) (a : Rule) (n : ℕ) → Refuses sh us a n → n ≤ length us
-refuses_within _ _ _ _ (Refuses.missing sh h) = omega arith
-refuses_within _ _ _ _ (Refuses.half w x h) = omega arith
-refuses_within _ _ _ _ (Refuses.unknown_value es x us h) = omega arith
-refuses_within _ _ _ _ (Refuses.unknown_bit es x us h) = omega arith
-refuses_within _ _ _ _ (Refuses.endless u us h) = omega arith
-refuses_within _ _ _ _ (Refuses.padded t ws p us n h g l) = let e = length-append ws us in omega arith
-refuses_within _ _ _ _ (Refuses.no_text t ws p us h g f) = omega arith
-refuses_within _ _ _ _ (Refuses.no_width x us) = omega arith
-refuses_within _ _ _ _ (Refuses.no_form x us) = omega arith
+pub refuses_within : (sh : Shape) (us : List ℕ) (a : Rule) (n : ℕ) → ShapeRefuses sh us a n → n ≤ length us
+refuses_within _ _ _ _ (ShapeRefuses.missing sh h) = omega arith
+refuses_within _ _ _ _ (ShapeRefuses.half w x h) = omega arith
+refuses_within _ _ _ _ (ShapeRefuses.unknown_value es x us h) = omega arith
+refuses_within _ _ _ _ (ShapeRefuses.unknown_bit es x us h) = omega arith
+refuses_within _ _ _ _ (ShapeRefuses.endless u us h) = omega arith
+refuses_within _ _ _ _ (ShapeRefuses.padded t ws p us n h g l) = let e = length-append ws us in omega arith
+refuses_within _ _ _ _ (ShapeRefuses.no_text t ws p us h g f) = omega arith
+refuses_within _ _ _ _ (ShapeRefuses.no_width x us) = omega arith
+refuses_within _ _ _ _ (ShapeRefuses.no_form x us) = omega arith
 
 id_leaf : (a b : Bool) → IsLeaf (cond a AsType (cond b AsResult AsId))
 id_leaf true b = tt
@@ -178,7 +180,7 @@ unfolding shape_of
 simple_shape G c s h = simple_sort c s.paired (kind_of G s.kind) h
 
 leaf_missing : (G : Table) (c : Context) (s : Slot) (ds : List Due) → IsLeaf (shape_of G c s) → Fails G c (OneOf s ∷ ds) [] I4 0
-leaf_missing G c s ds h = Fails.refused c s ds [] I4 0 (Refuses.missing (shape_of G c s) h)
+leaf_missing G c s ds h = Fails.refused c s ds [] I4 0 (ShapeRefuses.missing (shape_of G c s) h)
 
 bases_missing : (G : Table) (c : Context) (s : Slot) (ds : List Due) (name ks : List ℕ) → shape_of G c s ≡ AsParts (bases name ks) → are_bases G ks ≡ true → Fails G c (OneOf s ∷ ds) [] I4 0
 bases_missing G c s ds name [] h g = cc

@@ -2,20 +2,21 @@
 use Rattle.std.proofs.Common.{◌≡◌, inr, ℕ, List, [], ◌∷◌, Some, length, refl, sym, subst, suc, ap, arith}
 use Rattle.spv_table.specs.declared.table.Entry.{Entry}
 use Rattle.spv_table.specs.Table.{entry_of, pattern_of, One}
-use Rattle.spv_inst.specs.declared.obstacle.EncodeCode.{EncodeCode}
-use Rattle.spv_inst.specs.declared.obstacle.EncodeCode.TheVariants.{N2, N3}
+use Rattle.spv_inst.specs.declared.encode_error.EncodeCode.{EncodeCode}
+use Rattle.spv_inst.specs.declared.encode_error.EncodeCode.TheVariants.{N2, N3}
 use Rattle.spv_module.specs.Operand.{Plain, Result, Text, PlainInst, start, and_then}
 use Rattle.spv_module.specs.Shape.{Slot, alone, AsText, AsParts, shape_of}
 use Rattle.spv_module.specs.Spelling.{Takes, Match}
 use Rattle.spv_module.specs.Instruction.{Listing, IsListing}
-use Rattle.spv_inst.specs.Flat.{Due, OneOf, Matches}
+use Rattle.spv_inst.specs.Flat.{Due, OneOf}
+use Rattle.spv_inst.specs.inner.Flat.{Matches}
 use Rattle.spv_module.specs.Example.{small, string, string_entry}
 use Rattle.spv_inst.specs.Encoding.{HasNoWords, IsTooLong, StopsAt}
 use Rattle.spv_inst.proofs.Joined.{match_flat}
 use Rattle.spv_inst.proofs.Worked.{string_spelled}
 use Rattle.spv_inst.proofs.Walk.{Walk, walk_start, walk_operand, walk_unfit}
 use Rattle.spv_inst.proofs.Fit.{unfit_takes}
-use Rattle.spv_inst.proofs.Stops.{not_stopped, not_hindered}
+use Rattle.spv_inst.proofs.Stops.{not_stopped, not_prevented}
 
 abbrev zero_operands : List Plain
 zero_operands = Result 5 ∷ Text (97 ∷ 0 ∷ []) ∷ []
@@ -65,7 +66,7 @@ zero_stops = record {
   number = refl;
   spelled = Listing.end [];
   short = omega arith;
-  hindered = no_words;
+  prevented = no_words;
 }
 
 listed : IsListing small (string ∷ []) (196615 ∷ 5 ∷ 6513249 ∷ [])
@@ -81,4 +82,4 @@ string_long =
     record { further = s.further; entry = s.entry; known = s.known; matches = s.matches; long = inr (omega arith) }
 
 pub string_short : IsTooLong small [] 4194301 string → ⊥
-string_short h = not_hindered small [] string (196615 ∷ 5 ∷ 6513249 ∷ []) 4194301 N3 string_spelled (omega arith) h
+string_short h = not_prevented small [] string (196615 ∷ 5 ∷ 6513249 ∷ []) 4194301 N3 string_spelled (omega arith) h

@@ -4,8 +4,9 @@ use Rattle.spv_table.specs.Table.{Table}
 use Rattle.spv_module.specs.Operand.{Plain, Context, and_then}
 use Rattle.spv_module.specs.Shape.{Slot, AsParts, shape_of}
 use Rattle.spv_module.specs.Spelling.{Takes}
-use Rattle.spv_inst.specs.Flat.{Due, OneOf, MaybeOf, ManyOf, Matches}
-use Rattle.spv_inst.specs.Agenda.{settled, Opens}
+use Rattle.spv_inst.specs.Flat.{Due, OneOf, MaybeOf, ManyOf}
+use Rattle.spv_inst.specs.inner.Flat.{Matches}
+use Rattle.spv_inst.specs.inner.Pending.{settled, Opens}
 use Rattle.spv_inst.proofs.Takes.{takes_back, takes_no_parts}
 use Rattle.spv_inst.proofs.Flat.{no_words, no_operands, same_bases}
 

@@ -4,12 +4,13 @@ use Rattle.std.specs.Prelude.{IsUtf8, codes}
 use Rattle.spv_table.specs.Table.{One, Maybe, Many}
 use Rattle.spv_module.specs.Operand.{Plain, OfType, Result, Id, Word, Number, Text, Mask, Context, and_then, start}
 use Rattle.spv_module.specs.Shape.{AsText, AsWord, alone, shape_of}
-use Rattle.spv_module.specs.Spelling.{Takes, Holds, mask_parameters, Match, Spells, SpellsAll}
+use Rattle.spv_module.specs.Spelling.{Takes, HoldsText, mask_parameters, Match, Spells, SpellsAll}
 use Rattle.spv_module.specs.declared.fault.Rule.{Rule}
 use Rattle.spv_module.specs.declared.fault.Rule.TheVariants.{I4, I7, I8}
-use Rattle.spv_module.specs.Refusal.{Refuses, Misfit}
+use Rattle.spv_module.specs.Refusal.{ShapeRefuses, Misfit}
 use Rattle.spv_table.specs.Table.{pattern_of}
-use Rattle.spv_inst.specs.Flat.{Matches, Fails, due}
+use Rattle.spv_inst.specs.Flat.{due}
+use Rattle.spv_inst.specs.inner.Flat.{Matches, Fails}
 use Rattle.spv_module.specs.Instruction.{IsInstruction, first_word}
 use Rattle.spv_module.specs.Example.{load_entry, string_entry, switch_entry, access, small, load, string, long_value, switch}
 use Rattle.spv_inst.proofs.Joined.{flat_match, match_flat}
@@ -40,7 +41,7 @@ load_spelled = record {
   matches = flat_match small (start [] 61) (One 0 ∷ One 1 ∷ One 2 ∷ Maybe 3 ∷ []) load.operands (2 ∷ 9 ∷ 8 ∷ 3 ∷ 4 ∷ []) load_matches;
 }
 
-abc : Holds (6513249 ∷ []) (codes "abc") []
+abc : HoldsText (6513249 ∷ []) (codes "abc") []
 abc = record { words = (omega arith, tt); octets = refl; no_zero = (λ e. omega arith, (λ e. omega arith, (λ e. omega arith, tt))); short = omega arith }
 
 abc_text : IsUtf8 (codes "abc")
@@ -96,7 +97,7 @@ unknown_fails =
     Fails.take _ _ _ (Result 9) (9 ∷ []) [] _ I7 1 (Takes.result 9) (
     Fails.take _ _ _ (Id 8) (8 ∷ []) [] _ I7 0 (Takes.id 8) (
     Fails.maybe _ _ _ 4 [] I7 0 (
-    Fails.refused _ _ _ (4 ∷ []) I7 0 (Refuses.unknown_bit access 4 [] refl)))))
+    Fails.refused _ _ _ (4 ∷ []) I7 0 (ShapeRefuses.unknown_bit access 4 [] refl)))))
 
 -- the bit 4 has no enumerant, so no operands are spelled
 pub unknown_spells_nothing : (os : List Plain) → Match small (start [] 61) (One 0 ∷ One 1 ∷ One 2 ∷ Maybe 3 ∷ []) os (2 ∷ 9 ∷ 8 ∷ 4 ∷ []) → ⊥
@@ -105,10 +106,10 @@ unknown_spells_nothing os m =
     unknown_fails (match_flat small (start [] 61) (One 0 ∷ One 1 ∷ One 2 ∷ Maybe 3 ∷ []) os (2 ∷ 9 ∷ 8 ∷ 4 ∷ []) m) refl
 
 -- 0x0005003D 2 9 8 4
-pub unknown_dead : Rattle.spv_module.specs.Dead.IsDeadAt small (327741 ∷ 2 ∷ 9 ∷ 8 ∷ 4 ∷ []) I7 0 4
+pub unknown_dead : Rattle.spv_module.specs.Malformed.IsMalformedAt small (327741 ∷ 2 ∷ 9 ∷ 8 ∷ 4 ∷ []) I7 0 4
 unknown_dead =
-    Rattle.spv_module.specs.Dead.DiesAt.here [] (327741 ∷ 2 ∷ 9 ∷ 8 ∷ 4 ∷ []) I7 4
-    (Rattle.spv_module.specs.Dead.IsDead.misfit 61 (2 ∷ 9 ∷ 8 ∷ 4 ∷ []) [] load_entry I7 3 (omega arith) refl
+    Rattle.spv_module.specs.Malformed.FailsAt.here [] (327741 ∷ 2 ∷ 9 ∷ 8 ∷ 4 ∷ []) I7 4
+    (Rattle.spv_module.specs.Malformed.IsMalformed.misfit 61 (2 ∷ 9 ∷ 8 ∷ 4 ∷ []) [] load_entry I7 3 (omega arith) refl
     (Rattle.spv_inst.proofs.Fronts.fails_misfit small (start [] 61) (One 0 ∷ One 1 ∷ One 2 ∷ Maybe 3 ∷ []) (2 ∷ 9 ∷ 8 ∷ 4 ∷ []) I7 3 unknown_fails))
 
 -- 3 4 as a MemoryAccess
@@ -129,21 +130,21 @@ no_spelling c us rule n f os s =
 
 pub access_unknown : (os : List Plain) → Spells small (start [] 61) (alone 3) os (4 ∷ []) → ⊥
 unfolding shape_of mask_parameters
-access_unknown os s = no_spelling (start [] 61) (4 ∷ []) I7 0 (Fails.refused _ _ _ (4 ∷ []) I7 0 (Refuses.unknown_bit access 4 [] refl)) os s
+access_unknown os s = no_spelling (start [] 61) (4 ∷ []) I7 0 (Fails.refused _ _ _ (4 ∷ []) I7 0 (ShapeRefuses.unknown_bit access 4 [] refl)) os s
 
 pub access_short : (os : List Plain) → Spells small (start [] 61) (alone 3) os (2 ∷ []) → ⊥
 unfolding shape_of mask_parameters
 access_short os s =
     no_spelling (start [] 61) (2 ∷ []) I4 1
-    (Fails.take _ _ _ (Mask 3 2) (2 ∷ []) (alone 4 ∷ []) [] I4 0 (Takes.mask access 2 (4 ∷ []) refl) (Fails.refused _ _ _ [] I4 0 (Refuses.missing AsWord tt))) os s
+    (Fails.take _ _ _ (Mask 3 2) (2 ∷ []) (alone 4 ∷ []) [] I4 0 (Takes.mask access 2 (4 ∷ []) refl) (Fails.refused _ _ _ [] I4 0 (ShapeRefuses.missing AsWord tt))) os s
 
 pub load_matched : Match small (start [] 61) (pattern_of load_entry) load.operands (2 ∷ 9 ∷ 8 ∷ 3 ∷ 4 ∷ [])
 load_matched = flat_match small (start [] 61) (One 0 ∷ One 1 ∷ One 2 ∷ Maybe 3 ∷ []) load.operands (2 ∷ 9 ∷ 8 ∷ 3 ∷ 4 ∷ []) load_matches
 
-pub endless_refused : Refuses AsText (1633771873 ∷ []) I8 0
-endless_refused = Refuses.endless 1633771873 [] (λ e. omega arith, (λ e. omega arith, (λ e. omega arith, (λ e. omega arith, tt))))
+pub endless_refused : ShapeRefuses AsText (1633771873 ∷ []) I8 0
+endless_refused = ShapeRefuses.endless 1633771873 [] (λ e. omega arith, (λ e. omega arith, (λ e. omega arith, (λ e. omega arith, tt))))
 
-pub abc_fits : (rule : Rule) (n : ℕ) → Refuses AsText (6513249 ∷ []) rule n → ⊥
+pub abc_fits : (rule : Rule) (n : ℕ) → ShapeRefuses AsText (6513249 ∷ []) rule n → ⊥
 abc_fits rule n r = takes_refuses 5 AsText (Text (codes "abc")) (6513249 ∷ []) [] [] (6513249 ∷ []) rule n (Takes.text (codes "abc") (6513249 ∷ []) [] abc tt abc_text) r refl
 
 pub unknown_misfits : Misfit small (start [] 61) (pattern_of load_entry) (2 ∷ 9 ∷ 8 ∷ 4 ∷ []) I7 3

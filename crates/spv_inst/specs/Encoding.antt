@@ -1,11 +1,12 @@
 -- What `encode` answers.
-use Rattle.std.specs.Prelude.{◌≡◌, ◌≤◌, ◌<◌, ◌+◌, ◌⊎◌, ℕ, List, ◌∷◌, ◌++◌, length, drop, Some}
+use Rattle.std.specs.Prelude.{◌≡◌, ◌≤◌, ◌<◌, ◌+◌, ◌⊎◌, ℕ, List, ◌∷◌, ◌++◌, length}
+use Rattle.std.specs.Prelude.{drop, Some}
 use Rattle.spv_words.specs.declared.words.Header.{Header}
 use Rattle.spv_words.specs.Header.{version_number, greatest_bound, IsHeader}
 use Rattle.spv_table.specs.declared.table.Entry.{Entry}
 use Rattle.spv_table.specs.Table.{Table, entry_of, pattern_of}
-use Rattle.spv_inst.specs.declared.obstacle.EncodeCode.{EncodeCode}
-use Rattle.spv_inst.specs.declared.obstacle.EncodeCode.TheVariants.{N1, N2, N3, N4}
+use Rattle.spv_inst.specs.declared.encode_error.EncodeCode.{EncodeCode}
+use Rattle.spv_inst.specs.declared.encode_error.EncodeCode.TheVariants.{N1, N2, N3, N4}
 use Rattle.spv_module.specs.declared.module.Module.{Module}
 use Rattle.spv_module.specs.Operand.{PlainInst, start}
 use Rattle.spv_module.specs.Spelling.{Match}
@@ -22,15 +23,17 @@ abbrev pub greatest_count : ℕ
 greatest_count = 65535
 
 -- A header of version 1.6, with a bound that fits, and schema 0. [2.3; the greatest bound own]
-pub record Fits (header : Header) : Type 0 where
+pub record HeaderFits (header : Header) : Type 0 where
   pub version : header.version ≡ version_number
   pub bound_least : 1 ≤ header.bound
   pub bound_most : header.bound ≤ greatest_bound
   pub schema : header.schema ≡ 0
 
--- After the instructions before, no words spell the instruction: its opcode has no entry, or no words match its operands. [2.3]
+-- After the instructions before, no words spell the instruction: its opcode has no entry, or no words match its
+-- operands. [2.3]
 abbrev pub HasNoWords : Table → List PlainInst → PlainInst → Type 0
-HasNoWords G before i = (entry : Entry) (us : List ℕ) → entry_of G i.opcode ≡ Some entry → ¬ (Match G (start before i.opcode) (pattern_of entry) i.operands us)
+HasNoWords G before i = (entry : Entry) (us : List ℕ) → entry_of G i.opcode ≡ Some entry
+    → ¬ (Match G (start before i.opcode) (pattern_of entry) i.operands us)
 
 -- After the instructions before, which with the header have so many words, some words match the instruction's operands;
 -- but the instruction has too many words, or the module would have. [2.3; the module's limit own]
@@ -42,13 +45,14 @@ pub record IsTooLong (G : Table) (before : List PlainInst) (written : ℕ) (i : 
   pub long : (greatest_count < length further + 1) ⊎ (greatest_length < written + (length further + 1))
 
 -- what a code says of an instruction; N1 and N4 are told of none
-abbrev pub Hinders : EncodeCode → Table → List PlainInst → ℕ → PlainInst → Type 0
-Hinders N1 G before written i = ⊥
-Hinders N2 G before written i = HasNoWords G before i
-Hinders N3 G before written i = IsTooLong G before written i
-Hinders N4 G before written i = ⊥
+abbrev pub Prevents : EncodeCode → Table → List PlainInst → ℕ → PlainInst → Type 0
+Prevents N1 G before written i = ⊥
+Prevents N2 G before written i = HasNoWords G before i
+Prevents N3 G before written i = IsTooLong G before written i
+Prevents N4 G before written i = ⊥
 
--- The instruction of that number is hindered, and those before it are spelled by words that leave the module short enough.
+-- The instruction of that number is hindered, and those before it are spelled by words that leave the module short
+-- enough.
 pub record StopsAt (G : Table) (is : List PlainInst) (code : EncodeCode) (n : ℕ) : Type 0 where
   pub before : List PlainInst
   pub inst : PlainInst
@@ -58,14 +62,15 @@ pub record StopsAt (G : Table) (is : List PlainInst) (code : EncodeCode) (n : �
   pub number : length before ≡ n
   pub spelled : IsListing G before words
   pub short : 5 + length words ≤ greatest_length
-  pub hindered : Hinders code G before (5 + length words) inst
+  pub prevented : Prevents code G before (5 + length words) inst
 
--- What a refusal says of a module: N1 that its header does not fit, N2 and N3 that it stops at that instruction, N4 nothing.
-abbrev pub IsRefused : EncodeCode → Table → Module → ℕ → Type 0
-IsRefused N1 G m n = (n ≡ 0) × (¬ (Fits m.header))
-IsRefused N2 G m n = Fits m.header × StopsAt G (plain_insts m) N2 n
-IsRefused N3 G m n = Fits m.header × StopsAt G (plain_insts m) N3 n
-IsRefused N4 G m n = n ≡ 0
+-- What a refusal says of a module: N1 that its header does not fit, N2 and N3 that it stops at that instruction, N4
+-- nothing.
+abbrev pub RefusesModule : EncodeCode → Table → Module → ℕ → Type 0
+RefusesModule N1 G m n = (n ≡ 0) × (¬ (HeaderFits m.header))
+RefusesModule N2 G m n = HeaderFits m.header × StopsAt G (plain_insts m) N2 n
+RefusesModule N3 G m n = HeaderFits m.header × StopsAt G (plain_insts m) N3 n
+RefusesModule N4 G m n = n ≡ 0
 
 -- The words are the module's: a header that fits, the module's own, and words that spell its instructions. [2.3]
 pub record IsImageOf (G : Table) (m : Module) (words : List ℕ) : Type 0 where

@@ -1,11 +1,5 @@
 pub mod Flat
 pub mod Outcome
-pub mod Form
-pub mod Known
 pub mod Reading
-pub mod Agenda
-pub mod Step
 pub mod Encoding
-pub mod Written
-pub mod Batch
-pub mod Sofar
+pub mod inner

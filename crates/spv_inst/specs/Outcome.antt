@@ -6,7 +6,7 @@ use Rattle.spv_module.specs.declared.fault.Stop.{Stop}
 use Rattle.spv_module.specs.declared.fault.Stop.TheVariants.{Fault, Memory}
 use Rattle.spv_module.specs.Operand.{PlainInst}
 use Rattle.spv_module.specs.Instruction.{IsListing}
-use Rattle.spv_module.specs.Dead.{IsDeadAt}
+use Rattle.spv_module.specs.Malformed.{IsMalformedAt}
 
 -- words 1 to 4 of a module
 pub record IsHeaderOf (words : List ℕ) (header : Header) : Type 0 where
@@ -16,9 +16,9 @@ pub record IsHeaderOf (words : List ℕ) (header : Header) : Type 0 where
   pub schema : header.schema ≡ slice_index words 4
 
 -- Want of memory, or the dead instruction's code, number and word, the word counted from the module's first.
-abbrev pub IsDeath : Table → List ℕ → Stop → Type 0
-IsDeath G words Memory = Unit {0}
-IsDeath G words (Fault f) = (5 ≤ f.word) × IsDeadAt G (drop 5 words) f.rule f.inst (f.word - 5)
+abbrev pub IsDecodeFault : Table → List ℕ → Stop → Type 0
+IsDecodeFault G words Memory = Unit {0}
+IsDecodeFault G words (Fault f) = (5 ≤ f.word) × IsMalformedAt G (drop 5 words) f.rule f.inst (f.word - 5)
 
 -- Want of memory, or no list of instructions at all.
 abbrev pub HasNoList : Table → List ℕ → Stop → Type 0

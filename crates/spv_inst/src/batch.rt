@@ -1,6 +1,6 @@
 ghost use Rattle.std.specs.Prelude.{◌≡◌, ◌++◌, ◌∷◌, ◌≤◌, [], length, take, drop, map, OnOk};
 ghost use Rattle.spv_module.specs.Module.{plain_inst, plain_operands};
-ghost use Rattle.spv_inst.specs.Batch.{batch_insts, head_inst, IsTidy, AreWithin};
+ghost use Rattle.spv_inst.specs.inner.Batch.{batch_insts, head_inst, IsTidy, AreWithin};
 
 use spv_module::{Inst, Operand, Operands};
 use std::alloc::{AllocError, Global};
@@ -44,13 +44,16 @@ impl<'a> Batch<'a> {
         }
     }
 
-    /// Ends an instruction: its operands are those from a place on. Where memory runs out, nothing is said of what is left.
+    /// Ends an instruction: its operands are those from a place on. Where memory runs out, nothing is said of what is
+    /// left.
     #[inline(always)]
     pub fn close(&mut self, opcode: u16, first: usize) -> Result<(), AllocError>
         requires within { first ≤ length self.old.operands.items }
         requires few { length self.old.operands.items ≤ 4294967295 }
         requires tidy { AreWithin first self.old.heads.items }
-        ensures added { OnOk result (batch_insts self.new ≡ map (head_inst (take first self.old.operands.items)) self.old.heads.items ++ record { opcode = opcode; operands = plain_operands (drop first self.old.operands.items) } ∷ []) }
+        ensures added { OnOk result (batch_insts self.new
+            ≡ map (head_inst (take first self.old.operands.items)) self.old.heads.items
+            ++ record { opcode = opcode; operands = plain_operands (drop first self.old.operands.items) } ∷ []) }
         ensures tidy { OnOk result (IsTidy self.new) }
         ensures operands { self.new.operands.items ≡ self.old.operands.items }
     {
@@ -63,11 +66,12 @@ impl<'a> Batch<'a> {
         Ok(())
     }
 
-    /// Adds the instructions of the batch to a list, and empties the batch. Where memory runs out, nothing is said of what
-    /// is left.
+    /// Adds the instructions of the batch to a list, and empties the batch. Where memory runs out, nothing is said of
+    /// what is left.
     pub fn move_into(&mut self, alloc: Global, insts: &mut Vec<Inst<'a>>) -> Result<(), AllocError>
         requires { IsTidy self.old }
-        ensures moved { OnOk result (map plain_inst insts.new.items ≡ map plain_inst insts.old.items ++ batch_insts self.old) }
+        ensures moved { OnOk result (map plain_inst insts.new.items ≡ map plain_inst insts.old.items
+            ++ batch_insts self.old) }
         ensures none { OnOk result (batch_insts self.new ≡ []) }
         ensures tidy { OnOk result (IsTidy self.new) }
         ensures empty { OnOk result (self.new.operands.items ≡ []) }
@@ -88,12 +92,13 @@ impl<'a> Batch<'a> {
         Ok(())
     }
 
-    /// Adds the instructions of the batch to a list once there are enough of them. Where memory runs out, nothing is said of
-    /// what is left.
+    /// Adds the instructions of the batch to a list once there are enough of them. Where memory runs out, nothing is
+    /// said of what is left.
     #[inline(always)]
     pub fn settle(&mut self, alloc: Global, insts: &mut Vec<Inst<'a>>) -> Result<(), AllocError>
         requires { IsTidy self.old }
-        ensures same { OnOk result (map plain_inst insts.new.items ++ batch_insts self.new ≡ map plain_inst insts.old.items ++ batch_insts self.old) }
+        ensures same { OnOk result (map plain_inst insts.new.items ++ batch_insts self.new
+            ≡ map plain_inst insts.old.items ++ batch_insts self.old) }
         ensures tidy { OnOk result (IsTidy self.new) }
         ensures fewer { OnOk result (length self.new.operands.items ≤ length self.old.operands.items) }
     {

@@ -2,13 +2,13 @@ ghost use Rattle.std.specs.Prelude.{◌≡◌, List, [], drop, IfOk, IfErr};
 ghost use Rattle.spv_module.specs.Operand.{PlainInst};
 ghost use Rattle.spv_module.specs.Module.{plain_insts};
 ghost use Rattle.spv_module.specs.Instruction.{IsListing};
-ghost use Rattle.spv_inst.specs.Outcome.{HasNoList, IsDeath, IsHeaderOf};
+ghost use Rattle.spv_inst.specs.Outcome.{HasNoList, IsDecodeFault, IsHeaderOf};
 
-use crate::agenda::Agenda;
 use crate::batch::Batch;
 use crate::definitions::Definitions;
 use crate::form::forms_of;
 use crate::instruction::{Read, read_instruction};
+use crate::pending::Pending;
 use crate::reader::Scene;
 use spv_module::{Module, Stop};
 use spv_table::Table;
@@ -37,16 +37,17 @@ pub fn decode<'a>(alloc: Global, table: &Table, image: &'a Image) -> Result<Modu
     // What is answered is the list that the words from word 5 on spell.
     ensures found { IfOk result (λ m. IsListing table.now (plain_insts m) (drop 5 image.now)) }
     // The words spell no other.
-    ensures only { IfOk result (λ m. (is : List PlainInst) → IsListing table.now is (drop 5 image.now) → is ≡ plain_insts m) }
+    ensures only { IfOk result (λ m. (is : List PlainInst) → IsListing table.now is (drop 5 image.now)
+        → is ≡ plain_insts m) }
     ensures header { IfOk result (λ m. IsHeaderOf image.now m.header) }
     // A fault is that of the dead instruction.
-    ensures dead { IfErr result (λ e. IsDeath table.now image.now e) }
+    ensures dead { IfErr result (λ e. IsDecodeFault table.now image.now e) }
     // Where there is one, the words spell no list.
     ensures none { IfErr result (λ e. HasNoList table.now image.now e) }
 {
     let forms = forms_of(alloc, table)?;
     let mut definitions = Definitions::new(alloc);
-    let mut agenda = Agenda::new(alloc);
+    let mut pending = Pending::new(alloc);
     let len = image.len();
     let mut module = with_room(alloc, image.header(), (len / WORDS_FOR_EACH) as usize)?;
     let mut batch = Batch::new(alloc);
@@ -61,7 +62,7 @@ pub fn decode<'a>(alloc: Global, table: &Table, image: &'a Image) -> Result<Modu
         };
         let Read { opcode, first, end } = read_instruction(
             &scene,
-            &mut agenda,
+            &mut pending,
             &mut batch.operands,
             number,
             at,

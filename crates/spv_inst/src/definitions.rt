@@ -1,10 +1,12 @@
-ghost use Rattle.std.specs.Prelude.{◌≡◌, ◌++◌, ◌∷◌, ◌<◌, ◌≤◌, [], ℕ, List, Some, None, nat_eq, slice_index_or, if◌then◌else◌, length, OnOk};
+ghost use Rattle.std.specs.Prelude.{◌≡◌, ◌++◌, ◌∷◌, ◌<◌, ◌≤◌, [], ℕ, List, Some, None};
+ghost use Rattle.std.specs.Prelude.{false, nat_eq, slice_index_or, if◌then◌else◌, length, OnOk};
+ghost use Rattle.std.specs.Prelude.{option_and_then, option_map, unwrap_or};
 ghost use Rattle.spv_module.specs.Operand.{PlainInst};
 ghost use Rattle.spv_module.specs.Operand as operand;
 ghost use Rattle.spv_module.specs.Width as width;
-ghost use Rattle.spv_module.specs.Width.{width_of, type_of};
+ghost use Rattle.spv_module.specs.Width.{definition_of, width_of, type_of};
 ghost use Rattle.spv_module.specs.Module.{plain_operands};
-ghost use Rattle.spv_inst.specs.Known.{Knows, kept};
+ghost use Rattle.spv_inst.specs.inner.Known.{Knows, kept};
 
 use spv_module::{Operand, result_in, type_in};
 use std::alloc::{AllocError, Global};
@@ -15,6 +17,8 @@ use std::collections::BTreeMap;
 struct Definition {
     /// Its first result type.
     type_id: Option<u32>,
+    /// Whether it is an OpTypeFloat.
+    is_float: bool,
     /// The width that it declares, in bits, if it is OpTypeInt or OpTypeFloat.
     width: Option<u8>,
 }
@@ -47,8 +51,9 @@ fn declared_width(opcode: u16, operands: &[Operand]) -> Option<u8>
     }
 }
 
-/// What the instructions so far tell of each id: the result type and the declared width of its last definition, which is
-/// the last instruction that has the id as its result (SPIR-V Specification 1.6, section 2.2.1).
+/// What the instructions so far tell of each id: the result type and the declared width of its last definition, and
+/// whether that is an OpTypeFloat. The last definition of an id is the last instruction that has it as its result
+/// (SPIR-V Specification 1.6, section 2.2.1).
 ///
 /// An id that is defined twice breaks a rule of modules, but not one of decoding: the last definition counts.
 ///
@@ -96,7 +101,8 @@ impl Definitions {
     /// Keeps what is new of an id. Where memory runs out, nothing is said of what is left.
     #[inline(always)]
     fn put(&mut self, id: u32, definition: Definition) -> Result<(), AllocError>
-        ensures latest { OnOk result ((x : ℕ) → kept self.new x ≡ (if nat_eq id x then Some definition else kept self.old x)) }
+        ensures latest { OnOk result ((x : ℕ)
+            → kept self.new x ≡ (if nat_eq id x then Some definition else kept self.old x)) }
         ensures reach { self.new.reach ≡ self.old.reach }
     {
         if id < self.reach {
@@ -121,12 +127,14 @@ impl Definitions {
         }
     }
 
-    /// Goes on after one instruction more, of that opcode and with those operands: where it has a result, it is now the last definition of that id.
+    /// Goes on after one instruction more, of that opcode and with those operands: where it has a result, it is now the
+    /// last definition of that id.
     ///
     /// An `AllocError` comes only where a growth of memory was refused, and then nothing is said of what is left.
     #[inline(always)]
     pub fn add(&mut self, opcode: u16, operands: &[Operand]) -> Result<(), AllocError>
-        ensures knows { OnOk result ((before : List PlainInst) → Knows self.old before → Knows self.new (before ++ record { opcode = opcode; operands = plain_operands operands.now } ∷ [])) }
+        ensures knows { OnOk result ((before : List PlainInst) → Knows self.old before
+            → Knows self.new (before ++ record { opcode = opcode; operands = plain_operands operands.now } ∷ [])) }
         // The list may grow no less than before.
         ensures reach { self.old.reach ≤ self.new.reach }
     {
@@ -135,31 +143,42 @@ impl Definitions {
         };
         let definition = Definition {
             type_id: type_in(operands),
+            is_float: opcode == TYPE_FLOAT,
             width: declared_width(opcode, operands),
         };
         self.reach = self.reach.saturating_add(REACH_FOR_EACH);
         self.put(id, definition)
     }
 
-    /// Goes on after one instruction more, with that result and that type of it, if it has one, which declares no width: its
-    /// opcode is neither OpTypeInt's nor OpTypeFloat's.
+    /// Goes on after one instruction more, of that opcode, with that result and that type of it, if it has one, which
+    /// declares a width of so many bits, if it declares one.
     ///
     /// An `AllocError` comes only where a growth of memory was refused, and then nothing is said of what is left.
-    pub fn add_result(&mut self, id: u32, type_id: Option<u32>) -> Result<(), AllocError>
-        ensures knows { OnOk result ((before : List PlainInst) (i : PlainInst) → operand.result_in i.operands ≡ Some id → operand.type_in i.operands ≡ type_id → width.declared_width i ≡ None
+    #[inline(always)]
+    pub fn add_result(
+        &mut self,
+        opcode: u16,
+        id: u32,
+        type_id: Option<u32>,
+        bits: Option<u8>,
+    ) -> Result<(), AllocError>
+        ensures knows { OnOk result ((before : List PlainInst) (i : PlainInst)
+            → operand.result_in i.operands ≡ Some id → operand.type_in i.operands ≡ type_id
+            → i.opcode ≡ opcode → width.declared_width i ≡ bits
             → Knows self.old before → Knows self.new (before ++ i ∷ [])) }
         ensures reach { self.old.reach ≤ self.new.reach }
     {
         let definition = Definition {
             type_id,
-            width: None,
+            is_float: opcode == TYPE_FLOAT,
+            width: bits,
         };
         self.reach = self.reach.saturating_add(REACH_FOR_EACH);
         self.put(id, definition)
     }
 
-    /// The width of a type, in bits, by its id: what its last definition declares, if that is an OpTypeInt or OpTypeFloat
-    /// with a width from 1 to 64. None for any other id.
+    /// The width of a type, in bits, by its id: what its last definition declares, if that is an OpTypeInt or
+    /// OpTypeFloat with a width from 1 to 64. None for any other id.
     pub fn width(&self, type_id: u32) -> Option<u32>
         ensures { (before : List PlainInst) → Knows self.now before → result ≡ width_of before type_id }
     {
@@ -169,11 +188,27 @@ impl Definitions {
         }
     }
 
-    /// The type of an id, as an id: the result type of its last definition. None where it has no definition, or one without
-    /// a result type.
+    /// The type of an id, as an id: the result type of its last definition. None where it has no definition, or one
+    /// without a result type.
     pub fn type_id(&self, id: u32) -> Option<u32>
         ensures { (before : List PlainInst) → Knows self.now before → result ≡ type_of before id }
     {
         self.latest(id)?.type_id
+    }
+
+    /// Whether an id, if there is one, is that of a float type: whether its last definition is an OpTypeFloat.
+    pub fn is_float(&self, type_id: Option<u32>) -> bool
+        ensures { (before : List PlainInst) → Knows self.now before
+            → result ≡ unwrap_or
+            (option_map (λ i. nat_eq i.opcode 22) (option_and_then (definition_of before) type_id))
+            false }
+    {
+        match type_id {
+            Some(id) => match self.latest(id) {
+                Some(definition) => definition.is_float,
+                None => false,
+            },
+            None => false,
+        }
     }
 }

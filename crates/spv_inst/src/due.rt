@@ -1,11 +1,11 @@
 //! The way through an instruction's operands by its pattern: for crates that read or write instructions in another form
 //! than words.
 
-pub use crate::agenda::{Agenda, Asked, form_in};
 pub use crate::definitions::Definitions;
 pub use crate::enumerant::{joined, knows, knows_bits, mask_kinds, value_kinds};
 pub use crate::form::{Form, Leaf, forms_of};
 pub use crate::instruction::{Read, known_after, read_instruction};
+pub use crate::pending::{Asked, Pending, form_in};
 pub use crate::plain::{Next, next_kind};
 pub use crate::reader::{Known, Refusal, Scene, Slot, Taken, take_operand};
 pub use crate::written::{push_operand, read_text};

@@ -1,24 +1,27 @@
 //! From instructions to words.
 
-ghost use Rattle.std.specs.Prelude.{◌≡◌, ◌≤◌, ◌<◌, ◌+◌, ◌^◌, ◌↔◌, IsTrue, ◌*◌, ◌++◌, ◌∷◌, [], List, length, drop, map, IfOk, IfErr, IfSome, OnOk, MatchOption, slice_index};
+ghost use Rattle.std.specs.Prelude.{◌≡◌, ◌≤◌, ◌<◌, ◌+◌, ◌^◌, ◌↔◌, IsTrue, ◌*◌};
+ghost use Rattle.std.specs.Prelude.{◌++◌, ◌∷◌, [], List, length, drop, map, IfOk, IfErr, IfSome, OnOk};
+ghost use Rattle.std.specs.Prelude.{MatchOption, slice_index};
 ghost use Rattle.spv_words.specs.Header.{IsHeader};
 ghost use Rattle.spv_table.specs.Table.{kind_of};
 ghost use Rattle.spv_inst.specs.declared.form.Form.TheVariants.{Leaf as LeafForm};
-ghost use Rattle.spv_inst.specs.Form.{form_of, form_at};
+ghost use Rattle.spv_inst.specs.inner.Form.{form_of, form_at};
 ghost use Rattle.spv_module.specs.Operand.{PlainInst, Context, start};
 ghost use Rattle.spv_module.specs.Module.{plain_operand, plain_operands, plain_inst, plain_insts};
 ghost use Rattle.spv_module.specs.Instruction.{IsListing};
-ghost use Rattle.spv_inst.specs.Known.{IsNear, Knows};
-ghost use Rattle.spv_inst.specs.Agenda.{plain_slot, items_of, agenda_due, settled};
+ghost use Rattle.spv_inst.specs.inner.Known.{IsNear, Knows};
+ghost use Rattle.spv_inst.specs.inner.Pending.{plain_slot, items_of, pending_due, settled};
 ghost use Rattle.spv_inst.specs.Outcome.{IsHeaderOf};
-ghost use Rattle.spv_inst.specs.Encoding.{Fits, IsRefused};
-ghost use Rattle.spv_inst.specs.Written.{IsStep, IsSpelling, Adds, IsWritten, HindersOrMemory, header_words, told};
+ghost use Rattle.spv_inst.specs.Encoding.{HeaderFits, RefusesModule};
+ghost use Rattle.spv_inst.specs.inner.Written.{IsStep, IsSpelling, Adds, IsWritten, PreventsOrMemory, header_words};
+ghost use Rattle.spv_inst.specs.inner.Written.{told};
 
-use crate::agenda::Agenda;
 use crate::definitions::Definitions;
+use crate::encode_error::{EncodeCode, EncodeError};
 use crate::form::{Form, forms_of};
 use crate::instruction::known_after;
-use crate::obstacle::{EncodeCode, EncodeError};
+use crate::pending::Pending;
 use crate::reader::Known;
 use crate::written::{fits, push_operand, read_text};
 use spv_module::{Inst, Module, Operand};
@@ -42,16 +45,18 @@ struct Setting<'t, 'd> {
 /// Writes the words of one operand, if it fits what is due. Where memory runs out, nothing is said of what is left.
 fn write_next<'t>(
     setting: &Setting<'t, '_>,
-    agenda: &mut Agenda<'t>,
+    pending: &mut Pending<'t>,
     words: &mut Vec<u32>,
     known: Known,
     operand: &Operand,
 ) -> Result<bool, AllocError>
     requires { setting.now.forms.now ≡ map form_of setting.now.table.now.kinds }
     ensures { (d : Context) → IsNear setting.now.definitions.now known d
-        → IfOk result (λ b. IsStep b setting.now.table.now d (agenda_due setting.now.table.now agenda.old) (agenda_due setting.now.table.now agenda.new) (plain_operand operand.now) words.old.items words.new.items) }
+        → IfOk result
+        (λ b. IsStep b setting.now.table.now d (pending_due setting.now.table.now pending.old)
+        (pending_due setting.now.table.now pending.new) (plain_operand operand.now) words.old.items words.new.items) }
 {
-    let Some(asked) = agenda.next_leaf(setting.table, setting.forms, true)? else {
+    let Some(asked) = pending.next_leaf(setting.table, setting.forms, true)? else {
         return Ok(false);
     };
     if !fits(setting.table, setting.definitions, known, asked, operand) {
@@ -59,7 +64,7 @@ fn write_next<'t>(
     }
     read_text(operand);
     push_operand(words, operand)?;
-    agenda.open(setting.table, operand)?;
+    pending.open(setting.table, operand)?;
     Ok(true)
 }
 
@@ -67,26 +72,28 @@ fn write_next<'t>(
 /// nothing is said of what is left.
 fn write_operands<'t>(
     setting: &Setting<'t, '_>,
-    agenda: &mut Agenda<'t>,
+    pending: &mut Pending<'t>,
     words: &mut Vec<u32>,
     pattern: &'t [Item],
     inst: &Inst,
 ) -> Result<bool, AllocError>
     requires { setting.now.forms.now ≡ map form_of setting.now.table.now.kinds }
     ensures { (before : List PlainInst) → Knows setting.now.definitions.now before
-        → IfOk result (λ b. IsSpelling setting.now.table.now (start before inst.now.opcode) (items_of pattern.now) (plain_operands inst.now.operands) b words.new.items) }
+        → IfOk result
+        (λ b. IsSpelling setting.now.table.now (start before inst.now.opcode) (items_of pattern.now)
+        (plain_operands inst.now.operands) b words.new.items) }
 {
     words.clear();
-    agenda.start(pattern);
+    pending.start(pattern);
     let mut known = Known::new(inst.opcode);
     let operands = inst.operands.as_slice();
     for (number, operand) in operands.iter().enumerate() {
-        if !write_next(setting, agenda, words, known, operand)? {
+        if !write_next(setting, pending, words, known, operand)? {
             return Ok(false);
         }
         known = known_after(known, &operands[..number], operand);
     }
-    match agenda.next_leaf(setting.table, setting.forms, false)? {
+    match pending.next_leaf(setting.table, setting.forms, false)? {
         None => Ok(true),
         Some(_) => Ok(false),
     }
@@ -105,22 +112,24 @@ fn put_words(draft: &mut Draft, words: &[u32]) -> Result<(), AllocError>
 /// Adds an instruction to a draft. After an error nothing is said of what is left.
 fn put_instruction<'t>(
     setting: &Setting<'t, '_>,
-    agenda: &mut Agenda<'t>,
+    pending: &mut Pending<'t>,
     words: &mut Vec<u32>,
     draft: &mut Draft,
     inst: &Inst,
 ) -> Result<(), EncodeCode>
     requires forms { setting.now.forms.now ≡ map form_of setting.now.table.now.kinds }
     requires short { length draft.old ≤ 4194304 }
-    ensures added { (before : List PlainInst) → Knows setting.now.definitions.now before → OnOk result (Adds setting.now.table.now before (plain_inst inst.now) draft.old draft.new) }
+    ensures added { (before : List PlainInst) → Knows setting.now.definitions.now before
+        → OnOk result (Adds setting.now.table.now before (plain_inst inst.now) draft.old draft.new) }
     ensures short { OnOk result (length draft.new ≤ 4194304) }
-    ensures hindered { (before : List PlainInst) → Knows setting.now.definitions.now before
-        → IfErr result (λ e. HindersOrMemory e setting.now.table.now before (length draft.old) (plain_inst inst.now)) }
+    ensures prevented { (before : List PlainInst) → Knows setting.now.definitions.now before
+        → IfErr result
+        (λ e. PreventsOrMemory e setting.now.table.now before (length draft.old) (plain_inst inst.now)) }
 {
     let Some(entry) = setting.table.entry(inst.opcode) else {
         return Err(EncodeCode::N2);
     };
-    if !write_operands(setting, agenda, words, entry.operands.as_slice(), inst)? {
+    if !write_operands(setting, pending, words, entry.operands.as_slice(), inst)? {
         return Err(EncodeCode::N2);
     }
     let count = words.len() + 1;
@@ -137,7 +146,7 @@ fn put_instruction<'t>(
 
 /// Whether a header is one of version 1.6, with a bound that fits and schema 0. (2.3)
 fn fits_header(header: Header) -> bool
-    ensures { IsTrue result ↔ Fits header }
+    ensures { IsTrue result ↔ HeaderFits header }
 {
     header.version == VERSION
         && header.bound >= 1
@@ -181,13 +190,13 @@ fn put_instructions(
     draft: &mut Draft,
 ) -> Result<(), EncodeError>
     requires header { draft.old ≡ header_words «module».now.header }
-    requires fits { Fits «module».now.header }
+    requires fits { HeaderFits «module».now.header }
     ensures written { OnOk result (IsWritten table.now «module».now draft.new) }
-    ensures refused { IfErr result (λ e. IsRefused e.code table.now «module».now e.inst) }
+    ensures refused { IfErr result (λ e. RefusesModule e.code table.now «module».now e.inst) }
 {
     let forms = forms_of(alloc, table)?;
     let mut definitions = Definitions::new(alloc);
-    let mut agenda = Agenda::new(alloc);
+    let mut pending = Pending::new(alloc);
     let mut words = Vec::new(alloc);
     for (number, inst) in module.insts.iter().enumerate() {
         let setting = Setting {
@@ -195,7 +204,7 @@ fn put_instructions(
             forms: forms.as_slice(),
             definitions: &definitions,
         };
-        match put_instruction(&setting, &mut agenda, &mut words, draft, inst) {
+        match put_instruction(&setting, &mut pending, &mut words, draft, inst) {
             Ok(()) => {}
             Err(code) => return Err(error_at(code, number)),
         }
@@ -220,7 +229,7 @@ pub fn encode(alloc: Global, table: &Table, module: &Module<'_>) -> Result<Image
     // Word 0 is the magic number, and the header fits.
     ensures begins { IfOk result (λ i. IsHeader i) }
     // An error tells the header, or the first instruction that is hindered, and why.
-    ensures refused { IfErr result (λ e. IsRefused e.code table.now «module».now e.inst) }
+    ensures refused { IfErr result (λ e. RefusesModule e.code table.now «module».now e.inst) }
 {
     if !fits_header(module.header) {
         return Err(EncodeError {

@@ -1,10 +1,12 @@
-ghost use Rattle.std.specs.Prelude.{◌≡◌, ℕ, List, [], ◌∷◌, ◌++◌, Some, map, is_some, option_map, IfOk, IfErr, IfSome, unwrap_or};
+ghost use Rattle.std.specs.Prelude.{◌≡◌, ℕ, List, [], ◌∷◌, ◌++◌, Some, map, is_some, option_map};
+ghost use Rattle.std.specs.Prelude.{IfOk, IfErr, IfSome, unwrap_or};
 ghost use Rattle.spv_table.specs.Table.{kind_of};
 ghost use Rattle.spv_module.specs.Shape.{alone, AsValue, AsMask};
 ghost use Rattle.spv_module.specs.Spelling.{Takes, parameters_of, mask_parameters};
-ghost use Rattle.spv_module.specs.Refusal.{Refuses};
+ghost use Rattle.spv_module.specs.Refusal.{ShapeRefuses};
 ghost use Rattle.spv_module.specs.Module.{plain_operand};
-ghost use Rattle.spv_inst.specs.Reading.{enumerants_at, parameter_kinds};
+ghost use Rattle.spv_inst.specs.Reading.{enumerants_at};
+ghost use Rattle.spv_inst.specs.inner.Reading.{parameter_kinds};
 
 use crate::reader::{Refusal, Taken};
 use spv_module::{Operand, Rule};
@@ -17,8 +19,8 @@ pub fn knows(table: &Table, kind: u32, value: u32) -> bool
     table.enumerant(kind, value).is_some()
 }
 
-/// The kinds of the parameters of an enumerant, by the number of its kind, from 0, and its value. None where the kind has no
-/// such enumerant.
+/// The kinds of the parameters of an enumerant, by the number of its kind, from 0, and its value. None where the kind
+/// has no such enumerant.
 #[inline(always)]
 pub fn value_kinds<'t>(table: &'t Table, kind: u32, value: u32) -> Option<&'t [u32]>
     ensures { option_map (λ ks. ks.now) result ≡ parameters_of (enumerants_at (kind_of table.now kind)) value }
@@ -43,8 +45,8 @@ pub fn joined<'t>(first: &'t [u32], second: &'t [u32]) -> Option<&'t [u32]>
     None
 }
 
-/// The kinds of the parameters of a mask of a kind, those of the smaller bit first, where no more than one of its set bits
-/// has parameters. None where more of them have, or where one of them is the value of no enumerant.
+/// The kinds of the parameters of a mask of a kind, those of the smaller bit first, where no more than one of its set
+/// bits has parameters. None where more of them have, or where one of them is the value of no enumerant.
 #[inline(always)]
 pub fn mask_kinds<'t>(table: &'t Table, kind: u32, mask: u32) -> Option<&'t [u32]>
     ensures { IfSome result (λ ks. mask_parameters (enumerants_at (kind_of table.now kind)) mask ≡ Some ks.now) }
@@ -68,12 +70,14 @@ pub fn mask_kinds<'t>(table: &'t Table, kind: u32, mask: u32) -> Option<&'t [u32
     Some(kinds)
 }
 
-/// Takes a value of a kind: a word that is the value of one of the kind's enumerants. The enumerant's parameters are due
-/// after it. The `Refusal` of a value that no enumerant has is I6 at word 0.
+/// Takes a value of a kind: a word that is the value of one of the kind's enumerants. The enumerant's parameters are
+/// due after it. The `Refusal` of a value that no enumerant has is I6 at word 0.
 pub fn take_value<'a>(table: &Table, kind: u32, value: u32) -> Result<Taken<'a>, Refusal>
-    ensures taken { IfOk result (λ t. Takes kind (AsValue (enumerants_at (kind_of table.now kind))) (plain_operand t.operand) (value ∷ []) (map alone (parameter_kinds table.now (plain_operand t.operand)))) }
+    ensures taken { IfOk result (λ t. Takes kind (AsValue (enumerants_at (kind_of table.now kind)))
+        (plain_operand t.operand) (value ∷ []) (map alone (parameter_kinds table.now (plain_operand t.operand)))) }
     ensures words { IfOk result (λ t. t.words ≡ 1) }
-    ensures refused { (us : List ℕ) → IfErr result (λ e. Refuses (AsValue (enumerants_at (kind_of table.now kind))) (value ∷ us) e.rule e.word) }
+    ensures refused { (us : List ℕ) → IfErr result
+        (λ e. ShapeRefuses (AsValue (enumerants_at (kind_of table.now kind))) (value ∷ us) e.rule e.word) }
 {
     if !knows(table, kind, value) {
         return Err(Refusal::new(Rule::I6, 0));
@@ -82,7 +86,8 @@ pub fn take_value<'a>(table: &Table, kind: u32, value: u32) -> Result<Taken<'a>,
     Ok(Taken { operand, words: 1 })
 }
 
-/// Whether each set bit of a mask is the value of an enumerant of the kind of a number, from 0. It is so for the mask 0.
+/// Whether each set bit of a mask is the value of an enumerant of the kind of a number, from 0. It is so for the mask
+/// 0.
 pub fn knows_bits(table: &Table, kind: u32, mask: u32) -> bool
     ensures { result ≡ is_some (mask_parameters (enumerants_at (kind_of table.now kind)) mask) }
 {
@@ -102,9 +107,11 @@ pub fn knows_bits(table: &Table, kind: u32, mask: u32) -> bool
 /// taken. The bits' parameters are due after it, those of the smaller bit first. The `Refusal` of a mask with a set bit
 /// that no enumerant has is I7 at word 0.
 pub fn take_mask<'a>(table: &Table, kind: u32, mask: u32) -> Result<Taken<'a>, Refusal>
-    ensures taken { IfOk result (λ t. Takes kind (AsMask (enumerants_at (kind_of table.now kind))) (plain_operand t.operand) (mask ∷ []) (map alone (parameter_kinds table.now (plain_operand t.operand)))) }
+    ensures taken { IfOk result (λ t. Takes kind (AsMask (enumerants_at (kind_of table.now kind)))
+        (plain_operand t.operand) (mask ∷ []) (map alone (parameter_kinds table.now (plain_operand t.operand)))) }
     ensures words { IfOk result (λ t. t.words ≡ 1) }
-    ensures refused { (us : List ℕ) → IfErr result (λ e. Refuses (AsMask (enumerants_at (kind_of table.now kind))) (mask ∷ us) e.rule e.word) }
+    ensures refused { (us : List ℕ) → IfErr result
+        (λ e. ShapeRefuses (AsMask (enumerants_at (kind_of table.now kind))) (mask ∷ us) e.rule e.word) }
 {
     if !knows_bits(table, kind, mask) {
         return Err(Refusal::new(Rule::I7, 0));

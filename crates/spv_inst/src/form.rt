@@ -1,6 +1,6 @@
 ghost use Rattle.std.specs.Prelude.{◌≡◌, map, IfOk};
 ghost use Rattle.spv_table.specs.Table.{IsWhole};
-ghost use Rattle.spv_inst.specs.Form.{form_of, id_leaf, literal_leaf, category_form};
+ghost use Rattle.spv_inst.specs.inner.Form.{form_of, id_leaf, literal_leaf, category_form};
 
 use spv_table::{Category, Kind, Table};
 use std::alloc::{AllocError, Global};
@@ -35,8 +35,8 @@ pub enum Leaf {
 pub enum Form {
     /// One operand, and after it those of its parameters.
     Leaf(Leaf),
-    /// A Composite: the operands of its bases, in order. `paired` tells whether it is PairLiteralIntegerIdRef, the pairs of
-    /// a literal and a label of OpSwitch.
+    /// A Composite: the operands of its bases, in order. `paired` tells whether it is PairLiteralIntegerIdRef, the
+    /// pairs of a literal and a label of OpSwitch.
     Parts { paired: bool },
 }
 
@@ -82,8 +82,8 @@ fn form_of_kind(kind: &Kind) -> Form
 
 /// The form of each kind of the table, in order, so that a kind's number, from 0, is the place of its form.
 ///
-/// The kinds' names are compared here once, and no more while instructions are read or written. An `AllocError` comes only
-/// where a growth of memory was refused.
+/// The kinds' names are compared here once, and no more while instructions are read or written. An `AllocError` comes
+/// only where a growth of memory was refused.
 pub fn forms_of(alloc: Global, table: &Table) -> Result<Vec<Form>, AllocError>
     ensures forms { IfOk result (λ v. v.items ≡ map form_of table.now.kinds) }
     ensures whole { IsWhole table.now }

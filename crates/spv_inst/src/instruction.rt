@@ -1,21 +1,22 @@
 //! One instruction.
 
-ghost use Rattle.std.specs.Prelude.{◌≡◌, ◌≤◌, ◌<◌, ◌+◌, ◌-◌, ◌++◌, ◌∷◌, [], List, length, map, take, drop, IfOk, IfErr, OnOk};
+ghost use Rattle.std.specs.Prelude.{◌≡◌, ◌≤◌, ◌<◌, ◌+◌, ◌-◌, ◌++◌, ◌∷◌, [], List};
+ghost use Rattle.std.specs.Prelude.{length, map, take, drop, IfOk, IfErr, OnOk};
 ghost use Rattle.spv_table.specs.Table.{Item, pattern_of, IsWhole};
-ghost use Rattle.spv_inst.specs.Agenda.{due_first};
+ghost use Rattle.spv_inst.specs.inner.Pending.{due_first};
 ghost use Rattle.spv_inst.specs.Flat.{due};
-ghost use Rattle.spv_inst.specs.Form.{form_of};
+ghost use Rattle.spv_inst.specs.inner.Form.{form_of};
 ghost use Rattle.spv_module.specs.Instruction.{IsInstruction};
-ghost use Rattle.spv_inst.specs.Known.{Knows};
+ghost use Rattle.spv_inst.specs.inner.Known.{Knows};
 ghost use Rattle.spv_module.specs.Module.{plain_operand, plain_operands};
 ghost use Rattle.spv_module.specs.Operand.{PlainInst, type_in, start};
-ghost use Rattle.spv_inst.specs.Reading.{between};
-ghost use Rattle.spv_inst.specs.Sofar.{Sofar};
+ghost use Rattle.spv_inst.specs.inner.Reading.{between};
+ghost use Rattle.spv_inst.specs.inner.Sofar.{Sofar};
 ghost use Rattle.spv_module.specs.Spelling.{Match};
-ghost use Rattle.spv_inst.specs.Step.{IsMisfit, IsDeadFrom};
+ghost use Rattle.spv_inst.specs.inner.Step.{IsMisfit, IsDeadFrom};
 ghost use Rattle.spv_module.specs.Width.{first_id};
 
-use crate::agenda::Agenda;
+use crate::pending::Pending;
 use crate::plain::{Rest, next_kind, read_words};
 use crate::reader::{Known, Scene, take_operand};
 use spv_module::{Fault, Operand, Rule, Stop};
@@ -88,8 +89,10 @@ fn id_in_operand(operand: &Operand<'_>) -> Option<u32>
 /// result's type counts, and the first operand.
 pub fn known_after(known: Known, operands: &[Operand<'_>], operand: &Operand<'_>) -> Known
     ensures opcode { result.opcode ≡ known.opcode }
-    ensures type_id { known.type_id ≡ type_in (plain_operands operands.now) → result.type_id ≡ type_in (plain_operands operands.now ++ plain_operand operand.now ∷ []) }
-    ensures first { known.first ≡ first_id (plain_operands operands.now) → result.first ≡ first_id (plain_operands operands.now ++ plain_operand operand.now ∷ []) }
+    ensures type_id { known.type_id ≡ type_in (plain_operands operands.now)
+        → result.type_id ≡ type_in (plain_operands operands.now ++ plain_operand operand.now ∷ []) }
+    ensures first { known.first ≡ first_id (plain_operands operands.now)
+        → result.first ≡ first_id (plain_operands operands.now ++ plain_operand operand.now ∷ []) }
 {
     let type_id = match known.type_id {
         Some(id) => Some(id),
@@ -123,13 +126,14 @@ fn known_of(opcode: u16, operands: &[Operand<'_>]) -> Known
     }
 }
 
-/// Reads what is left of an instruction after some operands, by the agenda, which is begun anew: `begin` is the place of the
-/// instruction's first operand in the list, and `rest` what is still due and the word from which on. It has a body of its
-/// own, so that the crates that read instructions share it. After an error nothing is said of what is left of the list.
+/// Reads what is left of an instruction after some operands, by the stack of pending operands, which is begun anew:
+/// `begin` is the place of the instruction's first operand in the list, and `rest` what is still due and the word from
+/// which on. It has a body of its own, so that the crates that read instructions share it. After an error nothing is
+/// said of what is left of the list.
 #[inline(never)]
 fn read_rest<'t, 'a>(
     scene: &Scene<'t, '_, 'a>,
-    agenda: &mut Agenda<'t>,
+    pending: &mut Pending<'t>,
     operands: &mut Vec<Operand<'a>>,
     place: Place,
     begin: usize,
@@ -142,25 +146,35 @@ fn read_rest<'t, 'a>(
     requires room { begin ≤ length operands.now.items }
     // With the operands that stand there already, what is added is what the words from the first up to the end spell.
     ensures read { (before : List PlainInst) (pattern : List Item) → Knows scene.now.definitions.now before
-        → Sofar scene.now.table.now (start before place.opcode) (map due pattern) (between scene.now.image.now place.first place.end) (plain_operands (drop begin operands.old.items)) (due_first rest.entry.kinds.now rest.entry.items.now) (between scene.now.image.now rest.entry.at place.end) (rest.entry.at - place.first)
-        → OnOk result (Match scene.now.table.now (start before place.opcode) pattern (plain_operands (drop begin operands.new.items)) (between scene.now.image.now place.first place.end)) }
+        → Sofar scene.now.table.now (start before place.opcode) (map due pattern)
+        (between scene.now.image.now place.first place.end) (plain_operands (drop begin operands.old.items))
+        (due_first rest.entry.kinds.now rest.entry.items.now) (between scene.now.image.now rest.entry.at place.end)
+        (rest.entry.at - place.first)
+        → OnOk result
+        (Match scene.now.table.now (start before place.opcode) pattern (plain_operands (drop begin operands.new.items))
+        (between scene.now.image.now place.first place.end)) }
     ensures kept { OnOk result (take begin operands.new.items ≡ take begin operands.old.items) }
     ensures few { OnOk result (length operands.new.items + rest.entry.at ≤ length operands.old.items + place.end) }
     // A fault tells what refuses these words.
     ensures misfit { (before : List PlainInst) (pattern : List Item) → Knows scene.now.definitions.now before
-        → Sofar scene.now.table.now (start before place.opcode) (map due pattern) (between scene.now.image.now place.first place.end) (plain_operands (drop begin operands.old.items)) (due_first rest.entry.kinds.now rest.entry.items.now) (between scene.now.image.now rest.entry.at place.end) (rest.entry.at - place.first)
-        → IfErr result (λ e. IsMisfit scene.now.table.now (start before place.opcode) pattern (between scene.now.image.now place.first place.end) place.number place.first e) }
+        → Sofar scene.now.table.now (start before place.opcode) (map due pattern)
+        (between scene.now.image.now place.first place.end) (plain_operands (drop begin operands.old.items))
+        (due_first rest.entry.kinds.now rest.entry.items.now) (between scene.now.image.now rest.entry.at place.end)
+        (rest.entry.at - place.first)
+        → IfErr result
+        (λ e. IsMisfit scene.now.table.now (start before place.opcode) pattern
+        (between scene.now.image.now place.first place.end) place.number place.first e) }
 {
     let mut known = known_of(place.opcode, &operands[begin..]);
     let mut at = rest.at;
-    agenda.resume(rest.kinds, rest.items)?;
+    pending.resume(rest.kinds, rest.items)?;
     while at < place.end {
-        let Some(asked) = agenda.next_leaf(scene.table, scene.forms, true)? else {
+        let Some(asked) = pending.next_leaf(scene.table, scene.forms, true)? else {
             return Err(fault_at(place.number, Rule::I5, at));
         };
         match take_operand(scene, known, asked.slot, asked.leaf, at, place.end) {
             Ok(taken) => {
-                agenda.open(scene.table, &taken.operand)?;
+                pending.open(scene.table, &taken.operand)?;
                 known = known_after(known, &operands[begin..], &taken.operand);
                 operands.push(taken.operand)?;
                 at += taken.words;
@@ -168,18 +182,18 @@ fn read_rest<'t, 'a>(
             Err(refusal) => return Err(fault_at(place.number, refusal.rule, at + refusal.word)),
         }
     }
-    match agenda.next_leaf(scene.table, scene.forms, false)? {
+    match pending.next_leaf(scene.table, scene.forms, false)? {
         Some(_) => Err(fault_at(place.number, Rule::I4, at)),
         None => Ok(()),
     }
 }
 
-/// Adds the operands of an instruction to a list, by its entry: all of its further words, and no fewer. After an error nothing
-/// is said of what is left of the list.
+/// Adds the operands of an instruction to a list, by its entry: all of its further words, and no fewer. After an error
+/// nothing is said of what is left of the list.
 #[inline(always)]
 fn read_operands<'t, 'a>(
     scene: &Scene<'t, '_, 'a>,
-    agenda: &mut Agenda<'t>,
+    pending: &mut Pending<'t>,
     operands: &mut Vec<Operand<'a>>,
     entry: &'t Entry,
     place: Place,
@@ -190,12 +204,17 @@ fn read_operands<'t, 'a>(
     requires fits { place.end ≤ length scene.now.image.now }
     // What is added is what the words from the first up to the end spell.
     ensures read { (before : List PlainInst) → Knows scene.now.definitions.now before
-        → OnOk result (Match scene.now.table.now (start before place.opcode) (pattern_of entry.now) (plain_operands (drop (length operands.old.items) operands.new.items)) (between scene.now.image.now place.first place.end)) }
+        → OnOk result
+        (Match scene.now.table.now (start before place.opcode) (pattern_of entry.now)
+        (plain_operands (drop (length operands.old.items) operands.new.items))
+        (between scene.now.image.now place.first place.end)) }
     ensures kept { OnOk result (take (length operands.old.items) operands.new.items ≡ operands.old.items) }
     ensures few { OnOk result (length operands.new.items + place.first ≤ length operands.old.items + place.end) }
     // A fault tells what refuses these words.
     ensures misfit { (before : List PlainInst) → Knows scene.now.definitions.now before
-        → IfErr result (λ e. IsMisfit scene.now.table.now (start before place.opcode) (pattern_of entry.now) (between scene.now.image.now place.first place.end) place.number place.first e) }
+        → IfErr result
+        (λ e. IsMisfit scene.now.table.now (start before place.opcode) (pattern_of entry.now)
+        (between scene.now.image.now place.first place.end) place.number place.first e) }
 {
     let start = operands.len();
     let items = entry.operands.as_slice();
@@ -213,21 +232,22 @@ fn read_operands<'t, 'a>(
             return Ok(());
         }
     }
-    read_rest(scene, agenda, operands, place, start, rest)
+    read_rest(scene, pending, operands, place, start, rest)
 }
 
 /// Reads the instruction whose first word is the module's word `at`, counted from 0, after so many instructions (SPIR-V
-/// Specification 1.6, section 2.3), and adds its operands to a list. The agenda is begun anew.
+/// Specification 1.6, section 2.3), and adds its operands to a list. The stack of pending operands is begun anew.
 ///
-/// A `Fault` tells the number of the instructions before, which is the instruction's own, and a word of the module. It is
-/// told by the word `at` where the first word counts no words (I1) or more than are left of the module (I2), or where the
-/// opcode has no entry in the table (I3); by the first word left where nothing more is due (I5); by the word after the last
-/// where an operand is missing (I4); and else by the word at which an operand is refused (`take_operand`). `Memory` comes
-/// only where a growth of memory was refused. After an error nothing is said of what is left of the list.
+/// A `Fault` tells the number of the instructions before, which is the instruction's own, and a word of the module. It
+/// is told by the word `at` where the first word counts no words (I1) or more than are left of the module (I2), or
+/// where the opcode has no entry in the table (I3); by the first word left where nothing more is due (I5); by the word
+/// after the last where an operand is missing (I4); and else by the word at which an operand is refused
+/// (`take_operand`). `Memory` comes only where a growth of memory was refused. After an error nothing is said of what
+/// is left of the list.
 #[inline(always)]
 pub fn read_instruction<'t, 'a>(
     scene: &Scene<'t, '_, 'a>,
-    agenda: &mut Agenda<'t>,
+    pending: &mut Pending<'t>,
     operands: &mut Vec<Operand<'a>>,
     number: u32,
     at: u32,
@@ -237,8 +257,12 @@ pub fn read_instruction<'t, 'a>(
     requires fits { at < length scene.now.image.now }
     // What is added is what the words from there on spell.
     ensures read { (before : List PlainInst) → Knows scene.now.definitions.now before
-        → IfOk result (λ r. IsInstruction scene.now.table.now before (record { opcode = r.opcode; operands = plain_operands (drop r.first operands.new.items) }) (between scene.now.image.now at r.end)) }
-    ensures kept { IfOk result (λ r. (r.first ≡ length operands.old.items) × (take r.first operands.new.items ≡ operands.old.items)) }
+        → IfOk result
+        (λ r. IsInstruction scene.now.table.now before
+        (record { opcode = r.opcode; operands = plain_operands (drop r.first operands.new.items) })
+        (between scene.now.image.now at r.end)) }
+    ensures kept { IfOk result (λ r. (r.first ≡ length operands.old.items)
+        × (take r.first operands.new.items ≡ operands.old.items)) }
     ensures few { IfOk result (λ r. length operands.new.items + at ≤ length operands.old.items + r.end) }
     ensures within { IfOk result (λ r. (at < r.end) × (r.end ≤ length scene.now.image.now)) }
     // A fault is the death of the instruction there.
@@ -264,7 +288,7 @@ pub fn read_instruction<'t, 'a>(
         end: at + count,
     };
     let first = operands.len();
-    read_operands(scene, agenda, operands, entry, place)?;
+    read_operands(scene, pending, operands, entry, place)?;
     Ok(Read {
         opcode,
         first,

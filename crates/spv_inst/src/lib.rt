@@ -1,11 +1,11 @@
 //! Instructions of a module, by a grammar table.
 #![tactic(auto)]
 
-mod agenda;
 mod batch;
 mod decoder;
 mod definitions;
 pub mod due;
+mod encode_error;
 mod encoder;
 mod encoding;
 mod enumerant;
@@ -13,13 +13,14 @@ mod form;
 mod instruction;
 mod laws;
 mod number;
-mod obstacle;
+mod pending;
 mod plain;
 mod reader;
 mod text;
 mod written;
 
 pub use decoder::decode;
+pub use encode_error::{EncodeCode, EncodeError};
 pub use encoder::encode;
 pub use encoding::{
     decodes_back, encodes_back, encoding_examples, image_or_refused, listed_or_stopped, one_image,
@@ -30,5 +31,4 @@ pub use laws::{
     one_listing, one_listing_spelling, one_reading, one_spelling, pattern_examples,
     refusal_examples, same_matches, same_misfits, width_examples,
 };
-pub use obstacle::{EncodeCode, EncodeError};
 pub use spv_module::{Fault, Inst, Memory, Module, Operand, Operands, Rule, Stop};

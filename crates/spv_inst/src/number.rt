@@ -1,13 +1,13 @@
 ghost use Rattle.std.specs.Prelude.{◌≡◌, ◌≤◌, ◌<◌, ◌-◌, ℕ, [], length, take, IfOk, IfErr};
 ghost use Rattle.spv_table.specs.Table.{Table};
-ghost use Rattle.spv_inst.specs.Known.{IsNear};
+ghost use Rattle.spv_inst.specs.inner.Known.{IsNear};
 ghost use Rattle.spv_module.specs.Operand.{Context};
 ghost use Rattle.spv_module.specs.Width as width;
 ghost use Rattle.spv_module.specs.Shape.{AsNumber};
 ghost use Rattle.spv_module.specs.Spelling.{Takes};
-ghost use Rattle.spv_module.specs.Refusal.{Refuses};
+ghost use Rattle.spv_module.specs.Refusal.{ShapeRefuses};
 ghost use Rattle.spv_module.specs.Module.{plain_operand};
-ghost use Rattle.spv_inst.specs.Reading.{between, parameter_kinds};
+ghost use Rattle.spv_inst.specs.inner.Reading.{between, parameter_kinds};
 
 use crate::definitions::Definitions;
 use crate::reader::{Known, Refusal, Taken};
@@ -17,18 +17,18 @@ use spv_words::{Image, word};
 /// The opcode of OpSwitch.
 pub const SWITCH: u16 = 251;
 
-/// The width of a LiteralContextDependentNumber, in bits: that of the instruction's result type (SPIR-V Specification 1.6,
-/// section 2.2.1). None where the operands so far have no result type, or where its last definition is no OpTypeInt or
-/// OpTypeFloat with a width from 1 to 64.
+/// The width of a LiteralContextDependentNumber, in bits: that of the instruction's result type (SPIR-V Specification
+/// 1.6, section 2.2.1). None where the operands so far have no result type, or where its last definition is no
+/// OpTypeInt or OpTypeFloat with a width from 1 to 64.
 pub fn context_width(definitions: &Definitions, known: Known) -> Option<u32>
     ensures { (c : Context) → IsNear definitions.now known c → result ≡ width.context_width c }
 {
     definitions.width(known.type_id?)
 }
 
-/// The width of a literal of OpSwitch, in bits: that of the type of the first operand, the selector (SPIR-V Specification
-/// 1.6, section 3, OpSwitch). None where the first operand is no id or has no type, or where the type's last definition is
-/// no OpTypeInt or OpTypeFloat with a width from 1 to 64.
+/// The width of a literal of OpSwitch, in bits: that of the type of the first operand, the selector (SPIR-V
+/// Specification 1.6, section 3, OpSwitch). None where the first operand is no id or has no type, or where the type's
+/// last definition is no OpTypeInt or OpTypeFloat with a width from 1 to 64.
 #[inline(always)]
 pub fn switch_width(definitions: &Definitions, known: Known) -> Option<u32>
     ensures { (c : Context) → IsNear definitions.now known c → result ≡ width.switch_width c }
@@ -39,8 +39,8 @@ pub fn switch_width(definitions: &Definitions, known: Known) -> Option<u32>
 
 /// Takes a number of a width, in bits, at the front of the words from `at` up to `end`, of which there is one at least.
 ///
-/// Up to 32 bits take one word, wider numbers take two, the low word first (SPIR-V Specification 1.6, section 2.2.1).
-/// A `Refusal` counts its word from `at`: I11 at word 0 where the width is not known, I4 at word 1 where a number of two
+/// Up to 32 bits take one word, wider numbers take two, the low word first (SPIR-V Specification 1.6, section 2.2.1). A
+/// `Refusal` counts its word from `at`: I11 at word 0 where the width is not known, I4 at word 1 where a number of two
 /// words has one word left.
 pub fn take_number<'a>(
     image: &Image,
@@ -50,10 +50,11 @@ pub fn take_number<'a>(
 ) -> Result<Taken<'a>, Refusal>
     requires order { at < end }
     requires fits { end ≤ length image.now }
-    ensures taken { IfOk result (λ t. (k : ℕ) → Takes k (AsNumber width) (plain_operand t.operand) (take t.words (between image.now at end)) []) }
+    ensures taken { IfOk result (λ t. (k : ℕ)
+        → Takes k (AsNumber width) (plain_operand t.operand) (take t.words (between image.now at end)) []) }
     ensures operand { IfOk result (λ t. (G : Table) → parameter_kinds G (plain_operand t.operand) ≡ []) }
     ensures within { IfOk result (λ t. (0 < t.words) × (t.words ≤ end - at)) }
-    ensures refused { IfErr result (λ e. Refuses (AsNumber width) (between image.now at end) e.rule e.word) }
+    ensures refused { IfErr result (λ e. ShapeRefuses (AsNumber width) (between image.now at end) e.rule e.word) }
 {
     let low = word(image, at);
     match width {

@@ -1,22 +1,23 @@
 //! Operands of one word.
 
-ghost use Rattle.std.specs.Prelude.{◌≡◌, List, ◌≤◌, ◌<◌, ◌+◌, ◌-◌, ◌++◌, ◌∷◌, [], length, map, take, drop, IfOk, IfSome, MatchOption};
+ghost use Rattle.std.specs.Prelude.{◌≡◌, List, ◌≤◌, ◌<◌, ◌+◌, ◌-◌, ◌++◌, ◌∷◌, []};
+ghost use Rattle.std.specs.Prelude.{length, map, take, drop, IfOk, IfSome, MatchOption};
 ghost use Rattle.spv_table.specs.Table.{Table, kind_of};
 ghost use Rattle.spv_table.specs.declared.table.Enumerant.{Enumerant};
 ghost use Rattle.spv_inst.specs.declared.form.Form.TheVariants.{Leaf as LeafForm};
-ghost use Rattle.spv_inst.specs.Form.{form_of, form_at};
+ghost use Rattle.spv_inst.specs.inner.Form.{form_of, form_at};
 ghost use Rattle.spv_module.specs.Operand.{Context};
 ghost use Rattle.spv_module.specs.Module.{plain_operand, plain_operands};
 ghost use Rattle.spv_module.specs.Shape.{alone, shape_of, AsMask};
 ghost use Rattle.spv_module.specs.Spelling.{Takes};
-ghost use Rattle.spv_inst.specs.Reading.{between};
-ghost use Rattle.spv_inst.specs.Agenda.{items_of, settled, due_first};
+ghost use Rattle.spv_inst.specs.inner.Reading.{between};
+ghost use Rattle.spv_inst.specs.inner.Pending.{items_of, settled, due_first};
 ghost use Rattle.spv_inst.specs.Flat.{OneOf, due};
-ghost use Rattle.spv_inst.specs.Sofar.{Sofar};
+ghost use Rattle.spv_inst.specs.inner.Sofar.{Sofar};
 
-use crate::agenda::{form_in, next_item};
 use crate::enumerant::{joined, mask_kinds, value_kinds};
 use crate::form::{Form, Leaf};
+use crate::pending::{form_in, next_item};
 use spv_module::Operand;
 use spv_table::{Item, Table};
 use spv_words::{Image, word};
@@ -54,7 +55,8 @@ struct Plain<'t, 'a> {
 #[inline(always)]
 pub fn next_kind<'t>(kinds: &'t [u32], items: &'t [Item], more: bool) -> Option<Next<'t>>
     ensures { MatchOption result (settled more (due_first kinds.now items.now) ≡ [])
-        (λ n. settled more (due_first kinds.now items.now) ≡ OneOf (alone n.kind) ∷ due_first n.kinds.now n.items.now) }
+        (λ n. settled more (due_first kinds.now items.now) ≡ OneOf (alone n.kind)
+        ∷ due_first n.kinds.now n.items.now) }
 {
     if let Some((kind, kinds)) = kinds.split_first() {
         return Some(Next {
@@ -72,7 +74,8 @@ pub fn next_kind<'t>(kinds: &'t [u32], items: &'t [Item], more: bool) -> Option<
 /// The mask without a bit that a word is, of the kind of a number.
 #[inline(always)]
 fn empty_mask<'a>(kind: u32, word: u32) -> Option<Operand<'a>>
-    ensures { (es : List Enumerant) → IfSome result (λ o. Takes kind (AsMask es) (plain_operand o) (word ∷ []) []) }
+    ensures { (es : List Enumerant) → IfSome result
+        (λ o. Takes kind (AsMask es) (plain_operand o) (word ∷ []) []) }
 {
     if word == 0 {
         return Some(Operand::Mask { kind, value: word });
@@ -80,11 +83,12 @@ fn empty_mask<'a>(kind: u32, word: u32) -> Option<Operand<'a>>
     None
 }
 
-/// The operand that a word is, where the kind of a number asks for an id or a literal of one word, or for a mask and the word
-/// has no bit.
+/// The operand that a word is, where the kind of a number asks for an id or a literal of one word, or for a mask and
+/// the word has no bit.
 #[inline(always)]
 fn bare_word<'a>(leaf: Leaf, kind: u32, word: u32) -> Option<Operand<'a>>
-    ensures { (G : Table) (c : Context) → form_at (kind_of G kind) ≡ LeafForm leaf → IfSome result (λ o. Takes kind (shape_of G c (alone kind)) (plain_operand o) (word ∷ []) []) }
+    ensures { (G : Table) (c : Context) → form_at (kind_of G kind) ≡ LeafForm leaf
+        → IfSome result (λ o. Takes kind (shape_of G c (alone kind)) (plain_operand o) (word ∷ []) []) }
 {
     match leaf {
         Leaf::ResultType => Some(Operand::OfType(word)),
@@ -100,7 +104,8 @@ fn bare_word<'a>(leaf: Leaf, kind: u32, word: u32) -> Option<Operand<'a>>
 /// The same, where the kind has that form.
 #[inline(always)]
 fn bare_in_form<'a>(form: Form, kind: u32, word: u32) -> Option<Operand<'a>>
-    ensures { (G : Table) (c : Context) → form ≡ form_at (kind_of G kind) → IfSome result (λ o. Takes kind (shape_of G c (alone kind)) (plain_operand o) (word ∷ []) []) }
+    ensures { (G : Table) (c : Context) → form ≡ form_at (kind_of G kind)
+        → IfSome result (λ o. Takes kind (shape_of G c (alone kind)) (plain_operand o) (word ∷ []) []) }
 {
     match form {
         Form::Leaf(leaf) => bare_word(leaf, kind, word),
@@ -108,11 +113,14 @@ fn bare_in_form<'a>(form: Form, kind: u32, word: u32) -> Option<Operand<'a>>
     }
 }
 
-/// The operand that a word is, where a kind of that form is due and asks for one word: an id, a literal of one word, a known
-/// value, or a mask of known bits of which no more than one has parameters.
+/// The operand that a word is, where a kind of that form is due and asks for one word: an id, a literal of one word, a
+/// known value, or a mask of known bits of which no more than one has parameters.
 #[inline(always)]
 fn plain_word<'t, 'a>(table: &'t Table, form: Form, kind: u32, word: u32) -> Option<Plain<'t, 'a>>
-    ensures { (c : Context) → form ≡ form_at (kind_of table.now kind) → IfSome result (λ p. Takes kind (shape_of table.now c (alone kind)) (plain_operand p.operand) (word ∷ []) (map alone p.kinds.now)) }
+    ensures { (c : Context) → form ≡ form_at (kind_of table.now kind)
+        → IfSome result
+        (λ p. Takes kind (shape_of table.now c (alone kind)) (plain_operand p.operand) (word ∷ [])
+        (map alone p.kinds.now)) }
 {
     let Form::Leaf(leaf) = form else {
         return None;
@@ -151,11 +159,12 @@ struct Back<'t> {
     at: u32,
 }
 
-/// Takes the ids, the literals of one word and the masks without a bit at the front of the words from `first` up to `end`, both counted in words of
-/// the module from 0, by the items of a pattern, and adds them to a list. It stops before the first kind that asks for
-/// another operand (`bare_word`), or where no kind or no word is left.
+/// Takes the ids, the literals of one word and the masks without a bit at the front of the words from `first` up to
+/// `end`, both counted in words of the module from 0, by the items of a pattern, and adds them to a list. It stops
+/// before the first kind that asks for another operand (`bare_word`), or where no kind or no word is left.
 ///
-/// An `AllocError` comes only where a growth of memory was refused, and then nothing is said of what is left of the list.
+/// An `AllocError` comes only where a growth of memory was refused, and then nothing is said of what is left of the
+/// list.
 #[inline(always)]
 fn read_bare<'t, 'a>(
     forms: &[Form],
@@ -169,7 +178,10 @@ fn read_bare<'t, 'a>(
     requires fits { end ≤ length image.now }
     // From the whole pattern and all words, the operands that are added bring the decoder to what is left.
     ensures front { (G : Table) (c : Context) → forms.now ≡ map form_of G.kinds
-        → IfOk result (λ r. Sofar G c (map due (items_of items.now)) (between image.now first end) (plain_operands (drop (length operands.old.items) operands.new.items)) (map due (items_of r.items.now)) (between image.now r.at end) (r.at - first)) }
+        → IfOk result
+        (λ r. Sofar G c (map due (items_of items.now)) (between image.now first end)
+        (plain_operands (drop (length operands.old.items) operands.new.items)) (map due (items_of r.items.now))
+        (between image.now r.at end) (r.at - first)) }
     ensures kept { IfOk result (λ _. take (length operands.old.items) operands.new.items ≡ operands.old.items) }
     ensures room { IfOk result (λ _. length operands.old.items ≤ length operands.new.items) }
     ensures few { IfOk result (λ r. length operands.new.items + first ≤ length operands.old.items + r.at) }
@@ -192,12 +204,13 @@ fn read_bare<'t, 'a>(
     Ok(Back { items, at })
 }
 
-/// Takes the operands of one word at the front of the words from `first` up to `end`, both counted in words of the module
-/// from 0, by the items of a pattern, and adds them to a list, with their parameters. It stops before the first kind that
-/// asks for more (`plain_word`), before an operand with parameters that is itself a parameter and not the last one, or where
-/// no kind or no word is left. Most instructions have no other operands.
+/// Takes the operands of one word at the front of the words from `first` up to `end`, both counted in words of the
+/// module from 0, by the items of a pattern, and adds them to a list, with their parameters. It stops before the first
+/// kind that asks for more (`plain_word`), before an operand with parameters that is itself a parameter and not the
+/// last one, or where no kind or no word is left. Most instructions have no other operands.
 ///
-/// An `AllocError` comes only where a growth of memory was refused, and then nothing is said of what is left of the list.
+/// An `AllocError` comes only where a growth of memory was refused, and then nothing is said of what is left of the
+/// list.
 #[inline(always)]
 pub fn read_words<'t, 'a>(
     table: &'t Table,
@@ -212,7 +225,10 @@ pub fn read_words<'t, 'a>(
     requires fits { end ≤ length image.now }
     // From the whole pattern and all words, the operands that are added bring the decoder to what is left.
     ensures front { (c : Context) → forms.now ≡ map form_of table.now.kinds
-        → IfOk result (λ r. Sofar table.now c (map due (items_of items.now)) (between image.now first end) (plain_operands (drop (length operands.old.items) operands.new.items)) (due_first r.kinds.now r.items.now) (between image.now r.at end) (r.at - first)) }
+        → IfOk result
+        (λ r. Sofar table.now c (map due (items_of items.now)) (between image.now first end)
+        (plain_operands (drop (length operands.old.items) operands.new.items)) (due_first r.kinds.now r.items.now)
+        (between image.now r.at end) (r.at - first)) }
     ensures kept { IfOk result (λ _. take (length operands.old.items) operands.new.items ≡ operands.old.items) }
     ensures room { IfOk result (λ _. length operands.old.items ≤ length operands.new.items) }
     ensures few { IfOk result (λ r. length operands.new.items + first ≤ length operands.old.items + r.at) }

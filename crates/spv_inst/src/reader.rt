@@ -1,10 +1,10 @@
 ghost use Rattle.std.specs.Prelude.{◌≡◌, ◌≤◌, ◌<◌, ◌-◌, ℕ, None, length, IfOk, IfErr};
 ghost use Rattle.spv_table.specs.Table.{kind_of};
 ghost use Rattle.spv_inst.specs.declared.form.Form.TheVariants.{Leaf as LeafForm};
-ghost use Rattle.spv_inst.specs.Form.{form_at};
-ghost use Rattle.spv_inst.specs.Known.{IsNear};
+ghost use Rattle.spv_inst.specs.inner.Form.{form_at};
+ghost use Rattle.spv_inst.specs.inner.Known.{IsNear};
 ghost use Rattle.spv_module.specs.Operand.{Context};
-ghost use Rattle.spv_inst.specs.Reading.{between, TakesFront, RefusesFront};
+ghost use Rattle.spv_inst.specs.inner.Reading.{between, TakesFront, RefusesFront};
 
 use crate::definitions::Definitions;
 use crate::enumerant::{take_mask, take_value};
@@ -95,12 +95,12 @@ fn one_word(operand: Operand) -> Taken
 /// from 0. `leaf` is what the table's kind of the slot's number asks for.
 ///
 /// An id or a literal of one word is the word itself; a number and a text take as many words as section 2.2.1
-/// (Instructions) of the SPIR-V Specification 1.6 tells; a value or a mask is a word whose enumerants are known, and the
-/// kinds of its parameters are due after it.
+/// (Instructions) of the SPIR-V Specification 1.6 tells; a value or a mask is a word whose enumerants are known, and
+/// the kinds of its parameters are due after it.
 ///
-/// A `Refusal` counts its word from `at`. It is I4 at word 0 where no word is left, before all else, and at word 1 where
-/// one word is left of a number of two; I6 for an unknown value; I7 for a mask with a set bit that no enumerant has; I8,
-/// I9 or I10 for a text (`take_text`); I11 for a number of unknown width; I12 for a kind that nothing spells.
+/// A `Refusal` counts its word from `at`. It is I4 at word 0 where no word is left, before all else, and at word 1
+/// where one word is left of a number of two; I6 for an unknown value; I7 for a mask with a set bit that no enumerant
+/// has; I8, I9 or I10 for a text (`take_text`); I11 for a number of unknown width; I12 for a kind that nothing spells.
 #[inline(always)]
 pub fn take_operand<'a>(
     scene: &Scene<'_, '_, 'a>,
@@ -112,12 +112,18 @@ pub fn take_operand<'a>(
 ) -> Result<Taken<'a>, Refusal>
     requires order { at ≤ end }
     requires fits { end ≤ length scene.now.image.now }
-    ensures taken { (c : Context) → IsNear scene.now.definitions.now known c → form_at (kind_of scene.now.table.now slot.kind) ≡ LeafForm leaf
-        → IfOk result (λ t. TakesFront scene.now.table.now c (record { kind = slot.kind; paired = slot.paired }) t.operand t.words (between scene.now.image.now at end)) }
+    ensures taken { (c : Context) → IsNear scene.now.definitions.now known c
+        → form_at (kind_of scene.now.table.now slot.kind) ≡ LeafForm leaf
+        → IfOk result
+        (λ t. TakesFront scene.now.table.now c (record { kind = slot.kind; paired = slot.paired }) t.operand t.words
+        (between scene.now.image.now at end)) }
     ensures within { IfOk result (λ t. (0 < t.words) × (t.words ≤ end - at)) }
     ensures reached { IfErr result (λ e. e.word ≤ end - at) }
-    ensures refused { (c : Context) → IsNear scene.now.definitions.now known c → form_at (kind_of scene.now.table.now slot.kind) ≡ LeafForm leaf
-        → IfErr result (λ e. RefusesFront scene.now.table.now c (record { kind = slot.kind; paired = slot.paired }) e.rule e.word (between scene.now.image.now at end)) }
+    ensures refused { (c : Context) → IsNear scene.now.definitions.now known c
+        → form_at (kind_of scene.now.table.now slot.kind) ≡ LeafForm leaf
+        → IfErr result
+        (λ e. RefusesFront scene.now.table.now c (record { kind = slot.kind; paired = slot.paired }) e.rule e.word
+        (between scene.now.image.now at end)) }
 {
     if at == end {
         return Err(Refusal::new(Rule::I4, 0));

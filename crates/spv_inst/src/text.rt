@@ -1,12 +1,13 @@
-ghost use Rattle.std.specs.Prelude.{◌≡◌, ◌≤◌, ◌<◌, ◌-◌, ◌/◌, ◌%◌, ◌↔◌, ℕ, [], length, take, IfOk, IfErr, IsTrue};
+ghost use Rattle.std.specs.Prelude.{◌≡◌, ◌≤◌, ◌<◌, ◌-◌, ◌/◌, ◌%◌, ◌↔◌, ℕ, []};
+ghost use Rattle.std.specs.Prelude.{length, take, IfOk, IfErr, IsTrue};
 ghost use Rattle.spv_words.specs.Words.{words_of};
 ghost use Rattle.spv_words.specs.declared.words.Order.TheVariants.{Little};
 ghost use Rattle.spv_table.specs.Table.{Table};
 ghost use Rattle.spv_module.specs.Module.{plain_operand};
 ghost use Rattle.spv_module.specs.Shape.{AsText};
 ghost use Rattle.spv_module.specs.Spelling.{AreZeros, Takes};
-ghost use Rattle.spv_module.specs.Refusal.{Refuses};
-ghost use Rattle.spv_inst.specs.Reading.{between, parameter_kinds};
+ghost use Rattle.spv_module.specs.Refusal.{ShapeRefuses};
+ghost use Rattle.spv_inst.specs.inner.Reading.{between, parameter_kinds};
 
 use crate::reader::{Refusal, Taken};
 use memchr::memchr;
@@ -25,10 +26,11 @@ fn are_zeros(octets: &[u8]) -> bool
 fn text_in(octets: &[u8]) -> Result<Taken<'_>, Refusal>
     requires whole { length octets.now % 4 ≡ 0 }
     requires most { length octets.now ≤ 16777216 }
-    ensures taken { IfOk result (λ t. (k : ℕ) → Takes k AsText (plain_operand t.operand) (take t.words (words_of Little octets.now)) []) }
+    ensures taken { IfOk result (λ t. (k : ℕ)
+        → Takes k AsText (plain_operand t.operand) (take t.words (words_of Little octets.now)) []) }
     ensures operand { IfOk result (λ t. (G : Table) → parameter_kinds G (plain_operand t.operand) ≡ []) }
     ensures within { IfOk result (λ t. (0 < t.words) × (t.words ≤ length octets.now / 4)) }
-    ensures refused { IfErr result (λ e. Refuses AsText (words_of Little octets.now) e.rule e.word) }
+    ensures refused { IfErr result (λ e. ShapeRefuses AsText (words_of Little octets.now) e.rule e.word) }
 {
     if octets.is_empty() {
         return Err(Refusal::new(Rule::I4, 0));
@@ -49,11 +51,11 @@ fn text_in(octets: &[u8]) -> Result<Taken<'_>, Refusal>
     }
 }
 
-/// Takes the text, a literal string [2.2.1], at the front of the words of an image from `at` up to `end`: its octets, four to
-/// a word, the first in the lowest 8 bits, a zero octet, and zero octets up to the end of that word.
+/// Takes the text, a literal string [2.2.1], at the front of the words of an image from `at` up to `end`: its octets,
+/// four to a word, the first in the lowest 8 bits, a zero octet, and zero octets up to the end of that word.
 ///
-/// The text is lent by the image, without its zero octet, and its words are counted with that of the zero octet: 4n octets
-/// take n + 1 words. Time is linear in the words taken, and no memory is.
+/// The text is lent by the image, without its zero octet, and its words are counted with that of the zero octet: 4n
+/// octets take n + 1 words. Time is linear in the words taken, and no memory is.
 ///
 /// A refusal counts words from `at`. The first of these rules that is broken is told:
 /// - I4 at word 0: no word is left, `at` is `end`.
@@ -64,11 +66,12 @@ pub fn take_text<'a>(image: &'a Image, at: u32, end: u32) -> Result<Taken<'a>, R
     requires order { at ≤ end }
     requires fits { end ≤ length image.now }
     // The words taken spell the text, by any kind of such a shape.
-    ensures taken { IfOk result (λ t. (k : ℕ) → Takes k AsText (plain_operand t.operand) (take t.words (between image.now at end)) []) }
+    ensures taken { IfOk result (λ t. (k : ℕ)
+        → Takes k AsText (plain_operand t.operand) (take t.words (between image.now at end)) []) }
     // No parameter is due after it.
     ensures operand { IfOk result (λ t. (G : Table) → parameter_kinds G (plain_operand t.operand) ≡ []) }
     ensures within { IfOk result (λ t. (0 < t.words) × (t.words ≤ end - at)) }
-    ensures refused { IfErr result (λ e. Refuses AsText (between image.now at end) e.rule e.word) }
+    ensures refused { IfErr result (λ e. ShapeRefuses AsText (between image.now at end) e.rule e.word) }
 {
     // The length bounds how many octets there are.
     let _ = image.len();

@@ -1,24 +1,25 @@
 //! The words of an operand, and whether it fits the kind that is due.
 
-ghost use Rattle.std.specs.Prelude.{◌≡◌, ◌++◌, ◌+◌, ◌*◌, ◌<◌, ◌∷◌, [], ℕ, length, OnOk, IsUtf8, slice_index};
+ghost use Rattle.std.specs.Prelude.{◌≡◌, ◌++◌, ◌+◌, ◌*◌, ◌<◌, ◌∷◌, [], ℕ, length, OnOk};
+ghost use Rattle.std.specs.Prelude.{IsUtf8, slice_index};
 ghost use Rattle.std.specs.List.{AllByRecursion};
 ghost use Rattle.spv_table.specs.Table.{kind_of};
 ghost use Rattle.spv_inst.specs.declared.form.Form.TheVariants.{Leaf as LeafForm};
-ghost use Rattle.spv_inst.specs.Form.{form_at};
+ghost use Rattle.spv_inst.specs.inner.Form.{form_at};
 ghost use Rattle.spv_module.specs.Operand.{Context};
 ghost use Rattle.spv_module.specs.Module.{plain_operand};
 ghost use Rattle.spv_module.specs.Shape.{shape_of, AsType, AsResult, AsId, AsWord, AsNumber, AsText, AsValue, AsMask};
 ghost use Rattle.spv_inst.specs.Reading.{enumerants_at};
-ghost use Rattle.spv_inst.specs.Agenda.{plain_slot};
-ghost use Rattle.spv_inst.specs.Written as written;
-ghost use Rattle.spv_inst.specs.Known.{IsNear};
-ghost use Rattle.spv_inst.specs.Written.{HasText, text_words, operand_words, is_fit, is_without_zero};
+ghost use Rattle.spv_inst.specs.inner.Pending.{plain_slot};
+ghost use Rattle.spv_inst.specs.inner.Written as written;
+ghost use Rattle.spv_inst.specs.inner.Known.{IsNear};
+ghost use Rattle.spv_inst.specs.inner.Written.{HasText, text_words, operand_words, is_fit, is_without_zero};
 
-use crate::agenda::Asked;
 use crate::definitions::Definitions;
 use crate::enumerant::{knows, knows_bits};
 use crate::form::Leaf;
 use crate::number::{SWITCH, context_width, switch_width};
+use crate::pending::Asked;
 use crate::reader::Known;
 use spv_module::Operand;
 use spv_table::Table;
@@ -134,9 +135,9 @@ fn is_mask(table: &Table, kind: u32, operand: &Operand) -> bool
     }
 }
 
-/// Whether an operand fits the leaf that is due: whether it is one that words spell there (SPIR-V Specification 1.6, section
-/// 2.2.1). A number fits by its width, a text if it has no zero octet, a value or a mask if it is of the kind and its
-/// enumerant, or each set bit's, is known.
+/// Whether an operand fits the leaf that is due: whether it is one that words spell there (SPIR-V Specification 1.6,
+/// section 2.2.1). A number fits by its width, a text if it has no zero octet, a value or a mask if it is of the kind
+/// and its enumerant, or each set bit's, is known.
 pub fn fits(
     table: &Table,
     definitions: &Definitions,
@@ -144,8 +145,10 @@ pub fn fits(
     asked: Asked,
     operand: &Operand,
 ) -> bool
-    ensures { (c : Context) → IsNear definitions.now known c → form_at (kind_of table.now asked.slot.kind) ≡ LeafForm asked.leaf
-        → result ≡ is_fit asked.slot.kind (shape_of table.now c (plain_slot asked.slot)) (plain_operand operand.now) }
+    ensures { (c : Context) → IsNear definitions.now known c
+        → form_at (kind_of table.now asked.slot.kind) ≡ LeafForm asked.leaf
+        → result ≡ is_fit asked.slot.kind (shape_of table.now c (plain_slot asked.slot))
+        (plain_operand operand.now) }
 {
     let slot = asked.slot;
     match asked.leaf {
@@ -215,8 +218,8 @@ fn push_text(words: &mut Vec<u32>, octets: &[u8]) -> Result<(), AllocError>
     Ok(())
 }
 
-/// Adds the words of an operand, wherever it fits: the low word of a number first, and a text with its zero octet, filled up
-/// with zeros to whole words (SPIR-V Specification 1.6, section 2.2.1).
+/// Adds the words of an operand, wherever it fits: the low word of a number first, and a text with its zero octet,
+/// filled up with zeros to whole words (SPIR-V Specification 1.6, section 2.2.1).
 ///
 /// An `AllocError` comes only where a growth of memory was refused, and then nothing is said of what is left.
 pub fn push_operand(words: &mut Vec<u32>, operand: &Operand) -> Result<(), AllocError>

@@ -1,7 +1,7 @@
 //! Both ways to the first call on a cycle, on the same calls.
 
 ghost use Rattle.std.specs.Prelude.{◌<◌, ℕ, IfOk};
-ghost use Rattle.spv_calls.specs.Graph.{AreWithin, AreBelow};
+ghost use Rattle.spv_calls.specs.inner.Graph.{AreWithin, AreBelow};
 
 use spv_calls::{Call, first_cyclic, first_cyclic_plainly};
 use std::alloc::{AllocError, Global};

@@ -1,7 +1,7 @@
 //! Small graphs of blocks and rows of words, with answers that were worked out by hand.
 
-use spv_availability::{Ask, Block, Graph, are_asks, first_missed, meet};
-use spv_trees::open_asks;
+use spv_availability::{Block, Graph, Query, are_queries, first_unavailable, meet};
+use spv_dominators::open_queries;
 use std::alloc::{AllocError, Global};
 use std::process::Abort;
 use std::test::Fail;
@@ -30,31 +30,31 @@ fn diamond(alloc: Global) -> Result<Graph, AllocError> {
 }
 
 /// Asks for values, one a step from 7 on, where a block begins.
-fn asks_of(alloc: Global, block: u32, values: &[u32]) -> Result<Vec<Ask>, AllocError> {
-    let mut asks = Vec::new(alloc);
+fn queries_of(alloc: Global, block: u32, values: &[u32]) -> Result<Vec<Query>, AllocError> {
+    let mut queries = Vec::new(alloc);
     let mut step = 7u32;
     for value in values {
-        asks.push(Ask {
+        queries.push(Query {
             block,
             value: *value,
             step,
         })?;
         step = step.wrapping_add(1);
     }
-    Ok(asks)
+    Ok(queries)
 }
 
-/// The first step at which a value is missed, and how many asks the tree of blocks leaves open.
+/// The first step at which a value is unavailable, and how many queries the tree of blocks leaves open.
 fn answers(
     rt: &impl Abort,
     alloc: Global,
     graph: &Graph,
-    asks: &[Ask],
+    queries: &[Query],
 ) -> Result<(Option<u32>, usize), AllocError> {
     assert!(rt; graph.is_graph());
-    assert!(rt; are_asks(graph, asks));
-    let first = first_missed(alloc, graph, asks)?;
-    let open = open_asks(alloc, graph, asks)?;
+    assert!(rt; are_queries(graph, queries));
+    let first = first_unavailable(alloc, graph, queries)?;
+    let open = open_queries(alloc, graph, queries)?;
     Ok((first, open.len()))
 }
 
@@ -62,23 +62,23 @@ fn answers(
 fn values_in_a_diamond(rt: HostRuntime) -> Result<(), Fail> {
     let alloc = rt.alloc();
     let graph = diamond(alloc)?;
-    let of_first = asks_of(alloc, 3, &[0])?;
+    let of_first = queries_of(alloc, 3, &[0])?;
     assert_eq!(rt;
         answers(&rt, alloc, &graph, of_first.as_slice())?,
         (None, 0)
     );
-    let of_one_side = asks_of(alloc, 3, &[0, 1])?;
+    let of_one_side = queries_of(alloc, 3, &[0, 1])?;
     assert_eq!(rt;
         answers(&rt, alloc, &graph, of_one_side.as_slice())?,
         (Some(8), 1)
     );
-    let of_its_own = asks_of(alloc, 3, &[2])?;
+    let of_its_own = queries_of(alloc, 3, &[2])?;
     assert_eq!(rt;
         answers(&rt, alloc, &graph, of_its_own.as_slice())?,
         (Some(7), 1)
     );
     // A value that no block defines, over 512 values later.
-    let of_none = asks_of(alloc, 1, &[0, 2000])?;
+    let of_none = queries_of(alloc, 1, &[0, 2000])?;
     assert_eq!(rt;
         answers(&rt, alloc, &graph, of_none.as_slice())?,
         (Some(8), 1)

@@ -11,8 +11,8 @@ use Rattle.spv_layout.specs.declared.span.Spans.{Spans}
 use Rattle.spv_layout.specs.Class.{is_among}
 use Rattle.spv_layout.specs.Layout.{classes}
 use Rattle.spv_layout.specs.Place.{IsAt, IsLast, IsWithin, IsOfFunction, IsDefinition, terminators, section_of}
-use Rattle.spv_layout.specs.Span.{Span, In, Outside, After, inside, left, UpTo, Before, mark, no_number, at_first, no_spans, entered_in, left_in}
-use Rattle.spv_layout.specs.State.{next_of, is_first}
+use Rattle.spv_layout.specs.inner.Span.{Span, In, Outside, After, inside, left, UpTo, Before, mark, no_number, at_first, no_spans, entered_in, left_in}
+use Rattle.spv_layout.specs.inner.State.{next_of, is_first}
 use Rattle.spv_layout.proofs.Derivatives.{both_hold}
 use Rattle.spv_layout.proofs.Spans.{is_at, is_not_at, at_moved, below_or, before_first, enters, leaves}
 

@@ -19,12 +19,12 @@ use Rattle.spv_layout.specs.declared.place.Standing.{Standing}
 use Rattle.spv_layout.specs.Class.{is_among}
 use Rattle.spv_layout.specs.Rows.{class_of}
 use Rattle.spv_layout.specs.Layout.{IsLayout, classes}
-use Rattle.spv_layout.specs.Shape.{Fits}
+use Rattle.spv_layout.specs.Shape.{FitsShape}
 use Rattle.spv_layout.specs.Place.{IsAt, IsLast, IsWithin, IsDefinition, IsOfSection, terminators, section_of, first_word_of}
 use Rattle.spv_layout.specs.Plan.{IsPlaceOf, IsPlan}
-use Rattle.spv_layout.specs.Kept.{early_place, late_place, late_places, places_in, early_with, late_with}
-use Rattle.spv_layout.specs.Span.{Span, UpTo, no_number, mark}
-use Rattle.spv_layout.specs.State.{is_first, may_stop, next_of}
+use Rattle.spv_layout.specs.inner.Kept.{early_place, late_place, late_places, places_in, early_with, late_with}
+use Rattle.spv_layout.specs.inner.Span.{Span, UpTo, no_number, mark}
+use Rattle.spv_layout.specs.inner.State.{is_first, may_stop, next_of}
 use Rattle.spv_layout.proofs.Spans.{within}
 use Rattle.spv_layout.proofs.Following.{SpannedTo, Begun, Defined, Follows, Stands, Fine, fine_move, is_definition, implies}
 
@@ -253,7 +253,7 @@ late_at is n None p s x y m l w k e = cc
 late_at is n (Some v) p s x y m l w k e = let q : late_place x.functions x.definitions n v ≡ p = cc in rw (← q) (placed_late is n v s x y m l w (k v refl))
 
 pub planned : (G : Table) (is : List PlainInst) (s : State) (x : Spans) (early : List Early) (late : List Standing) → may_stop s ≡ true → length is < no_number
-    → ((n : ℕ) (i : PlainInst) → slice_get is n ≡ Some i → Fits G i) → IsLayout (classes is) → Follows is (length is) s x → Kept is (length is) s early late
+    → ((n : ℕ) (i : PlainInst) → slice_get is n ≡ Some i → FitsShape G i) → IsLayout (classes is) → Follows is (length is) s x → Kept is (length is) s early late
     → IsPlan G is (places_in x.functions x.definitions early late)
 planned G is s x early late y m f l w k =
     let rest = late_places x.functions x.definitions (length early) late in

@@ -3,45 +3,62 @@ use Rattle.std.proofs.Common.{◌≡◌, ◌∙◌, ◌<◌, ◌≤◌, ◌+◌,
 use Rattle.std.specs.Prelude.{slice_get}
 use Rattle.std.proofs.lemmas.Bool.{cases_lt, ltb-true, lt-leb}
 use Rattle.std.proofs.lemmas.Option.{slice_get_past}
-use Rattle.spv_layout.specs.Row.{PlainRow, row_in, numbered}
+use Rattle.spv_layout.specs.Row.{PlainRow, row_in}
+use Rattle.spv_layout.specs.inner.Row.{numbered}
 use Rattle.spv_layout.specs.Rows.{rows, row_of}
 use Rattle.spv_layout.proofs.Derivatives.{both_hold}
 
 -- the numbers of the code
 unfoldable pub numbers : List ℕ
-numbers = 0 ∷ 1 ∷ 2 ∷ 3 ∷ 4 ∷ 5 ∷ 6 ∷ 7 ∷ 8 ∷ 92 ∷ 9 ∷ 10 ∷ 11 ∷ 92 ∷ 12 ∷ 13 ∷ 14 ∷ 15 ∷ 92 ∷ 16 ∷ 16 ∷ 17 ∷ 18 ∷ 19 ∷ 92 ∷ 92 ∷ 92 ∷ 92 ∷ 20 ∷ 92 ∷ 21 ∷ 22 ∷ 23 ∷ 24 ∷ 92 ∷ 92 ∷ 92 ∷ 92 ∷ 92 ∷ 25 ∷ 92 ∷ 26 ∷ 26 ∷ 27 ∷ 28 ∷ 92 ∷ 29 ∷ 92 ∷ 30 ∷ 30 ∷ 31 ∷ 32 ∷ 92 ∷ 92 ∷ 33 ∷ 34 ∷ 35 ∷ 36 ∷ 92 ∷ 37 ∷ 92 ∷ 38 ∷ 39 ∷ 39 ∷ 40 ∷ 41 ∷ 41 ∷ 42 ∷ 92 ∷ 92 ∷ 43 ∷ 44 ∷ 45 ∷ 92 ∷ 92 ∷ 92 ∷ 92 ∷ 46 ∷ 47 ∷ 48 ∷ 49 ∷ 50 ∷ 51 ∷ 52 ∷ 92 ∷ 92 ∷ 92 ∷ 92 ∷ 92 ∷ 92 ∷ 92 ∷ 92 ∷ 92 ∷ 92 ∷ 92 ∷ 92 ∷ 92 ∷ 92 ∷ 92 ∷ 92 ∷ 92 ∷ 92 ∷ 92 ∷ 92 ∷ 92 ∷ 92 ∷ 92 ∷ 92 ∷ 92 ∷ 53 ∷ 53 ∷ 53 ∷ 53 ∷ 54 ∷ 54 ∷ 54 ∷ 92 ∷ 55 ∷ 92 ∷ 92 ∷ 56 ∷ 57 ∷ 57 ∷ 92 ∷ 58 ∷ 92 ∷ 59 ∷ 59 ∷ 60 ∷ 60 ∷ 60 ∷ 60 ∷ 60 ∷ 60 ∷ 60 ∷ 60 ∷ 60 ∷ 61 ∷ 61 ∷ 61 ∷ 61 ∷ 61 ∷ 92 ∷ 92 ∷ 92 ∷ 92 ∷ 92 ∷ 92 ∷ 92 ∷ 92 ∷ 92 ∷ 92 ∷ 92 ∷ 92 ∷ 92 ∷ 92 ∷ 92 ∷ 92 ∷ 92 ∷ 92 ∷ 92 ∷ 92 ∷ 92 ∷ 92 ∷ 62 ∷ 62 ∷ 62 ∷ 62 ∷ 63 ∷ 64 ∷ 65 ∷ 65 ∷ 65 ∷ 65 ∷ 65 ∷ 65 ∷ 65 ∷ 65 ∷ 65 ∷ 65 ∷ 66 ∷ 66 ∷ 66 ∷ 66 ∷ 66 ∷ 66 ∷ 66 ∷ 66 ∷ 66 ∷ 66 ∷ 66 ∷ 66 ∷ 92 ∷ 92 ∷ 67 ∷ 67 ∷ 67 ∷ 68 ∷ 68 ∷ 68 ∷ 69 ∷ 92 ∷ 92 ∷ 92 ∷ 92 ∷ 92 ∷ 92 ∷ 92 ∷ 92 ∷ 92 ∷ 92 ∷ 92 ∷ 92 ∷ 92 ∷ 92 ∷ 92 ∷ 92 ∷ 92 ∷ 92 ∷ 92 ∷ 92 ∷ 92 ∷ 92 ∷ 92 ∷ 70 ∷ 71 ∷ 92 ∷ 72 ∷ 73 ∷ 74 ∷ 75 ∷ 92 ∷ 76 ∷ 76 ∷ 77 ∷ 77 ∷ 77 ∷ 77 ∷ 77 ∷ 77 ∷ 78 ∷ 78 ∷ 78 ∷ 92 ∷ 92 ∷ 79 ∷ 80 ∷ 81 ∷ 82 ∷ 83 ∷ 84 ∷ 85 ∷ 92 ∷ 86 ∷ 87 ∷ 88 ∷ 89 ∷ 89 ∷ 92 ∷ 92 ∷ 92 ∷ 92 ∷ 92 ∷ 92 ∷ 92 ∷ 92 ∷ 92 ∷ 92 ∷ 92 ∷ 92 ∷ 92 ∷ 92 ∷ 92 ∷ 92 ∷ 92 ∷ 92 ∷ 92 ∷ 92 ∷ 92 ∷ 92 ∷ 92 ∷ 92 ∷ 92 ∷ 92 ∷ 92 ∷ 92 ∷ 92 ∷ 92 ∷ 92 ∷ 92 ∷ 92 ∷ 92 ∷ 92 ∷ 92 ∷ 92 ∷ 92 ∷ 92 ∷ 92 ∷ 92 ∷ 92 ∷ 92 ∷ 92 ∷ 92 ∷ 92 ∷ 92 ∷ 92 ∷ 92 ∷ 92 ∷ 92 ∷ 92 ∷ 92 ∷ 92 ∷ 92 ∷ 92 ∷ 92 ∷ 92 ∷ 92 ∷ 90 ∷ 92 ∷ 92 ∷ 92 ∷ 92 ∷ 92 ∷ 92 ∷ 92 ∷ 92 ∷ 92 ∷ 92 ∷ 92 ∷ 92 ∷ 91 ∷ []
+numbers = 0 ∷ 1 ∷ 2 ∷ 3 ∷ 4 ∷ 5 ∷ 6 ∷ 7 ∷ 8 ∷ 255 ∷ 9 ∷ 10 ∷ 11 ∷ 255 ∷ 12 ∷ 13 ∷ 14 ∷ 15 ∷ 255 ∷ 16 ∷ 16 ∷ 17 ∷ 18 ∷ 19 ∷ 255 ∷ 255 ∷ 255 ∷ 255 ∷ 20 ∷ 255 ∷ 21 ∷ 22 ∷ 23 ∷ 24 ∷ 255 ∷ 255 ∷ 255 ∷ 255 ∷ 255 ∷ 25 ∷ 255 ∷ 26 ∷ 26 ∷ 27 ∷ 28 ∷ 255 ∷ 29 ∷ 255 ∷ 30 ∷ 30 ∷ 31 ∷ 32 ∷ 255 ∷ 255 ∷ 33 ∷ 34 ∷ 35 ∷ 36 ∷ 255 ∷ 37 ∷ 255 ∷ 38 ∷ 39 ∷ 39 ∷ 40 ∷ 41 ∷ 41 ∷ 42 ∷ 255 ∷ 255 ∷ 43 ∷ 44 ∷ 45 ∷ 255 ∷ 255 ∷ 255 ∷ 255 ∷ 46 ∷ 47 ∷ 48 ∷ 49 ∷ 50 ∷ 51 ∷ 52 ∷ 255 ∷ 255 ∷ 255 ∷ 255 ∷ 255 ∷ 255 ∷ 255 ∷ 255 ∷ 255 ∷ 255 ∷ 255 ∷ 255 ∷ 255 ∷ 255 ∷ 255 ∷ 255 ∷ 255 ∷ 255 ∷ 255 ∷ 255 ∷ 255 ∷ 255 ∷ 255 ∷ 255 ∷ 255 ∷ 53 ∷ 53 ∷ 53 ∷ 53 ∷ 54 ∷ 54 ∷ 54 ∷ 255 ∷ 55 ∷ 255 ∷ 255 ∷ 56 ∷ 57 ∷ 57 ∷ 255 ∷ 58 ∷ 255 ∷ 59 ∷ 59 ∷ 60 ∷ 60 ∷ 60 ∷ 60 ∷ 60 ∷ 60 ∷ 60 ∷ 60 ∷ 60 ∷ 61 ∷ 61 ∷ 61 ∷ 61 ∷ 61 ∷ 255 ∷ 255 ∷ 255 ∷ 255 ∷ 255 ∷ 255 ∷ 255 ∷ 255 ∷ 255 ∷ 255 ∷ 255 ∷ 255 ∷ 255 ∷ 255 ∷ 255 ∷ 255 ∷ 255 ∷ 255 ∷ 255 ∷ 255 ∷ 255 ∷ 255 ∷ 62 ∷ 62 ∷ 62 ∷ 62 ∷ 63 ∷ 64 ∷ 65 ∷ 65 ∷ 65 ∷ 65 ∷ 65 ∷ 65 ∷ 65 ∷ 65 ∷ 65 ∷ 65 ∷ 66 ∷ 66 ∷ 66 ∷ 66 ∷ 66 ∷ 66 ∷ 66 ∷ 66 ∷ 66 ∷ 66 ∷ 66 ∷ 66 ∷ 255 ∷ 255 ∷ 67 ∷ 67 ∷ 67 ∷ 68 ∷ 68 ∷ 68 ∷ 69 ∷ 255 ∷ 255 ∷ 255 ∷ 255 ∷ 255 ∷ 255 ∷ 255 ∷ 255 ∷ 255 ∷ 255 ∷ 255 ∷ 255 ∷ 255 ∷ 255 ∷ 255 ∷ 255 ∷ 255 ∷ 255 ∷ 255 ∷ 255 ∷ 255 ∷ 255 ∷ 255 ∷ 70 ∷ 71 ∷ 255 ∷ 72 ∷ 73 ∷ 74 ∷ 75 ∷ 255 ∷ 76 ∷ 76 ∷ 77 ∷ 77 ∷ 77 ∷ 77 ∷ 77 ∷ 77 ∷ 78 ∷ 78 ∷ 78 ∷ 255 ∷ 255 ∷ 79 ∷ 80 ∷ 81 ∷ 82 ∷ 83 ∷ 84 ∷ 85 ∷ 255 ∷ 86 ∷ 87 ∷ 88 ∷ 89 ∷ 89 ∷ 255 ∷ 255 ∷ 255 ∷ 255 ∷ 255 ∷ 255 ∷ 255 ∷ 255 ∷ 255 ∷ 255 ∷ 255 ∷ 255 ∷ 255 ∷ 255 ∷ 255 ∷ 255 ∷ 255 ∷ 255 ∷ 255 ∷ 255 ∷ 255 ∷ 255 ∷ 255 ∷ 255 ∷ 255 ∷ 255 ∷ 255 ∷ 255 ∷ 255 ∷ 255 ∷ 255 ∷ 255 ∷ 255 ∷ 255 ∷ 255 ∷ 255 ∷ 255 ∷ 255 ∷ 255 ∷ 255 ∷ 255 ∷ 255 ∷ 255 ∷ 255 ∷ 255 ∷ 255 ∷ 255 ∷ 255 ∷ 255 ∷ 255 ∷ 255 ∷ 255 ∷ 255 ∷ 255 ∷ 255 ∷ 255 ∷ 255 ∷ 255 ∷ 255 ∷ 90 ∷ 255 ∷ 255 ∷ 255 ∷ 255 ∷ 255 ∷ 255 ∷ 255 ∷ 255 ∷ 255 ∷ 255 ∷ 255 ∷ 255 ∷ 91 ∷ []
 
--- the number of the first row that has the opcode
-position_in : List PlainRow → ℕ → ℕ
-position_in [] n = 0
-position_in (r ∷ rs) n = if nat_le r.from n && nat_le n r.to then 0 else suc (position_in rs n)
+-- the number of the first row that has the opcode, counted on from k, or 255 where there is none
+position_from : List PlainRow → ℕ → ℕ → ℕ
+position_from [] k n = 255
+position_from (r ∷ rs) k n = if nat_le r.from n && nat_le n r.to then k else position_from rs (suc k) n
 
-found : (b : Bool) (r : PlainRow) (rs : List PlainRow) (k : ℕ) (o : Option PlainRow) → slice_get rs k ≡ o
-    → slice_get (r ∷ rs) (if b then 0 else suc k) ≡ (if b then Some r else o)
-found true r rs k o h = refl
-found false r rs k o h = h
+found : (b : Bool) (r : PlainRow) (full : List PlainRow) (k p : ℕ) (o : Option PlainRow) → slice_get full k ≡ Some r
+    → slice_get full p ≡ o → slice_get full (if b then k else p) ≡ (if b then Some r else o)
+found true r full k p o h g = h
+found false r full k p o h g = g
 
-at_position : (rs : List PlainRow) (n : ℕ) → slice_get rs (position_in rs n) ≡ row_in rs n
-unfolding position_in
-at_position [] n = refl
-at_position (r ∷ rs) n = found (nat_le r.from n && nat_le n r.to) r rs (position_in rs n) (row_in rs n) (at_position rs n)
+-- where the rows are those of a full list from k on
+at_position : (full rs : List PlainRow) (k n : ℕ) → slice_get full 255 ≡ None
+    → ((j : ℕ) → slice_get rs j ≡ slice_get full (k + j)) → slice_get full (position_from rs k n) ≡ row_in rs n
+unfolding position_from
+at_position full [] k n e h = e
+at_position full (r ∷ rs) k n e h =
+    let z : k + 0 ≡ k = omega arith in
+    let here : slice_get full k ≡ Some r = ap (slice_get full) (sym z) ∙ sym (h 0) in
+    let further : (j : ℕ) → slice_get rs j ≡ slice_get full (suc k + j) =
+    λ j. let s : k + suc j ≡ suc k + j = omega arith in h (suc j) ∙ ap (slice_get full) s in
+    found (nat_le r.from n && nat_le n r.to) r full k (position_from rs (suc k) n) (row_in rs n) here
+    (at_position full rs (suc k) n e further)
+
+-- no row has the number 255
+none_past : slice_get rows 255 ≡ None
+unfolding rows
+none_past = refl
+
+same_places : (j : ℕ) → slice_get rows j ≡ slice_get rows (0 + j)
+same_places j = let z : j ≡ 0 + j = omega arith in ap (slice_get rows) z
 
 -- the positions of count opcodes, from n on
 positions : List PlainRow → ℕ → ℕ → List ℕ
 positions rs n zero = []
-positions rs n (suc count) = position_in rs n ∷ positions rs (n + 1) count
+positions rs n (suc count) = position_from rs 0 n ∷ positions rs (n + 1) count
 
 agree : numbers ≡ positions rows 0 331
-unfolding numbers positions position_in rows
+unfolding numbers positions position_from rows
 agree = refl
 
-position_at : (rs : List PlainRow) (n count k : ℕ) → k < count → slice_get (positions rs n count) k ≡ Some (position_in rs (n + k))
+position_at : (rs : List PlainRow) (n count k : ℕ) → k < count → slice_get (positions rs n count) k ≡ Some (position_from rs 0 (n + k))
 unfolding positions
 position_at rs n zero k h = absurd (omega arith)
-position_at rs n (suc count) zero h = let e : n ≡ n + 0 = omega arith in ap (λ m. Some (position_in rs m)) e
+position_at rs n (suc count) zero h = let e : n ≡ n + 0 = omega arith in ap (λ m. Some (position_from rs 0 m)) e
 position_at rs n (suc count) (suc k) h =
     let e : (n + 1) + k ≡ n + suc k = omega arith in
-    position_at rs (n + 1) count k (omega arith) ∙ ap (λ m. Some (position_in rs m)) e
+    position_at rs (n + 1) count k (omega arith) ∙ ap (λ m. Some (position_from rs 0 m)) e
 
 -- the opcodes of all rows are below n
 are_below : List PlainRow → ℕ → Bool
@@ -73,7 +90,7 @@ pub numbered_row : (n : ℕ) → numbered rows (slice_get numbers n) ≡ row_of 
 numbered_row n = elim (cases_lt n 331) [
   | inl h ↦
       let z : 0 + n ≡ n = omega arith in
-      ap (λ ns. numbered rows (slice_get ns n)) agree ∙ ap (numbered rows) (position_at rows 0 331 n h) ∙ at_position rows (0 + n) ∙ ap row_of z
+      ap (λ ns. numbered rows (slice_get ns n)) agree ∙ ap (numbered rows) (position_at rows 0 331 n h) ∙ at_position rows rows 0 (0 + n) none_past same_places ∙ ap row_of z
   | inr h ↦
       let c = count in
       ap (numbered rows) (slice_get_past numbers n (omega arith)) ∙ sym (no_row rows 331 n all_below h)

@@ -6,7 +6,7 @@ use Rattle.spv_module.specs.Operand.{PlainInst}
 use Rattle.spv_layout.specs.declared.class.Class.{Class}
 use Rattle.spv_layout.specs.Layout.{classes}
 use Rattle.spv_layout.specs.Place.{section_of}
-use Rattle.spv_layout.specs.Kept.{count_with, AreSectioned, HasRoom}
+use Rattle.spv_layout.specs.inner.Kept.{count_with, AreSectioned, HasRoom}
 
 pub none_sectioned : (is : List PlainInst) → AreSectioned is 0
 none_sectioned is = record { each = λ k c l h. absurd (omega (arith, l)) }

@@ -9,12 +9,13 @@ use Rattle.spv_module.specs.Operand as operand
 use Rattle.spv_layout.specs.declared.form.Form.{Form}
 use Rattle.spv_layout.specs.declared.form.Form.TheVariants as form
 use Rattle.spv_layout.specs.declared.form.Row as declared
-use Rattle.spv_layout.specs.Row.{PlainRow, Ending, plain_row}
+use Rattle.spv_layout.specs.Row.{PlainRow, RowEnding}
+use Rattle.spv_layout.specs.inner.Row.{plain_row}
 use Rattle.spv_layout.specs.Rows.{row_of}
-use Rattle.spv_layout.specs.Shape.{is_of, AreOf, Ends, Fits}
+use Rattle.spv_layout.specs.Shape.{is_of, AreOf, Ends, FitsShape}
 use Rattle.spv_layout.specs.Place.{operand_words, section_of, word_count}
-use Rattle.spv_layout.specs.Single.{is_single, are_single, is_single_ending, is_single_row, are_same, are_same_sections, front_of, IsFront, is_flagged, are_flagged}
-use Rattle.spv_layout.specs.Test.{sort_of, sort_for}
+use Rattle.spv_layout.specs.inner.Single.{is_single, are_single, is_single_ending, is_single_row, are_same, are_same_sections, front_of, IsFront, is_flagged, are_flagged}
+use Rattle.spv_layout.specs.inner.Test.{sort_of, sort_for}
 use Rattle.spv_layout.proofs.Derivatives.{both_hold}
 
 same_is : (a b : Bool) → are_same a b ≡ true → a ≡ b
@@ -80,7 +81,7 @@ single_joined : (fs gs : List Form) → are_single fs ≡ true → are_single gs
 single_joined [] gs h g = g
 single_joined (f ∷ fs) gs h g = let p = both_hold (is_single f) (are_single fs) h in both_true (is_single f) (are_single (fs ++ gs)) p.0 (single_joined fs gs p.1 g)
 
-single_ends : (e : Ending) (fs : List Form) → Ends e fs → is_single_ending e ≡ true → are_single fs ≡ true
+single_ends : (e : RowEnding) (fs : List Form) → Ends e fs → is_single_ending e ≡ true → are_single fs ≡ true
 single_ends _ _ Ends.nothing h = refl
 single_ends _ _ (Ends.absent f) h = refl
 single_ends _ _ (Ends.present f) h = both_true (is_single f) true h refl
@@ -96,7 +97,7 @@ single_ends _ _ (Ends.no_kind f) h = cc
 single_ends _ _ (Ends.kind f gs e) h = cc
 
 -- the words of an instruction that fits such a row
-pub single_words : (G : Table) (i : PlainInst) (r : PlainRow) → Fits G i → row_of i.opcode ≡ Some r → is_single_row r ≡ true → word_count i ≡ 1 + length i.operands
+pub single_words : (G : Table) (i : PlainInst) (r : PlainRow) → FitsShape G i → row_of i.opcode ≡ Some r → is_single_row r ≡ true → word_count i ≡ 1 + length i.operands
 single_words G i r f e h =
     let x = f.has in
     let k : x.row ≡ r = (let a = x.known in cc) in
@@ -133,7 +134,7 @@ front_by G fs gs os n true h a e = let q : length fs ≡ n = sym (e ∙ front_al
 front_by G fs gs os n false h a e = let q : 0 ≡ n = sym (e ∙ front_none fs h) in subst (λ k. IsFront os k) q (no_front os)
 
 -- the first operands of an instruction that fits a row
-pub front_words : (G : Table) (i : PlainInst) (r : PlainRow) (n : ℕ) → Fits G i → row_of i.opcode ≡ Some r → n ≡ front_of r.fixed → IsFront i.operands n
+pub front_words : (G : Table) (i : PlainInst) (r : PlainRow) (n : ℕ) → FitsShape G i → row_of i.opcode ≡ Some r → n ≡ front_of r.fixed → IsFront i.operands n
 front_words G i r n f e h =
     let x = f.has in
     let k : x.row ≡ r = (let a = x.known in cc) in

@@ -7,7 +7,7 @@ use Rattle.spv_layout.specs.declared.class.Class.{Class}
 use Rattle.spv_layout.specs.Class.{is_among}
 use Rattle.spv_layout.specs.Layout.{classes}
 use Rattle.spv_layout.specs.Place.{IsAt, IsLast, IsWithin}
-use Rattle.spv_layout.specs.Span.{Span, Outside, In, entered, left, inside, UpTo, Before}
+use Rattle.spv_layout.specs.inner.Span.{Span, Outside, In, entered, left, inside, UpTo, Before}
 use Rattle.spv_layout.proofs.Places.{last_same}
 
 -- what the class of an instruction says

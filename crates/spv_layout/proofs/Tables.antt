@@ -6,7 +6,7 @@ use Rattle.spv_layout.specs.declared.class.Class.TheVariants.{Capability}
 use Rattle.spv_layout.specs.declared.state.State.{State}
 use Rattle.spv_layout.specs.declared.state.State.TheVariants as at
 use Rattle.spv_layout.specs.Class.{class_number}
-use Rattle.spv_layout.specs.State.{next_of, place_of, joined}
+use Rattle.spv_layout.specs.inner.State.{next_of, place_of, joined}
 
 -- the table of the code
 unfoldable pub table : List (Option State)

@@ -11,10 +11,11 @@ use Rattle.spv_module.specs.Operand as operand
 use Rattle.spv_layout.specs.declared.form.Role.TheVariants as role
 use Rattle.spv_layout.specs.declared.form.Form.{Form}
 use Rattle.spv_layout.specs.declared.form.Form.TheVariants as form
-use Rattle.spv_layout.specs.Row.{PlainRow, Ending, closed, maybe, file_and_text, repeated, others, maybe_others}
+use Rattle.spv_layout.specs.Row.{PlainRow, RowEnding, closed, maybe, file_and_text, repeated, others, maybe_others}
 use Rattle.spv_layout.specs.Rows.{row_of}
-use Rattle.spv_layout.specs.Shape.{is_of, AreOf, Ends, FitsEnding, Fits}
-use Rattle.spv_layout.specs.Test.{sort_of, sort_for, are_of, are_others, is_empty, are_rounds, is_kind_and_others, fits_ending, fits_row}
+use Rattle.spv_layout.specs.Shape.{is_of, AreOf, Ends, FitsShape}
+use Rattle.spv_layout.specs.inner.Shape.{FitsEnding}
+use Rattle.spv_layout.specs.inner.Test.{sort_of, sort_for, are_of, are_others, is_empty, are_rounds, is_kind_and_others, fits_ending, fits_row}
 use Rattle.spv_layout.proofs.Derivatives.{both_hold}
 use Rattle.spv_layout.proofs.Shapes.{no_operands, are_rest, are_moved}
 
@@ -52,7 +53,7 @@ is_empty_of os h = rw h refl
 none_are : (G : Table) (os : List Plain) → os ≡ [] → AreOf G [] os
 none_are G os h = rw h AreOf.none
 
-ending : (G : Table) (e : Ending) (fs : List Form) (os : List Plain) → Ends e fs → AreOf G fs os → FitsEnding G e os
+ending : (G : Table) (e : RowEnding) (fs : List Form) (os : List Plain) → Ends e fs → AreOf G fs os → FitsEnding G e os
 ending G e fs os a b = record { forms = fs; allowed = a; each = b }
 
 others_fit : (G : Table) (os : List Plain) → are_others G os ≡ true → FitsEnding G others os
@@ -127,7 +128,7 @@ text_fits G os h =
     ]
 
 -- the test of an ending says that operands fit it
-pub ending_fits : (G : Table) (e : Ending) (os : List Plain) → fits_ending G e os ≡ true → FitsEnding G e os
+pub ending_fits : (G : Table) (e : RowEnding) (os : List Plain) → fits_ending G e os ≡ true → FitsEnding G e os
 ending_fits G closed os h = ending G closed [] os Ends.nothing (none_are G os (empty_is os h))
 ending_fits G (maybe f) os h = elim (one_holds (is_empty os) (are_of G (f ∷ []) os) h) [
   | inl d ↦ ending G (maybe f) [] os (Ends.absent f) (none_are G os (empty_is os d))
@@ -155,7 +156,7 @@ no_kind_fit : (G : Table) (f : Form) (os : List Plain) → os ≡ [] → is_kind
 no_kind_fit G f os h = rw h refl
 
 -- and the other way round
-pub fits_ending_test : (G : Table) (e : Ending) (gs : List Form) (os : List Plain) → Ends e gs → AreOf G gs os → fits_ending G e os ≡ true
+pub fits_ending_test : (G : Table) (e : RowEnding) (gs : List Form) (os : List Plain) → Ends e gs → AreOf G gs os → fits_ending G e os ≡ true
 fits_ending_test G _ _ os Ends.nothing a = is_empty_of os (no_operands G [] os a refl)
 fits_ending_test G _ _ os (Ends.absent f) a = or_first (is_empty os) (are_of G (f ∷ []) os) (is_empty_of os (no_operands G [] os a refl))
 fits_ending_test G _ _ os (Ends.present f) a = or_second (is_empty os) (are_of G (f ∷ []) os) (are_tested G (f ∷ []) os a)
@@ -179,7 +180,7 @@ are_joined G [] gs os a b = b
 are_joined G (f ∷ fs) gs [] a b = elim a [ ]
 are_joined G (f ∷ fs) gs (o ∷ os) (AreOf.more _ _ _ _ h r) b = AreOf.more f o (fs ++ gs) os h (are_joined G fs gs os r b)
 
-fits_with : (G : Table) (i : PlainInst) (o : Option PlainRow) → row_of i.opcode ≡ o → fits_row G o i.operands ≡ true → Fits G i
+fits_with : (G : Table) (i : PlainInst) (o : Option PlainRow) → row_of i.opcode ≡ o → fits_row G o i.operands ≡ true → FitsShape G i
 fits_with G i None e h = cc
 fits_with G i (Some r) e h =
     let p = both_hold (are_of G r.fixed (take (length r.fixed) i.operands)) (fits_ending G r.ending (drop (length r.fixed) i.operands)) h in
@@ -197,7 +198,7 @@ fits_with G i (Some r) e h =
     }
 
 -- the test of an instruction says that it fits
-pub tested_fits : (G : Table) (i : PlainInst) → fits_row G (row_of i.opcode) i.operands ≡ true → Fits G i
+pub tested_fits : (G : Table) (i : PlainInst) → fits_row G (row_of i.opcode) i.operands ≡ true → FitsShape G i
 tested_fits G i h = fits_with G i (row_of i.opcode) refl h
 
 row_test : (G : Table) (r : PlainRow) (gs : List Form) (os : List Plain) → Ends r.ending gs → AreOf G (r.fixed ++ gs) os → fits_row G (Some r) os ≡ true
@@ -205,7 +206,7 @@ row_test G r gs os e a = both_true (are_of G r.fixed (take (length r.fixed) os))
     (are_tested G r.fixed (take (length r.fixed) os) (are_front G r.fixed gs os a))
     (fits_ending_test G r.ending gs (drop (length r.fixed) os) e (are_rest G r.fixed gs os a))
 
-pub fits_tested : (G : Table) (i : PlainInst) → Fits G i → fits_row G (row_of i.opcode) i.operands ≡ true
+pub fits_tested : (G : Table) (i : PlainInst) → FitsShape G i → fits_row G (row_of i.opcode) i.operands ≡ true
 fits_tested G i f =
     let h = f.has in
     rw h.known (row_test G h.row h.rest i.operands h.ending (are_moved G f.forms (h.row.fixed ++ h.rest) i.operands h.forms h.each))
@@ -259,13 +260,13 @@ row_tested G r items n a b e h g =
     let d : drop (length r.fixed) (map plain_operand items) ≡ map plain_operand (drop (length r.fixed) items) = drop-map plain_operand (length r.fixed) items in
     rw (t, d, ← h', ← g') refl
 
-pub fits_iff : (G : Table) (i : PlainInst) (o : Option PlainRow) (b : Bool) → row_of i.opcode ≡ o → fits_row G o i.operands ≡ b → IsTrue b ↔ Fits G i
+pub fits_iff : (G : Table) (i : PlainInst) (o : Option PlainRow) (b : Bool) → row_of i.opcode ≡ o → fits_row G o i.operands ≡ b → IsTrue b ↔ FitsShape G i
 fits_iff G i o b e h =
     let k : fits_row G (row_of i.opcode) i.operands ≡ b = rw e h in
     (λ t. tested_fits G i (k ∙ t), λ f. sym k ∙ fits_tested G i f)
 
 -- a row without more operands than its fixed ones, which each ending allows
-ending_empty : (G : Table) (e : Ending) (os : List Plain) → os ≡ [] → fits_ending G e os ≡ true
+ending_empty : (G : Table) (e : RowEnding) (os : List Plain) → os ≡ [] → fits_ending G e os ≡ true
 ending_empty G closed os h = rw h refl
 ending_empty G (maybe f) os h = rw h refl
 ending_empty G file_and_text os h = rw h refl

@@ -8,7 +8,7 @@ use Rattle.spv_module.specs.declared.fault.Stop.TheVariants.{Fault, Memory}
 use Rattle.spv_layout.specs.First.{IsFirst, IsUnbroken}
 use Rattle.spv_layout.specs.Broken.{Broken}
 use Rattle.spv_layout.specs.Layout.{IsLayout, classes}
-use Rattle.spv_layout.specs.Shape.{Fits}
+use Rattle.spv_layout.specs.Shape.{FitsShape}
 use Rattle.spv_layout.specs.Place.{IsOfSection, IsOfFunction, IsOfBlock, first_word_of}
 
 -- The place is that of instruction n.
@@ -20,14 +20,15 @@ pub record IsPlaceOf (is : List PlainInst) (n : ℕ) (p : Place) : Type 0 where
 
 -- Each instruction fits its row, all together are laid out as a module, and these are their places.
 pub record IsPlan (G : Table) (is : List PlainInst) (places : List Place) : Type 0 where
-  pub fits : (n : ℕ) (i : PlainInst) → slice_get is n ≡ Some i → Fits G i
+  pub fits : (n : ℕ) (i : PlainInst) → slice_get is n ≡ Some i → FitsShape G i
   pub layout : IsLayout (classes is)
   pub count : length places ≡ length is
   pub place : (n : ℕ) (p : Place) → slice_get places n ≡ Some p → IsPlaceOf is n p
 
--- What a refusal says: want of memory; or the first broken rule of the profile, or where none is, of the layout; with the
--- number of the first word of that instruction, or at the end the number of all words.
+-- What a refusal says: want of memory; or the first broken rule of the profile, or where none is, of the layout; with
+-- the number of the first word of that instruction, or at the end the number of all words.
 abbrev pub IsRefusal : Table → List PlainInst → Stop → Type 0
 IsRefusal G is Memory = Unit {0}
 IsRefusal G is (Fault f) =
-    (IsFirst (Broken G is) 1 f.rule f.inst ⊎ (IsUnbroken (Broken G is) 1 × IsFirst (Broken G is) 2 f.rule f.inst)) × (f.word ≡ first_word_of is f.inst)
+    (IsFirst (Broken G is) 1 f.rule f.inst ⊎ (IsUnbroken (Broken G is) 1 × IsFirst (Broken G is) 2 f.rule f.inst))
+    × (f.word ≡ first_word_of is f.inst)

@@ -1,14 +1,12 @@
 -- Rows of the table of shapes. (Own.)
-use Rattle.std.specs.Prelude.{ℕ, List, [], ◌∷◌, Bool, true, false, nat_le, ◌&&◌, if◌then◌else◌, Option, Some, None, codes, slice_get}
+use Rattle.std.specs.Prelude.{ℕ, List, [], ◌∷◌, Bool, true, false, nat_le, ◌&&◌, if◌then◌else◌}
+use Rattle.std.specs.Prelude.{Option, Some, None, codes}
 use Rattle.spv_layout.specs.declared.class.Class.{Class}
 use Rattle.spv_layout.specs.declared.form.Role.TheVariants as role
 use Rattle.spv_layout.specs.declared.form.Named.{Named}
 use Rattle.spv_layout.specs.declared.form.Named.TheVariants as kind_of
 use Rattle.spv_layout.specs.declared.form.Form.{Form}
 use Rattle.spv_layout.specs.declared.form.Form.TheVariants as form
-use Rattle.spv_layout.specs.declared.form.Ending as declared
-use Rattle.spv_layout.specs.declared.form.Ending.TheVariants as code
-use Rattle.spv_layout.specs.declared.form.Row as declared_row
 
 -- the letters of the table
 abbrev pub T : Form
@@ -57,40 +55,36 @@ abbrev pub kind : Named → Form
 kind name = form.Kind name
 
 -- what may come after the fixed operands of a row
-pub data Ending : Type 0 where
+pub data RowEnding : Type 0 where
   -- nothing
-  closed : Ending
+  closed : RowEnding
   -- one operand, or nothing: `f?`
-  maybe : Form → Ending
+  maybe : Form → RowEnding
   -- a file, or nothing, and then a text, or nothing: `s? S?`
-  file_and_text : Ending
+  file_and_text : RowEnding
   -- these operands in turn, any number of times: `(f g)*`
-  repeated : List Form → Ending
+  repeated : List Form → RowEnding
   -- any number of operands other than a type or a result: what `kind+` adds to the kind
-  others : Ending
+  others : RowEnding
   -- one operand, and any number of such others, or nothing: `[kind+]`
-  maybe_others : Form → Ending
+  maybe_others : Form → RowEnding
 
--- a row: from an opcode to an opcode, their class in the layout, the operands that they have, and what may come after these
+-- a row: from an opcode to an opcode, their class in the layout, the operands that they have, and what may come after
+-- these
 pub record PlainRow : Type 0 where
   pub from : ℕ
   pub to : ℕ
   pub class : Class
   pub fixed : List Form
-  pub ending : Ending
+  pub ending : RowEnding
 
-abbrev pub row : ℕ → ℕ → Class → List Form → Ending → PlainRow
+abbrev pub row : ℕ → ℕ → Class → List Form → RowEnding → PlainRow
 row from to class fixed ending = record { from = from; to = to; class = class; fixed = fixed; ending = ending }
 
 -- the first row that has the opcode
 abbrev pub row_in : List PlainRow → ℕ → Option PlainRow
 row_in [] n = None
 row_in (r ∷ rs) n = if nat_le r.from n && nat_le n r.to then Some r else row_in rs n
-
--- the row of a number, from 0, if there is a number and a row (for the code alone)
-abbrev pub numbered : List PlainRow → Option ℕ → Option PlainRow
-numbered rows None = None
-numbered rows (Some k) = slice_get rows k
 
 -- the name of a kind
 abbrev pub name_of : Named → List ℕ
@@ -114,15 +108,3 @@ has_masks kind_of.MemoryAccess = true
 has_masks kind_of.LoopControl = true
 has_masks kind_of.SelectionControl = true
 has_masks _ = false
-
--- a row of the code
-abbrev pub plain_ending : declared.Ending → Ending
-plain_ending code.Closed = closed
-plain_ending (code.Maybe f) = maybe f
-plain_ending code.FileAndText = file_and_text
-plain_ending (code.Repeated fs) = repeated fs.now
-plain_ending code.Others = others
-plain_ending (code.MaybeOthers f) = maybe_others f
-
-abbrev pub plain_row : declared_row.Row → PlainRow
-plain_row r = record { from = r.from; to = r.to; class = r.class; fixed = r.fixed.now; ending = plain_ending r.ending }

@@ -3,12 +3,14 @@
 ghost use Rattle.std.specs.Prelude.{◌≡◌, ◌+◌, ◌&&◌, [], true, length, map, Some, IfSome, IfNone};
 ghost use Rattle.spv_layout.specs.Place.{section_of, word_count};
 ghost use Rattle.spv_module.specs.Module.{plain_inst, plain_operand};
-ghost use Rattle.spv_layout.specs.Row.{has_masks, plain_ending, plain_row};
+ghost use Rattle.spv_layout.specs.Row.{has_masks};
+ghost use Rattle.spv_layout.specs.inner.Row.{plain_ending, plain_row};
 ghost use Rattle.spv_layout.specs.Rows.{class_of};
-ghost use Rattle.spv_layout.specs.Shape.{Fits, is_of};
-ghost use Rattle.spv_layout.specs.Single.{IsFront};
+ghost use Rattle.spv_layout.specs.Shape.{FitsShape, is_of};
+ghost use Rattle.spv_layout.specs.inner.Single.{IsFront};
 ghost use Rattle.spv_layout.specs.declared.form.Form.TheVariants.{Kind};
-ghost use Rattle.spv_layout.specs.Test.{sort_of, sort_for, are_of, are_others, are_rounds, is_kind_and_others, fits_ending, fits_row};
+ghost use Rattle.spv_layout.specs.inner.Test.{sort_of, sort_for, are_of, are_others, are_rounds, is_kind_and_others};
+ghost use Rattle.spv_layout.specs.inner.Test.{fits_ending, fits_row};
 
 use crate::form::{Ending, Form, Named, Role, Row};
 use crate::kinds::Kinds;
@@ -141,7 +143,8 @@ fn is_told(kinds: &Kinds<'_>, form: Form, operand: Operand<'_>) -> bool
     }
 }
 
-/// Whether it is told at once that operands are of these forms, one by one: of four at most, which most instructions have.
+/// Whether it is told at once that operands are of these forms, one by one: of four at most, which most instructions
+/// have.
 #[inline(always)]
 fn are_told(kinds: &Kinds<'_>, forms: &[Form], operands: &[Operand<'_>]) -> bool
     ensures { result ≡ true → are_of kinds.now forms.now (map plain_operand operands.now) ≡ true }
@@ -250,8 +253,8 @@ fn have_ending(kinds: &Kinds<'_>, row: &Row, operands: &[Operand<'_>]) -> bool
     }
 }
 
-/// Whether it is told at once that operands are one of a form and any number of others that are neither types nor results,
-/// or none.
+/// Whether it is told at once that operands are one of a form and any number of others that are neither types nor
+/// results, or none.
 #[inline(always)]
 fn is_first_told(kinds: &Kinds<'_>, form: Form, operands: &[Operand<'_>]) -> bool
     ensures { result ≡ true → is_kind_and_others kinds.now form (map plain_operand operands.now) ≡ true }
@@ -318,12 +321,13 @@ fn have_row(kinds: &Kinds<'_>, row: &Row, operands: &[Operand<'_>]) -> bool
 /// The row of an instruction that fits its opcode's row, under a grammar table.
 #[inline(always)]
 pub fn fitting(kinds: &Kinds<'_>, inst: &Inst<'_>) -> Option<&'static Row>
-    ensures fits { IfSome result (λ r. Fits kinds.now (plain_inst inst.now)) }
+    ensures fits { IfSome result (λ r. FitsShape kinds.now (plain_inst inst.now)) }
     ensures class { IfSome result (λ r. r.now.class ≡ class_of inst.now.opcode) }
     ensures section { IfSome result (λ r. r.now.section ≡ section_of r.now.class) }
-    ensures single { IfSome result (λ r. r.now.single ≡ true → word_count (plain_inst inst.now) ≡ 1 + length (plain_inst inst.now).operands) }
+    ensures single { IfSome result (λ r. r.now.single ≡ true
+        → word_count (plain_inst inst.now) ≡ 1 + length (plain_inst inst.now).operands) }
     ensures front { IfSome result (λ r. IsFront (plain_inst inst.now).operands r.now.front) }
-    ensures misfit { IfNone result (¬ (Fits kinds.now (plain_inst inst.now))) }
+    ensures misfit { IfNone result (¬ (FitsShape kinds.now (plain_inst inst.now))) }
 {
     let Some(row) = row(inst.opcode) else {
         return None;

@@ -1,13 +1,14 @@
 ghost use Rattle.std.specs.Prelude.{◌≡◌, ◌<◌};
 ghost use Rattle.spv_table.specs.Lookups.{number_named, is_number};
-ghost use Rattle.spv_layout.specs.Kinds.{place_of};
+ghost use Rattle.spv_layout.specs.inner.Kinds.{place_of};
 ghost use Rattle.spv_layout.specs.Row.{name_of};
 
 use crate::form::Named;
 use spv_table::Table;
 use std::marker::Model;
 
-/// A grammar table, with the numbers of the kinds that rows name: they are looked up once. Contracts see it as the table.
+/// A grammar table, with the numbers of the kinds that rows name: they are looked up once. Contracts see it as the
+/// table.
 #[derive(Debug, Drop)]
 pub struct Kinds<'a> {
     table: &'a Table,
@@ -20,7 +21,7 @@ impl<'a> Model for Kinds<'a> {
 
     ghost Value = { Table };
 
-    ghost use Rattle.spv_layout.specs.Kinds.{AreNumbered};
+    ghost use Rattle.spv_layout.specs.inner.Kinds.{AreNumbered};
 
     ghost view = { λ k. k.table.now };
 

@@ -1,5 +1,5 @@
-//! The layout of a module: which instructions the profile has and with which operands, the order of a module's sections, and where
-//! each instruction stands (SPIR-V Specification 1.6, section 2.4).
+//! The layout of a module: which instructions the profile has and with which operands, the order of a module's
+//! sections, and where each instruction stands (SPIR-V Specification 1.6, section 2.4).
 #![tactic(auto)]
 
 mod class;

@@ -1,10 +1,10 @@
 ghost use Rattle.std.specs.Prelude.{◌≡◌, ◌+◌, ◌<◌, ◌≤◌, true, length, None, IfErr, OnOk};
 ghost use Rattle.std.specs.Vec.{vec_len, vec_capacity};
-ghost use Rattle.spv_layout.specs.Single.{IsFront};
+ghost use Rattle.spv_layout.specs.inner.Single.{IsFront};
 ghost use Rattle.spv_module.specs.Module.{plain_inst, plain_operand};
 ghost use Rattle.spv_module.specs.declared.fault.Stop.TheVariants.{Memory};
 ghost use Rattle.spv_layout.specs.Place as specs;
-ghost use Rattle.spv_layout.specs.Kept.{early_with, late_with, count_with, early_place, late_place};
+ghost use Rattle.spv_layout.specs.inner.Kept.{early_with, late_with, count_with, early_place, late_place};
 
 use crate::form::Row;
 use crate::span::{Spans, number};
@@ -74,8 +74,8 @@ impl Standing {
     }
 }
 
-/// Keeps an instruction with its first word. `section` is that of its class, if it is one of sections 1 to 8; for one of
-/// the others there is room.
+/// Keeps an instruction with its first word. `section` is that of its class, if it is one of sections 1 to 8; for one
+/// of the others there is room.
 #[inline(always)]
 pub fn keep(
     early: &mut Vec<Early>,
@@ -118,7 +118,8 @@ fn operand_words(operand: Operand<'_>) -> usize
 #[inline(always)]
 pub fn words_of(inst: &Inst<'_>, row: &Row) -> u32
     requires words { specs.word_count (plain_inst inst.now) ≤ 4194304 }
-    requires single { row.now.single ≡ true → specs.word_count (plain_inst inst.now) ≡ 1 + length (plain_inst inst.now).operands }
+    requires single { row.now.single ≡ true
+        → specs.word_count (plain_inst inst.now) ≡ 1 + length (plain_inst inst.now).operands }
     requires front { IsFront (plain_inst inst.now).operands row.now.front }
     ensures { result ≡ specs.word_count (plain_inst inst.now) }
 {

@@ -1,4 +1,5 @@
-ghost use Rattle.std.specs.Prelude.{◌≡◌, ◌+◌, ◌≤◌, ◌<◌, ℕ, length, map, sum_by, slice_get, IfOk, IfErr, IfSome, IfNone, Some};
+ghost use Rattle.std.specs.Prelude.{◌≡◌, ◌+◌, ◌≤◌, ◌<◌, ℕ, length, map, sum_by, slice_get, IfOk};
+ghost use Rattle.std.specs.Prelude.{IfErr, IfSome, IfNone, Some};
 ghost use Rattle.spv_module.specs.Module.{plain_inst, plain_insts};
 ghost use Rattle.spv_module.specs.Operand.{PlainInst};
 ghost use Rattle.spv_module.specs.declared.fault.Rule.TheVariants as rule;
@@ -6,9 +7,9 @@ ghost use Rattle.spv_module.specs.declared.fault.Stop.TheVariants as stop;
 ghost use Rattle.spv_layout.specs.First.{IsFirst};
 ghost use Rattle.spv_layout.specs.Broken.{Broken};
 ghost use Rattle.spv_layout.specs.DeadPlace.{IsDeadPlace};
-ghost use Rattle.spv_layout.specs.Shape.{Fits};
+ghost use Rattle.spv_layout.specs.Shape.{FitsShape};
 ghost use Rattle.spv_layout.specs.Place.{word_count, first_word_of};
-ghost use Rattle.spv_layout.specs.Kept.{AreSectioned};
+ghost use Rattle.spv_layout.specs.inner.Kept.{AreSectioned};
 ghost use Rattle.spv_layout.specs.Plan.{IsPlan, IsRefusal};
 
 use crate::fitting::fitting;
@@ -40,7 +41,7 @@ pub struct Plan {
 impl Model for Plan {
     ghost use Rattle.std.specs.Prelude.{List};
     ghost use Rattle.spv_layout.specs.declared.place.Place.{Place};
-    ghost use Rattle.spv_layout.specs.Kept.{places_in};
+    ghost use Rattle.spv_layout.specs.inner.Kept.{places_in};
 
     ghost Value = { List Place };
 
@@ -83,7 +84,8 @@ fn fault(rule: Rule, inst: usize, word: u32) -> Stop
 fn first_misfit(kinds: &Kinds<'_>, insts: &[Inst<'_>]) -> Option<usize>
     ensures some { IfSome result (λ n. IsFirst (Broken kinds.now (map plain_inst insts.now)) 1 rule.P1 n) }
     ensures within { IfSome result (λ n. n < length insts.now) }
-    ensures none { IfNone result ((n : ℕ) (i : PlainInst) → slice_get (map plain_inst insts.now) n ≡ Some i → Fits kinds.now i) }
+    ensures none { IfNone result ((n : ℕ) (i : PlainInst) → slice_get (map plain_inst insts.now) n ≡ Some i
+        → FitsShape kinds.now i) }
 {
     for (i, inst) in insts.iter().enumerate() {
         let Some(_) = fitting(kinds, inst) else {
@@ -176,14 +178,16 @@ fn plan_of(alloc: Global, kinds: &Kinds<'_>, insts: &[Inst<'_>]) -> Result<Plan,
     })
 }
 
-/// Lays a module out: each instruction has the operands that the row of its opcode asks for (own), and all together stand
-/// in the order of the sections (SPIR-V Specification 1.6, section 2.4).
+/// Lays a module out: each instruction has the operands that the row of its opcode asks for (own), and all together
+/// stand in the order of the sections (SPIR-V Specification 1.6, section 2.4).
 ///
-/// A `Fault` tells the first broken rule, the number of its instruction, from 0, and that of the instruction's first word
+/// A `Fault` tells the first broken rule, the number of its instruction, from 0, and that of the instruction's first
+/// word
 /// in the module:
 /// - P1, wherever it stands: the opcode has no row, or the operands do not fit it (own).
 /// - L1, where no instruction breaks P1: no module goes on with this instruction after those before it (2.4).
-/// - L2, where none breaks P1 or L1: the module ends too early. The numbers are those of all instructions and all words.
+/// - L2, where none breaks P1 or L1: the module ends too early. The numbers are those of all instructions and all
+///   words.
 ///
 /// `Memory` comes only where a growth of memory was refused.
 ///

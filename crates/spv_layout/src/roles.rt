@@ -3,11 +3,11 @@
 ghost use Rattle.std.specs.Prelude.{◌≡◌, ◌≤◌, ◌<◌, ◌-◌, ◌%◌, ℕ, length, map, slice_get, Some};
 ghost use Rattle.spv_table.specs.Table.{Table};
 ghost use Rattle.spv_module.specs.Module.{plain_inst, plain_operand};
-ghost use Rattle.spv_layout.specs.Row.{plain_ending, plain_row};
+ghost use Rattle.spv_layout.specs.inner.Row.{plain_ending, plain_row};
 ghost use Rattle.spv_layout.specs.Rows.{row_of};
-ghost use Rattle.spv_layout.specs.Shape.{Fits, IsRole};
+ghost use Rattle.spv_layout.specs.Shape.{FitsShape, IsRole};
 ghost use Rattle.spv_layout.specs.Shape as shape;
-ghost use Rattle.spv_layout.specs.Test as test;
+ghost use Rattle.spv_layout.specs.inner.Test as test;
 
 use crate::form::{Ending, Form, Role, Row};
 use crate::rows::row;
@@ -71,7 +71,7 @@ fn form_at(row: &Row, operand: Operand<'_>, n: usize) -> Option<Form>
 /// The role of operand `n`, from 0, of an instruction that fits its row under some table: `lay_out` answers a plan only
 /// for such. None where that operand is no use of an id, or there is none of that number. It takes no memory.
 pub fn role(inst: &Inst<'_>, n: usize) -> Option<Role>
-    ensures { (G : Table) → Fits G (plain_inst inst.now) → IsRole G (plain_inst inst.now) n result }
+    ensures { (G : Table) → FitsShape G (plain_inst inst.now) → IsRole G (plain_inst inst.now) n result }
 {
     let Some(row) = row(inst.opcode) else {
         return None;

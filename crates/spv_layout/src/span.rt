@@ -1,13 +1,13 @@
 ghost use Rattle.std.specs.Prelude.{◌≡◌};
-ghost use Rattle.spv_layout.specs.Span.{mark, at_first, entered_in, left_in, no_spans};
+ghost use Rattle.spv_layout.specs.inner.Span.{mark, at_first, entered_in, left_in, no_spans};
 
 use crate::class::Class;
 
 /// In place of the number of an instruction: there is none. A module has fewer instructions.
 const NONE: u32 = u32::MAX;
 
-/// Which function and block the instructions so far leave open, and where sections 10 and 11 begin: each by the number of
-/// an OpFunction or OpLabel, or `NONE`.
+/// Which function and block the instructions so far leave open, and where sections 10 and 11 begin: each by the number
+/// of an OpFunction or OpLabel, or `NONE`.
 #[derive(Clone, Copy, Debug)]
 pub struct Spans {
     /// The OpFunction whose OpFunctionEnd is still to come.

@@ -8,7 +8,7 @@ use Rattle.spv_module.specs.Module.{plain_inst}
 use Rattle.spv_layout.specs.declared.state.State.{State}
 use Rattle.spv_layout.specs.Rows.{class_of}
 use Rattle.spv_layout.specs.Layout.{BeginsLayout, classes}
-use Rattle.spv_layout.specs.State.{next_of}
+use Rattle.spv_layout.specs.inner.State.{next_of}
 use Rattle.spv_layout.proofs.Layouts.{leads_nowhere}
 use Rattle.spv_layout.proofs.Dead.{front_begins}
 use Rattle.spv_layout.proofs.Slices.{leads_take, plain_seam}

@@ -13,7 +13,7 @@ use Rattle.spv_layout.specs.declared.state.State.{State}
 use Rattle.spv_layout.specs.Row.{PlainRow, row_in}
 use Rattle.spv_layout.specs.Rows.{rows, row_of}
 use Rattle.spv_layout.specs.Layout.{classes}
-use Rattle.spv_layout.specs.State.{may_stop}
+use Rattle.spv_layout.specs.inner.State.{may_stop}
 use Rattle.spv_layout.proofs.Layouts.{Leads, leads_begin}
 use Rattle.spv_layout_reasons.specs.Evidence.{HasRow, AreToCome, MayFollow}
 use Rattle.spv_layout_reasons.specs.inner.Automaton.{may_follow, followers}

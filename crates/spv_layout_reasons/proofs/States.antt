@@ -10,7 +10,7 @@ use Rattle.spv_layout.specs.declared.state.State.TheVariants as at
 use Rattle.spv_layout.specs.Row.{PlainRow}
 use Rattle.spv_layout.specs.Rows.{row_of, class_in, class_of}
 use Rattle.spv_layout.specs.Layout.{IsLayout, BeginsLayout, classes}
-use Rattle.spv_layout.specs.State.{next_of, may_stop}
+use Rattle.spv_layout.specs.inner.State.{next_of, may_stop}
 use Rattle.spv_layout.proofs.Layouts.{Leads, leads_first, leads_on, leads_begin, leads_nowhere, leads_end}
 use Rattle.spv_layout.proofs.Layouts.{leads_no_end, begins_before}
 use Rattle.spv_layout_reasons.specs.Evidence.{HasRow, MayFollow}

@@ -15,7 +15,7 @@ use Rattle.spv_layout.specs.Broken.{Broken}
 use Rattle.spv_layout.specs.DeadPlace.{IsDeadPlace}
 use Rattle.spv_layout.specs.Rows.{class_of}
 use Rattle.spv_layout.specs.Layout.{BeginsLayout, IsLayout, classes}
-use Rattle.spv_layout.specs.Shape.{Fits}
+use Rattle.spv_layout.specs.Shape.{FitsShape}
 use Rattle.spv_evidence.specs.declared.evidence.Evidence.{Evidence}
 use Rattle.spv_evidence.specs.declared.evidence.Evidence.TheVariants.{Shape, MayCome}
 use Rattle.spv_layout_reasons.specs.Evidence.{AreToCome, HasRow, IsEvidence}
@@ -26,7 +26,7 @@ use Rattle.spv_layout_reasons.proofs.Sufficing.{one_more}
 pub record IsMisfit (G : Table) (is : List PlainInst) (n : ℕ) : Type 0 where
   pub inst : PlainInst
   pub there : slice_get is n ≡ Some inst
-  pub misfit : ¬ (Fits G inst)
+  pub misfit : ¬ (FitsShape G inst)
 
 not_p1 : (is : List PlainInst) (r : Rule) (n : ℕ) → IsDeadPlace is r n → r ≡ P1 → ⊥
 not_p1 _ _ _ (IsDeadPlace.misplaced before i later b d) e = cc
@@ -48,7 +48,7 @@ some_same : (o : Option PlainInst) (i j : PlainInst) → o ≡ Some i → o ≡ 
 some_same o i j e f = cc
 
 shaped_as : (G : Table) (is : List PlainInst) (n : ℕ) (i : PlainInst) (e : Evidence) → slice_get is n ≡ Some i
-    → ¬ (Fits G i) → IsShapeOf i.opcode e → IsEvidence G is P1 n e
+    → ¬ (FitsShape G i) → IsShapeOf i.opcode e → IsEvidence G is P1 n e
 shaped_as G is n i (Shape o known) h f s = rw s.0 (IsEvidence.misfit i n known h s.1 f)
 shaped_as G is n i e h f s = absurd s
 
@@ -58,7 +58,7 @@ pub shaped : (G : Table) (is : List PlainInst) (r : Rule) (n : ℕ) (i : PlainIn
 shaped G is r n i e h b p s =
     let m = misfit_at G is r n b p in
     let same : m.inst ≡ i = some_same (slice_get is n) m.inst i m.there h in
-    subst (λ q. IsEvidence G is q n e) (sym p) (shaped_as G is n i e h (subst (λ j. ¬ (Fits G j)) same m.misfit) s)
+    subst (λ q. IsEvidence G is q n e) (sym p) (shaped_as G is n i e h (subst (λ j. ¬ (FitsShape G j)) same m.misfit) s)
 
 -- where another rule is, the place is dead
 pub dead_at : (G : Table) (is : List PlainInst) (r : Rule) (n : ℕ) → Broken G is r n → ¬ (r ≡ P1) → IsDeadPlace is r n

@@ -14,7 +14,7 @@ use Rattle.spv_layout.specs.declared.state.State.TheVariants as at
 use Rattle.spv_layout.specs.declared.class.Class.TheVariants.{Body}
 use Rattle.spv_layout.specs.Rows.{rows, row_of}
 use Rattle.spv_layout.specs.Row.{PlainRow}
-use Rattle.spv_layout.specs.Shape.{Fits}
+use Rattle.spv_layout.specs.Shape.{FitsShape}
 use Rattle.spv_layout.specs.Layout.{classes}
 use Rattle.spv_layout.specs.Example.{load_of_word, matrix}
 use Rattle.spv_layout.proofs.Layouts.{Leads}
@@ -39,8 +39,8 @@ shape_of G is _ _ o _ known (IsEvidence.misplaced i n os end h a none) e = absur
 shape_of G is _ _ o _ known (IsEvidence.unfinished os a) e = absurd cc
 
 pub misfit_of : (G : Table) (is : List PlainInst) (r : Rule) (n : ℕ) (e : Evidence) (i : PlainInst)
-    → IsEvidence G is r n e → r ≡ P1 → slice_get is n ≡ Some i → ¬ (Fits G i)
-misfit_of G is _ _ _ i (IsEvidence.misfit j n k h g f) e there = let a : j ≡ i = cc in subst (λ x. ¬ (Fits G x)) a f
+    → IsEvidence G is r n e → r ≡ P1 → slice_get is n ≡ Some i → ¬ (FitsShape G i)
+misfit_of G is _ _ _ i (IsEvidence.misfit j n k h g f) e there = let a : j ≡ i = cc in subst (λ x. ¬ (FitsShape G x)) a f
 misfit_of G is _ _ _ i (IsEvidence.misplaced j n os end h a none) e there = absurd cc
 misfit_of G is _ _ _ i (IsEvidence.unfinished os a) e there = absurd cc
 
@@ -146,15 +146,15 @@ pub unended_shows : IsEvidence small unended L2 4 (MayCome (8 ∷ 56 ∷ 248 ∷
 unended_shows = IsEvidence.unfinished (8 ∷ 56 ∷ 248 ∷ 317 ∷ []) unended_to_come
 
 -- shapes
-word_fits_not : ¬ (Fits small load_of_word)
+word_fits_not : ¬ (FitsShape small load_of_word)
 unfolding rows
 word_fits_not f = let h = fits_tested small load_of_word f in cc
 
-matrix_fits_not : ¬ (Fits small matrix)
+matrix_fits_not : ¬ (FitsShape small matrix)
 unfolding rows
 matrix_fits_not f = let h = fits_tested small matrix f in cc
 
-load_fits : Fits small load
+load_fits : FitsShape small load
 unfolding rows
 load_fits = tested_fits small load refl
 

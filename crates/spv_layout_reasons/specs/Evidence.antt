@@ -1,5 +1,6 @@
 -- What shows that an instruction fits no row of the table of shapes, or that no module goes on at a place. [2.4; own]
-use Rattle.std.specs.Prelude.{◌≡◌, ◌++◌, ◌↔◌, ℕ, List, [], ◌∷◌, Bool, false, IsTrue, Some, length, slice_get, take}
+use Rattle.std.specs.Prelude.{◌≡◌, ◌++◌, ◌↔◌, ℕ, List, [], ◌∷◌, Bool, false, IsTrue, Some}
+use Rattle.std.specs.Prelude.{length, slice_get, take}
 use Rattle.std.specs.List.{Contains}
 use Rattle.std.specs.List.Sorted.{IsStrictlyIncreasing}
 use Rattle.spv_table.specs.Table.{Table}
@@ -8,7 +9,7 @@ use Rattle.spv_module.specs.declared.fault.Rule.{Rule}
 use Rattle.spv_module.specs.declared.fault.Rule.TheVariants.{P1, L1, L2}
 use Rattle.spv_layout.specs.Row.{PlainRow}
 use Rattle.spv_layout.specs.Rows.{row_of, class_of}
-use Rattle.spv_layout.specs.Shape.{Fits}
+use Rattle.spv_layout.specs.Shape.{FitsShape}
 use Rattle.spv_layout.specs.Layout.{IsLayout, BeginsLayout, classes}
 use Rattle.spv_evidence.specs.declared.evidence.Evidence.{Evidence}
 use Rattle.spv_evidence.specs.declared.evidence.Evidence.TheVariants.{Shape, MayCome}
@@ -34,9 +35,11 @@ pub record AreToCome (before : List PlainInst) (opcodes : List ℕ) (end : Bool)
 pub data IsEvidence (G : Table) (is : List PlainInst) : Rule → ℕ → Evidence → Type 0 where
   -- the opcode of an instruction that fits no row, and whether it has one
   misfit : (i : PlainInst) (n : ℕ) (known : Bool) → slice_get is n ≡ Some i → IsTrue known ↔ HasRow i.opcode
-      → ¬ (Fits G i) → IsEvidence G is P1 n (Shape i.opcode known)
+      → ¬ (FitsShape G i) → IsEvidence G is P1 n (Shape i.opcode known)
   -- what may come in the place of an instruction, of which the opcode is none of these
   misplaced : (i : PlainInst) (n : ℕ) (opcodes : List ℕ) (end : Bool) → slice_get is n ≡ Some i
-      → AreToCome (take n is) opcodes end → ¬ (Contains opcodes i.opcode) → IsEvidence G is L1 n (MayCome opcodes end)
+      → AreToCome (take n is) opcodes end → ¬ (Contains opcodes i.opcode)
+      → IsEvidence G is L1 n (MayCome opcodes end)
   -- what may come after all instructions, where no module may end
-  unfinished : (opcodes : List ℕ) → AreToCome is opcodes false → IsEvidence G is L2 (length is) (MayCome opcodes false)
+  unfinished : (opcodes : List ℕ) → AreToCome is opcodes false
+      → IsEvidence G is L2 (length is) (MayCome opcodes false)

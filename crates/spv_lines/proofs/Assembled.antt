@@ -5,7 +5,7 @@ use Rattle.spv_table.specs.Table.{Table, pattern_of}
 use Rattle.spv_module.specs.Operand.{PlainInst, start, result_in}
 use Rattle.spv_inst.specs.Flat.{due}
 use Rattle.spv_module.specs.Instruction.{IsInstruction, Listing, IsListing, first_word}
-use Rattle.spv_inst.specs.Encoding.{Fits, greatest_length}
+use Rattle.spv_inst.specs.Encoding.{HeaderFits, greatest_length}
 use Rattle.spv_inst.proofs.Joined.{flat_match}
 use Rattle.spv_lines.specs.declared.asm_error.AsmCode.{AsmCode}
 use Rattle.spv_lines.specs.Operand.{IsRead}
@@ -59,13 +59,13 @@ read_words_once G h k is js ws vs t a b =
     words_same G [] is js a.lines b.lines ws vs a.read b.read r.second
 
 -- what is read of a shown text is what it shows, and nothing fails there
-pub shown_assembles : (G : Table) (h k : Header) (is js : List PlainInst) (ws vs t : List ℕ) → IsShownText G h is t → IsListing G is ws → AreWords ws → Fits h → h.generator < 2 ^ 32 → 5 + length ws ≤ greatest_length
+pub shown_assembles : (G : Table) (h k : Header) (is js : List PlainInst) (ws vs t : List ℕ) → IsShownText G h is t → IsListing G is ws → AreWords ws → HeaderFits h → h.generator < 2 ^ 32 → 5 + length ws ≤ greatest_length
     → IsReadText G k js vs t → (h ≡ k) × (is ≡ js) × (ws ≡ vs)
 shown_assembles G h k is js ws vs t a b w f g s x =
     let y = text_back G h is ws t a b w f g s in
     let z = reads_once G h k is js ws vs t y x in
     (z.0, z.1, read_words_once G h k is js ws vs t y x)
 
-pub shown_fails_not : (G : Table) (h : Header) (is : List PlainInst) (ws t : List ℕ) (a : AsmCode) (n : ℕ) → IsTidy G → IsShownText G h is t → IsListing G is ws → AreWords ws → Fits h → h.generator < 2 ^ 32
+pub shown_fails_not : (G : Table) (h : Header) (is : List PlainInst) (ws t : List ℕ) (a : AsmCode) (n : ℕ) → IsTidy G → IsShownText G h is t → IsListing G is ws → AreWords ws → HeaderFits h → h.generator < 2 ^ 32
     → 5 + length ws ≤ greatest_length → IsFailure G t a n → ⊥
 shown_fails_not G h is ws t a n tidy b c w f g s x = read_or_failed G h is ws t a n tidy (text_back G h is ws t b c w f g s) x

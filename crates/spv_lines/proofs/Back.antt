@@ -11,7 +11,8 @@ use Rattle.spv_module.specs.Operand.{Plain, OfType, Result, Id, Word, Number, Te
 use Rattle.spv_module.specs.Shape.{Slot, Shape, shape_of}
 use Rattle.spv_module.specs.Spelling.{Takes}
 use Rattle.spv_inst.specs.Reading.{enumerants_at}
-use Rattle.spv_inst.specs.Flat.{Due, OneOf, ManyOf, Matches}
+use Rattle.spv_inst.specs.Flat.{Due, OneOf, ManyOf}
+use Rattle.spv_inst.specs.inner.Flat.{Matches}
 use Rattle.spv_lines.specs.Name.{is_plain, IsNameOf, AreNamesOf, Names, NamesMask, joined, by_number, mask_values, if_plain, first_name, first_names, shown_value, shown_mask}
 use Rattle.spv_lines.specs.Operand.{Shown, IsRead, shown_operand, is_float, id_text, escaped, quoted, number_text}
 use Rattle.spv_lines.specs.Written.{Piece, Written}

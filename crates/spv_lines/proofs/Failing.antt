@@ -6,9 +6,10 @@ use Rattle.spv_words.specs.declared.words.Header.{Header}
 use Rattle.spv_table.specs.declared.table.Entry.{Entry}
 use Rattle.spv_table.specs.Table.{Table, Item, pattern_of}
 use Rattle.spv_module.specs.Operand.{Plain, PlainInst, Context, start, result_in}
-use Rattle.spv_inst.specs.Flat.{Matches, due}
+use Rattle.spv_inst.specs.Flat.{due}
+use Rattle.spv_inst.specs.inner.Flat.{Matches}
 use Rattle.spv_module.specs.Instruction.{first_word}
-use Rattle.spv_inst.specs.Encoding.{Fits, greatest_count, greatest_length}
+use Rattle.spv_inst.specs.Encoding.{HeaderFits, greatest_count, greatest_length}
 use Rattle.spv_inst.proofs.Flat.{spelled_once}
 use Rattle.spv_lines.specs.declared.asm_error.AsmCode.{AsmCode}
 use Rattle.spv_lines.specs.declared.asm_error.AsmCode.TheVariants.{S1, S4, S5}
@@ -258,14 +259,14 @@ lines_fail_same G tidy _ _ _ _ _ _ _ _ (LinesFail.later before written l ls a n 
     record { code = r.code; place = ap suc r.place }
 
 -- the lines of a header that fits
-header_right : (h : Header) (ls : List (List ℕ)) (p : HeaderLine) → Fits h → h.generator < 2 ^ 32 → IsHeaderLine p (line_at (header_lines h ++ ls) p)
+header_right : (h : Header) (ls : List (List ℕ)) (p : HeaderLine) → HeaderFits h → h.generator < 2 ^ 32 → IsHeaderLine p (line_at (header_lines h ++ ls) p)
 header_right h ls HeaderLine.Magic f g = refl
 header_right h ls HeaderLine.Version f g = refl
 header_right h ls HeaderLine.Generator f g = (h.generator, g, refl)
 header_right h ls HeaderLine.Bound f g = (h.bound, f.bound_least, f.bound_most, refl)
 header_right h ls HeaderLine.Schema f g = refl
 
-header_not_failed : (h : Header) (ls ms : List (List ℕ)) (a : AsmCode) (n : ℕ) → Fits h → h.generator < 2 ^ 32 → ms ≡ header_lines h ++ ls → HeaderFails ms a n → ⊥
+header_not_failed : (h : Header) (ls ms : List (List ℕ)) (a : AsmCode) (n : ℕ) → HeaderFits h → h.generator < 2 ^ 32 → ms ≡ header_lines h ++ ls → HeaderFails ms a n → ⊥
 header_not_failed h ls ms a n f g e x = x.wrong (rw e (header_right h ls x.line f g))
 
 abbrev numbered : ℕ → HeaderLine

@@ -12,7 +12,7 @@ use Rattle.spv_lines.specs.declared.asm_error.AsmCode.{AsmCode}
 use Rattle.spv_lines.specs.Operand.{IsRead}
 use Rattle.spv_lines.specs.Written.{Written}
 use Rattle.spv_lines.specs.Line.{AreWords}
-use Rattle.spv_lines.specs.Refusal.{Pends, Stands, Refuses, OperandsFail}
+use Rattle.spv_lines.specs.Refusal.{Pends, StandsInLine, SlotRefuses, OperandsFail}
 use Rattle.spv_lines.proofs.Once.{forget}
 use Rattle.spv_lines.proofs.Pieces.{piece_same}
 use Rattle.spv_lines.proofs.Reading.{written_break, no_text, only_front, all_split, result_changed}
@@ -24,7 +24,7 @@ record SameFront (o q : Plain) (ss ts : List Slot) (t u : List ℕ) : Type 0 whe
   pub slots : ss ≡ ts
   pub rest : t ≡ u
 
-stands_once : (G : Table) (r : Option ℕ) (c : Context) (s : Slot) (o q : Plain) (ss ts : List Slot) (t u v w : List ℕ) → Stands G r c s o ss t v → Stands G r c s q ts u w → t ≡ u
+stands_once : (G : Table) (r : Option ℕ) (c : Context) (s : Slot) (o q : Plain) (ss ts : List Slot) (t u v w : List ℕ) → StandsInLine G r c s o ss t v → StandsInLine G r c s q ts u w → t ≡ u
     → SameFront o q ss ts v w
 stands_once G r c s o q ss ts t u v w a b e =
     let f : a.piece ++ v ≡ b.piece ++ w = sym a.all ∙ (e ∙ b.all) in
@@ -32,15 +32,15 @@ stands_once G r c s o q ss ts t u v w a b e =
     let k = takes_back s.kind (shape_of G c s) o q a.words b.words ss ts a.takes b.takes z.operand in
     record { operand = z.operand; slots = k.slots; rest = z.rest }
 
-refuse_same : (G : Table) (r : Option ℕ) (c : Context) (s : Slot) (t u : List ℕ) (a b : AsmCode) → Refuses G r c s t a → Refuses G r c s u b → t ≡ u → a ≡ b
-refuse_same G r c s t u _ _ (Refuses.large l) (Refuses.large m) e = refl
-refuse_same G r c s t u _ _ (Refuses.large l) (Refuses.wrong n m) e = absurd (m (rw (← e) l))
-refuse_same G r c s t u _ _ (Refuses.wrong n m) (Refuses.large l) e = absurd (m (rw e l))
-refuse_same G r c s t u _ _ (Refuses.wrong n m) (Refuses.wrong k l) e = refl
+refuse_same : (G : Table) (r : Option ℕ) (c : Context) (s : Slot) (t u : List ℕ) (a b : AsmCode) → SlotRefuses G r c s t a → SlotRefuses G r c s u b → t ≡ u → a ≡ b
+refuse_same G r c s t u _ _ (SlotRefuses.large l) (SlotRefuses.large m) e = refl
+refuse_same G r c s t u _ _ (SlotRefuses.large l) (SlotRefuses.wrong n m) e = absurd (m (rw (← e) l))
+refuse_same G r c s t u _ _ (SlotRefuses.wrong n m) (SlotRefuses.large l) e = absurd (m (rw e l))
+refuse_same G r c s t u _ _ (SlotRefuses.wrong n m) (SlotRefuses.wrong k l) e = refl
 
-stands_refuses : (G : Table) (r : Option ℕ) (c : Context) (s : Slot) (o : Plain) (ss : List Slot) (t u v : List ℕ) (a : AsmCode) → Stands G r c s o ss t v → Refuses G r c s u a → t ≡ u → ⊥
-stands_refuses G r c s o ss t u v _ h (Refuses.large l) e = stands_not_large G r c s o ss t v h (rw e l)
-stands_refuses G r c s o ss t u v _ h (Refuses.wrong n m) e = let h' : Stands G r c s o ss u v = rw e at h in n o ss v h'
+stands_refuses : (G : Table) (r : Option ℕ) (c : Context) (s : Slot) (o : Plain) (ss : List Slot) (t u v : List ℕ) (a : AsmCode) → StandsInLine G r c s o ss t v → SlotRefuses G r c s u a → t ≡ u → ⊥
+stands_refuses G r c s o ss t u v _ h (SlotRefuses.large l) e = stands_not_large G r c s o ss t v h (rw e l)
+stands_refuses G r c s o ss t u v _ h (SlotRefuses.wrong n m) e = let h' : StandsInLine G r c s o ss u v = rw e at h in n o ss v h'
 
 leaf_parts : (sh : Shape) (ss : List Slot) → IsLeaf sh → sh ≡ AsParts ss → ⊥
 leaf_parts sh ss l e = let m : IsLeaf (AsParts ss) = rw e at l in m

@@ -14,7 +14,7 @@ use Rattle.spv_lines.specs.Name.{is_plain, is_name_octet, Names, NamesMask, by_n
 use Rattle.spv_lines.specs.Operand.{IsRead, id_text, is_float, number_text}
 use Rattle.spv_lines.specs.Written.{Piece}
 use Rattle.spv_lines.specs.Line.{AreWords}
-use Rattle.spv_lines.specs.Refusal.{IsBreak, Place, place_of, is_front, IsTooLarge, Stands}
+use Rattle.spv_lines.specs.Refusal.{IsBreak, Place, place_of, is_front, IsTooLarge, StandsInLine}
 use Rattle.spv_lines.proofs.Tame.{Both, AreTame, decimal_tame, run_same}
 use Rattle.spv_lines.proofs.Tokens.{first_same}
 use Rattle.spv_lines.proofs.Numbers.{well_formed_tame, not_large}
@@ -158,5 +158,5 @@ large_piece G r c s _ ws ss _ t v h w (Piece.other o a n e) i f l =
     let g : 32 ∷ (a ++ t) ≡ 32 ∷ (l.place.mark ++ (l.digits ++ l.rest)) = sym f ∙ l.all in
     large_token G (is_float G c s) s.kind (shape_of G c s) o ws ss l.place a l.digits t l.rest h w e l.placed l.large i l.broken (first_same 32 32 (a ++ t) (l.place.mark ++ (l.digits ++ l.rest)) g).second
 
-pub stands_not_large : (G : Table) (r : Option ℕ) (c : Context) (s : Slot) (o : Plain) (ss : List Slot) (t rest : List ℕ) → Stands G r c s o ss t rest → IsTooLarge G c s t → ⊥
+pub stands_not_large : (G : Table) (r : Option ℕ) (c : Context) (s : Slot) (o : Plain) (ss : List Slot) (t rest : List ℕ) → StandsInLine G r c s o ss t rest → IsTooLarge G c s t → ⊥
 stands_not_large G r c s o ss t rest h l = large_piece G r c s o h.words ss h.piece rest t h.takes h.small h.written h.broken h.all l

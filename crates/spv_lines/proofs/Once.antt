@@ -5,7 +5,8 @@ use Rattle.spv_table.specs.declared.table.Entry.{Entry}
 use Rattle.spv_table.specs.Table.{Table, entry_of, pattern_of}
 use Rattle.spv_module.specs.Operand.{Plain, Result, PlainInst, Context, and_then, start, result_in}
 use Rattle.spv_module.specs.Shape.{Slot, shape_of}
-use Rattle.spv_inst.specs.Flat.{Due, OneOf, ManyOf, Matches, due}
+use Rattle.spv_inst.specs.Flat.{Due, OneOf, ManyOf, due}
+use Rattle.spv_inst.specs.inner.Flat.{Matches}
 use Rattle.spv_inst.proofs.Flat.{spelled_once, same_bases}
 use Rattle.spv_inst.proofs.Takes.{takes_back, takes_no_parts}
 use Rattle.spv_lines.specs.Operand.{Form, Shown, shown_operand, is_result, is_float}

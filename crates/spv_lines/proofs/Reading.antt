@@ -10,8 +10,9 @@ use Rattle.spv_table.specs.Lookups.{opcode_named}
 use Rattle.spv_module.specs.Operand.{Plain, Result, PlainInst, Context, and_then, start, result_in}
 use Rattle.spv_module.specs.Shape.{Slot, Shape, shape_of}
 use Rattle.spv_module.specs.Spelling.{Takes, result_type, result, id, word, narrow, wide, text, value, mask}
-use Rattle.spv_inst.specs.Flat.{Due, OneOf, ManyOf, Matches, due}
-use Rattle.spv_inst.specs.Encoding.{Fits}
+use Rattle.spv_inst.specs.Flat.{Due, OneOf, ManyOf, due}
+use Rattle.spv_inst.specs.inner.Flat.{Matches}
+use Rattle.spv_inst.specs.Encoding.{HeaderFits}
 use Rattle.spv_inst.proofs.Flat.{same_bases, no_words, no_operands}
 use Rattle.spv_inst.proofs.Takes.{takes_back, takes_no_parts}
 use Rattle.spv_lines.specs.Operand.{Form, IsRead, id_text}
@@ -218,7 +219,7 @@ header_fields h k a b c d =
 cells_same : (x y : List ℕ) (xs ys : List (List ℕ)) → x ∷ xs ≡ y ∷ ys → Both (x ≡ y) (xs ≡ ys)
 cells_same x y xs ys e = record { first = cc; second = cc }
 
-pub header_same : (h k : Header) (ls ms : List (List ℕ)) → Fits h → Fits k → h.generator < 2 ^ 32 → k.generator < 2 ^ 32 → header_lines h ++ ls ≡ header_lines k ++ ms → Both (h ≡ k) (ls ≡ ms)
+pub header_same : (h k : Header) (ls ms : List (List ℕ)) → HeaderFits h → HeaderFits k → h.generator < 2 ^ 32 → k.generator < 2 ^ 32 → header_lines h ++ ls ≡ header_lines k ++ ms → Both (h ≡ k) (ls ≡ ms)
 header_same h k ls ms f g a b e =
     let e1 = cells_same _ _ _ _ e in
     let e2 = cells_same _ _ _ _ e1.second in

@@ -9,7 +9,8 @@ use Rattle.spv_module.specs.Operand.{Plain, Context, and_then, result_in}
 use Rattle.spv_module.specs.Shape.{Slot, alone, Shape, AsParts, AsNumber, AsWord, AsText, AsNothing, shape_of, kind_shape, category_shape, literal_shape, integer_shape}
 use Rattle.spv_module.specs.Width.{switch_width, context_width}
 use Rattle.spv_module.specs.Spelling.{Takes}
-use Rattle.spv_inst.specs.Flat.{Due, OneOf, MaybeOf, ManyOf, Matches, due}
+use Rattle.spv_inst.specs.Flat.{Due, OneOf, MaybeOf, ManyOf, due}
+use Rattle.spv_inst.specs.inner.Flat.{Matches}
 use Rattle.spv_lines.specs.Fault.{is_result_shape, must_have_result, may_have_result}
 use Rattle.spv_lines.specs.Tidy.{IsTidy, AreNoResults}
 

@@ -7,9 +7,10 @@ use Rattle.spv_words.specs.declared.words.Header.{Header}
 use Rattle.spv_table.specs.Table.{Table, pattern_of}
 use Rattle.spv_table.specs.Lookups.{opcode_named}
 use Rattle.spv_module.specs.Operand.{PlainInst, start, result_in}
-use Rattle.spv_inst.specs.Flat.{Matches, due}
+use Rattle.spv_inst.specs.Flat.{due}
+use Rattle.spv_inst.specs.inner.Flat.{Matches}
 use Rattle.spv_module.specs.Instruction.{IsInstruction, Listing, IsListing, first_word}
-use Rattle.spv_inst.specs.Encoding.{Fits, greatest_length}
+use Rattle.spv_inst.specs.Encoding.{HeaderFits, greatest_length}
 use Rattle.spv_inst.proofs.Joined.{match_flat}
 use Rattle.spv_inst.proofs.Flat.{spelled_once}
 use Rattle.spv_lines.specs.Name.{is_plain, is_name_octet, Names}
@@ -217,7 +218,7 @@ header_feedless h g b = (
   ),
 )
 
-pub text_back : (G : Table) (h : Header) (is : List PlainInst) (words t : List ℕ) → IsShownText G h is t → IsListing G is words → AreWords words → Fits h → h.generator < 2 ^ 32
+pub text_back : (G : Table) (h : Header) (is : List PlainInst) (words t : List ℕ) → IsShownText G h is t → IsListing G is words → AreWords words → HeaderFits h → h.generator < 2 ^ 32
     → 5 + length words ≤ greatest_length → IsReadText G h is words t
 text_back G h is words t a b w f g s =
     let x = lines_back G [] is is a.lines words a.shown b refl w in

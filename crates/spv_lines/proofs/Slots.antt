@@ -10,7 +10,7 @@ use Rattle.spv_inst.specs.declared.form.Leaf.TheVariants as leaf
 use Rattle.spv_module.specs.Shape.{Slot, Shape, AsType, AsResult, AsId, AsWord, AsNumber, AsText, AsValue, AsMask, AsParts, AsNothing, shape_of}
 use Rattle.spv_module.specs.Spelling.{Takes, octets_of}
 use Rattle.spv_module.specs.Refusal.{IsLeaf}
-use Rattle.spv_inst.specs.Written.{text_words, is_without_zero, is_fit}
+use Rattle.spv_inst.specs.inner.Written.{text_words, is_without_zero, is_fit}
 use Rattle.spv_inst.proofs.Fit.{fit_takes, takes_fit}
 use Rattle.spv_lines.specs.declared.asm_error.AsmCode.{AsmCode}
 use Rattle.spv_lines.specs.declared.asm_error.AsmCode.TheVariants.{S3, S4}
@@ -18,7 +18,7 @@ use Rattle.spv_lines.specs.Digits.{IsLarge}
 use Rattle.spv_lines.specs.Operand.{IsRead, is_result, is_float, quoted}
 use Rattle.spv_lines.specs.Written.{Piece}
 use Rattle.spv_lines.specs.Line.{AreWords}
-use Rattle.spv_lines.specs.Refusal.{IsBreak, at_end, at_space, Place, place_of, is_front, IsTooLarge, Stands, Refuses}
+use Rattle.spv_lines.specs.Refusal.{IsBreak, at_end, at_space, Place, place_of, is_front, IsTooLarge, StandsInLine, SlotRefuses}
 use Rattle.spv_lines.proofs.Tokens.{first_same, quoted_same}
 use Rattle.spv_lines.proofs.Once.{front_once}
 use Rattle.spv_lines.proofs.Marked.{NoSpace, tame_spaceless, Token, token_of, whole_same, below_or_not, true_or_false, true_not_false}
@@ -26,8 +26,8 @@ use Rattle.spv_lines.proofs.Quotes.{Quotes, quotes}
 use Rattle.spv_lines.proofs.Deciding.{Decision, IsTokenShape, decide, token_spaceless, mark_spaceless}
 
 pub data Decided (G : Table) (r : Option ℕ) (c : Context) (s : Slot) (t : List ℕ) : Type 0 where
-  stands : (o : Plain) (ss : List Slot) (rest : List ℕ) → Stands G r c s o ss t rest → Decided G r c s t
-  refused : (code : AsmCode) → Refuses G r c s t code → Decided G r c s t
+  stands : (o : Plain) (ss : List Slot) (rest : List ℕ) → StandsInLine G r c s o ss t rest → Decided G r c s t
+  refused : (code : AsmCode) → SlotRefuses G r c s t code → Decided G r c s t
 
 -- the slot of the line's result
 pub front_shape : (sh : Shape) (c : Context) → is_front sh c ≡ true → (sh ≡ AsResult) × (result_in c.operands ≡ None)
@@ -70,7 +70,7 @@ decide_front G r c s t small b e n f = step r refl
 
     step : (q : Option ℕ) → r ≡ q → Decided G r c s t
     step (Some x) g = Decided.stands (Result x) [] t (record { words = x ∷ []; piece = []; takes = takes_here x; small = (small x g, tt); written = Piece.result x n g; broken = b; all = refl })
-    step None g = Decided.refused S3 (Refuses.wrong
+    step None g = Decided.refused S3 (SlotRefuses.wrong
         (λ o ss rest h. let m = takes_result s.kind (shape_of G c s) o h.words ss h.takes e in let i = front_piece G r c s o h.piece m.0 h.written m.1 n in cc)
         (λ l. let i = l.behind in cc))
 
@@ -98,7 +98,7 @@ piece_behind G r c s _ _ (Piece.other o a n e) f = record { token = a; read = e;
 
 -- nothing is left of the line
 decide_end : (G : Table) (r : Option ℕ) (c : Context) (s : Slot) → is_front (shape_of G c s) c ≡ false → Decided G r c s []
-decide_end G r c s f = Decided.refused S3 (Refuses.wrong
+decide_end G r c s f = Decided.refused S3 (SlotRefuses.wrong
     (λ o ss rest h.
     let n = not_result s.kind (shape_of G c s) o h.words ss c h.takes f in
     let b = piece_behind G r c s o h.piece h.written n in
@@ -113,7 +113,7 @@ decide_end G r c s f = Decided.refused S3 (Refuses.wrong
 
 -- a token without spaces
 token_stood : (G : Table) (r : Option ℕ) (c : Context) (s : Slot) (u : List ℕ) → IsTokenShape (shape_of G c s) → is_front (shape_of G c s) c ≡ false → (k : Token u) → (o : Plain) (ss : List Slot) (rest : List ℕ)
-    → Stands G r c s o ss (32 ∷ u) rest → (ws : List ℕ) × Takes s.kind (shape_of G c s) o ws ss × AreWords ws × IsRead G (is_float G c s) o k.token
+    → StandsInLine G r c s o ss (32 ∷ u) rest → (ws : List ℕ) × Takes s.kind (shape_of G c s) o ws ss × AreWords ws × IsRead G (is_float G c s) o k.token
 token_stood G r c s u ts f k o ss rest h =
     let n = not_result s.kind (shape_of G c s) o h.words ss c h.takes f in
     let b = piece_behind G r c s o h.piece h.written n in
@@ -131,7 +131,7 @@ token_larged G c s u k l =
     (whole_same k.token (l.place.mark ++ l.digits) k.rest l.rest k.spaceless (mark_spaceless (is_float G c s) (shape_of G c s) l.place l.digits l.placed l.large.number) k.broken l.broken g).first
 
 pub token_taken : (G : Table) (r : Option ℕ) (c : Context) (s : Slot) (u : List ℕ) → is_front (shape_of G c s) c ≡ false → (k : Token u) (o : Plain) (ws : List ℕ) (ss : List Slot)
-    → Takes s.kind (shape_of G c s) o ws ss → AreWords ws → IsRead G (is_float G c s) o k.token → Stands G r c s o ss (32 ∷ u) k.rest
+    → Takes s.kind (shape_of G c s) o ws ss → AreWords ws → IsRead G (is_float G c s) o k.token → StandsInLine G r c s o ss (32 ∷ u) k.rest
 token_taken G r c s u f k o ws ss t w i = record {
   words = ws;
   piece = 32 ∷ k.token;
@@ -143,8 +143,8 @@ token_taken G r c s u f k o ws ss t w i = record {
 }
 
 pub token_large : (G : Table) (r : Option ℕ) (c : Context) (s : Slot) (u : List ℕ) → is_front (shape_of G c s) c ≡ false → (k : Token u) (P : Place) (ds : List ℕ)
-    → place_of (is_float G c s) (shape_of G c s) ≡ Some P → IsLarge P.limit ds → k.token ≡ P.mark ++ ds → Refuses G r c s (32 ∷ u) S4
-token_large G r c s u f k P ds p l e = Refuses.large (record {
+    → place_of (is_float G c s) (shape_of G c s) ≡ Some P → IsLarge P.limit ds → k.token ≡ P.mark ++ ds → SlotRefuses G r c s (32 ∷ u) S4
+token_large G r c s u f k P ds p l e = SlotRefuses.large (record {
   place = P;
   digits = ds;
   rest = k.rest;
@@ -157,8 +157,8 @@ token_large G r c s u f k P ds p l e = Refuses.large (record {
 
 pub token_none : (G : Table) (r : Option ℕ) (c : Context) (s : Slot) (u : List ℕ) → IsTokenShape (shape_of G c s) → is_front (shape_of G c s) c ≡ false → (k : Token u)
     → ((o : Plain) (ws : List ℕ) (ss : List Slot) → Takes s.kind (shape_of G c s) o ws ss → AreWords ws → IsRead G (is_float G c s) o k.token → ⊥)
-    → ((P : Place) (ds : List ℕ) → place_of (is_float G c s) (shape_of G c s) ≡ Some P → IsLarge P.limit ds → k.token ≡ P.mark ++ ds → ⊥) → Refuses G r c s (32 ∷ u) S3
-token_none G r c s u ts f k n m = Refuses.wrong
+    → ((P : Place) (ds : List ℕ) → place_of (is_float G c s) (shape_of G c s) ≡ Some P → IsLarge P.limit ds → k.token ≡ P.mark ++ ds → ⊥) → SlotRefuses G r c s (32 ∷ u) S3
+token_none G r c s u ts f k n m = SlotRefuses.wrong
     (λ o ss rest h. let x = token_stood G r c s u ts f k o ss rest h in n o x.0 ss x.1 x.2 x.3)
     (λ l. m l.place l.digits l.placed l.large (token_larged G c s u k l))
 
@@ -245,7 +245,7 @@ read_text G hex o t a g h = let h' : IsRead G hex (Text t) a = rw g at h in h'
 text_no_front : (sh : Shape) (c : Context) → sh ≡ AsText → is_front sh c ≡ false
 text_no_front sh c e = rw e refl
 
-pub text_stood : (G : Table) (r : Option ℕ) (c : Context) (s : Slot) (u : List ℕ) → shape_of G c s ≡ AsText → (o : Plain) (ss : List Slot) (rest : List ℕ) → Stands G r c s o ss (32 ∷ u) rest
+pub text_stood : (G : Table) (r : Option ℕ) (c : Context) (s : Slot) (u : List ℕ) → shape_of G c s ≡ AsText → (o : Plain) (ss : List Slot) (rest : List ℕ) → StandsInLine G r c s o ss (32 ∷ u) rest
     → (t : List ℕ) × (o ≡ Text t) × (u ≡ quoted t ++ rest) × IsUtf8 t × AllByRecursion (λ b. b < 256) t × (is_without_zero t ≡ true)
 text_stood G r c s u e o ss rest h =
     let f = text_no_front (shape_of G c s) c e in
@@ -261,7 +261,7 @@ text_stood G r c s u e o ss rest h =
     (k.0, k.1, j ∙ ap (λ z. z ++ rest) l, m.0, m.1, w')
 
 pub text_taken : (G : Table) (r : Option ℕ) (c : Context) (s : Slot) (u t rest : List ℕ) → shape_of G c s ≡ AsText → u ≡ quoted t ++ rest → IsBreak rest → IsUtf8 t → AllByRecursion (λ b. b < 256) t → is_without_zero t ≡ true
-    → Stands G r c s (Text t) [] (32 ∷ u) rest
+    → StandsInLine G r c s (Text t) [] (32 ∷ u) rest
 text_taken G r c s u t rest e g b v o z =
     let x = fit_takes G s.kind c s.paired leaf.Text (shape_of G c s) (Text t) e (v, o) (ap (λ y. is_fit s.kind y (Text t)) e ∙ z) in
     let y = takes_text s.kind (Text t) (text_words t) [] (shape_of G c s) x e in
@@ -281,23 +281,23 @@ decide_text G r c s u e f q = step q
     not_large : IsTooLarge G c s (32 ∷ u) → ⊥
     not_large l = text_not_large G c s u e l
 
-    stood : (o : Plain) (ss : List Slot) (rest : List ℕ) → Stands G r c s o ss (32 ∷ u) rest
+    stood : (o : Plain) (ss : List Slot) (rest : List ℕ) → StandsInLine G r c s o ss (32 ∷ u) rest
         → (t : List ℕ) × (o ≡ Text t) × (u ≡ quoted t ++ rest) × IsUtf8 t × AllByRecursion (λ b. b < 256) t × (is_without_zero t ≡ true)
     stood o ss rest h = text_stood G r c s u e o ss rest h
 
     again : (t rest : List ℕ) → u ≡ quoted t ++ rest → IsBreak rest ⊎ (IsBreak rest → ⊥) → (is_utf8 t ≡ true) ⊎ (is_utf8 t ≡ false)
         → AllByRecursion (λ b. b < 256) t ⊎ (AllByRecursion (λ b. b < 256) t → ⊥) → (is_without_zero t ≡ true) ⊎ (is_without_zero t ≡ false) → Decided G r c s (32 ∷ u)
     again t rest g (inl b) (inl v) (inl o) (inl z) = Decided.stands (Text t) [] rest (text_taken G r c s u t rest e g b (IsUtf8-from_is_utf8 t v) o z)
-    again t rest g (inr b) v o z = Decided.refused S3 (Refuses.wrong (λ q ss w h. let x = stood q ss w h in let y = quoted_same t x.0 rest w (sym g ∙ x.2) in let k = h.broken in b (rw y.second k)) not_large)
-    again t rest g (inl b) (inr v) o z = Decided.refused S3 (Refuses.wrong (λ q ss w h. let x = stood q ss w h in let y = quoted_same t x.0 rest w (sym g ∙ x.2) in let k = x.3 in
+    again t rest g (inr b) v o z = Decided.refused S3 (SlotRefuses.wrong (λ q ss w h. let x = stood q ss w h in let y = quoted_same t x.0 rest w (sym g ∙ x.2) in let k = h.broken in b (rw y.second k)) not_large)
+    again t rest g (inl b) (inr v) o z = Decided.refused S3 (SlotRefuses.wrong (λ q ss w h. let x = stood q ss w h in let y = quoted_same t x.0 rest w (sym g ∙ x.2) in let k = x.3 in
         true_not_false (is_utf8 t) (is_utf8-from_IsUtf8 t (rw y.first k)) v) not_large)
-    again t rest g (inl b) (inl v) (inr o) z = Decided.refused S3 (Refuses.wrong (λ q ss w h. let x = stood q ss w h in let y = quoted_same t x.0 rest w (sym g ∙ x.2) in let k = x.4 in o (rw y.first k)) not_large)
-    again t rest g (inl b) (inl v) (inl o) (inr z) = Decided.refused S3 (Refuses.wrong (λ q ss w h. let x = stood q ss w h in let y = quoted_same t x.0 rest w (sym g ∙ x.2) in let k = x.5 in
+    again t rest g (inl b) (inl v) (inr o) z = Decided.refused S3 (SlotRefuses.wrong (λ q ss w h. let x = stood q ss w h in let y = quoted_same t x.0 rest w (sym g ∙ x.2) in let k = x.4 in o (rw y.first k)) not_large)
+    again t rest g (inl b) (inl v) (inl o) (inr z) = Decided.refused S3 (SlotRefuses.wrong (λ q ss w h. let x = stood q ss w h in let y = quoted_same t x.0 rest w (sym g ∙ x.2) in let k = x.5 in
         true_not_false (is_without_zero t) (ap is_without_zero y.first ∙ k) z) not_large)
 
     step : Quotes u → Decided G r c s (32 ∷ u)
     step (Quotes.found t rest g) = again t rest g (break_or_not rest) (true_or_false (is_utf8 t)) (octets_or_not t) (true_or_false (is_without_zero t))
-    step (Quotes.none n) = Decided.refused S3 (Refuses.wrong (λ q ss w h. let x = stood q ss w h in n x.0 w x.2) not_large)
+    step (Quotes.none n) = Decided.refused S3 (SlotRefuses.wrong (λ q ss w h. let x = stood q ss w h in n x.0 w x.2) not_large)
 
 text_or_token : (sh : Shape) → IsLeaf sh → (sh ≡ AsText) ⊎ IsTokenShape sh
 text_or_token AsType h = inr tt

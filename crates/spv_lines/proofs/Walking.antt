@@ -7,7 +7,7 @@ use Rattle.spv_table.specs.declared.table.Category.TheVariants as category
 use Rattle.spv_table.specs.Table.{Table, Sort, kind_of, is_simple, is_simple_category, are_bases, is_sound, is_sound_category, IsWhole}
 use Rattle.spv_inst.specs.declared.form.Form.{Form}
 use Rattle.spv_inst.specs.declared.form.Form.TheVariants.{Leaf, Parts}
-use Rattle.spv_inst.specs.Form.{category_form, form_at}
+use Rattle.spv_inst.specs.inner.Form.{category_form, form_at}
 use Rattle.spv_module.specs.Operand.{Plain, OfType, Result, Id, Word, Number, Text, Value, Mask, Context, and_then, result_in}
 use Rattle.spv_module.specs.Shape.{Slot, AsParts, shape_of}
 use Rattle.spv_module.specs.Refusal.{IsLeaf}
@@ -20,7 +20,7 @@ use Rattle.spv_lines.specs.declared.asm_error.AsmCode.TheVariants.{S3}
 use Rattle.spv_lines.specs.Operand.{IsRead}
 use Rattle.spv_lines.specs.Written.{Piece, Written}
 use Rattle.spv_lines.specs.Line.{AreWords}
-use Rattle.spv_lines.specs.Refusal.{IsBreak, Pends, Stands, OperandsFail}
+use Rattle.spv_lines.specs.Refusal.{IsBreak, Pends, StandsInLine, OperandsFail}
 use Rattle.spv_lines.proofs.Once.{forget}
 use Rattle.spv_lines.proofs.Back.{first_result}
 use Rattle.spv_lines.proofs.Reading.{no_text, only_front}
@@ -142,7 +142,7 @@ result_back r xs o os e = rw (sym (append_assoc xs (o ∷ []) os)) e
 one_leaf : (G : Table) (r : Option ℕ) (n : ℕ) → IsSmall r → Next G r n → (c : Context) (s : Slot) (ds : List Due) (t : List ℕ) → IsLeaf (shape_of G c s) → far c t < suc n → IsBreak t → Outcome G r c (OneOf s ∷ ds) t
 one_leaf G r n small next c s ds t l h b = step (decide_slot G r c s t small b l)
   where
-    behind : (o : Plain) (ss : List Slot) (rest : List ℕ) → Stands G r c s o ss t rest → Outcome G r (and_then c o) (map OneOf ss ++ ds) rest → Outcome G r c (OneOf s ∷ ds) t
+    behind : (o : Plain) (ss : List Slot) (rest : List ℕ) → StandsInLine G r c s o ss t rest → Outcome G r (and_then c o) (map OneOf ss ++ ds) rest → Outcome G r c (OneOf s ∷ ds) t
     behind o ss rest d (Outcome.written os us m w e) =
         let k : Written (IsRead G) G r c (OneOf s ∷ ds) (o ∷ os) (d.words ++ us) (d.piece ++ rest) = Written.take c s ds o d.words ss d.piece os us rest d.takes d.written m in
         Outcome.written (o ∷ os) (d.words ++ us) (rw d.all k) (words_joined d.words us d.small w) (result_back r c.operands o os e)

@@ -10,7 +10,7 @@ use Rattle.spv_table.specs.Lookups.{opcode_named}
 use Rattle.spv_module.specs.Operand.{Plain, PlainInst, Context, start, result_in}
 use Rattle.spv_inst.specs.Flat.{due}
 use Rattle.spv_module.specs.Instruction.{first_word}
-use Rattle.spv_inst.specs.Encoding.{Fits, greatest_count, greatest_length}
+use Rattle.spv_inst.specs.Encoding.{HeaderFits, greatest_count, greatest_length}
 use Rattle.spv_lines.specs.declared.asm_error.AsmCode.{AsmCode}
 use Rattle.spv_lines.specs.declared.asm_error.AsmCode.TheVariants.{S1, S2, S3, S4, S5}
 use Rattle.spv_lines.specs.Digits.{is_number, IsLarge}
@@ -309,7 +309,7 @@ large_or_not HeaderLine.Schema o = inr (λ h. h)
 
 -- the header is there, or one of its lines is wrong
 data HeaderOutcome (ls : List (List ℕ)) : Type 0 where
-  right : (h : Header) (rest : List (List ℕ)) → Fits h → h.generator < 2 ^ 32 → ls ≡ header_lines h ++ rest → HeaderOutcome ls
+  right : (h : Header) (rest : List (List ℕ)) → HeaderFits h → h.generator < 2 ^ 32 → ls ≡ header_lines h ++ rest → HeaderOutcome ls
   wrong : (code : AsmCode) (n : ℕ) → HeaderFails ls code n → HeaderOutcome ls
 
 at_line : (ls : List (List ℕ)) (p : HeaderLine) → ((other : HeaderLine) → number_of other < number_of p → IsHeaderLine other (line_at ls other)) → (IsHeaderLine p (line_at ls p) → ⊥) → HeaderOutcome ls
@@ -394,7 +394,7 @@ header_or_fail ls = first (header_line_or_not HeaderLine.Magic (line_at ls Heade
 pub every_text : (G : Table) (t : List ℕ) → IsWhole G → ((h : Header) × (is : List PlainInst) × (ws : List ℕ) × IsReadText G h is ws t) ⊎ ((a : AsmCode) × (n : ℕ) × IsFailure G t a n)
 every_text G t w = step (header_or_fail (lines_of t))
   where
-    behind : (h : Header) (rest : List (List ℕ)) → Fits h → h.generator < 2 ^ 32 → lines_of t ≡ header_lines h ++ rest → LinesOutcome G [] 5 rest
+    behind : (h : Header) (rest : List (List ℕ)) → HeaderFits h → h.generator < 2 ^ 32 → lines_of t ≡ header_lines h ++ rest → LinesOutcome G [] 5 rest
         → ((h : Header) × (is : List PlainInst) × (ws : List ℕ) × IsReadText G h is ws t) ⊎ ((a : AsmCode) × (n : ℕ) × IsFailure G t a n)
     behind h rest f g e (LinesOutcome.read is ws m k) = inl (h, is, ws, record { lines = rest; header = f; generator = g; read = m; short = k; all = e })
     behind h rest f g e (LinesOutcome.failed code n m) = inr (code, 6 + n, IsFailure.line h rest code n f g e m)

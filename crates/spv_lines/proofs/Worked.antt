@@ -8,7 +8,7 @@ use Rattle.spv_table.specs.Table.{pattern_of}
 use Rattle.spv_table.specs.Lookups.{value_named, opcode_named}
 use Rattle.spv_module.specs.Operand.{OfType, Result, Id, Word, Number, Text, Mask, start}
 use Rattle.spv_module.specs.Shape.{alone, shape_of}
-use Rattle.spv_module.specs.Spelling.{Takes, Holds, mask_parameters}
+use Rattle.spv_module.specs.Spelling.{Takes, HoldsText, mask_parameters}
 use Rattle.spv_inst.specs.Flat.{due}
 use Rattle.spv_module.specs.Example.{load_entry, string_entry, switch_entry, access, small, load, string, long_value, switch}
 use Rattle.spv_inst.proofs.Worked.{string_listed}
@@ -39,7 +39,7 @@ pub both_numbered : NamesMask (value_named access) 3 (codes "#3")
 unfolding digits
 both_numbered = NamesMask.numbered
 
-abc : Holds (6513249 ∷ []) (codes "abc") []
+abc : HoldsText (6513249 ∷ []) (codes "abc") []
 abc = record { words = (omega arith, tt); octets = refl; no_zero = (λ e. omega arith, (λ e. omega arith, (λ e. omega arith, tt))); short = omega arith }
 
 abc_text : IsUtf8 (codes "abc")

@@ -4,6 +4,7 @@ pub mod Operand
 pub mod Written
 pub mod Line
 pub mod Text
+pub mod Image
 pub mod Refusal
 pub mod Fault
 pub mod Tidy

@@ -1,5 +1,6 @@
 -- The line of an instruction: how it is shown, what it is read as. (Own.)
-use Rattle.std.specs.Prelude.{◌≡◌, ◌<◌, ◌++◌, ℕ, List, [], ◌∷◌, Option, Some, None, Bool, false, nat_eq, ◌&&◌, if◌then◌else◌, map, option_map, unwrap_or, codes}
+use Rattle.std.specs.Prelude.{◌≡◌, ◌<◌, ◌++◌, ℕ, List, [], ◌∷◌, Option, Some, None, Bool, false}
+use Rattle.std.specs.Prelude.{nat_eq, ◌&&◌, if◌then◌else◌, map, option_map, unwrap_or, codes}
 use Rattle.std.specs.List.{AllByRecursion}
 use Rattle.spv_table.specs.declared.table.Entry.{Entry}
 use Rattle.spv_table.specs.Table.{Table, entry_of, pattern_of}
@@ -24,7 +25,8 @@ pub record IsShownLine (G : Table) (before : List PlainInst) (i : PlainInst) (fu
   pub entry : Entry
   pub operands : List ℕ
   pub known : entry_of G i.opcode ≡ Some entry
-  pub written : Written (Shown G) G (result_in i.operands) (start before i.opcode) (map due (pattern_of entry)) i.operands further operands
+  pub written : Written (Shown G) G (result_in i.operands) (start before i.opcode)
+      (map due (pattern_of entry)) i.operands further operands
   pub all : line ≡ shown_result (result_in i.operands) ++ (shown_name G i.opcode entry ++ operands)
 
 -- the octets before the first space, and from it on
@@ -70,9 +72,11 @@ begins_percent (b ∷ t) = nat_eq b 37
 abbrev pub parts_behind : Option (List ℕ) → List ℕ → Parts
 parts_behind result t = record { result = result; name = before_space t; operands = from_space t }
 
--- The name goes up to the next space or the end of the line; it stands first or, where the line begins with `%`, behind its first ` = `.
+-- The name goes up to the next space or the end of the line; it stands first or, where the line begins with `%`, behind
+-- its first ` = `.
 abbrev pub parts_of : List ℕ → Option Parts
-parts_of line = if begins_percent line then option_map (λ h. parts_behind (Some h.front) h.back) (cut_at_equals line) else Some (parts_behind None line)
+parts_of line = if begins_percent line then option_map (λ h. parts_behind (Some h.front) h.back) (cut_at_equals line)
+    else Some (parts_behind None line)
 
 -- all are words of 32 bits
 abbrev pub AreWords : List ℕ → Type 0
@@ -91,5 +95,6 @@ pub record IsReadLine (G : Table) (before : List PlainInst) (i : PlainInst) (fur
   pub divided : parts_of line ≡ Some parts
   pub name : IsInstName G parts.name i.opcode entry
   pub result : parts.result ≡ option_map id_text (result_in i.operands)
-  pub written : Written (IsRead G) G (result_in i.operands) (start before i.opcode) (map due (pattern_of entry)) i.operands further parts.operands
+  pub written : Written (IsRead G) G (result_in i.operands) (start before i.opcode)
+      (map due (pattern_of entry)) i.operands further parts.operands
   pub small : AreWords further

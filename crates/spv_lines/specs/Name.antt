@@ -1,5 +1,7 @@
 -- Names of instructions, values and masks, and `#N` where there is none. (Own.)
-use Rattle.std.specs.Prelude.{◌≡◌, ◌-◌, ◌/◌, ◌%◌, ◌^◌, ℕ, List, [], ◌∷◌, Option, Some, None, Bool, true, false, nat_eq, nat_le, ◌&&◌, ◌||◌, if◌then◌else◌, option_map, option_and_then, unwrap_or, decimal}
+use Rattle.std.specs.Prelude.{◌≡◌, ◌-◌, ◌/◌, ◌%◌, ◌^◌, ℕ, List, [], ◌∷◌, Option, Some}
+use Rattle.std.specs.Prelude.{None, Bool, true, false, nat_eq, nat_le, ◌&&◌, ◌||◌, if◌then◌else◌}
+use Rattle.std.specs.Prelude.{option_map, option_and_then, unwrap_or, decimal}
 use Rattle.std.specs.List.{list_all, filter, join_with_byte}
 use Rattle.spv_table.specs.declared.table.Enumerant.{Enumerant}
 use Rattle.spv_table.specs.Table.{enumerant_of}
@@ -8,7 +10,8 @@ use Rattle.spv_module.specs.Spelling.{bits_from, set_bits}
 
 -- an ASCII letter, a digit or `_`
 abbrev pub is_name_octet : ℕ → Bool
-is_name_octet b = (nat_le 48 b && nat_le b 57) || ((nat_le 65 b && nat_le b 90) || ((nat_le 97 b && nat_le b 122) || nat_eq b 95))
+is_name_octet b =
+    (nat_le 48 b && nat_le b 57) || ((nat_le 65 b && nat_le b 90) || ((nat_le 97 b && nat_le b 122) || nat_eq b 95))
 
 abbrev pub is_plain : List ℕ → Bool
 is_plain [] = false
@@ -69,4 +72,5 @@ shown_mask es x = unwrap_or (option_map joined (first_names es (mask_values x)))
 
 -- the names of a mask's set bits from a position up, if each has one
 unfoldable pub names_from : List Enumerant → ℕ → ℕ → Option (List (List ℕ))
-names_from es mask position = first_names es (filter (λ b. nat_eq (mask / b % 2) 1) (bits_from (32 - position) (2 ^ position)))
+names_from es mask position =
+    first_names es (filter (λ b. nat_eq (mask / b % 2) 1) (bits_from (32 - position) (2 ^ position)))

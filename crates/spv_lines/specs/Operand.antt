@@ -1,8 +1,11 @@
 -- The text of one operand. (Own.)
-use Rattle.std.specs.Prelude.{◌≡◌, ◌+◌, ◌*◌, ◌++◌, ℕ, List, [], ◌∷◌, Option, Some, None, Bool, true, false, not, nat_eq, is_some, if◌then◌else◌, option_map, option_and_then, unwrap_or, bytes_eq, codes, decimal}
+use Rattle.std.specs.Prelude.{◌≡◌, ◌+◌, ◌*◌, ◌++◌, ℕ, List, [], ◌∷◌, Option, Some, None, Bool}
+use Rattle.std.specs.Prelude.{true, false, not, nat_eq, is_some, if◌then◌else◌, option_map, option_and_then}
+use Rattle.std.specs.Prelude.{unwrap_or, bytes_eq, codes, decimal}
 use Rattle.spv_table.specs.Table.{Table, Sort, kind_of}
 use Rattle.spv_table.specs.Lookups.{value_named}
-use Rattle.spv_module.specs.Operand.{Plain, OfType, Result, Id, Word, Number, Text, Value, Mask, PlainInst, Context, result_in, type_in}
+use Rattle.spv_module.specs.Operand.{Plain, OfType, Result, Id, Word, Number, Text, Value, Mask, PlainInst, Context}
+use Rattle.spv_module.specs.Operand.{result_in, type_in}
 use Rattle.spv_module.specs.Width.{definition_of, type_of, first_id}
 use Rattle.spv_module.specs.Shape.{Slot}
 use Rattle.spv_inst.specs.Reading.{enumerants_at}
@@ -17,7 +20,8 @@ id_text x = 37 ∷ decimal x
 abbrev pub escaped : List ℕ → List ℕ
 escaped [] = []
 escaped (b ∷ t) =
-    (if nat_eq b 34 then codes "\\\"" else (if nat_eq b 92 then codes "\\\\" else (if nat_eq b 10 then codes "\\n" else b ∷ []))) ++ escaped t
+    (if nat_eq b 34 then codes
+    "\\\"" else (if nat_eq b 92 then codes "\\\\" else (if nat_eq b 10 then codes "\\n" else b ∷ []))) ++ escaped t
 
 -- in double quotes
 abbrev pub quoted : List ℕ → List ℕ
@@ -25,17 +29,21 @@ quoted t = 34 ∷ (escaped t ++ (34 ∷ []))
 
 -- a number of one word or two: in decimal, or as `0x` with 8 hexadecimal digits a word, the high word first
 abbrev pub number_text : Bool → ℕ → ℕ → ℕ → List ℕ
-number_text true low high words = codes "0x" ++ (if nat_eq words 2 then hex_digits 8 high ++ hex_digits 8 low else hex_digits 8 low)
+number_text true low high words =
+    codes "0x" ++ (if nat_eq words 2 then hex_digits 8 high ++ hex_digits 8 low else hex_digits 8 low)
 number_text false low high words = decimal (low + 4294967296 * high)
 
--- the id of a number's type: for a LiteralContextDependentNumber the instruction's `Type`, for a switch literal the type of the first operand
+-- the id of a number's type: for a LiteralContextDependentNumber the instruction's `Type`, for a switch literal the
+-- type of the first operand
 abbrev pub number_type : Context → Option Sort → Option ℕ
 number_type c None = None
-number_type c (Some s) = if bytes_eq s.kind.name (codes "LiteralContextDependentNumber") then type_in c.operands else option_and_then (type_of c.before) (first_id c.operands)
+number_type c (Some s) = if bytes_eq s.kind.name (codes "LiteralContextDependentNumber") then type_in c.operands
+    else option_and_then (type_of c.before) (first_id c.operands)
 
 -- is an id, if there is one, that of a float type: is its last definition an OpTypeFloat, which has opcode 22
 abbrev pub is_float_type : List PlainInst → Option ℕ → Bool
-is_float_type before t = unwrap_or (option_map (λ i. nat_eq i.opcode 22) (option_and_then (definition_of before) t)) false
+is_float_type before t =
+    unwrap_or (option_map (λ i. nat_eq i.opcode 22) (option_and_then (definition_of before) t)) false
 
 -- is the type of a number at a slot a float type
 abbrev pub is_float : Table → Context → Slot → Bool

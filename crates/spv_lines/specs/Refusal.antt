@@ -1,8 +1,10 @@
 -- Where the operands of a line fail, and with which code. (Own.)
-use Rattle.std.specs.Prelude.{◌≡◌, ◌≢◌, ◌^◌, ◌++◌, ◌⊎◌, ℕ, List, [], ◌∷◌, Option, Some, None, Bool, true, false, not, is_some, nat_le, if◌then◌else◌, map, codes}
+use Rattle.std.specs.Prelude.{◌≡◌, ◌≢◌, ◌^◌, ◌++◌, ◌⊎◌, ℕ, List, [], ◌∷◌, Option}
+use Rattle.std.specs.Prelude.{Some, None, Bool, true, false, not, is_some, nat_le, if◌then◌else◌, map, codes}
 use Rattle.spv_table.specs.Table.{Table}
 use Rattle.spv_module.specs.Operand.{Plain, Context, and_then, result_in}
-use Rattle.spv_module.specs.Shape.{Slot, Shape, AsType, AsResult, AsId, AsWord, AsNumber, AsText, AsValue, AsMask, AsParts, AsNothing, shape_of}
+use Rattle.spv_module.specs.Shape.{Slot, Shape, AsType, AsResult, AsId, AsWord, AsNumber, AsText, AsValue, AsMask}
+use Rattle.spv_module.specs.Shape.{AsParts, AsNothing, shape_of}
 use Rattle.spv_module.specs.Spelling.{Takes}
 use Rattle.spv_module.specs.Refusal.{IsLeaf}
 use Rattle.spv_inst.specs.Flat.{Due, OneOf, MaybeOf, ManyOf}
@@ -56,8 +58,10 @@ pub record IsTooLarge (G : Table) (c : Context) (s : Slot) (t : List ℕ) : Type
   pub broken : IsBreak rest
   pub all : t ≡ 32 ∷ (place.mark ++ (digits ++ rest))
 
--- The rest of a line begins with an operand that the slot takes; behind it its parameters are due, and the line goes on.
-pub record Stands (G : Table) (r : Option ℕ) (c : Context) (s : Slot) (o : Plain) (ss : List Slot) (t rest : List ℕ) : Type 0 where
+-- The rest of a line begins with an operand that the slot takes; behind it its parameters are due, and the line goes
+-- on.
+pub record StandsInLine (G : Table) (r : Option ℕ) (c : Context) (s : Slot) (o : Plain) (ss : List Slot)
+    (t rest : List ℕ) : Type 0 where
   pub words : List ℕ
   pub piece : List ℕ
   pub takes : Takes s.kind (shape_of G c s) o words ss
@@ -71,9 +75,10 @@ abbrev pub Pends : Option ℕ → Context → Type 0
 Pends r c = r ≢ result_in c.operands
 
 -- A slot refuses the rest of a line: a number is too large for its place, or nothing stands there that the slot takes.
-pub data Refuses (G : Table) (r : Option ℕ) (c : Context) (s : Slot) (t : List ℕ) : AsmCode → Type 0 where
-  large : IsTooLarge G c s t → Refuses G r c s t S4
-  wrong : ((o : Plain) (ss : List Slot) (rest : List ℕ) → ¬ (Stands G r c s o ss t rest)) → ¬ (IsTooLarge G c s t) → Refuses G r c s t S3
+pub data SlotRefuses (G : Table) (r : Option ℕ) (c : Context) (s : Slot) (t : List ℕ) : AsmCode → Type 0 where
+  large : IsTooLarge G c s t → SlotRefuses G r c s t S4
+  wrong : ((o : Plain) (ss : List Slot) (rest : List ℕ) → ¬ (StandsInLine G r c s o ss t rest))
+      → ¬ (IsTooLarge G c s t) → SlotRefuses G r c s t S3
 
 -- What is due comes to a refusal of what is left of the line, from left to right.
 pub data OperandsFail (G : Table) (r : Option ℕ) : Context → List Due → List ℕ → AsmCode → Type 0 where
@@ -81,17 +86,21 @@ pub data OperandsFail (G : Table) (r : Option ℕ) : Context → List Due → Li
   left : (c : Context) (b : ℕ) (t : List ℕ) → OperandsFail G r c [] (b ∷ t) S3
   unused : (c : Context) → Pends r c → OperandsFail G r c [] [] S3
   refused : (c : Context) (s : Slot) (ds : List Due) (t : List ℕ) (code : AsmCode)
-      → IsLeaf (shape_of G c s) → Refuses G r c s t code → OperandsFail G r c (OneOf s ∷ ds) t code
+      → IsLeaf (shape_of G c s) → SlotRefuses G r c s t code → OperandsFail G r c (OneOf s ∷ ds) t code
   after : (c : Context) (s : Slot) (ds : List Due) (o : Plain) (ss : List Slot) (t rest : List ℕ) (code : AsmCode)
-      → Stands G r c s o ss t rest → OperandsFail G r (and_then c o) (map OneOf ss ++ ds) rest code → OperandsFail G r c (OneOf s ∷ ds) t code
+      → StandsInLine G r c s o ss t rest → OperandsFail G r (and_then c o) (map OneOf ss ++ ds) rest code
+      → OperandsFail G r c (OneOf s ∷ ds) t code
   parts : (c : Context) (s : Slot) (ds : List Due) (ss : List Slot) (t : List ℕ) (code : AsmCode)
-      → shape_of G c s ≡ AsParts ss → OperandsFail G r c (map OneOf ss ++ ds) t code → OperandsFail G r c (OneOf s ∷ ds) t code
+      → shape_of G c s ≡ AsParts ss → OperandsFail G r c (map OneOf ss ++ ds) t code
+      → OperandsFail G r c (OneOf s ∷ ds) t code
   -- an item is absent only where nothing of the line is left
   no_maybe : (c : Context) (s : Slot) (ds : List Due) (code : AsmCode)
       → ¬ (Pends r c) → OperandsFail G r c ds [] code → OperandsFail G r c (MaybeOf s ∷ ds) [] code
   maybe : (c : Context) (s : Slot) (ds : List Due) (t : List ℕ) (code : AsmCode)
-      → (t ≢ []) ⊎ Pends r c → OperandsFail G r c (OneOf s ∷ ds) t code → OperandsFail G r c (MaybeOf s ∷ ds) t code
+      → (t ≢ []) ⊎ Pends r c → OperandsFail G r c (OneOf s ∷ ds) t code
+      → OperandsFail G r c (MaybeOf s ∷ ds) t code
   no_many : (c : Context) (s : Slot) (ds : List Due) (code : AsmCode)
       → ¬ (Pends r c) → OperandsFail G r c ds [] code → OperandsFail G r c (ManyOf s ∷ ds) [] code
   many : (c : Context) (s : Slot) (ds : List Due) (t : List ℕ) (code : AsmCode)
-      → (t ≢ []) ⊎ Pends r c → OperandsFail G r c (OneOf s ∷ ManyOf s ∷ ds) t code → OperandsFail G r c (ManyOf s ∷ ds) t code
+      → (t ≢ []) ⊎ Pends r c → OperandsFail G r c (OneOf s ∷ ManyOf s ∷ ds) t code
+      → OperandsFail G r c (ManyOf s ∷ ds) t code

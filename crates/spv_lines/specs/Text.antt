@@ -1,11 +1,12 @@
 -- The text of a module: how it is shown, what it is read as. (Own.)
-use Rattle.std.specs.Prelude.{◌≡◌, ◌<◌, ◌≤◌, ◌+◌, ◌^◌, ◌++◌, ℕ, List, [], ◌∷◌, nat_eq, if◌then◌else◌, length, codes, decimal}
+use Rattle.std.specs.Prelude.{◌≡◌, ◌<◌, ◌≤◌, ◌+◌, ◌^◌, ◌++◌, ℕ, List, [], ◌∷◌}
+use Rattle.std.specs.Prelude.{nat_eq, if◌then◌else◌, length, codes, decimal}
 use Rattle.std.specs.List.{onto_first}
 use Rattle.spv_words.specs.declared.words.Header.{Header}
 use Rattle.spv_table.specs.Table.{Table}
 use Rattle.spv_module.specs.Operand.{PlainInst}
 use Rattle.spv_module.specs.Instruction.{first_word}
-use Rattle.spv_inst.specs.Encoding.{Fits, greatest_count, greatest_length}
+use Rattle.spv_inst.specs.Encoding.{HeaderFits, greatest_count, greatest_length}
 use Rattle.spv_lines.specs.Line.{IsShownLine, IsReadLine}
 
 -- the lines of a module before its instructions
@@ -31,8 +32,10 @@ lines_of (b ∷ t) = if nat_eq b 10 then [] ∷ lines_of t else onto_first b (li
 -- After the instructions before, the lines are the shown ones of the instructions, in order.
 pub data ShownLines (G : Table) : List PlainInst → List PlainInst → List (List ℕ) → Type 0 where
   end : (before : List PlainInst) → ShownLines G before [] []
-  more : (before : List PlainInst) (i : PlainInst) (is : List PlainInst) (further line : List ℕ) (lines : List (List ℕ))
-      → IsShownLine G before i further line → ShownLines G (before ++ (i ∷ [])) is lines → ShownLines G before (i ∷ is) (line ∷ lines)
+  more : (before : List PlainInst) (i : PlainInst) (is : List PlainInst) (further line : List ℕ)
+      (lines : List (List ℕ))
+      → IsShownLine G before i further line → ShownLines G (before ++ (i ∷ [])) is lines
+      → ShownLines G before (i ∷ is) (line ∷ lines)
 
 -- The text is the shown one of the header and the list of instructions.
 pub record IsShownText (G : Table) (h : Header) (is : List PlainInst) (t : List ℕ) : Type 0 where
@@ -43,14 +46,16 @@ pub record IsShownText (G : Table) (h : Header) (is : List PlainInst) (t : List 
 -- After the instructions before, the lines are read as the instructions, in order, and these have the words.
 pub data ReadLines (G : Table) : List PlainInst → List PlainInst → List (List ℕ) → List ℕ → Type 0 where
   end : (before : List PlainInst) → ReadLines G before [] [] []
-  more : (before : List PlainInst) (i : PlainInst) (is : List PlainInst) (further line words : List ℕ) (lines : List (List ℕ))
-      → IsReadLine G before i further line → length further + 1 ≤ greatest_count → ReadLines G (before ++ (i ∷ [])) is lines words
+  more : (before : List PlainInst) (i : PlainInst) (is : List PlainInst) (further line words : List ℕ)
+      (lines : List (List ℕ))
+      → IsReadLine G before i further line → length further + 1 ≤ greatest_count
+      → ReadLines G (before ++ (i ∷ [])) is lines words
       → ReadLines G before (i ∷ is) (line ∷ lines) ((first_word i.opcode further ∷ further) ++ words)
 
 -- The text is read as the header and the list of instructions, whose words are these.
 pub record IsReadText (G : Table) (h : Header) (is : List PlainInst) (words t : List ℕ) : Type 0 where
   pub lines : List (List ℕ)
-  pub header : Fits h
+  pub header : HeaderFits h
   pub generator : h.generator < 2 ^ 32
   pub read : ReadLines G [] is lines words
   pub short : 5 + length words ≤ greatest_length

@@ -13,5 +13,6 @@ AreNoResults G ss = AllByRecursion (λ s. (c : Context) → is_result_shape (sha
 
 -- No parameter and no base is of a result kind.
 pub record IsTidy (G : Table) : Type 0 where
-  pub parameters : (c : Context) (s : Slot) (o : Plain) (ws : List ℕ) (ss : List Slot) → Takes s.kind (shape_of G c s) o ws ss → AreNoResults G ss
+  pub parameters : (c : Context) (s : Slot) (o : Plain) (ws : List ℕ) (ss : List Slot)
+      → Takes s.kind (shape_of G c s) o ws ss → AreNoResults G ss
   pub bases : (c : Context) (s : Slot) (ss : List Slot) → shape_of G c s ≡ AsParts ss → AreNoResults G ss

@@ -50,13 +50,18 @@ pub fn operand_examples()
 
 /// Lines.
 pub fn line_examples()
-    ensures parts { parts_of (codes "%9 = OpLoad %2") ≡ Some (record { result = Some (codes "%9"); name = codes "OpLoad"; operands = codes " %2" }) }
+    ensures parts { parts_of (codes "%9 = OpLoad %2")
+        ≡ Some (record { result = Some (codes "%9"); name = codes "OpLoad"; operands = codes " %2" }) }
     ensures no_equals { parts_of (codes "%9 OpLoad") ≡ None }
-    ensures first_equals { parts_of (codes "%1 =OpString \" = OpNop\"") ≡ Some (record { result = Some (codes "%1 =OpString \""); name = codes "OpNop\""; operands = [] }) }
-    ensures shown { IsShownLine small [] load (2 ∷ 9 ∷ 8 ∷ 3 ∷ 4 ∷ []) (codes "%9 = OpLoad %2 %8 Volatile|Aligned 4") }
-    ensures numbered { ¬ (IsShownLine small [] load (2 ∷ 9 ∷ 8 ∷ 3 ∷ 4 ∷ []) (codes "%9 = OpLoad %2 %8 #3 4")) }
+    ensures first_equals { parts_of (codes "%1 =OpString \" = OpNop\"")
+        ≡ Some (record { result = Some (codes "%1 =OpString \""); name = codes "OpNop\""; operands = [] }) }
+    ensures shown { IsShownLine small [] load (2 ∷ 9 ∷ 8 ∷ 3 ∷ 4 ∷ [])
+        (codes "%9 = OpLoad %2 %8 Volatile|Aligned 4") }
+    ensures numbered { ¬ (IsShownLine small [] load (2 ∷ 9 ∷ 8 ∷ 3 ∷ 4 ∷ [])
+        (codes "%9 = OpLoad %2 %8 #3 4")) }
     ensures read { IsReadLine small [] load (2 ∷ 9 ∷ 8 ∷ 3 ∷ 4 ∷ []) (codes "%9 = #61 %2 %8 #3 4") }
-    ensures switch { IsShownLine small long_value switch (2 ∷ 10 ∷ 7 ∷ 1 ∷ 11 ∷ []) (codes "OpSwitch %2 %10 4294967303 %11") }
+    ensures switch { IsShownLine small long_value switch (2 ∷ 10 ∷ 7 ∷ 1 ∷ 11 ∷ [])
+        (codes "OpSwitch %2 %10 4294967303 %11") }
     ensures unread { (i : PlainInst) (us : List ℕ) → ¬ (IsReadLine small [] i us (codes "%9 = OpLoa %2 %8")) }
 {}
 

@@ -28,35 +28,59 @@ small_kinds =
     record { kind = record { name = codes "MemoryAccess"; category = BitEnum; bases = [] }; enumerants = access } ∷
     plain_kind (codes "LiteralInteger") Literal ∷
     plain_kind (codes "LiteralString") Literal ∷
-    record { kind = record { name = codes "PairLiteralIntegerIdRef"; category = Composite; bases = 4 ∷ 2 ∷ [] }; enumerants = [] } ∷
+    record {
+      kind = record {
+        name = codes "PairLiteralIntegerIdRef";
+        category = Composite;
+        bases =
+            4 ∷ 2 ∷ [];
+      };
+      enumerants = [];
+    } ∷
     []
 
 abbrev pub load_entry : Entry
 load_entry = record {
   name = codes "OpLoad";
-  operands = record { kind = 0; quantifier = One } ∷ record { kind = 1; quantifier = One } ∷ record { kind = 2; quantifier = One } ∷ record { kind = 3; quantifier = Maybe } ∷ [];
+  operands =
+      record { kind = 0; quantifier = One } ∷ record { kind = 1; quantifier = One }
+      ∷ record { kind = 2; quantifier = One } ∷ record { kind = 3; quantifier = Maybe } ∷ [];
   capabilities = [];
 }
 
 abbrev pub string_entry : Entry
-string_entry = record { name = codes "OpString"; operands = record { kind = 1; quantifier = One } ∷ record { kind = 5; quantifier = One } ∷ []; capabilities = [] }
+string_entry =
+    record {
+      name = codes "OpString";
+      operands =
+          record { kind = 1; quantifier = One } ∷ record { kind = 5; quantifier = One } ∷ [];
+      capabilities = [];
+    }
 
 abbrev pub int_entry : Entry
 int_entry = record {
   name = codes "OpTypeInt";
-  operands = record { kind = 1; quantifier = One } ∷ record { kind = 4; quantifier = One } ∷ record { kind = 4; quantifier = One } ∷ [];
+  operands =
+      record { kind = 1; quantifier = One } ∷ record { kind = 4; quantifier = One }
+      ∷ record { kind = 4; quantifier = One } ∷ [];
   capabilities = [];
 }
 
 abbrev pub switch_entry : Entry
 switch_entry = record {
   name = codes "OpSwitch";
-  operands = record { kind = 2; quantifier = One } ∷ record { kind = 2; quantifier = One } ∷ record { kind = 6; quantifier = Many } ∷ [];
+  operands =
+      record { kind = 2; quantifier = One } ∷ record { kind = 2; quantifier = One }
+      ∷ record { kind = 6; quantifier = Many } ∷ [];
   capabilities = [];
 }
 
 abbrev pub small : Table
-small = record { kinds = small_kinds; entries = (61, load_entry) ∷ (7, string_entry) ∷ (21, int_entry) ∷ (251, switch_entry) ∷ [] }
+small = record {
+  kinds = small_kinds;
+  entries =
+      (61, load_entry) ∷ (7, string_entry) ∷ (21, int_entry) ∷ (251, switch_entry) ∷ [];
+}
 
 -- %9 = OpLoad %2 %8 Volatile|Aligned 4
 abbrev pub load : PlainInst
@@ -68,7 +92,12 @@ string = record { opcode = 7; operands = Result 5 ∷ Text (codes "abc") ∷ [] 
 
 -- %1 = OpTypeInt 64 0, and %2 of this type
 abbrev pub long_value : List PlainInst
-long_value = record { opcode = 21; operands = Result 1 ∷ Word 64 ∷ Word 0 ∷ [] } ∷ record { opcode = 61; operands = OfType 1 ∷ Result 2 ∷ operand.Id 8 ∷ [] } ∷ []
+long_value =
+    record { opcode = 21; operands = Result 1 ∷ Word 64 ∷ Word 0 ∷ [] } ∷ record {
+      opcode = 61;
+      operands =
+          OfType 1 ∷ Result 2 ∷ operand.Id 8 ∷ [];
+    } ∷ []
 
 -- OpSwitch %2 %10 4294967303 %11
 abbrev pub switch : PlainInst
@@ -76,4 +105,9 @@ switch = record { opcode = 251; operands = operand.Id 2 ∷ operand.Id 10 ∷ Nu
 
 -- %1 = OpTypeInt 32 0, and %1 = OpTypeInt 64 0
 abbrev pub declared_twice : List PlainInst
-declared_twice = record { opcode = 21; operands = Result 1 ∷ Word 32 ∷ Word 0 ∷ [] } ∷ record { opcode = 21; operands = Result 1 ∷ Word 64 ∷ Word 0 ∷ [] } ∷ []
+declared_twice =
+    record { opcode = 21; operands = Result 1 ∷ Word 32 ∷ Word 0 ∷ [] } ∷ record {
+      opcode = 21;
+      operands =
+          Result 1 ∷ Word 64 ∷ Word 0 ∷ [];
+    } ∷ []

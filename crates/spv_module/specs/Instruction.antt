@@ -19,11 +19,13 @@ pub record IsInstruction (G : Table) (before : List PlainInst) (i : PlainInst) (
   pub known : entry_of G i.opcode ≡ Some entry
   pub matches : Match G (start before i.opcode) (pattern_of entry) i.operands further
 
--- After the instructions before, the words are the joined spellings of the list, each under the context of those before it.
+-- After the instructions before, the words are the joined spellings of the list, each under the context of those before
+-- it.
 pub data Listing (G : Table) : List PlainInst → List PlainInst → List ℕ → Type 0 where
   end : (before : List PlainInst) → Listing G before [] []
   more : (before : List PlainInst) (i : PlainInst) (is : List PlainInst) (ws vs : List ℕ)
-      → IsInstruction G before i ws → Listing G (before ++ (i ∷ [])) is vs → Listing G before (i ∷ is) (ws ++ vs)
+      → IsInstruction G before i ws → Listing G (before ++ (i ∷ [])) is vs
+      → Listing G before (i ∷ is) (ws ++ vs)
 
 -- The words from word 5 on are the joined spellings of the list.
 abbrev pub IsListing : Table → List PlainInst → List ℕ → Type 0

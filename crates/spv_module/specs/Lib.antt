@@ -4,6 +4,6 @@ pub mod Shape
 pub mod Spelling
 pub mod Instruction
 pub mod Refusal
-pub mod Dead
+pub mod Malformed
 pub mod Module
 pub mod Example

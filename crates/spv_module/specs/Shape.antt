@@ -1,5 +1,6 @@
 -- What a kind asks for at its place.
-use Rattle.std.specs.Prelude.{ℕ, List, map, Option, Some, None, Bool, false, nat_eq, bytes_eq, codes, ◌&&◌, ◌||◌, if◌then◌else◌}
+use Rattle.std.specs.Prelude.{ℕ, List, map, Option, Some, None, Bool, false, nat_eq, bytes_eq, codes, ◌&&◌}
+use Rattle.std.specs.Prelude.{◌||◌, if◌then◌else◌}
 use Rattle.spv_table.specs.declared.table.Enumerant.{Enumerant}
 use Rattle.spv_table.specs.declared.table.Category.{Category}
 use Rattle.spv_table.specs.declared.table.Category.TheVariants as category

@@ -1,10 +1,14 @@
 -- Which words spell operands of a kind, and of a pattern.
-use Rattle.std.specs.Prelude.{◌≡◌, ◌≢◌, ◌<◌, ◌≤◌, ◌*◌, ◌/◌, ◌%◌, ℕ, zero, suc, List, [], ◌∷◌, ◌++◌, Option, Some, nat_eq, filter, map, length, option_map, option_and_then, IsUtf8}
+use Rattle.std.specs.Prelude.{◌≡◌, ◌≢◌, ◌<◌, ◌≤◌, ◌*◌, ◌/◌, ◌%◌, ℕ, zero, suc, List}
+use Rattle.std.specs.Prelude.{[], ◌∷◌, ◌++◌, Option, Some, nat_eq, filter, map, length, option_map}
+use Rattle.std.specs.Prelude.{option_and_then, IsUtf8}
 use Rattle.std.specs.List.{AllByRecursion}
 use Rattle.spv_table.specs.declared.table.Enumerant.{Enumerant}
 use Rattle.spv_table.specs.Table.{Table, enumerant_of, Item, One, Maybe, Many}
-use Rattle.spv_module.specs.Operand.{Plain, OfType, Result, Id, Word, Number, Text, Value, Mask, Context, and_then, after}
-use Rattle.spv_module.specs.Shape.{Slot, alone, Shape, AsType, AsResult, AsId, AsWord, AsNumber, AsText, AsValue, AsMask, AsParts, shape_of}
+use Rattle.spv_module.specs.Operand.{Plain, OfType, Result, Id, Word, Number, Text, Value, Mask, Context, and_then}
+use Rattle.spv_module.specs.Operand.{after}
+use Rattle.spv_module.specs.Shape.{Slot, alone, Shape, AsType, AsResult, AsId, AsWord, AsNumber, AsText, AsValue}
+use Rattle.spv_module.specs.Shape.{AsMask, AsParts, shape_of}
 
 -- the octets of words, four of each, the lowest first
 abbrev pub octets_of : List ℕ → List ℕ
@@ -12,7 +16,7 @@ octets_of [] = []
 octets_of (w ∷ ws) = (w % 256) ∷ (w / 256 % 256) ∷ (w / 65536 % 256) ∷ (w / 16777216 % 256) ∷ octets_of ws
 
 -- The words' octets are those of a text without a zero octet, a zero octet, and up to three octets more, the padding.
-pub record Holds (ws t padding : List ℕ) : Type 0 where
+pub record HoldsText (ws t padding : List ℕ) : Type 0 where
   pub words : AllByRecursion (λ w. w < 4294967296) ws
   pub octets : octets_of ws ≡ t ++ (0 ∷ padding)
   pub no_zero : AllByRecursion (λ b. b ≢ 0) t
@@ -38,7 +42,8 @@ parameters_of es x = option_map (λ e. e.parameters) (enumerant_of es x)
 -- the parameters of the bits in order, if each bit has an enumerant
 abbrev pub parameters_of_all : List Enumerant → List ℕ → Option (List ℕ)
 parameters_of_all es [] = Some []
-parameters_of_all es (b ∷ bs) = option_and_then (λ ks. option_map (λ js. ks ++ js) (parameters_of_all es bs)) (parameters_of es b)
+parameters_of_all es (b ∷ bs) =
+    option_and_then (λ ks. option_map (λ js. ks ++ js) (parameters_of_all es bs)) (parameters_of es b)
 
 -- the parameters of the set bits, the smaller bit first
 unfoldable pub mask_parameters : List Enumerant → ℕ → Option (List ℕ)
@@ -52,15 +57,20 @@ pub data Takes (k : ℕ) : Shape → Plain → List ℕ → List Slot → Type 0
   word : (x : ℕ) → Takes k AsWord (Word x) (x ∷ []) []
   narrow : (w x : ℕ) → w ≤ 32 → Takes k (AsNumber (Some w)) (Number x 0 1) (x ∷ []) []
   wide : (w low high : ℕ) → 32 < w → Takes k (AsNumber (Some w)) (Number low high 2) (low ∷ high ∷ []) []
-  text : (t ws padding : List ℕ) → Holds ws t padding → AreZeros padding → IsUtf8 t → Takes k AsText (Text t) ws []
-  value : (es : List Enumerant) (x : ℕ) (ks : List ℕ) → parameters_of es x ≡ Some ks → Takes k (AsValue es) (Value k x) (x ∷ []) (map alone ks)
-  mask : (es : List Enumerant) (x : ℕ) (ks : List ℕ) → mask_parameters es x ≡ Some ks → Takes k (AsMask es) (Mask k x) (x ∷ []) (map alone ks)
+  text : (t ws padding : List ℕ) → HoldsText ws t padding → AreZeros padding → IsUtf8 t
+      → Takes k AsText (Text t) ws []
+  value : (es : List Enumerant) (x : ℕ) (ks : List ℕ) → parameters_of es x ≡ Some ks
+      → Takes k (AsValue es) (Value k x) (x ∷ []) (map alone ks)
+  mask : (es : List Enumerant) (x : ℕ) (ks : List ℕ) → mask_parameters es x ≡ Some ks
+      → Takes k (AsMask es) (Mask k x) (x ∷ []) (map alone ks)
 
 mutual
-  -- The operands of a kind, and the words that spell them: one operand and those of its parameters, or those of the bases.
+  -- The operands of a kind, and the words that spell them: one operand and those of its parameters, or those of the
+  -- bases.
   pub data Spells (G : Table) : Context → Slot → List Plain → List ℕ → Type 0 where
     operand : (c : Context) (s : Slot) (o : Plain) (ws : List ℕ) (ss : List Slot) (os : List Plain) (us : List ℕ)
-        → Takes s.kind (shape_of G c s) o ws ss → SpellsAll G (and_then c o) ss os us → Spells G c s (o ∷ os) (ws ++ us)
+        → Takes s.kind (shape_of G c s) o ws ss → SpellsAll G (and_then c o) ss os us
+        → Spells G c s (o ∷ os) (ws ++ us)
     parts : (c : Context) (s : Slot) (ss : List Slot) (os : List Plain) (us : List ℕ)
         → shape_of G c s ≡ AsParts ss → SpellsAll G c ss os us → Spells G c s os us
 

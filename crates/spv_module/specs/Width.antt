@@ -1,5 +1,6 @@
 -- How wide a number is.
-use Rattle.std.specs.Prelude.{ℕ, List, [], ◌∷◌, Option, Some, None, Bool, false, nat_eq, nat_le, ◌&&◌, ◌||◌, if◌then◌else◌, option_and_then}
+use Rattle.std.specs.Prelude.{ℕ, List, [], ◌∷◌, Option, Some, None, Bool, false, nat_eq, nat_le, ◌&&◌}
+use Rattle.std.specs.Prelude.{◌||◌, if◌then◌else◌, option_and_then}
 use Rattle.spv_module.specs.Operand.{Plain, OfType, Result, Id, Word, PlainInst, result_in, type_in, Context}
 
 -- is the id the instruction's result

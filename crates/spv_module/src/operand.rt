@@ -12,12 +12,13 @@ pub enum Operand<'a> {
     Id(u32),
     /// A literal of one word: a LiteralInteger that is no case of OpSwitch, a LiteralFloat or a LiteralExtInstInteger.
     Word(u32),
-    /// A literal whose width another instruction tells: a LiteralContextDependentNumber, or a case of OpSwitch. `low` is
-    /// its first word, `high` its second, or 0 where it takes one, and `words` says how many it takes, 1 or 2.
+    /// A literal whose width another instruction tells: a LiteralContextDependentNumber, or a case of OpSwitch. `low`
+    /// is its first word, `high` its second, or 0 where it takes one, and `words` says how many it takes, 1 or 2.
     Number { low: u32, high: u32, words: u8 },
     /// A LiteralString, without the zero octet after it. A text that was decoded is lent by the image.
     Text(&'a str),
-    /// A value of a kind whose enumerants exclude one another. `kind` is the number of the kind in the grammar table, from 0.
+    /// A value of a kind whose enumerants exclude one another. `kind` is the number of the kind in the grammar table,
+    /// from 0.
     Value { kind: u32, value: u32 },
     /// A mask of a kind whose enumerants are bits. `kind` is the number of the kind in the grammar table, from 0.
     Mask { kind: u32, value: u32 },

@@ -9,8 +9,8 @@ use std::rc::Rc;
 
 /// The operands of an instruction, in order. Contracts see them as a list.
 ///
-/// They are part of a list that instructions may share: those that are decoded one after another do, so that an instruction
-/// takes 16 bytes beside its operands, and few growths of memory serve many.
+/// They are part of a list that instructions may share: those that are decoded one after another do, so that an
+/// instruction takes 16 bytes beside its operands, and few growths of memory serve many.
 #[derive(Drop)]
 pub struct Operands<'a> {
     shared: Rc<Vec<Operand<'a>>>,
@@ -32,7 +32,8 @@ impl<'a> Model for Operands<'a> {
 }
 
 impl<'a> Operands<'a> {
-    /// A copy of operands. `Memory` comes where a growth of memory was refused, or where there are 4,294,967,296 or more.
+    /// A copy of operands. `Memory` comes where a growth of memory was refused, or where there are 4,294,967,296 or
+    /// more.
     pub fn from_slice(alloc: Global, operands: &[Operand<'a>]) -> Result<Operands<'a>, Memory>
         ensures { IfOk result (λ o. o ≡ operands.now) }
     {

@@ -4,8 +4,8 @@ ghost use Rattle.spv_module.specs.Module.{plain_operands};
 
 use crate::operand::Operand;
 
-/// The id of the result that operands have: that of the first of the kind IdResult (SPIR-V Specification 1.6, section 2.2.1).
-/// None where there is none.
+/// The id of the result that operands have: that of the first of the kind IdResult (SPIR-V Specification 1.6, section
+/// 2.2.1). None where there is none.
 pub fn result_in(operands: &[Operand]) -> Option<u32>
     ensures { result ≡ operand.result_in (plain_operands operands.now) }
 {
@@ -17,8 +17,8 @@ pub fn result_in(operands: &[Operand]) -> Option<u32>
     None
 }
 
-/// The id of the result's type that operands have: that of the first of the kind IdResultType (SPIR-V Specification 1.6,
-/// section 2.2.1). None where there is none.
+/// The id of the result's type that operands have: that of the first of the kind IdResultType (SPIR-V Specification
+/// 1.6, section 2.2.1). None where there is none.
 pub fn type_in(operands: &[Operand]) -> Option<u32>
     ensures { result ≡ operand.type_in (plain_operands operands.now) }
 {

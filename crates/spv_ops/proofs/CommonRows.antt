@@ -3,19 +3,21 @@ use Rattle.std.proofs.Common.{◌≡◌, ◌↔◌, inl, ℕ, List, [], ◌∷�
 use Rattle.std.specs.Prelude.{IsTrue, IsSomeAnd, option_and_then, option_map}
 use Rattle.spv_module.specs.Operand.{Plain, OfType, Result, Id, Mask, PlainInst}
 use Rattle.spv_module.specs.Width.{type_of}
-use Rattle.spv_ops.specs.declared.form.Sort.{Sort}
+use Rattle.spv_type_forms.specs.declared.form.Sort.{Sort}
 use Rattle.spv_ops.specs.declared.row.Row.TheVariants as row
 use Rattle.spv_ops.specs.declared.row.Calculation.TheVariants as calculation
 use Rattle.spv_ops.specs.declared.row.Access.TheVariants as access
 use Rattle.spv_ops.specs.Row.{row_of}
-use Rattle.spv_ops.specs.Operands.{ids_in, words_in, after_head, result_type_in}
+use Rattle.spv_type_forms.specs.Operands.{ids_in, words_in, after_head, result_type_in}
 use Rattle.spv_ops.specs.Calculation.{Calculates}
 use Rattle.spv_ops.specs.Access.{Accesses}
-use Rattle.spv_ops.specs.Common.{IsCondition, binary_in, load_in, store_in, condition_in}
+use Rattle.spv_ops.specs.inner.Common.{IsCondition, binary_in, load_in, store_in, condition_in}
 use Rattle.spv_ops.specs.declared.common.Binary.{Binary as Ids}
 use Rattle.spv_ops.specs.declared.common.Two.{Two}
-use Rattle.spv_ops.specs.Typed.{Holds, IsTypedIn}
-use Rattle.spv_ops.specs.Values.{types_of, value_ids}
+use Rattle.spv_ops.specs.Typed.{RowHolds}
+use Rattle.spv_ops.specs.inner.Typed.{IsTypedIn}
+use Rattle.spv_type_forms.specs.Values.{types_of}
+use Rattle.spv_ops.specs.Values.{value_ids}
 
 binary_of : (is : List PlainInst) (n : ℕ) (i : PlainInst) (s : Sort) (r x a b : ℕ) (holds : Bool) → row_of i.opcode ≡ row.Calculation (calculation.Binary s)
     → i.operands ≡ OfType r ∷ Result x ∷ Id a ∷ Id b ∷ []
@@ -70,7 +72,7 @@ abbrev one_of : Option ℕ → Option (List ℕ)
 one_of o = option_and_then (λ t. option_map (λ ts. t ∷ ts) (Some [])) o
 
 condition : (is : List PlainInst) (n : ℕ) (i : PlainInst) (o : Option ℕ) → words_in i.operands ≡ []
-    → IsSomeAnd (one_of o) (IsCondition is) ↔ IsSomeAnd (one_of o) (λ types. Holds is n i row.BranchConditional None types)
+    → IsSomeAnd (one_of o) (IsCondition is) ↔ IsSomeAnd (one_of o) (λ types. RowHolds is n i row.BranchConditional None types)
 condition is n i None e = (λ h. h, λ h. h)
 condition is n i (Some t) e = (λ h. (h, inl e), λ h. h.0)
 
@@ -79,8 +81,8 @@ branch_of : (is : List PlainInst) (n : ℕ) (i : PlainInst) (x l m : ℕ) (holds
     → (IsTrue holds ↔ IsSomeAnd (types_of is (x ∷ [])) (IsCondition is)) → IsTrue holds ↔ IsTypedIn is n i
 branch_of is n i x l m holds e o h =
     let d = condition is n i (type_of is x) (rw o refl) in
-    let k : IsTrue holds ↔ IsSomeAnd (types_of is (x ∷ [])) (λ types. Holds is n i row.BranchConditional None types) = (λ y. d.0 (h.0 y), λ t. h.1 (d.1 t)) in
-    rw e (subst (λ (os : List Plain). IsTrue holds ↔ IsSomeAnd (types_of is (value_ids row.BranchConditional (after_head os))) (λ types. Holds is n i row.BranchConditional (result_type_in os) types)) (sym o) k)
+    let k : IsTrue holds ↔ IsSomeAnd (types_of is (x ∷ [])) (λ types. RowHolds is n i row.BranchConditional None types) = (λ y. d.0 (h.0 y), λ t. h.1 (d.1 t)) in
+    rw e (subst (λ (os : List Plain). IsTrue holds ↔ IsSomeAnd (types_of is (value_ids row.BranchConditional (after_head os))) (λ types. RowHolds is n i row.BranchConditional (result_type_in os) types)) (sym o) k)
 
 pub branch_typed : (is : List PlainInst) (n : ℕ) (i : PlainInst) (x : ℕ) (holds : Bool) (os : List Plain) → i.operands ≡ os → row_of i.opcode ≡ row.BranchConditional → condition_in os ≡ Some x
     → (IsTrue holds ↔ IsSomeAnd (types_of is (x ∷ [])) (IsCondition is)) → IsTrue holds ↔ IsTypedIn is n i

@@ -4,12 +4,14 @@ use Rattle.std.specs.Prelude.{slice_get, IsSomeAnd}
 use Rattle.std.proofs.lemmas.Option.{none-some}
 use Rattle.spv_table.specs.Table.{Table}
 use Rattle.spv_module.specs.Operand.{PlainInst}
-use Rattle.spv_layout.specs.Shape.{Fits}
+use Rattle.spv_layout.specs.Shape.{FitsShape}
 use Rattle.spv_ops.specs.declared.row.Row.{Row}
 use Rattle.spv_ops.specs.declared.row.Row.TheVariants as row
 use Rattle.spv_ops.specs.Row.{row_of}
-use Rattle.spv_ops.specs.Values.{AreValues, types_of, values_of}
-use Rattle.spv_ops.specs.Typed.{Typed, IsTyped, IsTypedAt, IsTypedIn}
+use Rattle.spv_type_forms.specs.Values.{AreValues, types_of}
+use Rattle.spv_ops.specs.Values.{values_of}
+use Rattle.spv_ops.specs.Typed.{Typed, IsTyped, IsTypedAt}
+use Rattle.spv_ops.specs.inner.Typed.{IsTypedIn}
 use Rattle.spv_ops.proofs.ValuePlaces.{values_agree}
 
 free_or : (r : Row) → (r ≡ row.Free) ⊎ (r ≢ row.Free)
@@ -33,7 +35,7 @@ some_and P (Some us) = (λ p. (us, refl, p), λ a. let same : a.0 ≡ us = cc (a
 free_holds : (is : List PlainInst) (n : ℕ) (i : PlainInst) → row_of i.opcode ≡ row.Free → IsTypedIn is n i
 free_holds is n i e = rw e tt
 
-rightward : (G : Table) (is : List PlainInst) (n : ℕ) (i : PlainInst) → slice_get is n ≡ Some i → Fits G i → IsTypedIn is n i → IsTypedAt G is n
+rightward : (G : Table) (is : List PlainInst) (n : ℕ) (i : PlainInst) → slice_get is n ≡ Some i → FitsShape G i → IsTypedIn is n i → IsTypedAt G is n
 rightward G is n i at fits h = elim (free_or (row_of i.opcode)) [
   | inl e ↦ record { inst = i; there = at; typed = inl e }
   | inr ne ↦
@@ -60,5 +62,5 @@ leftward G is n i at t = elim (free_or (row_of i.opcode)) [
       typed_by G is n i ne (subst (λ j. IsTyped G is n j) same t.typed)
 ]
 
-pub told : (G : Table) (is : List PlainInst) (n : ℕ) (i : PlainInst) → slice_get is n ≡ Some i → Fits G i → IsTypedIn is n i ↔ IsTypedAt G is n
+pub told : (G : Table) (is : List PlainInst) (n : ℕ) (i : PlainInst) → slice_get is n ≡ Some i → FitsShape G i → IsTypedIn is n i ↔ IsTypedAt G is n
 told G is n i at fits = (rightward G is n i at fits, leftward G is n i at)

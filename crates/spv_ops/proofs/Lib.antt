@@ -1,10 +1,9 @@
-pub mod Walks
-pub mod Choices
 pub mod TagTests
 pub mod Short
 pub mod Lookups
 pub mod TwoTypes
 pub mod Opcodes
+pub mod Rows
 pub mod ValuePlaces
 pub mod Judged
 pub mod Worked

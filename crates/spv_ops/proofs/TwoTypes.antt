@@ -4,12 +4,12 @@ use Rattle.std.specs.Prelude.{IsSomeAnd, option_and_then, option_map}
 use Rattle.std.proofs.lemmas.Bool.{eqb-true, eq-eqb}
 use Rattle.spv_module.specs.Operand.{PlainInst}
 use Rattle.spv_module.specs.Width.{type_of}
-use Rattle.spv_ops.specs.declared.form.Sort.{Sort}
+use Rattle.spv_type_forms.specs.declared.form.Sort.{Sort}
 use Rattle.spv_ops.specs.declared.row.Calculation.TheVariants.{Binary}
-use Rattle.spv_ops.specs.Types.{HasSort}
+use Rattle.spv_type_forms.specs.Types.{HasSort}
 use Rattle.spv_ops.specs.Calculation.{Calculates}
-use Rattle.spv_ops.specs.Tests.{passes, has_type}
-use Rattle.spv_ops.specs.Values.{types_of}
+use Rattle.spv_type_forms.specs.inner.Tests.{passes, has_type}
+use Rattle.spv_type_forms.specs.Values.{types_of}
 
 abbrev both_of : Option ℕ → Option ℕ → Option (List ℕ)
 both_of o p = option_and_then (λ t. option_map (λ ts. t ∷ ts) (option_and_then (λ u. option_map (λ us. u ∷ us) (Some [])) p)) o

@@ -7,15 +7,16 @@ use Rattle.spv_layout.specs.declared.form.Form.{Form}
 use Rattle.spv_layout.specs.declared.form.Form.TheVariants as form
 use Rattle.spv_layout.specs.declared.form.Role.TheVariants as role
 use Rattle.spv_layout.specs.declared.form.Named.TheVariants as kind
-use Rattle.spv_layout.specs.Row.{PlainRow, Ending, closed, maybe, file_and_text, repeated, others, maybe_others, row_in}
+use Rattle.spv_layout.specs.Row.{PlainRow, RowEnding, closed, maybe, file_and_text, repeated, others, maybe_others, row_in}
 use Rattle.spv_layout.specs.Rows.{rows}
 use Rattle.spv_layout.specs.Shape.{is_of, AreOf, Ends, HasForms}
 use Rattle.spv_ops.specs.declared.row.Row.{Row}
 use Rattle.spv_ops.specs.declared.row.Row.TheVariants as row
 use Rattle.spv_ops.specs.Row.{row_of}
-use Rattle.spv_ops.specs.Operands.{ids_in, after_head}
+use Rattle.spv_type_forms.specs.Operands.{ids_in, after_head}
 use Rattle.spv_ops.proofs.Opcodes.{both, and_yes, all_pass, one_passes}
-use Rattle.spv_ops.specs.Values.{value_in, used_in, initializers_in, paired_ids_in, value_ids, values_of}
+use Rattle.spv_type_forms.specs.Values.{value_in, used_in, paired_ids_in}
+use Rattle.spv_ops.specs.Values.{initializers_in, value_ids, values_of}
 
 -- Tests of forms.
 abbrev is_value : Form → Bool
@@ -186,7 +187,7 @@ front_used G (f ∷ fs) [] h a = elim a [ ]
 front_used G (f ∷ fs) (o ∷ os) h (AreOf.more _ _ _ _ i a) = front_more G f fs o os (is_value f) refl h i a (λ r. front_used G fs os r a)
 
 -- Tests of endings.
-abbrev is_free_ending : Ending → Bool
+abbrev is_free_ending : RowEnding → Bool
 is_free_ending closed = true
 is_free_ending (maybe f) = not (is_value f)
 is_free_ending file_and_text = true
@@ -204,7 +205,7 @@ free_others : (gs : List Form) → Ends others gs → have_no_value gs ≡ true
 free_others [] Ends.no_other = refl
 free_others (g ∷ gs) (Ends.other _ e) = free_others gs e
 
-free_ending : (e : Ending) (gs : List Form) → is_free_ending e ≡ true → Ends e gs → have_no_value gs ≡ true
+free_ending : (e : RowEnding) (gs : List Form) → is_free_ending e ≡ true → Ends e gs → have_no_value gs ≡ true
 free_ending closed gs h Ends.nothing = refl
 free_ending (maybe f) gs h (Ends.absent _) = refl
 free_ending (maybe f) gs h (Ends.present _) = and_yes (not (is_value f)) true h refl
@@ -250,7 +251,7 @@ is_plain_list [] = false
 is_plain_list (f ∷ []) = is_value f || is_no_id f
 is_plain_list (f ∷ g ∷ fs) = false
 
-abbrev is_plain_ending : Ending → Bool
+abbrev is_plain_ending : RowEnding → Bool
 is_plain_ending closed = true
 is_plain_ending (maybe f) = is_value f
 is_plain_ending file_and_text = false
@@ -271,7 +272,7 @@ plain_repeated f [] h _ = refl
 plain_repeated f gs h (Ends.again _ hs e) =
     one_more f hs (is_value f) refl h (plain_repeated f hs h e) (λ n. free_ending (repeated (f ∷ [])) hs (free_of f n) e)
 
-plain_ending : (e : Ending) (gs : List Form) → is_plain_ending e ≡ true → Ends e gs → are_front gs ≡ true
+plain_ending : (e : RowEnding) (gs : List Form) → is_plain_ending e ≡ true → Ends e gs → are_front gs ≡ true
 plain_ending closed gs h Ends.nothing = refl
 plain_ending (maybe f) gs h (Ends.absent _) = refl
 plain_ending (maybe f) gs h (Ends.present _) = front_value f [] h refl
@@ -283,11 +284,11 @@ plain_ending others gs h e = cc
 plain_ending (maybe_others f) gs h (Ends.no_kind _) = refl
 plain_ending (maybe_others f) gs h (Ends.kind _ hs e) = front_other f hs h (free_others hs e)
 
-abbrev is_plain : List Form → Ending → Bool
+abbrev is_plain : List Form → RowEnding → Bool
 is_plain [] e = is_plain_ending e
 is_plain (f ∷ fs) e = if is_value f then is_plain fs e else (is_no_id f && (have_no_value fs && is_free_ending e))
 
-plain_more : (f : Form) (fs gs : List Form) (e : Ending) (b : Bool) → is_value f ≡ b → (if b then is_plain fs e else (is_no_id f && (have_no_value fs && is_free_ending e))) ≡ true
+plain_more : (f : Form) (fs gs : List Form) (e : RowEnding) (b : Bool) → is_value f ≡ b → (if b then is_plain fs e else (is_no_id f && (have_no_value fs && is_free_ending e))) ≡ true
     → Ends e gs → (is_plain fs e ≡ true → are_front (fs ++ gs) ≡ true) → are_front (f ∷ (fs ++ gs)) ≡ true
 plain_more f fs gs e true v h n rest = front_value f (fs ++ gs) v (rest h)
 plain_more f fs gs e false v h n rest =
@@ -295,11 +296,11 @@ plain_more f fs gs e false v h n rest =
     let more = both (have_no_value fs) (is_free_ending e) two.1 in
     front_other f (fs ++ gs) two.0 (no_value_append fs gs more.0 (free_ending e gs more.1 n))
 
-plain_front : (fs gs : List Form) (e : Ending) → is_plain fs e ≡ true → Ends e gs → are_front (fs ++ gs) ≡ true
+plain_front : (fs gs : List Form) (e : RowEnding) → is_plain fs e ≡ true → Ends e gs → are_front (fs ++ gs) ≡ true
 plain_front [] gs e h n = plain_ending e gs h n
 plain_front (f ∷ fs) gs e h n = plain_more f fs gs e (is_value f) refl h n (λ r. plain_front fs gs e r n)
 
-plain_used : (G : Table) (fs gs : List Form) (e : Ending) (os : List Plain) → is_plain fs e ≡ true → Ends e gs → AreOf G (fs ++ gs) os → used_in (fs ++ gs) os ≡ ids_in os
+plain_used : (G : Table) (fs gs : List Form) (e : RowEnding) (os : List Plain) → is_plain fs e ≡ true → Ends e gs → AreOf G (fs ++ gs) os → used_in (fs ++ gs) os ≡ ids_in os
 plain_used G fs gs e os h n a = front_used G (fs ++ gs) os (plain_front fs gs e h n) a
 
 -- a variable: its storage class, and then values
@@ -307,7 +308,7 @@ abbrev is_class : Form → Bool
 is_class (form.Kind kind.StorageClass) = true
 is_class _ = false
 
-abbrev is_variable : List Form → Ending → Bool
+abbrev is_variable : List Form → RowEnding → Bool
 is_variable [] e = false
 is_variable (f ∷ fs) e = is_class f && is_plain fs e
 
@@ -350,7 +351,7 @@ a_value G (operand.Text a) h = cc
 a_value G (operand.Value a b) h = (a, b, refl)
 a_value G (operand.Mask a b) h = cc
 
-variable_used : (G : Table) (fs gs : List Form) (e : Ending) (os : List Plain) → is_variable fs e ≡ true → Ends e gs → AreOf G (fs ++ gs) os
+variable_used : (G : Table) (fs gs : List Form) (e : RowEnding) (os : List Plain) → is_variable fs e ≡ true → Ends e gs → AreOf G (fs ++ gs) os
     → used_in (fs ++ gs) os ≡ initializers_in os
 variable_used G [] gs e os h n a = cc
 variable_used G (f ∷ fs) gs e [] h n a = elim a [ ]
@@ -389,7 +390,7 @@ are_pairs (f ∷ []) = false
 are_pairs (f ∷ g ∷ []) = is_value f && is_label g
 are_pairs (f ∷ g ∷ h ∷ fs) = false
 
-abbrev is_phi : List Form → Ending → Bool
+abbrev is_phi : List Form → RowEnding → Bool
 is_phi [] (repeated fs) = are_pairs fs
 is_phi _ _ = false
 
@@ -403,7 +404,7 @@ pairs_used G gs (o ∷ p ∷ os) (Ends.again _ hs e) (AreOf.more _ _ _ _ i (AreO
     let y = a_label G p j in
     rw (x.1, y.1) (ap (λ xs. x.0 ∷ xs) (pairs_used G hs os e a))
 
-phi_used : (G : Table) (fs gs : List Form) (e : Ending) (os : List Plain) → is_phi fs e ≡ true → Ends e gs → AreOf G (fs ++ gs) os → used_in (fs ++ gs) os ≡ paired_ids_in os
+phi_used : (G : Table) (fs gs : List Form) (e : RowEnding) (os : List Plain) → is_phi fs e ≡ true → Ends e gs → AreOf G (fs ++ gs) os → used_in (fs ++ gs) os ≡ paired_ids_in os
 phi_used G [] gs closed os h n a = cc
 phi_used G [] gs (maybe f) os h n a = cc
 phi_used G [] gs file_and_text os h n a = cc
@@ -420,11 +421,11 @@ phi_used G [] gs (maybe_others f) os h n a = cc
 phi_used G (f ∷ fs) gs e os h n a = cc
 
 -- one value, and no other
-abbrev is_one : List Form → Ending → Bool
+abbrev is_one : List Form → RowEnding → Bool
 is_one [] e = false
 is_one (f ∷ fs) e = is_value f && (have_no_value fs && is_free_ending e)
 
-one_used : (G : Table) (fs gs : List Form) (e : Ending) (os : List Plain) → is_one fs e ≡ true → Ends e gs → AreOf G (fs ++ gs) os → used_in (fs ++ gs) os ≡ take 1 (ids_in os)
+one_used : (G : Table) (fs gs : List Form) (e : RowEnding) (os : List Plain) → is_one fs e ≡ true → Ends e gs → AreOf G (fs ++ gs) os → used_in (fs ++ gs) os ≡ take 1 (ids_in os)
 one_used G [] gs e os h n a = cc
 one_used G (f ∷ fs) gs e [] h n a = elim a [ ]
 one_used G (f ∷ fs) gs e (o ∷ os) h n (AreOf.more _ _ _ _ i a) =
@@ -435,7 +436,7 @@ one_used G (f ∷ fs) gs e (o ∷ os) h n (AreOf.more _ _ _ _ i a) =
     rw (same, x.1) (ap (λ xs. x.0 ∷ xs) (none_used G (fs ++ gs) os (no_value_append fs gs more.0 (free_ending e gs more.1 n))))
 
 -- Whether a row of types looks for its values where forms and an ending, without the type and the result, have them.
-abbrev agrees : Row → List Form → Ending → Bool
+abbrev agrees : Row → List Form → RowEnding → Bool
 agrees row.Free fs e = false
 agrees row.Undef fs e = have_no_value fs && is_free_ending e
 agrees row.Variable fs e = is_variable fs e
@@ -449,7 +450,7 @@ agrees row.Construct fs e = is_plain fs e
 agrees row.Chain fs e = is_plain fs e
 agrees row.ElementChain fs e = is_plain fs e
 
-agreed : (G : Table) (r : Row) (fs gs : List Form) (e : Ending) (os : List Plain) → agrees r fs e ≡ true → Ends e gs → AreOf G (fs ++ gs) os
+agreed : (G : Table) (r : Row) (fs gs : List Form) (e : RowEnding) (os : List Plain) → agrees r fs e ≡ true → Ends e gs → AreOf G (fs ++ gs) os
     → used_in (fs ++ gs) os ≡ value_ids r os
 agreed G row.Free fs gs e os h n a = cc
 agreed G row.Undef fs gs e os h n a =
@@ -516,12 +517,12 @@ abbrev is_free : Row → Bool
 is_free row.Free = true
 is_free _ = false
 
-abbrev agrees_whole : Row → List Form → Ending → Bool
+abbrev agrees_whole : Row → List Form → RowEnding → Bool
 agrees_whole r [] e = false
 agrees_whole r (f ∷ []) e = is_value f && agrees r (f ∷ []) e
 agrees_whole r (f ∷ g ∷ fs) e = (is_type f && (is_result g && agrees r fs e)) || (is_value f && agrees r (f ∷ g ∷ fs) e)
 
-value_first : (G : Table) (r : Row) (f : Form) (fs gs : List Form) (e : Ending) (os : List Plain) → is_value f && agrees r (f ∷ fs) e ≡ true → Ends e gs → AreOf G (f ∷ (fs ++ gs)) os
+value_first : (G : Table) (r : Row) (f : Form) (fs gs : List Form) (e : RowEnding) (os : List Plain) → is_value f && agrees r (f ∷ fs) e ≡ true → Ends e gs → AreOf G (f ∷ (fs ++ gs)) os
     → used_in (f ∷ (fs ++ gs)) os ≡ value_ids r (after_head os)
 value_first G r f fs gs e [] h n a = elim a [ ]
 value_first G r f fs gs e (o ∷ os) h n (AreOf.more _ _ _ _ i a) =
@@ -531,7 +532,7 @@ value_first G r f fs gs e (o ∷ os) h n (AreOf.more _ _ _ _ i a) =
     let front : after_head (o ∷ os) ≡ o ∷ os = rw x.1 refl in
     agreed G r (f ∷ fs) gs e (o ∷ os) two.1 n (AreOf.more f o (fs ++ gs) os i a) ∙ ap (value_ids r) (sym front)
 
-head_first : (G : Table) (r : Row) (f g : Form) (fs gs : List Form) (e : Ending) (os : List Plain) → is_type f && (is_result g && agrees r fs e) ≡ true → Ends e gs → AreOf G (f ∷ g ∷ (fs ++ gs)) os
+head_first : (G : Table) (r : Row) (f g : Form) (fs gs : List Form) (e : RowEnding) (os : List Plain) → is_type f && (is_result g && agrees r fs e) ≡ true → Ends e gs → AreOf G (f ∷ g ∷ (fs ++ gs)) os
     → used_in (f ∷ g ∷ (fs ++ gs)) os ≡ value_ids r (after_head os)
 head_first G r f g fs gs e [] h n a = elim a [ ]
 head_first G r f g fs gs e (o ∷ []) h n (AreOf.more _ _ _ _ i a) = elim a [ ]
@@ -544,12 +545,12 @@ head_first G r f g fs gs e (o ∷ p ∷ os) h n (AreOf.more _ _ _ _ i (AreOf.mor
     let x = a_result G p (rw (← second) j) in
     rw (first, second, t.1, x.1) (agreed G r fs gs e os more.1 n a)
 
-whole_two : (G : Table) (r : Row) (f g : Form) (fs gs : List Form) (e : Ending) (os : List Plain) (b : Bool) → is_type f && (is_result g && agrees r fs e) ≡ b
+whole_two : (G : Table) (r : Row) (f g : Form) (fs gs : List Form) (e : RowEnding) (os : List Plain) (b : Bool) → is_type f && (is_result g && agrees r fs e) ≡ b
     → b || (is_value f && agrees r (f ∷ g ∷ fs) e) ≡ true → Ends e gs → AreOf G (f ∷ g ∷ (fs ++ gs)) os → used_in (f ∷ g ∷ (fs ++ gs)) os ≡ value_ids r (after_head os)
 whole_two G r f g fs gs e os true y h n a = head_first G r f g fs gs e os y n a
 whole_two G r f g fs gs e os false y h n a = value_first G r f (g ∷ fs) gs e os h n a
 
-whole : (G : Table) (r : Row) (fs gs : List Form) (e : Ending) (os : List Plain) → agrees_whole r fs e ≡ true → Ends e gs → AreOf G (fs ++ gs) os
+whole : (G : Table) (r : Row) (fs gs : List Form) (e : RowEnding) (os : List Plain) → agrees_whole r fs e ≡ true → Ends e gs → AreOf G (fs ++ gs) os
     → used_in (fs ++ gs) os ≡ value_ids r (after_head os)
 whole G r [] gs e os h n a = cc
 whole G r (f ∷ []) gs e os h n a = value_first G r f [] gs e os h n a

@@ -1,27 +1,32 @@
--- The rows of conversions, arithmetic, comparisons and bits: r is the result type, and the types of the value operands are given in order. [3.49.11 Conversion, 3.49.13 Arithmetic, 3.49.14 Bit, 3.49.15 Relational and Logical]
-use Rattle.std.specs.Prelude.{◌≡◌, ◌≢◌, ◌*◌, ◌⊎◌, ℕ, List, [], ◌∷◌, Option, Some, None, option_and_then}
+-- The rows of conversions, arithmetic, comparisons and bits: r is the result type, and the types of the value operands
+-- are given in order. [3.49.11 Conversion, 3.49.13 Arithmetic, 3.49.14 Bit, 3.49.15 Relational and Logical]
+use Rattle.std.specs.Prelude.{◌≡◌, ◌≢◌, ◌*◌, ◌⊎◌, ℕ, List, [], ◌∷◌, Option, Some, None}
+use Rattle.std.specs.Prelude.{option_and_then}
 use Rattle.spv_module.specs.Operand.{PlainInst}
 use Rattle.spv_ops.specs.declared.row.Calculation.{Calculation}
-use Rattle.spv_ops.specs.declared.row.Calculation.TheVariants.{FloatToInt, IntToFloat, ResizeInt, ResizeFloat, PointerToInt, IntToPointer, ToGeneric, FromGeneric, Bitcast, Unary, Binary, Select, Compare, Shift}
-use Rattle.spv_ops.specs.declared.form.Scalar.{Scalar}
-use Rattle.spv_ops.specs.declared.form.Scalar.TheVariants as scalar
-use Rattle.spv_ops.specs.Types.{components_of, IsInt, IsBool, IsI, IsF, IsB, IsOf, HasSort, IsVector, IsPointer, PointsTo, IsData}
+use Rattle.spv_ops.specs.declared.row.Calculation.TheVariants.{FloatToInt, IntToFloat, ResizeInt, ResizeFloat}
+use Rattle.spv_ops.specs.declared.row.Calculation.TheVariants.{PointerToInt, IntToPointer, ToGeneric, FromGeneric}
+use Rattle.spv_ops.specs.declared.row.Calculation.TheVariants.{Bitcast, Unary, Binary, Select, Compare, Shift}
+use Rattle.spv_type_forms.specs.declared.form.Scalar.{Scalar}
+use Rattle.spv_type_forms.specs.declared.form.Scalar.TheVariants as scalar
+use Rattle.spv_type_forms.specs.Types.{components_of, IsInt, IsBool, IsI, IsF, IsB, IsOf, HasSort, IsVector, IsPointer}
+use Rattle.spv_type_forms.specs.Types.{PointsTo, IsData}
 
--- the storage classes Workgroup, CrossWorkgroup and Function
+-- the storage classes Workgroup, CrossWorkgroup and Function [3.49.11]
 abbrev pub IsNamedClass : ℕ → Type 0
 IsNamedClass class = (class ≡ 4) ⊎ (class ≡ 5) ⊎ (class ≡ 7)
 
--- how many bits n components have, of ints or floats
+-- how many bits n components have, of ints or floats [3.49.11]
 abbrev pub scalar_bits : ℕ → Scalar → Option ℕ
 scalar_bits n (scalar.Int w) = Some (n * w)
 scalar_bits n (scalar.Float w) = Some (n * w)
 scalar_bits n scalar.Bool = None
 
--- how many bits the components of an I or F type have
+-- how many bits the components of an I or F type have [3.49.11]
 abbrev pub bits_of : List PlainInst → ℕ → Option ℕ
 bits_of is t = option_and_then (λ c. scalar_bits c.count c.scalar) (components_of is t)
 
--- n is a number of components, v and w are widths of components.
+-- n is a number of components, v and w are widths, s is a storage class. [3.49.11, 3.49.13, 3.49.14, 3.49.15]
 abbrev pub Calculates : List PlainInst → Calculation → ℕ → List ℕ → Type 0
 Calculates is FloatToInt r (o ∷ []) = (n v w : ℕ) × IsF is o n v × IsI is r n w
 Calculates is IntToFloat r (o ∷ []) = (n v w : ℕ) × IsI is o n v × IsF is r n w
@@ -29,10 +34,11 @@ Calculates is ResizeInt r (o ∷ []) = (n v w : ℕ) × IsI is o n v × IsI is r
 Calculates is ResizeFloat r (o ∷ []) = (n v w : ℕ) × IsF is o n v × IsF is r n w × (v ≢ w)
 Calculates is PointerToInt r (o ∷ []) = (w p : ℕ) × PointsTo is o p × IsInt is r w
 Calculates is IntToPointer r (o ∷ []) = (w p : ℕ) × IsInt is o w × PointsTo is r p
-Calculates is ToGeneric r (o ∷ []) = (class p : ℕ) × IsPointer is o class p × IsNamedClass class × IsPointer is r 8 p
-Calculates is FromGeneric r (o ∷ []) = (class p : ℕ) × IsPointer is o 8 p × IsPointer is r class p × IsNamedClass class
+Calculates is ToGeneric r (o ∷ []) = (s p : ℕ) × IsPointer is o s p × IsNamedClass s × IsPointer is r 8 p
+Calculates is FromGeneric r (o ∷ []) = (s p : ℕ) × IsPointer is o 8 p × IsPointer is r s p × IsNamedClass s
 Calculates is Bitcast r (o ∷ []) =
-    ((b : ℕ) × (bits_of is o ≡ Some b) × (bits_of is r ≡ Some b)) ⊎ ((class p q : ℕ) × IsPointer is o class p × IsPointer is r class q)
+    ((b : ℕ) × (bits_of is o ≡ Some b) × (bits_of is r ≡ Some b))
+    ⊎ ((class p q : ℕ) × IsPointer is o class p × IsPointer is r class q)
 Calculates is (Unary s) r (o ∷ []) = (o ≡ r) × HasSort s is r
 Calculates is (Binary s) r (o ∷ p ∷ []) = (o ≡ r) × (p ≡ r) × HasSort s is r
 Calculates is Select r (o ∷ p ∷ q ∷ []) =

@@ -1,10 +1,4 @@
-pub mod Form
-pub mod Types
-pub mod Operands
-pub mod Parts
-pub mod Reach
 pub mod Row
-pub mod Common
 pub mod Values
 pub mod Calculation
 pub mod Access
@@ -13,6 +7,4 @@ pub mod Chain
 pub mod Variable
 pub mod Typed
 pub mod Example
-pub mod Found
-pub mod Walk
-pub mod Tests
+pub mod inner

@@ -1,102 +1,91 @@
--- The row of types of an opcode, where there is one. [own: table C, Y5]
-use Rattle.std.specs.Prelude.{ℕ, Bool, Option, Some, None, nat_eq, nat_le, ◌&&◌, ◌||◌, if◌then◌else◌}
-use Rattle.spv_ops.specs.declared.form.Sort.TheVariants as sort
-use Rattle.spv_ops.specs.declared.row.Calculation.{Calculation}
+-- The table of types: the row of an opcode, where there is one. [own: Y5]
+use Rattle.std.specs.Prelude.{ℕ, List, [], ◌∷◌, Bool, nat_le, ◌&&◌, if◌then◌else◌}
+use Rattle.spv_type_forms.specs.declared.form.Sort.TheVariants as sort
 use Rattle.spv_ops.specs.declared.row.Calculation.TheVariants as calculation
-use Rattle.spv_ops.specs.declared.row.Access.{Access}
 use Rattle.spv_ops.specs.declared.row.Access.TheVariants as access
-use Rattle.spv_ops.specs.declared.row.Composite.{Composite}
 use Rattle.spv_ops.specs.declared.row.Composite.TheVariants as composite
 use Rattle.spv_ops.specs.declared.row.Row.{Row}
 use Rattle.spv_ops.specs.declared.row.Row.TheVariants as row
 
--- from one number to another
+-- a row for the opcodes from one to another [own]
+pub record Entry : Type 0 where
+  pub from : ℕ
+  pub to : ℕ
+  pub asked : Row
+
+abbrev pub on : ℕ → ℕ → Row → Entry
+on from to asked = record { from = from; to = to; asked = asked }
+
+-- from an opcode to an opcode, and their row [own: Y5; the opcodes of 3.49]
+abbrev pub rows : List Entry
+rows =
+    on 1 1 row.Undef ∷  -- Undef
+    on 59 59 row.Variable ∷  -- Variable
+    on 61 61 (row.Access access.Load) ∷  -- Load
+    on 62 62 (row.Access access.Store) ∷  -- Store
+    on 63 63 (row.Access access.CopyMemory) ∷  -- CopyMemory
+    on 64 64 (row.Access access.CopyMemorySized) ∷  -- CopyMemorySized
+    on 65 66 row.Chain ∷  -- AccessChain, InBoundsAccessChain
+    on 67 67 row.ElementChain ∷  -- PtrAccessChain
+    on 70 70 row.ElementChain ∷  -- InBoundsPtrAccessChain
+    on 77 77 (row.Composite composite.ExtractDynamic) ∷  -- VectorExtractDynamic
+    on 78 78 (row.Composite composite.InsertDynamic) ∷  -- VectorInsertDynamic
+    on 79 79 (row.Composite composite.Shuffle) ∷  -- VectorShuffle
+    on 80 80 row.Construct ∷  -- CompositeConstruct
+    on 81 81 (row.Composite composite.Extract) ∷  -- CompositeExtract
+    on 82 82 (row.Composite composite.Insert) ∷  -- CompositeInsert
+    on 83 83 (row.Composite composite.CopyObject) ∷  -- CopyObject
+    on 109 110 (row.Calculation calculation.FloatToInt) ∷  -- ConvertFToU, ConvertFToS
+    on 111 112 (row.Calculation calculation.IntToFloat) ∷  -- ConvertSToF, ConvertUToF
+    on 113 114 (row.Calculation calculation.ResizeInt) ∷  -- UConvert, SConvert
+    on 115 115 (row.Calculation calculation.ResizeFloat) ∷  -- FConvert
+    on 117 117 (row.Calculation calculation.PointerToInt) ∷  -- ConvertPtrToU
+    on 120 120 (row.Calculation calculation.IntToPointer) ∷  -- ConvertUToPtr
+    on 121 121 (row.Calculation calculation.ToGeneric) ∷  -- PtrCastToGeneric
+    on 122 122 (row.Calculation calculation.FromGeneric) ∷  -- GenericCastToPtr
+    on 124 124 (row.Calculation calculation.Bitcast) ∷  -- Bitcast
+    on 126 126 (row.Calculation (calculation.Unary sort.Int)) ∷  -- SNegate
+    on 127 127 (row.Calculation (calculation.Unary sort.Float)) ∷  -- FNegate
+    on 128 128 (row.Calculation (calculation.Binary sort.Int)) ∷  -- IAdd
+    on 129 129 (row.Calculation (calculation.Binary sort.Float)) ∷  -- FAdd
+    on 130 130 (row.Calculation (calculation.Binary sort.Int)) ∷  -- ISub
+    on 131 131 (row.Calculation (calculation.Binary sort.Float)) ∷  -- FSub
+    on 132 132 (row.Calculation (calculation.Binary sort.Int)) ∷  -- IMul
+    on 133 133 (row.Calculation (calculation.Binary sort.Float)) ∷  -- FMul
+    on 134 135 (row.Calculation (calculation.Binary sort.Int)) ∷  -- UDiv, SDiv
+    on 136 136 (row.Calculation (calculation.Binary sort.Float)) ∷  -- FDiv
+    on 137 139 (row.Calculation (calculation.Binary sort.Int)) ∷  -- UMod, SRem, SMod
+    on 140 141 (row.Calculation (calculation.Binary sort.Float)) ∷  -- FRem, FMod
+    on 164 167 (row.Calculation (calculation.Binary sort.Bool)) ∷  -- LogicalEqual to LogicalAnd
+    on 168 168 (row.Calculation (calculation.Unary sort.Bool)) ∷  -- LogicalNot
+    on 169 169 (row.Calculation calculation.Select) ∷  -- Select
+    on 170 179 (row.Calculation (calculation.Compare sort.Int)) ∷  -- IEqual to SLessThanEqual
+    on 180 191 (row.Calculation (calculation.Compare sort.Float)) ∷  -- FOrdEqual to FUnordGreaterThanEqual
+    on 194 196 (row.Calculation calculation.Shift) ∷  -- ShiftRightLogical, ShiftRightArithmetic, ShiftLeftLogical
+    on 197 199 (row.Calculation (calculation.Binary sort.Int)) ∷  -- BitwiseOr, BitwiseXor, BitwiseAnd
+    on 200 200 (row.Calculation (calculation.Unary sort.Int)) ∷  -- Not
+    on 224 224 (row.Access access.ControlBarrier) ∷  -- ControlBarrier
+    on 225 225 (row.Access access.MemoryBarrier) ∷  -- MemoryBarrier
+    on 227 227 (row.Access access.AtomicLoad) ∷  -- AtomicLoad
+    on 228 228 (row.Access access.AtomicStore) ∷  -- AtomicStore
+    on 229 229 (row.Access access.AtomicExchange) ∷  -- AtomicExchange
+    on 230 230 (row.Access access.AtomicCompareExchange) ∷  -- AtomicCompareExchange
+    on 232 233 (row.Access access.AtomicStep) ∷  -- AtomicIIncrement, AtomicIDecrement
+    on 234 242 (row.Access access.AtomicUpdate) ∷  -- AtomicIAdd to AtomicXor
+    on 245 245 row.Phi ∷  -- Phi
+    on 250 250 row.BranchConditional ∷  -- BranchConditional
+    on 251 251 row.Switch ∷  -- Switch
+    on 256 257 (row.Access access.Lifetime) ∷  -- LifetimeStart, LifetimeStop
+    []
+
+-- from one number to another [own]
 abbrev pub is_between : ℕ → ℕ → ℕ → Bool
 is_between a b n = nat_le a n && nat_le n b
 
--- calculations with one operand
-abbrev pub unary_row_of : ℕ → Option Calculation
-unary_row_of n =
-    if nat_eq n 109 || nat_eq n 110 then Some calculation.FloatToInt
-    else (if nat_eq n 111 || nat_eq n 112 then Some calculation.IntToFloat
-    else (if nat_eq n 113 || nat_eq n 114 then Some calculation.ResizeInt
-    else (if nat_eq n 115 then Some calculation.ResizeFloat
-    else (if nat_eq n 117 then Some calculation.PointerToInt
-    else (if nat_eq n 120 then Some calculation.IntToPointer
-    else (if nat_eq n 121 then Some calculation.ToGeneric
-    else (if nat_eq n 122 then Some calculation.FromGeneric
-    else (if nat_eq n 124 then Some calculation.Bitcast
-    else (if nat_eq n 126 || nat_eq n 200 then Some (calculation.Unary sort.Int)
-    else (if nat_eq n 127 then Some (calculation.Unary sort.Float)
-    else (if nat_eq n 168 then Some (calculation.Unary sort.Bool)
-    else None)))))))))))
+-- the first row for an opcode; no row speaks of an opcode that is nowhere in the table [own: Y5]
+abbrev pub row_in : List Entry → ℕ → Row
+row_in [] n = row.Free
+row_in (e ∷ es) n = if is_between e.from e.to n then e.asked else row_in es n
 
--- calculations with more operands
-abbrev pub binary_row_of : ℕ → Option Calculation
-binary_row_of n =
-    if nat_eq n 128 || nat_eq n 130 || nat_eq n 132 || nat_eq n 134 || nat_eq n 135 || is_between 137 139 n || is_between 197 199 n then Some (calculation.Binary sort.Int)
-    else (if nat_eq n 129 || nat_eq n 131 || nat_eq n 133 || nat_eq n 136 || nat_eq n 140 || nat_eq n 141 then Some (calculation.Binary sort.Float)
-    else (if is_between 164 167 n then Some (calculation.Binary sort.Bool)
-    else (if nat_eq n 169 then Some calculation.Select
-    else (if is_between 170 179 n then Some (calculation.Compare sort.Int)
-    else (if is_between 180 191 n then Some (calculation.Compare sort.Float)
-    else (if is_between 194 196 n then Some calculation.Shift
-    else None))))))
-
--- memory
-abbrev pub access_row_of : ℕ → Option Access
-access_row_of n =
-    if nat_eq n 61 then Some access.Load
-    else (if nat_eq n 62 then Some access.Store
-    else (if nat_eq n 63 then Some access.CopyMemory
-    else (if nat_eq n 64 then Some access.CopyMemorySized
-    else (if nat_eq n 224 then Some access.ControlBarrier
-    else (if nat_eq n 225 then Some access.MemoryBarrier
-    else (if nat_eq n 227 then Some access.AtomicLoad
-    else (if nat_eq n 228 then Some access.AtomicStore
-    else (if nat_eq n 229 then Some access.AtomicExchange
-    else (if nat_eq n 230 then Some access.AtomicCompareExchange
-    else (if nat_eq n 232 || nat_eq n 233 then Some access.AtomicStep
-    else (if is_between 234 242 n then Some access.AtomicUpdate
-    else (if nat_eq n 256 || nat_eq n 257 then Some access.Lifetime
-    else None))))))))))))
-
--- composites
-abbrev pub composite_row_of : ℕ → Option Composite
-composite_row_of n =
-    if nat_eq n 77 then Some composite.ExtractDynamic
-    else (if nat_eq n 78 then Some composite.InsertDynamic
-    else (if nat_eq n 79 then Some composite.Shuffle
-    else (if nat_eq n 81 then Some composite.Extract
-    else (if nat_eq n 82 then Some composite.Insert
-    else (if nat_eq n 83 then Some composite.CopyObject
-    else None)))))
-
--- the others; no row speaks of an opcode that is nowhere here
-abbrev pub other_row_of : ℕ → Row
-other_row_of n =
-    if nat_eq n 1 then row.Undef
-    else (if nat_eq n 59 then row.Variable
-    else (if nat_eq n 65 || nat_eq n 66 then row.Chain
-    else (if nat_eq n 67 || nat_eq n 70 then row.ElementChain
-    else (if nat_eq n 80 then row.Construct
-    else (if nat_eq n 245 then row.Phi
-    else (if nat_eq n 250 then row.BranchConditional
-    else (if nat_eq n 251 then row.Switch
-    else row.Free)))))))
-
-abbrev pub or_calculation : Option Calculation → Row → Row
-or_calculation None r = r
-or_calculation (Some c) r = row.Calculation c
-
-abbrev pub or_access : Option Access → Row → Row
-or_access None r = r
-or_access (Some a) r = row.Access a
-
-abbrev pub or_composite : Option Composite → Row → Row
-or_composite None r = r
-or_composite (Some c) r = row.Composite c
-
--- The row of an opcode.
 abbrev pub row_of : ℕ → Row
-row_of n = or_calculation (unary_row_of n) (or_calculation (binary_row_of n) (or_access (access_row_of n) (or_composite (composite_row_of n) (other_row_of n))))
+row_of n = row_in rows n

@@ -1,22 +1,12 @@
-ghost use Rattle.std.specs.Prelude.{◌≡◌, ◌↔◌, ℕ, [], ◌∷◌, Some, None, IsTrue};
-ghost use Rattle.spv_ops.specs.Types.{IsSomeInt, IsNumber, PointsTo};
+ghost use Rattle.std.specs.Prelude.{◌↔◌, [], ◌∷◌, Some, None, IsTrue};
 ghost use Rattle.spv_ops.specs.Access.{Accesses, IsScope};
-ghost use Rattle.spv_ops.specs.declared.row.Access.TheVariants.{Load, Store, CopyMemory, CopyMemorySized, Lifetime, ControlBarrier, MemoryBarrier, AtomicLoad, AtomicStore, AtomicExchange, AtomicCompareExchange, AtomicStep, AtomicUpdate};
+ghost use Rattle.spv_ops.specs.declared.row.Access.TheVariants.{Load, Store, CopyMemory, CopyMemorySized, Lifetime};
+ghost use Rattle.spv_ops.specs.declared.row.Access.TheVariants.{ControlBarrier, MemoryBarrier, AtomicLoad, AtomicStore};
+ghost use Rattle.spv_ops.specs.declared.row.Access.TheVariants.{AtomicExchange, AtomicCompareExchange, AtomicStep};
+ghost use Rattle.spv_ops.specs.declared.row.Access.TheVariants.{AtomicUpdate};
 
-use crate::calculation::is_data;
-use crate::definitions::Definitions;
-use crate::form::{Form, Scalar};
 use crate::row::Access;
-
-/// Whether a type is a pointer to another.
-pub fn points_to(definitions: &Definitions, t: u32, to: u32) -> bool
-    ensures { IsTrue result ↔ PointsTo definitions.now t to }
-{
-    match definitions.pointee(t) {
-        Some(pointee) => pointee == to,
-        None => false,
-    }
-}
+use spv_type_forms::{Definitions, Form, Scalar, is_data, is_int, is_number, points_to};
 
 /// Whether a type is an int of width 32.
 fn is_scope(definitions: &Definitions, t: u32) -> bool
@@ -24,26 +14,6 @@ fn is_scope(definitions: &Definitions, t: u32) -> bool
 {
     match definitions.form(t) {
         Some(Form::Scalar(Scalar::Int(32))) => true,
-        _ => false,
-    }
-}
-
-/// Whether a type is an int.
-pub fn is_int(definitions: &Definitions, t: u32) -> bool
-    ensures { IsTrue result ↔ IsSomeInt definitions.now t }
-{
-    match definitions.form(t) {
-        Some(Form::Scalar(Scalar::Int(_))) => true,
-        _ => false,
-    }
-}
-
-/// Whether a type is an int or a float.
-fn is_number(definitions: &Definitions, t: u32) -> bool
-    ensures { IsTrue result ↔ IsNumber definitions.now t }
-{
-    match definitions.form(t) {
-        Some(Form::Scalar(Scalar::Int(_) | Scalar::Float(_))) => true,
         _ => false,
     }
 }

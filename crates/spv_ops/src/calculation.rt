@@ -1,11 +1,13 @@
 ghost use Rattle.std.specs.Prelude.{◌≡◌, ◌↔◌, ◌⊎◌, ℕ, [], ◌∷◌, IsTrue};
-ghost use Rattle.spv_ops.specs.Types.{IsData, HasSort, IsBool, IsVector, IsB};
+ghost use Rattle.spv_type_forms.specs.Types.{IsBool, IsVector, IsB};
 ghost use Rattle.spv_ops.specs.Calculation.{Calculates, IsNamedClass, bits_of};
-ghost use Rattle.spv_ops.specs.declared.row.Calculation.TheVariants.{FloatToInt, IntToFloat, ResizeInt, ResizeFloat, PointerToInt, IntToPointer, ToGeneric, FromGeneric, Bitcast, Unary, Binary, Select, Compare, Shift};
+ghost use Rattle.spv_ops.specs.declared.row.Calculation.TheVariants.{FloatToInt, IntToFloat, ResizeInt, ResizeFloat};
+ghost use Rattle.spv_ops.specs.declared.row.Calculation.TheVariants.{PointerToInt, IntToPointer, ToGeneric};
+ghost use Rattle.spv_ops.specs.declared.row.Calculation.TheVariants.{FromGeneric, Bitcast, Unary, Binary, Select};
+ghost use Rattle.spv_ops.specs.declared.row.Calculation.TheVariants.{Compare, Shift};
 
-use crate::definitions::Definitions;
-use crate::form::{Components, Form, Scalar, Sort};
 use crate::row::Calculation;
+use spv_type_forms::{Components, Definitions, Form, Scalar, Sort, has_sort, is_data};
 
 fn float_to_int(definitions: &Definitions, r: u32, o: u32) -> bool
     ensures { IsTrue result ↔ Calculates definitions.now FloatToInt r (o ∷ []) }
@@ -157,27 +159,6 @@ fn from_generic(definitions: &Definitions, r: u32, o: u32) -> bool
     }
 }
 
-/// Whether a type is an int, float or bool type or a vector of it.
-#[inline(always)]
-pub fn has_sort(definitions: &Definitions, sort: Sort, t: u32) -> bool
-    ensures { IsTrue result ↔ HasSort sort definitions.now t }
-{
-    match definitions.read_form(t) {
-        Some(Form::Scalar(scalar)) => scalar.is_of(sort),
-        _ => has_components_of(definitions, sort, t),
-    }
-}
-
-/// Whether the components of a type, if it has any, are ints, floats or bools.
-fn has_components_of(definitions: &Definitions, sort: Sort, t: u32) -> bool
-    ensures { IsTrue result ↔ HasSort sort definitions.now t }
-{
-    match definitions.components(t) {
-        Some(components) => components.scalar.is_of(sort),
-        None => false,
-    }
-}
-
 fn unary(definitions: &Definitions, sort: Sort, r: u32, o: u32) -> bool
     ensures { IsTrue result ↔ Calculates definitions.now (Unary sort) r (o ∷ []) }
 {
@@ -229,19 +210,10 @@ fn shift(definitions: &Definitions, r: u32, o: u32, p: u32) -> bool
     }
 }
 
-/// Whether a type is an int, float, bool, vector, array, struct or pointer type.
-pub fn is_data(definitions: &Definitions, t: u32) -> bool
-    ensures { IsTrue result ↔ IsData definitions.now t }
-{
-    match definitions.form(t) {
-        None | Some(Form::Void | Form::Opaque | Form::Function) => false,
-        Some(_) => true,
-    }
-}
-
 /// Whether a type is bool, or a vector of bools beside a vector of as many components.
 fn selects(definitions: &Definitions, r: u32, o: u32) -> bool
-    ensures { IsTrue result ↔ (IsBool definitions.now o ⊎ ((c n : ℕ) × IsVector definitions.now r c n × IsB definitions.now o n)) }
+    ensures { IsTrue result ↔ (IsBool definitions.now o
+        ⊎ ((c n : ℕ) × IsVector definitions.now r c n × IsB definitions.now o n)) }
 {
     match (
         definitions.form(o),

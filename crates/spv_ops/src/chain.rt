@@ -1,37 +1,14 @@
 ghost use Rattle.std.specs.Prelude.{◌≡◌, ◌↔◌, ◌∷◌, Some, true, IsTrue, IsSomeAnd};
 ghost use Rattle.std.specs.List.{list_all};
-ghost use Rattle.spv_ops.specs.Types.{IsSomeInt};
+ghost use Rattle.spv_type_forms.specs.Types.{IsSomeInt};
 ghost use Rattle.spv_module.specs.Module.{plain_operands};
-ghost use Rattle.spv_ops.specs.Operands.{ids_in};
-ghost use Rattle.spv_ops.specs.Walk.{choices};
-ghost use Rattle.spv_ops.specs.Tests.{has_int};
-ghost use Rattle.spv_ops.specs.Reach.{Leads};
+ghost use Rattle.spv_type_forms.specs.Operands.{ids_in};
+ghost use Rattle.spv_type_forms.specs.inner.Tests.{has_int};
 ghost use Rattle.spv_ops.specs.Chain.{Chains, ChainsByElement, LeadsByPointer};
-ghost use Rattle.spv_ops.specs.Values.{types_of};
+ghost use Rattle.spv_type_forms.specs.Values.{types_of};
 
-use crate::access::is_int;
-use crate::definitions::Definitions;
-use crate::form::Form;
-use crate::parts::led;
-use crate::several::all_ints;
 use spv_module::Operand;
-
-/// Whether the indexes go from a type to another, one after another.
-fn goes(definitions: &Definitions, from: u32, indexes: &[Operand], to: u32) -> bool
-    ensures { IsTrue result ↔ (choices definitions.now (ids_in (plain_operands indexes.now)) from ≡ Some to) }
-{
-    match led(definitions, from, indexes) {
-        Some(t) => t == to,
-        None => false,
-    }
-}
-
-/// Whether the indexes lead from a type to another.
-fn leads(definitions: &Definitions, from: u32, indexes: &[Operand], to: u32) -> bool
-    ensures { IsTrue result ↔ Leads definitions.now from (ids_in (plain_operands indexes.now)) to }
-{
-    goes(definitions, from, indexes, to)
-}
+use spv_type_forms::{Definitions, Form, all_ints, is_int, leads};
 
 /// Whether the indexes lead from a pointer to a pointer of the same storage class.
 fn leads_by_pointer(definitions: &Definitions, r: u32, o: u32, indexes: &[Operand]) -> bool
@@ -58,14 +35,16 @@ fn leads_by_pointer(definitions: &Definitions, r: u32, o: u32, indexes: &[Operan
 
 /// Whether the indexes are ints, and lead from a pointer to a pointer of the same storage class.
 fn ints_lead(definitions: &Definitions, r: u32, o: u32, indexes: &[Operand]) -> bool
-    ensures { IsTrue result ↔ ((list_all (has_int definitions.now) (ids_in (plain_operands indexes.now)) ≡ true) × LeadsByPointer definitions.now r o (ids_in (plain_operands indexes.now))) }
+    ensures { IsTrue result ↔ ((list_all (has_int definitions.now) (ids_in (plain_operands indexes.now)) ≡ true)
+        × LeadsByPointer definitions.now r o (ids_in (plain_operands indexes.now))) }
 {
     all_ints(definitions, indexes) && leads_by_pointer(definitions, r, o, indexes)
 }
 
 /// Whether the row of OpAccessChain holds of a base and indexes.
 fn chain_from(definitions: &Definitions, r: u32, x: u32, indexes: &[Operand]) -> bool
-    ensures { IsTrue result ↔ IsSomeAnd (types_of definitions.now (x ∷ ids_in (plain_operands indexes.now))) (λ types. Chains definitions.now r types (x ∷ ids_in (plain_operands indexes.now))) }
+    ensures { IsTrue result ↔ IsSomeAnd (types_of definitions.now (x ∷ ids_in (plain_operands indexes.now)))
+        (λ types. Chains definitions.now r types (x ∷ ids_in (plain_operands indexes.now))) }
 {
     match definitions.type_of(x) {
         Some(o) => ints_lead(definitions, r, o, indexes),
@@ -73,9 +52,11 @@ fn chain_from(definitions: &Definitions, r: u32, x: u32, indexes: &[Operand]) ->
     }
 }
 
-/// Whether the row of OpAccessChain holds of the result type and the declared types of the ids at the front of the operands.
+/// Whether the row of OpAccessChain holds of the result type and the declared types of the ids at the front of the
+/// operands.
 pub fn access_chain(definitions: &Definitions, r: u32, operands: &[Operand]) -> bool
-    ensures { IsTrue result ↔ IsSomeAnd (types_of definitions.now (ids_in (plain_operands operands.now))) (λ types. Chains definitions.now r types (ids_in (plain_operands operands.now))) }
+    ensures { IsTrue result ↔ IsSomeAnd (types_of definitions.now (ids_in (plain_operands operands.now)))
+        (λ types. Chains definitions.now r types (ids_in (plain_operands operands.now))) }
 {
     match operands {
         [Operand::Id(x), indexes @ ..] => chain_from(definitions, r, *x, indexes),
@@ -83,16 +64,20 @@ pub fn access_chain(definitions: &Definitions, r: u32, operands: &[Operand]) -> 
     }
 }
 
-/// Whether the element is an int, and so are the indexes, which lead from a pointer to a pointer of the same storage class.
+/// Whether the element is an int, and so are the indexes, which lead from a pointer to a pointer of the same storage
+/// class.
 fn element_leads(definitions: &Definitions, r: u32, o: u32, p: u32, indexes: &[Operand]) -> bool
-    ensures { IsTrue result ↔ (IsSomeInt definitions.now p × (list_all (has_int definitions.now) (ids_in (plain_operands indexes.now)) ≡ true) × LeadsByPointer definitions.now r o (ids_in (plain_operands indexes.now))) }
+    ensures { IsTrue result ↔ (IsSomeInt definitions.now p
+        × (list_all (has_int definitions.now) (ids_in (plain_operands indexes.now)) ≡ true)
+        × LeadsByPointer definitions.now r o (ids_in (plain_operands indexes.now))) }
 {
     is_int(definitions, p) && ints_lead(definitions, r, o, indexes)
 }
 
 /// Whether the row of OpPtrAccessChain holds of a base, an element and indexes.
 fn chain_at(definitions: &Definitions, r: u32, x: u32, y: u32, indexes: &[Operand]) -> bool
-    ensures { IsTrue result ↔ IsSomeAnd (types_of definitions.now (x ∷ y ∷ ids_in (plain_operands indexes.now))) (λ types. ChainsByElement definitions.now r types (x ∷ y ∷ ids_in (plain_operands indexes.now))) }
+    ensures { IsTrue result ↔ IsSomeAnd (types_of definitions.now (x ∷ y ∷ ids_in (plain_operands indexes.now)))
+        (λ types. ChainsByElement definitions.now r types (x ∷ y ∷ ids_in (plain_operands indexes.now))) }
 {
     match (definitions.type_of(x), definitions.type_of(y)) {
         (Some(o), Some(p)) => element_leads(definitions, r, o, p, indexes),
@@ -102,7 +87,8 @@ fn chain_at(definitions: &Definitions, r: u32, x: u32, y: u32, indexes: &[Operan
 
 /// Whether the row of OpPtrAccessChain holds of a base and what follows it.
 fn chain_after(definitions: &Definitions, r: u32, x: u32, operands: &[Operand]) -> bool
-    ensures { IsTrue result ↔ IsSomeAnd (types_of definitions.now (x ∷ ids_in (plain_operands operands.now))) (λ types. ChainsByElement definitions.now r types (x ∷ ids_in (plain_operands operands.now))) }
+    ensures { IsTrue result ↔ IsSomeAnd (types_of definitions.now (x ∷ ids_in (plain_operands operands.now)))
+        (λ types. ChainsByElement definitions.now r types (x ∷ ids_in (plain_operands operands.now))) }
 {
     match operands {
         [Operand::Id(y), indexes @ ..] => chain_at(definitions, r, x, *y, indexes),
@@ -110,9 +96,11 @@ fn chain_after(definitions: &Definitions, r: u32, x: u32, operands: &[Operand]) 
     }
 }
 
-/// Whether the row of OpPtrAccessChain holds of the result type and the declared types of the ids at the front of the operands.
+/// Whether the row of OpPtrAccessChain holds of the result type and the declared types of the ids at the front of the
+/// operands.
 pub fn element_chain(definitions: &Definitions, r: u32, operands: &[Operand]) -> bool
-    ensures { IsTrue result ↔ IsSomeAnd (types_of definitions.now (ids_in (plain_operands operands.now))) (λ types. ChainsByElement definitions.now r types (ids_in (plain_operands operands.now))) }
+    ensures { IsTrue result ↔ IsSomeAnd (types_of definitions.now (ids_in (plain_operands operands.now)))
+        (λ types. ChainsByElement definitions.now r types (ids_in (plain_operands operands.now))) }
 {
     match operands {
         [Operand::Id(x), rest @ ..] => chain_after(definitions, r, *x, rest),

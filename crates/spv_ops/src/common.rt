@@ -3,17 +3,16 @@
 ghost use Rattle.std.specs.Prelude.{◌≡◌, ◌↔◌, ◌∷◌, [], IsTrue, IsSomeAnd, Some, None};
 ghost use Rattle.spv_module.specs.Module.{plain_operands};
 ghost use Rattle.spv_ops.specs.Access.{Accesses};
-ghost use Rattle.spv_ops.specs.Common as spec;
-ghost use Rattle.spv_ops.specs.Common.{IsCommon, IsCondition};
-ghost use Rattle.spv_ops.specs.Row.{row_of};
-ghost use Rattle.spv_ops.specs.Types.{PointsTo};
-ghost use Rattle.spv_ops.specs.Values.{types_of};
+ghost use Rattle.spv_ops.specs.inner.Common as spec;
+ghost use Rattle.spv_ops.specs.inner.Common.{IsCommon, IsCondition};
+ghost use Rattle.spv_ops.specs.Row as spec_row;
+ghost use Rattle.spv_type_forms.specs.Types.{PointsTo};
+ghost use Rattle.spv_type_forms.specs.Values.{types_of};
 ghost use Rattle.spv_ops.specs.declared.row.Access.TheVariants.{Load, Store};
 
-use crate::calculation::is_data;
-use crate::definitions::Definitions;
-use crate::form::{Form, Scalar, Sort};
+use crate::row::{Access, Calculation, Row, row_of};
 use spv_module::Operand;
+use spv_type_forms::{Definitions, Form, Scalar, Sort, is_data};
 
 /// A row that is looked at before the others.
 #[derive(Clone, Copy)]
@@ -30,17 +29,13 @@ pub enum Common {
 /// The row of an opcode, if it is one of those.
 #[inline(always)]
 pub fn common_row(opcode: u16) -> Common
-    ensures { IsCommon result (row_of opcode) }
+    ensures { IsCommon result (spec_row.row_of opcode) }
 {
-    match opcode {
-        61 => Common::Load,
-        62 => Common::Store,
-        128 | 130 | 132 | 134 | 135 | 137 | 138 | 139 | 197 | 198 | 199 => Common::Binary(
-            Sort::Int,
-        ),
-        129 | 131 | 133 | 136 | 140 | 141 => Common::Binary(Sort::Float),
-        164 | 165 | 166 | 167 => Common::Binary(Sort::Bool),
-        250 => Common::BranchConditional,
+    match row_of(opcode) {
+        Row::Calculation(Calculation::Binary(sort)) => Common::Binary(sort),
+        Row::Access(Access::Load) => Common::Load,
+        Row::Access(Access::Store) => Common::Store,
+        Row::BranchConditional => Common::BranchConditional,
         _ => Common::Other,
     }
 }
@@ -147,7 +142,8 @@ fn points_to(definitions: &Definitions, t: u32, to: u32) -> bool
 /// Whether the row of OpLoad holds of the result type and the declared type of the pointer.
 #[inline(always)]
 pub fn load_holds(definitions: &Definitions, r: u32, p: u32) -> bool
-    ensures { IsTrue result ↔ IsSomeAnd (types_of definitions.now (p ∷ [])) (λ types. Accesses definitions.now Load (Some r) types) }
+    ensures { IsTrue result ↔ IsSomeAnd (types_of definitions.now (p ∷ []))
+        (λ types. Accesses definitions.now Load (Some r) types) }
 {
     match definitions.type_of(p) {
         Some(t) => points_to(definitions, t, r) && is_data(definitions, r),
@@ -158,7 +154,8 @@ pub fn load_holds(definitions: &Definitions, r: u32, p: u32) -> bool
 /// Whether the row of OpStore holds of the declared types of the pointer and the object.
 #[inline(always)]
 pub fn store_holds(definitions: &Definitions, p: u32, x: u32) -> bool
-    ensures { IsTrue result ↔ IsSomeAnd (types_of definitions.now (p ∷ x ∷ [])) (λ types. Accesses definitions.now Store None types) }
+    ensures { IsTrue result ↔ IsSomeAnd (types_of definitions.now (p ∷ x ∷ []))
+        (λ types. Accesses definitions.now Store None types) }
 {
     match (definitions.type_of(p), definitions.type_of(x)) {
         (Some(t), Some(u)) => points_to(definitions, t, u),

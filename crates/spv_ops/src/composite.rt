@@ -1,19 +1,14 @@
-ghost use Rattle.std.specs.Prelude.{◌≡◌, ◌≢◌, ◌↔◌, ◌+◌, ℕ, [], ◌∷◌, Some, IsTrue, length};
+ghost use Rattle.std.specs.Prelude.{◌↔◌, ◌+◌, [], ◌∷◌, Some, IsTrue};
 ghost use Rattle.std.specs.List.{AllByRecursion};
 ghost use Rattle.spv_module.specs.Module.{plain_operands};
-ghost use Rattle.spv_ops.specs.Operands.{words_in};
-ghost use Rattle.spv_ops.specs.Reach.{Reaches, AreWithin};
-ghost use Rattle.spv_ops.specs.Walk.{walk};
-ghost use Rattle.spv_ops.specs.Composite.{Composes, IsComponent, share_of};
-ghost use Rattle.spv_ops.specs.declared.row.Composite.TheVariants.{ExtractDynamic, InsertDynamic, Shuffle, Extract, Insert, CopyObject};
+ghost use Rattle.spv_type_forms.specs.Operands.{words_in};
+ghost use Rattle.spv_ops.specs.Composite.{Composes, IsComponent};
+ghost use Rattle.spv_ops.specs.declared.row.Composite.TheVariants.{ExtractDynamic, InsertDynamic, Shuffle, Extract};
+ghost use Rattle.spv_ops.specs.declared.row.Composite.TheVariants.{Insert, CopyObject};
 
-use crate::access::is_int;
-use crate::calculation::is_data;
-use crate::definitions::Definitions;
-use crate::form::Form;
-use crate::parts::reached;
 use crate::row::Composite;
 use spv_module::Operand;
+use spv_type_forms::{Definitions, Form, has_words, is_data, is_int, reaches, word_count};
 
 fn extract_dynamic(definitions: &Definitions, r: u32, o: u32, p: u32) -> bool
     ensures { IsTrue result ↔ Composes definitions.now ExtractDynamic r (o ∷ p ∷ []) [] }
@@ -33,35 +28,6 @@ fn insert_dynamic(definitions: &Definitions, r: u32, o: u32, p: u32, q: u32) -> 
     }
 }
 
-/// Whether there are literals among the operands.
-fn has_words(operands: &[Operand]) -> bool
-    ensures { IsTrue result ↔ (words_in (plain_operands operands.now) ≢ []) }
-{
-    for operand in operands {
-        if let Operand::Word(_) = operand {
-            return true;
-        }
-    }
-    false
-}
-
-/// Whether the literals among the operands lead to a type, each below the number of parts at its place.
-fn walks(definitions: &Definitions, t: u32, operands: &[Operand], u: u32) -> bool
-    ensures { IsTrue result ↔ (walk definitions.now (words_in (plain_operands operands.now)) t ≡ Some u) }
-{
-    match reached(definitions, t, operands) {
-        Some(to) => to == u,
-        None => false,
-    }
-}
-
-/// Whether the literals among the operands reach a type, each below the number of parts at its place.
-fn reaches(definitions: &Definitions, t: u32, operands: &[Operand], u: u32) -> bool
-    ensures { IsTrue result ↔ (AreWithin definitions.now t (words_in (plain_operands operands.now)) × Reaches definitions.now t (words_in (plain_operands operands.now)) u) }
-{
-    walks(definitions, t, operands, u)
-}
-
 fn extract(definitions: &Definitions, r: u32, o: u32, operands: &[Operand]) -> bool
     ensures { IsTrue result ↔ Composes definitions.now Extract r (o ∷ []) (words_in (plain_operands operands.now)) }
 {
@@ -69,7 +35,8 @@ fn extract(definitions: &Definitions, r: u32, o: u32, operands: &[Operand]) -> b
 }
 
 fn insert(definitions: &Definitions, r: u32, o: u32, p: u32, operands: &[Operand]) -> bool
-    ensures { IsTrue result ↔ Composes definitions.now Insert r (o ∷ p ∷ []) (words_in (plain_operands operands.now)) }
+    ensures { IsTrue result ↔ Composes definitions.now Insert r (o ∷ p ∷ [])
+        (words_in (plain_operands operands.now)) }
 {
     has_words(operands) && p == r && reaches(definitions, p, operands, o)
 }
@@ -88,21 +55,9 @@ fn are_components(n: u64, operands: &[Operand]) -> bool
     true
 }
 
-/// How many literals there are among the operands.
-pub fn word_count(operands: &[Operand]) -> usize
-    ensures { result ≡ length (words_in (plain_operands operands.now)) }
-{
-    let mut count = 0;
-    for operand in operands {
-        if let Operand::Word(_) = operand {
-            count += 1;
-        }
-    }
-    count
-}
-
 fn shuffle(definitions: &Definitions, r: u32, o: u32, p: u32, operands: &[Operand]) -> bool
-    ensures { IsTrue result ↔ Composes definitions.now Shuffle r (o ∷ p ∷ []) (words_in (plain_operands operands.now)) }
+    ensures { IsTrue result ↔ Composes definitions.now Shuffle r (o ∷ p ∷ [])
+        (words_in (plain_operands operands.now)) }
 {
     match (
         definitions.form(r),
@@ -138,8 +93,8 @@ fn shuffle(definitions: &Definitions, r: u32, o: u32, p: u32, operands: &[Operan
     }
 }
 
-/// Whether a row of composites holds of the result type, the types of the value operands in order and the literals among
-/// the operands.
+/// Whether a row of composites holds of the result type, the types of the value operands in order and the literals
+/// among the operands.
 pub fn composes(
     definitions: &Definitions,
     row: Composite,

@@ -4,116 +4,57 @@ ghost use Rattle.std.specs.Prelude.{◌≡◌, ◌≢◌, ◌↔◌, ℕ, List, 
 ghost use Rattle.spv_table.specs.Table.{Table};
 ghost use Rattle.spv_module.specs.Operand.{PlainInst, Value};
 ghost use Rattle.spv_module.specs.Example.{small as table};
-ghost use Rattle.spv_layout.specs.Shape.{Fits};
-ghost use Rattle.spv_ops.specs.declared.form.Sort.TheVariants as sort;
+ghost use Rattle.spv_layout.specs.Shape.{FitsShape};
+ghost use Rattle.spv_type_forms.specs.declared.form.Sort.TheVariants as sort;
 ghost use Rattle.spv_ops.specs.declared.row.Row.TheVariants as row;
-ghost use Rattle.spv_ops.specs.declared.row.Calculation.TheVariants.{FloatToInt, IntToFloat, ResizeInt, ResizeFloat, PointerToInt, IntToPointer, ToGeneric, FromGeneric, Bitcast, Unary, Binary, Compare, Shift, Select};
-ghost use Rattle.spv_ops.specs.declared.row.Access.TheVariants.{Load, Store, CopyMemory, CopyMemorySized, Lifetime, ControlBarrier, MemoryBarrier, AtomicLoad, AtomicStore, AtomicExchange, AtomicCompareExchange, AtomicStep, AtomicUpdate};
-ghost use Rattle.spv_ops.specs.declared.row.Composite.TheVariants.{ExtractDynamic, InsertDynamic, Shuffle, Extract, Insert, CopyObject};
-ghost use Rattle.spv_ops.specs.Reach.{Reaches, AreWithin, Leads};
-ghost use Rattle.spv_ops.specs.Form.{form_of};
-ghost use Rattle.spv_ops.specs.Types.{IsInt, IsFloat, IsBool, IsSomeInt, IsNumber, IsI, IsF, IsB, HasSort, IsOf, IsVector, IsPointer, IsData, PointsTo};
+ghost use Rattle.spv_ops.specs.declared.row.Calculation.TheVariants.{FloatToInt, IntToFloat, ResizeInt, ResizeFloat};
+ghost use Rattle.spv_ops.specs.declared.row.Calculation.TheVariants.{PointerToInt, IntToPointer, ToGeneric};
+ghost use Rattle.spv_ops.specs.declared.row.Calculation.TheVariants.{FromGeneric, Bitcast, Unary, Binary, Compare};
+ghost use Rattle.spv_ops.specs.declared.row.Calculation.TheVariants.{Shift, Select};
+ghost use Rattle.spv_ops.specs.declared.row.Access.TheVariants.{Load, Store, CopyMemory, CopyMemorySized, Lifetime};
+ghost use Rattle.spv_ops.specs.declared.row.Access.TheVariants.{ControlBarrier, MemoryBarrier, AtomicLoad, AtomicStore};
+ghost use Rattle.spv_ops.specs.declared.row.Access.TheVariants.{AtomicExchange, AtomicCompareExchange, AtomicStep};
+ghost use Rattle.spv_ops.specs.declared.row.Access.TheVariants.{AtomicUpdate};
+ghost use Rattle.spv_ops.specs.declared.row.Composite.TheVariants.{ExtractDynamic, InsertDynamic, Shuffle, Extract};
+ghost use Rattle.spv_ops.specs.declared.row.Composite.TheVariants.{Insert, CopyObject};
+ghost use Rattle.spv_type_forms.specs.Form.{form_of};
 ghost use Rattle.spv_ops.specs.Row.{row_of};
 ghost use Rattle.spv_ops.specs.Calculation.{IsNamedClass, Calculates};
 ghost use Rattle.spv_ops.specs.Access.{IsScope, Accesses};
-ghost use Rattle.spv_ops.specs.Composite.{IsComponent, AreParts, Composes, Constructs};
+ghost use Rattle.spv_ops.specs.Composite.{IsComponent, Composes, Constructs};
 ghost use Rattle.spv_ops.specs.Chain.{LeadsByPointer, Chains, ChainsByElement};
-ghost use Rattle.spv_ops.specs.Variable.{IsConstant, IsGlobal, IsInitializer, IsClassAt, Declares};
-ghost use Rattle.spv_ops.specs.Values.{AreValues, types_of, values_of};
-ghost use Rattle.spv_ops.specs.Typed.{Holds, Typed, IsTyped, IsTypedAt};
-ghost use Rattle.spv_ops.specs.Example.{small, with_double, lone_variable, pointed_variable, to_member, add, add_floats, one_weight, label};
-ghost use Rattle.spv_ops.specs.Walk.{walk, choices};
+ghost use Rattle.spv_ops.specs.Variable.{IsInitializer, IsClassAt, DeclaresVariable};
+ghost use Rattle.spv_type_forms.specs.Values.{AreValues, types_of};
+ghost use Rattle.spv_ops.specs.Values.{values_of};
+ghost use Rattle.spv_ops.specs.Typed.{RowHolds, Typed, IsTyped, IsTypedAt};
+ghost use Rattle.spv_type_forms.specs.Example.{small, lone_variable};
+ghost use Rattle.spv_ops.specs.Example.{with_double, pointed_variable, to_member, add, add_floats, one_weight, label};
 
-/// By a list of indexes a type reaches at most one type.
-pub fn one_reach()
-    ensures { (is : List PlainInst) (ks : List ℕ) (t u v : ℕ) → Reaches is t ks u → Reaches is t ks v → u ≡ v }
-{}
-
-/// The walk by indexes, one after another, decides what they reach within the parts of each type.
-pub fn reach_decided()
-    ensures { (is : List PlainInst) (ks : List ℕ) (t u : ℕ) → (walk is ks t ≡ Some u) ↔ (AreWithin is t ks × Reaches is t ks u) }
-{}
-
-/// So does the walk by the indexes of an access chain.
-pub fn chain_decided()
-    ensures { (is : List PlainInst) (xs : List ℕ) (t u : ℕ) → (choices is xs t ≡ Some u) ↔ (Leads is t xs u) }
-{}
-
-/// The ids that stand where the code looks for value operands are the value operands, under any table by which the instruction
-/// fits its row of table A; and there are no others.
+/// The ids that stand where the code looks for value operands are the value operands, under any table by which the
+/// instruction fits its row of table A; and there are no others.
 pub fn value_operands()
-    ensures { (G : Table) (i : PlainInst) (xs : List ℕ) → Fits G i → row_of i.opcode ≢ row.Free → AreValues G i xs ↔ (xs ≡ values_of i) }
+    ensures { (G : Table) (i : PlainInst) (xs : List ℕ) → FitsShape G i → row_of i.opcode ≢ row.Free
+        → AreValues G i xs ↔ (xs ≡ values_of i) }
 {}
 
 /// A module that is checked asks *Typed* of the declared types; a run asks the same of those that are bound.
 pub fn declared_types()
-    ensures { (G : Table) (is : List PlainInst) (n : ℕ) (i : PlainInst) → slice_get is n ≡ Some i → Fits G i
-        → IsTypedAt G is n ↔ ((types : List ℕ) × (types_of is (values_of i) ≡ Some types) × Typed is n i types) }
+    ensures { (G : Table) (is : List PlainInst) (n : ℕ) (i : PlainInst) → slice_get is n ≡ Some i
+        → FitsShape G i
+        → IsTypedAt G is n
+        ↔ ((types : List ℕ) × (types_of is (values_of i) ≡ Some types) × Typed is n i types) }
 {}
 
-/// Types of a small module: `%1` and `%14` are ints of width 32 and 64, `%2` a float, `%12` bool; `%3` and `%15` vectors of four
-/// and two of `%1`, `%13` of four of `%12`; `%6` a struct of `%1` and `%2`, `%19` an array of three of `%2`; `%4` and `%7` pointers
-/// of CrossWorkgroup to `%2` and `%6`, `%16` of Generic to `%2`, `%17` of Function to `%1`. `%5` and `%18` are constants 1 and 3,
-/// `%18` a spec constant; `%8` is a variable of type `%7`.
-pub fn type_examples()
-    ensures vector { IsI small 3 4 32 }
-    ensures no_vector { ¬ (IsI small 6 4 32) }
-    ensures scalar { IsI small 14 1 64 }
-    ensures bools { IsB small 13 4 }
-    ensures no_bools { ¬ (IsB small 3 4) }
-    ensures float { IsF small 2 1 32 }
-    ensures no_float { ¬ (IsF small 1 1 32) }
-    ensures pointer { PointsTo small 7 6 }
-    ensures no_pointer { ¬ (PointsTo small 6 7) }
-    ensures data { IsData small 7 }
-    // `%5` is a constant, and no type.
-    ensures no_data { ¬ (IsData small 5) }
-    ensures none { form_of small 5 ≡ None }
-{}
-
-/// Scalars, vectors and pointers among them, by what they are.
-pub fn sort_examples()
-    ensures int { IsInt small 14 64 }
-    ensures other_width { ¬ (IsInt small 14 32) }
-    ensures float { IsFloat small 2 32 }
-    ensures no_float { ¬ (IsFloat small 1 32) }
-    ensures boolean { IsBool small 12 }
-    ensures no_boolean { ¬ (IsBool small 13) }
-    ensures some_int { IsSomeInt small 14 }
-    ensures no_int { ¬ (IsSomeInt small 2) }
-    ensures number { IsNumber small 2 }
-    ensures no_number { ¬ (IsNumber small 12) }
-    ensures ints { HasSort sort.Int small 3 }
-    ensures no_floats { ¬ (HasSort sort.Float small 3) }
-    ensures four { IsOf sort.Bool small 13 4 }
-    ensures no_two { ¬ (IsOf sort.Bool small 13 2) }
-    ensures vector { IsVector small 3 1 4 }
-    ensures other_count { ¬ (IsVector small 3 1 2) }
-    ensures pointer { IsPointer small 4 5 2 }
-    ensures other_class { ¬ (IsPointer small 4 7 2) }
-    // Scopes and semantics; storage classes that a pointer may be converted from.
+/// Scopes and semantics; storage classes that a pointer may be converted from. The types are those of `type_examples`
+/// of spv_type_forms: `%1` and `%14` are ints of width 32 and 64, `%2` a float, `%12` bool; `%3` and `%15` vectors of
+/// four and two of `%1`, `%13` of four of `%12`; `%6` a struct of `%1` and `%2`; `%4` and `%7` pointers of
+/// CrossWorkgroup to `%2` and `%6`, `%16` of Generic to `%2`, `%17` of Function to `%1`. `%5` is the constant 1; `%8`
+/// is a variable of type `%7`.
+pub fn class_examples()
     ensures scope { IsScope small 1 }
     ensures wide_scope { ¬ (IsScope small 14) }
     ensures named { IsNamedClass 5 }
     ensures generic { ¬ (IsNamedClass 8) }
-{}
-
-/// What indexes reach in it.
-pub fn reach_examples()
-    ensures member { Reaches small 6 (1 ∷ []) 2 }
-    ensures no_member { ¬ (Reaches small 6 (2 ∷ []) 2) }
-    ensures within { AreWithin small 3 (3 ∷ []) }
-    ensures past { ¬ (AreWithin small 3 (4 ∷ [])) }
-    // The length of the array is the value of a spec constant.
-    ensures array { AreWithin small 19 (2 ∷ []) }
-    ensures past_array { ¬ (AreWithin small 19 (3 ∷ [])) }
-    // `%5` is the constant 1.
-    ensures leads { Leads small 6 (5 ∷ []) 2 }
-    // `%18` is a spec constant, which tells no member; an array takes any index.
-    ensures spec_constant { ¬ (Leads small 6 (18 ∷ []) 2) }
-    ensures any_element { Leads small 19 (18 ∷ []) 2 }
-    // By no index a type leads to itself alone.
-    ensures none { Leads small 6 [] 6 }
 {}
 
 /// Conversions, arithmetic, comparisons and bits over these types.
@@ -186,7 +127,8 @@ pub fn memory_examples()
     ensures store { Accesses small AtomicStore None (4 ∷ 1 ∷ 1 ∷ 2 ∷ []) }
     ensures other_store { ¬ (Accesses small AtomicStore None (4 ∷ 1 ∷ 1 ∷ 1 ∷ [])) }
     ensures exchange { Accesses small AtomicCompareExchange (Some 1) (17 ∷ 1 ∷ 1 ∷ 1 ∷ 1 ∷ 1 ∷ []) }
-    ensures float_exchange { ¬ (Accesses small AtomicCompareExchange (Some 2) (4 ∷ 1 ∷ 1 ∷ 1 ∷ 2 ∷ 2 ∷ [])) }
+    ensures float_exchange { ¬ (Accesses small AtomicCompareExchange (Some 2)
+        (4 ∷ 1 ∷ 1 ∷ 1 ∷ 2 ∷ 2 ∷ [])) }
     ensures step { Accesses small AtomicStep (Some 1) (17 ∷ 1 ∷ 1 ∷ []) }
     ensures float_step { ¬ (Accesses small AtomicStep (Some 2) (4 ∷ 1 ∷ 1 ∷ [])) }
     ensures update { Accesses small AtomicUpdate (Some 1) (17 ∷ 1 ∷ 1 ∷ 1 ∷ []) }
@@ -210,7 +152,7 @@ pub fn composite_examples()
     ensures composite_first { ¬ (Composes small Insert 6 (6 ∷ 2 ∷ []) (1 ∷ [])) }
 {}
 
-/// Components chosen by values, copies and parts.
+/// Components chosen by values, and copies.
 pub fn part_examples()
     ensures extract { Composes small ExtractDynamic 1 (3 ∷ 14 ∷ []) [] }
     ensures other_result { ¬ (Composes small ExtractDynamic 2 (3 ∷ 14 ∷ []) []) }
@@ -218,8 +160,6 @@ pub fn part_examples()
     ensures other_vector { ¬ (Composes small InsertDynamic 3 (15 ∷ 1 ∷ 14 ∷ []) []) }
     ensures copy { Composes small CopyObject 6 (6 ∷ []) [] }
     ensures other_copy { ¬ (Composes small CopyObject 6 (7 ∷ []) []) }
-    ensures parts { AreParts small 6 (1 ∷ 2 ∷ []) }
-    ensures one_part { ¬ (AreParts small 6 (1 ∷ [])) }
     ensures component { IsComponent 4 3 }
     ensures no_component { ¬ (IsComponent 4 4) }
 {}
@@ -236,28 +176,21 @@ pub fn chain_examples()
 
 /// Initializers and storage classes of variables.
 pub fn variable_examples()
-    ensures constant { IsConstant small 18 }
-    ensures no_constant { ¬ (IsConstant small 8) }
     // An OpVariable alone, which stands in section 9: `%8` of CrossWorkgroup, and not of Function.
-    ensures global { IsGlobal lone_variable 8 }
-    ensures no_global { ¬ (IsGlobal lone_variable 7) }
     ensures class { IsClassAt lone_variable 0 5 }
     ensures no_class { ¬ (IsClassAt lone_variable 0 7) }
     ensures initializer { IsInitializer small 18 }
     // `%7` is no result in it.
     ensures no_initializer { ¬ (IsInitializer lone_variable 7) }
     // `%8` beside its type, a pointer of CrossWorkgroup.
-    ensures declares { Declares pointed_variable 1 7 (Value 0 5 ∷ []) [] }
-    ensures other_class { ¬ (Declares pointed_variable 1 7 (Value 0 4 ∷ []) []) }
+    ensures declares { DeclaresVariable pointed_variable 1 7 (Value 0 5 ∷ []) [] }
+    ensures other_class { ¬ (DeclaresVariable pointed_variable 1 7 (Value 0 4 ∷ []) []) }
 {}
 
-/// Value operands: those of an access chain are all its ids, those of a label none.
+/// Value operands: those of an access chain are all its ids.
 pub fn value_examples()
     ensures chain { AreValues table to_member (8 ∷ 5 ∷ []) }
     ensures not_first { ¬ (AreValues table to_member (5 ∷ [])) }
-    ensures declared { types_of small (8 ∷ 5 ∷ []) ≡ Some (7 ∷ 1 ∷ []) }
-    // A type has no type.
-    ensures undeclared { types_of small (1 ∷ []) ≡ None }
 {}
 
 /// Rows of types.
@@ -274,19 +207,20 @@ pub fn row_examples()
     ensures free { IsTyped table small 8 label }
     ensures row { row_of 128 ≡ row.Calculation (Binary sort.Int) }
     ensures no_row { row_of 248 ≡ row.Free }
-    // The first instruction of the module is a type declaration, of which no row speaks; OpFAdd of ints stands first in the other.
+    // The first instruction of the module is a type declaration, of which no row speaks; OpFAdd of ints stands first in
+    // the other.
     ensures at { IsTypedAt table small 0 }
     ensures not_at { ¬ (IsTypedAt table (add_floats ∷ small) 0) }
 {}
 
 /// What the rows of results, phis, branches and switches say, of types that are given.
 pub fn hold_examples()
-    ensures undef { Holds small 8 label row.Undef (Some 7) [] }
-    ensures no_undef { ¬ (Holds small 8 label row.Undef None []) }
-    ensures phi { Holds small 8 label row.Phi (Some 6) (6 ∷ 6 ∷ []) }
-    ensures no_phi { ¬ (Holds small 8 label row.Phi (Some 6) (6 ∷ 7 ∷ [])) }
-    ensures branch { Holds small 8 label row.BranchConditional None (12 ∷ []) }
-    ensures no_branch { ¬ (Holds small 8 label row.BranchConditional None (1 ∷ [])) }
-    ensures choice { Holds small 8 label row.Switch None (14 ∷ []) }
-    ensures no_choice { ¬ (Holds small 8 label row.Switch None (12 ∷ [])) }
+    ensures undef { RowHolds small 8 label row.Undef (Some 7) [] }
+    ensures no_undef { ¬ (RowHolds small 8 label row.Undef None []) }
+    ensures phi { RowHolds small 8 label row.Phi (Some 6) (6 ∷ 6 ∷ []) }
+    ensures no_phi { ¬ (RowHolds small 8 label row.Phi (Some 6) (6 ∷ 7 ∷ [])) }
+    ensures branch { RowHolds small 8 label row.BranchConditional None (12 ∷ []) }
+    ensures no_branch { ¬ (RowHolds small 8 label row.BranchConditional None (1 ∷ [])) }
+    ensures choice { RowHolds small 8 label row.Switch None (14 ∷ []) }
+    ensures no_choice { ¬ (RowHolds small 8 label row.Switch None (12 ∷ [])) }
 {}

@@ -1,4 +1,4 @@
-//! Types of a module: what its type ids declare, which of them a list of indexes reaches, and which types an instruction asks for.
+//! Which types an instruction asks for: the rows of operations.
 #![tactic(auto)]
 
 mod access;
@@ -7,23 +7,15 @@ mod chain;
 mod common;
 mod composite;
 mod construct;
-mod definitions;
 mod fixed;
-mod form;
-mod gather;
 mod laws;
-mod parts;
 mod row;
-mod several;
 mod typed;
 mod variable;
 
-pub use access::{is_int, points_to};
-pub use calculation::is_data;
-pub use construct::fills;
-pub use definitions::{Definitions, type_in};
-pub use form::{Components, Form, Scalar, Sort, form_in};
-pub use parts::{Parts, after_result, count, length, parts_of};
 pub use row::{Access, Calculation, Composite, Row};
-pub use several::id_count;
-pub use typed::{after_head, inst_holds, op_holds};
+pub use spv_type_forms::{
+    Components, Definitions, Form, Parts, Scalar, Sort, after_head, after_result, count, fills,
+    form_in, id_count, is_data, is_int, length, parts_of, points_to, type_in,
+};
+pub use typed::{inst_holds, op_holds};

@@ -1,10 +1,11 @@
-ghost use Rattle.std.specs.Prelude.{◌≡◌};
+ghost use Rattle.std.specs.Prelude.{◌≡◌, slice_get};
 ghost use Rattle.spv_ops.specs.Row as row;
-ghost use Rattle.spv_ops.specs.Row.{unary_row_of, binary_row_of, access_row_of, composite_row_of, other_row_of};
+ghost use Rattle.spv_ops.specs.inner.Number.{numbered};
 
-use crate::form::Sort;
+use spv_type_forms::Sort;
 
-/// The rows of conversions, arithmetic, comparisons and bits (SPIR-V Specification 1.6, sections 3.49.11, 3.49.13 to 3.49.15).
+/// The rows of conversions, arithmetic, comparisons and bits (SPIR-V Specification 1.6, sections 3.49.11, 3.49.13 to
+/// 3.49.15).
 #[derive(Clone, Copy)]
 pub enum Calculation {
     /// OpConvertFToU, OpConvertFToS.
@@ -92,112 +93,91 @@ pub enum Row {
     Switch,
 }
 
-/// The row of an opcode among those of calculations with one operand.
-fn unary_row(opcode: u16) -> Option<Calculation>
-    ensures { result ≡ unary_row_of opcode }
-{
-    match opcode {
-        109 | 110 => Some(Calculation::FloatToInt),
-        111 | 112 => Some(Calculation::IntToFloat),
-        113 | 114 => Some(Calculation::ResizeInt),
-        115 => Some(Calculation::ResizeFloat),
-        117 => Some(Calculation::PointerToInt),
-        120 => Some(Calculation::IntToPointer),
-        121 => Some(Calculation::ToGeneric),
-        122 => Some(Calculation::FromGeneric),
-        124 => Some(Calculation::Bitcast),
-        126 | 200 => Some(Calculation::Unary(Sort::Int)),
-        127 => Some(Calculation::Unary(Sort::Float)),
-        168 => Some(Calculation::Unary(Sort::Bool)),
-        _ => None,
-    }
-}
+/// The rows, each once. A new one comes last.
+static ROWS: [Row; 46] = [
+    Row::Undef,
+    Row::Variable,
+    Row::Access(Access::Load),
+    Row::Access(Access::Store),
+    Row::Access(Access::CopyMemory),
+    Row::Access(Access::CopyMemorySized),
+    Row::Chain,
+    Row::ElementChain,
+    Row::Composite(Composite::ExtractDynamic),
+    Row::Composite(Composite::InsertDynamic),
+    Row::Composite(Composite::Shuffle),
+    Row::Construct,
+    Row::Composite(Composite::Extract),
+    Row::Composite(Composite::Insert),
+    Row::Composite(Composite::CopyObject),
+    Row::Calculation(Calculation::FloatToInt),
+    Row::Calculation(Calculation::IntToFloat),
+    Row::Calculation(Calculation::ResizeInt),
+    Row::Calculation(Calculation::ResizeFloat),
+    Row::Calculation(Calculation::PointerToInt),
+    Row::Calculation(Calculation::IntToPointer),
+    Row::Calculation(Calculation::ToGeneric),
+    Row::Calculation(Calculation::FromGeneric),
+    Row::Calculation(Calculation::Bitcast),
+    Row::Calculation(Calculation::Unary(Sort::Int)),
+    Row::Calculation(Calculation::Unary(Sort::Float)),
+    Row::Calculation(Calculation::Binary(Sort::Int)),
+    Row::Calculation(Calculation::Binary(Sort::Float)),
+    Row::Calculation(Calculation::Binary(Sort::Bool)),
+    Row::Calculation(Calculation::Unary(Sort::Bool)),
+    Row::Calculation(Calculation::Select),
+    Row::Calculation(Calculation::Compare(Sort::Int)),
+    Row::Calculation(Calculation::Compare(Sort::Float)),
+    Row::Calculation(Calculation::Shift),
+    Row::Access(Access::ControlBarrier),
+    Row::Access(Access::MemoryBarrier),
+    Row::Access(Access::AtomicLoad),
+    Row::Access(Access::AtomicStore),
+    Row::Access(Access::AtomicExchange),
+    Row::Access(Access::AtomicCompareExchange),
+    Row::Access(Access::AtomicStep),
+    Row::Access(Access::AtomicUpdate),
+    Row::Phi,
+    Row::BranchConditional,
+    Row::Switch,
+    Row::Access(Access::Lifetime),
+];
 
-/// The row of an opcode among those of calculations with more operands.
-fn binary_row(opcode: u16) -> Option<Calculation>
-    ensures { result ≡ binary_row_of opcode }
-{
-    match opcode {
-        128 | 130 | 132 | 134 | 135 | 137..=139 | 197..=199 => Some(Calculation::Binary(Sort::Int)),
-        129 | 131 | 133 | 136 | 140 | 141 => Some(Calculation::Binary(Sort::Float)),
-        164..=167 => Some(Calculation::Binary(Sort::Bool)),
-        169 => Some(Calculation::Select),
-        170..=179 => Some(Calculation::Compare(Sort::Int)),
-        180..=191 => Some(Calculation::Compare(Sort::Float)),
-        194..=196 => Some(Calculation::Shift),
-        _ => None,
-    }
-}
+/// For each opcode the number of its row among these, from 0, or 255 where there is none.
+static NUMBERS: [u8; 258] = [
+    255, 0, 255, 255, 255, 255, 255, 255, 255, 255, 255, 255, 255, 255, 255, 255, 255, 255, 255,
+    255, 255, 255, 255, 255, 255, 255, 255, 255, 255, 255, 255, 255, 255, 255, 255, 255, 255, 255,
+    255, 255, 255, 255, 255, 255, 255, 255, 255, 255, 255, 255, 255, 255, 255, 255, 255, 255, 255,
+    255, 255, 1, 255, 2, 3, 4, 5, 6, 6, 7, 255, 255, 7, 255, 255, 255, 255, 255, 255, 8, 9, 10, 11,
+    12, 13, 14, 255, 255, 255, 255, 255, 255, 255, 255, 255, 255, 255, 255, 255, 255, 255, 255,
+    255, 255, 255, 255, 255, 255, 255, 255, 255, 15, 15, 16, 16, 17, 17, 18, 255, 19, 255, 255, 20,
+    21, 22, 255, 23, 255, 24, 25, 26, 27, 26, 27, 26, 27, 26, 26, 27, 26, 26, 26, 27, 27, 255, 255,
+    255, 255, 255, 255, 255, 255, 255, 255, 255, 255, 255, 255, 255, 255, 255, 255, 255, 255, 255,
+    255, 28, 28, 28, 28, 29, 30, 31, 31, 31, 31, 31, 31, 31, 31, 31, 31, 32, 32, 32, 32, 32, 32,
+    32, 32, 32, 32, 32, 32, 255, 255, 33, 33, 33, 26, 26, 26, 24, 255, 255, 255, 255, 255, 255,
+    255, 255, 255, 255, 255, 255, 255, 255, 255, 255, 255, 255, 255, 255, 255, 255, 255, 34, 35,
+    255, 36, 37, 38, 39, 255, 40, 40, 41, 41, 41, 41, 41, 41, 41, 41, 41, 255, 255, 42, 255, 255,
+    255, 255, 43, 44, 255, 255, 255, 255, 45, 45,
+];
 
-/// The row of an opcode among those of memory.
-fn access_row(opcode: u16) -> Option<Access>
-    ensures { result ≡ access_row_of opcode }
+/// The row that a list of numbers names for an opcode.
+#[inline(always)]
+fn row_at(numbers: &'static [u8], rows: &'static [Row], opcode: u16) -> Row
+    ensures { result ≡ numbered rows.now (slice_get numbers.now opcode) }
 {
-    match opcode {
-        61 => Some(Access::Load),
-        62 => Some(Access::Store),
-        63 => Some(Access::CopyMemory),
-        64 => Some(Access::CopyMemorySized),
-        224 => Some(Access::ControlBarrier),
-        225 => Some(Access::MemoryBarrier),
-        227 => Some(Access::AtomicLoad),
-        228 => Some(Access::AtomicStore),
-        229 => Some(Access::AtomicExchange),
-        230 => Some(Access::AtomicCompareExchange),
-        232 | 233 => Some(Access::AtomicStep),
-        234..=242 => Some(Access::AtomicUpdate),
-        256 | 257 => Some(Access::Lifetime),
-        _ => None,
-    }
-}
-
-/// The row of an opcode among those of composites.
-fn composite_row(opcode: u16) -> Option<Composite>
-    ensures { result ≡ composite_row_of opcode }
-{
-    match opcode {
-        77 => Some(Composite::ExtractDynamic),
-        78 => Some(Composite::InsertDynamic),
-        79 => Some(Composite::Shuffle),
-        81 => Some(Composite::Extract),
-        82 => Some(Composite::Insert),
-        83 => Some(Composite::CopyObject),
-        _ => None,
-    }
-}
-
-/// The row of an opcode among the others.
-fn other_row(opcode: u16) -> Row
-    ensures { result ≡ other_row_of opcode }
-{
-    match opcode {
-        1 => Row::Undef,
-        59 => Row::Variable,
-        65 | 66 => Row::Chain,
-        67 | 70 => Row::ElementChain,
-        80 => Row::Construct,
-        245 => Row::Phi,
-        250 => Row::BranchConditional,
-        251 => Row::Switch,
-        _ => Row::Free,
+    match numbers.get(usize::from(opcode)) {
+        Some(number) => match rows.get(usize::from(*number)) {
+            Some(row) => *row,
+            None => Row::Free,
+        },
+        None => Row::Free,
     }
 }
 
 /// The row of an opcode.
+#[inline(always)]
 pub fn row_of(opcode: u16) -> Row
     ensures { result ≡ row.row_of opcode }
 {
-    if let Some(row) = unary_row(opcode) {
-        return Row::Calculation(row);
-    }
-    if let Some(row) = binary_row(opcode) {
-        return Row::Calculation(row);
-    }
-    if let Some(row) = access_row(opcode) {
-        return Row::Access(row);
-    }
-    if let Some(row) = composite_row(opcode) {
-        return Row::Composite(row);
-    }
-    other_row(opcode)
+    row_at(&NUMBERS, &ROWS, opcode)
 }

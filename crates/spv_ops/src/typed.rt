@@ -1,76 +1,60 @@
-ghost use Rattle.std.specs.Prelude.{◌≡◌, ◌↔◌, ◌⊎◌, ◌<◌, ℕ, [], length, Some, None, IsTrue, IsSomeAnd};
+ghost use Rattle.std.specs.Prelude.{◌≡◌, ◌↔◌, ◌<◌, ℕ, length, Some, None, IsTrue, IsSomeAnd};
 ghost use Rattle.std.specs.List.{AllByRecursion};
 ghost use Rattle.spv_table.specs.Table.{Table};
 ghost use Rattle.spv_module.specs.Module.{plain_inst, plain_insts, plain_operands};
 ghost use Rattle.spv_layout.specs.Plan.{IsPlan};
 ghost use Rattle.spv_ids.specs.Outcome.{IsDefinitionOf, definition_in};
-ghost use Rattle.spv_ops.specs.Operands as spec;
-ghost use Rattle.spv_ops.specs.Operands.{words_in, result_type_in};
-ghost use Rattle.spv_ops.specs.Types.{IsData};
-ghost use Rattle.spv_ops.specs.Typed.{Holds, IsTypedIn, IsTypedAt};
+ghost use Rattle.spv_type_forms.specs.Operands as spec;
+ghost use Rattle.spv_type_forms.specs.Types.{IsData};
+ghost use Rattle.spv_ops.specs.Typed.{RowHolds, IsTypedAt};
+ghost use Rattle.spv_ops.specs.inner.Typed.{IsTypedIn};
 ghost use Rattle.spv_ops.specs.Row as spec_row;
-ghost use Rattle.spv_ops.specs.declared.row.Row.TheVariants.{Undef, Calculation, Access, Phi, BranchConditional, Switch};
+ghost use Rattle.spv_ops.specs.declared.row.Row.TheVariants.{Undef, Calculation, Access, Phi, BranchConditional};
+ghost use Rattle.spv_ops.specs.declared.row.Row.TheVariants.{Switch};
 ghost use Rattle.spv_ops.specs.declared.row.Calculation.TheVariants.{Binary};
 ghost use Rattle.spv_ops.specs.declared.row.Access.TheVariants.{Load, Store};
-ghost use Rattle.spv_ops.specs.Values.{types_of, value_ids, paired_ids_in};
+ghost use Rattle.spv_type_forms.specs.Values.{types_of, paired_ids_in};
+ghost use Rattle.spv_ops.specs.Values.{value_ids};
 
-use crate::access::is_int;
-use crate::calculation::is_data;
 use crate::chain::{access_chain, element_chain};
 use crate::common::{
     Common, binary_in, common_row, condition_in, load_holds, load_in, stands_for_bool, store_holds,
     store_in,
 };
-use crate::composite::word_count;
 use crate::construct::constructs;
-use crate::definitions::Definitions;
 use crate::fixed::{access_holds, binary_holds, calculation_holds, composite_holds};
-use crate::form::{Form, Scalar, Sort};
 use crate::row::{Row, row_of};
-use crate::several::{all_pairs_of_type, stands_for_int};
 use crate::variable::variable_holds;
 use spv_ids::Ids;
 use spv_layout::Plan;
 use spv_module::{Inst, Module, Operand};
-
-/// What follows the result type and the result.
-#[inline(always)]
-pub fn after_head<'o, 'a>(operands: &'o [Operand<'a>]) -> &'o [Operand<'a>]
-    ensures { plain_operands result.now ≡ spec.after_head (plain_operands operands.now) }
-{
-    match operands {
-        [Operand::OfType(_), Operand::Result(_), rest @ ..] => rest,
-        _ => operands,
-    }
-}
-
-/// The result type, which is the first operand.
-fn result_type(operands: &[Operand]) -> Option<u32>
-    ensures { result ≡ result_type_in (plain_operands operands.now) }
-{
-    match operands {
-        [Operand::OfType(id), ..] => Some(*id),
-        _ => None,
-    }
-}
+use spv_type_forms::{
+    Definitions, Form, Scalar, Sort, after_head, all_pairs_of_type, is_data, is_int, result_type,
+    word_count,
+};
 
 /// Whether r is a data type, and the declared types of the values are r.
 fn are_of_data_type(definitions: &Definitions, r: u32, operands: &[Operand]) -> bool
-    ensures { IsTrue result ↔ (IsData definitions.now r × IsSomeAnd (types_of definitions.now (paired_ids_in (plain_operands operands.now))) (AllByRecursion (λ t. t ≡ r))) }
+    ensures { IsTrue result ↔ (IsData definitions.now r
+        × IsSomeAnd (types_of definitions.now (paired_ids_in (plain_operands operands.now)))
+        (AllByRecursion (λ t. t ≡ r))) }
 {
     is_data(definitions, r) && all_pairs_of_type(definitions, r, operands)
 }
 
 /// Whether the row of OpPhi holds of the result type and the declared types of the values.
 fn phi_holds(definitions: &Definitions, r: u32, operands: &[Operand]) -> bool
-    ensures { IsTrue result ↔ IsSomeAnd (types_of definitions.now (paired_ids_in (plain_operands operands.now))) (λ types. IsData definitions.now r × AllByRecursion (λ t. t ≡ r) types) }
+    ensures { IsTrue result ↔ IsSomeAnd (types_of definitions.now (paired_ids_in (plain_operands operands.now)))
+        (λ types. IsData definitions.now r × AllByRecursion (λ t. t ≡ r) types) }
 {
     are_of_data_type(definitions, r, operands)
 }
 
 /// Whether the row of OpBranchConditional holds of the declared type of the condition, and of the literals.
 fn branch_holds(definitions: &Definitions, operands: &[Operand], inst: &Inst) -> bool
-    ensures { IsTrue result ↔ IsSomeAnd (types_of definitions.now (value_ids BranchConditional (plain_operands operands.now))) (λ types. Holds definitions.now 0 (plain_inst inst.now) BranchConditional None types) }
+    ensures { IsTrue result ↔ IsSomeAnd (types_of definitions.now
+        (value_ids BranchConditional (plain_operands operands.now)))
+        (λ types. RowHolds definitions.now 0 (plain_inst inst.now) BranchConditional None types) }
 {
     match operands {
         [Operand::Id(x), ..] => match definitions.type_of(*x) {
@@ -89,7 +73,8 @@ fn branch_holds(definitions: &Definitions, operands: &[Operand], inst: &Inst) ->
 
 /// Whether the row of OpSwitch holds of the declared type of the selector.
 fn switch_holds(definitions: &Definitions, operands: &[Operand], inst: &Inst) -> bool
-    ensures { IsTrue result ↔ IsSomeAnd (types_of definitions.now (value_ids Switch (plain_operands operands.now))) (λ types. Holds definitions.now 0 (plain_inst inst.now) Switch None types) }
+    ensures { IsTrue result ↔ IsSomeAnd (types_of definitions.now (value_ids Switch (plain_operands operands.now)))
+        (λ types. RowHolds definitions.now 0 (plain_inst inst.now) Switch None types) }
 {
     match operands {
         [Operand::Id(x), ..] => match definitions.type_of(*x) {
@@ -111,7 +96,8 @@ fn result_row_holds(
 ) -> bool
     requires rest { plain_operands operands.now ≡ spec.after_head (plain_inst inst.now).operands }
     requires number { number < length definitions.now }
-    ensures { IsTrue result ↔ IsSomeAnd (types_of definitions.now (value_ids row (plain_operands operands.now))) (λ types. Holds definitions.now number (plain_inst inst.now) row (Some r) types) }
+    ensures { IsTrue result ↔ IsSomeAnd (types_of definitions.now (value_ids row (plain_operands operands.now)))
+        (λ types. RowHolds definitions.now number (plain_inst inst.now) row (Some r) types) }
 {
     match row {
         Row::Free => true,
@@ -142,7 +128,8 @@ fn other_row_holds(
     row: Row,
     operands: &[Operand],
 ) -> bool
-    ensures { IsTrue result ↔ IsSomeAnd (types_of definitions.now (value_ids row (plain_operands operands.now))) (λ types. Holds definitions.now number (plain_inst inst.now) row None types) }
+    ensures { IsTrue result ↔ IsSomeAnd (types_of definitions.now (value_ids row (plain_operands operands.now)))
+        (λ types. RowHolds definitions.now number (plain_inst inst.now) row None types) }
 {
     match row {
         Row::Free => true,
@@ -153,8 +140,8 @@ fn other_row_holds(
     }
 }
 
-/// Whether the row of an instruction's opcode, if there is one, holds of its result type, the types that its value operands
-/// are declared with, and its literals: whatever the row is.
+/// Whether the row of an instruction's opcode, if there is one, holds of its result type, the types that its value
+/// operands are declared with, and its literals: whatever the row is.
 #[inline(never)]
 fn row_holds(definitions: &Definitions, number: u32, inst: &Inst) -> bool
     requires { number < length definitions.now }
@@ -221,8 +208,8 @@ fn branch_row_holds(definitions: &Definitions, number: u32, inst: &Inst) -> bool
     }
 }
 
-/// Whether the row of an instruction's opcode, if there is one, holds of its result type, the types that its value operands
-/// are declared with, and its literals. The rows that most instructions have are looked at first.
+/// Whether the row of an instruction's opcode, if there is one, holds of its result type, the types that its value
+/// operands are declared with, and its literals. The rows that most instructions have are looked at first.
 pub fn inst_holds(definitions: &Definitions, number: u32, inst: &Inst) -> bool
     requires { number < length definitions.now }
     ensures { IsTrue result ↔ IsTypedIn definitions.now number (plain_inst inst.now) }
@@ -236,15 +223,16 @@ pub fn inst_holds(definitions: &Definitions, number: u32, inst: &Inst) -> bool
     }
 }
 
-/// Whether Y5 is unbroken at instruction `inst`, from 0: whether its opcode's row of types, if there is one, holds of its
-/// result type, the types that its value operands are declared with, and its literals (SPIR-V Specification 1.6, sections
-/// 3.49.1, 3.49.8, 3.49.11 to 3.49.15, 3.49.17, 3.49.18 and 3.49.20). `plan` and `ids` are what `lay_out` and `number` answered
-/// of that module. It takes no memory, and its time is linear in the operands of that instruction.
+/// Whether Y5 is unbroken at instruction `inst`, from 0: whether its opcode's row of types, if there is one, holds of
+/// its result type, the types that its value operands are declared with, and its literals (SPIR-V Specification 1.6,
+/// sections 3.49.1, 3.49.8, 3.49.11 to 3.49.15, 3.49.17, 3.49.18 and 3.49.20). `plan` and `ids` are what `lay_out` and
+/// `number` answered of that module. It takes no memory, and its time is linear in the operands of that instruction.
 pub fn op_holds(module: &Module<'_>, plan: &Plan, ids: &Ids, inst: u32) -> bool
     requires plan { (G : Table) × IsPlan G (plain_insts «module».now) plan.now }
     requires ids { (x : ℕ) → IsDefinitionOf (plain_insts «module».now) x (definition_in ids.now x) }
     requires inst { inst < length (plain_insts «module».now) }
-    ensures { (G : Table) → IsPlan G (plain_insts «module».now) plan.now → IsTrue result ↔ IsTypedAt G (plain_insts «module».now) inst }
+    ensures { (G : Table) → IsPlan G (plain_insts «module».now) plan.now → IsTrue result
+        ↔ IsTypedAt G (plain_insts «module».now) inst }
 {
     let definitions = Definitions::new(module.insts.as_slice(), plan, ids);
     inst_holds(&definitions, inst, definitions.inst(inst))

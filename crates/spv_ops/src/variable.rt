@@ -3,44 +3,22 @@
 ghost use Rattle.std.specs.Prelude.{◌≡◌, ◌≢◌, ◌↔◌, ◌<◌, Some, IsTrue, IsSomeAnd, length};
 ghost use Rattle.std.specs.List.{AllByRecursion};
 ghost use Rattle.spv_module.specs.Module.{plain_operands};
-ghost use Rattle.spv_ops.specs.Values.{types_of, initializers_in};
-ghost use Rattle.spv_ops.specs.Operands.{ids_in};
-ghost use Rattle.spv_ops.specs.Types.{class_in};
-ghost use Rattle.spv_ops.specs.Form.{form_of};
-ghost use Rattle.spv_ops.specs.Variable as variable;
-ghost use Rattle.spv_ops.specs.Variable.{IsConstant, IsInitializer, IsClassAt, Declares};
+ghost use Rattle.spv_type_forms.specs.Values.{types_of};
+ghost use Rattle.spv_ops.specs.Values.{initializers_in};
+ghost use Rattle.spv_type_forms.specs.Operands.{ids_in};
+ghost use Rattle.spv_type_forms.specs.Types.{class_in};
+ghost use Rattle.spv_type_forms.specs.Form.{form_of};
+ghost use Rattle.spv_ops.specs.Variable.{IsInitializer, IsClassAt, DeclaresVariable};
 
-use crate::definitions::{DECLARATIONS, Definitions};
-use crate::form::Form;
-use crate::several::all_pointees;
 use spv_layout::Place;
 use spv_module::Operand;
+use spv_type_forms::{DECLARATIONS, Definitions, Form, all_pointees, is_constant};
 
 /// The storage class Function.
 const FUNCTION: u32 = 7;
 
 /// The storage class Generic.
 const GENERIC: u32 = 8;
-
-/// Whether an opcode is that of a constant.
-pub fn is_constant_opcode(opcode: u16) -> bool
-    ensures { result ≡ variable.is_constant_opcode opcode }
-{
-    match opcode {
-        41..=44 | 46 | 48..=51 => true,
-        _ => false,
-    }
-}
-
-/// Whether the definition of an id is a constant.
-pub fn is_constant(definitions: &Definitions, x: u32) -> bool
-    ensures { IsTrue result ↔ IsConstant definitions.now x }
-{
-    match definitions.definition(x) {
-        Some(inst) => is_constant_opcode(inst.opcode),
-        None => false,
-    }
-}
 
 fn is_initializer(definitions: &Definitions, x: u32) -> bool
     ensures { IsTrue result ↔ IsInitializer definitions.now x }
@@ -91,7 +69,9 @@ fn may_declare(
     operands: &[Operand],
 ) -> bool
     requires { number < length definitions.now }
-    ensures { IsTrue result ↔ ((class_in (form_of definitions.now r) ≡ Some class) × IsClassAt definitions.now number class × AllByRecursion (IsInitializer definitions.now) (ids_in (plain_operands operands.now))) }
+    ensures { IsTrue result ↔ ((class_in (form_of definitions.now r) ≡ Some class)
+        × IsClassAt definitions.now number class × AllByRecursion (IsInitializer definitions.now)
+        (ids_in (plain_operands operands.now))) }
 {
     match definitions.form(r) {
         Some(Form::Pointer { class: own, .. }) => own == class
@@ -105,7 +85,8 @@ fn may_declare(
 /// initializers.
 pub fn variable_holds(definitions: &Definitions, number: u32, r: u32, operands: &[Operand]) -> bool
     requires { number < length definitions.now }
-    ensures { IsTrue result ↔ IsSomeAnd (types_of definitions.now (initializers_in (plain_operands operands.now))) (λ types. Declares definitions.now number r (plain_operands operands.now) types) }
+    ensures { IsTrue result ↔ IsSomeAnd (types_of definitions.now (initializers_in (plain_operands operands.now)))
+        (λ types. DeclaresVariable definitions.now number r (plain_operands operands.now) types) }
 {
     match operands {
         [Operand::Value { value: class, .. }, rest @ ..] => may_declare(

@@ -7,15 +7,15 @@ use Rattle.spv_table.specs.Table.{Table}
 use Rattle.spv_module.specs.Operand.{PlainInst}
 use Rattle.spv_module.specs.Module.{plain_insts}
 use Rattle.spv_module.specs.Instruction.{IsListing}
-use Rattle.spv_module.specs.Dead.{IsDeadAt}
+use Rattle.spv_module.specs.Malformed.{IsMalformedAt}
 use Rattle.spv_module.specs.declared.fault.Fault.{Fault}
 use Rattle.spv_module.specs.declared.fault.Stop.TheVariants as stop
 use Rattle.spv_module.specs.declared.module.Module.{Module}
 use Rattle.spv_layout.specs.First.{stage_of}
-use Rattle.spv_inst.specs.Outcome.{IsDeath}
+use Rattle.spv_inst.specs.Outcome.{IsDecodeFault}
 use Rattle.spv_evidence.specs.declared.evidence.Evidence.{Evidence}
 use Rattle.spv_verdict.specs.Answer.{IsFault}
-use Rattle.spv_verdict.specs.Broken.{IsFirst, IsTold}
+use Rattle.spv_verdict.specs.Broken.{IsFirstOfAll, IsTold}
 use Rattle.spv_verdict.specs.Checked.{IsChecked}
 use Rattle.spv_verdict.specs.Program.{Program}
 use Rattle.spv_verdict.proofs.Firsts.{one_first}
@@ -51,7 +51,7 @@ pub explains : Laws → (G : Table) (bytes words : List ℕ) (order : Order) (f 
     → IsBrokenModule G words f e m → AreIn (told_of (plain_insts m) f.inst e) lines → Explain G bytes lines
 explains laws G bytes words order f e m lines h b t = λ ws p js r n g l first s.
     let same = same_module laws G bytes words ws order p (plain_insts m) js h g b.listing l in
-    let told : IsFirst G (slice_index ws 3) js f.rule f.inst = rw (same.words, same.insts) at b.told.0 in
+    let told : IsFirstOfAll G (slice_index ws 3) js f.rule f.inst = rw (same.words, same.insts) at b.told.0 in
     let one = one_first G (slice_index ws 3) js f.rule r f.inst n told first in
     let shown : IsShownAt G (slice_index ws 3) js f e = rw (same.words, same.insts) at b.shown in
     let late : 1 ≤ stage_of f.rule = subst (λ q. 1 ≤ stage_of q) (sym one.rule) s in
@@ -67,10 +67,10 @@ explains laws G bytes words order f e m lines h b t = λ ws p js r n g l first s
 pub valid_explains : Laws → (G : Table) (bytes words : List ℕ) (order : Order) (p : Program) (lines : List ℕ) → IsModule order bytes words → IsChecked G words p → Explain G bytes lines
 valid_explains laws G bytes words order p lines h c = λ ws q js r n g l first s.
     let same = same_module laws G bytes words ws order q p.insts js h g c.listing l in
-    let told : IsFirst G (slice_index words 3) p.insts r n = rw (sym same.words, sym same.insts) at first in
+    let told : IsFirstOfAll G (slice_index words 3) p.insts r n = rw (sym same.words, sym same.insts) at first in
     absurd (c.sound r n (rw c.bound told.broken))
 
-pub dead_explains : Laws → (G : Table) (bytes words : List ℕ) (order : Order) (f : Fault) (lines : List ℕ) → IsModule order bytes words → IsDeath G words (stop.Fault f) → Explain G bytes lines
+pub dead_explains : Laws → (G : Table) (bytes words : List ℕ) (order : Order) (f : Fault) (lines : List ℕ) → IsModule order bytes words → IsDecodeFault G words (stop.Fault f) → Explain G bytes lines
 dead_explains laws G bytes words order f lines h d = λ ws q js r n g l first s. absurd (dead_list laws G bytes ws words q order js f.rule f.inst _ g h l d.1)
 
 pub refused_explains : Laws → (G : Table) (bytes : List ℕ) (code : WordError) (lines : List ℕ) → IsFirstBroken code bytes → Explain G bytes lines
@@ -78,12 +78,12 @@ refused_explains laws G bytes code lines b = λ ws q js r n g l first s. absurd 
 
 -- lines of words that spell no list of instructions
 pub dead_shows : Laws → (G : Table) (bytes words : List ℕ) (order : Order) (f : Fault) (e : Evidence) (lines : List ℕ)
-    → IsModule order bytes words → IsDeath G words (stop.Fault f)
+    → IsModule order bytes words → IsDecodeFault G words (stop.Fault f)
     → instructions.IsEvidence G (drop 5 words) f.rule f.inst (f.word - 5) e → AreIn (dead_lines_of e) lines
     → ExplainDead G bytes lines
 dead_shows laws G bytes words order f e lines h d shown t = λ ws q r n word g k.
     let same : words ≡ ws = (laws.words order q bytes words ws h g).1 in
-    let there = subst (λ v. IsDeadAt G (drop 5 v) f.rule f.inst (f.word - 5)) same d.1 in
+    let there = subst (λ v. IsMalformedAt G (drop 5 v) f.rule f.inst (f.word - 5)) same d.1 in
     let one = laws.death G (drop 5 ws) f.rule r f.inst n (f.word - 5) word there k in
     let of_words = subst (λ v. instructions.IsEvidence G (drop 5 v) f.rule f.inst (f.word - 5) e) same shown in
     let of_rule = subst (λ a. instructions.IsEvidence G (drop 5 ws) a f.inst (f.word - 5) e) one.0 of_words in

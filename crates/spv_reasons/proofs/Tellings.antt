@@ -4,7 +4,7 @@ use Rattle.std.proofs.Common.{drop, length, take, ap, refl, sym, subst, string_b
 use Rattle.std.specs.Io.KnownBytes.{Appends}
 use Rattle.std.specs.Prelude.{IfOk, Ok, Err}
 use Rattle.std.specs.Prelude.{Result as Answer}
-use Rattle.spv_words.specs.Header.{IsFirstBroken, IsModule, Refuses}
+use Rattle.spv_words.specs.Header.{IsFirstBroken, IsModule, RefusesBytes}
 use Rattle.spv_words.specs.declared.words.WordError.{WordError}
 use Rattle.spv_words.specs.declared.words.WordError.TheVariants as word
 use Rattle.spv_words.specs.declared.words.Order.{Order}
@@ -13,7 +13,7 @@ use Rattle.spv_module.specs.Module.{plain_insts}
 use Rattle.spv_module.specs.declared.fault.Fault.{Fault}
 use Rattle.spv_module.specs.declared.fault.Stop.TheVariants as stop
 use Rattle.spv_module.specs.declared.module.Module.{Module}
-use Rattle.spv_inst.specs.Outcome.{IsDeath}
+use Rattle.spv_inst.specs.Outcome.{IsDecodeFault}
 use Rattle.spv_evidence.specs.declared.evidence.Evidence.{Evidence}
 use Rattle.spv_verdict.specs.Answer.{IsFault}
 use Rattle.spv_verdict.specs.Checked.{IsChecked}
@@ -40,7 +40,7 @@ valid_told laws G bytes words order p t h c e = record {
 }
 
 pub dead_told : {E : Type 0} → Laws → (G : Table) (bytes words : List ℕ) (order : Order) (f : Fault) (e : Evidence)
-    (r : Answer Explanation E) → IsModule order bytes words → IsDeath G words (stop.Fault f)
+    (r : Answer Explanation E) → IsModule order bytes words → IsDecodeFault G words (stop.Fault f)
     → instructions.IsEvidence G (drop 5 words) f.rule f.inst (f.word - 5) e
     → IfOk r (λ t. t.judgment ≡ judgments.Broken f) → IfOk r (λ t. AreIn (dead_lines_of e) (string_bytes t.lines))
     → IfOk r (λ t. IsExplanation G bytes t)
@@ -77,7 +77,7 @@ refused_one never G bytes code t b j =
 
 pub refused_told : ((e : WordError) (o : Order) (bs ws : List ℕ) → IsModule o bs ws → ¬ IsFirstBroken e bs)
     → (G : Table) (known : Option (List ℕ)) (code : WordError) (r : Answer Explanation WordError)
-    → IfSome known (λ xs. Refuses code xs) → IfOk r (λ t. refusal_of code ≡ Ok t.judgment)
+    → IfSome known (λ xs. RefusesBytes code xs) → IfOk r (λ t. refusal_of code ≡ Ok t.judgment)
     → IfSome known (λ xs. IfOk r (λ t. IsExplanation G xs t))
 refused_told never G None code r h e = tt
 refused_told never G (Some xs) code (Err _) h e = tt

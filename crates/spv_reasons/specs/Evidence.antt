@@ -22,7 +22,8 @@ pub data IsEvidence (G : Table) (bound : ℕ) (is : List PlainInst) : Rule → �
   -- Y1
   of_roles : (r : Rule) (n : ℕ) (e : Evidence) → roles.IsEvidence G is r n e → IsEvidence G bound is r n e
   -- C1, C2, M1, E1 and E2
-  of_capabilities : (r : Rule) (n : ℕ) (e : Evidence) → capabilities.IsEvidence G is r n e → IsEvidence G bound is r n e
+  of_capabilities : (r : Rule) (n : ℕ) (e : Evidence) → capabilities.IsEvidence G is r n e
+      → IsEvidence G bound is r n e
   -- Y2 to Y8
   of_types : (r : Rule) (n : ℕ) (e : Evidence) → types.IsEvidence G is r n e → IsEvidence G bound is r n e
   -- F

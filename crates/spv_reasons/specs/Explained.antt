@@ -27,4 +27,5 @@ IsShown G words (Fault f e) =
 abbrev pub IsShownDead : Table → List ℕ → Explained → Type 0
 IsShownDead G words (Valid c) = Unit {0}
 IsShownDead G words (Fault f e) =
-    ((is : List PlainInst) → ¬ (IsListing G is (drop 5 words))) → instructions.IsEvidence G (drop 5 words) f.rule f.inst (f.word - 5) e
+    ((is : List PlainInst) → ¬ (IsListing G is (drop 5 words)))
+    → instructions.IsEvidence G (drop 5 words) f.rule f.inst (f.word - 5) e

@@ -1,5 +1,6 @@
 -- What stands on the lines that explain a fault. (Own.)
-use Rattle.std.specs.Prelude.{◌≡◌, ◌++◌, ◌-◌, ℕ, List, [], ◌∷◌, Option, Some, None, codes, decimal, drop, flat_map, length, option_and_then, slice_get}
+use Rattle.std.specs.Prelude.{◌≡◌, ◌++◌, ◌-◌, ℕ, List, [], ◌∷◌, Option, Some, None, codes}
+use Rattle.std.specs.Prelude.{decimal, drop, flat_map, length, option_and_then, slice_get}
 use Rattle.std.specs.List.{AllByRecursion}
 use Rattle.spv_module.specs.Operand.{Plain, OfType, Result, Id, Word, Value, Mask, PlainInst, result_in}
 use Rattle.spv_lines.specs.Operand.{id_text}
@@ -58,18 +59,21 @@ inst_begin key m = key ++ codes ": inst " ++ decimal m ++ codes ","
 
 -- `cycle: %20 %30 %20`: the functions of a cycle, and before them the last of them, the caller
 abbrev pub cycle_line : List PlainInst → List ℕ → List ℕ
-cycle_line is fs = codes "cycle:" ++ flat_map (result_part is) (drop (length fs - 1) fs) ++ flat_map (result_part is) fs ++ line_end
+cycle_line is fs = codes "cycle:" ++ flat_map (result_part is) (drop (length fs - 1) fs) ++ flat_map (result_part is) fs
+    ++ line_end
 
--- What stands on the lines of evidence at instruction n: operands, other instructions, walks and chains. Of other evidence nothing is
--- said here.
+-- What stands on the lines of evidence at instruction n: operands, other instructions, walks and chains. Of other
+-- evidence nothing is said here.
 abbrev pub told_of : List PlainInst → ℕ → Evidence → List (List ℕ)
 told_of is n (evidence.Operand k) = operand_line is n k ∷ []
 told_of is n (evidence.Earlier m) = inst_begin (codes "earlier") m ∷ []
 told_of is n (evidence.Defined k m) = operand_line is n k ∷ inst_begin (codes "defined") m ∷ []
-told_of is n (evidence.Local k m f) = operand_line is n k ∷ inst_begin (codes "defined") m ∷ results_line is (codes "local to") (f ∷ []) ∷ []
+told_of is n (evidence.Local k m f) =
+    operand_line is n k ∷ inst_begin (codes "defined") m ∷ results_line is (codes "local to") (f ∷ []) ∷ []
 told_of is n (evidence.Miscast k r m) = operand_line is n k ∷ inst_begin (codes "defined") m ∷ []
 told_of is n (evidence.MissingParent b) = results_line is (codes "missing parent") (b ∷ []) ∷ []
-told_of is n (evidence.Walk k m walk) = operand_line is n k ∷ inst_begin (codes "defined") m ∷ results_line is (codes "walk") walk ∷ []
+told_of is n (evidence.Walk k m walk) =
+    operand_line is n k ∷ inst_begin (codes "defined") m ∷ results_line is (codes "walk") walk ∷ []
 told_of is n (evidence.Cycle calls cycle) = results_line is (codes "calls") calls ∷ cycle_line is cycle ∷ []
 told_of is n e = []
 

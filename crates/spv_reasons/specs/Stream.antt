@@ -6,10 +6,10 @@ use Rattle.spv_words.specs.declared.words.Order.{Order}
 use Rattle.spv_table.specs.Table.{Table}
 use Rattle.spv_module.specs.Operand.{PlainInst}
 use Rattle.spv_module.specs.Instruction.{IsListing}
-use Rattle.spv_module.specs.Dead.{IsDeadAt}
+use Rattle.spv_module.specs.Malformed.{IsMalformedAt}
 use Rattle.spv_module.specs.declared.fault.Rule.{Rule}
 use Rattle.spv_layout.specs.First.{stage_of}
-use Rattle.spv_verdict.specs.Broken.{IsFirst}
+use Rattle.spv_verdict.specs.Broken.{IsFirstOfAll}
 use Rattle.spv_verdict.specs.Verdict.{IsVerdict, valid_line}
 use Rattle.spv_verdict.specs.Text.{line_of}
 use Rattle.spv_evidence.specs.declared.evidence.Evidence.{Evidence}
@@ -19,15 +19,17 @@ use Rattle.spv_reasons.specs.Lines.{AreIn, dead_lines_of, told_of}
 use Rattle.spv_reasons.specs.declared.stream.Explanation.{Explanation}
 
 -- Under the table, lines tell what shows that the rule is broken at an instruction of the list.
-pub record AreLinesOf (G : Table) (bound : ℕ) (is : List PlainInst) (r : Rule) (n : ℕ) (lines : List ℕ) : Type 0 where
+pub record AreLinesOf (G : Table) (bound : ℕ) (is : List PlainInst) (r : Rule) (n : ℕ)
+    (lines : List ℕ) : Type 0 where
   pub evidence : Evidence
   pub shows : IsEvidence G bound is r n evidence
   pub told : AreIn (told_of is n evidence) lines
 
--- Of bytes that are words of a list of instructions which breaks a rule of the stages P to G first, the lines tell what shows it.
+-- Of bytes that are words of a list of instructions which breaks a rule of the stages P to G first, the lines tell what
+-- shows it.
 abbrev pub Explain : Table → List ℕ → List ℕ → Type 0
 Explain G bytes lines = (words : List ℕ) (order : Order) (is : List PlainInst) (r : Rule) (n : ℕ)
-    → IsModule order bytes words → IsListing G is (drop 5 words) → IsFirst G (slice_index words 3) is r n
+    → IsModule order bytes words → IsListing G is (drop 5 words) → IsFirstOfAll G (slice_index words 3) is r n
     → 1 ≤ stage_of r → AreLinesOf G (slice_index words 3) is r n lines
 
 -- Under the table, lines tell what shows that an instruction among the words is dead by the rule, at that word.
@@ -39,7 +41,8 @@ pub record AreDeadLinesOf (G : Table) (words : List ℕ) (r : Rule) (n word : �
 -- Of bytes whose words spell no list of instructions, since one is dead, the lines tell what shows it.
 abbrev pub ExplainDead : Table → List ℕ → List ℕ → Type 0
 ExplainDead G bytes lines = (words : List ℕ) (order : Order) (r : Rule) (n word : ℕ)
-    → IsModule order bytes words → IsDeadAt G (drop 5 words) r n word → AreDeadLinesOf G (drop 5 words) r n word lines
+    → IsModule order bytes words → IsMalformedAt G (drop 5 words) r n word
+    → AreDeadLinesOf G (drop 5 words) r n word lines
 
 -- The verdict is that of the bytes, and the lines explain it.
 pub record IsExplanation (G : Table) (bytes : List ℕ) (e : Explanation) : Type 0 where
@@ -47,9 +50,10 @@ pub record IsExplanation (G : Table) (bytes : List ℕ) (e : Explanation) : Type
   pub explain : Explain G bytes (string_bytes e.lines)
   pub dead : ExplainDead G bytes (string_bytes e.lines)
 
--- A writer that held the bytes `old` now also holds the verdict line of the bytes, after it lines that explain it, and nothing else; the
--- answer tells whether the line is `valid`.
-pub record Explains (G : Table) (bytes : List ℕ) (old : List ℕ) (new : Option (List ℕ)) (answer : Bool) : Type 0 where
+-- A writer that held the bytes `old` now also holds the verdict line of the bytes, after it lines that explain it, and
+-- nothing else; the answer tells whether the line is `valid`.
+pub record Explains (G : Table) (bytes : List ℕ) (old : List ℕ) (new : Option (List ℕ))
+    (answer : Bool) : Type 0 where
   pub line : List ℕ
   pub lines : List ℕ
   pub verdict : IsVerdict G bytes line

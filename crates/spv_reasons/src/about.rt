@@ -1,5 +1,6 @@
 //! The lines that tell a fault to a person.
-ghost use Rattle.std.specs.Prelude.{◌≡◌, ◌++◌, [], ◌∷◌, decimal, flat_map, option_map, slice_get, string_bytes, OnOk};
+ghost use Rattle.std.specs.Prelude.{◌≡◌, ◌++◌, [], ◌∷◌, decimal, flat_map, option_map, slice_get};
+ghost use Rattle.std.specs.Prelude.{string_bytes, OnOk};
 ghost use Rattle.spv_module.specs.Module.{plain_inst, plain_insts, plain_operand};
 ghost use Rattle.spv_reasons.specs.Lines as lines;
 ghost use Rattle.spv_reasons.specs.inner.Adding.{Adds};
@@ -54,7 +55,8 @@ fn push_spaced(out: &mut String, number: u32) -> Result<(), AllocError>
 
 /// Adds a space and an operand, if there is one that is an id or a number.
 fn push_operand(out: &mut String, operand: Option<Operand<'_>>) -> Result<(), AllocError>
-    ensures { OnOk result (string_bytes out.new ≡ string_bytes out.old ++ operand_part (option_map plain_operand operand.entry)) }
+    ensures { OnOk result (string_bytes out.new ≡ string_bytes out.old ++ operand_part
+        (option_map plain_operand operand.entry)) }
 {
     match operand {
         Some(Operand::OfType(id)) => push_id(out, id),
@@ -164,7 +166,8 @@ impl<'m, 'a> About<'m, 'a> {
 
     /// Adds a space and the result of an instruction, if it has one.
     pub fn push_result(&self, out: &mut String, inst: u32) -> Result<(), AllocError>
-        ensures { OnOk result (string_bytes out.new ≡ string_bytes out.old ++ result_part (plain_insts self.now.«module».now) inst) }
+        ensures { OnOk result (string_bytes out.new ≡ string_bytes out.old ++ result_part
+            (plain_insts self.now.«module».now) inst) }
     {
         match self.result_of(inst) {
             Some(id) => push_id(out, id),
@@ -174,7 +177,8 @@ impl<'m, 'a> About<'m, 'a> {
 
     /// Adds the results of instructions, each after a space.
     pub fn push_results(&self, out: &mut String, insts: &[u32]) -> Result<(), AllocError>
-        ensures { OnOk result (string_bytes out.new ≡ string_bytes out.old ++ flat_map (result_part (plain_insts self.now.«module».now)) insts.now) }
+        ensures { OnOk result (string_bytes out.new ≡ string_bytes out.old ++ flat_map
+            (result_part (plain_insts self.now.«module».now)) insts.now) }
     {
         for inst in insts {
             self.push_result(out, *inst)?;
@@ -216,7 +220,8 @@ impl<'m, 'a> About<'m, 'a> {
 
     /// Adds a line of the results of instructions.
     pub fn results_line(&self, out: &mut String, key: &str, insts: &[u32]) -> Result<(), AllocError>
-        ensures { OnOk result (string_bytes out.new ≡ string_bytes out.old ++ lines.results_line (plain_insts self.now.«module».now) key.now insts.now) }
+        ensures { OnOk result (string_bytes out.new ≡ string_bytes out.old ++ lines.results_line
+            (plain_insts self.now.«module».now) key.now insts.now) }
     {
         out.push_str(key)?;
         out.push_str(":")?;
@@ -226,7 +231,8 @@ impl<'m, 'a> About<'m, 'a> {
 
     /// Adds the line of an operand of an instruction, with its number.
     pub fn operand_line(&self, out: &mut String, inst: u32, number: u32) -> Result<(), AllocError>
-        ensures { OnOk result (string_bytes out.new ≡ string_bytes out.old ++ lines.operand_line (plain_insts self.now.«module».now) inst number) }
+        ensures { OnOk result (string_bytes out.new ≡ string_bytes out.old ++ lines.operand_line
+            (plain_insts self.now.«module».now) inst number) }
     {
         out.push_str("operand: ")?;
         push_number(out, number)?;

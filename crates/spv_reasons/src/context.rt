@@ -54,8 +54,8 @@ fn add<'a>(module: &mut Module<'a>, insts: &[Inst<'a>], at: Option<usize>) -> Re
     }
 }
 
-/// The instruction of that number as the last of a small module, after the ones that tell how wide its numbers are: the type of
-/// its result; or of an OpSwitch the value by which it branches, after the type of that.
+/// The instruction of that number as the last of a small module, after the ones that tell how wide its numbers are: the
+/// type of its result; or of an OpSwitch the value by which it branches, after the type of that.
 pub fn alone<'a>(alloc: Global, module: &Module<'a>, at: usize) -> Result<Module<'a>, Memory> {
     let insts = module.insts.as_slice();
     let selector = selector_of(insts, at);

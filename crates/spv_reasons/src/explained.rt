@@ -20,7 +20,8 @@ use std::alloc::Global;
 pub enum Explained<'a> {
     /// No rule is broken.
     Valid(Checked<'a>),
-    /// The first rule that is broken, with the instruction and the word by which it is told; and what shows that it is broken.
+    /// The first rule that is broken, with the instruction and the word by which it is told; and what shows that it is
+    /// broken.
     Fault(Fault, Evidence),
 }
 
@@ -29,8 +30,8 @@ pub enum Explained<'a> {
 pub enum Reading<'a> {
     /// No rule is broken.
     Valid(Checked<'a>),
-    /// The words spell no list of instructions. The place is that of the first word of the instruction that fails, and the evidence
-    /// shows that it does.
+    /// The words spell no list of instructions. The place is that of the first word of the instruction that fails, and
+    /// the evidence shows that it does.
     Malformed {
         fault: Fault,
         place: u32,
@@ -44,7 +45,8 @@ pub enum Reading<'a> {
     },
 }
 
-/// The place of the first word of an instruction among the words of an image: the instructions before it tell how many words they have.
+/// The place of the first word of an instruction among the words of an image: the instructions before it tell how many
+/// words they have.
 fn first_word(image: &Image, inst: u32) -> u32 {
     let mut at = 5u32;
     for _ in 0..inst {
@@ -90,8 +92,8 @@ pub fn reading_of<'a>(alloc: Global, table: &Table, image: &'a Image) -> Result<
     }
 }
 
-/// The verdict on the words of a module, under a grammar table, just as `check` answers it; and of a fault what shows that the rule is broken there.
-/// A fault of the stages I to G always comes with evidence that shows it by itself.
+/// The verdict on the words of a module, under a grammar table, just as `check` answers it; and of a fault what shows
+/// that the rule is broken there. A fault of the stages I to G always comes with evidence that shows it by itself.
 ///
 /// Time is linear in the words of the module besides what `check` takes, and at most as much again.
 ///

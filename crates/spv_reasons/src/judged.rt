@@ -73,8 +73,11 @@ fn misnumbered<'a>(
     stop: Stop,
 ) -> Result<Judged<'a>, Memory>
     requires words { 5 + sum_by word_count (plain_insts «module») ≤ 4194304 }
-    requires refused { (G : Table) × IsPlan G (plain_insts «module») plan.now × id_outcome.IsRefusal G «module».header.bound (plain_insts «module») stop }
-    ensures { (G : Table) → IsPlan G (plain_insts «module».entry) plan.now → IsTold G «module».entry.header.bound (plain_insts «module».entry) stop → IfOk result (λ j. IsJudged G «module».entry.header.bound (plain_insts «module».entry) j) }
+    requires refused { (G : Table) × IsPlan G (plain_insts «module») plan.now
+        × id_outcome.IsRefusal G «module».header.bound (plain_insts «module») stop }
+    ensures { (G : Table) → IsPlan G (plain_insts «module».entry) plan.now
+        → IsTold G «module».entry.header.bound (plain_insts «module».entry) stop
+        → IfOk result (λ j. IsJudged G «module».entry.header.bound (plain_insts «module».entry) j) }
 {
     match stop {
         Stop::Fault(fault) => {
@@ -122,8 +125,12 @@ fn flow_evidence(
     fault: Fault,
 ) -> Result<Evidence, Memory>
     requires words { 5 + sum_by word_count (plain_insts «module».now) ≤ 4194304 }
-    requires known { (G : Table) × IsPlan G (plain_insts «module».now) plan.now × AreIds G «module».now.header.bound (plain_insts «module».now) ids.now × flow_outcome.IsFirstOfFlow G (plain_insts «module».now) fault.rule fault.inst }
-    ensures { (G : Table) → IsPlan G (plain_insts «module».now) plan.now → AreIds G «module».now.header.bound (plain_insts «module».now) ids.now → flow_outcome.IsFirstOfFlow G (plain_insts «module».now) fault.rule fault.inst
+    requires known { (G : Table) × IsPlan G (plain_insts «module».now) plan.now
+        × AreIds G «module».now.header.bound (plain_insts «module».now) ids.now
+        × flow_outcome.IsFirstOfFlow G (plain_insts «module».now) fault.rule fault.inst }
+    ensures { (G : Table) → IsPlan G (plain_insts «module».now) plan.now
+        → AreIds G «module».now.header.bound (plain_insts «module».now) ids.now
+        → flow_outcome.IsFirstOfFlow G (plain_insts «module».now) fault.rule fault.inst
         → IfOk result (λ e. IsShownAt G «module».now.header.bound (plain_insts «module».now) fault e) }
 {
     if is_of_values(fault.rule) {
@@ -148,7 +155,8 @@ fn mistyped<'a>(
     requires plan { IsPlan table.now (plain_insts «module») plan.now }
     requires ids { AreIds table.now «module».header.bound (plain_insts «module») ids.now }
     requires refused { type_outcome.IsRefusal table.now (plain_insts «module») stop }
-    ensures { IsTold table.now «module».entry.header.bound (plain_insts «module».entry) stop → IfOk result (λ j. IsJudged table.now «module».entry.header.bound (plain_insts «module».entry) j) }
+    ensures { IsTold table.now «module».entry.header.bound (plain_insts «module».entry) stop
+        → IfOk result (λ j. IsJudged table.now «module».entry.header.bound (plain_insts «module».entry) j) }
 {
     match stop {
         Stop::Fault(fault) => {
@@ -172,9 +180,14 @@ fn misled<'a>(
     stop: Stop,
 ) -> Result<Judged<'a>, Memory>
     requires words { 5 + sum_by word_count (plain_insts «module») ≤ 4194304 }
-    requires known { (G : Table) × IsPlan G (plain_insts «module») plan.now × AreIds G «module».header.bound (plain_insts «module») ids.now × flow_outcome.IsRefusal G (plain_insts «module») stop }
-    ensures { (G : Table) → IsPlan G (plain_insts «module».entry) plan.now → AreIds G «module».entry.header.bound (plain_insts «module».entry) ids.now → flow_outcome.IsRefusal G (plain_insts «module».entry) stop
-        → IsTold G «module».entry.header.bound (plain_insts «module».entry) stop → IfOk result (λ j. IsJudged G «module».entry.header.bound (plain_insts «module».entry) j) }
+    requires known { (G : Table) × IsPlan G (plain_insts «module») plan.now
+        × AreIds G «module».header.bound (plain_insts «module») ids.now
+        × flow_outcome.IsRefusal G (plain_insts «module») stop }
+    ensures { (G : Table) → IsPlan G (plain_insts «module».entry) plan.now
+        → AreIds G «module».entry.header.bound (plain_insts «module».entry) ids.now
+        → flow_outcome.IsRefusal G (plain_insts «module».entry) stop
+        → IsTold G «module».entry.header.bound (plain_insts «module».entry) stop
+        → IfOk result (λ j. IsJudged G «module».entry.header.bound (plain_insts «module».entry) j) }
 {
     match stop {
         Stop::Fault(fault) => {
@@ -189,8 +202,8 @@ fn misled<'a>(
     }
 }
 
-/// What a module comes to: the stages are looked at in the order in which `check` looks at them, and where one finds a fault, the
-/// instruction at which it is told is looked at again.
+/// What a module comes to: the stages are looked at in the order in which `check` looks at them, and where one finds a
+/// fault, the instruction at which it is told is looked at again.
 ///
 /// `Memory` comes only where a growth of memory was refused.
 pub fn judge<'a>(alloc: Global, table: &Table, module: Module<'a>) -> Result<Judged<'a>, Memory>

@@ -2,8 +2,9 @@
 
 use spv_module::Operand;
 
-/// The capabilities of which one is needed for the width or the count of a type, by their numbers: of OpTypeInt (21) Int16 (22) or
-/// Int64 (11), of OpTypeFloat (22) Float16Buffer (8) or Float16 (9), or Float64 (10), of OpTypeVector (23) Vector16 (7).
+/// The capabilities of which one is needed for the width or the count of a type, by their numbers: of OpTypeInt (21)
+/// Int16 (22) or Int64 (11), of OpTypeFloat (22) Float16Buffer (8) or Float16 (9), or Float64 (10), of OpTypeVector
+/// (23) Vector16 (7).
 pub fn needs_of(opcode: u16, operands: &[Operand<'_>]) -> &'static [u32] {
     match (opcode, operands) {
         (21, [_, Operand::Word(16), ..]) => &[22],

@@ -8,7 +8,8 @@ use std::alloc::{AllocError, Global};
 pub struct Told {
     /// The numbers of the instructions, in the order in which the ids are named for the first time.
     pub insts: Vec<u32>,
-    /// Of each id of the list the place of its instruction among these, where it is named for the first time and is defined.
+    /// Of each id of the list the place of its instruction among these, where it is named for the first time and is
+    /// defined.
     pub lines: Vec<Option<usize>>,
 }
 
@@ -46,8 +47,8 @@ fn place_of(wanted: &[u32], id: Option<u32>) -> Option<usize> {
     wanted.binary_search(&id?).ok()
 }
 
-/// Of a list of ids the instructions that define them, each once. Time is linear in the instructions, and in each a search
-/// among the ids.
+/// Of a list of ids the instructions that define them, each once. Time is linear in the instructions, and in each a
+/// search among the ids.
 pub fn told_once(alloc: Global, module: &Module<'_>, ids: &[u32]) -> Result<Told, AllocError> {
     let wanted = in_order(alloc, ids)?;
     let mut left = definitions(alloc, module, &wanted)?;

@@ -23,7 +23,8 @@ pub enum Code {
 
 /// The code on words of that name.
 fn word_named(name: &str) -> Option<WordError>
-    ensures { MatchOption result ((code : WordError) → ¬ (name.now ≡ code_text code)) (λ code. name.now ≡ code_text code) }
+    ensures { MatchOption result ((code : WordError) → ¬ (name.now ≡ code_text code))
+        (λ code. name.now ≡ code_text code) }
 {
     match name {
         "W1" => Some(WordError::W1),
@@ -91,7 +92,8 @@ fn rule_named(name: &str) -> Option<Rule>
 impl Code {
     /// The code of that name, as `W3` or `A1`; None where no code has it.
     pub fn named(name: &str) -> Option<Code>
-        ensures { MatchOption result ((code : Code) → ¬ (name.now ≡ name_of code)) (λ code. name.now ≡ name_of code) }
+        ensures { MatchOption result ((code : Code) → ¬ (name.now ≡ name_of code))
+            (λ code. name.now ≡ name_of code) }
     {
         if let Some(code) = word_named(name) {
             return Some(Code::Word(code));
@@ -148,8 +150,8 @@ fn push_meaning(out: &mut String, code: Code) -> Result<(), AllocError> {
     Ok(())
 }
 
-/// A line for each code that a verdict may tell, in the order in which they are looked for: its name and its sentence. Of one code,
-/// if one is asked for, that line and where it is broken.
+/// A line for each code that a verdict may tell, in the order in which they are looked for: its name and its sentence.
+/// Of one code, if one is asked for, that line and where it is broken.
 ///
 /// An `AllocError` comes only where a growth of memory was refused.
 pub fn rules_text(alloc: Global, code: Option<Code>) -> Result<String, AllocError> {

@@ -1,9 +1,11 @@
 //! What is written of the bytes of a stream.
-ghost use Rattle.std.specs.Prelude.{◌≡◌, ◌≢◌, ◌⊎◌, ◌↔◌, ◌++◌, ℕ, List, [], Ok, OnOk, IfOk, IfErr, IfSome, IsErrOf, IsTrue, string_bytes};
+ghost use Rattle.std.specs.Prelude.{◌≡◌, ◌≢◌, ◌⊎◌, ◌↔◌, ◌++◌, ℕ, List, [], Ok, OnOk};
+ghost use Rattle.std.specs.Prelude.{IfOk, IfErr, IfSome, IsErrOf, IsTrue, string_bytes};
 ghost use Rattle.spv_words.specs.Header.{IsModule};
 ghost use Rattle.spv_words.specs.declared.words.Order.{Order};
 ghost use Rattle.spv_words.specs.declared.words.WordError.TheVariants.{W1, W9};
 ghost use Rattle.spv_module.specs.Module.{plain_insts};
+ghost use Rattle.spv_verdict.specs.Outcome.{Failed, OfKnown};
 ghost use Rattle.spv_verdict.specs.Verdict.{valid_line};
 ghost use Rattle.spv_verdict.specs.Text.{line_of, refusal_of};
 ghost use Rattle.spv_reasons.specs.Lines.{AreIn, dead_lines_of, told_of};
@@ -85,7 +87,8 @@ fn broken_told(
     evidence: &Evidence,
 ) -> Result<Explanation, AllocError>
     ensures verdict { IfOk result (λ t. t.judgment ≡ judgments.Broken fault) }
-    ensures lines { IfOk result (λ t. AreIn (told_of (plain_insts «module».now) fault.inst evidence.now) (string_bytes t.lines)) }
+    ensures lines { IfOk result (λ t. AreIn (told_of (plain_insts «module».now) fault.inst evidence.now)
+        (string_bytes t.lines)) }
 {
     let about = About {
         alloc,
@@ -112,8 +115,8 @@ fn push_words(out: &mut String, image: &Image, from: u32, to: u32) -> Result<(),
     Ok(())
 }
 
-/// The verdict of words that are no list of instructions, and its lines: with the words of the instruction that fails, as many as its
-/// first word counts, and the operand that fails.
+/// The verdict of words that are no list of instructions, and its lines: with the words of the instruction that fails,
+/// as many as its first word counts, and the operand that fails.
 fn malformed_told(
     alloc: Global,
     table: &Table,
@@ -208,7 +211,7 @@ fn refusal(alloc: Global, code: WordError) -> Result<Explanation, WordError>
 /// The lines that tell all the bytes of a reader.
 fn told_on<R: Source>(alloc: Global, table: &Table, r: &mut R) -> Result<Explanation, WordError>
     ensures known { IfSome (R.remaining r.old) (λ bytes. IfOk result (λ t. IsExplanation table.now bytes t)) }
-    ensures count { R.failures r.new ≢ R.failures r.old ↔ IsErrOf result W1 }
+    ensures count { Failed R.failures r.old r.new ↔ IsErrOf result W1 }
     ensures only { IfErr result (λ e. (e ≡ W1) ⊎ (e ≡ W9)) }
 {
     spv_words::laws::one_refusal();
@@ -245,11 +248,12 @@ impl Explanation {
     }
 }
 
-/// Writes the verdict line of a reader's bytes up to the end of input, as `check_stream` does, and after the line of a fault further
-/// lines that explain it, each `KEY: TEXT`; and answers whether the line is `valid`.
+/// Writes the verdict line of a reader's bytes up to the end of input, as `check_stream` does, and after the line of a
+/// fault further lines that explain it, each `KEY: TEXT`; and answers whether the line is `valid`.
 ///
 /// `W1`: a read or a write failed. After a failed read nothing was written, after a failed write a beginning of the
-/// lines. `W9`: a growth of memory was refused, and nothing was written. There is no other error: W2 to W8 are verdicts.
+/// lines. `W9`: a growth of memory was refused, and nothing was written. There is no other error: W2 to W8 are
+/// verdicts.
 pub fn explain_stream<R: Source, W: Sink>(
     alloc: Global,
     table: &Table,
@@ -257,15 +261,18 @@ pub fn explain_stream<R: Source, W: Sink>(
     w: &mut W,
 ) -> Result<bool, WordError>
     // The writer has got the verdict line of all the bytes that the reader still gave, and lines that explain it.
-    ensures explained { IfSome (R.remaining r.old) (λ bytes. IfSome (W.contents w.old) (λ old. IfOk result (λ answer. Explains table.now bytes old (W.contents w.new) answer))) }
+    ensures explained { OfKnown (R.remaining r.old) (W.contents w.old)
+        (λ bytes old. IfOk result (λ answer. Explains table.now bytes old (W.contents w.new) answer)) }
     // The answer is W1 exactly where a read or a write failed.
-    ensures count { ((R.failures r.new ≢ R.failures r.old) ⊎ (W.failures w.new ≢ W.failures w.old)) ↔ IsErrOf result W1 }
+    ensures count { (Failed R.failures r.old r.new ⊎ Failed W.failures w.old w.new) ↔ IsErrOf result W1 }
     ensures only { IfErr result (λ e. (e ≡ W1) ⊎ (e ≡ W9)) }
     // After a failed read, or for want of memory, the writer is as it was.
-    ensures read { R.failures r.new ≢ R.failures r.old → w.new ≡ w.old }
+    ensures read { Failed R.failures r.old r.new → w.new ≡ w.old }
     ensures memory { IsErrOf result W9 → w.new ≡ w.old }
     // After a failed write it has got a beginning of the lines.
-    ensures begun { W.failures w.new ≢ W.failures w.old → IfSome (R.remaining r.old) (λ bytes. IfSome (W.contents w.old) (λ old. BeginsExplaining table.now bytes old (W.contents w.new))) }
+    ensures begun { Failed W.failures w.old w.new
+        → OfKnown (R.remaining r.old) (W.contents w.old)
+        (λ bytes old. BeginsExplaining table.now bytes old (W.contents w.new)) }
 {
     let told = told_on(alloc, table, r)?;
     let bytes = match told.bytes(alloc) {

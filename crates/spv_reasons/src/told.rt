@@ -146,7 +146,8 @@ fn defined_lines(
     operand: u32,
     place: u32,
 ) -> Result<(), AllocError>
-    ensures { OnOk result (Adds (operand_line (plain_insts about.entry.«module».now) inst operand ∷ inst_begin (codes "defined") place ∷ []) (string_bytes out.old) (string_bytes out.new)) }
+    ensures { OnOk result (Adds (operand_line (plain_insts about.entry.«module».now) inst operand ∷ inst_begin
+        (codes "defined") place ∷ []) (string_bytes out.old) (string_bytes out.new)) }
 {
     about.operand_line(out, inst, operand)?;
     about.inst_line(out, "defined", place)
@@ -161,7 +162,8 @@ fn local_lines(
     place: u32,
     function: u32,
 ) -> Result<(), AllocError>
-    ensures { OnOk result (Adds (told_of (plain_insts about.entry.«module».now) inst (evidence.Local operand place function)) (string_bytes out.old) (string_bytes out.new)) }
+    ensures { OnOk result (Adds (told_of (plain_insts about.entry.«module».now) inst
+        (evidence.Local operand place function)) (string_bytes out.old) (string_bytes out.new)) }
 {
     defined_lines(about, out, inst, operand, place)?;
     about.results_line(out, "local to", &[function])
@@ -176,7 +178,8 @@ fn miscast_lines(
     role: Role,
     place: u32,
 ) -> Result<(), AllocError>
-    ensures { OnOk result (Adds (told_of (plain_insts about.entry.«module».now) inst (evidence.Miscast operand role place)) (string_bytes out.old) (string_bytes out.new)) }
+    ensures { OnOk result (Adds (told_of (plain_insts about.entry.«module».now) inst
+        (evidence.Miscast operand role place)) (string_bytes out.old) (string_bytes out.new)) }
 {
     about.operand_line(out, inst, operand)?;
     text_line(out, "role", role_name(role))?;
@@ -192,7 +195,9 @@ fn walk_lines(
     place: u32,
     walk: &[u32],
 ) -> Result<(), AllocError>
-    ensures { OnOk result (Adds (operand_line (plain_insts about.entry.«module».now) inst operand ∷ inst_begin (codes "defined") place ∷ results_line (plain_insts about.entry.«module».now) (codes "walk") walk.now ∷ []) (string_bytes out.old) (string_bytes out.new)) }
+    ensures { OnOk result (Adds (operand_line (plain_insts about.entry.«module».now) inst operand ∷ inst_begin
+        (codes "defined") place ∷ results_line (plain_insts about.entry.«module».now) (codes "walk") walk.now
+        ∷ []) (string_bytes out.old) (string_bytes out.new)) }
 {
     defined_lines(about, out, inst, operand, place)?;
     about.results_line(out, "walk", walk)
@@ -217,7 +222,8 @@ fn may_come_line(
 
 /// Adds the line of a cycle, which begins with the caller.
 fn cycle_line(about: About<'_, '_>, out: &mut String, cycle: &[u32]) -> Result<(), AllocError>
-    ensures { OnOk result (string_bytes out.new ≡ string_bytes out.old ++ lines.cycle_line (plain_insts about.entry.«module».now) cycle.now) }
+    ensures { OnOk result (string_bytes out.new ≡ string_bytes out.old ++ lines.cycle_line
+        (plain_insts about.entry.«module».now) cycle.now) }
 {
     out.push_str("cycle:")?;
     let caller = cycle.len().saturating_sub(1);
@@ -233,7 +239,9 @@ fn cycle_lines(
     calls: &[u32],
     cycle: &[u32],
 ) -> Result<(), AllocError>
-    ensures { OnOk result (Adds (results_line (plain_insts about.entry.«module».now) (codes "calls") calls.now ∷ lines.cycle_line (plain_insts about.entry.«module».now) cycle.now ∷ []) (string_bytes out.old) (string_bytes out.new)) }
+    ensures { OnOk result (Adds (results_line (plain_insts about.entry.«module».now) (codes "calls") calls.now
+        ∷ lines.cycle_line (plain_insts about.entry.«module».now) cycle.now ∷ []) (string_bytes out.old)
+        (string_bytes out.new)) }
 {
     about.results_line(out, "calls", calls)?;
     cycle_line(about, out, cycle)
@@ -324,7 +332,8 @@ pub fn evidence_lines(
     inst: u32,
     evidence: &Evidence,
 ) -> Result<(), AllocError>
-    ensures { OnOk result (Adds (told_of (plain_insts about.entry.«module».now) inst evidence.now) (string_bytes out.old) (string_bytes out.new)) }
+    ensures { OnOk result (Adds (told_of (plain_insts about.entry.«module».now) inst evidence.now)
+        (string_bytes out.old) (string_bytes out.new)) }
 {
     match evidence {
         Evidence::Opcode { opcode } => opcode_line(about, out, *opcode),

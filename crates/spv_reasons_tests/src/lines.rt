@@ -11,8 +11,8 @@ use spv_words::{FromRead, FromWrite};
 use std::alloc::Global;
 use std::test::Fail;
 
-/// What is written of the words of a module, and what is answered: the call by itself, so that no caller has to carry what it
-/// promises.
+/// What is written of the words of a module, and what is answered: the call by itself, so that no caller has to carry
+/// what it promises.
 fn written(alloc: Global, words: &str) -> Result<(Vec<u8>, bool), Fail> {
     let table = Table::from_slice(alloc, PROFILE.as_bytes())?;
     let image = image_of(alloc, words)?;

@@ -9,14 +9,14 @@ use Rattle.spv_layout.specs.declared.form.Role.{Role}
 use Rattle.spv_layout.specs.declared.form.Role.TheVariants as role
 use Rattle.spv_layout.specs.declared.form.Form.{Form}
 use Rattle.spv_layout.specs.declared.form.Form.TheVariants as form
-use Rattle.spv_layout.specs.Row.{PlainRow, Ending, closed, maybe, file_and_text, repeated, others, maybe_others, has_masks, name_of, row_in}
+use Rattle.spv_layout.specs.Row.{PlainRow, RowEnding, closed, maybe, file_and_text, repeated, others, maybe_others, has_masks, name_of, row_in}
 use Rattle.spv_layout.specs.Rows.{rows}
-use Rattle.spv_layout.specs.Shape.{is_of, AreOf, Ends, HasForms, Fits, role_of, id_of}
+use Rattle.spv_layout.specs.Shape.{is_of, AreOf, Ends, HasForms, FitsShape, role_of, id_of}
 use Rattle.spv_ops.proofs.Opcodes.{both, and_yes, all_pass, one_passes}
 use Rattle.spv_roles.specs.declared.asked.Asked.{Asked}
-use Rattle.spv_roles.specs.Asked.{asked_of, IsPlayed, due_after, next_after, ArePlayed, IsOneMiscast}
+use Rattle.spv_roles.specs.inner.Asked.{asked_of, IsPlayed, due_after, next_after, ArePlayed, IsOneMiscast}
 use Rattle.spv_roles.specs.Role.{Plays}
-use Rattle.spv_roles.specs.Known.{AreInRoleBefore, HasMiscast}
+use Rattle.spv_roles.specs.inner.Known.{AreInRoleBefore, HasMiscast}
 
 -- Tests of forms against roles that are due.
 
@@ -303,7 +303,7 @@ abbrev all_plain : Role → Role → List Form → Bool
 all_plain d r [] = true
 all_plain d r (f ∷ fs) = (stays f && (fits f d && fits f r)) && all_plain d r fs
 
-abbrev asks_ending : Role → Role → Role → Ending → Bool
+abbrev asks_ending : Role → Role → Role → RowEnding → Bool
 asks_ending d r l closed = true
 asks_ending d r l (maybe f) = all_plain d r (f ∷ [])
 asks_ending d r l file_and_text = false
@@ -311,7 +311,7 @@ asks_ending d r l (repeated fs) = all_plain d r fs
 asks_ending d r l others = are_free d r l
 asks_ending d r l (maybe_others f) = not (is_other f) && (fits f d && are_free (due_by d r l f) (next_by r l f) l)
 
-abbrev asks_row : Role → Role → Role → List Form → Ending → Bool
+abbrev asks_row : Role → Role → Role → List Form → RowEnding → Bool
 asks_row d r l [] e = asks_ending d r l e
 asks_row d r l (f ∷ fs) e = not (is_other f) && (fits f d && asks_row (due_by d r l f) (next_by r l f) l fs e)
 
@@ -368,7 +368,7 @@ free_asks d r l (g ∷ gs) h k =
     let two = both (is_other g) (are_others gs) k in
     rw two.0 (and_yes (are_free d r l) (are_others gs) h two.1)
 
-ending_asks : (d r l : Role) (e : Ending) (gs : List Form) → asks_ending d r l e ≡ true → Ends e gs → asks d r l gs ≡ true
+ending_asks : (d r l : Role) (e : RowEnding) (gs : List Form) → asks_ending d r l e ≡ true → Ends e gs → asks d r l gs ≡ true
 ending_asks d r l closed gs h Ends.nothing = refl
 ending_asks d r l (maybe f) gs h (Ends.absent _) = refl
 ending_asks d r l (maybe f) gs h (Ends.present _) = (plain_asks d r l (f ∷ []) h).0
@@ -381,15 +381,15 @@ ending_asks d r l (maybe_others f) gs h (Ends.kind _ hs e) =
     let more = both (fits f d) (are_free (due_by d r l f) (next_by r l f) l) two.1 in
     one_more d r l f hs (not_true (is_other f) two.0) more.0 (free_asks (due_by d r l f) (next_by r l f) l hs more.1 (others_only hs e))
 
-row_asks : (d r l : Role) (fs : List Form) (e : Ending) (gs : List Form) → asks_row d r l fs e ≡ true → Ends e gs → asks d r l (fs ++ gs) ≡ true
+row_asks : (d r l : Role) (fs : List Form) (e : RowEnding) (gs : List Form) → asks_row d r l fs e ≡ true → Ends e gs → asks d r l (fs ++ gs) ≡ true
 row_asks d r l [] e gs h n = ending_asks d r l e gs h n
 row_asks d r l (f ∷ fs) e gs h n =
     let two = both (not (is_other f)) (fits f d && asks_row (due_by d r l f) (next_by r l f) l fs e) h in
     let more = both (fits f d) (asks_row (due_by d r l f) (next_by r l f) l fs e) two.1 in
     one_more d r l f (fs ++ gs) (not_true (is_other f) two.0) more.0 (row_asks (due_by d r l f) (next_by r l f) l fs e gs more.1 n)
 
--- The test of all rows of table A, opcode by opcode.
-abbrev asks_by : Option Asked → List Form → Ending → Bool
+-- The test of all rows of the table of shapes, opcode by opcode.
+abbrev asks_by : Option Asked → List Form → RowEnding → Bool
 asks_by None fs e = true
 asks_by (Some a) fs e = asks_row a.first a.others a.masked fs e
 
@@ -400,7 +400,7 @@ all_fit : all_pass asks_in rows ≡ true
 unfolding rows
 all_fit = refl
 
-told : (n : ℕ) (a : Asked) (fs : List Form) (e : Ending) → asked_of n ≡ Some a → asks_by (asked_of n) fs e ≡ true → asks_row a.first a.others a.masked fs e ≡ true
+told : (n : ℕ) (a : Asked) (fs : List Form) (e : RowEnding) → asked_of n ≡ Some a → asks_by (asked_of n) fs e ≡ true → asks_row a.first a.others a.masked fs e ≡ true
 told n a fs e k h = subst (λ (o : Option Asked). asks_by o fs e ≡ true) k h
 
 forms_ask : (G : Table) (i : PlainInst) (fs : List Form) (a : Asked) → asked_of i.opcode ≡ Some a → HasForms G i fs → asks a.first a.others a.masked fs ≡ true
@@ -411,7 +411,7 @@ forms_ask G i fs a k has =
     rw e (row_asks a.first a.others a.masked has.row.fixed has.row.ending has.rest h has.ending)
 
 -- The code's answer is that of the shape.
-pub judged : (G : Table) (is : List PlainInst) (i : PlainInst) (a : Asked) (to : ℕ) (b : Bool) → asked_of i.opcode ≡ Some a → Fits G i
+pub judged : (G : Table) (is : List PlainInst) (i : PlainInst) (a : Asked) (to : ℕ) (b : Bool) → asked_of i.opcode ≡ Some a → FitsShape G i
     → MatchBool b (ArePlayed is a.first a.others a.masked i.operands) (IsOneMiscast is a.first a.others a.masked i.operands) → MatchBool b (AreInRoleBefore G is i to) (HasMiscast G is i)
 judged G is i a to true k f p = record {
   each = λ n l x q u.

@@ -17,10 +17,10 @@ use Rattle.spv_layout.specs.declared.form.Form.TheVariants as form
 use Rattle.spv_layout.specs.First.{IsFirst, IsUnbroken, rank_of}
 use Rattle.spv_layout.specs.Shape.{is_of, AreOf, role_of, id_of, IsUse, IsRole}
 use Rattle.spv_layout.proofs.Shapes.{use_same}
-use Rattle.spv_ids.specs.Uses.{used_id}
+use Rattle.spv_ids.specs.inner.Uses.{used_id}
 use Rattle.spv_roles.specs.Role.{Plays}
 use Rattle.spv_roles.specs.Broken.{Broken}
-use Rattle.spv_roles.specs.Known.{IsInRole, IsMiscast, AreInRoleBefore, HasMiscast, AreInRoleUpTo, uses_nothing}
+use Rattle.spv_roles.specs.inner.Known.{IsInRole, IsMiscast, AreInRoleBefore, HasMiscast, AreInRoleUpTo, uses_nothing}
 use Rattle.spv_roles.specs.Outcome.{AreInRole}
 
 form_at : (G : Table) (fs : List Form) (os : List Plain) (n : ℕ) (f : Form) (o : Plain) → AreOf G fs os → slice_get fs n ≡ Some f → slice_get os n ≡ Some o → is_of G f o ≡ true

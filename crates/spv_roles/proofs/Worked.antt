@@ -13,12 +13,12 @@ use Rattle.spv_layout.specs.Row.{row, closed}
 use Rattle.spv_layout.specs.Rows.{rows}
 use Rattle.spv_layout.specs.Shape.{HasForms, IsUse, AreOf, Ends}
 use Rattle.spv_ids.specs.Definition.{IsUsedAt}
-use Rattle.spv_ops.specs.Example.{inst}
+use Rattle.spv_type_forms.specs.Example.{inst}
 use Rattle.spv_roles.specs.declared.asked.Asked.{Asked}
-use Rattle.spv_roles.specs.Asked.{asked_of, ArePlayed}
+use Rattle.spv_roles.specs.inner.Asked.{asked_of, ArePlayed}
 use Rattle.spv_roles.specs.Broken.{Broken}
 use Rattle.spv_roles.specs.Example.{few, stray, typed}
-use Rattle.spv_roles.specs.Known.{IsMiscast}
+use Rattle.spv_roles.specs.inner.Known.{IsMiscast}
 use Rattle.spv_roles.specs.Outcome.{AreInRole, IsRefusal}
 use Rattle.spv_roles.specs.Role.{Plays}
 use Rattle.spv_roles.proofs.Asking.{judged}

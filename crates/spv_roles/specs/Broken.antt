@@ -8,7 +8,7 @@ use Rattle.spv_layout.specs.declared.form.Role.{Role}
 use Rattle.spv_ids.specs.Definition.{IsUsedAt}
 use Rattle.spv_roles.specs.Role.{Plays}
 
--- The rule is broken at the instruction of that number.
+-- The rule is broken at the instruction of that number. [own]
 pub data Broken (G : Table) (is : List PlainInst) : Rule → ℕ → Type 0 where
   -- a use of an id that does not play the role that the shape asks for
   miscast : (n k x : ℕ) (r : Role) → IsUsedAt G is n k x r → ¬ (Plays is r x) → Broken G is Y1 n

@@ -1,7 +1,7 @@
 -- Small examples.
 use Rattle.std.specs.Prelude.{List, [], ◌∷◌}
 use Rattle.spv_module.specs.Operand.{OfType, Result, PlainInst}
-use Rattle.spv_ops.specs.Example.{inst}
+use Rattle.spv_type_forms.specs.Example.{inst}
 
 -- %1 = OpTypeVoid, %2 = OpUndef %1, %3 = OpFunction %1 .., %4 = OpString ..
 abbrev pub few : List PlainInst

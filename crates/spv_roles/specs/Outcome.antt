@@ -10,7 +10,7 @@ use Rattle.spv_ids.specs.Definition.{IsUsedAt}
 use Rattle.spv_roles.specs.Role.{Plays}
 use Rattle.spv_roles.specs.Broken.{Broken}
 
--- Each id that is used plays the role that the shape asks for.
+-- Each id that is used plays the role that the shape asks for. [own]
 pub record AreInRole (G : Table) (is : List PlainInst) : Type 0 where
   pub each : (n k x : ℕ) (r : Role) → IsUsedAt G is n k x r → Plays is r x
 

@@ -1,7 +1,7 @@
 //! Which roles an instruction asks its ids to play, by its opcode.
 
 ghost use Rattle.std.specs.Prelude.{◌≡◌};
-ghost use Rattle.spv_roles.specs.Asked as spec;
+ghost use Rattle.spv_roles.specs.inner.Asked as spec;
 
 use spv_layout::Role;
 
@@ -71,14 +71,15 @@ fn late(opcode: u16) -> Option<Asked>
     }
 }
 
-/// The roles that an opcode's row of the table of shapes asks for. None for OpSource and OpPhi, whose ids are not told so.
+/// The roles that an opcode's row of the table of shapes asks for. None for OpSource and OpPhi, whose ids are not told
+/// so.
 #[inline(always)]
 pub fn asked_of(opcode: u16) -> Option<Asked>
     ensures { result ≡ spec.asked_of opcode }
 {
     match opcode {
-        // Memory, composites, conversions, arithmetic, comparisons, bits, barriers and atomics: values, and anything after the
-        // mask of a memory access.
+        // Memory, composites, conversions, arithmetic, comparisons, bits, barriers and atomics: values, and anything
+        // after the mask of a memory access.
         109..=200 | 61..=70 | 77..=83 | 224..=242 => ask(Role::Value, Role::Value, Role::Any),
         0..=60 => early(opcode),
         _ => late(opcode),

@@ -1,17 +1,18 @@
-ghost use Rattle.std.specs.Prelude.{◌≡◌, ◌+◌, ◌≤◌, ◌<◌, ℕ, List, length, slice_get, sum_by, Some, OnOk, IfErr, MatchBool};
+ghost use Rattle.std.specs.Prelude.{◌≡◌, ◌+◌, ◌≤◌, ◌<◌, ℕ, List, length, slice_get, sum_by, Some};
+ghost use Rattle.std.specs.Prelude.{OnOk, IfErr, MatchBool};
 ghost use Rattle.spv_table.specs.Table.{Table};
 ghost use Rattle.spv_module.specs.Operand.{PlainInst};
 ghost use Rattle.spv_module.specs.Module.{plain_inst, plain_insts, plain_operand, plain_operands};
-ghost use Rattle.spv_ids.specs.Uses as uses;
+ghost use Rattle.spv_ids.specs.inner.Uses as uses;
 ghost use Rattle.spv_layout.specs.First.{IsUnbroken};
 ghost use Rattle.spv_layout.specs.Place.{word_count};
 ghost use Rattle.spv_layout.specs.Plan.{IsPlan};
-ghost use Rattle.spv_layout.specs.Shape.{Fits};
+ghost use Rattle.spv_layout.specs.Shape.{FitsShape};
 ghost use Rattle.spv_ids.specs.Outcome.{IsDefinitionOf, definition_in};
-ghost use Rattle.spv_roles.specs.Asked.{ArePlayed, IsOneMiscast};
+ghost use Rattle.spv_roles.specs.inner.Asked.{ArePlayed, IsOneMiscast};
 ghost use Rattle.spv_roles.specs.Broken.{Broken};
-ghost use Rattle.spv_roles.specs.Known as known;
-ghost use Rattle.spv_roles.specs.Known.{IsInRole, IsMiscast, AreInRoleBefore, HasMiscast};
+ghost use Rattle.spv_roles.specs.inner.Known as known;
+ghost use Rattle.spv_roles.specs.inner.Known.{IsInRole, IsMiscast, AreInRoleBefore, HasMiscast};
 ghost use Rattle.spv_roles.specs.Outcome.{AreInRole, IsRefusal};
 
 use crate::asked::{Asked, asked_of};
@@ -36,8 +37,9 @@ pub fn used_id(operand: Operand<'_>) -> Option<u32>
 /// Whether operand `k` of an instruction is no use, or a use of an id in its role.
 #[inline(always)]
 fn is_in_role(definitions: &Definitions<'_, '_>, inst: &Inst<'_>, k: usize) -> bool
-    ensures { (G : Table) → Fits G (plain_inst inst.now)
-        → MatchBool result (IsInRole G definitions.now (plain_inst inst.now) k) (IsMiscast G definitions.now (plain_inst inst.now) k) }
+    ensures { (G : Table) → FitsShape G (plain_inst inst.now)
+        → MatchBool result (IsInRole G definitions.now (plain_inst inst.now) k)
+        (IsMiscast G definitions.now (plain_inst inst.now) k) }
 {
     let Some(operand) = inst.operands.as_slice().get(k) else {
         return true;
@@ -53,8 +55,9 @@ fn is_in_role(definitions: &Definitions<'_, '_>, inst: &Inst<'_>, k: usize) -> b
 
 /// Whether all uses of an instruction are in their roles, operand by operand.
 fn each_in_role(definitions: &Definitions<'_, '_>, inst: &Inst<'_>) -> bool
-    ensures { (G : Table) → Fits G (plain_inst inst.now)
-        → MatchBool result (AreInRoleBefore G definitions.now (plain_inst inst.now) (length inst.now.operands)) (HasMiscast G definitions.now (plain_inst inst.now)) }
+    ensures { (G : Table) → FitsShape G (plain_inst inst.now)
+        → MatchBool result (AreInRoleBefore G definitions.now (plain_inst inst.now) (length inst.now.operands))
+        (HasMiscast G definitions.now (plain_inst inst.now)) }
 {
     for k in 0..inst.operands.as_slice().len() {
         if !is_in_role(definitions, inst, k) {
@@ -66,7 +69,8 @@ fn each_in_role(definitions: &Definitions<'_, '_>, inst: &Inst<'_>) -> bool
 
 /// Whether types are types, and ids play the roles that are asked for, operand by operand.
 fn each_played(definitions: &Definitions<'_, '_>, asked: Asked, operands: &[Operand<'_>]) -> bool
-    ensures { MatchBool result (ArePlayed definitions.now asked.first asked.others asked.masked (plain_operands operands.now))
+    ensures { MatchBool result (ArePlayed definitions.now asked.first asked.others asked.masked
+        (plain_operands operands.now))
         (IsOneMiscast definitions.now asked.first asked.others asked.masked (plain_operands operands.now)) }
 {
     let mut due = asked.first;
@@ -92,11 +96,12 @@ fn each_played(definitions: &Definitions<'_, '_>, asked: Asked, operands: &[Oper
     true
 }
 
-/// Whether types are types, and ids play the roles that are asked for. Operands of which one or two are looked at stand first: a
-/// result of one id, a function, a label, and a condition before two labels.
+/// Whether types are types, and ids play the roles that are asked for. Operands of which one or two are looked at stand
+/// first: a result of one id, a function, a label, and a condition before two labels.
 #[inline(always)]
 fn are_few_played(definitions: &Definitions<'_, '_>, asked: Asked, operands: &[Operand<'_>]) -> bool
-    ensures { MatchBool result (ArePlayed definitions.now asked.first asked.others asked.masked (plain_operands operands.now))
+    ensures { MatchBool result (ArePlayed definitions.now asked.first asked.others asked.masked
+        (plain_operands operands.now))
         (IsOneMiscast definitions.now asked.first asked.others asked.masked (plain_operands operands.now)) }
 {
     match (asked.first, asked.others, operands) {
@@ -126,11 +131,12 @@ fn are_few_played(definitions: &Definitions<'_, '_>, asked: Asked, operands: &[O
     }
 }
 
-/// Whether types are types, and ids play the roles that are asked for. Operands as they mostly stand are looked at first: a result
-/// of two values, and two values before a memory access of one literal.
+/// Whether types are types, and ids play the roles that are asked for. Operands as they mostly stand are looked at
+/// first: a result of two values, and two values before a memory access of one literal.
 #[inline(always)]
 fn are_played(definitions: &Definitions<'_, '_>, asked: Asked, operands: &[Operand<'_>]) -> bool
-    ensures { MatchBool result (ArePlayed definitions.now asked.first asked.others asked.masked (plain_operands operands.now))
+    ensures { MatchBool result (ArePlayed definitions.now asked.first asked.others asked.masked
+        (plain_operands operands.now))
         (IsOneMiscast definitions.now asked.first asked.others asked.masked (plain_operands operands.now)) }
 {
     match (asked.first, asked.others, operands) {
@@ -172,8 +178,9 @@ fn uses_nothing(operands: &[Operand<'_>]) -> bool
 
 /// Whether all uses of an instruction are in their roles.
 fn are_in_role(definitions: &Definitions<'_, '_>, inst: &Inst<'_>) -> bool
-    ensures { (G : Table) → Fits G (plain_inst inst.now)
-        → MatchBool result (AreInRoleBefore G definitions.now (plain_inst inst.now) (length inst.now.operands)) (HasMiscast G definitions.now (plain_inst inst.now)) }
+    ensures { (G : Table) → FitsShape G (plain_inst inst.now)
+        → MatchBool result (AreInRoleBefore G definitions.now (plain_inst inst.now) (length inst.now.operands))
+        (HasMiscast G definitions.now (plain_inst inst.now)) }
 {
     let operands = inst.operands.as_slice();
     if uses_nothing(operands) {
@@ -185,24 +192,27 @@ fn are_in_role(definitions: &Definitions<'_, '_>, inst: &Inst<'_>) -> bool
     }
 }
 
-/// Whether each use of a module is of an id that plays the role which the use's shape asks for (own; SPIR-V Specification 1.6,
-/// sections 2.2.1 and 2.16): a type declaration, a value (an instruction with a result type, other than OpFunction), an
-/// OpFunction, an OpString, an OpExtInstImport, or an OpVariable outside functions. `plan` and `ids` are what `lay_out` and
-/// `number` answered of that module.
+/// Whether each use of a module is of an id that plays the role which the use's shape asks for (own; SPIR-V
+/// Specification 1.6, sections 2.2.1 and 2.16): a type declaration, a value (an instruction with a result type, other
+/// than OpFunction), an OpFunction, an OpString, an OpExtInstImport, or an OpVariable outside functions. `plan` and
+/// `ids` are what `lay_out` and `number` answered of that module.
 ///
 /// Time is linear in the words of the module. It takes no memory.
 ///
-/// A `Fault` tells Y1 at the first instruction with a use that is not in its role, and that instruction's first word (words and
-/// instructions from 0).
+/// A `Fault` tells Y1 at the first instruction with a use that is not in its role, and that instruction's first word
+/// (words and instructions from 0).
 pub fn roles_check(module: &Module<'_>, plan: &Plan, ids: &Ids) -> Result<(), Fault>
     // The condition of `lay_out`, and that the plan and the ids are what was answered of the module.
     requires words { 5 + sum_by word_count (plain_insts «module».now) ≤ 4194304 }
     requires plan { (G : Table) × IsPlan G (plain_insts «module».now) plan.now }
     requires ids { (x : ℕ) → IsDefinitionOf (plain_insts «module».now) x (definition_in ids.now x) }
     // Each use is in its role, so the rule is broken nowhere.
-    ensures roles { (G : Table) → IsPlan G (plain_insts «module».now) plan.now → OnOk result (AreInRole G (plain_insts «module».now)) }
-    ensures unbroken { (G : Table) → IsPlan G (plain_insts «module».now) plan.now → OnOk result (IsUnbroken (Broken G (plain_insts «module».now)) 4) }
-    ensures refused { (G : Table) → IsPlan G (plain_insts «module».now) plan.now → IfErr result (λ f. IsRefusal G (plain_insts «module».now) f) }
+    ensures roles { (G : Table) → IsPlan G (plain_insts «module».now) plan.now
+        → OnOk result (AreInRole G (plain_insts «module».now)) }
+    ensures unbroken { (G : Table) → IsPlan G (plain_insts «module».now) plan.now
+        → OnOk result (IsUnbroken (Broken G (plain_insts «module».now)) 4) }
+    ensures refused { (G : Table) → IsPlan G (plain_insts «module».now) plan.now
+        → IfErr result (λ f. IsRefusal G (plain_insts «module».now) f) }
 {
     let insts = module.insts.as_slice();
     let definitions = Definitions::new(insts, plan, ids);

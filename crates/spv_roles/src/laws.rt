@@ -9,7 +9,7 @@ ghost use Rattle.spv_roles.specs.Broken.{Broken};
 ghost use Rattle.spv_roles.specs.Outcome.{AreInRole, IsRefusal};
 ghost use Rattle.spv_roles.specs.Role.{Plays};
 ghost use Rattle.spv_roles.specs.Example.{few, stray, typed, with_set};
-ghost use Rattle.spv_ops.specs.Example.{lone_variable};
+ghost use Rattle.spv_type_forms.specs.Example.{lone_variable};
 ghost use Rattle.spv_module.specs.declared.fault.Rule.TheVariants.{Y1};
 
 /// Where each id that is used plays its role, Y1 is broken nowhere.

@@ -2,7 +2,7 @@ ghost use Rattle.std.specs.Prelude.{◌≡◌, ◌↔◌, ◌⊎◌, IsTrue, IsS
 ghost use Rattle.spv_module.specs.Module.{plain_inst};
 ghost use Rattle.spv_module.specs.Width.{definition_of};
 ghost use Rattle.spv_layout.specs.declared.form.Role.TheVariants as role;
-ghost use Rattle.spv_roles.specs.Role.{IsTypeDeclaration, IsValue, HasOpcode, Plays};
+ghost use Rattle.spv_roles.specs.Role.{IsTypeDeclaration, IsValue, IsOfOpcode, Plays};
 
 use spv_layout::Role;
 use spv_module::Inst;
@@ -42,7 +42,7 @@ fn is_type(inst: &Inst<'_>) -> bool
 /// Whether the definition of an id has an opcode.
 #[inline(always)]
 fn has_opcode(definitions: &Definitions<'_, '_>, id: u32, opcode: u16) -> bool
-    ensures { IsTrue result ↔ IsSomeAnd (definition_of definitions.now id) (HasOpcode opcode) }
+    ensures { IsTrue result ↔ IsSomeAnd (definition_of definitions.now id) (IsOfOpcode opcode) }
 {
     match definitions.definition(id) {
         Some(inst) => inst.opcode == opcode,
@@ -75,7 +75,8 @@ fn defines_value(definitions: &Definitions<'_, '_>, id: u32) -> bool
 /// Whether the definitions of two ids are values.
 #[inline(always)]
 pub fn are_values(definitions: &Definitions<'_, '_>, a: u32, b: u32) -> bool
-    ensures { MatchBool result (Plays definitions.now role.Value a × Plays definitions.now role.Value b) ((¬ (Plays definitions.now role.Value a)) ⊎ (¬ (Plays definitions.now role.Value b))) }
+    ensures { MatchBool result (Plays definitions.now role.Value a × Plays definitions.now role.Value b)
+        ((¬ (Plays definitions.now role.Value a)) ⊎ (¬ (Plays definitions.now role.Value b))) }
 {
     if !defines_value(definitions, a) {
         return false;
@@ -102,7 +103,8 @@ pub fn plays(definitions: &Definitions<'_, '_>, role: Role, id: u32) -> bool
 /// Whether an id is that of a type, and another plays a role.
 #[inline(always)]
 pub fn are_type_and(definitions: &Definitions<'_, '_>, t: u32, due: Role, x: u32) -> bool
-    ensures { MatchBool result (Plays definitions.now role.OfType t × Plays definitions.now due x) ((¬ (Plays definitions.now role.OfType t)) ⊎ (¬ (Plays definitions.now due x))) }
+    ensures { MatchBool result (Plays definitions.now role.OfType t × Plays definitions.now due x)
+        ((¬ (Plays definitions.now role.OfType t)) ⊎ (¬ (Plays definitions.now due x))) }
 {
     if !defines_type(definitions, t) {
         return false;

@@ -11,7 +11,8 @@ use Rattle.spv_branches.specs.Ready.{IsLocalValue}
 use Rattle.spv_calls.specs.Chain.{Chain}
 use Rattle.spv_calls.specs.Calls.{Calls, IsEntryFunction}
 use Rattle.spv_run.specs.Act.{Act, act_of}
-use Rattle.spv_run.specs.At.{act_at, targets}
+use Rattle.spv_run.specs.At.{act_at}
+use Rattle.spv_run.specs.inner.At.{targets}
 use Rattle.spv_run.specs.Head.{Binding, IsDefined}
 use Rattle.spv_run.proofs.Place.{IsOf, IsLabel}
 use Rattle.spv_run.proofs.Fit.{AllFit, HasOneDefinition}

@@ -11,12 +11,12 @@ use Rattle.spv_layout.specs.declared.class.Class.TheVariants as class
 use Rattle.spv_layout.specs.declared.form.Form.{Form}
 use Rattle.spv_layout.specs.declared.form.Form.TheVariants as form
 use Rattle.spv_layout.specs.Class.{is_among}
-use Rattle.spv_layout.specs.Row.{PlainRow, Ending, closed, repeated, row_in, W, N, l}
+use Rattle.spv_layout.specs.Row.{PlainRow, RowEnding, closed, repeated, row_in, W, N, l}
 use Rattle.spv_layout.specs.Rows.{rows, row_of, class_of, class_in}
-use Rattle.spv_layout.specs.Shape.{is_of, AreOf, Ends, Fits}
+use Rattle.spv_layout.specs.Shape.{is_of, AreOf, Ends, FitsShape}
 use Rattle.spv_run.specs.Act.{Act, Function, Parameter, FunctionEnd, Label, Phi, Branch, Choose, Call, Return, ReturnValue, Other, act_of}
 use Rattle.spv_run.specs.Act as act
-use Rattle.spv_run.specs.At.{goes_on, in_block}
+use Rattle.spv_run.specs.inner.At.{goes_on, in_block}
 use Rattle.spv_run.proofs.Shapes.{View, view, is_other}
 use Rattle.spv_run.proofs.Passing.{a_function, an_end, a_label, a_phi, of_head, a_terminator, of_block}
 
@@ -213,7 +213,7 @@ tests_view G i _ (View.unreachable e os) = tests_by (class_of i.opcode) class.Re
     (record { function = refl; over = refl; label = refl; phi = refl; head = λ e. cc; goes = refl; block = λ e. refl })
 tests_view G i _ (View.other e) = other_tests (class_of i.opcode) (apart_by i.opcode (row_of i.opcode) refl e)
 
-pub tests : (G : Table) (i : PlainInst) → Fits G i → Tests (class_of i.opcode) (act_of i)
+pub tests : (G : Table) (i : PlainInst) → FitsShape G i → Tests (class_of i.opcode) (act_of i)
 tests G i h = tests_view G i (act_of i) (view G i h)
 
 -- Operands without a result.
@@ -227,7 +227,7 @@ no_results : List Form → Bool
 no_results [] = true
 no_results (f ∷ fs) = not (is_result f) && no_results fs
 
-is_closed : Ending → Bool
+is_closed : RowEnding → Bool
 is_closed closed = true
 is_closed _ = false
 
@@ -274,7 +274,7 @@ rows_line : all_rows row_line rows ≡ true
 unfolding rows all_rows row_line no_results is_result is_closed
 rows_line = refl
 
-ends_closed : (e : Ending) (gs : List Form) → is_closed e ≡ true → Ends e gs → gs ≡ []
+ends_closed : (e : RowEnding) (gs : List Form) → is_closed e ≡ true → Ends e gs → gs ≡ []
 unfolding is_closed
 ends_closed _ _ c Ends.nothing = refl
 ends_closed _ _ c (Ends.absent f) = cc
@@ -290,7 +290,7 @@ ends_closed _ _ c (Ends.other gs r) = cc
 ends_closed _ _ c (Ends.no_kind f) = cc
 ends_closed _ _ c (Ends.kind f gs r) = cc
 
-pub line_result : (G : Table) (i : PlainInst) → Fits G i → is_among (class_of i.opcode) (class.Line ∷ []) ≡ true → result_in i.operands ≡ None
+pub line_result : (G : Table) (i : PlainInst) → FitsShape G i → is_among (class_of i.opcode) (class.Line ∷ []) ≡ true → result_in i.operands ≡ None
 unfolding row_line
 line_result G i h c =
     let s = h.has in

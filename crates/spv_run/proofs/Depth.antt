@@ -9,7 +9,7 @@ use Rattle.spv_calls.specs.Calls.{function_call, Calls, IsEntryFunction}
 use Rattle.spv_layout.specs.Place.{IsDefinition}
 use Rattle.spv_run.specs.Act.{Act, act_of}
 use Rattle.spv_run.specs.Act as act
-use Rattle.spv_run.specs.Definitions.{HasDefinitions}
+use Rattle.spv_run.specs.Definitions.{AreDefinitions}
 use Rattle.spv_run.proofs.Checked.{IsChecked}
 use Rattle.spv_run.proofs.Basics.{act_back}
 use Rattle.spv_run.proofs.Shapes.{View, view}
@@ -132,7 +132,7 @@ pigeonhole (x ∷ xs) ds a h =
     let s = shorter x ds (h x (inl refl)) in
     omega arith
 
-all_listed : (G : Table) (is : List PlainInst) → IsChecked G is → (ds : List ℕ) → HasDefinitions is ds → (e : ℕ) (fr : Frame) (below : List Frame) → Stack is e fr below
+all_listed : (G : Table) (is : List PlainInst) → IsChecked G is → (ds : List ℕ) → AreDefinitions is ds → (e : ℕ) (fr : Frame) (below : List Frame) → Stack is e fr below
     → (x : ℕ) → Among x (functions (fr ∷ below)) → Among x ds
 all_listed G is ok ds has e fr [] k x a = elim a [
   | inl same ↦ subst (λ f. Among f ds) same (among fr.function ds (has fr.function (defines G is ok fr k.0)))
@@ -148,7 +148,7 @@ as_long [] = refl
 as_long (c ∷ below) = ap suc (as_long below)
 
 -- a frame has fewer frames below it than there are definitions
-pub shallow : (G : Table) (is : List PlainInst) → IsChecked G is → (ds : List ℕ) → HasDefinitions is ds → (e : ℕ) → IsEntryFunction is e → (fr : Frame) (below : List Frame) → Stack is e fr below
+pub shallow : (G : Table) (is : List PlainInst) → IsChecked G is → (ds : List ℕ) → AreDefinitions is ds → (e : ℕ) → IsEntryFunction is e → (fr : Frame) (below : List Frame) → Stack is e fr below
     → length below < length ds
 shallow G is ok ds has e entry fr below k =
     let h = pigeonhole (functions (fr ∷ below)) ds (not_again G is ok e entry fr below k) (all_listed G is ok ds has e fr below k) in

@@ -7,11 +7,11 @@ use Rattle.spv_module.specs.Operand.{Plain, PlainInst}
 use Rattle.spv_module.specs.Operand as operand
 use Rattle.spv_ids.specs.Definition.{IsDefinedAt}
 use Rattle.spv_calls.specs.Calls.{entry_point, IsEntryFunction}
-use Rattle.spv_calls.specs.Found.{id_in, entry_in}
+use Rattle.spv_calls.specs.inner.Found.{id_in, entry_in}
 use Rattle.spv_run.specs.Entry.{IsEntryId, IsOfRun}
 use Rattle.spv_run.specs.State.{State}
 use Rattle.spv_run.specs.Run.{IsStart, Run}
-use Rattle.spv_run.specs.Sound.{IsSound}
+use Rattle.spv_run.specs.Sound.{KeepsRules}
 use Rattle.spv_run.specs.Trace.{ending_of}
 use Rattle.spv_run.specs.declared.parts.Trace.{Trace}
 use Rattle.spv_module.specs.declared.fault.Rule.TheVariants as rule
@@ -72,12 +72,12 @@ pub entry_function : (is : List PlainInst) (x g : ℕ) → IsEntryId is x → Is
 entry_function is x g e d = record { place = e.place; inst = e.inst; there = e.there; opcode = e.opcode; id = x; named = e.named; function = d }
 
 -- and it has one
-pub entry_defined : (G : Table) (bound : ℕ) (is : List PlainInst) (x : ℕ) → IsSound G bound is → IsEntryId is x → (g : ℕ) × IsDefinedAt is x g
+pub entry_defined : (G : Table) (bound : ℕ) (is : List PlainInst) (x : ℕ) → KeepsRules G bound is → IsEntryId is x → (g : ℕ) × IsDefinedAt is x g
 entry_defined G bound is x sound e =
     let k = entry_of is e.inst.operands x e.named ((sound.capabilities rule.E2 e.place e.inst e.there).entry e.opcode) in
     (k.function, k.defined)
 
-pub of_run : (G : Table) (bound : ℕ) (is : List PlainInst) (g : ℕ) (choices : List ℕ) (limit : ℕ) (s : State) (t : Trace) → IsSound G bound is → IsEntryFunction is g → IsStart is g choices s
+pub of_run : (G : Table) (bound : ℕ) (is : List PlainInst) (g : ℕ) (choices : List ℕ) (limit : ℕ) (s : State) (t : Trace) → KeepsRules G bound is → IsEntryFunction is g → IsStart is g choices s
     → Run G is limit s t.steps.items (ending_of t.ending) → IsOfRun G is limit s t
 of_run G bound is g choices limit s t sound entry start run = record {
   run = run;

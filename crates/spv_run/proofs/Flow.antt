@@ -2,7 +2,8 @@
 use Rattle.std.specs.Prelude.{◌≡◌, ℕ, List, Some, Contains, slice_get}
 use Rattle.spv_module.specs.Operand.{PlainInst}
 use Rattle.spv_run.specs.Act.{Act, Phi, Pair, act_of}
-use Rattle.spv_run.specs.At.{act_at, result_at, targets, value_from}
+use Rattle.spv_run.specs.At.{act_at, result_at, value_from}
+use Rattle.spv_run.specs.inner.At.{targets}
 use Rattle.spv_run.proofs.Place.{IsIn, IsLocal, IsLabel}
 use Rattle.spv_run.proofs.Walk.{Walk, Defined, before_label, last_label}
 use Rattle.spv_run.specs.Row.{values_of}

@@ -5,7 +5,8 @@ use Rattle.std.proofs.lemmas.Bool.{cases_eq, cases_order}
 use Rattle.spv_module.specs.Operand.{PlainInst}
 use Rattle.spv_module.specs.Width.{type_of}
 use Rattle.spv_run.specs.Act.{Act, Function, FunctionEnd, Label}
-use Rattle.spv_run.specs.At.{act_at, result_at, type_at, targets, goes_on, in_block}
+use Rattle.spv_run.specs.At.{act_at, result_at, type_at}
+use Rattle.spv_run.specs.inner.At.{targets, goes_on, in_block}
 use Rattle.spv_run.specs.Head.{Binding, IsDefined}
 use Rattle.spv_run.proofs.Place.{IsOf, IsIn, IsLocalTo, IsLocal, IsLabel}
 use Rattle.spv_run.proofs.Walk.{follows, jumps, Walk, Defined, is_label, before_label, last_label}

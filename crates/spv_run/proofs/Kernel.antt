@@ -7,7 +7,7 @@ use Rattle.std.proofs.lemmas.Option.{none-some, same_Some}
 use Rattle.spv_table.specs.declared.table.Enumerant.{Enumerant}
 use Rattle.spv_table.specs.Table.{enumerant_of}
 use Rattle.spv_table.specs.Lookups.{number_named}
-use Rattle.spv_table.specs.Implied.{Lists, Chain, capabilities_in}
+use Rattle.spv_table.specs.Implied.{Lists, CapabilityChain, capabilities_in}
 use Rattle.spv_module.specs.Operand.{Plain, PlainInst, result_in}
 use Rattle.spv_module.specs.declared.fault.Rule.{Rule}
 use Rattle.spv_module.specs.declared.fault.Rule.TheVariants as rule
@@ -23,10 +23,10 @@ use Rattle.spv_layout.specs.Class.{is_among}
 use Rattle.spv_layout.specs.Example as layout
 use Rattle.spv_layout.specs.Layout.{IsLayout, classes}
 use Rattle.spv_layout.specs.Place.{IsAt, IsOfFunction, IsDefinition, IsOfSection}
-use Rattle.spv_layout.specs.Row.{Ending, row, closed, repeated}
+use Rattle.spv_layout.specs.Row.{RowEnding, row, closed, repeated}
 use Rattle.spv_layout.specs.Rows.{rows, row_of}
-use Rattle.spv_layout.specs.Shape.{Ends, HasForms, Fits, IsUse, role_of, id_of}
-use Rattle.spv_layout.specs.Test.{are_of}
+use Rattle.spv_layout.specs.Shape.{Ends, HasForms, FitsShape, IsUse, role_of, id_of}
+use Rattle.spv_layout.specs.inner.Test.{are_of}
 use Rattle.spv_layout.proofs.Layouts.{leads_end}
 use Rattle.spv_layout.proofs.Places.{section_same}
 use Rattle.spv_layout.proofs.Shapes.{forms_same}
@@ -50,7 +50,7 @@ use Rattle.spv_branches.specs.Broken as flow_rules
 use Rattle.spv_branches.specs.Target.{is_phi, is_merge, is_branch, is_conditional, IsOp}
 use Rattle.spv_calls.specs.Broken as call_rules
 use Rattle.spv_calls.specs.Calls.{IsEntryFunction}
-use Rattle.spv_run.specs.Sound.{IsSound}
+use Rattle.spv_run.specs.Sound.{KeepsRules}
 use Rattle.spv_run.specs.Kernel.{grammar, capability, model, entry_point, void, of_void, function, label, return_op, end, kernel}
 use Rattle.spv_run.proofs.Elements.{Each, each, Where, off, found, some_of}
 
@@ -68,7 +68,7 @@ no_op test w n a =
 
 -- P: each fits its row.
 
-has : (i : PlainInst) (a b : ℕ) (c : Class) (fs : List Form) (e : Ending) → row_of i.opcode ≡ Some (row a b c fs e) → Ends e [] → are_of grammar fs i.operands ≡ true → HasForms grammar i fs
+has : (i : PlainInst) (a b : ℕ) (c : Class) (fs : List Form) (e : RowEnding) → row_of i.opcode ≡ Some (row a b c fs e) → Ends e [] → are_of grammar fs i.operands ≡ true → HasForms grammar i fs
 has i a b c fs e known ending test = record { row = row a b c fs e; rest = []; known = known; forms = sym (append-nil fs); ending = ending; each = tested_are grammar fs i.operands test }
 
 abbrev capability_forms : List Form
@@ -129,12 +129,12 @@ has_end : HasForms grammar end []
 unfolding rows
 has_end = has end 56 56 class.FunctionEnd [] closed refl Ends.nothing refl
 
-fit : (i : PlainInst) (fs : List Form) → HasForms grammar i fs → Fits grammar i
+fit : (i : PlainInst) (fs : List Form) → HasForms grammar i fs → FitsShape grammar i
 fit i fs h = record { forms = fs; has = h }
 
-pub fits : (n : ℕ) (i : PlainInst) → slice_get kernel n ≡ Some i → Fits grammar i
+pub fits : (n : ℕ) (i : PlainInst) → slice_get kernel n ≡ Some i → FitsShape grammar i
 fits =
-    each (λ n (i : PlainInst). Fits grammar i) kernel (
+    each (λ n (i : PlainInst). FitsShape grammar i) kernel (
       fit (capability 4) capability_forms has_capability_4,
       (
         fit (capability 6) capability_forms has_capability_6,
@@ -329,10 +329,10 @@ ids_kept _ _ (id_rules.not_in_scope n k x r u s l h) = not_local x (used_below n
 -- C, M and E
 
 has_addresses : Has grammar kernel 4
-has_addresses = record { first = 4; declares = (0, omega arith, refl); chain = Chain.here 4 }
+has_addresses = record { first = 4; declares = (0, omega arith, refl); chain = CapabilityChain.here 4 }
 
 has_kernel : Has grammar kernel 6
-has_kernel = record { first = 6; declares = (1, omega arith, refl); chain = Chain.here 6 }
+has_kernel = record { first = 6; declares = (1, omega arith, refl); chain = CapabilityChain.here 6 }
 
 declared_at : (c k : ℕ) → k < 2 → slice_index_or (4 ∷ 6 ∷ []) k c ≡ c → (c ≡ 4) ⊎ (c ≡ 6)
 declared_at c zero l e = inl (sym e)
@@ -347,9 +347,9 @@ lists_nothing a b e known none l =
     let q : l.listed.0 < length l.enumerant.capabilities = l.listed.1 in
     omega (arith, none, p, q)
 
-chain_ends : (a b : ℕ) → Chain grammar a b → (a ≡ 4) ⊎ (a ≡ 6) → a ≡ b
-chain_ends _ _ (Chain.here a) h = refl
-chain_ends _ _ (Chain.step a b c l d) h = absurd (elim h [
+chain_ends : (a b : ℕ) → CapabilityChain grammar a b → (a ≡ 4) ⊎ (a ≡ 6) → a ≡ b
+chain_ends _ _ (CapabilityChain.here a) h = refl
+chain_ends _ _ (CapabilityChain.step a b c l d) h = absurd (elim h [
   | inl e ↦ lists_nothing 4 b (enumerant (codes "Addresses") 4 []) refl refl (subst (λ (z : ℕ). Lists grammar z b) e l)
   | inr e ↦ lists_nothing 6 b (enumerant (codes "Kernel") 6 []) refl refl (subst (λ (z : ℕ). Lists grammar z b) e l)
 ])
@@ -491,7 +491,7 @@ flow_kept _ _ (flow_rules.pair_missing n m) = no_op is_phi nowhere n m.phi
 pub calls_kept : (r : Rule) (n : ℕ) → call_rules.Broken kernel r n → ⊥
 calls_kept _ _ (call_rules.on_cycle n e f g k h c d) = opcode_at 57 (λ m j. ⊥) nowhere n k.inst k.there k.opcode
 
-pub sound : IsSound grammar 5 kernel
+pub sound : KeepsRules grammar 5 kernel
 sound = record {
   fits = fits;
   layout = is_layout;
@@ -504,7 +504,7 @@ sound = record {
 }
 
 -- under a smaller bound the label's id is out of range
-pub not_sound_below : ¬ (IsSound grammar 4 kernel)
+pub not_sound_below : ¬ (KeepsRules grammar 4 kernel)
 not_sound_below s = s.ids rule.D1 7 refl (id_rules.result_out_of_range 7 4 defined_4 (inr (omega arith)))
 
 pub entry_function : IsEntryFunction kernel 6

@@ -2,7 +2,7 @@
 use Rattle.std.proofs.Common.{◌≡◌, ◌<◌, ℕ, List, [], ◌∷◌, refl, arith, length}
 use Rattle.spv_run.specs.Act.{act_of}
 use Rattle.spv_run.specs.At.{act_at, result_at, type_at}
-use Rattle.spv_run.specs.Definitions.{HasDefinitions}
+use Rattle.spv_run.specs.Definitions.{AreDefinitions}
 use Rattle.spv_run.specs.Head.{end, IsDefined}
 use Rattle.spv_run.specs.State.{Finished, Frame, State, Goes, Last, enter}
 use Rattle.spv_run.specs.Machine.{ReadsOthers, Does, step}
@@ -41,7 +41,7 @@ starts = record { entry = 7; parameters = []; defined = begun; start = refl }
 pub entry_id : IsEntryId kernel 3
 entry_id = record { place = 3; inst = entry_point; there = refl; opcode = refl; named = refl }
 
-some : (functions : List ℕ) → HasDefinitions kernel functions → 0 < length functions
+some : (functions : List ℕ) → AreDefinitions kernel functions → 0 < length functions
 some functions has = let c = has 6 definition in let l : c.0 < length functions = c.1 in omega (arith, l)
 
 pub traced : (t : Trace) → t.steps.items ≡ step_at 0 7 ∷ step_at 0 8 ∷ [] → ending_of t.ending ≡ Finished → IsOfRun grammar kernel 9 (running 7) t

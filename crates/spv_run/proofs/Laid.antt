@@ -12,7 +12,8 @@ use Rattle.spv_layout.specs.Rows.{class_of}
 use Rattle.spv_layout.specs.Layout.{IsLayout, classes}
 use Rattle.spv_layout.proofs.Derivatives.{both_hold}
 use Rattle.spv_run.specs.Act.{Act, Pair, Function, Parameter, FunctionEnd, Label, Phi, Other, act_of}
-use Rattle.spv_run.specs.At.{act_at, result_at, type_at, goes_on, in_block}
+use Rattle.spv_run.specs.At.{act_at, result_at, type_at}
+use Rattle.spv_run.specs.inner.At.{goes_on, in_block}
 use Rattle.spv_run.specs.Head.{Binding, Head, end, parameter, line, IsDefined, IsDeclared}
 use Rattle.spv_run.proofs.Place.{IsOf, IsIn}
 use Rattle.spv_run.proofs.LaidOut.{IsLaidOut}

@@ -2,7 +2,8 @@
 use Rattle.std.specs.Prelude.{◌≡◌, ◌≢◌, ◌⊎◌, ℕ, suc, List, Some, None, false, IsTrue}
 use Rattle.spv_module.specs.Operand.{PlainInst}
 use Rattle.spv_run.specs.Act.{Act, Function, Label, Phi, Pair}
-use Rattle.spv_run.specs.At.{act_at, result_at, type_at, goes_on, in_block}
+use Rattle.spv_run.specs.At.{act_at, result_at, type_at}
+use Rattle.spv_run.specs.inner.At.{goes_on, in_block}
 use Rattle.spv_run.specs.Head.{Binding, IsDefined, IsDeclared}
 use Rattle.spv_run.proofs.Place.{IsOf, IsIn}
 

@@ -8,11 +8,11 @@ use Rattle.spv_module.specs.Width.{type_of}
 use Rattle.spv_layout.specs.declared.class.Class.TheVariants.{Function, FunctionEnd, Label}
 use Rattle.spv_layout.specs.Rows.{rows}
 use Rattle.spv_layout.specs.Place.{IsAt, IsDefinition}
-use Rattle.spv_ops.specs.Example.{inst}
+use Rattle.spv_type_forms.specs.Example.{inst}
 use Rattle.spv_run.specs.Act.{act_of}
 use Rattle.spv_run.specs.Act as act
 use Rattle.spv_run.specs.At.{act_at, result_at, type_at}
-use Rattle.spv_run.specs.Definitions.{HasDefinitions}
+use Rattle.spv_run.specs.Definitions.{AreDefinitions}
 use Rattle.spv_run.specs.Head.{Binding, Head, end, parameter, line}
 use Rattle.spv_run.specs.State.{Ending, Finished, Limit, Stuck, State, Outcome, Goes, Last, Before, bound_type, enter}
 use Rattle.spv_run.specs.Machine.{Does, step, no_choice, bad_choice}
@@ -159,7 +159,7 @@ definition rest = record {
   };
 }
 
-some : (rest : List PlainInst) (functions : List ℕ) → HasDefinitions (lone_before rest) functions → 0 < length functions
+some : (rest : List PlainInst) (functions : List ℕ) → AreDefinitions (lone_before rest) functions → 0 < length functions
 some rest functions has = let c = has 2 (definition rest) in let l : c.0 < length functions = c.1 in omega (arith, l)
 
 bounded : (m : ℕ) (steps : List Step) → 0 < m → AllByRecursion (λ (s : Step). s.depth ≡ 0) steps → AllByRecursion (λ (s : Step). s.depth < m) steps

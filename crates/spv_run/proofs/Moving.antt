@@ -8,16 +8,17 @@ use Rattle.spv_module.specs.Operand.{Plain, PlainInst}
 use Rattle.spv_module.specs.Operand as operand
 use Rattle.spv_ids.specs.declared.ids.Ids.{Ids}
 use Rattle.spv_ids.specs.Definition.{IsDefinedAt}
-use Rattle.spv_ids.specs.Outcome.{IsDefinitionOf, definition_in}
+use Rattle.spv_ids.specs.Outcome.{IsDefinitionOf, definition_in, AreNumbered}
 use Rattle.spv_branches.specs.Target.{IsLabelOf}
-use Rattle.spv_calls.specs.Found.{id_in, AreNumbered}
+use Rattle.spv_calls.specs.inner.Found.{id_in}
 use Rattle.spv_run.specs.Act.{Act, Function, Parameter, FunctionEnd, Label, Branch, Choose, Call, Other, act_of, labels_in}
 use Rattle.spv_run.specs.declared.moves.Move.TheVariants as move
-use Rattle.spv_run.specs.Trace.{Tells}
-use Rattle.spv_run.specs.At.{act_at, targets}
+use Rattle.spv_run.specs.inner.Trace.{Tells}
+use Rattle.spv_run.specs.At.{act_at}
+use Rattle.spv_run.specs.inner.At.{targets}
 use Rattle.spv_run.specs.Head.{Binding, Head, IsDefined, IsDeclared}
-use Rattle.spv_run.specs.Sound.{IsSound}
-use Rattle.spv_run.specs.Bodies.{IsEntry, IsHead, HaveEntries, HaveEntriesBefore}
+use Rattle.spv_run.specs.Sound.{KeepsRules}
+use Rattle.spv_run.specs.inner.Bodies.{IsEntry, IsHead, HaveEntries, HaveEntriesBefore}
 use Rattle.spv_run.proofs.Basics.{act_back, act_from, act_same, contains_here, contains_at}
 use Rattle.spv_run.specs.State.{State}
 use Rattle.spv_run.specs.Run.{IsStart}
@@ -31,13 +32,12 @@ use Rattle.spv_layout.specs.declared.form.Form.{Form}
 use Rattle.spv_layout.specs.declared.form.Form.TheVariants as form
 use Rattle.spv_layout.specs.Row.{repeated}
 use Rattle.spv_layout.specs.Row as row
-use Rattle.spv_layout.specs.Shape.{is_of, AreOf, Ends, Fits}
+use Rattle.spv_layout.specs.Shape.{is_of, AreOf, Ends, FitsShape}
 use Rattle.spv_layout.specs.declared.form.Role.TheVariants as role
-use Rattle.spv_ops.specs.Operands.{ids_in}
+use Rattle.spv_type_forms.specs.Operands.{ids_in}
 use Rattle.spv_run.specs.declared.moves.Move.{Move}
 use Rattle.spv_run.proofs.Laid.{laid_out}
-use Rattle.spv_run.proofs.Shapes.{View, view, an_id, is_other, none}
-use Rattle.spv_run.proofs.Shapes.{take as take_form}
+use Rattle.spv_run.proofs.Shapes.{View, view, an_id, is_other, none, take as take_form}
 use Rattle.spv_run.proofs.Standing.{label_act, label_to, defined_at, result_of}
 
 by_definition : (is : List PlainInst) (x m : ℕ) (o : Option ℕ) → IsDefinitionOf is x o → IsDefinedAt is x m → o ≡ Some m
@@ -125,7 +125,7 @@ record Ended (is : List PlainInst) (g n : ℕ) : Type 0 where
   pub within : place < length is
   pub inner : (k : ℕ) → g < k → k < place → InHead is k
 
-ended : (G : Table) (bound : ℕ) (is : List PlainInst) (g n : ℕ) → IsSound G bound is → act_at is g ≡ Some Function → IsHead is g n → Ended is g n
+ended : (G : Table) (bound : ℕ) (is : List PlainInst) (g n : ℕ) → KeepsRules G bound is → act_at is g ≡ Some Function → IsHead is g n → Ended is g n
 ended G bound is g n sound f head = by_end r.2 where
   r : (e : ℕ) × (bs : List Binding) × (IsDefined is g e bs ⊎ IsDeclared is g e bs)
   r = (laid_out G is sound.fits sound.layout).heads g f
@@ -159,7 +159,7 @@ ended G bound is g n sound f head = by_end r.2 where
       }
 
 pub at_label : (is : List PlainInst) (g n : ℕ) (i : PlainInst) → g < n → IsHead is g n → slice_get is n ≡ Some i → i.opcode ≡ 248
-    → (G : Table) (bound : ℕ) → IsSound G bound is → act_at is g ≡ Some Function → IsEntry is g n
+    → (G : Table) (bound : ℕ) → KeepsRules G bound is → act_at is g ≡ Some Function → IsEntry is g n
 at_label is g n i l head at op G bound sound f =
     let x = ended G bound is g n sound f head in
     let lab = act_from is n i Label at (label_act i op) in
@@ -173,7 +173,7 @@ at_label is g n i l head at op G bound sound f =
     ]
 
 pub at_over : (is : List PlainInst) (g n : ℕ) (i : PlainInst) → g < n → IsHead is g n → slice_get is n ≡ Some i → i.opcode ≡ 56
-    → (G : Table) (bound : ℕ) → IsSound G bound is → act_at is g ≡ Some Function → IsEntry is g 0
+    → (G : Table) (bound : ℕ) → KeepsRules G bound is → act_at is g ≡ Some Function → IsEntry is g 0
 at_over is g n i l head at op G bound sound f =
     let x = ended G bound is g n sound f head in
     let over = act_from is n i FunctionEnd at (end_act i op) in
@@ -187,7 +187,7 @@ at_over is g n i l head at op G bound sound f =
     ]
 
 pub at_nothing : (is : List PlainInst) (g n : ℕ) → length is ≤ n → IsHead is g n
-    → (G : Table) (bound : ℕ) → IsSound G bound is → act_at is g ≡ Some Function → IsEntry is g 0
+    → (G : Table) (bound : ℕ) → KeepsRules G bound is → act_at is g ≡ Some Function → IsEntry is g 0
 at_nothing is g n l head G bound sound f =
     let x = ended G bound is g n sound f head in
     let low = x.low in
@@ -221,7 +221,7 @@ branch_view G is i _ (View.unreachable e os) h = absurd (omega (arith, e, h))
 branch_view G is i _ (View.other e) h = absurd (let w : is_other 249 ≡ true = rw h at e in cc)
 
 -- a label that is a target stands where the code finds it
-label_found : (G : Table) (bound : ℕ) (is : List PlainInst) → IsSound G bound is → (n x place : ℕ) (a : Act) → act_at is n ≡ Some a → Contains (targets a) x
+label_found : (G : Table) (bound : ℕ) (is : List PlainInst) → KeepsRules G bound is → (n x place : ℕ) (a : Act) → act_at is n ≡ Some a → Contains (targets a) x
     → ((m : ℕ) → IsDefinedAt is x m → place ≡ m) → IsLabelOf is x place
 label_found G bound is sound n x place a h c found =
     let m = has_labels G is sound.fits sound.branches n x a h c in
@@ -229,7 +229,7 @@ label_found G bound is sound n x place a h c found =
     subst (λ k. IsLabelOf is x k) (sym (found m.0 l.defined)) l
 
 pub branch_tells : (i : PlainInst) (x place : ℕ) (is : List PlainInst) → i.opcode ≡ 249 → id_in (slice_get i.operands 0) ≡ Some x → ((m : ℕ) → IsDefinedAt is x m → place ≡ m)
-    → (G : Table) (bound n : ℕ) → IsSound G bound is → slice_get is n ≡ Some i → Tells is (act_of i) (move.Branch place)
+    → (G : Table) (bound n : ℕ) → KeepsRules G bound is → slice_get is n ≡ Some i → Tells is (act_of i) (move.Branch place)
 branch_tells i x place is op e found G bound n sound at =
     let v = branch_view G is i (act_of i) (view G i (sound.fits n i at)) op in
     let same : v.0 ≡ x = same_Some v.0 x (sym (ap (λ os. id_in (slice_get os 0)) v.2) ∙ e) in
@@ -238,7 +238,7 @@ branch_tells i x place is op e found G bound n sound at =
     subst (λ a. Tells is a (move.Branch place)) (sym v.1) (label_found G bound is sound n v.0 place (Branch v.0) h (contains_here v.0 []) found')
 
 pub branch_named : (i : PlainInst) (is : List PlainInst) → i.opcode ≡ 249 → id_in (slice_get i.operands 0) ≡ None
-    → (G : Table) (bound n : ℕ) → IsSound G bound is → slice_get is n ≡ Some i → ⊥
+    → (G : Table) (bound n : ℕ) → KeepsRules G bound is → slice_get is n ≡ Some i → ⊥
 branch_named i is op e G bound n sound at =
     let v = branch_view G is i (act_of i) (view G i (sound.fits n i at)) op in
     none-some v.0 (sym e ∙ ap (λ os. id_in (slice_get os 0)) v.2)
@@ -269,7 +269,7 @@ call_view G i _ (View.unreachable e os) h = absurd (omega (arith, e, h))
 call_view G i _ (View.other e) h = absurd (let w : is_other 57 ≡ true = rw h at e in cc)
 
 pub call_tells : (i : PlainInst) (x place : ℕ) (is : List PlainInst) (m : Move) → i.opcode ≡ 57 → id_in (slice_get i.operands 2) ≡ Some x → ((k : ℕ) → IsDefinedAt is x k → place ≡ k)
-    → (G : Table) (bound n : ℕ) → IsSound G bound is → slice_get is n ≡ Some i
+    → (G : Table) (bound n : ℕ) → KeepsRules G bound is → slice_get is n ≡ Some i
     → ((xs : List ℕ) → IsDefinedAt is x place → act_at is place ≡ Some Function → Tells is (Call x xs) m) → Tells is (act_of i) m
 call_tells i x place is m op e found G bound n sound at tells =
     let v = call_view G i (act_of i) (view G i (sound.fits n i at)) op in
@@ -284,7 +284,7 @@ call_tells i x place is m op e found G bound n sound at tells =
     subst (λ a. Tells is a m) (sym kind) told
 
 pub call_named : (i : PlainInst) (is : List PlainInst) → i.opcode ≡ 57 → id_in (slice_get i.operands 2) ≡ None
-    → (G : Table) (bound n : ℕ) → IsSound G bound is → slice_get is n ≡ Some i → ⊥
+    → (G : Table) (bound n : ℕ) → KeepsRules G bound is → slice_get is n ≡ Some i → ⊥
 call_named i is op e G bound n sound at =
     let v = call_view G i (act_of i) (view G i (sound.fits n i at)) op in
     none-some v.callee (sym e ∙ ap (λ os. id_in (slice_get os 2)) v.operands)
@@ -300,7 +300,7 @@ no_entry_tells is g _ x xs (IsEntry.declared e bs d) z f = (g, e, bs, f, d)
 
 -- choices
 
-pub choose_tells : (i : PlainInst) (is : List PlainInst) → (i.opcode ≡ 250) ⊎ (i.opcode ≡ 251) → (G : Table) (bound n : ℕ) → IsSound G bound is → slice_get is n ≡ Some i → Tells is (act_of i) move.Choose
+pub choose_tells : (i : PlainInst) (is : List PlainInst) → (i.opcode ≡ 250) ⊎ (i.opcode ≡ 251) → (G : Table) (bound n : ℕ) → KeepsRules G bound is → slice_get is n ≡ Some i → Tells is (act_of i) move.Choose
 choose_tells i is op G bound n sound at = by_view (act_of i) (view G i (sound.fits n i at)) op where
   by_view : (a : Act) → View G i a → (i.opcode ≡ 250) ⊎ (i.opcode ≡ 251) → Tells is a move.Choose
   by_view _ (View.condition c x y os gs e same en each) h = tt
@@ -372,7 +372,7 @@ same_targets : (c d : ℕ) (xs ys : List ℕ) → Choose c xs ≡ Choose d ys �
 same_targets c d xs ys e = cc
 
 -- the targets of an OpSwitch
-pub switch_target : (G : Table) (i : PlainInst) (c k n : ℕ) (xs : List ℕ) → i.opcode ≡ 251 → n ≡ 2 * k + 1 → Fits G i → act_of i ≡ Choose c xs → id_in (slice_get i.operands n) ≡ slice_get xs k
+pub switch_target : (G : Table) (i : PlainInst) (c k n : ℕ) (xs : List ℕ) → i.opcode ≡ 251 → n ≡ 2 * k + 1 → FitsShape G i → act_of i ≡ Choose c xs → id_in (slice_get i.operands n) ≡ slice_get xs k
 switch_target G i c k n xs op e fits h = by_view (act_of i) (view G i fits) h where
   by_view : (a : Act) → View G i a → a ≡ Choose c xs → id_in (slice_get i.operands n) ≡ slice_get xs k
   by_view _ (View.switch d x os gs q same en each) h =
@@ -414,7 +414,7 @@ pair G i c xs op _ (View.value x q os) h = cc
 pair G i c xs op _ (View.unreachable q os) h = cc
 pair G i c xs op _ (View.other q) h = cc
 
-pub one_target : (G : Table) (i : PlainInst) (c k n : ℕ) (xs : List ℕ) → i.opcode ≢ 251 → k < 2 → n ≡ k + 1 → Fits G i → act_of i ≡ Choose c xs → id_in (slice_get i.operands n) ≡ slice_get xs k
+pub one_target : (G : Table) (i : PlainInst) (c k n : ℕ) (xs : List ℕ) → i.opcode ≢ 251 → k < 2 → n ≡ k + 1 → FitsShape G i → act_of i ≡ Choose c xs → id_in (slice_get i.operands n) ≡ slice_get xs k
 one_target G i c k n xs op low e fits h =
     let p = pair G i c xs op (act_of i) (view G i fits) h in
     ap (λ ps. id_in (slice_get ps n)) p.operands ∙ (by_place p k n low e ∙ ap (λ ls. slice_get ls k) p.targets)
@@ -429,7 +429,7 @@ one_target G i c k n xs op low e fits h =
     by_place p (suc zero) (suc (suc (suc n))) low e = absurd (omega (arith, e))
     by_place p (suc (suc k)) n low e = absurd (omega (arith, low))
 
-pub no_target : (G : Table) (i : PlainInst) (c k : ℕ) (xs : List ℕ) → i.opcode ≢ 251 → 2 ≤ k → Fits G i → act_of i ≡ Choose c xs → slice_get xs k ≡ None
+pub no_target : (G : Table) (i : PlainInst) (c k : ℕ) (xs : List ℕ) → i.opcode ≢ 251 → 2 ≤ k → FitsShape G i → act_of i ≡ Choose c xs → slice_get xs k ≡ None
 no_target G i c k xs op high fits h =
     let p = pair G i c xs op (act_of i) (view G i fits) h in
     ap (λ ls. slice_get ls k) (sym p.targets) ∙ by_place p k high
@@ -441,13 +441,13 @@ no_target G i c k xs op high fits h =
 
 -- the label that is chosen stands where it is found
 pub chosen_label : (i : PlainInst) (x place c : ℕ) (xs : List ℕ) (is : List PlainInst) → act_of i ≡ Choose c xs → (k : ℕ) → slice_get xs k ≡ Some x → ((m : ℕ) → IsDefinedAt is x m → place ≡ m)
-    → (G : Table) (bound n : ℕ) → IsSound G bound is → slice_get is n ≡ Some i → IsLabelOf is x place
+    → (G : Table) (bound n : ℕ) → KeepsRules G bound is → slice_get is n ≡ Some i → IsLabelOf is x place
 chosen_label i x place c xs is kind k there found G bound n sound at =
     label_found G bound is sound n x place (Choose c xs) (act_from is n i (Choose c xs) at kind) (contains_at xs k x there) found
 
 -- the rest
 
-pub return_tells : (i : PlainInst) (is : List PlainInst) → (i.opcode ≡ 253) ⊎ (i.opcode ≡ 254) → (G : Table) (bound n : ℕ) → IsSound G bound is → slice_get is n ≡ Some i → Tells is (act_of i) move.Return
+pub return_tells : (i : PlainInst) (is : List PlainInst) → (i.opcode ≡ 253) ⊎ (i.opcode ≡ 254) → (G : Table) (bound n : ℕ) → KeepsRules G bound is → slice_get is n ≡ Some i → Tells is (act_of i) move.Return
 return_tells i is op G bound n sound at = by_view (act_of i) (view G i (sound.fits n i at)) op where
   by_view : (a : Act) → View G i a → (i.opcode ≡ 253) ⊎ (i.opcode ≡ 254) → Tells is a move.Return
   by_view _ (View.return e os) h = tt
@@ -464,7 +464,7 @@ return_tells i is op G bound n sound at = by_view (act_of i) (view G i (sound.fi
   by_view _ (View.unreachable e os) h = absurd (elim h [ inl q ↦ omega (arith, e, q) | inr q ↦ omega (arith, e, q) ])
   by_view _ (View.other e) h = absurd (elim h [ inl q ↦ (let w : is_other 253 ≡ true = rw q at e in cc) | inr q ↦ (let w : is_other 254 ≡ true = rw q at e in cc) ])
 
-pub unreachable_tells : (i : PlainInst) (is : List PlainInst) → i.opcode ≡ 255 → (G : Table) (bound n : ℕ) → IsSound G bound is → slice_get is n ≡ Some i → Tells is (act_of i) move.Unreachable
+pub unreachable_tells : (i : PlainInst) (is : List PlainInst) → i.opcode ≡ 255 → (G : Table) (bound n : ℕ) → KeepsRules G bound is → slice_get is n ≡ Some i → Tells is (act_of i) move.Unreachable
 unreachable_tells i is op G bound n sound at = by_view (act_of i) (view G i (sound.fits n i at)) op where
   by_view : (a : Act) → View G i a → i.opcode ≡ 255 → Tells is a move.Unreachable
   by_view _ (View.unreachable e os) h = tt
@@ -482,7 +482,7 @@ unreachable_tells i is op G bound n sound at = by_view (act_of i) (view G i (sou
   by_view _ (View.other e) h = absurd (let w : is_other 255 ≡ true = rw h at e in cc)
 
 pub other_tells : (i : PlainInst) (is : List PlainInst) → i.opcode ≢ 249 → i.opcode ≢ 250 → i.opcode ≢ 251 → i.opcode ≢ 57 → i.opcode ≢ 253 → i.opcode ≢ 254 → i.opcode ≢ 255
-    → (G : Table) (bound n : ℕ) → IsSound G bound is → slice_get is n ≡ Some i → Tells is (act_of i) move.On
+    → (G : Table) (bound n : ℕ) → KeepsRules G bound is → slice_get is n ≡ Some i → Tells is (act_of i) move.On
 other_tells i is n1 n2 n3 n4 n5 n6 n7 G bound n sound at = by_view (act_of i) (view G i (sound.fits n i at)) where
   by_view : (a : Act) → View G i a → Tells is a move.On
   by_view _ (View.unreachable e os) = absurd (n7 e)
@@ -528,7 +528,7 @@ function_opcode G i _ (View.unreachable e os) h = cc
 function_opcode G i _ (View.other e) h = cc
 
 pub no_function : (is : List PlainInst) (n : ℕ) (i : PlainInst) → slice_get is n ≡ Some i → i.opcode ≢ 54
-    → (G : Table) (bound : ℕ) → IsSound G bound is → act_at is n ≡ Some Function → ⊥
+    → (G : Table) (bound : ℕ) → KeepsRules G bound is → act_at is n ≡ Some Function → ⊥
 no_function is n i at ne G bound sound f =
     let k = act_back is n Function f in
     let same : k.0 ≡ i = same_Some k.0 i (sym k.1 ∙ at) in
@@ -538,7 +538,7 @@ pub entries_none : (is : List PlainInst) (es : List ℕ) → HaveEntriesBefore i
 entries_none is es = record { each = λ G bound g sound l h. absurd (omega (arith, l)) }
 
 pub entries_more : (is : List PlainInst) (n : ℕ) (es : List ℕ) (e : ℕ) → length es ≡ n → HaveEntriesBefore is n es
-    → ((G : Table) (bound : ℕ) → IsSound G bound is → act_at is n ≡ Some Function → IsEntry is n e) → HaveEntriesBefore is (n + 1) (es ++ (e ∷ []))
+    → ((G : Table) (bound : ℕ) → KeepsRules G bound is → act_at is n ≡ Some Function → IsEntry is n e) → HaveEntriesBefore is (n + 1) (es ++ (e ∷ []))
 entries_more is n es e len before here = record {
   each = λ G bound g sound l f. elim (cases_lt g n) [
     | inl less ↦ (let b = before.each G bound g sound less f in (b.0, kept es e g b.0 b.1, b.2))
@@ -554,20 +554,20 @@ entries_all is n es l before G bound g sound f =
     let w = slice_get_within is g k.0 k.1 in
     before.each G bound g sound (omega (arith, l, w)) f
 
-pub has_entry : (is : List PlainInst) (es : List ℕ) (g : ℕ) → HaveEntries is es → (G : Table) (bound : ℕ) → IsSound G bound is → act_at is g ≡ Some Function → length es ≤ g → ⊥
+pub has_entry : (is : List PlainInst) (es : List ℕ) (g : ℕ) → HaveEntries is es → (G : Table) (bound : ℕ) → KeepsRules G bound is → act_at is g ≡ Some Function → length es ≤ g → ⊥
 has_entry is es g have G bound sound f l =
     let r = have G bound g sound f in
     let w = slice_get_within es g r.0 r.1 in
     absurd (omega (arith, l, w))
 
-pub entry_in_list : (is : List PlainInst) (es : List ℕ) (g e : ℕ) → HaveEntries is es → slice_get es g ≡ Some e → (G : Table) (bound : ℕ) → IsSound G bound is → act_at is g ≡ Some Function → IsEntry is g e
+pub entry_in_list : (is : List PlainInst) (es : List ℕ) (g e : ℕ) → HaveEntries is es → slice_get es g ≡ Some e → (G : Table) (bound : ℕ) → KeepsRules G bound is → act_at is g ≡ Some Function → IsEntry is g e
 entry_in_list is es g e have h G bound sound f =
     let r = have G bound g sound f in
     subst (λ k. IsEntry is g k) (same_Some r.0 e (sym r.1 ∙ h)) r.2
 
 -- The start of a run.
 
-pub start_at : (G : Table) (bound : ℕ) (is : List PlainInst) (g x e : ℕ) (xs choices : List ℕ) (s : State) → IsSound G bound is → IsDefinedAt is x g → IsStart is g choices s → Tells is (Call x xs) (move.Call e)
+pub start_at : (G : Table) (bound : ℕ) (is : List PlainInst) (g x e : ℕ) (xs choices : List ℕ) (s : State) → KeepsRules G bound is → IsDefinedAt is x g → IsStart is g choices s → Tells is (Call x xs) (move.Call e)
     → s.top.position ≡ e
 start_at G bound is g x e xs choices s sound d start (k, bs, f, defined) =
     let once = one_definition G bound is sound.ids in
@@ -575,7 +575,7 @@ start_at G bound is g x e xs choices s sound d start (k, bs, f, defined) =
     let head = head_once is start.entry e (suc g) (suc k) start.parameters bs start.defined.head defined.head (ap suc same) (label_ends is start.entry start.defined.entry) (label_ends is e defined.entry) in
     ap (λ (t : State). t.top.position) start.start ∙ head.place
 
-pub no_start : (G : Table) (bound : ℕ) (is : List PlainInst) (g x : ℕ) (xs choices : List ℕ) (s : State) (m : Move) → IsSound G bound is → IsDefinedAt is x g → IsStart is g choices s → Tells is (Call x xs) m
+pub no_start : (G : Table) (bound : ℕ) (is : List PlainInst) (g x : ℕ) (xs choices : List ℕ) (s : State) (m : Move) → KeepsRules G bound is → IsDefinedAt is x g → IsStart is g choices s → Tells is (Call x xs) m
     → ((e : ℕ) → m ≡ move.Call e → ⊥) → ⊥
 no_start G bound is g x xs choices s move.On sound d start (k, e, bs, f, declared) no_call =
     not_both is (one_definition G bound is sound.ids) x g k start.entry e start.parameters bs d f start.defined declared

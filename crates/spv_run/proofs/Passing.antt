@@ -11,7 +11,7 @@ use Rattle.spv_layout.specs.declared.state.State.TheVariants as at
 use Rattle.spv_layout.specs.Class.{is_among}
 use Rattle.spv_layout.specs.Rows.{class_of}
 use Rattle.spv_layout.specs.Layout.{IsLayout, classes}
-use Rattle.spv_layout.specs.State.{next_of, may_stop, Remains}
+use Rattle.spv_layout.specs.inner.State.{next_of, may_stop, Remains}
 use Rattle.spv_layout.proofs.Derivatives.{both_hold}
 use Rattle.spv_layout.proofs.Remains.{goes_on, goes_no_further}
 use Rattle.spv_layout.proofs.Layouts.{layout_remains, stops_not_there}

@@ -2,7 +2,8 @@
 use Rattle.std.specs.Prelude.{◌≡◌, ◌≢◌, ◌≤◌, ◌<◌, ℕ, List, Some, IsTrue}
 use Rattle.spv_module.specs.Operand.{PlainInst}
 use Rattle.spv_run.specs.Act.{Act, Function, FunctionEnd, Label}
-use Rattle.spv_run.specs.At.{act_at, result_at, goes_on}
+use Rattle.spv_run.specs.At.{act_at, result_at}
+use Rattle.spv_run.specs.inner.At.{goes_on}
 
 -- Instruction n is of the function whose OpFunction is instruction f: from there to its OpFunctionEnd.
 pub record IsOf (is : List PlainInst) (f n : ℕ) : Type 0 where

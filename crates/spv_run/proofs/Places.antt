@@ -5,7 +5,8 @@ use Rattle.std.proofs.lemmas.Bool.{cases_eq, cases_order}
 use Rattle.spv_module.specs.Operand.{PlainInst}
 use Rattle.spv_module.specs.Width.{type_of}
 use Rattle.spv_run.specs.Act.{Act, Function, Parameter, FunctionEnd, Label, Other}
-use Rattle.spv_run.specs.At.{act_at, goes_on, in_block}
+use Rattle.spv_run.specs.At.{act_at}
+use Rattle.spv_run.specs.inner.At.{goes_on, in_block}
 use Rattle.spv_run.specs.Head.{Binding, Head, end, parameter, line}
 use Rattle.spv_run.proofs.Place.{IsOf, IsIn, IsLocalTo}
 use Rattle.spv_run.proofs.Walk.{follows, Walk, Defined, is_label, label_in, last_label}

@@ -3,7 +3,8 @@ use Rattle.std.proofs.Common.{◌≡◌, ◌∙◌, ◌⊎◌, inl, inr, ℕ, Li
 use Rattle.spv_table.specs.Table.{Table}
 use Rattle.spv_module.specs.Operand.{PlainInst}
 use Rattle.spv_run.specs.Act.{Act, Function, Parameter, FunctionEnd, Label, Phi, Branch, Choose, Call, Return, ReturnValue, Other, act_of}
-use Rattle.spv_run.specs.At.{act_at, type_at, targets, in_block}
+use Rattle.spv_run.specs.At.{act_at, type_at}
+use Rattle.spv_run.specs.inner.At.{targets, in_block}
 use Rattle.spv_run.specs.Row.{Row}
 use Rattle.spv_run.specs.State.{Frame, State, Outcome, Goes, Last, Before, NoChoice, BadChoice, advance, jump, enter, rebind, returned, with_top}
 use Rattle.spv_run.specs.Machine.{ReadsAll, read_values, Lands, definition, declaration, Moves, Does, step, no_choice, bad_choice}

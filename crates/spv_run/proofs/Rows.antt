@@ -7,8 +7,8 @@ use Rattle.std.proofs.lemmas.Option.{none-some}
 use Rattle.spv_table.specs.Table.{Table}
 use Rattle.spv_module.specs.Operand.{Plain, PlainInst, Id, result_in, type_in}
 use Rattle.spv_module.specs.Width.{has_result, or_else, definition_of}
-use Rattle.spv_layout.specs.Shape.{Fits}
-use Rattle.spv_ops.specs.Types.{IsData}
+use Rattle.spv_layout.specs.Shape.{FitsShape}
+use Rattle.spv_type_forms.specs.Types.{IsData}
 use Rattle.spv_ops.specs.Typed.{Typed}
 use Rattle.spv_type_rules.specs.Function.{signature_of, CallsTyped, ReturnsNothing, ReturnsTyped}
 use Rattle.spv_run.specs.Act.{Act, Function, Phi, Pair, act_of}
@@ -49,7 +49,7 @@ phi_view G is n i _ ps tags (View.value x e os) q h = cc
 phi_view G is n i _ ps tags (View.unreachable e os) q h = cc
 phi_view G is n i _ ps tags (View.other e) q h = cc
 
-pub phi_typed : (G : Table) (is : List PlainInst) (n : ℕ) (i : PlainInst) (ps : List Pair) (tags : List ℕ) → Fits G i → act_of i ≡ Phi ps → Typed is n i tags → PhiTyped is i tags
+pub phi_typed : (G : Table) (is : List PlainInst) (n : ℕ) (i : PlainInst) (ps : List Pair) (tags : List ℕ) → FitsShape G i → act_of i ≡ Phi ps → Typed is n i tags → PhiTyped is i tags
 phi_typed G is n i ps tags fits k h = phi_view G is n i (act_of i) ps tags (view G i fits) k h
 
 typed_view : (G : Table) (is : List PlainInst) (n : ℕ) (i : PlainInst) (a : Act) (ps : List Pair) (tags : List ℕ) → View G i a → a ≡ Phi ps → PhiTyped is i tags → Typed is n i tags
@@ -70,7 +70,7 @@ typed_view G is n i _ ps tags (View.value x e os) q h = cc
 typed_view G is n i _ ps tags (View.unreachable e os) q h = cc
 typed_view G is n i _ ps tags (View.other e) q h = cc
 
-pub typed_phi : (G : Table) (is : List PlainInst) (n : ℕ) (i : PlainInst) (ps : List Pair) (tags : List ℕ) → Fits G i → act_of i ≡ Phi ps → PhiTyped is i tags → Typed is n i tags
+pub typed_phi : (G : Table) (is : List PlainInst) (n : ℕ) (i : PlainInst) (ps : List Pair) (tags : List ℕ) → FitsShape G i → act_of i ≡ Phi ps → PhiTyped is i tags → Typed is n i tags
 typed_phi G is n i ps tags fits k h = typed_view G is n i (act_of i) ps tags (view G i fits) k h
 
 -- Where an id's definition stands.

@@ -26,7 +26,8 @@ use Rattle.spv_branches.specs.Walk as walks
 use Rattle.spv_branches.specs.Ready.{IsLocalValue}
 use Rattle.spv_run.specs.Act.{Act, Function, FunctionEnd, Label, Phi, Pair, act_of}
 use Rattle.spv_run.specs.Act as act
-use Rattle.spv_run.specs.At.{act_at, result_at, targets, goes_on, value_from}
+use Rattle.spv_run.specs.At.{act_at, result_at, value_from}
+use Rattle.spv_run.specs.inner.At.{targets, goes_on}
 use Rattle.spv_run.proofs.Place.{IsOf, IsIn, IsLocal}
 use Rattle.spv_run.proofs.LaidOut.{IsLaidOut}
 use Rattle.spv_run.proofs.Fit.{AllFit, HasOneDefinition}

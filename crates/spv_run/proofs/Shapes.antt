@@ -12,8 +12,8 @@ use Rattle.spv_layout.specs.declared.form.Role.TheVariants as role
 use Rattle.spv_layout.specs.declared.form.Named.TheVariants as kind_of
 use Rattle.spv_layout.specs.Row.{PlainRow, row, closed, repeated, T, R, W, N, v, l, f, t, kind}
 use Rattle.spv_layout.specs.Rows.{rows, row_of}
-use Rattle.spv_layout.specs.Shape.{is_of, AreOf, Ends, Fits}
-use Rattle.spv_ops.specs.Operands.{ids_in}
+use Rattle.spv_layout.specs.Shape.{is_of, AreOf, Ends, FitsShape}
+use Rattle.spv_type_forms.specs.Operands.{ids_in}
 use Rattle.spv_run.specs.Act.{Act, Function, Parameter, FunctionEnd, Label, Phi, Branch, Choose, Call, Return, ReturnValue, Other, act_of, pairs, labels_in, call_in, phi_in, branch_in, condition_in, switch_in, value_in}
 use Rattle.spv_run.specs.Act as act
 
@@ -23,7 +23,7 @@ pub record Has (G : Table) (r : PlainRow) (os : List Plain) : Type 0 where
   pub ending : Ends r.ending rest
   pub each : AreOf G (r.fixed ++ rest) os
 
-pub has_row : (G : Table) (i : PlainInst) (r : PlainRow) → Fits G i → row_of i.opcode ≡ Some r → Has G r i.operands
+pub has_row : (G : Table) (i : PlainInst) (r : PlainRow) → FitsShape G i → row_of i.opcode ≡ Some r → Has G r i.operands
 has_row G i r fits e =
     let h = fits.has in
     let same : h.row ≡ r = let both : Some h.row ≡ Some r = sym h.known ∙ e in cc in
@@ -204,7 +204,7 @@ closed_row G fs from to c os h = fixed h.rest h.ending h.each where
   fixed : (rest : List Form) → Ends closed rest → AreOf G (fs ++ rest) os → AreOf G fs os
   fixed _ Ends.nothing a = let e : fs ++ [] ≡ fs = append-nil fs in rw e at a
 
-is_function : (G : Table) (i : PlainInst) → Fits G i → nat_eq i.opcode 54 ≡ true → View G i Function
+is_function : (G : Table) (i : PlainInst) → FitsShape G i → nat_eq i.opcode 54 ≡ true → View G i Function
 is_function G i h e =
     let a = closed_row G (T ∷ R ∷ kind kind_of.FunctionControl ∷ t ∷ []) 54 54 class.Function i.operands (has_row G i _ h (by_opcode i 54 _ e row_54)) in
     let b = headed G (kind kind_of.FunctionControl ∷ t ∷ []) i.operands a in
@@ -216,16 +216,16 @@ is_function G i h e =
     (b.same ∙ ap (λ os. operand.OfType b.type_id ∷ operand.Result b.result ∷ os)
     (c.same ∙ (ap (λ o. o ∷ c.tail) m.2 ∙ ap (λ os. operand.Mask m.0 m.1 ∷ os) (d.same ∙ ap (λ os. operand.Id d.id ∷ os) n))))
 
-is_parameter : (G : Table) (i : PlainInst) → Fits G i → nat_eq i.opcode 55 ≡ true → View G i Parameter
+is_parameter : (G : Table) (i : PlainInst) → FitsShape G i → nat_eq i.opcode 55 ≡ true → View G i Parameter
 is_parameter G i h e =
     let a = closed_row G (T ∷ R ∷ []) 55 55 class.Parameter i.operands (has_row G i _ h (by_opcode i 55 _ e row_55)) in
     let b = headed G [] i.operands a in
     View.parameter b.type_id b.result (eqb-true i.opcode 55 e) (b.same ∙ ap (λ os. operand.OfType b.type_id ∷ operand.Result b.result ∷ os) (none G b.tail b.rest))
 
-is_end : (G : Table) (i : PlainInst) → Fits G i → nat_eq i.opcode 56 ≡ true → View G i FunctionEnd
+is_end : (G : Table) (i : PlainInst) → FitsShape G i → nat_eq i.opcode 56 ≡ true → View G i FunctionEnd
 is_end G i h e = View.function_end (eqb-true i.opcode 56 e) (none G i.operands (closed_row G [] 56 56 class.FunctionEnd i.operands (has_row G i _ h (by_opcode i 56 _ e row_56))))
 
-is_call : (G : Table) (i : PlainInst) → Fits G i → nat_eq i.opcode 57 ≡ true → View G i (call_in i.operands)
+is_call : (G : Table) (i : PlainInst) → FitsShape G i → nat_eq i.opcode 57 ≡ true → View G i (call_in i.operands)
 is_call G i h e =
     let a = has_row G i _ h (by_opcode i 57 _ e row_57) in
     let b = headed G (f ∷ a.rest) i.operands a.each in
@@ -234,27 +234,27 @@ is_call G i h e =
     b.same ∙ ap (λ os. operand.OfType b.type_id ∷ operand.Result b.result ∷ os) c.same in
     subst (View G i) (sym (ap call_in same)) (View.call b.type_id b.result c.id c.tail a.rest (eqb-true i.opcode 57 e) same a.ending c.rest)
 
-is_phi : (G : Table) (i : PlainInst) → Fits G i → nat_eq i.opcode 245 ≡ true → View G i (phi_in i.operands)
+is_phi : (G : Table) (i : PlainInst) → FitsShape G i → nat_eq i.opcode 245 ≡ true → View G i (phi_in i.operands)
 is_phi G i h e =
     let a = has_row G i _ h (by_opcode i 245 _ e row_245) in
     let b = headed G a.rest i.operands a.each in
     subst (View G i) (sym (ap phi_in b.same)) (View.phi b.type_id b.result b.tail a.rest (eqb-true i.opcode 245 e) b.same a.ending b.rest)
 
-is_a_label : (G : Table) (i : PlainInst) → Fits G i → nat_eq i.opcode 248 ≡ true → View G i Label
+is_a_label : (G : Table) (i : PlainInst) → FitsShape G i → nat_eq i.opcode 248 ≡ true → View G i Label
 is_a_label G i h e =
     let a = closed_row G (R ∷ []) 248 248 class.Label i.operands (has_row G i _ h (by_opcode i 248 _ e row_248)) in
     let one = take G R [] i.operands a in
     let p = a_result G one.head one.fits in
     View.label p.0 (eqb-true i.opcode 248 e) (one.same ∙ (ap (λ o. o ∷ one.tail) p.1 ∙ ap (λ os. operand.Result p.0 ∷ os) (none G one.tail one.rest)))
 
-is_branch : (G : Table) (i : PlainInst) → Fits G i → nat_eq i.opcode 249 ≡ true → View G i (branch_in i.operands)
+is_branch : (G : Table) (i : PlainInst) → FitsShape G i → nat_eq i.opcode 249 ≡ true → View G i (branch_in i.operands)
 is_branch G i h e =
     let a = closed_row G (l ∷ []) 249 249 class.Branch i.operands (has_row G i _ h (by_opcode i 249 _ e row_249)) in
     let b = led G role.Label [] i.operands a in
     let same = b.same ∙ ap (λ os. operand.Id b.id ∷ os) (none G b.tail b.rest) in
     subst (View G i) (sym (ap branch_in same)) (View.branch b.id (eqb-true i.opcode 249 e) same)
 
-is_condition : (G : Table) (i : PlainInst) → Fits G i → nat_eq i.opcode 250 ≡ true → View G i (condition_in i.operands)
+is_condition : (G : Table) (i : PlainInst) → FitsShape G i → nat_eq i.opcode 250 ≡ true → View G i (condition_in i.operands)
 is_condition G i h e =
     let a = has_row G i _ h (by_opcode i 250 _ e row_250) in
     let b = led G role.Value (l ∷ l ∷ a.rest) i.operands a.each in
@@ -263,7 +263,7 @@ is_condition G i h e =
     let same = b.same ∙ ap (λ os. operand.Id b.id ∷ os) (c.same ∙ ap (λ os. operand.Id c.id ∷ os) d.same) in
     subst (View G i) (sym (ap condition_in same)) (View.condition b.id c.id d.id d.tail a.rest (eqb-true i.opcode 250 e) same a.ending d.rest)
 
-is_switch : (G : Table) (i : PlainInst) → Fits G i → nat_eq i.opcode 251 ≡ true → View G i (switch_in i.operands)
+is_switch : (G : Table) (i : PlainInst) → FitsShape G i → nat_eq i.opcode 251 ≡ true → View G i (switch_in i.operands)
 is_switch G i h e =
     let a = has_row G i _ h (by_opcode i 251 _ e row_251) in
     let b = led G role.Value (l ∷ a.rest) i.operands a.each in
@@ -271,23 +271,23 @@ is_switch G i h e =
     let same = b.same ∙ ap (λ os. operand.Id b.id ∷ os) c.same in
     subst (View G i) (sym (ap switch_in same)) (View.switch b.id c.id c.tail a.rest (eqb-true i.opcode 251 e) same a.ending c.rest)
 
-is_return : (G : Table) (i : PlainInst) → Fits G i → nat_eq i.opcode 253 ≡ true → View G i Return
+is_return : (G : Table) (i : PlainInst) → FitsShape G i → nat_eq i.opcode 253 ≡ true → View G i Return
 is_return G i h e = View.return (eqb-true i.opcode 253 e) (none G i.operands (closed_row G [] 253 253 class.Return i.operands (has_row G i _ h (by_opcode i 253 _ e row_253))))
 
-is_value : (G : Table) (i : PlainInst) → Fits G i → nat_eq i.opcode 254 ≡ true → View G i (value_in i.operands)
+is_value : (G : Table) (i : PlainInst) → FitsShape G i → nat_eq i.opcode 254 ≡ true → View G i (value_in i.operands)
 is_value G i h e =
     let a = closed_row G (v ∷ []) 254 254 class.Return i.operands (has_row G i _ h (by_opcode i 254 _ e row_254)) in
     let b = led G role.Value [] i.operands a in
     let same = b.same ∙ ap (λ os. operand.Id b.id ∷ os) (none G b.tail b.rest) in
     subst (View G i) (sym (ap value_in same)) (View.value b.id (eqb-true i.opcode 254 e) same)
 
-is_unreachable : (G : Table) (i : PlainInst) → Fits G i → nat_eq i.opcode 255 ≡ true → View G i act.Unreachable
+is_unreachable : (G : Table) (i : PlainInst) → FitsShape G i → nat_eq i.opcode 255 ≡ true → View G i act.Unreachable
 is_unreachable G i h e = View.unreachable (eqb-true i.opcode 255 e) (none G i.operands (closed_row G [] 255 255 class.Return i.operands (has_row G i _ h (by_opcode i 255 _ e row_255))))
 
 one_step : (G : Table) (i : PlainInst) (n : ℕ) (a b : Act) → (nat_eq i.opcode n ≡ true → View G i a) → (nat_eq i.opcode n ≡ false → View G i b) → View G i (if nat_eq i.opcode n then a else b)
 one_step G i n a b is_so is_not = elim (cases_Bool (nat_eq i.opcode n)) [ inl e ↦ rw e (is_so e) | inr e ↦ rw e (is_not e) ]
 
-pub view : (G : Table) (i : PlainInst) → Fits G i → View G i (act_of i)
+pub view : (G : Table) (i : PlainInst) → FitsShape G i → View G i (act_of i)
 unfolding act_of
 view G i h =
     one_step G i 54 _ _ (is_function G i h) (λ e54.

@@ -12,8 +12,9 @@ use Rattle.spv_run.specs.State.{Frame, State, Outcome, Goes, Last, Before, retur
 use Rattle.spv_run.specs.Machine.{Lands, Chooses, Enters, Moves, Does, step, no_choice, bad_choice}
 use Rattle.spv_run.specs.State as machine
 use Rattle.spv_run.proofs.Fit.{HasOneDefinition}
-use Rattle.spv_run.specs.Trace.{Kept, Turn, at, at_call, by_caller, IsCalled, ByTarget, ByChoice, Comes, ending_of}
-use Rattle.spv_run.specs.Trace as trace
+use Rattle.spv_run.specs.Trace.{ending_of}
+use Rattle.spv_run.specs.inner.Trace.{Kept, Turn, at, at_call, by_caller, IsCalled, ByTarget, ByChoice, Comes}
+use Rattle.spv_run.specs.inner.Trace as trace_inner
 use Rattle.spv_run.proofs.Once.{head_once, label_ends, end_ends}
 use Rattle.spv_run.proofs.Basics.{act_same}
 use Rattle.spv_run.proofs.Standing.{result_of}
@@ -27,9 +28,9 @@ kept_of s = record { position = s.top.position; callers = returns_to s.below; ch
 
 -- the turn is the outcome without types
 abbrev pub Shows : Outcome → Turn → Type 0
-Shows (Goes s) (trace.Goes k) = k ≡ kept_of s
-Shows (Last e) (trace.Last f) = e ≡ ending_of f
-Shows (Before e) (trace.Before f) = e ≡ ending_of f
+Shows (Goes s) (trace_inner.Goes k) = k ≡ kept_of s
+Shows (Last e) (trace_inner.Last f) = e ≡ ending_of f
+Shows (Before e) (trace_inner.Before f) = e ≡ ending_of f
 Shows _ _ = ⊥
 
 shown : (o p : Outcome) (t u : Turn) → o ≡ p → t ≡ u → Shows p u → Shows o t
@@ -45,10 +46,10 @@ abbrev kept_at : ℕ → List ℕ → List ℕ → Kept
 kept_at p ks ds = record { position = p; callers = ks; choices = ds }
 
 landed : (is : List PlainInst) → HasOneDefinition is → (s : State) (cs : List ℕ) (o : Outcome) (t : Turn) (x n : ℕ) (fr : Frame) → Lands is s.top x fr → IsLabelOf is x n
-    → o ≡ Goes (record { top = fr; below = s.below; choices = cs }) → t ≡ trace.Goes (kept_at n (returns_to s.below) cs) → Shows o t
+    → o ≡ Goes (record { top = fr; below = s.below; choices = cs }) → t ≡ trace_inner.Goes (kept_at n (returns_to s.below) cs) → Shows o t
 landed is once s cs o t x n fr l label e f =
     let same : n ≡ fr.position = one_label is once n l.place x label l.label ∙ sym (ap (λ (f : Frame). f.position) l.comes) in
-    shown o (Goes (record { top = fr; below = s.below; choices = cs })) t (trace.Goes (kept_at n (returns_to s.below) cs)) e f (ap (λ p. kept_at p (returns_to s.below) cs) same)
+    shown o (Goes (record { top = fr; below = s.below; choices = cs })) t (trace_inner.Goes (kept_at n (returns_to s.below) cs)) e f (ap (λ p. kept_at p (returns_to s.below) cs) same)
 
 chosen : (is : List PlainInst) → HasOneDefinition is → (s : State) (o : Outcome) (t : Turn) (ls left : List ℕ) (x : ℕ) (fr : Frame)
     → Chooses s.choices ls x left → Lands is s.top x fr → o ≡ Goes (record { top = fr; below = s.below; choices = left }) → ByChoice is (kept_of s) ls s.choices t → Shows o t
@@ -78,8 +79,8 @@ called is once s x tags o t (Enters.declaration g e bs f d h) (IsCalled.declarat
 
 back : (is : List PlainInst) (fr : Frame) (below : List Frame) (cs : List ℕ) (t : ℕ) (o : Outcome) (u : Turn) → o ≡ returned is below cs t
     → u ≡ by_caller (kept_at fr.position (returns_to below) cs) (returns_to below) → Shows o u
-back is fr [] cs t o u e f = shown o _ u (trace.Last _) e f refl
-back is fr (c ∷ below) cs t o u e f = shown o _ u (trace.Goes (kept_at (suc c.position) (returns_to below) cs)) e f refl
+back is fr [] cs t o u e f = shown o _ u (trace_inner.Last _) e f refl
+back is fr (c ∷ below) cs t o u e f = shown o _ u (trace_inner.Goes (kept_at (suc c.position) (returns_to below) cs)) e f refl
 
 moves : (is : List PlainInst) → HasOneDefinition is → (s : State) (a : Act) (tags : List ℕ) (o : Outcome) (t : Turn) → Comes is a (kept_of s) t → Moves is s a tags o → Shows o t
 moves is once s Function tags o t c h = absurd h
@@ -94,19 +95,19 @@ moves is once s (Choose v ls) tags o t c (x, left, fr, g, l, h) = chosen is once
 moves is once s (Call x xs) tags o t c h = called is once s x tags o t h c
 moves is once s Return tags o t c (u, e, h) = back is s.top s.below s.choices u o t h c
 moves is once s (ReturnValue v) tags o t c (u, e, h) = back is s.top s.below s.choices u o t h c
-moves is once s act.Unreachable tags o t c h = shown o _ t (trace.Last _) h c refl
+moves is once s act.Unreachable tags o t c h = shown o _ t (trace_inner.Last _) h c refl
 
 none_left : (is : List PlainInst) (s : State) (ls : List ℕ) (o : Outcome) (t : Turn) → s.choices ≡ [] → o ≡ Before machine.NoChoice → ByChoice is (kept_of s) ls s.choices t → Shows o t
 none_left is s ls o t empty e c =
     let P : List ℕ → Type 0 = λ cs. ByChoice is (kept_of s) ls cs t in
-    shown o _ t (trace.Before _) e (subst P empty c) refl
+    shown o _ t (trace_inner.Before _) e (subst P empty c) refl
 
 no_target : (is : List PlainInst) (s : State) (k : ℕ) (ls left : List ℕ) (o : Outcome) (t : Turn) → s.choices ≡ k ∷ left → slice_get ls k ≡ None → o ≡ Before machine.BadChoice
     → ByChoice is (kept_of s) ls s.choices t → Shows o t
 no_target is s k ls left o t some out e c =
     let P : List ℕ → Type 0 = λ cs. ByChoice is (kept_of s) ls cs t in
     let Q : Option ℕ → Type 0 = λ r. ByTarget is (kept_of s) left r t in
-    shown o _ t (trace.Before _) e (subst Q out (subst P some c)) refl
+    shown o _ t (trace_inner.Before _) e (subst Q out (subst P some c)) refl
 
 -- What comes of an instruction shows what the machine does.
 pub simulated : (G : Table) (is : List PlainInst) → HasOneDefinition is → (s : State) (o : Outcome) (t : Turn)

@@ -2,7 +2,7 @@
 use Rattle.std.proofs.Common.{ℕ, List}
 use Rattle.spv_table.specs.Table.{Table}
 use Rattle.spv_module.specs.Operand.{PlainInst}
-use Rattle.spv_run.specs.Sound.{IsSound}
+use Rattle.spv_run.specs.Sound.{KeepsRules}
 use Rattle.spv_run.proofs.Checked.{IsChecked}
 use Rattle.spv_run.proofs.Laid.{laid_out}
 use Rattle.spv_run.proofs.Unbroken.{no_cycle, one_definition, has_labels}
@@ -10,7 +10,7 @@ use Rattle.spv_run.proofs.Scoped.{labels_in_scope, has_parents, all_ready, other
 use Rattle.spv_run.proofs.Typing.{all_typed, has_entries}
 use Rattle.spv_run.proofs.Signatures.{has_signatures}
 
-pub checked : (G : Table) (bound : ℕ) (is : List PlainInst) → IsSound G bound is → IsChecked G is
+pub checked : (G : Table) (bound : ℕ) (is : List PlainInst) → KeepsRules G bound is → IsChecked G is
 checked G bound is sound =
     let fits = sound.fits in
     let laid = laid_out G is fits sound.layout in

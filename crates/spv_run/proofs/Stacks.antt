@@ -4,7 +4,8 @@ use Rattle.std.proofs.lemmas.Option.{same_Some}
 use Rattle.spv_table.specs.Table.{Table}
 use Rattle.spv_module.specs.Operand.{PlainInst, Id, type_in}
 use Rattle.spv_run.specs.Act.{Act, Function, Parameter, FunctionEnd, Label, Phi, Branch, Choose, Call, Return, ReturnValue, Other, act_of}
-use Rattle.spv_run.specs.At.{act_at, type_at, targets, goes_on}
+use Rattle.spv_run.specs.At.{act_at, type_at}
+use Rattle.spv_run.specs.inner.At.{targets, goes_on}
 use Rattle.spv_run.specs.Head.{IsDefined, Binding}
 use Rattle.spv_run.proofs.Place.{IsFunction}
 use Rattle.spv_run.specs.Row.{Row}

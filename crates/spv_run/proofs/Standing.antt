@@ -16,7 +16,8 @@ use Rattle.spv_ids.specs.Definition.{IsDefinedAt}
 use Rattle.spv_branches.specs.Target as target
 use Rattle.spv_branches.specs.Target.{IsOp, IsLabelOf}
 use Rattle.spv_run.specs.Act.{Act, Function, FunctionEnd, Label, act_of}
-use Rattle.spv_run.specs.At.{act_at, result_at, goes_on}
+use Rattle.spv_run.specs.At.{act_at, result_at}
+use Rattle.spv_run.specs.inner.At.{goes_on}
 use Rattle.spv_run.proofs.Place.{IsOf, IsIn, IsLocalTo, IsLocal, IsLabel}
 use Rattle.spv_run.proofs.LaidOut.{IsLaidOut}
 use Rattle.spv_run.proofs.Fit.{AllFit}

@@ -8,7 +8,7 @@ use Rattle.spv_run.specs.Machine.{Does}
 use Rattle.spv_run.specs.Run.{step_of, Run, limit, next, last, before, stuck}
 use Rattle.spv_run.specs.declared.parts.Step.{Step}
 use Rattle.spv_run.proofs.Checked.{IsChecked}
-use Rattle.spv_run.specs.Definitions.{HasDefinitions}
+use Rattle.spv_run.specs.Definitions.{AreDefinitions}
 use Rattle.spv_calls.specs.Calls.{IsEntryFunction}
 use Rattle.spv_run.specs.Promise.{IsDeclaredIn, Runs, NeverGetsStuck}
 use Rattle.spv_run.proofs.Frames.{Stands}
@@ -44,7 +44,7 @@ declared_all : (is : List PlainInst) (e : ℕ) (fr : Frame) (below : List Frame)
 declared_all is e fr [] k = tt
 declared_all is e fr (c ∷ below) k = (declared_in is c (top_stands is e c below k.2), declared_all is e c below k.2)
 
-bounded : (G : Table) (is : List PlainInst) → IsChecked G is → (ds : List ℕ) → HasDefinitions is ds → (e : ℕ) → IsEntryFunction is e → (n : ℕ) (s : State) (steps : List Step) (f : Ending)
+bounded : (G : Table) (is : List PlainInst) → IsChecked G is → (ds : List ℕ) → AreDefinitions is ds → (e : ℕ) → IsEntryFunction is e → (n : ℕ) (s : State) (steps : List Step) (f : Ending)
     → Stack is e s.top s.below → Run G is n s steps f → AllByRecursion (λ step. step.depth < length ds) steps
 bounded G is ok ds has e entry _ _ _ _ k (limit s) = tt
 bounded G is ok ds has e entry _ _ _ _ k (next n s after steps f d r) =

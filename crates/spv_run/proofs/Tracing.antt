@@ -12,15 +12,16 @@ use Rattle.spv_run.specs.Machine.{Does}
 use Rattle.spv_run.specs.State as machine
 use Rattle.spv_run.specs.Run.{step_of, IsStart, Run, limit, next, last, before}
 use Rattle.spv_calls.specs.Calls.{IsEntryFunction}
-use Rattle.spv_run.specs.Sound.{IsSound}
+use Rattle.spv_run.specs.Sound.{KeepsRules}
 use Rattle.spv_run.proofs.Checked.{IsChecked}
 use Rattle.spv_run.proofs.Sound.{checked}
 use Rattle.spv_ids.specs.declared.ids.Ids.{Ids}
-use Rattle.spv_calls.specs.Found.{AreNumbered}
+use Rattle.spv_ids.specs.Outcome.{AreNumbered}
 use Rattle.spv_run.specs.Act.{act_of}
-use Rattle.spv_run.specs.Bodies.{HaveEntries}
-use Rattle.spv_run.specs.Trace.{Kept, kept, Comes, IsTurn, ending_of, IsRun}
-use Rattle.spv_run.specs.Trace as trace
+use Rattle.spv_run.specs.inner.Bodies.{HaveEntries}
+use Rattle.spv_run.specs.Trace.{ending_of}
+use Rattle.spv_run.specs.inner.Trace.{Kept, kept, Comes, IsTurn, IsRun}
+use Rattle.spv_run.specs.inner.Trace as trace_inner
 use Rattle.spv_run.proofs.Stacks.{Stack, top_stands, started, preserved}
 use Rattle.spv_run.proofs.Progress.{progress}
 use Rattle.spv_run.proofs.Simulates.{returns_to, kept_of, Shows, simulated}
@@ -43,10 +44,10 @@ pub record Found : Type 0 where
 abbrev pub Going : Found → ℕ → List Step → Walker → Type 0
 Going m i steps w =
     (G : Table) (bound g : ℕ) (s : State)
-    → IsSound G bound m.insts → AreNumbered m.insts m.ids → HaveEntries m.insts m.entries → IsEntryFunction m.insts g → IsStart m.insts g m.choices s → s.top.position ≡ m.entry
+    → KeepsRules G bound m.insts → AreNumbered m.insts m.ids → HaveEntries m.insts m.entries → IsEntryFunction m.insts g → IsStart m.insts g m.choices s → s.top.position ≡ m.entry
     → Ongoing G m.insts g s i steps (kept w m.choices)
 
-abbrev TurnsTo : Found → Walker → trace.Turn → Type 0
+abbrev TurnsTo : Found → Walker → trace_inner.Turn → Type 0
 TurnsTo m w t = IsTurn m.insts m.ids m.entries (kept w m.choices) t
 
 abbrev Told : Found → ℕ → List Step → Ending → Type 0
@@ -56,23 +57,23 @@ abbrev step_at : ℕ → ℕ → Step
 step_at d n = record { depth = d; inst = n }
 
 -- the outcome of a turn
-goes : (G : Table) (is : List PlainInst) (s : State) (k : Kept) (o : Outcome) → Does G is s o → Shows o (trace.Goes k) → (after : State) × Does G is s (Goes after) × (k ≡ kept_of after)
+goes : (G : Table) (is : List PlainInst) (s : State) (k : Kept) (o : Outcome) → Does G is s o → Shows o (trace_inner.Goes k) → (after : State) × Does G is s (Goes after) × (k ≡ kept_of after)
 goes G is s k (Goes after) d h = (after, d, h)
 goes G is s k (Last e) d h = absurd h
 goes G is s k (Before e) d h = absurd h
 
-ends : (G : Table) (is : List PlainInst) (s : State) (e : Ending) (o : Outcome) → Does G is s o → Shows o (trace.Last e) → Does G is s (Last (ending_of e))
+ends : (G : Table) (is : List PlainInst) (s : State) (e : Ending) (o : Outcome) → Does G is s o → Shows o (trace_inner.Last e) → Does G is s (Last (ending_of e))
 ends G is s e (Goes after) d h = absurd h
 ends G is s e (Last f) d h = let P : machine.Ending → Type 0 = λ z. Does G is s (Last z) in subst P h d
 ends G is s e (Before f) d h = absurd h
 
-ends_before : (G : Table) (is : List PlainInst) (s : State) (e : Ending) (o : Outcome) → Does G is s o → Shows o (trace.Before e) → Does G is s (Before (ending_of e))
+ends_before : (G : Table) (is : List PlainInst) (s : State) (e : Ending) (o : Outcome) → Does G is s o → Shows o (trace_inner.Before e) → Does G is s (Before (ending_of e))
 ends_before G is s e (Goes after) d h = absurd h
 ends_before G is s e (Last f) d h = absurd h
 ends_before G is s e (Before f) d h = let P : machine.Ending → Type 0 = λ z. Does G is s (Before z) in subst P h d
 
 -- what comes of the state where the run stands
-outcome : (G : Table) (is : List PlainInst) → IsChecked G is → (g : ℕ) (s : State) (i : ℕ) (steps : List Step) (k : Kept) (on : Ongoing G is g s i steps k) (t : trace.Turn)
+outcome : (G : Table) (is : List PlainInst) → IsChecked G is → (g : ℕ) (s : State) (i : ℕ) (steps : List Step) (k : Kept) (on : Ongoing G is g s i steps k) (t : trace_inner.Turn)
     → ((j : PlainInst) → slice_get is k.position ≡ Some j → Comes is (act_of j) k t) → (o : Outcome) × Does G is on.now o × Shows o t
 outcome G is ok g s i steps k on t come =
     let p = progress G is ok on.now (top_stands is g on.now.top on.now.below on.stack) in
@@ -105,13 +106,13 @@ going_init m w steps e c p t G bound g s sound num have point start at =
       more = λ n rest f r. moved G m.insts n (0 + n) s rest (steps ++ rest) f (omega arith) (sym (ap (λ zs. zs ++ rest) e)) r;
     }
 
-pub going_on : (m : Found) (i : ℕ) (steps later : List Step) (w v : Walker) (d : ℕ) → Going m i steps w → TurnsTo m w (trace.Goes (kept v m.choices))
+pub going_on : (m : Found) (i : ℕ) (steps later : List Step) (w v : Walker) (d : ℕ) → Going m i steps w → TurnsTo m w (trace_inner.Goes (kept v m.choices))
     → d ≡ length w.callers.items → later ≡ steps ++ step_at d w.position ∷ [] → Going m (i + 1) later v
 going_on m i steps later w v d going e h l G bound g s sound num have point start at =
     let is = m.insts in
     let ok = checked G bound is sound in
     let on = going G bound g s sound num have point start at in
-    let o = outcome G is ok g s i steps (kept w m.choices) on (trace.Goes (kept v m.choices)) (λ j there. e.each G bound j sound num have there) in
+    let o = outcome G is ok g s i steps (kept w m.choices) on (trace_inner.Goes (kept v m.choices)) (λ j there. e.each G bound j sound num have there) in
     let r = goes G is on.now (kept v m.choices) o.0 o.1 o.2 in
     let step = same_step on.now w m.choices d on.same h in
     record {
@@ -124,25 +125,25 @@ going_on m i steps later w v d going e h l G bound g s sound num have point star
           (on.more (suc n) (step_of on.now ∷ rest) f (next n on.now r.0 rest f r.1 run));
     }
 
-pub going_last : (m : Found) (i most : ℕ) (steps later : List Step) (w : Walker) (d : ℕ) (f : Ending) → Going m i steps w → TurnsTo m w (trace.Last f)
+pub going_last : (m : Found) (i most : ℕ) (steps later : List Step) (w : Walker) (d : ℕ) (f : Ending) → Going m i steps w → TurnsTo m w (trace_inner.Last f)
     → d ≡ length w.callers.items → later ≡ steps ++ step_at d w.position ∷ [] → i < most → Told m most later f
 going_last m i most steps later w d f going e h l lt G bound g s sound num have point start at =
     let is = m.insts in
     let ok = checked G bound is sound in
     let on = going G bound g s sound num have point start at in
-    let o = outcome G is ok g s i steps (kept w m.choices) on (trace.Last f) (λ j there. e.each G bound j sound num have there) in
+    let o = outcome G is ok g s i steps (kept w m.choices) on (trace_inner.Last f) (λ j there. e.each G bound j sound num have there) in
     let r = ends G is on.now f o.0 o.1 o.2 in
     let step = same_step on.now w m.choices d on.same h in
     let n : ℕ = most - suc i in
     moved G is (i + suc n) most s (steps ++ step_of on.now ∷ []) later (ending_of f) (omega (arith, lt)) (ap (λ z. steps ++ z ∷ []) (sym step) ∙ sym l)
     (on.more (suc n) (step_of on.now ∷ []) (ending_of f) (last n on.now (ending_of f) r))
 
-pub going_before : (m : Found) (i most : ℕ) (steps : List Step) (w : Walker) (f : Ending) → Going m i steps w → TurnsTo m w (trace.Before f) → i < most → Told m most steps f
+pub going_before : (m : Found) (i most : ℕ) (steps : List Step) (w : Walker) (f : Ending) → Going m i steps w → TurnsTo m w (trace_inner.Before f) → i < most → Told m most steps f
 going_before m i most steps w f going e lt G bound g s sound num have point start at =
     let is = m.insts in
     let ok = checked G bound is sound in
     let on = going G bound g s sound num have point start at in
-    let o = outcome G is ok g s i steps (kept w m.choices) on (trace.Before f) (λ j there. e.each G bound j sound num have there) in
+    let o = outcome G is ok g s i steps (kept w m.choices) on (trace_inner.Before f) (λ j there. e.each G bound j sound num have there) in
     let r = ends_before G is on.now f o.0 o.1 o.2 in
     let n : ℕ = most - suc i in
     moved G is (i + suc n) most s (steps ++ []) steps (ending_of f) (omega (arith, lt)) (append-nil steps)

@@ -10,10 +10,11 @@ use Rattle.spv_module.specs.Width.{definition_of, type_of}
 use Rattle.spv_module.specs.declared.fault.Rule.{Rule}
 use Rattle.spv_module.specs.declared.fault.Rule.TheVariants as rule
 use Rattle.spv_layout.specs.Place.{IsDefinition}
-use Rattle.spv_ops.specs.Operands.{ids_in}
-use Rattle.spv_ops.specs.Values.{types_of, paired_ids_in}
+use Rattle.spv_type_forms.specs.Operands.{ids_in}
+use Rattle.spv_type_forms.specs.Values.{types_of, paired_ids_in}
 use Rattle.spv_ops.specs.Values as rows
-use Rattle.spv_ops.specs.Typed.{Typed, IsTypedIn}
+use Rattle.spv_ops.specs.Typed.{Typed}
+use Rattle.spv_ops.specs.inner.Typed.{IsTypedIn}
 use Rattle.spv_ops.proofs.Judged.{told}
 use Rattle.spv_capabilities.specs.Keeps as capability_rules
 use Rattle.spv_capabilities.specs.Entry.{IsSoundEntry, IsKernelFunction}

@@ -14,7 +14,8 @@ use Rattle.spv_branches.specs.Target as target
 use Rattle.spv_branches.specs.Target.{IsOp, IsLabelOf, IsTarget}
 use Rattle.spv_calls.specs.Broken as calls
 use Rattle.spv_run.specs.Act.{Act, Label, act_of}
-use Rattle.spv_run.specs.At.{act_at, targets}
+use Rattle.spv_run.specs.At.{act_at}
+use Rattle.spv_run.specs.inner.At.{targets}
 use Rattle.spv_run.proofs.Place.{IsLabel}
 use Rattle.spv_run.proofs.Fit.{AllFit, HasOneDefinition}
 use Rattle.spv_run.proofs.Checked.{HasNoCycle}

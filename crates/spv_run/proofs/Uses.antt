@@ -12,7 +12,7 @@ use Rattle.spv_layout.specs.declared.form.Role.{Role}
 use Rattle.spv_layout.specs.declared.form.Role.TheVariants as role
 use Rattle.spv_layout.specs.Row.{PlainRow, repeated, T, R, N, v, l, f}
 use Rattle.spv_layout.specs.Rows.{row_of}
-use Rattle.spv_layout.specs.Shape.{is_of, AreOf, Ends, Fits, role_of, id_of, IsUse}
+use Rattle.spv_layout.specs.Shape.{is_of, AreOf, Ends, FitsShape, role_of, id_of, IsUse}
 use Rattle.spv_ids.specs.Definition.{IsUsedAt}
 use Rattle.spv_ops.specs.declared.row.Row.{Row}
 use Rattle.spv_ops.specs.declared.row.Row.TheVariants as types_row
@@ -20,10 +20,11 @@ use Rattle.spv_ops.specs.Row.{row_of as types_row_of}
 use Rattle.spv_ops.specs.Values.{values_of as rows_values_of}
 use Rattle.spv_ops.proofs.ValuePlaces.{values_agree}
 use Rattle.spv_run.specs.Row.{values_of}
-use Rattle.spv_ops.specs.Operands.{ids_in}
-use Rattle.spv_ops.specs.Values.{used_in}
+use Rattle.spv_type_forms.specs.Operands.{ids_in}
+use Rattle.spv_type_forms.specs.Values.{used_in}
 use Rattle.spv_run.specs.Act.{Act, Pair, Phi, act_of, pairs, labels_in}
-use Rattle.spv_run.specs.At.{targets, value_from}
+use Rattle.spv_run.specs.At.{value_from}
+use Rattle.spv_run.specs.inner.At.{targets}
 use Rattle.spv_run.proofs.Shapes.{take, none, led, View, view, row_57, row_245, row_249, row_250, row_251, row_254}
 
 -- Some operand of a form is an id in the role.
@@ -40,7 +41,7 @@ placed : (r : Role) (x : ℕ) (fs : List Form) (os : List Plain) → HasUse r x 
 placed r x _ _ (HasUse.here fs os) = record { place = 0; form_at = refl; operand_at = refl }
 placed r x _ _ (HasUse.there g o fs os u) = let p = placed r x fs os u in record { place = suc p.place; form_at = p.form_at; operand_at = p.operand_at }
 
-pub use_by : (G : Table) (is : List PlainInst) (n : ℕ) (i : PlainInst) (r : Role) (x : ℕ) → slice_get is n ≡ Some i → (h : Fits G i) → HasUse r x h.forms i.operands → (k : ℕ) × IsUsedAt G is n k x r
+pub use_by : (G : Table) (is : List PlainInst) (n : ℕ) (i : PlainInst) (r : Role) (x : ℕ) → slice_get is n ≡ Some i → (h : FitsShape G i) → HasUse r x h.forms i.operands → (k : ℕ) × IsUsedAt G is n k x r
 use_by G is n i r x at h u =
     let p = placed r x h.forms i.operands u in (
       p.place,
@@ -57,7 +58,7 @@ pub record Forms (G : Table) (r : PlainRow) (fs : List Form) : Type 0 where
   pub ending : Ends r.ending rest
   pub same : fs ≡ r.fixed ++ rest
 
-pub forms_of : (G : Table) (i : PlainInst) (r : PlainRow) → (h : Fits G i) → row_of i.opcode ≡ Some r → Forms G r h.forms
+pub forms_of : (G : Table) (i : PlainInst) (r : PlainRow) → (h : FitsShape G i) → row_of i.opcode ≡ Some r → Forms G r h.forms
 forms_of G i r h e =
     let s = h.has in
     let same : s.row ≡ r = let both : Some s.row ≡ Some r = sym s.known ∙ e in cc in
@@ -149,7 +150,7 @@ drop_two G g h gs o p os (AreOf.more _ _ _ _ i (AreOf.more _ _ _ _ j a)) = a
 drop_three : (G : Table) (g h k : Form) (gs : List Form) (o p q : Plain) (os : List Plain) → AreOf G (g ∷ h ∷ k ∷ gs) (o ∷ p ∷ q ∷ os) → AreOf G gs os
 drop_three G g h k gs o p q os (AreOf.more _ _ _ _ i (AreOf.more _ _ _ _ j (AreOf.more _ _ _ _ m a))) = a
 
-target_view : (G : Table) (i : PlainInst) (a : Act) (x : ℕ) → (h : Fits G i) → View G i a → Contains (targets a) x → HasUse role.Label x h.forms i.operands
+target_view : (G : Table) (i : PlainInst) (a : Act) (x : ℕ) → (h : FitsShape G i) → View G i a → Contains (targets a) x → HasUse role.Label x h.forms i.operands
 target_view G i _ x h (View.branch y e same) c =
     let fs = forms_of G i _ h (row_at i 249 _ e row_249) in
     use_moved role.Label x h.forms (l ∷ fs.rest) i.operands (operand.Id y ∷ []) fs.same same
@@ -182,12 +183,12 @@ target_view G i _ x h (View.unreachable e os) c = absurd (none_among x [] c)
 target_view G i _ x h (View.other e) c = absurd (none_among x [] c)
 
 -- a target is a use as a label
-pub target_use : (G : Table) (is : List PlainInst) (n : ℕ) (i : PlainInst) (x : ℕ) → slice_get is n ≡ Some i → Fits G i → Contains (targets (act_of i)) x → (k : ℕ) × IsUsedAt G is n k x role.Label
+pub target_use : (G : Table) (is : List PlainInst) (n : ℕ) (i : PlainInst) (x : ℕ) → slice_get is n ≡ Some i → FitsShape G i → Contains (targets (act_of i)) x → (k : ℕ) × IsUsedAt G is n k x role.Label
 target_use G is n i x at h c = use_by G is n i role.Label x at h (target_view G i (act_of i) x h (view G i h) c)
 
 -- The values of phis, calls and returns.
 
-pub record PhiForms (G : Table) (i : PlainInst) (h : Fits G i) (ps : List Pair) : Type 0 where
+pub record PhiForms (G : Table) (i : PlainInst) (h : FitsShape G i) (ps : List Pair) : Type 0 where
   pub of_type : ℕ
   pub result : ℕ
   pub tail : List Plain
@@ -199,7 +200,7 @@ pub record PhiForms (G : Table) (i : PlainInst) (h : Fits G i) (ps : List Pair) 
   pub each : AreOf G rest tail
   pub pairs_are : ps ≡ pairs tail
 
-phi_forms_view : (G : Table) (i : PlainInst) (a : Act) (ps : List Pair) → (h : Fits G i) → View G i a → a ≡ Phi ps → PhiForms G i h ps
+phi_forms_view : (G : Table) (i : PlainInst) (a : Act) (ps : List Pair) → (h : FitsShape G i) → View G i a → a ≡ Phi ps → PhiForms G i h ps
 phi_forms_view G i _ ps h (View.phi t b os gs e same en each) q =
     let fs = forms_of G i _ h (row_at i 245 _ e row_245) in
     record {
@@ -227,7 +228,7 @@ phi_forms_view G i _ ps h (View.value x e os) q = cc
 phi_forms_view G i _ ps h (View.unreachable e os) q = cc
 phi_forms_view G i _ ps h (View.other e) q = cc
 
-pub phi_forms : (G : Table) (i : PlainInst) (ps : List Pair) → (h : Fits G i) → act_of i ≡ Phi ps → PhiForms G i h ps
+pub phi_forms : (G : Table) (i : PlainInst) (ps : List Pair) → (h : FitsShape G i) → act_of i ≡ Phi ps → PhiForms G i h ps
 phi_forms G i ps h e = phi_forms_view G i (act_of i) ps h (view G i h) e
 
 -- a value and its label, in the first pair with the label
@@ -262,7 +263,7 @@ pub record PairUses (G : Table) (is : List PlainInst) (n y w : ℕ) : Type 0 whe
   pub value : IsUsedAt G is n operand w role.Value
   pub label : IsUsedAt G is n (operand + 1) y role.Label
 
-pub pair_uses : (G : Table) (is : List PlainInst) (n : ℕ) (i : PlainInst) (ps : List Pair) (y w : ℕ) → slice_get is n ≡ Some i → Fits G i → act_of i ≡ Phi ps → value_from ps y ≡ Some w → PairUses G is n y w
+pub pair_uses : (G : Table) (is : List PlainInst) (n : ℕ) (i : PlainInst) (ps : List Pair) (y w : ℕ) → slice_get is n ≡ Some i → FitsShape G i → act_of i ≡ Phi ps → value_from ps y ≡ Some w → PairUses G is n y w
 pair_uses G is n i ps y w at h k e =
     let p = phi_forms G i ps h k in
     let e' : value_from (pairs p.tail) y ≡ Some w = ap (λ qs. value_from qs y) (sym p.pairs_are) ∙ e in
@@ -325,13 +326,13 @@ label_paired G _ os y (suc (suc k)) g o (Ends.again _ gs en) a f u r d =
       | inr e ↦ (let w : value_from (pairs q.tail) y ≡ None = rw (same, e) at none in later w)
     ]
 
-pub parent_paired : (G : Table) (is : List PlainInst) (n : ℕ) (i : PlainInst) (ps : List Pair) (k y : ℕ) → slice_get is n ≡ Some i → Fits G i → act_of i ≡ Phi ps → IsUsedAt G is n k y role.Label → value_from ps y ≢ None
+pub parent_paired : (G : Table) (is : List PlainInst) (n : ℕ) (i : PlainInst) (ps : List Pair) (k y : ℕ) → slice_get is n ≡ Some i → FitsShape G i → act_of i ≡ Phi ps → IsUsedAt G is n k y role.Label → value_from ps y ≢ None
 parent_paired G is n i ps k y at h e used =
     let inst : used.inst ≡ i = let both : Some used.inst ≡ Some i = sym used.there ∙ at in cc in
     let u = subst (λ (j : PlainInst). IsUse G j k y role.Label) inst used.used in
     let p = phi_forms G i ps (record { forms = u.forms; has = u.has }) e in
     label_at p.rest p.tail p k u.form u.operand p.ending p.each (ap (λ gs. slice_get gs k) (sym p.forms) ∙ u.form_at) (ap (λ os. slice_get os k) (sym p.operands) ∙ u.operand_at) u.role u.id where
-      label_at : {h : Fits G i} (gs : List Form) (os : List Plain) → (p : PhiForms G i h ps) → (k : ℕ) (g : Form) (o : Plain) → Ends (repeated (v ∷ l ∷ [])) p.rest → AreOf G p.rest p.tail
+      label_at : {h : FitsShape G i} (gs : List Form) (os : List Plain) → (p : PhiForms G i h ps) → (k : ℕ) (g : Form) (o : Plain) → Ends (repeated (v ∷ l ∷ [])) p.rest → AreOf G p.rest p.tail
           → slice_get (T ∷ R ∷ p.rest) k ≡ Some g → slice_get (operand.OfType p.of_type ∷ operand.Result p.result ∷ p.tail) k ≡ Some o
           → role_of g o ≡ Some role.Label → id_of o ≡ Some y → value_from ps y ≢ None
       label_at gs os p zero g o en a f u r d = let e : g ≡ T = cc in let r' : Some role.OfType ≡ Some role.Label = rw e at r in cc
@@ -374,13 +375,13 @@ free_or types_row.ElementChain = inr (λ e. cc)
 free_values : (i : PlainInst) → types_row_of i.opcode ≡ types_row.Free → rows_values_of i ≡ []
 free_values i e = rw e refl
 
-other_use : (G : Table) (i : PlainInst) (x : ℕ) → (h : Fits G i) → Contains (rows_values_of i) x → HasUse role.Value x h.forms i.operands
+other_use : (G : Table) (i : PlainInst) (x : ℕ) → (h : FitsShape G i) → Contains (rows_values_of i) x → HasUse role.Value x h.forms i.operands
 other_use G i x h c = elim (free_or (types_row_of i.opcode)) [
   | inl e ↦ (let c' : Contains [] x = subst (λ xs. Contains xs x) (free_values i e) c in absurd (none_among x [] c'))
   | inr ne ↦ used_use h.forms i.operands x (subst (λ xs. Contains xs x) (sym (values_agree G i h.forms h.has ne)) c)
 ]
 
-value_view : (G : Table) (i : PlainInst) (a : Act) (x : ℕ) → (h : Fits G i) → View G i a → Contains (values_of i a) x → HasUse role.Value x h.forms i.operands
+value_view : (G : Table) (i : PlainInst) (a : Act) (x : ℕ) → (h : FitsShape G i) → View G i a → Contains (values_of i a) x → HasUse role.Value x h.forms i.operands
 value_view G i _ x h (View.call a b d os gs e same en each) c =
     let fs = forms_of G i _ h (row_at i 57 _ e row_57) in
     let rest : AreOf G fs.rest os = drop_three G T R f fs.rest (operand.OfType a) (operand.Result b) (operand.Id d) os
@@ -415,5 +416,5 @@ value_view G i _ x h (View.return e os) c = absurd (none_among x [] c)
 value_view G i _ x h (View.unreachable e os) c = absurd (none_among x [] c)
 
 -- a value is a use as one
-pub value_use : (G : Table) (is : List PlainInst) (n : ℕ) (i : PlainInst) (x : ℕ) → slice_get is n ≡ Some i → Fits G i → Contains (values_of i (act_of i)) x → (k : ℕ) × IsUsedAt G is n k x role.Value
+pub value_use : (G : Table) (is : List PlainInst) (n : ℕ) (i : PlainInst) (x : ℕ) → slice_get is n ≡ Some i → FitsShape G i → Contains (values_of i (act_of i)) x → (k : ℕ) × IsUsedAt G is n k x role.Value
 value_use G is n i x at h c = use_by G is n i role.Value x at h (value_view G i (act_of i) x h (view G i h) c)

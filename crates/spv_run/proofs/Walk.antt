@@ -2,7 +2,8 @@
 use Rattle.std.specs.Prelude.{◌≡◌, ◌⊎◌, ℕ, suc, List, [], ◌∷◌, Bool, true, false, Option, Some, None, IsTrue, Contains, if◌then◌else◌}
 use Rattle.spv_module.specs.Operand.{PlainInst}
 use Rattle.spv_run.specs.Act.{Act, Function, Label}
-use Rattle.spv_run.specs.At.{act_at, result_at, targets, goes_on}
+use Rattle.spv_run.specs.At.{act_at, result_at}
+use Rattle.spv_run.specs.inner.At.{targets, goes_on}
 use Rattle.spv_run.proofs.Place.{IsLabel}
 
 -- An instruction may come right after another: it follows it, or after a terminator it is the OpLabel of one of its targets.

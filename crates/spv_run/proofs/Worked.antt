@@ -11,7 +11,7 @@ use Rattle.spv_layout.specs.declared.form.Role.TheVariants as role
 use Rattle.spv_layout.specs.Row.{row, closed}
 use Rattle.spv_layout.specs.Rows.{row_of}
 use Rattle.spv_layout.specs.Shape.{Ends, role_of, IsUse}
-use Rattle.spv_ops.specs.Example.{inst}
+use Rattle.spv_type_forms.specs.Example.{inst}
 use Rattle.spv_run.specs.Act.{Label, Return, FunctionEnd, act_of}
 use Rattle.spv_run.specs.At.{act_at, result_at, type_at}
 use Rattle.spv_run.specs.Head.{end, IsDefined, IsDeclared}
@@ -27,7 +27,7 @@ use Rattle.spv_calls.specs.Example.{entry, function, functions, looped}
 use Rattle.spv_module.specs.declared.fault.Rule.TheVariants.{G1}
 use Rattle.spv_run.specs.Entry.{IsEntryId}
 use Rattle.spv_run.specs.Promise.{NeverGetsStuck}
-use Rattle.spv_run.specs.Sound.{IsSound}
+use Rattle.spv_run.specs.Sound.{KeepsRules}
 use Rattle.spv_run.proofs.Shapes.{row_248, row_253}
 use Rattle.spv_run.proofs.Uses.{forms_of}
 
@@ -196,5 +196,5 @@ pub gets_stuck : (G : Table) → ¬ (NeverGetsStuck G unended 2 [])
 gets_stuck G never =
     never.free (standing 3) 9 (step_at 0 3 ∷ []) Stuck unended_start (next 8 (standing 3) (standing 4) [] Stuck (unended_label G) (stuck 7 (standing 4) (unended_over G))) refl
 
-pub not_sound : (G : Table) (bound : ℕ) → Broken looped G1 8 → ¬ (IsSound G bound looped)
+pub not_sound : (G : Table) (bound : ℕ) → Broken looped G1 8 → ¬ (KeepsRules G bound looped)
 not_sound G bound b sound = sound.calls G1 8 refl b

@@ -4,5 +4,5 @@ use Rattle.spv_module.specs.Operand.{PlainInst}
 use Rattle.spv_layout.specs.Place.{IsDefinition}
 
 -- The list has the number of the OpFunction of each definition.
-abbrev pub HasDefinitions : List PlainInst → List ℕ → Type 0
-HasDefinitions is functions = (f : ℕ) → IsDefinition is f → Contains functions f
+abbrev pub AreDefinitions : List PlainInst → List ℕ → Type 0
+AreDefinitions is functions = (f : ℕ) → IsDefinition is f → Contains functions f

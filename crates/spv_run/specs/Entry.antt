@@ -6,13 +6,13 @@ use Rattle.spv_module.specs.Operand.{PlainInst, Id}
 use Rattle.spv_ids.specs.declared.ids.Ids.{Ids}
 use Rattle.spv_ids.specs.Definition.{IsDefinedAt}
 use Rattle.spv_calls.specs.Calls.{entry_point}
-use Rattle.spv_calls.specs.Found.{AreNumbered}
+use Rattle.spv_ids.specs.Outcome.{AreNumbered}
 use Rattle.spv_run.specs.declared.parts.Step.{Step}
 use Rattle.spv_run.specs.declared.parts.Trace.{Trace}
 use Rattle.spv_run.specs.declared.parts.TraceError.{TraceError}
 use Rattle.spv_run.specs.declared.parts.TraceError.TheVariants.{X1, X2}
-use Rattle.spv_run.specs.Definitions.{HasDefinitions}
-use Rattle.spv_run.specs.Sound.{IsSound}
+use Rattle.spv_run.specs.Definitions.{AreDefinitions}
+use Rattle.spv_run.specs.Sound.{KeepsRules}
 use Rattle.spv_run.specs.State.{State}
 use Rattle.spv_run.specs.Run.{IsStart, Run}
 use Rattle.spv_run.specs.Trace.{ending_of}
@@ -25,18 +25,21 @@ pub record IsEntryId (is : List PlainInst) (x : ℕ) : Type 0 where
   pub opcode : inst.opcode ≡ entry_point
   pub named : slice_get inst.operands 1 ≡ Some (Id x)
 
--- The trace is of the run from a state in at most `limit` steps, and each step has fewer frames below it than there are definitions,
--- listed in any way.
+-- The trace is of the run from a state in at most `limit` steps, and each step has fewer frames below it than there are
+-- definitions, listed in any way.
 pub record IsOfRun (G : Table) (is : List PlainInst) (limit : ℕ) (s : State) (t : Trace) : Type 0 where
   pub run : Run G is limit s t.steps.items (ending_of t.ending)
-  pub bounded : (functions : List ℕ) → HasDefinitions is functions → AllByRecursion (λ (step : Step). step.depth < length functions) t.steps.items
+  pub bounded : (functions : List ℕ) → AreDefinitions is functions
+      → AllByRecursion (λ (step : Step). step.depth < length functions) t.steps.items
 
 -- The id is an entry point's function, and where no rule is broken the trace is of its run.
-pub record IsTraced (is : List PlainInst) (ids : Ids) (x : ℕ) (choices : List ℕ) (limit : ℕ) (t : Trace) : Type 0 where
+pub record IsTraced (is : List PlainInst) (ids : Ids) (x : ℕ) (choices : List ℕ) (limit : ℕ)
+    (t : Trace) : Type 0 where
   pub entry : IsEntryId is x
-  pub run : (G : Table) (bound g : ℕ) (s : State) → IsSound G bound is → AreNumbered is ids → IsDefinedAt is x g → IsStart is g choices s → IsOfRun G is limit s t
+  pub run : (G : Table) (bound g : ℕ) (s : State) → KeepsRules G bound is → AreNumbered is ids
+      → IsDefinedAt is x g → IsStart is g choices s → IsOfRun G is limit s t
 
 -- X1 is told of an id that is no entry point's function; want of memory only of one that is.
-abbrev pub IsRefused : List PlainInst → ℕ → TraceError → Type 0
-IsRefused is x X1 = ¬ (IsEntryId is x)
-IsRefused is x X2 = IsEntryId is x
+abbrev pub RefusesEntry : List PlainInst → ℕ → TraceError → Type 0
+RefusesEntry is x X1 = ¬ (IsEntryId is x)
+RefusesEntry is x X2 = IsEntryId is x

@@ -1,7 +1,7 @@
 -- A small module, and states of its run.
 use Rattle.std.specs.Prelude.{ℕ, List, [], ◌∷◌}
 use Rattle.spv_module.specs.Operand.{OfType, Result, Id, Number, Mask, PlainInst}
-use Rattle.spv_ops.specs.Example.{inst}
+use Rattle.spv_type_forms.specs.Example.{inst}
 use Rattle.spv_calls.specs.Example.{entry}
 use Rattle.spv_run.specs.State.{State, enter}
 use Rattle.spv_run.specs.declared.parts.Step.{Step}

@@ -12,9 +12,11 @@ pub record Binding : Type 0 where
 -- From instruction n up to instruction e there are a function's parameters, with lines among them: their ids and types.
 pub data Head (is : List PlainInst) (e : ℕ) : ℕ → List Binding → Type 0 where
   end : Head is e e []
-  parameter : (n x t : ℕ) (bs : List Binding) → act_at is n ≡ Some Parameter → result_at is n ≡ Some x → type_at is n ≡ Some t
+  parameter : (n x t : ℕ) (bs : List Binding) → act_at is n ≡ Some Parameter → result_at is n ≡ Some x
+      → type_at is n ≡ Some t
       → Head is e (suc n) bs → Head is e n (record { id = x; tag = t } ∷ bs)
-  line : (n : ℕ) (bs : List Binding) → act_at is n ≡ Some Other → result_at is n ≡ None → Head is e (suc n) bs → Head is e n bs
+  line : (n : ℕ) (bs : List Binding) → act_at is n ≡ Some Other → result_at is n ≡ None
+      → Head is e (suc n) bs → Head is e n bs
 
 -- The function has a body, which begins with the OpLabel e; or it is a declaration, which ends at e.
 pub record IsDefined (is : List PlainInst) (g e : ℕ) (parameters : List Binding) : Type 0 where

@@ -9,7 +9,7 @@ use Rattle.spv_table.specs.Table.{Sort, Table}
 use Rattle.spv_module.specs.Operand.{OfType, Result, Id, Text, Value, Mask, PlainInst}
 use Rattle.spv_module.specs.Example.{plain_kind}
 use Rattle.spv_capabilities.specs.Example.{enumerant, value_kind}
-use Rattle.spv_ops.specs.Example.{inst}
+use Rattle.spv_type_forms.specs.Example.{inst}
 
 abbrev pub capabilities : List Enumerant
 capabilities = enumerant (codes "Addresses") 4 [] ∷ enumerant (codes "Kernel") 6 [] ∷ []
@@ -33,7 +33,11 @@ kinds =
     value_kind (codes "AddressingModel") addressing_models ∷
     value_kind (codes "MemoryModel") memory_models ∷
     value_kind (codes "ExecutionModel") execution_models ∷
-    record { kind = record { name = codes "FunctionControl"; category = category.BitEnum; bases = [] }; enumerants = controls } ∷
+    record {
+      kind = record { name = codes "FunctionControl"; category = category.BitEnum; bases = [] };
+      enumerants =
+          controls;
+    } ∷
     plain_kind (codes "IdResultType") category.Id ∷
     plain_kind (codes "IdResult") category.Id ∷
     plain_kind (codes "IdRef") category.Id ∷
@@ -102,4 +106,5 @@ end = inst 56 []
 
 -- The bound of its ids is 5.
 abbrev pub kernel : List PlainInst
-kernel = capability 4 ∷ capability 6 ∷ model ∷ entry_point ∷ void ∷ of_void ∷ function ∷ label ∷ return_op ∷ end ∷ []
+kernel = capability 4 ∷ capability 6 ∷ model ∷ entry_point ∷ void ∷ of_void ∷ function ∷ label
+    ∷ return_op ∷ end ∷ []

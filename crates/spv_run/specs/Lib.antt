@@ -9,7 +9,7 @@ pub mod Definitions
 pub mod Sound
 pub mod Promise
 pub mod Trace
-pub mod Bodies
 pub mod Entry
 pub mod Example
 pub mod Kernel
+pub mod inner

@@ -21,7 +21,8 @@ pub record IsStart (is : List PlainInst) (g : ℕ) (choices : List ℕ) (s : Sta
 -- In at most n steps from a state these steps are done, and the run ends so.
 pub data Run (G : Table) (is : List PlainInst) : ℕ → State → List Step → Ending → Type 0 where
   limit : (s : State) → Run G is zero s [] Limit
-  next : (n : ℕ) (s after : State) (steps : List Step) (e : Ending) → Does G is s (Goes after) → Run G is n after steps e → Run G is (suc n) s (step_of s ∷ steps) e
+  next : (n : ℕ) (s after : State) (steps : List Step) (e : Ending) → Does G is s (Goes after)
+      → Run G is n after steps e → Run G is (suc n) s (step_of s ∷ steps) e
   last : (n : ℕ) (s : State) (e : Ending) → Does G is s (Last e) → Run G is (suc n) s (step_of s ∷ []) e
   before : (n : ℕ) (s : State) (e : Ending) → Does G is s (Before e) → Run G is (suc n) s [] e
   stuck : (n : ℕ) (s : State) → ((o : Outcome) → ¬ (Does G is s o)) → Run G is (suc n) s [] Stuck

@@ -5,8 +5,8 @@ ghost use Rattle.spv_table.specs.Table.{Table};
 ghost use Rattle.spv_module.specs.Module.{plain_inst};
 ghost use Rattle.spv_run.specs.Act.{Function};
 ghost use Rattle.spv_run.specs.At.{act_at};
-ghost use Rattle.spv_run.specs.Sound.{IsSound};
-ghost use Rattle.spv_run.specs.Bodies.{IsEntry, HaveEntries};
+ghost use Rattle.spv_run.specs.Sound.{KeepsRules};
+ghost use Rattle.spv_run.specs.inner.Bodies.{IsEntry, HaveEntries};
 
 use spv_module::Inst;
 use std::alloc::{AllocError, Global};
@@ -22,7 +22,9 @@ const LABEL: u16 = 248;
 fn entry_of(insts: &[Inst<'_>], function: u32) -> u32
     requires few { length insts.now ≤ 4194304 }
     requires within { function < length insts.now }
-    ensures { (G : Table) (bound : ℕ) → IsSound G bound (map plain_inst insts.now) → act_at (map plain_inst insts.now) function ≡ Some Function → IsEntry (map plain_inst insts.now) function result }
+    ensures { (G : Table) (bound : ℕ) → KeepsRules G bound (map plain_inst insts.now)
+        → act_at (map plain_inst insts.now) function ≡ Some Function
+        → IsEntry (map plain_inst insts.now) function result }
 {
     for at in function as usize + 1..insts.len() {
         let opcode = insts[at].opcode;
@@ -40,7 +42,8 @@ fn entry_of(insts: &[Inst<'_>], function: u32) -> u32
 fn entry_at(insts: &[Inst<'_>], at: u32) -> u32
     requires few { length insts.now ≤ 4194304 }
     requires within { at < length insts.now }
-    ensures { (G : Table) (bound : ℕ) → IsSound G bound (map plain_inst insts.now) → act_at (map plain_inst insts.now) at ≡ Some Function → IsEntry (map plain_inst insts.now) at result }
+    ensures { (G : Table) (bound : ℕ) → KeepsRules G bound (map plain_inst insts.now)
+        → act_at (map plain_inst insts.now) at ≡ Some Function → IsEntry (map plain_inst insts.now) at result }
 {
     let opcode = insts[at as usize].opcode;
     if opcode == FUNCTION {

@@ -5,8 +5,8 @@ ghost use Rattle.spv_table.specs.Table.{Table};
 ghost use Rattle.spv_module.specs.Operand.{PlainInst};
 ghost use Rattle.spv_calls.specs.Calls.{IsEntryFunction};
 ghost use Rattle.spv_run.specs.declared.parts.Step.{Step};
-ghost use Rattle.spv_run.specs.Sound.{IsSound};
-ghost use Rattle.spv_ops.specs.Example.{inst};
+ghost use Rattle.spv_run.specs.Sound.{KeepsRules};
+ghost use Rattle.spv_type_forms.specs.Example.{inst};
 ghost use Rattle.spv_type_rules.specs.Example.{small, call};
 ghost use Rattle.spv_run.specs.Act.{Label, Choose, Call, ReturnValue, Misfit, act_of};
 ghost use Rattle.spv_run.specs.At.{act_at};
@@ -23,27 +23,33 @@ ghost use Rattle.spv_run.specs.Trace.{ending_of};
 ghost use Rattle.spv_run.specs.declared.parts.Trace.{Trace};
 ghost use Rattle.spv_calls.specs.Example.{functions, looped};
 
-/// A module on which no rule is broken never gets stuck: from each entry point's function, for all choices and numbers of steps,
-/// the run ends otherwise, bound ids have their declared types, and there are no more frames than function definitions.
+/// A module on which no rule is broken never gets stuck: from each entry point's function, for all choices and numbers
+/// of steps, the run ends otherwise, bound ids have their declared types, and there are no more frames than function
+/// definitions.
 pub fn run_never_gets_stuck()
-    ensures { (G : Table) (bound : ℕ) (is : List PlainInst) → IsSound G bound is → (g : ℕ) → IsEntryFunction is g → (choices : List ℕ) → NeverGetsStuck G is g choices }
+    ensures { (G : Table) (bound : ℕ) (is : List PlainInst) → KeepsRules G bound is → (g : ℕ)
+        → IsEntryFunction is g → (choices : List ℕ) → NeverGetsStuck G is g choices }
 {}
 
 /// At most one thing comes of a state, where no rule is broken: under whatever table.
 pub fn one_outcome()
-    ensures { (G H : Table) (bound : ℕ) (is : List PlainInst) → IsSound G bound is → (s : State) (o p : Outcome) → Does G is s o → Does H is s p → o ≡ p }
+    ensures { (G H : Table) (bound : ℕ) (is : List PlainInst) → KeepsRules G bound is
+        → (s : State) (o p : Outcome) → Does G is s o → Does H is s p → o ≡ p }
 {}
 
 /// So a state has at most one run of each length.
 pub fn one_run()
-    ensures { (G : Table) (bound : ℕ) (is : List PlainInst) → IsSound G bound is → (n : ℕ) (s : State) (steps others : List Step) (e f : Ending)
+    ensures { (G : Table) (bound : ℕ) (is : List PlainInst) → KeepsRules G bound is
+        → (n : ℕ) (s : State) (steps others : List Step) (e f : Ending)
         → Run G is n s steps e → Run G is n s others f → (steps ≡ others) × (e ≡ f) }
 {}
 
 /// So it has under any two tables, if neither run gets stuck.
 pub fn one_free_run()
-    ensures { (G H : Table) (bound : ℕ) (is : List PlainInst) → IsSound G bound is → (n : ℕ) (s : State) (steps others : List Step) (e f : Ending)
-        → Run G is n s steps e → Run H is n s others f → e ≢ Stuck → f ≢ Stuck → (steps ≡ others) × (e ≡ f) }
+    ensures { (G H : Table) (bound : ℕ) (is : List PlainInst) → KeepsRules G bound is
+        → (n : ℕ) (s : State) (steps others : List Step) (e f : Ending)
+        → Run G is n s steps e → Run H is n s others f → e ≢ Stuck → f ≢ Stuck
+        → (steps ≡ others) × (e ≡ f) }
 {}
 
 /// What instructions are to a run: an OpSwitch has its targets in order, each as often as it stands there.
@@ -54,8 +60,8 @@ pub fn act_examples()
     ensures past { act_at lone 6 ≡ None }
 {}
 
-/// A function without parameters, whose body begins at instruction 3; and what is asked of the types of arguments and of what is
-/// returned.
+/// A function without parameters, whose body begins at instruction 3; and what is asked of the types of arguments and
+/// of what is returned.
 pub fn row_examples()
     ensures defined { IsDefined lone 2 3 [] }
     ensures undeclared { ¬ (IsDeclared lone 2 3 []) }
@@ -91,22 +97,23 @@ pub fn promise_examples()
     // A block without a terminator: the run gets stuck after the OpLabel.
     ensures stuck { (G : Table) → ¬ (NeverGetsStuck G unended 2 []) }
     // A function that an entry point leads to calls itself.
-    ensures unsound { (G : Table) (bound : ℕ) → ¬ (IsSound G bound looped) }
+    ensures unsound { (G : Table) (bound : ℕ) → ¬ (KeepsRules G bound looped) }
 {
     spv_calls::laws::call_examples();
 }
 
 /// Traces of the function that only returns: of at most nine steps, that of its two steps, and none without a step.
 pub fn trace_examples()
-    ensures of_run { (G : Table) (t : Trace) → t.steps.items ≡ step_at 0 3 ∷ step_at 0 4 ∷ [] → ending_of t.ending ≡ Finished → IsOfRun G lone 9 (standing 3) t }
+    ensures of_run { (G : Table) (t : Trace) → t.steps.items ≡ step_at 0 3 ∷ step_at 0 4 ∷ []
+        → ending_of t.ending ≡ Finished → IsOfRun G lone 9 (standing 3) t }
     ensures not_of_run { (G : Table) (t : Trace) → t.steps.items ≡ [] → ¬ (IsOfRun G lone 9 (standing 3) t) }
 {}
 
 /// The smallest kernel, under a small grammar table: no rule is broken on it, and so its function never gets stuck.
 pub fn sound_examples()
-    ensures sound { IsSound grammar 5 kernel }
+    ensures sound { KeepsRules grammar 5 kernel }
     // Under the bound 4 the label's id is out of range.
-    ensures out_of_range { ¬ (IsSound grammar 4 kernel) }
+    ensures out_of_range { ¬ (KeepsRules grammar 4 kernel) }
     ensures free { (choices : List ℕ) → NeverGetsStuck grammar kernel 6 choices }
 {
     run_never_gets_stuck();

@@ -4,14 +4,15 @@ ghost use Rattle.std.specs.Prelude.{◌≡◌, ◌<◌, ℕ, List, Some, slice_g
 ghost use Rattle.spv_module.specs.Operand.{PlainInst};
 ghost use Rattle.spv_table.specs.Table.{Table};
 ghost use Rattle.spv_module.specs.Module.{plain_inst};
-ghost use Rattle.spv_layout.specs.Shape.{Fits};
+ghost use Rattle.spv_layout.specs.Shape.{FitsShape};
 ghost use Rattle.spv_ids.specs.Definition.{IsDefinedAt};
-ghost use Rattle.spv_calls.specs.Found.{id_in, AreNumbered};
+ghost use Rattle.spv_calls.specs.inner.Found.{id_in};
+ghost use Rattle.spv_ids.specs.Outcome.{AreNumbered};
 ghost use Rattle.spv_run.specs.Act.{Function, Call, Choose, act_of};
 ghost use Rattle.spv_run.specs.At.{act_at};
-ghost use Rattle.spv_run.specs.Sound.{IsSound};
-ghost use Rattle.spv_run.specs.Trace.{Tells};
-ghost use Rattle.spv_run.specs.Bodies.{HaveEntries};
+ghost use Rattle.spv_run.specs.Sound.{KeepsRules};
+ghost use Rattle.spv_run.specs.inner.Trace.{Tells};
+ghost use Rattle.spv_run.specs.inner.Bodies.{HaveEntries};
 
 use spv_ids::Ids;
 use spv_module::{Inst, Operand};
@@ -66,10 +67,11 @@ pub fn place_of(ids: &Ids, id: u32) -> u32
     }
 }
 
-/// The label to which a choice leads at a branch with a choice, if there is one: of OpBranchConditional the targets are its
-/// second operand and the one after, of OpSwitch its second operand and every other one after.
+/// The label to which a choice leads at a branch with a choice, if there is one: of OpBranchConditional the targets are
+/// its second operand and the one after, of OpSwitch its second operand and every other one after.
 pub fn target_of(inst: &Inst<'_>, choice: u32) -> Option<u32>
-    ensures { (G : Table) (c : ℕ) (xs : List ℕ) → Fits G (plain_inst inst.now) → act_of (plain_inst inst.now) ≡ Choose c xs → result ≡ slice_get xs choice }
+    ensures { (G : Table) (c : ℕ) (xs : List ℕ) → FitsShape G (plain_inst inst.now)
+        → act_of (plain_inst inst.now) ≡ Choose c xs → result ≡ slice_get xs choice }
 {
     if inst.opcode == SWITCH {
         return id_at(inst, choice as usize * 2 + 1);
@@ -83,7 +85,8 @@ pub fn target_of(inst: &Inst<'_>, choice: u32) -> Option<u32>
 
 /// What a call of a function does, by where bodies begin.
 pub fn call_by(entries: &[u32], function: u32) -> Move
-    ensures { (is : List PlainInst) (G : Table) (bound x : ℕ) (xs : List ℕ) → IsSound G bound is → HaveEntries is entries.now → IsDefinedAt is x function
+    ensures { (is : List PlainInst) (G : Table) (bound x : ℕ) (xs : List ℕ) → KeepsRules G bound is
+        → HaveEntries is entries.now → IsDefinedAt is x function
         → act_at is function ≡ Some Function → Tells is (Call x xs) result }
 {
     let Some(entry) = entries.get(function as usize) else {
@@ -99,7 +102,8 @@ pub fn call_by(entries: &[u32], function: u32) -> Move
 
 /// What an instruction does to a run. `entries` has at each OpFunction where its body begins.
 pub fn move_of(inst: &Inst<'_>, ids: &Ids, entries: &[u32]) -> Move
-    ensures { (is : List PlainInst) (G : Table) (bound n : ℕ) → IsSound G bound is → AreNumbered is ids.now → HaveEntries is entries.now
+    ensures { (is : List PlainInst) (G : Table) (bound n : ℕ) → KeepsRules G bound is → AreNumbered is ids.now
+        → HaveEntries is entries.now
         → slice_get is n ≡ Some (plain_inst inst.now) → Tells is (act_of (plain_inst inst.now)) result }
 {
     let opcode = inst.opcode;

@@ -35,16 +35,19 @@ impl Walker {
     ghost use Rattle.spv_table.specs.Table.{Table};
     ghost use Rattle.spv_module.specs.Operand.{PlainInst};
     ghost use Rattle.spv_module.specs.Module.{plain_inst};
-    ghost use Rattle.spv_calls.specs.Found.{AreNumbered};
+    ghost use Rattle.spv_ids.specs.Outcome.{AreNumbered};
     ghost use Rattle.spv_run.specs.Act.{Choose, act_of};
-    ghost use Rattle.spv_run.specs.Sound.{IsSound};
-    ghost use Rattle.spv_run.specs.Trace.{kept, turned, IsTurn, ByChoice};
+    ghost use Rattle.spv_run.specs.Sound.{KeepsRules};
+    ghost use Rattle.spv_run.specs.inner.Trace.{kept, turned, IsTurn, ByChoice};
 
     /// Goes to the target that is chosen next, if there is one.
     fn choose(&mut self, inst: &Inst<'_>, ids: &Ids, choices: &[u32]) -> Turn
         ensures callers { self.new.callers ≡ self.old.callers }
-        ensures turn { (is : List PlainInst) (G : Table) (bound n c : ℕ) (xs : List ℕ) → IsSound G bound is → AreNumbered is ids.now → slice_get is n ≡ Some (plain_inst inst.now)
-            → act_of (plain_inst inst.now) ≡ Choose c xs → ByChoice is (kept self.old choices.now) xs (kept self.old choices.now).choices (turned result (kept self.new choices.now)) }
+        ensures turn { (is : List PlainInst) (G : Table) (bound n c : ℕ) (xs : List ℕ) → KeepsRules G bound is
+            → AreNumbered is ids.now → slice_get is n ≡ Some (plain_inst inst.now)
+            → act_of (plain_inst inst.now) ≡ Choose c xs
+            → ByChoice is (kept self.old choices.now) xs (kept self.old choices.now).choices
+            (turned result (kept self.new choices.now)) }
     {
         let Some(choice) = choices.get(self.taken) else {
             return Turn::Before(Ending::NoChoice);
@@ -66,7 +69,8 @@ impl Walker {
     ) -> Result<Turn, AllocError>
         requires { length code.insts.now ≤ 4194304 }
         ensures depth { IfOk result (λ r. length self.new.callers.items ≤ length self.old.callers.items + 1) }
-        ensures turn { IfOk result (λ r. IsTurn (map plain_inst code.entry.insts.now) code.entry.ids.now entries.now (kept self.old choices.now) (turned r (kept self.new choices.now))) }
+        ensures turn { IfOk result (λ r. IsTurn (map plain_inst code.entry.insts.now) code.entry.ids.now entries.now
+            (kept self.old choices.now) (turned r (kept self.new choices.now))) }
     {
         let Some(inst) = code.insts.get(self.position as usize) else {
             return Ok(Turn::Before(Ending::Limit));
@@ -101,10 +105,11 @@ impl Walker {
 
 ghost use Rattle.std.specs.Prelude.{◌≤◌, length, map, IfOk};
 ghost use Rattle.spv_module.specs.Module.{plain_inst};
-ghost use Rattle.spv_run.specs.Trace.{IsRun};
+ghost use Rattle.spv_run.specs.inner.Trace.{IsRun};
 
-/// The steps of a run in at most `limit` steps, from the label where it begins, and how it ended. Memory for as many frames as
-/// there are function definitions is taken at the start; a run of no more frames takes more for its steps alone.
+/// The steps of a run in at most `limit` steps, from the label where it begins, and how it ended. Memory for as many
+/// frames as there are function definitions is taken at the start; a run of no more frames takes more for its steps
+/// alone.
 pub fn steps_of(
     alloc: Global,
     code: Code<'_, '_>,
@@ -113,7 +118,8 @@ pub fn steps_of(
     limit: u32,
 ) -> Result<Trace, AllocError>
     requires { length code.insts.now ≤ 4194304 }
-    ensures { IfOk result (λ t. IsRun (map plain_inst code.entry.insts.now) code.entry.ids.now start.entry.entries.now start.entry.entry choices.now limit t.steps.items t.ending) }
+    ensures { IfOk result (λ t. IsRun (map plain_inst code.entry.insts.now) code.entry.ids.now start.entry.entries.now
+        start.entry.entry choices.now limit t.steps.items t.ending) }
 {
     let callers = Vec::with_capacity(alloc, code.definitions as usize)?;
     let mut steps = Vec::new(alloc);

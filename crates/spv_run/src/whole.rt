@@ -4,13 +4,13 @@ ghost use Rattle.std.specs.Prelude.{ℕ, ◌≤◌, length, map, IfOk, IfErr};
 ghost use Rattle.spv_table.specs.Table.{Table};
 ghost use Rattle.spv_module.specs.Module.{plain_inst};
 ghost use Rattle.spv_ids.specs.Definition.{IsDefinedAt};
-ghost use Rattle.spv_calls.specs.Found.{AreNumbered};
+ghost use Rattle.spv_ids.specs.Outcome.{AreNumbered};
 ghost use Rattle.spv_calls.specs.Calls.{IsEntryFunction};
-ghost use Rattle.spv_run.specs.Sound.{IsSound};
+ghost use Rattle.spv_run.specs.Sound.{KeepsRules};
 ghost use Rattle.spv_run.specs.State.{State};
 ghost use Rattle.spv_run.specs.Run.{IsStart, Run};
 ghost use Rattle.spv_run.specs.Trace.{ending_of};
-ghost use Rattle.spv_run.specs.Entry.{IsTraced, IsRefused};
+ghost use Rattle.spv_run.specs.Entry.{IsTraced, RefusesEntry};
 
 use crate::bodies::entries_of;
 use crate::entry::is_entry;
@@ -28,8 +28,12 @@ fn run_of(
     limit: u32,
 ) -> Result<Trace, AllocError>
     requires { length code.insts.now ≤ 4194304 }
-    ensures { IfOk result (λ t. (G : Table) (bound g : ℕ) (s : State) → IsSound G bound (map plain_inst code.entry.insts.now) → AreNumbered (map plain_inst code.entry.insts.now) code.entry.ids.now
-        → IsEntryFunction (map plain_inst code.entry.insts.now) g → IsDefinedAt (map plain_inst code.entry.insts.now) function g → IsStart (map plain_inst code.entry.insts.now) g choices.now s
+    ensures { IfOk result (λ t. (G : Table) (bound g : ℕ) (s : State)
+        → KeepsRules G bound (map plain_inst code.entry.insts.now)
+        → AreNumbered (map plain_inst code.entry.insts.now) code.entry.ids.now
+        → IsEntryFunction (map plain_inst code.entry.insts.now) g
+        → IsDefinedAt (map plain_inst code.entry.insts.now) function g
+        → IsStart (map plain_inst code.entry.insts.now) g choices.now s
         → Run G (map plain_inst code.entry.insts.now) limit s t.steps.items (ending_of t.ending)) }
 {
     let entries = entries_of(alloc, code.insts)?;
@@ -43,15 +47,16 @@ fn run_of(
     }
 }
 
-/// The steps of the run of a function in at most `limit` steps, and how it ended, of a module on which no rule is broken and
-/// whose ids are numbered. `function` is the id of an entry point's function; `choices` are the places of the targets that
-/// are taken, from 0, one for each OpBranchConditional and OpSwitch that is executed.
+/// The steps of the run of a function in at most `limit` steps, and how it ended, of a module on which no rule is
+/// broken and whose ids are numbered. `function` is the id of an entry point's function; `choices` are the places of
+/// the targets that are taken, from 0, one for each OpBranchConditional and OpSwitch that is executed.
 ///
-/// Each step takes the time of a look-up of an id or two, whatever the instruction. Memory for as many frames as the module has
-/// function definitions is taken at the start, and no run of a module on which no rule is broken has more (the law
-/// `run_never_gets_stuck`), so that after that only the growth of the steps takes memory.
+/// Each step takes the time of a look-up of an id or two, whatever the instruction. Memory for as many frames as the
+/// module has function definitions is taken at the start, and no run of a module on which no rule is broken has more
+/// (the law `run_never_gets_stuck`), so that after that only the growth of the steps takes memory.
 ///
-/// `X1` is told exactly of an id that is the function of no OpEntryPoint; `X2` comes only where a growth of memory was refused.
+/// `X1` is told exactly of an id that is the function of no OpEntryPoint; `X2` comes only where a growth of memory was
+/// refused.
 pub fn trace_function(
     alloc: Global,
     code: Code<'_, '_>,
@@ -61,8 +66,9 @@ pub fn trace_function(
 ) -> Result<Trace, TraceError>
     // A module of at most 4,194,304 words has no more instructions.
     requires { length code.insts.now ≤ 4194304 }
-    ensures trace { IfOk result (λ t. IsTraced (map plain_inst code.entry.insts.now) code.entry.ids.now function choices.now limit t) }
-    ensures refused { IfErr result (λ e. IsRefused (map plain_inst code.entry.insts.now) function e) }
+    ensures trace { IfOk result (λ t. IsTraced
+        (map plain_inst code.entry.insts.now) code.entry.ids.now function choices.now limit t) }
+    ensures refused { IfErr result (λ e. RefusesEntry (map plain_inst code.entry.insts.now) function e) }
 {
     if !is_entry(code.insts, function) {
         return Err(TraceError::X1);

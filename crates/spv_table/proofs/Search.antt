@@ -10,7 +10,7 @@ use Rattle.spv_table.specs.declared.implied.Reached.{Reached}
 use Rattle.spv_table.specs.declared.table.Enumerant.{Enumerant}
 use Rattle.spv_table.specs.Table.{Table, Sort, kind_of, enumerant_of}
 use Rattle.spv_table.specs.Lookups.{value_named, number_named}
-use Rattle.spv_table.specs.Implied.{enumerants_of, capabilities_in, Lists, Chain, Implied}
+use Rattle.spv_table.specs.Implied.{enumerants_of, capabilities_in, Lists, CapabilityChain, Implied}
 use Rattle.spv_table.specs.inner.Reached.{is_reached, Adds, AddsAll, names_of, listed_by}
 
 abbrev pub Nothing : ℕ → Type 0
@@ -234,13 +234,13 @@ listed_from G a b l =
 
 -- ---- the beginning, a step, and the end
 
-extended : (G : Table) (a b c : ℕ) → Chain G a b → Lists G b c → Chain G a c
-extended G _ _ c (Chain.here b) l = Chain.step b c c l (Chain.here c)
-extended G _ _ c (Chain.step a b d first later) l = Chain.step a b c first (extended G b d c later l)
+extended : (G : Table) (a b c : ℕ) → CapabilityChain G a b → Lists G b c → CapabilityChain G a c
+extended G _ _ c (CapabilityChain.here b) l = CapabilityChain.step b c c l (CapabilityChain.here c)
+extended G _ _ c (CapabilityChain.step a b d first later) l = CapabilityChain.step a b c first (extended G b d c later l)
 
-chain_reached : (G : Table) (r : Reached) → ((a b : ℕ) → is_reached r a ≡ true → Lists G a b → is_reached r b ≡ true) → (a c : ℕ) → Chain G a c → is_reached r a ≡ true → is_reached r c ≡ true
-chain_reached G r closed _ _ (Chain.here a) m = m
-chain_reached G r closed _ _ (Chain.step a b c first later) m = chain_reached G r closed b c later (closed a b m first)
+chain_reached : (G : Table) (r : Reached) → ((a b : ℕ) → is_reached r a ≡ true → Lists G a b → is_reached r b ≡ true) → (a c : ℕ) → CapabilityChain G a c → is_reached r a ≡ true → is_reached r c ≡ true
+chain_reached G r closed _ _ (CapabilityChain.here a) m = m
+chain_reached G r closed _ _ (CapabilityChain.step a b c first later) m = chain_reached G r closed b c later (closed a b m first)
 
 module _ (G : Table) (declared : List ℕ) where
   lists_implied : (a b : ℕ) → Implied G declared a → Lists G a b → Implied G declared b
@@ -248,7 +248,7 @@ module _ (G : Table) (declared : List ℕ) where
 
   pub started : (empty r : Reached) → ((c : ℕ) → is_reached empty c ≡ false) → empty.due.items ≡ [] → AddsAll declared empty r → Sofar G declared r Nothing
   started empty r none no_due adds =
-      all_more G declared declared empty r Nothing adds (λ b m. record { first = b; declares = m; chain = Chain.here b }) (record {
+      all_more G declared declared empty r Nothing adds (λ b m. record { first = b; declares = m; chain = CapabilityChain.here b }) (record {
         starts = λ c m. inr (inl m);
         sound = λ c m. absurd (true≢false (sym m ∙ none c));
         due = λ c m. let P : List ℕ → Type 0 = λ xs. Contains xs c in let k = subst P no_due m in absurd (omega (arith, k.1));

@@ -14,4 +14,18 @@ capability name value names = record { name = name; value = value; parameters = 
 
 -- a table of the kind Capability: 1 lists nothing, 2 lists 1, 3 lists 2, and 4 lists a name that no capability bears
 abbrev pub capability_table : Table
-capability_table = record { kinds = record { kind = record { name = codes "Capability"; category = category.ValueEnum; bases = [] }; enumerants = capability (codes "A") 1 [] ∷ capability (codes "B") 2 (codes "A" ∷ []) ∷ capability (codes "C") 3 (codes "B" ∷ []) ∷ capability (codes "D") 4 (codes "X" ∷ []) ∷ [] } ∷ []; entries = [] }
+capability_table =
+    record {
+      kinds = record {
+        kind = record {
+          name = codes "Capability";
+          category = category.ValueEnum;
+          bases =
+              [];
+        };
+        enumerants =
+            capability (codes "A") 1 [] ∷ capability (codes "B") 2 (codes "A" ∷ []) ∷ capability (codes "C") 3
+            (codes "B" ∷ []) ∷ capability (codes "D") 4 (codes "X" ∷ []) ∷ [];
+      } ∷ [];
+      entries = [];
+    }

@@ -1,4 +1,5 @@
--- The capabilities that a module has by those that it declares. (SPIR-V Specification 1.6, section 3.31, Capability, "Implicitly Declares".)
+-- The capabilities that a module has by those that it declares. (SPIR-V Specification 1.6, section 3.31, Capability,
+-- "Implicitly Declares".)
 use Rattle.std.specs.Prelude.{◌≡◌, ℕ, List, [], Option, Some, None, Contains, option_and_then, codes}
 use Rattle.spv_table.specs.declared.table.Enumerant.{Enumerant}
 use Rattle.spv_table.specs.Table.{Table, Sort, kind_of, enumerant_of}
@@ -13,7 +14,8 @@ enumerants_of (Some s) = s.enumerants
 abbrev pub capabilities_in : Table → List Enumerant
 capabilities_in G = enumerants_of (option_and_then (kind_of G) (number_named G (codes "Capability")))
 
--- a capability lists another: the first enumerant of its value has among its capabilities a name, and the first enumerant that bears the name has the other's value. A name that none bears lists nothing
+-- a capability lists another: the first enumerant of its value has among its capabilities a name, and the first
+-- enumerant that bears the name has the other's value. A name that none bears lists nothing
 pub record Lists (G : Table) (capability other : ℕ) : Type 0 where
   pub enumerant : Enumerant
   pub is : enumerant_of (capabilities_in G) capability ≡ Some enumerant
@@ -22,12 +24,13 @@ pub record Lists (G : Table) (capability other : ℕ) : Type 0 where
   pub names : value_named (capabilities_in G) name ≡ Some other
 
 -- a chain of capabilities, from the first to the last: each one lists the next
-pub data Chain (G : Table) : ℕ → ℕ → Type 0 where
-  here : (a : ℕ) → Chain G a a
-  step : (a b c : ℕ) → Lists G a b → Chain G b c → Chain G a c
+pub data CapabilityChain (G : Table) : ℕ → ℕ → Type 0 where
+  here : (a : ℕ) → CapabilityChain G a a
+  step : (a b c : ℕ) → Lists G a b → CapabilityChain G b c → CapabilityChain G a c
 
--- a capability is implied if it ends a chain that begins with a declared one; a declared number counts though the table has no such capability
+-- a capability is implied if it ends a chain that begins with a declared one; a declared number counts though the table
+-- has no such capability
 pub record Implied (G : Table) (declared : List ℕ) (capability : ℕ) : Type 0 where
   pub first : ℕ
   pub declares : Contains declared first
-  pub chain : Chain G first capability
+  pub chain : CapabilityChain G first capability

@@ -1,5 +1,8 @@
--- The table that contracts see: lists in the order of the grammar file, and look-ups that answer the first element with a number or a name. (Own.)
-use Rattle.std.specs.Prelude.{◌≡◌, ◌<◌, ◌^◌, ℕ, List, [], ◌∷◌, Option, Some, None, Bool, true, false, not, ◌&&◌, nat_eq, bytes_eq, codes, if◌then◌else◌, map, length, slice_get, option_map}
+-- The table that contracts see: lists in the order of the grammar file, and look-ups that answer the first element with
+-- a number or a name. (Own.)
+use Rattle.std.specs.Prelude.{◌≡◌, ◌<◌, ◌^◌, ℕ, List, [], ◌∷◌, Option, Some, None, Bool, true}
+use Rattle.std.specs.Prelude.{false, not, ◌&&◌, nat_eq, bytes_eq, codes, if◌then◌else◌, map, length}
+use Rattle.std.specs.Prelude.{slice_get, option_map}
 use Rattle.std.specs.List.{list_all}
 use Rattle.spv_table.specs.declared.table.Entry.{Entry}
 use Rattle.spv_table.specs.declared.table.Kind.{Kind}
@@ -99,9 +102,11 @@ is_other G k = is_other_sort (kind_of G k)
 
 -- the parameters of a kind's enumerants, and its bases, are all of other kinds
 abbrev pub has_other_parts : Table → Sort → Bool
-has_other_parts G s = list_all (λ (e : Enumerant). list_all (is_other G) e.parameters) s.enumerants && list_all (is_other G) s.kind.bases
+has_other_parts G s =
+    list_all (λ (e : Enumerant). list_all (is_other G) e.parameters) s.enumerants && list_all (is_other G) s.kind.bases
 
--- what holds of every table: each Composite is made of ids and literals, kinds are numbered in 32 bits, and no parameter and no base is of the kind of results
+-- what holds of every table: each Composite is made of ids and literals, kinds are numbered in 32 bits, and no
+-- parameter and no base is of the kind of results
 pub record IsWhole (G : Table) : Type 0 where
   pub sound : list_all (is_sound G) G.kinds ≡ true
   pub count : length G.kinds < 2 ^ 32

@@ -55,7 +55,8 @@ impl Reached {
 
     /// Reaches the enumerants of a kind that bear some names.
     fn add_named(&mut self, table: &Table, kind: u32, names: &[Name]) -> Result<(), Memory>
-        ensures { OnOk result (AddsAll (filter_map (value_named (enumerants_of (kind_of table.now kind))) names.now) self.old self.new) }
+        ensures { OnOk result (AddsAll (filter_map (value_named (enumerants_of (kind_of table.now kind))) names.now)
+            self.old self.new) }
     {
         for name in names {
             if let Some(capability) = table.enumerant_named(kind, name.as_str()) {
@@ -67,7 +68,8 @@ impl Reached {
 
     /// Reaches the capabilities that an enumerant of a kind lists; none where there is no such enumerant.
     fn follow(&mut self, table: &Table, kind: u32, capability: u32) -> Result<(), Memory>
-        ensures { OnOk result (AddsAll (listed_by (enumerants_of (kind_of table.now kind)) capability) self.old self.new) }
+        ensures { OnOk result (AddsAll (listed_by (enumerants_of (kind_of table.now kind)) capability) self.old
+            self.new) }
     {
         let Some(enumerant) = table.enumerant(kind, capability) else {
             return Ok(());

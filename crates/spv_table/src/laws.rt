@@ -1,4 +1,5 @@
-//! Worked examples of the definitions, and that tables may be shared. The functions do nothing: their contracts and bounds are what is proved.
+//! Worked examples of the definitions, and that tables may be shared. The functions do nothing: their contracts and
+//! bounds are what is proved.
 
 ghost use Rattle.std.specs.Prelude.{ℕ, [], ◌∷◌};
 ghost use Rattle.spv_table.specs.Implied.{Lists, Implied};

@@ -1,4 +1,5 @@
-ghost use Rattle.std.specs.Prelude.{◌≡◌, ◌<◌, ◌≤◌, ◌^◌, ℕ, List, length, option_map, option_and_then, slice_get, slice_index_or, IfOk};
+ghost use Rattle.std.specs.Prelude.{◌≡◌, ◌<◌, ◌≤◌, ◌^◌, ℕ, List, length, option_map};
+ghost use Rattle.std.specs.Prelude.{option_and_then, slice_get, slice_index_or, IfOk};
 ghost use Rattle.std.specs.BTreeMap as tree;
 ghost use Rattle.std.specs.Ordering.{nat_cmp};
 ghost use Rattle.spv_table.specs.Table.{enumerant_of};
@@ -16,8 +17,8 @@ use std::marker::Model;
 pub struct Sort {
     kind: Kind,
     enumerants: Vec<Enumerant>,
-    /// For each value below `SMALL` the place of the first enumerant that has it. 4,294,967,295 stands where none has it, and
-    /// the list may end before.
+    /// For each value below `SMALL` the place of the first enumerant that has it. 4,294,967,295 stands where none has
+    /// it, and the list may end before.
     near: Vec<u32>,
     /// The place of the first enumerant with a greater value.
     far: BTreeMap<u32, usize>,
@@ -26,7 +27,8 @@ pub struct Sort {
 }
 
 impl Model for Sort {
-    ghost use Rattle.std.specs.Prelude.{◌≡◌, ◌<◌, ◌≤◌, ℕ, List, option_and_then, slice_get, slice_index_or};
+    ghost use Rattle.std.specs.Prelude.{◌≡◌, ◌<◌, ◌≤◌, ℕ, List, option_and_then, slice_get};
+    ghost use Rattle.std.specs.Prelude.{slice_index_or};
     ghost use Rattle.std.specs.BTreeMap as tree;
     ghost use Rattle.std.specs.Ordering.{nat_cmp};
     ghost use Rattle.spv_table.specs.Table.{Sort};
@@ -38,8 +40,11 @@ impl Model for Sort {
 
     ghost view = { λ s. record { kind = s.kind; enumerants = s.enumerants.items } };
 
-    ghost invariant = { λ s. ((v : ℕ) → v < 64 → slice_get s.enumerants.items (slice_index_or s.near.items v 4294967295) ≡ enumerant_of s.enumerants.items v)
-        × ((v : ℕ) → 64 ≤ v → option_and_then (slice_get s.enumerants.items) (tree.get nat_cmp s.far v) ≡ enumerant_of s.enumerants.items v)
+    ghost invariant = { λ s. ((v : ℕ) → v < 64
+        → slice_get s.enumerants.items (slice_index_or s.near.items v 4294967295)
+        ≡ enumerant_of s.enumerants.items v)
+        × ((v : ℕ) → 64 ≤ v → option_and_then (slice_get s.enumerants.items) (tree.get nat_cmp s.far v)
+        ≡ enumerant_of s.enumerants.items v)
         × Finds (λ e. e.name) s.enumerants.items s.names };
 }
 
@@ -49,7 +54,8 @@ const SMALL: u32 = 64;
 /// For each value below `SMALL` the place of the first enumerant that has it.
 fn near_places(alloc: Global, enumerants: &[Enumerant]) -> Result<Vec<u32>, AllocError>
     requires { length enumerants.now < 2 ^ 32 }
-    ensures { IfOk result (λ places. (v : ℕ) → v < 64 → slice_get enumerants.now (slice_index_or places.items v 4294967295) ≡ enumerant_of enumerants.now v) }
+    ensures { IfOk result (λ places. (v : ℕ) → v < 64
+        → slice_get enumerants.now (slice_index_or places.items v 4294967295) ≡ enumerant_of enumerants.now v) }
 {
     let mut places = Vec::new(alloc);
     for i in (0..enumerants.len()).rev() {
@@ -64,7 +70,8 @@ fn near_places(alloc: Global, enumerants: &[Enumerant]) -> Result<Vec<u32>, Allo
 
 /// For each value from `SMALL` on the place of the first enumerant that has it.
 fn far_places(alloc: Global, enumerants: &[Enumerant]) -> Result<BTreeMap<u32, usize>, AllocError>
-    ensures { IfOk result (λ places. (v : ℕ) → 64 ≤ v → option_and_then (slice_get enumerants.now) (tree.get nat_cmp places v) ≡ enumerant_of enumerants.now v) }
+    ensures { IfOk result (λ places. (v : ℕ) → 64 ≤ v
+        → option_and_then (slice_get enumerants.now) (tree.get nat_cmp places v) ≡ enumerant_of enumerants.now v) }
 {
     let mut places = BTreeMap::new(alloc);
     for i in (0..enumerants.len()).rev() {

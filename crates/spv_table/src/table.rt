@@ -1,4 +1,5 @@
-ghost use Rattle.std.specs.Prelude.{◌≡◌, ◌<◌, ◌^◌, ℕ, List, length, slice_get, slice_index_or, option_map, option_and_then, IfOk};
+ghost use Rattle.std.specs.Prelude.{◌≡◌, ◌<◌, ◌^◌, ℕ, List, length, slice_get, slice_index_or};
+ghost use Rattle.std.specs.Prelude.{option_map, option_and_then, IfOk};
 ghost use Rattle.spv_table.specs.Table.{entry_of, kind_of, enumerant_of, first_with, IsWhole};
 ghost use Rattle.spv_table.specs.Lookups.{opcode_named, value_named, number_named};
 
@@ -94,7 +95,8 @@ impl Model for Table {
     ghost view = { λ t. record { kinds = t.sorts.items; entries = t.entries.items } };
 
     ghost invariant = { λ t. IsWhole (record { kinds = t.sorts.items; entries = t.entries.items })
-        × ((n : ℕ) → slice_get t.entries.items (slice_index_or t.places.items n 4294967295) ≡ first_with (λ e. e.0) n t.entries.items)
+        × ((n : ℕ) → slice_get t.entries.items (slice_index_or t.places.items n 4294967295)
+        ≡ first_with (λ e. e.0) n t.entries.items)
         × Finds (λ e. e.1.name) t.entries.items t.names
         × Finds (λ s. s.kind.name) t.sorts.items t.kind_names };
 }
@@ -102,7 +104,8 @@ impl Model for Table {
 /// For each opcode the place of its first entry.
 fn opcode_places(alloc: Global, entries: &[(u16, Entry)]) -> Result<Vec<u32>, AllocError>
     requires { length entries.now < 2 ^ 32 }
-    ensures { IfOk result (λ places. (n : ℕ) → slice_get entries.now (slice_index_or places.items n 4294967295) ≡ first_with (λ e. e.0) n entries.now) }
+    ensures { IfOk result (λ places. (n : ℕ) → slice_get entries.now (slice_index_or places.items n 4294967295)
+        ≡ first_with (λ e. e.0) n entries.now) }
 {
     let mut places = Vec::new(alloc);
     for i in (0..entries.len()).rev() {
@@ -168,7 +171,8 @@ impl Table {
 
     /// The enumerant of a kind's value or bit: the first of the file that is not dropped.
     pub fn enumerant(&self, kind: u32, value: u32) -> Option<&Enumerant>
-        ensures { option_map (λ e. e.now) result ≡ option_and_then (λ s. enumerant_of s.enumerants value) (kind_of self.now kind) }
+        ensures { option_map (λ e. e.now) result ≡ option_and_then (λ s. enumerant_of s.enumerants value)
+            (kind_of self.now kind) }
     {
         let Some(sort) = self.sorts.get(kind as usize) else {
             return None;

@@ -5,7 +5,7 @@ use Rattle.std.proofs.lemmas.Nat.{one_shl}
 use Rattle.spv_module.specs.Spelling.{set_bits}
 use Rattle.spv_lines.specs.Name.{IsNameOf, AreNamesOf}
 use Rattle.spv_lines.proofs.Naming.{head_name}
-use Rattle.spv_tokens.specs.Answer.{cells, cells_left, IsNamed, IsNamedBits}
+use Rattle.spv_tokens.specs.inner.Answer.{cells, cells_left, IsNamed, IsNamedBits}
 use Rattle.spv_tokens.proofs.MaskBits.{bits_in, clear_more, set_more, all_below, doubled, grown, later_bit, this_bit, none_above}
 
 -- Before a position: the names so far are those of the mask, and that of the next bit and the cells left are there.

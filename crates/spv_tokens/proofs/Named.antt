@@ -20,7 +20,7 @@ use Rattle.spv_lines.proofs.Naming.{cells_joined}
 use Rattle.spv_lines.proofs.Large.{place, mask_some}
 use Rattle.spv_tokens.specs.declared.misread.Misread.{Misread}
 use Rattle.spv_tokens.specs.declared.misread.Misread.TheVariants.{IllFormed, TooLarge}
-use Rattle.spv_tokens.specs.Answer.{IsBehind, IsNamed, IsNamedBits, IsNamedMask, IsValueText, IsMaskText, IsTaken, IsNone, cells, cells_left, names_in}
+use Rattle.spv_tokens.specs.inner.Answer.{IsBehind, IsNamed, IsNamedBits, IsNamedMask, IsValueText, IsMaskText, IsTaken, IsNone, cells, cells_left, names_in}
 use Rattle.spv_tokens.proofs.Taking.{Refused, over_marked}
 use Rattle.spv_tokens.proofs.CellNames.{no_first}
 

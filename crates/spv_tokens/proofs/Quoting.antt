@@ -5,7 +5,7 @@ use Rattle.std.proofs.lemmas.Bool.Decides.{nat_tests}
 use Rattle.spv_lines.specs.Operand.{escaped, quoted}
 use Rattle.spv_lines.proofs.Tokens.{first_same}
 use Rattle.spv_lines.proofs.Quotes.{Begins, begins, open_quote}
-use Rattle.spv_tokens.specs.Quoted.{IsEscape, quote, slash, feed}
+use Rattle.spv_tokens.specs.inner.Quoted.{IsEscape, quote, slash, feed}
 
 -- Behind an opening quote: what is read so far, and what is left of the text.
 pub record Within (u out rest : List ℕ) : Type 0 where

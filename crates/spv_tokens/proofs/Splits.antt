@@ -4,7 +4,7 @@ use Rattle.std.specs.Prelude.{◌==◌}
 use Rattle.memchr.specs.Find.{IsFirstByte, is_byte}
 use Rattle.std.proofs.lemmas.Bool.Decides.{nat_tests}
 use Rattle.spv_lines.specs.Text.{lines_of}
-use Rattle.spv_tokens.specs.Answer.{cells}
+use Rattle.spv_tokens.specs.inner.Answer.{cells}
 
 -- the first octet that is a mark
 pub record IsFirstMark (m : ℕ) (xs : List ℕ) (i : ℕ) : Type 0 where

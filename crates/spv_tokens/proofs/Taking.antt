@@ -6,7 +6,7 @@ use Rattle.spv_table.specs.Table.{Table}
 use Rattle.spv_module.specs.Operand.{Plain, OfType, Result, Id, Word, Number}
 use Rattle.spv_module.specs.Shape.{Slot, Shape, AsType, AsResult, AsId, AsWord, AsNumber}
 use Rattle.spv_module.specs.Spelling.{Takes}
-use Rattle.spv_inst.specs.Written.{fits_width}
+use Rattle.spv_inst.specs.inner.Written.{fits_width}
 use Rattle.spv_lines.specs.Digits.{is_number, hex_digits, IsLarge}
 use Rattle.spv_lines.specs.Operand.{IsRead}
 use Rattle.spv_lines.specs.Line.{AreWords}
@@ -16,7 +16,7 @@ use Rattle.spv_lines.proofs.Large.{place, same_place, no_place, narrow_limit, wi
 use Rattle.spv_lines.proofs.Tokens.{length-hex}
 use Rattle.spv_tokens.specs.declared.misread.Misread.{Misread}
 use Rattle.spv_tokens.specs.declared.misread.Misread.TheVariants.{IllFormed, TooLarge}
-use Rattle.spv_tokens.specs.Answer.{IsBelow, IsBehind, IsTaken, IsOver, IsNone, IsToken}
+use Rattle.spv_tokens.specs.inner.Answer.{IsBelow, IsBehind, IsTaken, IsOver, IsNone, IsToken}
 
 -- what a refused token is
 abbrev pub Refused : Table → Bool → ℕ → Shape → List ℕ → Misread → Type 0

@@ -1,6 +1,7 @@
 //! A number at the front of a text.
 
-ghost use Rattle.std.specs.Prelude.{◌≡◌, ◌<◌, ◌≤◌, ◌^◌, ℕ, true, IfSome, length, take, slice_index, decimal};
+ghost use Rattle.std.specs.Prelude.{◌≡◌, ◌<◌, ◌≤◌, ◌^◌, ℕ, true, IfSome, length, take};
+ghost use Rattle.std.specs.Prelude.{slice_index, decimal};
 ghost use Rattle.std.specs.List.{list_all};
 ghost use Rattle.spv_lines.specs.Digits.{is_digit, value};
 ghost use Rattle.spv_lines.specs.Line.{before_space, from_space};
@@ -17,15 +18,16 @@ pub struct Cell<'a> {
 /// A number below this one has room for one more digit in a word.
 const ROOM: u32 = 400_000_000;
 
-/// The cell of a number whose digits end there, at a space or at the end of the text. None where there are no digits, or a zero
-/// stands in front that is not needed.
+/// The cell of a number whose digits end there, at a space or at the end of the text. None where there are no digits,
+/// or a zero stands in front that is not needed.
 #[inline(always)]
 fn cell_at(text: &str, at: usize, number: u32) -> Option<Cell<'_>>
     requires within { at ≤ length text.now }
     requires ended { at < length text.now → slice_index text.now at ≡ 32 }
     requires digits { list_all is_digit (take at text.now) ≡ true }
     requires value { value (take at text.now) ≡ number }
-    ensures { IfSome result (λ c. (c.number < 2 ^ 32) × (before_space text.now ≡ decimal c.number) × (from_space text.now ≡ c.rest.now)) }
+    ensures { IfSome result (λ c. (c.number < 2 ^ 32) × (before_space text.now ≡ decimal c.number)
+        × (from_space text.now ≡ c.rest.now)) }
 {
     let octets = text.as_bytes();
     if at == 0 {
@@ -41,11 +43,12 @@ fn cell_at(text: &str, at: usize, number: u32) -> Option<Cell<'_>>
     Some(Cell { number, rest })
 }
 
-/// The decimal number that the token at the front of a text is, up to the first space or the end, and what stands from there on.
-/// None where the token is no well-formed decimal number, and also for a number of 4,000,000,000 or more.
+/// The decimal number that the token at the front of a text is, up to the first space or the end, and what stands from
+/// there on. None where the token is no well-formed decimal number, and also for a number of 4,000,000,000 or more.
 #[inline(always)]
 pub fn read_front(text: &str) -> Option<Cell<'_>>
-    ensures { IfSome result (λ c. (c.number < 2 ^ 32) × (before_space text.now ≡ decimal c.number) × (from_space text.now ≡ c.rest.now)) }
+    ensures { IfSome result (λ c. (c.number < 2 ^ 32) × (before_space text.now ≡ decimal c.number)
+        × (from_space text.now ≡ c.rest.now)) }
 {
     let octets = text.as_bytes();
     let mut number = 0u32;

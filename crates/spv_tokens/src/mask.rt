@@ -2,16 +2,17 @@
 
 ghost use Rattle.std.specs.Prelude.{◌≡◌, ◌∷◌, ℕ, List, option_map};
 ghost use Rattle.spv_lines.specs.Name.{IsNameOf};
-ghost use Rattle.spv_tokens.specs.Answer.{IsNamedBits, IsNamedMask, cells, cells_left, names_in};
+ghost use Rattle.spv_tokens.specs.inner.Answer.{IsNamedBits, IsNamedMask, cells, cells_left, names_in};
 
 use crate::name::named_value;
 use crate::split::split_cell;
 use spv_table::Table;
 
-/// The mask of a kind whose bits plain names tell, joined by `|`, the smaller bit first. `first` is the value of the first name,
-/// and `names` what stands behind its `|`, if there is one.
+/// The mask of a kind whose bits plain names tell, joined by `|`, the smaller bit first. `first` is the value of the
+/// first name, and `names` what stands behind its `|`, if there is one.
 fn named_bits(table: &Table, kind: u32, text: &str, first: u32, names: Option<&str>) -> Option<u32>
-    requires { (name : List ℕ) × (cells text.now ≡ name ∷ cells_left (option_map (λ t. t.now) names)) × IsNameOf (names_in table.now kind) first name }
+    requires { (name : List ℕ) × (cells text.now ≡ name ∷ cells_left (option_map (λ t. t.now) names))
+        × IsNameOf (names_in table.now kind) first name }
     ensures { IsNamedBits (names_in table.now kind) text.now result }
 {
     let mut bit = first;
@@ -34,8 +35,8 @@ fn named_bits(table: &Table, kind: u32, text: &str, first: u32, names: Option<&s
     None
 }
 
-/// The mask of a kind that plain names stand for: that of 0 alone, or those of the mask's bits joined by `|`, the smaller
-/// bit first. None where a text is no such names.
+/// The mask of a kind that plain names stand for: that of 0 alone, or those of the mask's bits joined by `|`, the
+/// smaller bit first. None where a text is no such names.
 pub fn named_mask(table: &Table, kind: u32, text: &str) -> Option<u32>
     ensures { IsNamedMask (names_in table.now kind) text.now result }
 {

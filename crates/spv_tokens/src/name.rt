@@ -6,7 +6,7 @@ ghost use Rattle.spv_table.specs.Table.{kind_of};
 ghost use Rattle.spv_module.specs.Shape.{AsMask, AsValue};
 ghost use Rattle.spv_inst.specs.Reading.{enumerants_at};
 ghost use Rattle.spv_lines.specs.Name as spec;
-ghost use Rattle.spv_tokens.specs.Answer.{IsMaskText, IsNamed, IsToken, IsValueText, names_in};
+ghost use Rattle.spv_tokens.specs.inner.Answer.{IsMaskText, IsNamed, IsToken, IsValueText, names_in};
 
 use crate::mask::named_mask;
 use crate::misread::Misread;
@@ -71,9 +71,11 @@ fn mask_of(table: &Table, kind: u32, text: &str) -> Result<u32, Misread>
 ///
 /// # Errors
 ///
-/// `IllFormed`: the token is no plain name of an enumerant's value, nor `#N` of one. `TooLarge`: it is `#N` of over 32 bits.
+/// `IllFormed`: the token is no plain name of an enumerant's value, nor `#N` of one. `TooLarge`: it is `#N` of over 32
+/// bits.
 pub fn read_value(table: &Table, kind: u32, token: &str) -> Result<Operand<'static>, Misread>
-    ensures { (hex : Bool) → IsToken table.now hex kind (AsValue (enumerants_at (kind_of table.now kind))) token.now result }
+    ensures { (hex : Bool) → IsToken table.now hex kind
+        (AsValue (enumerants_at (kind_of table.now kind))) token.now result }
 {
     match value_of(table, kind, token) {
         Ok(value) => {
@@ -91,10 +93,11 @@ pub fn read_value(table: &Table, kind: u32, token: &str) -> Result<Operand<'stat
 ///
 /// # Errors
 ///
-/// `IllFormed`: the token is not the plain names of such a mask's bits joined by `|`, the smaller bit first, nor that of 0,
-/// nor `#N` of such a mask. `TooLarge`: it is `#N` of over 32 bits.
+/// `IllFormed`: the token is not the plain names of such a mask's bits joined by `|`, the smaller bit first, nor that
+/// of 0, nor `#N` of such a mask. `TooLarge`: it is `#N` of over 32 bits.
 pub fn read_mask(table: &Table, kind: u32, token: &str) -> Result<Operand<'static>, Misread>
-    ensures { (hex : Bool) → IsToken table.now hex kind (AsMask (enumerants_at (kind_of table.now kind))) token.now result }
+    ensures { (hex : Bool) → IsToken table.now hex kind
+        (AsMask (enumerants_at (kind_of table.now kind))) token.now result }
 {
     match mask_of(table, kind, token) {
         Ok(value) => {

@@ -1,10 +1,11 @@
 //! Numbers as a text has them.
 
-ghost use Rattle.std.specs.Prelude.{◌≡◌, ◌<◌, ◌≤◌, ◌+◌, ◌*◌, ◌^◌, ◌++◌, ◌∷◌, ℕ, List, Bool, true, false, not, Some, None, SomeIff, MatchOption, option_map};
+ghost use Rattle.std.specs.Prelude.{◌≡◌, ◌<◌, ◌≤◌, ◌+◌, ◌*◌, ◌^◌, ◌++◌, ◌∷◌, ℕ};
+ghost use Rattle.std.specs.Prelude.{List, Bool, true, false, not, Some, None, SomeIff, MatchOption, option_map};
 ghost use Rattle.spv_table.specs.Table.{Table};
 ghost use Rattle.spv_module.specs.Shape.{AsId, AsNumber, AsResult, AsType, AsWord};
 ghost use Rattle.spv_lines.specs.Digits.{hex_digits, is_lean};
-ghost use Rattle.spv_tokens.specs.Answer.{IsBehind, IsBelow, IsDigit, IsEight, IsToken};
+ghost use Rattle.spv_tokens.specs.inner.Answer.{IsBehind, IsBelow, IsDigit, IsEight, IsToken};
 
 use crate::misread::Misread;
 use spv_module::Operand;
@@ -133,7 +134,8 @@ pub fn read_eight(text: &[u8]) -> Option<u32>
 
 /// What stands behind `0x`, if a text begins so.
 fn behind_zero_x(text: &[u8]) -> Option<&[u8]>
-    ensures { MatchOption result ((ds : List ℕ) → text.now ≡ 48 ∷ 120 ∷ ds → ⊥) (λ ds. text.now ≡ 48 ∷ 120 ∷ ds.now) }
+    ensures { MatchOption result ((ds : List ℕ) → text.now ≡ 48 ∷ 120 ∷ ds → ⊥)
+        (λ ds. text.now ≡ 48 ∷ 120 ∷ ds.now) }
 {
     match text {
         [b'0', b'x', rest @ ..] => Some(rest),
@@ -226,10 +228,11 @@ fn read_narrow_hexadecimal(token: &[u8]) -> Result<Operand<'static>, Misread>
     }
 }
 
-/// The two words that sixteen hexadecimal digits in lower case are, the second one first. None where the octets are no such
-/// digits.
+/// The two words that sixteen hexadecimal digits in lower case are, the second one first. None where the octets are no
+/// such digits.
 fn read_sixteen(digits: &[u8]) -> Option<(u32, u32)>
-    ensures { MatchOption result ((x y : ℕ) → x < 2 ^ 32 → y < 2 ^ 32 → digits.now ≡ hex_digits 8 y ++ hex_digits 8 x → ⊥)
+    ensures { MatchOption result ((x y : ℕ) → x < 2 ^ 32 → y < 2 ^ 32
+        → digits.now ≡ hex_digits 8 y ++ hex_digits 8 x → ⊥)
         (λ p. (p.0 < 2 ^ 32) × (p.1 < 2 ^ 32) × (digits.now ≡ hex_digits 8 p.1 ++ hex_digits 8 p.0)) }
 {
     if digits.len() != 16 {
@@ -282,8 +285,8 @@ fn read_sized(width: u32, hexadecimal: bool, token: &[u8]) -> Result<Operand<'st
 ///
 /// # Errors
 ///
-/// `IllFormed`: the width is not known, or the token is no such number. `TooLarge`: it is a decimal number that takes more
-/// words than the width has.
+/// `IllFormed`: the width is not known, or the token is no such number. `TooLarge`: it is a decimal number that takes
+/// more words than the width has.
 pub fn read_number(
     width: Option<u32>,
     hexadecimal: bool,

@@ -1,8 +1,9 @@
 //! Texts in quotes.
 
-ghost use Rattle.std.specs.Prelude.{◌≡◌, ◌≢◌, ◌<◌, ◌++◌, ◌∷◌, [], ℕ, List, Some, None, IfOk, IfSome, MatchOption, length, drop, slice_index, string_bytes};
+ghost use Rattle.std.specs.Prelude.{◌≡◌, ◌≢◌, ◌<◌, ◌++◌, ◌∷◌, [], ℕ, List, Some, None};
+ghost use Rattle.std.specs.Prelude.{IfOk, IfSome, MatchOption, length, drop, slice_index, string_bytes};
 ghost use Rattle.spv_lines.specs.Operand.{escaped, quoted};
-ghost use Rattle.spv_tokens.specs.Quoted.{IsMark};
+ghost use Rattle.spv_tokens.specs.inner.Quoted.{IsMark};
 
 use crate::split::{behind, split_before};
 use memchr::memchr3;
@@ -41,12 +42,13 @@ fn mark_of(text: &str) -> Mark<'_>
     Mark::Wrong
 }
 
-/// Reads the text in quotes at the front of a text into `out`, without its escapes, and gives what stands behind the closing
-/// quote. None where no text in quotes stands there; then nothing is said of what is left in `out`.
+/// Reads the text in quotes at the front of a text into `out`, without its escapes, and gives what stands behind the
+/// closing quote. None where no text in quotes stands there; then nothing is said of what is left in `out`.
 ///
 /// An `AllocError` comes only where a growth of memory was refused, and then nothing is said of what is left in `out`.
 pub fn read_quoted<'a>(out: &mut String, text: &'a str) -> Result<Option<&'a str>, AllocError>
-    ensures { IfOk result (λ o. MatchOption o ((t u : List ℕ) → text.now ≡ quoted t ++ u → ⊥) (λ u. text.now ≡ quoted (string_bytes out.new) ++ u.now)) }
+    ensures { IfOk result (λ o. MatchOption o ((t u : List ℕ) → text.now ≡ quoted t ++ u → ⊥)
+        (λ u. text.now ≡ quoted (string_bytes out.new) ++ u.now)) }
 {
     out.clear();
     let Some(inside) = behind(text, b'"') else {
@@ -75,7 +77,8 @@ pub struct Quotation<'a> {
     pub rest: &'a str,
 }
 
-/// Lends the text in quotes at the front of a text, if that has no escapes. None where no such text in quotes stands there.
+/// Lends the text in quotes at the front of a text, if that has no escapes. None where no such text in quotes stands
+/// there.
 pub fn read_unescaped(text: &str) -> Option<Quotation<'_>>
     ensures { IfSome result (λ q. text.now ≡ quoted q.text.now ++ q.rest.now) }
 {

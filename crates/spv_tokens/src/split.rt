@@ -1,9 +1,10 @@
 //! Where a text is divided.
 
-ghost use Rattle.std.specs.Prelude.{◌≡◌, ◌≢◌, ◌<◌, ◌+◌, ◌∷◌, [], ℕ, List, Some, None, MatchOption, length, take, drop, slice_index, option_map};
+ghost use Rattle.std.specs.Prelude.{◌≡◌, ◌≢◌, ◌<◌, ◌+◌, ◌∷◌, [], ℕ, List, Some, None};
+ghost use Rattle.std.specs.Prelude.{MatchOption, length, take, drop, slice_index, option_map};
 ghost use Rattle.spv_lines.specs.Line.{before_space, from_space};
 ghost use Rattle.spv_lines.specs.Text.{lines_of};
-ghost use Rattle.spv_tokens.specs.Answer.{cells, cells_left};
+ghost use Rattle.spv_tokens.specs.inner.Answer.{cells, cells_left};
 
 use memchr::memchr;
 
@@ -30,7 +31,8 @@ pub fn split_around(text: &str, at: usize) -> (&str, &str)
 /// What stands behind an octet of ASCII, if a text begins with it.
 pub fn behind(text: &str, octet: u8) -> Option<&str>
     requires { octet < 128 }
-    ensures { MatchOption result ((u : List ℕ) → text.now ≡ octet ∷ u → ⊥) (λ u. text.now ≡ octet ∷ u.now) }
+    ensures { MatchOption result ((u : List ℕ) → text.now ≡ octet ∷ u → ⊥)
+        (λ u. text.now ≡ octet ∷ u.now) }
 {
     match text.as_bytes() {
         [first, ..] => {

@@ -8,9 +8,9 @@ use Rattle.spv_table.specs.Table.{Table}
 use Rattle.spv_module.specs.Operand.{Plain, OfType, Result, Id, PlainInst}
 use Rattle.spv_module.specs.Width.{definition_of, type_of}
 use Rattle.spv_module.specs.declared.fault.Rule.TheVariants.{Y8}
-use Rattle.spv_ops.specs.Operands.{ids_in}
-use Rattle.spv_ops.specs.Parts.{id_in}
-use Rattle.spv_ops.specs.Values.{types_of}
+use Rattle.spv_type_forms.specs.Operands.{ids_in}
+use Rattle.spv_type_forms.specs.Parts.{id_in}
+use Rattle.spv_type_forms.specs.Values.{types_of}
 use Rattle.spv_type_rules.specs.Function.{signature_of, ReturnsAfter, IsSoundCall, CallsSoundly, CallsTyped, parameter_type_of}
 use Rattle.spv_evidence.specs.declared.evidence.Evidence.TheVariants as evidence
 use Rattle.spv_evidence.specs.declared.evidence.Side.{Side}

@@ -3,13 +3,13 @@ use Rattle.std.proofs.Common.{◌≡◌, ◌+◌, ◌↔◌, ℕ, zero, suc, Lis
 use Rattle.std.specs.Prelude.{slice_get, IsSomeAnd}
 use Rattle.std.specs.List.{AllByRecursion}
 use Rattle.spv_module.specs.Operand.{Plain, Result, Id, Word, Value, PlainInst}
-use Rattle.spv_ops.specs.declared.form.Scalar.{Scalar}
-use Rattle.spv_ops.specs.Form.{form_of}
-use Rattle.spv_ops.specs.Operands.{ids_in}
-use Rattle.spv_ops.specs.Types.{scalar_in, IsData}
+use Rattle.spv_type_forms.specs.declared.form.Scalar.{Scalar}
+use Rattle.spv_type_forms.specs.Form.{form_of}
+use Rattle.spv_type_forms.specs.Operands.{ids_in}
+use Rattle.spv_type_forms.specs.Types.{scalar_in, IsData}
 use Rattle.spv_type_rules.specs.declared.declaration.Declaration.{Declaration}
 use Rattle.spv_type_rules.specs.declared.declaration.Declaration.TheVariants as kind
-use Rattle.spv_type_rules.specs.Declaration.{Declares, IsVectorCount}
+use Rattle.spv_type_rules.specs.Declaration.{DeclaresSoundly, IsVectorCount}
 use Rattle.spv_type_reasons.specs.Declaration.{Asks}
 
 pub all_at : (P : ℕ → Type 0) (xs : List ℕ) (j x : ℕ) → AllByRecursion P xs → slice_get xs j ≡ Some x → P x
@@ -32,7 +32,7 @@ scalar_holds P (Some s) h = h
 scalar_with : (P : Type 0) (o : Option Scalar) (s : Scalar) → o ≡ Some s → P → IsSomeAnd o (λ s. P)
 scalar_with P o s e h = rw e h
 
-pub declares_asks : (is : List PlainInst) (n : ℕ) (d : Declaration) (os : List Plain) → Declares is n d os → (k : ℕ) → Asks is n d os k
+pub declares_asks : (is : List PlainInst) (n : ℕ) (d : Declaration) (os : List Plain) → DeclaresSoundly is n d os → (k : ℕ) → Asks is n d os k
 declares_asks is n kind.Int (Result t ∷ Word w ∷ Word s ∷ []) h k = (λ e. h.0, λ e. h.1)
 declares_asks is n kind.Float (Result t ∷ Word w ∷ []) h k = λ e. h
 declares_asks is n kind.Vector (Result t ∷ Id c ∷ Word m ∷ []) h k =
@@ -45,7 +45,7 @@ declares_asks is n kind.Function (Result t ∷ Id r ∷ os) h k = (λ e. h.0, λ
 declares_asks is n kind.Forward (Id p ∷ Value j class ∷ []) h k = λ e. h
 declares_asks is n d os h k = h
 
-pub asks_declares : (is : List PlainInst) (n : ℕ) (d : Declaration) (os : List Plain) → ((k : ℕ) → Asks is n d os k) → Declares is n d os
+pub asks_declares : (is : List PlainInst) (n : ℕ) (d : Declaration) (os : List Plain) → ((k : ℕ) → Asks is n d os k) → DeclaresSoundly is n d os
 asks_declares is n kind.Int (Result t ∷ Word w ∷ Word s ∷ []) h = ((h 1).0 refl, (h 2).1 refl)
 asks_declares is n kind.Float (Result t ∷ Word w ∷ []) h = h 1 refl
 asks_declares is n kind.Vector (Result t ∷ Id c ∷ Word m ∷ []) h =
@@ -58,5 +58,5 @@ asks_declares is n kind.Function (Result t ∷ Id r ∷ os) h = ((h 1).0 refl, a
 asks_declares is n kind.Forward (Id p ∷ Value j class ∷ []) h = h 0 refl
 asks_declares is n d os h = h 0
 
-pub operands_declare : (is : List PlainInst) (n : ℕ) (d : Declaration) (os : List Plain) → ((k : ℕ) → Asks is n d os k) ↔ Declares is n d os
+pub operands_declare : (is : List PlainInst) (n : ℕ) (d : Declaration) (os : List Plain) → ((k : ℕ) → Asks is n d os k) ↔ DeclaresSoundly is n d os
 operands_declare is n d os = (asks_declares is n d os, declares_asks is n d os)

@@ -1,13 +1,12 @@
 -- The first operand of which what is asked does not hold.
 use Rattle.std.proofs.Common.{◌≡◌, ◌≢◌, ◌∙◌, ◌<◌, ◌≤◌, ◌+◌, ◌↔◌, inl, inr, Bool, true, get_or, nat_eq, ℕ, zero, suc, List, [], ◌∷◌, Option, Some, None, refl, sym, ap, subst, length, arith}
 use Rattle.std.specs.Prelude.{slice_get, IsTrue, MatchOption}
-use Rattle.std.proofs.lemmas.Bool.{eqb-true, eq-eqb}
+use Rattle.std.proofs.lemmas.Bool.{eqb-true, eq-eqb, cases_lt}
 use Rattle.std.proofs.lemmas.Option.{slice_get_within, some_pair_parts}
-use Rattle.std.proofs.lemmas.Bool.{cases_lt}
 use Rattle.spv_module.specs.Operand.{Plain, PlainInst}
 use Rattle.spv_module.specs.Operand as operand
-use Rattle.spv_ops.specs.Operands.{ids_in}
-use Rattle.spv_ops.specs.Types.{IsData}
+use Rattle.spv_type_forms.specs.Operands.{ids_in}
+use Rattle.spv_type_forms.specs.Types.{IsData}
 use Rattle.spv_module.specs.Module.{plain_operand, plain_operands}
 use Rattle.spv_module.specs.declared.operand.Operand.{Operand}
 use Rattle.spv_module.specs.declared.operand.Operand.TheVariants as code
@@ -18,7 +17,7 @@ use Rattle.spv_evidence.specs.declared.evidence.Evidence.TheVariants as evidence
 use Rattle.spv_type_reasons.specs.Evidence.{Shows}
 use Rattle.spv_type_reasons.proofs.Declaring.{asks_declares}
 use Rattle.spv_type_rules.specs.declared.declaration.Declaration.{Declaration}
-use Rattle.spv_type_rules.specs.Declaration.{declaration_of, Declares, IsSoundDeclaration, IsIntWidth, IsFloatWidth, IsVectorCount, IsLength, IsPointee, IsReturned, IsPointerAfter}
+use Rattle.spv_type_rules.specs.Declaration.{declaration_of, DeclaresSoundly, IsSoundDeclaration, IsIntWidth, IsFloatWidth, IsVectorCount, IsLength, IsPointee, IsReturned, IsPointerAfter}
 use Rattle.spv_type_reasons.specs.Declaration.{AsksData, Asks, IsScalar}
 use Rattle.spv_type_reasons.specs.inner.Operands.{int_in, float_in, vector_in, array_in, pointee_in, forward_in, members_in, signature_in}
 use Rattle.spv_type_reasons.proofs.Repeating.{operand_there}
@@ -223,7 +222,7 @@ returned_first is _ ps r e never = cc
 -- Y2, by the first operand that fails.
 
 pub declaration_sound : (is : List PlainInst) (n : ℕ) (i : PlainInst) (d : Declaration) → Some d ≡ declaration_of i.opcode → ((k : ℕ) → Asks is n d i.operands k) → IsSoundDeclaration is n i
-declaration_sound is n i d e h = subst (λ o. MatchOption o (Unit {0}) (λ c. Declares is n c i.operands)) e (asks_declares is n d i.operands h)
+declaration_sound is n i d e h = subst (λ o. MatchOption o (Unit {0}) (λ c. DeclaresSoundly is n c i.operands)) e (asks_declares is n d i.operands h)
 
 pub declaration_shows : (G : Table) (is : List PlainInst) (n k : ℕ) (i : PlainInst) (d : Declaration) → Some d ≡ declaration_of i.opcode → IsFirstOf (Asks is n d i.operands) (Some k)
     → Shows G is n i Y2 (evidence.Operand k)

@@ -7,7 +7,7 @@ use Rattle.spv_module.specs.Operand.{PlainInst}
 use Rattle.spv_module.specs.declared.fault.Rule.{Rule}
 use Rattle.spv_module.specs.declared.fault.Rule.TheVariants as rule
 use Rattle.std.proofs.lemmas.Bool.{cases_eq}
-use Rattle.spv_layout.specs.Shape.{Fits}
+use Rattle.spv_layout.specs.Shape.{FitsShape}
 use Rattle.spv_ops.specs.Typed.{IsTyped}
 use Rattle.spv_type_rules.specs.Keeps.{Keeps}
 use Rattle.spv_layout.specs.declared.place.Place.{Place}
@@ -48,5 +48,5 @@ call_opcode G is js places q n i e at same b = elim (cases_eq i.opcode 57) [
 pub not_typed : (G : Table) (is js : List PlainInst) (places : List Place) (q : Rule) (n : ℕ) (i : PlainInst) → js ≡ is → slice_get js n ≡ Some i → q ≡ rule.Y5 → IsBroken G is places q n → ¬ (IsTyped G js n i)
 not_typed G is js places q n i e at same b = not_kept G is js places q rule.Y5 n i e at same b
 
-pub fits_at : (G : Table) (is js : List PlainInst) (places : List Place) (q : Rule) (n : ℕ) (i : PlainInst) → js ≡ is → slice_get js n ≡ Some i → IsBroken G is places q n → Fits G i
+pub fits_at : (G : Table) (is js : List PlainInst) (places : List Place) (q : Rule) (n : ℕ) (i : PlainInst) → js ≡ is → slice_get js n ≡ Some i → IsBroken G is places q n → FitsShape G i
 fits_at G is js places q n i e at b = b.plan.fits n i (subst (λ ks. slice_get ks n ≡ Some i) e at)

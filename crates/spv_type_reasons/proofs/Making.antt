@@ -4,14 +4,14 @@ use Rattle.std.specs.Prelude.{slice_get, IsTrue, IsSomeAnd}
 use Rattle.std.proofs.lemmas.Bool.{eqb-true, eq-eqb}
 use Rattle.spv_module.specs.Operand.{Plain, Number, PlainInst, type_in}
 use Rattle.spv_module.specs.Width.{definition_of}
-use Rattle.spv_ops.specs.Operands.{ids_in, after_head}
-use Rattle.spv_ops.specs.Parts.{part_of}
-use Rattle.spv_ops.specs.Types.{IsNumber}
-use Rattle.spv_ops.specs.Tests.{are_same}
+use Rattle.spv_type_forms.specs.Operands.{ids_in, after_head}
+use Rattle.spv_type_forms.specs.Parts.{part_of}
+use Rattle.spv_type_forms.specs.Types.{IsNumber}
+use Rattle.spv_type_forms.specs.inner.Tests.{are_same}
 use Rattle.spv_type_rules.specs.declared.constant.Constant.{Constant}
 use Rattle.spv_type_rules.specs.declared.constant.Constant.TheVariants as kind
 use Rattle.spv_type_rules.specs.Constant.{is_part_opcode, FitsWidth, AreConstantParts, Constitutes}
-use Rattle.spv_type_rules.specs.Found.{is_typed_part, are_typed_parts}
+use Rattle.spv_type_rules.specs.inner.Found.{is_typed_part, are_typed_parts}
 use Rattle.spv_type_rules.proofs.Parted.{parts_told}
 use Rattle.spv_type_reasons.specs.Constant.{IsPartOf, AsksParts, AsksOf, Asks}
 

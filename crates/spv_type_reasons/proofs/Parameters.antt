@@ -7,7 +7,7 @@ use Rattle.spv_module.specs.Operand.{PlainInst, type_in}
 use Rattle.spv_module.specs.Module.{plain_inst}
 use Rattle.spv_module.specs.declared.module.Inst.{Inst}
 use Rattle.spv_module.specs.declared.fault.Rule.TheVariants.{Y6}
-use Rattle.spv_type_rules.specs.Found.{IsOfOne}
+use Rattle.spv_type_rules.specs.inner.Found.{IsOfOne}
 use Rattle.spv_type_rules.specs.Function.{IsSoundParameter, parameter_count, parameters_between, parameter_type_of}
 use Rattle.spv_evidence.specs.declared.evidence.Evidence.TheVariants as evidence
 use Rattle.spv_evidence.specs.declared.evidence.Side.TheVariants as side

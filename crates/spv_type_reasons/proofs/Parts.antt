@@ -7,11 +7,11 @@ use Rattle.spv_module.specs.Operand as operand
 use Rattle.spv_module.specs.Width.{definition_of}
 use Rattle.spv_module.specs.declared.fault.Rule.TheVariants.{Y4}
 use Rattle.spv_layout.specs.Place.{operand_words}
-use Rattle.spv_ops.specs.Operands.{ids_in, after_head}
-use Rattle.spv_ops.specs.Parts.{part_of, count_of}
+use Rattle.spv_type_forms.specs.Operands.{ids_in, after_head}
+use Rattle.spv_type_forms.specs.Parts.{part_of, count_of}
 use Rattle.spv_type_rules.specs.declared.constant.Constant.{Constant}
 use Rattle.spv_type_rules.specs.Constant.{Constitutes, IsSoundConstant, constant_of}
-use Rattle.spv_type_rules.specs.Found.{is_typed_part}
+use Rattle.spv_type_rules.specs.inner.Found.{is_typed_part}
 use Rattle.spv_evidence.specs.declared.evidence.Evidence.TheVariants as evidence
 use Rattle.spv_type_reasons.specs.Constant.{IsPartOf, AsksParts, Asks}
 use Rattle.spv_type_reasons.specs.Evidence.{Shows}

@@ -4,10 +4,9 @@ use Rattle.std.specs.Prelude.{slice_get, sum_by, IsSomeAnd, IsSome, if◌then◌
 use Rattle.std.proofs.lemmas.Bool.{eqb-true}
 use Rattle.std.proofs.lemmas.List.Sums.{sum_by-cons, sum_by-append}
 use Rattle.spv_table.specs.Table.{Table}
-use Rattle.spv_module.specs.Operand.{Plain, PlainInst, type_in}
+use Rattle.spv_module.specs.Operand.{Plain, PlainInst, type_in, result_in}
 use Rattle.spv_module.specs.Operand as operand
 use Rattle.spv_module.specs.Width.{definition_of, type_of, or_else, has_result}
-use Rattle.spv_module.specs.Operand.{result_in}
 use Rattle.spv_layout.specs.declared.class.Class.TheVariants.{Declaration, Function, Parameter, Body, Return}
 use Rattle.spv_layout.specs.declared.form.Form.{Form}
 use Rattle.spv_layout.specs.declared.form.Form.TheVariants as form
@@ -17,13 +16,13 @@ use Rattle.spv_layout.specs.declared.form.Named.TheVariants as kind_of
 use Rattle.spv_layout.specs.Place.{operand_words, word_count}
 use Rattle.spv_layout.specs.Row.{PlainRow, row, closed, repeated, T, R, t, v, f, kind}
 use Rattle.spv_layout.specs.Rows.{rows, row_of}
-use Rattle.spv_layout.specs.Shape.{is_of, AreOf, Ends, HasForms, Fits, IsUse}
+use Rattle.spv_layout.specs.Shape.{is_of, AreOf, Ends, HasForms, FitsShape, IsUse}
 use Rattle.spv_layout.proofs.Shapes.{are_moved, rows_same, no_operands}
 use Rattle.spv_ids.specs.Definition.{IsUsedAt}
-use Rattle.spv_ops.specs.Operands.{ids_in}
-use Rattle.spv_ops.specs.Parts.{after_result}
-use Rattle.spv_ops.specs.Values.{types_of}
-use Rattle.spv_roles.specs.Role.{IsValue, HasOpcode}
+use Rattle.spv_type_forms.specs.Operands.{ids_in}
+use Rattle.spv_type_forms.specs.Parts.{after_result}
+use Rattle.spv_type_forms.specs.Values.{types_of}
+use Rattle.spv_roles.specs.Role.{IsValue, IsOfOpcode}
 use Rattle.spv_type_rules.specs.Function.{function_type_in, signature_in}
 use Rattle.spv_type_reasons.specs.inner.Known.{IsKnown, IsSignature, IsFunction, ReturnsOne, CallsOne}
 
@@ -88,7 +87,7 @@ record Shaped (G : Table) (r : PlainRow) (i : PlainInst) : Type 0 where
   ending : Ends r.ending rest
   each : AreOf G (r.fixed ++ rest) i.operands
 
-shaped : (G : Table) (r : PlainRow) (i : PlainInst) → Fits G i → row_of i.opcode ≡ Some r → Shaped G r i
+shaped : (G : Table) (r : PlainRow) (i : PlainInst) → FitsShape G i → row_of i.opcode ≡ Some r → Shaped G r i
 shaped G r i fits known =
     let h = fits.has in
     let same : h.row ≡ r = rows_same i.opcode h.row r h.known known in
@@ -303,7 +302,7 @@ value_shape G is n i known at o =
     let u = typeable G is n i (v ∷ s.rest) known at s.has 0 x.0 refl (first_there i.operands [] (operand.Id x.0) shape) in
     record { id = x.0; operands = shape; found = u.0; typed = u.1 }
 
-function_there : (o : Option PlainInst) → IsSomeAnd o (HasOpcode 54) → (d : PlainInst) × (o ≡ Some d) × (d.opcode ≡ 54)
+function_there : (o : Option PlainInst) → IsSomeAnd o (IsOfOpcode 54) → (d : PlainInst) × (o ≡ Some d) × (d.opcode ≡ 54)
 function_there None h = absurd h
 function_there (Some d) h = (d, refl, h)
 

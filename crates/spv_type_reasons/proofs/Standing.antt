@@ -11,7 +11,7 @@ use Rattle.spv_layout.specs.Class.{is_among}
 use Rattle.spv_layout.specs.Rows.{rows, class_of}
 use Rattle.spv_layout.specs.Layout.{IsLayout, classes}
 use Rattle.spv_layout.specs.Place.{IsAt, IsOfFunction}
-use Rattle.spv_layout.specs.State.{next_of, Remains}
+use Rattle.spv_layout.specs.inner.State.{next_of, Remains}
 use Rattle.spv_layout.proofs.Derivatives.{both_hold}
 use Rattle.spv_layout.proofs.Following.{is_open, implies, fine_move}
 use Rattle.spv_layout.proofs.Layouts.{layout_remains}

@@ -8,12 +8,12 @@ use Rattle.spv_module.specs.declared.fault.Rule.{Rule}
 use Rattle.spv_layout.specs.declared.form.Form.{Form}
 use Rattle.spv_layout.proofs.Places.{function_same}
 use Rattle.spv_layout.proofs.Shapes.{forms_same}
-use Rattle.spv_ops.specs.declared.form.Form.TheVariants as form
-use Rattle.spv_ops.specs.Form.{form_of}
-use Rattle.spv_ops.specs.Operands.{ids_in, after_head}
-use Rattle.spv_ops.specs.Parts.{id_in}
+use Rattle.spv_type_forms.specs.declared.form.Form.TheVariants as form
+use Rattle.spv_type_forms.specs.Form.{form_of}
+use Rattle.spv_type_forms.specs.Operands.{ids_in, after_head}
+use Rattle.spv_type_forms.specs.Parts.{id_in}
 use Rattle.spv_ops.specs.Typed.{Typed}
-use Rattle.spv_ops.specs.Values.{AreValues, types_of, used_in}
+use Rattle.spv_type_forms.specs.Values.{AreValues, types_of, used_in}
 use Rattle.spv_type_rules.specs.Declaration.{IsSoundDeclaration}
 use Rattle.spv_type_rules.specs.Constant.{IsSoundConstant}
 use Rattle.spv_type_rules.specs.Function.{signature_of, ReturnsAfter, ReturnsTyped, ReturnsNothing, OfFunction, IsSoundCall, CallsSoundly, CallsTyped, IsSoundParameter, parameter_type_of, parameters_between}

@@ -12,12 +12,12 @@ use Rattle.spv_layout.specs.declared.form.Form.{Form}
 use Rattle.spv_layout.specs.declared.form.Form.TheVariants as form
 use Rattle.spv_layout.specs.declared.form.Role.{Role}
 use Rattle.spv_layout.specs.declared.form.Role.TheVariants as role
-use Rattle.spv_layout.specs.Shape.{is_of, AreOf, HasForms, Fits, IsUse, IsRole, role_of}
+use Rattle.spv_layout.specs.Shape.{is_of, AreOf, HasForms, FitsShape, IsUse, IsRole, role_of}
 use Rattle.spv_layout.proofs.Shapes.{forms_same, use_same}
-use Rattle.spv_ops.specs.Parts.{id_in}
-use Rattle.spv_ops.specs.Operands.{result_type_in}
+use Rattle.spv_type_forms.specs.Parts.{id_in}
+use Rattle.spv_type_forms.specs.Operands.{result_type_in}
 use Rattle.spv_ops.specs.Typed.{IsTyped}
-use Rattle.spv_ops.specs.Values.{types_of, value_in, used_in}
+use Rattle.spv_type_forms.specs.Values.{types_of, value_in, used_in}
 use Rattle.spv_evidence.specs.declared.evidence.Evidence.TheVariants as evidence
 use Rattle.spv_evidence.specs.declared.evidence.Typed.{Typed}
 use Rattle.spv_type_reasons.specs.Evidence.{AreTyped, Shows}
@@ -124,7 +124,7 @@ types_push is (y ∷ xs) us x u e t = one (λ ts h. types_push is xs ts x u h t)
   one rest (Some v) None a b = cc
   one rest (Some v) (Some ts) a b = let list : v ∷ ts ≡ us = cc in rw (← list, rest ts a) refl
 
-pub one_more : (is : List PlainInst) (i : PlainInst) (k x u : ℕ) (vs : List Typed) → k < length i.operands → ((G : Table) → Fits G i → IsValueAt G i k (Some x)) → type_of is x ≡ Some u → AreSoFar is i k vs
+pub one_more : (is : List PlainInst) (i : PlainInst) (k x u : ℕ) (vs : List Typed) → k < length i.operands → ((G : Table) → FitsShape G i → IsValueAt G i k (Some x)) → type_of is x ≡ Some u → AreSoFar is i k vs
     → AreSoFar is i (k + 1) (vs ++ (record { value = x; of = u } ∷ []))
 one_more is i k x u vs l told t a =
     let v : Typed = record { value = x; of = u } in
@@ -137,7 +137,7 @@ one_more is i k x u vs l told t a =
       types = rw (map-append (λ (w : Typed). w.value) vs (v ∷ []), map-append (λ (w : Typed). w.of) vs (v ∷ [])) (types_push is (map (λ (w : Typed). w.value) vs) (map (λ (w : Typed). w.of) vs) x u a.types t);
     }
 
-pub none_more : (is : List PlainInst) (i : PlainInst) (k : ℕ) (vs : List Typed) → k < length i.operands → ((G : Table) → Fits G i → IsValueAt G i k None) → AreSoFar is i k vs → AreSoFar is i (k + 1) vs
+pub none_more : (is : List PlainInst) (i : PlainInst) (k : ℕ) (vs : List Typed) → k < length i.operands → ((G : Table) → FitsShape G i → IsValueAt G i k None) → AreSoFar is i k vs → AreSoFar is i (k + 1) vs
 none_more is i k vs l told a = record {
   rest = λ G fs has.
       let o = item i.operands k l in
@@ -154,7 +154,7 @@ no_more [] os e = refl
 no_more (f ∷ fs) [] e = refl
 no_more (f ∷ fs) (o ∷ os) e = cc
 
-pub all_typed : (is : List PlainInst) (i : PlainInst) (k : ℕ) (vs : List Typed) → length i.operands ≤ k → AreSoFar is i k vs → (G : Table) → Fits G i → AreTyped G is i vs
+pub all_typed : (is : List PlainInst) (i : PlainInst) (k : ℕ) (vs : List Typed) → length i.operands ≤ k → AreSoFar is i k vs → (G : Table) → FitsShape G i → AreTyped G is i vs
 all_typed is i k vs l a G fits =
     let done = map (λ (w : Typed). w.value) vs in
     let none : used_in (drop k fits.forms) (drop k i.operands) ≡ [] = no_more (drop k fits.forms) (drop k i.operands) (drop_all k i.operands l) in
@@ -162,7 +162,7 @@ all_typed is i k vs l a G fits =
     record { values = record { forms = fits.forms; has = fits.has; values = sym all ∙ append-nil done }; types = a.types }
 
 -- a value has a type
-pub value_typed : (G : Table) (is : List PlainInst) (i : PlainInst) (k x : ℕ) → IsTypeable G is i → k < length i.operands → ((H : Table) → Fits H i → IsValueAt H i k (Some x)) → type_of is x ≡ None → ⊥
+pub value_typed : (G : Table) (is : List PlainInst) (i : PlainInst) (k x : ℕ) → IsTypeable G is i → k < length i.operands → ((H : Table) → FitsShape H i → IsValueAt H i k (Some x)) → type_of is x ≡ None → ⊥
 value_typed G is i k x t l told none =
     let o = item i.operands k l in
     let f = form_there G t.forms i.operands k o.0 t.has.each o.1 in

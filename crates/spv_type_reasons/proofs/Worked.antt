@@ -5,7 +5,7 @@ use Rattle.spv_table.specs.Table.{Table}
 use Rattle.spv_module.specs.Operand.{Id, PlainInst}
 use Rattle.spv_module.specs.declared.fault.Rule.{Rule}
 use Rattle.spv_module.specs.declared.fault.Rule.TheVariants as rule
-use Rattle.spv_ops.specs.Operands.{ids_in, after_head}
+use Rattle.spv_type_forms.specs.Operands.{ids_in, after_head}
 use Rattle.spv_type_rules.specs.declared.declaration.Declaration.TheVariants as kind
 use Rattle.spv_type_rules.specs.Declaration.{IsVectorCount, declaration_of}
 use Rattle.spv_type_rules.specs.Repeat.{Repeats}

@@ -1,10 +1,11 @@
 -- Y4, operand by operand. [3.49.7]
-use Rattle.std.specs.Prelude.{◌≡◌, ◌+◌, ◌<◌, ℕ, List, [], ◌∷◌, Bool, true, false, Some, IsSomeAnd, length, slice_get}
+use Rattle.std.specs.Prelude.{◌≡◌, ◌+◌, ◌<◌, ℕ, List, [], ◌∷◌, Bool, true, false, Some, IsSomeAnd}
+use Rattle.std.specs.Prelude.{length, slice_get}
 use Rattle.spv_module.specs.Operand.{Plain, Number, PlainInst, type_in}
 use Rattle.spv_module.specs.Width.{type_of}
-use Rattle.spv_ops.specs.Operands.{ids_in, after_head}
-use Rattle.spv_ops.specs.Parts.{part_of, count_of}
-use Rattle.spv_ops.specs.Types.{IsBool, IsNumber, IsData}
+use Rattle.spv_type_forms.specs.Operands.{ids_in, after_head}
+use Rattle.spv_type_forms.specs.Parts.{part_of, count_of}
+use Rattle.spv_type_forms.specs.Types.{IsBool, IsNumber, IsData}
 use Rattle.spv_type_rules.specs.declared.constant.Constant.{Constant}
 use Rattle.spv_type_rules.specs.declared.constant.Constant.TheVariants as kind
 use Rattle.spv_type_rules.specs.Constant.{IsPart, FitsWidth, constant_of}
@@ -23,7 +24,8 @@ AsksParts is spec r xs k =
 -- together are what Y4 demands of it. An operand that is not named is free.
 abbrev pub AsksOf : List PlainInst → Constant → ℕ → List Plain → ℕ → Type 0
 AsksOf is kind.Bool r os k = k ≡ 0 → IsBool is r
-AsksOf is kind.Number r (Number low high words ∷ []) k = (k ≡ 0 → IsNumber is r) × (k ≡ 2 → FitsWidth is r low)
+AsksOf is kind.Number r (Number low high words ∷ []) k =
+    (k ≡ 0 → IsNumber is r) × (k ≡ 2 → FitsWidth is r low)
 AsksOf is kind.Composite r os k = AsksParts is false r (ids_in os) k
 AsksOf is kind.SpecComposite r os k = AsksParts is true r (ids_in os) k
 AsksOf is kind.Null r os k = k ≡ 0 → IsData is r

@@ -1,14 +1,14 @@
 -- Y2, operand by operand. [3.49.6; widths and counts own]
 use Rattle.std.specs.Prelude.{◌≡◌, ◌+◌, ◌<◌, ℕ, List, [], ◌∷◌, Some, slice_get}
 use Rattle.spv_module.specs.Operand.{Plain, Result, Id, Word, Value, PlainInst}
-use Rattle.spv_ops.specs.Form.{form_of}
-use Rattle.spv_ops.specs.Operands.{ids_in}
-use Rattle.spv_ops.specs.Types.{scalar_in, IsData}
-use Rattle.spv_ops.specs.declared.form.Scalar.{Scalar}
+use Rattle.spv_type_forms.specs.Form.{form_of}
+use Rattle.spv_type_forms.specs.Operands.{ids_in}
+use Rattle.spv_type_forms.specs.Types.{scalar_in, IsData}
+use Rattle.spv_type_forms.specs.declared.form.Scalar.{Scalar}
 use Rattle.spv_type_rules.specs.declared.declaration.Declaration.{Declaration}
 use Rattle.spv_type_rules.specs.declared.declaration.Declaration.TheVariants as kind
-use Rattle.spv_type_rules.specs.Declaration.{IsIntWidth, IsFloatWidth, IsVectorCount, IsLength, IsPointee}
-use Rattle.spv_type_rules.specs.Declaration.{IsReturned, IsPointerAfter, declaration_of}
+use Rattle.spv_type_rules.specs.Declaration.{IsIntWidth, IsFloatWidth, IsVectorCount, IsLength, IsPointee, IsReturned}
+use Rattle.spv_type_rules.specs.Declaration.{IsPointerAfter, declaration_of}
 
 -- the id declares a scalar type
 abbrev pub IsScalar : List PlainInst → ℕ → Type 0
@@ -23,7 +23,8 @@ AsksData is first os k = (j t : ℕ) → k ≡ first + j → slice_get (ids_in o
 abbrev pub Asks : List PlainInst → ℕ → Declaration → List Plain → ℕ → Type 0
 Asks is n kind.Int (Result t ∷ Word w ∷ Word s ∷ []) k = (k ≡ 1 → IsIntWidth w) × (k ≡ 2 → s ≡ 0)
 Asks is n kind.Float (Result t ∷ Word w ∷ []) k = k ≡ 1 → IsFloatWidth w
-Asks is n kind.Vector (Result t ∷ Id c ∷ Word m ∷ []) k = (k ≡ 1 → IsScalar is c) × (k ≡ 2 → IsVectorCount m)
+Asks is n kind.Vector (Result t ∷ Id c ∷ Word m ∷ []) k =
+    (k ≡ 1 → IsScalar is c) × (k ≡ 2 → IsVectorCount m)
 Asks is n kind.Array (Result t ∷ Id e ∷ Id l ∷ []) k = (k ≡ 1 → IsData is e) × (k ≡ 2 → IsLength is l)
 Asks is n kind.Struct (Result t ∷ os) k = AsksData is 1 os k
 Asks is n kind.Pointer (Result t ∷ Value j class ∷ Id p ∷ []) k = k ≡ 2 → IsPointee is p

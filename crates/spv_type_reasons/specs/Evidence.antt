@@ -1,16 +1,18 @@
--- Evidence for Y2 to Y8: what shows that the rule is broken. [2.8, 3.49.6, 3.49.7, 3.49.9, 3.49.17; own: table C]
-use Rattle.std.specs.Prelude.{◌≡◌, ◌≢◌, ℕ, List, [], ◌∷◌, Option, Some, None, length, map, slice_get, take}
+-- Evidence for Y2 to Y8: what shows that the rule is broken. [2.8, 3.49.6, 3.49.7, 3.49.9, 3.49.17; own: the table of
+-- types]
+use Rattle.std.specs.Prelude.{◌≡◌, ◌≢◌, ℕ, List, [], ◌∷◌, Option, Some, None, length, map}
+use Rattle.std.specs.Prelude.{slice_get, take}
 use Rattle.spv_table.specs.Table.{Table}
 use Rattle.spv_module.specs.Operand.{PlainInst, type_in}
 use Rattle.spv_module.specs.declared.fault.Rule.{Rule}
 use Rattle.spv_module.specs.declared.fault.Rule.TheVariants as rule
-use Rattle.spv_ops.specs.declared.form.Form.TheVariants as form
+use Rattle.spv_type_forms.specs.declared.form.Form.TheVariants as form
 use Rattle.spv_ops.specs.declared.row.Row.TheVariants as row
-use Rattle.spv_ops.specs.Form.{form_of}
-use Rattle.spv_ops.specs.Operands.{ids_in, result_type_in}
+use Rattle.spv_type_forms.specs.Form.{form_of}
+use Rattle.spv_type_forms.specs.Operands.{ids_in, result_type_in}
 use Rattle.spv_ops.specs.Row.{row_of}
 use Rattle.spv_ops.specs.Typed.{Typed}
-use Rattle.spv_ops.specs.Values.{AreValues, types_of}
+use Rattle.spv_type_forms.specs.Values.{AreValues, types_of}
 use Rattle.spv_type_rules.specs.Repeat.{Repeats}
 use Rattle.spv_type_rules.specs.Function.{parameters_after}
 use Rattle.spv_evidence.specs.declared.evidence.Evidence.{Evidence}
@@ -44,13 +46,15 @@ pub data Shows (G : Table) (is : List PlainInst) (n : ℕ) (i : PlainInst) : Rul
       → Differs is i r (parameters_after is n) s wanted found
       → Shows G is n i rule.Y6 (evidence.Mismatch s wanted found)
   -- the OpFunctionParameter (55) is of another type than the one at its place
-  parameter : (k t : ℕ) (wanted : Option ℕ) → i.opcode ≡ 55 → IsParameter is n i k wanted t → wanted ≢ Some t
+  parameter : (k t : ℕ) (wanted : Option ℕ) → i.opcode ≡ 55 → IsParameter is n i k wanted t
+      → wanted ≢ Some t
       → Shows G is n i rule.Y6 (evidence.Mismatch (side.Parameter k) wanted (Some t))
   -- the function of the OpReturn (253) does not return void
   nothing : (r : ℕ) → i.opcode ≡ 253 → ReturnsFrom is n r → form_of is r ≢ Some form.Void
       → Shows G is n i rule.Y7 (evidence.Mismatch side.Return (Some r) None)
   -- the function of the OpReturnValue (254) returns another type than the value's
-  value : (r o : ℕ) → i.opcode ≡ 254 → ReturnsFrom is n r → types_of is (take 1 (ids_in i.operands)) ≡ Some (o ∷ [])
+  value : (r o : ℕ) → i.opcode ≡ 254 → ReturnsFrom is n r
+      → types_of is (take 1 (ids_in i.operands)) ≡ Some (o ∷ [])
       → r ≢ o → Shows G is n i rule.Y7 (evidence.Mismatch side.Return (Some r) (Some o))
   -- the callee's type differs from the result type and the arguments of the OpFunctionCall (57)
   call : (d : PlainInst) (r : ℕ) (xs : List ℕ) (s : Side) (wanted found : Option ℕ) → i.opcode ≡ 57

@@ -1,7 +1,7 @@
 -- Small modules.
 use Rattle.std.specs.Prelude.{List, [], ◌∷◌, ◌++◌}
 use Rattle.spv_module.specs.Operand.{Result, Id, Word, PlainInst}
-use Rattle.spv_ops.specs.Example.{inst}
+use Rattle.spv_type_forms.specs.Example.{inst}
 use Rattle.spv_type_rules.specs.Example.{small, again, short_call}
 
 -- %9 = OpTypeVector %1 5

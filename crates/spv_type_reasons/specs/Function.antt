@@ -3,14 +3,15 @@ use Rattle.std.specs.Prelude.{◌≡◌, ◌≢◌, ℕ, List, ◌∷◌, Option
 use Rattle.spv_module.specs.Operand.{Plain, Id, PlainInst, type_in}
 use Rattle.spv_module.specs.Width.{type_of, definition_of}
 use Rattle.spv_layout.specs.Place.{IsOfFunction}
-use Rattle.spv_ops.specs.Operands.{ids_in, after_head}
+use Rattle.spv_type_forms.specs.Operands.{ids_in, after_head}
 use Rattle.spv_evidence.specs.declared.evidence.Side.{Side}
 use Rattle.spv_evidence.specs.declared.evidence.Side.TheVariants as side
 use Rattle.spv_type_rules.specs.Function.{function_type_in, signature_of, parameter_type_of, parameters_between}
 
 -- The type of the OpFunction d differs there from a result type r and so many parameters or arguments: what is wanted,
 -- and what is found.
-pub data Differs (is : List PlainInst) (d : PlainInst) (r count : ℕ) : Side → Option ℕ → Option ℕ → Type 0 where
+pub data Differs (is : List PlainInst) (d : PlainInst) (r count : ℕ) : Side → Option ℕ → Option ℕ
+    → Type 0 where
   -- the id that d names as its type declares no function type
   function : (t : ℕ) → function_type_in d ≡ Some t → signature_of is d ≡ None
       → Differs is d r count side.Function None (Some t)
@@ -28,7 +29,8 @@ pub record IsOf (is : List PlainInst) (n f : ℕ) (d : PlainInst) : Type 0 where
 
 -- The instruction i of number n, an OpFunctionParameter, is the parameter k of its function, from 0: the function's
 -- type has the type `due` there, if it has so many parameters, and the parameter is of the type t.
-pub record IsParameter (is : List PlainInst) (n : ℕ) (i : PlainInst) (k : ℕ) (due : Option ℕ) (t : ℕ) : Type 0 where
+pub record IsParameter (is : List PlainInst) (n : ℕ) (i : PlainInst) (k : ℕ) (due : Option ℕ)
+    (t : ℕ) : Type 0 where
   pub number : ℕ
   pub function : PlainInst
   pub of : IsOf is n number function

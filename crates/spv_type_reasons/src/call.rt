@@ -115,7 +115,8 @@ struct Call<'o, 'a> {
 fn call_of<'o, 'a>(operands: &'o [Operand<'a>]) -> Call<'o, 'a>
     requires { AreOfCall (plain_operands operands.now) }
     ensures { plain_operands operands.now
-        ≡ OfType result.result_type ∷ Result result.result ∷ Id result.callee ∷ plain_operands result.arguments.now }
+        ≡ OfType result.result_type ∷ Result result.result ∷ Id result.callee
+        ∷ plain_operands result.arguments.now }
 {
     let [
         Operand::OfType(result_type),

@@ -4,10 +4,10 @@ ghost use Rattle.std.specs.Prelude.{◌≡◌, ◌≤◌, ◌+◌, ◌↔◌, �
 ghost use Rattle.spv_table.specs.Table.{Table};
 ghost use Rattle.spv_module.specs.declared.fault.Rule.TheVariants.{Y4};
 ghost use Rattle.spv_module.specs.Module.{plain_inst, plain_operands};
-ghost use Rattle.spv_ops.specs.Operands as of_operands;
-ghost use Rattle.spv_ops.specs.Operands.{ids_in};
-ghost use Rattle.spv_ops.specs.Parts.{count_of};
-ghost use Rattle.spv_ops.specs.Types.{IsNumber};
+ghost use Rattle.spv_type_forms.specs.Operands as of_operands;
+ghost use Rattle.spv_type_forms.specs.Operands.{ids_in};
+ghost use Rattle.spv_type_forms.specs.Parts.{count_of};
+ghost use Rattle.spv_type_forms.specs.Types.{IsNumber};
 ghost use Rattle.spv_type_rules.specs.Constant.{IsSoundConstant};
 ghost use Rattle.spv_type_rules.specs.declared.constant.Constant.TheVariants as kind;
 ghost use Rattle.spv_type_reasons.specs.Constant.{Asks, AsksOf, AsksParts, IsPartOf};
@@ -45,7 +45,8 @@ fn has_count(definitions: &Definitions, r: u32, operands: &[Operand]) -> bool
 fn first_no_part(definitions: &Definitions, spec: bool, r: u32, operands: &[Operand]) -> Option<u32>
     requires { length (ids_in (plain_operands operands.now)) ≤ 4194304 }
     ensures { let xs = ids_in (plain_operands operands.now) in
-        IsFirstOf (λ k. (j x : ℕ) → k ≡ 2 + j → slice_get xs j ≡ Some x → IsPartOf definitions.now spec r j x) result }
+        IsFirstOf (λ k. (j x : ℕ) → k ≡ 2 + j → slice_get xs j ≡ Some x
+        → IsPartOf definitions.now spec r j x) result }
 {
     let parts = parts_of(definitions, r);
     for k in 0..operands.len() {

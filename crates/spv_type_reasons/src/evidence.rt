@@ -1,6 +1,7 @@
 //! What shows that a rule of types is broken.
 
-ghost use Rattle.std.specs.Prelude.{◌≡◌, ◌≤◌, ◌+◌, ℕ, List, IfOk, Some, length, map, slice_get, sum_by};
+ghost use Rattle.std.specs.Prelude.{◌≡◌, ◌≤◌, ◌+◌, ℕ, List, IfOk, Some, length, map, slice_get};
+ghost use Rattle.std.specs.Prelude.{sum_by};
 ghost use Rattle.spv_table.specs.Table.{Table};
 ghost use Rattle.spv_module.specs.declared.fault.Rule.TheVariants.{Y6, Y7};
 ghost use Rattle.spv_module.specs.Module.{plain_inst, plain_insts};

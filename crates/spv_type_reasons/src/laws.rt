@@ -7,10 +7,10 @@ ghost use Rattle.spv_module.specs.declared.fault.Rule.{Rule};
 ghost use Rattle.spv_module.specs.declared.fault.Rule.TheVariants.{Y2, Y3, Y8};
 ghost use Rattle.spv_type_rules.specs.declared.declaration.Declaration.{Declaration};
 ghost use Rattle.spv_type_rules.specs.declared.constant.Constant.{Constant};
-ghost use Rattle.spv_type_rules.specs.Declaration.{Declares};
+ghost use Rattle.spv_type_rules.specs.Declaration.{DeclaresSoundly};
 ghost use Rattle.spv_type_rules.specs.Constant.{Constitutes};
 ghost use Rattle.spv_type_rules.specs.Keeps.{Keeps};
-ghost use Rattle.spv_ops.specs.Operands.{after_head};
+ghost use Rattle.spv_type_forms.specs.Operands.{after_head};
 ghost use Rattle.spv_evidence.specs.declared.evidence.Evidence.{Evidence};
 ghost use Rattle.spv_evidence.specs.declared.evidence.Evidence.TheVariants.{Operand, Earlier, Mismatch};
 ghost use Rattle.spv_evidence.specs.declared.evidence.Side.TheVariants.{Number};
@@ -28,13 +28,14 @@ pub fn suffices()
 /// What a declaration asks of its operands, all together, is what Y2 demands of it.
 pub fn operands_declare()
     ensures { (is : List PlainInst) (n : ℕ) (d : Declaration) (os : List Plain)
-        → ((k : ℕ) → declaration.Asks is n d os k) ↔ Declares is n d os }
+        → ((k : ℕ) → declaration.Asks is n d os k) ↔ DeclaresSoundly is n d os }
 {}
 
 /// What a constant asks of its operands, all together, is what Y4 demands of it.
 pub fn operands_make()
     ensures { (is : List PlainInst) (c : Constant) (os : List Plain)
-        → ((k : ℕ) → constant.Asks is c os k) ↔ IsSomeAnd (type_in os) (λ r. Constitutes is c r (after_head os)) }
+        → ((k : ℕ) → constant.Asks is c os k)
+        ↔ IsSomeAnd (type_in os) (λ r. Constitutes is c r (after_head os)) }
 {}
 
 /// What shows that a rule is broken at the last instruction of a small module, and what does not.

@@ -94,7 +94,8 @@ pub fn members_in<'o, 'a>(operands: &'o [Operand<'a>]) -> Option<&'o [Operand<'a
 
 /// The return type and the parameters of an OpTypeFunction.
 pub fn signature_in<'o, 'a>(operands: &'o [Operand<'a>]) -> Option<(u32, &'o [Operand<'a>])>
-    ensures { option_map (λ p. (p.0, plain_operands p.1.now)) result ≡ spec.signature_in (plain_operands operands.now) }
+    ensures { option_map (λ p. (p.0, plain_operands p.1.now)) result
+        ≡ spec.signature_in (plain_operands operands.now) }
 {
     match operands {
         [Operand::Result(_), Operand::Id(returned), parameters @ ..] => Some((

@@ -4,9 +4,9 @@ ghost use Rattle.std.specs.Prelude.{◌≡◌, ◌↔◌, ℕ, IfOk, IsTrue, opt
 ghost use Rattle.spv_table.specs.Table.{Table};
 ghost use Rattle.spv_module.specs.declared.fault.Rule.TheVariants.{Y5};
 ghost use Rattle.spv_module.specs.Module.{plain_inst, plain_operands};
-ghost use Rattle.spv_layout.specs.Shape.{Fits};
-ghost use Rattle.spv_ops.specs.Operands.{result_type_in};
-ghost use Rattle.spv_ops.specs.Parts.{id_in};
+ghost use Rattle.spv_layout.specs.Shape.{FitsShape};
+ghost use Rattle.spv_type_forms.specs.Operands.{result_type_in};
+ghost use Rattle.spv_type_forms.specs.Parts.{id_in};
 ghost use Rattle.spv_ops.specs.Typed.{IsTyped};
 ghost use Rattle.spv_type_reasons.specs.Evidence.{AreTyped, Shows};
 ghost use Rattle.spv_type_reasons.specs.inner.Values as values;
@@ -40,7 +40,7 @@ fn id_at(operands: &[Operand], k: usize) -> Option<u32>
 
 /// The id that operand `k` of an instruction uses as a value, if it does.
 fn value_at(inst: &Inst, k: usize) -> Option<u32>
-    ensures { (G : Table) → Fits G (plain_inst inst.now) → IsValueAt G (plain_inst inst.now) k result }
+    ensures { (G : Table) → FitsShape G (plain_inst inst.now) → IsValueAt G (plain_inst inst.now) k result }
 {
     if is_value(role(inst, k)) {
         id_at(inst.operands.as_slice(), k)
@@ -59,7 +59,7 @@ fn typed_values(
 ) -> Result<Vec<Typed>, AllocError>
     requires { (G : Table) × IsTypeable G definitions.now (plain_inst inst.now) }
     ensures { let i = plain_inst inst.now in
-        IfOk result (λ vs. (G : Table) → Fits G i → AreTyped G definitions.now i vs.items) }
+        IfOk result (λ vs. (G : Table) → FitsShape G i → AreTyped G definitions.now i vs.items) }
 {
     let mut values = Vec::new(alloc);
     for k in 0..inst.operands.as_slice().len() {
@@ -93,7 +93,7 @@ pub fn operation_evidence(
 ) -> Result<Evidence, AllocError>
     requires { (G : Table) × IsTypeable G definitions.now (plain_inst inst.now) }
     ensures { let i = plain_inst inst.now in
-        IfOk result (λ e. (G : Table) (n : ℕ) → Fits G i → ¬ (IsTyped G definitions.now n i)
+        IfOk result (λ e. (G : Table) (n : ℕ) → FitsShape G i → ¬ (IsTyped G definitions.now n i)
         → Shows G definitions.now n i Y5 e) }
 {
     let values = typed_values(alloc, definitions, inst)?;

@@ -1,7 +1,7 @@
 -- What the rules demand of an instruction that they do not speak of.
-use Rattle.std.proofs.Common.{◌≡◌, ◌∙◌, sym, ◌↔◌, lit≤, if◌then◌else◌, ◌≢◌, ◌≤◌, ◌<◌, ◌+◌, ◌&&◌, ◌||◌, ◌⊎◌, inl, inr, subst, ℕ, List, Option, Some, None, Bool, true, false, not, nat_eq, nat_le, refl, arith}
+use Rattle.std.proofs.Common.{◌≡◌, ◌∙◌, sym, ◌↔◌, lit≤, if◌then◌else◌, ◌≤◌, ◌<◌, ◌&&◌, ◌||◌, inl, inr, ℕ, List, Option, Some, None, Bool, true, false, not, nat_eq, nat_le, refl, arith}
 use Rattle.std.specs.Prelude.{IsTrue}
-use Rattle.std.proofs.lemmas.Bool.{cases_lt, ne_eqb, leb-true, lt-leb}
+use Rattle.std.proofs.lemmas.Bool.{cases_lt, ne_eqb, lt-leb}
 use Rattle.spv_table.specs.Table.{Table}
 use Rattle.spv_module.specs.Operand.{PlainInst}
 use Rattle.spv_module.specs.declared.fault.Rule.{Rule}
@@ -11,14 +11,15 @@ use Rattle.spv_ops.specs.declared.row.Row.TheVariants as row
 use Rattle.spv_ops.specs.Row.{row_of, is_between}
 use Rattle.spv_ops.specs.Typed.{IsTyped}
 use Rattle.spv_ops.proofs.Opcodes.{both, all_from, one_from}
+use Rattle.spv_ops.proofs.Rows.{late_row}
 use Rattle.spv_type_rules.specs.declared.concern.Concern.{Concern}
 use Rattle.spv_type_rules.specs.declared.concern.Concern.TheVariants as concern
-use Rattle.spv_type_rules.specs.Concern.{concern_of}
+use Rattle.spv_type_rules.specs.inner.Concern.{concern_of}
 use Rattle.spv_type_rules.specs.Declaration.{declaration_of, IsSoundDeclaration}
 use Rattle.spv_type_rules.specs.Constant.{constant_of, IsSoundConstant}
 use Rattle.spv_type_rules.specs.Repeat.{is_declared_once, Repeats}
 use Rattle.spv_type_rules.specs.Keeps.{KeepsFunctions, KeepsReturns, CallsAreSound}
-use Rattle.spv_type_rules.specs.Rules.{IsFirstRule, IsFirstHere}
+use Rattle.spv_type_rules.specs.inner.Rules.{IsFirstHere}
 use Rattle.spv_type_rules.proofs.Firsts.{keeps_below, all_kept, first_y5, first_y6, first_y7, first_y8}
 
 -- Tests of opcodes.
@@ -88,10 +89,6 @@ late_repeat n h = rw (past 19 23 n (omega arith), differs n 31 (omega arith), di
 late_constant : (n : ℕ) → 258 ≤ n → constant_of n ≡ None
 late_constant n h =
     rw (differs n 41 (omega arith), differs n 42 (omega arith), differs n 48 (omega arith), differs n 49 (omega arith), differs n 43 (omega arith), differs n 50 (omega arith), differs n 44 (omega arith), differs n 51 (omega arith), differs n 46 (omega arith)) refl
-
-late_row : (n : ℕ) → 258 ≤ n → row_of n ≡ row.Free
-late_row n h =
-    rw (differs n 109 (omega arith), differs n 110 (omega arith), differs n 111 (omega arith), differs n 112 (omega arith), differs n 113 (omega arith), differs n 114 (omega arith), differs n 115 (omega arith), differs n 117 (omega arith), differs n 120 (omega arith), differs n 121 (omega arith), differs n 122 (omega arith), differs n 124 (omega arith), differs n 126 (omega arith), differs n 200 (omega arith), differs n 127 (omega arith), differs n 168 (omega arith), differs n 128 (omega arith), differs n 130 (omega arith), differs n 132 (omega arith), differs n 134 (omega arith), differs n 135 (omega arith), differs n 129 (omega arith), differs n 131 (omega arith), differs n 133 (omega arith), differs n 136 (omega arith), differs n 140 (omega arith), differs n 141 (omega arith), differs n 169 (omega arith), differs n 61 (omega arith), differs n 62 (omega arith), differs n 63 (omega arith), differs n 64 (omega arith), differs n 224 (omega arith), differs n 225 (omega arith), differs n 227 (omega arith), differs n 228 (omega arith), differs n 229 (omega arith), differs n 230 (omega arith), differs n 232 (omega arith), differs n 233 (omega arith), differs n 256 (omega arith), differs n 257 (omega arith), differs n 77 (omega arith), differs n 78 (omega arith), differs n 79 (omega arith), differs n 81 (omega arith), differs n 82 (omega arith), differs n 83 (omega arith), differs n 1 (omega arith), differs n 59 (omega arith), differs n 65 (omega arith), differs n 66 (omega arith), differs n 67 (omega arith), differs n 70 (omega arith), differs n 80 (omega arith), differs n 245 (omega arith), differs n 250 (omega arith), differs n 251 (omega arith), past 137 139 n (omega arith), past 197 199 n (omega arith), past 164 167 n (omega arith), past 170 179 n (omega arith), past 180 191 n (omega arith), past 194 196 n (omega arith), past 234 242 n (omega arith)) refl
 
 -- what is left of a test, where its first part fails
 left_of : (a b : Bool) → a || b ≡ true → a ≡ false → b ≡ true

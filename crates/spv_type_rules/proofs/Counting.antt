@@ -18,7 +18,7 @@ use Rattle.spv_layout.specs.Rows.{rows, row_of, class_of, class_in}
 use Rattle.spv_layout.specs.Layout.{classes}
 use Rattle.spv_layout.specs.Place.{IsAt, IsOfFunction}
 use Rattle.spv_type_rules.specs.Function.{parameter_count, parameters_in, parameters_between}
-use Rattle.spv_type_rules.specs.Counted.{IsLastBefore, AreCounted}
+use Rattle.spv_type_rules.specs.inner.Counted.{IsLastBefore, AreCounted}
 
 -- The class Function is that of opcode 54 alone.
 

@@ -4,11 +4,11 @@ use Rattle.std.specs.Prelude.{IsTrue, IsSomeAnd}
 use Rattle.std.specs.List.{AllByRecursion}
 use Rattle.spv_module.specs.Operand.{PlainInst, type_in}
 use Rattle.spv_module.specs.Width.{definition_of, type_of}
-use Rattle.spv_ops.specs.Parts.{part_of, count_of}
-use Rattle.spv_ops.specs.Tests.{are_same, are_parts_from}
-use Rattle.spv_ops.proofs.TagTests.{fills_typed}
+use Rattle.spv_type_forms.specs.Parts.{part_of, count_of}
+use Rattle.spv_type_forms.specs.inner.Tests.{are_same, are_parts_from}
+use Rattle.spv_type_forms.proofs.TagTests.{fills_typed}
 use Rattle.spv_type_rules.specs.Constant.{is_part_opcode, IsPart, AreConstantParts}
-use Rattle.spv_type_rules.specs.Found.{is_typed_part, are_typed_parts}
+use Rattle.spv_type_rules.specs.inner.Found.{is_typed_part, are_typed_parts}
 
 both : (a b : Bool) → a && b ≡ true → (a ≡ true) × (b ≡ true)
 both true b h = (refl, h)

@@ -4,7 +4,7 @@ use Rattle.std.specs.Prelude.{slice_get, IsSomeAnd}
 use Rattle.spv_module.specs.Operand.{PlainInst}
 use Rattle.spv_layout.specs.Place.{IsOfFunction}
 use Rattle.spv_type_rules.specs.Function.{OfFunction}
-use Rattle.spv_type_rules.specs.Found.{IsOfOne}
+use Rattle.spv_type_rules.specs.inner.Found.{IsOfOne}
 
 there : (P : ℕ → PlainInst → Type 0) (is : List PlainInst) (f : ℕ) (d : PlainInst) → slice_get is f ≡ Some d → P f d ↔ IsSomeAnd (slice_get is f) (P f)
 there P is f d e = rw e (λ p. p, λ p. p)

@@ -3,8 +3,8 @@ use Rattle.std.proofs.Common.{◌≡◌, ◌<◌, ◌↔◌, ℕ, List, Option, 
 use Rattle.std.specs.Prelude.{slice_get, IsTrue, false}
 use Rattle.spv_module.specs.Operand.{PlainInst}
 use Rattle.spv_ids.specs.Outcome.{IsDefinitionOf, IsOnly}
-use Rattle.spv_ops.specs.Form.{form_in}
-use Rattle.spv_ops.specs.Types.{class_in}
+use Rattle.spv_type_forms.specs.Form.{form_in}
+use Rattle.spv_type_forms.specs.Types.{class_in}
 use Rattle.spv_type_rules.specs.Declaration.{IsPointerAfter}
 
 pub pointer_told : (is : List PlainInst) (n t class m : ℕ) (i : PlainInst) → IsOnly is t m → slice_get is m ≡ Some i

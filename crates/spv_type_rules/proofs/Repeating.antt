@@ -5,8 +5,8 @@ use Rattle.std.proofs.lemmas.Bool.{cases_lt}
 use Rattle.spv_module.specs.Operand.{PlainInst}
 use Rattle.spv_type_rules.specs.declared.repeat.Seen.{Seen}
 use Rattle.spv_type_rules.specs.Repeat.{is_declared_once, Repeats}
-use Rattle.spv_type_rules.specs.Key.{key_of}
-use Rattle.spv_type_rules.specs.Seen.{IsKeyAt, HasKey, AreSeen}
+use Rattle.spv_type_rules.specs.inner.Key.{key_of}
+use Rattle.spv_type_rules.specs.inner.Seen.{IsKeyAt, HasKey, AreSeen}
 use Rattle.spv_type_rules.proofs.Keys.{one_key, same_key}
 
 same_inst : (is : List PlainInst) (m n : ℕ) (i j : PlainInst) → m ≡ n → slice_get is m ≡ Some j → slice_get is n ≡ Some i → i ≡ j

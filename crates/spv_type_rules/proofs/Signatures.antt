@@ -4,9 +4,9 @@ use Rattle.std.specs.Prelude.{IsSomeAnd}
 use Rattle.std.proofs.lemmas.Bool.{eqb-true, eq-eqb}
 use Rattle.spv_module.specs.Operand.{Plain, PlainInst, OfType, Result, Id, Word, Number, Text, Value, Mask}
 use Rattle.spv_module.specs.Width.{type_of}
-use Rattle.spv_ops.specs.Tests.{passes}
-use Rattle.spv_ops.specs.Values.{types_of}
-use Rattle.spv_type_rules.specs.Found.{are_typed, has_signature}
+use Rattle.spv_type_forms.specs.inner.Tests.{passes}
+use Rattle.spv_type_forms.specs.Values.{types_of}
+use Rattle.spv_type_rules.specs.inner.Found.{are_typed, has_signature}
 use Rattle.spv_type_rules.specs.Function.{signature_of, CallsTyped}
 
 both : (a b : Bool) → a && b ≡ true → (a ≡ true) × (b ≡ true)

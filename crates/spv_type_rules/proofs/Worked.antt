@@ -7,16 +7,16 @@ use Rattle.spv_module.specs.declared.fault.Rule.TheVariants as rule
 use Rattle.spv_layout.specs.declared.class.Class.TheVariants.{Function, FunctionEnd}
 use Rattle.spv_layout.specs.Rows.{rows}
 use Rattle.spv_layout.specs.Place.{IsAt, IsOfFunction}
-use Rattle.spv_ops.specs.Example.{inst}
-use Rattle.spv_ops.specs.declared.form.Form.TheVariants as form
-use Rattle.spv_ops.specs.Form.{form_in, form_of}
-use Rattle.spv_ops.specs.Operands.{ids_in}
-use Rattle.spv_ops.specs.Types.{class_in}
-use Rattle.spv_ops.specs.Values.{types_of}
+use Rattle.spv_type_forms.specs.Example.{inst}
+use Rattle.spv_type_forms.specs.declared.form.Form.TheVariants as form
+use Rattle.spv_type_forms.specs.Form.{form_in, form_of}
+use Rattle.spv_type_forms.specs.Operands.{ids_in}
+use Rattle.spv_type_forms.specs.Types.{class_in}
+use Rattle.spv_type_forms.specs.Values.{types_of}
 use Rattle.spv_type_rules.specs.Declaration.{IsPointerAfter, IsVectorCount}
 use Rattle.spv_type_rules.specs.Keeps.{Keeps, KeepsFunctions, KeepsReturns, CallsAreSound}
 use Rattle.spv_type_rules.specs.Repeat.{Repeats}
-use Rattle.spv_type_rules.specs.Rules.{IsFirstRule}
+use Rattle.spv_type_rules.specs.inner.Rules.{IsFirstRule}
 use Rattle.spv_type_rules.proofs.Firsts.{keeps_below, first_y8}
 use Rattle.spv_type_rules.specs.Function.{OfFunction, ReturnsNothing, ReturnsTyped, IsSoundParameter, IsSoundReturn, IsSoundReturnValue, parameter_type_of, parameters_between}
 use Rattle.spv_type_rules.specs.Example.{small, pointers, returning, again, short_call, function, parameter}

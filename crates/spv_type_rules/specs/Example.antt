@@ -1,7 +1,7 @@
 -- A small module: types, a constant, a function and a call.
 use Rattle.std.specs.Prelude.{List, [], ◌∷◌}
 use Rattle.spv_module.specs.Operand.{OfType, Result, Id, Word, Number, Value, Mask, PlainInst}
-use Rattle.spv_ops.specs.Example.{inst}
+use Rattle.spv_type_forms.specs.Example.{inst}
 
 -- %6 = OpConstant %1 300, where %1 is an int of width 8
 abbrev pub wide_constant : PlainInst

@@ -1,90 +1,102 @@
 -- Y6, Y7 and Y8: functions, parameters, returns and calls against function types. [3.49.9, 3.49.17]
-use Rattle.std.specs.Prelude.{◌≡◌, ◌+◌, ℕ, List, [], ◌∷◌, Option, Some, None, nat_eq, not, ◌||◌, if◌then◌else◌, count_by, length, map, take, drop, take_while, slice_get, option_and_then, IsSomeAnd}
+use Rattle.std.specs.Prelude.{◌≡◌, ◌+◌, ℕ, List, [], ◌∷◌, Option, Some, None, nat_eq, not, ◌||◌}
+use Rattle.std.specs.Prelude.{if◌then◌else◌, count_by, length, map, take, drop, take_while, slice_get}
+use Rattle.std.specs.Prelude.{option_and_then, IsSomeAnd}
 use Rattle.spv_module.specs.Operand.{Plain, Id, PlainInst, type_in}
 use Rattle.spv_module.specs.Width.{definition_of}
 use Rattle.spv_layout.specs.Place.{IsOfFunction}
-use Rattle.spv_ops.specs.declared.form.Form.TheVariants as form
-use Rattle.spv_ops.specs.Form.{form_of}
-use Rattle.spv_ops.specs.Parts.{after_result, id_in}
-use Rattle.spv_ops.specs.Operands.{ids_in, after_head}
-use Rattle.spv_ops.specs.Values.{types_of}
+use Rattle.spv_type_forms.specs.declared.form.Form.TheVariants as form
+use Rattle.spv_type_forms.specs.Form.{form_of}
+use Rattle.spv_type_forms.specs.Parts.{after_result, id_in}
+use Rattle.spv_type_forms.specs.Operands.{ids_in, after_head}
+use Rattle.spv_type_forms.specs.Values.{types_of}
 
--- what an OpTypeFunction (33) names: the return type, and then the parameter types
+-- what an OpTypeFunction (33) names: the return type, and then the parameter types [3.49.9]
 abbrev pub signature_in : PlainInst → Option (List Plain)
 signature_in i = if nat_eq i.opcode 33 then Some (after_result i.operands) else None
 
--- the function type that an OpFunction (54) names: %f = OpFunction %r control %t
+-- the function type that an OpFunction (54) names: %f = OpFunction %r control %t [3.49.9]
 abbrev pub type_after_control : List Plain → Option ℕ
 type_after_control (c ∷ Id t ∷ os) = Some t
 type_after_control _ = None
 
+-- the OpTypeFunction that an OpFunction names [3.49.9]
 abbrev pub function_type_in : PlainInst → Option ℕ
 function_type_in i = if nat_eq i.opcode 54 then type_after_control (after_head i.operands) else None
 
--- the signature of the function type that an OpFunction names
+-- the signature of the function type that an OpFunction names [3.49.9]
 abbrev pub signature_of : List PlainInst → PlainInst → Option (List Plain)
 signature_of is f = option_and_then (λ t. option_and_then signature_in (definition_of is t)) (function_type_in f)
 
--- how many OpFunctionParameters (55) are among instructions
+-- how many OpFunctionParameters (55) are among instructions [3.49.9]
 abbrev pub parameter_count : List PlainInst → ℕ
 parameter_count is = count_by (λ i. nat_eq i.opcode 55) is
 
--- how many follow an OpFunction, before its first OpLabel (248) or its OpFunctionEnd (56)
+-- how many follow an OpFunction, before its first OpLabel (248) or its OpFunctionEnd (56) [3.49.9]
 abbrev pub parameters_in : List PlainInst → ℕ
 parameters_in is = parameter_count (take_while (λ i. not (nat_eq i.opcode 248 || nat_eq i.opcode 56)) is)
 
+-- how many OpFunctionParameter follow instruction n [3.49.9]
 abbrev pub parameters_after : List PlainInst → ℕ → ℕ
 parameters_after is n = parameters_in (drop (n + 1) is)
 
--- The signature begins with the return type r, and has so many parameter types.
+-- The signature begins with the return type r, and has so many parameter types. [3.49.9]
 abbrev pub ReturnsAfter : Option ℕ → ℕ → List Plain → Type 0
 ReturnsAfter r count (Id t ∷ ps) = (r ≡ Some t) × (length ps ≡ count)
 ReturnsAfter r count _ = ⊥
 
--- Y6 is unbroken at an OpFunction: its last operand is a function type, which returns its result type and has as many parameters
--- as the function.
+-- Y6 is unbroken at an OpFunction: its last operand is a function type, which returns its result type and has as many
+-- parameters as the function. [3.49.9]
 abbrev pub IsSoundFunction : List PlainInst → ℕ → PlainInst → Type 0
 IsSoundFunction is n i = IsSomeAnd (signature_of is i) (ReturnsAfter (type_in i.operands) (parameters_after is n))
 
--- how many parameters stand between instructions f and n
+-- how many parameters stand between instructions f and n [3.49.9]
 abbrev pub parameters_between : List PlainInst → ℕ → ℕ → ℕ
 parameters_between is f n = parameter_count (drop (f + 1) (take n is))
 
--- the type of the parameter k, from 0, by the type of a function
+-- the type of the parameter k, from 0, by the type of a function [3.49.9]
 abbrev pub parameter_type_of : List PlainInst → PlainInst → ℕ → Option ℕ
 parameter_type_of is f k = option_and_then (λ ts. option_and_then id_in (slice_get ts (k + 1))) (signature_of is f)
 
--- What holds of the OpFunction of the function that instruction n is of, and of its number.
+-- What holds of the OpFunction of the function that instruction n is of, and of its number. [3.49.9]
 abbrev pub OfFunction : List PlainInst → ℕ → (ℕ → PlainInst → Type 0) → Type 0
 OfFunction is n P = (f : ℕ) × IsOfFunction is n f × IsSomeAnd (slice_get is f) (P f)
 
--- Y6 is unbroken at an OpFunctionParameter: its type is the one at its place in its function's type.
+-- Y6 is unbroken at an OpFunctionParameter: its type is the one at its place in its function's type. [3.49.9]
 abbrev pub IsSoundParameter : List PlainInst → ℕ → PlainInst → Type 0
-IsSoundParameter is n i = OfFunction is n (λ f d. IsSomeAnd (type_in i.operands) (λ t. parameter_type_of is d (parameters_between is f n) ≡ Some t))
+IsSoundParameter is n i =
+    OfFunction is n
+    (λ f d. IsSomeAnd (type_in i.operands) (λ t. parameter_type_of is d (parameters_between is f n) ≡ Some t))
 
 -- Y7 as a relation of types: of an OpReturn (253) in the function d, and of an OpReturnValue (254) of a value of type o
+-- [3.49.9]
 abbrev pub ReturnsNothing : List PlainInst → PlainInst → Type 0
 ReturnsNothing is d = IsSomeAnd (type_in d.operands) (λ r. form_of is r ≡ Some form.Void)
 
+-- one type, the result type of the OpFunction [3.49.17]
 abbrev pub ReturnsTyped : PlainInst → List ℕ → Type 0
 ReturnsTyped d (o ∷ []) = type_in d.operands ≡ Some o
 ReturnsTyped d _ = ⊥
 
--- Y7 is unbroken at an OpReturn, and at an OpReturnValue, of number n.
+-- Y7 is unbroken at an OpReturn, and at an OpReturnValue, of number n. [3.49.9]
 abbrev pub IsSoundReturn : List PlainInst → ℕ → Type 0
 IsSoundReturn is n = OfFunction is n (λ f d. ReturnsNothing is d)
 
+-- The value of an OpReturnValue has the return type of its function. [3.49.17]
 abbrev pub IsSoundReturnValue : List PlainInst → ℕ → PlainInst → Type 0
-IsSoundReturnValue is n i = OfFunction is n (λ f d. IsSomeAnd (types_of is (take 1 (ids_in i.operands))) (ReturnsTyped d))
+IsSoundReturnValue is n i =
+    OfFunction is n (λ f d. IsSomeAnd (types_of is (take 1 (ids_in i.operands))) (ReturnsTyped d))
 
--- Y8 as a relation of types: of a call with the result type r of the function d, with arguments of these types
+-- Y8 as a relation of types: of a call with the result type r of the function d, with arguments of these types [3.49.9]
 abbrev pub CallsTyped : List PlainInst → PlainInst → ℕ → List ℕ → Type 0
 CallsTyped is d r types = signature_of is d ≡ Some (map Id (r ∷ types))
 
--- Y8 is unbroken at an OpFunctionCall: %x = OpFunctionCall %r %f %a ..
+-- Y8 is unbroken at an OpFunctionCall: %x = OpFunctionCall %r %f %a .. [3.49.9]
 abbrev pub CallsSoundly : List PlainInst → ℕ → List Plain → Type 0
-CallsSoundly is r (Id f ∷ os) = IsSomeAnd (definition_of is f) (λ d. IsSomeAnd (types_of is (ids_in os)) (CallsTyped is d r))
+CallsSoundly is r (Id f ∷ os) =
+    IsSomeAnd (definition_of is f) (λ d. IsSomeAnd (types_of is (ids_in os)) (CallsTyped is d r))
 CallsSoundly is r _ = ⊥
 
+-- The callee has the result type, and parameters of the types of the arguments. [3.49.9]
 abbrev pub IsSoundCall : List PlainInst → PlainInst → Type 0
 IsSoundCall is i = IsSomeAnd (type_in i.operands) (λ r. CallsSoundly is r (after_head i.operands))

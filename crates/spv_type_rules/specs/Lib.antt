@@ -3,10 +3,5 @@ pub mod Repeat
 pub mod Constant
 pub mod Function
 pub mod Keeps
-pub mod Key
 pub mod Example
-pub mod Seen
-pub mod Found
-pub mod Rules
-pub mod Concern
-pub mod Counted
+pub mod inner

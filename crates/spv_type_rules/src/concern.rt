@@ -1,7 +1,7 @@
 //! Which of the rules Y2 to Y8 speak of an opcode.
 
 ghost use Rattle.std.specs.Prelude.{◌≡◌};
-ghost use Rattle.spv_type_rules.specs.Concern as spec;
+ghost use Rattle.spv_type_rules.specs.inner.Concern as spec;
 
 use crate::opcode::{FUNCTION, FUNCTION_CALL, PARAMETER, RETURN, RETURN_VALUE};
 

@@ -2,14 +2,14 @@ ghost use Rattle.std.specs.Prelude.{◌≡◌, ◌↔◌, Some, IsTrue, true, le
 ghost use Rattle.spv_module.specs.Module.{plain_inst, plain_operands};
 ghost use Rattle.spv_module.specs.Operand as operand;
 ghost use Rattle.spv_module.specs.Width.{definition_of};
-ghost use Rattle.spv_ops.specs.Operands.{ids_in};
-ghost use Rattle.spv_ops.specs.Parts.{count_of};
-ghost use Rattle.spv_ops.specs.Tests.{passes};
-ghost use Rattle.spv_ops.specs.Types.{IsBool};
+ghost use Rattle.spv_type_forms.specs.Operands.{ids_in};
+ghost use Rattle.spv_type_forms.specs.Parts.{count_of};
+ghost use Rattle.spv_type_forms.specs.inner.Tests.{passes};
+ghost use Rattle.spv_type_forms.specs.Types.{IsBool};
 ghost use Rattle.spv_type_rules.specs.Constant as rules;
 ghost use Rattle.spv_type_rules.specs.declared.constant.Constant.TheVariants as constant_form;
 ghost use Rattle.spv_type_rules.specs.Constant.{FitsWidth, AreConstantParts, Constitutes, IsSoundConstant};
-ghost use Rattle.spv_type_rules.specs.Found as found;
+ghost use Rattle.spv_type_rules.specs.inner.Found as found;
 
 use spv_module::{Inst, Operand};
 use spv_ops::{Definitions, Form, Scalar, after_head, count, id_count, is_data, parts_of, type_in};
@@ -102,7 +102,8 @@ fn are_typed_parts(definitions: &Definitions, spec: bool, r: u32, operands: &[Op
 
 /// Whether they do, and there are as many as parts.
 fn are_all_parts(definitions: &Definitions, spec: bool, r: u32, operands: &[Operand]) -> bool
-    ensures { IsTrue result ↔ ((found.are_typed_parts definitions.now spec r 0 (ids_in (plain_operands operands.now)) ≡ true) × (count_of definitions.now r ≡ Some (length (ids_in (plain_operands operands.now))))) }
+    ensures { IsTrue result ↔ ((found.are_typed_parts definitions.now spec r 0 (ids_in (plain_operands operands.now))
+        ≡ true) × (count_of definitions.now r ≡ Some (length (ids_in (plain_operands operands.now))))) }
 {
     match count(definitions, r) {
         Some(count) => count == id_count(operands) as u64

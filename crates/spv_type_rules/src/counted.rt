@@ -1,7 +1,8 @@
-ghost use Rattle.std.specs.Prelude.{◌≡◌, ◌<◌, ◌+◌, ℕ, List, Some, slice_get, nat_eq, if◌then◌else◌};
+ghost use Rattle.std.specs.Prelude.{◌≡◌, ◌<◌, ◌+◌, ℕ, List, Some, slice_get, nat_eq};
+ghost use Rattle.std.specs.Prelude.{if◌then◌else◌};
 ghost use Rattle.spv_module.specs.Operand.{PlainInst};
 ghost use Rattle.spv_module.specs.Module.{plain_inst};
-ghost use Rattle.spv_type_rules.specs.Counted.{AreCounted};
+ghost use Rattle.spv_type_rules.specs.inner.Counted.{AreCounted};
 
 use crate::opcode::{FUNCTION, PARAMETER};
 use spv_module::Inst;
@@ -25,7 +26,8 @@ fn count_after(opcode: u16, count: u32) -> u32
 #[inline(always)]
 pub fn next_count(inst: &Inst<'_>, count: u32) -> u32
     requires { count < 4294967295 }
-    ensures { (is : List PlainInst) (n : ℕ) → slice_get is n ≡ Some (plain_inst inst.now) → AreCounted is n count → AreCounted is (n + 1) result }
+    ensures { (is : List PlainInst) (n : ℕ) → slice_get is n ≡ Some (plain_inst inst.now)
+        → AreCounted is n count → AreCounted is (n + 1) result }
 {
     count_after(inst.opcode, count)
 }

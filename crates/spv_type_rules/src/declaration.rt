@@ -1,13 +1,14 @@
 ghost use Rattle.std.specs.Prelude.{◌≡◌, ◌≤◌, ◌↔◌, ℕ, [], IsTrue, IsSomeAnd, MatchOption, Some};
 ghost use Rattle.std.specs.List.{AllByRecursion};
 ghost use Rattle.spv_module.specs.Module.{plain_inst, plain_operands};
-ghost use Rattle.spv_ops.specs.Operands.{ids_in};
+ghost use Rattle.spv_type_forms.specs.Operands.{ids_in};
 ghost use Rattle.spv_ids.specs.Outcome.{IsDefinitionOf, definition_in};
-ghost use Rattle.spv_ops.specs.Types.{IsData, class_in};
-ghost use Rattle.spv_ops.specs.Form as op_form;
+ghost use Rattle.spv_type_forms.specs.Types.{IsData, class_in};
+ghost use Rattle.spv_type_forms.specs.Form as op_form;
 ghost use Rattle.spv_type_rules.specs.Declaration as spec;
 ghost use Rattle.spv_type_rules.specs.declared.declaration.Declaration.TheVariants as declaration;
-ghost use Rattle.spv_type_rules.specs.Declaration.{IsIntWidth, IsFloatWidth, IsVectorCount, IsLength, IsPointee, IsReturned, IsPointerAfter, Declares, IsSoundDeclaration};
+ghost use Rattle.spv_type_rules.specs.Declaration.{IsIntWidth, IsFloatWidth, IsVectorCount, IsLength, IsPointee};
+ghost use Rattle.spv_type_rules.specs.Declaration.{IsReturned, IsPointerAfter, DeclaresSoundly, IsSoundDeclaration};
 
 use spv_ids::Ids;
 use spv_module::{Inst, Operand};
@@ -116,7 +117,7 @@ fn are_data(definitions: &Definitions, operands: &[Operand]) -> bool
 
 /// Whether the operands of an OpTypeInt are sound.
 fn declares_int(operands: &[Operand]) -> bool
-    ensures { IsTrue result ↔ Declares [] 0 declaration.Int (plain_operands operands.now) }
+    ensures { IsTrue result ↔ DeclaresSoundly [] 0 declaration.Int (plain_operands operands.now) }
 {
     match operands {
         [
@@ -130,7 +131,7 @@ fn declares_int(operands: &[Operand]) -> bool
 
 /// Whether the operands of an OpTypeFloat are sound.
 fn declares_float(operands: &[Operand]) -> bool
-    ensures { IsTrue result ↔ Declares [] 0 declaration.Float (plain_operands operands.now) }
+    ensures { IsTrue result ↔ DeclaresSoundly [] 0 declaration.Float (plain_operands operands.now) }
 {
     match operands {
         [Operand::Result(_), Operand::Word(width)] => is_float_width(*width),
@@ -140,7 +141,7 @@ fn declares_float(operands: &[Operand]) -> bool
 
 /// Whether the operands of an OpTypeVector are sound.
 fn declares_vector(definitions: &Definitions, operands: &[Operand]) -> bool
-    ensures { IsTrue result ↔ Declares definitions.now 0 declaration.Vector (plain_operands operands.now) }
+    ensures { IsTrue result ↔ DeclaresSoundly definitions.now 0 declaration.Vector (plain_operands operands.now) }
 {
     match operands {
         [Operand::Result(_), Operand::Id(c), Operand::Word(count)] => match definitions.form(*c) {
@@ -153,7 +154,7 @@ fn declares_vector(definitions: &Definitions, operands: &[Operand]) -> bool
 
 /// Whether the operands of an OpTypeArray are sound.
 fn declares_array(definitions: &Definitions, operands: &[Operand]) -> bool
-    ensures { IsTrue result ↔ Declares definitions.now 0 declaration.Array (plain_operands operands.now) }
+    ensures { IsTrue result ↔ DeclaresSoundly definitions.now 0 declaration.Array (plain_operands operands.now) }
 {
     match operands {
         [Operand::Result(_), Operand::Id(e), Operand::Id(l)] => is_data(definitions, *e)
@@ -164,7 +165,7 @@ fn declares_array(definitions: &Definitions, operands: &[Operand]) -> bool
 
 /// Whether the operands of an OpTypeStruct are sound.
 fn declares_struct(definitions: &Definitions, operands: &[Operand]) -> bool
-    ensures { IsTrue result ↔ Declares definitions.now 0 declaration.Struct (plain_operands operands.now) }
+    ensures { IsTrue result ↔ DeclaresSoundly definitions.now 0 declaration.Struct (plain_operands operands.now) }
 {
     match operands {
         [Operand::Result(_), members @ ..] => are_data(definitions, members),
@@ -174,7 +175,7 @@ fn declares_struct(definitions: &Definitions, operands: &[Operand]) -> bool
 
 /// Whether the operands of an OpTypePointer are sound.
 fn declares_pointer(definitions: &Definitions, operands: &[Operand]) -> bool
-    ensures { IsTrue result ↔ Declares definitions.now 0 declaration.Pointer (plain_operands operands.now) }
+    ensures { IsTrue result ↔ DeclaresSoundly definitions.now 0 declaration.Pointer (plain_operands operands.now) }
 {
     match operands {
         [Operand::Result(_), Operand::Value { .. }, Operand::Id(p)] => is_pointee(definitions, *p),
@@ -184,7 +185,7 @@ fn declares_pointer(definitions: &Definitions, operands: &[Operand]) -> bool
 
 /// Whether the operands of an OpTypeFunction are sound.
 fn declares_function(definitions: &Definitions, operands: &[Operand]) -> bool
-    ensures { IsTrue result ↔ Declares definitions.now 0 declaration.Function (plain_operands operands.now) }
+    ensures { IsTrue result ↔ DeclaresSoundly definitions.now 0 declaration.Function (plain_operands operands.now) }
 {
     match operands {
         [Operand::Result(_), Operand::Id(r), parameters @ ..] => is_returned(definitions, *r)
@@ -223,7 +224,8 @@ pub fn is_pointer_after(
 /// Whether the id of an OpTypeForwardPointer is defined after it as a pointer of its storage class.
 fn declares_forward(definitions: &Definitions, ids: &Ids, number: u32, operands: &[Operand]) -> bool
     requires { (x : ℕ) → IsDefinitionOf definitions.now x (definition_in ids.now x) }
-    ensures { IsTrue result ↔ Declares definitions.now number declaration.Forward (plain_operands operands.now) }
+    ensures { IsTrue result ↔ DeclaresSoundly definitions.now number declaration.Forward
+        (plain_operands operands.now) }
 {
     match operands {
         [Operand::Id(id), Operand::Value { value: class, .. }] => is_pointer_after(
@@ -246,7 +248,7 @@ fn declares(
     operands: &[Operand],
 ) -> bool
     requires { (x : ℕ) → IsDefinitionOf definitions.now x (definition_in ids.now x) }
-    ensures { IsTrue result ↔ Declares definitions.now number declaration (plain_operands operands.now) }
+    ensures { IsTrue result ↔ DeclaresSoundly definitions.now number declaration (plain_operands operands.now) }
 {
     match declaration {
         Declaration::Int => declares_int(operands),

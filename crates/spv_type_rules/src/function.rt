@@ -1,15 +1,20 @@
 //! Functions, parameters, returns and calls against function types.
 
-ghost use Rattle.std.specs.Prelude.{◌≡◌, ◌<◌, ◌+◌, ◌↔◌, ◌∷◌, ℕ, List, Some, true, take, map, slice_get, length, IsTrue, IsSomeAnd, option_map, option_and_then, MatchOption, nat_eq, ◌||◌};
+ghost use Rattle.std.specs.Prelude.{◌≡◌, ◌<◌, ◌+◌, ◌↔◌, ◌∷◌, ℕ, List, Some, true, take};
+ghost use Rattle.std.specs.Prelude.{map, slice_get, length, IsTrue, IsSomeAnd, option_map, option_and_then};
+ghost use Rattle.std.specs.Prelude.{MatchOption, nat_eq, ◌||◌};
 ghost use Rattle.spv_module.specs.Operand.{PlainInst, Id, type_in as plain_type_in};
 ghost use Rattle.spv_module.specs.Module.{plain_inst, plain_operand, plain_operands};
 ghost use Rattle.spv_layout.specs.Place.{IsOfFunction};
-ghost use Rattle.spv_ops.specs.Operands.{ids_in};
-ghost use Rattle.spv_ops.specs.Parts.{id_in};
-ghost use Rattle.spv_ops.specs.Values.{types_of};
+ghost use Rattle.spv_type_forms.specs.Operands.{ids_in};
+ghost use Rattle.spv_type_forms.specs.Parts.{id_in};
+ghost use Rattle.spv_type_forms.specs.Values.{types_of};
 ghost use Rattle.spv_type_rules.specs.Function as spec;
-ghost use Rattle.spv_type_rules.specs.Function.{ReturnsNothing, ReturnsTyped, IsSoundReturn, IsSoundReturnValue, function_type_in, signature_of, CallsTyped, CallsSoundly, IsSoundCall, ReturnsAfter, IsSoundFunction, parameters_in, parameters_after, parameters_between, parameter_type_of, IsSoundParameter};
-ghost use Rattle.spv_type_rules.specs.Found.{IsOfOne, are_typed, has_signature, has_type};
+ghost use Rattle.spv_type_rules.specs.Function.{ReturnsNothing, ReturnsTyped, IsSoundReturn, IsSoundReturnValue};
+ghost use Rattle.spv_type_rules.specs.Function.{function_type_in, signature_of, CallsTyped, CallsSoundly, IsSoundCall};
+ghost use Rattle.spv_type_rules.specs.Function.{ReturnsAfter, IsSoundFunction, parameters_in, parameters_after};
+ghost use Rattle.spv_type_rules.specs.Function.{parameters_between, parameter_type_of, IsSoundParameter};
+ghost use Rattle.spv_type_rules.specs.inner.Found.{IsOfOne, are_typed, has_signature, has_type};
 
 use crate::opcode::{FUNCTION, FUNCTION_END, LABEL, PARAMETER, TYPE_FUNCTION};
 use spv_layout::laws::one_standing;
@@ -30,7 +35,8 @@ pub fn function_of<'m, 'a>(
     number: u32,
 ) -> Option<Function<'m, 'a>>
     requires { number < length definitions.now }
-    ensures { MatchOption result ((f : ℕ) → ¬ (IsOfFunction definitions.now number f)) (λ f. IsOfOne definitions.now number f.number (plain_inst f.inst.now)) }
+    ensures { MatchOption result ((f : ℕ) → ¬ (IsOfFunction definitions.now number f))
+        (λ f. IsOfOne definitions.now number f.number (plain_inst f.inst.now)) }
 {
     one_standing();
     match definitions.place(number).function {
@@ -70,7 +76,8 @@ pub fn is_sound_return(definitions: &Definitions, number: u32) -> bool
 
 /// Whether a function returns the type that the first id is declared with.
 fn returns_value(definitions: &Definitions, function: &Inst, operands: &[Operand]) -> bool
-    ensures { IsTrue result ↔ IsSomeAnd (types_of definitions.now (take 1 (ids_in (plain_operands operands.now)))) (ReturnsTyped (plain_inst function.now)) }
+    ensures { IsTrue result ↔ IsSomeAnd (types_of definitions.now (take 1 (ids_in (plain_operands operands.now))))
+        (ReturnsTyped (plain_inst function.now)) }
 {
     match operands {
         [Operand::Id(x), ..] => match (
@@ -112,7 +119,8 @@ pub fn signature<'m, 'a>(
     definitions: &Definitions<'m, 'a>,
     function: &Inst,
 ) -> Option<&'m [Operand<'a>]>
-    ensures { option_map (λ os. plain_operands os.now) result ≡ signature_of definitions.now (plain_inst function.now) }
+    ensures { option_map (λ os. plain_operands os.now) result ≡ signature_of definitions.now
+        (plain_inst function.now) }
 {
     let t = function_type(function)?;
     let inst = definitions.definition(t)?;
@@ -154,7 +162,8 @@ fn are_all_typed(definitions: &Definitions, arguments: &[Operand], types: &[Oper
     }
 }
 
-/// Whether what a function type names is r, and then the types that the ids at the front of the arguments are declared with.
+/// Whether what a function type names is r, and then the types that the ids at the front of the arguments are declared
+/// with.
 #[inline(always)]
 fn fits_signature(
     definitions: &Definitions,
@@ -162,7 +171,8 @@ fn fits_signature(
     signature: &[Operand],
     arguments: &[Operand],
 ) -> bool
-    ensures { result ≡ has_signature definitions.now r (plain_operands signature.now) (ids_in (plain_operands arguments.now)) }
+    ensures { result ≡ has_signature definitions.now r (plain_operands signature.now)
+        (ids_in (plain_operands arguments.now)) }
 {
     match signature {
         [Operand::Id(t), parameters @ ..] => *t == r
@@ -174,7 +184,8 @@ fn fits_signature(
 /// Whether a function returns r and takes the types that the arguments are declared with.
 #[inline(always)]
 fn takes(definitions: &Definitions, r: u32, callee: &Inst, arguments: &[Operand]) -> bool
-    ensures { IsTrue result ↔ IsSomeAnd (types_of definitions.now (ids_in (plain_operands arguments.now))) (CallsTyped definitions.now (plain_inst callee.now) r) }
+    ensures { IsTrue result ↔ IsSomeAnd (types_of definitions.now (ids_in (plain_operands arguments.now)))
+        (CallsTyped definitions.now (plain_inst callee.now) r) }
 {
     match signature(definitions, callee) {
         Some(signature) => fits_signature(definitions, r, signature, arguments),
@@ -268,7 +279,8 @@ pub fn parameter_type(definitions: &Definitions, function: &Inst, before: u32) -
 
 /// Whether a parameter has the type at its place in the type of a function, where so many parameters are before it.
 fn is_parameter(definitions: &Definitions, inst: &Inst, function: &Inst, before: u32) -> bool
-    ensures { IsTrue result ↔ IsSomeAnd (plain_type_in (plain_inst inst.now).operands) (λ t. parameter_type_of definitions.now (plain_inst function.now) before ≡ Some t) }
+    ensures { IsTrue result ↔ IsSomeAnd (plain_type_in (plain_inst inst.now).operands)
+        (λ t. parameter_type_of definitions.now (plain_inst function.now) before ≡ Some t) }
 {
     match (
         parameter_type(definitions, function, before),
@@ -279,10 +291,12 @@ fn is_parameter(definitions: &Definitions, inst: &Inst, function: &Inst, before:
     }
 }
 
-/// Whether Y6 is unbroken at the OpFunctionParameter of a number, where so many parameters of its function are before it.
+/// Whether Y6 is unbroken at the OpFunctionParameter of a number, where so many parameters of its function are before
+/// it.
 pub fn is_sound_parameter(definitions: &Definitions, number: u32, inst: &Inst, before: u32) -> bool
     requires number { number < length definitions.now }
-    requires before { (f : ℕ) → IsOfFunction definitions.now number f → parameters_between definitions.now f number ≡ before }
+    requires before { (f : ℕ) → IsOfFunction definitions.now number f
+        → parameters_between definitions.now f number ≡ before }
     ensures { IsTrue result ↔ IsSoundParameter definitions.now number (plain_inst inst.now) }
 {
     match function_of(definitions, number) {

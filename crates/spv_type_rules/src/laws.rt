@@ -5,16 +5,21 @@ ghost use Rattle.spv_table.specs.Table.{Table};
 ghost use Rattle.spv_module.specs.declared.fault.Rule.TheVariants as rule;
 ghost use Rattle.spv_module.specs.Operand.{PlainInst, OfType, Result, Id, Word, Value, Mask};
 ghost use Rattle.spv_module.specs.Example.{small as table};
-ghost use Rattle.spv_ops.specs.Example.{inst, add, add_floats};
-ghost use Rattle.spv_type_rules.specs.Declaration.{IsIntWidth, IsFloatWidth, IsVectorCount, IsLength, IsPointee, IsReturned, IsPointerAfter, Declares, IsSoundDeclaration};
+ghost use Rattle.spv_type_forms.specs.Example.{inst};
+ghost use Rattle.spv_ops.specs.Example.{add, add_floats};
+ghost use Rattle.spv_type_rules.specs.Declaration.{IsIntWidth, IsFloatWidth, IsVectorCount, IsLength, IsPointee};
+ghost use Rattle.spv_type_rules.specs.Declaration.{IsReturned, IsPointerAfter, DeclaresSoundly, IsSoundDeclaration};
 ghost use Rattle.spv_type_rules.specs.declared.declaration.Declaration.TheVariants as kind;
 ghost use Rattle.spv_type_rules.specs.declared.constant.Constant.TheVariants as constant_kind;
 ghost use Rattle.spv_type_rules.specs.Constant.{IsPart, FitsWidth, AreConstantParts, Constitutes, IsSoundConstant};
 ghost use Rattle.spv_type_rules.specs.Repeat.{AreAlike, Repeats};
-ghost use Rattle.spv_type_rules.specs.Function.{ReturnsAfter, IsSoundFunction, IsSoundParameter, IsSoundReturn, IsSoundReturnValue, CallsTyped, CallsSoundly, IsSoundCall, ReturnsNothing, ReturnsTyped, parameters_between};
+ghost use Rattle.spv_type_rules.specs.Function.{ReturnsAfter, IsSoundFunction, IsSoundParameter, IsSoundReturn};
+ghost use Rattle.spv_type_rules.specs.Function.{IsSoundReturnValue, CallsTyped, CallsSoundly, IsSoundCall};
+ghost use Rattle.spv_type_rules.specs.Function.{ReturnsNothing, ReturnsTyped, parameters_between};
 ghost use Rattle.spv_type_rules.specs.Keeps.{Keeps};
-ghost use Rattle.spv_type_rules.specs.Rules.{IsFirstRule, IsFirstHere};
-ghost use Rattle.spv_type_rules.specs.Example.{small, constant, wide_constant, again, call, short_call, function, parameter, with_struct, pointers, returning};
+ghost use Rattle.spv_type_rules.specs.inner.Rules.{IsFirstRule, IsFirstHere};
+ghost use Rattle.spv_type_rules.specs.Example.{small, constant, wide_constant, again, call, short_call, function};
+ghost use Rattle.spv_type_rules.specs.Example.{parameter, with_struct, pointers, returning};
 
 /// Declarations and constants of a small module that are sound, and such as are not.
 pub fn declaration_examples()
@@ -47,7 +52,8 @@ pub fn function_examples()
 /// What Y2, Y4 and Y8 demand of instructions.
 pub fn demand_examples()
     ensures declaration { (G : Table) → Keeps G small rule.Y2 7 (inst 23 (Result 9 ∷ Id 1 ∷ Word 4 ∷ [])) }
-    ensures no_declaration { (G : Table) → ¬ (Keeps G small rule.Y2 7 (inst 23 (Result 9 ∷ Id 1 ∷ Word 5 ∷ []))) }
+    ensures no_declaration { (G : Table) → ¬
+        (Keeps G small rule.Y2 7 (inst 23 (Result 9 ∷ Id 1 ∷ Word 5 ∷ []))) }
     // Y2 demands nothing of a constant.
     ensures other { (G : Table) → Keeps G small rule.Y2 7 wide_constant }
     ensures no_constant { (G : Table) → ¬ (Keeps G small rule.Y4 7 wide_constant) }
@@ -77,18 +83,18 @@ pub fn width_examples()
 
 /// Operands of declarations.
 pub fn operand_examples()
-    ensures int { Declares small 7 kind.Int (Result 9 ∷ Word 16 ∷ Word 0 ∷ []) }
-    ensures signed { ¬ (Declares small 7 kind.Int (Result 9 ∷ Word 16 ∷ Word 1 ∷ [])) }
-    ensures float { Declares small 7 kind.Float (Result 9 ∷ Word 32 ∷ []) }
-    ensures short_float { ¬ (Declares small 7 kind.Float (Result 9 ∷ Word 8 ∷ [])) }
-    ensures members { Declares small 7 kind.Struct (Result 9 ∷ Id 1 ∷ Id 1 ∷ []) }
-    ensures void_member { ¬ (Declares small 7 kind.Struct (Result 9 ∷ Id 2 ∷ [])) }
-    ensures pointer { Declares small 7 kind.Pointer (Result 9 ∷ Value 0 5 ∷ Id 1 ∷ []) }
-    ensures void_pointer { ¬ (Declares small 7 kind.Pointer (Result 9 ∷ Value 0 5 ∷ Id 2 ∷ [])) }
-    ensures function { Declares small 7 kind.Function (Result 9 ∷ Id 2 ∷ Id 1 ∷ []) }
-    ensures void_parameter { ¬ (Declares small 7 kind.Function (Result 9 ∷ Id 1 ∷ Id 2 ∷ [])) }
-    ensures forward { Declares pointers 0 kind.Forward (Id 1 ∷ Value 0 5 ∷ []) }
-    ensures other_forward { ¬ (Declares pointers 0 kind.Forward (Id 1 ∷ Value 0 7 ∷ [])) }
+    ensures int { DeclaresSoundly small 7 kind.Int (Result 9 ∷ Word 16 ∷ Word 0 ∷ []) }
+    ensures signed { ¬ (DeclaresSoundly small 7 kind.Int (Result 9 ∷ Word 16 ∷ Word 1 ∷ [])) }
+    ensures float { DeclaresSoundly small 7 kind.Float (Result 9 ∷ Word 32 ∷ []) }
+    ensures short_float { ¬ (DeclaresSoundly small 7 kind.Float (Result 9 ∷ Word 8 ∷ [])) }
+    ensures members { DeclaresSoundly small 7 kind.Struct (Result 9 ∷ Id 1 ∷ Id 1 ∷ []) }
+    ensures void_member { ¬ (DeclaresSoundly small 7 kind.Struct (Result 9 ∷ Id 2 ∷ [])) }
+    ensures pointer { DeclaresSoundly small 7 kind.Pointer (Result 9 ∷ Value 0 5 ∷ Id 1 ∷ []) }
+    ensures void_pointer { ¬ (DeclaresSoundly small 7 kind.Pointer (Result 9 ∷ Value 0 5 ∷ Id 2 ∷ [])) }
+    ensures function { DeclaresSoundly small 7 kind.Function (Result 9 ∷ Id 2 ∷ Id 1 ∷ []) }
+    ensures void_parameter { ¬ (DeclaresSoundly small 7 kind.Function (Result 9 ∷ Id 1 ∷ Id 2 ∷ [])) }
+    ensures forward { DeclaresSoundly pointers 0 kind.Forward (Id 1 ∷ Value 0 5 ∷ []) }
+    ensures other_forward { ¬ (DeclaresSoundly pointers 0 kind.Forward (Id 1 ∷ Value 0 7 ∷ [])) }
 {}
 
 /// What constants are made of.

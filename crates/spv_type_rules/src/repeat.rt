@@ -1,13 +1,14 @@
 //! Types that are declared twice.
 
-ghost use Rattle.std.specs.Prelude.{◌≡◌, ◌+◌, ◌++◌, ◌↔◌, ◌⊎◌, ℕ, List, Some, IsTrue, IfOk, OnOk, slice_get, map, [], ◌∷◌, MatchBool, true};
+ghost use Rattle.std.specs.Prelude.{◌≡◌, ◌+◌, ◌++◌, ◌↔◌, ◌⊎◌, ℕ, List, Some, IsTrue, IfOk};
+ghost use Rattle.std.specs.Prelude.{OnOk, slice_get, map, [], ◌∷◌, MatchBool, true};
 ghost use Rattle.spv_module.specs.Operand.{PlainInst};
 ghost use Rattle.spv_module.specs.Module.{plain_inst, plain_operand};
 ghost use Rattle.spv_type_rules.specs.Repeat as spec;
 ghost use Rattle.spv_type_rules.specs.Repeat.{Repeats};
-ghost use Rattle.spv_type_rules.specs.Key as key;
-ghost use Rattle.spv_type_rules.specs.Key.{operand_numbers};
-ghost use Rattle.spv_type_rules.specs.Seen.{AreSeen, HasKey};
+ghost use Rattle.spv_type_rules.specs.inner.Key as key;
+ghost use Rattle.spv_type_rules.specs.inner.Key.{operand_numbers};
+ghost use Rattle.spv_type_rules.specs.inner.Seen.{AreSeen, HasKey};
 
 use spv_module::{Inst, Operand};
 use spv_ops::after_result;
@@ -107,7 +108,8 @@ fn fingerprint(numbers: &[u32]) -> u32
     mixed
 }
 
-/// The key of an instruction: a fingerprint, so that keys mostly differ in their first number, and the numbers that it is of.
+/// The key of an instruction: a fingerprint, so that keys mostly differ in their first number, and the numbers that it
+/// is of.
 fn key_of(alloc: Global, inst: &Inst<'_>) -> Result<Vec<u32>, AllocError>
     ensures { IfOk result (λ k. k.items ≡ key.key_of (plain_inst inst.now)) }
 {
@@ -135,20 +137,25 @@ impl Seen {
 
     /// Adds a key, and answers whether it is new.
     fn add(&mut self, key: Vec<u32>) -> Result<bool, AllocError>
-        ensures added { IfOk result (λ added. MatchBool added (¬ (HasKey key.items self.old.keys.keys)) (HasKey key.items self.old.keys.keys)) }
-        ensures keys { OnOk result ((k : List ℕ) → HasKey k self.new.keys.keys ↔ (HasKey k self.old.keys.keys ⊎ (key.items ≡ k))) }
+        ensures added { IfOk result (λ added. MatchBool added (¬ (HasKey key.items self.old.keys.keys))
+            (HasKey key.items self.old.keys.keys)) }
+        ensures keys { OnOk result ((k : List ℕ) → HasKey k self.new.keys.keys
+            ↔ (HasKey k self.old.keys.keys ⊎ (key.items ≡ k))) }
     {
         let added = self.keys.insert(key)?;
         Ok(added)
     }
 
-    /// Whether an instruction declares a type again that may be declared once only. It is then among those that are declared.
+    /// Whether an instruction declares a type again that may be declared once only. It is then among those that are
+    /// declared.
     #[inline(never)]
     fn is_declared_again(&mut self, alloc: Global, inst: &Inst<'_>) -> Result<bool, AllocError>
         requires { spec.is_declared_once (plain_inst inst.now).opcode ≡ true }
-        ensures repeats { IfOk result (λ r. (is : List PlainInst) (n : ℕ) → slice_get is n ≡ Some (plain_inst inst.now) → AreSeen is n self.old
+        ensures repeats { IfOk result (λ r. (is : List PlainInst) (n : ℕ)
+            → slice_get is n ≡ Some (plain_inst inst.now) → AreSeen is n self.old
             → IsTrue r ↔ Repeats is n (plain_inst inst.now)) }
-        ensures seen { OnOk result ((is : List PlainInst) (n : ℕ) → slice_get is n ≡ Some (plain_inst inst.now) → AreSeen is n self.old → AreSeen is (n + 1) self.new) }
+        ensures seen { OnOk result ((is : List PlainInst) (n : ℕ) → slice_get is n ≡ Some (plain_inst inst.now)
+            → AreSeen is n self.old → AreSeen is (n + 1) self.new) }
     {
         let key = key_of(alloc, inst)?;
         let added = self.add(key)?;
@@ -160,9 +167,11 @@ impl Seen {
     /// An `AllocError` comes only where a growth of memory was refused.
     #[inline(always)]
     pub fn repeats(&mut self, alloc: Global, inst: &Inst<'_>) -> Result<bool, AllocError>
-        ensures repeats { IfOk result (λ r. (is : List PlainInst) (n : ℕ) → slice_get is n ≡ Some (plain_inst inst.now) → AreSeen is n self.old
+        ensures repeats { IfOk result (λ r. (is : List PlainInst) (n : ℕ)
+            → slice_get is n ≡ Some (plain_inst inst.now) → AreSeen is n self.old
             → IsTrue r ↔ Repeats is n (plain_inst inst.now)) }
-        ensures seen { OnOk result ((is : List PlainInst) (n : ℕ) → slice_get is n ≡ Some (plain_inst inst.now) → AreSeen is n self.old → AreSeen is (n + 1) self.new) }
+        ensures seen { OnOk result ((is : List PlainInst) (n : ℕ) → slice_get is n ≡ Some (plain_inst inst.now)
+            → AreSeen is n self.old → AreSeen is (n + 1) self.new) }
     {
         if !is_declared_once(inst.opcode) {
             return Ok(false);

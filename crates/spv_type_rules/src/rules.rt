@@ -1,6 +1,7 @@
 //! The rules of types at an instruction.
 
-ghost use Rattle.std.specs.Prelude.{◌≡◌, ◌<◌, ◌↔◌, ℕ, length, map, Some, None, IsTrue, if◌then◌else◌, slice_get};
+ghost use Rattle.std.specs.Prelude.{◌≡◌, ◌<◌, ◌↔◌, ℕ, length, map, Some, None, IsTrue};
+ghost use Rattle.std.specs.Prelude.{if◌then◌else◌, slice_get};
 ghost use Rattle.spv_table.specs.Table.{Table};
 ghost use Rattle.spv_module.specs.Module.{plain_inst, plain_insts};
 ghost use Rattle.spv_layout.specs.Place.{IsOfFunction};
@@ -8,9 +9,9 @@ ghost use Rattle.spv_layout.specs.Plan.{IsPlan};
 ghost use Rattle.spv_ids.specs.Outcome.{IsDefinitionOf, definition_in};
 ghost use Rattle.spv_type_rules.specs.Repeat.{Repeats};
 ghost use Rattle.spv_type_rules.specs.Function.{parameters_between};
-ghost use Rattle.spv_type_rules.specs.Counted.{AreCounted};
+ghost use Rattle.spv_type_rules.specs.inner.Counted.{AreCounted};
 ghost use Rattle.spv_type_rules.specs.Keeps.{KeepsFunctions, KeepsReturns, CallsAreSound};
-ghost use Rattle.spv_type_rules.specs.Rules.{AreRules, rules_insts, IsFirstHere};
+ghost use Rattle.spv_type_rules.specs.inner.Rules.{AreRules, rules_insts, IsFirstHere};
 
 use crate::concern::{Concern, concern_of};
 use crate::constant::is_sound_constant;
@@ -73,7 +74,9 @@ impl<'m, 'a> Rules<'m, 'a> {
     fn keeps_functions(&self, number: u32, inst: &Inst<'a>, parameters: u32) -> bool
         requires rules { AreRules self.now }
         requires inst { slice_get (rules_insts self.now) number ≡ Some (plain_inst inst.now) }
-        requires parameters { (plain_inst inst.now).opcode ≡ 55 → (f : ℕ) → IsOfFunction (rules_insts self.now) number f → parameters_between (rules_insts self.now) f number ≡ parameters }
+        requires parameters { (plain_inst inst.now).opcode ≡ 55 → (f : ℕ)
+            → IsOfFunction (rules_insts self.now) number f → parameters_between (rules_insts self.now) f number
+            ≡ parameters }
         ensures { IsTrue result ↔ KeepsFunctions (rules_insts self.now) number (plain_inst inst.now) }
     {
         match inst.opcode {
@@ -113,15 +116,16 @@ impl<'m, 'a> Rules<'m, 'a> {
         }
     }
 
-    /// The first of the rules Y2 to Y8 that is broken at the instruction of a number, by what is known of those before it.
-    /// Time is linear in the instruction's words; at an OpFunction, in those up to its first block too.
+    /// The first of the rules Y2 to Y8 that is broken at the instruction of a number, by what is known of those before
+    /// it. Time is linear in the instruction's words; at an OpFunction, in those up to its first block too.
     #[inline(always)]
     pub fn first_at(&self, number: u32, inst: &Inst<'a>, known: Known) -> Option<Rule>
         requires rules { AreRules self.now }
         requires inst { slice_get (rules_insts self.now) number ≡ Some (plain_inst inst.now) }
         requires repeats { IsTrue known.repeats ↔ Repeats (rules_insts self.now) number (plain_inst inst.now) }
         requires parameters { AreCounted (rules_insts self.now) number known.parameters }
-        ensures { (G : Table) → IsPlan G (rules_insts self.now) self.now.plan.now → IsFirstHere G (rules_insts self.now) number (plain_inst inst.now) result }
+        ensures { (G : Table) → IsPlan G (rules_insts self.now) self.now.plan.now
+            → IsFirstHere G (rules_insts self.now) number (plain_inst inst.now) result }
     {
         match concern_of(inst.opcode) {
             Concern::Declaration => {

@@ -9,16 +9,16 @@ use Rattle.spv_module.specs.declared.fault.Rule.{Rule}
 use Rattle.spv_module.specs.declared.fault.Rule.TheVariants as rule
 use Rattle.spv_module.specs.declared.fault.Stop.{Stop}
 use Rattle.spv_module.specs.declared.fault.Stop.TheVariants.{Fault as StopFault, Memory}
-use Rattle.spv_ids.specs.Outcome.{IsStopAt}
+use Rattle.spv_ids.specs.inner.Outcome.{IsStopAt}
 use Rattle.spv_types.specs.Outcome.{IsRefusal}
 use Rattle.spv_layout.specs.First.{IsFirst, IsUnbroken, stage_of, rank_of}
 use Rattle.spv_roles.specs.Broken as roles
 use Rattle.spv_capabilities.specs.Keeps as capabilities
 use Rattle.spv_type_rules.specs.Keeps as rules
-use Rattle.spv_type_rules.specs.Rules.{IsFirstRule}
+use Rattle.spv_type_rules.specs.inner.Rules.{IsFirstRule}
 use Rattle.spv_type_rules.proofs.Firsts.{keeps_below}
 use Rattle.spv_types.specs.Broken.{Broken}
-use Rattle.spv_types.specs.Pass.{KeepsRule, AreKept, IsFirstFault}
+use Rattle.spv_types.specs.inner.Pass.{KeepsRule, AreKept, IsFirstFault}
 
 -- The rules of the stage of Y1 demand nothing else.
 

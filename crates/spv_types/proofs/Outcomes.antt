@@ -9,7 +9,7 @@ use Rattle.spv_module.specs.declared.fault.Stop.TheVariants.{Fault}
 use Rattle.spv_layout.specs.declared.form.Role.{Role}
 use Rattle.spv_layout.specs.declared.form.Role.TheVariants as role
 use Rattle.spv_layout.specs.Shape.{IsUse}
-use Rattle.spv_ops.specs.Example.{inst}
+use Rattle.spv_type_forms.specs.Example.{inst}
 use Rattle.spv_roles.specs.declared.asked.Asked.{Asked}
 use Rattle.spv_roles.specs.Role.{Plays}
 use Rattle.spv_roles.specs.Outcome.{AreInRole}
@@ -24,7 +24,7 @@ use Rattle.spv_type_rules.proofs.Firsts as typed
 use Rattle.spv_types.specs.Broken.{Broken}
 use Rattle.spv_types.specs.Example.{logical, numbers, table}
 use Rattle.spv_types.specs.Outcome.{AreTypes, IsRefusal}
-use Rattle.spv_types.specs.Pass.{IsFirstFault}
+use Rattle.spv_types.specs.inner.Pass.{IsFirstFault}
 use Rattle.spv_types.proofs.Firsts.{capable_fault, fault_first, none_kept, roles_unbroken}
 
 abbrev int : PlainInst

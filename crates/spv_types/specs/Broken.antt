@@ -7,11 +7,13 @@ use Rattle.spv_roles.specs.Broken as roles
 use Rattle.spv_capabilities.specs.Keeps as capabilities
 use Rattle.spv_type_rules.specs.Keeps as types
 
--- The rule is broken at the instruction of that number.
+-- The rule is broken at the instruction of that number. [own]
 pub data Broken (G : Table) (is : List PlainInst) : Rule → ℕ → Type 0 where
   -- Y1: a use that is not in its role
   of_roles : (r : Rule) (n : ℕ) → roles.Broken G is r n → Broken G is r n
   -- C1, C2, M1, E1 or E2: the instruction does not keep what the rule demands of it
-  of_capabilities : (r : Rule) (n : ℕ) (i : PlainInst) → slice_get is n ≡ Some i → ¬ (capabilities.Keeps G is r n i) → Broken G is r n
+  of_capabilities : (r : Rule) (n : ℕ) (i : PlainInst) → slice_get is n ≡ Some i
+      → ¬ (capabilities.Keeps G is r n i) → Broken G is r n
   -- Y2 to Y8: the instruction does not keep what the rule demands of it
-  of_types : (r : Rule) (n : ℕ) (i : PlainInst) → slice_get is n ≡ Some i → ¬ (types.Keeps G is r n i) → Broken G is r n
+  of_types : (r : Rule) (n : ℕ) (i : PlainInst) → slice_get is n ≡ Some i → ¬ (types.Keeps G is r n i)
+      → Broken G is r n

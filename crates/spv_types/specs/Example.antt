@@ -2,7 +2,7 @@
 use Rattle.std.specs.Prelude.{List, [], ◌∷◌}
 use Rattle.spv_table.specs.Table.{Table}
 use Rattle.spv_module.specs.Operand.{OfType, Result, Word, Number, Value, PlainInst}
-use Rattle.spv_ops.specs.Example.{inst}
+use Rattle.spv_type_forms.specs.Example.{inst}
 
 -- OpMemoryModel Physical64 OpenCL, alone
 abbrev pub physical : List PlainInst
@@ -18,4 +18,5 @@ table = record { kinds = []; entries = [] }
 
 -- %1 = OpTypeInt 32 0, and %2 = OpConstant %1 7
 abbrev pub numbers : List PlainInst
-numbers = inst 21 (Result 1 ∷ Word 32 ∷ Word 0 ∷ []) ∷ inst 43 (OfType 1 ∷ Result 2 ∷ Number 7 0 1 ∷ []) ∷ []
+numbers = inst 21 (Result 1 ∷ Word 32 ∷ Word 0 ∷ []) ∷ inst 43 (OfType 1 ∷ Result 2 ∷ Number 7 0 1 ∷ [])
+    ∷ []

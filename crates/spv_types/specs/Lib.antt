@@ -1,4 +1,4 @@
 pub mod Broken
 pub mod Example
 pub mod Outcome
-pub mod Pass
+pub mod inner

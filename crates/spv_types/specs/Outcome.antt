@@ -18,17 +18,19 @@ use Rattle.spv_types.specs.Broken.{Broken}
 abbrev pub type_in : Types → ℕ → Option ℕ
 type_in types x = width.type_of types.definitions x
 
--- Each use is in its role, each instruction keeps what the rules C1 to E2 and Y2 to Y8 demand, and of each id the type that it is
--- declared with is told, if it has one.
+-- Each use is in its role, each instruction keeps what the rules C1 to E2 and Y2 to Y8 demand, and of each id the type
+-- that it is declared with is told, if it has one.
 pub record AreTypes (G : Table) (is : List PlainInst) (types : Types) : Type 0 where
   pub roles : AreInRole G is
-  pub capabilities : (r : Rule) (n : ℕ) (i : PlainInst) → slice_get is n ≡ Some i → capabilities.Keeps G is r n i
+  pub capabilities : (r : Rule) (n : ℕ) (i : PlainInst) → slice_get is n ≡ Some i
+      → capabilities.Keeps G is r n i
   pub rules : (r : Rule) (n : ℕ) (i : PlainInst) → slice_get is n ≡ Some i → rules.Keeps G is r n i
   pub each : (x : ℕ) → type_in types x ≡ width.type_of is x
 
--- What a refusal says: want of memory; or the first use that is not in its role, or where all are, the first broken rule of
--- capabilities, entry points and types; with the first word of its instruction.
+-- What a refusal says: want of memory; or the first use that is not in its role, or where all are, the first broken
+-- rule of capabilities, entry points and types; with the first word of its instruction.
 abbrev pub IsRefusal : Table → List PlainInst → Stop → Type 0
 IsRefusal G is Memory = Unit {0}
 IsRefusal G is (Fault f) =
-    (IsFirst (Broken G is) 4 f.rule f.inst ⊎ (IsUnbroken (Broken G is) 4 × IsFirst (Broken G is) 5 f.rule f.inst)) × (f.word ≡ first_word_of is f.inst)
+    (IsFirst (Broken G is) 4 f.rule f.inst ⊎ (IsUnbroken (Broken G is) 4 × IsFirst (Broken G is) 5 f.rule f.inst))
+    × (f.word ≡ first_word_of is f.inst)

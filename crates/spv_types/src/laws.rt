@@ -13,7 +13,8 @@ ghost use Rattle.spv_types.specs.Outcome.{AreTypes, IsRefusal};
 
 /// Of each stage at most one rule is broken first, at one instruction.
 pub fn one_fault()
-    ensures { (G : Table) (is : List PlainInst) (stage : ℕ) (q r : Rule) (m n : ℕ) → IsFirst (Broken G is) stage q m → IsFirst (Broken G is) stage r n → (q ≡ r) × (m ≡ n) }
+    ensures { (G : Table) (is : List PlainInst) (stage : ℕ) (q r : Rule) (m n : ℕ)
+        → IsFirst (Broken G is) stage q m → IsFirst (Broken G is) stage r n → (q ≡ r) × (m ≡ n) }
 {}
 
 /// Memory models by which M1 is broken or not.

@@ -3,9 +3,9 @@
 ghost use Rattle.std.specs.Prelude.{◌≡◌, ◌≤◌, ℕ, IfOk, MatchOption, length, map};
 ghost use Rattle.spv_module.specs.Module.{plain_inst};
 ghost use Rattle.spv_layout.specs.Plan.{IsPlan};
-ghost use Rattle.spv_capabilities.specs.Subject as subject;
-ghost use Rattle.spv_type_rules.specs.Rules.{AreRules, rules_insts};
-ghost use Rattle.spv_types.specs.Pass.{AreKept, IsFirstFault};
+ghost use Rattle.spv_capabilities.specs.inner.Subject as subject;
+ghost use Rattle.spv_type_rules.specs.inner.Rules.{AreRules, rules_insts};
+ghost use Rattle.spv_types.specs.inner.Pass.{AreKept, IsFirstFault};
 
 use spv_capabilities::Entries;
 use spv_module::{Inst, Rule};

@@ -1,13 +1,15 @@
 //! The types of a module.
 
-ghost use Rattle.std.specs.Prelude.{◌≡◌, ◌+◌, ◌<◌, ◌≤◌, ℕ, List, IfOk, IfErr, OnOk, Some, length, map, slice_get, sum_by};
+ghost use Rattle.std.specs.Prelude.{◌≡◌, ◌+◌, ◌<◌, ◌≤◌, ℕ, List, IfOk, IfErr, OnOk, Some, length};
+ghost use Rattle.std.specs.Prelude.{map, slice_get, sum_by};
 ghost use Rattle.spv_module.specs.Operand.{PlainInst};
 ghost use Rattle.spv_layout.specs.declared.place.Place.{Place};
 ghost use Rattle.spv_module.specs.Module.{plain_inst, plain_insts};
 ghost use Rattle.spv_layout.specs.First.{IsUnbroken};
 ghost use Rattle.spv_layout.specs.Place.{word_count};
 ghost use Rattle.spv_layout.specs.Plan.{IsPlan, IsPlaceOf};
-ghost use Rattle.spv_ids.specs.Outcome.{IsDefinitionOf, IsStopAt, definition_in};
+ghost use Rattle.spv_ids.specs.Outcome.{IsDefinitionOf, definition_in};
+ghost use Rattle.spv_ids.specs.inner.Outcome.{IsStopAt};
 ghost use Rattle.spv_types.specs.Broken.{Broken};
 ghost use Rattle.spv_types.specs.Outcome.{AreTypes, IsRefusal, type_in};
 
@@ -30,8 +32,8 @@ pub struct Types<'m, 'a> {
 }
 
 impl<'m, 'a> Types<'m, 'a> {
-    /// The type that an id is declared with: the `Type` of the instruction whose result it is. None where that has none, or
-    /// there is no such instruction. It takes no memory, and constant time where the id is a small one.
+    /// The type that an id is declared with: the `Type` of the instruction whose result it is. None where that has
+    /// none, or there is no such instruction. It takes no memory, and constant time where the id is a small one.
     #[inline(always)]
     pub fn of(&self, id: u32) -> Option<u32>
         ensures { result ≡ type_in self.now id }
@@ -43,7 +45,8 @@ impl<'m, 'a> Types<'m, 'a> {
 /// The fault of a broken rule, at the first word of its instruction.
 fn stop_at(plan: &Plan, found: Found) -> Stop
     requires { found.inst < length plan.now }
-    ensures { (is : List PlainInst) → ((n : ℕ) (p : Place) → slice_get plan.now n ≡ Some p → IsPlaceOf is n p) → IsStopAt is found.rule found.inst result }
+    ensures { (is : List PlainInst) → ((n : ℕ) (p : Place) → slice_get plan.now n ≡ Some p → IsPlaceOf is n p)
+        → IsStopAt is found.rule found.inst result }
 {
     let Some(place) = plan.at(found.inst) else {
         unreachable!();
@@ -55,8 +58,8 @@ fn stop_at(plan: &Plan, found: Found) -> Stop
     })
 }
 
-/// Whether a module keeps the rules of roles, capabilities, entry points and types. `plan` and `ids` are what `lay_out` and
-/// `number` answered of that module, by that table.
+/// Whether a module keeps the rules of roles, capabilities, entry points and types. `plan` and `ids` are what `lay_out`
+/// and `number` answered of that module, by that table.
 ///
 /// Time is near-linear in the words of the module, besides what the capabilities take that are declared.
 ///
@@ -70,10 +73,13 @@ fn stop_at(plan: &Plan, found: Found) -> Stop
 /// - Y3: a type, other than an array, a struct or a pointer, that is declared again (2.8).
 /// - Y4: a constant that is not of its type, or not of constants of the types at their places (3.49.7).
 /// - Y5: an operation whose operands or result have not the types that it asks for.
-/// - Y6: a function whose type is not that of its result and its parameters, or a parameter whose type is not the one at its
+/// - Y6: a function whose type is not that of its result and its parameters, or a parameter whose type is not the one
+///   at its
 ///   place (3.49.9).
-/// - Y7: a return without a value in a function that does not return void, or a returned value of another type (3.49.17).
-/// - Y8: a call whose result or arguments have not the types, in number and order, of the callee's function type (3.49.9).
+/// - Y7: a return without a value in a function that does not return void, or a returned value of another type
+///   (3.49.17).
+/// - Y8: a call whose result or arguments have not the types, in number and order, of the callee's function type
+///   (3.49.9).
 ///
 /// `Memory` comes only where a growth of memory was refused.
 #[tactic(none)]
@@ -90,7 +96,8 @@ pub fn type_check<'m, 'a>(
     requires ids { (x : ℕ) → IsDefinitionOf (plain_insts «module».now) x (definition_in ids.now x) }
     // Each rule is kept at each instruction, so none is broken.
     ensures types { IfOk result (λ types. AreTypes table.now (plain_insts «module».now) types) }
-    ensures unbroken { OnOk result (IsUnbroken (Broken table.now (plain_insts «module».now)) 4 × IsUnbroken (Broken table.now (plain_insts «module».now)) 5) }
+    ensures unbroken { OnOk result (IsUnbroken (Broken table.now (plain_insts «module».now)) 4
+        × IsUnbroken (Broken table.now (plain_insts «module».now)) 5) }
     ensures refused { IfErr result (λ s. IsRefusal table.now (plain_insts «module».now) s) }
 {
     let insts = module.insts.as_slice();

@@ -6,7 +6,7 @@ use Rattle.std.proofs.lemmas.Option.{slice_get_within}
 use Rattle.spv_table.specs.declared.table.Enumerant.{Enumerant}
 use Rattle.spv_table.specs.Table.{Table, kind_of, entry_of, enumerant_of}
 use Rattle.spv_table.specs.Lookups.{value_named, number_named}
-use Rattle.spv_table.specs.Implied.{Lists, Chain, Implied, capabilities_in}
+use Rattle.spv_table.specs.Implied.{Lists, CapabilityChain, Implied, capabilities_in}
 use Rattle.spv_module.specs.Operand.{Plain, Id, Value, Mask, PlainInst, type_in}
 use Rattle.spv_module.specs.Spelling.{set_bits}
 use Rattle.spv_module.specs.declared.fault.Rule.{Rule}
@@ -61,13 +61,13 @@ by_way_or_not : (G : Table) (ks : List ℕ) (a c : ℕ) → Decided (ByWay G ks 
 by_way_or_not G [] a c = either (cases_eq a c) (lists_or_not G a c)
 by_way_or_not G (k ∷ ks) a c = either (by_way_or_not G ks a c) (both (by_way_or_not G ks a k) (by_way_or_not G ks k c))
 
-chain_on : (G : Table) (a b c : ℕ) → Chain G a b → Chain G b c → Chain G a c
-chain_on G _ _ c (Chain.here a) q = q
-chain_on G _ _ c (Chain.step a b d l r) q = Chain.step a b c l (chain_on G b d c r q)
+chain_on : (G : Table) (a b c : ℕ) → CapabilityChain G a b → CapabilityChain G b c → CapabilityChain G a c
+chain_on G _ _ c (CapabilityChain.here a) q = q
+chain_on G _ _ c (CapabilityChain.step a b d l r) q = CapabilityChain.step a b c l (chain_on G b d c r q)
 
-of_way : (G : Table) (ks : List ℕ) (a c : ℕ) → ByWay G ks a c → Chain G a c
-of_way G [] a c (inl e) = subst (λ (k : ℕ). Chain G a k) e (Chain.here a)
-of_way G [] a c (inr l) = Chain.step a c c l (Chain.here c)
+of_way : (G : Table) (ks : List ℕ) (a c : ℕ) → ByWay G ks a c → CapabilityChain G a c
+of_way G [] a c (inl e) = subst (λ (k : ℕ). CapabilityChain G a k) e (CapabilityChain.here a)
+of_way G [] a c (inr l) = CapabilityChain.step a c c l (CapabilityChain.here c)
 of_way G (k ∷ ks) a c (inl b) = of_way G ks a c b
 of_way G (k ∷ ks) a c (inr p) = chain_on G a k c (of_way G ks a k p.0) (of_way G ks k c p.1)
 
@@ -104,27 +104,27 @@ value_of [] a e h = absurd (let no : None ≡ Some e = h in cc)
 value_of (d ∷ es) a e h = elim
     (cases_Bool (nat_eq d.value a)) [ inl t ↦ inl (eqb-true d.value a t) | inr f ↦ inr (value_of es a e (rw f at h)) ]
 
-on_from : (G : Table) (b c : ℕ) → Chain G b c → (b ≡ c) ⊎ IsMember (values (capabilities_in G)) b
-on_from G _ _ (Chain.here a) = inl refl
-on_from G _ _ (Chain.step a b c l r) = inr (value_of (capabilities_in G) a l.enumerant l.is)
+on_from : (G : Table) (b c : ℕ) → CapabilityChain G b c → (b ≡ c) ⊎ IsMember (values (capabilities_in G)) b
+on_from G _ _ (CapabilityChain.here a) = inl refl
+on_from G _ _ (CapabilityChain.step a b c l r) = inr (value_of (capabilities_in G) a l.enumerant l.is)
 
-by_chain : (G : Table) (a c : ℕ) → Chain G a c → ByWay G (values (capabilities_in G)) a c
-by_chain G _ _ (Chain.here a) = straight G (values (capabilities_in G)) a a (inl refl)
-by_chain G _ _ (Chain.step a b c l r) = elim (on_from G b c r) [
+by_chain : (G : Table) (a c : ℕ) → CapabilityChain G a c → ByWay G (values (capabilities_in G)) a c
+by_chain G _ _ (CapabilityChain.here a) = straight G (values (capabilities_in G)) a a (inl refl)
+by_chain G _ _ (CapabilityChain.step a b c l r) = elim (on_from G b c r) [
   | inl e ↦ subst (λ (x : ℕ). ByWay G (values (capabilities_in G)) a x) e
       (straight G (values (capabilities_in G)) a b (inr l))
   | inr m ↦ through G (values (capabilities_in G)) b a c m (straight G (values (capabilities_in G)) a b (inr l))
       (by_chain G b c r)
 ]
 
-chain_or_not : (G : Table) (a c : ℕ) → Decided (Chain G a c)
+chain_or_not : (G : Table) (a c : ℕ) → Decided (CapabilityChain G a c)
 chain_or_not G a c = anew (of_way G (values (capabilities_in G)) a c) (by_chain G a c)
     (by_way_or_not G (values (capabilities_in G)) a c)
 
 pub implied_or_not : (G : Table) (declared : List ℕ) (c : ℕ) → Decided (Implied G declared c)
 implied_or_not G declared c = anew (λ h. record { first = h.0; declares = h.1; chain = h.2 })
     (λ i. (i.first, i.declares, i.chain))
-    (contained (λ (a : ℕ). Chain G a c) (λ a. chain_or_not G a c) declared)
+    (contained (λ (a : ℕ). CapabilityChain G a c) (λ a. chain_or_not G a c) declared)
 
 has_or_not : (G : Table) (is : List PlainInst) (c : ℕ) → Decided (Has G is c)
 has_or_not G is c = implied_or_not G (filter_map declared_by is) c

@@ -6,7 +6,7 @@ use Rattle.spv_table.specs.Table.{Table}
 use Rattle.spv_table.specs.declared.error.Memory.{Memory as OutOfMemory}
 use Rattle.spv_module.specs.Operand.{PlainInst}
 use Rattle.spv_module.specs.Instruction.{IsListing}
-use Rattle.spv_inst.specs.Outcome.{IsDeath, IsHeaderOf}
+use Rattle.spv_inst.specs.Outcome.{IsDecodeFault, IsHeaderOf}
 use Rattle.spv_module.specs.Module.{plain_insts}
 use Rattle.spv_module.specs.declared.fault.Stop.{Stop}
 use Rattle.spv_module.specs.declared.fault.Stop.TheVariants.{Fault as Faulty, Memory}
@@ -92,7 +92,7 @@ exactly laws G bytes words order (Valid c) h a = (λ t. valid_of G bytes words o
 exactly laws G bytes words order (Fault f) h a = (λ t. absurd t, λ v. fault_invalid laws G bytes words order f h a v)
 
 -- what a stop of the layers comes to
-pub dead_answer : (G : Table) (words : List ℕ) (s : Stop) (r : Result Verdict OutOfMemory) → StopsAs s r → IsDeath G words s → IfOk r (λ v. IsAnswer G words v)
+pub dead_answer : (G : Table) (words : List ℕ) (s : Stop) (r : Result Verdict OutOfMemory) → StopsAs s r → IsDecodeFault G words s → IfOk r (λ v. IsAnswer G words v)
 dead_answer G words Memory (Ok v) e d = absurd e
 dead_answer G words Memory r e d = tt
 dead_answer G words (Faulty f) r e d = rw e (IsFault.dead d.0 d.1)

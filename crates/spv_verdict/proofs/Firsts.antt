@@ -24,7 +24,7 @@ use Rattle.spv_calls.specs.Broken as calls
 use Rattle.spv_flow.specs.Outcome as flow_outcome
 use Rattle.spv_flow.specs.Outcome.{IsFirstOfFlow}
 use Rattle.spv_verdict.proofs.Stages.{types_stage}
-use Rattle.spv_verdict.specs.Broken.{Broken, Precedes, IsFirst, IsSound, IsTold}
+use Rattle.spv_verdict.specs.Broken.{Broken, Precedes, IsFirstOfAll, IsSound, IsTold}
 
 -- the stages of the rules
 pub layout_stage : (G : Table) (is : List PlainInst) (r : Rule) (n : ℕ) → layout.Broken G is r n → (stage_of r ≡ 1) ⊎ (stage_of r ≡ 2)
@@ -56,7 +56,7 @@ within r q n m e (inl l) = Precedes.instruction e l
 within r q n m e (inr x) = Precedes.rule e x.0 x.1
 
 -- a rule of the profile
-pub profile_first : (G : Table) (bound : ℕ) (is : List PlainInst) (r : Rule) (n : ℕ) → stage.IsFirst (layout.Broken G is) 1 r n → IsFirst G bound is r n
+pub profile_first : (G : Table) (bound : ℕ) (is : List PlainInst) (r : Rule) (n : ℕ) → stage.IsFirst (layout.Broken G is) 1 r n → IsFirstOfAll G bound is r n
 profile_first G bound is r n f = record { broken = Broken.of_layout r n f.broken; least = least } where
   least : (q : Rule) (m : ℕ) → Broken G bound is q m → Precedes r n q m
   least _ _ (Broken.of_layout q m b) =
@@ -72,7 +72,7 @@ profile_first G bound is r n f = record { broken = Broken.of_layout r n f.broken
   least _ _ (Broken.of_calls q m b) = let s = f.of_stage in let e = calls_stage is q m b in Precedes.stage (omega arith)
 
 -- a rule of the layout, where each instruction fits the profile
-pub layout_first : (G : Table) (bound : ℕ) (is : List PlainInst) (r : Rule) (n : ℕ) → IsUnbroken (layout.Broken G is) 1 → stage.IsFirst (layout.Broken G is) 2 r n → IsFirst G bound is r n
+pub layout_first : (G : Table) (bound : ℕ) (is : List PlainInst) (r : Rule) (n : ℕ) → IsUnbroken (layout.Broken G is) 1 → stage.IsFirst (layout.Broken G is) 2 r n → IsFirstOfAll G bound is r n
 layout_first G bound is r n u f = record { broken = Broken.of_layout r n f.broken; least = least } where
   least : (q : Rule) (m : ℕ) → Broken G bound is q m → Precedes r n q m
   least _ _ (Broken.of_layout q m b) =
@@ -88,7 +88,7 @@ layout_first G bound is r n u f = record { broken = Broken.of_layout r n f.broke
   least _ _ (Broken.of_calls q m b) = let s = f.of_stage in let e = calls_stage is q m b in Precedes.stage (omega arith)
 
 -- a rule on ids, where no rule of the profile or the layout is broken
-pub ids_first : (G : Table) (bound : ℕ) (is : List PlainInst) (r : Rule) (n : ℕ) → ((q : Rule) (m : ℕ) → ¬ (layout.Broken G is q m)) → stage.IsFirst (ids.Broken G bound is) 3 r n → IsFirst G bound is r n
+pub ids_first : (G : Table) (bound : ℕ) (is : List PlainInst) (r : Rule) (n : ℕ) → ((q : Rule) (m : ℕ) → ¬ (layout.Broken G is q m)) → stage.IsFirst (ids.Broken G bound is) 3 r n → IsFirstOfAll G bound is r n
 ids_first G bound is r n u f = record { broken = Broken.of_ids r n f.broken; least = least } where
   least : (q : Rule) (m : ℕ) → Broken G bound is q m → Precedes r n q m
   least _ _ (Broken.of_layout q m b) = absurd (u q m b)
@@ -103,7 +103,7 @@ ids_first G bound is r n u f = record { broken = Broken.of_ids r n f.broken; lea
 
 -- a rule on roles, where no rule of the profile, the layout or on ids is broken
 pub roles_first : (G : Table) (bound : ℕ) (is : List PlainInst) (r : Rule) (n : ℕ) → ((q : Rule) (m : ℕ) → ¬ (layout.Broken G is q m)) → IsUnbroken (ids.Broken G bound is) 3
-    → stage.IsFirst (types.Broken G is) 4 r n → IsFirst G bound is r n
+    → stage.IsFirst (types.Broken G is) 4 r n → IsFirstOfAll G bound is r n
 roles_first G bound is r n u v f = record { broken = Broken.of_types r n f.broken; least = least } where
   least : (q : Rule) (m : ℕ) → Broken G bound is q m → Precedes r n q m
   least _ _ (Broken.of_layout q m b) = absurd (u q m b)
@@ -118,7 +118,7 @@ roles_first G bound is r n u v f = record { broken = Broken.of_types r n f.broke
 
 -- a rule on capabilities, entry points or types, where no rule on roles is broken either
 pub types_first : (G : Table) (bound : ℕ) (is : List PlainInst) (r : Rule) (n : ℕ) → ((q : Rule) (m : ℕ) → ¬ (layout.Broken G is q m)) → IsUnbroken (ids.Broken G bound is) 3
-    → IsUnbroken (types.Broken G is) 4 → stage.IsFirst (types.Broken G is) 5 r n → IsFirst G bound is r n
+    → IsUnbroken (types.Broken G is) 4 → stage.IsFirst (types.Broken G is) 5 r n → IsFirstOfAll G bound is r n
 types_first G bound is r n u v w f = record { broken = Broken.of_types r n f.broken; least = least } where
   least : (q : Rule) (m : ℕ) → Broken G bound is q m → Precedes r n q m
   least _ _ (Broken.of_layout q m b) = absurd (u q m b)
@@ -142,7 +142,7 @@ never_before : (G : Table) (bound : ℕ) (is : List PlainInst) (r q : Rule) (n m
 never_before G bound is r q n m u b = elim (types_stage G is q m b) [ inl e ↦ absurd (u.of_roles q m e b) | inr e ↦ absurd (u.of_types q m e b) ]
 
 -- a rule on branches, where none of those is broken
-pub branches_first : (G : Table) (bound : ℕ) (is : List PlainInst) (r : Rule) (n : ℕ) → IsBefore G bound is → stage.IsFirst (flow.Broken G is) 6 r n → IsFirst G bound is r n
+pub branches_first : (G : Table) (bound : ℕ) (is : List PlainInst) (r : Rule) (n : ℕ) → IsBefore G bound is → stage.IsFirst (flow.Broken G is) 6 r n → IsFirstOfAll G bound is r n
 branches_first G bound is r n u f = record { broken = Broken.of_flow r n f.broken; least = least } where
   least : (q : Rule) (m : ℕ) → Broken G bound is q m → Precedes r n q m
   least _ _ (Broken.of_layout q m b) = absurd (u.of_layout q m b)
@@ -155,7 +155,7 @@ branches_first G bound is r n u f = record { broken = Broken.of_flow r n f.broke
 
 -- a rule on values, where no rule on branches is broken either
 pub values_first : (G : Table) (bound : ℕ) (is : List PlainInst) (r : Rule) (n : ℕ) → IsBefore G bound is → IsUnbroken (flow.Broken G is) 6 → stage.IsFirst (flow.Broken G is) 7 r n
-    → IsFirst G bound is r n
+    → IsFirstOfAll G bound is r n
 values_first G bound is r n u v f = record { broken = Broken.of_flow r n f.broken; least = least } where
   least : (q : Rule) (m : ℕ) → Broken G bound is q m → Precedes r n q m
   least _ _ (Broken.of_layout q m b) = absurd (u.of_layout q m b)
@@ -168,7 +168,7 @@ values_first G bound is r n u v f = record { broken = Broken.of_flow r n f.broke
 
 -- the rule on calls, where no rule on values is broken either
 pub calls_first : (G : Table) (bound : ℕ) (is : List PlainInst) (r : Rule) (n : ℕ) → IsBefore G bound is → IsUnbroken (flow.Broken G is) 6 → IsUnbroken (flow.Broken G is) 7
-    → stage.IsFirst (calls.Broken is) 8 r n → IsFirst G bound is r n
+    → stage.IsFirst (calls.Broken is) 8 r n → IsFirstOfAll G bound is r n
 calls_first G bound is r n u v w f = record { broken = Broken.of_calls r n f.broken; least = least } where
   least : (q : Rule) (m : ℕ) → Broken G bound is q m → Precedes r n q m
   least _ _ (Broken.of_layout q m b) = absurd (u.of_layout q m b)
@@ -208,7 +208,7 @@ told_types G bound is Memory u v h = tt
 told_types G bound is (Fault f) u v h =
     (elim h.0 [ inl a ↦ roles_first G bound is f.rule f.inst u v a | inr b ↦ types_first G bound is f.rule f.inst u v b.0 b.1 ], h.1)
 
-first_of_flow : (G : Table) (bound : ℕ) (is : List PlainInst) (r : Rule) (n : ℕ) → IsBefore G bound is → IsFirstOfFlow G is r n → IsFirst G bound is r n
+first_of_flow : (G : Table) (bound : ℕ) (is : List PlainInst) (r : Rule) (n : ℕ) → IsBefore G bound is → IsFirstOfFlow G is r n → IsFirstOfAll G bound is r n
 first_of_flow G bound is r n u (IsFirstOfFlow.of_branches f) = branches_first G bound is r n u f
 first_of_flow G bound is r n u (IsFirstOfFlow.of_values v f) = values_first G bound is r n u v f
 first_of_flow G bound is r n u (IsFirstOfFlow.of_calls v w f) = calls_first G bound is r n u v w f
@@ -233,7 +233,7 @@ meet q r m n (Precedes.rule e f a) (Precedes.stage b) = absurd (omega arith)
 meet q r m n (Precedes.rule e f a) (Precedes.instruction g b) = absurd (omega arith)
 meet q r m n (Precedes.rule e f a) (Precedes.rule g h b) = let s : rank_of q ≡ rank_of r = omega arith in record { rule = rank_apart q r s; inst = f }
 
-pub one_first : (G : Table) (bound : ℕ) (is : List PlainInst) (q r : Rule) (m n : ℕ) → IsFirst G bound is q m → IsFirst G bound is r n → SameRule q r m n
+pub one_first : (G : Table) (bound : ℕ) (is : List PlainInst) (q r : Rule) (m n : ℕ) → IsFirstOfAll G bound is q m → IsFirstOfAll G bound is r n → SameRule q r m n
 one_first G bound is q r m n f g = meet q r m n (f.least r n g.broken) (g.least q m f.broken)
 
 -- a rule of the last stage is one on calls

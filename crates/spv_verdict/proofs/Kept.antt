@@ -10,8 +10,8 @@ use Rattle.spv_layout.specs.DeadPlace.{IsDeadPlace}
 use Rattle.spv_layout.specs.Layout.{IsLayout, classes}
 use Rattle.spv_layout.specs.Place.{word_count}
 use Rattle.spv_layout.specs.Rows.{row_of}
-use Rattle.spv_layout.specs.Shape.{Fits}
-use Rattle.spv_layout.specs.Test.{fits_row}
+use Rattle.spv_layout.specs.Shape.{FitsShape}
+use Rattle.spv_layout.specs.inner.Test.{fits_row}
 use Rattle.spv_layout.proofs.Tested.{fits_iff}
 use Rattle.spv_roles.specs.Broken as roles
 use Rattle.spv_types.specs.Broken as types
@@ -23,7 +23,7 @@ use Rattle.spv_verdict.proofs.Decided.{Decided, anew, held, is_true}
 use Rattle.spv_verdict.proofs.RulesDecided.{plays_or_not, keeps}
 use Rattle.spv_verdict.proofs.Capable.{capability_or_not}
 
-fits_or_not : (G : Table) (i : PlainInst) → Decided (Fits G i)
+fits_or_not : (G : Table) (i : PlainInst) → Decided (FitsShape G i)
 fits_or_not G i =
     let same = fits_iff G i (row_of i.opcode) (fits_row G (row_of i.opcode) i.operands) refl refl in
     anew same.0 same.1 (is_true (fits_row G (row_of i.opcode) i.operands))
@@ -34,7 +34,7 @@ pub record LayoutLaw : Type 0 where
   pub not_both : (is : List PlainInst) (a : Rule) (k : ℕ) → IsLayout (classes is) → ¬ (IsDeadPlace is a k)
 
 fitting : (G : Table) (p : Program) → IsSound G p.bound p.insts → (n : ℕ) (i : PlainInst)
-    → slice_get p.insts n ≡ Some i → Fits G i
+    → slice_get p.insts n ≡ Some i → FitsShape G i
 fitting G p s n i at = held (fits_or_not G i) (λ no. s P1 n (Broken.of_layout P1 n (layout.misfit i n at no)))
 
 pub kept : LayoutLaw → (G : Table) (p : Program) → 5 + sum_by word_count p.insts ≤ 4194304

@@ -12,8 +12,9 @@ use Rattle.spv_table.specs.declared.table.Entry.{Entry}
 use Rattle.spv_table.specs.Table.{entry_of, pattern_of}
 use Rattle.spv_module.specs.Operand.{Plain, OfType, Result, Id, Text, Value, Mask, PlainInst, start}
 use Rattle.spv_module.specs.Shape.{shape_of}
-use Rattle.spv_module.specs.Spelling.{Takes, Holds, mask_parameters}
-use Rattle.spv_inst.specs.Flat.{Matches, due}
+use Rattle.spv_module.specs.Spelling.{Takes, HoldsText, mask_parameters}
+use Rattle.spv_inst.specs.Flat.{due}
+use Rattle.spv_inst.specs.inner.Flat.{Matches}
 use Rattle.spv_module.specs.Instruction.{IsInstruction, IsListing, Listing, first_word}
 use Rattle.spv_module.specs.declared.fault.Rule.{Rule}
 use Rattle.spv_inst.proofs.Joined.{flat_match}
@@ -107,7 +108,7 @@ model_spelled before =
     (Matches.take _ _ _ (Value 1 2) (2 ∷ []) [] _ _ (Takes.value addressing_models 2 [] refl) (
     Matches.take _ _ _ (Value 2 2) (2 ∷ []) [] _ _ (Takes.value memory_models 2 [] refl) (Matches.end _)))
 
-name_held : Holds (107 ∷ []) (codes "k") (0 ∷ 0 ∷ [])
+name_held : HoldsText (107 ∷ []) (codes "k") (0 ∷ 0 ∷ [])
 name_held = record { words = (lit< tt, tt); octets = refl; no_zero = (λ e. omega (arith, e), tt); short = lit< tt }
 
 name_utf8 : IsUtf8 (codes "k")

@@ -14,7 +14,7 @@ use Rattle.spv_layout.specs.Rows.{rows}
 use Rattle.spv_ids.specs.declared.ids.Ids.{Ids}
 use Rattle.spv_ids.specs.Outcome.{IsDefinitionOf, definition_in}
 use Rattle.spv_flow.specs.declared.flow.Flow.{Flow}
-use Rattle.spv_flow.specs.Definitions.{HasDefinitions}
+use Rattle.spv_flow.specs.Definitions.{CountsDefinitions}
 use Rattle.spv_run.specs.Kernel.{grammar, kernel}
 use Rattle.spv_run.proofs.Elements.{each}
 use Rattle.spv_run.proofs.Kernel.{laid, laid_out, at_class, function_only, label_there, in_function, definition, fits, is_layout, ids_kept, flow_kept, calls_kept}
@@ -116,7 +116,7 @@ one_at : (k f : ℕ) → slice_get (6 ∷ []) k ≡ Some f → k ≡ 0
 one_at zero f e = refl
 one_at (suc k) f e = absurd (none-some f e)
 
-definitions : HasDefinitions kernel 1
+definitions : CountsDefinitions kernel 1
 definitions = record {
   functions = 6 ∷ [];
   definitions = record {
@@ -139,6 +139,6 @@ parts m ids flow bound insts each count = record {
     branches = λ r n s b. flow_kept r n b;
     values = λ r n s b. flow_kept r n b;
     calls = λ r n s b. calls_kept r n b;
-    definitions = subst (HasDefinitions kernel) (sym count) definitions;
+    definitions = subst (CountsDefinitions kernel) (sym count) definitions;
   };
 }

@@ -6,13 +6,13 @@ use Rattle.std.proofs.lemmas.Bool.{cases_eq}
 use Rattle.std.proofs.lemmas.Option.{same_Some}
 use Rattle.spv_module.specs.Operand.{Plain, Value, PlainInst}
 use Rattle.spv_module.specs.Width.{definition_of}
-use Rattle.spv_ops.specs.declared.form.Scalar.{Scalar}
-use Rattle.spv_ops.specs.declared.form.Scalar.TheVariants as scalar
-use Rattle.spv_ops.specs.declared.form.Form.{Form}
-use Rattle.spv_ops.specs.declared.form.Form.TheVariants as form
-use Rattle.spv_ops.specs.declared.form.Sort.{Sort}
-use Rattle.spv_ops.specs.declared.form.Sort.TheVariants as sort
-use Rattle.spv_ops.specs.declared.form.Components.{Components}
+use Rattle.spv_type_forms.specs.declared.form.Scalar.{Scalar}
+use Rattle.spv_type_forms.specs.declared.form.Scalar.TheVariants as scalar
+use Rattle.spv_type_forms.specs.declared.form.Form.{Form}
+use Rattle.spv_type_forms.specs.declared.form.Form.TheVariants as form
+use Rattle.spv_type_forms.specs.declared.form.Sort.{Sort}
+use Rattle.spv_type_forms.specs.declared.form.Sort.TheVariants as sort
+use Rattle.spv_type_forms.specs.declared.form.Components.{Components}
 use Rattle.spv_ops.specs.declared.row.Row.{Row}
 use Rattle.spv_ops.specs.declared.row.Row.TheVariants.{Free, Undef, Variable, Calculation, Access, Composite, Construct, Chain, ElementChain, Phi, BranchConditional, Switch}
 use Rattle.spv_ops.specs.declared.row.Calculation as calculations
@@ -21,22 +21,25 @@ use Rattle.spv_ops.specs.declared.row.Access as accesses_of
 use Rattle.spv_ops.specs.declared.row.Access.TheVariants as access
 use Rattle.spv_ops.specs.declared.row.Composite as composites
 use Rattle.spv_ops.specs.declared.row.Composite.TheVariants as composite
-use Rattle.spv_ops.specs.Form.{form_of}
-use Rattle.spv_ops.specs.Types.{components_of, IsDataForm, IsData, IsSomeInt, IsNumber, IsVector, IsPointer, PointsTo, IsB, IsOf, HasSort, sort_of, pointee_in, class_in}
-use Rattle.spv_ops.specs.Operands.{words_in, ids_in, after_head, result_type_in}
-use Rattle.spv_ops.specs.Parts.{part_of, count_of}
+use Rattle.spv_type_forms.specs.Form.{form_of}
+use Rattle.spv_type_forms.specs.Types.{components_of, IsDataForm, IsData, IsSomeInt, IsNumber, IsVector, IsPointer, PointsTo, IsB, IsOf, HasSort, sort_of, pointee_in, class_in}
+use Rattle.spv_type_forms.specs.Operands.{words_in, ids_in, after_head, result_type_in}
+use Rattle.spv_type_forms.specs.Parts.{part_of, count_of, AreParts, ArePartsFrom}
 use Rattle.spv_ops.specs.Calculation.{Calculates, IsNamedClass, bits_of}
 use Rattle.spv_ops.specs.Access.{Accesses, IsScope}
-use Rattle.spv_ops.specs.Composite.{Composes, Constructs, IsComponent, AreParts, ArePartsFrom, shares_of}
-use Rattle.spv_ops.specs.Reach.{AreWithin, Reaches, Leads}
-use Rattle.spv_ops.specs.Walk.{walk, choices}
+use Rattle.spv_ops.specs.Composite.{Composes, Constructs, IsComponent, shares_of}
+use Rattle.spv_type_forms.specs.Reach.{AreWithin, ReachesType, LeadsToType}
+use Rattle.spv_type_forms.specs.inner.Walk.{walk, choices}
 use Rattle.spv_ops.specs.Chain.{LeadsByPointer, Chains, ChainsByElement}
-use Rattle.spv_ops.specs.Variable.{IsClassAt, IsInitializer, Declares, is_constant_opcode}
+use Rattle.spv_type_forms.specs.Definitions.{is_constant_opcode}
+use Rattle.spv_ops.specs.Variable.{IsClassAt, IsInitializer, DeclaresVariable}
 use Rattle.spv_ops.specs.Row.{row_of}
-use Rattle.spv_ops.specs.Values.{types_of, values_of}
-use Rattle.spv_ops.specs.Typed.{Holds, Typed, IsTypedIn}
-use Rattle.spv_ops.proofs.Walks.{walk_decides}
-use Rattle.spv_ops.proofs.Choices.{choices_decide}
+use Rattle.spv_type_forms.specs.Values.{types_of}
+use Rattle.spv_ops.specs.Values.{values_of}
+use Rattle.spv_ops.specs.Typed.{RowHolds, Typed}
+use Rattle.spv_ops.specs.inner.Typed.{IsTypedIn}
+use Rattle.spv_type_forms.proofs.Walks.{walk_decides}
+use Rattle.spv_type_forms.proofs.Choices.{choices_decide}
 use Rattle.spv_verdict.proofs.Decided.{Decided, anew, both, three, four, either, opposite, some_and, pinned, number_same, numbers_same, all_or_not, is_true}
 use Rattle.spv_verdict.proofs.Standing.{global_section_or_not, function_or_none, global_or_not, less_or_not}
 
@@ -414,7 +417,7 @@ shuffled is r o p ks = elim (vector_or_not (form_of is o)) [
   ]
 ]
 
-extracted : (is : List PlainInst) (o r : ℕ) (ks : List ℕ) → Decided (AreWithin is o ks × Reaches is o ks r)
+extracted : (is : List PlainInst) (o r : ℕ) (ks : List ℕ) → Decided (AreWithin is o ks × ReachesType is o ks r)
 extracted is o r ks = anew (λ e. (walk_decides is ks o r).0 e) (λ h. (walk_decides is ks o r).1 h)
     (number_same (walk is ks o) (Some r))
 
@@ -463,8 +466,8 @@ leads_or_not is r o xs = elim (pointer_or_not (form_of is o)) [
         let ef : l.from ≡ f.1 = cc in
         let gc : l.class ≡ g.0 = cc in
         let et : l.to ≡ g.1 = cc in
-        let leads : Leads is f.1 xs l.to = subst (λ (t : ℕ). Leads is t xs l.to) ef l.leads in
-        (sym gc ∙ ec, (choices_decide is xs f.1 g.1).1 (subst (λ (u : ℕ). Leads is f.1 xs u) et leads))))
+        let leads : LeadsToType is f.1 xs l.to = subst (λ (t : ℕ). LeadsToType is t xs l.to) ef l.leads in
+        (sym gc ∙ ec, (choices_decide is xs f.1 g.1).1 (subst (λ (u : ℕ). LeadsToType is f.1 xs u) et leads))))
         (both (cases_eq g.0 f.0) (number_same (choices is xs f.1) (Some g.1)))
   ]
 ]
@@ -492,7 +495,7 @@ initializer_or_not is x = either
     (some_and (definition_of is x) (λ d. IsTrue (is_constant_opcode d.opcode))
     (λ d. is_true (is_constant_opcode d.opcode))) (global_or_not is x)
 
-declares : (is : List PlainInst) (n r : ℕ) (os : List Plain) (types : List ℕ) → Decided (Declares is n r os types)
+declares : (is : List PlainInst) (n r : ℕ) (os : List Plain) (types : List ℕ) → Decided (DeclaresVariable is n r os types)
 declares is n r (Value k class ∷ os) types = four (number_same (class_in (form_of is r)) (Some class))
     (class_at is n class) (all_or_not (IsInitializer is) (initializer_or_not is) (ids_in os))
     (all_or_not (PointsTo is r) (points_or_not is r) types)
@@ -501,7 +504,7 @@ declares is n r _ types = inr (λ h. h)
 -- all rows
 
 holds_or_not : (is : List PlainInst) (n : ℕ) (i : PlainInst) (w : Row) (r : Option ℕ) (types : List ℕ)
-    → Decided (Holds is n i w r types)
+    → Decided (RowHolds is n i w r types)
 holds_or_not is n i Free r types = inl tt
 holds_or_not is n i Undef (Some r) types = data_or_not is r
 holds_or_not is n i Variable (Some r) types = declares is n r (after_head i.operands) types

@@ -10,24 +10,23 @@ use Rattle.spv_module.specs.declared.fault.Rule.{Rule}
 use Rattle.spv_module.specs.declared.fault.Rule.TheVariants as rule
 use Rattle.spv_layout.specs.declared.form.Role.{Role}
 use Rattle.spv_layout.specs.declared.form.Role.TheVariants as role
-use Rattle.spv_layout.specs.Shape.{Fits}
+use Rattle.spv_layout.specs.Shape.{FitsShape}
 use Rattle.spv_layout.proofs.Places.{function_same}
 use Rattle.spv_ids.specs.Definition.{IsDefinedAt}
-use Rattle.spv_ops.specs.declared.form.Form.TheVariants as form
-use Rattle.spv_ops.specs.Form.{form_in, form_of}
-use Rattle.spv_ops.specs.Types.{scalar_in, class_in, IsSomeInt, IsData}
-use Rattle.spv_ops.specs.Parts.{length_of}
-use Rattle.spv_ops.specs.Operands.{ids_in, after_head}
-use Rattle.spv_ops.specs.Composite.{AreParts}
-use Rattle.spv_ops.specs.Values.{types_of}
+use Rattle.spv_type_forms.specs.declared.form.Form.TheVariants as form
+use Rattle.spv_type_forms.specs.Form.{form_in, form_of}
+use Rattle.spv_type_forms.specs.Types.{scalar_in, class_in, IsSomeInt, IsData}
+use Rattle.spv_type_forms.specs.Parts.{length_of, AreParts}
+use Rattle.spv_type_forms.specs.Operands.{ids_in, after_head}
+use Rattle.spv_type_forms.specs.Values.{types_of}
 use Rattle.spv_ops.specs.Typed.{IsTyped}
 use Rattle.spv_ops.proofs.Judged.{told}
-use Rattle.spv_roles.specs.Role.{IsTypeDeclaration, IsValue, HasOpcode, Plays}
+use Rattle.spv_roles.specs.Role.{IsTypeDeclaration, IsValue, IsOfOpcode, Plays}
 use Rattle.spv_type_rules.specs.declared.declaration.Declaration.{Declaration}
 use Rattle.spv_type_rules.specs.declared.declaration.Declaration.TheVariants.{Int, Float, Vector, Array, Struct, Pointer, Function, Forward}
 use Rattle.spv_type_rules.specs.declared.constant.Constant.{Constant}
 use Rattle.spv_type_rules.specs.declared.constant.Constant.TheVariants as constant
-use Rattle.spv_type_rules.specs.Declaration.{declaration_of, IsIntWidth, IsFloatWidth, IsVectorCount, IsLength, IsPointerAfter, Declares, IsSoundDeclaration}
+use Rattle.spv_type_rules.specs.Declaration.{declaration_of, IsIntWidth, IsFloatWidth, IsVectorCount, IsLength, IsPointerAfter, DeclaresSoundly, IsSoundDeclaration}
 use Rattle.spv_type_rules.specs.Constant.{constant_of, is_part_opcode, IsPart, FitsWidth, AreConstantParts, Constitutes, IsSoundConstant}
 use Rattle.spv_type_rules.specs.Function.{signature_of, parameters_after, ReturnsAfter, parameters_between, parameter_type_of, OfFunction, ReturnsNothing, ReturnsTyped, CallsTyped, CallsSoundly}
 use Rattle.spv_type_rules.specs.Keeps.{KeepsFunctions, KeepsReturns, CallsAreSound, Keeps}
@@ -46,9 +45,9 @@ plays_or_not is role.OfType x = some_and (definition_of is x) IsTypeDeclaration
     (λ d. both (least_or_not 19 d.opcode) (least_or_not d.opcode 33))
 plays_or_not is role.Value x = some_and (definition_of is x) IsValue
     (λ d. both (some_or_not (type_in d.operands)) (opposite (cases_eq d.opcode 54)))
-plays_or_not is role.Function x = some_and (definition_of is x) (HasOpcode 54) (λ d. cases_eq d.opcode 54)
-plays_or_not is role.Text x = some_and (definition_of is x) (HasOpcode 7) (λ d. cases_eq d.opcode 7)
-plays_or_not is role.Set x = some_and (definition_of is x) (HasOpcode 11) (λ d. cases_eq d.opcode 11)
+plays_or_not is role.Function x = some_and (definition_of is x) (IsOfOpcode 54) (λ d. cases_eq d.opcode 54)
+plays_or_not is role.Text x = some_and (definition_of is x) (IsOfOpcode 7) (λ d. cases_eq d.opcode 7)
+plays_or_not is role.Set x = some_and (definition_of is x) (IsOfOpcode 11) (λ d. cases_eq d.opcode 11)
 plays_or_not is role.Global x = global_or_not is x
 plays_or_not is role.Label x = inl tt
 plays_or_not is role.Any x = inl tt
@@ -99,7 +98,7 @@ pointer_after is n t class = anew
     (p.place, (d, record { after = p.after; inst = d.inst; there = d.there; pointer = p.pointer }))))
     (defined_with is t (IsAfter is n class) (after_or_not is n class))
 
-declares : (is : List PlainInst) (n : ℕ) (d : Declaration) (os : List Plain) → Decided (Declares is n d os)
+declares : (is : List PlainInst) (n : ℕ) (d : Declaration) (os : List Plain) → Decided (DeclaresSoundly is n d os)
 declares is n Int (Result t ∷ Word w ∷ Word s ∷ []) = both (int_width w) (cases_eq s 0)
 declares is n Float (Result t ∷ Word w ∷ []) = float_width w
 declares is n Vector (Result t ∷ Id c ∷ Word k ∷ []) = some_and (scalar_in (form_of is c)) (λ s. IsVectorCount k)
@@ -113,7 +112,7 @@ declares is n Forward (Id p ∷ Value k class ∷ []) = pointer_after is n p cla
 declares is n _ os = inr (λ h. h)
 
 declaration_or_not : (is : List PlainInst) (n : ℕ) (i : PlainInst) → Decided (IsSoundDeclaration is n i)
-declaration_or_not is n i = matched (declaration_of i.opcode) (Unit {0}) (λ d. Declares is n d i.operands) (inl tt)
+declaration_or_not is n i = matched (declaration_of i.opcode) (Unit {0}) (λ d. DeclaresSoundly is n d i.operands) (inl tt)
     (λ d. declares is n d i.operands)
 
 -- Y4
@@ -232,7 +231,7 @@ calls_or_not is i = given (cases_eq i.opcode 57)
 
 -- Y5, of an instruction that fits its shape
 
-typed : (G : Table) (is : List PlainInst) (n : ℕ) (i : PlainInst) → slice_get is n ≡ Some i → Fits G i
+typed : (G : Table) (is : List PlainInst) (n : ℕ) (i : PlainInst) → slice_get is n ≡ Some i → FitsShape G i
     → Decided (IsTyped G is n i)
 typed G is n i at fits = anew
     (λ h. (
@@ -243,7 +242,7 @@ typed G is n i at fits = anew
 
 -- what is demanded holds, where it cannot be that it does not
 
-pub keeps : (G : Table) (is : List PlainInst) (r : Rule) (n : ℕ) (i : PlainInst) → slice_get is n ≡ Some i → Fits G i
+pub keeps : (G : Table) (is : List PlainInst) (r : Rule) (n : ℕ) (i : PlainInst) → slice_get is n ≡ Some i → FitsShape G i
     → ¬ (¬ (Keeps G is r n i)) → Keeps G is r n i
 keeps G is rule.Y2 n i at fits h = held (declaration_or_not is n i) h
 keeps G is rule.Y3 n i at fits h = λ r. h (λ k. k r)

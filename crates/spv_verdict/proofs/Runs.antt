@@ -4,9 +4,9 @@ use Rattle.spv_table.specs.Table.{Table}
 use Rattle.spv_module.specs.Operand.{PlainInst}
 use Rattle.spv_ids.specs.declared.ids.Ids.{Ids}
 use Rattle.spv_ids.specs.Outcome.{AreIds}
-use Rattle.spv_calls.specs.Found.{AreNumbered}
+use Rattle.spv_ids.specs.Outcome.{AreNumbered}
 use Rattle.spv_run.specs.Entry.{IsTraced}
-use Rattle.spv_run.specs.Sound.{IsSound}
+use Rattle.spv_run.specs.Sound.{KeepsRules}
 use Rattle.spv_run.specs.Run.{IsStart, Run}
 use Rattle.spv_run.specs.State.{State, Stuck}
 use Rattle.spv_run.specs.Trace.{ending_of}
@@ -24,7 +24,7 @@ use Rattle.spv_verdict.specs.Program.{Program}
 use Rattle.spv_verdict.specs.Run.{IsRunOf, IsTraceOf}
 
 -- what a run rests on is kept
-pub sound_run : (G : Table) (p : Program) → IsKept G p → IsSound G p.bound p.insts
+pub sound_run : (G : Table) (p : Program) → IsKept G p → KeepsRules G p.bound p.insts
 sound_run G p k = record {
   fits = k.fits;
   layout = k.layout;

@@ -13,7 +13,7 @@ use Rattle.spv_layout.proofs.Places.{last_same, function_same}
 use Rattle.spv_layout.proofs.Spans.{at_moved}
 use Rattle.spv_ids.specs.Definition.{IsDefinedAt}
 use Rattle.spv_ids.specs.Order.{HasOpcode}
-use Rattle.spv_ops.specs.Variable.{IsGlobal}
+use Rattle.spv_type_forms.specs.Definitions.{IsGlobal}
 use Rattle.spv_verdict.proofs.Decided.{Decided, anew, both, some_and, pinned, number_same, is_true, given, opposite, somewhere, all_below}
 
 pub at_or_not : (is : List PlainInst) (n : ℕ) (cs : List Class) → Decided (IsAt is n cs)

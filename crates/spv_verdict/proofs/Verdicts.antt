@@ -1,24 +1,24 @@
 -- Bytes have one verdict line, and what was read has it.
 use Rattle.std.proofs.Common.{◌≡◌, ◌⊎◌, ◌↔◌, ◌+◌, ◌-◌, ◌≤◌, ℕ, List, Option, Some, None, Result, Err, IfSome, IfOk, IfErr, IsErrOf, IsTrue, Bool, ◌++◌, ◌∙◌, length, take, drop, slice_index, ap, refl, sym, subst, inl, inr, arith}
-use Rattle.spv_words.specs.Header.{IsFirstBroken, IsModule, Refuses}
+use Rattle.spv_words.specs.Header.{IsFirstBroken, IsModule, RefusesBytes}
 use Rattle.spv_words.specs.declared.words.Order.{Order}
 use Rattle.spv_words.specs.declared.words.WordError.{WordError}
 use Rattle.spv_words.specs.declared.words.WordError.TheVariants as word
 use Rattle.spv_table.specs.Table.{Table}
 use Rattle.spv_module.specs.Operand.{PlainInst}
 use Rattle.spv_module.specs.Instruction.{IsListing}
-use Rattle.spv_module.specs.Dead.{IsDeadAt}
+use Rattle.spv_module.specs.Malformed.{IsMalformedAt}
 use Rattle.spv_module.specs.declared.fault.Rule.{Rule}
 use Rattle.spv_module.specs.declared.fault.Fault.{Fault}
 use Rattle.spv_layout.specs.Place.{first_word_of}
-use Rattle.spv_verdict.specs.Broken.{IsFirst, IsSound}
+use Rattle.spv_verdict.specs.Broken.{IsFirstOfAll, IsSound}
 use Rattle.spv_verdict.specs.Answer.{IsFault}
 use Rattle.spv_verdict.specs.Checked.{IsChecked}
 use Rattle.spv_verdict.specs.Program.{Program}
 use Rattle.spv_verdict.specs.Valid.{IsValid}
 use Rattle.spv_verdict.specs.Verdict.{IsVerdict, refused, valid, unsound, dead, refused_line, valid_line, fault_line}
 use Rattle.std.specs.Io.KnownBytes.{Appends}
-use Rattle.spv_verdict.specs.Stream.{Begins, Tells}
+use Rattle.spv_verdict.specs.Stream.{Begins, TellsVerdict}
 use Rattle.spv_verdict.specs.declared.verdict_line.Judgment.{Judgment}
 use Rattle.spv_verdict.specs.declared.verdict_line.Judgment.TheVariants.{Refused, Broken}
 use Rattle.spv_verdict.specs.Text.{line_of, refusal_of}
@@ -29,8 +29,8 @@ pub record Laws : Type 0 where
   pub words : (o p : Order) (bs ws vs : List ℕ) → IsModule o bs ws → IsModule p bs vs → (o ≡ p) × (ws ≡ vs)
   pub once : (d e : WordError) (bs : List ℕ) → IsFirstBroken d bs → IsFirstBroken e bs → d ≡ e
   pub never : (e : WordError) (o : Order) (bs ws : List ℕ) → IsModule o bs ws → ¬ IsFirstBroken e bs
-  pub death : (G : Table) (ws : List ℕ) (a b : Rule) (k l n m : ℕ) → IsDeadAt G ws a k n → IsDeadAt G ws b l m → (a ≡ b) × (k ≡ l) × (n ≡ m)
-  pub alive : (G : Table) (is : List PlainInst) (ws : List ℕ) (a : Rule) (k n : ℕ) → IsListing G is ws → ¬ (IsDeadAt G ws a k n)
+  pub death : (G : Table) (ws : List ℕ) (a b : Rule) (k l n m : ℕ) → IsMalformedAt G ws a k n → IsMalformedAt G ws b l m → (a ≡ b) × (k ≡ l) × (n ≡ m)
+  pub alive : (G : Table) (is : List PlainInst) (ws : List ℕ) (a : Rule) (k n : ℕ) → IsListing G is ws → ¬ (IsMalformedAt G ws a k n)
   pub list : (G : Table) (is js : List PlainInst) (ws : List ℕ) → IsListing G is ws → IsListing G js ws → is ≡ js
 
 -- bytes that are words of two modules
@@ -45,18 +45,18 @@ same_module laws G bytes ws vs o p is js h g l k =
     record { words = sym same; insts = laws.list G is js (drop 5 ws) l (rw same at k) }
 
 -- no rule is broken, and one is the first
-not_both : (G : Table) (ws vs : List ℕ) (is js : List PlainInst) (r : Rule) (n : ℕ) → SameModule ws vs is js → IsSound G (slice_index ws 3) is → IsFirst G (slice_index vs 3) js r n → ⊥
+not_both : (G : Table) (ws vs : List ℕ) (is js : List PlainInst) (r : Rule) (n : ℕ) → SameModule ws vs is js → IsSound G (slice_index ws 3) is → IsFirstOfAll G (slice_index vs 3) js r n → ⊥
 not_both G ws vs is js r n same sound first = let s : IsSound G (slice_index vs 3) js = rw (same.words, same.insts) at sound in s r n first.broken
 
-same_fault : (G : Table) (ws vs : List ℕ) (is js : List PlainInst) (q r : Rule) (m n : ℕ) → SameModule ws vs is js → IsFirst G (slice_index ws 3) is q m → IsFirst G (slice_index vs 3) js r n
+same_fault : (G : Table) (ws vs : List ℕ) (is js : List PlainInst) (q r : Rule) (m n : ℕ) → SameModule ws vs is js → IsFirstOfAll G (slice_index ws 3) is q m → IsFirstOfAll G (slice_index vs 3) js r n
     → fault_line q m (first_word_of is m) ≡ fault_line r n (first_word_of js n)
 same_fault G ws vs is js q r m n same f g =
-    let f' : IsFirst G (slice_index vs 3) js q m = rw (same.words, same.insts) at f in
+    let f' : IsFirstOfAll G (slice_index vs 3) js q m = rw (same.words, same.insts) at f in
     let one = one_first G (slice_index vs 3) js q r m n f' g in
     rw (one.rule, one.inst, same.insts) refl
 
 pub dead_list : Laws → (G : Table) (bytes ws vs : List ℕ) (o p : Order) (is : List PlainInst) (r : Rule) (i n : ℕ) → IsModule o bytes ws → IsModule p bytes vs
-    → IsListing G is (drop 5 ws) → IsDeadAt G (drop 5 vs) r i n → ⊥
+    → IsListing G is (drop 5 ws) → IsMalformedAt G (drop 5 vs) r i n → ⊥
 dead_list laws G bytes ws vs o p is r i n h g l d =
     let same : vs ≡ ws = (laws.words p o bytes vs ws g h).1 in
     laws.alive G is (drop 5 ws) r i n l (rw same at d)
@@ -89,7 +89,7 @@ one_verdict_line = one_line
 
 -- a code that was read
 pub refused_bytes : (G : Table) (known : Option (List ℕ)) (code : WordError)
-    → IfSome known (λ xs. Refuses code xs) → IfSome known (λ xs. IfOk (refusal_of code) (λ v. IsVerdict G xs (line_of v)))
+    → IfSome known (λ xs. RefusesBytes code xs) → IfSome known (λ xs. IfOk (refusal_of code) (λ v. IsVerdict G xs (line_of v)))
 refused_bytes G None code h = tt
 refused_bytes G (Some xs) word.W1 h = tt
 refused_bytes G (Some xs) word.W9 h = tt
@@ -155,7 +155,7 @@ fault_is_not_valid broken inst at e = differ 102 118 refl refl (ap (λ (l : List
 
 -- the line was written whole
 pub tells : (G : Table) (known kept new : Option (List ℕ)) (v : Judgment) (bytes : List ℕ) (answer : Bool) → IfSome known (λ bs. IsVerdict G bs (line_of v)) → bytes ≡ line_of v
-    → Appends kept new bytes → (IsTrue answer ↔ (line_of v ≡ valid_line)) → IfSome known (λ bs. IfSome kept (λ old. Tells G bs old new answer))
+    → Appends kept new bytes → (IsTrue answer ↔ (line_of v ≡ valid_line)) → IfSome known (λ bs. IfSome kept (λ old. TellsVerdict G bs old new answer))
 tells G None kept new v bytes answer h e w a = tt
 tells G (Some bs) None new v bytes answer h e w a = tt
 tells G (Some bs) (Some old) None v bytes answer h e w a = absurd w
@@ -199,7 +199,7 @@ one_fault laws G words f g (IsFault.dead l d) (IsFault.broken is k first e) = ab
 one_fault laws G words f g (IsFault.broken is k first e) (IsFault.dead l d) = absurd (laws.alive G is (drop 5 words) g.rule g.inst (g.word - 5) k d)
 one_fault laws G words f g (IsFault.broken is k p e) (IsFault.broken js l q h) =
     let same : is ≡ js = laws.list G is js (drop 5 words) k l in
-    let p' : IsFirst G (slice_index words 3) js f.rule f.inst = rw same at p in
+    let p' : IsFirstOfAll G (slice_index words 3) js f.rule f.inst = rw same at p in
     let one = one_first G (slice_index words 3) js f.rule g.rule f.inst g.inst p' q in
     record { rule = one.rule; inst = one.inst; word = e ∙ rw (same, one.inst) (sym h) }
 
@@ -208,6 +208,6 @@ pub never_both : Laws → (G : Table) (words : List ℕ) (f : Fault) (p : Progra
 never_both laws G words f p (IsFault.dead l d) c = laws.alive G p.insts (drop 5 words) f.rule f.inst (f.word - 5) c.listing d
 never_both laws G words f p (IsFault.broken is k first e) c =
     let same : is ≡ p.insts = laws.list G is p.insts (drop 5 words) k c.listing in
-    let first' : IsFirst G (slice_index words 3) p.insts f.rule f.inst = rw same at first in
+    let first' : IsFirstOfAll G (slice_index words 3) p.insts f.rule f.inst = rw same at first in
     let s : IsSound G (slice_index words 3) p.insts = rw c.bound at c.sound in
     s f.rule f.inst first'.broken

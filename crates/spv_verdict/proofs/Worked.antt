@@ -15,16 +15,16 @@ use Rattle.spv_layout.proofs.Layouts.{leads_begin, leads_first, leads_no_end}
 use Rattle.spv_layout.proofs.Misfits.{fit_unbroken}
 use Rattle.std.specs.Prelude.{slice_get}
 use Rattle.std.proofs.lemmas.Option.{slice_get_within}
-use Rattle.spv_verdict.specs.Broken.{IsFirst}
+use Rattle.spv_verdict.specs.Broken.{IsFirstOfAll}
 use Rattle.spv_verdict.proofs.Firsts.{layout_first}
-use Rattle.spv_verdict.specs.Stream.{Begins, Tells}
+use Rattle.spv_verdict.specs.Stream.{Begins, TellsVerdict}
 use Rattle.spv_verdict.specs.Verdict.{IsVerdict, refused, unsound, fault_line, line_end, refused_line, valid_line}
 use Rattle.spv_verdict.proofs.Verdicts.{refused_is_not_valid}
 
 pub short_bytes : (G : Table) → IsFirstBroken W2 (1 ∷ 2 ∷ 3 ∷ []) → IsVerdict G (1 ∷ 2 ∷ 3 ∷ []) (codes "fault W2" ++ line_end)
 short_bytes G h = refused W2 h
 
-pub short_told : (G : Table) → IsFirstBroken W2 (1 ∷ 2 ∷ 3 ∷ []) → Tells G (1 ∷ 2 ∷ 3 ∷ []) (9 ∷ []) (Some (9 ∷ codes "fault W2" ++ line_end)) false
+pub short_told : (G : Table) → IsFirstBroken W2 (1 ∷ 2 ∷ 3 ∷ []) → TellsVerdict G (1 ∷ 2 ∷ 3 ∷ []) (9 ∷ []) (Some (9 ∷ codes "fault W2" ++ line_end)) false
 short_told G h = record { line = refused_line W2; verdict = refused W2 h; written = refl; answered = (λ b. cc, λ e. absurd (refused_is_not_valid W2 e)) }
 
 pub short_begun : (G : Table) → IsFirstBroken W2 (1 ∷ 2 ∷ 3 ∷ []) → Begins G (1 ∷ 2 ∷ 3 ∷ []) (9 ∷ []) (Some (9 ∷ codes "fault"))
@@ -41,7 +41,7 @@ no_instructions = IsDeadPlace.unfinished [] (leads_begin [] at.Capabilities lead
 none_there : (n : ℕ) (i : PlainInst) → ¬ (slice_get [] n ≡ Some i)
 none_there n i h = let l = slice_get_within [] n i h in absurd (omega arith)
 
-unfinished_first : (G : Table) (bound : ℕ) → IsFirst G bound [] L2 0
+unfinished_first : (G : Table) (bound : ℕ) → IsFirstOfAll G bound [] L2 0
 unfinished_first G bound = layout_first G bound [] L2 0 (fit_unbroken G [] (λ n i h. absurd (none_there n i h))) (dead_first G [] L2 0 no_instructions)
 
 pub header_alone : (G : Table) (bytes : List ℕ) → IsModule Big bytes (119734787 ∷ 67072 ∷ 7 ∷ 5 ∷ 0 ∷ []) → IsVerdict G bytes (fault_line L2 0 5)

@@ -13,7 +13,7 @@ use Rattle.spv_types.specs.Broken as types
 use Rattle.spv_branches.specs.Broken as flow
 use Rattle.spv_calls.specs.Broken as calls
 
--- Under the bound of ids, the rule is broken at the instruction of that number.
+-- Under the bound of ids, the rule is broken at the instruction of that number. [own]
 pub data Broken (G : Table) (bound : ℕ) (is : List PlainInst) : Rule → ℕ → Type 0 where
   -- a rule of the profile or of the layout
   of_layout : (r : Rule) (n : ℕ) → layout.Broken G is r n → Broken G bound is r n
@@ -26,23 +26,23 @@ pub data Broken (G : Table) (bound : ℕ) (is : List PlainInst) : Rule → ℕ �
   -- the rule on cycles of calls
   of_calls : (r : Rule) (n : ℕ) → calls.Broken is r n → Broken G bound is r n
 
--- A rule at instruction n is told before, or is, another at instruction m: that of an earlier stage, and within a stage that
--- at a lower instruction, and at one instruction that which comes first in the order of rules.
+-- A rule at instruction n is told before, or is, another at instruction m: that of an earlier stage, and within a stage
+-- that at a lower instruction, and at one instruction that which comes first in the order of rules. [own]
 pub data Precedes (r : Rule) (n : ℕ) (q : Rule) (m : ℕ) : Type 0 where
   stage : stage_of r < stage_of q → Precedes r n q m
   instruction : stage_of r ≡ stage_of q → n < m → Precedes r n q m
   rule : stage_of r ≡ stage_of q → n ≡ m → rank_of r ≤ rank_of q → Precedes r n q m
 
--- Of all broken rules, this one at this instruction is told.
-pub record IsFirst (G : Table) (bound : ℕ) (is : List PlainInst) (r : Rule) (n : ℕ) : Type 0 where
+-- Of all broken rules, this one at this instruction is told. [own]
+pub record IsFirstOfAll (G : Table) (bound : ℕ) (is : List PlainInst) (r : Rule) (n : ℕ) : Type 0 where
   pub broken : Broken G bound is r n
   pub least : (q : Rule) (m : ℕ) → Broken G bound is q m → Precedes r n q m
 
--- No rule is broken.
+-- No rule is broken. [own]
 abbrev pub IsSound : Table → ℕ → List PlainInst → Type 0
 IsSound G bound is = (r : Rule) (n : ℕ) → ¬ (Broken G bound is r n)
 
 -- What a refusal says: want of memory, or the first broken rule with its instruction and the first word of that.
 abbrev pub IsTold : Table → ℕ → List PlainInst → Stop → Type 0
 IsTold G bound is Memory = Unit {0}
-IsTold G bound is (Fault f) = IsFirst G bound is f.rule f.inst × (f.word ≡ first_word_of is f.inst)
+IsTold G bound is (Fault f) = IsFirstOfAll G bound is f.rule f.inst × (f.word ≡ first_word_of is f.inst)

@@ -10,7 +10,7 @@ use Rattle.spv_layout.specs.First.{IsUnbroken}
 use Rattle.spv_layout.specs.Layout.{IsLayout, classes}
 use Rattle.spv_layout.specs.Place.{word_count}
 use Rattle.spv_layout.specs.Plan.{IsPlan}
-use Rattle.spv_layout.specs.Shape.{Fits}
+use Rattle.spv_layout.specs.Shape.{FitsShape}
 use Rattle.spv_layout.specs.declared.place.Place.{Place}
 use Rattle.spv_ids.specs.Broken as id_rules
 use Rattle.spv_ids.specs.Outcome.{AreIds}
@@ -26,19 +26,21 @@ use Rattle.spv_flow.specs.declared.flow.Flow.{Flow}
 use Rattle.spv_verdict.specs.Broken.{IsSound}
 use Rattle.spv_verdict.specs.Program.{Program}
 
--- All that the layers demand of a module is kept under the table.
+-- All that the layers demand of a module is kept under the table. [own]
 pub record IsKept (G : Table) (p : Program) : Type 0 where
   -- it has few enough words
   pub few : 5 + sum_by word_count p.insts ≤ 4194304
   -- each instruction fits its row, and all together are laid out as a module
-  pub fits : (n : ℕ) (i : PlainInst) → slice_get p.insts n ≡ Some i → Fits G i
+  pub fits : (n : ℕ) (i : PlainInst) → slice_get p.insts n ≡ Some i → FitsShape G i
   pub layout : IsLayout (classes p.insts)
   -- D
   pub ids : IsUnbroken (id_rules.Broken G p.bound p.insts) 3
   -- Y1; C, M and E; and the other rules Y
   pub roles : AreInRole G p.insts
-  pub capabilities : (r : Rule) (n : ℕ) (i : PlainInst) → slice_get p.insts n ≡ Some i → capability_rules.Keeps G p.insts r n i
-  pub rules : (r : Rule) (n : ℕ) (i : PlainInst) → slice_get p.insts n ≡ Some i → typing_rules.Keeps G p.insts r n i
+  pub capabilities : (r : Rule) (n : ℕ) (i : PlainInst) → slice_get p.insts n ≡ Some i
+      → capability_rules.Keeps G p.insts r n i
+  pub rules : (r : Rule) (n : ℕ) (i : PlainInst) → slice_get p.insts n ≡ Some i
+      → typing_rules.Keeps G p.insts r n i
   pub types : IsUnbroken (type_rules.Broken G p.insts) 4 × IsUnbroken (type_rules.Broken G p.insts) 5
   -- F, A and G
   pub branches : IsUnbroken (flow_rules.Broken G p.insts) 6
@@ -46,7 +48,8 @@ pub record IsKept (G : Table) (p : Program) : Type 0 where
   pub calls : IsUnbroken (call_rules.Broken p.insts) 8
 
 -- The module is that one, and the places, ids and flow are its own.
-pub record AreParts (G : Table) (p : Program) (m : Module) (places : List Place) (ids : Ids) (flow : Flow) : Type 0 where
+pub record AreParts (G : Table) (p : Program) (m : Module) (places : List Place) (ids : Ids)
+    (flow : Flow) : Type 0 where
   pub bound : m.header.bound ≡ p.bound
   pub insts : plain_insts m ≡ p.insts
   pub kept : IsKept G p
@@ -54,7 +57,7 @@ pub record AreParts (G : Table) (p : Program) (m : Module) (places : List Place)
   pub numbered : AreIds G p.bound p.insts ids
   pub flowing : IsFlow G p.insts flow
 
--- The module is the one list of the words, with the bound that word 3 is, and valid under the table.
+-- The module is the one list of the words, with the bound that word 3 is, and valid under the table. [own]
 pub record IsChecked (G : Table) (words : List ℕ) (p : Program) : Type 0 where
   pub listing : IsListing G p.insts (drop 5 words)
   pub bound : p.bound ≡ slice_index words 3

@@ -37,7 +37,8 @@ kernel_bytes = octets_of kernel_words
 abbrev pub place_at : ℕ → Option ℕ → Option ℕ → ℕ → Place
 place_at section function block word = record { section = section; function = function; block = block; word = word }
 
--- Sections 1, 4 and 5; 9, as 11; and 11, as 13, in the function of instruction 6 and, up to the OpReturn, the block of instruction 7.
+-- Sections 1, 4 and 5; 9, as 11; and 11, as 13, in the function of instruction 6 and, up to the OpReturn, the block of
+-- instruction 7.
 abbrev pub kernel_places : List Place
 kernel_places =
     place_at 1 None None 5 ∷

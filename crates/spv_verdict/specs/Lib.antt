@@ -4,6 +4,7 @@ pub mod Checked
 pub mod Example
 pub mod Program
 pub mod Run
+pub mod Outcome
 pub mod Stream
 pub mod Text
 pub mod Valid

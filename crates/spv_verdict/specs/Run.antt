@@ -9,7 +9,8 @@ use Rattle.spv_run.specs.declared.parts.Trace.{Trace}
 use Rattle.spv_verdict.specs.Checked.{IsKept}
 use Rattle.spv_verdict.specs.Program.{Program}
 
--- The id is an entry point's function, and the trace is of its run from the choices in at most `limit` steps, under the table.
+-- The id is an entry point's function, and the trace is of its run from the choices in at most `limit` steps, under the
+-- table.
 pub record IsRunOf (G : Table) (p : Program) (x : ℕ) (choices : List ℕ) (limit : ℕ) (t : Trace) : Type 0 where
   pub entry : IsEntryId p.insts x
   pub function : ℕ

@@ -1,17 +1,20 @@
 -- What a check of a stream leaves in the writer. (Own.)
-use Rattle.std.specs.Prelude.{◌≡◌, ◌↔◌, ◌≤◌, ◌++◌, ℕ, List, Option, Some, IsTrue, Bool, length, take}
+use Rattle.std.specs.Prelude.{◌≡◌, ◌↔◌, ◌≤◌, ◌++◌, ℕ, List, Option, Some, IsTrue, Bool, length}
+use Rattle.std.specs.Prelude.{take}
 use Rattle.spv_table.specs.Table.{Table}
 use Rattle.spv_verdict.specs.Verdict.{IsVerdict, valid_line}
 
 -- A writer that held the bytes `old` now also holds the verdict line of the bytes, and nothing else; the answer tells
--- whether the line is `valid`.
-pub record Tells (G : Table) (bytes : List ℕ) (old : List ℕ) (new : Option (List ℕ)) (answer : Bool) : Type 0 where
+-- whether the line is `valid`. [own]
+pub record TellsVerdict (G : Table) (bytes : List ℕ) (old : List ℕ) (new : Option (List ℕ))
+    (answer : Bool) : Type 0 where
   pub line : List ℕ
   pub verdict : IsVerdict G bytes line
   pub written : new ≡ Some (old ++ line)
   pub answered : IsTrue answer ↔ (line ≡ valid_line)
 
 -- A writer that held the bytes `old` now also holds a beginning of the verdict line of the bytes, and nothing else.
+-- [own]
 pub record Begins (G : Table) (bytes : List ℕ) (old : List ℕ) (new : Option (List ℕ)) : Type 0 where
   pub line : List ℕ
   pub verdict : IsVerdict G bytes line

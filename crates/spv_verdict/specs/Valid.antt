@@ -7,8 +7,8 @@ use Rattle.spv_module.specs.Operand.{PlainInst}
 use Rattle.spv_module.specs.Instruction.{IsListing}
 use Rattle.spv_verdict.specs.Broken.{IsSound}
 
--- The bytes stand, in an order, for words with a good header; from word 5 on these are the joined spellings of a list of
--- instructions, under the grammar table; and the list breaks no rule, under the bound that word 3 is.
+-- The bytes stand, in an order, for words with a good header; from word 5 on these are the joined spellings of a list
+-- of instructions, under the grammar table; and the list breaks no rule, under the bound that word 3 is. [own]
 pub record IsValid (G : Table) (bytes : List ℕ) : Type 0 where
   pub words : List ℕ
   pub order : Order

@@ -7,14 +7,14 @@ use Rattle.spv_words.specs.declared.words.WordError.TheVariants as word
 use Rattle.spv_table.specs.Table.{Table}
 use Rattle.spv_module.specs.Operand.{PlainInst}
 use Rattle.spv_module.specs.Instruction.{IsListing}
-use Rattle.spv_module.specs.Dead.{IsDeadAt}
+use Rattle.spv_module.specs.Malformed.{IsMalformedAt}
 use Rattle.spv_module.specs.declared.fault.Rule.{Rule}
 use Rattle.spv_layout.specs.Place.{first_word_of}
-use Rattle.spv_verdict.specs.Broken.{IsFirst}
+use Rattle.spv_verdict.specs.Broken.{IsFirstOfAll}
 use Rattle.spv_verdict.specs.Valid.{IsValid}
 use Rattle.spv_module.specs.declared.fault.Rule.TheVariants as rule
 
--- the code of a rule on words, as text
+-- the code of a rule on words, as text [own]
 abbrev pub code_text : WordError → List ℕ
 code_text word.W1 = codes "W1"
 code_text word.W2 = codes "W2"
@@ -26,7 +26,7 @@ code_text word.W7 = codes "W7"
 code_text word.W8 = codes "W8"
 code_text word.W9 = codes "W9"
 
--- the code of any other rule, as text
+-- the code of any other rule, as text [own]
 abbrev pub rule_text : Rule → List ℕ
 rule_text rule.I1 = codes "I1"
 rule_text rule.I2 = codes "I2"
@@ -69,33 +69,35 @@ rule_text rule.A1 = codes "A1"
 rule_text rule.A2 = codes "A2"
 rule_text rule.G1 = codes "G1"
 
--- a line feed ends the line
+-- a line feed ends the line [own]
 abbrev pub line_end : List ℕ
 line_end = 10 ∷ []
 
--- `valid`
+-- `valid` [own]
 abbrev pub valid_line : List ℕ
 valid_line = codes "valid" ++ line_end
 
--- `fault W4`, as an example
+-- `fault W4`, as an example [own]
 abbrev pub refused_line : WordError → List ℕ
 refused_line code = codes "fault " ++ code_text code ++ line_end
 
--- `fault I7 inst 0 word 9`, as an example: instructions and words are counted from 0, words in the whole module
+-- `fault I7 inst 0 word 9`, as an example: instructions and words are counted from 0, words in the whole module [own]
 abbrev pub fault_line : Rule → ℕ → ℕ → List ℕ
-fault_line broken inst at = codes "fault " ++ rule_text broken ++ codes " inst " ++ decimal inst ++ codes " word " ++ decimal at ++ line_end
+fault_line broken inst at =
+    codes "fault " ++ rule_text broken ++ codes " inst " ++ decimal inst ++ codes " word " ++ decimal at ++ line_end
 
--- The line is the verdict on all of these bytes, under the grammar table.
+-- The line is the verdict on all of these bytes, under the grammar table. [own]
 pub data IsVerdict (G : Table) (bytes : List ℕ) : List ℕ → Type 0 where
   -- they are no words of a module with a good header: the first of W2 to W8 that they break
   refused : (code : WordError) → IsFirstBroken code bytes → IsVerdict G bytes (refused_line code)
   -- they are a valid module
   valid : IsValid G bytes → IsVerdict G bytes valid_line
-  -- they are words of which those from word 5 on spell a list of instructions, and this rule is the first that it breaks, under
-  -- the bound that word 3 is, at the instruction of that number
-  unsound : (words : List ℕ) (order : Order) (is : List PlainInst) (broken : Rule) (inst : ℕ) → IsModule order bytes words
-      → IsListing G is (drop 5 words) → IsFirst G (slice_index words 3) is broken inst
+  -- they are words of which those from word 5 on spell a list of instructions, and this rule is the first that it
+  -- breaks, under the bound that word 3 is, at the instruction of that number
+  unsound : (words : List ℕ) (order : Order) (is : List PlainInst) (broken : Rule) (inst : ℕ)
+      → IsModule order bytes words
+      → IsListing G is (drop 5 words) → IsFirstOfAll G (slice_index words 3) is broken inst
       → IsVerdict G bytes (fault_line broken inst (first_word_of is inst))
   -- they are words of which those from word 5 on are dead at an instruction, told by its rule, its number and a word
   dead : (words : List ℕ) (order : Order) (broken : Rule) (inst at : ℕ) → IsModule order bytes words
-      → IsDeadAt G (drop 5 words) broken inst at → IsVerdict G bytes (fault_line broken inst (5 + at))
+      → IsMalformedAt G (drop 5 words) broken inst at → IsVerdict G bytes (fault_line broken inst (5 + at))

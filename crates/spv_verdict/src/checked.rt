@@ -8,8 +8,8 @@ use std::marker::Model;
 
 /// A module that breaks no rule, with what the layers know of it. `check` makes one.
 ///
-/// Contracts see the bound of its ids and its instructions. That it breaks no rule, by some table, and that the parts are its
-/// own, is true of every value of this type.
+/// Contracts see the bound of its ids and its instructions. That it breaks no rule, by some table, and that the parts
+/// are its own, is true of every value of this type.
 #[derive(Drop)]
 pub struct Checked<'a> {
     /// The module, with texts lent by its image.
@@ -55,7 +55,11 @@ impl<'a> Model for Checked<'a> {
 
     ghost view = { λ c. record { bound = c.«module».header.bound; insts = plain_insts c.«module» } };
 
-    ghost invariant = { λ c. (G : Table) × AreParts G (record { bound = c.«module».header.bound; insts = plain_insts c.«module» }) c.«module» c.plan c.ids c.flow };
+    ghost invariant = { λ c. (G : Table) × AreParts G (record {
+      bound = c.«module».header.bound;
+      insts =
+          plain_insts c.«module»;
+    }) c.«module» c.plan c.ids c.flow };
 }
 
 impl<'a> Checked<'a> {
@@ -66,9 +70,14 @@ impl<'a> Checked<'a> {
     ghost use Rattle.spv_verdict.specs.Checked.{AreParts, IsKept};
     ghost use Rattle.spv_verdict.specs.Answer.{ArePartsOf};
 
-    /// A module with what `lay_out`, `number` and `flow_check` answered of it, where no rule is broken. It takes no memory.
+    /// A module with what `lay_out`, `number` and `flow_check` answered of it, where no rule is broken. It takes no
+    /// memory.
     pub fn new(module: Module<'a>, plan: Plan, ids: Ids, flow: Flow) -> Checked<'a>
-        requires { (G : Table) × AreParts G (record { bound = «module».header.bound; insts = plain_insts «module» }) «module» plan ids flow }
+        requires { (G : Table) × AreParts G (record {
+          bound = «module».header.bound;
+          insts =
+              plain_insts «module»;
+        }) «module» plan ids flow }
         ensures { result ≡ record { bound = «module».entry.header.bound; insts = plain_insts «module».entry } }
     {
         Checked {

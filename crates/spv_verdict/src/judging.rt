@@ -24,14 +24,19 @@ use std::alloc::Global;
 /// Looks for the first rule that a module breaks, stage by stage: the shapes and the layout, the ids, their roles, then
 /// capabilities, entry points and types, where branches lead, values on every walk, and cycles of calls (own).
 ///
-/// A `Fault` tells it, with its instruction and the first word of that. `Memory` comes only where a growth of memory was
-/// refused.
+/// A `Fault` tells it, with its instruction and the first word of that. `Memory` comes only where a growth of memory
+/// was refused.
 fn sound<'a>(alloc: Global, table: &Table, module: Module<'a>) -> Result<Checked<'a>, Stop>
     requires { 5 + sum_by word_count (plain_insts «module») ≤ 4194304 }
-    ensures whole { IfOk result (λ c. c ≡ record { bound = «module».entry.header.bound; insts = plain_insts «module».entry }) }
+    ensures whole { IfOk result (λ c. c ≡ record {
+      bound = «module».entry.header.bound;
+      insts =
+          plain_insts «module».entry;
+    }) }
     ensures kept { IfOk result (λ c. IsKept table.now c) }
     ensures sound { IfOk result (λ c. IsSound table.now c.bound c.insts) }
-    ensures told { IfErr result (λ e. IsTold table.now «module».entry.header.bound (plain_insts «module».entry) e) }
+    ensures told { IfErr result (λ e. IsTold table.now «module».entry.header.bound
+        (plain_insts «module».entry) e) }
 {
     member_or_dead();
     let plan = match lay_out(alloc, table, &module) {
@@ -62,20 +67,22 @@ fn stopped<'a>(stop: Stop) -> Result<Verdict<'a>, Memory>
     }
 }
 
-/// The verdict on the words of a module, under a grammar table. It is `Valid` exactly where the bytes that these words stand for
-/// are a valid module: they spell a list of instructions of the table, which breaks no rule.
+/// The verdict on the words of a module, under a grammar table. It is `Valid` exactly where the bytes that these words
+/// stand for are a valid module: they spell a list of instructions of the table, which breaks no rule.
 ///
 /// A `Fault` tells the first instruction that fails, by I1 to I12, with its number and the word by which that is told
-/// (SPIR-V Specification 1.6, section 2.3; instructions and words from 0); or, where the words spell a list, the first rule that
-/// it breaks, by stage, then by instruction, then by rule, with the first word of the instruction. The stages are P, L, D, Y1,
-/// then C, M, E and the other rules Y, then F, A and G; `lay_out`, `number`, `type_check` and `flow_check` tell their rules.
+/// (SPIR-V Specification 1.6, section 2.3; instructions and words from 0); or, where the words spell a list, the first
+/// rule that it breaks, by stage, then by instruction, then by rule, with the first word of the instruction. The stages
+/// are P, L, D, Y1, then C, M, E and the other rules Y, then F, A and G; `lay_out`, `number`, `type_check` and
+/// `flow_check` tell their rules.
 ///
 /// `Memory` comes only where a growth of memory was refused.
 pub fn check<'a>(alloc: Global, table: &Table, image: &'a Image) -> Result<Verdict<'a>, Memory>
     // `Valid` has the one list of the words, which breaks no rule. A fault is the one of the words.
     ensures verdict { IfOk result (λ v. IsAnswer table.now image.now v) }
     // It is `Valid` exactly where the bytes are.
-    ensures exactly { (bytes : List ℕ) (order : Order) → IsModule order bytes image.now → IfOk result (λ v. SaysValid v ↔ IsValid table.now bytes) }
+    ensures exactly { (bytes : List ℕ) (order : Order) → IsModule order bytes image.now
+        → IfOk result (λ v. SaysValid v ↔ IsValid table.now bytes) }
 {
     word_counts();
     spv_words::laws::one_word_list();

@@ -1,5 +1,6 @@
 //! What follows from the definitions of a verdict. Each function does nothing: its contract is what is proved.
-ghost use Rattle.std.specs.Prelude.{◌≡◌, ◌↔◌, ◌≤◌, ◌+◌, ◌++◌, ◌∷◌, [], ℕ, List, Option, true, false, codes, sum_by};
+ghost use Rattle.std.specs.Prelude.{◌≡◌, ◌↔◌, ◌≤◌, ◌+◌, ◌++◌, ◌∷◌, [], ℕ, List};
+ghost use Rattle.std.specs.Prelude.{Option, true, false, codes, sum_by};
 ghost use Rattle.spv_table.specs.Table.{Table};
 ghost use Rattle.spv_module.specs.Operand.{PlainInst};
 ghost use Rattle.spv_module.specs.Module.{plain_insts};
@@ -15,10 +16,11 @@ ghost use Rattle.spv_flow.specs.declared.flow.Flow.{Flow};
 ghost use Rattle.spv_calls.specs.Calls.{IsEntryFunction};
 ghost use Rattle.spv_calls.specs.Example.{functions, looped};
 ghost use Rattle.spv_run.specs.Promise.{NeverGetsStuck};
+ghost use Rattle.spv_verdict.specs.Outcome.{Failed, IsUntouched, OfKnown};
 ghost use Rattle.spv_verdict.specs.Answer.{IsFault};
 ghost use Rattle.spv_verdict.specs.Checked.{AreParts, IsChecked, IsKept};
 ghost use Rattle.spv_verdict.specs.Program.{Program};
-ghost use Rattle.spv_verdict.specs.Broken.{Broken, IsFirst, IsSound, Precedes};
+ghost use Rattle.spv_verdict.specs.Broken.{Broken, IsFirstOfAll, IsSound, Precedes};
 ghost use Rattle.spv_verdict.specs.Example.{kernel_bytes, kernel_places, kernel_program, kernel_words, other_program};
 ghost use Rattle.spv_verdict.specs.Run.{IsRunOf, IsTraceOf};
 ghost use Rattle.spv_run.specs.declared.parts.Trace.{Trace};
@@ -26,7 +28,7 @@ ghost use Rattle.spv_run.specs.Example.{entered, step_at};
 ghost use Rattle.spv_run.specs.Kernel.{grammar, kernel};
 ghost use Rattle.spv_run.specs.State.{Finished};
 ghost use Rattle.spv_run.specs.Trace.{ending_of};
-ghost use Rattle.spv_verdict.specs.Stream.{Begins, Tells};
+ghost use Rattle.spv_verdict.specs.Stream.{Begins, TellsVerdict};
 ghost use Rattle.spv_verdict.specs.Valid.{IsValid};
 ghost use Rattle.spv_verdict.specs.Verdict.{IsVerdict, fault_line, line_end, valid_line};
 
@@ -36,7 +38,8 @@ use spv_run::laws::{promise_examples, run_never_gets_stuck};
 
 /// Bytes have one verdict line.
 pub fn one_verdict()
-    ensures { (G : Table) (bytes one other : List ℕ) → IsVerdict G bytes one → IsVerdict G bytes other → one ≡ other }
+    ensures { (G : Table) (bytes one other : List ℕ) → IsVerdict G bytes one → IsVerdict G bytes other
+        → one ≡ other }
 {
     spv_words::laws::one_word_list();
     spv_words::laws::one_refusal();
@@ -52,8 +55,10 @@ pub fn valid_exactly()
 
 /// Words have one answer: one fault, and none where they are a checked module.
 pub fn one_answer()
-    ensures fault { (G : Table) (words : List ℕ) (f g : Fault) → IsFault G words f → IsFault G words g → (f.rule ≡ g.rule) × (f.inst ≡ g.inst) × (f.word ≡ g.word) }
-    ensures never { (G : Table) (words : List ℕ) (f : Fault) (p : Program) → IsFault G words f → ¬ (IsChecked G words p) }
+    ensures fault { (G : Table) (words : List ℕ) (f g : Fault) → IsFault G words f → IsFault G words g
+        → (f.rule ≡ g.rule) × (f.inst ≡ g.inst) × (f.word ≡ g.word) }
+    ensures never { (G : Table) (words : List ℕ) (f : Fault) (p : Program) → IsFault G words f
+        → ¬ (IsChecked G words p) }
 {
     spv_words::laws::one_word_list();
     spv_words::laws::one_refusal();
@@ -64,7 +69,8 @@ pub fn one_answer()
 
 /// Of all broken rules at most one is told, at one instruction.
 pub fn one_first()
-    ensures { (G : Table) (bound : ℕ) (is : List PlainInst) (q r : Rule) (m n : ℕ) → IsFirst G bound is q m → IsFirst G bound is r n → (q ≡ r) × (m ≡ n) }
+    ensures { (G : Table) (bound : ℕ) (is : List PlainInst) (q r : Rule) (m n : ℕ) → IsFirstOfAll G bound is q m
+        → IsFirstOfAll G bound is r n → (q ≡ r) × (m ≡ n) }
 {}
 
 /// No rule is broken on a program of few enough words exactly where it keeps all that the layers demand, which is said
@@ -76,17 +82,19 @@ pub fn kept_exactly()
     member_or_dead();
 }
 
-/// A checked module never gets stuck: from each entry point's function, for all choices and numbers of steps, the run ends
-/// otherwise, bound ids have their declared types, and there are no more frames than function definitions.
+/// A checked module never gets stuck: from each entry point's function, for all choices and numbers of steps, the run
+/// ends otherwise, bound ids have their declared types, and there are no more frames than function definitions.
 pub fn never_stuck()
-    ensures { (G : Table) (p : Program) → IsKept G p → (g : ℕ) → IsEntryFunction p.insts g → (choices : List ℕ) → NeverGetsStuck G p.insts g choices }
+    ensures { (G : Table) (p : Program) → IsKept G p → (g : ℕ) → IsEntryFunction p.insts g
+        → (choices : List ℕ) → NeverGetsStuck G p.insts g choices }
 {
     run_never_gets_stuck();
 }
 
 /// A program has one trace of an id, choices and a limit, whatever the tables by which it is valid.
 pub fn one_trace()
-    ensures { (p : Program) (x : ℕ) (choices : List ℕ) (limit : ℕ) (t u : Trace) → IsTraceOf p x choices limit t → IsTraceOf p x choices limit u
+    ensures { (p : Program) (x : ℕ) (choices : List ℕ) (limit : ℕ) (t u : Trace) → IsTraceOf p x choices limit t
+        → IsTraceOf p x choices limit u
         → (t.steps.items ≡ u.steps.items) × (t.ending ≡ u.ending) }
 {}
 
@@ -96,7 +104,9 @@ pub fn examples()
     ensures refused { (G : Table) → IsVerdict G (1 ∷ 2 ∷ 3 ∷ []) (codes "fault W2" ++ line_end) }
     ensures not_valid { (G : Table) → ¬ (IsVerdict G (1 ∷ 2 ∷ 3 ∷ []) valid_line) }
     // A header with version 1.6, generator 7 and bound 5, and no instruction after it: OpMemoryModel is missing.
-    ensures unsound { (G : Table) → IsVerdict G (7 ∷ 35 ∷ 2 ∷ 3 ∷ 0 ∷ 1 ∷ 6 ∷ 0 ∷ 0 ∷ 0 ∷ 0 ∷ 7 ∷ 0 ∷ 0 ∷ 0 ∷ 5 ∷ 0 ∷ 0 ∷ 0 ∷ 0 ∷ []) (fault_line L2 0 5) }
+    ensures unsound { (G : Table) → IsVerdict G
+        (7 ∷ 35 ∷ 2 ∷ 3 ∷ 0 ∷ 1 ∷ 6 ∷ 0 ∷ 0 ∷ 0 ∷ 0 ∷ 7 ∷ 0 ∷ 0 ∷ 0 ∷ 5 ∷ 0 ∷ 0 ∷ 0
+        ∷ 0 ∷ []) (fault_line L2 0 5) }
     // Rule I7 at the first instruction and the word of number 9.
     ensures text { fault_line I7 0 9 ≡ codes "fault I7 inst 0 word 9" ++ line_end }
 {
@@ -106,7 +116,8 @@ pub fn examples()
 
 /// Worked examples of broken rules, and of which is told.
 pub fn broken_examples()
-    // A call on a cycle that an entry point leads to, under any table; where there is no entry point, none breaks the rule.
+    // A call on a cycle that an entry point leads to, under any table; where there is no entry point, none breaks the
+    // rule.
     ensures cycle { (G : Table) (bound : ℕ) → Broken G bound looped G1 8 }
     ensures no_cycle { (G : Table) (bound n : ℕ) → ¬ (Broken G bound functions G1 n) }
     // A fault of types is told before one of values at a lower instruction.
@@ -119,8 +130,10 @@ pub fn broken_examples()
 /// Worked examples of what a check leaves in its writer.
 pub fn stream_examples()
     // A writer that held the byte 9 got the verdict line of three bytes.
-    ensures tells { (G : Table) → Tells G (1 ∷ 2 ∷ 3 ∷ []) (9 ∷ []) (Some (9 ∷ codes "fault W2" ++ line_end)) false }
-    ensures tells_valid { (G : Table) (new : Option (List ℕ)) → ¬ (Tells G (1 ∷ 2 ∷ 3 ∷ []) [] new true) }
+    ensures tells { (G : Table) → TellsVerdict G (1 ∷ 2 ∷ 3 ∷ []) (9 ∷ [])
+        (Some (9 ∷ codes "fault W2" ++ line_end)) false }
+    ensures tells_valid { (G : Table) (new : Option (List ℕ))
+        → ¬ (TellsVerdict G (1 ∷ 2 ∷ 3 ∷ []) [] new true) }
     // The first five bytes of that line, and of another one.
     ensures begins { (G : Table) → Begins G (1 ∷ 2 ∷ 3 ∷ []) (9 ∷ []) (Some (9 ∷ codes "fault")) }
     ensures begins_valid { (G : Table) → ¬ (Begins G (1 ∷ 2 ∷ 3 ∷ []) [] (Some (codes "valid"))) }
@@ -129,14 +142,32 @@ pub fn stream_examples()
     one_verdict();
 }
 
+/// Worked examples of what became of a reader or a writer, which is here its count of failures.
+pub fn outcome_examples()
+    ensures failed { Failed (λ (count : ℕ). count) 1 2 }
+    ensures not_failed { ¬ (Failed (λ (count : ℕ). count) 2 2) }
+    ensures untouched { IsUntouched (λ (count : ℕ). count) 1 2 }
+    // No call failed, and yet it is not as it was.
+    ensures touched { ¬ (IsUntouched (λ (count : ℕ). 0) 1 2) }
+    // A reader that has the byte 7 left, and a writer that holds the byte 8.
+    ensures known { OfKnown (Some (7 ∷ [])) (Some (8 ∷ []))
+        (λ left held. (left ≡ 7 ∷ []) × (held ≡ 8 ∷ [])) }
+    ensures not_known { ¬ (OfKnown (Some (7 ∷ [])) (Some (8 ∷ [])) (λ left held. left ≡ held)) }
+    ensures unknown { OfKnown None (Some (8 ∷ [])) (λ left held. left ≡ held) }
+{}
+
 /// Worked examples of traces.
 pub fn trace_examples()
     // A function that only returns, which an OpEntryPoint names: its two steps, under any table.
-    ensures run { (G : Table) (p : Program) (t : Trace) → p.insts ≡ entered → t.steps.items ≡ step_at 0 3 ∷ step_at 0 4 ∷ [] → ending_of t.ending ≡ Finished → IsRunOf G p 3 [] 9 t }
+    ensures run { (G : Table) (p : Program) (t : Trace) → p.insts ≡ entered
+        → t.steps.items ≡ step_at 0 3 ∷ step_at 0 4 ∷ [] → ending_of t.ending ≡ Finished
+        → IsRunOf G p 3 [] 9 t }
     // Functions that no OpEntryPoint names.
-    ensures no_entry { (p : Program) (choices : List ℕ) (limit : ℕ) (t : Trace) → p.insts ≡ functions → ¬ (IsTraceOf p 1 choices limit t) }
+    ensures no_entry { (p : Program) (choices : List ℕ) (limit : ℕ) (t : Trace) → p.insts ≡ functions
+        → ¬ (IsTraceOf p 1 choices limit t) }
     // The smallest kernel.
-    ensures kernel { (t : Trace) → t.steps.items ≡ step_at 0 7 ∷ step_at 0 8 ∷ [] → ending_of t.ending ≡ Finished → IsTraceOf kernel_program 3 [] 9 t }
+    ensures kernel { (t : Trace) → t.steps.items ≡ step_at 0 7 ∷ step_at 0 8 ∷ []
+        → ending_of t.ending ≡ Finished → IsTraceOf kernel_program 3 [] 9 t }
 {
     promise_examples();
 }
@@ -147,10 +178,13 @@ pub fn kernel_examples()
     ensures kept { IsKept grammar kernel_program }
     // A function that an entry point leads to calls itself.
     ensures not_kept { (G : Table) (bound : ℕ) → ¬ (IsKept G (record { bound = bound; insts = looped })) }
-    // Its places, and what is kept of the definitions of its ids and of its functions; it has not those of another program.
-    ensures parts { (m : Module) (ids : Ids) (flow : Flow) → m.header.bound ≡ 5 → plain_insts m ≡ kernel → ((x : ℕ) → IsDefinitionOf kernel x (definition_in ids x)) → flow.definitions ≡ 1
+    // Its places, and what is kept of the definitions of its ids and of its functions; it has not those of another
+    // program.
+    ensures parts { (m : Module) (ids : Ids) (flow : Flow) → m.header.bound ≡ 5 → plain_insts m ≡ kernel
+        → ((x : ℕ) → IsDefinitionOf kernel x (definition_in ids x)) → flow.definitions ≡ 1
         → AreParts grammar kernel_program m kernel_places ids flow }
-    ensures other_parts { (G : Table) (m : Module) (places : List Place) (ids : Ids) (flow : Flow) → m.header.bound ≡ 5 → ¬ (AreParts G other_program m places ids flow) }
+    ensures other_parts { (G : Table) (m : Module) (places : List Place) (ids : Ids) (flow : Flow)
+        → m.header.bound ≡ 5 → ¬ (AreParts G other_program m places ids flow) }
     // The words are that module, and not one with another bound.
     ensures checked { IsChecked grammar kernel_words kernel_program }
     ensures other_bound { ¬ (IsChecked grammar kernel_words other_program) }

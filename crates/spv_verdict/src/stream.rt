@@ -1,11 +1,13 @@
 //! The verdict on the bytes of a stream.
-ghost use Rattle.std.specs.Prelude.{◌≡◌, ◌≢◌, ◌⊎◌, ◌↔◌, List, ℕ, IfOk, IfErr, IfSome, IsErrOf, IsTrue};
+ghost use Rattle.std.specs.Prelude.{◌≡◌, ◌≢◌, ◌⊎◌, ◌↔◌, List, ℕ, IfOk, IfErr, IfSome};
+ghost use Rattle.std.specs.Prelude.{IsErrOf, IsTrue};
 ghost use Rattle.spv_words.specs.Header.{IsModule};
 ghost use Rattle.spv_words.specs.declared.words.Order.{Order};
 ghost use Rattle.spv_words.specs.declared.words.WordError.TheVariants.{W1, W9};
+ghost use Rattle.spv_verdict.specs.Outcome.{Failed, OfKnown};
 ghost use Rattle.spv_verdict.specs.Verdict.{IsVerdict, valid_line};
 ghost use Rattle.spv_verdict.specs.Text.{line_of, refusal_of};
-ghost use Rattle.spv_verdict.specs.Stream.{Begins, Tells};
+ghost use Rattle.spv_verdict.specs.Stream.{Begins, TellsVerdict};
 
 use crate::checked::Verdict;
 use crate::judging::check;
@@ -29,7 +31,8 @@ fn refusal(code: WordError) -> Result<Judgment, WordError>
 ///
 /// `W9`: a growth of memory was refused. There is no other error.
 fn judged(alloc: Global, table: &Table, image: &Image) -> Result<Judgment, WordError>
-    ensures verdict { (bytes : List ℕ) (order : Order) → IsModule order bytes image.now → IfOk result (λ v. IsVerdict table.now bytes (line_of v)) }
+    ensures verdict { (bytes : List ℕ) (order : Order) → IsModule order bytes image.now
+        → IfOk result (λ v. IsVerdict table.now bytes (line_of v)) }
     ensures only { IfErr result (λ e. e ≡ W9) }
 {
     match check(alloc, table, image) {
@@ -42,7 +45,7 @@ fn judged(alloc: Global, table: &Table, image: &Image) -> Result<Judgment, WordE
 /// The verdict on all the bytes of a reader.
 fn verdict_on<R: Source>(alloc: Global, table: &Table, r: &mut R) -> Result<Judgment, WordError>
     ensures known { IfSome (R.remaining r.old) (λ bytes. IfOk result (λ v. IsVerdict table.now bytes (line_of v))) }
-    ensures count { R.failures r.new ≢ R.failures r.old ↔ IsErrOf result W1 }
+    ensures count { Failed R.failures r.old r.new ↔ IsErrOf result W1 }
     ensures only { IfErr result (λ e. (e ≡ W1) ⊎ (e ≡ W9)) }
 {
     let image = match read_image(alloc, r) {
@@ -74,15 +77,18 @@ pub fn check_stream<R: Source, W: Sink>(
     w: &mut W,
 ) -> Result<bool, WordError>
     // The writer has got the verdict line of all the bytes that the reader still gave.
-    ensures verdict { IfSome (R.remaining r.old) (λ bytes. IfSome (W.contents w.old) (λ old. IfOk result (λ answer. Tells table.now bytes old (W.contents w.new) answer))) }
+    ensures verdict { OfKnown (R.remaining r.old) (W.contents w.old)
+        (λ bytes old. IfOk result (λ answer. TellsVerdict table.now bytes old (W.contents w.new) answer)) }
     // The answer is W1 exactly where a read or a write failed.
-    ensures count { ((R.failures r.new ≢ R.failures r.old) ⊎ (W.failures w.new ≢ W.failures w.old)) ↔ IsErrOf result W1 }
+    ensures count { (Failed R.failures r.old r.new ⊎ Failed W.failures w.old w.new) ↔ IsErrOf result W1 }
     ensures only { IfErr result (λ e. (e ≡ W1) ⊎ (e ≡ W9)) }
     // After a failed read, or for want of memory, the writer is as it was.
-    ensures read { R.failures r.new ≢ R.failures r.old → w.new ≡ w.old }
+    ensures read { Failed R.failures r.old r.new → w.new ≡ w.old }
     ensures memory { IsErrOf result W9 → w.new ≡ w.old }
     // After a failed write it has got a beginning of the line.
-    ensures begun { W.failures w.new ≢ W.failures w.old → IfSome (R.remaining r.old) (λ bytes. IfSome (W.contents w.old) (λ old. Begins table.now bytes old (W.contents w.new))) }
+    ensures begun { Failed W.failures w.old w.new
+        → OfKnown (R.remaining r.old) (W.contents w.old)
+        (λ bytes old. Begins table.now bytes old (W.contents w.new)) }
 {
     let verdict = verdict_on(alloc, table, r)?;
     let line = line_for(verdict);

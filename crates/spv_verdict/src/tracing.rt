@@ -2,7 +2,7 @@
 ghost use Rattle.std.specs.Prelude.{ℕ, List, IfOk, IfErr};
 ghost use Rattle.spv_table.specs.Table.{Table};
 ghost use Rattle.spv_calls.specs.Calls.{IsEntryFunction};
-ghost use Rattle.spv_run.specs.Entry.{IsRefused};
+ghost use Rattle.spv_run.specs.Entry.{RefusesEntry};
 ghost use Rattle.spv_run.specs.Promise.{NeverGetsStuck};
 ghost use Rattle.spv_verdict.specs.Checked.{IsKept};
 ghost use Rattle.spv_verdict.specs.Run.{IsRunOf, IsTraceOf};
@@ -11,16 +11,17 @@ use crate::checked::Checked;
 use spv_run::{Code, Trace, TraceError, trace_function};
 use std::alloc::Global;
 
-/// The steps of a run of a checked module in at most `limit` steps, and how it ended (own). It begins at the entry block of the
-/// function whose id is `function`, its parameters bound to their types; `choices` are the places of the targets that are taken,
-/// from 0, one for each OpBranchConditional and OpSwitch that is executed, and those left over are ignored.
+/// The steps of a run of a checked module in at most `limit` steps, and how it ended (own). It begins at the entry
+/// block of the function whose id is `function`, its parameters bound to their types; `choices` are the places of the
+/// targets that are taken, from 0, one for each OpBranchConditional and OpSwitch that is executed, and those left over
+/// are ignored.
 ///
-/// Each instruction that is executed is a step, lines too. A step's `depth` is the number of frames below its own, which is less
-/// than the number of the module's function definitions. Memory for as many frames is taken at the start, and after that only the
-/// growth of the steps takes memory; none is taken by the limit.
+/// Each instruction that is executed is a step, lines too. A step's `depth` is the number of frames below its own,
+/// which is less than the number of the module's function definitions. Memory for as many frames is taken at the start,
+/// and after that only the growth of the steps takes memory; none is taken by the limit.
 ///
-/// `X1` comes exactly where the id is the function of no OpEntryPoint (SPIR-V Specification 1.6, section 3.49.5). `X2` comes only
-/// where a growth of memory was refused.
+/// `X1` comes exactly where the id is the function of no OpEntryPoint (SPIR-V Specification 1.6, section 3.49.5). `X2`
+/// comes only where a growth of memory was refused.
 pub fn trace(
     alloc: Global,
     checked: &Checked<'_>,
@@ -30,12 +31,15 @@ pub fn trace(
 ) -> Result<Trace, TraceError>
     // It is of the run under some table by which the module is valid, and under each.
     ensures trace { IfOk result (λ t. IsTraceOf checked.now function choices.now limit t) }
-    ensures each { (G : Table) → IsKept G checked.now → IfOk result (λ t. IsRunOf G checked.now function choices.now limit t) }
-    ensures refused { IfErr result (λ e. IsRefused checked.now.insts function e) }
+    ensures each { (G : Table) → IsKept G checked.now
+        → IfOk result (λ t. IsRunOf G checked.now function choices.now limit t) }
+    ensures refused { IfErr result (λ e. RefusesEntry checked.now.insts function e) }
     // Whatever is answered, the module is valid under some table. Under each by which it is, from each entry point's
-    // function, for all choices and numbers of steps, the run does not get stuck, and bound ids have their declared types.
+    // function, for all choices and numbers of steps, the run does not get stuck, and bound ids have their declared
+    // types.
     ensures kept { (G : Table) × IsKept G checked.now }
-    ensures free { (G : Table) → IsKept G checked.now → (g : ℕ) → IsEntryFunction checked.now.insts g → (xs : List ℕ)
+    ensures free { (G : Table) → IsKept G checked.now → (g : ℕ) → IsEntryFunction checked.now.insts g
+        → (xs : List ℕ)
         → NeverGetsStuck G checked.now.insts g xs }
 {
     let parts = checked.parts();

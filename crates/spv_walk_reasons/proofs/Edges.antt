@@ -8,7 +8,7 @@ use Rattle.std.proofs.lemmas.List.Elements.{All-contains, Contains-append_left, 
 use Rattle.spv_availability.specs.declared.graph.Graph.{Graph}
 use Rattle.spv_availability.specs.declared.graph.Block.{Block}
 use Rattle.spv_availability.specs.Graph.{block_count, targets_of, Defines, IsGraph}
-use Rattle.spv_availability.specs.Path.{IsPath, IsDefinedOn, IsMissed}
+use Rattle.spv_availability.specs.Path.{IsPath, IsDefinedOn, IsUnavailable}
 use Rattle.spv_availability.proofs.Paths.{targets_are}
 use Rattle.spv_ways.specs.declared.edge.Edge.{Edge}
 use Rattle.spv_ways.specs.Way.{HasEdge, IsWay, IsShortest, AreWithin}
@@ -179,9 +179,9 @@ shortest_past graph v b edges xs ys way are e f h =
       least = λ other path not. s.least other (way_of graph v edges are other b path not);
     }
 
--- a value that is missed leaves a way
+-- a value that is unavailable leaves a way
 pub some_way : (graph : Graph) (v b : ℕ) (edges xs : List Edge) (ys : List Bool)
-    → AreEdges graph (block_count graph) edges → IsMissed graph v b
+    → AreEdges graph (block_count graph) edges → IsUnavailable graph v b
     → xs ≡ edges → ys ≡ map (defines v) graph.blocks.items → ((past : List ℕ) → ¬ (IsWay xs (0 ∷ []) ys past b)) → ⊥
 some_way graph v b edges xs ys are m e f none =
     let way = way_of graph v edges are m.past b m.path m.undefined in

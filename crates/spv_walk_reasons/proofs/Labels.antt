@@ -11,7 +11,7 @@ use Rattle.spv_availability.specs.declared.graph.Graph.{Graph}
 use Rattle.spv_availability.specs.Path.{IsPath}
 use Rattle.spv_branches.specs.Target.{is_label, IsOp}
 use Rattle.spv_branches.proofs.Firsts.{holds}
-use Rattle.spv_walks.specs.Divided.{IsDivided, IsGraphOf}
+use Rattle.spv_walks.specs.inner.Divided.{IsDivided, IsGraphOf}
 use Rattle.spv_walks.proofs.Lists.{all_head, all_tail}
 use Rattle.spv_walks.proofs.Trails.{run, size, trail, all_run, run_split}
 use Rattle.spv_walks.proofs.Pairs.{plain_inside, function_no_label, target_label}

@@ -199,8 +199,8 @@ undefined (suc zero, n, lt, e, d) = let f : n ≡ 1 = cc in none_at 1 n f none_a
 undefined (suc (suc zero), n, lt, e, d) = let f : n ≡ 0 = cc in none_at 0 n f none_at_0 d
 undefined (suc (suc (suc k)), n, lt, e, d) = absurd (omega (arith, lt))
 
-abbrev missed : IsPairMissing small selfish 4
-missed = record {
+abbrev unavailable : IsPairMissing small selfish 4
+unavailable = record {
   phi = refl;
   value = 9;
   parent = 1;
@@ -240,7 +240,7 @@ two_blocks is past before earlier b parent here from =
     omega (arith, m, n, r)
 
 pub pair_shown : IsEvidence small selfish A2 4 (Walk 2 4 (1 ∷ 3 ∷ []))
-pair_shown = IsEvidence.pair_missing 4 4 missed (record { inst = phi_of 9 1; there = refl; result = refl })
+pair_shown = IsEvidence.pair_missing 4 4 unavailable (record { inst = phi_of 9 1; there = refl; result = refl })
     (λ before from none. two_blocks selfish from.past before from.earlier from.block 1 from.here from.from)
 
 one_block : (n : ℕ) (e : Evidence) → e ≡ Walk 2 4 (1 ∷ []) → IsEvidence small selfish A2 n e → ⊥

@@ -15,7 +15,7 @@ use Rattle.spv_layout.specs.Shape.{IsUse}
 use Rattle.spv_layout.proofs.Places.{function_same}
 use Rattle.spv_ids.specs.Definition.{IsDefinedAt, IsUsedAt}
 use Rattle.spv_availability.specs.declared.graph.Graph.{Graph}
-use Rattle.spv_availability.specs.declared.asks.Ask.{Ask}
+use Rattle.spv_availability.specs.declared.queries.Query.{Query}
 use Rattle.spv_availability.specs.Graph.{block_count}
 use Rattle.spv_availability.specs.Path.{IsPath}
 use Rattle.spv_branches.specs.Target.{is_label, is_phi, IsOp}
@@ -24,9 +24,9 @@ use Rattle.spv_branches.specs.Broken.{Broken}
 use Rattle.spv_branches.proofs.Firsts.{holds}
 use Rattle.spv_branches.proofs.Labelled.{use_in}
 use Rattle.spv_walks.specs.declared.code.Code.{Code}
-use Rattle.spv_walks.specs.Code.{insts_of, IsCode}
-use Rattle.spv_walks.specs.Divided.{IsIn, IsGraphOf}
-use Rattle.spv_walks.specs.Due.{IsUseAsk, IsPairAsk}
+use Rattle.spv_walks.specs.inner.Code.{insts_of, IsCode}
+use Rattle.spv_walks.specs.inner.Divided.{IsIn, IsGraphOf}
+use Rattle.spv_walks.specs.inner.Due.{IsUseQuery, IsPairQuery}
 use Rattle.spv_walks.proofs.Coded.{one_place}
 use Rattle.spv_walks.proofs.Ended.{label_forms}
 use Rattle.spv_walks.proofs.Pairs.{came_from, target_label}
@@ -35,9 +35,9 @@ use Rattle.spv_walks.proofs.Deciding.{walk_within}
 use Rattle.spv_evidence.specs.declared.evidence.Evidence.{Evidence}
 use Rattle.spv_evidence.specs.declared.evidence.Evidence.TheVariants.{Walk}
 use Rattle.spv_walk_reasons.specs.Evidence.{AreFewest, AreFewestFrom, IsEvidence}
-use Rattle.spv_walk_reasons.specs.declared.asks.Taking.{Taking}
-use Rattle.spv_walk_reasons.specs.declared.asks.Taking.TheVariants.{Uses, Pairs}
-use Rattle.spv_walk_reasons.specs.inner.Asked.{MissesValue, numbered, IsMissedAsk}
+use Rattle.spv_walk_reasons.specs.declared.queries.Taking.{Taking}
+use Rattle.spv_walk_reasons.specs.declared.queries.Taking.TheVariants.{Uses, Pairs}
+use Rattle.spv_walk_reasons.specs.inner.Asked.{MissesValue, numbered, IsUnavailableQuery}
 use Rattle.spv_walk_reasons.specs.inner.Way.{IsShortestPast, whole, labels_of}
 use Rattle.spv_walk_reasons.specs.inner.Shown.{IsShown}
 use Rattle.spv_walk_reasons.proofs.Labels.{reverse_cons}
@@ -69,8 +69,8 @@ only_at G c x d is at k there = one_place G c x k d is there at
 
 use_shown : (G : Table) (c : Code) (f : ℕ) (starts : List ℕ) (graph : Graph) → IsCode G c
     → IsGraphOf G (insts_of c) f starts graph
-    → (b n : ℕ) (a : Ask) (way : List ℕ) → IsIn starts b n → ¬ (IsOp (insts_of c) n is_phi)
-    → IsUseAsk G (insts_of c) starts b n a.step (numbered a n)
+    → (b n : ℕ) (a : Query) (way : List ℕ) → IsIn starts b n → ¬ (IsOp (insts_of c) n is_phi)
+    → IsUseQuery G (insts_of c) starts b n a.step (numbered a n)
     → IsShortestPast graph a.value a.block way
     → IsEvidence G (insts_of c) A1 n (Walk a.step a.value (labels_of starts way))
 use_shown G c f starts graph is g b n a way i other u s =
@@ -102,9 +102,9 @@ use_shown G c f starts graph is g b n a way i other u s =
 
 pair_shown : (G : Table) (c : Code) (f : ℕ) (starts : List ℕ) (graph : Graph) → IsCode G c
     → IsGraphOf G (insts_of c) f starts graph
-    → (b n : ℕ) (a : Ask) (way : List ℕ) → IsIn starts b n → IsOp (insts_of c) n is_phi
+    → (b n : ℕ) (a : Query) (way : List ℕ) → IsIn starts b n → IsOp (insts_of c) n is_phi
     → IsOp (insts_of c) (slice_index starts b) is_label
-    → IsPairAsk G (insts_of c) starts n a.step (numbered a n) → IsShortestPast graph a.value a.block way
+    → IsPairQuery G (insts_of c) starts n a.step (numbered a n) → IsShortestPast graph a.value a.block way
     → IsEvidence G (insts_of c) A2 n (Walk a.step a.value (labels_of starts (way ++ b ∷ [])))
 pair_shown G c f starts graph is g b n a way i phi label p s =
     let h : ℕ = a.block in
@@ -140,10 +140,10 @@ phi_block G is f starts graph g b n i m =
     let r = came_from G is f starts graph g b n m.parent m.before i m.phi m.comes e in
     (target_label G is f starts graph g r.from b r.inside r.path.1).1
 
-pub shown : (G H : Table) (c : Code) (f : ℕ) (starts : List ℕ) (graph : Graph) (t : Taking) (b n : ℕ) (a : Ask)
+pub shown : (G H : Table) (c : Code) (f : ℕ) (starts : List ℕ) (graph : Graph) (t : Taking) (b n : ℕ) (a : Query)
     (way : List ℕ) → IsCode G c → IsGraphOf G (insts_of c) f starts graph
     → IsGraphOf H (insts_of c) f starts graph → IsIn starts b n → MissesValue H (insts_of c) t n
-    → IsMissedAsk G (insts_of c) starts graph t b n a → IsShortestPast graph a.value a.block way
+    → IsUnavailableQuery G (insts_of c) starts graph t b n a → IsShortestPast graph a.value a.block way
     → IsShown G (insts_of c) t n (Walk a.step a.value (labels_of starts (whole t b way)))
 shown G H c f starts graph Uses b n a way is g h i m k s =
     use_shown G c f starts graph is g b n a way i m.other k.asked s

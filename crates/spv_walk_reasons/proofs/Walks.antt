@@ -12,7 +12,7 @@ use Rattle.spv_branches.specs.Target.{is_label, is_phi, IsOp}
 use Rattle.spv_branches.specs.Walk.{IsWalk, IsResultAmong, IsLastLabel}
 use Rattle.spv_branches.specs.Ready.{ComesFrom}
 use Rattle.spv_branches.proofs.Firsts.{known}
-use Rattle.spv_walks.specs.Divided.{IsIn, IsGraphOf}
+use Rattle.spv_walks.specs.inner.Divided.{IsIn, IsGraphOf}
 use Rattle.spv_walks.proofs.Lists.{any_none, any_cases, any_right, any_head}
 use Rattle.spv_walks.proofs.Trails.{run, size, trail, run_any, trail_defined, trail_only}
 use Rattle.spv_walks.proofs.Walking.{Comes, comes, one_block, through, walk_to}

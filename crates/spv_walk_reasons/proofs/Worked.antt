@@ -97,8 +97,8 @@ walked =
 no_phi : ¬ (IsOp early 2 is_phi)
 no_phi op = let e = op in cc
 
-abbrev missed : IsMissing small early 2
-missed = record {
+abbrev unavailable : IsMissing small early 2
+unavailable = record {
   other = no_phi;
   function = 0;
   past = 1 ∷ 0 ∷ [];
@@ -149,7 +149,7 @@ by_walk f _ _ e (IsWalk.begins op) = absurd (function_2 (subst (λ (k : ℕ). Is
 by_walk f _ _ e (IsWalk.goes past m n walk next of) = by_last past m n e next
 
 pub walk_shown : IsEvidence small early A1 2 (Walk 2 3 (1 ∷ []))
-walk_shown = IsEvidence.missing 2 3 missed (record { inst = negation 7 6; there = refl; result = refl })
+walk_shown = IsEvidence.missing 2 3 unavailable (record { inst = negation 7 6; there = refl; result = refl })
     (λ f past walk none. let h = by_walk f past 2 refl walk in omega (arith, h))
 
 some_blocks : (n : ℕ) (e : Evidence) → n ≡ 2 → e ≡ Walk 2 3 [] → IsEvidence small early A1 n e → ⊥

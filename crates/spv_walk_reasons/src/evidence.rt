@@ -8,17 +8,17 @@ ghost use Rattle.spv_layout.specs.Place.{word_count, IsOfFunction};
 ghost use Rattle.spv_layout.specs.Plan.{IsPlan};
 ghost use Rattle.spv_ids.specs.Outcome.{AreIds};
 ghost use Rattle.spv_branches.specs.Broken.{Broken};
-ghost use Rattle.spv_walks.specs.Code.{insts_of, IsCode};
-ghost use Rattle.spv_walks.specs.Divided.{IsIn};
-ghost use Rattle.spv_walks.specs.Leading.{AreBlocks, AreInGraph};
+ghost use Rattle.spv_walks.specs.inner.Code.{insts_of, IsCode};
+ghost use Rattle.spv_walks.specs.inner.Divided.{IsIn};
+ghost use Rattle.spv_walks.specs.inner.Leading.{AreBlocks, AreInGraph};
 ghost use Rattle.spv_walk_reasons.specs.Evidence.{IsEvidence};
-ghost use Rattle.spv_walk_reasons.specs.inner.Asked.{MissesValue, IsMissedAsk};
+ghost use Rattle.spv_walk_reasons.specs.inner.Asked.{MissesValue, IsUnavailableQuery};
 ghost use Rattle.spv_walk_reasons.specs.inner.Shown.{IsShown};
 
-use crate::asks::{Taking, ask_at, asks_of, taking_of};
-use crate::missed::least_missed;
+use crate::queries::{Taking, queries_of, query_at, taking_of};
+use crate::unavailable::least_unavailable;
 use crate::way::{labels_on, way_past, whole_way};
-use spv_availability::{Ask, Graph};
+use spv_availability::{Graph, Query};
 use spv_evidence::{Evidence, Listed};
 use spv_ids::Ids;
 use spv_layout::Plan;
@@ -44,8 +44,9 @@ fn block_of(code: &Code<'_, '_>, blocks: &Blocks<'_>, inst: u32) -> u32
     unreachable!()
 }
 
-/// Of what is asked for the operands of an instruction the first that is missed. Its step is the number of the operand.
-fn missed_ask(
+/// Of what is asked for the operands of an instruction the first that is unavailable. Its step is the number of the
+/// operand.
+fn unavailable_query(
     alloc: Global,
     code: &Code<'_, '_>,
     blocks: &Blocks<'_>,
@@ -53,25 +54,25 @@ fn missed_ask(
     taking: Taking,
     block: u32,
     inst: u32,
-) -> Result<Ask, AllocError>
+) -> Result<Query, AllocError>
     requires code { (G : Table) × IsCode G code.now × MissesValue G (insts_of code.now) taking inst }
     requires blocks { AreBlocks (insts_of code.now) blocks.now }
     requires graph { AreInGraph code.now blocks.now.starts.now graph.now (length blocks.now.starts.now - 1) }
     requires inside { IsIn blocks.now.starts.now block inst }
     requires at { inst < length code.now.insts.now }
     ensures { IfOk result (λ a. (G : Table) → IsCode G code.now
-        → IsMissedAsk G (insts_of code.now) blocks.now.starts.now graph.now taking block inst a) }
+        → IsUnavailableQuery G (insts_of code.now) blocks.now.starts.now graph.now taking block inst a) }
 {
-    let asks = asks_of(alloc, code, blocks, taking, block, inst)?;
-    let Some(operand) = least_missed(alloc, graph, asks.as_slice())? else {
+    let queries = queries_of(alloc, code, blocks, taking, block, inst)?;
+    let Some(operand) = least_unavailable(alloc, graph, queries.as_slice())? else {
         unreachable!();
     };
-    let Some(ask) = ask_at(code, blocks, taking, block, inst, operand as usize) else {
+    let Some(query) = query_at(code, blocks, taking, block, inst, operand as usize) else {
         unreachable!();
     };
-    Ok(Ask {
-        block: ask.block,
-        value: ask.value,
+    Ok(Query {
+        block: query.block,
+        value: query.value,
         step: operand,
     })
 }
@@ -96,13 +97,13 @@ fn evidence_in(
         targets: Vec::new(alloc),
     };
     build(code, blocks, &mut graph)?;
-    let ask = missed_ask(alloc, code, blocks, &graph, taking, block, inst)?;
-    let to_asked = way_past(alloc, &graph, ask.value, ask.block)?;
+    let query = unavailable_query(alloc, code, blocks, &graph, taking, block, inst)?;
+    let to_asked = way_past(alloc, &graph, query.value, query.block)?;
     let way = whole_way(taking, block, to_asked)?;
     let walk = labels_on(alloc, blocks.starts, way.as_slice())?;
     Ok(Evidence::Walk {
-        operand: ask.step,
-        inst: ask.value,
+        operand: query.step,
+        inst: query.value,
         walk: Listed::from_vec(walk),
     })
 }
@@ -140,8 +141,8 @@ fn evidence_at(
 /// none that comes from the same parent. `plan` and `ids` are what `lay_out` and `number` answered of that module, in
 /// which `check_branches` found no fault.
 ///
-/// It looks for what is missed as `check_values` does, at that instruction alone, and then goes through the blocks of
-/// its function once.
+/// It looks for what is unavailable as `check_values` does, at that instruction alone, and then goes through the blocks
+/// of its function once.
 ///
 /// # Errors
 ///

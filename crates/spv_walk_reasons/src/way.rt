@@ -2,11 +2,11 @@
 
 ghost use Rattle.std.specs.Prelude.{◌≡◌, ◌<◌, ◌≤◌, length, All, IfOk};
 ghost use Rattle.spv_availability.specs.Graph.{block_count, IsGraph};
-ghost use Rattle.spv_availability.specs.Path.{IsMissed};
+ghost use Rattle.spv_availability.specs.Path.{IsUnavailable};
 ghost use Rattle.spv_walk_reasons.specs.inner.Way.{IsShortestPast, whole, labels_of};
 
-use crate::asks::Taking;
 use crate::graph::{defining_blocks, edges_of};
+use crate::queries::Taking;
 use spv_availability::Graph;
 use spv_ways::shortest_way;
 use std::alloc::{AllocError, Global};
@@ -21,7 +21,7 @@ pub fn way_past(
     requires graph { IsGraph graph.now }
     requires few { block_count graph.now ≤ 4194304 }
     requires block { block < block_count graph.now }
-    requires missed { IsMissed graph.now value block }
+    requires unavailable { IsUnavailable graph.now value block }
     ensures { IfOk result (λ way. IsShortestPast graph.now value block way.items) }
 {
     let edges = edges_of(alloc, graph)?;

@@ -5,8 +5,8 @@ use Rattle.std.proofs.lemmas.Bool.{cases_lt}
 use Rattle.std.proofs.lemmas.List.Elements.{Contains-append_left, Contains-append_right, Contains-append_cases}
 use Rattle.spv_table.specs.Table.{Table}
 use Rattle.spv_walks.specs.declared.code.Code.{Code}
-use Rattle.spv_walks.specs.Code.{IsCode}
-use Rattle.spv_walks.specs.Adds.{AddsBy}
+use Rattle.spv_walks.specs.inner.Code.{IsCode}
+use Rattle.spv_walks.specs.inner.Adds.{AddsBy}
 
 -- of the steps before n
 abbrev pub UpTo : {A : Type 0} → ℕ → (Table → ℕ → A → Type 0) → Table → A → Type 0

@@ -9,16 +9,16 @@ use Rattle.spv_layout.specs.declared.form.Role.TheVariants.{Value, Label}
 use Rattle.spv_layout.specs.Shape.{IsUse}
 use Rattle.spv_layout.specs.Place.{IsOfFunction}
 use Rattle.spv_ids.specs.Definition.{IsDefinedAt}
-use Rattle.spv_availability.specs.declared.asks.Ask.{Ask}
+use Rattle.spv_availability.specs.declared.queries.Query.{Query}
 use Rattle.spv_branches.specs.Target.{IsLabelOf}
 use Rattle.spv_branches.specs.Ready.{IsLocalValue}
 use Rattle.spv_branches.proofs.Labelled.{use_in, use_at, one_id}
 use Rattle.spv_walks.specs.declared.code.Code.{Code}
 use Rattle.spv_walks.specs.declared.edges.Blocks.{Blocks}
-use Rattle.spv_walks.specs.Code.{insts_of, IsCode}
-use Rattle.spv_walks.specs.Divided.{IsIn, IsDivided}
-use Rattle.spv_walks.specs.Leading.{AreBlocks, IsLabelAt}
-use Rattle.spv_walks.specs.Due.{IsFoundAt, IsPairedAt, IsUseAsk, IsPairAsk}
+use Rattle.spv_walks.specs.inner.Code.{insts_of, IsCode}
+use Rattle.spv_walks.specs.inner.Divided.{IsIn, IsDivided}
+use Rattle.spv_walks.specs.inner.Leading.{AreBlocks, IsLabelAt}
+use Rattle.spv_walks.specs.inner.Due.{IsFoundAt, IsPairedAt, IsUseQuery, IsPairQuery}
 use Rattle.spv_walks.proofs.Coded.{one_place}
 use Rattle.spv_walks.proofs.Walking.{first_in}
 
@@ -51,22 +51,22 @@ target_by G c b at n x place i is are there used label (Some k) h = record {
 -- uses
 
 -- where nothing is found, where it stands before in the block, and where it is not local, nothing is asked
-pub no_use : (G : Table) (c : Code) (starts : List ℕ) (b at n : ℕ) → IsFoundAt G (insts_of c) at n None → (a : Ask) → ¬ (IsUseAsk G (insts_of c) starts b at n a)
+pub no_use : (G : Table) (c : Code) (starts : List ℕ) (b at n : ℕ) → IsFoundAt G (insts_of c) at n None → (a : Query) → ¬ (IsUseQuery G (insts_of c) starts b at n a)
 no_use G c starts b at n none a u = none u.id a.value u.role u.used u.defined
 
-pub no_need : (G : Table) (c : Code) (starts : List ℕ) (b at n d : ℕ) → IsCode G c → IsFoundAt G (insts_of c) at n (Some d) → slice_index starts b ≤ d → d < at → (a : Ask) → ¬ (IsUseAsk G (insts_of c) starts b at n a)
+pub no_need : (G : Table) (c : Code) (starts : List ℕ) (b at n d : ℕ) → IsCode G c → IsFoundAt G (insts_of c) at n (Some d) → slice_index starts b ≤ d → d < at → (a : Query) → ¬ (IsUseQuery G (insts_of c) starts b at n a)
 no_need G c starts b at n d is found from to a u =
     let s : a.value ≡ d = one_place G c u.id a.value d is u.defined (found u.id u.role u.used) in
     u.apart (omega (arith, from, s), omega (arith, to, s))
 
-pub no_value : (G : Table) (c : Code) (starts : List ℕ) (b at n d : ℕ) → IsFoundAt G (insts_of c) at n (Some d) → ((x : ℕ) → IsDefinedAt (insts_of c) x d → ¬ (IsLocalValue (insts_of c) x)) → (a : Ask) → ¬ (IsUseAsk G (insts_of c) starts b at n a)
+pub no_value : (G : Table) (c : Code) (starts : List ℕ) (b at n d : ℕ) → IsFoundAt G (insts_of c) at n (Some d) → ((x : ℕ) → IsDefinedAt (insts_of c) x d → ¬ (IsLocalValue (insts_of c) x)) → (a : Query) → ¬ (IsUseQuery G (insts_of c) starts b at n a)
 no_value G c starts b at n d found none a u = none u.id (found u.id u.role u.used) u.local
 
-pub no_role : (G : Table) (c : Code) (starts : List ℕ) (b at n : ℕ) (i : PlainInst) → slice_get (insts_of c) at ≡ Some i → ((x : ℕ) (r : Role) → ¬ (IsUse G i n x r)) → (a : Ask) → ¬ (IsUseAsk G (insts_of c) starts b at n a)
+pub no_role : (G : Table) (c : Code) (starts : List ℕ) (b at n : ℕ) (i : PlainInst) → slice_get (insts_of c) at ≡ Some i → ((x : ℕ) (r : Role) → ¬ (IsUse G i n x r)) → (a : Query) → ¬ (IsUseQuery G (insts_of c) starts b at n a)
 no_role G c starts b at n i there none a u = none u.id u.role (use_in G (insts_of c) at n u.id u.role i there u.used)
 
 pub use_asked : (G : Table) (c : Code) (starts : List ℕ) (b at n x d : ℕ) (i : PlainInst) → slice_get (insts_of c) at ≡ Some i → IsFoundAt G (insts_of c) at n (Some d) → (r : Role) × IsUse G i n x r
-    → ((y : ℕ) → IsDefinedAt (insts_of c) y d → IsLocalValue (insts_of c) y) → ¬ ((slice_index starts b ≤ d) × (d < at)) → IsUseAsk G (insts_of c) starts b at n (record { block = b; value = d; step = at })
+    → ((y : ℕ) → IsDefinedAt (insts_of c) y d → IsLocalValue (insts_of c) y) → ¬ ((slice_index starts b ≤ d) × (d < at)) → IsUseQuery G (insts_of c) starts b at n (record { block = b; value = d; step = at })
 use_asked G c starts b at n x d i there found used local apart =
     let u = use_at G (insts_of c) at n x used.0 i there used.1 in
     let defined = found x used.0 u in
@@ -81,19 +81,19 @@ use_asked G c starts b at n x d i there found used local apart =
       apart = apart;
     }
 
-same_ask : (s a : Ask) → s.block ≡ a.block → s.value ≡ a.value → s.step ≡ a.step → s ≡ a
-same_ask s a k v l =
-    ap (λ (n : ℕ). let t : Ask = record { block = n; value = s.value; step = s.step } in t) k
-    ∙ ap (λ (n : ℕ). let t : Ask = record { block = a.block; value = n; step = s.step } in t) v
-    ∙ ap (λ (n : ℕ). let t : Ask = record { block = a.block; value = a.value; step = n } in t) l
+same_query : (s a : Query) → s.block ≡ a.block → s.value ≡ a.value → s.step ≡ a.step → s ≡ a
+same_query s a k v l =
+    ap (λ (n : ℕ). let t : Query = record { block = n; value = s.value; step = s.step } in t) k
+    ∙ ap (λ (n : ℕ). let t : Query = record { block = a.block; value = n; step = s.step } in t) v
+    ∙ ap (λ (n : ℕ). let t : Query = record { block = a.block; value = a.value; step = n } in t) l
 
-pub one_use : (G : Table) (c : Code) (starts : List ℕ) (b at n : ℕ) (s a : Ask) → IsCode G c → IsUseAsk G (insts_of c) starts b at n s → IsUseAsk G (insts_of c) starts b at n a → s ≡ a
+pub one_use : (G : Table) (c : Code) (starts : List ℕ) (b at n : ℕ) (s a : Query) → IsCode G c → IsUseQuery G (insts_of c) starts b at n s → IsUseQuery G (insts_of c) starts b at n a → s ≡ a
 one_use G c starts b at n s a is u w =
     let e : u.id ≡ w.id = one_id G (insts_of c) at n u.id w.id u.role w.role u.used w.used in
     let v : s.value ≡ a.value = one_place G c w.id s.value a.value is (subst (λ (y : ℕ). IsDefinedAt (insts_of c) y s.value) e u.defined) w.defined in
     let k : s.block ≡ a.block = u.block ∙ sym w.block in
     let l : s.step ≡ a.step = u.step ∙ sym w.step in
-    same_ask s a k v l
+    same_query s a k v l
 
 -- pairs
 
@@ -114,13 +114,13 @@ paired G c at n x d i there found used local =
     let defined = found x Value u in
     (x, u, local x defined, defined)
 
-pub no_pair_value : (G : Table) (c : Code) (starts : List ℕ) (at n : ℕ) → IsPairedAt G (insts_of c) at n None → (a : Ask) → ¬ (IsPairAsk G (insts_of c) starts at n a)
+pub no_pair_value : (G : Table) (c : Code) (starts : List ℕ) (at n : ℕ) → IsPairedAt G (insts_of c) at n None → (a : Query) → ¬ (IsPairQuery G (insts_of c) starts at n a)
 no_pair_value G c starts at n none a p = none p.value p.paired p.local
 
-label_of_pair : (G : Table) (is : List PlainInst) (starts : List ℕ) (at n : ℕ) (a : Ask) → IsPairAsk G is starts at n a → IsLabelAt G is starts at (n + 1) a.block
+label_of_pair : (G : Table) (is : List PlainInst) (starts : List ℕ) (at n : ℕ) (a : Query) → IsPairQuery G is starts at n a → IsLabelAt G is starts at (n + 1) a.block
 label_of_pair G is starts at n a p = record { id = p.id; used = p.named; inside = p.inside; label = p.label }
 
-pub no_pair_label : (G : Table) (c : Code) (starts : List ℕ) (at n : ℕ) → ((k : ℕ) → ¬ (IsLabelAt G (insts_of c) starts at (n + 1) k)) → (a : Ask) → ¬ (IsPairAsk G (insts_of c) starts at n a)
+pub no_pair_label : (G : Table) (c : Code) (starts : List ℕ) (at n : ℕ) → ((k : ℕ) → ¬ (IsLabelAt G (insts_of c) starts at (n + 1) k)) → (a : Query) → ¬ (IsPairQuery G (insts_of c) starts at n a)
 no_pair_label G c starts at n none a p = none a.block (label_of_pair G (insts_of c) starts at n a p)
 
 -- blocks that begin at one instruction are one
@@ -142,7 +142,7 @@ one_target G c b at n j k is are l m =
     one_start (insts_of c) b.function b.starts.now are.laid.divided j k l.inside m.inside s
 
 pub no_pair_need : (G : Table) (c : Code) (b : Blocks) (at n d h : ℕ) → IsCode G c → AreBlocks (insts_of c) b → IsPairedAt G (insts_of c) at n (Some d)
-    → IsLabelAt G (insts_of c) b.starts.now at (n + 1) h → slice_index b.starts.now h ≤ d → d < slice_index b.starts.now (h + 1) → (a : Ask) → ¬ (IsPairAsk G (insts_of c) b.starts.now at n a)
+    → IsLabelAt G (insts_of c) b.starts.now at (n + 1) h → slice_index b.starts.now h ≤ d → d < slice_index b.starts.now (h + 1) → (a : Query) → ¬ (IsPairQuery G (insts_of c) b.starts.now at n a)
 no_pair_need G c b at n d h is are (x, used, local, defined) label from to a p =
     let e : p.value ≡ x = one_id G (insts_of c) at n p.value x Value Value p.paired used in
     let s : a.value ≡ d = one_place G c x a.value d is (subst (λ (y : ℕ). IsDefinedAt (insts_of c) y a.value) e p.defined) defined in
@@ -151,7 +151,7 @@ no_pair_need G c b at n d h is are (x, used, local, defined) label from to a p =
     p.apart (subst (λ (j : ℕ). IsIn b.starts.now j a.value) k here)
 
 pub pair_asked : (G : Table) (c : Code) (b : Blocks) (at n d h : ℕ) → IsPairedAt G (insts_of c) at n (Some d)
-    → IsLabelAt G (insts_of c) b.starts.now at (n + 1) h → ¬ ((slice_index b.starts.now h ≤ d) × (d < slice_index b.starts.now (h + 1))) → IsPairAsk G (insts_of c) b.starts.now at n (record { block = h; value = d; step = at })
+    → IsLabelAt G (insts_of c) b.starts.now at (n + 1) h → ¬ ((slice_index b.starts.now h ≤ d) × (d < slice_index b.starts.now (h + 1))) → IsPairQuery G (insts_of c) b.starts.now at n (record { block = h; value = d; step = at })
 pair_asked G c b at n d h (x, used, local, defined) label apart = record {
   inside = label.inside;
   step = refl;
@@ -165,10 +165,10 @@ pair_asked G c b at n d h (x, used, local, defined) label apart = record {
   apart = λ j. apart (j.from, j.to);
 }
 
-pub one_pair : (G : Table) (c : Code) (b : Blocks) (at n : ℕ) (s a : Ask) → IsCode G c → AreBlocks (insts_of c) b → IsPairAsk G (insts_of c) b.starts.now at n s → IsPairAsk G (insts_of c) b.starts.now at n a → s ≡ a
+pub one_pair : (G : Table) (c : Code) (b : Blocks) (at n : ℕ) (s a : Query) → IsCode G c → AreBlocks (insts_of c) b → IsPairQuery G (insts_of c) b.starts.now at n s → IsPairQuery G (insts_of c) b.starts.now at n a → s ≡ a
 one_pair G c b at n s a is are u w =
     let e : u.value ≡ w.value = one_id G (insts_of c) at n u.value w.value Value Value u.paired w.paired in
     let v : s.value ≡ a.value = one_place G c w.value s.value a.value is (subst (λ (y : ℕ). IsDefinedAt (insts_of c) y s.value) e u.defined) w.defined in
     let k : s.block ≡ a.block = one_target G c b at (n + 1) s.block a.block is are (label_of_pair G (insts_of c) b.starts.now at n s u) (label_of_pair G (insts_of c) b.starts.now at n a w) in
     let l : s.step ≡ a.step = u.step ∙ sym w.step in
-    same_ask s a k v l
+    same_query s a k v l

@@ -10,16 +10,16 @@ use Rattle.spv_layout.specs.declared.form.Role.{Role}
 use Rattle.spv_layout.specs.declared.form.Role.TheVariants.{Label}
 use Rattle.spv_layout.specs.Shape.{IsUse, id_of}
 use Rattle.spv_ids.specs.Definition.{IsUsedAt}
-use Rattle.spv_availability.specs.declared.asks.Ask.{Ask}
+use Rattle.spv_availability.specs.declared.queries.Query.{Query}
 use Rattle.spv_branches.specs.Broken.{Broken}
-use Rattle.spv_branches.specs.Labels.{is_label_at}
+use Rattle.spv_branches.specs.inner.Labels.{is_label_at}
 use Rattle.spv_branches.specs.Target.{is_label, is_branch, IsOp, IsLabelOf}
 use Rattle.spv_branches.specs.Ready.{IsLocalValue}
 use Rattle.spv_branches.proofs.Labelled.{use_in, use_at, op_tells, op_holds}
 use Rattle.spv_branches.proofs.Places.{label_told, branch_labelled, first_use, label_use}
 use Rattle.spv_walks.specs.declared.code.Code.{Code}
-use Rattle.spv_walks.specs.Code.{insts_of, IsCode}
-use Rattle.spv_walks.specs.Due.{IsUseAsk, HasUseAsk}
+use Rattle.spv_walks.specs.inner.Code.{insts_of, IsCode}
+use Rattle.spv_walks.specs.inner.Due.{IsUseQuery, HasUseQuery}
 use Rattle.spv_walks.proofs.Coded.{one_place}
 use Rattle.spv_walks.proofs.Ended.{label_typeless}
 
@@ -55,22 +55,22 @@ Within x = (248 ≤ x) × (x ≤ 251)
 pub within_by : (x : ℕ) → nat_le 248 x && nat_le x 251 ≡ true → Within x
 within_by x h = (grind (arith, nat_tests), grind (arith, nat_tests))
 
-by_branch : (G : Table) (c : Code) (starts : List ℕ) (b at n : ℕ) (i : PlainInst) (a : Ask) → IsCode G c → slice_get (insts_of c) at ≡ Some i → is_branch i.opcode ≡ true → IsUseAsk G (insts_of c) starts b at n a → (n ≡ 0) × (i.opcode ≢ 249)
+by_branch : (G : Table) (c : Code) (starts : List ℕ) (b at n : ℕ) (i : PlainInst) (a : Query) → IsCode G c → slice_get (insts_of c) at ≡ Some i → is_branch i.opcode ≡ true → IsUseQuery G (insts_of c) starts b at n a → (n ≡ 0) × (i.opcode ≢ 249)
 by_branch G c starts b at n i a is there h u = elim (cases_Bool (is_label_at i.opcode n)) [
   | inl t ↦ absurd (label_value G c at n u.id u.role i is there h t u.used u.local)
   | inr f ↦ first_use G i n u.id u.role h f (is.plan.fits at i there) (use_in G (insts_of c) at n u.id u.role i there u.used)
 ]
 
-first_ask : (G : Table) (c : Code) (starts : List ℕ) (b at n : ℕ) (i : PlainInst) (a : Ask) → IsCode G c → slice_get (insts_of c) at ≡ Some i → Within i.opcode → IsUseAsk G (insts_of c) starts b at n a → (n ≡ 0) × (249 < i.opcode)
-first_ask G c starts b at n i a is there within u =
+first_query : (G : Table) (c : Code) (starts : List ℕ) (b at n : ℕ) (i : PlainInst) (a : Query) → IsCode G c → slice_get (insts_of c) at ≡ Some i → Within i.opcode → IsUseQuery G (insts_of c) starts b at n a → (n ≡ 0) × (249 < i.opcode)
+first_query G c starts b at n i a is there within u =
     let lo = within.0 in
     elim (cases_eq i.opcode 248) [
       | inl e ↦ absurd (label_use G i n u.id u.role e (is.plan.fits at i there) (use_in G (insts_of c) at n u.id u.role i there u.used))
       | inr apart ↦ (let k = by_branch G c starts b at n i a is there (branch_in i.opcode lo within.1 apart) u in let m = k.1 in (k.0, omega (arith, lo, apart, m)))
     ]
 
-pub none_asked_here : (G : Table) (c : Code) (starts : List ℕ) (b at : ℕ) (i : PlainInst) (a : Ask) → IsCode G c → slice_get (insts_of c) at ≡ Some i → Within i.opcode → i.opcode ≤ 249 → ¬ (HasUseAsk G (insts_of c) starts b at a)
-none_asked_here G c starts b at i a is there within le (n, u) = let h = (first_ask G c starts b at n i a is there within u).1 in omega (arith, h, le)
+pub none_asked_here : (G : Table) (c : Code) (starts : List ℕ) (b at : ℕ) (i : PlainInst) (a : Query) → IsCode G c → slice_get (insts_of c) at ≡ Some i → Within i.opcode → i.opcode ≤ 249 → ¬ (HasUseQuery G (insts_of c) starts b at a)
+none_asked_here G c starts b at i a is there within le (n, u) = let h = (first_query G c starts b at n i a is there within u).1 in omega (arith, h, le)
 
-pub at_first : (G : Table) (c : Code) (starts : List ℕ) (b at : ℕ) (i : PlainInst) (a : Ask) → IsCode G c → slice_get (insts_of c) at ≡ Some i → Within i.opcode → HasUseAsk G (insts_of c) starts b at a → IsUseAsk G (insts_of c) starts b at 0 a
-at_first G c starts b at i a is there within (n, u) = subst (λ (k : ℕ). IsUseAsk G (insts_of c) starts b at k a) (first_ask G c starts b at n i a is there within u).0 u
+pub at_first : (G : Table) (c : Code) (starts : List ℕ) (b at : ℕ) (i : PlainInst) (a : Query) → IsCode G c → slice_get (insts_of c) at ≡ Some i → Within i.opcode → HasUseQuery G (insts_of c) starts b at a → IsUseQuery G (insts_of c) starts b at 0 a
+at_first G c starts b at i a is there within (n, u) = subst (λ (k : ℕ). IsUseQuery G (insts_of c) starts b at k a) (first_query G c starts b at n i a is there within u).0 u

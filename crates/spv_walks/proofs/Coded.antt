@@ -16,7 +16,7 @@ use Rattle.spv_branches.specs.Target.{is_label, IsOp, IsLabelOf}
 use Rattle.spv_branches.specs.Ready.{IsLocalValue}
 use Rattle.spv_branches.proofs.Labelled.{op_tells, op_holds}
 use Rattle.spv_walks.specs.declared.code.Code.{Code}
-use Rattle.spv_walks.specs.Code.{insts_of, IsCode}
+use Rattle.spv_walks.specs.inner.Code.{insts_of, IsCode}
 use Rattle.spv_walks.proofs.Ended.{no_result_at_end}
 
 pub none_defined : (G : Table) (c : Code) (x m : ℕ) → IsCode G c → definition_in c.ids.now x ≡ None → ¬ (IsDefinedAt (insts_of c) x m)

@@ -1,4 +1,4 @@
--- What the asks of a function's graph tell of the walks of the function.
+-- What the queries of a function's graph tell of the walks of the function.
 use Rattle.std.proofs.Common.{◌≡◌, ◌==◌, ◌<◌, ◌≤◌, ◌⊎◌, ◌+◌, ◌-◌, ◌∙◌, ℕ, List, [], ◌∷◌, Bool, true, refl, sym, ap, subst, inl, inr, length, Option, Some, None, arith}
 use Rattle.std.specs.Prelude.{Contains, Result, Ok, Err, IfOk, ◌++◌, slice_get, slice_index, slice_index_or, slice_range}
 use Rattle.std.proofs.lemmas.Bool.{cases_lt, eqb-true}
@@ -14,22 +14,22 @@ use Rattle.spv_layout.specs.Place.{IsOfFunction}
 use Rattle.spv_ids.specs.Definition.{IsDefinedAt}
 use Rattle.spv_availability.specs.declared.graph.Graph.{Graph}
 use Rattle.spv_availability.specs.declared.graph.Block.{Block}
-use Rattle.spv_availability.specs.declared.asks.Ask.{Ask}
+use Rattle.spv_availability.specs.declared.queries.Query.{Query}
 use Rattle.spv_availability.specs.Graph.{targets_of, IsGraph}
-use Rattle.spv_availability.specs.Path.{IsAvailable, IsMissed}
-use Rattle.spv_availability.specs.First.{AreOfBlocks, IsFirstMissed}
-use Rattle.spv_trees.specs.Open.{AreOpen}
+use Rattle.spv_availability.specs.Path.{IsAvailable, IsUnavailable}
+use Rattle.spv_availability.specs.First.{AreOfBlocks, IsFirstUnavailable}
+use Rattle.spv_dominators.specs.inner.Open.{AreOpen}
 use Rattle.spv_branches.specs.Target.{is_label, is_phi, IsOp, IsLabelOf}
 use Rattle.spv_branches.specs.Walk.{Next, IsWalk}
 use Rattle.spv_branches.specs.Ready.{IsMissing, IsPairMissing}
 use Rattle.spv_walks.specs.declared.code.Code.{Code}
 use Rattle.spv_walks.specs.declared.edges.Blocks.{Blocks}
-use Rattle.spv_walks.specs.Code.{insts_of, IsCode}
-use Rattle.spv_walks.specs.Adds.{AddsBy}
-use Rattle.spv_walks.specs.Divided.{IsIn, IsDivided, IsGraphOf}
-use Rattle.spv_walks.specs.Leading.{AreBlocks, AreInGraph}
-use Rattle.spv_walks.specs.Due.{IsUseAsk, IsPairAsk, IsAsk}
-use Rattle.spv_walks.specs.Missed.{IsMissedIn, IsFirstIn}
+use Rattle.spv_walks.specs.inner.Code.{insts_of, IsCode}
+use Rattle.spv_walks.specs.inner.Adds.{AddsBy}
+use Rattle.spv_walks.specs.inner.Divided.{IsIn, IsDivided, IsGraphOf}
+use Rattle.spv_walks.specs.inner.Leading.{AreBlocks, AreInGraph}
+use Rattle.spv_walks.specs.inner.Due.{IsUseQuery, IsPairQuery, IsQuery}
+use Rattle.spv_walks.specs.inner.Unavailable.{IsUnavailableIn, IsFirstIn}
 use Rattle.spv_walks.proofs.Coded.{one_place}
 use Rattle.spv_walks.proofs.Places.{of_itself}
 use Rattle.spv_walks.proofs.Starting.{few_blocks}
@@ -106,20 +106,20 @@ is_graph c b graph most are a =
       targets = λ k d lt. (let h = a.within (slice_index_or graph.targets.items k d) (All-contains_itself graph.targets.items k d lt) in omega (arith, h, count));
     }
 
--- the asks are those of the function, but for some whose values are available
-pub record AreAll (G : Table) (is : List PlainInst) (starts : List ℕ) (graph : Graph) (asks : List Ask) : Type 0 where
-  pub sound : (a : Ask) → Contains asks a → IsAsk G is starts a
-  pub complete : (a : Ask) → IsAsk G is starts a → Contains asks a ⊎ IsAvailable graph a.value a.block
+-- the queries are those of the function, but for some whose values are available
+pub record AreAll (G : Table) (is : List PlainInst) (starts : List ℕ) (graph : Graph) (queries : List Query) : Type 0 where
+  pub sound : (a : Query) → Contains queries a → IsQuery G is starts a
+  pub complete : (a : Query) → IsQuery G is starts a → Contains queries a ⊎ IsAvailable graph a.value a.block
 
-ask_block : (G : Table) (is : List PlainInst) (starts : List ℕ) (a : Ask) → IsAsk G is starts a → a.block + 1 < length starts
-ask_block G is starts a (b, (n, i, x)) = elim x [
+query_block : (G : Table) (is : List PlainInst) (starts : List ℕ) (a : Query) → IsQuery G is starts a → a.block + 1 < length starts
+query_block G is starts a (b, (n, i, x)) = elim x [
   | inl u ↦ (let e = u.1.1.block in let w = i.block in omega (arith, e, w))
   | inr p ↦ p.2.1.inside
 ]
 
-pub of_blocks : (G : Table) (is : List PlainInst) (f : ℕ) (starts : List ℕ) (graph : Graph) (asks : List Ask) → IsGraphOf G is f starts graph → ((a : Ask) → Contains asks a → IsAsk G is starts a) → AreOfBlocks graph asks
-of_blocks G is f starts graph asks g sound = λ k d lt. (
-    let h = ask_block G is starts (slice_index_or asks k d) (sound (slice_index_or asks k d) (All-contains_itself asks k d lt)) in
+pub of_blocks : (G : Table) (is : List PlainInst) (f : ℕ) (starts : List ℕ) (graph : Graph) (queries : List Query) → IsGraphOf G is f starts graph → ((a : Query) → Contains queries a → IsQuery G is starts a) → AreOfBlocks graph queries
+of_blocks G is f starts graph queries g sound = λ k d lt. (
+    let h = query_block G is starts (slice_index_or queries k d) (sound (slice_index_or queries k d) (All-contains_itself queries k d lt)) in
     let count = g.count in
     omega (arith, h, count))
 
@@ -145,10 +145,10 @@ in_or_not starts b d inside = elim (front_or_not starts b d (slice_index starts 
   | inr none ↦ inr (λ i. none (i.from, i.to))
 ]
 
--- Where what is asked for an instruction is available, nothing is missed at it.
+-- Where what is asked for an instruction is available, nothing is unavailable at it.
 
 value_found : (G : Table) (c : Code) (f : ℕ) (starts : List ℕ) (graph : Graph) → IsCode G c → IsGraphOf G (insts_of c) f starts graph
-    → (n : ℕ) → ((a : Ask) → a.step ≡ n → IsAsk G (insts_of c) starts a → IsAvailable graph a.value a.block) → (m : IsMissing G (insts_of c) n) → m.function ≡ f → ⊥
+    → (n : ℕ) → ((a : Query) → a.step ≡ n → IsQuery G (insts_of c) starts a → IsAvailable graph a.value a.block) → (m : IsMissing G (insts_of c) n) → m.function ≡ f → ⊥
 value_found G c f starts graph is g n found m e =
     let walk : IsWalk G (insts_of c) f m.past n = subst (λ (k : ℕ). IsWalk G (insts_of c) k m.past n) e m.walk in
     let r = g.divided.all n (walk_within G (insts_of c) f m.past n walk) in
@@ -157,13 +157,13 @@ value_found G c f starts graph is g n found m e =
     m.undefined (use_ready G (insts_of c) f starts graph g b n m.id d r.1 m.local.defined (elim (front_or_not starts b d n) [
       | inl before ↦ inl before
       | inr apart ↦ inr (
-          let a : Ask = record { block = b; value = d; step = n } in
-          let u : IsUseAsk G (insts_of c) starts b n m.operand a = record { block = refl; step = refl; id = m.id; role = m.role; used = m.used; local = m.local; defined = m.local.defined; apart = apart } in
+          let a : Query = record { block = b; value = d; step = n } in
+          let u : IsUseQuery G (insts_of c) starts b n m.operand a = record { block = refl; step = refl; id = m.id; role = m.role; used = m.used; local = m.local; defined = m.local.defined; apart = apart } in
           found a refl (b, (n, r.1, inl (m.other, (m.operand, u)))))
     ]) m.past walk)
 
 pair_found : (G : Table) (c : Code) (f : ℕ) (starts : List ℕ) (graph : Graph) → IsCode G c → IsGraphOf G (insts_of c) f starts graph
-    → (n : ℕ) → ((a : Ask) → a.step ≡ n → IsAsk G (insts_of c) starts a → IsAvailable graph a.value a.block) → (m : IsPairMissing G (insts_of c) n) → m.comes.function ≡ f → ⊥
+    → (n : ℕ) → ((a : Query) → a.step ≡ n → IsQuery G (insts_of c) starts a → IsAvailable graph a.value a.block) → (m : IsPairMissing G (insts_of c) n) → m.comes.function ≡ f → ⊥
 pair_found G c f starts graph is g n found m e =
     let walk : IsWalk G (insts_of c) f m.comes.past n = subst (λ (k : ℕ). IsWalk G (insts_of c) k m.comes.past n) e m.comes.walk in
     let r = g.divided.all n (walk_within G (insts_of c) f m.comes.past n walk) in
@@ -176,34 +176,34 @@ pair_found G c f starts graph is g n found m e =
     m.undefined (pair_ready G (insts_of c) f starts graph g b h n m.value d m.parent m.before r.1 m.phi here m.local.defined (elim (in_or_not starts h d from.inside) [
       | inl stands ↦ inl stands
       | inr apart ↦ inr (
-          let a : Ask = record { block = h; value = d; step = n } in
+          let a : Query = record { block = h; value = d; step = n } in
           let named : IsLabelOf (insts_of c) m.pair.id (slice_index starts h) = subst (λ (k : ℕ). IsLabelOf (insts_of c) m.pair.id k) from.first m.pair.label in
-          let p : IsPairAsk G (insts_of c) starts n m.pair.operand a =
+          let p : IsPairQuery G (insts_of c) starts n m.pair.operand a =
           record { inside = from.inside; step = refl; value = m.value; paired = m.pair.paired; id = m.pair.id; named = m.pair.named; label = named; local = m.local; defined = m.local.defined; apart = apart } in
           found a refl (b, (n, r.1, inr (m.phi, label, (m.pair.operand, p)))))
     ]) m.comes e)
 
-pub not_missed : (G : Table) (c : Code) (f : ℕ) (starts : List ℕ) (graph : Graph) → IsCode G c → IsGraphOf G (insts_of c) f starts graph
-    → (n : ℕ) → ((a : Ask) → a.step ≡ n → IsAsk G (insts_of c) starts a → IsAvailable graph a.value a.block) → ¬ (IsMissedIn G (insts_of c) f n)
-not_missed G c f starts graph is g n found (inl (m, e)) = value_found G c f starts graph is g n found m e
-not_missed G c f starts graph is g n found (inr (m, e)) = pair_found G c f starts graph is g n found m e
+pub not_unavailable : (G : Table) (c : Code) (f : ℕ) (starts : List ℕ) (graph : Graph) → IsCode G c → IsGraphOf G (insts_of c) f starts graph
+    → (n : ℕ) → ((a : Query) → a.step ≡ n → IsQuery G (insts_of c) starts a → IsAvailable graph a.value a.block) → ¬ (IsUnavailableIn G (insts_of c) f n)
+not_unavailable G c f starts graph is g n found (inl (m, e)) = value_found G c f starts graph is g n found m e
+not_unavailable G c f starts graph is g n found (inr (m, e)) = pair_found G c f starts graph is g n found m e
 
--- Where it is missed, a value is missed at the instruction.
+-- Where it is unavailable, a value is unavailable at the instruction.
 
 only_at : (G : Table) (c : Code) (x d : ℕ) → IsCode G c → IsDefinedAt (insts_of c) x d → (k : ℕ) → IsDefinedAt (insts_of c) x k → k ≡ d
 only_at G c x d is at k there = one_place G c x k d is there at
 
-value_missed : (G : Table) (c : Code) (f : ℕ) (starts : List ℕ) (graph : Graph) → IsCode G c → IsGraphOf G (insts_of c) f starts graph
-    → (b n k : ℕ) (a : Ask) → IsIn starts b n → ¬ (IsOp (insts_of c) n is_phi) → IsUseAsk G (insts_of c) starts b n k a → IsMissed graph a.value a.block → IsMissedIn G (insts_of c) f n
-value_missed G c f starts graph is g b n k a i plain u m =
-    let there : IsMissed graph a.value b = subst (λ (j : ℕ). IsMissed graph a.value j) u.block m in
+value_unavailable : (G : Table) (c : Code) (f : ℕ) (starts : List ℕ) (graph : Graph) → IsCode G c → IsGraphOf G (insts_of c) f starts graph
+    → (b n k : ℕ) (a : Query) → IsIn starts b n → ¬ (IsOp (insts_of c) n is_phi) → IsUseQuery G (insts_of c) starts b n k a → IsUnavailable graph a.value a.block → IsUnavailableIn G (insts_of c) f n
+value_unavailable G c f starts graph is g b n k a i plain u m =
+    let there : IsUnavailable graph a.value b = subst (λ (j : ℕ). IsUnavailable graph a.value j) u.block m in
     let r = use_missing G (insts_of c) f starts graph g b n u.id a.value i (only_at G c u.id a.value is u.defined) u.apart there in
     let h : IsMissing G (insts_of c) n = record { other = plain; function = f; past = r.past; walk = r.walk; operand = k; id = u.id; role = u.role; used = u.used; local = u.local; undefined = r.undefined } in
     inl (h, refl)
 
-pair_missed : (G : Table) (c : Code) (f : ℕ) (starts : List ℕ) (graph : Graph) → IsCode G c → IsGraphOf G (insts_of c) f starts graph
-    → (b n k : ℕ) (a : Ask) → IsIn starts b n → IsOp (insts_of c) n is_phi → IsOp (insts_of c) (slice_index starts b) is_label → IsPairAsk G (insts_of c) starts n k a → IsMissed graph a.value a.block → IsMissedIn G (insts_of c) f n
-pair_missed G c f starts graph is g b n k a i phi label p m =
+pair_unavailable : (G : Table) (c : Code) (f : ℕ) (starts : List ℕ) (graph : Graph) → IsCode G c → IsGraphOf G (insts_of c) f starts graph
+    → (b n k : ℕ) (a : Query) → IsIn starts b n → IsOp (insts_of c) n is_phi → IsOp (insts_of c) (slice_index starts b) is_label → IsPairQuery G (insts_of c) starts n k a → IsUnavailable graph a.value a.block → IsUnavailableIn G (insts_of c) f n
+pair_unavailable G c f starts graph is g b n k a i phi label p m =
     let target = parents_lead G c f starts graph is g b a.block n (k + 1) p.id i label phi p.inside p.named p.label in
     let r = pair_missing G (insts_of c) f starts graph g b a.block n p.value a.value (slice_index starts a.block) i phi p.inside refl p.label.label target (only_at G c p.value a.value is p.defined) p.apart m in
     let h : IsPairMissing G (insts_of c) n = record {
@@ -218,54 +218,54 @@ pair_missed G c f starts graph is g b n k a i phi label p m =
     } in
     inr (h, r.same)
 
-pub missed_at : (G : Table) (c : Code) (f : ℕ) (starts : List ℕ) (graph : Graph) → IsCode G c → IsGraphOf G (insts_of c) f starts graph
-    → (a : Ask) → IsAsk G (insts_of c) starts a → IsMissed graph a.value a.block → IsMissedIn G (insts_of c) f a.step
-missed_at G c f starts graph is g a (b, (n, i, x)) m = elim x [
-  | inl u ↦ (let s = u.1.1.step in subst (λ (k : ℕ). IsMissedIn G (insts_of c) f k) (sym s) (value_missed G c f starts graph is g b n u.1.0 a i u.0 u.1.1 m))
-  | inr p ↦ (let s = p.2.1.step in subst (λ (k : ℕ). IsMissedIn G (insts_of c) f k) (sym s) (pair_missed G c f starts graph is g b n p.2.0 a i p.0 p.1 p.2.1 m))
+pub unavailable_at : (G : Table) (c : Code) (f : ℕ) (starts : List ℕ) (graph : Graph) → IsCode G c → IsGraphOf G (insts_of c) f starts graph
+    → (a : Query) → IsQuery G (insts_of c) starts a → IsUnavailable graph a.value a.block → IsUnavailableIn G (insts_of c) f a.step
+unavailable_at G c f starts graph is g a (b, (n, i, x)) m = elim x [
+  | inl u ↦ (let s = u.1.1.step in subst (λ (k : ℕ). IsUnavailableIn G (insts_of c) f k) (sym s) (value_unavailable G c f starts graph is g b n u.1.0 a i u.0 u.1.1 m))
+  | inr p ↦ (let s = p.2.1.step in subst (λ (k : ℕ). IsUnavailableIn G (insts_of c) f k) (sym s) (pair_unavailable G c f starts graph is g b n p.2.0 a i p.0 p.1 p.2.1 m))
 ]
 
--- The first step that is missed is the first instruction.
+-- The first step that is unavailable is the first instruction.
 
-ask_there : (asks : List Ask) (a : Ask) → Contains asks a → (k : ℕ) × (slice_get asks k ≡ Some a)
-ask_there asks a (k, lt, e) = (k, slice_get_read asks (length asks) k a refl lt (sym e))
+query_there : (queries : List Query) (a : Query) → Contains queries a → (k : ℕ) × (slice_get queries k ≡ Some a)
+query_there queries a (k, lt, e) = (k, slice_get_read queries (length queries) k a refl lt (sym e))
 
-there_ask : (asks : List Ask) (k : ℕ) (a : Ask) → slice_get asks k ≡ Some a → Contains asks a
-there_ask asks k a h = (k, slice_get_within asks k a h, get_or_from_slice_get asks k a a h)
+there_query : (queries : List Query) (k : ℕ) (a : Query) → slice_get queries k ≡ Some a → Contains queries a
+there_query queries k a h = (k, slice_get_within queries k a h, get_or_from_slice_get queries k a a h)
 
-pub first_by : (G : Table) (c : Code) (f : ℕ) (starts : List ℕ) (graph : Graph) (asks : List Ask) → IsCode G c → IsGraphOf G (insts_of c) f starts graph → AreAll G (insts_of c) starts graph asks
-    → (o : Option ℕ) → IsFirstMissed graph asks o → IsFirstIn G (insts_of c) f o
-first_by G c f starts graph asks is g all None first = λ n. not_missed G c f starts graph is g n (λ a e k. elim (all.complete a k) [
-  | inl there ↦ (let t = ask_there asks a there in first t.0 a t.1)
+pub first_by : (G : Table) (c : Code) (f : ℕ) (starts : List ℕ) (graph : Graph) (queries : List Query) → IsCode G c → IsGraphOf G (insts_of c) f starts graph → AreAll G (insts_of c) starts graph queries
+    → (o : Option ℕ) → IsFirstUnavailable graph queries o → IsFirstIn G (insts_of c) f o
+first_by G c f starts graph queries is g all None first = λ n. not_unavailable G c f starts graph is g n (λ a e k. elim (all.complete a k) [
+  | inl there ↦ (let t = query_there queries a there in first t.0 a t.1)
   | inr available ↦ available
 ])
-first_by G c f starts graph asks is g all (Some i) (here, before) = (
+first_by G c f starts graph queries is g all (Some i) (here, before) = (
   let a = here.1 in
-      let k = all.sound a (there_ask asks here.0 a here.2) in
+      let k = all.sound a (there_query queries here.0 a here.2) in
       let s : a.step ≡ i = here.3 in
-      subst (λ (j : ℕ). IsMissedIn G (insts_of c) f j) s (missed_at G c f starts graph is g a k here.4),
-  λ n lt. not_missed G c f starts graph is g n (λ b e k. elim (all.complete b k) [
-    | inl there ↦ (let t = ask_there asks b there in before t.0 b t.1 (omega (arith, e, lt)))
+      subst (λ (j : ℕ). IsUnavailableIn G (insts_of c) f j) s (unavailable_at G c f starts graph is g a k here.4),
+  λ n lt. not_unavailable G c f starts graph is g n (λ b e k. elim (all.complete b k) [
+    | inl there ↦ (let t = query_there queries b there in before t.0 b t.1 (omega (arith, e, lt)))
     | inr available ↦ available
   ]),
 )
 
--- the asks that were added to none
-pub asked : (G : Table) (c : Code) (starts : List ℕ) (none asks : List Ask) → IsCode G c → none ≡ [] → AddsBy c (λ (H : Table) (a : Ask). IsAsk H (insts_of c) starts a) none asks → (a : Ask) → Contains asks a → IsAsk G (insts_of c) starts a
-asked G c starts none asks is empty adds a k =
-    let e : asks ≡ adds.added = adds.all ∙ ap (λ (xs : List Ask). xs ++ adds.added) empty in
-    adds.sound a (subst (λ (xs : List Ask). Contains xs a) e k) G is
+-- the queries that were added to none
+pub asked : (G : Table) (c : Code) (starts : List ℕ) (none queries : List Query) → IsCode G c → none ≡ [] → AddsBy c (λ (H : Table) (a : Query). IsQuery H (insts_of c) starts a) none queries → (a : Query) → Contains queries a → IsQuery G (insts_of c) starts a
+asked G c starts none queries is empty adds a k =
+    let e : queries ≡ adds.added = adds.all ∙ ap (λ (xs : List Query). xs ++ adds.added) empty in
+    adds.sound a (subst (λ (xs : List Query). Contains xs a) e k) G is
 
 -- and those of them that are open, in another order
-pub all_by : (G : Table) (c : Code) (starts : List ℕ) (graph : Graph) (none asks left sorted : List Ask) → IsCode G c → none ≡ [] → AddsBy c (λ (H : Table) (a : Ask). IsAsk H (insts_of c) starts a) none asks
-    → AreOpen graph asks (length asks) left → IsPermutation left sorted → AreAll G (insts_of c) starts graph sorted
-all_by G c starts graph none asks left sorted is empty adds opened same =
-    let e : asks ≡ adds.added = adds.all ∙ ap (λ (xs : List Ask). xs ++ adds.added) empty in
+pub all_by : (G : Table) (c : Code) (starts : List ℕ) (graph : Graph) (none queries left sorted : List Query) → IsCode G c → none ≡ [] → AddsBy c (λ (H : Table) (a : Query). IsQuery H (insts_of c) starts a) none queries
+    → AreOpen graph queries (length queries) left → IsPermutation left sorted → AreAll G (insts_of c) starts graph sorted
+all_by G c starts graph none queries left sorted is empty adds opened same =
+    let e : queries ≡ adds.added = adds.all ∙ ap (λ (xs : List Query). xs ++ adds.added) empty in
     record {
-      sound = λ a k. asked G c starts none asks is empty adds a (opened.sound a (Contains-permutation sorted left a (IsPermutation-sym left sorted same) k));
+      sound = λ a k. asked G c starts none queries is empty adds a (opened.sound a (Contains-permutation sorted left a (IsPermutation-sym left sorted same) k));
       complete = λ a k. (
-          let t = ask_there asks a (subst (λ (xs : List Ask). Contains xs a) (sym e) (adds.complete a (G, is, k))) in
-          elim (opened.complete t.0 a (slice_get_within asks t.0 a t.1) t.1) [
+          let t = query_there queries a (subst (λ (xs : List Query). Contains xs a) (sym e) (adds.complete a (G, is, k))) in
+          elim (opened.complete t.0 a (slice_get_within queries t.0 a t.1) t.1) [
             | inl kept ↦ inl (Contains-permutation left sorted a same kept)
             | inr available ↦ inr available
           ]);
@@ -275,9 +275,9 @@ pub if_first : {E : Type 0} (r : Result (Option ℕ) E) (P Q : Option ℕ → Ty
 if_first (Ok o) P Q f h = f o h
 if_first (Err e) P Q f h = h
 
--- Where nothing is asked of a function that has no OpPhi, nothing is missed.
+-- Where nothing is asked of a function that has no OpPhi, nothing is unavailable.
 
-value_asked : (G : Table) (c : Code) (f : ℕ) (starts : List ℕ) → IsDivided (insts_of c) f starts → ((a : Ask) → ¬ (IsAsk G (insts_of c) starts a)) → (n : ℕ) → (m : IsMissing G (insts_of c) n) → m.function ≡ f → ⊥
+value_asked : (G : Table) (c : Code) (f : ℕ) (starts : List ℕ) → IsDivided (insts_of c) f starts → ((a : Query) → ¬ (IsQuery G (insts_of c) starts a)) → (n : ℕ) → (m : IsMissing G (insts_of c) n) → m.function ≡ f → ⊥
 value_asked G c f starts d none n m e =
     let walk : IsWalk G (insts_of c) f m.past n = subst (λ (k : ℕ). IsWalk G (insts_of c) k m.past n) e m.walk in
     let r = d.all n (walk_within G (insts_of c) f m.past n walk) in
@@ -286,25 +286,25 @@ value_asked G c f starts d none n m e =
     elim (front_or_not starts b p n) [
       | inl before ↦ m.undefined (came_by G (insts_of c) f starts d m.past n walk b r.1 (λ (k : ℕ). IsDefinedAt (insts_of c) m.id k) p before.0 before.1 m.local.defined)
       | inr apart ↦ (
-          let a : Ask = record { block = b; value = p; step = n } in
-          let u : IsUseAsk G (insts_of c) starts b n m.operand a = record { block = refl; step = refl; id = m.id; role = m.role; used = m.used; local = m.local; defined = m.local.defined; apart = apart } in
+          let a : Query = record { block = b; value = p; step = n } in
+          let u : IsUseQuery G (insts_of c) starts b n m.operand a = record { block = refl; step = refl; id = m.id; role = m.role; used = m.used; local = m.local; defined = m.local.defined; apart = apart } in
           none a (b, (n, r.1, inl (m.other, (m.operand, u)))))
     ]
 
-pub none_by : (G : Table) (c : Code) (f : ℕ) (starts : List ℕ) → IsDivided (insts_of c) f starts → ((a : Ask) → ¬ (IsAsk G (insts_of c) starts a))
+pub none_by : (G : Table) (c : Code) (f : ℕ) (starts : List ℕ) → IsDivided (insts_of c) f starts → ((a : Query) → ¬ (IsQuery G (insts_of c) starts a))
     → ((n : ℕ) → IsOfFunction (insts_of c) n f → ¬ (IsOp (insts_of c) n is_phi)) → IsFirstIn G (insts_of c) f None
 none_by G c f starts d none plain n (inl (m, e)) = value_asked G c f starts d none n m e
 none_by G c f starts d none plain n (inr (m, e)) = plain n (walk_within G (insts_of c) f m.comes.past n (subst (λ (k : ℕ). IsWalk G (insts_of c) k m.comes.past n) e m.comes.walk)) m.phi
 
-none_there : (a : Ask) → ¬ (Contains [] a)
+none_there : (a : Query) → ¬ (Contains [] a)
 none_there a (k, lt, e) = absurd (omega (arith, lt))
 
 -- where nothing was added to none, nothing is asked
-pub none_asked : (G : Table) (c : Code) (starts : List ℕ) (none asks : List Ask) → IsCode G c → none ≡ [] → asks ≡ [] → AddsBy c (λ (H : Table) (a : Ask). IsAsk H (insts_of c) starts a) none asks → (a : Ask) → ¬ (IsAsk G (insts_of c) starts a)
-none_asked G c starts none asks is empty still adds a k =
-    let e : asks ≡ adds.added = adds.all ∙ ap (λ (xs : List Ask). xs ++ adds.added) empty in
-    none_there a (subst (λ (xs : List Ask). Contains xs a) (sym e ∙ still) (adds.complete a (G, is, k)))
+pub none_asked : (G : Table) (c : Code) (starts : List ℕ) (none queries : List Query) → IsCode G c → none ≡ [] → queries ≡ [] → AddsBy c (λ (H : Table) (a : Query). IsQuery H (insts_of c) starts a) none queries → (a : Query) → ¬ (IsQuery G (insts_of c) starts a)
+none_asked G c starts none queries is empty still adds a k =
+    let e : queries ≡ adds.added = adds.all ∙ ap (λ (xs : List Query). xs ++ adds.added) empty in
+    none_there a (subst (λ (xs : List Query). Contains xs a) (sym e ∙ still) (adds.complete a (G, is, k)))
 
-pub is_none : (asks : List Ask) (n : ℕ) (b : Bool) → n ≡ length asks → b ≡ (n == 0) → b ≡ true → asks ≡ []
+pub is_none : (queries : List Query) (n : ℕ) (b : Bool) → n ≡ length queries → b ≡ (n == 0) → b ≡ true → queries ≡ []
 is_none [] n b l e h = refl
-is_none (a ∷ asks) n b l e h = absurd (let z = eqb-true n 0 (sym e ∙ h) in omega (arith, z, l))
+is_none (a ∷ queries) n b l e h = absurd (let z = eqb-true n 0 (sym e ∙ h) in omega (arith, z, l))

@@ -9,11 +9,11 @@ use Rattle.spv_module.specs.Operand as operand
 use Rattle.spv_layout.specs.declared.class.Class.TheVariants.{FunctionEnd}
 use Rattle.spv_layout.specs.declared.form.Form.{Form}
 use Rattle.spv_layout.specs.Class.{is_among}
-use Rattle.spv_layout.specs.Row.{PlainRow, Ending, closed, row_in, R}
+use Rattle.spv_layout.specs.Row.{PlainRow, RowEnding, closed, row_in, R}
 use Rattle.spv_layout.specs.Rows.{rows, row_of, class_of, class_in}
 use Rattle.spv_layout.specs.Layout.{classes}
 use Rattle.spv_layout.specs.Place.{IsAt}
-use Rattle.spv_layout.specs.Shape.{is_of, AreOf, Ends, HasForms, Fits}
+use Rattle.spv_layout.specs.Shape.{is_of, AreOf, Ends, HasForms, FitsShape}
 use Rattle.spv_ids.specs.Definition.{IsDefinedAt}
 use Rattle.spv_branches.proofs.Places.{label_row, label_known}
 
@@ -21,7 +21,7 @@ is_nil : List Form → Bool
 is_nil [] = true
 is_nil (f ∷ fs) = false
 
-is_closed : Ending → Bool
+is_closed : RowEnding → Bool
 is_closed closed = true
 is_closed _ = false
 
@@ -70,7 +70,7 @@ row_tells p (s ∷ rs) n r a h =
 
 -- An OpFunctionEnd has no operands.
 
-ends_closed : (e : Ending) (gs : List Form) → is_closed e ≡ true → Ends e gs → gs ≡ []
+ends_closed : (e : RowEnding) (gs : List Form) → is_closed e ≡ true → Ends e gs → gs ≡ []
 unfolding is_closed
 ends_closed _ _ c Ends.nothing = refl
 ends_closed _ _ c (Ends.absent f) = cc
@@ -112,7 +112,7 @@ end_operands G i fs h c =
 pub class_at : (is : List PlainInst) (n : ℕ) (i : PlainInst) → slice_get is n ≡ Some i → slice_get (classes is) n ≡ Some (class_of i.opcode)
 class_at is n i h = slice_get-map (λ j. class_of j.opcode) is n ∙ ap (option_map (λ j. class_of j.opcode)) h
 
-pub no_result_at_end : (G : Table) (is : List PlainInst) → ((n : ℕ) (i : PlainInst) → slice_get is n ≡ Some i → Fits G i) → (n x : ℕ) → IsDefinedAt is x n → ¬ (IsAt is n (FunctionEnd ∷ []))
+pub no_result_at_end : (G : Table) (is : List PlainInst) → ((n : ℕ) (i : PlainInst) → slice_get is n ≡ Some i → FitsShape G i) → (n x : ℕ) → IsDefinedAt is x n → ¬ (IsAt is n (FunctionEnd ∷ []))
 no_result_at_end G is f n x d a =
     let i = d.inst in
     let h = (f n i d.there).has in
@@ -152,5 +152,5 @@ label_forms G i fs h e =
     let n : h.row.fixed ++ h.rest ≡ R ∷ [] = rw (r, b) refl in
     h.forms ∙ n
 
-pub label_typeless : (G : Table) (i : PlainInst) → Fits G i → i.opcode ≡ 248 → type_in i.operands ≡ None
+pub label_typeless : (G : Table) (i : PlainInst) → FitsShape G i → i.opcode ≡ 248 → type_in i.operands ≡ None
 label_typeless G i f e = result_alone G f.forms i.operands f.has.each (label_forms G i f.forms f.has e)

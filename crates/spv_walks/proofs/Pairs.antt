@@ -7,12 +7,12 @@ use Rattle.spv_module.specs.Operand.{PlainInst}
 use Rattle.spv_ids.specs.Definition.{IsDefinedAt}
 use Rattle.spv_availability.specs.declared.graph.Graph.{Graph}
 use Rattle.spv_availability.specs.Graph.{targets_of}
-use Rattle.spv_availability.specs.Path.{IsPath, IsAvailable, IsMissed}
+use Rattle.spv_availability.specs.Path.{IsPath, IsAvailable, IsUnavailable}
 use Rattle.spv_branches.specs.Target.{is_label, is_phi, is_function, is_terminator, IsOp}
 use Rattle.spv_branches.specs.Walk.{Next, IsWalk, IsResultAmong, IsLastLabel}
 use Rattle.spv_branches.specs.Ready.{ComesFrom}
 use Rattle.spv_branches.proofs.Firsts.{known}
-use Rattle.spv_walks.specs.Divided.{IsIn, IsDivided, IsGraphOf}
+use Rattle.spv_walks.specs.inner.Divided.{IsIn, IsDivided, IsGraphOf}
 use Rattle.spv_walks.proofs.Lists.{any_none, any_cases, any_right, any_head, one_division}
 use Rattle.spv_walks.proofs.Trails.{run, size, trail, run_any, all_run, run_split, trail_defined, trail_only}
 use Rattle.spv_walks.proofs.Walking.{comes, first_in, begin_first, one_block, through, walk_to}
@@ -171,10 +171,10 @@ pub record IsUnfound (G : Table) (is : List PlainInst) (f n parent x : ℕ) : Ty
   pub same : comes.function ≡ f
   pub undefined : ¬ (IsResultAmong is before x)
 
--- Where it does not stand in the parent and is missed there, the pair does not find it on some walk.
+-- Where it does not stand in the parent and is unavailable there, the pair does not find it on some walk.
 pub pair_missing : (G : Table) (is : List PlainInst) (f : ℕ) (starts : List ℕ) (graph : Graph) → IsGraphOf G is f starts graph
     → (b h n x d parent : ℕ) → IsIn starts b n → IsOp is n is_phi → h + 1 < length starts → slice_index starts h ≡ parent → IsOp is parent is_label → Contains (targets_of graph h) b
-    → ((k : ℕ) → IsDefinedAt is x k → k ≡ d) → ¬ (IsIn starts h d) → IsMissed graph d h → IsUnfound G is f n parent x
+    → ((k : ℕ) → IsDefinedAt is x k → k ≡ d) → ¬ (IsIn starts h d) → IsUnavailable graph d h → IsUnfound G is f n parent x
 pair_missing G is f starts graph g b h n x d parent i phi inside first label target one apart m =
     let path : IsPath graph (h ∷ m.past) b = (omega (arith, inside, g.count), target, m.path) in
     let to_first = walk_to G is f starts graph g (h ∷ m.past) b i.block path in

@@ -14,12 +14,12 @@ use Rattle.spv_ids.specs.Order.{IsInScope, IsScoped}
 use Rattle.spv_ids.specs.Broken as ids
 use Rattle.spv_availability.specs.declared.graph.Graph.{Graph}
 use Rattle.spv_availability.specs.Graph.{targets_of}
-use Rattle.spv_branches.specs.Target.{is_label, is_phi, IsOp, IsLabelOf, IsTarget, Leads, HasParents}
+use Rattle.spv_branches.specs.Target.{is_label, is_phi, IsOp, IsLabelOf, IsTarget, LeadsToBlock, HasParents}
 use Rattle.spv_branches.specs.Broken as branches
 use Rattle.spv_branches.specs.Walk.{Next}
 use Rattle.spv_walks.specs.declared.code.Code.{Code}
-use Rattle.spv_walks.specs.Code.{insts_of, IsCode}
-use Rattle.spv_walks.specs.Divided.{IsIn, IsDivided, IsGraphOf}
+use Rattle.spv_walks.specs.inner.Code.{insts_of, IsCode}
+use Rattle.spv_walks.specs.inner.Divided.{IsIn, IsDivided, IsGraphOf}
 use Rattle.spv_walks.proofs.Coded.{one_place}
 use Rattle.spv_walks.proofs.Ended.{no_result_at_end}
 use Rattle.spv_walks.proofs.Places.{label_at, terminator_at, branch_scoped}
@@ -120,7 +120,7 @@ parent_leads G c f starts graph is g b h n k x i begin in_h used label hp =
     let d = g.divided in
     let e = hp.each k x used in
     let t : ℕ = e.2.0 in
-    let l : Leads G (insts_of c) t e.0 hp.block = e.2.1 in
+    let l : LeadsToBlock G (insts_of c) t e.0 hp.block = e.2.1 in
     let p : e.0 ≡ slice_index starts h = one_place G c x e.0 (slice_index starts h) is e.1.defined label.defined in
     let q : hp.block ≡ slice_index starts b = block_is (insts_of c) f starts d b n hp.block i begin hp.of l.label.label in
     let to_block : IsLabelOf (insts_of c) l.id (slice_index starts b) = subst (λ (m : ℕ). IsLabelOf (insts_of c) l.id m) q l.label in

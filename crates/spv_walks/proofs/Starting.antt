@@ -14,10 +14,10 @@ use Rattle.std.proofs.lemmas.Option.{slice_get_within}
 use Rattle.spv_module.specs.Module.{plain_inst}
 use Rattle.spv_walks.specs.declared.code.Code.{Code}
 use Rattle.spv_walks.specs.declared.edges.Blocks.{Blocks}
-use Rattle.spv_walks.specs.Code.{insts_of}
-use Rattle.spv_walks.specs.Divided.{IsIn, IsBegin}
-use Rattle.spv_walks.specs.Starts.{IsExtent, IsRising, AreStarts, IsLaid}
-use Rattle.spv_walks.specs.Leading.{AreBlocks}
+use Rattle.spv_walks.specs.inner.Code.{insts_of}
+use Rattle.spv_walks.specs.inner.Divided.{IsIn, IsBegin}
+use Rattle.spv_walks.specs.inner.Starts.{IsExtent, IsRising, AreStarts, IsLaid}
+use Rattle.spv_walks.specs.inner.Leading.{AreBlocks}
 use Rattle.spv_walks.proofs.Alone.{function_opcode, end_opcode}
 use Rattle.spv_walks.proofs.Places.{function_at, end_at, of_before}
 use Rattle.spv_walks.proofs.Walking.{begin_first}

@@ -12,10 +12,10 @@ use Rattle.spv_availability.specs.declared.graph.Graph.{Graph}
 use Rattle.spv_branches.specs.Target.{is_branch, is_terminator, IsOp}
 use Rattle.spv_branches.specs.Walk.{Next}
 use Rattle.spv_walks.specs.declared.code.Code.{Code}
-use Rattle.spv_walks.specs.Code.{insts_of, IsCode}
-use Rattle.spv_walks.specs.Adds.{AddsBy}
-use Rattle.spv_walks.specs.Divided.{IsDivided}
-use Rattle.spv_walks.specs.Leading.{HasLabel, LeadsTo, IsBlockAt, AreInGraph}
+use Rattle.spv_walks.specs.inner.Code.{insts_of, IsCode}
+use Rattle.spv_walks.specs.inner.Adds.{AddsBy}
+use Rattle.spv_walks.specs.inner.Divided.{IsDivided}
+use Rattle.spv_walks.specs.inner.Leading.{HasLabel, LeadsTo, IsBlockAt, AreInGraph}
 use Rattle.spv_walks.proofs.Adding.{adds_none, adds_one, adds_as}
 use Rattle.spv_walks.proofs.Asking.{one_start}
 use Rattle.spv_walks.proofs.Walking.{branch_ends}

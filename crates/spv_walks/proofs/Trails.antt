@@ -8,7 +8,7 @@ use Rattle.spv_ids.specs.Definition.{IsDefinedAt}
 use Rattle.spv_availability.specs.declared.graph.Graph.{Graph}
 use Rattle.spv_availability.specs.Path.{IsPath, IsDefinedOn}
 use Rattle.spv_branches.specs.Walk.{IsResultAmong}
-use Rattle.spv_walks.specs.Divided.{IsGraphOf}
+use Rattle.spv_walks.specs.inner.Divided.{IsGraphOf}
 use Rattle.spv_walks.proofs.Lists.{any_cons, any_head, any_tail, any_none, any_cases, any_left, any_right, all_cons}
 
 -- the instructions from s on, so many

@@ -13,9 +13,9 @@ use Rattle.spv_layout.specs.declared.form.Form.TheVariants as form
 use Rattle.spv_layout.specs.Shape.{is_of, AreOf, IsUse, IsRole, role_of, id_of}
 use Rattle.spv_layout.proofs.Shapes.{use_same}
 use Rattle.spv_ids.specs.Definition.{IsDefinedAt}
-use Rattle.spv_ids.specs.Uses.{used_id}
+use Rattle.spv_ids.specs.inner.Uses.{used_id}
 use Rattle.spv_branches.proofs.Labelled.{use_in}
-use Rattle.spv_walks.specs.Due.{IsFoundAt}
+use Rattle.spv_walks.specs.inner.Due.{IsFoundAt}
 
 pub value_some : (G : Table) (i : PlainInst) (n : ℕ) (o : Option ℕ) → o ≡ option_and_then id_of (slice_get i.operands n) → IsRole G i n (Some Value) → MatchOption o ((x : ℕ) → ¬ (IsUse G i n x Value)) (λ x. IsUse G i n x Value)
 value_some G i n o e (x, u) =

@@ -7,12 +7,12 @@ use Rattle.spv_module.specs.Operand.{PlainInst}
 use Rattle.spv_layout.specs.Place.{IsOfFunction}
 use Rattle.spv_ids.specs.Definition.{IsDefinedAt}
 use Rattle.spv_availability.specs.declared.graph.Graph.{Graph}
-use Rattle.spv_availability.specs.Path.{IsPath, IsAvailable, IsMissed}
+use Rattle.spv_availability.specs.Path.{IsPath, IsAvailable, IsUnavailable}
 use Rattle.spv_branches.specs.Target.{is_branch, is_terminator, IsOp}
 use Rattle.spv_branches.specs.Walk.{Next, IsWalk, IsResultAmong}
 use Rattle.spv_branches.proofs.Firsts.{holds}
 use Rattle.spv_branches.proofs.Labelled.{op_holds}
-use Rattle.spv_walks.specs.Divided.{IsIn, IsBegin, IsDivided, IsGraphOf}
+use Rattle.spv_walks.specs.inner.Divided.{IsIn, IsBegin, IsDivided, IsGraphOf}
 use Rattle.spv_walks.proofs.Lists.{any_head, any_tail, any_cases, any_left, any_right}
 use Rattle.spv_walks.proofs.Trails.{run, size, trail, any_run, run_any, trail_defined, trail_only}
 
@@ -222,9 +222,9 @@ pub record IsUnready (G : Table) (is : List PlainInst) (f n x : ℕ) : Type 0 wh
   pub walk : IsWalk G is f past n
   pub undefined : ¬ (IsResultAmong is past x)
 
--- Where it does not stand before in the block and is missed there, some walk has not.
+-- Where it does not stand before in the block and is unavailable there, some walk has not.
 pub use_missing : (G : Table) (is : List PlainInst) (f : ℕ) (starts : List ℕ) (graph : Graph) → IsGraphOf G is f starts graph
-    → (b n x d : ℕ) → IsIn starts b n → ((k : ℕ) → IsDefinedAt is x k → k ≡ d) → ¬ ((slice_index starts b ≤ d) × (d < n)) → IsMissed graph d b → IsUnready G is f n x
+    → (b n x d : ℕ) → IsIn starts b n → ((k : ℕ) → IsDefinedAt is x k → k ≡ d) → ¬ ((slice_index starts b ≤ d) × (d < n)) → IsUnavailable graph d b → IsUnready G is f n x
 use_missing G is f starts graph g b n x d i one apart m =
     let to_first = walk_to G is f starts graph g m.past b i.block m.path in
     let from = i.from in

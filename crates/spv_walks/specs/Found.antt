@@ -8,7 +8,8 @@ use Rattle.spv_layout.specs.First.{IsFirst}
 use Rattle.spv_layout.specs.Place.{first_word_of}
 use Rattle.spv_branches.specs.Broken.{Broken}
 
--- What a refusal by A1 and A2 says: want of memory, or the first broken of these rules and the first word of its instruction.
+-- What a refusal by A1 and A2 says: want of memory, or the first broken of these rules and the first word of its
+-- instruction.
 abbrev pub IsRefusal : Table → List PlainInst → Stop → Type 0
 IsRefusal G is Memory = Unit {0}
 IsRefusal G is (Fault f) = IsFirst (Broken G is) 7 f.rule f.inst × (f.word ≡ first_word_of is f.inst)

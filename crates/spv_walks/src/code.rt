@@ -22,7 +22,7 @@ pub struct Code<'m, 'a> {
 impl Code<'_, '_> {
     ghost use Rattle.std.specs.Prelude.{◌≡◌, ◌<◌, ℕ, length, IfSome, MatchOption, MatchBool};
     ghost use Rattle.spv_table.specs.Table.{Table};
-    ghost use Rattle.spv_walks.specs.Code.{insts_of, IsCode};
+    ghost use Rattle.spv_walks.specs.inner.Code.{insts_of, IsCode};
     ghost use Rattle.spv_branches.specs.Target.{IsLabelOf};
     ghost use Rattle.spv_branches.specs.Ready.{IsLocalValue};
     ghost use Rattle.spv_ids.specs.Definition.{IsDefinedAt};
@@ -30,7 +30,9 @@ impl Code<'_, '_> {
 
     /// The OpFunction of the function that an instruction is of.
     pub fn function_of(&self, inst: u32) -> Option<u32>
-        ensures { (G : Table) → IsCode G self.now → inst < length self.now.insts.now → MatchOption result ((f : ℕ) → ¬ (IsOfFunction (insts_of self.now) inst f)) (λ f. IsOfFunction (insts_of self.now) inst f) }
+        ensures { (G : Table) → IsCode G self.now → inst < length self.now.insts.now
+            → MatchOption result ((f : ℕ) → ¬ (IsOfFunction (insts_of self.now) inst f))
+            (λ f. IsOfFunction (insts_of self.now) inst f) }
     {
         let Some(place) = self.plan.at(inst) else {
             return None;
@@ -41,7 +43,9 @@ impl Code<'_, '_> {
     /// The instruction whose result an id is.
     #[inline(always)]
     pub fn definition(&self, id: u32) -> Option<u32>
-        ensures there { (G : Table) → IsCode G self.now → MatchOption result ((d : ℕ) → ¬ (IsDefinedAt (insts_of self.now) id d)) (λ d. IsDefinedAt (insts_of self.now) id d) }
+        ensures there { (G : Table) → IsCode G self.now
+            → MatchOption result ((d : ℕ) → ¬ (IsDefinedAt (insts_of self.now) id d))
+            (λ d. IsDefinedAt (insts_of self.now) id d) }
         ensures within { IfSome result (λ d. d < length self.now.insts.now) }
     {
         let Some(place) = self.ids.definition(id) else {
@@ -56,7 +60,9 @@ impl Code<'_, '_> {
 
     /// The OpLabel whose result an id is.
     pub fn label_of(&self, id: u32) -> Option<u32>
-        ensures label { (G : Table) → IsCode G self.now → MatchOption result ((m : ℕ) → ¬ (IsLabelOf (insts_of self.now) id m)) (λ m. IsLabelOf (insts_of self.now) id m) }
+        ensures label { (G : Table) → IsCode G self.now
+            → MatchOption result ((m : ℕ) → ¬ (IsLabelOf (insts_of self.now) id m))
+            (λ m. IsLabelOf (insts_of self.now) id m) }
         ensures within { IfSome result (λ m. m < length self.now.insts.now) }
     {
         let Some(place) = self.definition(id) else {
@@ -72,7 +78,8 @@ impl Code<'_, '_> {
     /// Whether the result of an instruction is a local value.
     pub fn is_local(&self, place: u32) -> bool
         requires { place < length self.now.insts.now }
-        ensures { (G : Table) (x : ℕ) → IsCode G self.now → IsDefinedAt (insts_of self.now) x place → MatchBool result (IsLocalValue (insts_of self.now) x) (¬ (IsLocalValue (insts_of self.now) x)) }
+        ensures { (G : Table) (x : ℕ) → IsCode G self.now → IsDefinedAt (insts_of self.now) x place
+            → MatchBool result (IsLocalValue (insts_of self.now) x) (¬ (IsLocalValue (insts_of self.now) x)) }
     {
         if place < self.globals {
             return false;

@@ -5,9 +5,9 @@ ghost use Rattle.spv_table.specs.Table.{Table};
 ghost use Rattle.spv_module.specs.Module.{plain_inst};
 ghost use Rattle.spv_branches.specs.Target.{IsOp};
 ghost use Rattle.spv_branches.specs.Target as target;
-ghost use Rattle.spv_walks.specs.Code.{insts_of, IsCode};
-ghost use Rattle.spv_walks.specs.Divided.{IsBegin};
-ghost use Rattle.spv_walks.specs.Starts.{IsExtent, IsLaid};
+ghost use Rattle.spv_walks.specs.inner.Code.{insts_of, IsCode};
+ghost use Rattle.spv_walks.specs.inner.Divided.{IsBegin};
+ghost use Rattle.spv_walks.specs.inner.Starts.{IsExtent, IsLaid};
 
 use crate::code::{Code, FUNCTION, FUNCTION_END, LABEL, PHI, is_terminator};
 use spv_module::Inst;
@@ -27,7 +27,8 @@ pub fn function_extent(code: &Code<'_, '_>, function: u32) -> Extent
     requires code { (G : Table) × IsCode G code.now }
     requires function { IsOp (insts_of code.now) function target.is_function }
     ensures extent { IsExtent (insts_of code.now) function result.end }
-    ensures phis { result.has_phis ≡ false → (n : ℕ) → function ≤ n → n < result.end → ¬ (IsOp (insts_of code.now) n target.is_phi) }
+    ensures phis { result.has_phis ≡ false → (n : ℕ) → function ≤ n → n < result.end
+        → ¬ (IsOp (insts_of code.now) n target.is_phi) }
 {
     let count = code.insts.len() as u32;
     let mut has_phis = false;
@@ -61,8 +62,8 @@ fn begins(insts: &[Inst<'_>], at: usize) -> bool
     insts[at].opcode == LABEL || is_terminator(insts[at - 1].opcode)
 }
 
-/// The first instruction of each block of a function, and at last the one after the function's last; and the number of the
-/// block that begins at each of these.
+/// The first instruction of each block of a function, and at last the one after the function's last; and the number of
+/// the block that begins at each of these.
 pub fn divide(
     code: &Code<'_, '_>,
     function: u32,

@@ -1,14 +1,15 @@
 //! The graph of a function's blocks.
 
-ghost use Rattle.std.specs.Prelude.{◌≡◌, ◌<◌, ◌≤◌, ◌+◌, ◌-◌, ℕ, List, length, slice_index, OnOk, MatchOption};
+ghost use Rattle.std.specs.Prelude.{◌≡◌, ◌<◌, ◌≤◌, ◌+◌, ◌-◌, ℕ, List, length, slice_index};
+ghost use Rattle.std.specs.Prelude.{OnOk, MatchOption};
 ghost use Rattle.spv_table.specs.Table.{Table};
 ghost use Rattle.spv_module.specs.Operand.{PlainInst};
 ghost use Rattle.spv_layout.specs.Place.{IsOfFunction};
 ghost use Rattle.spv_branches.specs.Target as target;
 ghost use Rattle.spv_branches.specs.Target.{IsOp};
-ghost use Rattle.spv_walks.specs.Code.{insts_of, IsCode};
-ghost use Rattle.spv_walks.specs.Adds.{AddsBy};
-ghost use Rattle.spv_walks.specs.Leading.{AreBlocks, IsLabelAt, HasLabel, LeadsTo, AreInGraph};
+ghost use Rattle.spv_walks.specs.inner.Code.{insts_of, IsCode};
+ghost use Rattle.spv_walks.specs.inner.Adds.{AddsBy};
+ghost use Rattle.spv_walks.specs.inner.Leading.{AreBlocks, IsLabelAt, HasLabel, LeadsTo, AreInGraph};
 
 use crate::code::{Code, is_branch, is_terminator};
 use crate::operands::label;
@@ -32,7 +33,8 @@ impl Blocks<'_> {
     pub fn at_label(&self, label: u32) -> Option<u32>
         requires { label < length self.now.numbers.now }
         ensures { (is : List PlainInst) → AreBlocks is self.now → IsOp is label target.is_label
-            → MatchOption result (¬ (IsOfFunction is label self.now.function)) (λ b. (b + 1 < length self.now.starts.now) × (slice_index self.now.starts.now b ≡ label)) }
+            → MatchOption result (¬ (IsOfFunction is label self.now.function))
+            (λ b. (b + 1 < length self.now.starts.now) × (slice_index self.now.starts.now b ≡ label)) }
     {
         if self.function <= label && label < self.end {
             Some(self.numbers[label as usize])
@@ -46,7 +48,9 @@ impl Blocks<'_> {
 pub fn target(code: &Code<'_, '_>, blocks: &Blocks<'_>, at: u32, n: usize) -> Option<u32>
     requires blocks { AreBlocks (insts_of code.now) blocks.now }
     requires at { at < length code.now.insts.now }
-    ensures { (G : Table) → IsCode G code.now → MatchOption result ((c : ℕ) → ¬ (IsLabelAt G (insts_of code.now) blocks.now.starts.now at n c)) (λ c. IsLabelAt G (insts_of code.now) blocks.now.starts.now at n c) }
+    ensures { (G : Table) → IsCode G code.now
+        → MatchOption result ((c : ℕ) → ¬ (IsLabelAt G (insts_of code.now) blocks.now.starts.now at n c))
+        (λ c. IsLabelAt G (insts_of code.now) blocks.now.starts.now at n c) }
 {
     let id = label(&code.insts[at as usize], n)?;
     let place = code.label_of(id)?;
@@ -62,7 +66,8 @@ fn add_labels(
 ) -> Result<(), AllocError>
     requires blocks { AreBlocks (insts_of code.now) blocks.now }
     requires at { at < length code.now.insts.now }
-    ensures { OnOk result (AddsBy code.now (λ G c. HasLabel G (insts_of code.now) blocks.now.starts.now at c) targets.old.items targets.new.items) }
+    ensures { OnOk result (AddsBy code.now (λ G c. HasLabel G (insts_of code.now) blocks.now.starts.now at c)
+        targets.old.items targets.new.items) }
 {
     for n in 0..code.insts[at as usize].operands.as_slice().len() {
         if let Some(block) = target(code, blocks, at, n) {
@@ -82,7 +87,8 @@ fn add_targets(
     requires blocks { AreBlocks (insts_of code.now) blocks.now }
     requires block { block + 1 < length blocks.now.starts.now }
     requires most { length code.now.insts.now ≤ 4194304 }
-    ensures { OnOk result (AddsBy code.now (λ G c. LeadsTo G (insts_of code.now) blocks.now.starts.now block c) targets.old.items targets.new.items) }
+    ensures { OnOk result (AddsBy code.now (λ G c. LeadsTo G (insts_of code.now) blocks.now.starts.now block c)
+        targets.old.items targets.new.items) }
 {
     let last = blocks.starts[block + 1] - 1;
     let opcode = code.insts[last as usize].opcode;

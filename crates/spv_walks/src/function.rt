@@ -6,17 +6,17 @@ ghost use Rattle.spv_table.specs.Table.{Table};
 ghost use Rattle.spv_availability.specs.First.{AreInOrder};
 ghost use Rattle.spv_branches.specs.Target as target;
 ghost use Rattle.spv_branches.specs.Target.{IsOp};
-ghost use Rattle.spv_walks.specs.Code.{insts_of, IsCode};
-ghost use Rattle.spv_walks.specs.Missed.{IsFirstIn};
-ghost use Rattle.spv_walks.specs.Starts.{IsExtent};
+ghost use Rattle.spv_walks.specs.inner.Code.{insts_of, IsCode};
+ghost use Rattle.spv_walks.specs.inner.Unavailable.{IsFirstIn};
+ghost use Rattle.spv_walks.specs.inner.Starts.{IsExtent};
 
-use crate::asks::add_all;
 use crate::code::Code;
 use crate::divide::{Extent, divide};
 use crate::edges::{Blocks, build};
-use crate::least::missed_first;
-use spv_availability::{Ask, Graph, first_missed};
-use spv_trees::open_asks;
+use crate::least::unavailable_first;
+use crate::queries::add_all;
+use spv_availability::{Graph, Query, first_unavailable};
+use spv_dominators::open_queries;
 use std::alloc::{AllocError, Global};
 
 /// Lists that are used for one function after the other.
@@ -26,7 +26,7 @@ pub struct Buffers {
     pub starts: Vec<u32>,
     pub numbers: Vec<u32>,
     pub graph: Graph,
-    pub asks: Vec<Ask>,
+    pub queries: Vec<Query>,
 }
 
 impl Buffers {
@@ -41,17 +41,17 @@ impl Buffers {
                 blocks: Vec::new(alloc),
                 targets: Vec::new(alloc),
             },
-            asks: Vec::new(alloc),
+            queries: Vec::new(alloc),
         })
     }
 }
 
-/// Brings asks into the order of their values.
-pub fn sort(asks: &mut [Ask])
-    ensures order { AreInOrder asks.new }
-    ensures same { IsPermutation asks.old asks.new }
+/// Brings queries into the order of their values.
+pub fn sort(queries: &mut [Query])
+    ensures order { AreInOrder queries.new }
+    ensures same { IsPermutation queries.old queries.new }
 {
-    asks.sort_unstable_by_key(|ask| ask.value);
+    queries.sort_unstable_by_key(|query| query.value);
 }
 
 /// The first instruction at which a walk of the function misses a value that is used there.
@@ -64,11 +64,13 @@ pub fn first_in_function(
 ) -> Result<Option<u32>, AllocError>
     requires code { (G : Table) × IsCode G code.now }
     requires extent { IsExtent (insts_of code.now) function extent.end }
-    requires phis { extent.has_phis ≡ false → (n : ℕ) → function ≤ n → n < extent.end → ¬ (IsOp (insts_of code.now) n target.is_phi) }
+    requires phis { extent.has_phis ≡ false → (n : ℕ) → function ≤ n → n < extent.end
+        → ¬ (IsOp (insts_of code.now) n target.is_phi) }
     requires count { length buffers.old.numbers.items ≡ length code.now.insts.now }
     requires most { length code.now.insts.now ≤ 4194304 }
     ensures count { OnOk result (length buffers.new.numbers.items ≡ length code.now.insts.now) }
-    ensures first { IfOk result (λ o. (G : Table) → IsCode G code.now → IsFirstIn G (insts_of code.now) function o) }
+    ensures first { IfOk result (λ o. (G : Table) → IsCode G code.now
+        → IsFirstIn G (insts_of code.now) function o) }
 {
     divide(
         code,
@@ -83,16 +85,16 @@ pub fn first_in_function(
         starts: buffers.starts.as_slice(),
         numbers: buffers.numbers.as_slice(),
     };
-    buffers.asks.clear();
-    add_all(code, &blocks, &mut buffers.asks)?;
-    if buffers.asks.is_empty() && !extent.has_phis {
+    buffers.queries.clear();
+    add_all(code, &blocks, &mut buffers.queries)?;
+    if buffers.queries.is_empty() && !extent.has_phis {
         return Ok(None);
     }
     build(code, &blocks, &mut buffers.graph)?;
-    let mut left = open_asks(alloc, &buffers.graph, buffers.asks.as_slice())?;
-    if let Some(inst) = missed_first(alloc, &buffers.graph, left.as_slice())? {
+    let mut left = open_queries(alloc, &buffers.graph, buffers.queries.as_slice())?;
+    if let Some(inst) = unavailable_first(alloc, &buffers.graph, left.as_slice())? {
         return Ok(Some(inst));
     }
     sort(&mut left);
-    first_missed(alloc, &buffers.graph, left.as_slice())
+    first_unavailable(alloc, &buffers.graph, left.as_slice())
 }

@@ -3,9 +3,9 @@
 ghost use Rattle.std.specs.Prelude.{◌≡◌, ℕ, MatchOption, map, slice_get, option_and_then};
 ghost use Rattle.spv_table.specs.Table.{Table};
 ghost use Rattle.spv_module.specs.Module.{plain_inst, plain_operand};
-ghost use Rattle.spv_layout.specs.Shape.{Fits, IsUse};
+ghost use Rattle.spv_layout.specs.Shape.{FitsShape, IsUse};
 ghost use Rattle.spv_layout.specs.Shape as shape;
-ghost use Rattle.spv_ids.specs.Uses as uses;
+ghost use Rattle.spv_ids.specs.inner.Uses as uses;
 ghost use Rattle.spv_layout.specs.declared.form.Role as declared;
 ghost use Rattle.spv_layout.specs.declared.form.Role.TheVariants as role;
 
@@ -69,7 +69,9 @@ pub fn other_id(inst: &Inst<'_>, n: usize) -> Option<u32>
 
 /// The id that operand `n` uses as a label, if it does.
 pub fn label(inst: &Inst<'_>, n: usize) -> Option<u32>
-    ensures { (G : Table) → Fits G (plain_inst inst.now) → MatchOption result ((x : ℕ) → ¬ (IsUse G (plain_inst inst.now) n x role.Label)) (λ x. IsUse G (plain_inst inst.now) n x role.Label) }
+    ensures { (G : Table) → FitsShape G (plain_inst inst.now)
+        → MatchOption result ((x : ℕ) → ¬ (IsUse G (plain_inst inst.now) n x role.Label))
+        (λ x. IsUse G (plain_inst inst.now) n x role.Label) }
 {
     match role(inst, n) {
         Some(found) => match found {
@@ -82,7 +84,9 @@ pub fn label(inst: &Inst<'_>, n: usize) -> Option<u32>
 
 /// The id that operand `n` uses as a value, if it does.
 pub fn value(inst: &Inst<'_>, n: usize) -> Option<u32>
-    ensures { (G : Table) → Fits G (plain_inst inst.now) → MatchOption result ((x : ℕ) → ¬ (IsUse G (plain_inst inst.now) n x role.Value)) (λ x. IsUse G (plain_inst inst.now) n x role.Value) }
+    ensures { (G : Table) → FitsShape G (plain_inst inst.now)
+        → MatchOption result ((x : ℕ) → ¬ (IsUse G (plain_inst inst.now) n x role.Value))
+        (λ x. IsUse G (plain_inst inst.now) n x role.Value) }
 {
     match role(inst, n) {
         Some(found) => match found {
@@ -95,7 +99,9 @@ pub fn value(inst: &Inst<'_>, n: usize) -> Option<u32>
 
 /// The id that operand `n` uses, in whatever role, if it does.
 pub fn used(inst: &Inst<'_>, n: usize) -> Option<u32>
-    ensures { (G : Table) → Fits G (plain_inst inst.now) → MatchOption result ((x : ℕ) (r : declared.Role) → ¬ (IsUse G (plain_inst inst.now) n x r)) (λ x. (r : declared.Role) × IsUse G (plain_inst inst.now) n x r) }
+    ensures { (G : Table) → FitsShape G (plain_inst inst.now)
+        → MatchOption result ((x : ℕ) (r : declared.Role) → ¬ (IsUse G (plain_inst inst.now) n x r))
+        (λ x. (r : declared.Role) × IsUse G (plain_inst inst.now) n x r) }
 {
     match role(inst, n) {
         Some(_) => id_at(inst, n),

@@ -7,13 +7,14 @@ ghost use Rattle.spv_module.specs.Operand.{PlainInst};
 ghost use Rattle.spv_layout.specs.First.{IsUnbroken};
 ghost use Rattle.spv_layout.specs.Place.{word_count};
 ghost use Rattle.spv_layout.specs.Plan.{IsPlan};
-ghost use Rattle.spv_ids.specs.Outcome.{AreIds, IsStopAt};
+ghost use Rattle.spv_ids.specs.Outcome.{AreIds};
+ghost use Rattle.spv_ids.specs.inner.Outcome.{IsStopAt};
 ghost use Rattle.spv_branches.specs.Broken.{Broken};
 ghost use Rattle.spv_branches.specs.Target.{IsOp};
 ghost use Rattle.spv_branches.specs.Target as target;
-ghost use Rattle.spv_walks.specs.Code.{insts_of, IsCode};
+ghost use Rattle.spv_walks.specs.inner.Code.{insts_of, IsCode};
 ghost use Rattle.spv_walks.specs.Found.{IsRefusal};
-ghost use Rattle.spv_walks.specs.Missed.{IsFirstOf, IsRuleAt};
+ghost use Rattle.spv_walks.specs.inner.Unavailable.{IsFirstOf, IsRuleAt};
 
 use crate::code::{Code, FUNCTION, PHI};
 use crate::divide::function_extent;
@@ -87,24 +88,32 @@ fn stop_at(plan: &Plan, rule: Rule, inst: u32) -> Stop
 }
 
 /// Looks whether every value is defined where it is used, on every walk through its function (SPIR-V Specification 1.6,
-/// section 2.16, said by walks instead of dominators). `plan` and `ids` are what `lay_out` and `number` answered of that
-/// module, in which `check_branches` found no fault.
+/// section 2.16, said by walks instead of dominators). `plan` and `ids` are what `lay_out` and `number` answered of
+/// that module, in which `check_branches` found no fault.
 ///
 /// A `Fault` tells the first rule that is broken, with its instruction and that instruction's first word (words and
 /// instructions from 0):
-/// - A1: on a walk to an instruction other than OpPhi, a local value that it uses is not the result of an earlier one (2.16).
-/// - A2, at OpPhi: on a walk, the value that is paired with the block that the walk came from is local, and not the result of
+/// - A1: on a walk to an instruction other than OpPhi, a local value that it uses is not the result of an earlier one
+///   (2.16).
+/// - A2, at OpPhi: on a walk, the value that is paired with the block that the walk came from is local, and not the
+///   result of
 ///   an instruction before the walk's last OpLabel (2.16, OpPhi).
 ///
 /// `Memory` comes only where a growth of memory was refused.
 pub fn check_values(alloc: Global, module: &Module<'_>, plan: &Plan, ids: &Ids) -> Result<(), Stop>
-    // The condition of `lay_out`, and that the plan and the ids are what was answered, by some table, of a module whose branches
-    // are sound.
+    // The condition of `lay_out`, and that the plan and the ids are what was answered, by some table, of a module whose
+    // branches are sound.
     requires words { 5 + sum_by word_count (plain_insts «module».now) ≤ 4194304 }
-    requires known { (G : Table) × IsPlan G (plain_insts «module».now) plan.now × AreIds G «module».now.header.bound (plain_insts «module».now) ids.now × IsUnbroken (Broken G (plain_insts «module».now)) 6 }
-    ensures unbroken { (G : Table) → IsPlan G (plain_insts «module».now) plan.now → AreIds G «module».now.header.bound (plain_insts «module».now) ids.now → IsUnbroken (Broken G (plain_insts «module».now)) 6
+    requires known { (G : Table) × IsPlan G (plain_insts «module».now) plan.now
+        × AreIds G «module».now.header.bound (plain_insts «module».now) ids.now
+        × IsUnbroken (Broken G (plain_insts «module».now)) 6 }
+    ensures unbroken { (G : Table) → IsPlan G (plain_insts «module».now) plan.now
+        → AreIds G «module».now.header.bound (plain_insts «module».now) ids.now
+        → IsUnbroken (Broken G (plain_insts «module».now)) 6
         → IfOk result (λ _. IsUnbroken (Broken G (plain_insts «module».now)) 7) }
-    ensures refused { (G : Table) → IsPlan G (plain_insts «module».now) plan.now → AreIds G «module».now.header.bound (plain_insts «module».now) ids.now → IsUnbroken (Broken G (plain_insts «module».now)) 6
+    ensures refused { (G : Table) → IsPlan G (plain_insts «module».now) plan.now
+        → AreIds G «module».now.header.bound (plain_insts «module».now) ids.now
+        → IsUnbroken (Broken G (plain_insts «module».now)) 6
         → IfErr result (λ s. IsRefusal G (plain_insts «module».now) s) }
 {
     let insts = module.insts.as_slice();

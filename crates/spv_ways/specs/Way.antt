@@ -1,5 +1,6 @@
 -- Ways along edges, and shortest ones. (Own.)
-use Rattle.std.specs.Prelude.{◌≡◌, ◌≤◌, ◌<◌, ℕ, List, [], ◌∷◌, Bool, false, Some, Contains, length, reverse, slice_get}
+use Rattle.std.specs.Prelude.{◌≡◌, ◌≤◌, ◌<◌, ℕ, List, [], ◌∷◌, Bool, false, Some, Contains}
+use Rattle.std.specs.Prelude.{length, reverse, slice_get}
 use Rattle.spv_ways.specs.declared.edge.Edge.{Edge}
 
 -- Some edge leads from one node to the other.

@@ -1,8 +1,10 @@
 //! A search in breadth for a shortest way.
 
-ghost use Rattle.std.specs.Prelude.{◌≡◌, ◌∷◌, ◌<◌, ◌≤◌, ℕ, List, Bool, Some, false, length, reverse, slice_get, MatchBool, MatchOption, IfOk, OnOk};
+ghost use Rattle.std.specs.Prelude.{◌≡◌, ◌∷◌, ◌<◌, ◌≤◌, ℕ, List, Bool, Some, false, length};
+ghost use Rattle.std.specs.Prelude.{reverse, slice_get, MatchBool, MatchOption, IfOk, OnOk};
 ghost use Rattle.spv_ways.specs.Way.{IsWay, IsShortest, AreWithin, AreBelow};
-ghost use Rattle.spv_ways.specs.inner.Steps.{unknown, level_of, AreFirst, AreFalling, Keeps, Shortens, IsShorter, AreSettled, IsTrace};
+ghost use Rattle.spv_ways.specs.inner.Steps.{unknown, level_of, AreFirst, AreFalling, Keeps, Shortens, IsShorter};
+ghost use Rattle.spv_ways.specs.inner.Steps.{AreSettled, IsTrace};
 
 use crate::edge::Edge;
 use crate::rows::Rows;
@@ -13,7 +15,8 @@ use std::collections::VecDeque;
 /// Whether a way may go on from a node.
 #[inline(always)]
 fn is_passable(closed: &[bool], node: u32) -> bool
-    ensures { MatchBool result (slice_get closed.now node ≡ Some false) (¬ (slice_get closed.now node ≡ Some false)) }
+    ensures { MatchBool result (slice_get closed.now node ≡ Some false)
+        (¬ (slice_get closed.now node ≡ Some false)) }
 {
     match closed.get(node as usize) {
         Some(is_closed) => !*is_closed,

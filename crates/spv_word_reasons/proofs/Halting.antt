@@ -5,7 +5,7 @@ use Rattle.spv_table.specs.Table.{Table, Item}
 use Rattle.spv_module.specs.Operand.{Plain, Context, and_then, after}
 use Rattle.spv_module.specs.Shape.{Slot, AsParts, shape_of}
 use Rattle.spv_module.specs.Spelling.{Takes}
-use Rattle.spv_module.specs.Refusal.{Refuses}
+use Rattle.spv_module.specs.Refusal.{ShapeRefuses}
 use Rattle.spv_module.specs.declared.fault.Rule.{Rule}
 use Rattle.spv_inst.specs.Flat.{Due, OneOf, MaybeOf, ManyOf, due}
 use Rattle.spv_inst.proofs.Flat.{same_bases}
@@ -18,7 +18,7 @@ use Rattle.spv_word_reasons.specs.Front.{Reaches}
 pub data Halts (G : Table) : Context → List Due → List ℕ → ℕ → Option ℕ → Type 0 where
   left : (c : Context) (u : ℕ) (us : List ℕ) → Halts G c [] (u ∷ us) 0 None
   refused : (c : Context) (s : Slot) (ds : List Due) (us : List ℕ) (code : Rule) (n : ℕ)
-      → Refuses (shape_of G c s) us code n → Halts G c (OneOf s ∷ ds) us 0 (Some s.kind)
+      → ShapeRefuses (shape_of G c s) us code n → Halts G c (OneOf s ∷ ds) us 0 (Some s.kind)
   take : (c : Context) (s : Slot) (ds : List Due) (o : Plain) (ws : List ℕ) (ss : List Slot) (us : List ℕ) (k : ℕ) (t
       : Option ℕ)
       → Takes s.kind (shape_of G c s) o ws ss → Halts G (and_then c o) (map OneOf ss ++ ds) us k t

@@ -5,11 +5,11 @@ use Rattle.std.proofs.lemmas.List.{drop-drop, take-append-drop}
 use Rattle.spv_table.specs.Table.{Table}
 use Rattle.spv_module.specs.Operand.{PlainInst}
 use Rattle.spv_module.specs.Instruction.{IsInstruction, Listing}
-use Rattle.spv_module.specs.Dead.{IsDead, DiesAt, IsDeadAt}
+use Rattle.spv_module.specs.Malformed.{IsMalformed, FailsAt, IsMalformedAt}
 use Rattle.spv_module.specs.declared.fault.Rule.{Rule}
 use Rattle.spv_inst.specs.declared.definitions.Definitions.{Definitions}
-use Rattle.spv_inst.specs.Known.{Knows}
-use Rattle.spv_inst.specs.Reading.{between}
+use Rattle.spv_inst.specs.inner.Known.{Knows}
+use Rattle.spv_inst.specs.inner.Reading.{between}
 use Rattle.spv_inst.proofs.Lists.{instruction_nonempty, dies_same, dies_not}
 use Rattle.spv_inst.proofs.Turns.{length-between}
 use Rattle.spv_evidence.specs.declared.evidence.Evidence.{Evidence}
@@ -21,16 +21,16 @@ some_length : (ws : List ℕ) → ws ≢ [] → 0 < length ws
 some_length [] h = absurd (h refl)
 some_length (w ∷ ws) h = omega arith
 
-dies_some : (G : Table) (b : List PlainInst) (ws : List ℕ) (a : Rule) (k n : ℕ) → DiesAt G b ws a k n → ws ≢ []
-dies_some G _ _ _ _ _ (DiesAt.here b _ _ _ (IsDead.no_count p us h)) e = cc
-dies_some G _ _ _ _ _ (DiesAt.here b _ _ _ (IsDead.past_end c p us h l)) e = cc
-dies_some G _ _ _ _ _ (DiesAt.here b _ _ _ (IsDead.no_entry p us vs h x)) e = cc
-dies_some G _ _ _ _ _ (DiesAt.here b _ _ _ (IsDead.misfit p us vs z a m h x f)) e = cc
-dies_some G _ _ _ _ _ (DiesAt.later b i ws vs a k n h d) e = instruction_nonempty G b i ws vs h e
+dies_some : (G : Table) (b : List PlainInst) (ws : List ℕ) (a : Rule) (k n : ℕ) → FailsAt G b ws a k n → ws ≢ []
+dies_some G _ _ _ _ _ (FailsAt.here b _ _ _ (IsMalformed.no_count p us h)) e = cc
+dies_some G _ _ _ _ _ (FailsAt.here b _ _ _ (IsMalformed.past_end c p us h l)) e = cc
+dies_some G _ _ _ _ _ (FailsAt.here b _ _ _ (IsMalformed.no_entry p us vs h x)) e = cc
+dies_some G _ _ _ _ _ (FailsAt.here b _ _ _ (IsMalformed.misfit p us vs z a m h x f)) e = cc
+dies_some G _ _ _ _ _ (FailsAt.later b i ws vs a k n h d) e = instruction_nonempty G b i ws vs h e
 
 -- before the first one
 pub before_first : (G : Table) (words : List ℕ) (d : Definitions) (a : Rule) (k n : ℕ) → Knows d []
-    → IsDeadAt G (drop 5 words) a k n → IsBefore G words 0 5 d
+    → IsMalformedAt G (drop 5 words) a k n → IsBefore G words 0 5 d
 before_first G words d a k n known dead =
     let s = some_length (drop 5 words) (dies_some G [] (drop 5 words) a k n dead) in
     let l = length-drop 5 words in
@@ -48,13 +48,13 @@ before_first G words d a k n known dead =
 -- a dead instruction that comes later leaves words
 at_some : (G : Table) (words insts-front left : List ℕ) (insts : List PlainInst) (at : ℕ) (a : Rule) (k n : ℕ)
     → drop 5 words ≡ insts-front ++ left → Listing G [] insts insts-front
-    → IsDeadAt G (drop 5 words) a k n → left ≢ []
+    → IsMalformedAt G (drop 5 words) a k n → left ≢ []
 at_some G words front left insts at a k n all spelled dead e =
     let same : drop 5 words ≡ front = all ∙ (ap (λ zs. front ++ zs) e ∙ append-nil front) in
     dies_not G [] insts (drop 5 words) front a k n dead spelled same
 
 pub before_within : (G : Table) (words : List ℕ) (number at : ℕ) (d : Definitions) (a : Rule) (k n : ℕ)
-    → IsBefore G words number at d → IsDeadAt G (drop 5 words) a k n → at < length words
+    → IsBefore G words number at d → IsMalformedAt G (drop 5 words) a k n → at < length words
 before_within G words number at d a k n b dead =
     let s = some_length (drop at words) (at_some G words b.front (drop at words) b.insts at a k n b.all b.spelled
     dead) in
@@ -64,8 +64,8 @@ before_within G words number at d a k n b dead =
 
 -- and is not dead before it
 pub before_alive : (G : Table) (words : List ℕ) (number at : ℕ) (d : Definitions) (a c : Rule) (k n m : ℕ) (b :
-    IsBefore G words number at d) → IsDeadAt G (drop 5 words) a k n → number < k
-    → IsDead G b.insts (drop at words) c m → ⊥
+    IsBefore G words number at d) → IsMalformedAt G (drop 5 words) a k n → number < k
+    → IsMalformed G b.insts (drop at words) c m → ⊥
 before_alive G words number at d a c k n m b dead less here =
     let r = dies_same G [] (drop 5 words) (drop 5 words) c a (length b.insts) k (length b.front + m) n (listed_dies G
     (drop 5 words) b.insts b.front (drop at words) c m b.all b.spelled here) dead refl in
@@ -106,7 +106,7 @@ before_next G words number at end d e i b h l reads knows =
 
 -- the dead instruction itself
 pub before_dead : (G : Table) (words : List ℕ) (number at : ℕ) (d : Definitions) (a : Rule) (n : ℕ) (b : IsBefore G
-    words number at d) → IsDeadAt G (drop 5 words) a number n
+    words number at d) → IsMalformedAt G (drop 5 words) a number n
     → DeadThere G b.insts (drop at words) a (length b.front) n
 before_dead G words number at d a n b dead = dead_there G [] b.insts b.front b.spelled (drop 5 words) (drop at words)
     a number n dead b.all (sym b.count)

@@ -5,11 +5,11 @@ use Rattle.spv_table.specs.Table.{Table, Item}
 use Rattle.spv_module.specs.Operand.{Plain, Context, after}
 use Rattle.spv_module.specs.Shape.{Slot, shape_of}
 use Rattle.spv_module.specs.Spelling.{Match}
-use Rattle.spv_module.specs.Refusal.{Refuses, Misfit}
+use Rattle.spv_module.specs.Refusal.{ShapeRefuses, Misfit}
 use Rattle.spv_module.specs.declared.fault.Rule.{Rule}
 use Rattle.spv_module.specs.declared.fault.Rule.TheVariants.{I5}
 use Rattle.spv_inst.specs.Flat.{Due, OneOf, due}
-use Rattle.spv_inst.specs.Sofar.{Sofar}
+use Rattle.spv_inst.specs.inner.Sofar.{Sofar}
 use Rattle.spv_inst.proofs.Steps.{at_start, at_operand, at_parts, at_maybe, at_many, at_no_maybe, at_no_many, at_end}
 use Rattle.spv_inst.proofs.Steps.{at_refusal}
 use Rattle.spv_inst.proofs.Turns.{at_left}
@@ -50,7 +50,7 @@ left_misfit G c pattern words os front x left r =
 
 pub refused_misfit : (G : Table) (c : Context) (pattern : List Item) (words : List ℕ) (os : List Plain) (front : List
     ℕ) (s : Slot) (ds : List Due) (left : List ℕ) (code : Rule) (n : ℕ)
-    → Reaches G c pattern words os front (OneOf s ∷ ds) left → Refuses (shape_of G (after c os) s) left code n
+    → Reaches G c pattern words os front (OneOf s ∷ ds) left → ShapeRefuses (shape_of G (after c os) s) left code n
     → Misfit G c pattern words code (length front + n)
 refused_misfit G c pattern words os front s ds left code n r h =
     fails_misfit G c pattern words code (length front + n)

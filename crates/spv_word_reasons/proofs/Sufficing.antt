@@ -4,7 +4,7 @@ use Rattle.std.proofs.Common.{append_assoc, append-nil, length-append}
 use Rattle.spv_table.specs.Table.{Table, pattern_of}
 use Rattle.spv_module.specs.Operand.{PlainInst, start}
 use Rattle.spv_module.specs.Instruction.{IsInstruction, Listing, IsListing}
-use Rattle.spv_module.specs.Dead.{IsDead, DiesAt, IsDeadAt}
+use Rattle.spv_module.specs.Malformed.{IsMalformed, FailsAt, IsMalformedAt}
 use Rattle.spv_module.specs.declared.fault.Rule.{Rule}
 use Rattle.spv_evidence.specs.declared.evidence.Evidence.{Evidence}
 use Rattle.spv_inst.proofs.Lists.{dead_same, instruction_same}
@@ -12,49 +12,49 @@ use Rattle.spv_word_reasons.specs.Evidence.{Shows, IsEvidence}
 use Rattle.spv_word_reasons.proofs.Reaching.{left_misfit, refused_misfit}
 
 pub shows_dead : (G : Table) (before : List PlainInst) (words : List ℕ) (r : Rule) (n : ℕ) (e : Evidence)
-    → Shows G before words r n e → IsDead G before words r n
-shows_dead G before _ _ _ _ (Shows.no_count opcode us h) = IsDead.no_count opcode us h
-shows_dead G before _ _ _ _ (Shows.past_end count opcode us h l) = IsDead.past_end count opcode us h l
-shows_dead G before _ _ _ _ (Shows.no_entry opcode us vs h e) = IsDead.no_entry opcode us vs h e
+    → Shows G before words r n e → IsMalformed G before words r n
+shows_dead G before _ _ _ _ (Shows.no_count opcode us h) = IsMalformed.no_count opcode us h
+shows_dead G before _ _ _ _ (Shows.past_end count opcode us h l) = IsMalformed.past_end count opcode us h l
+shows_dead G before _ _ _ _ (Shows.no_entry opcode us vs h e) = IsMalformed.no_entry opcode us vs h e
 shows_dead G before _ _ _ _ (Shows.left_over opcode us vs entry os front x left h e r) =
-    IsDead.misfit opcode us vs entry _ (length front) h e (left_misfit G (start before opcode) (pattern_of entry) us
+    IsMalformed.misfit opcode us vs entry _ (length front) h e (left_misfit G (start before opcode) (pattern_of entry) us
     os front x left r)
 shows_dead G before _ _ _ _ (Shows.refused opcode us vs entry os front s ds left code n h e r f) =
-    IsDead.misfit opcode us vs entry code (length front + n) h e (refused_misfit G (start before opcode) (pattern_of
+    IsMalformed.misfit opcode us vs entry code (length front + n) h e (refused_misfit G (start before opcode) (pattern_of
     entry) us os front s ds left code n r f)
 
 -- a list of instructions, and what is dead after it
 pub listing_dies : (G : Table) (b is : List PlainInst) (ws : List ℕ) → Listing G b is ws
-    → (vs : List ℕ) (a : Rule) (k n : ℕ) → DiesAt G (b ++ is) vs a k n
-    → DiesAt G b (ws ++ vs) a (length is + k) (length ws + n)
+    → (vs : List ℕ) (a : Rule) (k n : ℕ) → FailsAt G (b ++ is) vs a k n
+    → FailsAt G b (ws ++ vs) a (length is + k) (length ws + n)
 listing_dies G _ _ _ (Listing.end b) vs a k n d =
     let e : 0 + k ≡ k = omega arith in
     let f : 0 + n ≡ n = omega arith in
     rw (e, f) (rw append-nil at d)
 listing_dies G _ _ _ (Listing.more b i is ws us h l) vs a k n d =
-    let d' : DiesAt G ((b ++ (i ∷ [])) ++ is) vs a k n = rw (append_assoc b (i ∷ []) is) d in
+    let d' : FailsAt G ((b ++ (i ∷ [])) ++ is) vs a k n = rw (append_assoc b (i ∷ []) is) d in
     let r = listing_dies G (b ++ (i ∷ [])) is us l vs a k n d' in
     let c = length-append ws us in
     let e : length ws + (length us + n) ≡ length (ws ++ us) + n = omega arith in
     let g : suc (length is + k) ≡ length (i ∷ is) + k = omega arith in
-    rw (append_assoc ws us vs, ← e, ← g) (DiesAt.later b i ws (us ++ vs) a (length is + k) (length us + n) h r)
+    rw (append_assoc ws us vs, ← e, ← g) (FailsAt.later b i ws (us ++ vs) a (length is + k) (length us + n) h r)
 
 pub listed_dies : (G : Table) (words : List ℕ) (is : List PlainInst) (front left : List ℕ) (a : Rule) (n : ℕ)
     → words ≡ front ++ left → IsListing G is front
-    → IsDead G is left a n → IsDeadAt G words a (length is) (length front + n)
+    → IsMalformed G is left a n → IsMalformedAt G words a (length is) (length front + n)
 listed_dies G words is front left a n e l d =
     let z : length is + 0 ≡ length is = omega arith in
-    rw (e, ← z) (listing_dies G [] is front l left a 0 n (DiesAt.here is left a n d))
+    rw (e, ← z) (listing_dies G [] is front l left a 0 n (FailsAt.here is left a n d))
 
 pub suffices : (G : Table) (words : List ℕ) (r : Rule) (k n : ℕ) (e : Evidence) → IsEvidence G words r k n e
-    → IsDeadAt G words r k n
+    → IsMalformedAt G words r k n
 suffices G words r k n e i =
     rw (← i.number, ← i.at) (listed_dies G words i.before i.front i.left r i.place i.all i.spelled (shows_dead G
     i.before i.left r i.place e i.shows))
 
 -- the evidence of a dead instruction is that of its own rule and word
 pub pinned : (G : Table) (before : List PlainInst) (words : List ℕ) (a b : Rule) (n m : ℕ) (e : Evidence)
-    → Shows G before words a n e → IsDead G before words b m → Shows G before words b m e
+    → Shows G before words a n e → IsMalformed G before words b m → Shows G before words b m e
 pinned G before words a b n m e s d =
     let r = dead_same G before words words a b n m (shows_dead G before words a n e s) d refl in
     rw (r.code, r.place) at s
@@ -74,21 +74,21 @@ listing_more G _ _ _ (Listing.more b j is ws xs g l) i us h =
 pub record DeadThere (G : Table) (b : List PlainInst) (vs : List ℕ) (a : Rule) (taken n : ℕ) : Type 0 where
   pub place : ℕ
   pub at : n ≡ taken + place
-  pub dead : IsDead G b vs a place
+  pub dead : IsMalformed G b vs a place
 
 same_dies : (G : Table) (b : List PlainInst) (i j : PlainInst) (vs : List ℕ) (a : Rule) (k n : ℕ) → i ≡ j
-    → DiesAt G (b ++ (j ∷ [])) vs a k n → DiesAt G (b ++ (i ∷ [])) vs a k n
+    → FailsAt G (b ++ (j ∷ [])) vs a k n → FailsAt G (b ++ (i ∷ [])) vs a k n
 same_dies G b i j vs a k n e d = rw e d
 
 pub dead_there : (G : Table) (b is : List PlainInst) (ws : List ℕ) → Listing G b is ws
-    → (xs vs : List ℕ) (a : Rule) (k n : ℕ) → DiesAt G b xs a k n → xs ≡ ws ++ vs → k ≡ length is
+    → (xs vs : List ℕ) (a : Rule) (k n : ℕ) → FailsAt G b xs a k n → xs ≡ ws ++ vs → k ≡ length is
     → DeadThere G (b ++ is) vs a (length ws) n
-dead_there G _ _ _ (Listing.end b) _ vs _ _ _ (DiesAt.here _ xs a n d) e c =
+dead_there G _ _ _ (Listing.end b) _ vs _ _ _ (FailsAt.here _ xs a n d) e c =
     let f : xs ≡ vs = e in
     rw append-nil (record { place = n; at = omega arith; dead = rw f at d })
-dead_there G _ _ _ (Listing.end b) _ vs _ _ _ (DiesAt.later _ j ys zs a k n g d) e c = absurd (omega (arith, c))
-dead_there G _ _ _ (Listing.more b i is ws us h l) _ vs _ _ _ (DiesAt.here _ xs a n d) e c = absurd (omega (arith, c))
-dead_there G _ _ _ (Listing.more b i is ws us h l) _ vs _ _ _ (DiesAt.later _ j ys zs a k n g d) e c =
+dead_there G _ _ _ (Listing.end b) _ vs _ _ _ (FailsAt.later _ j ys zs a k n g d) e c = absurd (omega (arith, c))
+dead_there G _ _ _ (Listing.more b i is ws us h l) _ vs _ _ _ (FailsAt.here _ xs a n d) e c = absurd (omega (arith, c))
+dead_there G _ _ _ (Listing.more b i is ws us h l) _ vs _ _ _ (FailsAt.later _ j ys zs a k n g d) e c =
     let f : ws ++ (us ++ vs) ≡ ys ++ zs = sym (e ∙ append_assoc ws us vs) in
     let s = instruction_same G b i j ws ys (us ++ vs) zs h g f in
     let k' : k ≡ length is = omega (arith, c) in

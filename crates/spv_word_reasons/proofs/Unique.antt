@@ -6,7 +6,7 @@ use Rattle.spv_table.specs.Table.{Table, entry_of, pattern_of}
 use Rattle.spv_module.specs.Operand.{PlainInst, start}
 use Rattle.spv_module.specs.Shape.{Shape}
 use Rattle.spv_module.specs.Instruction.{Listing, first_word}
-use Rattle.spv_module.specs.Refusal.{Refuses}
+use Rattle.spv_module.specs.Refusal.{ShapeRefuses}
 use Rattle.spv_module.specs.declared.fault.Rule.{Rule}
 use Rattle.spv_module.specs.declared.fault.Rule.TheVariants.{I1, I2, I3, I5}
 use Rattle.spv_inst.specs.Flat.{due}
@@ -24,18 +24,18 @@ is_refusal I3 = false
 is_refusal I5 = false
 is_refusal _ = true
 
-refusal : (sh : Shape) (us : List ℕ) (r : Rule) (n : ℕ) → Refuses sh us r n → is_refusal r ≡ true
-refusal _ _ _ _ (Refuses.missing sh h) = refl
-refusal _ _ _ _ (Refuses.half w x h) = refl
-refusal _ _ _ _ (Refuses.unknown_value es x us h) = refl
-refusal _ _ _ _ (Refuses.unknown_bit es x us h) = refl
-refusal _ _ _ _ (Refuses.endless u us h) = refl
-refusal _ _ _ _ (Refuses.padded t ws p us n h g l) = refl
-refusal _ _ _ _ (Refuses.no_text t ws p us h g f) = refl
-refusal _ _ _ _ (Refuses.no_width x us) = refl
-refusal _ _ _ _ (Refuses.no_form x us) = refl
+refusal : (sh : Shape) (us : List ℕ) (r : Rule) (n : ℕ) → ShapeRefuses sh us r n → is_refusal r ≡ true
+refusal _ _ _ _ (ShapeRefuses.missing sh h) = refl
+refusal _ _ _ _ (ShapeRefuses.half w x h) = refl
+refusal _ _ _ _ (ShapeRefuses.unknown_value es x us h) = refl
+refusal _ _ _ _ (ShapeRefuses.unknown_bit es x us h) = refl
+refusal _ _ _ _ (ShapeRefuses.endless u us h) = refl
+refusal _ _ _ _ (ShapeRefuses.padded t ws p us n h g l) = refl
+refusal _ _ _ _ (ShapeRefuses.no_text t ws p us h g f) = refl
+refusal _ _ _ _ (ShapeRefuses.no_width x us) = refl
+refusal _ _ _ _ (ShapeRefuses.no_form x us) = refl
 
-no_refusal : (sh : Shape) (us : List ℕ) (r q : Rule) (n : ℕ) → Refuses sh us r n → r ≡ q → is_refusal q ≡ false → ⊥
+no_refusal : (sh : Shape) (us : List ℕ) (r q : Rule) (n : ℕ) → ShapeRefuses sh us r n → r ≡ q → is_refusal q ≡ false → ⊥
 no_refusal sh us r q n h e f = let t = refusal sh us r n h in let t' : is_refusal q ≡ true = rw e at t in cc
 
 record SameParts (us xs vs ys : List ℕ) : Type 0 where

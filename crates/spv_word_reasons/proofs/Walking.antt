@@ -13,10 +13,10 @@ use Rattle.spv_module.specs.Shape.{Slot, alone}
 use Rattle.spv_module.specs.Spelling.{Match}
 use Rattle.spv_inst.specs.declared.definitions.Definitions.{Definitions}
 use Rattle.spv_inst.specs.declared.reader.Known.{Known}
-use Rattle.spv_inst.specs.Known.{IsNear, Knows}
+use Rattle.spv_inst.specs.inner.Known.{IsNear, Knows}
 use Rattle.spv_inst.specs.Flat.{due, Due, OneOf, MaybeOf, ManyOf}
-use Rattle.spv_inst.specs.Reading.{between, parameter_kinds, TakesFront, RefusesFront}
-use Rattle.spv_inst.specs.Agenda.{settled, Opens, opened_kinds}
+use Rattle.spv_inst.specs.inner.Reading.{between, parameter_kinds, TakesFront, RefusesFront}
+use Rattle.spv_inst.specs.inner.Pending.{settled, Opens, opened_kinds}
 use Rattle.spv_inst.proofs.Steps.{after_is}
 use Rattle.spv_inst.proofs.Contexts.{near_after}
 use Rattle.spv_inst.proofs.Turns.{opened_is, length-between, none_between}

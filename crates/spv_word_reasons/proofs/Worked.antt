@@ -5,7 +5,7 @@ use Rattle.spv_module.specs.Operand.{OfType, Result, Id, start}
 use Rattle.spv_module.specs.Shape.{alone, shape_of}
 use Rattle.spv_module.specs.Spelling.{Takes, mask_parameters}
 use Rattle.spv_module.specs.Instruction.{Listing}
-use Rattle.spv_module.specs.Refusal.{Refuses}
+use Rattle.spv_module.specs.Refusal.{ShapeRefuses}
 use Rattle.spv_module.specs.declared.fault.Rule.{Rule}
 use Rattle.spv_module.specs.declared.fault.Rule.TheVariants.{I3, I4, I7}
 use Rattle.spv_module.specs.Example.{small, access, load_entry, string_entry}
@@ -53,7 +53,7 @@ mask_shown =
     first (327741 ∷ 2 ∷ 9 ∷ 8 ∷ 4 ∷ []) I7 4 (Due 61 3 (Some 3))
     (Shows.refused 61 (2 ∷ 9 ∷ 8 ∷ 4 ∷ []) [] load_entry (OfType 2 ∷ Result 9 ∷ Id 8 ∷ []) (2 ∷ 9 ∷ 8 ∷ []) (alone 3)
     [] (4 ∷ []) I7 0 (omega arith) refl load_reached
-    (Refuses.unknown_bit access 4 [] refl))
+    (ShapeRefuses.unknown_bit access 4 [] refl))
 
 pub not_beside : IsEvidence small (327741 ∷ 2 ∷ 9 ∷ 8 ∷ 4 ∷ []) I7 0 4 (Due 61 2 (Some 3)) → ⊥
 not_beside i = let e = one small (327741 ∷ 2 ∷ 9 ∷ 8 ∷ 4 ∷ []) I7 0 4 (Due 61 3 (Some 3)) (Due 61 2 (Some 3))
@@ -73,7 +73,7 @@ text_missing =
     first (131079 ∷ 5 ∷ []) I4 2 (Due 7 1 (Some 5))
     (Shows.refused 7 (5 ∷ []) [] string_entry (Result 5 ∷ []) (5 ∷ []) (alone 5) [] [] I4 0 (omega arith) refl
     (Reaches.operand [] [] (alone 1) (OneOf (alone 5) ∷ []) (Result 5) (5 ∷ []) [] [] Reaches.begin (Takes.result 5))
-    (Refuses.missing _ tt))
+    (ShapeRefuses.missing _ tt))
 
 pub unknown_shown : IsEvidence small (65537 ∷ []) I3 0 0 (Opcode 1)
 unknown_shown = first (65537 ∷ []) I3 0 (Opcode 1) (Shows.no_entry 1 [] [] (omega arith) refl)

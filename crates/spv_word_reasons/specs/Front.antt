@@ -8,7 +8,8 @@ use Rattle.spv_inst.specs.Flat.{Due, OneOf, MaybeOf, ManyOf, due}
 
 -- Of the further words of an instruction, those at the front spell these operands in order; then these kinds are due,
 -- the next one first, and these words are left. [2.3]
-pub data Reaches (G : Table) (c : Context) (pattern : List Item) (words : List ℕ) : List Plain → List ℕ → List Due
+pub data Reaches (G : Table) (c : Context) (pattern : List Item) (words : List ℕ) : List Plain → List ℕ
+    → List Due
     → List ℕ → Type 0 where
   -- no operand: the items of the pattern are due
   begin : Reaches G c pattern words [] [] (map due pattern) words

@@ -3,11 +3,11 @@
 ghost use Rattle.std.specs.Prelude.{◌≡◌, ℕ, drop, map, IfOk};
 ghost use Rattle.spv_table.specs.Table.{IsWhole};
 ghost use Rattle.spv_module.specs.declared.fault.Rule.{Rule};
-ghost use Rattle.spv_module.specs.Dead.{IsDeadAt};
-ghost use Rattle.spv_inst.specs.Form.{form_of};
+ghost use Rattle.spv_module.specs.Malformed.{IsMalformedAt};
+ghost use Rattle.spv_inst.specs.inner.Form.{form_of};
 ghost use Rattle.spv_word_reasons.specs.inner.Before.{IsBefore};
 
-use spv_inst::due::{Agenda, Definitions, Form, Scene, read_instruction};
+use spv_inst::due::{Definitions, Form, Pending, Scene, read_instruction};
 use spv_module::Stop;
 use spv_table::{Memory, Table};
 use spv_words::Image;
@@ -34,11 +34,11 @@ pub fn read_before(
 ) -> Result<Before, Memory>
     requires forms { forms.now ≡ map form_of table.now.kinds }
     requires whole { IsWhole table.now }
-    requires dead { (rule : Rule) × (word : ℕ) × IsDeadAt table.now (drop 5 image.now) rule inst word }
+    requires dead { (rule : Rule) × (word : ℕ) × IsMalformedAt table.now (drop 5 image.now) rule inst word }
     ensures { IfOk result (λ b. IsBefore table.now image.now inst b.at b.definitions) }
 {
     let mut definitions = Definitions::new(alloc);
-    let mut agenda = Agenda::new(alloc);
+    let mut pending = Pending::new(alloc);
     let mut operands = Vec::new(alloc);
     let mut at = 5;
     for number in 0..inst {
@@ -49,7 +49,7 @@ pub fn read_before(
             image,
         };
         operands.clear();
-        let read = match read_instruction(&scene, &mut agenda, &mut operands, number, at) {
+        let read = match read_instruction(&scene, &mut pending, &mut operands, number, at) {
             Ok(read) => read,
             Err(Stop::Memory) => return Err(Memory),
             Err(Stop::Fault(_)) => unreachable!(),

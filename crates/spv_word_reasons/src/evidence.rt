@@ -4,9 +4,9 @@ ghost use Rattle.std.specs.Prelude.{◌≡◌, ◌≤◌, ◌<◌, ◌-◌, ℕ,
 ghost use Rattle.spv_table.specs.Table.{IsWhole};
 ghost use Rattle.spv_module.specs.Operand.{PlainInst};
 ghost use Rattle.spv_module.specs.declared.fault.Rule.{Rule};
-ghost use Rattle.spv_module.specs.Dead.{IsDead, IsDeadAt};
-ghost use Rattle.spv_inst.specs.Form.{form_of};
-ghost use Rattle.spv_inst.specs.Known.{Knows};
+ghost use Rattle.spv_module.specs.Malformed.{IsMalformed, IsMalformedAt};
+ghost use Rattle.spv_inst.specs.inner.Form.{form_of};
+ghost use Rattle.spv_inst.specs.inner.Known.{Knows};
 ghost use Rattle.spv_word_reasons.specs.Evidence.{Shows, IsEvidence};
 
 use crate::before::read_before;
@@ -25,10 +25,11 @@ fn evidence_at(alloc: Global, scene: &Scene<'_, '_, '_>, at: u32) -> Result<Evid
     requires forms { scene.now.forms.now ≡ map form_of scene.now.table.now.kinds }
     requires whole { IsWhole scene.now.table.now }
     requires fits { at < length scene.now.image.now }
-    requires dead { (before : List PlainInst) × (rule : Rule) × (place : ℕ) × Knows scene.now.definitions.now before
-        × IsDead scene.now.table.now before (drop at scene.now.image.now) rule place }
+    requires dead { (before : List PlainInst) × (rule : Rule) × (place : ℕ)
+        × Knows scene.now.definitions.now before
+        × IsMalformed scene.now.table.now before (drop at scene.now.image.now) rule place }
     ensures { (before : List PlainInst) (rule : Rule) (place : ℕ) → Knows scene.now.definitions.now before
-        → IsDead scene.now.table.now before (drop at scene.now.image.now) rule place
+        → IsMalformed scene.now.table.now before (drop at scene.now.image.now) rule place
         → IfOk result (λ e. Shows scene.now.table.now before (drop at scene.now.image.now) rule place e) }
 {
     let head = word(scene.image, at);
@@ -76,7 +77,7 @@ pub fn word_evidence(
 ) -> Result<Evidence, Memory>
     // The fault is that of the dead instruction.
     requires after_header { 5 ≤ fault.word }
-    requires dead { IsDeadAt table.now (drop 5 image.now) fault.rule fault.inst (fault.word - 5) }
+    requires dead { IsMalformedAt table.now (drop 5 image.now) fault.rule fault.inst (fault.word - 5) }
     ensures { IfOk result (λ e. IsEvidence table.now (drop 5 image.now) fault.rule fault.inst (fault.word - 5) e) }
 {
     let forms = forms_of(alloc, table)?;

@@ -2,7 +2,7 @@
 
 ghost use Rattle.std.specs.Prelude.{◌≡◌, ℕ, List, [], ◌∷◌, Some};
 ghost use Rattle.spv_table.specs.Table.{Table};
-ghost use Rattle.spv_module.specs.Dead.{IsDeadAt};
+ghost use Rattle.spv_module.specs.Malformed.{IsMalformedAt};
 ghost use Rattle.spv_module.specs.Example.{small};
 ghost use Rattle.spv_module.specs.declared.fault.Rule.{Rule};
 ghost use Rattle.spv_module.specs.declared.fault.Rule.TheVariants.{I3, I4, I7};
@@ -13,7 +13,7 @@ ghost use Rattle.spv_word_reasons.specs.Evidence.{IsEvidence};
 /// Evidence shows that the instruction of that number is dead, by that rule and at that word.
 pub fn suffices()
     ensures { (G : Table) (words : List ℕ) (rule : Rule) (inst word : ℕ) (e : Evidence)
-        → IsEvidence G words rule inst word e → IsDeadAt G words rule inst word }
+        → IsEvidence G words rule inst word e → IsMalformedAt G words rule inst word }
 {}
 
 /// There is no other evidence of a rule at an instruction and a word.

@@ -4,12 +4,12 @@ ghost use Rattle.std.specs.Prelude.{◌≡◌, ◌≤◌, ◌<◌, ℕ, List, le
 ghost use Rattle.spv_table.specs.Table.{pattern_of, IsWhole};
 ghost use Rattle.spv_module.specs.Operand.{PlainInst, Plain, start};
 ghost use Rattle.spv_module.specs.Spelling.{Match};
-ghost use Rattle.spv_inst.specs.Form.{form_of};
-ghost use Rattle.spv_inst.specs.Known.{Knows};
-ghost use Rattle.spv_inst.specs.Reading.{between};
+ghost use Rattle.spv_inst.specs.inner.Form.{form_of};
+ghost use Rattle.spv_inst.specs.inner.Known.{Knows};
+ghost use Rattle.spv_inst.specs.inner.Reading.{between};
 ghost use Rattle.spv_word_reasons.specs.inner.Failed.{Fails};
 
-use spv_inst::due::{Agenda, Known, Scene, known_after, take_operand};
+use spv_inst::due::{Known, Pending, Scene, known_after, take_operand};
 use spv_table::Entry;
 use std::alloc::{AllocError, Global};
 
@@ -50,13 +50,13 @@ pub fn failed_operand(
         (λ f. Fails scene.now.table.now (start before place.opcode) (pattern_of entry.now)
         (between scene.now.image.now place.first place.end) f)) }
 {
-    let mut agenda = Agenda::new(alloc);
+    let mut pending = Pending::new(alloc);
     let mut operands = Vec::new(alloc);
     let mut known = Known::new(place.opcode);
     let mut at = place.first;
-    agenda.start(entry.operands.as_slice());
+    pending.start(entry.operands.as_slice());
     'turns: loop {
-        let asked = agenda.next_leaf(scene.table, scene.forms, at < place.end)?;
+        let asked = pending.next_leaf(scene.table, scene.forms, at < place.end)?;
         let operand = operands.len() as u32;
         let Some(asked) = asked else {
             if at == place.end {
@@ -73,7 +73,7 @@ pub fn failed_operand(
                 kind: Some(asked.slot.kind),
             }));
         };
-        agenda.open(scene.table, &taken.operand)?;
+        pending.open(scene.table, &taken.operand)?;
         known = known_after(known, &operands, &taken.operand);
         operands.push(taken.operand)?;
         at += taken.words;

@@ -4,8 +4,8 @@ use Rattle.spv_words.specs.declared.words.Order.{Order}
 use Rattle.spv_words.specs.declared.words.WordError.{WordError}
 use Rattle.spv_words.specs.declared.words.WordError.TheVariants as code
 use Rattle.spv_words.specs.Words.{words_of}
-use Rattle.spv_words.specs.Header.{magic_number, version_number, greatest_bound, greatest_size, IsModule, Tells, Keeps, place_of, IsFirstBroken}
-use Rattle.spv_words.specs.HeaderTest.{Fits, Breaks}
+use Rattle.spv_words.specs.Header.{magic_number, version_number, greatest_bound, greatest_size, IsModule, StandInOrder, BytesKeep, place_of, IsFirstBroken}
+use Rattle.spv_words.specs.inner.HeaderTest.{PassesTest, Breaks}
 
 -- bytes that passed the tests up to the magic number
 pub record Found (o : Order) (bs : List ℕ) : Type 0 where
@@ -15,16 +15,16 @@ pub record Found (o : Order) (bs : List ℕ) : Type 0 where
   pub octets : Octets bs
   pub magic : slice_index (words_of o bs) 0 ≡ magic_number
 
-pub telling : (o : Order) (bs : List ℕ) → Found o bs → Tells o bs (words_of o bs)
+pub telling : (o : Order) (bs : List ℕ) → Found o bs → StandInOrder o bs (words_of o bs)
 telling o bs f = record { stands = words-stand o bs f.octets f.groups; magic = f.magic }
 
 -- what holds of the words that were found holds of any words that the bytes tell
-pub every : (o p : Order) (bs ws : List ℕ) (P : List ℕ → Type 0) → Found o bs → Tells p bs ws → P (words_of o bs) → P ws
+pub every : (o p : Order) (bs ws : List ℕ) (P : List ℕ → Type 0) → Found o bs → StandInOrder p bs ws → P (words_of o bs) → P ws
 every o p bs ws P f t h =
     let l = f.least in
     subst P (one_telling o p bs (words_of o bs) ws (omega arith) (telling o bs f) t).1 h
 
-before_version : (o : Order) (bs : List ℕ) → Found o bs → (d : WordError) → place_of d < 5 → Keeps d bs
+before_version : (o : Order) (bs : List ℕ) → Found o bs → (d : WordError) → place_of d < 5 → BytesKeep d bs
 before_version o bs f code.W1 h = tt
 before_version o bs f code.W2 h = f.least
 before_version o bs f code.W3 h = f.groups
@@ -38,7 +38,7 @@ before_version o bs f code.W9 h = tt
 pub broken_version : (o : Order) (bs : List ℕ) → Found o bs → slice_index (words_of o bs) 1 ≢ version_number → IsFirstBroken code.W5 bs
 broken_version o bs f ne = record { broken = λ k. ne (k o (words_of o bs) (telling o bs f)); before = before_version o bs f }
 
-before_schema : (o : Order) (bs : List ℕ) → Found o bs → slice_index (words_of o bs) 1 ≡ version_number → (d : WordError) → place_of d < 6 → Keeps d bs
+before_schema : (o : Order) (bs : List ℕ) → Found o bs → slice_index (words_of o bs) 1 ≡ version_number → (d : WordError) → place_of d < 6 → BytesKeep d bs
 before_schema o bs f v code.W1 h = tt
 before_schema o bs f v code.W2 h = f.least
 before_schema o bs f v code.W3 h = f.groups
@@ -52,7 +52,7 @@ before_schema o bs f v code.W9 h = tt
 pub broken_schema : (o : Order) (bs : List ℕ) → Found o bs → slice_index (words_of o bs) 1 ≡ version_number → slice_index (words_of o bs) 4 ≢ 0 → IsFirstBroken code.W6 bs
 broken_schema o bs f v ne = record { broken = λ k. ne (k o (words_of o bs) (telling o bs f)); before = before_schema o bs f v }
 
-before_bound : (o : Order) (bs : List ℕ) → Found o bs → slice_index (words_of o bs) 1 ≡ version_number → slice_index (words_of o bs) 4 ≡ 0 → (d : WordError) → place_of d < 7 → Keeps d bs
+before_bound : (o : Order) (bs : List ℕ) → Found o bs → slice_index (words_of o bs) 1 ≡ version_number → slice_index (words_of o bs) 4 ≡ 0 → (d : WordError) → place_of d < 7 → BytesKeep d bs
 before_bound o bs f v s code.W1 h = tt
 before_bound o bs f v s code.W2 h = f.least
 before_bound o bs f v s code.W3 h = f.groups
@@ -80,7 +80,7 @@ found_module o bs f v s least most =
     }
 
 -- a module keeps what each code asks
-pub module-keeps : (o : Order) (bs ws : List ℕ) → IsModule o bs ws → (e : WordError) → Keeps e bs
+pub module-keeps : (o : Order) (bs ws : List ℕ) → IsModule o bs ws → (e : WordError) → BytesKeep e bs
 module-keeps o bs ws m code.W1 = tt
 module-keeps o bs ws m code.W2 = module-long o bs ws m
 module-keeps o bs ws m code.W3 = stands-groups o bs ws m.stands
@@ -108,7 +108,7 @@ broken_header o bs version schema bound code.W9 f v s b h = absurd h
 -- and one that fits is a module's
 pub fitting_header : (o : Order) (bs : List ℕ) (version schema bound : ℕ) → Found o bs
     → version ≡ slice_index (words_of o bs) 1 → schema ≡ slice_index (words_of o bs) 4 → bound ≡ slice_index (words_of o bs) 3
-    → Fits version schema bound → IsModule o bs (words_of o bs)
+    → PassesTest version schema bound → IsModule o bs (words_of o bs)
 fitting_header o bs version schema bound f v s b h =
     let least = h.bound_least in
     let most = h.bound_most in

@@ -6,15 +6,15 @@ use Rattle.std.proofs.lemmas.List.Elements.{All-from_recursion, recursion_from_A
 use Rattle.spv_words.proofs.Groups.{length-words_of, at-words_of}
 use Rattle.spv_words.specs.declared.words.Order.{Order}
 use Rattle.spv_words.specs.declared.words.Order.TheVariants.{Little, Big}
-use Rattle.spv_words.specs.Words.{Stands, words_of, word_of, turned}
-use Rattle.spv_words.specs.Header.{magic_number, IsModule, Tells}
+use Rattle.spv_words.specs.Words.{StandFor, words_of, word_of, turned}
+use Rattle.spv_words.specs.Header.{magic_number, IsModule, StandInOrder}
 
 -- each is a byte
 abbrev pub Octets : List ℕ → Type 0
 Octets bs = All (λ b. b < 256) bs
 
 -- whole groups of bytes stand for their words
-pub words-stand : (o : Order) (bs : List ℕ) → Octets bs → length bs % 4 ≡ 0 → Stands o bs (words_of o bs)
+pub words-stand : (o : Order) (bs : List ℕ) → Octets bs → length bs % 4 ≡ 0 → StandFor o bs (words_of o bs)
 words-stand o bs os h = let l = length-words_of o bs in record {
   octets = os;
   whole = omega (arith, l);
@@ -22,14 +22,14 @@ words-stand o bs os h = let l = length-words_of o bs in record {
 }
 
 -- the words that bytes stand for
-pub stands-words : (o : Order) (bs ws : List ℕ) → Stands o bs ws → ws ≡ words_of o bs
+pub stands-words : (o : Order) (bs ws : List ℕ) → StandFor o bs ws → ws ≡ words_of o bs
 stands-words o bs ws s =
     let l = length-words_of o bs in
     let w = s.whole in
     same_number_lists ws (words_of o bs) (omega arith) (λ k lt. s.each k lt ∙ sym (at-words_of o bs k (4 * k) refl (omega arith)))
 
 -- and those bytes are whole groups
-pub stands-groups : (o : Order) (bs ws : List ℕ) → Stands o bs ws → length bs % 4 ≡ 0
+pub stands-groups : (o : Order) (bs ws : List ℕ) → StandFor o bs ws → length bs % 4 ≡ 0
 stands-groups o bs ws s = let w = s.whole in omega arith
 
 pub length-turned : (bs : List ℕ) → length bs % 4 ≡ 0 → length (turned bs) ≡ length bs
@@ -72,21 +72,21 @@ turned-append (a ∷ b ∷ c ∷ []) y h = absurd (omega arith)
 turned-append (a ∷ b ∷ c ∷ d ∷ x) y h = ap (λ ws. d ∷ c ∷ b ∷ a ∷ ws) (turned-append x y (omega arith))
 
 -- the bytes of a little image stand for its words in the other order when turned
-pub stands-turned : (bs ws : List ℕ) → Stands Little bs ws → Stands Big (turned bs) ws
+pub stands-turned : (bs ws : List ℕ) → StandFor Little bs ws → StandFor Big (turned bs) ws
 stands-turned bs ws s =
     let g = stands-groups Little bs ws s in
     let l = length-turned bs g in
     let q = words-stand Big (turned bs) (All-turned bs s.octets) (omega arith) in
-    subst (λ (vs : List ℕ). Stands Big (turned bs) vs) (big-turned bs ∙ sym (stands-words Little bs ws s)) q
+    subst (λ (vs : List ℕ). StandFor Big (turned bs) vs) (big-turned bs ∙ sym (stands-words Little bs ws s)) q
 
 -- the two orders never both tell the magic number
 two_orders : (a b c d : ℕ) → a < 256 → b < 256 → c < 256 → d < 256 → word_of Little a b c d ≡ magic_number → word_of Big a b c d ≡ magic_number → ⊥
 two_orders a b c d la lb lc ld e f = omega arith
 
-first_word : (o : Order) (bs ws : List ℕ) → Tells o bs ws → 5 ≤ length bs → word_of o (slice_index bs 0) (slice_index bs 1) (slice_index bs 2) (slice_index bs 3) ≡ magic_number
+first_word : (o : Order) (bs ws : List ℕ) → StandInOrder o bs ws → 5 ≤ length bs → word_of o (slice_index bs 0) (slice_index bs 1) (slice_index bs 2) (slice_index bs 3) ≡ magic_number
 first_word o bs ws t h = let w = t.stands.whole in sym (t.stands.each 0 (omega arith)) ∙ t.magic
 
-pub one_order : (o p : Order) (bs ws vs : List ℕ) → 5 ≤ length bs → Tells o bs ws → Tells p bs vs → o ≡ p
+pub one_order : (o p : Order) (bs ws vs : List ℕ) → 5 ≤ length bs → StandInOrder o bs ws → StandInOrder p bs vs → o ≡ p
 one_order Little Little bs ws vs h t u = refl
 one_order Big Big bs ws vs h t u = refl
 one_order Little Big bs ws vs h t u =
@@ -97,12 +97,12 @@ one_order Big Little bs ws vs h t u =
     absurd (two_orders _ _ _ _ (os 0 0 (omega arith)) (os 1 0 (omega arith)) (os 2 0 (omega arith)) (os 3 0 (omega arith)) (first_word Little bs vs u h) (first_word Big bs ws t h))
 
 -- bytes tell one order and one list of words
-pub one_telling : (o p : Order) (bs ws vs : List ℕ) → 5 ≤ length bs → Tells o bs ws → Tells p bs vs → (o ≡ p) × (ws ≡ vs)
+pub one_telling : (o p : Order) (bs ws vs : List ℕ) → 5 ≤ length bs → StandInOrder o bs ws → StandInOrder p bs vs → (o ≡ p) × (ws ≡ vs)
 one_telling o p bs ws vs h t u =
     let e = one_order o p bs ws vs h t u in
     (e, stands-words o bs ws t.stands ∙ ap (λ (q : Order). words_of q bs) e ∙ sym (stands-words p bs vs u.stands))
 
-pub module-tells : (o : Order) (bs ws : List ℕ) → IsModule o bs ws → Tells o bs ws
+pub module-tells : (o : Order) (bs ws : List ℕ) → IsModule o bs ws → StandInOrder o bs ws
 module-tells o bs ws m = record { stands = m.stands; magic = m.header.magic }
 
 pub module-long : (o : Order) (bs ws : List ℕ) → IsModule o bs ws → 20 ≤ length bs
@@ -143,7 +143,7 @@ same_bytes o (a ∷ b ∷ c ∷ d ∷ bs) (e ∷ f ∷ g ∷ h ∷ cs) hb hc gb 
     let r : bs ≡ cs = same_bytes o bs cs hb.1.1.1.1 hc.1.1.1.1 (omega arith) (omega arith) (same_tails s) in
     cc (q.0, q.1, q.2, q.3, r)
 
-pub one_spelling : (o : Order) (bs cs ws : List ℕ) → Stands o bs ws → Stands o cs ws → bs ≡ cs
+pub one_spelling : (o : Order) (bs cs ws : List ℕ) → StandFor o bs ws → StandFor o cs ws → bs ≡ cs
 one_spelling o bs cs ws s t =
     same_bytes o bs cs (recursion_from_All (λ b. b < 256) bs s.octets) (recursion_from_All (λ b. b < 256) cs t.octets)
     (stands-groups o bs ws s) (stands-groups o cs ws t) (sym (stands-words o bs ws s) ∙ stands-words o cs ws t)
@@ -177,7 +177,7 @@ words_fit o (a ∷ b ∷ []) h = tt
 words_fit o (a ∷ b ∷ c ∷ []) h = tt
 words_fit o (a ∷ b ∷ c ∷ d ∷ bs) h = (word_fits o a b c d h.0 h.1.0 h.1.1.0 h.1.1.1.0, words_fit o bs h.1.1.1.1)
 
-pub words-fit : (o : Order) (bs ws : List ℕ) → Stands o bs ws → All (λ w. w < 2 ^ 32) ws
+pub words-fit : (o : Order) (bs ws : List ℕ) → StandFor o bs ws → All (λ w. w < 2 ^ 32) ws
 words-fit o bs ws s =
     rw (stands-words o bs ws s) (All-from_recursion (λ w. w < 2 ^ 32) (words_of o bs) (words_fit o bs (recursion_from_All (λ b. b < 256) bs s.octets)))
 

@@ -2,9 +2,9 @@ use Rattle.std.proofs.Common.{◌≡◌, ◌≤◌, ◌++◌, ◌+◌, ◌*◌, 
 use Rattle.std.proofs.lemmas.List.{length-take-le, take-take, length-drop}
 use Rattle.std.proofs.Math.Seq.{take-length, take-append-add}
 use Rattle.std.specs.Io.KnownBytes.{Appends}
-use Rattle.spv_words.specs.Words.{Stands, turned}
+use Rattle.spv_words.specs.Words.{StandFor, turned}
 use Rattle.spv_words.proofs.Standing.{turned-part, length-turned}
-use Rattle.spv_words.specs.Streams.{Holds}
+use Rattle.spv_words.specs.Streams.{HoldsBytes}
 use Rattle.spv_words.specs.declared.words.Order.{Order}
 
 -- so many of the bytes were written
@@ -29,8 +29,8 @@ pub record TurnedSoFar (old new : Option (List ℕ)) (before after : ℕ) (bytes
   pub count : after ≡ before
 
 -- all the bytes of the words were written
-pub holds_all : (o : Order) (old new : Option (List ℕ)) (bytes words : List ℕ) → Stands o bytes words → Appends old new bytes
-    → IfSome old (λ xs. Holds o words xs new (4 * length words))
+pub holds_all : (o : Order) (old new : Option (List ℕ)) (bytes words : List ℕ) → StandFor o bytes words → Appends old new bytes
+    → IfSome old (λ xs. HoldsBytes o words xs new (4 * length words))
 holds_all o None new bytes words s a = tt
 holds_all o (Some xs) None bytes words s a = absurd a
 holds_all o (Some xs) (Some ys) bytes words s a = let w = s.whole in record {
@@ -41,8 +41,8 @@ holds_all o (Some xs) (Some ys) bytes words s a = let w = s.whole in record {
 }
 
 -- a beginning of them was
-pub holds_begun : (o : Order) (old new : Option (List ℕ)) (bytes words : List ℕ) (most : ℕ) → most ≤ length bytes → Stands o bytes words
-    → IfSome old (λ xs. (n : ℕ) × (n ≤ most) × (new ≡ Some (xs ++ take n bytes))) → IfSome old (λ xs. (n : ℕ) × Holds o words xs new n)
+pub holds_begun : (o : Order) (old new : Option (List ℕ)) (bytes words : List ℕ) (most : ℕ) → most ≤ length bytes → StandFor o bytes words
+    → IfSome old (λ xs. (n : ℕ) × (n ≤ most) × (new ≡ Some (xs ++ take n bytes))) → IfSome old (λ xs. (n : ℕ) × HoldsBytes o words xs new n)
 holds_begun o None new bytes words most l s b = tt
 holds_begun o (Some xs) new bytes words most l s b = let f = b.1 in (b.0, record { bytes = bytes; stands = s; fits = omega arith; front = b.2 })
 

@@ -1,6 +1,6 @@
 -- The header of a module, the limits of its size, and what its bytes break.
 use Rattle.std.specs.Prelude.{◌≡◌, ◌<◌, ◌≤◌, ℕ, ◌%◌, List, length, slice_index}
-use Rattle.spv_words.specs.Words.{Stands, words_of}
+use Rattle.spv_words.specs.Words.{StandFor, words_of}
 use Rattle.spv_words.specs.declared.words.Order.{Order}
 use Rattle.spv_words.specs.declared.words.Order.TheVariants.{Little}
 use Rattle.spv_words.specs.declared.words.WordError.{WordError}
@@ -33,26 +33,28 @@ pub record IsHeader (words : List ℕ) : Type 0 where
 
 -- The bytes are those of a module in that order, and the words are its words. [2.3; the size own]
 pub record IsModule (o : Order) (bytes words : List ℕ) : Type 0 where
-  pub stands : Stands o bytes words
+  pub stands : StandFor o bytes words
   pub header : IsHeader words
   pub size : length bytes ≤ greatest_size
 
 -- The bytes stand for the words in the order in which the first of them is the magic number. [2.3]
-pub record Tells (o : Order) (bytes words : List ℕ) : Type 0 where
-  pub stands : Stands o bytes words
+pub record StandInOrder (o : Order) (bytes words : List ℕ) : Type 0 where
+  pub stands : StandFor o bytes words
   pub magic : slice_index words 0 ≡ magic_number
 
 -- What each code asks of a module's bytes. W1 and W9 ask nothing of them. [2.3; W7 and W8 own]
-abbrev pub Keeps : WordError → List ℕ → Type 0
-Keeps code.W1 bytes = Unit {0}
-Keeps code.W2 bytes = 20 ≤ length bytes
-Keeps code.W3 bytes = length bytes % 4 ≡ 0
-Keeps code.W4 bytes = (o : Order) × ((words : List ℕ) × Tells o bytes words)
-Keeps code.W5 bytes = (o : Order) (words : List ℕ) → Tells o bytes words → slice_index words 1 ≡ version_number
-Keeps code.W6 bytes = (o : Order) (words : List ℕ) → Tells o bytes words → slice_index words 4 ≡ 0
-Keeps code.W7 bytes = (o : Order) (words : List ℕ) → Tells o bytes words → (1 ≤ slice_index words 3) × (slice_index words 3 ≤ greatest_bound)
-Keeps code.W8 bytes = length bytes ≤ greatest_size
-Keeps code.W9 bytes = Unit {0}
+abbrev pub BytesKeep : WordError → List ℕ → Type 0
+BytesKeep code.W1 bytes = Unit {0}
+BytesKeep code.W2 bytes = 20 ≤ length bytes
+BytesKeep code.W3 bytes = length bytes % 4 ≡ 0
+BytesKeep code.W4 bytes = (o : Order) × ((words : List ℕ) × StandInOrder o bytes words)
+BytesKeep code.W5 bytes = (o : Order) (words : List ℕ) → StandInOrder o bytes words
+    → slice_index words 1 ≡ version_number
+BytesKeep code.W6 bytes = (o : Order) (words : List ℕ) → StandInOrder o bytes words → slice_index words 4 ≡ 0
+BytesKeep code.W7 bytes = (o : Order) (words : List ℕ) → StandInOrder o bytes words → (1 ≤ slice_index words 3)
+    × (slice_index words 3 ≤ greatest_bound)
+BytesKeep code.W8 bytes = length bytes ≤ greatest_size
+BytesKeep code.W9 bytes = Unit {0}
 
 -- The place of a code in the order of the tests: W8, then W2 to W7. [own]
 abbrev pub place_of : WordError → ℕ
@@ -68,14 +70,14 @@ place_of code.W9 = 0
 
 -- The bytes break what the code asks, and keep what each code before it asks. [own]
 pub record IsFirstBroken (e : WordError) (bytes : List ℕ) : Type 0 where
-  pub broken : ¬ Keeps e bytes
-  pub before : (d : WordError) → place_of d < place_of e → Keeps d bytes
+  pub broken : ¬ BytesKeep e bytes
+  pub before : (d : WordError) → place_of d < place_of e → BytesKeep d bytes
 
 -- What an error says of the bytes of a reader: W1 and W9 nothing, any other that it is the first broken. [own]
-abbrev pub Refuses : WordError → List ℕ → Type 0
-Refuses code.W1 bytes = Unit {0}
-Refuses code.W9 bytes = Unit {0}
-Refuses e bytes = IsFirstBroken e bytes
+abbrev pub RefusesBytes : WordError → List ℕ → Type 0
+RefusesBytes code.W1 bytes = Unit {0}
+RefusesBytes code.W9 bytes = Unit {0}
+RefusesBytes e bytes = IsFirstBroken e bytes
 
 -- What an image keeps: little-endian bytes that are a module's. [own]
 abbrev pub IsImage : List ℕ → Type 0

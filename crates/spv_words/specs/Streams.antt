@@ -1,14 +1,14 @@
 -- What reading and writing an image leave. (Own.)
 use Rattle.std.specs.Prelude.{◌≡◌, ◌≤◌, ℕ, List, ◌++◌, length, take, drop, Option, Some}
-use Rattle.spv_words.specs.Words.{Stands}
+use Rattle.spv_words.specs.Words.{StandFor}
 use Rattle.spv_words.specs.declared.words.Order.{Order}
 use Rattle.spv_words.specs.declared.words.WordError.{WordError}
 use Rattle.spv_words.specs.declared.words.WordError.TheVariants as code
 
 -- A writer that held `old` now also holds the first n of the bytes that stand for the words, and nothing else.
-pub record Holds (o : Order) (words old : List ℕ) (new : Option (List ℕ)) (n : ℕ) : Type 0 where
+pub record HoldsBytes (o : Order) (words old : List ℕ) (new : Option (List ℕ)) (n : ℕ) : Type 0 where
   pub bytes : List ℕ
-  pub stands : Stands o bytes words
+  pub stands : StandFor o bytes words
   pub fits : n ≤ length bytes
   pub front : new ≡ Some (old ++ take n bytes)
 

@@ -1,4 +1,5 @@
-ghost use Rattle.std.specs.Prelude.{◌≡◌, ◌≤◌, ◌<◌, ◌^◌, ◌++◌, ◌∷◌, [], length, All, OnErr, OnOk};
+ghost use Rattle.std.specs.Prelude.{◌≡◌, ◌≤◌, ◌<◌, ◌^◌, ◌++◌, ◌∷◌, [], length, All};
+ghost use Rattle.std.specs.Prelude.{OnErr, OnOk};
 ghost use Rattle.spv_words.specs.Header.{IsHeader};
 
 use crate::image::Image;

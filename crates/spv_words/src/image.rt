@@ -1,5 +1,5 @@
 ghost use Rattle.std.specs.Prelude.{◌≡◌, ◌≤◌, ◌<◌, ◌*◌, ◌^◌, length, slice_index, All};
-ghost use Rattle.spv_words.specs.Words.{words_of, Stands};
+ghost use Rattle.spv_words.specs.Words.{words_of, StandFor};
 ghost use Rattle.spv_words.specs.Header.{IsHeader, IsImage};
 ghost use Rattle.spv_words.specs.declared.words.Order.TheVariants.{Little};
 
@@ -72,7 +72,7 @@ impl Image {
     pub fn octets(&self) -> &[u8]
         ensures words { words_of Little result.now ≡ self.now }
         ensures len { length result.now ≡ 4 * length self.now }
-        ensures stands { Stands Little result.now self.now }
+        ensures stands { StandFor Little result.now self.now }
     {
         self.bytes.as_slice()
     }

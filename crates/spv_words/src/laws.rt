@@ -1,13 +1,15 @@
 //! Laws of the definitions, and worked examples. Each function does nothing: its contract is what
 //! is proved.
 
-ghost use Rattle.std.specs.Prelude.{◌≡◌, ◌<◌, ◌*◌, ◌%◌, ◌-◌, ◌^◌, ℕ, List, [], ◌∷◌, Some, Ok, Err, length, All};
+ghost use Rattle.std.specs.Prelude.{◌≡◌, ◌<◌, ◌*◌, ◌%◌, ◌-◌, ◌^◌, ℕ, List, [], ◌∷◌};
+ghost use Rattle.std.specs.Prelude.{Some, Ok, Err, length, All};
 ghost use Rattle.spv_words.specs.Count.{counted};
 ghost use Rattle.spv_words.specs.Example.{big_header, header_words, little_header};
-ghost use Rattle.spv_words.specs.Streams.{Holds, GaveAtMost, IsStop};
-ghost use Rattle.spv_words.specs.Words.{Stands, words_of, turned};
-ghost use Rattle.spv_words.specs.Header.{greatest_bound, greatest_size, magic_number, version_number, IsModule, IsFirstBroken, IsHeader, IsImage, Keeps, Refuses, Tells};
-ghost use Rattle.spv_words.specs.HeaderTest.{Breaks, Fits};
+ghost use Rattle.spv_words.specs.Streams.{HoldsBytes, GaveAtMost, IsStop};
+ghost use Rattle.spv_words.specs.Words.{StandFor, words_of, turned};
+ghost use Rattle.spv_words.specs.Header.{greatest_bound, greatest_size, magic_number, version_number, IsModule};
+ghost use Rattle.spv_words.specs.Header.{IsFirstBroken, IsHeader, IsImage, BytesKeep, RefusesBytes, StandInOrder};
+ghost use Rattle.spv_words.specs.inner.HeaderTest.{Breaks, PassesTest};
 ghost use Rattle.spv_words.specs.declared.words.Order.{Order};
 ghost use Rattle.spv_words.specs.declared.words.Order.TheVariants.{Little, Big};
 ghost use Rattle.spv_words.specs.declared.words.WordError.{WordError};
@@ -27,20 +29,22 @@ pub fn constants()
 
 /// Bytes stand for at most one list of words in an order, and are a module's in at most one order.
 pub fn one_word_list()
-    ensures words { (o : Order) (bs ws vs : List ℕ) → Stands o bs ws → Stands o bs vs → ws ≡ vs }
-    ensures order { (o p : Order) (bs ws vs : List ℕ) → IsModule o bs ws → IsModule p bs vs → (o ≡ p) × (ws ≡ vs) }
+    ensures words { (o : Order) (bs ws vs : List ℕ) → StandFor o bs ws → StandFor o bs vs → ws ≡ vs }
+    ensures order { (o p : Order) (bs ws vs : List ℕ) → IsModule o bs ws → IsModule p bs vs
+        → (o ≡ p) × (ws ≡ vs) }
 {}
 
 /// Words have at most one list of bytes in an order.
 pub fn one_byte_list()
-    ensures { (o : Order) (bs cs ws : List ℕ) → Stands o bs ws → Stands o cs ws → bs ≡ cs }
+    ensures { (o : Order) (bs cs ws : List ℕ) → StandFor o bs ws → StandFor o cs ws → bs ≡ cs }
 {}
 
 /// Bytes in whole groups of four stand for the words of the groups, and the turned groups for the
 /// same words in the other order.
 pub fn words_stand()
-    ensures whole { (o : Order) (bs : List ℕ) → All (λ b. b < 256) bs → length bs % 4 ≡ 0 → Stands o bs (words_of o bs) }
-    ensures other { (bs ws : List ℕ) → Stands Little bs ws → Stands Big (turned bs) ws }
+    ensures whole { (o : Order) (bs : List ℕ) → All (λ b. b < 256) bs → length bs % 4 ≡ 0
+        → StandFor o bs (words_of o bs) }
+    ensures other { (bs ws : List ℕ) → StandFor Little bs ws → StandFor Big (turned bs) ws }
 {}
 
 /// Bytes break at most one code first, and none where they are a module's.
@@ -52,16 +56,20 @@ pub fn one_refusal()
 /// Worked examples.
 pub fn examples()
     // 01 02 03 04 is the word 0x04030201 in Little and 0x01020304 in Big.
-    ensures little { Stands Little (1 ∷ 2 ∷ 3 ∷ 4 ∷ []) (67305985 ∷ []) }
-    ensures big { Stands Big (1 ∷ 2 ∷ 3 ∷ 4 ∷ []) (16909060 ∷ []) }
-    ensures other { ¬ (Stands Little (1 ∷ 2 ∷ 3 ∷ 4 ∷ []) (16909060 ∷ [])) }
+    ensures little { StandFor Little (1 ∷ 2 ∷ 3 ∷ 4 ∷ []) (67305985 ∷ []) }
+    ensures big { StandFor Big (1 ∷ 2 ∷ 3 ∷ 4 ∷ []) (16909060 ∷ []) }
+    ensures other { ¬ (StandFor Little (1 ∷ 2 ∷ 3 ∷ 4 ∷ []) (16909060 ∷ [])) }
     // Version 1.6, generator 7, bound 5; then a bound of 0.
     ensures header { IsHeader (119734787 ∷ 67072 ∷ 7 ∷ 5 ∷ 0 ∷ []) }
     ensures no_bound { ¬ (IsHeader (119734787 ∷ 67072 ∷ 7 ∷ 0 ∷ 0 ∷ [])) }
     // The same two headers as bytes, in Big and in no other order.
-    ensures module_bytes { IsModule Big (7 ∷ 35 ∷ 2 ∷ 3 ∷ 0 ∷ 1 ∷ 6 ∷ 0 ∷ 0 ∷ 0 ∷ 0 ∷ 7 ∷ 0 ∷ 0 ∷ 0 ∷ 5 ∷ 0 ∷ 0 ∷ 0 ∷ 0 ∷ []) (119734787 ∷ 67072 ∷ 7 ∷ 5 ∷ 0 ∷ []) }
-    ensures bound_first { IsFirstBroken W7 (7 ∷ 35 ∷ 2 ∷ 3 ∷ 0 ∷ 1 ∷ 6 ∷ 0 ∷ 0 ∷ 0 ∷ 0 ∷ 7 ∷ 0 ∷ 0 ∷ 0 ∷ 0 ∷ 0 ∷ 0 ∷ 0 ∷ 0 ∷ []) }
-    ensures one_order { (ws : List ℕ) → ¬ (IsModule Little (7 ∷ 35 ∷ 2 ∷ 3 ∷ 0 ∷ 1 ∷ 6 ∷ 0 ∷ 0 ∷ 0 ∷ 0 ∷ 7 ∷ 0 ∷ 0 ∷ 0 ∷ 5 ∷ 0 ∷ 0 ∷ 0 ∷ 0 ∷ []) ws) }
+    ensures module_bytes { IsModule Big (7 ∷ 35 ∷ 2 ∷ 3 ∷ 0 ∷ 1 ∷ 6 ∷ 0 ∷ 0 ∷ 0 ∷ 0 ∷ 7 ∷ 0
+        ∷ 0 ∷ 0 ∷ 5 ∷ 0 ∷ 0 ∷ 0 ∷ 0 ∷ []) (119734787 ∷ 67072 ∷ 7 ∷ 5 ∷ 0 ∷ []) }
+    ensures bound_first { IsFirstBroken W7 (7 ∷ 35 ∷ 2 ∷ 3 ∷ 0 ∷ 1 ∷ 6 ∷ 0 ∷ 0 ∷ 0 ∷ 0 ∷ 7 ∷ 0
+        ∷ 0 ∷ 0 ∷ 0 ∷ 0 ∷ 0 ∷ 0 ∷ 0 ∷ []) }
+    ensures one_order { (ws : List ℕ) → ¬
+        (IsModule Little (7 ∷ 35 ∷ 2 ∷ 3 ∷ 0 ∷ 1 ∷ 6 ∷ 0 ∷ 0 ∷ 0 ∷ 0 ∷ 7 ∷ 0 ∷ 0 ∷ 0 ∷ 5
+        ∷ 0 ∷ 0 ∷ 0 ∷ 0 ∷ []) ws) }
     // Three bytes break W2 and W3, and W2 is the first.
     ensures size_first { IsFirstBroken W2 (1 ∷ 2 ∷ 3 ∷ []) }
     ensures size_second { ¬ (IsFirstBroken W3 (1 ∷ 2 ∷ 3 ∷ [])) }
@@ -75,31 +83,34 @@ pub fn word_examples()
     ensures none { words_of Big (1 ∷ 2 ∷ 3 ∷ []) ≡ [] }
     ensures other { ¬ (words_of Big (1 ∷ 2 ∷ 3 ∷ 4 ∷ []) ≡ 67305985 ∷ []) }
     // Each group is turned by itself.
-    ensures groups { turned (1 ∷ 2 ∷ 3 ∷ 4 ∷ 5 ∷ 6 ∷ 7 ∷ 8 ∷ []) ≡ 4 ∷ 3 ∷ 2 ∷ 1 ∷ 8 ∷ 7 ∷ 6 ∷ 5 ∷ [] }
-    ensures whole { ¬ (turned (1 ∷ 2 ∷ 3 ∷ 4 ∷ 5 ∷ 6 ∷ 7 ∷ 8 ∷ []) ≡ 8 ∷ 7 ∷ 6 ∷ 5 ∷ 4 ∷ 3 ∷ 2 ∷ 1 ∷ []) }
+    ensures groups { turned (1 ∷ 2 ∷ 3 ∷ 4 ∷ 5 ∷ 6 ∷ 7 ∷ 8 ∷ []) ≡ 4 ∷ 3 ∷ 2 ∷ 1 ∷ 8 ∷ 7
+        ∷ 6 ∷ 5 ∷ [] }
+    ensures whole { ¬ (turned (1 ∷ 2 ∷ 3 ∷ 4 ∷ 5 ∷ 6 ∷ 7 ∷ 8 ∷ []) ≡ 8 ∷ 7 ∷ 6 ∷ 5 ∷ 4 ∷ 3
+        ∷ 2 ∷ 1 ∷ []) }
 {}
 
 /// Worked examples of what bytes keep and break.
 pub fn header_examples()
     // The bytes tell their words in one order alone, and only those in Little are an image's.
-    ensures tells { Tells Big big_header header_words }
-    ensures tells_other { (ws : List ℕ) → ¬ (Tells Little big_header ws) }
+    ensures tells { StandInOrder Big big_header header_words }
+    ensures tells_other { (ws : List ℕ) → ¬ (StandInOrder Little big_header ws) }
     ensures image { IsImage little_header }
     ensures no_image { ¬ (IsImage big_header) }
     // Whole groups of four, the magic number and the bound.
-    ensures keeps_groups { Keeps W3 (1 ∷ 2 ∷ 3 ∷ 4 ∷ []) }
-    ensures breaks_groups { ¬ (Keeps W3 (1 ∷ 2 ∷ 3 ∷ [])) }
-    ensures keeps_magic { Keeps W4 big_header }
-    ensures breaks_magic { ¬ (Keeps W4 (1 ∷ 2 ∷ 3 ∷ 4 ∷ [])) }
-    ensures keeps_bound { Keeps W7 big_header }
-    ensures breaks_bound { ¬ (Keeps W7 (7 ∷ 35 ∷ 2 ∷ 3 ∷ 0 ∷ 1 ∷ 6 ∷ 0 ∷ 0 ∷ 0 ∷ 0 ∷ 7 ∷ 0 ∷ 0 ∷ 0 ∷ 0 ∷ 0 ∷ 0 ∷ 0 ∷ 0 ∷ [])) }
+    ensures keeps_groups { BytesKeep W3 (1 ∷ 2 ∷ 3 ∷ 4 ∷ []) }
+    ensures breaks_groups { ¬ (BytesKeep W3 (1 ∷ 2 ∷ 3 ∷ [])) }
+    ensures keeps_magic { BytesKeep W4 big_header }
+    ensures breaks_magic { ¬ (BytesKeep W4 (1 ∷ 2 ∷ 3 ∷ 4 ∷ [])) }
+    ensures keeps_bound { BytesKeep W7 big_header }
+    ensures breaks_bound { ¬ (BytesKeep W7 (7 ∷ 35 ∷ 2 ∷ 3 ∷ 0 ∷ 1 ∷ 6 ∷ 0 ∷ 0 ∷ 0 ∷ 0 ∷ 7 ∷ 0
+        ∷ 0 ∷ 0 ∷ 0 ∷ 0 ∷ 0 ∷ 0 ∷ 0 ∷ [])) }
     // Three bytes are refused by W2 and not by W3; W9 says nothing of the bytes.
-    ensures refuses { Refuses W2 (1 ∷ 2 ∷ 3 ∷ []) }
-    ensures refuses_later { ¬ (Refuses W3 (1 ∷ 2 ∷ 3 ∷ [])) }
-    ensures refuses_memory { (bytes : List ℕ) → Refuses W9 bytes }
+    ensures refuses { RefusesBytes W2 (1 ∷ 2 ∷ 3 ∷ []) }
+    ensures refuses_later { ¬ (RefusesBytes W3 (1 ∷ 2 ∷ 3 ∷ [])) }
+    ensures refuses_memory { (bytes : List ℕ) → RefusesBytes W9 bytes }
     // Version 1.6, schema 0 and bound 5; then a bound of 0; then a schema of 1 before it.
-    ensures fits { Fits 67072 0 5 }
-    ensures no_bound { ¬ (Fits 67072 0 0) }
+    ensures fits { PassesTest 67072 0 5 }
+    ensures no_bound { ¬ (PassesTest 67072 0 0) }
     ensures schema_first { Breaks W6 67072 1 0 }
     ensures bound_second { ¬ (Breaks W7 67072 1 0) }
     // Too many bytes stop the reading, too few do not.
@@ -112,8 +123,8 @@ pub fn header_examples()
 /// Worked examples of what streams do.
 pub fn stream_examples()
     // A writer that held the byte 9 got two bytes of the word 1.
-    ensures wrote { Holds Little (1 ∷ []) (9 ∷ []) (Some (9 ∷ 1 ∷ 0 ∷ [])) 2 }
-    ensures wrote_nothing { ¬ (Holds Little (1 ∷ []) (9 ∷ []) (Some (9 ∷ [])) 2) }
+    ensures wrote { HoldsBytes Little (1 ∷ []) (9 ∷ []) (Some (9 ∷ 1 ∷ 0 ∷ [])) 2 }
+    ensures wrote_nothing { ¬ (HoldsBytes Little (1 ∷ []) (9 ∷ []) (Some (9 ∷ [])) 2) }
     // A reader gave one of two bytes; both are more than one.
     ensures gave { GaveAtMost 1 (5 ∷ 6 ∷ []) (Some (6 ∷ [])) }
     ensures gave_both { ¬ (GaveAtMost 1 (5 ∷ 6 ∷ []) (Some [])) }

@@ -1,9 +1,9 @@
 //! The words of a SPIR-V module: byte streams, byte orders and the header.
 //!
-//! [`read_image`] reads a module's bytes from a [`Source`] into an [`Image`], which is a list of
-//! 32-bit words whose header fits, and [`image_of`] takes them from memory; [`write_image`] writes an image to a [`Sink`] in either byte
-//! order. (Khronos SPIR-V Specification 1.6, section 2.3.) A [`Draft`] is an image that is put
-//! together word by word, and [`write_all`] writes any bytes.
+//! [`read_image`] reads a module's bytes from a [`Source`] into an [`Image`], which is a list of 32-bit words whose
+//! header fits, and [`image_of`] takes them from memory; [`write_image`] writes an image to a [`Sink`] in either byte
+//! order. (Khronos SPIR-V Specification 1.6, section 2.3.) A [`Draft`] is an image that is put together word by word,
+//! and [`write_all`] writes any bytes.
 #![tactic(auto)]
 
 mod draft;

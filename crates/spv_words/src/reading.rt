@@ -1,9 +1,10 @@
-ghost use Rattle.std.specs.Prelude.{◌≡◌, ◌≢◌, ◌≤◌, ◌<◌, ◌↔◌, ◌+◌, length, slice_index, IfOk, IfErr, IfSome, IsErrOf, IsNone, vec_len};
+ghost use Rattle.std.specs.Prelude.{◌≡◌, ◌≢◌, ◌≤◌, ◌<◌, ◌↔◌, ◌+◌, length, slice_index};
+ghost use Rattle.std.specs.Prelude.{IfOk, IfErr, IfSome, IsErrOf, IsNone, vec_len};
 ghost use Rattle.std.specs.Io.KnownBytes.{Consumes, IsAtEnd};
 ghost use Rattle.spv_words.specs.Words.{words_of};
 ghost use Rattle.spv_words.specs.Streams.{GaveAtMost, IsStop};
-ghost use Rattle.spv_words.specs.Header.{magic_number, greatest_size, IsImage, IsModule, IsFirstBroken, Refuses};
-ghost use Rattle.spv_words.specs.HeaderTest.{Fits, Breaks};
+ghost use Rattle.spv_words.specs.Header.{magic_number, greatest_size, IsImage, IsModule, IsFirstBroken, RefusesBytes};
+ghost use Rattle.spv_words.specs.inner.HeaderTest.{PassesTest, Breaks};
 ghost use Rattle.spv_words.specs.declared.words.Order.TheVariants.{Little, Big};
 ghost use Rattle.spv_words.specs.declared.words.WordError.TheVariants.{W1, W8, W9};
 
@@ -33,7 +34,8 @@ fn make_room(bytes: &mut Vec<u8>, more: usize) -> Result<(), AllocError>
 fn read_all<R: Source>(alloc: Global, r: &mut R) -> Result<Vec<u8>, WordError>
     ensures count { R.failures r.new ≢ R.failures r.old ↔ IsErrOf result W1 }
     ensures steady { ¬ IsErrOf result W1 → R.failures r.new ≡ R.failures r.old }
-    ensures known { IfOk result (λ v. Consumes (R.remaining r.old) (R.remaining r.new) v.items × IsAtEnd (R.remaining r.new)) }
+    ensures known { IfOk result (λ v. Consumes (R.remaining r.old) (R.remaining r.new) v.items
+        × IsAtEnd (R.remaining r.new)) }
     ensures most { IfOk result (λ v. vec_len v ≤ 16777216) }
     ensures over { IsErrOf result W8 → IfSome (R.remaining r.old) (λ xs. 16777216 < length xs) }
     ensures codes { IfErr result (λ e. IsStop e) }
@@ -72,7 +74,7 @@ fn order_in(bytes: &[u8]) -> Option<Order>
 /// The first code that the version, the schema and the bound of a header break, or none.
 fn broken_by(version: u32, schema: u32, bound: u32) -> Option<WordError>
     ensures some { IfSome result (λ e. Breaks e version schema bound) }
-    ensures none { IsNone result → Fits version schema bound }
+    ensures none { IsNone result → PassesTest version schema bound }
 {
     if version != VERSION {
         return Some(WordError::W5);
@@ -148,7 +150,7 @@ pub fn image_of(alloc: Global, bytes: &[u8]) -> Result<(Image, Order), WordError
     // The bytes are a module's, in that order, and the image is its words.
     ensures gives { IfOk result (λ p. IsModule p.1 bytes.now p.0) }
     // The code is the first that the bytes break, so a module's bytes are refused by W9 alone.
-    ensures refuses { IfErr result (λ e. Refuses e bytes.now) }
+    ensures refuses { IfErr result (λ e. RefusesBytes e bytes.now) }
     // Nothing is read, so no read fails.
     ensures reads { ¬ IsErrOf result W1 }
 {
@@ -172,7 +174,7 @@ pub fn read_image<R: Source>(alloc: Global, r: &mut R) -> Result<(Image, Order),
     // All the bytes are a module's, in that order, and the image is its words.
     ensures gives { IfSome (R.remaining r.old) (λ xs. IfOk result (λ p. IsModule p.1 xs p.0)) }
     // The code is the first that the bytes break, so a module's bytes are refused by W1 and W9 alone.
-    ensures refuses { IfSome (R.remaining r.old) (λ xs. IfErr result (λ e. Refuses e xs)) }
+    ensures refuses { IfSome (R.remaining r.old) (λ xs. IfErr result (λ e. RefusesBytes e xs)) }
     // The answer is W1 exactly where a read failed.
     ensures count { R.failures r.new ≢ R.failures r.old ↔ IsErrOf result W1 }
     ensures steady { ¬ IsErrOf result W1 → R.failures r.new ≡ R.failures r.old }

@@ -1,7 +1,8 @@
-ghost use Rattle.std.specs.Prelude.{◌≡◌, ◌≢◌, ◌≤◌, ◌↔◌, ◌*◌, ◌%◌, ◌++◌, ℕ, Some, length, take, IfErr, IfSome, IsErrOf, OnOk, OnErr};
+ghost use Rattle.std.specs.Prelude.{◌≡◌, ◌≢◌, ◌≤◌, ◌↔◌, ◌*◌, ◌%◌, ◌++◌, ℕ, Some};
+ghost use Rattle.std.specs.Prelude.{length, take, IfErr, IfSome, IsErrOf, OnOk, OnErr};
 ghost use Rattle.std.specs.Io.KnownBytes.{Appends};
 ghost use Rattle.spv_words.specs.Words.{turned};
-ghost use Rattle.spv_words.specs.Streams.{Holds};
+ghost use Rattle.spv_words.specs.Streams.{HoldsBytes};
 ghost use Rattle.spv_words.specs.declared.words.WordError.TheVariants.{W1};
 
 use crate::image::Image;
@@ -19,7 +20,8 @@ const BLOCK_SIZE: usize = 4096;
 /// Only `W1`, where a write failed or took nothing. A beginning of the bytes was then written.
 pub fn write_all<W: Sink>(bytes: &[u8], w: &mut W) -> Result<(), WordError>
     ensures all { OnOk result (Appends (W.contents w.old) (W.contents w.new) bytes.now) }
-    ensures begun { IfSome (W.contents w.old) (λ xs. (n : ℕ) × (n ≤ length bytes.now) × (W.contents w.new ≡ Some (xs ++ take n bytes.now))) }
+    ensures begun { IfSome (W.contents w.old)
+        (λ xs. (n : ℕ) × (n ≤ length bytes.now) × (W.contents w.new ≡ Some (xs ++ take n bytes.now))) }
     ensures only { IfErr result (λ e. e ≡ W1) }
     // The answer is W1 exactly where a write failed.
     ensures count { W.failures w.new ≢ W.failures w.old ↔ IsErrOf result W1 }
@@ -37,7 +39,9 @@ pub fn write_all<W: Sink>(bytes: &[u8], w: &mut W) -> Result<(), WordError>
 fn write_turned<W: Sink>(bytes: &[u8], w: &mut W) -> Result<(), WordError>
     requires { length bytes.now % 4 ≡ 0 }
     ensures all { OnOk result (Appends (W.contents w.old) (W.contents w.new) (turned bytes.now)) }
-    ensures begun { IfSome (W.contents w.old) (λ xs. (n : ℕ) × (n ≤ length bytes.now) × (W.contents w.new ≡ Some (xs ++ take n (turned bytes.now)))) }
+    ensures begun { IfSome (W.contents w.old)
+        (λ xs. (n : ℕ) × (n ≤ length bytes.now)
+        × (W.contents w.new ≡ Some (xs ++ take n (turned bytes.now)))) }
     ensures only { IfErr result (λ e. e ≡ W1) }
     ensures count { W.failures w.new ≢ W.failures w.old ↔ IsErrOf result W1 }
     ensures steady { OnOk result (W.failures w.new ≡ W.failures w.old) }
@@ -60,8 +64,9 @@ fn write_turned<W: Sink>(bytes: &[u8], w: &mut W) -> Result<(), WordError>
 ///
 /// Only `W1`, where a write failed or took nothing. A beginning of the bytes was then written.
 pub fn write_image<W: Sink>(image: &Image, order: Order, w: &mut W) -> Result<(), WordError>
-    ensures all { OnOk result (IfSome (W.contents w.old) (λ xs. Holds order image.now xs (W.contents w.new) (4 * length image.now))) }
-    ensures begun { IfSome (W.contents w.old) (λ xs. (n : ℕ) × Holds order image.now xs (W.contents w.new) n) }
+    ensures all { OnOk result (IfSome (W.contents w.old)
+        (λ xs. HoldsBytes order image.now xs (W.contents w.new) (4 * length image.now))) }
+    ensures begun { IfSome (W.contents w.old) (λ xs. (n : ℕ) × HoldsBytes order image.now xs (W.contents w.new) n) }
     ensures only { IfErr result (λ e. e ≡ W1) }
     // The answer is W1 exactly where a write failed.
     ensures count { W.failures w.new ≢ W.failures w.old ↔ IsErrOf result W1 }

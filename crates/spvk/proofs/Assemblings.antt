@@ -1,7 +1,7 @@
 -- What a text is assembled to.
 use Rattle.std.proofs.Common.{◌≡◌, ◌≢◌, ◌*◌, ℕ, List, [], None, Ok, Err, Result, IfOk, IsUtf8, drop, length, ap, refl, sym, subst}
 use Rattle.spv_words.specs.Header.{IsHeader}
-use Rattle.spv_words.specs.Streams.{Holds}
+use Rattle.spv_words.specs.Streams.{HoldsBytes}
 use Rattle.spv_words.specs.declared.words.Header.{Header}
 use Rattle.spv_words.specs.declared.words.Order.{Order}
 use Rattle.spv_table.specs.Table.{Table}
@@ -12,7 +12,7 @@ use Rattle.spv_lines.specs.Text.{IsReadText}
 use Rattle.spv_lines.specs.declared.asm_error.AsmError.{AsmError}
 use Rattle.spv_lines.specs.declared.asm_error.AsmCode.{AsmCode}
 use Rattle.spv_lines.specs.declared.asm_error.AsmCode.TheVariants.{S1, S2, S3, S4, S5, S6}
-use Rattle.spv_text.specs.Reading.{IsAsmFailure}
+use Rattle.spv_lines.specs.Fault.{IsAsmFailure}
 use Rattle.spvk.specs.Assemble.{ComesTo, made, failed}
 use Rattle.spvk.specs.Faults.{text_code_number}
 use Rattle.spvk.specs.declared.image.Assembled.{Assembled}
@@ -22,7 +22,7 @@ use Rattle.spvk.specs.inner.Faulty.{faulty_by}
 -- all the bytes of the image
 pub all_made : (G : Table) (o : Order) (text words : List ℕ) (a : Assembled) → IsUtf8 text
     → ((h : Header) × (is : List PlainInst) × IsReadText G h is (drop 5 words) text × IsHeaderOf words h × IsListing G is (drop 5 words)) → IsHeader words
-    → Holds o words [] a.buffer.bytes (4 * length words) → a.fault.code ≡ 0 → a.fault.line ≡ 0 → ComesTo G o text a
+    → HoldsBytes o words [] a.buffer.bytes (4 * length words) → a.fault.code ≡ 0 → a.fault.line ≡ 0 → ComesTo G o text a
 all_made G o text words a u r b w c l = made words (record { utf8 = u; header = r.0; insts = r.1; read = r.2; begins = b; told = r.3 }) w c l
 
 module _ (G : Table) (o : Order) (text : List ℕ) (line : ℕ) (a : Assembled) (u : IsUtf8 text) (l : a.fault.line ≡ line) (n : a.buffer.bytes ≡ None) where

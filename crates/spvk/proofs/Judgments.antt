@@ -1,6 +1,6 @@
 -- What was read has the verdict.
 use Rattle.std.proofs.Common.{◌≡◌, ℕ, List, IfOk, sym, subst}
-use Rattle.spv_words.specs.Header.{IsModule, Refuses}
+use Rattle.spv_words.specs.Header.{IsModule, RefusesBytes}
 use Rattle.spv_words.specs.declared.words.Order.{Order}
 use Rattle.spv_words.specs.declared.words.WordError.{WordError}
 use Rattle.spv_words.specs.declared.words.WordError.TheVariants as word
@@ -18,7 +18,7 @@ use Rattle.spvk.specs.inner.Refusal.{refusal_of}
 
 -- a code that was read, of bytes in memory
 pub refused_bytes : (G : Table) (bytes : List ℕ) (code : WordError)
-    → Refuses code bytes → IfOk (refusal_of code) (λ j. IsVerdict G bytes (line_of j))
+    → RefusesBytes code bytes → IfOk (refusal_of code) (λ j. IsVerdict G bytes (line_of j))
 refused_bytes G bytes word.W1 h = tt
 refused_bytes G bytes word.W9 h = tt
 refused_bytes G bytes word.W2 h = refused word.W2 h

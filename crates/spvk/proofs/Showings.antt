@@ -1,16 +1,16 @@
 -- What is shown of bytes that were read.
 use Rattle.std.proofs.Common.{◌≡◌, ◌+◌, ◌-◌, ℕ, List, Some, None, Result, Ok, Err, IfOk, ap, sym, subst, arith}
-use Rattle.spv_words.specs.Header.{IsModule, Refuses}
+use Rattle.spv_words.specs.Header.{IsModule, RefusesBytes}
 use Rattle.spv_words.specs.declared.words.Order.{Order}
 use Rattle.spv_words.specs.declared.words.WordError.{WordError}
 use Rattle.spv_words.specs.declared.words.WordError.TheVariants as word
 use Rattle.spv_table.specs.Table.{Table}
 use Rattle.spv_table.specs.declared.error.Memory.{Memory}
-use Rattle.spv_inst.specs.Outcome.{IsDeath}
+use Rattle.spv_inst.specs.Outcome.{IsDecodeFault}
 use Rattle.spv_module.specs.declared.fault.Fault.{Fault}
 use Rattle.spv_module.specs.declared.fault.Stop.{Stop}
 use Rattle.spv_module.specs.declared.fault.Stop.TheVariants.{Fault as Dies}
-use Rattle.spv_text.specs.Image.{IsShownImage}
+use Rattle.spv_lines.specs.Image.{IsShownImage}
 use Rattle.spv_verdict.specs.declared.verdict_line.Judgment.{Judgment}
 use Rattle.spv_verdict.specs.declared.verdict_line.Judgment.TheVariants.{Valid, Refused, Broken}
 use Rattle.spvk.specs.Numbers.{numbers_of}
@@ -26,9 +26,9 @@ text_shown G bytes words lines order (Ok t) h s v b = text words order s.header 
 
 -- words that are no list of instructions
 pub dead_shown : (G : Table) (bytes words : List ℕ) (order : Order) (s : Stop) (f : Fault) (t : Text) → s ≡ Dies f → IsModule order bytes words
-    → IsDeath G words s → t.verdict ≡ numbers_of (Broken f) → t.buffer.bytes ≡ None → IsShowing G bytes t
+    → IsDecodeFault G words s → t.verdict ≡ numbers_of (Broken f) → t.buffer.bytes ≡ None → IsShowing G bytes t
 dead_shown G bytes words order s f t e h d v b =
-    let died : IsDeath G words (Dies f) = rw e at d in
+    let died : IsDecodeFault G words (Dies f) = rw e at d in
     let low = died.0 in
     let at : f.word ≡ 5 + (f.word - 5) = omega arith in
     dead words order f (f.word - 5) h died.1 at v b
@@ -47,7 +47,7 @@ told_as : (k j : Judgment) (t : Text) → k ≡ j → t.verdict ≡ numbers_of j
 told_as k j t e v = subst (λ (i : Judgment). t.verdict ≡ numbers_of i) (sym e) v
 
 -- a code that was read, of bytes in memory
-pub refused_shown : (G : Table) (bytes : List ℕ) (code : WordError) (j : Judgment) (t : Text) → refusal_of code ≡ Ok j → Refuses code bytes
+pub refused_shown : (G : Table) (bytes : List ℕ) (code : WordError) (j : Judgment) (t : Text) → refusal_of code ≡ Ok j → RefusesBytes code bytes
     → t.verdict ≡ numbers_of j → t.buffer.bytes ≡ None → IsShowing G bytes t
 refused_shown G bytes word.W1 j t e h v b = absurd (never word.W1 j e tt)
 refused_shown G bytes word.W9 j t e h v b = absurd (never word.W9 j e tt)

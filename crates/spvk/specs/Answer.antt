@@ -21,7 +21,8 @@ status_alone status = record { status = status; code = nowhere; inst = nowhere; 
 
 -- The answer of a check: status 0 and the verdict, or status 1, want of memory.
 pub data Answers (G : Table) (bytes : List ℕ) : Answer → Type 0 where
-  told : (v : Verdict) → Tells G bytes v → Answers G bytes (record { status = 0; code = v.code; inst = v.inst; word = v.word })
+  told : (v : Verdict) → Tells G bytes v
+      → Answers G bytes (record { status = 0; code = v.code; inst = v.inst; word = v.word })
   unanswered : Answers G bytes (status_alone 1)
 
 -- The same by the table behind a pointer: status 2 where it is null.

@@ -24,6 +24,8 @@ pub record LieAt (start : Ptr) (size : ℕ) (bytes : List ℕ) (v : Octets.Denot
 abbrev pub kept : Ptr → ℕ → Ptr → Option (List ℕ) → Fml
 kept start size null_ptr None = fex ((start ≡ null_ptr) × (size ≡ 0)) (λ _. ftrue)
 kept start size (block_ptr b o) (Some bytes) =
-    fex Octets.Denot (λ v. fsep (box_owns (ghosts.dealloc_token heap) Octets (block_ptr b o) v) (fex (LieAt start size bytes v) (λ _. ftrue)))
+    fex Octets.Denot
+    (λ v. fsep (box_owns (ghosts.dealloc_token heap) Octets (block_ptr b o) v)
+    (fex (LieAt start size bytes v) (λ _. ftrue)))
 kept start size null_ptr (Some bytes) = ffalse
 kept start size (block_ptr b o) None = ffalse

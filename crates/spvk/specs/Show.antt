@@ -7,7 +7,7 @@ use Rattle.spv_words.specs.declared.words.WordError.{WordError}
 use Rattle.spv_table.specs.Table.{Table}
 use Rattle.spv_module.specs.Operand.{PlainInst}
 use Rattle.spv_module.specs.Instruction.{IsListing}
-use Rattle.spv_module.specs.Dead.{IsDeadAt}
+use Rattle.spv_module.specs.Malformed.{IsMalformedAt}
 use Rattle.spv_module.specs.declared.fault.Fault.{Fault}
 use Rattle.spv_inst.specs.Outcome.{IsHeaderOf}
 use Rattle.spv_lines.specs.Text.{IsShownText}
@@ -19,13 +19,16 @@ use denote.RawPtr.{Ptr, block_ptr, null_ptr}
 -- This is what is shown of all of these bytes, under the grammar table.
 pub data IsShowing (G : Table) (bytes : List ℕ) (t : Text) : Type 0 where
   -- they are words of which those from word 5 on spell a list of instructions: the text of the header and the list
-  text : (words : List ℕ) (order : Order) (header : Header) (is : List PlainInst) (lines : List ℕ) → IsModule order bytes words
+  text : (words : List ℕ) (order : Order) (header : Header) (is : List PlainInst) (lines : List ℕ)
+      → IsModule order bytes words
       → IsHeaderOf words header → IsListing G is (drop 5 words) → IsShownText G header is lines
       → t.verdict ≡ numbers_of Valid → t.buffer.bytes ≡ Some lines → IsShowing G bytes t
   -- they are no words of a module with a good header: the first of W2 to W8 that they break
-  refused : (code : WordError) → IsFirstBroken code bytes → t.verdict ≡ numbers_of (Refused code) → t.buffer.bytes ≡ None → IsShowing G bytes t
+  refused : (code : WordError) → IsFirstBroken code bytes → t.verdict ≡ numbers_of (Refused code)
+      → t.buffer.bytes ≡ None → IsShowing G bytes t
   -- they are words of which those from word 5 on are dead at an instruction
-  dead : (words : List ℕ) (order : Order) (f : Fault) (at : ℕ) → IsModule order bytes words → IsDeadAt G (drop 5 words) f.rule f.inst at
+  dead : (words : List ℕ) (order : Order) (f : Fault) (at : ℕ) → IsModule order bytes words
+      → IsMalformedAt G (drop 5 words) f.rule f.inst at
       → f.word ≡ 5 + at → t.verdict ≡ numbers_of (Broken f) → t.buffer.bytes ≡ None → IsShowing G bytes t
 
 -- The answer of `show`: status 0 and what is shown; or status 1, want of memory, and what was there.

@@ -94,8 +94,9 @@ fn assemble_big_by(alloc: Global, table: &Table, text: &[u8], image: &mut Assemb
     assemble_by(alloc, table, Order::Big, text, image)
 }
 
-/// The bytes of the module that a text stands for, the lowest of a word first, or the text's first fault, by the grammar behind a
-/// handle's pointer, which other calls may read at the same time. The bytes that were there are let go.
+/// The bytes of the module that a text stands for, the lowest of a word first, or the text's first fault, by the
+/// grammar behind a handle's pointer, which other calls may read at the same time. The bytes that were there are let
+/// go.
 #[unsafe(no_mangle)]
 pub unsafe extern "C" fn spvk_raw_assemble_little(
     alloc: Global,
@@ -105,7 +106,8 @@ pub unsafe extern "C" fn spvk_raw_assemble_little(
 ) -> u32
     ghost lent: { Lft × Share × TableView }
     requires* { sem 𝓛 (shown grammar lent) }
-    ensures* { sem 𝓛 (shown grammar lent) ∗ ⌜ AssemblesAt grammar lent.2 orders.Little text.now image.old image.new result ⌝ }
+    ensures* { sem 𝓛 (shown grammar lent) ∗ ⌜ AssemblesAt grammar lent.2 orders.Little text.now image.old
+        image.new result ⌝ }
 {
     if grammar == ptr::null() {
         NO_GRAMMAR
@@ -124,7 +126,8 @@ pub unsafe extern "C" fn spvk_raw_assemble_big(
 ) -> u32
     ghost lent: { Lft × Share × TableView }
     requires* { sem 𝓛 (shown grammar lent) }
-    ensures* { sem 𝓛 (shown grammar lent) ∗ ⌜ AssemblesAt grammar lent.2 orders.Big text.now image.old image.new result ⌝ }
+    ensures* { sem 𝓛 (shown grammar lent) ∗ ⌜ AssemblesAt grammar lent.2 orders.Big text.now image.old image.new
+        result ⌝ }
 {
     if grammar == ptr::null() {
         NO_GRAMMAR

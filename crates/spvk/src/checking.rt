@@ -48,7 +48,8 @@ fn no_grammar() -> Answer
     }
 }
 
-/// The verdict on a module's bytes by the grammar behind a handle's pointer, which other calls may read at the same time.
+/// The verdict on a module's bytes by the grammar behind a handle's pointer, which other calls may read at the same
+/// time.
 #[unsafe(no_mangle)]
 pub unsafe extern "C" fn spvk_raw_check(alloc: Global, grammar: *const u8, bytes: &[u8]) -> Answer
     ghost lent: { Lft × Share × TableView }

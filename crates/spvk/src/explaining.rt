@@ -18,7 +18,8 @@ use std::{mem, ptr};
 
 /// The lines of an explanation, for C. The error is want of memory.
 fn buffer_of(alloc: Global, explanation: &Explanation) -> Result<Buffer, AllocError>
-    ensures { IfOk result (λ b. b.bytes ≡ Some (line_of explanation.now.judgment ++ string_bytes explanation.now.lines)) }
+    ensures { IfOk result (λ b. b.bytes ≡ Some
+        (line_of explanation.now.judgment ++ string_bytes explanation.now.lines)) }
 {
     Buffer::of(alloc, explanation.bytes(alloc)?)
 }
@@ -50,8 +51,8 @@ fn explain_by(alloc: Global, table: &Table, bytes: &[u8], text: &mut Text) -> u3
     }
 }
 
-/// The verdict on a module's bytes with the lines that explain it, by the grammar behind a handle's pointer, which other calls may
-/// read at the same time. The text that was there is let go.
+/// The verdict on a module's bytes with the lines that explain it, by the grammar behind a handle's pointer, which
+/// other calls may read at the same time. The text that was there is let go.
 #[unsafe(no_mangle)]
 pub unsafe extern "C" fn spvk_raw_explain(
     alloc: Global,

@@ -1,6 +1,6 @@
 //! The bytes of a module with the fault of a text, as C sees them.
 ghost use Rattle.std.specs.Prelude.{◌≡◌, ◌*◌, [], None, Some, IfOk, length};
-ghost use Rattle.spv_words.specs.Streams.{Holds};
+ghost use Rattle.spv_words.specs.Streams.{HoldsBytes};
 ghost use Rattle.spvk.specs.Faults.{text_code_number};
 
 use crate::buffer::Buffer;
@@ -45,7 +45,7 @@ fn number_of_text_code(code: AsmCode) -> u32
 
 /// The bytes of an image in an order. The error is want of memory.
 fn bytes_of(alloc: Global, order: Order, image: &Image) -> Result<Vec<u8>, Memory>
-    ensures { IfOk result (λ v. Holds order image.now [] (Some v.items) (4 * length image.now)) }
+    ensures { IfOk result (λ v. HoldsBytes order image.now [] (Some v.items) (4 * length image.now)) }
 {
     let mut made = Collected::new(alloc);
     match write_image(image, order, &mut made) {
@@ -74,7 +74,7 @@ impl Assembled {
     pub fn of(alloc: Global, order: Order, image: &Image) -> Result<Assembled, Memory>
         ensures code { IfOk result (λ a. a.fault.code ≡ 0) }
         ensures line { IfOk result (λ a. a.fault.line ≡ 0) }
-        ensures bytes { IfOk result (λ a. Holds order image.now [] a.buffer.bytes (4 * length image.now)) }
+        ensures bytes { IfOk result (λ a. HoldsBytes order image.now [] a.buffer.bytes (4 * length image.now)) }
     {
         let bytes = match bytes_of(alloc, order, image) {
             Ok(bytes) => bytes,

@@ -11,7 +11,8 @@ use spv_verdict::{Judgment, Verdict, check};
 use spv_words::{Image, WordError, image_of};
 use std::alloc::Global;
 
-/// What the code comes to with which bytes gave no image. W1 does not come of bytes in memory, and W9 is want of memory.
+/// What the code comes to with which bytes gave no image. W1 does not come of bytes in memory, and W9 is want of
+/// memory.
 pub fn refusal(code: WordError) -> Result<Judgment, Memory>
     ensures { result ≡ refusal_of code }
 {
@@ -23,7 +24,8 @@ pub fn refusal(code: WordError) -> Result<Judgment, Memory>
 
 /// The verdict on the words of an image. The error is want of memory.
 fn judged(alloc: Global, table: &Table, image: &Image) -> Result<Judgment, Memory>
-    ensures { (bytes : List ℕ) (order : Order) → IsModule order bytes image.now → IfOk result (λ j. IsVerdict table.now bytes (line_of j)) }
+    ensures { (bytes : List ℕ) (order : Order) → IsModule order bytes image.now
+        → IfOk result (λ j. IsVerdict table.now bytes (line_of j)) }
 {
     match check(alloc, table, image) {
         Ok(Verdict::Valid(_)) => Ok(Judgment::Valid),

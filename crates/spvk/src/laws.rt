@@ -66,9 +66,11 @@ pub fn answer_examples()
 /// What was there stays where nothing is answered.
 pub fn kept_examples()
     ensures memory { (G : TableView) (bytes : List ℕ) (old : Text) → Shows G bytes old old 1 }
-    ensures changed { (G : TableView) (bytes : List ℕ) (old new : Text) → old ≢ new → ¬ (Shows G bytes old new 1) }
+    ensures changed { (G : TableView) (bytes : List ℕ) (old new : Text) → old ≢ new
+        → ¬ (Shows G bytes old new 1) }
     ensures shown { (G : TableView) (bytes : List ℕ) (old : Text) → ShowsAt null_ptr G bytes old old 2 }
     ensures explained { (G : TableView) (bytes : List ℕ) (old : Text) → ExplainsAt null_ptr G bytes old old 2 }
     ensures not_done { (G : TableView) (bytes : List ℕ) (old : Text) → ¬ (ExplainsAt null_ptr G bytes old old 0) }
-    ensures assembled { (G : TableView) (o : Order) (text : List ℕ) (old : Assembled) → AssemblesAt null_ptr G o text old old 2 }
+    ensures assembled { (G : TableView) (o : Order) (text : List ℕ) (old : Assembled)
+        → AssemblesAt null_ptr G o text old old 2 }
 {}

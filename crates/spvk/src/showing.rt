@@ -1,6 +1,6 @@
 //! Shows modules, for C.
 ghost use Rattle.std.specs.Prelude.{◌≡◌, ℕ, List, IfOk};
-ghost use Rattle.spv_words.specs.Header.{IsModule, Refuses};
+ghost use Rattle.spv_words.specs.Header.{IsModule, RefusesBytes};
 ghost use Rattle.spv_words.specs.declared.words.Order.{Order};
 ghost use Rattle.spv_table.specs.Table.{Table as TableView};
 ghost use base.Fml.{Lft, Share};
@@ -21,7 +21,8 @@ use std::{mem, ptr};
 
 /// What is shown of the words of an image. The error is want of memory.
 fn shown_image(alloc: Global, table: &Table, image: &Image) -> Result<Text, Memory>
-    ensures { (bytes : List ℕ) (order : Order) → IsModule order bytes image.now → IfOk result (λ t. IsShowing table.now bytes t) }
+    ensures { (bytes : List ℕ) (order : Order) → IsModule order bytes image.now
+        → IfOk result (λ t. IsShowing table.now bytes t) }
 {
     match show_image(alloc, table, image) {
         Ok(text) => Text::of(alloc, Judgment::Valid, text),
@@ -32,7 +33,8 @@ fn shown_image(alloc: Global, table: &Table, image: &Image) -> Result<Text, Memo
 
 /// What is shown of bytes that gave no image. The error is want of memory.
 fn refused(code: WordError) -> Result<Text, Memory>
-    ensures { (bytes : List ℕ) (G : TableView) → Refuses code bytes → IfOk result (λ t. IsShowing G bytes t) }
+    ensures { (bytes : List ℕ) (G : TableView) → RefusesBytes code bytes
+        → IfOk result (λ t. IsShowing G bytes t) }
 {
     match refusal(code) {
         Ok(judgment) => Ok(Text::none(judgment)),
@@ -63,8 +65,8 @@ pub(crate) fn show_by(alloc: Global, table: &Table, bytes: &[u8], text: &mut Tex
     }
 }
 
-/// The text of a module, or the rule by which its bytes are no list of instructions, by the grammar behind a handle's pointer,
-/// which other calls may read at the same time. The text that was there is let go.
+/// The text of a module, or the rule by which its bytes are no list of instructions, by the grammar behind a handle's
+/// pointer, which other calls may read at the same time. The text that was there is let go.
 #[unsafe(no_mangle)]
 pub unsafe extern "C" fn spvk_raw_show(
     alloc: Global,

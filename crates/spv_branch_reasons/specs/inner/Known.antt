@@ -4,11 +4,11 @@ use Rattle.spv_table.specs.Table.{Table}
 use Rattle.spv_module.specs.Operand.{PlainInst}
 use Rattle.spv_layout.specs.declared.form.Role.TheVariants.{Label}
 use Rattle.spv_ids.specs.Definition.{IsDefinedAt, IsUsedAt}
-use Rattle.spv_branches.specs.Edges.{marked}
+use Rattle.spv_branches.specs.inner.Edges.{marked}
 use Rattle.spv_branches.specs.Target.{IsLabelOf, IsPredecessor, IsParentAt, IsEntryLabel}
 
 -- Some instruction defines each label of instruction n.
-pub record HasDefinitions (G : Table) (is : List PlainInst) (n : ℕ) : Type 0 where
+pub record KeepsDefinitions (G : Table) (is : List PlainInst) (n : ℕ) : Type 0 where
   pub each : (k x : ℕ) → IsUsedAt G is n k x Label → ¬ ((m : ℕ) → ¬ (IsDefinedAt is x m))
 
 -- The id is the label of an entry block.
@@ -27,9 +27,11 @@ abbrev pub name_of : List (Option ℕ) → ℕ → Option ℕ
 name_of names p = slice_index_or names p None
 
 -- The labels among the first operands are of marked blocks, each block once: the names have which operand names it.
-pub record AreNames (G : Table) (is : List PlainInst) (at : ℕ) (marks : List Bool) (names : List (Option ℕ)) (n : ℕ)
+pub record AreNames (G : Table) (is : List PlainInst) (at : ℕ) (marks : List Bool) (names : List (Option ℕ))
+    (n : ℕ)
     : Type 0 where
-  pub each : (k x : ℕ) → k < n → IsUsedAt G is at k x Label → (p : ℕ) × IsLabelOf is x p × (marked marks p ≡ true)
+  pub each : (k x : ℕ) → k < n → IsUsedAt G is at k x Label → (p : ℕ) × IsLabelOf is x p
+      × (marked marks p ≡ true)
   pub sound : (k p : ℕ) → name_of names p ≡ Some k → (k < n) × IsParentAt G is at k p
   pub complete : (k p : ℕ) → k < n → IsParentAt G is at k p → name_of names p ≡ Some k
 

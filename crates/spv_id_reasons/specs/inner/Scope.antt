@@ -4,7 +4,7 @@ use Rattle.spv_module.specs.Operand.{PlainInst}
 use Rattle.spv_layout.specs.declared.form.Role.{Role}
 use Rattle.spv_ids.specs.Definition.{IsDefinedAt}
 use Rattle.spv_ids.specs.Order.{IsInScope}
-use Rattle.spv_ids.specs.Known.{IsHome}
+use Rattle.spv_ids.specs.inner.Known.{IsHome}
 use Rattle.spv_id_reasons.specs.declared.kept.Kept.{Kept}
 use Rattle.spv_id_reasons.specs.Ids.{IsLocalBy}
 use Rattle.spv_id_reasons.specs.inner.Known.{AreKept}

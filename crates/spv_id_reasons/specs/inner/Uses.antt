@@ -3,12 +3,12 @@ use Rattle.std.specs.Prelude.{◌≡◌, ℕ, List, Option, Some, None, slice_ge
 use Rattle.spv_table.specs.Table.{Table}
 use Rattle.spv_module.specs.Operand.{PlainInst}
 use Rattle.spv_layout.specs.declared.form.Role.{Role}
-use Rattle.spv_layout.specs.Shape.{Fits, IsUse}
+use Rattle.spv_layout.specs.Shape.{FitsShape, IsUse}
 use Rattle.spv_id_reasons.specs.declared.uses.Use.{Use}
 
 -- Each instruction fits its row.
 pub record AreFit (G : Table) (is : List PlainInst) : Type 0 where
-  pub each : (n : ℕ) (i : PlainInst) → slice_get is n ≡ Some i → Fits G i
+  pub each : (n : ℕ) (i : PlainInst) → slice_get is n ≡ Some i → FitsShape G i
 
 -- Operand k of the instruction is that use, or where there is none it is no use.
 abbrev pub IsUseOf : Table → PlainInst → ℕ → Option Use → Type 0

@@ -5,7 +5,7 @@ use Rattle.spv_layout.specs.declared.class.Class.{Class}
 use Rattle.spv_layout.specs.declared.state.State.{State}
 use Rattle.spv_layout.specs.Layout.{IsLayout}
 use Rattle.spv_layout.specs.Rows.{class_of}
-use Rattle.spv_layout.specs.State.{next_of, Remains}
+use Rattle.spv_layout.specs.inner.State.{next_of, Remains}
 
 -- What makes a module of these classes is what remains at the state.
 pub record LeadsTo (cs : List Class) (s : State) : Type 0 where

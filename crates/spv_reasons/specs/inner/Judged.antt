@@ -20,4 +20,5 @@ IsShownAt G bound is f e = 1 ≤ stage_of f.rule → IsEvidence G bound is f.rul
 -- The module keeps all rules, or this is its fault.
 abbrev pub IsJudged : Table → ℕ → List PlainInst → Judged → Type 0
 IsJudged G bound is (Valid c) = (c ≡ record { bound = bound; insts = is }) × IsKept G c × IsSound G bound is
-IsJudged G bound is (Fault f e m) = IsTold G bound is (stop.Fault f) × IsShownAt G bound is f e × (plain_insts m ≡ is)
+IsJudged G bound is (Fault f e m) = IsTold G bound is (stop.Fault f) × IsShownAt G bound is f e
+    × (plain_insts m ≡ is)

@@ -6,7 +6,7 @@ use Rattle.spv_module.specs.Instruction.{IsListing}
 use Rattle.spv_module.specs.declared.fault.Fault as declared
 use Rattle.spv_module.specs.declared.fault.Stop.TheVariants as stop
 use Rattle.spv_module.specs.declared.module.Module.{Module}
-use Rattle.spv_inst.specs.Outcome.{IsDeath}
+use Rattle.spv_inst.specs.Outcome.{IsDecodeFault}
 use Rattle.spv_evidence.specs.declared.evidence.Evidence.{Evidence}
 use Rattle.spv_verdict.specs.Broken.{IsTold}
 use Rattle.spv_verdict.specs.Checked.{IsChecked}
@@ -24,5 +24,6 @@ pub record IsBrokenModule (G : Table) (words : List ℕ) (f : declared.Fault) (e
 -- The words are a valid module, or no list of instructions, or a module with a fault.
 abbrev pub IsReading : Table → List ℕ → Reading → Type 0
 IsReading G words (Valid c) = IsChecked G words c
-IsReading G words (Malformed f place e) = IsDeath G words (stop.Fault f) × instructions.IsEvidence G (drop 5 words) f.rule f.inst (f.word - 5) e
+IsReading G words (Malformed f place e) =
+    IsDecodeFault G words (stop.Fault f) × instructions.IsEvidence G (drop 5 words) f.rule f.inst (f.word - 5) e
 IsReading G words (Broken f e m) = IsBrokenModule G words f e m

@@ -1,5 +1,6 @@
 -- What the search for implied capabilities does to the capabilities that it has reached. (Own.)
-use Rattle.std.specs.Prelude.{◌≡◌, ℕ, Bool, true, List, [], ◌∷◌, ◌++◌, Option, Some, None, nat_eq, filter_map, if◌then◌else◌}
+use Rattle.std.specs.Prelude.{◌≡◌, ℕ, Bool, true, List, [], ◌∷◌, ◌++◌, Option, Some, None, nat_eq}
+use Rattle.std.specs.Prelude.{filter_map, if◌then◌else◌}
 use Rattle.std.specs.BTreeSet.{contains}
 use Rattle.std.specs.Ordering.{nat_cmp}
 use Rattle.spv_table.specs.declared.table.Enumerant.{Enumerant}
@@ -19,7 +20,8 @@ pub record Adds (old new : Reached) (c : ℕ) : Type 0 where
 -- capabilities are reached one after another
 pub data AddsAll : List ℕ → Reached → Reached → Type 0 where
   none : (r : Reached) → AddsAll [] r r
-  more : (cs : List ℕ) (c : ℕ) (old now new : Reached) → AddsAll cs old now → Adds now new c → AddsAll (cs ++ c ∷ []) old new
+  more : (cs : List ℕ) (c : ℕ) (old now new : Reached) → AddsAll cs old now → Adds now new c
+      → AddsAll (cs ++ c ∷ []) old new
 
 -- the names that an enumerant lists
 abbrev pub names_of : Option Enumerant → List (List ℕ)

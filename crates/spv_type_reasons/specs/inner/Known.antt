@@ -1,13 +1,14 @@
 -- What is known of the instructions of a module where a rule of types is looked at. (For the code alone.)
-use Rattle.std.specs.Prelude.{◌≡◌, ◌<◌, ◌≤◌, ◌+◌, ℕ, List, [], ◌∷◌, Some, map, length, slice_get, sum_by}
+use Rattle.std.specs.Prelude.{◌≡◌, ◌<◌, ◌≤◌, ◌+◌, ℕ, List, [], ◌∷◌, Some, map, length}
+use Rattle.std.specs.Prelude.{slice_get, sum_by}
 use Rattle.spv_table.specs.Table.{Table}
 use Rattle.spv_module.specs.Operand.{Plain, OfType, Result, Id, PlainInst, type_in}
 use Rattle.spv_module.specs.Width.{type_of, definition_of}
 use Rattle.spv_layout.specs.Layout.{IsLayout, classes}
 use Rattle.spv_layout.specs.Place.{word_count}
-use Rattle.spv_layout.specs.Shape.{Fits}
-use Rattle.spv_ops.specs.Operands.{ids_in}
-use Rattle.spv_ops.specs.Values.{types_of}
+use Rattle.spv_layout.specs.Shape.{FitsShape}
+use Rattle.spv_type_forms.specs.Operands.{ids_in}
+use Rattle.spv_type_forms.specs.Values.{types_of}
 use Rattle.spv_roles.specs.Outcome.{AreInRole}
 use Rattle.spv_type_rules.specs.Function.{function_type_in, signature_of}
 use Rattle.spv_type_reasons.specs.Function.{IsOf}
@@ -15,7 +16,7 @@ use Rattle.spv_type_reasons.specs.Function.{IsOf}
 -- The instructions fit their rows and are laid out as a module, each id plays the role that it is used in, and they are
 -- few.
 pub record IsKnown (G : Table) (is : List PlainInst) : Type 0 where
-  pub fits : (n : ℕ) (i : PlainInst) → slice_get is n ≡ Some i → Fits G i
+  pub fits : (n : ℕ) (i : PlainInst) → slice_get is n ≡ Some i → FitsShape G i
   pub laid : IsLayout (classes is)
   pub roles : AreInRole G is
   pub words : 5 + sum_by word_count is ≤ 4194304

@@ -1,5 +1,6 @@
 -- The value operands of an instruction, one by one. (For the code alone.)
-use Rattle.std.specs.Prelude.{◌≡◌, ◌++◌, ℕ, List, map, drop, Option, Some, Bool, true, false, option_to_list, slice_get}
+use Rattle.std.specs.Prelude.{◌≡◌, ◌++◌, ℕ, List, map, drop, Option, Some, Bool, true, false}
+use Rattle.std.specs.Prelude.{option_to_list, slice_get}
 use Rattle.spv_table.specs.Table.{Table}
 use Rattle.spv_module.specs.Operand.{Plain, Id, PlainInst}
 use Rattle.spv_module.specs.Width.{type_of}
@@ -9,7 +10,7 @@ use Rattle.spv_layout.specs.declared.form.Role.{Role}
 use Rattle.spv_layout.specs.declared.form.Role.TheVariants as role
 use Rattle.spv_layout.specs.Shape.{HasForms}
 use Rattle.spv_evidence.specs.declared.evidence.Typed.{Typed}
-use Rattle.spv_ops.specs.Values.{value_in, used_in, types_of}
+use Rattle.spv_type_forms.specs.Values.{value_in, used_in, types_of}
 
 abbrev pub is_value : Option Role → Bool
 is_value (Some role.Value) = true

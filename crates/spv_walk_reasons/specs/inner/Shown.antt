@@ -5,8 +5,8 @@ use Rattle.spv_module.specs.Operand.{PlainInst}
 use Rattle.spv_module.specs.declared.fault.Rule.TheVariants.{A1, A2}
 use Rattle.spv_evidence.specs.declared.evidence.Evidence.{Evidence}
 use Rattle.spv_walk_reasons.specs.Evidence.{IsEvidence}
-use Rattle.spv_walk_reasons.specs.declared.asks.Taking.{Taking}
-use Rattle.spv_walk_reasons.specs.declared.asks.Taking.TheVariants.{Uses, Pairs}
+use Rattle.spv_walk_reasons.specs.declared.queries.Taking.{Taking}
+use Rattle.spv_walk_reasons.specs.declared.queries.Taking.TheVariants.{Uses, Pairs}
 
 abbrev pub IsShown : Table → List PlainInst → Taking → ℕ → Evidence → Type 0
 IsShown G is Uses n e = IsEvidence G is A1 n e

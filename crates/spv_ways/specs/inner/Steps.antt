@@ -1,5 +1,6 @@
 -- The steps of a search in breadth. (For the code alone.)
-use Rattle.std.specs.Prelude.{◌≡◌, ◌+◌, ◌≤◌, ◌<◌, ℕ, List, [], ◌∷◌, ◌++◌, Bool, false, Some, Contains, length, count_by, nat_le, reverse, slice_get, slice_index_or, slice_set}
+use Rattle.std.specs.Prelude.{◌≡◌, ◌+◌, ◌≤◌, ◌<◌, ℕ, List, [], ◌∷◌, ◌++◌, Bool, false}
+use Rattle.std.specs.Prelude.{Some, Contains, length, count_by, nat_le, reverse, slice_get, slice_index_or, slice_set}
 use Rattle.spv_ways.specs.declared.edge.Edge.{Edge}
 use Rattle.spv_ways.specs.declared.steps.Step.{Step}
 use Rattle.spv_ways.specs.Way.{HasEdge}

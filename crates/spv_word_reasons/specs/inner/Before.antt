@@ -4,7 +4,7 @@ use Rattle.spv_table.specs.Table.{Table}
 use Rattle.spv_module.specs.Operand.{PlainInst}
 use Rattle.spv_module.specs.Instruction.{IsListing}
 use Rattle.spv_inst.specs.declared.definitions.Definitions.{Definitions}
-use Rattle.spv_inst.specs.Known.{Knows}
+use Rattle.spv_inst.specs.inner.Known.{Knows}
 
 -- So many instructions are spelled from word 5 of the module up to a word, and this is what they tell of ids.
 pub record IsBefore (G : Table) (words : List ℕ) (number at : ℕ) (d : Definitions) : Type 0 where

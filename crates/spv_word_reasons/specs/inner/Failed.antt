@@ -3,7 +3,7 @@ use Rattle.std.specs.Prelude.{ℕ, List, [], ◌∷◌, length, Some, None}
 use Rattle.spv_table.specs.Table.{Table, Item}
 use Rattle.spv_module.specs.Operand.{Plain, Context, after}
 use Rattle.spv_module.specs.Shape.{Slot, shape_of}
-use Rattle.spv_module.specs.Refusal.{Refuses}
+use Rattle.spv_module.specs.Refusal.{ShapeRefuses}
 use Rattle.spv_module.specs.declared.fault.Rule.{Rule}
 use Rattle.spv_inst.specs.Flat.{Due, OneOf}
 use Rattle.spv_word_reasons.specs.Front.{Reaches}
@@ -15,5 +15,6 @@ pub data Fails (G : Table) (c : Context) (pattern : List Item) (words : List ℕ
       → Reaches G c pattern words os front [] (x ∷ left)
       → Fails G c pattern words (record { operand = length os; kind = None })
   refused : (os : List Plain) (front : List ℕ) (s : Slot) (ds : List Due) (left : List ℕ) (code : Rule) (n : ℕ)
-      → Reaches G c pattern words os front (OneOf s ∷ ds) left → Refuses (shape_of G (after c os) s) left code n
+      → Reaches G c pattern words os front (OneOf s ∷ ds) left
+      → ShapeRefuses (shape_of G (after c os) s) left code n
       → Fails G c pattern words (record { operand = length os; kind = Some s.kind })

@@ -2,7 +2,7 @@ use Rattle.std.proofs.Common.{◌≡◌, ◌<◌, inl, inr, ℕ, zero, suc, List
 use Rattle.std.specs.Prelude.{Contains}
 use Rattle.spv_availability.specs.declared.graph.Graph.{Graph}
 use Rattle.spv_availability.specs.Graph.{block_count, targets_of, Defines}
-use Rattle.spv_availability.specs.Path.{IsPath, IsDefinedOn, IsMissed}
+use Rattle.spv_availability.specs.Path.{IsPath, IsDefinedOn, IsUnavailable}
 use Rattle.spv_availability.specs.Example.{IsDiamond}
 use Rattle.spv_availability.proofs.laws.path_examples.Goals as goal
 
@@ -14,7 +14,7 @@ right graph d =
     let count = d.count in
     (omega arith, leads graph 2 3 (3 ∷ []) d.targets_2 (0, omega arith, refl), (omega arith, leads graph 0 2 (1 ∷ 2 ∷ []) d.targets_0 (1, omega arith, refl), refl))
 
-join : (graph : Graph) (v : ℕ) → IsDiamond graph → ¬ (Defines graph 0 v) → ¬ (Defines graph 2 v) → IsMissed graph v 3
+join : (graph : Graph) (v : ℕ) → IsDiamond graph → ¬ (Defines graph 0 v) → ¬ (Defines graph 2 v) → IsUnavailable graph v 3
 join graph v d not_0 not_2 = record {
   past = 2 ∷ 0 ∷ [];
   path = right graph d;

@@ -1,5 +1,5 @@
 use Rattle.std.proofs.Common.{◌≡◌, ◌≤◌, ◌<◌, ◌⊎◌, ℕ, true}
-use Rattle.spv_availability.specs.Bits.{has}
+use Rattle.spv_availability.specs.inner.Bits.{has}
 use Rattle.spv_availability.proofs.values.add_values.Given as goal
 
 abbrev pub invariant-loop-number : goal.invariant-loop-number

@@ -3,13 +3,13 @@ use Rattle.spv_table.specs.Table.{Table}
 use Rattle.spv_module.specs.Module.{plain_inst, plain_insts}
 use Rattle.spv_module.specs.declared.fault.Rule.TheVariants.{F1, F2, F3}
 use Rattle.spv_branches.specs.declared.code.Code.{Code}
-use Rattle.spv_branches.specs.Code.{insts_of, IsCode}
+use Rattle.spv_branches.specs.inner.Code.{insts_of, IsCode}
 use Rattle.spv_branch_reasons.specs.Evidence.{IsEvidence}
 use Rattle.spv_branch_reasons.proofs.Known.{known_code, known_broken, found, definitions, lacking, entering, parentless, same_labels}
 use Rattle.spv_branch_reasons.proofs.evidence.branch_evidence.Goals as goal
 use Rattle.std.proofs.Common.{map, subst, sym, List}
 use Rattle.spv_module.specs.declared.module.Inst.{Inst}
-use Rattle.spv_branch_reasons.specs.inner.Known.{HasDefinitions}
+use Rattle.spv_branch_reasons.specs.inner.Known.{KeepsDefinitions}
 
 pub label_evidence-requires-clause-defined : goal.label_evidence-requires-clause-defined
 label_evidence-requires-clause-defined c =
@@ -17,7 +17,7 @@ label_evidence-requires-clause-defined c =
     let v = c.as_slice.ensures.value in
     let k = c.requires.known in
     let m = c.args.module.now in
-    let has = subst (λ (xs : List Inst). HasDefinitions k.0 (map plain_inst xs) c.args.inst) (sym v) (definitions k.0 m.header.bound (plain_insts m) c.args.inst k.2.unbroken) in
+    let has = subst (λ (xs : List Inst). KeepsDefinitions k.0 (map plain_inst xs) c.args.inst) (sym v) (definitions k.0 m.header.bound (plain_insts m) c.args.inst k.2.unbroken) in
     (k.0, known_code k.0 code m.insts.items v c.requires.words k.1 k.2.each, has)
 
 pub label_evidence-requires-clause-broken : goal.label_evidence-requires-clause-broken

@@ -5,7 +5,7 @@ use Rattle.spv_module.specs.Operand.{PlainInst}
 use Rattle.spv_module.specs.declared.module.Inst.{Inst}
 use Rattle.spv_module.specs.Module.{plain_inst, plain_operand}
 use Rattle.spv_layout.specs.declared.form.Role.TheVariants.{Label}
-use Rattle.spv_branches.specs.Code.{insts_of}
+use Rattle.spv_branches.specs.inner.Code.{insts_of}
 use Rattle.spv_branches.proofs.Labelled.{inst_get, use_at, use_in}
 use Rattle.spv_branch_reasons.specs.Evidence.{IsEvidence}
 use Rattle.spv_branch_reasons.specs.inner.Known.{IsEntryId}

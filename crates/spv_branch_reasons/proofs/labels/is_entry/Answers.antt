@@ -3,9 +3,9 @@ use Rattle.std.specs.Prelude.{MatchBool}
 use Rattle.std.proofs.lemmas.Bool.{both_ways}
 use Rattle.spv_table.specs.Table.{Table}
 use Rattle.spv_branches.specs.declared.code.Code.{Code}
-use Rattle.spv_branches.specs.Code.{insts_of, IsCode}
-use Rattle.spv_branches.specs.Edges.{marked}
-use Rattle.spv_branches.specs.Graph.{AreEntries}
+use Rattle.spv_branches.specs.inner.Code.{insts_of, IsCode}
+use Rattle.spv_branches.specs.inner.Edges.{marked}
+use Rattle.spv_branches.specs.inner.Graph.{AreEntries}
 use Rattle.spv_branches.specs.Target.{IsLabelOf, IsEntryLabel}
 use Rattle.spv_branches.proofs.Labelled.{one_place}
 use Rattle.spv_branch_reasons.specs.inner.Known.{IsEntryId}

@@ -1,6 +1,6 @@
 use Rattle.std.proofs.Common.{◌≡◌, ◌∙◌, ℕ, true, None, drop, length, sym, ap, arith}
-use Rattle.spv_branches.specs.Code.{insts_of}
-use Rattle.spv_branches.specs.Edges.{marked}
+use Rattle.spv_branches.specs.inner.Code.{insts_of}
+use Rattle.spv_branches.specs.inner.Edges.{marked}
 use Rattle.spv_branch_reasons.specs.inner.Known.{ArePredecessors, HasNames, name_of}
 use Rattle.spv_branch_reasons.proofs.Blocks.{phi_block}
 use Rattle.spv_branch_reasons.proofs.Naming.{written, parents, missing}

@@ -4,9 +4,9 @@ use Rattle.spv_table.specs.Table.{Table}
 use Rattle.spv_module.specs.Module.{plain_inst}
 use Rattle.spv_branches.specs.declared.code.Code.{Code}
 use Rattle.spv_branches.specs.declared.edges.Edges.{Edges}
-use Rattle.spv_branches.specs.Code.{insts_of}
-use Rattle.spv_branches.specs.Edges.{marked}
-use Rattle.spv_branches.specs.Graph.{AreGathered}
+use Rattle.spv_branches.specs.inner.Code.{insts_of}
+use Rattle.spv_branches.specs.inner.Edges.{marked}
+use Rattle.spv_branches.specs.inner.Graph.{AreGathered}
 use Rattle.spv_branches.proofs.Taking.{AreSources, sources, leads_within}
 use Rattle.spv_branch_reasons.specs.inner.Known.{ArePredecessors}
 use Rattle.spv_branch_reasons.proofs.Naming.{written}

@@ -1,5 +1,5 @@
 use Rattle.std.proofs.Common.{◌≡◌, ◌<◌, ℕ, true, None}
-use Rattle.spv_branches.specs.Edges.{marked}
+use Rattle.spv_branches.specs.inner.Edges.{marked}
 use Rattle.spv_branch_reasons.specs.inner.Known.{name_of}
 use Rattle.spv_branch_reasons.proofs.parents.unnamed.Given as goal
 

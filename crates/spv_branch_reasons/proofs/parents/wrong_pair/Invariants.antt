@@ -1,5 +1,5 @@
 use Rattle.spv_table.specs.Table.{Table}
-use Rattle.spv_branches.specs.Code.{insts_of, IsCode}
+use Rattle.spv_branches.specs.inner.Code.{insts_of, IsCode}
 use Rattle.spv_branch_reasons.specs.inner.Known.{AreNames}
 use Rattle.spv_branch_reasons.proofs.parents.wrong_pair.Given as goal
 

@@ -1,7 +1,7 @@
 use Rattle.std.proofs.Common.{◌∙◌, length, ap, arith}
 use Rattle.std.proofs.lemmas.List.{length-map}
 use Rattle.spv_module.specs.Module.{plain_inst}
-use Rattle.spv_branches.specs.Code.{insts_of}
+use Rattle.spv_branches.specs.inner.Code.{insts_of}
 use Rattle.spv_branches.proofs.Firsts.{broken_within, first_found}
 use Rattle.spv_branches.proofs.branches.first_fault.Goals as goal
 

@@ -3,9 +3,9 @@ use Rattle.std.specs.Prelude.{IsTrue}
 use Rattle.spv_table.specs.Table.{Table}
 use Rattle.spv_module.specs.declared.fault.Rule.{Rule}
 use Rattle.spv_layout.specs.First.{stage_of}
-use Rattle.spv_branches.specs.Code.{insts_of, IsCode}
+use Rattle.spv_branches.specs.inner.Code.{insts_of, IsCode}
 use Rattle.spv_branches.specs.Broken.{Broken}
-use Rattle.spv_branches.specs.Edges.{marked}
+use Rattle.spv_branches.specs.inner.Edges.{marked}
 use Rattle.spv_branches.proofs.branches.first_fault.Given as goal
 
 abbrev pub invariant-loop-at : goal.invariant-loop-at

@@ -7,17 +7,17 @@ use Rattle.spv_module.specs.Module.{plain_inst}
 use Rattle.spv_layout.specs.Place.{IsOfBlock}
 use Rattle.spv_branches.specs.declared.edges.Edges.{Edges}
 use Rattle.spv_branches.specs.declared.code.Code.{Code}
-use Rattle.spv_branches.specs.Code.{insts_of}
-use Rattle.spv_branches.specs.Edges.{HasEdge, marked}
-use Rattle.spv_branches.specs.Graph.{AreGathered, Takes}
-use Rattle.spv_branches.specs.Target.{HasParents, Leads}
+use Rattle.spv_branches.specs.inner.Code.{insts_of}
+use Rattle.spv_branches.specs.inner.Edges.{HasEdge, marked}
+use Rattle.spv_branches.specs.inner.Graph.{AreGathered, Takes}
+use Rattle.spv_branches.specs.Target.{HasParents, LeadsToBlock}
 use Rattle.spv_branches.proofs.Taking.{AreSources, sources, parents, clean_after, not_taken, not_named, leads_within}
 use Rattle.spv_branches.proofs.faults.has_parents.Goals as goal
 
-count_within : (G : Table) (code : Code) (t p b : ℕ) → Leads G (insts_of code) t p b → t < length code.insts.now
+count_within : (G : Table) (code : Code) (t p b : ℕ) → LeadsToBlock G (insts_of code) t p b → t < length code.insts.now
 count_within G code t p b leads = omega (arith, leads_within G (insts_of code) t p b leads, length-map code.insts.now plain_inst)
 
-judged : (G : Table) (is : List PlainInst) (count : ℕ) (e : Edges) (at block : ℕ) (marks left : List Bool) (r : Bool) → ((t p b : ℕ) → Leads G is t p b → t < count) → AreGathered G is e count → IsOfBlock is at block → AreSources e block marks → Takes G is at marks left
+judged : (G : Table) (is : List PlainInst) (count : ℕ) (e : Edges) (at block : ℕ) (marks left : List Bool) (r : Bool) → ((t p b : ℕ) → LeadsToBlock G is t p b → t < count) → AreGathered G is e count → IsOfBlock is at block → AreSources e block marks → Takes G is at marks left
     → MatchBool r ((p : ℕ) × HasEdge e p block × (marked left p ≡ true)) ((p : ℕ) → HasEdge e p block → marked left p ≡ false) → MatchBool (not r) (HasParents G is at) (¬ (HasParents G is at))
 judged G is count e at block marks left true within gathered of from takes (p, edge, m) = not_named G is count e at block p marks left gathered of takes edge m
 judged G is count e at block marks left false within gathered of from takes none = parents G is count e at block marks left within gathered of from takes none

@@ -6,9 +6,9 @@ use Rattle.spv_module.specs.Operand.{PlainInst}
 use Rattle.spv_module.specs.Module.{plain_inst}
 use Rattle.spv_layout.specs.declared.form.Role.TheVariants.{Label}
 use Rattle.spv_ids.specs.Definition.{IsUsedAt}
-use Rattle.spv_branches.specs.Code.{insts_of}
-use Rattle.spv_branches.specs.Graph.{HasSameLabels}
-use Rattle.spv_branches.specs.Labels.{is_labelled, is_label_at}
+use Rattle.spv_branches.specs.inner.Code.{insts_of}
+use Rattle.spv_branches.specs.inner.Graph.{HasSameLabels}
+use Rattle.spv_branches.specs.inner.Labels.{is_labelled, is_label_at}
 use Rattle.spv_branches.specs.Target.{is_conditional}
 use Rattle.spv_branches.proofs.Labelled.{inst_get, op_tells, one_id}
 use Rattle.spv_branches.proofs.Direct.{used_by, unused_by}

@@ -3,8 +3,8 @@ use Rattle.std.specs.Prelude.{slice_get}
 use Rattle.std.proofs.lemmas.Bool.{eqb-true}
 use Rattle.spv_module.specs.Operand.{PlainInst}
 use Rattle.spv_module.specs.Module.{plain_inst}
-use Rattle.spv_branches.specs.Code.{insts_of}
-use Rattle.spv_branches.specs.Labels.{is_labelled, is_label_at, is_jump}
+use Rattle.spv_branches.specs.inner.Code.{insts_of}
+use Rattle.spv_branches.specs.inner.Labels.{is_labelled, is_label_at, is_jump}
 use Rattle.spv_branches.proofs.Labelled.{inst_get, op_tells}
 use Rattle.spv_branches.proofs.Firsts.{op_moved}
 use Rattle.spv_branches.proofs.Direct.{used_by, jump_only, HasTwo, one_target, jump_labelled}

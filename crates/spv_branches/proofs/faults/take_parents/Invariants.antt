@@ -1,5 +1,5 @@
 use Rattle.spv_table.specs.Table.{Table}
-use Rattle.spv_branches.specs.Code.{insts_of, IsCode}
+use Rattle.spv_branches.specs.inner.Code.{insts_of, IsCode}
 use Rattle.spv_branches.proofs.Taking.{IsTaking}
 use Rattle.spv_branches.proofs.faults.take_parents.Given as goal
 

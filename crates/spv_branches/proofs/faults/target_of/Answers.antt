@@ -1,5 +1,5 @@
 use Rattle.std.proofs.lemmas.Bool.{both_ways}
-use Rattle.spv_branches.specs.Edges.{marked}
+use Rattle.spv_branches.specs.inner.Edges.{marked}
 use Rattle.spv_branches.proofs.faults.target_of.Goals as goal
 
 pub returns-in_default : goal.returns-in_default

@@ -4,11 +4,11 @@ use Rattle.spv_module.specs.Operand.{PlainInst}
 use Rattle.spv_module.specs.declared.module.Inst.{Inst}
 use Rattle.spv_module.specs.Module.{plain_inst, plain_operand}
 use Rattle.spv_layout.specs.declared.form.Role.TheVariants.{Label}
-use Rattle.spv_branches.specs.Code.{insts_of}
-use Rattle.spv_branches.specs.Labels.{is_labelled}
+use Rattle.spv_branches.specs.inner.Code.{insts_of}
+use Rattle.spv_branches.specs.inner.Labels.{is_labelled}
 use Rattle.std.proofs.lemmas.Bool.{both_ways}
 use Rattle.std.proofs.lemmas.List.{length-map}
-use Rattle.spv_branches.specs.Edges.{marked}
+use Rattle.spv_branches.specs.inner.Edges.{marked}
 use Rattle.spv_branches.specs.Target.{IsEntryLabel}
 use Rattle.spv_branches.proofs.Labelled.{inst_get, op_tells, use_at, use_in}
 use Rattle.spv_branches.proofs.Looking.{looking_start, looking_other, looking_enters, looking_passes, looking_labels, looking_free}

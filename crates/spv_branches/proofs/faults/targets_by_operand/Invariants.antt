@@ -1,5 +1,5 @@
 use Rattle.spv_table.specs.Table.{Table}
-use Rattle.spv_branches.specs.Code.{IsCode}
+use Rattle.spv_branches.specs.inner.Code.{IsCode}
 use Rattle.spv_branches.proofs.Looking.{IsLooking}
 use Rattle.spv_branches.proofs.faults.targets_by_operand.Given as goal
 

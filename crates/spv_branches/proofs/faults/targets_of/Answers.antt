@@ -2,8 +2,8 @@ use Rattle.std.proofs.Common.{◌≡◌, Some, get_or, ap}
 use Rattle.std.specs.Prelude.{slice_get}
 use Rattle.spv_module.specs.Operand.{PlainInst}
 use Rattle.spv_module.specs.Module.{plain_inst}
-use Rattle.spv_branches.specs.Code.{insts_of}
-use Rattle.spv_branches.specs.Labels.{is_labelled, is_jump}
+use Rattle.spv_branches.specs.inner.Code.{insts_of}
+use Rattle.spv_branches.specs.inner.Labels.{is_labelled, is_jump}
 use Rattle.spv_branches.specs.Target.{is_branch, is_conditional}
 use Rattle.spv_branches.proofs.Labelled.{inst_get, op_holds}
 use Rattle.spv_branches.proofs.Firsts.{op_moved}

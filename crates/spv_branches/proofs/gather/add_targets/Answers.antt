@@ -4,7 +4,7 @@ use Rattle.std.proofs.lemmas.List.{length-map}
 use Rattle.spv_module.specs.Operand.{PlainInst}
 use Rattle.spv_module.specs.declared.module.Inst.{Inst}
 use Rattle.spv_module.specs.Module.{plain_inst, plain_operand}
-use Rattle.spv_branches.specs.Code.{insts_of}
+use Rattle.spv_branches.specs.inner.Code.{insts_of}
 use Rattle.spv_branches.specs.Target.{is_branch}
 use Rattle.spv_branches.proofs.Places.{branch_labelled}
 use Rattle.spv_branches.proofs.Labelled.{inst_get, op_tells}

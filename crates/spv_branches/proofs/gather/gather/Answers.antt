@@ -1,6 +1,6 @@
 use Rattle.std.proofs.Common.{◌≡◌, ℕ, length, subst, arith}
-use Rattle.spv_branches.specs.Code.{insts_of}
-use Rattle.spv_branches.specs.Graph.{AreGathered}
+use Rattle.spv_branches.specs.inner.Code.{insts_of}
+use Rattle.spv_branches.specs.inner.Graph.{AreGathered}
 use Rattle.spv_branches.proofs.Gathering.{gathered_more}
 use Rattle.spv_branches.proofs.gather.gather.Goals as goal
 

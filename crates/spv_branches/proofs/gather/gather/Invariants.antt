@@ -1,8 +1,8 @@
 use Rattle.std.proofs.Common.{◌≡◌, length}
 use Rattle.spv_table.specs.Table.{Table}
-use Rattle.spv_branches.specs.Code.{insts_of, IsCode}
-use Rattle.spv_branches.specs.Edges.{IsEdges}
-use Rattle.spv_branches.specs.Graph.{AreGathered}
+use Rattle.spv_branches.specs.inner.Code.{insts_of, IsCode}
+use Rattle.spv_branches.specs.inner.Edges.{IsEdges}
+use Rattle.spv_branches.specs.inner.Graph.{AreGathered}
 use Rattle.spv_branches.proofs.gather.gather.Given as goal
 
 abbrev pub invariant-loop-at : goal.invariant-loop-at

@@ -3,7 +3,7 @@ use Rattle.std.specs.Prelude.{slice_get}
 use Rattle.std.proofs.lemmas.Result.{on_ok_weaker}
 use Rattle.spv_module.specs.Operand.{PlainInst}
 use Rattle.spv_module.specs.Module.{plain_inst}
-use Rattle.spv_branches.specs.Code.{insts_of}
+use Rattle.spv_branches.specs.inner.Code.{insts_of}
 use Rattle.spv_branches.specs.Target.{is_branch}
 use Rattle.spv_branches.proofs.Labelled.{inst_get, op_holds}
 use Rattle.spv_branches.proofs.Gathering.{none_added}

@@ -11,7 +11,7 @@ use Rattle.spv_layout.specs.Row.{row, v, l, W, closed, repeated}
 use Rattle.spv_layout.specs.Rows.{rows}
 use Rattle.spv_layout.specs.Shape.{AreOf, Ends, HasForms, IsUse}
 use Rattle.spv_ids.specs.Definition.{IsDefinedAt, IsUsedAt}
-use Rattle.spv_branches.specs.Target.{is_function, IsOp, IsLabelOf, IsTarget, Leads, IsEntryLabel}
+use Rattle.spv_branches.specs.Target.{is_function, IsOp, IsLabelOf, IsTarget, LeadsToBlock, IsEntryLabel}
 use Rattle.spv_branches.specs.Walk.{Next, IsWalk, IsResultAmong, IsLastLabel}
 use Rattle.spv_branches.specs.Broken.{Broken}
 use Rattle.spv_branches.specs.Example.{branch, conditional, label, function, return_void, two_blocks}
@@ -157,7 +157,7 @@ of_block = record { begun = record { within = omega arith; up_to = omega arith; 
 branch_id : (n x : ℕ) → IsUsedAt small two_blocks 2 n x role.Label → x ≡ 2
 branch_id n x u = elim (jump_only small two_blocks 2 2 (branch 2) refl refl (record { forms = l ∷ []; has = branch_forms 2 }) (record { inst = branch 2; there = refl; used = branch_used 2 }) n x u) [ inl e ↦ e | inr e ↦ e ]
 
-not_back : ¬ (Leads small two_blocks 2 1 1)
+not_back : ¬ (LeadsToBlock small two_blocks 2 1 1)
 not_back h = let e = branch_id h.target.operand h.id h.target.used in none_1 (subst (λ (x : ℕ). IsDefinedAt two_blocks x 1) e h.label.defined)
 
 -- %2 is the result of instruction 3

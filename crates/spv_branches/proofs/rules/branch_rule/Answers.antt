@@ -3,7 +3,7 @@ use Rattle.std.specs.Prelude.{slice_get}
 use Rattle.std.proofs.lemmas.Bool.{eqb-true}
 use Rattle.spv_module.specs.Operand.{PlainInst}
 use Rattle.spv_module.specs.Module.{plain_inst}
-use Rattle.spv_branches.specs.Code.{insts_of}
+use Rattle.spv_branches.specs.inner.Code.{insts_of}
 use Rattle.spv_branches.specs.Target.{is_conditional, IsOp}
 use Rattle.spv_branches.proofs.Labelled.{inst_get, op_holds, op_tells}
 use Rattle.spv_branches.proofs.Firsts.{branch_lacks, branch_enters, branch_same, branch_fine}

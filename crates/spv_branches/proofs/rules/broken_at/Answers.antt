@@ -3,8 +3,8 @@ use Rattle.std.specs.Prelude.{slice_get}
 use Rattle.std.proofs.lemmas.Bool.{eqb-true, both_ways}
 use Rattle.spv_module.specs.Operand.{PlainInst}
 use Rattle.spv_module.specs.Module.{plain_inst}
-use Rattle.spv_branches.specs.Code.{insts_of}
-use Rattle.spv_branches.specs.Labels.{is_labelled}
+use Rattle.spv_branches.specs.inner.Code.{insts_of}
+use Rattle.spv_branches.specs.inner.Labels.{is_labelled}
 use Rattle.spv_branches.specs.Target.{is_phi, is_merge, is_branch}
 use Rattle.spv_branches.proofs.Labelled.{inst_get, op_holds, op_tells}
 use Rattle.spv_branches.proofs.Firsts.{phi_broken, phi_fine, at_other, low_phi, low_merge, low_branch}

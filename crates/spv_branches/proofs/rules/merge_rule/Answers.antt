@@ -1,5 +1,5 @@
-use Rattle.spv_branches.specs.Code.{insts_of}
-use Rattle.spv_branches.specs.Labels.{is_labelled}
+use Rattle.spv_branches.specs.inner.Code.{insts_of}
+use Rattle.spv_branches.specs.inner.Labels.{is_labelled}
 use Rattle.spv_branches.specs.Target.{is_merge}
 use Rattle.spv_branches.proofs.Firsts.{merge_fine, merge_broken, op_moved}
 use Rattle.spv_branches.proofs.Places.{merge_labelled}

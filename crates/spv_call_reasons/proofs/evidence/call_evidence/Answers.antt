@@ -3,7 +3,8 @@ use Rattle.std.proofs.lemmas.List.{length-map}
 use Rattle.spv_module.specs.Module.{plain_inst, plain_insts}
 use Rattle.spv_module.specs.declared.fault.Rule.TheVariants.{G1}
 use Rattle.spv_calls.specs.Broken.{Broken}
-use Rattle.spv_calls.specs.Found.{ArePlaces, AreNumbered}
+use Rattle.spv_calls.specs.inner.Found.{ArePlaces}
+use Rattle.spv_ids.specs.Outcome.{AreNumbered}
 use Rattle.spv_call_reasons.specs.inner.Edges.{edge_of, IsListed, IsNotListed}
 use Rattle.spv_call_reasons.proofs.Walked.{few_insts, is_listed, ready, evidence}
 use Rattle.spv_call_reasons.proofs.evidence.call_evidence.Goals as goal

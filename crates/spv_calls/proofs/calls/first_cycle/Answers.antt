@@ -5,8 +5,9 @@ use Rattle.std.proofs.lemmas.Option.{slice_get_within}
 use Rattle.spv_module.specs.Module.{plain_inst, plain_insts}
 use Rattle.spv_layout.specs.Place.{word_count}
 use Rattle.spv_calls.proofs.Insts.{short_list}
-use Rattle.spv_calls.specs.Graph.{IsFirstCyclic}
-use Rattle.spv_calls.specs.Found.{ArePlaces, AreNumbered}
+use Rattle.spv_calls.specs.inner.Graph.{IsFirstCyclic}
+use Rattle.spv_calls.specs.inner.Found.{ArePlaces}
+use Rattle.spv_ids.specs.Outcome.{AreNumbered}
 use Rattle.spv_calls.proofs.Lists.{found}
 use Rattle.spv_calls.proofs.Bridge.{calls_within, entries_below, none_broken, first_told}
 use Rattle.spv_calls.proofs.Orders.{acyclic_unbroken}

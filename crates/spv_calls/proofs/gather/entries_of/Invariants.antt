@@ -1,6 +1,6 @@
 use Rattle.std.proofs.Common.{map}
 use Rattle.spv_module.specs.Module.{plain_inst}
-use Rattle.spv_calls.specs.Found.{AreEntries}
+use Rattle.spv_calls.specs.inner.Found.{AreEntries}
 use Rattle.spv_calls.proofs.gather.entries_of.Given as goal
 
 abbrev pub invariant-loop-inst : goal.invariant-loop-inst

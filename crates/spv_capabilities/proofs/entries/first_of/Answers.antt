@@ -1,6 +1,6 @@
 use Rattle.std.proofs.Common.{◌≡◌, ◌∙◌, sym, true, false}
 use Rattle.spv_module.specs.Module.{plain_inst}
-use Rattle.spv_capabilities.specs.Known.{is_asked_more}
+use Rattle.spv_capabilities.specs.inner.Known.{is_asked_more}
 use Rattle.spv_capabilities.proofs.Firsts.{kept_before_linkage}
 use Rattle.spv_capabilities.proofs.entries.first_of.Goals as goal
 

@@ -1,7 +1,7 @@
 use Rattle.std.proofs.Common.{◌≡◌, ℕ, map, length, subst, arith}
 use Rattle.std.proofs.lemmas.List.{length-map}
 use Rattle.spv_module.specs.Module.{plain_inst}
-use Rattle.spv_capabilities.specs.Survey.{AreGathered}
+use Rattle.spv_capabilities.specs.inner.Survey.{AreGathered}
 use Rattle.spv_capabilities.proofs.Gathering.{inst_there}
 use Rattle.spv_capabilities.proofs.gather.gather.Goals as goal
 

@@ -1,6 +1,6 @@
 use Rattle.std.proofs.Common.{map}
 use Rattle.spv_module.specs.Module.{plain_inst}
-use Rattle.spv_capabilities.specs.Survey.{AreGathered}
+use Rattle.spv_capabilities.specs.inner.Survey.{AreGathered}
 use Rattle.spv_capabilities.proofs.gather.gather.Given as goal
 
 abbrev pub invariant-loop-inst : goal.invariant-loop-inst

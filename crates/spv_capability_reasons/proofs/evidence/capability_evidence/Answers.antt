@@ -4,7 +4,7 @@ use Rattle.spv_module.specs.Operand.{PlainInst}
 use Rattle.spv_module.specs.declared.module.Inst.{Inst}
 use Rattle.spv_module.specs.Module.{plain_inst, plain_insts}
 use Rattle.spv_ids.specs.Outcome.{IsDefinitionOf, definition_in}
-use Rattle.spv_capabilities.specs.Subject.{Subject}
+use Rattle.spv_capabilities.specs.inner.Subject.{Subject}
 use Rattle.spv_capability_reasons.proofs.evidence.capability_evidence.Goals as goal
 
 pub new-requires-clause-ids : goal.new-requires-clause-ids

@@ -4,7 +4,7 @@ use Rattle.spv_layout.specs.declared.class.Class.TheVariants.{Function, Function
 use Rattle.spv_layout.specs.Rows.{rows}
 use Rattle.spv_layout.specs.Place.{IsAt, IsOfFunction, IsDefinition}
 use Rattle.spv_flow.specs.Example.{alone}
-use Rattle.spv_flow.specs.Definitions.{HasDefinitions}
+use Rattle.spv_flow.specs.Definitions.{CountsDefinitions}
 use Rattle.spv_flow.proofs.Counts.{one_count}
 use Rattle.spv_flow.proofs.laws.count_examples.Goals as goal
 
@@ -51,7 +51,7 @@ rising : (j k f g : ℕ) → j < k → slice_get (0 ∷ []) j ≡ Some f → sli
 rising j zero f g l h i = absurd (omega (arith, l))
 rising j (suc k) f g l h i = absurd (let no = i in cc)
 
-one : HasDefinitions alone 1
+one : CountsDefinitions alone 1
 one = record {
   functions = 0 ∷ [];
   definitions = record { each = each; all = all; rising = rising };

@@ -1,6 +1,6 @@
 use Rattle.std.proofs.Common.{◌≡◌, ◌∙◌, sym, inr, map, length, arith}
 use Rattle.spv_module.specs.Module.{plain_inst}
-use Rattle.spv_ids.specs.Notes.{kept}
+use Rattle.spv_ids.specs.inner.Notes.{kept}
 use Rattle.spv_ids.proofs.Bools.{false_true, some_tells, none_tells}
 use Rattle.spv_ids.proofs.Defining.{inst_there}
 use Rattle.spv_ids.proofs.Steps.{first_none, first_no_result, first_result, first_moved, bad_range, bad_again}

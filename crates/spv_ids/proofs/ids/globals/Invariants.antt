@@ -1,7 +1,7 @@
 use Rattle.std.proofs.Common.{◌<◌, ℕ, List}
 use Rattle.spv_module.specs.Operand.{PlainInst}
 use Rattle.spv_layout.specs.Place.{IsOfFunction}
-use Rattle.spv_ids.specs.Survey.{ArePlaces}
+use Rattle.spv_ids.specs.inner.Survey.{ArePlaces}
 use Rattle.spv_ids.proofs.ids.globals.Given as goal
 
 abbrev pub invariant-loop-i : goal.invariant-loop-i

@@ -3,7 +3,7 @@ use Rattle.std.specs.Prelude.{sum_by}
 use Rattle.std.proofs.lemmas.List.{length-map}
 use Rattle.spv_module.specs.Module.{plain_inst, plain_insts}
 use Rattle.spv_layout.specs.Place.{word_count}
-use Rattle.spv_ids.specs.Survey.{ArePlaces}
+use Rattle.spv_ids.specs.inner.Survey.{ArePlaces}
 use Rattle.spv_ids.specs.Outcome.{AreIds}
 use Rattle.spv_ids.proofs.Defining.{short_list}
 use Rattle.spv_ids.proofs.Broke.{places_of, first_within, refusal_told, clean_told, definitions_told}

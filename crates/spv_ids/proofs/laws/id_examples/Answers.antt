@@ -13,7 +13,7 @@ use Rattle.spv_layout.specs.Shape.{AreOf, Ends, HasForms, IsUse}
 use Rattle.spv_layout.specs.Place.{IsAt, IsOfSection}
 use Rattle.spv_ids.specs.Definition.{IsDefinedAt, IsLocal}
 use Rattle.spv_ids.specs.Order.{IsInOrder, IsInScope}
-use Rattle.spv_ids.specs.Uses.{seen, used_id, IsUsedBefore}
+use Rattle.spv_ids.specs.inner.Uses.{seen, used_id, IsUsedBefore}
 use Rattle.spv_ids.proofs.Used.{use_told}
 use Rattle.spv_ids.specs.Broken.{Broken, IsOutOfRange}
 use Rattle.spv_ids.specs.Example.{void, of_void}

@@ -11,12 +11,12 @@ use Rattle.spv_layout.specs.Row.{row, T, R, v, closed}
 use Rattle.spv_layout.specs.Rows.{rows}
 use Rattle.spv_layout.specs.Shape.{AreOf, Ends, HasForms, IsUse}
 use Rattle.spv_layout.specs.Place.{IsAt, IsLast, IsOfFunction, IsDefinition, IsOfSection}
-use Rattle.spv_layout.specs.Span.{Outside, In, After, UpTo, Before}
+use Rattle.spv_layout.specs.inner.Span.{Outside, In, After, UpTo, Before}
 use Rattle.spv_layout.proofs.Spans.{before_first, enters, leaves, within}
 use Rattle.spv_layout.proofs.Places.{function_same}
 use Rattle.spv_ids.specs.Definition.{IsDefinedAt, IsLocalTo, IsLocal}
 use Rattle.spv_ids.specs.Order.{IsInScope}
-use Rattle.spv_ids.specs.Uses.{seen, used_id, IsUsedBefore}
+use Rattle.spv_ids.specs.inner.Uses.{seen, used_id, IsUsedBefore}
 use Rattle.spv_ids.specs.Broken.{Broken}
 use Rattle.spv_ids.specs.Example.{value, copy, used_inside, used_outside}
 use Rattle.spv_ids.proofs.Used.{use_told}

@@ -2,7 +2,7 @@ use Rattle.std.proofs.Common.{◌≡◌, ◌++◌, ◌+◌, ◌-◌, ◌∙◌, 
 use Rattle.std.proofs.lemmas.Result.{err_from_is_err_and}
 use Rattle.std.proofs.lemmas.List.{take_all, length-drop}
 use Rattle.spv_module.specs.Module.{plain_insts}
-use Rattle.spv_inst.specs.Batch.{batch_insts}
+use Rattle.spv_inst.specs.inner.Batch.{batch_insts}
 use Rattle.spv_inst.proofs.Batches.{batch_next, inst_with}
 use Rattle.spv_inst.proofs.Decoding.{listed_next, listed_all, listed_only, dead_here, none_there}
 use Rattle.spv_inst.proofs.decoder.decode.Goals as goal

@@ -1,7 +1,7 @@
 use Rattle.std.proofs.Common.{◌≡◌, ◌++◌, ◌≤◌, ◌-◌, length}
 use Rattle.spv_module.specs.Module.{plain_insts}
-use Rattle.spv_inst.specs.Batch.{batch_insts, IsTidy}
-use Rattle.spv_inst.specs.Known.{Knows}
+use Rattle.spv_inst.specs.inner.Batch.{batch_insts, IsTidy}
+use Rattle.spv_inst.specs.inner.Known.{Knows}
 use Rattle.spv_inst.specs.Outcome.{IsHeaderOf}
 use Rattle.spv_inst.proofs.Decoding.{SofarListed}
 use Rattle.spv_inst.proofs.decoder.decode.Given as goal

@@ -15,7 +15,7 @@ returns-in-Err-clause-refused c =
     let e = c.inst-item.is ∙ ap (λ (xs : List Inst). get_or xs i c.inst-item.result) c.deref-inst-items.ensures.value in
     let h : i < length items = omega arith in
     rw c.error_at.ensures
-    (put_refused c.args.table.now c.args.module.now _ _ i c.inst-item.result c.inst-item.result c.in-Err.code p c.requires.fits h e (c.in-Err.ensures.hindered (map plain_inst (take i items)) p.knows))
+    (put_refused c.args.table.now c.args.module.now _ _ i c.inst-item.result c.inst-item.result c.in-Err.code p c.requires.fits h e (c.in-Err.ensures.prevented (map plain_inst (take i items)) p.knows))
 
 pub loop-number-preserved : goal.loop-number-preserved
 loop-number-preserved c =

@@ -1,8 +1,8 @@
 use Rattle.std.proofs.Common.{◌∙◌, sym, refl}
-use Rattle.spv_inst.specs.Agenda.{plain_slot, agenda_due}
+use Rattle.spv_inst.specs.inner.Pending.{plain_slot, pending_due}
 use Rattle.spv_module.specs.Module.{plain_operand}
 use Rattle.spv_module.specs.Shape.{shape_of}
-use Rattle.spv_inst.specs.Written.{Stuck, operand_words}
+use Rattle.spv_inst.specs.inner.Written.{Stuck, operand_words}
 use Rattle.spv_inst.proofs.Shapes.{shape_leaf, shape_is_leaf}
 use Rattle.spv_inst.proofs.Fit.{fit_takes, unfit_takes}
 use Rattle.spv_inst.proofs.encoder.write_next.Goals as goal
@@ -15,7 +15,7 @@ returns-then-not-fits c = λ d n.
     let l = rw c.in-Some.is at c.in_ok-asked.ensures.leaf in
     let e = rw c.in-Some.is at c.in_ok-asked.ensures.due in
     let f = sym (c.fits.ensures d n l) ∙ c.if-not-fits.true in
-    Stuck.unfit s (agenda_due G c.next_leaf.new.self) e (shape_is_leaf G d s a.leaf l) (unfit_takes a.slot.kind (shape_of G d s) (plain_operand c.args.operand.now) f)
+    Stuck.unfit s (pending_due G c.next_leaf.new.self) e (shape_is_leaf G d s a.leaf l) (unfit_takes a.slot.kind (shape_of G d s) (plain_operand c.args.operand.now) f)
 
 pub returns : goal.returns
 returns c = λ d n.
@@ -27,7 +27,7 @@ returns c = λ d n.
     let f = sym (c.fits.ensures d n l) ∙ c.if-not-fits.false in
     record {
       slot = s;
-      rest = agenda_due G c.next_leaf.new.self;
+      rest = pending_due G c.next_leaf.new.self;
       words = operand_words (plain_operand c.args.operand.now);
       leads = e;
       takes = fit_takes G a.slot.kind d a.slot.paired a.leaf (shape_of G d s) (plain_operand c.args.operand.now) (shape_leaf G d s a.leaf a.leaf l refl) c.read_text.ensures f;

@@ -1,7 +1,7 @@
 use Rattle.std.proofs.Common.{◌≤◌, ◌<◌, refl, map, take, length, arith, ap, List, get_or}
 use Rattle.spv_module.specs.declared.operand.Operand.{Operand}
 use Rattle.spv_module.specs.declared.operand.Operand.TheVariants as code
-use Rattle.spv_inst.specs.Agenda.{plain_slot, items_of}
+use Rattle.spv_inst.specs.inner.Pending.{plain_slot, items_of}
 use Rattle.spv_inst.specs.Flat.{due}
 use Rattle.spv_module.specs.Module.{plain_operands}
 use Rattle.spv_inst.proofs.Shapes.{shape_is_leaf}

@@ -1,6 +1,6 @@
 use Rattle.std.proofs.Common.{◌≡◌, ◌<◌, map, take}
 use Rattle.spv_table.specs.Table.{IsWhole}
-use Rattle.spv_inst.specs.Form.{form_of}
+use Rattle.spv_inst.specs.inner.Form.{form_of}
 use Rattle.spv_inst.proofs.form.forms_of.Given as goal
 
 abbrev pub invariant-loop-number : goal.invariant-loop-number

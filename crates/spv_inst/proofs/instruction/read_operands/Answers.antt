@@ -1,7 +1,7 @@
 use Rattle.std.proofs.Common.{◌≡◌, ◌≤◌, ◌-◌, ◌++◌, ◌∷◌, [], ◌∙◌, length, take, drop, refl, ap, arith, length-append}
 use Rattle.std.proofs.lemmas.List.{take-append-le, drop-append-le, take_all, length-drop}
 use Rattle.spv_table.specs.Table.{pattern_of}
-use Rattle.spv_inst.specs.Agenda.{plain_slot}
+use Rattle.spv_inst.specs.inner.Pending.{plain_slot}
 use Rattle.spv_module.specs.Module.{plain_operands}
 use Rattle.spv_module.specs.Operand.{start}
 use Rattle.spv_inst.proofs.Turns.{turn_from, words_end, turn_settled, turn_left, turn_opened, turn_refused, turn_taken, turn_end, turn_missing, plain-push}

@@ -1,12 +1,12 @@
 use Rattle.std.proofs.Common.{◌≡◌, ◌≤◌, ◌+◌, ◌-◌, length, map, take, drop}
 use Rattle.spv_table.specs.Table.{Table}
-use Rattle.spv_inst.specs.Form.{form_of}
+use Rattle.spv_inst.specs.inner.Form.{form_of}
 use Rattle.spv_module.specs.Operand.{Context}
 use Rattle.spv_module.specs.Module.{plain_operands}
-use Rattle.spv_inst.specs.Reading.{between}
-use Rattle.spv_inst.specs.Agenda.{items_of}
+use Rattle.spv_inst.specs.inner.Reading.{between}
+use Rattle.spv_inst.specs.inner.Pending.{items_of}
 use Rattle.spv_inst.specs.Flat.{due}
-use Rattle.spv_inst.specs.Sofar.{Sofar}
+use Rattle.spv_inst.specs.inner.Sofar.{Sofar}
 use Rattle.spv_inst.proofs.plain.read_bare.Given as goal
 
 abbrev pub invariant-loop-at : goal.invariant-loop-at

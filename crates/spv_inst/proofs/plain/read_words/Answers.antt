@@ -2,7 +2,7 @@ use Rattle.std.proofs.Common.{◌≡◌, ◌++◌, ◌∷◌, [], ◌∙◌, len
 use Rattle.std.proofs.lemmas.List.{take-append-le, drop-append-le}
 use Rattle.spv_module.specs.Module.{plain_operands}
 use Rattle.spv_inst.proofs.Turns.{word_next, plain-push}
-use Rattle.spv_inst.specs.Agenda.{items_of}
+use Rattle.spv_inst.specs.inner.Pending.{items_of}
 use Rattle.spv_inst.specs.Flat.{due}
 use Rattle.spv_inst.proofs.Opened.{due_joined}
 use Rattle.spv_inst.proofs.plain.read_words.Goals as goal

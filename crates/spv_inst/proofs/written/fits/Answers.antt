@@ -2,7 +2,7 @@ use Rattle.std.proofs.Common.{◌≡◌, ◌∙◌, refl, sym, ap}
 use Rattle.spv_inst.specs.declared.form.Leaf.TheVariants as leaf
 use Rattle.spv_module.specs.Module.{plain_operand}
 use Rattle.spv_module.specs.Shape.{AsNumber, AsWord, integer_shape}
-use Rattle.spv_inst.specs.Written.{is_fit}
+use Rattle.spv_inst.specs.inner.Written.{is_fit}
 use Rattle.spv_inst.proofs.Fit.{by_leaf, by_shape}
 use Rattle.spv_inst.proofs.Fitting.{integer_number, integer_unpaired, integer_other}
 use Rattle.spv_inst.proofs.written.fits.Goals as goal

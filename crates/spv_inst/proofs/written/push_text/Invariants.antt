@@ -1,5 +1,5 @@
 use Rattle.std.proofs.Common.{◌≡◌, ◌≤◌, ◌++◌, ◌-◌, drop, length}
-use Rattle.spv_inst.specs.Written.{text_words}
+use Rattle.spv_inst.specs.inner.Written.{text_words}
 use Rattle.spv_inst.proofs.written.push_text.Given as goal
 
 abbrev pub invariant-loop-at : goal.invariant-loop-at

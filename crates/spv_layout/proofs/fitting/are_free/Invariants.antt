@@ -1,6 +1,6 @@
 use Rattle.std.proofs.Common.{◌≡◌, map, drop}
 use Rattle.spv_module.specs.Module.{plain_operand}
-use Rattle.spv_layout.specs.Test.{are_others}
+use Rattle.spv_layout.specs.inner.Test.{are_others}
 use Rattle.spv_layout.proofs.fitting.are_free.Given as goal
 
 abbrev pub invariant-loop-operand : goal.invariant-loop-operand

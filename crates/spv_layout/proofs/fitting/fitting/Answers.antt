@@ -1,6 +1,6 @@
 use Rattle.std.proofs.Common.{◌≡◌, ◌∙◌, sym, ap, true, Some}
 use Rattle.spv_module.specs.Module.{plain_inst}
-use Rattle.spv_layout.specs.Row.{plain_row}
+use Rattle.spv_layout.specs.inner.Row.{plain_row}
 use Rattle.spv_layout.specs.Rows.{class_in}
 use Rattle.spv_layout.proofs.Tested.{fits_iff}
 use Rattle.spv_layout.proofs.Singles.{single_words, front_words}

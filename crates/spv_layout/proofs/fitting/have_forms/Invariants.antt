@@ -1,6 +1,6 @@
 use Rattle.std.proofs.Common.{◌≡◌, map, drop}
 use Rattle.spv_module.specs.Module.{plain_operand}
-use Rattle.spv_layout.specs.Test.{are_of}
+use Rattle.spv_layout.specs.inner.Test.{are_of}
 use Rattle.spv_layout.proofs.fitting.have_forms.Given as goal
 
 abbrev pub invariant-loop-i : goal.invariant-loop-i

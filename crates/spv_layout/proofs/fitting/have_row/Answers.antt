@@ -1,7 +1,7 @@
 use Rattle.std.proofs.Common.{◌≡◌, ◌∙◌, length, map, arith}
 use Rattle.std.proofs.lemmas.List.{length-map}
 use Rattle.spv_module.specs.Module.{plain_operand}
-use Rattle.spv_layout.specs.Row.{plain_row}
+use Rattle.spv_layout.specs.inner.Row.{plain_row}
 use Rattle.spv_layout.proofs.Tested.{row_exact}
 use Rattle.spv_layout.proofs.fitting.have_row.Goals as goal
 

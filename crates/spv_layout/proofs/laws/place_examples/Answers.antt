@@ -2,7 +2,7 @@ use Rattle.std.proofs.Common.{◌≡◌, ℕ, [], ◌∷◌, refl, arith}
 use Rattle.spv_layout.specs.declared.class.Class.TheVariants.{Function, FunctionEnd, Label, Line, Return}
 use Rattle.spv_layout.specs.Rows.{rows}
 use Rattle.spv_layout.specs.Place.{terminators, IsLast, IsDefinition, IsOfSection}
-use Rattle.spv_layout.specs.Span.{Span, Outside, In, After, UpTo, Before}
+use Rattle.spv_layout.specs.inner.Span.{Span, Outside, In, After, UpTo, Before}
 use Rattle.spv_layout.specs.Example.{small_function}
 use Rattle.spv_layout.proofs.Spans.{before_first, enters, leaves, within}
 use Rattle.spv_layout.proofs.Places.{section_same}

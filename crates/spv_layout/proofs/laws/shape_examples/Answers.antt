@@ -10,7 +10,7 @@ use Rattle.spv_layout.specs.declared.form.Named.TheVariants as kind_of
 use Rattle.spv_layout.specs.declared.class.Class.TheVariants.{Body}
 use Rattle.spv_layout.specs.Row.{row, T, R, v, kind, maybe_others}
 use Rattle.spv_layout.specs.Rows.{rows}
-use Rattle.spv_layout.specs.Shape.{Ends, HasForms, Fits, IsUse}
+use Rattle.spv_layout.specs.Shape.{Ends, HasForms, FitsShape, IsUse}
 use Rattle.spv_layout.specs.Example.{load_of_word, matrix}
 use Rattle.spv_layout.proofs.Shapes.{forms_same}
 use Rattle.spv_layout.proofs.Tested.{tested_are, tested_fits, fits_tested}
@@ -41,15 +41,15 @@ result_unused x r u =
     let h : None ≡ Some r = rw (← g) at u.role in
     cc
 
-text_fits : Fits small string
+text_fits : FitsShape small string
 unfolding rows
 text_fits = tested_fits small string refl
 
-word_fits_not : ¬ (Fits small load_of_word)
+word_fits_not : ¬ (FitsShape small load_of_word)
 unfolding rows
 word_fits_not f = let h = fits_tested small load_of_word f in cc
 
-matrix_fits_not : ¬ (Fits small matrix)
+matrix_fits_not : ¬ (FitsShape small matrix)
 unfolding rows
 matrix_fits_not f = let h = fits_tested small matrix f in cc
 

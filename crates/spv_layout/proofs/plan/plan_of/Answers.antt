@@ -7,8 +7,8 @@ use Rattle.spv_layout.specs.declared.state.State.TheVariants as at
 use Rattle.spv_layout.specs.Rows.{class_of}
 use Rattle.spv_layout.specs.Layout.{classes}
 use Rattle.spv_layout.specs.Place.{section_of, word_count}
-use Rattle.spv_layout.specs.Span.{no_number}
-use Rattle.spv_layout.specs.State.{next_of, may_stop}
+use Rattle.spv_layout.specs.inner.Span.{no_number}
+use Rattle.spv_layout.specs.inner.State.{next_of, may_stop}
 use Rattle.spv_layout.proofs.Layouts.{leads_first}
 use Rattle.spv_layout.proofs.Slices.{leads_take, dead_take, member_all, dead_all}
 use Rattle.spv_layout.proofs.Misfits.{fit_none, fit_more, fit_all, inst_there, misfit_first, short_list}

@@ -3,7 +3,7 @@ use Rattle.std.specs.Vec.{vec_len, vec_capacity}
 use Rattle.spv_module.specs.Module.{plain_inst}
 use Rattle.spv_layout.specs.Layout.{classes}
 use Rattle.spv_layout.specs.Place.{first_word_of}
-use Rattle.spv_layout.specs.Kept.{HasRoom}
+use Rattle.spv_layout.specs.inner.Kept.{HasRoom}
 use Rattle.spv_layout.proofs.Layouts.{Leads}
 use Rattle.spv_layout.proofs.Misfits.{FitBelow}
 use Rattle.spv_layout.proofs.Following.{Follows}

@@ -3,7 +3,7 @@ use Rattle.std.specs.Prelude.{slice_get}
 use Rattle.std.proofs.lemmas.Option.{slice_get-map, slice_get-get_or}
 use Rattle.spv_module.specs.declared.operand.Operand.TheVariants as code
 use Rattle.spv_module.specs.Module.{plain_inst, plain_operand}
-use Rattle.spv_layout.specs.Row.{plain_row}
+use Rattle.spv_layout.specs.inner.Row.{plain_row}
 use Rattle.spv_layout.proofs.Uses.{role_by}
 use Rattle.spv_layout.proofs.roles.role.Goals as goal
 

@@ -4,8 +4,8 @@ use Rattle.std.proofs.lemmas.List.{length-map}
 use Rattle.std.proofs.lemmas.Option.{slice_get_read, slice_get_past, slice_get-get_or}
 use Rattle.spv_layout.specs.declared.form.Row.{Row}
 use Rattle.spv_layout.specs.Place.{section_of}
-use Rattle.spv_layout.specs.Row.{plain_row}
-use Rattle.spv_layout.specs.Single.{is_single_row, front_of, are_flagged}
+use Rattle.spv_layout.specs.inner.Row.{plain_row}
+use Rattle.spv_layout.specs.inner.Single.{is_single_row, front_of, are_flagged}
 use Rattle.spv_layout.proofs.Singles.{flagged_at, section_at, front_at}
 use Rattle.spv_layout.proofs.rows.row_at.Goals as goal
 

@@ -1,6 +1,6 @@
 use Rattle.std.proofs.Common.{◌≡◌, ◌∙◌, sym, length, None, Some, ap, arith}
 use Rattle.spv_layout.specs.Rows.{class_of}
-use Rattle.spv_layout.specs.State.{next_of}
+use Rattle.spv_layout.specs.inner.State.{next_of}
 use Rattle.spv_layout.specs.declared.state.State.TheVariants as at
 use Rattle.spv_layout.proofs.Layouts.{leads_first}
 use Rattle.spv_layout_reasons.proofs.States.{leads_to}

@@ -1,5 +1,5 @@
 use Rattle.std.proofs.Common.{◌≡◌, true, false}
-use Rattle.spv_ops.specs.Tests.{has_type}
+use Rattle.spv_type_forms.specs.inner.Tests.{has_type}
 use Rattle.spv_ops.proofs.TwoTypes.{two_calculated, two_given}
 use Rattle.spv_ops.proofs.fixed.binary_holds.Goals.{then-is_typed, else-is_typed}
 use Rattle.spv_ops.proofs.fixed.binary_holds.Goals as goal

@@ -1,10 +1,10 @@
 use Rattle.std.proofs.Common.{rules}
 use Rattle.spv_module.specs.Module.{plain_operands}
-use Rattle.spv_ops.specs.Operands.{ids_in}
+use Rattle.spv_type_forms.specs.Operands.{ids_in}
 use Rattle.spv_ops.specs.Calculation.{Calculates}
 use Rattle.spv_ops.proofs.Short.{short_calculation, too_long}
 use Rattle.spv_ops.proofs.fixed.gathered_holds.Goals as goal
-use Rattle.spv_ops.specs.Values.{types_of}
+use Rattle.spv_type_forms.specs.Values.{types_of}
 
 pub returns-in-None : goal.returns-in-None
 returns-in-None c = (

@@ -1,7 +1,7 @@
 use Rattle.std.proofs.Common.{[], ◌∷◌, refl}
 use Rattle.spv_ops.specs.Chain.{LeadsByPointer}
-use Rattle.spv_ops.specs.Example.{small}
-use Rattle.spv_ops.specs.Reach.{Reaches, Chooses}
+use Rattle.spv_type_forms.specs.Example.{small}
+use Rattle.spv_type_forms.specs.Reach.{ReachesType, ChoosesParts}
 use Rattle.spv_ops.proofs.laws.chain_examples.Goals as goal
 
 to_member : LeadsByPointer small 4 7 (5 ∷ [])
@@ -10,7 +10,7 @@ to_member = record {
   from = 6;
   to = 2;
   base = refl;
-  leads = (1 ∷ [], Chooses.member 6 5 1 2 [] [] refl refl refl (Chooses.none 2), Reaches.by_part 6 1 2 2 [] refl (Reaches.itself 2));
+  leads = (1 ∷ [], ChoosesParts.member 6 5 1 2 [] [] refl refl refl (ChoosesParts.none 2), ReachesType.by_part 6 1 2 2 [] refl (ReachesType.itself 2));
   result = refl;
 }
 

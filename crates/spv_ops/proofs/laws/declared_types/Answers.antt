@@ -1,5 +1,6 @@
 use Rattle.spv_ops.specs.Typed.{Typed}
-use Rattle.spv_ops.specs.Values.{types_of, values_of}
+use Rattle.spv_type_forms.specs.Values.{types_of}
+use Rattle.spv_ops.specs.Values.{values_of}
 use Rattle.spv_ops.proofs.Judged.{told, some_and}
 use Rattle.spv_ops.proofs.laws.declared_types.Goals as goal
 

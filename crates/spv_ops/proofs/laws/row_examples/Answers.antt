@@ -1,5 +1,5 @@
 use Rattle.std.proofs.Common.{[], ◌∷◌, refl, inl, inr}
-use Rattle.spv_ops.specs.Reach.{Reaches, Chooses}
+use Rattle.spv_type_forms.specs.Reach.{ReachesType, ChoosesParts}
 use Rattle.spv_ops.proofs.Worked.{chain_forms, add_forms}
 use Rattle.spv_ops.proofs.laws.row_examples.Goals as goal
 
@@ -19,7 +19,7 @@ returns-clause-chain c = inr (
       from = 6;
       to = 2;
       base = refl;
-      leads = (1 ∷ [], Chooses.member 6 5 1 2 [] [] refl refl refl (Chooses.none 2), Reaches.by_part 6 1 2 2 [] refl (Reaches.itself 2));
+      leads = (1 ∷ [], ChoosesParts.member 6 5 1 2 [] [] refl refl refl (ChoosesParts.none 2), ReachesType.by_part 6 1 2 2 [] refl (ReachesType.itself 2));
       result = refl;
     },
   ),

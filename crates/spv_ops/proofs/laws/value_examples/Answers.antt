@@ -1,7 +1,7 @@
 use Rattle.std.proofs.Common.{◌≡◌, ℕ, List, [], ◌∷◌, refl}
 use Rattle.spv_module.specs.Example.{small as table}
 use Rattle.spv_ops.specs.Example.{to_member}
-use Rattle.spv_ops.specs.Values.{used_in}
+use Rattle.spv_type_forms.specs.Values.{used_in}
 use Rattle.spv_ops.proofs.ValuePlaces.{values_agree}
 use Rattle.spv_ops.proofs.Worked.{chain_forms}
 use Rattle.spv_ops.proofs.laws.value_examples.Goals as goal

@@ -1,9 +1,7 @@
 use Rattle.std.proofs.Common.{refl, inl, inr}
-use Rattle.spv_ops.proofs.Worked.{no_last, lone_section, lone_defined, no_seven, pointed_section}
+use Rattle.spv_type_forms.proofs.Worked.{no_last, lone_section, no_seven}
+use Rattle.spv_ops.proofs.Worked.{pointed_section}
 use Rattle.spv_ops.proofs.laws.variable_examples.Goals as goal
-
-pub returns-clause-global : goal.returns-clause-global
-returns-clause-global c = record { place = 0; defined = lone_defined; variable = refl; section = lone_section }
 
 pub returns-clause-class : goal.returns-clause-class
 returns-clause-class c = inl (lone_section, λ e. cc, λ e. cc)

@@ -2,7 +2,7 @@ use Rattle.std.proofs.Common.{◌≡◌, Some, sym, ap, map, subst, ◌∙◌}
 use Rattle.std.specs.Prelude.{slice_get}
 use Rattle.spv_module.specs.Module.{plain_inst, plain_insts}
 use Rattle.spv_ids.specs.Outcome.{IsDefinitionOf, definition_in}
-use Rattle.spv_ops.specs.Typed.{IsTypedIn}
+use Rattle.spv_ops.specs.inner.Typed.{IsTypedIn}
 use Rattle.spv_ops.proofs.Judged.{told}
 use Rattle.spv_ops.proofs.typed.op_holds.Goals as goal
 

@@ -1,10 +1,10 @@
 use Rattle.std.proofs.Common.{◌≡◌}
 use Rattle.std.specs.List.{AllByRecursion}
 use Rattle.spv_module.specs.Module.{plain_operands}
-use Rattle.spv_ops.specs.Types.{IsData}
+use Rattle.spv_type_forms.specs.Types.{IsData}
 use Rattle.spv_ops.proofs.TagTests.{apart}
 use Rattle.spv_ops.proofs.typed.phi_holds.Goals as goal
-use Rattle.spv_ops.specs.Values.{types_of, paired_ids_in}
+use Rattle.spv_type_forms.specs.Values.{types_of, paired_ids_in}
 
 pub returns : goal.returns
 returns c =

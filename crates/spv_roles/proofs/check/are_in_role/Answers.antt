@@ -1,7 +1,7 @@
 use Rattle.std.proofs.Common.{◌≡◌, ◌∙◌, length, refl, sym, ap, subst, MatchBool}
 use Rattle.spv_module.specs.Module.{plain_inst, plain_operands}
-use Rattle.spv_roles.specs.Asked.{ArePlayed, IsOneMiscast}
-use Rattle.spv_roles.specs.Known.{uses_nothing}
+use Rattle.spv_roles.specs.inner.Asked.{ArePlayed, IsOneMiscast}
+use Rattle.spv_roles.specs.inner.Known.{uses_nothing}
 use Rattle.spv_roles.proofs.Asking.{judged}
 use Rattle.spv_roles.proofs.Casting.{nothing_used}
 use Rattle.spv_roles.proofs.check.are_in_role.Goals as goal

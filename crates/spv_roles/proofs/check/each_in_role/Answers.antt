@@ -1,6 +1,6 @@
 use Rattle.std.proofs.Common.{◌≡◌, length, ap, subst, arith}
 use Rattle.spv_module.specs.Module.{plain_inst}
-use Rattle.spv_roles.specs.Known.{AreInRoleBefore}
+use Rattle.spv_roles.specs.inner.Known.{AreInRoleBefore}
 use Rattle.spv_roles.proofs.Casting.{one_before}
 use Rattle.spv_roles.proofs.check.each_in_role.Goals as goal
 

@@ -1,6 +1,6 @@
 use Rattle.std.proofs.Common.{drop}
 use Rattle.spv_module.specs.Module.{plain_operands}
-use Rattle.spv_roles.specs.Asked.{ArePlayed, IsOneMiscast}
+use Rattle.spv_roles.specs.inner.Asked.{ArePlayed, IsOneMiscast}
 use Rattle.spv_roles.proofs.check.each_played.Given as goal
 
 abbrev pub invariant-loop-operand : goal.invariant-loop-operand

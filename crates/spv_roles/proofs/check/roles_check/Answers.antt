@@ -5,7 +5,7 @@ use Rattle.spv_module.specs.Module.{plain_inst, plain_insts, plain_operand}
 use Rattle.spv_layout.specs.Place.{word_count, first_word_of}
 use Rattle.spv_ids.specs.Outcome.{IsDefinitionOf, definition_in}
 use Rattle.spv_roles.proofs.Listed.{short_list, inst_there}
-use Rattle.spv_roles.specs.Known.{AreInRoleBefore, HasMiscast}
+use Rattle.spv_roles.specs.inner.Known.{AreInRoleBefore, HasMiscast}
 use Rattle.spv_roles.proofs.Casting.{one_up_to, all_in_role, unbroken, first_miscast}
 use Rattle.spv_roles.proofs.check.roles_check.Goals as goal
 

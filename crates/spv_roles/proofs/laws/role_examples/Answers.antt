@@ -1,5 +1,5 @@
 use Rattle.std.proofs.Common.{refl}
-use Rattle.spv_ops.proofs.Worked.{lone_section, lone_defined, no_seven}
+use Rattle.spv_type_forms.proofs.Worked.{lone_section, lone_defined, no_seven}
 use Rattle.spv_roles.proofs.laws.role_examples.Goals as goal
 
 pub returns-clause-global : goal.returns-clause-global

@@ -1,7 +1,7 @@
 use Rattle.std.proofs.Common.{◌≡◌, ◌+◌, [], ◌∷◌, map, length, length-append, ap, sym, subst, arith}
 use Rattle.std.proofs.lemmas.List.{length-map}
 use Rattle.spv_module.specs.Module.{plain_inst}
-use Rattle.spv_run.specs.Bodies.{HaveEntriesBefore}
+use Rattle.spv_run.specs.inner.Bodies.{HaveEntriesBefore}
 use Rattle.spv_run.proofs.Moving.{entries_none, entries_more, entries_all}
 use Rattle.spv_run.proofs.bodies.entries_of.Goals as goal
 

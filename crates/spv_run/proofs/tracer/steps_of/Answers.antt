@@ -1,7 +1,7 @@
 use Rattle.std.proofs.Common.{refl, arith, ap, subst, length, map}
 use Rattle.spv_module.specs.Module.{plain_inst}
 use Rattle.spv_run.specs.declared.tracer.Turn.{Turn}
-use Rattle.spv_run.specs.Trace.{kept, turned, IsTurn}
+use Rattle.spv_run.specs.inner.Trace.{kept, turned, IsTurn}
 use Rattle.spv_run.proofs.Tracing.{Found, going_init, going_on, going_last, going_before, going_end}
 use Rattle.spv_run.proofs.tracer.steps_of.Goals as goal
 

@@ -2,7 +2,7 @@ use Rattle.std.proofs.Common.{◌≡◌, ℕ, List, [], ◌∷◌, Option, Some,
 use Rattle.spv_table.specs.declared.table.Enumerant.{Enumerant}
 use Rattle.spv_table.specs.Table.{enumerant_of}
 use Rattle.spv_table.specs.Lookups.{value_named}
-use Rattle.spv_table.specs.Implied.{Lists, Chain, capabilities_in}
+use Rattle.spv_table.specs.Implied.{Lists, CapabilityChain, capabilities_in}
 use Rattle.spv_table.specs.Example.{capability_table}
 use Rattle.spv_table.proofs.Search.{in_cons}
 use Rattle.spv_table.proofs.laws.capability_examples.Goals as goal
@@ -24,9 +24,9 @@ nothing_by_one a b e l =
     let none : 0 ≡ length l.enumerant.capabilities = ap count (subst P e l.is) in
     omega (arith, none, l.listed.1)
 
-one_alone : (a c : ℕ) → Chain capability_table a c → a ≡ 1 → c ≡ 1
-one_alone _ _ (Chain.here a) e = e
-one_alone _ _ (Chain.step a b c l later) e = absurd (nothing_by_one a b e l)
+one_alone : (a c : ℕ) → CapabilityChain capability_table a c → a ≡ 1 → c ≡ 1
+one_alone _ _ (CapabilityChain.here a) e = e
+one_alone _ _ (CapabilityChain.step a b c l later) e = absurd (nothing_by_one a b e l)
 
 -- the names that an enumerant lists
 abbrev listed_by : Option Enumerant → List (List ℕ)
@@ -48,9 +48,9 @@ unknown c l =
 pub returns : goal.returns
 returns c = record {
   listed = three;
-  implied = record { first = 3; declares = (0, omega arith, refl); chain = Chain.step 3 2 1 three (Chain.step 2 1 1 two (Chain.here 1)) };
+  implied = record { first = 3; declares = (0, omega arith, refl); chain = CapabilityChain.step 3 2 1 three (CapabilityChain.step 2 1 1 two (CapabilityChain.here 1)) };
   not_backward = λ i. let e = one_alone i.first 3 i.chain (sym (one_of 1 i.first i.declares)) in omega (arith, e);
-  declared = record { first = 9; declares = (0, omega arith, refl); chain = Chain.here 9 };
+  declared = record { first = 9; declares = (0, omega arith, refl); chain = CapabilityChain.here 9 };
   unknown_name = unknown;
   no_kind = λ a c l. let none : None ≡ Some l.enumerant = l.is in absurd (cc);
 }

@@ -1,5 +1,5 @@
 use Rattle.std.specs.Prelude.{option_map}
-use Rattle.spv_tokens.specs.Answer.{names_in}
+use Rattle.spv_tokens.specs.inner.Answer.{names_in}
 use Rattle.spv_tokens.proofs.CellNames.{names_first, names_later, names_done, names_next, no_next, names_past, rest_none, rest_some}
 use Rattle.spv_tokens.proofs.mask.named_bits.Goals as goal
 use Rattle.spv_tokens.proofs.mask.named_bits.Goals.{then-bit-position+in-Some+in-Some-named_value, else-bit-position}

@@ -1,5 +1,5 @@
 use Rattle.std.specs.Prelude.{option_map}
-use Rattle.spv_tokens.specs.Answer.{names_in}
+use Rattle.spv_tokens.specs.inner.Answer.{names_in}
 use Rattle.spv_tokens.proofs.CellNames.{NamesAt}
 use Rattle.spv_tokens.proofs.mask.named_bits.Given as goal
 

@@ -1,5 +1,5 @@
 use Rattle.std.specs.Prelude.{option_map}
-use Rattle.spv_tokens.specs.Answer.{names_in}
+use Rattle.spv_tokens.specs.inner.Answer.{names_in}
 use Rattle.spv_tokens.proofs.Named.{nought_named, not_alone, no_first_named, first_named}
 use Rattle.spv_tokens.proofs.mask.named_mask.Goals as goal
 use Rattle.spv_tokens.proofs.mask.named_mask.Goals.{else-first-eq0-via-then-first-eq0+else-is_none, else-first-eq0-via-else-first-eq0}

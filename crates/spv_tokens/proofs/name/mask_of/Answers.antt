@@ -1,4 +1,4 @@
-use Rattle.spv_tokens.specs.Answer.{names_in}
+use Rattle.spv_tokens.specs.inner.Answer.{names_in}
 use Rattle.spv_tokens.proofs.Named.{mask_by_names, mask_by_number}
 use Rattle.spv_tokens.proofs.name.mask_of.Goals as goal
 

@@ -1,5 +1,5 @@
 use Rattle.spv_lines.specs.Name.{Names}
-use Rattle.spv_tokens.specs.Answer.{names_in}
+use Rattle.spv_tokens.specs.inner.Answer.{names_in}
 use Rattle.spv_tokens.proofs.Named.{value_by_number}
 use Rattle.spv_tokens.proofs.name.value_of.Goals as goal
 

@@ -1,5 +1,5 @@
 use Rattle.std.proofs.Common.{◌∙◌, ◌∷◌, ap}
-use Rattle.spv_tokens.specs.Quoted.{quote, slash, feed}
+use Rattle.spv_tokens.specs.inner.Quoted.{quote, slash, feed}
 use Rattle.spv_tokens.proofs.quoted.mark_of.Goals as goal
 
 pub returns-in-Some-behind-2 : goal.returns-in-Some-behind-2

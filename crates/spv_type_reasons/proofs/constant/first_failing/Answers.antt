@@ -1,4 +1,4 @@
-use Rattle.spv_ops.specs.Types.{IsBool, IsData}
+use Rattle.spv_type_forms.specs.Types.{IsBool, IsData}
 use Rattle.spv_type_reasons.proofs.Parts.{unless_moved}
 use Rattle.spv_type_reasons.proofs.constant.first_failing.Goals as goal
 

@@ -1,7 +1,7 @@
 use Rattle.std.proofs.Common.{◌<◌, ◌≤◌, ◌∙◌, ℕ, length, arith}
 use Rattle.std.proofs.lemmas.List.{length-map}
 use Rattle.spv_module.specs.Module.{plain_operand, plain_operands}
-use Rattle.spv_ops.specs.Operands.{ids_in}
+use Rattle.spv_type_forms.specs.Operands.{ids_in}
 use Rattle.spv_type_reasons.specs.Constant.{IsPartOf}
 use Rattle.spv_type_reasons.proofs.Firsts.{ends_here, all_each, one_fails, one_before, id_there, among_ids}
 use Rattle.spv_type_reasons.proofs.Parts.{is_part}

@@ -1,7 +1,7 @@
 use Rattle.std.proofs.Common.{arith}
 use Rattle.std.proofs.lemmas.List.{length-map}
 use Rattle.spv_module.specs.Module.{plain_operand, plain_operands}
-use Rattle.spv_ops.specs.Types.{IsData}
+use Rattle.spv_type_forms.specs.Types.{IsData}
 use Rattle.spv_type_reasons.proofs.Firsts.{ends_here, all_each, one_fails, one_before, id_there}
 use Rattle.spv_type_reasons.proofs.declaration.first_no_data.Goals as goal
 

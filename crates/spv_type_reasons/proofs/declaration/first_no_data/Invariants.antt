@@ -1,5 +1,5 @@
 use Rattle.spv_module.specs.Module.{plain_operands}
-use Rattle.spv_ops.specs.Types.{IsData}
+use Rattle.spv_type_forms.specs.Types.{IsData}
 use Rattle.spv_type_reasons.proofs.Firsts.{AreBefore}
 use Rattle.spv_type_reasons.proofs.declaration.first_no_data.Given as goal
 

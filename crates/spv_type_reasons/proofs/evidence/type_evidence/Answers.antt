@@ -5,7 +5,7 @@ use Rattle.std.proofs.lemmas.Result.{IfOk-weaker}
 use Rattle.spv_table.specs.Table.{Table}
 use Rattle.spv_module.specs.Module.{plain_inst, plain_insts}
 use Rattle.spv_module.specs.declared.fault.Rule.TheVariants.{Y5}
-use Rattle.spv_layout.specs.Shape.{Fits}
+use Rattle.spv_layout.specs.Shape.{FitsShape}
 use Rattle.spv_ops.specs.Typed.{IsTyped}
 use Rattle.spv_type_reasons.specs.Evidence.{IsEvidence, Shows}
 use Rattle.spv_ids.specs.Outcome.{IsDefinitionOf, definition_in}
@@ -71,6 +71,6 @@ returns-in-Y5 c = λ G b.
     let fits = fits_at G is js c.args.plan.now c.args.rule n i e at b in
     let never = not_typed G is js c.args.plan.now c.args.rule n i e at c.in-Y5.is b in
     rw c.in-Y5.is (
-    IfOk-weaker c.operation_evidence.result (λ v. (H : Table) (m : ℕ) → Fits H i → ¬ (IsTyped H js m i) → Shows H js m i Y5 v) (λ v. IsEvidence G is Y5 n v)
+    IfOk-weaker c.operation_evidence.result (λ v. (H : Table) (m : ℕ) → FitsShape H i → ¬ (IsTyped H js m i) → Shows H js m i Y5 v) (λ v. IsEvidence G is Y5 n v)
     (λ v h. is_evidence G is js Y5 n i v e at (h G n fits never))
     c.operation_evidence.ensures)

@@ -1,6 +1,6 @@
 use Rattle.std.proofs.Common.{◌≡◌, ◌∙◌, ap}
 use Rattle.spv_module.specs.Module.{plain_inst, plain_operands}
-use Rattle.spv_ops.specs.Operands.{result_type_in}
+use Rattle.spv_type_forms.specs.Operands.{result_type_in}
 use Rattle.spv_type_reasons.proofs.Valued.{types_show}
 use Rattle.spv_type_reasons.proofs.operation.operation_evidence.Goals as goal
 

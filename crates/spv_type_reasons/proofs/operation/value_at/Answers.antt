@@ -1,7 +1,7 @@
 use Rattle.std.proofs.Common.{◌≡◌, true, false, sym, ap, ◌∙◌}
 use Rattle.std.specs.Prelude.{option_and_then, slice_get}
 use Rattle.spv_module.specs.Module.{plain_inst, plain_operands}
-use Rattle.spv_ops.specs.Parts.{id_in}
+use Rattle.spv_type_forms.specs.Parts.{id_in}
 use Rattle.spv_type_reasons.specs.inner.Values.{is_value}
 use Rattle.spv_type_reasons.proofs.Valued.{value_told, no_value_told}
 use Rattle.spv_type_reasons.proofs.operation.value_at.Goals as goal

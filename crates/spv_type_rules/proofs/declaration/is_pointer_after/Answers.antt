@@ -2,7 +2,7 @@ use Rattle.std.proofs.Common.{◌≡◌, Some, sym, ◌∙◌, arith}
 use borrow.Author.Tests.{ltb-true}
 use Rattle.spv_module.specs.Module.{plain_inst}
 use Rattle.spv_ids.specs.Outcome.{definition_in}
-use Rattle.spv_ops.proofs.Lookups.{kept_one}
+use Rattle.spv_type_forms.proofs.Lookups.{kept_one}
 use Rattle.spv_type_rules.proofs.Pointers.{pointer_told, no_pointer, never_true}
 use Rattle.spv_type_rules.proofs.declaration.is_pointer_after.Goals as goal
 

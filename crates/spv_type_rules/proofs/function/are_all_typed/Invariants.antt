@@ -1,7 +1,7 @@
 use Rattle.std.proofs.Common.{◌≡◌, length}
 use Rattle.spv_module.specs.Module.{plain_operands}
-use Rattle.spv_ops.specs.Operands.{ids_in}
-use Rattle.spv_type_rules.specs.Found.{are_typed}
+use Rattle.spv_type_forms.specs.Operands.{ids_in}
+use Rattle.spv_type_rules.specs.inner.Found.{are_typed}
 use Rattle.spv_type_rules.proofs.function.are_all_typed.Given as goal
 
 abbrev pub invariant-loop-left : goal.invariant-loop-left

@@ -1,7 +1,7 @@
 use Rattle.std.proofs.Common.{inl, refl, lit<, lit≤}
 use Rattle.spv_module.specs.Operand.{Result, Word}
 use Rattle.std.specs.Prelude.{[], ◌∷◌}
-use Rattle.spv_ops.specs.Example.{inst}
+use Rattle.spv_type_forms.specs.Example.{inst}
 use Rattle.spv_type_rules.proofs.laws.declaration_examples.Goals as goal
 
 pub returns-clause-array : goal.returns-clause-array

@@ -1,5 +1,5 @@
 use Rattle.std.proofs.Common.{◌≡◌, drop}
-use Rattle.spv_type_rules.specs.Key.{mixed}
+use Rattle.spv_type_rules.specs.inner.Key.{mixed}
 use Rattle.spv_type_rules.proofs.repeat.fingerprint.Given as goal
 
 abbrev pub invariant-loop-number : goal.invariant-loop-number

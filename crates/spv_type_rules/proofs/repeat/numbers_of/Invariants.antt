@@ -1,6 +1,6 @@
 use Rattle.std.proofs.Common.{◌≡◌, ◌++◌, ◌∷◌, drop}
 use Rattle.spv_module.specs.Module.{plain_operands}
-use Rattle.spv_type_rules.specs.Key.{all_numbers}
+use Rattle.spv_type_rules.specs.inner.Key.{all_numbers}
 use Rattle.spv_type_rules.proofs.repeat.numbers_of.Given as goal
 
 abbrev pub invariant-loop-operand : goal.invariant-loop-operand

@@ -4,7 +4,7 @@ use Rattle.spv_module.specs.Module.{plain_inst}
 use Rattle.spv_type_rules.specs.Repeat.{Repeats}
 use Rattle.spv_layout.specs.Plan.{IsPlan}
 use Rattle.spv_capabilities.specs.Keeps.{IsFirstAt}
-use Rattle.spv_type_rules.specs.Rules.{IsFirstHere}
+use Rattle.spv_type_rules.specs.inner.Rules.{IsFirstHere}
 use Rattle.spv_types.proofs.Listed.{inst_there}
 use Rattle.spv_types.proofs.Firsts.{capable_fault, typed_fault, more_kept}
 use Rattle.spv_types.proofs.pass.first_fault.Goals as goal

@@ -1,8 +1,8 @@
 use Rattle.std.proofs.Common.{◌≡◌, map}
 use Rattle.spv_module.specs.Module.{plain_inst}
-use Rattle.spv_type_rules.specs.Seen.{AreSeen}
-use Rattle.spv_type_rules.specs.Counted.{AreCounted}
-use Rattle.spv_types.specs.Pass.{AreKept}
+use Rattle.spv_type_rules.specs.inner.Seen.{AreSeen}
+use Rattle.spv_type_rules.specs.inner.Counted.{AreCounted}
+use Rattle.spv_types.specs.inner.Pass.{AreKept}
 use Rattle.spv_types.proofs.pass.first_fault.Given as goal
 
 abbrev pub invariant-loop-n : goal.invariant-loop-n

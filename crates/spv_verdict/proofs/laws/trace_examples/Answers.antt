@@ -1,6 +1,6 @@
 use Rattle.std.proofs.Common.{[], ◌∷◌, refl}
 use Rattle.spv_module.specs.Operand.{OfType, Result, Id, Mask}
-use Rattle.spv_ops.specs.Example.{inst}
+use Rattle.spv_type_forms.specs.Example.{inst}
 use Rattle.spv_calls.specs.Example.{entry}
 use Rattle.spv_run.specs.Example.{standing}
 use Rattle.spv_run.proofs.Worked.{starts, entered_void}

@@ -2,7 +2,7 @@ use Rattle.std.proofs.Common.{◌≡◌, ◌-◌, length, ap, arith}
 use Rattle.std.specs.Prelude.{slice_index}
 use Rattle.std.proofs.lemmas.List.{length-map}
 use Rattle.spv_module.specs.Module.{plain_inst}
-use Rattle.spv_walks.specs.Code.{insts_of}
+use Rattle.spv_walks.specs.inner.Code.{insts_of}
 use Rattle.spv_walks.proofs.Starting.{few_blocks}
 use Rattle.spv_walk_reasons.proofs.evidence.block_of.Goals as goal
 

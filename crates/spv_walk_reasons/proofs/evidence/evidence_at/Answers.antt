@@ -1,7 +1,7 @@
 use Rattle.std.proofs.Common.{arith}
 use Rattle.std.proofs.lemmas.List.{length-map}
 use Rattle.spv_module.specs.Module.{plain_inst}
-use Rattle.spv_walks.specs.Code.{insts_of}
+use Rattle.spv_walks.specs.inner.Code.{insts_of}
 use Rattle.spv_walks.proofs.Alone.{function_op}
 use Rattle.spv_walk_reasons.proofs.Asked.{walk_function}
 use Rattle.spv_walk_reasons.proofs.evidence.evidence_at.Goals as goal

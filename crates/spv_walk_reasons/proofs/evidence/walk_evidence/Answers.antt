@@ -8,7 +8,7 @@ use Rattle.spv_branches.proofs.Firsts.{few_insts}
 use Rattle.spv_evidence.specs.declared.evidence.Evidence.{Evidence}
 use Rattle.spv_table.specs.Table.{Table}
 use Rattle.spv_walks.specs.declared.code.Code.{Code}
-use Rattle.spv_walks.specs.Code.{IsCode}
+use Rattle.spv_walks.specs.inner.Code.{IsCode}
 use Rattle.spv_walk_reasons.specs.Evidence.{IsEvidence}
 use Rattle.spv_walk_reasons.specs.inner.Shown.{IsShown}
 use Rattle.spv_walk_reasons.proofs.Showing.{misses, as_rule}

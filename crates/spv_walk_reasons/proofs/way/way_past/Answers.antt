@@ -19,7 +19,7 @@ unreachable-requires c =
     let graph = c.args.graph.now in
     let e = c.as_slice-2.ensures.value ∙ c.in_ok-closed.ensures in
     some_way graph c.args.value c.args.block c.in_ok-edges.edges.items c.as_slice.result.now c.as_slice-2.result.now
-    c.in_ok-edges.ensures c.requires.missed
+    c.in_ok-edges.ensures c.requires.unavailable
     c.as_slice.ensures.value e (rw c.in_default.is at c.in_ok-found.ensures)
 
 pub returns : goal.returns

@@ -1,8 +1,8 @@
 use Rattle.std.proofs.Common.{◌≡◌, ◌+◌, ◌++◌, ◌∙◌, ℕ, List, [], ◌∷◌, length, set, sym, subst, arith}
 use Rattle.std.proofs.lemmas.List.{length-set, length-map}
 use Rattle.spv_module.specs.Module.{plain_inst}
-use Rattle.spv_walks.specs.Code.{insts_of}
-use Rattle.spv_walks.specs.Starts.{AreStarts, IsLaid}
+use Rattle.spv_walks.specs.inner.Code.{insts_of}
+use Rattle.spv_walks.specs.inner.Starts.{AreStarts, IsLaid}
 use Rattle.spv_walks.proofs.Starting.{few_starts, starts_more, starts_other, starts_all}
 use Rattle.spv_walks.proofs.divide.divide.Goals as goal
 use Rattle.spv_walks.proofs.divide.divide.Goals.{then-begins+in_ok-push-2, else-begins}

@@ -1,6 +1,6 @@
 use Rattle.std.proofs.Common.{◌≡◌, length}
-use Rattle.spv_walks.specs.Code.{insts_of}
-use Rattle.spv_walks.specs.Starts.{AreStarts}
+use Rattle.spv_walks.specs.inner.Code.{insts_of}
+use Rattle.spv_walks.specs.inner.Starts.{AreStarts}
 use Rattle.spv_walks.proofs.divide.divide.Given as goal
 
 abbrev pub invariant-loop-at : goal.invariant-loop-at

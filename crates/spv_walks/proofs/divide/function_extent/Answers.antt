@@ -3,7 +3,7 @@ use Rattle.std.proofs.lemmas.List.{length-map}
 use Rattle.spv_module.specs.Module.{plain_inst}
 use Rattle.spv_branches.specs.Target.{is_function}
 use Rattle.spv_branches.proofs.Labelled.{inst_get, op_holds}
-use Rattle.spv_walks.specs.Code.{insts_of}
+use Rattle.spv_walks.specs.inner.Code.{insts_of}
 use Rattle.spv_walks.proofs.Starting.{open_start, open_more, extent_ended, extent_before, extent_last, unmarked_start, unmarked_more}
 use Rattle.spv_walks.proofs.divide.function_extent.Goals as goal
 use Rattle.spv_walks.proofs.divide.function_extent.Goals.{then-opcode-eq-PHI, else-opcode-eq-PHI}

@@ -1,6 +1,6 @@
 use Rattle.std.proofs.Common.{◌≡◌, ◌<◌, ◌≤◌, ℕ, false}
 use Rattle.spv_branches.specs.Target.{is_phi, IsOp}
-use Rattle.spv_walks.specs.Code.{insts_of}
+use Rattle.spv_walks.specs.inner.Code.{insts_of}
 use Rattle.spv_walks.proofs.Starting.{IsOpenTo}
 use Rattle.spv_walks.proofs.divide.function_extent.Given as goal
 

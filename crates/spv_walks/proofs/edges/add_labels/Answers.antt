@@ -7,9 +7,9 @@ use Rattle.spv_module.specs.declared.module.Inst.{Inst}
 use Rattle.spv_module.specs.Module.{plain_inst, plain_operand}
 use Rattle.spv_layout.specs.declared.form.Role.TheVariants.{Label}
 use Rattle.spv_branches.proofs.Labelled.{inst_get, use_in, use_within}
-use Rattle.spv_walks.specs.Code.{insts_of}
-use Rattle.spv_walks.specs.Leading.{IsLabelAt}
-use Rattle.spv_walks.specs.Adds.{AddsBy}
+use Rattle.spv_walks.specs.inner.Code.{insts_of}
+use Rattle.spv_walks.specs.inner.Leading.{IsLabelAt}
+use Rattle.spv_walks.specs.inner.Adds.{AddsBy}
 use Rattle.spv_walks.proofs.Adding.{UpTo, adds_none, adds_one, adds_step, adds_end}
 use Rattle.spv_walks.proofs.Asking.{one_target}
 use Rattle.spv_walks.proofs.edges.add_labels.Goals as goal

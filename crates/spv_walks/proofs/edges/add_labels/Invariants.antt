@@ -1,6 +1,6 @@
-use Rattle.spv_walks.specs.Code.{insts_of}
-use Rattle.spv_walks.specs.Adds.{AddsBy}
-use Rattle.spv_walks.specs.Leading.{IsLabelAt}
+use Rattle.spv_walks.specs.inner.Code.{insts_of}
+use Rattle.spv_walks.specs.inner.Adds.{AddsBy}
+use Rattle.spv_walks.specs.inner.Leading.{IsLabelAt}
 use Rattle.spv_walks.proofs.Adding.{UpTo}
 use Rattle.spv_walks.proofs.edges.add_labels.Given as goal
 

@@ -6,9 +6,9 @@ use Rattle.spv_table.specs.Table.{Table}
 use Rattle.spv_module.specs.Module.{plain_inst}
 use Rattle.spv_branches.specs.Target.{is_branch, is_terminator, IsOp}
 use Rattle.spv_branches.proofs.Labelled.{inst_get, op_tells, op_holds}
-use Rattle.spv_walks.specs.Adds.{AddsBy}
-use Rattle.spv_walks.specs.Code.{insts_of}
-use Rattle.spv_walks.specs.Leading.{LeadsTo}
+use Rattle.spv_walks.specs.inner.Adds.{AddsBy}
+use Rattle.spv_walks.specs.inner.Code.{insts_of}
+use Rattle.spv_walks.specs.inner.Leading.{LeadsTo}
 use Rattle.spv_walks.proofs.Starting.{few_blocks, end_within}
 use Rattle.spv_walks.proofs.Targets.{labels_lead, next_leads, none_next, none_after}
 use Rattle.spv_walks.proofs.edges.add_targets.Goals as goal

@@ -2,7 +2,7 @@ use Rattle.std.proofs.Common.{◌≡◌, ◌+◌, ◌-◌, ℕ, length, refl, su
 use Rattle.spv_availability.specs.declared.graph.Graph.{Graph}
 use Rattle.spv_availability.specs.declared.graph.Block.{Block}
 use Rattle.std.specs.Prelude.{slice_index}
-use Rattle.spv_walks.specs.Leading.{AreInGraph}
+use Rattle.spv_walks.specs.inner.Leading.{AreInGraph}
 use Rattle.spv_walks.proofs.Targets.{graph_more}
 use Rattle.spv_walks.proofs.edges.build.Goals as goal
 

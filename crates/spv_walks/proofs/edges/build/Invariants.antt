@@ -1,4 +1,4 @@
-use Rattle.spv_walks.specs.Leading.{AreInGraph}
+use Rattle.spv_walks.specs.inner.Leading.{AreInGraph}
 use Rattle.spv_walks.proofs.edges.build.Given as goal
 
 abbrev pub invariant-loop-block : goal.invariant-loop-block

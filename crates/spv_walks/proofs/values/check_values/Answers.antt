@@ -4,7 +4,7 @@ use Rattle.std.proofs.lemmas.List.{length-map}
 use Rattle.spv_module.specs.Module.{plain_inst, plain_insts}
 use Rattle.spv_layout.specs.Place.{word_count}
 use Rattle.spv_branches.proofs.Firsts.{few_insts}
-use Rattle.spv_walks.proofs.Telling.{missed_there, told, unbroken_by}
+use Rattle.spv_walks.proofs.Telling.{unavailable_there, told, unbroken_by}
 use Rattle.spv_walks.proofs.values.check_values.Goals as goal
 
 pub count_globals-globals-requires : goal.count_globals-globals-requires
@@ -45,7 +45,7 @@ rule-requires c =
     let k = c.requires.known in
     let h = rw c.in-Some.is at c.in_ok-inst.ensures in
     let f = h k.0 (record { plan = rw v k.1; bound = c.args.module.now.header.bound; ids = rw v k.2; branches = rw v k.3; most = omega arith; global = c.count_globals-globals.ensures }) in
-    let w = missed_there k.0 (map plain_inst xs) c.in-Some.inst f.0 in
+    let w = unavailable_there k.0 (map plain_inst xs) c.in-Some.inst f.0 in
     omega (arith, w, l)
 
 pub stop_at-requires : goal.stop_at-requires
@@ -58,7 +58,7 @@ stop_at-requires c =
     let k = c.requires.known in
     let h = rw c.in-Some.is at c.in_ok-inst.ensures in
     let f = h k.0 (record { plan = rw v k.1; bound = c.args.module.now.header.bound; ids = rw v k.2; branches = rw v k.3; most = omega arith; global = c.count_globals-globals.ensures }) in
-    let w = missed_there k.0 (map plain_inst xs) c.in-Some.inst f.0 in
+    let w = unavailable_there k.0 (map plain_inst xs) c.in-Some.inst f.0 in
     let n : length c.args.plan.now ≡ length (map plain_inst xs) = rw v k.1.count in
     omega (arith, w, n)
 

@@ -4,8 +4,8 @@ use Rattle.spv_table.specs.Table.{Table}
 use Rattle.spv_module.specs.Module.{plain_inst}
 use Rattle.spv_branches.specs.Target.{is_function}
 use Rattle.spv_branches.proofs.Labelled.{inst_get, op_holds}
-use Rattle.spv_walks.specs.Code.{insts_of, IsCode}
-use Rattle.spv_walks.specs.Missed.{IsFirstIn}
+use Rattle.spv_walks.specs.inner.Code.{insts_of, IsCode}
+use Rattle.spv_walks.specs.inner.Unavailable.{IsFirstIn}
 use Rattle.spv_walks.proofs.Telling.{sound_start, sound_other, sound_more, sound_all, first_here}
 use Rattle.spv_walks.proofs.values.first_missing.Goals as goal
 

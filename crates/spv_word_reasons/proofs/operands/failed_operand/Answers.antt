@@ -1,7 +1,7 @@
 use Rattle.std.proofs.Common.{◌≡◌, ◌<◌, ◌≤◌, ◌∷◌, [], length, refl, arith, length-append}
 use Rattle.spv_table.specs.Table.{pattern_of}
 use Rattle.spv_module.specs.Module.{plain_operands}
-use Rattle.spv_inst.specs.Agenda.{plain_slot}
+use Rattle.spv_inst.specs.inner.Pending.{plain_slot}
 use Rattle.spv_inst.proofs.Turns.{plain-push}
 use Rattle.spv_word_reasons.proofs.Walking.{way_first, way_settled, way_opened, way_taken, way_refused, way_left}
 use Rattle.spv_word_reasons.proofs.Walking.{way_end}

@@ -2,8 +2,8 @@ use Rattle.std.proofs.Common.{◌≤◌, ◌-◌, List, length}
 use Rattle.spv_table.specs.Table.{pattern_of}
 use Rattle.spv_module.specs.Module.{plain_operands}
 use Rattle.spv_module.specs.Operand.{PlainInst}
-use Rattle.spv_inst.specs.Agenda.{agenda_due}
-use Rattle.spv_inst.specs.Known.{Knows}
+use Rattle.spv_inst.specs.inner.Pending.{pending_due}
+use Rattle.spv_inst.specs.inner.Known.{Knows}
 use Rattle.spv_word_reasons.proofs.Walking.{Way}
 use Rattle.spv_word_reasons.proofs.operands.failed_operand.Given as goal
 
@@ -14,8 +14,8 @@ invariant-turns l = record {
   few : length l.operands.items ≤ l.at;
   way : (before : List PlainInst) → Knows l.scene.definitions.now before
       → Way l.scene.table.now l.scene.definitions.now l.known before l.place.opcode (pattern_of l.entry)
-      l.scene.image.now l.place.first l.at l.place.end (plain_operands l.operands.items) (agenda_due
-      l.scene.table.now l.agenda);
+      l.scene.image.now l.place.first l.at l.place.end (plain_operands l.operands.items) (pending_due
+      l.scene.table.now l.pending);
 }
 
 abbrev pub decreases-turns : goal.decreases-turns

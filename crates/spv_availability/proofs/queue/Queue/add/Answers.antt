@@ -1,6 +1,6 @@
 use Rattle.std.proofs.Common.{◌∙◌, false, refl, sym, arith}
 use Rattle.std.proofs.lemmas.List.{get_or_read_under}
-use Rattle.spv_availability.specs.Queue.{count_of, waits}
+use Rattle.spv_availability.specs.inner.Queue.{count_of, waits}
 use Rattle.spv_availability.proofs.Lines.{added, waits_already}
 use Rattle.spv_availability.proofs.queue.Queue.add.Goals as goal
 

@@ -1,6 +1,6 @@
 use Rattle.std.proofs.Common.{◌∙◌, sym}
 use Rattle.std.specs.Prelude.{length}
-use Rattle.spv_branches.specs.Code.{insts_of}
+use Rattle.spv_branches.specs.inner.Code.{insts_of}
 use Rattle.spv_branches.proofs.Labelled.{block_within}
 use Rattle.spv_branches.proofs.code.Code.block_of.Goals as goal
 

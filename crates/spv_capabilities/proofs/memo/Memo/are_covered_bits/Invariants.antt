@@ -1,6 +1,6 @@
 use Rattle.std.proofs.Common.{◌↔◌}
 use Rattle.spv_capabilities.specs.Capable.{IsCoveredValue, IsCoveredMask}
-use Rattle.spv_capabilities.specs.Known.{IsKnown}
+use Rattle.spv_capabilities.specs.inner.Known.{IsKnown}
 use Rattle.spv_capabilities.proofs.Bits.{AllFrom}
 use Rattle.spv_capabilities.proofs.memo.Memo.are_covered_bits.Given as goal
 

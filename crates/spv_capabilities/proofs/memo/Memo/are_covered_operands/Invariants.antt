@@ -2,7 +2,7 @@ use Rattle.std.proofs.Common.{◌↔◌, drop}
 use Rattle.std.specs.List.{AllByRecursion}
 use Rattle.spv_module.specs.Module.{plain_operands}
 use Rattle.spv_capabilities.specs.Capable.{IsCoveredOperand}
-use Rattle.spv_capabilities.specs.Known.{IsKnown}
+use Rattle.spv_capabilities.specs.inner.Known.{IsKnown}
 use Rattle.spv_capabilities.proofs.memo.Memo.are_covered_operands.Given as goal
 
 abbrev pub invariant-loop-operand : goal.invariant-loop-operand

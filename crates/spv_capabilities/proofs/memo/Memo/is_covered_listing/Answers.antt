@@ -1,7 +1,7 @@
 use Rattle.std.proofs.Common.{◌≡◌, ◌∙◌, sym, Some}
 use Rattle.std.specs.BTreeMap.{get}
 use Rattle.spv_capabilities.specs.Capable.{IsCoveredValue}
-use Rattle.spv_capabilities.specs.Known.{pair_cmp}
+use Rattle.spv_capabilities.specs.inner.Known.{pair_cmp}
 use Rattle.spv_capabilities.proofs.Knowing.{pairs_more}
 use Rattle.spv_capabilities.proofs.memo.Memo.is_covered_listing.Goals as goal
 

@@ -1,7 +1,7 @@
 use Rattle.std.proofs.Common.{sym, subst, map, ℕ, Option}
 use Rattle.spv_module.specs.Module.{plain_inst}
 use Rattle.spv_ids.specs.Outcome.{IsDefinitionOf}
-use Rattle.spv_capabilities.specs.Subject.{Subject}
+use Rattle.spv_capabilities.specs.inner.Subject.{Subject}
 use Rattle.spv_capabilities.proofs.surveyed.Survey.definition.Goals as goal
 
 pub returns : goal.returns

@@ -1,7 +1,7 @@
 use Rattle.std.proofs.Common.{◌↔◌, subst, map, ℕ, IsTrue}
 use Rattle.spv_module.specs.Module.{plain_inst}
 use Rattle.spv_ids.specs.Order.{HasOpcode}
-use Rattle.spv_capabilities.specs.Subject.{Subject}
+use Rattle.spv_capabilities.specs.inner.Subject.{Subject}
 use Rattle.spv_capabilities.proofs.Gathering.{some_entry}
 use Rattle.spv_capabilities.proofs.surveyed.Survey.has_entry_point.Goals as goal
 

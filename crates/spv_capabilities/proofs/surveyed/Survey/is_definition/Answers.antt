@@ -1,6 +1,6 @@
 use Rattle.std.proofs.Common.{◌∙◌, sym, subst}
 use Rattle.spv_layout.specs.Plan.{IsPlaceOf}
-use Rattle.spv_capabilities.specs.Subject.{Subject}
+use Rattle.spv_capabilities.specs.inner.Subject.{Subject}
 use Rattle.spv_capabilities.proofs.surveyed.Survey.is_definition.Goals as goal
 
 pub returns : goal.returns

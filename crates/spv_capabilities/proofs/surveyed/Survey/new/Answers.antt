@@ -5,7 +5,7 @@ use Rattle.std.proofs.Math.Seq.{take-length}
 use Rattle.spv_table.specs.Implied.{Implied}
 use Rattle.spv_module.specs.Module.{plain_inst}
 use Rattle.spv_capabilities.specs.Capable.{declared_by}
-use Rattle.spv_capabilities.specs.Survey.{AreGathered}
+use Rattle.spv_capabilities.specs.inner.Survey.{AreGathered}
 use Rattle.spv_capabilities.proofs.surveyed.Survey.new.Goals as goal
 
 pub invariant_of-result : goal.invariant_of-result

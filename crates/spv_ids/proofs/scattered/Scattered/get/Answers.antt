@@ -1,6 +1,6 @@
 use Rattle.std.proofs.Common.{sym, subst, arith}
 use Rattle.std.proofs.lemmas.List.{get_or_default}
-use Rattle.spv_ids.specs.Scattered.{AreRising}
+use Rattle.spv_ids.specs.inner.Scattered.{AreRising}
 use Rattle.spv_ids.proofs.Pairs.{found_there, gap_tells}
 use Rattle.spv_ids.proofs.scattered.Scattered.get.Goals as goal
 

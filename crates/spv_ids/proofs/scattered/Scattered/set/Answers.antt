@@ -1,5 +1,5 @@
 use Rattle.std.proofs.Common.{subst, rules}
-use Rattle.spv_ids.specs.Scattered.{AreRising}
+use Rattle.spv_ids.specs.inner.Scattered.{AreRising}
 use Rattle.spv_ids.proofs.Pairs.{rising_still, written_there, gap_tells}
 use Rattle.spv_ids.proofs.scattered.Scattered.set.Goals as goal
 

@@ -1,6 +1,6 @@
 use Rattle.std.proofs.Common.{arith, get_or}
 use Rattle.spv_module.specs.Module.{plain_inst}
-use Rattle.spv_ids.specs.Survey.{insts_of}
+use Rattle.spv_ids.specs.inner.Survey.{insts_of}
 use Rattle.spv_ids.proofs.Opens.{goes_on, stays_open}
 use Rattle.spv_ids.proofs.Passing.{above, inst_of, not_announced, clean_at}
 use Rattle.spv_ids.proofs.survey.Survey.after.Goals as goal

@@ -1,7 +1,7 @@
 use Rattle.std.proofs.Common.{◌≡◌, ◌∙◌, sym, length, arith, None}
 use Rattle.std.proofs.lemmas.Option.{slice_get-get_or}
 use Rattle.spv_module.specs.declared.operand.Operand.TheVariants as code
-use Rattle.spv_ids.specs.Survey.{insts_of}
+use Rattle.spv_ids.specs.inner.Survey.{insts_of}
 use Rattle.spv_ids.proofs.Leasts.{none_yet, least_no_use, least_sound, least_moved}
 use Rattle.spv_ids.proofs.survey.Survey.are_sound.Goals.{in-Some+else-not-is_use_sound, in_default}
 use Rattle.spv_ids.proofs.survey.Survey.are_sound.Goals as goal

@@ -1,6 +1,6 @@
 use Rattle.std.proofs.Common.{None}
-use Rattle.spv_ids.specs.Faulty.{HasBadUse, IsLeast}
-use Rattle.spv_ids.specs.Survey.{insts_of}
+use Rattle.spv_ids.specs.inner.Faulty.{HasBadUse, IsLeast}
+use Rattle.spv_ids.specs.inner.Survey.{insts_of}
 use Rattle.spv_ids.proofs.survey.Survey.are_sound.Given as goal
 
 abbrev pub invariant-loop-operand : goal.invariant-loop-operand

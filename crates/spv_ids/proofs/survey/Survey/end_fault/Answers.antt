@@ -1,10 +1,10 @@
 use Rattle.std.proofs.Common.{◌≡◌, ◌∙◌, ◌<◌, sym, length, map, arith, get_or}
 use Rattle.std.proofs.lemmas.List.{length-map}
 use Rattle.spv_module.specs.Module.{plain_inst, plain_operand}
-use Rattle.spv_ids.specs.Survey.{insts_of}
+use Rattle.spv_ids.specs.inner.Survey.{insts_of}
 use Rattle.spv_module.specs.declared.fault.Rule.TheVariants.{D1}
-use Rattle.spv_ids.specs.Uses.{AreSeen}
-use Rattle.spv_ids.specs.Faulty.{IsFaulty}
+use Rattle.spv_ids.specs.inner.Uses.{AreSeen}
+use Rattle.spv_ids.specs.inner.Faulty.{IsFaulty}
 use Rattle.spv_ids.proofs.Bools.{false_true, match_true, match_false}
 use Rattle.spv_ids.proofs.Defining.{inst_at, defined_here, defined_result, defined_within}
 use Rattle.spv_ids.proofs.Leasts.{has_moved}

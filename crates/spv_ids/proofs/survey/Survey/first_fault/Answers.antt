@@ -1,9 +1,9 @@
 use Rattle.std.proofs.Common.{◌≡◌, refl, sym, length, map, get_or}
 use Rattle.std.proofs.lemmas.List.{length-map}
 use Rattle.spv_module.specs.Module.{plain_inst, plain_operand}
-use Rattle.spv_ids.specs.Survey.{insts_of}
+use Rattle.spv_ids.specs.inner.Survey.{insts_of}
 use Rattle.std.specs.Prelude.{Some, None}
-use Rattle.spv_ids.specs.Uses.{AreSeen}
+use Rattle.spv_ids.specs.inner.Uses.{AreSeen}
 use Rattle.spv_ids.proofs.Leasts.{least_at}
 use Rattle.spv_ids.proofs.Broke.{clean_more, fault_here}
 use Rattle.spv_ids.proofs.Passing.{inst_of, clean_at}

@@ -1,7 +1,7 @@
 use Rattle.std.proofs.Common.{◌<◌, ◌≤◌, ◌-◌}
-use Rattle.spv_ids.specs.Known.{AreAnnounced, IsOpen}
-use Rattle.spv_ids.specs.Faulty.{AreClean}
-use Rattle.spv_ids.specs.Survey.{insts_of}
+use Rattle.spv_ids.specs.inner.Known.{AreAnnounced, IsOpen}
+use Rattle.spv_ids.specs.inner.Faulty.{AreClean}
+use Rattle.spv_ids.specs.inner.Survey.{insts_of}
 use Rattle.spv_ids.proofs.survey.Survey.first_fault.Given as goal
 
 abbrev pub invariant-loop-passed : goal.invariant-loop-passed

@@ -2,7 +2,7 @@ use Rattle.std.proofs.Common.{◌≡◌, ◌∙◌, sym, length, arith}
 use Rattle.std.proofs.lemmas.Option.{slice_get-get_or}
 use Rattle.spv_module.specs.declared.operand.Operand.TheVariants as code
 use Rattle.spv_module.specs.declared.fault.Rule.TheVariants.{D1}
-use Rattle.spv_ids.specs.Faulty.{IsBadUse}
+use Rattle.spv_ids.specs.inner.Faulty.{IsBadUse}
 use Rattle.spv_ids.proofs.Bools.{false_true}
 use Rattle.spv_ids.proofs.Leasts.{bad_at, no_range, no_range_no_use, has_moved, none_yet}
 use Rattle.spv_ids.proofs.survey.Survey.has_out_of_range.Goals.{in-Some+else-is_out_of_range, in_default}

@@ -1,5 +1,5 @@
 use Rattle.std.proofs.Common.{◌∙◌, sym}
-use Rattle.spv_ids.specs.Survey.{insts_of}
+use Rattle.spv_ids.specs.inner.Survey.{insts_of}
 use Rattle.spv_ids.proofs.Scopes.{lower_holds, order_by}
 use Rattle.spv_ids.proofs.survey.Survey.is_in_order.Goals as goal
 

@@ -1,4 +1,4 @@
-use Rattle.spv_ids.specs.Survey.{insts_of}
+use Rattle.spv_ids.specs.inner.Survey.{insts_of}
 use Rattle.spv_ids.proofs.Scopes.{if_first, if_later, scope_tells}
 use Rattle.spv_ids.proofs.survey.Survey.is_in_scope.Goals as goal
 

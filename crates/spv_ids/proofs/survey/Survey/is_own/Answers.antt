@@ -1,7 +1,7 @@
 use Rattle.std.proofs.Common.{◌<◌, ◌≤◌, length, arith}
 use Rattle.std.proofs.lemmas.List.{length-map}
 use Rattle.spv_module.specs.Module.{plain_inst}
-use Rattle.spv_ids.specs.Survey.{insts_of}
+use Rattle.spv_ids.specs.inner.Survey.{insts_of}
 use Rattle.spv_ids.proofs.Bools.{eq_tells}
 use Rattle.spv_ids.proofs.Scopes.{sound_nowhere, sound_here}
 use Rattle.spv_ids.proofs.survey.Survey.is_own.Goals as goal

@@ -1,5 +1,5 @@
 use Rattle.std.proofs.Common.{◌≡◌, arith}
-use Rattle.spv_ids.specs.Survey.{insts_of}
+use Rattle.spv_ids.specs.inner.Survey.{insts_of}
 use Rattle.spv_ids.proofs.Steps.{announced_nothing}
 use Rattle.spv_ids.proofs.Broke.{clean_more}
 use Rattle.spv_ids.proofs.Passing.{clean_moved, announced_moved, open_moved}

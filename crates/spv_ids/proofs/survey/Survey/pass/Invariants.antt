@@ -1,8 +1,8 @@
 use Rattle.std.proofs.Common.{◌<◌}
 use Rattle.spv_ids.specs.declared.notes.Notes.{Notes}
-use Rattle.spv_ids.specs.Known.{AreAnnounced, IsOpen}
-use Rattle.spv_ids.specs.Faulty.{AreClean}
-use Rattle.spv_ids.specs.Survey.{insts_of}
+use Rattle.spv_ids.specs.inner.Known.{AreAnnounced, IsOpen}
+use Rattle.spv_ids.specs.inner.Faulty.{AreClean}
+use Rattle.spv_ids.specs.inner.Survey.{insts_of}
 use Rattle.spv_ids.proofs.survey.Survey.pass.Given as goal
 
 abbrev pub invariant-loop-n : goal.invariant-loop-n

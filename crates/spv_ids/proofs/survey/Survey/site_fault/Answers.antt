@@ -1,6 +1,6 @@
 use Rattle.std.proofs.Common.{◌∙◌, sym}
-use Rattle.spv_ids.specs.Faulty.{IsBadUse}
-use Rattle.spv_ids.specs.Survey.{insts_of}
+use Rattle.spv_ids.specs.inner.Faulty.{IsBadUse}
+use Rattle.spv_ids.specs.inner.Survey.{insts_of}
 use Rattle.spv_ids.proofs.Bools.{false_true, match_true, match_false}
 use Rattle.spv_ids.proofs.Scopes.{least_range, least_undefined, least_order, least_scope, undefined_by, defined_by, no_bad}
 use Rattle.spv_ids.proofs.survey.Survey.site_fault.Goals as goal

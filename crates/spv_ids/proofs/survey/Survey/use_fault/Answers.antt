@@ -1,4 +1,4 @@
-use Rattle.spv_ids.specs.Survey.{insts_of}
+use Rattle.spv_ids.specs.inner.Survey.{insts_of}
 use Rattle.spv_ids.proofs.Scopes.{least_use_at}
 use Rattle.spv_ids.proofs.survey.Survey.use_fault.Goals as goal
 

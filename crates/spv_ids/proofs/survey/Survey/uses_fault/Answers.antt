@@ -1,7 +1,7 @@
 use Rattle.std.proofs.Common.{◌≡◌, ◌∙◌, sym, length, arith}
 use Rattle.std.proofs.lemmas.Option.{slice_get-get_or}
 use Rattle.spv_module.specs.declared.operand.Operand.TheVariants as code
-use Rattle.spv_ids.specs.Survey.{insts_of}
+use Rattle.spv_ids.specs.inner.Survey.{insts_of}
 use Rattle.spv_ids.proofs.Leasts.{none_yet, least_no_use, least_sound, least_earlier, least_moved, one_stages, least_stage}
 use Rattle.spv_ids.proofs.survey.Survey.uses_fault.Goals.{in-Some+in-Some-use_fault, in-Some+in_default-use_fault, in_default}
 use Rattle.spv_ids.proofs.survey.Survey.uses_fault.Goals as goal

@@ -1,5 +1,5 @@
-use Rattle.spv_ids.specs.Faulty.{HasBadUse, IsLeast}
-use Rattle.spv_ids.specs.Survey.{insts_of}
+use Rattle.spv_ids.specs.inner.Faulty.{HasBadUse, IsLeast}
+use Rattle.spv_ids.specs.inner.Survey.{insts_of}
 use Rattle.spv_ids.proofs.survey.Survey.uses_fault.Given as goal
 
 abbrev pub invariant-loop-operand : goal.invariant-loop-operand

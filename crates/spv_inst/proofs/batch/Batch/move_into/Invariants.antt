@@ -1,6 +1,6 @@
 use Rattle.std.proofs.Common.{◌≡◌, ◌++◌, take, map}
 use Rattle.spv_module.specs.Module.{plain_inst}
-use Rattle.spv_inst.specs.Batch.{head_inst}
+use Rattle.spv_inst.specs.inner.Batch.{head_inst}
 use Rattle.spv_inst.proofs.batch.Batch.move_into.Given as goal
 
 abbrev pub invariant-loop-head : goal.invariant-loop-head

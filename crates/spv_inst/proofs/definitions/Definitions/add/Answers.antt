@@ -1,7 +1,7 @@
-use Rattle.std.proofs.Common.{◌≡◌, None, Some}
+use Rattle.std.proofs.Common.{◌≡◌, None, Some, sym, refl}
 use Rattle.spv_module.specs.Operand.{result_in}
 use Rattle.spv_module.specs.Module.{plain_operands}
-use Rattle.spv_inst.proofs.Kept.{same_kept, more_kept, on_ok}
+use Rattle.spv_inst.proofs.Kept.{same_kept, more_kept, summary_is, on_ok}
 use Rattle.spv_inst.proofs.definitions.Definitions.add.Goals as goal
 
 pub returns-in_default-clause-knows : goal.returns-in_default-clause-knows
@@ -17,5 +17,6 @@ returns-clause-knows c =
     let n = c.in-Some.is in
     let e : result_in (plain_operands c.args.operands.now) ≡ Some c.in-Some.id = cc in
     on_ok c.put.result _ _
-    (λ p before k. more_kept c.args.self.now c.put.new.self before (record { opcode = c.args.opcode; operands = plain_operands c.args.operands.now }) c.in-Some.id c.type_in.result c.declared_width.result e c.type_in.ensures c.declared_width.ensures p k)
+    (λ p before k. more_kept c.args.self.now c.put.new.self before (record { opcode = c.args.opcode; operands = plain_operands c.args.operands.now }) c.in-Some.id _ e
+    (summary_is (record { opcode = c.args.opcode; operands = plain_operands c.args.operands.now }) c.args.opcode c.type_in.result c.declared_width.result refl (sym c.type_in.ensures) (sym c.declared_width.ensures)) p k)
     c.put.ensures.latest

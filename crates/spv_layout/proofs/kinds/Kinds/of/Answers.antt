@@ -5,7 +5,7 @@ use Rattle.spv_layout.specs.declared.form.Named.{Named}
 use Rattle.spv_layout.specs.declared.form.Named.TheVariants as kind_of
 use Rattle.spv_layout.specs.declared.kinds.Kinds.TheInside.{Inside}
 use Rattle.spv_layout.specs.Row.{name_of}
-use Rattle.spv_layout.specs.Kinds.{place_of, AreNumbered}
+use Rattle.spv_layout.specs.inner.Kinds.{place_of, AreNumbered}
 use Rattle.spv_layout.proofs.kinds.Kinds.of.Goals as goal
 
 by_kind : (k : Inside)

@@ -1,7 +1,7 @@
 use Rattle.std.proofs.Common.{◌≡◌, ◌∙◌, ◌+◌, ◌-◌, ◌<◌, ◌≤◌, sym, ap, refl, Some, length, arith, option_map}
 use Rattle.std.specs.Prelude.{slice_get}
 use Rattle.std.proofs.lemmas.Option.{slice_get_read, slice_get_past}
-use Rattle.spv_layout.specs.Kept.{late_place, late_places}
+use Rattle.spv_layout.specs.inner.Kept.{late_place, late_places}
 use Rattle.spv_layout.proofs.Keeping.{back_get, late_get}
 use Rattle.spv_layout.proofs.plan.Plan.at.Goals as goal
 

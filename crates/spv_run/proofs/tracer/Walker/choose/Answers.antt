@@ -1,6 +1,6 @@
 use Rattle.std.proofs.Common.{◌∙◌, refl, sym}
 use Rattle.spv_module.specs.Module.{plain_inst}
-use Rattle.spv_run.specs.Trace.{kept}
+use Rattle.spv_run.specs.inner.Trace.{kept}
 use Rattle.spv_run.proofs.Moving.{chosen_label}
 use Rattle.spv_run.proofs.Turns.{found, none_chosen, bad_chosen, good_chosen}
 use Rattle.spv_run.proofs.tracer.Walker.choose.Goals as goal

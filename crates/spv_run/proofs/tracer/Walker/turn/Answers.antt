@@ -1,7 +1,7 @@
 use Rattle.std.proofs.Common.{drop, reverse, arith, refl}
 use Rattle.spv_module.specs.Module.{plain_inst}
 use Rattle.spv_run.specs.Act.{act_of}
-use Rattle.spv_run.specs.Trace.{kept}
+use Rattle.spv_run.specs.inner.Trace.{kept}
 use Rattle.spv_run.proofs.Turns.{found, lost, turning, on_comes, branch_comes, choose_comes, call_comes, return_comes, unreachable_comes, on_turn, call_turn, return_turn, end_turn, none_left}
 use Rattle.spv_run.proofs.tracer.Walker.turn.Goals as goal
 

@@ -1,11 +1,8 @@
-use Rattle.std.proofs.Common.{refl, sym, subst, ◌∙◌, ◌<◌, ◌↔◌, false, length}
+use Rattle.std.proofs.Common.{refl, sym, subst, ◌∙◌, ◌↔◌, false}
 use Rattle.std.specs.Prelude.{IsTrue}
-use Rattle.std.proofs.lemmas.Option.{slice_get_within}
-use Rattle.spv_module.specs.Module.{plain_inst, plain_insts}
-use Rattle.spv_layout.specs.Plan.{IsPlan}
-use Rattle.spv_ids.specs.Outcome.{IsDefinitionOf, definition_in}
+use Rattle.spv_module.specs.Module.{plain_inst}
 use Rattle.spv_type_rules.specs.Repeat.{Repeats}
-use Rattle.spv_type_rules.specs.Rules.{IsFirstHere}
+use Rattle.spv_type_rules.specs.inner.Rules.{IsFirstHere}
 use Rattle.spv_ops.proofs.Judged.{told}
 use Rattle.spv_type_rules.proofs.Counting.{counted_at}
 use Rattle.spv_type_rules.proofs.Firsts.{op_told}

@@ -5,7 +5,7 @@ use Rattle.spv_module.specs.Operand.{type_in}
 use Rattle.spv_module.specs.Module.{plain_inst, plain_operands}
 use Rattle.spv_branches.specs.Ready.{IsLocalValue}
 use Rattle.spv_branches.proofs.Labelled.{inst_get}
-use Rattle.spv_walks.specs.Code.{insts_of}
+use Rattle.spv_walks.specs.inner.Code.{insts_of}
 use Rattle.spv_walks.proofs.Alone.{function_op}
 use Rattle.spv_walks.proofs.Coded.{value_here, value_inside, value_typed, value_not, by_type, by_order}
 use Rattle.spv_walks.proofs.code.Code.is_local.Goals as goal

@@ -1,7 +1,7 @@
 use Rattle.std.proofs.Common.{get_or}
 use Rattle.spv_module.specs.Module.{plain_inst}
 use Rattle.spv_branches.proofs.Labelled.{inst_get}
-use Rattle.spv_walks.specs.Code.{insts_of}
+use Rattle.spv_walks.specs.inner.Code.{insts_of}
 use Rattle.spv_walks.proofs.Coded.{label_here, label_not}
 use Rattle.spv_walks.proofs.code.Code.label_of.Goals as goal
 

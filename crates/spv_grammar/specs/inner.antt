@@ -1,0 +1,4 @@
+-- Definitions that serve the code alone.
+pub mod File
+pub mod FileLookups
+pub mod Made

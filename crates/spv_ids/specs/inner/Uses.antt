@@ -1,0 +1,52 @@
+-- The uses of an instruction that fits its row, by its operands alone. (For the code alone.)
+use Rattle.std.specs.Prelude.{◌≡◌, ◌<◌, ℕ, List, Option, Some, None, nat_eq, if◌then◌else◌, take}
+use Rattle.std.specs.Prelude.{slice_get}
+use Rattle.spv_module.specs.Operand.{Plain, PlainInst, OfType, Result, Id, result_in}
+
+-- the opcode of OpExtInst
+abbrev pub ext_inst : ℕ
+ext_inst = 12
+
+-- the operands that rules look at: of an OpExtInst those up to its number, of any other instruction all
+abbrev pub seen : PlainInst → List Plain
+seen i = if nat_eq i.opcode ext_inst then take 4 i.operands else i.operands
+
+-- the id that an operand uses
+abbrev pub used_id : Plain → Option ℕ
+used_id (OfType x) = Some x
+used_id (Id x) = Some x
+used_id o = None
+
+-- the result that an operand is, if it is one
+abbrev pub result_at : Option Plain → Option ℕ
+result_at (Some (Result x)) = Some x
+result_at o = None
+
+abbrev pub or_next : Option ℕ → Option ℕ → Option ℕ
+or_next (Some x) next = Some x
+or_next None next = next
+
+-- the first or second operand, if it is a result
+abbrev pub early_result : List Plain → Option ℕ
+early_result os = or_next (result_at (slice_get os 0)) (result_at (slice_get os 1))
+
+-- The result of each instruction is its first or second operand.
+pub record AreEarly (is : List PlainInst) : Type 0 where
+  pub result : (n : ℕ) (i : PlainInst) → slice_get is n ≡ Some i
+      → result_in i.operands ≡ early_result i.operands
+
+-- A use of the id by instruction n, among the first operands that rules look at.
+pub record IsUsedBefore (is : List PlainInst) (n to x : ℕ) : Type 0 where
+  pub inst : PlainInst
+  pub there : slice_get is n ≡ Some inst
+  pub place : ℕ
+  pub below : place < to
+  pub operand : Plain
+  pub operand_at : slice_get (seen inst) place ≡ Some operand
+  pub used : used_id operand ≡ Some x
+
+-- These are the operands of instruction n that rules look at.
+pub record AreSeen (is : List PlainInst) (n : ℕ) (operands : List Plain) : Type 0 where
+  pub inst : PlainInst
+  pub there : slice_get is n ≡ Some inst
+  pub same : operands ≡ seen inst

@@ -1,6 +1,0 @@
-use Rattle.std.proofs.Common.{◌≡◌}
-use Rattle.spv_inst.specs.Agenda.{parameters_from}
-use Rattle.spv_inst.proofs.agenda.parameters_at.Given as goal
-
-abbrev pub invariant-loop-position : goal.invariant-loop-position
-invariant-loop-position l = parameters_from l.table l.kind l.mask l.from ≡ parameters_from l.table l.kind l.mask l.position

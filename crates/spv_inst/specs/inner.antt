@@ -1,0 +1,10 @@
+-- Definitions that serve the code alone.
+pub mod Pending
+pub mod Batch
+pub mod Flat
+pub mod Form
+pub mod Known
+pub mod Reading
+pub mod Sofar
+pub mod Step
+pub mod Written

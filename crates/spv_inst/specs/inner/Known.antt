@@ -1,0 +1,33 @@
+-- What is kept of the instructions and operands before. (For the code alone.)
+use Rattle.std.specs.Prelude.{◌≡◌, ℕ, List, Option, Some, None, nat_eq, option_map, slice_index_or}
+use Rattle.std.specs.Ordering.{nat_cmp}
+use Rattle.std.specs.BTreeMap.{get}
+use Rattle.spv_inst.specs.declared.definitions.Definition.{Definition}
+use Rattle.spv_inst.specs.declared.definitions.Definitions.{Definitions}
+use Rattle.spv_inst.specs.declared.reader.Known.{Known}
+use Rattle.spv_module.specs.Operand.{PlainInst, Context, type_in}
+use Rattle.spv_module.specs.Width.{definition_of, declared_width, first_id}
+
+-- what is kept of a definition: its first result type, whether it is a float type (OpTypeFloat has opcode 22), and the
+-- width that it declares
+abbrev pub summary : PlainInst → Definition
+summary i = record { type_id = type_in i.operands; is_float = nat_eq i.opcode 22; width = declared_width i }
+
+-- what is kept of an id: what stands at its place in the list, or where nothing does, what the map has
+abbrev pub or_far : Option Definition → Option Definition → Option Definition
+or_far (Some d) other = Some d
+or_far None other = other
+
+abbrev pub kept : Definitions → ℕ → Option Definition
+kept d x = or_far (slice_index_or d.near.items x None) (get nat_cmp d.far x)
+
+-- For every id, what is kept is the summary of its last definition among the instructions before.
+pub record Knows (d : Definitions) (before : List PlainInst) : Type 0 where
+  pub latest : (x : ℕ) → kept d x ≡ option_map summary (definition_of before x)
+
+-- the definitions and what is known are those of a context
+pub record IsNear (d : Definitions) (known : Known) (c : Context) : Type 0 where
+  pub definitions : Knows d c.before
+  pub opcode : known.opcode ≡ c.opcode
+  pub type_id : known.type_id ≡ type_in c.operands
+  pub first : known.first ≡ first_id c.operands

@@ -1,0 +1,9 @@
+-- Definitions that serve the code alone.
+pub mod Kept
+pub mod Kinds
+pub mod Single
+pub mod Span
+pub mod State
+pub mod Test
+pub mod Row
+pub mod Shape

@@ -1,0 +1,5 @@
+-- Definitions that serve the code alone.
+pub mod Common
+pub mod Tests
+pub mod Typed
+pub mod Number

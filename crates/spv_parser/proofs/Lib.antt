@@ -1,0 +1,16 @@
+pub mod KindForms
+pub mod Begins
+pub mod Walks
+pub mod Taken
+pub mod Plainly
+pub mod Gathered
+pub mod Headed
+pub mod Cutting
+pub mod Patterns
+pub mod LineRead
+pub mod ShownBack
+pub mod Imaged
+pub mod Opening
+pub mod Celled
+pub mod Quick
+pub mod Namely

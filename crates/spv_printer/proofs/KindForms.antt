@@ -1,0 +1,175 @@
+-- What the form of a kind tells of the operand that it takes: the parameters that are due behind it, and the type of a number.
+use Rattle.std.proofs.Common.{◌≡◌, ℕ, List, [], Option, Some, None, Bool, true, false, ◌&&◌, ◌||◌, nat_eq, cond, map, option_and_then, refl, sym, ap}
+use Rattle.std.specs.Prelude.{bytes_eq, codes, unwrap_or, if◌then◌else◌}
+use Rattle.std.proofs.lemmas.Slice.Eq.{bytes_eq-Decides}
+use Rattle.spv_table.specs.declared.table.Enumerant.{Enumerant}
+use Rattle.spv_table.specs.declared.table.Category.{Category}
+use Rattle.spv_table.specs.declared.table.Category.TheVariants as category
+use Rattle.spv_table.specs.Table.{Table, Sort, kind_of}
+use Rattle.spv_inst.specs.declared.form.Leaf as declared
+use Rattle.spv_inst.specs.declared.form.Leaf.TheVariants as leaf
+use Rattle.spv_inst.specs.declared.form.Form.TheVariants.{Leaf}
+use Rattle.spv_inst.specs.inner.Form.{form_at, category_form}
+use Rattle.spv_module.specs.Operand.{Plain, Number, Context, type_in}
+use Rattle.spv_module.specs.Shape.{Slot, alone, Shape, AsNumber, AsWord, AsValue, AsMask, shape_of}
+use Rattle.spv_module.specs.Width.{context_width, switch_width, type_of, first_id}
+use Rattle.spv_module.specs.Spelling.{Takes, parameters_of, mask_parameters}
+use Rattle.spv_inst.specs.Reading.{enumerants_at}
+use Rattle.spv_inst.specs.inner.Pending.{opened_kinds}
+use Rattle.spv_inst.proofs.Shapes.{leaf_shape, shape_leaf}
+use Rattle.spv_inst.proofs.Masks.{whole_mask}
+use Rattle.spv_lines.specs.Operand.{number_type}
+
+no_value : (b : Bool) (w : Option ℕ) (es : List Enumerant) → (if b then AsNumber w else AsWord) ≡ AsValue es → ⊥
+no_value true w es h = cc
+no_value false w es h = cc
+
+no_mask : (b : Bool) (w : Option ℕ) (es : List Enumerant) → (if b then AsNumber w else AsWord) ≡ AsMask es → ⊥
+no_mask true w es h = cc
+no_mask false w es h = cc
+
+value_of : (c : Context) (p : Bool) (es fs : List Enumerant) (l : declared.Leaf) → AsValue fs ≡ leaf_shape c p es l → fs ≡ es
+value_of c p es fs leaf.ResultType h = cc
+value_of c p es fs leaf.Result h = cc
+value_of c p es fs leaf.Id h = cc
+value_of c p es fs leaf.Integer h = absurd (no_value (p && nat_eq c.opcode 251) (switch_width c) fs (sym h))
+value_of c p es fs leaf.Word h = cc
+value_of c p es fs leaf.ContextNumber h = cc
+value_of c p es fs leaf.Text h = cc
+value_of c p es fs leaf.Value h = cc
+value_of c p es fs leaf.Mask h = cc
+value_of c p es fs leaf.Nothing h = cc
+
+mask_of : (c : Context) (p : Bool) (es fs : List Enumerant) (l : declared.Leaf) → AsMask fs ≡ leaf_shape c p es l → fs ≡ es
+mask_of c p es fs leaf.ResultType h = cc
+mask_of c p es fs leaf.Result h = cc
+mask_of c p es fs leaf.Id h = cc
+mask_of c p es fs leaf.Integer h = absurd (no_mask (p && nat_eq c.opcode 251) (switch_width c) fs (sym h))
+mask_of c p es fs leaf.Word h = cc
+mask_of c p es fs leaf.ContextNumber h = cc
+mask_of c p es fs leaf.Text h = cc
+mask_of c p es fs leaf.Value h = cc
+mask_of c p es fs leaf.Mask h = cc
+mask_of c p es fs leaf.Nothing h = cc
+
+opened_by : (G : Table) (k : ℕ) (c : Context) (p : Bool) (l : declared.Leaf) (sh : Shape) (o : Plain) (ws : List ℕ) (ss : List Slot) → Takes k sh o ws ss
+    → sh ≡ leaf_shape c p (enumerants_at (kind_of G k)) l → ss ≡ map alone (opened_kinds G o)
+opened_by G k c p l _ _ _ _ (Takes.result_type x) e = refl
+opened_by G k c p l _ _ _ _ (Takes.result x) e = refl
+opened_by G k c p l _ _ _ _ (Takes.id x) e = refl
+opened_by G k c p l _ _ _ _ (Takes.word x) e = refl
+opened_by G k c p l _ _ _ _ (Takes.narrow w x h) e = refl
+opened_by G k c p l _ _ _ _ (Takes.wide w x y h) e = refl
+opened_by G k c p l _ _ _ _ (Takes.text t ws d h z u) e = refl
+opened_by G k c p l _ _ _ _ (Takes.value es x ks h) e =
+    let f = value_of c p (enumerants_at (kind_of G k)) es l e in
+    let g : parameters_of (enumerants_at (kind_of G k)) x ≡ Some ks = rw f at h in
+    sym (ap (λ q. map alone (unwrap_or q [])) g)
+opened_by G k c p l _ _ _ _ (Takes.mask es x ks h) e =
+    let f = mask_of c p (enumerants_at (kind_of G k)) es l e in
+    let g : mask_parameters (enumerants_at (kind_of G k)) x ≡ Some ks = rw f at h in
+    sym (ap (map alone) (whole_mask G k x ks g))
+
+-- the parameters that are due behind an operand are those that it opens
+pub slots_opened : (G : Table) (c : Context) (s : Slot) (l : declared.Leaf) (o : Plain) (ws : List ℕ) (ss : List Slot) → form_at (kind_of G s.kind) ≡ Leaf l
+    → Takes s.kind (shape_of G c s) o ws ss → ss ≡ map alone (opened_kinds G o)
+slots_opened G c s l o ws ss e t = opened_by G s.kind c s.paired l (shape_of G c s) o ws ss t (shape_leaf G c s l l e refl)
+
+-- the width of a number that is taken is known: that of the instruction's type, or in OpSwitch that of the selector
+pub data Wide (c : Context) (l : declared.Leaf) : Type 0 where
+  context : (w : ℕ) → l ≡ leaf.ContextNumber → context_width c ≡ Some w → Wide c l
+  switch : (w : ℕ) → l ≡ leaf.Integer → switch_width c ≡ Some w → Wide c l
+
+integer_wide : (c : Context) (w : ℕ) (b : Bool) → (if b then AsNumber (switch_width c) else AsWord) ≡ AsNumber (Some w) → switch_width c ≡ Some w
+integer_wide c w true h = cc
+integer_wide c w false h = cc
+
+wide_of : (c : Context) (p : Bool) (es : List Enumerant) (l : declared.Leaf) (w : ℕ) → leaf_shape c p es l ≡ AsNumber (Some w) → Wide c l
+wide_of c p es leaf.ResultType w h = cc
+wide_of c p es leaf.Result w h = cc
+wide_of c p es leaf.Id w h = cc
+wide_of c p es leaf.Integer w h = Wide.switch w refl (integer_wide c w (p && nat_eq c.opcode 251) h)
+wide_of c p es leaf.Word w h = cc
+wide_of c p es leaf.ContextNumber w h = Wide.context w refl (let e : context_width c ≡ Some w = cc in e)
+wide_of c p es leaf.Text w h = cc
+wide_of c p es leaf.Value w h = cc
+wide_of c p es leaf.Mask w h = cc
+wide_of c p es leaf.Nothing w h = cc
+
+wide_by : (k : ℕ) (c : Context) (p : Bool) (es : List Enumerant) (l : declared.Leaf) (sh : Shape) (o : Plain) (ws : List ℕ) (ss : List Slot) (a b n : ℕ) → Takes k sh o ws ss
+    → o ≡ Number a b n → sh ≡ leaf_shape c p es l → Wide c l
+wide_by k c p es l _ _ _ _ a b n (Takes.result_type x) e f = cc
+wide_by k c p es l _ _ _ _ a b n (Takes.result x) e f = cc
+wide_by k c p es l _ _ _ _ a b n (Takes.id x) e f = cc
+wide_by k c p es l _ _ _ _ a b n (Takes.word x) e f = cc
+wide_by k c p es l _ _ _ _ a b n (Takes.narrow w x h) e f = wide_of c p es l w (sym f)
+wide_by k c p es l _ _ _ _ a b n (Takes.wide w x y h) e f = wide_of c p es l w (sym f)
+wide_by k c p es l _ _ _ _ a b n (Takes.text t ws d h z u) e f = cc
+wide_by k c p es l _ _ _ _ a b n (Takes.value fs x ks h) e f = cc
+wide_by k c p es l _ _ _ _ a b n (Takes.mask fs x ks h) e f = cc
+
+pub number_wide : (G : Table) (c : Context) (s : Slot) (l : declared.Leaf) (a b n : ℕ) (ws : List ℕ) (ss : List Slot) → form_at (kind_of G s.kind) ≡ Leaf l
+    → Takes s.kind (shape_of G c s) (Number a b n) ws ss → Wide c l
+number_wide G c s l a b n ws ss e t = wide_by s.kind c s.paired (enumerants_at (kind_of G s.kind)) l (shape_of G c s) (Number a b n) ws ss a b n t refl (shape_leaf G c s l l e refl)
+
+-- the name that a form tells
+id_no_context : (a b : Bool) → cond a leaf.ResultType (cond b leaf.Result leaf.Id) ≡ leaf.ContextNumber → ⊥
+id_no_context true b h = cc
+id_no_context false true h = cc
+id_no_context false false h = cc
+
+id_no_integer : (a b : Bool) → cond a leaf.ResultType (cond b leaf.Result leaf.Id) ≡ leaf.Integer → ⊥
+id_no_integer true b h = cc
+id_no_integer false true h = cc
+id_no_integer false false h = cc
+
+literal_context : (a b d e : Bool) → cond a leaf.Integer (cond b leaf.Word (cond d leaf.Text (cond e leaf.ContextNumber leaf.Nothing))) ≡ leaf.ContextNumber → e ≡ true
+literal_context true b d e h = cc
+literal_context false true d e h = cc
+literal_context false false true e h = cc
+literal_context false false false true h = refl
+literal_context false false false false h = cc
+
+literal_integer : (a b d e : Bool) → cond a leaf.Integer (cond b leaf.Word (cond d leaf.Text (cond e leaf.ContextNumber leaf.Nothing))) ≡ leaf.Integer → a ≡ true
+literal_integer true b d e h = refl
+literal_integer false true d e h = cc
+literal_integer false false true e h = cc
+literal_integer false false false true h = cc
+literal_integer false false false false h = cc
+
+leaf_same : (a b : declared.Leaf) → Leaf a ≡ Leaf b → a ≡ b
+leaf_same a b h = cc
+
+context_name : (s : Sort) (cat : Category) → category_form s.kind.name cat ≡ Leaf leaf.ContextNumber → bytes_eq s.kind.name (codes "LiteralContextDependentNumber") ≡ true
+context_name s category.Id h = absurd (id_no_context (bytes_eq s.kind.name (codes "IdResultType")) (bytes_eq s.kind.name (codes "IdResult")) (leaf_same _ _ h))
+context_name s category.Literal h =
+    literal_context (bytes_eq s.kind.name (codes "LiteralInteger")) (bytes_eq s.kind.name (codes "LiteralFloat") || bytes_eq s.kind.name (codes "LiteralExtInstInteger"))
+    (bytes_eq s.kind.name (codes "LiteralString")) (bytes_eq s.kind.name (codes "LiteralContextDependentNumber")) (leaf_same _ _ h)
+context_name s category.ValueEnum h = cc
+context_name s category.BitEnum h = cc
+context_name s category.Composite h = cc
+
+integer_name : (s : Sort) (cat : Category) → category_form s.kind.name cat ≡ Leaf leaf.Integer → bytes_eq s.kind.name (codes "LiteralInteger") ≡ true
+integer_name s category.Id h = absurd (id_no_integer (bytes_eq s.kind.name (codes "IdResultType")) (bytes_eq s.kind.name (codes "IdResult")) (leaf_same _ _ h))
+integer_name s category.Literal h =
+    literal_integer (bytes_eq s.kind.name (codes "LiteralInteger")) (bytes_eq s.kind.name (codes "LiteralFloat") || bytes_eq s.kind.name (codes "LiteralExtInstInteger"))
+    (bytes_eq s.kind.name (codes "LiteralString")) (bytes_eq s.kind.name (codes "LiteralContextDependentNumber")) (leaf_same _ _ h)
+integer_name s category.ValueEnum h = cc
+integer_name s category.BitEnum h = cc
+integer_name s category.Composite h = cc
+
+pub type_by_context : (c : Context) (o : Option Sort) → form_at o ≡ Leaf leaf.ContextNumber → number_type c o ≡ type_in c.operands
+type_by_context c None e = cc
+type_by_context c (Some s) e = let f = context_name s s.kind.category e in rw f refl
+
+other_name : (t : List ℕ) → t ≡ codes "LiteralInteger" → bytes_eq t (codes "LiteralContextDependentNumber") ≡ false
+other_name t e = rw e refl
+
+same_by : (t u : List ℕ) → bytes_eq t u ≡ true → t ≡ u
+same_by t u e = (bytes_eq-Decides t u).0 e
+
+pub type_by_switch : (c : Context) (o : Option Sort) → form_at o ≡ Leaf leaf.Integer → number_type c o ≡ option_and_then (type_of c.before) (first_id c.operands)
+type_by_switch c None e = cc
+type_by_switch c (Some s) e =
+    let f = other_name s.kind.name (same_by s.kind.name (codes "LiteralInteger") (integer_name s s.kind.category e)) in
+    rw f refl

@@ -1,0 +1,16 @@
+pub mod KindForms
+pub mod Steps
+pub mod Escapes
+pub mod HexDigits
+pub mod Alike
+pub mod BitNames
+pub mod Digits
+pub mod Operands
+pub mod Texts
+pub mod Pieces
+pub mod Drafts
+pub mod Shorts
+pub mod OneBit
+pub mod Labels
+pub mod ImageLines
+pub mod Places

@@ -1,0 +1,18 @@
+//! The text of a module, by a grammar table.
+#![tactic(auto)]
+
+mod buffer;
+mod fast_line;
+mod fast_operand;
+mod fast_text;
+mod image;
+mod name;
+mod names;
+mod number;
+mod operand;
+mod printer;
+mod quoted;
+mod shown;
+
+pub use image::show_image;
+pub use shown::{show, show_listed};

@@ -1,5 +1,0 @@
-use Rattle.spv_text.proofs.Imaged.{one_image}
-use Rattle.spv_text.proofs.laws.one_assembling.Goals as goal
-
-pub returns : goal.returns
-returns c = one_image

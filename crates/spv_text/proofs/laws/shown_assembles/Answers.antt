@@ -1,8 +1,0 @@
-use Rattle.spv_text.proofs.ShownBack.{image_back, only_memory}
-use Rattle.spv_text.proofs.laws.shown_assembles.Goals as goal
-
-pub returns-clause-image : goal.returns-clause-image
-returns-clause-image c = image_back
-
-pub returns-clause-error : goal.returns-clause-error
-returns-clause-error c = only_memory

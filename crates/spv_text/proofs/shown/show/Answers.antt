@@ -1,4 +1,0 @@
-use Rattle.spv_text.proofs.shown.show.Goals as goal
-
-pub show_listed-requires : goal.show_listed-requires
-show_listed-requires c = (_, c.in_ok-image.ensures.spelled)

@@ -1,0 +1,5 @@
+pub mod Walks
+pub mod Choices
+pub mod TagTests
+pub mod Lookups
+pub mod Worked

@@ -1,0 +1,9 @@
+pub mod Form
+pub mod Types
+pub mod Operands
+pub mod Parts
+pub mod Reach
+pub mod Values
+pub mod Definitions
+pub mod Example
+pub mod inner

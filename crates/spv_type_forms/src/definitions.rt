@@ -1,0 +1,217 @@
+//! What the ids of a module stand for.
+
+ghost use Rattle.std.specs.Prelude.{◌≡◌, ◌↔◌, ◌<◌, ℕ, IsTrue, Some, length, map, option_map};
+ghost use Rattle.std.specs.Prelude.{slice_get};
+ghost use Rattle.spv_table.specs.Table.{Table};
+ghost use Rattle.spv_module.specs.Width as width;
+ghost use Rattle.spv_module.specs.Width.{definition_of};
+ghost use Rattle.spv_module.specs.Module.{plain_inst, plain_insts, plain_operands};
+ghost use Rattle.spv_module.specs.Operand as operand;
+ghost use Rattle.spv_layout.specs.Plan.{IsPlan, IsPlaceOf};
+ghost use Rattle.spv_ids.specs.Outcome.{IsDefinitionOf, IsOnly, definition_in};
+ghost use Rattle.spv_type_forms.specs.Form.{form_of};
+ghost use Rattle.spv_type_forms.specs.Types.{scalar_in, components_of, pointee_in};
+ghost use Rattle.spv_type_forms.specs.Definitions as definitions;
+ghost use Rattle.spv_type_forms.specs.Definitions.{IsConstant, IsGlobal};
+
+use crate::form::{Components, Form, Scalar, form_in};
+use spv_ids::Ids;
+use spv_layout::{Place, Plan};
+use spv_module::{Inst, Module, Operand};
+use std::marker::Model;
+
+/// The opcode of OpVariable.
+const VARIABLE: u16 = 59;
+
+/// The number of section 9 among the sections.
+pub const DECLARATIONS: u8 = 11;
+
+/// The instructions of a module, where each stands, and which of them defines each id. Contracts see the instructions.
+#[derive(Drop)]
+pub struct Definitions<'m, 'a> {
+    insts: &'m [Inst<'a>],
+    plan: &'m Plan,
+    ids: &'m Ids,
+}
+
+impl<'m, 'a> Model for Definitions<'m, 'a> {
+    ghost use Rattle.std.specs.Prelude.{List, map};
+    ghost use Rattle.spv_module.specs.Operand.{PlainInst};
+    ghost use Rattle.spv_module.specs.Module.{plain_inst};
+    ghost use Rattle.spv_type_forms.specs.inner.Found.{AreFound};
+
+    ghost Value = { List PlainInst };
+
+    ghost view = { λ d. map plain_inst d.insts.now };
+
+    ghost invariant = { λ d. AreFound (map plain_inst d.insts.now) d.plan.now d.ids.now };
+}
+
+impl<'m, 'a> Definitions<'m, 'a> {
+    /// The definitions of a module that is laid out and whose ids are numbered.
+    #[inline(always)]
+    pub fn new(insts: &'m [Inst<'a>], plan: &'m Plan, ids: &'m Ids) -> Definitions<'m, 'a>
+        requires plan { (G : Table) × IsPlan G (map plain_inst insts.now) plan.now }
+        requires ids { (x : ℕ) → IsDefinitionOf (map plain_inst insts.now) x (definition_in ids.now x) }
+        ensures { result ≡ map plain_inst insts.now }
+    {
+        Definitions { insts, plan, ids }
+    }
+
+    /// The instruction of a number.
+    #[inline(always)]
+    pub fn inst(&self, number: u32) -> &'m Inst<'a>
+        requires { number < length self.now }
+        ensures { slice_get self.now number ≡ Some (plain_inst result.now) }
+    {
+        &self.insts[number as usize]
+    }
+
+    /// Where the instruction of a number stands.
+    #[inline(always)]
+    pub fn place(&self, number: u32) -> Place
+        requires { number < length self.now }
+        ensures { IsPlaceOf self.now number result }
+    {
+        let Some(place) = self.plan.at(number) else {
+            unreachable!();
+        };
+        place
+    }
+
+    /// The definition of an id: the instruction whose result it is.
+    #[inline(always)]
+    pub fn definition(&self, id: u32) -> Option<&'m Inst<'a>>
+        ensures { option_map (λ i. plain_inst i.now) result ≡ definition_of self.now id }
+    {
+        let number = self.ids.definition(id)?;
+        self.insts.get(number as usize)
+    }
+
+    /// Whether the instruction of a number is an OpVariable of section 9.
+    fn is_global_at(&self, number: u32) -> bool
+        requires { number < length self.now }
+        ensures { (x : ℕ) → IsOnly self.now x number → IsTrue result ↔ IsGlobal self.now x }
+    {
+        is_global_variable(self.inst(number), self.place(number))
+    }
+
+    /// Whether the definition of an id is an OpVariable of section 9.
+    pub fn is_global(&self, id: u32) -> bool
+        ensures { IsTrue result ↔ IsGlobal self.now id }
+    {
+        match self.ids.definition(id) {
+            Some(number) => self.is_global_at(number),
+            None => false,
+        }
+    }
+
+    /// What a type id declares. It is for where it is asked for at most instructions: `form` is the same.
+    #[inline(always)]
+    pub fn read_form(&self, id: u32) -> Option<Form>
+        ensures { result ≡ form_of self.now id }
+    {
+        form_in(self.definition(id)?)
+    }
+
+    /// What a type id declares.
+    pub fn form(&self, id: u32) -> Option<Form>
+        ensures { result ≡ form_of self.now id }
+    {
+        self.read_form(id)
+    }
+
+    /// The scalar type that an id declares.
+    fn scalar(&self, id: u32) -> Option<Scalar>
+        ensures { result ≡ scalar_in (form_of self.now id) }
+    {
+        match self.form(id)? {
+            Form::Scalar(scalar) => Some(scalar),
+            _ => None,
+        }
+    }
+
+    /// The components of a scalar or vector type.
+    pub fn components(&self, id: u32) -> Option<Components>
+        ensures { result ≡ components_of self.now id }
+    {
+        match self.form(id)? {
+            Form::Scalar(scalar) => Some(Components { scalar, count: 1 }),
+            Form::Vector { component, count } => {
+                let scalar = self.scalar(component)?;
+                Some(Components { scalar, count })
+            }
+            _ => None,
+        }
+    }
+
+    /// The type that a pointer type points to.
+    pub fn pointee(&self, id: u32) -> Option<u32>
+        ensures { result ≡ pointee_in (form_of self.now id) }
+    {
+        match self.form(id)? {
+            Form::Pointer { pointee, .. } => Some(pointee),
+            _ => None,
+        }
+    }
+
+    /// The type that an id is declared with: the `Type` of its definition.
+    #[inline(always)]
+    pub fn type_of(&self, id: u32) -> Option<u32>
+        ensures { result ≡ width.type_of self.now id }
+    {
+        let inst = self.definition(id)?;
+        type_in(inst.operands.as_slice())
+    }
+}
+
+/// Whether an instruction is an OpVariable, and its place of section 9.
+fn is_global_variable(inst: &Inst<'_>, place: Place) -> bool
+    ensures { IsTrue result ↔ (((plain_inst inst.now).opcode ≡ 59) × (place.section ≡ 11)) }
+{
+    inst.opcode == VARIABLE && place.section == DECLARATIONS
+}
+
+/// Whether an opcode is that of a constant.
+pub fn is_constant_opcode(opcode: u16) -> bool
+    ensures { result ≡ definitions.is_constant_opcode opcode }
+{
+    match opcode {
+        41..=44 | 46 | 48..=51 => true,
+        _ => false,
+    }
+}
+
+/// Whether the definition of an id is a constant.
+pub fn is_constant(definitions: &Definitions, x: u32) -> bool
+    ensures { IsTrue result ↔ IsConstant definitions.now x }
+{
+    match definitions.definition(x) {
+        Some(inst) => is_constant_opcode(inst.opcode),
+        None => false,
+    }
+}
+
+/// The first `Type` of the operands.
+#[inline(always)]
+pub fn type_in(operands: &[Operand]) -> Option<u32>
+    ensures { result ≡ operand.type_in (plain_operands operands.now) }
+{
+    match operands {
+        [Operand::OfType(id), ..] => Some(*id),
+        _ => type_among(operands),
+    }
+}
+
+/// The first `Type` of the operands, wherever it stands.
+#[inline(never)]
+fn type_among(operands: &[Operand]) -> Option<u32>
+    ensures { result ≡ operand.type_in (plain_operands operands.now) }
+{
+    for operand in operands {
+        if let Operand::OfType(id) = operand {
+            return Some(*id);
+        }
+    }
+    None
+}

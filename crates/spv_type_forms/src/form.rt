@@ -1,0 +1,160 @@
+ghost use Rattle.std.specs.Prelude.{◌≡◌, ◌↔◌, IsTrue};
+ghost use Rattle.spv_module.specs.Module.{plain_inst, plain_operands};
+ghost use Rattle.spv_type_forms.specs.Form as spec;
+ghost use Rattle.spv_type_forms.specs.Types.{sort_of};
+
+use spv_module::{Inst, Operand};
+
+/// A scalar type (SPIR-V Specification 1.6, section 2.2.2). Ints and floats have a width in bits.
+#[derive(Clone, Copy, PartialEq, Eq)]
+pub enum Scalar {
+    Int(u32),
+    Float(u32),
+    Bool,
+}
+
+/// What a type declaration declares (SPIR-V Specification 1.6, section 3.49.6). Other types are named by their ids. The
+/// members of a struct, and what a function type returns and takes, are read from the declaration.
+#[derive(Clone, Copy, PartialEq, Eq)]
+pub enum Form {
+    Void,
+    Scalar(Scalar),
+    Vector { component: u32, count: u32 },
+    /// `length` is the id of a constant.
+    Array { element: u32, length: u32 },
+    Struct,
+    Opaque,
+    /// `class` is the number of the storage class.
+    Pointer { class: u32, pointee: u32 },
+    Function,
+}
+
+/// What the operands of OpTypeInt declare.
+#[inline(always)]
+fn int_in(operands: &[Operand]) -> Option<Form>
+    ensures { result ≡ spec.int_in (plain_operands operands.now) }
+{
+    match operands {
+        [Operand::Result(_), Operand::Word(width), ..] => Some(Form::Scalar(Scalar::Int(*width))),
+        _ => None,
+    }
+}
+
+/// What the operands of OpTypeFloat declare.
+#[inline(always)]
+fn float_in(operands: &[Operand]) -> Option<Form>
+    ensures { result ≡ spec.float_in (plain_operands operands.now) }
+{
+    match operands {
+        [Operand::Result(_), Operand::Word(width), ..] => Some(Form::Scalar(Scalar::Float(*width))),
+        _ => None,
+    }
+}
+
+/// What the operands of OpTypeVector declare.
+#[inline(always)]
+fn vector_in(operands: &[Operand]) -> Option<Form>
+    ensures { result ≡ spec.vector_in (plain_operands operands.now) }
+{
+    match operands {
+        [
+            Operand::Result(_),
+            Operand::Id(component),
+            Operand::Word(count),
+            ..
+        ] => Some(Form::Vector {
+            component: *component,
+            count: *count,
+        }),
+        _ => None,
+    }
+}
+
+/// What the operands of OpTypeArray declare.
+#[inline(always)]
+fn array_in(operands: &[Operand]) -> Option<Form>
+    ensures { result ≡ spec.array_in (plain_operands operands.now) }
+{
+    match operands {
+        [
+            Operand::Result(_),
+            Operand::Id(element),
+            Operand::Id(length),
+            ..
+        ] => Some(Form::Array {
+            element: *element,
+            length: *length,
+        }),
+        _ => None,
+    }
+}
+
+/// What the operands of OpTypePointer declare.
+#[inline(always)]
+fn pointer_in(operands: &[Operand]) -> Option<Form>
+    ensures { result ≡ spec.pointer_in (plain_operands operands.now) }
+{
+    match operands {
+        [
+            Operand::Result(_),
+            Operand::Value { value, .. },
+            Operand::Id(pointee),
+            ..
+        ] => Some(Form::Pointer {
+            class: *value,
+            pointee: *pointee,
+        }),
+        _ => None,
+    }
+}
+
+/// What an instruction declares, if it is a type declaration.
+#[inline(always)]
+pub fn form_in(inst: &Inst) -> Option<Form>
+    ensures { result ≡ spec.form_in (plain_inst inst.now) }
+{
+    let operands = inst.operands.as_slice();
+    match inst.opcode {
+        19 => Some(Form::Void),
+        20 => Some(Form::Scalar(Scalar::Bool)),
+        21 => int_in(operands),
+        22 => float_in(operands),
+        23 => vector_in(operands),
+        28 => array_in(operands),
+        30 => Some(Form::Struct),
+        31 => Some(Form::Opaque),
+        32 => pointer_in(operands),
+        33 => Some(Form::Function),
+        _ => None,
+    }
+}
+
+/// What a scalar type is, whatever its width.
+#[derive(Clone, Copy, PartialEq, Eq)]
+pub enum Sort {
+    Int,
+    Float,
+    Bool,
+}
+
+/// A scalar type, or a vector of it: so many components. A scalar has one.
+#[derive(Clone, Copy, PartialEq, Eq)]
+pub struct Components {
+    pub scalar: Scalar,
+    pub count: u32,
+}
+
+impl Scalar {
+    /// Whether it is an int, a float or a bool, whatever its width.
+    #[inline(always)]
+    pub fn is_of(self, sort: Sort) -> bool
+        ensures { IsTrue result ↔ (sort_of self ≡ sort) }
+    {
+        match (self, sort) {
+            (Scalar::Int(_), Sort::Int) => true,
+            (Scalar::Float(_), Sort::Float) => true,
+            (Scalar::Bool, Sort::Bool) => true,
+            _ => false,
+        }
+    }
+}

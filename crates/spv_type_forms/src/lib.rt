@@ -1,0 +1,21 @@
+//! What the type ids of a module declare, the parts of these types, and the types that ids are declared with.
+#![tactic(auto)]
+
+mod definitions;
+mod form;
+mod gathering;
+mod laws;
+mod operands;
+mod parts;
+mod reach;
+mod several;
+mod types;
+
+pub use definitions::{DECLARATIONS, Definitions, is_constant, is_constant_opcode, type_in};
+pub use form::{Components, Form, Scalar, Sort, form_in};
+pub use gathering::{MOST, gather};
+pub use operands::{after_head, after_result, has_words, id_count, result_type, word_count};
+pub use parts::{Parts, count, length, parts_of};
+pub use reach::{leads, reaches};
+pub use several::{all_ints, all_pairs_of_type, all_pointees, fills, is_typed, stands_for_int};
+pub use types::{has_sort, is_data, is_int, is_number, points_to};

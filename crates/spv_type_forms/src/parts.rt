@@ -1,0 +1,184 @@
+ghost use Rattle.std.specs.Prelude.{◌≡◌, Some, None, option_map, ℕ};
+ghost use Rattle.spv_module.specs.Module.{plain_operands};
+ghost use Rattle.spv_type_forms.specs.Parts as spec;
+ghost use Rattle.spv_type_forms.specs.Parts.{constant_of, length_of, members_of, member_of, part_of, count_of};
+ghost use Rattle.spv_type_forms.specs.inner.Parts.{inner_part_of, part_among};
+ghost use Rattle.spv_type_forms.specs.Operands.{words_in, ids_in};
+ghost use Rattle.spv_type_forms.specs.inner.Walk.{walk, choice, choices};
+
+use crate::definitions::Definitions;
+use crate::form::Form;
+use crate::operands::after_result;
+use spv_module::Operand;
+
+/// The number of a constant: 64 bits, the low word first.
+fn number_in(operands: &[Operand]) -> Option<u64>
+    ensures { result ≡ spec.number_in (plain_operands operands.now) }
+{
+    match operands {
+        [
+            Operand::OfType(_),
+            Operand::Result(_),
+            Operand::Number { low, high, .. },
+            ..
+        ] => { Some(u64::from(*low) + 4_294_967_296 * u64::from(*high)) }
+        _ => None,
+    }
+}
+
+/// The number of an OpConstant.
+pub fn constant(definitions: &Definitions, id: u32) -> Option<u64>
+    ensures { result ≡ constant_of definitions.now id }
+{
+    let inst = definitions.definition(id)?;
+    match inst.opcode {
+        43 => number_in(inst.operands.as_slice()),
+        _ => None,
+    }
+}
+
+/// The number of an OpConstant or OpSpecConstant.
+pub fn length(definitions: &Definitions, id: u32) -> Option<u64>
+    ensures { result ≡ length_of definitions.now id }
+{
+    let inst = definitions.definition(id)?;
+    match inst.opcode {
+        43 | 50 => number_in(inst.operands.as_slice()),
+        _ => None,
+    }
+}
+
+/// The members of a struct type.
+fn members<'m, 'a>(definitions: &Definitions<'m, 'a>, t: u32) -> Option<&'m [Operand<'a>]>
+    ensures { option_map (λ ms. plain_operands ms.now) result ≡ members_of definitions.now t }
+{
+    Some(after_result(definitions.definition(t)?.operands.as_slice()))
+}
+
+/// The type of a member of a struct type.
+fn member(definitions: &Definitions, t: u32, k: u64) -> Option<u32>
+    ensures { result ≡ member_of definitions.now t k }
+{
+    match members(definitions, t)?.get(k as usize)? {
+        Operand::Id(x) => Some(*x),
+        _ => None,
+    }
+}
+
+/// The type of a part: a vector's component type, an array's element type, or that of a struct's member.
+pub fn part(definitions: &Definitions, t: u32, k: u64) -> Option<u32>
+    ensures { result ≡ part_of definitions.now t k }
+{
+    match definitions.form(t)? {
+        Form::Vector { component, .. } => Some(component),
+        Form::Array { element, .. } => Some(element),
+        Form::Struct => member(definitions, t, k),
+        _ => None,
+    }
+}
+
+/// The types of the parts of a type, looked up once.
+#[derive(Clone, Copy)]
+pub enum Parts<'m, 'a> {
+    /// The components of a vector, or the elements of an array: all of this type.
+    Alike(u32),
+    /// The members of a struct, each of the type that stands at its place.
+    Members(&'m [Operand<'a>]),
+    /// A type that has no parts, or no type.
+    Absent,
+}
+
+impl<'m, 'a> Parts<'m, 'a> {
+    /// The type of a part.
+    #[inline(always)]
+    pub fn at(self, k: usize) -> Option<u32>
+        ensures { result ≡ part_among self.entry k }
+    {
+        match self {
+            Parts::Alike(t) => Some(t),
+            Parts::Members(members) => match members.get(k)? {
+                Operand::Id(x) => Some(*x),
+                _ => None,
+            },
+            Parts::Absent => None,
+        }
+    }
+}
+
+/// The types of the parts of a type: at each place what `part` answers.
+pub fn parts_of<'m, 'a>(definitions: &Definitions<'m, 'a>, t: u32) -> Parts<'m, 'a>
+    ensures { (k : ℕ) → part_among result k ≡ part_of definitions.now t k }
+{
+    match definitions.form(t) {
+        Some(Form::Vector { component, .. }) => Parts::Alike(component),
+        Some(Form::Array { element, .. }) => Parts::Alike(element),
+        Some(Form::Struct) => match members(definitions, t) {
+            Some(members) => Parts::Members(members),
+            None => Parts::Absent,
+        },
+        _ => Parts::Absent,
+    }
+}
+
+/// How many parts a type has: a vector's count, an array's length, or a struct's number of members.
+pub fn count(definitions: &Definitions, t: u32) -> Option<u64>
+    ensures { result ≡ count_of definitions.now t }
+{
+    match definitions.form(t)? {
+        Form::Vector { count, .. } => Some(u64::from(count)),
+        Form::Array { length: id, .. } => length(definitions, id),
+        Form::Struct => Some(members(definitions, t)?.len() as u64),
+        _ => None,
+    }
+}
+
+/// The type of a part whose number is below the number of parts.
+fn inner_part(definitions: &Definitions, t: u32, k: u32) -> Option<u32>
+    ensures { result ≡ inner_part_of definitions.now t k }
+{
+    let k = u64::from(k);
+    if k < count(definitions, t)? {
+        part(definitions, t, k)
+    } else {
+        None
+    }
+}
+
+/// The type that literal indexes reach, where each is below the number of parts at its place. Other operands among them
+/// are not looked at.
+pub fn reached(definitions: &Definitions, t: u32, literals: &[Operand]) -> Option<u32>
+    ensures { result ≡ walk definitions.now (words_in (plain_operands literals.now)) t }
+{
+    let mut at = t;
+    for operand in literals {
+        if let Operand::Word(k) = operand {
+            at = inner_part(definitions, at, *k)?;
+        }
+    }
+    Some(at)
+}
+
+/// The type of the part that an index of an access chain chooses.
+fn chosen_part(definitions: &Definitions, t: u32, x: u32) -> Option<u32>
+    ensures { result ≡ choice definitions.now t x }
+{
+    match definitions.form(t)? {
+        Form::Struct => part(definitions, t, constant(definitions, x)?),
+        _ => part(definitions, t, 0),
+    }
+}
+
+/// The type that the indexes of an access chain lead to, which are ids. Operands after the first that is no id are not
+/// looked at.
+pub fn led(definitions: &Definitions, t: u32, indexes: &[Operand]) -> Option<u32>
+    ensures { result ≡ choices definitions.now (ids_in (plain_operands indexes.now)) t }
+{
+    let mut at = t;
+    for operand in indexes {
+        let Operand::Id(x) = operand else {
+            return Some(at);
+        };
+        at = chosen_part(definitions, at, *x)?;
+    }
+    Some(at)
+}

@@ -1,0 +1,46 @@
+//! What indexes reach.
+
+ghost use Rattle.std.specs.Prelude.{◌≡◌, ◌↔◌, Some, IsTrue};
+ghost use Rattle.spv_module.specs.Module.{plain_operands};
+ghost use Rattle.spv_type_forms.specs.Operands.{words_in, ids_in};
+ghost use Rattle.spv_type_forms.specs.Reach.{ReachesType, AreWithin, LeadsToType};
+ghost use Rattle.spv_type_forms.specs.inner.Walk.{walk, choices};
+
+use crate::definitions::Definitions;
+use crate::parts::{led, reached};
+use spv_module::Operand;
+
+/// Whether the literals among the operands lead to a type, each below the number of parts at its place.
+fn walks(definitions: &Definitions, t: u32, operands: &[Operand], u: u32) -> bool
+    ensures { IsTrue result ↔ (walk definitions.now (words_in (plain_operands operands.now)) t ≡ Some u) }
+{
+    match reached(definitions, t, operands) {
+        Some(to) => to == u,
+        None => false,
+    }
+}
+
+/// Whether the literals among the operands reach a type, each below the number of parts at its place.
+pub fn reaches(definitions: &Definitions, t: u32, operands: &[Operand], u: u32) -> bool
+    ensures { IsTrue result ↔ (AreWithin definitions.now t (words_in (plain_operands operands.now))
+        × ReachesType definitions.now t (words_in (plain_operands operands.now)) u) }
+{
+    walks(definitions, t, operands, u)
+}
+
+/// Whether the indexes go from a type to another, one after another.
+fn goes(definitions: &Definitions, from: u32, indexes: &[Operand], to: u32) -> bool
+    ensures { IsTrue result ↔ (choices definitions.now (ids_in (plain_operands indexes.now)) from ≡ Some to) }
+{
+    match led(definitions, from, indexes) {
+        Some(t) => t == to,
+        None => false,
+    }
+}
+
+/// Whether the indexes lead from a type to another.
+pub fn leads(definitions: &Definitions, from: u32, indexes: &[Operand], to: u32) -> bool
+    ensures { IsTrue result ↔ LeadsToType definitions.now from (ids_in (plain_operands indexes.now)) to }
+{
+    goes(definitions, from, indexes, to)
+}
