@@ -45,10 +45,126 @@ PROMISES = (
 
 HEADING = """# What to believe
 
-What is proved is no more than what the contracts of the calls say, and these are said in definitions. This page lists the definitions that the contracts of the main calls rest on: who has read them, and finds them to say what the Khronos specification says, knows what `valid` means, and needs not read the code, the other definitions or the proofs. They are listed in the order in which to read them: first those that a contract names, then what these are made of.
+What is proved is no more than what the contracts of the calls say, and these are said in definitions. This page lists the definitions that the contracts of the main calls rest on: who has read them, and finds them to say what the Khronos specification says, knows what `valid` means, and needs not read the bodies of the code, the other definitions or the proofs.
 
-`tests/believe` makes this page from the files, and `tests/run` fails where it differs. The definitions that a promise shares with one above it are not listed again. Each file is in `crates/`; the numbers in square brackets in its comments are sections of the Khronos SPIR-V Specification 1.6, and 'own' marks a choice of the profile, which [PROFILE.md](PROFILE.md) states in prose. The words `List`, `≡` and their like are those of the toolchain's library.
+`tests/believe` makes this page from the files, and `tests/run` fails where it differs. The definitions that a promise shares with one above it are not listed again. Each file is in `crates/`; the numbers in square brackets in its comments are sections of the Khronos SPIR-V Specification 1.6, and 'own' marks a choice of the profile, which [PROFILE.md](PROFILE.md) states in prose. Lines of definitions and of comments are counted apart.
+
+How to read. By rule: begin with the rule's definition in the table below, and go on to what it names, which its file has or its `use` lines bring in (`as` renames). Or in the order of the list: first what a contract names, then what that is made of; for the rules Y begin with Form, Types, Parts and Values of spv_type_forms. Names stand for what their file says or imports: `Form`, `Shape`, `Row`, `Entry`, `Sort`, `Keeps`, `Broken`, `rows`, `row_of`, `row_in`, `class_in`, `constant_of`, `value_in`, `values_of`, `is_number` and `place_of` are said in several crates, of each crate's own things.
+
+- A path with `declared` in it is a type of the code: `Rattle.C.specs.declared.M.T` is `T` of `C/src/M.rt`, a struct with its fields or an enum with its variants (`T.TheVariants`). `tag_of the_type x` is the place of x among the variants, from 0, in the order in which the code declares them (`the_type` comes by the same path with `contracts` for `declared`). Three orders count: {orders}.
+- Of the toolchain's library: `A × B` is and, `A ⊎ B` or, `(x : A) × B x` that there is an x, `(x : A) → B x` that it holds for each, `⊥` what never holds and `Unit` what always does. `IsSome o`: o is there; `IsSomeAnd o P`: it is there and P holds of it; `IfSome o P`: P holds of it, if it is there; `MatchOption o A P`: A where it is missing, else P of it. `slice_get xs n` is element n of a list, from 0, as an option, and `slice_index xs n` the element, 0 where there is none. `All`, `AllByRecursion` and `Any` say it of all or some elements of a list. `codes "a"` are the bytes of a text, and `decimal n` those of a number; `IsUtf8 t`: bytes are UTF-8. `IsTrue b`: a test answers true. `¬ A`: A does not hold; `A ↔ B`: each gives the other. `Contains xs x`: x is an element of the list. `get_or xs n d`: element n, or d where there is none.
 """
+
+
+BY_RULE = """`check` takes the words of an image, which begin with a good header, and answers `IsAnswer` of them: the checked module (`IsChecked`) or its fault (`IsFault`). It answers the former exactly where the bytes of those words are a valid module (`IsValid`): they begin with a good header (`IsModule`: the rules W), the words behind it spell a list of instructions (`IsListing`: I), and the list breaks no other rule (`IsSound`: P to G). `check_stream` writes the line of the verdict on the bytes that it reads (`IsVerdict`). That words have one verdict, and bytes one line, is proved beside them (`one_answer`, `one_verdict` and `one_first` of spv_verdict). Which table a grammar file gives is said apart from this list, in spv_grammar/specs (`Answer`), and in prose in PROFILE.md.
+
+The rules, and the definitions that say what is kept, or (broken) where a rule is broken:
+
+| Rule | About | Kept | Broken |
+|---|---|---|---|"""
+
+# The rules, and the definitions that say what is kept, and where each is broken: their files, and their names.
+HEADER, SPELLING = "spv_words/specs/Header.antt", "spv_module/specs/Spelling.antt"
+REFUSAL, SHAPE = "spv_module/specs/Refusal.antt", "spv_layout/specs/Shape.antt"
+IDS, CAPABILITIES = "spv_ids/specs/Broken.antt", "spv_capabilities/specs/Keeps.antt"
+BRANCHES, TARGET = "spv_branches/specs/Broken.antt", "spv_branches/specs/Target.antt"
+READY = "spv_branches/specs/Ready.antt"
+RULES = (
+    ("W2 to W8", "the bytes and the header", [(HEADER, "IsModule"), (HEADER, "BytesKeep")], []),
+    (
+        "I1 to I3",
+        "the first word of an instruction",
+        [("spv_module/specs/Instruction.antt", "IsInstruction")],
+        [("spv_module/specs/Malformed.antt", "IsMalformed")],
+    ),
+    (
+        "I4, I6 to I12",
+        "an operand's words",
+        [(SPELLING, "Takes"), (SPELLING, "Spells"), ("spv_module/specs/Shape.antt", "shape_of")],
+        [(REFUSAL, "ShapeRefuses")],
+    ),
+    ("I5", "words behind the last operand", [(SPELLING, "Match")], [(REFUSAL, "Misfit")]),
+    (
+        "P1",
+        "the opcode and its operands",
+        [(SHAPE, "FitsShape"), ("spv_layout/specs/Rows.antt", "rows")],
+        [("spv_layout/specs/Broken.antt", "Broken")],
+    ),
+    (
+        "L1, L2",
+        "the order of instructions",
+        [("spv_layout/specs/Layout.antt", "IsLayout")],
+        [("spv_layout/specs/DeadPlace.antt", "IsDeadPlace")],
+    ),
+    ("D1 to D3", "ids: their range and definitions", [], [(IDS, "Broken")]),
+    ("D4", "ids: order", [("spv_ids/specs/Order.antt", "IsInOrder")], [(IDS, "Broken")]),
+    ("D5", "ids: scope", [("spv_ids/specs/Order.antt", "IsInScope")], [(IDS, "Broken")]),
+    (
+        "Y1",
+        "the role of an id",
+        [("spv_roles/specs/Role.antt", "Plays")],
+        [("spv_roles/specs/Broken.antt", "Broken")],
+    ),
+    ("C1, E1", "Kernel and not Shader; an entry point", [(CAPABILITIES, "Keeps")], []),
+    ("C2", "the capabilities of an instruction", [("spv_capabilities/specs/Capable.antt", "IsCapable")], []),
+    ("M1", "addressing and memory model", [("spv_capabilities/specs/Memory.antt", "IsModel")], []),
+    (
+        "E2",
+        "entry points, modes and linkage",
+        [
+            (CAPABILITIES, "KeepsEntries"),
+            ("spv_capabilities/specs/Entry.antt", "IsSoundEntry"),
+            ("spv_capabilities/specs/Entry.antt", "IsSoundMode"),
+        ],
+        [],
+    ),
+    (
+        "Y2",
+        "type declarations",
+        [
+            ("spv_type_rules/specs/Declaration.antt", "declaration_of"),
+            ("spv_type_rules/specs/Declaration.antt", "DeclaresSoundly"),
+        ],
+        [],
+    ),
+    ("Y3", "types declared again", [], [("spv_type_rules/specs/Repeat.antt", "Repeats")]),
+    (
+        "Y4",
+        "constants",
+        [
+            ("spv_type_rules/specs/Constant.antt", "constant_of"),
+            ("spv_type_rules/specs/Constant.antt", "Constitutes"),
+        ],
+        [],
+    ),
+    (
+        "Y5",
+        "the types of operands and results",
+        [
+            ("spv_ops/specs/Typed.antt", "IsTyped"),
+            ("spv_ops/specs/Typed.antt", "RowHolds"),
+            ("spv_ops/specs/Row.antt", "rows"),
+        ],
+        [],
+    ),
+    ("Y6", "functions and parameters", [("spv_type_rules/specs/Keeps.antt", "KeepsFunctions")], []),
+    ("Y7", "returns", [("spv_type_rules/specs/Keeps.antt", "KeepsReturns")], []),
+    ("Y8", "calls", [("spv_type_rules/specs/Function.antt", "CallsSoundly")], []),
+    ("F1, F4", "labels, and two that are the same", [], [(BRANCHES, "Broken")]),
+    ("F2", "branches to entry blocks", [], [(BRANCHES, "Broken"), (TARGET, "IsEntryLabel")]),
+    ("F3", "the parents of a phi", [(TARGET, "HasParents")], [(BRANCHES, "Broken")]),
+    ("A1", "values on every walk", [], [(READY, "IsMissing")]),
+    ("A2", "values of phis on every walk", [], [(READY, "IsPairMissing")]),
+    ("G1", "cycles of calls", [], [("spv_calls/specs/Broken.antt", "Broken")]),
+)
+
+
+# The enums of the code whose order definitions speak of.
+ORDERS = (
+    ("spv_words/src/words.rt", "WordError"),
+    ("spv_module/src/fault.rt", "Rule"),
+    ("spv_layout/src/class.rt", "Class"),
+)
 
 
 class NotFound(Exception):
@@ -57,8 +173,10 @@ class NotFound(Exception):
 
 @dataclass
 class Definition:
-    """A definition of a file of specs/, with the names that it gives, and its lines with the comment above it."""
+    """Definitions of a file of specs/, one or those of a mutual block, with the names that they give, those of
+    constructors too, and their lines with the comment above them."""
 
+    heads: list
     names: list
     lines: list = field(default_factory=list)
 
@@ -92,18 +210,18 @@ def scope_of(text):
 
 
 def names_in(paragraph):
-    """The names that a paragraph of a file of specs/ declares."""
+    """The definitions that a paragraph of a file of specs/ has, and all names that it declares."""
     code = [line for line in paragraph if not line.lstrip().startswith("--") and not USE.match(line)]
     if not code:
-        return []
+        return [], []
     if code[0].startswith("mutual"):
         found = [IN_MUTUAL.match(line) for line in code[1:]]
     else:
         found = [HEAD.match(line) for line in code if not line.startswith((" ", *NO_NAMES))]
-    names = [it[1] for it in found if it]
+    heads = names = list(dict.fromkeys(it[1] for it in found if it))
     if any(re.match(r"^(?:pub )?data ", line) for line in code):
-        names += [it[1] for line in code for it in [re.match(r"^  ([^\s(){}]+) :", line)] if it]
-    return list(dict.fromkeys(names))
+        names = names + [it[1] for line in code for it in [re.match(r"^  ([^\s(){}]+) :", line)] if it]
+    return heads, list(dict.fromkeys(names))
 
 
 def is_more(paragraph):
@@ -121,10 +239,14 @@ def read(path):
         lines = [line for line in part.splitlines() if not USE.match(line)]
         if last and is_more(lines):
             last.lines += lines
+            more = names_in(["mutual", *lines])[0]
+            last.heads += more
+            for name in more:
+                by_name.setdefault(name, last)
             continue
-        names = names_in(lines)
+        heads, names = names_in(lines)
         if names:
-            last = Definition(names, lines)
+            last = Definition(heads, names, lines)
             for name in names:
                 by_name.setdefault(name, last)
     return by_name, scope_of(text)
@@ -208,34 +330,77 @@ class Closure:
 
 
 def sections(definitions):
-    """The sections that the comments of definitions name."""
-    comments = " ".join(line for it in definitions for line in it.lines if line.lstrip().startswith("--"))
-    found = [part.strip() for group in SECTION.findall(comments) for part in re.split(r"[;,]", group)]
-    return ", ".join(dict.fromkeys(part for part in found if re.match(r"\d|own", part, re.I)))
+    """The sections that the comments of definitions name, and own where one marks a choice of the profile."""
+    comments = " ".join(line.lstrip("- ") for it in definitions for line in it.lines if line.lstrip().startswith("--"))
+    named, own = [], False
+    for group in SECTION.findall(comments):
+        named += re.findall(r"\d+(?:\.\d+)+", group)
+        own = own or bool(re.search(r"\bown\b", group, re.I))
+    return ", ".join([*dict.fromkeys(named), *(["own"] if own else [])])
+
+
+def lines_in(definitions):
+    """How many lines there are in definitions without those of comments, and how many of comments."""
+    lines = [line for it in definitions for line in it.lines]
+    comments = sum(line.lstrip().startswith("--") for line in lines)
+    return len(lines) - comments, comments
+
+
+def named(found, definitions):
+    """Definitions by name and file, each of which must be among those found."""
+    for file, name in definitions:
+        if not any(path == CRATES / file and name in it.names for path, it in found):
+            raise NotFound(f"{file} has no {name} that the headline rests on")
+        yield f"`{name}` ({file.replace('/specs', '').removesuffix('.antt')})"
+
+
+def rules(found):
+    """A row for each rule: what it is about, and its definitions."""
+    for codes, about, kept, broken in RULES:
+        yield f"| {codes} | {about} | {', '.join(named(found, kept))} | {', '.join(named(found, broken))} |"
+
+
+def variants(file, name):
+    """The variants of an enum of the code, in order."""
+    text = re.sub(r"//.*", "", (CRATES / file).read_text(encoding="utf-8"))
+    body = re.search(rf"pub enum {name} \{{(.*?)\n\}}", text, re.S)
+    if not body:
+        raise NotFound(f"{file} has no enum {name}")
+    return re.findall(r"^\s*(\w+)\b", body[1], re.M)
+
+
+def orders():
+    """The enums whose order counts, with their variants."""
+    parts = [f"`{name}` ({', '.join(variants(file, name))})" for file, name in ORDERS]
+    return "; ".join(parts)
 
 
 def rows(found):
-    """A row for each file: its definitions, their lines, and the sections that they name."""
+    """A row for each file: its definitions, their lines, those of comments, and the sections that they name."""
     files = {}
     for path, definition in found:
         files.setdefault(path, []).append(definition)
     for path, definitions in files.items():
-        names = ", ".join(f"`{it.names[0]}`" for it in definitions)
-        count = sum(len(it.lines) for it in definitions)
-        yield f"| {path.relative_to(CRATES)} | {names} | {count} | {sections(definitions)} |"
+        names = ", ".join(f"`{name}`" for it in definitions for name in it.heads)
+        lines, comments = lines_in(definitions)
+        yield f"| {path.relative_to(CRATES)} | {names} | {lines} | {comments} | {sections(definitions)} |"
 
 
 def page():
     """The page as it is to be."""
-    closure, parts = Closure(), [HEADING]
+    closure, parts = Closure(), [HEADING.replace("{orders}", orders())]
     for title, about, calls in PROMISES:
         begun = len(closure.found)
         for call in calls:
             closure.follow(*clauses(*call))
         found = closure.found[begun:]
-        lines = sum(len(it.lines) for _, it in found)
-        parts.append(f"## {title}\n\n{about} {len(found)} definitions, {lines} lines.\n")
-        parts.append("| File | Definitions | Lines | Sections |\n|---|---|---:|---|")
+        lines, comments = lines_in(it for _, it in found)
+        count = sum(len(it.heads) for _, it in found)
+        parts.append(f"## {title}\n\n{about} {count} definitions, {lines} lines, and {comments} of comments.\n")
+        if begun == 0:
+            parts.append(BY_RULE)
+            parts.append("\n".join(rules(found)) + "\n")
+        parts.append("| File | Definitions | Lines | Comments | Sections |\n|---|---|---:|---:|---|")
         parts.append("\n".join(rows(found)) + "\n")
     return "\n".join(parts)
 

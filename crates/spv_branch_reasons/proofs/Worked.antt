@@ -6,7 +6,8 @@ use Rattle.spv_module.specs.declared.fault.Rule.{Rule}
 use Rattle.spv_module.specs.declared.fault.Rule.TheVariants.{F1, F2, F3, F4}
 use Rattle.spv_layout.specs.declared.class.Class.TheVariants.{BranchConditional, Label, Phi}
 use Rattle.spv_layout.specs.declared.form.Role.TheVariants as role
-use Rattle.spv_layout.specs.Row.{row, v, l, T, R, W, repeated}
+use Rattle.spv_layout.specs.Row.{row, v, l, repeated}
+use Rattle.spv_layout.specs.inner.Row.{T, R, W}
 use Rattle.spv_layout.specs.Rows.{rows}
 use Rattle.spv_layout.specs.Shape.{AreOf, Ends, HasForms}
 use Rattle.spv_layout.specs.Place.{IsAt, IsOfBlock, terminators}

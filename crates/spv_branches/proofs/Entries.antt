@@ -3,7 +3,8 @@ use Rattle.std.proofs.Common.{◌≡◌, ◌≤◌, ◌<◌, ◌+◌, ◌⊎◌,
 use Rattle.std.specs.Prelude.{slice_get}
 use Rattle.std.proofs.lemmas.Bool.{cases_lt, cases_eq, eqb-true}
 use Rattle.spv_module.specs.Operand.{PlainInst}
-use Rattle.spv_branches.specs.Target.{is_label, is_function, IsOp, IsEntryLabel}
+use Rattle.spv_branches.specs.Target.{is_label, IsOp, IsEntryLabel}
+use Rattle.spv_branches.specs.inner.Target.{is_function}
 use Rattle.spv_branches.specs.inner.Edges.{marked}
 use Rattle.spv_branches.specs.inner.Graph.{IsOpen, AreEntries}
 use Rattle.spv_branches.proofs.Labelled.{op_tells, op_holds}

@@ -1,6 +1,6 @@
 -- The labels of branches and merges, and the blocks that they lead to. A block goes by the number of its OpLabel. [2.4,
 -- 2.16]
-use Rattle.std.specs.Prelude.{◌≡◌, ◌<◌, ℕ, List, Bool, nat_eq, nat_le, ◌&&◌, ◌||◌, IsTrue}
+use Rattle.std.specs.Prelude.{◌≡◌, ◌<◌, ℕ, List, Bool, nat_eq, nat_le, ◌&&◌, IsTrue}
 use Rattle.std.specs.Prelude.{IsSomeAnd, slice_get}
 use Rattle.spv_table.specs.Table.{Table}
 use Rattle.spv_module.specs.Operand.{PlainInst}
@@ -8,9 +8,9 @@ use Rattle.spv_layout.specs.declared.form.Role.TheVariants.{Label}
 use Rattle.spv_layout.specs.Place.{IsOfBlock}
 use Rattle.spv_ids.specs.Definition.{IsDefinedAt, IsUsedAt}
 
--- the opcodes of OpFunction, OpPhi, OpLabel and OpBranchConditional [3.49.17]
-abbrev pub is_function : ℕ → Bool
-is_function opcode = nat_eq opcode 54
+-- an opcode is that number [3.49.17]
+abbrev pub is_opcode : ℕ → ℕ → Bool
+is_opcode n opcode = nat_eq opcode n
 
 -- OpPhi [3.49.17]
 abbrev pub is_phi : ℕ → Bool
@@ -32,18 +32,14 @@ is_merge opcode = nat_le 246 opcode && nat_le opcode 247
 abbrev pub is_branch : ℕ → Bool
 is_branch opcode = nat_le 249 opcode && nat_le opcode 251
 
--- those of all terminators: the branches, OpReturn, OpReturnValue and OpUnreachable [3.49.17]
-abbrev pub is_terminator : ℕ → Bool
-is_terminator opcode = is_branch opcode || (nat_le 253 opcode && nat_le opcode 255)
-
 -- Instruction n is there, and the test holds of its opcode. [3.49.17]
 abbrev pub IsOp : List PlainInst → ℕ → (ℕ → Bool) → Type 0
 IsOp is n test = IsSomeAnd (slice_get is n) (λ i. IsTrue (test i.opcode))
 
--- The id x is the result of the OpLabel m. [3.49.17]
+-- The id x is the result of the OpLabel (248) m. [3.49.17]
 pub record IsLabelOf (is : List PlainInst) (x m : ℕ) : Type 0 where
   pub defined : IsDefinedAt is x m
-  pub label : IsOp is m is_label
+  pub label : IsOp is m (is_opcode 248)
 
 -- The id x is a target of instruction n: a label of a terminator. [2.4]
 pub record IsTarget (G : Table) (is : List PlainInst) (n x : ℕ) : Type 0 where
@@ -68,7 +64,7 @@ pub record IsParentAt (G : Table) (is : List PlainInst) (n k p : ℕ) : Type 0 w
   pub used : IsUsedAt G is n k id Label
   pub label : IsLabelOf is id p
 
--- The parents of instruction n, an OpPhi, are the predecessors of its block, each exactly once. [OpPhi] [3.49.17]
+-- The parents of instruction n, an OpPhi, are the predecessors of its block, each exactly once. [3.49.17]
 pub record HasParents (G : Table) (is : List PlainInst) (n : ℕ) : Type 0 where
   pub block : ℕ
   pub of : IsOfBlock is n block
@@ -79,11 +75,11 @@ pub record HasParents (G : Table) (is : List PlainInst) (n : ℕ) : Type 0 where
   -- each predecessor is a parent
   pub all : (p : ℕ) → IsPredecessor G is block p → (k : ℕ) × IsParentAt G is n k p
 
--- Instruction m is the label of an entry block: of the OpLabels after an OpFunction the first. [3.49.17]
+-- Instruction m is the label of an entry block: of the OpLabels (248) after an OpFunction (54) the first. [3.49.17]
 pub record IsEntryLabel (is : List PlainInst) (m : ℕ) : Type 0 where
-  pub label : IsOp is m is_label
+  pub label : IsOp is m (is_opcode 248)
   pub function : ℕ
-  pub there : IsOp is function is_function
+  pub there : IsOp is function (is_opcode 54)
   pub after : function < m
-  pub first : (k : ℕ) → function < k → k < m → ¬ (IsOp is k is_label)
-  pub same : (k : ℕ) → function < k → k < m → ¬ (IsOp is k is_function)
+  pub first : (k : ℕ) → function < k → k < m → ¬ (IsOp is k (is_opcode 248))
+  pub same : (k : ℕ) → function < k → k < m → ¬ (IsOp is k (is_opcode 54))

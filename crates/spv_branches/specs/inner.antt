@@ -3,3 +3,4 @@ pub mod Code
 pub mod Edges
 pub mod Graph
 pub mod Labels
+pub mod Target

@@ -11,8 +11,8 @@ use Rattle.spv_ids.specs.Definition.{IsDefinedAt}
 use Rattle.spv_ids.specs.Outcome.{IsDefinitionOf, IsOnly, definition_in}
 use Rattle.spv_calls.proofs.Insts.{below_or, same_inst}
 use Rattle.spv_calls.specs.declared.graph.Call.{Call}
-use Rattle.spv_calls.specs.Calls.{entry_point, function_call, IsCall, IsEntryFunction}
-use Rattle.spv_calls.specs.inner.Found.{id_in, callee_in, entry_in, IsLate, IsOfDefinition, IsThatCall, AreCalls, AreEntries}
+use Rattle.spv_calls.specs.Calls.{entry_point, IsCall, IsEntryFunction}
+use Rattle.spv_calls.specs.inner.Found.{function_call, id_in, callee_in, entry_in, IsLate, IsOfDefinition, IsThatCall, AreCalls, AreEntries}
 use Rattle.spv_ids.specs.Outcome.{AreNumbered}
 use Rattle.spv_calls.proofs.Lists.{pushed_cases, pushed_keeps, pushed_last}
 use Rattle.spv_calls.proofs.Placed.{call_late}

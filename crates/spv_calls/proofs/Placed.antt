@@ -11,8 +11,7 @@ use Rattle.spv_layout.specs.Rows.{rows, class_of}
 use Rattle.spv_layout.specs.Layout.{classes}
 use Rattle.spv_layout.specs.Place.{IsOfFunction, IsOfSection, IsDefinition, section_of}
 use Rattle.spv_layout.proofs.Places.{last_same, section_same}
-use Rattle.spv_calls.specs.Calls.{function_call}
-use Rattle.spv_calls.specs.inner.Found.{ArePlaces, IsLate, IsOfDefinition}
+use Rattle.spv_calls.specs.inner.Found.{function_call, ArePlaces, IsLate, IsOfDefinition}
 
 -- a definition's OpFunction is of it
 pub of_itself : (is : List PlainInst) (f : ℕ) → IsDefinition is f → IsOfFunction is f f

@@ -5,19 +5,15 @@ use Rattle.spv_module.specs.Operand.{PlainInst, Id}
 use Rattle.spv_layout.specs.Place.{IsOfFunction, IsDefinition}
 use Rattle.spv_ids.specs.Definition.{IsDefinedAt}
 
--- the opcodes of OpEntryPoint and OpFunctionCall [3.49.9]
+-- the opcode of OpEntryPoint [3.49.5]
 abbrev pub entry_point : ℕ
 entry_point = 15
 
--- OpFunctionCall [3.49.9]
-abbrev pub function_call : ℕ
-function_call = 57
-
--- Instruction n, in any block of definition f, is an OpFunctionCall of definition g. [3.49.9]
+-- Instruction n, in any block of definition f, is an OpFunctionCall (57) of definition g. [3.49.9]
 pub record IsCall (is : List PlainInst) (n f g : ℕ) : Type 0 where
   pub inst : PlainInst
   pub there : slice_get is n ≡ Some inst
-  pub opcode : inst.opcode ≡ function_call
+  pub opcode : inst.opcode ≡ 57
   pub callee : ℕ
   pub named : slice_get inst.operands 2 ≡ Some (Id callee)
   pub of : IsOfFunction is n f
@@ -30,12 +26,12 @@ pub record Calls (is : List PlainInst) (f g : ℕ) : Type 0 where
   pub place : ℕ
   pub call : IsCall is place f g
 
--- The function is that of an OpEntryPoint. [3.49.5]
+-- The function is that of an OpEntryPoint (15). [3.49.5]
 pub record IsEntryFunction (is : List PlainInst) (f : ℕ) : Type 0 where
   pub place : ℕ
   pub inst : PlainInst
   pub there : slice_get is place ≡ Some inst
-  pub opcode : inst.opcode ≡ entry_point
+  pub opcode : inst.opcode ≡ 15
   pub id : ℕ
   pub named : slice_get inst.operands 1 ≡ Some (Id id)
   pub function : IsDefinedAt is id f

@@ -6,9 +6,9 @@ use Rattle.spv_module.specs.Operand.{PlainInst}
 use Rattle.spv_module.specs.declared.fault.Rule.{Rule}
 use Rattle.spv_module.specs.declared.fault.Rule.TheVariants as rule
 use Rattle.spv_layout.specs.First.{rank_of}
-use Rattle.spv_capabilities.specs.Capable.{IsCapable, HasNeeded, needs_of}
+use Rattle.spv_capabilities.specs.Capable.{IsCapable, needs_of}
 use Rattle.spv_capabilities.specs.inner.Known.{AreCovered, is_asked_more}
-use Rattle.spv_capabilities.specs.Entry.{IsSoundLinkage}
+use Rattle.spv_capabilities.specs.inner.Entry.{IsSoundLinkage}
 use Rattle.spv_capabilities.specs.Keeps.{Keeps, KeepsEntries}
 
 -- None of them is broken.

@@ -9,7 +9,8 @@ use Rattle.spv_module.specs.Operand.{PlainInst}
 use Rattle.spv_module.specs.Module.{plain_inst}
 use Rattle.spv_module.specs.declared.module.Inst.{Inst}
 use Rattle.spv_ids.specs.Order.{HasOpcode}
-use Rattle.spv_capabilities.specs.Capable.{declared_by, first_value}
+use Rattle.spv_capabilities.specs.Capable.{first_value}
+use Rattle.spv_capabilities.specs.inner.Capable.{declared_by}
 use Rattle.spv_capabilities.specs.Entry.{called_by, entered_by, imported_by, third_id, second_id, linked_id}
 use Rattle.spv_capabilities.specs.inner.Survey.{IsEntryBefore}
 use Rattle.spv_capabilities.proofs.Marked.{below_or}

@@ -9,7 +9,8 @@ use Rattle.spv_layout.specs.Place.{IsDefinition}
 use Rattle.spv_ids.specs.Definition.{IsDefinedAt}
 use Rattle.spv_ids.specs.Order.{HasOpcode}
 use Rattle.spv_ids.specs.Outcome.{IsDefinitionOf}
-use Rattle.spv_capabilities.specs.Entry.{ReturnsVoid, IsKernelFunction, IsCalled, IsEntered, IsSoundEntry, IsSoundMode, IsSoundLinkage}
+use Rattle.spv_capabilities.specs.Entry.{ReturnsVoid, IsKernelFunction, IsSoundEntry, IsSoundMode}
+use Rattle.spv_capabilities.specs.inner.Entry.{IsCalled, IsEntered, IsSoundLinkage}
 use Rattle.spv_capabilities.specs.Keeps.{KeepsEntries}
 
 no_truth : {P : Type 0} → IsTrue false → P

@@ -13,7 +13,9 @@ use Rattle.spv_layout.specs.Place.{IsAt, IsDefinition}
 use Rattle.spv_ids.specs.Definition.{IsDefinedAt}
 use Rattle.spv_ids.specs.Order.{HasOpcode}
 use Rattle.spv_capabilities.specs.Capable.{Has}
-use Rattle.spv_capabilities.specs.Entry.{IsNamed, IsCalled, IsEntered, IsImported, IsKernelFunction, called_by, entered_by, imported_by}
+use Rattle.spv_capabilities.specs.Entry.{IsNamed, IsKernelFunction, called_by, entered_by, imported_by}
+use Rattle.spv_capabilities.specs.Asked.{IsImported}
+use Rattle.spv_capabilities.specs.inner.Entry.{IsCalled, IsEntered}
 use Rattle.spv_capabilities.specs.Example.{small, vectors, linked, void_function, kernel, declaration}
 
 -- the names that an enumerant lists

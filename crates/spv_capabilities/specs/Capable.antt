@@ -9,22 +9,14 @@ use Rattle.spv_table.specs.Implied.{Implied, capabilities_in}
 use Rattle.spv_module.specs.Operand.{Plain, Result, Word, Id, Value, Mask, PlainInst}
 use Rattle.spv_module.specs.Spelling.{set_bits}
 
--- the capability that an OpCapability (17) declares [3.31]
+-- the capability that an OpCapability (17) declares [3.31, 3.49.5]
 abbrev pub first_value : List Plain → Option ℕ
 first_value (Value k c ∷ os) = Some c
 first_value _ = None
 
--- the capability that an OpCapability declares [3.49.5]
-abbrev pub declared_by : PlainInst → Option ℕ
-declared_by i = if nat_eq i.opcode 17 then first_value i.operands else None
-
--- The module has the capability: those that it declares imply it. [3.31]
+-- The module has the capability: those that its OpCapabilities (17) declare imply it. [3.31, 3.49.5]
 abbrev pub Has : Table → List PlainInst → ℕ → Type 0
-Has G is c = Implied G (filter_map declared_by is) c
-
--- C1: it has Kernel (6), and it has not Shader (1). [2.16.1]
-abbrev pub IsKernel : Table → List PlainInst → Type 0
-IsKernel G is = Has G is 6 × (¬ (Has G is 1))
+Has G is c = Implied G (filter_map (λ i. if nat_eq i.opcode 17 then first_value i.operands else None) is) c
 
 -- The module has one of the named capabilities. A name that no capability bears is that of none. [3.31]
 abbrev pub HasNamed : Table → List PlainInst → List (List ℕ) → Type 0
@@ -35,10 +27,6 @@ HasNamed G is (name ∷ names) = IsSomeAnd (value_named (capabilities_in G) name
 abbrev pub IsCovered : Table → List PlainInst → List (List ℕ) → Type 0
 IsCovered G is names = (names ≡ []) ⊎ HasNamed G is names
 
--- The entry of the opcode is covered, if there is one. [3.31]
-abbrev pub IsCoveredEntry : Table → List PlainInst → ℕ → Type 0
-IsCoveredEntry G is opcode = IfSome (entry_of G opcode) (λ e. IsCovered G is e.capabilities)
-
 -- The enumerant of a value of a kind is covered, if there is one. [3.31]
 abbrev pub IsCoveredValue : Table → List PlainInst → ℕ → ℕ → Type 0
 IsCoveredValue G is k v =
@@ -48,18 +36,13 @@ IsCoveredValue G is k v =
 unfoldable pub IsCoveredMask : Table → List PlainInst → ℕ → ℕ → Type 0
 IsCoveredMask G is k m = AllByRecursion (IsCoveredValue G is k) (set_bits m)
 
--- A kind is another than the one named Capability. [3.31]
-abbrev pub IsOtherKind : Table → ℕ → Type 0
-IsOtherKind G k = number_named G (codes "Capability") ≢ Some k
-
--- An operand that is not of kind Capability: its value, or each set bit of its mask, is covered. [3.31]
+-- An operand of another kind than the one named Capability: its value, or each set bit of its mask, is covered. [3.31]
 abbrev pub IsCoveredOperand : Table → List PlainInst → Plain → Type 0
-IsCoveredOperand G is (Value k v) = IsOtherKind G k → IsCoveredValue G is k v
-IsCoveredOperand G is (Mask k m) = IsOtherKind G k → IsCoveredMask G is k m
+IsCoveredOperand G is (Value k v) = number_named G (codes "Capability") ≢ Some k → IsCoveredValue G is k v
+IsCoveredOperand G is (Mask k m) = number_named G (codes "Capability") ≢ Some k → IsCoveredMask G is k m
 IsCoveredOperand G is _ = Unit {0}
 
--- The capabilities that widths and counts ask for, of which one is needed: Int16 (22) or Int64 (11); Float16Buffer (8)
--- or Float16 (9), or Float64 (10); Vector16 (7). (Own; 3.31.) [3.31]
+-- 16 bits need Int16 (22), 64 bits Int64 (11) [3.49.6]
 abbrev pub int_needs : List Plain → List ℕ
 int_needs (Result t ∷ Word w ∷ os) = if nat_eq w 16 then 22 ∷ [] else (if nat_eq w 64 then 11 ∷ [] else [])
 int_needs _ = []
@@ -78,23 +61,17 @@ vector_needs _ = []
 -- those of OpTypeInt (21), OpTypeFloat (22) and OpTypeVector (23) [3.31]
 abbrev pub needs_of : PlainInst → List ℕ
 needs_of i =
-    if nat_eq i.opcode 21 then int_needs i.operands
-    else (if nat_eq i.opcode 22 then float_needs i.operands
-    else (if nat_eq i.opcode 23 then vector_needs i.operands
-    else []))
+    if nat_eq i.opcode 21 then int_needs i.operands else (if nat_eq i.opcode 22 then float_needs i.operands
+    else (if nat_eq i.opcode 23 then vector_needs i.operands else []))
 
--- The module has one of those that are needed, if any are. [3.31]
+-- The module has one of those that are needed. [3.31]
 abbrev pub HasOneOf : Table → List PlainInst → List ℕ → Type 0
 HasOneOf G is [] = ⊥
 HasOneOf G is (c ∷ cs) = Has G is c ⊎ HasOneOf G is cs
 
--- one of the capabilities is declared or implied, or none is needed [3.31]
-abbrev pub HasNeeded : Table → List PlainInst → List ℕ → Type 0
-HasNeeded G is cs = (cs ≡ []) ⊎ HasOneOf G is cs
-
--- C2: the instruction's entry is covered, and so is each operand, and the module has what a width or a count needs.
--- [3.31]
+-- C2: the entry of the instruction's opcode is covered, if there is one, and so is each operand; and the module has one
+-- of the capabilities that a width or a count needs, if any is needed. [3.31]
 pub record IsCapable (G : Table) (is : List PlainInst) (i : PlainInst) : Type 0 where
-  pub entry : IsCoveredEntry G is i.opcode
+  pub entry : IfSome (entry_of G i.opcode) (λ e. IsCovered G is e.capabilities)
   pub operands : AllByRecursion (IsCoveredOperand G is) i.operands
-  pub widths : HasNeeded G is (needs_of i)
+  pub widths : (needs_of i ≡ []) ⊎ HasOneOf G is (needs_of i)

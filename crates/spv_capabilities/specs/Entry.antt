@@ -1,16 +1,13 @@
--- Entry points, execution modes and imports: E1 and E2. A function is named by the number of its OpFunction. [2.4,
+-- Entry points, execution modes and imports, for E2. A function is named by the number of its OpFunction. [2.4,
 -- 2.16.1, 3.17, 3.49.5]
-use Rattle.std.specs.Prelude.{◌≡◌, ◌↔◌, ◌⊎◌, ℕ, List, ◌∷◌, Option, Some, None, nat_eq}
-use Rattle.std.specs.Prelude.{◌&&◌, if◌then◌else◌, slice_get, codes}
-use Rattle.spv_table.specs.Table.{Table}
-use Rattle.spv_table.specs.Lookups.{number_named}
+use Rattle.std.specs.Prelude.{◌≡◌, ℕ, List, ◌∷◌, Option, Some, None, nat_eq}
+use Rattle.std.specs.Prelude.{◌&&◌, if◌then◌else◌, slice_get}
 use Rattle.spv_module.specs.Operand.{Plain, OfType, Result, Id, Text, Value, PlainInst, type_in}
 use Rattle.spv_layout.specs.Place.{IsDefinition}
 use Rattle.spv_ids.specs.Definition.{IsDefinedAt}
 use Rattle.spv_ids.specs.Order.{HasOpcode}
-use Rattle.spv_capabilities.specs.Capable.{Has}
 
--- the id of the function that an OpFunctionCall (57) calls: %x = OpFunctionCall %r %f .. [3.49.5]
+-- the id of the function that an OpFunctionCall (57) calls: %x = OpFunctionCall %r %f .. [3.49.9]
 abbrev pub third_id : List Plain → Option ℕ
 third_id (OfType r ∷ Result x ∷ Id f ∷ os) = Some f
 third_id _ = None
@@ -29,7 +26,7 @@ abbrev pub entered_by : PlainInst → Option ℕ
 entered_by i = if nat_eq i.opcode 15 then second_id i.operands else None
 
 -- the id that an OpDecorate (71) imports: OpDecorate %f LinkageAttributes (41) "name" Import (1) .., where the kind
--- LinkageType has that number [3.49.5]
+-- LinkageType has that number [3.49.3]
 abbrev pub linked_id : Option ℕ → List Plain → Option ℕ
 linked_id (Some l) (Id f ∷ Value k d ∷ Text t ∷ Value j v ∷ os) = if nat_eq d 41 && nat_eq j l && nat_eq v 1
     then Some f else None
@@ -39,7 +36,7 @@ linked_id _ _ = None
 abbrev pub imported_by : Option ℕ → PlainInst → Option ℕ
 imported_by l i = if nat_eq i.opcode 71 then linked_id l i.operands else None
 
--- Some instruction names, in this way, the id that instruction f defines. [3.49.5]
+-- Some instruction names, in this way, the id that instruction f defines: a call, an entry point or an import. [3.49.5]
 pub record IsNamed (names : PlainInst → Option ℕ) (is : List PlainInst) (f : ℕ) : Type 0 where
   pub place : ℕ
   pub inst : PlainInst
@@ -48,23 +45,7 @@ pub record IsNamed (names : PlainInst → Option ℕ) (is : List PlainInst) (f :
   pub named : names inst ≡ Some id
   pub defined : IsDefinedAt is id f
 
--- A function is called by some OpFunctionCall; it is that of some OpEntryPoint; some OpDecorate imports it. [3.49.5]
-abbrev pub IsCalled : List PlainInst → ℕ → Type 0
-IsCalled is f = IsNamed called_by is f
-
--- An OpEntryPoint names the function. [3.49.5]
-abbrev pub IsEntered : List PlainInst → ℕ → Type 0
-IsEntered is f = IsNamed entered_by is f
-
--- A decoration says that the function is linked in. [3.20]
-abbrev pub IsImported : Table → List PlainInst → ℕ → Type 0
-IsImported G is f = IsNamed (imported_by (number_named G (codes "LinkageType"))) is f
-
--- E1: there is an OpEntryPoint, or the module has Linkage (5). [2.16.1]
-abbrev pub HasEntry : Table → List PlainInst → Type 0
-HasEntry G is = ((n : ℕ) × HasOpcode is n 15) ⊎ Has G is 5
-
--- The result type of the function is an OpTypeVoid (19). [3.49.5]
+-- The result type of the function is an OpTypeVoid (19). [3.49.9]
 pub record ReturnsVoid (is : List PlainInst) (f : ℕ) : Type 0 where
   pub inst : PlainInst
   pub there : slice_get is f ≡ Some inst
@@ -74,25 +55,22 @@ pub record ReturnsVoid (is : List PlainInst) (f : ℕ) : Type 0 where
   pub defined : IsDefinedAt is type place
   pub void : HasOpcode is place 19
 
--- The id is that of a function that may be an entry point: a definition, which returns void, and which is called
--- nowhere. [2.16.1]
+-- The id is that of a function that may be an entry point: a definition, which returns void, and which no
+-- OpFunctionCall calls. [2.16.1, 3.49.9]
 pub record IsKernelFunction (is : List PlainInst) (x : ℕ) : Type 0 where
   pub function : ℕ
   pub defined : IsDefinedAt is x function
   pub definition : IsDefinition is function
   pub void : ReturnsVoid is function
-  pub uncalled : ¬ (IsCalled is function)
+  pub uncalled : ¬ (IsNamed called_by is function)
 
--- E2 at an OpEntryPoint: the execution model is Kernel (6), and so is the function. [3.49.5]
+-- E2 at an OpEntryPoint: the execution model is Kernel (6), and the id is that of a function that may be an entry
+-- point. [3.49.5]
 abbrev pub IsSoundEntry : List PlainInst → List Plain → Type 0
 IsSoundEntry is (Value k m ∷ Id x ∷ os) = (m ≡ 6) × IsKernelFunction is x
 IsSoundEntry is _ = ⊥
 
--- E2 at an OpExecutionMode: the function is that of an OpEntryPoint. [3.49.5]
+-- E2 at an OpExecutionMode: some OpEntryPoint names its function. [3.49.5]
 abbrev pub IsSoundMode : List PlainInst → List Plain → Type 0
-IsSoundMode is (Id x ∷ os) = (f : ℕ) × IsDefinedAt is x f × IsEntered is f
+IsSoundMode is (Id x ∷ os) = (f : ℕ) × IsDefinedAt is x f × IsNamed entered_by is f
 IsSoundMode is _ = ⊥
-
--- E2 at an OpFunction: it is imported if it is a declaration, and only then. [2.4, 3.17]
-abbrev pub IsSoundLinkage : Table → List PlainInst → ℕ → Type 0
-IsSoundLinkage G is f = IsImported G is f ↔ (¬ (IsDefinition is f))

@@ -5,8 +5,10 @@ ghost use Rattle.spv_table.specs.Table.{enumerant_of, kind_of};
 ghost use Rattle.spv_table.specs.Lookups.{value_named, number_named};
 ghost use Rattle.spv_table.specs.Implied.{capabilities_in};
 ghost use Rattle.spv_module.specs.Module.{plain_inst, plain_operands};
-ghost use Rattle.spv_capabilities.specs.Capable.{Has, HasNamed, HasNeeded, IsKernel, IsCovered, IsCoveredEntry};
-ghost use Rattle.spv_capabilities.specs.Capable.{IsCoveredValue, int_needs, float_needs, vector_needs, needs_of};
+ghost use Rattle.spv_capabilities.specs.Capable.{Has, HasNamed, IsCovered, IsCoveredValue, int_needs, float_needs};
+ghost use Rattle.spv_capabilities.specs.Capable.{vector_needs, needs_of};
+ghost use Rattle.spv_capabilities.specs.Asked.{HasNeeded, IsCoveredEntry};
+ghost use Rattle.spv_capabilities.specs.inner.Capable.{IsKernel};
 
 use crate::surveyed::Survey;
 use spv_module::{Inst, Operand};

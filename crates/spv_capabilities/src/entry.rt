@@ -7,8 +7,9 @@ ghost use Rattle.spv_layout.specs.Place.{IsDefinition};
 ghost use Rattle.spv_ids.specs.Definition.{IsDefinedAt};
 ghost use Rattle.spv_ids.specs.Order.{HasOpcode};
 ghost use Rattle.spv_capabilities.specs.Memory.{IsModel};
-ghost use Rattle.spv_capabilities.specs.Entry.{HasEntry, ReturnsVoid, IsCalled, IsEntered, IsKernelFunction};
-ghost use Rattle.spv_capabilities.specs.Entry.{IsSoundEntry, IsSoundMode, IsSoundLinkage};
+ghost use Rattle.spv_capabilities.specs.Entry.{ReturnsVoid, IsKernelFunction, IsSoundEntry, IsSoundMode};
+ghost use Rattle.spv_capabilities.specs.Asked.{HasEntry};
+ghost use Rattle.spv_capabilities.specs.inner.Entry.{IsCalled, IsEntered, IsSoundLinkage};
 ghost use Rattle.spv_capabilities.specs.Keeps.{KeepsEntries};
 
 use crate::surveyed::Survey;

@@ -2,11 +2,14 @@
 
 ghost use Rattle.std.specs.Prelude.{[], ◌∷◌, Some, None};
 ghost use Rattle.spv_module.specs.Operand.{Result, Id, Word, Value, Mask};
-ghost use Rattle.spv_capabilities.specs.Capable.{Has, IsKernel, IsCoveredEntry, IsCoveredOperand, HasNeeded, needs_of};
+ghost use Rattle.spv_capabilities.specs.Capable.{Has, IsCoveredOperand, needs_of};
+ghost use Rattle.spv_capabilities.specs.Asked.{IsCoveredEntry, HasNeeded, HasEntry};
+ghost use Rattle.spv_capabilities.specs.inner.Capable.{IsKernel};
 ghost use Rattle.spv_capabilities.specs.Memory.{IsModel};
 ghost use Rattle.spv_capabilities.specs.Keeps.{Keeps, IsFirstAt};
 ghost use Rattle.spv_module.specs.declared.fault.Rule.TheVariants as rule;
-ghost use Rattle.spv_capabilities.specs.Entry.{HasEntry, IsKernelFunction, IsSoundEntry, IsSoundMode, IsSoundLinkage};
+ghost use Rattle.spv_capabilities.specs.Entry.{IsKernelFunction, IsSoundEntry, IsSoundMode};
+ghost use Rattle.spv_capabilities.specs.inner.Entry.{IsSoundLinkage};
 ghost use Rattle.spv_capabilities.specs.Example.{small, inst, vectors, linked, entry, void_function, kernel, called};
 ghost use Rattle.spv_capabilities.specs.Example.{declaration};
 

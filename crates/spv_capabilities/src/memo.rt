@@ -5,8 +5,8 @@ ghost use Rattle.std.specs.Prelude.{true};
 ghost use Rattle.std.specs.List.{AllByRecursion};
 ghost use Rattle.spv_module.specs.Module.{plain_inst, plain_operand, plain_operands};
 ghost use Rattle.spv_capabilities.specs.inner.Subject.{Subject};
-ghost use Rattle.spv_capabilities.specs.Capable.{IsCoveredEntry, IsCoveredValue, IsCoveredMask, IsOtherKind};
-ghost use Rattle.spv_capabilities.specs.Capable.{IsCoveredOperand, IsCapable};
+ghost use Rattle.spv_capabilities.specs.Capable.{IsCoveredValue, IsCoveredMask, IsCoveredOperand, IsCapable};
+ghost use Rattle.spv_capabilities.specs.Asked.{IsCoveredEntry, IsOtherKind};
 ghost use Rattle.spv_capabilities.specs.inner.Known.{IsKnown, AreCovered, answer_of};
 
 use crate::capable::{

@@ -11,7 +11,9 @@ ghost use Rattle.spv_layout.specs.Plan.{IsPlan, IsPlaceOf};
 ghost use Rattle.spv_ids.specs.Order.{HasOpcode};
 ghost use Rattle.spv_ids.specs.Outcome.{IsDefinitionOf, definition_in};
 ghost use Rattle.spv_capabilities.specs.Capable.{Has};
-ghost use Rattle.spv_capabilities.specs.Entry.{IsNamed, IsCalled, IsEntered, IsImported};
+ghost use Rattle.spv_capabilities.specs.Entry.{IsNamed};
+ghost use Rattle.spv_capabilities.specs.Asked.{IsImported};
+ghost use Rattle.spv_capabilities.specs.inner.Entry.{IsCalled, IsEntered};
 ghost use Rattle.spv_capabilities.specs.inner.Survey.{AreMarked};
 
 use crate::gather::{Gathered, gather};

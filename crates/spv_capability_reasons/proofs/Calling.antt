@@ -8,7 +8,8 @@ use Rattle.spv_module.specs.Operand.{PlainInst, result_in}
 use Rattle.spv_layout.specs.Place.{IsDefinition}
 use Rattle.spv_ids.specs.Definition.{IsDefinedAt}
 use Rattle.spv_ids.specs.Outcome.{IsDefinitionOf}
-use Rattle.spv_capabilities.specs.Entry.{IsCalled, IsKernelFunction, IsSoundEntry, IsSoundMode, IsSoundLinkage, ReturnsVoid, called_by, entered_by, second_id}
+use Rattle.spv_capabilities.specs.Entry.{IsKernelFunction, IsSoundEntry, IsSoundMode, ReturnsVoid, called_by, entered_by, second_id}
+use Rattle.spv_capabilities.specs.inner.Entry.{IsCalled, IsSoundLinkage}
 use Rattle.spv_capabilities.specs.Keeps.{KeepsEntries}
 use Rattle.spv_capabilities.proofs.Marked.{below_or}
 use Rattle.spv_evidence.specs.declared.evidence.EntryPart.TheVariants as part

@@ -8,7 +8,8 @@ use Rattle.spv_table.specs.Table.{Table}
 use Rattle.spv_table.proofs.Search.{in_cons}
 use Rattle.spv_module.specs.Operand.{Plain, PlainInst}
 use Rattle.spv_module.specs.Spelling.{bits_from, set_bits}
-use Rattle.spv_capabilities.specs.Capable.{IsCoveredOperand, IsCoveredEntry, IsCapable, HasNeeded, needs_of}
+use Rattle.spv_capabilities.specs.Capable.{IsCoveredOperand, IsCapable, needs_of}
+use Rattle.spv_capabilities.specs.Asked.{IsCoveredEntry, HasNeeded}
 use Rattle.spv_capabilities.proofs.Bits.{has_bit}
 use Rattle.spv_capabilities.proofs.Marked.{below_or}
 use Rattle.spv_capability_reasons.specs.inner.Bits.{IsUncoveredAt, IsUncoveredBit}

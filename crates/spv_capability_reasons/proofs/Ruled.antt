@@ -9,9 +9,9 @@ use Rattle.spv_module.specs.declared.operand.Operand.{Operand}
 use Rattle.spv_module.specs.declared.fault.Rule.{Rule}
 use Rattle.spv_module.specs.declared.fault.Rule.TheVariants as rule
 use Rattle.spv_ids.specs.Order.{HasOpcode}
-use Rattle.spv_capabilities.specs.Capable.{IsKernel}
+use Rattle.spv_capabilities.specs.inner.Capable.{IsKernel}
 use Rattle.spv_capabilities.specs.Memory.{IsModel}
-use Rattle.spv_capabilities.specs.Entry.{HasEntry}
+use Rattle.spv_capabilities.specs.Asked.{HasEntry}
 use Rattle.spv_capabilities.specs.Keeps.{Keeps}
 use Rattle.spv_evidence.specs.declared.evidence.Evidence.{Evidence}
 use Rattle.spv_evidence.specs.declared.evidence.Evidence.TheVariants as evidence

@@ -8,8 +8,9 @@ use Rattle.spv_module.specs.declared.fault.Rule.TheVariants as rule
 use Rattle.spv_layout.specs.Place.{IsDefinition}
 use Rattle.spv_ids.specs.Definition.{IsDefinedAt}
 use Rattle.spv_ids.specs.Order.{HasOpcode}
-use Rattle.spv_capabilities.specs.Capable.{Has, IsOtherKind, IsCoveredEntry, IsCoveredValue, HasNeeded, needs_of}
-use Rattle.spv_capabilities.specs.Entry.{HasEntry, IsImported, IsSoundMode, ReturnsVoid, called_by, entered_by}
+use Rattle.spv_capabilities.specs.Capable.{Has, IsCoveredValue, needs_of}
+use Rattle.spv_capabilities.specs.Entry.{IsSoundMode, ReturnsVoid, called_by, entered_by}
+use Rattle.spv_capabilities.specs.Asked.{IsOtherKind, IsCoveredEntry, HasNeeded, HasEntry, IsImported}
 use Rattle.spv_evidence.specs.declared.evidence.Evidence.{Evidence}
 use Rattle.spv_evidence.specs.declared.evidence.Evidence.TheVariants as evidence
 use Rattle.spv_evidence.specs.declared.evidence.EntryPart.{EntryPart}

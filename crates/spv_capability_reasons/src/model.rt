@@ -4,7 +4,7 @@ ghost use Rattle.std.specs.Prelude.{◌↔◌, ℕ, IsTrue};
 ghost use Rattle.spv_module.specs.Module.{plain_operands};
 ghost use Rattle.spv_module.specs.declared.fault.Rule.TheVariants as rule;
 ghost use Rattle.spv_ids.specs.Order.{HasOpcode};
-ghost use Rattle.spv_capabilities.specs.Capable.{IsKernel};
+ghost use Rattle.spv_capabilities.specs.inner.Capable.{IsKernel};
 ghost use Rattle.spv_capabilities.specs.Memory.{IsModel};
 ghost use Rattle.spv_capability_reasons.specs.Evidence.{IsEvidence, IsOtherModel};
 ghost use Rattle.spv_capability_reasons.specs.inner.Models.{HasAddressing, HasMemory};

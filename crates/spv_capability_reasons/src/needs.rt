@@ -5,8 +5,8 @@ ghost use Rattle.std.specs.Prelude.{Some, length, slice_get};
 ghost use Rattle.std.specs.List.{AllByRecursion};
 ghost use Rattle.spv_module.specs.Operand.{PlainInst, Value, Mask};
 ghost use Rattle.spv_module.specs.Module.{plain_inst, plain_operand, plain_operands};
-ghost use Rattle.spv_capabilities.specs.Capable.{IsCapable, IsOtherKind};
-ghost use Rattle.spv_capabilities.specs.Capable.{IsCoveredValue, IsCoveredMask, IsCoveredOperand};
+ghost use Rattle.spv_capabilities.specs.Capable.{IsCapable, IsCoveredValue, IsCoveredMask, IsCoveredOperand};
+ghost use Rattle.spv_capabilities.specs.Asked.{IsOtherKind};
 ghost use Rattle.spv_capability_reasons.specs.Evidence.{IsUncovered};
 ghost use Rattle.spv_capability_reasons.specs.inner.Bits.{IsSet, IsUncoveredAt, IsUncoveredBit};
 

@@ -1,6 +1,4 @@
-pub mod Asking
 pub mod Assemblings
-pub mod Numerals
 pub mod Showings
 pub mod Tasks
 pub mod TraceLines

@@ -4,9 +4,9 @@ use Rattle.spv_words.specs.Header.{IsFirstBroken, IsModule}
 use Rattle.spv_words.specs.declared.words.Order.{Order}
 use Rattle.spv_words.specs.declared.words.WordError.TheVariants.{W2}
 use Rattle.spv_table.specs.Table.{Table}
-use Rattle.spv_commands.specs.declared.command_line.Command.{Command}
-use Rattle.spv_commands.specs.declared.command_line.Command.TheVariants.{Check, Explain, Show, Asm, Trace, Rules, Each}
-use Rattle.spv_commands.specs.declared.command_line.Task.TheVariants as tasks
+use Rattle.spv_command_line.specs.declared.command_line.Command.{Command}
+use Rattle.spv_command_line.specs.declared.command_line.Command.TheVariants.{Check, Explain, Show, Asm, Trace, Rules, Each}
+use Rattle.spv_command_line.specs.declared.command_line.Task.TheVariants as tasks
 use Rattle.spv_commands.specs.Example.{empty_grammar}
 use Rattle.spv_commands.specs.Show.{BeginsShowing, IsShowing, Shows}
 use Rattle.spv_reasons.specs.Stream.{BeginsExplaining, Explains}

@@ -108,11 +108,7 @@ steps_begun old middle new before after steps part at n s h e i =
 pub steps_all : (old new : Option (List ℕ)) (before after : ℕ) (steps : List Step) (at : ℕ) → StepsSoFar old new before after steps at → length steps ≤ at → Appends old new (flat_map step_line steps)
 steps_all old new before after steps at s h = let w = s.written in let e = take_all at steps h in rw e at w
 
--- what is lent of a list from a place on is the rest of it
-pub rest_lent : {X : Type 0} (xs : List X) (i : ℕ) → take (length xs - i) (drop i xs) ≡ drop i xs
-rest_lent xs i = take_all (length xs - i) (drop i xs) (rw (length-drop i xs) (omega arith))
-
--- so is what is lent by a greater count
+-- what is lent of a list from a place on, by a count that reaches its end, is the rest of it
 pub rest_by : {X : Type 0} (xs : List X) (i k : ℕ) → length xs ≤ i + k → take k (drop i xs) ≡ drop i xs
 rest_by xs i k h = take_all k (drop i xs) (rw (length-drop i xs) (omega arith))
 

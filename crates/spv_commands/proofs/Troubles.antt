@@ -7,8 +7,8 @@ use Rattle.spv_table.specs.Table.{Table}
 use Rattle.spv_commands.specs.Show.{Shows}
 use Rattle.spv_commands.specs.Task.{DoesTask, LacksEntry, LacksEntryByText}
 use Rattle.spv_commands.specs.Trace.{Traces}
-use Rattle.spv_commands.specs.declared.command_line.Command.{Command}
-use Rattle.spv_commands.specs.declared.command_line.Task.{Task}
+use Rattle.spv_command_line.specs.declared.command_line.Command.{Command}
+use Rattle.spv_command_line.specs.declared.command_line.Task.{Task}
 use Rattle.spv_verdict.specs.Stream.{TellsVerdict}
 use Rattle.spv_reasons.specs.Stream.{Explains}
 use Rattle.spv_commands.specs.Trouble.{IsErrorLine, IsTableOf, refused, file, entry, memory, grammar_text, trouble_text}

@@ -1,7 +1,5 @@
 pub mod Assemble
-pub mod CommandLine
 pub mod Example
-pub mod Number
 pub mod Show
 pub mod Task
 pub mod Trace

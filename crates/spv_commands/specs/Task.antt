@@ -2,10 +2,11 @@
 use Rattle.std.specs.Prelude.{◌≡◌, ℕ, List, Option, Bool, true, IfSome, IsUtf8}
 use Rattle.std.specs.Io.KnownBytes.{Appends}
 use Rattle.spv_table.specs.Table.{Table}
-use Rattle.spv_commands.specs.declared.command_line.Command.{Command}
-use Rattle.spv_commands.specs.declared.command_line.Command.TheVariants.{Check, Explain, Show, Asm, Trace, Rules, Each}
-use Rattle.spv_commands.specs.declared.command_line.Task.{Task}
-use Rattle.spv_commands.specs.declared.command_line.Task.TheVariants as tasks
+use Rattle.spv_command_line.specs.declared.command_line.Command.{Command}
+use Rattle.spv_command_line.specs.declared.command_line.Command.TheVariants.{Check, Explain, Show, Asm, Trace}
+use Rattle.spv_command_line.specs.declared.command_line.Command.TheVariants.{Rules, Each}
+use Rattle.spv_command_line.specs.declared.command_line.Task.{Task}
+use Rattle.spv_command_line.specs.declared.command_line.Task.TheVariants as tasks
 use Rattle.spv_commands.specs.Assemble.{Assembles, BeginsAssembling, order_of}
 use Rattle.spv_commands.specs.Show.{BeginsShowing, Shows}
 use Rattle.spv_commands.specs.Trace.{BeginsTracing, HasNoEntry, Traces}

@@ -1,7 +1,7 @@
 //! What `asm` makes of the text of a stream.
 ghost use Rattle.std.specs.Prelude.{◌≡◌, ◌≢◌, ◌⊎◌, ◌↔◌, IfOk, IfErr, IfSome, IsErr, IsErrOf};
 ghost use Rattle.std.specs.Prelude.{IsUtf8};
-ghost use Rattle.spv_verdict.specs.Outcome.{Failed as HasFailed, IsUntouched};
+ghost use Rattle.spv_verdict.specs.Outcome.{HasFailed, IsUntouched};
 ghost use Rattle.spv_commands.specs.Assemble.{Assembles, BeginsAssembling};
 ghost use Rattle.spv_commands.specs.inner.Assembly.{ComesTo, fault_of};
 ghost use Rattle.spv_commands.specs.declared.assembling.TextError.TheVariants as trouble;

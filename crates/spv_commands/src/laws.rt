@@ -10,13 +10,12 @@ ghost use Rattle.spv_commands.specs.Example.{empty_grammar};
 ghost use Rattle.spv_reasons.specs.Stream.{BeginsExplaining, Explains};
 ghost use Rattle.spv_commands.specs.Show.{BeginsShowing, IsShowing, Shows};
 ghost use Rattle.spv_commands.specs.Assemble.{Assembles, BeginsAssembling};
-ghost use Rattle.spv_commands.specs.Number.{AreNumbers, IsNumber};
 ghost use Rattle.spv_commands.specs.Trace.{BeginsTracing, HasNoEntry, Traces, step_line, trace_text};
 ghost use Rattle.spv_run.specs.declared.parts.Ending.TheVariants.{Finished, Limit};
 ghost use Rattle.spv_commands.specs.Task.{BeginsByText, DoesByText, MakesNothing, ReadsGrammar};
 ghost use Rattle.spv_commands.specs.Trouble.{BeginsWith, IsErrorLine, IsTableOf, Writes, entry_line, file_line};
 ghost use Rattle.spv_commands.specs.Trouble.{memory_line};
-ghost use Rattle.spv_commands.specs.declared.command_line.Command.{Command};
+ghost use Rattle.spv_command_line.specs.declared.command_line.Command.{Command};
 ghost use Rattle.spv_verdict.specs.Verdict.{line_end, valid_line};
 
 use spv_grammar::laws::one_table;
@@ -85,18 +84,6 @@ pub fn assemble_examples()
         (Some (9 ∷ codes "fault")) (Some []) (Some []) }
     ensures begins_none { (G : Table) (o : Order) (old new : Option (List ℕ))
         → ¬ (BeginsAssembling G o (1 ∷ 2 ∷ 3 ∷ []) old new (Some []) (Some (3 ∷ []))) }
-{}
-
-/// Worked examples of numbers of the command line.
-pub fn number_examples()
-    // `007` is a number, and `+7`, no text and 4,294,967,296 are none.
-    ensures number { IsNumber (codes "007") 7 }
-    ensures no_sign { (n : ℕ) → ¬ (IsNumber (codes "+7") n) }
-    ensures no_digit { (n : ℕ) → ¬ (IsNumber [] n) }
-    ensures too_large { (n : ℕ) → ¬ (IsNumber (codes "4294967296") n) }
-    // Two numbers, and no two where a comma stands at the end.
-    ensures numbers { AreNumbers (codes "0,12") (0 ∷ 12 ∷ []) }
-    ensures no_numbers { (ns : List ℕ) → ¬ (AreNumbers (codes "0,") ns) }
 {}
 
 /// Worked examples of what is traced.

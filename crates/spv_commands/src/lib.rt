@@ -3,10 +3,7 @@
 #![tactic(auto)]
 
 mod assembling;
-mod command_line;
 pub mod laws;
-mod manual;
-mod number;
 mod program;
 mod showing;
 mod text_fault;
@@ -14,8 +11,9 @@ mod trace_lines;
 mod tracing;
 
 pub use assembling::{TextError, assemble_stream, read_all};
-pub use command_line::{Command, Task, UseError, arguments, arguments_in, help, text_asked};
 pub use program::{Trouble, report, run};
 pub use showing::show_stream;
-pub use spv_reasons::Code;
+pub use spv_command_line::{
+    Code, Command, Task, UseError, arguments, arguments_in, help, text_asked,
+};
 pub use tracing::{RunError, trace_stream};

@@ -5,7 +5,7 @@ ghost use Rattle.spv_grammar.specs.Answer.{text_breaks};
 ghost use Rattle.spv_grammar.specs.declared.error.GrammarError.{GrammarError};
 ghost use Rattle.spv_grammar.specs.declared.error.GrammarError.TheVariants.{J8};
 ghost use Rattle.spv_commands.specs.Assemble.{Assembles, BeginsAssembling, order_of};
-ghost use Rattle.spv_verdict.specs.Outcome.{Failed, IsUntouched, OfKnown};
+ghost use Rattle.spv_verdict.specs.Outcome.{HasFailed, IsUntouched, OfKnown};
 ghost use Rattle.spv_verdict.specs.Stream.{Begins, TellsVerdict};
 ghost use Rattle.spv_reasons.specs.Stream.{BeginsExplaining, Explains};
 ghost use Rattle.spv_commands.specs.Show.{BeginsShowing, Shows};
@@ -18,10 +18,10 @@ ghost use Rattle.spv_commands.specs.Trouble.{trouble_text};
 ghost use Rattle.spv_commands.specs.declared.program.Trouble.TheVariants.{File, Grammar, Memory, NoEntry};
 
 use crate::assembling::{TextError, assemble_stream};
-use crate::command_line::{Command, Task};
 use crate::laws::one_grammar;
 use crate::showing::show_stream;
 use crate::tracing::{RunError, trace_stream};
+use spv_command_line::{Command, Task};
 use spv_grammar::{FromGrammar, GrammarError};
 use spv_reasons::{Code, explain_stream, rules_text};
 use spv_table::Table;
@@ -102,11 +102,11 @@ fn judged<S: Source, W: Sink>(
 ) -> Result<bool, Trouble>
     ensures verdict { OfKnown (S.remaining file.old) (W.contents out.old)
         (λ bytes old. IfOk result (λ valid. TellsVerdict table.now bytes old (W.contents out.new) valid)) }
-    ensures failed { (Failed S.failures file.old file.new ⊎ Failed W.failures out.old out.new)
+    ensures failed { (HasFailed S.failures file.old file.new ⊎ HasFailed W.failures out.old out.new)
         ↔ IsErrOf result File }
     ensures only { IfErr result (λ t. (t ≡ File) ⊎ (t ≡ Memory)) }
     ensures unwritten { IsErr result → IsUntouched W.failures out.old out.new }
-    ensures begun { Failed W.failures out.old out.new
+    ensures begun { HasFailed W.failures out.old out.new
         → OfKnown (S.remaining file.old) (W.contents out.old)
         (λ bytes old. Begins table.now bytes old (W.contents out.new)) }
 {
@@ -122,11 +122,11 @@ fn explained<S: Source, W: Sink>(
 ) -> Result<bool, Trouble>
     ensures explained { OfKnown (S.remaining file.old) (W.contents out.old)
         (λ bytes old. IfOk result (λ valid. Explains table.now bytes old (W.contents out.new) valid)) }
-    ensures failed { (Failed S.failures file.old file.new ⊎ Failed W.failures out.old out.new)
+    ensures failed { (HasFailed S.failures file.old file.new ⊎ HasFailed W.failures out.old out.new)
         ↔ IsErrOf result File }
     ensures only { IfErr result (λ t. (t ≡ File) ⊎ (t ≡ Memory)) }
     ensures unwritten { IsErr result → IsUntouched W.failures out.old out.new }
-    ensures begun { Failed W.failures out.old out.new
+    ensures begun { HasFailed W.failures out.old out.new
         → OfKnown (S.remaining file.old) (W.contents out.old)
         (λ bytes old. BeginsExplaining table.now bytes old (W.contents out.new)) }
 {
@@ -143,11 +143,11 @@ fn tasked<S: Source, W: Sink>(
 ) -> Result<bool, Trouble>
     ensures done { OfKnown (S.remaining file.old) (W.contents out.old)
         (λ bytes old. IfOk result (λ valid. DoesTask task table.now bytes old (W.contents out.new) valid)) }
-    ensures failed { (Failed S.failures file.old file.new ⊎ Failed W.failures out.old out.new)
+    ensures failed { (HasFailed S.failures file.old file.new ⊎ HasFailed W.failures out.old out.new)
         ↔ IsErrOf result File }
     ensures only { IfErr result (λ t. (t ≡ File) ⊎ (t ≡ Memory)) }
     ensures unwritten { IsErr result → IsUntouched W.failures out.old out.new }
-    ensures begun { Failed W.failures out.old out.new
+    ensures begun { HasFailed W.failures out.old out.new
         → OfKnown (S.remaining file.old) (W.contents out.old)
         (λ bytes old. BeginsTask task table.now bytes old (W.contents out.new)) }
 {
@@ -166,11 +166,11 @@ fn shown<S: Source, W: Sink>(
 ) -> Result<bool, Trouble>
     ensures shown { OfKnown (S.remaining file.old) (W.contents out.old)
         (λ bytes old. IfOk result (λ answer. Shows table.now bytes old (W.contents out.new) answer)) }
-    ensures failed { (Failed S.failures file.old file.new ⊎ Failed W.failures out.old out.new)
+    ensures failed { (HasFailed S.failures file.old file.new ⊎ HasFailed W.failures out.old out.new)
         ↔ IsErrOf result File }
     ensures only { IfErr result (λ t. (t ≡ File) ⊎ (t ≡ Memory)) }
     ensures unwritten { IsErr result → IsUntouched W.failures out.old out.new }
-    ensures begun { Failed W.failures out.old out.new
+    ensures begun { HasFailed W.failures out.old out.new
         → OfKnown (S.remaining file.old) (W.contents out.old)
         (λ bytes old. BeginsShowing table.now bytes old (W.contents out.new)) }
 {
@@ -196,15 +196,15 @@ fn assembled<S: Source, W: Sink, O: Sink>(
     ensures done { IfSome (S.remaining file.old)
         (λ bytes. IfOk result (λ answer. Assembles table.now (order_of big) bytes (W.contents out.old)
         (W.contents out.new) (O.contents made.old) (O.contents made.new) answer)) }
-    ensures failed { Failed S.failures file.old file.new ⊎ Failed W.failures out.old out.new
-        ⊎ Failed O.failures made.old made.new → IsErrOf result File }
+    ensures failed { HasFailed S.failures file.old file.new ⊎ HasFailed W.failures out.old out.new
+        ⊎ HasFailed O.failures made.old made.new → IsErrOf result File }
     ensures why { IfErr result (λ t. ((t ≡ File)
-        × ((Failed S.failures file.old file.new ⊎ Failed W.failures out.old out.new
-        ⊎ Failed O.failures made.old made.new) ⊎ IfSome (S.remaining file.old) (λ bytes. ¬ IsUtf8 bytes)))
+        × ((HasFailed S.failures file.old file.new ⊎ HasFailed W.failures out.old out.new
+        ⊎ HasFailed O.failures made.old made.new) ⊎ IfSome (S.remaining file.old) (λ bytes. ¬ IsUtf8 bytes)))
         ⊎ (t ≡ Memory)) }
     ensures unwritten { IsErr result → IsUntouched W.failures out.old out.new }
     ensures unmade { IsErr result → IsUntouched O.failures made.old made.new }
-    ensures begun { Failed W.failures out.old out.new ⊎ Failed O.failures made.old made.new
+    ensures begun { HasFailed W.failures out.old out.new ⊎ HasFailed O.failures made.old made.new
         → IfSome (S.remaining file.old)
         (λ bytes. BeginsAssembling table.now (order_of big) bytes (W.contents out.old) (W.contents out.new)
         (O.contents made.old) (O.contents made.new)) }
@@ -230,13 +230,13 @@ fn traced<S: Source, W: Sink>(
     ensures traced { OfKnown (S.remaining file.old) (W.contents out.old)
         (λ bytes old. IfOk result (λ answer. Traces table.now function choices.now limit bytes old
         (W.contents out.new) answer)) }
-    ensures failed { (Failed S.failures file.old file.new ⊎ Failed W.failures out.old out.new)
+    ensures failed { (HasFailed S.failures file.old file.new ⊎ HasFailed W.failures out.old out.new)
         ↔ IsErrOf result File }
     ensures why { IfErr result (λ t. (t ≡ File)
         ⊎ ((t ≡ NoEntry) × IfSome (S.remaining file.old) (λ bytes. HasNoEntry table.now bytes function))
         ⊎ (t ≡ Memory)) }
     ensures unwritten { IsErr result → IsUntouched W.failures out.old out.new }
-    ensures begun { Failed W.failures out.old out.new
+    ensures begun { HasFailed W.failures out.old out.new
         → OfKnown (S.remaining file.old) (W.contents out.old)
         (λ bytes old. BeginsTracing table.now function choices.now limit bytes old (W.contents out.new)) }
 {
@@ -252,10 +252,10 @@ fn traced<S: Source, W: Sink>(
 fn ruled<W: Sink>(alloc: Global, code: Option<Code>, out: &mut W) -> Result<bool, Trouble>
     ensures written { IfOk result (λ answer. WritesText (W.contents out.old) (W.contents out.new)
         × (answer ≡ true)) }
-    ensures failed { Failed W.failures out.old out.new ↔ IsErrOf result File }
+    ensures failed { HasFailed W.failures out.old out.new ↔ IsErrOf result File }
     ensures only { IfErr result (λ t. (t ≡ File) ⊎ (t ≡ Memory)) }
     ensures unwritten { IsErr result → IsUntouched W.failures out.old out.new }
-    ensures begun { Failed W.failures out.old out.new → BeginsText (W.contents out.old) (W.contents out.new) }
+    ensures begun { HasFailed W.failures out.old out.new → BeginsText (W.contents out.old) (W.contents out.new) }
 {
     let text = match rules_text(alloc, code) {
         Ok(text) => text,
@@ -280,15 +280,15 @@ fn done_by<S: Source, W: Sink, O: Sink>(
     ensures done { IfSome (S.remaining file.old)
         (λ bytes. IfOk result (λ answer. Does command.now table.now bytes (W.contents out.old) (W.contents out.new)
         (O.contents made.old) (O.contents made.new) answer)) }
-    ensures failed { Failed S.failures file.old file.new ⊎ Failed W.failures out.old out.new
-        ⊎ Failed O.failures made.old made.new → IsErrOf result File }
+    ensures failed { HasFailed S.failures file.old file.new ⊎ HasFailed W.failures out.old out.new
+        ⊎ HasFailed O.failures made.old made.new → IsErrOf result File }
     ensures why { IfErr result (λ t. ((t ≡ File)
-        × ((Failed S.failures file.old file.new ⊎ Failed W.failures out.old out.new
-        ⊎ Failed O.failures made.old made.new) ⊎ IsNoText command.now (S.remaining file.old)))
+        × ((HasFailed S.failures file.old file.new ⊎ HasFailed W.failures out.old out.new
+        ⊎ HasFailed O.failures made.old made.new) ⊎ IsNoText command.now (S.remaining file.old)))
         ⊎ ((t ≡ NoEntry) × LacksEntry command.now table.now (S.remaining file.old)) ⊎ (t ≡ Memory)) }
     ensures unwritten { IsErr result → IsUntouched W.failures out.old out.new }
     ensures unmade { IsErr result → IsUntouched O.failures made.old made.new }
-    ensures begun { Failed W.failures out.old out.new ⊎ Failed O.failures made.old made.new
+    ensures begun { HasFailed W.failures out.old out.new ⊎ HasFailed O.failures made.old made.new
         → IfSome (S.remaining file.old)
         (λ bytes. BeginsToDo command.now table.now bytes (W.contents out.old) (W.contents out.new)
         (O.contents made.old) (O.contents made.new)) }
@@ -323,18 +323,18 @@ fn done_by_text<S: Source, W: Sink, O: Sink>(
     ensures done { IfSome (S.remaining file.old)
         (λ bytes. IfOk result (λ answer. DoesByText command.now grammar.now bytes (W.contents out.old)
         (W.contents out.new) (O.contents made.old) (O.contents made.new) answer)) }
-    ensures failed { Failed S.failures file.old file.new ⊎ Failed W.failures out.old out.new
-        ⊎ Failed O.failures made.old made.new → IsErrOf result File }
+    ensures failed { HasFailed S.failures file.old file.new ⊎ HasFailed W.failures out.old out.new
+        ⊎ HasFailed O.failures made.old made.new → IsErrOf result File }
     ensures reason { IfErr result (λ t. IsErrorLine grammar.now
-        ((Failed S.failures file.old file.new ⊎ Failed W.failures out.old out.new
-        ⊎ Failed O.failures made.old made.new) ⊎ IsNoText command.now (S.remaining file.old))
+        ((HasFailed S.failures file.old file.new ⊎ HasFailed W.failures out.old out.new
+        ⊎ HasFailed O.failures made.old made.new) ⊎ IsNoText command.now (S.remaining file.old))
         (LacksEntryByText command.now grammar.now (S.remaining file.old)) (trouble_text t)) }
     ensures refused { (e : GrammarError) → text_breaks grammar.now e → (file.new ≡ file.old)
         × (out.new ≡ out.old) × (made.new ≡ made.old)
         × (IsErrOf result (Grammar e) ⊎ IsErrOf result (Grammar J8)) }
     ensures unwritten { IsErr result → IsUntouched W.failures out.old out.new }
     ensures unmade { IsErr result → IsUntouched O.failures made.old made.new }
-    ensures begun { Failed W.failures out.old out.new ⊎ Failed O.failures made.old made.new
+    ensures begun { HasFailed W.failures out.old out.new ⊎ HasFailed O.failures made.old made.new
         → IfSome (S.remaining file.old)
         (λ bytes. BeginsByText command.now grammar.now bytes (W.contents out.old) (W.contents out.new)
         (O.contents made.old) (O.contents made.new)) }
@@ -365,20 +365,20 @@ fn done<S: Source, W: Sink, O: Sink>(
     ensures done { ReadsGrammar command.now → IfSome (S.remaining file.old)
         (λ bytes. IfOk result (λ answer. DoesByText command.now grammar.now bytes (W.contents out.old)
         (W.contents out.new) (O.contents made.old) (O.contents made.new) answer)) }
-    ensures failed { Failed S.failures file.old file.new ⊎ Failed W.failures out.old out.new
-        ⊎ Failed O.failures made.old made.new → IsErrOf result File }
+    ensures failed { HasFailed S.failures file.old file.new ⊎ HasFailed W.failures out.old out.new
+        ⊎ HasFailed O.failures made.old made.new → IsErrOf result File }
     ensures reason { ReadsGrammar command.now
         → IfErr result
-        (λ t. IsErrorLine grammar.now ((Failed S.failures file.old file.new ⊎ Failed W.failures out.old out.new
-        ⊎ Failed O.failures made.old made.new) ⊎ IsNoText command.now (S.remaining file.old))
+        (λ t. IsErrorLine grammar.now ((HasFailed S.failures file.old file.new ⊎ HasFailed W.failures out.old out.new
+        ⊎ HasFailed O.failures made.old made.new) ⊎ IsNoText command.now (S.remaining file.old))
         (LacksEntryByText command.now grammar.now (S.remaining file.old)) (trouble_text t)) }
     ensures refused { ReadsGrammar command.now → (e : GrammarError) → text_breaks grammar.now e
         → (file.new ≡ file.old) × (out.new ≡ out.old) × (made.new ≡ made.old)
         × (IsErrOf result (Grammar e) ⊎ IsErrOf result (Grammar J8)) }
     ensures unwritten { IsErr result → IsUntouched W.failures out.old out.new }
     ensures unmade { IsErr result → IsUntouched O.failures made.old made.new }
-    ensures begun { ReadsGrammar command.now → Failed W.failures out.old out.new
-        ⊎ Failed O.failures made.old made.new
+    ensures begun { ReadsGrammar command.now → HasFailed W.failures out.old out.new
+        ⊎ HasFailed O.failures made.old made.new
         → IfSome (S.remaining file.old)
         (λ bytes. BeginsByText command.now grammar.now bytes (W.contents out.old) (W.contents out.new)
         (O.contents made.old) (O.contents made.new)) }
@@ -386,10 +386,10 @@ fn done<S: Source, W: Sink, O: Sink>(
     ensures unread { ¬ (ReadsGrammar command.now) → file.new ≡ file.old }
     ensures text { ¬ (ReadsGrammar command.now)
         → IfOk result (λ answer. WritesText (W.contents out.old) (W.contents out.new) × (answer ≡ true)) }
-    ensures text_begun { ¬ (ReadsGrammar command.now) → Failed W.failures out.old out.new
+    ensures text_begun { ¬ (ReadsGrammar command.now) → HasFailed W.failures out.old out.new
         → BeginsText (W.contents out.old) (W.contents out.new) }
     ensures text_only { ¬ (ReadsGrammar command.now)
-        → IfErr result (λ t. ((t ≡ File) × Failed W.failures out.old out.new) ⊎ (t ≡ Memory)) }
+        → IfErr result (λ t. ((t ≡ File) × HasFailed W.failures out.old out.new) ⊎ (t ≡ Memory)) }
 {
     match command {
         Command::Rules { code } => ruled(alloc, *code, out),
@@ -428,8 +428,8 @@ pub fn run<S: Source, W: Sink, O: Sink, E: Sink>(
     ensures error { ReadsGrammar command.now → result ≡ 2
         → (line : List ℕ)
         × IsErrorLine grammar.now
-        ((Failed S.failures file.old file.new ⊎ Failed W.failures out.old out.new
-        ⊎ Failed O.failures made.old made.new) ⊎ IsNoText command.now (S.remaining file.old))
+        ((HasFailed S.failures file.old file.new ⊎ HasFailed W.failures out.old out.new
+        ⊎ HasFailed O.failures made.old made.new) ⊎ IsNoText command.now (S.remaining file.old))
         (LacksEntryByText command.now grammar.now (S.remaining file.old)) line
         × Writes line (E.contents err.old) (E.contents err.new) (E.failures err.old) (E.failures err.new) }
     // A refused grammar file is told first, before anything is read or written: by its code, or as want of memory.
@@ -438,16 +438,16 @@ pub fn run<S: Source, W: Sink, O: Sink, E: Sink>(
         × (Writes (grammar_text e) (E.contents err.old) (E.contents err.new) (E.failures err.old) (E.failures err.new)
         ⊎ Writes memory_line (E.contents err.old) (E.contents err.new) (E.failures err.old) (E.failures err.new)) }
     // A failed read or write is told by `error file`.
-    ensures failed { Failed S.failures file.old file.new ⊎ Failed W.failures out.old out.new
-        ⊎ Failed O.failures made.old made.new
+    ensures failed { HasFailed S.failures file.old file.new ⊎ HasFailed W.failures out.old out.new
+        ⊎ HasFailed O.failures made.old made.new
         → (result ≡ 2) × Writes file_line (E.contents err.old) (E.contents err.new) (E.failures err.old)
         (E.failures err.new) }
     // With 2 the standard output and the file that is made are as they were, or, after a failed write, have got a
     // beginning.
     ensures unwritten { result ≡ 2 → IsUntouched W.failures out.old out.new }
     ensures unmade { result ≡ 2 → IsUntouched O.failures made.old made.new }
-    ensures begun { ReadsGrammar command.now → Failed W.failures out.old out.new
-        ⊎ Failed O.failures made.old made.new
+    ensures begun { ReadsGrammar command.now → HasFailed W.failures out.old out.new
+        ⊎ HasFailed O.failures made.old made.new
         → IfSome (S.remaining file.old)
         (λ bytes. BeginsByText command.now grammar.now bytes (W.contents out.old) (W.contents out.new)
         (O.contents made.old) (O.contents made.new)) }
@@ -456,10 +456,10 @@ pub fn run<S: Source, W: Sink, O: Sink, E: Sink>(
     ensures unread { ¬ (ReadsGrammar command.now) → (file.new ≡ file.old) × (result ≢ 1) }
     ensures text { ¬ (ReadsGrammar command.now) → result ≡ 0
         → WritesText (W.contents out.old) (W.contents out.new) }
-    ensures text_begun { ¬ (ReadsGrammar command.now) → Failed W.failures out.old out.new
+    ensures text_begun { ¬ (ReadsGrammar command.now) → HasFailed W.failures out.old out.new
         → BeginsText (W.contents out.old) (W.contents out.new) }
     ensures text_error { ¬ (ReadsGrammar command.now) → result ≡ 2
-        → (Failed W.failures out.old out.new × Writes file_line (E.contents err.old) (E.contents err.new)
+        → (HasFailed W.failures out.old out.new × Writes file_line (E.contents err.old) (E.contents err.new)
         (E.failures err.old) (E.failures err.new)) ⊎ Writes memory_line (E.contents err.old) (E.contents err.new)
         (E.failures err.old) (E.failures err.new) }
     // `check`, `explain`, `show`, `trace` and `rules` make no file.

@@ -5,7 +5,7 @@ ghost use Rattle.std.specs.Io.KnownBytes.{Appends};
 ghost use Rattle.spv_words.specs.Header.{IsModule};
 ghost use Rattle.spv_words.specs.declared.words.Order.{Order};
 ghost use Rattle.spv_words.specs.declared.words.WordError.TheVariants.{W1, W9};
-ghost use Rattle.spv_verdict.specs.Outcome.{Failed, OfKnown};
+ghost use Rattle.spv_verdict.specs.Outcome.{HasFailed, OfKnown};
 ghost use Rattle.spv_commands.specs.Show.{BeginsShowing, IsShowing, Shows};
 ghost use Rattle.spv_commands.specs.inner.Shown.{is_text, output_of, shown_refusal, shown_stop};
 
@@ -64,7 +64,7 @@ fn shown_of(alloc: Global, table: &Table, image: &Image) -> Result<Shown, WordEr
 fn shown_on<R: Source>(alloc: Global, table: &Table, r: &mut R) -> Result<Shown, WordError>
     ensures known { IfSome (R.remaining r.old)
         (λ bytes. IfOk result (λ s. IsShowing table.now bytes (output_of s) (is_text s))) }
-    ensures count { Failed R.failures r.old r.new ↔ IsErrOf result W1 }
+    ensures count { HasFailed R.failures r.old r.new ↔ IsErrOf result W1 }
     ensures only { IfErr result (λ e. (e ≡ W1) ⊎ (e ≡ W9)) }
 {
     let image = match read_image(alloc, r) {
@@ -92,7 +92,7 @@ impl Shown {
             (λ xs. (n : ℕ) × (n ≤ length (output_of self.now))
             × (W.contents w.new ≡ Some (xs ++ take n (output_of self.now)))) }
         ensures only { IfErr result (λ e. e ≡ W1) }
-        ensures count { Failed W.failures w.old w.new ↔ IsErrOf result W1 }
+        ensures count { HasFailed W.failures w.old w.new ↔ IsErrOf result W1 }
         ensures steady { OnOk result (W.failures w.new ≡ W.failures w.old) }
     {
         match self {
@@ -122,13 +122,13 @@ pub fn show_stream<R: Source, W: Sink>(
     ensures shown { OfKnown (R.remaining r.old) (W.contents w.old)
         (λ bytes old. IfOk result (λ answer. Shows table.now bytes old (W.contents w.new) answer)) }
     // The answer is W1 exactly where a read or a write failed.
-    ensures count { (Failed R.failures r.old r.new ⊎ Failed W.failures w.old w.new) ↔ IsErrOf result W1 }
+    ensures count { (HasFailed R.failures r.old r.new ⊎ HasFailed W.failures w.old w.new) ↔ IsErrOf result W1 }
     ensures only { IfErr result (λ e. (e ≡ W1) ⊎ (e ≡ W9)) }
     // After a failed read, or for want of memory, the writer is as it was.
-    ensures read { Failed R.failures r.old r.new → w.new ≡ w.old }
+    ensures read { HasFailed R.failures r.old r.new → w.new ≡ w.old }
     ensures memory { IsErrOf result W9 → w.new ≡ w.old }
     // After a failed write it has got a beginning of what is shown.
-    ensures begun { Failed W.failures w.old w.new
+    ensures begun { HasFailed W.failures w.old w.new
         → OfKnown (R.remaining r.old) (W.contents w.old)
         (λ bytes old. BeginsShowing table.now bytes old (W.contents w.new)) }
 {

@@ -3,7 +3,7 @@ ghost use Rattle.std.specs.Prelude.{◌≡◌, ◌≢◌, ◌≤◌, ◌↔◌, 
 ghost use Rattle.std.specs.Prelude.{length, take, drop, flat_map, IfErr, IfSome, IsErrOf, OnOk};
 ghost use Rattle.std.specs.Io.KnownBytes.{Appends};
 ghost use Rattle.spv_words.specs.declared.words.WordError.TheVariants.{W1};
-ghost use Rattle.spv_verdict.specs.Outcome.{Failed};
+ghost use Rattle.spv_verdict.specs.Outcome.{HasFailed};
 ghost use Rattle.spv_commands.specs.Trace.{ending_line, step_line, trace_text};
 
 use itoa::write_digits;
@@ -66,7 +66,7 @@ fn write_steps<W: Sink>(steps: &[Step], w: &mut W) -> Result<(), WordError>
         (λ xs. (n : ℕ) × (n ≤ length (flat_map step_line steps.now))
         × (W.contents w.new ≡ Some (xs ++ take n (flat_map step_line steps.now)))) }
     ensures only { IfErr result (λ e. e ≡ W1) }
-    ensures count { Failed W.failures w.old w.new ↔ IsErrOf result W1 }
+    ensures count { HasFailed W.failures w.old w.new ↔ IsErrOf result W1 }
     ensures steady { OnOk result (W.failures w.new ≡ W.failures w.old) }
 {
     let mut block = [0u8; BLOCK_SIZE];
@@ -92,7 +92,7 @@ pub fn write_trace<W: Sink>(steps: &[Step], ending: Ending, w: &mut W) -> Result
         × (W.contents w.new ≡ Some (xs ++ take n (trace_text steps.now ending)))) }
     ensures only { IfErr result (λ e. e ≡ W1) }
     // The answer is W1 exactly where a write failed.
-    ensures count { Failed W.failures w.old w.new ↔ IsErrOf result W1 }
+    ensures count { HasFailed W.failures w.old w.new ↔ IsErrOf result W1 }
     ensures steady { OnOk result (W.failures w.new ≡ W.failures w.old) }
 {
     write_steps(steps, w)?;

@@ -5,7 +5,7 @@ ghost use Rattle.std.specs.Io.KnownBytes.{Appends};
 ghost use Rattle.spv_words.specs.Header.{IsModule};
 ghost use Rattle.spv_words.specs.declared.words.Order.{Order};
 ghost use Rattle.spv_words.specs.declared.words.WordError.TheVariants.{W1};
-ghost use Rattle.spv_verdict.specs.Outcome.{Failed, IsUntouched, OfKnown};
+ghost use Rattle.spv_verdict.specs.Outcome.{HasFailed, IsUntouched, OfKnown};
 ghost use Rattle.spv_commands.specs.Trace.{BeginsTracing, HasNoEntry, IsTracing, Traces};
 ghost use Rattle.spv_commands.specs.inner.Traced.{is_run, output_of, traced_refusal, traced_stop};
 ghost use Rattle.spv_commands.specs.declared.tracing.RunError.TheVariants as trouble;
@@ -96,7 +96,7 @@ fn traced_on<R: Source>(
         (λ bytes. IfOk result (λ t. IsTracing table.now function choices.now limit bytes (output_of t) (is_run t))) }
     ensures stranger { IsErrOf result trouble.NoEntry
         → IfSome (R.remaining r.old) (λ bytes. HasNoEntry table.now bytes function) }
-    ensures count { Failed R.failures r.old r.new ↔ IsErrOf result trouble.Failed }
+    ensures count { HasFailed R.failures r.old r.new ↔ IsErrOf result trouble.Failed }
 {
     let image = match read_image(alloc, r) {
         Ok((image, _)) => image,
@@ -123,7 +123,7 @@ impl Traced {
             (λ xs. (n : ℕ) × (n ≤ length (output_of self.now))
             × (W.contents w.new ≡ Some (xs ++ take n (output_of self.now)))) }
         ensures only { IfErr result (λ e. e ≡ W1) }
-        ensures count { Failed W.failures w.old w.new ↔ IsErrOf result W1 }
+        ensures count { HasFailed W.failures w.old w.new ↔ IsErrOf result W1 }
         ensures steady { OnOk result (W.failures w.new ≡ W.failures w.old) }
     {
         match self {
@@ -163,14 +163,14 @@ pub fn trace_stream<R: Source, W: Sink>(
         (λ bytes old. IfOk result (λ answer. Traces table.now function choices.now limit bytes old
         (W.contents w.new) answer)) }
     // The answer is `Failed` exactly where a read or a write failed.
-    ensures count { (Failed R.failures r.old r.new ⊎ Failed W.failures w.old w.new)
+    ensures count { (HasFailed R.failures r.old r.new ⊎ HasFailed W.failures w.old w.new)
         ↔ IsErrOf result trouble.Failed }
     ensures stranger { IsErrOf result trouble.NoEntry
         → IfSome (R.remaining r.old) (λ bytes. HasNoEntry table.now bytes function) }
     // With an error a writer that did not fail is as it was.
     ensures unwritten { IsErr result → IsUntouched W.failures w.old w.new }
     // After a failed write it has got a beginning of what is written.
-    ensures begun { Failed W.failures w.old w.new
+    ensures begun { HasFailed W.failures w.old w.new
         → OfKnown (R.remaining r.old) (W.contents w.old)
         (λ bytes old. BeginsTracing table.now function choices.now limit bytes old (W.contents w.new)) }
 {

@@ -14,7 +14,7 @@ use Rattle.spv_grammar.specs.Answer.{text_breaks}
 use Rattle.spv_grammar.specs.declared.error.GrammarError.{GrammarError}
 use Rattle.spv_grammar.specs.declared.error.GrammarError.TheVariants.{J1, J2, J3, J4, J5, J6, J7, J8}
 use Rattle.spv_commands.specs.Trouble.{BeginsWith, IsTableOf, Writes, file_line, grammar_text, memory_line}
-use Rattle.spv_commands.specs.declared.command_line.Task.{Task}
+use Rattle.spv_command_line.specs.declared.command_line.Task.{Task}
 use Rattle.spv_files.specs.Each.{AreParts, Ends, IsPart, Known}
 use Rattle.spv_files.specs.Each.{more, none}
 use Rattle.spv_files.specs.Name.{label, shown_byte}

@@ -7,7 +7,7 @@ use Rattle.spv_grammar.specs.Answer.{text_breaks}
 use Rattle.spv_grammar.specs.declared.error.GrammarError.{GrammarError}
 use Rattle.spv_commands.specs.Task.{DoesTask}
 use Rattle.spv_commands.specs.Trouble.{IsTableOf, file_line, grammar_text, memory_line}
-use Rattle.spv_commands.specs.declared.command_line.Task.{Task}
+use Rattle.spv_command_line.specs.declared.command_line.Task.{Task}
 use Rattle.spv_files.specs.Name.{label}
 
 -- what a file holds, where it is known: its bytes, or none where it does not open or a read of it fails

@@ -2,7 +2,7 @@
 ghost use Rattle.std.specs.Prelude.{◌≡◌, ◌++◌, ◌∷◌, [], ℕ, List, Some, None, codes};
 ghost use Rattle.spv_table.specs.Table.{Table};
 ghost use Rattle.spv_commands.specs.Trouble.{Writes, memory_line};
-ghost use Rattle.spv_commands.specs.declared.command_line.Task.{Task};
+ghost use Rattle.spv_command_line.specs.declared.command_line.Task.{Task};
 ghost use Rattle.spv_verdict.specs.Verdict.{line_end};
 ghost use Rattle.spv_files.specs.Each.{AreParts, Ends, IsPart, Known};
 ghost use Rattle.spv_files.specs.Name.{hex_digit, label, shown_byte};

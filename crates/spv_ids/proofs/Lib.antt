@@ -13,3 +13,4 @@ mod Opens
 mod Pairs
 mod Noting
 mod Passing
+mod Sections

@@ -44,7 +44,7 @@ pub record IsTooLong (G : Table) (before : List PlainInst) (written : ℕ) (i : 
   pub matches : Match G (start before i.opcode) (pattern_of entry) i.operands further
   pub long : (greatest_count < length further + 1) ⊎ (greatest_length < written + (length further + 1))
 
--- what a code says of an instruction; N1 and N4 are told of none
+-- what a code says of an instruction; N1 and N4 are told of none [own]
 abbrev pub Prevents : EncodeCode → Table → List PlainInst → ℕ → PlainInst → Type 0
 Prevents N1 G before written i = ⊥
 Prevents N2 G before written i = HasNoWords G before i
@@ -52,7 +52,7 @@ Prevents N3 G before written i = IsTooLong G before written i
 Prevents N4 G before written i = ⊥
 
 -- The instruction of that number is hindered, and those before it are spelled by words that leave the module short
--- enough.
+-- enough. [own]
 pub record StopsAt (G : Table) (is : List PlainInst) (code : EncodeCode) (n : ℕ) : Type 0 where
   pub before : List PlainInst
   pub inst : PlainInst
@@ -65,7 +65,7 @@ pub record StopsAt (G : Table) (is : List PlainInst) (code : EncodeCode) (n : �
   pub prevented : Prevents code G before (5 + length words) inst
 
 -- What a refusal says of a module: N1 that its header does not fit, N2 and N3 that it stops at that instruction, N4
--- nothing.
+-- nothing. [own]
 abbrev pub RefusesModule : EncodeCode → Table → Module → ℕ → Type 0
 RefusesModule N1 G m n = (n ≡ 0) × (¬ (HeaderFits m.header))
 RefusesModule N2 G m n = HeaderFits m.header × StopsAt G (plain_insts m) N2 n

@@ -8,53 +8,39 @@ use Rattle.spv_layout.specs.declared.form.Named.TheVariants as kind_of
 use Rattle.spv_layout.specs.declared.form.Form.{Form}
 use Rattle.spv_layout.specs.declared.form.Form.TheVariants as form
 
--- the letters of the table
-abbrev pub T : Form
-T = form.OfType
-
-abbrev pub R : Form
-R = form.Result
-
-abbrev pub W : Form
-W = form.Word
-
-abbrev pub N : Form
-N = form.Number
-
-abbrev pub S : Form
-S = form.Text
-
+-- the id of a type [own]
 abbrev pub t : Form
 t = form.Id role.OfType
 
+-- the id of a value [own]
 abbrev pub v : Form
 v = form.Id role.Value
 
+-- the id of a function [own]
 abbrev pub f : Form
 f = form.Id role.Function
 
+-- the id of an OpString [own]
 abbrev pub s : Form
 s = form.Id role.Text
 
+-- the id of an OpExtInstImport [own]
 abbrev pub e : Form
 e = form.Id role.Set
 
+-- the id of a label [own]
 abbrev pub l : Form
 l = form.Id role.Label
 
+-- the id of a variable outside functions [own]
 abbrev pub g : Form
 g = form.Id role.Global
 
+-- an id in any role [own]
 abbrev pub a : Form
 a = form.Id role.Any
 
-abbrev pub x : Form
-x = form.Unseen
-
-abbrev pub kind : Named → Form
-kind name = form.Kind name
-
--- what may come after the fixed operands of a row
+-- what may come after the fixed operands of a row [own]
 pub data RowEnding : Type 0 where
   -- nothing
   closed : RowEnding
@@ -64,13 +50,13 @@ pub data RowEnding : Type 0 where
   file_and_text : RowEnding
   -- these operands in turn, any number of times: `(f g)*`
   repeated : List Form → RowEnding
-  -- any number of operands other than a type or a result: what `kind+` adds to the kind
+  -- any number of operands other than a result type or a result: what `kind+` adds to the kind
   others : RowEnding
   -- one operand, and any number of such others, or nothing: `[kind+]`
   maybe_others : Form → RowEnding
 
 -- a row: from an opcode to an opcode, their class in the layout, the operands that they have, and what may come after
--- these
+-- these [own]
 pub record PlainRow : Type 0 where
   pub from : ℕ
   pub to : ℕ
@@ -78,15 +64,16 @@ pub record PlainRow : Type 0 where
   pub fixed : List Form
   pub ending : RowEnding
 
+-- a row of these [own]
 abbrev pub row : ℕ → ℕ → Class → List Form → RowEnding → PlainRow
 row from to class fixed ending = record { from = from; to = to; class = class; fixed = fixed; ending = ending }
 
--- the first row that has the opcode
+-- the first row that has the opcode [own]
 abbrev pub row_in : List PlainRow → ℕ → Option PlainRow
 row_in [] n = None
 row_in (r ∷ rs) n = if nat_le r.from n && nat_le n r.to then Some r else row_in rs n
 
--- the name of a kind
+-- the name of a kind [own]
 abbrev pub name_of : Named → List ℕ
 name_of kind_of.SourceLanguage = codes "SourceLanguage"
 name_of kind_of.AddressingModel = codes "AddressingModel"
@@ -101,7 +88,7 @@ name_of kind_of.MemoryAccess = codes "MemoryAccess"
 name_of kind_of.LoopControl = codes "LoopControl"
 name_of kind_of.SelectionControl = codes "SelectionControl"
 
--- whether a kind's operands are masks
+-- whether a kind's operands are masks [own]
 abbrev pub has_masks : Named → Bool
 has_masks kind_of.FunctionControl = true
 has_masks kind_of.MemoryAccess = true

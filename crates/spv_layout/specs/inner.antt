@@ -7,3 +7,4 @@ pub mod State
 pub mod Test
 pub mod Row
 pub mod Shape
+pub mod Layout

@@ -3,7 +3,7 @@ use crate::class::Class;
 /// What an id is used as by an operand (own; SPIR-V Specification 1.6, section 3).
 #[derive(Clone, Copy, Debug, PartialEq, Eq)]
 pub enum Role {
-    /// The type of a result, or a type that another type names.
+    /// The type of a result, or a type that another type or an OpFunction names.
     OfType,
     /// A value, or a constant.
     Value,
@@ -52,7 +52,7 @@ pub enum Form {
     Unseen,
     /// A value or mask of the kind of that name.
     Kind(Named),
-    /// Any operand other than a type or a result.
+    /// Any operand other than a result type or a result.
     Other,
 }
 

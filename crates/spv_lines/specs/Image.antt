@@ -8,6 +8,7 @@ use Rattle.spv_inst.specs.Outcome.{IsHeaderOf}
 use Rattle.spv_lines.specs.Text.{IsShownText}
 
 -- The words are those of a header and, from word 5 on, of a list of instructions; the text is the shown one of these.
+-- [own]
 pub record IsShownImage (G : Table) (words text : List ℕ) : Type 0 where
   pub header : Header
   pub insts : List PlainInst

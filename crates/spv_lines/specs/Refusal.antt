@@ -15,20 +15,22 @@ use Rattle.spv_lines.specs.Operand.{IsRead, is_float}
 use Rattle.spv_lines.specs.Written.{Piece}
 use Rattle.spv_lines.specs.Line.{AreWords}
 
--- the end of the operands, or the space before the next
+-- the end of the operands, or the space before the next [own]
 pub data IsBreak : List ℕ → Type 0 where
   at_end : IsBreak []
   at_space : (t : List ℕ) → IsBreak (32 ∷ t)
 
--- where a shape takes a number: what stands in front of its digits, and the least number that is too large
+-- where a shape takes a number: what stands in front of its digits, and the least number that is too large [own]
 pub record Place : Type 0 where
   pub mark : List ℕ
   pub limit : ℕ
 
+-- the place of a decimal number without anything in front [own]
 abbrev pub decimal_place : Bool → ℕ → Option Place
 decimal_place true w = None
 decimal_place false w = Some (record { mark = []; limit = if nat_le w 32 then 2 ^ 32 else 2 ^ 64 })
 
+-- where a shape takes a number [own]
 abbrev pub place_of : Bool → Shape → Option Place
 place_of hex AsType = Some (record { mark = codes "%"; limit = 2 ^ 32 })
 place_of hex AsResult = Some (record { mark = codes "%"; limit = 2 ^ 32 })
@@ -42,12 +44,12 @@ place_of hex (AsMask es) = Some (record { mark = codes "#"; limit = 2 ^ 32 })
 place_of hex (AsParts ss) = None
 place_of hex AsNothing = None
 
--- is a slot of the instruction's result due, which has its place in front
+-- is a slot of the instruction's result due, which has its place in front [own]
 abbrev pub is_front : Shape → Context → Bool
 is_front AsResult c = not (is_some (result_in c.operands))
 is_front _ c = false
 
--- Behind one space the rest of a line begins with a well-formed decimal number that is too large for the slot.
+-- Behind one space the rest of a line begins with a well-formed decimal number that is too large for the slot. [own]
 pub record IsTooLarge (G : Table) (c : Context) (s : Slot) (t : List ℕ) : Type 0 where
   pub place : Place
   pub digits : List ℕ
@@ -59,7 +61,7 @@ pub record IsTooLarge (G : Table) (c : Context) (s : Slot) (t : List ℕ) : Type
   pub all : t ≡ 32 ∷ (place.mark ++ (digits ++ rest))
 
 -- The rest of a line begins with an operand that the slot takes; behind it its parameters are due, and the line goes
--- on.
+-- on. [own]
 pub record StandsInLine (G : Table) (r : Option ℕ) (c : Context) (s : Slot) (o : Plain) (ss : List Slot)
     (t rest : List ℕ) : Type 0 where
   pub words : List ℕ
@@ -70,17 +72,18 @@ pub record StandsInLine (G : Table) (r : Option ℕ) (c : Context) (s : Slot) (o
   pub broken : IsBreak rest
   pub all : t ≡ piece ++ rest
 
--- Is the line's result still due: it has one, and none of the operands so far is it.
+-- Is the line's result still due: it has one, and none of the operands so far is it. [own]
 abbrev pub Pends : Option ℕ → Context → Type 0
 Pends r c = r ≢ result_in c.operands
 
 -- A slot refuses the rest of a line: a number is too large for its place, or nothing stands there that the slot takes.
+-- [own]
 pub data SlotRefuses (G : Table) (r : Option ℕ) (c : Context) (s : Slot) (t : List ℕ) : AsmCode → Type 0 where
   large : IsTooLarge G c s t → SlotRefuses G r c s t S4
   wrong : ((o : Plain) (ss : List Slot) (rest : List ℕ) → ¬ (StandsInLine G r c s o ss t rest))
       → ¬ (IsTooLarge G c s t) → SlotRefuses G r c s t S3
 
--- What is due comes to a refusal of what is left of the line, from left to right.
+-- What is due comes to a refusal of what is left of the line, from left to right. [own]
 pub data OperandsFail (G : Table) (r : Option ℕ) : Context → List Due → List ℕ → AsmCode → Type 0 where
   -- nothing is due, and the line goes on, or its result is left
   left : (c : Context) (b : ℕ) (t : List ℕ) → OperandsFail G r c [] (b ∷ t) S3

@@ -8,13 +8,14 @@ use Rattle.spv_inst.specs.Flat.{Due, OneOf, MaybeOf, ManyOf}
 use Rattle.spv_lines.specs.Operand.{Form, is_float, is_result}
 
 -- The piece of a line behind the name that an operand is: none of the line's result, which stands in front, and of
--- every other operand its text after one space.
+-- every other operand its text after one space. [own]
 pub data Piece (form : Form) (G : Table) (r : Option ℕ) (c : Context) (s : Slot) : Plain → List ℕ → Type 0 where
   result : (x : ℕ) → result_in c.operands ≡ None → r ≡ Some x → Piece form G r c s (Result x) []
   other : (o : Plain) (t : List ℕ) → is_result c o ≡ false → form (is_float G c s) o t
       → Piece form G r c s o (32 ∷ t)
 
 -- What is due takes the operands, all of the words that are left of the instruction, and all that is left of its line.
+-- [own]
 pub data Written (form : Form) (G : Table) (r : Option ℕ) : Context → List Due → List Plain → List ℕ
     → List ℕ → Type 0 where
   end : (c : Context) → Written form G r c [] [] [] []

@@ -5,11 +5,11 @@ use Rattle.spv_table.specs.Table.{Table, entry_of, pattern_of}
 use Rattle.spv_module.specs.Operand.{PlainInst, start}
 use Rattle.spv_module.specs.Spelling.{Match}
 
--- The first word of an instruction is 65536 times its number of words, itself included, plus its opcode.
+-- The first word of an instruction is 65536 times its number of words, itself included, plus its opcode. [2.3]
 abbrev pub first_word : ℕ → List ℕ → ℕ
 first_word opcode further = 65536 * (length further + 1) + opcode
 
--- After the instructions before, the words spell the instruction.
+-- After the instructions before, the words spell the instruction. [2.3]
 pub record IsInstruction (G : Table) (before : List PlainInst) (i : PlainInst) (words : List ℕ) : Type 0 where
   pub further : List ℕ
   pub entry : Entry
@@ -20,13 +20,13 @@ pub record IsInstruction (G : Table) (before : List PlainInst) (i : PlainInst) (
   pub matches : Match G (start before i.opcode) (pattern_of entry) i.operands further
 
 -- After the instructions before, the words are the joined spellings of the list, each under the context of those before
--- it.
+-- it. [2.3]
 pub data Listing (G : Table) : List PlainInst → List PlainInst → List ℕ → Type 0 where
   end : (before : List PlainInst) → Listing G before [] []
   more : (before : List PlainInst) (i : PlainInst) (is : List PlainInst) (ws vs : List ℕ)
       → IsInstruction G before i ws → Listing G (before ++ (i ∷ [])) is vs
       → Listing G before (i ∷ is) (ws ++ vs)
 
--- The words from word 5 on are the joined spellings of the list.
+-- The words from word 5 on are the joined spellings of the list. [2.3]
 abbrev pub IsListing : Table → List PlainInst → List ℕ → Type 0
 IsListing G is words = Listing G [] is words

@@ -10,7 +10,7 @@ use Rattle.spv_module.specs.declared.fault.Rule.TheVariants.{I1, I2, I3}
 use Rattle.spv_module.specs.Refusal.{Misfit}
 
 -- After the instructions before, the words left of the module begin with an instruction that is malformed, with the
--- code, at a word counted from its first.
+-- code, at a word counted from its first. [2.3]
 pub data IsMalformed (G : Table) (before : List PlainInst) : List ℕ → Rule → ℕ → Type 0 where
   -- it has no words
   no_count : (opcode : ℕ) (us : List ℕ) → opcode < 65536 → IsMalformed G before (opcode ∷ us) I1 0
@@ -27,7 +27,7 @@ pub data IsMalformed (G : Table) (before : List PlainInst) : List ℕ → Rule �
       → IsMalformed G before (first_word opcode us ∷ (us ++ vs)) code (1 + n)
 
 -- After the instructions before, some list's joined spellings begin the words, and the instruction after it is
--- malformed: its number and its word, both counted from the first.
+-- malformed: its number and its word, both counted from the first. [2.3]
 pub data FailsAt (G : Table) : List PlainInst → List ℕ → Rule → ℕ → ℕ → Type 0 where
   here : (before : List PlainInst) (ws : List ℕ) (code : Rule) (n : ℕ) → IsMalformed G before ws code n
       → FailsAt G before ws code 0 n
@@ -36,5 +36,6 @@ pub data FailsAt (G : Table) : List PlainInst → List ℕ → Rule → ℕ → 
       → FailsAt G before (ws ++ vs) code (suc k) (length ws + n)
 
 -- Of the words from word 5 on, the instruction of that number is malformed, with the code, at the word of that number.
+-- [2.3]
 abbrev pub IsMalformedAt : Table → List ℕ → Rule → ℕ → ℕ → Type 0
 IsMalformedAt G words code k n = FailsAt G [] words code k n

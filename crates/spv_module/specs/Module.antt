@@ -7,6 +7,7 @@ use Rattle.spv_module.specs.declared.operand.Operand.TheVariants as code
 use Rattle.spv_module.specs.declared.module.Inst.{Inst}
 use Rattle.spv_module.specs.declared.module.Module.{Module}
 
+-- an operand of an instruction [own]
 abbrev pub plain_operand : Operand → Plain
 plain_operand (code.OfType x) = plain.OfType x
 plain_operand (code.Result x) = plain.Result x
@@ -17,12 +18,14 @@ plain_operand (code.Text s) = plain.Text s.now
 plain_operand (code.Value kind value) = plain.Value kind value
 plain_operand (code.Mask kind value) = plain.Mask kind value
 
+-- the operands of an instruction [own]
 abbrev pub plain_operands : List Operand → List Plain
 plain_operands os = map plain_operand os
 
+-- an instruction of a module [own]
 abbrev pub plain_inst : Inst → PlainInst
 plain_inst i = record { opcode = i.opcode; operands = plain_operands i.operands }
 
--- the instructions of a module
+-- the instructions of a module [own]
 abbrev pub plain_insts : Module → List PlainInst
 plain_insts m = map plain_inst m.insts.items

@@ -10,12 +10,12 @@ use Rattle.spv_module.specs.Operand.{Plain, Context, and_then, after}
 use Rattle.spv_module.specs.Shape.{Slot, alone, Shape, AsNumber, AsText, AsValue, AsMask, AsParts, AsNothing, shape_of}
 use Rattle.spv_module.specs.Spelling.{octets_of, HoldsText, AreZeros, parameters_of, mask_parameters, Takes, Spells}
 
--- a shape that takes one word at least
+-- a shape that takes one word at least [own]
 abbrev pub IsLeaf : Shape → Type 0
 IsLeaf (AsParts ss) = ⊥
 IsLeaf _ = Unit {0}
 
--- A shape refuses the words left of the instruction, with a code, at a word counted from the first of them.
+-- A shape refuses the words left of the instruction, with a code, at a word counted from the first of them. [own]
 pub data ShapeRefuses : Shape → List ℕ → Rule → ℕ → Type 0 where
   -- no word is left, or only half of a wide number
   missing : (sh : Shape) → IsLeaf sh → ShapeRefuses sh [] I4 0
@@ -41,7 +41,7 @@ pub data ShapeRefuses : Shape → List ℕ → Rule → ℕ → Type 0 where
   no_form : (x : ℕ) (us : List ℕ) → ShapeRefuses AsNothing (x ∷ us) I12 0
 
 mutual
-  -- A front of a kind's spelling begins the words left of the instruction, and what is due after it refuses them.
+  -- A front of a kind's spelling begins the words left of the instruction, and what is due after it refuses them. [own]
   pub data Stops (G : Table) : Context → Slot → List ℕ → Rule → ℕ → Type 0 where
     here : (c : Context) (s : Slot) (us : List ℕ) (code : Rule) (n : ℕ) → ShapeRefuses (shape_of G c s) us code n
         → Stops G c s us code n
@@ -61,7 +61,7 @@ mutual
         → StopsAll G c (s ∷ ss) (us ++ vs) code (length us + n)
 
 -- A front of the pattern begins the further words, and what is due after it refuses the rest, or none is due and words
--- are left.
+-- are left. [own]
 pub data Misfit (G : Table) : Context → List Item → List ℕ → Rule → ℕ → Type 0 where
   left : (c : Context) (u : ℕ) (us : List ℕ) → Misfit G c [] (u ∷ us) I5 0
   one : (c : Context) (k : ℕ) (is : List Item) (us : List ℕ) (code : Rule) (n : ℕ)

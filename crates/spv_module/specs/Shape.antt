@@ -8,17 +8,17 @@ use Rattle.spv_table.specs.Table.{Table, Sort, kind_of}
 use Rattle.spv_module.specs.Operand.{Context}
 use Rattle.spv_module.specs.Width.{context_width, switch_width}
 
--- a kind that is due, and whether it is a base of PairLiteralIntegerIdRef
+-- a kind that is due, and whether it is a base of PairLiteralIntegerIdRef [own]
 pub record Slot : Type 0 where
   pub kind : ℕ
   pub paired : Bool
 
--- a kind that is no such base
+-- a kind that is no such base [own]
 abbrev pub alone : ℕ → Slot
 alone k = record { kind = k; paired = false }
 
 -- what is asked for: an id of one of three sorts, a word, a number of a width if that is known, a text,
--- a known value, a mask of known bits, the bases in order, or what nothing spells
+-- a known value, a mask of known bits, the bases in order, or what nothing spells [own]
 pub data Shape : Type 0 where
   AsType : Shape
   AsResult : Shape
@@ -31,17 +31,17 @@ pub data Shape : Type 0 where
   AsParts : List Slot → Shape
   AsNothing : Shape
 
--- a LiteralInteger: a number inside a pair in opcode 251 (OpSwitch), else a word
+-- a LiteralInteger: a number inside a pair in opcode 251 (OpSwitch), else a word [own]
 abbrev pub integer_shape : Context → Bool → Shape
 integer_shape c paired = if paired && nat_eq c.opcode 251 then AsNumber (switch_width c) else AsWord
 
--- by the name of an Id kind
+-- by the name of an Id kind [own]
 abbrev pub id_shape : List ℕ → Shape
 id_shape name =
     if bytes_eq name (codes "IdResultType") then AsType
     else (if bytes_eq name (codes "IdResult") then AsResult else AsId)
 
--- by the name of a Literal kind
+-- by the name of a Literal kind [own]
 abbrev pub literal_shape : Context → Bool → List ℕ → Shape
 literal_shape c paired name =
     if bytes_eq name (codes "LiteralInteger") then integer_shape c paired
@@ -50,11 +50,11 @@ literal_shape c paired name =
     else (if bytes_eq name (codes "LiteralContextDependentNumber") then AsNumber (context_width c)
     else AsNothing)))
 
--- the bases of a Composite
+-- the bases of a Composite [own]
 abbrev pub bases : List ℕ → List ℕ → List Slot
 bases name ks = map (λ k. record { kind = k; paired = bytes_eq name (codes "PairLiteralIntegerIdRef") }) ks
 
--- by category and name
+-- by category and name [own]
 abbrev pub category_shape : Context → Bool → Sort → Category → Shape
 category_shape c paired s category.Id = id_shape s.kind.name
 category_shape c paired s category.Literal = literal_shape c paired s.kind.name
@@ -62,10 +62,11 @@ category_shape c paired s category.ValueEnum = AsValue s.enumerants
 category_shape c paired s category.BitEnum = AsMask s.enumerants
 category_shape c paired s category.Composite = AsParts (bases s.kind.name s.kind.bases)
 
--- what a kind asks for, if there is such a kind
+-- what a kind asks for, if there is such a kind [own]
 abbrev pub kind_shape : Context → Bool → Option Sort → Shape
 kind_shape c paired None = AsNothing
 kind_shape c paired (Some s) = category_shape c paired s s.kind.category
 
+-- what a slot asks for under a table and a context [own]
 unfoldable pub shape_of : Table → Context → Slot → Shape
 shape_of G c s = kind_shape c s.paired (kind_of G s.kind)

@@ -10,46 +10,48 @@ use Rattle.spv_module.specs.Operand.{after}
 use Rattle.spv_module.specs.Shape.{Slot, alone, Shape, AsType, AsResult, AsId, AsWord, AsNumber, AsText, AsValue}
 use Rattle.spv_module.specs.Shape.{AsMask, AsParts, shape_of}
 
--- the octets of words, four of each, the lowest first
+-- the octets of words, four of each, the lowest first [2.2.1]
 abbrev pub octets_of : List ℕ → List ℕ
 octets_of [] = []
 octets_of (w ∷ ws) = (w % 256) ∷ (w / 256 % 256) ∷ (w / 65536 % 256) ∷ (w / 16777216 % 256) ∷ octets_of ws
 
 -- The words' octets are those of a text without a zero octet, a zero octet, and up to three octets more, the padding.
+-- [2.2.1]
 pub record HoldsText (ws t padding : List ℕ) : Type 0 where
   pub words : AllByRecursion (λ w. w < 4294967296) ws
   pub octets : octets_of ws ≡ t ++ (0 ∷ padding)
   pub no_zero : AllByRecursion (λ b. b ≢ 0) t
   pub short : length padding < 4
 
--- all octets are zero
+-- all octets are zero [2.2.1]
 abbrev pub AreZeros : List ℕ → Type 0
 AreZeros padding = AllByRecursion (λ b. b ≡ 0) padding
 
--- the numbers of one bit, from the bit `b` up, `n` of them
+-- the numbers of one bit, from the bit `b` up, `n` of them [own]
 abbrev pub bits_from : ℕ → ℕ → List ℕ
 bits_from zero b = []
 bits_from (suc n) b = b ∷ bits_from n (2 * b)
 
--- the set bits of a word, the smaller first
+-- the set bits of a word, the smaller first [own]
 abbrev pub set_bits : ℕ → List ℕ
 set_bits x = filter (λ b. nat_eq (x / b % 2) 1) (bits_from 32 1)
 
--- the parameters, if there is an enumerant
+-- the parameters, if there is an enumerant [2.3]
 abbrev pub parameters_of : List Enumerant → ℕ → Option (List ℕ)
 parameters_of es x = option_map (λ e. e.parameters) (enumerant_of es x)
 
--- the parameters of the bits in order, if each bit has an enumerant
+-- the parameters of the bits in order, if each bit has an enumerant [2.3]
 abbrev pub parameters_of_all : List Enumerant → List ℕ → Option (List ℕ)
 parameters_of_all es [] = Some []
 parameters_of_all es (b ∷ bs) =
     option_and_then (λ ks. option_map (λ js. ks ++ js) (parameters_of_all es bs)) (parameters_of es b)
 
--- the parameters of the set bits, the smaller bit first
+-- the parameters of the set bits, the smaller bit first [2.3]
 unfoldable pub mask_parameters : List Enumerant → ℕ → Option (List ℕ)
 mask_parameters es x = parameters_of_all es (set_bits x)
 
 -- A kind of number `k` and that shape takes one operand, of the words; the kinds of its parameters are due after it.
+-- [2.3]
 pub data Takes (k : ℕ) : Shape → Plain → List ℕ → List Slot → Type 0 where
   result_type : (x : ℕ) → Takes k AsType (OfType x) (x ∷ []) []
   result : (x : ℕ) → Takes k AsResult (Result x) (x ∷ []) []
@@ -66,7 +68,7 @@ pub data Takes (k : ℕ) : Shape → Plain → List ℕ → List Slot → Type 0
 
 mutual
   -- The operands of a kind, and the words that spell them: one operand and those of its parameters, or those of the
-  -- bases.
+  -- bases. [2.3]
   pub data Spells (G : Table) : Context → Slot → List Plain → List ℕ → Type 0 where
     operand : (c : Context) (s : Slot) (o : Plain) (ws : List ℕ) (ss : List Slot) (os : List Plain) (us : List ℕ)
         → Takes s.kind (shape_of G c s) o ws ss → SpellsAll G (and_then c o) ss os us
@@ -80,7 +82,7 @@ mutual
     more : (c : Context) (s : Slot) (ss : List Slot) (os ps : List Plain) (us vs : List ℕ)
         → Spells G c s os us → SpellsAll G (after c os) ss ps vs → SpellsAll G c (s ∷ ss) (os ++ ps) (us ++ vs)
 
--- The operands of a pattern, and all of the further words of an instruction.
+-- The operands of a pattern, and all of the further words of an instruction. [2.3]
 pub data Match (G : Table) : Context → List Item → List Plain → List ℕ → Type 0 where
   nothing : (c : Context) → Match G c [] [] []
   one : (c : Context) (k : ℕ) (is : List Item) (os ps : List Plain) (us vs : List ℕ)

@@ -3,8 +3,8 @@ ghost use Rattle.std.specs.Prelude.{◌≡◌};
 use std::alloc::{AllocError, AllocFailed};
 
 /// A rule of the profile, by its code: I of single instructions, P of the profile, L of layout, D of ids, Y, C, M and E
-/// of types and declarations, F and A of flow, G of calls. The numbers in brackets are sections of the Khronos SPIR-V
-/// Specification 1.6.
+/// of types and declarations, F and A of flow, G of calls. They stand in the order in which they are told: by stage,
+/// and within a stage at one instruction. The numbers in brackets are sections of the Khronos SPIR-V Specification 1.6.
 #[derive(Clone, Copy, Debug, PartialEq, Eq)]
 pub enum Rule {
     /// The first word of an instruction tells a count of 0 words. (2.3)
@@ -49,6 +49,16 @@ pub enum Rule {
     D5,
     /// A use of an id in another role than the operand asks for.
     Y1,
+    /// Kernel is not declared or implied, or Shader is. (2.16)
+    C1,
+    /// A capability that is missing. (2.16)
+    C2,
+    /// The addressing or memory model.
+    M1,
+    /// No entry point, and no Linkage.
+    E1,
+    /// An entry point, an execution mode, or the linkage of a function.
+    E2,
     /// A type declaration.
     Y2,
     /// A type that is declared twice. (2.8)
@@ -63,16 +73,6 @@ pub enum Rule {
     Y7,
     /// A call against the callee's type.
     Y8,
-    /// Kernel is not declared, or Shader is. (2.16)
-    C1,
-    /// A capability that is missing. (2.16)
-    C2,
-    /// The addressing or memory model.
-    M1,
-    /// No entry point, and no Linkage.
-    E1,
-    /// An entry point, an execution mode or a declaration.
-    E2,
     /// A label operand that is no label.
     F1,
     /// A branch to a function's entry block.

@@ -8,7 +8,7 @@ use Rattle.spv_layout.specs.declared.class.Class.TheVariants as class
 use Rattle.spv_layout.specs.Place.{IsOfSection, IsOfFunction, section_of}
 use Rattle.spv_layout.specs.Plan.{IsPlaceOf}
 use Rattle.spv_layout.specs.declared.place.Place.{Place}
-use Rattle.spv_ops.specs.Variable.{IsClassAt}
+use Rattle.spv_ops.specs.inner.Variable.{IsClassAt}
 use Rattle.spv_type_forms.proofs.Lookups.{one_section}
 
 -- no class is of section 11 alone

@@ -8,7 +8,8 @@ use Rattle.spv_module.specs.Operand.{PlainInst}
 use Rattle.spv_module.specs.Width.{type_of}
 use Rattle.spv_type_forms.specs.Types.{IsSomeInt}
 use Rattle.spv_ops.specs.Chain.{Chains, ChainsByElement, LeadsByPointer}
-use Rattle.spv_ops.specs.Composite.{share_of, shares_of}
+use Rattle.spv_ops.specs.Composite.{shares_of}
+use Rattle.spv_ops.specs.inner.Composite.{share_of}
 use Rattle.spv_type_forms.specs.inner.Tests.{has_int}
 use Rattle.spv_ops.specs.inner.Tests.{left_of_all}
 use Rattle.spv_type_forms.specs.Values.{types_of}

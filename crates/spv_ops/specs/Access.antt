@@ -10,12 +10,8 @@ use Rattle.spv_ops.specs.declared.row.Access.TheVariants.{AtomicExchange, Atomic
 use Rattle.spv_ops.specs.declared.row.Access.TheVariants.{AtomicUpdate}
 use Rattle.spv_type_forms.specs.Types.{IsInt, IsSomeInt, IsNumber, IsPointer, PointsTo, IsData}
 
--- The type of a scope or of memory semantics: an int of width 32. [3.27, 3.25; the width own]
-abbrev pub IsScope : List PlainInst → ℕ → Type 0
-IsScope is t = IsInt is t 32
-
--- o, p, q are the types of the value operands in order; c, d and m are those of scopes and of memory semantics.
--- [3.49.8, 3.49.17, 3.49.18, 3.49.20]
+-- o, p, q are the types of the value operands in order; c, d, m and n are those of scopes and of memory semantics: ints
+-- of width 32. [3.49.8, 3.49.17, 3.49.18, 3.49.20; 3.27, 3.25; the width own]
 abbrev pub Accesses : List PlainInst → Access → Option ℕ → List ℕ → Type 0
 Accesses is Load (Some r) (o ∷ []) = PointsTo is o r × IsData is r
 Accesses is Store None (o ∷ p ∷ []) = PointsTo is o p
@@ -23,18 +19,18 @@ Accesses is CopyMemory None (o ∷ p ∷ []) = (t : ℕ) × PointsTo is o t × P
 Accesses is CopyMemorySized None (o ∷ p ∷ q ∷ []) = (t u : ℕ) × PointsTo is o t × PointsTo is p u
     × IsSomeInt is q
 Accesses is Lifetime None (o ∷ []) = (t : ℕ) × IsPointer is o 7 t
-Accesses is ControlBarrier None (c ∷ d ∷ m ∷ []) = IsScope is c × IsScope is d × IsScope is m
-Accesses is MemoryBarrier None (c ∷ m ∷ []) = IsScope is c × IsScope is m
+Accesses is ControlBarrier None (c ∷ d ∷ m ∷ []) = IsInt is c 32 × IsInt is d 32 × IsInt is m 32
+Accesses is MemoryBarrier None (c ∷ m ∷ []) = IsInt is c 32 × IsInt is m 32
 Accesses is AtomicLoad (Some r) (o ∷ c ∷ m ∷ []) =
-    PointsTo is o r × IsScope is c × IsScope is m × IsNumber is r
+    PointsTo is o r × IsInt is c 32 × IsInt is m 32 × IsNumber is r
 Accesses is AtomicStore None (o ∷ c ∷ m ∷ p ∷ []) =
-    PointsTo is o p × IsScope is c × IsScope is m × IsNumber is p
+    PointsTo is o p × IsInt is c 32 × IsInt is m 32 × IsNumber is p
 Accesses is AtomicExchange (Some r) (o ∷ c ∷ m ∷ p ∷ []) =
-    PointsTo is o r × IsScope is c × IsScope is m × (p ≡ r) × IsNumber is r
+    PointsTo is o r × IsInt is c 32 × IsInt is m 32 × (p ≡ r) × IsNumber is r
 Accesses is AtomicCompareExchange (Some r) (o ∷ c ∷ m ∷ n ∷ p ∷ q ∷ []) =
-    PointsTo is o r × IsScope is c × IsScope is m × IsScope is n × (p ≡ r) × (q ≡ r) × IsSomeInt is r
+    PointsTo is o r × IsInt is c 32 × IsInt is m 32 × IsInt is n 32 × (p ≡ r) × (q ≡ r) × IsSomeInt is r
 Accesses is AtomicStep (Some r) (o ∷ c ∷ m ∷ []) =
-    PointsTo is o r × IsScope is c × IsScope is m × IsSomeInt is r
-Accesses is AtomicUpdate (Some r) (o ∷ c ∷ m ∷ p ∷ []) = PointsTo is o r × IsScope is c × IsScope is m
+    PointsTo is o r × IsInt is c 32 × IsInt is m 32 × IsSomeInt is r
+Accesses is AtomicUpdate (Some r) (o ∷ c ∷ m ∷ p ∷ []) = PointsTo is o r × IsInt is c 32 × IsInt is m 32
     × (p ≡ r) × IsSomeInt is r
 Accesses is _ r types = ⊥

@@ -4,7 +4,7 @@ use Rattle.std.specs.Prelude.{ℕ, List, ◌∷◌}
 use Rattle.std.specs.List.{AllByRecursion}
 use Rattle.spv_module.specs.Operand.{PlainInst}
 use Rattle.spv_type_forms.specs.Types.{IsSomeInt, IsPointer}
-use Rattle.spv_type_forms.specs.Reach.{LeadsToType}
+use Rattle.spv_type_forms.specs.Reach.{ReachesType, ChoosesParts}
 
 -- The indexes lead from what the pointer o points to, to what r points to; and r is a pointer of the same storage class
 -- as o. [3.49.8]
@@ -13,7 +13,7 @@ pub record LeadsByPointer (is : List PlainInst) (r o : ℕ) (xs : List ℕ) : Ty
   pub from : ℕ
   pub to : ℕ
   pub base : IsPointer is o class from
-  pub leads : LeadsToType is from xs to
+  pub leads : (ks : List ℕ) × ChoosesParts is from xs ks × ReachesType is from ks to
   pub result : IsPointer is r class to
 
 -- OpAccessChain: a base, and indexes, which are ints. [3.49.8]

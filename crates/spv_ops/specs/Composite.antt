@@ -19,15 +19,12 @@ abbrev pub share_in : ℕ → Option Form → Option ℕ
 share_in c (Some (form.Vector d n)) = if nat_eq d c then Some n else None
 share_in c _ = None
 
--- How many components of a vector of component type c a value of a type gives: one if it is c, its count if it is a
--- vector of c. [3.49.12]
-abbrev pub share_of : List PlainInst → ℕ → ℕ → Option ℕ
-share_of is c t = if nat_eq t c then Some 1 else share_in c (form_of is t)
-
--- how many values of these types give together [3.49.12]
+-- How many components of a vector of component type c values of these types give together: one for each type that is c,
+-- the count for each that is a vector of c. [3.49.12]
 abbrev pub shares_of : List PlainInst → ℕ → List ℕ → Option ℕ
 shares_of is c [] = Some 0
-shares_of is c (t ∷ ts) = option_and_then (λ n. option_map (λ m. n + m) (shares_of is c ts)) (share_of is c t)
+shares_of is c (t ∷ ts) = option_and_then (λ n. option_map (λ m. n + m) (shares_of is c ts))
+    (if nat_eq t c then Some 1 else share_in c (form_of is t))
 
 -- what makes a composite: two values or more that make up a vector, or the parts of a struct or array [3.49.12]
 abbrev pub Constructs : List PlainInst → ℕ → List ℕ → Option Form → Type 0
@@ -40,13 +37,13 @@ Constructs is r types _ = ⊥
 abbrev pub IsComponent : ℕ → ℕ → Type 0
 IsComponent n k = (k < n) ⊎ (k ≡ 4294967295)
 
--- ks are the literals. Of OpCompositeInsert (Insert), o is the object and p the composite. [3.49.12]
+-- ks are the literals; of a shuffle the two vectors have m + n components. Of OpCompositeInsert (Insert), o is the
+-- object and p the composite. [3.49.12]
 abbrev pub Composes : List PlainInst → Composite → ℕ → List ℕ → List ℕ → Type 0
 Composes is ExtractDynamic r (o ∷ p ∷ []) ks = (n : ℕ) × IsVector is o r n × IsSomeInt is p
 Composes is InsertDynamic r (o ∷ p ∷ q ∷ []) ks = (n : ℕ) × (o ≡ r) × IsVector is r p n × IsSomeInt is q
-Composes is Shuffle r (o ∷ p ∷ []) ks =
-    (c m n : ℕ) × IsVector is r c (length ks) × IsVector is o c m × IsVector is p c n
-    × AllByRecursion (IsComponent (m + n)) ks
+Composes is Shuffle r (o ∷ p ∷ []) ks = (c m n : ℕ) × IsVector is r c (length ks) × IsVector is o c m
+    × IsVector is p c n × AllByRecursion (IsComponent (m + n)) ks
 Composes is Extract r (o ∷ []) ks = (ks ≢ []) × AreWithin is o ks × ReachesType is o ks r
 Composes is Insert r (o ∷ p ∷ []) ks = (ks ≢ []) × (p ≡ r) × AreWithin is p ks × ReachesType is p ks o
 Composes is CopyObject r (o ∷ []) ks = (o ≡ r) × IsData is r

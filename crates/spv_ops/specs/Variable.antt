@@ -8,19 +8,11 @@ use Rattle.spv_type_forms.specs.Types.{class_in, PointsTo}
 use Rattle.spv_type_forms.specs.Operands.{ids_in}
 use Rattle.spv_type_forms.specs.Definitions.{IsConstant, IsGlobal}
 
--- what may initialize a variable [3.49.8]
-abbrev pub IsInitializer : List PlainInst → ℕ → Type 0
-IsInitializer is x = IsConstant is x ⊎ IsGlobal is x
-
--- the storage class of the variable that instruction n declares: in section 9 neither Function (7) nor Generic (8), in
--- a function Function [3.49.8]
-abbrev pub IsClassAt : List PlainInst → ℕ → ℕ → Type 0
-IsClassAt is n class = (IsOfSection is n 11 × (class ≢ 7) × (class ≢ 8))
-    ⊎ ((f : ℕ) × IsOfFunction is n f × (class ≡ 7))
-
--- r is a pointer of the variable's storage class, and an initializer has the type that r points to [3.49.8]
+-- r is a pointer of the storage class of the variable that instruction n declares: in section 9, which is the 11th,
+-- neither Function (7) nor Generic (8), in a function Function. An initializer is a constant or a variable of
+-- section 9, and has the type that r points to. [3.49.8]
 abbrev pub DeclaresVariable : List PlainInst → ℕ → ℕ → List Plain → List ℕ → Type 0
-DeclaresVariable is n r (Value k class ∷ os) types =
-    (class_in (form_of is r) ≡ Some class) × IsClassAt is n class × AllByRecursion (IsInitializer is) (ids_in os)
-    × AllByRecursion (PointsTo is r) types
+DeclaresVariable is n r (Value k class ∷ os) types = (class_in (form_of is r) ≡ Some class)
+    × ((IsOfSection is n 11 × (class ≢ 7) × (class ≢ 8)) ⊎ ((f : ℕ) × IsOfFunction is n f × (class ≡ 7)))
+    × AllByRecursion (λ x. IsConstant is x ⊎ IsGlobal is x) (ids_in os) × AllByRecursion (PointsTo is r) types
 DeclaresVariable is n r _ types = ⊥

@@ -1,5 +1,6 @@
 ghost use Rattle.std.specs.Prelude.{◌↔◌, [], ◌∷◌, Some, None, IsTrue};
-ghost use Rattle.spv_ops.specs.Access.{Accesses, IsScope};
+ghost use Rattle.spv_ops.specs.Access.{Accesses};
+ghost use Rattle.spv_ops.specs.inner.Access.{IsScope};
 ghost use Rattle.spv_ops.specs.declared.row.Access.TheVariants.{Load, Store, CopyMemory, CopyMemorySized, Lifetime};
 ghost use Rattle.spv_ops.specs.declared.row.Access.TheVariants.{ControlBarrier, MemoryBarrier, AtomicLoad, AtomicStore};
 ghost use Rattle.spv_ops.specs.declared.row.Access.TheVariants.{AtomicExchange, AtomicCompareExchange, AtomicStep};

@@ -1,5 +1,6 @@
 ghost use Rattle.std.specs.Prelude.{◌≡◌, ◌↔◌, ◌⊎◌, ℕ, [], ◌∷◌, IsTrue};
-ghost use Rattle.spv_type_forms.specs.Types.{IsBool, IsVector, IsB};
+ghost use Rattle.spv_type_forms.specs.Types.{IsBool, IsVector};
+ghost use Rattle.spv_type_forms.specs.inner.Types.{IsB};
 ghost use Rattle.spv_ops.specs.Calculation.{Calculates, IsNamedClass, bits_of};
 ghost use Rattle.spv_ops.specs.declared.row.Calculation.TheVariants.{FloatToInt, IntToFloat, ResizeInt, ResizeFloat};
 ghost use Rattle.spv_ops.specs.declared.row.Calculation.TheVariants.{PointerToInt, IntToPointer, ToGeneric};

@@ -2,7 +2,8 @@ ghost use Rattle.std.specs.Prelude.{◌↔◌, ◌+◌, [], ◌∷◌, Some, IsT
 ghost use Rattle.std.specs.List.{AllByRecursion};
 ghost use Rattle.spv_module.specs.Module.{plain_operands};
 ghost use Rattle.spv_type_forms.specs.Operands.{words_in};
-ghost use Rattle.spv_ops.specs.Composite.{Composes, IsComponent};
+ghost use Rattle.spv_ops.specs.Composite.{Composes};
+ghost use Rattle.spv_ops.specs.Composite.{IsComponent};
 ghost use Rattle.spv_ops.specs.declared.row.Composite.TheVariants.{ExtractDynamic, InsertDynamic, Shuffle, Extract};
 ghost use Rattle.spv_ops.specs.declared.row.Composite.TheVariants.{Insert, CopyObject};
 

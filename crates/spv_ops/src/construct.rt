@@ -3,7 +3,8 @@ ghost use Rattle.spv_module.specs.Module.{plain_operands};
 ghost use Rattle.spv_type_forms.specs.Operands.{ids_in};
 ghost use Rattle.spv_type_forms.specs.Form.{form_of};
 ghost use Rattle.spv_ops.specs.inner.Tests.{left_of_all, left_of};
-ghost use Rattle.spv_ops.specs.Composite.{Constructs, shares_of, share_of};
+ghost use Rattle.spv_ops.specs.Composite.{Constructs, shares_of};
+ghost use Rattle.spv_ops.specs.inner.Composite.{share_of};
 ghost use Rattle.spv_type_forms.specs.Values.{types_of};
 ghost use Rattle.spv_module.specs.Width.{type_of};
 

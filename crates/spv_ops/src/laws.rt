@@ -20,10 +20,13 @@ ghost use Rattle.spv_ops.specs.declared.row.Composite.TheVariants.{Insert, CopyO
 ghost use Rattle.spv_type_forms.specs.Form.{form_of};
 ghost use Rattle.spv_ops.specs.Row.{row_of};
 ghost use Rattle.spv_ops.specs.Calculation.{IsNamedClass, Calculates};
-ghost use Rattle.spv_ops.specs.Access.{IsScope, Accesses};
-ghost use Rattle.spv_ops.specs.Composite.{IsComponent, Composes, Constructs};
+ghost use Rattle.spv_ops.specs.Access.{Accesses};
+ghost use Rattle.spv_ops.specs.inner.Access.{IsScope};
+ghost use Rattle.spv_ops.specs.Composite.{Composes, Constructs};
+ghost use Rattle.spv_ops.specs.Composite.{IsComponent};
 ghost use Rattle.spv_ops.specs.Chain.{LeadsByPointer, Chains, ChainsByElement};
-ghost use Rattle.spv_ops.specs.Variable.{IsInitializer, IsClassAt, DeclaresVariable};
+ghost use Rattle.spv_ops.specs.Variable.{DeclaresVariable};
+ghost use Rattle.spv_ops.specs.inner.Variable.{IsInitializer, IsClassAt};
 ghost use Rattle.spv_type_forms.specs.Values.{AreValues, types_of};
 ghost use Rattle.spv_ops.specs.Values.{values_of};
 ghost use Rattle.spv_ops.specs.Typed.{RowHolds, Typed, IsTyped, IsTypedAt};

@@ -38,7 +38,8 @@ pub enum Calculation {
     Shift,
 }
 
-/// The rows of memory (SPIR-V Specification 1.6, sections 3.49.8, 3.49.18 and 3.49.20) that their types alone decide.
+/// The rows of memory (SPIR-V Specification 1.6, sections 3.49.8, 3.49.17, 3.49.18 and 3.49.20) that their types alone
+/// decide.
 #[derive(Clone, Copy)]
 pub enum Access {
     Load,

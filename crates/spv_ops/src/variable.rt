@@ -8,7 +8,8 @@ ghost use Rattle.spv_ops.specs.Values.{initializers_in};
 ghost use Rattle.spv_type_forms.specs.Operands.{ids_in};
 ghost use Rattle.spv_type_forms.specs.Types.{class_in};
 ghost use Rattle.spv_type_forms.specs.Form.{form_of};
-ghost use Rattle.spv_ops.specs.Variable.{IsInitializer, IsClassAt, DeclaresVariable};
+ghost use Rattle.spv_ops.specs.Variable.{DeclaresVariable};
+ghost use Rattle.spv_ops.specs.inner.Variable.{IsInitializer, IsClassAt};
 
 use spv_layout::Place;
 use spv_module::Operand;

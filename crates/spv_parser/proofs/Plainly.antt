@@ -1,25 +1,27 @@
 -- Operands of one number each, at the front of a line's operands.
-use Rattle.std.proofs.Common.{◌≡◌, ◌≢◌, ◌++◌, ◌∙◌, ◌<◌, ◌^◌, ℕ, List, [], ◌∷◌, Option, Some, None, map, refl, sym, ap}
+use Rattle.std.proofs.Common.{◌≡◌, ◌≢◌, ◌++◌, ◌∙◌, ◌<◌, ◌^◌, ℕ, List, [], ◌∷◌, Option, Some, None, false, map, refl, sym, ap}
 use Rattle.std.specs.Prelude.{decimal}
 use Rattle.spv_table.specs.Table.{Table, kind_of}
 use Rattle.spv_inst.specs.declared.form.Leaf as declared
 use Rattle.spv_inst.specs.declared.form.Leaf.TheVariants as leaf
 use Rattle.spv_inst.specs.declared.form.Form.TheVariants.{Leaf}
 use Rattle.spv_inst.specs.inner.Form.{form_at}
-use Rattle.spv_module.specs.Operand.{Plain, OfType, Result, Id, Word, Context, result_in}
-use Rattle.spv_module.specs.Shape.{Slot, alone, AsResult, shape_of}
+use Rattle.spv_module.specs.Operand.{Plain, OfType, Result, Id, Word, Number, Context, result_in, type_in}
+use Rattle.spv_module.specs.Shape.{Slot, alone, AsNumber, AsResult, shape_of}
 use Rattle.spv_inst.specs.Flat.{OneOf}
 use Rattle.spv_inst.specs.inner.Pending.{opened_kinds}
 use Rattle.spv_inst.specs.inner.Written.{operand_words}
 use Rattle.spv_inst.proofs.Shapes.{shape_leaf}
 use Rattle.spv_lines.specs.Line.{before_space, from_space}
-use Rattle.spv_lines.specs.Operand.{id_text, is_float}
+use Rattle.spv_lines.specs.Operand.{id_text, is_float, is_float_type}
 use Rattle.spv_lines.specs.Refusal.{IsBreak}
 use Rattle.spv_tokens.specs.inner.Answer.{IsTaken}
-use Rattle.spv_tokens.proofs.Taking.{type_taken, id_taken, word_taken}
+use Rattle.spv_tokens.proofs.Taking.{type_taken, id_taken, word_taken, narrow_taken}
 use Rattle.spv_parser.specs.declared.operands.Known.{Known}
+use Rattle.spv_parser.specs.inner.Fast.{IsNarrow}
 use Rattle.spv_parser.specs.inner.Kept.{IsOfOperands}
 use Rattle.spv_parser.specs.inner.Reading.{HasToken, IsPlainStep}
+use Rattle.spv_parser.proofs.KindForms.{type_by_context}
 use Rattle.spv_parser.proofs.Taken.{token_step, front_step, front_not}
 
 -- a number behind a space, and one behind a space and `%`
@@ -64,6 +66,17 @@ integer_stepped G r c kind t rest known x e h i =
     let s = alone kind in
     let k : IsTaken G (is_float G c s) s.kind (shape_of G c s) (decimal x) (Word x) = rw (shape_leaf G c s leaf.Integer leaf.Integer e refl) (word_taken G (is_float G c s) s.kind x (decimal x) (h.0, refl)) in
     cell_step G r c s t (decimal x) rest (Word x) leaf.Integer known x e (λ f. cc) h.1 k refl refl i
+
+-- a number of a type of at most 32 bits that is no float
+pub number_stepped : (G : Table) (r : Option ℕ) (c : Context) (kind : ℕ) (t rest : List ℕ) (known : Known) (x : ℕ) → form_at (kind_of G kind) ≡ Leaf leaf.ContextNumber → IsNarrow c.before (type_in c.operands) → (x < 2 ^ 32) × HasToken t (decimal x) rest
+    → IsOfOperands known c.opcode (c.operands ++ (Number x 0 1 ∷ [])) → IsPlainStep G r c (alone kind) t rest known x
+number_stepped G r c kind t rest known x e n h i =
+    let s = alone kind in
+    let o = Number x 0 1 in
+    let f : is_float G c s ≡ false = ap (is_float_type c.before) (type_by_context c (kind_of G kind) e) ∙ n.no_float in
+    let g : shape_of G c s ≡ AsNumber (Some n.width) = shape_leaf G c s leaf.ContextNumber leaf.ContextNumber e refl ∙ ap AsNumber n.is in
+    let k : IsTaken G (is_float G c s) s.kind (shape_of G c s) (decimal x) o = rw (f, g) (narrow_taken G kind n.width x (decimal x) n.least (h.0, refl)) in
+    cell_step G r c s t (decimal x) rest o leaf.ContextNumber known x e (λ f. cc) h.1 k refl refl i
 
 pub result_stepped : (G : Table) (c : Context) (kind : ℕ) (t : List ℕ) (known : Known) (x : ℕ) → form_at (kind_of G kind) ≡ Leaf leaf.Result → x < 2 ^ 32 → result_in c.operands ≡ None → IsBreak t
     → IsOfOperands known c.opcode (c.operands ++ (Result x ∷ [])) → IsPlainStep G (Some x) c (alone kind) t t known x

@@ -8,7 +8,7 @@ use Rattle.spv_inst.specs.declared.form.Leaf as declared
 use Rattle.spv_inst.specs.declared.form.Leaf.TheVariants as leaf
 use Rattle.spv_inst.specs.declared.form.Form.TheVariants.{Leaf}
 use Rattle.spv_inst.specs.inner.Form.{form_at}
-use Rattle.spv_module.specs.Operand.{Plain, PlainInst, OfType, Result, Id, Word, Text, Context, result_in, type_in}
+use Rattle.spv_module.specs.Operand.{Plain, PlainInst, OfType, Result, Id, Word, Number, Text, Context, result_in, type_in}
 use Rattle.spv_module.specs.Width.{first_id, width_in, declared_width}
 use Rattle.spv_module.specs.Shape.{Slot, alone, shape_of}
 use Rattle.spv_inst.specs.Flat.{Due, OneOf}
@@ -22,10 +22,10 @@ use Rattle.spv_parser.specs.declared.operands.Known.{Known}
 use Rattle.spv_parser.specs.declared.operands.Line.{Line}
 use Rattle.spv_parser.specs.inner.Kept.{IsOfOperands, count_of}
 use Rattle.spv_parser.specs.inner.Reading.{AreRead, HasQuoted, HasToken, context_of}
-use Rattle.spv_parser.specs.inner.Fast.{BeginsWith, FastSoFar, Has, IsFastStep, IsFreeStep}
+use Rattle.spv_parser.specs.inner.Fast.{BeginsWith, FastSoFar, Has, IsFastStep, IsFreeStep, IsNarrow}
 use Rattle.spv_parser.proofs.Begins.{of_more, result_snoc, type_snoc}
 use Rattle.spv_parser.proofs.Celled.{named_step, none_by, plain_freed, quotation_step, so_far_cell}
-use Rattle.spv_parser.proofs.Plainly.{id_stepped, integer_stepped, result_stepped, type_stepped, word_stepped}
+use Rattle.spv_parser.proofs.Plainly.{id_stepped, integer_stepped, number_stepped, result_stepped, type_stepped, word_stepped}
 use Rattle.spv_parser.proofs.Walks.{so_far_done, so_far_first, so_far_nearer, so_far_plain}
 
 abbrev pub known_of : ℕ → List Plain → Known
@@ -65,6 +65,14 @@ pub fast_integer : (G : Table) (line : Line) (c : Context) (kind : ℕ) (t rest 
 fast_integer G line c kind t rest x old new e b h w =
     let n = known_of c.opcode (c.operands ++ (Word x ∷ [])) in
     fast_step G line c (alone kind) t rest [] old new (Word x) b refl refl (plain_freed G line.result c (alone kind) t rest n x old new w (integer_stepped G line.result c kind t rest n x e h (own c.opcode (c.operands ++ (Word x ∷ [])))))
+
+pub fast_number : (G : Table) (line : Line) (c : Context) (kind : ℕ) (t rest : List ℕ) (x : ℕ) (old new : List ℕ) → form_at (kind_of G kind) ≡ Leaf leaf.ContextNumber → Has line c.operands → IsNarrow c.before line.type_id → (x < 2 ^ 32) × HasToken t (decimal x) rest
+    → new ≡ old ++ (x ∷ []) → IsFastStep G line c (alone kind) t rest [] old new
+fast_number G line c kind t rest x old new e b i h w =
+    let o = Number x 0 1 in
+    let n = known_of c.opcode (c.operands ++ (o ∷ [])) in
+    let j : IsNarrow c.before (type_in c.operands) = rw b.type_id i in
+    fast_step G line c (alone kind) t rest [] old new o b refl refl (plain_freed G line.result c (alone kind) t rest n x old new w (number_stepped G line.result c kind t rest n x e j h (own c.opcode (c.operands ++ (o ∷ [])))))
 
 pub fast_named : (G : Table) (line : Line) (c : Context) (kind : ℕ) (l : declared.Leaf) (t u token rest : List ℕ) (o : Plain) (ks old new : List ℕ) → form_at (kind_of G kind) ≡ Leaf l → (l ≡ leaf.Result → ⊥) → Has line c.operands → t ≡ 32 ∷ u
     → token ≡ before_space u → rest ≡ from_space u → ((c : Context) (hex : Bool) → IsTaken G hex kind (shape_of G c (alone kind)) token o) → opened_kinds G o ≡ ks → (result_in (o ∷ []) ≡ None) × (type_in (o ∷ []) ≡ None)

@@ -1,4 +1,5 @@
-//! The fast way through the operands of a line, for ids, literals of one word, values, masks and texts without escapes.
+//! The fast way through the operands of a line, for ids, literals of one word, numbers of a narrow type, values, masks
+//! and texts without escapes.
 
 ghost use Rattle.std.specs.Prelude.{◌≡◌, ◌<◌, ◌^◌, ◌||◌, [], ℕ, List, true, false};
 ghost use Rattle.std.specs.Prelude.{IfOk, IfSome, Some, map};
@@ -8,17 +9,19 @@ ghost use Rattle.spv_table.specs.Table.{kind_of};
 ghost use Rattle.spv_inst.specs.declared.form.Form.TheVariants.{Leaf as LeafForm};
 ghost use Rattle.spv_inst.specs.declared.form.Leaf.TheVariants as leaves;
 ghost use Rattle.spv_inst.specs.inner.Form.{form_at, form_of};
+ghost use Rattle.spv_inst.specs.inner.Known.{Knows};
 ghost use Rattle.spv_inst.specs.inner.Pending.{due_first, items_of};
 ghost use Rattle.spv_inst.specs.Flat.{due};
 ghost use Rattle.spv_module.specs.Operand.{PlainInst};
 ghost use Rattle.spv_lines.specs.Operand.{id_text};
 ghost use Rattle.spv_lines.specs.Refusal.{IsBreak};
-ghost use Rattle.spv_parser.specs.inner.Fast.{BeginsWith, IsStart, TakesFast};
+ghost use Rattle.spv_parser.specs.inner.Fast.{BeginsWith, IsStart, TakesFast, TakesNarrow, TakesTyped};
 ghost use Rattle.spv_parser.specs.inner.Reading.{AreRead, HasQuoted, HasToken};
 ghost use Rattle.spv_parser.specs.inner.Seen.{IsSeen};
 
 use crate::operands::{Line, Setting, TYPE_FLOAT, TYPE_INT, is_break, is_text};
 use crate::seen::{Seen, find_named};
+use crate::token::is_narrow;
 use spv_inst::due::{Form, Leaf, Next, form_in, joined, next_kind, push_operand, read_text};
 use spv_module::Operand;
 use spv_table::{Item, Table};
@@ -75,7 +78,7 @@ fn take_id<'t, 'a>(words: &mut Vec<u32>, rest: &'a str) -> Result<Option<Taken<'
     }))
 }
 
-/// Takes a literal of one word, and adds it.
+/// Takes a literal of one word, or a number of a narrow type, and adds it.
 #[inline(always)]
 fn take_word<'t, 'a>(
     words: &mut Vec<u32>,
@@ -85,6 +88,8 @@ fn take_word<'t, 'a>(
         → TakesFast G kind rest.now result words.old.items words.new.items }
     ensures word { (G : grammar.Table) (kind : ℕ) → form_at (kind_of G kind) ≡ LeafForm leaves.Word
         → TakesFast G kind rest.now result words.old.items words.new.items }
+    ensures number { (G : grammar.Table) (kind : ℕ) → form_at (kind_of G kind) ≡ LeafForm leaves.ContextNumber
+        → TakesNarrow G kind rest.now result words.old.items words.new.items }
 {
     let Some(spaced) = behind(rest, b' ') else {
         return Ok(None);
@@ -163,21 +168,23 @@ fn take_text<'t, 'a>(
     }))
 }
 
-/// Takes the operand for a kind of that form, and adds its words. None where another operand is due, or something else
-/// stands there; then nothing is said of the words.
+/// Takes the operand for a kind of that form, in a line with that result type, and adds its words. None where another
+/// operand is due, or something else stands there; then nothing is said of the words.
 #[inline(always)]
 fn take_operand<'t, 'a>(
-    table: &'t Table,
+    setting: &Setting<'t, '_>,
     seen: &mut Option<Seen<'t, 'a>>,
     words: &mut Vec<u32>,
+    type_id: Option<u32>,
     form: Form,
     kind: u32,
     rest: &'a str,
 ) -> Result<Option<Taken<'t, 'a>>, AllocError>
-    requires form { form ≡ form_at (kind_of table.now kind) }
-    requires seen { IsSeen table.now seen.old }
-    ensures taken { TakesFast table.now kind rest.now result words.old.items words.new.items }
-    ensures seen { IsSeen table.now seen.new }
+    requires form { form ≡ form_at (kind_of setting.now.table.now kind) }
+    requires seen { IsSeen setting.now.table.now seen.old }
+    ensures taken { TakesTyped setting.now.table.now setting.now.definitions.now type_id kind rest.now result
+        words.old.items words.new.items }
+    ensures seen { IsSeen setting.now.table.now seen.new }
 {
     let Form::Leaf(leaf) = form else {
         return Ok(None);
@@ -186,9 +193,15 @@ fn take_operand<'t, 'a>(
         Leaf::Id => take_id(words, rest),
         Leaf::Integer => take_word(words, rest),
         Leaf::Word => take_word(words, rest),
-        Leaf::Value | Leaf::Mask => take_named(table, seen, words, leaf, kind, rest),
+        Leaf::ContextNumber => {
+            if !is_narrow(setting.definitions, type_id) {
+                return Ok(None);
+            }
+            take_word(words, rest)
+        }
+        Leaf::Value | Leaf::Mask => take_named(setting.table, seen, words, leaf, kind, rest),
         Leaf::Text => take_text(words, rest),
-        Leaf::ResultType | Leaf::Result | Leaf::ContextNumber | Leaf::Nothing => Ok(None),
+        Leaf::ResultType | Leaf::Result | Leaf::Nothing => Ok(None),
     }
 }
 
@@ -348,8 +361,9 @@ fn take_operands<'t, 'a>(
     requires forms { setting.now.forms.now ≡ map form_of setting.now.table.now.kinds }
     requires no_width { (nat_eq opcode 21 || nat_eq opcode 22) ≡ false }
     requires start { IsStart setting.now.table.now opcode pattern.now operands.now start words.old.items }
+    requires known { (before : List PlainInst) × Knows setting.now.definitions.now before }
     requires seen { IsSeen setting.now.table.now seen.old }
-    ensures read { (before : List PlainInst) → IfOk result
+    ensures read { (before : List PlainInst) → Knows setting.now.definitions.now before → IfOk result
         (λ b. b ≡ true → AreRead setting.now.table.now start.entry.line.result before opcode
         (map due (items_of pattern.now)) operands.now words.new.items start.entry.line) }
     ensures seen { IsSeen setting.now.table.now seen.new }
@@ -363,7 +377,8 @@ fn take_operands<'t, 'a>(
             return Ok(!more);
         };
         let form = form_in(setting.forms, next.kind);
-        let cell = take_operand(setting.table, seen, words, form, next.kind, rest)?;
+        let type_id = start.line.type_id;
+        let cell = take_operand(setting, seen, words, type_id, form, next.kind, rest)?;
         let Some(taken) = cell else {
             return Ok(false);
         };
@@ -376,10 +391,10 @@ fn take_operands<'t, 'a>(
     }
 }
 
-/// Reads the operands of a line by the pattern of its instruction, where they are ids, literals of one word, values,
-/// masks and texts without escapes, with their parameters, and gives what is kept of the line. Their words are then
-/// those of the list. None where another operand is due, or something else stands there, and for OpTypeInt and
-/// OpTypeFloat; then nothing is said of the words.
+/// Reads the operands of a line by the pattern of its instruction, where they are ids, literals of one word, numbers of
+/// a narrow type, values, masks and texts without escapes, with their parameters, and gives what is kept of the line.
+/// Their words are then those of the list. None where another operand is due, or something else stands there, and for
+/// OpTypeInt and OpTypeFloat; then nothing is said of the words.
 ///
 /// An `AllocError` comes only where a growth of memory was refused.
 #[inline(always)]
@@ -393,11 +408,12 @@ pub fn fast_operands<'t, 'a>(
     operands: &'a str,
 ) -> Result<Option<Line>, AllocError>
     requires forms { setting.now.forms.now ≡ map form_of setting.now.table.now.kinds }
+    requires known { (before : List PlainInst) × Knows setting.now.definitions.now before }
     requires broken { IsBreak operands.now }
     requires seen { IsSeen setting.now.table.now seen.old }
-    ensures read { (before : List PlainInst) → IfOk result (λ o. IfSome o
-        (λ l. AreRead setting.now.table.now l.result before opcode (map due (items_of pattern.now)) operands.now
-        words.new.items l)) }
+    ensures read { (before : List PlainInst) → Knows setting.now.definitions.now before → IfOk result
+        (λ o. IfSome o (λ l. AreRead setting.now.table.now l.result before opcode
+        (map due (items_of pattern.now)) operands.now words.new.items l)) }
     ensures front { IfOk result (λ o. IfSome o
         (λ l. option_map (λ t. t.now) front.entry ≡ option_map id_text l.result)) }
     ensures seen { IsSeen setting.now.table.now seen.new }

@@ -1,6 +1,6 @@
 //! An operand's token, by what is due.
 
-ghost use Rattle.std.specs.Prelude.{◌≡◌, ◌≢◌, ℕ, List, option_and_then};
+ghost use Rattle.std.specs.Prelude.{◌≡◌, ◌≢◌, ℕ, List, option_and_then, true};
 ghost use Rattle.spv_table.specs.Table as grammar;
 ghost use Rattle.spv_table.specs.Table.{kind_of};
 ghost use Rattle.spv_inst.specs.declared.form.Form.TheVariants.{Leaf as LeafForm};
@@ -13,6 +13,7 @@ ghost use Rattle.spv_module.specs.Shape.{AsNumber, shape_of};
 ghost use Rattle.spv_module.specs.Width as widths;
 ghost use Rattle.spv_lines.specs.Operand.{is_float, is_float_type};
 ghost use Rattle.spv_tokens.specs.inner.Answer.{IsToken};
+ghost use Rattle.spv_parser.specs.inner.Fast.{IsNarrow};
 ghost use Rattle.spv_parser.specs.inner.Reading.{IsAt, switch_type};
 
 use crate::operands::{Known, Setting};
@@ -43,6 +44,18 @@ fn width_of(definitions: &Definitions, type_id: Option<u32>) -> Option<u32>
     match type_id {
         Some(id) => definitions.width(id),
         None => None,
+    }
+}
+
+/// Whether an id, if there is one, is that of a type of at most 32 bits that is no float.
+#[inline(never)]
+pub fn is_narrow(definitions: &Definitions, type_id: Option<u32>) -> bool
+    ensures { (before : List PlainInst) → Knows definitions.now before
+        → result ≡ true → IsNarrow before type_id }
+{
+    match width_of(definitions, type_id) {
+        Some(width) => width <= 32 && !definitions.is_float(type_id),
+        None => false,
     }
 }
 

@@ -1,4 +1,3 @@
-mod Appending
 mod Readings
 mod Shown
 mod Stages

@@ -23,7 +23,7 @@ use Rattle.spv_verdict.proofs.Verdicts.{Laws, dead_list, same_module}
 use Rattle.spv_word_reasons.specs.Evidence as instructions
 use Rattle.spv_reasons.specs.Evidence.{IsEvidence}
 use Rattle.spv_reasons.specs.Explained.{IsShown}
-use Rattle.spv_reasons.specs.Lines.{AreIn, dead_lines_of, told_of}
+use Rattle.spv_fault_lines.specs.Lines.{AreIn, dead_lines_of, told_of}
 use Rattle.spv_reasons.specs.Stream.{Explain, ExplainDead}
 use Rattle.spv_reasons.specs.declared.explained.Explained.TheVariants as explained
 use Rattle.spv_reasons.specs.inner.Judged.{IsShownAt}

@@ -23,7 +23,7 @@ use Rattle.spv_verdict.specs.Verdict.{IsVerdict, refused, valid_line}
 use Rattle.spv_verdict.specs.declared.verdict_line.Judgment.TheVariants as judgments
 use Rattle.spv_verdict.proofs.Verdicts.{Laws, fault_verdict, valid_verdict}
 use Rattle.spv_word_reasons.specs.Evidence as instructions
-use Rattle.spv_reasons.specs.Lines.{AreIn, dead_lines_of, told_of}
+use Rattle.spv_fault_lines.specs.Lines.{AreIn, dead_lines_of, told_of}
 use Rattle.spv_reasons.specs.Stream.{BeginsExplaining, Explains, IsExplanation}
 use Rattle.spv_reasons.specs.declared.stream.Explanation.{Explanation}
 use Rattle.spv_reasons.specs.inner.Reading.{IsBrokenModule}

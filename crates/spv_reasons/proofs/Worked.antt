@@ -33,7 +33,7 @@ use Rattle.spv_id_reasons.proofs.Worked.{again}
 use Rattle.spv_reasons.specs.Evidence.{IsEvidence}
 use Rattle.spv_reasons.specs.Example.{string_fault, string_words, twice_void, unknown_bit}
 use Rattle.spv_reasons.specs.Explained.{IsShown}
-use Rattle.spv_reasons.specs.Lines.{AreIn, HasPart, dead_lines_of, inst_begin, number_line, operand_line, told_of}
+use Rattle.spv_fault_lines.specs.Lines.{AreIn, HasPart, dead_lines_of, inst_begin, number_line, operand_line, told_of}
 use Rattle.spv_reasons.specs.Stream.{AreDeadLinesOf, AreLinesOf}
 use Rattle.spv_reasons.specs.declared.explained.Explained.TheVariants.{Fault}
 use Rattle.spv_reasons.proofs.Sufficing.{of_layout_alone, suffices}

@@ -1,7 +1,5 @@
 pub mod Evidence
 pub mod Example
 pub mod Explained
-pub mod Lines
-pub mod Rules
 pub mod Stream
 pub mod inner

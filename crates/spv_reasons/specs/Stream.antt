@@ -15,7 +15,7 @@ use Rattle.spv_verdict.specs.Text.{line_of}
 use Rattle.spv_evidence.specs.declared.evidence.Evidence.{Evidence}
 use Rattle.spv_reasons.specs.Evidence.{IsEvidence}
 use Rattle.spv_word_reasons.specs.Evidence as instructions
-use Rattle.spv_reasons.specs.Lines.{AreIn, dead_lines_of, told_of}
+use Rattle.spv_fault_lines.specs.Lines.{AreIn, dead_lines_of, told_of}
 use Rattle.spv_reasons.specs.declared.stream.Explanation.{Explanation}
 
 -- Under the table, lines tell what shows that the rule is broken at an instruction of the list.

@@ -1,4 +1,3 @@
-pub mod Adding
 pub mod Judged
 pub mod Kinds
 pub mod Reading

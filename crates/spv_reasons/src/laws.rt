@@ -15,7 +15,7 @@ ghost use Rattle.spv_verdict.specs.Verdict.{line_end};
 ghost use Rattle.spv_reasons.specs.Evidence.{IsEvidence};
 ghost use Rattle.spv_reasons.specs.Example.{string_fault, string_words, twice_void, unknown_bit};
 ghost use Rattle.spv_reasons.specs.Explained.{IsShown};
-ghost use Rattle.spv_reasons.specs.Lines.{AreIn, operand_line, told_of};
+ghost use Rattle.spv_fault_lines.specs.Lines.{AreIn, operand_line, told_of};
 ghost use Rattle.spv_reasons.specs.Stream.{AreDeadLinesOf, AreLinesOf};
 ghost use Rattle.spv_reasons.specs.declared.explained.Explained.TheVariants.{Fault};
 

@@ -5,22 +5,21 @@ ghost use Rattle.spv_words.specs.Header.{IsModule};
 ghost use Rattle.spv_words.specs.declared.words.Order.{Order};
 ghost use Rattle.spv_words.specs.declared.words.WordError.TheVariants.{W1, W9};
 ghost use Rattle.spv_module.specs.Module.{plain_insts};
-ghost use Rattle.spv_verdict.specs.Outcome.{Failed, OfKnown};
+ghost use Rattle.spv_verdict.specs.Outcome.{HasFailed, OfKnown};
 ghost use Rattle.spv_verdict.specs.Verdict.{valid_line};
 ghost use Rattle.spv_verdict.specs.Text.{line_of, refusal_of};
-ghost use Rattle.spv_reasons.specs.Lines.{AreIn, dead_lines_of, told_of};
+ghost use Rattle.spv_fault_lines.specs.Lines.{AreIn, dead_lines_of, told_of};
 ghost use Rattle.spv_reasons.specs.Stream.{BeginsExplaining, Explains, IsExplanation};
 ghost use Rattle.spv_verdict.specs.declared.verdict_line.Judgment.TheVariants as judgments;
-ghost use Rattle.spv_reasons.specs.inner.Adding.{Adds};
+ghost use Rattle.spv_fault_lines.specs.inner.Adding.{Adds};
 
-use crate::about::About;
 use crate::explained::{Reading, reading_of};
 use crate::place::{block_of, function_of};
-use crate::sentences::{sentence, word_sentence};
-use crate::told::{due_lines, evidence_lines};
 use spv_evidence::Evidence;
+use spv_fault_lines::{About, due_lines, evidence_lines};
 use spv_inst::{listed_or_dead, one_death, one_listing};
 use spv_module::{Fault, Module, Rule};
+use spv_rules::{sentence, word_sentence};
 use spv_table::{Memory, Table};
 use spv_verdict::{Judgment, line_for};
 use spv_words::{Image, Sink, Source, WordError, image_of, read_image, word, write_all};
@@ -211,7 +210,7 @@ fn refusal(alloc: Global, code: WordError) -> Result<Explanation, WordError>
 /// The lines that tell all the bytes of a reader.
 fn told_on<R: Source>(alloc: Global, table: &Table, r: &mut R) -> Result<Explanation, WordError>
     ensures known { IfSome (R.remaining r.old) (λ bytes. IfOk result (λ t. IsExplanation table.now bytes t)) }
-    ensures count { Failed R.failures r.old r.new ↔ IsErrOf result W1 }
+    ensures count { HasFailed R.failures r.old r.new ↔ IsErrOf result W1 }
     ensures only { IfErr result (λ e. (e ≡ W1) ⊎ (e ≡ W9)) }
 {
     spv_words::laws::one_refusal();
@@ -264,13 +263,13 @@ pub fn explain_stream<R: Source, W: Sink>(
     ensures explained { OfKnown (R.remaining r.old) (W.contents w.old)
         (λ bytes old. IfOk result (λ answer. Explains table.now bytes old (W.contents w.new) answer)) }
     // The answer is W1 exactly where a read or a write failed.
-    ensures count { (Failed R.failures r.old r.new ⊎ Failed W.failures w.old w.new) ↔ IsErrOf result W1 }
+    ensures count { (HasFailed R.failures r.old r.new ⊎ HasFailed W.failures w.old w.new) ↔ IsErrOf result W1 }
     ensures only { IfErr result (λ e. (e ≡ W1) ⊎ (e ≡ W9)) }
     // After a failed read, or for want of memory, the writer is as it was.
-    ensures read { Failed R.failures r.old r.new → w.new ≡ w.old }
+    ensures read { HasFailed R.failures r.old r.new → w.new ≡ w.old }
     ensures memory { IsErrOf result W9 → w.new ≡ w.old }
     // After a failed write it has got a beginning of the lines.
-    ensures begun { Failed W.failures w.old w.new
+    ensures begun { HasFailed W.failures w.old w.new
         → OfKnown (R.remaining r.old) (W.contents w.old)
         (λ bytes old. BeginsExplaining table.now bytes old (W.contents w.new)) }
 {

@@ -6,27 +6,16 @@ use Rattle.spv_layout.specs.declared.form.Role.{Role}
 use Rattle.spv_layout.specs.declared.form.Role.TheVariants as role
 use Rattle.spv_type_forms.specs.Definitions.{IsGlobal}
 
--- a type declaration: OpTypeVoid (19) to OpTypeFunction (33) [own]
-abbrev pub IsTypeDeclaration : PlainInst → Type 0
-IsTypeDeclaration d = (19 ≤ d.opcode) × (d.opcode ≤ 33)
-
--- an instruction with a result type, other than OpFunction (54) [own]
-abbrev pub IsValue : PlainInst → Type 0
-IsValue d = IsSome (type_in d.operands) × (d.opcode ≢ 54)
-
--- the instruction has the opcode [own]
-abbrev pub IsOfOpcode : ℕ → PlainInst → Type 0
-IsOfOpcode n d = d.opcode ≡ n
-
--- The id plays the role: its definition is a type declaration, a value, an OpFunction (54), an OpString (7), an
--- OpExtInstImport (11), or an OpVariable outside functions. Nothing is asked here of the id of a label, nor of one that
--- may be anything. [own]
+-- The id plays the role: its definition is a type declaration, OpTypeVoid (19) to OpTypeFunction (33); a value, which
+-- is an instruction with a result type, other than OpFunction (54); an OpFunction; an OpString (7); an OpExtInstImport
+-- (11); or an OpVariable outside functions. Nothing is asked here of the id of a label, nor of one that may be
+-- anything. [own]
 abbrev pub Plays : List PlainInst → Role → ℕ → Type 0
-Plays is role.OfType x = IsSomeAnd (definition_of is x) IsTypeDeclaration
-Plays is role.Value x = IsSomeAnd (definition_of is x) IsValue
-Plays is role.Function x = IsSomeAnd (definition_of is x) (IsOfOpcode 54)
-Plays is role.Text x = IsSomeAnd (definition_of is x) (IsOfOpcode 7)
-Plays is role.Set x = IsSomeAnd (definition_of is x) (IsOfOpcode 11)
+Plays is role.OfType x = IsSomeAnd (definition_of is x) (λ d. (19 ≤ d.opcode) × (d.opcode ≤ 33))
+Plays is role.Value x = IsSomeAnd (definition_of is x) (λ d. IsSome (type_in d.operands) × (d.opcode ≢ 54))
+Plays is role.Function x = IsSomeAnd (definition_of is x) (λ d. d.opcode ≡ 54)
+Plays is role.Text x = IsSomeAnd (definition_of is x) (λ d. d.opcode ≡ 7)
+Plays is role.Set x = IsSomeAnd (definition_of is x) (λ d. d.opcode ≡ 11)
 Plays is role.Global x = IsGlobal is x
 Plays is role.Label x = Unit {0}
 Plays is role.Any x = Unit {0}

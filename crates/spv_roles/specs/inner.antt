@@ -1,3 +1,4 @@
 -- Definitions that serve the code alone.
 pub mod Asked
 pub mod Known
+pub mod Role

@@ -2,7 +2,8 @@ ghost use Rattle.std.specs.Prelude.{◌≡◌, ◌↔◌, ◌⊎◌, IsTrue, IsS
 ghost use Rattle.spv_module.specs.Module.{plain_inst};
 ghost use Rattle.spv_module.specs.Width.{definition_of};
 ghost use Rattle.spv_layout.specs.declared.form.Role.TheVariants as role;
-ghost use Rattle.spv_roles.specs.Role.{IsTypeDeclaration, IsValue, IsOfOpcode, Plays};
+ghost use Rattle.spv_roles.specs.Role.{Plays};
+ghost use Rattle.spv_roles.specs.inner.Role.{IsTypeDeclaration, IsValue, IsOfOpcode};
 
 use spv_layout::Role;
 use spv_module::Inst;

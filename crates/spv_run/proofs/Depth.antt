@@ -5,7 +5,8 @@ use Rattle.spv_table.specs.Table.{Table}
 use Rattle.spv_module.specs.Operand.{PlainInst, Id}
 use Rattle.spv_run.specs.State.{Frame}
 use Rattle.spv_calls.specs.Chain.{Chain}
-use Rattle.spv_calls.specs.Calls.{function_call, Calls, IsEntryFunction}
+use Rattle.spv_calls.specs.Calls.{Calls, IsEntryFunction}
+use Rattle.spv_calls.specs.inner.Found.{function_call}
 use Rattle.spv_layout.specs.Place.{IsDefinition}
 use Rattle.spv_run.specs.Act.{Act, act_of}
 use Rattle.spv_run.specs.Act as act

@@ -35,15 +35,17 @@ use Rattle.spv_layout.proofs.Worked.{leads_by}
 use Rattle.spv_ids.specs.Broken as id_rules
 use Rattle.spv_ids.specs.Definition.{IsDefinedAt, IsUsedAt, IsLocal}
 use Rattle.spv_ids.specs.Order.{IsInOrder, IsOrdered}
-use Rattle.spv_capabilities.specs.Capable.{Has, IsCoveredEntry, IsCoveredMask, IsCoveredOperand, HasNeeded, IsCapable, needs_of}
-use Rattle.spv_capabilities.specs.Entry.{IsNamed, IsSoundEntry, IsSoundMode, IsSoundLinkage, called_by, imported_by}
+use Rattle.spv_capabilities.specs.Capable.{Has, IsCoveredMask, IsCoveredOperand, IsCapable, needs_of}
+use Rattle.spv_capabilities.specs.Asked.{IsCoveredEntry, HasNeeded}
+use Rattle.spv_capabilities.specs.Entry.{IsNamed, IsSoundEntry, IsSoundMode, called_by, imported_by}
+use Rattle.spv_capabilities.specs.inner.Entry.{IsSoundLinkage}
 use Rattle.spv_capabilities.specs.Example.{enumerant}
 use Rattle.spv_capabilities.specs.Keeps as capability_rules
 use Rattle.spv_capabilities.specs.Memory.{IsModel}
 use Rattle.spv_ops.specs.Typed.{IsTyped}
-use Rattle.spv_type_rules.specs.Constant.{IsSoundConstant}
-use Rattle.spv_type_rules.specs.Declaration.{IsSoundDeclaration}
-use Rattle.spv_type_rules.specs.Function.{IsSoundFunction, IsSoundParameter, IsSoundReturn, IsSoundReturnValue, IsSoundCall}
+use Rattle.spv_type_rules.specs.inner.Constant.{IsSoundConstant}
+use Rattle.spv_type_rules.specs.inner.Declaration.{IsSoundDeclaration}
+use Rattle.spv_type_rules.specs.inner.Function.{IsSoundFunction, IsSoundParameter, IsSoundReturn, IsSoundReturnValue, IsSoundCall}
 use Rattle.spv_type_rules.specs.Keeps as type_rules
 use Rattle.spv_type_rules.specs.Repeat.{Repeats}
 use Rattle.spv_branches.specs.Broken as flow_rules
@@ -52,7 +54,7 @@ use Rattle.spv_calls.specs.Broken as call_rules
 use Rattle.spv_calls.specs.Calls.{IsEntryFunction}
 use Rattle.spv_run.specs.Sound.{KeepsRules}
 use Rattle.spv_run.specs.Kernel.{grammar, capability, model, entry_point, void, of_void, function, label, return_op, end, kernel}
-use Rattle.spv_run.proofs.Elements.{Each, each, Where, off, found, some_of}
+use Rattle.spv_run.proofs.Elements.{each, Where, off, found, some_of}
 
 -- no instruction passes the test
 pub nowhere : Where (λ (i : PlainInst). false) (λ n i. ⊥) kernel

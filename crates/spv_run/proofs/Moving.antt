@@ -30,6 +30,7 @@ use Rattle.spv_run.proofs.Typing.{call_typed}
 use Rattle.spv_module.specs.declared.fault.Rule.TheVariants as rule
 use Rattle.spv_layout.specs.declared.form.Form.{Form}
 use Rattle.spv_layout.specs.declared.form.Form.TheVariants as form
+use Rattle.spv_layout.specs.inner.Row.{N}
 use Rattle.spv_layout.specs.Row.{repeated}
 use Rattle.spv_layout.specs.Row as row
 use Rattle.spv_layout.specs.Shape.{is_of, AreOf, Ends, FitsShape}
@@ -336,9 +337,9 @@ number_unseen G (operand.Text a) h os = cc
 number_unseen G (operand.Value a b) h os = cc
 number_unseen G (operand.Mask a b) h os = cc
 
-a_case : (G : Table) (gs : List Form) (os : List Plain) → AreOf G (row.N ∷ row.l ∷ gs) os → Case G gs os
+a_case : (G : Table) (gs : List Form) (os : List Plain) → AreOf G (N ∷ row.l ∷ gs) os → Case G gs os
 a_case G gs os a =
-    let one = take_form G row.N (row.l ∷ gs) os a in
+    let one = take_form G N (row.l ∷ gs) os a in
     let two = take_form G row.l gs one.tail one.rest in
     let q = an_id G role.Label two.head two.fits in
     record {
@@ -361,7 +362,7 @@ after_case number label tail rest (suc k) (suc zero) e = absurd (omega (arith, e
 after_case number label tail rest (suc k) (suc (suc n)) e = rest k n (omega (arith, e))
 
 -- of the operands after a default, every other one is a label
-case_labels : (G : Table) (gs : List Form) (os : List Plain) → Ends (repeated (row.N ∷ row.l ∷ [])) gs → AreOf G gs os → (k n : ℕ) → n ≡ 2 * k + 1 → id_in (slice_get os n) ≡ slice_get (labels_in os) k
+case_labels : (G : Table) (gs : List Form) (os : List Plain) → Ends (repeated (N ∷ row.l ∷ [])) gs → AreOf G gs os → (k n : ℕ) → n ≡ 2 * k + 1 → id_in (slice_get os n) ≡ slice_get (labels_in os) k
 case_labels G _ os (Ends.done _) a k n e = rw (none G os a) refl
 case_labels G _ os (Ends.again _ gs en) a k n e =
     let c = a_case G gs os a in

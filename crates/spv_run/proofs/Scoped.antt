@@ -17,11 +17,12 @@ use Rattle.spv_layout.specs.Layout.{IsLayout, classes}
 use Rattle.spv_layout.specs.Place.{IsDefinition, IsOfSection, section_of}
 use Rattle.spv_ids.specs.Broken as ids
 use Rattle.spv_ids.specs.Definition as local_ids
-use Rattle.spv_ids.specs.Definition.{IsDefinedAt, IsUsedAt}
+use Rattle.spv_ids.specs.Definition.{IsUsedAt}
 use Rattle.spv_ids.specs.Order.{IsInScope}
 use Rattle.spv_branches.specs.Broken as branches
 use Rattle.spv_branches.specs.Target as target
-use Rattle.spv_branches.specs.Target.{IsOp, IsLabelOf, IsTarget}
+use Rattle.spv_branches.specs.inner.Target as opcodes
+use Rattle.spv_branches.specs.Target.{IsOp, IsLabelOf}
 use Rattle.spv_branches.specs.Walk as walks
 use Rattle.spv_branches.specs.Ready.{IsLocalValue}
 use Rattle.spv_run.specs.Act.{Act, Function, FunctionEnd, Label, Phi, Pair, act_of}
@@ -141,7 +142,7 @@ no_other n m h e g = let w : true ≡ false = sym h ∙ (ap is_other e ∙ g) in
 between : (n a b : ℕ) → nat_le a n ≡ true → nat_le n b ≡ true → (a ≤ n) × (n ≤ b)
 between n a b h g = (le_tells a n h, le_tells n b g)
 
-other_not_terminator : (n : ℕ) → is_other n ≡ true → target.is_terminator n ≡ true → ⊥
+other_not_terminator : (n : ℕ) → is_other n ≡ true → opcodes.is_terminator n ≡ true → ⊥
 other_not_terminator n h t = elim (or_split (target.is_branch n) (nat_le 253 n && nat_le n 255) t) [
   | inl b ↦ (
       let two = and_split (nat_le 249 n) (nat_le n 251) b in
@@ -167,13 +168,13 @@ other_not_terminator n h t = elim (or_split (target.is_branch n) (nat_le 253 n &
       ])
 ]
 
-goes_view : (G : Table) (i : PlainInst) (a : Act) → View G i a → IsTrue (goes_on a) → target.is_terminator i.opcode ≡ true → ⊥
-goes_view G i _ (View.function a b k' m s e os) g t = let w : target.is_terminator 54 ≡ true = rw e at t in cc
-goes_view G i _ (View.parameter a b e os) g t = let w : target.is_terminator 55 ≡ true = rw e at t in cc
+goes_view : (G : Table) (i : PlainInst) (a : Act) → View G i a → IsTrue (goes_on a) → opcodes.is_terminator i.opcode ≡ true → ⊥
+goes_view G i _ (View.function a b k' m s e os) g t = let w : opcodes.is_terminator 54 ≡ true = rw e at t in cc
+goes_view G i _ (View.parameter a b e os) g t = let w : opcodes.is_terminator 55 ≡ true = rw e at t in cc
 goes_view G i _ (View.function_end e os) g t = cc
-goes_view G i _ (View.call a b d os gs e same en each) g t = let w : target.is_terminator 57 ≡ true = rw e at t in cc
-goes_view G i _ (View.phi a b os gs e same en each) g t = let w : target.is_terminator 245 ≡ true = rw e at t in cc
-goes_view G i _ (View.label b e os) g t = let w : target.is_terminator 248 ≡ true = rw e at t in cc
+goes_view G i _ (View.call a b d os gs e same en each) g t = let w : opcodes.is_terminator 57 ≡ true = rw e at t in cc
+goes_view G i _ (View.phi a b os gs e same en each) g t = let w : opcodes.is_terminator 245 ≡ true = rw e at t in cc
+goes_view G i _ (View.label b e os) g t = let w : opcodes.is_terminator 248 ≡ true = rw e at t in cc
 goes_view G i _ (View.branch y e same) g t = cc
 goes_view G i _ (View.condition s y z os gs e same en each) g t = cc
 goes_view G i _ (View.switch s y os gs e same en each) g t = cc
@@ -200,7 +201,7 @@ function_opcode G i _ (View.value y e os) h = cc
 function_opcode G i _ (View.unreachable e os) h = cc
 function_opcode G i _ (View.other e) h = cc
 
-op_function : (G : Table) (is : List PlainInst) → AllFit G is → (n : ℕ) → act_at is n ≡ Some Function → IsOp is n target.is_function
+op_function : (G : Table) (is : List PlainInst) → AllFit G is → (n : ℕ) → act_at is n ≡ Some Function → IsOp is n opcodes.is_function
 op_function G is fits n h =
     let i = act_back is n Function h in
     let e = function_opcode G i.0 (act_of i.0) (view G i.0 (fits n i.0 i.1)) i.2 in
@@ -222,7 +223,7 @@ walked G is fits laid scope f (h ∷ past) n l (follows a at goes e, w) =
     let inside' : IsOf is f (h + 1) = subst (λ k. IsOf is f k) plus inside in
     let i = act_back is h a at in
     let goes' : IsTrue (goes_on (act_of i.0)) = subst (λ b. IsTrue (goes_on b)) (sym i.2) goes in
-    let no_end : ¬ (IsOp is h target.is_terminator) = (λ o. goes_view G i.0 (act_of i.0) (view G i.0 (fits h i.0 i.1)) goes' (op_there is h i.0 target.is_terminator i.1 o)) in
+    let no_end : ¬ (IsOp is h opcodes.is_terminator) = (λ o. goes_view G i.0 (act_of i.0) (view G i.0 (fits h i.0 i.1)) goes' (op_there is h i.0 opcodes.is_terminator i.1 o)) in
     let there : n ≡ h + 1 = e ∙ plus in
     subst (λ k. Walked G is f (h ∷ past) k) (sym there) (record {
       walk = walks.IsWalk.goes past h (h + 1) before.walk (walks.Next.follows no_end) (of_function G is fits laid f (h + 1) inside' (subst (λ k. k < length is) there l));

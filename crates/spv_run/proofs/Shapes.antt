@@ -10,7 +10,9 @@ use Rattle.spv_layout.specs.declared.form.Form.TheVariants as form
 use Rattle.spv_layout.specs.declared.form.Role.{Role}
 use Rattle.spv_layout.specs.declared.form.Role.TheVariants as role
 use Rattle.spv_layout.specs.declared.form.Named.TheVariants as kind_of
-use Rattle.spv_layout.specs.Row.{PlainRow, row, closed, repeated, T, R, W, N, v, l, f, t, kind}
+use Rattle.spv_layout.specs.Row.{PlainRow, row, closed, repeated, v, l, f, t}
+use Rattle.spv_layout.specs.inner.Row.{kind}
+use Rattle.spv_layout.specs.inner.Row.{T, R, W, N}
 use Rattle.spv_layout.specs.Rows.{rows, row_of}
 use Rattle.spv_layout.specs.Shape.{is_of, AreOf, Ends, FitsShape}
 use Rattle.spv_type_forms.specs.Operands.{ids_in}

@@ -8,7 +8,8 @@ use Rattle.spv_module.specs.Operand.{Plain, PlainInst, Id, type_in}
 use Rattle.spv_module.specs.Operand as operand
 use Rattle.spv_module.specs.declared.fault.Rule.TheVariants as rule
 use Rattle.spv_type_forms.specs.Parts.{id_in}
-use Rattle.spv_type_rules.specs.Function.{signature_of, ReturnsAfter, parameters_in, parameters_after, parameters_between, parameter_type_of}
+use Rattle.spv_type_rules.specs.Function.{signature_of, ReturnsAfter, parameters_after, parameters_between, parameter_type_of}
+use Rattle.spv_type_rules.specs.inner.Function.{parameters_in}
 use Rattle.spv_type_rules.specs.inner.Counted.{AreCounted}
 use Rattle.spv_type_rules.proofs.Counting.{none_counted, counted_next, at_function, at_parameter, at_other, counted_at, front_ends, front_counts, front_passes}
 use Rattle.spv_run.specs.Act.{Act, Function, Parameter, Label, Other, act_of}

@@ -4,7 +4,7 @@ use Rattle.std.specs.Prelude.{slice_get, option_and_then, option_map, IsSomeAnd}
 use Rattle.std.proofs.lemmas.Bool.{cases_eq, cases_lt}
 use Rattle.std.proofs.lemmas.Option.{none-some, same_Some}
 use Rattle.spv_table.specs.Table.{Table}
-use Rattle.spv_module.specs.Operand.{Plain, PlainInst, Id, result_in, type_in}
+use Rattle.spv_module.specs.Operand.{Plain, PlainInst, Id, type_in}
 use Rattle.spv_module.specs.Operand as operand
 use Rattle.spv_module.specs.Width.{definition_of, type_of}
 use Rattle.spv_module.specs.declared.fault.Rule.{Rule}
@@ -19,7 +19,8 @@ use Rattle.spv_ops.proofs.Judged.{told}
 use Rattle.spv_capabilities.specs.Keeps as capability_rules
 use Rattle.spv_capabilities.specs.Entry.{IsSoundEntry, IsKernelFunction}
 use Rattle.spv_type_rules.specs.Keeps as type_rules
-use Rattle.spv_type_rules.specs.Function.{OfFunction, CallsTyped, IsSoundCall, ReturnsNothing, ReturnsTyped}
+use Rattle.spv_type_rules.specs.Function.{OfFunction, CallsTyped, ReturnsNothing, ReturnsTyped}
+use Rattle.spv_type_rules.specs.inner.Function.{IsSoundCall}
 use Rattle.spv_run.specs.Act.{Act, Pair, Parameter, FunctionEnd, Label, Call, ReturnValue, Other, act_of, pairs}
 use Rattle.spv_run.specs.At.{act_at}
 use Rattle.spv_run.specs.Head.{Binding, Head, end, parameter, line, IsDeclared}

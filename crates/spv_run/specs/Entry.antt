@@ -17,7 +17,7 @@ use Rattle.spv_run.specs.State.{State}
 use Rattle.spv_run.specs.Run.{IsStart, Run}
 use Rattle.spv_run.specs.Trace.{ending_of}
 
--- An OpEntryPoint names the id as its function.
+-- An OpEntryPoint names the id as its function. [own]
 pub record IsEntryId (is : List PlainInst) (x : ℕ) : Type 0 where
   pub place : ℕ
   pub inst : PlainInst
@@ -26,7 +26,7 @@ pub record IsEntryId (is : List PlainInst) (x : ℕ) : Type 0 where
   pub named : slice_get inst.operands 1 ≡ Some (Id x)
 
 -- The trace is of the run from a state in at most `limit` steps, and each step has fewer frames below it than there are
--- definitions, listed in any way.
+-- definitions, listed in any way. [own]
 pub record IsOfRun (G : Table) (is : List PlainInst) (limit : ℕ) (s : State) (t : Trace) : Type 0 where
   pub run : Run G is limit s t.steps.items (ending_of t.ending)
   pub bounded : (functions : List ℕ) → AreDefinitions is functions
@@ -39,7 +39,7 @@ pub record IsTraced (is : List PlainInst) (ids : Ids) (x : ℕ) (choices : List 
   pub run : (G : Table) (bound g : ℕ) (s : State) → KeepsRules G bound is → AreNumbered is ids
       → IsDefinedAt is x g → IsStart is g choices s → IsOfRun G is limit s t
 
--- X1 is told of an id that is no entry point's function; want of memory only of one that is.
+-- X1 is told of an id that is no entry point's function; want of memory only of one that is. [own]
 abbrev pub RefusesEntry : List PlainInst → ℕ → TraceError → Type 0
 RefusesEntry is x X1 = ¬ (IsEntryId is x)
 RefusesEntry is x X2 = IsEntryId is x

@@ -17,29 +17,30 @@ use Rattle.spv_run.specs.State.{Unreachable, NoChoice, BadChoice, Frame, State, 
 use Rattle.spv_run.specs.State.{advance, jump, enter, rebind, returned, with_top}
 use Rattle.spv_run.specs.Row.{values_of, Row}
 
--- The id has the type in a frame: it is local and bound to it, or it is not local and declared with it.
+-- The id has the type in a frame: it is local and bound to it, or it is not local and declared with it. [own]
 pub data Reads (is : List PlainInst) (fr : Frame) (x t : ℕ) : Type 0 where
   bound : IsLocal is x → bound_type fr.bound x ≡ Some t → Reads is fr x t
   declared : ¬ (IsLocal is x) → type_of is x ≡ Some t → Reads is fr x t
 
+-- The ids have these types in a frame, in order. [own]
 abbrev pub ReadsAll : List PlainInst → Frame → List ℕ → List ℕ → Type 0
 ReadsAll is fr [] [] = Unit {0}
 ReadsAll is fr (x ∷ xs) (t ∷ ts) = Reads is fr x t × ReadsAll is fr xs ts
 ReadsAll is fr [] (t ∷ ts) = ⊥
 ReadsAll is fr (x ∷ xs) [] = ⊥
 
--- the values whose types are read: of OpPhi the one paired with the block come from
+-- the values whose types are read: of OpPhi the one paired with the block come from [own]
 abbrev pub read_values : List PlainInst → Frame → PlainInst → Act → Option (List ℕ)
 read_values is fr i (Phi ps) =
     option_map (λ v. v ∷ []) (option_and_then (value_from ps) (option_and_then (result_at is) fr.came_from))
 read_values is fr i a = Some (values_of i a)
 
--- An id that is used in the role any, as a parameter of a mask, is read too where it is a local value.
+-- An id that is used in the role any, as a parameter of a mask, is read too where it is a local value. [own]
 abbrev pub ReadsOthers : Table → List PlainInst → Frame → Type 0
 ReadsOthers G is fr = (k x : ℕ) → IsUsedAt G is fr.position k x Any → IsLocalValue is x
     → (t : ℕ) × Reads is fr x t
 
--- The frame goes to the label x of its function: the block that it leaves, and where it comes to.
+-- The frame goes to the label x of its function: the block that it leaves, and where it comes to. [own]
 pub record Lands (is : List PlainInst) (fr : Frame) (x : ℕ) (after : Frame) : Type 0 where
   pub block : ℕ
   pub leaves : IsOfBlock is fr.position block
@@ -48,14 +49,14 @@ pub record Lands (is : List PlainInst) (fr : Frame) (x : ℕ) (after : Frame) : 
   pub inside : IsOfFunction is place fr.function
   pub comes : after ≡ jump fr block place
 
--- The next choice is the place of the label in the list.
+-- The next choice is the place of the label in the list. [own]
 pub record Chooses (cs ls : List ℕ) (x : ℕ) (left : List ℕ) : Type 0 where
   pub choice : ℕ
   pub taken : cs ≡ choice ∷ left
   pub chosen : slice_get ls choice ≡ Some x
 
 -- A call of a definition pushes a frame at its entry, its parameters bound to the arguments' types; of a declaration it
--- binds its result.
+-- binds its result. [own]
 pub data Enters (is : List PlainInst) (s : State) (x : ℕ) (tags : List ℕ) (o : Outcome) : Type 0 where
   definition : (g e : ℕ) (bs : List Binding) → IsDefinedAt is x g → IsDefined is g e bs
       → o ≡ Goes (record { top = enter g e (rebind bs tags); below = s.top ∷ s.below; choices = s.choices })
@@ -63,7 +64,7 @@ pub data Enters (is : List PlainInst) (s : State) (x : ℕ) (tags : List ℕ) (o
   declaration : (g e : ℕ) (bs : List Binding) → IsDefinedAt is x g → IsDeclared is g e bs
       → o ≡ Goes (with_top s (advance is s.top (type_at is s.top.position))) → Enters is s x tags o
 
--- Where the instruction leads, with the types read.
+-- Where the instruction leads, with the types read. [own]
 abbrev pub Moves : List PlainInst → State → Act → List ℕ → Outcome → Type 0
 Moves is s Other tags o = o ≡ Goes (with_top s (advance is s.top (type_at is s.top.position)))
 Moves is s Label tags o = o ≡ Goes (with_top s (advance is s.top None))
@@ -80,7 +81,7 @@ Moves is s act.Unreachable tags o = o ≡ Last Unreachable
 Moves is s _ tags o = ⊥
 
 -- What comes of a state. Nothing does where a type is missing, a row does not hold, a phi has no pair for the block
--- come from, a target is no label of the function, or a callee is no function.
+-- come from, a target is no label of the function, or a callee is no function. [own]
 pub data Does (G : Table) (is : List PlainInst) (s : State) (o : Outcome) : Type 0 where
   -- a type is read for each value used, the row holds with them, and the instruction leads on
   step : (i : PlainInst) (xs tags : List ℕ) → slice_get is s.top.position ≡ Some i

@@ -9,11 +9,11 @@ use Rattle.spv_run.specs.Run.{IsStart, Run, Reaches}
 use Rattle.spv_run.specs.declared.parts.Step.{Step}
 use Rattle.spv_run.specs.Definitions.{AreDefinitions}
 
--- each id that is bound in a frame has its declared type
+-- each id that is bound in a frame has its declared type [own]
 abbrev pub IsDeclaredIn : List PlainInst → Frame → Type 0
 IsDeclaredIn is fr = (x t : ℕ) → bound_type fr.bound x ≡ Some t → type_of is x ≡ Some t
 
--- A run of at most n steps that does not get stuck.
+-- A run of at most n steps that does not get stuck. [own]
 pub record Runs (G : Table) (is : List PlainInst) (n : ℕ) (s : State) : Type 0 where
   pub steps : List Step
   pub ending : Ending
@@ -22,7 +22,7 @@ pub record Runs (G : Table) (is : List PlainInst) (n : ℕ) (s : State) : Type 0
 
 -- Of an entry point's function and choices: there is a start; of each number of steps there is a run, and no run gets
 -- stuck; in each state that is reached each bound id has its declared type; and each step has fewer frames below it
--- than there are definitions, listed in any way.
+-- than there are definitions, listed in any way. [own]
 pub record NeverGetsStuck (G : Table) (is : List PlainInst) (g : ℕ) (choices : List ℕ) : Type 0 where
   pub starts : (s : State) × IsStart is g choices s
   pub runs : (s : State) (n : ℕ) → IsStart is g choices s → Runs G is n s

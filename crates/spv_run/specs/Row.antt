@@ -8,7 +8,7 @@ use Rattle.spv_ops.specs.Typed.{Typed}
 use Rattle.spv_type_rules.specs.Function.{ReturnsNothing, ReturnsTyped, CallsTyped}
 use Rattle.spv_run.specs.Act.{Act, Phi, Choose, Call, Return, ReturnValue, Other}
 
--- the values that an instruction uses, in order: its value operands
+-- the values that an instruction uses, in order: its value operands [own]
 abbrev pub values_of : PlainInst → Act → List ℕ
 values_of i (Phi ps) = map (λ p. p.value) ps
 values_of i (Choose c ls) = c ∷ []
@@ -18,7 +18,7 @@ values_of i Other = rows.values_of i
 values_of i _ = []
 
 -- What the rules on types say of instruction n of function f and of these types of the values that it uses: Y7 of a
--- return, Y8 of a call, and of any other instruction *Typed*, as where a module is checked (Y5).
+-- return, Y8 of a call, and of any other instruction *Typed*, as where a module is checked (Y5). [own]
 abbrev pub Row : List PlainInst → ℕ → ℕ → PlainInst → Act → List ℕ → Type 0
 Row is f n i (Phi ps) tags = Typed is n i tags
 Row is f n i (Choose c ls) tags = Typed is n i tags

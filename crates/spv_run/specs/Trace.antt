@@ -4,7 +4,7 @@ use Rattle.spv_run.specs.declared.parts.Ending.{Ending}
 use Rattle.spv_run.specs.declared.parts.Ending.TheVariants.{Finished, Unreachable, Limit, NoChoice, BadChoice}
 use Rattle.spv_run.specs.State as machine
 
--- the same endings
+-- the same endings [own]
 abbrev pub ending_of : Ending → machine.Ending
 ending_of Finished = machine.Finished
 ending_of Unreachable = machine.Unreachable

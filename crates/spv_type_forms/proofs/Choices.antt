@@ -6,7 +6,8 @@ use Rattle.spv_type_forms.specs.declared.form.Form.{Form}
 use Rattle.spv_type_forms.specs.declared.form.Form.TheVariants as form
 use Rattle.spv_type_forms.specs.Form.{form_of}
 use Rattle.spv_type_forms.specs.Parts.{part_in, part_of, constant_of}
-use Rattle.spv_type_forms.specs.Reach.{ReachesType, ChoosesParts, LeadsToType}
+use Rattle.spv_type_forms.specs.Reach.{ReachesType, ChoosesParts}
+use Rattle.spv_type_forms.specs.inner.Reach.{LeadsToType}
 use Rattle.spv_type_forms.specs.inner.Walk.{choice_in, choice, choices}
 
 -- one index: a member of a struct, or any part of another type

@@ -33,8 +33,7 @@ pointer_in _ = None
 
 -- what an instruction declares, if it is a type declaration [3.49.6]
 abbrev pub form_in : PlainInst → Option Form
-form_in i =
-    if nat_eq i.opcode 19 then Some form.Void  -- TypeVoid
+form_in i = if nat_eq i.opcode 19 then Some form.Void  -- TypeVoid
     else (if nat_eq i.opcode 20 then Some (form.Scalar scalar.Bool)  -- TypeBool
     else (if nat_eq i.opcode 21 then int_in i.operands  -- TypeInt
     else (if nat_eq i.opcode 22 then float_in i.operands  -- TypeFloat
@@ -43,8 +42,7 @@ form_in i =
     else (if nat_eq i.opcode 30 then Some form.Struct  -- TypeStruct
     else (if nat_eq i.opcode 31 then Some form.Opaque  -- TypeOpaque
     else (if nat_eq i.opcode 32 then pointer_in i.operands  -- TypePointer
-    else (if nat_eq i.opcode 33 then Some form.Function  -- TypeFunction
-    else None)))))))))
+    else (if nat_eq i.opcode 33 then Some form.Function else None)))))))))  -- TypeFunction
 
 -- what the definition of an id declares [2.2.2]
 abbrev pub form_of : List PlainInst → ℕ → Option Form

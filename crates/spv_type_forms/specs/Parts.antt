@@ -19,8 +19,7 @@ constant_of is x =
 
 -- the number of an OpConstant or OpSpecConstant (50), of the latter the one that stands there [3.49.7; own]
 abbrev pub length_of : List PlainInst → ℕ → Option ℕ
-length_of is x =
-    option_and_then (λ i. if nat_eq i.opcode 43 || nat_eq i.opcode 50 then number_in i.operands else None)
+length_of is x = option_and_then (λ i. if nat_eq i.opcode 43 || nat_eq i.opcode 50 then number_in i.operands else None)
     (definition_of is x)
 
 -- what follows the result: %t = OpTypeStruct %a %b .. [3.49.6]
@@ -37,15 +36,12 @@ abbrev pub id_in : Plain → Option ℕ
 id_in (Id x) = Some x
 id_in _ = None
 
--- the type of the member k of a struct type [3.49.6]
-abbrev pub member_of : List PlainInst → ℕ → ℕ → Option ℕ
-member_of is t k = option_and_then (λ ms. option_and_then id_in (slice_get ms k)) (members_of is t)
-
--- The type of the part k: a vector's component type, an array's element type, a struct's member k. [2.2.2]
+-- The type of the part k: a vector's component type, an array's element type, that of the member k of a struct type.
+-- [2.2.2; the members of 3.49.6]
 abbrev pub part_in : List PlainInst → ℕ → ℕ → Form → Option ℕ
 part_in is t k (form.Vector c n) = Some c
 part_in is t k (form.Array e l) = Some e
-part_in is t k form.Struct = member_of is t k
+part_in is t k form.Struct = option_and_then (λ ms. option_and_then id_in (slice_get ms k)) (members_of is t)
 part_in is t k _ = None
 
 -- the same of the type that an id declares [2.2.2]

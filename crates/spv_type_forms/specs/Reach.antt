@@ -27,7 +27,3 @@ pub data ChoosesParts (is : List PlainInst) : ℕ → List ℕ → List ℕ → 
       → part_of is t k ≡ Some u → ChoosesParts is u xs ks → ChoosesParts is t (x ∷ xs) (k ∷ ks)
   element : (t x k u : ℕ) (xs ks : List ℕ) → form_of is t ≢ Some form.Struct
       → part_of is t k ≡ Some u → ChoosesParts is u xs ks → ChoosesParts is t (x ∷ xs) (k ∷ ks)
-
--- The indexes of an access chain lead from a type to another. [3.49.8]
-abbrev pub LeadsToType : List PlainInst → ℕ → List ℕ → ℕ → Type 0
-LeadsToType is t xs u = (ks : List ℕ) × ChoosesParts is t xs ks × ReachesType is t ks u

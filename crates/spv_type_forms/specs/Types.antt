@@ -46,17 +46,10 @@ IsSomeInt is t = (w : ℕ) × IsInt is t w
 abbrev pub IsNumber : List PlainInst → ℕ → Type 0
 IsNumber is t = IsSomeInt is t ⊎ ((w : ℕ) × IsFloat is t w)
 
--- An I type of n components of width w: an int, which is one component, or a vector of n ints. [own: Y5]
-abbrev pub IsI : List PlainInst → ℕ → ℕ → ℕ → Type 0
-IsI is t n w = components_of is t ≡ Some (record { scalar = scalar.Int w; count = n })
-
--- so F with floats [own: Y5]
-abbrev pub IsF : List PlainInst → ℕ → ℕ → ℕ → Type 0
-IsF is t n w = components_of is t ≡ Some (record { scalar = scalar.Float w; count = n })
-
--- so B with bools [own: Y5]
-abbrev pub IsB : List PlainInst → ℕ → ℕ → Type 0
-IsB is t n = components_of is t ≡ Some (record { scalar = scalar.Bool; count = n })
+-- A type of n components of the scalar type s: s itself, which is one component, or a vector of n of them. An I type if
+-- they are ints, an F type if floats, a B type if bools. [own: Y5]
+abbrev pub IsMade : List PlainInst → ℕ → ℕ → Scalar → Type 0
+IsMade is t n s = components_of is t ≡ Some (record { scalar = s; count = n })
 
 -- whether a scalar is an int, a float or a bool, whatever its width [own: Y5]
 abbrev pub sort_of : Scalar → Sort
@@ -67,10 +60,6 @@ sort_of scalar.Bool = sort.Bool
 -- an I, F or B type, whatever its width [own: Y5]
 abbrev pub HasSort : Sort → List PlainInst → ℕ → Type 0
 HasSort s is t = IsSomeAnd (components_of is t) (λ c. sort_of c.scalar ≡ s)
-
--- the same of n components [own: Y5]
-abbrev pub IsOf : Sort → List PlainInst → ℕ → ℕ → Type 0
-IsOf s is t n = IsSomeAnd (components_of is t) (λ c. (sort_of c.scalar ≡ s) × (c.count ≡ n))
 
 -- a vector of n components of type c [3.49.6]
 abbrev pub IsVector : List PlainInst → ℕ → ℕ → ℕ → Type 0

@@ -1,4 +1,4 @@
--- The value operands of an instruction, and the types that they are declared with. [own: table A and Y5]
+-- The value operands of an instruction, and the types that they are declared with. [own: the table of shapes, and Y5]
 use Rattle.std.specs.Prelude.{◌≡◌, ◌++◌, ℕ, List, [], ◌∷◌, Option, Some, option_and_then, option_map}
 use Rattle.spv_table.specs.Table.{Table}
 use Rattle.spv_module.specs.Operand.{Plain, Id, PlainInst}
@@ -18,7 +18,8 @@ abbrev pub used_in : List Form → List Plain → List ℕ
 used_in (f ∷ fs) (o ∷ os) = value_in f o ++ used_in fs os
 used_in _ _ = []
 
--- The value operands of an instruction that fits its row of table A: the ids that it uses as values, in order. [own]
+-- The value operands of an instruction that fits its row of the table of shapes: the ids that it uses as values, in
+-- order. [own]
 pub record AreValues (G : Table) (i : PlainInst) (xs : List ℕ) : Type 0 where
   pub forms : List Form
   pub has : HasForms G i forms

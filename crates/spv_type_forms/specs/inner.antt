@@ -3,3 +3,6 @@ pub mod Found
 pub mod Tests
 pub mod Walk
 pub mod Parts
+pub mod Definitions
+pub mod Reach
+pub mod Types

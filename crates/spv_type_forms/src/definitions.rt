@@ -11,7 +11,7 @@ ghost use Rattle.spv_layout.specs.Plan.{IsPlan, IsPlaceOf};
 ghost use Rattle.spv_ids.specs.Outcome.{IsDefinitionOf, IsOnly, definition_in};
 ghost use Rattle.spv_type_forms.specs.Form.{form_of};
 ghost use Rattle.spv_type_forms.specs.Types.{scalar_in, components_of, pointee_in};
-ghost use Rattle.spv_type_forms.specs.Definitions as definitions;
+ghost use Rattle.spv_type_forms.specs.inner.Definitions as definitions;
 ghost use Rattle.spv_type_forms.specs.Definitions.{IsConstant, IsGlobal};
 
 use crate::form::{Components, Form, Scalar, form_in};

@@ -3,9 +3,11 @@
 ghost use Rattle.std.specs.Prelude.{◌≡◌, ◌↔◌, ℕ, List, [], ◌∷◌, Some, None};
 ghost use Rattle.spv_module.specs.Operand.{PlainInst};
 ghost use Rattle.spv_type_forms.specs.declared.form.Sort.TheVariants as sort;
-ghost use Rattle.spv_type_forms.specs.Reach.{ReachesType, AreWithin, LeadsToType};
+ghost use Rattle.spv_type_forms.specs.Reach.{ReachesType, AreWithin};
+ghost use Rattle.spv_type_forms.specs.inner.Reach.{LeadsToType};
 ghost use Rattle.spv_type_forms.specs.Form.{form_of};
-ghost use Rattle.spv_type_forms.specs.Types.{IsInt, IsFloat, IsBool, IsSomeInt, IsNumber, IsI, IsF, IsB, HasSort, IsOf};
+ghost use Rattle.spv_type_forms.specs.Types.{IsInt, IsFloat, IsBool, IsSomeInt, IsNumber, HasSort};
+ghost use Rattle.spv_type_forms.specs.inner.Types.{IsI, IsF, IsB, IsOf};
 ghost use Rattle.spv_type_forms.specs.Types.{IsVector, IsPointer, IsData, PointsTo};
 ghost use Rattle.spv_type_forms.specs.Parts.{AreParts};
 ghost use Rattle.spv_type_forms.specs.Definitions.{IsConstant, IsGlobal};

@@ -1,8 +1,8 @@
 ghost use Rattle.std.specs.Prelude.{◌≡◌, Some, None, option_map, ℕ};
 ghost use Rattle.spv_module.specs.Module.{plain_operands};
 ghost use Rattle.spv_type_forms.specs.Parts as spec;
-ghost use Rattle.spv_type_forms.specs.Parts.{constant_of, length_of, members_of, member_of, part_of, count_of};
-ghost use Rattle.spv_type_forms.specs.inner.Parts.{inner_part_of, part_among};
+ghost use Rattle.spv_type_forms.specs.Parts.{constant_of, length_of, members_of, part_of, count_of};
+ghost use Rattle.spv_type_forms.specs.inner.Parts.{inner_part_of, part_among, member_of};
 ghost use Rattle.spv_type_forms.specs.Operands.{words_in, ids_in};
 ghost use Rattle.spv_type_forms.specs.inner.Walk.{walk, choice, choices};
 

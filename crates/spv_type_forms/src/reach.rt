@@ -3,7 +3,8 @@
 ghost use Rattle.std.specs.Prelude.{◌≡◌, ◌↔◌, Some, IsTrue};
 ghost use Rattle.spv_module.specs.Module.{plain_operands};
 ghost use Rattle.spv_type_forms.specs.Operands.{words_in, ids_in};
-ghost use Rattle.spv_type_forms.specs.Reach.{ReachesType, AreWithin, LeadsToType};
+ghost use Rattle.spv_type_forms.specs.Reach.{ReachesType, AreWithin};
+ghost use Rattle.spv_type_forms.specs.inner.Reach.{LeadsToType};
 ghost use Rattle.spv_type_forms.specs.inner.Walk.{walk, choices};
 
 use crate::definitions::Definitions;

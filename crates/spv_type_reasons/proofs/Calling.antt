@@ -11,7 +11,8 @@ use Rattle.spv_module.specs.declared.fault.Rule.TheVariants.{Y8}
 use Rattle.spv_type_forms.specs.Operands.{ids_in}
 use Rattle.spv_type_forms.specs.Parts.{id_in}
 use Rattle.spv_type_forms.specs.Values.{types_of}
-use Rattle.spv_type_rules.specs.Function.{signature_of, ReturnsAfter, IsSoundCall, CallsSoundly, CallsTyped, parameter_type_of}
+use Rattle.spv_type_rules.specs.Function.{signature_of, ReturnsAfter, CallsSoundly, CallsTyped, parameter_type_of}
+use Rattle.spv_type_rules.specs.inner.Function.{IsSoundCall}
 use Rattle.spv_evidence.specs.declared.evidence.Evidence.TheVariants as evidence
 use Rattle.spv_evidence.specs.declared.evidence.Side.{Side}
 use Rattle.spv_evidence.specs.declared.evidence.Side.TheVariants as side

@@ -9,7 +9,8 @@ use Rattle.spv_type_forms.specs.Operands.{ids_in}
 use Rattle.spv_type_forms.specs.Types.{scalar_in, IsData}
 use Rattle.spv_type_rules.specs.declared.declaration.Declaration.{Declaration}
 use Rattle.spv_type_rules.specs.declared.declaration.Declaration.TheVariants as kind
-use Rattle.spv_type_rules.specs.Declaration.{DeclaresSoundly, IsVectorCount}
+use Rattle.spv_type_rules.specs.Declaration.{DeclaresSoundly}
+use Rattle.spv_type_rules.specs.Asked.{IsVectorCount}
 use Rattle.spv_type_reasons.specs.Declaration.{Asks}
 
 pub all_at : (P : ℕ → Type 0) (xs : List ℕ) (j x : ℕ) → AllByRecursion P xs → slice_get xs j ≡ Some x → P x

@@ -17,7 +17,9 @@ use Rattle.spv_evidence.specs.declared.evidence.Evidence.TheVariants as evidence
 use Rattle.spv_type_reasons.specs.Evidence.{Shows}
 use Rattle.spv_type_reasons.proofs.Declaring.{asks_declares}
 use Rattle.spv_type_rules.specs.declared.declaration.Declaration.{Declaration}
-use Rattle.spv_type_rules.specs.Declaration.{declaration_of, DeclaresSoundly, IsSoundDeclaration, IsIntWidth, IsFloatWidth, IsVectorCount, IsLength, IsPointee, IsReturned, IsPointerAfter}
+use Rattle.spv_type_rules.specs.Declaration.{declaration_of, DeclaresSoundly, IsLength, IsPointerAfter}
+use Rattle.spv_type_rules.specs.Asked.{IsIntWidth, IsFloatWidth, IsVectorCount, IsPointee, IsReturned}
+use Rattle.spv_type_rules.specs.inner.Declaration.{IsSoundDeclaration}
 use Rattle.spv_type_reasons.specs.Declaration.{AsksData, Asks, IsScalar}
 use Rattle.spv_type_reasons.specs.inner.Operands.{int_in, float_in, vector_in, array_in, pointee_in, forward_in, members_in, signature_in}
 use Rattle.spv_type_reasons.proofs.Repeating.{operand_there}

@@ -8,7 +8,8 @@ use Rattle.spv_module.specs.Module.{plain_inst}
 use Rattle.spv_module.specs.declared.module.Inst.{Inst}
 use Rattle.spv_module.specs.declared.fault.Rule.TheVariants.{Y6}
 use Rattle.spv_type_rules.specs.inner.Found.{IsOfOne}
-use Rattle.spv_type_rules.specs.Function.{IsSoundParameter, parameter_count, parameters_between, parameter_type_of}
+use Rattle.spv_type_rules.specs.Function.{parameter_count, parameters_between, parameter_type_of}
+use Rattle.spv_type_rules.specs.inner.Function.{IsSoundParameter}
 use Rattle.spv_evidence.specs.declared.evidence.Evidence.TheVariants as evidence
 use Rattle.spv_evidence.specs.declared.evidence.Side.TheVariants as side
 use Rattle.spv_type_reasons.specs.Evidence.{Shows}

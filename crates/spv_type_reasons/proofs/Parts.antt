@@ -10,7 +10,8 @@ use Rattle.spv_layout.specs.Place.{operand_words}
 use Rattle.spv_type_forms.specs.Operands.{ids_in, after_head}
 use Rattle.spv_type_forms.specs.Parts.{part_of, count_of}
 use Rattle.spv_type_rules.specs.declared.constant.Constant.{Constant}
-use Rattle.spv_type_rules.specs.Constant.{Constitutes, IsSoundConstant, constant_of}
+use Rattle.spv_type_rules.specs.Constant.{Constitutes, constant_of}
+use Rattle.spv_type_rules.specs.inner.Constant.{IsSoundConstant}
 use Rattle.spv_type_rules.specs.inner.Found.{is_typed_part}
 use Rattle.spv_evidence.specs.declared.evidence.Evidence.TheVariants as evidence
 use Rattle.spv_type_reasons.specs.Constant.{IsPartOf, AsksParts, Asks}

@@ -10,7 +10,8 @@ use Rattle.spv_module.specs.Module.{plain_operand, plain_operands, plain_inst}
 use Rattle.spv_module.specs.declared.operand.Operand.{Operand}
 use Rattle.spv_module.specs.declared.module.Inst.{Inst}
 use Rattle.spv_module.specs.declared.fault.Rule.TheVariants.{Y3}
-use Rattle.spv_type_rules.specs.Repeat.{AreAlike, Repeats, is_declared_once}
+use Rattle.spv_type_rules.specs.Repeat.{Repeats}
+use Rattle.spv_type_rules.specs.inner.Repeat.{AreAlike, is_declared_once}
 use Rattle.spv_evidence.specs.declared.evidence.Evidence.TheVariants as evidence
 use Rattle.spv_type_reasons.specs.Evidence.{Shows}
 

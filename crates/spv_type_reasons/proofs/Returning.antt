@@ -6,7 +6,8 @@ use Rattle.spv_module.specs.Operand.{PlainInst}
 use Rattle.spv_module.specs.declared.fault.Rule.TheVariants.{Y7}
 use Rattle.spv_type_forms.specs.Operands.{ids_in}
 use Rattle.spv_type_forms.specs.Values.{types_of}
-use Rattle.spv_type_rules.specs.Function.{ReturnsNothing, ReturnsTyped, IsSoundReturn, IsSoundReturnValue}
+use Rattle.spv_type_rules.specs.Function.{ReturnsNothing, ReturnsTyped}
+use Rattle.spv_type_rules.specs.inner.Function.{IsSoundReturn, IsSoundReturnValue}
 use Rattle.spv_evidence.specs.declared.evidence.Evidence.TheVariants as evidence
 use Rattle.spv_evidence.specs.declared.evidence.Side.TheVariants as side
 use Rattle.spv_type_reasons.specs.Function.{ReturnsFrom}

@@ -14,7 +14,9 @@ use Rattle.spv_layout.specs.declared.form.Role.{Role}
 use Rattle.spv_layout.specs.declared.form.Role.TheVariants as role
 use Rattle.spv_layout.specs.declared.form.Named.TheVariants as kind_of
 use Rattle.spv_layout.specs.Place.{operand_words, word_count}
-use Rattle.spv_layout.specs.Row.{PlainRow, row, closed, repeated, T, R, t, v, f, kind}
+use Rattle.spv_layout.specs.Row.{PlainRow, row, closed, repeated, t, v, f}
+use Rattle.spv_layout.specs.inner.Row.{kind}
+use Rattle.spv_layout.specs.inner.Row.{T, R}
 use Rattle.spv_layout.specs.Rows.{rows, row_of}
 use Rattle.spv_layout.specs.Shape.{is_of, AreOf, Ends, HasForms, FitsShape, IsUse}
 use Rattle.spv_layout.proofs.Shapes.{are_moved, rows_same, no_operands}
@@ -22,7 +24,7 @@ use Rattle.spv_ids.specs.Definition.{IsUsedAt}
 use Rattle.spv_type_forms.specs.Operands.{ids_in}
 use Rattle.spv_type_forms.specs.Parts.{after_result}
 use Rattle.spv_type_forms.specs.Values.{types_of}
-use Rattle.spv_roles.specs.Role.{IsValue, IsOfOpcode}
+use Rattle.spv_roles.specs.inner.Role.{IsValue, IsOfOpcode}
 use Rattle.spv_type_rules.specs.Function.{function_type_in, signature_in}
 use Rattle.spv_type_reasons.specs.inner.Known.{IsKnown, IsSignature, IsFunction, ReturnsOne, CallsOne}
 

@@ -14,9 +14,10 @@ use Rattle.spv_type_forms.specs.Operands.{ids_in, after_head}
 use Rattle.spv_type_forms.specs.Parts.{id_in}
 use Rattle.spv_ops.specs.Typed.{Typed}
 use Rattle.spv_type_forms.specs.Values.{AreValues, types_of, used_in}
-use Rattle.spv_type_rules.specs.Declaration.{IsSoundDeclaration}
-use Rattle.spv_type_rules.specs.Constant.{IsSoundConstant}
-use Rattle.spv_type_rules.specs.Function.{signature_of, ReturnsAfter, ReturnsTyped, ReturnsNothing, OfFunction, IsSoundCall, CallsSoundly, CallsTyped, IsSoundParameter, parameter_type_of, parameters_between}
+use Rattle.spv_type_rules.specs.inner.Declaration.{IsSoundDeclaration}
+use Rattle.spv_type_rules.specs.inner.Constant.{IsSoundConstant}
+use Rattle.spv_type_rules.specs.Function.{signature_of, ReturnsAfter, ReturnsTyped, ReturnsNothing, OfFunction, CallsSoundly, CallsTyped, parameter_type_of, parameters_between}
+use Rattle.spv_type_rules.specs.inner.Function.{IsSoundCall, IsSoundParameter}
 use Rattle.spv_type_rules.specs.Keeps.{Keeps}
 use Rattle.spv_evidence.specs.declared.evidence.Evidence.{Evidence}
 use Rattle.spv_evidence.specs.declared.evidence.Side.{Side}

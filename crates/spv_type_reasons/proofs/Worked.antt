@@ -7,7 +7,8 @@ use Rattle.spv_module.specs.declared.fault.Rule.{Rule}
 use Rattle.spv_module.specs.declared.fault.Rule.TheVariants as rule
 use Rattle.spv_type_forms.specs.Operands.{ids_in, after_head}
 use Rattle.spv_type_rules.specs.declared.declaration.Declaration.TheVariants as kind
-use Rattle.spv_type_rules.specs.Declaration.{IsVectorCount, declaration_of}
+use Rattle.spv_type_rules.specs.Declaration.{declaration_of}
+use Rattle.spv_type_rules.specs.Asked.{IsVectorCount}
 use Rattle.spv_type_rules.specs.Repeat.{Repeats}
 use Rattle.spv_type_rules.specs.Example.{again, short_call, function}
 use Rattle.spv_evidence.specs.declared.evidence.Evidence.{Evidence}

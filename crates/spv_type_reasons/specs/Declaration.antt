@@ -7,8 +7,8 @@ use Rattle.spv_type_forms.specs.Types.{scalar_in, IsData}
 use Rattle.spv_type_forms.specs.declared.form.Scalar.{Scalar}
 use Rattle.spv_type_rules.specs.declared.declaration.Declaration.{Declaration}
 use Rattle.spv_type_rules.specs.declared.declaration.Declaration.TheVariants as kind
-use Rattle.spv_type_rules.specs.Declaration.{IsIntWidth, IsFloatWidth, IsVectorCount, IsLength, IsPointee, IsReturned}
-use Rattle.spv_type_rules.specs.Declaration.{IsPointerAfter, declaration_of}
+use Rattle.spv_type_rules.specs.Declaration.{IsLength, IsPointerAfter, declaration_of}
+use Rattle.spv_type_rules.specs.Asked.{IsIntWidth, IsFloatWidth, IsVectorCount, IsPointee, IsReturned}
 
 -- the id declares a scalar type
 abbrev pub IsScalar : List PlainInst → ℕ → Type 0

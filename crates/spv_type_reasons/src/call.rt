@@ -5,7 +5,7 @@ ghost use Rattle.spv_table.specs.Table.{Table};
 ghost use Rattle.spv_module.specs.declared.fault.Rule.TheVariants.{Y8};
 ghost use Rattle.spv_module.specs.Module.{plain_inst, plain_operands};
 ghost use Rattle.spv_module.specs.Operand.{OfType, Result, Id};
-ghost use Rattle.spv_type_rules.specs.Function.{IsSoundCall};
+ghost use Rattle.spv_type_rules.specs.inner.Function.{IsSoundCall};
 ghost use Rattle.spv_evidence.specs.declared.evidence.Side.TheVariants.{Argument};
 ghost use Rattle.spv_type_reasons.specs.Evidence.{Shows};
 ghost use Rattle.spv_type_reasons.specs.inner.Known.{IsFunction, CallsOne, AreOfCall};

@@ -8,7 +8,7 @@ ghost use Rattle.spv_type_forms.specs.Operands as of_operands;
 ghost use Rattle.spv_type_forms.specs.Operands.{ids_in};
 ghost use Rattle.spv_type_forms.specs.Parts.{count_of};
 ghost use Rattle.spv_type_forms.specs.Types.{IsNumber};
-ghost use Rattle.spv_type_rules.specs.Constant.{IsSoundConstant};
+ghost use Rattle.spv_type_rules.specs.inner.Constant.{IsSoundConstant};
 ghost use Rattle.spv_type_rules.specs.declared.constant.Constant.TheVariants as kind;
 ghost use Rattle.spv_type_reasons.specs.Constant.{Asks, AsksOf, AsksParts, IsPartOf};
 ghost use Rattle.spv_type_reasons.specs.Evidence.{Shows};

@@ -5,7 +5,7 @@ ghost use Rattle.spv_table.specs.Table.{Table};
 ghost use Rattle.spv_module.specs.declared.fault.Rule.TheVariants.{Y2};
 ghost use Rattle.spv_module.specs.Module.{plain_inst, plain_operands};
 ghost use Rattle.spv_ids.specs.Outcome.{IsDefinitionOf, definition_in};
-ghost use Rattle.spv_type_rules.specs.Declaration.{IsSoundDeclaration};
+ghost use Rattle.spv_type_rules.specs.inner.Declaration.{IsSoundDeclaration};
 ghost use Rattle.spv_type_rules.specs.declared.declaration.Declaration.TheVariants as kind;
 ghost use Rattle.spv_type_reasons.specs.Declaration.{Asks, AsksData, IsScalar};
 ghost use Rattle.spv_type_reasons.specs.Evidence.{Shows};

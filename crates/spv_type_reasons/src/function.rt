@@ -6,7 +6,8 @@ ghost use Rattle.spv_module.specs.declared.fault.Rule.TheVariants.{Y6};
 ghost use Rattle.spv_module.specs.Module.{plain_inst};
 ghost use Rattle.spv_module.specs.Operand as operand;
 ghost use Rattle.spv_type_rules.specs.Function as function;
-ghost use Rattle.spv_type_rules.specs.Function.{IsSoundFunction, IsSoundParameter, parameters_after};
+ghost use Rattle.spv_type_rules.specs.Function.{parameters_after};
+ghost use Rattle.spv_type_rules.specs.inner.Function.{IsSoundFunction, IsSoundParameter};
 ghost use Rattle.spv_type_reasons.specs.Evidence.{Shows};
 ghost use Rattle.spv_type_reasons.specs.inner.Known.{IsFunction, HasFunction, IsTypedParameter};
 

@@ -4,7 +4,8 @@ ghost use Rattle.std.specs.Prelude.{◌≡◌, ◌<◌, ◌↔◌, ℕ, List, So
 ghost use Rattle.spv_table.specs.Table.{Table};
 ghost use Rattle.spv_module.specs.declared.fault.Rule.TheVariants.{Y3};
 ghost use Rattle.spv_module.specs.Module.{plain_inst, plain_operand, plain_operands};
-ghost use Rattle.spv_type_rules.specs.Repeat.{AreAlike, Repeats};
+ghost use Rattle.spv_type_rules.specs.Repeat.{Repeats};
+ghost use Rattle.spv_type_rules.specs.inner.Repeat.{AreAlike};
 ghost use Rattle.spv_type_reasons.specs.Evidence.{Shows};
 
 use spv_evidence::Evidence;

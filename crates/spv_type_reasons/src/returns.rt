@@ -6,7 +6,7 @@ ghost use Rattle.spv_module.specs.declared.fault.Rule.TheVariants.{Y7};
 ghost use Rattle.spv_module.specs.Module.{plain_inst, plain_operands};
 ghost use Rattle.spv_module.specs.Width as width;
 ghost use Rattle.spv_module.specs.Operand.{PlainInst};
-ghost use Rattle.spv_type_rules.specs.Function.{IsSoundReturn, IsSoundReturnValue};
+ghost use Rattle.spv_type_rules.specs.inner.Function.{IsSoundReturn, IsSoundReturnValue};
 ghost use Rattle.spv_type_reasons.specs.Evidence.{Shows};
 ghost use Rattle.spv_type_reasons.specs.inner.Known.{HasFunction, ReturnsOne};
 ghost use Rattle.spv_type_reasons.specs.Function.{ReturnsFrom};

@@ -8,17 +8,22 @@ use Rattle.spv_module.specs.declared.fault.Rule.{Rule}
 use Rattle.spv_module.specs.declared.fault.Rule.TheVariants as rule
 use Rattle.spv_ops.specs.declared.row.Row.{Row}
 use Rattle.spv_ops.specs.declared.row.Row.TheVariants as row
-use Rattle.spv_ops.specs.Row.{row_of, is_between}
+use Rattle.spv_ops.specs.Row.{row_of}
+use Rattle.spv_ops.specs.inner.Row.{is_between}
 use Rattle.spv_ops.specs.Typed.{IsTyped}
 use Rattle.spv_ops.proofs.Opcodes.{both, all_from, one_from}
 use Rattle.spv_ops.proofs.Rows.{late_row}
 use Rattle.spv_type_rules.specs.declared.concern.Concern.{Concern}
 use Rattle.spv_type_rules.specs.declared.concern.Concern.TheVariants as concern
 use Rattle.spv_type_rules.specs.inner.Concern.{concern_of}
-use Rattle.spv_type_rules.specs.Declaration.{declaration_of, IsSoundDeclaration}
-use Rattle.spv_type_rules.specs.Constant.{constant_of, IsSoundConstant}
-use Rattle.spv_type_rules.specs.Repeat.{is_declared_once, Repeats}
-use Rattle.spv_type_rules.specs.Keeps.{KeepsFunctions, KeepsReturns, CallsAreSound}
+use Rattle.spv_type_rules.specs.Declaration.{declaration_of}
+use Rattle.spv_type_rules.specs.inner.Declaration.{IsSoundDeclaration}
+use Rattle.spv_type_rules.specs.Constant.{constant_of}
+use Rattle.spv_type_rules.specs.inner.Constant.{IsSoundConstant}
+use Rattle.spv_type_rules.specs.Repeat.{Repeats}
+use Rattle.spv_type_rules.specs.inner.Repeat.{is_declared_once}
+use Rattle.spv_type_rules.specs.Keeps.{KeepsFunctions, KeepsReturns}
+use Rattle.spv_type_rules.specs.inner.Keeps.{CallsAreSound}
 use Rattle.spv_type_rules.specs.inner.Rules.{IsFirstHere}
 use Rattle.spv_type_rules.proofs.Firsts.{keeps_below, all_kept, first_y5, first_y6, first_y7, first_y8}
 

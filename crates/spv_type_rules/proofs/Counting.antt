@@ -17,7 +17,8 @@ use Rattle.spv_layout.specs.Row.{PlainRow, row_in}
 use Rattle.spv_layout.specs.Rows.{rows, row_of, class_of, class_in}
 use Rattle.spv_layout.specs.Layout.{classes}
 use Rattle.spv_layout.specs.Place.{IsAt, IsOfFunction}
-use Rattle.spv_type_rules.specs.Function.{parameter_count, parameters_in, parameters_between}
+use Rattle.spv_type_rules.specs.Function.{parameter_count, parameters_between}
+use Rattle.spv_type_rules.specs.inner.Function.{parameters_in}
 use Rattle.spv_type_rules.specs.inner.Counted.{IsLastBefore, AreCounted}
 
 -- The class Function is that of opcode 54 alone.

@@ -7,7 +7,8 @@ use Rattle.spv_module.specs.declared.fault.Rule.{Rule}
 use Rattle.spv_module.specs.declared.fault.Rule.TheVariants as rule
 use Rattle.spv_layout.specs.First.{rank_of}
 use Rattle.spv_ops.specs.Typed.{IsTyped, IsTypedAt}
-use Rattle.spv_type_rules.specs.Keeps.{Keeps, KeepsFunctions, KeepsReturns, CallsAreSound}
+use Rattle.spv_type_rules.specs.Keeps.{Keeps, KeepsFunctions, KeepsReturns}
+use Rattle.spv_type_rules.specs.inner.Keeps.{CallsAreSound}
 use Rattle.spv_type_rules.specs.inner.Rules.{IsFirstRule}
 
 -- The rules of rank below b are unbroken, if those of Y2 to Y8 are that are among them.

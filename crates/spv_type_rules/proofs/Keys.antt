@@ -3,7 +3,7 @@ use Rattle.std.proofs.Common.{◌≡◌, ◌+◌, ℕ, List, [], ◌∷◌, ◌+
 use Rattle.std.proofs.lemmas.Bool.{eq-eqb}
 use Rattle.spv_module.specs.Operand.{Plain, OfType, Result, Id, Word, Number, Text, Value, Mask, PlainInst}
 use Rattle.spv_type_forms.specs.Parts.{after_result}
-use Rattle.spv_type_rules.specs.Repeat.{AreAlike}
+use Rattle.spv_type_rules.specs.inner.Repeat.{AreAlike}
 use Rattle.spv_type_rules.specs.inner.Key.{operand_numbers, all_numbers, all_numbers_of, key_of}
 
 same_text : (s t us vs : List ℕ) → (map (λ b. b + 1) s ++ 0 ∷ []) ++ us ≡ (map (λ b. b + 1) t ++ 0 ∷ []) ++ vs → (s ≡ t) × (us ≡ vs)

@@ -4,7 +4,8 @@ use Rattle.std.specs.Prelude.{slice_get, IsTrue, not, MatchBool}
 use Rattle.std.proofs.lemmas.Bool.{cases_lt}
 use Rattle.spv_module.specs.Operand.{PlainInst}
 use Rattle.spv_type_rules.specs.declared.repeat.Seen.{Seen}
-use Rattle.spv_type_rules.specs.Repeat.{is_declared_once, Repeats}
+use Rattle.spv_type_rules.specs.Repeat.{Repeats}
+use Rattle.spv_type_rules.specs.inner.Repeat.{is_declared_once}
 use Rattle.spv_type_rules.specs.inner.Key.{key_of}
 use Rattle.spv_type_rules.specs.inner.Seen.{IsKeyAt, HasKey, AreSeen}
 use Rattle.spv_type_rules.proofs.Keys.{one_key, same_key}

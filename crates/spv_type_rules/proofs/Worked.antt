@@ -13,12 +13,15 @@ use Rattle.spv_type_forms.specs.Form.{form_in, form_of}
 use Rattle.spv_type_forms.specs.Operands.{ids_in}
 use Rattle.spv_type_forms.specs.Types.{class_in}
 use Rattle.spv_type_forms.specs.Values.{types_of}
-use Rattle.spv_type_rules.specs.Declaration.{IsPointerAfter, IsVectorCount}
-use Rattle.spv_type_rules.specs.Keeps.{Keeps, KeepsFunctions, KeepsReturns, CallsAreSound}
+use Rattle.spv_type_rules.specs.Declaration.{IsPointerAfter}
+use Rattle.spv_type_rules.specs.Asked.{IsVectorCount}
+use Rattle.spv_type_rules.specs.Keeps.{Keeps, KeepsFunctions, KeepsReturns}
+use Rattle.spv_type_rules.specs.inner.Keeps.{CallsAreSound}
 use Rattle.spv_type_rules.specs.Repeat.{Repeats}
 use Rattle.spv_type_rules.specs.inner.Rules.{IsFirstRule}
 use Rattle.spv_type_rules.proofs.Firsts.{keeps_below, first_y8}
-use Rattle.spv_type_rules.specs.Function.{OfFunction, ReturnsNothing, ReturnsTyped, IsSoundParameter, IsSoundReturn, IsSoundReturnValue, parameter_type_of, parameters_between}
+use Rattle.spv_type_rules.specs.Function.{OfFunction, ReturnsNothing, ReturnsTyped, parameter_type_of, parameters_between}
+use Rattle.spv_type_rules.specs.inner.Function.{IsSoundParameter, IsSoundReturn, IsSoundReturnValue}
 use Rattle.spv_type_rules.specs.Example.{small, pointers, returning, again, short_call, function, parameter}
 
 -- the class of each pointer

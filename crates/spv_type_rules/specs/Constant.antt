@@ -1,12 +1,11 @@
 -- Y4: constants. [3.49.7]
 use Rattle.std.specs.Prelude.{◌<◌, ◌^◌, ◌⊎◌, ℕ, List, [], ◌∷◌, Option, Some, None, Bool, true}
 use Rattle.std.specs.Prelude.{false, nat_eq, nat_le, ◌&&◌, ◌||◌, if◌then◌else◌, IsTrue, IsSomeAnd}
-use Rattle.std.specs.Prelude.{MatchOption}
 use Rattle.std.specs.List.{AllByRecursion}
-use Rattle.spv_module.specs.Operand.{Plain, Number, PlainInst, type_in}
+use Rattle.spv_module.specs.Operand.{Plain, Number, PlainInst}
 use Rattle.spv_module.specs.Width.{definition_of}
 use Rattle.spv_type_forms.specs.Types.{IsInt, IsFloat, IsBool, IsData}
-use Rattle.spv_type_forms.specs.Operands.{ids_in, after_head}
+use Rattle.spv_type_forms.specs.Operands.{ids_in}
 use Rattle.spv_type_forms.specs.Parts.{AreParts}
 use Rattle.spv_type_forms.specs.Values.{types_of}
 use Rattle.spv_type_rules.specs.declared.constant.Constant.{Constant}
@@ -16,18 +15,15 @@ use Rattle.spv_type_rules.specs.declared.constant.Constant.TheVariants as consta
 abbrev pub constant_of : ℕ → Option Constant
 constant_of n =
     if nat_eq n 41 || nat_eq n 42 || nat_eq n 48 || nat_eq n 49 then Some constant.Bool
-    else (if nat_eq n 43 || nat_eq n 50 then Some constant.Number
-    else (if nat_eq n 44 then Some constant.Composite
-    else (if nat_eq n 51 then Some constant.SpecComposite
-    else (if nat_eq n 46 then Some constant.Null
-    else None))))
+    else (if nat_eq n 43 || nat_eq n 50 then Some constant.Number else (if nat_eq n 44 then Some constant.Composite
+    else (if nat_eq n 51 then Some constant.SpecComposite else (if nat_eq n 46 then Some constant.Null else None))))
 
 -- what a composite constant is made of: 1 (OpUndef), 41 to 44 and 46, in the spec form also 48 to 51 [3.49.7]
 abbrev pub is_part_opcode : Bool → ℕ → Bool
 is_part_opcode spec n =
     nat_eq n 1 || (nat_le 41 n && nat_le n 44) || nat_eq n 46 || (spec && nat_le 48 n && nat_le n 51)
 
--- the id is that of a constant that may be a part [3.49.7]
+-- the id is that of an instruction that may be a part [3.49.7]
 abbrev pub IsPart : List PlainInst → Bool → ℕ → Type 0
 IsPart is spec x = IsSomeAnd (definition_of is x) (λ d. IsTrue (is_part_opcode spec d.opcode))
 
@@ -35,7 +31,8 @@ IsPart is spec x = IsSomeAnd (definition_of is x) (λ d. IsTrue (is_part_opcode 
 abbrev pub FitsWidth : List PlainInst → ℕ → ℕ → Type 0
 FitsWidth is r low = (w : ℕ) × (IsInt is r w ⊎ IsFloat is r w) × (w < 32 → low < 2 ^ w)
 
--- the parts of a composite constant: constants, each of the type at its place [3.49.7]
+-- the parts of a composite constant: constants or OpUndefs, as many as the type has parts, each of the type at its
+-- place [3.49.7]
 abbrev pub AreConstantParts : List PlainInst → Bool → ℕ → List ℕ → Type 0
 AreConstantParts is spec r xs = AllByRecursion (IsPart is spec) xs × IsSomeAnd (types_of is xs) (AreParts is r)
 
@@ -47,9 +44,3 @@ Constitutes is constant.Composite r os = AreConstantParts is false r (ids_in os)
 Constitutes is constant.SpecComposite r os = AreConstantParts is true r (ids_in os)
 Constitutes is constant.Null r os = IsData is r
 Constitutes is _ r os = ⊥
-
--- Y4 is unbroken. [3.49.7]
-abbrev pub IsSoundConstant : List PlainInst → PlainInst → Type 0
-IsSoundConstant is i =
-    MatchOption (constant_of i.opcode) (Unit {0})
-    (λ c. IsSomeAnd (type_in i.operands) (λ r. Constitutes is c r (after_head i.operands)))

@@ -32,23 +32,15 @@ signature_of is f = option_and_then (λ t. option_and_then signature_in (definit
 abbrev pub parameter_count : List PlainInst → ℕ
 parameter_count is = count_by (λ i. nat_eq i.opcode 55) is
 
--- how many follow an OpFunction, before its first OpLabel (248) or its OpFunctionEnd (56) [3.49.9]
-abbrev pub parameters_in : List PlainInst → ℕ
-parameters_in is = parameter_count (take_while (λ i. not (nat_eq i.opcode 248 || nat_eq i.opcode 56)) is)
-
--- how many OpFunctionParameter follow instruction n [3.49.9]
+-- how many follow instruction n, an OpFunction, before its first OpLabel (248) or its OpFunctionEnd (56) [3.49.9]
 abbrev pub parameters_after : List PlainInst → ℕ → ℕ
-parameters_after is n = parameters_in (drop (n + 1) is)
+parameters_after is n =
+    parameter_count (take_while (λ i. not (nat_eq i.opcode 248 || nat_eq i.opcode 56)) (drop (n + 1) is))
 
 -- The signature begins with the return type r, and has so many parameter types. [3.49.9]
 abbrev pub ReturnsAfter : Option ℕ → ℕ → List Plain → Type 0
 ReturnsAfter r count (Id t ∷ ps) = (r ≡ Some t) × (length ps ≡ count)
 ReturnsAfter r count _ = ⊥
-
--- Y6 is unbroken at an OpFunction: its last operand is a function type, which returns its result type and has as many
--- parameters as the function. [3.49.9]
-abbrev pub IsSoundFunction : List PlainInst → ℕ → PlainInst → Type 0
-IsSoundFunction is n i = IsSomeAnd (signature_of is i) (ReturnsAfter (type_in i.operands) (parameters_after is n))
 
 -- how many parameters stand between instructions f and n [3.49.9]
 abbrev pub parameters_between : List PlainInst → ℕ → ℕ → ℕ
@@ -62,30 +54,14 @@ parameter_type_of is f k = option_and_then (λ ts. option_and_then id_in (slice_
 abbrev pub OfFunction : List PlainInst → ℕ → (ℕ → PlainInst → Type 0) → Type 0
 OfFunction is n P = (f : ℕ) × IsOfFunction is n f × IsSomeAnd (slice_get is f) (P f)
 
--- Y6 is unbroken at an OpFunctionParameter: its type is the one at its place in its function's type. [3.49.9]
-abbrev pub IsSoundParameter : List PlainInst → ℕ → PlainInst → Type 0
-IsSoundParameter is n i =
-    OfFunction is n
-    (λ f d. IsSomeAnd (type_in i.operands) (λ t. parameter_type_of is d (parameters_between is f n) ≡ Some t))
-
--- Y7 as a relation of types: of an OpReturn (253) in the function d, and of an OpReturnValue (254) of a value of type o
--- [3.49.9]
+-- Y7 at an OpReturn (253) of the function whose OpFunction is d: its result type is OpTypeVoid [3.49.17]
 abbrev pub ReturnsNothing : List PlainInst → PlainInst → Type 0
 ReturnsNothing is d = IsSomeAnd (type_in d.operands) (λ r. form_of is r ≡ Some form.Void)
 
--- one type, the result type of the OpFunction [3.49.17]
+-- Y7 at an OpReturnValue (254) there, of values of these types: there is one, and its type is d's result type [3.49.17]
 abbrev pub ReturnsTyped : PlainInst → List ℕ → Type 0
 ReturnsTyped d (o ∷ []) = type_in d.operands ≡ Some o
 ReturnsTyped d _ = ⊥
-
--- Y7 is unbroken at an OpReturn, and at an OpReturnValue, of number n. [3.49.9]
-abbrev pub IsSoundReturn : List PlainInst → ℕ → Type 0
-IsSoundReturn is n = OfFunction is n (λ f d. ReturnsNothing is d)
-
--- The value of an OpReturnValue has the return type of its function. [3.49.17]
-abbrev pub IsSoundReturnValue : List PlainInst → ℕ → PlainInst → Type 0
-IsSoundReturnValue is n i =
-    OfFunction is n (λ f d. IsSomeAnd (types_of is (take 1 (ids_in i.operands))) (ReturnsTyped d))
 
 -- Y8 as a relation of types: of a call with the result type r of the function d, with arguments of these types [3.49.9]
 abbrev pub CallsTyped : List PlainInst → PlainInst → ℕ → List ℕ → Type 0
@@ -96,7 +72,3 @@ abbrev pub CallsSoundly : List PlainInst → ℕ → List Plain → Type 0
 CallsSoundly is r (Id f ∷ os) =
     IsSomeAnd (definition_of is f) (λ d. IsSomeAnd (types_of is (ids_in os)) (CallsTyped is d r))
 CallsSoundly is r _ = ⊥
-
--- The callee has the result type, and parameters of the types of the arguments. [3.49.9]
-abbrev pub IsSoundCall : List PlainInst → PlainInst → Type 0
-IsSoundCall is i = IsSomeAnd (type_in i.operands) (λ r. CallsSoundly is r (after_head i.operands))

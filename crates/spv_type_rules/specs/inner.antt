@@ -1,7 +1,12 @@
 -- Definitions that serve the code alone.
 pub mod Concern
+pub mod Constant
 pub mod Counted
+pub mod Declaration
 pub mod Found
+pub mod Function
+pub mod Keeps
+pub mod Repeat
 pub mod Key
 pub mod Seen
 pub mod Rules

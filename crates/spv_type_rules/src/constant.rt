@@ -8,7 +8,8 @@ ghost use Rattle.spv_type_forms.specs.inner.Tests.{passes};
 ghost use Rattle.spv_type_forms.specs.Types.{IsBool};
 ghost use Rattle.spv_type_rules.specs.Constant as rules;
 ghost use Rattle.spv_type_rules.specs.declared.constant.Constant.TheVariants as constant_form;
-ghost use Rattle.spv_type_rules.specs.Constant.{FitsWidth, AreConstantParts, Constitutes, IsSoundConstant};
+ghost use Rattle.spv_type_rules.specs.Constant.{FitsWidth, AreConstantParts, Constitutes};
+ghost use Rattle.spv_type_rules.specs.inner.Constant.{IsSoundConstant};
 ghost use Rattle.spv_type_rules.specs.inner.Found as found;
 
 use spv_module::{Inst, Operand};

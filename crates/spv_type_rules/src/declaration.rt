@@ -7,8 +7,9 @@ ghost use Rattle.spv_type_forms.specs.Types.{IsData, class_in};
 ghost use Rattle.spv_type_forms.specs.Form as op_form;
 ghost use Rattle.spv_type_rules.specs.Declaration as spec;
 ghost use Rattle.spv_type_rules.specs.declared.declaration.Declaration.TheVariants as declaration;
-ghost use Rattle.spv_type_rules.specs.Declaration.{IsIntWidth, IsFloatWidth, IsVectorCount, IsLength, IsPointee};
-ghost use Rattle.spv_type_rules.specs.Declaration.{IsReturned, IsPointerAfter, DeclaresSoundly, IsSoundDeclaration};
+ghost use Rattle.spv_type_rules.specs.Declaration.{IsLength, IsPointerAfter, DeclaresSoundly};
+ghost use Rattle.spv_type_rules.specs.Asked.{IsIntWidth, IsFloatWidth, IsVectorCount, IsPointee, IsReturned};
+ghost use Rattle.spv_type_rules.specs.inner.Declaration.{IsSoundDeclaration};
 
 use spv_ids::Ids;
 use spv_module::{Inst, Operand};

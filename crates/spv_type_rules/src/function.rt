@@ -10,10 +10,11 @@ ghost use Rattle.spv_type_forms.specs.Operands.{ids_in};
 ghost use Rattle.spv_type_forms.specs.Parts.{id_in};
 ghost use Rattle.spv_type_forms.specs.Values.{types_of};
 ghost use Rattle.spv_type_rules.specs.Function as spec;
-ghost use Rattle.spv_type_rules.specs.Function.{ReturnsNothing, ReturnsTyped, IsSoundReturn, IsSoundReturnValue};
-ghost use Rattle.spv_type_rules.specs.Function.{function_type_in, signature_of, CallsTyped, CallsSoundly, IsSoundCall};
-ghost use Rattle.spv_type_rules.specs.Function.{ReturnsAfter, IsSoundFunction, parameters_in, parameters_after};
-ghost use Rattle.spv_type_rules.specs.Function.{parameters_between, parameter_type_of, IsSoundParameter};
+ghost use Rattle.spv_type_rules.specs.Function.{ReturnsNothing, ReturnsTyped, function_type_in, signature_of};
+ghost use Rattle.spv_type_rules.specs.Function.{CallsTyped, CallsSoundly, ReturnsAfter, parameters_after};
+ghost use Rattle.spv_type_rules.specs.Function.{parameters_between, parameter_type_of};
+ghost use Rattle.spv_type_rules.specs.inner.Function.{IsSoundReturn, IsSoundReturnValue, IsSoundCall, IsSoundFunction};
+ghost use Rattle.spv_type_rules.specs.inner.Function.{parameters_in, IsSoundParameter};
 ghost use Rattle.spv_type_rules.specs.inner.Found.{IsOfOne, are_typed, has_signature, has_type};
 
 use crate::opcode::{FUNCTION, FUNCTION_END, LABEL, PARAMETER, TYPE_FUNCTION};

@@ -4,7 +4,7 @@ ghost use Rattle.std.specs.Prelude.{◌≡◌, ◌+◌, ◌++◌, ◌↔◌, ◌
 ghost use Rattle.std.specs.Prelude.{OnOk, slice_get, map, [], ◌∷◌, MatchBool, true};
 ghost use Rattle.spv_module.specs.Operand.{PlainInst};
 ghost use Rattle.spv_module.specs.Module.{plain_inst, plain_operand};
-ghost use Rattle.spv_type_rules.specs.Repeat as spec;
+ghost use Rattle.spv_type_rules.specs.inner.Repeat as spec;
 ghost use Rattle.spv_type_rules.specs.Repeat.{Repeats};
 ghost use Rattle.spv_type_rules.specs.inner.Key as key;
 ghost use Rattle.spv_type_rules.specs.inner.Key.{operand_numbers};

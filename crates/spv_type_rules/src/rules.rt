@@ -10,7 +10,8 @@ ghost use Rattle.spv_ids.specs.Outcome.{IsDefinitionOf, definition_in};
 ghost use Rattle.spv_type_rules.specs.Repeat.{Repeats};
 ghost use Rattle.spv_type_rules.specs.Function.{parameters_between};
 ghost use Rattle.spv_type_rules.specs.inner.Counted.{AreCounted};
-ghost use Rattle.spv_type_rules.specs.Keeps.{KeepsFunctions, KeepsReturns, CallsAreSound};
+ghost use Rattle.spv_type_rules.specs.Keeps.{KeepsFunctions, KeepsReturns};
+ghost use Rattle.spv_type_rules.specs.inner.Keeps.{CallsAreSound};
 ghost use Rattle.spv_type_rules.specs.inner.Rules.{AreRules, rules_insts, IsFirstHere};
 
 use crate::concern::{Concern, concern_of};

@@ -14,9 +14,13 @@ use Rattle.spv_module.specs.declared.fault.Rule.TheVariants as rule
 use Rattle.spv_layout.specs.Place.{IsDefinition}
 use Rattle.spv_ids.specs.Definition.{IsDefinedAt}
 use Rattle.spv_ids.specs.Order.{HasOpcode}
-use Rattle.spv_capabilities.specs.Capable.{declared_by, Has, IsKernel, HasNamed, IsCovered, IsCoveredEntry, IsCoveredValue, IsCoveredMask, IsOtherKind, IsCoveredOperand, needs_of, HasOneOf, IsCapable}
+use Rattle.spv_capabilities.specs.Capable.{Has, HasNamed, IsCovered, IsCoveredValue, IsCoveredMask, IsCoveredOperand, needs_of, HasOneOf, IsCapable}
+use Rattle.spv_capabilities.specs.Asked.{IsCoveredEntry, IsOtherKind}
+use Rattle.spv_capabilities.specs.inner.Capable.{declared_by, IsKernel}
 use Rattle.spv_capabilities.specs.Memory.{IsModel}
-use Rattle.spv_capabilities.specs.Entry.{IsNamed, IsCalled, IsEntered, IsImported, HasEntry, ReturnsVoid, IsKernelFunction, IsSoundEntry, IsSoundMode, IsSoundLinkage, called_by, entered_by, imported_by}
+use Rattle.spv_capabilities.specs.Entry.{IsNamed, ReturnsVoid, IsKernelFunction, IsSoundEntry, IsSoundMode, called_by, entered_by, imported_by}
+use Rattle.spv_capabilities.specs.Asked.{IsImported, HasEntry}
+use Rattle.spv_capabilities.specs.inner.Entry.{IsCalled, IsEntered, IsSoundLinkage}
 use Rattle.spv_capabilities.specs.Keeps.{KeepsEntries, Keeps}
 use Rattle.spv_verdict.proofs.Decided.{Decided, anew, both, three, either, opposite, given, some_and, matched, pinned, number_same, numbers_same, list_same, all_or_not, somewhere}
 use Rattle.spv_verdict.proofs.Standing.{defined_or_not, opcode_or_not, defined_with, definition_or_not}

@@ -71,9 +71,9 @@ before_of G p u k = record { of_layout = u; of_ids = k.ids; of_roles = k.types.0
 pub sound_of : (G : Table) (p : Program) → ((q : Rule) (m : ℕ) → ¬ (layout_rules.Broken G p.insts q m)) → IsKept G p → IsSound G p.bound p.insts
 sound_of G p u k = sound G p.bound p.insts (before_of G p u k) k.branches k.values k.calls
 
-pub checked_of : (G : Table) (words : List ℕ) (m : Module) (p : Program) → p ≡ program_of m → IsListing G (plain_insts m) (drop 5 words) → IsHeaderOf words m.header → IsKept G p
+pub checked_of : (G : Table) (words : List ℕ) (m : Module) (p : Program) → p ≡ program_of m → IsListing G (plain_insts m) (drop 5 words) → IsHeaderOf words m.header
     → IsSound G p.bound p.insts → IsChecked G words p
-checked_of G words m p e l h k s = record { listing = rw e l; bound = rw e h.bound; sound = s; kept = k }
+checked_of G words m p e l h s = record { listing = rw e l; bound = rw e h.bound; sound = s }
 
 -- parts under one table are those under any that is kept
 pub parts_under : (G H : Table) (p : Program) (m : Module) (places : List Place) (ids : Ids) (flow : Flow) → IsKept G p → AreParts H p m places ids flow → AreParts G p m places ids flow

@@ -10,7 +10,7 @@ use Rattle.spv_words.proofs.Standing.{Octets}
 use Rattle.spv_words.proofs.Refusal.{found_module}
 use Rattle.spv_table.specs.declared.table.Entry.{Entry}
 use Rattle.spv_table.specs.Table.{entry_of, pattern_of}
-use Rattle.spv_module.specs.Operand.{Plain, OfType, Result, Id, Text, Value, Mask, PlainInst, start}
+use Rattle.spv_module.specs.Operand.{OfType, Result, Id, Text, Value, Mask, PlainInst, start}
 use Rattle.spv_module.specs.Shape.{shape_of}
 use Rattle.spv_module.specs.Spelling.{Takes, HoldsText, mask_parameters}
 use Rattle.spv_inst.specs.Flat.{due}
@@ -196,7 +196,7 @@ pub valid : IsValid grammar kernel_bytes
 valid = record { words = kernel_words; order = Little; is_module = is_module; insts = kernel; listing = listed; sound = sound }
 
 pub checked : IsChecked grammar kernel_words kernel_program
-checked = record { listing = listed; bound = refl; sound = sound; kept = kept }
+checked = record { listing = listed; bound = refl; sound = sound }
 
 -- The run of its function.
 

@@ -22,17 +22,22 @@ use Rattle.spv_ops.specs.declared.row.Access.TheVariants as access
 use Rattle.spv_ops.specs.declared.row.Composite as composites
 use Rattle.spv_ops.specs.declared.row.Composite.TheVariants as composite
 use Rattle.spv_type_forms.specs.Form.{form_of}
-use Rattle.spv_type_forms.specs.Types.{components_of, IsDataForm, IsData, IsSomeInt, IsNumber, IsVector, IsPointer, PointsTo, IsB, IsOf, HasSort, sort_of, pointee_in, class_in}
+use Rattle.spv_type_forms.specs.Types.{components_of, IsDataForm, IsData, IsSomeInt, IsNumber, IsVector, IsPointer, PointsTo, HasSort, sort_of, pointee_in, class_in}
+use Rattle.spv_type_forms.specs.inner.Types.{IsB, IsOf}
 use Rattle.spv_type_forms.specs.Operands.{words_in, ids_in, after_head, result_type_in}
 use Rattle.spv_type_forms.specs.Parts.{part_of, count_of, AreParts, ArePartsFrom}
 use Rattle.spv_ops.specs.Calculation.{Calculates, IsNamedClass, bits_of}
-use Rattle.spv_ops.specs.Access.{Accesses, IsScope}
-use Rattle.spv_ops.specs.Composite.{Composes, Constructs, IsComponent, shares_of}
-use Rattle.spv_type_forms.specs.Reach.{AreWithin, ReachesType, LeadsToType}
+use Rattle.spv_ops.specs.Access.{Accesses}
+use Rattle.spv_ops.specs.inner.Access.{IsScope}
+use Rattle.spv_ops.specs.Composite.{Composes, Constructs, shares_of}
+use Rattle.spv_ops.specs.Composite.{IsComponent}
+use Rattle.spv_type_forms.specs.Reach.{AreWithin, ReachesType}
+use Rattle.spv_type_forms.specs.inner.Reach.{LeadsToType}
 use Rattle.spv_type_forms.specs.inner.Walk.{walk, choices}
 use Rattle.spv_ops.specs.Chain.{LeadsByPointer, Chains, ChainsByElement}
-use Rattle.spv_type_forms.specs.Definitions.{is_constant_opcode}
-use Rattle.spv_ops.specs.Variable.{IsClassAt, IsInitializer, DeclaresVariable}
+use Rattle.spv_type_forms.specs.inner.Definitions.{is_constant_opcode}
+use Rattle.spv_ops.specs.Variable.{DeclaresVariable}
+use Rattle.spv_ops.specs.inner.Variable.{IsClassAt, IsInitializer}
 use Rattle.spv_ops.specs.Row.{row_of}
 use Rattle.spv_type_forms.specs.Values.{types_of}
 use Rattle.spv_ops.specs.Values.{values_of}

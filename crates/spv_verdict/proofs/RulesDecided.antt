@@ -21,15 +21,20 @@ use Rattle.spv_type_forms.specs.Operands.{ids_in, after_head}
 use Rattle.spv_type_forms.specs.Values.{types_of}
 use Rattle.spv_ops.specs.Typed.{IsTyped}
 use Rattle.spv_ops.proofs.Judged.{told}
-use Rattle.spv_roles.specs.Role.{IsTypeDeclaration, IsValue, IsOfOpcode, Plays}
+use Rattle.spv_roles.specs.Role.{Plays}
+use Rattle.spv_roles.specs.inner.Role.{IsTypeDeclaration, IsValue, IsOfOpcode}
 use Rattle.spv_type_rules.specs.declared.declaration.Declaration.{Declaration}
 use Rattle.spv_type_rules.specs.declared.declaration.Declaration.TheVariants.{Int, Float, Vector, Array, Struct, Pointer, Function, Forward}
 use Rattle.spv_type_rules.specs.declared.constant.Constant.{Constant}
 use Rattle.spv_type_rules.specs.declared.constant.Constant.TheVariants as constant
-use Rattle.spv_type_rules.specs.Declaration.{declaration_of, IsIntWidth, IsFloatWidth, IsVectorCount, IsLength, IsPointerAfter, DeclaresSoundly, IsSoundDeclaration}
-use Rattle.spv_type_rules.specs.Constant.{constant_of, is_part_opcode, IsPart, FitsWidth, AreConstantParts, Constitutes, IsSoundConstant}
+use Rattle.spv_type_rules.specs.Declaration.{declaration_of, IsLength, IsPointerAfter, DeclaresSoundly}
+use Rattle.spv_type_rules.specs.Asked.{IsIntWidth, IsFloatWidth, IsVectorCount}
+use Rattle.spv_type_rules.specs.inner.Declaration.{IsSoundDeclaration}
+use Rattle.spv_type_rules.specs.Constant.{constant_of, is_part_opcode, IsPart, FitsWidth, AreConstantParts, Constitutes}
+use Rattle.spv_type_rules.specs.inner.Constant.{IsSoundConstant}
 use Rattle.spv_type_rules.specs.Function.{signature_of, parameters_after, ReturnsAfter, parameters_between, parameter_type_of, OfFunction, ReturnsNothing, ReturnsTyped, CallsTyped, CallsSoundly}
-use Rattle.spv_type_rules.specs.Keeps.{KeepsFunctions, KeepsReturns, CallsAreSound, Keeps}
+use Rattle.spv_type_rules.specs.Keeps.{KeepsFunctions, KeepsReturns, Keeps}
+use Rattle.spv_type_rules.specs.inner.Keeps.{CallsAreSound}
 use Rattle.spv_verdict.proofs.Decided.{Decided, held, anew, both, either, opposite, given, some_and, matched, pinned, number_same, all_or_not, is_true}
 use Rattle.spv_verdict.proofs.Standing.{least_or_not, less_or_not, defined_with, function_or_none, global_or_not}
 use Rattle.spv_verdict.proofs.Rows.{int_or_not, float_or_not, bool_or_not, void_or_not, opaque_or_not, data_or_not, some_int, parts_or_not, typed_or_not}

@@ -62,4 +62,3 @@ pub record IsChecked (G : Table) (words : List ℕ) (p : Program) : Type 0 where
   pub listing : IsListing G p.insts (drop 5 words)
   pub bound : p.bound ≡ slice_index words 3
   pub sound : IsSound G p.bound p.insts
-  pub kept : IsKept G p

@@ -2,8 +2,8 @@
 use Rattle.std.specs.Prelude.{◌≡◌, ◌≢◌, ℕ, List, Option, IfSome}
 
 -- A call of it failed: its count of failures became another one. [own]
-abbrev pub Failed : {T : Type 0} (failures : T → ℕ) (old new : T) → Type 0
-Failed failures old new = failures new ≢ failures old
+abbrev pub HasFailed : {T : Type 0} (failures : T → ℕ) (old new : T) → Type 0
+HasFailed failures old new = failures new ≢ failures old
 
 -- It is as it was, unless a call of it failed.
 abbrev pub IsUntouched : {T : Type 0} (failures : T → ℕ) (old new : T) → Type 0

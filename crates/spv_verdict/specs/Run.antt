@@ -10,7 +10,7 @@ use Rattle.spv_verdict.specs.Checked.{IsKept}
 use Rattle.spv_verdict.specs.Program.{Program}
 
 -- The id is an entry point's function, and the trace is of its run from the choices in at most `limit` steps, under the
--- table.
+-- table. [own]
 pub record IsRunOf (G : Table) (p : Program) (x : ℕ) (choices : List ℕ) (limit : ℕ) (t : Trace) : Type 0 where
   pub entry : IsEntryId p.insts x
   pub function : ℕ
@@ -19,7 +19,7 @@ pub record IsRunOf (G : Table) (p : Program) (x : ℕ) (choices : List ℕ) (lim
   pub start : IsStart p.insts function choices state
   pub run : IsOfRun G p.insts limit state t
 
--- The same, under some table under which the module keeps all that the layers demand.
+-- The same, under some table under which the module keeps all that the layers demand. [own]
 pub record IsTraceOf (p : Program) (x : ℕ) (choices : List ℕ) (limit : ℕ) (t : Trace) : Type 0 where
   pub table : Table
   pub kept : IsKept table p

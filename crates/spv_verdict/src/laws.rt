@@ -16,7 +16,7 @@ ghost use Rattle.spv_flow.specs.declared.flow.Flow.{Flow};
 ghost use Rattle.spv_calls.specs.Calls.{IsEntryFunction};
 ghost use Rattle.spv_calls.specs.Example.{functions, looped};
 ghost use Rattle.spv_run.specs.Promise.{NeverGetsStuck};
-ghost use Rattle.spv_verdict.specs.Outcome.{Failed, IsUntouched, OfKnown};
+ghost use Rattle.spv_verdict.specs.Outcome.{HasFailed, IsUntouched, OfKnown};
 ghost use Rattle.spv_verdict.specs.Answer.{IsFault};
 ghost use Rattle.spv_verdict.specs.Checked.{AreParts, IsChecked, IsKept};
 ghost use Rattle.spv_verdict.specs.Program.{Program};
@@ -144,8 +144,8 @@ pub fn stream_examples()
 
 /// Worked examples of what became of a reader or a writer, which is here its count of failures.
 pub fn outcome_examples()
-    ensures failed { Failed (λ (count : ℕ). count) 1 2 }
-    ensures not_failed { ¬ (Failed (λ (count : ℕ). count) 2 2) }
+    ensures failed { HasFailed (λ (count : ℕ). count) 1 2 }
+    ensures not_failed { ¬ (HasFailed (λ (count : ℕ). count) 2 2) }
     ensures untouched { IsUntouched (λ (count : ℕ). count) 1 2 }
     // No call failed, and yet it is not as it was.
     ensures touched { ¬ (IsUntouched (λ (count : ℕ). 0) 1 2) }

@@ -4,7 +4,7 @@ ghost use Rattle.std.specs.Prelude.{IsErrOf, IsTrue};
 ghost use Rattle.spv_words.specs.Header.{IsModule};
 ghost use Rattle.spv_words.specs.declared.words.Order.{Order};
 ghost use Rattle.spv_words.specs.declared.words.WordError.TheVariants.{W1, W9};
-ghost use Rattle.spv_verdict.specs.Outcome.{Failed, OfKnown};
+ghost use Rattle.spv_verdict.specs.Outcome.{HasFailed, OfKnown};
 ghost use Rattle.spv_verdict.specs.Verdict.{IsVerdict, valid_line};
 ghost use Rattle.spv_verdict.specs.Text.{line_of, refusal_of};
 ghost use Rattle.spv_verdict.specs.Stream.{Begins, TellsVerdict};
@@ -45,7 +45,7 @@ fn judged(alloc: Global, table: &Table, image: &Image) -> Result<Judgment, WordE
 /// The verdict on all the bytes of a reader.
 fn verdict_on<R: Source>(alloc: Global, table: &Table, r: &mut R) -> Result<Judgment, WordError>
     ensures known { IfSome (R.remaining r.old) (λ bytes. IfOk result (λ v. IsVerdict table.now bytes (line_of v))) }
-    ensures count { Failed R.failures r.old r.new ↔ IsErrOf result W1 }
+    ensures count { HasFailed R.failures r.old r.new ↔ IsErrOf result W1 }
     ensures only { IfErr result (λ e. (e ≡ W1) ⊎ (e ≡ W9)) }
 {
     let image = match read_image(alloc, r) {
@@ -80,13 +80,13 @@ pub fn check_stream<R: Source, W: Sink>(
     ensures verdict { OfKnown (R.remaining r.old) (W.contents w.old)
         (λ bytes old. IfOk result (λ answer. TellsVerdict table.now bytes old (W.contents w.new) answer)) }
     // The answer is W1 exactly where a read or a write failed.
-    ensures count { (Failed R.failures r.old r.new ⊎ Failed W.failures w.old w.new) ↔ IsErrOf result W1 }
+    ensures count { (HasFailed R.failures r.old r.new ⊎ HasFailed W.failures w.old w.new) ↔ IsErrOf result W1 }
     ensures only { IfErr result (λ e. (e ≡ W1) ⊎ (e ≡ W9)) }
     // After a failed read, or for want of memory, the writer is as it was.
-    ensures read { Failed R.failures r.old r.new → w.new ≡ w.old }
+    ensures read { HasFailed R.failures r.old r.new → w.new ≡ w.old }
     ensures memory { IsErrOf result W9 → w.new ≡ w.old }
     // After a failed write it has got a beginning of the line.
-    ensures begun { Failed W.failures w.old w.new
+    ensures begun { HasFailed W.failures w.old w.new
         → OfKnown (R.remaining r.old) (W.contents w.old)
         (λ bytes old. Begins table.now bytes old (W.contents w.new)) }
 {

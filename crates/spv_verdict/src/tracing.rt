@@ -4,10 +4,11 @@ ghost use Rattle.spv_table.specs.Table.{Table};
 ghost use Rattle.spv_calls.specs.Calls.{IsEntryFunction};
 ghost use Rattle.spv_run.specs.Entry.{RefusesEntry};
 ghost use Rattle.spv_run.specs.Promise.{NeverGetsStuck};
-ghost use Rattle.spv_verdict.specs.Checked.{IsKept};
+ghost use Rattle.spv_verdict.specs.Broken.{IsSound};
 ghost use Rattle.spv_verdict.specs.Run.{IsRunOf, IsTraceOf};
 
 use crate::checked::Checked;
+use crate::laws::kept_exactly;
 use spv_run::{Code, Trace, TraceError, trace_function};
 use std::alloc::Global;
 
@@ -31,17 +32,17 @@ pub fn trace(
 ) -> Result<Trace, TraceError>
     // It is of the run under some table by which the module is valid, and under each.
     ensures trace { IfOk result (λ t. IsTraceOf checked.now function choices.now limit t) }
-    ensures each { (G : Table) → IsKept G checked.now
+    ensures each { (G : Table) → IsSound G checked.now.bound checked.now.insts
         → IfOk result (λ t. IsRunOf G checked.now function choices.now limit t) }
     ensures refused { IfErr result (λ e. RefusesEntry checked.now.insts function e) }
     // Whatever is answered, the module is valid under some table. Under each by which it is, from each entry point's
     // function, for all choices and numbers of steps, the run does not get stuck, and bound ids have their declared
     // types.
-    ensures kept { (G : Table) × IsKept G checked.now }
-    ensures free { (G : Table) → IsKept G checked.now → (g : ℕ) → IsEntryFunction checked.now.insts g
-        → (xs : List ℕ)
-        → NeverGetsStuck G checked.now.insts g xs }
+    ensures sound { (G : Table) × IsSound G checked.now.bound checked.now.insts }
+    ensures free { (G : Table) → IsSound G checked.now.bound checked.now.insts → (g : ℕ)
+        → IsEntryFunction checked.now.insts g → (xs : List ℕ) → NeverGetsStuck G checked.now.insts g xs }
 {
+    kept_exactly();
     let parts = checked.parts();
     let code = Code {
         insts: parts.module.insts.as_slice(),

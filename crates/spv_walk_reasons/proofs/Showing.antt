@@ -10,7 +10,7 @@ use Rattle.spv_module.specs.declared.fault.Rule.TheVariants.{F1, F2, F3, F4, A1,
 use Rattle.spv_layout.specs.declared.form.Role.{Role}
 use Rattle.spv_layout.specs.declared.form.Form.{Form}
 use Rattle.spv_layout.specs.First.{IsUnbroken}
-use Rattle.spv_layout.specs.Row.{R}
+use Rattle.spv_layout.specs.inner.Row.{R}
 use Rattle.spv_layout.specs.Shape.{IsUse}
 use Rattle.spv_layout.proofs.Places.{function_same}
 use Rattle.spv_ids.specs.Definition.{IsDefinedAt, IsUsedAt}

@@ -8,12 +8,14 @@ use Rattle.spv_module.specs.Operand.{Id, OfType, Result}
 use Rattle.spv_module.specs.declared.fault.Rule.TheVariants.{A1}
 use Rattle.spv_layout.specs.declared.class.Class.TheVariants.{Function, FunctionEnd, Body}
 use Rattle.spv_layout.specs.declared.form.Role.TheVariants as role
-use Rattle.spv_layout.specs.Row.{row, v, T, R, closed}
+use Rattle.spv_layout.specs.Row.{row, v, closed}
+use Rattle.spv_layout.specs.inner.Row.{T, R}
 use Rattle.spv_layout.specs.Rows.{rows}
 use Rattle.spv_layout.specs.Shape.{AreOf, Ends, HasForms}
 use Rattle.spv_layout.specs.Place.{IsAt, IsOfFunction}
 use Rattle.spv_ids.specs.Definition.{IsDefinedAt}
-use Rattle.spv_branches.specs.Target.{is_label, is_function, is_phi, IsOp}
+use Rattle.spv_branches.specs.Target.{is_label, is_phi, IsOp}
+use Rattle.spv_branches.specs.inner.Target.{is_function}
 use Rattle.spv_branches.specs.Walk.{Next, IsWalk, IsResultAmong}
 use Rattle.spv_branches.specs.Ready.{IsMissing}
 use Rattle.spv_branches.specs.Example.{label, function, negation, early}

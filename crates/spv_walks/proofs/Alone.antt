@@ -11,7 +11,8 @@ use Rattle.spv_layout.specs.Row.{PlainRow, row_in}
 use Rattle.spv_layout.specs.Rows.{rows, row_of, class_of, class_in}
 use Rattle.spv_layout.specs.Layout.{classes}
 use Rattle.spv_layout.specs.Place.{IsAt}
-use Rattle.spv_branches.specs.Target.{is_function, IsOp}
+use Rattle.spv_branches.specs.Target.{IsOp}
+use Rattle.spv_branches.specs.inner.Target.{is_function}
 use Rattle.spv_branches.proofs.Labelled.{op_holds}
 use Rattle.spv_walks.proofs.Ended.{all_rows, HasRow, row_tells, class_at}
 

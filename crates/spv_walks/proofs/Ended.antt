@@ -9,7 +9,8 @@ use Rattle.spv_module.specs.Operand as operand
 use Rattle.spv_layout.specs.declared.class.Class.TheVariants.{FunctionEnd}
 use Rattle.spv_layout.specs.declared.form.Form.{Form}
 use Rattle.spv_layout.specs.Class.{is_among}
-use Rattle.spv_layout.specs.Row.{PlainRow, RowEnding, closed, row_in, R}
+use Rattle.spv_layout.specs.Row.{PlainRow, RowEnding, closed, row_in}
+use Rattle.spv_layout.specs.inner.Row.{R}
 use Rattle.spv_layout.specs.Rows.{rows, row_of, class_of, class_in}
 use Rattle.spv_layout.specs.Layout.{classes}
 use Rattle.spv_layout.specs.Place.{IsAt}

@@ -8,7 +8,8 @@ use Rattle.spv_ids.specs.Definition.{IsDefinedAt}
 use Rattle.spv_availability.specs.declared.graph.Graph.{Graph}
 use Rattle.spv_availability.specs.Graph.{targets_of}
 use Rattle.spv_availability.specs.Path.{IsPath, IsAvailable, IsUnavailable}
-use Rattle.spv_branches.specs.Target.{is_label, is_phi, is_function, is_terminator, IsOp}
+use Rattle.spv_branches.specs.Target.{is_label, is_phi, IsOp}
+use Rattle.spv_branches.specs.inner.Target.{is_function, is_terminator}
 use Rattle.spv_branches.specs.Walk.{Next, IsWalk, IsResultAmong, IsLastLabel}
 use Rattle.spv_branches.specs.Ready.{ComesFrom}
 use Rattle.spv_branches.proofs.Firsts.{known}

@@ -12,7 +12,8 @@ use Rattle.spv_layout.specs.Rows.{rows, class_of}
 use Rattle.spv_layout.specs.Layout.{classes}
 use Rattle.spv_layout.specs.Place.{IsAt, IsOfFunction, IsOfSection, section_of, terminators}
 use Rattle.spv_ids.specs.Order.{IsScoped}
-use Rattle.spv_branches.specs.Target.{is_function, is_label, is_branch, is_terminator, IsOp}
+use Rattle.spv_branches.specs.Target.{is_label, is_branch, IsOp}
+use Rattle.spv_branches.specs.inner.Target.{is_function, is_terminator}
 use Rattle.spv_branches.proofs.Firsts.{holds}
 use Rattle.spv_walks.proofs.Ended.{class_at}
 

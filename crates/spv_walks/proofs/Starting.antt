@@ -6,7 +6,8 @@ use Rattle.std.proofs.lemmas.List.{get_or-set_same, get_or-set_other, length-app
 use Rattle.spv_module.specs.Operand.{PlainInst}
 use Rattle.spv_layout.specs.declared.class.Class.TheVariants.{Function, FunctionEnd}
 use Rattle.spv_layout.specs.Place.{IsAt, IsOfFunction}
-use Rattle.spv_branches.specs.Target.{is_function, is_phi, is_label, is_terminator, IsOp}
+use Rattle.spv_branches.specs.Target.{is_phi, is_label, IsOp}
+use Rattle.spv_branches.specs.inner.Target.{is_function, is_terminator}
 use Rattle.spv_branches.proofs.Firsts.{holds}
 use Rattle.spv_branches.proofs.Labelled.{op_tells, op_holds}
 use Rattle.std.proofs.lemmas.List.{length-map}

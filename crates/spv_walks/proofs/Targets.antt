@@ -9,7 +9,8 @@ use Rattle.spv_table.specs.Table.{Table}
 use Rattle.spv_module.specs.Operand.{PlainInst}
 use Rattle.spv_availability.specs.declared.graph.Block.{Block}
 use Rattle.spv_availability.specs.declared.graph.Graph.{Graph}
-use Rattle.spv_branches.specs.Target.{is_branch, is_terminator, IsOp}
+use Rattle.spv_branches.specs.Target.{is_branch, IsOp}
+use Rattle.spv_branches.specs.inner.Target.{is_terminator}
 use Rattle.spv_branches.specs.Walk.{Next}
 use Rattle.spv_walks.specs.declared.code.Code.{Code}
 use Rattle.spv_walks.specs.inner.Code.{insts_of, IsCode}

@@ -12,7 +12,8 @@ use Rattle.spv_module.specs.declared.fault.Stop.TheVariants.{Fault, Memory}
 use Rattle.spv_layout.specs.First.{stage_of, rank_of, IsFirst, IsUnbroken}
 use Rattle.spv_layout.specs.Place.{first_word_of, IsOfFunction}
 use Rattle.spv_ids.specs.inner.Outcome.{IsStopAt}
-use Rattle.spv_branches.specs.Target.{is_phi, is_function, IsOp}
+use Rattle.spv_branches.specs.Target.{is_phi, IsOp}
+use Rattle.spv_branches.specs.inner.Target.{is_function}
 use Rattle.spv_branches.specs.Walk.{IsWalk}
 use Rattle.spv_branches.specs.Broken.{Broken}
 use Rattle.spv_branches.proofs.Firsts.{holds}

@@ -2,6 +2,7 @@
 
 ghost use Rattle.std.specs.Prelude.{◌≡◌, ◌&&◌, nat_le, is_some};
 ghost use Rattle.spv_branches.specs.Target as target;
+ghost use Rattle.spv_branches.specs.inner.Target as opcodes;
 ghost use Rattle.spv_module.specs.Module.{plain_operands};
 ghost use Rattle.spv_module.specs.Operand as operand;
 
@@ -132,7 +133,7 @@ pub fn is_label_or_branch(opcode: u16) -> bool
 
 /// Whether an opcode is that of a terminator: a branch, OpReturn, OpReturnValue or OpUnreachable.
 pub fn is_terminator(opcode: u16) -> bool
-    ensures { result ≡ target.is_terminator opcode }
+    ensures { result ≡ opcodes.is_terminator opcode }
 {
     is_branch(opcode) || (253 <= opcode && opcode <= 255)
 }

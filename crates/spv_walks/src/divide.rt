@@ -5,6 +5,7 @@ ghost use Rattle.spv_table.specs.Table.{Table};
 ghost use Rattle.spv_module.specs.Module.{plain_inst};
 ghost use Rattle.spv_branches.specs.Target.{IsOp};
 ghost use Rattle.spv_branches.specs.Target as target;
+ghost use Rattle.spv_branches.specs.inner.Target as opcodes;
 ghost use Rattle.spv_walks.specs.inner.Code.{insts_of, IsCode};
 ghost use Rattle.spv_walks.specs.inner.Divided.{IsBegin};
 ghost use Rattle.spv_walks.specs.inner.Starts.{IsExtent, IsLaid};
@@ -25,7 +26,7 @@ pub struct Extent {
 /// How far the function of an OpFunction goes: to its OpFunctionEnd.
 pub fn function_extent(code: &Code<'_, '_>, function: u32) -> Extent
     requires code { (G : Table) × IsCode G code.now }
-    requires function { IsOp (insts_of code.now) function target.is_function }
+    requires function { IsOp (insts_of code.now) function opcodes.is_function }
     ensures extent { IsExtent (insts_of code.now) function result.end }
     ensures phis { result.has_phis ≡ false → (n : ℕ) → function ≤ n → n < result.end
         → ¬ (IsOp (insts_of code.now) n target.is_phi) }

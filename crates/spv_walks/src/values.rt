@@ -11,7 +11,7 @@ ghost use Rattle.spv_ids.specs.Outcome.{AreIds};
 ghost use Rattle.spv_ids.specs.inner.Outcome.{IsStopAt};
 ghost use Rattle.spv_branches.specs.Broken.{Broken};
 ghost use Rattle.spv_branches.specs.Target.{IsOp};
-ghost use Rattle.spv_branches.specs.Target as target;
+ghost use Rattle.spv_branches.specs.inner.Target as opcodes;
 ghost use Rattle.spv_walks.specs.inner.Code.{insts_of, IsCode};
 ghost use Rattle.spv_walks.specs.Found.{IsRefusal};
 ghost use Rattle.spv_walks.specs.inner.Unavailable.{IsFirstOf, IsRuleAt};
@@ -27,7 +27,7 @@ use std::alloc::{AllocError, Global};
 /// How many instructions stand before the first OpFunction.
 pub fn count_globals(insts: &[Inst<'_>]) -> u32
     requires { length insts.now ≤ 4194304 }
-    ensures { (k : ℕ) → k < result → ¬ (IsOp (map plain_inst insts.now) k target.is_function) }
+    ensures { (k : ℕ) → k < result → ¬ (IsOp (map plain_inst insts.now) k opcodes.is_function) }
 {
     for at in 0..insts.len() {
         if insts[at].opcode == FUNCTION {

@@ -10,7 +10,7 @@ use Rattle.spv_words.specs.declared.words.WordError.TheVariants as code
 abbrev pub magic_number : ℕ
 magic_number = 119734787
 
--- 0x00010600, for version 1.6. [2.3]
+-- 0x00010600, for version 1.6; that it is this one alone is own. [2.3; own]
 abbrev pub version_number : ℕ
 version_number = 67072
 
@@ -22,7 +22,8 @@ greatest_bound = 4194303
 abbrev pub greatest_size : ℕ
 greatest_size = 16777216
 
--- The words begin with a header: the magic number, the version, any generator, a bound that fits, and 0. [2.3]
+-- The words begin with a header: the magic number, the version, any generator, a bound that fits, and 0.
+-- [2.3; the version and the greatest bound own]
 pub record IsHeader (words : List ℕ) : Type 0 where
   pub five : 5 ≤ length words
   pub magic : slice_index words 0 ≡ magic_number
@@ -42,7 +43,7 @@ pub record StandInOrder (o : Order) (bytes words : List ℕ) : Type 0 where
   pub stands : StandFor o bytes words
   pub magic : slice_index words 0 ≡ magic_number
 
--- What each code asks of a module's bytes. W1 and W9 ask nothing of them. [2.3; W7 and W8 own]
+-- What each code asks of a module's bytes. W1 and W9 ask nothing of them. [2.3; W5, W7 and W8 own]
 abbrev pub BytesKeep : WordError → List ℕ → Type 0
 BytesKeep code.W1 bytes = Unit {0}
 BytesKeep code.W2 bytes = 20 ≤ length bytes

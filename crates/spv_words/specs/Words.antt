@@ -18,7 +18,7 @@ pub record StandFor (o : Order) (bytes words : List ℕ) : Type 0 where
       (slice_index bytes (4 * k + 2)) (slice_index bytes (4 * k + 3))
 
 -- The words of the whole groups of four bytes: where there are only such, the bytes stand for them (`words_stand`).
--- (Own.)
+-- [own]
 abbrev pub words_of : Order → List ℕ → List ℕ
 words_of o (a ∷ b ∷ c ∷ d ∷ rest) = word_of o a b c d ∷ words_of o rest
 words_of o _ = []

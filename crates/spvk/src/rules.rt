@@ -163,10 +163,10 @@ fn module_sentence(code: u32) -> Option<&'static [u8]>
         402 => Some(b"An id is the result of one instruction only. [2.16]\0"),
         403 => Some(b"An id that is used is the result of some instruction. [2.16]\0"),
         404 => Some(
-            b"Outside functions an id is used after the instruction whose result it is. [2.4]\0",
+            b"Among types, constants and variables outside functions, and in the first debug section, an id is used after the instruction whose result it is, a forward pointer aside. [2.4]\0",
         ),
         405 => Some(
-            b"An id that is defined in a function is used in that function alone. [2.16]\0",
+            b"An id that is defined in a function is used in that function alone, names and decorations aside. [2.16]\0",
         ),
         501 => Some(
             b"An id is used in the role that it has: type, value, function, string, instruction set or global variable. [2.16; own]\0",

@@ -11,7 +11,8 @@ use Rattle.spv_layout.specs.declared.form.Role.TheVariants.{Label}
 use Rattle.spv_layout.specs.First.{stage_of, rank_of}
 use Rattle.spv_ids.specs.Definition.{IsDefinedAt, IsUsedAt}
 use Rattle.spv_branches.specs.Broken.{Broken}
-use Rattle.spv_branches.specs.Target.{is_label, is_function, IsOp, LeadsToBlock, IsEntryLabel, IsLabelOf, IsParentAt}
+use Rattle.spv_branches.specs.Target.{is_label, IsOp, LeadsToBlock, IsEntryLabel, IsLabelOf, IsParentAt}
+use Rattle.spv_branches.specs.inner.Target.{is_function}
 use Rattle.spv_branches.specs.inner.Edges.{HasEdge, marked}
 
 -- the edges got those of one instruction more

@@ -8,7 +8,11 @@ use Rattle.spv_layout.specs.Layout.{classes}
 use Rattle.spv_layout.specs.Place.{IsOfFunction, IsDefinition, section_of}
 use Rattle.spv_layout.specs.Plan.{IsPlaceOf}
 use Rattle.spv_calls.specs.declared.graph.Call.{Call}
-use Rattle.spv_calls.specs.Calls.{entry_point, function_call, IsCall, IsEntryFunction}
+use Rattle.spv_calls.specs.Calls.{entry_point, IsCall, IsEntryFunction}
+
+-- the opcode of OpFunctionCall [3.49.9]
+abbrev pub function_call : ℕ
+function_call = 57
 
 -- the id that an operand is, if it is one other than a type or a result
 abbrev pub id_in : Option Plain → Option ℕ

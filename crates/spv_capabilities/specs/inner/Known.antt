@@ -11,7 +11,8 @@ use Rattle.spv_capabilities.specs.declared.memo.Memo.{Memo}
 use Rattle.spv_table.specs.Table.{Table}
 use Rattle.spv_module.specs.Operand.{PlainInst}
 use Rattle.spv_capabilities.specs.inner.Subject.{Subject}
-use Rattle.spv_capabilities.specs.Capable.{IsCoveredEntry, IsCoveredValue, IsCoveredMask, IsCoveredOperand}
+use Rattle.spv_capabilities.specs.Capable.{IsCoveredValue, IsCoveredMask, IsCoveredOperand}
+use Rattle.spv_capabilities.specs.Asked.{IsCoveredEntry}
 
 -- The answer is that of the question, if it is known.
 abbrev pub IsAnswer : Answer → Type 0 → Type 0

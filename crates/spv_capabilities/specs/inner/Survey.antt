@@ -13,7 +13,8 @@ use Rattle.spv_ids.specs.Order.{HasOpcode}
 use Rattle.spv_ids.specs.Outcome.{IsDefinitionOf, definition_in}
 use Rattle.spv_capabilities.specs.declared.gather.Gathered.{Gathered}
 use Rattle.spv_capabilities.specs.declared.surveyed.Survey.TheInside.{Inside}
-use Rattle.spv_capabilities.specs.Capable.{Has, declared_by}
+use Rattle.spv_capabilities.specs.Capable.{Has}
+use Rattle.spv_capabilities.specs.inner.Capable.{declared_by}
 use Rattle.spv_capabilities.specs.Entry.{called_by, entered_by, imported_by}
 
 -- Some instruction before number `to` names, in this way, the id that instruction f defines.

@@ -3,7 +3,14 @@ use Rattle.std.specs.Prelude.{ℕ, Option, Some, None, Bool, false, not, ◌&&�
 use Rattle.std.specs.Prelude.{if◌then◌else◌, slice_get}
 use Rattle.std.specs.Option.{is_some}
 use Rattle.spv_module.specs.Operand.{Plain, PlainInst, Id}
-use Rattle.spv_ids.specs.Order.{type_struct, type_forward_pointer}
+
+-- the opcode of OpTypeStruct [3.49.6]
+abbrev pub type_struct : ℕ
+type_struct = 30
+
+-- the opcode of OpTypeForwardPointer [3.49.6]
+abbrev pub type_forward_pointer : ℕ
+type_forward_pointer = 39
 
 -- whether a definition is lower
 abbrev pub lower_test : Option ℕ → ℕ → Bool

@@ -1,6 +1,6 @@
 -- Which operands an instruction of the profile has, and what their ids are used as. (The table of shapes, own; roles as
 -- in [2.16].) (For the code alone.)
-use Rattle.std.specs.Prelude.{List, []}
+use Rattle.std.specs.Prelude.{List}
 use Rattle.spv_table.specs.Table.{Table}
 use Rattle.spv_module.specs.Operand.{Plain}
 use Rattle.spv_layout.specs.declared.form.Form.{Form}

@@ -10,8 +10,10 @@ use Rattle.spv_layout.specs.declared.class.Class.TheVariants.{Switch, Return, Lo
 use Rattle.spv_layout.specs.declared.state.State.{State}
 use Rattle.spv_layout.specs.declared.state.State.TheVariants as at
 use Rattle.spv_layout.specs.Expression.{Expression, one_of, ◌then◌, ◌or◌, many, one, any, SpellsClasses}
-use Rattle.spv_layout.specs.Layout.{sections_1_to_8, sections_9_to_11, body, ending, other_block, declaration}
-use Rattle.spv_layout.specs.Layout.{definition, is_merge, is_line, without_lines}
+use Rattle.spv_layout.specs.Layout.{sections_1_to_8, sections_9_to_11, body, ending, declaration}
+use Rattle.spv_layout.specs.inner.Layout.{other_block}
+use Rattle.spv_layout.specs.Layout.{definition}
+use Rattle.spv_layout.specs.inner.Layout.{is_merge, is_line, without_lines}
 
 -- the rest of a definition after a block, and after its first parameters
 abbrev pub after_block : Expression

@@ -3,7 +3,7 @@ use Rattle.std.specs.Prelude.{ℕ, List, [], ◌∷◌, Option, Some, None, nat_
 use Rattle.std.specs.Prelude.{◌-◌, if◌then◌else◌, option_and_then}
 use Rattle.spv_module.specs.Operand.{PlainInst}
 use Rattle.spv_module.specs.Width.{type_of}
-use Rattle.spv_ops.specs.Composite.{share_of}
+use Rattle.spv_ops.specs.inner.Composite.{share_of}
 
 -- how many of n components are left after those that the value of an id gives, and after those of several
 abbrev pub left_of : List PlainInst → ℕ → ℕ → ℕ → Option ℕ

@@ -1,15 +1,20 @@
 -- What the fast way through a line's operands keeps and answers. (For the code alone.)
-use Rattle.std.specs.Prelude.{◌≡◌, ◌++◌, ◌∷◌, ℕ, List, Option, None, true, map, Result, IfOk, IfSome}
+use Rattle.std.specs.Prelude.{◌≡◌, ◌≤◌, ◌++◌, ◌∷◌, ℕ, List, Option, Some, None, true, false}
+use Rattle.std.specs.Prelude.{map, option_and_then, Result, IfOk, IfSome}
 use Rattle.std.specs.declared.alloc.AllocError.{AllocError}
 use Rattle.spv_table.specs.declared.table.Item.{Item}
 use Rattle.spv_table.specs.Table.{Table, kind_of}
+use Rattle.spv_inst.specs.declared.definitions.Definitions.{Definitions}
 use Rattle.spv_inst.specs.declared.form.Leaf as declared
 use Rattle.spv_inst.specs.declared.form.Form.TheVariants.{Leaf}
 use Rattle.spv_inst.specs.inner.Form.{form_at}
+use Rattle.spv_inst.specs.inner.Known.{Knows}
 use Rattle.spv_inst.specs.inner.Pending.{settled, due_first, items_of}
 use Rattle.spv_module.specs.Operand.{Plain, PlainInst, Context, result_in, type_in}
 use Rattle.spv_module.specs.Shape.{Slot, alone}
+use Rattle.spv_module.specs.Width.{width_of}
 use Rattle.spv_inst.specs.Flat.{Due, OneOf, due}
+use Rattle.spv_lines.specs.Operand.{is_float_type}
 use Rattle.spv_parser.specs.declared.fast.Start.{Start}
 use Rattle.spv_parser.specs.declared.fast.Taken.{Taken}
 use Rattle.spv_parser.specs.declared.operands.Known.{Known}
@@ -36,10 +41,35 @@ pub record IsFastStep (G : Table) (line : Line) (c : Context) (s : Slot)
   pub step : IsFreeStep G line.result c s t rest next kinds old new
 
 -- What was taken for a kind, if anything was, is such an operand.
+abbrev pub Took : Table → Line → Context → ℕ → List ℕ → Result (Option Taken) AllocError
+    → List ℕ → List ℕ → Type 0
+Took G line c kind t result old new =
+    IfOk result (λ o. IfSome o (λ b. IsFastStep G line c (alone kind) t b.rest.now b.kinds.now old new))
+
+-- So it is in each line.
 abbrev pub TakesFast : Table → ℕ → List ℕ → Result (Option Taken) AllocError
     → List ℕ → List ℕ → Type 0
 TakesFast G kind t result old new = (line : Line) (c : Context) → Has line c.operands
-    → IfOk result (λ o. IfSome o (λ b. IsFastStep G line c (alone kind) t b.rest.now b.kinds.now old new))
+    → Took G line c kind t result old new
+
+-- An id is that of a type of at most 32 bits that is no float: its numbers are one word, and stand in decimal.
+pub record IsNarrow (before : List PlainInst) (type_id : Option ℕ) : Type 0 where
+  pub width : ℕ
+  pub least : width ≤ 32
+  pub is : option_and_then (width_of before) type_id ≡ Some width
+  pub no_float : is_float_type before type_id ≡ false
+
+-- So it is in each line whose result type is such a type.
+abbrev pub TakesNarrow : Table → ℕ → List ℕ → Result (Option Taken) AllocError
+    → List ℕ → List ℕ → Type 0
+TakesNarrow G kind t result old new = (line : Line) (c : Context) → Has line c.operands
+    → IsNarrow c.before line.type_id → Took G line c kind t result old new
+
+-- So it is in each line with that result type after the instructions that the definitions are of.
+abbrev pub TakesTyped : Table → Definitions → Option ℕ → ℕ → List ℕ → Result (Option Taken) AllocError
+    → List ℕ → List ℕ → Type 0
+TakesTyped G d type_id kind t result old new = (line : Line) (c : Context) → Has line c.operands
+    → line.type_id ≡ type_id → Knows d c.before → Took G line c kind t result old new
 
 -- Some operands of a line were read, and they have what is kept of it.
 pub record FastSoFar (G : Table) (line : Line) (before : List PlainInst) (number : ℕ) (pattern : List Due)

@@ -5,7 +5,11 @@ use Rattle.spv_module.specs.Operand.{PlainInst}
 use Rattle.spv_module.specs.Module.{plain_operands}
 use Rattle.spv_type_forms.specs.declared.parts.Parts.{Parts}
 use Rattle.spv_type_forms.specs.declared.parts.Parts.TheVariants as parts
-use Rattle.spv_type_forms.specs.Parts.{count_of, id_in, part_of}
+use Rattle.spv_type_forms.specs.Parts.{count_of, id_in, members_of, part_of}
+
+-- the type of the member k of a struct type [3.49.6]
+abbrev pub member_of : List PlainInst → ℕ → ℕ → Option ℕ
+member_of is t k = option_and_then (λ ms. option_and_then id_in (slice_get ms k)) (members_of is t)
 
 -- the type of the part k, where k is below the number of parts
 abbrev pub inner_part_of : List PlainInst → ℕ → ℕ → Option ℕ

@@ -1,6 +1,6 @@
 -- Which of the rules Y2 to Y8 speak of an opcode. (For the code alone.)
 use Rattle.std.specs.Prelude.{ℕ, nat_eq, nat_le, ◌||◌, if◌then◌else◌}
-use Rattle.spv_ops.specs.Row.{is_between}
+use Rattle.spv_ops.specs.inner.Row.{is_between}
 use Rattle.spv_type_rules.specs.declared.concern.Concern.{Concern}
 use Rattle.spv_type_rules.specs.declared.concern.Concern.TheVariants.{Declaration, Constant, Function, Return, Call}
 use Rattle.spv_type_rules.specs.declared.concern.Concern.TheVariants.{Operation, Nothing}

@@ -4,7 +4,7 @@ use Rattle.std.specs.Prelude.{Vec}
 use Rattle.std.specs.Global.{Global}
 use Rattle.spv_module.specs.Operand.{PlainInst}
 use Rattle.spv_type_rules.specs.declared.repeat.Seen.{Seen}
-use Rattle.spv_type_rules.specs.Repeat.{is_declared_once}
+use Rattle.spv_type_rules.specs.inner.Repeat.{is_declared_once}
 use Rattle.spv_type_rules.specs.inner.Key.{key_of}
 
 -- instruction m declares a type that may be declared once only, and this is its key

@@ -7,7 +7,8 @@ use Rattle.spv_layout.specs.First.{IsUnbroken}
 use Rattle.spv_layout.specs.Plan.{IsPlan}
 use Rattle.spv_ids.specs.Outcome.{AreIds}
 use Rattle.spv_branches.specs.Broken.{Broken}
-use Rattle.spv_branches.specs.Target.{is_function, IsOp}
+use Rattle.spv_branches.specs.Target.{IsOp}
+use Rattle.spv_branches.specs.inner.Target.{is_function}
 use Rattle.spv_walks.specs.declared.code.Code.{Code}
 
 abbrev pub insts_of : Code → List PlainInst

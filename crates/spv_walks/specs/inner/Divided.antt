@@ -6,7 +6,8 @@ use Rattle.spv_module.specs.Operand.{PlainInst}
 use Rattle.spv_layout.specs.Place.{IsOfFunction}
 use Rattle.spv_availability.specs.declared.graph.Graph.{Graph}
 use Rattle.spv_availability.specs.Graph.{block_count, targets_of, Defines}
-use Rattle.spv_branches.specs.Target.{is_function, is_label, is_terminator, IsOp}
+use Rattle.spv_branches.specs.Target.{is_label, IsOp}
+use Rattle.spv_branches.specs.inner.Target.{is_function, is_terminator}
 use Rattle.spv_branches.specs.Walk.{Next}
 
 -- `starts` are the first instruction of each block, and at last the one after the function's last. Instruction n is of

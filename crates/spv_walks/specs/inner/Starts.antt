@@ -2,7 +2,8 @@
 use Rattle.std.specs.Prelude.{◌≡◌, ◌≤◌, ◌<◌, ◌-◌, ℕ, List, length, slice_index}
 use Rattle.spv_module.specs.Operand.{PlainInst}
 use Rattle.spv_layout.specs.Place.{IsOfFunction}
-use Rattle.spv_branches.specs.Target.{is_function, IsOp}
+use Rattle.spv_branches.specs.Target.{IsOp}
+use Rattle.spv_branches.specs.inner.Target.{is_function}
 use Rattle.spv_walks.specs.inner.Divided.{IsBegin, IsDivided}
 
 -- The function whose OpFunction is f has the instructions from f to before `end`.

@@ -7,11 +7,13 @@ use Rattle.spv_module.specs.declared.fault.Rule.TheVariants.{F2}
 use Rattle.spv_layout.specs.declared.class.Class.TheVariants.{Function, FunctionEnd, Label, Branch, BranchConditional}
 use Rattle.spv_layout.specs.Place.{IsAt, IsOfFunction, IsOfBlock, terminators}
 use Rattle.spv_layout.specs.declared.form.Role.TheVariants as role
-use Rattle.spv_layout.specs.Row.{row, v, l, W, closed, repeated}
+use Rattle.spv_layout.specs.Row.{row, v, l, closed, repeated}
+use Rattle.spv_layout.specs.inner.Row.{W}
 use Rattle.spv_layout.specs.Rows.{rows}
 use Rattle.spv_layout.specs.Shape.{AreOf, Ends, HasForms, IsUse}
 use Rattle.spv_ids.specs.Definition.{IsDefinedAt, IsUsedAt}
-use Rattle.spv_branches.specs.Target.{is_function, IsOp, IsLabelOf, IsTarget, LeadsToBlock, IsEntryLabel}
+use Rattle.spv_branches.specs.Target.{IsOp, IsLabelOf, IsTarget, LeadsToBlock, IsEntryLabel}
+use Rattle.spv_branches.specs.inner.Target.{is_function}
 use Rattle.spv_branches.specs.Walk.{Next, IsWalk, IsResultAmong, IsLastLabel}
 use Rattle.spv_branches.specs.Broken.{Broken}
 use Rattle.spv_branches.specs.Example.{branch, conditional, label, function, return_void, two_blocks}

@@ -1,6 +1,6 @@
 use Rattle.std.proofs.Common.{◌≡◌, ◌∙◌, sym, true, false}
 use Rattle.spv_layout.specs.Place.{IsDefinition}
-use Rattle.spv_capabilities.specs.Entry.{IsImported}
+use Rattle.spv_capabilities.specs.Asked.{IsImported}
 use Rattle.spv_capabilities.proofs.Sound.{not_imported_tells}
 use Rattle.spv_capabilities.proofs.entry.is_sound_linkage.Goals as goal
 

@@ -1,6 +1,6 @@
 use Rattle.std.proofs.lemmas.Bool.{iff_false}
 use Rattle.spv_layout.specs.Place.{IsDefinition}
-use Rattle.spv_capabilities.specs.Entry.{IsImported}
+use Rattle.spv_capabilities.specs.Asked.{IsImported}
 use Rattle.spv_capability_reasons.specs.Evidence.{IsUnsound}
 use Rattle.spv_capability_reasons.proofs.Calling.{not_linked}
 use Rattle.spv_capability_reasons.proofs.entry.linkage_part.Goals as goal

@@ -8,4 +8,4 @@ returns-in-Ok-Fault-clause-traced c = λ bytes order h.
 pub returns-in-Ok-clause-traced : goal.returns-in-Ok-clause-traced
 returns-in-Ok-clause-traced c = λ bytes order h.
     let checked = checked_by c.args.table.now c.args.image.now c.in-Ok-Valid.field-0 c.in-Ok-Valid.checked c.in-Ok-Valid.field-0-is c.in-Ok-Valid.ensures.verdict in
-    run_traced c.args.table.now c.args.function c.args.choices.now c.args.limit bytes c.args.image.now order c.in-Ok-Valid.checked c.in-Ok.run' h checked (c.in-Ok.ensures.each c.args.table.now checked.kept)
+    run_traced c.args.table.now c.args.function c.args.choices.now c.args.limit bytes c.args.image.now order c.in-Ok-Valid.checked c.in-Ok.run' h checked (c.in-Ok.ensures.each c.args.table.now checked.sound)

@@ -2,7 +2,7 @@ use Rattle.std.proofs.Common.{◌↔◌, drop}
 use Rattle.std.specs.List.{AllByRecursion}
 use Rattle.spv_module.specs.Module.{plain_operands}
 use Rattle.spv_type_forms.specs.Operands.{ids_in}
-use Rattle.spv_ops.specs.Variable.{IsInitializer}
+use Rattle.spv_ops.specs.inner.Variable.{IsInitializer}
 use Rattle.spv_ops.proofs.variable.are_initializers.Given as goal
 
 abbrev pub invariant-loop-operand : goal.invariant-loop-operand

@@ -29,7 +29,7 @@ pub returns-in-Some-fast-clause-read : goal.returns-in-Some-fast-clause-read
 returns-in-Some-fast-clause-read c = λ before k.
     let G = c.args.setting.now.table.now in
     let n = c.in-Some-name_in.named in
-    let a = rw c.in-Some-fast.is at (c.in_ok-fast.ensures.read before) in
+    let a = rw c.in-Some-fast.is at (c.in_ok-fast.ensures.read before k) in
     let a' = rw (c.as_slice-pattern.ensures, c.in-Some-name_in.ensures.named.1) at a in
     let f = rw c.in-Some-fast.is at c.in_ok-fast.ensures.front in
     line_read G before c.args.line.now _ _ n.opcode n.entry.now c.in-Some-fast.line.result c.in-Some-fast.line (sym c.in-Some.ensures) c.in-Some-name_in.ensures.named.0 f a'

@@ -1,4 +1,4 @@
-use Rattle.spv_reasons.proofs.Appending.{in_all}
+use Rattle.spv_fault_lines.proofs.Appending.{in_all}
 use Rattle.spv_reasons.proofs.stream.broken_told.Goals as goal
 
 pub returns-clause-lines : goal.returns-clause-lines

@@ -1,7 +1,7 @@
 use Rattle.std.proofs.Common.{◌≡◌, ◌+◌, ◌∙◌, sym, ap, map, drop}
 use Rattle.std.proofs.lemmas.List.{drop-map, take_rest}
 use Rattle.spv_module.specs.Module.{plain_inst}
-use Rattle.spv_type_rules.specs.Function.{parameters_in}
+use Rattle.spv_type_rules.specs.inner.Function.{parameters_in}
 use Rattle.spv_type_reasons.proofs.Placed.{parameter_function}
 use Rattle.spv_type_reasons.proofs.Shaped.{function_shape}
 use Rattle.spv_type_reasons.proofs.evidence.evidence_of_function.Goals as goal

@@ -1,7 +1,7 @@
 use Rattle.std.proofs.Common.{◌≡◌, ◌<◌, ◌+◌, ◌∷◌, ◌∙◌, false, sym, ap, map, drop, length, arith, nat_eq}
 use Rattle.std.specs.Prelude.{◌||◌}
 use Rattle.spv_module.specs.Module.{plain_inst}
-use Rattle.spv_type_rules.specs.Function.{parameters_in}
+use Rattle.spv_type_rules.specs.inner.Function.{parameters_in}
 use Rattle.spv_type_rules.proofs.Counting.{step_counts, step_passes, item_front}
 use Rattle.spv_type_rules.proofs.function.count_parameters.Goals.{then-inst-eq-PARAMETER, else-inst-eq-PARAMETER}
 use Rattle.spv_type_rules.proofs.function.count_parameters.Goals as goal

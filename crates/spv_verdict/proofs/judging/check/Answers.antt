@@ -19,11 +19,11 @@ returns-in-Err-clause-exactly c = λ bytes order h.
 
 pub returns-in-Ok-sound-clause-verdict : goal.returns-in-Ok-sound-clause-verdict
 returns-in-Ok-sound-clause-verdict c =
-    checked_of c.args.table.now c.args.image.now c.in-Ok.module c.in-Ok-sound.checked c.in-Ok-sound.ensures.whole c.in-Ok.ensures.found c.in-Ok.ensures.header c.in-Ok-sound.ensures.kept c.in-Ok-sound.ensures.sound
+    checked_of c.args.table.now c.args.image.now c.in-Ok.module c.in-Ok-sound.checked c.in-Ok-sound.ensures.whole c.in-Ok.ensures.found c.in-Ok.ensures.header c.in-Ok-sound.ensures.sound
 
 pub returns-in-Ok-sound-clause-exactly : goal.returns-in-Ok-sound-clause-exactly
 returns-in-Ok-sound-clause-exactly c = λ bytes order h.
-    let a = checked_of c.args.table.now c.args.image.now c.in-Ok.module c.in-Ok-sound.checked c.in-Ok-sound.ensures.whole c.in-Ok.ensures.found c.in-Ok.ensures.header c.in-Ok-sound.ensures.kept c.in-Ok-sound.ensures.sound in
+    let a = checked_of c.args.table.now c.args.image.now c.in-Ok.module c.in-Ok-sound.checked c.in-Ok-sound.ensures.whole c.in-Ok.ensures.found c.in-Ok.ensures.header c.in-Ok-sound.ensures.sound in
     (λ t. valid_of c.args.table.now bytes c.args.image.now order c.in-Ok-sound.checked h a, λ v. tt)
 
 pub returns-in-Err-sound-clause-verdict : goal.returns-in-Err-sound-clause-verdict

@@ -32,18 +32,24 @@ returns-clause-trace c =
     (each_run G p ids c.args.function c.args.choices.now c.args.limit c.trace_function.result a.kept (numbered G p.bound p.insts ids a.numbered) told)
 
 pub returns-clause-each : goal.returns-clause-each
-returns-clause-each c = λ G kept.
+returns-clause-each c = λ G sound.
     let p = c.args.checked.now in
+    let few = c.parts-parts.ensures.some.1.kept.few in
+    let kept = (c.kept_exactly.ensures G p few).0 sound in
     let a = c.parts-parts.ensures.each G kept in
     let ids = c.parts-parts.result.ids.now in
     let same : map plain_inst c.as_slice.result.now ≡ p.insts = ap (map plain_inst) c.as_slice.ensures.value ∙ a.insts in
     let told = subst (λ (is : List PlainInst). IfOk c.trace_function.result (λ t. IsTraced is ids c.args.function c.args.choices.now c.args.limit t)) same c.trace_function.ensures.trace in
     each_run G p ids c.args.function c.args.choices.now c.args.limit c.trace_function.result kept (numbered G p.bound p.insts ids a.numbered) told
 
-pub returns-clause-kept : goal.returns-clause-kept
-returns-clause-kept c = (c.parts-parts.ensures.some.0, c.parts-parts.ensures.some.1.kept)
+pub returns-clause-sound : goal.returns-clause-sound
+returns-clause-sound c =
+    let kept = c.parts-parts.ensures.some.1.kept in
+    (c.parts-parts.ensures.some.0, (c.kept_exactly.ensures c.parts-parts.ensures.some.0 c.args.checked.now kept.few).1 kept)
 
 pub returns-clause-free : goal.returns-clause-free
-returns-clause-free c = λ G kept g entry xs.
+returns-clause-free c = λ G sound g entry xs.
     let p = c.args.checked.now in
+    let few = c.parts-parts.ensures.some.1.kept.few in
+    let kept = (c.kept_exactly.ensures G p few).0 sound in
     never_gets_stuck G p.insts (checked G p.bound p.insts (sound_run G p kept)) g entry xs

@@ -1,7 +1,7 @@
 use Rattle.std.proofs.Common.{ℕ, length, get_or, eq-eqb, arith}
 use Rattle.std.proofs.lemmas.List.{length-map}
 use Rattle.spv_module.specs.Module.{plain_inst}
-use Rattle.spv_branches.specs.Target.{is_function}
+use Rattle.spv_branches.specs.inner.Target.{is_function}
 use Rattle.spv_branches.proofs.Labelled.{inst_get, op_holds}
 use Rattle.spv_walks.specs.inner.Code.{insts_of}
 use Rattle.spv_walks.proofs.Starting.{open_start, open_more, extent_ended, extent_before, extent_last, unmarked_start, unmarked_more}

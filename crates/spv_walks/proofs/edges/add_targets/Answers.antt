@@ -4,7 +4,8 @@ use Rattle.std.proofs.lemmas.List.{length-map}
 use Rattle.std.proofs.lemmas.Result.{on_ok_weaker}
 use Rattle.spv_table.specs.Table.{Table}
 use Rattle.spv_module.specs.Module.{plain_inst}
-use Rattle.spv_branches.specs.Target.{is_branch, is_terminator, IsOp}
+use Rattle.spv_branches.specs.Target.{is_branch, IsOp}
+use Rattle.spv_branches.specs.inner.Target.{is_terminator}
 use Rattle.spv_branches.proofs.Labelled.{inst_get, op_tells, op_holds}
 use Rattle.spv_walks.specs.inner.Adds.{AddsBy}
 use Rattle.spv_walks.specs.inner.Code.{insts_of}

@@ -1,5 +1,6 @@
 use Rattle.std.proofs.Common.{◌≡◌, ℕ, refl, inl, inr, true, false, subst, arith}
-use Rattle.spv_branches.specs.Target.{is_terminator, IsOp}
+use Rattle.spv_branches.specs.Target.{IsOp}
+use Rattle.spv_branches.specs.inner.Target.{is_terminator}
 use Rattle.spv_branches.specs.Example.{two_blocks}
 use Rattle.spv_walks.proofs.laws.block_examples.Goals as goal
 

@@ -1,6 +1,7 @@
 use Rattle.std.proofs.Common.{ℕ, ◌<◌, map}
 use Rattle.spv_module.specs.Module.{plain_inst}
-use Rattle.spv_branches.specs.Target.{is_function, IsOp}
+use Rattle.spv_branches.specs.Target.{IsOp}
+use Rattle.spv_branches.specs.inner.Target.{is_function}
 use Rattle.spv_walks.proofs.values.count_globals.Given as goal
 
 abbrev pub invariant-loop-at : goal.invariant-loop-at

@@ -2,7 +2,7 @@ use Rattle.std.proofs.Common.{ℕ, Option, get_or, eq-eqb, subst, arith}
 use Rattle.std.proofs.lemmas.List.{length-map}
 use Rattle.spv_table.specs.Table.{Table}
 use Rattle.spv_module.specs.Module.{plain_inst}
-use Rattle.spv_branches.specs.Target.{is_function}
+use Rattle.spv_branches.specs.inner.Target.{is_function}
 use Rattle.spv_branches.proofs.Labelled.{inst_get, op_holds}
 use Rattle.spv_walks.specs.inner.Code.{insts_of, IsCode}
 use Rattle.spv_walks.specs.inner.Unavailable.{IsFirstIn}

@@ -1,4 +1,5 @@
-use Rattle.spv_capabilities.specs.Capable.{IsCoveredEntry, IsCoveredValue}
+use Rattle.spv_capabilities.specs.Capable.{IsCoveredValue}
+use Rattle.spv_capabilities.specs.Asked.{IsCoveredEntry}
 use Rattle.spv_capabilities.proofs.Knowing.{unknown_all, no_pairs}
 use Rattle.spv_capabilities.proofs.Bits.{no_mask}
 use Rattle.spv_capabilities.proofs.memo.Memo.new.Goals as goal

@@ -1,7 +1,8 @@
 use Rattle.std.proofs.Common.{◌↔◌, sym, subst, map, length, List, Bool, IsTrue}
 use Rattle.spv_module.specs.Module.{plain_inst}
 use Rattle.spv_capabilities.specs.inner.Subject.{Subject}
-use Rattle.spv_capabilities.specs.Entry.{called_by, IsCalled}
+use Rattle.spv_capabilities.specs.Entry.{called_by}
+use Rattle.spv_capabilities.specs.inner.Entry.{IsCalled}
 use Rattle.spv_capabilities.specs.inner.Survey.{AreMarked}
 use Rattle.spv_capabilities.proofs.surveyed.Survey.is_called.Goals as goal
 

@@ -1,7 +1,8 @@
 use Rattle.std.proofs.Common.{◌↔◌, sym, subst, map, length, List, Bool, IsTrue}
 use Rattle.spv_module.specs.Module.{plain_inst}
 use Rattle.spv_capabilities.specs.inner.Subject.{Subject}
-use Rattle.spv_capabilities.specs.Entry.{entered_by, IsEntered}
+use Rattle.spv_capabilities.specs.Entry.{entered_by}
+use Rattle.spv_capabilities.specs.inner.Entry.{IsEntered}
 use Rattle.spv_capabilities.specs.inner.Survey.{AreMarked}
 use Rattle.spv_capabilities.proofs.surveyed.Survey.is_entered.Goals as goal
 

@@ -2,7 +2,8 @@ use Rattle.std.proofs.Common.{◌↔◌, sym, subst, map, length, List, Bool, Is
 use Rattle.spv_table.specs.Lookups.{number_named}
 use Rattle.spv_module.specs.Module.{plain_inst}
 use Rattle.spv_capabilities.specs.inner.Subject.{Subject}
-use Rattle.spv_capabilities.specs.Entry.{imported_by, IsImported}
+use Rattle.spv_capabilities.specs.Entry.{imported_by}
+use Rattle.spv_capabilities.specs.Asked.{IsImported}
 use Rattle.spv_capabilities.specs.inner.Survey.{AreMarked}
 use Rattle.spv_capabilities.proofs.surveyed.Survey.is_imported.Goals as goal
 

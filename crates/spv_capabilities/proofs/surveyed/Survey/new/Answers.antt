@@ -4,7 +4,7 @@ use Rattle.std.specs.BTreeSet.{contains}
 use Rattle.std.proofs.Math.Seq.{take-length}
 use Rattle.spv_table.specs.Implied.{Implied}
 use Rattle.spv_module.specs.Module.{plain_inst}
-use Rattle.spv_capabilities.specs.Capable.{declared_by}
+use Rattle.spv_capabilities.specs.inner.Capable.{declared_by}
 use Rattle.spv_capabilities.specs.inner.Survey.{AreGathered}
 use Rattle.spv_capabilities.proofs.surveyed.Survey.new.Goals as goal
 

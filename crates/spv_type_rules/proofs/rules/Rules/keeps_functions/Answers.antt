@@ -2,7 +2,7 @@ use Rattle.std.proofs.Common.{◌≡◌, ◌+◌, sym, ap, map, drop, ◌∙◌}
 use Rattle.std.proofs.lemmas.List.{drop-map, take_rest}
 use Rattle.std.proofs.lemmas.Option.{slice_get_within}
 use Rattle.spv_module.specs.Module.{plain_inst}
-use Rattle.spv_type_rules.specs.Function.{parameters_in}
+use Rattle.spv_type_rules.specs.inner.Function.{parameters_in}
 use Rattle.spv_type_rules.proofs.rules.Rules.keeps_functions.Goals as goal
 
 pub is_sound_function-requires : goal.is_sound_function-requires

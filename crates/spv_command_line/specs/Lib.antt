@@ -1,0 +1,3 @@
+pub mod CommandLine
+pub mod Number
+pub mod inner

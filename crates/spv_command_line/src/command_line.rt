@@ -1,0 +1,645 @@
+//! The words of the command line, read by `clap`.
+ghost use Rattle.std.specs.Prelude.{◌≡◌, ◌≤◌, ◌↔◌, ◌∷◌, ℕ, List, [], false, codes, IfOk};
+ghost use Rattle.std.specs.Prelude.{IsTrue, MatchOption, map, option_map, Option, Some, length};
+ghost use Rattle.std.specs.Str.{bytes_eq};
+ghost use Rattle.clap.specs.Words.{Row, Text, app_of, first_of, found_of, rows_of, rule_of, shape_of};
+ghost use Rattle.clap.specs.Words.{subcommand_rows_of};
+ghost use Rattle.clap.specs.declared.builder.command.Command.TheViews.{out-Command};
+ghost use Rattle.spv_command_line.specs.declared.command_line.Command.{Command};
+ghost use Rattle.spv_command_line.specs.CommandLine.{Answers, AnswersTo, IsAsked, IsCommandOf, asm_command};
+ghost use Rattle.spv_command_line.specs.CommandLine.{error_of, file_command, file_word, files_word, grammar_option};
+ghost use Rattle.spv_command_line.specs.CommandLine.{bare_program, inputs_among, judging_program, module_program};
+ghost use Rattle.spv_command_line.specs.CommandLine.{number_option, program, rules_command, task_name, trace_command};
+ghost use Rattle.spv_command_line.specs.inner.CommandLine.{IsAsmOf, IsRulesOf, IsTraceOf};
+ghost use Rattle.spv_command_line.specs.Number.{AreNumbersOf, IsNumberOf};
+
+use crate::manual;
+use crate::number::{number_in, numbers_in};
+use clap::error::ErrorKind;
+use clap::{Arg, ArgAction, ArgMatches};
+use spv_rules::Code;
+use std::alloc::{AllocError, Global};
+use thiserror::Error;
+
+/// What is done with each of several modules.
+#[derive(Clone, Copy, Debug, PartialEq, Eq)]
+pub enum Task {
+    /// The verdict on it, as `spv check`.
+    Check,
+    /// The verdict on it and what explains it, as `spv explain`.
+    Explain,
+}
+
+/// What the program is asked to do.
+#[derive(Debug, Drop, PartialEq, Eq)]
+pub enum Command<'a> {
+    /// `spv check --grammar G FILE`: the verdict on a module.
+    Check {
+        /// The path of the grammar file.
+        grammar: &'a str,
+        /// The path of the module.
+        file: &'a str,
+    },
+    /// `spv explain --grammar G FILE`: the verdict on a module, and what explains it.
+    Explain {
+        /// The path of the grammar file.
+        grammar: &'a str,
+        /// The path of the module.
+        file: &'a str,
+    },
+    /// `spv show --grammar G FILE`: the text of a module.
+    Show {
+        /// The path of the grammar file.
+        grammar: &'a str,
+        /// The path of the module.
+        file: &'a str,
+    },
+    /// `spv asm --grammar G --out OUT [--big] FILE`: the module of a text.
+    Asm {
+        /// The path of the grammar file.
+        grammar: &'a str,
+        /// The path of the text.
+        file: &'a str,
+        /// The path of the module that is made.
+        out: &'a str,
+        /// Whether the bytes of its words stand from the highest to the lowest.
+        big: bool,
+    },
+    /// `spv trace --grammar G --function ID [--choices 0,1] --limit N FILE`: the run of an entry point's function.
+    Trace {
+        /// The path of the grammar file.
+        grammar: &'a str,
+        /// The path of the module.
+        file: &'a str,
+        /// The id of the function, as an OpEntryPoint names it.
+        function: u32,
+        /// The places of the targets that are taken, from 0: one for each branch on a condition or switch that is
+        /// executed.
+        choices: Vec<u32>,
+        /// The greatest number of steps; a step is one instruction that is executed.
+        limit: u32,
+    },
+    /// `spv rules [CODE]`: what each code of a verdict says, or one of them. No file is read.
+    Rules {
+        /// The code, if it is only one.
+        code: Option<Code>,
+    },
+    /// `spv check --grammar G FILE FILE ..`, or `spv explain`: a task on several modules, one after the other.
+    Each {
+        /// The task.
+        task: Task,
+        /// The path of the grammar file.
+        grammar: &'a str,
+        /// The paths of the modules: two or more, of which at most one is `-`, the standard input.
+        files: Vec<&'a str>,
+    },
+}
+
+/// Why the words of the command line give no command.
+#[derive(Clone, Copy, Debug, PartialEq, Eq, Error)]
+pub enum UseError {
+    /// The words fit no command.
+    #[error("the words fit no command")]
+    U1,
+    /// A growth of memory was refused.
+    #[error("out of memory")]
+    U2,
+    /// The words ask for help.
+    #[error("help is asked for")]
+    U3,
+    /// The words ask for the version.
+    #[error("the version is asked for")]
+    U4,
+}
+
+impl From<AllocError> for UseError {
+    ghost use Rattle.std.specs.Prelude.{◌≡◌};
+    ghost use Rattle.spv_command_line.specs.declared.command_line.UseError.TheVariants.{U2};
+
+    ghost from_gives = { λ _ e. e ≡ U2 };
+
+    fn from(_error: AllocError) -> UseError {
+        UseError::U2
+    }
+}
+
+/// What is said of the word for a module.
+const MODULE: &str = "The module, or `-` for the standard input";
+
+/// What is said of the words for modules.
+const MODULES: &str = "The modules, of which one may be `-` for the standard input";
+
+/// The word for one file.
+fn one_file<'a>(alloc: Global, what: &'a str) -> Arg<'a>
+    ensures rule { rule_of result ≡ file_word }
+    ensures local { result.global ≡ false }
+{
+    Arg::new(alloc, "file")
+        .value_name("FILE")
+        .required(true)
+        .help(what)
+}
+
+/// The words for one file or more.
+fn several_files<'a>(alloc: Global, what: &'a str) -> Arg<'a>
+    ensures rule { rule_of result ≡ files_word }
+    ensures local { result.global ≡ false }
+{
+    one_file(alloc, what).num_args(1..)
+}
+
+/// The option for the grammar file.
+fn grammar_file<'a>(alloc: Global) -> Arg<'a>
+    ensures rule { rule_of result ≡ grammar_option }
+    ensures local { result.global ≡ false }
+{
+    Arg::new(alloc, "grammar")
+        .long("grammar")
+        .value_name("G")
+        .help("The grammar file, in JSON; where it is left out, that of SPV_GRAMMAR")
+}
+
+/// A command of that name, which reads what this word is under a grammar file.
+fn words_with<'a>(
+    alloc: Global,
+    name: &'a str,
+    about: &'a str,
+    notes: &'a str,
+    file: Arg<'a>,
+) -> Result<clap::Command<'a>, AllocError>
+    requires { file.global ≡ false }
+    ensures shape { IfOk result (λ c. shape_of c ≡ file_command name.now (rule_of file.entry)) }
+    ensures local { IfOk result (λ c. (out-Command c).has_globals ≡ false) }
+{
+    clap::Command::new(alloc, name)
+        .about(about)
+        .after_help(notes)
+        .arg(grammar_file(alloc))?
+        .arg(file)
+}
+
+/// A command of that name, which reads a file under a grammar file.
+fn file_words<'a>(
+    alloc: Global,
+    name: &'a str,
+    about: &'a str,
+    notes: &'a str,
+    what: &'a str,
+) -> Result<clap::Command<'a>, AllocError>
+    ensures shape { IfOk result (λ c. shape_of c ≡ file_command name.now file_word) }
+    ensures local { IfOk result (λ c. (out-Command c).has_globals ≡ false) }
+{
+    let file = one_file(alloc, what);
+    words_with(alloc, name, about, notes, file)
+}
+
+/// A command of that name, which reads modules under a grammar file.
+fn each_words<'a>(
+    alloc: Global,
+    name: &'a str,
+    about: &'a str,
+    notes: &'a str,
+) -> Result<clap::Command<'a>, AllocError>
+    ensures shape { IfOk result (λ c. shape_of c ≡ file_command name.now files_word) }
+    ensures local { IfOk result (λ c. (out-Command c).has_globals ≡ false) }
+{
+    let files = several_files(alloc, MODULES);
+    words_with(alloc, name, about, notes, files)
+}
+
+/// The command that makes the module of a text.
+fn asm_words<'a>(alloc: Global) -> Result<clap::Command<'a>, AllocError>
+    ensures shape { IfOk result (λ c. shape_of c ≡ asm_command) }
+    ensures local { IfOk result (λ c. (out-Command c).has_globals ≡ false) }
+{
+    let out = Arg::new(alloc, "out")
+        .long("out")
+        .value_name("OUT")
+        .required(true)
+        .help("The module that is made, or `-` for the standard output");
+    let big = Arg::new(alloc, "big")
+        .long("big")
+        .action(ArgAction::SetTrue)
+        .help("The highest byte of a word stands first");
+    let about = "Makes the module of a text";
+    let text = "The text, or `-` for the standard input";
+    file_words(alloc, "asm", about, manual::ASM, text)?
+        .arg(out)?
+        .arg(big)
+}
+
+/// An option of numbers.
+fn number_words<'a>(
+    alloc: Global,
+    name: &'a str,
+    value: &'a str,
+    must: bool,
+    what: &'a str,
+) -> Arg<'a>
+    ensures rule { rule_of result ≡ number_option name.now must }
+    ensures local { result.global ≡ false }
+{
+    Arg::new(alloc, name)
+        .long(name)
+        .value_name(value)
+        .required(must)
+        .help(what)
+}
+
+/// The command that writes the run of a function.
+fn trace_words<'a>(alloc: Global) -> Result<clap::Command<'a>, AllocError>
+    ensures shape { IfOk result (λ c. shape_of c ≡ trace_command) }
+    ensures local { IfOk result (λ c. (out-Command c).has_globals ≡ false) }
+{
+    let about = "Writes the run of an entry point's function";
+    let id = "The id of an entry point's function";
+    let targets = "The targets that are taken, from 0, as 0,1";
+    let function = number_words(alloc, "function", "ID", true, id);
+    let choices = number_words(alloc, "choices", "LIST", false, targets);
+    let limit = number_words(alloc, "limit", "N", true, manual::LIMIT);
+    file_words(alloc, "trace", about, manual::TRACE, MODULE)?
+        .arg(function)?
+        .arg(choices)?
+        .arg(limit)
+}
+
+/// The command that writes what codes say.
+fn rules_words<'a>(alloc: Global) -> Result<clap::Command<'a>, AllocError>
+    ensures shape { IfOk result (λ c. shape_of c ≡ rules_command) }
+    ensures local { IfOk result (λ c. (out-Command c).has_globals ≡ false) }
+{
+    let code = Arg::new(alloc, "code")
+        .value_name("CODE")
+        .help("The only code of which it is written");
+    clap::Command::new(alloc, "rules")
+        .about("Writes what each code of a verdict says")
+        .after_help(manual::RULES)
+        .arg(code)
+}
+
+/// The command line of no commands yet, with the version.
+fn program_words<'a>(alloc: Global) -> clap::Command<'a>
+    ensures { app_of result ≡ bare_program }
+{
+    clap::Command::new(alloc, "spv")
+        .about("Checks, explains, shows, assembles and traces SPIR-V 1.6 kernel modules")
+        .after_help(manual::PROGRAM)
+        .version(manual::VERSION)
+        .no_binary_name(true)
+        .subcommand_required(true)
+}
+
+/// The command line of the commands that judge modules.
+fn judging_words<'a>(alloc: Global) -> Result<clap::Command<'a>, AllocError>
+    ensures { IfOk result (λ c. app_of c ≡ judging_program) }
+{
+    let judges = "Writes the verdict on a module, or on each of several";
+    let explains = "Writes the verdict on a module, or on each of several, and what explains it";
+    let check = each_words(alloc, "check", judges, manual::CHECK)?;
+    let explain = each_words(alloc, "explain", explains, manual::EXPLAIN)?;
+    program_words(alloc).subcommand(check)?.subcommand(explain)
+}
+
+/// The same with those that show a module and make one.
+fn module_words<'a>(alloc: Global) -> Result<clap::Command<'a>, AllocError>
+    ensures { IfOk result (λ c. app_of c ≡ module_program) }
+{
+    let about = "Writes the text of a module";
+    let show = file_words(alloc, "show", about, manual::SHOW, MODULE)?;
+    let asm = asm_words(alloc)?;
+    judging_words(alloc)?.subcommand(show)?.subcommand(asm)
+}
+
+/// The whole command line.
+fn all_words<'a>(alloc: Global) -> Result<clap::Command<'a>, AllocError>
+    ensures { IfOk result (λ c. app_of c ≡ program) }
+{
+    let trace = trace_words(alloc)?;
+    let rules = rules_words(alloc)?;
+    module_words(alloc)?.subcommand(trace)?.subcommand(rules)
+}
+
+/// The error for what `clap` refused.
+fn refusal(kind: ErrorKind) -> UseError
+    ensures { result ≡ error_of kind }
+{
+    match kind {
+        ErrorKind::OutOfMemory => UseError::U2,
+        ErrorKind::DisplayHelp => UseError::U3,
+        ErrorKind::DisplayVersion => UseError::U4,
+        _ => UseError::U1,
+    }
+}
+
+/// Whether a text is that of a flag that is set.
+fn is_true(text: &str) -> bool
+    ensures { IsTrue result ↔ (text.now ≡ codes "true") }
+{
+    match text {
+        "true" => true,
+        _ => false,
+    }
+}
+
+/// Whether `clap` read this flag.
+fn is_set(found: &ArgMatches<'_>, flag: &str) -> bool
+    ensures { IsTrue result ↔ (first_of flag.now (rows_of (found_of found.now)) ≡ Some (codes "true")) }
+{
+    match found.get_str(flag) {
+        Some(text) => is_true(text),
+        None => false,
+    }
+}
+
+/// The command `asm` with the texts of these, if `clap` read its own too.
+fn asm_in<'a>(found: &ArgMatches<'a>, grammar: &'a str, file: &'a str) -> Option<Command<'a>>
+    ensures { IsAsmOf (rows_of (found_of found.now)) grammar.now file.now result }
+{
+    let out = found.get_str("out")?;
+    let big = is_set(found, "big");
+    Some(Command::Asm {
+        grammar,
+        file,
+        out,
+        big,
+    })
+}
+
+/// The number of an option that must be given. None where it is not, or its text is no number of 32 bits.
+fn number_of(found: &ArgMatches<'_>, option: &str) -> Option<u32>
+    ensures { MatchOption result ((n : ℕ) → ¬ (IsNumberOf (first_of option.now (rows_of (found_of found.now))) n))
+        (λ n. IsNumberOf (first_of option.now (rows_of (found_of found.now))) n) }
+{
+    match found.get_str(option) {
+        Some(text) => number_in(text.as_bytes()),
+        None => None,
+    }
+}
+
+/// The numbers of an option that may be given. None where its text is no numbers of 32 bits joined by commas.
+fn numbers_of(
+    alloc: Global,
+    found: &ArgMatches<'_>,
+    option: &str,
+) -> Result<Option<Vec<u32>>, AllocError>
+    ensures { IfOk result (λ o. MatchOption o
+        ((ns : List ℕ) → ¬ (AreNumbersOf (first_of option.now (rows_of (found_of found.now))) ns))
+        (λ v. AreNumbersOf (first_of option.now (rows_of (found_of found.now))) v.items)) }
+{
+    match found.get_str(option) {
+        Some(text) => numbers_in(alloc, text.as_bytes()),
+        None => Ok(Some(Vec::new(alloc))),
+    }
+}
+
+/// The command `trace` with the texts of these, if its own are numbers too.
+fn trace_in<'a>(
+    alloc: Global,
+    found: &ArgMatches<'a>,
+    grammar: &'a str,
+    file: &'a str,
+) -> Result<Command<'a>, UseError>
+    ensures { IsTraceOf (rows_of (found_of found.now)) grammar.now file.now result }
+{
+    let Some(function) = number_of(found, "function") else {
+        return Err(UseError::U1);
+    };
+    let Some(limit) = number_of(found, "limit") else {
+        return Err(UseError::U1);
+    };
+    let Some(choices) = numbers_of(alloc, found, "choices")? else {
+        return Err(UseError::U1);
+    };
+    Ok(Command::Trace {
+        grammar,
+        file,
+        function,
+        choices,
+        limit,
+    })
+}
+
+/// The command `rules`, if its word is the name of a code or it has none.
+fn rules_in<'a>(found: &ArgMatches<'a>) -> Result<Command<'a>, UseError>
+    ensures { IsRulesOf (rows_of (found_of found.now)) result }
+{
+    let Some(name) = found.get_str("code") else {
+        return Ok(Command::Rules { code: None });
+    };
+    match Code::named(name) {
+        Some(code) => Ok(Command::Rules { code: Some(code) }),
+        None => Err(UseError::U1),
+    }
+}
+
+/// The command of a name that is not `rules` on one file, if it is one with all its texts.
+fn one_file_command<'a>(
+    alloc: Global,
+    name: &str,
+    found: &ArgMatches<'a>,
+    grammar: &'a str,
+    file: &'a str,
+) -> Result<Command<'a>, UseError>
+    requires { ¬ (name.now ≡ codes "rules") }
+    ensures { (environment : Option Text) → IsAsked environment
+        (Some (name.now, rows_of (found_of found.now))) name.now grammar.now (file.now ∷ [])
+        → IsCommandOf environment (Some (name.now, rows_of (found_of found.now))) result }
+{
+    match name {
+        "check" => Ok(Command::Check { grammar, file }),
+        "explain" => Ok(Command::Explain { grammar, file }),
+        "show" => Ok(Command::Show { grammar, file }),
+        "asm" => asm_in(found, grammar, file).ok_or(UseError::U1),
+        "trace" => trace_in(alloc, found, grammar, file),
+        _ => Err(UseError::U1),
+    }
+}
+
+/// The task of the command of a name, if it is one on several files.
+fn task_named(name: &str) -> Option<Task>
+    ensures { MatchOption result ((task : Task) → ¬ (name.now ≡ task_name task))
+        (λ task. name.now ≡ task_name task) }
+{
+    match name {
+        "check" => Some(Task::Check),
+        "explain" => Some(Task::Explain),
+        _ => None,
+    }
+}
+
+/// Whether a name is that of the standard input.
+fn is_input(name: &str) -> bool
+    ensures { result ≡ bytes_eq name.now (codes "-") }
+{
+    name == "-"
+}
+
+/// How many of these files are the standard input.
+fn inputs_of(files: &[&str]) -> usize
+    ensures { result ≡ inputs_among (map (λ file. file.now) files.now) }
+{
+    let mut count = 0usize;
+    for file in files {
+        if is_input(file) {
+            count += 1;
+        }
+    }
+    count
+}
+
+/// Whether these files are two or more, of which at most one is the standard input.
+fn are_several(files: &[&str]) -> bool
+    ensures { IsTrue result ↔ ((2 ≤ length files.now) × (inputs_among (map (λ file. file.now) files.now) ≤ 1)) }
+{
+    files.len() > 1 && inputs_of(files) < 2
+}
+
+/// The command of a name that is not `rules` on no file, or on several, if it is one.
+fn each_command<'a>(
+    alloc: Global,
+    name: &str,
+    grammar: &'a str,
+    files: &[&'a str],
+) -> Result<Command<'a>, UseError>
+    requires other { ¬ (name.now ≡ codes "rules") }
+    requires several { ¬ (length files.now ≡ 1) }
+    ensures { (environment : Option Text) (rows : List Row)
+        → IsAsked environment (Some (name.now, rows)) name.now grammar.now (map (λ file. file.now) files.now)
+        → IsCommandOf environment (Some (name.now, rows)) result }
+{
+    let Some(task) = task_named(name) else {
+        return Err(UseError::U1);
+    };
+    if !are_several(files) {
+        return Err(UseError::U1);
+    }
+    let files = Vec::from_slice(alloc, files)?;
+    Ok(Command::Each {
+        task,
+        grammar,
+        files,
+    })
+}
+
+/// The command of a name that is not `rules` on these files, if it is one with all its texts.
+fn command_on<'a>(
+    alloc: Global,
+    name: &str,
+    found: &ArgMatches<'a>,
+    grammar: &'a str,
+    files: &[&'a str],
+) -> Result<Command<'a>, UseError>
+    requires { ¬ (name.now ≡ codes "rules") }
+    ensures { (environment : Option Text) → IsAsked environment
+        (Some (name.now, rows_of (found_of found.now))) name.now grammar.now (map (λ file. file.now) files.now)
+        → IsCommandOf environment (Some (name.now, rows_of (found_of found.now))) result }
+{
+    if files.len() == 1 {
+        one_file_command(alloc, name, found, grammar, files[0])
+    } else {
+        each_command(alloc, name, grammar, files)
+    }
+}
+
+/// The command of a name that is not `rules`, if it is one with all its texts.
+fn file_command_in<'a>(
+    alloc: Global,
+    name: &str,
+    found: &ArgMatches<'a>,
+    environment: Option<&'a str>,
+) -> Result<Command<'a>, UseError>
+    requires { ¬ (name.now ≡ codes "rules") }
+    ensures { IsCommandOf (option_map (λ g. g.now) environment.entry)
+        (Some (name.now, rows_of (found_of found.now))) result }
+{
+    let Some(grammar) = found.get_str("grammar").or(environment) else {
+        return Err(UseError::U1);
+    };
+    let Some(files) = found.get_strs("file") else {
+        return Err(UseError::U1);
+    };
+    command_on(alloc, name, found, grammar, files)
+}
+
+/// The command that `clap` read, if it is one with all its texts.
+fn command_in<'a>(
+    alloc: Global,
+    matches: &ArgMatches<'a>,
+    environment: Option<&'a str>,
+) -> Result<Command<'a>, UseError>
+    ensures { IsCommandOf (option_map (λ g. g.now) environment.entry) (subcommand_rows_of matches.now) result }
+{
+    let Some((name, found)) = matches.subcommand() else {
+        return Err(UseError::U1);
+    };
+    match name {
+        "rules" => rules_in(found),
+        _ => file_command_in(alloc, name, found, environment),
+    }
+}
+
+/// The command that the words after the program's name give, as `arguments_in` where the environment names no grammar
+/// file.
+///
+/// # Errors
+///
+/// As `arguments_in`.
+pub fn arguments<'a>(alloc: Global, words: &'a [&'a str]) -> Result<Command<'a>, UseError>
+    ensures { AnswersTo (map (λ w. w.now) words.now) result }
+{
+    arguments_in(alloc, words, None)
+}
+
+/// The command that the words after the program's name give, where the environment names a grammar file, or none, by
+/// the surface of the program (own). The texts are lent by the words. Options may stand in any order, each once. The
+/// grammar file is that of `--grammar`, and without it that of the environment.
+///
+/// A number is one or more ASCII digits, and one of 32 bits in decimal; choices are numbers joined by commas, none
+/// where the option is not given.
+///
+/// # Errors
+///
+/// `U1`: the words fit no command, no grammar file is named where one is read, an option is given twice, `-` is two of
+/// the files, or a code is unknown. `U2`: a growth of memory was refused. `U3`: they ask for help, by `help`, `--help`
+/// or `-h`. `U4`: they ask for the version, by `--version` or `-V`.
+pub fn arguments_in<'a>(
+    alloc: Global,
+    words: &'a [&'a str],
+    environment: Option<&'a str>,
+) -> Result<Command<'a>, UseError>
+    ensures { Answers (option_map (λ g. g.now) environment.entry) (map (λ w. w.now) words.now) result }
+{
+    let program = all_words(alloc)?;
+    let matches = match program.try_get_matches_from(words) {
+        Ok(matches) => matches,
+        Err(error) => return Err(refusal(error.kind())),
+    };
+    command_in(alloc, &matches, environment)
+}
+
+/// The text that `--help` prints: the commands of the program, a line each.
+///
+/// # Errors
+///
+/// Where a growth of memory was refused; there is no other.
+pub fn help(alloc: Global) -> Result<String, AllocError> {
+    let mut program = all_words(alloc)?;
+    program.render_long_help()
+}
+
+/// The text that the words ask for where `arguments` answers U3 or U4: the help of the program or of a command, or the
+/// version. Of other words it is what is wrong with them, and of those of a command nothing.
+///
+/// # Errors
+///
+/// Where a growth of memory was refused; there is no other.
+pub fn text_asked(alloc: Global, words: &[&str]) -> Result<String, AllocError> {
+    let program = all_words(alloc)?;
+    match program.try_get_matches_from(words) {
+        Ok(_) => Ok(String::new(alloc)),
+        Err(error) => match error.kind() {
+            ErrorKind::OutOfMemory => Err(AllocError),
+            _ => format!(in alloc; "{error}"),
+        },
+    }
+}

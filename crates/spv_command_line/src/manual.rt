@@ -1,0 +1,99 @@
+//! What `help` and `--version` say besides the names of commands and options.
+
+/// What `spv --version` says behind the program's name: the version, and on a line of its own the version of SPIR-V and
+/// the toolchain that proved it.
+pub const VERSION: &str = "1.0.0\nSPIR-V 1.6, proved with rattle-kit-13f (logic dac8208d650f15bf)";
+
+/// Of the limit of `trace`.
+pub const LIMIT: &str =
+    "The greatest number of steps; the run is written once it is whole, or `error memory` alone where it does not fit";
+
+/// Behind the commands of the program.
+pub const PROGRAM: &str =
+    "A FILE `-` is the standard input. After `--` a word that begins with `-` is a FILE.
+
+Environment:
+  SPV_GRAMMAR  the grammar file where --grammar is left out
+
+Exit status:
+  0  done, and each module is valid
+  1  a fault line was written
+  2  an error: a line on the standard error tells it
+
+Example:
+  spv check --grammar spirv.core.grammar.json kernel.spv";
+
+/// Behind the options of `check`.
+pub const CHECK: &str =
+    "Writes `valid`, or the line of the first rule that the module breaks. Of several files it writes
+`FILE: VERDICT`, a line each, in order; what cannot be read is told on the standard error, and the
+next file follows.
+
+Exit status:
+  0  each module is valid
+  1  a module breaks a rule
+  2  an error: a line on the standard error tells it
+
+Example:
+  spv check --grammar spirv.core.grammar.json first.spv second.spv";
+
+/// Behind the options of `explain`.
+pub const EXPLAIN: &str =
+    "Writes the verdict as `check` does, and after it what explains it: the rule, the instruction, its
+place and what shows that it breaks the rule. Of several files each part begins with
+`FILE: VERDICT`.
+
+Exit status:
+  0  each module is valid
+  1  a module breaks a rule
+  2  an error: a line on the standard error tells it
+
+Example:
+  spv explain --grammar spirv.core.grammar.json kernel.spv";
+
+/// Behind the options of `show`.
+pub const SHOW: &str =
+    "Writes the text of the module's instructions, a line each, which `asm` makes the same module of.
+
+Exit status:
+  0  the text was written
+  1  the bytes are no list of instructions: the verdict line was written
+  2  an error: a line on the standard error tells it
+
+Example:
+  spv show --grammar spirv.core.grammar.json kernel.spv";
+
+/// Behind the options of `asm`.
+pub const ASM: &str =
+    "Makes the module of a text as `show` writes it. An OUT `-` is the standard output; the line of a
+fault then goes to the standard error.
+
+Exit status:
+  0  the module was made
+  1  the text is not that of a module: the line `fault CODE line L` was written
+  2  an error: a line on the standard error tells it
+
+Example:
+  spv asm --grammar spirv.core.grammar.json --out kernel.spv kernel.txt";
+
+/// Behind the options of `trace`.
+pub const TRACE: &str =
+    "Writes a line for each step, its depth of calls and its instruction, and last how the run ends.
+
+Exit status:
+  0  the run was written
+  1  the module is not valid: the verdict line was written
+  2  an error: a line on the standard error tells it
+
+Example:
+  spv trace --grammar spirv.core.grammar.json --function 4 --limit 100 kernel.spv";
+
+/// Behind the options of `rules`.
+pub const RULES: &str = "Reads no file.
+
+Exit status:
+  0  the text was written
+  2  an error: a line on the standard error tells it
+
+Example:
+  spv rules A1";

@@ -1,6 +1,0 @@
-use Rattle.std.proofs.Common.{[], string_bytes}
-use Rattle.spv_reasons.specs.inner.Adding.{Adds}
-use Rattle.spv_reasons.proofs.about.push_names.Given as goal
-
-abbrev pub invariant-loop-name : goal.invariant-loop-name
-invariant-loop-name l = Adds [] (string_bytes l.initial.out) (string_bytes l.out)
