@@ -10,9 +10,12 @@
  * C99 or later, C++17 or later. Link libspvk.a or libspvk.so.
  *
  * What is proved. The archive's functions, `spvk_raw_..` below, are proved: each returns, touches no memory but
- * what it is handed and what it allocates, and answers what the definitions of the library give, or want of
- * memory. Nothing checks what a C caller owes; it is said here. The functions `spvk_..` are written in this
- * header, and do nothing but test pointers for null and call those.
+ * what it is handed and what it allocates, and answers what the definitions of the library give, or that it is
+ * out of memory. Nothing checks what a C caller owes; it is said here. The functions `spvk_..` are written in this
+ * header, and do nothing but test pointers for null and call those; they are tested and not proved.
+ *
+ * What a valid module may still hold. No rule looks at the operands of OpExtInst after its number: there a valid
+ * module may name ids that are over the bound or defined nowhere. A loader that follows these ids tests them itself.
  *
  * Memory. All of it comes from malloc, realloc and free, which must be one allocator. No call keeps a pointer that
  * it is given after it has returned. Nothing is kept between calls but what grammars and buffers hold.
