@@ -1,3 +1,5 @@
 -- Definitions that serve the code alone.
+pub mod Form
 pub mod Named
 pub mod Reached
+pub mod Results

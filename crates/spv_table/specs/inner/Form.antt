@@ -4,10 +4,10 @@ use Rattle.std.specs.Prelude.{ℕ, List, Option, Some, None, bytes_eq, codes, �
 use Rattle.spv_table.specs.declared.table.Category.{Category}
 use Rattle.spv_table.specs.declared.table.Category.TheVariants as category
 use Rattle.spv_table.specs.Table.{Sort}
-use Rattle.spv_inst.specs.declared.form.Leaf as declared
-use Rattle.spv_inst.specs.declared.form.Leaf.TheVariants as leaf
-use Rattle.spv_inst.specs.declared.form.Form.{Form}
-use Rattle.spv_inst.specs.declared.form.Form.TheVariants.{Leaf, Parts}
+use Rattle.spv_table.specs.declared.form.Leaf as declared
+use Rattle.spv_table.specs.declared.form.Leaf.TheVariants as leaf
+use Rattle.spv_table.specs.declared.form.Form.{Form}
+use Rattle.spv_table.specs.declared.form.Form.TheVariants.{Leaf, Parts}
 
 abbrev pub id_leaf : List ℕ → declared.Leaf
 id_leaf name =

@@ -1,12 +1,13 @@
 ghost use Rattle.std.specs.Prelude.{◌≡◌, map, IfOk};
-ghost use Rattle.spv_table.specs.Table.{IsWhole};
-ghost use Rattle.spv_inst.specs.inner.Form.{form_of, id_leaf, literal_leaf, category_form};
+ghost use Rattle.spv_table.specs.Table.{Table, kind_of};
+ghost use Rattle.spv_table.specs.inner.Form.{form_of, form_at, id_leaf, literal_leaf, category_form};
 
-use spv_table::{Category, Kind, Table};
+use crate::sort::Sort;
+use crate::table::{Category, Kind};
 use std::alloc::{AllocError, Global};
 
 /// What a kind of one operand asks for (SPIR-V Specification 1.6, section 2.2.1).
-#[derive(Clone, Copy, Debug, PartialEq, Eq)]
+#[derive(Clone, Copy)]
 pub enum Leaf {
     /// The id of the result's type: IdResultType.
     ResultType,
@@ -31,7 +32,7 @@ pub enum Leaf {
 }
 
 /// What a kind asks for, as far as its category and name tell.
-#[derive(Clone, Copy, Debug, PartialEq, Eq)]
+#[derive(Clone, Copy)]
 pub enum Form {
     /// One operand, and after it those of its parameters.
     Leaf(Leaf),
@@ -80,20 +81,24 @@ fn form_of_kind(kind: &Kind) -> Form
     }
 }
 
-/// The form of each kind of the table, in order, so that a kind's number, from 0, is the place of its form.
-///
-/// The kinds' names are compared here once, and no more while instructions are read or written. An `AllocError` comes
-/// only where a growth of memory was refused.
-pub fn forms_of(alloc: Global, table: &Table) -> Result<Vec<Form>, AllocError>
-    ensures forms { IfOk result (λ v. v.items ≡ map form_of table.now.kinds) }
-    ensures whole { IsWhole table.now }
+/// The form of each kind, in order.
+pub(crate) fn forms_of(alloc: Global, sorts: &[Sort]) -> Result<Vec<Form>, AllocError>
+    ensures { IfOk result (λ v. v.items ≡ map form_of sorts.now) }
 {
-    let mut forms = Vec::new(alloc);
-    for number in 0..u32::MAX {
-        let Some(kind) = table.kind(number) else {
-            return Ok(forms);
-        };
-        forms.push(form_of_kind(kind))?;
+    let mut forms = Vec::with_capacity(alloc, sorts.len())?;
+    for sort in sorts {
+        forms.push(form_of_kind(sort.kind()))?;
     }
     Ok(forms)
+}
+
+/// What the kind of a number, from 0, asks for, by the forms of all kinds. A kind that the table has not asks for what
+/// nothing spells.
+pub fn form_in(forms: &[Form], kind: u32) -> Form
+    ensures { (G : Table) → forms.now ≡ map form_of G.kinds → result ≡ form_at (kind_of G kind) }
+{
+    match forms.get(kind as usize) {
+        Some(form) => *form,
+        None => Form::Leaf(Leaf::Nothing),
+    }
 }
