@@ -1,6 +1,6 @@
-//! Each growth of memory refused in turn: the call answers its own error for want of memory.
-//! With none refused it answers rightly.
+//! Showing and assembling, with each growth of memory refused in turn.
 
+use super::MOST;
 use spv_grammar::{FromGrammar, Table};
 use spv_inst::{EncodeCode, EncodeError, Stop, decode};
 use spv_samples::{
@@ -11,9 +11,6 @@ use spv_text::{AsmCode, AsmError, assemble, show, show_image};
 use spv_words::Image;
 use std::alloc::Global;
 use std::test::Fail;
-
-/// The most growths of one call.
-const MOST: u32 = 100_000;
 
 /// Assembles a text, with each growth refused.
 fn assemble_refused(alloc: Global, table: &Table, text: &str, image: &Image) -> Result<(), Fail> {

@@ -1,8 +1,7 @@
 //! The lines that explain faults, of modules whose faults are known.
 
 use crate::modules::{
-    CYCLE_OF_TWO_FUNCTIONS, KERNEL_WITHOUT_ITS_END, LABEL_WITH_THE_ID_OF_THE_FUNCTION,
-    PHI_WITH_CROSSED_VALUES, VALUE_MISSING_ON_ONE_BRANCH,
+    KERNEL_WITHOUT_ITS_END, LABEL_WITH_THE_ID_OF_THE_FUNCTION, VALUE_MISSING_ON_ONE_BRANCH,
 };
 use spv_grammar::{FromGrammar, Table};
 use spv_reasons::{Evidence, Explained, explain, explain_bytes, explain_stream};

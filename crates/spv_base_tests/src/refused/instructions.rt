@@ -1,6 +1,6 @@
-//! Each growth of memory refused in turn: the call answers its own error for want of memory.
-//! With none refused it answers rightly.
+//! Decoding, encoding and pushing, with each growth of memory refused in turn.
 
+use super::MOST;
 use spv_grammar::{FromGrammar, Table};
 use spv_inst::Operand::{Id, OfType, Result as Made, Text};
 use spv_inst::{EncodeCode, EncodeError, Inst, Memory, Module, Stop, decode, encode};
@@ -11,9 +11,6 @@ use spv_samples::{
 use spv_words::{Header, Image};
 use std::alloc::Global;
 use std::test::Fail;
-
-/// The most growths of one call.
-const MOST: u32 = 100_000;
 
 /// How the decoding of an image answers: whether its last instruction has the opcode of the image's last.
 fn told_of_module(read: Result<Module<'_>, Stop>, last: u16) -> Told {

@@ -1,6 +1,6 @@
-//! Each growth of memory refused in turn: the call answers its own error for want of memory.
-//! With none refused it answers rightly.
+//! Checks and traces, with each growth of memory refused in turn.
 
+use super::MOST;
 use spv_grammar::{FromGrammar, Table};
 use spv_samples::{
     CALL_OF_LATER_FUNCTION, Growths, LOOP_WITH_PHI, PROFILE, SMALLEST_KERNEL, Sample, Told,
@@ -10,9 +10,6 @@ use spv_verdict::{Checked, Ending, Trace, TraceError, Verdict, check, check_stre
 use spv_words::{FromRead, FromWrite, Image, WordError};
 use std::alloc::Global;
 use std::test::Fail;
-
-/// The most growths of one call.
-const MOST: u32 = 100_000;
 
 /// Checks a sound module, with each growth refused.
 fn check_refused(alloc: Global, table: &Table, image: &Image) -> Result<(), Fail> {
