@@ -54,7 +54,6 @@ REFUSED = [
     r" 2 of 3  spv_table {15}NOT PROVED  \(0 min, about \d more\)",
     r" 3 of 3  spv {21}NOT PROVED  \(0 min, about 0 more\)",
     r"== spv_table",
-    r"fn spv_table::names::place: proved",
     r"fn spv_table::table::entry: not proved",
     r"rt: spv_table NOT PROVED",
 ]
