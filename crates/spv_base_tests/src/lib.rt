@@ -1,12 +1,21 @@
-//! The calls of spv_words, json_tree and spv_grammar, with ample memory and with growths refused.
+//! The calls of spv_words, json_tree, spv_grammar, spv_inst, spv_tokens and spv_text, with ample memory and with growths
+//! refused. What each line of a text is read as and shown as is shown by the program.
 #![tactic(auto)]
 
+#[cfg(test)]
+mod decoding;
+#[cfg(test)]
+mod encoding;
 #[cfg(test)]
 mod fakes;
 #[cfg(test)]
 mod refused;
 #[cfg(test)]
 mod tables;
+#[cfg(test)]
+mod texts;
+#[cfg(test)]
+mod tokens;
 #[cfg(test)]
 mod trees;
 #[cfg(test)]

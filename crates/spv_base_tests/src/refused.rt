@@ -1,6 +1,9 @@
 //! Each growth of memory refused in turn: the call answers its own error for want of memory.
 //! With none refused it answers rightly.
 
+mod instructions;
+mod texts;
+
 use serde_json::Value;
 use spv_grammar::{FromGrammar, GrammarError, Table};
 use spv_samples::{

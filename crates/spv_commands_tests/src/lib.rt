@@ -1,8 +1,13 @@
-//! The calls of spv_commands, with readers and writers that fail.
+//! The calls of spv_reasons, with ample memory, and those of spv_commands and spv_files, with readers and writers that
+//! fail.
 #![tactic(auto)]
 
 #[cfg(test)]
 mod each;
+#[cfg(test)]
+mod lines;
+#[cfg(test)]
+mod modules;
 #[cfg(test)]
 mod tests;
 #[cfg(test)]

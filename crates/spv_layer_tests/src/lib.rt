@@ -1,5 +1,6 @@
-//! The calls of the layers from spv_layout to spv_flow, with ample memory and with growths refused, and availability
-//! beside a plain program that tells the same. Which rule each layer tells of a module is shown by the program.
+//! The calls of the layers from spv_layout to spv_verdict, and of what flow and evidence search in, with ample memory and
+//! with growths refused; and availability beside a plain program that tells the same. Which rule each layer tells of a
+//! module is shown by the program.
 #![tactic(auto)]
 
 #[cfg(test)]
@@ -14,3 +15,7 @@ mod layers;
 mod plain;
 #[cfg(test)]
 mod refused;
+#[cfg(test)]
+mod verdicts;
+#[cfg(test)]
+mod ways;

@@ -1,5 +1,7 @@
 //! Each growth of memory of the layers refused in turn: `Memory` is told. With none refused they answer rightly.
 
+mod verdicts;
+
 use crate::layers::flow_of;
 use spv_grammar::{FromGrammar, Table};
 use spv_inst::Stop;
@@ -10,7 +12,7 @@ use spv_words::Image;
 use std::alloc::Global;
 use std::test::Fail;
 
-/// The most growths of the layers.
+/// The most growths of one call, or of the layers together.
 const MOST: u32 = 100_000;
 
 /// Decodes an image of so many function definitions and lays it out, numbers its ids, checks its types and its flow,

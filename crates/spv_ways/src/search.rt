@@ -165,6 +165,3 @@ pub fn shortest_way(
         Ok(None)
     }
 }
-
-#[cfg(test)]
-mod tests;

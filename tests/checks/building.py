@@ -1,0 +1,188 @@
+"""./build with a stand-in for the toolchain's command, in a repository of three empty crates: what it tells.
+
+The stand-in prints lines as `rt ci` does, makes a crate's folder out/ when it begins with it, and leaves a program.
+"""
+
+import os
+import pty
+import re
+import shutil
+import subprocess
+
+from .common import TESTS, Check, joined, shown
+
+TOP = TESTS.parent
+CRATES = {"spv_words": "byteorder", "spv_table": "spv_words", "spv": "spv_table"}
+# A folder of commands without the toolchain's.
+PLAIN_PATH = "/usr/bin:/bin"
+STAND_IN = r"""#!/bin/sh
+case $1 in ci) ;; *) exit 2 ;; esac
+[ ! -e crates/spv_words/must-fail ] && [ -e crates/spv_words/src/lib.rt ] && [ -e HANDLES ] || exit 2
+mkdir crates/spv_words/out
+echo 'rt: spv_words is kept: an earlier run on this machine proved the same files over the same libraries'
+mkdir crates/spv_table/out
+sleep 2
+echo '== spv_table'
+echo 'fn spv_table::names::place: proved'
+if [ "$STAND_IN" = fails ]; then
+    echo 'fn spv_table::table::entry: not proved'
+    echo 'rt: spv_table NOT PROVED'
+    echo 'rt: spv NOT PROVED: its library spv_table failed'
+    echo '1 passed, 2 failed'
+    exit 1
+fi
+echo 'rt: spv_table proved'
+mkdir crates/spv/out
+sleep 1
+echo '== spv'
+echo 'rt: spv proved'
+echo built >crates/spv/out/spv
+echo 'rt: ok; handles allowed: none'
+echo '3 passed, 0 failed'
+"""
+PROVED = [
+    r"== what rt ci prints: (\S+)",
+    r"== 3 crates, 2 side by side",
+    r" 1 of 3  spv_words {15}kept  \(0 min, about \d more\)",
+    r" 2 of 3  spv_table {15}proved in 0:0[1-4]  \(0 min, about \d more\)",
+    r" 3 of 3  spv {21}proved in 0:0[0-3]  \(0 min, about 0 more\)",
+    r"== built in \d+ s:",
+    r"crates/spv/out/spv",
+]
+REFUSED = [
+    *PROVED[:3],
+    r" 2 of 3  spv_table {15}NOT PROVED  \(0 min, about \d more\)",
+    r" 3 of 3  spv {21}NOT PROVED  \(0 min, about 0 more\)",
+    r"== spv_table",
+    r"fn spv_table::table::entry: not proved",
+    r"rt: spv_table NOT PROVED",
+]
+# What begins a line of the terminal anew.
+OVER = "\r\x1b[K"
+
+
+def repository(folder, seconds):
+    """A repository with these crates and the lines of install/seconds, and the stand-in beside it."""
+    top = folder / "top"
+    for name in CRATES:
+        for part in ("src", "must-fail"):
+            (top / "crates" / name / part).mkdir(parents=True)
+        (top / "crates" / name / "src/lib.rt").touch()
+    (top / "crates.txt").write_text("".join(f"{name}: {uses}\n" for name, uses in CRATES.items()), encoding="utf-8")
+    shutil.copy(TOP / "HANDLES", top)
+    shutil.copy(TOP / "build", top)
+    (top / "install").mkdir()
+    shutil.copy(TOP / "install/progress.awk", top / "install")
+    (top / "install/seconds").write_text(seconds, encoding="utf-8")
+    (folder / "commands").mkdir()
+    stand_in = folder / "commands/rt"
+    stand_in.write_text(STAND_IN, encoding="utf-8")
+    stand_in.chmod(0o755)
+    return top
+
+
+def environment(folder, way=""):
+    """The environment of a run in which the stand-in goes this way; what the script makes lies in the folder."""
+    path = f"{folder / 'commands'}:{PLAIN_PATH}"
+    return {**os.environ, "PATH": path, "STAND_IN": way, "TMPDIR": str(folder), "RT_JOBS": "2", "TERM": "xterm"}
+
+
+def told(folder, words, way="", seconds="spv_words 100\nspv_table 2\n"):
+    """What the script prints on both outputs and how it ends."""
+    top = repository(folder, seconds)
+    said, status = joined([top / "build", *words], folder, env=environment(folder, way))
+    return said.decode(), status
+
+
+def differing(said, lines):
+    """None if a text has these lines, each of which is a pattern, and no other."""
+    if re.fullmatch("".join(f"{it}\n" for it in lines), said):
+        return None
+    return f"  wanted: {lines}\n  got:    {shown(said)}"
+
+
+def proves(_, folder):
+    """A line for each crate, and the program."""
+    said, status = told(folder, [])
+    wrong = differing(said, PROVED)
+    if wrong or status:
+        return wrong or f"  exit {status}"
+    if (folder / "top/crates/spv/out/spv").read_text(encoding="utf-8") != "built\n":
+        return "  the program is not the one that was built"
+    log = re.match(PROVED[0], said).group(1)
+    with open(log, encoding="utf-8") as file:
+        last = file.read().splitlines()[-1]
+    return None if last == "3 passed, 0 failed" else f"  {log} ends with: {last}"
+
+
+def refuses(_, folder):
+    """A crate that is not proved: the end of what was printed of it, and no program."""
+    said, status = told(folder, ["program"], way="fails")
+    if status != 1 or (folder / "top/crates/spv/out").exists():
+        return f"  exit {status}, or there is a program"
+    return differing(said, REFUSED)
+
+
+def knows_no_times(_, folder):
+    """Without a list of times nothing is told of what is left."""
+    said, status = told(folder, [], seconds="# of no crate\n")
+    wanted = [it.replace(r", about \d more", "").replace(", about 0 more", "") for it in PROVED]
+    return differing(said, wanted) or (f"  exit {status}" if status else None)
+
+
+def prints_all(_, folder):
+    """With -v the toolchain's lines and no others, but the last two."""
+    said, status = told(folder, ["-v", "program"])
+    lines = said.splitlines()
+    is_whole = lines[0].startswith("rt: spv_words is kept") and lines[-3] == "3 passed, 0 failed" and not status
+    return None if is_whole and lines[-1] == "crates/spv/out/spv" else f"  got: {shown(said)}, exit {status}"
+
+
+def lacks_the_toolchain(_, folder):
+    """Without the toolchain's command it is told which one is needed."""
+    top = repository(folder, "")
+    said, status = joined([top / "build"], folder, env={**environment(folder), "PATH": PLAIN_PATH})
+    wanted = rb"build: there is no rt on the PATH: the toolchain rattle-kit-\w+ is needed\n"
+    return None if status == 1 and re.fullmatch(wanted, said) else f"  got: {shown(said)}, exit {status}"
+
+
+def refuses_words(_, folder):
+    """Words that are none of the usage."""
+    said, status = told(folder, ["programs"])
+    return None if status == 2 and said.startswith("usage: ") else f"  got: {shown(said)}, exit {status}"
+
+
+def on_a_terminal(_, folder):
+    """On a terminal a last line tells what is under way, and is written over; the lines of the crates stay."""
+    top = repository(folder, "spv_table 2\n")
+    ours, theirs = pty.openpty()
+    with subprocess.Popen([top / "build"], cwd=folder, env=environment(folder), stdin=theirs, stdout=theirs) as ended:
+        os.close(theirs)
+        said = b""
+        try:
+            while part := os.read(ours, 4096):
+                said += part
+        except OSError:
+            pass
+    os.close(ours)
+    text = said.decode().replace("\r\n", "\n")
+    under_way = re.search(r"\x1b\[K 1 of 3  \(0 min, about \d more\)  spv_table 0:0\d" + re.escape(OVER), text)
+    left = "\n".join(line.rpartition(OVER)[2] for line in text.split("\n"))
+    wrong = differing(left, PROVED)
+    if ended.returncode or wrong or not under_way:
+        return wrong or f"  got: {shown(text)}, exit {ended.returncode}"
+    return None
+
+
+def checks():
+    """The checks of ./build."""
+    rows = [
+        ("a line for each crate", proves),
+        ("a crate that is not proved", refuses),
+        ("no times known", knows_no_times),
+        ("all that the toolchain prints", prints_all),
+        ("no toolchain", lacks_the_toolchain),
+        ("other words", refuses_words),
+        ("on a terminal", on_a_terminal),
+    ]
+    return [Check(f"./build: {name}", frozenset(), run) for name, run in rows]
