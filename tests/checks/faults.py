@@ -1,7 +1,7 @@
 """Large modules that each break one rule, far from what breaks it: what `explain` writes of them, and what time and
 memory it takes beside `check`.
 
-The modules are those of FAULTS in tests/generate, and what must be written is worked out from how they are made.
+The modules are those of tests/shapes/faults.py, and what must be written is worked out from how they are made.
 """
 
 import subprocess
@@ -9,8 +9,10 @@ import sys
 from dataclasses import dataclass
 from typing import List
 
+from shapes.faults import FAULTS as SHAPES
+from shapes.module import ENTRY, FIRST_FREE, INT, KERNEL, Module
+
 from .common import SECONDS, TESTS, Check
-from .flow import GENERATE
 
 PROFILE = TESTS / "profile.json"
 MEASURE = TESTS / "checks/measure"
@@ -22,7 +24,7 @@ SPACES, SPACE_BESIDE = 2, 8 << 10
 SIZE = 4 << 20
 SIZES = {"missing": 5 << 20, "cycle": 16 << 20}
 
-INT, KERNEL, ENTRY, FIRST = GENERATE.INT, GENERATE.KERNEL, GENERATE.ENTRY, GENERATE.FIRST_FREE
+FIRST = FIRST_FREE
 # How many instructions stand before the kernel's function, and before the first of its entry block.
 DECLARATIONS, HEAD = 12, 14
 OF_VOID, OF_INT, OF_BOOL = "%1 = OpTypeVoid", "%5 = OpTypeInt 32 0", "%9 = OpTypeBool"
@@ -200,8 +202,8 @@ def fault(name, rule, wanted):
     """The check of a module, whose first broken rule is known, and the lines that show it."""
 
     def check(program, folder):
-        made = GENERATE.Module(SIZES.get(name, SIZE) // 4)
-        GENERATE.FAULTS[name](made)
+        made = Module(SIZES.get(name, SIZE) // 4)
+        SHAPES[name](made)
         module = folder / f"{name}.spv"
         made.write(module)
         plainly, explained = (measured(program, command, module, folder) for command in ("check", "explain"))
