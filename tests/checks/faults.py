@@ -25,6 +25,7 @@ SIZE = 4 << 20
 SIZES = {"missing": 5 << 20, "cycle": 16 << 20}
 
 FIRST = FIRST_FREE
+LABEL, ADD = 248, 128
 # How many instructions stand before the kernel's function, and before the first of its entry block.
 DECLARATIONS, HEAD = 12, 14
 OF_VOID, OF_INT, OF_BOOL = "%1 = OpTypeVoid", "%5 = OpTypeInt 32 0", "%9 = OpTypeBool"
@@ -49,6 +50,14 @@ class Insts:
         """The words of an instruction but the first."""
         at = self.places[number]
         return self.words[at + 1 : at + (self.words[at] >> 16)]
+
+    def of_result(self, result):
+        """The number of the OpLabel or OpIAdd whose result an id is."""
+        for number, at in enumerate(self.places):
+            opcode = self.words[at] & 0xFFFF
+            if opcode in (LABEL, ADD) and self.words[at + (1 if opcode == LABEL else 2)] == result:
+                return number
+        return None
 
 
 def missing(insts):

@@ -1,6 +1,8 @@
 """Functions whose blocks and calls are hostile to a checker of flow, sound or with one fault."""
 
 import random
+from dataclasses import dataclass
+from typing import Optional
 
 from .graphs import immediate_dominators, random_targets
 from .module import ENTRY, FUNCTION_TYPE, INT, KERNEL, ONE, TRUE, TWO, VOID, closed, kernel, opened, text_words
@@ -296,6 +298,22 @@ def entry_calls(module):
     closed(module)
 
 
+@dataclass(frozen=True)
+class Fault:
+    """A use of a value that a walk to it misses."""
+
+    block: int
+    # Whose value it is.
+    other: int
+    # The parent that a phi pairs with the value; None where an addition uses it.
+    parent: Optional[int]
+
+    @property
+    def goal(self):
+        """The block at whose beginning or, of a parent, at whose end the value is missing."""
+        return self.block if self.parent is None else self.parent
+
+
 class Random:
     """A function of random blocks. Each defines a value, and uses values of blocks that dominate it, but for one use where a
     fault is asked for: of a value that a walk to it misses."""
@@ -310,7 +328,6 @@ class Random:
         for block, targets in enumerate(self.targets):
             for target in dict.fromkeys(targets):
                 self.parents[target].append(block)
-        # The block of the fault, and whose value it uses.
         self.fault = self.some_fault() if has_fault else None
 
     def dominates(self, above, block):
@@ -320,14 +337,15 @@ class Random:
         return block == above
 
     def some_fault(self):
-        """A block, and another whose value a walk to it misses; None if there is none."""
+        """A fault; None if none is found."""
         blocks = [block for block in self.dominators if block]
-        for _ in range(100):
-            if blocks:
-                block = self.chance.choice(blocks)
-                other = self.chance.randrange(len(self.targets))
-                if not self.dominates(other, block):
-                    return block, other
+        for _ in range(100 if blocks else 0):
+            block = self.chance.choice(blocks)
+            parents = [it for it in self.parents[block] if it in self.dominators]
+            parent = self.chance.choice(parents) if self.chance.random() < 0.4 else None
+            fault = Fault(block, self.chance.randrange(len(self.targets)), parent)
+            if not self.dominates(fault.other, fault.goal):
+                return fault
         return None
 
     def above(self, block):
@@ -339,12 +357,13 @@ class Random:
             at = self.dominators[at]
         return ONE if at is None else self.values[at]
 
-    def put_phi(self, block):
+    def put_phi(self, block, fault):
         """A phi with the value of each parent, or of one above it."""
         pairs = []
         for parent in self.parents[block]:
             of = self.values[parent] if self.chance.random() < 0.5 else self.above(parent)
-            pairs += [of, self.labels[parent]]
+            has_fault = fault is not None and fault.parent == parent
+            pairs += [self.values[fault.other] if has_fault else of, self.labels[parent]]
         self.module.put(245, INT, self.module.fresh(), *pairs)
 
     def put_end(self, block):
@@ -359,6 +378,18 @@ class Random:
         else:
             switch(self.module, labels)
 
+    def put_block(self, block):
+        """A block."""
+        fault = self.fault if self.fault is not None and self.fault.block == block else None
+        begun(self.module, self.labels[block])
+        has_phi = block and 0 < len(self.parents[block]) < 9 and self.chance.random() < 0.3
+        if has_phi or (fault is not None and fault.parent is not None):
+            self.put_phi(block, fault)
+        is_missing = fault is not None and fault.parent is None
+        right = self.values[fault.other] if is_missing else self.above(block)
+        self.module.put(128, INT, self.values[block], self.above(block), right)
+        self.put_end(block)
+
     def put(self):
         """The whole function, its blocks but the first in any order."""
         order = list(range(1, len(self.labels)))
@@ -366,13 +397,7 @@ class Random:
             self.chance.shuffle(order)
         self.module.put(54, VOID, KERNEL, 0, FUNCTION_TYPE)
         for block in (0, *order):
-            begun(self.module, self.labels[block])
-            if block and 0 < len(self.parents[block]) < 9 and self.chance.random() < 0.3:
-                self.put_phi(block)
-            has_fault = self.fault is not None and self.fault[0] == block
-            right = self.values[self.fault[1]] if has_fault else self.above(block)
-            self.module.put(128, INT, self.values[block], self.above(block), right)
-            self.put_end(block)
+            self.put_block(block)
         self.module.put(56)
 
 
@@ -394,7 +419,7 @@ def random_blocks(module):
 
 
 def random_fault(module):
-    """A1: random blocks, one of which uses a value that a walk to it misses."""
+    """A1 or A2: random blocks, one of which uses a value that a walk to it misses."""
     random_function(module, random.Random(SEED), min(100_000, module.most // RANDOM_BLOCK), has_fault=True)
 
 
