@@ -215,6 +215,20 @@ def long_lists(size):
     return Hostile(grammar, body(put))
 
 
+def implied(size):
+    """A capability that implies very many others, each of which implies the one before, for the smallest of modules, which is
+    checked very often."""
+    grammar = profile()
+    count = size // 2 // 80
+    found = kind(grammar, "Capability")["enumerants"]
+    found += [
+        {"enumerant": f"C{at}", "value": FREE + at, "capabilities": [f"C{max(0, at - 1)}"]} for at in range(count)
+    ]
+    enumerant(grammar, "Capability", "Addresses")["capabilities"] = [f"C{at}" for at in range(count)]
+    module = body(nops(0))
+    return Hostile(grammar, module, times=max(1, size // 2 // (4 * len(module.words))))
+
+
 HOSTILE_GRAMMARS = {
     shape.__name__.replace("_", "-"): shape
     for shape in (
@@ -226,6 +240,7 @@ HOSTILE_GRAMMARS = {
         chosen_enumerants,
         chosen_instructions,
         many_kinds,
+        implied,
         long_lists,
     )
 }
