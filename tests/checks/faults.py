@@ -1,11 +1,12 @@
 """Large modules that each break one rule, far from what breaks it: what `explain` writes of them, and what time and
 memory it takes beside `check`.
 
-The modules are those of tests/shapes/faults.py, and two of flow.py, and what must be written is worked out from how they are made.
+The modules are those of tests/shapes/faults.py, and two of hostile.py, and what must be written is worked out from how
+they are made.
 """
 
 from shapes.faults import FAULTS as SHAPES
-from shapes.flow import BESIDE, FLOWS, WAVES
+from shapes.hostile import BESIDE, HOSTILE, WAVES
 from shapes.module import ENTRY, FIRST_FREE, INT, KERNEL, Module
 
 from .common import TESTS, Check, measured
@@ -213,7 +214,7 @@ def fault(name, rule, wanted):
 
     def check(program, folder):
         made = Module(SIZES.get(name, SIZE) // 4)
-        {**SHAPES, **FLOWS}[name](made)
+        {**SHAPES, **HOSTILE}[name](made)
         module = folder / f"{name}.spv"
         made.write(module)
         words = ("--grammar", PROFILE, module)

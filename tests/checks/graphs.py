@@ -5,7 +5,7 @@ of large ones beside what is known of how they were made.
 import random
 
 from reading.verdict import grammar_in, verdict
-from shapes.flow import FLOWS, random_function
+from shapes.hostile import HOSTILE, random_function
 from shapes.graphs import walk_length
 from shapes.module import Module
 
@@ -31,11 +31,11 @@ def beside_reading(program, path, grammar):
 
 
 def hostile(name):
-    """The check of a small function of tests/shapes/flow.py."""
+    """The check of a small function of tests/shapes/hostile.py."""
 
     def check(program, folder):
         module, path = Module(SMALL // 4), folder / f"{name}.spv"
-        FLOWS[name](module)
+        HOSTILE[name](module)
         module.write(path)
         return beside_reading(program, path, grammar_in(PROFILE))
 
@@ -104,7 +104,7 @@ def large(count):
 
 
 def checks():
-    """The functions of tests/shapes/flow.py, and random ones."""
-    found = [Check(f"graphs: {name}", LAYERS, hostile(name)) for name in FLOWS]
+    """The functions of tests/shapes/hostile.py, and random ones."""
+    found = [Check(f"graphs: {name}", LAYERS, hostile(name)) for name in HOSTILE]
     found += [Check(f"graphs: {count} random blocks", LAYERS, of_blocks(*it)) for it in SIZES.items() for count in it[:1]]
     return found + [Check(f"graphs: {count} random blocks, large", LAYERS, large(count)) for count in LARGE]

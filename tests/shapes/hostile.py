@@ -1,7 +1,8 @@
-"""Functions whose blocks and calls are hostile to a checker of flow, sound or with one fault."""
+"""Modules whose blocks, calls or types are hostile to a checker, sound or with one fault."""
 
 import random
 from dataclasses import dataclass
+from itertools import product
 from typing import Optional
 
 from .graphs import immediate_dominators, random_targets
@@ -298,6 +299,36 @@ def entry_calls(module):
     closed(module)
 
 
+# Of the last four parameters of a function type by how much each may change, so that the fingerprint of the type stays the
+# same (spv_type_rules): they are a reduced basis of the lattice of such changes.
+CHANGES = ((30, -157, -97, 8), (-107, 133, -109, -13), (-35, -75, 74, -340), (-265, -93, 110, 208))
+
+
+def tuples(most):
+    """Changes of the last four parameters, all different, with factors of at most so much."""
+    factors = range(-most, most + 1)
+    for by in product(factors, repeat=len(CHANGES)):
+        yield tuple(sum(factor * change[at] for factor, change in zip(by, CHANGES)) for at in range(len(CHANGES)))
+
+
+def chosen_types(module):
+    """Function types that differ in their last four parameters alone, and all have one fingerprint."""
+    opened(module)
+    length, factor = 1_000, 4
+    if module.room() < 200_000:
+        length, factor = 100, 1
+    above = factor * max(sum(abs(change[at]) for change in CHANGES) for at in range(len(CHANGES)))
+    arrays = [module.fresh() for _ in range(2 * above + 1)]
+    for array in arrays:
+        module.put(28, array, INT, ONE)
+    for changes in tuples(factor):
+        if module.room() < length + 8:
+            break
+        module.put(33, module.fresh(), VOID, *[INT] * (length - 4), *(arrays[above + it] for it in changes))
+    kernel(module)
+    closed(module)
+
+
 @dataclass(frozen=True)
 class Fault:
     """A use of a value that a walk to it misses."""
@@ -423,7 +454,7 @@ def random_fault(module):
     random_function(module, random.Random(SEED), min(100_000, module.most // RANDOM_BLOCK), has_fault=True)
 
 
-FLOWS = {
+HOSTILE = {
     shape.__name__.replace("_", "-"): shape
     for shape in (
         reducible_chain,
@@ -437,6 +468,7 @@ FLOWS = {
         climb,
         far_back,
         entry_calls,
+        chosen_types,
         random_blocks,
         random_fault,
     )
