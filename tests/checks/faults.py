@@ -181,7 +181,8 @@ def waves_fault(insts):
     before = beside + BESIDE * (WAVES - 2)
     of = before + 1
     last = insts.operands(insts.first(RETURN) - 2)[0]
-    walk = [ENTRY, head, *range(beside, beside + BESIDE), *range(chain + 1, chain + WAVES), tail, *range(of + WAVES, last + 1)]
+    section = [head, *range(beside, beside + BESIDE), *range(chain + 1, chain + WAVES)]
+    walk = [ENTRY, *section, tail, *range(of + WAVES, last + 1)]
     defined = f"defined: inst {HEAD + 5}, %{of} = OpIAdd %5 %{before} %6"
     return [f"operand: 2 %{of}", defined, f"walk: {ids(walk)}"]
 

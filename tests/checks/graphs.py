@@ -1,5 +1,5 @@
-"""Functions of hostile and of random blocks: what is said of them beside the second reading, which finds values by sets, and
-of large ones beside what is known of how they were made.
+"""Functions of hostile and of random blocks: what is said of them beside the second reading, which finds values by
+sets, and of large ones beside what is known of how they were made.
 """
 
 import random
@@ -106,5 +106,6 @@ def large(count):
 def checks():
     """The functions of tests/shapes/hostile.py, and random ones."""
     found = [Check(f"graphs: {name}", LAYERS, hostile(name)) for name in HOSTILE]
-    found += [Check(f"graphs: {count} random blocks", LAYERS, of_blocks(*it)) for it in SIZES.items() for count in it[:1]]
+    for count, rounds in SIZES.items():
+        found.append(Check(f"graphs: {count} random blocks", LAYERS, of_blocks(count, rounds)))
     return found + [Check(f"graphs: {count} random blocks, large", LAYERS, large(count)) for count in LARGE]

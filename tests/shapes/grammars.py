@@ -1,7 +1,7 @@
 """Hostile grammar files, each with a module and a text that are read under it.
 
-Each shape is given how many bytes the three have together. A grammar is that of profile.json with more in it, so that the
-modules are valid but where a shape says otherwise.
+Each shape is given how many bytes the three have together. A grammar is that of profile.json with more in it, so that
+the modules are valid but where a shape says otherwise.
 """
 
 import json
@@ -17,9 +17,9 @@ NOP, CAPABILITY, STORE, BRANCH = 0, 17, 62, 249
 FREE = 1_024
 TEXT_HEAD = "; SPIR-V\n; Version: 1.6\n; Generator: 0\n; Bound: {bound}\n; Schema: 0\n"
 
-# Names that all have the hash 0 by the hash of the toolchain's maps (FoldHasher), whose seed is known: the first 16 octets
-# and the length give a state of which each octet may stand in a name; the next 8 are that state, and make a factor 0;
-# so the last 8 say nothing. One of 16 random octets in 50,000 gives such a state.
+# Names that all have the hash 0 by the hash of the toolchain's maps (FoldHasher), whose seed is known: the first 16
+# octets and the length give a state of which each octet may stand in a name; the next 8 are that state, and make a
+# factor 0; so the last 8 say nothing. One of 16 random octets in 50,000 gives such a state.
 CHOSEN = "VX_s_Eyc6b68FoV8i27mmsDe"
 
 
@@ -85,8 +85,8 @@ def nops(count):
 
 
 def one_name(size):
-    """Very many capabilities of one name, and two others, of the same hash, which an implied one names very often, and the
-    module and the text, too."""
+    """Very many capabilities of one name, and two others, of the same hash, which an implied one names very often,
+    and the module and the text, too."""
     grammar = profile()
     same, one, other = (chosen(number) for number in range(3))
     found = kind(grammar, "Capability")["enumerants"]
@@ -166,7 +166,8 @@ def chosen_enumerants(size):
 
 
 def chosen_instructions(size):
-    """Instructions whose names all have one hash, each of which comes. The module is refused: P1, at the first of them."""
+    """Instructions whose names all have one hash, each of which comes. The module is refused: P1, at the first of
+    them."""
     grammar = profile()
     count = min(size // 110, 65_535 - FREE)
     grammar["instructions"] += [{"opname": chosen(at), "opcode": FREE + at} for at in range(count)]
@@ -193,7 +194,8 @@ def many_kinds(size):
 
 
 def long_lists(size):
-    """An instruction, a value and a bit that each need one of very many capabilities, of which the module has the last."""
+    """An instruction, a value and a bit that each need one of very many capabilities, of which the module has the
+    last."""
     grammar = profile()
     names = [f"C{at}" for at in range(size // 2 // 3 // 60)]
     found = kind(grammar, "Capability")["enumerants"]
@@ -216,8 +218,8 @@ def long_lists(size):
 
 
 def implied(size):
-    """A capability that implies very many others, each of which implies the one before, for the smallest of modules, which is
-    checked very often."""
+    """A capability that implies very many others, each of which implies the one before, for the smallest of modules,
+    which is checked very often."""
     grammar = profile()
     count = size // 2 // 80
     found = kind(grammar, "Capability")["enumerants"]

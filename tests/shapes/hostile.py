@@ -45,9 +45,9 @@ def switch(module, targets):
 
 
 def crossing(module, value_beside=False):
-    """Four blocks, two of which lead to each other and are each come to from outside, so that no order has each block after
-    those that dominate it. They stand in the entry block's place, and the block after them is begun. The value of the entry
-    block, or of one beside the way."""
+    """Four blocks, two of which lead to each other and are each come to from outside, so that one pass in reverse
+    postorder does not find what dominates them. Begins the block after them. The value of the entry block, or of the
+    block beside the way."""
     beside, under, over, after = (module.fresh() for _ in range(4))
     value = add(module, ONE)
     fork(module, beside, over)
@@ -99,9 +99,9 @@ def irreducible_fault(module):
 
 
 def put_section(module, head, after):
-    """A chain of blocks that each have a value, and in front of it one that begins a way beside it, which comes in behind
-    each of them in turn, later than the chain does: so the values are lost one by one. The first value of the chain, and
-    what puts the way beside it."""
+    """A chain of blocks that each have a value, and in front of it one that begins a way beside it, which comes in
+    behind each of them in turn, later than the chain does: so the values are lost one by one. The first value of the
+    chain, and what puts the way beside it."""
     chain = [module.fresh() for _ in range(WAVES)]
     ways = [[module.fresh() for _ in range(BESIDE)] for _ in range(WAVES - 2)]
     begun(module, head)
@@ -171,7 +171,8 @@ def waves_fault(module):
 
 
 def irreducible_waves_fault(module):
-    """A1: sections of waves behind two blocks that lead to each other, and the tail's last block uses a value that is lost."""
+    """A1: sections of waves behind two blocks that lead to each other, and the tail's last block uses a value that is
+    lost."""
     opened(module)
     kernel(module)
     crossing(module)
@@ -229,8 +230,8 @@ def switched_loops(module):
 
 
 def climb(module):
-    """A long chain of blocks, and at its end a switch to very many others, to which the entry block leads, too: each has the
-    entry block right above it, but a search in depth comes to it from the end of the chain."""
+    """A long chain of blocks, and at its end a switch to very many others, to which the entry block leads, too: each
+    has the entry block right above it, but a search in depth comes to it from the end of the chain."""
     opened(module)
     kernel(module)
     value = add(module, ONE)
@@ -254,8 +255,8 @@ def climb(module):
 
 
 def far_back(module):
-    """Two long chains, one of which a search in depth comes to first, and the blocks of the other lead into it from behind:
-    each way up from where one comes from is as long as the chain."""
+    """Two long chains, one of which a search in depth comes to first, and the blocks of the other lead into it from
+    behind: each way up from where one comes from is as long as the chain."""
     opened(module)
     kernel(module)
     count = max(2, (module.room() - 64) // 20)
@@ -299,8 +300,8 @@ def entry_calls(module):
     closed(module)
 
 
-# Of the last four parameters of a function type by how much each may change, so that the fingerprint of the type stays the
-# same (spv_type_rules): they are a reduced basis of the lattice of such changes.
+# Of the last four parameters of a function type by how much each may change, so that the fingerprint of the type
+# stays the same (spv_type_rules): they are a reduced basis of the lattice of such changes.
 CHANGES = ((30, -157, -97, 8), (-107, 133, -109, -13), (-35, -75, 74, -340), (-265, -93, 110, 208))
 
 
@@ -346,8 +347,8 @@ class Fault:
 
 
 class Random:
-    """A function of random blocks. Each defines a value, and uses values of blocks that dominate it, but for one use where a
-    fault is asked for: of a value that a walk to it misses."""
+    """A function of random blocks. Each defines a value, and uses values of blocks that dominate it, but for one use
+    where a fault is asked for: of a value that a walk to it misses."""
 
     def __init__(self, module, chance, count, has_fault):
         self.module, self.chance = module, chance

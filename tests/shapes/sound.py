@@ -1,4 +1,5 @@
-"""Modules that are sound, and three that decode and then do not fit the profile. Each shape adds its words to a module."""
+"""Modules that are sound, and three that decode and then do not fit the profile. Each shape adds its words to a
+module."""
 
 from .module import (
     FIRST_FREE,

@@ -1,7 +1,7 @@
 """Texts of JSON that make as many nodes of a tree, or as much of a table, as their octets allow.
 
-Each shape is a list of equal parts; how many of them there are makes the size. A text is one of them alone, or the member
-of a grammar file that has lists.
+Each shape is a list of equal parts; how many of them there are makes the size. A text is one of them alone, or the
+member of a grammar file that has lists.
 """
 
 import json
