@@ -28,21 +28,24 @@ ELEMENTS = {
     "kinds": '{"kind":"","category":"Id"}',
 }
 
-# The beginning and the end of a grammar file in which a list of very many elements stands, and these.
+# The beginning and the end of a grammar file in which a list of very many elements stands, and these; where an element has
+# a `{}`, each one has a number of its own there.
 LISTED = {
     "operands": ('{"instructions":[{"opname":"A","opcode":1,"operands":[', '{"kind":"A"}', "]}]"),
-    "needs": ('{"instructions":[{"opname":"A","opcode":1,"capabilities":[', '""', "]}]"),
+    "no-needs": ('{"instructions":[{"opname":"A","opcode":1,"capabilities":[', '""', "]}]"),
+    "needs": ('{"instructions":[{"opname":"A","opcode":1,"capabilities":[', '"A"', "]}]"),
     "instructions": ('{"instructions":[', '{"opname":"A","opcode":1}', "]"),
-    "listed-needs": ('{"instructions":[', '{"opname":"A","opcode":1,"capabilities":[""]}', "]"),
+    "listed-needs": ('{"instructions":[', '{"opname":"A","opcode":1,"capabilities":["{}"]}', "]"),
     "patterns": ('{"instructions":[', '{"opname":"A","opcode":1,"operands":[{"kind":"A"}]}', "]"),
 }
 KINDS = ',"operand_kinds":[{"kind":"A","category":"Id"}]}'
 OF_KINDS = {
     "enumerants": ('{"kind":"B","category":"ValueEnum","enumerants":[', '{"enumerant":"","value":1}', "]}"),
+    "values": ('{"kind":"B","category":"ValueEnum","enumerants":[', '{"enumerant":"A","value":{}}', "]}"),
     "bits": ('{"kind":"B","category":"BitEnum","enumerants":[', '{"enumerant":"","value":"0x1"}', "]}"),
     "values-needs": (
         '{"kind":"B","category":"ValueEnum","enumerants":[{"enumerant":"","value":1,"capabilities":[',
-        '""',
+        '"A"',
         "]}]}",
     ),
     "parameters": (
@@ -51,14 +54,30 @@ OF_KINDS = {
         "]}]}",
     ),
     "bases": ('{"kind":"B","category":"Composite","bases":[', '"A"', "]}"),
-    "many-kinds": (None, '{"kind":"A","category":"Id"}', None),
+    "ids": (None, '{"kind":"{}","category":"Id"}', None),
+    "composites": (None, '{"kind":"{}","category":"Composite","bases":["A"]}', None),
+    "no-values": (None, '{"kind":"{}","category":"ValueEnum","enumerants":[]}', None),
+    "small-values": (
+        None,
+        '{"kind":"{}","category":"ValueEnum","enumerants":[{"enumerant":"","value":63}]}',
+        None,
+    ),
+    "large-values": (
+        None,
+        '{"kind":"{}","category":"ValueEnum","enumerants":[{"enumerant":"","value":64}]}',
+        None,
+    ),
 }
 
 
 def repeated(size, begin, element, end):
-    """So many octets of a list of equal elements."""
-    count = max(1, (size - len(begin) - len(end)) // (len(element) + 1))
-    return f"{begin}{','.join([element] * count)}{end}"
+    """So many octets of a list of elements."""
+    room, numbered = size - len(begin) - len(end), "{}" in element[1:]
+    if not numbered:
+        return f"{begin}{','.join([element] * max(1, room // (len(element) + 1)))}{end}"
+    front, back = element.rsplit("{}", 1)
+    count = max(1, room // (len(element) + 5))
+    return f"{begin}{','.join(f'{front}{at}{back}' for at in range(count))}{end}"
 
 
 def alone(element):
@@ -77,11 +96,11 @@ def listed(begin, element, end):
 
 
 def of_kinds(begin, element, end):
-    """A grammar file with a list of kinds."""
-    head, kind = '{"instructions":[],"operand_kinds":[', '{"kind":"A","category":"Id"}'
+    """A grammar file with a list of kinds, or with a list in its second kind."""
+    head = '{"instructions":[],"operand_kinds":[{"kind":"A","category":"Id"},'
     if begin is None:
         return lambda size: repeated(size, head, element, "]}")
-    return lambda size: repeated(size, f"{head}{kind},{begin}", element, f"{end}]}}")
+    return lambda size: repeated(size, head + begin, element, f"{end}]}}")
 
 
 def nested(levels):
