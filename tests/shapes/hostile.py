@@ -13,6 +13,8 @@ SEED = 20_261_126
 LINK = 9
 # How many values a section of waves has: with their labels and branches 510 instructions.
 WAVES = 170
+# By how far each use is from the one before, where they are spread.
+STEP = 7_919
 # How many blocks stand between one way into a section of waves and the next.
 BESIDE = 2
 
@@ -278,6 +280,38 @@ def far_back(module):
     module.put(56)
 
 
+def far_uses(module):
+    """A chain of blocks, each of which leads back to the second one, too, and uses a value of a block that is far
+    above it: ways up through as deep a tree as there can be."""
+    opened(module)
+    kernel(module)
+    values = [add(module, ONE)]
+    second = module.fresh()
+    jump(module, second)
+    begun(module, second)
+    while module.room() > 2 * LINK:
+        label = module.fresh()
+        values.append(add(module, values[len(values) * STEP % 1_000_003 % len(values)]))
+        fork(module, label, second)
+        begun(module, label)
+    closed(module)
+
+
+def little_functions(module):
+    """Very many functions of two blocks, the second of which uses a value of the first."""
+    opened(module)
+    kernel(module)
+    closed(module)
+    while module.room() > 30:
+        module.put(54, VOID, module.fresh(), 0, FUNCTION_TYPE)
+        begun(module, module.fresh())
+        value, label = add(module, ONE), module.fresh()
+        jump(module, label)
+        begun(module, label)
+        add(module, value)
+        closed(module)
+
+
 def entry_calls(module):
     """As many entry points of one function as calls in it, and a function that nobody calls but itself."""
     count = (module.room() - 64) // 8
@@ -468,6 +502,8 @@ HOSTILE = {
         switched_loops,
         climb,
         far_back,
+        far_uses,
+        little_functions,
         entry_calls,
         chosen_types,
         random_blocks,
