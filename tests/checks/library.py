@@ -336,6 +336,20 @@ def one_version(_program, _folder):
             raise Wrong(f"  {name} has another version than {version()}")
 
 
+def codes_of_header(program, folder):
+    """The header has each code that `spv rules` lists by its number, and the man page names the last of them."""
+    codes = [line.split(":")[0] for line in run(program, ["rules"], folder).out.decode().splitlines()]
+    letters = list(dict.fromkeys(code[0] for code in codes))
+    numbers = {f"SPVK_{code}": 100 * letters.index(code[0]) + int(code[1:]) for code in codes}
+    listed = re.search(r"enum spvk_code \{(.*?)\}", HEADER.read_text(encoding="utf-8"), re.DOTALL)[1]
+    found = {name: int(number) for name, number in re.findall(r"\b(SPVK_\w+) = (\d+)", listed)}
+    wrong = set(found.items()) ^ {("SPVK_VALID", 0), *numbers.items()}
+    if wrong or not codes:
+        raise Wrong(f"  on one side alone: {sorted(wrong)}")
+    if f".BR SPVK_{codes[-1]} :" not in PAGE.read_text(encoding="utf-8"):
+        raise Wrong(f"  docs/spvk.3 does not end the codes at SPVK_{codes[-1]}")
+
+
 def told(check):
     """The check as `Check` wants it: None, or what is wrong."""
 
@@ -381,4 +395,5 @@ def checks():
     ]
     made.append(Check("library: man page", some, told(shown_page), frozenset({"man"})))
     made.append(Check("library: one version", some, told(one_version), frozenset()))
+    made.append(Check("library: codes of the header", frozenset({"first path"}), told(codes_of_header)))
     return made

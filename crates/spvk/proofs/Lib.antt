@@ -6,4 +6,5 @@ pub mod Judgments
 pub mod Lending
 pub mod Reasons
 pub mod Showings
+pub mod StaticTexts
 pub mod Values

@@ -6,6 +6,8 @@ pub mod Faults
 pub mod Grammar
 pub mod Held
 pub mod Numbers
+pub mod Rules
 pub mod Show
+pub mod StaticText
 pub mod Status
 pub mod inner

@@ -19,5 +19,6 @@ mod loose;
 mod numbers;
 mod rules;
 mod showing;
+mod static_text;
 mod status;
 mod text;
