@@ -86,19 +86,12 @@ abbrev pub bare_program : App
 bare_program = on_top (λ s. record s { no_binary_name = true; subcommand_required = true; has_version = true })
     (new_app (codes "spv"))
 
--- the commands that judge modules
-abbrev pub judging_program : App
-judging_program =
-    with_subcommand (with_subcommand bare_program (file_command (codes "check") files_word))
-    (file_command (codes "explain") files_word)
-
--- the same with those that show a module and make one
-abbrev pub module_program : App
-module_program = with_subcommand (with_subcommand judging_program (file_command (codes "show") file_word)) asm_command
-
 -- all commands, of which one must be given
 abbrev pub program : App
-program = with_subcommand (with_subcommand module_program trace_command) rules_command
+program =
+    with_subcommand (with_subcommand (with_subcommand (with_subcommand (with_subcommand (with_subcommand bare_program
+    (file_command (codes "check") files_word)) (file_command (codes "explain") files_word))
+    (file_command (codes "show") file_word)) asm_command) trace_command) rules_command
 
 -- the name of the command, the path of its grammar file and its files, as `clap` reads them; without `--grammar` the
 -- grammar file is that of the environment, if it has one
