@@ -4,6 +4,7 @@ ghost use Rattle.std.specs.Prelude.{IsTrue, MatchOption, map, option_map, Option
 ghost use Rattle.std.specs.Str.{bytes_eq};
 ghost use Rattle.clap.specs.Words.{Row, Text, first_of, found_of, rows_of, subcommand_rows_of};
 ghost use Rattle.spv_command_line.specs.declared.command_line.Command.{Command};
+ghost use Rattle.spv_command_line.specs.declared.command_line.Task.{Task};
 ghost use Rattle.spv_command_line.specs.CommandLine.{Answers, AnswersTo, IsAsked, IsCommandOf, error_of};
 ghost use Rattle.spv_command_line.specs.CommandLine.{inputs_among, task_name};
 ghost use Rattle.spv_command_line.specs.inner.CommandLine.{IsAsmOf, IsRulesOf, IsTraceOf};
@@ -17,7 +18,7 @@ use spv_rules::Code;
 use std::alloc::{AllocError, Global};
 use thiserror::Error;
 
-/// What is done with each of several modules.
+/// What is done with each module.
 #[derive(Clone, Copy, Debug, PartialEq, Eq)]
 pub enum Task {
     /// The verdict on it, as `spv check`.
@@ -29,19 +30,14 @@ pub enum Task {
 /// What the program is asked to do.
 #[derive(Debug, Drop, PartialEq, Eq)]
 pub enum Command<'a> {
-    /// `spv check --grammar G FILE`: the verdict on a module.
-    Check {
+    /// `spv check --grammar G FILE ..`, or `spv explain`: a task on these modules, one after the other.
+    Judge {
+        /// The task.
+        task: Task,
         /// The path of the grammar file.
         grammar: &'a str,
-        /// The path of the module.
-        file: &'a str,
-    },
-    /// `spv explain --grammar G FILE`: the verdict on a module, and what explains it.
-    Explain {
-        /// The path of the grammar file.
-        grammar: &'a str,
-        /// The path of the module.
-        file: &'a str,
+        /// The paths of the modules: one or more, of which at most one is `-`, the standard input.
+        files: Vec<&'a str>,
     },
     /// `spv show --grammar G FILE`: the text of a module.
     Show {
@@ -79,15 +75,6 @@ pub enum Command<'a> {
     Rules {
         /// The code, if it is only one.
         code: Option<Code>,
-    },
-    /// `spv check --grammar G FILE FILE ..`, or `spv explain`: a task on several modules, one after the other.
-    Each {
-        /// The task.
-        task: Task,
-        /// The path of the grammar file.
-        grammar: &'a str,
-        /// The paths of the modules: two or more, of which at most one is `-`, the standard input.
-        files: Vec<&'a str>,
     },
 }
 
@@ -232,7 +219,7 @@ fn rules_in<'a>(found: &ArgMatches<'a>) -> Result<Command<'a>, UseError>
     }
 }
 
-/// The command of a name that is not `rules` on one file, if it is one with all its texts.
+/// The command of a name that is no task's and not `rules` on one file, if it is one with all its texts.
 fn one_file_command<'a>(
     alloc: Global,
     name: &str,
@@ -240,14 +227,13 @@ fn one_file_command<'a>(
     grammar: &'a str,
     file: &'a str,
 ) -> Result<Command<'a>, UseError>
-    requires { ¬ (name.now ≡ codes "rules") }
+    requires rules { ¬ (name.now ≡ codes "rules") }
+    requires task { (task : Task) → ¬ (name.now ≡ task_name task) }
     ensures { (environment : Option Text) → IsAsked environment
         (Some (name.now, rows_of (found_of found.now))) name.now grammar.now (file.now ∷ [])
         → IsCommandOf environment (Some (name.now, rows_of (found_of found.now))) result }
 {
     match name {
-        "check" => Ok(Command::Check { grammar, file }),
-        "explain" => Ok(Command::Explain { grammar, file }),
         "show" => Ok(Command::Show { grammar, file }),
         "asm" => asm_in(found, grammar, file).ok_or(UseError::U1),
         "trace" => trace_in(alloc, found, grammar, file),
@@ -255,7 +241,7 @@ fn one_file_command<'a>(
     }
 }
 
-/// The task of the command of a name, if it is one on several files.
+/// The task of the command of a name, if it is one on modules.
 fn task_named(name: &str) -> Option<Task>
     ensures { MatchOption result ((task : Task) → ¬ (name.now ≡ task_name task))
         (λ task. name.now ≡ task_name task) }
@@ -287,34 +273,29 @@ fn inputs_of(files: &[&str]) -> usize
     count
 }
 
-/// Whether these files are two or more, of which at most one is the standard input.
-fn are_several(files: &[&str]) -> bool
-    ensures { IsTrue result ↔ ((2 ≤ length files.now) × (inputs_among (map (λ file. file.now) files.now) ≤ 1)) }
+/// Whether these files are one or more, of which at most one is the standard input.
+fn are_modules(files: &[&str]) -> bool
+    ensures { IsTrue result ↔ ((1 ≤ length files.now) × (inputs_among (map (λ file. file.now) files.now) ≤ 1)) }
 {
-    files.len() > 1 && inputs_of(files) < 2
+    !files.is_empty() && inputs_of(files) < 2
 }
 
-/// The command of a name that is not `rules` on no file, or on several, if it is one.
-fn each_command<'a>(
+/// The command that does a task on these files, if it is one.
+fn judge_command<'a>(
     alloc: Global,
-    name: &str,
+    task: Task,
     grammar: &'a str,
     files: &[&'a str],
 ) -> Result<Command<'a>, UseError>
-    requires other { ¬ (name.now ≡ codes "rules") }
-    requires several { ¬ (length files.now ≡ 1) }
     ensures { (environment : Option Text) (rows : List Row)
-        → IsAsked environment (Some (name.now, rows)) name.now grammar.now (map (λ file. file.now) files.now)
-        → IsCommandOf environment (Some (name.now, rows)) result }
+        → IsAsked environment (Some (task_name task, rows)) (task_name task) grammar.now
+        (map (λ file. file.now) files.now) → IsCommandOf environment (Some (task_name task, rows)) result }
 {
-    let Some(task) = task_named(name) else {
-        return Err(UseError::U1);
-    };
-    if !are_several(files) {
+    if !are_modules(files) {
         return Err(UseError::U1);
     }
     let files = Vec::from_slice(alloc, files)?;
-    Ok(Command::Each {
+    Ok(Command::Judge {
         task,
         grammar,
         files,
@@ -334,11 +315,13 @@ fn command_on<'a>(
         (Some (name.now, rows_of (found_of found.now))) name.now grammar.now (map (λ file. file.now) files.now)
         → IsCommandOf environment (Some (name.now, rows_of (found_of found.now))) result }
 {
-    if files.len() == 1 {
-        one_file_command(alloc, name, found, grammar, files[0])
-    } else {
-        each_command(alloc, name, grammar, files)
+    if let Some(task) = task_named(name) {
+        return judge_command(alloc, task, grammar, files);
     }
+    if files.len() != 1 {
+        return Err(UseError::U1);
+    }
+    one_file_command(alloc, name, found, grammar, files[0])
 }
 
 /// The command of a name that is not `rules`, if it is one with all its texts.
