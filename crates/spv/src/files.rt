@@ -2,8 +2,7 @@
 ghost use Rattle.std.specs.Prelude.{None};
 
 use crate::STANDARD;
-use spv_commands::{TextError, read_all};
-use spv_files::{Files, Unread};
+use spv_commands::{Files, TextError, Unread, read_all};
 use spv_words::FromRead;
 use std::alloc::Global;
 use std::io::{ErrorKind, Read};

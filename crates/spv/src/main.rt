@@ -4,8 +4,9 @@
 mod files;
 
 use files::Named;
-use spv_commands::{Command, Trouble, UseError, arguments_in, report, run, text_asked};
-use spv_files::run_each;
+use spv_commands::{
+    Command, Task, Trouble, UseError, arguments_in, report, run, run_each, text_asked,
+};
 use spv_words::{FromRead, FromWrite};
 use std::env::VarError;
 use std::io::{ErrorKind, Read, Write};
@@ -76,34 +77,46 @@ fn with_file<F: Read + Drop>(
     Ok(with_made(rt, command, grammar, file, rt.stdout(), made))
 }
 
+/// Opens the grammar file and the file of a command, does what it asks, and answers the exit status.
+fn with_one(rt: &HostRuntime, command: &Command, grammar: &str, file: &str) -> Result<u8, Trouble> {
+    let grammar = fs::read(rt, grammar).map_err(trouble_of)?;
+    if file == STANDARD {
+        return with_file(rt, command, &grammar, rt.stdin());
+    }
+    let file = fs::open(rt, file).map_err(trouble_of)?;
+    with_file(rt, command, &grammar, file)
+}
+
+/// Opens the grammar file, does a task on each of several files, and answers the exit status.
+fn with_several(
+    rt: &HostRuntime,
+    task: Task,
+    grammar: &str,
+    names: &[&str],
+) -> Result<u8, Trouble> {
+    let grammar = fs::read(rt, grammar).map_err(trouble_of)?;
+    let mut out = FromWrite::new(rt.stdout());
+    let mut err = FromWrite::new(rt.stderr());
+    let mut files = Named { rt, names };
+    Ok(run_each(rt.alloc(), task, &grammar, names, &mut files, &mut out, &mut err))
+}
+
 /// Opens the files of a command, does what it asks, and answers the exit status. `rules` has none.
 fn with_files(rt: &HostRuntime, command: &Command) -> Result<u8, Trouble> {
     match command {
-        Command::Check { grammar, file }
-        | Command::Explain { grammar, file }
-        | Command::Show { grammar, file }
-        | Command::Asm { grammar, file, .. }
-        | Command::Trace { grammar, file, .. } => {
-            let grammar = fs::read(rt, *grammar).map_err(trouble_of)?;
-            if *file == STANDARD {
-                return with_file(rt, command, &grammar, rt.stdin());
-            }
-            let file = fs::open(rt, *file).map_err(trouble_of)?;
-            with_file(rt, command, &grammar, file)
-        }
-        Command::Each {
+        Command::Judge {
             task,
             grammar,
             files,
         } => {
-            let grammar = fs::read(rt, *grammar).map_err(trouble_of)?;
-            let names = files.as_slice();
-            let mut out = FromWrite::new(rt.stdout());
-            let mut err = FromWrite::new(rt.stderr());
-            let mut files = Named { rt, names };
-            let (alloc, task) = (rt.alloc(), *task);
-            Ok(run_each(alloc, task, &grammar, names, &mut files, &mut out, &mut err))
+            if files.len() == 1 {
+                return with_one(rt, command, grammar, files[0]);
+            }
+            with_several(rt, *task, grammar, files)
         }
+        Command::Show { grammar, file }
+        | Command::Asm { grammar, file, .. }
+        | Command::Trace { grammar, file, .. } => with_one(rt, command, grammar, file),
         Command::Rules { .. } => Ok(with_made(
             rt,
             command,

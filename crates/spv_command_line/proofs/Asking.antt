@@ -15,12 +15,12 @@ use Rattle.clap.specs.declared.parser.matches.ArgMatches.TheViews.{out-SubComman
 use Rattle.clap.proofs.OnLiterals.{clap_on_literals}
 use Rattle.std.specs.Borrow.{Bor}
 use Rattle.spv_command_line.specs.declared.command_line.Command.{Command}
-use Rattle.spv_command_line.specs.declared.command_line.Command.TheVariants.{Check, Explain, Show, Asm, Trace, Rules, Each}
+use Rattle.spv_command_line.specs.declared.command_line.Command.TheVariants.{Judge, Show, Asm, Trace, Rules}
 use Rattle.spv_command_line.specs.declared.command_line.Task.{Task}
 use Rattle.spv_command_line.specs.declared.command_line.Task.TheVariants as tasks
 use Rattle.spv_command_line.specs.declared.command_line.UseError.{UseError}
 use Rattle.spv_command_line.specs.declared.command_line.UseError.TheVariants.{U1, U2, U3, U4}
-use Rattle.spv_command_line.specs.CommandLine.{Answers, IsAsked, IsCodeOf, IsCommandOf, IsEach, IsNoCommand, IsRules, error_of, inputs_among, program, task_name, text_in, texts_in}
+use Rattle.spv_command_line.specs.CommandLine.{Answers, IsAsked, IsCodeOf, IsCommandOf, IsJudge, IsNoCommand, IsRules, error_of, inputs_among, program, task_name, text_in, texts_in}
 use Rattle.spv_command_line.specs.inner.CommandLine.{IsAsmOf, IsRulesOf, IsTraceOf}
 use Rattle.spv_rules.specs.Rules.{name_of}
 use Rattle.spv_rules.specs.declared.rules.Code.{Code}
@@ -53,52 +53,46 @@ pub met : {Z : Type 0} (o : Option (Box SubCommand Z)) (name : Text) (rows : Lis
 met None name rows e f = cc
 met (Some b) name rows e f = cc
 
-asm_is_no_check : ¬ (codes "asm" ≡ codes "check")
-asm_is_no_check e = cc
+-- words of other first letters are others
+apart : (s t : Text) (m n : ℕ) → slice_index s 0 ≡ m → slice_index t 0 ≡ n → n < m → ¬ (s ≡ t)
+apart s t m n a b h e =
+    let same : m ≡ n = sym a ∙ ap (λ (l : Text). slice_index l 0) e ∙ b in
+    omega (arith, h, same)
 
-asm_is_no_explain : ¬ (codes "asm" ≡ codes "explain")
-asm_is_no_explain e = cc
-
-asm_is_no_show : ¬ (codes "asm" ≡ codes "show")
-asm_is_no_show e = cc
-
--- `trace` begins with another letter
-letters_differ : (m n : ℕ) → m ≡ 116 → n ≤ 115 → ¬ (m ≡ n)
-letters_differ m n e f h = omega arith
-
-trace_is_no_check : ¬ (codes "trace" ≡ codes "check")
-trace_is_no_check e = letters_differ 116 99 refl (omega arith) (ap (λ (l : List ℕ). slice_index l 0) e)
-
-trace_is_no_explain : ¬ (codes "trace" ≡ codes "explain")
-trace_is_no_explain e = letters_differ 116 101 refl (omega arith) (ap (λ (l : List ℕ). slice_index l 0) e)
+show_is_no_asm : ¬ (codes "show" ≡ codes "asm")
+show_is_no_asm = apart (codes "show") (codes "asm") 115 97 refl refl (omega arith)
 
 trace_is_no_show : ¬ (codes "trace" ≡ codes "show")
-trace_is_no_show e = letters_differ 116 115 refl (omega arith) (ap (λ (l : List ℕ). slice_index l 0) e)
+trace_is_no_show = apart (codes "trace") (codes "show") 116 115 refl refl (omega arith)
 
 trace_is_no_asm : ¬ (codes "trace" ≡ codes "asm")
-trace_is_no_asm e = letters_differ 116 97 refl (omega arith) (ap (λ (l : List ℕ). slice_index l 0) e)
+trace_is_no_asm = apart (codes "trace") (codes "asm") 116 97 refl refl (omega arith)
 
-asm_is_no_trace : ¬ (codes "asm" ≡ codes "trace")
-asm_is_no_trace e = trace_is_no_asm (sym e)
-
--- `rules` begins with another letter
-heads_differ : (m n : ℕ) → n < m → ¬ (m ≡ n)
-heads_differ m n h e = omega arith
-
-rules_is_no_check : ¬ (codes "rules" ≡ codes "check")
-rules_is_no_check e = heads_differ 114 99 (omega arith) (ap (λ (l : List ℕ). slice_index l 0) e)
-
-rules_is_no_explain : ¬ (codes "rules" ≡ codes "explain")
-rules_is_no_explain e = heads_differ 114 101 (omega arith) (ap (λ (l : List ℕ). slice_index l 0) e)
-
-rules_is_no_show : ¬ (codes "rules" ≡ codes "show")
-rules_is_no_show e = heads_differ 115 114 (omega arith) (ap (λ (l : List ℕ). slice_index l 0) (sym e))
+show_is_no_rules : ¬ (codes "show" ≡ codes "rules")
+show_is_no_rules = apart (codes "show") (codes "rules") 115 114 refl refl (omega arith)
 
 rules_is_no_asm : ¬ (codes "rules" ≡ codes "asm")
-rules_is_no_asm e = heads_differ 114 97 (omega arith) (ap (λ (l : List ℕ). slice_index l 0) e)
+rules_is_no_asm = apart (codes "rules") (codes "asm") 114 97 refl refl (omega arith)
 
-rules_is_no_trace : ¬ (codes "rules" ≡ codes "trace")
-rules_is_no_trace e = heads_differ 116 114 (omega arith) (ap (λ (l : List ℕ). slice_index l 0) (sym e))
+trace_is_no_rules : ¬ (codes "trace" ≡ codes "rules")
+trace_is_no_rules = apart (codes "trace") (codes "rules") 116 114 refl refl (omega arith)
+
+-- the name of a task is no other
+show_is_no_task : (task : Task) → ¬ (codes "show" ≡ task_name task)
+show_is_no_task tasks.Check = apart (codes "show") (codes "check") 115 99 refl refl (omega arith)
+show_is_no_task tasks.Explain = apart (codes "show") (codes "explain") 115 101 refl refl (omega arith)
+
+task_is_no_asm : (task : Task) → ¬ (task_name task ≡ codes "asm")
+task_is_no_asm tasks.Check = apart (codes "check") (codes "asm") 99 97 refl refl (omega arith)
+task_is_no_asm tasks.Explain = apart (codes "explain") (codes "asm") 101 97 refl refl (omega arith)
+
+trace_is_no_task : (task : Task) → ¬ (codes "trace" ≡ task_name task)
+trace_is_no_task tasks.Check = apart (codes "trace") (codes "check") 116 99 refl refl (omega arith)
+trace_is_no_task tasks.Explain = apart (codes "trace") (codes "explain") 116 101 refl refl (omega arith)
+
+rules_is_no_task : (task : Task) → ¬ (codes "rules" ≡ task_name task)
+rules_is_no_task tasks.Check = apart (codes "rules") (codes "check") 114 99 refl refl (omega arith)
+rules_is_no_task tasks.Explain = apart (codes "rules") (codes "explain") 114 101 refl refl (omega arith)
 
 -- what stands for one command stands for no other
 module _ (environment : Option Text) (found : Option (Text × List Row)) (name : Text) (grammar : Option Text) (files : Option (List Text)) where
@@ -138,13 +132,11 @@ no_rules_of_name name rows other code h =
 unasked : (environment : Option Text) (found : Option (Text × List Row)) → ((m g : Text) (fs : List Text) → ¬ (IsAsked environment found m g fs))
     → ((code : Option Code) → ¬ (IsRules found code)) → IsNoCommand environment found
 unasked environment found none other = record {
-  check = λ g f. none (codes "check") g (f ∷ []);
-  explain = λ g f. none (codes "explain") g (f ∷ []);
   show = λ g f. none (codes "show") g (f ∷ []);
   asm = λ g f out h. absurd (none (codes "asm") g (f ∷ []) h);
   trace = λ g f function choices limit h. none (codes "trace") g (f ∷ []) h.asked;
   rules = other;
-  each = λ task g fs h. none (task_name task) g fs h.asked;
+  judge = λ task g fs h. none (task_name task) g fs h.asked;
 }
 
 -- without a grammar file, or without files, there is none
@@ -156,79 +148,55 @@ pub no_command_without_file : (environment : Option Text) (found : Option (Text 
     → texts_in environment found ≡ Some (name, grammar, files) → files ≡ None → ((code : Option Code) → ¬ (IsRules found code)) → IsNoCommand environment found
 no_command_without_file environment found name grammar files e none other = unasked environment found (no_file _ _ _ _ _ e none) other
 
--- one file is no several files
-pub one_is_not_each : (environment : Option Text) (found : Option (Text × List Row)) (name g f : Text) → IsAsked environment found name g (f ∷ [])
-    → (task : Task) (h : Text) (fs : List Text) → ¬ (IsEach environment found task h fs)
-one_is_not_each environment found name g f e task h fs i =
-    let same : Some (f ∷ []) ≡ Some fs = same_files _ _ _ _ _ e (task_name task) h fs i.asked in
-    let long : 2 ≤ length fs = i.several in
-    let short : length fs ≡ 1 = ap (λ (o : Option (List Text)). length (unwrap_or o [])) (sym same) in
-    omega (arith, long, short)
-
 -- of one file, with another name there is none
 pub no_command_of_name : (environment : Option Text) (found : Option (Text × List Row)) (name g f : Text) → IsAsked environment found name g (f ∷ [])
-    → ¬ (name ≡ codes "check") → ¬ (name ≡ codes "explain") → ¬ (name ≡ codes "show") → ¬ (name ≡ codes "asm") → ¬ (name ≡ codes "trace")
+    → ((task : Task) → ¬ (name ≡ task_name task)) → ¬ (name ≡ codes "show") → ¬ (name ≡ codes "asm") → ¬ (name ≡ codes "trace")
     → ((code : Option Code) → ¬ (IsRules found code)) → IsNoCommand environment found
-no_command_of_name environment found name g f e p x q r s other = record {
-  check = λ h i. other_name _ _ _ _ _ e (codes "check") p h (i ∷ []);
-  explain = λ h i. other_name _ _ _ _ _ e (codes "explain") x h (i ∷ []);
+no_command_of_name environment found name g f e p q r s other = record {
+  judge = λ task h fs i. other_name _ _ _ _ _ e (task_name task) (p task) h fs i.asked;
   show = λ h i. other_name _ _ _ _ _ e (codes "show") q h (i ∷ []);
   asm = λ h i out k. absurd (other_name _ _ _ _ _ e (codes "asm") r h (i ∷ []) k);
   trace = λ h i function choices limit k. other_name _ _ _ _ _ e (codes "trace") s h (i ∷ []) k.asked;
   rules = other;
-  each = one_is_not_each environment found name g f e;
 }
-
--- of files that are not one, where they are no task on several, there is none
-no_command_of_list : (environment : Option Text) (found : Option (Text × List Row)) (name g : Text) (files : List Text) → IsAsked environment found name g files
-    → ¬ (length files ≡ 1) → ((task : Task) → name ≡ task_name task → ¬ ((2 ≤ length files) × (inputs_among files ≤ 1)))
-    → ((code : Option Code) → ¬ (IsRules found code)) → IsNoCommand environment found
-no_command_of_list environment found name g files e several none other =
-    let never : (m h i : Text) → ¬ (IsAsked environment found m h (i ∷ [])) = λ m h i k.
-    let same : Some files ≡ Some (i ∷ []) = same_files _ _ _ _ _ e m h (i ∷ []) k in
-    several (ap (λ (o : Option (List Text)). length (unwrap_or o [])) same) in
-    record {
-      check = never (codes "check");
-      explain = never (codes "explain");
-      show = never (codes "show");
-      asm = λ h i out k. absurd (never (codes "asm") h i k);
-      trace = λ h i function choices limit k. never (codes "trace") h i k.asked;
-      rules = other;
-      each = λ task h fs k.
-          let same : Some files ≡ Some fs = same_files _ _ _ _ _ e (task_name task) h fs k.asked in
-          let equal : fs ≡ files = ap (λ (o : Option (List Text)). unwrap_or o []) (sym same) in
-          let named : Some name ≡ Some (task_name task) = ap (λ (o : Option (Text × Option Text × Option (List Text))). option_map (λ p. p.0) o) (sym e ∙ k.asked) in
-          none task (ap (λ (o : Option Text). unwrap_or o []) named) (rw (← equal) k.several, rw (← equal) k.once);
-    }
 
 never : ¬ (IsTrue false)
 never e = cc
 
-pub no_command_of_files : (environment : Option Text) (found : Option (Text × List Row)) (name g : Text) (all : List (Bor Text)) → IsAsked environment found name g (map (λ f. f.now) all)
-    → ¬ (length all ≡ 1) → ((task : Task) → name ≡ task_name task → ¬ ((2 ≤ length all) × (inputs_among (map (λ f. f.now) all) ≤ 1)))
-    → ((code : Option Code) → ¬ (IsRules found code)) → IsNoCommand environment found
-no_command_of_files environment found name g all e several none other =
-    let same = length-map all (λ (f : Bor Text). f.now) in
-    no_command_of_list environment found name g (map (λ (f : Bor Text). f.now) all) e (λ q. several (sym same ∙ q))
-    (λ task n p. let long = p.0 in none task n (omega (arith, same, long), p.1)) other
+-- with the name of a task the command is not `rules`
+pub no_rules_of_task : (task : Task) (rows : List Row) (code : Option Code) → ¬ (IsRules (Some (task_name task, rows)) code)
+no_rules_of_task task rows = no_rules_of_name (task_name task) rows (λ e. rules_is_no_task task (sym e))
 
--- of files that are found to be no several ones
-pub not_several : (environment : Option Text) (found : Option (Text × List Row)) (name g : Text) (all : List (Bor Text)) → IsAsked environment found name g (map (λ f. f.now) all)
-    → ¬ (length all ≡ 1) → IsTrue false ↔ ((2 ≤ length all) × (inputs_among (map (λ f. f.now) all) ≤ 1))
-    → ((code : Option Code) → ¬ (IsRules found code)) → IsNoCommand environment found
-not_several environment found name g all e several answer other =
-    no_command_of_files environment found name g all e several (λ task n p. never (answer.1 p)) other
+-- of files that a task does not take there is none
+pub not_judged : (environment : Option Text) (rows : List Row) (task : Task) (g : Text) (all : List (Bor Text))
+    → IsAsked environment (Some (task_name task, rows)) (task_name task) g (map (λ f. f.now) all)
+    → IsTrue false ↔ ((1 ≤ length all) × (inputs_among (map (λ f. f.now) all) ≤ 1)) → IsNoCommand environment (Some (task_name task, rows))
+not_judged environment rows task g all e answer =
+    let files : List Text = map (λ (f : Bor Text). f.now) all in
+    let count = length-map all (λ (f : Bor Text). f.now) in
+    record {
+      judge = λ k h fs i.
+          let same : Some files ≡ Some fs = same_files environment (Some (task_name task, rows)) _ _ _ e (task_name k) h fs i.asked in
+          let equal : fs ≡ files = ap (λ (o : Option (List Text)). unwrap_or o []) (sym same) in
+          let long : 1 ≤ length files = rw (← equal) i.some in
+          never (answer.1 (omega (arith, count, long), rw (← equal) i.once));
+      show = λ h i. other_name environment (Some (task_name task, rows)) _ _ _ e (codes "show") (λ q. show_is_no_task task (sym q)) h (i ∷ []);
+      asm = λ h i out k. absurd (other_name environment (Some (task_name task, rows)) _ _ _ e (codes "asm") (task_is_no_asm task) h (i ∷ []) k);
+      trace = λ h i function choices limit k. other_name environment (Some (task_name task, rows)) _ _ _ e (codes "trace") (λ q. trace_is_no_task task (sym q)) h (i ∷ []) k.asked;
+      rules = no_rules_of_task task rows;
+    }
 
--- a task on several files
-pub each_met : (environment : Option Text) (found : Option (Text × List Row)) (name g : Text) (all items : List (Bor Text)) (task : Task)
-    → IsAsked environment found name g (map (λ f. f.now) all) → name ≡ task_name task → items ≡ all
-    → IsTrue true ↔ ((2 ≤ length all) × (inputs_among (map (λ f. f.now) all) ≤ 1)) → IsEach environment found task g (map (λ f. f.now) items)
-each_met environment found name g all items task e n i answer =
-    let same = length-map all (λ (f : Bor Text). f.now) in
+-- a task on its files
+pub judge_met : (environment : Option Text) (rows : List Row) (task : Task) (g : Text) (all items : List (Bor Text))
+    → IsAsked environment (Some (task_name task, rows)) (task_name task) g (map (λ f. f.now) all) → items ≡ all
+    → IsTrue true ↔ ((1 ≤ length all) × (inputs_among (map (λ f. f.now) all) ≤ 1))
+    → IsJudge environment (Some (task_name task, rows)) task g (map (λ f. f.now) items)
+judge_met environment rows task g all items e i answer =
+    let count = length-map all (λ (f : Bor Text). f.now) in
     let long = (answer.0 refl).0 in
     rw i (record {
-      asked = e ∙ rw n refl;
-      several = omega (arith, same, long);
+      asked = e;
+      some = omega (arith, count, long);
       once = (answer.0 refl).1;
     })
 
@@ -249,20 +217,16 @@ pub asm_met : (environment : Option Text) (found : Option (Text × List Row)) (r
     → ((option : Text) → text_in option found ≡ first_of option rows) → ((code : Option Code) → ¬ (IsRules found code)) → IsAsmOf rows g f o
     → IsCommandOf environment found (ok_or o U1)
 asm_met environment found rows g f None e t other h = record {
-  check = λ a b. other_name _ _ _ _ _ e (codes "check") asm_is_no_check a (b ∷ []);
-  explain = λ a b. other_name _ _ _ _ _ e (codes "explain") asm_is_no_explain a (b ∷ []);
-  show = λ a b. other_name _ _ _ _ _ e (codes "show") asm_is_no_show a (b ∷ []);
+  judge = λ task a fs k. other_name _ _ _ _ _ e (task_name task) (λ q. task_is_no_asm task (sym q)) a fs k.asked;
+  show = λ a b. other_name _ _ _ _ _ e (codes "show") (λ q. show_is_no_asm (sym q)) a (b ∷ []);
   asm = λ a b out _ w. let n = t (codes "out") in cc;
-  trace = λ a b function choices limit k. other_name _ _ _ _ _ e (codes "trace") asm_is_no_trace a (b ∷ []) k.asked;
+  trace = λ a b function choices limit k. other_name _ _ _ _ _ e (codes "trace") (λ q. trace_is_no_asm (sym q)) a (b ∷ []) k.asked;
   rules = other;
-  each = one_is_not_each environment found (codes "asm") g f e;
 }
-asm_met environment found rows g f (Some (Check a b)) e t other h = absurd h
-asm_met environment found rows g f (Some (Explain a b)) e t other h = absurd h
+asm_met environment found rows g f (Some (Judge task a files)) e t other h = absurd h
 asm_met environment found rows g f (Some (Show a b)) e t other h = absurd h
 asm_met environment found rows g f (Some (Trace a b function choices limit)) e t other h = absurd h
 asm_met environment found rows g f (Some (Rules code)) e t other h = absurd h
-asm_met environment found rows g f (Some (Each task a files)) e t other h = absurd h
 asm_met environment found rows g f (Some (Asm a b out big)) e t other h = (rw (h.0, h.1) e, t (codes "out") ∙ h.2, rw (t (codes "big")) h.3)
 
 -- `trace` with all of its texts and numbers, or none
@@ -270,12 +234,10 @@ pub trace_met : (environment : Option Text) (found : Option (Text × List Row)) 
     → IsAsked environment found (codes "trace") g (f ∷ [])
     → ((option : Text) → text_in option found ≡ first_of option rows) → ((code : Option Code) → ¬ (IsRules found code)) → IsTraceOf rows g f r
     → IsCommandOf environment found r
-trace_met environment found rows g f (Ok (Check a b)) e t other h = absurd h
-trace_met environment found rows g f (Ok (Explain a b)) e t other h = absurd h
+trace_met environment found rows g f (Ok (Judge task a files)) e t other h = absurd h
 trace_met environment found rows g f (Ok (Show a b)) e t other h = absurd h
 trace_met environment found rows g f (Ok (Asm a b out big)) e t other h = absurd h
 trace_met environment found rows g f (Ok (Rules code)) e t other h = absurd h
-trace_met environment found rows g f (Ok (Each task a files)) e t other h = absurd h
 trace_met environment found rows g f (Ok (Trace a b function choices limit)) e t other h = record {
   asked = rw (h.0, h.1) e;
   function_is = subst (λ (o : Option Text). IsNumberOf o function) (sym (t (codes "function"))) h.2;
@@ -283,8 +245,7 @@ trace_met environment found rows g f (Ok (Trace a b function choices limit)) e t
   limit_is = subst (λ (o : Option Text). IsNumberOf o limit) (sym (t (codes "limit"))) h.4;
 }
 trace_met environment found rows g f (Err U1) e t other h = record {
-  check = λ a b. other_name _ _ _ _ _ e (codes "check") trace_is_no_check a (b ∷ []);
-  explain = λ a b. other_name _ _ _ _ _ e (codes "explain") trace_is_no_explain a (b ∷ []);
+  judge = λ task a fs k. other_name _ _ _ _ _ e (task_name task) (trace_is_no_task task) a fs k.asked;
   show = λ a b. other_name _ _ _ _ _ e (codes "show") trace_is_no_show a (b ∷ []);
   asm = λ a b out k. absurd (other_name _ _ _ _ _ e (codes "asm") trace_is_no_asm a (b ∷ []) k);
   trace = λ a b function choices limit k. h function choices limit
@@ -292,7 +253,6 @@ trace_met environment found rows g f (Err U1) e t other h = record {
       (subst (λ (o : Option Text). AreNumbersOf o choices) (t (codes "choices")) k.choices_are)
       (subst (λ (o : Option Text). IsNumberOf o limit) (t (codes "limit")) k.limit_is);
   rules = other;
-  each = one_is_not_each environment found (codes "trace") g f e;
 }
 trace_met environment found rows g f (Err U2) e t other h = tt
 trace_met environment found rows g f (Err U3) e t other h = absurd h
@@ -306,31 +266,23 @@ code_unknown text name e h (Some code) k =
     let y : name ≡ name_of code = cc in
     h code y
 
-task_is_no_rules : (task : Task) → ¬ (codes "rules" ≡ task_name task)
-task_is_no_rules tasks.Check e = rules_is_no_check e
-task_is_no_rules tasks.Explain e = rules_is_no_explain e
-
 -- `rules` with its code, or none
 pub rules_met : (environment : Option Text) (found : Option (Text × List Row)) (name : Text) (rows : List Row) (r : Result Command UseError)
     → found ≡ Some (name, rows) → name ≡ codes "rules" → IsRulesOf rows r → IsCommandOf environment found r
-rules_met environment found name rows (Ok (Check a b)) e n h = absurd h
-rules_met environment found name rows (Ok (Explain a b)) e n h = absurd h
+rules_met environment found name rows (Ok (Judge task a files)) e n h = absurd h
 rules_met environment found name rows (Ok (Show a b)) e n h = absurd h
 rules_met environment found name rows (Ok (Asm a b out big)) e n h = absurd h
 rules_met environment found name rows (Ok (Trace a b function choices limit)) e n h = absurd h
-rules_met environment found name rows (Ok (Each task a files)) e n h = absurd h
 rules_met environment found name rows (Ok (Rules code)) e n h = record {
   asked = ap (λ (o : Option (Text × List Row)). option_map (λ p. p.0) o) e ∙ ap Some n;
   code_is = ap (text_in (codes "code")) e ∙ h;
 }
 rules_met environment found name rows (Err U1) e n h = record {
-  check = λ a b. other_name _ _ _ _ _ (ap (texts_in environment) e) (codes "check") (λ q. rules_is_no_check (sym n ∙ q)) a (b ∷ []);
-  explain = λ a b. other_name _ _ _ _ _ (ap (texts_in environment) e) (codes "explain") (λ q. rules_is_no_explain (sym n ∙ q)) a (b ∷ []);
-  show = λ a b. other_name _ _ _ _ _ (ap (texts_in environment) e) (codes "show") (λ q. rules_is_no_show (sym n ∙ q)) a (b ∷ []);
+  judge = λ task a fs k. other_name _ _ _ _ _ (ap (texts_in environment) e) (task_name task) (λ q. rules_is_no_task task (sym n ∙ q)) a fs k.asked;
+  show = λ a b. other_name _ _ _ _ _ (ap (texts_in environment) e) (codes "show") (λ q. show_is_no_rules (sym (sym n ∙ q))) a (b ∷ []);
   asm = λ a b out k. absurd (other_name _ _ _ _ _ (ap (texts_in environment) e) (codes "asm") (λ q. rules_is_no_asm (sym n ∙ q)) a (b ∷ []) k);
-  trace = λ a b function choices limit k. other_name _ _ _ _ _ (ap (texts_in environment) e) (codes "trace") (λ q. rules_is_no_trace (sym n ∙ q)) a (b ∷ []) k.asked;
+  trace = λ a b function choices limit k. other_name _ _ _ _ _ (ap (texts_in environment) e) (codes "trace") (λ q. trace_is_no_rules (sym (sym n ∙ q))) a (b ∷ []) k.asked;
   rules = λ code k. h code (sym (ap (text_in (codes "code")) e) ∙ k.code_is);
-  each = λ task a fs k. other_name _ _ _ _ _ (ap (texts_in environment) e) (task_name task) (λ q. task_is_no_rules task (sym n ∙ q)) a fs k.asked;
 }
 rules_met environment found name rows (Err U2) e n h = absurd h
 rules_met environment found name rows (Err U3) e n h = absurd h
@@ -386,16 +338,6 @@ pub grammar_read : (r e : Option (Bor Text)) (o : Option (Bor Text)) (first : Op
     → option_map (λ b. b.now) o ≡ option_or first (option_map (λ b. b.now) e)
 grammar_read None e o first h k = rw (k, ← h) refl
 grammar_read (Some b) e o first h k = rw (k, ← h) refl
-
--- one file, and the list of it
-one_file_of : (files : List (Bor Text)) (any : Bor Text) → length files ≡ 1 → map (λ f. f.now) files ≡ (get_or files 0 any).now ∷ []
-one_file_of [] any long = cc
-one_file_of (f ∷ []) any long = refl
-one_file_of (f ∷ (g ∷ gs)) any long = absurd (omega (arith, long))
-
-pub asked_one : (environment : Option Text) (found : Option (Text × List Row)) (name g : Text) (files : List (Bor Text)) (any : Bor Text)
-    → IsAsked environment found name g (map (λ f. f.now) files) → length files ≡ 1 → IsAsked environment found name g ((get_or files 0 any).now ∷ [])
-asked_one environment found name g files any e long = subst (λ (fs : List Text). IsAsked environment found name g fs) (one_file_of files any long) e
 
 -- what was read of a command's grammar file and files
 pub asked_of : (environment : Option Text) (name : Text) (rows : List Row) (grammar : Text) (files : List Text) → option_or (first_of (codes "grammar") rows) environment ≡ Some grammar

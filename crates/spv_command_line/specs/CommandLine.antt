@@ -12,8 +12,7 @@ use Rattle.clap.specs.declared.builder.action.ArgAction.TheVariants.{SetTrue}
 use Rattle.clap.specs.declared.error.kind.ErrorKind.{ErrorKind}
 use Rattle.clap.specs.declared.error.kind.ErrorKind.TheVariants.{DisplayHelp, DisplayVersion, OutOfMemory}
 use Rattle.spv_command_line.specs.declared.command_line.Command.{Command}
-use Rattle.spv_command_line.specs.declared.command_line.Command.TheVariants.{Check, Explain, Show, Asm, Trace}
-use Rattle.spv_command_line.specs.declared.command_line.Command.TheVariants.{Rules, Each}
+use Rattle.spv_command_line.specs.declared.command_line.Command.TheVariants.{Judge, Show, Asm, Trace, Rules}
 use Rattle.spv_command_line.specs.declared.command_line.Task.{Task}
 use Rattle.spv_command_line.specs.declared.command_line.Task.TheVariants as tasks
 use Rattle.spv_command_line.specs.declared.command_line.UseError.{UseError}
@@ -86,19 +85,12 @@ abbrev pub bare_program : App
 bare_program = on_top (λ s. record s { no_binary_name = true; subcommand_required = true; has_version = true })
     (new_app (codes "spv"))
 
--- the commands that judge modules
-abbrev pub judging_program : App
-judging_program =
-    with_subcommand (with_subcommand bare_program (file_command (codes "check") files_word))
-    (file_command (codes "explain") files_word)
-
--- the same with those that show a module and make one
-abbrev pub module_program : App
-module_program = with_subcommand (with_subcommand judging_program (file_command (codes "show") file_word)) asm_command
-
 -- all commands, of which one must be given
 abbrev pub program : App
-program = with_subcommand (with_subcommand module_program trace_command) rules_command
+program =
+    with_subcommand (with_subcommand (with_subcommand (with_subcommand (with_subcommand (with_subcommand bare_program
+    (file_command (codes "check") files_word)) (file_command (codes "explain") files_word))
+    (file_command (codes "show") file_word)) asm_command) trace_command) rules_command
 
 -- the name of the command, the path of its grammar file and its files, as `clap` reads them; without `--grammar` the
 -- grammar file is that of the environment, if it has one
@@ -140,19 +132,17 @@ task_name tasks.Explain = codes "explain"
 abbrev pub inputs_among : List Text → ℕ
 inputs_among files = count_by (λ file. bytes_eq file (codes "-")) files
 
--- they are a task on several files, of which at most one is the standard input
-pub record IsEach (environment : Option Text) (found : Option (Text × List Row)) (task : Task) (grammar : Text)
+-- they are a task on one file or more, of which at most one is the standard input
+pub record IsJudge (environment : Option Text) (found : Option (Text × List Row)) (task : Task) (grammar : Text)
     (files : List Text) : Type 0 where
   pub asked : IsAsked environment found (task_name task) grammar files
-  pub several : 2 ≤ length files
+  pub some : 1 ≤ length files
   pub once : inputs_among files ≤ 1
 
 -- they are a command with all of its texts; a flag that was read has the text `true`
 abbrev pub IsCommand : Option Text → Option (Text × List Row) → Command → Type 0
-IsCommand environment found (Check grammar file) =
-    IsAsked environment found (codes "check") grammar.now (file.now ∷ [])
-IsCommand environment found (Explain grammar file) =
-    IsAsked environment found (codes "explain") grammar.now (file.now ∷ [])
+IsCommand environment found (Judge task grammar files) =
+    IsJudge environment found task grammar.now (map (λ file. file.now) files.items)
 IsCommand environment found (Show grammar file) = IsAsked environment found (codes "show") grammar.now (file.now ∷ [])
 IsCommand environment found (Asm grammar file out big) =
     IsAsked environment found (codes "asm") grammar.now (file.now ∷ [])
@@ -161,20 +151,16 @@ IsCommand environment found (Asm grammar file out big) =
 IsCommand environment found (Trace grammar file function choices limit) =
     IsTrace environment found grammar.now file.now function choices.items limit
 IsCommand environment found (Rules code) = IsRules found code
-IsCommand environment found (Each task grammar files) =
-    IsEach environment found task grammar.now (map (λ file. file.now) files.items)
 
 -- they are no command with all of its texts
 pub record IsNoCommand (environment : Option Text) (found : Option (Text × List Row)) : Type 0 where
-  pub check : (grammar file : Text) → ¬ (IsAsked environment found (codes "check") grammar (file ∷ []))
-  pub explain : (grammar file : Text) → ¬ (IsAsked environment found (codes "explain") grammar (file ∷ []))
+  pub judge : (task : Task) (grammar : Text) (files : List Text) → ¬ (IsJudge environment found task grammar files)
   pub show : (grammar file : Text) → ¬ (IsAsked environment found (codes "show") grammar (file ∷ []))
   pub asm : (grammar file out : Text) → IsAsked environment found (codes "asm") grammar (file ∷ [])
       → ¬ (text_in (codes "out") found ≡ Some out)
   pub trace : (grammar file : Text) (function : ℕ) (choices : List ℕ) (limit : ℕ)
       → ¬ (IsTrace environment found grammar file function choices limit)
   pub rules : (code : Option Code) → ¬ (IsRules found code)
-  pub each : (task : Task) (grammar : Text) (files : List Text) → ¬ (IsEach environment found task grammar files)
 
 -- what `clap` read is the command, or none
 abbrev pub IsCommandOf : Option Text → Option (Text × List Row) → Result Command UseError → Type 0

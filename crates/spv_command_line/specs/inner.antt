@@ -1,3 +1,4 @@
 -- Definitions that serve the code alone.
 pub mod CommandLine
+pub mod Program
 pub mod Reading

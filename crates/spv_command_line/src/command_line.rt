@@ -1,27 +1,24 @@
 //! The words of the command line, read by `clap`.
-ghost use Rattle.std.specs.Prelude.{◌≡◌, ◌≤◌, ◌↔◌, ◌∷◌, ℕ, List, [], false, codes, IfOk};
+ghost use Rattle.std.specs.Prelude.{◌≡◌, ◌≤◌, ◌↔◌, ◌∷◌, ℕ, List, [], codes, IfOk};
 ghost use Rattle.std.specs.Prelude.{IsTrue, MatchOption, map, option_map, Option, Some, length};
 ghost use Rattle.std.specs.Str.{bytes_eq};
-ghost use Rattle.clap.specs.Words.{Row, Text, app_of, first_of, found_of, rows_of, rule_of, shape_of};
-ghost use Rattle.clap.specs.Words.{subcommand_rows_of};
-ghost use Rattle.clap.specs.declared.builder.command.Command.TheViews.{out-Command};
+ghost use Rattle.clap.specs.Words.{Row, Text, first_of, found_of, rows_of, subcommand_rows_of};
 ghost use Rattle.spv_command_line.specs.declared.command_line.Command.{Command};
-ghost use Rattle.spv_command_line.specs.CommandLine.{Answers, AnswersTo, IsAsked, IsCommandOf, asm_command};
-ghost use Rattle.spv_command_line.specs.CommandLine.{error_of, file_command, file_word, files_word, grammar_option};
-ghost use Rattle.spv_command_line.specs.CommandLine.{bare_program, inputs_among, judging_program, module_program};
-ghost use Rattle.spv_command_line.specs.CommandLine.{number_option, program, rules_command, task_name, trace_command};
+ghost use Rattle.spv_command_line.specs.declared.command_line.Task.{Task};
+ghost use Rattle.spv_command_line.specs.CommandLine.{Answers, AnswersTo, IsAsked, IsCommandOf, error_of};
+ghost use Rattle.spv_command_line.specs.CommandLine.{inputs_among, task_name};
 ghost use Rattle.spv_command_line.specs.inner.CommandLine.{IsAsmOf, IsRulesOf, IsTraceOf};
 ghost use Rattle.spv_command_line.specs.Number.{AreNumbersOf, IsNumberOf};
 
-use crate::manual;
 use crate::number::{number_in, numbers_in};
+use crate::program::all_words;
+use clap::ArgMatches;
 use clap::error::ErrorKind;
-use clap::{Arg, ArgAction, ArgMatches};
 use spv_rules::Code;
 use std::alloc::{AllocError, Global};
 use thiserror::Error;
 
-/// What is done with each of several modules.
+/// What is done with each module.
 #[derive(Clone, Copy, Debug, PartialEq, Eq)]
 pub enum Task {
     /// The verdict on it, as `spv check`.
@@ -33,19 +30,14 @@ pub enum Task {
 /// What the program is asked to do.
 #[derive(Debug, Drop, PartialEq, Eq)]
 pub enum Command<'a> {
-    /// `spv check --grammar G FILE`: the verdict on a module.
-    Check {
+    /// `spv check --grammar G FILE ..`, or `spv explain`: a task on these modules, one after the other.
+    Judge {
+        /// The task.
+        task: Task,
         /// The path of the grammar file.
         grammar: &'a str,
-        /// The path of the module.
-        file: &'a str,
-    },
-    /// `spv explain --grammar G FILE`: the verdict on a module, and what explains it.
-    Explain {
-        /// The path of the grammar file.
-        grammar: &'a str,
-        /// The path of the module.
-        file: &'a str,
+        /// The paths of the modules: one or more, of which at most one is `-`, the standard input.
+        files: Vec<&'a str>,
     },
     /// `spv show --grammar G FILE`: the text of a module.
     Show {
@@ -84,15 +76,6 @@ pub enum Command<'a> {
         /// The code, if it is only one.
         code: Option<Code>,
     },
-    /// `spv check --grammar G FILE FILE ..`, or `spv explain`: a task on several modules, one after the other.
-    Each {
-        /// The task.
-        task: Task,
-        /// The path of the grammar file.
-        grammar: &'a str,
-        /// The paths of the modules: two or more, of which at most one is `-`, the standard input.
-        files: Vec<&'a str>,
-    },
 }
 
 /// Why the words of the command line give no command.
@@ -121,202 +104,6 @@ impl From<AllocError> for UseError {
     fn from(_error: AllocError) -> UseError {
         UseError::U2
     }
-}
-
-/// What is said of the word for a module.
-const MODULE: &str = "The module, or `-` for the standard input";
-
-/// What is said of the words for modules.
-const MODULES: &str = "The modules, of which one may be `-` for the standard input";
-
-/// The word for one file.
-fn one_file<'a>(alloc: Global, what: &'a str) -> Arg<'a>
-    ensures rule { rule_of result ≡ file_word }
-    ensures local { result.global ≡ false }
-{
-    Arg::new(alloc, "file")
-        .value_name("FILE")
-        .required(true)
-        .help(what)
-}
-
-/// The words for one file or more.
-fn several_files<'a>(alloc: Global, what: &'a str) -> Arg<'a>
-    ensures rule { rule_of result ≡ files_word }
-    ensures local { result.global ≡ false }
-{
-    one_file(alloc, what).num_args(1..)
-}
-
-/// The option for the grammar file.
-fn grammar_file<'a>(alloc: Global) -> Arg<'a>
-    ensures rule { rule_of result ≡ grammar_option }
-    ensures local { result.global ≡ false }
-{
-    Arg::new(alloc, "grammar")
-        .long("grammar")
-        .value_name("G")
-        .help("The grammar file, in JSON; where it is left out, that of SPV_GRAMMAR")
-}
-
-/// A command of that name, which reads what this word is under a grammar file.
-fn words_with<'a>(
-    alloc: Global,
-    name: &'a str,
-    about: &'a str,
-    notes: &'a str,
-    file: Arg<'a>,
-) -> Result<clap::Command<'a>, AllocError>
-    requires { file.global ≡ false }
-    ensures shape { IfOk result (λ c. shape_of c ≡ file_command name.now (rule_of file.entry)) }
-    ensures local { IfOk result (λ c. (out-Command c).has_globals ≡ false) }
-{
-    clap::Command::new(alloc, name)
-        .about(about)
-        .after_help(notes)
-        .arg(grammar_file(alloc))?
-        .arg(file)
-}
-
-/// A command of that name, which reads a file under a grammar file.
-fn file_words<'a>(
-    alloc: Global,
-    name: &'a str,
-    about: &'a str,
-    notes: &'a str,
-    what: &'a str,
-) -> Result<clap::Command<'a>, AllocError>
-    ensures shape { IfOk result (λ c. shape_of c ≡ file_command name.now file_word) }
-    ensures local { IfOk result (λ c. (out-Command c).has_globals ≡ false) }
-{
-    let file = one_file(alloc, what);
-    words_with(alloc, name, about, notes, file)
-}
-
-/// A command of that name, which reads modules under a grammar file.
-fn each_words<'a>(
-    alloc: Global,
-    name: &'a str,
-    about: &'a str,
-    notes: &'a str,
-) -> Result<clap::Command<'a>, AllocError>
-    ensures shape { IfOk result (λ c. shape_of c ≡ file_command name.now files_word) }
-    ensures local { IfOk result (λ c. (out-Command c).has_globals ≡ false) }
-{
-    let files = several_files(alloc, MODULES);
-    words_with(alloc, name, about, notes, files)
-}
-
-/// The command that makes the module of a text.
-fn asm_words<'a>(alloc: Global) -> Result<clap::Command<'a>, AllocError>
-    ensures shape { IfOk result (λ c. shape_of c ≡ asm_command) }
-    ensures local { IfOk result (λ c. (out-Command c).has_globals ≡ false) }
-{
-    let out = Arg::new(alloc, "out")
-        .long("out")
-        .value_name("OUT")
-        .required(true)
-        .help("The module that is made, or `-` for the standard output");
-    let big = Arg::new(alloc, "big")
-        .long("big")
-        .action(ArgAction::SetTrue)
-        .help("The highest byte of a word stands first");
-    let about = "Makes the module of a text";
-    let text = "The text, or `-` for the standard input";
-    file_words(alloc, "asm", about, manual::ASM, text)?
-        .arg(out)?
-        .arg(big)
-}
-
-/// An option of numbers.
-fn number_words<'a>(
-    alloc: Global,
-    name: &'a str,
-    value: &'a str,
-    must: bool,
-    what: &'a str,
-) -> Arg<'a>
-    ensures rule { rule_of result ≡ number_option name.now must }
-    ensures local { result.global ≡ false }
-{
-    Arg::new(alloc, name)
-        .long(name)
-        .value_name(value)
-        .required(must)
-        .help(what)
-}
-
-/// The command that writes the run of a function.
-fn trace_words<'a>(alloc: Global) -> Result<clap::Command<'a>, AllocError>
-    ensures shape { IfOk result (λ c. shape_of c ≡ trace_command) }
-    ensures local { IfOk result (λ c. (out-Command c).has_globals ≡ false) }
-{
-    let about = "Writes the run of an entry point's function";
-    let id = "The id of an entry point's function";
-    let targets = "The targets that are taken, from 0, as 0,1";
-    let function = number_words(alloc, "function", "ID", true, id);
-    let choices = number_words(alloc, "choices", "LIST", false, targets);
-    let limit = number_words(alloc, "limit", "N", true, manual::LIMIT);
-    file_words(alloc, "trace", about, manual::TRACE, MODULE)?
-        .arg(function)?
-        .arg(choices)?
-        .arg(limit)
-}
-
-/// The command that writes what codes say.
-fn rules_words<'a>(alloc: Global) -> Result<clap::Command<'a>, AllocError>
-    ensures shape { IfOk result (λ c. shape_of c ≡ rules_command) }
-    ensures local { IfOk result (λ c. (out-Command c).has_globals ≡ false) }
-{
-    let code = Arg::new(alloc, "code")
-        .value_name("CODE")
-        .help("The only code of which it is written");
-    clap::Command::new(alloc, "rules")
-        .about("Writes what each code of a verdict says")
-        .after_help(manual::RULES)
-        .arg(code)
-}
-
-/// The command line of no commands yet, with the version.
-fn program_words<'a>(alloc: Global) -> clap::Command<'a>
-    ensures { app_of result ≡ bare_program }
-{
-    clap::Command::new(alloc, "spv")
-        .about("Checks, explains, shows, assembles and traces SPIR-V 1.6 kernel modules")
-        .after_help(manual::PROGRAM)
-        .version(manual::VERSION)
-        .no_binary_name(true)
-        .subcommand_required(true)
-}
-
-/// The command line of the commands that judge modules.
-fn judging_words<'a>(alloc: Global) -> Result<clap::Command<'a>, AllocError>
-    ensures { IfOk result (λ c. app_of c ≡ judging_program) }
-{
-    let judges = "Writes the verdict on a module, or on each of several";
-    let explains = "Writes the verdict on a module, or on each of several, and what explains it";
-    let check = each_words(alloc, "check", judges, manual::CHECK)?;
-    let explain = each_words(alloc, "explain", explains, manual::EXPLAIN)?;
-    program_words(alloc).subcommand(check)?.subcommand(explain)
-}
-
-/// The same with those that show a module and make one.
-fn module_words<'a>(alloc: Global) -> Result<clap::Command<'a>, AllocError>
-    ensures { IfOk result (λ c. app_of c ≡ module_program) }
-{
-    let about = "Writes the text of a module";
-    let show = file_words(alloc, "show", about, manual::SHOW, MODULE)?;
-    let asm = asm_words(alloc)?;
-    judging_words(alloc)?.subcommand(show)?.subcommand(asm)
-}
-
-/// The whole command line.
-fn all_words<'a>(alloc: Global) -> Result<clap::Command<'a>, AllocError>
-    ensures { IfOk result (λ c. app_of c ≡ program) }
-{
-    let trace = trace_words(alloc)?;
-    let rules = rules_words(alloc)?;
-    module_words(alloc)?.subcommand(trace)?.subcommand(rules)
 }
 
 /// The error for what `clap` refused.
@@ -432,7 +219,7 @@ fn rules_in<'a>(found: &ArgMatches<'a>) -> Result<Command<'a>, UseError>
     }
 }
 
-/// The command of a name that is not `rules` on one file, if it is one with all its texts.
+/// The command of a name that is no task's and not `rules` on one file, if it is one with all its texts.
 fn one_file_command<'a>(
     alloc: Global,
     name: &str,
@@ -440,14 +227,13 @@ fn one_file_command<'a>(
     grammar: &'a str,
     file: &'a str,
 ) -> Result<Command<'a>, UseError>
-    requires { ¬ (name.now ≡ codes "rules") }
+    requires rules { ¬ (name.now ≡ codes "rules") }
+    requires task { (task : Task) → ¬ (name.now ≡ task_name task) }
     ensures { (environment : Option Text) → IsAsked environment
         (Some (name.now, rows_of (found_of found.now))) name.now grammar.now (file.now ∷ [])
         → IsCommandOf environment (Some (name.now, rows_of (found_of found.now))) result }
 {
     match name {
-        "check" => Ok(Command::Check { grammar, file }),
-        "explain" => Ok(Command::Explain { grammar, file }),
         "show" => Ok(Command::Show { grammar, file }),
         "asm" => asm_in(found, grammar, file).ok_or(UseError::U1),
         "trace" => trace_in(alloc, found, grammar, file),
@@ -455,7 +241,7 @@ fn one_file_command<'a>(
     }
 }
 
-/// The task of the command of a name, if it is one on several files.
+/// The task of the command of a name, if it is one on modules.
 fn task_named(name: &str) -> Option<Task>
     ensures { MatchOption result ((task : Task) → ¬ (name.now ≡ task_name task))
         (λ task. name.now ≡ task_name task) }
@@ -487,34 +273,29 @@ fn inputs_of(files: &[&str]) -> usize
     count
 }
 
-/// Whether these files are two or more, of which at most one is the standard input.
-fn are_several(files: &[&str]) -> bool
-    ensures { IsTrue result ↔ ((2 ≤ length files.now) × (inputs_among (map (λ file. file.now) files.now) ≤ 1)) }
+/// Whether these files are one or more, of which at most one is the standard input.
+fn are_modules(files: &[&str]) -> bool
+    ensures { IsTrue result ↔ ((1 ≤ length files.now) × (inputs_among (map (λ file. file.now) files.now) ≤ 1)) }
 {
-    files.len() > 1 && inputs_of(files) < 2
+    !files.is_empty() && inputs_of(files) < 2
 }
 
-/// The command of a name that is not `rules` on no file, or on several, if it is one.
-fn each_command<'a>(
+/// The command that does a task on these files, if it is one.
+fn judge_command<'a>(
     alloc: Global,
-    name: &str,
+    task: Task,
     grammar: &'a str,
     files: &[&'a str],
 ) -> Result<Command<'a>, UseError>
-    requires other { ¬ (name.now ≡ codes "rules") }
-    requires several { ¬ (length files.now ≡ 1) }
     ensures { (environment : Option Text) (rows : List Row)
-        → IsAsked environment (Some (name.now, rows)) name.now grammar.now (map (λ file. file.now) files.now)
-        → IsCommandOf environment (Some (name.now, rows)) result }
+        → IsAsked environment (Some (task_name task, rows)) (task_name task) grammar.now
+        (map (λ file. file.now) files.now) → IsCommandOf environment (Some (task_name task, rows)) result }
 {
-    let Some(task) = task_named(name) else {
-        return Err(UseError::U1);
-    };
-    if !are_several(files) {
+    if !are_modules(files) {
         return Err(UseError::U1);
     }
     let files = Vec::from_slice(alloc, files)?;
-    Ok(Command::Each {
+    Ok(Command::Judge {
         task,
         grammar,
         files,
@@ -534,11 +315,13 @@ fn command_on<'a>(
         (Some (name.now, rows_of (found_of found.now))) name.now grammar.now (map (λ file. file.now) files.now)
         → IsCommandOf environment (Some (name.now, rows_of (found_of found.now))) result }
 {
-    if files.len() == 1 {
-        one_file_command(alloc, name, found, grammar, files[0])
-    } else {
-        each_command(alloc, name, grammar, files)
+    if let Some(task) = task_named(name) {
+        return judge_command(alloc, task, grammar, files);
     }
+    if files.len() != 1 {
+        return Err(UseError::U1);
+    }
+    one_file_command(alloc, name, found, grammar, files[0])
 }
 
 /// The command of a name that is not `rules`, if it is one with all its texts.

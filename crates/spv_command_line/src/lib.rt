@@ -5,6 +5,7 @@ mod command_line;
 pub mod laws;
 mod manual;
 mod number;
+mod program;
 
 pub use command_line::{Command, Task, UseError, arguments, arguments_in, help, text_asked};
 pub use spv_rules::Code;

@@ -1,4 +1,5 @@
 pub mod Assemblings
+pub mod Parts
 pub mod Showings
 pub mod Tasks
 pub mod TraceLines

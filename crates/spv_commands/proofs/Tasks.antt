@@ -5,7 +5,7 @@ use Rattle.spv_words.specs.declared.words.Order.{Order}
 use Rattle.spv_words.specs.declared.words.WordError.TheVariants.{W2}
 use Rattle.spv_table.specs.Table.{Table}
 use Rattle.spv_command_line.specs.declared.command_line.Command.{Command}
-use Rattle.spv_command_line.specs.declared.command_line.Command.TheVariants.{Check, Explain, Show, Asm, Trace, Rules, Each}
+use Rattle.spv_command_line.specs.declared.command_line.Command.TheVariants.{Judge, Show, Asm, Trace, Rules}
 use Rattle.spv_command_line.specs.declared.command_line.Task.TheVariants as tasks
 use Rattle.spv_commands.specs.Example.{empty_grammar}
 use Rattle.spv_commands.specs.Show.{BeginsShowing, IsShowing, Shows}
@@ -60,24 +60,20 @@ pub does_short : (c : Command) (G : Table) → ReadsGrammar c → MakesNothing c
     → Shows G (1 ∷ 2 ∷ 3 ∷ []) (9 ∷ []) (Some (9 ∷ codes "fault W2" ++ line_end)) false
     → ((function : ℕ) (choices : List ℕ) (limit : ℕ) → Traces G function choices limit (1 ∷ 2 ∷ 3 ∷ []) (9 ∷ []) (Some (9 ∷ codes "fault W2" ++ line_end)) false)
     → DoesByText c empty_grammar (1 ∷ 2 ∷ 3 ∷ []) (Some (9 ∷ [])) (Some (9 ∷ codes "fault W2" ++ line_end)) None None false
-does_short (Check g f) G r n given tells explains shows traces = record { table = G; given = given; does = tells }
-does_short (Explain g f) G r n given tells explains shows traces = record { table = G; given = given; does = explains }
+does_short (Judge tasks.Check g fs) G r n given tells explains shows traces = record { table = G; given = given; does = tells }
+does_short (Judge tasks.Explain g fs) G r n given tells explains shows traces = record { table = G; given = given; does = explains }
 does_short (Show g f) G r n given tells explains shows traces = record { table = G; given = given; does = shows }
 does_short (Asm g f o b) G r n given tells explains shows traces = absurd n
 does_short (Trace g f function choices limit) G r n given tells explains shows traces = record { table = G; given = given; does = traces function choices.items limit }
 does_short (Rules code) G r n given tells explains shows traces = absurd r
-does_short (Each tasks.Check g fs) G r n given tells explains shows traces = record { table = G; given = given; does = tells }
-does_short (Each tasks.Explain g fs) G r n given tells explains shows traces = record { table = G; given = given; does = explains }
 
 pub begins_short : (c : Command) (G : Table) → ReadsGrammar c → MakesNothing c → IsTableOf empty_grammar G → Begins G (1 ∷ 2 ∷ 3 ∷ []) (9 ∷ []) (Some (9 ∷ codes "fault"))
     → BeginsExplaining G (1 ∷ 2 ∷ 3 ∷ []) (9 ∷ []) (Some (9 ∷ codes "fault"))
     → BeginsShowing G (1 ∷ 2 ∷ 3 ∷ []) (9 ∷ []) (Some (9 ∷ codes "fault"))
     → ((function : ℕ) (choices : List ℕ) (limit : ℕ) → BeginsTracing G function choices limit (1 ∷ 2 ∷ 3 ∷ []) (9 ∷ []) (Some (9 ∷ codes "fault"))) → BeginsByText c empty_grammar (1 ∷ 2 ∷ 3 ∷ []) (Some (9 ∷ [])) (Some (9 ∷ codes "fault")) None None
-begins_short (Check g f) G r n given begins explained shown traced = record { table = G; given = given; begins = begins }
-begins_short (Explain g f) G r n given begins explained shown traced = record { table = G; given = given; begins = explained }
+begins_short (Judge tasks.Check g fs) G r n given begins explained shown traced = record { table = G; given = given; begins = begins }
+begins_short (Judge tasks.Explain g fs) G r n given begins explained shown traced = record { table = G; given = given; begins = explained }
 begins_short (Show g f) G r n given begins explained shown traced = record { table = G; given = given; begins = shown }
 begins_short (Asm g f o b) G r n given begins explained shown traced = absurd n
 begins_short (Trace g f function choices limit) G r n given begins explained shown traced = record { table = G; given = given; begins = traced function choices.items limit }
 begins_short (Rules code) G r n given begins explained shown traced = absurd r
-begins_short (Each tasks.Check g fs) G r n given begins explained shown traced = record { table = G; given = given; begins = begins }
-begins_short (Each tasks.Explain g fs) G r n given begins explained shown traced = record { table = G; given = given; begins = explained }

@@ -1,73 +1,50 @@
 -- Why a check ends as it does, by the text of its grammar file.
-use Rattle.std.proofs.Common.{◌≡◌, ◌≢◌, ◌⊎◌, ◌↔◌, ℕ, List, Bool, Option, Some, None, Result, Ok, Err, IfSome, IfOk, IfErr, IsErrOf, inl, inr, ap, refl}
+use Rattle.std.proofs.Common.{◌≡◌, ◌≢◌, ◌⊎◌, ℕ, List, Bool, Option, Some, None, Result, Ok, Err, IfSome, IfOk, IfErr, IsErrOf, inl, inr, ap, true}
 use Rattle.spv_grammar.specs.Answer.{text_breaks}
 use Rattle.spv_grammar.specs.declared.error.GrammarError.{GrammarError}
 use Rattle.spv_grammar.specs.declared.error.GrammarError.TheVariants.{J1, J2, J3, J4, J5, J6, J7, J8}
 use Rattle.spv_table.specs.Table.{Table}
-use Rattle.spv_commands.specs.Show.{Shows}
-use Rattle.spv_commands.specs.Task.{DoesTask, LacksEntry, LacksEntryByText}
-use Rattle.spv_commands.specs.Trace.{Traces}
+use Rattle.spv_commands.specs.Streams.{IsAnswered, IsDone, Reading, Writing}
+use Rattle.spv_commands.specs.Task.{Does, DoesByText, LacksEntry, LacksEntryByText, BeginsText, WritesText}
 use Rattle.spv_command_line.specs.declared.command_line.Command.{Command}
-use Rattle.spv_command_line.specs.declared.command_line.Task.{Task}
-use Rattle.spv_verdict.specs.Stream.{TellsVerdict}
-use Rattle.spv_reasons.specs.Stream.{Explains}
 use Rattle.spv_commands.specs.Trouble.{IsErrorLine, IsTableOf, refused, file, entry, memory, grammar_text, trouble_text}
+use Rattle.spv_commands.specs.inner.Ending.{EndsByTable, EndsByText, EndsWithText}
 use Rattle.spv_commands.specs.declared.program.Trouble.{Trouble}
-use Rattle.spv_commands.specs.declared.program.Trouble.TheVariants.{File, Memory, NoEntry}
+use Rattle.spv_commands.specs.declared.program.Trouble.TheVariants.{File, Grammar, Memory, NoEntry}
 
 -- a trouble of a command has its reason
-pub stream_reason : (command : Command) (text : List ℕ) (G : Table) (known : Option (List ℕ)) (failed : Type 0) (r : Result Bool Trouble) → IsTableOf text G
-    → IfErr r (λ t. ((t ≡ File) × failed) ⊎ ((t ≡ NoEntry) × LacksEntry command G known) ⊎ (t ≡ Memory))
+line_of : (command : Command) (text : List ℕ) (G : Table) (known : Option (List ℕ)) (failed : Type 0) (r : Result Bool Trouble) → IsTableOf text G
+    → IfErr r (λ t. (t ≡ File) ⊎ ((t ≡ NoEntry) × LacksEntry command G known) ⊎ (t ≡ Memory)) → (IsErrOf r File → failed)
     → IfErr r (λ t. IsErrorLine text failed (LacksEntryByText command text known) (trouble_text t))
-stream_reason command text G known failed (Ok v) h o = tt
-stream_reason command text G known failed (Err t) h (inl e) = rw (e.0) (file e.1)
-stream_reason command text G known failed (Err t) h (inr (inl e)) = rw (e.0) (entry (record { table = G; given = h; lacks = e.1 }))
-stream_reason command text G known failed (Err t) h (inr (inr e)) = rw e memory
+line_of command text G known failed (Ok v) h o w = tt
+line_of command text G known failed (Err t) h (inl e) w = rw e (file (w (ap Err e)))
+line_of command text G known failed (Err t) h (inr (inl e)) w = rw (e.0) (entry (record { table = G; given = h; lacks = e.1 }))
+line_of command text G known failed (Err t) h (inr (inr e)) w = rw e memory
 
--- where nothing is made, no write to what is made failed
-pub no_third : (A B P : Type 0) (n : ℕ) → (A ⊎ B → P) → A ⊎ B ⊎ (n ≢ n) → P
-no_third A B P n f (inl a) = f (inl a)
-no_third A B P n f (inr (inl b)) = f (inr b)
-no_third A B P n f (inr (inr c)) = absurd (c refl)
+some_by : {X : Type 0} (o : Option X) (P Q : X → Type 0) → ((x : X) → P x → Q x) → IfSome o P → IfSome o Q
+some_by None P Q f h = tt
+some_by (Some x) P Q f h = f x h
 
-pub no_second : (B P : Type 0) (n : ℕ) → (B → P) → B ⊎ (n ≢ n) → P
-no_second B P n f (inl b) = f b
-no_second B P n f (inr c) = absurd (c refl)
+ok_by : {X E : Type 0} (r : Result X E) (P Q : X → Type 0) → ((x : X) → P x → Q x) → IfOk r P → IfOk r Q
+ok_by (Ok x) P Q f h = f x h
+ok_by (Err e) P Q f h = tt
 
--- where one write alone may have failed
-pub middle : (B P : Type 0) (m n : ℕ) → (B → P) → (m ≢ m) ⊎ B ⊎ (n ≢ n) → P
-middle B P m n f (inl a) = absurd (a refl)
-middle B P m n f (inr (inl b)) = f b
-middle B P m n f (inr (inr c)) = absurd (c refl)
-
-pub one_reason : (A B C N L : Type 0) (r : Result Bool Trouble) → IfErr r (λ t. (t ≡ File) ⊎ (t ≡ Memory)) → (B ↔ IsErrOf r File)
-    → IfErr r (λ t. ((t ≡ File) × ((A ⊎ B ⊎ C) ⊎ N)) ⊎ ((t ≡ NoEntry) × L) ⊎ (t ≡ Memory))
-one_reason A B C N L (Ok v) o f = tt
-one_reason A B C N L (Err t) (inr e) f = inr (inr e)
-one_reason A B C N L (Err t) (inl e) f = inl (e, inl (inr (inl (f.1 (ap Err e)))))
-
--- what holds of any bytes
-pub any_bytes : (o : Option (List ℕ)) (P : Type 0) → P → IfSome o (λ bytes. P)
-any_bytes None P h = tt
-any_bytes (Some x) P h = h
-
-pub two_reasons : (A B C N L : Type 0) (r : Result Bool Trouble) → IfErr r (λ t. (t ≡ File) ⊎ (t ≡ Memory)) → (A ⊎ B ↔ IsErrOf r File)
-    → IfErr r (λ t. ((t ≡ File) × ((A ⊎ B ⊎ C) ⊎ N)) ⊎ ((t ≡ NoEntry) × L) ⊎ (t ≡ Memory))
-two_reasons A B C N L (Ok v) o f = tt
-two_reasons A B C N L (Err t) (inr e) f = inr (inr e)
-two_reasons A B C N L (Err t) (inl e) f = inl (e, inl (elim (f.1 (ap Err e)) [ inl a ↦ inl a | inr b ↦ inr (inl b) ]))
-
-pub three_reasons : (A B C N L : Type 0) (r : Result Bool Trouble) → IfErr r (λ t. (t ≡ File) ⊎ ((t ≡ NoEntry) × L) ⊎ (t ≡ Memory)) → (A ⊎ B ↔ IsErrOf r File)
-    → IfErr r (λ t. ((t ≡ File) × ((A ⊎ B ⊎ C) ⊎ N)) ⊎ ((t ≡ NoEntry) × L) ⊎ (t ≡ Memory))
-three_reasons A B C N L (Ok v) o f = tt
-three_reasons A B C N L (Err t) (inr e) f = inr e
-three_reasons A B C N L (Err t) (inl e) f = inl (e, inl (elim (f.1 (ap Err e)) [ inl a ↦ inl a | inr b ↦ inr (inl b) ]))
-
--- a text fails for no want of an entry point
-pub no_entry_lacks : (N L : Type 0) (r : Result Bool Trouble) → IfErr r (λ t. ((t ≡ File) × N) ⊎ (t ≡ Memory)) → IfErr r (λ t. ((t ≡ File) × N) ⊎ ((t ≡ NoEntry) × L) ⊎ (t ≡ Memory))
-no_entry_lacks N L (Ok v) o = tt
-no_entry_lacks N L (Err t) (inl e) = inl e
-no_entry_lacks N L (Err t) (inr e) = inr (inr e)
+-- how a command ends by the table of its grammar file
+pub by_text : (command : Command) (text : List ℕ) (G : Table) (f : Reading) (out made : Writing) (r : Result Bool Trouble) → IsTableOf text G
+    → EndsByTable command G f out made r → EndsByText command text f out made r
+by_text command text G f out made r given e = record {
+  ends = record {
+    whole = some_by f.left (λ bytes. IfOk r (Does command G bytes out.held out.holds made.held made.holds))
+        (λ bytes. IfOk r (DoesByText command text bytes out.held out.holds made.held made.holds))
+        (λ bytes. ok_by r _ _ (λ answer d. record { table = G; given = given; does = d })) e.ends.whole;
+    failed = e.ends.failed;
+    why = e.ends.why;
+    unwritten = e.ends.unwritten;
+    unmade = e.ends.unmade;
+    begun = λ w. some_by f.left _ _ (λ bytes b. record { table = G; given = given; begins = b }) (e.ends.begun w);
+  };
+  reason = line_of command text G f.left _ r given e.only e.ends.why;
+}
 
 -- the same, asked in another order
 swapped : {X Y Z : Type 0} (o : Option X) (k : Option Y) (r : Result Z Trouble) (P : X → Y → Z → Type 0)
@@ -77,28 +54,41 @@ swapped (Some x) None (Ok z) P h = tt
 swapped (Some x) None (Err e) P h = tt
 swapped (Some x) (Some y) r P h = h
 
-pub told_in : (G : Table) (known kept new : Option (List ℕ)) (r : Result Bool Trouble) → IfSome known (λ bytes. IfSome kept (λ old. IfOk r (λ answer. TellsVerdict G bytes old new answer)))
-    → IfSome known (λ bytes. IfOk r (λ answer. IfSome kept (λ old. TellsVerdict G bytes old new answer)))
-told_in G known kept new r h = swapped known kept r (λ bytes old answer. TellsVerdict G bytes old new answer) h
+-- what a command writes that makes no file
+pub alone : (Whole : List ℕ → List ℕ → Option (List ℕ) → Bool → Type 0) (Begun : List ℕ → List ℕ → Option (List ℕ) → Type 0) (Other : Type 0) (f : Reading) (out made : Writing)
+    (r : Result Bool Trouble) → ¬ made.failed → made.untouched → IsAnswered Whole Begun File f out r
+    → IsDone (λ bytes old new held kept answer. IfSome old (λ xs. Whole bytes xs new answer)) (λ bytes old new held kept. IfSome old (λ xs. Begun bytes xs new)) File Other f out made r
+alone Whole Begun Other f out made r whole untouched a = record {
+  whole = swapped f.left out.held r (λ bytes old answer. Whole bytes old out.holds answer) a.whole;
+  failed = λ t. elim t [ inl x ↦ a.count.0 (inl x) | inr y ↦ elim y [ inl x ↦ a.count.0 (inr x) | inr x ↦ absurd (whole x) ] ];
+  why = λ e. inl (elim (a.count.1 e) [ inl x ↦ inl x | inr x ↦ inr (inl x) ]);
+  unwritten = a.unwritten;
+  unmade = λ e. untouched;
+  begun = λ t. elim t [ inl x ↦ a.begun x | inr x ↦ absurd (whole x) ];
+}
 
-pub task_in : (task : Task) (G : Table) (known kept new : Option (List ℕ)) (r : Result Bool Trouble)
-    → IfSome known (λ bytes. IfSome kept (λ old. IfOk r (λ answer. DoesTask task G bytes old new answer)))
-    → IfSome known (λ bytes. IfOk r (λ answer. IfSome kept (λ old. DoesTask task G bytes old new answer)))
-task_in task G known kept new r h = swapped known kept r (λ bytes old answer. DoesTask task G bytes old new answer) h
+-- what holds of any bytes
+any_bytes : (o : Option (List ℕ)) (P : Type 0) → P → IfSome o (λ bytes. P)
+any_bytes None P h = tt
+any_bytes (Some x) P h = h
 
-pub explained_in : (G : Table) (known kept new : Option (List ℕ)) (r : Result Bool Trouble)
-    → IfSome known (λ bytes. IfSome kept (λ old. IfOk r (λ answer. Explains G bytes old new answer)))
-    → IfSome known (λ bytes. IfOk r (λ answer. IfSome kept (λ old. Explains G bytes old new answer)))
-explained_in G known kept new r h = swapped known kept r (λ bytes old answer. Explains G bytes old new answer) h
+-- what a command writes that reads no file
+pub unread : (Other : Type 0) (f : Reading) (out made : Writing) (r : Result Bool Trouble) → ¬ f.failed → ¬ made.failed → made.untouched → EndsWithText out r
+    → IsDone (λ bytes old new held kept answer. WritesText old new × (answer ≡ true)) (λ bytes old new held kept. BeginsText old new) File Other f out made r
+unread Other f out made r read whole untouched e = record {
+  whole = any_bytes f.left _ e.whole;
+  failed = λ t. elim t [ inl x ↦ absurd (read x) | inr y ↦ elim y [ inl x ↦ e.count.0 x | inr x ↦ absurd (whole x) ] ];
+  why = λ q. inl (inr (inl (e.count.1 q)));
+  unwritten = e.unwritten;
+  unmade = λ q. untouched;
+  begun = λ t. elim t [ inl x ↦ any_bytes f.left _ (e.begun x) | inr x ↦ absurd (whole x) ];
+}
 
-pub shown_in : (G : Table) (known kept new : Option (List ℕ)) (r : Result Bool Trouble) → IfSome known (λ bytes. IfSome kept (λ old. IfOk r (λ answer. Shows G bytes old new answer)))
-    → IfSome known (λ bytes. IfOk r (λ answer. IfSome kept (λ old. Shows G bytes old new answer)))
-shown_in G known kept new r h = swapped known kept r (λ bytes old answer. Shows G bytes old new answer) h
-
-pub traced_in : (G : Table) (function : ℕ) (choices : List ℕ) (limit : ℕ) (known kept new : Option (List ℕ)) (r : Result Bool Trouble)
-    → IfSome known (λ bytes. IfSome kept (λ old. IfOk r (λ answer. Traces G function choices limit bytes old new answer)))
-    → IfSome known (λ bytes. IfOk r (λ answer. IfSome kept (λ old. Traces G function choices limit bytes old new answer)))
-traced_in G function choices limit known kept new r h = swapped known kept r (λ bytes old answer. Traces G function choices limit bytes old new answer) h
+-- of two troubles there is no third
+pub of_two : (L : Type 0) (r : Result Bool Trouble) → IfErr r (λ t. (t ≡ File) ⊎ (t ≡ Memory)) → IfErr r (λ t. (t ≡ File) ⊎ ((t ≡ NoEntry) × L) ⊎ (t ≡ Memory))
+of_two L (Ok v) o = tt
+of_two L (Err t) (inl e) = inl e
+of_two L (Err t) (inr e) = inr (inr e)
 
 -- so have those of the grammar file
 pub grammar_reason : (text : List ℕ) (failed strange : Type 0) (e : GrammarError) → (e ≢ J8 → text_breaks text e) → IsErrorLine text failed strange (grammar_text e)
@@ -110,3 +100,22 @@ grammar_reason text failed strange J4 h = refused J4 (h (λ q. cc))
 grammar_reason text failed strange J5 h = refused J5 (h (λ q. cc))
 grammar_reason text failed strange J6 h = refused J6 (h (λ q. cc))
 grammar_reason text failed strange J7 h = refused J7 (h (λ q. cc))
+
+-- a refused grammar file, before anything is read or written
+pub grammar_ends : (command : Command) (text : List ℕ) (f : Reading) (out made : Writing) (e : GrammarError) → (e ≢ J8 → text_breaks text e)
+    → ¬ f.failed → ¬ out.failed → ¬ made.failed → out.untouched → made.untouched → EndsByText command text f out made (Err (Grammar e))
+grammar_ends command text f out made e h x y z o m = record {
+  ends = record {
+    whole = any_known f.left;
+    failed = λ t. elim t [ inl a ↦ absurd (x a) | inr b ↦ elim b [ inl a ↦ absurd (y a) | inr c ↦ absurd (z c) ] ];
+    why = λ q. cc;
+    unwritten = λ q. o;
+    unmade = λ q. m;
+    begun = λ t. elim t [ inl a ↦ absurd (y a) | inr c ↦ absurd (z c) ];
+  };
+  reason = grammar_reason text _ _ e h;
+}
+  where
+    any_known : (o : Option (List ℕ)) → IfSome o (λ bytes. Unit {0})
+    any_known None = tt
+    any_known (Some bytes) = tt

@@ -1,6 +1,10 @@
 pub mod Assemble
+pub mod Each
 pub mod Example
+pub mod Name
+pub mod Run
 pub mod Show
+pub mod Streams
 pub mod Task
 pub mod Trace
 pub mod Trouble

@@ -3,8 +3,7 @@ use Rattle.std.specs.Prelude.{◌≡◌, ℕ, List, Option, Bool, true, IfSome, 
 use Rattle.std.specs.Io.KnownBytes.{Appends}
 use Rattle.spv_table.specs.Table.{Table}
 use Rattle.spv_command_line.specs.declared.command_line.Command.{Command}
-use Rattle.spv_command_line.specs.declared.command_line.Command.TheVariants.{Check, Explain, Show, Asm, Trace}
-use Rattle.spv_command_line.specs.declared.command_line.Command.TheVariants.{Rules, Each}
+use Rattle.spv_command_line.specs.declared.command_line.Command.TheVariants.{Judge, Show, Asm, Trace, Rules}
 use Rattle.spv_command_line.specs.declared.command_line.Task.{Task}
 use Rattle.spv_command_line.specs.declared.command_line.Task.TheVariants as tasks
 use Rattle.spv_commands.specs.Assemble.{Assembles, BeginsAssembling, order_of}
@@ -16,12 +15,10 @@ use Rattle.spv_commands.specs.Trouble.{BeginsWith, IsTableOf}
 
 -- the command reads a grammar file, and another file
 abbrev pub ReadsGrammar : Command → Type 0
-ReadsGrammar (Check grammar file) = Unit {0}
-ReadsGrammar (Explain grammar file) = Unit {0}
+ReadsGrammar (Judge task grammar files) = Unit {0}
 ReadsGrammar (Show grammar file) = Unit {0}
 ReadsGrammar (Asm grammar file out big) = Unit {0}
 ReadsGrammar (Trace grammar file function choices limit) = Unit {0}
-ReadsGrammar (Each task grammar files) = Unit {0}
 ReadsGrammar (Rules code) = ⊥
 
 -- The standard output that held the bytes `old`, where they are known, now also holds a text, and nothing else.
@@ -46,36 +43,32 @@ BeginsTask tasks.Check G bytes old new = Begins G bytes old new
 BeginsTask tasks.Explain G bytes old new = BeginsExplaining G bytes old new
 
 -- The standard output that held the bytes `old`, where they are known, now also holds what the command writes of the
--- bytes of its file, and nothing else: `check` the verdict line, `explain` that line and those that explain it, `show`
--- the text or the line of a fault, `asm` the line of a fault or nothing, `trace` the run or the verdict line, `rules` a
--- text, of no table and no file, and a command on several files what its task writes of this one. The file that `asm`
+-- bytes of its file, and nothing else: a task what it writes of this one of its files, `show` the text or the line of a
+-- fault, `asm` the line of a fault or nothing, `trace` the run or the verdict line, `rules` a text, of no table and no
+-- file. The file that `asm`
 -- makes held the bytes `held`, where they are known, and now also holds the module. The answer tells whether the line
 -- is `valid`, or the text, the module or the run was written.
 abbrev pub Does : Command → Table → List ℕ → Option (List ℕ) → Option (List ℕ) → Option (List ℕ)
     → Option (List ℕ) → Bool → Type 0
-Does (Check grammar file) G bytes old new held kept answer = IfSome old (λ xs. TellsVerdict G bytes xs new answer)
-Does (Explain grammar file) G bytes old new held kept answer = IfSome old (λ xs. Explains G bytes xs new answer)
+Does (Judge task grammar files) G bytes old new held kept answer =
+    IfSome old (λ xs. DoesTask task G bytes xs new answer)
 Does (Show grammar file) G bytes old new held kept answer = IfSome old (λ xs. Shows G bytes xs new answer)
 Does (Asm grammar file out big) G bytes old new held kept answer =
     Assembles G (order_of big) bytes old new held kept answer
 Does (Trace grammar file function choices limit) G bytes old new held kept answer =
     IfSome old (λ xs. Traces G function choices.items limit bytes xs new answer)
 Does (Rules code) G bytes old new held kept answer = WritesText old new × (answer ≡ true)
-Does (Each task grammar files) G bytes old new held kept answer =
-    IfSome old (λ xs. DoesTask task G bytes xs new answer)
 
 -- The same for a beginning of that.
 abbrev pub BeginsToDo : Command → Table → List ℕ → Option (List ℕ) → Option (List ℕ) → Option (List ℕ)
     → Option (List ℕ) → Type 0
-BeginsToDo (Check grammar file) G bytes old new held kept = IfSome old (λ xs. Begins G bytes xs new)
-BeginsToDo (Explain grammar file) G bytes old new held kept = IfSome old (λ xs. BeginsExplaining G bytes xs new)
+BeginsToDo (Judge task grammar files) G bytes old new held kept = IfSome old (λ xs. BeginsTask task G bytes xs new)
 BeginsToDo (Show grammar file) G bytes old new held kept = IfSome old (λ xs. BeginsShowing G bytes xs new)
 BeginsToDo (Asm grammar file out big) G bytes old new held kept =
     BeginsAssembling G (order_of big) bytes old new held kept
 BeginsToDo (Trace grammar file function choices limit) G bytes old new held kept =
     IfSome old (λ xs. BeginsTracing G function choices.items limit bytes xs new)
 BeginsToDo (Rules code) G bytes old new held kept = BeginsText old new
-BeginsToDo (Each task grammar files) G bytes old new held kept = IfSome old (λ xs. BeginsTask task G bytes xs new)
 
 -- The same under the table that the text of a grammar file gives.
 pub record DoesByText (command : Command) (text bytes : List ℕ) (old new held kept : Option (List ℕ))
@@ -92,34 +85,28 @@ pub record BeginsByText (command : Command) (text bytes : List ℕ)
 
 -- the command makes no file
 abbrev pub MakesNothing : Command → Type 0
-MakesNothing (Check grammar file) = Unit {0}
-MakesNothing (Explain grammar file) = Unit {0}
+MakesNothing (Judge task grammar files) = Unit {0}
 MakesNothing (Show grammar file) = Unit {0}
 MakesNothing (Asm grammar file out big) = ⊥
 MakesNothing (Trace grammar file function choices limit) = Unit {0}
-MakesNothing (Each task grammar files) = Unit {0}
 MakesNothing (Rules code) = Unit {0}
 
 -- the command reads a text, and the bytes of its file, if they are known, are none
 abbrev pub IsNoText : Command → Option (List ℕ) → Type 0
-IsNoText (Check grammar file) known = ⊥
-IsNoText (Explain grammar file) known = ⊥
+IsNoText (Judge task grammar files) known = ⊥
 IsNoText (Show grammar file) known = ⊥
 IsNoText (Asm grammar file out big) known = IfSome known (λ bytes. ¬ (IsUtf8 bytes))
 IsNoText (Trace grammar file function choices limit) known = ⊥
 IsNoText (Rules code) known = ⊥
-IsNoText (Each task grammar files) known = ⊥
 
 -- the command asks for a run, and the bytes of its file, if they are known, are a valid module in which the id is no
 -- entry point's function
 abbrev pub LacksEntry : Command → Table → Option (List ℕ) → Type 0
-LacksEntry (Check grammar file) G known = ⊥
-LacksEntry (Explain grammar file) G known = ⊥
+LacksEntry (Judge task grammar files) G known = ⊥
 LacksEntry (Show grammar file) G known = ⊥
 LacksEntry (Asm grammar file out big) G known = ⊥
 LacksEntry (Trace grammar file function choices limit) G known = IfSome known (λ bytes. HasNoEntry G bytes function)
 LacksEntry (Rules code) G known = ⊥
-LacksEntry (Each task grammar files) G known = ⊥
 
 -- the same under the table that the text of a grammar file gives
 pub record LacksEntryByText (command : Command) (text : List ℕ) (known : Option (List ℕ)) : Type 0 where

@@ -71,6 +71,10 @@ pub record Writes (line : List ℕ) (old new : Option (List ℕ)) (before after 
   pub whole : after ≡ before → Appends old new line
   pub begun : IfSome old (λ xs. BeginsWith line xs new)
 
+-- the same of a writer before and after a call
+abbrev pub Gets : {T : Type 0} → (T → Option (List ℕ)) → (T → ℕ) → T → T → List ℕ → Type 0
+Gets contents failures old new line = Writes line (contents old) (contents new) (failures old) (failures new)
+
 -- The text of a grammar file is JSON, and its tree gives the table.
 pub record IsTableOf (text : List ℕ) (G : Table) : Type 0 where
   pub tree : Data

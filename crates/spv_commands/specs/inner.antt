@@ -1,4 +1,6 @@
 -- Definitions that serve the code alone.
 pub mod Assembly
+pub mod Ending
+pub mod Progress
 pub mod Shown
 pub mod Traced

@@ -1,7 +1,8 @@
 //! What `asm` makes of the text of a stream.
-ghost use Rattle.std.specs.Prelude.{◌≡◌, ◌≢◌, ◌⊎◌, ◌↔◌, IfOk, IfErr, IfSome, IsErr, IsErrOf};
+ghost use Rattle.std.specs.Prelude.{◌≡◌, ◌≢◌, ◌↔◌, IfOk, IfErr, IfSome, IsErrOf};
 ghost use Rattle.std.specs.Prelude.{IsUtf8};
-ghost use Rattle.spv_verdict.specs.Outcome.{HasFailed, IsUntouched};
+ghost use Rattle.spv_verdict.specs.Outcome.{HasFailed};
+ghost use Rattle.spv_commands.specs.Streams.{IsDone, reading, writing};
 ghost use Rattle.spv_commands.specs.Assemble.{Assembles, BeginsAssembling};
 ghost use Rattle.spv_commands.specs.inner.Assembly.{ComesTo, fault_of};
 ghost use Rattle.spv_commands.specs.declared.assembling.TextError.TheVariants as trouble;
@@ -136,21 +137,10 @@ pub fn assemble_stream<R: Source, W: Sink, O: Sink>(
     made: &mut O,
 ) -> Result<bool, TextError>
     // The bytes or the line of all the bytes that the reader still gave were written, and nothing else.
-    ensures assembled { IfSome (R.remaining r.old)
-        (λ bytes. IfOk result (λ answer. Assembles table.now order bytes (W.contents out.old) (W.contents out.new)
-        (O.contents made.old) (O.contents made.new) answer)) }
-    // The answer is `Failed` exactly where a read or a write failed.
-    ensures count { (HasFailed R.failures r.old r.new ⊎ HasFailed W.failures out.old out.new
-        ⊎ HasFailed O.failures made.old made.new) ↔ IsErrOf result trouble.Failed }
+    ensures ends { IsDone (Assembles table.now order) (BeginsAssembling table.now order) trouble.Failed ⊥
+        (reading R.remaining R.failures r.old r.new) (writing W.contents W.failures out.old out.new)
+        (writing O.contents O.failures made.old made.new) result }
     ensures no_text { IsErrOf result trouble.NotText → IfSome (R.remaining r.old) (λ bytes. ¬ IsUtf8 bytes) }
-    // With an error a writer that did not fail is as it was.
-    ensures unwritten { IsErr result → IsUntouched W.failures out.old out.new }
-    ensures unmade { IsErr result → IsUntouched O.failures made.old made.new }
-    // After a failed write a beginning was written.
-    ensures begun { HasFailed W.failures out.old out.new ⊎ HasFailed O.failures made.old made.new
-        → IfSome (R.remaining r.old)
-        (λ bytes. BeginsAssembling table.now order bytes (W.contents out.old) (W.contents out.new)
-        (O.contents made.old) (O.contents made.new)) }
 {
     match assembly_on(alloc, table, r)? {
         Assembly::Made(image) => match write_image(&image, order, made) {

@@ -1,16 +1,24 @@
 //! The commands of `spv`, over values: the words of the command line, and what the program does once its files are
-//! open. It opens no file, so a program of its own can call it on any readers and writers.
+//! open, or, of several files, once their names are read. It opens no file, so a program of its own can call it on any
+//! readers and writers, and on any files by a trait.
 #![tactic(auto)]
 
 mod assembling;
+mod each;
+mod files;
+mod judging;
 pub mod laws;
+mod name;
 mod program;
 mod showing;
 mod text_fault;
 mod trace_lines;
 mod tracing;
+mod writing;
 
 pub use assembling::{TextError, assemble_stream, read_all};
+pub use each::run_each;
+pub use files::{Files, InMemory, Unread};
 pub use program::{Trouble, report, run};
 pub use showing::show_stream;
 pub use spv_command_line::{

@@ -1,20 +1,16 @@
 //! What the program does once its words are read and its files are open.
-ghost use Rattle.std.specs.Prelude.{◌≡◌, ◌≢◌, ◌≤◌, ◌⊎◌, ◌↔◌, ◌==◌, ℕ, List, true};
-ghost use Rattle.std.specs.Prelude.{IfOk, IfErr, IfSome, IsErr, IsErrOf, IsUtf8};
+ghost use Rattle.std.specs.Prelude.{◌≡◌, ◌≤◌, ◌⊎◌, IfErr, IfSome, IsErrOf, IsUtf8};
 ghost use Rattle.spv_grammar.specs.Answer.{text_breaks};
 ghost use Rattle.spv_grammar.specs.declared.error.GrammarError.{GrammarError};
 ghost use Rattle.spv_grammar.specs.declared.error.GrammarError.TheVariants.{J8};
 ghost use Rattle.spv_commands.specs.Assemble.{Assembles, BeginsAssembling, order_of};
-ghost use Rattle.spv_verdict.specs.Outcome.{HasFailed, IsUntouched, OfKnown};
-ghost use Rattle.spv_verdict.specs.Stream.{Begins, TellsVerdict};
-ghost use Rattle.spv_reasons.specs.Stream.{BeginsExplaining, Explains};
+ghost use Rattle.spv_commands.specs.Run.{Runs, RunsRules};
 ghost use Rattle.spv_commands.specs.Show.{BeginsShowing, Shows};
-ghost use Rattle.spv_commands.specs.Task.{BeginsByText, BeginsTask, BeginsText, BeginsToDo, Does, DoesByText, DoesTask};
-ghost use Rattle.spv_commands.specs.Task.{IsNoText, LacksEntry, LacksEntryByText, MakesNothing, ReadsGrammar};
-ghost use Rattle.spv_commands.specs.Task.{WritesText};
+ghost use Rattle.spv_commands.specs.Streams.{IsAnswered, IsDone, reading, writing};
+ghost use Rattle.spv_commands.specs.Task.{BeginsTask, DoesTask, MakesNothing, ReadsGrammar};
 ghost use Rattle.spv_commands.specs.Trace.{BeginsTracing, HasNoEntry, Traces};
-ghost use Rattle.spv_commands.specs.Trouble.{IsErrorLine, Writes, file_line, grammar_text, memory_line, trouble_from};
-ghost use Rattle.spv_commands.specs.Trouble.{trouble_text};
+ghost use Rattle.spv_commands.specs.Trouble.{Gets, grammar_text, memory_line, trouble_from, trouble_text};
+ghost use Rattle.spv_commands.specs.inner.Ending.{EndsByTable, EndsByText, EndsWithText};
 ghost use Rattle.spv_commands.specs.declared.program.Trouble.TheVariants.{File, Grammar, Memory, NoEntry};
 
 use crate::assembling::{TextError, assemble_stream};
@@ -77,8 +73,7 @@ fn grammar_line(error: GrammarError) -> &'static [u8]
 /// Writes the line of a trouble, its line feed included. Where that fails too, there is nowhere left to tell it, and a
 /// beginning was written.
 pub fn report<E: Sink>(trouble: Trouble, err: &mut E)
-    ensures { Writes (trouble_text trouble) (E.contents err.old) (E.contents err.new) (E.failures err.old)
-        (E.failures err.new) }
+    ensures { Gets E.contents E.failures err.old err.new (trouble_text trouble) }
 {
     let _ = write_all(trouble_line(trouble), err);
 }
@@ -93,46 +88,6 @@ fn stream_trouble(code: WordError) -> Trouble
     }
 }
 
-/// Judges the module by a table: whether it is valid.
-fn judged<S: Source, W: Sink>(
-    alloc: Global,
-    table: &Table,
-    file: &mut S,
-    out: &mut W,
-) -> Result<bool, Trouble>
-    ensures verdict { OfKnown (S.remaining file.old) (W.contents out.old)
-        (λ bytes old. IfOk result (λ valid. TellsVerdict table.now bytes old (W.contents out.new) valid)) }
-    ensures failed { (HasFailed S.failures file.old file.new ⊎ HasFailed W.failures out.old out.new)
-        ↔ IsErrOf result File }
-    ensures only { IfErr result (λ t. (t ≡ File) ⊎ (t ≡ Memory)) }
-    ensures unwritten { IsErr result → IsUntouched W.failures out.old out.new }
-    ensures begun { HasFailed W.failures out.old out.new
-        → OfKnown (S.remaining file.old) (W.contents out.old)
-        (λ bytes old. Begins table.now bytes old (W.contents out.new)) }
-{
-    check_stream(alloc, table, file, out).map_err(stream_trouble)
-}
-
-/// Judges the module by a table, with what explains the verdict: whether it is valid.
-fn explained<S: Source, W: Sink>(
-    alloc: Global,
-    table: &Table,
-    file: &mut S,
-    out: &mut W,
-) -> Result<bool, Trouble>
-    ensures explained { OfKnown (S.remaining file.old) (W.contents out.old)
-        (λ bytes old. IfOk result (λ valid. Explains table.now bytes old (W.contents out.new) valid)) }
-    ensures failed { (HasFailed S.failures file.old file.new ⊎ HasFailed W.failures out.old out.new)
-        ↔ IsErrOf result File }
-    ensures only { IfErr result (λ t. (t ≡ File) ⊎ (t ≡ Memory)) }
-    ensures unwritten { IsErr result → IsUntouched W.failures out.old out.new }
-    ensures begun { HasFailed W.failures out.old out.new
-        → OfKnown (S.remaining file.old) (W.contents out.old)
-        (λ bytes old. BeginsExplaining table.now bytes old (W.contents out.new)) }
-{
-    explain_stream(alloc, table, file, out).map_err(stream_trouble)
-}
-
 /// Does a task on the module by a table: whether it is valid.
 fn tasked<S: Source, W: Sink>(
     alloc: Global,
@@ -141,19 +96,13 @@ fn tasked<S: Source, W: Sink>(
     file: &mut S,
     out: &mut W,
 ) -> Result<bool, Trouble>
-    ensures done { OfKnown (S.remaining file.old) (W.contents out.old)
-        (λ bytes old. IfOk result (λ valid. DoesTask task table.now bytes old (W.contents out.new) valid)) }
-    ensures failed { (HasFailed S.failures file.old file.new ⊎ HasFailed W.failures out.old out.new)
-        ↔ IsErrOf result File }
+    ensures ends { IsAnswered (DoesTask task table.now) (BeginsTask task table.now) File
+        (reading S.remaining S.failures file.old file.new) (writing W.contents W.failures out.old out.new) result }
     ensures only { IfErr result (λ t. (t ≡ File) ⊎ (t ≡ Memory)) }
-    ensures unwritten { IsErr result → IsUntouched W.failures out.old out.new }
-    ensures begun { HasFailed W.failures out.old out.new
-        → OfKnown (S.remaining file.old) (W.contents out.old)
-        (λ bytes old. BeginsTask task table.now bytes old (W.contents out.new)) }
 {
     match task {
-        Task::Check => judged(alloc, table, file, out),
-        Task::Explain => explained(alloc, table, file, out),
+        Task::Check => check_stream(alloc, table, file, out).map_err(stream_trouble),
+        Task::Explain => explain_stream(alloc, table, file, out).map_err(stream_trouble),
     }
 }
 
@@ -164,15 +113,9 @@ fn shown<S: Source, W: Sink>(
     file: &mut S,
     out: &mut W,
 ) -> Result<bool, Trouble>
-    ensures shown { OfKnown (S.remaining file.old) (W.contents out.old)
-        (λ bytes old. IfOk result (λ answer. Shows table.now bytes old (W.contents out.new) answer)) }
-    ensures failed { (HasFailed S.failures file.old file.new ⊎ HasFailed W.failures out.old out.new)
-        ↔ IsErrOf result File }
+    ensures ends { IsAnswered (Shows table.now) (BeginsShowing table.now) File
+        (reading S.remaining S.failures file.old file.new) (writing W.contents W.failures out.old out.new) result }
     ensures only { IfErr result (λ t. (t ≡ File) ⊎ (t ≡ Memory)) }
-    ensures unwritten { IsErr result → IsUntouched W.failures out.old out.new }
-    ensures begun { HasFailed W.failures out.old out.new
-        → OfKnown (S.remaining file.old) (W.contents out.old)
-        (λ bytes old. BeginsShowing table.now bytes old (W.contents out.new)) }
 {
     show_stream(alloc, table, file, out).map_err(stream_trouble)
 }
@@ -193,21 +136,10 @@ fn assembled<S: Source, W: Sink, O: Sink>(
     out: &mut W,
     made: &mut O,
 ) -> Result<bool, Trouble>
-    ensures done { IfSome (S.remaining file.old)
-        (λ bytes. IfOk result (λ answer. Assembles table.now (order_of big) bytes (W.contents out.old)
-        (W.contents out.new) (O.contents made.old) (O.contents made.new) answer)) }
-    ensures failed { HasFailed S.failures file.old file.new ⊎ HasFailed W.failures out.old out.new
-        ⊎ HasFailed O.failures made.old made.new → IsErrOf result File }
-    ensures why { IfErr result (λ t. ((t ≡ File)
-        × ((HasFailed S.failures file.old file.new ⊎ HasFailed W.failures out.old out.new
-        ⊎ HasFailed O.failures made.old made.new) ⊎ IfSome (S.remaining file.old) (λ bytes. ¬ IsUtf8 bytes)))
-        ⊎ (t ≡ Memory)) }
-    ensures unwritten { IsErr result → IsUntouched W.failures out.old out.new }
-    ensures unmade { IsErr result → IsUntouched O.failures made.old made.new }
-    ensures begun { HasFailed W.failures out.old out.new ⊎ HasFailed O.failures made.old made.new
-        → IfSome (S.remaining file.old)
-        (λ bytes. BeginsAssembling table.now (order_of big) bytes (W.contents out.old) (W.contents out.new)
-        (O.contents made.old) (O.contents made.new)) }
+    ensures ends { IsDone (Assembles table.now (order_of big)) (BeginsAssembling table.now (order_of big)) File
+        (IfSome (S.remaining file.old) (λ bytes. ¬ IsUtf8 bytes)) (reading S.remaining S.failures file.old file.new)
+        (writing W.contents W.failures out.old out.new) (writing O.contents O.failures made.old made.new) result }
+    ensures only { IfErr result (λ t. (t ≡ File) ⊎ (t ≡ Memory)) }
 {
     match assemble_stream(alloc, table, order_by(big), file, out, made) {
         Ok(answer) => Ok(answer),
@@ -227,18 +159,12 @@ fn traced<S: Source, W: Sink>(
     file: &mut S,
     out: &mut W,
 ) -> Result<bool, Trouble>
-    ensures traced { OfKnown (S.remaining file.old) (W.contents out.old)
-        (λ bytes old. IfOk result (λ answer. Traces table.now function choices.now limit bytes old
-        (W.contents out.new) answer)) }
-    ensures failed { (HasFailed S.failures file.old file.new ⊎ HasFailed W.failures out.old out.new)
-        ↔ IsErrOf result File }
-    ensures why { IfErr result (λ t. (t ≡ File)
+    ensures ends { IsAnswered (Traces table.now function choices.now limit)
+        (BeginsTracing table.now function choices.now limit) File
+        (reading S.remaining S.failures file.old file.new) (writing W.contents W.failures out.old out.new) result }
+    ensures only { IfErr result (λ t. (t ≡ File)
         ⊎ ((t ≡ NoEntry) × IfSome (S.remaining file.old) (λ bytes. HasNoEntry table.now bytes function))
         ⊎ (t ≡ Memory)) }
-    ensures unwritten { IsErr result → IsUntouched W.failures out.old out.new }
-    ensures begun { HasFailed W.failures out.old out.new
-        → OfKnown (S.remaining file.old) (W.contents out.old)
-        (λ bytes old. BeginsTracing table.now function choices.now limit bytes old (W.contents out.new)) }
 {
     match trace_stream(alloc, table, function, choices, limit, file, out) {
         Ok(answer) => Ok(answer),
@@ -250,12 +176,7 @@ fn traced<S: Source, W: Sink>(
 
 /// Writes what codes say, or one of them: it is written.
 fn ruled<W: Sink>(alloc: Global, code: Option<Code>, out: &mut W) -> Result<bool, Trouble>
-    ensures written { IfOk result (λ answer. WritesText (W.contents out.old) (W.contents out.new)
-        × (answer ≡ true)) }
-    ensures failed { HasFailed W.failures out.old out.new ↔ IsErrOf result File }
-    ensures only { IfErr result (λ t. (t ≡ File) ⊎ (t ≡ Memory)) }
-    ensures unwritten { IsErr result → IsUntouched W.failures out.old out.new }
-    ensures begun { HasFailed W.failures out.old out.new → BeginsText (W.contents out.old) (W.contents out.new) }
+    ensures { EndsWithText (writing W.contents W.failures out.old out.new) result }
 {
     let text = match rules_text(alloc, code) {
         Ok(text) => text,
@@ -277,26 +198,12 @@ fn done_by<S: Source, W: Sink, O: Sink>(
     out: &mut W,
     made: &mut O,
 ) -> Result<bool, Trouble>
-    ensures done { IfSome (S.remaining file.old)
-        (λ bytes. IfOk result (λ answer. Does command.now table.now bytes (W.contents out.old) (W.contents out.new)
-        (O.contents made.old) (O.contents made.new) answer)) }
-    ensures failed { HasFailed S.failures file.old file.new ⊎ HasFailed W.failures out.old out.new
-        ⊎ HasFailed O.failures made.old made.new → IsErrOf result File }
-    ensures why { IfErr result (λ t. ((t ≡ File)
-        × ((HasFailed S.failures file.old file.new ⊎ HasFailed W.failures out.old out.new
-        ⊎ HasFailed O.failures made.old made.new) ⊎ IsNoText command.now (S.remaining file.old)))
-        ⊎ ((t ≡ NoEntry) × LacksEntry command.now table.now (S.remaining file.old)) ⊎ (t ≡ Memory)) }
-    ensures unwritten { IsErr result → IsUntouched W.failures out.old out.new }
-    ensures unmade { IsErr result → IsUntouched O.failures made.old made.new }
-    ensures begun { HasFailed W.failures out.old out.new ⊎ HasFailed O.failures made.old made.new
-        → IfSome (S.remaining file.old)
-        (λ bytes. BeginsToDo command.now table.now bytes (W.contents out.old) (W.contents out.new)
-        (O.contents made.old) (O.contents made.new)) }
+    ensures ends { EndsByTable command.now table.now (reading S.remaining S.failures file.old file.new)
+        (writing W.contents W.failures out.old out.new) (writing O.contents O.failures made.old made.new) result }
     ensures nothing { MakesNothing command.now → made.new ≡ made.old }
 {
     match command {
-        Command::Check { .. } => judged(alloc, table, file, out),
-        Command::Explain { .. } => explained(alloc, table, file, out),
+        Command::Judge { task, .. } => tasked(alloc, *task, table, file, out),
         Command::Show { .. } => shown(alloc, table, file, out),
         Command::Asm { big, .. } => assembled(alloc, table, *big, file, out, made),
         Command::Trace {
@@ -306,7 +213,6 @@ fn done_by<S: Source, W: Sink, O: Sink>(
             ..
         } => traced(alloc, table, *function, choices, *limit, file, out),
         Command::Rules { code } => ruled(alloc, *code, out),
-        Command::Each { task, .. } => tasked(alloc, *task, table, file, out),
     }
 }
 
@@ -320,24 +226,11 @@ fn done_by_text<S: Source, W: Sink, O: Sink>(
     out: &mut W,
     made: &mut O,
 ) -> Result<bool, Trouble>
-    ensures done { IfSome (S.remaining file.old)
-        (λ bytes. IfOk result (λ answer. DoesByText command.now grammar.now bytes (W.contents out.old)
-        (W.contents out.new) (O.contents made.old) (O.contents made.new) answer)) }
-    ensures failed { HasFailed S.failures file.old file.new ⊎ HasFailed W.failures out.old out.new
-        ⊎ HasFailed O.failures made.old made.new → IsErrOf result File }
-    ensures reason { IfErr result (λ t. IsErrorLine grammar.now
-        ((HasFailed S.failures file.old file.new ⊎ HasFailed W.failures out.old out.new
-        ⊎ HasFailed O.failures made.old made.new) ⊎ IsNoText command.now (S.remaining file.old))
-        (LacksEntryByText command.now grammar.now (S.remaining file.old)) (trouble_text t)) }
-    ensures refused { (e : GrammarError) → text_breaks grammar.now e → (file.new ≡ file.old)
-        × (out.new ≡ out.old) × (made.new ≡ made.old)
+    ensures ends { EndsByText command.now grammar.now (reading S.remaining S.failures file.old file.new)
+        (writing W.contents W.failures out.old out.new) (writing O.contents O.failures made.old made.new) result }
+    ensures refused { (e : GrammarError) → text_breaks grammar.now e
+        → (file.new ≡ file.old) × (out.new ≡ out.old) × (made.new ≡ made.old)
         × (IsErrOf result (Grammar e) ⊎ IsErrOf result (Grammar J8)) }
-    ensures unwritten { IsErr result → IsUntouched W.failures out.old out.new }
-    ensures unmade { IsErr result → IsUntouched O.failures made.old made.new }
-    ensures begun { HasFailed W.failures out.old out.new ⊎ HasFailed O.failures made.old made.new
-        → IfSome (S.remaining file.old)
-        (λ bytes. BeginsByText command.now grammar.now bytes (W.contents out.old) (W.contents out.new)
-        (O.contents made.old) (O.contents made.new)) }
     ensures nothing { MakesNothing command.now → made.new ≡ made.old }
 {
     one_grammar();
@@ -362,34 +255,15 @@ fn done<S: Source, W: Sink, O: Sink>(
     out: &mut W,
     made: &mut O,
 ) -> Result<bool, Trouble>
-    ensures done { ReadsGrammar command.now → IfSome (S.remaining file.old)
-        (λ bytes. IfOk result (λ answer. DoesByText command.now grammar.now bytes (W.contents out.old)
-        (W.contents out.new) (O.contents made.old) (O.contents made.new) answer)) }
-    ensures failed { HasFailed S.failures file.old file.new ⊎ HasFailed W.failures out.old out.new
-        ⊎ HasFailed O.failures made.old made.new → IsErrOf result File }
-    ensures reason { ReadsGrammar command.now
-        → IfErr result
-        (λ t. IsErrorLine grammar.now ((HasFailed S.failures file.old file.new ⊎ HasFailed W.failures out.old out.new
-        ⊎ HasFailed O.failures made.old made.new) ⊎ IsNoText command.now (S.remaining file.old))
-        (LacksEntryByText command.now grammar.now (S.remaining file.old)) (trouble_text t)) }
+    ensures by_text { ReadsGrammar command.now → EndsByText command.now grammar.now
+        (reading S.remaining S.failures file.old file.new) (writing W.contents W.failures out.old out.new)
+        (writing O.contents O.failures made.old made.new) result }
     ensures refused { ReadsGrammar command.now → (e : GrammarError) → text_breaks grammar.now e
         → (file.new ≡ file.old) × (out.new ≡ out.old) × (made.new ≡ made.old)
         × (IsErrOf result (Grammar e) ⊎ IsErrOf result (Grammar J8)) }
-    ensures unwritten { IsErr result → IsUntouched W.failures out.old out.new }
-    ensures unmade { IsErr result → IsUntouched O.failures made.old made.new }
-    ensures begun { ReadsGrammar command.now → HasFailed W.failures out.old out.new
-        ⊎ HasFailed O.failures made.old made.new
-        → IfSome (S.remaining file.old)
-        (λ bytes. BeginsByText command.now grammar.now bytes (W.contents out.old) (W.contents out.new)
-        (O.contents made.old) (O.contents made.new)) }
+    ensures rules { ¬ (ReadsGrammar command.now)
+        → EndsWithText (writing W.contents W.failures out.old out.new) result × (file.new ≡ file.old) }
     ensures nothing { MakesNothing command.now → made.new ≡ made.old }
-    ensures unread { ¬ (ReadsGrammar command.now) → file.new ≡ file.old }
-    ensures text { ¬ (ReadsGrammar command.now)
-        → IfOk result (λ answer. WritesText (W.contents out.old) (W.contents out.new) × (answer ≡ true)) }
-    ensures text_begun { ¬ (ReadsGrammar command.now) → HasFailed W.failures out.old out.new
-        → BeginsText (W.contents out.old) (W.contents out.new) }
-    ensures text_only { ¬ (ReadsGrammar command.now)
-        → IfErr result (λ t. ((t ≡ File) × HasFailed W.failures out.old out.new) ⊎ (t ≡ Memory)) }
 {
     match command {
         Command::Rules { code } => ruled(alloc, *code, out),
@@ -417,52 +291,20 @@ pub fn run<S: Source, W: Sink, O: Sink, E: Sink>(
     err: &mut E,
 ) -> u8
     ensures status { result ≤ 2 }
-    // With 0 and 1 the verdict line, with or without lines that explain it, the text, the module or the run was
-    // written, by the table that the grammar file gives: 0 goes with `valid` alone, with the text of a module, with the
-    // module of a text or with a run.
-    ensures done { ReadsGrammar command.now → result ≤ 1
-        → IfSome (S.remaining file.old)
-        (λ bytes. DoesByText command.now grammar.now bytes (W.contents out.old) (W.contents out.new)
-        (O.contents made.old) (O.contents made.new) (result == 0)) }
-    // With 2 an error line was written to the standard error, and there is a reason for it.
-    ensures error { ReadsGrammar command.now → result ≡ 2
-        → (line : List ℕ)
-        × IsErrorLine grammar.now
-        ((HasFailed S.failures file.old file.new ⊎ HasFailed W.failures out.old out.new
-        ⊎ HasFailed O.failures made.old made.new) ⊎ IsNoText command.now (S.remaining file.old))
-        (LacksEntryByText command.now grammar.now (S.remaining file.old)) line
-        × Writes line (E.contents err.old) (E.contents err.new) (E.failures err.old) (E.failures err.new) }
+    // What is written, and what the status tells.
+    ensures runs { ReadsGrammar command.now → Runs command.now grammar.now
+        (reading S.remaining S.failures file.old file.new) (writing W.contents W.failures out.old out.new)
+        (writing O.contents O.failures made.old made.new) (Gets E.contents E.failures err.old err.new) result }
     // A refused grammar file is told first, before anything is read or written: by its code, or as want of memory.
     ensures refused { ReadsGrammar command.now → (e : GrammarError) → text_breaks grammar.now e
         → (result ≡ 2) × (file.new ≡ file.old) × (out.new ≡ out.old) × (made.new ≡ made.old)
-        × (Writes (grammar_text e) (E.contents err.old) (E.contents err.new) (E.failures err.old) (E.failures err.new)
-        ⊎ Writes memory_line (E.contents err.old) (E.contents err.new) (E.failures err.old) (E.failures err.new)) }
-    // A failed read or write is told by `error file`.
-    ensures failed { HasFailed S.failures file.old file.new ⊎ HasFailed W.failures out.old out.new
-        ⊎ HasFailed O.failures made.old made.new
-        → (result ≡ 2) × Writes file_line (E.contents err.old) (E.contents err.new) (E.failures err.old)
-        (E.failures err.new) }
-    // With 2 the standard output and the file that is made are as they were, or, after a failed write, have got a
-    // beginning.
-    ensures unwritten { result ≡ 2 → IsUntouched W.failures out.old out.new }
-    ensures unmade { result ≡ 2 → IsUntouched O.failures made.old made.new }
-    ensures begun { ReadsGrammar command.now → HasFailed W.failures out.old out.new
-        ⊎ HasFailed O.failures made.old made.new
-        → IfSome (S.remaining file.old)
-        (λ bytes. BeginsByText command.now grammar.now bytes (W.contents out.old) (W.contents out.new)
-        (O.contents made.old) (O.contents made.new)) }
-    // `rules` reads nothing. With 0 a text was written, with 2 want of memory is told, or a failed write, which leaves
-    // a beginning.
-    ensures unread { ¬ (ReadsGrammar command.now) → (file.new ≡ file.old) × (result ≢ 1) }
-    ensures text { ¬ (ReadsGrammar command.now) → result ≡ 0
-        → WritesText (W.contents out.old) (W.contents out.new) }
-    ensures text_begun { ¬ (ReadsGrammar command.now) → HasFailed W.failures out.old out.new
-        → BeginsText (W.contents out.old) (W.contents out.new) }
-    ensures text_error { ¬ (ReadsGrammar command.now) → result ≡ 2
-        → (HasFailed W.failures out.old out.new × Writes file_line (E.contents err.old) (E.contents err.new)
-        (E.failures err.old) (E.failures err.new)) ⊎ Writes memory_line (E.contents err.old) (E.contents err.new)
-        (E.failures err.old) (E.failures err.new) }
-    // `check`, `explain`, `show`, `trace` and `rules` make no file.
+        × (Gets E.contents E.failures err.old err.new (grammar_text e)
+        ⊎ Gets E.contents E.failures err.old err.new memory_line) }
+    // `rules` reads nothing.
+    ensures rules { ¬ (ReadsGrammar command.now)
+        → RunsRules (writing W.contents W.failures out.old out.new) (Gets E.contents E.failures err.old err.new)
+        result × (file.new ≡ file.old) }
+    // Only `asm` makes a file.
     ensures nothing { MakesNothing command.now → made.new ≡ made.old }
     // The standard error gets a line only with the status 2.
     ensures quiet { result ≤ 1 → err.new ≡ err.old }

@@ -1,12 +1,13 @@
 //! What `show` writes of the bytes of a stream.
-ghost use Rattle.std.specs.Prelude.{◌≡◌, ◌≢◌, ◌≤◌, ◌⊎◌, ◌↔◌, ◌++◌, ℕ, List, Some};
+ghost use Rattle.std.specs.Prelude.{◌≡◌, ◌≤◌, ◌⊎◌, ◌↔◌, ◌++◌, ℕ, List, Some};
 ghost use Rattle.std.specs.Prelude.{IfOk, IfErr, IfSome, IsErrOf, OnOk, length, take};
 ghost use Rattle.std.specs.Io.KnownBytes.{Appends};
 ghost use Rattle.spv_words.specs.Header.{IsModule};
 ghost use Rattle.spv_words.specs.declared.words.Order.{Order};
 ghost use Rattle.spv_words.specs.declared.words.WordError.TheVariants.{W1, W9};
-ghost use Rattle.spv_verdict.specs.Outcome.{HasFailed, OfKnown};
+ghost use Rattle.spv_verdict.specs.Outcome.{HasFailed};
 ghost use Rattle.spv_commands.specs.Show.{BeginsShowing, IsShowing, Shows};
+ghost use Rattle.spv_commands.specs.Streams.{IsAnswered, reading, writing};
 ghost use Rattle.spv_commands.specs.inner.Shown.{is_text, output_of, shown_refusal, shown_stop};
 
 use spv_module::Stop;
@@ -119,18 +120,12 @@ pub fn show_stream<R: Source, W: Sink>(
     w: &mut W,
 ) -> Result<bool, WordError>
     // The writer has got what is shown of all the bytes that the reader still gave.
-    ensures shown { OfKnown (R.remaining r.old) (W.contents w.old)
-        (λ bytes old. IfOk result (λ answer. Shows table.now bytes old (W.contents w.new) answer)) }
-    // The answer is W1 exactly where a read or a write failed.
-    ensures count { (HasFailed R.failures r.old r.new ⊎ HasFailed W.failures w.old w.new) ↔ IsErrOf result W1 }
+    ensures ends { IsAnswered (Shows table.now) (BeginsShowing table.now) W1
+        (reading R.remaining R.failures r.old r.new) (writing W.contents W.failures w.old w.new) result }
     ensures only { IfErr result (λ e. (e ≡ W1) ⊎ (e ≡ W9)) }
     // After a failed read, or for want of memory, the writer is as it was.
     ensures read { HasFailed R.failures r.old r.new → w.new ≡ w.old }
     ensures memory { IsErrOf result W9 → w.new ≡ w.old }
-    // After a failed write it has got a beginning of what is shown.
-    ensures begun { HasFailed W.failures w.old w.new
-        → OfKnown (R.remaining r.old) (W.contents w.old)
-        (λ bytes old. BeginsShowing table.now bytes old (W.contents w.new)) }
 {
     let shown = shown_on(alloc, table, r)?;
     shown.write(w)?;

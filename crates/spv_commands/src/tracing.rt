@@ -1,18 +1,19 @@
 //! What `trace` writes of the bytes of a stream.
-ghost use Rattle.std.specs.Prelude.{◌≡◌, ◌≢◌, ◌≤◌, ◌⊎◌, ◌↔◌, ◌++◌, ℕ, List, Some};
-ghost use Rattle.std.specs.Prelude.{IfOk, IfErr, IfSome, IsErr, IsErrOf, OnOk, length, take};
+ghost use Rattle.std.specs.Prelude.{◌≡◌, ◌≢◌, ◌≤◌, ◌↔◌, ◌++◌, ℕ, List, Some};
+ghost use Rattle.std.specs.Prelude.{IfOk, IfErr, IfSome, IsErrOf, OnOk, length, take};
 ghost use Rattle.std.specs.Io.KnownBytes.{Appends};
 ghost use Rattle.spv_words.specs.Header.{IsModule};
 ghost use Rattle.spv_words.specs.declared.words.Order.{Order};
 ghost use Rattle.spv_words.specs.declared.words.WordError.TheVariants.{W1};
-ghost use Rattle.spv_verdict.specs.Outcome.{HasFailed, IsUntouched, OfKnown};
+ghost use Rattle.spv_verdict.specs.Outcome.{HasFailed};
+ghost use Rattle.spv_commands.specs.Streams.{IsAnswered, reading, writing};
 ghost use Rattle.spv_commands.specs.Trace.{BeginsTracing, HasNoEntry, IsTracing, Traces};
 ghost use Rattle.spv_commands.specs.inner.Traced.{is_run, output_of, traced_refusal, traced_stop};
 ghost use Rattle.spv_commands.specs.declared.tracing.RunError.TheVariants as trouble;
 
 use crate::trace_lines::write_trace;
 use spv_table::Table;
-use spv_verdict::{Checked, Judgment, Trace, TraceError, Verdict, check, line_for, trace};
+use spv_verdict::{Judgment, Trace, TraceError, Verdict, check, line_for, trace};
 use spv_words::{Image, Sink, Source, WordError, read_image, write_all};
 use std::alloc::Global;
 
@@ -159,20 +160,11 @@ pub fn trace_stream<R: Source, W: Sink>(
     w: &mut W,
 ) -> Result<bool, RunError>
     // The writer has got what is written of all the bytes that the reader still gave.
-    ensures traced { OfKnown (R.remaining r.old) (W.contents w.old)
-        (λ bytes old. IfOk result (λ answer. Traces table.now function choices.now limit bytes old
-        (W.contents w.new) answer)) }
-    // The answer is `Failed` exactly where a read or a write failed.
-    ensures count { (HasFailed R.failures r.old r.new ⊎ HasFailed W.failures w.old w.new)
-        ↔ IsErrOf result trouble.Failed }
+    ensures ends { IsAnswered (Traces table.now function choices.now limit)
+        (BeginsTracing table.now function choices.now limit) trouble.Failed
+        (reading R.remaining R.failures r.old r.new) (writing W.contents W.failures w.old w.new) result }
     ensures stranger { IsErrOf result trouble.NoEntry
         → IfSome (R.remaining r.old) (λ bytes. HasNoEntry table.now bytes function) }
-    // With an error a writer that did not fail is as it was.
-    ensures unwritten { IsErr result → IsUntouched W.failures w.old w.new }
-    // After a failed write it has got a beginning of what is written.
-    ensures begun { HasFailed W.failures w.old w.new
-        → OfKnown (R.remaining r.old) (W.contents w.old)
-        (λ bytes old. BeginsTracing table.now function choices.now limit bytes old (W.contents w.new)) }
 {
     let traced = traced_on(alloc, table, function, choices, limit, r)?;
     match traced.write(w) {

@@ -1,7 +1,6 @@
 //! Runs on several files, some of which cannot be read.
 use crate::tests::{GRAMMAR, kernel};
-use spv_commands::Task;
-use spv_files::{InMemory, run_each};
+use spv_commands::{InMemory, Task, run_each};
 use spv_words::FromWrite;
 use std::alloc::Global;
 use std::test::Fail;

@@ -1,6 +1,6 @@
 //! What no clause says: what a reader or a writer that fails comes to, and the texts that people read. What commands
 //! answer to good files is told by the stored run of all cases.
-use spv_commands::{Code, Command, UseError, arguments, help, run};
+use spv_commands::{Code, Command, Task, UseError, arguments, help, run};
 use spv_grammar::{FromGrammar, Table};
 use spv_verdict::check_stream;
 use spv_words::{FromRead, FromWrite, WordError};
@@ -173,15 +173,20 @@ impl Write for Shelf {
 
 /// A command, what it reads, and what it writes: `asm` to the file that it makes, the others to the standard output.
 #[derive(Drop)]
-struct Task<'a> {
+struct Case<'a> {
     command: Command<'a>,
     input: &'a [u8],
     written: &'a [u8],
 }
 
 /// The four commands on the smallest kernel.
-fn tasks<'a>(alloc: Global, kernel: &'a [u8]) -> [Task<'a>; 4] {
+fn cases<'a>(alloc: Global, kernel: &'a [u8]) -> Result<[Case<'a>; 4], Fail> {
     let (grammar, file) = ("G", "F");
+    let check = Command::Judge {
+        task: Task::Check,
+        grammar,
+        files: Vec::from_slice(alloc, &[file])?,
+    };
     let trace = Command::Trace {
         grammar,
         file,
@@ -195,28 +200,28 @@ fn tasks<'a>(alloc: Global, kernel: &'a [u8]) -> [Task<'a>; 4] {
         out: "O",
         big: false,
     };
-    [
-        Task {
-            command: Command::Check { grammar, file },
+    Ok([
+        Case {
+            command: check,
             input: kernel,
             written: b"valid\n",
         },
-        Task {
+        Case {
             command: Command::Show { grammar, file },
             input: kernel,
             written: TEXT,
         },
-        Task {
+        Case {
             command: asm,
             input: TEXT,
             written: kernel,
         },
-        Task {
+        Case {
             command: trace,
             input: kernel,
             written: b"0 7\n0 8\nend finished\n",
         },
-    ]
+    ])
 }
 
 /// What a run came to: its exit status, what it wrote, what it wrote to the standard error, and how many of the other
@@ -232,10 +237,10 @@ struct Outcome {
 /// How many bytes a reader gives, or a writer takes, at a call of a run.
 const PIECE: usize = 7;
 
-/// Runs a task, with a reader and writers whose calls fail as told.
-fn run_task(alloc: Global, task: &Task, reads: Calls, writes: Calls) -> Outcome {
+/// Runs a case, with a reader and writers whose calls fail as told.
+fn run_case(alloc: Global, case: &Case, reads: Calls, writes: Calls) -> Outcome {
     let mut file = FromRead::new(Pieces {
-        rest: task.input,
+        rest: case.input,
         piece: PIECE,
         calls: reads,
     });
@@ -244,14 +249,14 @@ fn run_task(alloc: Global, task: &Task, reads: Calls, writes: Calls) -> Outcome 
     let mut err = Shelf::new(alloc, PIECE, Calls::ALL);
     let status = run(
         alloc,
-        &task.command,
+        &case.command,
         GRAMMAR,
         &mut file,
         &mut out,
         &mut made,
         &mut err,
     );
-    let target = match task.command {
+    let target = match case.command {
         Command::Asm { .. } => made,
         _ => out,
     };
@@ -267,16 +272,16 @@ fn run_task(alloc: Global, task: &Task, reads: Calls, writes: Calls) -> Outcome 
 fn reads_that_fail(rt: HostRuntime) -> Result<(), Fail> {
     let a = rt.alloc();
     let bytes = kernel(a)?;
-    for (number, task) in tasks(a, &bytes).iter().enumerate() {
-        let whole = run_task(a, task, Calls::ALL, Calls::ALL);
-        assert_eq!(rt; whole.status, 0, "task {number}");
-        assert_eq!(rt; whole.written.as_slice(), task.written, "task {number}");
+    for (number, case) in cases(a, &bytes)?.iter().enumerate() {
+        let whole = run_case(a, case, Calls::ALL, Calls::ALL);
+        assert_eq!(rt; whole.status, 0, "case {number}");
+        assert_eq!(rt; whole.written.as_slice(), case.written, "case {number}");
         // The last read tells the end of input.
-        for good in 0..=task.input.len().div_ceil(PIECE) {
+        for good in 0..=case.input.len().div_ceil(PIECE) {
             for kind in [ErrorKind::Other, ErrorKind::Interrupted] {
                 let error = Some(kind);
-                let failed = run_task(a, task, Calls { good, error }, Calls::ALL);
-                assert_eq!(rt; failed.status, 2, "task {number} after {good} reads");
+                let failed = run_case(a, case, Calls { good, error }, Calls::ALL);
+                assert_eq!(rt; failed.status, 2, "case {number} after {good} reads");
                 assert!(rt; failed.written.is_empty());
                 assert_eq!(rt; failed.err.as_slice(), b"error file\n".as_slice());
             }
@@ -289,18 +294,18 @@ fn reads_that_fail(rt: HostRuntime) -> Result<(), Fail> {
 fn writes_that_fail(rt: HostRuntime) -> Result<(), Fail> {
     let a = rt.alloc();
     let bytes = kernel(a)?;
-    for (number, task) in tasks(a, &bytes).iter().enumerate() {
+    for (number, case) in cases(a, &bytes)?.iter().enumerate() {
         for error in [None, Some(ErrorKind::Other), Some(ErrorKind::Interrupted)] {
-            for good in 0..=task.written.len() {
-                let begun = run_task(a, task, Calls::ALL, Calls { good, error });
+            for good in 0..=case.written.len() {
+                let begun = run_case(a, case, Calls::ALL, Calls { good, error });
                 if begun.failures == 0 {
-                    assert_eq!(rt; begun.status, 0, "task {number} after {good} writes");
-                    assert_eq!(rt; begun.written.as_slice(), task.written);
+                    assert_eq!(rt; begun.status, 0, "case {number} after {good} writes");
+                    assert_eq!(rt; begun.written.as_slice(), case.written);
                     break;
                 }
-                assert!(rt; good < task.written.len());
-                assert_eq!(rt; begun.status, 2, "task {number} after {good} writes");
-                assert!(rt; task.written.starts_with(begun.written.as_slice()));
+                assert!(rt; good < case.written.len());
+                assert_eq!(rt; begun.status, 2, "case {number} after {good} writes");
+                assert!(rt; case.written.starts_with(begun.written.as_slice()));
                 assert_eq!(rt; begun.err.as_slice(), b"error file\n".as_slice());
             }
         }
@@ -398,7 +403,6 @@ fn words_and_messages(rt: HostRuntime) -> Result<(), Fail> {
 #[test]
 fn words_of_commands(rt: HostRuntime) -> Result<(), Fail> {
     let a = rt.alloc();
-    let (grammar, file) = ("G", "F");
     let no_grammar: &[&str] = &["explain", "F"];
     let two_files: &[&str] = &["show", "--grammar", "G", "F", "F"];
     let unknown: &[&str] = &["rules", "A3"];
@@ -408,7 +412,11 @@ fn words_of_commands(rt: HostRuntime) -> Result<(), Fail> {
     for words in [no_grammar, two_files, unknown, small, two_codes, of_file] {
         assert_eq!(rt; arguments(a, words), Err(UseError::U1));
     }
-    let explain = Command::Explain { grammar, file };
+    let explain = Command::Judge {
+        task: Task::Explain,
+        grammar: "G",
+        files: Vec::from_slice(a, &["F"])?,
+    };
     assert_eq!(rt;
         arguments(a, &["explain", "F", "--grammar", "G"]),
         Ok(explain)

@@ -1,5 +1,5 @@
 -- The words of the command line (own): what `clap` is told of them, and which command they give. (For the code alone.)
-use Rattle.std.specs.Prelude.{◌≡◌, ◌↔◌, ℕ, List, [], IsTrue, Option, Some, None, codes, Result, Ok, Err}
+use Rattle.std.specs.Prelude.{◌≡◌, ◌↔◌, ℕ, List, IsTrue, Option, Some, None, codes, Result, Ok, Err}
 use Rattle.clap.specs.Words.{Row, Text, first_of}
 use Rattle.spv_command_line.specs.declared.command_line.Command.{Command}
 use Rattle.spv_command_line.specs.declared.command_line.Command.TheVariants.{Asm, Trace, Rules}

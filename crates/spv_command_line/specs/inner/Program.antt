@@ -1,0 +1,40 @@
+-- What `clap` is told by the table of commands. (For the code alone.)
+use Rattle.std.specs.Prelude.{List, Some}
+use Rattle.std.specs.List.{fold}
+use Rattle.clap.specs.Lexer.{usize_max}
+use Rattle.clap.specs.Words.{App, Rule, Shape, new_app, new_rule, with_rule, with_subcommand}
+use Rattle.clap.specs.declared.builder.action.ArgAction.TheVariants.{SetTrue}
+use Rattle.spv_command_line.specs.declared.program.Argument.{Argument}
+use Rattle.spv_command_line.specs.declared.program.Entry.{Entry}
+use Rattle.spv_command_line.specs.declared.program.Form.{Form}
+use Rattle.spv_command_line.specs.declared.program.Form.TheVariants as form
+
+-- a rule with what the form of an argument adds
+abbrev pub with_form : Form → Rule → Rule
+with_form form.Word r = record r { value_names = 1 }
+with_form form.Words r =
+    record r { value_names = 1; range = Some (record { start_inclusive = 1; end_inclusive = usize_max }) }
+with_form form.Option r = record r { long = Some r.id; value_names = 1 }
+with_form form.Flag r = record r { long = Some r.id; action = Some SetTrue }
+
+-- the rule for an argument
+abbrev pub rule_by : Argument → Rule
+rule_by row = with_form row.form (record (new_rule row.name.now) { required = row.required })
+
+-- a command with these arguments more
+abbrev pub with_argument : App → Argument → App
+with_argument a row = with_rule a (rule_by row)
+
+abbrev pub with_arguments : App → List Argument → App
+with_arguments a rows = fold with_argument a rows
+
+-- a command of the table
+abbrev pub shape_by : Entry → Shape
+shape_by row = (with_arguments (new_app row.name.now) row.arguments.now).top
+
+-- a program with these commands more
+abbrev pub with_command : App → Entry → App
+with_command a row = with_subcommand a (shape_by row)
+
+abbrev pub with_commands : App → List Entry → App
+with_commands a rows = fold with_command a rows

@@ -1,0 +1,239 @@
+//! The command line that `clap` reads: a table of the commands and of what stands behind the name of each.
+ghost use Rattle.std.specs.Prelude.{◌≡◌, false, IfOk};
+ghost use Rattle.clap.specs.Words.{app_of, rule_of, shape_of};
+ghost use Rattle.clap.specs.declared.builder.command.Command.TheViews.{out-Command};
+ghost use Rattle.spv_command_line.specs.CommandLine.{bare_program, program};
+ghost use Rattle.spv_command_line.specs.inner.Program.{rule_by, shape_by, with_arguments, with_commands};
+
+use crate::manual;
+use clap::{Arg, ArgAction};
+use std::alloc::{AllocError, Global};
+
+/// How an argument stands behind the name of a command.
+#[derive(Clone, Copy)]
+enum Form {
+    /// As one word.
+    Word,
+    /// As one word or more.
+    Words,
+    /// As an option, whose value is the word behind it.
+    Option,
+    /// As an option without a value.
+    Flag,
+}
+
+/// An argument of commands.
+#[derive(Clone, Copy)]
+struct Argument {
+    name: &'static str,
+    form: Form,
+    /// What help calls the value, if it has one.
+    value: &'static str,
+    required: bool,
+    help: &'static str,
+}
+
+const GRAMMAR: Argument = Argument {
+    name: "grammar",
+    form: Form::Option,
+    value: "G",
+    required: false,
+    help: "The grammar file, in JSON; where it is left out, that of SPV_GRAMMAR",
+};
+
+const MODULE: Argument = Argument {
+    name: "file",
+    form: Form::Word,
+    value: "FILE",
+    required: true,
+    help: "The module, or `-` for the standard input",
+};
+
+const MODULES: Argument = Argument {
+    name: "file",
+    form: Form::Words,
+    value: "FILE",
+    required: true,
+    help: "The modules, of which one may be `-` for the standard input",
+};
+
+const TEXT: Argument = Argument {
+    name: "file",
+    form: Form::Word,
+    value: "FILE",
+    required: true,
+    help: "The text, or `-` for the standard input",
+};
+
+const OUT: Argument = Argument {
+    name: "out",
+    form: Form::Option,
+    value: "OUT",
+    required: true,
+    help: "The module that is made, or `-` for the standard output",
+};
+
+const BIG: Argument = Argument {
+    name: "big",
+    form: Form::Flag,
+    value: "",
+    required: false,
+    help: "The highest byte of a word stands first",
+};
+
+const FUNCTION: Argument = Argument {
+    name: "function",
+    form: Form::Option,
+    value: "ID",
+    required: true,
+    help: "The id of an entry point's function",
+};
+
+const CHOICES: Argument = Argument {
+    name: "choices",
+    form: Form::Option,
+    value: "LIST",
+    required: false,
+    help: "The targets that are taken, from 0, as 0,1",
+};
+
+const LIMIT: Argument = Argument {
+    name: "limit",
+    form: Form::Option,
+    value: "N",
+    required: true,
+    help: manual::LIMIT,
+};
+
+const CODE: Argument = Argument {
+    name: "code",
+    form: Form::Word,
+    value: "CODE",
+    required: false,
+    help: "The only code of which it is written",
+};
+
+/// A command of the program.
+#[derive(Clone, Copy)]
+struct Entry {
+    name: &'static str,
+    /// What is said of it among the commands.
+    about: &'static str,
+    /// What is said behind its arguments.
+    notes: &'static str,
+    arguments: &'static [Argument],
+}
+
+/// The commands, in the order in which help tells them.
+static COMMANDS: [Entry; 6] = [
+    Entry {
+        name: "check",
+        about: "Writes the verdict on a module, or on each of several",
+        notes: manual::CHECK,
+        arguments: &[GRAMMAR, MODULES],
+    },
+    Entry {
+        name: "explain",
+        about: "Writes the verdict on a module, or on each of several, and what explains it",
+        notes: manual::EXPLAIN,
+        arguments: &[GRAMMAR, MODULES],
+    },
+    Entry {
+        name: "show",
+        about: "Writes the text of a module",
+        notes: manual::SHOW,
+        arguments: &[GRAMMAR, MODULE],
+    },
+    Entry {
+        name: "asm",
+        about: "Makes the module of a text",
+        notes: manual::ASM,
+        arguments: &[GRAMMAR, TEXT, OUT, BIG],
+    },
+    Entry {
+        name: "trace",
+        about: "Writes the run of an entry point's function",
+        notes: manual::TRACE,
+        arguments: &[GRAMMAR, MODULE, FUNCTION, CHOICES, LIMIT],
+    },
+    Entry {
+        name: "rules",
+        about: "Writes what each code of a verdict says",
+        notes: manual::RULES,
+        arguments: &[CODE],
+    },
+];
+
+/// An argument, as `clap` is told of it.
+fn argument_of<'a>(alloc: Global, row: &Argument) -> Arg<'a>
+    ensures rule { rule_of result ≡ rule_by row.now }
+    ensures local { result.global ≡ false }
+{
+    let named = Arg::new(alloc, row.name)
+        .required(row.required)
+        .help(row.help);
+    match row.form {
+        Form::Word => named.value_name(row.value),
+        Form::Words => named.value_name(row.value).num_args(1..),
+        Form::Option => named.long(row.name).value_name(row.value),
+        Form::Flag => named.long(row.name).action(ArgAction::SetTrue),
+    }
+}
+
+/// A command with these arguments more.
+fn with_arguments<'a>(
+    alloc: Global,
+    command: clap::Command<'a>,
+    rows: &[Argument],
+) -> Result<clap::Command<'a>, AllocError>
+    requires { (out-Command command).has_globals ≡ false }
+    ensures shape { IfOk result (λ c. app_of c ≡ with_arguments (app_of command.entry) rows.now) }
+    ensures local { IfOk result (λ c. (out-Command c).has_globals ≡ false) }
+{
+    let mut command = command;
+    for row in rows {
+        command = command.arg(argument_of(alloc, row))?;
+    }
+    Ok(command)
+}
+
+/// A command, as `clap` is told of it.
+fn command_of<'a>(alloc: Global, row: &Entry) -> Result<clap::Command<'a>, AllocError>
+    ensures shape { IfOk result (λ c. shape_of c ≡ shape_by row.now) }
+    ensures local { IfOk result (λ c. (out-Command c).has_globals ≡ false) }
+{
+    let command = clap::Command::new(alloc, row.name)
+        .about(row.about)
+        .after_help(row.notes);
+    with_arguments(alloc, command, row.arguments)
+}
+
+/// The program with no commands yet.
+fn bare_words<'a>(alloc: Global) -> clap::Command<'a>
+    ensures { app_of result ≡ bare_program }
+{
+    clap::Command::new(alloc, "spv")
+        .about("Checks, explains, shows, assembles and traces SPIR-V 1.6 kernel modules")
+        .after_help(manual::PROGRAM)
+        .version(manual::VERSION)
+        .no_binary_name(true)
+        .subcommand_required(true)
+}
+
+/// The program with these commands.
+fn program_of<'a>(alloc: Global, rows: &[Entry]) -> Result<clap::Command<'a>, AllocError>
+    ensures { IfOk result (λ c. app_of c ≡ with_commands bare_program rows.now) }
+{
+    let mut program = bare_words(alloc);
+    for row in rows {
+        program = program.subcommand(command_of(alloc, row)?)?;
+    }
+    Ok(program)
+}
+
+/// The whole command line.
+pub fn all_words<'a>(alloc: Global) -> Result<clap::Command<'a>, AllocError>
+    ensures { IfOk result (λ c. app_of c ≡ program) }
+{
+    program_of(alloc, &COMMANDS)
+}

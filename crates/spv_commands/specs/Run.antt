@@ -1,0 +1,36 @@
+-- How a run of a command ends. (Own.)
+use Rattle.std.specs.Prelude.{◌≡◌, ◌≢◌, ◌≤◌, ◌⊎◌, ◌==◌, ℕ, List, IfSome}
+use Rattle.spv_command_line.specs.declared.command_line.Command.{Command}
+use Rattle.spv_commands.specs.Streams.{AnyFailed, Reading, Writing}
+use Rattle.spv_commands.specs.Task.{BeginsByText, BeginsText, DoesByText, IsNoText, LacksEntryByText, WritesText}
+use Rattle.spv_commands.specs.Trouble.{IsErrorLine, file_line, memory_line}
+
+-- Of a command that reads a grammar file of this text. `Tells` says that the standard error has got a line.
+pub record Runs (command : Command) (text : List ℕ) (file : Reading) (out made : Writing)
+    (Tells : List ℕ → Type 0) (status : ℕ) : Type 0 where
+  -- With 0 and 1 the verdict line, with or without lines that explain it, the text, the module or the run was written,
+  -- by the table that the grammar file gives: 0 goes with `valid` alone, with the text of a module, with the module of
+  -- a text or with a run.
+  pub done : status ≤ 1
+      → IfSome file.left (λ bytes. DoesByText command text bytes out.held out.holds made.held made.holds (status == 0))
+  -- With 2 an error line was written to the standard error, and there is a reason for it.
+  pub error : status ≡ 2 → (line : List ℕ) × IsErrorLine text (AnyFailed file out made ⊎ IsNoText command file.left)
+      (LacksEntryByText command text file.left) line × Tells line
+  -- A failed read or write is told by `error file`.
+  pub failed : AnyFailed file out made → (status ≡ 2) × Tells file_line
+  -- With 2 the standard output and the file that is made are as they were, or, after a failed write, have got a
+  -- beginning.
+  pub unwritten : status ≡ 2 → out.untouched
+  pub unmade : status ≡ 2 → made.untouched
+  pub begun : out.failed ⊎ made.failed
+      → IfSome file.left (λ bytes. BeginsByText command text bytes out.held out.holds made.held made.holds)
+
+-- Of `rules`, which reads nothing. With 0 a text was written; with 2 want of memory is told, or a failed write, which
+-- leaves a beginning.
+pub record RunsRules (out : Writing) (Tells : List ℕ → Type 0) (status : ℕ) : Type 0 where
+  pub never : status ≢ 1
+  pub done : status ≡ 0 → WritesText out.held out.holds
+  pub error : status ≡ 2 → (out.failed × Tells file_line) ⊎ Tells memory_line
+  pub failed : out.failed → (status ≡ 2) × Tells file_line
+  pub unwritten : status ≡ 2 → out.untouched
+  pub begun : out.failed → BeginsText out.held out.holds

@@ -1,0 +1,64 @@
+//! Files that are read whole, one after the other.
+ghost use Rattle.std.specs.Prelude.{◌≡◌, ℕ, Some, None, IfOk, IfSome, IsErrOf, option_map, slice_get};
+ghost use Rattle.spv_commands.specs.Each.{Known};
+ghost use Rattle.spv_commands.specs.declared.files.Unread.TheVariants.{Failed};
+
+use std::alloc::{AllocError, Global};
+use thiserror::Error;
+
+/// Why a file was not read.
+#[derive(Clone, Copy, Debug, PartialEq, Eq, Error)]
+pub enum Unread {
+    /// It does not open, or a read of it failed.
+    #[error("the file was not read")]
+    Failed,
+    /// A growth of memory was refused.
+    #[error("out of memory")]
+    Memory,
+}
+
+impl From<AllocError> for Unread {
+    ghost use Rattle.std.specs.Prelude.{◌≡◌};
+    ghost use Rattle.spv_commands.specs.declared.files.Unread.TheVariants.{Memory};
+
+    ghost from_gives = { λ _ e. e ≡ Memory };
+
+    fn from(_error: AllocError) -> Unread {
+        Unread::Memory
+    }
+}
+
+/// Files that are known by their numbers, from 0.
+pub trait Files {
+    // What the file of a number holds, where it is known: its bytes, or none where it does not open or a read of it
+    // fails.
+    ghost known: { Self → ℕ → Known };
+
+    /// Opens the file of a number, and reads all its bytes.
+    ///
+    /// # Errors
+    ///
+    /// `Failed` where it does not open or a read of it failed, `Memory` where a growth of memory was refused.
+    fn read(&mut self, alloc: Global, number: usize) -> Result<Vec<u8>, Unread>
+        ensures given { IfOk result (λ v. IfSome (known self.old number) (λ file. file ≡ Some v.items)) }
+        ensures unread { IsErrOf result Failed → IfSome (known self.old number) (λ file. file ≡ None) }
+        ensures kept { (n : ℕ) → known self.new n ≡ known self.old n };
+}
+
+/// Files that stand in memory. One that is None does not open, and so do those of numbers that are too great.
+#[derive(Clone, Copy, Debug)]
+pub struct InMemory<'a> {
+    /// The bytes of each.
+    pub files: &'a [Option<&'a [u8]>],
+}
+
+impl<'a> Files for InMemory<'a> {
+    ghost known = { λ s n. option_map (λ file. option_map (λ bytes. bytes.now) file) (slice_get s.files.now n) };
+
+    fn read(&mut self, alloc: Global, number: usize) -> Result<Vec<u8>, Unread> {
+        match self.files.get(number) {
+            Some(Some(bytes)) => Ok(Vec::from_slice(alloc, bytes)?),
+            _ => Err(Unread::Failed),
+        }
+    }
+}
