@@ -183,7 +183,7 @@ uint32_t spvk_raw_assemble_big(const void *held, const uint8_t *text, size_t len
 /** As `spvk_buffer_delete`. */
 void spvk_raw_buffer_delete(spvk_buffer *buffer);
 /** Puts where the text of `spvk_rule_name` begins to `text`, and answers whether there is one; else `text` is as it
- *  was. */
+ *  was. What `text` leads to is null at first, or was put there by this call or one of the two below. */
 bool spvk_raw_rule_name(uint32_t code, const uint8_t **text);
 /** Puts where the text of `spvk_rule_sentence` begins to `text`, and answers whether there is one; else `text` is
  *  as it was. */

@@ -1,9 +1,9 @@
-use Rattle.std.proofs.Common.{refl, ap, ◌∙◌, Some}
+use Rattle.std.proofs.Common.{rules, refl}
 use Rattle.spvk.specs.Rules.{put, missing}
 use Rattle.spvk.proofs.rules.spvk_raw_rule_name.Goals as goal
 
 pub returns-in-Some : goal.returns-in-Some
-returns-in-Some c = put c.in-Some.code c.in-Some.ensures (c.of.ensures ∙ ap Some (c.as_bytes.ensures.value ∙ c.c_name.ensures))
+returns-in-Some c = put c.in-Some.code c.in-Some.ensures (search rules)
 
 pub returns-in-None : goal.returns-in-None
 returns-in-None c = missing c.in-None.ensures refl
