@@ -98,7 +98,15 @@ fn with_several(
     let mut out = FromWrite::new(rt.stdout());
     let mut err = FromWrite::new(rt.stderr());
     let mut files = Named { rt, names };
-    Ok(run_each(rt.alloc(), task, &grammar, names, &mut files, &mut out, &mut err))
+    Ok(run_each(
+        rt.alloc(),
+        task,
+        &grammar,
+        names,
+        &mut files,
+        &mut out,
+        &mut err,
+    ))
 }
 
 /// Opens the files of a command, does what it asks, and answers the exit status. `rules` has none.

@@ -1,20 +1,22 @@
 //! What follows from the definitions of what is shown and of a grammar file's table. Each function does nothing: its
 //! contract is what is proved.
-ghost use Rattle.std.specs.Prelude.{◌≡◌, ◌++◌, ◌∷◌, [], ℕ, List, Option, Some, None, Bool, true, false, codes};
+ghost use Rattle.std.specs.Prelude.{◌≡◌, ◌++◌, ◌∷◌, [], ℕ, List, Option, Some, None, Bool, true, false, Ok, Err, codes};
 ghost use Rattle.spv_words.specs.declared.words.Order.{Order};
 ghost use Rattle.spv_table.specs.Table.{Table};
 ghost use Rattle.spv_grammar.specs.Answer.{text_breaks};
 ghost use Rattle.spv_grammar.specs.declared.error.GrammarError.{GrammarError};
 ghost use Rattle.spv_table.specs.Example.{empty_table};
-ghost use Rattle.spv_commands.specs.Example.{empty_grammar};
+ghost use Rattle.spv_commands.specs.Example.{empty_grammar, reader_of, writer_of};
 ghost use Rattle.spv_reasons.specs.Stream.{BeginsExplaining, Explains};
 ghost use Rattle.spv_commands.specs.Show.{BeginsShowing, IsShowing, Shows};
 ghost use Rattle.spv_commands.specs.Assemble.{Assembles, BeginsAssembling};
 ghost use Rattle.spv_commands.specs.Trace.{BeginsTracing, HasNoEntry, Traces, step_line, trace_text};
 ghost use Rattle.spv_run.specs.declared.parts.Ending.TheVariants.{Finished, Limit};
 ghost use Rattle.spv_commands.specs.Task.{BeginsByText, DoesByText, MakesNothing, ReadsGrammar};
-ghost use Rattle.spv_commands.specs.Trouble.{BeginsWith, IsErrorLine, IsTableOf, Writes, entry_line, file_line};
-ghost use Rattle.spv_commands.specs.Trouble.{memory_line};
+ghost use Rattle.spv_commands.specs.Trouble.{BeginsWith, Gets, IsErrorLine, IsTableOf, Writes, entry_line};
+ghost use Rattle.spv_commands.specs.Trouble.{file_line, memory_line};
+ghost use Rattle.spv_commands.specs.Run.{Runs, RunsRules};
+ghost use Rattle.spv_commands.specs.Streams.{IsAnswered, IsDone};
 ghost use Rattle.spv_commands.specs.Each.{AreParts, Ends, IsPart, Known};
 ghost use Rattle.spv_commands.specs.Name.{hex_digit, label, shown_byte};
 ghost use Rattle.spv_command_line.specs.declared.command_line.Command.{Command};
@@ -182,4 +184,33 @@ pub fn each_examples()
         (λ e. Writes e (Some []) (Some memory_line) 0 0) (Unit {0}) 2 }
     ensures never_ends { (text : List ℕ) (task : Task) (known : ℕ → Known) (names : List (List ℕ))
         (status : ℕ) → ¬ (Ends text task known names (λ o. ⊥) (λ e. ⊥) (Unit {0}) status) }
+{}
+
+/// Worked examples of what became of streams.
+pub fn stream_examples()
+    ensures gets { Gets (λ (held : List ℕ). Some held) (λ held. 0) [] file_line file_line }
+    ensures gets_nothing { ¬ (Gets (λ (held : List ℕ). Some held) (λ held. 0) [] [] file_line) }
+    // The byte 7 was read, 8 was written, and the answer is true; without a failed call there is not its error.
+    ensures answered { IsAnswered {E = ℕ} (λ bytes old new answer. (bytes ≡ 7 ∷ []) × (new ≡ Some (8 ∷ [])))
+        (λ bytes old new. ⊥) 1 (reader_of (7 ∷ [])) (writer_of (8 ∷ [])) (Ok true) }
+    ensures not_answered { ¬ (IsAnswered {E = ℕ} (λ bytes old new answer. Unit {0}) (λ bytes old new. Unit {0}) 1
+        (reader_of []) (writer_of []) (Err 1)) }
+    // 8 was written to the file that is made; the error of a failed call tells only what else it may.
+    ensures done { IsDone {E = ℕ} (λ bytes old new held kept answer. (new ≡ old) × (kept ≡ Some (8 ∷ [])))
+        (λ bytes old new held kept. ⊥) 1 ⊥ (reader_of []) (writer_of []) (writer_of (8 ∷ [])) (Ok true) }
+    ensures other { IsDone {E = ℕ} (λ bytes old new held kept answer. ⊥) (λ bytes old new held kept. ⊥) 1 (Unit {0})
+        (reader_of []) (writer_of []) (writer_of []) (Err 1) }
+    ensures not_done { ¬ (IsDone {E = ℕ} (λ bytes old new held kept answer. Unit {0})
+        (λ bytes old new held kept. Unit {0}) 1 ⊥ (reader_of []) (writer_of []) (writer_of []) (Err 1)) }
+{}
+
+/// Worked examples of how a run ends.
+pub fn ending_examples()
+    // Want of memory, of which only its line tells.
+    ensures runs { (command : Command) (text : List ℕ)
+        → Runs command text (reader_of []) (writer_of []) (writer_of []) (λ line. line ≡ memory_line) 2 }
+    ensures never_runs { (command : Command) (text : List ℕ)
+        → ¬ (Runs command text (reader_of []) (writer_of []) (writer_of []) (λ line. ⊥) 2) }
+    ensures rules { RunsRules (writer_of (codes "W1")) (λ line. ⊥) 0 }
+    ensures no_rules { ¬ (RunsRules (writer_of []) (λ line. ⊥) 1) }
 {}
