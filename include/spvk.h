@@ -10,12 +10,24 @@
  * C99 or later, C++17 or later. Link libspvk.a or libspvk.so.
  *
  * What is proved. The archive's functions, `spvk_raw_..` below, are proved: each returns, touches no memory but
- * what it is handed and what it allocates, and answers what the definitions of the library give, or want of
- * memory. Nothing checks what a C caller owes; it is said here. The functions `spvk_..` are written in this
- * header, and do nothing but test pointers for null and call those.
+ * what it is handed and what it allocates, and answers what the definitions of the library give, or that it is
+ * out of memory. Nothing checks what a C caller owes; it is said here. The functions `spvk_..` are written in this
+ * header, and do nothing but test pointers for null and call those; they are tested and not proved.
+ *
+ * What a valid module may still hold. No rule looks at the operands of OpExtInst after its number: there a valid
+ * module may name ids that are over the bound or defined nowhere. A loader that follows these ids tests them itself.
  *
  * Memory. All of it comes from malloc, realloc and free, which must be one allocator. No call keeps a pointer that
  * it is given after it has returned. Nothing is kept between calls but what grammars and buffers hold.
+ *
+ * How much. As measured on hostile shapes (docs/PERFORMANCE.md), and not proved: `spvk_grammar_new` takes time near
+ * to linear in the text, at most @FIGURE@ instructions of the processor a byte, and memory of at most 12 times its bytes,
+ * of which a grammar keeps at most @FIGURE@. `spvk_check` and `spvk_explain` take time near to linear in the module, at
+ * most @FIGURE@ instructions for each word, and may look at all that the module's capabilities imply in the grammar;
+ * their memory is at most 14 times the module. A text that `spvk_show` or `spvk_explain` makes may have as many bytes
+ * as the longest names of the grammar have times the instructions: where the grammar or the module is a stranger's, let
+ * malloc refuse, and the call answers SPVK_MEMORY. A module that `spvk_assemble` makes is no longer than 16,777,216
+ * bytes; its time and memory go with the text.
  *
  * Threads. Any number of threads may use one grammar at the same time, to check, explain, show and assemble; a
  * grammar is made and deleted while no other thread uses it. A buffer, and each place for an answer, belongs to

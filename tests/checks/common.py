@@ -1,6 +1,7 @@
 """What all checks share: the layers, and one run of the program."""
 
 import subprocess
+import sys
 from dataclasses import dataclass
 from pathlib import Path
 from typing import Callable, FrozenSet, Optional
@@ -106,6 +107,27 @@ def run(program, words, folder, **how):
         **how,
     )
     return Answer(ended.stdout or b"", ended.stderr, ended.returncode)
+
+
+@dataclass(frozen=True)
+class Run:
+    """What a run took, in seconds of the processor and KiB of memory, and its standard output."""
+
+    status: int
+    seconds: float
+    space: int
+    out: bytes
+
+
+def measured(program, words, folder):
+    """Runs the program with these words, and tells what it took."""
+    out = folder / "out"
+    measure = [sys.executable, "-S", TESTS / "checks/measure", out, program, *words]
+    ended = subprocess.run(
+        [str(word) for word in measure], stdout=subprocess.PIPE, stderr=subprocess.PIPE, timeout=4 * SECONDS, check=True
+    )
+    status, seconds, space = ended.stdout.split()
+    return Run(int(status), float(seconds), int(space), out.read_bytes())
 
 
 def difference(wanted, got):

@@ -1,19 +1,17 @@
 """Large modules that each break one rule, far from what breaks it: what `explain` writes of them, and what time and
 memory it takes beside `check`.
 
-The modules are those of FAULTS in tests/generate, and what must be written is worked out from how they are made.
+The modules are those of tests/shapes/faults.py, and two of hostile.py, and what must be written is worked out from how
+they are made.
 """
 
-import subprocess
-import sys
-from dataclasses import dataclass
-from typing import List
+from shapes.faults import FAULTS as SHAPES
+from shapes.hostile import BESIDE, HOSTILE, WAVES
+from shapes.module import ENTRY, FIRST_FREE, INT, KERNEL, Module
 
-from .common import SECONDS, TESTS, Check
-from .flow import GENERATE
+from .common import TESTS, Check, measured
 
 PROFILE = TESTS / "profile.json"
-MEASURE = TESTS / "checks/measure"
 LAYERS = frozenset({"layout", "ids", "types", "operations", "flow", "calls"})
 # At most so many times the seconds of `check`, and so many beside; and so of its memory, in KiB.
 TIMES, SECONDS_BESIDE = 3, 0.1
@@ -22,7 +20,8 @@ SPACES, SPACE_BESIDE = 2, 8 << 10
 SIZE = 4 << 20
 SIZES = {"missing": 5 << 20, "cycle": 16 << 20}
 
-INT, KERNEL, ENTRY, FIRST = GENERATE.INT, GENERATE.KERNEL, GENERATE.ENTRY, GENERATE.FIRST_FREE
+FIRST = FIRST_FREE
+LABEL, ADD, RETURN = 248, 128, 253
 # How many instructions stand before the kernel's function, and before the first of its entry block.
 DECLARATIONS, HEAD = 12, 14
 OF_VOID, OF_INT, OF_BOOL = "%1 = OpTypeVoid", "%5 = OpTypeInt 32 0", "%9 = OpTypeBool"
@@ -47,6 +46,18 @@ class Insts:
         """The words of an instruction but the first."""
         at = self.places[number]
         return self.words[at + 1 : at + (self.words[at] >> 16)]
+
+    def first(self, opcode):
+        """The number of the first instruction of an opcode."""
+        return next(number for number, at in enumerate(self.places) if self.words[at] & 0xFFFF == opcode)
+
+    def of_result(self, result):
+        """The number of the OpLabel or OpIAdd whose result an id is."""
+        for number, at in enumerate(self.places):
+            opcode = self.words[at] & 0xFFFF
+            if opcode in (LABEL, ADD) and self.words[at + (1 if opcode == LABEL else 2)] == result:
+                return number
+        return None
 
 
 def missing(insts):
@@ -157,25 +168,28 @@ def misplaced(_):
     return ["at: OpCapability Kernel"]
 
 
-@dataclass
-class Run:
-    """What a run took and wrote."""
-
-    status: int
-    seconds: float
-    space: int
-    lines: List[str]
+def irreducible_fault(insts):
+    of = FIRST + 5
+    walk = [ENTRY, FIRST + 2, FIRST + 3, *range(FIRST + 7, insts.operands(-4)[0] + 1, 2)]
+    defined = f"defined: inst {HEAD + 3}, %{of} = OpIAdd %5 %{FIRST + 4} %6"
+    return [f"operand: 2 %{of}", defined, f"walk: {ids(walk)}"]
 
 
-def measured(program, command, module, folder):
-    """A run of the program on a module."""
-    words = [sys.executable, "-S", MEASURE, folder / "out", program, command, "--grammar", PROFILE, module]
-    ended = subprocess.run(
-        [str(word) for word in words], stdout=subprocess.PIPE, stderr=subprocess.PIPE, timeout=4 * SECONDS, check=True
-    )
-    status, seconds, space = ended.stdout.split()
-    lines = (folder / "out").read_text(encoding="utf-8").split("\n")[:-1]
-    return Run(int(status), float(seconds), int(space), lines)
+def waves_fault(insts):
+    head, tail, chain = FIRST, FIRST + 1, FIRST + 2
+    beside = chain + WAVES
+    before = beside + BESIDE * (WAVES - 2)
+    of = before + 1
+    last = insts.operands(insts.first(RETURN) - 2)[0]
+    section = [head, *range(beside, beside + BESIDE), *range(chain + 1, chain + WAVES)]
+    walk = [ENTRY, *section, tail, *range(of + WAVES, last + 1)]
+    defined = f"defined: inst {HEAD + 5}, %{of} = OpIAdd %5 %{before} %6"
+    return [f"operand: 2 %{of}", defined, f"walk: {ids(walk)}"]
+
+
+def lines_of(run):
+    """The lines that a run wrote."""
+    return run.out.decode().split("\n")[:-1]
 
 
 def cut(line):
@@ -200,12 +214,13 @@ def fault(name, rule, wanted):
     """The check of a module, whose first broken rule is known, and the lines that show it."""
 
     def check(program, folder):
-        made = GENERATE.Module(SIZES.get(name, SIZE) // 4)
-        GENERATE.FAULTS[name](made)
+        made = Module(SIZES.get(name, SIZE) // 4)
+        {**SHAPES, **HOSTILE}[name](made)
         module = folder / f"{name}.spv"
         made.write(module)
-        plainly, explained = (measured(program, command, module, folder) for command in ("check", "explain"))
-        wrong = wrong_lines(rule, wanted(Insts(made)), plainly.lines, explained.lines)
+        words = ("--grammar", PROFILE, module)
+        plainly, explained = (measured(program, [command, *words], folder) for command in ("check", "explain"))
+        wrong = wrong_lines(rule, wanted(Insts(made)), lines_of(plainly), lines_of(explained))
         if wrong is not None or (plainly.status, explained.status) != (1, 1):
             return wrong or f"  exit {explained.status}, and of check {plainly.status}"
         if explained.seconds > TIMES * plainly.seconds + SECONDS_BESIDE:
@@ -241,6 +256,8 @@ FAULTS = {
     endless_text: "I8",
     unended: "L2",
     misplaced: "L1",
+    irreducible_fault: "A1",
+    waves_fault: "A1",
 }
 
 

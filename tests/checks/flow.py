@@ -7,9 +7,9 @@ says of it.
 import os
 import subprocess
 import threading
-from importlib.machinery import SourceFileLoader
-from importlib.util import module_from_spec, spec_from_loader
 from resource import RLIMIT_AS, setrlimit
+
+from shapes.module import ENTRY, FUNCTION_TYPE, INT, KERNEL, ONE, TRUE, VOID, Module, closed, kernel, opened, text_words
 
 from .common import SECONDS, TESTS, Answer, Check, difference, joined
 
@@ -25,19 +25,7 @@ SPACE_OF_BYTE = 40
 SPACE = 64 << 20
 
 
-def generator():
-    """What tests/generate defines."""
-    loader = SourceFileLoader("generate", str(TESTS / "generate"))
-    found = module_from_spec(spec_from_loader("generate", loader))
-    loader.exec_module(found)
-    return found
-
-
-GENERATE = generator()
-VOID, INT, ONE, TRUE = GENERATE.VOID, GENERATE.INT, GENERATE.ONE, GENERATE.TRUE
-
-
-class Graph(GENERATE.Module):
+class Graph(Module):
     """A module in the making, and how many instructions it has."""
 
     def __init__(self):
@@ -57,20 +45,20 @@ class Graph(GENERATE.Module):
         self.put(128, INT, result, left, right)
         return result
 
-    def begin(self, entries=(GENERATE.KERNEL,)):
+    def begin(self, entries=(KERNEL,)):
         """All up to the types and constants."""
 
         def more(module):
             for number, entry in enumerate(entries[1:]):
-                module.put(15, 6, entry, *GENERATE.text_words(f"{number:07}"))
+                module.put(15, 6, entry, *text_words(f"{number:07}"))
 
-        GENERATE.opened(self, more)
+        opened(self, more)
 
     def kernel(self):
-        GENERATE.kernel(self)
+        kernel(self)
 
     def end(self):
-        GENERATE.closed(self)
+        closed(self)
 
 
 def straight(graph, count):
@@ -184,7 +172,7 @@ def switches(graph, count, targets=16_000):
     """Switches, each of which has one block as all of its targets."""
     graph.begin()
     graph.kernel()
-    parent = GENERATE.ENTRY
+    parent = ENTRY
     for _ in range(count):
         label = graph.fresh()
         graph.put(251, ONE, label, *(w for at in range(targets - 1) for w in (at, label)))
@@ -200,7 +188,7 @@ def functions(graph, callees, order):
     graph.next += 3 * len(callees)
     places = {}
     for number in order:
-        graph.put(54, VOID, first + 3 * number, 0, GENERATE.FUNCTION_TYPE)
+        graph.put(54, VOID, first + 3 * number, 0, FUNCTION_TYPE)
         graph.put(248, first + 3 * number + 1)
         if callees[number] is not None:
             places[number] = (graph.insts, len(graph.words))
@@ -244,7 +232,7 @@ def entries(graph, count):
     first = graph.next
     middle = count // 2
     named = [first + 3 * number for number in range(count) if number != middle]
-    graph.begin((GENERATE.KERNEL, *named))
+    graph.begin((KERNEL, *named))
     callees = [middle] * count
     callees[middle] = None
     functions(graph, callees, range(count))

@@ -1,15 +1,18 @@
 """Modules near the greatest size, one of each shape that tests/generate makes.
 
-They show that hostile sizes are read in reasonable time: a run that takes over a minute fails.
+They show that hostile sizes are read in reasonable time and memory: a run that takes over a minute fails, and one that
+takes over 14 times the module.
 """
 
 import subprocess
 import sys
 
-from .common import TESTS, Answer, Check, difference, run
+from .common import SECONDS, TESTS, Check, measured
 
-VALID = Answer(b"valid\n", b"", 0)
-OUTSIDE = Answer(b"fault P1 inst 0 word 5\n", b"", 1)
+VALID = b"valid\n"
+OUTSIDE = b"fault P1 inst 0 word 5\n"
+# How many times the module a run may take of memory.
+TIMES, KIB = 14, 1 << 10
 SHAPES = {
     **dict.fromkeys(
         (
@@ -40,7 +43,7 @@ SHAPES = {
         ),
         VALID,
     ),
-    "again": Answer(b"fault D2 inst 15 word 52\n", b"", 1),
+    "again": b"fault D2 inst 15 word 52\n",
     "deep": OUTSIDE,
     "masks": OUTSIDE,
 }
@@ -55,9 +58,14 @@ def large(shape, wanted):
         module = folder / f"{shape}.spv"
         own = folder / f"{shape}.json"
         grammar = own if own.exists() else TESTS / "profile.json"
-        got = run(program, ["check", "--grammar", grammar, module], folder)
+        size = module.stat().st_size
+        got = measured(program, ["check", "--grammar", grammar, module], folder)
         module.unlink()
-        return difference(wanted, got)
+        if got.out != wanted or got.status != (0 if wanted == VALID else 1):
+            return f"  {got.out!r}, exit {got.status}, and not {wanted!r}"
+        if got.seconds > SECONDS:
+            return f"  {got.seconds:.1f} seconds"
+        return f"  {got.space} KiB for {size} bytes" if got.space * KIB > TIMES * size else None
 
     return check
 

@@ -11,10 +11,12 @@ import shutil
 import struct
 import subprocess
 
+from shapes.faults import FAULTS
+from shapes.module import Module
+
 from .cases import all_cases, laid_out, wanted_answer
 from .common import LAYERS as ALL_LAYERS
 from .common import TESTS, Answer, Check, Unusable, layers_of, run
-from .flow import GENERATE
 
 NO_MEMORY = Answer(b"", b"error memory\n", 2)
 MOST_GROWTHS = 100_000
@@ -92,8 +94,8 @@ def explained(name, folder):
     """The words that explain the module of this name."""
     module = TESTS / f"modules/{name}.spv"
     if not module.exists():
-        made = GENERATE.Module(FAULT_WORDS)
-        GENERATE.FAULTS[name](made)
+        made = Module(FAULT_WORDS)
+        FAULTS[name](made)
         module = folder / f"{name}.spv"
         made.write(module)
     return ["explain", "--grammar", TESTS / "profile.json", module]
@@ -143,7 +145,7 @@ def chosen_cases():
 def chosen_modules():
     """The modules that tests/refuse/explained names, and whether each is explained without a growth."""
     for name, does_without in chosen("explained"):
-        if name not in GENERATE.FAULTS and not (TESTS / f"modules/{name}.spv").exists():
+        if name not in FAULTS and not (TESTS / f"modules/{name}.spv").exists():
             raise Unusable(f"tests/refuse/explained: no module has the name {name}")
         yield name, does_without
 

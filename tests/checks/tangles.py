@@ -2,9 +2,8 @@
 
 import struct
 
-from .flow import GENERATE
+from shapes.module import FUNCTION_TYPE, INT, KERNEL, ONE, TRUE, TWO, VOID, Module, opened
 
-INT, ONE, TWO, TRUE, VOID = GENERATE.INT, GENERATE.ONE, GENERATE.TWO, GENERATE.TRUE, GENERATE.VOID
 MOST_WORDS = 20_000
 
 
@@ -57,7 +56,7 @@ class Body:
 
     def put(self):
         """The whole function."""
-        self.module.put(54, VOID, self.function, 0, GENERATE.FUNCTION_TYPE)
+        self.module.put(54, VOID, self.function, 0, FUNCTION_TYPE)
         for at, label in enumerate(self.labels):
             self.module.put(248, label)
             if at and self.chance.random() < 0.5:
@@ -72,10 +71,10 @@ class Body:
 
 def tangle(chance):
     """The bytes of such a module."""
-    module = GENERATE.Module(MOST_WORDS)
-    GENERATE.opened(module)
+    module = Module(MOST_WORDS)
+    opened(module)
     callees = [module.fresh() for _ in range(chance.randrange(8))]
-    functions = [GENERATE.KERNEL, *callees]
+    functions = [KERNEL, *callees]
     chance.shuffle(functions)
     often = chance.choice((0.0, 0.01, 0.1, 0.3))
     for function in functions:

@@ -1,63 +1,66 @@
 //! The tree of a value of `serde_json`, whose texts it borrows.
 
-ghost use Rattle.std.specs.Prelude.{◌≡◌, IfOk};
+ghost use Rattle.std.specs.Prelude.{◌≡◌, IfOk, OnOk};
+ghost use Rattle.serde_json.specs.Data.{array, object};
 ghost use Rattle.serde_json.specs.View.{view as value_view, items_view as values_view, members_view as entries_view};
-ghost use Rattle.json_tree.specs.View.{view, items_view, members_view};
+ghost use Rattle.json_tree.specs.View.{view};
+ghost use Rattle.json_tree.specs.inner.Run.{AddsOne};
 
+use crate::nodes::Nodes;
 use crate::tree::Tree;
-use bumpalo::Bump;
-use bumpalo::collections::into_bump_slice;
 use serde_json::{Map, Value};
-use std::alloc::AllocError;
+use std::alloc::{AllocError, Global};
 
 impl<'a> Tree<'a> {
-    /// The tree of a value of `serde_json`, whose texts it borrows. The error is want of memory.
-    pub fn of(arena: &'a Bump, value: &'a Value) -> Result<Tree<'a>, AllocError>
+    /// The tree of a value of `serde_json`, whose texts it borrows. The error is that memory ran out,
+    /// or that there are more than 4,294,967,295 nodes.
+    pub fn of(alloc: Global, value: &'a Value) -> Result<Tree<'a>, AllocError>
         ensures { IfOk result (λ t. view t ≡ value_view value.now) }
     {
-        of_value(arena, value)
+        let mut nodes = Nodes::new(alloc, "");
+        of_value(&mut nodes, value)?;
+        Ok(Tree::of_nodes(nodes))
     }
 }
 
-/// The tree of a value.
+/// Adds the nodes of a value.
 #[cycle(of)]
-fn of_value<'a>(arena: &'a Bump, value: &'a Value) -> Result<Tree<'a>, AllocError>
-    ensures { IfOk result (λ t. view t ≡ value_view value.now) }
+fn of_value<'a>(nodes: &mut Nodes<'a>, value: &'a Value) -> Result<(), AllocError>
+    ensures { OnOk result (AddsOne nodes.old (value_view value.now) nodes.new) }
 {
     match value {
-        Value::Null => Ok(Tree::Null),
-        Value::Bool(b) => Ok(Tree::Bool(*b)),
-        Value::Number(n) => Ok(Tree::Number(*n)),
-        Value::String(text) => Ok(Tree::String(text.as_str())),
-        Value::Array(items) => Ok(Tree::Array(of_items(arena, items)?)),
-        Value::Object(members) => Ok(Tree::Object(of_members(arena, members)?)),
+        Value::Null => nodes.push_null(),
+        Value::Bool(b) => nodes.push_bool(*b),
+        Value::Number(number) => nodes.push_number(*number),
+        Value::String(text) => nodes.push_text(text.as_str(), 0),
+        Value::Array(items) => of_items(nodes, items),
+        Value::Object(members) => of_members(nodes, members),
     }
 }
 
-/// The trees of the items of an array.
+/// Adds the nodes of an array.
 #[cycle(of)]
-fn of_items<'a>(arena: &'a Bump, items: &'a Vec<Value>) -> Result<&'a [Tree<'a>], AllocError>
-    ensures { IfOk result (λ v. items_view v.now ≡ values_view items.now.items) }
+fn of_items<'a>(nodes: &mut Nodes<'a>, items: &'a Vec<Value>) -> Result<(), AllocError>
+    ensures { OnOk result (AddsOne nodes.old (array (values_view items.now.items)) nodes.new) }
 {
-    let mut trees = Vec::with_capacity(arena, items.len())?;
+    let place = nodes.len();
+    nodes.push_null()?;
     for item in items {
-        trees.push(of_value(arena, item)?)?;
+        of_value(nodes, item)?;
     }
-    Ok(into_bump_slice(trees))
+    nodes.close_array(place)
 }
 
-/// The trees of the members of an object, in the order of its keys.
+/// Adds the nodes of an object, in the order of its keys.
 #[cycle(of)]
-fn of_members<'a>(
-    arena: &'a Bump,
-    members: &'a Map<String, Value>,
-) -> Result<&'a [(&'a str, Tree<'a>)], AllocError>
-    ensures { IfOk result (λ v. members_view v.now ≡ entries_view members.now.entries) }
+fn of_members<'a>(nodes: &mut Nodes<'a>, members: &'a Map<String, Value>) -> Result<(), AllocError>
+    ensures { OnOk result (AddsOne nodes.old (object (entries_view members.now.entries)) nodes.new) }
 {
-    let mut trees = Vec::with_capacity(arena, members.len())?;
+    let place = nodes.len();
+    nodes.push_null()?;
     for (key, member) in members.iter() {
-        let tree = of_value(arena, member)?;
-        trees.push((key.as_str(), tree))?;
+        nodes.push_text(key.as_str(), 0)?;
+        of_value(nodes, member)?;
     }
-    Ok(into_bump_slice(trees))
+    nodes.close_object(place)
 }

@@ -1,15 +1,44 @@
-//! A tree whose texts and lists are borrowed.
+//! A tree, as the list of its nodes.
 
-use serde_json::Number;
+ghost use Rattle.std.specs.Prelude.{◌≡◌, ◌<◌, length, is_some, true};
+ghost use Rattle.json_tree.specs.View.{values};
 
-/// A JSON value. Its lists lie in an arena, and an object keeps its members in the order of the text,
-/// also those of equal keys: the last one counts. Contracts see it by `view`.
-#[derive(Clone, Copy)]
-pub enum Tree<'a> {
-    Null,
-    Bool(bool),
-    Number(Number),
-    String(&'a str),
-    Array(&'a [Tree<'a>]),
-    Object(&'a [(&'a str, Tree<'a>)]),
+use crate::node::Node;
+use crate::nodes::Nodes;
+use std::marker::Model;
+
+/// A JSON value: the list of its nodes, in the order of the text. An object keeps also the members
+/// of equal keys; the last one counts. Contracts see the list of what the nodes are.
+#[derive(Drop)]
+pub struct Tree<'a> {
+    nodes: Nodes<'a>,
+}
+
+impl<'a> Model for Tree<'a> {
+    ghost use Rattle.std.specs.Prelude.{◌≡◌, ◌<◌, List, length, is_some, true};
+    ghost use Rattle.json_tree.specs.View.{Content, values};
+
+    ghost Value = { List Content };
+
+    ghost view = { λ t. t.nodes };
+
+    ghost invariant = { λ t. (0 < length t.nodes) × (is_some (values t.nodes) ≡ true) };
+}
+
+impl<'a> Tree<'a> {
+    /// The tree of some nodes.
+    pub(crate) fn of_nodes(nodes: Nodes<'a>) -> Tree<'a>
+        requires some { 0 < length nodes }
+        requires whole { is_some (values nodes) ≡ true }
+        ensures { result ≡ nodes.entry }
+    {
+        Tree { nodes }
+    }
+
+    /// The node of the whole value.
+    pub fn root(&self) -> Node<'_, 'a>
+        ensures { result ≡ self.now }
+    {
+        Node::at(&self.nodes, 0)
+    }
 }

@@ -2,7 +2,7 @@ use spv_layout::Role;
 use spv_table::Listed;
 
 /// What lists the capabilities of which none is there (C2).
-#[derive(Clone, Copy, Debug, PartialEq, Eq)]
+#[derive(Clone, Copy, PartialEq, Eq)]
 pub enum Lister {
     /// The entry of the instruction's opcode.
     Entry,
@@ -15,7 +15,7 @@ pub enum Lister {
 }
 
 /// Which part of E2 is broken.
-#[derive(Clone, Copy, Debug, PartialEq, Eq)]
+#[derive(Clone, Copy, PartialEq, Eq)]
 pub enum EntryPart {
     /// The execution model of an OpEntryPoint is not Kernel.
     Model,
@@ -34,7 +34,7 @@ pub enum EntryPart {
 }
 
 /// Where two types, or two counts, are to be the same (Y6 to Y8).
-#[derive(Clone, Copy, Debug, PartialEq, Eq)]
+#[derive(Clone, Copy, PartialEq, Eq)]
 pub enum Side {
     /// The type of a function, which is to be an OpTypeFunction. What is found is its id.
     Function,
@@ -49,7 +49,7 @@ pub enum Side {
 }
 
 /// A value, and the type that it is declared with: two ids.
-#[derive(Clone, Copy, Debug, PartialEq, Eq)]
+#[derive(Clone, Copy, PartialEq, Eq)]
 pub struct Typed {
     pub value: u32,
     pub of: u32,
@@ -57,7 +57,7 @@ pub struct Typed {
 
 /// What shows that a rule is broken at an instruction, in numbers alone. Operands and instructions count from 0; a
 /// block goes by the number of its OpLabel, and a function by that of its OpFunction.
-#[derive(Debug, Drop)]
+#[derive(Drop)]
 pub enum Evidence {
     /// I1 to I3: the opcode.
     Opcode {

@@ -22,7 +22,7 @@ use spv_walks::check_values;
 use std::alloc::Global;
 
 /// What is known of a module that breaks no rule of flow.
-#[derive(Debug, Drop)]
+#[derive(Drop)]
 pub struct Flow {
     /// How many function definitions there are.
     definitions: u32,

@@ -22,7 +22,7 @@ pub enum Role {
 }
 
 /// The kinds that rows name.
-#[derive(Clone, Copy, Debug, PartialEq, Eq)]
+#[derive(Clone, Copy, PartialEq, Eq)]
 pub enum Named {
     SourceLanguage,
     AddressingModel,
@@ -39,7 +39,7 @@ pub enum Named {
 }
 
 /// What a row asks of an operand.
-#[derive(Clone, Copy, Debug, PartialEq, Eq)]
+#[derive(Clone, Copy, PartialEq, Eq)]
 pub enum Form {
     OfType,
     Result,
@@ -57,7 +57,7 @@ pub enum Form {
 }
 
 /// What may come after the fixed operands of a row.
-#[derive(Clone, Copy, Debug)]
+#[derive(Clone, Copy)]
 pub enum Ending {
     /// Nothing.
     Closed,
@@ -74,7 +74,7 @@ pub enum Ending {
 }
 
 /// A row of the table of shapes.
-#[derive(Clone, Copy, Debug)]
+#[derive(Clone, Copy)]
 pub struct Row {
     /// Its opcodes, both ends included.
     pub from: u16,

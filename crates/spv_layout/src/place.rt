@@ -24,14 +24,14 @@ pub struct Place {
 }
 
 /// What is kept of an instruction of sections 1 to 8.
-#[derive(Clone, Copy, Debug)]
+#[derive(Clone, Copy)]
 pub struct Early {
     pub section: u8,
     pub word: u32,
 }
 
 /// What is kept of an instruction of sections 9 to 11: the function and the block as in `Spans`.
-#[derive(Clone, Copy, Debug)]
+#[derive(Clone, Copy)]
 pub struct Standing {
     pub function: u32,
     pub block: u32,

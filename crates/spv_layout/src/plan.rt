@@ -26,7 +26,7 @@ use std::marker::Model;
 /// The places of a module's instructions. Contracts see it as their list.
 ///
 /// It keeps 8 bytes for an instruction of sections 1 to 8, and 12 for one of sections 9 to 11.
-#[derive(Debug, Drop)]
+#[derive(Drop)]
 pub struct Plan {
     /// Where section 10 begins, as in `Spans`.
     functions: u32,

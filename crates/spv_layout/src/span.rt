@@ -8,7 +8,7 @@ const NONE: u32 = u32::MAX;
 
 /// Which function and block the instructions so far leave open, and where sections 10 and 11 begin: each by the number
 /// of an OpFunction or OpLabel, or `NONE`.
-#[derive(Clone, Copy, Debug)]
+#[derive(Clone, Copy)]
 pub struct Spans {
     /// The OpFunction whose OpFunctionEnd is still to come.
     pub function: u32,

@@ -82,20 +82,14 @@ some_less : (o : Option (List ℕ)) (r : Option (List (List ℕ))) → is_some o
 some_less None r h = refl
 some_less (Some t) r h = cc
 
-mapped_some : {A B : Type 0} (f : A → B) (o : Option A) → is_some (option_map f o) ≡ is_some o
-mapped_some f None = refl
-mapped_some f (Some x) = refl
-
-pub named_bit : {A : Type 0} (f : A → List ℕ) (es : List Enumerant) (mask p : ℕ) (r : Option A) → p < 32 → mask / 2 ^ p % 2 ≡ 1 → option_map f r ≡ first_name es ((1 * 2 ^ p) % 2 ^ 32) → is_some r ≡ true
-    → is_some (names_from es mask p) ≡ is_some (names_from es mask (p + 1))
-named_bit f es mask p r h g e n =
-    let b : is_some (first_name es (2 ^ p)) ≡ true = ap (λ b. is_some (first_name es b)) (sym (the_bit p h)) ∙ (ap is_some (sym e) ∙ (mapped_some f r ∙ n)) in
+pub named_bit : (es : List Enumerant) (mask p : ℕ) → p < 32 → mask / 2 ^ p % 2 ≡ 1 → is_some (first_name es ((1 * 2 ^ p) % 2 ^ 32)) ≡ true → is_some (names_from es mask p) ≡ is_some (names_from es mask (p + 1))
+named_bit es mask p h g n =
+    let b : is_some (first_name es (2 ^ p)) ≡ true = ap (λ b. is_some (first_name es b)) (sym (the_bit p h)) ∙ n in
     ap is_some (set_names es mask p h g) ∙ some_more (first_name es (2 ^ p)) (names_from es mask (p + 1)) b
 
-pub nameless_bit : {A : Type 0} (f : A → List ℕ) (es : List Enumerant) (mask p : ℕ) (r : Option A) → p < 32 → mask / 2 ^ p % 2 ≡ 1 → option_map f r ≡ first_name es ((1 * 2 ^ p) % 2 ^ 32) → is_some r ≡ false
-    → is_some (names_from es mask p) ≡ false
-nameless_bit f es mask p r h g e n =
-    let b : is_some (first_name es (2 ^ p)) ≡ false = ap (λ b. is_some (first_name es b)) (sym (the_bit p h)) ∙ (ap is_some (sym e) ∙ (mapped_some f r ∙ n)) in
+pub nameless_bit : (es : List Enumerant) (mask p : ℕ) → p < 32 → mask / 2 ^ p % 2 ≡ 1 → is_some (first_name es ((1 * 2 ^ p) % 2 ^ 32)) ≡ false → is_some (names_from es mask p) ≡ false
+nameless_bit es mask p h g n =
+    let b : is_some (first_name es (2 ^ p)) ≡ false = ap (λ b. is_some (first_name es b)) (sym (the_bit p h)) ∙ n in
     ap is_some (set_names es mask p h g) ∙ some_less (first_name es (2 ^ p)) (names_from es mask (p + 1)) b
 
 -- what is left of names behind others, or of all

@@ -14,7 +14,7 @@ ghost use Rattle.spv_printer.specs.inner.Printer.{IsReady};
 
 use crate::buffer::{put_octets, put_result};
 use crate::fast_operand::{Draft, add_operand};
-use crate::names::Named;
+use crate::named::Named;
 use crate::printer::Printer;
 use spv_inst::due::{joined, next_kind};
 use spv_table::{Entry, Item, Table};

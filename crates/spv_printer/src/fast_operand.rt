@@ -20,7 +20,8 @@ ghost use Rattle.spv_printer.specs.inner.Printer.{IsReady};
 
 use crate::buffer::{add_id, add_name, add_word};
 use crate::fast_text::add_quoted;
-use crate::names::{Named, Names};
+use crate::named::Named;
+use crate::names::Names;
 use crate::printer::Printer;
 use spv_inst::due::{Definitions, Form, Leaf, form_in};
 use spv_table::Table;

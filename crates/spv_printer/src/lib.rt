@@ -7,6 +7,7 @@ mod fast_operand;
 mod fast_text;
 mod image;
 mod name;
+mod named;
 mod names;
 mod number;
 mod operand;

@@ -2,24 +2,19 @@
 
 ghost use Rattle.std.specs.Prelude.{◌≡◌, true, IfOk, IfSome};
 ghost use Rattle.spv_table.specs.Table.{Table};
-ghost use Rattle.spv_printer.specs.inner.Names.{AreNames, IsPlace, IsShownByName};
+ghost use Rattle.spv_printer.specs.inner.Names.{AreNames, IsPlace, IsShownBy};
 
+use crate::named::Named;
 use std::alloc::{AllocError, Global};
+use std::collections::BTreeMap;
 
-/// What may be shown by a name.
-#[derive(Clone, Copy)]
-pub enum Named {
-    Opcode(u16),
-    Value { kind: u32, value: u32 },
-    /// The names of the set bits.
-    Mask { kind: u32, mask: u32 },
-}
-
-/// What was found to be shown by a name, so that the names of an instruction that comes again need not be looked up.
+/// What was found to be shown by a name or by its number, so that no name need be looked through again.
 #[derive(Drop)]
 pub struct Names {
-    /// By place (`place_of`).
+    /// By place (`place_of`), whether it was found to be shown by a name.
     found: Vec<bool>,
+    /// Whether it is shown by a name, of what has no place, and of what was found to be shown by its number.
+    others: BTreeMap<Named, bool>,
 }
 
 /// The place of the first value: before it are those of the opcodes below that number.
@@ -58,13 +53,16 @@ impl Names {
     {
         let mut found = Vec::new(alloc);
         found.resize((MASKS + EACH * KINDS) as usize, false)?;
-        Ok(Names { found })
+        Ok(Names {
+            found,
+            others: BTreeMap::new(alloc),
+        })
     }
 
-    /// Whether it was found.
+    /// Whether it was found to be shown by a name, and has a place. False says nothing.
     #[inline(always)]
     pub fn has(&self, named: Named) -> bool
-        ensures { (G : Table) → AreNames G self.now → result ≡ true → IsShownByName G named }
+        ensures { (G : Table) → AreNames G self.now → result ≡ true → IsShownBy G named true }
     {
         let Some(at) = place_of(named) else {
             return false;
@@ -75,15 +73,29 @@ impl Names {
         }
     }
 
-    /// Keeps what is shown by a name.
-    pub fn keep(&mut self, named: Named)
-        ensures { (G : Table) → AreNames G self.old → IsShownByName G named → AreNames G self.new }
+    /// Whether it is shown by a name. None where that was not looked up.
+    pub fn find(&self, named: Named) -> Option<bool>
+        ensures { (G : Table) → AreNames G self.now → IfSome result (IsShownBy G named) }
     {
-        let Some(at) = place_of(named) else {
-            return;
-        };
-        if at < self.found.len() {
-            self.found[at] = true;
+        if self.has(named) {
+            return Some(true);
         }
+        self.others.get(&named).copied()
+    }
+
+    /// Keeps whether something is shown by a name.
+    ///
+    /// An `AllocError` comes only where a growth of memory was refused, and then nothing is kept.
+    pub fn keep(&mut self, named: Named, by_name: bool) -> Result<(), AllocError>
+        ensures { (G : Table) → AreNames G self.old → IsShownBy G named by_name → AreNames G self.new }
+    {
+        let at = if by_name { place_of(named) } else { None };
+        match at {
+            Some(at) if at < self.found.len() => self.found[at] = true,
+            _ => {
+                self.others.insert(named, by_name)?;
+            },
+        }
+        Ok(())
     }
 }

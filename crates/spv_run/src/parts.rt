@@ -20,7 +20,7 @@ pub struct Code<'m, 'a> {
 }
 
 /// How a run ends (own).
-#[derive(Clone, Copy, Debug, PartialEq, Eq)]
+#[derive(Clone, Copy, PartialEq, Eq)]
 pub enum Ending {
     /// The last frame returned.
     Finished,
@@ -35,7 +35,7 @@ pub enum Ending {
 }
 
 /// An instruction that was executed.
-#[derive(Clone, Copy, Debug, PartialEq, Eq)]
+#[derive(Clone, Copy, PartialEq, Eq)]
 pub struct Step {
     /// How many frames are below its own.
     pub depth: u32,
@@ -44,7 +44,7 @@ pub struct Step {
 }
 
 /// The steps of a run, and how it ended.
-#[derive(Debug, Drop)]
+#[derive(Drop)]
 pub struct Trace {
     pub steps: Vec<Step>,
     pub ending: Ending,

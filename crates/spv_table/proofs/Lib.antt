@@ -1,4 +1,6 @@
 pub mod Backward
 pub mod Search
 pub mod Found
-mod Slots
+pub mod Slots
+pub mod Order
+pub mod Lookup

@@ -2,15 +2,21 @@
 #![tactic(auto)]
 
 mod error;
+mod form;
 mod implied;
 pub mod laws;
 mod listed;
 mod named;
+mod pattern;
 mod places;
+mod results;
 mod sort;
 mod table;
 
 pub use error::Memory;
+pub use form::{Form, Leaf, form_in};
 pub use listed::{Listed, Name, NameList};
+pub use named::{Named, Names};
+pub use pattern::Pattern;
 pub use sort::Sort;
 pub use table::{Category, Entry, Enumerant, Item, Kind, Quantifier, Table};

@@ -5,7 +5,7 @@ use std::marker::Model;
 use std::sync::Arc;
 
 /// A list that does not change. Contracts see it as the list of its items.
-#[derive(Debug, Drop)]
+#[derive(Drop)]
 pub struct Listed<T> {
     items: Vec<T>,
 }
@@ -35,7 +35,7 @@ impl<T> Listed<T> {
 }
 
 /// A list of names that several elements may share. Contracts see it as the list of the names.
-#[derive(Debug, Drop)]
+#[derive(Drop)]
 pub struct NameList {
     names: Arc<Vec<Name>>,
 }
@@ -49,7 +49,7 @@ impl Model for NameList {
 }
 
 impl NameList {
-    /// The list of a vector's names. The error is want of memory.
+    /// The list of a vector's names. The error is that memory ran out.
     pub fn from_vec(alloc: Global, names: Vec<Name>) -> Result<NameList, AllocError>
         ensures { IfOk result (λ l. l ≡ names.items) }
     {
@@ -77,7 +77,7 @@ impl NameList {
 }
 
 /// A name of the grammar file. Contracts see it as the list of its octets.
-#[derive(Debug, Drop)]
+#[derive(Drop)]
 pub struct Name {
     text: String,
 }
@@ -91,14 +91,14 @@ impl Model for Name {
 }
 
 impl Name {
-    /// A copy of a text. The error is want of memory.
+    /// A copy of a text. The error is that memory ran out.
     pub fn from_str(alloc: Global, text: &str) -> Result<Name, AllocError>
         ensures { IfOk result (λ n. n ≡ text.now) }
     {
         Ok(Name::from_string(String::from_str(alloc, text)?))
     }
 
-    /// A copy of the name. The error is want of memory.
+    /// A copy of the name. The error is that memory ran out.
     pub fn copy(&self, alloc: Global) -> Result<Name, AllocError>
         ensures { IfOk result (λ n. n ≡ self.now) }
     {

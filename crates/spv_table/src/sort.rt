@@ -13,7 +13,7 @@ use std::collections::BTreeMap;
 use std::marker::Model;
 
 /// A kind with its enumerants. Contracts see the two.
-#[derive(Debug, Drop)]
+#[derive(Drop)]
 pub struct Sort {
     kind: Kind,
     enumerants: Vec<Enumerant>,
@@ -100,7 +100,7 @@ impl Named for Sort {
 }
 
 impl Sort {
-    /// A kind with these enumerants. The error is want of memory, or of places: there may be 4,294,967,295.
+    /// A kind with these enumerants. The error is that memory ran out, or places: there may be 4,294,967,295.
     pub fn new(alloc: Global, kind: Kind, enumerants: Vec<Enumerant>) -> Result<Sort, AllocError>
         ensures { IfOk result (λ s. s ≡ record { kind = kind; enumerants = enumerants.items }) }
     {

@@ -1,11 +1,16 @@
 ghost use Rattle.std.specs.Prelude.{◌≡◌, ◌<◌, ◌^◌, ℕ, List, length, slice_get, slice_index_or};
-ghost use Rattle.std.specs.Prelude.{option_map, option_and_then, IfOk};
+ghost use Rattle.std.specs.Prelude.{map, option_map, option_and_then, IfOk};
 ghost use Rattle.spv_table.specs.Table.{entry_of, kind_of, enumerant_of, first_with, IsWhole};
 ghost use Rattle.spv_table.specs.Lookups.{opcode_named, value_named, number_named};
+ghost use Rattle.spv_table.specs.inner.Form.{form_of};
+ghost use Rattle.spv_table.specs.inner.Results.{entry_has_result};
 
+use crate::form::{Form, forms_of};
 use crate::listed::{Listed, Name, NameList};
 use crate::named::{Named, Names};
+use crate::pattern::Pattern;
 use crate::places::widen;
+use crate::results::{Results, results_of_entries};
 use crate::sort::Sort;
 use std::alloc::{AllocError, Global};
 use std::marker::Model;
@@ -22,7 +27,7 @@ pub enum Quantifier {
 }
 
 /// An operand of an entry's pattern.
-#[derive(Clone, Copy, Debug, PartialEq, Eq)]
+#[derive(Clone, Copy)]
 pub struct Item {
     /// The number of its kind.
     pub kind: u32,
@@ -30,11 +35,11 @@ pub struct Item {
 }
 
 /// An instruction of the grammar file.
-#[derive(Debug, Drop)]
+#[derive(Drop)]
 pub struct Entry {
     pub name: Name,
     /// The pattern of its operands, in order.
-    pub operands: Listed<Item>,
+    pub operands: Pattern,
     /// The names of the capabilities of which one is needed.
     pub capabilities: NameList,
 }
@@ -50,7 +55,7 @@ pub enum Category {
 }
 
 /// A kind of operands.
-#[derive(Debug, Drop)]
+#[derive(Drop)]
 pub struct Kind {
     pub name: Name,
     pub category: Category,
@@ -59,7 +64,7 @@ pub struct Kind {
 }
 
 /// A value of a ValueEnum, or a bit of a BitEnum.
-#[derive(Debug, Drop)]
+#[derive(Drop)]
 pub struct Enumerant {
     pub name: Name,
     pub value: u32,
@@ -70,7 +75,7 @@ pub struct Enumerant {
 }
 
 /// What a grammar file says. Contracts see its kinds and its entries, as lists.
-#[derive(Debug, Drop)]
+#[derive(Drop)]
 pub struct Table {
     sorts: Vec<Sort>,
     entries: Vec<(u16, Entry)>,
@@ -81,16 +86,22 @@ pub struct Table {
     names: Names,
     /// Where the names of the kinds are.
     kind_names: Names,
+    /// The form of each kind.
+    forms: Vec<Form>,
+    /// Of each entry whether its pattern has a result.
+    results: Vec<Results>,
 }
 
 impl Model for Table {
-    ghost use Rattle.std.specs.Prelude.{◌≡◌, ℕ, List, slice_get, slice_index_or};
+    ghost use Rattle.std.specs.Prelude.{◌≡◌, ℕ, List, map, slice_get, slice_index_or};
     ghost use Rattle.spv_table.specs.Table.{Table};
 
     ghost Value = { Table };
 
     ghost use Rattle.spv_table.specs.Table.{IsWhole, first_with};
+    ghost use Rattle.spv_table.specs.inner.Form.{form_of};
     ghost use Rattle.spv_table.specs.inner.Named.{Finds};
+    ghost use Rattle.spv_table.specs.inner.Results.{results_of};
 
     ghost view = { λ t. record { kinds = t.sorts.items; entries = t.entries.items } };
 
@@ -98,7 +109,10 @@ impl Model for Table {
         × ((n : ℕ) → slice_get t.entries.items (slice_index_or t.places.items n 4294967295)
         ≡ first_with (λ e. e.0) n t.entries.items)
         × Finds (λ e. e.1.name) t.entries.items t.names
-        × Finds (λ s. s.kind.name) t.sorts.items t.kind_names };
+        × Finds (λ s. s.kind.name) t.sorts.items t.kind_names
+        × (t.forms.items ≡ map form_of t.sorts.items)
+        × (t.results.items ≡ map
+        (λ e. results_of (record { kinds = t.sorts.items; entries = t.entries.items }) e.1) t.entries.items) };
 }
 
 /// For each opcode the place of its first entry.
@@ -125,7 +139,7 @@ impl Named for (u16, Entry) {
 }
 
 impl Table {
-    /// The table of these kinds and entries. The error is want of memory, or of places: there may be
+    /// The table of these kinds and entries. The error is that memory ran out, or places: there may be
     /// 4,294,967,295 entries.
     pub fn new(
         alloc: Global,
@@ -141,12 +155,16 @@ impl Table {
         let places = opcode_places(alloc, entries.as_slice())?;
         let names = Names::of(alloc, entries.as_slice())?;
         let kind_names = Names::of(alloc, sorts.as_slice())?;
+        let forms = forms_of(alloc, sorts.as_slice())?;
+        let results = results_of_entries(alloc, forms.as_slice(), entries.as_slice())?;
         Ok(Table {
             sorts,
             entries,
             places,
             names,
             kind_names,
+            forms,
+            results,
         })
     }
 
@@ -201,6 +219,29 @@ impl Table {
         match self.entries.get(place as usize) {
             Some((_, entry)) => Some(entry),
             None => None,
+        }
+    }
+
+    /// The form of each kind, in order, so that a kind's number, from 0, is the place of its form.
+    pub fn forms(&self) -> &[Form]
+        ensures forms { result.now ≡ map form_of self.now.kinds }
+        ensures whole { IsWhole self.now }
+    {
+        self.forms.as_slice()
+    }
+
+    /// Whether the entry of an opcode has a result: among the operands that are always there, or, with `may`, among
+    /// all. An opcode that has no entry has none.
+    pub fn has_result(&self, opcode: u16, may: bool) -> bool
+        ensures { result ≡ entry_has_result may self.now (entry_of self.now opcode) }
+    {
+        let place = match self.places.get(usize::from(opcode)) {
+            Some(place) => *place,
+            None => u32::MAX,
+        };
+        match self.results.get(place as usize) {
+            Some(results) => { if may { results.ever } else { results.always } }
+            None => false,
         }
     }
 

@@ -1,34 +1,36 @@
-use Rattle.std.proofs.Common.{◌≡◌, ℕ, ◌+◌, ◌*◌, ◌≤◌, length}
+use Rattle.std.proofs.Common.{◌≡◌, ℕ, ◌+◌, ◌*◌, ◌≤◌, List, ◌++◌, length, Some}
 use Rattle.json.specs.Json.{items, members, value, parse_map}
-use Rattle.serde_json.specs.Data.{no_members}
+use Rattle.serde_json.specs.Data.{Data, no_members}
 use Rattle.serde_json.specs.Read.{of_items, of_members, converted}
-use Rattle.json_tree.specs.View.{members_view}
-use Rattle.json_tree.proofs.Trees.{items_before}
+use Rattle.json_tree.specs.View.{Content, paired, members_of}
+use Rattle.json_tree.specs.inner.Run.{IsRun}
+use Rattle.json_tree.proofs.Values.{Value}
+use Rattle.json_tree.proofs.Runs.{datas, items_before}
 use Rattle.json_tree.proofs.read.+read.Given as goal
 
 abbrev pub decreases-read : goal.decreases-read
 decreases-read l = 2 * l.depth
 
-abbrev pub decreases-read_items : goal.decreases-read_items
-decreases-read_items l = 2 * l.depth + 1
+abbrev pub decreases-read_array : goal.decreases-read_array
+decreases-read_array l = 2 * l.depth + 1
 
-abbrev pub decreases-read_members : goal.decreases-read_members
-decreases-read_members l = 2 * l.depth + 1
+abbrev pub decreases-read_object : goal.decreases-read_object
+decreases-read_object l = 2 * l.depth + 1
 
-abbrev pub invariant-read_items-items : goal.invariant-read_items-items
-invariant-read_items-items l =
-    (n : ℕ) × (length l.reader ≤ n)
-    × (converted of_items (items (value l.depth) (length l.initial.reader) l.initial.reader) ≡ parse_map (items_before l.found.items) (converted of_items (items (value l.depth) n l.reader)))
+abbrev pub invariant-read_array-items : goal.invariant-read_array-items
+invariant-read_array-items l =
+    (own : List Content) × (vs : List Value) × (n : ℕ) × (l.nodes ≡ l.initial.nodes ++ own) × IsRun own vs × (length l.reader ≤ n)
+    × (converted of_items (items (value l.depth) (length l.initial.reader) l.initial.reader) ≡ parse_map (items_before (datas vs)) (converted of_items (items (value l.depth) n l.reader)))
     × (length l.reader ≤ length l.initial.reader)
 
-abbrev pub decreases-read_items-items : goal.decreases-read_items-items
-decreases-read_items-items l = length l.reader
+abbrev pub decreases-read_array-items : goal.decreases-read_array-items
+decreases-read_array-items l = length l.reader
 
-abbrev pub invariant-read_members-members : goal.invariant-read_members-members
-invariant-read_members-members l =
-    (n : ℕ) × (length l.reader ≤ n)
-    × (converted (λ ms. of_members ms no_members) (members (value l.depth) (length l.initial.reader) l.initial.reader) ≡ converted (λ ms. of_members ms (members_view l.found.items)) (members (value l.depth) n l.reader))
+abbrev pub invariant-read_object-members : goal.invariant-read_object-members
+invariant-read_object-members l =
+    (own : List Content) × (vs : List Value) × (ms : List (List ℕ × Data)) × (n : ℕ) × (l.nodes ≡ l.initial.nodes ++ own) × IsRun own vs × (paired (datas vs) ≡ Some ms) × (length l.reader ≤ n)
+    × (converted (λ js. of_members js no_members) (members (value l.depth) (length l.initial.reader) l.initial.reader) ≡ converted (λ js. of_members js (members_of ms)) (members (value l.depth) n l.reader))
     × (length l.reader ≤ length l.initial.reader)
 
-abbrev pub decreases-read_members-members : goal.decreases-read_members-members
-decreases-read_members-members l = length l.reader
+abbrev pub decreases-read_object-members : goal.decreases-read_object-members
+decreases-read_object-members l = length l.reader

@@ -19,3 +19,6 @@ returns-in-Some c =
     let found = found_at (λ (e : ℕ × Entry). bytes_eq q e.1.name) c.as_slice.result.now _ c.in_ok-place.ensures in
     let at : slice_get c.as_slice.result.now c.in_ok-place.place ≡ Some c.in-Some.field-0.now = ap (λ es. slice_get es c.in_ok-place.place) (c.as_slice.ensures.value ∙ sym c.deref.ensures.value) ∙ slice_get_read c.deref.result.now (length c.deref.result.now) c.in_ok-place.place _ refl c.in-Some.ensures.lookup.3.0 c.in-Some.ensures.lookup.1 in
     sym (ap (option_map (λ (e : ℕ × Entry). e.0)) (found ∙ at)) ∙ ap (λ es. opcode_named es q) (c.as_slice.ensures.value ∙ ap (λ (t : Table). t.entries) c.self.view_is)
+
+pub place-requires : goal.place-requires
+place-requires c = rw c.as_slice.ensures.value c.self.invariant.2

@@ -1,0 +1,76 @@
+"""A module in the making, and the declarations that most shapes have."""
+
+import sys
+from array import array
+
+MOST_BYTES = 16_777_216
+LONGEST = 65_535
+GREATEST_BOUND = 4_194_303
+VOID, FUNCTION_TYPE, KERNEL, ENTRY, INT, ONE, TWO, POINTER, BOOL, TRUE = range(1, 11)
+FIRST_FREE = 11
+
+
+class Module:
+    """The words of a module, and the next id that is free."""
+
+    def __init__(self, most_words):
+        self.words = array("I", [0x07230203, 0x00010600, 0, 0, 0])
+        self.most = most_words
+        self.next = FIRST_FREE
+
+    def put(self, opcode, *operands):
+        """Adds an instruction."""
+        self.words.append((len(operands) + 1) << 16 | opcode)
+        self.words.extend(operands)
+
+    def fresh(self):
+        """An id that no instruction has yet."""
+        self.next += 1
+        return self.next - 1
+
+    def room(self):
+        """How many words may still come, if a few are kept for the end."""
+        return self.most - len(self.words) - 64
+
+    def write(self, path):
+        """Writes the module in little order, with its bound."""
+        self.words[3] = self.next
+        if sys.byteorder == "big":
+            self.words.byteswap()
+        path.write_bytes(self.words.tobytes())
+
+
+def text_words(text):
+    """The words of a literal string."""
+    octets = text.encode() + b"\0"
+    octets += bytes(-len(octets) % 4)
+    return [int.from_bytes(octets[at : at + 4], "little") for at in range(0, len(octets), 4)]
+
+
+def opened(module, after_entry=lambda module: None):
+    """Begins a module: all up to the declarations that every shape has."""
+    module.put(17, 4)
+    module.put(17, 6)
+    module.put(14, 2, 2)
+    module.put(15, 6, KERNEL, *text_words("k"))
+    after_entry(module)
+    module.put(19, VOID)
+    module.put(33, FUNCTION_TYPE, VOID)
+    module.put(21, INT, 32, 0)
+    module.put(43, INT, ONE, 1)
+    module.put(43, INT, TWO, 2)
+    module.put(32, POINTER, 7, INT)
+    module.put(20, BOOL)
+    module.put(41, BOOL, TRUE)
+
+
+def kernel(module):
+    """Begins the kernel's function and its entry block."""
+    module.put(54, VOID, KERNEL, 0, FUNCTION_TYPE)
+    module.put(248, ENTRY)
+
+
+def closed(module):
+    """Ends the last block and the function."""
+    module.put(253)
+    module.put(56)

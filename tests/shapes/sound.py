@@ -1,0 +1,544 @@
+"""Modules that are sound, and three that decode and then do not fit the profile. Each shape adds its words to a
+module."""
+
+from .module import (
+    FIRST_FREE,
+    FUNCTION_TYPE,
+    GREATEST_BOUND,
+    INT,
+    KERNEL,
+    LONGEST,
+    ONE,
+    POINTER,
+    TRUE,
+    TWO,
+    VOID,
+    closed,
+    kernel,
+    opened,
+    text_words,
+)
+
+
+def tiny(module):
+    module.put(17, 4)
+    module.put(17, 6)
+    module.put(14, 2, 2)
+    module.put(15, 6, 3, *text_words("k"))
+    module.put(19, 1)
+    module.put(33, 2, 1)
+    module.put(54, 1, 3, 0, 2)
+    module.put(248, 4)
+    module.next = 5
+    closed(module)
+
+
+def straight(module):
+    """One block of additions, each of the two values before it."""
+    opened(module)
+    kernel(module)
+    before, last = ONE, TWO
+    while module.room() > 5:
+        result = module.fresh()
+        module.put(128, INT, result, before, last)
+        before, last = last, result
+    closed(module)
+
+
+def nops(module):
+    """One block of the shortest instructions."""
+    opened(module)
+    kernel(module)
+    module.words.extend([1 << 16] * module.room())
+    closed(module)
+
+
+def constants(module):
+    """Constants, for each of which the width of a type is asked."""
+    opened(module)
+    number = 0
+    while module.room() > 4:
+        module.put(43, INT, module.fresh(), number)
+        number += 1
+    kernel(module)
+    closed(module)
+
+
+def texts(module):
+    """Strings of 65,000 octets, of characters of one to four octets."""
+    words = text_words("aß€𝄞" * 6_500)
+
+    def strings(module):
+        while module.room() > len(words) + 2:
+            module.put(7, module.fresh(), *words)
+
+    opened(module, strings)
+    kernel(module)
+    closed(module)
+
+
+def names(module):
+    """A name of one id, given to it very many times."""
+
+    def put_names(module):
+        while module.room() > 12:
+            module.put(5, ONE, *text_words("value"))
+
+    opened(module, put_names)
+    kernel(module)
+    closed(module)
+
+
+def memory(module):
+    """Stores with an alignment: a mask and its parameter."""
+    opened(module)
+    kernel(module)
+    variable = module.fresh()
+    module.put(59, POINTER, variable, 7)
+    while module.room() > 5:
+        module.put(62, variable, ONE, 2, 4)
+    closed(module)
+
+
+def switches(module):
+    """Switches of 16,000 cases, one after another."""
+    opened(module)
+    kernel(module)
+    last = module.fresh()
+    while module.room() > 32_010:
+        after = module.fresh()
+        targets = (after, last) * 8_000
+        cases = (word for number_and_label in enumerate(targets) for word in number_and_label)
+        module.put(251, ONE, after, *cases)
+        module.put(248, after)
+    module.put(249, last)
+    module.put(248, last)
+    closed(module)
+
+
+def longest(module):
+    """Instructions as long as they can be: strings of 262,131 octets, switches of 32,765 cases."""
+    words = text_words("a" * 262_131)
+
+    def strings(module):
+        while module.room() > module.most // 2:
+            module.put(7, module.fresh(), *words)
+
+    opened(module, strings)
+    kernel(module)
+    last = module.fresh()
+    while module.room() > LONGEST:
+        after = module.fresh()
+        cases = (word for number in range(32_765) for word in (number, last))
+        module.put(251, ONE, after, *cases)
+        module.put(248, after)
+    module.put(249, last)
+    module.put(248, last)
+    closed(module)
+
+
+def phis(module):
+    """Blocks that 10,000 others branch to, each with phis of as many pairs."""
+    opened(module)
+    kernel(module)
+    branches = 10_000
+    while module.room() > 11 * branches:
+        entries = [module.fresh() for _ in range(branches)]
+        after = module.fresh()
+        module.put(251, ONE, entries[0], *(w for at, e in enumerate(entries[1:]) for w in (at, e)))
+        for entry in entries:
+            module.put(248, entry)
+            module.put(249, after)
+        module.put(248, after)
+        for _ in range(2):
+            pairs = (word for entry in entries for word in (ONE, entry))
+            module.put(245, INT, module.fresh(), *pairs)
+    closed(module)
+
+
+def blocks(module):
+    """Very many small blocks, each with a branch back to the second one."""
+    opened(module)
+    kernel(module)
+    second = module.fresh()
+    module.put(249, second)
+    module.put(248, second)
+    while module.room() > 6:
+        after = module.fresh()
+        module.put(250, TRUE, after, second)
+        module.put(248, after)
+    closed(module)
+
+
+def functions(module):
+    """Very many functions, each of which calls the one before it."""
+    opened(module)
+    callee = None
+    while module.room() > 14:
+        function = module.fresh()
+        module.put(54, VOID, function, 0, FUNCTION_TYPE)
+        module.put(248, module.fresh())
+        if callee is not None:
+            module.put(57, VOID, module.fresh(), callee)
+        closed(module)
+        callee = function
+    kernel(module)
+    closed(module)
+
+
+def lines(module):
+    """Line after line, each of which uses the file that an OpString declares."""
+    file = module.fresh()
+    opened(module, lambda module: module.put(7, file, *text_words("kernel.cl")))
+    kernel(module)
+    while module.room() > 4:
+        module.put(8, file, len(module.words), 1)
+    closed(module)
+
+
+def members(module):
+    """Structs of as many members as an instruction holds."""
+    opened(module)
+    while module.room() > LONGEST:
+        module.put(30, module.fresh(), *[INT] * (LONGEST - 2))
+    kernel(module)
+    closed(module)
+
+
+def named(module):
+    """Constants that all have names, so that each id is used before its definition."""
+    count = (module.room() - 64) // 8
+    first = FIRST_FREE
+    module.next += count
+
+    def put_names(module):
+        for number in range(count):
+            module.put(5, first + number, *text_words(f"{number:07}"))
+
+    opened(module, put_names)
+    for number in range(count):
+        module.put(43, INT, first + number, number)
+    kernel(module)
+    closed(module)
+
+
+def symbols(module):
+    """Values that each have a name of their own, of sixteen octets."""
+    count = (module.room() - 64) // 10
+    first = FIRST_FREE
+    module.next += count
+
+    def put_names(module):
+        for number in range(count):
+            module.put(5, first + number, *text_words(f"variable_{number:07}"))
+
+    opened(module, put_names)
+    for number in range(count):
+        module.put(1, INT, first + number)
+    kernel(module)
+    closed(module)
+
+
+def chain(module):
+    """Blocks of one instruction, each of which branches to the next."""
+    opened(module)
+    kernel(module)
+    while module.room() > 4:
+        after = module.fresh()
+        module.put(249, after)
+        module.put(248, after)
+    closed(module)
+
+
+def callers(module):
+    """Very many functions, each of which calls the one after it."""
+    opened(module)
+    function = module.fresh()
+    while module.room() > 14:
+        after = module.fresh()
+        module.put(54, VOID, function, 0, FUNCTION_TYPE)
+        module.put(248, module.fresh())
+        module.put(57, VOID, module.fresh(), after)
+        closed(module)
+        function = after
+    module.put(54, VOID, function, 0, FUNCTION_TYPE)
+    module.put(248, module.fresh())
+    closed(module)
+    kernel(module)
+    closed(module)
+
+
+def downwards(module):
+    """Values whose ids go down from the greatest that there can be."""
+    opened(module)
+    kernel(module)
+    last = GREATEST_BOUND
+    while module.room() > 3:
+        last -= 1
+        module.put(1, INT, last)
+    closed(module)
+    module.next = GREATEST_BOUND
+
+
+def types(module):
+    """Opaque types of different names, pointers to them, and function types of these."""
+    opened(module)
+    number = 0
+    while module.room() > 13:
+        opaque, pointer = module.fresh(), module.fresh()
+        module.put(31, opaque, *text_words(f"{number:07}"))
+        module.put(32, pointer, 5, opaque)
+        module.put(33, module.fresh(), VOID, pointer)
+        number += 1
+    kernel(module)
+    closed(module)
+
+
+def chains(module):
+    """Chains to the last of a struct's 65,000 members."""
+    opened(module)
+    members = 65_000
+    last, struct, pointer, variable = (module.fresh() for _ in range(4))
+    module.put(43, INT, last, members - 1)
+    module.put(30, struct, *[INT] * members)
+    module.put(32, pointer, 7, struct)
+    kernel(module)
+    module.put(59, pointer, variable, 7)
+    while module.room() > 5:
+        module.put(66, POINTER, module.fresh(), variable, last)
+    closed(module)
+
+
+def arrays(module):
+    """Arrays of arrays, and chains of up to 65,000 indexes into the outermost."""
+    opened(module)
+    element = INT
+    while module.room() > module.most // 2:
+        outer = module.fresh()
+        module.put(28, outer, element, TWO)
+        element = outer
+    depth = min(LONGEST - 535, element - FIRST_FREE)
+    pointer, to_reached, variable = (module.fresh() for _ in range(3))
+    module.put(32, pointer, 7, element)
+    module.put(32, to_reached, 7, element - depth)
+    kernel(module)
+    module.put(59, pointer, variable, 7)
+    while module.room() > depth + 4:
+        module.put(66, to_reached, module.fresh(), variable, *[ONE] * depth)
+    closed(module)
+
+
+def calls(module):
+    """Calls of one function that has 200 parameters."""
+    opened(module)
+    signature, function = module.fresh(), module.fresh()
+    module.put(33, signature, VOID, *[INT] * 200)
+    module.put(54, VOID, function, 0, signature)
+    for _ in range(200):
+        module.put(55, INT, module.fresh())
+    module.put(248, module.fresh())
+    closed(module)
+    kernel(module)
+    while module.room() > 204:
+        module.put(57, VOID, module.fresh(), function, *[ONE, TWO] * 100)
+    closed(module)
+
+
+def entries(module):
+    """Very many functions, each with an entry point and an execution mode."""
+    count = (module.room() - 64) // 16
+    first = FIRST_FREE
+    module.next += 2 * count
+
+    def put_entries(module):
+        for number in range(count):
+            module.put(15, 6, first + 2 * number, *text_words("k"))
+        for number in range(count):
+            module.put(16, first + 2 * number, 31)
+
+    opened(module, put_entries)
+    for number in range(count):
+        module.put(54, VOID, first + 2 * number, 0, FUNCTION_TYPE)
+        module.put(248, first + 2 * number + 1)
+        closed(module)
+    kernel(module)
+    closed(module)
+
+
+def decorations(module):
+    """As many decorations as functions, half of these declared and imported."""
+    count = (module.room() - 64) // 31
+    first = FIRST_FREE
+    module.next += 3 * count
+
+    def put_decorations(module):
+        for number in range(count):
+            module.put(71, first + 3 * number, 41, *text_words("f"), 1)
+            module.put(71, first + 3 * number + 1, 44, 4)
+            module.put(71, ONE, 44, 8)
+
+    module.put(17, 5)
+    opened(module, put_decorations)
+    for number in range(count):
+        module.put(54, VOID, first + 3 * number, 0, FUNCTION_TYPE)
+        module.put(56)
+    for number in range(count):
+        module.put(54, VOID, first + 3 * number + 1, 0, FUNCTION_TYPE)
+        module.put(248, first + 3 * number + 2)
+        closed(module)
+    kernel(module)
+    closed(module)
+
+
+def composites(module):
+    """Constants of one struct type of 30 members."""
+    opened(module)
+    struct = module.fresh()
+    module.put(30, struct, *[INT] * 30)
+    while module.room() > 33:
+        module.put(44, struct, module.fresh(), *[ONE, TWO] * 15)
+    kernel(module)
+    closed(module)
+
+
+def again(module):
+    """One id that is the result of every instruction: a fault at the second."""
+    opened(module)
+    kernel(module)
+    value = module.fresh()
+    while module.room() > 3:
+        module.put(1, INT, value)
+    closed(module)
+
+
+def deep(module):
+    """Parameters of parameters, as deep as an instruction is long; under deep.json."""
+    while module.room() > LONGEST:
+        module.words.append(LONGEST << 16 | 1)
+        module.words.extend([0] * (LONGEST - 2) + [1])
+    module.next = 1
+
+
+DEEP_GRAMMAR = {
+    "instructions": [{"opname": "OpDeep", "opcode": 1, "operands": [{"kind": "Nested"}]}],
+    "operand_kinds": [
+        {
+            "kind": "Nested",
+            "category": "ValueEnum",
+            "enumerants": [
+                {"enumerant": "More", "value": 0, "parameters": [{"kind": "Nested"}]},
+                {"enumerant": "End", "value": 1},
+            ],
+        }
+    ],
+}
+
+
+def masks(module):
+    """Masks of 32 bits, each of which has a parameter; under masks.json."""
+    while module.room() > 34:
+        module.put(1, 0xFFFF_FFFF, *range(32))
+    module.next = 1
+
+
+MASKS_GRAMMAR = {
+    "instructions": [{"opname": "OpMask", "opcode": 1, "operands": [{"kind": "Bits"}]}],
+    "operand_kinds": [
+        {
+            "kind": "Bits",
+            "category": "BitEnum",
+            "enumerants": [
+                {
+                    "enumerant": f"Bit{bit}",
+                    "value": f"0x{1 << bit:08x}",
+                    "parameters": [{"kind": "LiteralInteger"}],
+                }
+                for bit in range(32)
+            ],
+        },
+        {"kind": "LiteralInteger", "category": "Literal"},
+    ],
+}
+
+def rounds(module):
+    """A loop without an end, of additions and of calls of a function of three instructions."""
+    opened(module)
+    function = module.fresh()
+    module.put(54, VOID, function, 0, FUNCTION_TYPE)
+    module.put(248, module.fresh())
+    module.put(128, INT, module.fresh(), ONE, TWO)
+    closed(module)
+    kernel(module)
+    loop = module.fresh()
+    module.put(249, loop)
+    module.put(248, loop)
+    while module.room() > 54:
+        for _ in range(10):
+            module.put(128, INT, module.fresh(), ONE, TWO)
+        module.put(57, VOID, module.fresh(), function)
+    module.put(249, loop)
+    module.put(56)
+
+
+CHAIN_LENGTH = 40
+
+
+def chained(module):
+    """A kernel, and 40 functions of which each calls the next one."""
+    opened(module)
+    functions = [module.fresh() for _ in range(CHAIN_LENGTH)]
+    for function, after in zip([KERNEL, *functions], [*functions, None]):
+        module.put(54, VOID, function, 0, FUNCTION_TYPE)
+        module.put(248, module.fresh())
+        if after is not None:
+            module.put(57, VOID, module.fresh(), after)
+        closed(module)
+
+
+def unchained(module):
+    """As many functions, and a kernel that takes as many steps without a call."""
+    opened(module)
+    kernel(module)
+    module.words.extend([1 << 16] * (3 * CHAIN_LENGTH))
+    closed(module)
+    for _ in range(CHAIN_LENGTH):
+        module.put(54, VOID, module.fresh(), 0, FUNCTION_TYPE)
+        module.put(248, module.fresh())
+        closed(module)
+
+
+SHAPES = {
+    "tiny": tiny,
+    "straight": straight,
+    "nops": nops,
+    "constants": constants,
+    "texts": texts,
+    "names": names,
+    "memory": memory,
+    "switches": switches,
+    "longest": longest,
+    "phis": phis,
+    "blocks": blocks,
+    "functions": functions,
+    "lines": lines,
+    "members": members,
+    "named": named,
+    "symbols": symbols,
+    "chain": chain,
+    "callers": callers,
+    "downwards": downwards,
+    "types": types,
+    "chains": chains,
+    "arrays": arrays,
+    "calls": calls,
+    "entries": entries,
+    "decorations": decorations,
+    "composites": composites,
+    "again": again,
+    "deep": deep,
+    "masks": masks,
+}
+
+TRACED = {"rounds": rounds, "chained": chained, "unchained": unchained}
+
+GRAMMARS = {"deep": DEEP_GRAMMAR, "masks": MASKS_GRAMMAR}
