@@ -1,10 +1,10 @@
 //! Modules that are put together and written, and those that no words spell.
 
-use spv_grammar::{FromGrammar, Table};
+use spv_grammar::{FromGrammar, GrammarError, Table};
 use spv_inst::Operand::{Id, Mask, Number, OfType, Result as Made, Text, Value, Word};
-use spv_inst::{EncodeCode, EncodeError, Module, Operand, Operands, decode, encode};
+use spv_inst::{EncodeCode, EncodeError, Memory, Module, Operand, Operands, decode, encode};
 use spv_samples::PROFILE;
-use spv_words::Header;
+use spv_words::{Header, Image};
 use std::alloc::Global;
 use std::test::Fail;
 
@@ -27,6 +27,11 @@ fn header(bound: u32) -> Header {
     }
 }
 
+/// The table of the profile.
+fn profile(alloc: Global) -> Result<Table, GrammarError> {
+    Table::from_slice(alloc, PROFILE.as_bytes())
+}
+
 /// How the encoding of an instruction under a bound, after an OpTypeInt %1 of 32 bits, is refused.
 fn refusal(
     alloc: Global,
@@ -34,7 +39,7 @@ fn refusal(
     opcode: u16,
     operands: &[Operand],
 ) -> Result<Option<EncodeError>, Fail> {
-    let table = Table::from_slice(alloc, PROFILE.as_bytes())?;
+    let table = profile(alloc)?;
     let mut module = Module::new(alloc, header(bound));
     module.push(21, &[Made(1), Word(32), Word(0)])?;
     module.push(opcode, operands)?;
@@ -47,34 +52,33 @@ const N2: Option<EncodeError> = Some(EncodeError {
     inst: 1,
 });
 
-#[test]
-fn refuses_operands_that_do_not_fit(rt: HostRuntime) -> Result<(), Fail> {
-    let alloc = rt.alloc();
-    let operand = refusal(alloc, 100, 253, &[Word(1)])?;
-    assert_eq!(rt; operand, N2, "encode-return-with-an-operand");
-    let octet = refusal(alloc, 100, 10, &[Text("a\0b")])?;
-    assert_eq!(rt; octet, N2, "encode-a-zero-octet");
-    let half = refusal(alloc, 100, 245, &[OfType(1), Made(2), Id(3)])?;
-    assert_eq!(rt; half, N2, "encode-half-a-pair");
-    let opencl_c = Value {
-        kind: LANGUAGE,
-        value: 3,
-    };
-    let skipped = refusal(alloc, 100, 3, &[opencl_c, Word(100), Text("a")])?;
-    assert_eq!(rt; skipped, N2, "encode-optional-skipped");
-    let unknown = refusal(
-        alloc,
-        100,
+/// Instructions that no words spell: a name, the opcode and the operands.
+const UNSPELLED: [(&str, u16, &[Operand<'static>]); 10] = [
+    ("encode-return-with-an-operand", 253, &[Word(1)]),
+    ("encode-a-zero-octet", 10, &[Text("a\0b")]),
+    ("encode-half-a-pair", 245, &[OfType(1), Made(2), Id(3)]),
+    (
+        "encode-optional-skipped",
+        3,
+        &[
+            Value {
+                kind: LANGUAGE,
+                value: 3,
+            },
+            Word(100),
+            Text("a"),
+        ],
+    ),
+    (
+        "encode-an-unknown-enumerant",
         17,
         &[Value {
             kind: CAPABILITY,
             value: 1000,
         }],
-    )?;
-    assert_eq!(rt; unknown, N2, "encode-an-unknown-enumerant");
-    let bit = refusal(
-        alloc,
-        100,
+    ),
+    (
+        "encode-an-unknown-bit",
         247,
         &[
             Id(1),
@@ -83,23 +87,18 @@ fn refuses_operands_that_do_not_fit(rt: HostRuntime) -> Result<(), Fail> {
                 value: 8,
             },
         ],
-    )?;
-    assert_eq!(rt; bit, N2, "encode-an-unknown-bit");
-    let other = refusal(
-        alloc,
-        100,
+    ),
+    (
+        "encode-a-value-of-another-kind",
         17,
         &[Value {
             kind: LINKAGE,
             value: 1,
         }],
-    )?;
-    assert_eq!(rt; other, N2, "encode-a-value-of-another-kind");
-    let opcode = refusal(alloc, 100, 9999, &[])?;
-    assert_eq!(rt; opcode, N2, "encode-an-unknown-opcode");
-    let high = refusal(
-        alloc,
-        100,
+    ),
+    ("encode-an-unknown-opcode", 9999, &[]),
+    (
+        "encode-a-number-with-a-high-word-too-many",
         43,
         &[
             OfType(1),
@@ -110,11 +109,9 @@ fn refuses_operands_that_do_not_fit(rt: HostRuntime) -> Result<(), Fail> {
                 words: 1,
             },
         ],
-    )?;
-    assert_eq!(rt; high, N2, "encode-a-number-with-a-high-word-too-many");
-    let size = refusal(
-        alloc,
-        100,
+    ),
+    (
+        "encode-a-number-of-the-wrong-size",
         43,
         &[
             OfType(1),
@@ -125,32 +122,41 @@ fn refuses_operands_that_do_not_fit(rt: HostRuntime) -> Result<(), Fail> {
                 words: 2,
             },
         ],
-    )?;
-    assert_eq!(rt; size, N2, "encode-a-number-of-the-wrong-size");
+    ),
+];
+
+#[test]
+fn refuses_operands_that_do_not_fit(rt: HostRuntime) -> Result<(), Fail> {
+    for (name, opcode, operands) in UNSPELLED {
+        assert_eq!(rt; refusal(rt.alloc(), 100, opcode, operands)?, N2, "{name}");
+    }
     Ok(())
+}
+
+/// How a header is refused.
+fn refusal_of_header(alloc: Global, table: &Table, header: Header) -> Option<EncodeError> {
+    encode(alloc, table, &Module::new(alloc, header)).err()
 }
 
 #[test]
 fn refuses_headers(rt: HostRuntime) -> Result<(), Fail> {
-    let table = Table::from_slice(rt.alloc(), PROFILE.as_bytes())?;
-    let n1 = EncodeError {
+    let n1 = Some(EncodeError {
         code: EncodeCode::N1,
         inst: 0,
+    });
+    let bound = refusal(rt.alloc(), 0, 253, &[Word(1)])?;
+    assert_eq!(rt; bound, n1, "encode-bound-zero");
+    let table = profile(rt.alloc())?;
+    let earlier = Header {
+        version: 0x0001_0500,
+        ..header(100)
     };
-    assert_eq!(rt;
-        refusal(rt.alloc(), 0, 253, &[Word(1)])?,
-        Some(n1),
-        "encode-bound-zero"
-    );
-    for (version, schema) in [(0x0001_0500, 0), (0x0001_0600, 1)] {
-        let mut module = Module::new(rt.alloc(), header(100));
-        module.header.version = version;
-        module.header.schema = schema;
-        assert_eq!(rt;
-            encode(rt.alloc(), &table, &module).err(),
-            Some(n1),
-            "{version} {schema}"
-        );
+    let schema = Header {
+        schema: 1,
+        ..header(100)
+    };
+    for wrong in [earlier, schema] {
+        assert_eq!(rt; refusal_of_header(rt.alloc(), &table, wrong), n1);
     }
     Ok(())
 }
@@ -165,57 +171,64 @@ fn string_and_id(text: &str) -> [Operand<'_>; 3] {
     [Id(1), Text(text), Id(1)]
 }
 
+/// How many words a module of one OpName has whose name is so many octets long.
+fn words_with_name(alloc: Global, octets: usize) -> Result<u32, Fail> {
+    let table = profile(alloc)?;
+    let name = "a".repeat(alloc, octets)?;
+    let mut module = Module::new(alloc, header(5));
+    module.push(5, &string(name.as_str()))?;
+    Ok(encode(alloc, &table, &module)?.len())
+}
+
 #[test]
 fn an_instruction_has_65535_words(rt: HostRuntime) -> Result<(), Fail> {
-    let table = Table::from_slice(rt.alloc(), PROFILE.as_bytes())?;
-    let name = "a".repeat(rt.alloc(), 262_131)?;
-    let mut module = Module::new(rt.alloc(), header(5));
-    module.push(5, &string(name.as_str()))?;
-    let image = encode(rt.alloc(), &table, &module)?;
-    assert_eq!(rt; image.len(), 65_540, "encode-the-longest-name");
+    let longest = words_with_name(rt.alloc(), 262_131)?;
+    assert_eq!(rt; longest, 65_540, "encode-the-longest-name");
     let longer = "a".repeat(rt.alloc(), 262_132)?;
-    let n3 = EncodeError {
+    let n3 = Some(EncodeError {
         code: EncodeCode::N3,
         inst: 1,
-    };
+    });
     let long = refusal(rt.alloc(), 5, 5, &string(longer.as_str()))?;
-    assert_eq!(rt; long, Some(n3), "encode-a-name-too-long");
+    assert_eq!(rt; long, n3, "encode-a-name-too-long");
     let also = refusal(rt.alloc(), 5, 5, &string_and_id(longer.as_str()))?;
     assert_eq!(rt; also, N2, "encode-too-long-and-not-of-its-pattern");
     Ok(())
 }
 
-#[test]
-fn encodes_what_decodes(rt: HostRuntime) -> Result<(), Fail> {
-    let table = Table::from_slice(rt.alloc(), PROFILE.as_bytes())?;
-    let mut module = Module::new(rt.alloc(), header(5));
-    // OpSource OpenCL_C 100, without a file and a text; OpExtension "abcd"; %3 = OpIAdd %1 %2 %2
-    module.push(
-        3,
-        &[
-            Value {
-                kind: LANGUAGE,
-                value: 3,
-            },
-            Word(100),
-        ],
-    )?;
+/// OpSource OpenCL_C 100, without a file and a text; OpExtension "abcd"; %3 = OpIAdd %1 %2 %2.
+fn three_instructions(alloc: Global) -> Result<Module<'static>, Memory> {
+    let opencl_c = Value {
+        kind: LANGUAGE,
+        value: 3,
+    };
+    let mut module = Module::new(alloc, header(5));
+    module.push(3, &[opencl_c, Word(100)])?;
     module.push(10, &[Text("abcd")])?;
     module.push(128, &[OfType(1), Made(3), Id(2), Id(2)])?;
-    let image = encode(rt.alloc(), &table, &module)?;
-    assert_eq!(rt; image.len(), 16);
-    assert_eq!(rt; image.header(), header(5));
+    Ok(module)
+}
+
+/// The image of the three instructions.
+fn image_of_three(alloc: Global, table: &Table) -> Result<Image, Fail> {
+    let module = three_instructions(alloc)?;
+    Ok(encode(alloc, table, &module)?)
+}
+
+#[test]
+fn encodes_what_decodes(rt: HostRuntime) -> Result<(), Fail> {
+    let table = profile(rt.alloc())?;
+    let image = image_of_three(rt.alloc(), &table)?;
+    assert_eq!(rt; (image.len(), image.header()), (16, header(5)));
     let again = decode(rt.alloc(), &table, &image)?;
     assert_eq!(rt; again.header, header(5));
-    assert_eq!(rt; again.insts.len(), 3);
-    assert_eq!(rt; again.insts[1].opcode, 10);
-    assert_eq!(rt;
-        again.insts[1].operands.as_slice(),
-        [Text("abcd")].as_slice()
-    );
-    assert_eq!(rt; again.insts[1].result_id(), None);
-    assert_eq!(rt; again.insts[2].type_id(), Some(1));
-    assert_eq!(rt; again.insts[2].result_id(), Some(3));
+    let [_, extension, sum] = again.insts.as_slice() else {
+        return Err(Fail::from("three instructions"));
+    };
+    assert_eq!(rt; extension.opcode, 10);
+    assert!(rt; extension.operands.as_slice() == [Text("abcd")].as_slice());
+    assert_eq!(rt; extension.result_id(), None);
+    assert_eq!(rt; (sum.type_id(), sum.result_id()), (Some(1), Some(3)));
     Ok(())
 }
 
