@@ -78,7 +78,7 @@ edges_within graph edges n g are l = record {
       let s = are.sound e (found edges k e h) in
       let from = s.0 in
       let to = All-contains (λ (t : ℕ). t < block_count graph) (targets_of graph e.from) e.to
-          (targets_are graph g e.from) s.1 in
+      (targets_are graph g e.from) s.1 in
       (omega (arith, from, l), omega (arith, to, l)));
 }
 
@@ -189,7 +189,7 @@ by_test graph v b s true h e = inl (record {
 })
 by_test graph v b s false h e =
     let f = slice_get-map (defines v) graph.blocks.items b ∙ ap (option_map (defines v)) h
-        ∙ ap (λ (t : Bool). Some t) e in
+    ∙ ap (λ (t : Bool). Some t) e in
     inr (undefined_open graph v b f)
 
 by_block : (graph : Graph) (v b : ℕ) (o : Option Block) → slice_get graph.blocks.items b ≡ o

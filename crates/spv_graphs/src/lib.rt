@@ -24,7 +24,7 @@ pub use first::first_unavailable;
 pub use graph::{Block, Graph};
 pub use least::least_unavailable;
 pub use open::open_queries;
-pub use paths::{edges_of, way_past};
+pub use paths::{edges_of, path_past};
 pub use queries::{Query, are_queries};
 pub use ways::shortest_way;
 pub use words::meet;

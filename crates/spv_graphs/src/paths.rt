@@ -55,7 +55,7 @@ fn defining_blocks(alloc: Global, graph: &Graph, value: u32) -> Result<Vec<bool>
 ///
 /// Time and memory are linear in the blocks and the edges. An `AllocError` comes only where a growth of memory was
 /// refused.
-pub fn way_past(
+pub fn path_past(
     alloc: Global,
     graph: &Graph,
     edges: &[Edge],

@@ -3,7 +3,7 @@ use Rattle.std.proofs.lemmas.List.{length-map}
 use Rattle.std.proofs.lemmas.Result.{IfOk-weaker}
 use Rattle.spv_graphs.specs.inner.Edges.{defines}
 use Rattle.spv_graphs.proofs.Edged.{edges_within, past_or_not}
-use Rattle.spv_graphs.proofs.paths.way_past.Goals as goal
+use Rattle.spv_graphs.proofs.paths.path_past.Goals as goal
 
 pub shortest_way-requires-clause-within : goal.shortest_way-requires-clause-within
 shortest_way-requires-clause-within c =
