@@ -22,8 +22,8 @@ use Rattle.spv_calls.proofs.Insts.{short_list}
 use Rattle.spv_calls.proofs.Lists.{map_get}
 use Rattle.spv_evidence.specs.declared.evidence.Evidence.{Evidence}
 use Rattle.spv_evidence.specs.declared.evidence.Evidence.TheVariants.{Cycle}
-use Rattle.spv_ways.specs.declared.edge.Edge.{Edge}
-use Rattle.spv_ways.specs.Way.{HasEdge, IsWay, IsShortest, AreWithin, AreBelow}
+use Rattle.spv_graphs.specs.declared.edge.Edge.{Edge}
+use Rattle.spv_graphs.specs.Way.{HasEdge, IsWay, IsShortest, AreWithin, AreBelow}
 use Rattle.spv_call_reasons.specs.Evidence.{IsCallChain, IsEntryChain, IsShortestOf, IsEvidence}
 use Rattle.spv_call_reasons.specs.inner.Edges.{edge_of, IsListed}
 

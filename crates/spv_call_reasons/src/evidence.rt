@@ -9,16 +9,16 @@ ghost use Rattle.spv_layout.specs.Place.{word_count};
 ghost use Rattle.spv_layout.specs.Plan.{IsPlan};
 ghost use Rattle.spv_ids.specs.Outcome.{IsDefinitionOf, definition_in};
 ghost use Rattle.spv_calls.specs.Broken.{Broken};
-ghost use Rattle.spv_ways.specs.Way.{IsWay, IsShortest, AreWithin, AreBelow};
+ghost use Rattle.spv_graphs.specs.Way.{IsWay, IsShortest, AreWithin, AreBelow};
 ghost use Rattle.spv_call_reasons.specs.Evidence.{IsEvidence};
 ghost use Rattle.spv_call_reasons.specs.inner.Edges.{edge_of, IsListed, IsNotListed};
 
 use spv_calls::{Call, calls_of, entries_of};
 use spv_evidence::{Evidence, Listed};
+use spv_graphs::{Edge, shortest_way};
 use spv_ids::Ids;
 use spv_layout::Plan;
 use spv_module::Module;
-use spv_ways::{Edge, shortest_way};
 use std::alloc::{AllocError, Global};
 
 /// The edges between functions that calls are.

@@ -1,9 +1,9 @@
-//! Shortest ways through small graphs, worked out by hand.
+//! Ways through small graphs.
 
 ghost use Rattle.std.specs.Prelude.{IsTrue};
-ghost use Rattle.spv_ways.specs.Way.{AreWithin, AreBelow};
+ghost use Rattle.spv_graphs.specs.Way.{AreWithin, AreBelow};
 
-use spv_ways::{Edge, shortest_way};
+use spv_graphs::{Edge, shortest_way};
 use std::alloc::Global;
 use std::test::Fail;
 

@@ -9,11 +9,11 @@ use Rattle.spv_module.specs.Operand.{PlainInst}
 use Rattle.spv_layout.specs.declared.form.Role.TheVariants.{Value}
 use Rattle.spv_layout.specs.Place.{IsOfFunction}
 use Rattle.spv_layout.proofs.Places.{function_same}
-use Rattle.spv_availability.specs.declared.queries.Query.{Query}
-use Rattle.spv_availability.specs.declared.graph.Graph.{Graph}
-use Rattle.spv_availability.specs.Graph.{block_count}
-use Rattle.spv_availability.specs.Path.{IsAvailable, IsUnavailable}
-use Rattle.spv_availability.specs.First.{AreOfBlocks, IsFirstUnavailable}
+use Rattle.spv_graphs.specs.declared.queries.Query.{Query}
+use Rattle.spv_graphs.specs.declared.graph.Graph.{Graph}
+use Rattle.spv_graphs.specs.Graph.{block_count}
+use Rattle.spv_graphs.specs.Path.{IsAvailable, IsUnavailable}
+use Rattle.spv_graphs.specs.First.{AreOfBlocks, IsFirstUnavailable}
 use Rattle.spv_branches.specs.Target.{is_phi, IsOp}
 use Rattle.spv_branches.proofs.Labelled.{use_in, use_within}
 use Rattle.spv_walks.specs.declared.code.Code.{Code}

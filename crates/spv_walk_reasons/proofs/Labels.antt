@@ -7,8 +7,8 @@ use Rattle.std.proofs.lemmas.List.{append-nil, map-append, reverse-append, lengt
 use Rattle.std.proofs.lemmas.List.Elements.{filter-append}
 use Rattle.spv_table.specs.Table.{Table}
 use Rattle.spv_module.specs.Operand.{PlainInst}
-use Rattle.spv_availability.specs.declared.graph.Graph.{Graph}
-use Rattle.spv_availability.specs.Path.{IsPath}
+use Rattle.spv_graphs.specs.declared.graph.Graph.{Graph}
+use Rattle.spv_graphs.specs.Path.{IsPath}
 use Rattle.spv_branches.specs.Target.{is_label, IsOp}
 use Rattle.spv_branches.proofs.Firsts.{holds}
 use Rattle.spv_walks.specs.inner.Divided.{IsDivided, IsGraphOf}

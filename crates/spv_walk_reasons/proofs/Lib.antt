@@ -4,6 +4,4 @@ pub mod Labels
 pub mod Walks
 pub mod Paired
 pub mod Asked
-pub mod Left
-pub mod Edges
 pub mod Showing

@@ -14,10 +14,10 @@ use Rattle.spv_layout.specs.inner.Row.{R}
 use Rattle.spv_layout.specs.Shape.{IsUse}
 use Rattle.spv_layout.proofs.Places.{function_same}
 use Rattle.spv_ids.specs.Definition.{IsDefinedAt, IsUsedAt}
-use Rattle.spv_availability.specs.declared.graph.Graph.{Graph}
-use Rattle.spv_availability.specs.declared.queries.Query.{Query}
-use Rattle.spv_availability.specs.Graph.{block_count}
-use Rattle.spv_availability.specs.Path.{IsPath}
+use Rattle.spv_graphs.specs.declared.graph.Graph.{Graph}
+use Rattle.spv_graphs.specs.declared.queries.Query.{Query}
+use Rattle.spv_graphs.specs.Graph.{block_count}
+use Rattle.spv_graphs.specs.Path.{IsPath}
 use Rattle.spv_branches.specs.Target.{is_label, is_phi, IsOp}
 use Rattle.spv_branches.specs.Ready.{IsMissing, IsPairMissing}
 use Rattle.spv_branches.specs.Broken.{Broken}
@@ -38,7 +38,8 @@ use Rattle.spv_walk_reasons.specs.Evidence.{AreFewest, AreFewestFrom, IsEvidence
 use Rattle.spv_walk_reasons.specs.declared.queries.Taking.{Taking}
 use Rattle.spv_walk_reasons.specs.declared.queries.Taking.TheVariants.{Uses, Pairs}
 use Rattle.spv_walk_reasons.specs.inner.Asked.{MissesValue, numbered, IsUnavailableQuery}
-use Rattle.spv_walk_reasons.specs.inner.Way.{IsShortestPast, whole, labels_of}
+use Rattle.spv_graphs.specs.inner.Edges.{IsShortestPast}
+use Rattle.spv_walk_reasons.specs.inner.Way.{whole, labels_of}
 use Rattle.spv_walk_reasons.specs.inner.Shown.{IsShown}
 use Rattle.spv_walk_reasons.proofs.Labels.{reverse_cons}
 use Rattle.spv_walk_reasons.proofs.Walks.{use_walk, use_fewest, pair_walk, pair_fewest}

@@ -5,9 +5,9 @@ use Rattle.spv_table.specs.Table.{Table}
 use Rattle.spv_module.specs.Operand.{PlainInst}
 use Rattle.spv_layout.proofs.Places.{function_same}
 use Rattle.spv_ids.specs.Definition.{IsDefinedAt}
-use Rattle.spv_availability.specs.declared.graph.Graph.{Graph}
-use Rattle.spv_availability.specs.Graph.{targets_of}
-use Rattle.spv_availability.specs.Path.{IsPath, IsDefinedOn}
+use Rattle.spv_graphs.specs.declared.graph.Graph.{Graph}
+use Rattle.spv_graphs.specs.Graph.{targets_of}
+use Rattle.spv_graphs.specs.Path.{IsPath, IsDefinedOn}
 use Rattle.spv_branches.specs.Target.{is_label, is_phi, IsOp}
 use Rattle.spv_branches.specs.Walk.{IsWalk, IsResultAmong, IsLastLabel}
 use Rattle.spv_branches.specs.Ready.{ComesFrom}

@@ -16,10 +16,9 @@ ghost use Rattle.spv_walk_reasons.specs.inner.Asked.{MissesValue, IsUnavailableQ
 ghost use Rattle.spv_walk_reasons.specs.inner.Shown.{IsShown};
 
 use crate::queries::{Taking, queries_of, query_at, taking_of};
-use crate::unavailable::least_unavailable;
 use crate::way::{labels_on, way_past, whole_way};
-use spv_availability::{Graph, Query};
 use spv_evidence::{Evidence, Listed};
+use spv_graphs::{Graph, Query, least_unavailable};
 use spv_ids::Ids;
 use spv_layout::Plan;
 use spv_module::{Module, Rule};

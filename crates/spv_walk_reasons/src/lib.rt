@@ -2,10 +2,8 @@
 #![tactic(auto)]
 
 mod evidence;
-mod graph;
 pub mod laws;
 mod queries;
-mod unavailable;
 mod way;
 
 pub use evidence::walk_evidence;

@@ -3,12 +3,12 @@
 ghost use Rattle.std.specs.Prelude.{◌≡◌, ◌<◌, ◌+◌, ℕ, length, All, IfOk};
 ghost use Rattle.spv_table.specs.Table.{Table};
 ghost use Rattle.spv_module.specs.declared.fault.Rule.TheVariants.{A1, A2};
-ghost use Rattle.spv_availability.specs.declared.queries.Query as declared;
+ghost use Rattle.spv_graphs.specs.declared.queries.Query as declared;
 ghost use Rattle.spv_walks.specs.inner.Code.{insts_of, IsCode};
 ghost use Rattle.spv_walks.specs.inner.Leading.{AreBlocks};
 ghost use Rattle.spv_walk_reasons.specs.inner.Asked.{IsQueryFound, AreAsked};
 
-use spv_availability::Query;
+use spv_graphs::Query;
 use spv_module::Rule;
 use spv_walks::code::Code;
 use spv_walks::edges::Blocks;

@@ -1,14 +1,13 @@
 //! The way to a block past a value.
 
-ghost use Rattle.std.specs.Prelude.{◌≡◌, ◌<◌, ◌≤◌, length, All, IfOk};
-ghost use Rattle.spv_availability.specs.Graph.{block_count, IsGraph};
-ghost use Rattle.spv_availability.specs.Path.{IsUnavailable};
-ghost use Rattle.spv_walk_reasons.specs.inner.Way.{IsShortestPast, whole, labels_of};
+ghost use Rattle.std.specs.Prelude.{◌≡◌, ◌<◌, length, All, IfOk};
+ghost use Rattle.spv_graphs.specs.Graph.{block_count, IsGraph};
+ghost use Rattle.spv_graphs.specs.Path.{IsUnavailable};
+ghost use Rattle.spv_graphs.specs.inner.Edges.{IsShortestPast};
+ghost use Rattle.spv_walk_reasons.specs.inner.Way.{whole, labels_of};
 
-use crate::graph::{defining_blocks, edges_of};
 use crate::queries::Taking;
-use spv_availability::Graph;
-use spv_ways::shortest_way;
+use spv_graphs::{Graph, edges_of, path_past};
 use std::alloc::{AllocError, Global};
 
 /// The blocks of a shortest path to a block on which a value is not defined before.
@@ -19,14 +18,12 @@ pub fn way_past(
     block: u32,
 ) -> Result<Vec<u32>, AllocError>
     requires graph { IsGraph graph.now }
-    requires few { block_count graph.now ≤ 4194304 }
     requires block { block < block_count graph.now }
     requires unavailable { IsUnavailable graph.now value block }
     ensures { IfOk result (λ way. IsShortestPast graph.now value block way.items) }
 {
     let edges = edges_of(alloc, graph)?;
-    let closed = defining_blocks(alloc, graph, value)?;
-    let found = shortest_way(alloc, edges.as_slice(), &[0], closed.as_slice(), block)?;
+    let found = path_past(alloc, graph, edges.as_slice(), value, block)?;
     let Some(way) = found else {
         unreachable!();
     };

@@ -9,7 +9,7 @@ use Rattle.spv_layout.specs.declared.form.Role.TheVariants.{Value, Label}
 use Rattle.spv_layout.specs.Shape.{IsUse}
 use Rattle.spv_layout.specs.Place.{IsOfFunction}
 use Rattle.spv_ids.specs.Definition.{IsDefinedAt}
-use Rattle.spv_availability.specs.declared.queries.Query.{Query}
+use Rattle.spv_graphs.specs.declared.queries.Query.{Query}
 use Rattle.spv_branches.specs.Target.{IsLabelOf}
 use Rattle.spv_branches.specs.Ready.{IsLocalValue}
 use Rattle.spv_branches.proofs.Labelled.{use_in, use_at, one_id}

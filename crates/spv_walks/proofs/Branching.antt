@@ -10,7 +10,7 @@ use Rattle.spv_layout.specs.declared.form.Role.{Role}
 use Rattle.spv_layout.specs.declared.form.Role.TheVariants.{Label}
 use Rattle.spv_layout.specs.Shape.{IsUse, id_of}
 use Rattle.spv_ids.specs.Definition.{IsUsedAt}
-use Rattle.spv_availability.specs.declared.queries.Query.{Query}
+use Rattle.spv_graphs.specs.declared.queries.Query.{Query}
 use Rattle.spv_branches.specs.Broken.{Broken}
 use Rattle.spv_branches.specs.inner.Labels.{is_label_at}
 use Rattle.spv_branches.specs.Target.{is_label, is_branch, IsOp, IsLabelOf}

@@ -5,20 +5,17 @@ use Rattle.std.proofs.lemmas.Bool.{cases_lt, eqb-true}
 use Rattle.std.proofs.lemmas.Option.{slice_get_within, slice_get_read, slice_get-get_or, get_or_from_slice_get}
 use Rattle.std.proofs.lemmas.List.{length-map}
 use Rattle.std.proofs.lemmas.List.Elements.{All-contains_itself}
-use Rattle.std.specs.List.Sorted.{IsPermutation}
-use Rattle.std.proofs.lemmas.List.Sorted.{Contains-permutation, IsPermutation-sym}
 use Rattle.spv_table.specs.Table.{Table}
 use Rattle.spv_module.specs.Operand.{PlainInst}
 use Rattle.spv_module.specs.Module.{plain_inst}
 use Rattle.spv_layout.specs.Place.{IsOfFunction}
 use Rattle.spv_ids.specs.Definition.{IsDefinedAt}
-use Rattle.spv_availability.specs.declared.graph.Graph.{Graph}
-use Rattle.spv_availability.specs.declared.graph.Block.{Block}
-use Rattle.spv_availability.specs.declared.queries.Query.{Query}
-use Rattle.spv_availability.specs.Graph.{targets_of, IsGraph}
-use Rattle.spv_availability.specs.Path.{IsAvailable, IsUnavailable}
-use Rattle.spv_availability.specs.First.{AreOfBlocks, IsFirstUnavailable}
-use Rattle.spv_dominators.specs.inner.Open.{AreOpen}
+use Rattle.spv_graphs.specs.declared.graph.Graph.{Graph}
+use Rattle.spv_graphs.specs.declared.graph.Block.{Block}
+use Rattle.spv_graphs.specs.declared.queries.Query.{Query}
+use Rattle.spv_graphs.specs.Graph.{targets_of, IsGraph}
+use Rattle.spv_graphs.specs.Path.{IsAvailable, IsUnavailable}
+use Rattle.spv_graphs.specs.First.{AreOfBlocks, IsFirstUnavailable}
 use Rattle.spv_branches.specs.Target.{is_label, is_phi, IsOp, IsLabelOf}
 use Rattle.spv_branches.specs.Walk.{Next, IsWalk}
 use Rattle.spv_branches.specs.Ready.{IsMissing, IsPairMissing}
@@ -106,10 +103,10 @@ is_graph c b graph most are a =
       targets = λ k d lt. (let h = a.within (slice_index_or graph.targets.items k d) (All-contains_itself graph.targets.items k d lt) in omega (arith, h, count));
     }
 
--- the queries are those of the function, but for some whose values are available
-pub record AreAll (G : Table) (is : List PlainInst) (starts : List ℕ) (graph : Graph) (queries : List Query) : Type 0 where
+-- the queries are those of the function
+pub record AreAll (G : Table) (is : List PlainInst) (starts : List ℕ) (queries : List Query) : Type 0 where
   pub sound : (a : Query) → Contains queries a → IsQuery G is starts a
-  pub complete : (a : Query) → IsQuery G is starts a → Contains queries a ⊎ IsAvailable graph a.value a.block
+  pub complete : (a : Query) → IsQuery G is starts a → Contains queries a
 
 query_block : (G : Table) (is : List PlainInst) (starts : List ℕ) (a : Query) → IsQuery G is starts a → a.block + 1 < length starts
 query_block G is starts a (b, (n, i, x)) = elim x [
@@ -233,42 +230,25 @@ query_there queries a (k, lt, e) = (k, slice_get_read queries (length queries) k
 there_query : (queries : List Query) (k : ℕ) (a : Query) → slice_get queries k ≡ Some a → Contains queries a
 there_query queries k a h = (k, slice_get_within queries k a h, get_or_from_slice_get queries k a a h)
 
-pub first_by : (G : Table) (c : Code) (f : ℕ) (starts : List ℕ) (graph : Graph) (queries : List Query) → IsCode G c → IsGraphOf G (insts_of c) f starts graph → AreAll G (insts_of c) starts graph queries
+pub first_by : (G : Table) (c : Code) (f : ℕ) (starts : List ℕ) (graph : Graph) (queries : List Query) → IsCode G c → IsGraphOf G (insts_of c) f starts graph → AreAll G (insts_of c) starts queries
     → (o : Option ℕ) → IsFirstUnavailable graph queries o → IsFirstIn G (insts_of c) f o
-first_by G c f starts graph queries is g all None first = λ n. not_unavailable G c f starts graph is g n (λ a e k. elim (all.complete a k) [
-  | inl there ↦ (let t = query_there queries a there in first t.0 a t.1)
-  | inr available ↦ available
-])
+first_by G c f starts graph queries is g all None first =
+    λ n. not_unavailable G c f starts graph is g n (λ a e k. (let t = query_there queries a (all.complete a k) in first t.0 a t.1))
 first_by G c f starts graph queries is g all (Some i) (here, before) = (
   let a = here.1 in
       let k = all.sound a (there_query queries here.0 a here.2) in
       let s : a.step ≡ i = here.3 in
       subst (λ (j : ℕ). IsUnavailableIn G (insts_of c) f j) s (unavailable_at G c f starts graph is g a k here.4),
-  λ n lt. not_unavailable G c f starts graph is g n (λ b e k. elim (all.complete b k) [
-    | inl there ↦ (let t = query_there queries b there in before t.0 b t.1 (omega (arith, e, lt)))
-    | inr available ↦ available
-  ]),
+  λ n lt. not_unavailable G c f starts graph is g n (λ b e k. (let t = query_there queries b (all.complete b k) in before t.0 b t.1 (omega (arith, e, lt)))),
 )
 
 -- the queries that were added to none
-pub asked : (G : Table) (c : Code) (starts : List ℕ) (none queries : List Query) → IsCode G c → none ≡ [] → AddsBy c (λ (H : Table) (a : Query). IsQuery H (insts_of c) starts a) none queries → (a : Query) → Contains queries a → IsQuery G (insts_of c) starts a
-asked G c starts none queries is empty adds a k =
-    let e : queries ≡ adds.added = adds.all ∙ ap (λ (xs : List Query). xs ++ adds.added) empty in
-    adds.sound a (subst (λ (xs : List Query). Contains xs a) e k) G is
-
--- and those of them that are open, in another order
-pub all_by : (G : Table) (c : Code) (starts : List ℕ) (graph : Graph) (none queries left sorted : List Query) → IsCode G c → none ≡ [] → AddsBy c (λ (H : Table) (a : Query). IsQuery H (insts_of c) starts a) none queries
-    → AreOpen graph queries (length queries) left → IsPermutation left sorted → AreAll G (insts_of c) starts graph sorted
-all_by G c starts graph none queries left sorted is empty adds opened same =
+pub all_by : (G : Table) (c : Code) (starts : List ℕ) (none queries : List Query) → IsCode G c → none ≡ [] → AddsBy c (λ (H : Table) (a : Query). IsQuery H (insts_of c) starts a) none queries → AreAll G (insts_of c) starts queries
+all_by G c starts none queries is empty adds =
     let e : queries ≡ adds.added = adds.all ∙ ap (λ (xs : List Query). xs ++ adds.added) empty in
     record {
-      sound = λ a k. asked G c starts none queries is empty adds a (opened.sound a (Contains-permutation sorted left a (IsPermutation-sym left sorted same) k));
-      complete = λ a k. (
-          let t = query_there queries a (subst (λ (xs : List Query). Contains xs a) (sym e) (adds.complete a (G, is, k))) in
-          elim (opened.complete t.0 a (slice_get_within queries t.0 a t.1) t.1) [
-            | inl kept ↦ inl (Contains-permutation left sorted a same kept)
-            | inr available ↦ inr available
-          ]);
+      sound = λ a k. adds.sound a (subst (λ (xs : List Query). Contains xs a) e k) G is;
+      complete = λ a k. subst (λ (xs : List Query). Contains xs a) (sym e) (adds.complete a (G, is, k));
     }
 
 pub if_first : {E : Type 0} (r : Result (Option ℕ) E) (P Q : Option ℕ → Type 0) → ((o : Option ℕ) → P o → Q o) → IfOk r P → IfOk r Q

@@ -15,5 +15,4 @@ pub mod Targets
 pub mod Parents
 pub mod Deciding
 pub mod Telling
-pub mod Firsts
 pub mod Ready

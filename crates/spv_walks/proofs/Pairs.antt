@@ -5,9 +5,9 @@ use Rattle.std.proofs.lemmas.Bool.{cases_lt}
 use Rattle.spv_table.specs.Table.{Table}
 use Rattle.spv_module.specs.Operand.{PlainInst}
 use Rattle.spv_ids.specs.Definition.{IsDefinedAt}
-use Rattle.spv_availability.specs.declared.graph.Graph.{Graph}
-use Rattle.spv_availability.specs.Graph.{targets_of}
-use Rattle.spv_availability.specs.Path.{IsPath, IsAvailable, IsUnavailable}
+use Rattle.spv_graphs.specs.declared.graph.Graph.{Graph}
+use Rattle.spv_graphs.specs.Graph.{targets_of}
+use Rattle.spv_graphs.specs.Path.{IsPath, IsAvailable, IsUnavailable}
 use Rattle.spv_branches.specs.Target.{is_label, is_phi, IsOp}
 use Rattle.spv_branches.specs.inner.Target.{is_function, is_terminator}
 use Rattle.spv_branches.specs.Walk.{Next, IsWalk, IsResultAmong, IsLastLabel}

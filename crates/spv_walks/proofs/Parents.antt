@@ -12,8 +12,8 @@ use Rattle.spv_layout.proofs.Places.{function_same}
 use Rattle.spv_ids.specs.Definition.{IsUsedAt, IsLocal}
 use Rattle.spv_ids.specs.Order.{IsInScope, IsScoped}
 use Rattle.spv_ids.specs.Broken as ids
-use Rattle.spv_availability.specs.declared.graph.Graph.{Graph}
-use Rattle.spv_availability.specs.Graph.{targets_of}
+use Rattle.spv_graphs.specs.declared.graph.Graph.{Graph}
+use Rattle.spv_graphs.specs.Graph.{targets_of}
 use Rattle.spv_branches.specs.Target.{is_label, is_phi, IsOp, IsLabelOf, IsTarget, LeadsToBlock, HasParents}
 use Rattle.spv_branches.specs.Broken as branches
 use Rattle.spv_branches.specs.Walk.{Next}

@@ -7,8 +7,8 @@ use Rattle.std.proofs.Math.Seq.{drop-append_seam}
 use Rattle.std.proofs.lemmas.List.Elements.{Contains-append_cases}
 use Rattle.spv_table.specs.Table.{Table}
 use Rattle.spv_module.specs.Operand.{PlainInst}
-use Rattle.spv_availability.specs.declared.graph.Block.{Block}
-use Rattle.spv_availability.specs.declared.graph.Graph.{Graph}
+use Rattle.spv_graphs.specs.declared.graph.Block.{Block}
+use Rattle.spv_graphs.specs.declared.graph.Graph.{Graph}
 use Rattle.spv_branches.specs.Target.{is_branch, IsOp}
 use Rattle.spv_branches.specs.inner.Target.{is_terminator}
 use Rattle.spv_branches.specs.Walk.{Next}

@@ -5,8 +5,8 @@ use Rattle.std.proofs.lemmas.Bool.{cases_lt}
 use Rattle.spv_table.specs.Table.{Table}
 use Rattle.spv_module.specs.Operand.{PlainInst}
 use Rattle.spv_ids.specs.Definition.{IsDefinedAt}
-use Rattle.spv_availability.specs.declared.graph.Graph.{Graph}
-use Rattle.spv_availability.specs.Path.{IsPath, IsDefinedOn}
+use Rattle.spv_graphs.specs.declared.graph.Graph.{Graph}
+use Rattle.spv_graphs.specs.Path.{IsPath, IsDefinedOn}
 use Rattle.spv_branches.specs.Walk.{IsResultAmong}
 use Rattle.spv_walks.specs.inner.Divided.{IsGraphOf}
 use Rattle.spv_walks.proofs.Lists.{any_cons, any_head, any_tail, any_none, any_cases, any_left, any_right, all_cons}

@@ -6,8 +6,8 @@ use Rattle.spv_table.specs.Table.{Table}
 use Rattle.spv_module.specs.Operand.{PlainInst}
 use Rattle.spv_layout.specs.Place.{IsOfFunction}
 use Rattle.spv_ids.specs.Definition.{IsDefinedAt}
-use Rattle.spv_availability.specs.declared.graph.Graph.{Graph}
-use Rattle.spv_availability.specs.Path.{IsPath, IsAvailable, IsUnavailable}
+use Rattle.spv_graphs.specs.declared.graph.Graph.{Graph}
+use Rattle.spv_graphs.specs.Path.{IsPath, IsAvailable, IsUnavailable}
 use Rattle.spv_branches.specs.Target.{is_branch, IsOp}
 use Rattle.spv_branches.specs.inner.Target.{is_terminator}
 use Rattle.spv_branches.specs.Walk.{Next, IsWalk, IsResultAmong}

@@ -4,6 +4,5 @@ pub mod Code
 pub mod Divided
 pub mod Due
 pub mod Leading
-pub mod Least
 pub mod Unavailable
 pub mod Starts

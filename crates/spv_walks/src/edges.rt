@@ -13,7 +13,7 @@ ghost use Rattle.spv_walks.specs.inner.Leading.{AreBlocks, IsLabelAt, HasLabel, 
 
 use crate::code::{Code, is_branch, is_terminator};
 use crate::operands::label;
-use spv_availability::{Block, Graph};
+use spv_graphs::{Block, Graph};
 use std::alloc::AllocError;
 
 /// A function divided into blocks.

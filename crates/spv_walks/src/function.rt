@@ -1,22 +1,19 @@
 //! The first use of a value that some walk of a function misses.
 
 ghost use Rattle.std.specs.Prelude.{◌≡◌, ◌≤◌, ◌<◌, ℕ, false, length, OnOk, IfOk};
-ghost use Rattle.std.specs.List.Sorted.{IsPermutation};
 ghost use Rattle.spv_table.specs.Table.{Table};
-ghost use Rattle.spv_availability.specs.First.{AreInOrder};
 ghost use Rattle.spv_branches.specs.Target as target;
 ghost use Rattle.spv_branches.specs.Target.{IsOp};
 ghost use Rattle.spv_walks.specs.inner.Code.{insts_of, IsCode};
+ghost use Rattle.spv_walks.specs.inner.Leading.{AreBlocks};
 ghost use Rattle.spv_walks.specs.inner.Unavailable.{IsFirstIn};
 ghost use Rattle.spv_walks.specs.inner.Starts.{IsExtent};
 
 use crate::code::Code;
 use crate::divide::{Extent, divide};
 use crate::edges::{Blocks, build};
-use crate::least::unavailable_first;
 use crate::queries::add_all;
-use spv_availability::{Graph, Query, first_unavailable};
-use spv_dominators::open_queries;
+use spv_graphs::{Graph, Query, least_unavailable};
 use std::alloc::{AllocError, Global};
 
 /// Lists that are used for one function after the other.
@@ -46,12 +43,31 @@ impl Buffers {
     }
 }
 
-/// Brings queries into the order of their values.
-pub fn sort(queries: &mut [Query])
-    ensures order { AreInOrder queries.new }
-    ensures same { IsPermutation queries.old queries.new }
+/// The first instruction at which a walk of a function that is divided misses a value that is used there. `queries` and
+/// `graph` are lists to be used; what they hold is of no account.
+fn first_in_blocks(
+    alloc: Global,
+    code: &Code<'_, '_>,
+    blocks: &Blocks<'_>,
+    has_phis: bool,
+    queries: &mut Vec<Query>,
+    graph: &mut Graph,
+) -> Result<Option<u32>, AllocError>
+    requires code { (G : Table) × IsCode G code.now }
+    requires blocks { AreBlocks (insts_of code.now) blocks.now }
+    requires phis { has_phis ≡ false → (n : ℕ) → blocks.now.function ≤ n → n < blocks.now.end
+        → ¬ (IsOp (insts_of code.now) n target.is_phi) }
+    requires most { length code.now.insts.now ≤ 4194304 }
+    ensures { IfOk result (λ o. (G : Table) → IsCode G code.now
+        → IsFirstIn G (insts_of code.now) blocks.now.function o) }
 {
-    queries.sort_unstable_by_key(|query| query.value);
+    queries.clear();
+    add_all(code, blocks, queries)?;
+    if queries.is_empty() && !has_phis {
+        return Ok(None);
+    }
+    build(code, blocks, graph)?;
+    least_unavailable(alloc, graph, queries.as_slice())
 }
 
 /// The first instruction at which a walk of the function misses a value that is used there.
@@ -85,16 +101,12 @@ pub fn first_in_function(
         starts: buffers.starts.as_slice(),
         numbers: buffers.numbers.as_slice(),
     };
-    buffers.queries.clear();
-    add_all(code, &blocks, &mut buffers.queries)?;
-    if buffers.queries.is_empty() && !extent.has_phis {
-        return Ok(None);
-    }
-    build(code, &blocks, &mut buffers.graph)?;
-    let mut left = open_queries(alloc, &buffers.graph, buffers.queries.as_slice())?;
-    if let Some(inst) = unavailable_first(alloc, &buffers.graph, left.as_slice())? {
-        return Ok(Some(inst));
-    }
-    sort(&mut left);
-    first_unavailable(alloc, &buffers.graph, left.as_slice())
+    first_in_blocks(
+        alloc,
+        code,
+        &blocks,
+        extent.has_phis,
+        &mut buffers.queries,
+        &mut buffers.graph,
+    )
 }

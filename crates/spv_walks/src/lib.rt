@@ -6,13 +6,10 @@ pub mod divide;
 pub mod edges;
 mod function;
 pub mod laws;
-mod least;
 mod operands;
 mod queries;
 mod values;
 
-pub use function::sort;
-pub use least::unavailable_first;
 pub use operands::other_id;
 pub use queries::{pair_query, use_query};
 pub use values::{check_values, count_globals};

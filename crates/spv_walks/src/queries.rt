@@ -4,7 +4,7 @@ ghost use Rattle.std.specs.Prelude.{◌≡◌, ◌<◌, ◌≤◌, ◌+◌, ℕ,
 ghost use Rattle.std.specs.Prelude.{slice_get, option_and_then, OnOk, IfSome, MatchOption, MatchBool};
 ghost use Rattle.spv_table.specs.Table.{Table};
 ghost use Rattle.spv_module.specs.Operand.{PlainInst};
-ghost use Rattle.spv_availability.specs.declared.queries.Query as declared;
+ghost use Rattle.spv_graphs.specs.declared.queries.Query as declared;
 ghost use Rattle.spv_ids.specs.Definition.{IsDefinedAt};
 ghost use Rattle.spv_ids.specs.inner.Uses as uses;
 ghost use Rattle.spv_branches.specs.Ready.{IsLocalValue};
@@ -19,7 +19,7 @@ ghost use Rattle.spv_walks.specs.inner.Due.{IsQueryAt, IsQueryIn, IsQuery};
 use crate::code::{BRANCH, Code, LABEL, PHI, has_type, is_label_or_branch};
 use crate::edges::{Blocks, target};
 use crate::operands::{other_id, other_id_in, used, value};
-use spv_availability::Query;
+use spv_graphs::Query;
 use std::alloc::AllocError;
 
 /// Where the id is defined that operand `n` of an instruction uses, if it uses one that is defined. Of an operand that

@@ -2,9 +2,9 @@
 use Rattle.std.specs.Prelude.{◌<◌, ℕ, List, Option, Contains, MatchOption}
 use Rattle.spv_table.specs.Table.{Table}
 use Rattle.spv_module.specs.Operand.{PlainInst}
-use Rattle.spv_availability.specs.declared.graph.Graph.{Graph}
-use Rattle.spv_availability.specs.declared.queries.Query.{Query}
-use Rattle.spv_availability.specs.Path.{IsUnavailable}
+use Rattle.spv_graphs.specs.declared.graph.Graph.{Graph}
+use Rattle.spv_graphs.specs.declared.queries.Query.{Query}
+use Rattle.spv_graphs.specs.Path.{IsUnavailable}
 use Rattle.spv_branches.specs.Ready.{IsMissing, IsPairMissing}
 use Rattle.spv_walks.specs.inner.Due.{IsUseQuery, IsPairQuery}
 use Rattle.spv_walk_reasons.specs.declared.queries.Taking.{Taking}

@@ -4,8 +4,8 @@ use Rattle.std.specs.Prelude.{slice_index, Contains}
 use Rattle.spv_table.specs.Table.{Table}
 use Rattle.spv_module.specs.Operand.{PlainInst}
 use Rattle.spv_layout.specs.Place.{IsOfFunction}
-use Rattle.spv_availability.specs.declared.graph.Graph.{Graph}
-use Rattle.spv_availability.specs.Graph.{block_count, targets_of, Defines}
+use Rattle.spv_graphs.specs.declared.graph.Graph.{Graph}
+use Rattle.spv_graphs.specs.Graph.{block_count, targets_of, Defines}
 use Rattle.spv_branches.specs.Target.{is_label, IsOp}
 use Rattle.spv_branches.specs.inner.Target.{is_function, is_terminator}
 use Rattle.spv_branches.specs.Walk.{Next}

@@ -6,7 +6,7 @@ use Rattle.spv_module.specs.Operand.{PlainInst}
 use Rattle.spv_layout.specs.declared.form.Role.{Role}
 use Rattle.spv_layout.specs.declared.form.Role.TheVariants.{Value, Label}
 use Rattle.spv_ids.specs.Definition.{IsDefinedAt, IsUsedAt}
-use Rattle.spv_availability.specs.declared.queries.Query.{Query}
+use Rattle.spv_graphs.specs.declared.queries.Query.{Query}
 use Rattle.spv_branches.specs.Target.{is_phi, is_label, IsOp, IsLabelOf}
 use Rattle.spv_branches.specs.Ready.{IsLocalValue}
 use Rattle.spv_walks.specs.inner.Divided.{IsIn}

@@ -7,8 +7,8 @@ use Rattle.spv_layout.specs.declared.form.Role.TheVariants.{Label}
 use Rattle.spv_ids.specs.Definition.{IsUsedAt}
 use Rattle.spv_branches.specs.Target.{IsLabelOf}
 use Rattle.spv_branches.specs.Walk.{Next}
-use Rattle.spv_availability.specs.declared.graph.Block.{Block}
-use Rattle.spv_availability.specs.declared.graph.Graph.{Graph}
+use Rattle.spv_graphs.specs.declared.graph.Block.{Block}
+use Rattle.spv_graphs.specs.declared.graph.Graph.{Graph}
 use Rattle.spv_walks.specs.declared.code.Code.{Code}
 use Rattle.spv_walks.specs.declared.edges.Blocks.{Blocks}
 use Rattle.spv_walks.specs.inner.Code.{IsCode, insts_of}

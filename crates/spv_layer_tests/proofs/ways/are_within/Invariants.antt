@@ -1,6 +1,6 @@
 use Rattle.std.proofs.Common.{◌≡◌, ◌<◌, ℕ, Some}
 use Rattle.std.specs.Prelude.{slice_get}
-use Rattle.spv_ways.specs.declared.edge.Edge.{Edge}
+use Rattle.spv_graphs.specs.declared.edge.Edge.{Edge}
 use Rattle.spv_layer_tests.proofs.ways.are_within.Given as goal
 
 abbrev pub invariant-loop-edge : goal.invariant-loop-edge

@@ -1,11 +1,8 @@
 use Rattle.std.proofs.Common.{◌<◌, ◌∙◌, ℕ, List, length, sym, ap, subst, arith}
 use Rattle.std.specs.Prelude.{All}
-use Rattle.std.proofs.lemmas.List.{length-map}
-use Rattle.spv_module.specs.Module.{plain_inst}
 use Rattle.spv_evidence.specs.declared.evidence.Evidence.TheVariants.{Walk}
 use Rattle.spv_walks.specs.inner.Code.{insts_of}
 use Rattle.spv_walks.proofs.Deciding.{graph_of, is_graph}
-use Rattle.spv_walks.proofs.Starting.{few_blocks}
 use Rattle.spv_walk_reasons.specs.inner.Shown.{IsShown}
 use Rattle.spv_walk_reasons.specs.inner.Way.{labels_of}
 use Rattle.spv_walk_reasons.proofs.Asked.{unavailable_block}
@@ -15,20 +12,6 @@ use Rattle.spv_walk_reasons.proofs.evidence.evidence_in.Goals as goal
 pub way_past-requires-clause-graph : goal.way_past-requires-clause-graph
 way_past-requires-clause-graph c =
     is_graph c.args.code.now c.args.blocks.now c.build.new.graph c.requires.most c.requires.blocks c.in_ok-build.ensures
-
-pub way_past-requires-clause-few : goal.way_past-requires-clause-few
-way_past-requires-clause-few c =
-    let code = c.args.code.now in
-    let b = c.args.blocks.now in
-    let k = c.requires.code in
-    let g = graph_of k.0 code b c.build.new.graph k.1 c.requires.blocks c.in_ok-build.ensures in
-    let laid = c.requires.blocks.laid in
-    let few = few_blocks (insts_of code) b.function b.end b.starts.now b.numbers.now laid in
-    let within = laid.extent.within in
-    let l = length-map code.insts.now plain_inst in
-    let most = c.requires.most in
-    let count = g.count in
-    omega (arith, few, within, l, most, count)
 
 pub way_past-requires-clause-block : goal.way_past-requires-clause-block
 way_past-requires-clause-block c =

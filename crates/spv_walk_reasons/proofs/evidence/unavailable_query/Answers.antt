@@ -1,5 +1,5 @@
 use Rattle.std.proofs.Common.{ℕ, Some, None}
-use Rattle.spv_availability.specs.First.{IsFirstUnavailable}
+use Rattle.spv_graphs.specs.First.{IsFirstUnavailable}
 use Rattle.spv_walks.specs.inner.Code.{insts_of}
 use Rattle.spv_walks.proofs.Deciding.{graph_of, is_graph}
 use Rattle.spv_walk_reasons.proofs.Asked.{asked_in, steps_in, asked_blocks, some_unavailable, unavailable_step, operand_asked, query_unavailable}

@@ -6,7 +6,7 @@ use Rattle.spv_table.specs.Table.{Table}
 use Rattle.spv_module.specs.Operand.{PlainInst}
 use Rattle.spv_module.specs.declared.module.Inst.{Inst}
 use Rattle.spv_module.specs.Module.{plain_inst, plain_operand}
-use Rattle.spv_availability.specs.declared.queries.Query.{Query}
+use Rattle.spv_graphs.specs.declared.queries.Query.{Query}
 use Rattle.spv_branches.proofs.Labelled.{inst_get}
 use Rattle.spv_walks.specs.inner.Code.{insts_of}
 use Rattle.spv_walk_reasons.specs.inner.Asked.{numbered, AreAsked}

@@ -1,7 +1,7 @@
 use Rattle.std.proofs.Common.{◌<◌}
 use Rattle.std.specs.Prelude.{All}
 use Rattle.spv_table.specs.Table.{Table}
-use Rattle.spv_availability.specs.declared.queries.Query.{Query}
+use Rattle.spv_graphs.specs.declared.queries.Query.{Query}
 use Rattle.spv_walks.specs.inner.Code.{insts_of, IsCode}
 use Rattle.spv_walk_reasons.specs.inner.Asked.{AreAsked}
 use Rattle.spv_walk_reasons.proofs.queries.queries_of.Given as goal

@@ -1,6 +1,6 @@
 use Rattle.std.proofs.Common.{◌≡◌, ◌+◌, ◌-◌, ℕ, length, refl, subst, arith}
-use Rattle.spv_availability.specs.declared.graph.Graph.{Graph}
-use Rattle.spv_availability.specs.declared.graph.Block.{Block}
+use Rattle.spv_graphs.specs.declared.graph.Graph.{Graph}
+use Rattle.spv_graphs.specs.declared.graph.Block.{Block}
 use Rattle.std.specs.Prelude.{slice_index}
 use Rattle.spv_walks.specs.inner.Leading.{AreInGraph}
 use Rattle.spv_walks.proofs.Targets.{graph_more}

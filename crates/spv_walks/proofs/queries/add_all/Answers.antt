@@ -2,7 +2,7 @@ use Rattle.std.proofs.Common.{ℕ, arith}
 use Rattle.std.proofs.lemmas.List.{length-map}
 use Rattle.spv_table.specs.Table.{Table}
 use Rattle.spv_module.specs.Module.{plain_inst}
-use Rattle.spv_availability.specs.declared.queries.Query.{Query}
+use Rattle.spv_graphs.specs.declared.queries.Query.{Query}
 use Rattle.spv_walks.specs.inner.Code.{insts_of}
 use Rattle.spv_walks.specs.inner.Due.{IsQueryIn}
 use Rattle.spv_walks.proofs.Adding.{adds_step, adds_end}

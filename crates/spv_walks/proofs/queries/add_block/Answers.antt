@@ -1,6 +1,6 @@
 use Rattle.std.proofs.Common.{ℕ, arith}
 use Rattle.spv_table.specs.Table.{Table}
-use Rattle.spv_availability.specs.declared.queries.Query.{Query}
+use Rattle.spv_graphs.specs.declared.queries.Query.{Query}
 use Rattle.spv_walks.specs.inner.Code.{insts_of}
 use Rattle.spv_walks.specs.inner.Divided.{IsIn}
 use Rattle.spv_walks.specs.inner.Due.{IsQueryAt, IsQueryIn}

@@ -3,7 +3,7 @@ use Rattle.std.specs.Prelude.{slice_get}
 use Rattle.spv_table.specs.Table.{Table}
 use Rattle.spv_module.specs.Operand.{PlainInst}
 use Rattle.spv_module.specs.Module.{plain_inst}
-use Rattle.spv_availability.specs.declared.queries.Query.{Query}
+use Rattle.spv_graphs.specs.declared.queries.Query.{Query}
 use Rattle.spv_branches.proofs.Labelled.{inst_get, op_tells}
 use Rattle.spv_walks.specs.inner.Code.{insts_of}
 use Rattle.spv_walks.specs.inner.Due.{IsUseQuery, HasUseQuery}

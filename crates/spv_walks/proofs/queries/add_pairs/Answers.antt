@@ -6,7 +6,7 @@ use Rattle.spv_module.specs.Operand.{PlainInst}
 use Rattle.spv_module.specs.declared.module.Inst.{Inst}
 use Rattle.spv_module.specs.Module.{plain_inst, plain_operand}
 use Rattle.spv_layout.specs.declared.form.Role.TheVariants.{Value}
-use Rattle.spv_availability.specs.declared.queries.Query.{Query}
+use Rattle.spv_graphs.specs.declared.queries.Query.{Query}
 use Rattle.spv_branches.proofs.Labelled.{inst_get, use_in, use_within}
 use Rattle.spv_walks.specs.inner.Code.{insts_of}
 use Rattle.spv_walks.specs.inner.Due.{IsPairQuery}

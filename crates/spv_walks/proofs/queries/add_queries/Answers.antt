@@ -4,7 +4,7 @@ use Rattle.std.proofs.lemmas.Bool.{eqb-true}
 use Rattle.std.proofs.lemmas.Result.{on_ok_weaker}
 use Rattle.spv_table.specs.Table.{Table}
 use Rattle.spv_module.specs.Module.{plain_inst}
-use Rattle.spv_availability.specs.declared.queries.Query.{Query}
+use Rattle.spv_graphs.specs.declared.queries.Query.{Query}
 use Rattle.spv_branches.specs.Target.{is_phi, is_label, IsOp}
 use Rattle.spv_branches.proofs.Labelled.{inst_get, op_tells, op_holds}
 use Rattle.spv_walks.specs.inner.Code.{insts_of}

@@ -1,6 +1,0 @@
-pub mod Graph
-pub mod Path
-pub mod Meet
-pub mod First
-pub mod Example
-pub mod inner

@@ -1,0 +1,9 @@
+mod Beginning
+mod Climbing
+mod Edged
+mod Left
+mod Meets
+mod Opening
+mod Stepping
+mod Targets
+mod Worked

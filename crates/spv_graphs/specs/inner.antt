@@ -1,0 +1,8 @@
+-- Definitions that serve the code alone.
+pub mod Dominators
+pub mod Edges
+pub mod First
+pub mod Open
+pub mod Order
+pub mod Spanning
+pub mod Steps

@@ -1,5 +1,0 @@
-use Rattle.spv_walk_reasons.specs.inner.Edges.{AreEdges}
-use Rattle.spv_walk_reasons.proofs.graph.edges_of.Given as goal
-
-abbrev pub invariant-loop-block : goal.invariant-loop-block
-invariant-loop-block l = AreEdges l.graph l.block l.edges.items

@@ -1,5 +1,0 @@
-use Rattle.spv_ways.specs.inner.Steps.{Keeps}
-use Rattle.spv_ways.proofs.search.follow.Given as goal
-
-abbrev pub invariant-loop-place : goal.invariant-loop-place
-invariant-loop-place l = Keeps l.edges l.closed l.fn.steps.items l.steps.items

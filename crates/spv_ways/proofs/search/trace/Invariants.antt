@@ -1,8 +1,0 @@
-use Rattle.spv_ways.specs.inner.Steps.{level_of, IsTraced}
-use Rattle.spv_ways.proofs.search.trace.Given as goal
-
-abbrev pub invariant-loop-node : goal.invariant-loop-node
-invariant-loop-node l = IsTraced l.steps l.goal l.nodes.items l.node
-
-abbrev pub decreases-loop-node : goal.decreases-loop-node
-decreases-loop-node l = level_of l.steps l.node

@@ -1,3 +1,0 @@
-pub mod Way
-pub mod Example
-pub mod inner
