@@ -7,5 +7,5 @@ mod flow;
 pub mod laws;
 
 pub use flow::{Flow, flow_check};
-pub use spv_availability::meet;
+pub use spv_graphs::meet;
 pub use spv_walks::laws::all_ready;

@@ -1,7 +1,8 @@
 //! Small graphs of blocks and rows of words, with answers that were worked out by hand.
 
-use spv_availability::{Block, Graph, Query, are_queries, first_unavailable, meet};
-use spv_dominators::open_queries;
+use spv_graphs::{
+    Block, Graph, Query, are_queries, first_unavailable, least_unavailable, meet, open_queries,
+};
 use std::alloc::{AllocError, Global};
 use std::process::Abort;
 use std::test::Fail;
@@ -44,7 +45,21 @@ fn queries_of(alloc: Global, block: u32, values: &[u32]) -> Result<Vec<Query>, A
     Ok(queries)
 }
 
-/// The first step at which a value is unavailable, and how many queries the tree of blocks leaves open.
+/// A loop that is entered at two blocks: the first block leads to 1 and 3, block 1 to 2, block 2 to 3, and block 3 back
+/// to 2 and on to 4. Each block defines the value of its number.
+fn loop_with_two_entries(alloc: Global) -> Result<Graph, AllocError> {
+    let blocks = vec![in alloc;
+        block(0, 2, 0, 1),
+        block(2, 3, 1, 2),
+        block(3, 4, 2, 3),
+        block(4, 6, 3, 4),
+        block(6, 6, 4, 5),
+    ]?;
+    let targets = vec![in alloc; 1u32, 3, 2, 3, 2, 4]?;
+    Ok(Graph { blocks, targets })
+}
+
+/// The first step at which a value is unavailable, and how many queries the dominator tree leaves open.
 fn answers(
     rt: &impl Abort,
     alloc: Global,
@@ -54,6 +69,7 @@ fn answers(
     assert!(rt; graph.is_graph());
     assert!(rt; are_queries(graph, queries));
     let first = first_unavailable(alloc, graph, queries)?;
+    assert!(rt; least_unavailable(alloc, graph, queries)? == first);
     let open = open_queries(alloc, graph, queries)?;
     Ok((first, open.len()))
 }
@@ -77,10 +93,31 @@ fn values_in_a_diamond(rt: HostRuntime) -> Result<(), Fail> {
         answers(&rt, alloc, &graph, of_its_own.as_slice())?,
         (Some(7), 1)
     );
-    // A value that no block defines, over 512 values later.
+    // A value that no block defines.
     let of_none = queries_of(alloc, 1, &[0, 2000])?;
     assert_eq!(rt;
         answers(&rt, alloc, &graph, of_none.as_slice())?,
+        (Some(8), 1)
+    );
+    Ok(())
+}
+
+#[test]
+fn values_in_a_loop_with_two_entries(rt: HostRuntime) -> Result<(), Fail> {
+    let alloc = rt.alloc();
+    let graph = loop_with_two_entries(alloc)?;
+    let after = queries_of(alloc, 4, &[0, 3])?;
+    assert_eq!(rt; answers(&rt, alloc, &graph, after.as_slice())?, (None, 0));
+    // From the first block straight to 3, and on.
+    let past_one_entry = queries_of(alloc, 4, &[3, 2, 1])?;
+    assert_eq!(rt;
+        answers(&rt, alloc, &graph, past_one_entry.as_slice())?,
+        (Some(8), 2)
+    );
+    // By 1, and not by 3.
+    let within = queries_of(alloc, 2, &[0, 3])?;
+    assert_eq!(rt;
+        answers(&rt, alloc, &graph, within.as_slice())?,
         (Some(8), 1)
     );
     Ok(())

@@ -14,3 +14,5 @@ mod layers;
 mod plain;
 #[cfg(test)]
 mod refused;
+#[cfg(test)]
+mod ways;

@@ -1,9 +1,10 @@
 //! Ways through small graphs.
 
 ghost use Rattle.std.specs.Prelude.{IsTrue};
-ghost use Rattle.spv_ways.specs.Way.{AreWithin, AreBelow};
+ghost use Rattle.spv_graphs.specs.Way.{AreWithin, AreBelow};
 
-use super::*;
+use spv_graphs::{Edge, shortest_way};
+use std::alloc::Global;
 use std::test::Fail;
 
 /// Whether both ends of each edge are below `count`.
