@@ -73,7 +73,7 @@ typedef enum spvk_status {
 
 /** The rule that a module breaks first, or that it breaks none: the number of its letter times a hundred, and then
  *  the rule's own number, so that I7 is 107; W2 is 2. What each says: `spvk_rule_sentence`, and docs/PROFILE.md.
- *  SPVK_W1 and SPVK_W9 (a failed read, want of memory) are never in a verdict. */
+ *  SPVK_W1 and SPVK_W9 (a failed read, out of memory) are never in a verdict. */
 typedef enum spvk_code {
     SPVK_VALID = 0,
     SPVK_W1 = 1, SPVK_W2 = 2, SPVK_W3 = 3, SPVK_W4 = 4, SPVK_W5 = 5, SPVK_W6 = 6, SPVK_W7 = 7, SPVK_W8 = 8, SPVK_W9 = 9,

@@ -265,7 +265,7 @@ def standard_input_among(program, folder):
     return wrong or difference(BAD_USE, checked(program, folder, [TEXT, TEXT, "--out", "made"], "asm"))
 
 
-# Want of memory.
+# Out of memory.
 
 
 def told_apart(got, verdicts):
@@ -298,7 +298,7 @@ def each_growth_refused(all_later):
             lacked.update(lacking or ())
         if lacking != []:
             return f"  none refused: {got}"
-        return None if lacked == set(names) else f"  no want of memory was told of {sorted(set(names) - lacked)}"
+        return None if lacked == set(names) else f"  no out of memory was told of {sorted(set(names) - lacked)}"
 
     return check
 

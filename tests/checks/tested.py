@@ -2,7 +2,7 @@
 
 The tests call what the program does not call by itself, again and again, and have the library in
 refuse/ refuse the first growth of the call, then the second, and so on until none is refused
-(crates/spv_samples/src/growths.rt). Each call must answer its own error for want of memory, and with
+(crates/spv_samples/src/growths.rt). Each call must answer its own error for lack of memory, and with
 none refused rightly; where it answers rightly although one was refused, refuse/tests must say so.
 Their programs are left by `rt ci` in the crates' folders out/. That the constants which they read are
 the files of this folder is a check of its own.

@@ -1,5 +1,5 @@
 """The memory that a run takes: frames are reserved once, so calls make no growth of their own, and
-a run without an end is want of memory, of which nothing is written."""
+a run without an end is out of memory, of which nothing is written."""
 
 import resource
 import subprocess

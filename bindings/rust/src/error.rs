@@ -16,7 +16,7 @@ impl fmt::Display for OutOfMemory {
 
 impl Error for OutOfMemory {}
 
-/// Why a grammar file is refused: the first code that it breaks, or want of memory.
+/// Why a grammar file is refused: the first code that it breaks, or out of memory.
 ///
 /// (docs/PROFILE.md of the library's repository, "The grammar file")
 #[derive(Clone, Copy, Debug, PartialEq, Eq)]

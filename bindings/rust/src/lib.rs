@@ -16,7 +16,7 @@
 //!
 //! What each answer means is said in docs/PROFILE.md of the library's repository, and what is proved in its README.md.
 //! This crate adds no logic: it hands slices to the library, and lets go of what the library made. No call prints, and
-//! none panics; want of memory is an error.
+//! none panics; out of memory is an error.
 #![deny(missing_docs, unsafe_op_in_unsafe_fn)]
 
 mod buffer;
@@ -62,7 +62,7 @@ impl Grammar {
     /// The table of a grammar file's text, in the form of Khronos' `spirv.core.grammar.json`.
     ///
     /// # Errors
-    /// The first code of J1 to J7 that the text breaks, or want of memory.
+    /// The first code of J1 to J7 that the text breaks, or out of memory.
     pub fn new(text: &[u8]) -> Result<Grammar, GrammarError> {
         let mut made = ffi::Grammar {
             held: ptr::null_mut(),
@@ -77,7 +77,7 @@ impl Grammar {
     /// The verdict on the bytes of a module, in either byte order.
     ///
     /// # Errors
-    /// Want of memory alone: a fault is an answer.
+    /// Out of memory alone: a fault is an answer.
     pub fn check(&self, module: &[u8]) -> Result<Verdict, OutOfMemory> {
         // SAFETY: the grammar is not deleted while it is lent, and the module is lent for the call.
         let answer = unsafe { ffi::spvk_raw_check(self.0.held, module.as_ptr(), module.len()) };
@@ -90,7 +90,7 @@ impl Grammar {
     /// The verdict on the bytes of a module, with the lines that explain it.
     ///
     /// # Errors
-    /// Want of memory alone.
+    /// Out of memory alone.
     pub fn explain(&self, module: &[u8]) -> Result<Explanation, OutOfMemory> {
         let (verdict, text) = self.text_by(ffi::spvk_raw_explain, module)?;
         Ok(Explanation { verdict, text })
@@ -99,7 +99,7 @@ impl Grammar {
     /// The text of a module, which need not be valid.
     ///
     /// # Errors
-    /// The rule of W or I by which its bytes are no list of instructions, or want of memory.
+    /// The rule of W or I by which its bytes are no list of instructions, or out of memory.
     pub fn show(&self, module: &[u8]) -> Result<Text, ShowError> {
         match self.text_by(ffi::spvk_raw_show, module) {
             Ok((Verdict::Valid, text)) => Ok(text),
@@ -123,7 +123,7 @@ impl Grammar {
     /// The bytes of the module that a text stands for, in this order.
     ///
     /// # Errors
-    /// The first fault of the text with its line, or want of memory.
+    /// The first fault of the text with its line, or out of memory.
     pub fn assemble(&self, text: &str, order: ByteOrder) -> Result<Bytes, AssembleError> {
         let mut made = ffi::Image::NONE;
         let call = match order {

@@ -1,4 +1,4 @@
-//! Each growth of memory refused in turn: the call answers its own error for want of memory.
+//! Each growth of memory refused in turn: the call answers its own error for lack of memory.
 //! With none refused it answers rightly.
 
 mod instructions;

@@ -25,7 +25,7 @@ pub record Runs (command : Command) (text : List ℕ) (file : Reading) (out made
   pub begun : out.failed ⊎ made.failed
       → IfSome file.left (λ bytes. BeginsByText command text bytes out.held out.holds made.held made.holds)
 
--- Of `rules`, which reads nothing. With 0 a text was written; with 2 want of memory is told, or a failed write, which
+-- Of `rules`, which reads nothing. With 0 a text was written; with 2 out of memory is told, or a failed write, which
 -- leaves a beginning.
 pub record RunsRules (out : Writing) (Tells : List ℕ → Type 0) (status : ℕ) : Type 0 where
   pub never : status ≢ 1

@@ -14,7 +14,7 @@ use Rattle.spv_commands.specs.declared.program.Trouble.{Trouble}
 use Rattle.spv_commands.specs.declared.program.Trouble.TheVariants as trouble
 use Rattle.spv_verdict.specs.Verdict.{line_end}
 
--- the line that tells want of memory
+-- the line that tells out of memory
 abbrev pub memory_line : List ℕ
 memory_line = codes "error memory" ++ line_end
 
@@ -26,7 +26,7 @@ file_line = codes "error file" ++ line_end
 abbrev pub entry_line : List ℕ
 entry_line = codes "error X1" ++ line_end
 
--- the line of a refused grammar file; J8 is want of memory
+-- the line of a refused grammar file; J8 is out of memory
 abbrev pub grammar_text : GrammarError → List ℕ
 grammar_text grammar.J1 = codes "error J1" ++ line_end
 grammar_text grammar.J2 = codes "error J2" ++ line_end

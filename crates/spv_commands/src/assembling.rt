@@ -83,7 +83,7 @@ pub fn read_all<R: Source>(alloc: Global, r: &mut R) -> Result<Vec<u8>, TextErro
     Err(TextError::Memory)
 }
 
-/// What a text comes to that has no image: S6 is want of memory, and any other fault is told.
+/// What a text comes to that has no image: S6 is out of memory, and any other fault is told.
 fn faulty(error: AsmError) -> Result<Assembly, TextError>
     ensures { result ≡ fault_of error }
 {

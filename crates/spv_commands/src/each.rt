@@ -60,7 +60,7 @@ fn each_by<F: Files, W: Sink, E: Sink>(
 ///
 /// `names` are those of the files, `out` is the standard output, `err` the standard error. Of each file one line
 /// `NAME: VERDICT` is written, before the next is read (`explain`: behind it the lines that explain it). One that
-/// does not open or whose read fails is told by `NAME: error file` on `err`, want of memory at one by `NAME: error
+/// does not open or whose read fails is told by `NAME: error file` on `err`, out of memory at one by `NAME: error
 /// memory`, and the next follows. In NAME a control character is `\xNN`, and a backslash `\\`. 0: each module is
 /// valid. 1: one is not. 2: there was an error. A grammar file that is refused is told first, as by `run`; and a
 /// failed write to `out` ends the run by `error file`. After a failed write to `err` nothing more is written there.

@@ -178,7 +178,7 @@ pub fn each_examples()
     ensures parts { (G : Table) (task : Task)
         → AreParts G task (λ n. Some None) (codes "a" ∷ []) [] (codes "a: error file" ++ line_end) 2 }
     ensures no_parts { (G : Table) (task : Task) (known : ℕ → Known) → ¬ (AreParts G task known [] [] [] 2) }
-    // Want of memory can always be told, and a run tells of something where it ends with 2.
+    // Out of memory can always be told, and a run tells of something where it ends with 2.
     ensures ends { (text : List ℕ) (task : Task) (known : ℕ → Known) (names : List (List ℕ))
         → Ends text task known names (λ o. Writes o (Some []) (Some []) 0 0)
         (λ e. Writes e (Some []) (Some memory_line) 0 0) (Unit {0}) 2 }
@@ -206,7 +206,7 @@ pub fn stream_examples()
 
 /// Worked examples of how a run ends.
 pub fn ending_examples()
-    // Want of memory, of which only its line tells.
+    // Out of memory, of which only its line tells.
     ensures runs { (command : Command) (text : List ℕ)
         → Runs command text (reader_of []) (writer_of []) (writer_of []) (λ line. line ≡ memory_line) 2 }
     ensures never_runs { (command : Command) (text : List ℕ)

@@ -54,7 +54,7 @@ fn trouble_line(trouble: Trouble) -> &'static [u8]
     }
 }
 
-/// The line that tells a refused grammar file. J8 is want of memory.
+/// The line that tells a refused grammar file. J8 is out of memory.
 fn grammar_line(error: GrammarError) -> &'static [u8]
     ensures { result.now ≡ grammar_text error }
 {
@@ -78,7 +78,7 @@ pub fn report<E: Sink>(trouble: Trouble, err: &mut E)
     let _ = write_all(trouble_line(trouble), err);
 }
 
-/// What an error of a check is told as: want of memory, or else a failed read or write.
+/// What an error of a check is told as: out of memory, or else a failed read or write.
 fn stream_trouble(code: WordError) -> Trouble
     ensures { result ≡ trouble_from code }
 {
@@ -295,7 +295,7 @@ pub fn run<S: Source, W: Sink, O: Sink, E: Sink>(
     ensures runs { ReadsGrammar command.now → Runs command.now grammar.now
         (reading S.remaining S.failures file.old file.new) (writing W.contents W.failures out.old out.new)
         (writing O.contents O.failures made.old made.new) (Gets E.contents E.failures err.old err.new) result }
-    // A refused grammar file is told first, before anything is read or written: by its code, or as want of memory.
+    // A refused grammar file is told first, before anything is read or written: by its code, or as out of memory.
     ensures refused { ReadsGrammar command.now → (e : GrammarError) → text_breaks grammar.now e
         → (result ≡ 2) × (file.new ≡ file.old) × (out.new ≡ out.old) × (made.new ≡ made.old)
         × (Gets E.contents E.failures err.old err.new (grammar_text e)

@@ -37,7 +37,7 @@ fn refused(code: WordError) -> Result<Shown, WordError>
     }
 }
 
-/// What is shown of words that are no list of instructions: the line of the fault. Want of memory is the error W9.
+/// What is shown of words that are no list of instructions: the line of the fault. Out of memory is the error W9.
 fn unlisted(stop: Stop) -> Result<Shown, WordError>
     ensures { result ≡ shown_stop stop }
 {
@@ -123,7 +123,7 @@ pub fn show_stream<R: Source, W: Sink>(
     ensures ends { IsAnswered (Shows table.now) (BeginsShowing table.now) W1
         (reading R.remaining R.failures r.old r.new) (writing W.contents W.failures w.old w.new) result }
     ensures only { IfErr result (λ e. (e ≡ W1) ⊎ (e ≡ W9)) }
-    // After a failed read, or for want of memory, the writer is as it was.
+    // After a failed read, or for lack of memory, the writer is as it was.
     ensures read { HasFailed R.failures r.old r.new → w.new ≡ w.old }
     ensures memory { IsErrOf result W9 → w.new ≡ w.old }
 {

@@ -22,7 +22,7 @@ const MOST: usize = 100_000;
 pub enum Told {
     /// As it is to answer with ample memory.
     Right,
-    /// By its own error for want of memory.
+    /// By its own error for lack of memory.
     NoMemory,
     /// In any other way.
     Wrong,
@@ -67,7 +67,7 @@ impl Growths {
     }
 
     /// Whether the call has answered rightly with none refused, so that all growths were. An error where it answered
-    /// wrongly, or told want of memory with none refused.
+    /// wrongly, or told out of memory with none refused.
     pub fn are_through(&self, told: Told) -> Result<bool, WrongAnswer> {
         let growth = self.growth;
         match told {

@@ -19,7 +19,7 @@ pub record Tells (G : Table) (bytes : List ℕ) (numbers : Verdict) : Type 0 whe
 abbrev pub status_alone : ℕ → Answer
 status_alone status = record { status = status; code = nowhere; inst = nowhere; word = nowhere }
 
--- The answer of a check: status 0 and the verdict, or status 1, want of memory.
+-- The answer of a check: status 0 and the verdict, or status 1, out of memory.
 pub data Answers (G : Table) (bytes : List ℕ) : Answer → Type 0 where
   told : (v : Verdict) → Tells G bytes v
       → Answers G bytes (record { status = 0; code = v.code; inst = v.inst; word = v.word })

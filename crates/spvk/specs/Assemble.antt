@@ -34,7 +34,7 @@ pub data ComesTo (G : Table) (o : Order) (text : List ℕ) (a : Assembled) : Typ
       → a.fault.code ≡ text_code_number code → a.fault.line ≡ line → a.buffer.bytes ≡ None
       → ComesTo G o text a
 
--- The answer of `assemble`: status 0 and what the text comes to; or what was there, and status 1, want of memory, or
+-- The answer of `assemble`: status 0 and what the text comes to; or what was there, and status 1, out of memory, or
 -- status 4, no UTF-8.
 pub data Assembles (G : Table) (o : Order) (text : List ℕ) (old : Assembled) : Assembled → ℕ → Type 0 where
   done : (new : Assembled) → ComesTo G o text new → Assembles G o text old new 0

@@ -17,7 +17,7 @@ pub record IsExplaining (G : Table) (bytes : List ℕ) (t : Text) : Type 0 where
   pub dead : ExplainDead G bytes lines
   pub text : t.buffer.bytes ≡ Some (line ++ lines)
 
--- The answer of `explain`: status 0 and what explains; or status 1, want of memory, and what was there.
+-- The answer of `explain`: status 0 and what explains; or status 1, out of memory, and what was there.
 pub data Explains (G : Table) (bytes : List ℕ) (old : Text) : Text → ℕ → Type 0 where
   done : (new : Text) → IsExplaining G bytes new → Explains G bytes old new 0
   memory : Explains G bytes old old 1

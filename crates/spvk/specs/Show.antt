@@ -31,7 +31,7 @@ pub data IsShowing (G : Table) (bytes : List ℕ) (t : Text) : Type 0 where
       → IsMalformedAt G (drop 5 words) f.rule f.inst at
       → f.word ≡ 5 + at → t.verdict ≡ numbers_of (Broken f) → t.buffer.bytes ≡ None → IsShowing G bytes t
 
--- The answer of `show`: status 0 and what is shown; or status 1, want of memory, and what was there.
+-- The answer of `show`: status 0 and what is shown; or status 1, out of memory, and what was there.
 pub data Shows (G : Table) (bytes : List ℕ) (old : Text) : Text → ℕ → Type 0 where
   done : (new : Text) → IsShowing G bytes new → Shows G bytes old new 0
   memory : Shows G bytes old old 1

@@ -3,7 +3,7 @@ use Rattle.std.specs.Prelude.{ℕ}
 use Rattle.spv_grammar.specs.declared.error.GrammarError.{GrammarError}
 use Rattle.spv_grammar.specs.declared.error.GrammarError.TheVariants as grammar
 
--- J1 to J7: 101 to 107; J8, want of memory: 1
+-- J1 to J7: 101 to 107; J8, out of memory: 1
 abbrev pub status_of : GrammarError → ℕ
 status_of grammar.J1 = 101
 status_of grammar.J2 = 102

@@ -27,7 +27,7 @@ pub enum Unread {
     Memory,
 }
 
-/// What a text comes to that has no image: S6 is want of memory, and any other fault is told.
+/// What a text comes to that has no image: S6 is out of memory, and any other fault is told.
 fn faulty(error: AsmError) -> Result<AsmError, Unread>
     ensures { result ≡ faulty_of error }
 {

@@ -67,7 +67,7 @@ impl Buffer {
         }
     }
 
-    /// The owner of a vector's bytes. The error is want of memory.
+    /// The owner of a vector's bytes. The error is that memory ran out.
     pub fn of(alloc: Global, bytes: Vec<u8>) -> Result<Buffer, AllocError>
         ensures { IfOk result (λ b. b.bytes ≡ Some bytes.items) }
     {

@@ -16,7 +16,7 @@ use spv_table::{Memory, Table};
 use std::alloc::{AllocError, Global};
 use std::{mem, ptr};
 
-/// The lines of an explanation, for C. The error is want of memory.
+/// The lines of an explanation, for C. The error is that memory ran out.
 fn buffer_of(alloc: Global, explanation: &Explanation) -> Result<Buffer, AllocError>
     ensures { IfOk result (λ b. b.bytes ≡ Some
         (line_of explanation.now.judgment ++ string_bytes explanation.now.lines)) }
@@ -24,7 +24,7 @@ fn buffer_of(alloc: Global, explanation: &Explanation) -> Result<Buffer, AllocEr
     Buffer::of(alloc, explanation.bytes(alloc)?)
 }
 
-/// What explains the verdict on these bytes. The error is want of memory.
+/// What explains the verdict on these bytes. The error is that memory ran out.
 fn explained_bytes(alloc: Global, table: &Table, bytes: &[u8]) -> Result<Text, Memory>
     ensures { IfOk result (λ t. IsExplaining table.now bytes.now t) }
 {

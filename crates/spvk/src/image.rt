@@ -43,7 +43,7 @@ fn number_of_text_code(code: AsmCode) -> u32
     }
 }
 
-/// The bytes of an image in an order. The error is want of memory.
+/// The bytes of an image in an order. The error is that memory ran out.
 fn bytes_of(alloc: Global, order: Order, image: &Image) -> Result<Vec<u8>, Memory>
     ensures { IfOk result (λ v. HoldsBytes order image.now [] (Some v.items) (4 * length image.now)) }
 {
@@ -70,7 +70,7 @@ impl Assembled {
         }
     }
 
-    /// The bytes of an image in an order, and no fault. The error is want of memory.
+    /// The bytes of an image in an order, and no fault. The error is that memory ran out.
     pub fn of(alloc: Global, order: Order, image: &Image) -> Result<Assembled, Memory>
         ensures code { IfOk result (λ a. a.fault.code ≡ 0) }
         ensures line { IfOk result (λ a. a.fault.line ≡ 0) }

@@ -22,7 +22,7 @@ pub fn refusal(code: WordError) -> Result<Judgment, Memory>
     }
 }
 
-/// The verdict on the words of an image. The error is want of memory.
+/// The verdict on the words of an image. The error is that memory ran out.
 fn judged(alloc: Global, table: &Table, image: &Image) -> Result<Judgment, Memory>
     ensures { (bytes : List ℕ) (order : Order) → IsModule order bytes image.now
         → IfOk result (λ j. IsVerdict table.now bytes (line_of j)) }
@@ -34,7 +34,7 @@ fn judged(alloc: Global, table: &Table, image: &Image) -> Result<Judgment, Memor
     }
 }
 
-/// The verdict on these bytes. The error is want of memory.
+/// The verdict on these bytes. The error is that memory ran out.
 pub fn judge(alloc: Global, table: &Table, bytes: &[u8]) -> Result<Judgment, Memory>
     ensures { IfOk result (λ j. IsVerdict table.now bytes.now (line_of j)) }
 {

@@ -52,13 +52,13 @@ pub fn number_examples()
     ensures not_the_first { (numbers_of Valid).inst ≢ 0 }
 {}
 
-/// What calls answer: want of memory by status 1, a null pointer by status 2.
+/// What calls answer: out of memory by status 1, a null pointer by status 2.
 pub fn answer_examples()
     ensures memory { (G : TableView) (bytes : List ℕ) → Answers G bytes (status_alone 1) }
     ensures no_status_2 { (G : TableView) (bytes : List ℕ) → ¬ (Answers G bytes (status_alone 2)) }
     ensures null { (G : TableView) (bytes : List ℕ) → AnswersAt null_ptr G bytes (status_alone 2) }
     ensures null_is_told { (G : TableView) (bytes : List ℕ) → ¬ (AnswersAt null_ptr G bytes (status_alone 1)) }
-    // Want of memory is a reason for status 1, and nothing is one for status 0.
+    // Out of memory is a reason for status 1, and nothing is one for status 0.
     ensures want { (text : List ℕ) → IsReason text 1 }
     ensures no_reason { (text : List ℕ) → ¬ (IsReason text 0) }
 {}

@@ -1,7 +1,7 @@
 //! `spv` as a C library: checks, explains, shows and assembles modules, by a grammar that is kept behind a handle.
 //!
 //! `include/spvk.h` declares the exports for C. Each of them ends, writes only where its contract says, and answers
-//! want of memory by a status.
+//! out of memory by a status.
 #![tactic(auto)]
 
 mod assembling;

@@ -24,7 +24,7 @@ pub struct Verdict {
 #[repr(C)]
 #[derive(Clone, Copy, Debug, PartialEq, Eq)]
 pub struct Answer {
-    /// 0 for a verdict, 1 for want of memory, 2 for a handle without a grammar.
+    /// 0 for a verdict, 1 for lack of memory, 2 for a handle without a grammar.
     pub status: u32,
     /// As in a verdict, or `NOWHERE` with another status than 0.
     pub code: u32,

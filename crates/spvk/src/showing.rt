@@ -19,7 +19,7 @@ use spv_words::{Image, WordError, image_of};
 use std::alloc::Global;
 use std::{mem, ptr};
 
-/// What is shown of the words of an image. The error is want of memory.
+/// What is shown of the words of an image. The error is that memory ran out.
 fn shown_image(alloc: Global, table: &Table, image: &Image) -> Result<Text, Memory>
     ensures { (bytes : List ℕ) (order : Order) → IsModule order bytes image.now
         → IfOk result (λ t. IsShowing table.now bytes t) }
@@ -31,7 +31,7 @@ fn shown_image(alloc: Global, table: &Table, image: &Image) -> Result<Text, Memo
     }
 }
 
-/// What is shown of bytes that gave no image. The error is want of memory.
+/// What is shown of bytes that gave no image. The error is that memory ran out.
 fn refused(code: WordError) -> Result<Text, Memory>
     ensures { (bytes : List ℕ) (G : TableView) → RefusesBytes code bytes
         → IfOk result (λ t. IsShowing G bytes t) }
@@ -42,7 +42,7 @@ fn refused(code: WordError) -> Result<Text, Memory>
     }
 }
 
-/// What is shown of these bytes. The error is want of memory.
+/// What is shown of these bytes. The error is that memory ran out.
 fn shown_bytes(alloc: Global, table: &Table, bytes: &[u8]) -> Result<Text, Memory>
     ensures { IfOk result (λ t. IsShowing table.now bytes.now t) }
 {

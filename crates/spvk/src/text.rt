@@ -30,7 +30,7 @@ impl Text {
         }
     }
 
-    /// A verdict with a text. The error is want of memory.
+    /// A verdict with a text. The error is that memory ran out.
     pub fn of(alloc: Global, judgment: Judgment, text: String) -> Result<Text, Memory>
         ensures verdict { IfOk result (λ t. t.verdict ≡ numbers_of judgment) }
         ensures buffer { IfOk result (λ t. t.buffer.bytes ≡ Some (string_bytes text)) }

@@ -16,7 +16,7 @@ abbrev pub ComesTo : Table → List ℕ → Assembly → Type 0
 ComesTo G text (Made image) = IsImageOf G text image
 ComesTo G text (Fault e) = IsUtf8 text × IsFailure G text e.code e.line
 
--- want of memory is an error, and any other fault is told
+-- out of memory is an error, and any other fault is told
 abbrev pub fault_by : AsmCode → AsmError → Result Assembly TextError
 fault_by S6 e = Err Memory
 fault_by _ e = Ok (Fault e)

@@ -19,13 +19,13 @@ abbrev pub is_text : Shown → Bool
 is_text (Text t) = true
 is_text (Line v) = false
 
--- a failed read and want of memory are errors, and of all other codes the line is shown
+-- a failed read and out of memory are errors, and of all other codes the line is shown
 abbrev pub shown_refusal : WordError → Result Shown WordError
 shown_refusal W1 = Err W1
 shown_refusal W9 = Err W9
 shown_refusal code = Ok (Line (Refused code))
 
--- the line of a fault is shown, and want of memory is an error
+-- the line of a fault is shown, and out of memory is an error
 abbrev pub shown_stop : Stop → Result Shown WordError
 shown_stop (Fault f) = Ok (Line (Broken f))
 shown_stop Memory = Err W9

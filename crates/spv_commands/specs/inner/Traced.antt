@@ -22,7 +22,7 @@ abbrev pub is_run : Traced → Bool
 is_run (Run t) = true
 is_run (Line v) = false
 
--- a failed read and want of memory are errors, and of all other codes the line is written
+-- a failed read and out of memory are errors, and of all other codes the line is written
 abbrev pub traced_refusal : WordError → Result Traced RunError
 traced_refusal W1 = Err trouble.Failed
 traced_refusal W9 = Err trouble.Memory

@@ -34,7 +34,7 @@ fn check_refused(alloc: Global, table: &Table, image: &Image) -> Result<(), Fail
 fn stream_refused(alloc: Global, table: &Table, image: &Image) -> Result<(), Fail> {
     let mut growths = Growths::new(alloc);
     for _ in 0..MOST {
-        // There is room for the line, so that no write fails for want of memory.
+        // There is room for the line, so that no write fails for lack of memory.
         let mut out = Vec::with_capacity(alloc, 64)?;
         let mut reader = FromRead::new(image.octets());
         let mut writer = FromWrite::new(&mut out);

@@ -6,7 +6,7 @@ use Rattle.spv_lines.specs.declared.asm_error.AsmCode.TheVariants.{S6}
 use Rattle.spvk.specs.declared.assembling.Unread.{Unread}
 use Rattle.spvk.specs.declared.assembling.Unread.TheVariants.{Memory}
 
--- want of memory is an error, and any other fault is told
+-- out of memory is an error, and any other fault is told
 abbrev pub faulty_by : AsmCode → AsmError → Result AsmError Unread
 faulty_by S6 e = Err Memory
 faulty_by _ e = Ok e

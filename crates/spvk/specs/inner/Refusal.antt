@@ -6,7 +6,7 @@ use Rattle.spv_table.specs.declared.error.Memory.{Memory}
 use Rattle.spv_verdict.specs.declared.verdict_line.Judgment.{Judgment}
 use Rattle.spv_verdict.specs.declared.verdict_line.Judgment.TheVariants.{Refused}
 
--- a failed read, which does not come of bytes in memory, and want of memory are errors, and all other codes verdicts
+-- a failed read, which does not come of bytes in memory, and out of memory are errors, and all other codes verdicts
 abbrev pub refusal_of : WordError → Result Judgment Memory
 refusal_of W1 = Err (record {})
 refusal_of W9 = Err (record {})
