@@ -8,7 +8,7 @@ use Rattle.spv_layout.specs.First.{IsFirst}
 use Rattle.spv_layout.specs.Place.{first_word_of}
 use Rattle.spv_branches.specs.Broken.{Broken}
 
--- What a refusal by A1 and A2 says: want of memory, or the first broken of these rules and the first word of its
+-- What a refusal by A1 and A2 says: out of memory, or the first broken of these rules and the first word of its
 -- instruction.
 abbrev pub IsRefusal : Table → List PlainInst → Stop → Type 0
 IsRefusal G is Memory = Unit {0}
