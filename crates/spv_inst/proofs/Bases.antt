@@ -5,8 +5,8 @@ use Rattle.spv_table.specs.declared.table.Category.{Category}
 use Rattle.spv_table.specs.declared.table.Category.TheVariants as category
 use Rattle.spv_table.specs.declared.table.Kind.{Kind}
 use Rattle.spv_table.specs.Table.{Table, Sort, kind_of, is_simple, is_simple_category, are_bases, is_sound, is_sound_category, IsWhole}
-use Rattle.spv_inst.specs.declared.form.Form.TheVariants.{Parts}
-use Rattle.spv_inst.specs.inner.Form.{category_form, form_of, form_at}
+use Rattle.spv_table.specs.declared.form.Form.TheVariants.{Parts}
+use Rattle.spv_table.specs.inner.Form.{category_form, form_of, form_at}
 use Rattle.spv_module.specs.Operand.{Context}
 use Rattle.spv_module.specs.Shape.{Slot, AsParts, category_shape, kind_shape, shape_of}
 use Rattle.spv_inst.specs.Flat.{Due, OneOf}

@@ -4,8 +4,8 @@ use Rattle.std.specs.Prelude.{is_some, unwrap_or}
 use Rattle.std.specs.List.{list_any, AllByRecursion}
 use Rattle.std.proofs.lemmas.Bool.Decides.{nat_tests}
 use Rattle.spv_table.specs.Table.{Table, kind_of}
-use Rattle.spv_inst.specs.declared.form.Leaf as declared
-use Rattle.spv_inst.specs.declared.form.Leaf.TheVariants as leaf
+use Rattle.spv_table.specs.declared.form.Leaf as declared
+use Rattle.spv_table.specs.declared.form.Leaf.TheVariants as leaf
 use Rattle.spv_module.specs.Operand.{Plain, OfType, Result, Id, Word, Number, Text, Value, Mask, Context}
 use Rattle.spv_module.specs.Width.{context_width}
 use Rattle.spv_module.specs.Shape.{Slot, Shape, alone, AsType, AsResult, AsId, AsWord, AsNumber, AsText, AsValue, AsMask, AsNothing, shape_of}
@@ -13,8 +13,8 @@ use Rattle.spv_module.specs.Spelling.{Takes, HoldsText, AreZeros, parameters_of,
 use Rattle.spv_inst.specs.Reading.{enumerants_at}
 use Rattle.spv_inst.specs.inner.Pending.{opened_kinds}
 use Rattle.spv_inst.specs.inner.Written.{text_words, operand_words, fits_width, is_without_zero, is_fit, HasText}
-use Rattle.spv_inst.specs.declared.form.Form.TheVariants.{Leaf}
-use Rattle.spv_inst.specs.inner.Form.{form_at}
+use Rattle.spv_table.specs.declared.form.Form.TheVariants.{Leaf}
+use Rattle.spv_table.specs.inner.Form.{form_at}
 use Rattle.spv_inst.proofs.Shapes.{leaf_shape, shape_leaf}
 use Rattle.spv_inst.proofs.Masks.{whole_mask}
 use Rattle.spv_inst.proofs.Bases.{and_first, and_second}

@@ -16,7 +16,6 @@ pub mod Opened
 pub mod Between
 pub mod Numbers
 pub mod Kept
-pub mod Forms
 pub mod Shapes
 pub mod Fitting
 pub mod TextOctets

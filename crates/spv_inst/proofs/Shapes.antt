@@ -5,13 +5,13 @@ use Rattle.spv_table.specs.declared.table.Enumerant.{Enumerant}
 use Rattle.spv_table.specs.declared.table.Category.{Category}
 use Rattle.spv_table.specs.declared.table.Category.TheVariants as category
 use Rattle.spv_table.specs.Table.{Table, Sort, kind_of}
-use Rattle.spv_inst.specs.declared.form.Leaf as declared
-use Rattle.spv_inst.specs.declared.form.Leaf.TheVariants as leaf
-use Rattle.spv_inst.specs.declared.form.Form.{Form}
-use Rattle.spv_inst.specs.declared.form.Form.TheVariants.{Leaf, Parts}
+use Rattle.spv_table.specs.declared.form.Leaf as declared
+use Rattle.spv_table.specs.declared.form.Leaf.TheVariants as leaf
+use Rattle.spv_table.specs.declared.form.Form.{Form}
+use Rattle.spv_table.specs.declared.form.Form.TheVariants.{Leaf, Parts}
 use Rattle.spv_module.specs.Operand.{Context}
 use Rattle.spv_module.specs.Width.{context_width, switch_width}
-use Rattle.spv_inst.specs.inner.Form.{category_form, form_at}
+use Rattle.spv_table.specs.inner.Form.{category_form, form_at}
 use Rattle.spv_module.specs.Shape.{Slot, Shape, AsType, AsResult, AsId, AsWord, AsNumber, AsText, AsValue, AsMask, AsParts, AsNothing, integer_shape, category_shape, kind_shape, shape_of}
 use Rattle.spv_module.specs.Refusal.{IsLeaf}
 use Rattle.spv_inst.specs.Reading.{enumerants_at}

@@ -1,5 +1,4 @@
 -- The same by one relation over what is due and all the words left of the instruction, as a decoder goes.
-use Rattle.std.specs.Prelude.{[]}
 use Rattle.spv_table.specs.Table.{Item, One, Maybe, Many}
 use Rattle.spv_module.specs.Shape.{Slot, alone}
 

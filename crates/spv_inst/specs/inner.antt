@@ -1,8 +1,8 @@
 -- Definitions that serve the code alone.
+pub mod Items
 pub mod Pending
 pub mod Batch
 pub mod Flat
-pub mod Form
 pub mod Known
 pub mod Reading
 pub mod Sofar

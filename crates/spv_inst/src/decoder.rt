@@ -6,7 +6,6 @@ ghost use Rattle.spv_inst.specs.Outcome.{HasNoList, IsDecodeFault, IsHeaderOf};
 
 use crate::batch::Batch;
 use crate::definitions::Definitions;
-use crate::form::forms_of;
 use crate::instruction::{Read, read_instruction};
 use crate::pending::Pending;
 use crate::reader::Scene;
@@ -18,7 +17,7 @@ use std::alloc::{AllocError, Global};
 /// How many words the decoder reckons an instruction has, to keep room for all of them from the start.
 const WORDS_FOR_EACH: u32 = 4;
 
-/// A module with that header and no instruction, with room for so many. The error is want of memory.
+/// A module with that header and no instruction, with room for so many. The error is that memory ran out.
 fn with_room<'a>(alloc: Global, header: Header, count: usize) -> Result<Module<'a>, AllocError>
     ensures header { IfOk result (λ m. m.header ≡ header) }
     ensures insts { IfOk result (λ m. plain_insts m ≡ []) }
@@ -45,7 +44,7 @@ pub fn decode<'a>(alloc: Global, table: &Table, image: &'a Image) -> Result<Modu
     // Where there is one, the words spell no list.
     ensures none { IfErr result (λ e. HasNoList table.now image.now e) }
 {
-    let forms = forms_of(alloc, table)?;
+    let forms = table.forms();
     let mut definitions = Definitions::new(alloc);
     let mut pending = Pending::new(alloc);
     let len = image.len();
@@ -56,7 +55,7 @@ pub fn decode<'a>(alloc: Global, table: &Table, image: &'a Image) -> Result<Modu
     while at < len {
         let scene = Scene {
             table,
-            forms: &forms,
+            forms,
             definitions: &definitions,
             image,
         };

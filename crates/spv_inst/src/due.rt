@@ -3,9 +3,10 @@
 
 pub use crate::definitions::Definitions;
 pub use crate::enumerant::{joined, knows, knows_bits, mask_kinds, value_kinds};
-pub use crate::form::{Form, Leaf, forms_of};
 pub use crate::instruction::{Read, known_after, read_instruction};
-pub use crate::pending::{Asked, Pending, form_in};
+pub use crate::items::DueItems;
+pub use crate::pending::{Asked, Pending};
 pub use crate::plain::{Next, next_kind};
 pub use crate::reader::{Known, Refusal, Scene, Slot, Taken, take_operand};
 pub use crate::written::{push_operand, read_text};
+pub use spv_table::{Form, Leaf, form_in};

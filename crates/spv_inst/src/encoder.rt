@@ -5,8 +5,8 @@ ghost use Rattle.std.specs.Prelude.{◌++◌, ◌∷◌, [], List, length, drop,
 ghost use Rattle.std.specs.Prelude.{MatchOption, slice_index};
 ghost use Rattle.spv_words.specs.Header.{IsHeader};
 ghost use Rattle.spv_table.specs.Table.{kind_of};
-ghost use Rattle.spv_inst.specs.declared.form.Form.TheVariants.{Leaf as LeafForm};
-ghost use Rattle.spv_inst.specs.inner.Form.{form_of, form_at};
+ghost use Rattle.spv_table.specs.declared.form.Form.TheVariants.{Leaf as LeafForm};
+ghost use Rattle.spv_table.specs.inner.Form.{form_of, form_at};
 ghost use Rattle.spv_module.specs.Operand.{PlainInst, Context, start};
 ghost use Rattle.spv_module.specs.Module.{plain_operand, plain_operands, plain_inst, plain_insts};
 ghost use Rattle.spv_module.specs.Instruction.{IsListing};
@@ -19,13 +19,12 @@ ghost use Rattle.spv_inst.specs.inner.Written.{told};
 
 use crate::definitions::Definitions;
 use crate::encode_error::{EncodeCode, EncodeError};
-use crate::form::{Form, forms_of};
 use crate::instruction::known_after;
 use crate::pending::Pending;
 use crate::reader::Known;
 use crate::written::{fits, push_operand, read_text};
 use spv_module::{Inst, Module, Operand};
-use spv_table::{Item, Table};
+use spv_table::{Form, Pattern, Table};
 use spv_words::{Draft, GREATEST_BOUND, GREATEST_LENGTH, Header, Image, MAGIC_NUMBER, VERSION};
 use std::alloc::{AllocError, Global};
 
@@ -74,7 +73,7 @@ fn write_operands<'t>(
     setting: &Setting<'t, '_>,
     pending: &mut Pending<'t>,
     words: &mut Vec<u32>,
-    pattern: &'t [Item],
+    pattern: &'t Pattern,
     inst: &Inst,
 ) -> Result<bool, AllocError>
     requires { setting.now.forms.now ≡ map form_of setting.now.table.now.kinds }
@@ -129,7 +128,7 @@ fn put_instruction<'t>(
     let Some(entry) = setting.table.entry(inst.opcode) else {
         return Err(EncodeCode::N2);
     };
-    if !write_operands(setting, pending, words, entry.operands.as_slice(), inst)? {
+    if !write_operands(setting, pending, words, &entry.operands, inst)? {
         return Err(EncodeCode::N2);
     }
     let count = words.len() + 1;
@@ -194,14 +193,13 @@ fn put_instructions(
     ensures written { OnOk result (IsWritten table.now «module».now draft.new) }
     ensures refused { IfErr result (λ e. RefusesModule e.code table.now «module».now e.inst) }
 {
-    let forms = forms_of(alloc, table)?;
     let mut definitions = Definitions::new(alloc);
     let mut pending = Pending::new(alloc);
     let mut words = Vec::new(alloc);
     for (number, inst) in module.insts.iter().enumerate() {
         let setting = Setting {
             table,
-            forms: forms.as_slice(),
+            forms: table.forms(),
             definitions: &definitions,
         };
         match put_instruction(&setting, &mut pending, &mut words, draft, inst) {

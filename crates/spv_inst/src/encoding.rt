@@ -33,13 +33,13 @@ pub fn one_image()
     ensures { (G : Table) (m : Module) (ws vs : List ℕ) → IsImageOf G m ws → IsImageOf G m vs → ws ≡ vs }
 {}
 
-/// Where a module has an image, only want of memory refuses it.
+/// Where a module has an image, only memory that runs out refuses it.
 pub fn image_or_refused()
     ensures { (G : Table) (m : Module) (ws : List ℕ) (code : EncodeCode) (n : ℕ) → IsImageOf G m ws
         → length ws ≤ greatest_length → RefusesModule code G m n → code ≡ N4 }
 {}
 
-/// What is encoded is decoded again: of a module's image `decode` may answer that module, or want of memory, and
+/// What is encoded is decoded again: of a module's image `decode` may answer that module, or that memory ran out, and
 /// nothing else.
 pub fn decodes_back()
     ensures same { (G : Table) (m d : Module) (ws : List ℕ) → IsImageOf G m ws

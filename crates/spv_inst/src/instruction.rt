@@ -5,7 +5,7 @@ ghost use Rattle.std.specs.Prelude.{length, map, take, drop, IfOk, IfErr, OnOk};
 ghost use Rattle.spv_table.specs.Table.{Item, pattern_of, IsWhole};
 ghost use Rattle.spv_inst.specs.inner.Pending.{due_first};
 ghost use Rattle.spv_inst.specs.Flat.{due};
-ghost use Rattle.spv_inst.specs.inner.Form.{form_of};
+ghost use Rattle.spv_table.specs.inner.Form.{form_of};
 ghost use Rattle.spv_module.specs.Instruction.{IsInstruction};
 ghost use Rattle.spv_inst.specs.inner.Known.{Knows};
 ghost use Rattle.spv_module.specs.Module.{plain_operand, plain_operands};
@@ -16,6 +16,7 @@ ghost use Rattle.spv_module.specs.Spelling.{Match};
 ghost use Rattle.spv_inst.specs.inner.Step.{IsMisfit, IsDeadFrom};
 ghost use Rattle.spv_module.specs.Width.{first_id};
 
+use crate::items::DueItems;
 use crate::pending::Pending;
 use crate::plain::{Rest, next_kind, read_words};
 use crate::reader::{Known, Scene, take_operand};
@@ -148,7 +149,7 @@ fn read_rest<'t, 'a>(
     ensures read { (before : List PlainInst) (pattern : List Item) → Knows scene.now.definitions.now before
         → Sofar scene.now.table.now (start before place.opcode) (map due pattern)
         (between scene.now.image.now place.first place.end) (plain_operands (drop begin operands.old.items))
-        (due_first rest.entry.kinds.now rest.entry.items.now) (between scene.now.image.now rest.entry.at place.end)
+        (due_first rest.entry.kinds.now rest.entry.items.left.now) (between scene.now.image.now rest.entry.at place.end)
         (rest.entry.at - place.first)
         → OnOk result
         (Match scene.now.table.now (start before place.opcode) pattern (plain_operands (drop begin operands.new.items))
@@ -159,7 +160,7 @@ fn read_rest<'t, 'a>(
     ensures misfit { (before : List PlainInst) (pattern : List Item) → Knows scene.now.definitions.now before
         → Sofar scene.now.table.now (start before place.opcode) (map due pattern)
         (between scene.now.image.now place.first place.end) (plain_operands (drop begin operands.old.items))
-        (due_first rest.entry.kinds.now rest.entry.items.now) (between scene.now.image.now rest.entry.at place.end)
+        (due_first rest.entry.kinds.now rest.entry.items.left.now) (between scene.now.image.now rest.entry.at place.end)
         (rest.entry.at - place.first)
         → IfErr result
         (λ e. IsMisfit scene.now.table.now (start before place.opcode) pattern
@@ -217,7 +218,7 @@ fn read_operands<'t, 'a>(
         (between scene.now.image.now place.first place.end) place.number place.first e) }
 {
     let start = operands.len();
-    let items = entry.operands.as_slice();
+    let items = DueItems::of(&entry.operands);
     let rest = read_words(
         scene.table,
         scene.forms,

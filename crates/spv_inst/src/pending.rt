@@ -3,8 +3,8 @@
 ghost use Rattle.std.specs.Prelude.{◌≡◌, ◌++◌, ◌∷◌, [], ◌<◌, map, length, IfOk, IfSome, OnOk};
 ghost use Rattle.std.specs.Prelude.{MatchOption, unwrap_or};
 ghost use Rattle.spv_table.specs.Table.{Table, kind_of};
-ghost use Rattle.spv_inst.specs.declared.form.Form.TheVariants.{Leaf as LeafForm};
-ghost use Rattle.spv_inst.specs.inner.Form.{form_of, form_at};
+ghost use Rattle.spv_table.specs.declared.form.Form.TheVariants.{Leaf as LeafForm};
+ghost use Rattle.spv_table.specs.inner.Form.{form_of, form_at};
 ghost use Rattle.spv_module.specs.Module.{plain_operand};
 ghost use Rattle.spv_module.specs.Shape.{alone};
 ghost use Rattle.spv_module.specs.Spelling.{parameters_of};
@@ -13,14 +13,14 @@ ghost use Rattle.spv_inst.specs.Flat.{OneOf, due};
 ghost use Rattle.spv_inst.specs.inner.Pending.{plain_slot, slots_of, parameters_from, frame_due, frames_due, items_of};
 ghost use Rattle.spv_inst.specs.inner.Pending.{due_first, pending_due, settled, LeadsTo, Opens, opened_kinds};
 
-use crate::form::{Form, Leaf};
+use crate::items::DueItems;
 use crate::reader::Slot;
 use spv_module::Operand;
-use spv_table::{Item, Quantifier, Table};
+use spv_table::{Form, Leaf, Pattern, Table, form_in};
 use std::alloc::{AllocError, Global};
 
 /// A place in an open list of parameters.
-#[derive(Clone, Copy, Debug)]
+#[derive(Clone, Copy)]
 enum Frame<'t> {
     /// The kinds left, in order, and whether they are bases of PairLiteralIntegerIdRef.
     Kinds { left: &'t [u32], paired: bool },
@@ -29,7 +29,7 @@ enum Frame<'t> {
 }
 
 /// A kind that is due next and is no Composite.
-#[derive(Clone, Copy, Debug, PartialEq, Eq)]
+#[derive(Clone, Copy)]
 pub struct Asked {
     pub slot: Slot,
     /// What the slot's kind asks for.
@@ -37,7 +37,7 @@ pub struct Asked {
 }
 
 /// The parameters of a bit of a mask, at least one, and the position after it.
-#[derive(Clone, Copy, Debug)]
+#[derive(Clone, Copy)]
 struct Found<'t> {
     kinds: &'t [u32],
     position: u32,
@@ -48,23 +48,12 @@ struct Found<'t> {
 ///
 /// A kind is due as soon as the operand is read or written that asks for it, so a stack of pending operands serves the
 /// decoder and the encoder alike. It is one for many instructions: `start` keeps its memory.
-#[derive(Debug, Drop)]
+#[derive(Drop)]
 pub struct Pending<'t> {
     /// The open lists, the innermost last.
     frames: Vec<Frame<'t>>,
-    /// The items left of the pattern.
-    items: &'t [Item],
-}
-
-/// What the kind of a number, from 0, asks for, by the forms of all kinds (`forms_of`). A kind that the table has not
-/// asks for what nothing spells.
-pub fn form_in(forms: &[Form], kind: u32) -> Form
-    ensures { (G : Table) → forms.now ≡ map form_of G.kinds → result ≡ form_at (kind_of G kind) }
-{
-    match forms.get(kind as usize) {
-        Some(form) => *form,
-        None => Form::Leaf(Leaf::Nothing),
-    }
+    /// The items of the pattern that are due after them.
+    items: DueItems<'t>,
 }
 
 /// Takes the first of some kinds, and leaves the others due. Where memory runs out, nothing is said of what is left.
@@ -177,30 +166,6 @@ fn take_parameter<'t>(
     Ok(None)
 }
 
-/// The next item of a pattern that is due, where words are left (`more`) or not: its kind and the items that are left.
-#[inline(always)]
-pub fn next_item<'t>(items: &'t [Item], more: bool) -> Option<(u32, &'t [Item])>
-    ensures { MatchOption result (settled more (map due (items_of items.now)) ≡ [])
-        (λ p. settled more (map due (items_of items.now)) ≡ OneOf (alone p.0) ∷ map due (items_of p.1.now)) }
-{
-    for (index, item) in items.iter().enumerate() {
-        match item.quantifier {
-            Quantifier::One => return Some((item.kind, &items[index + 1..])),
-            Quantifier::Maybe => {
-                if more {
-                    return Some((item.kind, &items[index + 1..]));
-                }
-            }
-            Quantifier::Many => {
-                if more {
-                    return Some((item.kind, &items[index..]));
-                }
-            }
-        }
-    }
-    None
-}
-
 impl<'t> Pending<'t> {
     /// A stack of pending operands with nothing due. It takes no memory.
     pub fn new(alloc: Global) -> Pending<'t>
@@ -208,25 +173,26 @@ impl<'t> Pending<'t> {
     {
         Pending {
             frames: Vec::new(alloc),
-            items: &[],
+            items: DueItems::none(),
         }
     }
 
     /// Begins an instruction: the items of its pattern are due, and nothing else is.
-    pub fn start(&mut self, items: &'t [Item])
-        ensures { (G : Table) → pending_due G self.new ≡ map due (items_of items.now) }
+    pub fn start(&mut self, pattern: &'t Pattern)
+        ensures { (G : Table) → pending_due G self.new ≡ map due (items_of pattern.now) }
     {
         self.frames.clear();
-        self.items = items;
+        self.items = DueItems::of(pattern);
     }
 
     /// Begins within an instruction: kinds are due, in order, then the items of a pattern, and nothing else is.
     ///
     /// An `AllocError` comes only where a growth of memory was refused, and then nothing is said of what is left.
-    pub(crate) fn resume(&mut self, kinds: &'t [u32], items: &'t [Item]) -> Result<(), AllocError>
-        ensures { OnOk result ((G : Table) → pending_due G self.new ≡ due_first kinds.now items.now) }
+    pub(crate) fn resume(&mut self, kinds: &'t [u32], items: DueItems<'t>) -> Result<(), AllocError>
+        ensures { OnOk result ((G : Table) → pending_due G self.new ≡ due_first kinds.now items.entry.left.now) }
     {
-        self.start(items);
+        self.frames.clear();
+        self.items = items;
         if !kinds.is_empty() {
             self.frames.push(Frame::Kinds {
                 left: kinds,
@@ -246,7 +212,7 @@ impl<'t> Pending<'t> {
     {
         match take_parameter(&mut self.frames, table)? {
             Some(slot) => Ok(Some(slot)),
-            None => match next_item(self.items, more) {
+            None => match self.items.next_item(more) {
                 Some((kind, items)) => {
                     self.items = items;
                     Ok(Some(Slot {

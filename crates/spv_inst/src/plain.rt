@@ -4,8 +4,8 @@ ghost use Rattle.std.specs.Prelude.{◌≡◌, List, ◌≤◌, ◌<◌, ◌+◌
 ghost use Rattle.std.specs.Prelude.{length, map, take, drop, IfOk, IfSome, MatchOption};
 ghost use Rattle.spv_table.specs.Table.{Table, kind_of};
 ghost use Rattle.spv_table.specs.declared.table.Enumerant.{Enumerant};
-ghost use Rattle.spv_inst.specs.declared.form.Form.TheVariants.{Leaf as LeafForm};
-ghost use Rattle.spv_inst.specs.inner.Form.{form_of, form_at};
+ghost use Rattle.spv_table.specs.declared.form.Form.TheVariants.{Leaf as LeafForm};
+ghost use Rattle.spv_table.specs.inner.Form.{form_of, form_at};
 ghost use Rattle.spv_module.specs.Operand.{Context};
 ghost use Rattle.spv_module.specs.Module.{plain_operand, plain_operands};
 ghost use Rattle.spv_module.specs.Shape.{alone, shape_of, AsMask};
@@ -16,36 +16,35 @@ ghost use Rattle.spv_inst.specs.Flat.{OneOf, due};
 ghost use Rattle.spv_inst.specs.inner.Sofar.{Sofar};
 
 use crate::enumerant::{joined, mask_kinds, value_kinds};
-use crate::form::{Form, Leaf};
-use crate::pending::{form_in, next_item};
+use crate::items::DueItems;
 use spv_module::Operand;
-use spv_table::{Item, Table};
+use spv_table::{Form, Leaf, Table, form_in};
 use spv_words::{Image, word};
 use std::alloc::AllocError;
 
 /// What is left of an instruction after some operands.
-#[derive(Clone, Copy, Debug)]
+#[derive(Clone, Copy)]
 pub struct Rest<'t> {
     /// The kinds of parameters that are due first, in order.
     pub kinds: &'t [u32],
-    /// The items left of its pattern.
-    pub items: &'t [Item],
+    /// The items of its pattern that are due after them.
+    pub items: DueItems<'t>,
     /// The number of the next word in the module, from 0.
     pub at: u32,
 }
 
 /// The kind that is due next, and what is due after it.
-#[derive(Clone, Copy, Debug)]
+#[derive(Clone, Copy)]
 pub struct Next<'t> {
     pub kind: u32,
     /// The kinds of parameters that are due after it, in order.
     pub kinds: &'t [u32],
-    /// The items left of the pattern.
-    pub items: &'t [Item],
+    /// The items of the pattern that are due after these.
+    pub items: DueItems<'t>,
 }
 
 /// An operand of one word, and the kinds of its parameters, which are due after it.
-#[derive(Clone, Copy, Debug)]
+#[derive(Clone, Copy)]
 struct Plain<'t, 'a> {
     operand: Operand<'a>,
     kinds: &'t [u32],
@@ -53,10 +52,10 @@ struct Plain<'t, 'a> {
 
 /// The next kind that is due of kinds in order and a pattern after them, where words are left (`more`) or not.
 #[inline(always)]
-pub fn next_kind<'t>(kinds: &'t [u32], items: &'t [Item], more: bool) -> Option<Next<'t>>
-    ensures { MatchOption result (settled more (due_first kinds.now items.now) ≡ [])
-        (λ n. settled more (due_first kinds.now items.now) ≡ OneOf (alone n.kind)
-        ∷ due_first n.kinds.now n.items.now) }
+pub fn next_kind<'t>(kinds: &'t [u32], items: DueItems<'t>, more: bool) -> Option<Next<'t>>
+    ensures { MatchOption result (settled more (due_first kinds.now items.entry.left.now) ≡ [])
+        (λ n. settled more (due_first kinds.now items.entry.left.now) ≡ OneOf (alone n.kind)
+        ∷ due_first n.kinds.now n.items.left.now) }
 {
     if let Some((kind, kinds)) = kinds.split_first() {
         return Some(Next {
@@ -65,7 +64,7 @@ pub fn next_kind<'t>(kinds: &'t [u32], items: &'t [Item], more: bool) -> Option<
             items,
         });
     }
-    match next_item(items, more) {
+    match items.next_item(more) {
         Some((kind, items)) => Some(Next { kind, kinds, items }),
         None => None,
     }
@@ -151,10 +150,10 @@ fn plain_word<'t, 'a>(table: &'t Table, form: Form, kind: u32, word: u32) -> Opt
 }
 
 /// What is left of an instruction after operands without parameters.
-#[derive(Clone, Copy, Debug)]
+#[derive(Clone, Copy)]
 struct Back<'t> {
-    /// The items left of its pattern.
-    items: &'t [Item],
+    /// The items of its pattern that are due.
+    items: DueItems<'t>,
     /// The number of the next word in the module, from 0.
     at: u32,
 }
@@ -170,7 +169,7 @@ fn read_bare<'t, 'a>(
     forms: &[Form],
     image: &Image,
     operands: &mut Vec<Operand<'a>>,
-    items: &'t [Item],
+    items: DueItems<'t>,
     first: u32,
     end: u32,
 ) -> Result<Back<'t>, AllocError>
@@ -179,8 +178,8 @@ fn read_bare<'t, 'a>(
     // From the whole pattern and all words, the operands that are added bring the decoder to what is left.
     ensures front { (G : Table) (c : Context) → forms.now ≡ map form_of G.kinds
         → IfOk result
-        (λ r. Sofar G c (map due (items_of items.now)) (between image.now first end)
-        (plain_operands (drop (length operands.old.items) operands.new.items)) (map due (items_of r.items.now))
+        (λ r. Sofar G c (map due (items_of items.entry.left.now)) (between image.now first end)
+        (plain_operands (drop (length operands.old.items) operands.new.items)) (map due (items_of r.items.left.now))
         (between image.now r.at end) (r.at - first)) }
     ensures kept { IfOk result (λ _. take (length operands.old.items) operands.new.items ≡ operands.old.items) }
     ensures room { IfOk result (λ _. length operands.old.items ≤ length operands.new.items) }
@@ -190,7 +189,7 @@ fn read_bare<'t, 'a>(
     let mut items = items;
     let mut at = first;
     while at < end {
-        let Some((kind, later)) = next_item(items, true) else {
+        let Some((kind, later)) = items.next_item(true) else {
             return Ok(Back { items, at });
         };
         let form = form_in(forms, kind);
@@ -217,7 +216,7 @@ pub fn read_words<'t, 'a>(
     forms: &[Form],
     image: &Image,
     operands: &mut Vec<Operand<'a>>,
-    items: &'t [Item],
+    items: DueItems<'t>,
     first: u32,
     end: u32,
 ) -> Result<Rest<'t>, AllocError>
@@ -226,8 +225,8 @@ pub fn read_words<'t, 'a>(
     // From the whole pattern and all words, the operands that are added bring the decoder to what is left.
     ensures front { (c : Context) → forms.now ≡ map form_of table.now.kinds
         → IfOk result
-        (λ r. Sofar table.now c (map due (items_of items.now)) (between image.now first end)
-        (plain_operands (drop (length operands.old.items) operands.new.items)) (due_first r.kinds.now r.items.now)
+        (λ r. Sofar table.now c (map due (items_of items.entry.left.now)) (between image.now first end)
+        (plain_operands (drop (length operands.old.items) operands.new.items)) (due_first r.kinds.now r.items.left.now)
         (between image.now r.at end) (r.at - first)) }
     ensures kept { IfOk result (λ _. take (length operands.old.items) operands.new.items ≡ operands.old.items) }
     ensures room { IfOk result (λ _. length operands.old.items ≤ length operands.new.items) }

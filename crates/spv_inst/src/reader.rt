@@ -1,25 +1,24 @@
 ghost use Rattle.std.specs.Prelude.{◌≡◌, ◌≤◌, ◌<◌, ◌-◌, ℕ, None, length, IfOk, IfErr};
 ghost use Rattle.spv_table.specs.Table.{kind_of};
-ghost use Rattle.spv_inst.specs.declared.form.Form.TheVariants.{Leaf as LeafForm};
-ghost use Rattle.spv_inst.specs.inner.Form.{form_at};
+ghost use Rattle.spv_table.specs.declared.form.Form.TheVariants.{Leaf as LeafForm};
+ghost use Rattle.spv_table.specs.inner.Form.{form_at};
 ghost use Rattle.spv_inst.specs.inner.Known.{IsNear};
 ghost use Rattle.spv_module.specs.Operand.{Context};
 ghost use Rattle.spv_inst.specs.inner.Reading.{between, TakesFront, RefusesFront};
 
 use crate::definitions::Definitions;
 use crate::enumerant::{take_mask, take_value};
-use crate::form::{Form, Leaf};
 use crate::number::{SWITCH, context_width, switch_width, take_number};
 use crate::text::take_text;
 use spv_module::{Operand, Rule};
-use spv_table::Table;
+use spv_table::{Form, Leaf, Table};
 use spv_words::{Image, word};
 
 /// What does not change while an instruction is decoded.
 #[derive(Clone, Copy)]
 pub struct Scene<'t, 'd, 'a> {
     pub table: &'t Table,
-    /// The form of each kind (`forms_of`).
+    /// The form of each kind.
     pub forms: &'d [Form],
     /// What the instructions before tell of ids.
     pub definitions: &'d Definitions,

@@ -4,8 +4,8 @@ ghost use Rattle.std.specs.Prelude.{◌≡◌, ◌++◌, ◌+◌, ◌*◌, ◌<�
 ghost use Rattle.std.specs.Prelude.{IsUtf8, slice_index};
 ghost use Rattle.std.specs.List.{AllByRecursion};
 ghost use Rattle.spv_table.specs.Table.{kind_of};
-ghost use Rattle.spv_inst.specs.declared.form.Form.TheVariants.{Leaf as LeafForm};
-ghost use Rattle.spv_inst.specs.inner.Form.{form_at};
+ghost use Rattle.spv_table.specs.declared.form.Form.TheVariants.{Leaf as LeafForm};
+ghost use Rattle.spv_table.specs.inner.Form.{form_at};
 ghost use Rattle.spv_module.specs.Operand.{Context};
 ghost use Rattle.spv_module.specs.Module.{plain_operand};
 ghost use Rattle.spv_module.specs.Shape.{shape_of, AsType, AsResult, AsId, AsWord, AsNumber, AsText, AsValue, AsMask};
@@ -17,12 +17,11 @@ ghost use Rattle.spv_inst.specs.inner.Written.{HasText, text_words, operand_word
 
 use crate::definitions::Definitions;
 use crate::enumerant::{knows, knows_bits};
-use crate::form::Leaf;
 use crate::number::{SWITCH, context_width, switch_width};
 use crate::pending::Asked;
 use crate::reader::Known;
 use spv_module::Operand;
-use spv_table::Table;
+use spv_table::{Leaf, Table};
 use std::alloc::AllocError;
 
 /// Whether a number of a high word, with so many words, has the width, in bits.

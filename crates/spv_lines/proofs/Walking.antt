@@ -5,9 +5,9 @@ use Rattle.std.proofs.lemmas.List.{append-nil}
 use Rattle.spv_table.specs.declared.table.Category.{Category}
 use Rattle.spv_table.specs.declared.table.Category.TheVariants as category
 use Rattle.spv_table.specs.Table.{Table, Sort, kind_of, is_simple, is_simple_category, are_bases, is_sound, is_sound_category, IsWhole}
-use Rattle.spv_inst.specs.declared.form.Form.{Form}
-use Rattle.spv_inst.specs.declared.form.Form.TheVariants.{Leaf, Parts}
-use Rattle.spv_inst.specs.inner.Form.{category_form, form_at}
+use Rattle.spv_table.specs.declared.form.Form.{Form}
+use Rattle.spv_table.specs.declared.form.Form.TheVariants.{Leaf, Parts}
+use Rattle.spv_table.specs.inner.Form.{category_form, form_at}
 use Rattle.spv_module.specs.Operand.{Plain, OfType, Result, Id, Word, Number, Text, Value, Mask, Context, and_then, result_in}
 use Rattle.spv_module.specs.Shape.{Slot, AsParts, shape_of}
 use Rattle.spv_module.specs.Refusal.{IsLeaf}

@@ -1,6 +1,5 @@
-ghost use Rattle.std.specs.Prelude.{◌≡◌, ◌≢◌, ◌<◌, ◌≤◌, ℕ, length, slice_index_or};
-ghost use Rattle.spv_table.specs.declared.table.Item as declared;
-ghost use Rattle.spv_table.specs.declared.table.Quantifier.TheVariants.{One};
+ghost use Rattle.std.specs.Prelude.{◌≡◌, ◌≤◌, length};
+ghost use Rattle.spv_table.specs.inner.Pattern.{EndsOptional};
 
 use crate::table::{Item, Quantifier};
 use std::marker::Model;
@@ -9,22 +8,20 @@ use std::marker::Model;
 #[derive(Drop)]
 pub struct Pattern {
     items: Vec<Item>,
-    /// How many items there are up to the last one that is not optional.
-    required: usize,
+    /// How many items at the end are optional.
+    optional: usize,
 }
 
 impl Model for Pattern {
-    ghost use Rattle.std.specs.Prelude.{◌≡◌, ◌≢◌, ◌<◌, ◌≤◌, ℕ, List, length, slice_index_or};
+    ghost use Rattle.std.specs.Prelude.{◌≤◌, List, length};
     ghost use Rattle.spv_table.specs.declared.table.Item as declared;
-    ghost use Rattle.spv_table.specs.declared.table.Quantifier.TheVariants.{One};
+    ghost use Rattle.spv_table.specs.inner.Pattern.{EndsOptional};
 
     ghost Value = { List declared.Item };
 
     ghost view = { λ p. p.items.items };
 
-    ghost invariant = { λ p. (p.required ≤ length p.items.items)
-        × ((k : ℕ) (d : declared.Item) → p.required ≤ k → k < length p.items.items
-        → (slice_index_or p.items.items k d).quantifier ≢ One) };
+    ghost invariant = { λ p. (p.optional ≤ length p.items.items) × EndsOptional p.optional p.items.items };
 }
 
 impl Pattern {
@@ -32,14 +29,14 @@ impl Pattern {
     pub fn from_vec(items: Vec<Item>) -> Pattern
         ensures { result ≡ items.items }
     {
-        let mut required = 0;
-        for (index, item) in items.iter().enumerate() {
+        let mut optional = 0;
+        for item in &items {
             match item.quantifier {
-                Quantifier::One => required = index + 1,
-                Quantifier::Maybe | Quantifier::Many => {}
+                Quantifier::One => optional = 0,
+                Quantifier::Maybe | Quantifier::Many => optional += 1,
             }
         }
-        Pattern { items, required }
+        Pattern { items, optional }
     }
 
     /// The items, in order.
@@ -49,12 +46,11 @@ impl Pattern {
         self.items.as_slice()
     }
 
-    /// How many items there are up to the last one that is not optional: each one after these may be absent.
-    pub fn required(&self) -> usize
+    /// How many items at its end are optional: those behind the last one that has to be there.
+    pub fn optional(&self) -> usize
         ensures within { result ≤ length self.now }
-        ensures optional { (k : ℕ) (d : declared.Item) → result ≤ k → k < length self.now
-            → (slice_index_or self.now k d).quantifier ≢ One }
+        ensures optional { EndsOptional result self.now }
     {
-        self.required
+        self.optional
     }
 }

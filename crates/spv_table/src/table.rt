@@ -224,7 +224,8 @@ impl Table {
 
     /// The form of each kind, in order, so that a kind's number, from 0, is the place of its form.
     pub fn forms(&self) -> &[Form]
-        ensures { result.now ≡ map form_of self.now.kinds }
+        ensures forms { result.now ≡ map form_of self.now.kinds }
+        ensures whole { IsWhole self.now }
     {
         self.forms.as_slice()
     }

@@ -4,7 +4,7 @@ ghost use Rattle.std.specs.Prelude.{◌≡◌, ℕ, drop, map, IfOk};
 ghost use Rattle.spv_table.specs.Table.{IsWhole};
 ghost use Rattle.spv_module.specs.declared.fault.Rule.{Rule};
 ghost use Rattle.spv_module.specs.Malformed.{IsMalformedAt};
-ghost use Rattle.spv_inst.specs.inner.Form.{form_of};
+ghost use Rattle.spv_table.specs.inner.Form.{form_of};
 ghost use Rattle.spv_word_reasons.specs.inner.Before.{IsBefore};
 
 use spv_inst::due::{Definitions, Form, Pending, Scene, read_instruction};

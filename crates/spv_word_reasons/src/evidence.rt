@@ -5,7 +5,7 @@ ghost use Rattle.spv_table.specs.Table.{IsWhole};
 ghost use Rattle.spv_module.specs.Operand.{PlainInst};
 ghost use Rattle.spv_module.specs.declared.fault.Rule.{Rule};
 ghost use Rattle.spv_module.specs.Malformed.{IsMalformed, IsMalformedAt};
-ghost use Rattle.spv_inst.specs.inner.Form.{form_of};
+ghost use Rattle.spv_table.specs.inner.Form.{form_of};
 ghost use Rattle.spv_inst.specs.inner.Known.{Knows};
 ghost use Rattle.spv_word_reasons.specs.Evidence.{Shows, IsEvidence};
 

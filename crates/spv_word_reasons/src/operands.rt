@@ -4,7 +4,7 @@ ghost use Rattle.std.specs.Prelude.{◌≡◌, ◌≤◌, ◌<◌, ℕ, List, le
 ghost use Rattle.spv_table.specs.Table.{pattern_of, IsWhole};
 ghost use Rattle.spv_module.specs.Operand.{PlainInst, Plain, start};
 ghost use Rattle.spv_module.specs.Spelling.{Match};
-ghost use Rattle.spv_inst.specs.inner.Form.{form_of};
+ghost use Rattle.spv_table.specs.inner.Form.{form_of};
 ghost use Rattle.spv_inst.specs.inner.Known.{Knows};
 ghost use Rattle.spv_inst.specs.inner.Reading.{between};
 ghost use Rattle.spv_word_reasons.specs.inner.Failed.{Fails};

@@ -1,9 +1,9 @@
 -- What the decoder keeps of what is due, as a list. (For the code alone.)
 use Rattle.std.specs.Prelude.{◌≡◌, ◌++◌, ◌-◌, ◌/◌, ◌%◌, ◌^◌, ℕ, List, [], ◌∷◌, Bool}
-use Rattle.std.specs.Prelude.{true, false, nat_eq, filter, map, unwrap_or}
+use Rattle.std.specs.Prelude.{false, nat_eq, filter, map, unwrap_or}
 use Rattle.spv_table.specs.declared.table.Enumerant.{Enumerant}
 use Rattle.spv_table.specs.declared.table.Item as declared
-use Rattle.spv_table.specs.Table.{Table, Item, quantified, kind_of}
+use Rattle.spv_table.specs.Table.{Table, kind_of}
 use Rattle.spv_inst.specs.declared.pending.Frame.{Frame}
 use Rattle.spv_inst.specs.declared.pending.Frame.TheVariants.{Kinds, Bits}
 use Rattle.spv_inst.specs.declared.pending.Pending.{Pending}
@@ -12,7 +12,8 @@ use Rattle.spv_module.specs.Operand.{Plain, Value, Mask, Context}
 use Rattle.spv_module.specs.Shape.{Slot, alone, AsParts, shape_of}
 use Rattle.spv_module.specs.Spelling.{bits_from, parameters_of}
 use Rattle.spv_inst.specs.Reading.{enumerants_at}
-use Rattle.spv_inst.specs.Flat.{Due, OneOf, MaybeOf, ManyOf, due}
+use Rattle.spv_inst.specs.Flat.{Due, OneOf, due}
+pub use Rattle.spv_inst.specs.inner.Items.{items_of, settled}
 
 -- a slot of the code
 abbrev pub plain_slot : code.Slot → Slot
@@ -43,26 +44,13 @@ abbrev pub frames_due : Table → List Frame → List Due
 frames_due G [] = []
 frames_due G (f ∷ fs) = frames_due G fs ++ frame_due G f
 
--- items of a pattern
-abbrev pub items_of : List declared.Item → List Item
-items_of is = map (λ i. quantified i.quantifier i.kind) is
-
 -- kinds in order, and then the items of a pattern
 abbrev pub due_first : List ℕ → List declared.Item → List Due
 due_first ks is = map OneOf (map alone ks) ++ map due (items_of is)
 
 -- what a stack of pending operands makes due: the open parameter lists, then the items left of the pattern
 abbrev pub pending_due : Table → Pending → List Due
-pending_due G a = frames_due G a.frames.items ++ map due (items_of a.items.now)
-
--- What is due where words are left or not: an item that may be absent is so exactly where none is left.
-abbrev pub settled : Bool → List Due → List Due
-settled more [] = []
-settled more (OneOf s ∷ ds) = OneOf s ∷ ds
-settled true (MaybeOf s ∷ ds) = OneOf s ∷ ds
-settled false (MaybeOf s ∷ ds) = settled false ds
-settled true (ManyOf s ∷ ds) = OneOf s ∷ ManyOf s ∷ ds
-settled false (ManyOf s ∷ ds) = settled false ds
+pending_due G a = frames_due G a.frames.items ++ map due (items_of a.items.left.now)
 
 -- what is due with a slot in front: the slot, or in its place the bases of its Composite
 pub data Opens (G : Table) (s : Slot) (ds : List Due) : List Due → Type 0 where

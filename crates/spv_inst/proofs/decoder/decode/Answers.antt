@@ -38,7 +38,7 @@ loop-at-preserved c =
     let number = c.loop-at.invariant.number in
     let d = length-drop first new in
     let v : take (length new - first) (drop first new) ≡ drop first new = take_all (length new - first) (drop first new) (omega arith) in
-    let a = rw (c.deref-in-loop-at.ensures.value, v) at (c.in_ok-add.ensures.knows so c.loop-at.invariant.knows) in
+    let a = rw (c.deref.ensures.value, v) at (c.in_ok-add.ensures.knows so c.loop-at.invariant.knows) in
     let e = batch_next os new c.loop-at.batch.heads.items (plain_insts c.loop-at.module) _ _ first (inst_with x.opcode (drop first new)) kept.1 c.in_ok-close.ensures.added c.in_ok-settle.ensures.same in
     let l = length-append so (inst_with x.opcode (drop first new) ∷ []) in
     record {

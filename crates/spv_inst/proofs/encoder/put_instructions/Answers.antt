@@ -25,4 +25,4 @@ loop-number-preserved c =
     let e = c.inst-item.is ∙ ap (λ (xs : List Inst). get_or xs i c.inst-item.result) c.deref-inst-items.ensures.value in
     let h : i < length items = omega arith in
     put_step c.args.table.now items _ _ c.args.module.now.header _ _ i c.inst-item.result c.inst-item.result p h e (c.in-Ok.ensures.added (map plain_inst (take i items)) p.knows)
-    (rw c.as_slice-in-loop-number.ensures.value at (c.in_ok-add.ensures.knows (map plain_inst (take i items)) p.knows)) c.in-Ok.ensures.short
+    (rw c.as_slice.ensures.value at (c.in_ok-add.ensures.knows (map plain_inst (take i items)) p.knows)) c.in-Ok.ensures.short

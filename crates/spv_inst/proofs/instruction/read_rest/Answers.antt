@@ -1,4 +1,4 @@
-use Rattle.std.proofs.Common.{◌≡◌, ◌≤◌, ◌-◌, ◌++◌, ◌∷◌, [], ◌∙◌, length, take, drop, refl, ap, arith, length-append}
+use Rattle.std.proofs.Common.{◌≡◌, ◌-◌, ◌++◌, ◌∷◌, [], ◌∙◌, length, take, drop, refl, ap, arith, length-append}
 use Rattle.std.proofs.lemmas.List.{take-append-le, drop-append-le, take_all, length-drop}
 use Rattle.spv_inst.specs.inner.Pending.{plain_slot}
 use Rattle.spv_module.specs.Module.{plain_operands}

@@ -1,6 +1,6 @@
 use Rattle.std.proofs.Common.{◌≡◌, ◌≤◌, ◌+◌, ◌-◌, length, map, take, drop}
 use Rattle.spv_table.specs.Table.{Table}
-use Rattle.spv_inst.specs.inner.Form.{form_of}
+use Rattle.spv_table.specs.inner.Form.{form_of}
 use Rattle.spv_module.specs.Operand.{Context}
 use Rattle.spv_module.specs.Module.{plain_operands}
 use Rattle.spv_inst.specs.inner.Reading.{between}
@@ -17,7 +17,7 @@ invariant-loop-at l = record {
   kept : take (length l.fn.operands.items) l.operands.items ≡ l.fn.operands.items;
   few : length l.operands.items + l.fn.first ≤ length l.fn.operands.items + l.at;
   front : (G : Table) (c : Context) → l.forms ≡ map form_of G.kinds
-      → Sofar G c (map due (items_of l.fn.items)) (between l.image l.fn.first l.end) (plain_operands (drop (length l.fn.operands.items) l.operands.items)) (map due (items_of l.items)) (between l.image l.at l.end) (l.at - l.fn.first);
+      → Sofar G c (map due (items_of l.fn.items.left.now)) (between l.image l.fn.first l.end) (plain_operands (drop (length l.fn.operands.items) l.operands.items)) (map due (items_of l.items.left.now)) (between l.image l.at l.end) (l.at - l.fn.first);
 }
 
 abbrev pub decreases-loop-at : goal.decreases-loop-at

@@ -41,5 +41,5 @@ loop-at-preserved c =
           let G = c.args.table.now in
           word_next G k _ _ _ _ _ _ _ c.in-Some.next.kind c.in-Some-plain_word.plain.kinds.now c.args.image.now c.args.first c.loop-at.at c.args.end _ _ (c.loop-at.invariant.front k e) f t c.requires.fits c.in-Some.ensures c.word.ensures
           (c.in-Some-plain_word.ensures _ (c.form_in-form.ensures G e)) (rw i (pl ∙ plain-push (drop n os) _ o refl))
-          (due_joined c.in-Some-plain_word.plain.kinds.now c.in-Some.next.kinds.now c.in-Some-joined.due.now (map due (items_of c.in-Some.next.items.now)) c.in-Some-joined.ensures);
+          (due_joined c.in-Some-plain_word.plain.kinds.now c.in-Some.next.kinds.now c.in-Some-joined.due.now (map due (items_of c.in-Some.next.items.left.now)) c.in-Some-joined.ensures);
     }

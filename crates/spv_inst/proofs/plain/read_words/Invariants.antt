@@ -1,5 +1,5 @@
 use Rattle.std.proofs.Common.{◌≡◌, ◌≤◌, ◌+◌, ◌-◌, length, map, take, drop}
-use Rattle.spv_inst.specs.inner.Form.{form_of}
+use Rattle.spv_table.specs.inner.Form.{form_of}
 use Rattle.spv_module.specs.Operand.{Context}
 use Rattle.spv_module.specs.Module.{plain_operands}
 use Rattle.spv_inst.specs.inner.Reading.{between}
@@ -16,7 +16,7 @@ invariant-loop-at l = record {
   kept : take (length l.fn.operands.items) l.operands.items ≡ l.fn.operands.items;
   few : length l.operands.items + l.fn.first ≤ length l.fn.operands.items + l.at;
   front : (c : Context) → l.forms ≡ map form_of l.table.kinds
-      → Sofar l.table c (map due (items_of l.fn.items)) (between l.image l.fn.first l.end) (plain_operands (drop (length l.fn.operands.items) l.operands.items)) (due_first l.kinds l.items) (between l.image l.at l.end) (l.at - l.fn.first);
+      → Sofar l.table c (map due (items_of l.fn.items.left.now)) (between l.image l.fn.first l.end) (plain_operands (drop (length l.fn.operands.items) l.operands.items)) (due_first l.kinds l.items.left.now) (between l.image l.at l.end) (l.at - l.fn.first);
 }
 
 abbrev pub decreases-loop-at : goal.decreases-loop-at

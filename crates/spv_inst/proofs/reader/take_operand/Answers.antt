@@ -1,6 +1,6 @@
 use Rattle.std.proofs.Common.{◌≡◌, ◌<◌, ◌≤◌, ◌∙◌, sym, ap, arith}
 use Rattle.spv_table.specs.Table.{kind_of}
-use Rattle.spv_inst.specs.declared.form.Leaf.TheVariants as leaf
+use Rattle.spv_table.specs.declared.form.Leaf.TheVariants as leaf
 use Rattle.spv_module.specs.Shape.{AsType, AsResult, AsId, AsWord, AsNumber, AsText, AsValue, AsMask, integer_shape}
 use Rattle.spv_module.specs.Spelling.{Takes}
 use Rattle.spv_inst.specs.Reading.{enumerants_at}

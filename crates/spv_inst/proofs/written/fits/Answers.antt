@@ -1,5 +1,5 @@
 use Rattle.std.proofs.Common.{◌≡◌, ◌∙◌, refl, sym, ap}
-use Rattle.spv_inst.specs.declared.form.Leaf.TheVariants as leaf
+use Rattle.spv_table.specs.declared.form.Leaf.TheVariants as leaf
 use Rattle.spv_module.specs.Module.{plain_operand}
 use Rattle.spv_module.specs.Shape.{AsNumber, AsWord, integer_shape}
 use Rattle.spv_inst.specs.inner.Written.{is_fit}
