@@ -1,4 +1,4 @@
-//! What shows that a rule on branches is broken (rules F1 to F4).
+//! What shows that a rule on branches is broken (the rules F).
 #![tactic(auto)]
 
 mod evidence;

@@ -1,4 +1,4 @@
--- What a refusal by F1 to F4 says. [own]
+-- What a refusal by the rules F says. [own]
 use Rattle.std.specs.Prelude.{◌≡◌, List}
 use Rattle.spv_table.specs.Table.{Table}
 use Rattle.spv_module.specs.Operand.{PlainInst}
@@ -8,7 +8,7 @@ use Rattle.spv_layout.specs.First.{IsFirst}
 use Rattle.spv_layout.specs.Place.{first_word_of}
 use Rattle.spv_branches.specs.Broken.{Broken}
 
--- What a refusal by F1 to F4 says: want of memory, or the first broken of these rules and the first word of its
+-- What a refusal by the rules F says: want of memory, or the first broken of these rules and the first word of its
 -- instruction.
 abbrev pub IsRefusal : Table → List PlainInst → Stop → Type 0
 IsRefusal G is Memory = Unit {0}

@@ -1,4 +1,4 @@
-//! The first of the rules F1 to F4 that a module breaks.
+//! The first of the rules F that a module breaks.
 
 ghost use Rattle.std.specs.Prelude.{◌≡◌, ◌≤◌, ◌<◌, ◌+◌, ℕ, List, false, length, sum_by, IsTrue};
 ghost use Rattle.std.specs.Prelude.{IfOk, IfErr, MatchOption};
@@ -40,7 +40,7 @@ fn marks_for(alloc: Global, count: usize, has_phis: bool) -> Result<Vec<bool>, A
     vec![in alloc; false; room]
 }
 
-/// The first of the rules F1 to F4 that is broken.
+/// The first of the rules F that is broken.
 fn first_fault(alloc: Global, code: &Code<'_, '_>) -> Result<Option<Found>, AllocError>
     requires { (G : Table) × IsCode G code.now }
     ensures { IfOk result (λ o. (G : Table) → IsCode G code.now

@@ -1,4 +1,4 @@
-//! What the rules F1 to F4 ask of an instruction.
+//! What the rules F ask of an instruction.
 
 ghost use Rattle.std.specs.Prelude.{◌≡◌, ◌<◌, ℕ, true, false, length, IsTrue, MatchBool};
 ghost use Rattle.spv_table.specs.Table.{Table};

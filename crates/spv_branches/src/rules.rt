@@ -1,4 +1,4 @@
-//! Which of the rules F1 to F4 is broken first at an instruction.
+//! Which of the rules F is broken first at an instruction.
 
 ghost use Rattle.std.specs.Prelude.{◌≡◌, ◌<◌, ℕ, false, length, IfNone};
 ghost use Rattle.spv_table.specs.Table.{Table};

@@ -23,7 +23,7 @@ pub record IsFlow (G : Table) (is : List PlainInst) (flow : Flow) : Type 0 where
   pub calls : IsUnbroken (call_rules.Broken is) 8
   pub definitions : CountsDefinitions is (definitions_in flow)
 
--- The rule at the instruction is the first that is broken: of F1 to F4, or where none is, of A1 and A2, or where none
+-- The rule at the instruction is the first that is broken: of the rules F, or where none is, of A1 and A2, or where none
 -- of them is either, G1.
 pub data IsFirstOfFlow (G : Table) (is : List PlainInst) (r : Rule) (n : ℕ) : Type 0 where
   of_branches : IsFirst (branch_rules.Broken G is) 6 r n → IsFirstOfFlow G is r n

@@ -59,7 +59,7 @@ fn cycle_at(plan: &Plan, call: u32) -> Stop
 ///
 /// A `Fault` tells the first rule that is broken, with its instruction and that instruction's first word (words and
 /// instructions from 0). Each of these comes only where none of those before is broken anywhere:
-/// - F1 to F4: where branches lead, and which parents each OpPhi names (SPIR-V Specification 1.6, sections 2.4 and
+/// - The rules F: where branches lead, and which parents each OpPhi names (SPIR-V Specification 1.6, sections 2.4 and
 ///   2.16). See
 ///   `check_branches`.
 /// - A1: an instruction, no OpPhi, uses a local value that is not defined on some walk to it; A2: an OpPhi's pair has

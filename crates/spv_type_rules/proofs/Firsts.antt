@@ -21,32 +21,6 @@ pub keeps_below : (G : Table) (is : List PlainInst) (n : ℕ) (i : PlainInst) (b
     → (31 < b → Keeps G is rule.Y7 n i)
     → (32 < b → Keeps G is rule.Y8 n i)
     → (q : Rule) → rank_of q < b → Keeps G is q n i
-keeps_below G is n i b y2 y3 y4 y5 y6 y7 y8 rule.I1 l = tt
-keeps_below G is n i b y2 y3 y4 y5 y6 y7 y8 rule.I2 l = tt
-keeps_below G is n i b y2 y3 y4 y5 y6 y7 y8 rule.I3 l = tt
-keeps_below G is n i b y2 y3 y4 y5 y6 y7 y8 rule.I4 l = tt
-keeps_below G is n i b y2 y3 y4 y5 y6 y7 y8 rule.I5 l = tt
-keeps_below G is n i b y2 y3 y4 y5 y6 y7 y8 rule.I6 l = tt
-keeps_below G is n i b y2 y3 y4 y5 y6 y7 y8 rule.I7 l = tt
-keeps_below G is n i b y2 y3 y4 y5 y6 y7 y8 rule.I8 l = tt
-keeps_below G is n i b y2 y3 y4 y5 y6 y7 y8 rule.I9 l = tt
-keeps_below G is n i b y2 y3 y4 y5 y6 y7 y8 rule.I10 l = tt
-keeps_below G is n i b y2 y3 y4 y5 y6 y7 y8 rule.I11 l = tt
-keeps_below G is n i b y2 y3 y4 y5 y6 y7 y8 rule.I12 l = tt
-keeps_below G is n i b y2 y3 y4 y5 y6 y7 y8 rule.P1 l = tt
-keeps_below G is n i b y2 y3 y4 y5 y6 y7 y8 rule.L1 l = tt
-keeps_below G is n i b y2 y3 y4 y5 y6 y7 y8 rule.L2 l = tt
-keeps_below G is n i b y2 y3 y4 y5 y6 y7 y8 rule.D1 l = tt
-keeps_below G is n i b y2 y3 y4 y5 y6 y7 y8 rule.D2 l = tt
-keeps_below G is n i b y2 y3 y4 y5 y6 y7 y8 rule.D3 l = tt
-keeps_below G is n i b y2 y3 y4 y5 y6 y7 y8 rule.D4 l = tt
-keeps_below G is n i b y2 y3 y4 y5 y6 y7 y8 rule.D5 l = tt
-keeps_below G is n i b y2 y3 y4 y5 y6 y7 y8 rule.Y1 l = tt
-keeps_below G is n i b y2 y3 y4 y5 y6 y7 y8 rule.C1 l = tt
-keeps_below G is n i b y2 y3 y4 y5 y6 y7 y8 rule.C2 l = tt
-keeps_below G is n i b y2 y3 y4 y5 y6 y7 y8 rule.M1 l = tt
-keeps_below G is n i b y2 y3 y4 y5 y6 y7 y8 rule.E1 l = tt
-keeps_below G is n i b y2 y3 y4 y5 y6 y7 y8 rule.E2 l = tt
 keeps_below G is n i b y2 y3 y4 y5 y6 y7 y8 rule.Y2 l = y2 l
 keeps_below G is n i b y2 y3 y4 y5 y6 y7 y8 rule.Y3 l = y3 l
 keeps_below G is n i b y2 y3 y4 y5 y6 y7 y8 rule.Y4 l = y4 l
@@ -54,13 +28,7 @@ keeps_below G is n i b y2 y3 y4 y5 y6 y7 y8 rule.Y5 l = y5 l
 keeps_below G is n i b y2 y3 y4 y5 y6 y7 y8 rule.Y6 l = y6 l
 keeps_below G is n i b y2 y3 y4 y5 y6 y7 y8 rule.Y7 l = y7 l
 keeps_below G is n i b y2 y3 y4 y5 y6 y7 y8 rule.Y8 l = y8 l
-keeps_below G is n i b y2 y3 y4 y5 y6 y7 y8 rule.F1 l = tt
-keeps_below G is n i b y2 y3 y4 y5 y6 y7 y8 rule.F2 l = tt
-keeps_below G is n i b y2 y3 y4 y5 y6 y7 y8 rule.F3 l = tt
-keeps_below G is n i b y2 y3 y4 y5 y6 y7 y8 rule.F4 l = tt
-keeps_below G is n i b y2 y3 y4 y5 y6 y7 y8 rule.A1 l = tt
-keeps_below G is n i b y2 y3 y4 y5 y6 y7 y8 rule.A2 l = tt
-keeps_below G is n i b y2 y3 y4 y5 y6 y7 y8 rule.G1 l = tt
+keeps_below G is n i b y2 y3 y4 y5 y6 y7 y8 _ l = tt
 
 untrue : (b : Bool) → b ≡ false → b ≡ true → ⊥
 untrue true e y = let no : true ≡ false = e in cc
@@ -119,45 +87,7 @@ first_y8 G is n i y2 y3 y4 y5 y6 y7 never = record {
 
 rank_below : (q : Rule) → rank_of q < 40
 rank_below rule.I1 = lit< tt
-rank_below rule.I2 = lit< tt
-rank_below rule.I3 = lit< tt
-rank_below rule.I4 = lit< tt
-rank_below rule.I5 = lit< tt
-rank_below rule.I6 = lit< tt
-rank_below rule.I7 = lit< tt
-rank_below rule.I8 = lit< tt
-rank_below rule.I9 = lit< tt
-rank_below rule.I10 = lit< tt
-rank_below rule.I11 = lit< tt
-rank_below rule.I12 = lit< tt
-rank_below rule.P1 = lit< tt
-rank_below rule.L1 = lit< tt
-rank_below rule.L2 = lit< tt
-rank_below rule.D1 = lit< tt
-rank_below rule.D2 = lit< tt
-rank_below rule.D3 = lit< tt
-rank_below rule.D4 = lit< tt
-rank_below rule.D5 = lit< tt
-rank_below rule.Y1 = lit< tt
-rank_below rule.C1 = lit< tt
-rank_below rule.C2 = lit< tt
-rank_below rule.M1 = lit< tt
-rank_below rule.E1 = lit< tt
-rank_below rule.E2 = lit< tt
-rank_below rule.Y2 = lit< tt
-rank_below rule.Y3 = lit< tt
-rank_below rule.Y4 = lit< tt
-rank_below rule.Y5 = lit< tt
-rank_below rule.Y6 = lit< tt
-rank_below rule.Y7 = lit< tt
-rank_below rule.Y8 = lit< tt
-rank_below rule.F1 = lit< tt
-rank_below rule.F2 = lit< tt
-rank_below rule.F3 = lit< tt
-rank_below rule.F4 = lit< tt
-rank_below rule.A1 = lit< tt
-rank_below rule.A2 = lit< tt
-rank_below rule.G1 = lit< tt
+rank_below _ = lit< tt
 
 pub all_kept : (G : Table) (is : List PlainInst) (n : ℕ) (i : PlainInst) → Keeps G is rule.Y2 n i → Keeps G is rule.Y3 n i → Keeps G is rule.Y4 n i → IsTyped G is n i → KeepsFunctions is n i
     → KeepsReturns is n i → CallsAreSound is i → (q : Rule) → Keeps G is q n i

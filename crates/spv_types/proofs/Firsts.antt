@@ -23,74 +23,14 @@ use Rattle.spv_types.specs.inner.Pass.{KeepsRule, AreKept, IsFirstFault}
 -- The rules of the stage of Y1 demand nothing else.
 
 capable_first : (G : Table) (is : List PlainInst) (n : ℕ) (i : PlainInst) (r : Rule) → stage_of r ≡ 4 → capabilities.Keeps G is r n i
-capable_first G is n i rule.I1 s = tt
-capable_first G is n i rule.I2 s = tt
-capable_first G is n i rule.I3 s = tt
-capable_first G is n i rule.I4 s = tt
-capable_first G is n i rule.I5 s = tt
-capable_first G is n i rule.I6 s = tt
-capable_first G is n i rule.I7 s = tt
-capable_first G is n i rule.I8 s = tt
-capable_first G is n i rule.I9 s = tt
-capable_first G is n i rule.I10 s = tt
-capable_first G is n i rule.I11 s = tt
-capable_first G is n i rule.I12 s = tt
-capable_first G is n i rule.P1 s = tt
-capable_first G is n i rule.L1 s = tt
-capable_first G is n i rule.L2 s = tt
-capable_first G is n i rule.D1 s = tt
-capable_first G is n i rule.D2 s = tt
-capable_first G is n i rule.D3 s = tt
-capable_first G is n i rule.D4 s = tt
-capable_first G is n i rule.D5 s = tt
-capable_first G is n i rule.Y1 s = tt
 capable_first G is n i rule.C1 s = absurd (let wrong : 5 ≡ 4 = s in omega arith)
 capable_first G is n i rule.C2 s = absurd (let wrong : 5 ≡ 4 = s in omega arith)
 capable_first G is n i rule.M1 s = absurd (let wrong : 5 ≡ 4 = s in omega arith)
 capable_first G is n i rule.E1 s = absurd (let wrong : 5 ≡ 4 = s in omega arith)
 capable_first G is n i rule.E2 s = absurd (let wrong : 5 ≡ 4 = s in omega arith)
-capable_first G is n i rule.Y2 s = tt
-capable_first G is n i rule.Y3 s = tt
-capable_first G is n i rule.Y4 s = tt
-capable_first G is n i rule.Y5 s = tt
-capable_first G is n i rule.Y6 s = tt
-capable_first G is n i rule.Y7 s = tt
-capable_first G is n i rule.Y8 s = tt
-capable_first G is n i rule.F1 s = tt
-capable_first G is n i rule.F2 s = tt
-capable_first G is n i rule.F3 s = tt
-capable_first G is n i rule.F4 s = tt
-capable_first G is n i rule.A1 s = tt
-capable_first G is n i rule.A2 s = tt
-capable_first G is n i rule.G1 s = tt
+capable_first G is n i _ s = tt
 
 typed_first : (G : Table) (is : List PlainInst) (n : ℕ) (i : PlainInst) (r : Rule) → stage_of r ≡ 4 → rules.Keeps G is r n i
-typed_first G is n i rule.I1 s = tt
-typed_first G is n i rule.I2 s = tt
-typed_first G is n i rule.I3 s = tt
-typed_first G is n i rule.I4 s = tt
-typed_first G is n i rule.I5 s = tt
-typed_first G is n i rule.I6 s = tt
-typed_first G is n i rule.I7 s = tt
-typed_first G is n i rule.I8 s = tt
-typed_first G is n i rule.I9 s = tt
-typed_first G is n i rule.I10 s = tt
-typed_first G is n i rule.I11 s = tt
-typed_first G is n i rule.I12 s = tt
-typed_first G is n i rule.P1 s = tt
-typed_first G is n i rule.L1 s = tt
-typed_first G is n i rule.L2 s = tt
-typed_first G is n i rule.D1 s = tt
-typed_first G is n i rule.D2 s = tt
-typed_first G is n i rule.D3 s = tt
-typed_first G is n i rule.D4 s = tt
-typed_first G is n i rule.D5 s = tt
-typed_first G is n i rule.Y1 s = tt
-typed_first G is n i rule.C1 s = tt
-typed_first G is n i rule.C2 s = tt
-typed_first G is n i rule.M1 s = tt
-typed_first G is n i rule.E1 s = tt
-typed_first G is n i rule.E2 s = tt
 typed_first G is n i rule.Y2 s = absurd (let wrong : 5 ≡ 4 = s in omega arith)
 typed_first G is n i rule.Y3 s = absurd (let wrong : 5 ≡ 4 = s in omega arith)
 typed_first G is n i rule.Y4 s = absurd (let wrong : 5 ≡ 4 = s in omega arith)
@@ -98,13 +38,7 @@ typed_first G is n i rule.Y5 s = absurd (let wrong : 5 ≡ 4 = s in omega arith)
 typed_first G is n i rule.Y6 s = absurd (let wrong : 5 ≡ 4 = s in omega arith)
 typed_first G is n i rule.Y7 s = absurd (let wrong : 5 ≡ 4 = s in omega arith)
 typed_first G is n i rule.Y8 s = absurd (let wrong : 5 ≡ 4 = s in omega arith)
-typed_first G is n i rule.F1 s = tt
-typed_first G is n i rule.F2 s = tt
-typed_first G is n i rule.F3 s = tt
-typed_first G is n i rule.F4 s = tt
-typed_first G is n i rule.A1 s = tt
-typed_first G is n i rule.A2 s = tt
-typed_first G is n i rule.G1 s = tt
+typed_first G is n i _ s = tt
 
 -- A rule of capabilities that is broken is one of five.
 record IsEarly (r : Rule) : Type 0 where
@@ -112,46 +46,12 @@ record IsEarly (r : Rule) : Type 0 where
   rank : rank_of r ≤ 25
 
 early : (G : Table) (is : List PlainInst) (n : ℕ) (i : PlainInst) (r : Rule) → ¬ (capabilities.Keeps G is r n i) → IsEarly r
-early G is n i rule.I1 never = absurd (never tt)
-early G is n i rule.I2 never = absurd (never tt)
-early G is n i rule.I3 never = absurd (never tt)
-early G is n i rule.I4 never = absurd (never tt)
-early G is n i rule.I5 never = absurd (never tt)
-early G is n i rule.I6 never = absurd (never tt)
-early G is n i rule.I7 never = absurd (never tt)
-early G is n i rule.I8 never = absurd (never tt)
-early G is n i rule.I9 never = absurd (never tt)
-early G is n i rule.I10 never = absurd (never tt)
-early G is n i rule.I11 never = absurd (never tt)
-early G is n i rule.I12 never = absurd (never tt)
-early G is n i rule.P1 never = absurd (never tt)
-early G is n i rule.L1 never = absurd (never tt)
-early G is n i rule.L2 never = absurd (never tt)
-early G is n i rule.D1 never = absurd (never tt)
-early G is n i rule.D2 never = absurd (never tt)
-early G is n i rule.D3 never = absurd (never tt)
-early G is n i rule.D4 never = absurd (never tt)
-early G is n i rule.D5 never = absurd (never tt)
-early G is n i rule.Y1 never = absurd (never tt)
 early G is n i rule.C1 never = record { stage = refl; rank = omega arith }
 early G is n i rule.C2 never = record { stage = refl; rank = omega arith }
 early G is n i rule.M1 never = record { stage = refl; rank = omega arith }
 early G is n i rule.E1 never = record { stage = refl; rank = omega arith }
 early G is n i rule.E2 never = record { stage = refl; rank = omega arith }
-early G is n i rule.Y2 never = absurd (never tt)
-early G is n i rule.Y3 never = absurd (never tt)
-early G is n i rule.Y4 never = absurd (never tt)
-early G is n i rule.Y5 never = absurd (never tt)
-early G is n i rule.Y6 never = absurd (never tt)
-early G is n i rule.Y7 never = absurd (never tt)
-early G is n i rule.Y8 never = absurd (never tt)
-early G is n i rule.F1 never = absurd (never tt)
-early G is n i rule.F2 never = absurd (never tt)
-early G is n i rule.F3 never = absurd (never tt)
-early G is n i rule.F4 never = absurd (never tt)
-early G is n i rule.A1 never = absurd (never tt)
-early G is n i rule.A2 never = absurd (never tt)
-early G is n i rule.G1 never = absurd (never tt)
+early G is n i _ never = absurd (never tt)
 
 -- No rule that comes before those of types.
 untyped : (G : Table) (is : List PlainInst) (n : ℕ) (i : PlainInst) (b : ℕ) → b ≤ 25 → (q : Rule) → rank_of q < b → rules.Keeps G is q n i

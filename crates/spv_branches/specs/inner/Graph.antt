@@ -96,7 +96,7 @@ pub record HasSameLabels (G : Table) (is : List PlainInst) (n : ℕ) : Type 0 wh
   pub one : IsUsedAt G is n 1 id Label
   pub two : IsUsedAt G is n 2 id Label
 
--- Of the rules F1 to F4 the first that is broken at instruction n; none where none is.
+-- Of the rules F the first that is broken at instruction n; none where none is.
 abbrev pub IsFirstAt : Table → List PlainInst → ℕ → Option Rule → Type 0
 IsFirstAt G is n o =
     MatchOption o ((q : Rule) → stage_of q ≡ 6 → ¬ (Broken G is q n))
