@@ -10,5 +10,5 @@ mod stream;
 
 pub use explained::{Explained, explain};
 pub use spv_evidence::{EntryPart, Evidence, Lister, Side, Typed};
-pub use spv_rules::{Code, rules_text, sentence, word_sentence};
+pub use spv_rules::{Code, rules_text};
 pub use stream::{Explanation, explain_bytes, explain_stream};

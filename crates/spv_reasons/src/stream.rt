@@ -19,7 +19,7 @@ use spv_evidence::Evidence;
 use spv_fault_lines::{About, due_lines, evidence_lines};
 use spv_inst::{listed_or_dead, one_death, one_listing};
 use spv_module::{Fault, Module, Rule};
-use spv_rules::{sentence, word_sentence};
+use spv_rules::Code;
 use spv_table::{Memory, Table};
 use spv_verdict::{Judgment, line_for};
 use spv_words::{Image, Sink, Source, WordError, image_of, read_image, word, write_all};
@@ -38,11 +38,11 @@ pub struct Explanation {
     pub lines: String,
 }
 
-/// The line of a sentence.
-fn rule_line(alloc: Global, sentence: &str) -> Result<String, AllocError> {
+/// The line of what a code says.
+fn rule_line(alloc: Global, code: Code) -> Result<String, AllocError> {
     let mut text = String::new(alloc);
     text.push_str("rule: ")?;
-    text.push_str(sentence)?;
+    text.push_str(code.sentence())?;
     text.push_str("\n")?;
     Ok(text)
 }
@@ -94,7 +94,7 @@ fn broken_told(
         table,
         module,
     };
-    let mut lines = rule_line(alloc, sentence(fault.rule))?;
+    let mut lines = rule_line(alloc, Code::Rule(fault.rule))?;
     at_lines(about, &mut lines, fault)?;
     evidence_lines(about, &mut lines, fault.inst, evidence)?;
     Ok(Explanation {
@@ -127,7 +127,7 @@ fn malformed_told(
     ensures verdict { IfOk result (λ t. t.judgment ≡ judgments.Broken fault) }
     ensures lines { IfOk result (λ t. AreIn (dead_lines_of evidence.now) (string_bytes t.lines)) }
 {
-    let mut lines = rule_line(alloc, sentence(fault.rule))?;
+    let mut lines = rule_line(alloc, Code::Rule(fault.rule))?;
     lines.push_str("words:")?;
     push_words(&mut lines, image, place, end_of(image, place))?;
     lines.push_str("\n")?;
@@ -187,7 +187,7 @@ fn refused_told(alloc: Global, code: WordError) -> Result<Explanation, AllocErro
 {
     Ok(Explanation {
         judgment: Judgment::Refused(code),
-        lines: rule_line(alloc, word_sentence(code))?,
+        lines: rule_line(alloc, Code::Word(code))?,
     })
 }
 

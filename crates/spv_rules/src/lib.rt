@@ -1,9 +1,7 @@
 //! The codes that a verdict may tell, by name, and what each says to a person.
 #![tactic(auto)]
 
-mod meanings;
 mod rules;
-mod sentences;
+mod table;
 
 pub use rules::{Code, rules_text};
-pub use sentences::{sentence, word_sentence};

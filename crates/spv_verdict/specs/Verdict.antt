@@ -1,33 +1,17 @@
 -- The verdict line (own): which one a stream of bytes has.
-use Rattle.std.specs.Prelude.{◌+◌, ◌++◌, ℕ, List, [], ◌∷◌, drop, slice_index, get_or, codes, decimal}
-use denote.Enum.Declared.{tag_of}
+use Rattle.std.specs.Prelude.{◌+◌, ◌++◌, ℕ, List, [], ◌∷◌, drop, slice_index, codes, decimal}
 use Rattle.spv_words.specs.Header.{IsFirstBroken, IsModule}
 use Rattle.spv_words.specs.declared.words.Order.{Order}
 use Rattle.spv_words.specs.declared.words.WordError.{WordError}
-use Rattle.spv_words.specs.contracts.words.WordError as word
 use Rattle.spv_table.specs.Table.{Table}
 use Rattle.spv_module.specs.Operand.{PlainInst}
 use Rattle.spv_module.specs.Instruction.{IsListing}
 use Rattle.spv_module.specs.Malformed.{IsMalformedAt}
 use Rattle.spv_module.specs.declared.fault.Rule.{Rule}
-use Rattle.spv_layout.specs.First.{rank_of}
 use Rattle.spv_layout.specs.Place.{first_word_of}
+use Rattle.spv_rules.specs.Rules.{code_text, rule_text}
 use Rattle.spv_verdict.specs.Broken.{IsFirstOfAll}
 use Rattle.spv_verdict.specs.Valid.{IsValid}
-
--- the code of a rule on words, as text: `W` and a digit, for the first variant of `WordError` the digit 1 [own]
-abbrev pub code_text : WordError → List ℕ
-code_text w = codes "W" ++ ((49 + tag_of word.the_type w) ∷ [])
-
--- the code of any other rule, as text: the rules in their order [own]
-abbrev pub rule_text : Rule → List ℕ
-rule_text r = get_or
-    (codes "I1" ∷ codes "I2" ∷ codes "I3" ∷ codes "I4" ∷ codes "I5" ∷ codes "I6" ∷ codes "I7" ∷
-    codes "I8" ∷ codes "I9" ∷ codes "I10" ∷ codes "I11" ∷ codes "I12" ∷ codes "P1" ∷ codes "L1" ∷
-    codes "L2" ∷ codes "D1" ∷ codes "D2" ∷ codes "D3" ∷ codes "D4" ∷ codes "D5" ∷ codes "Y1" ∷
-    codes "C1" ∷ codes "C2" ∷ codes "M1" ∷ codes "E1" ∷ codes "E2" ∷ codes "Y2" ∷ codes "Y3" ∷
-    codes "Y4" ∷ codes "Y5" ∷ codes "Y6" ∷ codes "Y7" ∷ codes "Y8" ∷ codes "F1" ∷ codes "F2" ∷
-    codes "F3" ∷ codes "F4" ∷ codes "A1" ∷ codes "A2" ∷ codes "G1" ∷ []) (rank_of r) []
 
 -- a line feed ends the line [own]
 abbrev pub line_end : List ℕ

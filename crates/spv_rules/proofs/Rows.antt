@@ -1,0 +1,161 @@
+-- What the rows of the table have.
+use Rattle.std.proofs.Common.{◌≡◌, ◌∙◌, ◌<◌, ◌≤◌, ◌+◌, ◌-◌, ◌++◌, ℕ, zero, suc, nat_le, List, [], ◌∷◌, refl, sym, ap, true, Some, option_map, length, map, get_or, arith}
+use Rattle.std.specs.Prelude.{slice_get}
+use Rattle.std.specs.List.{range_with_len}
+use denote.Enum.Declared.{tag_of, variants}
+use denote.Enum.Enum.{tag_below}
+use Rattle.std.proofs.lemmas.Bool.{leb-true}
+use Rattle.std.proofs.lemmas.List.FromFn.{get_or-range_with_len}
+use Rattle.std.proofs.lemmas.List.{length-map}
+use Rattle.std.proofs.lemmas.Option.{slice_get-map, slice_get-get_or, slice_get_within, get_or_from_slice_get, same_Some}
+use Rattle.spv_module.specs.contracts.fault.Rule as rule
+use Rattle.spv_words.specs.contracts.words.WordError as word
+use Rattle.spv_rules.specs.declared.rules.Code.{Code}
+use Rattle.spv_rules.specs.declared.rules.Code.TheVariants.{Word, Rule}
+use Rattle.spv_rules.specs.declared.table.TheConstants.{WORD_ROWS, FORM_ROWS, TYPE_ROWS}
+use Rattle.spv_rules.specs.Rules.{name_of, number_of, place_of, sentence_of, without_last}
+use Rattle.spv_rules.specs.Table.{Row, Text, rows}
+use Rattle.spv_rules.specs.inner.Held.{Held, plain}
+use Rattle.spv_rules.proofs.Tags.{one_variant}
+
+-- ---- all rows at once
+
+named : map (λ (row : Row). row.2.now) rows ≡ map (λ (row : Row). name_of row.0) rows
+unfolding rows
+named = refl
+
+short : map (λ (row : Row). nat_le (length row.2.now) 3) rows ≡ map (λ (row : Row). true) rows
+unfolding rows
+short = refl
+
+numbered : map (λ (row : Row). row.1) rows ≡ map (λ (row : Row). number_of row.0) rows
+unfolding rows
+numbered = refl
+
+named_for_c : map (λ (row : Row). row.3.now) rows ≡ map (λ (row : Row). row.2.now ++ 0 ∷ []) rows
+unfolding rows
+named_for_c = refl
+
+ended : map (λ (row : Row). row.4.now) rows ≡ map (λ (row : Row). without_last row.4.now ++ 0 ∷ []) rows
+unfolding rows
+ended = refl
+
+placed : map (λ (row : Row). place_of row.0) rows ≡ range_with_len 0 49
+unfolding rows
+placed = refl
+
+-- ---- a row by its place
+
+left : (xs ys : List Row) (k : ℕ) → k < length xs → slice_get (xs ++ ys) k ≡ slice_get xs k
+left [] ys k l = absurd (omega arith)
+left (x ∷ xs) ys zero l = refl
+left (x ∷ xs) ys (suc k) l = left xs ys k (omega arith)
+
+right : (xs ys : List Row) (k : ℕ) → slice_get (xs ++ ys) (length xs + k) ≡ slice_get ys k
+right [] ys k = let e : 0 + k ≡ k = omega arith in ap (slice_get ys) e
+right (x ∷ xs) ys k = let e : suc (length xs) + k ≡ suc (length xs + k) = omega arith in ap (slice_get (x ∷ xs ++ ys)) e ∙ right xs ys k
+
+-- what lists made of the rows have at one place
+at_place : {A : Type 0} (f g : Row → A) → map f rows ≡ map g rows → (n : ℕ) (row : Row) → slice_get rows n ≡ Some row → f row ≡ g row
+at_place f g e n row h =
+    same_Some (f row) (g row) (ap (option_map f) (sym h) ∙ sym (slice_get-map f rows n) ∙ ap (λ xs. slice_get xs n) e ∙ slice_get-map g rows n ∙ ap (option_map g) h)
+
+within_part : (xs ys : List Row) (rs : List Held) (n : ℕ) (d : Held) → map plain rs ≡ xs → n < length xs → slice_get (xs ++ ys) n ≡ Some (plain (get_or rs n d))
+within_part xs ys rs n d e l =
+    let m : length rs ≡ length xs = sym (length-map rs plain) ∙ ap length e in
+    left xs ys n l ∙ ap (λ zs. slice_get zs n) (sym e) ∙ slice_get-map plain rs n ∙ ap (option_map plain) (slice_get-get_or rs n d (omega (arith, m)))
+
+past_part : (xs ys : List Row) (n k : ℕ) → n ≡ length xs + k → slice_get (xs ++ ys) n ≡ slice_get ys k
+past_part xs ys n k e = ap (slice_get (xs ++ ys)) e ∙ right xs ys k
+
+pub in_words : (rs : List Held) (n : ℕ) (d : Held) → map plain rs ≡ WORD_ROWS → n < 9 → slice_get rows n ≡ Some (plain (get_or rs n d))
+unfolding rows
+in_words rs n d e l = within_part WORD_ROWS (FORM_ROWS ++ TYPE_ROWS) rs n d e l
+
+pub in_forms : (rs : List Held) (n : ℕ) (d : Held) → map plain rs ≡ FORM_ROWS → 9 ≤ n → n < 30 → slice_get rows n ≡ Some (plain (get_or rs (n - 9) d))
+unfolding rows
+in_forms rs n d e h l =
+    past_part WORD_ROWS (FORM_ROWS ++ TYPE_ROWS) n (n - 9) (omega (arith, h)) ∙ within_part FORM_ROWS TYPE_ROWS rs (n - 9) d e (omega (arith, h, l))
+
+pub in_types : (rs : List Held) (n : ℕ) (d : Held) → map plain rs ≡ TYPE_ROWS → 30 ≤ n → n < 49 → slice_get rows n ≡ Some (plain (get_or rs (n - 30) d))
+unfolding rows
+in_types rs n d e h l =
+    let m : length rs ≡ 19 = sym (length-map rs plain) ∙ ap length e in
+    past_part WORD_ROWS (FORM_ROWS ++ TYPE_ROWS) n (n - 9) (omega (arith, h)) ∙ past_part FORM_ROWS TYPE_ROWS (n - 9) (n - 30) (omega (arith, h)) ∙
+    ap (λ zs. slice_get zs (n - 30)) (sym e) ∙ slice_get-map plain rs (n - 30) ∙ ap (option_map plain) (slice_get-get_or rs (n - 30) d (omega (arith, m, h, l)))
+
+-- ---- a row by its code
+
+pub place_below : (code : Code) → place_of code < 49
+place_below (Word w) = let l : tag_of word.the_type w < 9 = tag_below (variants word.the_type) (word.the_type.to w) in omega (arith, l)
+place_below (Rule r) = let l : tag_of rule.the_type r < 40 = tag_below (variants rule.the_type) (rule.the_type.to r) in omega (arith, l)
+
+one_place : (a b : Code) → place_of a ≡ place_of b → a ≡ b
+one_place (Word a) (Word b) e = ap Word (one_variant word.the_type refl a b e)
+one_place (Word a) (Rule b) e = let l : tag_of word.the_type a < 9 = tag_below (variants word.the_type) (word.the_type.to a) in absurd (omega (arith, l, e))
+one_place (Rule a) (Word b) e = let l : tag_of word.the_type b < 9 = tag_below (variants word.the_type) (word.the_type.to b) in absurd (omega (arith, l, e))
+one_place (Rule a) (Rule b) e = ap Rule (one_variant rule.the_type refl a b (omega (arith, e)))
+
+place_at : (n : ℕ) (row : Row) → slice_get rows n ≡ Some row → place_of row.0 ≡ n
+place_at n row h =
+    let g : slice_get (range_with_len 0 49) n ≡ Some (place_of row.0) = ap (λ xs. slice_get xs n) (sym placed) ∙ slice_get-map (λ (r : Row). place_of r.0) rows n ∙ ap (option_map (λ (r : Row). place_of r.0)) h in
+    let l : n < 49 = slice_get_within (range_with_len 0 49) n (place_of row.0) g in
+    let z : 0 + n ≡ n = omega arith in
+    sym (get_or_from_slice_get (range_with_len 0 49) n (place_of row.0) 0 g) ∙ get_or-range_with_len 0 49 n 0 l ∙ z
+
+-- the row of a code is that code's
+own : (code : Code) (row : Row) → slice_get rows (place_of code) ≡ Some row → row.0 ≡ code
+own code row h = one_place row.0 code (place_at (place_of code) row h)
+
+pub name_at : (n : ℕ) (row : Row) → slice_get rows n ≡ Some row → row.2.now ≡ name_of row.0
+name_at n row h = at_place (λ (r : Row). r.2.now) (λ (r : Row). name_of r.0) named n row h
+
+pub number_at : (n : ℕ) (row : Row) → slice_get rows n ≡ Some row → row.1 ≡ number_of row.0
+number_at n row h = at_place (λ (r : Row). r.1) (λ (r : Row). number_of r.0) numbered n row h
+
+pub number_by : (code : Code) (row : Row) → slice_get rows (place_of code) ≡ Some row → row.1 ≡ number_of code
+number_by code row h = number_at (place_of code) row h ∙ ap number_of (own code row h)
+
+pub name_by : (code : Code) (row : Row) → slice_get rows (place_of code) ≡ Some row → row.2.now ≡ name_of code
+name_by code row h = name_at (place_of code) row h ∙ ap name_of (own code row h)
+
+pub c_name_by : (code : Code) (row : Row) → slice_get rows (place_of code) ≡ Some row → row.3.now ≡ name_of code ++ 0 ∷ []
+c_name_by code row h =
+    at_place (λ (r : Row). r.3.now) (λ (r : Row). r.2.now ++ 0 ∷ []) named_for_c (place_of code) row h ∙ ap (λ xs. xs ++ 0 ∷ []) (name_by code row h)
+
+pub sentence_by : (code : Code) (row : Row) → slice_get rows (place_of code) ≡ Some row → row.4.now ≡ sentence_of code ++ 0 ∷ []
+sentence_by code row h =
+    let told = λ (r : Row). without_last r.4.now in
+    let e : sentence_of code ≡ told row = get_or_from_slice_get (map told rows) (place_of code) (told row) [] (slice_get-map told rows (place_of code) ∙ ap (option_map told) h) in
+    at_place (λ (r : Row). r.4.now) (λ (r : Row). without_last r.4.now ++ 0 ∷ []) ended (place_of code) row h ∙ ap (λ xs. xs ++ 0 ∷ []) (sym e)
+
+pub short_by : (code : Code) (row : Row) → slice_get rows (place_of code) ≡ Some row → length (name_of code) ≤ 3
+short_by code row h =
+    let e : nat_le (length row.2.now) 3 ≡ true = at_place (λ (r : Row). nat_le (length r.2.now) 3) (λ (r : Row). true) short (place_of code) row h in
+    let l : length row.2.now ≤ 3 = leb-true (length row.2.now) 3 e in
+    rw (name_by code row h) at l
+
+how_many : length rows ≡ 49
+unfolding rows
+how_many = refl
+
+-- each code has a row
+pub has_row : (code : Code) → (row : Row) × (slice_get rows (place_of code) ≡ Some row)
+has_row code =
+    let none : Text = record { now = [] } in
+    let other : Row = (code, 0, none, none, none, none) in
+    (get_or rows (place_of code) other, slice_get-get_or rows (place_of code) other (omega (arith, how_many, place_below code)))
+
+-- no code has a name that no row has
+pub nameless : (name : List ℕ) → ((n : ℕ) (row : Row) → n < 49 → slice_get rows n ≡ Some row → ¬ (row.2.now ≡ name))
+    → (code : Code) → ¬ (name ≡ name_of code)
+nameless name none code e =
+    let found = has_row code in
+    none (place_of code) found.0 (place_below code) found.1 (name_by code found.0 found.1 ∙ sym e)
+
+-- and so with numbers
+pub numberless : (number : ℕ) → ((n : ℕ) (row : Row) → n < 49 → slice_get rows n ≡ Some row → ¬ (row.1 ≡ number))
+    → (code : Code) → ¬ (number ≡ number_of code)
+numberless number none code e =
+    let found = has_row code in
+    none (place_of code) found.0 (place_below code) found.1 (number_by code found.0 found.1 ∙ sym e)

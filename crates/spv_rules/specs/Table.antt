@@ -1,0 +1,16 @@
+-- The table of codes, as clauses see it. (Own.)
+use Rattle.std.specs.Prelude.{◌++◌, ℕ, List}
+use Rattle.spv_rules.specs.declared.rules.Code.{Code}
+use Rattle.spv_rules.specs.declared.table.TheConstants.{WORD_ROWS, FORM_ROWS, TYPE_ROWS}
+
+-- a text of a static
+abbrev pub Text : Type 0
+Text = record { now : List ℕ }
+
+-- a row: the code, its number in C, its name, the name and the sentence as C takes them, and where the code is broken
+abbrev pub Row : Type 0
+Row = Code × ℕ × Text × Text × Text × Text
+
+-- all rows
+unfoldable pub rows : List Row
+rows = WORD_ROWS ++ FORM_ROWS ++ TYPE_ROWS
