@@ -18,7 +18,7 @@ use std::alloc::{AllocError, Global};
 const BLOCK_SIZE: usize = 65_536;
 
 /// Why nothing can be said of a text.
-#[derive(Clone, Copy, Debug, PartialEq, Eq)]
+#[derive(Clone, Copy, Debug)]
 pub enum TextError {
     /// A read or a write failed.
     Failed,

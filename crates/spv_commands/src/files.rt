@@ -4,16 +4,13 @@ ghost use Rattle.spv_commands.specs.Each.{Known};
 ghost use Rattle.spv_commands.specs.declared.files.Unread.TheVariants.{Failed};
 
 use std::alloc::{AllocError, Global};
-use thiserror::Error;
 
 /// Why a file was not read.
-#[derive(Clone, Copy, Debug, PartialEq, Eq, Error)]
+#[derive(Clone, Copy)]
 pub enum Unread {
     /// It does not open, or a read of it failed.
-    #[error("the file was not read")]
     Failed,
     /// A growth of memory was refused.
-    #[error("out of memory")]
     Memory,
 }
 
@@ -46,7 +43,7 @@ pub trait Files {
 }
 
 /// Files that stand in memory. One that is None does not open, and so do those of numbers that are too great.
-#[derive(Clone, Copy, Debug)]
+#[derive(Clone, Copy)]
 pub struct InMemory<'a> {
     /// The bytes of each.
     pub files: &'a [Option<&'a [u8]>],

@@ -27,7 +27,7 @@ use std::alloc::Global;
 use std::mem::forget;
 
 /// Why the program ends with the exit status 2 (own). `report` writes its line.
-#[derive(Clone, Copy, Debug, PartialEq, Eq)]
+#[derive(Clone, Copy)]
 pub enum Trouble {
     /// The words of the command line fit no command: `error use`.
     Use,

@@ -18,7 +18,7 @@ use spv_words::{Image, Sink, Source, WordError, read_image, write_all};
 use std::alloc::Global;
 
 /// Why nothing is written of a stream of bytes, or not the whole.
-#[derive(Clone, Copy, Debug, PartialEq, Eq)]
+#[derive(Clone, Copy)]
 pub enum RunError {
     /// A read or a write failed.
     Failed,
