@@ -3,11 +3,11 @@ use Rattle.std.proofs.Common.{◌≡◌, ◌≢◌, ◌++◌, ◌∙◌, ℕ, Li
 use Rattle.std.specs.Prelude.{decimal, ◌+◌, ◌*◌}
 use Rattle.std.proofs.lemmas.Bool.Decides.{nat_tests}
 use Rattle.spv_table.specs.Table.{Table, kind_of}
-use Rattle.spv_inst.specs.declared.form.Leaf as declared
-use Rattle.spv_inst.specs.declared.form.Leaf.TheVariants as leaf
-use Rattle.spv_inst.specs.declared.form.Form as forms
-use Rattle.spv_inst.specs.declared.form.Form.TheVariants.{Leaf, Parts}
-use Rattle.spv_inst.specs.inner.Form.{form_at}
+use Rattle.spv_table.specs.declared.form.Leaf as declared
+use Rattle.spv_table.specs.declared.form.Leaf.TheVariants as leaf
+use Rattle.spv_table.specs.declared.form.Form as forms
+use Rattle.spv_table.specs.declared.form.Form.TheVariants.{Leaf, Parts}
+use Rattle.spv_table.specs.inner.Form.{form_at}
 use Rattle.spv_inst.specs.Reading.{enumerants_at}
 use Rattle.spv_module.specs.Operand.{Plain, OfType, Result, Id, Word, Number, Text, Value, Mask, Context, and_then, after, type_in}
 use Rattle.spv_module.specs.Shape.{Slot, Shape, AsNumber, AsWord, alone, shape_of}

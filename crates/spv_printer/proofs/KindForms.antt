@@ -6,10 +6,10 @@ use Rattle.spv_table.specs.declared.table.Enumerant.{Enumerant}
 use Rattle.spv_table.specs.declared.table.Category.{Category}
 use Rattle.spv_table.specs.declared.table.Category.TheVariants as category
 use Rattle.spv_table.specs.Table.{Table, Sort, kind_of}
-use Rattle.spv_inst.specs.declared.form.Leaf as declared
-use Rattle.spv_inst.specs.declared.form.Leaf.TheVariants as leaf
-use Rattle.spv_inst.specs.declared.form.Form.TheVariants.{Leaf}
-use Rattle.spv_inst.specs.inner.Form.{form_at, category_form}
+use Rattle.spv_table.specs.declared.form.Leaf as declared
+use Rattle.spv_table.specs.declared.form.Leaf.TheVariants as leaf
+use Rattle.spv_table.specs.declared.form.Form.TheVariants.{Leaf}
+use Rattle.spv_table.specs.inner.Form.{form_at, category_form}
 use Rattle.spv_module.specs.Operand.{Plain, Number, Context, type_in}
 use Rattle.spv_module.specs.Shape.{Slot, alone, Shape, AsNumber, AsWord, AsValue, AsMask, shape_of}
 use Rattle.spv_module.specs.Width.{context_width, switch_width, type_of, first_id}

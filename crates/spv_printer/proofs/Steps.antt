@@ -3,10 +3,10 @@ use Rattle.std.proofs.Common.{◌≡◌, ◌++◌, ◌∙◌, ◌<◌, ◌≤◌
 use Rattle.std.proofs.lemmas.List.{drop_more, take_more}
 use Rattle.std.proofs.Math.ListN.{drop_of_length-le}
 use Rattle.spv_table.specs.Table.{Table, kind_of}
-use Rattle.spv_inst.specs.declared.form.Leaf as declared
-use Rattle.spv_inst.specs.declared.form.Form.TheVariants.{Leaf}
+use Rattle.spv_table.specs.declared.form.Leaf as declared
+use Rattle.spv_table.specs.declared.form.Form.TheVariants.{Leaf}
 use Rattle.spv_module.specs.declared.operand.Operand.{Operand}
-use Rattle.spv_inst.specs.inner.Form.{form_at}
+use Rattle.spv_table.specs.inner.Form.{form_at}
 use Rattle.spv_module.specs.Operand.{Plain, PlainInst, Context, and_then, start}
 use Rattle.spv_module.specs.Module.{plain_operand, plain_operands}
 use Rattle.spv_module.specs.Shape.{Slot, alone, Shape, AsParts, shape_of}

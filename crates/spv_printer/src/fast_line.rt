@@ -16,8 +16,8 @@ use crate::buffer::{put_octets, put_result};
 use crate::fast_operand::{Draft, add_operand};
 use crate::named::Named;
 use crate::printer::Printer;
-use spv_inst::due::{joined, next_kind};
-use spv_table::{Entry, Item, Table};
+use spv_inst::due::{DueItems, joined, next_kind};
+use spv_table::{Entry, Pattern, Table};
 use spv_words::{Image, word};
 use std::alloc::AllocError;
 use std::str::from_utf8_unchecked;
@@ -58,7 +58,7 @@ fn add_operands<'t>(
     table: &'t Table,
     image: &Image,
     printer: &Printer<'t>,
-    pattern: &'t [Item],
+    pattern: &'t Pattern,
     first: u32,
     end: u32,
 ) -> Option<Draft>
@@ -70,7 +70,7 @@ fn add_operands<'t>(
         buffer.new) }
 {
     let mut kinds: &'t [u32] = &[];
-    let mut items = pattern;
+    let mut items = DueItems::of(pattern);
     let mut at = first;
     let mut draft = Draft {
         at: FRONT,
@@ -147,7 +147,7 @@ pub fn fast_line<'t>(
         return Ok(None);
     };
     let end = at + count;
-    let pattern = entry.operands.as_slice();
+    let pattern = &entry.operands;
     let Some(draft) = add_operands(buffer, table, image, printer, pattern, at + 1, end) else {
         return Ok(None);
     };

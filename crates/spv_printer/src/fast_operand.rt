@@ -5,10 +5,10 @@ ghost use Rattle.std.specs.Prelude.{IfSome, length, map};
 ghost use Rattle.spv_table.specs.Table as grammar;
 ghost use Rattle.spv_table.specs.Table.{kind_of};
 ghost use Rattle.spv_inst.specs.declared.definitions.Definitions as known;
-ghost use Rattle.spv_inst.specs.declared.form.Form.TheVariants.{Leaf as LeafForm};
-ghost use Rattle.spv_inst.specs.declared.form.Leaf.TheVariants as leaf;
+ghost use Rattle.spv_table.specs.declared.form.Form.TheVariants.{Leaf as LeafForm};
+ghost use Rattle.spv_table.specs.declared.form.Leaf.TheVariants as leaf;
 ghost use Rattle.spv_inst.specs.Reading.{enumerants_at};
-ghost use Rattle.spv_inst.specs.inner.Form.{form_at};
+ghost use Rattle.spv_table.specs.inner.Form.{form_at};
 ghost use Rattle.spv_inst.specs.inner.Known.{Knows};
 ghost use Rattle.spv_inst.specs.inner.Reading.{between};
 ghost use Rattle.spv_module.specs.Operand.{PlainInst};
@@ -257,7 +257,7 @@ pub fn add_operand<'t>(
     if buffer.len().saturating_sub(draft.at) < ROOM {
         return None;
     }
-    let Form::Leaf(leaf) = form_in(printer.forms.as_slice(), kind) else {
+    let Form::Leaf(leaf) = form_in(printer.forms, kind) else {
         return None;
     };
     if let Leaf::Text = leaf {

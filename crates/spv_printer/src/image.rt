@@ -52,7 +52,7 @@ fn push_read<'t, 'a>(
 {
     let scene = Scene {
         table,
-        forms: printer.forms.as_slice(),
+        forms: printer.forms,
         definitions: &printer.definitions,
         image,
     };

@@ -3,8 +3,8 @@
 ghost use Rattle.std.specs.Prelude.{◌≡◌, ◌++◌, ◌∷◌, ◌&&◌, ◌||◌, [], ℕ, List, Option, OnOk};
 ghost use Rattle.std.specs.Prelude.{IfOk, string_bytes, is_some, not};
 ghost use Rattle.spv_table.specs.Table.{Table, kind_of};
-ghost use Rattle.spv_inst.specs.declared.form.Form.TheVariants.{Leaf as LeafForm};
-ghost use Rattle.spv_inst.specs.inner.Form.{form_at};
+ghost use Rattle.spv_table.specs.declared.form.Form.TheVariants.{Leaf as LeafForm};
+ghost use Rattle.spv_table.specs.inner.Form.{form_at};
 ghost use Rattle.spv_inst.specs.inner.Known.{IsNear};
 ghost use Rattle.spv_module.specs.Operand.{Context, result_in};
 ghost use Rattle.spv_module.specs.Module.{plain_operand};

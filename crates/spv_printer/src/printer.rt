@@ -17,16 +17,16 @@ use crate::name::push_name;
 use crate::names::Names;
 use crate::number::push_marked;
 use crate::operand::push_piece;
-use spv_inst::due::{Definitions, Form, Known, Pending, forms_of, known_after};
+use spv_inst::due::{Definitions, Form, Known, Pending, known_after};
 use spv_module::{Operand, result_in};
-use spv_table::{Item, Table};
+use spv_table::{Pattern, Table};
 use std::alloc::{AllocError, Global};
 
 /// What is kept from one instruction of a module to the next.
 #[derive(Drop)]
 pub struct Printer<'t> {
-    /// The form of each kind (`forms_of`).
-    pub forms: Vec<Form>,
+    /// The form of each kind.
+    pub forms: &'t [Form],
     /// What the instructions so far tell of ids.
     pub definitions: Definitions,
     pub names: Names,
@@ -47,12 +47,12 @@ fn push_result(out: &mut String, id: Option<u32>) -> Result<(), AllocError>
 
 impl<'t> Printer<'t> {
     /// Before the first instruction.
-    pub fn new(alloc: Global, table: &Table) -> Result<Printer<'t>, AllocError>
+    pub fn new(alloc: Global, table: &'t Table) -> Result<Printer<'t>, AllocError>
         ensures ready { IfOk result (λ p. IsReady table.now p) }
         ensures knows { IfOk result (λ p. Knows p.definitions []) }
     {
         Ok(Printer {
-            forms: forms_of(alloc, table)?,
+            forms: table.forms(),
             definitions: Definitions::new(alloc),
             names: Names::new(alloc)?,
             pending: Pending::new(alloc),
@@ -65,7 +65,7 @@ impl<'t> Printer<'t> {
         &mut self,
         out: &mut String,
         table: &'t Table,
-        pattern: &'t [Item],
+        pattern: &'t Pattern,
         opcode: u16,
         operands: &[Operand],
     ) -> Result<(), AllocError>
@@ -82,7 +82,7 @@ impl<'t> Printer<'t> {
         let mut known = Known::new(opcode);
         let mut has_result = false;
         for (number, operand) in operands.iter().enumerate() {
-            let next = self.pending.next_leaf(table, self.forms.as_slice(), true)?;
+            let next = self.pending.next_leaf(table, self.forms, true)?;
             let Some(asked) = next else {
                 return Ok(());
             };
@@ -126,7 +126,7 @@ impl<'t> Printer<'t> {
         if let Some(entry) = table.entry(opcode) {
             push_result(out, result_in(operands))?;
             push_name(out, table, &mut self.names, opcode, entry)?;
-            self.push_operands(out, table, entry.operands.as_slice(), opcode, operands)?;
+            self.push_operands(out, table, &entry.operands, opcode, operands)?;
             out.push('\n')?;
         }
         self.definitions.add(opcode, operands)

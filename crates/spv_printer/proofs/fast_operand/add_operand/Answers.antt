@@ -1,6 +1,6 @@
 use Rattle.std.proofs.Common.{◌∙◌, sym, arith, refl, ap}
 use Rattle.std.specs.Option.{option_or}
-use Rattle.spv_inst.specs.declared.form.Form.TheVariants.{Leaf}
+use Rattle.spv_table.specs.declared.form.Form.TheVariants.{Leaf}
 use Rattle.spv_inst.proofs.Between.{take_one}
 use Rattle.spv_inst.proofs.Turns.{length-between}
 use Rattle.spv_printer.proofs.Drafts.{drafted_more, or_none}
@@ -9,12 +9,12 @@ use Rattle.spv_printer.proofs.fast_operand.add_operand.Goals as goal
 pub returns-in-Text : goal.returns-in-Text
 returns-in-Text c =
     let G = c.args.table.now in
-    c.add_text.ensures G _ c.args.kind (sym (c.form_in.ensures G (c.as_slice.ensures.value ∙ c.requires.ready.forms)) ∙ (c.in-Leaf.is ∙ ap Leaf c.in-Text.is))
+    c.add_text.ensures G _ c.args.kind (sym (c.form_in.ensures G c.requires.ready.forms) ∙ (c.in-Leaf.is ∙ ap Leaf c.in-Text.is))
 
 pub returns-in-Value : goal.returns-in-Value
 returns-in-Value c =
     let G = c.args.table.now in
-    let e = sym (c.form_in.ensures G (c.as_slice.ensures.value ∙ c.requires.ready.forms)) ∙ c.in-Leaf.is in
+    let e = sym (c.form_in.ensures G c.requires.ready.forms) ∙ c.in-Leaf.is in
     let t = take_one c.args.image.now c.args.at c.args.end c.word-word.result c.requires.some c.requires.fits c.word-word.ensures in
     let n = length-between c.args.image.now c.args.at c.args.end c.requires.fits in
     let d = c.in_ok-label.ensures e in
@@ -35,7 +35,7 @@ returns-in-Value c =
 pub returns : goal.returns
 returns c =
     let G = c.args.table.now in
-    let e = sym (c.form_in.ensures G (c.as_slice.ensures.value ∙ c.requires.ready.forms)) ∙ c.in-Leaf.is in
+    let e = sym (c.form_in.ensures G c.requires.ready.forms) ∙ c.in-Leaf.is in
     let t = take_one c.args.image.now c.args.at c.args.end c.word-word.result c.requires.some c.requires.fits c.word-word.ensures in
     let n = length-between c.args.image.now c.args.at c.args.end c.requires.fits in
     let s = c.requires.some in

@@ -1,5 +1,5 @@
 use Rattle.std.proofs.Common.{refl, sym}
-use Rattle.spv_inst.specs.declared.form.Leaf.TheVariants as leaf
+use Rattle.spv_table.specs.declared.form.Leaf.TheVariants as leaf
 use Rattle.spv_module.specs.Operand.{OfType, Result, Id, Word, Number}
 use Rattle.spv_module.specs.Shape.{alone}
 use Rattle.spv_module.specs.Spelling.{Takes}

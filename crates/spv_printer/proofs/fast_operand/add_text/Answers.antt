@@ -1,5 +1,5 @@
 use Rattle.std.proofs.Common.{refl, sym}
-use Rattle.spv_inst.specs.declared.form.Leaf.TheVariants as leaf
+use Rattle.spv_table.specs.declared.form.Leaf.TheVariants as leaf
 use Rattle.spv_inst.specs.inner.Reading.{between}
 use Rattle.spv_printer.specs.inner.Fast.{IsQuoted}
 use Rattle.spv_module.specs.Operand.{Text}

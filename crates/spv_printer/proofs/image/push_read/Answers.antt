@@ -10,7 +10,7 @@ returns-clause-next c = λ before k.
     let G = c.args.table.now in
     let x = c.in_ok-read.read in
     let os = c.read_instruction.new.operands.items in
-    let v = c.as_slice-2.ensures.value in
+    let v = c.as_slice.ensures.value in
     let i : PlainInst = record { opcode = x.opcode; operands = plain_operands os } in
     let f : x.first ≡ 0 = c.in_ok-read.ensures.kept.0 ∙ ap (λ (zs : List Operand). length zs) c.clear.ensures.items in
     let b = rw f at (c.in_ok-read.ensures.read before k) in
