@@ -3,10 +3,10 @@ use Rattle.std.specs.Prelude.{◌≡◌, ◌≢◌, ◌++◌, ◌∷◌, [], ℕ
 use Rattle.std.specs.Prelude.{map, option_and_then}
 use Rattle.spv_table.specs.Table.{Table, kind_of}
 use Rattle.spv_inst.specs.declared.definitions.Definitions.{Definitions}
-use Rattle.spv_inst.specs.declared.form.Leaf.TheVariants as leaf
-use Rattle.spv_inst.specs.declared.form.Form.TheVariants.{Leaf}
+use Rattle.spv_table.specs.declared.form.Leaf.TheVariants as leaf
+use Rattle.spv_table.specs.declared.form.Form.TheVariants.{Leaf}
 use Rattle.spv_inst.specs.declared.pending.Asked.{Asked}
-use Rattle.spv_inst.specs.inner.Form.{form_at}
+use Rattle.spv_table.specs.inner.Form.{form_at}
 use Rattle.spv_inst.specs.inner.Known.{Knows}
 use Rattle.spv_inst.specs.inner.Written.{is_without_zero}
 use Rattle.spv_module.specs.Operand.{Plain, PlainInst, Context, start, result_in}
