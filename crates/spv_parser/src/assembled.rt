@@ -176,7 +176,7 @@ pub fn assemble(alloc: Global, table: &Table, text: &str) -> Result<Image, AsmEr
     ensures begins { IfOk result (λ i. IsHeader i) }
     // An error tells where the text fails, and why.
     ensures failed { IfErr result (λ e. IsAsmFailure table.now text.now e.code e.line) }
-    // The shown text of an image's words gives these words again, and no error but want of memory.
+    // The shown text of an image's words gives these words again, and no error but that memory ran out.
     ensures again { (ws : List ℕ) → IsHeader ws → AreWords ws → length ws ≤ greatest_length
         → IsShownImage table.now ws text.now → IfOk result (λ i. i ≡ ws) }
     ensures memory { (ws : List ℕ) → IsHeader ws → AreWords ws → length ws ≤ greatest_length
