@@ -7,10 +7,10 @@ use Rattle.spv_table.specs.Table.{Table, Item, entry_of}
 use Rattle.spv_table.specs.Lookups.{opcode_named}
 use Rattle.spv_table.specs.declared.table.Enumerant.{Enumerant}
 use Rattle.spv_table.specs.Table.{kind_of}
-use Rattle.spv_inst.specs.declared.form.Leaf as declared
-use Rattle.spv_inst.specs.declared.form.Leaf.TheVariants as leaf
-use Rattle.spv_inst.specs.declared.form.Form.TheVariants.{Leaf, Parts}
-use Rattle.spv_inst.specs.inner.Form.{form_at}
+use Rattle.spv_table.specs.declared.form.Leaf as declared
+use Rattle.spv_table.specs.declared.form.Leaf.TheVariants as leaf
+use Rattle.spv_table.specs.declared.form.Form.TheVariants.{Leaf, Parts}
+use Rattle.spv_table.specs.inner.Form.{form_at}
 use Rattle.spv_module.specs.Width.{switch_width}
 use Rattle.spv_module.specs.Shape.{alone, AsResult, AsNumber, AsWord, shape_of}
 use Rattle.spv_inst.specs.Reading.{enumerants_at}

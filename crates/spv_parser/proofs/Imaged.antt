@@ -86,7 +86,7 @@ memory_alone G h is ws t code line y f w n o l s e =
     let m = q.short in
     only_memory G h is (drop 5 ws) t code line y s l q.words (fits_so ws h f o) q.generator (omega arith) e
 
--- what a whole table's shown text is read as, and how it fails: by want of memory alone
+-- what a whole table's shown text is read as, and how it fails: only because memory ran out
 pub shown_again : (G : Table) (k : Header) (js : List PlainInst) (ws image t : List ℕ) → IsHeader ws → AreWords ws → length ws ≤ greatest_length → IsShownImage G ws t
     → IsHeader image → IsHeaderOf image k → IsReadText G k js (drop 5 image) t → image ≡ ws
 shown_again G k js ws image t f w n s g p r = image_again G s.header k s.insts js ws image t f w n s.told s.listed s.shown g p r

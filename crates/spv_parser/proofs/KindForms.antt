@@ -5,10 +5,10 @@ use Rattle.std.proofs.lemmas.Slice.Eq.{bytes_eq-Decides}
 use Rattle.spv_table.specs.declared.table.Category.{Category}
 use Rattle.spv_table.specs.declared.table.Category.TheVariants as category
 use Rattle.spv_table.specs.Table.{Sort}
-use Rattle.spv_inst.specs.declared.form.Leaf as declared
-use Rattle.spv_inst.specs.declared.form.Leaf.TheVariants as leaf
-use Rattle.spv_inst.specs.declared.form.Form.TheVariants.{Leaf}
-use Rattle.spv_inst.specs.inner.Form.{form_at, category_form}
+use Rattle.spv_table.specs.declared.form.Leaf as declared
+use Rattle.spv_table.specs.declared.form.Leaf.TheVariants as leaf
+use Rattle.spv_table.specs.declared.form.Form.TheVariants.{Leaf}
+use Rattle.spv_table.specs.inner.Form.{form_at, category_form}
 use Rattle.spv_module.specs.Operand.{Context, type_in}
 use Rattle.spv_module.specs.Width.{type_of, first_id}
 use Rattle.spv_lines.specs.Operand.{number_type}

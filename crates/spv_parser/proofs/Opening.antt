@@ -2,11 +2,11 @@
 use Rattle.std.proofs.Common.{◌≡◌, ℕ, List, [], ◌∷◌, Bool, Option, Some, None, refl}
 use Rattle.std.specs.Prelude.{IfSome, Ok, option_map}
 use Rattle.spv_table.specs.Table.{Table, kind_of}
-use Rattle.spv_inst.specs.declared.form.Leaf as declared
-use Rattle.spv_inst.specs.declared.form.Leaf.TheVariants as leaf
-use Rattle.spv_inst.specs.declared.form.Form.TheVariants.{Leaf}
+use Rattle.spv_table.specs.declared.form.Leaf as declared
+use Rattle.spv_table.specs.declared.form.Leaf.TheVariants as leaf
+use Rattle.spv_table.specs.declared.form.Form.TheVariants.{Leaf}
 use Rattle.spv_module.specs.declared.operand.Operand.{Operand}
-use Rattle.spv_inst.specs.inner.Form.{form_at}
+use Rattle.spv_table.specs.inner.Form.{form_at}
 use Rattle.spv_module.specs.Operand.{Plain, Value, Mask, Context, result_in, type_in}
 use Rattle.spv_module.specs.Module.{plain_operand}
 use Rattle.spv_module.specs.Shape.{AsValue, AsMask, alone, shape_of}

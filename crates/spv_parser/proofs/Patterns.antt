@@ -1,57 +1,57 @@
--- Whether a pattern has a result, item by item.
-use Rattle.std.proofs.Common.{◌≡◌, ◌∙◌, ◌<◌, ◌≤◌, ◌+◌, ℕ, List, ◌∷◌, Bool, true, false, ◌&&◌, length, drop, get_or, refl, sym, ap}
+-- Whether a pattern has a result.
+use Rattle.std.proofs.Common.{◌≡◌, ◌∙◌, ℕ, List, [], ◌∷◌, Option, Some, Bool, true, false, refl, sym, ap}
 use Rattle.std.specs.List.{list_any}
-use Rattle.std.proofs.lemmas.List.{drop_more}
-use Rattle.std.proofs.Math.ListN.{drop_of_length-le}
-use Rattle.spv_table.specs.declared.table.Quantifier.{Quantifier}
-use Rattle.spv_table.specs.declared.table.Quantifier.TheVariants as quantifier
-use Rattle.spv_table.specs.declared.table.Item as declared
-use Rattle.spv_table.specs.Table.{Table, Item, quantified}
+use Rattle.spv_table.specs.declared.table.Entry.{Entry}
+use Rattle.spv_table.specs.declared.form.Leaf as declared
+use Rattle.spv_table.specs.declared.form.Leaf.TheVariants as leaf
+use Rattle.spv_table.specs.declared.form.Form.{Form}
+use Rattle.spv_table.specs.declared.form.Form.TheVariants.{Leaf, Parts}
+use Rattle.spv_table.specs.Table.{Table, Item, One, Maybe, Many, kind_of, pattern_of}
+use Rattle.spv_table.specs.inner.Form.{form_at}
+use Rattle.spv_table.specs.inner.Results.{is_result_form, is_result_kind, has_result, entry_has_result}
 use Rattle.spv_module.specs.Operand.{Context}
 use Rattle.spv_module.specs.Shape.{alone, shape_of}
-use Rattle.spv_inst.specs.inner.Pending.{items_of}
-use Rattle.spv_lines.specs.Fault.{is_result_shape}
-use Rattle.spv_parser.specs.inner.Heading.{counts, has_result}
+use Rattle.spv_lines.specs.Fault.{is_result_shape, may_have_result, must_have_result}
+use Rattle.spv_parser.proofs.Headed.{kind_result, kind_other, kind_parts}
 
-has_is : (may : Bool) (G : Table) (d : Context) (q : Quantifier) (k : ℕ) → has_result may G d (quantified q k) ≡ (counts may q && is_result_shape (shape_of G d (alone k)))
-has_is true G d quantifier.One k = refl
-has_is true G d quantifier.Maybe k = refl
-has_is true G d quantifier.Many k = refl
-has_is false G d quantifier.One k = refl
-has_is false G d quantifier.Maybe k = refl
-has_is false G d quantifier.Many k = refl
+module _ (G : Table) (c : Context) where
+  leaf_same : (k : ℕ) (l : declared.Leaf) → Leaf l ≡ form_at (kind_of G k) → is_result_form (Leaf l) ≡ is_result_shape (shape_of G c (alone k))
+  leaf_same k leaf.Result e = kind_result G c k leaf.Result e refl
+  leaf_same k leaf.ResultType e = kind_other G c k leaf.ResultType e (λ n. cc)
+  leaf_same k leaf.Id e = kind_other G c k leaf.Id e (λ n. cc)
+  leaf_same k leaf.Integer e = kind_other G c k leaf.Integer e (λ n. cc)
+  leaf_same k leaf.Word e = kind_other G c k leaf.Word e (λ n. cc)
+  leaf_same k leaf.ContextNumber e = kind_other G c k leaf.ContextNumber e (λ n. cc)
+  leaf_same k leaf.Text e = kind_other G c k leaf.Text e (λ n. cc)
+  leaf_same k leaf.Value e = kind_other G c k leaf.Value e (λ n. cc)
+  leaf_same k leaf.Mask e = kind_other G c k leaf.Mask e (λ n. cc)
+  leaf_same k leaf.Nothing e = kind_other G c k leaf.Nothing e (λ n. cc)
 
-left_is : (items : List declared.Item) (i : ℕ) (x : declared.Item) → i < length items → items_of (drop i items) ≡ quantified (get_or items i x).quantifier (get_or items i x).kind ∷ items_of (drop (i + 1) items)
-left_is items i x h = let f = drop_more items i x h in rw f refl
+  form_same : (k : ℕ) (f : Form) → f ≡ form_at (kind_of G k) → is_result_form f ≡ is_result_shape (shape_of G c (alone k))
+  form_same k (Leaf l) e = leaf_same k l e
+  form_same k (Parts p) e = kind_parts G c k p e
 
-any_first : (f : Item → Bool) (x : Item) (xs : List Item) → f x ≡ true → list_any f (x ∷ xs) ≡ true
-any_first f x xs e = rw e refl
+  -- a kind that is that of a result
+  kind_same : (k : ℕ) → is_result_kind G k ≡ is_result_shape (shape_of G c (alone k))
+  kind_same k = form_same k (form_at (kind_of G k)) refl
 
-any_next : (f : Item → Bool) (x : Item) (xs : List Item) → f x ≡ false → list_any f (x ∷ xs) ≡ list_any f xs
-any_next f x xs e = rw e refl
+  may_item : (i : Item) → has_result true G i ≡ may_have_result G c i
+  may_item (One k) = kind_same k
+  may_item (Maybe k) = kind_same k
+  may_item (Many k) = kind_same k
 
-pub has_here : (may : Bool) (G : Table) (d : Context) (items : List declared.Item) (i : ℕ) (x : declared.Item) → i < length items → (counts may (get_or items i x).quantifier && is_result_shape (shape_of G d (alone (get_or items i x).kind))) ≡ true
-    → list_any (has_result may G d) (items_of items) ≡ list_any (has_result may G d) (items_of (drop i items)) → true ≡ list_any (has_result may G d) (items_of items)
-has_here may G d items i x h e v =
-    let y = get_or items i x in
-    sym (v ∙ (ap (list_any (has_result may G d)) (left_is items i x h) ∙ any_first (has_result may G d) (quantified y.quantifier y.kind) (items_of (drop (i + 1) items)) (has_is may G d y.quantifier y.kind ∙ e)))
+  must_item : (i : Item) → has_result false G i ≡ must_have_result G c i
+  must_item (One k) = kind_same k
+  must_item (Maybe k) = refl
+  must_item (Many k) = refl
 
-pub has_later : (may : Bool) (G : Table) (d : Context) (items : List declared.Item) (i : ℕ) (x : declared.Item) → i < length items → (counts may (get_or items i x).quantifier && is_result_shape (shape_of G d (alone (get_or items i x).kind))) ≡ false
-    → list_any (has_result may G d) (items_of items) ≡ list_any (has_result may G d) (items_of (drop i items)) → list_any (has_result may G d) (items_of items) ≡ list_any (has_result may G d) (items_of (drop (i + 1) items))
-has_later may G d items i x h e v =
-    let y = get_or items i x in
-    v ∙ (ap (list_any (has_result may G d)) (left_is items i x h) ∙ any_next (has_result may G d) (quantified y.quantifier y.kind) (items_of (drop (i + 1) items)) (has_is may G d y.quantifier y.kind ∙ e))
+  any_same : (f g : Item → Bool) → ((i : Item) → f i ≡ g i) → (is : List Item) → list_any f is ≡ list_any g is
+  any_same f g h [] = refl
+  any_same f g h (i ∷ is) = rw (h i, any_same f g h is) refl
 
-pub has_none : (may : Bool) (G : Table) (d : Context) (items : List declared.Item) (i : ℕ) → length items ≤ i → list_any (has_result may G d) (items_of items) ≡ list_any (has_result may G d) (items_of (drop i items))
-    → false ≡ list_any (has_result may G d) (items_of items)
-has_none may G d items i h v = let n : list_any (has_result may G d) (items_of (drop i items)) ≡ false = rw (drop_of_length-le items h) refl in sym (v ∙ n)
+  -- what the table tells of an entry
+  pub may_have : (o : Option Entry) (e : Entry) (r : Bool) → r ≡ entry_has_result true G o → o ≡ Some e → list_any (may_have_result G c) (pattern_of e) ≡ r
+  may_have o e r h k = sym (h ∙ (ap (entry_has_result true G) k ∙ any_same (has_result true G) (may_have_result G c) may_item (pattern_of e)))
 
-pub both_true : (a b : Bool) → a ≡ true → b ≡ true → (a && b) ≡ true
-both_true a b e f = rw (e, f) refl
-
-pub first_false : (a b : Bool) → a ≡ false → (a && b) ≡ false
-first_false a b e = rw e refl
-
-pub second_false : (a b : Bool) → b ≡ false → (a && b) ≡ false
-second_false true b e = e
-second_false false b e = refl
+  pub must_have : (o : Option Entry) (e : Entry) (r : Bool) → r ≡ entry_has_result false G o → o ≡ Some e → list_any (must_have_result G c) (pattern_of e) ≡ r
+  must_have o e r h k = sym (h ∙ (ap (entry_has_result false G) k ∙ any_same (has_result false G) (must_have_result G c) must_item (pattern_of e)))

@@ -4,10 +4,10 @@ use Rattle.std.specs.Option.{option_or}
 use Rattle.std.specs.Prelude.{◌==◌, decimal}
 use Rattle.spv_table.specs.Table.{Table, kind_of}
 use Rattle.spv_table.specs.declared.table.Item as declared_item
-use Rattle.spv_inst.specs.declared.form.Leaf as declared
-use Rattle.spv_inst.specs.declared.form.Leaf.TheVariants as leaf
-use Rattle.spv_inst.specs.declared.form.Form.TheVariants.{Leaf}
-use Rattle.spv_inst.specs.inner.Form.{form_at}
+use Rattle.spv_table.specs.declared.form.Leaf as declared
+use Rattle.spv_table.specs.declared.form.Leaf.TheVariants as leaf
+use Rattle.spv_table.specs.declared.form.Form.TheVariants.{Leaf}
+use Rattle.spv_table.specs.inner.Form.{form_at}
 use Rattle.spv_module.specs.Operand.{Plain, PlainInst, OfType, Result, Id, Word, Number, Text, Context, result_in, type_in}
 use Rattle.spv_module.specs.Width.{first_id, width_in, declared_width}
 use Rattle.spv_module.specs.Shape.{Slot, alone, shape_of}

@@ -4,10 +4,10 @@ use Rattle.std.specs.Prelude.{Result as Answer, Err, if◌then◌else◌}
 use Rattle.std.proofs.lemmas.Bool.Decides.{nat_tests}
 use Rattle.spv_table.specs.declared.table.Enumerant.{Enumerant}
 use Rattle.spv_table.specs.Table.{Table, kind_of}
-use Rattle.spv_inst.specs.declared.form.Leaf as declared
-use Rattle.spv_inst.specs.declared.form.Leaf.TheVariants as leaf
-use Rattle.spv_inst.specs.declared.form.Form.TheVariants.{Leaf}
-use Rattle.spv_inst.specs.inner.Form.{form_at}
+use Rattle.spv_table.specs.declared.form.Leaf as declared
+use Rattle.spv_table.specs.declared.form.Leaf.TheVariants as leaf
+use Rattle.spv_table.specs.declared.form.Form.TheVariants.{Leaf}
+use Rattle.spv_table.specs.inner.Form.{form_at}
 use Rattle.spv_module.specs.Operand.{Plain, Result, Text, Context, result_in, type_in}
 use Rattle.spv_module.specs.Width.{width_of, type_of, first_id, context_width, switch_width}
 use Rattle.spv_module.specs.Shape.{Slot, alone, Shape, AsResult, AsWord, AsNumber, AsText, AsNothing, shape_of}

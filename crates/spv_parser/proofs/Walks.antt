@@ -189,7 +189,7 @@ so_far_nearer G r c s t rest old new known next es later i h =
     let k = nearer G r c s h.operand h.stands.piece t rest h.stands.written h.stands.all in
     rw (i.result, h.known.result) k
 
--- a refusal of a leaf, or want of memory
+-- a refusal of a leaf, or memory ran out
 pub so_far_stopped : (G : Table) (r : Option ℕ) (before : List PlainInst) (opcode : ℕ) (pattern ds es : List Due) (line t words : List ℕ) (known : Known) (s : Slot) (more : Bool) (code : AsmCode)
     → (a : SoFar G r before opcode pattern line known ds t words) → IsMore more r (context_of before opcode a.operands) t → LeadsTo G (settled more ds) s es → IsLeaf (shape_of G (context_of before opcode a.operands) s)
     → RefusesOr G r (context_of before opcode a.operands) s t code → OperandsFailOr G r (start before opcode) pattern line code

@@ -11,7 +11,7 @@ ghost use Rattle.spv_inst.specs.Encoding.{greatest_count, greatest_length};
 ghost use Rattle.spv_lines.specs.Line.{AreWords};
 ghost use Rattle.spv_lines.specs.Text.{IsReadText, lines_of};
 ghost use Rattle.spv_lines.specs.declared.asm_error.AsmCode.TheVariants.{S6};
-ghost use Rattle.spv_inst.specs.inner.Form.{form_of};
+ghost use Rattle.spv_table.specs.inner.Form.{form_of};
 ghost use Rattle.spv_lines.specs.Image.{IsShownImage};
 ghost use Rattle.spv_inst.specs.inner.Known.{Knows};
 ghost use Rattle.spv_parser.specs.inner.Heading.{IsKnown};
@@ -25,7 +25,7 @@ use crate::header::read_header;
 use crate::line::{Named, read_line};
 use crate::operands::{Buffers, Line, Setting};
 use crate::seen::Seen;
-use spv_inst::due::{Definitions, Pending, forms_of};
+use spv_inst::due::{Definitions, Pending};
 use spv_lines::{AsmCode, AsmError};
 use spv_table::Table;
 use spv_tokens::split_line;
@@ -129,7 +129,6 @@ fn assemble_lines(
     ensures read { OnOk result (HasLines table.now (lines_of text.now) draft.old draft.new) }
     ensures failed { IfErr result (λ e. LinesFailOr table.now (lines_of text.now) e.code e.line) }
 {
-    let forms = forms_of(alloc, table)?;
     let mut definitions = Definitions::new(alloc);
     let mut buffers = Buffers {
         pending: Pending::new(alloc),
@@ -144,7 +143,7 @@ fn assemble_lines(
         let (line, behind) = split_line(rest);
         let setting = Setting {
             table,
-            forms: forms.as_slice(),
+            forms: table.forms(),
             definitions: &definitions,
         };
         match assemble_line(&setting, &mut buffers, &mut last, &mut seen, draft, line) {
@@ -177,7 +176,7 @@ pub fn assemble(alloc: Global, table: &Table, text: &str) -> Result<Image, AsmEr
     ensures begins { IfOk result (λ i. IsHeader i) }
     // An error tells where the text fails, and why.
     ensures failed { IfErr result (λ e. IsAsmFailure table.now text.now e.code e.line) }
-    // The shown text of an image's words gives these words again, and no error but want of memory.
+    // The shown text of an image's words gives these words again, and no error but that memory ran out.
     ensures again { (ws : List ℕ) → IsHeader ws → AreWords ws → length ws ≤ greatest_length
         → IsShownImage table.now ws text.now → IfOk result (λ i. i ≡ ws) }
     ensures memory { (ws : List ℕ) → IsHeader ws → AreWords ws → length ws ≤ greatest_length

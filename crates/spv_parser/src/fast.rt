@@ -6,9 +6,9 @@ ghost use Rattle.std.specs.Prelude.{IfOk, IfSome, Some, map};
 ghost use Rattle.std.specs.Prelude.{nat_eq, option_map};
 ghost use Rattle.spv_table.specs.Table as grammar;
 ghost use Rattle.spv_table.specs.Table.{kind_of};
-ghost use Rattle.spv_inst.specs.declared.form.Form.TheVariants.{Leaf as LeafForm};
-ghost use Rattle.spv_inst.specs.declared.form.Leaf.TheVariants as leaves;
-ghost use Rattle.spv_inst.specs.inner.Form.{form_at, form_of};
+ghost use Rattle.spv_table.specs.declared.form.Form.TheVariants.{Leaf as LeafForm};
+ghost use Rattle.spv_table.specs.declared.form.Leaf.TheVariants as leaves;
+ghost use Rattle.spv_table.specs.inner.Form.{form_at, form_of};
 ghost use Rattle.spv_inst.specs.inner.Known.{Knows};
 ghost use Rattle.spv_inst.specs.inner.Pending.{due_first, items_of};
 ghost use Rattle.spv_inst.specs.Flat.{due};
@@ -22,9 +22,11 @@ ghost use Rattle.spv_parser.specs.inner.Seen.{IsSeen};
 use crate::operands::{Line, Setting, TYPE_FLOAT, TYPE_INT, is_break, is_text};
 use crate::seen::{Seen, find_named};
 use crate::token::is_narrow;
-use spv_inst::due::{Form, Leaf, Next, form_in, joined, next_kind, push_operand, read_text};
+use spv_inst::due::{
+    DueItems, Form, Leaf, Next, form_in, joined, next_kind, push_operand, read_text,
+};
 use spv_module::Operand;
-use spv_table::{Item, Table};
+use spv_table::{Pattern, Table};
 use spv_tokens::{Cell, Quotation, behind, read_behind, read_front, read_unescaped, split_token};
 use std::alloc::AllocError;
 
@@ -43,8 +45,8 @@ struct Start<'t, 'a> {
     line: Line,
     /// The kinds of parameters that are due first, in order.
     kinds: &'t [u32],
-    /// The items left of the pattern.
-    items: &'t [Item],
+    /// The items of the pattern that are due after them.
+    items: DueItems<'t>,
     rest: &'a str,
 }
 
@@ -208,10 +210,10 @@ fn take_operand<'t, 'a>(
 /// The leaf that is due first of kinds in order and a pattern behind them, where something is left, and what is due
 /// behind it. None where a Composite is, or nothing.
 #[inline(always)]
-fn first_leaf<'t>(forms: &[Form], kinds: &'t [u32], items: &'t [Item]) -> Option<(Leaf, Next<'t>)>
+fn first_leaf<'t>(forms: &[Form], kinds: &'t [u32], items: DueItems<'t>) -> Option<(Leaf, Next<'t>)>
     ensures { (G : grammar.Table) → forms.now ≡ map form_of G.kinds
         → IfSome result
-        (λ p. BeginsWith G p.0 (due_first kinds.now items.now) (due_first p.1.kinds.now p.1.items.now)) }
+        (λ p. BeginsWith G p.0 (due_first kinds.now items.entry.left.now) (due_first p.1.kinds.now p.1.items.left.now)) }
 {
     let Some(next) = next_kind(kinds, items, true) else {
         return None;
@@ -229,14 +231,14 @@ fn begin_result<'t, 'a>(
     words: &mut Vec<u32>,
     opcode: u16,
     id: u32,
-    pattern: &'t [Item],
+    pattern: &'t Pattern,
     next: Next<'t>,
     operands: &'a str,
 ) -> Result<Option<Start<'t, 'a>>, AllocError>
     requires none { words.old.items ≡ [] }
     requires broken { IsBreak operands.now }
     requires first { BeginsWith table.now leaves.Result (map due (items_of pattern.now))
-        (due_first next.kinds.now next.items.now) }
+        (due_first next.kinds.now next.items.left.now) }
     ensures read { IfOk result (λ o. IfSome o
         (λ s. IsStart table.now opcode pattern.now operands.now s words.new.items)) }
     ensures result { IfOk result (λ o. IfSome o (λ s. s.line.result ≡ Some id)) }
@@ -264,7 +266,7 @@ fn begin_typed<'t, 'a>(
     words: &mut Vec<u32>,
     opcode: u16,
     id: u32,
-    pattern: &'t [Item],
+    pattern: &'t Pattern,
     next: Next<'t>,
     operands: &'a str,
 ) -> Result<Option<Start<'t, 'a>>, AllocError>
@@ -272,7 +274,7 @@ fn begin_typed<'t, 'a>(
     requires none { words.old.items ≡ [] }
     requires broken { IsBreak operands.now }
     requires first { BeginsWith setting.now.table.now leaves.ResultType (map due (items_of pattern.now))
-        (due_first next.kinds.now next.items.now) }
+        (due_first next.kinds.now next.items.left.now) }
     ensures read { IfOk result (λ o. IfSome o
         (λ s. IsStart setting.now.table.now opcode pattern.now operands.now s words.new.items)) }
     ensures result { IfOk result (λ o. IfSome o (λ s. s.line.result ≡ Some id)) }
@@ -308,7 +310,7 @@ fn begin<'t, 'a>(
     words: &mut Vec<u32>,
     opcode: u16,
     front: Option<&str>,
-    pattern: &'t [Item],
+    pattern: &'t Pattern,
     operands: &'a str,
 ) -> Result<Option<Start<'t, 'a>>, AllocError>
     requires forms { setting.now.forms.now ≡ map form_of setting.now.table.now.kinds }
@@ -329,14 +331,14 @@ fn begin<'t, 'a>(
         return Ok(Some(Start {
             line,
             kinds: &[],
-            items: pattern,
+            items: DueItems::of(pattern),
             rest: operands,
         }));
     };
     let Ok(id) = read_behind(b'%', text.as_bytes()) else {
         return Ok(None);
     };
-    let Some((leaf, next)) = first_leaf(setting.forms, &[], pattern) else {
+    let Some((leaf, next)) = first_leaf(setting.forms, &[], DueItems::of(pattern)) else {
         return Ok(None);
     };
     match leaf {
@@ -354,7 +356,7 @@ fn take_operands<'t, 'a>(
     seen: &mut Option<Seen<'t, 'a>>,
     words: &mut Vec<u32>,
     opcode: u16,
-    pattern: &'t [Item],
+    pattern: &'t Pattern,
     operands: &'a str,
     start: Start<'t, 'a>,
 ) -> Result<bool, AllocError>
@@ -404,7 +406,7 @@ pub fn fast_operands<'t, 'a>(
     words: &mut Vec<u32>,
     opcode: u16,
     front: Option<&str>,
-    pattern: &'t [Item],
+    pattern: &'t Pattern,
     operands: &'a str,
 ) -> Result<Option<Line>, AllocError>
     requires forms { setting.now.forms.now ≡ map form_of setting.now.table.now.kinds }

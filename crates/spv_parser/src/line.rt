@@ -3,20 +3,16 @@
 ghost use Rattle.std.specs.Prelude.{◌≡◌, ◌<◌, ◌≤◌, ◌++◌, ◌∷◌, ℕ, List, Some, None, true};
 ghost use Rattle.std.specs.Prelude.{false, IfOk, IfErr, IfSome};
 ghost use Rattle.std.specs.Prelude.{MatchOption, map, option_map};
-ghost use Rattle.std.specs.List.{list_any};
 ghost use Rattle.spv_table.specs.declared.table.Entry as code;
 ghost use Rattle.spv_table.specs.Table as grammar;
+ghost use Rattle.spv_table.specs.Table.{entry_of, pattern_of};
 ghost use Rattle.spv_table.specs.Lookups.{opcode_named};
-ghost use Rattle.spv_inst.specs.inner.Form.{form_of};
+ghost use Rattle.spv_table.specs.inner.Form.{form_of};
 ghost use Rattle.spv_inst.specs.inner.Known.{Knows};
-ghost use Rattle.spv_inst.specs.inner.Pending.{items_of};
 ghost use Rattle.spv_module.specs.Operand.{Context, PlainInst};
-ghost use Rattle.spv_module.specs.Shape.{alone, shape_of};
 ghost use Rattle.spv_lines.specs.Line as spec;
 ghost use Rattle.spv_lines.specs.Line.{IsInstName, before_space, from_space, parts_of};
-ghost use Rattle.spv_lines.specs.Fault.{is_result_shape};
 ghost use Rattle.spv_tokens.specs.inner.Answer.{IsNamed};
-ghost use Rattle.spv_parser.specs.inner.Heading as heading;
 ghost use Rattle.spv_parser.specs.inner.Heading.{IsFront, IsKnown, IsOpcodeText};
 ghost use Rattle.spv_parser.specs.inner.Reading.{IsLine, LineFailsOr};
 ghost use Rattle.spv_parser.specs.inner.Seen.{IsSeen};
@@ -24,9 +20,8 @@ ghost use Rattle.spv_parser.specs.inner.Seen.{IsSeen};
 use crate::fast::fast_operands;
 use crate::operands::{Buffers, Line, Setting, is_break, read_operands};
 use crate::seen::Seen;
-use spv_inst::due::{Form, Leaf, form_in};
 use spv_lines::AsmCode;
-use spv_table::{Entry, Item, Quantifier, Table};
+use spv_table::{Entry, Table};
 use spv_tokens::{Misread, behind, is_plain, read_behind, split_token};
 
 /// An instruction of the table.
@@ -141,65 +136,23 @@ fn name_in<'t, 'a>(
     Some((named, operands))
 }
 
-/// Whether a kind is that of a result.
-fn is_result(forms: &[Form], kind: u32) -> bool
-    ensures { (G : grammar.Table) (c : Context) → forms.now ≡ map form_of G.kinds
-        → result ≡ is_result_shape (shape_of G c (alone kind)) }
-{
-    match form_in(forms, kind) {
-        Form::Leaf(leaf) => match leaf {
-            Leaf::Result => true,
-            _ => false,
-        },
-        Form::Parts { .. } => false,
-    }
-}
-
-/// Whether an item counts: one that is always there does, another where it may be absent (`may`).
-fn counts(quantifier: Quantifier, may: bool) -> bool
-    ensures { result ≡ heading.counts may quantifier }
-{
-    match quantifier {
-        Quantifier::One => true,
-        Quantifier::Maybe => may,
-        Quantifier::Many => may,
-    }
-}
-
-/// Whether a pattern has a result: one that may be absent (`may`), or one that is always there.
-fn has_result(forms: &[Form], pattern: &[Item], may: bool) -> bool
-    ensures { (G : grammar.Table) (c : Context) → forms.now ≡ map form_of G.kinds
-        → result ≡ list_any (heading.has_result may G c) (items_of pattern.now) }
-{
-    for item in pattern {
-        if counts(item.quantifier, may) && is_result(forms, item.kind) {
-            return true;
-        }
-    }
-    false
-}
-
 /// Reads what stands in front of ` = `, if a line has it.
 ///
 /// # Errors
 ///
 /// `S3`: it is missing where the pattern always has a result, or there where the pattern has none, or no id. `S4`: it
 /// is an id of over 32 bits.
-fn read_result(
-    forms: &[Form],
-    pattern: &[Item],
-    front: Option<&str>,
-) -> Result<Option<u32>, AsmCode>
-    ensures { (G : grammar.Table) (c : Context) → forms.now ≡ map form_of G.kinds
-        → IsFront G c (items_of pattern.now) (option_map (λ t. t.now) front.entry) result }
+fn read_result(table: &Table, opcode: u16, front: Option<&str>) -> Result<Option<u32>, AsmCode>
+    ensures { (c : Context) (entry : code.Entry) → entry_of table.now opcode ≡ Some entry
+        → IsFront table.now c (pattern_of entry) (option_map (λ t. t.now) front.entry) result }
 {
     let Some(text) = front else {
-        if has_result(forms, pattern, false) {
+        if table.has_result(opcode, false) {
             return Err(AsmCode::S3);
         }
         return Ok(None);
     };
-    if !has_result(forms, pattern, true) {
+    if !table.has_result(opcode, true) {
         return Err(AsmCode::S3);
     }
     match read_behind(b'%', text.as_bytes()) {
@@ -240,13 +193,13 @@ pub fn read_line<'t, 'a>(
         return Err(AsmCode::S2);
     };
     let opcode = named.opcode;
-    let pattern = named.entry.operands.as_slice();
+    let pattern = &named.entry.operands;
     let words = &mut buffers.words;
     let fast = fast_operands(setting, seen, words, opcode, front, pattern, operands)?;
     if let Some(line) = fast {
         return Ok(line);
     }
-    let result_id = read_result(setting.forms, pattern, front)?;
+    let result_id = read_result(setting.table, opcode, front)?;
     let line = read_operands(setting, buffers, opcode, result_id, pattern, operands)?;
     Ok(line)
 }

@@ -5,8 +5,8 @@ ghost use Rattle.std.specs.Prelude.{false, IfOk};
 ghost use Rattle.std.specs.Prelude.{IfErr, OnOk, MatchOption, map, string_bytes};
 ghost use Rattle.spv_table.specs.Table as grammar;
 ghost use Rattle.spv_table.specs.Table.{kind_of};
-ghost use Rattle.spv_inst.specs.declared.form.Form.TheVariants.{Leaf as LeafForm};
-ghost use Rattle.spv_inst.specs.inner.Form.{form_at, form_of};
+ghost use Rattle.spv_table.specs.declared.form.Form.TheVariants.{Leaf as LeafForm};
+ghost use Rattle.spv_table.specs.inner.Form.{form_at, form_of};
 ghost use Rattle.spv_inst.specs.inner.Known.{Knows};
 ghost use Rattle.spv_inst.specs.inner.Pending.{items_of, opened_kinds, pending_due, plain_slot};
 ghost use Rattle.spv_inst.specs.inner.Written.{is_without_zero, operand_words};
@@ -26,7 +26,7 @@ use crate::token::read_token;
 use spv_inst::due::{Asked, Definitions, Form, Leaf, Pending, push_operand, read_text};
 use spv_lines::AsmCode;
 use spv_module::{Operand, result_in, type_in};
-use spv_table::{Item, Table};
+use spv_table::{Pattern, Table};
 use spv_tokens::{Misread, behind, read_quoted, split_token};
 use std::alloc::AllocError;
 
@@ -40,7 +40,7 @@ pub const TYPE_FLOAT: u16 = 22;
 #[derive(Clone, Copy)]
 pub struct Setting<'t, 'd> {
     pub table: &'t Table,
-    /// The form of each kind (`forms_of`).
+    /// The form of each kind.
     pub forms: &'d [Form],
     /// What the lines before tell of types.
     pub definitions: &'d Definitions,
@@ -399,7 +399,7 @@ pub fn read_operands<'t>(
     buffers: &mut Buffers<'t>,
     opcode: u16,
     result_id: Option<u32>,
-    pattern: &'t [Item],
+    pattern: &'t Pattern,
     operands: &str,
 ) -> Result<Line, AsmCode>
     requires forms { setting.now.forms.now ≡ map form_of setting.now.table.now.kinds }

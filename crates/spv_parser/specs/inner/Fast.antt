@@ -5,9 +5,9 @@ use Rattle.std.specs.declared.alloc.AllocError.{AllocError}
 use Rattle.spv_table.specs.declared.table.Item.{Item}
 use Rattle.spv_table.specs.Table.{Table, kind_of}
 use Rattle.spv_inst.specs.declared.definitions.Definitions.{Definitions}
-use Rattle.spv_inst.specs.declared.form.Leaf as declared
-use Rattle.spv_inst.specs.declared.form.Form.TheVariants.{Leaf}
-use Rattle.spv_inst.specs.inner.Form.{form_at}
+use Rattle.spv_table.specs.declared.form.Leaf as declared
+use Rattle.spv_table.specs.declared.form.Form.TheVariants.{Leaf}
+use Rattle.spv_table.specs.inner.Form.{form_at}
 use Rattle.spv_inst.specs.inner.Known.{Knows}
 use Rattle.spv_inst.specs.inner.Pending.{settled, due_first, items_of}
 use Rattle.spv_module.specs.Operand.{Plain, PlainInst, Context, result_in, type_in}
@@ -91,4 +91,4 @@ pub record BeginsWith (G : Table) (leaf : declared.Leaf) (pattern ds : List Due)
 abbrev pub IsStart : Table → ℕ → List Item → List ℕ → Start → List ℕ → Type 0
 IsStart G opcode pattern text s words = (before : List PlainInst)
     → FastSoFar G s.line before opcode (map due (items_of pattern)) text
-    (due_first s.kinds.now s.items.now) s.rest.now words
+    (due_first s.kinds.now s.items.left.now) s.rest.now words

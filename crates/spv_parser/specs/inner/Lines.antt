@@ -22,7 +22,7 @@ IsNoNumber t front TooLarge = (ds : List ℕ) × (slice_get (lines_of t) 0 ≡ S
 IsNoNumber t front IllFormed = (ds : List ℕ) → slice_get (lines_of t) 0 ≡ Some (front ++ ds)
     → is_number ds ≡ true → ⊥
 
--- an instruction is too long, or the module, which has so many words, would be with it; or want of memory
+-- an instruction is too long, or the module, which has so many words, would be with it; or memory ran out
 abbrev pub IsTooLongOr : List ℕ → ℕ → AsmCode → Type 0
 IsTooLongOr further written S5 =
     (greatest_count < length further + 1) ⊎ (greatest_length < written + (length further + 1))
@@ -50,7 +50,7 @@ abbrev pub told_line : AsmCode → ℕ → ℕ
 told_line S6 n = 0
 told_line _ n = n + 6
 
--- the lines behind the header's fail, or want of memory
+-- the lines behind the header's fail, or memory ran out
 abbrev pub LinesFailOr : Table → List (List ℕ) → AsmCode → ℕ → Type 0
 LinesFailOr G lines S6 line = line ≡ 0
 LinesFailOr G lines code line = (n : ℕ) × (line ≡ 6 + n) × LinesFail G [] 5 lines code n

@@ -3,10 +3,10 @@ use Rattle.std.specs.Prelude.{◌≡◌, ◌≢◌, ◌++◌, ◌∷◌, [], ℕ
 use Rattle.std.specs.Prelude.{map, option_and_then}
 use Rattle.spv_table.specs.Table.{Table, kind_of}
 use Rattle.spv_inst.specs.declared.definitions.Definitions.{Definitions}
-use Rattle.spv_inst.specs.declared.form.Leaf.TheVariants as leaf
-use Rattle.spv_inst.specs.declared.form.Form.TheVariants.{Leaf}
+use Rattle.spv_table.specs.declared.form.Leaf.TheVariants as leaf
+use Rattle.spv_table.specs.declared.form.Form.TheVariants.{Leaf}
 use Rattle.spv_inst.specs.declared.pending.Asked.{Asked}
-use Rattle.spv_inst.specs.inner.Form.{form_at}
+use Rattle.spv_table.specs.inner.Form.{form_at}
 use Rattle.spv_inst.specs.inner.Known.{Knows}
 use Rattle.spv_inst.specs.inner.Written.{is_without_zero}
 use Rattle.spv_module.specs.Operand.{Plain, PlainInst, Context, start, result_in}
@@ -63,12 +63,12 @@ abbrev pub told : Misread → AsmCode
 told IllFormed = S3
 told TooLarge = S4
 
--- a refusal's code, or want of memory
+-- a refusal's code, or memory ran out
 abbrev pub RefusesOr : Table → Option ℕ → Context → Slot → List ℕ → AsmCode → Type 0
 RefusesOr G r c s t S6 = Unit {0}
 RefusesOr G r c s t code = SlotRefuses G r c s t code
 
--- the operands of a line fail with a code, or want of memory
+-- the operands of a line fail with a code, or memory ran out
 abbrev pub OperandsFailOr : Table → Option ℕ → Context → List Due → List ℕ → AsmCode → Type 0
 OperandsFailOr G r c ds t S6 = Unit {0}
 OperandsFailOr G r c ds t code = OperandsFail G r c ds t code
@@ -88,7 +88,7 @@ pub record IsLine (G : Table) (before : List PlainInst) (octets words : List ℕ
   pub read : IsReadLine G before inst words octets
   pub kept : IsOf line inst
 
--- a line fails with a code, or want of memory
+-- a line fails with a code, or memory ran out
 abbrev pub LineFailsOr : Table → List PlainInst → ℕ → List ℕ → AsmCode → Type 0
 LineFailsOr G before written line S6 = Unit {0}
 LineFailsOr G before written line code = LineFails G before written line code

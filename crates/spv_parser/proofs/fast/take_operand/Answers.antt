@@ -1,5 +1,5 @@
 use Rattle.std.proofs.Common.{◌∙◌, sym, ap}
-use Rattle.spv_inst.specs.declared.form.Form.TheVariants.{Leaf}
+use Rattle.spv_table.specs.declared.form.Form.TheVariants.{Leaf}
 use Rattle.spv_parser.proofs.fast.take_operand.Goals as goal
 
 pub returns-in-Id-clause-taken : goal.returns-in-Id-clause-taken

@@ -23,7 +23,7 @@ loop-next-preserved c = (
       let t = c.in-Some-cell.taken in
       let z = fast_has G line before opcode pattern c.args.operands.now _ l.rest.now l.words.items a in
       let h = rw c.in-Some-cell.is at (c.in_ok-cell.ensures.taken line (context_of before opcode a.so_far.operands) z refl k) in
-      fast_more G line before opcode pattern _ t.kinds.now n.kinds.now c.in-Some-joined.due.now n.items.now c.args.operands.now l.rest.now t.rest.now l.words.items _ (alone n.kind) c.is_empty-more.result a c.is_empty-more.ensures c.in-Some.ensures h
+      fast_more G line before opcode pattern _ t.kinds.now n.kinds.now c.in-Some-joined.due.now n.items.left.now c.args.operands.now l.rest.now t.rest.now l.words.items _ (alone n.kind) c.is_empty-more.result a c.is_empty-more.ensures c.in-Some.ensures h
       c.in-Some-joined.ensures,
   c.take_operand.ensures.seen,
 )

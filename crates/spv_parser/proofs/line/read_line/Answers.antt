@@ -16,7 +16,7 @@ returns-in_err-result_id-clause-failed c =
     λ before written k.
     let G = c.args.setting.now.table.now in
     let n = c.in-Some-name_in.named in
-    let h = rw c.as_slice-pattern.ensures at (c.in_err-result_id.ensures G (start before n.opcode) c.requires.forms) in
+    let h = c.in_err-result_id.ensures (start before n.opcode) n.entry.now c.in-Some-name_in.ensures.named.0.known in
     rw (q.1, q.2) (line_result_failed G before written c.args.line.now _ n.opcode n.entry.now _ (sym c.in-Some.ensures) c.in-Some-name_in.ensures.named.0 h)
 
 pub fast_operands-requires-clause-broken : goal.fast_operands-requires-clause-broken
@@ -30,7 +30,7 @@ returns-in-Some-fast-clause-read c = λ before k.
     let G = c.args.setting.now.table.now in
     let n = c.in-Some-name_in.named in
     let a = rw c.in-Some-fast.is at (c.in_ok-fast.ensures.read before k) in
-    let a' = rw (c.as_slice-pattern.ensures, c.in-Some-name_in.ensures.named.1) at a in
+    let a' = rw c.in-Some-name_in.ensures.named.1 at a in
     let f = rw c.in-Some-fast.is at c.in_ok-fast.ensures.front in
     line_read G before c.args.line.now _ _ n.opcode n.entry.now c.in-Some-fast.line.result c.in-Some-fast.line (sym c.in-Some.ensures) c.in-Some-name_in.ensures.named.0 f a'
 
@@ -40,14 +40,14 @@ returns-in_err-line-clause-failed c =
     λ before written k.
     let G = c.args.setting.now.table.now in
     let n = c.in-Some-name_in.named in
-    let h = rw c.as_slice-pattern.ensures at (c.in_ok-result_id.ensures G (start before n.opcode) c.requires.forms) in
-    let f = rw (c.as_slice-pattern.ensures, c.in-Some-name_in.ensures.named.1) at (c.in_err-line.ensures.failed before k) in
+    let h = c.in_ok-result_id.ensures (start before n.opcode) n.entry.now c.in-Some-name_in.ensures.named.0.known in
+    let f = rw c.in-Some-name_in.ensures.named.1 at (c.in_err-line.ensures.failed before k) in
     rw (q.1, q.2) (line_operands_failed G before written c.args.line.now _ n.opcode n.entry.now c.in_ok-result_id.result_id _ (sym c.in-Some.ensures) c.in-Some-name_in.ensures.named.0 h f)
 
 pub returns-clause-read : goal.returns-clause-read
 returns-clause-read c = λ before k.
     let G = c.args.setting.now.table.now in
     let n = c.in-Some-name_in.named in
-    let h = rw c.as_slice-pattern.ensures at (c.in_ok-result_id.ensures G (start before n.opcode) c.requires.forms) in
-    let f = rw (c.as_slice-pattern.ensures, c.in-Some-name_in.ensures.named.1) at (c.in_ok-line.ensures.read before k) in
+    let h = c.in_ok-result_id.ensures (start before n.opcode) n.entry.now c.in-Some-name_in.ensures.named.0.known in
+    let f = rw c.in-Some-name_in.ensures.named.1 at (c.in_ok-line.ensures.read before k) in
     line_read G before c.args.line.now _ _ n.opcode n.entry.now c.in_ok-result_id.result_id c.in_ok-line.line (sym c.in-Some.ensures) c.in-Some-name_in.ensures.named.0 (result_text _ _ h.0) f
