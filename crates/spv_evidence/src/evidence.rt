@@ -57,7 +57,7 @@ pub struct Typed {
 
 /// What shows that a rule is broken at an instruction, in numbers alone. Operands and instructions count from 0; a
 /// block goes by the number of its OpLabel, and a function by that of its OpFunction.
-#[derive(Debug, Drop)]
+#[derive(Drop)]
 pub enum Evidence {
     /// I1 to I3: the opcode.
     Opcode {

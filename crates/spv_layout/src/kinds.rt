@@ -9,7 +9,7 @@ use std::marker::Model;
 
 /// A grammar table, with the numbers of the kinds that rows name: they are looked up once. Contracts see it as the
 /// table.
-#[derive(Debug, Drop)]
+#[derive(Drop)]
 pub struct Kinds<'a> {
     table: &'a Table,
     /// The number of each kind, if the table has it, in the order of `Named`.

@@ -12,7 +12,7 @@ ghost use Rattle.spv_word_reasons.specs.Evidence.{Shows, IsEvidence};
 use crate::before::read_before;
 use crate::operands::{Failed, Place, failed_operand};
 use spv_evidence::Evidence;
-use spv_inst::due::{Scene, forms_of};
+use spv_inst::due::Scene;
 use spv_module::Fault;
 use spv_table::{Memory, Table};
 use spv_words::{Image, word};
@@ -80,11 +80,11 @@ pub fn word_evidence(
     requires dead { IsMalformedAt table.now (drop 5 image.now) fault.rule fault.inst (fault.word - 5) }
     ensures { IfOk result (λ e. IsEvidence table.now (drop 5 image.now) fault.rule fault.inst (fault.word - 5) e) }
 {
-    let forms = forms_of(alloc, table)?;
-    let before = read_before(alloc, table, &forms, image, fault.inst)?;
+    let forms = table.forms();
+    let before = read_before(alloc, table, forms, image, fault.inst)?;
     let scene = Scene {
         table,
-        forms: &forms,
+        forms,
         definitions: &before.definitions,
         image,
     };

@@ -54,7 +54,7 @@ pub fn failed_operand(
     let mut operands = Vec::new(alloc);
     let mut known = Known::new(place.opcode);
     let mut at = place.first;
-    pending.start(entry.operands.as_slice());
+    pending.start(&entry.operands);
     'turns: loop {
         let asked = pending.next_leaf(scene.table, scene.forms, at < place.end)?;
         let operand = operands.len() as u32;
