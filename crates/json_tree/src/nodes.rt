@@ -1,6 +1,6 @@
 //! The nodes of a tree, in the order of the text, in eight bytes each.
 
-ghost use Rattle.std.specs.Prelude.{◌≡◌, ◌<◌, ◌+◌, ◌-◌, ◌^◌, ◌++◌, [], ◌∷◌, length, slice_get, slice_set, Some, IfSome, OnOk, IfOk};
+ghost use Rattle.std.specs.Prelude.{◌≡◌, ◌<◌, ◌+◌, ◌-◌, ◌^◌, ◌++◌, [], ◌∷◌, length, slice_get, slice_set, Some, IfSome, OnOk, IfOk, vec_len, vec_capacity, is_ok, if◌then◌else◌};
 ghost use Rattle.std.specs.Str.{IsCharBoundary};
 ghost use Rattle.serde_json.specs.View.{number_view};
 ghost use Rattle.json_tree.specs.View.{nodes_in};
@@ -11,6 +11,10 @@ use crate::content::Content;
 use serde_json::Number;
 use std::alloc::{AllocError, Global};
 use std::marker::Model;
+
+/// From how many bytes of the source on its texts are kept as their places there. In a shorter one
+/// their list takes little memory, and is made faster.
+const LONG: usize = 1 << 20;
 
 /// A node in eight bytes.
 #[derive(Clone, Copy)]
@@ -57,12 +61,14 @@ impl<'a> Model for Nodes<'a> {
     ghost invariant = { λ n. All (IsStored n.source.now n.numbers.items n.texts.items) n.stored.items };
 }
 
-/// The text as its place in the source, where it stands at a place there and both numbers are small.
-fn near(source: &str, text: &str, start: usize) -> Option<Stored>
+/// The text as its place in the source, where it stands there after a quote and both numbers are small.
+#[inline(never)]
+fn near(source: &str, text: &str, quote: usize) -> Option<Stored>
     ensures { IfSome result (λ s. IsStored source.now [] [] s
         × (content_of source.now [] [] s ≡ seen.string text.now)) }
 {
     let length = u16::try_from(text.len()).ok()?;
+    let start = quote.checked_add(1)?;
     let place = u32::try_from(start).ok()?;
     let end = start + text.len();
     if !source.is_char_boundary(start) || !source.is_char_boundary(end) {
@@ -78,13 +84,36 @@ fn near(source: &str, text: &str, start: usize) -> Option<Stored>
 }
 
 /// A number of nodes, numbers or texts as it is stored. The error is that there are too many.
+#[inline(always)]
 fn small(number: usize) -> Result<u32, AllocError>
     ensures { IfOk result (λ n. n ≡ number) }
 {
-    match u32::try_from(number) {
-        Ok(number) => Ok(number),
-        Err(_) => Err(AllocError),
+    if number > 0xffff_ffff {
+        return Err(AllocError);
     }
+    Ok(number as u32)
+}
+
+/// Room in a list for one more.
+#[inline(always)]
+fn make_room<T>(list: &mut Vec<T>) -> Result<(), AllocError>
+    ensures items { list.new.items ≡ list.old.items }
+    ensures room { OnOk result (vec_len list.new < vec_capacity list.new) }
+{
+    if list.len() < list.capacity() {
+        return Ok(());
+    }
+    list.reserve(1)
+}
+
+/// Adds to a list. The error is that memory ran out.
+#[inline(always)]
+fn add<T: Copy>(list: &mut Vec<T>, item: T) -> Result<(), AllocError>
+    ensures { list.new.items ≡ (if is_ok result then list.old.items ++ item ∷ [] else list.old.items) }
+{
+    make_room(list)?;
+    list.push_reserved(item);
+    Ok(())
 }
 
 impl<'a> Nodes<'a> {
@@ -100,6 +129,18 @@ impl<'a> Nodes<'a> {
         }
     }
 
+    /// Makes room for the nodes of the source: each takes two bytes of it at least. Where that much is
+    /// refused, less may do.
+    pub(crate) fn reserve(&mut self)
+        ensures { self.new ≡ self.old }
+    {
+        let bytes = self.source.len();
+        let _ = self.stored.reserve(bytes / 2 + 1);
+        if bytes < LONG {
+            let _ = self.texts.reserve(bytes / 16);
+        }
+    }
+
     /// How many nodes there are.
     pub(crate) fn len(&self) -> usize
         ensures { result ≡ length self.now }
@@ -111,7 +152,7 @@ impl<'a> Nodes<'a> {
     pub(crate) fn push_null(&mut self) -> Result<(), AllocError>
         ensures { OnOk result (self.new ≡ self.old ++ seen.null ∷ []) }
     {
-        self.stored.push(Stored::Null)?;
+        add(&mut self.stored, Stored::Null)?;
         Ok(())
     }
 
@@ -119,7 +160,7 @@ impl<'a> Nodes<'a> {
     pub(crate) fn push_bool(&mut self, b: bool) -> Result<(), AllocError>
         ensures { OnOk result (self.new ≡ self.old ++ seen.boolean b ∷ []) }
     {
-        self.stored.push(Stored::Bool(b))?;
+        add(&mut self.stored, Stored::Bool(b))?;
         Ok(())
     }
 
@@ -129,27 +170,30 @@ impl<'a> Nodes<'a> {
     {
         if let Some(whole) = number.as_u64() {
             if let Ok(whole) = u32::try_from(whole) {
-                self.stored.push(Stored::Whole(whole))?;
+                add(&mut self.stored, Stored::Whole(whole))?;
                 return Ok(());
             }
         }
         let place = small(self.numbers.len())?;
-        self.numbers.push(number)?;
-        self.stored.push(Stored::Number(place))?;
+        add(&mut self.numbers, number)?;
+        add(&mut self.stored, Stored::Number(place))?;
         Ok(())
     }
 
-    /// Adds the node of a text, which may stand in the source at `start`.
-    pub(crate) fn push_text(&mut self, text: &'a str, start: usize) -> Result<(), AllocError>
+    /// Adds the node of a text, which may stand in the source after the quote at `quote`.
+    #[inline(always)]
+    pub(crate) fn push_text(&mut self, text: &'a str, quote: usize) -> Result<(), AllocError>
         ensures { OnOk result (self.new ≡ self.old ++ seen.string text.now ∷ []) }
     {
-        if let Some(stored) = near(self.source, text, start) {
-            self.stored.push(stored)?;
-            return Ok(());
+        if self.source.len() >= LONG {
+            if let Some(stored) = near(self.source, text, quote) {
+                add(&mut self.stored, stored)?;
+                return Ok(());
+            }
         }
         let place = small(self.texts.len())?;
-        self.texts.push(text)?;
-        self.stored.push(Stored::Far(place))?;
+        add(&mut self.texts, text)?;
+        add(&mut self.stored, Stored::Far(place))?;
         Ok(())
     }
 

@@ -73,17 +73,13 @@ impl<'a> Tree<'a> {
     {
         let mut reader = Reader::new(text, scratch)?;
         let mut nodes = Nodes::new(alloc, text);
+        nodes.reserve();
         read(&mut nodes, &mut reader, MAX_DEPTH)?;
         if reader.next().is_some() {
             return Err(Refused::Invalid);
         }
         Ok(Tree::of_nodes(nodes))
     }
-}
-
-/// Where a text begins whose quote is the next token.
-fn text_start(reader: &Reader<'_>) -> usize {
-    reader.offset().saturating_add(1)
 }
 
 /// Reads the next value of the reader. Arrays and objects may nest `depth` deep.
@@ -95,10 +91,10 @@ fn read<'a>(nodes: &mut Nodes<'a>, reader: &mut Reader<'a>, depth: usize) -> Res
     ensures shorter { OnOk result (length reader.new < length reader.old) }
     ensures err { result ≡ Err Refused.Invalid → converted of_json (value depth reader.old) ≡ None }
 {
-    let start = text_start(reader);
+    let quote = reader.offset();
     let token = reader.next().ok_or(Refused::Invalid)?;
     match token {
-        Token::String(text) => Ok(nodes.push_text(text, start)?),
+        Token::String(text) => Ok(nodes.push_text(text, quote)?),
         Token::Number(text) => match number::parse(text) {
             Some(number) => Ok(nodes.push_number(number)?),
             None => Err(Refused::Invalid),
@@ -164,11 +160,11 @@ fn read_object<'a>(
     let place = nodes.len();
     nodes.push_null()?;
     'members: loop {
-        let start = text_start(reader);
+        let quote = reader.offset();
         let Some(key) = reader.next_key()? else {
             break;
         };
-        nodes.push_text(key, start)?;
+        nodes.push_text(key, quote)?;
         read(nodes, reader, depth)?;
     }
     Ok(nodes.close_object(place)?)

@@ -1,6 +1,6 @@
 //! The items of an array and the members of an object, one after another.
 
-ghost use Rattle.std.specs.Prelude.{◌≡◌, drop, is_some, true, option_and_then};
+ghost use Rattle.std.specs.Prelude.{◌≡◌, length, drop, is_some, true, option_and_then};
 ghost use Rattle.std.specs.Iterator.{YieldsFirstBy, item_count};
 ghost use Rattle.json_tree.specs.View.{view, inside, paired, items_left, members_left, member_view};
 
@@ -40,6 +40,22 @@ impl<'t, 'a> Items<'t, 'a> {
             place,
             left: count,
         }
+    }
+
+    /// How many items are left. It takes a step for each.
+    pub fn len(&self) -> usize
+        ensures { result ≡ length (items_left self.now) }
+    {
+        let mut count = 0;
+        let mut place = self.place;
+        let mut left = self.left;
+        'items: while left > 0 {
+            let next = self.nodes.after(place);
+            left -= next - place;
+            place = next;
+            count += 1;
+        }
+        count
     }
 }
 

@@ -1,17 +1,15 @@
 -- One turn of a loop that makes something of each element of a list.
-use Rattle.std.proofs.Common.{◌≡◌, ℕ, suc, ◌+◌, ◌<◌, ◌^◌, true, List, [], ◌∷◌, ◌++◌, Option, Some, None, Bor, drop, map, length, get_or, slice_get, refl, sym, ap, ◌∙◌, add-one, drop-cons, arith}
+use Rattle.std.proofs.Common.{◌≡◌, ℕ, ◌+◌, true, List, [], ◌∷◌, ◌++◌, Option, Some, None, drop, get_or, slice_get, refl, sym, ap, ◌∙◌, add-one, drop-cons}
 use Rattle.std.proofs.lemmas.Option.{slice_get_within, get_or_from_slice_get}
 use Rattle.std.specs.Prelude.{Err}
 use Rattle.spv_grammar.specs.declared.error.GrammarError.{GrammarError}
 use Rattle.spv_grammar.specs.declared.error.GrammarError.TheVariants.{J1, J2, J3, J4, J5, J6, J7, J8}
-use Rattle.std.proofs.lemmas.List.{map-append, length-map}
 use Rattle.std.specs.Str.{bytes_eq}
 use Rattle.std.specs.Cmp.Lexicographic.{bytes_decides}
 use Rattle.spv_grammar.specs.Kinds.{number_in}
 use Rattle.spv_grammar.specs.declared.file.FileKind.{FileKind}
 use Rattle.serde_json.specs.Data.{Data}
-use Rattle.json_tree.specs.View.{view, items_view}
-use Rattle.json_tree.specs.declared.tree.Tree.{Tree}
+use Rattle.json_tree.specs.View.{Content, view, items_left, items_view}
 use Rattle.spv_grammar.specs.File.{each}
 use Rattle.spv_grammar.specs.Made.{all_of}
 use Rattle.spv_grammar.specs.inner.Made.{Makes}
@@ -41,26 +39,11 @@ refused view whole_view J6 made whole m none = none m
 refused view whole_view J7 made whole m none = none m
 refused view whole_view J8 made whole m none = m
 
--- a kind and its name go last in two lists
-pub names_more : (keys grown : List (Bor (List ℕ))) (firsts pushed : List (Bor FileKind)) (key : Bor (List ℕ)) (k : Bor FileKind) → map (λ y. y.now) keys ≡ map (λ y. y.now.name) firsts
-    → grown ≡ keys ++ key ∷ [] → pushed ≡ firsts ++ k ∷ [] → key.now ≡ k.now.name → map (λ y. y.now) grown ≡ map (λ y. y.now.name) pushed
-names_more keys grown firsts pushed key k same g p named =
-    rw (g, p, map-append (λ (y : Bor (List ℕ)). y.now) keys (key ∷ []), map-append (λ (y : Bor FileKind). y.now.name) firsts (k ∷ []), same, named) refl
-
--- there are as many names as kinds
-pub as_many_names : (keys : List (Bor (List ℕ))) (firsts : List (Bor FileKind)) → map (λ k. k.now) keys ≡ map (λ k. k.now.name) firsts → length firsts < 2 ^ 32 → length keys < 2 ^ 32
-as_many_names keys firsts named few =
-    let l : length keys ≡ length firsts = sym (length-map keys (λ (k : Bor (List ℕ)). k.now)) ∙ ap length named ∙ length-map firsts (λ (k : Bor FileKind). k.now.name) in
-    rw l few
-
 -- the number of a name that was asked for before
 pub known_number : (ks vs : List FileKind) (name text : List ℕ) (r : Option ℕ) → r ≡ number_in ks text → ks ≡ vs → bytes_eq name text ≡ true → r ≡ number_in vs name
 known_number ks vs name text r known same e = known ∙ ap (number_in ks) (sym ((bytes_decides name text).0 e)) ∙ ap (λ v. number_in v name) same
 
--- a tree that is read
-pub read_step : {A : Type 0} (read : Data → Option A) (ts : List Tree) (i : ℕ) (x : Tree) (a : A) (whole : Option (List A)) (front found : List A) → i < length ts → x ≡ get_or ts i x
-    → whole ≡ with_front front (each read (items_view (drop i ts))) → read (view x) ≡ Some a → found ≡ front ++ a ∷ [] → whole ≡ with_front found (each read (items_view (drop (i + 1) ts)))
-read_step read ts i x a whole front found h is w made grown =
-    let next : suc i ≡ i + 1 = omega arith in
-    let first : drop i ts ≡ x ∷ drop (i + 1) ts = drop-cons ts i x h ∙ ap (λ n. get_or ts i x ∷ drop n ts) next ∙ ap (λ y. y ∷ drop (i + 1) ts) (sym is) in
-    w ∙ (rw (first, made, grown) (joined front a (each read (items_view (drop (i + 1) ts)))))
+-- an item that is read
+pub read_step : {A : Type 0} (read : Data → Option A) (was is : List Content × ℕ) (x : List Content) (a : A) (whole : Option (List A)) (front found : List A) → items_left was ≡ view x ∷ items_left is
+    → whole ≡ with_front front (each read (items_view was)) → read (view x) ≡ Some a → found ≡ front ++ a ∷ [] → whole ≡ with_front found (each read (items_view is))
+read_step read was is x a whole front found first w made grown = w ∙ (rw (first, made, grown) (joined front a (each read (items_view is))))

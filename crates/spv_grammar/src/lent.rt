@@ -37,7 +37,7 @@ impl<'a> LentName<'a> {
         self.text
     }
 
-    /// A copy that owns its text. The error is want of memory.
+    /// A copy that owns its text. The error is that memory ran out.
     pub(crate) fn copy(&self, alloc: Global) -> Result<Name, AllocError>
         ensures { IfOk result (λ n. n ≡ self.now) }
     {

@@ -15,5 +15,6 @@ mod shared;
 pub use error::GrammarError;
 pub use load::FromGrammar;
 pub use spv_table::{
-    Category, Entry, Enumerant, Item, Kind, Listed, Memory, Name, NameList, Quantifier, Table,
+    Category, Entry, Enumerant, Item, Kind, Listed, Memory, Name, NameList, Pattern, Quantifier,
+    Table,
 };

@@ -7,6 +7,8 @@ ghost use Rattle.json_tree.specs.View.{view as tree_view};
 ghost use Rattle.serde_json.specs.Data.{Data};
 ghost use Rattle.serde_json.specs.Read.{read as read_text};
 ghost use Rattle.spv_grammar.specs.Kinds.{first_kinds};
+ghost use Rattle.spv_grammar.specs.File.{file_of};
+ghost use Rattle.spv_grammar.specs.inner.File.{Reads};
 ghost use Rattle.spv_grammar.specs.Answer.{file_breaks, tree_breaks, text_breaks, Gives};
 ghost use Rattle.spv_grammar.specs.Made.{IsTable};
 ghost use Rattle.spv_grammar.specs.declared.error.GrammarError.TheVariants.{J1, J8};
@@ -43,7 +45,7 @@ fn broken(numbers: &Numbers<'_>, file: &File<'_>) -> Option<GrammarError>
     }
 }
 
-/// The table that an unbroken file makes. The error is want of memory.
+/// The table that an unbroken file makes. The error is that memory ran out.
 fn made(alloc: Global, numbers: &Numbers<'_>, file: &File<'_>) -> Result<Table, GrammarError>
     requires numbered { numbers.now ≡ first_kinds file.now.kinds }
     requires few { length numbers.now < 2 ^ 32 }
@@ -88,8 +90,8 @@ impl FromGrammar for Table {
         ensures refused { IfErr result (λ e. e ≢ J8 → tree_breaks (view value.now) ≡ Some e) }
     {
         let arena = Bump::new(alloc);
-        let tree = Tree::of(&arena, value)?;
-        from_tree(alloc, &arena, &tree)
+        let file = file_of_value(alloc, &arena, value)?;
+        from_file(alloc, &file)
     }
 
     fn from_slice(alloc: Global, text: &[u8]) -> Result<Table, GrammarError>
@@ -99,23 +101,41 @@ impl FromGrammar for Table {
     {
         let mut scratch = Scratch::new(alloc);
         let arena = Bump::new(alloc);
-        let tree = parse(&arena, text, &mut scratch)?;
-        from_tree(alloc, &arena, &tree)
+        let file = file_of_text(alloc, &arena, text, &mut scratch)?;
+        from_file(alloc, &file)
     }
 }
 
-/// The table of a tree.
-fn from_tree<'a>(alloc: Global, arena: &'a Bump, tree: &Tree<'a>) -> Result<Table, GrammarError>
-    ensures table { IfOk result (λ G. Gives (tree_view tree.now) G) }
-    ensures refused { IfErr result (λ e. e ≢ J8 → tree_breaks (tree_view tree.now) ≡ Some e) }
+/// What a value holds as a grammar file. The tree is given up before a table is made.
+fn file_of_value<'a>(
+    alloc: Global,
+    arena: &'a Bump,
+    value: &'a Value,
+) -> Result<File<'a>, GrammarError>
+    ensures { Reads result (file_of (view value.now)) }
 {
-    let file = read_file(arena, tree)?;
-    from_file(alloc, &file)
+    let tree = Tree::of(alloc, value)?;
+    read_file(arena, &tree.root())
+}
+
+/// What a text holds as a grammar file. The tree is given up before a table is made.
+fn file_of_text<'a>(
+    alloc: Global,
+    arena: &'a Bump,
+    text: &'a [u8],
+    scratch: &'a mut Scratch,
+) -> Result<File<'a>, GrammarError>
+    ensures file { IfOk result (λ file. (d : Data) × IsUtf8 text.now × (read_text text.now ≡ Some d)
+        × (file_of d ≡ Some file)) }
+    ensures refused { IfErr result (λ e. e ≢ J8 → text_breaks text.now e) }
+{
+    let tree = parse(alloc, text, scratch)?;
+    read_file(arena, &tree.root())
 }
 
 /// The tree that a text is in JSON: J1 where it is none, and J8 where memory ran out.
 fn parse<'a>(
-    arena: &'a Bump,
+    alloc: Global,
     text: &'a [u8],
     scratch: &'a mut Scratch,
 ) -> Result<Tree<'a>, GrammarError>
@@ -123,7 +143,7 @@ fn parse<'a>(
     ensures none { IsErrOf result J1 → IsUtf8 text.now → read_text text.now ≡ None }
     ensures codes { IfErr result (λ e. e ≢ J1 → e ≡ J8) }
 {
-    match Tree::from_slice(arena, text, scratch) {
+    match Tree::from_slice(alloc, text, scratch) {
         Ok(tree) => Ok(tree),
         Err(Refused::Memory) => Err(GrammarError::J8),
         Err(Refused::Invalid) => Err(GrammarError::J1),

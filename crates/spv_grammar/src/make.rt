@@ -14,7 +14,7 @@ use crate::lent::LentName;
 use crate::numbers::Numbers;
 use crate::rules::is_one;
 use crate::shared::Lists;
-use spv_table::{Category, Entry, Enumerant, Item, Kind, Listed, Sort};
+use spv_table::{Category, Entry, Enumerant, Item, Kind, Listed, Pattern, Sort};
 use std::alloc::Global;
 
 /// An item of a pattern.
@@ -35,14 +35,14 @@ fn items(
     alloc: Global,
     numbers: &Numbers<'_>,
     operands: &[FileOperand<'_>],
-) -> Result<Listed<Item>, GrammarError>
+) -> Result<Pattern, GrammarError>
     ensures { Makes (λ l. l) result (all_of (item_of numbers.now) operands.now) }
 {
     let mut found = Vec::with_capacity(alloc, operands.len())?;
     for operand in operands {
         found.push(item(numbers, operand)?)?;
     }
-    Ok(Listed::from_vec(found))
+    Ok(Pattern::from_vec(found))
 }
 
 /// The entry of an instruction, with its opcode.

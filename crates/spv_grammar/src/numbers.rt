@@ -3,20 +3,44 @@
 ghost use Rattle.std.specs.Prelude.{◌≡◌, ◌<◌, ◌^◌, length, slice_get, position, codes, Some, IfOk, IfErr};
 ghost use Rattle.std.specs.Prelude.{map, option_map};
 ghost use Rattle.std.specs.Str.{bytes_eq};
+ghost use Rattle.spv_table.specs.inner.Named.{Finds};
 ghost use Rattle.spv_grammar.specs.Kinds.{first_kinds, number_in, kind_named};
 ghost use Rattle.spv_grammar.specs.declared.error.GrammarError.TheVariants.{J8};
 
 use crate::error::GrammarError;
 use crate::file::FileKind;
-use indexmap::IndexSet;
-use std::alloc::Global;
+use spv_table::{Named, Names};
+use std::alloc::{AllocError, Global};
 use std::marker::Model;
+
+impl<'a> Named for FileKind<'a> {
+    ghost name = { λ k. k.name };
+
+    fn name(&self) -> &str {
+        self.name.as_str()
+    }
+}
+
+/// A kind that is the first with its name.
+#[derive(Drop)]
+struct First<'a> {
+    kind: &'a FileKind<'a>,
+}
+
+impl<'a> Named for First<'a> {
+    ghost name = { λ f. f.kind.now.name };
+
+    fn name(&self) -> &str {
+        self.kind.name.as_str()
+    }
+}
 
 /// The kinds of a grammar file, each name once. Contracts see the list of the kinds.
 #[derive(Drop)]
 pub(crate) struct Numbers<'a> {
-    names: IndexSet<&'a str>,
-    kinds: Vec<&'a FileKind<'a>>,
+    kinds: Vec<First<'a>>,
+    /// Where the names of the kinds are.
+    names: Names,
     /// The numbers of the five names that most operands bear: IdRef, IdResult, IdResultType, LiteralInteger and
     /// IdScope.
     reference: Option<u32>,
@@ -29,19 +53,19 @@ pub(crate) struct Numbers<'a> {
 impl<'a> Model for Numbers<'a> {
     ghost use Rattle.std.specs.Prelude.{List, ℕ, ◌≡◌, ◌<◌, ◌^◌, map, length, codes};
     ghost use Rattle.spv_grammar.specs.declared.file.FileKind.{FileKind};
+    ghost use Rattle.spv_table.specs.inner.Named.{Finds};
     ghost use Rattle.spv_grammar.specs.Kinds.{number_in};
 
     ghost Value = { List FileKind };
 
-    ghost view = { λ n. map (λ k. k.now) n.kinds.items };
+    ghost view = { λ n. map (λ f. f.kind.now) n.kinds.items };
 
-    ghost invariant = { λ n. (map (λ k. k.now) n.names.keys ≡ map (λ k. k.now.name) n.kinds.items)
-        × (length n.kinds.items < 2 ^ 32)
-        × (n.reference ≡ number_in (map (λ k. k.now) n.kinds.items) (codes "IdRef"))
-        × (n.result ≡ number_in (map (λ k. k.now) n.kinds.items) (codes "IdResult"))
-        × (n.result_type ≡ number_in (map (λ k. k.now) n.kinds.items) (codes "IdResultType"))
-        × (n.integer ≡ number_in (map (λ k. k.now) n.kinds.items) (codes "LiteralInteger"))
-        × (n.scope ≡ number_in (map (λ k. k.now) n.kinds.items) (codes "IdScope")) };
+    ghost invariant = { λ n. Finds (λ f. f.kind.now.name) n.kinds.items n.names
+        × (n.reference ≡ number_in (map (λ f. f.kind.now) n.kinds.items) (codes "IdRef"))
+        × (n.result ≡ number_in (map (λ f. f.kind.now) n.kinds.items) (codes "IdResult"))
+        × (n.result_type ≡ number_in (map (λ f. f.kind.now) n.kinds.items) (codes "IdResultType"))
+        × (n.integer ≡ number_in (map (λ f. f.kind.now) n.kinds.items) (codes "LiteralInteger"))
+        × (n.scope ≡ number_in (map (λ f. f.kind.now) n.kinds.items) (codes "IdScope")) };
 }
 
 /// Whether a name is IdRef.
@@ -79,40 +103,50 @@ fn is_scope(name: &str) -> bool
     name == "IdScope"
 }
 
-/// The place of a name among names.
-fn place_of(names: &IndexSet<&str>, name: &str) -> Option<u32>
-    requires { length names.now.keys < 2 ^ 32 }
-    ensures { result ≡ position (λ k. bytes_eq name.now k.now) names.now.keys }
+/// The kinds without those whose name an earlier one bears. The error is that memory ran out, or places: there may be
+/// 4,294,967,295 kinds.
+fn firsts<'a>(alloc: Global, kinds: &'a [FileKind<'a>]) -> Result<Vec<First<'a>>, AllocError>
+    ensures firsts { IfOk result (λ v. map (λ f. f.kind.now) v.items ≡ first_kinds kinds.now) }
+    ensures few { IfOk result (λ v. length v.items < 2 ^ 32) }
 {
-    Some(names.get_index_of(name)? as u32)
+    if kinds.len() > 0xffff_ffff {
+        return Err(AllocError);
+    }
+    let names = Names::of(alloc, kinds)?;
+    let mut firsts = Vec::new(alloc);
+    for (place, kind) in kinds.iter().enumerate() {
+        if names.place(kinds, kind.name.as_str()) == Some(place) {
+            firsts.push(First { kind })?;
+        }
+    }
+    Ok(firsts)
+}
+
+/// The number of a name among kinds.
+fn place_of<'a>(names: &Names, kinds: &[First<'a>], name: &str) -> Option<u32>
+    requires { Finds (λ f. f.kind.now.name) kinds.now names.now }
+    ensures { result ≡ number_in (map (λ f. f.kind.now) kinds.now) name.now }
+{
+    Some(names.place(kinds, name)? as u32)
 }
 
 impl<'a> Numbers<'a> {
-    /// Numbers the kinds. The error is want of memory, or of numbers: there may be 4,294,967,295.
+    /// Numbers the kinds. The error is that memory ran out, or numbers: there may be 4,294,967,295.
     pub(crate) fn new(alloc: Global, kinds: &'a [FileKind<'a>]) -> Result<Numbers<'a>, GrammarError>
         ensures numbered { IfOk result (λ n. n ≡ first_kinds kinds.now) }
         ensures few { IfOk result (λ n. length n < 2 ^ 32) }
         ensures memory { IfErr result (λ e. e ≡ J8) }
     {
-        let mut names = IndexSet::new(alloc);
-        let mut firsts = Vec::new(alloc);
-        for kind in kinds {
-            let (_, is_new) = names.insert_full(kind.name.as_str())?;
-            if is_new {
-                if firsts.len() >= 0xffff_ffff {
-                    return Err(GrammarError::J8);
-                }
-                firsts.push(kind)?;
-            }
-        }
-        let reference = place_of(&names, "IdRef");
-        let result = place_of(&names, "IdResult");
-        let result_type = place_of(&names, "IdResultType");
-        let integer = place_of(&names, "LiteralInteger");
-        let scope = place_of(&names, "IdScope");
+        let kinds = firsts(alloc, kinds)?;
+        let names = Names::of(alloc, kinds.as_slice())?;
+        let reference = place_of(&names, kinds.as_slice(), "IdRef");
+        let result = place_of(&names, kinds.as_slice(), "IdResult");
+        let result_type = place_of(&names, kinds.as_slice(), "IdResultType");
+        let integer = place_of(&names, kinds.as_slice(), "LiteralInteger");
+        let scope = place_of(&names, kinds.as_slice(), "IdScope");
         Ok(Numbers {
+            kinds,
             names,
-            kinds: firsts,
             reference,
             result,
             result_type,
@@ -140,16 +174,15 @@ impl<'a> Numbers<'a> {
         if is_scope(name) {
             return self.scope;
         }
-        place_of(&self.names, name)
+        place_of(&self.names, self.kinds.as_slice(), name)
     }
 
     /// The kind that a name means.
     pub(crate) fn kind(&self, name: &str) -> Option<&FileKind<'a>>
         ensures { option_map (λ k. k.now) result ≡ kind_named self.now name.now }
     {
-        let place = self.names.get_index_of(name)?;
-        let kind: &FileKind<'a> = self.kinds[place];
-        Some(kind)
+        let number = place_of(&self.names, self.kinds.as_slice(), name)?;
+        Some(self.kinds[number as usize].kind)
     }
 
     /// How many kinds there are.
@@ -164,7 +197,6 @@ impl<'a> Numbers<'a> {
         requires { number < length self.now }
         ensures { slice_get self.now number ≡ Some result.now }
     {
-        let kind: &FileKind<'a> = self.kinds[number];
-        kind
+        self.kinds[number].kind
     }
 }

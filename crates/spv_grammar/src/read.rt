@@ -13,21 +13,21 @@ use crate::error::GrammarError;
 use crate::file::{File, FileEnumerant, FileInstruction, FileKind, FileOperand};
 use crate::lent::{Lent, LentName};
 use bumpalo::Bump;
-use json_tree::Tree;
+use json_tree::{Items, Node};
 use spv_table::{Category, Quantifier};
 
 /// The text at a key.
-fn text<'a>(value: &Tree<'a>, key: &str) -> Option<&'a str>
+fn text<'a>(value: &Node<'_, 'a>, key: &str) -> Option<&'a str>
     ensures { option_map (λ s. s.now) result ≡ text_at key.now (view value.now) }
 {
     value.get(key)?.as_str()
 }
 
 /// The array at a key.
-fn items<'v, 'a>(value: &'v Tree<'a>, key: &str) -> Option<&'v [Tree<'a>]>
-    ensures { option_map (λ s. items_view s.now) result ≡ items_at key.now (view value.now) }
+fn items<'t, 'a>(value: &Node<'t, 'a>, key: &str) -> Option<Items<'t, 'a>>
+    ensures { option_map items_view result ≡ items_at key.now (view value.now) }
 {
-    value.get(key)?.as_array()
+    value.get(key)?.items()
 }
 
 /// How often an operand with this text comes; none if it is neither `?` nor `*`.
@@ -42,7 +42,7 @@ fn quantifier(text: &str) -> Option<Quantifier>
 }
 
 /// How often an operand comes: none where the text at `quantifier` is no text.
-fn read_quantifier(value: &Tree<'_>) -> Option<Option<Quantifier>>
+fn read_quantifier(value: &Node<'_, '_>) -> Option<Option<Quantifier>>
     ensures { result ≡ quantifier_at (view value.now) }
 {
     match value.get("quantifier") {
@@ -52,7 +52,7 @@ fn read_quantifier(value: &Tree<'_>) -> Option<Option<Quantifier>>
 }
 
 /// An operand or a parameter.
-fn read_operand<'a>(arena: &'a Bump, value: &Tree<'a>) -> Result<FileOperand<'a>, GrammarError>
+fn read_operand<'a>(value: &Node<'_, 'a>) -> Result<FileOperand<'a>, GrammarError>
     ensures { Reads result (operand_of (view value.now)) }
 {
     let Some(kind) = text(value, "kind") else {
@@ -68,13 +68,13 @@ fn read_operand<'a>(arena: &'a Bump, value: &Tree<'a>) -> Result<FileOperand<'a>
 /// Each operand of an array.
 fn each_operand<'a>(
     arena: &'a Bump,
-    elements: &[Tree<'a>],
+    elements: Items<'_, 'a>,
 ) -> Result<Lent<'a, FileOperand<'a>>, GrammarError>
-    ensures { Reads result (each operand_of (items_view elements.now)) }
+    ensures { Reads result (each operand_of (items_view elements.entry)) }
 {
     let mut found = Vec::with_capacity(arena, elements.len())?;
     for element in elements {
-        found.push(read_operand(arena, element)?)?;
+        found.push(read_operand(&element)?)?;
     }
     Ok(Lent::from_vec(found))
 }
@@ -82,7 +82,7 @@ fn each_operand<'a>(
 /// The operands at a key that may be missing.
 fn read_operands<'a>(
     arena: &'a Bump,
-    value: &Tree<'a>,
+    value: &Node<'_, 'a>,
     key: &str,
 ) -> Result<Lent<'a, FileOperand<'a>>, GrammarError>
     ensures { Reads result (operands_at key.now (view value.now)) }
@@ -90,7 +90,7 @@ fn read_operands<'a>(
     match value.get(key) {
         None => Ok(Lent::from_vec(Vec::new(arena))),
         Some(found) => {
-            let Some(elements) = found.as_array() else {
+            let Some(elements) = found.items() else {
                 return Err(GrammarError::J2);
             };
             each_operand(arena, elements)
@@ -101,9 +101,9 @@ fn read_operands<'a>(
 /// Each name of an array of texts.
 fn each_name<'a>(
     arena: &'a Bump,
-    elements: &[Tree<'a>],
+    elements: Items<'_, 'a>,
 ) -> Result<Lent<'a, LentName<'a>>, GrammarError>
-    ensures { Reads result (each as_str (items_view elements.now)) }
+    ensures { Reads result (each as_str (items_view elements.entry)) }
 {
     let mut found = Vec::with_capacity(arena, elements.len())?;
     for element in elements {
@@ -118,14 +118,14 @@ fn each_name<'a>(
 /// The capabilities of an instruction or an enumerant.
 fn read_capabilities<'a>(
     arena: &'a Bump,
-    value: &Tree<'a>,
+    value: &Node<'_, 'a>,
 ) -> Result<Lent<'a, LentName<'a>>, GrammarError>
     ensures { Reads result (capabilities_at (view value.now)) }
 {
     match value.get("capabilities") {
         None => Ok(Lent::from_vec(Vec::new(arena))),
         Some(found) => {
-            let Some(elements) = found.as_array() else {
+            let Some(elements) = found.items() else {
                 return Err(GrammarError::J2);
             };
             each_name(arena, elements)
@@ -134,7 +134,7 @@ fn read_capabilities<'a>(
 }
 
 /// An opcode; `Some(None)` where the number is out of range.
-fn read_opcode(value: &Tree<'_>) -> Option<Option<u16>>
+fn read_opcode(value: &Node<'_, '_>) -> Option<Option<u16>>
     ensures { result ≡ opcode_at (view value.now) }
 {
     let number = value.get("opcode")?.as_number()?;
@@ -147,7 +147,7 @@ fn read_opcode(value: &Tree<'_>) -> Option<Option<u16>>
 /// An instruction.
 fn read_instruction<'a>(
     arena: &'a Bump,
-    value: &Tree<'a>,
+    value: &Node<'_, 'a>,
 ) -> Result<FileInstruction<'a>, GrammarError>
     ensures { Reads result (instruction_of (view value.now)) }
 {
@@ -171,13 +171,13 @@ fn read_instruction<'a>(
 /// Each instruction of an array.
 fn each_instruction<'a>(
     arena: &'a Bump,
-    elements: &[Tree<'a>],
+    elements: Items<'_, 'a>,
 ) -> Result<Lent<'a, FileInstruction<'a>>, GrammarError>
-    ensures { Reads result (each instruction_of (items_view elements.now)) }
+    ensures { Reads result (each instruction_of (items_view elements.entry)) }
 {
     let mut found = Vec::with_capacity(arena, elements.len())?;
     for element in elements {
-        found.push(read_instruction(arena, element)?)?;
+        found.push(read_instruction(arena, &element)?)?;
     }
     Ok(Lent::from_vec(found))
 }
@@ -221,7 +221,7 @@ fn bit_value(text: &str) -> Option<u32>
 }
 
 /// An enumerant's value; `Some(None)` where it is out of range or form.
-fn read_value(category: Category, value: &Tree<'_>) -> Option<Option<u32>>
+fn read_value(category: Category, value: &Node<'_, '_>) -> Option<Option<u32>>
     ensures { result ≡ value_at category (view value.now) }
 {
     let found = value.get("value")?;
@@ -238,7 +238,7 @@ fn read_value(category: Category, value: &Tree<'_>) -> Option<Option<u32>>
 fn read_enumerant<'a>(
     arena: &'a Bump,
     category: Category,
-    value: &Tree<'a>,
+    value: &Node<'_, 'a>,
 ) -> Result<FileEnumerant<'a>, GrammarError>
     ensures { Reads result (enumerant_in category (view value.now)) }
 {
@@ -263,13 +263,13 @@ fn read_enumerant<'a>(
 fn each_enumerant<'a>(
     arena: &'a Bump,
     category: Category,
-    elements: &[Tree<'a>],
+    elements: Items<'_, 'a>,
 ) -> Result<Lent<'a, FileEnumerant<'a>>, GrammarError>
-    ensures { Reads result (each (enumerant_in category) (items_view elements.now)) }
+    ensures { Reads result (each (enumerant_in category) (items_view elements.entry)) }
 {
     let mut found = Vec::with_capacity(arena, elements.len())?;
     for element in elements {
-        found.push(read_enumerant(arena, category, element)?)?;
+        found.push(read_enumerant(arena, category, &element)?)?;
     }
     Ok(Lent::from_vec(found))
 }
@@ -278,7 +278,7 @@ fn each_enumerant<'a>(
 fn read_enumerants<'a>(
     arena: &'a Bump,
     category: Option<Category>,
-    value: &Tree<'a>,
+    value: &Node<'_, 'a>,
 ) -> Result<Lent<'a, FileEnumerant<'a>>, GrammarError>
     ensures { Reads result (enumerants_at category (view value.now)) }
 {
@@ -297,7 +297,7 @@ fn read_enumerants<'a>(
 fn read_bases<'a>(
     arena: &'a Bump,
     category: Option<Category>,
-    value: &Tree<'a>,
+    value: &Node<'_, 'a>,
 ) -> Result<Lent<'a, LentName<'a>>, GrammarError>
     ensures { Reads result (bases_at category (view value.now)) }
 {
@@ -325,7 +325,7 @@ fn category(text: &str) -> Option<Category>
 }
 
 /// A kind of operands.
-fn read_kind<'a>(arena: &'a Bump, value: &Tree<'a>) -> Result<FileKind<'a>, GrammarError>
+fn read_kind<'a>(arena: &'a Bump, value: &Node<'_, 'a>) -> Result<FileKind<'a>, GrammarError>
     ensures { Reads result (kind_in (view value.now)) }
 {
     let Some(name) = text(value, "kind") else {
@@ -349,19 +349,19 @@ fn read_kind<'a>(arena: &'a Bump, value: &Tree<'a>) -> Result<FileKind<'a>, Gram
 /// Each kind of an array.
 fn each_kind<'a>(
     arena: &'a Bump,
-    elements: &[Tree<'a>],
+    elements: Items<'_, 'a>,
 ) -> Result<Lent<'a, FileKind<'a>>, GrammarError>
-    ensures { Reads result (each kind_in (items_view elements.now)) }
+    ensures { Reads result (each kind_in (items_view elements.entry)) }
 {
     let mut found = Vec::with_capacity(arena, elements.len())?;
     for element in elements {
-        found.push(read_kind(arena, element)?)?;
+        found.push(read_kind(arena, &element)?)?;
     }
     Ok(Lent::from_vec(found))
 }
 
 /// What a grammar file holds; J2 where its tree has not the form.
-pub(crate) fn read_file<'a>(arena: &'a Bump, value: &Tree<'a>) -> Result<File<'a>, GrammarError>
+pub(crate) fn read_file<'a>(arena: &'a Bump, value: &Node<'_, 'a>) -> Result<File<'a>, GrammarError>
     ensures { Reads result (file_of (view value.now)) }
 {
     let Some(instructions) = items(value, "instructions") else {

@@ -40,14 +40,14 @@ pub(crate) struct Lists {
 }
 
 impl Lists {
-    /// Two empty lists. The error is want of memory.
+    /// Two empty lists. The error is that memory ran out.
     pub(crate) fn new(alloc: Global) -> Result<Lists, AllocError> {
         let empty = NameList::from_vec(alloc, Vec::new(alloc))?;
         let last = empty.share()?;
         Ok(Lists { empty, last })
     }
 
-    /// A list of these names. The error is want of memory.
+    /// A list of these names. The error is that memory ran out.
     pub(crate) fn of(
         &mut self,
         alloc: Global,

@@ -1,4 +1,4 @@
-use Rattle.std.proofs.Common.{◌≡◌, drop}
+use Rattle.std.proofs.Common.{◌≡◌}
 use Rattle.json_tree.specs.View.{items_view}
 use Rattle.serde_json.specs.Find.{as_str}
 use Rattle.spv_grammar.specs.File.{each}
@@ -6,4 +6,4 @@ use Rattle.spv_grammar.proofs.Fronts.{with_front}
 use Rattle.spv_grammar.proofs.read.each_name.Given as goal
 
 abbrev pub invariant-loop-element : goal.invariant-loop-element
-invariant-loop-element l = each as_str (items_view l.elements) ≡ with_front l.found.items (each as_str (items_view (drop l.element-index l.elements)))
+invariant-loop-element l = each as_str (items_view l.fn.elements) ≡ with_front l.found.items (each as_str (items_view l.element-iterator))

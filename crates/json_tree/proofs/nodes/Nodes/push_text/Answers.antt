@@ -9,12 +9,12 @@ use Rattle.json_tree.proofs.nodes.Nodes.push_text.Goals as goal
 pub returns : goal.returns
 returns c =
     let old = c.self.inside.texts.items in
-    let grown = c.in_ok-push-2.ensures.items in
+    let grown = c.in_ok-add-2.ensures in
     let stay = λ (i : ℕ) (l : i < length old). ap (λ (xs : List (Bor (List ℕ))). slice_get xs i) grown ∙ kept old c.args.text i l in
     let first = c.len.ensures in
     let placed = c.in_ok-place.ensures in
     let at : c.in_ok-place.place ≡ length old = omega arith in
-    let here : text_of (slice_get c.push-2.new.self.items c.in_ok-place.place) ≡ string c.args.text.now =
+    let here : text_of (slice_get c.add-2.new.list.items c.in_ok-place.place) ≡ string c.args.text.now =
     ap (λ (xs : List (Bor (List ℕ))). text_of (slice_get xs c.in_ok-place.place)) grown ∙ ap (λ (i : ℕ). text_of (slice_get (old ++ c.args.text ∷ []) i)) at ∙ ap text_of (added old c.args.text) in
-    let more = one_more c.self.inside.source.now c.self.inside.numbers.items c.self.inside.numbers.items old c.push-2.new.self.items (λ i l. refl) stay c.self.inside.stored.items (Far c.in_ok-place.place) (string c.args.text.now) c.self.invariant here in
-    ap (λ (ss : List Stored). map (content_of c.self.inside.source.now c.self.inside.numbers.items c.push-2.new.self.items) ss) c.in_ok-push-3.ensures.items ∙ more ∙ ap (λ (cs : List Content). cs ++ string c.args.text.now ∷ []) c.self.view_is
+    let more = one_more c.self.inside.source.now c.self.inside.numbers.items c.self.inside.numbers.items old c.add-2.new.list.items (λ i l. refl) stay c.self.inside.stored.items (Far c.in_ok-place.place) (string c.args.text.now) c.self.invariant here in
+    ap (λ (ss : List Stored). map (content_of c.self.inside.source.now c.self.inside.numbers.items c.add-2.new.list.items) ss) c.in_ok-add-3.ensures ∙ more ∙ ap (λ (cs : List Content). cs ++ string c.args.text.now ∷ []) c.self.view_is
