@@ -1,8 +1,6 @@
 """The instructions of the processor that runs take, by bench/count, beside those that are kept."""
 
-import subprocess
-
-from .common import TESTS, Check
+from .common import TESTS, Check, joined
 
 COUNT = TESTS.parent / "bench/count"
 SECONDS = 900
@@ -12,15 +10,9 @@ LAYERS = frozenset({"first path"})
 def counted(*words):
     """The check that no count of `bench/count` with these words is more than a tenth above the one kept."""
 
-    def check(program, _folder):
-        ended = subprocess.run(
-            [str(COUNT), "--program", str(program), *words],
-            stdout=subprocess.PIPE,
-            stderr=subprocess.STDOUT,
-            timeout=SECONDS,
-            check=False,
-        )
-        return None if ended.returncode == 0 else f"  {ended.stdout.decode(errors='replace')}"
+    def check(program, folder):
+        out, status = joined([COUNT, "--program", program, *words], folder, SECONDS)
+        return None if status == 0 else f"  {out.decode(errors='replace')}"
 
     return check
 

@@ -1,8 +1,6 @@
 """How the work and the memory of runs grow with hostile shapes, by bench/growth."""
 
-import subprocess
-
-from .common import TESTS, Check
+from .common import TESTS, Check, joined
 
 GROWTH = TESTS.parent / "bench/growth"
 SECONDS = 900
@@ -12,15 +10,9 @@ LAYERS = frozenset({"types", "operations", "flow", "calls", "show", "text", "man
 def grown(part):
     """The check that no line of `bench/growth` of a part is above its limit."""
 
-    def check(program, _folder):
-        ended = subprocess.run(
-            [str(GROWTH), "--program", str(program), part],
-            stdout=subprocess.PIPE,
-            stderr=subprocess.STDOUT,
-            timeout=SECONDS,
-            check=False,
-        )
-        return None if ended.returncode == 0 else f"  {ended.stdout.decode(errors='replace')}"
+    def check(program, folder):
+        out, status = joined([GROWTH, "--program", program, part], folder, SECONDS)
+        return None if status == 0 else f"  {out.decode(errors='replace')}"
 
     return check
 
