@@ -21,12 +21,12 @@
  * it is given after it has returned. Nothing is kept between calls but what grammars and buffers hold.
  *
  * How much. As measured on hostile shapes (docs/PERFORMANCE.md), and not proved: `spvk_grammar_new` takes time near
- * to linear in the text, at most 170 instructions of the processor a byte, and memory of at most 12 times its bytes,
- * 21 times where it lists names of one byte. `spvk_check` and `spvk_explain` take time near to linear in the module,
- * at most 730 instructions for each word, and may look at all that the module's capabilities imply in the grammar;
- * their memory is at most 14 times the module. A text that `spvk_show` or `spvk_explain` makes may have as many bytes
- * as the longest names of the grammar have times the instructions: where the grammar or the module is a stranger's, let
- * malloc refuse, and the call answers SPVK_MEMORY. A module that `spvk_assemble` makes is no longer than 16,777,216
+ * to linear in the text, at most 170 instructions of the processor a byte, and memory of at most 12 times its bytes.
+ * `spvk_check` and `spvk_explain` take time near to linear in the module, at most 730 instructions for each word, and
+ * may look at all that the module's capabilities imply in the grammar; their memory is at most 14 times the module. A
+ * text that `spvk_show` or `spvk_explain` makes may have as many bytes as the longest names of the grammar have times
+ * the instructions: where the grammar or the module is a stranger's, let malloc refuse, and the call answers
+ * SPVK_MEMORY. A module that `spvk_assemble` makes is no longer than 16,777,216
  * bytes; its time and memory go with the text.
  *
  * Threads. Any number of threads may use one grammar at the same time, to check, explain, show and assemble; a

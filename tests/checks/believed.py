@@ -34,12 +34,46 @@ PROMISES = (
     (
         "From words to instructions and back",
         "`decode` and `encode`.",
-        (("spv_inst", "decoder.rt", "decode"), ("spv_inst", "encoder.rt", "encode")),
+        (("spv_inst", "decoder.rt", "decode"), ("spv_encode", "encoder.rt", "encode")),
     ),
     (
         "The text of a module",
         "`show` and `assemble`.",
         (("spv_printer", "shown.rt", "show"), ("spv_parser", "assembled.rt", "assemble")),
+    ),
+    (
+        "Which table a grammar file gives",
+        "`Table::from_slice` of a text, and `Table::from_value` of a tree of serde_json. What JSON is, is serde_json's.",
+        (
+            ("spv_grammar", "load.rt", "from_slice", "impl FromGrammar for Table"),
+            ("spv_grammar", "load.rt", "from_value", "impl FromGrammar for Table"),
+        ),
+    ),
+    (
+        "What each layer answers",
+        "`lay_out`, `number`, `type_check` and `flow_check`, of a module and what the layers before answered.",
+        (
+            ("spv_layout", "plan.rt", "lay_out"),
+            ("spv_ids", "ids.rt", "number"),
+            ("spv_verdict", "types.rt", "type_check"),
+            ("spv_verdict", "flow.rt", "flow_check"),
+        ),
+    ),
+    (
+        "What shows a fault",
+        "`explain` answers the verdict of `check`, and of a fault evidence that the rule is broken there.",
+        (("spv_explain", "explained.rt", "explain"),),
+    ),
+    (
+        "Streams",
+        "`check_stream` and the other calls over streams speak of readers and writers by the clauses of two traits: a "
+        "reader gives what remains, a writer keeps what it took, and a call that fails counts.",
+        (
+            ("spv_words", "stream.rt", "read", "trait Source"),
+            ("spv_words", "stream.rt", "write", "trait Sink"),
+            ("spv_words", "reading.rt", "read_image"),
+            ("spv_words", "writing.rt", "write_all"),
+        ),
     ),
 )
 
@@ -150,9 +184,9 @@ RULES = (
     ("Y6", "functions and parameters", [("spv_type_rules/specs/Keeps.antt", "KeepsFunctions")], []),
     ("Y7", "returns", [("spv_type_rules/specs/Keeps.antt", "KeepsReturns")], []),
     ("Y8", "calls", [("spv_type_rules/specs/Function.antt", "CallsSoundly")], []),
-    ("F1, F4", "labels, and two that are the same", [], [(BRANCHES, "Broken")]),
     ("F2", "branches to entry blocks", [], [(BRANCHES, "Broken"), (TARGET, "IsEntryLabel")]),
     ("F3", "the parents of a phi", [(TARGET, "HasParents")], [(BRANCHES, "Broken")]),
+    ("F besides", "labels, and two that are the same", [], [(BRANCHES, "Broken")]),
     ("A1", "values on every walk", [], [(READY, "IsMissing")]),
     ("A2", "values of phis on every walk", [], [(READY, "IsPairMissing")]),
     ("G1", "cycles of calls", [], [("spv_calls/specs/Broken.antt", "Broken")]),
@@ -165,6 +199,12 @@ ORDERS = (
     ("spv_module/src/fault.rt", "Rule"),
     ("spv_layout/src/class.rt", "Class"),
 )
+
+
+# Stands for the text by which contracts see a type of the code: how a list is held there serves the code alone.
+AS_SEEN = Path()
+# Definitions that are such texts: `definition_in` is how contracts see `Ids`.
+VIEWS = ("definition_in",)
 
 
 class NotFound(Exception):
@@ -272,10 +312,14 @@ def file_of(module):
     return path if path.is_file() else None
 
 
-def clauses(crate, file, call):
-    """The signature and the clauses of a call, and what their names stand for."""
+def clauses(crate, file, call, block=None):
+    """The signature and the clauses of a call, or of one in a trait or an `impl` block, and what their names stand for."""
     text = (CRATES / crate / "src" / file).read_text(encoding="utf-8")
-    found = re.search(rf"pub fn {call}\b.*?(?=\n\{{)", text, re.S)
+    if block:
+        inside = re.search(rf"^(?:pub )?{block} \{{.*?^\}}", text, re.S | re.M)
+        found = inside and re.search(rf"^    fn {call}\b.*?(?=\n    \{{|;\n)", inside[0], re.S | re.M)
+    else:
+        found = re.search(rf"pub fn {call}\b.*?(?=\n\{{)", text, re.S)
     if not found:
         raise NotFound(f"{crate} has no {call} in {file}")
     return re.sub(r"//.*", "", found[0]), scope_of(text)
@@ -303,25 +347,26 @@ class Closure:
         self.seen.add(id(definition))
         self.found.append((path, definition))
         code = "\n".join(re.sub(r"--.*", "", line) for line in definition.lines)
-        waiting.append((code, read(path)[1], path))
+        waiting.append((code, read(path)[1], AS_SEEN if set(definition.heads) <= set(VIEWS) else path))
 
     def take_type(self, name, waiting):
         """Comes to a type of the code: as what contracts see it."""
         if name in models() and name not in self.types:
             self.types.add(name)
-            waiting.append((*models()[name], None))
+            waiting.append((*models()[name], AS_SEEN))
 
     def follow(self, text, scope):
         """Comes to all that a text names, and to what that names, breadth first."""
         waiting = [(text, scope, None)]
         for text, scope, path in waiting:
+            is_view, path = path is AS_SEEN, None if path is AS_SEEN else path
             own = read(path)[0] if path else {}
             module = "Rattle." + ".".join(path.relative_to(CRATES).with_suffix("").parts) if path else ""
             for whole in NAME.findall(text):
                 first, _, rest = whole.partition(".")
                 if first in own:
                     self.take(module, first, waiting)
-                if first in scope.names:
+                if first in scope.names and not (is_view and ".inner." in scope.names[first][0]):
                     self.take(*scope.names[first], waiting)
                 elif first in scope.modules and rest:
                     self.take(scope.modules[first], rest.split(".")[0], waiting)

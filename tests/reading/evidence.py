@@ -300,7 +300,7 @@ def body_of(insts, number):
 
 
 def of_branches(faulty, rule, number):
-    """F1 to F4. Where several pairs of a phi are wrong, any that is wrong may be told."""
+    """The rules F. Where several pairs of a phi are wrong, any that is wrong may be told."""
     insts, inst = faulty.insts, faulty.insts[number]
     body, label = body_of(insts, number)
     named = [(at, of) for at, of, role in used(inst) if role == "label"]
@@ -309,7 +309,7 @@ def of_branches(faulty, rule, number):
         return [faulty.operand(number, at), faulty.inst("defined", faulty.definitions[of])]
     if rule == "F2":
         return [faulty.operand(number, next(at for at, of in named if of == body.entry))]
-    if rule == "F4":
+    if rule != "F3":
         return [faulty.operand(number, 2)]
     parents = [of for _, of in named]
     wrong = {("missing parent", f"%{it}") for it in body.parents[label] if it not in parents}

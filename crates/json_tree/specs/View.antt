@@ -1,5 +1,6 @@
 -- What a tree stands for, in the words of `serde_json`. (Own.)
-use Rattle.std.specs.Prelude.{ℕ, zero, suc, ◌-◌, Bool, List, [], ◌∷◌, Option, Some, None, option_map, option_and_then, nat_le, if◌then◌else◌}
+use Rattle.std.specs.Prelude.{ℕ, zero, suc, ◌-◌, Bool, List, [], ◌∷◌, Option, Some, None, option_map}
+use Rattle.std.specs.Prelude.{option_and_then, nat_le, if◌then◌else◌}
 use Rattle.std.specs.Borrow.{Bor}
 use Rattle.serde_json.specs.Data as serde
 use Rattle.serde_json.specs.Data.{Num, Data, Items, Members, no_members, put}

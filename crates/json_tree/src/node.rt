@@ -41,6 +41,16 @@ impl<'t, 'a> Node<'t, 'a> {
         Node { nodes, place }
     }
 
+    /// The same node once more.
+    pub fn same(&self) -> Node<'t, 'a>
+        ensures { result ≡ self.now }
+    {
+        Node {
+            nodes: self.nodes,
+            place: self.place,
+        }
+    }
+
     /// The text, where this is one.
     pub fn as_str(&self) -> Option<&'a str>
         ensures { option_map (λ s. s.now) result ≡ as_str (view self.now) }

@@ -1,6 +1,7 @@
 //! The nodes of a tree, in the order of the text, in eight bytes each.
 
-ghost use Rattle.std.specs.Prelude.{◌≡◌, ◌<◌, ◌+◌, ◌-◌, ◌^◌, ◌++◌, [], ◌∷◌, length, slice_get, slice_set, Some, IfSome, OnOk, IfOk, vec_len, vec_capacity, is_ok, if◌then◌else◌};
+ghost use Rattle.std.specs.Prelude.{◌≡◌, ◌<◌, ◌+◌, ◌-◌, ◌^◌, ◌++◌, [], ◌∷◌, length, slice_get, slice_set};
+ghost use Rattle.std.specs.Prelude.{Some, IfSome, OnOk, IfOk, vec_len, vec_capacity, is_ok, if◌then◌else◌};
 ghost use Rattle.std.specs.Str.{IsCharBoundary};
 ghost use Rattle.serde_json.specs.View.{number_view};
 ghost use Rattle.json_tree.specs.View.{nodes_in};
@@ -15,6 +16,9 @@ use std::marker::Model;
 /// From how many bytes of the source on its texts are kept as their places there. In a shorter one
 /// their list takes little memory, and is made faster.
 const LONG: usize = 1 << 20;
+
+/// The greatest number of nodes, numbers or texts that a node can hold.
+const MAX: usize = u32::MAX as usize;
 
 /// A node in eight bytes.
 #[derive(Clone, Copy)]
@@ -81,17 +85,6 @@ fn near(source: &str, text: &str, quote: usize) -> Option<Stored>
         length,
         start: place,
     })
-}
-
-/// A number of nodes, numbers or texts as it is stored. The error is that there are too many.
-#[inline(always)]
-fn small(number: usize) -> Result<u32, AllocError>
-    ensures { IfOk result (λ n. n ≡ number) }
-{
-    if number > 0xffff_ffff {
-        return Err(AllocError);
-    }
-    Ok(number as u32)
 }
 
 /// Room in a list for one more.
@@ -174,9 +167,12 @@ impl<'a> Nodes<'a> {
                 return Ok(());
             }
         }
-        let place = small(self.numbers.len())?;
+        let place = self.numbers.len();
+        if place > MAX {
+            return Err(AllocError);
+        }
         add(&mut self.numbers, number)?;
-        add(&mut self.stored, Stored::Number(place))?;
+        add(&mut self.stored, Stored::Number(place as u32))?;
         Ok(())
     }
 
@@ -186,14 +182,33 @@ impl<'a> Nodes<'a> {
         ensures { OnOk result (self.new ≡ self.old ++ seen.string text.now ∷ []) }
     {
         if self.source.len() >= LONG {
-            if let Some(stored) = near(self.source, text, quote) {
-                add(&mut self.stored, stored)?;
-                return Ok(());
-            }
+            return self.push_near(text, quote);
         }
-        let place = small(self.texts.len())?;
+        self.push_far(text)
+    }
+
+    /// The same in a long source.
+    #[inline(never)]
+    fn push_near(&mut self, text: &'a str, quote: usize) -> Result<(), AllocError>
+        ensures { OnOk result (self.new ≡ self.old ++ seen.string text.now ∷ []) }
+    {
+        match near(self.source, text, quote) {
+            Some(stored) => add(&mut self.stored, stored),
+            None => self.push_far(text),
+        }
+    }
+
+    /// The same where its place is not looked for.
+    #[inline(always)]
+    fn push_far(&mut self, text: &'a str) -> Result<(), AllocError>
+        ensures { OnOk result (self.new ≡ self.old ++ seen.string text.now ∷ []) }
+    {
+        let place = self.texts.len();
+        if place > MAX {
+            return Err(AllocError);
+        }
         add(&mut self.texts, text)?;
-        add(&mut self.stored, Stored::Far(place))?;
+        add(&mut self.stored, Stored::Far(place as u32))?;
         Ok(())
     }
 
@@ -203,8 +218,11 @@ impl<'a> Nodes<'a> {
         ensures { OnOk result (self.new
             ≡ slice_set self.old place (seen.array (length self.old - place - 1))) }
     {
-        let count = small(self.stored.len() - place - 1)?;
-        self.stored[place] = Stored::Array(count);
+        let count = self.stored.len() - place - 1;
+        if count > MAX {
+            return Err(AllocError);
+        }
+        self.stored[place] = Stored::Array(count as u32);
         Ok(())
     }
 
@@ -214,8 +232,11 @@ impl<'a> Nodes<'a> {
         ensures { OnOk result (self.new
             ≡ slice_set self.old place (seen.object (length self.old - place - 1))) }
     {
-        let count = small(self.stored.len() - place - 1)?;
-        self.stored[place] = Stored::Object(count);
+        let count = self.stored.len() - place - 1;
+        if count > MAX {
+            return Err(AllocError);
+        }
+        self.stored[place] = Stored::Object(count as u32);
         Ok(())
     }
 

@@ -162,9 +162,9 @@ fn with_words(rt: &HostRuntime) -> Result<u8, Trouble> {
     };
     match arguments_in(rt.alloc(), &texts, grammar) {
         Ok(command) => with_files(rt, &command),
-        Err(UseError::U1) => Err(Trouble::Use),
-        Err(UseError::U2) => Err(Trouble::Memory),
-        Err(UseError::U3 | UseError::U4) => show_text(rt, &texts),
+        Err(UseError::NoCommand) => Err(Trouble::Use),
+        Err(UseError::Memory) => Err(Trouble::Memory),
+        Err(UseError::Help | UseError::Version) => show_text(rt, &texts),
     }
 }
 

@@ -1,8 +1,9 @@
 //! Modules that are put together and written, and those that no words spell.
 
+use spv_encode::{EncodeCode, EncodeError, encode};
 use spv_grammar::{FromGrammar, GrammarError, Table};
 use spv_inst::Operand::{Id, Mask, Number, OfType, Result as Made, Text, Value, Word};
-use spv_inst::{EncodeCode, EncodeError, Memory, Module, Operand, Operands, decode, encode};
+use spv_inst::{Memory, Module, Operand, Operands, decode};
 use spv_samples::PROFILE;
 use spv_words::{Header, Image};
 use std::alloc::Global;
@@ -252,7 +253,7 @@ fn messages(rt: HostRuntime) -> Result<(), Fail> {
             EncodeCode::N3,
             "instruction 7: the instruction or the module is too long",
         ),
-        (EncodeCode::N4, "instruction 7: out of memory"),
+        (EncodeCode::Memory, "instruction 7: out of memory"),
     ] {
         let error = EncodeError { code, inst: 7 };
         assert_eq!(rt; format!(in rt.alloc(); "{error}")?.as_str(), message);

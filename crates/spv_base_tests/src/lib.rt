@@ -1,5 +1,5 @@
-//! The calls of spv_words, json_tree, spv_grammar, spv_inst, spv_tokens and spv_text, with ample memory and with growths
-//! refused. What each line of a text is read as and shown as is shown by the program.
+//! The calls of spv_words, json_tree, spv_grammar, spv_inst, spv_encode, spv_tokens, spv_printer and spv_parser, with
+//! ample memory and with growths refused. What each line of a text is read as and shown as is shown by the program.
 #![tactic(auto)]
 
 #[cfg(test)]

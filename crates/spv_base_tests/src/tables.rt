@@ -78,7 +78,7 @@ fn entries(rt: HostRuntime) -> Result<(), Fail> {
     let table = Table::from_slice(rt.alloc(), SMALL.as_bytes())?;
     let entry = table.entry(7).ok_or("an entry")?;
     assert_eq!(rt; entry.name.as_str(), "OpA");
-    assert_eq!(rt; entry.capabilities.as_slice().len(), 2);
+    assert_eq!(rt; entry.capabilities.len(), 2);
     let operands = entry.operands.as_slice();
     assert_eq!(rt; operands.len(), 3);
     assert_eq!(rt;

@@ -1,10 +1,12 @@
 //! Texts and their images, and what is refused.
 
+use spv_encode::{EncodeCode, EncodeError};
 use spv_grammar::{FromGrammar, Table};
 use spv_inst::Operand::{Id, Text};
-use spv_inst::{EncodeCode, EncodeError, Fault, Module, Rule, Stop, decode};
+use spv_inst::{Fault, Module, Rule, Stop, decode};
+use spv_parser::{AsmCode, AsmError, assemble};
+use spv_printer::{show, show_image, show_inst, show_insts, show_listed};
 use spv_samples::{LOAD_WITH_MASK, PROFILE, image_of};
-use spv_text::{AsmCode, AsmError, assemble, show, show_image, show_listed};
 use spv_words::Image;
 use std::alloc::{AllocError, Global};
 use std::test::Fail;
@@ -66,6 +68,23 @@ fn shows_what_it_reads(rt: HostRuntime) -> Result<(), Fail> {
     assert_eq!(rt; shown.as_str(), SHOWN);
     let again = text_again(rt.alloc(), &table, &image)?;
     assert_eq!(rt; again.as_str(), SHOWN);
+    Ok(())
+}
+
+#[test]
+fn shows_instructions(rt: HostRuntime) -> Result<(), Fail> {
+    let table = Table::from_slice(rt.alloc(), PROFILE.as_bytes())?;
+    let image = assemble(rt.alloc(), &table, SHOWN)?;
+    let module = decode(rt.alloc(), &table, &image).map_err(refusal)?;
+    let line = show_inst(rt.alloc(), &table, &module, 9)?;
+    assert_eq!(rt; line.as_str(), "%5 = OpConstant %3 0x40490fdb");
+    let none = show_inst(rt.alloc(), &table, &module, 18)?;
+    assert_eq!(rt; none.as_str(), "");
+    let lines = show_insts(rt.alloc(), &table, &module, &[9, 8, 18, 17])?;
+    assert_eq!(rt;
+        lines.as_str(),
+        "%5 = OpConstant %3 0x40490fdb\n%4 = OpConstant %2 7\n\nOpSwitch %4 %7 1 %8\n"
+    );
     Ok(())
 }
 

@@ -3,6 +3,7 @@ use Rattle.std.proofs.Common.{◌≡◌, ◌≤◌, ◌∙◌, ◌⊎◌, inl, i
 use Rattle.std.specs.Prelude.{slice_get, option_and_then}
 use Rattle.std.proofs.lemmas.Bool.{cases_Bool, cases_lt, eqb-true}
 use Rattle.std.proofs.lemmas.Bool.Decides.{nat_tests}
+use Rattle.spv_module.specs.declared.opcode.TheConstants as opcode
 use Rattle.spv_table.specs.Table.{Table}
 use Rattle.spv_module.specs.Operand.{PlainInst}
 use Rattle.spv_layout.specs.declared.form.Role.TheVariants.{Label}
@@ -19,10 +20,10 @@ use Rattle.spv_branches.proofs.Labelled.{use_in, use_at, one_id, one_place}
 use Rattle.spv_branches.proofs.Places.{label_told, no_label_told}
 
 pub conditional_labelled : (x : ℕ) → is_conditional x ≡ true → is_labelled x ≡ true
-conditional_labelled x h = ap is_labelled (eqb-true x 250 h)
+conditional_labelled x h = ap is_labelled (eqb-true x opcode.BRANCH_CONDITIONAL h)
 
 pub jump_labelled : (x : ℕ) → is_jump x ≡ true → is_labelled x ≡ true
-jump_labelled x h = ap is_labelled (eqb-true x 249 h)
+jump_labelled x h = ap is_labelled (eqb-true x opcode.BRANCH h)
 
 -- the id at a label's place
 pub used_by : (G : Table) (is : List PlainInst) (at n x k : ℕ) (i : PlainInst) → slice_get is at ≡ Some i → i.opcode ≡ k → is_labelled k ≡ true → is_label_at k n ≡ true → FitsShape G i → Some x ≡ option_and_then id_of (slice_get i.operands n) → IsUsedAt G is at n x Label
@@ -46,18 +47,18 @@ two_places n h =
     elim (cases_lt n 2) [ inl a ↦ inl (omega (arith, a, low)) | inr a ↦ inr (omega (arith, a, high)) ]
 
 -- a label of an OpBranchConditional is one of the two
-pub conditional_only : (G : Table) (is : List PlainInst) (at x y : ℕ) (i : PlainInst) → slice_get is at ≡ Some i → i.opcode ≡ 250 → FitsShape G i → IsUsedAt G is at 1 x Label → IsUsedAt G is at 2 y Label
+pub conditional_only : (G : Table) (is : List PlainInst) (at x y : ℕ) (i : PlainInst) → slice_get is at ≡ Some i → i.opcode ≡ opcode.BRANCH_CONDITIONAL → FitsShape G i → IsUsedAt G is at 1 x Label → IsUsedAt G is at 2 y Label
     → (n z : ℕ) → IsUsedAt G is at n z Label → (z ≡ x) ⊎ (z ≡ y)
-conditional_only G is at x y i there e fits one two n z u = elim (two_places n (placed_at G is at n z 250 i there e (let h : is_labelled 250 ≡ true = refl in h) fits u)) [
+conditional_only G is at x y i there e fits one two n z u = elim (two_places n (placed_at G is at n z opcode.BRANCH_CONDITIONAL i there e (let h : is_labelled opcode.BRANCH_CONDITIONAL ≡ true = refl in h) fits u)) [
   | inl s ↦ inl (one_id G is at 1 z x Label Label (subst (λ (j : ℕ). IsUsedAt G is at j z Label) s u) one)
   | inr s ↦ inr (one_id G is at 2 z y Label Label (subst (λ (j : ℕ). IsUsedAt G is at j z Label) s u) two)
 ]
 
 -- that of an OpBranch is its one
-pub jump_only : (G : Table) (is : List PlainInst) (at x : ℕ) (i : PlainInst) → slice_get is at ≡ Some i → i.opcode ≡ 249 → FitsShape G i → IsUsedAt G is at 0 x Label
+pub jump_only : (G : Table) (is : List PlainInst) (at x : ℕ) (i : PlainInst) → slice_get is at ≡ Some i → i.opcode ≡ opcode.BRANCH → FitsShape G i → IsUsedAt G is at 0 x Label
     → (n z : ℕ) → IsUsedAt G is at n z Label → (z ≡ x) ⊎ (z ≡ x)
 jump_only G is at x i there e fits one n z u =
-    let s : n ≡ 0 = eqb-true n 0 (placed_at G is at n z 249 i there e (let h : is_labelled 249 ≡ true = refl in h) fits u) in
+    let s : n ≡ 0 = eqb-true n 0 (placed_at G is at n z opcode.BRANCH i there e (let h : is_labelled opcode.BRANCH ≡ true = refl in h) fits u) in
     inl (one_id G is at 0 z x Label Label (subst (λ (j : ℕ). IsUsedAt G is at j z Label) s u) one)
 
 -- What is known of the two labels of a branch.

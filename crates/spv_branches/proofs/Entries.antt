@@ -2,6 +2,7 @@
 use Rattle.std.proofs.Common.{◌≡◌, ◌≤◌, ◌<◌, ◌+◌, ◌⊎◌, ◌∙◌, inl, inr, ℕ, zero, suc, List, Bool, true, false, Some, length, replicate, set, refl, sym, ap, subst, arith}
 use Rattle.std.specs.Prelude.{slice_get}
 use Rattle.std.proofs.lemmas.Bool.{cases_lt, cases_eq, eqb-true}
+use Rattle.spv_module.specs.declared.opcode.TheConstants as opcode
 use Rattle.spv_module.specs.Operand.{PlainInst}
 use Rattle.spv_branches.specs.Target.{is_label, IsOp, IsEntryLabel}
 use Rattle.spv_branches.specs.inner.Target.{is_function}
@@ -70,10 +71,10 @@ follows_start is count = record {
 }
 
 -- an OpFunction
-pub follows_function : (is : List PlainInst) (marks : List Bool) (is_open : Bool) (n : ℕ) (i : PlainInst) → slice_get is n ≡ Some i → i.opcode ≡ 54 → IsFollowing is marks is_open n → IsFollowing is marks true (n + 1)
+pub follows_function : (is : List PlainInst) (marks : List Bool) (is_open : Bool) (n : ℕ) (i : PlainInst) → slice_get is n ≡ Some i → i.opcode ≡ opcode.FUNCTION → IsFollowing is marks is_open n → IsFollowing is marks true (n + 1)
 follows_function is marks is_open n i there op before =
     let f : IsOp is n is_function = op_holds is n i is_function there (ap is_function op) in
-    let isnt : ¬ (IsOp is n is_label) = not_op is n i is_label there (λ e. let g = eqb-true i.opcode 248 e in absurd (omega arith)) in
+    let isnt : ¬ (IsOp is n is_label) = not_op is n i is_label there (λ e. let g = eqb-true i.opcode opcode.LABEL e in absurd (omega arith)) in
     record {
       entries = record {
         sound = before.entries.sound;
@@ -88,10 +89,10 @@ follows_function is marks is_open n i there op before =
     }
 
 -- an OpLabel
-pub follows_label : (is : List PlainInst) (marks : List Bool) (is_open : Bool) (n : ℕ) (i : PlainInst) → n < length marks → slice_get is n ≡ Some i → i.opcode ≡ 248 → IsFollowing is marks is_open n → IsFollowing is (set marks n is_open) false (n + 1)
+pub follows_label : (is : List PlainInst) (marks : List Bool) (is_open : Bool) (n : ℕ) (i : PlainInst) → n < length marks → slice_get is n ≡ Some i → i.opcode ≡ opcode.LABEL → IsFollowing is marks is_open n → IsFollowing is (set marks n is_open) false (n + 1)
 follows_label is marks is_open n i within there op before =
     let l : IsOp is n is_label = op_holds is n i is_label there (ap is_label op) in
-    let isnt : ¬ (IsOp is n is_function) = not_op is n i is_function there (λ e. let g = eqb-true i.opcode 54 e in absurd (omega arith)) in
+    let isnt : ¬ (IsOp is n is_function) = not_op is n i is_function there (λ e. let g = eqb-true i.opcode opcode.FUNCTION e in absurd (omega arith)) in
     record {
       entries = record {
         sound = λ m e. elim (cases_eq m n) [
@@ -109,10 +110,10 @@ follows_label is marks is_open n i within there op before =
     }
 
 -- any other instruction
-pub follows_other : (is : List PlainInst) (marks : List Bool) (is_open : Bool) (n : ℕ) (i : PlainInst) → slice_get is n ≡ Some i → (i.opcode ≡ 54 → ⊥) → (i.opcode ≡ 248 → ⊥) → IsFollowing is marks is_open n → IsFollowing is marks is_open (n + 1)
+pub follows_other : (is : List PlainInst) (marks : List Bool) (is_open : Bool) (n : ℕ) (i : PlainInst) → slice_get is n ≡ Some i → (i.opcode ≡ opcode.FUNCTION → ⊥) → (i.opcode ≡ opcode.LABEL → ⊥) → IsFollowing is marks is_open n → IsFollowing is marks is_open (n + 1)
 follows_other is marks is_open n i there not_f not_l before =
-    let no_f : ¬ (IsOp is n is_function) = not_op is n i is_function there (λ e. not_f (eqb-true i.opcode 54 e)) in
-    let no_l : ¬ (IsOp is n is_label) = not_op is n i is_label there (λ e. not_l (eqb-true i.opcode 248 e)) in
+    let no_f : ¬ (IsOp is n is_function) = not_op is n i is_function there (λ e. not_f (eqb-true i.opcode opcode.FUNCTION e)) in
+    let no_l : ¬ (IsOp is n is_label) = not_op is n i is_label there (λ e. not_l (eqb-true i.opcode opcode.LABEL e)) in
     record {
       entries = record {
         sound = before.entries.sound;

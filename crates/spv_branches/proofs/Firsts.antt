@@ -5,10 +5,12 @@ use Rattle.std.proofs.lemmas.Bool.{eqb-true, cases_order}
 use Rattle.std.proofs.lemmas.Bool.Decides.{nat_tests}
 use Rattle.std.proofs.lemmas.Option.{slice_get_within}
 use Rattle.std.proofs.lemmas.List.Sums.{sum_by-cons}
+use Rattle.spv_module.specs.declared.opcode.TheConstants as opcode
 use Rattle.spv_table.specs.Table.{Table}
 use Rattle.spv_module.specs.Operand.{PlainInst}
 use Rattle.spv_module.specs.declared.fault.Rule.{Rule}
 use Rattle.spv_module.specs.declared.fault.Rule.TheVariants.{F1, F2, F3, F4}
+use Rattle.spv_layout.specs.Stage.{of_branches}
 use Rattle.spv_layout.specs.First.{stage_of, rank_of, IsFirst}
 use Rattle.spv_module.specs.declared.fault.Stop.{Stop}
 use Rattle.spv_module.specs.declared.fault.Stop.TheVariants.{Fault, Memory}
@@ -54,17 +56,17 @@ pub merge_apart : (is : List PlainInst) (n : ℕ) → IsOp is n is_merge → IsO
 merge_apart is n m b = let h = both_hold is n is_merge is_branch m b in branch_no_merge h.0 h.1 h.2
 
 -- opcodes before that of OpPhi
-pub low_phi : (x : ℕ) → x < 245 → is_phi x ≡ true → ⊥
+pub low_phi : (x : ℕ) → x < opcode.PHI → is_phi x ≡ true → ⊥
 low_phi x h t = grind (arith, nat_tests)
 
-pub low_merge : (x : ℕ) → x < 245 → is_merge x ≡ true → ⊥
+pub low_merge : (x : ℕ) → x < opcode.PHI → is_merge x ≡ true → ⊥
 low_merge x h t = grind (arith, nat_tests)
 
-pub low_branch : (x : ℕ) → x < 245 → is_branch x ≡ true → ⊥
+pub low_branch : (x : ℕ) → x < opcode.PHI → is_branch x ≡ true → ⊥
 low_branch x h t = grind (arith, nat_tests)
 
 -- an instruction at which a rule is broken is there
-pub broken_within : (G : Table) (is : List PlainInst) (q : Rule) (n : ℕ) → stage_of q ≡ 6 → Broken G is q n → n < length is
+pub broken_within : (G : Table) (is : List PlainInst) (q : Rule) (n : ℕ) → stage_of q ≡ of_branches → Broken G is q n → n < length is
 broken_within G is _ _ s (Broken.no_label n k x op used none) = slice_get_within is n used.inst used.there
 broken_within G is _ _ s (Broken.to_entry n x m target d e) = slice_get_within is n target.used.inst target.used.there
 broken_within G is _ _ s (Broken.parents n phi not) = (let h = holds is n is_phi phi in slice_get_within is n h.inst h.there)
@@ -72,20 +74,20 @@ broken_within G is _ _ s (Broken.same_labels n x op u w) = slice_get_within is n
 broken_within G is _ _ s (Broken.missing n m) = absurd (cc)
 broken_within G is _ _ s (Broken.pair_missing n m) = absurd (cc)
 
-pub at_phi : (G : Table) (is : List PlainInst) (q : Rule) (n : ℕ) → IsOp is n is_phi → stage_of q ≡ 6 → Broken G is q n → (q ≡ F3) × ¬ (HasParents G is n)
-at_phi G is _ _ phi s (Broken.no_label n k x (inl b) used none) = absurd (let h : is_branch 245 ≡ true = known is n 245 is_branch phi b in cc)
-at_phi G is _ _ phi s (Broken.no_label n k x (inr m) used none) = absurd (let h : is_merge 245 ≡ true = known is n 245 is_merge phi m in cc)
-at_phi G is _ _ phi s (Broken.to_entry n x m target d e) = absurd (let h : is_branch 245 ≡ true = known is n 245 is_branch phi target.branch in cc)
+pub at_phi : (G : Table) (is : List PlainInst) (q : Rule) (n : ℕ) → IsOp is n is_phi → stage_of q ≡ of_branches → Broken G is q n → (q ≡ F3) × ¬ (HasParents G is n)
+at_phi G is _ _ phi s (Broken.no_label n k x (inl b) used none) = absurd (let h : is_branch opcode.PHI ≡ true = known is n opcode.PHI is_branch phi b in cc)
+at_phi G is _ _ phi s (Broken.no_label n k x (inr m) used none) = absurd (let h : is_merge opcode.PHI ≡ true = known is n opcode.PHI is_merge phi m in cc)
+at_phi G is _ _ phi s (Broken.to_entry n x m target d e) = absurd (let h : is_branch opcode.PHI ≡ true = known is n opcode.PHI is_branch phi target.branch in cc)
 at_phi G is _ _ phi s (Broken.parents n p not) = (refl, not)
-at_phi G is _ _ phi s (Broken.same_labels n x op u w) = absurd (let h : is_conditional 245 ≡ true = known is n 245 is_conditional phi op in cc)
+at_phi G is _ _ phi s (Broken.same_labels n x op u w) = absurd (let h : is_conditional opcode.PHI ≡ true = known is n opcode.PHI is_conditional phi op in cc)
 at_phi G is _ _ phi s (Broken.missing n m) = absurd (cc)
 at_phi G is _ _ phi s (Broken.pair_missing n m) = absurd (cc)
 
-pub at_merge : (G : Table) (is : List PlainInst) (q : Rule) (n : ℕ) → IsOp is n is_merge → stage_of q ≡ 6 → Broken G is q n → (q ≡ F1) × LacksLabel G is n
+pub at_merge : (G : Table) (is : List PlainInst) (q : Rule) (n : ℕ) → IsOp is n is_merge → stage_of q ≡ of_branches → Broken G is q n → (q ≡ F1) × LacksLabel G is n
 at_merge G is _ _ merge s (Broken.no_label n k x op used none) = (refl, record { operand = k; id = x; used = used; none = none })
 at_merge G is _ _ merge s (Broken.to_entry n x m target d e) = absurd (merge_apart is n merge target.branch)
-at_merge G is _ _ merge s (Broken.parents n p not) = absurd (let h : is_merge 245 ≡ true = known is n 245 is_merge p merge in cc)
-at_merge G is _ _ merge s (Broken.same_labels n x op u w) = absurd (let h : is_merge 250 ≡ true = known is n 250 is_merge op merge in cc)
+at_merge G is _ _ merge s (Broken.parents n p not) = absurd (let h : is_merge opcode.PHI ≡ true = known is n opcode.PHI is_merge p merge in cc)
+at_merge G is _ _ merge s (Broken.same_labels n x op u w) = absurd (let h : is_merge opcode.BRANCH_CONDITIONAL ≡ true = known is n opcode.BRANCH_CONDITIONAL is_merge op merge in cc)
 at_merge G is _ _ merge s (Broken.missing n m) = absurd (cc)
 at_merge G is _ _ merge s (Broken.pair_missing n m) = absurd (cc)
 
@@ -95,10 +97,10 @@ pub data AtBranch (G : Table) (is : List PlainInst) (n : ℕ) : Rule → Type 0 
   entry : LeadsToEntry G is n → AtBranch G is n F2
   same : IsOp is n is_conditional → HasSameLabels G is n → AtBranch G is n F4
 
-pub at_branch : (G : Table) (is : List PlainInst) (q : Rule) (n : ℕ) → IsOp is n is_branch → stage_of q ≡ 6 → Broken G is q n → AtBranch G is n q
+pub at_branch : (G : Table) (is : List PlainInst) (q : Rule) (n : ℕ) → IsOp is n is_branch → stage_of q ≡ of_branches → Broken G is q n → AtBranch G is n q
 at_branch G is _ _ branch s (Broken.no_label n k x op used none) = lacks (record { operand = k; id = x; used = used; none = none })
 at_branch G is _ _ branch s (Broken.to_entry n x m target d e) = entry (record { operand = target.operand; id = x; used = target.used; place = m; defined = d; entry = e })
-at_branch G is _ _ branch s (Broken.parents n p not) = absurd (let h : is_branch 245 ≡ true = known is n 245 is_branch p branch in cc)
+at_branch G is _ _ branch s (Broken.parents n p not) = absurd (let h : is_branch opcode.PHI ≡ true = known is n opcode.PHI is_branch p branch in cc)
 at_branch G is _ _ branch s (Broken.same_labels n x op u w) = same op (record { id = x; one = u; two = w })
 at_branch G is _ _ branch s (Broken.missing n m) = absurd (cc)
 at_branch G is _ _ branch s (Broken.pair_missing n m) = absurd (cc)
@@ -106,10 +108,10 @@ at_branch G is _ _ branch s (Broken.pair_missing n m) = absurd (cc)
 conditional_branches : (is : List PlainInst) (n : ℕ) → IsOp is n is_conditional → IsOp is n is_branch
 conditional_branches is n op =
     let h = holds is n is_conditional op in
-    let e : h.inst.opcode ≡ 250 = eqb-true h.inst.opcode 250 h.holds in
+    let e : h.inst.opcode ≡ opcode.BRANCH_CONDITIONAL = eqb-true h.inst.opcode opcode.BRANCH_CONDITIONAL h.holds in
     op_holds is n h.inst is_branch h.there (ap is_branch e)
 
-pub at_other : (G : Table) (is : List PlainInst) (q : Rule) (n : ℕ) → ¬ (IsOp is n is_phi) → ¬ (IsOp is n is_merge) → ¬ (IsOp is n is_branch) → stage_of q ≡ 6 → ¬ (Broken G is q n)
+pub at_other : (G : Table) (is : List PlainInst) (q : Rule) (n : ℕ) → ¬ (IsOp is n is_phi) → ¬ (IsOp is n is_merge) → ¬ (IsOp is n is_branch) → stage_of q ≡ of_branches → ¬ (Broken G is q n)
 at_other G is _ _ not_phi not_merge not_branch s (Broken.no_label n k x (inl b) used none) = not_branch b
 at_other G is _ _ not_phi not_merge not_branch s (Broken.no_label n k x (inr m) used none) = not_merge m
 at_other G is _ _ not_phi not_merge not_branch s (Broken.to_entry n x m target d e) = not_branch target.branch
@@ -176,8 +178,8 @@ pub branch_fine : (G : Table) (is : List PlainInst) (n : ℕ) → IsOp is n is_b
 branch_fine G is n branch has free apart = λ q s b. none_of_branch G is n q has free apart (at_branch G is q n branch s b)
 
 -- The first instruction at which a rule is broken.
-pub first_found : (G : Table) (is : List PlainInst) (r : Rule) (n : ℕ) → ((q : Rule) (m : ℕ) → m < n → stage_of q ≡ 6 → ¬ (Broken G is q m)) → stage_of r ≡ 6 → Broken G is r n
-    → ((q : Rule) → stage_of q ≡ 6 → Broken G is q n → rank_of r ≤ rank_of q) → IsFirst (Broken G is) 6 r n
+pub first_found : (G : Table) (is : List PlainInst) (r : Rule) (n : ℕ) → ((q : Rule) (m : ℕ) → m < n → stage_of q ≡ of_branches → ¬ (Broken G is q m)) → stage_of r ≡ of_branches → Broken G is r n
+    → ((q : Rule) → stage_of q ≡ of_branches → Broken G is q n → rank_of r ≤ rank_of q) → IsFirst (Broken G is) of_branches r n
 first_found G is r n before stage broken least = record {
   of_stage = stage;
   broken = broken;
@@ -188,11 +190,11 @@ first_found G is r n before stage broken least = record {
 }
 
 -- the fault that is told
-pub refusal_told : (G : Table) (is : List PlainInst) (r : Rule) (n : ℕ) (stop : Stop) → IsFirst (Broken G is) 6 r n → IsStopAt is r n stop → IsRefusal G is stop
+pub refusal_told : (G : Table) (is : List PlainInst) (r : Rule) (n : ℕ) (stop : Stop) → IsFirst (Broken G is) of_branches r n → IsStopAt is r n stop → IsRefusal G is stop
 refusal_told G is r n Memory first h = absurd h
 refusal_told G is r n (Fault f) first (e, at, word) =
-    let one : IsFirst (Broken G is) 6 f.rule n = subst (λ (q : Rule). IsFirst (Broken G is) 6 q n) (sym e) first in
-    (subst (λ (m : ℕ). IsFirst (Broken G is) 6 f.rule m) (sym at) one, word ∙ ap (first_word_of is) (sym at))
+    let one : IsFirst (Broken G is) of_branches f.rule n = subst (λ (q : Rule). IsFirst (Broken G is) of_branches q n) (sym e) first in
+    (subst (λ (m : ℕ). IsFirst (Broken G is) of_branches f.rule m) (sym at) one, word ∙ ap (first_word_of is) (sym at))
 
 -- each instruction has a word at least
 pub few_insts : (is : List PlainInst) → length is ≤ sum_by word_count is

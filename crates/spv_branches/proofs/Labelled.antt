@@ -3,6 +3,7 @@ use Rattle.std.proofs.Common.{◌≡◌, ◌≤◌, ◌<◌, ◌∙◌, ℕ, Lis
 use Rattle.std.specs.Prelude.{slice_get, option_and_then, option_map, MatchOption, IfSome}
 use Rattle.std.proofs.lemmas.Bool.{eqb-true}
 use Rattle.std.proofs.lemmas.Option.{slice_get-map, slice_get_within, slice_get_past, slice_get_read, slice_get-get_or}
+use Rattle.spv_module.specs.declared.opcode.TheConstants as opcode
 use Rattle.spv_table.specs.Table.{Table}
 use Rattle.spv_module.specs.declared.module.Inst.{Inst}
 use Rattle.spv_module.specs.Operand.{PlainInst}
@@ -82,14 +83,14 @@ either (Some m) P Q f g h = g m h
 pub one_place : (G : Table) (c : Code) (x m n : ℕ) → IsCode G c → IsDefinedAt (insts_of c) x m → IsDefinedAt (insts_of c) x n → m ≡ n
 one_place G c x m n is d e = either (definition_in c.ids.now x) (λ o. IsDefinitionOf (insts_of c) x o) (m ≡ n) (λ none. absurd (none m d)) (λ k one. one.only m d ∙ sym (one.only n e)) (is.each x)
 
-pub label_here : (G : Table) (c : Code) (x m : ℕ) (i : Inst) → IsCode G c → definition_in c.ids.now x ≡ Some m → slice_get (insts_of c) m ≡ Some (plain_inst i) → i.opcode ≡ 248 → IsLabelOf (insts_of c) x m
+pub label_here : (G : Table) (c : Code) (x m : ℕ) (i : Inst) → IsCode G c → definition_in c.ids.now x ≡ Some m → slice_get (insts_of c) m ≡ Some (plain_inst i) → i.opcode ≡ opcode.LABEL → IsLabelOf (insts_of c) x m
 label_here G c x m i is e there op = record { defined = (only G c x m is e).there; label = op_holds (insts_of c) m (plain_inst i) is_label there (ap is_label op) }
 
-pub label_not : (G : Table) (c : Code) (x m n : ℕ) (i : Inst) → IsCode G c → definition_in c.ids.now x ≡ Some m → slice_get (insts_of c) m ≡ Some (plain_inst i) → (i.opcode ≡ 248 → ⊥) → ¬ (IsLabelOf (insts_of c) x n)
+pub label_not : (G : Table) (c : Code) (x m n : ℕ) (i : Inst) → IsCode G c → definition_in c.ids.now x ≡ Some m → slice_get (insts_of c) m ≡ Some (plain_inst i) → (i.opcode ≡ opcode.LABEL → ⊥) → ¬ (IsLabelOf (insts_of c) x n)
 label_not G c x m n i is e there op l =
     let same : n ≡ m = (only G c x m is e).only n l.defined in
     let o : IsOp (insts_of c) m is_label = subst (λ (k : ℕ). IsOp (insts_of c) k is_label) same l.label in
-    op (eqb-true i.opcode 248 (op_tells (insts_of c) m (plain_inst i) is_label there o))
+    op (eqb-true i.opcode opcode.LABEL (op_tells (insts_of c) m (plain_inst i) is_label there o))
 
 pub label_past : (G : Table) (c : Code) (x m n : ℕ) → IsCode G c → definition_in c.ids.now x ≡ Some m → length c.insts.now ≤ m → ¬ (IsLabelOf (insts_of c) x n)
 label_past G c x m n is e past l =

@@ -4,6 +4,7 @@ use Rattle.std.specs.Prelude.{slice_get, option_and_then, MatchOption, MatchBool
 use Rattle.std.proofs.Math.Nat.{mod-lt, mod-eq_of_lt, add-mod_left}
 use Rattle.std.proofs.lemmas.Bool.{cases_Bool, cases_eq, cases_lt, eqb-true, eqb-false}
 use Rattle.std.proofs.lemmas.Bool.Decides.{nat_tests}
+use Rattle.spv_module.specs.declared.opcode.TheConstants as opcode
 use Rattle.spv_table.specs.Table.{Table}
 use Rattle.spv_module.specs.Operand.{Plain, PlainInst}
 use Rattle.spv_module.specs.Operand as operand
@@ -119,9 +120,9 @@ placed_false G i n x false e p = p x
 
 -- OpSwitch
 abbrev switch_row : PlainRow
-switch_row = row 251 251 Switch (v ∷ l ∷ []) (repeated (N ∷ l ∷ []))
+switch_row = row opcode.SWITCH opcode.SWITCH Switch (v ∷ l ∷ []) (repeated (N ∷ l ∷ []))
 
-switch_known : row_of 251 ≡ Some switch_row
+switch_known : row_of opcode.SWITCH ≡ Some switch_row
 unfolding rows
 switch_known = refl
 
@@ -143,9 +144,9 @@ switch_other n o h =
 
 -- OpPhi
 abbrev phi_row : PlainRow
-phi_row = row 245 245 Phi (T ∷ R ∷ []) (repeated (v ∷ l ∷ []))
+phi_row = row opcode.PHI opcode.PHI Phi (T ∷ R ∷ []) (repeated (v ∷ l ∷ []))
 
-phi_known : row_of 245 ≡ Some phi_row
+phi_known : row_of opcode.PHI ≡ Some phi_row
 unfolding rows
 phi_known = refl
 
@@ -190,9 +191,9 @@ phi_other n o h = elim (cases_Bool (nat_le 2 n)) [
 
 -- OpBranchConditional
 abbrev conditional_row : PlainRow
-conditional_row = row 250 250 BranchConditional (v ∷ l ∷ l ∷ []) (repeated (W ∷ []))
+conditional_row = row opcode.BRANCH_CONDITIONAL opcode.BRANCH_CONDITIONAL BranchConditional (v ∷ l ∷ l ∷ []) (repeated (W ∷ []))
 
-conditional_known : row_of 250 ≡ Some conditional_row
+conditional_known : row_of opcode.BRANCH_CONDITIONAL ≡ Some conditional_row
 unfolding rows
 conditional_known = refl
 
@@ -220,9 +221,9 @@ conditional_other n o h = elim (cases_Bool (nat_le 1 n)) [
 
 -- OpLoopMerge
 abbrev loop_row : PlainRow
-loop_row = row 246 246 LoopMerge (l ∷ l ∷ kind kind_of.LoopControl ∷ []) others
+loop_row = row opcode.LOOP_MERGE opcode.LOOP_MERGE LoopMerge (l ∷ l ∷ kind kind_of.LoopControl ∷ []) others
 
-loop_known : row_of 246 ≡ Some loop_row
+loop_known : row_of opcode.LOOP_MERGE ≡ Some loop_row
 unfolding rows
 loop_known = refl
 
@@ -245,9 +246,9 @@ loop_other n o h =
 
 -- OpSelectionMerge
 abbrev selection_row : PlainRow
-selection_row = row 247 247 SelectionMerge (l ∷ kind kind_of.SelectionControl ∷ []) closed
+selection_row = row opcode.SELECTION_MERGE opcode.SELECTION_MERGE SelectionMerge (l ∷ kind kind_of.SelectionControl ∷ []) closed
 
-selection_known : row_of 247 ≡ Some selection_row
+selection_known : row_of opcode.SELECTION_MERGE ≡ Some selection_row
 unfolding rows
 selection_known = refl
 
@@ -264,9 +265,9 @@ selection_other n o h =
 
 -- OpBranch
 abbrev branch_row : PlainRow
-branch_row = row 249 249 Branch (l ∷ []) closed
+branch_row = row opcode.BRANCH opcode.BRANCH Branch (l ∷ []) closed
 
-branch_known : row_of 249 ≡ Some branch_row
+branch_known : row_of opcode.BRANCH ≡ Some branch_row
 unfolding rows
 branch_known = refl
 
@@ -282,17 +283,17 @@ standing G i r n k o known e fits there = record { fits = fits; known = ap row_o
 
 -- the six opcodes
 data Labelled : ℕ → Type 0 where
-  phi : Labelled 245
-  loop_merge : Labelled 246
-  selection_merge : Labelled 247
-  branch : Labelled 249
-  conditional : Labelled 250
-  switch : Labelled 251
+  phi : Labelled opcode.PHI
+  loop_merge : Labelled opcode.LOOP_MERGE
+  selection_merge : Labelled opcode.SELECTION_MERGE
+  branch : Labelled opcode.BRANCH
+  conditional : Labelled opcode.BRANCH_CONDITIONAL
+  switch : Labelled opcode.SWITCH
 
 labelled_by : (x k : ℕ) → k ≡ x → Labelled k → Labelled x
 labelled_by x k e h = subst (λ (m : ℕ). Labelled m) e h
 
-labelled_bounds : (x : ℕ) → is_labelled x ≡ true → (245 ≤ x) × (x ≤ 251) × (x ≢ 248)
+labelled_bounds : (x : ℕ) → is_labelled x ≡ true → (opcode.PHI ≤ x) × (x ≤ opcode.SWITCH) × (x ≢ opcode.LABEL)
 labelled_bounds x h = (grind (arith, nat_tests), grind (arith, nat_tests), λ e. let g = rw e at h in cc)
 
 labelled_cases : (x : ℕ) → is_labelled x ≡ true → Labelled x
@@ -301,17 +302,17 @@ labelled_cases x h =
     let lo = b.0 in
     let hi = b.1 in
     let not_248 = b.2 in
-    elim (cases_eq 245 x) [
-      | inl e ↦ labelled_by x 245 e phi
-      | inr a ↦ elim (cases_eq 246 x) [
-        | inl e ↦ labelled_by x 246 e loop_merge
-        | inr c ↦ elim (cases_eq 247 x) [
-          | inl e ↦ labelled_by x 247 e selection_merge
-          | inr d ↦ elim (cases_eq 249 x) [
-            | inl e ↦ labelled_by x 249 e branch
-            | inr f ↦ elim (cases_eq 250 x) [
-              | inl e ↦ labelled_by x 250 e conditional
-              | inr g ↦ labelled_by x 251 (omega (arith, lo, hi, not_248, a, c, d, f, g)) switch
+    elim (cases_eq opcode.PHI x) [
+      | inl e ↦ labelled_by x opcode.PHI e phi
+      | inr a ↦ elim (cases_eq opcode.LOOP_MERGE x) [
+        | inl e ↦ labelled_by x opcode.LOOP_MERGE e loop_merge
+        | inr c ↦ elim (cases_eq opcode.SELECTION_MERGE x) [
+          | inl e ↦ labelled_by x opcode.SELECTION_MERGE e selection_merge
+          | inr d ↦ elim (cases_eq opcode.BRANCH x) [
+            | inl e ↦ labelled_by x opcode.BRANCH e branch
+            | inr f ↦ elim (cases_eq opcode.BRANCH_CONDITIONAL x) [
+              | inl e ↦ labelled_by x opcode.BRANCH_CONDITIONAL e conditional
+              | inr g ↦ labelled_by x opcode.SWITCH (omega (arith, lo, hi, not_248, a, c, d, f, g)) switch
             ]
           ]
         ]
@@ -319,12 +320,12 @@ labelled_cases x h =
     ]
 
 by_opcode : (G : Table) (i : PlainInst) (n x : ℕ) (o : Plain) → Labelled x → i.opcode ≡ x → FitsShape G i → slice_get i.operands n ≡ Some o → Placed G i n (is_label_at x n)
-by_opcode G i n _ o phi e fits there = placed G i phi_row n o (is_label_at 245 n) (standing G i phi_row n 245 o phi_known e fits there) (phi_label n o) (phi_other n o)
-by_opcode G i n _ o loop_merge e fits there = placed G i loop_row n o (is_label_at 246 n) (standing G i loop_row n 246 o loop_known e fits there) (loop_label n o) (loop_other n o)
-by_opcode G i n _ o selection_merge e fits there = placed G i selection_row n o (is_label_at 247 n) (standing G i selection_row n 247 o selection_known e fits there) (selection_label n o) (selection_other n o)
-by_opcode G i n _ o branch e fits there = placed G i branch_row n o (is_label_at 249 n) (standing G i branch_row n 249 o branch_known e fits there) (branch_label n o) (branch_other n o)
-by_opcode G i n _ o conditional e fits there = placed G i conditional_row n o (is_label_at 250 n) (standing G i conditional_row n 250 o conditional_known e fits there) (conditional_label n o) (conditional_other n o)
-by_opcode G i n _ o switch e fits there = placed G i switch_row n o (is_label_at 251 n) (standing G i switch_row n 251 o switch_known e fits there) (switch_label n o) (switch_other n o)
+by_opcode G i n _ o phi e fits there = placed G i phi_row n o (is_label_at opcode.PHI n) (standing G i phi_row n opcode.PHI o phi_known e fits there) (phi_label n o) (phi_other n o)
+by_opcode G i n _ o loop_merge e fits there = placed G i loop_row n o (is_label_at opcode.LOOP_MERGE n) (standing G i loop_row n opcode.LOOP_MERGE o loop_known e fits there) (loop_label n o) (loop_other n o)
+by_opcode G i n _ o selection_merge e fits there = placed G i selection_row n o (is_label_at opcode.SELECTION_MERGE n) (standing G i selection_row n opcode.SELECTION_MERGE o selection_known e fits there) (selection_label n o) (selection_other n o)
+by_opcode G i n _ o branch e fits there = placed G i branch_row n o (is_label_at opcode.BRANCH n) (standing G i branch_row n opcode.BRANCH o branch_known e fits there) (branch_label n o) (branch_other n o)
+by_opcode G i n _ o conditional e fits there = placed G i conditional_row n o (is_label_at opcode.BRANCH_CONDITIONAL n) (standing G i conditional_row n opcode.BRANCH_CONDITIONAL o conditional_known e fits there) (conditional_label n o) (conditional_other n o)
+by_opcode G i n _ o switch e fits there = placed G i switch_row n o (is_label_at opcode.SWITCH n) (standing G i switch_row n opcode.SWITCH o switch_known e fits there) (switch_label n o) (switch_other n o)
 
 -- the id of an operand at a label's place
 pub label_told : (G : Table) (i : PlainInst) (n : ℕ) (p : Option ℕ) → is_labelled i.opcode ≡ true → is_label_at i.opcode n ≡ true → p ≡ option_and_then id_of (slice_get i.operands n) → FitsShape G i
@@ -349,28 +350,28 @@ merge_labelled x h = grind (arith, nat_tests)
 no_use_by : (G : Table) (i : PlainInst) (r : PlainRow) (n : ℕ) (o : Plain) → Stands G i r n o → option_and_then (λ f. role_of f o) (form_at r o n) ≡ None → (x : ℕ) (q : Role) → ¬ (IsUse G i n x q)
 no_use_by G i r n o s e = role_by i n r i.operands o (form_at r o n) None s.known refl s.there refl (sym e) G s.fits
 
-jump_use : (G : Table) (i : PlainInst) (n x : ℕ) (q : Role) → i.opcode ≡ 249 → FitsShape G i → nat_eq n 0 ≡ false → ¬ (IsUse G i n x q)
+jump_use : (G : Table) (i : PlainInst) (n x : ℕ) (q : Role) → i.opcode ≡ opcode.BRANCH → FitsShape G i → nat_eq n 0 ≡ false → ¬ (IsUse G i n x q)
 jump_use G i n x q e fits h u =
     let o = u.operand in
     let k = eqb-false n 0 h in
-    no_use_by G i branch_row n o (standing G i branch_row n 249 o branch_known e fits u.operand_at) (ap (option_and_then (λ f. role_of f o)) (later_form branch_row o n (omega (arith, k)))) x q u
+    no_use_by G i branch_row n o (standing G i branch_row n opcode.BRANCH o branch_known e fits u.operand_at) (ap (option_and_then (λ f. role_of f o)) (later_form branch_row o n (omega (arith, k)))) x q u
 
 word_role : (k : ℕ) (o : Plain) → option_and_then (λ f. role_of f o) (slice_get (W ∷ []) k) ≡ None
 word_role zero o = refl
 word_role (suc k) o = refl
 
-conditional_use : (G : Table) (i : PlainInst) (n x : ℕ) (q : Role) → i.opcode ≡ 250 → FitsShape G i → nat_le 1 n && nat_le n 2 ≡ false → IsUse G i n x q → n ≡ 0
+conditional_use : (G : Table) (i : PlainInst) (n x : ℕ) (q : Role) → i.opcode ≡ opcode.BRANCH_CONDITIONAL → FitsShape G i → nat_le 1 n && nat_le n 2 ≡ false → IsUse G i n x q → n ≡ 0
 conditional_use G i n x q e fits h u =
     let o = u.operand in
     elim (cases_Bool (nat_le 1 n)) [
       | inl t ↦ (
           let b = le_denies n 2 (and_false (nat_le 1 n) (nat_le n 2) h t) in
           let none = ap (option_and_then (λ f. role_of f o)) (later_form conditional_row o n (omega (arith, b))) ∙ word_role ((n - 3) % 1) o in
-          absurd (no_use_by G i conditional_row n o (standing G i conditional_row n 250 o conditional_known e fits u.operand_at) none x q u))
+          absurd (no_use_by G i conditional_row n o (standing G i conditional_row n opcode.BRANCH_CONDITIONAL o conditional_known e fits u.operand_at) none x q u))
       | inr f ↦ (let b = le_denies 1 n f in omega (arith, b))
     ]
 
-switch_use : (G : Table) (i : PlainInst) (n x : ℕ) (q : Role) → i.opcode ≡ 251 → FitsShape G i → nat_eq (n % 2) 1 ≡ false → IsUse G i n x q → n ≡ 0
+switch_use : (G : Table) (i : PlainInst) (n x : ℕ) (q : Role) → i.opcode ≡ opcode.SWITCH → FitsShape G i → nat_eq (n % 2) 1 ≡ false → IsUse G i n x q → n ≡ 0
 switch_use G i n x q e fits h u =
     let o = u.operand in
     let z : n % 2 ≡ 0 = even n h in
@@ -378,33 +379,33 @@ switch_use G i n x q e fits h u =
       | inl lt ↦ (let m : n % 2 ≡ n = mod-eq_of_lt lt in sym m ∙ z)
       | inr ge ↦ (
           let none = ap (option_and_then (λ f. role_of f o)) (later_form switch_row o n ge ∙ ap (slice_get (N ∷ l ∷ [])) (odd_rest n ge ∙ z)) in
-          absurd (no_use_by G i switch_row n o (standing G i switch_row n 251 o switch_known e fits u.operand_at) none x q u))
+          absurd (no_use_by G i switch_row n o (standing G i switch_row n opcode.SWITCH o switch_known e fits u.operand_at) none x q u))
     ]
 
-branch_bounds : (x : ℕ) → is_branch x ≡ true → (249 ≤ x) × (x ≤ 251)
+branch_bounds : (x : ℕ) → is_branch x ≡ true → (opcode.BRANCH ≤ x) × (x ≤ opcode.SWITCH)
 branch_bounds x h = (grind (arith, nat_tests), grind (arith, nat_tests))
 
 at_place : (x k n : ℕ) → x ≡ k → is_label_at x n ≡ false → is_label_at k n ≡ false
 at_place x k n e h = sym (ap (λ (o : ℕ). is_label_at o n) e) ∙ h
 
-pub first_use : (G : Table) (i : PlainInst) (n x : ℕ) (q : Role) → is_branch i.opcode ≡ true → is_label_at i.opcode n ≡ false → FitsShape G i → IsUse G i n x q → (n ≡ 0) × (i.opcode ≢ 249)
+pub first_use : (G : Table) (i : PlainInst) (n x : ℕ) (q : Role) → is_branch i.opcode ≡ true → is_label_at i.opcode n ≡ false → FitsShape G i → IsUse G i n x q → (n ≡ 0) × (i.opcode ≢ opcode.BRANCH)
 first_use G i n x q h t fits u =
     let b = branch_bounds i.opcode h in
     let lo = b.0 in
     let hi = b.1 in
-    elim (cases_eq i.opcode 249) [
-      | inl e ↦ absurd (jump_use G i n x q e fits (at_place i.opcode 249 n e t) u)
-      | inr a ↦ elim (cases_eq i.opcode 250) [
-        | inl e ↦ (conditional_use G i n x q e fits (at_place i.opcode 250 n e t) u, a)
-        | inr c ↦ (let e : i.opcode ≡ 251 = omega (arith, lo, hi, a, c) in (switch_use G i n x q e fits (at_place i.opcode 251 n e t) u, a))
+    elim (cases_eq i.opcode opcode.BRANCH) [
+      | inl e ↦ absurd (jump_use G i n x q e fits (at_place i.opcode opcode.BRANCH n e t) u)
+      | inr a ↦ elim (cases_eq i.opcode opcode.BRANCH_CONDITIONAL) [
+        | inl e ↦ (conditional_use G i n x q e fits (at_place i.opcode opcode.BRANCH_CONDITIONAL n e t) u, a)
+        | inr c ↦ (let e : i.opcode ≡ opcode.SWITCH = omega (arith, lo, hi, a, c) in (switch_use G i n x q e fits (at_place i.opcode opcode.SWITCH n e t) u, a))
       ]
     ]
 
 -- An OpLabel uses nothing.
 abbrev pub label_row : PlainRow
-label_row = row 248 248 class.Label (R ∷ []) closed
+label_row = row opcode.LABEL opcode.LABEL class.Label (R ∷ []) closed
 
-pub label_known : row_of 248 ≡ Some label_row
+pub label_known : row_of opcode.LABEL ≡ Some label_row
 unfolding rows
 label_known = refl
 
@@ -414,7 +415,7 @@ label_forms n o = elim (cases_lt n 1) [
   | inr ge ↦ ap (option_and_then (λ f. role_of f o)) (later_form label_row o n ge)
 ]
 
-pub label_use : (G : Table) (i : PlainInst) (n x : ℕ) (q : Role) → i.opcode ≡ 248 → FitsShape G i → ¬ (IsUse G i n x q)
+pub label_use : (G : Table) (i : PlainInst) (n x : ℕ) (q : Role) → i.opcode ≡ opcode.LABEL → FitsShape G i → ¬ (IsUse G i n x q)
 label_use G i n x q e fits u =
     let o = u.operand in
-    no_use_by G i label_row n o (standing G i label_row n 248 o label_known e fits u.operand_at) (label_forms n o) x q u
+    no_use_by G i label_row n o (standing G i label_row n opcode.LABEL o label_known e fits u.operand_at) (label_forms n o) x q u

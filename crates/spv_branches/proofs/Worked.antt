@@ -1,6 +1,7 @@
 -- What the small functions of the worked examples have.
 use Rattle.std.proofs.Common.{◌≡◌, ◌<◌, ◌≤◌, ◌∙◌, ℕ, zero, suc, [], ◌∷◌, refl, sym, subst, arith}
 use Rattle.std.proofs.lemmas.Option.{same_Some}
+use Rattle.spv_module.specs.declared.opcode.TheConstants as opcode
 use Rattle.spv_module.specs.Example.{small}
 use Rattle.spv_module.specs.Operand.{Id, OfType, Result}
 use Rattle.spv_layout.specs.declared.class.Class.TheVariants.{Function, FunctionEnd, Label, Phi, Body, Branch}
@@ -25,7 +26,7 @@ use Rattle.spv_branches.proofs.Direct.{placed_at}
 
 branch_forms : (x : ℕ) → HasForms small (branch x) (l ∷ [])
 unfolding rows
-branch_forms x = record { row = row 249 249 Branch (l ∷ []) closed; rest = []; known = refl; forms = refl; ending = Ends.nothing; each = AreOf.more l (Id x) [] [] refl AreOf.none }
+branch_forms x = record { row = row opcode.BRANCH opcode.BRANCH Branch (l ∷ []) closed; rest = []; known = refl; forms = refl; ending = Ends.nothing; each = AreOf.more l (Id x) [] [] refl AreOf.none }
 
 pub branch_used : (x : ℕ) → IsUse small (branch x) 0 x role.Label
 branch_used x = record { forms = l ∷ []; has = branch_forms x; form = l; operand = Id x; form_at = refl; operand_at = refl; role = refl; id = refl }
@@ -100,7 +101,7 @@ first_only t p h =
 phi_forms : HasForms small (phi 1) (T ∷ R ∷ v ∷ l ∷ [])
 unfolding rows
 phi_forms = record {
-  row = row 245 245 Phi (T ∷ R ∷ []) (repeated (v ∷ l ∷ []));
+  row = row opcode.PHI opcode.PHI Phi (T ∷ R ∷ []) (repeated (v ∷ l ∷ []));
   rest = v ∷ l ∷ [];
   known = refl;
   forms = refl;
@@ -115,9 +116,9 @@ named : IsUsedAt small (paired 1) 4 3 1 role.Label
 named = record { inst = phi 1; there = refl; used = phi_used }
 
 pub label_place : (k x : ℕ) → IsUsedAt small (paired 1) 4 k x role.Label → k ≡ 3
-label_place zero x u = (let t = placed_at small (paired 1) 4 0 x 245 (phi 1) refl refl refl (record { forms = T ∷ R ∷ v ∷ l ∷ []; has = phi_forms }) u in cc)
-label_place (suc zero) x u = (let t = placed_at small (paired 1) 4 1 x 245 (phi 1) refl refl refl (record { forms = T ∷ R ∷ v ∷ l ∷ []; has = phi_forms }) u in cc)
-label_place (suc (suc zero)) x u = (let t = placed_at small (paired 1) 4 2 x 245 (phi 1) refl refl refl (record { forms = T ∷ R ∷ v ∷ l ∷ []; has = phi_forms }) u in cc)
+label_place zero x u = (let t = placed_at small (paired 1) 4 0 x opcode.PHI (phi 1) refl refl refl (record { forms = T ∷ R ∷ v ∷ l ∷ []; has = phi_forms }) u in cc)
+label_place (suc zero) x u = (let t = placed_at small (paired 1) 4 1 x opcode.PHI (phi 1) refl refl refl (record { forms = T ∷ R ∷ v ∷ l ∷ []; has = phi_forms }) u in cc)
+label_place (suc (suc zero)) x u = (let t = placed_at small (paired 1) 4 2 x opcode.PHI (phi 1) refl refl refl (record { forms = T ∷ R ∷ v ∷ l ∷ []; has = phi_forms }) u in cc)
 label_place (suc (suc (suc zero))) x u = refl
 label_place (suc (suc (suc (suc k)))) x u = (let w = use_within small (phi 1) (suc (suc (suc (suc k)))) x role.Label (use_in small (paired 1) 4 (suc (suc (suc (suc k)))) x role.Label (phi 1) refl u) in absurd (omega (arith, w)))
 
@@ -143,7 +144,7 @@ has_parents = record {
 bare_forms : HasForms small bare_phi (T ∷ R ∷ [])
 unfolding rows
 bare_forms = record {
-  row = row 245 245 Phi (T ∷ R ∷ []) (repeated (v ∷ l ∷ []));
+  row = row opcode.PHI opcode.PHI Phi (T ∷ R ∷ []) (repeated (v ∷ l ∷ []));
   rest = [];
   known = refl;
   forms = refl;
@@ -152,8 +153,8 @@ bare_forms = record {
 }
 
 bare_label : (k x : ℕ) → ¬ (IsUsedAt small unpaired 4 k x role.Label)
-bare_label zero x u = (let t = placed_at small unpaired 4 0 x 245 bare_phi refl refl refl (record { forms = T ∷ R ∷ []; has = bare_forms }) u in cc)
-bare_label (suc zero) x u = (let t = placed_at small unpaired 4 1 x 245 bare_phi refl refl refl (record { forms = T ∷ R ∷ []; has = bare_forms }) u in cc)
+bare_label zero x u = (let t = placed_at small unpaired 4 0 x opcode.PHI bare_phi refl refl refl (record { forms = T ∷ R ∷ []; has = bare_forms }) u in cc)
+bare_label (suc zero) x u = (let t = placed_at small unpaired 4 1 x opcode.PHI bare_phi refl refl refl (record { forms = T ∷ R ∷ []; has = bare_forms }) u in cc)
 bare_label (suc (suc k)) x u = (let w = use_within small bare_phi (suc (suc k)) x role.Label (use_in small unpaired 4 (suc (suc k)) x role.Label bare_phi refl u) in omega (arith, w))
 
 no_label_u2 : (k : ℕ) → 1 < k → k ≤ 2 → ¬ (IsAt unpaired k (Label ∷ []))

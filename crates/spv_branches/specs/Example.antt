@@ -1,25 +1,26 @@
 -- Small examples.
 use Rattle.std.specs.Prelude.{ℕ, List, [], ◌∷◌}
+use Rattle.spv_module.specs.declared.opcode.TheConstants as opcode
 use Rattle.spv_module.specs.Operand.{OfType, Result, Id, PlainInst}
 
 -- %x = OpLabel
 abbrev pub label : ℕ → PlainInst
-label x = record { opcode = 248; operands = Result x ∷ [] }
+label x = record { opcode = opcode.LABEL; operands = Result x ∷ [] }
 
 -- OpBranch %x
 abbrev pub branch : ℕ → PlainInst
-branch x = record { opcode = 249; operands = Id x ∷ [] }
+branch x = record { opcode = opcode.BRANCH; operands = Id x ∷ [] }
 
 -- OpBranchConditional %c %x %y
 abbrev pub conditional : ℕ → ℕ → ℕ → PlainInst
-conditional c x y = record { opcode = 250; operands = Id c ∷ Id x ∷ Id y ∷ [] }
+conditional c x y = record { opcode = opcode.BRANCH_CONDITIONAL; operands = Id c ∷ Id x ∷ Id y ∷ [] }
 
 -- OpFunction and OpReturn, of which the operands do not matter
 abbrev pub function : PlainInst
-function = record { opcode = 54; operands = [] }
+function = record { opcode = opcode.FUNCTION; operands = [] }
 
 abbrev pub return_void : PlainInst
-return_void = record { opcode = 253; operands = [] }
+return_void = record { opcode = opcode.RETURN; operands = [] }
 
 -- %1 = OpLabel, OpBranch %2, %2 = OpLabel, OpReturn
 abbrev pub two_blocks : List PlainInst
@@ -27,13 +28,13 @@ two_blocks = function ∷ label 1 ∷ branch 2 ∷ label 2 ∷ return_void ∷ [
 
 -- %9 = OpPhi %20 %x %p, and with no pair
 abbrev pub phi_of : ℕ → ℕ → PlainInst
-phi_of x p = record { opcode = 245; operands = OfType 20 ∷ Result 9 ∷ Id x ∷ Id p ∷ [] }
+phi_of x p = record { opcode = opcode.PHI; operands = OfType 20 ∷ Result 9 ∷ Id x ∷ Id p ∷ [] }
 
 abbrev pub phi : ℕ → PlainInst
 phi p = phi_of 5 p
 
 abbrev pub bare_phi : PlainInst
-bare_phi = record { opcode = 245; operands = OfType 20 ∷ Result 9 ∷ [] }
+bare_phi = record { opcode = opcode.PHI; operands = OfType 20 ∷ Result 9 ∷ [] }
 
 -- %1 = OpLabel, OpBranch %2, %2 = OpLabel, and an OpPhi that pairs %x, or %5, with the block of %p, or names none
 abbrev pub valued : ℕ → ℕ → List PlainInst

@@ -1,6 +1,7 @@
 -- Whether the values that an instruction uses are defined on every walk to it. [2.16, said by walks instead of
 -- dominators]
 use Rattle.std.specs.Prelude.{◌≡◌, ◌+◌, ℕ, List, Some, slice_get, Any}
+use Rattle.spv_module.specs.declared.opcode.TheConstants as opcode
 use Rattle.spv_table.specs.Table.{Table}
 use Rattle.spv_module.specs.Operand.{PlainInst, type_in}
 use Rattle.spv_layout.specs.declared.form.Role.{Role}
@@ -21,7 +22,7 @@ pub record IsLocalValue (is : List PlainInst) (x : ℕ) : Type 0 where
 
 -- On a walk to instruction n, no OpPhi (245), a local value that it uses is not the result of an earlier place. [2.16]
 pub record IsMissing (G : Table) (is : List PlainInst) (n : ℕ) : Type 0 where
-  pub other : ¬ (IsOp is n (is_opcode 245))
+  pub other : ¬ (IsOp is n (is_opcode opcode.PHI))
   pub function : ℕ
   pub past : List ℕ
   pub walk : IsWalk G is function past n
@@ -54,7 +55,7 @@ pub record ComesFrom (G : Table) (is : List PlainInst) (n parent : ℕ) (before 
 -- On a walk to instruction n, an OpPhi (245), the value paired with the block that the walk came from is local, and not
 -- the result of a place before the walk's last OpLabel. [2.16]
 pub record IsPairMissing (G : Table) (is : List PlainInst) (n : ℕ) : Type 0 where
-  pub phi : IsOp is n (is_opcode 245)
+  pub phi : IsOp is n (is_opcode opcode.PHI)
   pub value : ℕ
   pub parent : ℕ
   pub before : List ℕ

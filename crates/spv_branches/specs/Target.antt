@@ -2,6 +2,7 @@
 -- 2.16]
 use Rattle.std.specs.Prelude.{◌≡◌, ◌<◌, ℕ, List, Bool, nat_eq, nat_le, ◌&&◌, IsTrue}
 use Rattle.std.specs.Prelude.{IsSomeAnd, slice_get}
+use Rattle.spv_module.specs.declared.opcode.TheConstants as opcode
 use Rattle.spv_table.specs.Table.{Table}
 use Rattle.spv_module.specs.Operand.{PlainInst}
 use Rattle.spv_layout.specs.declared.form.Role.TheVariants.{Label}
@@ -10,27 +11,27 @@ use Rattle.spv_ids.specs.Definition.{IsDefinedAt, IsUsedAt}
 
 -- an opcode is that number [3.49.17]
 abbrev pub is_opcode : ℕ → ℕ → Bool
-is_opcode n opcode = nat_eq opcode n
+is_opcode n code = nat_eq code n
 
 -- OpPhi [3.49.17]
 abbrev pub is_phi : ℕ → Bool
-is_phi opcode = nat_eq opcode 245
+is_phi code = nat_eq code opcode.PHI
 
 -- OpLabel [3.49.17]
 abbrev pub is_label : ℕ → Bool
-is_label opcode = nat_eq opcode 248
+is_label code = nat_eq code opcode.LABEL
 
 -- OpBranchConditional [3.49.17]
 abbrev pub is_conditional : ℕ → Bool
-is_conditional opcode = nat_eq opcode 250
+is_conditional code = nat_eq code opcode.BRANCH_CONDITIONAL
 
 -- those of OpLoopMerge and OpSelectionMerge [3.49.17]
 abbrev pub is_merge : ℕ → Bool
-is_merge opcode = nat_le 246 opcode && nat_le opcode 247
+is_merge code = nat_le opcode.LOOP_MERGE code && nat_le code opcode.SELECTION_MERGE
 
 -- those of the terminators with labels: OpBranch, OpBranchConditional and OpSwitch [3.49.17]
 abbrev pub is_branch : ℕ → Bool
-is_branch opcode = nat_le 249 opcode && nat_le opcode 251
+is_branch code = nat_le opcode.BRANCH code && nat_le code opcode.SWITCH
 
 -- Instruction n is there, and the test holds of its opcode. [3.49.17]
 abbrev pub IsOp : List PlainInst → ℕ → (ℕ → Bool) → Type 0
@@ -39,7 +40,7 @@ IsOp is n test = IsSomeAnd (slice_get is n) (λ i. IsTrue (test i.opcode))
 -- The id x is the result of the OpLabel (248) m. [3.49.17]
 pub record IsLabelOf (is : List PlainInst) (x m : ℕ) : Type 0 where
   pub defined : IsDefinedAt is x m
-  pub label : IsOp is m (is_opcode 248)
+  pub label : IsOp is m (is_opcode opcode.LABEL)
 
 -- The id x is a target of instruction n: a label of a terminator. [2.4]
 pub record IsTarget (G : Table) (is : List PlainInst) (n x : ℕ) : Type 0 where
@@ -77,9 +78,9 @@ pub record HasParents (G : Table) (is : List PlainInst) (n : ℕ) : Type 0 where
 
 -- Instruction m is the label of an entry block: of the OpLabels (248) after an OpFunction (54) the first. [3.49.17]
 pub record IsEntryLabel (is : List PlainInst) (m : ℕ) : Type 0 where
-  pub label : IsOp is m (is_opcode 248)
+  pub label : IsOp is m (is_opcode opcode.LABEL)
   pub function : ℕ
-  pub there : IsOp is function (is_opcode 54)
+  pub there : IsOp is function (is_opcode opcode.FUNCTION)
   pub after : function < m
-  pub first : (k : ℕ) → function < k → k < m → ¬ (IsOp is k (is_opcode 248))
-  pub same : (k : ℕ) → function < k → k < m → ¬ (IsOp is k (is_opcode 54))
+  pub first : (k : ℕ) → function < k → k < m → ¬ (IsOp is k (is_opcode opcode.LABEL))
+  pub same : (k : ℕ) → function < k → k < m → ¬ (IsOp is k (is_opcode opcode.FUNCTION))

@@ -5,8 +5,9 @@ ghost use Rattle.std.specs.Prelude.{IfOk, IfErr, MatchOption};
 ghost use Rattle.spv_table.specs.Table.{Table};
 ghost use Rattle.spv_module.specs.Module.{plain_insts};
 ghost use Rattle.spv_module.specs.Operand.{PlainInst};
+ghost use Rattle.spv_layout.specs.Stage.{of_branches};
 ghost use Rattle.spv_layout.specs.First.{IsFirst, IsUnbroken};
-ghost use Rattle.spv_layout.specs.Place.{word_count};
+ghost use Rattle.spv_layout.specs.Place.{word_count, IsShort};
 ghost use Rattle.spv_layout.specs.Plan.{IsPlan};
 ghost use Rattle.spv_ids.specs.Outcome.{AreIds};
 ghost use Rattle.spv_ids.specs.inner.Outcome.{IsStopAt};
@@ -44,8 +45,8 @@ fn marks_for(alloc: Global, count: usize, has_phis: bool) -> Result<Vec<bool>, A
 fn first_fault(alloc: Global, code: &Code<'_, '_>) -> Result<Option<Found>, AllocError>
     requires { (G : Table) × IsCode G code.now }
     ensures { IfOk result (λ o. (G : Table) → IsCode G code.now
-        → MatchOption o (IsUnbroken (Broken G (insts_of code.now)) 6)
-        (λ f. IsFirst (Broken G (insts_of code.now)) 6 f.rule f.inst)) }
+        → MatchOption o (IsUnbroken (Broken G (insts_of code.now)) of_branches)
+        (λ f. IsFirst (Broken G (insts_of code.now)) of_branches f.rule f.inst)) }
 {
     let survey = survey(alloc, code.insts)?;
     let edges = edges_for(alloc, code, survey.has_phis)?;
@@ -97,12 +98,12 @@ pub fn check_branches(
     ids: &Ids,
 ) -> Result<(), Stop>
     // The condition of `lay_out`, and that the plan and the ids are what was answered, by some table.
-    requires words { 5 + sum_by word_count (plain_insts «module».now) ≤ 4194304 }
+    requires words { IsShort (plain_insts «module».now) }
     requires known { (G : Table) × IsPlan G (plain_insts «module».now) plan.now
         × AreIds G «module».now.header.bound (plain_insts «module».now) ids.now }
     ensures unbroken { (G : Table) → IsPlan G (plain_insts «module».now) plan.now
         → AreIds G «module».now.header.bound (plain_insts «module».now) ids.now
-        → IfOk result (λ _. IsUnbroken (Broken G (plain_insts «module».now)) 6) }
+        → IfOk result (λ _. IsUnbroken (Broken G (plain_insts «module».now)) of_branches) }
     ensures refused { (G : Table) → IsPlan G (plain_insts «module».now) plan.now
         → AreIds G «module».now.header.bound (plain_insts «module».now) ids.now
         → IfErr result (λ s. IsRefusal G (plain_insts «module».now) s) }

@@ -6,6 +6,7 @@ ghost use Rattle.spv_branches.specs.Target as target;
 use spv_ids::Ids;
 use spv_layout::Plan;
 use spv_module::Inst;
+use spv_module::opcode::{BRANCH, LABEL, LOOP_MERGE, SELECTION_MERGE, SWITCH};
 
 /// The instructions of a module, with what `lay_out` and `number` answered of it.
 #[derive(Clone, Copy)]
@@ -68,27 +69,12 @@ impl Code<'_, '_> {
     }
 }
 
-/// The opcodes of OpFunction, OpPhi, OpLoopMerge, OpLabel, OpBranch, OpBranchConditional and OpSwitch.
-pub const FUNCTION: u16 = 54;
-
-pub const PHI: u16 = 245;
-
-pub const LOOP_MERGE: u16 = 246;
-
-pub const LABEL: u16 = 248;
-
-pub const BRANCH: u16 = 249;
-
-pub const BRANCH_CONDITIONAL: u16 = 250;
-
-pub const SWITCH: u16 = 251;
-
 /// Whether an opcode is that of a terminator with labels: OpBranch, OpBranchConditional or OpSwitch.
 #[inline(always)]
 pub fn is_branch(opcode: u16) -> bool
     ensures { result ≡ target.is_branch opcode }
 {
-    249 <= opcode && opcode <= 251
+    BRANCH <= opcode && opcode <= SWITCH
 }
 
 /// Whether an opcode is that of OpLoopMerge or OpSelectionMerge.
@@ -96,5 +82,5 @@ pub fn is_branch(opcode: u16) -> bool
 pub fn is_merge(opcode: u16) -> bool
     ensures { result ≡ target.is_merge opcode }
 {
-    246 <= opcode && opcode <= 247
+    LOOP_MERGE <= opcode && opcode <= SELECTION_MERGE
 }

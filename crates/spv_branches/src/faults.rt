@@ -11,9 +11,10 @@ ghost use Rattle.spv_branches.specs.inner.Labels.{is_labelled, is_jump};
 ghost use Rattle.spv_branches.specs.Target.{IsOp, HasParents};
 ghost use Rattle.spv_branches.specs.Target as target;
 
-use crate::code::{BRANCH, BRANCH_CONDITIONAL, Code};
+use crate::code::Code;
 use crate::edges::Edges;
 use crate::labels::{id_at, label};
+use spv_module::opcode::{BRANCH, BRANCH_CONDITIONAL};
 
 /// What the labels of a branch are.
 #[derive(Clone, Copy)]

@@ -10,10 +10,11 @@ ghost use Rattle.spv_branches.specs.Target.{IsOp};
 ghost use Rattle.spv_branches.specs.Target as target;
 ghost use Rattle.spv_layout.specs.Place.{IsOfBlock};
 
-use crate::code::{Code, FUNCTION, LABEL, PHI, is_branch};
+use crate::code::{Code, is_branch};
 use crate::edges::Edges;
 use crate::labels::label;
 use spv_module::Inst;
+use spv_module::opcode::{FUNCTION, LABEL, PHI};
 use std::alloc::{AllocError, Global};
 
 /// What a look at all opcodes tells.

@@ -9,7 +9,7 @@ ghost use Rattle.spv_layout.specs.declared.form.Role.TheVariants as role;
 ghost use Rattle.spv_branches.specs.inner.Labels.{is_labelled};
 ghost use Rattle.spv_branches.specs.inner.Labels as labels;
 
-use crate::code::{BRANCH_CONDITIONAL, LOOP_MERGE, PHI, SWITCH};
+use spv_module::opcode::{BRANCH_CONDITIONAL, LOOP_MERGE, PHI, SWITCH};
 use spv_module::{Inst, Operand};
 
 /// The id that an operand is.

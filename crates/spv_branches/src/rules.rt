@@ -8,10 +8,11 @@ ghost use Rattle.spv_branches.specs.inner.Graph.{AreGathered, AreEntries, IsFirs
 ghost use Rattle.spv_branches.specs.Target.{IsOp};
 ghost use Rattle.spv_branches.specs.Target as target;
 
-use crate::code::{BRANCH_CONDITIONAL, Code, PHI, is_branch, is_merge};
+use crate::code::{Code, is_branch, is_merge};
 use crate::edges::Edges;
 use crate::faults::{Targets, has_labels, has_parents, has_same_labels, targets_of};
 use spv_module::Rule;
+use spv_module::opcode::{BRANCH_CONDITIONAL, PHI};
 
 /// The rule that is broken at a merge.
 fn merge_rule(code: &Code<'_, '_>, at: u32) -> Option<Rule>

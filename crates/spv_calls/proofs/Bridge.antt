@@ -6,6 +6,7 @@ use Rattle.std.proofs.lemmas.Option.{slice_get_within}
 use Rattle.spv_module.specs.Operand.{PlainInst}
 use Rattle.spv_module.specs.declared.fault.Rule.{Rule}
 use Rattle.spv_module.specs.declared.fault.Rule.TheVariants.{G1}
+use Rattle.spv_layout.specs.Stage.{of_calls}
 use Rattle.spv_layout.specs.First.{IsFirst, IsUnbroken, rank_of}
 use Rattle.spv_calls.proofs.Insts.{defined_within}
 use Rattle.spv_calls.specs.declared.graph.Call.{Call}
@@ -78,7 +79,7 @@ broken_gathered is calls entries a b _ _ (on_cycle n e f g k h c d) =
     }
 
 pub none_broken : (is : List PlainInst) (calls : List Call) (entries : List ℕ) → AreCalls is (length is) calls → AreEntries is (length is) entries → NoneBefore calls entries (length calls)
-    → IsUnbroken (Broken is) 8
+    → IsUnbroken (Broken is) of_calls
 none_broken is calls entries a b none = λ r n e k.
     let g = broken_gathered is calls entries a b r n k in
     none.each g.place (slice_get_within calls g.place g.cyclic.call g.cyclic.there) g.cyclic
@@ -87,7 +88,7 @@ same_call : (calls : List Call) (j k : ℕ) (c d : Call) → j ≡ k → slice_g
 same_call calls j k c d e h g = let h' : slice_get calls k ≡ Some c = rw (← e) h in cc
 
 pub first_broken : (is : List PlainInst) (calls : List Call) (entries : List ℕ) (k : ℕ) → AreCalls is (length is) calls → AreEntries is (length is) entries → (y : IsFirstCyclic calls entries k)
-    → IsFirst (Broken is) 8 G1 y.cyclic.call.inst
+    → IsFirst (Broken is) of_calls G1 y.cyclic.call.inst
 first_broken is calls entries k a b y = record {
   of_stage = refl;
   broken = cyclic_broken is (length is) (length is) calls entries k a b y.cyclic;
@@ -110,8 +111,8 @@ first_broken is calls entries k a b y = record {
 
 -- what the first call on a cycle says, by its place in the list
 pub first_told : (is : List PlainInst) (calls : List Call) (entries : List ℕ) (k : ℕ) (c : Call) → AreCalls is (length is) calls → AreEntries is (length is) entries → slice_get calls k ≡ Some c
-    → IsFirstCyclic calls entries k → IsFirst (Broken is) 8 G1 c.inst
+    → IsFirstCyclic calls entries k → IsFirst (Broken is) of_calls G1 c.inst
 first_told is calls entries k c a b h y =
     let e : y.cyclic.call ≡ c = same_call calls k k y.cyclic.call c refl y.cyclic.there h in
-    let P : Call → Type 0 = λ x. IsFirst (Broken is) 8 G1 x.inst in
+    let P : Call → Type 0 = λ x. IsFirst (Broken is) of_calls G1 x.inst in
     subst P e (first_broken is calls entries k a b y)

@@ -3,6 +3,7 @@ use Rattle.std.proofs.Common.{◌≡◌, ◌∙◌, ◌<◌, ◌+◌, ◌++◌, 
 use Rattle.std.specs.Prelude.{slice_get}
 use Rattle.std.proofs.lemmas.Bool.{cases_Bool, eqb-true}
 use Rattle.std.proofs.lemmas.Option.{slice_get_within}
+use Rattle.spv_module.specs.declared.opcode.TheConstants as opcode
 use Rattle.spv_module.specs.Operand.{Plain, PlainInst, OfType, Result, Id, Word, Number, Text, Value, Mask}
 use Rattle.spv_layout.specs.Place.{IsDefinition}
 use Rattle.spv_layout.proofs.Places.{function_same}
@@ -11,8 +12,8 @@ use Rattle.spv_ids.specs.Definition.{IsDefinedAt}
 use Rattle.spv_ids.specs.Outcome.{IsDefinitionOf, IsOnly, definition_in}
 use Rattle.spv_calls.proofs.Insts.{below_or, same_inst}
 use Rattle.spv_calls.specs.declared.graph.Call.{Call}
-use Rattle.spv_calls.specs.Calls.{entry_point, IsCall, IsEntryFunction}
-use Rattle.spv_calls.specs.inner.Found.{function_call, id_in, callee_in, entry_in, IsLate, IsOfDefinition, IsThatCall, AreCalls, AreEntries}
+use Rattle.spv_calls.specs.Calls.{IsCall, IsEntryFunction}
+use Rattle.spv_calls.specs.inner.Found.{id_in, callee_in, entry_in, IsLate, IsOfDefinition, IsThatCall, AreCalls, AreEntries}
 use Rattle.spv_ids.specs.Outcome.{AreNumbered}
 use Rattle.spv_calls.proofs.Lists.{pushed_cases, pushed_keeps, pushed_last}
 use Rattle.spv_calls.proofs.Placed.{call_late}
@@ -28,15 +29,15 @@ id_in_some (Some (Text t)) x h = cc
 id_in_some (Some (Value k v)) x h = cc
 id_in_some (Some (Mask k v)) x h = cc
 
-callee_found : (i : PlainInst) (x : ℕ) → i.opcode ≡ function_call → slice_get i.operands 2 ≡ Some (Id x) → callee_in i ≡ Some x
+callee_found : (i : PlainInst) (x : ℕ) → i.opcode ≡ opcode.FUNCTION_CALL → slice_get i.operands 2 ≡ Some (Id x) → callee_in i ≡ Some x
 callee_found i x o h = rw (o, h) refl
 
-entry_found : (i : PlainInst) (x : ℕ) → i.opcode ≡ entry_point → slice_get i.operands 1 ≡ Some (Id x) → entry_in i ≡ Some x
+entry_found : (i : PlainInst) (x : ℕ) → i.opcode ≡ opcode.ENTRY_POINT → slice_get i.operands 1 ≡ Some (Id x) → entry_in i ≡ Some x
 entry_found i x o h = rw (o, h) refl
 
-entry_told : (i : PlainInst) (x : ℕ) → entry_in i ≡ Some x → (i.opcode ≡ entry_point) × (slice_get i.operands 1 ≡ Some (Id x))
-entry_told i x h = elim (cases_Bool (nat_eq i.opcode entry_point)) [
-  | inl t ↦ (eqb-true i.opcode entry_point t, id_in_some (slice_get i.operands 1) x (rw t at h))
+entry_told : (i : PlainInst) (x : ℕ) → entry_in i ≡ Some x → (i.opcode ≡ opcode.ENTRY_POINT) × (slice_get i.operands 1 ≡ Some (Id x))
+entry_told i x h = elim (cases_Bool (nat_eq i.opcode opcode.ENTRY_POINT)) [
+  | inl t ↦ (eqb-true i.opcode opcode.ENTRY_POINT t, id_in_some (slice_get i.operands 1) x (rw t at h))
   | inr n ↦ (let h' = rw n at h in cc)
 ]
 

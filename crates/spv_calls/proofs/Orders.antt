@@ -3,6 +3,7 @@ use Rattle.std.proofs.Common.{◌≡◌, ◌<◌, ◌≤◌, ℕ, List, sym, Som
 use Rattle.std.specs.Prelude.{slice_get}
 use Rattle.spv_module.specs.Operand.{PlainInst}
 use Rattle.spv_module.specs.declared.fault.Rule.{Rule}
+use Rattle.spv_layout.specs.Stage.{of_calls}
 use Rattle.spv_layout.specs.First.{IsUnbroken}
 use Rattle.spv_calls.specs.declared.graph.Call.{Call}
 use Rattle.spv_calls.specs.declared.ordered.Way.{Way}
@@ -63,5 +64,5 @@ broken_back is calls a y _ _ (on_cycle n e f g k h c d) =
     y.each r.0 r.1 r.2 (moved (HasCall calls) g f r.1.callee r.1.caller (sym r.4) (sym r.3) back)
 
 -- Calls that make no cycle break nothing.
-pub acyclic_unbroken : (is : List PlainInst) (calls : List Call) → AreCalls is (length is) calls → AreAcyclic calls → IsUnbroken (Broken is) 8
+pub acyclic_unbroken : (is : List PlainInst) (calls : List Call) → AreCalls is (length is) calls → AreAcyclic calls → IsUnbroken (Broken is) of_calls
 acyclic_unbroken is calls a y = λ r n e b. broken_back is calls a y r n b

@@ -2,6 +2,7 @@
 use Rattle.std.proofs.Common.{◌≡◌, ◌∙◌, ℕ, List, [], ◌∷◌, refl, ap, Option, Some, None, IsTrue, arith}
 use Rattle.std.specs.Prelude.{slice_get, IsSomeAnd, option_map, MatchOption}
 use Rattle.std.proofs.lemmas.Option.{slice_get-map}
+use Rattle.spv_module.specs.declared.opcode.TheConstants as opcode
 use Rattle.spv_module.specs.Operand.{PlainInst}
 use Rattle.spv_layout.specs.declared.class.Class.{Class}
 use Rattle.spv_layout.specs.declared.class.Class.TheVariants.{Capability, Extension, Import, MemoryModel, EntryPoint, ExecutionMode, Source, Name, Processed, Decoration, Function}
@@ -11,7 +12,7 @@ use Rattle.spv_layout.specs.Rows.{rows, class_of}
 use Rattle.spv_layout.specs.Layout.{classes}
 use Rattle.spv_layout.specs.Place.{IsOfFunction, IsOfSection, IsDefinition, section_of}
 use Rattle.spv_layout.proofs.Places.{last_same, section_same}
-use Rattle.spv_calls.specs.inner.Found.{function_call, ArePlaces, IsLate, IsOfDefinition}
+use Rattle.spv_calls.specs.inner.Found.{ArePlaces, IsLate, IsOfDefinition}
 
 -- a definition's OpFunction is of it
 pub of_itself : (is : List PlainInst) (f : ℕ) → IsDefinition is f → IsOfFunction is f f
@@ -44,11 +45,11 @@ at_late (Some c) h = (c, refl, among_late c h)
 pub function_late : (is : List PlainInst) (f : ℕ) → IsDefinition is f → IsLate is f
 function_late is f d = let r = at_late (slice_get (classes is) f) d.of.begun.there in record { class = r.0; there = r.1; late = r.2 }
 
-call_late_class : section_of (class_of function_call) ≡ None
+call_late_class : section_of (class_of opcode.FUNCTION_CALL) ≡ None
 unfolding rows
 call_late_class = refl
 
-pub call_late : (is : List PlainInst) (n : ℕ) (i : PlainInst) → slice_get is n ≡ Some i → i.opcode ≡ function_call → IsLate is n
+pub call_late : (is : List PlainInst) (n : ℕ) (i : PlainInst) → slice_get is n ≡ Some i → i.opcode ≡ opcode.FUNCTION_CALL → IsLate is n
 call_late is n i h o = record {
   class = class_of i.opcode;
   there = slice_get-map (λ j. class_of j.opcode) is n ∙ ap (option_map (λ j. class_of j.opcode)) h;

@@ -1,5 +1,6 @@
 -- Small examples, of which the operands that no rule on calls looks at do not matter.
 use Rattle.std.specs.Prelude.{ℕ, List, [], ◌∷◌}
+use Rattle.spv_module.specs.declared.opcode.TheConstants as opcode
 use Rattle.spv_module.specs.Operand.{PlainInst, OfType, Result, Id, Value, Text}
 
 -- OpEntryPoint Kernel %f ""
@@ -8,23 +9,23 @@ entry f = record { opcode = 15; operands = Value 0 6 ∷ Id f ∷ Text [] ∷ []
 
 -- %f = OpFunction %20
 abbrev pub function : ℕ → PlainInst
-function f = record { opcode = 54; operands = OfType 20 ∷ Result f ∷ [] }
+function f = record { opcode = opcode.FUNCTION; operands = OfType 20 ∷ Result f ∷ [] }
 
 -- %l = OpLabel
 abbrev pub label : ℕ → PlainInst
-label l = record { opcode = 248; operands = Result l ∷ [] }
+label l = record { opcode = opcode.LABEL; operands = Result l ∷ [] }
 
 -- %r = OpFunctionCall %20 %f
 abbrev pub call : ℕ → ℕ → PlainInst
-call r f = record { opcode = 57; operands = OfType 20 ∷ Result r ∷ Id f ∷ [] }
+call r f = record { opcode = opcode.FUNCTION_CALL; operands = OfType 20 ∷ Result r ∷ Id f ∷ [] }
 
 -- OpReturn
 abbrev pub return_op : PlainInst
-return_op = record { opcode = 253; operands = [] }
+return_op = record { opcode = opcode.RETURN; operands = [] }
 
 -- OpFunctionEnd
 abbrev pub end : PlainInst
-end = record { opcode = 56; operands = [] }
+end = record { opcode = opcode.FUNCTION_END; operands = [] }
 
 -- %1 calls %4, and %4 calls itself
 abbrev pub functions : List PlainInst

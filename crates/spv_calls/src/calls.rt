@@ -4,8 +4,9 @@ ghost use Rattle.std.specs.Prelude.{◌+◌, ◌≤◌, ℕ, sum_by, IfOk, IfSom
 ghost use Rattle.spv_table.specs.Table.{Table};
 ghost use Rattle.spv_module.specs.Module.{plain_insts};
 ghost use Rattle.spv_module.specs.declared.fault.Rule.TheVariants.{G1};
+ghost use Rattle.spv_layout.specs.Stage.{of_calls};
 ghost use Rattle.spv_layout.specs.First.{IsFirst, IsUnbroken};
-ghost use Rattle.spv_layout.specs.Place.{word_count};
+ghost use Rattle.spv_layout.specs.Place.{word_count, IsShort};
 ghost use Rattle.spv_layout.specs.Plan.{IsPlan};
 ghost use Rattle.spv_ids.specs.Outcome.{IsDefinitionOf, definition_in};
 ghost use Rattle.spv_calls.specs.Broken.{Broken};
@@ -36,11 +37,12 @@ pub fn first_cycle(
     ids: &Ids,
 ) -> Result<Option<u32>, AllocError>
     // The condition of `lay_out`, and that the plan and the ids are what was answered, by some table.
-    requires words { 5 + sum_by word_count (plain_insts «module».now) ≤ 4194304 }
+    requires words { IsShort (plain_insts «module».now) }
     requires plan { (G : Table) × IsPlan G (plain_insts «module».now) plan.now }
     requires ids { (x : ℕ) → IsDefinitionOf (plain_insts «module».now) x (definition_in ids.now x) }
-    ensures none { IfOk result (λ first. IfNone first (IsUnbroken (Broken (plain_insts «module».now)) 8)) }
-    ensures first { IfOk result (λ first. IfSome first (λ n. IsFirst (Broken (plain_insts «module».now)) 8 G1 n)) }
+    ensures none { IfOk result (λ first. IfNone first (IsUnbroken (Broken (plain_insts «module».now)) of_calls)) }
+    ensures first { IfOk result (λ first. IfSome first (λ n.
+        IsFirst (Broken (plain_insts «module».now)) of_calls G1 n)) }
 {
     let insts = module.insts.as_slice();
     let calls = calls_of(alloc, insts, plan, ids)?;

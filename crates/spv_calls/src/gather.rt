@@ -4,7 +4,7 @@ ghost use Rattle.std.specs.Prelude.{◌≡◌, ◌≤◌, ◌↔◌, ℕ, List, 
 ghost use Rattle.std.specs.Prelude.{MatchOption, IfOk};
 ghost use Rattle.spv_module.specs.Operand.{PlainInst};
 ghost use Rattle.spv_module.specs.Module.{plain_inst};
-ghost use Rattle.spv_layout.specs.Place.{IsDefinition};
+ghost use Rattle.spv_layout.specs.Place.{IsDefinition, AreFew};
 ghost use Rattle.spv_calls.specs.Calls.{IsCall};
 ghost use Rattle.spv_calls.specs.inner.Found.{id_in, callee_in, entry_in, ArePlaces, IsLate, IsOfDefinition};
 ghost use Rattle.spv_calls.specs.inner.Found.{IsThatCall, AreCalls, AreEntries};
@@ -13,14 +13,9 @@ ghost use Rattle.spv_ids.specs.Outcome.{AreNumbered};
 use crate::graph::Call;
 use spv_ids::Ids;
 use spv_layout::Plan;
+use spv_module::opcode::{ENTRY_POINT, FUNCTION_CALL};
 use spv_module::{Inst, Operand};
 use std::alloc::{AllocError, Global};
-
-/// The opcode of OpEntryPoint.
-const ENTRY_POINT: u16 = 15;
-
-/// The opcode of OpFunctionCall.
-const FUNCTION_CALL: u16 = 57;
 
 /// The number of section 11 among the sections.
 const DEFINITIONS: u8 = 13;
@@ -119,7 +114,7 @@ pub fn calls_of(
     plan: &Plan,
     ids: &Ids,
 ) -> Result<Vec<Call>, AllocError>
-    requires few { length insts.now ≤ 4194304 }
+    requires few { AreFew insts.now }
     requires places { ArePlaces (map plain_inst insts.now) plan.now }
     requires ids { AreNumbered (map plain_inst insts.now) ids.now }
     ensures { IfOk result (λ calls. AreCalls (map plain_inst insts.now) (length insts.now) calls.items) }

@@ -4,6 +4,7 @@ ghost use Rattle.std.specs.Prelude.{◌≡◌, ℕ, List};
 ghost use Rattle.spv_module.specs.Operand.{PlainInst};
 ghost use Rattle.spv_module.specs.declared.fault.Rule.{Rule};
 ghost use Rattle.spv_module.specs.declared.fault.Rule.TheVariants.{G1};
+ghost use Rattle.spv_layout.specs.Stage.{of_calls};
 ghost use Rattle.spv_layout.specs.First.{IsFirst, IsUnbroken};
 ghost use Rattle.spv_calls.specs.Chain.{Chain};
 ghost use Rattle.spv_calls.specs.Calls.{IsCall, Calls, IsEntryFunction};
@@ -12,7 +13,8 @@ ghost use Rattle.spv_calls.specs.Example.{functions, looped};
 
 /// The rule is first broken at one instruction at most.
 pub fn one_fault()
-    ensures { (is : List PlainInst) (q r : Rule) (m n : ℕ) → IsFirst (Broken is) 8 q m → IsFirst (Broken is) 8 r n
+    ensures { (is : List PlainInst) (q r : Rule) (m n : ℕ) → IsFirst (Broken is) of_calls q m
+        → IsFirst (Broken is) of_calls r n
         → (q ≡ r) × (m ≡ n) }
 {}
 
@@ -25,7 +27,7 @@ pub fn chains_join()
 /// Where the rule is broken nowhere, no chain leads from a callee back to its caller, if an entry point leads to the
 /// caller.
 pub fn no_way_back()
-    ensures { (is : List PlainInst) (e f g : ℕ) → IsUnbroken (Broken is) 8 → IsEntryFunction is e
+    ensures { (is : List PlainInst) (e f g : ℕ) → IsUnbroken (Broken is) of_calls → IsEntryFunction is e
         → Chain (Calls is) e f → Calls is f g → ¬ (Chain (Calls is) g f) }
 {}
 

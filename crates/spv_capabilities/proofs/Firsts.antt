@@ -5,6 +5,7 @@ use Rattle.spv_table.specs.Table.{Table}
 use Rattle.spv_module.specs.Operand.{PlainInst}
 use Rattle.spv_module.specs.declared.fault.Rule.{Rule}
 use Rattle.spv_module.specs.declared.fault.Rule.TheVariants as rule
+use Rattle.spv_module.specs.declared.opcode.TheConstants as opcode
 use Rattle.spv_layout.specs.First.{rank_of}
 use Rattle.spv_capabilities.specs.Capable.{IsCapable, needs_of}
 use Rattle.spv_capabilities.specs.inner.Known.{AreCovered, is_asked_more}
@@ -71,7 +72,7 @@ differs n m true q e h = absurd (not_this n m e h (eqb-true n m q))
 differs n m false q e h = q
 
 needs_nothing : (i : PlainInst) → is_asked_more i.opcode ≡ false → needs_of i ≡ []
-needs_nothing i e = rw (differs i.opcode 21 (nat_eq i.opcode 21) refl e refl, differs i.opcode 22 (nat_eq i.opcode 22) refl e refl, differs i.opcode 23 (nat_eq i.opcode 23) refl e refl) refl
+needs_nothing i e = rw (differs i.opcode opcode.TYPE_INT (nat_eq i.opcode opcode.TYPE_INT) refl e refl, differs i.opcode opcode.TYPE_FLOAT (nat_eq i.opcode opcode.TYPE_FLOAT) refl e refl, differs i.opcode opcode.TYPE_VECTOR (nat_eq i.opcode opcode.TYPE_VECTOR) refl e refl) refl
 
 capable_then : (G : Table) (is : List PlainInst) (i : PlainInst) → is_asked_more i.opcode ≡ false → AreCovered G is i → IsCapable G is i
 capable_then G is i e a = record { entry = a.entry; operands = a.operands; widths = inl (needs_nothing i e) }
@@ -79,20 +80,20 @@ capable_then G is i e a = record { entry = a.entry; operands = a.operands; width
 pub covered_then : (G : Table) (is : List PlainInst) (i : PlainInst) → IsCapable G is i → AreCovered G is i
 covered_then G is i c = record { entry = c.entry; operands = c.operands }
 
-entries_then : (G : Table) (is : List PlainInst) (n : ℕ) (i : PlainInst) → is_asked_more i.opcode ≡ false → (i.opcode ≡ 54 → IsSoundLinkage G is n) → KeepsEntries G is n i
+entries_then : (G : Table) (is : List PlainInst) (n : ℕ) (i : PlainInst) → is_asked_more i.opcode ≡ false → (i.opcode ≡ opcode.FUNCTION → IsSoundLinkage G is n) → KeepsEntries G is n i
 entries_then G is n i e l = record {
-  entry = λ h. absurd (not_this i.opcode 15 e refl h);
-  mode = λ h. absurd (not_this i.opcode 16 e refl h);
+  entry = λ h. absurd (not_this i.opcode opcode.ENTRY_POINT e refl h);
+  mode = λ h. absurd (not_this i.opcode opcode.EXECUTION_MODE e refl h);
   linkage = l;
 }
 
-pub all_covered : (G : Table) (is : List PlainInst) (n : ℕ) (i : PlainInst) → is_asked_more i.opcode ≡ false → AreCovered G is i → (i.opcode ≡ 54 → IsSoundLinkage G is n) → (r : Rule) → Keeps G is r n i
+pub all_covered : (G : Table) (is : List PlainInst) (n : ℕ) (i : PlainInst) → is_asked_more i.opcode ≡ false → AreCovered G is i → (i.opcode ≡ opcode.FUNCTION → IsSoundLinkage G is n) → (r : Rule) → Keeps G is r n i
 all_covered G is n i e a l =
-    all_kept G is n i (λ h. absurd (not_this i.opcode 14 e refl h)) (capable_then G is i e a) (λ h. absurd (not_this i.opcode 14 e refl h)) (λ h. absurd (not_this i.opcode 14 e refl h)) (entries_then G is n i e l)
+    all_kept G is n i (λ h. absurd (not_this i.opcode opcode.MEMORY_MODEL e refl h)) (capable_then G is i e a) (λ h. absurd (not_this i.opcode opcode.MEMORY_MODEL e refl h)) (λ h. absurd (not_this i.opcode opcode.MEMORY_MODEL e refl h)) (entries_then G is n i e l)
 
 pub kept_before_covered : (G : Table) (is : List PlainInst) (n : ℕ) (i : PlainInst) → is_asked_more i.opcode ≡ false → (q : Rule) → rank_of q < 22 → Keeps G is q n i
-kept_before_covered G is n i e = kept_before_c2 G is n i (λ h. absurd (not_this i.opcode 14 e refl h))
+kept_before_covered G is n i e = kept_before_c2 G is n i (λ h. absurd (not_this i.opcode opcode.MEMORY_MODEL e refl h))
 
 pub kept_before_linkage : (G : Table) (is : List PlainInst) (n : ℕ) (i : PlainInst) → is_asked_more i.opcode ≡ false → AreCovered G is i → (q : Rule) → rank_of q < 25 → Keeps G is q n i
 kept_before_linkage G is n i e a =
-    kept_before_e2 G is n i (λ h. absurd (not_this i.opcode 14 e refl h)) (capable_then G is i e a) (λ h. absurd (not_this i.opcode 14 e refl h)) (λ h. absurd (not_this i.opcode 14 e refl h))
+    kept_before_e2 G is n i (λ h. absurd (not_this i.opcode opcode.MEMORY_MODEL e refl h)) (capable_then G is i e a) (λ h. absurd (not_this i.opcode opcode.MEMORY_MODEL e refl h)) (λ h. absurd (not_this i.opcode opcode.MEMORY_MODEL e refl h))

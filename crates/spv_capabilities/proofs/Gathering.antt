@@ -1,23 +1,18 @@
 -- What is gathered, one instruction on.
-use Rattle.std.proofs.Common.{◌≡◌, ◌≢◌, ◌∙◌, ◌<◌, ◌+◌, ◌++◌, ◌↔◌, ℕ, zero, suc, List, [], ◌∷◌, refl, sym, ap, inl, inr, Option, Some, None, Bool, true, false, IsTrue, length, map, take, get_or, nat_eq, arith, add-one}
-use Rattle.std.specs.Prelude.{slice_get, option_map, filter_map}
+use Rattle.std.proofs.Common.{◌≡◌, ◌≢◌, ◌∙◌, ◌+◌, ◌++◌, ◌↔◌, ℕ, zero, suc, List, [], ◌∷◌, refl, sym, ap, inl, inr, Option, Some, None, Bool, true, false, IsTrue, length, take, nat_eq, arith, add-one}
+use Rattle.std.specs.Prelude.{slice_get, filter_map}
 use Rattle.std.proofs.lemmas.List.{append-nil}
 use Rattle.std.proofs.lemmas.List.Elements.{filter_map-append}
-use Rattle.std.proofs.lemmas.Option.{slice_get-map, slice_get_read, slice_get_within}
+use Rattle.std.proofs.lemmas.Option.{slice_get_within}
 use Rattle.std.proofs.lemmas.Bool.Decides.{nat_tests}
 use Rattle.spv_module.specs.Operand.{PlainInst}
-use Rattle.spv_module.specs.Module.{plain_inst}
-use Rattle.spv_module.specs.declared.module.Inst.{Inst}
+use Rattle.spv_module.specs.declared.opcode.TheConstants as opcode
 use Rattle.spv_ids.specs.Order.{HasOpcode}
 use Rattle.spv_capabilities.specs.Capable.{first_value}
 use Rattle.spv_capabilities.specs.inner.Capable.{declared_by}
 use Rattle.spv_capabilities.specs.Entry.{called_by, entered_by, imported_by, third_id, second_id, linked_id}
 use Rattle.spv_capabilities.specs.inner.Survey.{IsEntryBefore}
 use Rattle.spv_capabilities.proofs.Marked.{below_or}
-
--- an instruction of a slice
-pub inst_there : (insts : List Inst) (n : ℕ) (i : Inst) → n < length insts → i ≡ get_or insts n i → slice_get (map plain_inst insts) n ≡ Some (plain_inst i)
-inst_there insts n i h e = slice_get-map plain_inst insts n ∙ ap (option_map plain_inst) (slice_get_read insts (length insts) n i refl h e)
 
 -- the front with one instruction more
 take_one : (is : List PlainInst) (to : ℕ) (i : PlainInst) → slice_get is to ≡ Some i → take (suc to) is ≡ take to is ++ i ∷ []
@@ -39,10 +34,10 @@ declared_one is to c i cs h e a =
     ap (λ k. k ++ c ∷ []) a ∙ sym (declared_front is to i h ∙ ap (λ k. filter_map declared_by (take to is) ++ k) l)
 
 -- an OpEntryPoint, and another instruction
-pub entry_here : (is : List PlainInst) (to : ℕ) (i : PlainInst) → slice_get is to ≡ Some i → i.opcode ≡ 15 → IsTrue true ↔ IsEntryBefore is (to + 1)
+pub entry_here : (is : List PlainInst) (to : ℕ) (i : PlainInst) → slice_get is to ≡ Some i → i.opcode ≡ opcode.ENTRY_POINT → IsTrue true ↔ IsEntryBefore is (to + 1)
 entry_here is to i h e = (λ t. record { place = to; below = omega arith; there = record { inst = i; there = h; same = e } }, λ n. refl)
 
-pub entry_other : (is : List PlainInst) (to : ℕ) (i : PlainInst) (b : Bool) → slice_get is to ≡ Some i → i.opcode ≢ 15 → IsTrue b ↔ IsEntryBefore is to → IsTrue b ↔ IsEntryBefore is (to + 1)
+pub entry_other : (is : List PlainInst) (to : ℕ) (i : PlainInst) (b : Bool) → slice_get is to ≡ Some i → i.opcode ≢ opcode.ENTRY_POINT → IsTrue b ↔ IsEntryBefore is to → IsTrue b ↔ IsEntryBefore is (to + 1)
 entry_other is to i b h ne a = (
   λ t. let n = a.0 t in let l = n.below in record { place = n.place; below = omega arith; there = n.there },
   λ n. elim (below_or n.place to n.below) [
@@ -54,39 +49,39 @@ entry_other is to i b h ne a = (
   ],
 )
 
-pub all_entries : (is : List PlainInst) → IsEntryBefore is (length is) ↔ ((n : ℕ) × HasOpcode is n 15)
+pub all_entries : (is : List PlainInst) → IsEntryBefore is (length is) ↔ ((n : ℕ) × HasOpcode is n opcode.ENTRY_POINT)
 all_entries is = (
   λ e. (e.place, e.there),
   λ e. record { place = e.0; below = slice_get_within is e.0 e.1.inst e.1.there; there = e.1 },
 )
 
-pub some_entry : (is : List PlainInst) (b : Bool) → IsTrue b ↔ IsEntryBefore is (length is) → IsTrue b ↔ ((n : ℕ) × HasOpcode is n 15)
+pub some_entry : (is : List PlainInst) (b : Bool) → IsTrue b ↔ IsEntryBefore is (length is) → IsTrue b ↔ ((n : ℕ) × HasOpcode is n opcode.ENTRY_POINT)
 some_entry is b e = let a = all_entries is in (λ t. a.0 (e.0 t), λ n. e.1 (a.1 n))
 
 -- what is gathered of an instruction, by its opcode
 test_other : (y x : ℕ) → y ≢ x → nat_eq y x ≡ false
 test_other y x h = grind (arith, nat_tests)
 
-pub declared_here : (i : PlainInst) (o : Option ℕ) → i.opcode ≡ 17 → o ≡ first_value i.operands → declared_by i ≡ o
+pub declared_here : (i : PlainInst) (o : Option ℕ) → i.opcode ≡ opcode.CAPABILITY → o ≡ first_value i.operands → declared_by i ≡ o
 declared_here i o e f = rw e (sym f)
 
-pub called_here : (i : PlainInst) (o : Option ℕ) → i.opcode ≡ 57 → o ≡ third_id i.operands → called_by i ≡ o
+pub called_here : (i : PlainInst) (o : Option ℕ) → i.opcode ≡ opcode.FUNCTION_CALL → o ≡ third_id i.operands → called_by i ≡ o
 called_here i o e f = rw e (sym f)
 
-pub entered_here : (i : PlainInst) (o : Option ℕ) → i.opcode ≡ 15 → o ≡ second_id i.operands → entered_by i ≡ o
+pub entered_here : (i : PlainInst) (o : Option ℕ) → i.opcode ≡ opcode.ENTRY_POINT → o ≡ second_id i.operands → entered_by i ≡ o
 entered_here i o e f = rw e (sym f)
 
-pub imported_here : (l : Option ℕ) (i : PlainInst) (o : Option ℕ) → i.opcode ≡ 71 → o ≡ linked_id l i.operands → imported_by l i ≡ o
+pub imported_here : (l : Option ℕ) (i : PlainInst) (o : Option ℕ) → i.opcode ≡ opcode.DECORATE → o ≡ linked_id l i.operands → imported_by l i ≡ o
 imported_here l i o e f = rw e (sym f)
 
-pub not_declared : (i : PlainInst) → i.opcode ≢ 17 → declared_by i ≡ None
-not_declared i h = rw (test_other i.opcode 17 h) refl
+pub not_declared : (i : PlainInst) → i.opcode ≢ opcode.CAPABILITY → declared_by i ≡ None
+not_declared i h = rw (test_other i.opcode opcode.CAPABILITY h) refl
 
-pub not_called : (i : PlainInst) → i.opcode ≢ 57 → called_by i ≡ None
-not_called i h = rw (test_other i.opcode 57 h) refl
+pub not_called : (i : PlainInst) → i.opcode ≢ opcode.FUNCTION_CALL → called_by i ≡ None
+not_called i h = rw (test_other i.opcode opcode.FUNCTION_CALL h) refl
 
-pub not_entered : (i : PlainInst) → i.opcode ≢ 15 → entered_by i ≡ None
-not_entered i h = rw (test_other i.opcode 15 h) refl
+pub not_entered : (i : PlainInst) → i.opcode ≢ opcode.ENTRY_POINT → entered_by i ≡ None
+not_entered i h = rw (test_other i.opcode opcode.ENTRY_POINT h) refl
 
-pub not_imported : (l : Option ℕ) (i : PlainInst) → i.opcode ≢ 71 → imported_by l i ≡ None
-not_imported l i h = rw (test_other i.opcode 71 h) refl
+pub not_imported : (l : Option ℕ) (i : PlainInst) → i.opcode ≢ opcode.DECORATE → imported_by l i ≡ None
+not_imported l i h = rw (test_other i.opcode opcode.DECORATE h) refl

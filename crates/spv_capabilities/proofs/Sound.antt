@@ -5,6 +5,7 @@ use Rattle.std.proofs.lemmas.Bool.{eqb-true, eq-eqb}
 use Rattle.std.proofs.lemmas.Option.{slice_get_within}
 use Rattle.spv_table.specs.Table.{Table}
 use Rattle.spv_module.specs.Operand.{PlainInst, type_in}
+use Rattle.spv_module.specs.declared.opcode.TheConstants as opcode
 use Rattle.spv_layout.specs.Place.{IsDefinition}
 use Rattle.spv_ids.specs.Definition.{IsDefinedAt}
 use Rattle.spv_ids.specs.Order.{HasOpcode}
@@ -30,12 +31,12 @@ has_opcode is n o i h t = record { inst = i; there = h; same = eqb-true i.opcode
 
 -- The id is that of an OpTypeVoid.
 abbrev pub IsVoid : List PlainInst → ℕ → Type 0
-IsVoid is x = (n : ℕ) × IsDefinedAt is x n × HasOpcode is n 19
+IsVoid is x = (n : ℕ) × IsDefinedAt is x n × HasOpcode is n opcode.TYPE_VOID
 
-pub void_tells : (is : List PlainInst) (x m : ℕ) (i : PlainInst) → IsDefinitionOf is x (Some m) → slice_get is m ≡ Some i → IsTrue (nat_eq i.opcode 19) ↔ IsVoid is x
+pub void_tells : (is : List PlainInst) (x m : ℕ) (i : PlainInst) → IsDefinitionOf is x (Some m) → slice_get is m ≡ Some i → IsTrue (nat_eq i.opcode opcode.TYPE_VOID) ↔ IsVoid is x
 void_tells is x m i one h = (
-  λ t. (m, one.there, has_opcode is m 19 i h t),
-  λ v. at_opcode is m 19 i h (moved is v.0 m 19 (one.only v.0 v.1) v.2),
+  λ t. (m, one.there, has_opcode is m opcode.TYPE_VOID i h t),
+  λ v. at_opcode is m opcode.TYPE_VOID i h (moved is v.0 m opcode.TYPE_VOID (one.only v.0 v.1) v.2),
 )
 
 pub no_void : (is : List PlainInst) (x : ℕ) → IsDefinitionOf is x None → IsTrue false ↔ IsVoid is x
@@ -94,23 +95,23 @@ not_imported_tells true P Q n e = (λ t. (λ p. absurd (n p), λ m. absurd (m (e
 not_imported_tells false P Q n e = (λ t. no_truth t, λ h. absurd (n (h.1 (λ q. no_truth (e.1 q)))))
 
 -- what E2 demands, by the opcode
-pub entry_keeps : (G : Table) (is : List PlainInst) (n : ℕ) (i : PlainInst) (b : Bool) → i.opcode ≡ 15 → IsTrue b ↔ IsSoundEntry is i.operands → IsTrue b ↔ KeepsEntries G is n i
+pub entry_keeps : (G : Table) (is : List PlainInst) (n : ℕ) (i : PlainInst) (b : Bool) → i.opcode ≡ opcode.ENTRY_POINT → IsTrue b ↔ IsSoundEntry is i.operands → IsTrue b ↔ KeepsEntries G is n i
 entry_keeps G is n i b o e = (
   λ t. record { entry = λ q. e.0 t; mode = λ q. absurd (omega (arith, o, q)); linkage = λ q. absurd (omega (arith, o, q)) },
   λ k. e.1 (k.entry o),
 )
 
-pub mode_keeps : (G : Table) (is : List PlainInst) (n : ℕ) (i : PlainInst) (b : Bool) → i.opcode ≡ 16 → IsTrue b ↔ IsSoundMode is i.operands → IsTrue b ↔ KeepsEntries G is n i
+pub mode_keeps : (G : Table) (is : List PlainInst) (n : ℕ) (i : PlainInst) (b : Bool) → i.opcode ≡ opcode.EXECUTION_MODE → IsTrue b ↔ IsSoundMode is i.operands → IsTrue b ↔ KeepsEntries G is n i
 mode_keeps G is n i b o e = (
   λ t. record { entry = λ q. absurd (omega (arith, o, q)); mode = λ q. e.0 t; linkage = λ q. absurd (omega (arith, o, q)) },
   λ k. e.1 (k.mode o),
 )
 
-pub linkage_keeps : (G : Table) (is : List PlainInst) (n : ℕ) (i : PlainInst) (b : Bool) → i.opcode ≡ 54 → IsTrue b ↔ IsSoundLinkage G is n → IsTrue b ↔ KeepsEntries G is n i
+pub linkage_keeps : (G : Table) (is : List PlainInst) (n : ℕ) (i : PlainInst) (b : Bool) → i.opcode ≡ opcode.FUNCTION → IsTrue b ↔ IsSoundLinkage G is n → IsTrue b ↔ KeepsEntries G is n i
 linkage_keeps G is n i b o e = (
   λ t. record { entry = λ q. absurd (omega (arith, o, q)); mode = λ q. absurd (omega (arith, o, q)); linkage = λ q. e.0 t },
   λ k. e.1 (k.linkage o),
 )
 
-pub other_keeps : (G : Table) (is : List PlainInst) (n : ℕ) (i : PlainInst) → i.opcode ≢ 15 → i.opcode ≢ 16 → i.opcode ≢ 54 → IsTrue true ↔ KeepsEntries G is n i
+pub other_keeps : (G : Table) (is : List PlainInst) (n : ℕ) (i : PlainInst) → i.opcode ≢ opcode.ENTRY_POINT → i.opcode ≢ opcode.EXECUTION_MODE → i.opcode ≢ opcode.FUNCTION → IsTrue true ↔ KeepsEntries G is n i
 other_keeps G is n i a b c = (λ t. record { entry = λ q. absurd (a q); mode = λ q. absurd (b q); linkage = λ q. absurd (c q) }, λ k. refl)

@@ -7,6 +7,7 @@ use Rattle.spv_table.specs.Lookups.{value_named, number_named}
 use Rattle.spv_table.specs.Implied.{Lists, CapabilityChain, capabilities_in}
 use Rattle.spv_table.proofs.Search.{in_cons}
 use Rattle.spv_module.specs.Operand.{PlainInst}
+use Rattle.spv_module.specs.declared.opcode.TheConstants as opcode
 use Rattle.spv_layout.specs.declared.class.Class.TheVariants.{Function, FunctionEnd, Label}
 use Rattle.spv_layout.specs.Rows.{rows}
 use Rattle.spv_layout.specs.Place.{IsAt, IsDefinition}
@@ -86,11 +87,11 @@ abbrev opcode_in : Option PlainInst → ℕ
 opcode_in None = 0
 opcode_in (Some i) = i.opcode
 
-no_entry_at : (n : ℕ) → opcode_in (slice_get vectors n) ≡ 15 → ⊥
+no_entry_at : (n : ℕ) → opcode_in (slice_get vectors n) ≡ opcode.ENTRY_POINT → ⊥
 no_entry_at zero e = absurd (omega (arith, e))
-no_entry_at (suc n) e = absurd (let no : 0 ≡ 15 = e in omega arith)
+no_entry_at (suc n) e = absurd (let no : 0 ≡ opcode.ENTRY_POINT = e in omega arith)
 
-pub no_entry : (n : ℕ) → ¬ (HasOpcode vectors n 15)
+pub no_entry : (n : ℕ) → ¬ (HasOpcode vectors n opcode.ENTRY_POINT)
 no_entry n h = no_entry_at n (ap opcode_in h.there ∙ h.same)
 
 none_called : (p : ℕ) → option_and_then called_by (slice_get kernel p) ≡ None

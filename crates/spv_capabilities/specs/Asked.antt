@@ -3,6 +3,7 @@ use Rattle.std.specs.Prelude.{◌≡◌, ◌≢◌, ◌⊎◌, ℕ, List, [], So
 use Rattle.spv_table.specs.Table.{Table, entry_of}
 use Rattle.spv_table.specs.Lookups.{number_named}
 use Rattle.spv_module.specs.Operand.{PlainInst}
+use Rattle.spv_module.specs.declared.opcode.TheConstants as opcode
 use Rattle.spv_ids.specs.Order.{HasOpcode}
 use Rattle.spv_capabilities.specs.Capable.{Has, HasOneOf, IsCovered}
 use Rattle.spv_capabilities.specs.Entry.{IsNamed, imported_by}
@@ -25,4 +26,4 @@ IsImported G is f = IsNamed (imported_by (number_named G (codes "LinkageType")))
 
 -- E1: there is an OpEntryPoint, or the module has Linkage (5). [2.16.1]
 abbrev pub HasEntry : Table → List PlainInst → Type 0
-HasEntry G is = ((n : ℕ) × HasOpcode is n 15) ⊎ Has G is 5
+HasEntry G is = ((n : ℕ) × HasOpcode is n opcode.ENTRY_POINT) ⊎ Has G is 5

@@ -8,15 +8,17 @@ use Rattle.spv_table.specs.Lookups.{value_named, number_named}
 use Rattle.spv_table.specs.Implied.{Implied, capabilities_in}
 use Rattle.spv_module.specs.Operand.{Plain, Result, Word, Id, Value, Mask, PlainInst}
 use Rattle.spv_module.specs.Spelling.{set_bits}
+use Rattle.spv_module.specs.declared.opcode.TheConstants as opcode
 
--- the capability that an OpCapability (17) declares [3.31, 3.49.5]
+-- the capability that an OpCapability declares [3.31, 3.49.5]
 abbrev pub first_value : List Plain → Option ℕ
 first_value (Value k c ∷ os) = Some c
 first_value _ = None
 
--- The module has the capability: those that its OpCapabilities (17) declare imply it. [3.31, 3.49.5]
+-- The module has the capability: those that its OpCapabilities declare imply it. [3.31, 3.49.5]
 abbrev pub Has : Table → List PlainInst → ℕ → Type 0
-Has G is c = Implied G (filter_map (λ i. if nat_eq i.opcode 17 then first_value i.operands else None) is) c
+Has G is c =
+    Implied G (filter_map (λ i. if nat_eq i.opcode opcode.CAPABILITY then first_value i.operands else None) is) c
 
 -- The module has one of the named capabilities. A name that no capability bears is that of none. [3.31]
 abbrev pub HasNamed : Table → List PlainInst → List (List ℕ) → Type 0
@@ -58,11 +60,12 @@ abbrev pub vector_needs : List Plain → List ℕ
 vector_needs (Result t ∷ Id c ∷ Word n ∷ os) = if nat_eq n 8 || nat_eq n 16 then 7 ∷ [] else []
 vector_needs _ = []
 
--- those of OpTypeInt (21), OpTypeFloat (22) and OpTypeVector (23) [3.31]
+-- those of OpTypeInt, OpTypeFloat and OpTypeVector [3.31]
 abbrev pub needs_of : PlainInst → List ℕ
 needs_of i =
-    if nat_eq i.opcode 21 then int_needs i.operands else (if nat_eq i.opcode 22 then float_needs i.operands
-    else (if nat_eq i.opcode 23 then vector_needs i.operands else []))
+    if nat_eq i.opcode opcode.TYPE_INT then int_needs i.operands
+    else (if nat_eq i.opcode opcode.TYPE_FLOAT then float_needs i.operands
+    else (if nat_eq i.opcode opcode.TYPE_VECTOR then vector_needs i.operands else []))
 
 -- The module has one of those that are needed. [3.31]
 abbrev pub HasOneOf : Table → List PlainInst → List ℕ → Type 0

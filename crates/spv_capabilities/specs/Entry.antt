@@ -3,29 +3,30 @@
 use Rattle.std.specs.Prelude.{◌≡◌, ℕ, List, ◌∷◌, Option, Some, None, nat_eq}
 use Rattle.std.specs.Prelude.{◌&&◌, if◌then◌else◌, slice_get}
 use Rattle.spv_module.specs.Operand.{Plain, OfType, Result, Id, Text, Value, PlainInst, type_in}
+use Rattle.spv_module.specs.declared.opcode.TheConstants as opcode
 use Rattle.spv_layout.specs.Place.{IsDefinition}
 use Rattle.spv_ids.specs.Definition.{IsDefinedAt}
 use Rattle.spv_ids.specs.Order.{HasOpcode}
 
--- the id of the function that an OpFunctionCall (57) calls: %x = OpFunctionCall %r %f .. [3.49.9]
+-- the id of the function that an OpFunctionCall calls: %x = OpFunctionCall %r %f .. [3.49.9]
 abbrev pub third_id : List Plain → Option ℕ
 third_id (OfType r ∷ Result x ∷ Id f ∷ os) = Some f
 third_id _ = None
 
 -- the function that an OpFunctionCall calls [3.49.9]
 abbrev pub called_by : PlainInst → Option ℕ
-called_by i = if nat_eq i.opcode 57 then third_id i.operands else None
+called_by i = if nat_eq i.opcode opcode.FUNCTION_CALL then third_id i.operands else None
 
--- the id of the function of an OpEntryPoint (15): OpEntryPoint model %f .. [3.49.5]
+-- the id of the function of an OpEntryPoint: OpEntryPoint model %f .. [3.49.5]
 abbrev pub second_id : List Plain → Option ℕ
 second_id (Value k m ∷ Id f ∷ os) = Some f
 second_id _ = None
 
 -- the function that an OpEntryPoint names [3.49.5]
 abbrev pub entered_by : PlainInst → Option ℕ
-entered_by i = if nat_eq i.opcode 15 then second_id i.operands else None
+entered_by i = if nat_eq i.opcode opcode.ENTRY_POINT then second_id i.operands else None
 
--- the id that an OpDecorate (71) imports: OpDecorate %f LinkageAttributes (41) "name" Import (1) .., where the kind
+-- the id that an OpDecorate imports: OpDecorate %f LinkageAttributes (41) "name" Import (1) .., where the kind
 -- LinkageType has that number [3.49.3]
 abbrev pub linked_id : Option ℕ → List Plain → Option ℕ
 linked_id (Some l) (Id f ∷ Value k d ∷ Text t ∷ Value j v ∷ os) = if nat_eq d 41 && nat_eq j l && nat_eq v 1
@@ -34,7 +35,7 @@ linked_id _ _ = None
 
 -- the id that an OpDecorate gives that linkage [3.49.3]
 abbrev pub imported_by : Option ℕ → PlainInst → Option ℕ
-imported_by l i = if nat_eq i.opcode 71 then linked_id l i.operands else None
+imported_by l i = if nat_eq i.opcode opcode.DECORATE then linked_id l i.operands else None
 
 -- Some instruction names, in this way, the id that instruction f defines: a call, an entry point or an import. [3.49.5]
 pub record IsNamed (names : PlainInst → Option ℕ) (is : List PlainInst) (f : ℕ) : Type 0 where
@@ -45,7 +46,7 @@ pub record IsNamed (names : PlainInst → Option ℕ) (is : List PlainInst) (f :
   pub named : names inst ≡ Some id
   pub defined : IsDefinedAt is id f
 
--- The result type of the function is an OpTypeVoid (19). [3.49.9]
+-- The result type of the function is an OpTypeVoid. [3.49.9]
 pub record ReturnsVoid (is : List PlainInst) (f : ℕ) : Type 0 where
   pub inst : PlainInst
   pub there : slice_get is f ≡ Some inst
@@ -53,7 +54,7 @@ pub record ReturnsVoid (is : List PlainInst) (f : ℕ) : Type 0 where
   pub returns : type_in inst.operands ≡ Some type
   pub place : ℕ
   pub defined : IsDefinedAt is type place
-  pub void : HasOpcode is place 19
+  pub void : HasOpcode is place opcode.TYPE_VOID
 
 -- The id is that of a function that may be an entry point: a definition, which returns void, and which no
 -- OpFunctionCall calls. [2.16.1, 3.49.9]

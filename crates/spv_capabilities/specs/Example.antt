@@ -4,6 +4,7 @@ use Rattle.spv_table.specs.declared.table.Category.TheVariants.{ValueEnum, BitEn
 use Rattle.spv_table.specs.declared.table.Enumerant.{Enumerant}
 use Rattle.spv_table.specs.Table.{Sort, Table}
 use Rattle.spv_module.specs.Operand.{Plain, OfType, Result, Id, Text, Value, Mask, PlainInst}
+use Rattle.spv_module.specs.declared.opcode.TheConstants as opcode
 
 abbrev pub enumerant : List ℕ → ℕ → List (List ℕ) → Enumerant
 enumerant name value names = record { name = name; value = value; parameters = []; capabilities = names }
@@ -40,22 +41,22 @@ inst opcode operands = record { opcode = opcode; operands = operands }
 
 -- OpCapability Vector16
 abbrev pub vectors : List PlainInst
-vectors = inst 17 (Value 0 7 ∷ []) ∷ []
+vectors = inst opcode.CAPABILITY (Value 0 7 ∷ []) ∷ []
 
 -- OpCapability Linkage
 abbrev pub linked : List PlainInst
-linked = inst 17 (Value 0 5 ∷ []) ∷ []
+linked = inst opcode.CAPABILITY (Value 0 5 ∷ []) ∷ []
 
 -- OpEntryPoint Kernel %3 "k"
 abbrev pub entry : PlainInst
-entry = inst 15 (Value 9 6 ∷ Id 3 ∷ Text (codes "k") ∷ [])
+entry = inst opcode.ENTRY_POINT (Value 9 6 ∷ Id 3 ∷ Text (codes "k") ∷ [])
 
 -- a function that returns void, without an entry point
 abbrev pub void_function : List PlainInst
 void_function =
-    inst 19 (Result 1 ∷ []) ∷  -- %1 = OpTypeVoid
-    inst 54 (OfType 1 ∷ Result 3 ∷ Mask 8 0 ∷ Id 2 ∷ []) ∷  -- %3 = OpFunction %1 None %2
-    inst 248 (Result 4 ∷ []) ∷  -- %4 = OpLabel
+    inst opcode.TYPE_VOID (Result 1 ∷ []) ∷  -- %1 = OpTypeVoid
+    inst opcode.FUNCTION (OfType 1 ∷ Result 3 ∷ Mask 8 0 ∷ Id 2 ∷ []) ∷  -- %3 = OpFunction %1 None %2
+    inst opcode.LABEL (Result 4 ∷ []) ∷  -- %4 = OpLabel
     []
 
 -- the same with one
@@ -64,11 +65,13 @@ kernel = entry ∷ void_function
 
 -- and with a call of it: %6 = OpFunctionCall %1 %3
 abbrev pub called : List PlainInst
-called = inst 57 (OfType 1 ∷ Result 6 ∷ Id 3 ∷ []) ∷ kernel
+called = inst opcode.FUNCTION_CALL (OfType 1 ∷ Result 6 ∷ Id 3 ∷ []) ∷ kernel
 
 -- a declaration, which is decorated by a linkage type: OpDecorate %3 LinkageAttributes "f" and %3 = OpFunction %1 None
 -- %2
 abbrev pub declaration : ℕ → List PlainInst
 declaration type =
-    inst 71 (Id 3 ∷ Value 7 41 ∷ Text (codes "f") ∷ Value 2 type ∷ []) ∷ inst 54
-    (OfType 1 ∷ Result 3 ∷ Mask 8 0 ∷ Id 2 ∷ []) ∷ inst 56 [] ∷ []
+    inst opcode.DECORATE (Id 3 ∷ Value 7 41 ∷ Text (codes "f") ∷ Value 2 type ∷ []) ∷
+    inst opcode.FUNCTION (OfType 1 ∷ Result 3 ∷ Mask 8 0 ∷ Id 2 ∷ []) ∷
+    inst opcode.FUNCTION_END [] ∷
+    []

@@ -11,8 +11,8 @@ ghost use Rattle.spv_capabilities.specs.Asked.{HasNeeded, IsCoveredEntry};
 ghost use Rattle.spv_capabilities.specs.inner.Capable.{IsKernel};
 
 use crate::surveyed::Survey;
-use spv_module::{Inst, Operand};
-use spv_table::Name;
+use spv_module::{Inst, Operand, opcode};
+use spv_table::NameList;
 
 /// Whether the module has Kernel and has not Shader.
 pub fn is_kernel(survey: &Survey<'_, '_>) -> bool
@@ -22,15 +22,15 @@ pub fn is_kernel(survey: &Survey<'_, '_>) -> bool
 }
 
 /// The capability of a name.
-fn capability(survey: &Survey<'_, '_>, name: &Name) -> Option<u32>
+fn capability(survey: &Survey<'_, '_>, name: &str) -> Option<u32>
     ensures { result ≡ value_named (capabilities_in survey.now.table) name.now }
 {
     let kind = survey.capability_kind()?;
-    survey.table().enumerant_named(kind, name.as_str())
+    survey.table().enumerant_named(kind, name)
 }
 
 /// Whether the module has the capability of a name.
-fn has_name(survey: &Survey<'_, '_>, name: &Name) -> bool
+fn has_name(survey: &Survey<'_, '_>, name: &str) -> bool
     ensures { IsTrue result ↔ IsSomeAnd (value_named (capabilities_in survey.now.table) name.now)
         (Has survey.now.table survey.now.insts) }
 {
@@ -41,11 +41,11 @@ fn has_name(survey: &Survey<'_, '_>, name: &Name) -> bool
 }
 
 /// Whether the module has one of the named capabilities.
-fn has_named(survey: &Survey<'_, '_>, names: &[Name]) -> bool
+fn has_named(survey: &Survey<'_, '_>, names: &NameList) -> bool
     ensures { IsTrue result ↔ HasNamed survey.now.table survey.now.insts names.now }
 {
-    for name in names {
-        if has_name(survey, name) {
+    for place in 0..names.len() {
+        if has_name(survey, names.name(place)) {
             return true;
         }
     }
@@ -53,7 +53,7 @@ fn has_named(survey: &Survey<'_, '_>, names: &[Name]) -> bool
 }
 
 /// Whether listed capabilities are none, or the module has one of them.
-fn is_covered(survey: &Survey<'_, '_>, names: &[Name]) -> bool
+fn is_covered(survey: &Survey<'_, '_>, names: &NameList) -> bool
     ensures { IsTrue result ↔ IsCovered survey.now.table survey.now.insts names.now }
 {
     names.is_empty() || has_named(survey, names)
@@ -64,7 +64,7 @@ pub fn is_covered_entry(survey: &Survey<'_, '_>, opcode: u16) -> bool
     ensures { IsTrue result ↔ IsCoveredEntry survey.now.table survey.now.insts opcode }
 {
     match survey.table().entry(opcode) {
-        Some(entry) => is_covered(survey, entry.capabilities.as_slice()),
+        Some(entry) => is_covered(survey, &entry.capabilities),
         None => true,
     }
 }
@@ -85,7 +85,7 @@ pub fn is_covered_value(survey: &Survey<'_, '_>, kind: u32, value: u32) -> bool
     ensures { IsTrue result ↔ IsCoveredValue survey.now.table survey.now.insts kind value }
 {
     match survey.table().enumerant(kind, value) {
-        Some(enumerant) => is_covered(survey, enumerant.capabilities.as_slice()),
+        Some(enumerant) => is_covered(survey, &enumerant.capabilities),
         None => true,
     }
 }
@@ -99,7 +99,7 @@ pub fn asks_nothing(survey: &Survey<'_, '_>, kind: u32, value: u32) -> bool
     ensures covered { IsTrue result → IsCoveredValue survey.now.table survey.now.insts kind value }
 {
     match survey.table().enumerant(kind, value) {
-        Some(enumerant) => enumerant.capabilities.as_slice().is_empty(),
+        Some(enumerant) => enumerant.capabilities.is_empty(),
         None => true,
     }
 }
@@ -149,9 +149,9 @@ pub fn has_needed(survey: &Survey<'_, '_>, inst: &Inst<'_>) -> bool
 {
     let operands = inst.operands.as_slice();
     match inst.opcode {
-        21 => has_int_needs(survey, operands),
-        22 => has_float_needs(survey, operands),
-        23 => has_vector_needs(survey, operands),
+        opcode::TYPE_INT => has_int_needs(survey, operands),
+        opcode::TYPE_FLOAT => has_float_needs(survey, operands),
+        opcode::TYPE_VECTOR => has_vector_needs(survey, operands),
         _ => true,
     }
 }

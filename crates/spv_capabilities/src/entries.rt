@@ -4,6 +4,7 @@ ghost use Rattle.std.specs.Prelude.{◌≡◌, ◌↔◌, ◌<◌, ℕ, IfOk, Is
 ghost use Rattle.spv_table.specs.Table.{Table};
 ghost use Rattle.spv_module.specs.Operand.{PlainInst};
 ghost use Rattle.spv_module.specs.Module.{plain_inst, plain_insts};
+ghost use Rattle.spv_module.specs.declared.opcode.TheConstants as opcode;
 ghost use Rattle.spv_layout.specs.Plan.{IsPlan};
 ghost use Rattle.spv_ids.specs.Outcome.{IsDefinitionOf, definition_in};
 ghost use Rattle.spv_capabilities.specs.inner.Capable.{IsKernel};
@@ -19,13 +20,10 @@ use crate::memo::Memo;
 use crate::surveyed::Survey;
 use spv_ids::Ids;
 use spv_layout::Plan;
-use spv_module::{Inst, Module, Rule};
+use spv_module::{Inst, Module, Rule, opcode};
 use spv_table::{Memory, Table};
 use std::alloc::Global;
 use std::marker::Model;
-
-/// The opcode of OpMemoryModel.
-const MEMORY_MODEL: u16 = 14;
 
 /// A module whose instructions are judged by the rules C1, C2, M1, E1 and E2. Contracts see the grammar table and the
 /// instructions.
@@ -73,23 +71,26 @@ pub fn survey<'m, 'a>(
 
 /// Whether C1 is unbroken at an instruction.
 fn keeps_kernel(survey: &Survey<'_, '_>, inst: &Inst<'_>) -> bool
-    ensures { IsTrue result ↔ ((plain_inst inst.now).opcode ≡ 14 → IsKernel survey.now.table survey.now.insts) }
+    ensures { IsTrue result ↔ ((plain_inst inst.now).opcode ≡ opcode.MEMORY_MODEL
+        → IsKernel survey.now.table survey.now.insts) }
 {
-    inst.opcode != MEMORY_MODEL || is_kernel(survey)
+    inst.opcode != opcode::MEMORY_MODEL || is_kernel(survey)
 }
 
 /// Whether M1 is unbroken at an instruction.
 fn keeps_model(inst: &Inst<'_>) -> bool
-    ensures { IsTrue result ↔ ((plain_inst inst.now).opcode ≡ 14 → IsModel (plain_inst inst.now).operands) }
+    ensures { IsTrue result ↔ ((plain_inst inst.now).opcode ≡ opcode.MEMORY_MODEL
+        → IsModel (plain_inst inst.now).operands) }
 {
-    inst.opcode != MEMORY_MODEL || is_model(inst.operands.as_slice())
+    inst.opcode != opcode::MEMORY_MODEL || is_model(inst.operands.as_slice())
 }
 
 /// Whether E1 is unbroken at an instruction.
 fn keeps_entry(survey: &Survey<'_, '_>, inst: &Inst<'_>) -> bool
-    ensures { IsTrue result ↔ ((plain_inst inst.now).opcode ≡ 14 → HasEntry survey.now.table survey.now.insts) }
+    ensures { IsTrue result ↔ ((plain_inst inst.now).opcode ≡ opcode.MEMORY_MODEL
+        → HasEntry survey.now.table survey.now.insts) }
 {
-    inst.opcode != MEMORY_MODEL || has_entry(survey)
+    inst.opcode != opcode::MEMORY_MODEL || has_entry(survey)
 }
 
 /// The first of the five rules that is broken at an instruction of a number, whichever speak of it.
@@ -126,11 +127,16 @@ fn first_of_several(
 /// Whether a rule other than C2 speaks of an opcode other than that of OpFunction, or C2 asks for a width or a count
 /// there.
 #[inline(always)]
-fn is_asked_more(opcode: u16) -> bool
-    ensures { result ≡ known.is_asked_more opcode }
+fn is_asked_more(number: u16) -> bool
+    ensures { result ≡ known.is_asked_more number }
 {
-    match opcode {
-        14 | 15 | 16 | 21 | 22 | 23 => true,
+    match number {
+        opcode::MEMORY_MODEL
+        | opcode::ENTRY_POINT
+        | opcode::EXECUTION_MODE
+        | opcode::TYPE_INT
+        | opcode::TYPE_FLOAT
+        | opcode::TYPE_VECTOR => true,
         _ => false,
     }
 }
@@ -155,7 +161,7 @@ fn first_of(
     if !memo.are_covered(survey, inst)? {
         return Ok(Some(Rule::C2));
     }
-    if !keeps_linkage(survey, number, inst.opcode) {
+    if !keeps_linkage(survey, number, inst) {
         return Ok(Some(Rule::E2));
     }
     Ok(None)
@@ -167,18 +173,14 @@ impl<'m, 'a> Entries<'m, 'a> {
     ///
     /// - C1, at OpMemoryModel: the module has not Kernel, or it has Shader (2.16.1, 3.31).
     /// - C2: the entry of the instruction in the grammar table, or an enumerant or a set bit among its operands other
-    ///   than those of
-    /// kind Capability, lists capabilities of which the module has none; or the module has not the capability of a
-    ///   type's width or
-    ///   of a vector's count (3.31; those of widths and counts own).
+    ///   than those of kind Capability, lists capabilities of which the module has none; or the module has not the
+    ///   capability of a type's width or of a vector's count (3.31; those of widths and counts own).
     /// - M1, at OpMemoryModel: the addressing model is not Physical32 or Physical64, or the memory model is not OpenCL
     ///   (own).
     /// - E1, at OpMemoryModel: there is no OpEntryPoint, and the module has not Linkage (2.16.1).
     /// - E2: an OpEntryPoint of another model than Kernel, or of a function that is no definition, does not return
-    ///   void, or is
-    /// called; an OpExecutionMode of a function that is no entry point's; an OpFunction of a declaration that is not
-    ///   imported, or
-    ///   of a definition that is (2.4, 2.16.1, 3.17).
+    ///   void, or is called; an OpExecutionMode of a function that is no entry point's; an OpFunction of a declaration
+    ///   that is not imported, or of a definition that is (2.4, 2.16.1, 3.17).
     ///
     /// `Memory` comes only where a growth of memory was refused: what enumerants ask for is kept.
     #[inline(always)]

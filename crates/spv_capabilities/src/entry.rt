@@ -1,8 +1,8 @@
 //! The memory model and the entry points: the rules M1, E1 and E2.
 
-ghost use Rattle.std.specs.Prelude.{◌≡◌, ◌↔◌, ◌<◌, ℕ, List, IsTrue, length, slice_get, Some};
+ghost use Rattle.std.specs.Prelude.{◌≡◌, ◌↔◌, ◌<◌, ℕ, IsTrue, length, Some};
 ghost use Rattle.spv_module.specs.Module.{plain_inst, plain_operands};
-ghost use Rattle.spv_module.specs.Operand as operand;
+ghost use Rattle.spv_module.specs.declared.opcode.TheConstants as opcode;
 ghost use Rattle.spv_layout.specs.Place.{IsDefinition};
 ghost use Rattle.spv_ids.specs.Definition.{IsDefinedAt};
 ghost use Rattle.spv_ids.specs.Order.{HasOpcode};
@@ -13,16 +13,7 @@ ghost use Rattle.spv_capabilities.specs.inner.Entry.{IsCalled, IsEntered, IsSoun
 ghost use Rattle.spv_capabilities.specs.Keeps.{KeepsEntries};
 
 use crate::surveyed::Survey;
-use spv_module::{Inst, Operand};
-
-/// The opcodes of OpEntryPoint, OpExecutionMode, OpTypeVoid and OpFunction.
-const ENTRY_POINT: u16 = 15;
-
-const EXECUTION_MODE: u16 = 16;
-
-const TYPE_VOID: u16 = 19;
-
-const FUNCTION: u16 = 54;
+use spv_module::{Inst, Operand, opcode};
 
 /// The number of the execution model Kernel.
 const KERNEL: u32 = 6;
@@ -47,24 +38,13 @@ pub fn has_entry(survey: &Survey<'_, '_>) -> bool
     survey.has_entry_point() || survey.has(5)
 }
 
-/// The first `Type` of the operands.
-fn type_in(operands: &[Operand<'_>]) -> Option<u32>
-    ensures { result ≡ operand.type_in (plain_operands operands.now) }
-{
-    for operand in operands {
-        if let Operand::OfType(id) = operand {
-            return Some(*id);
-        }
-    }
-    None
-}
-
 /// Whether an id is that of an OpTypeVoid.
 fn is_void(survey: &Survey<'_, '_>, id: u32) -> bool
-    ensures { IsTrue result ↔ ((n : ℕ) × IsDefinedAt survey.now.insts id n × HasOpcode survey.now.insts n 19) }
+    ensures { IsTrue result ↔ ((n : ℕ) × IsDefinedAt survey.now.insts id n
+        × HasOpcode survey.now.insts n opcode.TYPE_VOID) }
 {
     match survey.definition(id) {
-        Some(number) => survey.inst(number).opcode == TYPE_VOID,
+        Some(number) => survey.inst(number).opcode == opcode::TYPE_VOID,
         None => false,
     }
 }
@@ -74,7 +54,7 @@ pub fn returns_void(survey: &Survey<'_, '_>, function: u32) -> bool
     requires { function < length survey.now.insts }
     ensures { IsTrue result ↔ ReturnsVoid survey.now.insts function }
 {
-    match type_in(survey.inst(function).operands.as_slice()) {
+    match survey.inst(function).type_id() {
         Some(id) => is_void(survey, id),
         None => false,
     }
@@ -148,11 +128,12 @@ fn is_sound_linkage(survey: &Survey<'_, '_>, number: u32) -> bool
 
 /// Whether E2 is unbroken at an instruction of a number, if that is an OpFunction.
 #[inline(always)]
-pub fn keeps_linkage(survey: &Survey<'_, '_>, number: u32, opcode: u16) -> bool
+pub fn keeps_linkage(survey: &Survey<'_, '_>, number: u32, inst: &Inst<'_>) -> bool
     requires { number < length survey.now.insts }
-    ensures { IsTrue result ↔ (opcode ≡ 54 → IsSoundLinkage survey.now.table survey.now.insts number) }
+    ensures { IsTrue result ↔ ((plain_inst inst.now).opcode ≡ opcode.FUNCTION
+        → IsSoundLinkage survey.now.table survey.now.insts number) }
 {
-    opcode != FUNCTION || is_sound_linkage(survey, number)
+    inst.opcode != opcode::FUNCTION || is_sound_linkage(survey, number)
 }
 
 /// Whether E2 is unbroken at an instruction of a number.
@@ -161,9 +142,9 @@ pub fn keeps_entries(survey: &Survey<'_, '_>, number: u32, inst: &Inst<'_>) -> b
     ensures { IsTrue result ↔ KeepsEntries survey.now.table survey.now.insts number (plain_inst inst.now) }
 {
     match inst.opcode {
-        ENTRY_POINT => is_sound_entry(survey, inst.operands.as_slice()),
-        EXECUTION_MODE => is_sound_mode(survey, inst.operands.as_slice()),
-        FUNCTION => is_sound_linkage(survey, number),
+        opcode::ENTRY_POINT => is_sound_entry(survey, inst.operands.as_slice()),
+        opcode::EXECUTION_MODE => is_sound_mode(survey, inst.operands.as_slice()),
+        opcode::FUNCTION => is_sound_linkage(survey, number),
         _ => true,
     }
 }

@@ -10,17 +10,8 @@ ghost use Rattle.spv_capabilities.specs.Entry as spec;
 ghost use Rattle.spv_capabilities.specs.inner.Survey.{AreGathered, AreMarked};
 
 use spv_ids::Ids;
-use spv_module::{Inst, Operand};
+use spv_module::{Inst, Operand, opcode};
 use std::alloc::{AllocError, Global};
-
-/// The opcodes of the instructions of which something is gathered.
-const ENTRY_POINT: u16 = 15;
-
-const CAPABILITY: u16 = 17;
-
-const FUNCTION_CALL: u16 = 57;
-
-const DECORATE: u16 = 71;
 
 /// The number of the decoration LinkageAttributes.
 const LINKAGE_ATTRIBUTES: u32 = 41;
@@ -146,15 +137,19 @@ impl Gathered {
             → AreGathered linkage is to self.old → AreGathered linkage is (to + 1) self.new) }
     {
         match inst.opcode {
-            CAPABILITY => if let Some(capability) = first_value(inst.operands.as_slice()) {
+            opcode::CAPABILITY => if let Some(capability) = first_value(inst.operands.as_slice()) {
                 self.declared.push(capability)?;
             },
-            ENTRY_POINT => {
+            opcode::ENTRY_POINT => {
                 self.entry = true;
                 mark(&mut self.entered, ids, second_id(inst.operands.as_slice()));
             }
-            FUNCTION_CALL => mark(&mut self.called, ids, third_id(inst.operands.as_slice())),
-            DECORATE => mark(
+            opcode::FUNCTION_CALL => mark(
+                &mut self.called,
+                ids,
+                third_id(inst.operands.as_slice()),
+            ),
+            opcode::DECORATE => mark(
                 &mut self.imported,
                 ids,
                 linked_id(linkage, inst.operands.as_slice()),

@@ -8,6 +8,7 @@ ghost use Rattle.spv_capabilities.specs.inner.Capable.{IsKernel};
 ghost use Rattle.spv_capabilities.specs.Memory.{IsModel};
 ghost use Rattle.spv_capabilities.specs.Keeps.{Keeps, IsFirstAt};
 ghost use Rattle.spv_module.specs.declared.fault.Rule.TheVariants as rule;
+ghost use Rattle.spv_module.specs.declared.opcode.TheConstants as opcode;
 ghost use Rattle.spv_capabilities.specs.Entry.{IsKernelFunction, IsSoundEntry, IsSoundMode};
 ghost use Rattle.spv_capabilities.specs.inner.Entry.{IsSoundLinkage};
 ghost use Rattle.spv_capabilities.specs.Example.{small, inst, vectors, linked, entry, void_function, kernel, called};
@@ -33,8 +34,8 @@ pub fn covered_examples()
     ensures no_bit { IsCoveredOperand small vectors (Mask 1 0) }
     ensures capability { IsCoveredOperand small linked (Value 0 7) }
     // A vector of eight, and an int of 16 bits.
-    ensures vector { HasNeeded small vectors (needs_of (inst 23 (Result 2 ∷ Id 1 ∷ Word 8 ∷ []))) }
-    ensures short { ¬ (HasNeeded small vectors (needs_of (inst 21 (Result 1 ∷ Word 16 ∷ Word 0 ∷ [])))) }
+    ensures vector { HasNeeded small vectors (needs_of (inst opcode.TYPE_VECTOR (Result 2 ∷ Id 1 ∷ Word 8 ∷ []))) }
+    ensures short { ¬ (HasNeeded small vectors (needs_of (inst opcode.TYPE_INT (Result 1 ∷ Word 16 ∷ Word 0 ∷ [])))) }
 {}
 
 /// Memory models.
@@ -61,31 +62,31 @@ pub fn entry_examples()
 
 /// What C1, C2 and E1 demand of instructions.
 pub fn capable_examples()
-    ensures kernel { Keeps small vectors rule.C1 0 (inst 14 []) }
-    ensures no_kernel { ¬ (Keeps small linked rule.C1 0 (inst 14 [])) }
+    ensures kernel { Keeps small vectors rule.C1 0 (inst opcode.MEMORY_MODEL []) }
+    ensures no_kernel { ¬ (Keeps small linked rule.C1 0 (inst opcode.MEMORY_MODEL [])) }
     // OpTypeOpaque lists Kernel.
-    ensures capable { Keeps small vectors rule.C2 0 (inst 31 (Result 1 ∷ [])) }
-    ensures not_capable { ¬ (Keeps small linked rule.C2 0 (inst 31 (Result 1 ∷ []))) }
-    ensures linkage { Keeps small linked rule.E1 0 (inst 14 []) }
-    ensures no_linkage { ¬ (Keeps small vectors rule.E1 0 (inst 14 [])) }
+    ensures capable { Keeps small vectors rule.C2 0 (inst opcode.TYPE_OPAQUE (Result 1 ∷ [])) }
+    ensures not_capable { ¬ (Keeps small linked rule.C2 0 (inst opcode.TYPE_OPAQUE (Result 1 ∷ []))) }
+    ensures linkage { Keeps small linked rule.E1 0 (inst opcode.MEMORY_MODEL []) }
+    ensures no_linkage { ¬ (Keeps small vectors rule.E1 0 (inst opcode.MEMORY_MODEL [])) }
 {}
 
 /// What M1 and E2 demand of instructions.
 pub fn demand_examples()
-    ensures model { Keeps small kernel rule.M1 0 (inst 14 (Value 3 2 ∷ Value 4 2 ∷ [])) }
-    ensures no_model { ¬ (Keeps small kernel rule.M1 0 (inst 14 (Value 3 0 ∷ Value 4 2 ∷ []))) }
+    ensures model { Keeps small kernel rule.M1 0 (inst opcode.MEMORY_MODEL (Value 3 2 ∷ Value 4 2 ∷ [])) }
+    ensures no_model { ¬ (Keeps small kernel rule.M1 0 (inst opcode.MEMORY_MODEL (Value 3 0 ∷ Value 4 2 ∷ []))) }
     // M1 demands nothing of an instruction other than OpMemoryModel.
-    ensures other { Keeps small kernel rule.M1 1 (inst 19 (Result 1 ∷ [])) }
+    ensures other { Keeps small kernel rule.M1 1 (inst opcode.TYPE_VOID (Result 1 ∷ [])) }
     ensures entry { Keeps small kernel rule.E2 0 entry }
-    ensures no_entry { ¬ (Keeps small kernel rule.E2 0 (inst 15 (Value 9 5 ∷ Id 3 ∷ []))) }
+    ensures no_entry { ¬ (Keeps small kernel rule.E2 0 (inst opcode.ENTRY_POINT (Value 9 5 ∷ Id 3 ∷ []))) }
 {}
 
 /// The first of these rules that is broken at an instruction.
 pub fn first_examples()
     // A module without Kernel breaks C1, which comes before M1.
-    ensures first { IsFirstAt small linked 0 (inst 14 []) (Some rule.C1) }
-    ensures later { ¬ (IsFirstAt small linked 0 (inst 14 []) (Some rule.M1)) }
-    ensures some { ¬ (IsFirstAt small linked 0 (inst 14 []) None) }
+    ensures first { IsFirstAt small linked 0 (inst opcode.MEMORY_MODEL []) (Some rule.C1) }
+    ensures later { ¬ (IsFirstAt small linked 0 (inst opcode.MEMORY_MODEL []) (Some rule.M1)) }
+    ensures some { ¬ (IsFirstAt small linked 0 (inst opcode.MEMORY_MODEL []) None) }
     // OpTypeVoid breaks none of them.
-    ensures none { IsFirstAt small linked 0 (inst 19 (Result 1 ∷ [])) None }
+    ensures none { IsFirstAt small linked 0 (inst opcode.TYPE_VOID (Result 1 ∷ [])) None }
 {}

@@ -13,13 +13,13 @@ use crate::capable::{
     asks_nothing, has_needed, is_capability_kind, is_covered_entry, is_covered_value,
 };
 use crate::surveyed::Survey;
-use spv_module::{Inst, Operand};
+use spv_module::{Inst, Operand, opcode};
 use spv_table::Memory;
 use std::alloc::{AllocError, Global};
 use std::collections::BTreeMap;
 
-/// How many opcodes have a place in the list of answers. Those of the profile are below it.
-const OPCODES: usize = 331;
+/// How many opcodes have a place in the list of answers: up to the last one of the profile.
+const OPCODES: usize = opcode::MODULE_PROCESSED as usize + 1;
 
 /// What was answered, if it was asked.
 #[derive(Clone, Copy)]

@@ -6,6 +6,7 @@ ghost use Rattle.spv_table.specs.Table.{Table};
 ghost use Rattle.spv_table.specs.Lookups.{number_named};
 ghost use Rattle.spv_module.specs.Operand.{PlainInst};
 ghost use Rattle.spv_module.specs.Module.{plain_inst};
+ghost use Rattle.spv_module.specs.declared.opcode.TheConstants as opcode;
 ghost use Rattle.spv_layout.specs.Place.{IsDefinition};
 ghost use Rattle.spv_layout.specs.Plan.{IsPlan, IsPlaceOf};
 ghost use Rattle.spv_ids.specs.Order.{HasOpcode};
@@ -114,7 +115,7 @@ impl<'m, 'a> Survey<'m, 'a> {
 
     /// Whether there is an OpEntryPoint.
     pub fn has_entry_point(&self) -> bool
-        ensures { IsTrue result ↔ ((n : ℕ) × HasOpcode self.now.insts n 15) }
+        ensures { IsTrue result ↔ ((n : ℕ) × HasOpcode self.now.insts n opcode.ENTRY_POINT) }
     {
         self.gathered.entry
     }

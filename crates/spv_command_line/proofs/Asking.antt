@@ -19,7 +19,7 @@ use Rattle.spv_command_line.specs.declared.command_line.Command.TheVariants.{Jud
 use Rattle.spv_command_line.specs.declared.command_line.Task.{Task}
 use Rattle.spv_command_line.specs.declared.command_line.Task.TheVariants as tasks
 use Rattle.spv_command_line.specs.declared.command_line.UseError.{UseError}
-use Rattle.spv_command_line.specs.declared.command_line.UseError.TheVariants.{U1, U2, U3, U4}
+use Rattle.spv_command_line.specs.declared.command_line.UseError.TheVariants.{NoCommand, Memory, Help, Version}
 use Rattle.spv_command_line.specs.CommandLine.{Answers, IsAsked, IsCodeOf, IsCommandOf, IsJudge, IsNoCommand, IsRules, error_of, inputs_among, program, task_name, text_in, texts_in}
 use Rattle.spv_command_line.specs.inner.CommandLine.{IsAsmOf, IsRulesOf, IsTraceOf}
 use Rattle.spv_rules.specs.Rules.{name_of}
@@ -215,7 +215,7 @@ no_command_met environment found e = no_command found (no_rows found e)
 pub asm_met : (environment : Option Text) (found : Option (Text × List Row)) (rows : List Row) (g f : Text) (o : Option Command)
     → IsAsked environment found (codes "asm") g (f ∷ [])
     → ((option : Text) → text_in option found ≡ first_of option rows) → ((code : Option Code) → ¬ (IsRules found code)) → IsAsmOf rows g f o
-    → IsCommandOf environment found (ok_or o U1)
+    → IsCommandOf environment found (ok_or o NoCommand)
 asm_met environment found rows g f None e t other h = record {
   judge = λ task a fs k. other_name _ _ _ _ _ e (task_name task) (λ q. task_is_no_asm task (sym q)) a fs k.asked;
   show = λ a b. other_name _ _ _ _ _ e (codes "show") (λ q. show_is_no_asm (sym q)) a (b ∷ []);
@@ -244,7 +244,7 @@ trace_met environment found rows g f (Ok (Trace a b function choices limit)) e t
   choices_are = subst (λ (o : Option Text). AreNumbersOf o choices.items) (sym (t (codes "choices"))) h.3;
   limit_is = subst (λ (o : Option Text). IsNumberOf o limit) (sym (t (codes "limit"))) h.4;
 }
-trace_met environment found rows g f (Err U1) e t other h = record {
+trace_met environment found rows g f (Err NoCommand) e t other h = record {
   judge = λ task a fs k. other_name _ _ _ _ _ e (task_name task) (trace_is_no_task task) a fs k.asked;
   show = λ a b. other_name _ _ _ _ _ e (codes "show") trace_is_no_show a (b ∷ []);
   asm = λ a b out k. absurd (other_name _ _ _ _ _ e (codes "asm") trace_is_no_asm a (b ∷ []) k);
@@ -254,9 +254,9 @@ trace_met environment found rows g f (Err U1) e t other h = record {
       (subst (λ (o : Option Text). IsNumberOf o limit) (t (codes "limit")) k.limit_is);
   rules = other;
 }
-trace_met environment found rows g f (Err U2) e t other h = tt
-trace_met environment found rows g f (Err U3) e t other h = absurd h
-trace_met environment found rows g f (Err U4) e t other h = absurd h
+trace_met environment found rows g f (Err Memory) e t other h = tt
+trace_met environment found rows g f (Err Help) e t other h = absurd h
+trace_met environment found rows g f (Err Version) e t other h = absurd h
 
 -- a text that is no code's name
 pub code_unknown : (text : Option Text) (name : Text) → text ≡ Some name → ((code : Code) → ¬ (name ≡ name_of code)) → (code : Option Code) → ¬ (IsCodeOf text code)
@@ -277,16 +277,16 @@ rules_met environment found name rows (Ok (Rules code)) e n h = record {
   asked = ap (λ (o : Option (Text × List Row)). option_map (λ p. p.0) o) e ∙ ap Some n;
   code_is = ap (text_in (codes "code")) e ∙ h;
 }
-rules_met environment found name rows (Err U1) e n h = record {
+rules_met environment found name rows (Err NoCommand) e n h = record {
   judge = λ task a fs k. other_name _ _ _ _ _ (ap (texts_in environment) e) (task_name task) (λ q. rules_is_no_task task (sym n ∙ q)) a fs k.asked;
   show = λ a b. other_name _ _ _ _ _ (ap (texts_in environment) e) (codes "show") (λ q. show_is_no_rules (sym (sym n ∙ q))) a (b ∷ []);
   asm = λ a b out k. absurd (other_name _ _ _ _ _ (ap (texts_in environment) e) (codes "asm") (λ q. rules_is_no_asm (sym n ∙ q)) a (b ∷ []) k);
   trace = λ a b function choices limit k. other_name _ _ _ _ _ (ap (texts_in environment) e) (codes "trace") (λ q. trace_is_no_rules (sym (sym n ∙ q))) a (b ∷ []) k.asked;
   rules = λ code k. h code (sym (ap (text_in (codes "code")) e) ∙ k.code_is);
 }
-rules_met environment found name rows (Err U2) e n h = absurd h
-rules_met environment found name rows (Err U3) e n h = absurd h
-rules_met environment found name rows (Err U4) e n h = absurd h
+rules_met environment found name rows (Err Memory) e n h = absurd h
+rules_met environment found name rows (Err Help) e n h = absurd h
+rules_met environment found name rows (Err Version) e n h = absurd h
 
 -- what an option is as a number
 pub number_read : (r : Option (Bor Text)) (read text : Option Text) (s : Bor Text) (o : Option ℕ) → option_map (λ b. b.now) r ≡ read → read ≡ text → r ≡ Some s
@@ -324,14 +324,14 @@ numbers_none r read text ns e q h k =
     let v : None ≡ text = ap (option_map (λ (b : Bor Text). b.now)) (sym h) ∙ e ∙ q in
     subst (λ (t : Option Text). AreNumbersOf t ns) v k
 
--- the command of the words, or U1
+-- the command of the words, or NoCommand
 pub answered : (environment : Option Text) (words : List Text) (found : Option (Text × List Row)) (r : Result Command UseError) → fault_of program words ≡ []
     → found ≡ subcommand_of program words → IsCommandOf environment found r → Answers environment words r
 answered environment words found (Ok c) none e h = (none, rw (← e) h)
-answered environment words found (Err U1) none e h = inr (rw (← e) h)
-answered environment words found (Err U2) none e h = tt
-answered environment words found (Err U3) none e h = absurd h
-answered environment words found (Err U4) none e h = absurd h
+answered environment words found (Err NoCommand) none e h = inr (rw (← e) h)
+answered environment words found (Err Memory) none e h = tt
+answered environment words found (Err Help) none e h = absurd h
+answered environment words found (Err Version) none e h = absurd h
 
 -- a text that was read, or else that of the environment
 pub grammar_read : (r e : Option (Bor Text)) (o : Option (Bor Text)) (first : Option Text) → option_map (λ b. b.now) r ≡ first → o ≡ option_or r e

@@ -16,7 +16,7 @@ use Rattle.spv_command_line.specs.declared.command_line.Command.TheVariants.{Jud
 use Rattle.spv_command_line.specs.declared.command_line.Task.{Task}
 use Rattle.spv_command_line.specs.declared.command_line.Task.TheVariants as tasks
 use Rattle.spv_command_line.specs.declared.command_line.UseError.{UseError}
-use Rattle.spv_command_line.specs.declared.command_line.UseError.TheVariants.{U1, U2, U3, U4}
+use Rattle.spv_command_line.specs.declared.command_line.UseError.TheVariants.{NoCommand, Memory, Help, Version}
 use Rattle.spv_rules.specs.Rules.{name_of}
 use Rattle.spv_rules.specs.declared.rules.Code.{Code}
 use Rattle.spv_command_line.specs.Number.{AreNumbersOf, IsNumberOf}
@@ -165,17 +165,17 @@ pub record IsNoCommand (environment : Option Text) (found : Option (Text × List
 -- what `clap` read is the command, or none
 abbrev pub IsCommandOf : Option Text → Option (Text × List Row) → Result Command UseError → Type 0
 IsCommandOf environment found (Ok c) = IsCommand environment found c
-IsCommandOf environment found (Err U1) = IsNoCommand environment found
-IsCommandOf environment found (Err U2) = Unit {0}
-IsCommandOf environment found (Err U3) = ⊥
-IsCommandOf environment found (Err U4) = ⊥
+IsCommandOf environment found (Err NoCommand) = IsNoCommand environment found
+IsCommandOf environment found (Err Memory) = Unit {0}
+IsCommandOf environment found (Err Help) = ⊥
+IsCommandOf environment found (Err Version) = ⊥
 
 -- the code for a kind of error of `clap`
 abbrev pub error_of : ErrorKind → UseError
-error_of OutOfMemory = U2
-error_of DisplayHelp = U3
-error_of DisplayVersion = U4
-error_of _ = U1
+error_of OutOfMemory = Memory
+error_of DisplayHelp = Help
+error_of DisplayVersion = Version
+error_of _ = NoCommand
 
 -- `clap` finds a fault in the words, or they do not give a command with all of its texts
 abbrev pub IsRefused : Option Text → List Text → Type 0
@@ -187,10 +187,10 @@ IsRefused environment words =
 abbrev pub Answers : Option Text → List Text → Result Command UseError → Type 0
 Answers environment words (Ok c) =
     (fault_of program words ≡ []) × IsCommand environment (subcommand_of program words) c
-Answers environment words (Err U1) = IsRefused environment words
-Answers environment words (Err U2) = Unit {0}
-Answers environment words (Err U3) = IsAmong DisplayHelp (fault_of program words)
-Answers environment words (Err U4) = IsAmong DisplayVersion (fault_of program words)
+Answers environment words (Err NoCommand) = IsRefused environment words
+Answers environment words (Err Memory) = Unit {0}
+Answers environment words (Err Help) = IsAmong DisplayHelp (fault_of program words)
+Answers environment words (Err Version) = IsAmong DisplayVersion (fault_of program words)
 
 -- what may be answered to the words, where it names none
 abbrev pub AnswersTo : List Text → Result Command UseError → Type 0

@@ -83,26 +83,26 @@ pub enum Command<'a> {
 pub enum UseError {
     /// The words fit no command.
     #[error("the words fit no command")]
-    U1,
+    NoCommand,
     /// A growth of memory was refused.
     #[error("out of memory")]
-    U2,
+    Memory,
     /// The words ask for help.
     #[error("help is asked for")]
-    U3,
+    Help,
     /// The words ask for the version.
     #[error("the version is asked for")]
-    U4,
+    Version,
 }
 
 impl From<AllocError> for UseError {
     ghost use Rattle.std.specs.Prelude.{◌≡◌};
-    ghost use Rattle.spv_command_line.specs.declared.command_line.UseError.TheVariants.{U2};
+    ghost use Rattle.spv_command_line.specs.declared.command_line.UseError.TheVariants.{Memory};
 
-    ghost from_gives = { λ _ e. e ≡ U2 };
+    ghost from_gives = { λ _ e. e ≡ Memory };
 
     fn from(_error: AllocError) -> UseError {
-        UseError::U2
+        UseError::Memory
     }
 }
 
@@ -111,10 +111,10 @@ fn refusal(kind: ErrorKind) -> UseError
     ensures { result ≡ error_of kind }
 {
     match kind {
-        ErrorKind::OutOfMemory => UseError::U2,
-        ErrorKind::DisplayHelp => UseError::U3,
-        ErrorKind::DisplayVersion => UseError::U4,
-        _ => UseError::U1,
+        ErrorKind::OutOfMemory => UseError::Memory,
+        ErrorKind::DisplayHelp => UseError::Help,
+        ErrorKind::DisplayVersion => UseError::Version,
+        _ => UseError::NoCommand,
     }
 }
 
@@ -189,13 +189,13 @@ fn trace_in<'a>(
     ensures { IsTraceOf (rows_of (found_of found.now)) grammar.now file.now result }
 {
     let Some(function) = number_of(found, "function") else {
-        return Err(UseError::U1);
+        return Err(UseError::NoCommand);
     };
     let Some(limit) = number_of(found, "limit") else {
-        return Err(UseError::U1);
+        return Err(UseError::NoCommand);
     };
     let Some(choices) = numbers_of(alloc, found, "choices")? else {
-        return Err(UseError::U1);
+        return Err(UseError::NoCommand);
     };
     Ok(Command::Trace {
         grammar,
@@ -215,7 +215,7 @@ fn rules_in<'a>(found: &ArgMatches<'a>) -> Result<Command<'a>, UseError>
     };
     match Code::named(name) {
         Some(code) => Ok(Command::Rules { code: Some(code) }),
-        None => Err(UseError::U1),
+        None => Err(UseError::NoCommand),
     }
 }
 
@@ -235,9 +235,9 @@ fn one_file_command<'a>(
 {
     match name {
         "show" => Ok(Command::Show { grammar, file }),
-        "asm" => asm_in(found, grammar, file).ok_or(UseError::U1),
+        "asm" => asm_in(found, grammar, file).ok_or(UseError::NoCommand),
         "trace" => trace_in(alloc, found, grammar, file),
-        _ => Err(UseError::U1),
+        _ => Err(UseError::NoCommand),
     }
 }
 
@@ -292,7 +292,7 @@ fn judge_command<'a>(
         (map (λ file. file.now) files.now) → IsCommandOf environment (Some (task_name task, rows)) result }
 {
     if !are_modules(files) {
-        return Err(UseError::U1);
+        return Err(UseError::NoCommand);
     }
     let files = Vec::from_slice(alloc, files)?;
     Ok(Command::Judge {
@@ -319,7 +319,7 @@ fn command_on<'a>(
         return judge_command(alloc, task, grammar, files);
     }
     if files.len() != 1 {
-        return Err(UseError::U1);
+        return Err(UseError::NoCommand);
     }
     one_file_command(alloc, name, found, grammar, files[0])
 }
@@ -336,10 +336,10 @@ fn file_command_in<'a>(
         (Some (name.now, rows_of (found_of found.now))) result }
 {
     let Some(grammar) = found.get_str("grammar").or(environment) else {
-        return Err(UseError::U1);
+        return Err(UseError::NoCommand);
     };
     let Some(files) = found.get_strs("file") else {
-        return Err(UseError::U1);
+        return Err(UseError::NoCommand);
     };
     command_on(alloc, name, found, grammar, files)
 }
@@ -353,7 +353,7 @@ fn command_in<'a>(
     ensures { IsCommandOf (option_map (λ g. g.now) environment.entry) (subcommand_rows_of matches.now) result }
 {
     let Some((name, found)) = matches.subcommand() else {
-        return Err(UseError::U1);
+        return Err(UseError::NoCommand);
     };
     match name {
         "rules" => rules_in(found),
@@ -382,9 +382,9 @@ pub fn arguments<'a>(alloc: Global, words: &'a [&'a str]) -> Result<Command<'a>,
 ///
 /// # Errors
 ///
-/// `U1`: the words fit no command, no grammar file is named where one is read, an option is given twice, `-` is two of
-/// the files, or a code is unknown. `U2`: a growth of memory was refused. `U3`: they ask for help, by `help`, `--help`
-/// or `-h`. `U4`: they ask for the version, by `--version` or `-V`.
+/// `NoCommand`: the words fit no command, no grammar file is named where one is read, an option is given twice, `-` is
+/// two of the files, or a code is unknown. `Memory`: a growth of memory was refused. `Help`: they ask for help, by
+/// `help`, `--help` or `-h`. `Version`: they ask for the version, by `--version` or `-V`.
 pub fn arguments_in<'a>(
     alloc: Global,
     words: &'a [&'a str],
@@ -410,8 +410,8 @@ pub fn help(alloc: Global) -> Result<String, AllocError> {
     program.render_long_help()
 }
 
-/// The text that the words ask for where `arguments` answers U3 or U4: the help of the program or of a command, or the
-/// version. Of other words it is what is wrong with them, and of those of a command nothing.
+/// The text that the words ask for where `arguments` answers `Help` or `Version`: the help of the program or of a
+/// command, or the version. Of other words it is what is wrong with them, and of those of a command nothing.
 ///
 /// # Errors
 ///

@@ -7,7 +7,7 @@ use Rattle.std.proofs.lemmas.Fmt.{length-decimal-le}
 use Rattle.std.proofs.Math.Seq.{take-append-add}
 use Rattle.std.proofs.lemmas.List.{drop-set, take_all, take-append-drop, take-append-le, length-take-le, append-nil}
 use Rattle.std.proofs.lemmas.Grind.{flat_map-append}
-use Rattle.spv_run.specs.declared.parts.Step.{Step}
+use Rattle.spv_verdict.specs.declared.run.parts.Step.{Step}
 use Rattle.spv_commands.specs.Trace.{step_line}
 
 -- a number of 32 bits has ten digits at most

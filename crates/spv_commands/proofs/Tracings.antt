@@ -6,14 +6,14 @@ use Rattle.spv_words.specs.declared.words.Order.{Order}
 use Rattle.spv_words.specs.declared.words.WordError.{WordError}
 use Rattle.spv_words.specs.declared.words.WordError.TheVariants as word
 use Rattle.spv_table.specs.Table.{Table}
-use Rattle.spv_run.specs.Entry.{RefusesEntry}
-use Rattle.spv_run.specs.declared.parts.Trace.{Trace}
-use Rattle.spv_run.specs.declared.parts.TraceError.{TraceError}
-use Rattle.spv_run.specs.declared.parts.TraceError.TheVariants.{X1, X2}
+use Rattle.spv_verdict.specs.run.Entry.{RefusesEntry}
+use Rattle.spv_verdict.specs.declared.run.parts.Trace.{Trace}
+use Rattle.spv_verdict.specs.declared.run.parts.TraceError.{TraceError}
+use Rattle.spv_verdict.specs.declared.run.parts.TraceError.TheVariants.{NoEntry, Memory}
 use Rattle.spv_verdict.specs.Answer.{IsAnswer}
 use Rattle.spv_verdict.specs.Checked.{IsChecked}
 use Rattle.spv_verdict.specs.Program.{Program}
-use Rattle.spv_verdict.specs.Run.{IsRunOf}
+use Rattle.spv_verdict.specs.Tracing.{IsRunOf}
 use Rattle.spv_verdict.specs.Verdict.{IsVerdict, fault_line, line_end, refused_line}
 use Rattle.spv_verdict.specs.declared.checked.Verdict.{Verdict}
 use Rattle.spv_verdict.specs.declared.checked.Verdict.TheVariants.{Valid, Fault}
@@ -75,12 +75,12 @@ run_traced G function choices limit bytes words order p t h c r = traced p t (pr
 
 pub lacks_entry : (G : Table) (function : ℕ) (bytes words : List ℕ) (order : Order) (p : Program) (e : TraceError) → IsModule order bytes words → IsChecked G words p
     → RefusesEntry p.insts function e → traced_stop e ≡ trouble.NoEntry → HasNoEntry G bytes function
-lacks_entry G function bytes words order p X1 h c r q = record { program = p; valid = program_of G bytes words order p h c; none = r }
-lacks_entry G function bytes words order p X2 h c r q = cc
+lacks_entry G function bytes words order p NoEntry h c r q = record { program = p; valid = program_of G bytes words order p h c; none = r }
+lacks_entry G function bytes words order p Memory h c r q = cc
 
 pub stop_is_no_failure : (e : TraceError) → traced_stop e ≢ trouble.Failed
-stop_is_no_failure X1 q = cc
-stop_is_no_failure X2 q = cc
+stop_is_no_failure NoEntry q = cc
+stop_is_no_failure Memory q = cc
 
 -- what is written of the words that were read
 pub known_tracing : (G : Table) (function : ℕ) (choices : List ℕ) (limit : ℕ) (known : Option (List ℕ)) (words : List ℕ) (order : Order) (r : Result Traced RunError)

@@ -10,7 +10,7 @@ use Rattle.spv_commands.specs.Assemble.{Assembles, BeginsAssembling, order_of}
 use Rattle.spv_commands.specs.Show.{BeginsShowing, Shows}
 use Rattle.spv_commands.specs.Trace.{BeginsTracing, HasNoEntry, Traces}
 use Rattle.spv_verdict.specs.Stream.{Begins, TellsVerdict}
-use Rattle.spv_reasons.specs.Stream.{BeginsExplaining, Explains}
+use Rattle.spv_explain.specs.Stream.{BeginsExplaining, Explains}
 use Rattle.spv_commands.specs.Trouble.{BeginsWith, IsTableOf}
 
 -- the command reads a grammar file, and another file

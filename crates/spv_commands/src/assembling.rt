@@ -9,8 +9,8 @@ ghost use Rattle.spv_commands.specs.declared.assembling.TextError.TheVariants as
 
 use crate::text_fault::text_fault;
 use simdutf8::basic::from_utf8;
+use spv_parser::{AsmCode, AsmError, assemble};
 use spv_table::Table;
-use spv_text::{AsmCode, AsmError, assemble};
 use spv_words::{Failed, Image, Order, Sink, Source, write_all, write_image};
 use std::alloc::{AllocError, Global};
 

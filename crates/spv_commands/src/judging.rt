@@ -10,7 +10,7 @@ use crate::files::{Files, Unread};
 use crate::name::write_label;
 use crate::writing::write_on;
 use spv_command_line::Task;
-use spv_reasons::explain_stream;
+use spv_explain::explain_stream;
 use spv_table::Table;
 use spv_verdict::check_stream;
 use spv_words::{FromRead, FromWrite, Sink};

@@ -11,8 +11,8 @@ ghost use Rattle.spv_commands.specs.Streams.{IsAnswered, reading, writing};
 ghost use Rattle.spv_commands.specs.inner.Shown.{is_text, output_of, shown_refusal, shown_stop};
 
 use spv_module::Stop;
+use spv_printer::show_image;
 use spv_table::Table;
-use spv_text::show_image;
 use spv_verdict::{Judgment, line_for};
 use spv_words::{Image, Sink, Source, WordError, read_image, write_all};
 use std::alloc::Global;

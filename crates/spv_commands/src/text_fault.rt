@@ -3,7 +3,7 @@ ghost use Rattle.std.specs.Prelude.{◌≡◌, ◌≤◌, length};
 ghost use Rattle.spv_commands.specs.Assemble.{asm_code_text, text_fault_line};
 ghost use Rattle.spv_verdict.specs.Text.{text_of};
 
-use spv_text::{AsmCode, AsmError};
+use spv_parser::{AsmCode, AsmError};
 use spv_verdict::Line;
 
 /// The text of a code S1 to S6.

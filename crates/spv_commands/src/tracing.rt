@@ -53,8 +53,8 @@ fn stopped(error: TraceError) -> RunError
     ensures { result ≡ traced_stop error }
 {
     match error {
-        TraceError::X1 => RunError::NoEntry,
-        TraceError::X2 => RunError::Memory,
+        TraceError::NoEntry => RunError::NoEntry,
+        TraceError::Memory => RunError::Memory,
     }
 }
 

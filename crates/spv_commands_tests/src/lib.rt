@@ -1,4 +1,4 @@
-//! The calls of spv_reasons, with ample memory, and those of spv_commands, with readers and writers that
+//! The calls of spv_explain, with ample memory, and those of spv_commands, with readers and writers that
 //! fail.
 #![tactic(auto)]
 

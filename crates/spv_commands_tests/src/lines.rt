@@ -3,8 +3,8 @@
 use crate::modules::{
     KERNEL_WITHOUT_ITS_END, LABEL_WITH_THE_ID_OF_THE_FUNCTION, VALUE_MISSING_ON_ONE_BRANCH,
 };
+use spv_explain::{Evidence, Explained, explain, explain_bytes, explain_stream};
 use spv_grammar::{FromGrammar, Table};
-use spv_reasons::{Evidence, Explained, explain, explain_bytes, explain_stream};
 use spv_samples::{PROFILE, SMALLEST_KERNEL, image_of};
 use spv_words::{FromRead, FromWrite};
 use std::alloc::Global;
@@ -83,7 +83,10 @@ fn evidence_of_a_second_result(rt: HostRuntime) -> Result<(), Fail> {
     let table = Table::from_slice(rt.alloc(), PROFILE.as_bytes())?;
     let image = image_of(rt.alloc(), LABEL_WITH_THE_ID_OF_THE_FUNCTION)?;
     match explain(rt.alloc(), &table, &image)? {
-        Explained::Fault(_, Evidence::Earlier { inst }) => {
+        Explained::Broken {
+            evidence: Evidence::Earlier { inst },
+            ..
+        } => {
             assert_eq!(rt; inst, 6);
             Ok(())
         }

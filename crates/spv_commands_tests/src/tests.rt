@@ -386,16 +386,16 @@ fn verdict_lines(rt: HostRuntime) -> Result<(), Fail> {
 fn words_and_messages(rt: HostRuntime) -> Result<(), Fail> {
     let a = rt.alloc();
     let rows = [
-        (UseError::U1, "the words fit no command"),
-        (UseError::U2, "out of memory"),
-        (UseError::U3, "help is asked for"),
-        (UseError::U4, "the version is asked for"),
+        (UseError::NoCommand, "the words fit no command"),
+        (UseError::Memory, "out of memory"),
+        (UseError::Help, "help is asked for"),
+        (UseError::Version, "the version is asked for"),
     ];
     for (error, message) in rows {
         assert_eq!(rt; format!(in a; "{error}")?.as_str(), message);
     }
-    assert_eq!(rt; arguments(a, &["--help"]), Err(UseError::U3));
-    assert_eq!(rt; arguments(a, &["check", "-h"]), Err(UseError::U3));
+    assert_eq!(rt; arguments(a, &["--help"]), Err(UseError::Help));
+    assert_eq!(rt; arguments(a, &["check", "-h"]), Err(UseError::Help));
     assert!(rt; help(a)?.as_str().contains("Usage: spv <COMMAND>"));
     Ok(())
 }
@@ -410,7 +410,7 @@ fn words_of_commands(rt: HostRuntime) -> Result<(), Fail> {
     let two_codes: &[&str] = &["rules", "A1", "A2"];
     let of_file: &[&str] = &["rules", "--grammar", "G", "F"];
     for words in [no_grammar, two_files, unknown, small, two_codes, of_file] {
-        assert_eq!(rt; arguments(a, words), Err(UseError::U1));
+        assert_eq!(rt; arguments(a, words), Err(UseError::NoCommand));
     }
     let explain = Command::Judge {
         task: Task::Explain,

@@ -26,7 +26,7 @@ fn versions(rt: HostRuntime) -> Result<(), Fail> {
     let words: &[&str] = &["--version"];
     let short: &[&str] = &["-V"];
     for words in [words, short] {
-        assert_eq!(rt; arguments(a, words), Err(UseError::U4));
+        assert_eq!(rt; arguments(a, words), Err(UseError::Version));
         let text = text_asked(a, words)?;
         let lines = "spv 1.0.0\nSPIR-V 1.6, proved with rattle-kit-13f (logic dac8208d650f15bf)\n";
         assert_eq!(rt; text.as_str(), lines);
@@ -40,7 +40,7 @@ fn helps(rt: HostRuntime) -> Result<(), Fail> {
     let all: &[&str] = &["help"];
     let long: &[&str] = &["--help"];
     for words in [all, long] {
-        assert_eq!(rt; arguments(a, words), Err(UseError::U3));
+        assert_eq!(rt; arguments(a, words), Err(UseError::Help));
         let text = text_asked(a, words)?;
         assert!(rt; text.as_str().contains("Exit status:"));
         assert!(rt; text.as_str().contains("SPV_GRAMMAR"));
@@ -52,14 +52,17 @@ fn helps(rt: HostRuntime) -> Result<(), Fail> {
         let asked: &[&str] = &["help", name];
         let option: &[&str] = &[name, "--help"];
         for words in [asked, option] {
-            assert_eq!(rt; arguments(a, words), Err(UseError::U3));
+            assert_eq!(rt; arguments(a, words), Err(UseError::Help));
             let text = text_asked(a, words)?;
             assert!(rt; text.as_str().starts_with(about), "{name}");
             assert!(rt; text.as_str().contains("Exit status:"), "{name}");
             assert!(rt; text.as_str().contains("Example:\n  spv "), "{name}");
         }
     }
-    assert_eq!(rt; arguments(a, &["help", "nothing"]), Err(UseError::U1));
+    assert_eq!(rt;
+        arguments(a, &["help", "nothing"]),
+        Err(UseError::NoCommand)
+    );
     Ok(())
 }
 

@@ -6,17 +6,12 @@ ghost use Rattle.spv_fault_lines.specs.Lines as lines;
 ghost use Rattle.spv_fault_lines.specs.inner.Adding.{Adds};
 ghost use Rattle.spv_fault_lines.specs.Lines.{id_part, inst_begin, number_part, operand_at, operand_part, result_part};
 
-use crate::context::alone;
 use crate::once::{Told, told_once};
 use itoa::Buffer;
-use spv_inst::{EncodeCode, EncodeError};
 use spv_module::{Inst, Module, Operand};
-use spv_table::{Memory, Name, NameList, Table};
-use spv_text::show;
+use spv_printer::{show_inst, show_insts};
+use spv_table::{NameList, Table};
 use std::alloc::{AllocError, Global};
-
-/// How many lines of a module's text are its header's.
-const HEADER_LINES: usize = 5;
 
 /// What lines are about: a module, under the table of a grammar.
 #[derive(Clone, Copy)]
@@ -89,12 +84,14 @@ fn id_line(out: &mut String, key: &str, id: u32) -> Result<(), AllocError>
     out.push_str("\n")
 }
 
-/// The line that is to be told at a place, if one is.
-fn line_of<'t>(shown: &[&'t str], lines: &[Option<usize>], at: usize) -> Option<&'t str> {
-    match lines.get(at) {
-        Some(Some(line)) => shown.get(*line).copied(),
-        _ => None,
-    }
+/// Of the ids of a list the line of the one at a place, where it is named for the first time and is defined; `shown`
+/// has the lines of all their instructions.
+fn line_of<'t>(shown: &[&'t str], told: &Told, at: usize) -> Option<&'t str> {
+    let Some(Some(inst)) = told.firsts.get(at) else {
+        return None;
+    };
+    let place = told.insts.binary_search(inst).ok()?;
+    shown.get(place).copied()
 }
 
 /// Adds a line of a number.
@@ -118,22 +115,14 @@ fn push_inst_begin(out: &mut String, key: &str, inst: u32) -> Result<(), AllocEr
 }
 
 /// Adds names, each after a space.
-pub fn push_names(out: &mut String, names: &[Name]) -> Result<(), AllocError>
+pub fn push_names(out: &mut String, names: &NameList) -> Result<(), AllocError>
     ensures { OnOk result (Adds [] (string_bytes out.old) (string_bytes out.new)) }
 {
-    for name in names {
+    for place in 0..names.len() {
         out.push_str(" ")?;
-        out.push_str(name.as_str())?;
+        out.push_str(names.name(place))?;
     }
     Ok(())
-}
-
-/// The last line of a text, without its line feed.
-fn last_line(text: &str) -> &str {
-    match text.lines().last() {
-        Some(line) => line,
-        None => "",
-    }
 }
 
 impl<'m, 'a> About<'m, 'a> {
@@ -186,27 +175,13 @@ impl<'m, 'a> About<'m, 'a> {
         Ok(())
     }
 
-    /// Adds a space and an instruction as `show` writes it. Nothing where it has no text by itself.
+    /// Adds a space and an instruction as it stands in the text of the whole module.
     pub fn push_inst(&self, out: &mut String, inst: u32) -> Result<(), AllocError>
         ensures { OnOk result (Adds [] (string_bytes out.old) (string_bytes out.new)) }
     {
-        self.push_at(out, inst as usize)
-    }
-
-    /// The same by the place of the instruction in the list.
-    fn push_at(&self, out: &mut String, at: usize) -> Result<(), AllocError>
-        ensures { OnOk result (Adds [] (string_bytes out.old) (string_bytes out.new)) }
-    {
-        let Ok(small) = alone(self.alloc, self.module, at) else {
-            return Err(AllocError);
-        };
-        match self.shown(&small)? {
-            Some(text) => {
-                out.push_str(" ")?;
-                out.push_str(last_line(text.as_str()))
-            }
-            None => Ok(()),
-        }
+        let line = show_inst(self.alloc, self.table, self.module, inst)?;
+        out.push_str(" ")?;
+        out.push_str(line.as_str())
     }
 
     /// Adds a line of an instruction, with its number.
@@ -339,37 +314,35 @@ impl<'m, 'a> About<'m, 'a> {
         Some(&self.table.enumerant(kind, value)?.capabilities)
     }
 
-    /// A small module of these instructions.
-    fn gathered(&self, insts: &[u32]) -> Result<Module<'a>, Memory> {
-        let mut small = Module::new(self.alloc, self.module.header);
-        for at in insts {
-            if let Some(inst) = self.inst(*at) {
-                small.push(inst.opcode, inst.operands.as_slice())?;
+    /// Adds a line for each id: where it is named for the first time, the line of its instruction, of which this is the
+    /// text; else the id alone.
+    fn first_lines(
+        &self,
+        out: &mut String,
+        key: &str,
+        ids: &[u32],
+        told: &Told,
+        text: &str,
+    ) -> Result<(), AllocError>
+        ensures { OnOk result (Adds [] (string_bytes out.old) (string_bytes out.new)) }
+    {
+        let shown: Vec<&str> = text.lines().collect(self.alloc)?;
+        for at in 0..ids.len() {
+            match line_of(&shown, told, at) {
+                Some(line) => text_line(out, key, line)?,
+                None => id_line(out, key, ids[at])?,
             }
         }
-        Ok(small)
+        Ok(())
     }
 
     /// Adds a line for each id: the first time the instruction that has it as its result, and after that the id alone.
     pub fn defined_lines(&self, out: &mut String, key: &str, ids: &[u32]) -> Result<(), AllocError>
         ensures { OnOk result (Adds [] (string_bytes out.old) (string_bytes out.new)) }
     {
-        let Told { insts, lines } = told_once(self.alloc, self.module, ids)?;
-        let Ok(small) = self.gathered(&insts) else {
-            return Err(AllocError);
-        };
-        let text = match self.shown(&small)? {
-            Some(text) => text,
-            None => String::new(self.alloc),
-        };
-        let shown: Vec<&str> = text.lines().skip(HEADER_LINES).collect(self.alloc)?;
-        for at in 0..ids.len() {
-            match line_of(&shown, &lines, at) {
-                Some(line) => text_line(out, key, line)?,
-                None => id_line(out, key, ids[at])?,
-            }
-        }
-        Ok(())
+        let told = told_once(self.alloc, self.module, ids)?;
+        let text = show_insts(self.alloc, self.table, self.module, &told.insts)?;
+        self.first_lines(out, key, ids, &told, text.as_str())
     }
 
     /// Adds a line of the instruction that has an id as its result.
@@ -384,23 +357,9 @@ impl<'m, 'a> About<'m, 'a> {
         out.push_str(key)?;
         out.push_str(":")?;
         match found {
-            Some(at) => self.push_at(out, at)?,
+            Some(at) => self.push_inst(out, (at & 0xffff_ffff) as u32)?,
             None => push_id(out, id)?,
         }
         out.push_str("\n")
-    }
-
-    /// The text of a small module. None where it has no text.
-    fn shown(&self, small: &Module<'a>) -> Result<Option<String>, AllocError> {
-        match show(self.alloc, self.table, small) {
-            Ok(text) => Ok(Some(text)),
-            Err(
-                EncodeError {
-                    code: EncodeCode::N4,
-                    ..
-                },
-            ) => Err(AllocError),
-            Err(_) => Ok(None),
-        }
     }
 }

@@ -2,7 +2,6 @@
 #![tactic(auto)]
 
 mod about;
-mod context;
 mod needs;
 mod once;
 mod told;

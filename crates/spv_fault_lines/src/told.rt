@@ -48,7 +48,7 @@ fn needed_line(
         Lister::Width => None,
     };
     match listed {
-        Some(names) => push_names(out, names.as_slice())?,
+        Some(names) => push_names(out, names)?,
         None => about.push_capabilities(out, needs_of(at.opcode, operands))?,
     }
     out.push_str("\n")
@@ -325,37 +325,20 @@ fn mismatch_lines(
     same_line(about, out, "found", side, found)
 }
 
-/// Adds the lines of what shows that a rule is broken at an instruction.
-pub fn evidence_lines(
+/// Adds the lines of evidence that names no instruction by its number. For other evidence there is none.
+fn plain_lines(
     about: About<'_, '_>,
     out: &mut String,
     inst: u32,
     evidence: &Evidence,
 ) -> Result<(), AllocError>
-    ensures { OnOk result (Adds (told_of (plain_insts about.entry.«module».now) inst evidence.now)
-        (string_bytes out.old) (string_bytes out.new)) }
+    ensures { OnOk result (Adds [] (string_bytes out.old) (string_bytes out.new)) }
 {
     match evidence {
         Evidence::Opcode { opcode } => opcode_line(about, out, *opcode),
         Evidence::Due { opcode, .. } => opcode_line(about, out, *opcode),
         Evidence::Shape { opcode, known } => shape_lines(about, out, *opcode, *known),
         Evidence::MayCome { opcodes, end } => may_come_line(about, out, opcodes.as_slice(), *end),
-        Evidence::Operand { operand } => about.operand_line(out, inst, *operand),
-        Evidence::Earlier { inst: place } => about.inst_line(out, "earlier", *place),
-        Evidence::Defined {
-            operand,
-            inst: place,
-        } => defined_lines(about, out, inst, *operand, *place),
-        Evidence::Local {
-            operand,
-            inst: place,
-            function,
-        } => local_lines(about, out, inst, *operand, *place, *function),
-        Evidence::Miscast {
-            operand,
-            role,
-            inst: place,
-        } => miscast_lines(about, out, inst, *operand, *role, *place),
         Evidence::Capability {
             capability,
             implied,
@@ -372,7 +355,6 @@ pub fn evidence_lines(
             wanted,
             found,
         } => mismatch_lines(about, out, *side, *wanted, *found),
-        Evidence::MissingParent { block } => about.results_line(out, "missing parent", &[*block]),
         Evidence::NoPredecessor { operand } => about.parents_line(
             out,
             "no predecessor",
@@ -380,6 +362,38 @@ pub fn evidence_lines(
             *operand,
         ),
         Evidence::Twice { second, .. } => about.parents_line(out, "twice", inst, *second),
+        _ => Ok(()),
+    }
+}
+
+/// Adds the lines of what shows that a rule is broken at an instruction.
+pub fn evidence_lines(
+    about: About<'_, '_>,
+    out: &mut String,
+    inst: u32,
+    evidence: &Evidence,
+) -> Result<(), AllocError>
+    ensures { OnOk result (Adds (told_of (plain_insts about.entry.«module».now) inst evidence.now)
+        (string_bytes out.old) (string_bytes out.new)) }
+{
+    match evidence {
+        Evidence::Operand { operand } => about.operand_line(out, inst, *operand),
+        Evidence::Earlier { inst: place } => about.inst_line(out, "earlier", *place),
+        Evidence::Defined {
+            operand,
+            inst: place,
+        } => defined_lines(about, out, inst, *operand, *place),
+        Evidence::Local {
+            operand,
+            inst: place,
+            function,
+        } => local_lines(about, out, inst, *operand, *place, *function),
+        Evidence::Miscast {
+            operand,
+            role,
+            inst: place,
+        } => miscast_lines(about, out, inst, *operand, *role, *place),
+        Evidence::MissingParent { block } => about.results_line(out, "missing parent", &[*block]),
         Evidence::Walk {
             operand,
             inst: place,
@@ -391,5 +405,6 @@ pub fn evidence_lines(
             calls.as_slice(),
             cycle.as_slice(),
         ),
+        _ => plain_lines(about, out, inst, evidence),
     }
 }

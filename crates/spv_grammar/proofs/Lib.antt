@@ -1,5 +1,6 @@
 pub mod Fronts
 pub mod Hex
+pub mod Latest
 pub mod Firsts
 pub mod Whole
 pub mod Apart

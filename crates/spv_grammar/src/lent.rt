@@ -4,7 +4,7 @@ ghost use Rattle.std.specs.Prelude.{◌≡◌, IfOk};
 
 use bumpalo::Bump;
 use bumpalo::collections::into_bump_slice;
-use spv_table::Name;
+use spv_table::{Name, Named};
 use std::alloc::{AllocError, Global};
 use std::marker::Model;
 
@@ -42,6 +42,14 @@ impl<'a> LentName<'a> {
         ensures { IfOk result (λ n. n ≡ self.now) }
     {
         Name::from_str(alloc, self.text)
+    }
+}
+
+impl<'a> Named for LentName<'a> {
+    ghost name = { λ n. n };
+
+    fn name(&self) -> &str {
+        self.as_str()
     }
 }
 

@@ -181,7 +181,7 @@ impl<'a> Numbers<'a> {
     pub(crate) fn kind(&self, name: &str) -> Option<&FileKind<'a>>
         ensures { option_map (λ k. k.now) result ≡ kind_named self.now name.now }
     {
-        let number = place_of(&self.names, self.kinds.as_slice(), name)?;
+        let number = self.number(name)?;
         Some(self.kinds[number as usize].kind)
     }
 

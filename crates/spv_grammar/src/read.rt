@@ -1,12 +1,15 @@
 //! Reads the tree of a grammar file. What is missing or of another sort is J2.
 
-ghost use Rattle.std.specs.Prelude.{◌≡◌, ◌<◌, ◌≤◌, length, IfSome, option_map};
-ghost use Rattle.serde_json.specs.Find.{as_str};
+ghost use Rattle.std.specs.Prelude.{◌≡◌, ◌<◌, ◌≤◌, ◌^◌, length, codes, Some, IfSome, option_map, option_and_then};
+ghost use Rattle.std.specs.Prelude.{if◌then◌else◌};
+ghost use Rattle.std.specs.Str.{bytes_eq};
+ghost use Rattle.serde_json.specs.Find.{get, as_str, as_number};
+ghost use Rattle.serde_json.specs.View.{number_view};
 ghost use Rattle.json_tree.specs.View.{view, items_view};
-ghost use Rattle.spv_grammar.specs.File.{each, text_at, items_at, quantifier_of, quantifier_at, operand_of};
-ghost use Rattle.spv_grammar.specs.File.{operands_at, capabilities_at, opcode_at, instruction_of, hex_digit_of};
-ghost use Rattle.spv_grammar.specs.File.{hex_from, bit_value_of, value_at, enumerant_in, enumerants_at, bases_at};
-ghost use Rattle.spv_grammar.specs.File.{category_of, kind_in, file_of};
+ghost use Rattle.spv_grammar.specs.File.{each, text_at, items_at, items_or_none, quantifier_of, quantifier_or_one};
+ghost use Rattle.spv_grammar.specs.File.{operand_of, whole_below, instruction_of, hex_digit_of, hex_from};
+ghost use Rattle.spv_grammar.specs.File.{bit_value_of, value_in, enumerant_in, enumerants_at, bases_at, category_of};
+ghost use Rattle.spv_grammar.specs.File.{kind_in, file_of};
 ghost use Rattle.spv_grammar.specs.inner.File.{Reads};
 
 use crate::error::GrammarError;
@@ -14,6 +17,7 @@ use crate::file::{File, FileEnumerant, FileInstruction, FileKind, FileOperand};
 use crate::lent::{Lent, LentName};
 use bumpalo::Bump;
 use json_tree::{Items, Node};
+use serde_json::Number;
 use spv_table::{Category, Quantifier};
 
 /// The text at a key.
@@ -41,13 +45,69 @@ fn quantifier(text: &str) -> Option<Quantifier>
     }
 }
 
-/// How often an operand comes: none where the text at `quantifier` is no text.
-fn read_quantifier(value: &Node<'_, '_>) -> Option<Option<Quantifier>>
-    ensures { result ≡ quantifier_at (view value.now) }
+/// Keeps a member whose key is this name: of equal keys the last one counts.
+#[inline(always)]
+fn keep<'t, 'a>(found: &mut Option<Node<'t, 'a>>, name: &str, key: &str, member: &Node<'t, 'a>)
+    ensures { option_map view found.new
+        ≡ (if bytes_eq key.now name.now then Some (view member.now) else option_map view found.old) }
 {
-    match value.get("quantifier") {
+    if key == name {
+        *found = Some(member.same());
+    }
+}
+
+/// The text that was found.
+fn text_of<'a>(found: &Option<Node<'_, 'a>>) -> Option<&'a str>
+    ensures { option_map (λ s. s.now) result ≡ option_and_then as_str (option_map view found.now) }
+{
+    match found {
+        Some(node) => node.as_str(),
+        None => None,
+    }
+}
+
+/// The number that was found.
+fn number_of(found: &Option<Node<'_, '_>>) -> Option<Number>
+    ensures { option_map number_view result ≡ option_and_then as_number (option_map view found.now) }
+{
+    match found {
+        Some(node) => node.as_number(),
+        None => None,
+    }
+}
+
+/// The members of an operand that count.
+#[derive(Drop)]
+struct OperandMembers<'t, 'a> {
+    kind: Option<Node<'t, 'a>>,
+    quantifier: Option<Node<'t, 'a>>,
+}
+
+/// Finds the members of an operand in one pass.
+#[inline(always)]
+fn operand_members<'t, 'a>(value: &Node<'t, 'a>) -> OperandMembers<'t, 'a>
+    ensures kind { option_map view result.kind ≡ get (codes "kind") (view value.now) }
+    ensures quantifier { option_map view result.quantifier ≡ get (codes "quantifier") (view value.now) }
+{
+    let mut kind = None;
+    let mut quantifier = None;
+    let Some(members) = value.members() else {
+        return OperandMembers { kind, quantifier };
+    };
+    for (key, member) in members {
+        keep(&mut kind, "kind", key, &member);
+        keep(&mut quantifier, "quantifier", key, &member);
+    }
+    OperandMembers { kind, quantifier }
+}
+
+/// How often an operand comes: none where what was found is no text.
+fn read_quantifier(found: &Option<Node<'_, '_>>) -> Option<Option<Quantifier>>
+    ensures { result ≡ quantifier_or_one (option_map view found.now) }
+{
+    match found {
         None => Some(Some(Quantifier::One)),
-        Some(found) => Some(quantifier(found.as_str()?)),
+        Some(node) => Some(quantifier(node.as_str()?)),
     }
 }
 
@@ -55,10 +115,11 @@ fn read_quantifier(value: &Node<'_, '_>) -> Option<Option<Quantifier>>
 fn read_operand<'a>(value: &Node<'_, 'a>) -> Result<FileOperand<'a>, GrammarError>
     ensures { Reads result (operand_of (view value.now)) }
 {
-    let Some(kind) = text(value, "kind") else {
+    let members = operand_members(value);
+    let Some(kind) = text_of(&members.kind) else {
         return Err(GrammarError::J2);
     };
-    let Some(quantifier) = read_quantifier(value) else {
+    let Some(quantifier) = read_quantifier(&members.quantifier) else {
         return Err(GrammarError::J2);
     };
     let kind = LentName::of(kind);
@@ -66,6 +127,7 @@ fn read_operand<'a>(value: &Node<'_, 'a>) -> Result<FileOperand<'a>, GrammarErro
 }
 
 /// Each operand of an array.
+#[inline(never)]
 fn each_operand<'a>(
     arena: &'a Bump,
     elements: Items<'_, 'a>,
@@ -79,18 +141,18 @@ fn each_operand<'a>(
     Ok(Lent::from_vec(found))
 }
 
-/// The operands at a key that may be missing.
+/// The operands that were found; none where the key is missing.
+#[inline(always)]
 fn read_operands<'a>(
     arena: &'a Bump,
-    value: &Node<'_, 'a>,
-    key: &str,
+    found: &Option<Node<'_, 'a>>,
 ) -> Result<Lent<'a, FileOperand<'a>>, GrammarError>
-    ensures { Reads result (operands_at key.now (view value.now)) }
+    ensures { Reads result (option_and_then (each operand_of) (items_or_none (option_map view found.now))) }
 {
-    match value.get(key) {
+    match found {
         None => Ok(Lent::from_vec(Vec::new(arena))),
-        Some(found) => {
-            let Some(elements) = found.items() else {
+        Some(node) => {
+            let Some(elements) = node.items() else {
                 return Err(GrammarError::J2);
             };
             each_operand(arena, elements)
@@ -99,6 +161,7 @@ fn read_operands<'a>(
 }
 
 /// Each name of an array of texts.
+#[inline(never)]
 fn each_name<'a>(
     arena: &'a Bump,
     elements: Items<'_, 'a>,
@@ -115,17 +178,18 @@ fn each_name<'a>(
     Ok(Lent::from_vec(found))
 }
 
-/// The capabilities of an instruction or an enumerant.
+/// The names of capabilities that were found; none where the key is missing.
+#[inline(always)]
 fn read_capabilities<'a>(
     arena: &'a Bump,
-    value: &Node<'_, 'a>,
+    found: &Option<Node<'_, 'a>>,
 ) -> Result<Lent<'a, LentName<'a>>, GrammarError>
-    ensures { Reads result (capabilities_at (view value.now)) }
+    ensures { Reads result (option_and_then (each as_str) (items_or_none (option_map view found.now))) }
 {
-    match value.get("capabilities") {
+    match found {
         None => Ok(Lent::from_vec(Vec::new(arena))),
-        Some(found) => {
-            let Some(elements) = found.items() else {
+        Some(node) => {
+            let Some(elements) = node.items() else {
                 return Err(GrammarError::J2);
             };
             each_name(arena, elements)
@@ -133,12 +197,60 @@ fn read_capabilities<'a>(
     }
 }
 
-/// An opcode; `Some(None)` where the number is out of range.
-fn read_opcode(value: &Node<'_, '_>) -> Option<Option<u16>>
-    ensures { result ≡ opcode_at (view value.now) }
+/// The members of an instruction or an enumerant that count.
+#[derive(Drop)]
+struct Members<'t, 'a> {
+    name: Option<Node<'t, 'a>>,
+    number: Option<Node<'t, 'a>>,
+    operands: Option<Node<'t, 'a>>,
+    capabilities: Option<Node<'t, 'a>>,
+}
+
+/// Finds the members of an instruction or an enumerant in one pass: the first three by these keys.
+#[inline(always)]
+fn members_by<'t, 'a>(
+    value: &Node<'t, 'a>,
+    name_key: &str,
+    number_key: &str,
+    operands_key: &str,
+) -> Members<'t, 'a>
+    ensures name { option_map view result.name ≡ get name_key.now (view value.now) }
+    ensures number { option_map view result.number ≡ get number_key.now (view value.now) }
+    ensures operands { option_map view result.operands ≡ get operands_key.now (view value.now) }
+    ensures capabilities { option_map view result.capabilities ≡ get (codes "capabilities") (view value.now) }
 {
-    let number = value.get("opcode")?.as_number()?;
-    match number.as_u64() {
+    let mut name = None;
+    let mut number = None;
+    let mut operands = None;
+    let mut capabilities = None;
+    let Some(members) = value.members() else {
+        return Members {
+            name,
+            number,
+            operands,
+            capabilities,
+        };
+    };
+    for (key, member) in members {
+        keep(&mut name, name_key, key, &member);
+        keep(&mut number, number_key, key, &member);
+        keep(&mut operands, operands_key, key, &member);
+        keep(&mut capabilities, "capabilities", key, &member);
+    }
+    Members {
+        name,
+        number,
+        operands,
+        capabilities,
+    }
+}
+
+/// An opcode; `Some(None)` where the number is out of range.
+fn read_opcode(found: &Option<Node<'_, '_>>) -> Option<Option<u16>>
+    ensures { result ≡ option_map (whole_below (2 ^ 16))
+        (option_and_then as_number (option_map view found.now)) }
+{
+    match number_of(found)?.as_u64() {
         Some(whole) => Some(u16::try_from(whole).ok()),
         None => Some(None),
     }
@@ -151,14 +263,15 @@ fn read_instruction<'a>(
 ) -> Result<FileInstruction<'a>, GrammarError>
     ensures { Reads result (instruction_of (view value.now)) }
 {
-    let Some(name) = text(value, "opname") else {
+    let members = members_by(value, "opname", "opcode", "operands");
+    let Some(name) = text_of(&members.name) else {
         return Err(GrammarError::J2);
     };
-    let Some(opcode) = read_opcode(value) else {
+    let Some(opcode) = read_opcode(&members.number) else {
         return Err(GrammarError::J2);
     };
-    let operands = read_operands(arena, value, "operands")?;
-    let capabilities = read_capabilities(arena, value)?;
+    let operands = read_operands(arena, &members.operands)?;
+    let capabilities = read_capabilities(arena, &members.capabilities)?;
     let name = LentName::of(name);
     Ok(FileInstruction {
         name,
@@ -221,13 +334,12 @@ fn bit_value(text: &str) -> Option<u32>
 }
 
 /// An enumerant's value; `Some(None)` where it is out of range or form.
-fn read_value(category: Category, value: &Node<'_, '_>) -> Option<Option<u32>>
-    ensures { result ≡ value_at category (view value.now) }
+fn read_value(category: Category, found: &Option<Node<'_, '_>>) -> Option<Option<u32>>
+    ensures { result ≡ option_and_then (value_in category) (option_map view found.now) }
 {
-    let found = value.get("value")?;
     match category {
-        Category::BitEnum => Some(bit_value(found.as_str()?)),
-        _ => match found.as_number()?.as_u64() {
+        Category::BitEnum => Some(bit_value(text_of(found)?)),
+        _ => match number_of(found)?.as_u64() {
             Some(whole) => Some(u32::try_from(whole).ok()),
             None => Some(None),
         },
@@ -242,14 +354,15 @@ fn read_enumerant<'a>(
 ) -> Result<FileEnumerant<'a>, GrammarError>
     ensures { Reads result (enumerant_in category (view value.now)) }
 {
-    let Some(name) = text(value, "enumerant") else {
+    let members = members_by(value, "enumerant", "value", "parameters");
+    let Some(name) = text_of(&members.name) else {
         return Err(GrammarError::J2);
     };
-    let Some(number) = read_value(category, value) else {
+    let Some(number) = read_value(category, &members.number) else {
         return Err(GrammarError::J2);
     };
-    let parameters = read_operands(arena, value, "parameters")?;
-    let capabilities = read_capabilities(arena, value)?;
+    let parameters = read_operands(arena, &members.operands)?;
+    let capabilities = read_capabilities(arena, &members.capabilities)?;
     let name = LentName::of(name);
     Ok(FileEnumerant {
         name,

@@ -3,33 +3,29 @@
 ghost use Rattle.std.specs.Prelude.{◌≡◌, IsTrue, IfOk};
 
 use crate::lent::LentName;
-use spv_table::{Name, NameList};
+use spv_table::NameList;
 use std::alloc::{AllocError, Global};
 
 /// Whether two lists of names are equal.
-fn are_same(names: &[Name], lent: &[LentName<'_>]) -> bool
+fn are_same(names: &NameList, lent: &[LentName<'_>]) -> bool
     ensures { IsTrue result → names.now ≡ lent.now }
 {
     if names.len() != lent.len() {
         return false;
     }
-    for i in 0..names.len() {
-        if names[i].as_str() != lent[i].as_str() {
+    for i in 0..lent.len() {
+        if names.name(i) != lent[i].as_str() {
             return false;
         }
     }
     true
 }
 
-/// A copy of a list of names.
-fn copy_names(alloc: Global, names: &[LentName<'_>]) -> Result<Vec<Name>, AllocError>
-    ensures { IfOk result (λ copy. copy.items ≡ names.now) }
+/// A list of these names. The error is that memory ran out.
+fn list_of(alloc: Global, names: &[LentName<'_>]) -> Result<NameList, AllocError>
+    ensures { IfOk result (λ list. list ≡ names.now) }
 {
-    let mut found = Vec::with_capacity(alloc, names.len())?;
-    for name in names {
-        found.push(name.copy(alloc)?)?;
-    }
-    Ok(found)
+    NameList::of(alloc, names)
 }
 
 /// The empty list, and the last other list of names that was made.
@@ -42,7 +38,7 @@ pub(crate) struct Lists {
 impl Lists {
     /// Two empty lists. The error is that memory ran out.
     pub(crate) fn new(alloc: Global) -> Result<Lists, AllocError> {
-        let empty = NameList::from_vec(alloc, Vec::new(alloc))?;
+        let empty = list_of(alloc, &[])?;
         let last = empty.share()?;
         Ok(Lists { empty, last })
     }
@@ -55,13 +51,13 @@ impl Lists {
     ) -> Result<NameList, AllocError>
         ensures { IfOk result (λ list. list ≡ names.now) }
     {
-        if are_same(self.last.as_slice(), names) {
+        if are_same(&self.last, names) {
             return self.last.share();
         }
-        if are_same(self.empty.as_slice(), names) {
+        if are_same(&self.empty, names) {
             return self.empty.share();
         }
-        self.last = NameList::from_vec(alloc, copy_names(alloc, names)?)?;
+        self.last = list_of(alloc, names)?;
         self.last.share()
     }
 }

@@ -5,6 +5,7 @@ use Rattle.std.proofs.Math.ListN.{set, length-set}
 use Rattle.std.proofs.lemmas.Bool.{cases_eq, cases_lt, le-leb, lt-leb}
 use Rattle.std.proofs.lemmas.Option.{slice_get_read}
 use Rattle.std.proofs.lemmas.List.Sums.{sum_by-set}
+use Rattle.spv_graphs.specs.Graph.{most_blocks}
 use Rattle.spv_graphs.specs.declared.edge.Edge.{Edge}
 use Rattle.spv_graphs.specs.declared.steps.Step.{Step}
 use Rattle.spv_graphs.specs.Way.{HasEdge, IsWay, IsShortest}
@@ -150,7 +151,7 @@ keeps_by edges closed steps k e h w s = record {
 }
 
 -- the starts, each come to by itself
-pub first_is : (edges : List Edge) (starts : List ℕ) (closed : List Bool) (steps : List Step) → length closed ≤ 4194304 → AreFirst (length closed) starts steps → AreSteps edges starts closed steps
+pub first_is : (edges : List Edge) (starts : List ℕ) (closed : List Bool) (steps : List Step) → length closed ≤ most_blocks → AreFirst (length closed) starts steps → AreSteps edges starts closed steps
 first_is edges starts closed steps few f = record {
   count = f.count;
   few = few;

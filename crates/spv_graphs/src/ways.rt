@@ -2,6 +2,7 @@
 
 ghost use Rattle.std.specs.Prelude.{◌≡◌, ◌∷◌, ◌<◌, ◌≤◌, ℕ, List, Bool, Some, false, length};
 ghost use Rattle.std.specs.Prelude.{reverse, slice_get, MatchBool, MatchOption, IfOk, OnOk};
+ghost use Rattle.spv_graphs.specs.Graph.{most_blocks};
 ghost use Rattle.spv_graphs.specs.Way.{IsWay, IsShortest, AreWithin, AreBelow};
 ghost use Rattle.spv_graphs.specs.inner.Steps.{unknown, level_of, AreFirst, AreFalling, Keeps, Shortens, IsShorter};
 ghost use Rattle.spv_graphs.specs.inner.Steps.{AreSettled, IsTrace};
@@ -147,7 +148,7 @@ pub fn shortest_way(
     requires within { AreWithin (length closed.now) edges.now }
     requires starts { AreBelow (length closed.now) starts.now }
     requires goal { goal < length closed.now }
-    requires few { length closed.now ≤ 4194304 }
+    requires few { length closed.now ≤ most_blocks }
     ensures { IfOk result (λ o. MatchOption o
         ((past : List ℕ) → ¬ (IsWay edges.now starts.now closed.now past goal))
         (λ w. IsShortest edges.now starts.now closed.now goal w.items)) }

@@ -14,13 +14,14 @@ use Rattle.spv_layout.specs.declared.place.Place.{Place}
 use Rattle.spv_layout.specs.First.{rank_of, IsFirst, IsUnbroken}
 use Rattle.spv_layout.specs.Plan.{IsPlan}
 use Rattle.spv_layout.specs.Shape.{FitsShape}
+use Rattle.spv_layout.specs.Stage.{of_ids}
 use Rattle.spv_ids.specs.Definition.{IsDefinedAt, IsUsedAt}
 use Rattle.spv_ids.specs.Broken.{Broken, IsOutOfRange}
 use Rattle.spv_ids.specs.declared.notes.Notes.{Notes}
 use Rattle.spv_ids.specs.inner.Notes.{kept}
 use Rattle.spv_ids.specs.inner.Known.{IsOneBefore, IsBadResult, IsEnd, AreFirst}
 use Rattle.spv_ids.specs.Outcome.{IsDefinitionOf, IsRefusal}
-use Rattle.spv_ids.specs.inner.Outcome.{IsStopAt}
+use Rattle.spv_layout.specs.inner.Outcome.{IsStopAt}
 use Rattle.spv_ids.specs.inner.Uses.{IsUsedBefore, AreSeen}
 use Rattle.spv_ids.specs.inner.Faulty.{IsBadUse, HasBadUse, IsFaulty, IsLeast, AreClean, IsFirstFault}
 use Rattle.spv_ids.specs.inner.Survey.{ArePlaces}
@@ -58,7 +59,7 @@ faulty_broken G bound is n _ f (IsFaulty.by_use to r h) = let u = told_use G is 
 faulty_moved : (bound : ℕ) (is : List PlainInst) (q : Rule) (m n : ℕ) → m ≡ n → IsFaulty bound is m q → IsFaulty bound is n q
 faulty_moved bound is q m n e f = rw (← e) f
 
-pub first_told : (G : Table) (bound : ℕ) (is : List PlainInst) (places : List Place) (r : Rule) (n : ℕ) → IsPlan G is places → IsFirstFault bound is r n → IsFirst (Broken G bound is) 3 r n
+pub first_told : (G : Table) (bound : ℕ) (is : List PlainInst) (places : List Place) (r : Rule) (n : ℕ) → IsPlan G is places → IsFirstFault bound is r n → IsFirst (Broken G bound is) of_ids r n
 first_told G bound is places r n p f = record {
   of_stage = faulty_stage bound is n r f.broken;
   broken = faulty_broken G bound is n r p.fits f.broken;
@@ -78,7 +79,7 @@ faulty_within bound is n _ (IsFaulty.by_use to r h) = slice_get_within is n h.us
 pub first_within : (bound : ℕ) (is : List PlainInst) (r : Rule) (n : ℕ) → IsFirstFault bound is r n → n < length is
 first_within bound is r n f = faulty_within bound is n r f.broken
 
-pub clean_told : (G : Table) (bound : ℕ) (is : List PlainInst) → AreClean bound is (length is) → IsUnbroken (Broken G bound is) 3
+pub clean_told : (G : Table) (bound : ℕ) (is : List PlainInst) → AreClean bound is (length is) → IsUnbroken (Broken G bound is) of_ids
 clean_told G bound is f = λ r n s b. let g = broken_faulty G bound is r n b in f.clean n r (faulty_within bound is n r g) g
 
 -- One instruction more, before which no rule is broken.

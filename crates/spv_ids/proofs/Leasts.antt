@@ -8,21 +8,22 @@ use Rattle.spv_module.specs.Module.{plain_operand}
 use Rattle.spv_module.specs.declared.fault.Rule.{Rule}
 use Rattle.spv_module.specs.declared.fault.Rule.TheVariants.{D1}
 use Rattle.spv_layout.specs.First.{stage_of, rank_of}
+use Rattle.spv_layout.specs.Stage.{of_ids}
 use Rattle.spv_ids.specs.Broken.{IsOutOfRange}
 use Rattle.spv_ids.specs.inner.Uses.{seen, used_id, IsUsedBefore, AreSeen}
 use Rattle.spv_ids.specs.inner.Faulty.{IsBadUse, HasBadUse, IsFaulty, IsLeast, IsEarlier}
 use Rattle.spv_ids.proofs.Defining.{below_or, same_inst}
 
-pub bad_stage : (bound : ℕ) (is : List PlainInst) (n x : ℕ) (r : Rule) → IsBadUse bound is n x r → stage_of r ≡ 3
+pub bad_stage : (bound : ℕ) (is : List PlainInst) (n x : ℕ) (r : Rule) → IsBadUse bound is n x r → stage_of r ≡ of_ids
 bad_stage bound is n x _ (IsBadUse.out_of_range h) = refl
 bad_stage bound is n x _ (IsBadUse.undefined h) = refl
 bad_stage bound is n x _ (IsBadUse.not_in_order h g) = refl
 bad_stage bound is n x _ (IsBadUse.not_in_scope h g k) = refl
 
-pub has_stage : (bound : ℕ) (is : List PlainInst) (n to : ℕ) (r : Rule) → HasBadUse bound is n to r → stage_of r ≡ 3
+pub has_stage : (bound : ℕ) (is : List PlainInst) (n to : ℕ) (r : Rule) → HasBadUse bound is n to r → stage_of r ≡ of_ids
 has_stage bound is n to r h = bad_stage bound is n h.id r h.bad
 
-pub faulty_stage : (bound : ℕ) (is : List PlainInst) (n : ℕ) (r : Rule) → IsFaulty bound is n r → stage_of r ≡ 3
+pub faulty_stage : (bound : ℕ) (is : List PlainInst) (n : ℕ) (r : Rule) → IsFaulty bound is n r → stage_of r ≡ of_ids
 faulty_stage bound is n _ (IsFaulty.result_out_of_range x d o) = refl
 faulty_stage bound is n _ (IsFaulty.defined_again m x d l e) = refl
 faulty_stage bound is n _ (IsFaulty.by_use to r h) = has_stage bound is n to r h
@@ -111,7 +112,7 @@ least_either : (bound : ℕ) (is : List PlainInst) (n k : ℕ) (one : Option Rul
 least_either bound is n k None r q h f b = absurd (h q b)
 least_either bound is n k (Some s) r q h f b = let x = f s refl in let y = h.1 q b in omega arith
 
-pub one_stage : (bound : ℕ) (is : List PlainInst) (n k : ℕ) (one : Option Rule) (r : Rule) → IsLeast (HasBadUse bound is n k) one → one ≡ Some r → stage_of r ≡ 3
+pub one_stage : (bound : ℕ) (is : List PlainInst) (n k : ℕ) (one : Option Rule) (r : Rule) → IsLeast (HasBadUse bound is n k) one → one ≡ Some r → stage_of r ≡ of_ids
 one_stage bound is n k one r h e = has_stage bound is n k r (bad_either bound is n k one r h e)
 
 least_by : (bound : ℕ) (is : List PlainInst) (n k x : ℕ) (o : Plain) (one : Option Rule) (other r q : Rule) → IsLeast (HasBadUse bound is n k) one → used_id o ≡ Some x → IsLeast (IsBadUse bound is n x) (Some other)
@@ -182,11 +183,11 @@ has_moved bound is n k l q e h = rw (← e) h
 pub least_moved : (bound : ℕ) (is : List PlainInst) (n k l : ℕ) (o : Option Rule) → k ≡ l → IsLeast (HasBadUse bound is n k) o → IsLeast (HasBadUse bound is n l) o
 least_moved bound is n k l o e h = rw (← e) h
 
-pub one_stages : (bound : ℕ) (is : List PlainInst) (n k : ℕ) (one : Option Rule) → IsLeast (HasBadUse bound is n k) one → IfSome one (λ r. stage_of r ≡ 3)
+pub one_stages : (bound : ℕ) (is : List PlainInst) (n k : ℕ) (one : Option Rule) → IsLeast (HasBadUse bound is n k) one → IfSome one (λ r. stage_of r ≡ of_ids)
 one_stages bound is n k None h = tt
 one_stages bound is n k (Some r) h = has_stage bound is n k r h.0
 
-pub least_stage : (bound : ℕ) (is : List PlainInst) (n x : ℕ) (r : Rule) → IsLeast (IsBadUse bound is n x) (Some r) → stage_of r ≡ 3
+pub least_stage : (bound : ℕ) (is : List PlainInst) (n x : ℕ) (r : Rule) → IsLeast (IsBadUse bound is n x) (Some r) → stage_of r ≡ of_ids
 least_stage bound is n x r h = bad_stage bound is n x r h.0
 
 pub least_at : (bound : ℕ) (is : List PlainInst) (m n k l : ℕ) (o p : Option Rule) → m ≡ n → k ≡ l → o ≡ p → IsLeast (HasBadUse bound is m k) o → IsLeast (HasBadUse bound is n l) p

@@ -4,6 +4,7 @@ use Rattle.std.specs.Prelude.{slice_get, not}
 use Rattle.std.proofs.lemmas.Bool.{leb-true}
 use Rattle.std.proofs.lemmas.Option.{slice_get_within}
 use Rattle.spv_module.specs.Operand.{PlainInst}
+use Rattle.spv_module.specs.declared.opcode.TheConstants as opcode
 use Rattle.spv_layout.specs.declared.class.Class.{Class}
 use Rattle.spv_layout.specs.declared.class.Class.TheVariants.{Capability, Function, FunctionEnd, Outside}
 use Rattle.spv_layout.specs.Class.{is_among}
@@ -22,11 +23,11 @@ use Rattle.spv_ids.proofs.Used.{all_rows, row_tells, end_by, class_at}
 row_only : Class → ℕ → PlainRow → Bool
 row_only c m r = not (is_among r.class (c ∷ [])) || (nat_eq r.from m && nat_eq r.to m)
 
-functions_only : all_rows (row_only Function 54) rows ≡ true
+functions_only : all_rows (row_only Function opcode.FUNCTION) rows ≡ true
 unfolding rows all_rows row_only
 functions_only = refl
 
-ends_only : all_rows (row_only FunctionEnd 56) rows ≡ true
+ends_only : all_rows (row_only FunctionEnd opcode.FUNCTION_END) rows ≡ true
 unfolding rows all_rows row_only
 ends_only = refl
 
@@ -43,23 +44,23 @@ only c m n (Some r) x a e h =
     let t = row_tells (row_only c m) rows n r a e in
     same r.from r.to m n t.from t.to (end_by (is_among r.class (c ∷ [])) (nat_eq r.from m && nat_eq r.to m) t.passes h)
 
-not_function : (is : List PlainInst) (n : ℕ) (i : PlainInst) → slice_get is n ≡ Some i → (i.opcode ≡ 54 → ⊥) → ¬ (IsAt is n (Function ∷ []))
-not_function is n i h x a = let c = rw (class_at is n i h) at a in x (only Function 54 i.opcode (row_of i.opcode) refl functions_only refl c)
+not_function : (is : List PlainInst) (n : ℕ) (i : PlainInst) → slice_get is n ≡ Some i → (i.opcode ≡ opcode.FUNCTION → ⊥) → ¬ (IsAt is n (Function ∷ []))
+not_function is n i h x a = let c = rw (class_at is n i h) at a in x (only Function opcode.FUNCTION i.opcode (row_of i.opcode) refl functions_only refl c)
 
-not_end : (is : List PlainInst) (n : ℕ) (i : PlainInst) → slice_get is n ≡ Some i → (i.opcode ≡ 56 → ⊥) → ¬ (IsAt is n (FunctionEnd ∷ []))
-not_end is n i h x a = let c = rw (class_at is n i h) at a in x (only FunctionEnd 56 i.opcode (row_of i.opcode) refl ends_only refl c)
+not_end : (is : List PlainInst) (n : ℕ) (i : PlainInst) → slice_get is n ≡ Some i → (i.opcode ≡ opcode.FUNCTION_END → ⊥) → ¬ (IsAt is n (FunctionEnd ∷ []))
+not_end is n i h x a = let c = rw (class_at is n i h) at a in x (only FunctionEnd opcode.FUNCTION_END i.opcode (row_of i.opcode) refl ends_only refl c)
 
-class_54 : class_of 54 ≡ Function
+class_54 : class_of opcode.FUNCTION ≡ Function
 unfolding rows
 class_54 = refl
 
-function_here : (is : List PlainInst) (n : ℕ) (i : PlainInst) → slice_get is n ≡ Some i → i.opcode ≡ 54 → IsAt is n (Function ∷ [])
+function_here : (is : List PlainInst) (n : ℕ) (i : PlainInst) → slice_get is n ≡ Some i → i.opcode ≡ opcode.FUNCTION → IsAt is n (Function ∷ [])
 function_here is n i h e =
     let k : slice_get (classes is) n ≡ Some Function = class_at is n i h ∙ ap (λ m. Some (class_of m)) e ∙ ap Some class_54 in
     is_at is n Function (Function ∷ []) k refl
 
 -- at an OpFunction, and at another instruction
-pub opened : (is : List PlainInst) (n : ℕ) (i : PlainInst) → slice_get is n ≡ Some i → i.opcode ≡ 54 → IsOfFunction is n n
+pub opened : (is : List PlainInst) (n : ℕ) (i : PlainInst) → slice_get is n ≡ Some i → i.opcode ≡ opcode.FUNCTION → IsOfFunction is n n
 opened is n i h e =
     let w = slice_get_within is n i h in
     record {
@@ -67,7 +68,7 @@ opened is n i h e =
       not_ended = λ k a b. absurd (omega arith);
     }
 
-pub goes_on : (is : List PlainInst) (n f : ℕ) (i : PlainInst) → slice_get is n ≡ Some i → (i.opcode ≡ 54 → ⊥) → IsOpen is n f → IsOfFunction is n f
+pub goes_on : (is : List PlainInst) (n f : ℕ) (i : PlainInst) → slice_get is n ≡ Some i → (i.opcode ≡ opcode.FUNCTION → ⊥) → IsOpen is n f → IsOfFunction is n f
 goes_on is n f i h x o =
     let w = slice_get_within is n i h in
     let l = o.below in
@@ -82,7 +83,7 @@ goes_on is n f i h x o =
     }
 
 -- after an instruction that ends no function
-pub stays_open : (is : List PlainInst) (n f : ℕ) (i : PlainInst) → slice_get is n ≡ Some i → (i.opcode ≡ 56 → ⊥) → IsOfFunction is n f → IsOpen is (n + 1) f
+pub stays_open : (is : List PlainInst) (n f : ℕ) (i : PlainInst) → slice_get is n ≡ Some i → (i.opcode ≡ opcode.FUNCTION_END → ⊥) → IsOfFunction is n f → IsOpen is (n + 1) f
 stays_open is n f i h x o =
     let u = o.begun.up_to in
     record {
@@ -114,7 +115,7 @@ low n (Some r) e h =
     let q = t.to in
     omega arith
 
-no_sources : (is : List PlainInst) (n k : ℕ) (i : PlainInst) → slice_get is n ≡ Some i → 7 < i.opcode → k ≡ 7 → ¬ (IsOfSection is n k)
+no_sources : (is : List PlainInst) (n k : ℕ) (i : PlainInst) → slice_get is n ≡ Some i → opcode.STRING < i.opcode → k ≡ 7 → ¬ (IsOfSection is n k)
 no_sources is n _ i h l e (IsOfSection.early c s t q) =
     let p = class_at is n i h in
     let x : class_of i.opcode ≡ c = cc in
@@ -137,6 +138,6 @@ no_globals is n _ f o e (IsOfSection.declaration c g t q l d) = absurd (omega (a
 no_globals is n _ f o e (IsOfSection.definition c g t q l d) = absurd (omega (arith, e))
 
 -- in a function, uses need not come in order
-pub unordered : (is : List PlainInst) (n f : ℕ) (i : PlainInst) → slice_get is n ≡ Some i → 7 < i.opcode → IsOfFunction is n f → ¬ (IsOrdered is n)
+pub unordered : (is : List PlainInst) (n f : ℕ) (i : PlainInst) → slice_get is n ≡ Some i → opcode.STRING < i.opcode → IsOfFunction is n f → ¬ (IsOrdered is n)
 unordered is n f i h l o (inl s) = no_sources is n 7 i h l refl s
 unordered is n f i h l o (inr s) = no_globals is n 11 f o refl s

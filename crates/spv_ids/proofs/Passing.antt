@@ -7,6 +7,7 @@ use Rattle.spv_module.specs.declared.operand.Operand.{Operand}
 use Rattle.spv_module.specs.declared.fault.Rule.{Rule}
 use Rattle.spv_module.specs.Operand.{PlainInst}
 use Rattle.spv_module.specs.Module.{plain_inst, plain_operand}
+use Rattle.spv_module.specs.declared.opcode.TheConstants as opcode
 use Rattle.spv_ids.specs.declared.notes.Notes.{Notes}
 use Rattle.spv_ids.specs.declared.survey.Survey.{Survey}
 use Rattle.spv_ids.specs.Order.{Announces}
@@ -35,7 +36,7 @@ inst_of s n d v b =
     inst_at s.insts.now n d l
 
 -- an instruction of another opcode announces no id
-pub not_announced : (is : List PlainInst) (n : ℕ) (i : PlainInst) → slice_get is n ≡ Some i → (i.opcode ≡ 39 → ⊥) → (x : ℕ) → ¬ (Announces is n x)
+pub not_announced : (is : List PlainInst) (n : ℕ) (i : PlainInst) → slice_get is n ≡ Some i → (i.opcode ≡ opcode.TYPE_FORWARD_POINTER → ⊥) → (x : ℕ) → ¬ (Announces is n x)
 not_announced is n i h k x a =
     let e : a.inst ≡ i = same_inst is n a.inst i a.there h in
     let o = rw e at a.opcode in
@@ -59,12 +60,12 @@ pub open_moved : (is : List PlainInst) (m n f : ℕ) → m ≡ n → IsOpen is m
 open_moved is m n f e h = rw (← e) h
 
 -- a use by an instruction of a function, whose definition is the next one
-pub sound_next : (s : Survey) (n x m f : ℕ) (i j : PlainInst) → IsSurvey s → m ≡ n + 1 → slice_get (insts_of s) n ≡ Some i → slice_get (insts_of s) m ≡ Some j → 56 < i.opcode → 56 < j.opcode
+pub sound_next : (s : Survey) (n x m f : ℕ) (i j : PlainInst) → IsSurvey s → m ≡ n + 1 → slice_get (insts_of s) n ≡ Some i → slice_get (insts_of s) m ≡ Some j → opcode.FUNCTION_END < i.opcode → opcode.FUNCTION_END < j.opcode
     → IsOfFunction (insts_of s) n f → kept s.firsts.now x ≡ Some m → (q : Rule) → ¬ (IsBadUse s.bound (insts_of s) n x q)
 sound_next s n x m f i j v a t u g h o e q =
     let is = insts_of s in
-    let p = stays_open is n f i t (above i.opcode 56 g (omega arith)) o in
-    let r = goes_on is m f j u (above j.opcode 54 h (omega arith)) (open_moved is (n + 1) m f (sym a) p) in
+    let p = stays_open is n f i t (above i.opcode opcode.FUNCTION_END g (omega arith)) o in
+    let r = goes_on is m f j u (above j.opcode opcode.FUNCTION h (omega arith)) (open_moved is (n + 1) m f (sym a) p) in
     let l = o.begun.up_to in
     let k : f < m = omega arith in
     let z : 7 < i.opcode = omega arith in

@@ -6,6 +6,7 @@ use Rattle.std.proofs.lemmas.Bool.{cases_lt}
 use Rattle.spv_module.specs.Operand.{PlainInst}
 use Rattle.spv_module.specs.declared.fault.Rule.{Rule}
 use Rattle.spv_module.specs.declared.fault.Rule.TheVariants.{D1, D3, D4, D5}
+use Rattle.spv_module.specs.declared.opcode.TheConstants as opcode
 use Rattle.spv_layout.specs.First.{rank_of}
 use Rattle.spv_layout.specs.Place.{IsOfSection, IsOfFunction}
 use Rattle.spv_layout.proofs.Places.{section_same, function_same}
@@ -50,21 +51,21 @@ announced_there : (is : List PlainInst) (n x m : ℕ) (o : Option ℕ) → IsAnn
 announced_there is n x m None f h = cc
 announced_there is n x m (Some l) f h = let s : l ≡ m = cc in let a = f.there in let b = f.below in (omega arith, rw s at a)
 
-pub order_member : (s : Survey) (site : Site) (d : Notes) (x m : ℕ) → IsSite s site → AreAnnounced (insts_of s) site.inst d → site.section ≡ 11 → site.opcode ≡ 30 → kept d x ≡ Some m → IsInOrder (insts_of s) site.inst x
+pub order_member : (s : Survey) (site : Site) (d : Notes) (x m : ℕ) → IsSite s site → AreAnnounced (insts_of s) site.inst d → site.section ≡ 11 → site.opcode ≡ opcode.TYPE_STRUCT → kept d x ≡ Some m → IsInOrder (insts_of s) site.inst x
 order_member s site d x m i a e f h =
     let g = i.section in
     let g' : IsOfSection (insts_of s) site.inst 11 = rw e at g in
     let p = i.opcode in
-    let p' : HasOpcode (insts_of s) site.inst 30 = rw f at p in
+    let p' : HasOpcode (insts_of s) site.inst opcode.TYPE_STRUCT = rw f at p in
     let t = announced_there (insts_of s) site.inst x m (kept d x) (a.each x) h in
     IsInOrder.member m g' p' t.0 t.1
 
-pub order_announced : (s : Survey) (site : Site) (x : ℕ) → IsSite s site → site.section ≡ 11 → site.opcode ≡ 39 → IsInOrder (insts_of s) site.inst x
+pub order_announced : (s : Survey) (site : Site) (x : ℕ) → IsSite s site → site.section ≡ 11 → site.opcode ≡ opcode.TYPE_FORWARD_POINTER → IsInOrder (insts_of s) site.inst x
 order_announced s site x i e f =
     let g = i.section in
     let g' : IsOfSection (insts_of s) site.inst 11 = rw e at g in
     let p = i.opcode in
-    let p' : HasOpcode (insts_of s) site.inst 39 = rw f at p in
+    let p' : HasOpcode (insts_of s) site.inst opcode.TYPE_FORWARD_POINTER = rw f at p in
     IsInOrder.announced g' p'
 
 opcode_same : (is : List PlainInst) (n a b : ℕ) → HasOpcode is n a → HasOpcode is n b → a ≡ b
@@ -78,12 +79,12 @@ not_announced is n x m None f e l = f m l
 not_announced is n x m (Some k) f e l = cc
 
 pub not_in_order : (s : Survey) (site : Site) (d : Notes) (x : ℕ) → IsSurvey s → IsSite s site → AreAnnounced (insts_of s) site.inst d → ((m : ℕ) → kept s.firsts.now x ≡ Some m → m < site.inst → ⊥)
-    → (site.section ≡ 11 → site.opcode ≡ 39 → ⊥) → (site.section ≡ 11 → site.opcode ≡ 30 → kept d x ≡ None) → ¬ (IsInOrder (insts_of s) site.inst x)
+    → (site.section ≡ 11 → site.opcode ≡ opcode.TYPE_FORWARD_POINTER → ⊥) → (site.section ≡ 11 → site.opcode ≡ opcode.TYPE_STRUCT → kept d x ≡ None) → ¬ (IsInOrder (insts_of s) site.inst x)
 not_in_order s site d x v i a h f g (IsInOrder.lower m l e) = let b = i.below in h m (first_is (insts_of s) s.end x m (kept s.firsts.now x) (v.firsts.one x) (omega arith) e) l
 not_in_order s site d x v i a h f g (IsInOrder.announced c o) =
-    f (section_same (insts_of s) site.inst site.section 11 i.section c) (opcode_same (insts_of s) site.inst site.opcode 39 i.opcode o)
+    f (section_same (insts_of s) site.inst site.section 11 i.section c) (opcode_same (insts_of s) site.inst site.opcode opcode.TYPE_FORWARD_POINTER i.opcode o)
 not_in_order s site d x v i a h f g (IsInOrder.member m c o l e) =
-    not_announced (insts_of s) site.inst x m (kept d x) (a.each x) (g (section_same (insts_of s) site.inst site.section 11 i.section c) (opcode_same (insts_of s) site.inst site.opcode 30 i.opcode o)) l e
+    not_announced (insts_of s) site.inst x m (kept d x) (a.each x) (g (section_same (insts_of s) site.inst site.section 11 i.section c) (opcode_same (insts_of s) site.inst site.opcode opcode.TYPE_STRUCT i.opcode o)) l e
 
 -- In scope.
 
@@ -212,14 +213,14 @@ least_use_at bound is m n x o e h = rw (← e) h
 
 pub order_early : (s : Survey) (site : Site) (d : Notes) (x : ℕ) → IsSite s site → AreAnnounced (insts_of s) site.inst d → early_test site.section site.opcode (kept d x) ≡ true → IsInOrder (insts_of s) site.inst x
 order_early s site d x i a h =
-    let late = nat_eq site.opcode 39 || (nat_eq site.opcode 30 && is_some (kept d x)) in
+    let late = nat_eq site.opcode opcode.TYPE_FORWARD_POINTER || (nat_eq site.opcode opcode.TYPE_STRUCT && is_some (kept d x)) in
     let c = eq_tells site.section 11 (and_first (nat_eq site.section 11) late h) in
     let o = and_second (nat_eq site.section 11) late h in
-    elim (or_either (nat_eq site.opcode 39) (nat_eq site.opcode 30 && is_some (kept d x)) o) [
-      | inl e ↦ order_announced s site x i c (eq_tells site.opcode 39 e)
+    elim (or_either (nat_eq site.opcode opcode.TYPE_FORWARD_POINTER) (nat_eq site.opcode opcode.TYPE_STRUCT && is_some (kept d x)) o) [
+      | inl e ↦ order_announced s site x i c (eq_tells site.opcode opcode.TYPE_FORWARD_POINTER e)
       | inr e ↦
-          let m = holds (kept d x) (and_second (nat_eq site.opcode 30) (is_some (kept d x)) e) in
-          order_member s site d x m.value i a c (eq_tells site.opcode 30 (and_first (nat_eq site.opcode 30) (is_some (kept d x)) e)) m.is
+          let m = holds (kept d x) (and_second (nat_eq site.opcode opcode.TYPE_STRUCT) (is_some (kept d x)) e) in
+          order_member s site d x m.value i a c (eq_tells site.opcode opcode.TYPE_STRUCT (and_first (nat_eq site.opcode opcode.TYPE_STRUCT) (is_some (kept d x)) e)) m.is
     ]
 
 lower_none : (o : Option ℕ) (n m : ℕ) → lower_test o n ≡ false → o ≡ Some m → m < n → ⊥
@@ -229,13 +230,13 @@ lower_none (Some k) n m h e l = let s : k ≡ m = cc in let g = ge_tells k n h i
 pub order_late : (s : Survey) (site : Site) (d : Notes) (x : ℕ) → IsSurvey s → IsSite s site → AreAnnounced (insts_of s) site.inst d → lower_test (kept s.firsts.now x) site.inst ≡ false
     → early_test site.section site.opcode (kept d x) ≡ false → ¬ (IsInOrder (insts_of s) site.inst x)
 order_late s site d x v i a l h =
-    let late = nat_eq site.opcode 39 || (nat_eq site.opcode 30 && is_some (kept d x)) in
+    let late = nat_eq site.opcode opcode.TYPE_FORWARD_POINTER || (nat_eq site.opcode opcode.TYPE_STRUCT && is_some (kept d x)) in
     not_in_order s site d x v i a (λ m e g. lower_none (kept s.firsts.now x) site.inst m l e g)
-    (λ c o. let f = and_both (nat_eq site.section 11) late h (eq_yes site.section 11 c) in ne_tells site.opcode 39 (or_first (nat_eq site.opcode 39) (nat_eq site.opcode 30 && is_some (kept d x)) f) o)
+    (λ c o. let f = and_both (nat_eq site.section 11) late h (eq_yes site.section 11 c) in ne_tells site.opcode opcode.TYPE_FORWARD_POINTER (or_first (nat_eq site.opcode opcode.TYPE_FORWARD_POINTER) (nat_eq site.opcode opcode.TYPE_STRUCT && is_some (kept d x)) f) o)
     (λ c o.
     let f = and_both (nat_eq site.section 11) late h (eq_yes site.section 11 c) in
-    let g = or_second (nat_eq site.opcode 39) (nat_eq site.opcode 30 && is_some (kept d x)) f in
-    none_tells (kept d x) (and_both (nat_eq site.opcode 30) (is_some (kept d x)) g (eq_yes site.opcode 30 o)))
+    let g = or_second (nat_eq site.opcode opcode.TYPE_FORWARD_POINTER) (nat_eq site.opcode opcode.TYPE_STRUCT && is_some (kept d x)) f in
+    none_tells (kept d x) (and_both (nat_eq site.opcode opcode.TYPE_STRUCT) (is_some (kept d x)) g (eq_yes site.opcode opcode.TYPE_STRUCT o)))
 
 pub lower_holds : (s : Survey) (n x : ℕ) → IsSurvey s → lower_test (kept s.firsts.now x) n ≡ true → IsInOrder (insts_of s) n x
 lower_holds s n x v h = by_kept (kept s.firsts.now x) refl h where

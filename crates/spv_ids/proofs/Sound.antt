@@ -6,11 +6,13 @@ use Rattle.std.proofs.lemmas.Option.{slice_get_within, slice_get-get_or}
 use Rattle.spv_table.specs.Table.{Table}
 use Rattle.spv_module.specs.Operand.{PlainInst}
 use Rattle.spv_module.specs.declared.fault.Rule.TheVariants.{D4, D5}
+use Rattle.spv_module.specs.declared.opcode.TheConstants as opcode
 use Rattle.spv_layout.specs.declared.form.Role.{Role}
 use Rattle.spv_layout.specs.declared.place.Place.{Place}
 use Rattle.spv_layout.specs.First.{IsUnbroken}
 use Rattle.spv_layout.specs.Place.{IsOfSection}
 use Rattle.spv_layout.specs.Plan.{IsPlan}
+use Rattle.spv_layout.specs.Stage.{of_ids}
 use Rattle.spv_layout.proofs.Places.{section_same, function_same}
 use Rattle.spv_ids.specs.Definition.{IsDefinedAt, IsUsedAt, IsLocal}
 use Rattle.spv_ids.specs.Order.{HasOpcode, Announces, IsInOrder, IsInScope, IsOrdered}
@@ -50,7 +52,7 @@ told : (is : List PlainInst) (n x : ℕ) → Told is n x
 told is zero x = Told.not_yet (λ m l. absurd (omega arith))
 told is (suc n) x = told_moved is (n + 1) (suc n) x (omega arith) (told_more is n x (told_here is n x (slice_get is n) refl) (told is n x))
 
-not_in_order : (is : List PlainInst) (n x : ℕ) → ((m : ℕ) → m < n → ¬ (IsDefinedAt is x m)) → (IsOfSection is n 11 → HasOpcode is n 39 → ⊥) → (IsOfSection is n 11 → HasOpcode is n 30 → (m : ℕ) → m < n → ¬ (Announces is m x))
+not_in_order : (is : List PlainInst) (n x : ℕ) → ((m : ℕ) → m < n → ¬ (IsDefinedAt is x m)) → (IsOfSection is n 11 → HasOpcode is n opcode.TYPE_FORWARD_POINTER → ⊥) → (IsOfSection is n 11 → HasOpcode is n opcode.TYPE_STRUCT → (m : ℕ) → m < n → ¬ (Announces is m x))
     → ¬ (IsInOrder is n x)
 not_in_order is n x f g h (IsInOrder.lower m l d) = f m l d
 not_in_order is n x f g h (IsInOrder.announced s o) = g s o
@@ -70,14 +72,14 @@ order_or is n x i h m d only s = elim (cases_lt m n) [
       let late : (k : ℕ) → k < n → ¬ (IsDefinedAt is x k) = λ k b e. let q = only k e in absurd (omega arith) in
       elim s [
         | inl seven ↦ inr (not_in_order is n x late (λ c o. let e = section_same is n 7 11 seven c in absurd (omega (arith, e))) (λ c o. let e = section_same is n 7 11 seven c in absurd (omega (arith, e))))
-        | inr nine ↦ by_opcode late nine (cases_eq i.opcode 39) (cases_eq i.opcode 30) (told is n x)
+        | inr nine ↦ by_opcode late nine (cases_eq i.opcode opcode.TYPE_FORWARD_POINTER) (cases_eq i.opcode opcode.TYPE_STRUCT) (told is n x)
       ]
 ] where
-  by_opcode : ((k : ℕ) → k < n → ¬ (IsDefinedAt is x k)) → IsOfSection is n 11 → (i.opcode ≡ 39) ⊎ (i.opcode ≡ 39 → ⊥) → (i.opcode ≡ 30) ⊎ (i.opcode ≡ 30 → ⊥) → Told is n x → IsInOrder is n x ⊎ (¬ (IsInOrder is n x))
-  by_opcode f c (inl e) b t = inl (IsInOrder.announced c (has_opcode is n 39 i h e))
-  by_opcode f c (inr e) (inl b) (Told.yes k l a) = inl (IsInOrder.member k c (has_opcode is n 30 i h b) l a)
-  by_opcode f c (inr e) (inl b) (Told.not_yet g) = inr (not_in_order is n x f (λ q o. e (opcode_is is n 39 i h o)) (λ q o. g))
-  by_opcode f c (inr e) (inr b) t = inr (not_in_order is n x f (λ q o. e (opcode_is is n 39 i h o)) (λ q o k l. absurd (b (opcode_is is n 30 i h o))))
+  by_opcode : ((k : ℕ) → k < n → ¬ (IsDefinedAt is x k)) → IsOfSection is n 11 → (i.opcode ≡ opcode.TYPE_FORWARD_POINTER) ⊎ (i.opcode ≡ opcode.TYPE_FORWARD_POINTER → ⊥) → (i.opcode ≡ opcode.TYPE_STRUCT) ⊎ (i.opcode ≡ opcode.TYPE_STRUCT → ⊥) → Told is n x → IsInOrder is n x ⊎ (¬ (IsInOrder is n x))
+  by_opcode f c (inl e) b t = inl (IsInOrder.announced c (has_opcode is n opcode.TYPE_FORWARD_POINTER i h e))
+  by_opcode f c (inr e) (inl b) (Told.yes k l a) = inl (IsInOrder.member k c (has_opcode is n opcode.TYPE_STRUCT i h b) l a)
+  by_opcode f c (inr e) (inl b) (Told.not_yet g) = inr (not_in_order is n x f (λ q o. e (opcode_is is n opcode.TYPE_FORWARD_POINTER i h o)) (λ q o. g))
+  by_opcode f c (inr e) (inr b) t = inr (not_in_order is n x f (λ q o. e (opcode_is is n opcode.TYPE_FORWARD_POINTER i h o)) (λ q o k l. absurd (b (opcode_is is n opcode.TYPE_STRUCT i h o))))
 
 -- in scope, or not
 scope_or : (is : List PlainInst) (n x m : ℕ) (o : Option ℕ) → IsFunctionOf is n o → ((l : ℕ) → IsDefinedAt is x l → l ≡ m) → IsLocal is x → IsInScope is n x ⊎ (¬ (IsInScope is n x))
@@ -101,7 +103,7 @@ settle : (A : Type 0) → A ⊎ (¬ A) → ¬ (¬ A) → A
 settle A (inl a) n = a
 settle A (inr h) n = absurd (n h)
 
-pub sound_use : (G : Table) (bound : ℕ) (is : List PlainInst) (places : List Place) (n k x : ℕ) (r : Role) → IsPlan G is places → IsUnbroken (Broken G bound is) 3 → IsUsedAt G is n k x r → IsSoundUse is n x
+pub sound_use : (G : Table) (bound : ℕ) (is : List PlainInst) (places : List Place) (n k x : ℕ) (r : Role) → IsPlan G is places → IsUnbroken (Broken G bound is) of_ids → IsUsedAt G is n k x r → IsSoundUse is n x
 sound_use G bound is places n k x r p u w =
     let o = one_of G bound is n k x r u w (defined is x) in
     let b = slice_get_within is n w.inst w.there in

@@ -5,6 +5,7 @@ use Rattle.std.proofs.lemmas.Bool.{cases_eq}
 use Rattle.std.proofs.lemmas.Bool.Decides.{nat_tests}
 use Rattle.spv_module.specs.Operand.{Plain, PlainInst, OfType, Id, result_in}
 use Rattle.spv_module.specs.Operand as operand
+use Rattle.spv_module.specs.declared.opcode.TheConstants as opcode
 use Rattle.spv_ids.specs.declared.notes.Notes.{Notes}
 use Rattle.spv_ids.specs.Definition.{IsDefinedAt}
 use Rattle.spv_ids.specs.Order.{Announces}
@@ -194,19 +195,19 @@ announces_by i (Some (operand.Value a b)) x h = cc
 announces_by i (Some (operand.Mask a b)) x h = cc
 
 -- the id that an instruction names, and that it announces no other
-announced_some : (i : PlainInst) (b : Bool) (x : ℕ) → nat_eq i.opcode 39 ≡ b → cond b (id_in (slice_get i.operands 0)) None ≡ Some x → (i.opcode ≡ 39) × (slice_get i.operands 0 ≡ Some (Id x))
-announced_some i true x h g = (eq_tells i.opcode 39 h, announces_by i (slice_get i.operands 0) x g)
+announced_some : (i : PlainInst) (b : Bool) (x : ℕ) → nat_eq i.opcode opcode.TYPE_FORWARD_POINTER ≡ b → cond b (id_in (slice_get i.operands 0)) None ≡ Some x → (i.opcode ≡ opcode.TYPE_FORWARD_POINTER) × (slice_get i.operands 0 ≡ Some (Id x))
+announced_some i true x h g = (eq_tells i.opcode opcode.TYPE_FORWARD_POINTER h, announces_by i (slice_get i.operands 0) x g)
 announced_some i false x h g = cc
 
 pub announces_id : (is : List PlainInst) (n x : ℕ) (i : PlainInst) → slice_get is n ≡ Some i → Some x ≡ announced_id i → Announces is n x
-announces_id is n x i h g = let t = announced_some i (nat_eq i.opcode 39) x refl (sym g) in record { inst = i; there = h; opcode = t.0; named = t.1 }
+announces_id is n x i h g = let t = announced_some i (nat_eq i.opcode opcode.TYPE_FORWARD_POINTER) x refl (sym g) in record { inst = i; there = h; opcode = t.0; named = t.1 }
 
 pub announces_none : (is : List PlainInst) (n : ℕ) (i : PlainInst) → slice_get is n ≡ Some i → None ≡ announced_id i → (x : ℕ) → ¬ (Announces is n x)
 announces_none is n i h g x a =
     let e : a.inst ≡ i = same_inst is n a.inst i a.there h in
     let o = rw e at a.opcode in
     let m = rw e at a.named in
-    let t : announced_id i ≡ Some x = rw (eq_yes i.opcode 39 o, m) refl in
+    let t : announced_id i ≡ Some x = rw (eq_yes i.opcode opcode.TYPE_FORWARD_POINTER o, m) refl in
     cc
 
 announced_by : (is : List PlainInst) (n y x : ℕ) (d e : Notes) → Announces is n y → ((z : ℕ) → kept e z ≡ cond (nat_eq y z) (Some n) (kept d z)) → IsAnnouncedBefore is n x (kept d x) → (y ≡ x) ⊎ (y ≡ x → ⊥)

@@ -7,6 +7,7 @@ use Rattle.std.proofs.lemmas.Option.{slice_get-map, slice_get_within}
 use Rattle.spv_table.specs.Table.{Table}
 use Rattle.spv_module.specs.Operand.{Plain, PlainInst, result_in}
 use Rattle.spv_module.specs.Operand as operand
+use Rattle.spv_module.specs.declared.opcode.TheConstants as opcode
 use Rattle.spv_layout.specs.declared.class.Class.TheVariants.{Body, FunctionEnd}
 use Rattle.spv_layout.specs.declared.form.Role.{Role}
 use Rattle.spv_layout.specs.declared.form.Role.TheVariants as role
@@ -221,7 +222,7 @@ ends_seen _ _ c (Ends.no_kind f) = refl
 ends_seen _ _ c (Ends.kind f gs r) = cons_seen f gs c (others_seen gs r)
 
 -- of another opcode than OpExtInst's all forms are looked at
-forms_seen : (G : Table) (i : PlainInst) (fs : List Form) (h : HasForms G i fs) → (i.opcode ≡ 12 → ⊥) → all_seen fs ≡ true
+forms_seen : (G : Table) (i : PlainInst) (fs : List Form) (h : HasForms G i fs) → (i.opcode ≡ opcode.EXT_INST → ⊥) → all_seen fs ≡ true
 unfolding row_apart row_seen
 forms_seen G i fs h n =
     let t = row_tells row_apart rows i.opcode h.row rows_apart h.known in
@@ -231,7 +232,7 @@ forms_seen G i fs h n =
       apart true b p q = absurd (q refl)
       apart false b p q = p
 
-      twelve : h.row.from ≤ i.opcode → i.opcode ≤ h.row.to → nat_eq h.row.from 12 ≡ true → nat_eq h.row.to 12 ≡ true → i.opcode ≡ 12
+      twelve : h.row.from ≤ i.opcode → i.opcode ≤ h.row.to → nat_eq h.row.from opcode.EXT_INST ≡ true → nat_eq h.row.to opcode.EXT_INST ≡ true → i.opcode ≡ opcode.EXT_INST
       twelve a b c d = grind (arith, nat_tests)
 
 -- of OpExtInst the first four are
@@ -239,7 +240,7 @@ abbrev ext_fixed : List Form
 ext_fixed = form.OfType ∷ form.Result ∷ form.Id role.Set ∷ form.Word ∷ []
 
 abbrev ext_row : PlainRow
-ext_row = row 12 12 Body ext_fixed (repeated (form.Unseen ∷ []))
+ext_row = row opcode.EXT_INST opcode.EXT_INST Body ext_fixed (repeated (form.Unseen ∷ []))
 
 ext_known : row_of 12 ≡ Some ext_row
 unfolding rows
@@ -276,7 +277,7 @@ pub record ExtForms (fs : List Form) : Type 0 where
   pub forms : fs ≡ ext_fixed ++ rest
   pub ending : Ends (repeated (form.Unseen ∷ [])) rest
 
-ext_forms : (G : Table) (i : PlainInst) (fs : List Form) → HasForms G i fs → i.opcode ≡ 12 → ExtForms fs
+ext_forms : (G : Table) (i : PlainInst) (fs : List Form) → HasForms G i fs → i.opcode ≡ opcode.EXT_INST → ExtForms fs
 ext_forms G i fs h n =
     let s = row_same i.opcode h.row n h.known in
     let a : h.row.fixed ≡ ext_fixed = ap (λ r. r.fixed) s in
@@ -316,10 +317,10 @@ test_yes n h = grind (arith, nat_tests)
 test_no : (n : ℕ) → (n ≡ 12 → ⊥) → nat_eq n 12 ≡ false
 test_no n h = grind (arith, nat_tests)
 
-seen_ext : (i : PlainInst) → i.opcode ≡ 12 → seen i ≡ take 4 i.operands
+seen_ext : (i : PlainInst) → i.opcode ≡ opcode.EXT_INST → seen i ≡ take 4 i.operands
 seen_ext i h = ap (λ b. cond b (take 4 i.operands) i.operands) (test_yes i.opcode h)
 
-seen_other : (i : PlainInst) → (i.opcode ≡ 12 → ⊥) → seen i ≡ i.operands
+seen_other : (i : PlainInst) → (i.opcode ≡ opcode.EXT_INST → ⊥) → seen i ≡ i.operands
 seen_other i h = ap (λ b. cond b (take 4 i.operands) i.operands) (test_no i.opcode h)
 
 -- Forms and uses.
@@ -370,7 +371,7 @@ used_role G f (operand.Mask a b) x h u n = cc
 
 -- A use is among the operands that are looked at.
 seen_use : (G : Table) (i : PlainInst) (k x : ℕ) (r : Role) (u : IsUse G i k x r) → slice_get (seen i) k ≡ Some u.operand
-seen_use G i k x r u = elim (cases_eq i.opcode 12) [
+seen_use G i k x r u = elim (cases_eq i.opcode opcode.EXT_INST) [
   | inl h ↦
       let t = ext_forms G i u.forms u.has h in
       let s = seen_ext i h in
@@ -420,7 +421,7 @@ told_use G is n to x f u =
     let has = (f n i u.there).has in
     let fs = (f n i u.there).forms in
     let q = u.operand_at in
-    elim (cases_eq i.opcode 12) [
+    elim (cases_eq i.opcode opcode.EXT_INST) [
       | inl h ↦
           let q' : slice_get (take 4 i.operands) u.place ≡ Some u.operand = rw (seen_ext i h) at q in
           let a = slice_get_within (take 4 i.operands) u.place u.operand q' in

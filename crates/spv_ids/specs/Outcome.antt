@@ -6,6 +6,7 @@ use Rattle.spv_module.specs.declared.fault.Stop.{Stop}
 use Rattle.spv_module.specs.declared.fault.Stop.TheVariants.{Fault, Memory}
 use Rattle.spv_layout.specs.First.{IsFirst, IsUnbroken}
 use Rattle.spv_layout.specs.Place.{first_word_of}
+use Rattle.spv_layout.specs.Stage.{of_ids}
 use Rattle.spv_ids.specs.declared.ids.Ids.{Ids}
 use Rattle.spv_ids.specs.Definition.{IsDefinedAt}
 use Rattle.spv_ids.specs.Broken.{Broken}
@@ -30,10 +31,10 @@ pub record AreNumbered (is : List PlainInst) (ids : Ids) : Type 0 where
 
 -- No rule on ids is broken, and of each id the one definition is kept, if it has one.
 pub record AreIds (G : Table) (bound : ℕ) (is : List PlainInst) (ids : Ids) : Type 0 where
-  pub unbroken : IsUnbroken (Broken G bound is) 3
+  pub unbroken : IsUnbroken (Broken G bound is) of_ids
   pub each : (x : ℕ) → IsDefinitionOf is x (definition_in ids x)
 
--- What a refusal says: want of memory, or the first broken rule on ids and the first word of its instruction.
+-- What a refusal says: out of memory, or the first broken rule on ids and the first word of its instruction.
 abbrev pub IsRefusal : Table → ℕ → List PlainInst → Stop → Type 0
 IsRefusal G bound is Memory = Unit {0}
-IsRefusal G bound is (Fault f) = IsFirst (Broken G bound is) 3 f.rule f.inst × (f.word ≡ first_word_of is f.inst)
+IsRefusal G bound is (Fault f) = IsFirst (Broken G bound is) of_ids f.rule f.inst × (f.word ≡ first_word_of is f.inst)

@@ -4,7 +4,7 @@ ghost use Rattle.std.specs.Prelude.{◌≡◌, ◌<◌, ◌≤◌, ◌↔◌, �
 ghost use Rattle.std.specs.Prelude.{OnOk, IsTrue, MatchOption, MatchBool, Some, None, slice_get};
 ghost use Rattle.spv_module.specs.Operand.{PlainInst};
 ghost use Rattle.spv_module.specs.Module.{plain_inst};
-ghost use Rattle.spv_layout.specs.Place.{IsOfFunction, IsOfSection};
+ghost use Rattle.spv_layout.specs.Place.{AreFew, IsOfFunction, IsOfSection};
 ghost use Rattle.spv_ids.specs.Definition.{IsDefinedAt};
 ghost use Rattle.spv_ids.specs.Broken.{IsOutOfRange};
 ghost use Rattle.spv_ids.specs.inner.Notes.{kept};
@@ -43,7 +43,7 @@ pub fn is_out_of_range(bound: u32, id: u32) -> bool
 /// An `AllocError` comes only where a growth of memory was refused.
 #[inline(never)]
 fn first_definitions(insts: &[Inst<'_>], bound: u32, room: Notes) -> Result<Firsts, AllocError>
-    requires most { length insts.now ≤ 4194304 }
+    requires most { AreFew insts.now }
     requires results { AreEarly (map plain_inst insts.now) }
     requires empty { (x : ℕ) → kept room x ≡ None }
     ensures firsts { IfOk result (λ f. AreFirst bound (map plain_inst insts.now) f.end f.definitions) }
@@ -79,7 +79,7 @@ fn first_definitions(insts: &[Inst<'_>], bound: u32, room: Notes) -> Result<Firs
 /// An `AllocError` comes only where a growth of memory was refused.
 #[inline(never)]
 pub fn find_definitions(alloc: Global, insts: &[Inst<'_>], bound: u32) -> Result<Firsts, AllocError>
-    requires most { length insts.now ≤ 4194304 }
+    requires most { AreFew insts.now }
     requires results { AreEarly (map plain_inst insts.now) }
     ensures firsts { IfOk result (λ f. AreFirst bound (map plain_inst insts.now) f.end f.definitions) }
     ensures end { IfOk result (λ f. IsEnd bound (map plain_inst insts.now) f.end) }
@@ -204,7 +204,7 @@ pub fn later_definitions(
     from: u32,
     places: usize,
 ) -> Result<Notes, AllocError>
-    requires most { length insts.now ≤ 4194304 }
+    requires most { AreFew insts.now }
     requires places { ArePlaces (map plain_inst insts.now) plan.now }
     ensures { IfOk result (λ later. AreLater (map plain_inst insts.now) from
         (length (map plain_inst insts.now)) later) }

@@ -1,22 +1,21 @@
 //! The ids of a module.
 
-ghost use Rattle.std.specs.Prelude.{◌≡◌, ◌+◌, ◌≤◌, ◌<◌, ℕ, List, IfOk, IfErr, length, sum_by};
+ghost use Rattle.std.specs.Prelude.{◌≡◌, ℕ, List, IfOk, IfErr, length};
 ghost use Rattle.spv_table.specs.Table.{Table};
 ghost use Rattle.spv_module.specs.Operand.{PlainInst};
 ghost use Rattle.spv_module.specs.Module.{plain_insts};
-ghost use Rattle.spv_layout.specs.Place.{word_count};
+ghost use Rattle.spv_layout.specs.Place.{IsShort};
 ghost use Rattle.spv_layout.specs.Plan.{IsPlan};
 ghost use Rattle.spv_ids.specs.declared.notes.Notes as declared;
 ghost use Rattle.spv_ids.specs.inner.Known.{AreFirst};
 ghost use Rattle.spv_ids.specs.inner.Survey.{ArePlaces, AreGlobal};
 ghost use Rattle.spv_ids.specs.Outcome.{AreIds, IsRefusal, definition_in};
-ghost use Rattle.spv_ids.specs.inner.Outcome.{IsStopAt};
 
 use crate::definitions::{find_definitions, later_definitions};
 use crate::notes::Notes;
-use crate::survey::{Found, Survey};
+use crate::survey::Survey;
 use spv_layout::Plan;
-use spv_module::{Fault, Module, Stop};
+use spv_module::{Module, Stop};
 use std::alloc::Global;
 
 /// The definitions of a module's ids (SPIR-V Specification 1.6, section 2.16): each id that is used has exactly one, in
@@ -60,21 +59,6 @@ fn globals(plan: &Plan, count: u32, end: u32) -> u32
     count
 }
 
-/// The fault of a broken rule, at the first word of its instruction.
-fn stop_at(plan: &Plan, found: Found) -> Stop
-    requires { found.inst < length plan.now }
-    ensures { (is : List PlainInst) → ArePlaces is plan.now → IsStopAt is found.rule found.inst result }
-{
-    let Some(place) = plan.at(found.inst) else {
-        unreachable!();
-    };
-    Stop::Fault(Fault {
-        rule: found.rule,
-        inst: found.inst,
-        word: place.word,
-    })
-}
-
 /// The definitions of a module's ids. `plan` is what `lay_out` answered of that module.
 ///
 /// Time is linear in the words of the module; where ids are sparse, each takes the time of a search among those in
@@ -89,13 +73,12 @@ fn stop_at(plan: &Plan, found: Found) -> Stop
 /// - D4: a use in section 7a or 9 comes before each of its definitions (2.16). In section 9 the operand of an
 ///   OpTypeForwardPointer may, and so may a member of an OpTypeStruct that a lower OpTypeForwardPointer names.
 /// - D5: a use in sections 9 to 11 of an id that is local to a function, by an instruction of no function to which it
-///   is
-///   local (2.16).
+///   is local (2.16).
 ///
 /// `Memory` comes only where a growth of memory was refused.
 pub fn number(alloc: Global, module: &Module<'_>, plan: &Plan) -> Result<Ids, Stop>
     // The condition of `lay_out`, and that the plan is what it answered, by some table.
-    requires words { 5 + sum_by word_count (plain_insts «module».now) ≤ 4194304 }
+    requires words { IsShort (plain_insts «module».now) }
     requires plan { (G : Table) × IsPlan G (plain_insts «module».now) plan.now }
     ensures ids { (G : Table) → IsPlan G (plain_insts «module».now) plan.now
         → IfOk result (λ ids. AreIds G «module».now.header.bound (plain_insts «module».now) ids) }
@@ -117,7 +100,7 @@ pub fn number(alloc: Global, module: &Module<'_>, plan: &Plan) -> Result<Ids, St
         globals: globals(plan, insts.len() as u32, firsts.end),
     };
     if let Some(found) = survey.first_fault(alloc)? {
-        return Err(stop_at(plan, found));
+        return Err(plan.stop_at(found.rule, found.inst));
     }
     Ok(Ids {
         definitions: firsts.definitions,

@@ -13,26 +13,27 @@ ghost use Rattle.spv_layout.specs.declared.place.Place.{Place};
 ghost use Rattle.spv_layout.specs.Plan.{IsPlan};
 ghost use Rattle.spv_ids.specs.Sound.{IsSoundUse};
 ghost use Rattle.spv_layout.specs.First.{IsFirst, IsUnbroken};
+ghost use Rattle.spv_layout.specs.Stage.{of_ids};
 ghost use Rattle.spv_ids.specs.Definition.{IsDefinedAt, IsUsedAt, IsLocal, IsLocalTo};
 ghost use Rattle.spv_ids.specs.Broken.{Broken, IsOutOfRange};
 
 /// At most one rule on ids is broken first, at one instruction.
 pub fn one_fault()
     ensures { (G : Table) (bound : ℕ) (is : List PlainInst) (q r : Rule) (m n : ℕ)
-        → IsFirst (Broken G bound is) 3 q m → IsFirst (Broken G bound is) 3 r n → (q ≡ r) × (m ≡ n) }
+        → IsFirst (Broken G bound is) of_ids q m → IsFirst (Broken G bound is) of_ids r n → (q ≡ r) × (m ≡ n) }
 {}
 
 /// Where no rule on ids is broken, each id that is used has exactly one definition.
 pub fn one_definition()
     ensures { (G : Table) (bound : ℕ) (is : List PlainInst) (n k x : ℕ) (r : Role)
-        → IsUnbroken (Broken G bound is) 3 → IsUsedAt G is n k x r → (m : ℕ) × IsDefinedAt is x m
+        → IsUnbroken (Broken G bound is) of_ids → IsUsedAt G is n k x r → (m : ℕ) × IsDefinedAt is x m
         × ((l : ℕ) → IsDefinedAt is x l → l ≡ m) }
 {}
 
 /// Where no rule on ids is broken, each use is of one definition, in order and in scope.
 pub fn sound_uses()
     ensures { (G : Table) (bound : ℕ) (is : List PlainInst) (places : List Place) (n k x : ℕ) (r : Role)
-        → IsPlan G is places → IsUnbroken (Broken G bound is) 3 → IsUsedAt G is n k x r → IsSoundUse is n x }
+        → IsPlan G is places → IsUnbroken (Broken G bound is) of_ids → IsUsedAt G is n k x r → IsSoundUse is n x }
 {}
 
 /// Small lists with and without faults, under a small table and the bound 5.

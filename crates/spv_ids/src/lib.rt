@@ -11,3 +11,4 @@ mod survey;
 mod uses;
 
 pub use ids::{Ids, number};
+pub use uses::{named_id, used_id};

@@ -7,6 +7,7 @@ ghost use Rattle.spv_module.specs.Module.{plain_inst, plain_operands};
 ghost use Rattle.spv_module.specs.declared.fault.Rule.{Rule};
 ghost use Rattle.spv_module.specs.declared.fault.Rule.TheVariants.{D1};
 ghost use Rattle.spv_layout.specs.First.{stage_of, rank_of};
+ghost use Rattle.spv_layout.specs.Stage.{of_ids};
 ghost use Rattle.spv_layout.specs.Place.{IsOfFunction, IsOfSection};
 ghost use Rattle.spv_ids.specs.declared.survey.Survey as declared;
 ghost use Rattle.spv_ids.specs.Definition.{IsDefinedAt, IsLocal};
@@ -15,7 +16,7 @@ ghost use Rattle.spv_ids.specs.declared.notes.Notes.{Notes};
 ghost use Rattle.spv_ids.specs.Broken.{IsOutOfRange};
 ghost use Rattle.spv_ids.specs.inner.Notes.{kept};
 ghost use Rattle.spv_ids.specs.inner.Known.{AreAnnounced, IsEnd, IsBadResult, IsHomeOf, IsOpen};
-ghost use Rattle.spv_ids.specs.inner.Test.{lower_test, early_test, scope_test, home_test, id_in, announced_id};
+ghost use Rattle.spv_ids.specs.inner.Test.{lower_test, early_test, scope_test, home_test, announced_id};
 ghost use Rattle.std.specs.Option.{is_some};
 ghost use Rattle.spv_ids.specs.inner.Uses.{AreSeen};
 ghost use Rattle.spv_ids.specs.inner.Faulty.{IsBadUse, HasBadUse, IsFaulty, IsLeast, IsEarlier, AreClean, IsFirstFault};
@@ -23,25 +24,10 @@ ghost use Rattle.spv_ids.specs.inner.Survey.{ArePlaces, IsSurvey, IsSite, insts_
 
 use crate::definitions::{floor_of, home, is_out_of_range, section_of};
 use crate::notes::{NONE, Notes};
-use crate::uses::{result_of, seen, used_id};
+use crate::uses::{named_id, result_of, seen, used_id};
 use spv_layout::Plan;
-use spv_module::{Inst, Operand, Rule};
+use spv_module::{Inst, Operand, Rule, opcode};
 use std::alloc::{AllocError, Global};
-
-/// The opcode of OpString: no opcode of section 7a is higher.
-const STRING: u16 = 7;
-
-/// The opcode of OpTypeStruct.
-const TYPE_STRUCT: u16 = 30;
-
-/// The opcode of OpTypeForwardPointer.
-const TYPE_FORWARD_POINTER: u16 = 39;
-
-/// The opcode of OpFunction.
-const FUNCTION: u16 = 54;
-
-/// The opcode of OpFunctionEnd.
-const FUNCTION_END: u16 = 56;
 
 /// The number of section 7a among the sections.
 const SOURCES: u8 = 7;
@@ -127,8 +113,8 @@ fn may_be_early(site: &Site, announced: &Notes, id: u32) -> bool
         return false;
     }
     match site.opcode {
-        TYPE_FORWARD_POINTER => true,
-        TYPE_STRUCT => announced.get(id).is_some(),
+        opcode::TYPE_FORWARD_POINTER => true,
+        opcode::TYPE_STRUCT => announced.get(id).is_some(),
         _ => false,
     }
 }
@@ -176,7 +162,7 @@ fn home_of(plan: &Plan, definition: Option<u32>) -> Option<u32>
 
 /// The number of a rule on ids.
 fn number_of(rule: Rule) -> u8
-    ensures { stage_of rule ≡ 3 → rank_of rule ≡ result + 14 }
+    ensures { stage_of rule ≡ of_ids → rank_of rule ≡ result + 14 }
 {
     match rule {
         Rule::D1 => 1,
@@ -190,7 +176,7 @@ fn number_of(rule: Rule) -> u8
 
 /// The earlier of two rules on ids, in the order of telling.
 fn earlier(one: Option<Rule>, other: Rule) -> Rule
-    ensures { stage_of other ≡ 3 → IfSome one (λ r. stage_of r ≡ 3) → IsEarlier one other result }
+    ensures { stage_of other ≡ of_ids → IfSome one (λ r. stage_of r ≡ of_ids) → IsEarlier one other result }
 {
     match one {
         Some(rule) => if number_of(rule) <= number_of(other) {
@@ -202,25 +188,13 @@ fn earlier(one: Option<Rule>, other: Rule) -> Rule
     }
 }
 
-/// The id that an instruction has as its first operand, if that is one.
-#[cold]
-#[inline(never)]
-fn first_id(inst: &Inst<'_>) -> Option<u32>
-    ensures { result ≡ id_in (slice_get (plain_inst inst.now).operands 0) }
-{
-    match inst.operands.as_slice().get(0) {
-        Some(Operand::Id(id)) => Some(*id),
-        _ => None,
-    }
-}
-
 /// The id that an OpTypeForwardPointer names.
 #[inline(always)]
 fn announced_by(inst: &Inst<'_>) -> Option<u32>
     ensures { result ≡ announced_id (plain_inst inst.now) }
 {
-    if inst.opcode == TYPE_FORWARD_POINTER {
-        first_id(inst)
+    if inst.opcode == opcode::TYPE_FORWARD_POINTER {
+        named_id(inst, 0)
     } else {
         None
     }
@@ -244,7 +218,11 @@ fn entered(inst: &Inst<'_>, floor: u32, at: u32) -> u32
     ensures { (is : List PlainInst) → slice_get is at ≡ Some (plain_inst inst.now)
         → (floor < 4294967295 → IsOpen is at floor) → result < 4294967295 → IsOfFunction is at result }
 {
-    if inst.opcode == FUNCTION { at } else { floor }
+    if inst.opcode == opcode::FUNCTION {
+        at
+    } else {
+        floor
+    }
 }
 
 /// The function that is open after an instruction of the function `floor`, or `NONE`.
@@ -253,7 +231,7 @@ fn left(inst: &Inst<'_>, floor: u32) -> u32
     ensures { (is : List PlainInst) (n : ℕ) → slice_get is n ≡ Some (plain_inst inst.now)
         → (floor < 4294967295 → IsOfFunction is n floor) → result < 4294967295 → IsOpen is (n + 1) result }
 {
-    if inst.opcode == FUNCTION_END {
+    if inst.opcode == opcode::FUNCTION_END {
         NONE
     } else {
         floor
@@ -374,7 +352,8 @@ impl<'m, 'a> Survey<'m, 'a> {
         if floor == NONE {
             return false;
         }
-        STRING < self.insts[inst as usize].opcode
+        // No opcode of section 7a is higher.
+        opcode::STRING < self.insts[inst as usize].opcode
     }
 
     /// Whether the only definition of an id is in the function `floor`, that of an instruction, or in no function.
@@ -439,11 +418,11 @@ impl<'m, 'a> Survey<'m, 'a> {
             return false;
         }
         let there = &self.insts[inst as usize];
-        if there.opcode <= FUNCTION_END {
+        if there.opcode <= opcode::FUNCTION_END {
             return false;
         }
         let next = &self.insts[definition as usize];
-        if next.opcode <= FUNCTION_END {
+        if next.opcode <= opcode::FUNCTION_END {
             return false;
         }
         definition == inst + 1
@@ -581,13 +560,13 @@ impl<'m, 'a> Survey<'m, 'a> {
     {
         let there = &self.insts[inst as usize];
         // Most instructions of a function: none of them begins or ends one, and none announces an id.
-        if FUNCTION_END < there.opcode {
+        if opcode::FUNCTION_END < there.opcode {
             if self.are_sound(inst, floor, front, seen(there)) {
                 return Some(floor);
             }
             return None;
         }
-        if there.opcode == TYPE_FORWARD_POINTER {
+        if there.opcode == opcode::TYPE_FORWARD_POINTER {
             return None;
         }
         let here = entered(there, floor, inst);
@@ -626,26 +605,26 @@ impl<'m, 'a> Survey<'m, 'a> {
         }
     }
 
-    /// The first broken rule of the module.
+    /// The first broken rule of the module. Nothing is announced yet.
     ///
     /// An `AllocError` comes only where a growth of memory was refused.
     #[inline(never)]
-    pub fn first_fault(&self, alloc: Global) -> Result<Option<Found>, AllocError>
+    fn fault_from_start(&self, announced: &mut Notes) -> Result<Option<Found>, AllocError>
         requires survey { IsSurvey self.now }
         requires end { IsEnd self.now.bound (insts_of self.now) self.now.end }
+        requires announced { AreAnnounced (insts_of self.now) 0 announced.old }
         ensures { IfOk result (λ o. MatchOption o
             (AreClean self.now.bound (insts_of self.now) (length (insts_of self.now)))
             (λ f. IsFirstFault self.now.bound (insts_of self.now) f.rule f.inst)) }
     {
-        let mut announced = Notes::new(alloc, 0)?;
         let mut passed = self.pass(0, NONE);
         while passed.to < self.end {
             let n = passed.to;
             let inst = &self.insts[n as usize];
-            if let Some(rule) = self.uses_fault(n, &announced, seen(inst)) {
+            if let Some(rule) = self.uses_fault(n, announced, seen(inst)) {
                 return Ok(Some(Found { rule, inst: n }));
             }
-            announce(&mut announced, inst, n)?;
+            announce(announced, inst, n)?;
             let here = entered(inst, passed.floor, n);
             passed = self.pass(n + 1, left(inst, here));
         }
@@ -657,5 +636,19 @@ impl<'m, 'a> Survey<'m, 'a> {
             rule,
             inst: self.end,
         }))
+    }
+
+    /// The first broken rule of the module.
+    ///
+    /// An `AllocError` comes only where a growth of memory was refused.
+    pub fn first_fault(&self, alloc: Global) -> Result<Option<Found>, AllocError>
+        requires survey { IsSurvey self.now }
+        requires end { IsEnd self.now.bound (insts_of self.now) self.now.end }
+        ensures { IfOk result (λ o. MatchOption o
+            (AreClean self.now.bound (insts_of self.now) (length (insts_of self.now)))
+            (λ f. IsFirstFault self.now.bound (insts_of self.now) f.rule f.inst)) }
+    {
+        let mut announced = Notes::new(alloc, 0)?;
+        self.fault_from_start(&mut announced)
     }
 }

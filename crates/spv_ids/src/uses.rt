@@ -2,12 +2,10 @@
 
 ghost use Rattle.std.specs.Prelude.{◌≡◌, slice_get, take};
 ghost use Rattle.spv_module.specs.Module.{plain_inst, plain_operand, plain_operands};
+ghost use Rattle.spv_ids.specs.inner.Test.{id_in};
 ghost use Rattle.spv_ids.specs.inner.Uses as uses;
 
-use spv_module::{Inst, Operand};
-
-/// The opcode of OpExtInst.
-const EXT_INST: u16 = 12;
+use spv_module::{Inst, Operand, opcode};
 
 /// The first four operands, or all where they are fewer.
 #[cold]
@@ -29,7 +27,7 @@ pub fn seen<'i, 'a>(inst: &'i Inst<'a>) -> &'i [Operand<'a>]
     ensures { plain_operands result.now ≡ uses.seen (plain_inst inst.now) }
 {
     let operands = inst.operands.as_slice();
-    if inst.opcode == EXT_INST {
+    if inst.opcode == opcode::EXT_INST {
         first_four(operands)
     } else {
         operands
@@ -44,6 +42,16 @@ pub fn used_id(operand: Operand<'_>) -> Option<u32>
     match operand {
         Operand::OfType(id) => Some(id),
         Operand::Id(id) => Some(id),
+        _ => None,
+    }
+}
+
+/// The id that operand `n`, from 0, of an instruction is, if it is one other than a type or a result.
+pub fn named_id(inst: &Inst<'_>, n: usize) -> Option<u32>
+    ensures { result ≡ id_in (slice_get (plain_inst inst.now).operands n) }
+{
+    match inst.operands.as_slice().get(n) {
+        Some(Operand::Id(id)) => Some(*id),
         _ => None,
     }
 }

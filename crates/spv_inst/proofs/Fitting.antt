@@ -3,6 +3,7 @@ use Rattle.std.proofs.Common.{◌≡◌, ◌<◌, ◌≤◌, ◌+◌, ◌-◌, �
 use Rattle.std.specs.Prelude.{Result, IfOk, IfErr, nat_eq}
 use Rattle.std.proofs.lemmas.Bool.{ne_eqb}
 use Rattle.spv_table.specs.Table.{Table}
+use Rattle.spv_module.specs.declared.opcode.TheConstants.{SWITCH}
 use Rattle.spv_module.specs.declared.fault.Rule.TheVariants.{I4, I12}
 use Rattle.spv_module.specs.declared.operand.Operand.{Operand}
 use Rattle.spv_inst.specs.declared.reader.Taken.{Taken}
@@ -64,16 +65,16 @@ pub nothing_front : (G : Table) (c : Context) (s : Slot) (ws : List ℕ) (at end
 nothing_front G c s ws at end e h l = rw (e, front ws at end h l) (ShapeRefuses.no_form (slice_index ws at) (between ws (at + 1) end))
 
 -- a LiteralInteger in a pair of OpSwitch
-pub integer_number : (c : Context) (paired : Bool) (opcode : ℕ) → paired ≡ true → opcode ≡ 251 → opcode ≡ c.opcode → integer_shape c paired ≡ AsNumber (switch_width c)
-integer_number c paired opcode e f g = let h : c.opcode ≡ 251 = cc in rw (e, h) refl
+pub integer_number : (c : Context) (paired : Bool) (opcode : ℕ) → paired ≡ true → opcode ≡ SWITCH → opcode ≡ c.opcode → integer_shape c paired ≡ AsNumber (switch_width c)
+integer_number c paired opcode e f g = let h : c.opcode ≡ SWITCH = cc in rw (e, h) refl
 
 -- and elsewhere
 pub integer_unpaired : (c : Context) (paired : Bool) → paired ≡ false → integer_shape c paired ≡ AsWord
 integer_unpaired c paired e = rw e refl
 
-pub integer_other : (c : Context) (paired : Bool) (opcode : ℕ) → paired ≡ true → (opcode ≡ 251 → ⊥) → opcode ≡ c.opcode → integer_shape c paired ≡ AsWord
+pub integer_other : (c : Context) (paired : Bool) (opcode : ℕ) → paired ≡ true → (opcode ≡ SWITCH → ⊥) → opcode ≡ c.opcode → integer_shape c paired ≡ AsWord
 integer_other c paired opcode e f g =
-    let h : nat_eq c.opcode 251 ≡ false = ne_eqb c.opcode 251 (λ z. f (g ∙ z)) in
+    let h : nat_eq c.opcode SWITCH ≡ false = ne_eqb c.opcode SWITCH (λ z. f (g ∙ z)) in
     rw (e, h) refl
 
 -- a refusal tells a word of those left, or the one after them

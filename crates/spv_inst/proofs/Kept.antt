@@ -1,6 +1,7 @@
 -- What is kept of the definitions, after one instruction more.
 use Rattle.std.proofs.Common.{◌≡◌, ◌++◌, ◌∷◌, [], ◌∙◌, sym, ℕ, List, Option, Some, None, Bool, true, false, cond, refl, ap}
 use Rattle.std.specs.Prelude.{Result, Ok, Err, OnOk, option_map, nat_eq, if◌then◌else◌}
+use Rattle.spv_module.specs.declared.opcode.TheConstants.{TYPE_FLOAT}
 use Rattle.spv_inst.specs.declared.definitions.Definition.{Definition}
 use Rattle.spv_inst.specs.declared.definitions.Definitions.{Definitions}
 use Rattle.spv_module.specs.Operand.{PlainInst, result_in, type_in}
@@ -44,7 +45,7 @@ more_kept d e before i r n f g u k = record {
 
 -- what is kept of an instruction of an opcode with a type and a width is its summary
 pub summary_is : (i : PlainInst) (opcode : ℕ) (t w : Option ℕ) → i.opcode ≡ opcode → type_in i.operands ≡ t → declared_width i ≡ w
-    → record { type_id = t; is_float = nat_eq opcode 22; width = w } ≡ summary i
+    → record { type_id = t; is_float = nat_eq opcode TYPE_FLOAT; width = w } ≡ summary i
 summary_is i opcode t w e f g = rw (← e, ← f, ← g) refl
 
 -- what follows from a call's answer

@@ -28,11 +28,5 @@ pub mod Contexts
 pub mod Turns
 pub mod Instructions
 pub mod Decoding
-pub mod Walk
 pub mod Fit
 pub mod Octets
-pub mod Progress
-pub mod Listed
-pub mod Stops
-pub mod Unspelled
-pub mod Back

@@ -6,6 +6,7 @@ use Rattle.spv_table.specs.declared.table.Category.{Category}
 use Rattle.spv_table.specs.declared.table.Category.TheVariants as category
 use Rattle.spv_table.specs.declared.table.Enumerant.{Enumerant}
 use Rattle.spv_table.specs.Table.{Item, Table, Sort, kind_of, is_simple, is_simple_category, are_bases, is_sound, IsWhole}
+use Rattle.spv_module.specs.declared.opcode.TheConstants.{SWITCH}
 use Rattle.spv_module.specs.declared.operand.Operand as declared
 use Rattle.spv_module.specs.declared.fault.Rule.{Rule}
 use Rattle.spv_module.specs.declared.fault.Rule.TheVariants.{I4, I5}
@@ -100,7 +101,7 @@ literal_no_mask false b false false false x y es h = cc
 mask_category : (c : Context) (p : Bool) (s : Sort) (cat : Category) (es : List Enumerant) → category_shape c p s cat ≡ AsMask es → s.enumerants ≡ es
 mask_category c p s category.Id es h = absurd (id_no_mask (bytes_eq s.kind.name (codes "IdResultType")) (bytes_eq s.kind.name (codes "IdResult")) es h)
 mask_category c p s category.Literal es h =
-    absurd (literal_no_mask (bytes_eq s.kind.name (codes "LiteralInteger")) (p && nat_eq c.opcode 251)
+    absurd (literal_no_mask (bytes_eq s.kind.name (codes "LiteralInteger")) (p && nat_eq c.opcode SWITCH)
     (bytes_eq s.kind.name (codes "LiteralFloat") || bytes_eq s.kind.name (codes "LiteralExtInstInteger")) (bytes_eq s.kind.name (codes "LiteralString"))
     (bytes_eq s.kind.name (codes "LiteralContextDependentNumber")) (switch_width c) (context_width c) es h)
 mask_category c p s category.ValueEnum es h = cc
@@ -164,7 +165,7 @@ literal_leaf false b false false false x y = tt
 simple_leaf : (c : Context) (p : Bool) (s : Sort) (cat : Category) → is_simple_category cat ≡ true → IsLeaf (category_shape c p s cat)
 simple_leaf c p s category.Id h = id_leaf (bytes_eq s.kind.name (codes "IdResultType")) (bytes_eq s.kind.name (codes "IdResult"))
 simple_leaf c p s category.Literal h =
-    literal_leaf (bytes_eq s.kind.name (codes "LiteralInteger")) (p && nat_eq c.opcode 251)
+    literal_leaf (bytes_eq s.kind.name (codes "LiteralInteger")) (p && nat_eq c.opcode SWITCH)
     (bytes_eq s.kind.name (codes "LiteralFloat") || bytes_eq s.kind.name (codes "LiteralExtInstInteger")) (bytes_eq s.kind.name (codes "LiteralString"))
     (bytes_eq s.kind.name (codes "LiteralContextDependentNumber")) (switch_width c) (context_width c)
 simple_leaf c p s category.ValueEnum h = tt

@@ -2,6 +2,7 @@
 use Rattle.std.proofs.Common.{◌≡◌, ◌++◌, ℕ, List, [], ◌∷◌, refl, arith, map, ap, length, append-nil}
 use Rattle.std.specs.Prelude.{IsUtf8, codes}
 use Rattle.spv_table.specs.Table.{One, Maybe, Many}
+use Rattle.spv_module.specs.declared.opcode.TheConstants.{SWITCH}
 use Rattle.spv_module.specs.Operand.{Plain, OfType, Result, Id, Word, Number, Text, Mask, Context, and_then, start}
 use Rattle.spv_module.specs.Shape.{AsText, AsWord, alone, shape_of}
 use Rattle.spv_module.specs.Spelling.{Takes, HoldsText, mask_parameters, Match, Spells, SpellsAll}
@@ -67,7 +68,7 @@ string_spelled = record {
   matches = flat_match small (start [] 7) (One 1 ∷ One 5 ∷ []) string.operands (5 ∷ 6513249 ∷ []) string_matches;
 }
 
-switch_matches : Matches small (start long_value 251) (map due (One 2 ∷ One 2 ∷ Many 6 ∷ [])) switch.operands (2 ∷ 10 ∷ 7 ∷ 1 ∷ 11 ∷ [])
+switch_matches : Matches small (start long_value SWITCH) (map due (One 2 ∷ One 2 ∷ Many 6 ∷ [])) switch.operands (2 ∷ 10 ∷ 7 ∷ 1 ∷ 11 ∷ [])
 unfolding shape_of
 switch_matches =
     Matches.take _ _ _ (Id 2) (2 ∷ []) [] _ _ (Takes.id 2) (
@@ -87,7 +88,7 @@ switch_spelled = record {
   count = omega arith;
   spelled = refl;
   known = refl;
-  matches = flat_match small (start long_value 251) (One 2 ∷ One 2 ∷ Many 6 ∷ []) switch.operands (2 ∷ 10 ∷ 7 ∷ 1 ∷ 11 ∷ []) switch_matches;
+  matches = flat_match small (start long_value SWITCH) (One 2 ∷ One 2 ∷ Many 6 ∷ []) switch.operands (2 ∷ 10 ∷ 7 ∷ 1 ∷ 11 ∷ []) switch_matches;
 }
 
 pub unknown_fails : Fails small (start [] 61) (map due (One 0 ∷ One 1 ∷ One 2 ∷ Maybe 3 ∷ [])) (2 ∷ 9 ∷ 8 ∷ 4 ∷ []) I7 3

@@ -1,5 +1,5 @@
 pub mod Flat
 pub mod Outcome
 pub mod Reading
-pub mod Encoding
+pub mod Limits
 pub mod inner

@@ -15,12 +15,12 @@ pub record IsHeaderOf (words : List ℕ) (header : Header) : Type 0 where
   pub bound : header.bound ≡ slice_index words 3
   pub schema : header.schema ≡ slice_index words 4
 
--- Want of memory, or the dead instruction's code, number and word, the word counted from the module's first. [own]
+-- That memory ran out, or the dead instruction's code, number and word, the word counted from the module's first. [own]
 abbrev pub IsDecodeFault : Table → List ℕ → Stop → Type 0
 IsDecodeFault G words Memory = Unit {0}
 IsDecodeFault G words (Fault f) = (5 ≤ f.word) × IsMalformedAt G (drop 5 words) f.rule f.inst (f.word - 5)
 
--- Want of memory, or no list of instructions at all. [own]
+-- That memory ran out, or no list of instructions at all. [own]
 abbrev pub HasNoList : Table → List ℕ → Stop → Type 0
 HasNoList G words Memory = Unit {0}
 HasNoList G words (Fault f) = (is : List PlainInst) → ¬ (IsListing G is (drop 5 words))

@@ -1,15 +1,17 @@
-ghost use Rattle.std.specs.Prelude.{◌≡◌, List, [], drop, IfOk, IfErr};
+ghost use Rattle.std.specs.Prelude.{◌≡◌, List, [], drop, map, IfOk, IfErr, OnOk};
 ghost use Rattle.spv_module.specs.Operand.{PlainInst};
-ghost use Rattle.spv_module.specs.Module.{plain_insts};
+ghost use Rattle.spv_module.specs.Module.{plain_inst, plain_insts};
 ghost use Rattle.spv_module.specs.Instruction.{IsListing};
 ghost use Rattle.spv_inst.specs.Outcome.{HasNoList, IsDecodeFault, IsHeaderOf};
+ghost use Rattle.spv_inst.specs.inner.Batch.{batch_insts, IsTidy};
+ghost use Rattle.spv_inst.specs.inner.Known.{Knows};
 
 use crate::batch::Batch;
 use crate::definitions::Definitions;
 use crate::instruction::{Read, read_instruction};
 use crate::pending::Pending;
 use crate::reader::Scene;
-use spv_module::{Module, Stop};
+use spv_module::{Inst, Module, Stop};
 use spv_table::Table;
 use spv_words::{Header, Image};
 use std::alloc::{AllocError, Global};
@@ -25,6 +27,57 @@ fn with_room<'a>(alloc: Global, header: Header, count: usize) -> Result<Module<'
     let mut module = Module::new(alloc, header);
     module.insts = Vec::with_capacity(alloc, count)?;
     Ok(module)
+}
+
+/// Adds the instructions of an image to a list of none. What is handed in is begun anew: nothing is known, and no
+/// instruction was read. After an error nothing is said of what is left.
+#[inline(always)]
+fn read_all<'t, 'a>(
+    alloc: Global,
+    table: &'t Table,
+    image: &'a Image,
+    definitions: &mut Definitions,
+    pending: &mut Pending<'t>,
+    batch: &mut Batch<'a>,
+    insts: &mut Vec<Inst<'a>>,
+) -> Result<(), Stop>
+    requires unknown { Knows definitions.old [] }
+    requires unread { batch_insts batch.old ≡ [] }
+    requires tidy { IsTidy batch.old }
+    requires empty { batch.old.operands.items ≡ [] }
+    requires unlisted { map plain_inst insts.old.items ≡ [] }
+    ensures found { OnOk result (IsListing table.now (map plain_inst insts.new.items) (drop 5 image.now)) }
+    ensures only { OnOk result ((is : List PlainInst) → IsListing table.now is (drop 5 image.now)
+        → is ≡ map plain_inst insts.new.items) }
+    ensures dead { IfErr result (λ e. IsDecodeFault table.now image.now e) }
+    ensures none { IfErr result (λ e. HasNoList table.now image.now e) }
+{
+    let forms = table.forms();
+    let len = image.len();
+    let mut number = 0;
+    let mut at = 5;
+    while at < len {
+        let scene = Scene {
+            table,
+            forms,
+            definitions,
+            image,
+        };
+        let Read { opcode, first, end } = read_instruction(
+            &scene,
+            pending,
+            &mut batch.operands,
+            number,
+            at,
+        )?;
+        definitions.add(opcode, &batch.operands[first..])?;
+        batch.close(opcode, first)?;
+        batch.settle(alloc, insts)?;
+        number += 1;
+        at = end;
+    }
+    batch.move_into(alloc, insts)?;
+    Ok(())
 }
 
 /// The instructions of an image by a grammar table, with texts lent by the image.
@@ -44,34 +97,19 @@ pub fn decode<'a>(alloc: Global, table: &Table, image: &'a Image) -> Result<Modu
     // Where there is one, the words spell no list.
     ensures none { IfErr result (λ e. HasNoList table.now image.now e) }
 {
-    let forms = table.forms();
+    let count = image.len() / WORDS_FOR_EACH;
+    let mut module = with_room(alloc, image.header(), count as usize)?;
     let mut definitions = Definitions::new(alloc);
     let mut pending = Pending::new(alloc);
-    let len = image.len();
-    let mut module = with_room(alloc, image.header(), (len / WORDS_FOR_EACH) as usize)?;
     let mut batch = Batch::new(alloc);
-    let mut number = 0;
-    let mut at = 5;
-    while at < len {
-        let scene = Scene {
-            table,
-            forms,
-            definitions: &definitions,
-            image,
-        };
-        let Read { opcode, first, end } = read_instruction(
-            &scene,
-            &mut pending,
-            &mut batch.operands,
-            number,
-            at,
-        )?;
-        definitions.add(opcode, &batch.operands[first..])?;
-        batch.close(opcode, first)?;
-        batch.settle(alloc, &mut module.insts)?;
-        number += 1;
-        at = end;
-    }
-    batch.move_into(alloc, &mut module.insts)?;
+    read_all(
+        alloc,
+        table,
+        image,
+        &mut definitions,
+        &mut pending,
+        &mut batch,
+        &mut module.insts,
+    )?;
     Ok(module)
 }

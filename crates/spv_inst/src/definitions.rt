@@ -1,6 +1,7 @@
 ghost use Rattle.std.specs.Prelude.{◌≡◌, ◌++◌, ◌∷◌, ◌<◌, ◌≤◌, [], ℕ, List, Some, None};
 ghost use Rattle.std.specs.Prelude.{false, nat_eq, slice_index_or, if◌then◌else◌, length, OnOk};
 ghost use Rattle.std.specs.Prelude.{option_and_then, option_map, unwrap_or};
+ghost use Rattle.spv_module.specs.declared.opcode.TheConstants.{TYPE_FLOAT};
 ghost use Rattle.spv_module.specs.Operand.{PlainInst};
 ghost use Rattle.spv_module.specs.Operand as operand;
 ghost use Rattle.spv_module.specs.Width as width;
@@ -8,7 +9,7 @@ ghost use Rattle.spv_module.specs.Width.{definition_of, width_of, type_of};
 ghost use Rattle.spv_module.specs.Module.{plain_operands};
 ghost use Rattle.spv_inst.specs.inner.Known.{Knows, kept};
 
-use spv_module::{Operand, result_in, type_in};
+use spv_module::{Operand, opcode, result_in, type_in};
 use std::alloc::{AllocError, Global};
 use std::collections::BTreeMap;
 
@@ -22,12 +23,6 @@ struct Definition {
     /// The width that it declares, in bits, if it is OpTypeInt or OpTypeFloat.
     width: Option<u8>,
 }
-
-/// The opcode of OpTypeInt.
-const TYPE_INT: u16 = 21;
-
-/// The opcode of OpTypeFloat.
-const TYPE_FLOAT: u16 = 22;
 
 /// The width that operands beginning with a result and a word tell, in bits.
 fn width_in(operands: &[Operand]) -> Option<u8>
@@ -46,7 +41,7 @@ fn declared_width(opcode: u16, operands: &[Operand]) -> Option<u8>
     ensures { result ≡ width.declared_width (record { opcode = opcode; operands = plain_operands operands.now }) }
 {
     match opcode {
-        TYPE_INT | TYPE_FLOAT => width_in(operands),
+        opcode::TYPE_INT | opcode::TYPE_FLOAT => width_in(operands),
         _ => None,
     }
 }
@@ -143,7 +138,7 @@ impl Definitions {
         };
         let definition = Definition {
             type_id: type_in(operands),
-            is_float: opcode == TYPE_FLOAT,
+            is_float: opcode == opcode::TYPE_FLOAT,
             width: declared_width(opcode, operands),
         };
         self.reach = self.reach.saturating_add(REACH_FOR_EACH);
@@ -170,7 +165,7 @@ impl Definitions {
     {
         let definition = Definition {
             type_id,
-            is_float: opcode == TYPE_FLOAT,
+            is_float: opcode == opcode::TYPE_FLOAT,
             width: bits,
         };
         self.reach = self.reach.saturating_add(REACH_FOR_EACH);
@@ -200,7 +195,7 @@ impl Definitions {
     pub fn is_float(&self, type_id: Option<u32>) -> bool
         ensures { (before : List PlainInst) → Knows self.now before
             → result ≡ unwrap_or
-            (option_map (λ i. nat_eq i.opcode 22) (option_and_then (definition_of before) type_id))
+            (option_map (λ i. nat_eq i.opcode TYPE_FLOAT) (option_and_then (definition_of before) type_id))
             false }
     {
         match type_id {

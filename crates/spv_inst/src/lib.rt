@@ -1,13 +1,10 @@
-//! Instructions of a module, by a grammar table.
+//! From words to instructions, by a grammar table: the decoder, and the laws of what words spell.
 #![tactic(auto)]
 
 mod batch;
 mod decoder;
 mod definitions;
 pub mod due;
-mod encode_error;
-mod encoder;
-mod encoding;
 mod enumerant;
 mod instruction;
 mod items;
@@ -20,12 +17,6 @@ mod text;
 mod written;
 
 pub use decoder::decode;
-pub use encode_error::{EncodeCode, EncodeError};
-pub use encoder::encode;
-pub use encoding::{
-    decodes_back, encodes_back, encoding_examples, image_or_refused, listed_or_stopped, one_image,
-    one_stop,
-};
 pub use laws::{
     instruction_examples, kind_examples, list_examples, listed_or_dead, no_gap, one_death,
     one_listing, one_listing_spelling, one_reading, one_spelling, pattern_examples,

@@ -14,9 +14,6 @@ use crate::reader::{Known, Refusal, Taken};
 use spv_module::{Operand, Rule};
 use spv_words::{Image, word};
 
-/// The opcode of OpSwitch.
-pub const SWITCH: u16 = 251;
-
 /// The width of a LiteralContextDependentNumber, in bits: that of the instruction's result type (SPIR-V Specification
 /// 1.6, section 2.2.1). None where the operands so far have no result type, or where its last definition is no
 /// OpTypeInt or OpTypeFloat with a width from 1 to 64.

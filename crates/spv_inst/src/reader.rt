@@ -8,9 +8,9 @@ ghost use Rattle.spv_inst.specs.inner.Reading.{between, TakesFront, RefusesFront
 
 use crate::definitions::Definitions;
 use crate::enumerant::{take_mask, take_value};
-use crate::number::{SWITCH, context_width, switch_width, take_number};
+use crate::number::{context_width, switch_width, take_number};
 use crate::text::take_text;
-use spv_module::{Operand, Rule};
+use spv_module::{Operand, Rule, opcode};
 use spv_table::{Form, Leaf, Table};
 use spv_words::{Image, word};
 
@@ -134,7 +134,7 @@ pub fn take_operand<'a>(
         Leaf::Id => Ok(one_word(Operand::Id(first))),
         Leaf::Word => Ok(one_word(Operand::Word(first))),
         Leaf::Integer => {
-            if slot.paired && known.opcode == SWITCH {
+            if slot.paired && known.opcode == opcode::SWITCH {
                 return take_number(scene.image, switch_width(scene.definitions, known), at, end);
             }
             Ok(one_word(Operand::Word(first)))

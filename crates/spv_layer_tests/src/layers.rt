@@ -2,7 +2,6 @@
 
 use spv_branches::check_branches;
 use spv_calls::first_cycle;
-use spv_flow::flow_check;
 use spv_grammar::{FromGrammar, Table};
 use spv_ids::number;
 use spv_inst::{Stop, decode};
@@ -10,7 +9,7 @@ use spv_layout::laws::word_counts;
 use spv_layout::{Place, Role, lay_out, role};
 use spv_ops::op_holds;
 use spv_samples::{CALL_OF_LATER_FUNCTION, LOOP_WITH_PHI, PROFILE, image_of};
-use spv_types::type_check;
+use spv_verdict::{flow_check, type_check};
 use spv_walks::check_values;
 use spv_words::Image;
 use std::alloc::Global;

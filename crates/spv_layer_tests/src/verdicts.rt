@@ -129,9 +129,9 @@ fn traces(rt: HostRuntime) -> Result<(), Fail> {
 
 #[test]
 fn messages(rt: HostRuntime) -> Result<(), Fail> {
-    let of_id = format!(in rt.alloc(); "{}", TraceError::X1)?;
+    let of_id = format!(in rt.alloc(); "{}", TraceError::NoEntry)?;
     assert_eq!(rt; of_id.as_str(), "the id is no entry point's function");
-    let of_memory = format!(in rt.alloc(); "{}", TraceError::X2)?;
+    let of_memory = format!(in rt.alloc(); "{}", TraceError::Memory)?;
     assert_eq!(rt; of_memory.as_str(), "out of memory");
     Ok(())
 }

@@ -4,13 +4,10 @@ use Rattle.std.specs.Prelude.{slice_get}
 use Rattle.std.proofs.lemmas.Bool.{cases_lt, ltb-true, lt-leb}
 use Rattle.std.proofs.lemmas.Option.{slice_get_past}
 use Rattle.spv_layout.specs.Row.{PlainRow, row_in}
+use Rattle.spv_layout.specs.declared.rows.TheConstants.{NUMBERS}
 use Rattle.spv_layout.specs.inner.Row.{numbered}
 use Rattle.spv_layout.specs.Rows.{rows, row_of}
 use Rattle.spv_layout.proofs.Derivatives.{both_hold}
-
--- the numbers of the code
-unfoldable pub numbers : List ℕ
-numbers = 0 ∷ 1 ∷ 2 ∷ 3 ∷ 4 ∷ 5 ∷ 6 ∷ 7 ∷ 8 ∷ 255 ∷ 9 ∷ 10 ∷ 11 ∷ 255 ∷ 12 ∷ 13 ∷ 14 ∷ 15 ∷ 255 ∷ 16 ∷ 16 ∷ 17 ∷ 18 ∷ 19 ∷ 255 ∷ 255 ∷ 255 ∷ 255 ∷ 20 ∷ 255 ∷ 21 ∷ 22 ∷ 23 ∷ 24 ∷ 255 ∷ 255 ∷ 255 ∷ 255 ∷ 255 ∷ 25 ∷ 255 ∷ 26 ∷ 26 ∷ 27 ∷ 28 ∷ 255 ∷ 29 ∷ 255 ∷ 30 ∷ 30 ∷ 31 ∷ 32 ∷ 255 ∷ 255 ∷ 33 ∷ 34 ∷ 35 ∷ 36 ∷ 255 ∷ 37 ∷ 255 ∷ 38 ∷ 39 ∷ 39 ∷ 40 ∷ 41 ∷ 41 ∷ 42 ∷ 255 ∷ 255 ∷ 43 ∷ 44 ∷ 45 ∷ 255 ∷ 255 ∷ 255 ∷ 255 ∷ 46 ∷ 47 ∷ 48 ∷ 49 ∷ 50 ∷ 51 ∷ 52 ∷ 255 ∷ 255 ∷ 255 ∷ 255 ∷ 255 ∷ 255 ∷ 255 ∷ 255 ∷ 255 ∷ 255 ∷ 255 ∷ 255 ∷ 255 ∷ 255 ∷ 255 ∷ 255 ∷ 255 ∷ 255 ∷ 255 ∷ 255 ∷ 255 ∷ 255 ∷ 255 ∷ 255 ∷ 255 ∷ 53 ∷ 53 ∷ 53 ∷ 53 ∷ 54 ∷ 54 ∷ 54 ∷ 255 ∷ 55 ∷ 255 ∷ 255 ∷ 56 ∷ 57 ∷ 57 ∷ 255 ∷ 58 ∷ 255 ∷ 59 ∷ 59 ∷ 60 ∷ 60 ∷ 60 ∷ 60 ∷ 60 ∷ 60 ∷ 60 ∷ 60 ∷ 60 ∷ 61 ∷ 61 ∷ 61 ∷ 61 ∷ 61 ∷ 255 ∷ 255 ∷ 255 ∷ 255 ∷ 255 ∷ 255 ∷ 255 ∷ 255 ∷ 255 ∷ 255 ∷ 255 ∷ 255 ∷ 255 ∷ 255 ∷ 255 ∷ 255 ∷ 255 ∷ 255 ∷ 255 ∷ 255 ∷ 255 ∷ 255 ∷ 62 ∷ 62 ∷ 62 ∷ 62 ∷ 63 ∷ 64 ∷ 65 ∷ 65 ∷ 65 ∷ 65 ∷ 65 ∷ 65 ∷ 65 ∷ 65 ∷ 65 ∷ 65 ∷ 66 ∷ 66 ∷ 66 ∷ 66 ∷ 66 ∷ 66 ∷ 66 ∷ 66 ∷ 66 ∷ 66 ∷ 66 ∷ 66 ∷ 255 ∷ 255 ∷ 67 ∷ 67 ∷ 67 ∷ 68 ∷ 68 ∷ 68 ∷ 69 ∷ 255 ∷ 255 ∷ 255 ∷ 255 ∷ 255 ∷ 255 ∷ 255 ∷ 255 ∷ 255 ∷ 255 ∷ 255 ∷ 255 ∷ 255 ∷ 255 ∷ 255 ∷ 255 ∷ 255 ∷ 255 ∷ 255 ∷ 255 ∷ 255 ∷ 255 ∷ 255 ∷ 70 ∷ 71 ∷ 255 ∷ 72 ∷ 73 ∷ 74 ∷ 75 ∷ 255 ∷ 76 ∷ 76 ∷ 77 ∷ 77 ∷ 77 ∷ 77 ∷ 77 ∷ 77 ∷ 78 ∷ 78 ∷ 78 ∷ 255 ∷ 255 ∷ 79 ∷ 80 ∷ 81 ∷ 82 ∷ 83 ∷ 84 ∷ 85 ∷ 255 ∷ 86 ∷ 87 ∷ 88 ∷ 89 ∷ 89 ∷ 255 ∷ 255 ∷ 255 ∷ 255 ∷ 255 ∷ 255 ∷ 255 ∷ 255 ∷ 255 ∷ 255 ∷ 255 ∷ 255 ∷ 255 ∷ 255 ∷ 255 ∷ 255 ∷ 255 ∷ 255 ∷ 255 ∷ 255 ∷ 255 ∷ 255 ∷ 255 ∷ 255 ∷ 255 ∷ 255 ∷ 255 ∷ 255 ∷ 255 ∷ 255 ∷ 255 ∷ 255 ∷ 255 ∷ 255 ∷ 255 ∷ 255 ∷ 255 ∷ 255 ∷ 255 ∷ 255 ∷ 255 ∷ 255 ∷ 255 ∷ 255 ∷ 255 ∷ 255 ∷ 255 ∷ 255 ∷ 255 ∷ 255 ∷ 255 ∷ 255 ∷ 255 ∷ 255 ∷ 255 ∷ 255 ∷ 255 ∷ 255 ∷ 255 ∷ 90 ∷ 255 ∷ 255 ∷ 255 ∷ 255 ∷ 255 ∷ 255 ∷ 255 ∷ 255 ∷ 255 ∷ 255 ∷ 255 ∷ 255 ∷ 91 ∷ []
 
 -- the number of the first row that has the opcode, counted on from k, or 255 where there is none
 position_from : List PlainRow → ℕ → ℕ → ℕ
@@ -48,8 +45,12 @@ positions : List PlainRow → ℕ → ℕ → List ℕ
 positions rs n zero = []
 positions rs n (suc count) = position_from rs 0 n ∷ positions rs (n + 1) count
 
-agree : numbers ≡ positions rows 0 331
-unfolding numbers positions position_from rows
+-- there is a number for each opcode up to the last one of the rows
+count : ℕ
+count = length NUMBERS
+
+agree : NUMBERS ≡ positions rows 0 count
+unfolding count positions position_from rows
 agree = refl
 
 position_at : (rs : List PlainRow) (n count k : ℕ) → k < count → slice_get (positions rs n count) k ≡ Some (position_from rs 0 (n + k))
@@ -65,8 +66,8 @@ are_below : List PlainRow → ℕ → Bool
 are_below [] n = true
 are_below (r ∷ rs) n = nat_lt r.to n && are_below rs n
 
-all_below : are_below rows 331 ≡ true
-unfolding are_below rows
+all_below : are_below rows count ≡ true
+unfolding count are_below rows
 all_below = refl
 
 passed : (a b : Bool) (r : PlainRow) (o : Option PlainRow) → b ≡ false → (if a && b then Some r else o) ≡ o
@@ -82,16 +83,15 @@ no_row (r ∷ rs) m n h l =
     let f : nat_le n r.to ≡ false = lt-leb n r.to (omega arith) in
     passed (nat_le r.from n) (nat_le n r.to) r (row_in rs n) f ∙ no_row rs m n p.1 l
 
-count : length numbers ≡ 331
-unfolding numbers
-count = refl
+-- no number stands past the last opcode
+past : (n : ℕ) → count ≤ n → slice_get NUMBERS n ≡ None
+unfolding count
+past n h = slice_get_past NUMBERS n h
 
-pub numbered_row : (n : ℕ) → numbered rows (slice_get numbers n) ≡ row_of n
-numbered_row n = elim (cases_lt n 331) [
+pub numbered_row : (n : ℕ) → numbered rows (slice_get NUMBERS n) ≡ row_of n
+numbered_row n = elim (cases_lt n count) [
   | inl h ↦
       let z : 0 + n ≡ n = omega arith in
-      ap (λ ns. numbered rows (slice_get ns n)) agree ∙ ap (numbered rows) (position_at rows 0 331 n h) ∙ at_position rows rows 0 (0 + n) none_past same_places ∙ ap row_of z
-  | inr h ↦
-      let c = count in
-      ap (numbered rows) (slice_get_past numbers n (omega arith)) ∙ sym (no_row rows 331 n all_below h)
+      ap (λ ns. numbered rows (slice_get ns n)) agree ∙ ap (numbered rows) (position_at rows 0 count n h) ∙ at_position rows rows 0 (0 + n) none_past same_places ∙ ap row_of z
+  | inr h ↦ let l : count ≤ n = omega arith in ap (numbered rows) (past n l) ∙ sym (no_row rows count n all_below l)
 ]

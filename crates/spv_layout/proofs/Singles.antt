@@ -16,7 +16,7 @@ use Rattle.spv_layout.specs.Shape.{is_of, AreOf, Ends, FitsShape}
 use Rattle.spv_layout.specs.Place.{operand_words, section_of, word_count}
 use Rattle.spv_layout.specs.inner.Single.{is_single, are_single, is_single_ending, is_single_row, are_same, are_same_sections, front_of, IsFront, is_flagged, are_flagged}
 use Rattle.spv_layout.specs.inner.Test.{sort_of, sort_for}
-use Rattle.spv_layout.proofs.Derivatives.{both_hold}
+use Rattle.spv_layout.proofs.Derivatives.{both_hold, both_true}
 
 same_is : (a b : Bool) → are_same a b ≡ true → a ≡ b
 same_is true true h = refl
@@ -73,9 +73,6 @@ one_each G _ _ h (AreOf.more f o fs os k r) =
     let b = one_each G fs os p.1 r in
     let c : sum_by operand_words (o ∷ os) ≡ operand_words o + sum_by operand_words os = sum_by-cons operand_words o os in
     omega arith
-
-both_true : (a b : Bool) → a ≡ true → b ≡ true → (a && b) ≡ true
-both_true a b h g = rw (h, g) refl
 
 single_joined : (fs gs : List Form) → are_single fs ≡ true → are_single gs ≡ true → are_single (fs ++ gs) ≡ true
 single_joined [] gs h g = g

@@ -16,7 +16,7 @@ use Rattle.spv_layout.specs.Rows.{row_of}
 use Rattle.spv_layout.specs.Shape.{is_of, AreOf, Ends, FitsShape}
 use Rattle.spv_layout.specs.inner.Shape.{FitsEnding}
 use Rattle.spv_layout.specs.inner.Test.{sort_of, sort_for, are_of, are_others, is_empty, are_rounds, is_kind_and_others, fits_ending, fits_row}
-use Rattle.spv_layout.proofs.Derivatives.{both_hold}
+use Rattle.spv_layout.proofs.Derivatives.{both_hold, both_true}
 use Rattle.spv_layout.proofs.Shapes.{no_operands, are_rest, are_moved}
 
 one_holds : (a b : Bool) → (a || b) ≡ true → (a ≡ true) ⊎ (b ≡ true)
@@ -29,9 +29,6 @@ or_first a b h = rw h refl
 or_second : (a b : Bool) → b ≡ true → (a || b) ≡ true
 or_second true b h = refl
 or_second false b h = h
-
-both_true : (a b : Bool) → a ≡ true → b ≡ true → (a && b) ≡ true
-both_true a b h g = rw (h, g) refl
 
 pub tested_are : (G : Table) (fs : List Form) (os : List Plain) → are_of G fs os ≡ true → AreOf G fs os
 tested_are G [] [] h = AreOf.none

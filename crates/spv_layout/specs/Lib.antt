@@ -6,6 +6,7 @@ pub mod Layout
 pub mod DeadPlace
 pub mod Shape
 pub mod Place
+pub mod Stage
 pub mod First
 pub mod Broken
 pub mod Plan

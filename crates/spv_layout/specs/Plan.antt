@@ -6,6 +6,7 @@ use Rattle.spv_layout.specs.declared.place.Place.{Place}
 use Rattle.spv_module.specs.declared.fault.Stop.{Stop}
 use Rattle.spv_module.specs.declared.fault.Stop.TheVariants.{Fault, Memory}
 use Rattle.spv_layout.specs.First.{IsFirst, IsUnbroken}
+use Rattle.spv_layout.specs.Stage.{of_profile, of_layout}
 use Rattle.spv_layout.specs.Broken.{Broken}
 use Rattle.spv_layout.specs.Layout.{IsLayout, classes}
 use Rattle.spv_layout.specs.Shape.{FitsShape}
@@ -25,10 +26,11 @@ pub record IsPlan (G : Table) (is : List PlainInst) (places : List Place) : Type
   pub count : length places ≡ length is
   pub place : (n : ℕ) (p : Place) → slice_get places n ≡ Some p → IsPlaceOf is n p
 
--- What a refusal says: want of memory; or the first broken rule of the profile, or where none is, of the layout; with
+-- What a refusal says: out of memory; or the first broken rule of the profile, or where none is, of the layout; with
 -- the number of the first word of that instruction, or at the end the number of all words.
 abbrev pub IsRefusal : Table → List PlainInst → Stop → Type 0
 IsRefusal G is Memory = Unit {0}
 IsRefusal G is (Fault f) =
-    (IsFirst (Broken G is) 1 f.rule f.inst ⊎ (IsUnbroken (Broken G is) 1 × IsFirst (Broken G is) 2 f.rule f.inst))
+    (IsFirst (Broken G is) of_profile f.rule f.inst
+    ⊎ (IsUnbroken (Broken G is) of_profile × IsFirst (Broken G is) of_layout f.rule f.inst))
     × (f.word ≡ first_word_of is f.inst)

@@ -68,6 +68,10 @@ pub record PlainRow : Type 0 where
 abbrev pub row : ℕ → ℕ → Class → List Form → RowEnding → PlainRow
 row from to class fixed ending = record { from = from; to = to; class = class; fixed = fixed; ending = ending }
 
+-- a row of one opcode [own]
+abbrev pub on : ℕ → Class → List Form → RowEnding → PlainRow
+on opcode class fixed ending = row opcode opcode class fixed ending
+
 -- the first row that has the opcode [own]
 abbrev pub row_in : List PlainRow → ℕ → Option PlainRow
 row_in [] n = None

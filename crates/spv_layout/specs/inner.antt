@@ -8,3 +8,4 @@ pub mod Test
 pub mod Row
 pub mod Shape
 pub mod Layout
+pub mod Outcome

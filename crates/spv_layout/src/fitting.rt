@@ -143,6 +143,15 @@ fn is_told(kinds: &Kinds<'_>, form: Form, operand: Operand<'_>) -> bool
     }
 }
 
+/// Whether it is told at once that two operands are of a form each.
+#[inline(always)]
+fn are_two_told(kinds: &Kinds<'_>, a: Form, w: Operand<'_>, b: Form, x: Operand<'_>) -> bool
+    ensures { result ≡ true → (is_of kinds.now a (plain_operand w.entry) ≡ true)
+        × (is_of kinds.now b (plain_operand x.entry) ≡ true) }
+{
+    is_told(kinds, a, w) && is_told(kinds, b, x)
+}
+
 /// Whether it is told at once that operands are of these forms, one by one: of four at most, which most instructions
 /// have.
 #[inline(always)]
@@ -152,15 +161,10 @@ fn are_told(kinds: &Kinds<'_>, forms: &[Form], operands: &[Operand<'_>]) -> bool
     match (forms, operands) {
         ([], []) => true,
         ([a], [w]) => is_told(kinds, *a, *w),
-        ([a, b], [w, x]) => is_told(kinds, *a, *w) && is_told(kinds, *b, *x),
-        ([a, b, c], [w, x, y]) => {
-            is_told(kinds, *a, *w) && is_told(kinds, *b, *x) && is_told(kinds, *c, *y)
-        }
+        ([a, b], [w, x]) => are_two_told(kinds, *a, *w, *b, *x),
+        ([a, b, c], [w, x, y]) => { are_two_told(kinds, *a, *w, *b, *x) && is_told(kinds, *c, *y) }
         ([a, b, c, d], [w, x, y, z]) => {
-            is_told(kinds, *a, *w)
-                && is_told(kinds, *b, *x)
-                && is_told(kinds, *c, *y)
-                && is_told(kinds, *d, *z)
+            are_two_told(kinds, *a, *w, *b, *x) && are_two_told(kinds, *c, *y, *d, *z)
         }
         _ => false,
     }

@@ -18,6 +18,6 @@ pub use class::Class;
 pub use form::Role;
 pub use place::Place;
 pub use plan::{Plan, lay_out};
-pub use roles::role;
+pub use roles::{id_at, id_of, role};
 pub use rows::row;
 pub use state::{State, next, stops};

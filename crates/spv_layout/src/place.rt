@@ -1,6 +1,7 @@
 ghost use Rattle.std.specs.Prelude.{◌≡◌, ◌+◌, ◌<◌, ◌≤◌, true, length, None, IfErr, OnOk};
 ghost use Rattle.std.specs.Vec.{vec_len, vec_capacity};
 ghost use Rattle.spv_layout.specs.inner.Single.{IsFront};
+ghost use Rattle.spv_words.specs.Header.{greatest_length};
 ghost use Rattle.spv_module.specs.Module.{plain_inst, plain_operand};
 ghost use Rattle.spv_module.specs.declared.fault.Stop.TheVariants.{Memory};
 ghost use Rattle.spv_layout.specs.Place as specs;
@@ -117,7 +118,7 @@ fn operand_words(operand: Operand<'_>) -> usize
 /// How many words an instruction has that fits a row.
 #[inline(always)]
 pub fn words_of(inst: &Inst<'_>, row: &Row) -> u32
-    requires words { specs.word_count (plain_inst inst.now) ≤ 4194304 }
+    requires words { specs.word_count (plain_inst inst.now) ≤ greatest_length }
     requires single { row.now.single ≡ true
         → specs.word_count (plain_inst inst.now) ≡ 1 + length (plain_inst inst.now).operands }
     requires front { IsFront (plain_inst inst.now).operands row.now.front }
@@ -134,7 +135,7 @@ pub fn words_of(inst: &Inst<'_>, row: &Row) -> u32
 #[cold]
 #[inline(never)]
 fn words_past(inst: &Inst<'_>, front: u8) -> u32
-    requires words { specs.word_count (plain_inst inst.now) ≤ 4194304 }
+    requires words { specs.word_count (plain_inst inst.now) ≤ greatest_length }
     requires front { IsFront (plain_inst inst.now).operands front }
     ensures { result ≡ specs.word_count (plain_inst inst.now) }
 {
@@ -150,7 +151,7 @@ fn words_past(inst: &Inst<'_>, front: u8) -> u32
 /// How many words an instruction has.
 #[inline(never)]
 pub fn inst_words(inst: &Inst<'_>) -> u32
-    requires { specs.word_count (plain_inst inst.now) ≤ 4194304 }
+    requires { specs.word_count (plain_inst inst.now) ≤ greatest_length }
     ensures { result ≡ specs.word_count (plain_inst inst.now) }
 {
     let mut count = 1;

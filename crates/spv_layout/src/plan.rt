@@ -1,15 +1,18 @@
-ghost use Rattle.std.specs.Prelude.{◌≡◌, ◌+◌, ◌≤◌, ◌<◌, ℕ, length, map, sum_by, slice_get, IfOk};
+ghost use Rattle.std.specs.Prelude.{◌≡◌, ◌≤◌, ◌<◌, ℕ, List, length, map, slice_get, IfOk};
 ghost use Rattle.std.specs.Prelude.{IfErr, IfSome, IfNone, Some};
+ghost use Rattle.spv_words.specs.Header.{greatest_length};
 ghost use Rattle.spv_module.specs.Module.{plain_inst, plain_insts};
 ghost use Rattle.spv_module.specs.Operand.{PlainInst};
 ghost use Rattle.spv_module.specs.declared.fault.Rule.TheVariants as rule;
 ghost use Rattle.spv_module.specs.declared.fault.Stop.TheVariants as stop;
 ghost use Rattle.spv_layout.specs.First.{IsFirst};
+ghost use Rattle.spv_layout.specs.Stage.{of_profile};
 ghost use Rattle.spv_layout.specs.Broken.{Broken};
 ghost use Rattle.spv_layout.specs.DeadPlace.{IsDeadPlace};
 ghost use Rattle.spv_layout.specs.Shape.{FitsShape};
-ghost use Rattle.spv_layout.specs.Place.{word_count, first_word_of};
+ghost use Rattle.spv_layout.specs.Place.{IsShort, first_word_of};
 ghost use Rattle.spv_layout.specs.inner.Kept.{AreSectioned};
+ghost use Rattle.spv_layout.specs.inner.Outcome.{ArePlacesOf, IsStopAt};
 ghost use Rattle.spv_layout.specs.Plan.{IsPlan, IsRefusal};
 
 use crate::fitting::fitting;
@@ -64,13 +67,29 @@ impl Plan {
             None
         }
     }
+
+    /// The fault of a rule at an instruction, with that one's first word. The module has an instruction of that number,
+    /// from 0. It takes no memory.
+    pub fn stop_at(&self, rule: Rule, inst: u32) -> Stop
+        requires { inst < length self.now }
+        ensures { (is : List PlainInst) → ArePlacesOf is self.now → IsStopAt is rule inst result }
+    {
+        let Some(place) = self.at(inst) else {
+            unreachable!();
+        };
+        Stop::Fault(Fault {
+            rule,
+            inst,
+            word: place.word,
+        })
+    }
 }
 
 /// A broken rule at an instruction with that first word.
 #[cold]
 #[inline(never)]
 fn fault(rule: Rule, inst: usize, word: u32) -> Stop
-    requires { inst ≤ 4194304 }
+    requires { inst ≤ greatest_length }
     ensures { result ≡ stop.Fault (record { rule = rule; inst = inst; word = word }) }
 {
     Stop::Fault(Fault {
@@ -82,7 +101,7 @@ fn fault(rule: Rule, inst: usize, word: u32) -> Stop
 
 /// The first instruction that does not fit its row.
 fn first_misfit(kinds: &Kinds<'_>, insts: &[Inst<'_>]) -> Option<usize>
-    ensures some { IfSome result (λ n. IsFirst (Broken kinds.now (map plain_inst insts.now)) 1 rule.P1 n) }
+    ensures some { IfSome result (λ n. IsFirst (Broken kinds.now (map plain_inst insts.now)) of_profile rule.P1 n) }
     ensures within { IfSome result (λ n. n < length insts.now) }
     ensures none { IfNone result ((n : ℕ) (i : PlainInst) → slice_get (map plain_inst insts.now) n ≡ Some i
         → FitsShape kinds.now i) }
@@ -97,7 +116,7 @@ fn first_misfit(kinds: &Kinds<'_>, insts: &[Inst<'_>]) -> Option<usize>
 
 /// The number of an instruction's first word, or at the end of all words.
 fn word_at(insts: &[Inst<'_>], n: usize) -> u32
-    requires words { 5 + sum_by word_count (map plain_inst insts.now) ≤ 4194304 }
+    requires words { IsShort (map plain_inst insts.now) }
     requires within { n ≤ length insts.now }
     ensures { result ≡ first_word_of (map plain_inst insts.now) n }
 {
@@ -113,7 +132,7 @@ fn word_at(insts: &[Inst<'_>], n: usize) -> u32
 #[cold]
 #[inline(never)]
 fn refused(kinds: &Kinds<'_>, insts: &[Inst<'_>], rule: Rule, inst: usize, word: u32) -> Stop
-    requires words { 5 + sum_by word_count (map plain_inst insts.now) ≤ 4194304 }
+    requires words { IsShort (map plain_inst insts.now) }
     requires dead { IsDeadPlace (map plain_inst insts.now) rule inst }
     requires within { inst ≤ length insts.now }
     requires word { word ≡ first_word_of (map plain_inst insts.now) inst }
@@ -144,7 +163,7 @@ fn count_early(insts: &[Inst<'_>]) -> usize
 /// Lays instructions out, in one pass.
 #[inline(never)]
 fn plan_of(alloc: Global, kinds: &Kinds<'_>, insts: &[Inst<'_>]) -> Result<Plan, Stop>
-    requires words { 5 + sum_by word_count (map plain_inst insts.now) ≤ 4194304 }
+    requires words { IsShort (map plain_inst insts.now) }
     ensures plan { IfOk result (λ p. IsPlan kinds.now (map plain_inst insts.now) p) }
     ensures refused { IfErr result (λ s. IsRefusal kinds.now (map plain_inst insts.now) s) }
 {
@@ -182,8 +201,7 @@ fn plan_of(alloc: Global, kinds: &Kinds<'_>, insts: &[Inst<'_>]) -> Result<Plan,
 /// stand in the order of the sections (SPIR-V Specification 1.6, section 2.4).
 ///
 /// A `Fault` tells the first broken rule, the number of its instruction, from 0, and that of the instruction's first
-/// word
-/// in the module:
+/// word in the module:
 /// - P1, wherever it stands: the opcode has no row, or the operands do not fit it (own).
 /// - L1, where no instruction breaks P1: no module goes on with this instruction after those before it (2.4).
 /// - L2, where none breaks P1 or L1: the module ends too early. The numbers are those of all instructions and all
@@ -193,7 +211,7 @@ fn plan_of(alloc: Global, kinds: &Kinds<'_>, insts: &[Inst<'_>]) -> Result<Plan,
 ///
 /// A module that was decoded has few enough words: the law `word_counts` says how many.
 pub fn lay_out(alloc: Global, table: &Table, module: &Module<'_>) -> Result<Plan, Stop>
-    requires { 5 + sum_by word_count (plain_insts «module».now) ≤ 4194304 }
+    requires { IsShort (plain_insts «module».now) }
     ensures plan { IfOk result (λ p. IsPlan table.now (plain_insts «module».now) p) }
     ensures refused { IfErr result (λ s. IsRefusal table.now (plain_insts «module».now) s) }
 {

@@ -1,6 +1,6 @@
 //! What the operands of an instruction are used as.
 
-ghost use Rattle.std.specs.Prelude.{◌≡◌, ◌≤◌, ◌<◌, ◌-◌, ◌%◌, ℕ, length, map, slice_get, Some};
+ghost use Rattle.std.specs.Prelude.{◌≡◌, ◌≤◌, ◌<◌, ◌-◌, ◌%◌, ℕ, length, map, option_and_then, slice_get, Some};
 ghost use Rattle.spv_table.specs.Table.{Table};
 ghost use Rattle.spv_module.specs.Module.{plain_inst, plain_operand};
 ghost use Rattle.spv_layout.specs.inner.Row.{plain_ending, plain_row};
@@ -12,6 +12,32 @@ ghost use Rattle.spv_layout.specs.inner.Test as test;
 use crate::form::{Ending, Form, Role, Row};
 use crate::rows::row;
 use spv_module::{Inst, Operand};
+
+/// The id that an operand is, whatever it is used as: a type, a result, or another id.
+#[inline(always)]
+pub fn id_of(operand: Operand<'_>) -> Option<u32>
+    ensures { result ≡ shape.id_of (plain_operand operand.entry) }
+{
+    match operand {
+        Operand::OfType(id) => Some(id),
+        Operand::Result(id) => Some(id),
+        Operand::Id(id) => Some(id),
+        _ => None,
+    }
+}
+
+/// The id that operand `n`, from 0, of an instruction is, if there is one of that number that is an id.
+#[inline(always)]
+pub fn id_at(inst: &Inst<'_>, n: usize) -> Option<u32>
+    ensures { result ≡ option_and_then shape.id_of (slice_get (plain_inst inst.now).operands n) }
+{
+    let operands = inst.operands.as_slice();
+    if n < operands.len() {
+        id_of(operands[n])
+    } else {
+        None
+    }
+}
 
 /// The role in which an operand of a form is used.
 fn role_of(form: Form, operand: Operand<'_>) -> Option<Role>

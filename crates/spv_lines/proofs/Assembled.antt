@@ -5,7 +5,8 @@ use Rattle.spv_table.specs.Table.{Table, pattern_of}
 use Rattle.spv_module.specs.Operand.{PlainInst, start, result_in}
 use Rattle.spv_inst.specs.Flat.{due}
 use Rattle.spv_module.specs.Instruction.{IsInstruction, Listing, IsListing, first_word}
-use Rattle.spv_inst.specs.Encoding.{HeaderFits, greatest_length}
+use Rattle.spv_words.specs.Header.{greatest_length}
+use Rattle.spv_inst.specs.Limits.{HeaderFits}
 use Rattle.spv_inst.proofs.Joined.{flat_match}
 use Rattle.spv_lines.specs.declared.asm_error.AsmCode.{AsmCode}
 use Rattle.spv_lines.specs.Operand.{IsRead}

@@ -6,6 +6,7 @@ use Rattle.spv_table.specs.declared.table.Category.{Category}
 use Rattle.spv_table.specs.declared.table.Category.TheVariants as category
 use Rattle.spv_table.specs.declared.table.Enumerant.{Enumerant}
 use Rattle.spv_table.specs.Table.{Table, Sort, kind_of, first_with}
+use Rattle.spv_module.specs.declared.opcode.TheConstants.{SWITCH}
 use Rattle.spv_module.specs.Operand.{Plain, Context}
 use Rattle.spv_module.specs.Shape.{Slot, alone, Shape, AsType, AsResult, AsId, AsWord, AsNumber, AsText, AsValue, AsMask, AsParts, AsNothing, bases, integer_shape, shape_of, kind_shape, category_shape}
 use Rattle.spv_module.specs.Width.{switch_width, context_width}
@@ -144,7 +145,7 @@ category_free : (G : Table) (c : Context) (p : Bool) (s : Sort) (k : Category) â
 category_free G c p s category.Id h = rw (id_plain (bytes_eq s.kind.name (codes "IdResultType")) (bytes_eq s.kind.name (codes "IdResult"))) tt
 category_free G c p s category.Literal h =
     rw (literal_plain (bytes_eq s.kind.name (codes "LiteralInteger")) (bytes_eq s.kind.name (codes "LiteralFloat") || bytes_eq s.kind.name (codes "LiteralExtInstInteger")) (bytes_eq s.kind.name (codes "LiteralString"))
-    (bytes_eq s.kind.name (codes "LiteralContextDependentNumber")) (integer_shape c p) (context_width c) (integer_plain (p && nat_eq c.opcode 251) (switch_width c))) tt
+    (bytes_eq s.kind.name (codes "LiteralContextDependentNumber")) (integer_shape c p) (context_width c) (integer_plain (p && nat_eq c.opcode SWITCH) (switch_width c))) tt
 category_free G c p s category.ValueEnum h = and_left (list_all (are_free G) s.enumerants) (list_all (is_other G) s.kind.bases) h
 category_free G c p s category.BitEnum h = and_left (list_all (are_free G) s.enumerants) (list_all (is_other G) s.kind.bases) h
 category_free G c p s category.Composite h = free_bases G s.kind.name s.kind.bases (and_right (list_all (are_free G) s.enumerants) (list_all (is_other G) s.kind.bases) h)

@@ -12,7 +12,7 @@ use Rattle.spv_module.specs.Shape.{Slot, Shape, shape_of}
 use Rattle.spv_module.specs.Spelling.{Takes, result_type, result, id, word, narrow, wide, text, value, mask}
 use Rattle.spv_inst.specs.Flat.{Due, OneOf, ManyOf, due}
 use Rattle.spv_inst.specs.inner.Flat.{Matches}
-use Rattle.spv_inst.specs.Encoding.{HeaderFits}
+use Rattle.spv_inst.specs.Limits.{HeaderFits}
 use Rattle.spv_inst.proofs.Flat.{same_bases, no_words, no_operands}
 use Rattle.spv_inst.proofs.Takes.{takes_back, takes_no_parts}
 use Rattle.spv_lines.specs.Operand.{Form, IsRead, id_text}

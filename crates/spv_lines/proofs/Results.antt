@@ -5,6 +5,7 @@ use Rattle.std.specs.List.{AllByRecursion, list_any}
 use Rattle.spv_table.specs.declared.table.Category.{Category}
 use Rattle.spv_table.specs.declared.table.Category.TheVariants as category
 use Rattle.spv_table.specs.Table.{Table, Sort, Item, One, Maybe, Many, kind_of}
+use Rattle.spv_module.specs.declared.opcode.TheConstants.{SWITCH}
 use Rattle.spv_module.specs.Operand.{Plain, Context, and_then, result_in}
 use Rattle.spv_module.specs.Shape.{Slot, alone, Shape, AsParts, AsNumber, AsWord, AsText, AsNothing, shape_of, kind_shape, category_shape, literal_shape, integer_shape}
 use Rattle.spv_module.specs.Width.{switch_width, context_width}
@@ -15,7 +16,7 @@ use Rattle.spv_lines.specs.Fault.{is_result_shape, must_have_result, may_have_re
 use Rattle.spv_lines.specs.Tidy.{IsTidy, AreNoResults}
 
 integer_no : (c : Context) (p : Bool) → is_result_shape (integer_shape c p) ≡ false
-integer_no c p = split (p && nat_eq c.opcode 251)
+integer_no c p = split (p && nat_eq c.opcode SWITCH)
   where
     split : (b : Bool) → is_result_shape (if b then AsNumber (switch_width c) else AsWord) ≡ false
     split true = refl

@@ -10,7 +10,8 @@ use Rattle.spv_module.specs.Operand.{PlainInst, start, result_in}
 use Rattle.spv_inst.specs.Flat.{due}
 use Rattle.spv_inst.specs.inner.Flat.{Matches}
 use Rattle.spv_module.specs.Instruction.{IsInstruction, Listing, IsListing, first_word}
-use Rattle.spv_inst.specs.Encoding.{HeaderFits, greatest_length}
+use Rattle.spv_words.specs.Header.{greatest_length}
+use Rattle.spv_inst.specs.Limits.{HeaderFits}
 use Rattle.spv_inst.proofs.Joined.{match_flat}
 use Rattle.spv_inst.proofs.Flat.{spelled_once}
 use Rattle.spv_lines.specs.Name.{is_plain, is_name_octet, Names}

@@ -10,7 +10,8 @@ use Rattle.spv_table.specs.Lookups.{opcode_named}
 use Rattle.spv_module.specs.Operand.{Plain, PlainInst, Context, start, result_in}
 use Rattle.spv_inst.specs.Flat.{due}
 use Rattle.spv_module.specs.Instruction.{first_word}
-use Rattle.spv_inst.specs.Encoding.{HeaderFits, greatest_count, greatest_length}
+use Rattle.spv_words.specs.Header.{greatest_length}
+use Rattle.spv_inst.specs.Limits.{HeaderFits, greatest_count}
 use Rattle.spv_lines.specs.declared.asm_error.AsmCode.{AsmCode}
 use Rattle.spv_lines.specs.declared.asm_error.AsmCode.TheVariants.{S1, S2, S3, S4, S5}
 use Rattle.spv_lines.specs.Digits.{is_number, IsLarge}

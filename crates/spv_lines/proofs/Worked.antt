@@ -6,6 +6,7 @@ use Rattle.std.specs.Fmt.{digits}
 use Rattle.std.specs.List.{AllByRecursion, list_all}
 use Rattle.spv_table.specs.Table.{pattern_of}
 use Rattle.spv_table.specs.Lookups.{value_named, opcode_named}
+use Rattle.spv_module.specs.declared.opcode.TheConstants.{SWITCH}
 use Rattle.spv_module.specs.Operand.{OfType, Result, Id, Word, Number, Text, Mask, start}
 use Rattle.spv_module.specs.Shape.{alone, shape_of}
 use Rattle.spv_module.specs.Spelling.{Takes, HoldsText, mask_parameters}
@@ -123,7 +124,7 @@ load_read = record {
   small = (omega arith, (omega arith, (omega arith, (omega arith, (omega arith, tt)))));
 }
 
-switch_operands : Written (Shown small) small None (start long_value 251) (map due (pattern_of switch_entry)) switch.operands (2 ∷ 10 ∷ 7 ∷ 1 ∷ 11 ∷ []) (codes " %2 %10 4294967303 %11")
+switch_operands : Written (Shown small) small None (start long_value SWITCH) (map due (pattern_of switch_entry)) switch.operands (2 ∷ 10 ∷ 7 ∷ 1 ∷ 11 ∷ []) (codes " %2 %10 4294967303 %11")
 unfolding shape_of digits
 switch_operands =
     Written.take _ _ _ (Id 2) (2 ∷ []) [] (codes " %2") _ _ _ (Takes.id 2) (Piece.other (Id 2) (codes "%2") refl refl) (

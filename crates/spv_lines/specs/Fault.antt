@@ -3,13 +3,13 @@ use Rattle.std.specs.Prelude.{◌≡◌, ◌<◌, ◌≤◌, ◌+◌, ◌^◌, �
 use Rattle.std.specs.Prelude.{◌∷◌, Option, Some, None, Bool, true, false, map, length, slice_get, codes, decimal}
 use Rattle.std.specs.List.{list_any}
 use Rattle.spv_words.specs.declared.words.Header.{Header}
-use Rattle.spv_words.specs.Header.{greatest_bound}
+use Rattle.spv_words.specs.Header.{greatest_bound, greatest_length}
 use Rattle.spv_table.specs.declared.table.Entry.{Entry}
 use Rattle.spv_table.specs.Table.{Table, Item, One, Maybe, Many, pattern_of}
 use Rattle.spv_module.specs.Operand.{PlainInst, Context, start}
 use Rattle.spv_module.specs.Shape.{alone, Shape, AsResult, shape_of}
 use Rattle.spv_inst.specs.Flat.{due}
-use Rattle.spv_inst.specs.Encoding.{HeaderFits, greatest_count, greatest_length}
+use Rattle.spv_inst.specs.Limits.{HeaderFits, greatest_count}
 use Rattle.spv_lines.specs.declared.asm_error.AsmCode.{AsmCode}
 use Rattle.spv_lines.specs.declared.asm_error.AsmCode.TheVariants.{S1, S2, S3, S4, S5, S6}
 use Rattle.spv_lines.specs.Digits.{IsLarge}
@@ -133,7 +133,7 @@ pub data IsFailure (G : Table) (t : List ℕ) : AsmCode → ℕ → Type 0 where
       → lines_of t ≡ header_lines h ++ lines
       → LinesFail G [] 5 lines code n → IsFailure G t code (6 + n)
 
--- what an error of `assemble` says: where the text fails, or want of memory [own]
+-- what an error of `assemble` says: where the text fails, or that memory ran out [own]
 abbrev pub IsAsmFailure : Table → List ℕ → AsmCode → ℕ → Type 0
 IsAsmFailure G t S6 n = n ≡ 0
 IsAsmFailure G t code n = IsFailure G t code n

@@ -4,6 +4,7 @@ use Rattle.std.specs.Prelude.{true, false, not, nat_eq, is_some, if◌then◌els
 use Rattle.std.specs.Prelude.{unwrap_or, bytes_eq, codes, decimal}
 use Rattle.spv_table.specs.Table.{Table, Sort, kind_of}
 use Rattle.spv_table.specs.Lookups.{value_named}
+use Rattle.spv_module.specs.declared.opcode.TheConstants.{TYPE_FLOAT}
 use Rattle.spv_module.specs.Operand.{Plain, OfType, Result, Id, Word, Number, Text, Value, Mask, PlainInst, Context}
 use Rattle.spv_module.specs.Operand.{result_in, type_in}
 use Rattle.spv_module.specs.Width.{definition_of, type_of, first_id}
@@ -40,10 +41,10 @@ number_type c None = None
 number_type c (Some s) = if bytes_eq s.kind.name (codes "LiteralContextDependentNumber") then type_in c.operands
     else option_and_then (type_of c.before) (first_id c.operands)
 
--- is an id, if there is one, that of a float type: is its last definition an OpTypeFloat, which has opcode 22 [own]
+-- is an id, if there is one, that of a float type: is its last definition an OpTypeFloat [own]
 abbrev pub is_float_type : List PlainInst → Option ℕ → Bool
 is_float_type before t =
-    unwrap_or (option_map (λ i. nat_eq i.opcode 22) (option_and_then (definition_of before) t)) false
+    unwrap_or (option_map (λ i. nat_eq i.opcode TYPE_FLOAT) (option_and_then (definition_of before) t)) false
 
 -- is the type of a number at a slot a float type [own]
 abbrev pub is_float : Table → Context → Slot → Bool

@@ -1,12 +1,13 @@
 -- The text of a module: how it is shown, what it is read as. (Own.)
 use Rattle.std.specs.Prelude.{◌≡◌, ◌<◌, ◌≤◌, ◌+◌, ◌^◌, ◌++◌, ℕ, List, [], ◌∷◌}
-use Rattle.std.specs.Prelude.{nat_eq, if◌then◌else◌, length, codes, decimal}
+use Rattle.std.specs.Prelude.{nat_eq, if◌then◌else◌, length, codes, decimal, slice_get, unwrap_or}
 use Rattle.std.specs.List.{onto_first}
 use Rattle.spv_words.specs.declared.words.Header.{Header}
 use Rattle.spv_table.specs.Table.{Table}
 use Rattle.spv_module.specs.Operand.{PlainInst}
 use Rattle.spv_module.specs.Instruction.{first_word}
-use Rattle.spv_inst.specs.Encoding.{HeaderFits, greatest_count, greatest_length}
+use Rattle.spv_words.specs.Header.{greatest_length}
+use Rattle.spv_inst.specs.Limits.{HeaderFits, greatest_count}
 use Rattle.spv_lines.specs.Line.{IsShownLine, IsReadLine}
 
 -- the lines of a module before its instructions [own]
@@ -37,6 +38,10 @@ pub data ShownLines (G : Table) : List PlainInst → List PlainInst → List (Li
       (lines : List (List ℕ))
       → IsShownLine G before i further line → ShownLines G (before ++ (i ∷ [])) is lines
       → ShownLines G before (i ∷ is) (line ∷ lines)
+
+-- the line of an instruction by its number, from 0, among the lines of all; nothing where there is none [own]
+abbrev pub inst_line : List (List ℕ) → ℕ → List ℕ
+inst_line lines n = unwrap_or (slice_get lines n) []
 
 -- The text is the shown one of the header and the list of instructions. [own]
 pub record IsShownText (G : Table) (h : Header) (is : List PlainInst) (t : List ℕ) : Type 0 where

@@ -6,6 +6,7 @@ use Rattle.spv_table.specs.declared.table.Quantifier.TheVariants.{One, Maybe, Ma
 use Rattle.spv_table.specs.declared.table.Enumerant.{Enumerant}
 use Rattle.spv_table.specs.declared.table.Entry.{Entry}
 use Rattle.spv_table.specs.Table.{Sort, Table}
+use Rattle.spv_module.specs.declared.opcode.TheConstants as opcode
 use Rattle.spv_module.specs.Operand.{OfType, Result, Word, Number, Text, Mask, PlainInst}
 use Rattle.spv_module.specs.Operand as operand
 
@@ -79,35 +80,36 @@ abbrev pub small : Table
 small = record {
   kinds = small_kinds;
   entries =
-      (61, load_entry) ∷ (7, string_entry) ∷ (21, int_entry) ∷ (251, switch_entry) ∷ [];
+      (opcode.LOAD, load_entry) ∷ (opcode.STRING, string_entry) ∷ (opcode.TYPE_INT, int_entry)
+      ∷ (opcode.SWITCH, switch_entry) ∷ [];
 }
 
 -- %9 = OpLoad %2 %8 Volatile|Aligned 4
 abbrev pub load : PlainInst
-load = record { opcode = 61; operands = OfType 2 ∷ Result 9 ∷ operand.Id 8 ∷ Mask 3 3 ∷ Word 4 ∷ [] }
+load = record { opcode = opcode.LOAD; operands = OfType 2 ∷ Result 9 ∷ operand.Id 8 ∷ Mask 3 3 ∷ Word 4 ∷ [] }
 
 -- %5 = OpString "abc"
 abbrev pub string : PlainInst
-string = record { opcode = 7; operands = Result 5 ∷ Text (codes "abc") ∷ [] }
+string = record { opcode = opcode.STRING; operands = Result 5 ∷ Text (codes "abc") ∷ [] }
 
 -- %1 = OpTypeInt 64 0, and %2 of this type
 abbrev pub long_value : List PlainInst
 long_value =
-    record { opcode = 21; operands = Result 1 ∷ Word 64 ∷ Word 0 ∷ [] } ∷ record {
-      opcode = 61;
+    record { opcode = opcode.TYPE_INT; operands = Result 1 ∷ Word 64 ∷ Word 0 ∷ [] } ∷ record {
+      opcode = opcode.LOAD;
       operands =
           OfType 1 ∷ Result 2 ∷ operand.Id 8 ∷ [];
     } ∷ []
 
 -- OpSwitch %2 %10 4294967303 %11
 abbrev pub switch : PlainInst
-switch = record { opcode = 251; operands = operand.Id 2 ∷ operand.Id 10 ∷ Number 7 1 2 ∷ operand.Id 11 ∷ [] }
+switch = record { opcode = opcode.SWITCH; operands = operand.Id 2 ∷ operand.Id 10 ∷ Number 7 1 2 ∷ operand.Id 11 ∷ [] }
 
 -- %1 = OpTypeInt 32 0, and %1 = OpTypeInt 64 0
 abbrev pub declared_twice : List PlainInst
 declared_twice =
-    record { opcode = 21; operands = Result 1 ∷ Word 32 ∷ Word 0 ∷ [] } ∷ record {
-      opcode = 21;
+    record { opcode = opcode.TYPE_INT; operands = Result 1 ∷ Word 32 ∷ Word 0 ∷ [] } ∷ record {
+      opcode = opcode.TYPE_INT;
       operands =
           Result 1 ∷ Word 64 ∷ Word 0 ∷ [];
     } ∷ []

@@ -5,6 +5,7 @@ use Rattle.spv_table.specs.declared.table.Enumerant.{Enumerant}
 use Rattle.spv_table.specs.declared.table.Category.{Category}
 use Rattle.spv_table.specs.declared.table.Category.TheVariants as category
 use Rattle.spv_table.specs.Table.{Table, Sort, kind_of}
+use Rattle.spv_module.specs.declared.opcode.TheConstants.{SWITCH}
 use Rattle.spv_module.specs.Operand.{Context}
 use Rattle.spv_module.specs.Width.{context_width, switch_width}
 
@@ -31,9 +32,9 @@ pub data Shape : Type 0 where
   AsParts : List Slot → Shape
   AsNothing : Shape
 
--- a LiteralInteger: a number inside a pair in opcode 251 (OpSwitch), else a word [own]
+-- a LiteralInteger: a number inside a pair in OpSwitch, else a word [own]
 abbrev pub integer_shape : Context → Bool → Shape
-integer_shape c paired = if paired && nat_eq c.opcode 251 then AsNumber (switch_width c) else AsWord
+integer_shape c paired = if paired && nat_eq c.opcode SWITCH then AsNumber (switch_width c) else AsWord
 
 -- by the name of an Id kind [own]
 abbrev pub id_shape : List ℕ → Shape

@@ -1,6 +1,7 @@
 -- How wide a number is.
 use Rattle.std.specs.Prelude.{ℕ, List, [], ◌∷◌, Option, Some, None, Bool, false, nat_eq, nat_le, ◌&&◌}
 use Rattle.std.specs.Prelude.{◌||◌, if◌then◌else◌, option_and_then}
+use Rattle.spv_module.specs.declared.opcode.TheConstants.{TYPE_INT, TYPE_FLOAT}
 use Rattle.spv_module.specs.Operand.{Plain, OfType, Result, Id, Word, PlainInst, result_in, type_in, Context}
 
 -- is the id the instruction's result [own]
@@ -23,9 +24,9 @@ abbrev pub width_in : List Plain → Option ℕ
 width_in (Result _ ∷ Word w ∷ _) = if nat_le 1 w && nat_le w 64 then Some w else None
 width_in _ = None
 
--- the width of a type declaration: opcode 21 is OpTypeInt, 22 OpTypeFloat [2.2.1]
+-- the width that an OpTypeInt or OpTypeFloat declares [2.2.1]
 abbrev pub declared_width : PlainInst → Option ℕ
-declared_width i = if nat_eq i.opcode 21 || nat_eq i.opcode 22 then width_in i.operands else None
+declared_width i = if nat_eq i.opcode TYPE_INT || nat_eq i.opcode TYPE_FLOAT then width_in i.operands else None
 
 -- the width of a type id [2.2.1]
 abbrev pub width_of : List PlainInst → ℕ → Option ℕ

@@ -13,7 +13,7 @@ pub enum Rule {
     I2,
     /// The opcode has no entry in the grammar table.
     I3,
-    /// An operand's word is missing; it is told by the word after the instruction's last.
+    /// An operand's word is missing; it is reported as the word after the instruction's last.
     I4,
     /// Words are left after the pattern of the operands.
     I5,

@@ -3,6 +3,7 @@
 
 mod fault;
 mod module;
+pub mod opcode;
 mod operand;
 mod operands;
 mod results;

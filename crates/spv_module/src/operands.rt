@@ -49,7 +49,7 @@ impl<'a> Operands<'a> {
         })
     }
 
-    /// So many operands of a shared list, from a place on. The error is want of memory.
+    /// So many operands of a shared list, from a place on. The error is that memory ran out.
     pub fn part(
         shared: &Rc<Vec<Operand<'a>>>,
         first: u32,

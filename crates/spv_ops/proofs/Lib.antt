@@ -2,7 +2,6 @@ pub mod TagTests
 pub mod Short
 pub mod Lookups
 pub mod TwoTypes
-pub mod Opcodes
 pub mod Rows
 pub mod ValuePlaces
 pub mod Judged

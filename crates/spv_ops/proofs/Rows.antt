@@ -7,7 +7,7 @@ use Rattle.spv_ops.specs.declared.row.Row.{Row}
 use Rattle.spv_ops.specs.declared.row.Row.TheVariants.{Free}
 use Rattle.spv_ops.specs.Row.{Entry, rows, row_in, row_of}
 use Rattle.spv_ops.specs.inner.Number.{numbered}
-use Rattle.spv_ops.proofs.Opcodes.{both}
+use Rattle.spv_type_forms.proofs.Opcodes.{both}
 
 -- the rows of numbers, and those of count opcodes, from n on
 abbrev pub all_numbered : List Row → List ℕ → List Row

@@ -14,7 +14,7 @@ use Rattle.spv_ops.specs.declared.row.Row.{Row}
 use Rattle.spv_ops.specs.declared.row.Row.TheVariants as row
 use Rattle.spv_ops.specs.Row.{row_of}
 use Rattle.spv_type_forms.specs.Operands.{ids_in, after_head}
-use Rattle.spv_ops.proofs.Opcodes.{both, and_yes, all_pass, one_passes}
+use Rattle.spv_type_forms.proofs.Opcodes.{both, and_yes, all_pass, one_passes}
 use Rattle.spv_type_forms.specs.Values.{value_in, used_in, paired_ids_in}
 use Rattle.spv_ops.specs.Values.{initializers_in, value_ids, values_of}
 

@@ -3,7 +3,6 @@ pub mod Common
 pub mod Tests
 pub mod Typed
 pub mod Number
-pub mod Row
 pub mod Access
 pub mod Composite
 pub mod Variable

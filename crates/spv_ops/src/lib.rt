@@ -14,8 +14,4 @@ mod typed;
 mod variable;
 
 pub use row::{Access, Calculation, Composite, Row};
-pub use spv_type_forms::{
-    Components, Definitions, Form, Parts, Scalar, Sort, after_head, after_result, count, fills,
-    form_in, id_count, is_data, is_int, length, parts_of, points_to, type_in,
-};
 pub use typed::{inst_holds, op_holds};

@@ -5,34 +5,13 @@ use Rattle.std.specs.Option.{option_or}
 use Rattle.std.specs.Prelude.{if◌then◌else◌}
 use Rattle.spv_module.specs.Operand.{Plain, OfType, Result, Id, Word, Number, Text, Value, Mask, result_in, type_in}
 use Rattle.spv_module.specs.Width.{first_id, width_in}
+use Rattle.spv_tokens.proofs.OneMore.{result_snoc, type_snoc}
 use Rattle.spv_parser.specs.declared.operands.Known.{Known}
 use Rattle.spv_parser.specs.inner.Kept.{IsOfOperands, count_of, first_after, width_after}
 
 -- how many operands there are, with one more, up to two
 abbrev pub count_more : ℕ → ℕ
 count_more n = if nat_eq n 0 then 1 else 2
-
-pub result_snoc : (os : List Plain) (o : Plain) → option_or (result_in os) (result_in (o ∷ [])) ≡ result_in (os ++ (o ∷ []))
-result_snoc [] o = refl
-result_snoc (OfType x ∷ os) o = result_snoc os o
-result_snoc (Result x ∷ os) o = refl
-result_snoc (Id x ∷ os) o = result_snoc os o
-result_snoc (Word x ∷ os) o = result_snoc os o
-result_snoc (Number a b n ∷ os) o = result_snoc os o
-result_snoc (Text t ∷ os) o = result_snoc os o
-result_snoc (Value k x ∷ os) o = result_snoc os o
-result_snoc (Mask k x ∷ os) o = result_snoc os o
-
-pub type_snoc : (os : List Plain) (o : Plain) → option_or (type_in os) (type_in (o ∷ [])) ≡ type_in (os ++ (o ∷ []))
-type_snoc [] o = refl
-type_snoc (OfType x ∷ os) o = refl
-type_snoc (Result x ∷ os) o = type_snoc os o
-type_snoc (Id x ∷ os) o = type_snoc os o
-type_snoc (Word x ∷ os) o = type_snoc os o
-type_snoc (Number a b n ∷ os) o = type_snoc os o
-type_snoc (Text t ∷ os) o = type_snoc os o
-type_snoc (Value k x ∷ os) o = type_snoc os o
-type_snoc (Mask k x ∷ os) o = type_snoc os o
 
 first_same : (o : Plain) (xs ys : List Plain) → first_id (o ∷ xs) ≡ first_id (o ∷ ys)
 first_same (OfType x) xs ys = refl

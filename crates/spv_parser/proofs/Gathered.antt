@@ -7,7 +7,8 @@ use Rattle.spv_module.specs.Operand.{PlainInst, result_in}
 use Rattle.spv_words.specs.declared.words.Header.{Header}
 use Rattle.spv_module.specs.Instruction.{first_word, IsListing}
 use Rattle.spv_inst.specs.Outcome.{IsHeaderOf}
-use Rattle.spv_inst.specs.Encoding.{HeaderFits, greatest_length}
+use Rattle.spv_words.specs.Header.{greatest_length}
+use Rattle.spv_inst.specs.Limits.{HeaderFits}
 use Rattle.spv_lines.specs.declared.asm_error.AsmCode.{AsmCode}
 use Rattle.spv_lines.specs.declared.asm_error.AsmCode.TheVariants.{S1, S2, S3, S4, S5, S6}
 use Rattle.spv_lines.specs.Text.{ReadLines, IsReadText, header_lines, lines_of}

@@ -11,6 +11,7 @@ use Rattle.spv_table.specs.declared.form.Leaf as declared
 use Rattle.spv_table.specs.declared.form.Leaf.TheVariants as leaf
 use Rattle.spv_table.specs.declared.form.Form.TheVariants.{Leaf, Parts}
 use Rattle.spv_table.specs.inner.Form.{form_at}
+use Rattle.spv_module.specs.declared.opcode.TheConstants.{SWITCH}
 use Rattle.spv_module.specs.Width.{switch_width}
 use Rattle.spv_module.specs.Shape.{alone, AsResult, AsNumber, AsWord, shape_of}
 use Rattle.spv_inst.specs.Reading.{enumerants_at}
@@ -101,7 +102,7 @@ leaf_no_result : (d : Context) (p : Bool) (es : List Enumerant) (l : declared.Le
 leaf_no_result d p es leaf.ResultType n = refl
 leaf_no_result d p es leaf.Result n = absurd (n refl)
 leaf_no_result d p es leaf.Id n = refl
-leaf_no_result d p es leaf.Integer n = if_result (Rattle.std.proofs.Common.◌&&◌ p (nat_eq d.opcode 251)) (switch_width d)
+leaf_no_result d p es leaf.Integer n = if_result (Rattle.std.proofs.Common.◌&&◌ p (nat_eq d.opcode SWITCH)) (switch_width d)
 leaf_no_result d p es leaf.Word n = refl
 leaf_no_result d p es leaf.ContextNumber n = refl
 leaf_no_result d p es leaf.Text n = refl

@@ -2,12 +2,12 @@
 use Rattle.std.proofs.Common.{◌≡◌, ◌++◌, ◌∙◌, ◌<◌, ◌≤◌, ◌+◌, ◌^◌, ℕ, List, [], ◌∷◌, length, drop, refl, sym, ap, arith}
 use Rattle.std.specs.Prelude.{Result, Ok, Err, IfOk, IfErr}
 use Rattle.spv_words.specs.declared.words.Header.{Header}
-use Rattle.spv_words.specs.Header.{IsHeader}
+use Rattle.spv_words.specs.Header.{IsHeader, greatest_length}
 use Rattle.spv_table.specs.Table.{Table, IsWhole}
 use Rattle.spv_module.specs.Operand.{PlainInst}
 use Rattle.spv_module.specs.Instruction.{IsListing}
 use Rattle.spv_inst.specs.Outcome.{IsHeaderOf}
-use Rattle.spv_inst.specs.Encoding.{HeaderFits, greatest_length}
+use Rattle.spv_inst.specs.Limits.{HeaderFits}
 use Rattle.spv_inst.specs.inner.Written.{header_words}
 use Rattle.spv_lines.specs.Line.{AreWords}
 use Rattle.spv_lines.specs.Text.{IsReadText, IsShownText}

@@ -1,4 +1,3 @@
-pub mod KindForms
 pub mod Begins
 pub mod Walks
 pub mod Taken

@@ -8,6 +8,7 @@ use Rattle.spv_table.specs.declared.form.Leaf as declared
 use Rattle.spv_table.specs.declared.form.Leaf.TheVariants as leaf
 use Rattle.spv_table.specs.declared.form.Form.TheVariants.{Leaf}
 use Rattle.spv_table.specs.inner.Form.{form_at}
+use Rattle.spv_module.specs.declared.opcode.TheConstants.{TYPE_FLOAT, TYPE_INT}
 use Rattle.spv_module.specs.Operand.{Plain, PlainInst, OfType, Result, Id, Word, Number, Text, Context, result_in, type_in}
 use Rattle.spv_module.specs.Width.{first_id, width_in, declared_width}
 use Rattle.spv_module.specs.Shape.{Slot, alone, shape_of}
@@ -22,8 +23,10 @@ use Rattle.spv_parser.specs.declared.operands.Known.{Known}
 use Rattle.spv_parser.specs.declared.operands.Line.{Line}
 use Rattle.spv_parser.specs.inner.Kept.{IsOfOperands, count_of}
 use Rattle.spv_parser.specs.inner.Reading.{AreRead, HasQuoted, HasToken, context_of}
-use Rattle.spv_parser.specs.inner.Fast.{BeginsWith, FastSoFar, Has, IsFastStep, IsFreeStep, IsNarrow}
-use Rattle.spv_parser.proofs.Begins.{of_more, result_snoc, type_snoc}
+use Rattle.spv_parser.specs.inner.Fast.{BeginsWith, FastSoFar, Has, IsFastStep, IsFreeStep}
+use Rattle.spv_tokens.specs.inner.Narrow.{IsNarrow}
+use Rattle.spv_tokens.proofs.OneMore.{result_snoc, type_snoc}
+use Rattle.spv_parser.proofs.Begins.{of_more}
 use Rattle.spv_parser.proofs.Celled.{named_step, none_by, plain_freed, quotation_step, so_far_cell}
 use Rattle.spv_parser.proofs.Plainly.{id_stepped, integer_stepped, number_stepped, result_stepped, type_stepped, word_stepped}
 use Rattle.spv_parser.proofs.Walks.{so_far_done, so_far_first, so_far_nearer, so_far_plain}
@@ -160,10 +163,10 @@ fast_more G line before opcode pattern ds ks js all items text t rest words new 
       so_far = so_far_cell G line.result before opcode pattern ds ks js all items text t rest words new a.known h.next s a.so_far e' h.step j;
     }
 
-no_width : (opcode : ℕ) (os : List Plain) → (nat_eq opcode 21 || nat_eq opcode 22) ≡ false → None ≡ declared_width (record { opcode = opcode; operands = os })
+no_width : (opcode : ℕ) (os : List Plain) → (nat_eq opcode TYPE_INT || nat_eq opcode TYPE_FLOAT) ≡ false → None ≡ declared_width (record { opcode = opcode; operands = os })
 no_width opcode os e = rw e refl
 
-pub fast_done : (G : Table) (line : Line) (before : List PlainInst) (opcode : ℕ) (pattern ds : List Due) (text t words new : List ℕ) (b : Bool) → FastSoFar G line before opcode pattern text ds t words → (nat_eq opcode 21 || nat_eq opcode 22) ≡ false → b ≡ (length t == 0)
+pub fast_done : (G : Table) (line : Line) (before : List PlainInst) (opcode : ℕ) (pattern ds : List Due) (text t words new : List ℕ) (b : Bool) → FastSoFar G line before opcode pattern text ds t words → (nat_eq opcode TYPE_INT || nat_eq opcode TYPE_FLOAT) ≡ false → b ≡ (length t == 0)
     → settled (not b) ds ≡ [] → new ≡ words → not (not b) ≡ true → AreRead G line.result before opcode pattern text new line
 fast_done G line before opcode pattern ds text t words new true a o m f n k =
     rw n (so_far_done G line.result before opcode pattern ds text t words a.known false line a.so_far (none_by true t m refl, sym a.result ∙ a.so_far.known.result) f refl

@@ -5,7 +5,8 @@ use Rattle.spv_table.specs.Table.{Table}
 use Rattle.spv_module.specs.Operand.{PlainInst}
 use Rattle.spv_module.specs.Instruction.{IsListing}
 use Rattle.spv_inst.specs.Outcome.{IsHeaderOf}
-use Rattle.spv_inst.specs.Encoding.{HeaderFits, greatest_length}
+use Rattle.spv_words.specs.Header.{greatest_length}
+use Rattle.spv_inst.specs.Limits.{HeaderFits}
 use Rattle.spv_lines.specs.Line.{AreWords}
 use Rattle.spv_lines.specs.Text.{IsReadText, IsShownText}
 use Rattle.spv_lines.specs.Tidy.{IsTidy}

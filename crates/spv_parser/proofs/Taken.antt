@@ -8,6 +8,7 @@ use Rattle.spv_table.specs.declared.form.Leaf as declared
 use Rattle.spv_table.specs.declared.form.Leaf.TheVariants as leaf
 use Rattle.spv_table.specs.declared.form.Form.TheVariants.{Leaf}
 use Rattle.spv_table.specs.inner.Form.{form_at}
+use Rattle.spv_module.specs.declared.opcode.TheConstants.{SWITCH}
 use Rattle.spv_module.specs.Operand.{Plain, Result, Text, Context, result_in, type_in}
 use Rattle.spv_module.specs.Width.{width_of, type_of, first_id, context_width, switch_width}
 use Rattle.spv_module.specs.Shape.{Slot, alone, Shape, AsResult, AsWord, AsNumber, AsText, AsNothing, shape_of}
@@ -32,7 +33,7 @@ use Rattle.spv_tokens.specs.inner.Answer.{IsTaken, IsToken}
 use Rattle.spv_parser.specs.declared.operands.Known.{Known}
 use Rattle.spv_parser.specs.inner.Kept.{IsOfOperands}
 use Rattle.spv_parser.specs.inner.Reading.{IsStep, HasQuoted, RefusesOr, told}
-use Rattle.spv_parser.proofs.KindForms.{type_by_context, type_by_switch}
+use Rattle.spv_tokens.proofs.NumberTypes.{type_by_context, type_by_switch}
 
 -- the token before a space
 pub record Spaced (u : List ℕ) : Type 0 where
@@ -84,7 +85,7 @@ token_shape : (c : Context) (p : Bool) (es : List Enumerant) (l : declared.Leaf)
 token_shape c p es leaf.ResultType n = tt
 token_shape c p es leaf.Result n = tt
 token_shape c p es leaf.Id n = tt
-token_shape c p es leaf.Integer n = number_or_word (p && nat_eq c.opcode 251) (switch_width c)
+token_shape c p es leaf.Integer n = number_or_word (p && nat_eq c.opcode SWITCH) (switch_width c)
 token_shape c p es leaf.Word n = tt
 token_shape c p es leaf.ContextNumber n = tt
 token_shape c p es leaf.Text n = absurd (n refl)
@@ -175,11 +176,11 @@ context_token G c s k x t r e f g h =
     let i = float_context G c s (e ∙ ap Leaf f) in
     as_leaf G c s k leaf.ContextNumber (is_float G c s) t r e f (rw i h')
 
-switch_at : (c : Context) (p : Bool) (opcode : ℕ) → p ≡ true → c.opcode ≡ opcode → opcode ≡ 251 → (p && nat_eq c.opcode 251) ≡ true
-switch_at c p opcode e f g = let h : nat_eq c.opcode 251 ≡ true = rw (f, g) refl in rw (e, h) refl
+switch_at : (c : Context) (p : Bool) (opcode : ℕ) → p ≡ true → c.opcode ≡ opcode → opcode ≡ SWITCH → (p && nat_eq c.opcode SWITCH) ≡ true
+switch_at c p opcode e f g = let h : nat_eq c.opcode SWITCH ≡ true = rw (f, g) refl in rw (e, h) refl
 
 pub switch_token : (G : Table) (c : Context) (s : Slot) (k : declared.Leaf) (opcode : ℕ) (x : Option ℕ) (t : List ℕ) (r : Answer Rattle.spv_module.specs.declared.operand.Operand.Operand Misread) → form_at (kind_of G s.kind) ≡ Leaf k
-    → k ≡ leaf.Integer → s.paired ≡ true → c.opcode ≡ opcode → opcode ≡ 251 → x ≡ option_and_then (type_of c.before) (first_id c.operands)
+    → k ≡ leaf.Integer → s.paired ≡ true → c.opcode ≡ opcode → opcode ≡ SWITCH → x ≡ option_and_then (type_of c.before) (first_id c.operands)
     → IsToken G (is_float_type c.before x) s.kind (AsNumber (option_and_then (width_of c.before) x)) t r → IsToken G (is_float G c s) s.kind (shape_of G c s) t r
 switch_token G c s k opcode x t r e f p q o g h =
     let h' : IsToken G (is_float_type c.before (option_and_then (type_of c.before) (first_id c.operands))) s.kind (AsNumber (switch_width c)) t r = rw g at h in
@@ -189,9 +190,9 @@ switch_token G c s k opcode x t r e f p q o g h =
     as_leaf G c s k leaf.Integer (is_float G c s) t r e f (rw b h'')
 
 pub plain_integer : (G : Table) (c : Context) (s : Slot) (k : declared.Leaf) (opcode : ℕ) (t : List ℕ) (r : Answer Rattle.spv_module.specs.declared.operand.Operand.Operand Misread) → form_at (kind_of G s.kind) ≡ Leaf k
-    → k ≡ leaf.Integer → c.opcode ≡ opcode → (s.paired && nat_eq opcode 251) ≡ false → IsToken G (is_float G c s) s.kind AsWord t r → IsToken G (is_float G c s) s.kind (shape_of G c s) t r
+    → k ≡ leaf.Integer → c.opcode ≡ opcode → (s.paired && nat_eq opcode SWITCH) ≡ false → IsToken G (is_float G c s) s.kind AsWord t r → IsToken G (is_float G c s) s.kind (shape_of G c s) t r
 plain_integer G c s k opcode t r e f q b h =
-    let b' : (s.paired && nat_eq c.opcode 251) ≡ false = rw q b in
+    let b' : (s.paired && nat_eq c.opcode SWITCH) ≡ false = rw q b in
     as_leaf G c s k leaf.Integer (is_float G c s) t r e f (rw b' h)
 
 -- where a line breaks
@@ -219,7 +220,7 @@ leaf_no_front : (d : Context) (p : Bool) (es : List Enumerant) (l : declared.Lea
 leaf_no_front d p es leaf.ResultType c n = refl
 leaf_no_front d p es leaf.Result c n = absurd (n refl)
 leaf_no_front d p es leaf.Id c n = refl
-leaf_no_front d p es leaf.Integer c n = if_front (p && nat_eq d.opcode 251) (switch_width d) c
+leaf_no_front d p es leaf.Integer c n = if_front (p && nat_eq d.opcode SWITCH) (switch_width d) c
 leaf_no_front d p es leaf.Word c n = refl
 leaf_no_front d p es leaf.ContextNumber c n = refl
 leaf_no_front d p es leaf.Text c n = refl

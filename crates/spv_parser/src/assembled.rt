@@ -3,11 +3,11 @@
 ghost use Rattle.std.specs.Prelude.{◌≡◌, ◌≤◌, ◌<◌, ◌+◌, ◌++◌, ◌∷◌, [], ℕ, List, IfOk};
 ghost use Rattle.std.specs.Prelude.{IfErr, OnOk, length, map, drop};
 ghost use Rattle.spv_words.specs.declared.words.Header as words;
-ghost use Rattle.spv_words.specs.Header.{IsHeader};
+ghost use Rattle.spv_words.specs.Header.{IsHeader, greatest_length};
 ghost use Rattle.spv_module.specs.Operand.{PlainInst};
 ghost use Rattle.spv_module.specs.Instruction.{IsListing, first_word};
 ghost use Rattle.spv_inst.specs.Outcome.{IsHeaderOf};
-ghost use Rattle.spv_inst.specs.Encoding.{greatest_count, greatest_length};
+ghost use Rattle.spv_inst.specs.Limits.{greatest_count};
 ghost use Rattle.spv_lines.specs.Line.{AreWords};
 ghost use Rattle.spv_lines.specs.Text.{IsReadText, lines_of};
 ghost use Rattle.spv_lines.specs.declared.asm_error.AsmCode.TheVariants.{S6};
@@ -48,7 +48,7 @@ fn put_words(draft: &mut Draft, words: &[u32]) -> Result<(), AllocError>
 /// Adds an instruction's words to a draft, its first one before the further ones. After an error nothing is said of
 /// what is left.
 fn put_instruction(draft: &mut Draft, opcode: u16, further: &[u32]) -> Result<(), AsmCode>
-    requires { length draft.old ≤ 4194304 }
+    requires { length draft.old ≤ greatest_length }
     ensures added { OnOk result (draft.new ≡ draft.old ++ (first_word opcode further.now ∷ further.now)) }
     ensures count { OnOk result (length further.now + 1 ≤ greatest_count) }
     ensures short { OnOk result (length draft.old + (length further.now + 1) ≤ greatest_length) }
@@ -102,7 +102,7 @@ fn assemble_line<'t, 'a>(
 ) -> Result<Line, AsmCode>
     requires forms { setting.now.forms.now ≡ map form_of setting.now.table.now.kinds }
     requires known { (before : List PlainInst) × Knows setting.now.definitions.now before }
-    requires short { length draft.old ≤ 4194304 }
+    requires short { length draft.old ≤ greatest_length }
     requires last { IsKnown setting.now.table.now last.old }
     requires seen { IsSeen setting.now.table.now seen.old }
     ensures read { (before : List PlainInst) → Knows setting.now.definitions.now before

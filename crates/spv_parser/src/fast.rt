@@ -9,6 +9,7 @@ ghost use Rattle.spv_table.specs.Table.{kind_of};
 ghost use Rattle.spv_table.specs.declared.form.Form.TheVariants.{Leaf as LeafForm};
 ghost use Rattle.spv_table.specs.declared.form.Leaf.TheVariants as leaves;
 ghost use Rattle.spv_table.specs.inner.Form.{form_at, form_of};
+ghost use Rattle.spv_module.specs.declared.opcode.TheConstants.{TYPE_FLOAT, TYPE_INT};
 ghost use Rattle.spv_inst.specs.inner.Known.{Knows};
 ghost use Rattle.spv_inst.specs.inner.Pending.{due_first, items_of};
 ghost use Rattle.spv_inst.specs.Flat.{due};
@@ -19,15 +20,16 @@ ghost use Rattle.spv_parser.specs.inner.Fast.{BeginsWith, IsStart, TakesFast, Ta
 ghost use Rattle.spv_parser.specs.inner.Reading.{AreRead, HasQuoted, HasToken};
 ghost use Rattle.spv_parser.specs.inner.Seen.{IsSeen};
 
-use crate::operands::{Line, Setting, TYPE_FLOAT, TYPE_INT, is_break, is_text};
+use crate::operands::{Line, Setting, is_break, is_text};
 use crate::seen::{Seen, find_named};
-use crate::token::is_narrow;
 use spv_inst::due::{
     DueItems, Form, Leaf, Next, form_in, joined, next_kind, push_operand, read_text,
 };
-use spv_module::Operand;
+use spv_module::{Operand, opcode};
 use spv_table::{Pattern, Table};
-use spv_tokens::{Cell, Quotation, behind, read_behind, read_front, read_unescaped, split_token};
+use spv_tokens::{
+    Cell, Quotation, behind, is_narrow, read_behind, read_front, read_unescaped, split_token,
+};
 use std::alloc::AllocError;
 
 /// What is left of a line behind an operand that is neither a result nor a result type.
@@ -361,7 +363,7 @@ fn take_operands<'t, 'a>(
     start: Start<'t, 'a>,
 ) -> Result<bool, AllocError>
     requires forms { setting.now.forms.now ≡ map form_of setting.now.table.now.kinds }
-    requires no_width { (nat_eq opcode 21 || nat_eq opcode 22) ≡ false }
+    requires no_width { (nat_eq opcode TYPE_INT || nat_eq opcode TYPE_FLOAT) ≡ false }
     requires start { IsStart setting.now.table.now opcode pattern.now operands.now start words.old.items }
     requires known { (before : List PlainInst) × Knows setting.now.definitions.now before }
     requires seen { IsSeen setting.now.table.now seen.old }
@@ -420,7 +422,7 @@ pub fn fast_operands<'t, 'a>(
         (λ l. option_map (λ t. t.now) front.entry ≡ option_map id_text l.result)) }
     ensures seen { IsSeen setting.now.table.now seen.new }
 {
-    if opcode == TYPE_INT || opcode == TYPE_FLOAT {
+    if opcode == opcode::TYPE_INT || opcode == opcode::TYPE_FLOAT {
         return Ok(None);
     }
     words.clear();

@@ -2,7 +2,7 @@
 
 ghost use Rattle.std.specs.Prelude.{◌≡◌, ◌<◌, ◌^◌, ◌++◌, ◌∷◌, [], ℕ, List, Some, None, IfOk};
 ghost use Rattle.std.specs.Prelude.{IfErr, MatchOption, decimal, slice_get};
-ghost use Rattle.spv_inst.specs.Encoding.{HeaderFits};
+ghost use Rattle.spv_inst.specs.Limits.{HeaderFits};
 ghost use Rattle.spv_lines.specs.Text.{header_lines, lines_of};
 ghost use Rattle.spv_lines.specs.Fault.{HeaderFails};
 ghost use Rattle.spv_parser.specs.inner.Lines.{IsNoNumber};

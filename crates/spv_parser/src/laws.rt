@@ -2,12 +2,12 @@
 //! proved.
 ghost use Rattle.std.specs.Prelude.{◌≡◌, ◌<◌, ◌≤◌, ◌+◌, ◌^◌, ℕ, List, length, drop};
 ghost use Rattle.spv_words.specs.declared.words.Header.{Header};
-ghost use Rattle.spv_words.specs.Header.{IsHeader};
+ghost use Rattle.spv_words.specs.Header.{IsHeader, greatest_length};
 ghost use Rattle.spv_table.specs.Table.{Table};
 ghost use Rattle.spv_module.specs.Operand.{PlainInst};
 ghost use Rattle.spv_module.specs.Instruction.{IsListing};
 ghost use Rattle.spv_inst.specs.Outcome.{IsHeaderOf};
-ghost use Rattle.spv_inst.specs.Encoding.{HeaderFits, greatest_length};
+ghost use Rattle.spv_inst.specs.Limits.{HeaderFits};
 ghost use Rattle.spv_lines.specs.Line.{AreWords};
 ghost use Rattle.spv_lines.specs.Text.{IsReadText, IsShownText};
 ghost use Rattle.spv_lines.specs.Tidy.{IsTidy};

@@ -25,16 +25,10 @@ ghost use Rattle.spv_parser.specs.inner.Reading.{Takes, told};
 use crate::token::read_token;
 use spv_inst::due::{Asked, Definitions, Form, Leaf, Pending, push_operand, read_text};
 use spv_lines::AsmCode;
-use spv_module::{Operand, result_in, type_in};
+use spv_module::{Operand, opcode, result_in, type_in};
 use spv_table::{Pattern, Table};
 use spv_tokens::{Misread, behind, read_quoted, split_token};
 use std::alloc::AllocError;
-
-/// The opcode of OpTypeInt.
-pub const TYPE_INT: u16 = 21;
-
-/// The opcode of OpTypeFloat.
-pub const TYPE_FLOAT: u16 = 22;
 
 /// What does not change while a line is read.
 #[derive(Clone, Copy)]
@@ -174,7 +168,7 @@ impl Known {
             result: self.result,
             type_id: self.type_id,
             width: match self.opcode {
-                TYPE_INT | TYPE_FLOAT => self.width,
+                opcode::TYPE_INT | opcode::TYPE_FLOAT => self.width,
                 _ => None,
             },
         }

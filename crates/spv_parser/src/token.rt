@@ -1,6 +1,6 @@
 //! An operand's token, by what is due.
 
-ghost use Rattle.std.specs.Prelude.{◌≡◌, ◌≢◌, ℕ, List, option_and_then, true};
+ghost use Rattle.std.specs.Prelude.{◌≡◌, ◌≢◌, ℕ, List, option_and_then};
 ghost use Rattle.spv_table.specs.Table as grammar;
 ghost use Rattle.spv_table.specs.Table.{kind_of};
 ghost use Rattle.spv_table.specs.declared.form.Form.TheVariants.{Leaf as LeafForm};
@@ -13,18 +13,14 @@ ghost use Rattle.spv_module.specs.Shape.{AsNumber, shape_of};
 ghost use Rattle.spv_module.specs.Width as widths;
 ghost use Rattle.spv_lines.specs.Operand.{is_float, is_float_type};
 ghost use Rattle.spv_tokens.specs.inner.Answer.{IsToken};
-ghost use Rattle.spv_parser.specs.inner.Fast.{IsNarrow};
 ghost use Rattle.spv_parser.specs.inner.Reading.{IsAt, switch_type};
 
 use crate::operands::{Known, Setting};
 use spv_inst::due::{Asked, Definitions, Leaf};
-use spv_module::Operand;
+use spv_module::{Operand, opcode};
 use spv_tokens::{
     Misread, read_id, read_mask, read_number, read_result_id, read_type_id, read_value, read_word,
 };
-
-/// The opcode of OpSwitch.
-const SWITCH: u16 = 251;
 
 /// The type of the first operand, if that is an id.
 fn type_of_first(definitions: &Definitions, known: Known) -> Option<u32>
@@ -44,18 +40,6 @@ fn width_of(definitions: &Definitions, type_id: Option<u32>) -> Option<u32>
     match type_id {
         Some(id) => definitions.width(id),
         None => None,
-    }
-}
-
-/// Whether an id, if there is one, is that of a type of at most 32 bits that is no float.
-#[inline(never)]
-pub fn is_narrow(definitions: &Definitions, type_id: Option<u32>) -> bool
-    ensures { (before : List PlainInst) → Knows definitions.now before
-        → result ≡ true → IsNarrow before type_id }
-{
-    match width_of(definitions, type_id) {
-        Some(width) => width <= 32 && !definitions.is_float(type_id),
-        None => false,
     }
 }
 
@@ -99,7 +83,7 @@ pub fn read_token(
         Leaf::Id => read_id(octets),
         Leaf::Word => read_word(octets),
         Leaf::Integer => {
-            if asked.slot.paired && known.opcode == SWITCH {
+            if asked.slot.paired && known.opcode == opcode::SWITCH {
                 let type_id = type_of_first(setting.definitions, known);
                 return read_typed(setting.definitions, type_id, octets);
             }

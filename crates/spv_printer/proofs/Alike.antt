@@ -8,6 +8,7 @@ use Rattle.spv_table.specs.declared.form.Leaf.TheVariants as leaf
 use Rattle.spv_table.specs.declared.form.Form as forms
 use Rattle.spv_table.specs.declared.form.Form.TheVariants.{Leaf, Parts}
 use Rattle.spv_table.specs.inner.Form.{form_at}
+use Rattle.spv_module.specs.declared.opcode.TheConstants.{SWITCH}
 use Rattle.spv_inst.specs.Reading.{enumerants_at}
 use Rattle.spv_module.specs.Operand.{Plain, OfType, Result, Id, Word, Number, Text, Value, Mask, Context, and_then, after, type_in}
 use Rattle.spv_module.specs.Shape.{Slot, Shape, AsNumber, AsWord, alone, shape_of}
@@ -15,8 +16,10 @@ use Rattle.spv_module.specs.Spelling.{Takes}
 use Rattle.spv_inst.proofs.Shapes.{leaf_shape, shape_leaf, shape_parts}
 use Rattle.spv_inst.proofs.Takes.{takes_no_parts}
 use Rattle.spv_lines.specs.Operand.{shown_operand, is_float, is_float_type, number_type}
-use Rattle.spv_printer.specs.inner.Fast.{AreShownAlike, IsNarrow, IsShownAlike, is_no_number}
-use Rattle.spv_printer.proofs.KindForms.{Wide, number_wide, type_by_context}
+use Rattle.spv_printer.specs.inner.Fast.{AreShownAlike, IsShownAlike, is_no_number}
+use Rattle.spv_tokens.specs.inner.Narrow.{IsNarrow}
+use Rattle.spv_printer.proofs.KindForms.{Wide, number_wide}
+use Rattle.spv_tokens.proofs.NumberTypes.{type_by_context}
 
 pub alike_by : (G : Table) (c : Context) (o : Plain) → is_no_number o ≡ true → IsShownAlike G c o
 alike_by G c (OfType x) e s ws ss t = refl
@@ -52,11 +55,11 @@ no_word k a b n _ _ _ _ (Takes.text t ws d h z u) e f = cc
 no_word k a b n _ _ _ _ (Takes.value fs x ks h) e f = cc
 no_word k a b n _ _ _ _ (Takes.mask fs x ks h) e f = cc
 
-other_opcode : (p : Bool) (x : ℕ) → x ≢ 251 → (p && nat_eq x 251) ≡ false
+other_opcode : (p : Bool) (x : ℕ) → x ≢ SWITCH → (p && nat_eq x SWITCH) ≡ false
 other_opcode true x n = grind (arith, nat_tests)
 other_opcode false x n = refl
 
-context_leaf : (G : Table) (c : Context) (s : Slot) (l : declared.Leaf) (a b n : ℕ) (ws : List ℕ) (ss : List Slot) → c.opcode ≢ 251 → form_at (kind_of G s.kind) ≡ Leaf l
+context_leaf : (G : Table) (c : Context) (s : Slot) (l : declared.Leaf) (a b n : ℕ) (ws : List ℕ) (ss : List Slot) → c.opcode ≢ SWITCH → form_at (kind_of G s.kind) ≡ Leaf l
     → Takes s.kind (shape_of G c s) (Number a b n) ws ss → Wide c l → l ≡ leaf.ContextNumber
 context_leaf G c s l a b n ws ss m e t (Wide.context w f h) = f
 context_leaf G c s l a b n ws ss m e t (Wide.switch w f h) =
@@ -66,7 +69,7 @@ context_leaf G c s l a b n ws ss m e t (Wide.switch w f h) =
     absurd (no_word s.kind a b n (shape_of G c s) (Number a b n) ws ss t (g ∙ k) refl)
 
 -- of a type that is no float it is shown alike
-pub narrow_alike : (G : Table) (c : Context) (x : ℕ) → c.opcode ≢ 251 → IsNarrow c.before (type_in c.operands) → IsShownAlike G c (Number x 0 1)
+pub narrow_alike : (G : Table) (c : Context) (x : ℕ) → c.opcode ≢ SWITCH → IsNarrow c.before (type_in c.operands) → IsShownAlike G c (Number x 0 1)
 narrow_alike G c x m n s ws ss t = ap (λ b. shown_operand G b (Number x 0 1)) (step (form_at (kind_of G s.kind)) refl)
   where
     step : (f : forms.Form) → form_at (kind_of G s.kind) ≡ f → is_float G c s ≡ false

@@ -8,10 +8,12 @@ use Rattle.std.proofs.Math.Seq.{take-append-add, take-append_seam}
 use Rattle.std.proofs.lemmas.Bool.Decides.{nat_tests}
 use Rattle.memchr.specs.Find.{is_byte3}
 use Rattle.spv_table.specs.Table.{Table}
+use Rattle.spv_module.specs.declared.opcode.TheConstants.{SWITCH}
 use Rattle.spv_module.specs.Operand.{Plain, PlainInst, OfType, Result, Id, Word, Number, Text, Value, Mask, Context, after, result_in, start, type_in}
 use Rattle.spv_lines.specs.Operand.{escaped, shown_operand}
 use Rattle.spv_inst.specs.declared.definitions.Definitions.{Definitions}
 use Rattle.spv_inst.specs.inner.Known.{Knows}
+use Rattle.spv_tokens.proofs.OneMore.{result_snoc, type_snoc}
 use Rattle.spv_printer.specs.declared.fast_operand.Draft.{Draft}
 use Rattle.spv_printer.specs.inner.Fast.{AreCharacters, AreDrafted, IsLineOf, IsShownAlike, IsTextAdded, piece_of, pieces_of, is_no_number, results_of}
 use Rattle.spv_printer.proofs.Escapes.{escaped-append, plain_escaped}
@@ -22,28 +24,6 @@ use Rattle.spv_inst.proofs.Steps.{after_is}
 pub or_none : (r : Option ℕ) → option_or r None ≡ r
 or_none None = refl
 or_none (Some x) = refl
-
-result_snoc : (os : List Plain) (o : Plain) → option_or (result_in os) (result_in (o ∷ [])) ≡ result_in (os ++ (o ∷ []))
-result_snoc [] o = refl
-result_snoc (Result x ∷ os) o = refl
-result_snoc (OfType x ∷ os) o = result_snoc os o
-result_snoc (Id x ∷ os) o = result_snoc os o
-result_snoc (Word x ∷ os) o = result_snoc os o
-result_snoc (Number a b n ∷ os) o = result_snoc os o
-result_snoc (Text t ∷ os) o = result_snoc os o
-result_snoc (Value k x ∷ os) o = result_snoc os o
-result_snoc (Mask k x ∷ os) o = result_snoc os o
-
-type_snoc : (os : List Plain) (o : Plain) → option_or (type_in os) (type_in (o ∷ [])) ≡ type_in (os ++ (o ∷ []))
-type_snoc [] o = refl
-type_snoc (OfType x ∷ os) o = refl
-type_snoc (Result x ∷ os) o = type_snoc os o
-type_snoc (Id x ∷ os) o = type_snoc os o
-type_snoc (Word x ∷ os) o = type_snoc os o
-type_snoc (Number a b n ∷ os) o = type_snoc os o
-type_snoc (Text t ∷ os) o = type_snoc os o
-type_snoc (Value k x ∷ os) o = type_snoc os o
-type_snoc (Mask k x ∷ os) o = type_snoc os o
 
 -- octets that are copied to a place
 pub front_copied : (old ys rest : List ℕ) (at count : ℕ) → at ≤ length old → count ≤ length ys → take (at + count) (take at old ++ (ys ++ rest)) ≡ take at old ++ take count ys
@@ -171,7 +151,7 @@ plain_next octets count l e x y z =
 
 -- one operand more, which is shown alike behind the others
 pub drafted_alike : (G : Table) (defined : Definitions) (os : List Plain) (o : Plain) (c next : Draft) (old new : List ℕ) → length new ≡ length old → AreDrafted G defined os c old → IsTextAdded (shown_operand G false o) c.at next.at old new
-    → ((b : Context) → Knows defined b.before → b.opcode ≢ 251 → type_in b.operands ≡ c.type_id → IsShownAlike G b o)
+    → ((b : Context) → Knows defined b.before → b.opcode ≢ SWITCH → type_in b.operands ≡ c.type_id → IsShownAlike G b o)
     → result_in (o ∷ []) ≡ None → next.result ≡ c.result → next.type_id ≡ option_or c.type_id (type_in (o ∷ [])) → c.at + 96 ≤ length old → AreDrafted G defined (os ++ (o ∷ [])) next new
 drafted_alike G defined os o c next old new s a p y n r t room =
     let low = a.low in
@@ -199,7 +179,7 @@ pub drafted_more : (G : Table) (defined : Definitions) (os : List Plain) (o : Pl
 drafted_more G defined os o c next old new s a p y n r t room = drafted_alike G defined os o c next old new s a p (λ b k m e. alike_by G b o y) n r t room
 
 -- the operands are those of a line
-pub drafted_line : (G : Table) (defined : Definitions) (i : PlainInst) (c : Draft) (buffer : List ℕ) → i.opcode ≢ 251 → AreDrafted G defined i.operands c buffer → IsLineOf G defined i c buffer
+pub drafted_line : (G : Table) (defined : Definitions) (i : PlainInst) (c : Draft) (buffer : List ℕ) → i.opcode ≢ SWITCH → AreDrafted G defined i.operands c buffer → IsLineOf G defined i c buffer
 drafted_line G defined i c buffer m a =
     record {
       text = λ before r ds us t k w.

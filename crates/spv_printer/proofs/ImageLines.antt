@@ -1,6 +1,7 @@
 -- The lines of an image's instructions, one after another.
 use Rattle.std.proofs.Common.{◌≡◌, ◌++◌, ◌∙◌, ◌+◌, ℕ, List, [], ◌∷◌, map, length, refl, sym, ap, arith, append_assoc, append-nil, length-append}
 use Rattle.spv_table.specs.Table.{Table, pattern_of}
+use Rattle.spv_module.specs.declared.opcode.TheConstants.{TYPE_FLOAT, TYPE_INT}
 use Rattle.spv_inst.specs.declared.definitions.Definitions.{Definitions}
 use Rattle.std.specs.Prelude.{None, nat_eq, false}
 use Rattle.std.proofs.lemmas.Bool.Decides.{nat_tests}
@@ -97,5 +98,5 @@ differs : (a b : ℕ) → (a ≡ b → ⊥) → nat_eq a b ≡ false
 differs a b n = grind (arith, nat_tests)
 
 -- an instruction other than OpTypeInt and OpTypeFloat declares no width
-pub other_width : (i : PlainInst) → (i.opcode ≡ 21 → ⊥) → (i.opcode ≡ 22 → ⊥) → declared_width i ≡ None
-other_width i a b = rw (differs i.opcode 21 a, differs i.opcode 22 b) refl
+pub other_width : (i : PlainInst) → (i.opcode ≡ TYPE_INT → ⊥) → (i.opcode ≡ TYPE_FLOAT → ⊥) → declared_width i ≡ None
+other_width i a b = rw (differs i.opcode TYPE_INT a, differs i.opcode TYPE_FLOAT b) refl

@@ -1,24 +1,23 @@
 -- What the form of a kind tells of the operand that it takes: the parameters that are due behind it, and the type of a number.
-use Rattle.std.proofs.Common.{◌≡◌, ℕ, List, [], Option, Some, None, Bool, true, false, ◌&&◌, ◌||◌, nat_eq, cond, map, option_and_then, refl, sym, ap}
-use Rattle.std.specs.Prelude.{bytes_eq, codes, unwrap_or, if◌then◌else◌}
-use Rattle.std.proofs.lemmas.Slice.Eq.{bytes_eq-Decides}
+use Rattle.std.proofs.Common.{◌≡◌, ℕ, List, [], Option, Some, Bool, true, false, ◌&&◌, nat_eq, map, refl, sym, ap}
+use Rattle.std.specs.Prelude.{unwrap_or, if◌then◌else◌}
 use Rattle.spv_table.specs.declared.table.Enumerant.{Enumerant}
 use Rattle.spv_table.specs.declared.table.Category.{Category}
 use Rattle.spv_table.specs.declared.table.Category.TheVariants as category
-use Rattle.spv_table.specs.Table.{Table, Sort, kind_of}
+use Rattle.spv_table.specs.Table.{Table, kind_of}
 use Rattle.spv_table.specs.declared.form.Leaf as declared
 use Rattle.spv_table.specs.declared.form.Leaf.TheVariants as leaf
 use Rattle.spv_table.specs.declared.form.Form.TheVariants.{Leaf}
-use Rattle.spv_table.specs.inner.Form.{form_at, category_form}
-use Rattle.spv_module.specs.Operand.{Plain, Number, Context, type_in}
+use Rattle.spv_table.specs.inner.Form.{form_at}
+use Rattle.spv_module.specs.declared.opcode.TheConstants.{SWITCH}
+use Rattle.spv_module.specs.Operand.{Plain, Number, Context}
 use Rattle.spv_module.specs.Shape.{Slot, alone, Shape, AsNumber, AsWord, AsValue, AsMask, shape_of}
-use Rattle.spv_module.specs.Width.{context_width, switch_width, type_of, first_id}
+use Rattle.spv_module.specs.Width.{context_width, switch_width}
 use Rattle.spv_module.specs.Spelling.{Takes, parameters_of, mask_parameters}
 use Rattle.spv_inst.specs.Reading.{enumerants_at}
 use Rattle.spv_inst.specs.inner.Pending.{opened_kinds}
 use Rattle.spv_inst.proofs.Shapes.{leaf_shape, shape_leaf}
 use Rattle.spv_inst.proofs.Masks.{whole_mask}
-use Rattle.spv_lines.specs.Operand.{number_type}
 
 no_value : (b : Bool) (w : Option ℕ) (es : List Enumerant) → (if b then AsNumber w else AsWord) ≡ AsValue es → ⊥
 no_value true w es h = cc
@@ -32,7 +31,7 @@ value_of : (c : Context) (p : Bool) (es fs : List Enumerant) (l : declared.Leaf)
 value_of c p es fs leaf.ResultType h = cc
 value_of c p es fs leaf.Result h = cc
 value_of c p es fs leaf.Id h = cc
-value_of c p es fs leaf.Integer h = absurd (no_value (p && nat_eq c.opcode 251) (switch_width c) fs (sym h))
+value_of c p es fs leaf.Integer h = absurd (no_value (p && nat_eq c.opcode SWITCH) (switch_width c) fs (sym h))
 value_of c p es fs leaf.Word h = cc
 value_of c p es fs leaf.ContextNumber h = cc
 value_of c p es fs leaf.Text h = cc
@@ -44,7 +43,7 @@ mask_of : (c : Context) (p : Bool) (es fs : List Enumerant) (l : declared.Leaf) 
 mask_of c p es fs leaf.ResultType h = cc
 mask_of c p es fs leaf.Result h = cc
 mask_of c p es fs leaf.Id h = cc
-mask_of c p es fs leaf.Integer h = absurd (no_mask (p && nat_eq c.opcode 251) (switch_width c) fs (sym h))
+mask_of c p es fs leaf.Integer h = absurd (no_mask (p && nat_eq c.opcode SWITCH) (switch_width c) fs (sym h))
 mask_of c p es fs leaf.Word h = cc
 mask_of c p es fs leaf.ContextNumber h = cc
 mask_of c p es fs leaf.Text h = cc
@@ -88,7 +87,7 @@ wide_of : (c : Context) (p : Bool) (es : List Enumerant) (l : declared.Leaf) (w 
 wide_of c p es leaf.ResultType w h = cc
 wide_of c p es leaf.Result w h = cc
 wide_of c p es leaf.Id w h = cc
-wide_of c p es leaf.Integer w h = Wide.switch w refl (integer_wide c w (p && nat_eq c.opcode 251) h)
+wide_of c p es leaf.Integer w h = Wide.switch w refl (integer_wide c w (p && nat_eq c.opcode SWITCH) h)
 wide_of c p es leaf.Word w h = cc
 wide_of c p es leaf.ContextNumber w h = Wide.context w refl (let e : context_width c ≡ Some w = cc in e)
 wide_of c p es leaf.Text w h = cc
@@ -111,65 +110,3 @@ wide_by k c p es l _ _ _ _ a b n (Takes.mask fs x ks h) e f = cc
 pub number_wide : (G : Table) (c : Context) (s : Slot) (l : declared.Leaf) (a b n : ℕ) (ws : List ℕ) (ss : List Slot) → form_at (kind_of G s.kind) ≡ Leaf l
     → Takes s.kind (shape_of G c s) (Number a b n) ws ss → Wide c l
 number_wide G c s l a b n ws ss e t = wide_by s.kind c s.paired (enumerants_at (kind_of G s.kind)) l (shape_of G c s) (Number a b n) ws ss a b n t refl (shape_leaf G c s l l e refl)
-
--- the name that a form tells
-id_no_context : (a b : Bool) → cond a leaf.ResultType (cond b leaf.Result leaf.Id) ≡ leaf.ContextNumber → ⊥
-id_no_context true b h = cc
-id_no_context false true h = cc
-id_no_context false false h = cc
-
-id_no_integer : (a b : Bool) → cond a leaf.ResultType (cond b leaf.Result leaf.Id) ≡ leaf.Integer → ⊥
-id_no_integer true b h = cc
-id_no_integer false true h = cc
-id_no_integer false false h = cc
-
-literal_context : (a b d e : Bool) → cond a leaf.Integer (cond b leaf.Word (cond d leaf.Text (cond e leaf.ContextNumber leaf.Nothing))) ≡ leaf.ContextNumber → e ≡ true
-literal_context true b d e h = cc
-literal_context false true d e h = cc
-literal_context false false true e h = cc
-literal_context false false false true h = refl
-literal_context false false false false h = cc
-
-literal_integer : (a b d e : Bool) → cond a leaf.Integer (cond b leaf.Word (cond d leaf.Text (cond e leaf.ContextNumber leaf.Nothing))) ≡ leaf.Integer → a ≡ true
-literal_integer true b d e h = refl
-literal_integer false true d e h = cc
-literal_integer false false true e h = cc
-literal_integer false false false true h = cc
-literal_integer false false false false h = cc
-
-leaf_same : (a b : declared.Leaf) → Leaf a ≡ Leaf b → a ≡ b
-leaf_same a b h = cc
-
-context_name : (s : Sort) (cat : Category) → category_form s.kind.name cat ≡ Leaf leaf.ContextNumber → bytes_eq s.kind.name (codes "LiteralContextDependentNumber") ≡ true
-context_name s category.Id h = absurd (id_no_context (bytes_eq s.kind.name (codes "IdResultType")) (bytes_eq s.kind.name (codes "IdResult")) (leaf_same _ _ h))
-context_name s category.Literal h =
-    literal_context (bytes_eq s.kind.name (codes "LiteralInteger")) (bytes_eq s.kind.name (codes "LiteralFloat") || bytes_eq s.kind.name (codes "LiteralExtInstInteger"))
-    (bytes_eq s.kind.name (codes "LiteralString")) (bytes_eq s.kind.name (codes "LiteralContextDependentNumber")) (leaf_same _ _ h)
-context_name s category.ValueEnum h = cc
-context_name s category.BitEnum h = cc
-context_name s category.Composite h = cc
-
-integer_name : (s : Sort) (cat : Category) → category_form s.kind.name cat ≡ Leaf leaf.Integer → bytes_eq s.kind.name (codes "LiteralInteger") ≡ true
-integer_name s category.Id h = absurd (id_no_integer (bytes_eq s.kind.name (codes "IdResultType")) (bytes_eq s.kind.name (codes "IdResult")) (leaf_same _ _ h))
-integer_name s category.Literal h =
-    literal_integer (bytes_eq s.kind.name (codes "LiteralInteger")) (bytes_eq s.kind.name (codes "LiteralFloat") || bytes_eq s.kind.name (codes "LiteralExtInstInteger"))
-    (bytes_eq s.kind.name (codes "LiteralString")) (bytes_eq s.kind.name (codes "LiteralContextDependentNumber")) (leaf_same _ _ h)
-integer_name s category.ValueEnum h = cc
-integer_name s category.BitEnum h = cc
-integer_name s category.Composite h = cc
-
-pub type_by_context : (c : Context) (o : Option Sort) → form_at o ≡ Leaf leaf.ContextNumber → number_type c o ≡ type_in c.operands
-type_by_context c None e = cc
-type_by_context c (Some s) e = let f = context_name s s.kind.category e in rw f refl
-
-other_name : (t : List ℕ) → t ≡ codes "LiteralInteger" → bytes_eq t (codes "LiteralContextDependentNumber") ≡ false
-other_name t e = rw e refl
-
-same_by : (t u : List ℕ) → bytes_eq t u ≡ true → t ≡ u
-same_by t u e = (bytes_eq-Decides t u).0 e
-
-pub type_by_switch : (c : Context) (o : Option Sort) → form_at o ≡ Leaf leaf.Integer → number_type c o ≡ option_and_then (type_of c.before) (first_id c.operands)
-type_by_switch c None e = cc
-type_by_switch c (Some s) e =
-    let f = other_name s.kind.name (same_by s.kind.name (codes "LiteralInteger") (integer_name s s.kind.category e)) in
-    rw f refl

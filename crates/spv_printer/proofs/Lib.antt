@@ -7,6 +7,7 @@ pub mod BitNames
 pub mod Digits
 pub mod Operands
 pub mod Texts
+pub mod Chosen
 pub mod Pieces
 pub mod Drafts
 pub mod Shorts

@@ -19,7 +19,7 @@ pub record LinesAt (G : Table) (insts : List Inst) (lines : List (List ℕ)) (ol
 pub lines_first : (G : Table) (insts : List Inst) (lines : List (List ℕ)) (old : List ℕ) → ShownLines G [] (map plain_inst insts) lines → LinesAt G insts lines old old 0
 lines_first G insts lines old s = record { left = lines; shown = s; all = refl }
 
-record NextLine (G : Table) (before : List PlainInst) (i : PlainInst) (is : List PlainInst) (left : List (List ℕ)) : Type 0 where
+pub record NextLine (G : Table) (before : List PlainInst) (i : PlainInst) (is : List PlainInst) (left : List (List ℕ)) : Type 0 where
   pub further : List ℕ
   pub line : List ℕ
   pub later : List (List ℕ)
@@ -27,7 +27,7 @@ record NextLine (G : Table) (before : List PlainInst) (i : PlainInst) (is : List
   pub rest : ShownLines G (before ++ (i ∷ [])) is later
   pub all : left ≡ line ∷ later
 
-next_line : (G : Table) (before : List PlainInst) (i : PlainInst) (is js : List PlainInst) (left : List (List ℕ)) → ShownLines G before js left → js ≡ i ∷ is → NextLine G before i is left
+pub next_line : (G : Table) (before : List PlainInst) (i : PlainInst) (is js : List PlainInst) (left : List (List ℕ)) → ShownLines G before js left → js ≡ i ∷ is → NextLine G before i is left
 next_line G _ i is _ _ (ShownLines.end before) e = cc
 next_line G _ i is _ _ (ShownLines.more before j js us l ls s m) e =
     let f : j ≡ i = cc in
@@ -77,3 +77,11 @@ whole_text heads lines head out start e f g =
 pub on_pushed : {T E : Type 0} (r : Answer T E) (P : Type 0) (out old t : List ℕ) → out ≡ (if is_ok r then old ++ t else old) → (out ≡ old ++ t → P) → OnOk r P
 on_pushed (Ok _) P out old t e f = f e
 on_pushed (Err _) P out old t e f = tt
+
+-- a line that is ended, and what follows of a call that may fail
+pub line_ended : (old mid new line : List ℕ) → mid ≡ old ++ line → new ≡ mid ++ (10 ∷ []) → new ≡ old ++ (line ++ (10 ∷ []))
+line_ended old mid new line e f = f ∙ (ap (λ z. z ++ (10 ∷ [])) e ∙ append_assoc old line (10 ∷ []))
+
+pub whatever : {T E : Type 0} (r : Answer T E) (P : Type 0) → P → OnOk r P
+whatever (Ok _) P p = p
+whatever (Err _) P p = tt

@@ -17,6 +17,7 @@ use crate::fast_operand::{Draft, add_operand};
 use crate::named::Named;
 use crate::printer::Printer;
 use spv_inst::due::{DueItems, joined, next_kind};
+use spv_module::opcode;
 use spv_table::{Entry, Pattern, Table};
 use spv_words::{Image, word};
 use std::alloc::AllocError;
@@ -30,15 +31,6 @@ const FRONT: usize = 128;
 
 /// How long a name may be.
 const LONGEST_NAME: usize = 96;
-
-/// The opcode of OpTypeInt.
-const TYPE_INT: u16 = 21;
-
-/// The opcode of OpTypeFloat.
-const TYPE_FLOAT: u16 = 22;
-
-/// The opcode of OpSwitch, whose literals have the type of its selector.
-const SWITCH: u16 = 251;
 
 /// An instruction whose line was added.
 #[derive(Clone, Copy)]
@@ -137,7 +129,7 @@ pub fn fast_line<'t>(
     if count == 0 || count > image.len() - at {
         return Ok(None);
     }
-    if opcode == TYPE_INT || opcode == TYPE_FLOAT || opcode == SWITCH {
+    if opcode == opcode::TYPE_INT || opcode == opcode::TYPE_FLOAT || opcode == opcode::SWITCH {
         return Ok(None);
     }
     if !printer.names.has(Named::Opcode(opcode)) {

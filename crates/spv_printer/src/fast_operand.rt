@@ -1,7 +1,7 @@
 //! Operands, added to a line in a buffer straight from their words.
 
-ghost use Rattle.std.specs.Prelude.{◌≡◌, ◌<◌, ◌≤◌, ◌+◌, ◌∷◌, [], ℕ, List, Some, true};
-ghost use Rattle.std.specs.Prelude.{IfSome, length, map};
+ghost use Rattle.std.specs.Prelude.{◌≡◌, ◌<◌, ◌≤◌, ◌+◌, ◌∷◌, [], ℕ, Some, true};
+ghost use Rattle.std.specs.Prelude.{IfSome, length};
 ghost use Rattle.spv_table.specs.Table as grammar;
 ghost use Rattle.spv_table.specs.Table.{kind_of};
 ghost use Rattle.spv_inst.specs.declared.definitions.Definitions as known;
@@ -9,12 +9,10 @@ ghost use Rattle.spv_table.specs.declared.form.Form.TheVariants.{Leaf as LeafFor
 ghost use Rattle.spv_table.specs.declared.form.Leaf.TheVariants as leaf;
 ghost use Rattle.spv_inst.specs.Reading.{enumerants_at};
 ghost use Rattle.spv_table.specs.inner.Form.{form_at};
-ghost use Rattle.spv_inst.specs.inner.Known.{Knows};
 ghost use Rattle.spv_inst.specs.inner.Reading.{between};
-ghost use Rattle.spv_module.specs.Operand.{PlainInst};
 ghost use Rattle.spv_module.specs.Spelling.{parameters_of, mask_parameters, set_bits};
 ghost use Rattle.spv_lines.specs.Name.{shown_mask, shown_value};
-ghost use Rattle.spv_printer.specs.inner.Fast.{IsAdded, IsFront, IsNamed, IsNamedBy, IsNarrow};
+ghost use Rattle.spv_printer.specs.inner.Fast.{IsAdded, IsFront, IsNamed, IsNamedBy};
 ghost use Rattle.spv_printer.specs.inner.Names.{AreNames};
 ghost use Rattle.spv_printer.specs.inner.Printer.{IsReady};
 
@@ -25,6 +23,7 @@ use crate::names::Names;
 use crate::printer::Printer;
 use spv_inst::due::{Definitions, Form, Leaf, form_in};
 use spv_table::Table;
+use spv_tokens::is_narrow;
 use spv_words::{Image, word};
 
 /// The room of the buffer that is asked for an operand.
@@ -55,21 +54,6 @@ pub struct Added<'t> {
 struct Label<'t> {
     name: &'t str,
     kinds: &'t [u32],
-}
-
-/// Whether an id, if there is one, is that of a type of at most 32 bits that is no float.
-#[inline(never)]
-fn is_narrow(definitions: &Definitions, type_id: Option<u32>) -> bool
-    ensures { (before : List PlainInst) → Knows definitions.now before
-        → result ≡ true → IsNarrow before type_id }
-{
-    let Some(id) = type_id else {
-        return false;
-    };
-    let Some(width) = definitions.width(id) else {
-        return false;
-    };
-    width <= 32 && !definitions.is_float(type_id)
 }
 
 /// Adds the operand that a word is, where a kind asks for an id or a literal of one word, or for a number of the

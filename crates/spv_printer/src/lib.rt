@@ -6,6 +6,7 @@ mod fast_line;
 mod fast_operand;
 mod fast_text;
 mod image;
+mod inst;
 mod name;
 mod named;
 mod names;
@@ -16,4 +17,5 @@ mod quoted;
 mod shown;
 
 pub use image::show_image;
+pub use inst::{show_inst, show_insts};
 pub use shown::{show, show_listed};

@@ -102,6 +102,34 @@ impl<'t> Printer<'t> {
         Ok(())
     }
 
+    /// Adds the line of an instruction, without its line feed, by its opcode and operands. Where no words spell it,
+    /// nothing is said of what is added.
+    ///
+    /// An `AllocError` comes only where a growth of memory was refused, and then nothing is said of what is left.
+    #[inline(always)]
+    pub fn push_inst(
+        &mut self,
+        out: &mut String,
+        table: &'t Table,
+        opcode: u16,
+        operands: &[Operand],
+    ) -> Result<(), AllocError>
+        requires ready { IsReady table.now self.old }
+        ensures line { (before : List PlainInst) (further line : List ℕ) → Knows self.old.definitions before
+            → IsShownLine table.now before (record { opcode = opcode; operands = plain_operands operands.now })
+            further line
+            → OnOk result (string_bytes out.new ≡ string_bytes out.old ++ line) }
+        ensures ready { IsReady table.now self.new }
+        ensures same { self.new.definitions ≡ self.old.definitions }
+    {
+        let Some(entry) = table.entry(opcode) else {
+            return Ok(());
+        };
+        push_result(out, result_in(operands))?;
+        push_name(out, table, &mut self.names, opcode, entry)?;
+        self.push_operands(out, table, &entry.operands, opcode, operands)
+    }
+
     /// Adds the line of an instruction, with its line feed, by its opcode and operands, and keeps what the instruction
     /// tells. Where no words spell it, nothing is said of what is added.
     ///
@@ -123,12 +151,8 @@ impl<'t> Printer<'t> {
             (before ++ record { opcode = opcode; operands = plain_operands operands.now } ∷ [])) }
         ensures ready { IsReady table.now self.new }
     {
-        if let Some(entry) = table.entry(opcode) {
-            push_result(out, result_in(operands))?;
-            push_name(out, table, &mut self.names, opcode, entry)?;
-            self.push_operands(out, table, &entry.operands, opcode, operands)?;
-            out.push('\n')?;
-        }
+        self.push_inst(out, table, opcode, operands)?;
+        out.push('\n')?;
         self.definitions.add(opcode, operands)
     }
 }

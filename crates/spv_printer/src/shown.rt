@@ -3,12 +3,12 @@
 ghost use Rattle.std.specs.Prelude.{◌≡◌, ◌++◌, [], ℕ, List, OnOk, IfOk, IfErr, string_bytes};
 ghost use Rattle.spv_module.specs.Module.{plain_insts};
 ghost use Rattle.spv_module.specs.Instruction.{IsListing};
-ghost use Rattle.spv_inst.specs.Encoding.{IsImageOf, RefusesModule};
+ghost use Rattle.spv_encode.specs.Encoding.{IsImageOf, RefusesModule};
 ghost use Rattle.spv_lines.specs.Text.{IsShownText, ShownLines, ended, header_lines};
 
 use crate::number::push_decimal;
 use crate::printer::Printer;
-use spv_inst::{EncodeError, encode};
+use spv_encode::{EncodeError, encode};
 use spv_module::Module;
 use spv_table::Table;
 use spv_words::Header;
@@ -64,7 +64,8 @@ pub fn show_listed(alloc: Global, table: &Table, module: &Module<'_>) -> Result<
 /// Those of `encode`, for a module that has no image. `N1`: the header is not one of version 1.6 with schema 0 and a
 /// bound from 1 to 4,194,303 (2.3). Else the first instruction that has no words of its own, or too many: `N2`: its
 /// opcode has no entry in the table, or no words spell its operands by the entry's pattern. `N3`: words spell it, but
-/// it has over 65,535 of them (2.3), or with it the module has over 4,194,304. `N4`: a growth of memory was refused.
+/// it has over 65,535 of them (2.3), or with it the module has over 4,194,304. `Memory`: a growth of memory was
+/// refused.
 pub fn show(alloc: Global, table: &Table, module: &Module<'_>) -> Result<String, EncodeError>
     // The text is the shown one of the module's header and instructions.
     ensures shown { IfOk result (λ t. IsShownText table.now «module».now.header (plain_insts «module».now)

@@ -12,7 +12,7 @@ use Rattle.spv_layout.specs.declared.form.Form.TheVariants as form
 use Rattle.spv_layout.specs.Row.{PlainRow, RowEnding, closed, maybe, file_and_text, repeated, others, maybe_others, has_masks, name_of, row_in}
 use Rattle.spv_layout.specs.Rows.{rows}
 use Rattle.spv_layout.specs.Shape.{is_of, AreOf, Ends, HasForms, FitsShape, role_of, id_of}
-use Rattle.spv_ops.proofs.Opcodes.{both, and_yes, all_pass, one_passes}
+use Rattle.spv_type_forms.proofs.Opcodes.{both, and_yes, all_pass, one_passes}
 use Rattle.spv_roles.specs.declared.asked.Asked.{Asked}
 use Rattle.spv_roles.specs.inner.Asked.{asked_of, IsPlayed, due_after, next_after, ArePlayed, IsOneMiscast}
 use Rattle.spv_roles.specs.Role.{Plays}

@@ -15,6 +15,7 @@ use Rattle.spv_layout.specs.declared.form.Role.{Role}
 use Rattle.spv_layout.specs.declared.form.Form.{Form}
 use Rattle.spv_layout.specs.declared.form.Form.TheVariants as form
 use Rattle.spv_layout.specs.First.{IsFirst, IsUnbroken, rank_of}
+use Rattle.spv_layout.specs.Stage.{of_roles}
 use Rattle.spv_layout.specs.Shape.{is_of, AreOf, role_of, id_of, IsUse, IsRole}
 use Rattle.spv_layout.proofs.Shapes.{use_same}
 use Rattle.spv_ids.specs.inner.Uses.{used_id}
@@ -120,7 +121,7 @@ one_up_to G is n to i at len a h = record {
 unbroken_at : (G : Table) (is : List PlainInst) → AreInRole G is → (r : Rule) (n : ℕ) → Broken G is r n → ⊥
 unbroken_at G is a _ _ (Broken.miscast n k x r u never) = never (a.each n k x r u)
 
-pub unbroken : (G : Table) (is : List PlainInst) → AreInRole G is → IsUnbroken (Broken G is) 4
+pub unbroken : (G : Table) (is : List PlainInst) → AreInRole G is → IsUnbroken (Broken G is) of_roles
 unbroken G is a = λ r n s b. unbroken_at G is a r n b
 
 pub all_in_role : (G : Table) (is : List PlainInst) (to : ℕ) → to ≡ length is → AreInRoleUpTo G is to → AreInRole G is
@@ -137,7 +138,7 @@ later G is n h _ _ (Broken.miscast m k x r u never) =
     (cases_lt n m))
     (cases_lt m n)
 
-pub first_miscast : (G : Table) (is : List PlainInst) (n : ℕ) (i : PlainInst) → slice_get is n ≡ Some i → HasMiscast G is i → AreInRoleUpTo G is n → IsFirst (Broken G is) 4 Y1 n
+pub first_miscast : (G : Table) (is : List PlainInst) (n : ℕ) (i : PlainInst) → slice_get is n ≡ Some i → HasMiscast G is i → AreInRoleUpTo G is n → IsFirst (Broken G is) of_roles Y1 n
 first_miscast G is n i at m h = record {
   of_stage = refl;
   broken = Broken.miscast n m.place m.miscast.id m.miscast.role (record { inst = i; there = at; used = m.miscast.used }) m.miscast.not;

@@ -1,4 +1,3 @@
 pub mod Casting
 pub mod Worked
-pub mod Listed
 pub mod Asking

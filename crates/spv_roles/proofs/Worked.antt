@@ -5,6 +5,7 @@ use Rattle.spv_table.specs.Table.{Table}
 use Rattle.spv_module.specs.Operand.{OfType, Result, PlainInst}
 use Rattle.spv_module.specs.declared.fault.Rule.{Rule}
 use Rattle.spv_module.specs.declared.fault.Rule.TheVariants.{Y1}
+use Rattle.spv_module.specs.declared.opcode.TheConstants as opcode
 use Rattle.spv_layout.specs.declared.class.Class.TheVariants as class
 use Rattle.spv_layout.specs.declared.form.Form.TheVariants as form
 use Rattle.spv_layout.specs.declared.form.Role.{Role}
@@ -24,10 +25,10 @@ use Rattle.spv_roles.specs.Role.{Plays}
 use Rattle.spv_roles.proofs.Asking.{judged}
 use Rattle.spv_roles.proofs.Casting.{no_operand, none_up_to, first_miscast}
 
-undef_forms : (G : Table) → HasForms G (inst 1 (OfType 5 ∷ Result 2 ∷ [])) (form.OfType ∷ form.Result ∷ [])
+undef_forms : (G : Table) → HasForms G (inst opcode.UNDEF (OfType 5 ∷ Result 2 ∷ [])) (form.OfType ∷ form.Result ∷ [])
 unfolding rows
 undef_forms G = record {
-  row = row 1 1 class.Undef (form.OfType ∷ form.Result ∷ []) closed;
+  row = row opcode.UNDEF opcode.UNDEF class.Undef (form.OfType ∷ form.Result ∷ []) closed;
   rest = [];
   known = refl;
   forms = refl;
@@ -35,24 +36,24 @@ undef_forms G = record {
   each = AreOf.more _ _ _ _ refl (AreOf.more _ _ _ _ refl AreOf.none);
 }
 
-stray_use : (G : Table) → IsUse G (inst 1 (OfType 5 ∷ Result 2 ∷ [])) 0 5 role.OfType
+stray_use : (G : Table) → IsUse G (inst opcode.UNDEF (OfType 5 ∷ Result 2 ∷ [])) 0 5 role.OfType
 stray_use G = record { forms = _; has = undef_forms G; form = form.OfType; operand = OfType 5; form_at = refl; operand_at = refl; role = refl; id = refl }
 
 stray_used : (G : Table) → IsUsedAt G stray 0 0 5 role.OfType
-stray_used G = record { inst = inst 1 (OfType 5 ∷ Result 2 ∷ []); there = refl; used = stray_use G }
+stray_used G = record { inst = inst opcode.UNDEF (OfType 5 ∷ Result 2 ∷ []); there = refl; used = stray_use G }
 
 pub stray_broken : (G : Table) → Broken G stray Y1 0
 stray_broken G = Broken.miscast 0 0 5 role.OfType (stray_used G) (λ p. p)
 
 -- the one operand of an OpTypeVoid is no use
-none_used : (G : Table) (k x : ℕ) (q : Role) → IsUse G (inst 19 (Result 1 ∷ [])) k x q → Plays few q x
-none_used G zero x q u = no_operand G few (inst 19 (Result 1 ∷ [])) 0 (Result 1) refl refl x q u
+none_used : (G : Table) (k x : ℕ) (q : Role) → IsUse G (inst opcode.TYPE_VOID (Result 1 ∷ [])) k x q → Plays few q x
+none_used G zero x q u = no_operand G few (inst opcode.TYPE_VOID (Result 1 ∷ [])) 0 (Result 1) refl refl x q u
 none_used G (suc k) x q u = let e : None ≡ Some u.operand = u.operand_at in cc
 
 unbroken_at : (G : Table) (r : Rule) (n : ℕ) → n ≡ 0 → Broken G few r n → ⊥
 unbroken_at G _ _ e (Broken.miscast n k x q u never) =
     let there : slice_get few 0 ≡ Some u.inst = subst (λ (m : ℕ). slice_get few m ≡ Some u.inst) e u.there in
-    let same : u.inst ≡ inst 19 (Result 1 ∷ []) = cc in
+    let same : u.inst ≡ inst opcode.TYPE_VOID (Result 1 ∷ []) = cc in
     never (none_used G k x q (subst (λ (i : PlainInst). IsUse G i k x q) same u.used))
 
 pub unused_unbroken : (G : Table) → ¬ (Broken G few Y1 0)
@@ -69,11 +70,11 @@ types_alone = record { first = role.Any; others = role.Any; masked = role.Any }
 
 typed_at : (G : Table) (n k x : ℕ) (r : Role) (i : PlainInst) → slice_get typed n ≡ Some i → IsUse G i k x r → Plays typed r x
 typed_at G zero k x r i at u =
-    let same : i ≡ inst 19 (Result 1 ∷ []) = cc in
-    played G typed (inst 19 (Result 1 ∷ [])) types_alone refl (tt, tt) k x r (subst (λ (j : PlainInst). IsUse G j k x r) same u)
+    let same : i ≡ inst opcode.TYPE_VOID (Result 1 ∷ []) = cc in
+    played G typed (inst opcode.TYPE_VOID (Result 1 ∷ [])) types_alone refl (tt, tt) k x r (subst (λ (j : PlainInst). IsUse G j k x r) same u)
 typed_at G (suc zero) k x r i at u =
-    let same : i ≡ inst 1 (OfType 1 ∷ Result 2 ∷ []) = cc in
-    played G typed (inst 1 (OfType 1 ∷ Result 2 ∷ [])) types_alone refl ((lit≤ tt, lit≤ tt), (tt, tt)) k x r (subst (λ (j : PlainInst). IsUse G j k x r) same u)
+    let same : i ≡ inst opcode.UNDEF (OfType 1 ∷ Result 2 ∷ []) = cc in
+    played G typed (inst opcode.UNDEF (OfType 1 ∷ Result 2 ∷ [])) types_alone refl ((lit≤ tt, lit≤ tt), (tt, tt)) k x r (subst (λ (j : PlainInst). IsUse G j k x r) same u)
 typed_at G (suc (suc n)) k x r i at u = cc
 
 pub typed_in_role : (G : Table) → AreInRole G typed
@@ -82,12 +83,12 @@ typed_in_role G = record { each = λ n k x r u. typed_at G n k x r u.inst u.ther
 pub stray_not_in_role : (G : Table) → ¬ (AreInRole G stray)
 stray_not_in_role G a = a.each 0 0 5 role.OfType (stray_used G)
 
-stray_miscast : (G : Table) → IsMiscast G stray (inst 1 (OfType 5 ∷ Result 2 ∷ [])) 0
+stray_miscast : (G : Table) → IsMiscast G stray (inst opcode.UNDEF (OfType 5 ∷ Result 2 ∷ [])) 0
 stray_miscast G = record { id = 5; role = role.OfType; used = stray_use G; not = λ p. p }
 
 pub stray_refused : (G : Table) → IsRefusal G stray (record { rule = Y1; inst = 0; word = 5 })
 stray_refused G = record {
-  first = first_miscast G stray 0 (inst 1 (OfType 5 ∷ Result 2 ∷ [])) refl (record { place = 0; miscast = stray_miscast G }) (none_up_to G stray);
+  first = first_miscast G stray 0 (inst opcode.UNDEF (OfType 5 ∷ Result 2 ∷ [])) refl (record { place = 0; miscast = stray_miscast G }) (none_up_to G stray);
   word = refl;
 }
 

@@ -6,6 +6,7 @@ use Rattle.spv_module.specs.declared.fault.Fault.{Fault}
 use Rattle.spv_layout.specs.declared.form.Role.{Role}
 use Rattle.spv_layout.specs.First.{IsFirst}
 use Rattle.spv_layout.specs.Place.{first_word_of}
+use Rattle.spv_layout.specs.Stage.{of_roles}
 use Rattle.spv_ids.specs.Definition.{IsUsedAt}
 use Rattle.spv_roles.specs.Role.{Plays}
 use Rattle.spv_roles.specs.Broken.{Broken}
@@ -16,5 +17,5 @@ pub record AreInRole (G : Table) (is : List PlainInst) : Type 0 where
 
 -- What a refusal says: the first broken rule on roles, which is Y1, and the first word of its instruction.
 pub record IsRefusal (G : Table) (is : List PlainInst) (f : Fault) : Type 0 where
-  pub first : IsFirst (Broken G is) 4 f.rule f.inst
+  pub first : IsFirst (Broken G is) of_roles f.rule f.inst
   pub word : f.word ≡ first_word_of is f.inst

@@ -4,6 +4,7 @@ ghost use Rattle.std.specs.Prelude.{◌≡◌};
 ghost use Rattle.spv_roles.specs.inner.Asked as spec;
 
 use spv_layout::Role;
+use spv_module::opcode;
 
 /// The roles that the `Id` operands of an instruction are asked to play. Each `Type` operand is asked to be a type.
 #[derive(Clone, Copy)]
@@ -28,45 +29,56 @@ fn ask(first: Role, others: Role, masked: Role) -> Option<Asked>
     })
 }
 
-/// What `asked_of` answers of opcodes below 61.
-fn early(opcode: u16) -> Option<Asked>
-    ensures { result ≡ spec.early opcode }
+/// What `asked_of` answers of opcodes up to that of OpVariable.
+fn early(number: u16) -> Option<Asked>
+    ensures { result ≡ spec.early number }
 {
-    match opcode {
+    match number {
         // Composite constants and OpVariable: values.
-        44 | 51 | 59 => ask(Role::Value, Role::Value, Role::Any),
+        opcode::CONSTANT_COMPOSITE | opcode::SPEC_CONSTANT_COMPOSITE | opcode::VARIABLE => ask(
+            Role::Value,
+            Role::Value,
+            Role::Any,
+        ),
         // OpTypeVector, Struct, Pointer, Function and ForwardPointer, and OpFunction: types.
-        23 | 30 | 32 | 33 | 39 | 54 => ask(Role::OfType, Role::OfType, Role::OfType),
+        opcode::TYPE_VECTOR
+        | opcode::TYPE_STRUCT
+        | opcode::TYPE_POINTER
+        | opcode::TYPE_FUNCTION
+        | opcode::TYPE_FORWARD_POINTER
+        | opcode::FUNCTION => ask(Role::OfType, Role::OfType, Role::OfType),
         // OpTypeArray: a type, and its length.
-        28 => ask(Role::OfType, Role::Value, Role::Value),
+        opcode::TYPE_ARRAY => ask(Role::OfType, Role::Value, Role::Value),
         // OpFunctionCall: a function, and its arguments.
-        57 => ask(Role::Function, Role::Value, Role::Value),
+        opcode::FUNCTION_CALL => ask(Role::Function, Role::Value, Role::Value),
         // OpEntryPoint: a function, and variables of the module.
-        15 => ask(Role::Function, Role::Global, Role::Global),
+        opcode::ENTRY_POINT => ask(Role::Function, Role::Global, Role::Global),
         // OpExecutionMode: a function.
-        16 => ask(Role::Function, Role::Any, Role::Any),
+        opcode::EXECUTION_MODE => ask(Role::Function, Role::Any, Role::Any),
         // OpLine: a file.
-        8 => ask(Role::Text, Role::Text, Role::Text),
+        opcode::LINE => ask(Role::Text, Role::Text, Role::Text),
         // OpExtInst: a set, and ids of which nothing is asked.
-        12 => ask(Role::Set, Role::Any, Role::Any),
-        // OpSource.
-        3 => None,
+        opcode::EXT_INST => ask(Role::Set, Role::Any, Role::Any),
+        opcode::SOURCE => None,
         _ => ask(Role::Any, Role::Any, Role::Any),
     }
 }
 
-/// What `asked_of` answers of opcodes that are neither below 61 nor between others.
+/// What `asked_of` answers of opcodes past that of OpVariable that are not between others.
 #[inline(always)]
-fn late(opcode: u16) -> Option<Asked>
-    ensures { result ≡ spec.late opcode }
+fn late(number: u16) -> Option<Asked>
+    ensures { result ≡ spec.late number }
 {
-    match opcode {
+    match number {
         // OpReturnValue and lifetimes: values.
-        254 | 256 | 257 => ask(Role::Value, Role::Value, Role::Any),
+        opcode::RETURN_VALUE | opcode::LIFETIME_START | opcode::LIFETIME_STOP => ask(
+            Role::Value,
+            Role::Value,
+            Role::Any,
+        ),
         // OpBranchConditional and OpSwitch: a value, and labels.
-        250 | 251 => ask(Role::Value, Role::Any, Role::Any),
-        // OpPhi.
-        245 => None,
+        opcode::BRANCH_CONDITIONAL | opcode::SWITCH => ask(Role::Value, Role::Any, Role::Any),
+        opcode::PHI => None,
         _ => ask(Role::Any, Role::Any, Role::Any),
     }
 }
@@ -74,14 +86,17 @@ fn late(opcode: u16) -> Option<Asked>
 /// The roles that an opcode's row of the table of shapes asks for. None for OpSource and OpPhi, whose ids are not told
 /// so.
 #[inline(always)]
-pub fn asked_of(opcode: u16) -> Option<Asked>
-    ensures { result ≡ spec.asked_of opcode }
+pub fn asked_of(number: u16) -> Option<Asked>
+    ensures { result ≡ spec.asked_of number }
 {
-    match opcode {
+    match number {
         // Memory, composites, conversions, arithmetic, comparisons, bits, barriers and atomics: values, and anything
         // after the mask of a memory access.
-        109..=200 | 61..=70 | 77..=83 | 224..=242 => ask(Role::Value, Role::Value, Role::Any),
-        0..=60 => early(opcode),
-        _ => late(opcode),
+        opcode::CONVERT_F_TO_U..=opcode::NOT
+        | opcode::LOAD..=opcode::IN_BOUNDS_PTR_ACCESS_CHAIN
+        | opcode::VECTOR_EXTRACT_DYNAMIC..=opcode::COPY_OBJECT
+        | opcode::CONTROL_BARRIER..=opcode::ATOMIC_XOR => ask(Role::Value, Role::Value, Role::Any),
+        0..=opcode::VARIABLE => early(number),
+        _ => late(number),
     }
 }

@@ -1,11 +1,10 @@
-ghost use Rattle.std.specs.Prelude.{◌≡◌, ◌+◌, ◌≤◌, ◌<◌, ℕ, List, length, slice_get, sum_by, Some};
+ghost use Rattle.std.specs.Prelude.{◌≡◌, ◌<◌, ℕ, length, Some};
 ghost use Rattle.std.specs.Prelude.{OnOk, IfErr, MatchBool};
 ghost use Rattle.spv_table.specs.Table.{Table};
-ghost use Rattle.spv_module.specs.Operand.{PlainInst};
-ghost use Rattle.spv_module.specs.Module.{plain_inst, plain_insts, plain_operand, plain_operands};
-ghost use Rattle.spv_ids.specs.inner.Uses as uses;
+ghost use Rattle.spv_module.specs.Module.{plain_inst, plain_insts, plain_operands};
 ghost use Rattle.spv_layout.specs.First.{IsUnbroken};
-ghost use Rattle.spv_layout.specs.Place.{word_count};
+ghost use Rattle.spv_layout.specs.Place.{IsShort};
+ghost use Rattle.spv_layout.specs.Stage.{of_roles};
 ghost use Rattle.spv_layout.specs.Plan.{IsPlan};
 ghost use Rattle.spv_layout.specs.Shape.{FitsShape};
 ghost use Rattle.spv_ids.specs.Outcome.{IsDefinitionOf, definition_in};
@@ -17,22 +16,10 @@ ghost use Rattle.spv_roles.specs.Outcome.{AreInRole, IsRefusal};
 
 use crate::asked::{Asked, asked_of};
 use crate::role::{are_type_and, are_values, defines_type, plays};
-use spv_ids::Ids;
+use spv_ids::{Ids, used_id};
 use spv_layout::{Plan, Role, role};
 use spv_module::{Fault, Inst, Module, Operand, Rule};
-use spv_ops::Definitions;
-
-/// The id that an operand uses, if it is an id other than a result.
-#[inline(always)]
-pub fn used_id(operand: Operand<'_>) -> Option<u32>
-    ensures { result ≡ uses.used_id (plain_operand operand.entry) }
-{
-    match operand {
-        Operand::OfType(id) => Some(id),
-        Operand::Id(id) => Some(id),
-        _ => None,
-    }
-}
+use spv_type_forms::Definitions;
 
 /// Whether operand `k` of an instruction is no use, or a use of an id in its role.
 #[inline(always)]
@@ -203,14 +190,14 @@ fn are_in_role(definitions: &Definitions<'_, '_>, inst: &Inst<'_>) -> bool
 /// (words and instructions from 0).
 pub fn roles_check(module: &Module<'_>, plan: &Plan, ids: &Ids) -> Result<(), Fault>
     // The condition of `lay_out`, and that the plan and the ids are what was answered of the module.
-    requires words { 5 + sum_by word_count (plain_insts «module».now) ≤ 4194304 }
+    requires words { IsShort (plain_insts «module».now) }
     requires plan { (G : Table) × IsPlan G (plain_insts «module».now) plan.now }
     requires ids { (x : ℕ) → IsDefinitionOf (plain_insts «module».now) x (definition_in ids.now x) }
     // Each use is in its role, so the rule is broken nowhere.
     ensures roles { (G : Table) → IsPlan G (plain_insts «module».now) plan.now
         → OnOk result (AreInRole G (plain_insts «module».now)) }
     ensures unbroken { (G : Table) → IsPlan G (plain_insts «module».now) plan.now
-        → OnOk result (IsUnbroken (Broken G (plain_insts «module».now)) 4) }
+        → OnOk result (IsUnbroken (Broken G (plain_insts «module».now)) of_roles) }
     ensures refused { (G : Table) → IsPlan G (plain_insts «module».now) plan.now
         → IfErr result (λ f. IsRefusal G (plain_insts «module».now) f) }
 {

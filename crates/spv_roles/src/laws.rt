@@ -4,6 +4,7 @@ ghost use Rattle.std.specs.Prelude.{ℕ, List};
 ghost use Rattle.spv_table.specs.Table.{Table};
 ghost use Rattle.spv_module.specs.Operand.{PlainInst};
 ghost use Rattle.spv_layout.specs.First.{IsUnbroken};
+ghost use Rattle.spv_layout.specs.Stage.{of_roles};
 ghost use Rattle.spv_layout.specs.declared.form.Role.TheVariants as role;
 ghost use Rattle.spv_roles.specs.Broken.{Broken};
 ghost use Rattle.spv_roles.specs.Outcome.{AreInRole, IsRefusal};
@@ -14,7 +15,7 @@ ghost use Rattle.spv_module.specs.declared.fault.Rule.TheVariants.{Y1};
 
 /// Where each id that is used plays its role, Y1 is broken nowhere.
 pub fn played_is_unbroken()
-    ensures { (G : Table) (is : List PlainInst) → AreInRole G is → IsUnbroken (Broken G is) 4 }
+    ensures { (G : Table) (is : List PlainInst) → AreInRole G is → IsUnbroken (Broken G is) of_roles }
 {}
 
 /// Ids that play a role, and such as do not.

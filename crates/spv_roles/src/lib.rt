@@ -6,5 +6,6 @@ mod check;
 pub mod laws;
 mod role;
 
-pub use check::{roles_check, used_id};
+pub use check::roles_check;
 pub use role::plays;
+pub use spv_ids::used_id;

@@ -6,47 +6,32 @@ ghost use Rattle.spv_roles.specs.Role.{Plays};
 ghost use Rattle.spv_roles.specs.inner.Role.{IsTypeDeclaration, IsValue, IsOfOpcode};
 
 use spv_layout::Role;
-use spv_module::Inst;
-use spv_ops::{Definitions, type_in};
-
-/// The opcode of OpString.
-const STRING: u16 = 7;
-
-/// The opcode of OpExtInstImport.
-const EXT_INST_IMPORT: u16 = 11;
-
-/// The opcode of OpTypeVoid, the first of type declarations.
-const TYPE_VOID: u16 = 19;
-
-/// The opcode of OpTypeFunction, the last of type declarations.
-const TYPE_FUNCTION: u16 = 33;
-
-/// The opcode of OpFunction.
-const FUNCTION: u16 = 54;
+use spv_module::{Inst, opcode};
+use spv_type_forms::{Definitions, type_in};
 
 /// Whether an instruction is a value: it has a result type, and is no OpFunction.
 #[inline(always)]
 fn is_value(inst: &Inst<'_>) -> bool
     ensures { IsTrue result ↔ IsValue (plain_inst inst.now) }
 {
-    inst.opcode != FUNCTION && type_in(inst.operands.as_slice()).is_some()
+    inst.opcode != opcode::FUNCTION && type_in(inst.operands.as_slice()).is_some()
 }
 
-/// Whether an instruction is a type declaration.
+/// Whether an instruction is a type declaration: their opcodes stand together.
 #[inline(always)]
 fn is_type(inst: &Inst<'_>) -> bool
     ensures { IsTrue result ↔ IsTypeDeclaration (plain_inst inst.now) }
 {
-    inst.opcode >= TYPE_VOID && inst.opcode <= TYPE_FUNCTION
+    inst.opcode >= opcode::TYPE_VOID && inst.opcode <= opcode::TYPE_FUNCTION
 }
 
 /// Whether the definition of an id has an opcode.
 #[inline(always)]
-fn has_opcode(definitions: &Definitions<'_, '_>, id: u32, opcode: u16) -> bool
-    ensures { IsTrue result ↔ IsSomeAnd (definition_of definitions.now id) (IsOfOpcode opcode) }
+fn has_opcode(definitions: &Definitions<'_, '_>, id: u32, wanted: u16) -> bool
+    ensures { IsTrue result ↔ IsSomeAnd (definition_of definitions.now id) (IsOfOpcode wanted) }
 {
     match definitions.definition(id) {
-        Some(inst) => inst.opcode == opcode,
+        Some(inst) => inst.opcode == wanted,
         None => false,
     }
 }
@@ -93,9 +78,9 @@ pub fn plays(definitions: &Definitions<'_, '_>, role: Role, id: u32) -> bool
     match role {
         Role::OfType => defines_type(definitions, id),
         Role::Value => defines_value(definitions, id),
-        Role::Function => has_opcode(definitions, id, FUNCTION),
-        Role::Text => has_opcode(definitions, id, STRING),
-        Role::Set => has_opcode(definitions, id, EXT_INST_IMPORT),
+        Role::Function => has_opcode(definitions, id, opcode::FUNCTION),
+        Role::Text => has_opcode(definitions, id, opcode::STRING),
+        Role::Set => has_opcode(definitions, id, opcode::EXT_INST_IMPORT),
         Role::Global => definitions.is_global(id),
         Role::Label | Role::Any => true,
     }

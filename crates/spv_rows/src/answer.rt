@@ -28,7 +28,7 @@ impl Answer {
     ) -> anyhow::Result<Answer> {
         match arguments(alloc, words) {
             Ok(command) => Ok(Answer::of_command(alloc, &command, grammar, input)),
-            Err(UseError::U1) => Ok(Answer::of_no_command(alloc)),
+            Err(UseError::NoCommand) => Ok(Answer::of_no_command(alloc)),
             Err(error) => bail!("{error}"),
         }
     }

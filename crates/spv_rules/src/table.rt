@@ -222,7 +222,7 @@ pub static FORM_ROWS: [Row; 21] = [
         302,
         "A module has its memory model, and each function and block its end.",
         "2.4",
-        "all instructions together begin a module and are none: something is missing at the end"
+        "the module is incomplete: something is missing at the end"
     ),
     rule!(
         D1,

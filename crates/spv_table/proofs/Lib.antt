@@ -4,3 +4,4 @@ pub mod Found
 pub mod Slots
 pub mod Order
 pub mod Lookup
+pub mod Joined

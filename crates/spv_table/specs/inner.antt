@@ -1,5 +1,6 @@
 -- Definitions that serve the code alone.
 pub mod Form
+pub mod Joined
 pub mod Named
 pub mod Pattern
 pub mod Reached

@@ -23,7 +23,7 @@ pub fn capability_examples()
 
 fn shared<T: Send + Sync>() {}
 
-/// A table may be read by several threads at the same time, and let go of by another than made it. The bounds say so.
+/// A table may be read by several threads at the same time, and freed by another than made it. The bounds say so.
 pub fn tables_are_shared() {
     shared::<Table>();
 }

@@ -1,9 +1,11 @@
 ghost use Rattle.std.specs.Prelude.{◌≡◌, ◌<◌, ◌≤◌, ◌^◌, ℕ, List, length, option_map};
-ghost use Rattle.std.specs.Prelude.{option_and_then, slice_get, slice_index_or, IfOk};
+ghost use Rattle.std.specs.Prelude.{option_and_then, position, slice_get, slice_index_or, IfOk};
+ghost use Rattle.std.specs.Str.{bytes_eq};
 ghost use Rattle.std.specs.BTreeMap as tree;
 ghost use Rattle.std.specs.Ordering.{nat_cmp};
 ghost use Rattle.spv_table.specs.Table.{enumerant_of};
 ghost use Rattle.spv_table.specs.Lookups.{value_named};
+ghost use Rattle.spv_table.specs.inner.Named.{FindsAny};
 
 use crate::named::{Named, Names};
 use crate::places::widen;
@@ -22,8 +24,8 @@ pub struct Sort {
     near: Vec<u32>,
     /// The place of the first enumerant with a greater value.
     far: BTreeMap<u32, usize>,
-    /// Where the names of the enumerants are.
-    names: Names,
+    /// Where the names of the enumerants are; nothing where there are fewer than `FEW`.
+    names: Option<Box<Names>>,
 }
 
 impl Model for Sort {
@@ -36,7 +38,7 @@ impl Model for Sort {
     ghost Value = { Sort };
 
     ghost use Rattle.spv_table.specs.Table.{enumerant_of};
-    ghost use Rattle.spv_table.specs.inner.Named.{Finds};
+    ghost use Rattle.spv_table.specs.inner.Named.{FindsAny};
 
     ghost view = { λ s. record { kind = s.kind; enumerants = s.enumerants.items } };
 
@@ -45,11 +47,14 @@ impl Model for Sort {
         ≡ enumerant_of s.enumerants.items v)
         × ((v : ℕ) → 64 ≤ v → option_and_then (slice_get s.enumerants.items) (tree.get nat_cmp s.far v)
         ≡ enumerant_of s.enumerants.items v)
-        × Finds (λ e. e.name) s.enumerants.items s.names };
+        × FindsAny (λ e. e.name) s.enumerants.items s.names };
 }
 
 /// Below which number a value has a place in a list of its own.
 const SMALL: u32 = 64;
+
+/// Of fewer enumerants than this the names are gone through.
+const FEW: usize = 8;
 
 /// For each value below `SMALL` the place of the first enumerant that has it.
 fn near_places(alloc: Global, enumerants: &[Enumerant]) -> Result<Vec<u32>, AllocError>
@@ -83,6 +88,32 @@ fn far_places(alloc: Global, enumerants: &[Enumerant]) -> Result<BTreeMap<u32, u
     Ok(places)
 }
 
+/// Where the names of enumerants are; nothing where they are few.
+fn names_of(alloc: Global, enumerants: &[Enumerant]) -> Result<Option<Box<Names>>, AllocError>
+    requires { length enumerants.now < 2 ^ 32 }
+    ensures { IfOk result (FindsAny (λ e. e.name) enumerants.now) }
+{
+    if enumerants.len() < FEW {
+        return Ok(None);
+    }
+    let names = Names::of(alloc, enumerants)?;
+    match Box::new(alloc, names) {
+        Ok(names) => Ok(Some(names)),
+        Err(_) => Err(AllocError),
+    }
+}
+
+/// The place of the first enumerant with a name.
+fn place_of(names: &Option<Box<Names>>, enumerants: &[Enumerant], name: &str) -> Option<usize>
+    requires { FindsAny (λ e. e.name) enumerants.now names.now }
+    ensures { result ≡ position (λ e. bytes_eq name.now e.name) enumerants.now }
+{
+    match names {
+        Some(names) => names.place(enumerants, name),
+        None => enumerants.iter().position(|e| e.name.as_str() == name),
+    }
+}
+
 impl Named for Enumerant {
     ghost name = { λ e. e.name };
 
@@ -109,7 +140,7 @@ impl Sort {
         }
         let near = near_places(alloc, enumerants.as_slice())?;
         let far = far_places(alloc, enumerants.as_slice())?;
-        let names = Names::of(alloc, enumerants.as_slice())?;
+        let names = names_of(alloc, enumerants.as_slice())?;
         Ok(Sort {
             kind,
             enumerants,
@@ -145,7 +176,7 @@ impl Sort {
     pub fn value(&self, name: &str) -> Option<u32>
         ensures { result ≡ value_named self.now.enumerants name.now }
     {
-        let place = self.names.place(self.enumerants.as_slice(), name)?;
+        let place = place_of(&self.names, self.enumerants.as_slice(), name)?;
         match self.enumerants.get(place) {
             Some(enumerant) => Some(enumerant.value),
             None => None,

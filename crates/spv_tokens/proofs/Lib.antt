@@ -8,3 +8,5 @@ pub mod Named
 pub mod HexRead
 pub mod Splits
 pub mod Quoting
+pub mod NumberTypes
+pub mod OneMore

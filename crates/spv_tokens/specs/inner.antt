@@ -1,3 +1,4 @@
 -- Definitions that serve the code alone.
 pub mod Answer
+pub mod Narrow
 pub mod Quoted

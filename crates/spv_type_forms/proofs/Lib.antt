@@ -1,3 +1,4 @@
+pub mod Opcodes
 pub mod Walks
 pub mod Choices
 pub mod TagTests

@@ -3,6 +3,7 @@ use Rattle.std.proofs.Common.{◌≡◌, ◌<◌, ◌↔◌, ℕ, zero, suc, Lis
 use Rattle.std.specs.Prelude.{slice_get}
 use Rattle.std.proofs.lemmas.Bool.{eqb-true, eq-eqb}
 use Rattle.std.proofs.lemmas.Option.{none-some, slice_get_within}
+use Rattle.spv_module.specs.declared.opcode.TheConstants as opcode
 use Rattle.spv_module.specs.Operand.{PlainInst, result_in}
 use Rattle.spv_module.specs.Width.{definition_of, has_result, or_else}
 use Rattle.spv_layout.specs.Place.{IsOfSection}
@@ -80,7 +81,7 @@ one_section is n s (IsOfSection.definition c f at of last d) (IsOfSection.global
 
 -- whether a definition is a variable of section 9 is told by its opcode and section
 pub global_told : (is : List PlainInst) (x m : ℕ) (i : PlainInst) (p : Place) → IsOnly is x m → slice_get is m ≡ Some i → IsPlaceOf is m p
-    → ((i.opcode ≡ 59) × (p.section ≡ 11)) ↔ IsGlobal is x
+    → ((i.opcode ≡ opcode.VARIABLE) × (p.section ≡ 11)) ↔ IsGlobal is x
 global_told is x m i p one at place = (
   λ two.
       let same : i ≡ one.there.inst = cc (at, one.there.there) in

@@ -1,5 +1,6 @@
 -- A small module's types, constants and variables, and a variable alone.
 use Rattle.std.specs.Prelude.{ℕ, List, [], ◌∷◌}
+use Rattle.spv_module.specs.declared.opcode.TheConstants as opcode
 use Rattle.spv_module.specs.Operand.{Plain, OfType, Result, Id, Word, Number, Value, PlainInst}
 
 abbrev pub inst : ℕ → List Plain → PlainInst
@@ -7,24 +8,24 @@ inst opcode operands = record { opcode = opcode; operands = operands }
 
 abbrev pub small : List PlainInst
 small =
-    inst 21 (Result 1 ∷ Word 32 ∷ Word 0 ∷ []) ∷  -- %1 = OpTypeInt 32 0
-    inst 22 (Result 2 ∷ Word 32 ∷ []) ∷  -- %2 = OpTypeFloat 32
-    inst 23 (Result 3 ∷ Id 1 ∷ Word 4 ∷ []) ∷  -- %3 = OpTypeVector %1 4
-    inst 30 (Result 6 ∷ Id 1 ∷ Id 2 ∷ []) ∷  -- %6 = OpTypeStruct %1 %2
-    inst 32 (Result 4 ∷ Value 0 5 ∷ Id 2 ∷ []) ∷  -- %4 = OpTypePointer CrossWorkgroup %2
-    inst 32 (Result 7 ∷ Value 0 5 ∷ Id 6 ∷ []) ∷  -- %7 = OpTypePointer CrossWorkgroup %6
-    inst 43 (OfType 1 ∷ Result 5 ∷ Number 1 0 1 ∷ []) ∷  -- %5 = OpConstant %1 1
-    inst 59 (OfType 7 ∷ Result 8 ∷ Value 0 5 ∷ []) ∷  -- %8 = OpVariable %7 CrossWorkgroup
-    inst 20 (Result 12 ∷ []) ∷  -- %12 = OpTypeBool
-    inst 23 (Result 13 ∷ Id 12 ∷ Word 4 ∷ []) ∷  -- %13 = OpTypeVector %12 4
-    inst 21 (Result 14 ∷ Word 64 ∷ Word 0 ∷ []) ∷  -- %14 = OpTypeInt 64 0
-    inst 23 (Result 15 ∷ Id 1 ∷ Word 2 ∷ []) ∷  -- %15 = OpTypeVector %1 2
-    inst 32 (Result 16 ∷ Value 0 8 ∷ Id 2 ∷ []) ∷  -- %16 = OpTypePointer Generic %2
-    inst 32 (Result 17 ∷ Value 0 7 ∷ Id 1 ∷ []) ∷  -- %17 = OpTypePointer Function %1
-    inst 50 (OfType 1 ∷ Result 18 ∷ Number 3 0 1 ∷ []) ∷  -- %18 = OpSpecConstant %1 3
-    inst 28 (Result 19 ∷ Id 2 ∷ Id 18 ∷ []) ∷  -- %19 = OpTypeArray %2 %18
+    inst opcode.TYPE_INT (Result 1 ∷ Word 32 ∷ Word 0 ∷ []) ∷  -- %1 = OpTypeInt 32 0
+    inst opcode.TYPE_FLOAT (Result 2 ∷ Word 32 ∷ []) ∷  -- %2 = OpTypeFloat 32
+    inst opcode.TYPE_VECTOR (Result 3 ∷ Id 1 ∷ Word 4 ∷ []) ∷  -- %3 = OpTypeVector %1 4
+    inst opcode.TYPE_STRUCT (Result 6 ∷ Id 1 ∷ Id 2 ∷ []) ∷  -- %6 = OpTypeStruct %1 %2
+    inst opcode.TYPE_POINTER (Result 4 ∷ Value 0 5 ∷ Id 2 ∷ []) ∷  -- %4 = OpTypePointer CrossWorkgroup %2
+    inst opcode.TYPE_POINTER (Result 7 ∷ Value 0 5 ∷ Id 6 ∷ []) ∷  -- %7 = OpTypePointer CrossWorkgroup %6
+    inst opcode.CONSTANT (OfType 1 ∷ Result 5 ∷ Number 1 0 1 ∷ []) ∷  -- %5 = OpConstant %1 1
+    inst opcode.VARIABLE (OfType 7 ∷ Result 8 ∷ Value 0 5 ∷ []) ∷  -- %8 = OpVariable %7 CrossWorkgroup
+    inst opcode.TYPE_BOOL (Result 12 ∷ []) ∷  -- %12 = OpTypeBool
+    inst opcode.TYPE_VECTOR (Result 13 ∷ Id 12 ∷ Word 4 ∷ []) ∷  -- %13 = OpTypeVector %12 4
+    inst opcode.TYPE_INT (Result 14 ∷ Word 64 ∷ Word 0 ∷ []) ∷  -- %14 = OpTypeInt 64 0
+    inst opcode.TYPE_VECTOR (Result 15 ∷ Id 1 ∷ Word 2 ∷ []) ∷  -- %15 = OpTypeVector %1 2
+    inst opcode.TYPE_POINTER (Result 16 ∷ Value 0 8 ∷ Id 2 ∷ []) ∷  -- %16 = OpTypePointer Generic %2
+    inst opcode.TYPE_POINTER (Result 17 ∷ Value 0 7 ∷ Id 1 ∷ []) ∷  -- %17 = OpTypePointer Function %1
+    inst opcode.SPEC_CONSTANT (OfType 1 ∷ Result 18 ∷ Number 3 0 1 ∷ []) ∷  -- %18 = OpSpecConstant %1 3
+    inst opcode.TYPE_ARRAY (Result 19 ∷ Id 2 ∷ Id 18 ∷ []) ∷  -- %19 = OpTypeArray %2 %18
     []
 
 -- %8 = OpVariable %7 CrossWorkgroup
 abbrev pub lone_variable : List PlainInst
-lone_variable = inst 59 (OfType 7 ∷ Result 8 ∷ Value 0 5 ∷ []) ∷ []
+lone_variable = inst opcode.VARIABLE (OfType 7 ∷ Result 8 ∷ Value 0 5 ∷ []) ∷ []

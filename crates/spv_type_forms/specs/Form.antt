@@ -1,5 +1,6 @@
 -- What a type id declares: its definition is the instruction whose result it is. [2.2.2, 3.49.6]
 use Rattle.std.specs.Prelude.{ℕ, List, ◌∷◌, Option, Some, None, nat_eq, if◌then◌else◌, option_and_then}
+use Rattle.spv_module.specs.declared.opcode.TheConstants as opcode
 use Rattle.spv_module.specs.Operand.{Plain, Result, Id, Word, Value, PlainInst}
 use Rattle.spv_module.specs.Width.{definition_of}
 use Rattle.spv_type_forms.specs.declared.form.Scalar.TheVariants as scalar
@@ -33,16 +34,16 @@ pointer_in _ = None
 
 -- what an instruction declares, if it is a type declaration [3.49.6]
 abbrev pub form_in : PlainInst → Option Form
-form_in i = if nat_eq i.opcode 19 then Some form.Void  -- TypeVoid
-    else (if nat_eq i.opcode 20 then Some (form.Scalar scalar.Bool)  -- TypeBool
-    else (if nat_eq i.opcode 21 then int_in i.operands  -- TypeInt
-    else (if nat_eq i.opcode 22 then float_in i.operands  -- TypeFloat
-    else (if nat_eq i.opcode 23 then vector_in i.operands  -- TypeVector
-    else (if nat_eq i.opcode 28 then array_in i.operands  -- TypeArray
-    else (if nat_eq i.opcode 30 then Some form.Struct  -- TypeStruct
-    else (if nat_eq i.opcode 31 then Some form.Opaque  -- TypeOpaque
-    else (if nat_eq i.opcode 32 then pointer_in i.operands  -- TypePointer
-    else (if nat_eq i.opcode 33 then Some form.Function else None)))))))))  -- TypeFunction
+form_in i = if nat_eq i.opcode opcode.TYPE_VOID then Some form.Void
+    else (if nat_eq i.opcode opcode.TYPE_BOOL then Some (form.Scalar scalar.Bool)
+    else (if nat_eq i.opcode opcode.TYPE_INT then int_in i.operands
+    else (if nat_eq i.opcode opcode.TYPE_FLOAT then float_in i.operands
+    else (if nat_eq i.opcode opcode.TYPE_VECTOR then vector_in i.operands
+    else (if nat_eq i.opcode opcode.TYPE_ARRAY then array_in i.operands
+    else (if nat_eq i.opcode opcode.TYPE_STRUCT then Some form.Struct
+    else (if nat_eq i.opcode opcode.TYPE_OPAQUE then Some form.Opaque
+    else (if nat_eq i.opcode opcode.TYPE_POINTER then pointer_in i.operands
+    else (if nat_eq i.opcode opcode.TYPE_FUNCTION then Some form.Function else None)))))))))
 
 -- what the definition of an id declares [2.2.2]
 abbrev pub form_of : List PlainInst → ℕ → Option Form

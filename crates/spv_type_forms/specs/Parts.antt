@@ -1,6 +1,7 @@
 -- The parts of a type, and how many they are. [2.2.2; own: Reach]
 use Rattle.std.specs.Prelude.{◌+◌, ◌*◌, ℕ, List, [], ◌∷◌, Option, Some, None, nat_eq, ◌||◌}
 use Rattle.std.specs.Prelude.{if◌then◌else◌, option_and_then, option_map, slice_get, length, ◌≡◌}
+use Rattle.spv_module.specs.declared.opcode.TheConstants as opcode
 use Rattle.spv_module.specs.Operand.{Plain, OfType, Result, Id, Number, PlainInst}
 use Rattle.spv_module.specs.Width.{definition_of}
 use Rattle.spv_type_forms.specs.declared.form.Form.{Form}
@@ -12,14 +13,16 @@ abbrev pub number_in : List Plain → Option ℕ
 number_in (OfType t ∷ Result x ∷ Number low high words ∷ _) = Some (low + 4294967296 * high)
 number_in _ = None
 
--- the number of an OpConstant (43) [3.49.7]
+-- the number of an OpConstant [3.49.7]
 abbrev pub constant_of : List PlainInst → ℕ → Option ℕ
 constant_of is x =
-    option_and_then (λ i. if nat_eq i.opcode 43 then number_in i.operands else None) (definition_of is x)
+    option_and_then (λ i. if nat_eq i.opcode opcode.CONSTANT then number_in i.operands else None)
+    (definition_of is x)
 
--- the number of an OpConstant or OpSpecConstant (50), of the latter the one that stands there [3.49.7; own]
+-- the number of an OpConstant or OpSpecConstant, of the latter the one that stands there [3.49.7; own]
 abbrev pub length_of : List PlainInst → ℕ → Option ℕ
-length_of is x = option_and_then (λ i. if nat_eq i.opcode 43 || nat_eq i.opcode 50 then number_in i.operands else None)
+length_of is x = option_and_then (λ i.
+    if nat_eq i.opcode opcode.CONSTANT || nat_eq i.opcode opcode.SPEC_CONSTANT then number_in i.operands else None)
     (definition_of is x)
 
 -- what follows the result: %t = OpTypeStruct %a %b .. [3.49.6]

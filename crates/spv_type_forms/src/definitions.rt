@@ -3,6 +3,7 @@
 ghost use Rattle.std.specs.Prelude.{◌≡◌, ◌↔◌, ◌<◌, ℕ, IsTrue, Some, length, map, option_map};
 ghost use Rattle.std.specs.Prelude.{slice_get};
 ghost use Rattle.spv_table.specs.Table.{Table};
+ghost use Rattle.spv_module.specs.declared.opcode.TheConstants as opcode;
 ghost use Rattle.spv_module.specs.Width as width;
 ghost use Rattle.spv_module.specs.Width.{definition_of};
 ghost use Rattle.spv_module.specs.Module.{plain_inst, plain_insts, plain_operands};
@@ -17,11 +18,8 @@ ghost use Rattle.spv_type_forms.specs.Definitions.{IsConstant, IsGlobal};
 use crate::form::{Components, Form, Scalar, form_in};
 use spv_ids::Ids;
 use spv_layout::{Place, Plan};
-use spv_module::{Inst, Module, Operand};
+use spv_module::{Inst, Module, Operand, opcode};
 use std::marker::Model;
-
-/// The opcode of OpVariable.
-const VARIABLE: u16 = 59;
 
 /// The number of section 9 among the sections.
 pub const DECLARATIONS: u8 = 11;
@@ -167,17 +165,19 @@ impl<'m, 'a> Definitions<'m, 'a> {
 
 /// Whether an instruction is an OpVariable, and its place of section 9.
 fn is_global_variable(inst: &Inst<'_>, place: Place) -> bool
-    ensures { IsTrue result ↔ (((plain_inst inst.now).opcode ≡ 59) × (place.section ≡ 11)) }
+    ensures { IsTrue result ↔ (((plain_inst inst.now).opcode ≡ opcode.VARIABLE) × (place.section ≡ 11)) }
 {
-    inst.opcode == VARIABLE && place.section == DECLARATIONS
+    inst.opcode == opcode::VARIABLE && place.section == DECLARATIONS
 }
 
 /// Whether an opcode is that of a constant.
-pub fn is_constant_opcode(opcode: u16) -> bool
-    ensures { result ≡ definitions.is_constant_opcode opcode }
+pub fn is_constant_opcode(number: u16) -> bool
+    ensures { result ≡ definitions.is_constant_opcode number }
 {
-    match opcode {
-        41..=44 | 46 | 48..=51 => true,
+    match number {
+        opcode::CONSTANT_TRUE..=opcode::CONSTANT_COMPOSITE
+        | opcode::CONSTANT_NULL
+        | opcode::SPEC_CONSTANT_TRUE..=opcode::SPEC_CONSTANT_COMPOSITE => true,
         _ => false,
     }
 }

@@ -3,7 +3,7 @@ ghost use Rattle.spv_module.specs.Module.{plain_inst, plain_operands};
 ghost use Rattle.spv_type_forms.specs.Form as spec;
 ghost use Rattle.spv_type_forms.specs.Types.{sort_of};
 
-use spv_module::{Inst, Operand};
+use spv_module::{Inst, Operand, opcode};
 
 /// A scalar type (SPIR-V Specification 1.6, section 2.2.2). Ints and floats have a width in bits.
 #[derive(Clone, Copy, PartialEq, Eq)]
@@ -115,16 +115,16 @@ pub fn form_in(inst: &Inst) -> Option<Form>
 {
     let operands = inst.operands.as_slice();
     match inst.opcode {
-        19 => Some(Form::Void),
-        20 => Some(Form::Scalar(Scalar::Bool)),
-        21 => int_in(operands),
-        22 => float_in(operands),
-        23 => vector_in(operands),
-        28 => array_in(operands),
-        30 => Some(Form::Struct),
-        31 => Some(Form::Opaque),
-        32 => pointer_in(operands),
-        33 => Some(Form::Function),
+        opcode::TYPE_VOID => Some(Form::Void),
+        opcode::TYPE_BOOL => Some(Form::Scalar(Scalar::Bool)),
+        opcode::TYPE_INT => int_in(operands),
+        opcode::TYPE_FLOAT => float_in(operands),
+        opcode::TYPE_VECTOR => vector_in(operands),
+        opcode::TYPE_ARRAY => array_in(operands),
+        opcode::TYPE_STRUCT => Some(Form::Struct),
+        opcode::TYPE_OPAQUE => Some(Form::Opaque),
+        opcode::TYPE_POINTER => pointer_in(operands),
+        opcode::TYPE_FUNCTION => Some(Form::Function),
         _ => None,
     }
 }

@@ -9,7 +9,7 @@ ghost use Rattle.spv_type_forms.specs.inner.Walk.{walk, choice, choices};
 use crate::definitions::Definitions;
 use crate::form::Form;
 use crate::operands::after_result;
-use spv_module::Operand;
+use spv_module::{Operand, opcode};
 
 /// The number of a constant: 64 bits, the low word first.
 fn number_in(operands: &[Operand]) -> Option<u64>
@@ -32,7 +32,7 @@ pub fn constant(definitions: &Definitions, id: u32) -> Option<u64>
 {
     let inst = definitions.definition(id)?;
     match inst.opcode {
-        43 => number_in(inst.operands.as_slice()),
+        opcode::CONSTANT => number_in(inst.operands.as_slice()),
         _ => None,
     }
 }
@@ -43,7 +43,7 @@ pub fn length(definitions: &Definitions, id: u32) -> Option<u64>
 {
     let inst = definitions.definition(id)?;
     match inst.opcode {
-        43 | 50 => number_in(inst.operands.as_slice()),
+        opcode::CONSTANT | opcode::SPEC_CONSTANT => number_in(inst.operands.as_slice()),
         _ => None,
     }
 }

@@ -8,6 +8,7 @@ use Rattle.std.proofs.lemmas.List.Sums.{length-filter}
 use Rattle.std.proofs.lemmas.List.Elements.{filter-append}
 use Rattle.std.proofs.lemmas.List.{drop_all, length-take, take_more, drop-append-le}
 use Rattle.std.proofs.lemmas.Option.{slice_get-map, slice_get_within}
+use Rattle.spv_module.specs.declared.opcode.TheConstants as opcode
 use Rattle.spv_module.specs.Operand.{PlainInst}
 use Rattle.spv_module.specs.Module.{plain_inst}
 use Rattle.spv_module.specs.declared.module.Inst.{Inst}
@@ -24,7 +25,7 @@ use Rattle.spv_type_rules.specs.inner.Counted.{IsLastBefore, AreCounted}
 -- The class Function is that of opcode 54 alone.
 
 row_apart : PlainRow → Bool
-row_apart r = not (is_among r.class (Function ∷ [])) || (nat_eq r.from 54 && nat_eq r.to 54)
+row_apart r = not (is_among r.class (Function ∷ [])) || (nat_eq r.from opcode.FUNCTION && nat_eq r.to opcode.FUNCTION)
 
 all_apart : List PlainRow → Bool
 all_apart [] = true
@@ -49,50 +50,50 @@ by_class false c h g = cc
 le_tells : (a b : ℕ) → nat_le a b ≡ true → a ≤ b
 le_tells a b h = grind (arith, nat_tests)
 
-apart_tells : (r : PlainRow) (n : ℕ) → row_apart r ≡ true → is_among r.class (Function ∷ []) ≡ true → r.from ≤ n → n ≤ r.to → n ≡ 54
+apart_tells : (r : PlainRow) (n : ℕ) → row_apart r ≡ true → is_among r.class (Function ∷ []) ≡ true → r.from ≤ n → n ≤ r.to → n ≡ opcode.FUNCTION
 unfolding row_apart
 apart_tells r n h c l m =
-    let two = by_class (is_among r.class (Function ∷ [])) (nat_eq r.from 54 && nat_eq r.to 54) h c in
-    let a : r.from ≡ 54 = eqb-true r.from 54 (and_first (nat_eq r.from 54) (nat_eq r.to 54) two) in
-    let b : r.to ≡ 54 = eqb-true r.to 54 (and_second (nat_eq r.from 54) (nat_eq r.to 54) two) in
+    let two = by_class (is_among r.class (Function ∷ [])) (nat_eq r.from opcode.FUNCTION && nat_eq r.to opcode.FUNCTION) h c in
+    let a : r.from ≡ opcode.FUNCTION = eqb-true r.from opcode.FUNCTION (and_first (nat_eq r.from opcode.FUNCTION) (nat_eq r.to opcode.FUNCTION) two) in
+    let b : r.to ≡ opcode.FUNCTION = eqb-true r.to opcode.FUNCTION (and_second (nat_eq r.from opcode.FUNCTION) (nat_eq r.to opcode.FUNCTION) two) in
     omega arith
 
 row_by : (s r : PlainRow) (rs : List PlainRow) (n : ℕ) (b : Bool) → nat_le s.from n && nat_le n s.to ≡ b → row_apart s ≡ true
-    → (row_in rs n ≡ Some r → is_among r.class (Function ∷ []) ≡ true → n ≡ 54) → (if b then Some s else row_in rs n) ≡ Some r
-    → is_among r.class (Function ∷ []) ≡ true → n ≡ 54
+    → (row_in rs n ≡ Some r → is_among r.class (Function ∷ []) ≡ true → n ≡ opcode.FUNCTION) → (if b then Some s else row_in rs n) ≡ Some r
+    → is_among r.class (Function ∷ []) ≡ true → n ≡ opcode.FUNCTION
 row_by s r rs n true f y k g c =
     let q : r ≡ s = cc in
     apart_tells s n y (rw (← q) c) (le_tells s.from n (and_first (nat_le s.from n) (nat_le n s.to) f)) (le_tells n s.to (and_second (nat_le s.from n) (nat_le n s.to) f))
 row_by s r rs n false f y k g c = k g c
 
-row_tells : (rs : List PlainRow) (n : ℕ) (r : PlainRow) → all_apart rs ≡ true → row_in rs n ≡ Some r → is_among r.class (Function ∷ []) ≡ true → n ≡ 54
+row_tells : (rs : List PlainRow) (n : ℕ) (r : PlainRow) → all_apart rs ≡ true → row_in rs n ≡ Some r → is_among r.class (Function ∷ []) ≡ true → n ≡ opcode.FUNCTION
 unfolding all_apart
 row_tells [] n r a h c = cc
 row_tells (s ∷ rs) n r a h c =
     row_by s r rs n (nat_le s.from n && nat_le n s.to) refl (and_first (row_apart s) (all_apart rs) a) (λ k. row_tells rs n r (and_second (row_apart s) (all_apart rs) a) k) h c
 
-function_row : (n : ℕ) (o : Option PlainRow) → row_in rows n ≡ o → is_among (class_in o) (Function ∷ []) ≡ true → n ≡ 54
+function_row : (n : ℕ) (o : Option PlainRow) → row_in rows n ≡ o → is_among (class_in o) (Function ∷ []) ≡ true → n ≡ opcode.FUNCTION
 function_row n None e c = absurd (let no : false ≡ true = c in cc)
 function_row n (Some r) e c = row_tells rows n r rows_apart e c
 
 class_at : (is : List PlainInst) (n : ℕ) (i : PlainInst) → slice_get is n ≡ Some i → slice_get (classes is) n ≡ Some (class_of i.opcode)
 class_at is n i h = slice_get-map (λ j. class_of j.opcode) is n ∙ ap (option_map (λ j. class_of j.opcode)) h
 
-function_opcode : (is : List PlainInst) (n : ℕ) (i : PlainInst) → slice_get is n ≡ Some i → IsAt is n (Function ∷ []) → i.opcode ≡ 54
+function_opcode : (is : List PlainInst) (n : ℕ) (i : PlainInst) → slice_get is n ≡ Some i → IsAt is n (Function ∷ []) → i.opcode ≡ opcode.FUNCTION
 function_opcode is n i h a = let c = rw (class_at is n i h) at a in function_row i.opcode (row_of i.opcode) refl c
 
-function_class : is_among (class_of 54) (Function ∷ []) ≡ true
+function_class : is_among (class_of opcode.FUNCTION) (Function ∷ []) ≡ true
 unfolding rows
 function_class = refl
 
-opcode_function : (is : List PlainInst) (n : ℕ) (i : PlainInst) → slice_get is n ≡ Some i → i.opcode ≡ 54 → IsAt is n (Function ∷ [])
+opcode_function : (is : List PlainInst) (n : ℕ) (i : PlainInst) → slice_get is n ≡ Some i → i.opcode ≡ opcode.FUNCTION → IsAt is n (Function ∷ [])
 opcode_function is n i h e = rw (class_at is n i h, e) function_class
 
 -- One instruction more.
 
 count-append : (is js : List PlainInst) → parameter_count (is ++ js) ≡ parameter_count is + parameter_count js
 count-append is js =
-    let p : PlainInst → Bool = λ i. nat_eq i.opcode 55 in
+    let p : PlainInst → Bool = λ i. nat_eq i.opcode opcode.FUNCTION_PARAMETER in
     sym (length-filter p (is ++ js)) ∙ ap length (filter-append p is js) ∙ length-append (filter p is) (filter p js)
     ∙ ap (λ m. m + length (filter p js)) (length-filter p is) ∙ ap (λ m. parameter_count is + m) (length-filter p js)
 
@@ -120,7 +121,7 @@ between_next is f n i h l =
 last_earlier : (is : List PlainInst) (n f : ℕ) → f < n → IsLastBefore is (n + 1) f → IsLastBefore is n f
 last_earlier is n f l b = record { before = l; there = b.there; last = λ k x y. b.last k x (omega arith) }
 
-pub at_function : (is : List PlainInst) (n c : ℕ) (i : PlainInst) → slice_get is n ≡ Some i → i.opcode ≡ 54 → AreCounted is n c → AreCounted is (n + 1) 0
+pub at_function : (is : List PlainInst) (n c : ℕ) (i : PlainInst) → slice_get is n ≡ Some i → i.opcode ≡ opcode.FUNCTION → AreCounted is n c → AreCounted is (n + 1) 0
 at_function is n c i h e a = record {
   most = omega arith;
   each = λ f b.
@@ -130,23 +131,23 @@ at_function is n c i h e a = record {
       (cases_eq f n);
 }
 
-before_it : (is : List PlainInst) (n f : ℕ) (i : PlainInst) → slice_get is n ≡ Some i → i.opcode ≢ 54 → IsLastBefore is (n + 1) f → f < n
+before_it : (is : List PlainInst) (n f : ℕ) (i : PlainInst) → slice_get is n ≡ Some i → i.opcode ≢ opcode.FUNCTION → IsLastBefore is (n + 1) f → f < n
 before_it is n f i h e b =
     ⊎_elim
     (λ (s : f ≡ n). absurd (e (function_opcode is n i h (rw s at b.there))))
     (λ (d : f ≢ n). let t = b.before in let r : f < n = omega arith in r)
     (cases_eq f n)
 
-one_parameter : (i : PlainInst) → i.opcode ≡ 55 → parameter_count (i ∷ []) ≡ 1
+one_parameter : (i : PlainInst) → i.opcode ≡ opcode.FUNCTION_PARAMETER → parameter_count (i ∷ []) ≡ 1
 one_parameter i e = rw e refl
 
-no_parameter : (i : PlainInst) (b : Bool) → nat_eq i.opcode 55 ≡ b → i.opcode ≢ 55 → parameter_count (i ∷ []) ≡ 0
-no_parameter i true e d = absurd (d (eqb-true i.opcode 55 e))
+no_parameter : (i : PlainInst) (b : Bool) → nat_eq i.opcode opcode.FUNCTION_PARAMETER ≡ b → i.opcode ≢ opcode.FUNCTION_PARAMETER → parameter_count (i ∷ []) ≡ 0
+no_parameter i true e d = absurd (d (eqb-true i.opcode opcode.FUNCTION_PARAMETER e))
 no_parameter i false e d = rw e refl
 
-pub at_parameter : (is : List PlainInst) (n c : ℕ) (i : PlainInst) → slice_get is n ≡ Some i → i.opcode ≡ 55 → AreCounted is n c → AreCounted is (n + 1) (c + 1)
+pub at_parameter : (is : List PlainInst) (n c : ℕ) (i : PlainInst) → slice_get is n ≡ Some i → i.opcode ≡ opcode.FUNCTION_PARAMETER → AreCounted is n c → AreCounted is (n + 1) (c + 1)
 at_parameter is n c i h e a =
-    let d : i.opcode ≢ 54 = omega arith in
+    let d : i.opcode ≢ opcode.FUNCTION = omega arith in
     let m = a.most in
     record {
       most = omega arith;
@@ -155,7 +156,7 @@ at_parameter is n c i h e a =
           between_next is f n i h l ∙ ap (λ k. parameters_between is f n + k) (one_parameter i e) ∙ ap (λ k. k + 1) (a.each f (last_earlier is n f l b));
     }
 
-pub at_other : (is : List PlainInst) (n c : ℕ) (i : PlainInst) → slice_get is n ≡ Some i → i.opcode ≢ 54 → i.opcode ≢ 55 → AreCounted is n c → AreCounted is (n + 1) c
+pub at_other : (is : List PlainInst) (n c : ℕ) (i : PlainInst) → slice_get is n ≡ Some i → i.opcode ≢ opcode.FUNCTION → i.opcode ≢ opcode.FUNCTION_PARAMETER → AreCounted is n c → AreCounted is (n + 1) c
 at_other is n c i h d e a =
     let m = a.most in
     record {
@@ -163,47 +164,47 @@ at_other is n c i h d e a =
       each = λ f b.
           let l = before_it is n f i h d b in
           let r : parameters_between is f n + 0 ≡ c = omega (arith, a.each f (last_earlier is n f l b)) in
-          between_next is f n i h l ∙ ap (λ k. parameters_between is f n + k) (no_parameter i (nat_eq i.opcode 55) refl e) ∙ r;
+          between_next is f n i h l ∙ ap (λ k. parameters_between is f n + k) (no_parameter i (nat_eq i.opcode opcode.FUNCTION_PARAMETER) refl e) ∙ r;
     }
 
 pub counted_next : (is : List PlainInst) (n c : ℕ) (i : PlainInst) → slice_get is n ≡ Some i → AreCounted is n c
-    → AreCounted is (n + 1) (if nat_eq i.opcode 54 then 0 else (if nat_eq i.opcode 55 then c + 1 else c))
-counted_next is n c i at a = by_tests (nat_eq i.opcode 54) (nat_eq i.opcode 55) refl refl
+    → AreCounted is (n + 1) (if nat_eq i.opcode opcode.FUNCTION then 0 else (if nat_eq i.opcode opcode.FUNCTION_PARAMETER then c + 1 else c))
+counted_next is n c i at a = by_tests (nat_eq i.opcode opcode.FUNCTION) (nat_eq i.opcode opcode.FUNCTION_PARAMETER) refl refl
   where
-    by_tests : (x y : Bool) → nat_eq i.opcode 54 ≡ x → nat_eq i.opcode 55 ≡ y → AreCounted is (n + 1) (if x then 0 else (if y then c + 1 else c))
-    by_tests true y e f = at_function is n c i at (eqb-true i.opcode 54 e) a
-    by_tests false true e f = at_parameter is n c i at (eqb-true i.opcode 55 f) a
+    by_tests : (x y : Bool) → nat_eq i.opcode opcode.FUNCTION ≡ x → nat_eq i.opcode opcode.FUNCTION_PARAMETER ≡ y → AreCounted is (n + 1) (if x then 0 else (if y then c + 1 else c))
+    by_tests true y e f = at_function is n c i at (eqb-true i.opcode opcode.FUNCTION e) a
+    by_tests false true e f = at_parameter is n c i at (eqb-true i.opcode opcode.FUNCTION_PARAMETER f) a
     by_tests false false e f =
-        at_other is n c i at (λ h. let yes : nat_eq i.opcode 54 ≡ true = eq-eqb i.opcode 54 h in cc) (λ h. let yes : nat_eq i.opcode 55 ≡ true = eq-eqb i.opcode 55 h in cc) a
+        at_other is n c i at (λ h. let yes : nat_eq i.opcode opcode.FUNCTION ≡ true = eq-eqb i.opcode opcode.FUNCTION h in cc) (λ h. let yes : nat_eq i.opcode opcode.FUNCTION_PARAMETER ≡ true = eq-eqb i.opcode opcode.FUNCTION_PARAMETER h in cc) a
 
 -- The parameters before the first OpLabel or OpFunctionEnd.
 
-pub front_ends : (i : PlainInst) (is : List PlainInst) → nat_eq i.opcode 248 || nat_eq i.opcode 56 ≡ true → parameters_in (i ∷ is) ≡ 0
+pub front_ends : (i : PlainInst) (is : List PlainInst) → nat_eq i.opcode opcode.LABEL || nat_eq i.opcode opcode.FUNCTION_END ≡ true → parameters_in (i ∷ is) ≡ 0
 front_ends i is e = rw e refl
 
-one_more : (i : PlainInst) (is : List PlainInst) → nat_eq i.opcode 248 || nat_eq i.opcode 56 ≡ false → parameters_in (i ∷ is) ≡ parameter_count (i ∷ []) + parameters_in is
+one_more : (i : PlainInst) (is : List PlainInst) → nat_eq i.opcode opcode.LABEL || nat_eq i.opcode opcode.FUNCTION_END ≡ false → parameters_in (i ∷ is) ≡ parameter_count (i ∷ []) + parameters_in is
 one_more i is e =
-    let goes = λ (j : PlainInst). not (nat_eq j.opcode 248 || nat_eq j.opcode 56) in
+    let goes = λ (j : PlainInst). not (nat_eq j.opcode opcode.LABEL || nat_eq j.opcode opcode.FUNCTION_END) in
     let kept : take_while goes (i ∷ is) ≡ i ∷ take_while goes is = rw e (taken (prefix_len goes is) i is) in
     ap parameter_count kept ∙ count-append (i ∷ []) (take_while goes is)
   where
     taken : (n : ℕ) (j : PlainInst) (js : List PlainInst) → take (1 + n) (j ∷ js) ≡ j ∷ take n js
     taken n j js = let h : 1 + n ≡ suc n = omega arith in rw h refl
 
-pub front_counts : (i : PlainInst) (is : List PlainInst) → nat_eq i.opcode 248 || nat_eq i.opcode 56 ≡ false → i.opcode ≡ 55 → parameters_in (i ∷ is) ≡ 1 + parameters_in is
+pub front_counts : (i : PlainInst) (is : List PlainInst) → nat_eq i.opcode opcode.LABEL || nat_eq i.opcode opcode.FUNCTION_END ≡ false → i.opcode ≡ opcode.FUNCTION_PARAMETER → parameters_in (i ∷ is) ≡ 1 + parameters_in is
 front_counts i is e h = one_more i is e ∙ ap (λ m. m + parameters_in is) (one_parameter i h)
 
-pub front_passes : (i : PlainInst) (is : List PlainInst) → nat_eq i.opcode 248 || nat_eq i.opcode 56 ≡ false → i.opcode ≢ 55 → parameters_in (i ∷ is) ≡ parameters_in is
+pub front_passes : (i : PlainInst) (is : List PlainInst) → nat_eq i.opcode opcode.LABEL || nat_eq i.opcode opcode.FUNCTION_END ≡ false → i.opcode ≢ opcode.FUNCTION_PARAMETER → parameters_in (i ∷ is) ≡ parameters_in is
 front_passes i is e h =
-    let z = no_parameter i (nat_eq i.opcode 55) refl h in
+    let z = no_parameter i (nat_eq i.opcode opcode.FUNCTION_PARAMETER) refl h in
     let r : 0 + parameters_in is ≡ parameters_in is = omega arith in
     one_more i is e ∙ ap (λ m. m + parameters_in is) z ∙ r
 
-pub step_counts : (i : PlainInst) (is : List PlainInst) (count all : ℕ) → nat_eq i.opcode 248 || nat_eq i.opcode 56 ≡ false → i.opcode ≡ 55
+pub step_counts : (i : PlainInst) (is : List PlainInst) (count all : ℕ) → nat_eq i.opcode opcode.LABEL || nat_eq i.opcode opcode.FUNCTION_END ≡ false → i.opcode ≡ opcode.FUNCTION_PARAMETER
     → count + parameters_in (i ∷ is) ≡ all → (count + 1) + parameters_in is ≡ all
 step_counts i is count all e h t = let f = front_counts i is e h in omega (arith, f, t)
 
-pub step_passes : (i : PlainInst) (is : List PlainInst) (count all : ℕ) → nat_eq i.opcode 248 || nat_eq i.opcode 56 ≡ false → i.opcode ≢ 55
+pub step_passes : (i : PlainInst) (is : List PlainInst) (count all : ℕ) → nat_eq i.opcode opcode.LABEL || nat_eq i.opcode opcode.FUNCTION_END ≡ false → i.opcode ≢ opcode.FUNCTION_PARAMETER
     → count + parameters_in (i ∷ is) ≡ all → count + parameters_in is ≡ all
 step_passes i is count all e h t = let f = front_passes i is e h in omega (arith, f, t)
 
@@ -213,12 +214,12 @@ item_front xs k x l e = ap (λ ys. map plain_inst ys) (drop-cons xs k x l ∙ ap
 pub none_counted : (is : List PlainInst) → AreCounted is 0 0
 none_counted is = record { most = omega arith; each = λ f b. let l = b.before in absurd (omega arith) }
 
-pub counted_at : (is : List PlainInst) (n c f : ℕ) (i : PlainInst) → slice_get is n ≡ Some i → i.opcode ≡ 55 → AreCounted is n c → IsOfFunction is n f → parameters_between is f n ≡ c
+pub counted_at : (is : List PlainInst) (n c f : ℕ) (i : PlainInst) → slice_get is n ≡ Some i → i.opcode ≡ opcode.FUNCTION_PARAMETER → AreCounted is n c → IsOfFunction is n f → parameters_between is f n ≡ c
 counted_at is n c f i h e a o =
     let u = o.begun.up_to in
     let l : f < n =
     ⊎_elim
-    (λ (s : f ≡ n). let k : i.opcode ≡ 54 = function_opcode is n i h (rw s at o.begun.there) in absurd (omega arith))
+    (λ (s : f ≡ n). let k : i.opcode ≡ opcode.FUNCTION = function_opcode is n i h (rw s at o.begun.there) in absurd (omega arith))
     (λ (d : f ≢ n). let r : f < n = omega arith in r)
     (cases_eq f n)
     in

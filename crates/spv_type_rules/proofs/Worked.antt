@@ -1,7 +1,7 @@
 -- What the small modules of the worked examples have.
 use Rattle.std.proofs.Common.{◌≡◌, ◌<◌, ℕ, zero, suc, List, [], ◌∷◌, Option, Some, None, true, false, refl, sym, subst, inl, inr, arith, lit<, lit≤}
 use Rattle.std.specs.Prelude.{slice_get, take, IsSomeAnd}
-use Rattle.spv_table.specs.Table.{Table}
+use Rattle.spv_module.specs.declared.opcode.TheConstants as opcode
 use Rattle.spv_module.specs.Operand.{Plain, OfType, Result, Id, Word, Value, PlainInst, type_in}
 use Rattle.spv_module.specs.declared.fault.Rule.TheVariants as rule
 use Rattle.spv_layout.specs.declared.class.Class.TheVariants.{Function, FunctionEnd}
@@ -18,7 +18,7 @@ use Rattle.spv_type_rules.specs.Asked.{IsVectorCount}
 use Rattle.spv_type_rules.specs.Keeps.{Keeps, KeepsFunctions, KeepsReturns}
 use Rattle.spv_type_rules.specs.inner.Keeps.{CallsAreSound}
 use Rattle.spv_type_rules.specs.Repeat.{Repeats}
-use Rattle.spv_type_rules.specs.inner.Rules.{IsFirstRule}
+use Rattle.spv_type_rules.specs.inner.Rules.{Unasked, IsFirstRule}
 use Rattle.spv_type_rules.proofs.Firsts.{keeps_below, first_y8}
 use Rattle.spv_type_rules.specs.Function.{OfFunction, ReturnsNothing, ReturnsTyped, parameter_type_of, parameters_between}
 use Rattle.spv_type_rules.specs.inner.Function.{IsSoundParameter, IsSoundReturn, IsSoundReturnValue}
@@ -27,11 +27,11 @@ use Rattle.spv_type_rules.specs.Example.{small, pointers, returning, again, shor
 -- the class of each pointer
 class_at : (n : ℕ) (i : PlainInst) → slice_get pointers n ≡ Some i → class_in (form_in i) ≡ Some 7 → ⊥
 class_at zero i at e =
-    let same : inst 39 (Id 1 ∷ Value 0 5 ∷ []) ≡ i = cc in
+    let same : inst opcode.TYPE_FORWARD_POINTER (Id 1 ∷ Value 0 5 ∷ []) ≡ i = cc in
     let f : ◌≡◌ {A = Option ℕ} None (Some 7) = subst (λ (j : PlainInst). class_in (form_in j) ≡ Some 7) (sym same) e in
     cc
 class_at (suc zero) i at e =
-    let same : inst 32 (Result 1 ∷ Value 0 5 ∷ Id 1 ∷ []) ≡ i = cc in
+    let same : inst opcode.TYPE_POINTER (Result 1 ∷ Value 0 5 ∷ Id 1 ∷ []) ≡ i = cc in
     let f : ◌≡◌ {A = Option ℕ} (Some 5) (Some 7) = subst (λ (j : PlainInst). class_in (form_in j) ≡ Some 7) (sym same) e in
     cc
 class_at (suc (suc n)) i at e = cc
@@ -96,12 +96,12 @@ one_function (suc (suc (suc (suc (suc (suc (suc f))))))) h = absurd h
 at_four : (P : ℕ → PlainInst → Type 0) → OfFunction small 5 P → IsSomeAnd (slice_get small 4) (P 4)
 at_four P o = subst (λ (f : ℕ). IsSomeAnd (slice_get small f) (P f)) (one_function o.0 o.1.begun.there) o.2
 
-pub no_parameter : ¬ (IsSoundParameter small 5 (inst 55 (OfType 2 ∷ Result 8 ∷ [])))
+pub no_parameter : ¬ (IsSoundParameter small 5 (inst opcode.FUNCTION_PARAMETER (OfType 2 ∷ Result 8 ∷ [])))
 no_parameter o =
     let e : ◌≡◌ {A = Option ℕ} (Some 1) (Some 2) = at_four (λ f d. IsSomeAnd (type_in (OfType 2 ∷ Result 8 ∷ [])) (λ t. parameter_type_of small d (parameters_between small f 5) ≡ Some t)) o in
     cc
 
-pub no_value : ¬ (IsSoundReturnValue small 5 (inst 254 (Id 2 ∷ [])))
+pub no_value : ¬ (IsSoundReturnValue small 5 (inst opcode.RETURN_VALUE (Id 2 ∷ [])))
 no_value o = at_four (λ f d. IsSomeAnd (types_of small (take 1 (ids_in (Id 2 ∷ [])))) (ReturnsTyped d)) o
 
 pub no_return : ¬ (IsSoundReturn small 5)
@@ -110,7 +110,7 @@ no_return o = let e : form_of small 1 ≡ Some form.Void = at_four (λ f d. Retu
 -- What the rules demand of single instructions.
 
 pub repeated : Repeats small 7 again
-repeated = record { once = refl; place = 0; earlier = lit< tt; other = inst 21 (Result 1 ∷ Word 8 ∷ Word 0 ∷ []); there = refl; alike = (refl, refl) }
+repeated = record { once = refl; place = 0; earlier = lit< tt; other = inst opcode.TYPE_INT (Result 1 ∷ Word 8 ∷ Word 0 ∷ []); there = refl; alike = (refl, refl) }
 
 pub not_earlier : ¬ (Repeats small 0 again)
 not_earlier r = let l = r.earlier in absurd (omega (arith, l))
@@ -124,13 +124,13 @@ function_not_kept k = let e = (k.function refl).1 in absurd (omega (arith, e))
 pub parameter_kept : KeepsFunctions small 5 parameter
 parameter_kept = record { function = λ e. absurd (omega (arith, e)); parameter = λ e. (4, of_small, refl) }
 
-pub parameter_not_kept : ¬ (KeepsFunctions small 5 (inst 55 (OfType 2 ∷ Result 8 ∷ [])))
+pub parameter_not_kept : ¬ (KeepsFunctions small 5 (inst opcode.FUNCTION_PARAMETER (OfType 2 ∷ Result 8 ∷ [])))
 parameter_not_kept k = no_parameter (k.parameter refl)
 
-pub return_kept : KeepsReturns returning 3 (inst 253 [])
+pub return_kept : KeepsReturns returning 3 (inst opcode.RETURN [])
 return_kept = record { nothing = λ e. (1, of_returning, refl); value = λ e. absurd (omega (arith, e)) }
 
-pub return_not_kept : ¬ (KeepsReturns small 5 (inst 253 []))
+pub return_not_kept : ¬ (KeepsReturns small 5 (inst opcode.RETURN []))
 return_not_kept k = no_return (k.nothing refl)
 
 -- Which rule is broken first.
@@ -143,18 +143,18 @@ not_five (inr (inr (inr (inl e)))) = absurd (omega (arith, e))
 not_five (inr (inr (inr (inr e)))) = absurd (omega (arith, e))
 
 abbrev vector_of_five : PlainInst
-vector_of_five = inst 23 (Result 9 ∷ Id 1 ∷ Word 5 ∷ [])
+vector_of_five = inst opcode.TYPE_VECTOR (Result 9 ∷ Id 1 ∷ Word 5 ∷ [])
 
-pub vector_first : (G : Table) → IsFirstRule G small 7 vector_of_five rule.Y2
-vector_first G = record {
+pub vector_first : IsFirstRule small 7 vector_of_five rule.Y2
+vector_first = record {
   of_stage = refl;
   last = lit≤ tt;
   broken = not_five;
-  least = λ q l. keeps_below G small 7 vector_of_five 26 (λ k. absurd (omega arith)) (λ k. absurd (omega arith)) (λ k. absurd (omega arith)) (λ k. absurd (omega arith)) (λ k. absurd (omega arith)) (λ k. absurd (omega arith)) (λ k. absurd (omega arith)) q l;
+  least = λ q l. keeps_below small 7 vector_of_five 26 (λ k. absurd (omega arith)) (λ k. absurd (omega arith)) (λ k. absurd (omega arith)) (λ k. absurd (omega arith)) (λ k. absurd (omega arith)) (λ k. absurd (omega arith)) q l;
 }
 
-pub vector_before : (G : Table) → ¬ (IsFirstRule G small 7 vector_of_five rule.Y3)
-vector_before G f = not_five (f.least rule.Y2 (lit< tt))
+pub vector_before : ¬ (IsFirstRule small 7 vector_of_five rule.Y3)
+vector_before f = not_five (f.least rule.Y2 (lit< tt))
 
 short_not_sound : ¬ (CallsAreSound small short_call)
 short_not_sound k = let e : ◌≡◌ {A = Option (List Plain)} (Some (Id 1 ∷ Id 1 ∷ [])) (Some (Id 1 ∷ [])) = k refl in cc
@@ -162,12 +162,12 @@ short_not_sound k = let e : ◌≡◌ {A = Option (List Plain)} (Some (Id 1 ∷ 
 short_not_again : ¬ (Repeats small 7 short_call)
 short_not_again r = let no : false ≡ true = r.once in cc
 
-pub call_first : (G : Table) → IsFirstRule G small 7 short_call rule.Y8
-call_first G =
-    first_y8 G small 7 short_call tt short_not_again tt (inl refl)
+pub call_first : IsFirstRule small 7 short_call rule.Y8
+call_first =
+    first_y8 small 7 short_call tt short_not_again tt
     (record { function = λ e. absurd (omega (arith, e)); parameter = λ e. absurd (omega (arith, e)) })
     (record { nothing = λ e. absurd (omega (arith, e)); value = λ e. absurd (omega (arith, e)) })
     short_not_sound
 
-pub call_broken : (G : Table) → ¬ (Keeps G small rule.Y8 7 short_call)
-call_broken G = short_not_sound
+pub call_broken : ¬ (Keeps Unasked small rule.Y8 7 short_call)
+call_broken = short_not_sound

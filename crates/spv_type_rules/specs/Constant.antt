@@ -2,6 +2,7 @@
 use Rattle.std.specs.Prelude.{◌<◌, ◌^◌, ◌⊎◌, ℕ, List, [], ◌∷◌, Option, Some, None, Bool, true}
 use Rattle.std.specs.Prelude.{false, nat_eq, nat_le, ◌&&◌, ◌||◌, if◌then◌else◌, IsTrue, IsSomeAnd}
 use Rattle.std.specs.List.{AllByRecursion}
+use Rattle.spv_module.specs.declared.opcode.TheConstants as opcode
 use Rattle.spv_module.specs.Operand.{Plain, Number, PlainInst}
 use Rattle.spv_module.specs.Width.{definition_of}
 use Rattle.spv_type_forms.specs.Types.{IsInt, IsFloat, IsBool, IsData}
@@ -14,14 +15,20 @@ use Rattle.spv_type_rules.specs.declared.constant.Constant.TheVariants as consta
 -- the constants by opcode, the spec forms too [3.49.7]
 abbrev pub constant_of : ℕ → Option Constant
 constant_of n =
-    if nat_eq n 41 || nat_eq n 42 || nat_eq n 48 || nat_eq n 49 then Some constant.Bool
-    else (if nat_eq n 43 || nat_eq n 50 then Some constant.Number else (if nat_eq n 44 then Some constant.Composite
-    else (if nat_eq n 51 then Some constant.SpecComposite else (if nat_eq n 46 then Some constant.Null else None))))
+    if nat_eq n opcode.CONSTANT_TRUE || nat_eq n opcode.CONSTANT_FALSE || nat_eq n opcode.SPEC_CONSTANT_TRUE
+    || nat_eq n opcode.SPEC_CONSTANT_FALSE then Some constant.Bool
+    else (if nat_eq n opcode.CONSTANT || nat_eq n opcode.SPEC_CONSTANT then Some constant.Number
+    else (if nat_eq n opcode.CONSTANT_COMPOSITE then Some constant.Composite
+    else (if nat_eq n opcode.SPEC_CONSTANT_COMPOSITE then Some constant.SpecComposite
+    else (if nat_eq n opcode.CONSTANT_NULL then Some constant.Null else None))))
 
--- what a composite constant is made of: 1 (OpUndef), 41 to 44 and 46, in the spec form also 48 to 51 [3.49.7]
+-- what a composite constant is made of: OpUndef, OpConstantTrue to OpConstantComposite and OpConstantNull, in the spec
+-- form also OpSpecConstantTrue to OpSpecConstantComposite [3.49.7]
 abbrev pub is_part_opcode : Bool → ℕ → Bool
 is_part_opcode spec n =
-    nat_eq n 1 || (nat_le 41 n && nat_le n 44) || nat_eq n 46 || (spec && nat_le 48 n && nat_le n 51)
+    nat_eq n opcode.UNDEF || (nat_le opcode.CONSTANT_TRUE n && nat_le n opcode.CONSTANT_COMPOSITE)
+    || nat_eq n opcode.CONSTANT_NULL
+    || (spec && nat_le opcode.SPEC_CONSTANT_TRUE n && nat_le n opcode.SPEC_CONSTANT_COMPOSITE)
 
 -- the id is that of an instruction that may be a part [3.49.7]
 abbrev pub IsPart : List PlainInst → Bool → ℕ → Type 0

@@ -2,6 +2,7 @@
 use Rattle.std.specs.Prelude.{◌≡◌, ◌≤◌, ◌<◌, ◌⊎◌, ℕ, List, [], ◌∷◌, Option, Some, None}
 use Rattle.std.specs.Prelude.{nat_eq, if◌then◌else◌, IsSomeAnd}
 use Rattle.std.specs.List.{AllByRecursion}
+use Rattle.spv_module.specs.declared.opcode.TheConstants as opcode
 use Rattle.spv_module.specs.Operand.{Plain, Result, Id, Word, Value, PlainInst}
 use Rattle.spv_module.specs.Width.{type_of}
 use Rattle.spv_ids.specs.Definition.{IsDefinedAt}
@@ -17,9 +18,14 @@ use Rattle.spv_type_rules.specs.declared.declaration.Declaration.TheVariants.{Po
 -- the type declarations of which Y2 speaks, by opcode [3.49.6]
 abbrev pub declaration_of : ℕ → Option Declaration
 declaration_of n =
-    if nat_eq n 21 then Some Int else (if nat_eq n 22 then Some Float else (if nat_eq n 23 then Some Vector
-    else (if nat_eq n 28 then Some Array else (if nat_eq n 30 then Some Struct else (if nat_eq n 32 then Some Pointer
-    else (if nat_eq n 33 then Some Function else (if nat_eq n 39 then Some Forward else None)))))))
+    if nat_eq n opcode.TYPE_INT then Some Int
+    else (if nat_eq n opcode.TYPE_FLOAT then Some Float
+    else (if nat_eq n opcode.TYPE_VECTOR then Some Vector
+    else (if nat_eq n opcode.TYPE_ARRAY then Some Array
+    else (if nat_eq n opcode.TYPE_STRUCT then Some Struct
+    else (if nat_eq n opcode.TYPE_POINTER then Some Pointer
+    else (if nat_eq n opcode.TYPE_FUNCTION then Some Function
+    else (if nat_eq n opcode.TYPE_FORWARD_POINTER then Some Forward else None)))))))
 
 -- the length of an array: an OpConstant or OpSpecConstant of int type with a value of 1 at least [3.49.6]
 abbrev pub IsLength : List PlainInst → ℕ → Type 0

@@ -1,58 +1,62 @@
 -- A small module: types, a constant, a function and a call.
 use Rattle.std.specs.Prelude.{List, [], ◌∷◌}
+use Rattle.spv_module.specs.declared.opcode.TheConstants as opcode
 use Rattle.spv_module.specs.Operand.{OfType, Result, Id, Word, Number, Value, Mask, PlainInst}
 use Rattle.spv_type_forms.specs.Example.{inst}
 
 -- %6 = OpConstant %1 300, where %1 is an int of width 8
 abbrev pub wide_constant : PlainInst
-wide_constant = inst 43 (OfType 1 ∷ Result 6 ∷ Number 300 0 1 ∷ [])
+wide_constant = inst opcode.CONSTANT (OfType 1 ∷ Result 6 ∷ Number 300 0 1 ∷ [])
 
 -- %5 = OpConstant %1 7
 abbrev pub constant : PlainInst
-constant = inst 43 (OfType 1 ∷ Result 5 ∷ Number 7 0 1 ∷ [])
+constant = inst opcode.CONSTANT (OfType 1 ∷ Result 5 ∷ Number 7 0 1 ∷ [])
 
 -- %9 = OpFunctionCall %1 %4 %5, and the same without its argument
 abbrev pub call : PlainInst
-call = inst 57 (OfType 1 ∷ Result 9 ∷ Id 4 ∷ Id 5 ∷ [])
+call = inst opcode.FUNCTION_CALL (OfType 1 ∷ Result 9 ∷ Id 4 ∷ Id 5 ∷ [])
 
 abbrev pub short_call : PlainInst
-short_call = inst 57 (OfType 1 ∷ Result 9 ∷ Id 4 ∷ [])
+short_call = inst opcode.FUNCTION_CALL (OfType 1 ∷ Result 9 ∷ Id 4 ∷ [])
 
 -- a second type of ints of width 8
 abbrev pub again : PlainInst
-again = inst 21 (Result 7 ∷ Word 8 ∷ Word 0 ∷ [])
+again = inst opcode.TYPE_INT (Result 7 ∷ Word 8 ∷ Word 0 ∷ [])
 
 abbrev pub small : List PlainInst
 small =
-    inst 21 (Result 1 ∷ Word 8 ∷ Word 0 ∷ []) ∷  -- %1 = OpTypeInt 8 0
-    inst 19 (Result 2 ∷ []) ∷  -- %2 = OpTypeVoid
-    inst 33 (Result 3 ∷ Id 1 ∷ Id 1 ∷ []) ∷  -- %3 = OpTypeFunction %1 %1
+    inst opcode.TYPE_INT (Result 1 ∷ Word 8 ∷ Word 0 ∷ []) ∷  -- %1 = OpTypeInt 8 0
+    inst opcode.TYPE_VOID (Result 2 ∷ []) ∷  -- %2 = OpTypeVoid
+    inst opcode.TYPE_FUNCTION (Result 3 ∷ Id 1 ∷ Id 1 ∷ []) ∷  -- %3 = OpTypeFunction %1 %1
     constant ∷
-    inst 54 (OfType 1 ∷ Result 4 ∷ Mask 9 0 ∷ Id 3 ∷ []) ∷  -- %4 = OpFunction %1 None %3
-    inst 55 (OfType 1 ∷ Result 8 ∷ []) ∷  -- %8 = OpFunctionParameter %1
-    inst 56 [] ∷  -- OpFunctionEnd
+    inst opcode.FUNCTION (OfType 1 ∷ Result 4 ∷ Mask 9 0 ∷ Id 3 ∷ []) ∷  -- %4 = OpFunction %1 None %3
+    inst opcode.FUNCTION_PARAMETER (OfType 1 ∷ Result 8 ∷ []) ∷  -- %8 = OpFunctionParameter %1
+    inst opcode.FUNCTION_END [] ∷  -- OpFunctionEnd
     []
 
 -- %4 = OpFunction %1 None %3, and %8 = OpFunctionParameter %1
 abbrev pub function : PlainInst
-function = inst 54 (OfType 1 ∷ Result 4 ∷ Mask 9 0 ∷ Id 3 ∷ [])
+function = inst opcode.FUNCTION (OfType 1 ∷ Result 4 ∷ Mask 9 0 ∷ Id 3 ∷ [])
 
 abbrev pub parameter : PlainInst
-parameter = inst 55 (OfType 1 ∷ Result 8 ∷ [])
+parameter = inst opcode.FUNCTION_PARAMETER (OfType 1 ∷ Result 8 ∷ [])
 
 -- the small module after %10 = OpTypeStruct %1 %1 and %11 = OpTypeBool
 abbrev pub with_struct : List PlainInst
-with_struct = inst 30 (Result 10 ∷ Id 1 ∷ Id 1 ∷ []) ∷ inst 20 (Result 11 ∷ []) ∷ small
+with_struct = inst opcode.TYPE_STRUCT (Result 10 ∷ Id 1 ∷ Id 1 ∷ []) ∷ inst opcode.TYPE_BOOL (Result 11 ∷ []) ∷ small
 
 -- OpTypeForwardPointer %1 CrossWorkgroup, and %1 = OpTypePointer CrossWorkgroup %1
 abbrev pub pointers : List PlainInst
-pointers = inst 39 (Id 1 ∷ Value 0 5 ∷ []) ∷ inst 32 (Result 1 ∷ Value 0 5 ∷ Id 1 ∷ []) ∷ []
+pointers =
+    inst opcode.TYPE_FORWARD_POINTER (Id 1 ∷ Value 0 5 ∷ []) ∷
+    inst opcode.TYPE_POINTER (Result 1 ∷ Value 0 5 ∷ Id 1 ∷ []) ∷
+    []
 
 -- a function that returns void
 abbrev pub returning : List PlainInst
 returning =
-    inst 19 (Result 1 ∷ []) ∷  -- %1 = OpTypeVoid
-    inst 54 (OfType 1 ∷ Result 3 ∷ Mask 8 0 ∷ Id 2 ∷ []) ∷  -- %3 = OpFunction %1 None %2
-    inst 248 (Result 4 ∷ []) ∷  -- %4 = OpLabel
-    inst 253 [] ∷  -- OpReturn
+    inst opcode.TYPE_VOID (Result 1 ∷ []) ∷  -- %1 = OpTypeVoid
+    inst opcode.FUNCTION (OfType 1 ∷ Result 3 ∷ Mask 8 0 ∷ Id 2 ∷ []) ∷  -- %3 = OpFunction %1 None %2
+    inst opcode.LABEL (Result 4 ∷ []) ∷  -- %4 = OpLabel
+    inst opcode.RETURN [] ∷  -- OpReturn
     []

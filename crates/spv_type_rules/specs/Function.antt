@@ -2,6 +2,7 @@
 use Rattle.std.specs.Prelude.{◌≡◌, ◌+◌, ℕ, List, [], ◌∷◌, Option, Some, None, nat_eq, not, ◌||◌}
 use Rattle.std.specs.Prelude.{if◌then◌else◌, count_by, length, map, take, drop, take_while, slice_get}
 use Rattle.std.specs.Prelude.{option_and_then, IsSomeAnd}
+use Rattle.spv_module.specs.declared.opcode.TheConstants as opcode
 use Rattle.spv_module.specs.Operand.{Plain, Id, PlainInst, type_in}
 use Rattle.spv_module.specs.Width.{definition_of}
 use Rattle.spv_layout.specs.Place.{IsOfFunction}
@@ -11,31 +12,32 @@ use Rattle.spv_type_forms.specs.Parts.{after_result, id_in}
 use Rattle.spv_type_forms.specs.Operands.{ids_in, after_head}
 use Rattle.spv_type_forms.specs.Values.{types_of}
 
--- what an OpTypeFunction (33) names: the return type, and then the parameter types [3.49.9]
+-- what an OpTypeFunction names: the return type, and then the parameter types [3.49.9]
 abbrev pub signature_in : PlainInst → Option (List Plain)
-signature_in i = if nat_eq i.opcode 33 then Some (after_result i.operands) else None
+signature_in i = if nat_eq i.opcode opcode.TYPE_FUNCTION then Some (after_result i.operands) else None
 
--- the function type that an OpFunction (54) names: %f = OpFunction %r control %t [3.49.9]
+-- the function type that an OpFunction names: %f = OpFunction %r control %t [3.49.9]
 abbrev pub type_after_control : List Plain → Option ℕ
 type_after_control (c ∷ Id t ∷ os) = Some t
 type_after_control _ = None
 
 -- the OpTypeFunction that an OpFunction names [3.49.9]
 abbrev pub function_type_in : PlainInst → Option ℕ
-function_type_in i = if nat_eq i.opcode 54 then type_after_control (after_head i.operands) else None
+function_type_in i = if nat_eq i.opcode opcode.FUNCTION then type_after_control (after_head i.operands) else None
 
 -- the signature of the function type that an OpFunction names [3.49.9]
 abbrev pub signature_of : List PlainInst → PlainInst → Option (List Plain)
 signature_of is f = option_and_then (λ t. option_and_then signature_in (definition_of is t)) (function_type_in f)
 
--- how many OpFunctionParameters (55) are among instructions [3.49.9]
+-- how many OpFunctionParameters are among instructions [3.49.9]
 abbrev pub parameter_count : List PlainInst → ℕ
-parameter_count is = count_by (λ i. nat_eq i.opcode 55) is
+parameter_count is = count_by (λ i. nat_eq i.opcode opcode.FUNCTION_PARAMETER) is
 
--- how many follow instruction n, an OpFunction, before its first OpLabel (248) or its OpFunctionEnd (56) [3.49.9]
+-- how many follow instruction n, an OpFunction, before its first OpLabel or its OpFunctionEnd [3.49.9]
 abbrev pub parameters_after : List PlainInst → ℕ → ℕ
 parameters_after is n =
-    parameter_count (take_while (λ i. not (nat_eq i.opcode 248 || nat_eq i.opcode 56)) (drop (n + 1) is))
+    parameter_count
+    (take_while (λ i. not (nat_eq i.opcode opcode.LABEL || nat_eq i.opcode opcode.FUNCTION_END)) (drop (n + 1) is))
 
 -- The signature begins with the return type r, and has so many parameter types. [3.49.9]
 abbrev pub ReturnsAfter : Option ℕ → ℕ → List Plain → Type 0
@@ -54,11 +56,11 @@ parameter_type_of is f k = option_and_then (λ ts. option_and_then id_in (slice_
 abbrev pub OfFunction : List PlainInst → ℕ → (ℕ → PlainInst → Type 0) → Type 0
 OfFunction is n P = (f : ℕ) × IsOfFunction is n f × IsSomeAnd (slice_get is f) (P f)
 
--- Y7 at an OpReturn (253) of the function whose OpFunction is d: its result type is OpTypeVoid [3.49.17]
+-- Y7 at an OpReturn of the function whose OpFunction is d: its result type is OpTypeVoid [3.49.17]
 abbrev pub ReturnsNothing : List PlainInst → PlainInst → Type 0
 ReturnsNothing is d = IsSomeAnd (type_in d.operands) (λ r. form_of is r ≡ Some form.Void)
 
--- Y7 at an OpReturnValue (254) there, of values of these types: there is one, and its type is d's result type [3.49.17]
+-- Y7 at an OpReturnValue there, of values of these types: there is one, and its type is d's result type [3.49.17]
 abbrev pub ReturnsTyped : PlainInst → List ℕ → Type 0
 ReturnsTyped d (o ∷ []) = type_in d.operands ≡ Some o
 ReturnsTyped d _ = ⊥

@@ -1,14 +1,16 @@
 -- Y3: types that are declared twice. [2.8]
 use Rattle.std.specs.Prelude.{◌≡◌, ◌<◌, ℕ, List, Some, nat_eq, nat_le, ◌&&◌, ◌||◌, IsTrue}
 use Rattle.std.specs.Prelude.{slice_get}
+use Rattle.spv_module.specs.declared.opcode.TheConstants as opcode
 use Rattle.spv_module.specs.Operand.{PlainInst}
 use Rattle.spv_type_forms.specs.Parts.{after_result}
 
 -- Y3 is broken at instruction n: it declares a type that may be declared once only, by OpTypeVoid, Bool, Int, Float or
--- Vector (19 to 23), OpTypeOpaque (31) or OpTypeFunction (33), and it is alike to an earlier one: of the same opcode
--- and with the same operands, the result aside. [2.8]
+-- Vector, OpTypeOpaque or OpTypeFunction, and it is alike to an earlier one: of the same opcode and with the same
+-- operands, the result aside. [2.8]
 pub record Repeats (is : List PlainInst) (n : ℕ) (i : PlainInst) : Type 0 where
-  pub once : IsTrue ((nat_le 19 i.opcode && nat_le i.opcode 23) || nat_eq i.opcode 31 || nat_eq i.opcode 33)
+  pub once : IsTrue ((nat_le opcode.TYPE_VOID i.opcode && nat_le i.opcode opcode.TYPE_VECTOR)
+      || nat_eq i.opcode opcode.TYPE_OPAQUE || nat_eq i.opcode opcode.TYPE_FUNCTION)
   pub place : ℕ
   pub earlier : place < n
   pub other : PlainInst

@@ -1,9 +1,9 @@
-//! Which of the rules Y2 to Y8 speak of an opcode.
+//! Which of the rules Y2 to Y8, but for Y5, speak of an opcode.
 
 ghost use Rattle.std.specs.Prelude.{◌≡◌};
 ghost use Rattle.spv_type_rules.specs.inner.Concern as spec;
 
-use crate::opcode::{FUNCTION, FUNCTION_CALL, PARAMETER, RETURN, RETURN_VALUE};
+use spv_module::opcode;
 
 /// The rules that speak of an instruction.
 #[derive(Clone, Copy, PartialEq, Eq)]
@@ -18,49 +18,38 @@ pub enum Concern {
     Return,
     /// Y8: OpFunctionCall.
     Call,
-    /// Y5: what may have a row of types.
-    Operation,
     /// No rule.
     Nothing,
 }
 
-/// The rules that speak of an opcode past those of operations, from 248 on: of blocks, branches and lifetimes.
-#[inline(always)]
-fn late_concern(opcode: u16) -> Concern
-    ensures { result ≡ spec.late_concern opcode }
-{
-    match opcode {
-        250 | 251 | 256 | 257 => Concern::Operation,
-        RETURN | RETURN_VALUE => Concern::Return,
-        _ => Concern::Nothing,
-    }
-}
-
-/// The rules that speak of an opcode before those of operations, up to 57: of types, constants and functions.
-#[inline(always)]
-fn early_concern(opcode: u16) -> Concern
-    ensures { result ≡ spec.early_concern opcode }
-{
-    match opcode {
-        1 => Concern::Operation,
-        // OpTypeVoid to OpTypeForwardPointer.
-        19..=39 => Concern::Declaration,
-        // OpConstantTrue to OpSpecConstantComposite.
-        41..=51 => Concern::Constant,
-        FUNCTION | PARAMETER => Concern::Function,
-        FUNCTION_CALL => Concern::Call,
-        _ => Concern::Nothing,
-    }
-}
-
 /// The rules that speak of an opcode.
 #[inline(always)]
-pub fn concern_of(opcode: u16) -> Concern
-    ensures { result ≡ spec.concern_of opcode }
+pub fn concern_of(number: u16) -> Concern
+    ensures { result ≡ spec.concern_of number }
 {
-    match opcode {
-        58..=247 => Concern::Operation,
-        248.. => late_concern(opcode),
-        _ => early_concern(opcode),
+    match number {
+        opcode::TYPE_VOID..=opcode::TYPE_FORWARD_POINTER => Concern::Declaration,
+        opcode::CONSTANT_TRUE..=opcode::SPEC_CONSTANT_COMPOSITE => Concern::Constant,
+        opcode::FUNCTION | opcode::FUNCTION_PARAMETER => Concern::Function,
+        opcode::FUNCTION_CALL => Concern::Call,
+        opcode::RETURN | opcode::RETURN_VALUE => Concern::Return,
+        _ => Concern::Nothing,
+    }
+}
+
+/// Whether an opcode is that of an operation: all that have a row of types (Y5) are among these, and none of the other
+/// rules Y2 to Y8 speaks of one.
+#[inline(always)]
+pub fn is_operation(number: u16) -> bool
+    ensures { result ≡ spec.is_operation number }
+{
+    match number {
+        opcode::VARIABLE..=opcode::SELECTION_MERGE
+        | opcode::UNDEF
+        | opcode::BRANCH_CONDITIONAL
+        | opcode::SWITCH
+        | opcode::LIFETIME_START
+        | opcode::LIFETIME_STOP => true,
+        _ => false,
     }
 }

@@ -12,8 +12,10 @@ ghost use Rattle.spv_type_rules.specs.Constant.{FitsWidth, AreConstantParts, Con
 ghost use Rattle.spv_type_rules.specs.inner.Constant.{IsSoundConstant};
 ghost use Rattle.spv_type_rules.specs.inner.Found as found;
 
-use spv_module::{Inst, Operand};
-use spv_ops::{Definitions, Form, Scalar, after_head, count, id_count, is_data, parts_of, type_in};
+use spv_module::{Inst, Operand, opcode};
+use spv_type_forms::{
+    Definitions, Form, Scalar, after_head, count, id_count, is_data, parts_of, type_in,
+};
 
 /// The constants by what they are made of (SPIR-V Specification 1.6, section 3.49.7), the spec forms too.
 #[derive(Clone, Copy, PartialEq, Eq)]
@@ -26,15 +28,18 @@ pub enum Constant {
 }
 
 /// What an opcode makes.
-pub fn constant_of(opcode: u16) -> Option<Constant>
-    ensures { result ≡ rules.constant_of opcode }
+pub fn constant_of(number: u16) -> Option<Constant>
+    ensures { result ≡ rules.constant_of number }
 {
-    match opcode {
-        41 | 42 | 48 | 49 => Some(Constant::Bool),
-        43 | 50 => Some(Constant::Number),
-        44 => Some(Constant::Composite),
-        51 => Some(Constant::SpecComposite),
-        46 => Some(Constant::Null),
+    match number {
+        opcode::CONSTANT_TRUE
+        | opcode::CONSTANT_FALSE
+        | opcode::SPEC_CONSTANT_TRUE
+        | opcode::SPEC_CONSTANT_FALSE => Some(Constant::Bool),
+        opcode::CONSTANT | opcode::SPEC_CONSTANT => Some(Constant::Number),
+        opcode::CONSTANT_COMPOSITE => Some(Constant::Composite),
+        opcode::SPEC_CONSTANT_COMPOSITE => Some(Constant::SpecComposite),
+        opcode::CONSTANT_NULL => Some(Constant::Null),
         _ => None,
     }
 }
@@ -51,12 +56,14 @@ pub fn fits_width(definitions: &Definitions, r: u32, low: u32) -> bool
 }
 
 /// Whether a composite constant may be made of what an opcode makes.
-fn is_part_opcode(spec: bool, opcode: u16) -> bool
-    ensures { result ≡ rules.is_part_opcode spec opcode }
+fn is_part_opcode(spec: bool, number: u16) -> bool
+    ensures { result ≡ rules.is_part_opcode spec number }
 {
-    match opcode {
-        1 | 41..=44 | 46 => true,
-        48..=51 => spec,
+    match number {
+        opcode::UNDEF
+        | opcode::CONSTANT_TRUE..=opcode::CONSTANT_COMPOSITE
+        | opcode::CONSTANT_NULL => true,
+        opcode::SPEC_CONSTANT_TRUE..=opcode::SPEC_CONSTANT_COMPOSITE => spec,
         _ => false,
     }
 }

@@ -1,21 +1,22 @@
 ghost use Rattle.std.specs.Prelude.{◌≡◌, ◌<◌, ◌+◌, ℕ, List, Some, slice_get, nat_eq};
 ghost use Rattle.std.specs.Prelude.{if◌then◌else◌};
+ghost use Rattle.spv_module.specs.declared.opcode.TheConstants as opcode;
 ghost use Rattle.spv_module.specs.Operand.{PlainInst};
 ghost use Rattle.spv_module.specs.Module.{plain_inst};
 ghost use Rattle.spv_type_rules.specs.inner.Counted.{AreCounted};
 
-use crate::opcode::{FUNCTION, PARAMETER};
-use spv_module::Inst;
+use spv_module::{Inst, opcode};
 
 /// How many parameters stand after the last OpFunction before the instruction after one of an opcode.
 #[inline(always)]
-fn count_after(opcode: u16, count: u32) -> u32
+fn count_after(number: u16, count: u32) -> u32
     requires { count < 4294967295 }
-    ensures { result ≡ (if nat_eq opcode 54 then 0 else (if nat_eq opcode 55 then count + 1 else count)) }
+    ensures { result ≡ (if nat_eq number opcode.FUNCTION then 0
+        else (if nat_eq number opcode.FUNCTION_PARAMETER then count + 1 else count)) }
 {
-    if opcode == FUNCTION {
+    if number == opcode::FUNCTION {
         0
-    } else if opcode == PARAMETER {
+    } else if number == opcode::FUNCTION_PARAMETER {
         count + 1
     } else {
         count

@@ -12,8 +12,8 @@ ghost use Rattle.spv_type_rules.specs.Asked.{IsIntWidth, IsFloatWidth, IsVectorC
 ghost use Rattle.spv_type_rules.specs.inner.Declaration.{IsSoundDeclaration};
 
 use spv_ids::Ids;
-use spv_module::{Inst, Operand};
-use spv_ops::{Definitions, Form, form_in, is_data, is_int, length};
+use spv_module::{Inst, Operand, opcode};
+use spv_type_forms::{Definitions, Form, form_in, is_data, is_int, length};
 
 /// The type declarations that may be unsound (SPIR-V Specification 1.6, section 3.49.6).
 #[derive(Clone, Copy, PartialEq, Eq)]
@@ -30,18 +30,18 @@ pub enum Declaration {
 }
 
 /// What an opcode declares.
-pub fn declaration_of(opcode: u16) -> Option<Declaration>
-    ensures { result ≡ spec.declaration_of opcode }
+pub fn declaration_of(number: u16) -> Option<Declaration>
+    ensures { result ≡ spec.declaration_of number }
 {
-    match opcode {
-        21 => Some(Declaration::Int),
-        22 => Some(Declaration::Float),
-        23 => Some(Declaration::Vector),
-        28 => Some(Declaration::Array),
-        30 => Some(Declaration::Struct),
-        32 => Some(Declaration::Pointer),
-        33 => Some(Declaration::Function),
-        39 => Some(Declaration::Forward),
+    match number {
+        opcode::TYPE_INT => Some(Declaration::Int),
+        opcode::TYPE_FLOAT => Some(Declaration::Float),
+        opcode::TYPE_VECTOR => Some(Declaration::Vector),
+        opcode::TYPE_ARRAY => Some(Declaration::Array),
+        opcode::TYPE_STRUCT => Some(Declaration::Struct),
+        opcode::TYPE_POINTER => Some(Declaration::Pointer),
+        opcode::TYPE_FUNCTION => Some(Declaration::Function),
+        opcode::TYPE_FORWARD_POINTER => Some(Declaration::Forward),
         _ => None,
     }
 }

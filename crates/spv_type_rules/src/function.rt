@@ -3,6 +3,7 @@
 ghost use Rattle.std.specs.Prelude.{◌≡◌, ◌<◌, ◌+◌, ◌↔◌, ◌∷◌, ℕ, List, Some, true, take};
 ghost use Rattle.std.specs.Prelude.{map, slice_get, length, IsTrue, IsSomeAnd, option_map, option_and_then};
 ghost use Rattle.std.specs.Prelude.{MatchOption, nat_eq, ◌||◌};
+ghost use Rattle.spv_module.specs.declared.opcode.TheConstants as opcode;
 ghost use Rattle.spv_module.specs.Operand.{PlainInst, Id, type_in as plain_type_in};
 ghost use Rattle.spv_module.specs.Module.{plain_inst, plain_operand, plain_operands};
 ghost use Rattle.spv_layout.specs.Place.{IsOfFunction};
@@ -17,10 +18,9 @@ ghost use Rattle.spv_type_rules.specs.inner.Function.{IsSoundReturn, IsSoundRetu
 ghost use Rattle.spv_type_rules.specs.inner.Function.{parameters_in, IsSoundParameter};
 ghost use Rattle.spv_type_rules.specs.inner.Found.{IsOfOne, are_typed, has_signature, has_type};
 
-use crate::opcode::{FUNCTION, FUNCTION_END, LABEL, PARAMETER, TYPE_FUNCTION};
 use spv_layout::laws::one_standing;
-use spv_module::{Inst, Operand};
-use spv_ops::{Definitions, Form, after_head, after_result, type_in};
+use spv_module::{Inst, Operand, opcode};
+use spv_type_forms::{Definitions, Form, after_head, after_result, type_in};
 
 /// A function, and the number of its OpFunction.
 #[derive(Clone, Copy)]
@@ -109,7 +109,7 @@ pub fn function_type(function: &Inst) -> Option<u32>
     ensures { result ≡ function_type_in (plain_inst function.now) }
 {
     match (function.opcode, after_head(function.operands.as_slice())) {
-        (FUNCTION, [_, Operand::Id(t), ..]) => Some(*t),
+        (opcode::FUNCTION, [_, Operand::Id(t), ..]) => Some(*t),
         _ => None,
     }
 }
@@ -126,7 +126,7 @@ pub fn signature<'m, 'a>(
     let t = function_type(function)?;
     let inst = definitions.definition(t)?;
     match inst.opcode {
-        TYPE_FUNCTION => Some(after_result(inst.operands.as_slice())),
+        opcode::TYPE_FUNCTION => Some(after_result(inst.operands.as_slice())),
         _ => None,
     }
 }
@@ -221,10 +221,10 @@ pub fn is_sound_call(definitions: &Definitions, inst: &Inst) -> bool
 }
 
 /// Whether an opcode ends the parameters of a function: that of OpLabel or OpFunctionEnd.
-fn ends_parameters(opcode: u16) -> bool
-    ensures { result ≡ (nat_eq opcode 248 || nat_eq opcode 56) }
+fn ends_parameters(number: u16) -> bool
+    ensures { result ≡ (nat_eq number opcode.LABEL || nat_eq number opcode.FUNCTION_END) }
 {
-    opcode == LABEL || opcode == FUNCTION_END
+    number == opcode::LABEL || number == opcode::FUNCTION_END
 }
 
 /// How many parameters there are before the first OpLabel or OpFunctionEnd.
@@ -237,7 +237,7 @@ pub fn count_parameters(insts: &[Inst]) -> usize
         if ends_parameters(inst.opcode) {
             return count;
         }
-        if inst.opcode == PARAMETER {
+        if inst.opcode == opcode::FUNCTION_PARAMETER {
             count += 1;
         }
     }

@@ -1,12 +1,10 @@
 //! Worked examples. Each function does nothing: its contract is what is proved.
 
 ghost use Rattle.std.specs.Prelude.{◌≡◌, [], ◌∷◌, Some, None, false};
-ghost use Rattle.spv_table.specs.Table.{Table};
+ghost use Rattle.spv_module.specs.declared.opcode.TheConstants as opcode;
 ghost use Rattle.spv_module.specs.declared.fault.Rule.TheVariants as rule;
 ghost use Rattle.spv_module.specs.Operand.{PlainInst, OfType, Result, Id, Word, Value, Mask};
-ghost use Rattle.spv_module.specs.Example.{small as table};
 ghost use Rattle.spv_type_forms.specs.Example.{inst};
-ghost use Rattle.spv_ops.specs.Example.{add, add_floats};
 ghost use Rattle.spv_type_rules.specs.Declaration.{IsLength, IsPointerAfter, DeclaresSoundly};
 ghost use Rattle.spv_type_rules.specs.Asked.{IsIntWidth, IsFloatWidth, IsVectorCount, IsPointee, IsReturned};
 ghost use Rattle.spv_type_rules.specs.inner.Declaration.{IsSoundDeclaration};
@@ -21,17 +19,17 @@ ghost use Rattle.spv_type_rules.specs.Function.{parameters_between};
 ghost use Rattle.spv_type_rules.specs.inner.Function.{IsSoundFunction, IsSoundParameter, IsSoundReturn};
 ghost use Rattle.spv_type_rules.specs.inner.Function.{IsSoundReturnValue, IsSoundCall};
 ghost use Rattle.spv_type_rules.specs.Keeps.{Keeps};
-ghost use Rattle.spv_type_rules.specs.inner.Rules.{IsFirstRule, IsFirstHere};
+ghost use Rattle.spv_type_rules.specs.inner.Rules.{Unasked, IsFirstRule, IsFirstHere};
 ghost use Rattle.spv_type_rules.specs.Example.{small, constant, wide_constant, again, call, short_call, function};
 ghost use Rattle.spv_type_rules.specs.Example.{parameter, with_struct, pointers, returning};
 
 /// Declarations and constants of a small module that are sound, and such as are not.
 pub fn declaration_examples()
-    ensures array { IsSoundDeclaration small 7 (inst 28 (Result 9 ∷ Id 1 ∷ Id 5 ∷ [])) }
+    ensures array { IsSoundDeclaration small 7 (inst opcode.TYPE_ARRAY (Result 9 ∷ Id 1 ∷ Id 5 ∷ [])) }
     // `%2` is void, and no length.
-    ensures no_array { ¬ (IsSoundDeclaration small 7 (inst 28 (Result 9 ∷ Id 1 ∷ Id 2 ∷ []))) }
+    ensures no_array { ¬ (IsSoundDeclaration small 7 (inst opcode.TYPE_ARRAY (Result 9 ∷ Id 1 ∷ Id 2 ∷ []))) }
     // No count of a vector is 5.
-    ensures no_vector { ¬ (IsSoundDeclaration small 7 (inst 23 (Result 9 ∷ Id 1 ∷ Word 5 ∷ []))) }
+    ensures no_vector { ¬ (IsSoundDeclaration small 7 (inst opcode.TYPE_VECTOR (Result 9 ∷ Id 1 ∷ Word 5 ∷ []))) }
     ensures constant { IsSoundConstant small constant }
     // 300 has more than eight bits.
     ensures wide_constant { ¬ (IsSoundConstant small wide_constant) }
@@ -41,28 +39,29 @@ pub fn declaration_examples()
 
 /// A function `%4` of one parameter, which is a declaration, and calls of it.
 pub fn function_examples()
-    ensures function { IsSoundFunction small 4 (inst 54 (OfType 1 ∷ Result 4 ∷ Mask 9 0 ∷ Id 3 ∷ [])) }
+    ensures function { IsSoundFunction small 4 (inst opcode.FUNCTION (OfType 1 ∷ Result 4 ∷ Mask 9 0 ∷ Id 3 ∷ [])) }
     // Before another instruction, no parameter would follow.
-    ensures no_function { ¬ (IsSoundFunction small 5 (inst 54 (OfType 1 ∷ Result 4 ∷ Mask 9 0 ∷ Id 3 ∷ []))) }
+    ensures no_function { ¬
+        (IsSoundFunction small 5 (inst opcode.FUNCTION (OfType 1 ∷ Result 4 ∷ Mask 9 0 ∷ Id 3 ∷ []))) }
     ensures before { parameters_between small 4 6 ≡ 1 }
     ensures call { IsSoundCall small call }
     ensures short_call { ¬ (IsSoundCall small short_call) }
     // The function %4 returns an int, %1, and neither void nor %2.
-    ensures something { ¬ (ReturnsNothing small (inst 54 (OfType 1 ∷ Result 4 ∷ Mask 9 0 ∷ Id 3 ∷ []))) }
-    ensures typed { ReturnsTyped (inst 54 (OfType 1 ∷ Result 4 ∷ Mask 9 0 ∷ Id 3 ∷ [])) (1 ∷ []) }
-    ensures not_typed { ¬ (ReturnsTyped (inst 54 (OfType 1 ∷ Result 4 ∷ Mask 9 0 ∷ Id 3 ∷ [])) (2 ∷ [])) }
+    ensures something { ¬ (ReturnsNothing small (inst opcode.FUNCTION (OfType 1 ∷ Result 4 ∷ Mask 9 0 ∷ Id 3 ∷ []))) }
+    ensures typed { ReturnsTyped (inst opcode.FUNCTION (OfType 1 ∷ Result 4 ∷ Mask 9 0 ∷ Id 3 ∷ [])) (1 ∷ []) }
+    ensures not_typed { ¬ (ReturnsTyped (inst opcode.FUNCTION (OfType 1 ∷ Result 4 ∷ Mask 9 0 ∷ Id 3 ∷ [])) (2 ∷ [])) }
 {}
 
 /// What Y2, Y4 and Y8 demand of instructions.
 pub fn demand_examples()
-    ensures declaration { (G : Table) → Keeps G small rule.Y2 7 (inst 23 (Result 9 ∷ Id 1 ∷ Word 4 ∷ [])) }
-    ensures no_declaration { (G : Table) → ¬
-        (Keeps G small rule.Y2 7 (inst 23 (Result 9 ∷ Id 1 ∷ Word 5 ∷ []))) }
+    ensures declaration { Keeps Unasked small rule.Y2 7 (inst opcode.TYPE_VECTOR (Result 9 ∷ Id 1 ∷ Word 4 ∷ [])) }
+    ensures no_declaration { ¬
+        (Keeps Unasked small rule.Y2 7 (inst opcode.TYPE_VECTOR (Result 9 ∷ Id 1 ∷ Word 5 ∷ []))) }
     // Y2 demands nothing of a constant.
-    ensures other { (G : Table) → Keeps G small rule.Y2 7 wide_constant }
-    ensures no_constant { (G : Table) → ¬ (Keeps G small rule.Y4 7 wide_constant) }
-    ensures call { (G : Table) → Keeps G small rule.Y8 7 call }
-    ensures no_call { (G : Table) → ¬ (Keeps G small rule.Y8 7 short_call) }
+    ensures other { Keeps Unasked small rule.Y2 7 wide_constant }
+    ensures no_constant { ¬ (Keeps Unasked small rule.Y4 7 wide_constant) }
+    ensures call { Keeps Unasked small rule.Y8 7 call }
+    ensures no_call { ¬ (Keeps Unasked small rule.Y8 7 short_call) }
 {}
 
 /// Widths, counts, lengths, and what pointers and functions may name.
@@ -114,8 +113,8 @@ pub fn part_examples()
     ensures null { Constitutes small constant_kind.Null 1 [] }
     ensures void_null { ¬ (Constitutes small constant_kind.Null 2 []) }
     // The same opcode and operands, the result aside.
-    ensures alike { AreAlike again (inst 21 (Result 1 ∷ Word 8 ∷ Word 0 ∷ [])) }
-    ensures unlike { ¬ (AreAlike again (inst 21 (Result 7 ∷ Word 16 ∷ Word 0 ∷ []))) }
+    ensures alike { AreAlike again (inst opcode.TYPE_INT (Result 1 ∷ Word 8 ∷ Word 0 ∷ [])) }
+    ensures unlike { ¬ (AreAlike again (inst opcode.TYPE_INT (Result 7 ∷ Word 16 ∷ Word 0 ∷ []))) }
 {}
 
 /// Signatures, parameters and returns.
@@ -124,33 +123,31 @@ pub fn return_examples()
     ensures fewer { ¬ (ReturnsAfter (Some 1) 2 (Id 1 ∷ Id 1 ∷ [])) }
     ensures called { CallsTyped small function 1 (1 ∷ []) }
     ensures no_argument { ¬ (CallsTyped small function 1 []) }
-    ensures nothing { ReturnsNothing returning (inst 54 (OfType 1 ∷ Result 3 ∷ Mask 8 0 ∷ Id 2 ∷ [])) }
+    ensures nothing { ReturnsNothing returning (inst opcode.FUNCTION (OfType 1 ∷ Result 3 ∷ Mask 8 0 ∷ Id 2 ∷ [])) }
     // The parameter of the function stands at instruction 5, as would a value that is returned.
     ensures parameter { IsSoundParameter small 5 parameter }
-    ensures other_parameter { ¬ (IsSoundParameter small 5 (inst 55 (OfType 2 ∷ Result 8 ∷ []))) }
-    ensures value { IsSoundReturnValue small 5 (inst 254 (Id 5 ∷ [])) }
+    ensures other_parameter { ¬ (IsSoundParameter small 5 (inst opcode.FUNCTION_PARAMETER (OfType 2 ∷ Result 8 ∷ []))) }
+    ensures value { IsSoundReturnValue small 5 (inst opcode.RETURN_VALUE (Id 5 ∷ [])) }
     // `%2` is a type, and has none.
-    ensures no_value { ¬ (IsSoundReturnValue small 5 (inst 254 (Id 2 ∷ []))) }
+    ensures no_value { ¬ (IsSoundReturnValue small 5 (inst opcode.RETURN_VALUE (Id 2 ∷ []))) }
     ensures void_return { IsSoundReturn returning 3 }
     ensures int_return { ¬ (IsSoundReturn small 5) }
 {}
 
-/// What Y3, Y5, Y6 and Y7 demand of instructions.
+/// What Y3, Y6 and Y7 demand of instructions.
 pub fn keep_examples()
     // A type of ints of width 8 in the place of the first, and after it.
-    ensures first { (G : Table) → Keeps G small rule.Y3 0 again }
-    ensures again { (G : Table) → ¬ (Keeps G small rule.Y3 7 again) }
-    // Sums of two ints, as of ints and as of floats.
-    ensures add { Keeps table small rule.Y5 7 add }
-    ensures add_floats { ¬ (Keeps table small rule.Y5 7 add_floats) }
-    ensures function { (G : Table) → Keeps G small rule.Y6 4 function }
+    ensures first { Keeps Unasked small rule.Y3 0 again }
+    ensures again { ¬ (Keeps Unasked small rule.Y3 7 again) }
+    ensures function { Keeps Unasked small rule.Y6 4 function }
     // Before another instruction, no parameter would follow.
-    ensures no_function { (G : Table) → ¬ (Keeps G small rule.Y6 5 function) }
-    ensures parameter { (G : Table) → Keeps G small rule.Y6 5 parameter }
-    ensures other_parameter { (G : Table) → ¬ (Keeps G small rule.Y6 5 (inst 55 (OfType 2 ∷ Result 8 ∷ []))) }
-    ensures returned { (G : Table) → Keeps G returning rule.Y7 3 (inst 253 []) }
+    ensures no_function { ¬ (Keeps Unasked small rule.Y6 5 function) }
+    ensures parameter { Keeps Unasked small rule.Y6 5 parameter }
+    ensures other_parameter { ¬
+        (Keeps Unasked small rule.Y6 5 (inst opcode.FUNCTION_PARAMETER (OfType 2 ∷ Result 8 ∷ []))) }
+    ensures returned { Keeps Unasked returning rule.Y7 3 (inst opcode.RETURN []) }
     // The function %4 returns an int.
-    ensures not_returned { (G : Table) → ¬ (Keeps G small rule.Y7 5 (inst 253 [])) }
+    ensures not_returned { ¬ (Keeps Unasked small rule.Y7 5 (inst opcode.RETURN [])) }
 {}
 
 /// Calls of the function `%4`, and the first rule that is broken at an instruction.
@@ -158,8 +155,9 @@ pub fn first_examples()
     ensures call { CallsSoundly small 1 (Id 4 ∷ Id 5 ∷ []) }
     ensures no_argument { ¬ (CallsSoundly small 1 (Id 4 ∷ [])) }
     // A vector of five breaks Y2, which comes before Y3.
-    ensures vector { (G : Table) → IsFirstRule G small 7 (inst 23 (Result 9 ∷ Id 1 ∷ Word 5 ∷ [])) rule.Y2 }
-    ensures later { (G : Table) → ¬ (IsFirstRule G small 7 (inst 23 (Result 9 ∷ Id 1 ∷ Word 5 ∷ [])) rule.Y3) }
-    ensures here { (G : Table) → IsFirstHere G small 7 short_call (Some rule.Y8) }
-    ensures none_here { (G : Table) → ¬ (IsFirstHere G small 7 short_call None) }
+    ensures vector { IsFirstRule small 7 (inst opcode.TYPE_VECTOR (Result 9 ∷ Id 1 ∷ Word 5 ∷ [])) rule.Y2 }
+    ensures later { ¬
+        (IsFirstRule small 7 (inst opcode.TYPE_VECTOR (Result 9 ∷ Id 1 ∷ Word 5 ∷ [])) rule.Y3) }
+    ensures here { IsFirstHere small 7 short_call (Some rule.Y8) }
+    ensures none_here { ¬ (IsFirstHere small 7 short_call None) }
 {}

@@ -1,4 +1,5 @@
-//! The rules Y2 to Y8 of types: declarations, constants, operations, functions, parameters, returns and calls.
+//! The rules Y2 to Y8 of types but for Y5: declarations, constants, functions, parameters, returns and calls. Y5, of
+//! operations, is that of spv_ops.
 #![tactic(auto)]
 
 mod concern;
@@ -7,10 +8,10 @@ mod counted;
 mod declaration;
 mod function;
 pub mod laws;
-mod opcode;
 mod repeat;
 mod rules;
 
+pub use concern::is_operation;
 pub use constant::{Constant, constant_of, fits_width, is_bool, is_typed_part};
 pub use counted::next_count;
 pub use declaration::{

@@ -10,18 +10,19 @@ ghost use Rattle.spv_type_rules.specs.inner.Key as key;
 ghost use Rattle.spv_type_rules.specs.inner.Key.{operand_numbers};
 ghost use Rattle.spv_type_rules.specs.inner.Seen.{AreSeen, HasKey};
 
-use spv_module::{Inst, Operand};
-use spv_ops::after_result;
+use spv_module::{Inst, Operand, opcode};
+use spv_type_forms::after_result;
 use std::alloc::{AllocError, Global};
 use std::collections::BTreeSet;
 
 /// Whether an opcode declares a type that may be declared once only.
 #[inline(always)]
-pub fn is_declared_once(opcode: u16) -> bool
-    ensures { result ≡ spec.is_declared_once opcode }
+pub fn is_declared_once(number: u16) -> bool
+    ensures { result ≡ spec.is_declared_once number }
 {
-    match opcode {
-        19..=23 | 31 | 33 => true,
+    match number {
+        opcode::TYPE_VOID..=opcode::TYPE_VECTOR | opcode::TYPE_OPAQUE | opcode::TYPE_FUNCTION =>
+            true,
         _ => false,
     }
 }

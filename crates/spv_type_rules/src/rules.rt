@@ -1,8 +1,9 @@
-//! The rules of types at an instruction.
+//! The rules of types at an instruction, but for Y5.
 
 ghost use Rattle.std.specs.Prelude.{◌≡◌, ◌<◌, ◌↔◌, ℕ, length, map, Some, None, IsTrue};
 ghost use Rattle.std.specs.Prelude.{if◌then◌else◌, slice_get};
 ghost use Rattle.spv_table.specs.Table.{Table};
+ghost use Rattle.spv_module.specs.declared.opcode.TheConstants as opcode;
 ghost use Rattle.spv_module.specs.Module.{plain_inst, plain_insts};
 ghost use Rattle.spv_layout.specs.Place.{IsOfFunction};
 ghost use Rattle.spv_layout.specs.Plan.{IsPlan};
@@ -21,11 +22,10 @@ use crate::function::{
     count_parameters, is_sound_call, is_sound_function, is_sound_parameter, is_sound_return,
     is_sound_return_value,
 };
-use crate::opcode::{FUNCTION, FUNCTION_CALL, PARAMETER, RETURN, RETURN_VALUE};
 use spv_ids::Ids;
 use spv_layout::Plan;
-use spv_module::{Inst, Module, Rule};
-use spv_ops::{Definitions, inst_holds};
+use spv_module::{Inst, Module, Rule, opcode};
+use spv_type_forms::Definitions;
 
 /// A rule, unless it is kept.
 #[inline(always)]
@@ -70,22 +70,35 @@ impl<'m, 'a> Rules<'m, 'a> {
         }
     }
 
+    /// What the ids of the module stand for.
+    #[inline(always)]
+    pub fn definitions(&self) -> &Definitions<'m, 'a>
+        ensures { result.now ≡ rules_insts self.now }
+    {
+        &self.definitions
+    }
+
     /// Whether Y6 is unbroken at an instruction.
     #[inline(never)]
     fn keeps_functions(&self, number: u32, inst: &Inst<'a>, parameters: u32) -> bool
         requires rules { AreRules self.now }
         requires inst { slice_get (rules_insts self.now) number ≡ Some (plain_inst inst.now) }
-        requires parameters { (plain_inst inst.now).opcode ≡ 55 → (f : ℕ)
+        requires parameters { (plain_inst inst.now).opcode ≡ opcode.FUNCTION_PARAMETER → (f : ℕ)
             → IsOfFunction (rules_insts self.now) number f → parameters_between (rules_insts self.now) f number
             ≡ parameters }
         ensures { IsTrue result ↔ KeepsFunctions (rules_insts self.now) number (plain_inst inst.now) }
     {
         match inst.opcode {
-            FUNCTION => {
+            opcode::FUNCTION => {
                 let rest = &self.module.insts.as_slice()[number as usize + 1..];
                 is_sound_function(&self.definitions, number, inst, count_parameters(rest))
             }
-            PARAMETER => is_sound_parameter(&self.definitions, number, inst, parameters),
+            opcode::FUNCTION_PARAMETER => is_sound_parameter(
+                &self.definitions,
+                number,
+                inst,
+                parameters,
+            ),
             _ => true,
         }
     }
@@ -98,8 +111,8 @@ impl<'m, 'a> Rules<'m, 'a> {
         ensures { IsTrue result ↔ KeepsReturns (rules_insts self.now) number (plain_inst inst.now) }
     {
         match inst.opcode {
-            RETURN => is_sound_return(&self.definitions, number),
-            RETURN_VALUE => is_sound_return_value(&self.definitions, number, inst),
+            opcode::RETURN => is_sound_return(&self.definitions, number),
+            opcode::RETURN_VALUE => is_sound_return_value(&self.definitions, number, inst),
             _ => true,
         }
     }
@@ -110,23 +123,23 @@ impl<'m, 'a> Rules<'m, 'a> {
         requires { AreRules self.now }
         ensures { IsTrue result ↔ CallsAreSound (rules_insts self.now) (plain_inst inst.now) }
     {
-        if inst.opcode == FUNCTION_CALL {
+        if inst.opcode == opcode::FUNCTION_CALL {
             is_sound_call(&self.definitions, inst)
         } else {
             true
         }
     }
 
-    /// The first of the rules Y2 to Y8 that is broken at the instruction of a number, by what is known of those before
-    /// it. Time is linear in the instruction's words; at an OpFunction, in those up to its first block too.
+    /// The first of the rules Y2, Y3, Y4, Y6, Y7 and Y8 that is broken at the instruction of a number, by what is known
+    /// of those before it: none at an operation. Time is linear in the instruction's words; at an OpFunction, in those
+    /// up to its first block too.
     #[inline(always)]
     pub fn first_at(&self, number: u32, inst: &Inst<'a>, known: Known) -> Option<Rule>
         requires rules { AreRules self.now }
         requires inst { slice_get (rules_insts self.now) number ≡ Some (plain_inst inst.now) }
         requires repeats { IsTrue known.repeats ↔ Repeats (rules_insts self.now) number (plain_inst inst.now) }
         requires parameters { AreCounted (rules_insts self.now) number known.parameters }
-        ensures { (G : Table) → IsPlan G (rules_insts self.now) self.now.plan.now
-            → IsFirstHere G (rules_insts self.now) number (plain_inst inst.now) result }
+        ensures { IsFirstHere (rules_insts self.now) number (plain_inst inst.now) result }
     {
         match concern_of(inst.opcode) {
             Concern::Declaration => {
@@ -136,7 +149,6 @@ impl<'m, 'a> Rules<'m, 'a> {
                 if known.repeats { Some(Rule::Y3) } else { None }
             }
             Concern::Constant => unless(is_sound_constant(&self.definitions, inst), Rule::Y4),
-            Concern::Operation => unless(inst_holds(&self.definitions, number, inst), Rule::Y5),
             Concern::Function => unless(
                 self.keeps_functions(number, inst, known.parameters),
                 Rule::Y6,

@@ -1,5 +1,5 @@
 -- A module that all layers let through, and what they refuse.
-use Rattle.std.proofs.Common.{◌≡◌, ◌↔◌, ◌+◌, ◌≤◌, ℕ, List, Result, Ok, IfOk, drop, slice_index, refl}
+use Rattle.std.proofs.Common.{◌≡◌, ◌↔◌, ℕ, List, Result, Ok, IfOk, drop, slice_index, refl}
 use Rattle.spv_words.specs.Header.{IsModule}
 use Rattle.spv_words.specs.declared.words.Order.{Order}
 use Rattle.spv_table.specs.Table.{Table}
@@ -10,10 +10,10 @@ use Rattle.spv_inst.specs.Outcome.{IsDecodeFault, IsHeaderOf}
 use Rattle.spv_module.specs.Module.{plain_insts}
 use Rattle.spv_module.specs.declared.fault.Stop.{Stop}
 use Rattle.spv_module.specs.declared.fault.Stop.TheVariants.{Fault as Faulty, Memory}
-use Rattle.spv_layout.specs.Place.{word_count}
+use Rattle.spv_layout.specs.Place.{IsShort}
 use Rattle.spv_verdict.specs.Answer.{IsAnswer, IsFault, SaysValid, StopsAs}
-use Rattle.spv_verdict.specs.Broken.{IsSound, IsTold}
-use Rattle.spv_verdict.specs.Checked.{AreParts, IsChecked, IsKept}
+use Rattle.spv_verdict.specs.Broken.{IsSound}
+use Rattle.spv_verdict.specs.Checked.{AreParts, IsChecked, IsKept, program_of}
 use Rattle.spv_verdict.specs.Program.{Program}
 use Rattle.spv_verdict.specs.Valid.{IsValid}
 use Rattle.spv_verdict.specs.declared.checked.Verdict.{Verdict}
@@ -23,26 +23,28 @@ use Rattle.spv_layout.specs.Broken as layout_rules
 use Rattle.spv_layout.specs.First.{IsUnbroken}
 use Rattle.spv_layout.specs.Plan.{IsPlan}
 use Rattle.spv_ids.specs.Outcome.{AreIds}
-use Rattle.spv_types.specs.Broken as type_rules
+use Rattle.spv_verdict.specs.types.Broken as type_rules
 use Rattle.spv_roles.specs.Outcome.{AreInRole}
 use Rattle.spv_capabilities.specs.Keeps as capability_rules
+use Rattle.spv_ops.specs.Typed.{IsTyped}
 use Rattle.spv_type_rules.specs.Keeps as typing_rules
-use Rattle.spv_flow.specs.Outcome.{IsFlow}
-use Rattle.std.specs.Prelude.{Some, slice_get, sum_by}
+use Rattle.spv_verdict.specs.flow.Outcome.{IsFlow}
+use Rattle.std.specs.Prelude.{Some, slice_get}
 use Rattle.spv_verdict.proofs.Firsts.{IsBefore, sound}
 use Rattle.spv_module.specs.declared.fault.Fault as fault
 use Rattle.spv_verdict.specs.Verdict.{IsVerdict, fault_line, valid_line}
 use Rattle.spv_verdict.proofs.Verdicts.{Laws, fault_invalid, fault_verdict, valid_of, valid_verdict}
 use Rattle.spv_module.specs.declared.module.Module.{Module}
 use Rattle.spv_layout.specs.declared.place.Place.{Place}
+use Rattle.spv_layout.specs.Stage as stages
 use Rattle.spv_ids.specs.declared.ids.Ids.{Ids}
-use Rattle.spv_flow.specs.declared.flow.Flow.{Flow}
+use Rattle.spv_verdict.specs.declared.flow.Flow.{Flow}
 
 -- what all layers answered of a module
-pub kept_of : (G : Table) (p : Program) (places : List Place) (ids : Ids) (flow : Flow) → 5 + sum_by word_count p.insts ≤ 4194304 → IsPlan G p.insts places → AreIds G p.bound p.insts ids
+pub kept_of : (G : Table) (p : Program) (places : List Place) (ids : Ids) (flow : Flow) → IsShort p.insts → IsPlan G p.insts places → AreIds G p.bound p.insts ids
     → AreInRole G p.insts → ((r : Rule) (n : ℕ) (i : PlainInst) → slice_get p.insts n ≡ Some i → capability_rules.Keeps G p.insts r n i)
-    → ((r : Rule) (n : ℕ) (i : PlainInst) → slice_get p.insts n ≡ Some i → typing_rules.Keeps G p.insts r n i)
-    → IsUnbroken (type_rules.Broken G p.insts) 4 × IsUnbroken (type_rules.Broken G p.insts) 5 → IsFlow G p.insts flow → IsKept G p
+    → ((r : Rule) (n : ℕ) (i : PlainInst) → slice_get p.insts n ≡ Some i → typing_rules.Keeps (IsTyped G p.insts) p.insts r n i)
+    → IsUnbroken (type_rules.Broken G p.insts) stages.of_roles × IsUnbroken (type_rules.Broken G p.insts) stages.of_types → IsFlow G p.insts flow → IsKept G p
 kept_of G p places ids flow w a b r c t u f = record {
   few = w;
   fits = a.fits;
@@ -56,10 +58,6 @@ kept_of G p places ids flow w a b r c t u f = record {
   values = f.values;
   calls = f.calls;
 }
-
--- the bound and the instructions of a module
-abbrev pub program_of : Module → Program
-program_of m = record { bound = m.header.bound; insts = plain_insts m }
 
 pub parts_of : (G : Table) (m : Module) (places : List Place) (ids : Ids) (flow : Flow) → IsKept G (program_of m) → IsPlan G (plain_insts m) places
     → AreIds G m.header.bound (plain_insts m) ids → IsFlow G (plain_insts m) flow → AreParts G (program_of m) m places ids flow
@@ -96,12 +94,6 @@ pub dead_answer : (G : Table) (words : List ℕ) (s : Stop) (r : Result Verdict 
 dead_answer G words Memory (Ok v) e d = absurd e
 dead_answer G words Memory r e d = tt
 dead_answer G words (Faulty f) r e d = rw e (IsFault.dead d.0 d.1)
-
-pub told_answer : (G : Table) (words : List ℕ) (is : List PlainInst) (bound : ℕ) (s : Stop) (r : Result Verdict OutOfMemory) → StopsAs s r → bound ≡ slice_index words 3 → IsListing G is (drop 5 words)
-    → IsTold G bound is s → IfOk r (λ v. IsAnswer G words v)
-told_answer G words is bound Memory (Ok v) e b l t = absurd e
-told_answer G words is bound Memory r e b l t = tt
-told_answer G words is bound (Faulty f) r e b l t = rw e (IsFault.broken is l (rw b at t.0) t.1)
 
 -- and so it is valid exactly where the bytes are
 pub exactly_ok : Laws → (G : Table) (bytes words : List ℕ) (order : Order) (r : Result Verdict OutOfMemory) → IsModule order bytes words → IfOk r (λ v. IsAnswer G words v)

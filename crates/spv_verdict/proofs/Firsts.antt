@@ -11,27 +11,28 @@ use Rattle.spv_layout.specs.First.{stage_of, rank_of, IsUnbroken}
 use Rattle.spv_layout.specs.Broken as layout
 use Rattle.spv_layout.specs.Plan.{IsPlan}
 use Rattle.spv_layout.specs.Plan as plan
+use Rattle.spv_layout.specs.Stage as stages
 use Rattle.spv_ids.specs.Outcome as outcome
 use Rattle.spv_module.specs.declared.fault.Stop.{Stop}
 use Rattle.spv_module.specs.declared.fault.Stop.TheVariants.{Fault, Memory}
 use Rattle.spv_layout.proofs.Brokens.{dead_stage}
 use Rattle.spv_layout.proofs.Firsts.{rank_apart}
 use Rattle.spv_ids.specs.Broken as ids
-use Rattle.spv_types.specs.Broken as types
-use Rattle.spv_types.specs.Outcome as types_outcome
+use Rattle.spv_verdict.specs.types.Broken as types
+use Rattle.spv_verdict.specs.types.Outcome as types_outcome
 use Rattle.spv_branches.specs.Broken as flow
 use Rattle.spv_calls.specs.Broken as calls
-use Rattle.spv_flow.specs.Outcome as flow_outcome
-use Rattle.spv_flow.specs.Outcome.{IsFirstOfFlow}
+use Rattle.spv_verdict.specs.flow.Outcome as flow_outcome
+use Rattle.spv_verdict.specs.flow.Outcome.{IsFirstOfFlow}
 use Rattle.spv_verdict.proofs.Stages.{types_stage}
 use Rattle.spv_verdict.specs.Broken.{Broken, Precedes, IsFirstOfAll, IsSound, IsTold}
 
 -- the stages of the rules
-pub layout_stage : (G : Table) (is : List PlainInst) (r : Rule) (n : ℕ) → layout.Broken G is r n → (stage_of r ≡ 1) ⊎ (stage_of r ≡ 2)
+pub layout_stage : (G : Table) (is : List PlainInst) (r : Rule) (n : ℕ) → layout.Broken G is r n → (stage_of r ≡ stages.of_profile) ⊎ (stage_of r ≡ stages.of_layout)
 layout_stage G is _ _ (layout.misfit i n h f) = inl refl
 layout_stage G is _ _ (layout.dead r n d) = inr (dead_stage is r n d)
 
-pub ids_stage : (G : Table) (bound : ℕ) (is : List PlainInst) (r : Rule) (n : ℕ) → ids.Broken G bound is r n → stage_of r ≡ 3
+pub ids_stage : (G : Table) (bound : ℕ) (is : List PlainInst) (r : Rule) (n : ℕ) → ids.Broken G bound is r n → stage_of r ≡ stages.of_ids
 ids_stage G bound is _ _ (ids.result_out_of_range n x d o) = refl
 ids_stage G bound is _ _ (ids.use_out_of_range n k x r u o) = refl
 ids_stage G bound is _ _ (ids.defined_again n m x d l e) = refl
@@ -39,7 +40,7 @@ ids_stage G bound is _ _ (ids.undefined n k x r u d) = refl
 ids_stage G bound is _ _ (ids.not_in_order n k x r u o i) = refl
 ids_stage G bound is _ _ (ids.not_in_scope n k x r u o l i) = refl
 
-pub flow_stage : (G : Table) (is : List PlainInst) (r : Rule) (n : ℕ) → flow.Broken G is r n → (stage_of r ≡ 6) ⊎ (stage_of r ≡ 7)
+pub flow_stage : (G : Table) (is : List PlainInst) (r : Rule) (n : ℕ) → flow.Broken G is r n → (stage_of r ≡ stages.of_branches) ⊎ (stage_of r ≡ stages.of_values)
 flow_stage G is _ _ (flow.no_label n k x op used none) = inl refl
 flow_stage G is _ _ (flow.to_entry n x m target d e) = inl refl
 flow_stage G is _ _ (flow.parents n phi not) = inl refl
@@ -47,7 +48,7 @@ flow_stage G is _ _ (flow.same_labels n x op u w) = inl refl
 flow_stage G is _ _ (flow.missing n m) = inr refl
 flow_stage G is _ _ (flow.pair_missing n m) = inr refl
 
-pub calls_stage : (is : List PlainInst) (r : Rule) (n : ℕ) → calls.Broken is r n → stage_of r ≡ 8
+pub calls_stage : (is : List PlainInst) (r : Rule) (n : ℕ) → calls.Broken is r n → stage_of r ≡ stages.of_calls
 calls_stage is _ _ (calls.on_cycle n e f g call entry to back) = refl
 
 -- within a stage
@@ -56,7 +57,7 @@ within r q n m e (inl l) = Precedes.instruction e l
 within r q n m e (inr x) = Precedes.rule e x.0 x.1
 
 -- a rule of the profile
-pub profile_first : (G : Table) (bound : ℕ) (is : List PlainInst) (r : Rule) (n : ℕ) → stage.IsFirst (layout.Broken G is) 1 r n → IsFirstOfAll G bound is r n
+pub profile_first : (G : Table) (bound : ℕ) (is : List PlainInst) (r : Rule) (n : ℕ) → stage.IsFirst (layout.Broken G is) stages.of_profile r n → IsFirstOfAll G bound is r n
 profile_first G bound is r n f = record { broken = Broken.of_layout r n f.broken; least = least } where
   least : (q : Rule) (m : ℕ) → Broken G bound is q m → Precedes r n q m
   least _ _ (Broken.of_layout q m b) =
@@ -72,7 +73,7 @@ profile_first G bound is r n f = record { broken = Broken.of_layout r n f.broken
   least _ _ (Broken.of_calls q m b) = let s = f.of_stage in let e = calls_stage is q m b in Precedes.stage (omega arith)
 
 -- a rule of the layout, where each instruction fits the profile
-pub layout_first : (G : Table) (bound : ℕ) (is : List PlainInst) (r : Rule) (n : ℕ) → IsUnbroken (layout.Broken G is) 1 → stage.IsFirst (layout.Broken G is) 2 r n → IsFirstOfAll G bound is r n
+pub layout_first : (G : Table) (bound : ℕ) (is : List PlainInst) (r : Rule) (n : ℕ) → IsUnbroken (layout.Broken G is) stages.of_profile → stage.IsFirst (layout.Broken G is) stages.of_layout r n → IsFirstOfAll G bound is r n
 layout_first G bound is r n u f = record { broken = Broken.of_layout r n f.broken; least = least } where
   least : (q : Rule) (m : ℕ) → Broken G bound is q m → Precedes r n q m
   least _ _ (Broken.of_layout q m b) =
@@ -88,7 +89,7 @@ layout_first G bound is r n u f = record { broken = Broken.of_layout r n f.broke
   least _ _ (Broken.of_calls q m b) = let s = f.of_stage in let e = calls_stage is q m b in Precedes.stage (omega arith)
 
 -- a rule on ids, where no rule of the profile or the layout is broken
-pub ids_first : (G : Table) (bound : ℕ) (is : List PlainInst) (r : Rule) (n : ℕ) → ((q : Rule) (m : ℕ) → ¬ (layout.Broken G is q m)) → stage.IsFirst (ids.Broken G bound is) 3 r n → IsFirstOfAll G bound is r n
+pub ids_first : (G : Table) (bound : ℕ) (is : List PlainInst) (r : Rule) (n : ℕ) → ((q : Rule) (m : ℕ) → ¬ (layout.Broken G is q m)) → stage.IsFirst (ids.Broken G bound is) stages.of_ids r n → IsFirstOfAll G bound is r n
 ids_first G bound is r n u f = record { broken = Broken.of_ids r n f.broken; least = least } where
   least : (q : Rule) (m : ℕ) → Broken G bound is q m → Precedes r n q m
   least _ _ (Broken.of_layout q m b) = absurd (u q m b)
@@ -102,8 +103,8 @@ ids_first G bound is r n u f = record { broken = Broken.of_ids r n f.broken; lea
   least _ _ (Broken.of_calls q m b) = let s = f.of_stage in let e = calls_stage is q m b in Precedes.stage (omega arith)
 
 -- a rule on roles, where no rule of the profile, the layout or on ids is broken
-pub roles_first : (G : Table) (bound : ℕ) (is : List PlainInst) (r : Rule) (n : ℕ) → ((q : Rule) (m : ℕ) → ¬ (layout.Broken G is q m)) → IsUnbroken (ids.Broken G bound is) 3
-    → stage.IsFirst (types.Broken G is) 4 r n → IsFirstOfAll G bound is r n
+pub roles_first : (G : Table) (bound : ℕ) (is : List PlainInst) (r : Rule) (n : ℕ) → ((q : Rule) (m : ℕ) → ¬ (layout.Broken G is q m)) → IsUnbroken (ids.Broken G bound is) stages.of_ids
+    → stage.IsFirst (types.Broken G is) stages.of_roles r n → IsFirstOfAll G bound is r n
 roles_first G bound is r n u v f = record { broken = Broken.of_types r n f.broken; least = least } where
   least : (q : Rule) (m : ℕ) → Broken G bound is q m → Precedes r n q m
   least _ _ (Broken.of_layout q m b) = absurd (u q m b)
@@ -117,8 +118,8 @@ roles_first G bound is r n u v f = record { broken = Broken.of_types r n f.broke
   least _ _ (Broken.of_calls q m b) = let s = f.of_stage in let e = calls_stage is q m b in Precedes.stage (omega arith)
 
 -- a rule on capabilities, entry points or types, where no rule on roles is broken either
-pub types_first : (G : Table) (bound : ℕ) (is : List PlainInst) (r : Rule) (n : ℕ) → ((q : Rule) (m : ℕ) → ¬ (layout.Broken G is q m)) → IsUnbroken (ids.Broken G bound is) 3
-    → IsUnbroken (types.Broken G is) 4 → stage.IsFirst (types.Broken G is) 5 r n → IsFirstOfAll G bound is r n
+pub types_first : (G : Table) (bound : ℕ) (is : List PlainInst) (r : Rule) (n : ℕ) → ((q : Rule) (m : ℕ) → ¬ (layout.Broken G is q m)) → IsUnbroken (ids.Broken G bound is) stages.of_ids
+    → IsUnbroken (types.Broken G is) stages.of_roles → stage.IsFirst (types.Broken G is) stages.of_types r n → IsFirstOfAll G bound is r n
 types_first G bound is r n u v w f = record { broken = Broken.of_types r n f.broken; least = least } where
   least : (q : Rule) (m : ℕ) → Broken G bound is q m → Precedes r n q m
   least _ _ (Broken.of_layout q m b) = absurd (u q m b)
@@ -134,15 +135,15 @@ types_first G bound is r n u v w f = record { broken = Broken.of_types r n f.bro
 -- no rule of the profile, the layout, on ids or on types is broken
 pub record IsBefore (G : Table) (bound : ℕ) (is : List PlainInst) : Type 0 where
   pub of_layout : (q : Rule) (m : ℕ) → ¬ (layout.Broken G is q m)
-  pub of_ids : IsUnbroken (ids.Broken G bound is) 3
-  pub of_roles : IsUnbroken (types.Broken G is) 4
-  pub of_types : IsUnbroken (types.Broken G is) 5
+  pub of_ids : IsUnbroken (ids.Broken G bound is) stages.of_ids
+  pub of_roles : IsUnbroken (types.Broken G is) stages.of_roles
+  pub of_types : IsUnbroken (types.Broken G is) stages.of_types
 
 never_before : (G : Table) (bound : ℕ) (is : List PlainInst) (r q : Rule) (n m : ℕ) → IsBefore G bound is → types.Broken G is q m → Precedes r n q m
 never_before G bound is r q n m u b = elim (types_stage G is q m b) [ inl e ↦ absurd (u.of_roles q m e b) | inr e ↦ absurd (u.of_types q m e b) ]
 
 -- a rule on branches, where none of those is broken
-pub branches_first : (G : Table) (bound : ℕ) (is : List PlainInst) (r : Rule) (n : ℕ) → IsBefore G bound is → stage.IsFirst (flow.Broken G is) 6 r n → IsFirstOfAll G bound is r n
+pub branches_first : (G : Table) (bound : ℕ) (is : List PlainInst) (r : Rule) (n : ℕ) → IsBefore G bound is → stage.IsFirst (flow.Broken G is) stages.of_branches r n → IsFirstOfAll G bound is r n
 branches_first G bound is r n u f = record { broken = Broken.of_flow r n f.broken; least = least } where
   least : (q : Rule) (m : ℕ) → Broken G bound is q m → Precedes r n q m
   least _ _ (Broken.of_layout q m b) = absurd (u.of_layout q m b)
@@ -154,7 +155,7 @@ branches_first G bound is r n u f = record { broken = Broken.of_flow r n f.broke
   least _ _ (Broken.of_calls q m b) = let s = f.of_stage in let e = calls_stage is q m b in Precedes.stage (omega arith)
 
 -- a rule on values, where no rule on branches is broken either
-pub values_first : (G : Table) (bound : ℕ) (is : List PlainInst) (r : Rule) (n : ℕ) → IsBefore G bound is → IsUnbroken (flow.Broken G is) 6 → stage.IsFirst (flow.Broken G is) 7 r n
+pub values_first : (G : Table) (bound : ℕ) (is : List PlainInst) (r : Rule) (n : ℕ) → IsBefore G bound is → IsUnbroken (flow.Broken G is) stages.of_branches → stage.IsFirst (flow.Broken G is) stages.of_values r n
     → IsFirstOfAll G bound is r n
 values_first G bound is r n u v f = record { broken = Broken.of_flow r n f.broken; least = least } where
   least : (q : Rule) (m : ℕ) → Broken G bound is q m → Precedes r n q m
@@ -167,8 +168,8 @@ values_first G bound is r n u v f = record { broken = Broken.of_flow r n f.broke
   least _ _ (Broken.of_calls q m b) = let s = f.of_stage in let e = calls_stage is q m b in Precedes.stage (omega arith)
 
 -- the rule on calls, where no rule on values is broken either
-pub calls_first : (G : Table) (bound : ℕ) (is : List PlainInst) (r : Rule) (n : ℕ) → IsBefore G bound is → IsUnbroken (flow.Broken G is) 6 → IsUnbroken (flow.Broken G is) 7
-    → stage.IsFirst (calls.Broken is) 8 r n → IsFirstOfAll G bound is r n
+pub calls_first : (G : Table) (bound : ℕ) (is : List PlainInst) (r : Rule) (n : ℕ) → IsBefore G bound is → IsUnbroken (flow.Broken G is) stages.of_branches → IsUnbroken (flow.Broken G is) stages.of_values
+    → stage.IsFirst (calls.Broken is) stages.of_calls r n → IsFirstOfAll G bound is r n
 calls_first G bound is r n u v w f = record { broken = Broken.of_calls r n f.broken; least = least } where
   least : (q : Rule) (m : ℕ) → Broken G bound is q m → Precedes r n q m
   least _ _ (Broken.of_layout q m b) = absurd (u.of_layout q m b)
@@ -184,7 +185,7 @@ planned G is places law plan _ _ (layout.misfit i n h f) = f (plan.fits n i h)
 planned G is places law plan _ _ (layout.dead r n d) = law is r n plan.layout d
 
 -- no rule of any stage is broken
-pub sound : (G : Table) (bound : ℕ) (is : List PlainInst) → IsBefore G bound is → IsUnbroken (flow.Broken G is) 6 → IsUnbroken (flow.Broken G is) 7 → IsUnbroken (calls.Broken is) 8
+pub sound : (G : Table) (bound : ℕ) (is : List PlainInst) → IsBefore G bound is → IsUnbroken (flow.Broken G is) stages.of_branches → IsUnbroken (flow.Broken G is) stages.of_values → IsUnbroken (calls.Broken is) stages.of_calls
     → IsSound G bound is
 sound G bound is u v w x _ _ (Broken.of_layout r n b) = u.of_layout r n b
 sound G bound is u v w x _ _ (Broken.of_ids r n b) = u.of_ids r n (ids_stage G bound is r n b) b
@@ -202,7 +203,7 @@ pub told_ids : (G : Table) (bound : ℕ) (is : List PlainInst) (s : Stop) → ((
 told_ids G bound is Memory u h = tt
 told_ids G bound is (Fault f) u h = (ids_first G bound is f.rule f.inst u h.0, h.1)
 
-pub told_types : (G : Table) (bound : ℕ) (is : List PlainInst) (s : Stop) → ((r : Rule) (n : ℕ) → ¬ (layout.Broken G is r n)) → IsUnbroken (ids.Broken G bound is) 3
+pub told_types : (G : Table) (bound : ℕ) (is : List PlainInst) (s : Stop) → ((r : Rule) (n : ℕ) → ¬ (layout.Broken G is r n)) → IsUnbroken (ids.Broken G bound is) stages.of_ids
     → types_outcome.IsRefusal G is s → IsTold G bound is s
 told_types G bound is Memory u v h = tt
 told_types G bound is (Fault f) u v h =
@@ -237,7 +238,7 @@ pub one_first : (G : Table) (bound : ℕ) (is : List PlainInst) (q r : Rule) (m 
 one_first G bound is q r m n f g = meet q r m n (f.least r n g.broken) (g.least q m f.broken)
 
 -- a rule of the last stage is one on calls
-pub of_last_stage : (G : Table) (bound : ℕ) (is : List PlainInst) (r : Rule) (n : ℕ) → stage_of r ≡ 8 → Broken G bound is r n → calls.Broken is r n
+pub of_last_stage : (G : Table) (bound : ℕ) (is : List PlainInst) (r : Rule) (n : ℕ) → stage_of r ≡ stages.of_calls → Broken G bound is r n → calls.Broken is r n
 of_last_stage G bound is _ _ s (Broken.of_layout r n b) = elim (layout_stage G is r n b) [ inl e ↦ absurd (omega (arith, s, e)) | inr e ↦ absurd (omega (arith, s, e)) ]
 of_last_stage G bound is _ _ s (Broken.of_ids r n b) = let e = ids_stage G bound is r n b in absurd (omega (arith, s, e))
 of_last_stage G bound is _ _ s (Broken.of_types r n b) = elim (types_stage G is r n b) [ inl e ↦ absurd (omega (arith, s, e)) | inr e ↦ absurd (omega (arith, s, e)) ]

@@ -1,6 +1,6 @@
 -- A list on which no rule is broken keeps all that the layers demand, and the other way round.
-use Rattle.std.proofs.Common.{◌≡◌, ◌+◌, ◌≤◌, ◌⊎◌, ℕ, List, Some, refl, inl, inr}
-use Rattle.std.specs.Prelude.{slice_get, sum_by}
+use Rattle.std.proofs.Common.{◌≡◌, ◌⊎◌, ℕ, List, Some, refl, inl, inr}
+use Rattle.std.specs.Prelude.{slice_get}
 use Rattle.spv_table.specs.Table.{Table}
 use Rattle.spv_module.specs.Operand.{PlainInst}
 use Rattle.spv_module.specs.declared.fault.Rule.{Rule}
@@ -8,13 +8,13 @@ use Rattle.spv_module.specs.declared.fault.Rule.TheVariants.{P1, Y1}
 use Rattle.spv_layout.specs.Broken as layout
 use Rattle.spv_layout.specs.DeadPlace.{IsDeadPlace}
 use Rattle.spv_layout.specs.Layout.{IsLayout, classes}
-use Rattle.spv_layout.specs.Place.{word_count}
+use Rattle.spv_layout.specs.Place.{IsShort}
 use Rattle.spv_layout.specs.Rows.{row_of}
 use Rattle.spv_layout.specs.Shape.{FitsShape}
 use Rattle.spv_layout.specs.inner.Test.{fits_row}
 use Rattle.spv_layout.proofs.Tested.{fits_iff}
 use Rattle.spv_roles.specs.Broken as roles
-use Rattle.spv_types.specs.Broken as types
+use Rattle.spv_verdict.specs.types.Broken as types
 use Rattle.spv_verdict.specs.Broken.{Broken, IsSound}
 use Rattle.spv_verdict.specs.Checked.{IsKept}
 use Rattle.spv_verdict.specs.Program.{Program}
@@ -37,7 +37,7 @@ fitting : (G : Table) (p : Program) → IsSound G p.bound p.insts → (n : ℕ) 
     → slice_get p.insts n ≡ Some i → FitsShape G i
 fitting G p s n i at = held (fits_or_not G i) (λ no. s P1 n (Broken.of_layout P1 n (layout.misfit i n at no)))
 
-pub kept : LayoutLaw → (G : Table) (p : Program) → 5 + sum_by word_count p.insts ≤ 4194304
+pub kept : LayoutLaw → (G : Table) (p : Program) → IsShort p.insts
     → IsSound G p.bound p.insts → IsKept G p
 kept law G p few s = record {
   few = few;

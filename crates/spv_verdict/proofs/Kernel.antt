@@ -25,17 +25,17 @@ use Rattle.spv_layout.proofs.Dead.{laid_out_or_dead}
 use Rattle.spv_ids.specs.Definition.{IsUsedAt}
 use Rattle.spv_roles.specs.Broken as role_rules
 use Rattle.spv_roles.specs.Role.{Plays}
-use Rattle.spv_types.specs.Broken as type_rules
-use Rattle.spv_run.specs.Example.{step_at}
-use Rattle.spv_run.specs.Kernel.{capabilities, addressing_models, memory_models, execution_models, controls, grammar, operand, operands, entry, capability, model, entry_point, void, of_void, function, label, return_op, end, kernel}
-use Rattle.spv_run.specs.State.{Finished}
-use Rattle.spv_run.specs.Trace.{ending_of}
-use Rattle.spv_run.specs.declared.parts.Trace.{Trace}
-use Rattle.spv_run.proofs.Kernel.{fits, is_layout, ids_kept, capabilities_kept, types_kept, flow_kept, calls_kept, each_use, defined_3}
-use Rattle.spv_run.proofs.KernelRun.{running, starts, entry_id, traced}
+use Rattle.spv_verdict.specs.types.Broken as type_rules
+use Rattle.spv_verdict.specs.run.Example.{step_at}
+use Rattle.spv_verdict.specs.run.Kernel.{capabilities, addressing_models, memory_models, execution_models, controls, grammar, operand, operands, entry, capability, model, entry_point, void, of_void, function, label, return_op, end, kernel}
+use Rattle.spv_verdict.specs.run.State.{Finished}
+use Rattle.spv_verdict.specs.run.Trace.{ending_of}
+use Rattle.spv_verdict.specs.declared.run.parts.Trace.{Trace}
+use Rattle.spv_verdict.proofs.Running.Kernel.{fits, is_layout, ids_kept, capabilities_kept, types_kept, flow_kept, calls_kept, each_use, defined_3}
+use Rattle.spv_verdict.proofs.Running.KernelRun.{running, starts, entry_id, traced}
 use Rattle.spv_verdict.specs.Broken.{IsSound}
 use Rattle.spv_verdict.specs.Checked.{IsChecked, IsKept}
-use Rattle.spv_verdict.specs.Run.{IsRunOf, IsTraceOf}
+use Rattle.spv_verdict.specs.Tracing.{IsRunOf, IsTraceOf}
 use Rattle.spv_verdict.specs.Valid.{IsValid}
 use Rattle.spv_verdict.specs.Example.{kernel_program, kernel_body, kernel_words, kernel_bytes}
 use Rattle.spv_verdict.proofs.Checks.{sound_of}

@@ -13,11 +13,11 @@ use Rattle.spv_layout.specs.Plan.{IsPlaceOf, IsPlan}
 use Rattle.spv_layout.specs.Rows.{rows}
 use Rattle.spv_ids.specs.declared.ids.Ids.{Ids}
 use Rattle.spv_ids.specs.Outcome.{IsDefinitionOf, definition_in}
-use Rattle.spv_flow.specs.declared.flow.Flow.{Flow}
-use Rattle.spv_flow.specs.Definitions.{CountsDefinitions}
-use Rattle.spv_run.specs.Kernel.{grammar, kernel}
-use Rattle.spv_run.proofs.Elements.{each}
-use Rattle.spv_run.proofs.Kernel.{laid, laid_out, at_class, function_only, label_there, in_function, definition, fits, is_layout, ids_kept, flow_kept, calls_kept}
+use Rattle.spv_verdict.specs.declared.flow.Flow.{Flow}
+use Rattle.spv_verdict.specs.flow.Definitions.{CountsDefinitions}
+use Rattle.spv_verdict.specs.run.Kernel.{grammar, kernel}
+use Rattle.spv_verdict.proofs.Running.Elements.{each}
+use Rattle.spv_verdict.proofs.Running.Kernel.{laid, laid_out, at_class, function_only, label_there, in_function, definition, fits, is_layout, ids_kept, flow_kept, calls_kept}
 use Rattle.spv_verdict.specs.Checked.{AreParts}
 use Rattle.spv_verdict.specs.Example.{place_at, kernel_places, kernel_program}
 use Rattle.spv_verdict.proofs.Kernel.{kept}

@@ -1,4 +1,8 @@
+pub mod Typing
+pub mod Flowing
+pub mod Running
 pub mod Checks
+pub mod Judgments
 pub mod Firsts
 pub mod Kernel
 pub mod KernelParts

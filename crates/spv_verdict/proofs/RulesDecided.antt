@@ -248,7 +248,7 @@ typed G is n i at fits = anew
 -- what is demanded holds, where it cannot be that it does not
 
 pub keeps : (G : Table) (is : List PlainInst) (r : Rule) (n : ℕ) (i : PlainInst) → slice_get is n ≡ Some i → FitsShape G i
-    → ¬ (¬ (Keeps G is r n i)) → Keeps G is r n i
+    → ¬ (¬ (Keeps (IsTyped G is) is r n i)) → Keeps (IsTyped G is) is r n i
 keeps G is rule.Y2 n i at fits h = held (declaration_or_not is n i) h
 keeps G is rule.Y3 n i at fits h = λ r. h (λ k. k r)
 keeps G is rule.Y4 n i at fits h = held (constant_or_not is i) h

@@ -5,23 +5,23 @@ use Rattle.spv_module.specs.Operand.{PlainInst}
 use Rattle.spv_ids.specs.declared.ids.Ids.{Ids}
 use Rattle.spv_ids.specs.Outcome.{AreIds}
 use Rattle.spv_ids.specs.Outcome.{AreNumbered}
-use Rattle.spv_run.specs.Entry.{IsTraced}
-use Rattle.spv_run.specs.Sound.{KeepsRules}
-use Rattle.spv_run.specs.Run.{IsStart, Run}
-use Rattle.spv_run.specs.State.{State, Stuck}
-use Rattle.spv_run.specs.Trace.{ending_of}
-use Rattle.spv_run.specs.declared.parts.Ending.{Ending}
-use Rattle.spv_run.specs.declared.parts.Ending.TheVariants.{Finished, Unreachable, Limit, NoChoice, BadChoice}
-use Rattle.spv_run.proofs.Once.{one_free_run, start_once}
-use Rattle.spv_run.proofs.Standing.{result_of}
-use Rattle.spv_run.specs.declared.parts.Trace.{Trace}
-use Rattle.spv_run.specs.declared.parts.TraceError.{TraceError}
-use Rattle.spv_run.proofs.Sound.{checked}
-use Rattle.spv_run.proofs.Theorem.{never_gets_stuck}
-use Rattle.spv_run.proofs.Entries.{entry_defined, entry_function}
+use Rattle.spv_verdict.specs.run.Entry.{IsTraced}
+use Rattle.spv_verdict.specs.run.Sound.{KeepsRules}
+use Rattle.spv_verdict.specs.run.Run.{IsStart, Run}
+use Rattle.spv_verdict.specs.run.State.{State, Stuck}
+use Rattle.spv_verdict.specs.run.Trace.{ending_of}
+use Rattle.spv_verdict.specs.declared.run.parts.Ending.{Ending}
+use Rattle.spv_verdict.specs.declared.run.parts.Ending.TheVariants.{Finished, Unreachable, Limit, NoChoice, BadChoice}
+use Rattle.spv_verdict.proofs.Running.Once.{one_free_run, start_once}
+use Rattle.spv_verdict.proofs.Running.Standing.{result_of}
+use Rattle.spv_verdict.specs.declared.run.parts.Trace.{Trace}
+use Rattle.spv_verdict.specs.declared.run.parts.TraceError.{TraceError}
+use Rattle.spv_verdict.proofs.Running.Sound.{checked}
+use Rattle.spv_verdict.proofs.Running.Theorem.{never_gets_stuck}
+use Rattle.spv_verdict.proofs.Running.Entries.{entry_defined, entry_function}
 use Rattle.spv_verdict.specs.Checked.{IsKept}
 use Rattle.spv_verdict.specs.Program.{Program}
-use Rattle.spv_verdict.specs.Run.{IsRunOf, IsTraceOf}
+use Rattle.spv_verdict.specs.Tracing.{IsRunOf, IsTraceOf}
 
 -- what a run rests on is kept
 pub sound_run : (G : Table) (p : Program) → IsKept G p → KeepsRules G p.bound p.insts

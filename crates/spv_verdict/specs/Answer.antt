@@ -35,7 +35,7 @@ abbrev pub SaysValid : Verdict → Type 0
 SaysValid (Valid c) = Unit {0}
 SaysValid (Fault f) = ⊥
 
--- a fault is a verdict, and want of memory an error
+-- a fault is a verdict, and out of memory an error
 abbrev pub StopsAs : Stop → Result Verdict Memory → Type 0
 StopsAs (stop.Fault f) r = r ≡ Ok (Fault f)
 StopsAs stop.Memory r = IfOk r (λ _. ⊥)

@@ -9,7 +9,7 @@ use Rattle.spv_layout.specs.First.{stage_of, rank_of}
 use Rattle.spv_layout.specs.Place.{first_word_of}
 use Rattle.spv_layout.specs.Broken as layout
 use Rattle.spv_ids.specs.Broken as ids
-use Rattle.spv_types.specs.Broken as types
+use Rattle.spv_verdict.specs.types.Broken as types
 use Rattle.spv_branches.specs.Broken as flow
 use Rattle.spv_calls.specs.Broken as calls
 
@@ -42,7 +42,7 @@ pub record IsFirstOfAll (G : Table) (bound : ℕ) (is : List PlainInst) (r : Rul
 abbrev pub IsSound : Table → ℕ → List PlainInst → Type 0
 IsSound G bound is = (r : Rule) (n : ℕ) → ¬ (Broken G bound is r n)
 
--- What a refusal says: want of memory, or the first broken rule with its instruction and the first word of that.
+-- What a refusal says: out of memory, or the first broken rule with its instruction and the first word of that.
 abbrev pub IsTold : Table → ℕ → List PlainInst → Stop → Type 0
 IsTold G bound is Memory = Unit {0}
 IsTold G bound is (Fault f) = IsFirstOfAll G bound is f.rule f.inst × (f.word ≡ first_word_of is f.inst)

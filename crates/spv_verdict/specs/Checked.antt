@@ -1,5 +1,5 @@
 -- What a module keeps that breaks no rule, and what is kept of it. (Own.)
-use Rattle.std.specs.Prelude.{◌≡◌, ◌≤◌, ◌+◌, ℕ, List, Some, drop, slice_get, slice_index, sum_by}
+use Rattle.std.specs.Prelude.{◌≡◌, ℕ, List, Some, drop, slice_get, slice_index}
 use Rattle.spv_table.specs.Table.{Table}
 use Rattle.spv_module.specs.Operand.{PlainInst}
 use Rattle.spv_module.specs.Instruction.{IsListing}
@@ -8,44 +8,46 @@ use Rattle.spv_module.specs.declared.fault.Rule.{Rule}
 use Rattle.spv_module.specs.declared.module.Module.{Module}
 use Rattle.spv_layout.specs.First.{IsUnbroken}
 use Rattle.spv_layout.specs.Layout.{IsLayout, classes}
-use Rattle.spv_layout.specs.Place.{word_count}
+use Rattle.spv_layout.specs.Place.{IsShort}
 use Rattle.spv_layout.specs.Plan.{IsPlan}
 use Rattle.spv_layout.specs.Shape.{FitsShape}
+use Rattle.spv_layout.specs.Stage.{of_branches, of_calls, of_ids, of_roles, of_types, of_values}
 use Rattle.spv_layout.specs.declared.place.Place.{Place}
 use Rattle.spv_ids.specs.Broken as id_rules
 use Rattle.spv_ids.specs.Outcome.{AreIds}
 use Rattle.spv_ids.specs.declared.ids.Ids.{Ids}
 use Rattle.spv_roles.specs.Outcome.{AreInRole}
 use Rattle.spv_capabilities.specs.Keeps as capability_rules
+use Rattle.spv_ops.specs.Typed.{IsTyped}
 use Rattle.spv_type_rules.specs.Keeps as typing_rules
-use Rattle.spv_types.specs.Broken as type_rules
+use Rattle.spv_verdict.specs.types.Broken as type_rules
 use Rattle.spv_branches.specs.Broken as flow_rules
 use Rattle.spv_calls.specs.Broken as call_rules
-use Rattle.spv_flow.specs.Outcome.{IsFlow}
-use Rattle.spv_flow.specs.declared.flow.Flow.{Flow}
+use Rattle.spv_verdict.specs.flow.Outcome.{IsFlow}
+use Rattle.spv_verdict.specs.declared.flow.Flow.{Flow}
 use Rattle.spv_verdict.specs.Broken.{IsSound}
 use Rattle.spv_verdict.specs.Program.{Program}
 
 -- All that the layers demand of a module is kept under the table. [own]
 pub record IsKept (G : Table) (p : Program) : Type 0 where
   -- it has few enough words
-  pub few : 5 + sum_by word_count p.insts ≤ 4194304
+  pub few : IsShort p.insts
   -- each instruction fits its row, and all together are laid out as a module
   pub fits : (n : ℕ) (i : PlainInst) → slice_get p.insts n ≡ Some i → FitsShape G i
   pub layout : IsLayout (classes p.insts)
   -- D
-  pub ids : IsUnbroken (id_rules.Broken G p.bound p.insts) 3
+  pub ids : IsUnbroken (id_rules.Broken G p.bound p.insts) of_ids
   -- Y1; C, M and E; and the other rules Y
   pub roles : AreInRole G p.insts
   pub capabilities : (r : Rule) (n : ℕ) (i : PlainInst) → slice_get p.insts n ≡ Some i
       → capability_rules.Keeps G p.insts r n i
   pub rules : (r : Rule) (n : ℕ) (i : PlainInst) → slice_get p.insts n ≡ Some i
-      → typing_rules.Keeps G p.insts r n i
-  pub types : IsUnbroken (type_rules.Broken G p.insts) 4 × IsUnbroken (type_rules.Broken G p.insts) 5
+      → typing_rules.Keeps (IsTyped G p.insts) p.insts r n i
+  pub types : IsUnbroken (type_rules.Broken G p.insts) of_roles × IsUnbroken (type_rules.Broken G p.insts) of_types
   -- F, A and G
-  pub branches : IsUnbroken (flow_rules.Broken G p.insts) 6
-  pub values : IsUnbroken (flow_rules.Broken G p.insts) 7
-  pub calls : IsUnbroken (call_rules.Broken p.insts) 8
+  pub branches : IsUnbroken (flow_rules.Broken G p.insts) of_branches
+  pub values : IsUnbroken (flow_rules.Broken G p.insts) of_values
+  pub calls : IsUnbroken (call_rules.Broken p.insts) of_calls
 
 -- The module is that one, and the places, ids and flow are its own.
 pub record AreParts (G : Table) (p : Program) (m : Module) (places : List Place) (ids : Ids)
@@ -62,3 +64,13 @@ pub record IsChecked (G : Table) (words : List ℕ) (p : Program) : Type 0 where
   pub listing : IsListing G p.insts (drop 5 words)
   pub bound : p.bound ≡ slice_index words 3
   pub sound : IsSound G p.bound p.insts
+
+-- The bound and the instructions of a module.
+abbrev pub program_of : Module → Program
+program_of m = record { bound = m.header.bound; insts = plain_insts m }
+
+-- The module is the one list of some words and valid under the table, and the places, ids and flow are its own. [own]
+pub record IsCheckedBy (G : Table) (m : Module) (places : List Place) (ids : Ids) (flow : Flow) : Type 0 where
+  pub words : List ℕ
+  pub checked : IsChecked G words (program_of m)
+  pub parts : AreParts G (program_of m) m places ids flow

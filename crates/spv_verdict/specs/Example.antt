@@ -2,7 +2,7 @@
 use Rattle.std.specs.Prelude.{List, ℕ, [], ◌∷◌, Option, Some, None}
 use Rattle.spv_module.specs.Spelling.{octets_of}
 use Rattle.spv_layout.specs.declared.place.Place.{Place}
-use Rattle.spv_run.specs.Kernel.{kernel}
+use Rattle.spv_verdict.specs.run.Kernel.{kernel}
 use Rattle.spv_verdict.specs.Program.{Program}
 
 abbrev pub kernel_program : Program

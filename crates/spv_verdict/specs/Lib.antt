@@ -2,10 +2,15 @@ pub mod Answer
 pub mod Broken
 pub mod Checked
 pub mod Example
+pub mod Judged
 pub mod Program
-pub mod Run
+pub mod Tracing
 pub mod Outcome
 pub mod Stream
 pub mod Text
 pub mod Valid
 pub mod Verdict
+pub mod types
+pub mod flow
+pub mod run
+pub mod inner

@@ -17,7 +17,7 @@ line_of Valid = valid_line
 line_of (Refused code) = refused_line code
 line_of (Broken f) = fault_line f.rule f.inst f.word
 
--- a failed read and want of memory are errors, and all other codes verdicts
+-- a failed read and out of memory are errors, and all other codes verdicts
 abbrev pub refusal_of : WordError → Result Judgment WordError
 refusal_of W1 = Err W1
 refusal_of W9 = Err W9

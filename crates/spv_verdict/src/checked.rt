@@ -1,6 +1,6 @@
 //! A module that breaks no rule, and the verdict on words.
 
-use spv_flow::Flow;
+use crate::flow::Flow;
 use spv_ids::Ids;
 use spv_layout::Plan;
 use spv_module::{Fault, Module};
@@ -8,8 +8,8 @@ use std::marker::Model;
 
 /// A module that breaks no rule, with what the layers know of it. `check` makes one.
 ///
-/// Contracts see the bound of its ids and its instructions. That it breaks no rule, by some table, and that the parts
-/// are its own, is true of every value of this type.
+/// Contracts see the bound of its ids and its instructions. That it is the module of some words, and breaks no rule, by
+/// some table, and that the parts are its own, is true of every value of this type.
 #[derive(Drop)]
 pub struct Checked<'a> {
     /// The module, with texts lent by its image.
@@ -51,33 +51,24 @@ impl<'a> Model for Checked<'a> {
 
     ghost use Rattle.spv_table.specs.Table.{Table};
     ghost use Rattle.spv_module.specs.Module.{plain_insts};
-    ghost use Rattle.spv_verdict.specs.Checked.{AreParts};
+    ghost use Rattle.spv_verdict.specs.Checked.{IsCheckedBy};
 
     ghost view = { λ c. record { bound = c.«module».header.bound; insts = plain_insts c.«module» } };
 
-    ghost invariant = { λ c. (G : Table) × AreParts G (record {
-      bound = c.«module».header.bound;
-      insts =
-          plain_insts c.«module»;
-    }) c.«module» c.plan c.ids c.flow };
+    ghost invariant = { λ c. (G : Table) × IsCheckedBy G c.«module» c.plan c.ids c.flow };
 }
 
 impl<'a> Checked<'a> {
     ghost use Rattle.std.specs.Prelude.{◌≡◌};
     ghost use Rattle.spv_table.specs.Table.{Table};
     ghost use Rattle.spv_module.specs.Module.{plain_insts};
-    ghost use Rattle.spv_verdict.specs.Program.{Program};
-    ghost use Rattle.spv_verdict.specs.Checked.{AreParts, IsKept};
+    ghost use Rattle.spv_verdict.specs.Checked.{IsCheckedBy, IsKept};
     ghost use Rattle.spv_verdict.specs.Answer.{ArePartsOf};
 
     /// A module with what `lay_out`, `number` and `flow_check` answered of it, where no rule is broken. It takes no
     /// memory.
-    pub fn new(module: Module<'a>, plan: Plan, ids: Ids, flow: Flow) -> Checked<'a>
-        requires { (G : Table) × AreParts G (record {
-          bound = «module».header.bound;
-          insts =
-              plain_insts «module»;
-        }) «module» plan ids flow }
+    pub(crate) fn new(module: Module<'a>, plan: Plan, ids: Ids, flow: Flow) -> Checked<'a>
+        requires { (G : Table) × IsCheckedBy G «module» plan ids flow }
         ensures { result ≡ record { bound = «module».entry.header.bound; insts = plain_insts «module».entry } }
     {
         Checked {

@@ -1,63 +1,20 @@
 //! The verdict on the words of a module.
-ghost use Rattle.std.specs.Prelude.{◌≡◌, ◌+◌, ◌≤◌, ◌↔◌, List, ℕ, sum_by, IfOk, IfErr};
+ghost use Rattle.std.specs.Prelude.{◌↔◌, List, ℕ, IfOk};
 ghost use Rattle.spv_words.specs.Header.{IsModule};
 ghost use Rattle.spv_words.specs.declared.words.Order.{Order};
-ghost use Rattle.spv_module.specs.Module.{plain_insts};
-ghost use Rattle.spv_layout.specs.Place.{word_count};
 ghost use Rattle.spv_verdict.specs.Answer.{IsAnswer, SaysValid, StopsAs};
-ghost use Rattle.spv_verdict.specs.Broken.{IsSound, IsTold};
-ghost use Rattle.spv_verdict.specs.Checked.{IsKept};
 ghost use Rattle.spv_verdict.specs.Valid.{IsValid};
 
-use crate::checked::{Checked, Verdict};
-use spv_flow::flow_check;
-use spv_ids::number;
+use crate::checked::Verdict;
+use crate::judged::{Judged, judge};
 use spv_inst::{decode, listed_or_dead, one_death, one_listing};
-use spv_layout::laws::{member_or_dead, word_counts};
-use spv_layout::lay_out;
-use spv_module::{Module, Stop};
+use spv_layout::laws::word_counts;
+use spv_module::Stop;
 use spv_table::{Memory, Table};
-use spv_types::type_check;
 use spv_words::Image;
 use std::alloc::Global;
 
-/// Looks for the first rule that a module breaks, stage by stage: the shapes and the layout, the ids, their roles, then
-/// capabilities, entry points and types, where branches lead, values on every walk, and cycles of calls (own).
-///
-/// A `Fault` tells it, with its instruction and the first word of that. `Memory` comes only where a growth of memory
-/// was refused.
-fn sound<'a>(alloc: Global, table: &Table, module: Module<'a>) -> Result<Checked<'a>, Stop>
-    requires { 5 + sum_by word_count (plain_insts «module») ≤ 4194304 }
-    ensures whole { IfOk result (λ c. c ≡ record {
-      bound = «module».entry.header.bound;
-      insts =
-          plain_insts «module».entry;
-    }) }
-    ensures kept { IfOk result (λ c. IsKept table.now c) }
-    ensures sound { IfOk result (λ c. IsSound table.now c.bound c.insts) }
-    ensures told { IfErr result (λ e. IsTold table.now «module».entry.header.bound
-        (plain_insts «module».entry) e) }
-{
-    member_or_dead();
-    let plan = match lay_out(alloc, table, &module) {
-        Ok(plan) => plan,
-        Err(stop) => return Err(stop),
-    };
-    let ids = match number(alloc, &module, &plan) {
-        Ok(ids) => ids,
-        Err(stop) => return Err(stop),
-    };
-    let types = match type_check(alloc, table, &module, &plan, &ids) {
-        Ok(types) => types,
-        Err(stop) => return Err(stop),
-    };
-    match flow_check(alloc, &module, &plan, &ids, &types) {
-        Ok(flow) => Ok(Checked::new(module, plan, ids, flow)),
-        Err(stop) => Err(stop),
-    }
-}
-
-/// What a refusal of a module comes to: a fault is a verdict.
+/// What a refusal of words comes to: a fault is a verdict.
 fn stopped<'a>(stop: Stop) -> Result<Verdict<'a>, Memory>
     ensures { StopsAs stop result }
 {
@@ -95,8 +52,8 @@ pub fn check<'a>(alloc: Global, table: &Table, image: &'a Image) -> Result<Verdi
         Ok(module) => module,
         Err(stop) => return stopped(stop),
     };
-    match sound(alloc, table, module) {
-        Ok(checked) => Ok(Verdict::Valid(checked)),
-        Err(stop) => stopped(stop),
+    match judge(alloc, table, module)? {
+        Judged::Valid(checked) => Ok(Verdict::Valid(checked)),
+        Judged::Broken { fault, .. } => Ok(Verdict::Fault(fault)),
     }
 }

@@ -1,6 +1,6 @@
 //! What follows from the definitions of a verdict. Each function does nothing: its contract is what is proved.
-ghost use Rattle.std.specs.Prelude.{◌≡◌, ◌↔◌, ◌≤◌, ◌+◌, ◌++◌, ◌∷◌, [], ℕ, List};
-ghost use Rattle.std.specs.Prelude.{Option, true, false, codes, sum_by};
+ghost use Rattle.std.specs.Prelude.{◌≡◌, ◌↔◌, ◌++◌, ◌∷◌, [], ℕ, List};
+ghost use Rattle.std.specs.Prelude.{Option, true, false, codes};
 ghost use Rattle.spv_table.specs.Table.{Table};
 ghost use Rattle.spv_module.specs.Operand.{PlainInst};
 ghost use Rattle.spv_module.specs.Module.{plain_insts};
@@ -8,33 +8,33 @@ ghost use Rattle.spv_module.specs.declared.fault.Fault.{Fault};
 ghost use Rattle.spv_module.specs.declared.fault.Rule.{Rule};
 ghost use Rattle.spv_module.specs.declared.fault.Rule.TheVariants.{A1, G1, I7, L2, Y7};
 ghost use Rattle.spv_module.specs.declared.module.Module.{Module};
-ghost use Rattle.spv_layout.specs.Place.{word_count};
+ghost use Rattle.spv_layout.specs.Place.{IsShort};
 ghost use Rattle.spv_layout.specs.declared.place.Place.{Place};
 ghost use Rattle.spv_ids.specs.declared.ids.Ids.{Ids};
 ghost use Rattle.spv_ids.specs.Outcome.{IsDefinitionOf, definition_in};
-ghost use Rattle.spv_flow.specs.declared.flow.Flow.{Flow};
+ghost use Rattle.spv_verdict.specs.declared.flow.Flow.{Flow};
 ghost use Rattle.spv_calls.specs.Calls.{IsEntryFunction};
 ghost use Rattle.spv_calls.specs.Example.{functions, looped};
-ghost use Rattle.spv_run.specs.Promise.{NeverGetsStuck};
+ghost use Rattle.spv_verdict.specs.run.Promise.{NeverGetsStuck};
 ghost use Rattle.spv_verdict.specs.Outcome.{HasFailed, IsUntouched, OfKnown};
 ghost use Rattle.spv_verdict.specs.Answer.{IsFault};
 ghost use Rattle.spv_verdict.specs.Checked.{AreParts, IsChecked, IsKept};
 ghost use Rattle.spv_verdict.specs.Program.{Program};
 ghost use Rattle.spv_verdict.specs.Broken.{Broken, IsFirstOfAll, IsSound, Precedes};
 ghost use Rattle.spv_verdict.specs.Example.{kernel_bytes, kernel_places, kernel_program, kernel_words, other_program};
-ghost use Rattle.spv_verdict.specs.Run.{IsRunOf, IsTraceOf};
-ghost use Rattle.spv_run.specs.declared.parts.Trace.{Trace};
-ghost use Rattle.spv_run.specs.Example.{entered, step_at};
-ghost use Rattle.spv_run.specs.Kernel.{grammar, kernel};
-ghost use Rattle.spv_run.specs.State.{Finished};
-ghost use Rattle.spv_run.specs.Trace.{ending_of};
+ghost use Rattle.spv_verdict.specs.Tracing.{IsRunOf, IsTraceOf};
+ghost use Rattle.spv_verdict.specs.declared.run.parts.Trace.{Trace};
+ghost use Rattle.spv_verdict.specs.run.Example.{entered, step_at};
+ghost use Rattle.spv_verdict.specs.run.Kernel.{grammar, kernel};
+ghost use Rattle.spv_verdict.specs.run.State.{Finished};
+ghost use Rattle.spv_verdict.specs.run.Trace.{ending_of};
 ghost use Rattle.spv_verdict.specs.Stream.{Begins, TellsVerdict};
 ghost use Rattle.spv_verdict.specs.Valid.{IsValid};
 ghost use Rattle.spv_verdict.specs.Verdict.{IsVerdict, fault_line, line_end, valid_line};
 
+use crate::run::laws::{promise_examples, run_never_gets_stuck};
 use spv_inst::{listed_or_dead, one_death, one_listing};
 use spv_layout::laws::member_or_dead;
-use spv_run::laws::{promise_examples, run_never_gets_stuck};
 
 /// Bytes have one verdict line.
 pub fn one_verdict()
@@ -76,7 +76,7 @@ pub fn one_first()
 /// No rule is broken on a program of few enough words exactly where it keeps all that the layers demand, which is said
 /// without a `not`.
 pub fn kept_exactly()
-    ensures { (G : Table) (p : Program) → 5 + sum_by word_count p.insts ≤ 4194304
+    ensures { (G : Table) (p : Program) → IsShort p.insts
         → IsSound G p.bound p.insts ↔ IsKept G p }
 {
     member_or_dead();

@@ -2,17 +2,27 @@
 #![tactic(auto)]
 
 mod checked;
+pub mod flow;
+mod judged;
 mod judging;
 pub mod laws;
 mod line;
+pub mod run;
+mod stopping;
 mod stream;
 mod tracing;
+pub mod types;
 mod verdict_line;
 
 pub use checked::{Checked, Parts, Verdict};
+pub use flow::{Flow, flow_check};
+pub use judged::{Judged, Reached, judge};
 pub use judging::check;
 pub use line::Line;
-pub use spv_run::{Ending, Step, Trace, TraceError};
+pub use run::{Code, Ending, Step, Trace, TraceError, is_entry, trace_function};
+pub use spv_graphs::meet;
+pub use spv_walks::laws::all_ready;
 pub use stream::check_stream;
 pub use tracing::trace;
+pub use types::{Types, type_check};
 pub use verdict_line::{Judgment, line_for};

@@ -82,7 +82,7 @@ pub fn check_stream<R: Source, W: Sink>(
     // The answer is W1 exactly where a read or a write failed.
     ensures count { (HasFailed R.failures r.old r.new ⊎ HasFailed W.failures w.old w.new) ↔ IsErrOf result W1 }
     ensures only { IfErr result (λ e. (e ≡ W1) ⊎ (e ≡ W9)) }
-    // After a failed read, or for want of memory, the writer is as it was.
+    // After a failed read, or where memory runs out, the writer is as it was.
     ensures read { HasFailed R.failures r.old r.new → w.new ≡ w.old }
     ensures memory { IsErrOf result W9 → w.new ≡ w.old }
     // After a failed write it has got a beginning of the line.

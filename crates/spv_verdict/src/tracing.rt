@@ -2,14 +2,14 @@
 ghost use Rattle.std.specs.Prelude.{ℕ, List, IfOk, IfErr};
 ghost use Rattle.spv_table.specs.Table.{Table};
 ghost use Rattle.spv_calls.specs.Calls.{IsEntryFunction};
-ghost use Rattle.spv_run.specs.Entry.{RefusesEntry};
-ghost use Rattle.spv_run.specs.Promise.{NeverGetsStuck};
+ghost use Rattle.spv_verdict.specs.run.Entry.{RefusesEntry};
+ghost use Rattle.spv_verdict.specs.run.Promise.{NeverGetsStuck};
 ghost use Rattle.spv_verdict.specs.Broken.{IsSound};
-ghost use Rattle.spv_verdict.specs.Run.{IsRunOf, IsTraceOf};
+ghost use Rattle.spv_verdict.specs.Tracing.{IsRunOf, IsTraceOf};
 
 use crate::checked::Checked;
 use crate::laws::kept_exactly;
-use spv_run::{Code, Trace, TraceError, trace_function};
+use crate::run::{Code, Trace, TraceError, trace_function};
 use std::alloc::Global;
 
 /// The steps of a run of a checked module in at most `limit` steps, and how it ended (own). It begins at the entry
@@ -21,8 +21,8 @@ use std::alloc::Global;
 /// which is less than the number of the module's function definitions. Memory for as many frames is taken at the start,
 /// and after that only the growth of the steps takes memory; none is taken by the limit.
 ///
-/// `X1` comes exactly where the id is the function of no OpEntryPoint (SPIR-V Specification 1.6, section 3.49.5). `X2`
-/// comes only where a growth of memory was refused.
+/// `NoEntry` comes exactly where the id is the function of no OpEntryPoint (SPIR-V Specification 1.6, section 3.49.5).
+/// `Memory` comes only where a growth of memory was refused.
 pub fn trace(
     alloc: Global,
     checked: &Checked<'_>,

@@ -3,6 +3,7 @@ use Rattle.std.proofs.Common.{◌≡◌, ◌∙◌, ℕ, List, [], ◌∷◌, re
 use Rattle.std.specs.Prelude.{slice_get, option_map, not, ◌&&◌, ◌||◌}
 use Rattle.std.proofs.lemmas.Bool.{eqb-true}
 use Rattle.std.proofs.lemmas.Option.{slice_get-map}
+use Rattle.spv_module.specs.declared.opcode.TheConstants as opcode
 use Rattle.spv_module.specs.Operand.{PlainInst}
 use Rattle.spv_layout.specs.declared.class.Class.{Class}
 use Rattle.spv_layout.specs.declared.class.Class.TheVariants.{Function, FunctionEnd}
@@ -19,11 +20,11 @@ use Rattle.spv_walks.proofs.Ended.{all_rows, HasRow, row_tells, class_at}
 alone : Class → ℕ → PlainRow → Bool
 alone c k r = not (is_among r.class (c ∷ [])) || (nat_eq r.from k && nat_eq r.to k)
 
-function_alone : all_rows (alone Function 54) rows ≡ true
+function_alone : all_rows (alone Function opcode.FUNCTION) rows ≡ true
 unfolding rows all_rows alone
 function_alone = refl
 
-end_alone : all_rows (alone FunctionEnd 56) rows ≡ true
+end_alone : all_rows (alone FunctionEnd opcode.FUNCTION_END) rows ≡ true
 unfolding rows all_rows alone
 end_alone = refl
 
@@ -54,11 +55,11 @@ one_opcode c k n None all none e a = cc
 one_opcode c k n (Some r) all none e a = by_row c k n r (row_tells (alone c k) rows n r all e) a
 
 -- the opcode of an OpFunction, and of an OpFunctionEnd
-pub function_opcode : (is : List PlainInst) (n : ℕ) (i : PlainInst) → slice_get is n ≡ Some i → IsAt is n (Function ∷ []) → i.opcode ≡ 54
-function_opcode is n i h a = let c = rw (class_at is n i h) at a in one_opcode Function 54 i.opcode (row_of i.opcode) function_alone refl refl c
+pub function_opcode : (is : List PlainInst) (n : ℕ) (i : PlainInst) → slice_get is n ≡ Some i → IsAt is n (Function ∷ []) → i.opcode ≡ opcode.FUNCTION
+function_opcode is n i h a = let c = rw (class_at is n i h) at a in one_opcode Function opcode.FUNCTION i.opcode (row_of i.opcode) function_alone refl refl c
 
-pub end_opcode : (is : List PlainInst) (n : ℕ) (i : PlainInst) → slice_get is n ≡ Some i → IsAt is n (FunctionEnd ∷ []) → i.opcode ≡ 56
-end_opcode is n i h a = let c = rw (class_at is n i h) at a in one_opcode FunctionEnd 56 i.opcode (row_of i.opcode) end_alone refl refl c
+pub end_opcode : (is : List PlainInst) (n : ℕ) (i : PlainInst) → slice_get is n ≡ Some i → IsAt is n (FunctionEnd ∷ []) → i.opcode ≡ opcode.FUNCTION_END
+end_opcode is n i h a = let c = rw (class_at is n i h) at a in one_opcode FunctionEnd opcode.FUNCTION_END i.opcode (row_of i.opcode) end_alone refl refl c
 
 pub function_op : (is : List PlainInst) (n : ℕ) → IsAt is n (Function ∷ []) → IsOp is n is_function
 function_op is n a = by_inst (slice_get is n) refl
@@ -67,4 +68,4 @@ function_op is n a = by_inst (slice_get is n) refl
     by_inst None e = (
         let none : slice_get (classes is) n ≡ None = slice_get-map (λ j. class_of j.opcode) is n ∙ ap (option_map (λ j. class_of j.opcode)) e in
         absurd (rw none at a))
-    by_inst (Some i) e = op_holds is n i is_function e (eq-eqb i.opcode 54 (function_opcode is n i e a))
+    by_inst (Some i) e = op_holds is n i is_function e (eq-eqb i.opcode opcode.FUNCTION (function_opcode is n i e a))

@@ -3,6 +3,7 @@ use Rattle.std.proofs.Common.{◌≡◌, ◌≢◌, ◌≤◌, ◌<◌, ◌∙�
 use Rattle.std.specs.Prelude.{slice_get, option_and_then}
 use Rattle.std.proofs.lemmas.Bool.{cases_Bool, cases_eq, eqb-true}
 use Rattle.std.proofs.lemmas.Bool.Decides.{nat_tests}
+use Rattle.spv_module.specs.declared.opcode.TheConstants as opcode
 use Rattle.spv_table.specs.Table.{Table}
 use Rattle.spv_module.specs.Operand.{PlainInst}
 use Rattle.spv_module.specs.declared.fault.Rule.TheVariants.{F1}
@@ -28,7 +29,7 @@ label_unlocal : (G : Table) (c : Code) (x m : ℕ) → IsCode G c → IsLocalVal
 label_unlocal G c x m is v l =
     let e : m ≡ v.place = one_place G c x m v.place is l.defined v.defined in
     let op : IsOp (insts_of c) v.place is_label = subst (λ (k : ℕ). IsOp (insts_of c) k is_label) e l.label in
-    let k = eqb-true v.inst.opcode 248 (op_tells (insts_of c) v.place v.inst is_label v.there op) in
+    let k = eqb-true v.inst.opcode opcode.LABEL (op_tells (insts_of c) v.place v.inst is_label v.there op) in
     let none = label_typeless G v.inst (is.plan.fits v.place v.inst v.there) k in
     let some = v.typed in
     cc
@@ -46,30 +47,30 @@ label_value G c at n x r i is there b t u v =
 le_true : (a b : ℕ) → a ≤ b → nat_le a b ≡ true
 le_true a b h = grind (arith, nat_tests)
 
-branch_in : (x : ℕ) → 248 ≤ x → x ≤ 251 → x ≢ 248 → is_branch x ≡ true
-branch_in x lo hi apart = let h : nat_le 249 x && nat_le x 251 ≡ true = rw (le_true 249 x (omega (arith, lo, apart)), le_true x 251 hi) refl in h
+branch_in : (x : ℕ) → opcode.LABEL ≤ x → x ≤ opcode.SWITCH → x ≢ opcode.LABEL → is_branch x ≡ true
+branch_in x lo hi apart = let h : nat_le opcode.BRANCH x && nat_le x opcode.SWITCH ≡ true = rw (le_true opcode.BRANCH x (omega (arith, lo, apart)), le_true x opcode.SWITCH hi) refl in h
 
 abbrev pub Within : ℕ → Type 0
-Within x = (248 ≤ x) × (x ≤ 251)
+Within x = (opcode.LABEL ≤ x) × (x ≤ opcode.SWITCH)
 
-pub within_by : (x : ℕ) → nat_le 248 x && nat_le x 251 ≡ true → Within x
+pub within_by : (x : ℕ) → nat_le opcode.LABEL x && nat_le x opcode.SWITCH ≡ true → Within x
 within_by x h = (grind (arith, nat_tests), grind (arith, nat_tests))
 
-by_branch : (G : Table) (c : Code) (starts : List ℕ) (b at n : ℕ) (i : PlainInst) (a : Query) → IsCode G c → slice_get (insts_of c) at ≡ Some i → is_branch i.opcode ≡ true → IsUseQuery G (insts_of c) starts b at n a → (n ≡ 0) × (i.opcode ≢ 249)
+by_branch : (G : Table) (c : Code) (starts : List ℕ) (b at n : ℕ) (i : PlainInst) (a : Query) → IsCode G c → slice_get (insts_of c) at ≡ Some i → is_branch i.opcode ≡ true → IsUseQuery G (insts_of c) starts b at n a → (n ≡ 0) × (i.opcode ≢ opcode.BRANCH)
 by_branch G c starts b at n i a is there h u = elim (cases_Bool (is_label_at i.opcode n)) [
   | inl t ↦ absurd (label_value G c at n u.id u.role i is there h t u.used u.local)
   | inr f ↦ first_use G i n u.id u.role h f (is.plan.fits at i there) (use_in G (insts_of c) at n u.id u.role i there u.used)
 ]
 
-first_query : (G : Table) (c : Code) (starts : List ℕ) (b at n : ℕ) (i : PlainInst) (a : Query) → IsCode G c → slice_get (insts_of c) at ≡ Some i → Within i.opcode → IsUseQuery G (insts_of c) starts b at n a → (n ≡ 0) × (249 < i.opcode)
+first_query : (G : Table) (c : Code) (starts : List ℕ) (b at n : ℕ) (i : PlainInst) (a : Query) → IsCode G c → slice_get (insts_of c) at ≡ Some i → Within i.opcode → IsUseQuery G (insts_of c) starts b at n a → (n ≡ 0) × (opcode.BRANCH < i.opcode)
 first_query G c starts b at n i a is there within u =
     let lo = within.0 in
-    elim (cases_eq i.opcode 248) [
+    elim (cases_eq i.opcode opcode.LABEL) [
       | inl e ↦ absurd (label_use G i n u.id u.role e (is.plan.fits at i there) (use_in G (insts_of c) at n u.id u.role i there u.used))
       | inr apart ↦ (let k = by_branch G c starts b at n i a is there (branch_in i.opcode lo within.1 apart) u in let m = k.1 in (k.0, omega (arith, lo, apart, m)))
     ]
 
-pub none_asked_here : (G : Table) (c : Code) (starts : List ℕ) (b at : ℕ) (i : PlainInst) (a : Query) → IsCode G c → slice_get (insts_of c) at ≡ Some i → Within i.opcode → i.opcode ≤ 249 → ¬ (HasUseQuery G (insts_of c) starts b at a)
+pub none_asked_here : (G : Table) (c : Code) (starts : List ℕ) (b at : ℕ) (i : PlainInst) (a : Query) → IsCode G c → slice_get (insts_of c) at ≡ Some i → Within i.opcode → i.opcode ≤ opcode.BRANCH → ¬ (HasUseQuery G (insts_of c) starts b at a)
 none_asked_here G c starts b at i a is there within le (n, u) = let h = (first_query G c starts b at n i a is there within u).1 in omega (arith, h, le)
 
 pub at_first : (G : Table) (c : Code) (starts : List ℕ) (b at : ℕ) (i : PlainInst) (a : Query) → IsCode G c → slice_get (insts_of c) at ≡ Some i → Within i.opcode → HasUseQuery G (insts_of c) starts b at a → IsUseQuery G (insts_of c) starts b at 0 a

@@ -5,6 +5,7 @@ use Rattle.std.proofs.lemmas.Bool.Decides.{nat_tests}
 use Rattle.std.proofs.lemmas.Bool.{eqb-true}
 use Rattle.std.proofs.lemmas.Option.{slice_get_within}
 use Rattle.std.proofs.lemmas.List.{length-map}
+use Rattle.spv_module.specs.declared.opcode.TheConstants as opcode
 use Rattle.spv_table.specs.Table.{Table}
 use Rattle.spv_module.specs.Operand.{PlainInst, type_in}
 use Rattle.spv_module.specs.Module.{plain_inst}
@@ -37,13 +38,13 @@ either (Some m) P Q f g h = g m h
 pub one_place : (G : Table) (c : Code) (x m n : ℕ) → IsCode G c → IsDefinedAt (insts_of c) x m → IsDefinedAt (insts_of c) x n → m ≡ n
 one_place G c x m n is d e = either (definition_in c.ids.now x) (λ o. IsDefinitionOf (insts_of c) x o) (m ≡ n) (λ none. absurd (none m d)) (λ k one. one.only m d ∙ sym (one.only n e)) (is.ids.each x)
 
-pub label_here : (is : List PlainInst) (x m : ℕ) (i : PlainInst) → IsDefinedAt is x m → slice_get is m ≡ Some i → i.opcode ≡ 248 → IsLabelOf is x m
-label_here is x m i d there e = record { defined = d; label = op_holds is m i is_label there (eq-eqb i.opcode 248 e) }
+pub label_here : (is : List PlainInst) (x m : ℕ) (i : PlainInst) → IsDefinedAt is x m → slice_get is m ≡ Some i → i.opcode ≡ opcode.LABEL → IsLabelOf is x m
+label_here is x m i d there e = record { defined = d; label = op_holds is m i is_label there (eq-eqb i.opcode opcode.LABEL e) }
 
-pub label_not : (G : Table) (c : Code) (x m n : ℕ) (i : PlainInst) → IsCode G c → IsDefinedAt (insts_of c) x m → slice_get (insts_of c) m ≡ Some i → (i.opcode ≡ 248 → ⊥) → ¬ (IsLabelOf (insts_of c) x n)
+pub label_not : (G : Table) (c : Code) (x m n : ℕ) (i : PlainInst) → IsCode G c → IsDefinedAt (insts_of c) x m → slice_get (insts_of c) m ≡ Some i → (i.opcode ≡ opcode.LABEL → ⊥) → ¬ (IsLabelOf (insts_of c) x n)
 label_not G c x m n i is d there isnt l =
     let e = one_place G c x n m is l.defined d in
-    isnt (eqb-true i.opcode 248 (op_tells (insts_of c) m i is_label there (subst (λ (k : ℕ). IsOp (insts_of c) k is_label) e l.label)))
+    isnt (eqb-true i.opcode opcode.LABEL (op_tells (insts_of c) m i is_label there (subst (λ (k : ℕ). IsOp (insts_of c) k is_label) e l.label)))
 
 -- local values
 

@@ -8,7 +8,7 @@ use Rattle.std.proofs.lemmas.List.Elements.{All-contains_itself}
 use Rattle.spv_table.specs.Table.{Table}
 use Rattle.spv_module.specs.Operand.{PlainInst}
 use Rattle.spv_module.specs.Module.{plain_inst}
-use Rattle.spv_layout.specs.Place.{IsOfFunction}
+use Rattle.spv_layout.specs.Place.{IsOfFunction, AreFew}
 use Rattle.spv_ids.specs.Definition.{IsDefinedAt}
 use Rattle.spv_graphs.specs.declared.graph.Graph.{Graph}
 use Rattle.spv_graphs.specs.declared.graph.Block.{Block}
@@ -84,7 +84,7 @@ graph_of G c b graph is are a =
           ));
     }
 
-pub is_graph : (c : Code) (b : Blocks) (graph : Graph) → length c.insts.now ≤ 4194304 → AreBlocks (insts_of c) b → AreInGraph c b.starts.now graph (length b.starts.now - 1) → IsGraph graph
+pub is_graph : (c : Code) (b : Blocks) (graph : Graph) → AreFew c.insts.now → AreBlocks (insts_of c) b → AreInGraph c b.starts.now graph (length b.starts.now - 1) → IsGraph graph
 is_graph c b graph most are a =
     let starts = b.starts.now in
     let count = a.count in

@@ -3,6 +3,7 @@ use Rattle.std.proofs.Common.{◌≡◌, ◌∙◌, ◌≤◌, ◌++◌, ℕ, Li
 use Rattle.std.specs.Prelude.{slice_get, option_map, nat_le, not, ◌&&◌, ◌||◌}
 use Rattle.std.proofs.lemmas.Bool.Decides.{nat_tests}
 use Rattle.std.proofs.lemmas.Option.{slice_get-map}
+use Rattle.spv_module.specs.declared.opcode.TheConstants as opcode
 use Rattle.spv_table.specs.Table.{Table}
 use Rattle.spv_module.specs.Operand.{Plain, PlainInst, type_in}
 use Rattle.spv_module.specs.Operand as operand
@@ -144,7 +145,7 @@ result_alone G _ _ (AreOf.more f o fs os p r) h =
     let m : os ≡ [] = none_of G fs os r n in
     rw m (no_type G o (rw e at p))
 
-pub label_forms : (G : Table) (i : PlainInst) (fs : List Form) (h : HasForms G i fs) → i.opcode ≡ 248 → fs ≡ R ∷ []
+pub label_forms : (G : Table) (i : PlainInst) (fs : List Form) (h : HasForms G i fs) → i.opcode ≡ opcode.LABEL → fs ≡ R ∷ []
 unfolding is_closed
 label_forms G i fs h e =
     let s : Some h.row ≡ Some label_row = sym h.known ∙ ap row_of e ∙ label_known in
@@ -153,5 +154,5 @@ label_forms G i fs h e =
     let n : h.row.fixed ++ h.rest ≡ R ∷ [] = rw (r, b) refl in
     h.forms ∙ n
 
-pub label_typeless : (G : Table) (i : PlainInst) → FitsShape G i → i.opcode ≡ 248 → type_in i.operands ≡ None
+pub label_typeless : (G : Table) (i : PlainInst) → FitsShape G i → i.opcode ≡ opcode.LABEL → type_in i.operands ≡ None
 label_typeless G i f e = result_alone G f.forms i.operands f.has.each (label_forms G i f.forms f.has e)

@@ -2,6 +2,7 @@
 use Rattle.std.proofs.Common.{◌≡◌, ◌<◌, ◌≤◌, ◌⊎◌, ◌++◌, ◌+◌, ◌-◌, ◌∙◌, ℕ, zero, suc, List, [], ◌∷◌, refl, sym, ap, subst, inl, inr, length, true, arith}
 use Rattle.std.specs.Prelude.{Any, All, Contains, slice_index}
 use Rattle.std.proofs.lemmas.Bool.{cases_lt}
+use Rattle.spv_module.specs.declared.opcode.TheConstants as opcode
 use Rattle.spv_table.specs.Table.{Table}
 use Rattle.spv_module.specs.Operand.{PlainInst}
 use Rattle.spv_ids.specs.Definition.{IsDefinedAt}
@@ -19,13 +20,13 @@ use Rattle.spv_walks.proofs.Trails.{run, size, trail, run_any, all_run, run_spli
 use Rattle.spv_walks.proofs.Walking.{comes, first_in, begin_first, one_block, through, walk_to}
 
 label_no_phi : (is : List PlainInst) (n : ℕ) → IsOp is n is_label → ¬ (IsOp is n is_phi)
-label_no_phi is n l p = let h : is_phi 248 ≡ true = known is n 248 is_phi l p in cc
+label_no_phi is n l p = let h : is_phi opcode.LABEL ≡ true = known is n opcode.LABEL is_phi l p in cc
 
 function_no_phi : (is : List PlainInst) (n : ℕ) → IsOp is n is_function → ¬ (IsOp is n is_phi)
-function_no_phi is n l p = let h : is_phi 54 ≡ true = known is n 54 is_phi l p in cc
+function_no_phi is n l p = let h : is_phi opcode.FUNCTION ≡ true = known is n opcode.FUNCTION is_phi l p in cc
 
 pub function_no_label : (is : List PlainInst) (n : ℕ) → IsOp is n is_function → ¬ (IsOp is n is_label)
-function_no_label is n l p = let h : is_label 54 ≡ true = known is n 54 is_label l p in cc
+function_no_label is n l p = let h : is_label opcode.FUNCTION ≡ true = known is n opcode.FUNCTION is_label l p in cc
 
 -- no instruction of a block but its first is a label
 pub plain_inside : (is : List PlainInst) (f : ℕ) (starts : List ℕ) → IsDivided is f starts → (b n : ℕ) → IsIn starts b n → slice_index starts b < n → ¬ (IsOp is n is_label)

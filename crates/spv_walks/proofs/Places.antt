@@ -4,6 +4,7 @@ use Rattle.std.specs.Prelude.{slice_get, nat_le, ◌&&◌}
 use Rattle.std.proofs.lemmas.Bool.{cases_lt, eqb-true, or_cases}
 use Rattle.std.proofs.lemmas.Bool.Decides.{nat_tests}
 use Rattle.std.proofs.lemmas.Option.{slice_get_within}
+use Rattle.spv_module.specs.declared.opcode.TheConstants as opcode
 use Rattle.spv_module.specs.Operand.{PlainInst}
 use Rattle.spv_layout.specs.declared.class.Class.{Class}
 use Rattle.spv_layout.specs.declared.class.Class.TheVariants.{Function, FunctionEnd, Label}
@@ -20,83 +21,83 @@ use Rattle.spv_walks.proofs.Ended.{class_at}
 at_by : (is : List PlainInst) (n k : ℕ) (i : PlainInst) (cs : List Class) → slice_get is n ≡ Some i → i.opcode ≡ k → is_among (class_of k) cs ≡ true → IsAt is n cs
 at_by is n k i cs h e c = rw (class_at is n i h, e) c
 
-function_class : is_among (class_of 54) (Function ∷ []) ≡ true
+function_class : is_among (class_of opcode.FUNCTION) (Function ∷ []) ≡ true
 unfolding rows
 function_class = refl
 
-end_class : is_among (class_of 56) (FunctionEnd ∷ []) ≡ true
+end_class : is_among (class_of opcode.FUNCTION_END) (FunctionEnd ∷ []) ≡ true
 unfolding rows
 end_class = refl
 
-label_class : is_among (class_of 248) (Label ∷ []) ≡ true
+label_class : is_among (class_of opcode.LABEL) (Label ∷ []) ≡ true
 unfolding rows
 label_class = refl
 
-branch_class : is_among (class_of 249) terminators ≡ true
+branch_class : is_among (class_of opcode.BRANCH) terminators ≡ true
 unfolding rows
 branch_class = refl
 
-conditional_class : is_among (class_of 250) terminators ≡ true
+conditional_class : is_among (class_of opcode.BRANCH_CONDITIONAL) terminators ≡ true
 unfolding rows
 conditional_class = refl
 
-switch_class : is_among (class_of 251) terminators ≡ true
+switch_class : is_among (class_of opcode.SWITCH) terminators ≡ true
 unfolding rows
 switch_class = refl
 
-return_class : is_among (class_of 253) terminators ≡ true
+return_class : is_among (class_of opcode.RETURN) terminators ≡ true
 unfolding rows
 return_class = refl
 
-return_value_class : is_among (class_of 254) terminators ≡ true
+return_value_class : is_among (class_of opcode.RETURN_VALUE) terminators ≡ true
 unfolding rows
 return_value_class = refl
 
-unreachable_class : is_among (class_of 255) terminators ≡ true
+unreachable_class : is_among (class_of opcode.UNREACHABLE) terminators ≡ true
 unfolding rows
 unreachable_class = refl
 
-branch_late : section_of (class_of 249) ≡ None
+branch_late : section_of (class_of opcode.BRANCH) ≡ None
 unfolding rows
 branch_late = refl
 
-conditional_late : section_of (class_of 250) ≡ None
+conditional_late : section_of (class_of opcode.BRANCH_CONDITIONAL) ≡ None
 unfolding rows
 conditional_late = refl
 
-switch_late : section_of (class_of 251) ≡ None
+switch_late : section_of (class_of opcode.SWITCH) ≡ None
 unfolding rows
 switch_late = refl
 
 pub function_at : (is : List PlainInst) (n : ℕ) → IsOp is n is_function → IsAt is n (Function ∷ [])
-function_at is n op = let h = holds is n is_function op in at_by is n 54 h.inst (Function ∷ []) h.there (eqb-true h.inst.opcode 54 h.holds) function_class
+function_at is n op = let h = holds is n is_function op in at_by is n opcode.FUNCTION h.inst (Function ∷ []) h.there (eqb-true h.inst.opcode opcode.FUNCTION h.holds) function_class
 
-pub end_at : (is : List PlainInst) (n : ℕ) (i : PlainInst) → slice_get is n ≡ Some i → i.opcode ≡ 56 → IsAt is n (FunctionEnd ∷ [])
-end_at is n i there e = at_by is n 56 i (FunctionEnd ∷ []) there e end_class
+pub end_at : (is : List PlainInst) (n : ℕ) (i : PlainInst) → slice_get is n ≡ Some i → i.opcode ≡ opcode.FUNCTION_END → IsAt is n (FunctionEnd ∷ [])
+end_at is n i there e = at_by is n opcode.FUNCTION_END i (FunctionEnd ∷ []) there e end_class
 
 pub label_at : (is : List PlainInst) (n : ℕ) → IsOp is n is_label → IsAt is n (Label ∷ [])
-label_at is n op = let h = holds is n is_label op in at_by is n 248 h.inst (Label ∷ []) h.there (eqb-true h.inst.opcode 248 h.holds) label_class
+label_at is n op = let h = holds is n is_label op in at_by is n opcode.LABEL h.inst (Label ∷ []) h.there (eqb-true h.inst.opcode opcode.LABEL h.holds) label_class
 
 -- the opcodes of branches, and of the other terminators
-branch_cases : (x : ℕ) → is_branch x ≡ true → (x ≡ 249) ⊎ (x ≡ 250) ⊎ (x ≡ 251)
+branch_cases : (x : ℕ) → is_branch x ≡ true → (x ≡ opcode.BRANCH) ⊎ (x ≡ opcode.BRANCH_CONDITIONAL) ⊎ (x ≡ opcode.SWITCH)
 branch_cases x h =
-    let low : 249 ≤ x = grind (arith, nat_tests) in
-    let high : x ≤ 251 = grind (arith, nat_tests) in
-    elim (cases_lt x 250) [
+    let low : opcode.BRANCH ≤ x = grind (arith, nat_tests) in
+    let high : x ≤ opcode.SWITCH = grind (arith, nat_tests) in
+    elim (cases_lt x opcode.BRANCH_CONDITIONAL) [
       | inl a ↦ inl (omega (arith, a, low))
-      | inr a ↦ elim (cases_lt x 251) [
+      | inr a ↦ elim (cases_lt x opcode.SWITCH) [
         | inl b ↦ inr (inl (omega (arith, a, b)))
         | inr b ↦ inr (inr (omega (arith, b, high)))
       ]
     ]
 
-other_cases : (x : ℕ) → (nat_le 253 x && nat_le x 255) ≡ true → (x ≡ 253) ⊎ (x ≡ 254) ⊎ (x ≡ 255)
+other_cases : (x : ℕ) → (nat_le opcode.RETURN x && nat_le x opcode.UNREACHABLE) ≡ true → (x ≡ opcode.RETURN) ⊎ (x ≡ opcode.RETURN_VALUE) ⊎ (x ≡ opcode.UNREACHABLE)
 other_cases x h =
-    let low : 253 ≤ x = grind (arith, nat_tests) in
-    let high : x ≤ 255 = grind (arith, nat_tests) in
-    elim (cases_lt x 254) [
+    let low : opcode.RETURN ≤ x = grind (arith, nat_tests) in
+    let high : x ≤ opcode.UNREACHABLE = grind (arith, nat_tests) in
+    elim (cases_lt x opcode.RETURN_VALUE) [
       | inl a ↦ inl (omega (arith, a, low))
-      | inr a ↦ elim (cases_lt x 255) [
+      | inr a ↦ elim (cases_lt x opcode.UNREACHABLE) [
         | inl b ↦ inr (inl (omega (arith, a, b)))
         | inr b ↦ inr (inr (omega (arith, b, high)))
       ]
@@ -105,19 +106,19 @@ other_cases x h =
 pub terminator_at : (is : List PlainInst) (n : ℕ) → IsOp is n is_terminator → IsAt is n terminators
 terminator_at is n op =
     let h = holds is n is_terminator op in
-    elim (or_cases (is_branch h.inst.opcode) (nat_le 253 h.inst.opcode && nat_le h.inst.opcode 255) h.holds) [
+    elim (or_cases (is_branch h.inst.opcode) (nat_le opcode.RETURN h.inst.opcode && nat_le h.inst.opcode opcode.UNREACHABLE) h.holds) [
       | inl b ↦ elim (branch_cases h.inst.opcode b) [
-        | inl e ↦ at_by is n 249 h.inst terminators h.there e branch_class
+        | inl e ↦ at_by is n opcode.BRANCH h.inst terminators h.there e branch_class
         | inr other ↦ elim other [
-          | inl e ↦ at_by is n 250 h.inst terminators h.there e conditional_class
-          | inr e ↦ at_by is n 251 h.inst terminators h.there e switch_class
+          | inl e ↦ at_by is n opcode.BRANCH_CONDITIONAL h.inst terminators h.there e conditional_class
+          | inr e ↦ at_by is n opcode.SWITCH h.inst terminators h.there e switch_class
         ]
       ]
       | inr o ↦ elim (other_cases h.inst.opcode o) [
-        | inl e ↦ at_by is n 253 h.inst terminators h.there e return_class
+        | inl e ↦ at_by is n opcode.RETURN h.inst terminators h.there e return_class
         | inr other ↦ elim other [
-          | inl e ↦ at_by is n 254 h.inst terminators h.there e return_value_class
-          | inr e ↦ at_by is n 255 h.inst terminators h.there e unreachable_class
+          | inl e ↦ at_by is n opcode.RETURN_VALUE h.inst terminators h.there e return_value_class
+          | inr e ↦ at_by is n opcode.UNREACHABLE h.inst terminators h.there e unreachable_class
         ]
       ]
     ]
@@ -127,10 +128,10 @@ late_by x k e h = rw e h
 
 branch_is_late : (x : ℕ) → is_branch x ≡ true → section_of (class_of x) ≡ None
 branch_is_late x b = elim (branch_cases x b) [
-  | inl e ↦ late_by x 249 e branch_late
+  | inl e ↦ late_by x opcode.BRANCH e branch_late
   | inr other ↦ elim other [
-    | inl e ↦ late_by x 250 e conditional_late
-    | inr e ↦ late_by x 251 e switch_late
+    | inl e ↦ late_by x opcode.BRANCH_CONDITIONAL e conditional_late
+    | inr e ↦ late_by x opcode.SWITCH e switch_late
   ]
 ]
 

@@ -6,6 +6,7 @@ use Rattle.std.proofs.lemmas.Option.{same_Some}
 use Rattle.spv_table.specs.Table.{Table}
 use Rattle.spv_module.specs.Operand.{PlainInst, result_in}
 use Rattle.spv_module.specs.declared.fault.Rule.TheVariants.{A1, A2}
+use Rattle.spv_layout.specs.Stage.{of_values}
 use Rattle.spv_layout.specs.First.{IsUnbroken}
 use Rattle.spv_ids.specs.Definition.{IsDefinedAt}
 use Rattle.spv_branches.specs.Walk.{IsResultAmong}
@@ -50,7 +51,7 @@ among_or_not is (n ∷ past) x = elim (defined_or_not is x n) [
   ]
 ]
 
-pub ready : (G : Table) (is : List PlainInst) → IsUnbroken (Broken G is) 7 → (n : ℕ) → IsReady G is n
+pub ready : (G : Table) (is : List PlainInst) → IsUnbroken (Broken G is) of_values → (n : ℕ) → IsReady G is n
 ready G is u n = record {
   uses = λ other f past k x r walk used local. elim (among_or_not is past x) [
     | inl a ↦ a
@@ -86,7 +87,7 @@ ready G is u n = record {
   ];
 }
 
-pub unbroken : (G : Table) (is : List PlainInst) → ((n : ℕ) → IsReady G is n) → IsUnbroken (Broken G is) 7
+pub unbroken : (G : Table) (is : List PlainInst) → ((n : ℕ) → IsReady G is n) → IsUnbroken (Broken G is) of_values
 unbroken G is h _ _ s (Broken.no_label n k x op used none) = absurd (omega (arith, s))
 unbroken G is h _ _ s (Broken.to_entry n x m target defined entry) = absurd (omega (arith, s))
 unbroken G is h _ _ s (Broken.parents n op none) = absurd (omega (arith, s))

@@ -3,6 +3,7 @@ use Rattle.std.proofs.Common.{◌≡◌, ◌≢◌, ◌≤◌, ◌<◌, ◌+◌,
 use Rattle.std.specs.Prelude.{slice_get, slice_index, MatchBool}
 use Rattle.std.proofs.lemmas.Bool.{cases_lt, cases_order, eqb-true}
 use Rattle.std.proofs.lemmas.List.{get_or-set_same, get_or-set_other, length-append, get_or_append_left}
+use Rattle.spv_module.specs.declared.opcode.TheConstants as opcode
 use Rattle.spv_module.specs.Operand.{PlainInst}
 use Rattle.spv_layout.specs.declared.class.Class.TheVariants.{Function, FunctionEnd}
 use Rattle.spv_layout.specs.Place.{IsAt, IsOfFunction}
@@ -35,11 +36,11 @@ open_start is f op = record {
       let h = holds is f is_function op in
       let e : k ≡ f = omega (arith, l, u) in
       let x = end_opcode is f h.inst h.there (subst (λ (n : ℕ). IsAt is n (FunctionEnd ∷ [])) e a) in
-      let y = eqb-true h.inst.opcode 54 h.holds in
+      let y = eqb-true h.inst.opcode opcode.FUNCTION h.holds in
       omega (arith, x, y));
 }
 
-pub open_more : (is : List PlainInst) (f n : ℕ) (i : PlainInst) → slice_get is n ≡ Some i → (i.opcode ≡ 54 → ⊥) → (i.opcode ≡ 56 → ⊥) → IsOpenTo is f n → IsOpenTo is f (n + 1)
+pub open_more : (is : List PlainInst) (f n : ℕ) (i : PlainInst) → slice_get is n ≡ Some i → (i.opcode ≡ opcode.FUNCTION → ⊥) → (i.opcode ≡ opcode.FUNCTION_END → ⊥) → IsOpenTo is f n → IsOpenTo is f (n + 1)
 open_more is f n i there isnt unended before = record {
   alone = λ k l u a. elim (cases_lt k n) [
     | inl less ↦ before.alone k l less a
@@ -73,7 +74,7 @@ extent_to is f at op some within before not = record {
 }
 
 -- a function that ends with its OpFunctionEnd, before another OpFunction, and with the module
-pub extent_ended : (is : List PlainInst) (f n : ℕ) (i : PlainInst) → IsOp is f is_function → f < n → slice_get is n ≡ Some i → i.opcode ≡ 56 → IsOpenTo is f n → IsExtent is f (n + 1)
+pub extent_ended : (is : List PlainInst) (f n : ℕ) (i : PlainInst) → IsOp is f is_function → f < n → slice_get is n ≡ Some i → i.opcode ≡ opcode.FUNCTION_END → IsOpenTo is f n → IsExtent is f (n + 1)
 extent_ended is f n i op some there e o =
     let w = slice_get_within is n i there in
     let last : IsOfFunction is n f = record {
@@ -113,21 +114,21 @@ pub unmarked_start : (is : List PlainInst) (f : ℕ) → IsOp is f is_function �
 unmarked_start is f op n from to phi =
     let h = holds is f is_function op in
     let e : n ≡ f = omega (arith, from, to) in
-    let x = eqb-true h.inst.opcode 245 (op_tells is f h.inst is_phi h.there (subst (λ (k : ℕ). IsOp is k is_phi) e phi)) in
-    let y = eqb-true h.inst.opcode 54 h.holds in
+    let x = eqb-true h.inst.opcode opcode.PHI (op_tells is f h.inst is_phi h.there (subst (λ (k : ℕ). IsOp is k is_phi) e phi)) in
+    let y = eqb-true h.inst.opcode opcode.FUNCTION h.holds in
     omega (arith, x, y)
 
-pub unmarked_more : (is : List PlainInst) (f at : ℕ) (i : PlainInst) → slice_get is at ≡ Some i → (i.opcode ≡ 245 → ⊥) → ((n : ℕ) → f ≤ n → n < at → ¬ (IsOp is n is_phi)) → (n : ℕ) → f ≤ n → n < at + 1 → ¬ (IsOp is n is_phi)
+pub unmarked_more : (is : List PlainInst) (f at : ℕ) (i : PlainInst) → slice_get is at ≡ Some i → (i.opcode ≡ opcode.PHI → ⊥) → ((n : ℕ) → f ≤ n → n < at → ¬ (IsOp is n is_phi)) → (n : ℕ) → f ≤ n → n < at + 1 → ¬ (IsOp is n is_phi)
 unmarked_more is f at i there isnt before n from to phi = elim (cases_lt n at) [
   | inl less ↦ before n from less phi
-  | inr more ↦ (let e : n ≡ at = omega (arith, to, more) in isnt (eqb-true i.opcode 245 (op_tells is at i is_phi there (subst (λ (k : ℕ). IsOp is k is_phi) e phi))))
+  | inr more ↦ (let e : n ≡ at = omega (arith, to, more) in isnt (eqb-true i.opcode opcode.PHI (op_tells is at i is_phi there (subst (λ (k : ℕ). IsOp is k is_phi) e phi))))
 ]
 
 -- whether an instruction that is no OpLabel begins a block
-pub begins_by : (is : List PlainInst) (n m : ℕ) (i j : PlainInst) (b : Bool) → slice_get is n ≡ Some i → (i.opcode ≡ 248 → ⊥) → m + 1 ≡ n → slice_get is m ≡ Some j → b ≡ is_terminator j.opcode → MatchBool b (IsBegin is n) (¬ (IsBegin is n))
+pub begins_by : (is : List PlainInst) (n m : ℕ) (i j : PlainInst) (b : Bool) → slice_get is n ≡ Some i → (i.opcode ≡ opcode.LABEL → ⊥) → m + 1 ≡ n → slice_get is m ≡ Some j → b ≡ is_terminator j.opcode → MatchBool b (IsBegin is n) (¬ (IsBegin is n))
 begins_by is n m i j true there isnt e before t = inr (m, e, op_holds is m j is_terminator before (sym t))
 begins_by is n m i j false there isnt e before t = λ begin. elim begin [
-  | inl label ↦ isnt (eqb-true i.opcode 248 (op_tells is n i is_label there label))
+  | inl label ↦ isnt (eqb-true i.opcode opcode.LABEL (op_tells is n i is_label there label))
   | inr ended ↦ (
       let s : ended.0 ≡ m = (let h = ended.1 in omega (arith, h, e)) in
       let h : is_terminator j.opcode ≡ true = op_tells is m j is_terminator before (subst (λ (k : ℕ). IsOp is k is_terminator) s ended.2) in

@@ -3,12 +3,14 @@ use Rattle.std.proofs.Common.{◌≡◌, ◌<◌, ◌≤◌, ◌+◌, ◌∙◌,
 use Rattle.std.specs.Prelude.{slice_get}
 use Rattle.std.proofs.lemmas.Bool.{cases_lt, cases_order, eqb-true}
 use Rattle.std.proofs.lemmas.Option.{slice_get_within}
+use Rattle.spv_module.specs.declared.opcode.TheConstants as opcode
 use Rattle.spv_table.specs.Table.{Table}
 use Rattle.spv_module.specs.Operand.{PlainInst}
 use Rattle.spv_module.specs.declared.fault.Rule.{Rule}
 use Rattle.spv_module.specs.declared.fault.Rule.TheVariants.{A1, A2}
 use Rattle.spv_module.specs.declared.fault.Stop.{Stop}
 use Rattle.spv_module.specs.declared.fault.Stop.TheVariants.{Fault, Memory}
+use Rattle.spv_layout.specs.Stage.{of_values}
 use Rattle.spv_layout.specs.First.{stage_of, rank_of, IsFirst, IsUnbroken}
 use Rattle.spv_layout.specs.Place.{first_word_of, IsOfFunction}
 use Rattle.spv_ids.specs.inner.Outcome.{IsStopAt}
@@ -47,14 +49,14 @@ walked G is f n (inr (m, e)) = subst (λ (g : ℕ). IsWalked G is g n) e (record
 pub sound_start : (c : Code) → AreSound c c.globals
 sound_start c = record { none = λ G is f m lt unavailable. is.global f lt (walked G (insts_of c) f m unavailable).function }
 
-pub sound_other : (c : Code) (n : ℕ) (i : PlainInst) → slice_get (insts_of c) n ≡ Some i → (i.opcode ≡ 54 → ⊥) → AreSound c n → AreSound c (n + 1)
+pub sound_other : (c : Code) (n : ℕ) (i : PlainInst) → slice_get (insts_of c) n ≡ Some i → (i.opcode ≡ opcode.FUNCTION → ⊥) → AreSound c n → AreSound c (n + 1)
 sound_other c n i there isnt before = record {
   none = λ G is f m lt unavailable. elim (cases_lt f n) [
     | inl less ↦ before.none G is f m less unavailable
     | inr more ↦ (
         let e : f ≡ n = omega (arith, lt, more) in
         let op : IsOp (insts_of c) n is_function = subst (λ (k : ℕ). IsOp (insts_of c) k is_function) e (walked G (insts_of c) f m unavailable).function in
-        isnt (eqb-true i.opcode 54 (op_tells (insts_of c) n i is_function there op)))
+        isnt (eqb-true i.opcode opcode.FUNCTION (op_tells (insts_of c) n i is_function there op)))
   ];
 }
 
@@ -108,13 +110,13 @@ first_here c f n before first G is = (
 
 -- rules
 
-pub rule_phi : (is : List PlainInst) (n : ℕ) (i : PlainInst) → slice_get is n ≡ Some i → i.opcode ≡ 245 → IsRuleAt is n A2
-rule_phi is n i there e = record { phi = λ p. refl; other = λ not. absurd (not (op_holds is n i is_phi there (eq-eqb i.opcode 245 e))) }
+pub rule_phi : (is : List PlainInst) (n : ℕ) (i : PlainInst) → slice_get is n ≡ Some i → i.opcode ≡ opcode.PHI → IsRuleAt is n A2
+rule_phi is n i there e = record { phi = λ p. refl; other = λ not. absurd (not (op_holds is n i is_phi there (eq-eqb i.opcode opcode.PHI e))) }
 
-pub rule_other : (is : List PlainInst) (n : ℕ) (i : PlainInst) → slice_get is n ≡ Some i → (i.opcode ≡ 245 → ⊥) → IsRuleAt is n A1
-rule_other is n i there isnt = record { phi = λ p. absurd (isnt (eqb-true i.opcode 245 (op_tells is n i is_phi there p))); other = λ not. refl }
+pub rule_other : (is : List PlainInst) (n : ℕ) (i : PlainInst) → slice_get is n ≡ Some i → (i.opcode ≡ opcode.PHI → ⊥) → IsRuleAt is n A1
+rule_other is n i there isnt = record { phi = λ p. absurd (isnt (eqb-true i.opcode opcode.PHI (op_tells is n i is_phi there p))); other = λ not. refl }
 
-broken_unavailable : (G : Table) (is : List PlainInst) (q : Rule) (n : ℕ) → stage_of q ≡ 7 → Broken G is q n → IsUnavailableAt G is n
+broken_unavailable : (G : Table) (is : List PlainInst) (q : Rule) (n : ℕ) → stage_of q ≡ of_values → Broken G is q n → IsUnavailableAt G is n
 broken_unavailable G is _ _ s (Broken.no_label n k x op used none) = absurd (omega (arith, s))
 broken_unavailable G is _ _ s (Broken.to_entry n x m target d e) = absurd (omega (arith, s))
 broken_unavailable G is _ _ s (Broken.parents n phi not) = absurd (omega (arith, s))
@@ -122,11 +124,11 @@ broken_unavailable G is _ _ s (Broken.same_labels n x op u w) = absurd (omega (a
 broken_unavailable G is _ _ s (Broken.missing n m) = inl m
 broken_unavailable G is _ _ s (Broken.pair_missing n m) = inr m
 
-unavailable_broken : (G : Table) (is : List PlainInst) (r : Rule) (n : ℕ) → IsRuleAt is n r → IsUnavailableAt G is n → (stage_of r ≡ 7) × Broken G is r n
+unavailable_broken : (G : Table) (is : List PlainInst) (r : Rule) (n : ℕ) → IsRuleAt is n r → IsUnavailableAt G is n → (stage_of r ≡ of_values) × Broken G is r n
 unavailable_broken G is r n at (inl m) = (let e = at.other m.other in rw e (refl, Broken.missing n m))
 unavailable_broken G is r n at (inr m) = (let e = at.phi m.phi in rw e (refl, Broken.pair_missing n m))
 
-rank_first : (G : Table) (is : List PlainInst) (r q : Rule) (n : ℕ) → IsRuleAt is n r → stage_of q ≡ 7 → Broken G is q n → rank_of r ≤ rank_of q
+rank_first : (G : Table) (is : List PlainInst) (r q : Rule) (n : ℕ) → IsRuleAt is n r → stage_of q ≡ of_values → Broken G is q n → rank_of r ≤ rank_of q
 rank_first G is r _ _ at s (Broken.no_label n k x op used none) = absurd (omega (arith, s))
 rank_first G is r _ _ at s (Broken.to_entry n x m target d e) = absurd (omega (arith, s))
 rank_first G is r _ _ at s (Broken.parents n phi not) = absurd (omega (arith, s))
@@ -134,10 +136,10 @@ rank_first G is r _ _ at s (Broken.same_labels n x op u w) = absurd (omega (arit
 rank_first G is r _ _ at s (Broken.missing n m) = (let e = at.other m.other in rw e (omega arith))
 rank_first G is r _ _ at s (Broken.pair_missing n m) = (let e = at.phi m.phi in rw e (omega arith))
 
-pub unbroken_by : (G : Table) (is : List PlainInst) → IsFirstOf G is None → IsUnbroken (Broken G is) 7
+pub unbroken_by : (G : Table) (is : List PlainInst) → IsFirstOf G is None → IsUnbroken (Broken G is) of_values
 unbroken_by G is none = λ r n s b. none n (broken_unavailable G is r n s b)
 
-first_broken : (G : Table) (is : List PlainInst) (r : Rule) (n : ℕ) → IsRuleAt is n r → IsFirstOf G is (Some n) → IsFirst (Broken G is) 7 r n
+first_broken : (G : Table) (is : List PlainInst) (r : Rule) (n : ℕ) → IsRuleAt is n r → IsFirstOf G is (Some n) → IsFirst (Broken G is) of_values r n
 first_broken G is r n at first = record {
   of_stage = (unavailable_broken G is r n at first.0).0;
   broken = (unavailable_broken G is r n at first.0).1;
@@ -150,8 +152,8 @@ first_broken G is r n at first = record {
 pub told : (G : Table) (is : List PlainInst) (r : Rule) (n : ℕ) (stop : Stop) → IsRuleAt is n r → IsFirstOf G is (Some n) → IsStopAt is r n stop → IsRefusal G is stop
 told G is r n Memory at first h = absurd h
 told G is r n (Fault f) at first (e, where_at, word) =
-    let one : IsFirst (Broken G is) 7 f.rule n = subst (λ (q : Rule). IsFirst (Broken G is) 7 q n) (sym e) (first_broken G is r n at first) in
-    (subst (λ (m : ℕ). IsFirst (Broken G is) 7 f.rule m) (sym where_at) one, word ∙ ap (first_word_of is) (sym where_at))
+    let one : IsFirst (Broken G is) of_values f.rule n = subst (λ (q : Rule). IsFirst (Broken G is) of_values q n) (sym e) (first_broken G is r n at first) in
+    (subst (λ (m : ℕ). IsFirst (Broken G is) of_values f.rule m) (sym where_at) one, word ∙ ap (first_word_of is) (sym where_at))
 
 -- an instruction at which a value is unavailable is there
 pub unavailable_there : (G : Table) (is : List PlainInst) (n : ℕ) → IsUnavailableAt G is n → n < length is

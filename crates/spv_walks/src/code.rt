@@ -1,6 +1,7 @@
 //! The instructions that are looked at, with their places and ids.
 
 ghost use Rattle.std.specs.Prelude.{◌≡◌, ◌&&◌, nat_le, is_some};
+ghost use Rattle.spv_module.specs.declared.opcode.TheConstants as opcode;
 ghost use Rattle.spv_branches.specs.Target as target;
 ghost use Rattle.spv_branches.specs.inner.Target as opcodes;
 ghost use Rattle.spv_module.specs.Module.{plain_operands};
@@ -8,6 +9,7 @@ ghost use Rattle.spv_module.specs.Operand as operand;
 
 use spv_ids::Ids;
 use spv_layout::Plan;
+use spv_module::opcode::{BRANCH, LABEL, RETURN, SWITCH, UNREACHABLE};
 use spv_module::{Inst, Operand};
 
 /// The instructions of a module, with what `lay_out` and `number` answered of it.
@@ -104,36 +106,25 @@ pub fn has_type(operands: &[Operand<'_>]) -> bool
     false
 }
 
-/// The opcodes of OpFunction, OpFunctionEnd, OpPhi, OpLabel and OpBranch.
-pub const FUNCTION: u16 = 54;
-
-pub const FUNCTION_END: u16 = 56;
-
-pub const PHI: u16 = 245;
-
-pub const LABEL: u16 = 248;
-
-pub const BRANCH: u16 = 249;
-
 /// Whether an opcode is that of a terminator with labels: OpBranch, OpBranchConditional or OpSwitch.
 #[inline(always)]
 pub fn is_branch(opcode: u16) -> bool
     ensures { result ≡ target.is_branch opcode }
 {
-    249 <= opcode && opcode <= 251
+    BRANCH <= opcode && opcode <= SWITCH
 }
 
 /// Whether an opcode is that of an OpLabel or of a terminator with labels.
 #[inline(always)]
-pub fn is_label_or_branch(opcode: u16) -> bool
-    ensures { result ≡ nat_le 248 opcode && nat_le opcode 251 }
+pub fn is_label_or_branch(code: u16) -> bool
+    ensures { result ≡ nat_le opcode.LABEL code && nat_le code opcode.SWITCH }
 {
-    248 <= opcode && opcode <= 251
+    LABEL <= code && code <= SWITCH
 }
 
 /// Whether an opcode is that of a terminator: a branch, OpReturn, OpReturnValue or OpUnreachable.
 pub fn is_terminator(opcode: u16) -> bool
     ensures { result ≡ opcodes.is_terminator opcode }
 {
-    is_branch(opcode) || (253 <= opcode && opcode <= 255)
+    is_branch(opcode) || (RETURN <= opcode && opcode <= UNREACHABLE)
 }

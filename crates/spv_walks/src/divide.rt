@@ -1,6 +1,7 @@
 //! Functions divided into blocks.
 
 ghost use Rattle.std.specs.Prelude.{◌≡◌, ◌<◌, ◌≤◌, ℕ, false, length, map, OnOk, MatchBool};
+ghost use Rattle.spv_layout.specs.Place.{AreFew};
 ghost use Rattle.spv_table.specs.Table.{Table};
 ghost use Rattle.spv_module.specs.Module.{plain_inst};
 ghost use Rattle.spv_branches.specs.Target.{IsOp};
@@ -10,8 +11,9 @@ ghost use Rattle.spv_walks.specs.inner.Code.{insts_of, IsCode};
 ghost use Rattle.spv_walks.specs.inner.Divided.{IsBegin};
 ghost use Rattle.spv_walks.specs.inner.Starts.{IsExtent, IsLaid};
 
-use crate::code::{Code, FUNCTION, FUNCTION_END, LABEL, PHI, is_terminator};
+use crate::code::{Code, is_terminator};
 use spv_module::Inst;
+use spv_module::opcode::{FUNCTION, FUNCTION_END, LABEL, PHI};
 use std::alloc::AllocError;
 
 /// How far a function goes.
@@ -74,7 +76,7 @@ pub fn divide(
 ) -> Result<(), AllocError>
     requires extent { IsExtent (insts_of code.now) function end }
     requires count { length numbers.old ≡ length code.now.insts.now }
-    requires most { length code.now.insts.now ≤ 4194304 }
+    requires most { AreFew code.now.insts.now }
     ensures { OnOk result (IsLaid (insts_of code.now) function end starts.new.items numbers.new) }
 {
     starts.clear();

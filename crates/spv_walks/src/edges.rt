@@ -4,7 +4,7 @@ ghost use Rattle.std.specs.Prelude.{◌≡◌, ◌<◌, ◌≤◌, ◌+◌, ◌-
 ghost use Rattle.std.specs.Prelude.{OnOk, MatchOption};
 ghost use Rattle.spv_table.specs.Table.{Table};
 ghost use Rattle.spv_module.specs.Operand.{PlainInst};
-ghost use Rattle.spv_layout.specs.Place.{IsOfFunction};
+ghost use Rattle.spv_layout.specs.Place.{IsOfFunction, AreFew};
 ghost use Rattle.spv_branches.specs.Target as target;
 ghost use Rattle.spv_branches.specs.Target.{IsOp};
 ghost use Rattle.spv_walks.specs.inner.Code.{insts_of, IsCode};
@@ -86,7 +86,7 @@ fn add_targets(
 ) -> Result<(), AllocError>
     requires blocks { AreBlocks (insts_of code.now) blocks.now }
     requires block { block + 1 < length blocks.now.starts.now }
-    requires most { length code.now.insts.now ≤ 4194304 }
+    requires most { AreFew code.now.insts.now }
     ensures { OnOk result (AddsBy code.now (λ G c. LeadsTo G (insts_of code.now) blocks.now.starts.now block c)
         targets.old.items targets.new.items) }
 {
@@ -105,7 +105,7 @@ fn add_targets(
 pub fn build(code: &Code<'_, '_>, blocks: &Blocks<'_>, graph: &mut Graph) -> Result<(), AllocError>
     requires code { (G : Table) × IsCode G code.now }
     requires blocks { AreBlocks (insts_of code.now) blocks.now }
-    requires most { length code.now.insts.now ≤ 4194304 }
+    requires most { AreFew code.now.insts.now }
     ensures { OnOk result (AreInGraph code.now blocks.now.starts.now graph.new (length blocks.now.starts.now - 1)) }
 {
     graph.blocks.clear();

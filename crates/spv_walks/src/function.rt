@@ -1,6 +1,7 @@
 //! The first use of a value that some walk of a function misses.
 
 ghost use Rattle.std.specs.Prelude.{◌≡◌, ◌≤◌, ◌<◌, ℕ, false, length, OnOk, IfOk};
+ghost use Rattle.spv_layout.specs.Place.{AreFew};
 ghost use Rattle.spv_table.specs.Table.{Table};
 ghost use Rattle.spv_branches.specs.Target as target;
 ghost use Rattle.spv_branches.specs.Target.{IsOp};
@@ -57,7 +58,7 @@ fn first_in_blocks(
     requires blocks { AreBlocks (insts_of code.now) blocks.now }
     requires phis { has_phis ≡ false → (n : ℕ) → blocks.now.function ≤ n → n < blocks.now.end
         → ¬ (IsOp (insts_of code.now) n target.is_phi) }
-    requires most { length code.now.insts.now ≤ 4194304 }
+    requires most { AreFew code.now.insts.now }
     ensures { IfOk result (λ o. (G : Table) → IsCode G code.now
         → IsFirstIn G (insts_of code.now) blocks.now.function o) }
 {
@@ -83,7 +84,7 @@ pub fn first_in_function(
     requires phis { extent.has_phis ≡ false → (n : ℕ) → function ≤ n → n < extent.end
         → ¬ (IsOp (insts_of code.now) n target.is_phi) }
     requires count { length buffers.old.numbers.items ≡ length code.now.insts.now }
-    requires most { length code.now.insts.now ≤ 4194304 }
+    requires most { AreFew code.now.insts.now }
     ensures count { OnOk result (length buffers.new.numbers.items ≡ length code.now.insts.now) }
     ensures first { IfOk result (λ o. (G : Table) → IsCode G code.now
         → IsFirstIn G (insts_of code.now) function o) }

@@ -4,6 +4,7 @@ ghost use Rattle.std.specs.Prelude.{◌≡◌, ◌↔◌, ◌≤◌, ◌<◌, �
 ghost use Rattle.std.specs.Prelude.{length, slice_index, Contains};
 ghost use Rattle.spv_table.specs.Table.{Table};
 ghost use Rattle.spv_module.specs.Operand.{PlainInst};
+ghost use Rattle.spv_layout.specs.Stage.{of_values};
 ghost use Rattle.spv_layout.specs.First.{IsUnbroken};
 ghost use Rattle.spv_ids.specs.Definition.{IsDefinedAt};
 ghost use Rattle.spv_graphs.specs.declared.graph.Graph.{Graph};
@@ -45,7 +46,7 @@ pub fn pairs_query_parents()
 
 /// Neither A1 nor A2 is broken, at any instruction, exactly where every instruction is ready.
 pub fn all_ready()
-    ensures { (G : Table) (is : List PlainInst) → IsUnbroken (Broken G is) 7 ↔ ((n : ℕ) → IsReady G is n) }
+    ensures { (G : Table) (is : List PlainInst) → IsUnbroken (Broken G is) of_values ↔ ((n : ℕ) → IsReady G is n) }
 {}
 
 /// A function of two blocks: OpFunction, the first block's OpLabel and its branch, the second's OpLabel and OpReturn.

@@ -2,7 +2,9 @@
 
 ghost use Rattle.std.specs.Prelude.{◌≡◌, ◌<◌, ◌≤◌, ◌+◌, ℕ, Some, nat_le, ◌&&◌, length};
 ghost use Rattle.std.specs.Prelude.{slice_get, option_and_then, OnOk, IfSome, MatchOption, MatchBool};
+ghost use Rattle.spv_layout.specs.Place.{AreFew};
 ghost use Rattle.spv_table.specs.Table.{Table};
+ghost use Rattle.spv_module.specs.declared.opcode.TheConstants as opcode;
 ghost use Rattle.spv_module.specs.Operand.{PlainInst};
 ghost use Rattle.spv_graphs.specs.declared.queries.Query as declared;
 ghost use Rattle.spv_ids.specs.Definition.{IsDefinedAt};
@@ -16,10 +18,11 @@ ghost use Rattle.spv_walks.specs.inner.Leading.{AreBlocks};
 ghost use Rattle.spv_walks.specs.inner.Due.{IsFoundAt, IsPairedAt, IsUseQuery, IsPairQuery, HasUseQuery, HasPairQuery};
 ghost use Rattle.spv_walks.specs.inner.Due.{IsQueryAt, IsQueryIn, IsQuery};
 
-use crate::code::{BRANCH, Code, LABEL, PHI, has_type, is_label_or_branch};
+use crate::code::{Code, has_type, is_label_or_branch};
 use crate::edges::{Blocks, target};
 use crate::operands::{other_id, other_id_in, used, value};
 use spv_graphs::Query;
+use spv_module::opcode::{BRANCH, LABEL, PHI};
 use std::alloc::AllocError;
 
 /// Where the id is defined that operand `n` of an instruction uses, if it uses one that is defined. Of an operand that
@@ -164,7 +167,7 @@ fn add_first_use(
     requires blocks { AreBlocks (insts_of code.now) blocks.now }
     requires block { block + 1 < length blocks.now.starts.now }
     requires at { at < length code.now.insts.now }
-    requires op { IsOp (insts_of code.now) at (λ n. nat_le 248 n && nat_le n 251) }
+    requires op { IsOp (insts_of code.now) at (λ n. nat_le opcode.LABEL n && nat_le n opcode.SWITCH) }
     ensures { OnOk result (AddsBy code.now (λ G a. HasUseQuery G (insts_of code.now) blocks.now.starts.now block at a)
         queries.old.items queries.new.items) }
 {
@@ -257,7 +260,7 @@ pub fn add_all(
 ) -> Result<(), AllocError>
     requires code { (G : Table) × IsCode G code.now }
     requires blocks { AreBlocks (insts_of code.now) blocks.now }
-    requires most { length code.now.insts.now ≤ 4194304 }
+    requires most { AreFew code.now.insts.now }
     ensures { OnOk result (AddsBy code.now (λ G a. IsQuery G (insts_of code.now) blocks.now.starts.now a)
         queries.old.items queries.new.items) }
 {

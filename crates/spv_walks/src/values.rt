@@ -4,8 +4,9 @@ ghost use Rattle.std.specs.Prelude.{◌≤◌, ◌<◌, ◌+◌, ℕ, List, leng
 ghost use Rattle.spv_table.specs.Table.{Table};
 ghost use Rattle.spv_module.specs.Module.{plain_inst, plain_insts};
 ghost use Rattle.spv_module.specs.Operand.{PlainInst};
+ghost use Rattle.spv_layout.specs.Stage.{of_branches, of_values};
 ghost use Rattle.spv_layout.specs.First.{IsUnbroken};
-ghost use Rattle.spv_layout.specs.Place.{word_count};
+ghost use Rattle.spv_layout.specs.Place.{word_count, IsShort, AreFew};
 ghost use Rattle.spv_layout.specs.Plan.{IsPlan};
 ghost use Rattle.spv_ids.specs.Outcome.{AreIds};
 ghost use Rattle.spv_ids.specs.inner.Outcome.{IsStopAt};
@@ -16,17 +17,18 @@ ghost use Rattle.spv_walks.specs.inner.Code.{insts_of, IsCode};
 ghost use Rattle.spv_walks.specs.Found.{IsRefusal};
 ghost use Rattle.spv_walks.specs.inner.Unavailable.{IsFirstOf, IsRuleAt};
 
-use crate::code::{Code, FUNCTION, PHI};
+use crate::code::Code;
 use crate::divide::function_extent;
 use crate::function::{Buffers, first_in_function};
 use spv_ids::Ids;
 use spv_layout::Plan;
+use spv_module::opcode::{FUNCTION, PHI};
 use spv_module::{Fault, Inst, Module, Rule, Stop};
 use std::alloc::{AllocError, Global};
 
 /// How many instructions stand before the first OpFunction.
 pub fn count_globals(insts: &[Inst<'_>]) -> u32
-    requires { length insts.now ≤ 4194304 }
+    requires { AreFew insts.now }
     ensures { (k : ℕ) → k < result → ¬ (IsOp (map plain_inst insts.now) k opcodes.is_function) }
 {
     for at in 0..insts.len() {
@@ -40,7 +42,7 @@ pub fn count_globals(insts: &[Inst<'_>]) -> u32
 /// The first instruction at which a walk misses a value that is used there.
 fn first_missing(alloc: Global, code: &Code<'_, '_>) -> Result<Option<u32>, AllocError>
     requires code { (G : Table) × IsCode G code.now }
-    requires most { length code.now.insts.now ≤ 4194304 }
+    requires most { AreFew code.now.insts.now }
     ensures { IfOk result (λ o. (G : Table) → IsCode G code.now → IsFirstOf G (insts_of code.now) o) }
 {
     let mut buffers = Buffers::new(alloc, code.insts.len())?;
@@ -103,17 +105,17 @@ fn stop_at(plan: &Plan, rule: Rule, inst: u32) -> Stop
 pub fn check_values(alloc: Global, module: &Module<'_>, plan: &Plan, ids: &Ids) -> Result<(), Stop>
     // The condition of `lay_out`, and that the plan and the ids are what was answered, by some table, of a module whose
     // branches are sound.
-    requires words { 5 + sum_by word_count (plain_insts «module».now) ≤ 4194304 }
+    requires words { IsShort (plain_insts «module».now) }
     requires known { (G : Table) × IsPlan G (plain_insts «module».now) plan.now
         × AreIds G «module».now.header.bound (plain_insts «module».now) ids.now
-        × IsUnbroken (Broken G (plain_insts «module».now)) 6 }
+        × IsUnbroken (Broken G (plain_insts «module».now)) of_branches }
     ensures unbroken { (G : Table) → IsPlan G (plain_insts «module».now) plan.now
         → AreIds G «module».now.header.bound (plain_insts «module».now) ids.now
-        → IsUnbroken (Broken G (plain_insts «module».now)) 6
-        → IfOk result (λ _. IsUnbroken (Broken G (plain_insts «module».now)) 7) }
+        → IsUnbroken (Broken G (plain_insts «module».now)) of_branches
+        → IfOk result (λ _. IsUnbroken (Broken G (plain_insts «module».now)) of_values) }
     ensures refused { (G : Table) → IsPlan G (plain_insts «module».now) plan.now
         → AreIds G «module».now.header.bound (plain_insts «module».now) ids.now
-        → IsUnbroken (Broken G (plain_insts «module».now)) 6
+        → IsUnbroken (Broken G (plain_insts «module».now)) of_branches
         → IfErr result (λ s. IsRefusal G (plain_insts «module».now) s) }
 {
     let insts = module.insts.as_slice();

@@ -4,7 +4,7 @@ use Rattle.spv_words.proofs.Groups.{length-words_of}
 use Rattle.spv_words.proofs.Standing.{words-stand}
 use Rattle.spv_words.specs.declared.words.Order.TheVariants.{Little}
 use Rattle.spv_words.specs.Words.{words_of}
-use Rattle.spv_words.specs.Header.{IsHeader, IsImage}
+use Rattle.spv_words.specs.Header.{IsHeader, IsImage, greatest_length}
 
 -- the words of bytes joined
 pub words_of-append : (x y : List ℕ) → length x % 4 ≡ 0 → words_of Little (x ++ y) ≡ words_of Little x ++ words_of Little y
@@ -32,7 +32,7 @@ unpushed (Ok x) old new ys words v i = tt
 unpushed (Err x) old new ys words v i = rw i v
 
 -- the bytes of a header and of no more words than a module has are an image's
-pub finished : (bs words : List ℕ) → All (λ b. b < 256) bs → length bs % 4 ≡ 0 → words_of Little bs ≡ words → IsHeader words → length words ≤ 4194304 → IsImage bs
+pub finished : (bs words : List ℕ) → All (λ b. b < 256) bs → length bs % 4 ≡ 0 → words_of Little bs ≡ words → IsHeader words → length words ≤ greatest_length → IsImage bs
 finished bs words o g v h l =
     let n = length-words_of Little bs in
     let m : length (words_of Little bs) ≡ length words = ap length v in

@@ -22,6 +22,10 @@ greatest_bound = 4194303
 abbrev pub greatest_size : ℕ
 greatest_size = 16777216
 
+-- The greatest number of words of a module. [own]
+abbrev pub greatest_length : ℕ
+greatest_length = 4194304
+
 -- The words begin with a header: the magic number, the version, any generator, a bound that fits, and 0.
 -- [2.3; the version and the greatest bound own]
 pub record IsHeader (words : List ℕ) : Type 0 where

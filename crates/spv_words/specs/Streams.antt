@@ -18,7 +18,7 @@ pub record GaveAtMost (n : ℕ) (old : List ℕ) (new : Option (List ℕ)) : Typ
   pub most : given ≤ n
   pub rest : new ≡ Some (drop given old)
 
--- How reading stops before the end of input: by a failed read, by too many bytes or for want of memory.
+-- How reading stops before the end of input: by a failed read, by too many bytes or because memory ran out.
 abbrev pub IsStop : WordError → Type 0
 IsStop code.W1 = Unit {0}
 IsStop code.W8 = Unit {0}

@@ -1,6 +1,6 @@
 ghost use Rattle.std.specs.Prelude.{◌≡◌, ◌≤◌, ◌<◌, ◌^◌, ◌++◌, ◌∷◌, [], length, All};
 ghost use Rattle.std.specs.Prelude.{OnErr, OnOk};
-ghost use Rattle.spv_words.specs.Header.{IsHeader};
+ghost use Rattle.spv_words.specs.Header.{IsHeader, greatest_length};
 
 use crate::image::Image;
 use byteorder::{ByteOrder, LittleEndian};
@@ -69,7 +69,7 @@ impl Draft {
     /// most 4,194,304. It takes no memory.
     pub fn finish(self) -> Image
         requires header { IsHeader self }
-        requires size { length self ≤ 4194304 }
+        requires size { length self ≤ greatest_length }
         ensures { result ≡ self }
     {
         let bytes = self.bytes;

@@ -1,6 +1,6 @@
 ghost use Rattle.std.specs.Prelude.{◌≡◌, ◌≤◌, ◌<◌, ◌*◌, ◌^◌, length, slice_index, All};
 ghost use Rattle.spv_words.specs.Words.{words_of, StandFor};
-ghost use Rattle.spv_words.specs.Header.{IsHeader, IsImage};
+ghost use Rattle.spv_words.specs.Header.{IsHeader, IsImage, greatest_length};
 ghost use Rattle.spv_words.specs.declared.words.Order.TheVariants.{Little};
 
 use crate::order::word_in;
@@ -61,7 +61,7 @@ impl Image {
     pub fn len(&self) -> u32
         ensures words { result ≡ length self.now }
         ensures least { 5 ≤ length self.now }
-        ensures most { length self.now ≤ 4194304 }
+        ensures most { length self.now ≤ greatest_length }
         ensures fit { All (λ w. w < 2 ^ 32) self.now }
     {
         (self.bytes.len() / 4) as u32

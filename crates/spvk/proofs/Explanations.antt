@@ -1,8 +1,8 @@
 -- What an explanation is for C.
 use Rattle.std.proofs.Common.{◌≡◌, ◌++◌, ℕ, List, Some, string_bytes}
 use Rattle.spv_table.specs.Table.{Table}
-use Rattle.spv_reasons.specs.Stream.{IsExplanation}
-use Rattle.spv_reasons.specs.declared.stream.Explanation.{Explanation}
+use Rattle.spv_explain.specs.Stream.{IsExplanation}
+use Rattle.spv_explain.specs.declared.stream.Explanation.{Explanation}
 use Rattle.spv_verdict.specs.Text.{line_of}
 use Rattle.spvk.specs.Explain.{IsExplaining}
 use Rattle.spvk.specs.Numbers.{numbers_of}

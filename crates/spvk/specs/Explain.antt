@@ -2,7 +2,7 @@
 use Rattle.std.specs.Prelude.{◌≡◌, ◌++◌, ℕ, List, Some}
 use Rattle.spv_table.specs.Table.{Table}
 use Rattle.spv_verdict.specs.Verdict.{IsVerdict}
-use Rattle.spv_reasons.specs.Stream.{Explain, ExplainDead}
+use Rattle.spv_explain.specs.Stream.{Explain, ExplainDead}
 use Rattle.spvk.specs.Answer.{Tells}
 use Rattle.spvk.specs.declared.text.Text.{Text}
 use denote.RawPtr.{Ptr, block_ptr, null_ptr}

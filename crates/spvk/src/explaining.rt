@@ -11,7 +11,7 @@ use crate::buffer::Buffer;
 use crate::numbers::numbers;
 use crate::status::{MEMORY, NO_GRAMMAR, OK};
 use crate::text::Text;
-use spv_reasons::{Explanation, explain_bytes};
+use spv_explain::{Explanation, explain_bytes};
 use spv_table::{Memory, Table};
 use std::alloc::{AllocError, Global};
 use std::{mem, ptr};

@@ -5,8 +5,8 @@ ghost use Rattle.spvk.specs.Faults.{text_code_number};
 
 use crate::buffer::Buffer;
 use crate::collected::Collected;
+use spv_parser::{AsmCode, AsmError};
 use spv_table::Memory;
-use spv_text::{AsmCode, AsmError};
 use spv_words::{Image, Order, write_image};
 use std::alloc::Global;
 

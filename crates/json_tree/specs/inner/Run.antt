@@ -11,7 +11,8 @@ total (v ∷ vs) = suc v.0 + total vs
 -- the nodes are the values, whatever comes after them
 pub record IsRun (own : List Content) (vs : List (ℕ × Data)) : Type 0 where
   pub count : length own ≡ total vs
-  pub runs : (rest : List Content) (ws : List (ℕ × Data)) → values rest ≡ Some ws → values (own ++ rest) ≡ Some (vs ++ ws)
+  pub runs : (rest : List Content) (ws : List (ℕ × Data)) → values rest ≡ Some ws
+      → values (own ++ rest) ≡ Some (vs ++ ws)
 
 -- the nodes of one value were added
 pub record AddsOne (old : List Content) (d : Data) (new : List Content) : Type 0 where

@@ -44,7 +44,8 @@ IsStored source numbers texts stored.Null = Unit {0}
 IsStored source numbers texts (stored.Bool b) = Unit {0}
 IsStored source numbers texts (stored.Whole n) = Unit {0}
 IsStored source numbers texts (stored.Number i) = i < length numbers
-IsStored source numbers texts (stored.Near length start) = IsCharBoundary source start × IsCharBoundary source (start + length)
+IsStored source numbers texts (stored.Near length start) =
+    IsCharBoundary source start × IsCharBoundary source (start + length)
 IsStored source numbers texts (stored.Far i) = i < length texts
 IsStored source numbers texts (stored.Array n) = Unit {0}
 IsStored source numbers texts (stored.Object n) = Unit {0}

@@ -1,9 +1,10 @@
 //! Decoding, encoding and pushing, with each growth of memory refused in turn.
 
 use super::MOST;
+use spv_encode::{EncodeCode, EncodeError, encode};
 use spv_grammar::{FromGrammar, Table};
 use spv_inst::Operand::{Id, OfType, Result as Made, Text};
-use spv_inst::{EncodeCode, EncodeError, Inst, Memory, Module, Stop, decode, encode};
+use spv_inst::{Inst, Memory, Module, Stop, decode};
 use spv_samples::{
     CALL_OF_LATER_FUNCTION, Growths, LOAD_WITH_MASK, LOOP_WITH_PHI, PROFILE, SMALLEST_KERNEL, Told,
     image_of,
@@ -52,7 +53,7 @@ fn encode_refused(alloc: Global, table: &Table, image: &Image) -> Result<(), Fai
             Ok(again) if again.octets() == image.octets() => Told::Right,
             Err(
                 EncodeError {
-                    code: EncodeCode::N4,
+                    code: EncodeCode::Memory,
                     inst: 0,
                 },
             ) => Told::NoMemory,

@@ -1,13 +1,15 @@
 //! Showing and assembling, with each growth of memory refused in turn.
 
 use super::MOST;
+use spv_encode::{EncodeCode, EncodeError};
 use spv_grammar::{FromGrammar, Table};
-use spv_inst::{EncodeCode, EncodeError, Stop, decode};
+use spv_inst::{Stop, decode};
+use spv_parser::{AsmCode, AsmError, assemble};
+use spv_printer::{show, show_image};
 use spv_samples::{
     CALL_OF_LATER_FUNCTION, Growths, LOAD_WITH_MASK, LOOP_WITH_PHI, PROFILE, SMALLEST_KERNEL,
     Sample, Told, image_of,
 };
-use spv_text::{AsmCode, AsmError, assemble, show, show_image};
 use spv_words::Image;
 use std::alloc::Global;
 use std::test::Fail;
@@ -50,7 +52,7 @@ fn show_refused(alloc: Global, table: &Table, text: &str, image: &Image) -> Resu
             Ok(shown) if shown.as_str() == text => Told::Right,
             Err(
                 EncodeError {
-                    code: EncodeCode::N4,
+                    code: EncodeCode::Memory,
                     inst: 0,
                 },
             ) => Told::NoMemory,

@@ -7,6 +7,7 @@ use Rattle.spv_branches.specs.declared.edges.Edges.{Edges}
 use Rattle.spv_branches.specs.declared.faults.Targets.{Targets}
 use Rattle.spv_branches.specs.declared.faults.Targets.TheVariants.{Lacking, Entering, Sound}
 use Rattle.spv_module.specs.declared.fault.Rule.{Rule}
+use Rattle.spv_layout.specs.Stage.{of_branches}
 use Rattle.spv_layout.specs.declared.form.Role.TheVariants.{Label}
 use Rattle.spv_layout.specs.First.{stage_of, rank_of}
 use Rattle.spv_ids.specs.Definition.{IsDefinedAt, IsUsedAt}
@@ -99,6 +100,6 @@ pub record HasSameLabels (G : Table) (is : List PlainInst) (n : ℕ) : Type 0 wh
 -- Of the rules F the first that is broken at instruction n; none where none is.
 abbrev pub IsFirstAt : Table → List PlainInst → ℕ → Option Rule → Type 0
 IsFirstAt G is n o =
-    MatchOption o ((q : Rule) → stage_of q ≡ 6 → ¬ (Broken G is q n))
-    (λ r. (stage_of r ≡ 6) × Broken G is r n
-    × ((q : Rule) → stage_of q ≡ 6 → Broken G is q n → rank_of r ≤ rank_of q))
+    MatchOption o ((q : Rule) → stage_of q ≡ of_branches → ¬ (Broken G is q n))
+    (λ r. (stage_of r ≡ of_branches) × Broken G is r n
+    × ((q : Rule) → stage_of q ≡ of_branches → Broken G is q n → rank_of r ≤ rank_of q))

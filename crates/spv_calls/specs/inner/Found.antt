@@ -1,6 +1,7 @@
 -- What is gathered of a module. (For the code alone.)
 use Rattle.std.specs.Prelude.{◌≡◌, ◌<◌, ℕ, List, Option, Some, None, nat_eq, if◌then◌else◌, length}
 use Rattle.std.specs.Prelude.{slice_get}
+use Rattle.spv_module.specs.declared.opcode.TheConstants as opcode
 use Rattle.spv_module.specs.Operand.{Plain, PlainInst, Id}
 use Rattle.spv_layout.specs.declared.class.Class.{Class}
 use Rattle.spv_layout.specs.declared.place.Place.{Place}
@@ -8,11 +9,7 @@ use Rattle.spv_layout.specs.Layout.{classes}
 use Rattle.spv_layout.specs.Place.{IsOfFunction, IsDefinition, section_of}
 use Rattle.spv_layout.specs.Plan.{IsPlaceOf}
 use Rattle.spv_calls.specs.declared.graph.Call.{Call}
-use Rattle.spv_calls.specs.Calls.{entry_point, IsCall, IsEntryFunction}
-
--- the opcode of OpFunctionCall [3.49.9]
-abbrev pub function_call : ℕ
-function_call = 57
+use Rattle.spv_calls.specs.Calls.{IsCall, IsEntryFunction}
 
 -- the id that an operand is, if it is one other than a type or a result
 abbrev pub id_in : Option Plain → Option ℕ
@@ -21,11 +18,11 @@ id_in o = None
 
 -- the function that an OpFunctionCall calls
 abbrev pub callee_in : PlainInst → Option ℕ
-callee_in i = if nat_eq i.opcode function_call then id_in (slice_get i.operands 2) else None
+callee_in i = if nat_eq i.opcode opcode.FUNCTION_CALL then id_in (slice_get i.operands 2) else None
 
 -- the function that an OpEntryPoint names
 abbrev pub entry_in : PlainInst → Option ℕ
-entry_in i = if nat_eq i.opcode entry_point then id_in (slice_get i.operands 1) else None
+entry_in i = if nat_eq i.opcode opcode.ENTRY_POINT then id_in (slice_get i.operands 1) else None
 
 -- The places are those of the instructions.
 pub record ArePlaces (is : List PlainInst) (places : List Place) : Type 0 where

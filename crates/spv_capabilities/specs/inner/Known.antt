@@ -10,6 +10,7 @@ use Rattle.spv_capabilities.specs.declared.memo.Answer.TheVariants.{Unknown, Yes
 use Rattle.spv_capabilities.specs.declared.memo.Memo.{Memo}
 use Rattle.spv_table.specs.Table.{Table}
 use Rattle.spv_module.specs.Operand.{PlainInst}
+use Rattle.spv_module.specs.declared.opcode.TheConstants as opcode
 use Rattle.spv_capabilities.specs.inner.Subject.{Subject}
 use Rattle.spv_capabilities.specs.Capable.{IsCoveredValue, IsCoveredMask, IsCoveredOperand}
 use Rattle.spv_capabilities.specs.Asked.{IsCoveredEntry}
@@ -45,4 +46,5 @@ pub record AreCovered (G : Table) (is : List PlainInst) (i : PlainInst) : Type 0
 
 -- C1, M1, E1 or E2 speak of an opcode other than that of OpFunction, or it has a width or a count that C2 asks for
 abbrev pub is_asked_more : ℕ → Bool
-is_asked_more n = nat_eq n 14 || nat_eq n 15 || nat_eq n 16 || nat_eq n 21 || nat_eq n 22 || nat_eq n 23
+is_asked_more n = nat_eq n opcode.MEMORY_MODEL || nat_eq n opcode.ENTRY_POINT || nat_eq n opcode.EXECUTION_MODE
+    || nat_eq n opcode.TYPE_INT || nat_eq n opcode.TYPE_FLOAT || nat_eq n opcode.TYPE_VECTOR

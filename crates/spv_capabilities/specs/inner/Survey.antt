@@ -6,6 +6,7 @@ use Rattle.std.specs.Ordering.{nat_cmp}
 use Rattle.spv_table.specs.Lookups.{number_named}
 use Rattle.spv_module.specs.Operand.{PlainInst}
 use Rattle.spv_module.specs.Module.{plain_inst}
+use Rattle.spv_module.specs.declared.opcode.TheConstants as opcode
 use Rattle.spv_layout.specs.declared.place.Place.{Place}
 use Rattle.spv_layout.specs.Plan.{IsPlaceOf}
 use Rattle.spv_ids.specs.Definition.{IsDefinedAt}
@@ -37,7 +38,7 @@ pub record AreMarked (names : PlainInst → Option ℕ) (is : List PlainInst) (t
 pub record IsEntryBefore (is : List PlainInst) (to : ℕ) : Type 0 where
   pub place : ℕ
   pub below : place < to
-  pub there : HasOpcode is place 15
+  pub there : HasOpcode is place opcode.ENTRY_POINT
 
 -- This is gathered of the instructions before number `to`, where the kind LinkageType has that number.
 pub record AreGathered (linkage : Option ℕ) (is : List PlainInst) (to : ℕ) (g : Gathered) : Type 0 where

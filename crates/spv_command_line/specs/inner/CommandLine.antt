@@ -4,7 +4,7 @@ use Rattle.clap.specs.Words.{Row, Text, first_of}
 use Rattle.spv_command_line.specs.declared.command_line.Command.{Command}
 use Rattle.spv_command_line.specs.declared.command_line.Command.TheVariants.{Asm, Trace, Rules}
 use Rattle.spv_command_line.specs.declared.command_line.UseError.{UseError}
-use Rattle.spv_command_line.specs.declared.command_line.UseError.TheVariants.{U1, U2, U3, U4}
+use Rattle.spv_command_line.specs.declared.command_line.UseError.TheVariants.{NoCommand, Memory, Help, Version}
 use Rattle.spv_rules.specs.declared.rules.Code.{Code}
 use Rattle.spv_command_line.specs.Number.{AreNumbersOf, IsNumberOf}
 use Rattle.spv_command_line.specs.CommandLine.{IsCodeOf}
@@ -24,19 +24,19 @@ IsTraceOf rows g f (Ok (Trace grammar file function choices limit)) =
     × AreNumbersOf (first_of (codes "choices") rows) choices.items
     × IsNumberOf (first_of (codes "limit") rows) limit
 IsTraceOf rows g f (Ok _) = ⊥
-IsTraceOf rows g f (Err U1) = (function : ℕ) (choices : List ℕ) (limit : ℕ)
+IsTraceOf rows g f (Err NoCommand) = (function : ℕ) (choices : List ℕ) (limit : ℕ)
     → IsNumberOf (first_of (codes "function") rows) function
     → AreNumbersOf (first_of (codes "choices") rows) choices → IsNumberOf (first_of (codes "limit") rows) limit
     → ⊥
-IsTraceOf rows g f (Err U2) = Unit {0}
-IsTraceOf rows g f (Err U3) = ⊥
-IsTraceOf rows g f (Err U4) = ⊥
+IsTraceOf rows g f (Err Memory) = Unit {0}
+IsTraceOf rows g f (Err Help) = ⊥
+IsTraceOf rows g f (Err Version) = ⊥
 
 -- of these rows the command is `rules` with their code, or their word is no code's name
 abbrev pub IsRulesOf : List Row → Result Command UseError → Type 0
 IsRulesOf rows (Ok (Rules code)) = IsCodeOf (first_of (codes "code") rows) code
 IsRulesOf rows (Ok _) = ⊥
-IsRulesOf rows (Err U1) = (code : Option Code) → ¬ (IsCodeOf (first_of (codes "code") rows) code)
-IsRulesOf rows (Err U2) = ⊥
-IsRulesOf rows (Err U3) = ⊥
-IsRulesOf rows (Err U4) = ⊥
+IsRulesOf rows (Err NoCommand) = (code : Option Code) → ¬ (IsCodeOf (first_of (codes "code") rows) code)
+IsRulesOf rows (Err Memory) = ⊥
+IsRulesOf rows (Err Help) = ⊥
+IsRulesOf rows (Err Version) = ⊥

@@ -2,8 +2,8 @@
 use Rattle.std.specs.Prelude.{ℕ, List, Bool, true, false, Result, Ok, Err}
 use Rattle.spv_words.specs.declared.words.WordError.{WordError}
 use Rattle.spv_words.specs.declared.words.WordError.TheVariants.{W1, W9}
-use Rattle.spv_run.specs.declared.parts.TraceError.{TraceError}
-use Rattle.spv_run.specs.declared.parts.TraceError.TheVariants.{X1, X2}
+use Rattle.spv_verdict.specs.declared.run.parts.TraceError.{TraceError}
+use Rattle.spv_verdict.specs.declared.run.parts.TraceError.TheVariants.{NoEntry, Memory}
 use Rattle.spv_verdict.specs.declared.verdict_line.Judgment.TheVariants.{Refused}
 use Rattle.spv_verdict.specs.Text.{line_of}
 use Rattle.spv_commands.specs.Trace.{trace_text}
@@ -30,5 +30,5 @@ traced_refusal code = Ok (Line (Refused code))
 
 -- what the error of a trace is told as
 abbrev pub traced_stop : TraceError → RunError
-traced_stop X1 = trouble.NoEntry
-traced_stop X2 = trouble.Memory
+traced_stop NoEntry = trouble.NoEntry
+traced_stop Memory = trouble.Memory

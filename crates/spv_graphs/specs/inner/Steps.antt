@@ -1,6 +1,7 @@
 -- The steps of a search in breadth. (For the code alone.)
 use Rattle.std.specs.Prelude.{◌≡◌, ◌+◌, ◌≤◌, ◌<◌, ℕ, List, [], ◌∷◌, ◌++◌, Bool, false}
 use Rattle.std.specs.Prelude.{Some, Contains, length, count_by, nat_le, reverse, slice_get, slice_index_or, slice_set}
+use Rattle.spv_graphs.specs.Graph.{most_blocks}
 use Rattle.spv_graphs.specs.declared.edge.Edge.{Edge}
 use Rattle.spv_graphs.specs.declared.steps.Step.{Step}
 use Rattle.spv_graphs.specs.Way.{HasEdge}
@@ -40,7 +41,7 @@ pub data IsReached (edges : List Edge) (starts : List ℕ) (closed : List Bool) 
 -- Each start has level 0, and each node of a known level is reached. The fewer levels are known, the lower they are.
 pub record AreSteps (edges : List Edge) (starts : List ℕ) (closed : List Bool) (steps : List Step) : Type 0 where
   pub count : length steps ≡ length closed
-  pub few : length closed ≤ 4194304
+  pub few : length closed ≤ most_blocks
   pub begun : (k b : ℕ) → slice_get starts k ≡ Some b → level_of steps b ≡ 0
   pub reached : (b : ℕ) → level_of steps b < unknown → IsReached edges starts closed steps b
   pub low : (b : ℕ) → level_of steps b < unknown → level_of steps b + unknown_count steps < length closed

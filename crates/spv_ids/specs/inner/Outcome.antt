@@ -1,12 +1,2 @@
 -- What `number` answers of a module whose places are known. (For the code alone.)
-use Rattle.std.specs.Prelude.{◌≡◌, ℕ, List}
-use Rattle.spv_module.specs.Operand.{PlainInst}
-use Rattle.spv_module.specs.declared.fault.Rule.{Rule}
-use Rattle.spv_module.specs.declared.fault.Stop.{Stop}
-use Rattle.spv_module.specs.declared.fault.Stop.TheVariants.{Fault, Memory}
-use Rattle.spv_layout.specs.Place.{first_word_of}
-
--- The stop is the fault of the rule at the instruction and its first word.
-abbrev pub IsStopAt : List PlainInst → Rule → ℕ → Stop → Type 0
-IsStopAt is r n Memory = ⊥
-IsStopAt is r n (Fault f) = (f.rule ≡ r) × (f.inst ≡ n) × (f.word ≡ first_word_of is n)
+pub use Rattle.spv_layout.specs.inner.Outcome.{IsStopAt}

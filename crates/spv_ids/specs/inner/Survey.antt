@@ -4,7 +4,7 @@ use Rattle.spv_module.specs.Operand.{PlainInst}
 use Rattle.spv_module.specs.Module.{plain_inst}
 use Rattle.spv_layout.specs.declared.class.Class.TheVariants.{FunctionEnd}
 use Rattle.spv_layout.specs.declared.place.Place.{Place}
-use Rattle.spv_layout.specs.Place.{IsAt, IsOfSection}
+use Rattle.spv_layout.specs.Place.{IsAt, IsOfSection, AreFew}
 use Rattle.spv_layout.specs.Plan.{IsPlaceOf}
 use Rattle.spv_ids.specs.declared.survey.Survey.{Survey}
 use Rattle.spv_ids.specs.declared.survey.Site.{Site}
@@ -30,7 +30,7 @@ insts_of s = map plain_inst s.insts.now
 -- The survey is that of its instructions.
 pub record IsSurvey (s : Survey) : Type 0 where
   pub places : ArePlaces (insts_of s) s.plan.now
-  pub most : length s.insts.now ≤ 4194304
+  pub most : AreFew s.insts.now
   pub within : s.end ≤ length (insts_of s)
   pub firsts : AreFirst s.bound (insts_of s) s.end s.firsts.now
   pub later : AreLater (insts_of s) s.end (length (insts_of s)) s.later.now

@@ -3,14 +3,7 @@ use Rattle.std.specs.Prelude.{ℕ, Option, Some, None, Bool, false, not, ◌&&�
 use Rattle.std.specs.Prelude.{if◌then◌else◌, slice_get}
 use Rattle.std.specs.Option.{is_some}
 use Rattle.spv_module.specs.Operand.{Plain, PlainInst, Id}
-
--- the opcode of OpTypeStruct [3.49.6]
-abbrev pub type_struct : ℕ
-type_struct = 30
-
--- the opcode of OpTypeForwardPointer [3.49.6]
-abbrev pub type_forward_pointer : ℕ
-type_forward_pointer = 39
+use Rattle.spv_module.specs.declared.opcode.TheConstants as opcode
 
 -- whether a definition is lower
 abbrev pub lower_test : Option ℕ → ℕ → Bool
@@ -19,8 +12,8 @@ lower_test (Some m) n = nat_lt m n
 
 -- whether a use in a section, by an instruction of an opcode, may come before its definition
 abbrev pub early_test : ℕ → ℕ → Option ℕ → Bool
-early_test s opcode announced =
-    nat_eq s 11 && (nat_eq opcode type_forward_pointer || (nat_eq opcode type_struct && is_some announced))
+early_test s op announced =
+    nat_eq s 11 && (nat_eq op opcode.TYPE_FORWARD_POINTER || (nat_eq op opcode.TYPE_STRUCT && is_some announced))
 
 abbrev pub home_test : Option ℕ → ℕ → Bool
 home_test None f = false
@@ -37,4 +30,4 @@ id_in (Some (Id x)) = Some x
 id_in o = None
 
 abbrev pub announced_id : PlainInst → Option ℕ
-announced_id i = if nat_eq i.opcode type_forward_pointer then id_in (slice_get i.operands 0) else None
+announced_id i = if nat_eq i.opcode opcode.TYPE_FORWARD_POINTER then id_in (slice_get i.operands 0) else None

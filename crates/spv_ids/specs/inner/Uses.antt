@@ -2,14 +2,11 @@
 use Rattle.std.specs.Prelude.{◌≡◌, ◌<◌, ℕ, List, Option, Some, None, nat_eq, if◌then◌else◌, take}
 use Rattle.std.specs.Prelude.{slice_get}
 use Rattle.spv_module.specs.Operand.{Plain, PlainInst, OfType, Result, Id, result_in}
-
--- the opcode of OpExtInst
-abbrev pub ext_inst : ℕ
-ext_inst = 12
+use Rattle.spv_module.specs.declared.opcode.TheConstants as opcode
 
 -- the operands that rules look at: of an OpExtInst those up to its number, of any other instruction all
 abbrev pub seen : PlainInst → List Plain
-seen i = if nat_eq i.opcode ext_inst then take 4 i.operands else i.operands
+seen i = if nat_eq i.opcode opcode.EXT_INST then take 4 i.operands else i.operands
 
 -- the id that an operand uses
 abbrev pub used_id : Plain → Option ℕ

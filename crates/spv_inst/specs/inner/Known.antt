@@ -5,13 +5,14 @@ use Rattle.std.specs.BTreeMap.{get}
 use Rattle.spv_inst.specs.declared.definitions.Definition.{Definition}
 use Rattle.spv_inst.specs.declared.definitions.Definitions.{Definitions}
 use Rattle.spv_inst.specs.declared.reader.Known.{Known}
+use Rattle.spv_module.specs.declared.opcode.TheConstants.{TYPE_FLOAT}
 use Rattle.spv_module.specs.Operand.{PlainInst, Context, type_in}
 use Rattle.spv_module.specs.Width.{definition_of, declared_width, first_id}
 
--- what is kept of a definition: its first result type, whether it is a float type (OpTypeFloat has opcode 22), and the
+-- what is kept of a definition: its first result type, whether it is a float type (OpTypeFloat), and the
 -- width that it declares
 abbrev pub summary : PlainInst → Definition
-summary i = record { type_id = type_in i.operands; is_float = nat_eq i.opcode 22; width = declared_width i }
+summary i = record { type_id = type_in i.operands; is_float = nat_eq i.opcode TYPE_FLOAT; width = declared_width i }
 
 -- what is kept of an id: what stands at its place in the list, or where nothing does, what the map has
 abbrev pub or_far : Option Definition → Option Definition → Option Definition

@@ -83,7 +83,7 @@ fn trace_refused(alloc: Global, checked: &Checked<'_>) -> Result<(), Fail> {
         growths.end();
         let told = match &found {
             Ok(told) if told.steps.len() == 10 && told.ending == Ending::Finished => Told::Right,
-            Err(TraceError::X2) => Told::NoMemory,
+            Err(TraceError::Memory) => Told::NoMemory,
             _ => Told::Wrong,
         };
         if growths.are_through(told)? {

@@ -1,6 +1,6 @@
 -- What the fast way through a line's operands keeps and answers. (For the code alone.)
-use Rattle.std.specs.Prelude.{◌≡◌, ◌≤◌, ◌++◌, ◌∷◌, ℕ, List, Option, Some, None, true, false}
-use Rattle.std.specs.Prelude.{map, option_and_then, Result, IfOk, IfSome}
+use Rattle.std.specs.Prelude.{◌≡◌, ◌++◌, ◌∷◌, ℕ, List, Option, Some, None, true}
+use Rattle.std.specs.Prelude.{map, Result, IfOk, IfSome}
 use Rattle.std.specs.declared.alloc.AllocError.{AllocError}
 use Rattle.spv_table.specs.declared.table.Item.{Item}
 use Rattle.spv_table.specs.Table.{Table, kind_of}
@@ -12,9 +12,8 @@ use Rattle.spv_inst.specs.inner.Known.{Knows}
 use Rattle.spv_inst.specs.inner.Pending.{settled, due_first, items_of}
 use Rattle.spv_module.specs.Operand.{Plain, PlainInst, Context, result_in, type_in}
 use Rattle.spv_module.specs.Shape.{Slot, alone}
-use Rattle.spv_module.specs.Width.{width_of}
 use Rattle.spv_inst.specs.Flat.{Due, OneOf, due}
-use Rattle.spv_lines.specs.Operand.{is_float_type}
+use Rattle.spv_tokens.specs.inner.Narrow.{IsNarrow}
 use Rattle.spv_parser.specs.declared.fast.Start.{Start}
 use Rattle.spv_parser.specs.declared.fast.Taken.{Taken}
 use Rattle.spv_parser.specs.declared.operands.Known.{Known}
@@ -51,13 +50,6 @@ abbrev pub TakesFast : Table → ℕ → List ℕ → Result (Option Taken) Allo
     → List ℕ → List ℕ → Type 0
 TakesFast G kind t result old new = (line : Line) (c : Context) → Has line c.operands
     → Took G line c kind t result old new
-
--- An id is that of a type of at most 32 bits that is no float: its numbers are one word, and stand in decimal.
-pub record IsNarrow (before : List PlainInst) (type_id : Option ℕ) : Type 0 where
-  pub width : ℕ
-  pub least : width ≤ 32
-  pub is : option_and_then (width_of before) type_id ≡ Some width
-  pub no_float : is_float_type before type_id ≡ false
 
 -- So it is in each line whose result type is such a type.
 abbrev pub TakesNarrow : Table → ℕ → List ℕ → Result (Option Taken) AllocError

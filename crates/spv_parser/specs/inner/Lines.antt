@@ -4,7 +4,8 @@ use Rattle.std.specs.Prelude.{List, Some, true, length, slice_get}
 use Rattle.spv_table.specs.Table.{Table}
 use Rattle.spv_module.specs.Operand.{PlainInst}
 use Rattle.spv_module.specs.Instruction.{first_word}
-use Rattle.spv_inst.specs.Encoding.{greatest_count, greatest_length}
+use Rattle.spv_words.specs.Header.{greatest_length}
+use Rattle.spv_inst.specs.Limits.{greatest_count}
 use Rattle.spv_lines.specs.declared.asm_error.AsmCode.{AsmCode}
 use Rattle.spv_lines.specs.declared.asm_error.AsmCode.TheVariants.{S5, S6}
 use Rattle.spv_lines.specs.Digits.{is_number, IsLarge}

@@ -2,11 +2,12 @@
 use Rattle.std.specs.Prelude.{◌≡◌, ◌≢◌, ◌<◌, ◌≤◌, ◌+◌, ◌-◌, ◌++◌, ◌∷◌, [], ℕ}
 use Rattle.std.specs.Prelude.{suc, List}
 use Rattle.std.specs.Prelude.{Option, Some, None, Bool, true, false, is_some, IsUtf8, length, drop, map, take}
-use Rattle.std.specs.Prelude.{⊤, if◌then◌else◌, option_and_then, slice_index}
+use Rattle.std.specs.Prelude.{⊤, if◌then◌else◌, slice_index}
 use Rattle.std.specs.List.{AllByRecursion}
 use Rattle.spv_table.specs.declared.table.Enumerant.{Enumerant}
 use Rattle.spv_table.specs.declared.table.Item.{Item}
 use Rattle.spv_table.specs.Table.{Table, enumerant_of}
+use Rattle.spv_module.specs.declared.opcode.TheConstants.{SWITCH}
 use Rattle.spv_inst.specs.declared.definitions.Definitions.{Definitions}
 use Rattle.spv_inst.specs.inner.Known.{Knows}
 use Rattle.spv_inst.specs.inner.Pending.{items_of}
@@ -18,9 +19,9 @@ use Rattle.spv_inst.specs.inner.Reading.{between}
 use Rattle.spv_inst.specs.inner.Sofar.{Sofar}
 use Rattle.spv_module.specs.Shape.{AsText, Slot, alone, shape_of}
 use Rattle.spv_module.specs.Spelling.{Match, Takes}
-use Rattle.spv_module.specs.Width.{declared_width, width_of}
+use Rattle.spv_module.specs.Width.{declared_width}
 use Rattle.spv_lines.specs.Line.{IsShownLine}
-use Rattle.spv_lines.specs.Operand.{Shown, escaped, is_float, is_float_type, quoted, shown_operand}
+use Rattle.spv_lines.specs.Operand.{Shown, escaped, is_float, quoted, shown_operand}
 use Rattle.spv_lines.specs.Written.{Written}
 use Rattle.spv_printer.specs.declared.fast_operand.Draft.{Draft}
 use Rattle.spv_printer.specs.declared.fast_operand.Added.{Added}
@@ -49,13 +50,6 @@ IsShownAlike G c o = (s : Slot) (ws : List ℕ) (ss : List Slot) → Takes s.kin
 abbrev pub AreShownAlike : Table → Context → List Plain → Type 0
 AreShownAlike G c [] = ⊤
 AreShownAlike G c (o ∷ os) = IsShownAlike G c o × AreShownAlike G (and_then c o) os
-
--- An id is that of a type of at most 32 bits that is no float: its numbers are one word, and are shown in decimal.
-pub record IsNarrow (before : List PlainInst) (type_id : Option ℕ) : Type 0 where
-  pub width : ℕ
-  pub least : width ≤ 32
-  pub is : option_and_then (width_of before) type_id ≡ Some width
-  pub no_float : is_float_type before type_id ≡ false
 
 -- how many results there are
 abbrev pub results_of : List Plain → ℕ
@@ -96,14 +90,14 @@ pub record IsQuoted (words : List ℕ) (at end count : ℕ) (old new : List ℕ)
   pub within : count ≤ length words
   pub piece : IsTextAdded (quoted octets) at end old new
 
--- From place 128 on, a buffer has what operands have in their line, where their instruction is no OpSwitch (opcode 251)
+-- From place 128 on, a buffer has what operands have in their line, where their instruction is no OpSwitch
 -- and the definitions are those before it; what is kept of them is theirs.
 pub record AreDrafted (G : Table) (defined : Definitions) (os : List Plain) (d : Draft)
     (buffer : List ℕ) : Type 0 where
   pub low : 128 ≤ d.at
   pub within : d.at ≤ length buffer
   pub text : drop 128 (take d.at buffer) ≡ pieces_of G os
-  pub alike : (before : List PlainInst) (opcode : ℕ) → Knows defined before → opcode ≢ 251
+  pub alike : (before : List PlainInst) (opcode : ℕ) → Knows defined before → opcode ≢ SWITCH
       → AreShownAlike G (start before opcode) os
   pub result : result_in os ≡ d.result
   pub count : results_of os ≡ (if is_some d.result then 1 else 0)
@@ -161,7 +155,7 @@ pub record IsSpelled (G : Table) (defined : Definitions) (words : List ℕ) (pat
     (d : Draft) (buffer : List ℕ) : Type 0 where
   pub operands : List Plain
   pub characters : AreCharacters d buffer
-  pub line : (opcode : ℕ) → opcode ≢ 251
+  pub line : (opcode : ℕ) → opcode ≢ SWITCH
       → IsLineOf G defined (record { opcode = opcode; operands = operands }) d buffer
   pub matches : (before : List PlainInst) (opcode : ℕ) → Knows defined before
       → Match G (start before opcode) (items_of pattern) operands (between words first end)

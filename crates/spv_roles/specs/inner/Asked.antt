@@ -2,6 +2,7 @@
 use Rattle.std.specs.Prelude.{◌⊎◌, ℕ, List, [], ◌∷◌, Bool, Option, Some, None, nat_eq, nat_le, ◌&&◌}
 use Rattle.std.specs.Prelude.{◌||◌, if◌then◌else◌}
 use Rattle.spv_module.specs.Operand.{Plain, OfType, Id, Mask, PlainInst}
+use Rattle.spv_module.specs.declared.opcode.TheConstants as opcode
 use Rattle.spv_layout.specs.declared.form.Role.{Role}
 use Rattle.spv_layout.specs.declared.form.Role.TheVariants as role
 use Rattle.spv_roles.specs.declared.asked.Asked.{Asked}
@@ -13,34 +14,39 @@ ask first others masked = Some (record { first = first; others = others; masked 
 abbrev is_between : ℕ → ℕ → ℕ → Bool
 is_between a b n = nat_le a n && nat_le n b
 
--- of opcodes below 61
+-- of opcodes up to that of OpVariable
 abbrev pub early : ℕ → Option Asked
 early n =
-    if nat_eq n 44 || nat_eq n 51 || nat_eq n 59 then ask role.Value role.Value role.Any
-    else (if nat_eq n 23 || nat_eq n 30 || nat_eq n 32 || nat_eq n 33 || nat_eq n 39 || nat_eq n 54
+    if nat_eq n opcode.CONSTANT_COMPOSITE || nat_eq n opcode.SPEC_CONSTANT_COMPOSITE || nat_eq n opcode.VARIABLE
+    then ask role.Value role.Value role.Any
+    else (if nat_eq n opcode.TYPE_VECTOR || nat_eq n opcode.TYPE_STRUCT || nat_eq n opcode.TYPE_POINTER
+    || nat_eq n opcode.TYPE_FUNCTION || nat_eq n opcode.TYPE_FORWARD_POINTER || nat_eq n opcode.FUNCTION
     then ask role.OfType role.OfType role.OfType
-    else (if nat_eq n 28 then ask role.OfType role.Value role.Value
-    else (if nat_eq n 57 then ask role.Function role.Value role.Value
-    else (if nat_eq n 15 then ask role.Function role.Global role.Global
-    else (if nat_eq n 16 then ask role.Function role.Any role.Any
-    else (if nat_eq n 8 then ask role.Text role.Text role.Text
-    else (if nat_eq n 12 then ask role.Set role.Any role.Any
-    else (if nat_eq n 3 then None
+    else (if nat_eq n opcode.TYPE_ARRAY then ask role.OfType role.Value role.Value
+    else (if nat_eq n opcode.FUNCTION_CALL then ask role.Function role.Value role.Value
+    else (if nat_eq n opcode.ENTRY_POINT then ask role.Function role.Global role.Global
+    else (if nat_eq n opcode.EXECUTION_MODE then ask role.Function role.Any role.Any
+    else (if nat_eq n opcode.LINE then ask role.Text role.Text role.Text
+    else (if nat_eq n opcode.EXT_INST then ask role.Set role.Any role.Any
+    else (if nat_eq n opcode.SOURCE then None
     else ask role.Any role.Any role.Any))))))))
 
--- of those past 60 that are not between others
+-- of those past it that are not between others
 abbrev pub late : ℕ → Option Asked
 late n =
-    if nat_eq n 254 || nat_eq n 256 || nat_eq n 257 then ask role.Value role.Value role.Any
-    else (if nat_eq n 250 || nat_eq n 251 then ask role.Value role.Any role.Any
-    else (if nat_eq n 245 then None
+    if nat_eq n opcode.RETURN_VALUE || nat_eq n opcode.LIFETIME_START || nat_eq n opcode.LIFETIME_STOP
+    then ask role.Value role.Value role.Any
+    else (if nat_eq n opcode.BRANCH_CONDITIONAL || nat_eq n opcode.SWITCH then ask role.Value role.Any role.Any
+    else (if nat_eq n opcode.PHI then None
     else ask role.Any role.Any role.Any))
 
 abbrev pub asked_of : ℕ → Option Asked
 asked_of n =
-    if is_between 109 200 n || is_between 61 70 n || is_between 77 83 n || is_between 224 242 n
+    if is_between opcode.CONVERT_F_TO_U opcode.NOT n || is_between opcode.LOAD opcode.IN_BOUNDS_PTR_ACCESS_CHAIN n
+    || is_between opcode.VECTOR_EXTRACT_DYNAMIC opcode.COPY_OBJECT n
+    || is_between opcode.CONTROL_BARRIER opcode.ATOMIC_XOR n
     then ask role.Value role.Value role.Any
-    else (if nat_le n 60 then early n
+    else (if nat_le n opcode.VARIABLE then early n
     else late n)
 
 -- what is asked of an operand: of a type, and of an id that is due to play role d

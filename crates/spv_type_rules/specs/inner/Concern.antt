@@ -1,29 +1,25 @@
--- Which of the rules Y2 to Y8 speak of an opcode. (For the code alone.)
-use Rattle.std.specs.Prelude.{ℕ, nat_eq, nat_le, ◌||◌, if◌then◌else◌}
-use Rattle.spv_ops.specs.inner.Row.{is_between}
+-- Which of the rules Y2 to Y8, but for Y5, speak of an opcode. (For the code alone.)
+use Rattle.std.specs.Prelude.{ℕ, Bool, nat_eq, nat_le, ◌&&◌, ◌||◌, if◌then◌else◌}
+use Rattle.spv_module.specs.declared.opcode.TheConstants as opcode
 use Rattle.spv_type_rules.specs.declared.concern.Concern.{Concern}
 use Rattle.spv_type_rules.specs.declared.concern.Concern.TheVariants.{Declaration, Constant, Function, Return, Call}
-use Rattle.spv_type_rules.specs.declared.concern.Concern.TheVariants.{Operation, Nothing}
+use Rattle.spv_type_rules.specs.declared.concern.Concern.TheVariants.{Nothing}
 
--- from 248 on
-abbrev pub late_concern : ℕ → Concern
-late_concern n =
-    if nat_eq n 250 || nat_eq n 251 || nat_eq n 256 || nat_eq n 257 then Operation
-    else (if nat_eq n 253 || nat_eq n 254 then Return
-    else Nothing)
-
--- up to 57
-abbrev pub early_concern : ℕ → Concern
-early_concern n =
-    if nat_eq n 1 then Operation
-    else (if is_between 19 39 n then Declaration
-    else (if is_between 41 51 n then Constant
-    else (if nat_eq n 54 || nat_eq n 55 then Function
-    else (if nat_eq n 57 then Call
-    else Nothing))))
+-- from one number to another
+abbrev pub is_between : ℕ → ℕ → ℕ → Bool
+is_between a b n = nat_le a n && nat_le n b
 
 abbrev pub concern_of : ℕ → Concern
 concern_of n =
-    if is_between 58 247 n then Operation
-    else (if nat_le 248 n then late_concern n
-    else early_concern n)
+    if is_between opcode.TYPE_VOID opcode.TYPE_FORWARD_POINTER n then Declaration
+    else (if is_between opcode.CONSTANT_TRUE opcode.SPEC_CONSTANT_COMPOSITE n then Constant
+    else (if nat_eq n opcode.FUNCTION || nat_eq n opcode.FUNCTION_PARAMETER then Function
+    else (if nat_eq n opcode.FUNCTION_CALL then Call
+    else (if nat_eq n opcode.RETURN || nat_eq n opcode.RETURN_VALUE then Return
+    else Nothing))))
+
+-- what may have a row of types
+abbrev pub is_operation : ℕ → Bool
+is_operation n =
+    is_between opcode.VARIABLE opcode.SELECTION_MERGE n || nat_eq n opcode.UNDEF || nat_eq n opcode.BRANCH_CONDITIONAL
+    || nat_eq n opcode.SWITCH || nat_eq n opcode.LIFETIME_START || nat_eq n opcode.LIFETIME_STOP

@@ -1,5 +1,6 @@
 -- Y6, Y7 and Y8 at an instruction, and what they are made of, by names of their own. (For the code alone.)
 use Rattle.std.specs.Prelude.{◌≡◌, ℕ, List, Some, nat_eq, not, ◌||◌, take, take_while, IsSomeAnd}
+use Rattle.spv_module.specs.declared.opcode.TheConstants as opcode
 use Rattle.spv_module.specs.Operand.{PlainInst, type_in}
 use Rattle.spv_type_forms.specs.Operands.{ids_in, after_head}
 use Rattle.spv_type_forms.specs.Values.{types_of}
@@ -7,9 +8,10 @@ use Rattle.spv_type_rules.specs.Function.{signature_of, parameter_count, paramet
 use Rattle.spv_type_rules.specs.Function.{parameters_between, parameter_type_of, OfFunction, ReturnsNothing}
 use Rattle.spv_type_rules.specs.Function.{ReturnsTyped, CallsSoundly}
 
--- how many follow an OpFunction, before its first OpLabel (248) or its OpFunctionEnd (56) [3.49.9]
+-- how many follow an OpFunction, before its first OpLabel or its OpFunctionEnd [3.49.9]
 abbrev pub parameters_in : List PlainInst → ℕ
-parameters_in is = parameter_count (take_while (λ i. not (nat_eq i.opcode 248 || nat_eq i.opcode 56)) is)
+parameters_in is =
+    parameter_count (take_while (λ i. not (nat_eq i.opcode opcode.LABEL || nat_eq i.opcode opcode.FUNCTION_END)) is)
 
 -- Y6 is unbroken at an OpFunction: its last operand is a function type, which returns its result type and has as many
 -- parameters as the function. [3.49.9]

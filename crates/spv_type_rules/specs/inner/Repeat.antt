@@ -1,11 +1,14 @@
 -- What Y3 asks, by names of its own. (For the code alone.)
 use Rattle.std.specs.Prelude.{◌≡◌, ℕ, Bool, nat_eq, nat_le, ◌&&◌, ◌||◌}
+use Rattle.spv_module.specs.declared.opcode.TheConstants as opcode
 use Rattle.spv_module.specs.Operand.{PlainInst}
 use Rattle.spv_type_forms.specs.Parts.{after_result}
 
--- OpTypeVoid, Bool, Int, Float and Vector (19 to 23), OpTypeOpaque (31) and OpTypeFunction (33) [2.8]
+-- OpTypeVoid, Bool, Int, Float and Vector, OpTypeOpaque and OpTypeFunction [2.8]
 abbrev pub is_declared_once : ℕ → Bool
-is_declared_once n = (nat_le 19 n && nat_le n 23) || nat_eq n 31 || nat_eq n 33
+is_declared_once n =
+    (nat_le opcode.TYPE_VOID n && nat_le n opcode.TYPE_VECTOR) || nat_eq n opcode.TYPE_OPAQUE
+    || nat_eq n opcode.TYPE_FUNCTION
 
 -- the same opcode and the same operands, the result aside [2.8]
 abbrev pub AreAlike : PlainInst → PlainInst → Type 0

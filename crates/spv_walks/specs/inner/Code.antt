@@ -3,6 +3,8 @@ use Rattle.std.specs.Prelude.{◌≤◌, ◌<◌, ℕ, List, map, length}
 use Rattle.spv_table.specs.Table.{Table}
 use Rattle.spv_module.specs.Operand.{PlainInst}
 use Rattle.spv_module.specs.Module.{plain_inst}
+use Rattle.spv_layout.specs.Stage.{of_branches}
+use Rattle.spv_layout.specs.Place.{AreFew}
 use Rattle.spv_layout.specs.First.{IsUnbroken}
 use Rattle.spv_layout.specs.Plan.{IsPlan}
 use Rattle.spv_ids.specs.Outcome.{AreIds}
@@ -19,6 +21,6 @@ pub record IsCode (G : Table) (c : Code) : Type 0 where
   pub plan : IsPlan G (insts_of c) c.plan.now
   pub bound : ℕ
   pub ids : AreIds G bound (insts_of c) c.ids.now
-  pub branches : IsUnbroken (Broken G (insts_of c)) 6
-  pub most : length c.insts.now ≤ 4194304
+  pub branches : IsUnbroken (Broken G (insts_of c)) of_branches
+  pub most : AreFew c.insts.now
   pub global : (k : ℕ) → k < c.globals → ¬ (IsOp (insts_of c) k is_function)

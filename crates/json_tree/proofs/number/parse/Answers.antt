@@ -1,7 +1,16 @@
-use Rattle.std.proofs.Common.{◌≡◌, drop, get_or, true, false, ◌==◌, sym, ap, ◌∙◌, arith, take_all, length-drop}
+use Rattle.std.proofs.Common.{◌≡◌, drop, get_or, true, false, ◌==◌, Some, sym, ap, ◌∙◌, arith, take_all, length-drop}
 use Rattle.fast_float.specs.Text.{scan}
+use Rattle.serde_json.specs.Data.{unsigned}
 use Rattle.serde_json.specs.Read.{number_of, number_from}
+use Rattle.json_tree.proofs.Digits.{few_digits_number}
 use Rattle.json_tree.proofs.number.parse.Goals as goal
+
+pub returns-in-Some : goal.returns-in-Some
+returns-in-Some c =
+    let value = c.in-Some.ensures.1 in
+    let from = c.from.ensures in
+    let few = few_digits_number c.as_bytes-bytes.result.now c.in-Some.ensures.0 (omega arith) in
+    ap (λ x. Some x) (c.from-in-Some.ensures ∙ ap unsigned (from ∙ value)) ∙ sym few ∙ ap number_of c.as_bytes-bytes.ensures.value
 
 pub returns-then-has_minus : goal.returns-then-has_minus
 unfolding number_of

@@ -2,7 +2,7 @@ use Rattle.std.proofs.Common.{◌≡◌, ◌≤◌, ◌+◌, length, map, arith}
 use Rattle.std.specs.Prelude.{sum_by}
 use Rattle.std.proofs.lemmas.List.{length-map}
 use Rattle.spv_module.specs.Module.{plain_inst, plain_insts}
-use Rattle.spv_layout.specs.Place.{word_count}
+use Rattle.spv_layout.specs.Place.{word_count, IsShort}
 use Rattle.spv_branches.proofs.Firsts.{broken_within, refusal_told, few_insts}
 use Rattle.spv_branches.proofs.branches.check_branches.Goals as goal
 
@@ -12,7 +12,7 @@ first_fault-requires c =
     let xs = c.as_slice-insts.result.now in
     let s = few_insts (map plain_inst xs) in
     let l = length-map xs plain_inst in
-    let q : 5 + sum_by word_count (map plain_inst xs) ≤ 4194304 = rw v c.requires.words in
+    let q : IsShort (map plain_inst xs) = rw v c.requires.words in
     let k = c.requires.known in
     (k.0, record { plan = rw v k.1; each = rw v k.2.each; most = omega arith })
 
@@ -22,7 +22,7 @@ stop_at-requires c =
     let xs = c.as_slice-insts.result.now in
     let s = few_insts (map plain_inst xs) in
     let l = length-map xs plain_inst in
-    let q : 5 + sum_by word_count (map plain_inst xs) ≤ 4194304 = rw v c.requires.words in
+    let q : IsShort (map plain_inst xs) = rw v c.requires.words in
     let k = c.requires.known in
     let h = rw c.in-Some.is at c.in_ok-found.ensures in
     let f = h k.0 (record { plan = rw v k.1; each = rw v k.2.each; most = omega arith }) in
@@ -36,7 +36,7 @@ returns-in-Some-clause-refused c = λ G p a.
     let xs = c.as_slice-insts.result.now in
     let s = few_insts (map plain_inst xs) in
     let l = length-map xs plain_inst in
-    let q : 5 + sum_by word_count (map plain_inst xs) ≤ 4194304 = rw v c.requires.words in
+    let q : IsShort (map plain_inst xs) = rw v c.requires.words in
     let h = rw c.in-Some.is at c.in_ok-found.ensures in
     let f = h G (record { plan = rw v p; each = rw v a.each; most = omega arith }) in
     refusal_told G (plain_insts c.args.module.now) c.in-Some.found.rule c.in-Some.found.inst c.stop_at.result (rw v at f) (c.stop_at.ensures G (plain_insts c.args.module.now) p)
@@ -47,7 +47,7 @@ returns-clause-unbroken c = λ G p a.
     let xs = c.as_slice-insts.result.now in
     let s = few_insts (map plain_inst xs) in
     let l = length-map xs plain_inst in
-    let q : 5 + sum_by word_count (map plain_inst xs) ≤ 4194304 = rw v c.requires.words in
+    let q : IsShort (map plain_inst xs) = rw v c.requires.words in
     let h = rw c.in_default.is at c.in_ok-found.ensures in
     let u = h G (record { plan = rw v p; each = rw v a.each; most = omega arith }) in
     rw v at u

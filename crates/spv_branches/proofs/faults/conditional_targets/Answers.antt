@@ -1,6 +1,7 @@
 use Rattle.std.proofs.Common.{◌≡◌, ◌∙◌, true, Some, get_or, refl, sym}
 use Rattle.std.specs.Prelude.{slice_get}
 use Rattle.std.proofs.lemmas.Bool.{eqb-true}
+use Rattle.spv_module.specs.declared.opcode.TheConstants as opcode
 use Rattle.spv_module.specs.Operand.{PlainInst}
 use Rattle.spv_module.specs.Module.{plain_inst}
 use Rattle.spv_branches.specs.inner.Code.{insts_of}
@@ -24,12 +25,12 @@ returns c = λ G is.
     let at = c.args.at in
     let i : PlainInst = plain_inst (get_or code.insts.now at c.index-code-at.result) in
     let there : slice_get L at ≡ Some i = inst_get code.insts.now at c.index-code-at.result c.requires.at in
-    let e : i.opcode ≡ 250 = eqb-true i.opcode 250 (op_tells L at i is_conditional there c.requires.op) in
+    let e : i.opcode ≡ opcode.BRANCH_CONDITIONAL = eqb-true i.opcode opcode.BRANCH_CONDITIONAL (op_tells L at i is_conditional there c.requires.op) in
     let fits = is.plan.fits at i there in
-    let labelled : is_labelled 250 ≡ true = refl in
-    let first : is_label_at 250 1 ≡ true = refl in
-    let second : is_label_at 250 2 ≡ true = refl in
-    let one = used_by G L at 1 c.in-Some.one 250 i there e labelled first fits (sym c.in-Some.is ∙ c.id_at.ensures) in
-    let two = used_by G L at 2 c.in-Some-id_at.two 250 i there e labelled second fits (sym c.in-Some-id_at.is ∙ c.id_at-2.ensures) in
+    let labelled : is_labelled opcode.BRANCH_CONDITIONAL ≡ true = refl in
+    let first : is_label_at opcode.BRANCH_CONDITIONAL 1 ≡ true = refl in
+    let second : is_label_at opcode.BRANCH_CONDITIONAL 2 ≡ true = refl in
+    let one = used_by G L at 1 c.in-Some.one opcode.BRANCH_CONDITIONAL i there e labelled first fits (sym c.in-Some.is ∙ c.id_at.ensures) in
+    let two = used_by G L at 2 c.in-Some-id_at.two opcode.BRANCH_CONDITIONAL i there e labelled second fits (sym c.in-Some-id_at.is ∙ c.id_at-2.ensures) in
     let has : HasTwo G L at 1 2 c.in-Some.one c.in-Some-id_at.two = record { one = one; two = two; only = conditional_only G L at c.in-Some.one c.in-Some-id_at.two i there e fits one two } in
     rw c.joined.ensures (both_targets G code at 1 2 c.in-Some.one c.in-Some-id_at.two c.target_of-first.result c.target_of-second.result is has (c.target_of-first.ensures G is) (c.target_of-second.ensures G is))

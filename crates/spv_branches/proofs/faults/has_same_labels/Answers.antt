@@ -1,6 +1,7 @@
 use Rattle.std.proofs.Common.{◌≡◌, ◌∙◌, ℕ, Bool, true, false, Some, nat_eq, List, get_or, refl, sym, subst}
 use Rattle.std.specs.Prelude.{slice_get, MatchBool}
 use Rattle.std.proofs.lemmas.Bool.{eqb-true, eqb-false}
+use Rattle.spv_module.specs.declared.opcode.TheConstants as opcode
 use Rattle.spv_table.specs.Table.{Table}
 use Rattle.spv_module.specs.Operand.{PlainInst}
 use Rattle.spv_module.specs.Module.{plain_inst}
@@ -25,10 +26,10 @@ returns-in_default c = λ G is h.
     let at = c.args.at in
     let i : PlainInst = plain_inst (get_or code.insts.now at c.index-code-at.result) in
     let there : slice_get L at ≡ Some i = inst_get code.insts.now at c.index-code-at.result c.requires.at in
-    let e : i.opcode ≡ 250 = eqb-true i.opcode 250 (op_tells L at i is_conditional there c.requires.op) in
-    let labelled : is_labelled 250 ≡ true = refl in
-    let place : is_label_at 250 1 ≡ true = refl in
-    unused_by G L at 1 h.id 250 i there e labelled place (is.plan.fits at i there) (sym c.in_default.is ∙ c.id_at.ensures) h.one
+    let e : i.opcode ≡ opcode.BRANCH_CONDITIONAL = eqb-true i.opcode opcode.BRANCH_CONDITIONAL (op_tells L at i is_conditional there c.requires.op) in
+    let labelled : is_labelled opcode.BRANCH_CONDITIONAL ≡ true = refl in
+    let place : is_label_at opcode.BRANCH_CONDITIONAL 1 ≡ true = refl in
+    unused_by G L at 1 h.id opcode.BRANCH_CONDITIONAL i there e labelled place (is.plan.fits at i there) (sym c.in_default.is ∙ c.id_at.ensures) h.one
 
 pub returns-in_default-id_at : goal.returns-in_default-id_at
 returns-in_default-id_at c = λ G is h.
@@ -37,10 +38,10 @@ returns-in_default-id_at c = λ G is h.
     let at = c.args.at in
     let i : PlainInst = plain_inst (get_or code.insts.now at c.index-code-at.result) in
     let there : slice_get L at ≡ Some i = inst_get code.insts.now at c.index-code-at.result c.requires.at in
-    let e : i.opcode ≡ 250 = eqb-true i.opcode 250 (op_tells L at i is_conditional there c.requires.op) in
-    let labelled : is_labelled 250 ≡ true = refl in
-    let place : is_label_at 250 2 ≡ true = refl in
-    unused_by G L at 2 h.id 250 i there e labelled place (is.plan.fits at i there) (sym c.in_default-id_at.is ∙ c.id_at-2.ensures) h.two
+    let e : i.opcode ≡ opcode.BRANCH_CONDITIONAL = eqb-true i.opcode opcode.BRANCH_CONDITIONAL (op_tells L at i is_conditional there c.requires.op) in
+    let labelled : is_labelled opcode.BRANCH_CONDITIONAL ≡ true = refl in
+    let place : is_label_at opcode.BRANCH_CONDITIONAL 2 ≡ true = refl in
+    unused_by G L at 2 h.id opcode.BRANCH_CONDITIONAL i there e labelled place (is.plan.fits at i there) (sym c.in_default-id_at.is ∙ c.id_at-2.ensures) h.two
 
 pub returns : goal.returns
 returns c = λ G is.
@@ -49,10 +50,10 @@ returns c = λ G is.
     let at = c.args.at in
     let i : PlainInst = plain_inst (get_or code.insts.now at c.index-code-at.result) in
     let there : slice_get L at ≡ Some i = inst_get code.insts.now at c.index-code-at.result c.requires.at in
-    let e : i.opcode ≡ 250 = eqb-true i.opcode 250 (op_tells L at i is_conditional there c.requires.op) in
+    let e : i.opcode ≡ opcode.BRANCH_CONDITIONAL = eqb-true i.opcode opcode.BRANCH_CONDITIONAL (op_tells L at i is_conditional there c.requires.op) in
     let fits = is.plan.fits at i there in
-    let labelled : is_labelled 250 ≡ true = refl in
-    let first : is_label_at 250 1 ≡ true = refl in
-    let second : is_label_at 250 2 ≡ true = refl in
+    let labelled : is_labelled opcode.BRANCH_CONDITIONAL ≡ true = refl in
+    let first : is_label_at opcode.BRANCH_CONDITIONAL 1 ≡ true = refl in
+    let second : is_label_at opcode.BRANCH_CONDITIONAL 2 ≡ true = refl in
     same_by G L at c.in-Some.one c.in-Some-id_at.two (nat_eq c.in-Some.one c.in-Some-id_at.two) refl
-    (used_by G L at 1 c.in-Some.one 250 i there e labelled first fits (sym c.in-Some.is ∙ c.id_at.ensures)) (used_by G L at 2 c.in-Some-id_at.two 250 i there e labelled second fits (sym c.in-Some-id_at.is ∙ c.id_at-2.ensures))
+    (used_by G L at 1 c.in-Some.one opcode.BRANCH_CONDITIONAL i there e labelled first fits (sym c.in-Some.is ∙ c.id_at.ensures)) (used_by G L at 2 c.in-Some-id_at.two opcode.BRANCH_CONDITIONAL i there e labelled second fits (sym c.in-Some-id_at.is ∙ c.id_at-2.ensures))

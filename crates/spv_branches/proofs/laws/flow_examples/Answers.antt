@@ -1,5 +1,6 @@
 use Rattle.std.proofs.Common.{◌≡◌, ◌<◌, ◌≤◌, ℕ, zero, suc, List, [], ◌∷◌, refl, subst, arith, inl, inr}
 use Rattle.std.proofs.lemmas.Option.{same_Some}
+use Rattle.spv_module.specs.declared.opcode.TheConstants as opcode
 use Rattle.spv_module.specs.Example.{small}
 use Rattle.spv_module.specs.Operand.{Id}
 use Rattle.spv_module.specs.declared.fault.Rule.{Rule}
@@ -22,7 +23,7 @@ use Rattle.spv_branches.proofs.laws.flow_examples.Goals as goal
 
 branch_forms : (x : ℕ) → HasForms small (branch x) (l ∷ [])
 unfolding rows
-branch_forms x = record { row = row 249 249 Branch (l ∷ []) closed; rest = []; known = refl; forms = refl; ending = Ends.nothing; each = AreOf.more l (Id x) [] [] refl AreOf.none }
+branch_forms x = record { row = row opcode.BRANCH opcode.BRANCH Branch (l ∷ []) closed; rest = []; known = refl; forms = refl; ending = Ends.nothing; each = AreOf.more l (Id x) [] [] refl AreOf.none }
 
 branch_used : (x : ℕ) → IsUse small (branch x) 0 x role.Label
 branch_used x = record { forms = l ∷ []; has = branch_forms x; form = l; operand = Id x; form_at = refl; operand_at = refl; role = refl; id = refl }
@@ -30,7 +31,7 @@ branch_used x = record { forms = l ∷ []; has = branch_forms x; form = l; opera
 conditional_forms : (c x y : ℕ) → HasForms small (conditional c x y) (v ∷ l ∷ l ∷ [])
 unfolding rows
 conditional_forms c x y = record {
-  row = row 250 250 BranchConditional (v ∷ l ∷ l ∷ []) (repeated (W ∷ []));
+  row = row opcode.BRANCH_CONDITIONAL opcode.BRANCH_CONDITIONAL BranchConditional (v ∷ l ∷ l ∷ []) (repeated (W ∷ []));
   rest = [];
   known = refl;
   forms = refl;

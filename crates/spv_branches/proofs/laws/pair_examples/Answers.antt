@@ -1,6 +1,7 @@
 use Rattle.std.proofs.Common.{◌≡◌, ◌<◌, ◌≤◌, ◌+◌, ℕ, zero, suc, [], ◌∷◌, refl, subst, arith}
 use Rattle.std.specs.Prelude.{slice_index_or}
 use Rattle.std.proofs.lemmas.Option.{same_Some}
+use Rattle.spv_module.specs.declared.opcode.TheConstants as opcode
 use Rattle.spv_module.specs.Example.{small}
 use Rattle.spv_module.specs.Operand.{Id, OfType, Result}
 use Rattle.spv_layout.specs.declared.class.Class.TheVariants.{Function, FunctionEnd, Phi}
@@ -25,7 +26,7 @@ use Rattle.spv_branches.proofs.laws.pair_examples.Goals as goal
 forms : (x : ℕ) → HasForms small (phi_of x 1) (T ∷ R ∷ v ∷ l ∷ [])
 unfolding rows
 forms x = record {
-  row = row 245 245 Phi (T ∷ R ∷ []) (repeated (v ∷ l ∷ []));
+  row = row opcode.PHI opcode.PHI Phi (T ∷ R ∷ []) (repeated (v ∷ l ∷ []));
   rest = v ∷ l ∷ [];
   known = refl;
   forms = refl;

@@ -1,6 +1,7 @@
 use Rattle.std.proofs.Common.{◌≡◌, Some, get_or, ap}
 use Rattle.std.specs.Prelude.{slice_get}
 use Rattle.std.proofs.lemmas.Bool.{eqb-true}
+use Rattle.spv_module.specs.declared.opcode.TheConstants as opcode
 use Rattle.spv_module.specs.Operand.{PlainInst}
 use Rattle.spv_module.specs.Module.{plain_inst}
 use Rattle.spv_branches.specs.inner.Code.{insts_of}
@@ -43,4 +44,4 @@ returns-else-code-at-eq-BRANCH_CONDITIONAL c = λ G is.
     let there : slice_get (insts_of code) c.args.at ≡ Some i = inst_get code.insts.now c.args.at c.index-code-at.result c.requires.at in
     let t = rw c.in-Sound.is at (c.targets_of.ensures G is) in
     branch_fine G (insts_of code) c.args.at c.requires.op t.0 t.1
-    (λ o h. c.if-code-at-eq-BRANCH_CONDITIONAL.false (eqb-true i.opcode 250 (op_tells (insts_of code) c.args.at i is_conditional there o)))
+    (λ o h. c.if-code-at-eq-BRANCH_CONDITIONAL.false (eqb-true i.opcode opcode.BRANCH_CONDITIONAL (op_tells (insts_of code) c.args.at i is_conditional there o)))

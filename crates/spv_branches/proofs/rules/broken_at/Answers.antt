@@ -1,6 +1,7 @@
 use Rattle.std.proofs.Common.{◌≡◌, ◌<◌, ◌∙◌, Some, get_or, sym, ap}
 use Rattle.std.specs.Prelude.{slice_get}
 use Rattle.std.proofs.lemmas.Bool.{eqb-true, both_ways}
+use Rattle.spv_module.specs.declared.opcode.TheConstants as opcode
 use Rattle.spv_module.specs.Operand.{PlainInst}
 use Rattle.spv_module.specs.Module.{plain_inst}
 use Rattle.spv_branches.specs.inner.Code.{insts_of}
@@ -57,7 +58,7 @@ returns-then-opcode-lt-PHI-clause-rule c = λ G is q s b.
     let code = c.args.code.now in
     let i : PlainInst = plain_inst (get_or code.insts.now c.args.at c.index-code-at.result) in
     let there : slice_get (insts_of code) c.args.at ≡ Some i = inst_get code.insts.now c.args.at c.index-code-at.result c.requires.at in
-    let low : i.opcode < 245 = c.if-opcode-lt-PHI.true in
+    let low : i.opcode < opcode.PHI = c.if-opcode-lt-PHI.true in
     at_other G (insts_of code) q c.args.at (λ o. low_phi i.opcode low (op_tells (insts_of code) c.args.at i is_phi there o))
     (λ o. low_merge i.opcode low (op_tells (insts_of code) c.args.at i is_merge there o)) (λ o. low_branch i.opcode low (op_tells (insts_of code) c.args.at i is_branch there o)) s b
 
@@ -80,6 +81,6 @@ returns-clause-rule c = λ G is q s b.
     let code = c.args.code.now in
     let i : PlainInst = plain_inst (get_or code.insts.now c.args.at c.index-code-at.result) in
     let there : slice_get (insts_of code) c.args.at ≡ Some i = inst_get code.insts.now c.args.at c.index-code-at.result c.requires.at in
-    at_other G (insts_of code) q c.args.at (λ o. c.if-opcode-eq-PHI.false (eqb-true i.opcode 245 (op_tells (insts_of code) c.args.at i is_phi there o)))
+    at_other G (insts_of code) q c.args.at (λ o. c.if-opcode-eq-PHI.false (eqb-true i.opcode opcode.PHI (op_tells (insts_of code) c.args.at i is_phi there o)))
     (λ o. both_ways c.is_merge.result c.if-is_merge.false (c.is_merge.ensures ∙ op_tells (insts_of code) c.args.at i is_merge there o))
     (λ o. both_ways c.is_branch.result c.if-is_branch.false (c.is_branch.ensures ∙ op_tells (insts_of code) c.args.at i is_branch there o)) s b

@@ -3,7 +3,7 @@ use Rattle.std.specs.Prelude.{sum_by}
 use Rattle.std.proofs.lemmas.List.{length-map}
 use Rattle.std.proofs.lemmas.Option.{slice_get_within}
 use Rattle.spv_module.specs.Module.{plain_inst, plain_insts}
-use Rattle.spv_layout.specs.Place.{word_count}
+use Rattle.spv_layout.specs.Place.{word_count, IsShort}
 use Rattle.spv_calls.proofs.Insts.{short_list}
 use Rattle.spv_calls.specs.inner.Graph.{IsFirstCyclic}
 use Rattle.spv_calls.specs.inner.Found.{ArePlaces}
@@ -19,7 +19,7 @@ calls_of-requires-clause-few c =
     let xs = c.as_slice-insts.result.now in
     let s = short_list (map plain_inst xs) in
     let l = length-map xs plain_inst in
-    let q : 5 + sum_by word_count (map plain_inst xs) ≤ 4194304 = rw v c.requires.words in
+    let q : IsShort (map plain_inst xs) = rw v c.requires.words in
     omega arith
 
 pub calls_of-requires-clause-places : goal.calls_of-requires-clause-places

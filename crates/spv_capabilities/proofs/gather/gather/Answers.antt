@@ -2,7 +2,7 @@ use Rattle.std.proofs.Common.{◌≡◌, ℕ, map, length, subst, arith}
 use Rattle.std.proofs.lemmas.List.{length-map}
 use Rattle.spv_module.specs.Module.{plain_inst}
 use Rattle.spv_capabilities.specs.inner.Survey.{AreGathered}
-use Rattle.spv_capabilities.proofs.Gathering.{inst_there}
+use Rattle.spv_layout.proofs.Misfits.{inst_there}
 use Rattle.spv_capabilities.proofs.gather.gather.Goals as goal
 
 pub loop-inst-init : goal.loop-inst-init

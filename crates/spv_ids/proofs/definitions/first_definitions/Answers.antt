@@ -2,7 +2,7 @@ use Rattle.std.proofs.Common.{◌≡◌, ◌∙◌, sym, inr, map, length, arith
 use Rattle.spv_module.specs.Module.{plain_inst}
 use Rattle.spv_ids.specs.inner.Notes.{kept}
 use Rattle.spv_ids.proofs.Bools.{false_true, some_tells, none_tells}
-use Rattle.spv_ids.proofs.Defining.{inst_there}
+use Rattle.spv_layout.proofs.Misfits.{inst_there}
 use Rattle.spv_ids.proofs.Steps.{first_none, first_no_result, first_result, first_moved, bad_range, bad_again}
 use Rattle.spv_ids.proofs.definitions.first_definitions.Goals.{then-is_out_of_range-via-then-is_out_of_range, then-is_out_of_range-via-else-is_out_of_range+then-is_some, in-Some+else-is_out_of_range+else-is_some+in_ok-put, in_default}
 use Rattle.spv_ids.proofs.definitions.first_definitions.Goals as goal

@@ -2,7 +2,8 @@ use Rattle.std.proofs.Common.{◌≡◌, ◌∙◌, sym, map, length, arith}
 use Rattle.std.proofs.lemmas.List.{length-map}
 use Rattle.std.proofs.lemmas.Option.{slice_get_within}
 use Rattle.spv_module.specs.Module.{plain_inst}
-use Rattle.spv_ids.proofs.Defining.{inst_there, defined_here}
+use Rattle.spv_layout.proofs.Misfits.{inst_there}
+use Rattle.spv_ids.proofs.Defining.{defined_here}
 use Rattle.spv_ids.proofs.Steps.{later_no_result, later_moved}
 use Rattle.spv_ids.proofs.definitions.later_definitions.Goals.{in-Some-result_of+in_ok-keep_later, in_default-result_of}
 use Rattle.spv_ids.proofs.definitions.later_definitions.Goals as goal

@@ -1,11 +1,10 @@
-use Rattle.std.proofs.Common.{◌≤◌, ◌+◌, sym, map, arith}
-use Rattle.std.specs.Prelude.{sum_by}
+use Rattle.std.proofs.Common.{sym, map, arith}
 use Rattle.std.proofs.lemmas.List.{length-map}
 use Rattle.spv_module.specs.Module.{plain_inst, plain_insts}
-use Rattle.spv_layout.specs.Place.{word_count}
+use Rattle.spv_layout.specs.Place.{IsShort}
 use Rattle.spv_ids.specs.inner.Survey.{ArePlaces}
 use Rattle.spv_ids.specs.Outcome.{AreIds}
-use Rattle.spv_ids.proofs.Defining.{short_list}
+use Rattle.spv_layout.proofs.Misfits.{short_list}
 use Rattle.spv_ids.proofs.Broke.{places_of, first_within, refusal_told, clean_told, definitions_told}
 use Rattle.spv_ids.proofs.ids.number.Goals as goal
 
@@ -15,7 +14,7 @@ find_definitions-requires-clause-most c =
     let xs = c.as_slice-insts.result.now in
     let s = short_list (map plain_inst xs) in
     let l = length-map xs plain_inst in
-    let q : 5 + sum_by word_count (map plain_inst xs) ≤ 4194304 = rw v c.requires.words in
+    let q : IsShort (map plain_inst xs) = rw v c.requires.words in
     omega arith
 
 pub find_definitions-requires-clause-results : goal.find_definitions-requires-clause-results
@@ -30,7 +29,7 @@ later_definitions-requires-clause-most c =
     let xs = c.as_slice-insts.result.now in
     let s = short_list (map plain_inst xs) in
     let l = length-map xs plain_inst in
-    let q : 5 + sum_by word_count (map plain_inst xs) ≤ 4194304 = rw v c.requires.words in
+    let q : IsShort (map plain_inst xs) = rw v c.requires.words in
     omega arith
 
 pub later_definitions-requires-clause-places : goal.later_definitions-requires-clause-places
@@ -44,7 +43,7 @@ overflow_cast-insts c =
     let xs = c.as_slice-insts.result.now in
     let s = short_list (map plain_inst xs) in
     let l = length-map xs plain_inst in
-    let q : 5 + sum_by word_count (map plain_inst xs) ≤ 4194304 = rw v c.requires.words in
+    let q : IsShort (map plain_inst xs) = rw v c.requires.words in
     omega arith
 
 pub first_fault-requires-clause-survey : goal.first_fault-requires-clause-survey
@@ -53,7 +52,7 @@ first_fault-requires-clause-survey c =
     let xs = c.as_slice-insts.result.now in
     let s = short_list (map plain_inst xs) in
     let l = length-map xs plain_inst in
-    let q : 5 + sum_by word_count (map plain_inst xs) ≤ 4194304 = rw v c.requires.words in
+    let q : IsShort (map plain_inst xs) = rw v c.requires.words in
     let is = map plain_inst xs in
     let p = c.requires.plan in
     let a : ArePlaces is c.args.plan.now = rw v (places_of p.0 (plain_insts c.args.module.now) c.args.plan.now p.1) in
@@ -84,7 +83,7 @@ returns-in-Some-clause-refused c = λ G p.
     let f = rw c.in-Some.is at c.in_ok-found.ensures in
     let is = plain_insts c.args.module.now in
     refusal_told G c.args.module.now.header.bound is c.args.plan.now c.in-Some.found.rule c.in-Some.found.inst c.stop_at.result p (rw c.as_slice-insts.ensures.value at f)
-    (c.stop_at.ensures is (places_of G is c.args.plan.now p))
+    (c.stop_at.ensures is p.place)
 
 pub returns-clause-ids : goal.returns-clause-ids
 returns-clause-ids c = λ G p.

@@ -5,6 +5,7 @@ use Rattle.spv_module.specs.Example.{small}
 use Rattle.spv_module.specs.Operand.{Plain, Result, Id}
 use Rattle.spv_module.specs.declared.fault.Rule.{Rule}
 use Rattle.spv_module.specs.declared.fault.Rule.TheVariants.{D2, D4, D5}
+use Rattle.spv_module.specs.declared.opcode.TheConstants as opcode
 use Rattle.spv_layout.specs.declared.class.Class.TheVariants.{Declaration, Function}
 use Rattle.spv_layout.specs.declared.form.Role.TheVariants as role
 use Rattle.spv_layout.specs.Row.{row, t, repeated}
@@ -22,7 +23,7 @@ use Rattle.spv_ids.proofs.laws.id_examples.Goals as goal
 
 type_forms : HasForms small of_void (R ∷ t ∷ [])
 unfolding rows
-type_forms = record { row = row 33 33 Declaration (R ∷ t ∷ []) (repeated (t ∷ [])); rest = []; known = refl; forms = refl; ending = Ends.done (t ∷ []); each = AreOf.more R (Result 2) (t ∷ []) (Id 1 ∷ []) refl (AreOf.more t (Id 1) [] [] refl AreOf.none) }
+type_forms = record { row = row opcode.TYPE_FUNCTION opcode.TYPE_FUNCTION Declaration (R ∷ t ∷ []) (repeated (t ∷ [])); rest = []; known = refl; forms = refl; ending = Ends.done (t ∷ []); each = AreOf.more R (Result 2) (t ∷ []) (Id 1 ∷ []) refl (AreOf.more t (Id 1) [] [] refl AreOf.none) }
 
 type_used : IsUse small of_void 1 1 role.OfType
 type_used = record { forms = R ∷ t ∷ []; has = type_forms; form = t; operand = Id 1; form_at = refl; operand_at = refl; role = refl; id = refl }

@@ -4,6 +4,7 @@ use Rattle.spv_module.specs.Example.{small}
 use Rattle.spv_module.specs.Operand.{Plain, OfType, Result, Id}
 use Rattle.spv_module.specs.declared.fault.Rule.{Rule}
 use Rattle.spv_module.specs.declared.fault.Rule.TheVariants.{D5}
+use Rattle.spv_module.specs.declared.opcode.TheConstants as opcode
 use Rattle.spv_layout.specs.declared.class.Class.TheVariants.{Undef, Body, Function, FunctionEnd, Label}
 use Rattle.spv_layout.specs.declared.form.Role.TheVariants as role
 use Rattle.spv_layout.specs.Example.{bare}
@@ -120,22 +121,22 @@ value_outside : IsDefinedAt used_outside 5 2
 value_outside = record { inst = value; there = refl; result = refl }
 
 outside_at : (m : ℕ) → IsDefinedAt used_outside 5 m → m ≡ 2
-outside_at zero d = let e = d.there in let f : bare 54 ≡ d.inst = cc in let g = rw (← f) at d.result in cc
-outside_at (suc zero) d = let e = d.there in let f : bare 248 ≡ d.inst = cc in let g = rw (← f) at d.result in cc
+outside_at zero d = let e = d.there in let f : bare opcode.FUNCTION ≡ d.inst = cc in let g = rw (← f) at d.result in cc
+outside_at (suc zero) d = let e = d.there in let f : bare opcode.LABEL ≡ d.inst = cc in let g = rw (← f) at d.result in cc
 outside_at (suc (suc zero)) d = refl
-outside_at (suc (suc (suc zero))) d = let e = d.there in let f : bare 56 ≡ d.inst = cc in let g = rw (← f) at d.result in cc
-outside_at (suc (suc (suc (suc zero)))) d = let e = d.there in let f : bare 54 ≡ d.inst = cc in let g = rw (← f) at d.result in cc
-outside_at (suc (suc (suc (suc (suc zero))))) d = let e = d.there in let f : bare 248 ≡ d.inst = cc in let g = rw (← f) at d.result in cc
+outside_at (suc (suc (suc zero))) d = let e = d.there in let f : bare opcode.FUNCTION_END ≡ d.inst = cc in let g = rw (← f) at d.result in cc
+outside_at (suc (suc (suc (suc zero)))) d = let e = d.there in let f : bare opcode.FUNCTION ≡ d.inst = cc in let g = rw (← f) at d.result in cc
+outside_at (suc (suc (suc (suc (suc zero))))) d = let e = d.there in let f : bare opcode.LABEL ≡ d.inst = cc in let g = rw (← f) at d.result in cc
 outside_at (suc (suc (suc (suc (suc (suc zero)))))) d = let e = d.there in let f : copy 6 ≡ d.inst = cc in let g = rw (← f) at d.result in cc
 outside_at (suc (suc (suc (suc (suc (suc (suc m))))))) d = let e = d.there in cc
 
 -- nothing defines the type
 no_type : (m : ℕ) → ¬ (IsDefinedAt used_inside 1 m)
-no_type zero d = let e = d.there in let f : bare 54 ≡ d.inst = cc in let g = rw (← f) at d.result in cc
-no_type (suc zero) d = let e = d.there in let f : bare 248 ≡ d.inst = cc in let g = rw (← f) at d.result in cc
+no_type zero d = let e = d.there in let f : bare opcode.FUNCTION ≡ d.inst = cc in let g = rw (← f) at d.result in cc
+no_type (suc zero) d = let e = d.there in let f : bare opcode.LABEL ≡ d.inst = cc in let g = rw (← f) at d.result in cc
 no_type (suc (suc zero)) d = let e = d.there in let f : value ≡ d.inst = cc in let g = rw (← f) at d.result in cc
 no_type (suc (suc (suc zero))) d = let e = d.there in let f : copy 6 ≡ d.inst = cc in let g = rw (← f) at d.result in cc
-no_type (suc (suc (suc (suc zero)))) d = let e = d.there in let f : bare 56 ≡ d.inst = cc in let g = rw (← f) at d.result in cc
+no_type (suc (suc (suc (suc zero)))) d = let e = d.there in let f : bare opcode.FUNCTION_END ≡ d.inst = cc in let g = rw (← f) at d.result in cc
 no_type (suc (suc (suc (suc (suc m))))) d = let e = d.there in cc
 
 -- In its function.
@@ -169,8 +170,8 @@ not_type : (x : ℕ) → IsLocal used_inside x → x ≡ 1 → ⊥
 not_type x (f, l) e = no_type l.place (rw e at l.defined)
 
 all_in_scope : (n to x : ℕ) → IsUsedBefore used_inside n to x → IsLocal used_inside x → (IsInScope used_inside n x → ⊥) → ⊥
-all_in_scope zero to x u l h = let t = u.there in let e : bare 54 ≡ u.inst = cc in let o = rw (← e) at u.operand_at in cc
-all_in_scope (suc zero) to x u l h = let t = u.there in let e : bare 248 ≡ u.inst = cc in let o = rw (← e) at u.operand_at in cc
+all_in_scope zero to x u l h = let t = u.there in let e : bare opcode.FUNCTION ≡ u.inst = cc in let o = rw (← e) at u.operand_at in cc
+all_in_scope (suc zero) to x u l h = let t = u.there in let e : bare opcode.LABEL ≡ u.inst = cc in let o = rw (← e) at u.operand_at in cc
 all_in_scope (suc (suc zero)) to x u l h =
     let t = u.there in
     let e : value ≡ u.inst = cc in
@@ -182,7 +183,7 @@ all_in_scope (suc (suc (suc zero))) to x u l h =
     let o = rw (← e) at u.operand_at in
     let q = both_used u.place x u.operand o u.used (not_type x l) in
     h (rw q in_scope)
-all_in_scope (suc (suc (suc (suc zero)))) to x u l h = let t = u.there in let e : bare 56 ≡ u.inst = cc in let o = rw (← e) at u.operand_at in cc
+all_in_scope (suc (suc (suc (suc zero)))) to x u l h = let t = u.there in let e : bare opcode.FUNCTION_END ≡ u.inst = cc in let o = rw (← e) at u.operand_at in cc
 all_in_scope (suc (suc (suc (suc (suc n))))) to x u l h = let t = u.there in cc
 
 not_broken : (r : Rule) (n : ℕ) → Broken small 9 used_inside r n → r ≡ D5 → ⊥
@@ -224,7 +225,7 @@ section = IsOfSection.definition Body 4 refl refl (last_of 6 4 of_outside) defin
 copy_forms : HasForms small (copy 6) (T ∷ R ∷ v ∷ [])
 unfolding rows
 copy_forms = record {
-  row = row 83 83 Body (T ∷ R ∷ v ∷ []) closed;
+  row = row opcode.COPY_OBJECT opcode.COPY_OBJECT Body (T ∷ R ∷ v ∷ []) closed;
   rest = [];
   known = refl;
   forms = refl;

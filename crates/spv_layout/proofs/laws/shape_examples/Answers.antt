@@ -2,6 +2,7 @@ use Rattle.std.proofs.Common.{◌≡◌, ℕ, [], ◌∷◌, refl, Some, None, L
 use Rattle.std.specs.Prelude.{slice_get}
 use Rattle.spv_module.specs.Example.{small, load, string}
 use Rattle.spv_module.specs.Operand.{Id}
+use Rattle.spv_module.specs.declared.opcode.TheConstants as opcode
 use Rattle.spv_layout.specs.declared.form.Role.{Role}
 use Rattle.spv_layout.specs.declared.form.Form.{Form}
 use Rattle.spv_layout.specs.declared.form.Form.TheVariants as form
@@ -24,7 +25,7 @@ load_forms = T ∷ R ∷ v ∷ kind kind_of.MemoryAccess ∷ form.Other ∷ []
 load_has : HasForms small load load_forms
 unfolding rows
 load_has = record {
-  row = row 61 61 Body (T ∷ R ∷ v ∷ []) (maybe_others (kind kind_of.MemoryAccess));
+  row = row opcode.LOAD opcode.LOAD Body (T ∷ R ∷ v ∷ []) (maybe_others (kind kind_of.MemoryAccess));
   rest = kind kind_of.MemoryAccess ∷ form.Other ∷ [];
   known = refl;
   forms = refl;

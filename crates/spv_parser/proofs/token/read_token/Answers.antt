@@ -1,5 +1,6 @@
 use Rattle.std.proofs.Common.{sym, ◌≡◌, ◌&&◌, false, nat_eq}
 use Rattle.std.specs.Prelude.{Err}
+use Rattle.spv_module.specs.declared.opcode.TheConstants.{SWITCH}
 use Rattle.spv_tokens.specs.declared.misread.Misread.TheVariants.{IllFormed}
 use Rattle.spv_table.specs.declared.form.Leaf.TheVariants as leaf
 use Rattle.spv_inst.specs.inner.Pending.{plain_slot}
@@ -68,9 +69,9 @@ pub returns-else-asked : goal.returns-else-asked
 returns-else-asked c = λ d a e n.
     let G = c.args.setting.now.table.now in
     let s = plain_slot c.args.asked.slot in
-    let b : (s.paired && nat_eq c.args.known.opcode 251) ≡ false = elim c.else-asked.branch [
-      | else-asked-via-then-asked+else-known-eq-SWITCH w ↦ and_right s.paired c.args.known.opcode 251 w.if-known-eq-SWITCH.false
-      | else-asked-via-else-asked w ↦ and_left s.paired (nat_eq c.args.known.opcode 251) w.if-asked.false
+    let b : (s.paired && nat_eq c.args.known.opcode SWITCH) ≡ false = elim c.else-asked.branch [
+      | else-asked-via-then-asked+else-known-eq-SWITCH w ↦ and_right s.paired c.args.known.opcode SWITCH w.if-known-eq-SWITCH.false
+      | else-asked-via-else-asked w ↦ and_left s.paired (nat_eq c.args.known.opcode SWITCH) w.if-asked.false
     ] in
     plain_integer G d s c.args.asked.leaf c.args.known.opcode c.args.token.now c.read_word-in-Integer.result e c.in-Integer.is (sym a.operands.opcode) b (rw c.as_bytes-octets.ensures.value at (c.read_word-in-Integer.ensures G (is_float G d s) s.kind))
 

@@ -1,4 +1,4 @@
-use Rattle.std.proofs.Common.{◌≡◌, ◌∙◌, length, refl, sym, ap, subst, MatchBool}
+use Rattle.std.proofs.Common.{◌∙◌, length, refl, sym, ap, subst, MatchBool}
 use Rattle.spv_module.specs.Module.{plain_inst, plain_operands}
 use Rattle.spv_roles.specs.inner.Asked.{ArePlayed, IsOneMiscast}
 use Rattle.spv_roles.specs.inner.Known.{uses_nothing}

@@ -1,10 +1,10 @@
-use Rattle.std.proofs.Common.{◌≡◌, ◌≤◌, ◌+◌, Some, length, sym, ap, map, subst, arith, ◌∙◌}
-use Rattle.std.specs.Prelude.{slice_get, sum_by}
+use Rattle.std.proofs.Common.{◌≡◌, Some, length, sym, ap, map, subst, arith, ◌∙◌}
+use Rattle.std.specs.Prelude.{slice_get}
 use Rattle.std.proofs.lemmas.List.{length-map}
 use Rattle.spv_module.specs.Module.{plain_inst, plain_insts, plain_operand}
-use Rattle.spv_layout.specs.Place.{word_count, first_word_of}
+use Rattle.spv_layout.specs.Place.{IsShort, first_word_of}
 use Rattle.spv_ids.specs.Outcome.{IsDefinitionOf, definition_in}
-use Rattle.spv_roles.proofs.Listed.{short_list, inst_there}
+use Rattle.spv_layout.proofs.Misfits.{short_list, inst_there}
 use Rattle.spv_roles.specs.inner.Known.{AreInRoleBefore, HasMiscast}
 use Rattle.spv_roles.proofs.Casting.{one_up_to, all_in_role, unbroken, first_miscast}
 use Rattle.spv_roles.proofs.check.roles_check.Goals as goal
@@ -19,7 +19,7 @@ overflow_cast-result c =
     let xs = c.as_slice-insts.result.now in
     let s = short_list (map plain_inst xs) in
     let l = length-map xs plain_inst in
-    let q : 5 + sum_by word_count (map plain_inst xs) ≤ 4194304 = rw v c.requires.words in
+    let q : IsShort (map plain_inst xs) = rw v c.requires.words in
     omega arith
 
 pub overflow_cast-n : goal.overflow_cast-n
@@ -28,7 +28,7 @@ overflow_cast-n c =
     let xs = c.as_slice-insts.result.now in
     let s = short_list (map plain_inst xs) in
     let l = length-map xs plain_inst in
-    let q : 5 + sum_by word_count (map plain_inst xs) ≤ 4194304 = rw v c.requires.words in
+    let q : IsShort (map plain_inst xs) = rw v c.requires.words in
     omega arith
 
 pub returns-then-not-are_in_role-clause-refused : goal.returns-then-not-are_in_role-clause-refused

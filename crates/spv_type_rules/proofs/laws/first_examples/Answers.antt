@@ -12,4 +12,4 @@ pub returns-clause-here : goal.returns-clause-here
 returns-clause-here c = call_first
 
 pub returns-clause-none_here : goal.returns-clause-none_here
-returns-clause-none_here c = λ G k. call_broken G (k rule.Y8)
+returns-clause-none_here c = λ k. call_broken (k rule.Y8)

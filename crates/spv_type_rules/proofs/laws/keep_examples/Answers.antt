@@ -1,31 +1,26 @@
-use Rattle.std.proofs.Common.{[], ◌∷◌, refl, inr}
-use Rattle.spv_ops.proofs.Worked.{add_forms}
 use Rattle.spv_type_rules.proofs.Worked.{repeated, not_earlier, function_kept, function_not_kept, parameter_kept, parameter_not_kept, return_kept, return_not_kept}
 use Rattle.spv_type_rules.proofs.laws.keep_examples.Goals as goal
 
 pub returns-clause-first : goal.returns-clause-first
-returns-clause-first c = λ G. not_earlier
+returns-clause-first c = not_earlier
 
 pub returns-clause-again : goal.returns-clause-again
-returns-clause-again c = λ G k. k repeated
-
-pub returns-clause-add : goal.returns-clause-add
-returns-clause-add c = inr (5 ∷ 5 ∷ [], 1 ∷ 1 ∷ [], record { forms = _; has = add_forms; values = refl }, refl, (refl, refl, refl))
+returns-clause-again c = λ k. k repeated
 
 pub returns-clause-function : goal.returns-clause-function
-returns-clause-function c = λ G. function_kept
+returns-clause-function c = function_kept
 
 pub returns-clause-no_function : goal.returns-clause-no_function
-returns-clause-no_function c = λ G. function_not_kept
+returns-clause-no_function c = function_not_kept
 
 pub returns-clause-parameter : goal.returns-clause-parameter
-returns-clause-parameter c = λ G. parameter_kept
+returns-clause-parameter c = parameter_kept
 
 pub returns-clause-other_parameter : goal.returns-clause-other_parameter
-returns-clause-other_parameter c = λ G. parameter_not_kept
+returns-clause-other_parameter c = parameter_not_kept
 
 pub returns-clause-returned : goal.returns-clause-returned
-returns-clause-returned c = λ G. return_kept
+returns-clause-returned c = return_kept
 
 pub returns-clause-not_returned : goal.returns-clause-not_returned
-returns-clause-not_returned c = λ G. return_not_kept
+returns-clause-not_returned c = return_not_kept

@@ -1,4 +1,9 @@
-use Rattle.spv_verdict.proofs.Checks.{checked_of, dead_answer, exactly_ok, told_answer}
+use Rattle.std.proofs.Common.{subst}
+use Rattle.spv_module.specs.Module.{plain_insts}
+use Rattle.spv_verdict.specs.Judged.{IsJudged}
+use Rattle.spv_verdict.specs.declared.checked.Verdict.TheVariants.{Fault}
+use Rattle.spv_verdict.proofs.Checks.{dead_answer, exactly, exactly_ok}
+use Rattle.spv_verdict.proofs.Judgments.{broken_answer, valid_answer}
 use Rattle.spv_verdict.proofs.Verdicts.{Laws, valid_of}
 use Rattle.spv_verdict.proofs.judging.check.Goals as goal
 
@@ -17,21 +22,34 @@ returns-in-Err-clause-exactly c = λ bytes order h.
     } in
     exactly_ok laws c.args.table.now bytes c.args.image.now order _ h (dead_answer c.args.table.now c.args.image.now c.in-Err.stop _ c.stopped.ensures c.in-Err.ensures.dead)
 
-pub returns-in-Ok-sound-clause-verdict : goal.returns-in-Ok-sound-clause-verdict
-returns-in-Ok-sound-clause-verdict c =
-    checked_of c.args.table.now c.args.image.now c.in-Ok.module c.in-Ok-sound.checked c.in-Ok-sound.ensures.whole c.in-Ok.ensures.found c.in-Ok.ensures.header c.in-Ok-sound.ensures.sound
+pub judge-requires-clause-words : goal.judge-requires-clause-words
+judge-requires-clause-words c =
+    (c.args.image.now, record { listing = c.in-Ok.ensures.found; bound = c.in-Ok.ensures.header.bound })
 
-pub returns-in-Ok-sound-clause-exactly : goal.returns-in-Ok-sound-clause-exactly
-returns-in-Ok-sound-clause-exactly c = λ bytes order h.
-    let a = checked_of c.args.table.now c.args.image.now c.in-Ok.module c.in-Ok-sound.checked c.in-Ok-sound.ensures.whole c.in-Ok.ensures.found c.in-Ok.ensures.header c.in-Ok-sound.ensures.sound in
-    (λ t. valid_of c.args.table.now bytes c.args.image.now order c.in-Ok-sound.checked h a, λ v. tt)
+pub returns-in-Valid-clause-verdict : goal.returns-in-Valid-clause-verdict
+returns-in-Valid-clause-verdict c =
+    let G = c.args.table.now in
+    let m = c.in-Ok.module in
+    let j = subst (λ j. IsJudged G m.header.bound (plain_insts m) j) c.in-Valid.is c.in_ok-checked.ensures in
+    valid_answer G c.args.image.now m c.in-Valid.checked c.in-Ok.ensures.header c.in-Ok.ensures.found j
 
-pub returns-in-Err-sound-clause-verdict : goal.returns-in-Err-sound-clause-verdict
-returns-in-Err-sound-clause-verdict c =
-    told_answer c.args.table.now c.args.image.now _ _ c.in-Err-sound.stop _ c.stopped-in-Err-sound.ensures c.in-Ok.ensures.header.bound c.in-Ok.ensures.found c.in-Err-sound.ensures.told
+pub returns-in-Valid-clause-exactly : goal.returns-in-Valid-clause-exactly
+returns-in-Valid-clause-exactly c = λ bytes order h.
+    let G = c.args.table.now in
+    let m = c.in-Ok.module in
+    let j = subst (λ j. IsJudged G m.header.bound (plain_insts m) j) c.in-Valid.is c.in_ok-checked.ensures in
+    let a = valid_answer G c.args.image.now m c.in-Valid.checked c.in-Ok.ensures.header c.in-Ok.ensures.found j in
+    (λ t. valid_of G bytes c.args.image.now order c.in-Valid.checked h a, λ v. tt)
 
-pub returns-in-Err-sound-clause-exactly : goal.returns-in-Err-sound-clause-exactly
-returns-in-Err-sound-clause-exactly c = λ bytes order h.
+pub returns-clause-verdict : goal.returns-clause-verdict
+returns-clause-verdict c =
+    let G = c.args.table.now in
+    let m = c.in-Ok.module in
+    let j = subst (λ j. IsJudged G m.header.bound (plain_insts m) j) c.in-Broken.is c.in_ok-checked.ensures in
+    broken_answer G c.args.image.now m _ c.in-Broken.fault _ c.in-Ok.ensures.header c.in-Ok.ensures.found j
+
+pub returns-clause-exactly : goal.returns-clause-exactly
+returns-clause-exactly c = λ bytes order h.
     let laws : Laws = record {
       words = c.one_word_list.ensures.order;
       once = c.one_refusal.ensures.once;
@@ -40,5 +58,8 @@ returns-in-Err-sound-clause-exactly c = λ bytes order h.
       alive = c.listed_or_dead.ensures;
       list = c.one_listing.ensures;
     } in
-    exactly_ok laws c.args.table.now bytes c.args.image.now order _ h
-    (told_answer c.args.table.now c.args.image.now _ _ c.in-Err-sound.stop _ c.stopped-in-Err-sound.ensures c.in-Ok.ensures.header.bound c.in-Ok.ensures.found c.in-Err-sound.ensures.told)
+    let G = c.args.table.now in
+    let m = c.in-Ok.module in
+    let j = subst (λ j. IsJudged G m.header.bound (plain_insts m) j) c.in-Broken.is c.in_ok-checked.ensures in
+    let a = broken_answer G c.args.image.now m _ c.in-Broken.fault _ c.in-Ok.ensures.header c.in-Ok.ensures.found j in
+    exactly laws G bytes c.args.image.now order (Fault c.in-Broken.fault) h a

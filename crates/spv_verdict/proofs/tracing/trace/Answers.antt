@@ -2,10 +2,10 @@ use Rattle.std.proofs.Common.{◌≡◌, ◌∙◌, List, IfOk, arith, ap, lengt
 use Rattle.std.proofs.lemmas.List.{length-map}
 use Rattle.spv_module.specs.Operand.{PlainInst}
 use Rattle.spv_module.specs.Module.{plain_inst}
-use Rattle.spv_calls.proofs.Insts.{short_list}
-use Rattle.spv_run.specs.Entry.{IsTraced}
-use Rattle.spv_run.proofs.Sound.{checked}
-use Rattle.spv_run.proofs.Theorem.{never_gets_stuck}
+use Rattle.spv_layout.proofs.Misfits.{short_list}
+use Rattle.spv_verdict.specs.run.Entry.{IsTraced}
+use Rattle.spv_verdict.proofs.Running.Sound.{checked}
+use Rattle.spv_verdict.proofs.Running.Theorem.{never_gets_stuck}
 use Rattle.spv_verdict.proofs.Runs.{each_run, numbered, some_run, sound_run}
 use Rattle.spv_verdict.proofs.tracing.trace.Goals as goal
 

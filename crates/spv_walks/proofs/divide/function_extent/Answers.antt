@@ -1,5 +1,6 @@
 use Rattle.std.proofs.Common.{ℕ, length, get_or, eq-eqb, arith}
 use Rattle.std.proofs.lemmas.List.{length-map}
+use Rattle.spv_module.specs.declared.opcode.TheConstants as opcode
 use Rattle.spv_module.specs.Module.{plain_inst}
 use Rattle.spv_branches.specs.inner.Target.{is_function}
 use Rattle.spv_branches.proofs.Labelled.{inst_get, op_holds}
@@ -39,7 +40,7 @@ returns-then-opcode-eq-FUNCTION-clause-extent c =
     let i = plain_inst (get_or code.insts.now at c.index-code-at.result) in
     let there = inst_get code.insts.now at c.index-code-at.result c.loop-at-test.true in
     let from = c.loop-at.auto.at in
-    let next = op_holds (insts_of code) at i is_function there (eq-eqb i.opcode 54 c.if-opcode-eq-FUNCTION.true) in
+    let next = op_holds (insts_of code) at i is_function there (eq-eqb i.opcode opcode.FUNCTION c.if-opcode-eq-FUNCTION.true) in
     extent_before (insts_of code) c.args.function at c.requires.function (omega (arith, from)) next c.loop-at.invariant.inside
 
 pub returns-then-opcode-eq-FUNCTION-clause-phis : goal.returns-then-opcode-eq-FUNCTION-clause-phis

@@ -1,5 +1,6 @@
 use Rattle.std.proofs.Common.{◌≡◌, ◌++◌, ◌∙◌, [], ◌∷◌, Some, nat_le, ◌&&◌, get_or, sym}
 use Rattle.std.specs.Prelude.{slice_get}
+use Rattle.spv_module.specs.declared.opcode.TheConstants as opcode
 use Rattle.spv_table.specs.Table.{Table}
 use Rattle.spv_module.specs.Operand.{PlainInst}
 use Rattle.spv_module.specs.Module.{plain_inst}
@@ -26,7 +27,7 @@ returns-then-inst-le-BRANCH c =
     let starts = c.args.blocks.now.starts.now in
     let i : PlainInst = plain_inst (get_or code.insts.now c.args.at c.index-code-at.result) in
     let there : slice_get (insts_of code) c.args.at ≡ Some i = inst_get code.insts.now c.args.at c.index-code-at.result c.requires.at in
-    let h = within_by i.opcode (op_tells (insts_of code) c.args.at i (λ n. nat_le 248 n && nat_le n 251) there c.requires.op) in
+    let h = within_by i.opcode (op_tells (insts_of code) c.args.at i (λ n. nat_le opcode.LABEL n && nat_le n opcode.SWITCH) there c.requires.op) in
     adds_none code (λ (G : Table) (a : Query). HasUseQuery G (insts_of code) starts c.args.block c.args.at a) c.args.queries.now.items
     (λ G is a. none_asked_here G code starts c.args.block c.args.at i a is there h c.if-inst-le-BRANCH.true)
 
@@ -37,7 +38,7 @@ returns-in_ok-push c =
     let old = c.args.queries.now.items in
     let i : PlainInst = plain_inst (get_or code.insts.now c.args.at c.index-code-at.result) in
     let there : slice_get (insts_of code) c.args.at ≡ Some i = inst_get code.insts.now c.args.at c.index-code-at.result c.requires.at in
-    let h = within_by i.opcode (op_tells (insts_of code) c.args.at i (λ n. nat_le 248 n && nat_le n 251) there c.requires.op) in
+    let h = within_by i.opcode (op_tells (insts_of code) c.args.at i (λ n. nat_le opcode.LABEL n && nat_le n opcode.SWITCH) there c.requires.op) in
     let P : Table → Query → Type 0 = λ G a. IsUseQuery G (insts_of code) starts c.args.block c.args.at 0 a in
     let Q : Table → Query → Type 0 = λ G a. HasUseQuery G (insts_of code) starts c.args.block c.args.at a in
     let query = c.in-Some-use_query.query in
@@ -51,7 +52,7 @@ returns-in_default-use_query c =
     let old = c.args.queries.now.items in
     let i : PlainInst = plain_inst (get_or code.insts.now c.args.at c.index-code-at.result) in
     let there : slice_get (insts_of code) c.args.at ≡ Some i = inst_get code.insts.now c.args.at c.index-code-at.result c.requires.at in
-    let h = within_by i.opcode (op_tells (insts_of code) c.args.at i (λ n. nat_le 248 n && nat_le n 251) there c.requires.op) in
+    let h = within_by i.opcode (op_tells (insts_of code) c.args.at i (λ n. nat_le opcode.LABEL n && nat_le n opcode.SWITCH) there c.requires.op) in
     let P : Table → Query → Type 0 = λ G a. IsUseQuery G (insts_of code) starts c.args.block c.args.at 0 a in
     let Q : Table → Query → Type 0 = λ G a. HasUseQuery G (insts_of code) starts c.args.block c.args.at a in
     adds_as code P Q old old (adds_none code P old (λ G is. c.in_default-use_query.ensures G is)) (λ G is a u. (0, u)) (λ G is a k. at_first G code starts c.args.block c.args.at i a is there h k)
@@ -63,7 +64,7 @@ returns-in_default c =
     let old = c.args.queries.now.items in
     let i : PlainInst = plain_inst (get_or code.insts.now c.args.at c.index-code-at.result) in
     let there : slice_get (insts_of code) c.args.at ≡ Some i = inst_get code.insts.now c.args.at c.index-code-at.result c.requires.at in
-    let h = within_by i.opcode (op_tells (insts_of code) c.args.at i (λ n. nat_le 248 n && nat_le n 251) there c.requires.op) in
+    let h = within_by i.opcode (op_tells (insts_of code) c.args.at i (λ n. nat_le opcode.LABEL n && nat_le n opcode.SWITCH) there c.requires.op) in
     let P : Table → Query → Type 0 = λ G a. IsUseQuery G (insts_of code) starts c.args.block c.args.at 0 a in
     let Q : Table → Query → Type 0 = λ G a. HasUseQuery G (insts_of code) starts c.args.block c.args.at a in
     let unused = sym c.in_default.is ∙ c.other_id.ensures in

@@ -2,6 +2,7 @@ use Rattle.std.proofs.Common.{◌∙◌, inl, inr, nat_le, ◌&&◌, get_or, sym
 use Rattle.std.specs.Prelude.{slice_index}
 use Rattle.std.proofs.lemmas.Bool.{eqb-true}
 use Rattle.std.proofs.lemmas.Result.{on_ok_weaker}
+use Rattle.spv_module.specs.declared.opcode.TheConstants as opcode
 use Rattle.spv_table.specs.Table.{Table}
 use Rattle.spv_module.specs.Module.{plain_inst}
 use Rattle.spv_graphs.specs.declared.queries.Query.{Query}
@@ -19,7 +20,7 @@ add_first_use-requires-clause-op c =
     let code = c.args.code.now in
     let i = plain_inst (get_or code.insts.now c.args.at c.index-code-at.result) in
     let there = inst_get code.insts.now c.args.at c.index-code-at.result c.requires.at in
-    op_holds (insts_of code) c.args.at i (λ n. nat_le 248 n && nat_le n 251) there (sym c.is_label_or_branch.ensures ∙ c.if-is_label_or_branch.true)
+    op_holds (insts_of code) c.args.at i (λ n. nat_le opcode.LABEL n && nat_le n opcode.SWITCH) there (sym c.is_label_or_branch.ensures ∙ c.if-is_label_or_branch.true)
 
 pub returns-then-is_label_or_branch : goal.returns-then-is_label_or_branch
 returns-then-is_label_or_branch c =
@@ -29,7 +30,7 @@ returns-then-is_label_or_branch c =
     let there = inst_get code.insts.now c.args.at c.index-code-at.result c.requires.at in
     let h = within_by i.opcode (sym c.is_label_or_branch.ensures ∙ c.if-is_label_or_branch.true) in
     let low = h.0 in
-    let plain : ¬ (IsOp (insts_of code) c.args.at is_phi) = λ p. let e = eqb-true i.opcode 245 (op_tells (insts_of code) c.args.at i is_phi there p) in omega (arith, low, e) in
+    let plain : ¬ (IsOp (insts_of code) c.args.at is_phi) = λ p. let e = eqb-true i.opcode opcode.PHI (op_tells (insts_of code) c.args.at i is_phi there p) in omega (arith, low, e) in
     on_ok_weaker c.add_first_use.result
     (λ h. adds_as code (λ (G : Table) (a : Query). HasUseQuery G (insts_of code) starts c.args.block c.args.at a) (λ (G : Table) (a : Query). IsQueryAt G (insts_of code) starts c.args.block c.args.at a) c.args.queries.now.items c.add_first_use.new.queries.items h
     (λ G is a u. inl (plain, u))
@@ -42,7 +43,7 @@ returns-then-opcode-ne-PHI c =
     let starts = c.args.blocks.now.starts.now in
     let i = plain_inst (get_or code.insts.now c.args.at c.index-code-at.result) in
     let there = inst_get code.insts.now c.args.at c.index-code-at.result c.requires.at in
-    let plain : ¬ (IsOp (insts_of code) c.args.at is_phi) = λ p. c.if-opcode-ne-PHI.true (eqb-true i.opcode 245 (op_tells (insts_of code) c.args.at i is_phi there p)) in
+    let plain : ¬ (IsOp (insts_of code) c.args.at is_phi) = λ p. c.if-opcode-ne-PHI.true (eqb-true i.opcode opcode.PHI (op_tells (insts_of code) c.args.at i is_phi there p)) in
     on_ok_weaker c.add_uses.result
     (λ h. adds_as code (λ (G : Table) (a : Query). HasUseQuery G (insts_of code) starts c.args.block c.args.at a) (λ (G : Table) (a : Query). IsQueryAt G (insts_of code) starts c.args.block c.args.at a) c.args.queries.now.items c.add_uses.new.queries.items h
     (λ G is a u. inl (plain, u))
@@ -56,10 +57,10 @@ returns-then-code-start-eq-LABEL c =
     let s = slice_index starts c.args.block in
     let i = plain_inst (get_or code.insts.now c.args.at c.index-code-at.result) in
     let there = inst_get code.insts.now c.args.at c.index-code-at.result c.requires.at in
-    let phi = op_holds (insts_of code) c.args.at i is_phi there (eq-eqb i.opcode 245 c.if-opcode-ne-PHI.false) in
+    let phi = op_holds (insts_of code) c.args.at i is_phi there (eq-eqb i.opcode opcode.PHI c.if-opcode-ne-PHI.false) in
     let j = plain_inst (get_or code.insts.now s c.index-code-start.result) in
     let here = inst_get code.insts.now s c.index-code-start.result (start_within code c.args.blocks.now c.requires.blocks c.args.block c.requires.block) in
-    let label = op_holds (insts_of code) s j is_label here (eq-eqb j.opcode 248 c.if-code-start-eq-LABEL.true) in
+    let label = op_holds (insts_of code) s j is_label here (eq-eqb j.opcode opcode.LABEL c.if-code-start-eq-LABEL.true) in
     on_ok_weaker c.add_pairs.result
     (λ h. adds_as code (λ (G : Table) (a : Query). HasPairQuery G (insts_of code) starts c.args.at a) (λ (G : Table) (a : Query). IsQueryAt G (insts_of code) starts c.args.block c.args.at a) c.args.queries.now.items c.add_pairs.new.queries.items h
     (λ G is a p. inr (phi, label, p))
@@ -73,10 +74,10 @@ returns c =
     let s = slice_index starts c.args.block in
     let i = plain_inst (get_or code.insts.now c.args.at c.index-code-at.result) in
     let there = inst_get code.insts.now c.args.at c.index-code-at.result c.requires.at in
-    let phi = op_holds (insts_of code) c.args.at i is_phi there (eq-eqb i.opcode 245 c.if-opcode-ne-PHI.false) in
+    let phi = op_holds (insts_of code) c.args.at i is_phi there (eq-eqb i.opcode opcode.PHI c.if-opcode-ne-PHI.false) in
     let j = plain_inst (get_or code.insts.now s c.index-code-start.result) in
     let here = inst_get code.insts.now s c.index-code-start.result (start_within code c.args.blocks.now c.requires.blocks c.args.block c.requires.block) in
     adds_none code (λ (G : Table) (a : Query). IsQueryAt G (insts_of code) starts c.args.block c.args.at a) c.args.queries.now.items (λ G is a k. elim k [
       | inl u ↦ u.0 phi
-      | inr p ↦ c.if-code-start-eq-LABEL.false (eqb-true j.opcode 248 (op_tells (insts_of code) s j is_label here p.1))
+      | inr p ↦ c.if-code-start-eq-LABEL.false (eqb-true j.opcode opcode.LABEL (op_tells (insts_of code) s j is_label here p.1))
     ])

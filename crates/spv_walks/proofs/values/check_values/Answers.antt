@@ -2,7 +2,7 @@ use Rattle.std.proofs.Common.{◌≡◌, ◌≤◌, ◌+◌, length, map, arith}
 use Rattle.std.specs.Prelude.{sum_by}
 use Rattle.std.proofs.lemmas.List.{length-map}
 use Rattle.spv_module.specs.Module.{plain_inst, plain_insts}
-use Rattle.spv_layout.specs.Place.{word_count}
+use Rattle.spv_layout.specs.Place.{word_count, IsShort}
 use Rattle.spv_branches.proofs.Firsts.{few_insts}
 use Rattle.spv_walks.proofs.Telling.{unavailable_there, told, unbroken_by}
 use Rattle.spv_walks.proofs.values.check_values.Goals as goal
@@ -13,7 +13,7 @@ count_globals-globals-requires c =
     let xs = c.as_slice-insts.result.now in
     let s = few_insts (map plain_inst xs) in
     let l = length-map xs plain_inst in
-    let q : 5 + sum_by word_count (map plain_inst xs) ≤ 4194304 = rw v c.requires.words in
+    let q : IsShort (map plain_inst xs) = rw v c.requires.words in
     omega arith
 
 pub first_missing-requires-clause-code : goal.first_missing-requires-clause-code
@@ -22,7 +22,7 @@ first_missing-requires-clause-code c =
     let xs = c.as_slice-insts.result.now in
     let s = few_insts (map plain_inst xs) in
     let l = length-map xs plain_inst in
-    let q : 5 + sum_by word_count (map plain_inst xs) ≤ 4194304 = rw v c.requires.words in
+    let q : IsShort (map plain_inst xs) = rw v c.requires.words in
     let k = c.requires.known in
     (k.0, record { plan = rw v k.1; bound = c.args.module.now.header.bound; ids = rw v k.2; branches = rw v k.3; most = omega arith; global = c.count_globals-globals.ensures })
 
@@ -32,7 +32,7 @@ first_missing-requires-clause-most c =
     let xs = c.as_slice-insts.result.now in
     let s = few_insts (map plain_inst xs) in
     let l = length-map xs plain_inst in
-    let q : 5 + sum_by word_count (map plain_inst xs) ≤ 4194304 = rw v c.requires.words in
+    let q : IsShort (map plain_inst xs) = rw v c.requires.words in
     omega arith
 
 pub rule-requires : goal.rule-requires
@@ -41,7 +41,7 @@ rule-requires c =
     let xs = c.as_slice-insts.result.now in
     let s = few_insts (map plain_inst xs) in
     let l = length-map xs plain_inst in
-    let q : 5 + sum_by word_count (map plain_inst xs) ≤ 4194304 = rw v c.requires.words in
+    let q : IsShort (map plain_inst xs) = rw v c.requires.words in
     let k = c.requires.known in
     let h = rw c.in-Some.is at c.in_ok-inst.ensures in
     let f = h k.0 (record { plan = rw v k.1; bound = c.args.module.now.header.bound; ids = rw v k.2; branches = rw v k.3; most = omega arith; global = c.count_globals-globals.ensures }) in
@@ -54,7 +54,7 @@ stop_at-requires c =
     let xs = c.as_slice-insts.result.now in
     let s = few_insts (map plain_inst xs) in
     let l = length-map xs plain_inst in
-    let q : 5 + sum_by word_count (map plain_inst xs) ≤ 4194304 = rw v c.requires.words in
+    let q : IsShort (map plain_inst xs) = rw v c.requires.words in
     let k = c.requires.known in
     let h = rw c.in-Some.is at c.in_ok-inst.ensures in
     let f = h k.0 (record { plan = rw v k.1; bound = c.args.module.now.header.bound; ids = rw v k.2; branches = rw v k.3; most = omega arith; global = c.count_globals-globals.ensures }) in
@@ -68,7 +68,7 @@ returns-in-Some-clause-refused c = λ G p a b.
     let xs = c.as_slice-insts.result.now in
     let s = few_insts (map plain_inst xs) in
     let l = length-map xs plain_inst in
-    let q : 5 + sum_by word_count (map plain_inst xs) ≤ 4194304 = rw v c.requires.words in
+    let q : IsShort (map plain_inst xs) = rw v c.requires.words in
     let h = rw c.in-Some.is at c.in_ok-inst.ensures in
     let f = h G (record { plan = rw v p; bound = c.args.module.now.header.bound; ids = rw v a; branches = rw v b; most = omega arith; global = c.count_globals-globals.ensures }) in
     told G (plain_insts c.args.module.now) c.rule.result c.in-Some.inst c.stop_at.result (rw v at c.rule.ensures) (rw v at f) (c.stop_at.ensures G (plain_insts c.args.module.now) p)
@@ -79,7 +79,7 @@ returns-clause-unbroken c = λ G p a b.
     let xs = c.as_slice-insts.result.now in
     let s = few_insts (map plain_inst xs) in
     let l = length-map xs plain_inst in
-    let q : 5 + sum_by word_count (map plain_inst xs) ≤ 4194304 = rw v c.requires.words in
+    let q : IsShort (map plain_inst xs) = rw v c.requires.words in
     let h = rw c.in_default.is at c.in_ok-inst.ensures in
     let u = h G (record { plan = rw v p; bound = c.args.module.now.header.bound; ids = rw v a; branches = rw v b; most = omega arith; global = c.count_globals-globals.ensures }) in
     let n = unbroken_by G (map plain_inst xs) u in

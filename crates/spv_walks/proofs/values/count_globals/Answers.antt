@@ -1,5 +1,6 @@
 use Rattle.std.proofs.Common.{◌≡◌, ℕ, inl, inr, map, get_or, subst, arith}
 use Rattle.std.proofs.lemmas.Bool.{cases_lt, eqb-true}
+use Rattle.spv_module.specs.declared.opcode.TheConstants as opcode
 use Rattle.spv_module.specs.Module.{plain_inst}
 use Rattle.spv_branches.specs.Target.{IsOp}
 use Rattle.spv_branches.specs.inner.Target.{is_function}
@@ -16,7 +17,7 @@ loop-at-preserved c = λ k lt op. elim (cases_lt k c.loop-at.at) [
       let i = plain_inst (get_or insts at c.index-insts-at.result) in
       let there = inst_get insts at c.index-insts-at.result c.loop-at-test.true in
       let here : IsOp (map plain_inst insts) at is_function = subst (λ (n : ℕ). IsOp (map plain_inst insts) n is_function) e op in
-      c.if-insts-at-eq-FUNCTION.false (eqb-true i.opcode 54 (op_tells (map plain_inst insts) at i is_function there here)))
+      c.if-insts-at-eq-FUNCTION.false (eqb-true i.opcode opcode.FUNCTION (op_tells (map plain_inst insts) at i is_function there here)))
 ]
 
 pub returns : goal.returns

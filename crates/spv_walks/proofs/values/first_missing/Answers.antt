@@ -1,5 +1,6 @@
 use Rattle.std.proofs.Common.{ℕ, Option, get_or, eq-eqb, subst, arith}
 use Rattle.std.proofs.lemmas.List.{length-map}
+use Rattle.spv_module.specs.declared.opcode.TheConstants as opcode
 use Rattle.spv_table.specs.Table.{Table}
 use Rattle.spv_module.specs.Module.{plain_inst}
 use Rattle.spv_branches.specs.inner.Target.{is_function}
@@ -14,7 +15,7 @@ function_extent-extent-requires-clause-function c =
     let code = c.args.code.now in
     let at = c.loop-at.at in
     let i = plain_inst (get_or code.insts.now at c.index-code-at.result) in
-    op_holds (insts_of code) at i is_function (inst_get code.insts.now at c.index-code-at.result c.loop-at-test.true) (eq-eqb i.opcode 54 c.if-code-at-eq-FUNCTION.true)
+    op_holds (insts_of code) at i is_function (inst_get code.insts.now at c.index-code-at.result c.loop-at-test.true) (eq-eqb i.opcode opcode.FUNCTION c.if-code-at-eq-FUNCTION.true)
 
 pub loop-at-init : goal.loop-at-init
 loop-at-init c = record { count = c.in_ok-buffers.ensures; sound = sound_start c.args.code.now }

@@ -10,8 +10,7 @@ returns c =
     let seen = content_of c.self.inside.source.now c.self.inside.numbers.items c.self.inside.texts.items in
     let all : map seen c.self.inside.stored.items ≡ c.args.self.now = c.self.view_is in
     let long : length c.self.inside.stored.items ≡ length c.args.self.now = sym (length-map c.self.inside.stored.items seen) ∙ ap length all in
-    let first = c.len.ensures in
-    let stored = c.in_ok-count.ensures in
-    let count : c.in_ok-count.count ≡ length c.args.self.now - c.args.place - 1 = omega arith in
-    map-set seen c.self.inside.stored.items c.args.place (Object c.in_ok-count.count) ∙ ap (λ (xs : List Content). slice_set xs c.args.place (object c.in_ok-count.count)) all
+    let stored = c.len.ensures in
+    let count : c.len.result - c.args.place - 1 ≡ length c.args.self.now - c.args.place - 1 = omega arith in
+    map-set seen c.self.inside.stored.items c.args.place (Object (c.len.result - c.args.place - 1)) ∙ ap (λ (xs : List Content). slice_set xs c.args.place (object (c.len.result - c.args.place - 1))) all
     ∙ ap (λ n. slice_set c.args.self.now c.args.place (object n)) count

@@ -1,5 +1,6 @@
 use Rattle.std.proofs.Common.{◌≡◌, ◌∙◌, ap, arith}
 use Rattle.spv_module.specs.Module.{plain_inst, plain_operands}
+use Rattle.spv_module.specs.declared.opcode.TheConstants as opcode
 use Rattle.spv_capabilities.specs.Capable.{first_value}
 use Rattle.spv_capabilities.specs.Entry.{called_by, entered_by, imported_by, third_id, second_id, linked_id}
 use Rattle.spv_capabilities.proofs.Marked.{marks_none}
@@ -10,7 +11,7 @@ pub returns-in_ok-push-in-17 : goal.returns-in_ok-push-in-17
 returns-in_ok-push-in-17 c = λ is to d h a.
     let i = plain_inst c.args.inst.now in
     let g = c.args.self.now in
-    let o : i.opcode ≡ 17 = c.in-17.is in
+    let o : i.opcode ≡ opcode.CAPABILITY = c.in-17.is in
     let f : c.first_value.result ≡ first_value i.operands = c.first_value.ensures ∙ ap (λ os. first_value (plain_operands os)) c.as_slice.ensures.value in
     record {
       declared = c.in_ok-push-in-17.ensures.items ∙ declared_one is to c.in-Some.capability i g.declared.items h (declared_here i c.first_value.result o f ∙ c.in-Some.is) a.declared;
@@ -24,7 +25,7 @@ pub returns-in_default-first_value : goal.returns-in_default-first_value
 returns-in_default-first_value c = λ is to d h a.
     let i = plain_inst c.args.inst.now in
     let g = c.args.self.now in
-    let o : i.opcode ≡ 17 = c.in-17.is in
+    let o : i.opcode ≡ opcode.CAPABILITY = c.in-17.is in
     let f : c.first_value.result ≡ first_value i.operands = c.first_value.ensures ∙ ap (λ os. first_value (plain_operands os)) c.as_slice.ensures.value in
     record {
       declared = declared_none is to i g.declared.items h (declared_here i c.first_value.result o f ∙ c.in_default-first_value.is) a.declared;
@@ -38,7 +39,7 @@ pub returns-in-15 : goal.returns-in-15
 returns-in-15 c = λ is to d h a.
     let i = plain_inst c.args.inst.now in
     let g = c.args.self.now in
-    let o : i.opcode ≡ 15 = c.in-15.is in
+    let o : i.opcode ≡ opcode.ENTRY_POINT = c.in-15.is in
     let f : c.second_id.result ≡ second_id i.operands = c.second_id.ensures ∙ ap (λ os. second_id (plain_operands os)) c.as_slice-in-15.ensures.value in
     record {
       declared = declared_none is to i g.declared.items h (not_declared i (λ q. omega (arith, o, q))) a.declared;
@@ -52,7 +53,7 @@ pub returns-in-57 : goal.returns-in-57
 returns-in-57 c = λ is to d h a.
     let i = plain_inst c.args.inst.now in
     let g = c.args.self.now in
-    let o : i.opcode ≡ 57 = c.in-57.is in
+    let o : i.opcode ≡ opcode.FUNCTION_CALL = c.in-57.is in
     let f : c.third_id.result ≡ third_id i.operands = c.third_id.ensures ∙ ap (λ os. third_id (plain_operands os)) c.as_slice-in-57.ensures.value in
     record {
       declared = declared_none is to i g.declared.items h (not_declared i (λ q. omega (arith, o, q))) a.declared;
@@ -66,7 +67,7 @@ pub returns-in-71 : goal.returns-in-71
 returns-in-71 c = λ is to d h a.
     let i = plain_inst c.args.inst.now in
     let g = c.args.self.now in
-    let o : i.opcode ≡ 71 = c.in-71.is in
+    let o : i.opcode ≡ opcode.DECORATE = c.in-71.is in
     let f : c.linked_id.result ≡ linked_id c.args.linkage i.operands = c.linked_id.ensures ∙ ap (λ os. linked_id c.args.linkage (plain_operands os)) c.as_slice-in-71.ensures.value in
     record {
       declared = declared_none is to i g.declared.items h (not_declared i (λ q. omega (arith, o, q))) a.declared;

@@ -1,7 +1,7 @@
 use Rattle.std.proofs.Common.{◌∙◌, ◌<◌, sym, ap, arith, length}
 use Rattle.std.proofs.lemmas.List.{length-map}
 use Rattle.spv_module.specs.Module.{plain_inst}
-use Rattle.spv_ids.proofs.Defining.{inst_there}
+use Rattle.spv_layout.proofs.Misfits.{inst_there}
 use Rattle.spv_ids.proofs.survey.Survey.site.Goals as goal
 
 pub returns-clause-site : goal.returns-clause-site

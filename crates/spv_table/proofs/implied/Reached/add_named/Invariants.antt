@@ -6,5 +6,5 @@ use Rattle.spv_table.specs.Implied.{enumerants_of}
 use Rattle.spv_table.specs.inner.Reached.{AddsAll}
 use Rattle.spv_table.proofs.implied.Reached.add_named.Given as goal
 
-abbrev pub invariant-loop-name : goal.invariant-loop-name
-invariant-loop-name l = AddsAll (filter_map (value_named (enumerants_of (kind_of l.table l.kind))) (take l.name-index l.names)) l.initial.self l.self
+abbrev pub invariant-loop-place : goal.invariant-loop-place
+invariant-loop-place l = AddsAll (filter_map (value_named (enumerants_of (kind_of l.table l.kind))) (take l.place l.names)) l.initial.self l.self

@@ -3,10 +3,8 @@ use Rattle.std.specs.Prelude.{IsTrue}
 use Rattle.spv_module.specs.Module.{plain_inst}
 use Rattle.spv_type_rules.specs.Repeat.{Repeats}
 use Rattle.spv_type_rules.specs.inner.Rules.{IsFirstHere}
-use Rattle.spv_ops.proofs.Judged.{told}
 use Rattle.spv_type_rules.proofs.Counting.{counted_at}
-use Rattle.spv_type_rules.proofs.Firsts.{op_told}
-use Rattle.spv_type_rules.proofs.Concerns.{told_y3, told_y4, told_y5, told_y6, told_y7, told_y8, told_nothing}
+use Rattle.spv_type_rules.proofs.Concerns.{told_y3, told_y4, told_y6, told_y7, told_y8, told_nothing}
 use Rattle.spv_type_rules.proofs.rules.Rules.first_at.Goals as goal
 
 pub keeps_functions-requires-clause-parameters : goal.keeps_functions-requires-clause-parameters
@@ -14,49 +12,40 @@ keeps_functions-requires-clause-parameters c = λ e f o.
     counted_at c.args.self.now.definitions c.args.number c.args.known.parameters f (plain_inst c.args.inst.now) c.requires.inst e c.requires.parameters o
 
 pub returns-in-Constant : goal.returns-in-Constant
-returns-in-Constant c = λ G plan.
+returns-in-Constant c =
     let is = c.args.self.now.definitions in
     let n = c.args.number in
     let i = plain_inst c.args.inst.now in
-    subst (λ o. IsFirstHere G is n i o) (sym c.unless.ensures) (told_y4 G is n i c.is_sound_constant.result (sym c.concern_of.ensures ∙ c.in-Constant.is) c.is_sound_constant.ensures)
-
-pub returns-in-Operation : goal.returns-in-Operation
-returns-in-Operation c = λ G plan.
-    let is = c.args.self.now.definitions in
-    let n = c.args.number in
-    let i = plain_inst c.args.inst.now in
-    let t = told G is n i c.requires.inst (plan.fits n i c.requires.inst) in
-    let d = op_told G is is n i c.inst_holds.result refl c.requires.inst (λ y. t.0 (c.inst_holds.ensures.0 y), λ r. c.inst_holds.ensures.1 (t.1 r)) in
-    subst (λ o. IsFirstHere G is n i o) (sym c.unless-in-Operation.ensures) (told_y5 G is n i c.inst_holds.result (sym c.concern_of.ensures ∙ c.in-Operation.is) d)
+    subst (λ o. IsFirstHere is n i o) (sym c.unless.ensures) (told_y4 is n i c.is_sound_constant.result (sym c.concern_of.ensures ∙ c.in-Constant.is) c.is_sound_constant.ensures)
 
 pub returns-in-Nothing : goal.returns-in-Nothing
-returns-in-Nothing c = λ G plan. told_nothing G c.args.self.now.definitions c.args.number (plain_inst c.args.inst.now) (sym c.concern_of.ensures ∙ c.in-Nothing.is)
+returns-in-Nothing c = told_nothing c.args.self.now.definitions c.args.number (plain_inst c.args.inst.now) (sym c.concern_of.ensures ∙ c.in-Nothing.is)
 
 pub returns-in-Function : goal.returns-in-Function
-returns-in-Function c = λ G plan.
+returns-in-Function c =
     let is = c.args.self.now.definitions in
     let n = c.args.number in
     let i = plain_inst c.args.inst.now in
-    subst (λ o. IsFirstHere G is n i o) (sym c.unless-in-Function.ensures) (told_y6 G is n i c.keeps_functions.result (sym c.concern_of.ensures ∙ c.in-Function.is) c.keeps_functions.ensures)
+    subst (λ o. IsFirstHere is n i o) (sym c.unless-in-Function.ensures) (told_y6 is n i c.keeps_functions.result (sym c.concern_of.ensures ∙ c.in-Function.is) c.keeps_functions.ensures)
 
 pub returns-in-Return : goal.returns-in-Return
-returns-in-Return c = λ G plan.
+returns-in-Return c =
     let is = c.args.self.now.definitions in
     let n = c.args.number in
     let i = plain_inst c.args.inst.now in
-    subst (λ o. IsFirstHere G is n i o) (sym c.unless-in-Return.ensures) (told_y7 G is n i c.keeps_returns.result (sym c.concern_of.ensures ∙ c.in-Return.is) c.keeps_returns.ensures)
+    subst (λ o. IsFirstHere is n i o) (sym c.unless-in-Return.ensures) (told_y7 is n i c.keeps_returns.result (sym c.concern_of.ensures ∙ c.in-Return.is) c.keeps_returns.ensures)
 
 pub returns-in-Call : goal.returns-in-Call
-returns-in-Call c = λ G plan.
+returns-in-Call c =
     let is = c.args.self.now.definitions in
     let n = c.args.number in
     let i = plain_inst c.args.inst.now in
-    subst (λ o. IsFirstHere G is n i o) (sym c.unless-in-Call.ensures) (told_y8 G is n i c.keeps_calls.result (sym c.concern_of.ensures ∙ c.in-Call.is) c.keeps_calls.ensures)
+    subst (λ o. IsFirstHere is n i o) (sym c.unless-in-Call.ensures) (told_y8 is n i c.keeps_calls.result (sym c.concern_of.ensures ∙ c.in-Call.is) c.keeps_calls.ensures)
 
 pub returns-else-known : goal.returns-else-known
-returns-else-known c = λ G plan.
+returns-else-known c =
     let is = c.args.self.now.definitions in
     let n = c.args.number in
     let i = plain_inst c.args.inst.now in
     let never = subst (λ b. IsTrue b ↔ Repeats is n i) c.if-known.false c.requires.repeats in
-    told_y3 G is n i false (sym c.concern_of.ensures ∙ c.in-Declaration.is) (c.is_sound_declaration.ensures.0 c.if-not-is_sound_declaration.false) never
+    told_y3 is n i false (sym c.concern_of.ensures ∙ c.in-Declaration.is) (c.is_sound_declaration.ensures.0 c.if-not-is_sound_declaration.false) never

@@ -1,7 +1,0 @@
-use Rattle.std.proofs.Common.{◌≡◌, ◌<◌, ℕ, true, None}
-use Rattle.spv_branches.specs.inner.Edges.{marked}
-use Rattle.spv_branch_reasons.specs.inner.Known.{name_of}
-use Rattle.spv_branch_reasons.proofs.parents.unnamed.Given as goal
-
-abbrev pub invariant-loop-block : goal.invariant-loop-block
-invariant-loop-block l = (p : ℕ) → p < l.block → marked l.predecessors p ≡ true → ¬ (name_of l.names p ≡ None)

@@ -1,7 +1,0 @@
-use Rattle.spv_table.specs.Table.{Table}
-use Rattle.spv_branches.specs.inner.Code.{insts_of, IsCode}
-use Rattle.spv_branch_reasons.specs.inner.Known.{AreNames}
-use Rattle.spv_branch_reasons.proofs.parents.wrong_pair.Given as goal
-
-abbrev pub invariant-loop-k : goal.invariant-loop-k
-invariant-loop-k l = (G : Table) → IsCode G l.code → AreNames G (insts_of l.code) l.at l.predecessors l.names l.k

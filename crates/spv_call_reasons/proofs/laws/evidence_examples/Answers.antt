@@ -1,5 +1,0 @@
-use Rattle.spv_call_reasons.proofs.Worked.{inner, no_entry, longer, outer}
-use Rattle.spv_call_reasons.proofs.laws.evidence_examples.Goals as goal
-
-pub returns : goal.returns
-returns c = record { inner = inner; no_entry = no_entry; longer = longer; outside = outer }

@@ -1,0 +1,57 @@
+-- What a finder hands out shows a fault.
+use Rattle.std.proofs.Common.{◌≡◌, ℕ, List, sym, subst, inl, inr}
+use Rattle.std.specs.Prelude.{IfOk, Ok, Err}
+use Rattle.std.specs.Prelude.{Result as Answer}
+use Rattle.spv_table.specs.Table.{Table}
+use Rattle.spv_module.specs.Operand.{PlainInst}
+use Rattle.spv_module.specs.declared.fault.Fault.{Fault}
+use Rattle.spv_module.specs.declared.fault.Rule.TheVariants as rule
+use Rattle.spv_module.specs.declared.fault.Stop.{Stop}
+use Rattle.spv_module.specs.declared.fault.Stop.TheVariants as stop
+use Rattle.spv_layout.specs.Broken as broken
+use Rattle.spv_layout.specs.Plan as plan
+use Rattle.spv_evidence.specs.declared.evidence.Evidence.{Evidence}
+use Rattle.spv_form_evidence.specs.layout.Evidence as layout
+use Rattle.spv_form_evidence.specs.ids.Evidence as ids
+use Rattle.spv_form_evidence.specs.ids.Roles as roles
+use Rattle.spv_type_evidence.specs.capabilities.Evidence as capabilities
+use Rattle.spv_type_evidence.specs.types.Evidence as types
+use Rattle.spv_flow_evidence.specs.branches.Evidence as branches
+use Rattle.spv_flow_evidence.specs.walks.Evidence as walks
+use Rattle.spv_flow_evidence.specs.calls.Evidence as calls
+use Rattle.spv_explain.specs.Evidence.{IsEvidence}
+use Rattle.spv_explain.specs.inner.Shown.{IsShownAt}
+
+pub role_shown : (G : Table) (bound : ℕ) (is : List PlainInst) (f : Fault) (e : Evidence) → f.rule ≡ rule.Y1 → roles.IsEvidence G is rule.Y1 f.inst e → IsShownAt G bound is f e
+role_shown G bound is f e one h = λ s. IsEvidence.of_roles f.rule f.inst e (subst (λ r. roles.IsEvidence G is r f.inst e) (sym one) h)
+
+pub capability_shown : {E : Type 0} (G : Table) (bound : ℕ) (is : List PlainInst) (f : Fault) (r : Answer Evidence E) → IfOk r (λ e. capabilities.IsEvidence G is f.rule f.inst e)
+    → IfOk r (λ e. IsShownAt G bound is f e)
+capability_shown G bound is f (Ok e) h = λ s. IsEvidence.of_capabilities f.rule f.inst e h
+capability_shown G bound is f (Err _) h = tt
+
+pub type_shown : (G : Table) (bound : ℕ) (is : List PlainInst) (f : Fault) (e : Evidence) → types.IsEvidence G is f.rule f.inst e → IsShownAt G bound is f e
+type_shown G bound is f e h = λ s. IsEvidence.of_types f.rule f.inst e h
+
+pub walk_shown : (G : Table) (bound : ℕ) (is : List PlainInst) (f : Fault) (e : Evidence) → walks.IsEvidence G is f.rule f.inst e → IsShownAt G bound is f e
+walk_shown G bound is f e h = λ s. IsEvidence.of_walks f.rule f.inst e h
+
+pub branch_shown : (G : Table) (bound : ℕ) (is : List PlainInst) (f : Fault) (e : Evidence) → branches.IsEvidence G is f.rule f.inst e → IsShownAt G bound is f e
+branch_shown G bound is f e h = λ s. IsEvidence.of_branches f.rule f.inst e h
+
+pub call_shown : (G : Table) (bound : ℕ) (is : List PlainInst) (f : Fault) (e : Evidence) → f.rule ≡ rule.G1 → calls.IsEvidence is rule.G1 f.inst e → IsShownAt G bound is f e
+call_shown G bound is f e one h = λ s. IsEvidence.of_calls f.rule f.inst e (subst (λ r. calls.IsEvidence is r f.inst e) (sym one) h)
+
+pub id_shown : (G : Table) (bound : ℕ) (is : List PlainInst) (f : Fault) (e : Evidence) → ids.IsEvidence G bound is f.rule f.inst e → IsShownAt G bound is f e
+id_shown G bound is f e h = λ s. IsEvidence.of_ids f.rule f.inst e h
+
+-- a refusal of the shapes or of the layout
+pub refused_broken : (G : Table) (is : List PlainInst) (s : Stop) (f : Fault) → s ≡ stop.Fault f → plan.IsRefusal G is s
+    → broken.Broken G is f.rule f.inst
+refused_broken G is s f e h =
+    let r : plan.IsRefusal G is (stop.Fault f) = rw e at h in
+    elim r.0 [ inl a ↦ a.broken | inr b ↦ b.1.broken ]
+
+pub layout_shown : (G : Table) (bound : ℕ) (is : List PlainInst) (f : Fault) (e : Evidence)
+    → layout.IsEvidence G is f.rule f.inst e → IsShownAt G bound is f e
+layout_shown G bound is f e h = λ s. IsEvidence.of_layout f.rule f.inst e h

@@ -1,0 +1,88 @@
+-- Evidence of whatever rule shows that the rule is broken.
+use Rattle.std.proofs.Common.{◌≡◌, ◌<◌, ◌≤◌, ◌⊎◌, inl, inr, ℕ, List, Some, arith}
+use Rattle.std.specs.Prelude.{slice_get}
+use Rattle.spv_table.specs.Table.{Table}
+use Rattle.spv_module.specs.Operand.{PlainInst}
+use Rattle.spv_module.specs.declared.fault.Rule.{Rule}
+use Rattle.spv_verdict.specs.types.Broken as types
+use Rattle.spv_verdict.specs.Broken.{Broken}
+use Rattle.spv_evidence.specs.declared.evidence.Evidence.{Evidence}
+use Rattle.spv_layout.specs.First.{stage_of}
+use Rattle.spv_layout.specs.Stage as stages
+use Rattle.spv_verdict.proofs.Firsts.{calls_stage, flow_stage, ids_stage}
+use Rattle.spv_verdict.proofs.Stages.{types_stage}
+use Rattle.spv_form_evidence.specs.layout.Evidence as by_layout
+use Rattle.spv_form_evidence.specs.ids.Roles as roles
+use Rattle.spv_type_evidence.specs.types.Evidence as by_types
+use Rattle.spv_type_evidence.specs.capabilities.Evidence as capabilities
+use Rattle.spv_form_evidence.proofs.lemmas.layout.Sufficing as layout_law
+use Rattle.spv_form_evidence.proofs.lemmas.ids.Sufficing.{ids_suffice, roles_suffice}
+use Rattle.spv_type_evidence.proofs.lemmas.capabilities.Suffices.{breaks}
+use Rattle.spv_type_evidence.proofs.lemmas.types.Sufficing as types_law
+use Rattle.spv_flow_evidence.proofs.lemmas.branches.Sufficing as branches_law
+use Rattle.spv_flow_evidence.proofs.lemmas.walks.Sufficing as walks_law
+use Rattle.spv_flow_evidence.proofs.lemmas.calls.Walked.{sufficient}
+use Rattle.spv_explain.specs.Evidence.{IsEvidence}
+
+-- the instruction at which a rule on capabilities or entry points is shown to be broken
+record IsThere (is : List PlainInst) (n : ℕ) : Type 0 where
+  pub inst : PlainInst
+  pub there : slice_get is n ≡ Some inst
+
+capability_there : (G : Table) (is : List PlainInst) (r : Rule) (n : ℕ) (e : Evidence)
+    → capabilities.IsEvidence G is r n e → IsThere is n
+capability_there G is _ _ _ (capabilities.IsEvidence.no_kernel n o h) = record { inst = o.inst; there = o.there }
+capability_there G is _ _ _ (capabilities.IsEvidence.shader n o h) = record { inst = o.inst; there = o.there }
+capability_there G is _ _ _ (capabilities.IsEvidence.needs n i l t u) = record { inst = i; there = t }
+capability_there G is _ _ _ (capabilities.IsEvidence.model n k i t o m) = record { inst = i; there = t }
+capability_there G is _ _ _ (capabilities.IsEvidence.no_entry n o h) = record { inst = o.inst; there = o.there }
+capability_there G is _ _ _ (capabilities.IsEvidence.entry n i p t u) = record { inst = i; there = t }
+
+-- the rules on roles, on capabilities and entry points, and on types
+pub roles_broken : (G : Table) (is : List PlainInst) (r : Rule) (n : ℕ) (e : Evidence) → roles.IsEvidence G is r n e
+    → types.Broken G is r n
+roles_broken G is r n e h = types.Broken.of_roles r n (roles_suffice G is r n e h)
+
+pub capabilities_broken : (G : Table) (is : List PlainInst) (r : Rule) (n : ℕ) (e : Evidence)
+    → capabilities.IsEvidence G is r n e → types.Broken G is r n
+capabilities_broken G is r n e h =
+    let t = capability_there G is r n e h in
+    types.Broken.of_capabilities r n t.inst t.there (breaks G is r n e t.inst h t.there)
+
+pub types_broken : (G : Table) (is : List PlainInst) (r : Rule) (n : ℕ) (e : Evidence)
+    → by_types.IsEvidence G is r n e → types.Broken G is r n
+types_broken G is r n e h = types.Broken.of_types r n h.inst h.there (types_law.suffices G is r n e h h.inst h.there)
+
+pub suffices : (G : Table) (bound : ℕ) (is : List PlainInst) (r : Rule) (n : ℕ) (e : Evidence)
+    → IsEvidence G bound is r n e → Broken G bound is r n
+suffices G bound is _ _ _ (IsEvidence.of_layout r n e h) = Broken.of_layout r n (layout_law.suffices G is r n e h)
+suffices G bound is _ _ _ (IsEvidence.of_ids r n e h) = Broken.of_ids r n (ids_suffice G bound is r n e h)
+suffices G bound is _ _ _ (IsEvidence.of_roles r n e h) = Broken.of_types r n (roles_broken G is r n e h)
+suffices G bound is _ _ _ (IsEvidence.of_capabilities r n e h) = Broken.of_types r n (capabilities_broken G is r n e h)
+suffices G bound is _ _ _ (IsEvidence.of_types r n e h) = Broken.of_types r n (types_broken G is r n e h)
+suffices G bound is _ _ _ (IsEvidence.of_branches r n e h) = Broken.of_flow r n (branches_law.suffices G is r n e h)
+suffices G bound is _ _ _ (IsEvidence.of_walks r n e h) = Broken.of_flow r n (walks_law.suffices G is r n e h)
+suffices G bound is _ _ _ (IsEvidence.of_calls r n e h) = Broken.of_calls r n (sufficient is r n e h)
+
+-- evidence of a stage before D is that of the shapes and the layout
+apart : (r : Rule) (a b : ℕ) → stage_of r < stages.of_ids → (stage_of r ≡ a) ⊎ (stage_of r ≡ b) → 3 ≤ a → 3 ≤ b → ⊥
+apart r a b s (inl e) l m = omega (arith, s, e, l)
+apart r a b s (inr e) l m = omega (arith, s, e, m)
+
+pub of_layout_alone : (G : Table) (bound : ℕ) (is : List PlainInst) (r : Rule) (n : ℕ) (e : Evidence)
+    → IsEvidence G bound is r n e → stage_of r < stages.of_ids → by_layout.IsEvidence G is r n e
+of_layout_alone G bound is _ _ _ (IsEvidence.of_layout r n e h) s = h
+of_layout_alone G bound is _ _ _ (IsEvidence.of_ids r n e h) s =
+    absurd (apart r 3 3 s (inl (ids_stage G bound is r n (ids_suffice G bound is r n e h))) (omega arith) (omega arith))
+of_layout_alone G bound is _ _ _ (IsEvidence.of_roles r n e h) s =
+    absurd (apart r 4 5 s (types_stage G is r n (roles_broken G is r n e h)) (omega arith) (omega arith))
+of_layout_alone G bound is _ _ _ (IsEvidence.of_capabilities r n e h) s =
+    absurd (apart r 4 5 s (types_stage G is r n (capabilities_broken G is r n e h)) (omega arith) (omega arith))
+of_layout_alone G bound is _ _ _ (IsEvidence.of_types r n e h) s =
+    absurd (apart r 4 5 s (types_stage G is r n (types_broken G is r n e h)) (omega arith) (omega arith))
+of_layout_alone G bound is _ _ _ (IsEvidence.of_branches r n e h) s =
+    absurd (apart r 6 7 s (flow_stage G is r n (branches_law.suffices G is r n e h)) (omega arith) (omega arith))
+of_layout_alone G bound is _ _ _ (IsEvidence.of_walks r n e h) s =
+    absurd (apart r 6 7 s (flow_stage G is r n (walks_law.suffices G is r n e h)) (omega arith) (omega arith))
+of_layout_alone G bound is _ _ _ (IsEvidence.of_calls r n e h) s =
+    absurd (apart r 8 8 s (inl (calls_stage is r n (sufficient is r n e h))) (omega arith) (omega arith))

@@ -1,0 +1,8 @@
+use Rattle.spv_explain.proofs.Worked.{string_not_shown, string_shown}
+use Rattle.spv_explain.proofs.laws.explained_examples.Goals as goal
+
+pub returns-clause-shown : goal.returns-clause-shown
+returns-clause-shown c = λ m. string_shown
+
+pub returns-clause-not_shown : goal.returns-clause-not_shown
+returns-clause-not_shown c = λ m. string_not_shown

@@ -1,0 +1,29 @@
+-- What the words of a module are read as, with what shows a fault. (For the code alone.)
+use Rattle.std.specs.Prelude.{◌-◌, ℕ, List, drop, slice_index}
+use Rattle.spv_table.specs.Table.{Table}
+use Rattle.spv_module.specs.Module.{plain_insts}
+use Rattle.spv_module.specs.Instruction.{IsListing}
+use Rattle.spv_module.specs.declared.fault.Fault as declared
+use Rattle.spv_module.specs.declared.fault.Stop.TheVariants as stop
+use Rattle.spv_module.specs.declared.module.Module.{Module}
+use Rattle.spv_inst.specs.Outcome.{IsDecodeFault}
+use Rattle.spv_evidence.specs.declared.evidence.Evidence.{Evidence}
+use Rattle.spv_verdict.specs.Broken.{IsTold}
+use Rattle.spv_verdict.specs.Checked.{IsChecked}
+use Rattle.spv_explain.specs.declared.explained.Explained.{Explained}
+use Rattle.spv_explain.specs.declared.explained.Explained.TheVariants.{Valid, Malformed, Broken}
+use Rattle.spv_explain.specs.inner.Shown.{IsShownAt}
+use Rattle.spv_form_evidence.specs.words.Evidence as instructions
+
+-- The module is the one of the words, and this is its fault.
+pub record IsBrokenModule (G : Table) (words : List ℕ) (f : declared.Fault) (e : Evidence) (m : Module) : Type 0 where
+  pub listing : IsListing G (plain_insts m) (drop 5 words)
+  pub told : IsTold G (slice_index words 3) (plain_insts m) (stop.Fault f)
+  pub shown : IsShownAt G (slice_index words 3) (plain_insts m) f e
+
+-- The words are a valid module, or no list of instructions, or a module with a fault.
+abbrev pub IsReading : Table → List ℕ → Explained → Type 0
+IsReading G words (Valid c) = IsChecked G words c
+IsReading G words (Malformed f place e) =
+    IsDecodeFault G words (stop.Fault f) × instructions.IsEvidence G (drop 5 words) f.rule f.inst (f.word - 5) e
+IsReading G words (Broken f e m) = IsBrokenModule G words f e m

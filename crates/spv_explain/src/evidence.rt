@@ -1,0 +1,98 @@
+//! What shows a module's fault, by the stage that found it.
+ghost use Rattle.std.specs.Prelude.{IfOk};
+ghost use Rattle.spv_table.specs.Table.{Table};
+ghost use Rattle.spv_module.specs.Module.{plain_insts};
+ghost use Rattle.spv_module.specs.declared.fault.Stop.TheVariants as stops;
+ghost use Rattle.spv_layout.specs.Place.{IsShort};
+ghost use Rattle.spv_layout.specs.Plan.{IsPlan};
+ghost use Rattle.spv_ids.specs.Outcome.{AreIds};
+ghost use Rattle.spv_verdict.specs.Judged.{IsRefusedAt};
+ghost use Rattle.spv_verdict.specs.flow.Outcome as flow_outcome;
+ghost use Rattle.spv_verdict.specs.types.Outcome as type_outcome;
+ghost use Rattle.spv_explain.specs.inner.Shown.{IsShownAt};
+
+use crate::kinds::{is_of_calls, is_of_capabilities, is_of_roles, is_of_values};
+use spv_evidence::Evidence;
+use spv_flow_evidence::{branch_evidence, call_evidence, walk_evidence};
+use spv_form_evidence::{id_evidence, layout_evidence, role_evidence};
+use spv_ids::Ids;
+use spv_layout::Plan;
+use spv_module::{Fault, Module};
+use spv_table::{Memory, Table};
+use spv_type_evidence::{capability_evidence, type_evidence};
+use spv_verdict::Reached;
+use std::alloc::Global;
+
+/// What shows that a rule on roles, capabilities, entry points or types is broken at an instruction.
+fn typing_evidence(
+    alloc: Global,
+    table: &Table,
+    module: &Module<'_>,
+    plan: &Plan,
+    ids: &Ids,
+    fault: Fault,
+) -> Result<Evidence, Memory>
+    requires words { IsShort (plain_insts «module».now) }
+    requires plan { IsPlan table.now (plain_insts «module».now) plan.now }
+    requires ids { AreIds table.now «module».now.header.bound (plain_insts «module».now) ids.now }
+    requires refused { type_outcome.IsRefusal table.now (plain_insts «module».now) (stops.Fault fault) }
+    ensures { IfOk result (λ e. IsShownAt table.now «module».now.header.bound (plain_insts «module».now) fault e) }
+{
+    if is_of_roles(fault.rule) {
+        return Ok(role_evidence(module, plan, ids, fault.inst));
+    }
+    if is_of_capabilities(fault.rule) {
+        return capability_evidence(alloc, table, module, plan, ids, fault.rule, fault.inst);
+    }
+    Ok(type_evidence(alloc, module, plan, ids, fault.rule, fault.inst)?)
+}
+
+/// What shows that a rule on flow is broken at an instruction.
+fn flow_evidence(
+    alloc: Global,
+    module: &Module<'_>,
+    plan: &Plan,
+    ids: &Ids,
+    fault: Fault,
+) -> Result<Evidence, Memory>
+    requires words { IsShort (plain_insts «module».now) }
+    requires known { (G : Table) × IsPlan G (plain_insts «module».now) plan.now
+        × AreIds G «module».now.header.bound (plain_insts «module».now) ids.now
+        × flow_outcome.IsFirstOfFlow G (plain_insts «module».now) fault.rule fault.inst }
+    ensures { (G : Table) → IsPlan G (plain_insts «module».now) plan.now
+        → AreIds G «module».now.header.bound (plain_insts «module».now) ids.now
+        → flow_outcome.IsFirstOfFlow G (plain_insts «module».now) fault.rule fault.inst
+        → IfOk result (λ e. IsShownAt G «module».now.header.bound (plain_insts «module».now) fault e) }
+{
+    if is_of_values(fault.rule) {
+        return Ok(walk_evidence(alloc, module, plan, ids, fault.rule, fault.inst)?);
+    }
+    if is_of_calls(fault.rule) {
+        return Ok(call_evidence(alloc, module, plan, ids, fault.inst)?);
+    }
+    Ok(branch_evidence(alloc, module, plan, ids, fault.rule, fault.inst)?)
+}
+
+/// What shows that a fault's rule is broken at its instruction. `reached` is how far `judge` came with the module, and
+/// the instruction at which the fault is told is looked at again, by the stage that found it.
+///
+/// `Memory` comes only where a growth of memory was refused.
+pub fn evidence_of(
+    alloc: Global,
+    table: &Table,
+    module: &Module<'_>,
+    reached: &Reached,
+    fault: Fault,
+) -> Result<Evidence, Memory>
+    requires words { IsShort (plain_insts «module».now) }
+    requires refused { IsRefusedAt table.now «module».now.header.bound (plain_insts «module».now) reached.now
+        (stops.Fault fault) }
+    ensures { IfOk result (λ e. IsShownAt table.now «module».now.header.bound (plain_insts «module».now) fault e) }
+{
+    match reached {
+        Reached::Decoded => Ok(layout_evidence(alloc, module, fault.rule, fault.inst)?),
+        Reached::Placed(plan) => Ok(id_evidence(alloc, module, plan, fault.rule, fault.inst)?),
+        Reached::Numbered(plan, ids) => typing_evidence(alloc, table, module, plan, ids, fault),
+        Reached::Typed(plan, ids) => flow_evidence(alloc, module, plan, ids, fault),
+    }
+}

@@ -1,0 +1,114 @@
+//! The verdict on the words of a module, with what shows a fault.
+ghost use Rattle.std.specs.Prelude.{IfOk};
+ghost use Rattle.spv_verdict.specs.Answer.{IsAnswer};
+ghost use Rattle.spv_explain.specs.Explained.{IsShown, IsShownDead, verdict_in};
+ghost use Rattle.spv_explain.specs.inner.Reading.{IsReading};
+
+use crate::evidence::evidence_of;
+use spv_evidence::Evidence;
+use spv_form_evidence::word_evidence;
+use spv_inst::{decode, listed_or_dead, one_listing};
+use spv_layout::laws::word_counts;
+use spv_module::{Fault, Module, Stop};
+use spv_table::{Memory, Table};
+use spv_verdict::{Checked, Judged, judge};
+use spv_words::{Image, word};
+use std::alloc::Global;
+
+/// The verdict on the words of a module, and of a fault what shows it.
+#[derive(Drop)]
+pub enum Explained<'a> {
+    /// No rule is broken.
+    Valid(Checked<'a>),
+    /// The words spell no list of instructions.
+    Malformed {
+        /// The rule, the instruction that fails, and the word by which that is told.
+        fault: Fault,
+        /// The place of that instruction's first word.
+        place: u32,
+        /// What shows that it fails.
+        evidence: Evidence,
+    },
+    /// A rule is broken.
+    Broken {
+        /// The first rule that is broken, with the instruction and the word by which it is told.
+        fault: Fault,
+        /// What shows that it is broken there.
+        evidence: Evidence,
+        /// The module, with texts lent by its image.
+        module: Module<'a>,
+    },
+}
+
+/// The place of the first word of an instruction among the words of an image: the instructions before it tell how many
+/// words they have.
+fn first_word(image: &Image, inst: u32) -> u32 {
+    let mut at = 5u32;
+    for _ in 0..inst {
+        if at >= image.len() {
+            return at;
+        }
+        at = at.saturating_add(word(image, at) >> 16);
+    }
+    at
+}
+
+/// What `explain` answers, with all that is known of it.
+///
+/// `Memory` comes only where a growth of memory was refused.
+pub fn explained_of<'a>(
+    alloc: Global,
+    table: &Table,
+    image: &'a Image,
+) -> Result<Explained<'a>, Memory>
+    ensures { IfOk result (λ r. IsReading table.now image.now r) }
+{
+    word_counts();
+    let _words = image.len();
+    let module = match decode(alloc, table, image) {
+        Ok(module) => module,
+        Err(Stop::Fault(fault)) => {
+            let evidence = word_evidence(alloc, table, image, fault)?;
+            return Ok(Explained::Malformed {
+                fault,
+                place: first_word(image, fault.inst),
+                evidence,
+            });
+        }
+        Err(Stop::Memory) => return Err(Memory),
+    };
+    match judge(alloc, table, module)? {
+        Judged::Valid(checked) => Ok(Explained::Valid(checked)),
+        Judged::Broken {
+            fault,
+            module,
+            reached,
+        } => {
+            let evidence = evidence_of(alloc, table, &module, &reached, fault)?;
+            Ok(Explained::Broken {
+                fault,
+                evidence,
+                module,
+            })
+        }
+    }
+}
+
+/// The verdict on the words of a module, under a grammar table, just as `check` answers it; and of a fault what shows
+/// that the rule is broken there. A fault of the stages I to G always comes with evidence that shows it by itself.
+///
+/// Time is linear in the words of the module besides what `check` takes, and at most as much again.
+///
+/// `Memory` comes only where a growth of memory was refused.
+pub fn explain<'a>(alloc: Global, table: &Table, image: &'a Image) -> Result<Explained<'a>, Memory>
+    // The verdict is that of `check`.
+    ensures verdict { IfOk result (λ e. IsAnswer table.now image.now (verdict_in e)) }
+    // A fault of the stages P to G is shown.
+    ensures shown { IfOk result (λ e. IsShown table.now image.now e) }
+    // So is that of words that spell no list of instructions.
+    ensures dead { IfOk result (λ e. IsShownDead table.now image.now e) }
+{
+    one_listing();
+    listed_or_dead();
+    explained_of(alloc, table, image)
+}

@@ -1,0 +1,14 @@
+//! Why a module is refused: a fault with what shows it, and the lines that tell it to a person.
+#![tactic(auto)]
+
+mod evidence;
+mod explained;
+mod kinds;
+pub mod laws;
+mod place;
+mod stream;
+
+pub use explained::{Explained, explain};
+pub use spv_evidence::{EntryPart, Evidence, Lister, Side, Typed};
+pub use spv_rules::{Code, rules_text};
+pub use stream::{Explanation, explain_bytes, explain_stream};

@@ -1,0 +1,7 @@
+use Rattle.std.proofs.Common.{◌≡◌, ◌<◌, ℕ, Some}
+use Rattle.std.specs.Prelude.{slice_get}
+use Rattle.spv_calls.specs.declared.graph.Call.{Call}
+use Rattle.spv_flow_evidence.proofs.calls.find_call.Given as goal
+
+abbrev pub invariant-loop-call : goal.invariant-loop-call
+invariant-loop-call l = (k : ℕ) (c : Call) → k < l.call-index → slice_get l.calls k ≡ Some c → ¬ (c.inst ≡ l.inst)

@@ -1,0 +1,5 @@
+pub mod Few
+pub mod Small
+pub mod branches
+pub mod calls
+pub mod walks

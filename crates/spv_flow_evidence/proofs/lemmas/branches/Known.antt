@@ -1,0 +1,90 @@
+-- What is known of the instruction at which a rule is broken.
+use Rattle.std.proofs.Common.{◌≡◌, ◌<◌, ◌⊎◌, ℕ, List, length, map, refl, sym, subst, arith}
+use Rattle.std.proofs.lemmas.List.{length-map}
+use Rattle.spv_table.specs.Table.{Table}
+use Rattle.spv_module.specs.Operand.{PlainInst}
+use Rattle.spv_module.specs.declared.module.Inst.{Inst}
+use Rattle.spv_module.specs.Module.{plain_inst}
+use Rattle.spv_module.specs.declared.fault.Rule.{Rule}
+use Rattle.spv_module.specs.declared.fault.Rule.TheVariants.{F1, F2, F3, F4, D3}
+use Rattle.spv_layout.specs.First.{IsFirst, IsUnbroken}
+use Rattle.spv_layout.specs.Place.{IsShort, AreFew}
+use Rattle.spv_layout.specs.Plan.{IsPlan}
+use Rattle.spv_layout.specs.declared.form.Role.TheVariants.{Label}
+use Rattle.spv_layout.specs.Stage.{of_branches, of_ids}
+use Rattle.spv_ids.specs.Broken as ids
+use Rattle.spv_ids.specs.Outcome.{IsDefinitionOf, definition_in}
+use Rattle.spv_branches.specs.declared.code.Code.{Code}
+use Rattle.spv_branches.specs.inner.Code.{insts_of, IsCode}
+use Rattle.spv_branches.specs.Broken.{Broken}
+use Rattle.spv_branches.specs.inner.Graph.{LacksLabel, LeadsToEntry}
+use Rattle.spv_branches.specs.Target.{is_phi, is_merge, is_branch, IsOp, HasParents}
+use Rattle.spv_branches.proofs.Firsts.{broken_within}
+use Rattle.spv_evidence.specs.declared.evidence.Evidence.{Evidence}
+use Rattle.spv_evidence.specs.declared.evidence.Evidence.TheVariants.{Operand}
+use Rattle.spv_flow_evidence.specs.branches.Evidence.{IsEvidence}
+use Rattle.spv_flow_evidence.specs.branches.inner.Known.{KeepsDefinitions}
+use Rattle.spv_flow_evidence.proofs.lemmas.Few.{few_insts}
+
+-- The instructions that are looked at are those of a module whose plan and ids are known.
+pub known_code : (G : Table) (c : Code) (insts : List Inst) → c.insts.now ≡ insts → IsShort (map plain_inst insts) → IsPlan G (map plain_inst insts) c.plan.now → ((x : ℕ) → IsDefinitionOf (map plain_inst insts) x (definition_in c.ids.now x))
+    → IsCode G c
+known_code G c insts e words plan each =
+    record {
+      plan = subst (λ (xs : List Inst). IsPlan G (map plain_inst xs) c.plan.now) (sym e) plan;
+      each = subst (λ (xs : List Inst). (x : ℕ) → IsDefinitionOf (map plain_inst xs) x (definition_in c.ids.now x)) (sym e) each;
+      most = subst (λ (xs : List Inst). AreFew xs) (sym e) (few_insts insts words);
+    }
+
+-- A rule is broken at one of them.
+pub record IsBroken (G : Table) (c : Code) (q : Rule) (n : ℕ) : Type 0 where
+  pub within : n < length c.insts.now
+  pub broken : Broken G (insts_of c) q n
+
+pub known_broken : (G : Table) (c : Code) (insts : List Inst) (q : Rule) (n : ℕ) → c.insts.now ≡ insts → IsFirst (Broken G (map plain_inst insts)) of_branches q n → IsBroken G c q n
+known_broken G c insts q n e first =
+    let broken = subst (λ (xs : List Inst). Broken G (map plain_inst xs) q n) (sym e) first.broken in
+    record {
+      within = (let lt = broken_within G (insts_of c) q n first.of_stage broken in let count = length-map c.insts.now plain_inst in omega (arith, lt, count));
+      broken = broken;
+    }
+
+-- What was found of them.
+pub found : (G : Table) (c : Code) (insts : List Inst) (q r : Rule) (n : ℕ) (e : Evidence) → c.insts.now ≡ insts → q ≡ r → IsEvidence G (insts_of c) r n e → IsEvidence G (map plain_inst insts) q n e
+found G c insts q r n e same rule h =
+    subst (λ (p : Rule). IsEvidence G (map plain_inst insts) p n e) (sym rule) (subst (λ (xs : List Inst). IsEvidence G (map plain_inst xs) r n e) same h)
+
+pub definitions : (G : Table) (bound : ℕ) (is : List PlainInst) (n : ℕ) → IsUnbroken (ids.Broken G bound is) of_ids → KeepsDefinitions G is n
+definitions G bound is n unbroken = record { each = λ k x u none. unbroken D3 n refl (ids.Broken.undefined n k x Label u none) }
+
+pub lacking : (G : Table) (is : List PlainInst) (q : Rule) (n : ℕ) → Broken G is q n → q ≡ F1 → (IsOp is n is_branch ⊎ IsOp is n is_merge) × LacksLabel G is n
+lacking G is _ _ (Broken.no_label n k x op used none) e = (op, record { operand = k; id = x; used = used; none = none })
+lacking G is _ _ (Broken.to_entry n x m target d entry) e = cc
+lacking G is _ _ (Broken.parents n phi not) e = cc
+lacking G is _ _ (Broken.same_labels n x op u w) e = cc
+lacking G is _ _ (Broken.missing n m) e = cc
+lacking G is _ _ (Broken.pair_missing n m) e = cc
+
+pub entering : (G : Table) (is : List PlainInst) (q : Rule) (n : ℕ) → Broken G is q n → q ≡ F2 → IsOp is n is_branch × LeadsToEntry G is n
+entering G is _ _ (Broken.no_label n k x op used none) e = cc
+entering G is _ _ (Broken.to_entry n x m target d entry) e = (target.branch, record { operand = target.operand; id = x; used = target.used; place = m; defined = d; entry = entry })
+entering G is _ _ (Broken.parents n phi not) e = cc
+entering G is _ _ (Broken.same_labels n x op u w) e = cc
+entering G is _ _ (Broken.missing n m) e = cc
+entering G is _ _ (Broken.pair_missing n m) e = cc
+
+pub parentless : (G : Table) (is : List PlainInst) (q : Rule) (n : ℕ) → Broken G is q n → q ≡ F3 → IsOp is n is_phi × (¬ (HasParents G is n))
+parentless G is _ _ (Broken.no_label n k x op used none) e = cc
+parentless G is _ _ (Broken.to_entry n x m target d entry) e = cc
+parentless G is _ _ (Broken.parents n phi not) e = (phi, not)
+parentless G is _ _ (Broken.same_labels n x op u w) e = cc
+parentless G is _ _ (Broken.missing n m) e = cc
+parentless G is _ _ (Broken.pair_missing n m) e = cc
+
+pub same_labels : (G : Table) (is : List PlainInst) (q : Rule) (n : ℕ) → Broken G is q n → q ≡ F4 → IsEvidence G is F4 n (Operand 2)
+same_labels G is _ _ (Broken.no_label n k x op used none) e = cc
+same_labels G is _ _ (Broken.to_entry n x m target d entry) e = cc
+same_labels G is _ _ (Broken.parents n phi not) e = cc
+same_labels G is _ _ (Broken.same_labels n x op one two) e = IsEvidence.same_labels n x op one two
+same_labels G is _ _ (Broken.missing n m) e = cc
+same_labels G is _ _ (Broken.pair_missing n m) e = cc

@@ -1,0 +1,74 @@
+use Rattle.std.proofs.Common.{map}
+use Rattle.std.proofs.lemmas.Result.{IfOk-weaker}
+use Rattle.spv_module.specs.Module.{plain_inst, plain_insts}
+use Rattle.spv_evidence.specs.declared.evidence.Evidence.{Evidence}
+use Rattle.spv_table.specs.Table.{Table}
+use Rattle.spv_walks.specs.declared.code.Code.{Code}
+use Rattle.spv_walks.specs.inner.Code.{IsCode}
+use Rattle.spv_flow_evidence.specs.walks.Evidence.{IsEvidence}
+use Rattle.spv_flow_evidence.specs.walks.inner.Shown.{IsShown}
+use Rattle.spv_flow_evidence.proofs.lemmas.Few.{few_insts}
+use Rattle.spv_flow_evidence.proofs.lemmas.walks.Showing.{misses, as_rule}
+use Rattle.spv_flow_evidence.proofs.walks.walk_evidence.Goals as goal
+
+pub count_globals-globals-requires : goal.count_globals-globals-requires
+count_globals-globals-requires c =
+    let v = c.as_slice-insts.ensures.value in
+    let xs = c.as_slice-insts.result.now in
+    few_insts xs (rw v c.requires.words)
+
+pub evidence_at-requires-clause-code : goal.evidence_at-requires-clause-code
+evidence_at-requires-clause-code c =
+    let v = c.as_slice-insts.ensures.value in
+    let xs = c.as_slice-insts.result.now in
+    let few = few_insts xs (rw v c.requires.words) in
+    let k = c.requires.broken in
+    let m = misses k.0 (plain_insts c.args.module.now) c.args.rule c.args.inst c.taking_of.result k.3 k.4
+    c.taking_of.ensures.uses c.taking_of.ensures.pairs in (
+      k.0,
+      record {
+        plan = rw v k.1;
+        bound = c.args.module.now.header.bound;
+        ids = rw v k.2;
+        branches = rw v k.3;
+        most = few;
+        global = c.count_globals-globals.ensures;
+      },
+      rw v m,
+    )
+
+pub evidence_at-requires-clause-most : goal.evidence_at-requires-clause-most
+evidence_at-requires-clause-most c =
+    let v = c.as_slice-insts.ensures.value in
+    let xs = c.as_slice-insts.result.now in
+    few_insts xs (rw v c.requires.words)
+
+pub returns : goal.returns
+returns c = λ G p a b.
+    let v = c.as_slice-insts.ensures.value in
+    let xs = c.as_slice-insts.result.now in
+    let few = few_insts xs (rw v c.requires.words) in
+    let k = c.requires.broken in
+    let code : Code = record {
+      insts = c.as_slice-insts.result;
+      plan = c.args.plan;
+      ids = c.args.ids;
+      globals =
+          c.count_globals-globals.result;
+    } in
+    let is : IsCode G code = record {
+      plan = rw v p;
+      bound = c.args.module.now.header.bound;
+      ids = rw v a;
+      branches =
+          rw v b;
+      most = few;
+      global = c.count_globals-globals.ensures;
+    } in
+    IfOk-weaker c.evidence_at.result
+    (λ (e : Evidence). (H : Table) → IsCode H code → IsShown H (map plain_inst xs) c.taking_of.result c.args.inst e)
+    (λ (e : Evidence). IsEvidence G (plain_insts c.args.module.now) c.args.rule c.args.inst e)
+    (λ e h. as_rule G k.0 (plain_insts c.args.module.now) c.args.rule c.args.inst c.taking_of.result e k.3 k.4
+    c.taking_of.ensures.uses c.taking_of.ensures.pairs
+    (rw v at (h G is)))
+    c.evidence_at.ensures

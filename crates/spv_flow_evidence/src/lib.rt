@@ -1,0 +1,11 @@
+//! What shows that a rule on the flow of control is broken: on branches (F1 to F4), on the values of walks (A1 and A2)
+//! or on calls (G1).
+#![tactic(auto)]
+
+mod branches;
+mod calls;
+mod walks;
+
+pub use branches::branch_evidence;
+pub use calls::call_evidence;
+pub use walks::walk_evidence;

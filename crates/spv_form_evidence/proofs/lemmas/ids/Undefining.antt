@@ -1,0 +1,65 @@
+-- Uses of an id that has no definition.
+use Rattle.std.proofs.Common.{◌≡◌, ◌<◌, ◌↔◌, ℕ, List, Bool, true, false, Option, Some, None, refl, subst, length, arith, MatchBool}
+use Rattle.std.specs.Prelude.{slice_get, IsTrue}
+use Rattle.std.proofs.lemmas.Option.{slice_get_within}
+use Rattle.spv_table.specs.Table.{Table}
+use Rattle.spv_module.specs.Operand.{PlainInst}
+use Rattle.spv_module.specs.declared.fault.Rule.{Rule}
+use Rattle.spv_module.specs.declared.fault.Rule.TheVariants.{D3}
+use Rattle.spv_layout.specs.declared.form.Role.{Role}
+use Rattle.spv_layout.specs.First.{IsFirst}
+use Rattle.spv_layout.specs.Shape.{IsUse}
+use Rattle.spv_layout.specs.Stage.{of_ids}
+use Rattle.spv_ids.specs.Definition.{IsDefinedAt, IsUsedAt}
+use Rattle.spv_ids.specs.Broken.{Broken}
+use Rattle.spv_evidence.specs.declared.evidence.Evidence.TheVariants.{Operand}
+use Rattle.spv_form_evidence.specs.ids.Evidence.{IsEvidence}
+use Rattle.spv_form_evidence.specs.declared.ids.kept.Kept.{Kept}
+use Rattle.spv_form_evidence.specs.ids.inner.Known.{kept, IsFirstBefore, AreFirst}
+use Rattle.spv_form_evidence.specs.ids.inner.Undefined.{IsUndefined}
+use Rattle.spv_form_evidence.specs.ids.inner.Uses.{HasUse}
+use Rattle.spv_form_evidence.proofs.lemmas.ids.Using.{same_inst, used_within, not_such}
+use Rattle.spv_form_evidence.proofs.lemmas.ids.Telling.{in_range}
+
+undefined_here : (bound : ℕ) (is : List PlainInst) (l : Kept) (x : ℕ) (r : Role) → AreFirst bound is (length is) l → (x < l.bound) × (kept l x ≡ None) → IsUndefined bound is x r
+undefined_here bound is l x r a h =
+    let c = a.same in
+    let w = h.0 in
+    let b : x < bound = omega arith in
+    let f : IsFirstBefore is (length is) x None = subst (λ o. IsFirstBefore is (length is) x o) h.1 (a.each x b) in
+    record { below = b; none = λ m d. f m (slice_get_within is m d.inst d.there) d }
+
+no_first : (is : List PlainInst) (n x : ℕ) (o : Option ℕ) → ((m : ℕ) → ¬ (IsDefinedAt is x m)) → IsFirstBefore is n x o → o ≡ None
+no_first is n x None h f = refl
+no_first is n x (Some m) h f = absurd (h m f.there)
+
+free_here : (bound : ℕ) (is : List PlainInst) (l : Kept) (x : ℕ) (r : Role) → AreFirst bound is (length is) l → IsUndefined bound is x r → (x < l.bound) × (kept l x ≡ None)
+free_here bound is l x r a u =
+    let c = a.same in
+    let b = u.below in
+    (omega arith, no_first is (length is) x (kept l x) u.none (a.each x b))
+
+pub undefined_or_not : (G : Table) (bound : ℕ) (is : List PlainInst) (i : PlainInst) (l : Kept) (k x : ℕ) (r : Role) (b : Bool) → IsUse G i k x r → AreFirst bound is (length is) l
+    → (IsTrue b ↔ ((x < l.bound) × (kept l x ≡ None))) → MatchBool b (HasUse G i (IsUndefined bound is) k) (¬ (HasUse G i (IsUndefined bound is) k))
+undefined_or_not G bound is i l k x r true u a h = record { id = x; role = r; used = u; holds = undefined_here bound is l x r a (h.0 refl) }
+undefined_or_not G bound is i l k x r false u a h = not_such G i (IsUndefined bound is) k x r u (λ d. let p = h.1 (free_here bound is l x r a d) in cc)
+
+pub undefined_shows : (G : Table) (bound : ℕ) (is : List PlainInst) (n : ℕ) (i : PlainInst) (k : ℕ) → slice_get is n ≡ Some i → HasUse G i (IsUndefined bound is) k → IsEvidence G bound is D3 n (Operand k)
+undefined_shows G bound is n i k t u = IsEvidence.undefined n k u.id u.role (record { inst = i; there = t; used = u.used }) u.holds.none
+
+some_by : (G : Table) (bound : ℕ) (is : List PlainInst) (r : Rule) (n : ℕ) (i : PlainInst) → r ≡ D3 → slice_get is n ≡ Some i → Broken G bound is r n
+    → ((k x : ℕ) (q : Role) → IsUsedAt G is n k x q → x < bound) → ((k : ℕ) → k < length i.operands → ¬ (HasUse G i (IsUndefined bound is) k)) → ⊥
+some_by G bound is _ _ i q t (Broken.result_out_of_range n x d o) w none = cc
+some_by G bound is _ _ i q t (Broken.use_out_of_range n k x r u o) w none = cc
+some_by G bound is _ _ i q t (Broken.defined_again n m y d l e) w none = cc
+some_by G bound is _ _ i q t (Broken.undefined n k x r u h) w none =
+    let e : u.inst ≡ i = same_inst is n u.inst i u.there t in
+    let v : IsUse G i k x r = subst (λ j. IsUse G j k x r) e u.used in
+    none k (used_within G i k x r v) (record { id = x; role = r; used = v; holds = record { below = w k x r u; none = h } })
+some_by G bound is _ _ i q t (Broken.not_in_order n k y r u o h) w none = cc
+some_by G bound is _ _ i q t (Broken.not_in_scope n k y r u s l h) w none = cc
+
+-- some operand of the instruction is a use of an id that has no definition
+pub some_undefined : (G : Table) (bound : ℕ) (is : List PlainInst) (n : ℕ) (i : PlainInst) → slice_get is n ≡ Some i → IsFirst (Broken G bound is) of_ids D3 n
+    → ((k : ℕ) → k < length i.operands → ¬ (HasUse G i (IsUndefined bound is) k)) → ⊥
+some_undefined G bound is n i t f none = some_by G bound is D3 n i refl t f.broken (in_range G bound is D3 n f (omega arith)) none

@@ -1,0 +1,3 @@
+pub mod ids
+pub mod layout
+pub mod words

@@ -1,0 +1,4 @@
+pub mod Evidence
+pub mod Roles
+pub mod inner
+pub mod Example

@@ -1,0 +1,13 @@
+-- Small examples.
+use Rattle.std.specs.Prelude.{ℕ, List, [], ◌∷◌}
+use Rattle.spv_module.specs.Operand.{OfType, Result, PlainInst}
+use Rattle.spv_module.specs.declared.opcode.TheConstants as opcode
+use Rattle.spv_ids.specs.Example.{void}
+
+-- %x = OpUndef %t
+abbrev pub undef : ℕ → ℕ → PlainInst
+undef t x = record { opcode = opcode.UNDEF; operands = OfType t ∷ Result x ∷ [] }
+
+-- %2 = OpUndef %1, and %3 = OpUndef %2: a value in the place of a type
+abbrev pub value_as_type : List PlainInst
+value_as_type = void 1 ∷ undef 1 2 ∷ undef 2 3 ∷ []

@@ -1,0 +1,4 @@
+pub mod Front
+pub mod Evidence
+pub mod inner
+pub mod Example

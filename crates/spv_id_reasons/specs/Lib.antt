@@ -1,4 +1,0 @@
-pub mod Ids
-pub mod Roles
-pub mod inner
-pub mod Example

@@ -1,6 +1,0 @@
-use Rattle.std.proofs.Common.{◌≡◌}
-use Rattle.spv_layout_reasons.specs.inner.Automaton.{followers}
-use Rattle.spv_layout_reasons.proofs.automaton.opcodes_at.Given as goal
-
-abbrev pub invariant-loop-opcode : goal.invariant-loop-opcode
-invariant-loop-opcode l = l.opcodes.items ≡ followers l.state l.opcode

@@ -1,8 +1,0 @@
-use Rattle.std.proofs.Common.{map, take}
-use Rattle.spv_module.specs.Module.{plain_inst}
-use Rattle.spv_layout.specs.Layout.{classes}
-use Rattle.spv_layout_reasons.specs.inner.Automaton.{LeadsTo}
-use Rattle.spv_layout_reasons.proofs.automaton.state_after.Given as goal
-
-abbrev pub invariant-loop-inst : goal.invariant-loop-inst
-invariant-loop-inst l = LeadsTo (classes (map plain_inst (take l.inst-index l.insts))) l.state

@@ -1,0 +1,22 @@
+use Rattle.std.proofs.Common.{ℕ, Some, ap, subst}
+use Rattle.spv_module.specs.Module.{plain_inst, plain_operands}
+use Rattle.spv_type_evidence.specs.types.Constant.{Asks}
+use Rattle.spv_type_evidence.specs.types.inner.First.{IsFirstOf}
+use Rattle.spv_type_evidence.proofs.lemmas.types.Parts.{constant_shows, constant_sound}
+use Rattle.spv_type_evidence.proofs.types.constant.constant_evidence.Goals as goal
+
+pub unreachable-requires-in_default-first_of_constant : goal.unreachable-requires-in_default-first_of_constant
+unreachable-requires-in_default-first_of_constant c =
+    let i = plain_inst c.args.inst.now in
+    let asks : (k : ℕ) → Asks c.args.definitions.now c.in-Some.constant i.operands k =
+    subst (λ os. (k : ℕ) → Asks c.args.definitions.now c.in-Some.constant os k) (ap plain_operands c.as_slice.ensures.value) c.in_default-first_of_constant.ensures
+    in
+    c.requires.broken (constant_sound c.args.definitions.now i c.in-Some.constant c.in-Some.ensures asks)
+
+pub returns : goal.returns
+returns c = λ G n.
+    let i = plain_inst c.args.inst.now in
+    let first : IsFirstOf (Asks c.args.definitions.now c.in-Some.constant i.operands) (Some c.in-Some-first_of_constant.operand) =
+    subst (λ os. IsFirstOf (Asks c.args.definitions.now c.in-Some.constant os) (Some c.in-Some-first_of_constant.operand)) (ap plain_operands c.as_slice.ensures.value) c.in-Some-first_of_constant.ensures
+    in
+    constant_shows G c.args.definitions.now n c.in-Some-first_of_constant.operand i c.in-Some.constant c.in-Some.ensures first

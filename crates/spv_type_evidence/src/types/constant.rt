@@ -1,0 +1,142 @@
+//! Evidence for Y4.
+
+ghost use Rattle.std.specs.Prelude.{◌≡◌, ◌≤◌, ◌+◌, ◌↔◌, ℕ, Some, IsTrue, length, slice_get};
+ghost use Rattle.spv_table.specs.Table.{Table};
+ghost use Rattle.spv_module.specs.declared.fault.Rule.TheVariants.{Y4};
+ghost use Rattle.spv_module.specs.Module.{plain_inst, plain_operands};
+ghost use Rattle.spv_layout.specs.Place.{AreFew};
+ghost use Rattle.spv_type_forms.specs.Operands as of_operands;
+ghost use Rattle.spv_type_forms.specs.Operands.{ids_in};
+ghost use Rattle.spv_type_forms.specs.Parts.{count_of};
+ghost use Rattle.spv_type_rules.specs.inner.Constant.{IsSoundConstant};
+ghost use Rattle.spv_type_rules.specs.declared.constant.Constant.TheVariants as kind;
+ghost use Rattle.spv_type_evidence.specs.types.Constant.{Asks, AsksOf, AsksParts, IsPartOf};
+ghost use Rattle.spv_type_evidence.specs.types.Evidence.{Shows};
+ghost use Rattle.spv_type_evidence.specs.types.inner.First.{IsFirstOf};
+
+use crate::types::operands::low_in;
+use spv_evidence::Evidence;
+use spv_module::{Inst, Operand};
+use spv_type_forms::{
+    Definitions, after_head, count, id_count, is_data, is_number, parts_of, type_in,
+};
+use spv_type_rules::{Constant, constant_of, fits_width, is_bool, is_typed_part};
+
+/// Whether a type has as many parts as ids stand at the front of the operands.
+fn has_count(definitions: &Definitions, r: u32, operands: &[Operand]) -> bool
+    ensures { IsTrue result ↔ (count_of definitions.now r ≡ Some (length (ids_in (plain_operands operands.now)))) }
+{
+    match count(definitions, r) {
+        Some(count) => count == id_count(operands) as u64,
+        None => false,
+    }
+}
+
+/// The operand of the first of the ids at the front that is no constant of the type at its place in the type `r`, if
+/// one is such. The first id is operand 2.
+fn first_no_part(definitions: &Definitions, spec: bool, r: u32, operands: &[Operand]) -> Option<u32>
+    requires { AreFew (ids_in (plain_operands operands.now)) }
+    ensures { let xs = ids_in (plain_operands operands.now) in
+        IsFirstOf (λ k. (j x : ℕ) → k ≡ 2 + j → slice_get xs j ≡ Some x
+        → IsPartOf definitions.now spec r j x) result }
+{
+    let parts = parts_of(definitions, r);
+    for k in 0..operands.len() {
+        let Operand::Id(x) = operands[k] else {
+            return None;
+        };
+        if !is_typed_part(definitions, spec, parts.at(k), x) {
+            return Some(2 + k as u32);
+        }
+    }
+    None
+}
+
+/// Where a composite constant of the type `r` first fails, if it does.
+fn first_of_parts(
+    definitions: &Definitions,
+    spec: bool,
+    r: u32,
+    operands: &[Operand],
+) -> Option<u32>
+    requires { AreFew (ids_in (plain_operands operands.now)) }
+    ensures { IsFirstOf (AsksParts definitions.now spec r (ids_in (plain_operands operands.now))) result }
+{
+    if has_count(definitions, r, operands) {
+        first_no_part(definitions, spec, r, operands)
+    } else {
+        Some(0)
+    }
+}
+
+/// Where an OpConstant of the type `r` first fails, if it does.
+fn first_of_number(definitions: &Definitions, r: u32, operands: &[Operand]) -> Option<u32>
+    ensures { IsFirstOf (AsksOf definitions.now kind.Number r (plain_operands operands.now)) result }
+{
+    let Some(low) = low_in(operands) else {
+        return Some(0);
+    };
+    if !is_number(definitions, r) {
+        Some(0)
+    } else if !fits_width(definitions, r, low) {
+        Some(2)
+    } else {
+        None
+    }
+}
+
+/// Operand 0, unless what is asked of it holds.
+fn first_unless(holds: bool) -> Option<u32>
+    ensures { IsFirstOf (λ k. k ≡ 0 → IsTrue holds) result }
+{
+    if holds { None } else { Some(0) }
+}
+
+/// Where a constant of the type `r` first fails, if it does, by what follows the type and the result.
+fn first_failing(
+    definitions: &Definitions,
+    constant: Constant,
+    r: u32,
+    operands: &[Operand],
+) -> Option<u32>
+    requires { AreFew (ids_in (plain_operands operands.now)) }
+    ensures { IsFirstOf (AsksOf definitions.now constant r (plain_operands operands.now)) result }
+{
+    match constant {
+        Constant::Bool => first_unless(is_bool(definitions, r)),
+        Constant::Number => first_of_number(definitions, r, operands),
+        Constant::Composite => first_of_parts(definitions, false, r, operands),
+        Constant::SpecComposite => first_of_parts(definitions, true, r, operands),
+        Constant::Null => first_unless(is_data(definitions, r)),
+    }
+}
+
+/// The operand at which a constant first fails, if it does.
+fn first_of_constant(
+    definitions: &Definitions,
+    constant: Constant,
+    operands: &[Operand],
+) -> Option<u32>
+    requires { AreFew (ids_in (of_operands.after_head (plain_operands operands.now))) }
+    ensures { IsFirstOf (Asks definitions.now constant (plain_operands operands.now)) result }
+{
+    match type_in(operands) {
+        Some(r) => first_failing(definitions, constant, r, after_head(operands)),
+        None => Some(0),
+    }
+}
+
+/// What shows that Y4 is broken at an instruction: the operand at which the constant first fails.
+pub fn constant_evidence(definitions: &Definitions, inst: &Inst) -> Evidence
+    requires few { AreFew (ids_in (of_operands.after_head (plain_inst inst.now).operands)) }
+    requires broken { ¬ (IsSoundConstant definitions.now (plain_inst inst.now)) }
+    ensures { (G : Table) (n : ℕ) → Shows G definitions.now n (plain_inst inst.now) Y4 result }
+{
+    let Some(constant) = constant_of(inst.opcode) else {
+        unreachable!();
+    };
+    let Some(operand) = first_of_constant(definitions, constant, inst.operands.as_slice()) else {
+        unreachable!();
+    };
+    Evidence::Operand { operand }
+}

@@ -1,6 +1,0 @@
-use Rattle.spv_module.specs.Module.{plain_operands}
-use Rattle.spv_type_reasons.proofs.Firsts.{vector_first}
-use Rattle.spv_type_reasons.proofs.declaration.first_of_vector.Goals as goal
-
-pub returns-in-Some : goal.returns-in-Some
-returns-in-Some c = vector_first c.args.definitions.now (plain_operands c.args.operands.now) c.in-Some.component c.in-Some.count c.is_scalar.result c.is_vector_count.result c.first_of_two.result c.in-Some.ensures c.is_scalar.ensures c.is_vector_count.ensures c.first_of_two.ensures

@@ -1,5 +1,0 @@
-use Rattle.spv_type_reasons.proofs.Returning.{return_shows}
-use Rattle.spv_type_reasons.proofs.returns.return_evidence.Goals as goal
-
-pub returns : goal.returns
-returns c = λ G i o. return_shows G c.args.definitions.now c.args.number c.returned_type.result i c.returned_type.ensures c.requires.broken o

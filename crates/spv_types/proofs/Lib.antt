@@ -1,4 +1,0 @@
-mod Firsts
-mod Listed
-mod Worked
-mod Outcomes

@@ -1,4 +1,0 @@
-pub mod Broken
-pub mod Example
-pub mod Outcome
-pub mod inner

@@ -1,0 +1,4 @@
+pub mod Firsts
+pub mod Worked
+pub mod Operations
+pub mod Outcomes

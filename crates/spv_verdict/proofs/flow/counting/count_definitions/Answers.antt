@@ -1,0 +1,35 @@
+use Rattle.std.proofs.Common.{◌≡◌, ◌<◌, Some, length, arith}
+use Rattle.std.specs.Prelude.{slice_get}
+use Rattle.std.proofs.lemmas.List.{length-map}
+use Rattle.spv_module.specs.Module.{plain_inst, plain_insts}
+use Rattle.spv_branches.proofs.Labelled.{inst_at}
+use Rattle.spv_verdict.proofs.Flowing.Functions.{no_definition}
+use Rattle.spv_verdict.proofs.Flowing.Counts.{count_most, none_more, one_more}
+use Rattle.spv_verdict.proofs.flow.counting.count_definitions.Goals.{then-index-eq-FUNCTION+then-is_definition, then-index-eq-FUNCTION+else-is_definition, else-index-eq-FUNCTION}
+use Rattle.spv_verdict.proofs.flow.counting.count_definitions.Goals as goal
+
+pub overflow_add-count : goal.overflow_add-count
+overflow_add-count c =
+    let m = count_most (plain_insts c.args.module.now) c.loop-inst.inst c.loop-inst.count c.loop-inst.invariant in
+    let t = c.loop-inst-test.true in
+    let f = c.requires.few in
+    let l = length-map c.args.module.now.insts.items plain_inst in
+    let e = c.len-inst-end.ensures in
+    omega (arith, m, t, f, l, e)
+
+pub loop-inst-preserved : goal.loop-inst-preserved
+loop-inst-preserved c =
+    let is = plain_insts c.args.module.now in
+    let insts = c.args.module.now.insts.items in
+    let at = c.loop-inst.inst in
+    let t = c.loop-inst-test.true in
+    let e = c.len-inst-end.ensures in
+    let within : at < length insts = omega (arith, t, e) in
+    let there : slice_get is at ≡ Some (plain_inst c.index.result.now) = inst_at insts at c.index.result.now within c.index.ensures in
+    elim c.if-index-eq-FUNCTION.branch [
+      | then-index-eq-FUNCTION+then-is_definition w ↦ (let h = w.is_definition.ensures is c.requires.places in rw w.count-is (one_more is at c.loop-inst.count (h.0 w.if-is_definition.true) c.loop-inst.invariant))
+      | then-index-eq-FUNCTION+else-is_definition w ↦ (
+          let h = w.is_definition.ensures is c.requires.places in
+          rw w.count-is (none_more is at c.loop-inst.count (λ d. let q = h.1 d in let n = w.if-is_definition.false in cc) c.loop-inst.invariant))
+      | else-index-eq-FUNCTION w ↦ rw w.count-is (none_more is at c.loop-inst.count (no_definition is at (plain_inst c.index.result.now) there w.if-index-eq-FUNCTION.false) c.loop-inst.invariant)
+    ]

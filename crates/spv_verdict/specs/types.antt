@@ -1,0 +1,3 @@
+pub mod Broken
+pub mod Example
+pub mod Outcome

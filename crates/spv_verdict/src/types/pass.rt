@@ -1,0 +1,87 @@
+//! The instructions of a module, one after another.
+
+ghost use Rattle.std.specs.Prelude.{◌≡◌, ◌≤◌, ◌↔◌, ℕ, IfOk, IsTrue, MatchOption, Some, length, map, slice_get};
+ghost use Rattle.spv_table.specs.Table.{Table};
+ghost use Rattle.spv_module.specs.Module.{plain_inst};
+ghost use Rattle.spv_layout.specs.Place.{AreFew};
+ghost use Rattle.spv_layout.specs.Plan.{IsPlan};
+ghost use Rattle.spv_capabilities.specs.inner.Subject as subject;
+ghost use Rattle.spv_type_rules.specs.Repeat.{Repeats};
+ghost use Rattle.spv_type_rules.specs.inner.Counted.{AreCounted};
+ghost use Rattle.spv_type_rules.specs.inner.Rules.{AreRules, rules_insts};
+ghost use Rattle.spv_verdict.specs.inner.Pass.{AreKept, IsFirstFault, IsFirstTypeHere};
+
+use spv_capabilities::Entries;
+use spv_module::{Inst, Rule};
+use spv_ops::inst_holds;
+use spv_table::Memory;
+use spv_type_rules::{Known, Rules, Seen, is_operation, next_count};
+use std::alloc::Global;
+
+/// A broken rule, and its instruction.
+#[derive(Clone, Copy)]
+pub struct Found {
+    pub rule: Rule,
+    pub inst: u32,
+}
+
+/// The first of the rules Y2 to Y8 that is broken at the instruction of a number, by what is known of those before it.
+#[inline(always)]
+fn first_of_types<'a>(
+    rules: &Rules<'_, 'a>,
+    number: u32,
+    inst: &Inst<'a>,
+    known: Known,
+) -> Option<Rule>
+    requires rules { AreRules rules.now }
+    requires inst { slice_get (rules_insts rules.now) number ≡ Some (plain_inst inst.now) }
+    requires repeats { IsTrue known.repeats ↔ Repeats (rules_insts rules.now) number (plain_inst inst.now) }
+    requires parameters { AreCounted (rules_insts rules.now) number known.parameters }
+    ensures { (G : Table) → IsPlan G (rules_insts rules.now) rules.now.plan.now
+        → IsFirstTypeHere G (rules_insts rules.now) number (plain_inst inst.now) result }
+{
+    if !is_operation(inst.opcode) {
+        return rules.first_at(number, inst, known);
+    }
+    if inst_holds(rules.definitions(), number, inst) {
+        None
+    } else {
+        Some(Rule::Y5)
+    }
+}
+
+/// The first rule that is broken after Y1, by instruction and then by rule.
+///
+/// `Memory` comes only where a growth of memory was refused.
+pub fn first_fault<'m, 'a>(
+    alloc: Global,
+    insts: &[Inst<'a>],
+    entries: &mut Entries<'m, 'a>,
+    rules: &Rules<'m, 'a>,
+) -> Result<Option<Found>, Memory>
+    requires most { AreFew insts.now }
+    requires rules { AreRules rules.now }
+    requires judged { rules_insts rules.now ≡ map plain_inst insts.now }
+    requires surveyed { entries.old.insts ≡ map plain_inst insts.now }
+    requires plan { IsPlan entries.old.table (map plain_inst insts.now) rules.now.plan.now }
+    ensures { IfOk result (λ o. MatchOption o (AreKept entries.old.table (map plain_inst insts.now) (length insts.now))
+        (λ f. IsFirstFault entries.old.table (map plain_inst insts.now) f.rule f.inst)) }
+{
+    let mut seen = Seen::new(alloc);
+    let mut parameters = 0;
+    for n in 0..insts.len() as u32 {
+        let inst = &insts[n as usize];
+        if let Some(rule) = entries.first_in(n, inst)? {
+            return Ok(Some(Found { rule, inst: n }));
+        }
+        let known = Known {
+            repeats: seen.repeats(alloc, inst)?,
+            parameters,
+        };
+        if let Some(rule) = first_of_types(rules, n, inst, known) {
+            return Ok(Some(Found { rule, inst: n }));
+        }
+        parameters = next_count(inst, parameters);
+    }
+    Ok(None)
+}

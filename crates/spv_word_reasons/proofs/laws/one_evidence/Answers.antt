@@ -1,5 +1,0 @@
-use Rattle.spv_word_reasons.proofs.Unique as unique
-use Rattle.spv_word_reasons.proofs.laws.one_evidence.Goals as goal
-
-pub returns : goal.returns
-returns c = λ G words rule inst word e f a b. unique.one G words rule inst word e f a b
