@@ -5,8 +5,9 @@
 // Reads the grammar once and makes one context of SPIRV-Tools, and then for each module: checks it, shows it, and
 // assembles what was shown, by each of the two in turn. A round runs a call again and again for some milliseconds.
 // Prints for each module its bytes and six times in nanoseconds, the least of the rounds: check, show and assemble,
-// of the library and then of SPIRV-Tools each. What a call made is let go within its time. Ends with status 1 where a
-// call does not succeed.
+// of the library and then of SPIRV-Tools each. At last prints three times more: to make the grammar of the file, to
+// make the built-in one, and to make a context of SPIRV-Tools. What a call made is let go within its time. Ends with
+// status 1 where a call does not succeed.
 #define _POSIX_C_SOURCE 200809L
 #include "spvk.h"
 
@@ -16,14 +17,14 @@
 #include <string.h>
 #include <time.h>
 
-enum { TASKS = 6 };
+enum { TASKS = 6, MAKERS = 3 };
 
 static const double NANOSECONDS_OF_A_ROUND = 3e6;
 
 static spvk_grammar grammar = SPVK_GRAMMAR_NONE;
 static spv_context context;
 static spv_validator_options options;
-static file module;
+static file text, module;
 static spvk_buffer own_text;
 static spv_text their_text;
 
@@ -86,7 +87,25 @@ static void their_assemble(void) {
     spvDiagnosticDestroy(diagnostic);
 }
 
-static void (*const CALLS[TASKS])(void) = {own_check, their_check, own_show, their_show, own_assemble, their_assemble};
+static void own_grammar(void) {
+    spvk_grammar made = SPVK_GRAMMAR_NONE;
+    expect(spvk_grammar_new(text.bytes, text.size, &made) == SPVK_OK, "spvk_grammar_new");
+    spvk_grammar_delete(&made);
+}
+
+static void own_default(void) {
+    spvk_grammar made = SPVK_GRAMMAR_NONE;
+    expect(spvk_grammar_default(&made) == SPVK_OK, "spvk_grammar_default");
+    spvk_grammar_delete(&made);
+}
+
+static void their_context(void) { spvContextDestroy(spvContextCreate(SPV_ENV_UNIVERSAL_1_6)); }
+
+typedef void call(void);
+
+static call *const CALLS[TASKS] = {own_check, their_check, own_show, their_show, own_assemble, their_assemble};
+
+static call *const MAKING[MAKERS] = {own_grammar, own_default, their_context};
 
 // Nanoseconds that the process has taken of a processor, which what else runs does not move much.
 static double now(void) {
@@ -96,41 +115,45 @@ static double now(void) {
 }
 
 // Nanoseconds for each of so many calls.
-static double timed(void (*call)(void), long times) {
+static double timed(call *made, long times) {
     const double start = now();
-    for (long it = 0; it < times; it++) call();
+    for (long it = 0; it < times; it++) made();
     return (now() - start) / (double)times;
+}
+
+// Prints the least time of each of some calls, which take turns.
+static void time_in_turn(call *const *calls, int count, long rounds) {
+    double least[TASKS];
+    long times[TASKS];
+    for (int it = 0; it < count; it++) {
+        least[it] = timed(calls[it], 3);
+        times[it] = 1 + (long)(NANOSECONDS_OF_A_ROUND / least[it]);
+    }
+    for (long round = 0; round < rounds; round++) {
+        for (int it = 0; it < count; it++) {
+            const double taken = timed(calls[it], times[it]);
+            if (taken < least[it]) least[it] = taken;
+        }
+    }
+    for (int it = 0; it < count; it++) printf(" %.0f", least[it]);
+    puts("");
 }
 
 // Prints the times of the module.
 static void measure(const char *name, long rounds) {
     spvk_verdict verdict = {0, 0, 0};
-    double least[TASKS];
-    long times[TASKS];
     expect(spvk_show(&grammar, module.bytes, module.size, &verdict, &own_text) == SPVK_OK, "spvk_show");
     their_text = shown_by_them();
-    for (int it = 0; it < TASKS; it++) {
-        least[it] = timed(CALLS[it], 3);
-        times[it] = 1 + (long)(NANOSECONDS_OF_A_ROUND / least[it]);
-    }
-    for (long round = 0; round < rounds; round++) {
-        for (int it = 0; it < TASKS; it++) {
-            const double taken = timed(CALLS[it], times[it]);
-            if (taken < least[it]) least[it] = taken;
-        }
-    }
     printf("%s %lu", name, (unsigned long)module.size);
-    for (int it = 0; it < TASKS; it++) printf(" %.0f", least[it]);
-    puts("");
+    time_in_turn(CALLS, TASKS, rounds);
     spvk_buffer_delete(&own_text);
     spvTextDestroy(their_text);
 }
 
 int main(int count, char **words) {
     if (count < 4) return 2;
-    file text = read_file(words[1]);
+    text = read_file(words[1]);
     expect(spvk_grammar_new(text.bytes, text.size, &grammar) == SPVK_OK, "spvk_grammar_new");
-    free(text.bytes);
     context = spvContextCreate(SPV_ENV_UNIVERSAL_1_6);
     options = spvValidatorOptionsCreate();
     for (int it = 3; it < count; it++) {
@@ -138,8 +161,11 @@ int main(int count, char **words) {
         measure(words[it], atol(words[2]));
         free(module.bytes);
     }
+    printf("making");
+    time_in_turn(MAKING, MAKERS, atol(words[2]));
     spvValidatorOptionsDestroy(options);
     spvContextDestroy(context);
     spvk_grammar_delete(&grammar);
+    free(text.bytes);
     return 0;
 }

@@ -10,29 +10,49 @@ complete -c spv -n __fish_use_subcommand -a explain -d 'Write the verdict on mod
 complete -c spv -n __fish_use_subcommand -a show -d 'Write the text of a module'
 complete -c spv -n __fish_use_subcommand -a asm -d 'Make the module of a text'
 complete -c spv -n __fish_use_subcommand -a trace -d "Write the run of an entry point's function"
-complete -c spv -n __fish_use_subcommand -a rules -d 'Write what each code of a verdict says'
+complete -c spv -n __fish_use_subcommand -a rules -d 'Write what each code of a verdict or an error says'
+complete -c spv -n __fish_use_subcommand -a grammar -d 'Write the built-in grammar, or that of a file, as a grammar file'
 complete -c spv -n __fish_use_subcommand -a help -d 'Print help on a command'
 
 complete -c spv -n '__fish_seen_subcommand_from check' -F
-complete -c spv -n '__fish_seen_subcommand_from check' -l grammar -r -F -d 'The grammar file, in JSON'
+complete -c spv -n '__fish_seen_subcommand_from check' -l grammar -r -F -d 'A grammar file, in JSON'
+complete -c spv -n '__fish_seen_subcommand_from check' -l as-1.6 -d 'Take a module of version 1.0 to 1.5 as one of 1.6'
+complete -c spv -n '__fish_seen_subcommand_from check' -s H -l with-filename -d 'Write the name of a single file too'
+complete -c spv -n '__fish_seen_subcommand_from check' -l no-filename -d 'Write no names before verdicts'
+complete -c spv -n '__fish_seen_subcommand_from check' -l quiet -d 'Write no verdict'
+complete -c spv -n '__fish_seen_subcommand_from check' -l verbose -d 'Say behind the line of an error what is wrong'
 
 complete -c spv -n '__fish_seen_subcommand_from explain' -F
-complete -c spv -n '__fish_seen_subcommand_from explain' -l grammar -r -F -d 'The grammar file, in JSON'
+complete -c spv -n '__fish_seen_subcommand_from explain' -l grammar -r -F -d 'A grammar file, in JSON'
+complete -c spv -n '__fish_seen_subcommand_from explain' -l as-1.6 -d 'Take a module of version 1.0 to 1.5 as one of 1.6'
+complete -c spv -n '__fish_seen_subcommand_from explain' -s H -l with-filename -d 'Write the name of a single file too'
+complete -c spv -n '__fish_seen_subcommand_from explain' -l no-filename -d 'Write no names before verdicts'
+complete -c spv -n '__fish_seen_subcommand_from explain' -l quiet -d 'Write no verdict'
+complete -c spv -n '__fish_seen_subcommand_from explain' -l verbose -d 'Say behind the line of an error what is wrong'
 
 complete -c spv -n '__fish_seen_subcommand_from show' -F
-complete -c spv -n '__fish_seen_subcommand_from show' -l grammar -r -F -d 'The grammar file, in JSON'
+complete -c spv -n '__fish_seen_subcommand_from show' -l grammar -r -F -d 'A grammar file, in JSON'
+complete -c spv -n '__fish_seen_subcommand_from show' -l as-1.6 -d 'Take a module of version 1.0 to 1.5 as one of 1.6'
+complete -c spv -n '__fish_seen_subcommand_from show' -l verbose -d 'Say behind the line of an error what is wrong'
 
 complete -c spv -n '__fish_seen_subcommand_from asm' -F
 complete -c spv -n '__fish_seen_subcommand_from asm' -l big -d 'The highest byte of a word stands first'
-complete -c spv -n '__fish_seen_subcommand_from asm' -l grammar -r -F -d 'The grammar file, in JSON'
+complete -c spv -n '__fish_seen_subcommand_from asm' -l grammar -r -F -d 'A grammar file, in JSON'
+complete -c spv -n '__fish_seen_subcommand_from asm' -l verbose -d 'Say behind the line of an error what is wrong'
 complete -c spv -n '__fish_seen_subcommand_from asm' -l out -r -F -d 'The module that is made'
 
 complete -c spv -n '__fish_seen_subcommand_from trace' -F
 complete -c spv -n '__fish_seen_subcommand_from trace' -l choices -x -d 'The targets that are taken, from 0, as 0,1'
 complete -c spv -n '__fish_seen_subcommand_from trace' -l function -x -d "The id of an entry point's function"
-complete -c spv -n '__fish_seen_subcommand_from trace' -l grammar -r -F -d 'The grammar file, in JSON'
+complete -c spv -n '__fish_seen_subcommand_from trace' -l grammar -r -F -d 'A grammar file, in JSON'
+complete -c spv -n '__fish_seen_subcommand_from trace' -l as-1.6 -d 'Take a module of version 1.0 to 1.5 as one of 1.6'
+complete -c spv -n '__fish_seen_subcommand_from trace' -l verbose -d 'Say behind the line of an error what is wrong'
 complete -c spv -n '__fish_seen_subcommand_from trace' -l limit -x -d 'The greatest number of steps'
 
-complete -c spv -n '__fish_seen_subcommand_from rules' -a 'W1 W2 W3 W4 W5 W6 W7 W8 W9 I1 I2 I3 I4 I5 I6 I7 I8 I9 I10 I11 I12 P1 L1 L2 D1 D2 D3 D4 D5 Y1 C1 C2 M1 E1 E2 Y2 Y3 Y4 Y5 Y6 Y7 Y8 F1 F2 F3 F4 A1 A2 G1'
+complete -c spv -n '__fish_seen_subcommand_from rules' -a 'W1 W2 W3 W4 W5 W6 W7 W8 W9 I1 I2 I3 I4 I5 I6 I7 I8 I9 I10 I11 I12 P1 L1 L2 D1 D2 D3 D4 D5 Y1 C1 C2 M1 E1 E2 Y2 Y3 Y4 Y5 Y6 Y7 Y8 F1 F2 F3 F4 A1 A2 G1 J1 J2 J3 J4 J5 J6 J7 J8 S1 S2 S3 S4 S5 S6 X1 N1 N2 N3'
+complete -c spv -n '__fish_seen_subcommand_from rules' -l verbose -d 'Say behind the line of an error what is wrong'
 
-complete -c spv -n '__fish_seen_subcommand_from help' -a 'check explain show asm trace rules help'
+complete -c spv -n '__fish_seen_subcommand_from grammar' -F
+complete -c spv -n '__fish_seen_subcommand_from grammar' -l verbose -d 'Say behind the line of an error what is wrong'
+
+complete -c spv -n '__fish_seen_subcommand_from help' -a 'check explain show asm trace rules grammar help'

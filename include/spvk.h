@@ -2,7 +2,7 @@
  *
  *     spvk_grammar grammar = SPVK_GRAMMAR_NONE;
  *     spvk_verdict verdict;
- *     if (spvk_grammar_new(text, text_len, &grammar) == SPVK_OK) {
+ *     if (spvk_grammar_default(&grammar) == SPVK_OK) {
  *         if (spvk_check(&grammar, bytes, len, &verdict) == SPVK_OK && verdict.code == SPVK_VALID) { .. }
  *         spvk_grammar_delete(&grammar);
  *     }
@@ -23,7 +23,8 @@
  * How much. As measured on hostile shapes (docs/PERFORMANCE.md), and not proved: `spvk_grammar_new` takes time near
  * to linear in the text, at most 170 instructions of the processor a byte, and memory of at most 12 times its bytes.
  * `spvk_check` and `spvk_explain` take time near to linear in the module, at most 730 instructions for each word, and
- * may look at all that the module's capabilities imply in the grammar; their memory is at most 14 times the module. A
+ * may look at all that the module's capabilities imply in the grammar; their memory is at most 14 times the module.
+ * With SPVK_AS_1_6 a call copies the bytes of the module once more, and lets the copy go before it returns. A
  * text that `spvk_show` or `spvk_explain` makes may have as many bytes as the longest names of the grammar have times
  * the instructions: where the grammar or the module is a stranger's, let malloc refuse, and the call answers
  * SPVK_MEMORY. A module that `spvk_assemble` makes is no longer than 16,777,216
@@ -62,6 +63,7 @@ typedef enum spvk_status {
     SPVK_NO_GRAMMAR = 2, /**< the grammar is a null pointer, was never made, or was deleted */
     SPVK_NULL = 3,       /**< a null pointer with a length that is not 0, or a null pointer to where the answer goes */
     SPVK_NOT_TEXT = 4,   /**< what is to be assembled is no UTF-8 */
+    SPVK_NO_FLAG = 5,    /**< the flags have a bit that is no flag of this header */
     SPVK_J1 = 101,       /**< the grammar file is no JSON, or nests deeper than 127 levels */
     SPVK_J2 = 102,       /**< a key of it is missing, or something is of another sort than it must be */
     SPVK_J3 = 103,       /**< an opcode or a value is out of its range or form */
@@ -103,6 +105,12 @@ typedef enum spvk_text_code {
     SPVK_S5 = 1205  /**< the instruction, or with it the module, has too many words */
 } spvk_text_code;
 
+/** A flag of the calls `.._with`: the module is read as one of version 1.6. Where its bytes begin with the magic
+ *  number, in either byte order, and a version from 1.0 to 1.6, version 1.6 stands in its place; all other bytes are
+ *  as they are, and so are those of a module of any other version, which still breaks W5. What is read is judged by
+ *  the rules of version 1.6. The bytes that are given are not changed. */
+#define SPVK_AS_1_6 UINT32_C(1)
+
 /** Stands for no instruction and no word: in the verdict on a valid module, and in one of W2 to W8. */
 #define SPVK_NOWHERE UINT32_MAX
 
@@ -119,8 +127,8 @@ typedef struct spvk_fault {
     uint32_t line; /**< the number of its line, from 1; 0 with SPVK_ASSEMBLED */
 } spvk_fault;
 
-/** A grammar, made by `spvk_grammar_new` and let go by `spvk_grammar_delete`. Start it as SPVK_GRAMMAR_NONE. A copy
- *  of it is the same grammar, which is deleted once. */
+/** A grammar, made by `spvk_grammar_default` or `spvk_grammar_new` and let go by `spvk_grammar_delete`. Start it as
+ *  SPVK_GRAMMAR_NONE. A copy of it is the same grammar, which is deleted once. */
 typedef struct spvk_grammar {
     void *held; /**< the library's own; null: no grammar */
 } spvk_grammar;
@@ -141,8 +149,8 @@ typedef struct spvk_buffer {
 /* ---- The archive's functions. ----
  *
  * No pointer may be null here, also with a length of 0, but `held` and what lies in a grammar or a buffer. `held`
- * is that of a grammar: it is null, or what `spvk_raw_grammar_new` made and `spvk_raw_grammar_delete` did not take
- * away.
+ * is that of a grammar: it is null, or what `spvk_raw_grammar_new` or `spvk_raw_grammar_default` made and
+ * `spvk_raw_grammar_delete` did not take away.
  */
 
 /** What `spvk_raw_check` answers. */
@@ -167,14 +175,22 @@ typedef struct spvk_image {
 
 /** As `spvk_grammar_new`, but a grammar that `grammar` holds is let go first. */
 uint32_t spvk_raw_grammar_new(const uint8_t *text, size_t len, spvk_grammar *grammar);
+/** As `spvk_grammar_default`, but a grammar that `grammar` holds is let go first. */
+uint32_t spvk_raw_grammar_default(spvk_grammar *grammar);
 /** As `spvk_grammar_delete`. */
 void spvk_raw_grammar_delete(spvk_grammar *grammar);
 /** As `spvk_check`. */
 spvk_answer spvk_raw_check(const void *held, const uint8_t *bytes, size_t len);
+/** As `spvk_check_with` by SPVK_AS_1_6. */
+spvk_answer spvk_raw_check_as_1_6(const void *held, const uint8_t *bytes, size_t len);
 /** As `spvk_explain`. After any status but SPVK_OK `text` is as it was. */
 uint32_t spvk_raw_explain(const void *held, const uint8_t *bytes, size_t len, spvk_text *text);
+/** As `spvk_explain_with` by SPVK_AS_1_6. After any status but SPVK_OK `text` is as it was. */
+uint32_t spvk_raw_explain_as_1_6(const void *held, const uint8_t *bytes, size_t len, spvk_text *text);
 /** As `spvk_show`. After any status but SPVK_OK `text` is as it was. */
 uint32_t spvk_raw_show(const void *held, const uint8_t *bytes, size_t len, spvk_text *text);
+/** As `spvk_show_with` by SPVK_AS_1_6. After any status but SPVK_OK `text` is as it was. */
+uint32_t spvk_raw_show_as_1_6(const void *held, const uint8_t *bytes, size_t len, spvk_text *text);
 /** As `spvk_assemble`, with the lowest byte of each word first. After any status but SPVK_OK `image` is as it was. */
 uint32_t spvk_raw_assemble_little(const void *held, const uint8_t *text, size_t len, spvk_image *image);
 /** As `spvk_assemble`, with the highest byte of each word first. After any status but SPVK_OK `image` is as it was.
@@ -183,11 +199,14 @@ uint32_t spvk_raw_assemble_big(const void *held, const uint8_t *text, size_t len
 /** As `spvk_buffer_delete`. */
 void spvk_raw_buffer_delete(spvk_buffer *buffer);
 /** Puts where the text of `spvk_rule_name` begins to `text`, and answers whether there is one; else `text` is as it
- *  was. What `text` leads to is null at first, or was put there by this call or one of the two below. */
+ *  was. What `text` leads to is null at first, or was put there by this call or one of the three below. */
 bool spvk_raw_rule_name(uint32_t code, const uint8_t **text);
 /** Puts where the text of `spvk_rule_sentence` begins to `text`, and answers whether there is one; else `text` is
  *  as it was. */
 bool spvk_raw_rule_sentence(uint32_t code, const uint8_t **text);
+/** Puts where the text of `spvk_status_text` begins to `text`, and answers whether there is one; else `text` is as it
+ *  was. */
+bool spvk_raw_status_text(uint32_t status, const uint8_t **text);
 /** Puts where the text of `spvk_version` begins to `text`. */
 void spvk_raw_version(const uint8_t **text);
 
@@ -211,9 +230,39 @@ static inline spvk_status spvk_grammar_new(const uint8_t *text, size_t len, spvk
     return (spvk_status)spvk_raw_grammar_new(spvk_some_bytes(text), len, grammar);
 }
 
+/** Makes the built-in grammar, of SPIR-V 1.6, which needs no file. What `grammar` held is not looked at: it must not
+ *  hold a grammar that is still to be deleted.
+ *
+ *  SPVK_OK: `grammar` holds it, until `spvk_grammar_delete`. SPVK_MEMORY. SPVK_NULL: `grammar` is null. SPVK_J2: the
+ *  library was damaged. After any status but SPVK_OK `grammar` holds none. */
+static inline spvk_status spvk_grammar_default(spvk_grammar *grammar) {
+    if (grammar == NULL) return SPVK_NULL;
+    grammar->held = NULL;
+    return (spvk_status)spvk_raw_grammar_default(grammar);
+}
+
 /** Lets a grammar go. It does nothing with a null pointer, nor with one that holds none or was deleted. */
 static inline void spvk_grammar_delete(spvk_grammar *grammar) {
     if (grammar != NULL) spvk_raw_grammar_delete(grammar);
+}
+
+/** As `spvk_check`, by flags: SPVK_AS_1_6, or 0 for none.
+ *
+ *  Also SPVK_NO_FLAG: `flags` has another bit. */
+static inline spvk_status spvk_check_with(const spvk_grammar *grammar, const uint8_t *bytes, size_t len,
+                                          uint32_t flags, spvk_verdict *verdict) {
+    spvk_answer answer;
+    if (grammar == NULL || grammar->held == NULL) return SPVK_NO_GRAMMAR;
+    if (verdict == NULL || (bytes == NULL && len != 0)) return SPVK_NULL;
+    if ((flags & ~SPVK_AS_1_6) != 0) return SPVK_NO_FLAG;
+    answer = flags != 0 ? spvk_raw_check_as_1_6(grammar->held, spvk_some_bytes(bytes), len)
+                        : spvk_raw_check(grammar->held, spvk_some_bytes(bytes), len);
+    if (answer.status == SPVK_OK) {
+        verdict->code = answer.code;
+        verdict->inst = answer.inst;
+        verdict->word = answer.word;
+    }
+    return (spvk_status)answer.status;
 }
 
 /** The verdict on the `len` bytes of a module, in either byte order, just as `spv check` gives it.
@@ -223,33 +272,35 @@ static inline void spvk_grammar_delete(spvk_grammar *grammar) {
  *  is as it was. */
 static inline spvk_status spvk_check(const spvk_grammar *grammar, const uint8_t *bytes, size_t len,
                                      spvk_verdict *verdict) {
-    spvk_answer answer;
-    if (grammar == NULL || grammar->held == NULL) return SPVK_NO_GRAMMAR;
-    if (verdict == NULL || (bytes == NULL && len != 0)) return SPVK_NULL;
-    answer = spvk_raw_check(grammar->held, spvk_some_bytes(bytes), len);
-    if (answer.status == SPVK_OK) {
-        verdict->code = answer.code;
-        verdict->inst = answer.inst;
-        verdict->word = answer.word;
-    }
-    return (spvk_status)answer.status;
+    return spvk_check_with(grammar, bytes, len, 0, verdict);
 }
 
-/** What `spvk_explain` and `spvk_show` answer, by the call of the library that each makes. (For this header.) */
+/** What `spvk_explain` and `spvk_show` answer, by one of two calls of the library: without a flag, and by SPVK_AS_1_6.
+ *  (For this header.) */
 static inline spvk_status spvk_told_by(uint32_t (*raw)(const void *, const uint8_t *, size_t, spvk_text *),
+                                       uint32_t (*as_1_6)(const void *, const uint8_t *, size_t, spvk_text *),
                                        const spvk_grammar *grammar, const uint8_t *bytes, size_t len,
-                                       spvk_verdict *verdict, spvk_buffer *buffer) {
+                                       uint32_t flags, spvk_verdict *verdict, spvk_buffer *buffer) {
     spvk_text text = {{0, 0, 0}, SPVK_BUFFER_NONE};
     uint32_t status;
     if (buffer != NULL) *buffer = text.buffer;
     if (grammar == NULL || grammar->held == NULL) return SPVK_NO_GRAMMAR;
     if (verdict == NULL || buffer == NULL || (bytes == NULL && len != 0)) return SPVK_NULL;
-    status = raw(grammar->held, spvk_some_bytes(bytes), len, &text);
+    if ((flags & ~SPVK_AS_1_6) != 0) return SPVK_NO_FLAG;
+    status = (flags != 0 ? as_1_6 : raw)(grammar->held, spvk_some_bytes(bytes), len, &text);
     if (status == SPVK_OK) {
         *verdict = text.verdict;
         *buffer = text.buffer;
     }
     return (spvk_status)status;
+}
+
+/** As `spvk_explain`, by flags: SPVK_AS_1_6, or 0 for none. The lines speak of the module as it was read.
+ *
+ *  Also SPVK_NO_FLAG: `flags` has another bit. */
+static inline spvk_status spvk_explain_with(const spvk_grammar *grammar, const uint8_t *bytes, size_t len,
+                                            uint32_t flags, spvk_verdict *verdict, spvk_buffer *buffer) {
+    return spvk_told_by(spvk_raw_explain, spvk_raw_explain_as_1_6, grammar, bytes, len, flags, verdict, buffer);
 }
 
 /** The verdict on the bytes of a module, and the lines of `spv explain`: that of the verdict, and after that of a
@@ -260,7 +311,15 @@ static inline spvk_status spvk_told_by(uint32_t (*raw)(const void *, const uint8
  *  `buffer` holds nothing. What `buffer` held is not looked at. */
 static inline spvk_status spvk_explain(const spvk_grammar *grammar, const uint8_t *bytes, size_t len,
                                        spvk_verdict *verdict, spvk_buffer *buffer) {
-    return spvk_told_by(spvk_raw_explain, grammar, bytes, len, verdict, buffer);
+    return spvk_explain_with(grammar, bytes, len, 0, verdict, buffer);
+}
+
+/** As `spvk_show`, by flags: SPVK_AS_1_6, or 0 for none. The text then tells version 1.6.
+ *
+ *  Also SPVK_NO_FLAG: `flags` has another bit. */
+static inline spvk_status spvk_show_with(const spvk_grammar *grammar, const uint8_t *bytes, size_t len,
+                                         uint32_t flags, spvk_verdict *verdict, spvk_buffer *buffer) {
+    return spvk_told_by(spvk_raw_show, spvk_raw_show_as_1_6, grammar, bytes, len, flags, verdict, buffer);
 }
 
 /** The text of a module, as `spv show` writes it, or the rule of W or I by which its bytes are no list of
@@ -271,7 +330,7 @@ static inline spvk_status spvk_explain(const spvk_grammar *grammar, const uint8_
  *  text, and `buffer` holds nothing. The other statuses, and what is left after them, as of `spvk_explain`. */
 static inline spvk_status spvk_show(const spvk_grammar *grammar, const uint8_t *bytes, size_t len,
                                        spvk_verdict *verdict, spvk_buffer *buffer) {
-    return spvk_told_by(spvk_raw_show, grammar, bytes, len, verdict, buffer);
+    return spvk_show_with(grammar, bytes, len, 0, verdict, buffer);
 }
 
 /** The bytes of the module that the `len` bytes of a text stand for, as `spv asm` makes them: each word with its
@@ -316,6 +375,13 @@ static inline const char *spvk_rule_name(uint32_t code) {
 static inline const char *spvk_rule_sentence(uint32_t code) {
     const uint8_t *text = NULL;
     return spvk_raw_rule_sentence(code, &text) ? (const char *)text : NULL;
+}
+
+/** What a status says, in a few words of ASCII with a zero at its end, as "out of memory"; null for what is no status.
+ *  It is never let go. */
+static inline const char *spvk_status_text(uint32_t status) {
+    const uint8_t *text = NULL;
+    return spvk_raw_status_text(status, &text) ? (const char *)text : NULL;
 }
 
 /** The version of the library, as "1.0.0", with a zero at its end. It is never let go. */

@@ -2,16 +2,18 @@
 
     import spvk
 
-    with open("spirv.core.grammar.json", "rb") as file:
-        grammar = spvk.Grammar(file.read())
+    grammar = spvk.Grammar()
     with open("kernel.spv", "rb") as file:
         module = file.read()
     verdict = grammar.check(module)
-    if not verdict.is_valid:
+    if verdict:
+        load(module)
+    else:
         print(verdict, verdict.sentence)
 
-A grammar is read once and then answers about any number of modules, also from several threads at the
-same time: the calls run without Python's global lock. It is let go with its last reference.
+A grammar is made once, the built-in one of SPIR-V 1.6 or that of a grammar file, and then answers about
+any number of modules, also from several threads at the same time: the calls run without Python's global
+lock. It is let go with its last reference.
 
 The shared library is the file that the environment's SPVK_LIBRARY names, or else libspvk.so.1 where
 the system finds it. Python 3.8 or later, and nothing else.
@@ -83,7 +85,7 @@ class TextFault(Error):
 
 @dataclass(frozen=True)
 class Verdict:
-    """The verdict on a module. As a text it is the line of `spv check`.
+    """The verdict on a module. As a text it is the line of `spv check`; it is true where the module is valid.
 
     `number` is 0 for a valid module, else the number of the first rule that the module breaks, as in
     the header spvk.h. `inst` is the number of the instruction, from 0, and `word` that of the word in
@@ -99,6 +101,9 @@ class Verdict:
     def is_valid(self) -> bool:
         """Whether the module breaks no rule."""
         return self.number == _VALID
+
+    def __bool__(self) -> bool:
+        return self.is_valid
 
     @property
     def code(self) -> Optional[str]:
@@ -118,10 +123,16 @@ class Verdict:
 
 
 class Explanation(NamedTuple):
-    """A verdict, and the lines of `spv explain`: its own, and after that of a fault those that explain it."""
+    """A verdict, and the lines of `spv explain`: its own, and after that of a fault those that explain it.
+
+    It is true where the verdict is: where the module is valid.
+    """
 
     verdict: Verdict
     text: str
+
+    def __bool__(self) -> bool:
+        return self.verdict.is_valid
 
 
 class _Grammar(ctypes.Structure):
@@ -162,10 +173,14 @@ def _library() -> ctypes.CDLL:
     asked = [ctypes.c_void_p, *given]
     calls = {
         "grammar_new": (ctypes.c_uint32, [*given, to(_Grammar)]),
+        "grammar_default": (ctypes.c_uint32, [to(_Grammar)]),
         "grammar_delete": (None, [to(_Grammar)]),
         "check": (_Answer, asked),
+        "check_as_1_6": (_Answer, asked),
         "explain": (ctypes.c_uint32, [*asked, to(_Text)]),
+        "explain_as_1_6": (ctypes.c_uint32, [*asked, to(_Text)]),
         "show": (ctypes.c_uint32, [*asked, to(_Text)]),
+        "show_as_1_6": (ctypes.c_uint32, [*asked, to(_Text)]),
         "assemble_little": (ctypes.c_uint32, [*asked, to(_Image)]),
         "assemble_big": (ctypes.c_uint32, [*asked, to(_Image)]),
         "buffer_delete": (None, [to(_Buffer)]),
@@ -237,9 +252,10 @@ def _made(call, held: "_Held", given: bytes, answer: Union[_Text, _Image]) -> by
 class _Held:
     """A grammar of the library, which is let go with its last reference. So no call can lose it while it runs."""
 
-    def __init__(self, text: bytes) -> None:
+    def __init__(self, text: Optional[bytes]) -> None:
         self.grammar = _Grammar()
-        _done(_C.spvk_raw_grammar_new(text, len(text), ctypes.byref(self.grammar)))
+        made = ctypes.byref(self.grammar)
+        _done(_C.spvk_raw_grammar_default(made) if text is None else _C.spvk_raw_grammar_new(text, len(text), made))
 
     # (At the end of the process the module's names may be gone first: so they are parameters.)
     def __del__(self, delete=_C.spvk_raw_grammar_delete, byref=ctypes.byref) -> None:
@@ -252,35 +268,43 @@ def _octets(given) -> bytes:
 
 
 class Grammar:
-    """The table of a grammar file, in the form of Khronos' spirv.core.grammar.json.
+    """The table of a grammar file, in the form of Khronos' spirv.core.grammar.json; without one the built-in table.
 
     Raises GrammarError where the file is refused, and OutOfMemory. Each call below may raise
     OutOfMemory as well, and none changes the grammar.
+
+    By `as_1_6` a module is read as one of version 1.6: where its bytes begin with the magic number, in
+    either byte order, and a version from 1.0 to 1.6, version 1.6 stands in its place, and what is read is
+    judged by the rules of 1.6. A module of another version breaks W5, and so does one of any version but
+    1.6 without `as_1_6`.
     """
 
-    def __init__(self, text: bytes) -> None:
-        self._held = _Held(_octets(text))
+    def __init__(self, text: Optional[bytes] = None) -> None:
+        self._held = _Held(None if text is None else _octets(text))
 
-    def check(self, module: bytes) -> Verdict:
+    def check(self, module: bytes, *, as_1_6: bool = False) -> Verdict:
         """The verdict on the bytes of a module, in either byte order."""
         held, given = self._held, _octets(module)
-        answer = _C.spvk_raw_check(held.grammar.held, given, len(given))
+        call = _C.spvk_raw_check_as_1_6 if as_1_6 else _C.spvk_raw_check
+        answer = call(held.grammar.held, given, len(given))
         _done(answer.status)
         return _verdict(answer)
 
-    def explain(self, module: bytes) -> Explanation:
+    def explain(self, module: bytes, *, as_1_6: bool = False) -> Explanation:
         """The verdict on the bytes of a module, with the lines that explain it."""
         answer = _Text()
-        lines = _made(_C.spvk_raw_explain, self._held, _octets(module), answer)
+        call = _C.spvk_raw_explain_as_1_6 if as_1_6 else _C.spvk_raw_explain
+        lines = _made(call, self._held, _octets(module), answer)
         return Explanation(_verdict(answer), lines.decode())
 
-    def show(self, module: bytes) -> str:
+    def show(self, module: bytes, *, as_1_6: bool = False) -> str:
         """The text of a module, which need not be valid.
 
         Raises ModuleFault where its bytes are no list of instructions.
         """
         answer = _Text()
-        text = _made(_C.spvk_raw_show, self._held, _octets(module), answer)
+        call = _C.spvk_raw_show_as_1_6 if as_1_6 else _C.spvk_raw_show
+        text = _made(call, self._held, _octets(module), answer)
         if answer.code != _VALID:
             raise ModuleFault(_verdict(answer))
         return text.decode()

@@ -7,9 +7,13 @@ import subprocess
 
 from .common import SECONDS, TESTS, Answer, Check, Unusable, difference, run
 from .khronos import GRAMMAR
+from .usage import under
 
 PAGE = TESTS.parent / "docs/COMPARED.md"
 MODULES = TESTS / "compared"
+KERNEL = TESTS / "modules/smallest-kernel.spvasm"
+# How many lines of a text are its header.
+HEADER = 5
 # The head of each table of modules, and the columns of what the program and what spirv-val say.
 HEADS = {
     "| Module | What is wrong | spirv-val |": (None, 2),
@@ -52,7 +56,29 @@ def as_said(name, ours, theirs, program, folder):
     if peer != theirs:
         return f"  spirv-val\n  wanted: {theirs}\n  got:    {peer}"
     wanted = Answer(f"{ours}\n".encode(), b"", 0 if ours == "valid" else 1)
-    return difference(wanted, run(program, ["check", "--grammar", GRAMMAR, module], folder))
+    for grammar in ([], ["--grammar", GRAMMAR]):
+        wrong = difference(wanted, run(program, ["check", *grammar, module], folder, env=under()))
+        if wrong:
+            return wrong
+    return None
+
+
+def of_a_later_version(program, folder):
+    """A module of 1.0 with OpModuleProcessed, of 1.1: refused by spirv-val as the page says, valid by `--as-1.6`."""
+    module, text = folder / "module.spv", folder / "text"
+    lines = KERNEL.read_text(encoding="utf-8").splitlines()[HEADER:]
+    at = next(number for number, line in enumerate(lines) if "OpTypeVoid" in line)
+    text.write_text("\n".join([*lines[:at], 'OpModuleProcessed "by nobody"', *lines[at:], ""]), encoding="utf-8")
+    words = ["spirv-as", "--target-env", "spv1.1", "--preserve-numeric-ids", "-o", module, text]
+    subprocess.run(words, check=True, timeout=SECONDS)
+    content = module.read_bytes()
+    module.write_bytes(content[:4] + bytes((0, 0, 1, 0)) + content[8:])
+    peer = said_by_peer(module, folder)
+    if not peer or f"*{peer}*" not in PAGE.read_text(encoding="utf-8"):
+        return f"  spirv-val: {peer}"
+    rows = [([], Answer(b"fault W5\n", b"", 1)), (["--as-1.6"], Answer(b"valid\n", b"", 0))]
+    wrong = [difference(wanted, run(program, ["check", *it, module], folder, env=under())) for it, wanted in rows]
+    return next(filter(None, wrong), None)
 
 
 def all_named(named):
@@ -78,4 +104,5 @@ def checks():
 
     names = [name for name, _, _ in found]
     whole = Check("beside spirv-val: all modules", layers, lambda *_: all_named(names))
-    return [whole, *(check(*row) for row in found)]
+    later = Check("beside spirv-val: an instruction of a later version", layers, of_a_later_version, tools)
+    return [whole, later, *(check(*row) for row in found)]

@@ -27,6 +27,8 @@ STRICT = ("-Wall", "-Wextra", "-Wpedantic", "-Werror", "-O2", f"-I{TOP / 'includ
 SANITIZED = ("-g", "-fsanitize=address,undefined", "-fno-sanitize-recover=all")
 WRAPPED = ("-Wl,--wrap=malloc,--wrap=realloc,--wrap=free",)
 MEMORY = ("valgrind", "-q", "--error-exitcode=9", "--leak-check=full", "--show-leak-kinds=all")
+# The letters of the codes that a verdict may have; `spv rules` has those of errors too.
+VERDICTS = "WIPLDYCMEFAG"
 CHECKS = 100_000
 SECONDS = 300
 INSTALLED = """
@@ -177,7 +179,7 @@ def every_rule(program, folder):
     """Every code of a verdict: its name and its sentence are those of `spv rules`."""
     got = run(built(folder, "program"), ["rules"], folder).out.decode().splitlines()
     said = run(program, ["rules"], folder).out.decode()
-    wanted = re.findall(r"^[A-Z]\d+: .*$", said, re.MULTILINE)
+    wanted = re.findall(rf"^[{VERDICTS}]\d+: .*$", said, re.MULTILINE)
     if sorted(got) != sorted(wanted) or not got:
         raise Wrong(f"  in one only: {sorted(set(got) ^ set(wanted))}")
 
@@ -187,14 +189,26 @@ def instructions(_program, folder):
     done([TOP / "bench/library", "--count"], folder)
 
 
+def expect_example(words, folder, where):
+    """Raises Wrong where an example does not tell the kernel valid, or tells a missing file in more than one line."""
+    for more in ([], ["--grammar", PROFILE]):
+        said = done([*words, *more, KERNEL], folder, **where)
+        if said != f"{KERNEL}: valid\n":
+            raise Wrong(f"  {words}: {said}")
+    for more in ([], ["missing"], ["--grammar", "missing", KERNEL], ["--grammar"]):
+        ended = subprocess.run([*map(str, words), *map(str, more)], stdout=subprocess.PIPE, stderr=subprocess.PIPE,
+                               cwd=folder, env={**os.environ, **{name: str(it) for name, it in where.items()}},
+                               timeout=SECONDS, check=False)
+        if ended.returncode != 2 or ended.stdout or ended.stderr.count(b"\n") != 1:
+            raise Wrong(f"  {words} {more}: {ended}")
+
+
 def in_rust(_program, folder):
     """The tests of bindings/rust, and its example."""
     where = {"SPVK_LIB_DIR": ARCHIVE.parent, "CARGO_TARGET_DIR": folder}
     words = ["--offline", "--locked", "--manifest-path", TOP / "bindings/rust/Cargo.toml"]
     done(["cargo", "test", *words], folder, **where)
-    said = done(["cargo", "run", "-q", *words, "--example", "check", "--", PROFILE, KERNEL], folder, **where)
-    if said != f"{KERNEL}: valid\n":
-        raise Wrong(f"  examples/check.rs: {said}")
+    expect_example(["cargo", "run", "-q", *words, "--example", "check", "--"], folder, where)
 
 
 def in_python(_program, folder):
@@ -202,9 +216,7 @@ def in_python(_program, folder):
     place = TOP / "bindings/python"
     where = {"SPVK_LIBRARY": shared(), "PYTHONPATH": place, "PYTHONDONTWRITEBYTECODE": 1}
     done([sys.executable, "-m", "unittest", "discover", place / "tests"], folder, **where)
-    said = done([sys.executable, place / "examples/check.py", PROFILE, KERNEL], folder, **where)
-    if said != f"{KERNEL}: valid\n":
-        raise Wrong(f"  examples/check.py: {said}")
+    expect_example([sys.executable, place / "examples/check.py"], folder, where)
 
 
 def make(*words):
@@ -246,8 +258,8 @@ def expect_answers(program, folder, **environment):
     """Raises Wrong where the man page's program does not tell the kernel valid, and the kernel cut to be none."""
     cut = folder / "cut.spv"
     cut.write_bytes(KERNEL.read_bytes()[:-4])
-    said = done([program, PROFILE, KERNEL], folder, **environment)
-    told = subprocess.run([str(program), str(PROFILE), str(cut)], stdout=subprocess.PIPE,
+    said = done([program, KERNEL], folder, **environment)
+    told = subprocess.run([str(program), str(cut)], stdout=subprocess.PIPE,
                           env={**os.environ, **environment}, timeout=SECONDS, check=False)
     if said or told.returncode != 1 or not told.stdout.startswith(b"L2: "):
         raise Wrong(f"  {program}: {said!r}, and then {told}")
@@ -338,7 +350,8 @@ def one_version(_program, _folder):
 
 def codes_of_header(program, folder):
     """The header has each code that `spv rules` lists by its number, and the man page names the last of them."""
-    codes = [line.split(":")[0] for line in run(program, ["rules"], folder).out.decode().splitlines()]
+    said = run(program, ["rules"], folder).out.decode()
+    codes = re.findall(rf"^([{VERDICTS}]\d+): ", said, re.MULTILINE)
     letters = list(dict.fromkeys(code[0] for code in codes))
     numbers = {f"SPVK_{code}": 100 * letters.index(code[0]) + int(code[1:]) for code in codes}
     listed = re.search(r"enum spvk_code \{(.*?)\}", HEADER.read_text(encoding="utf-8"), re.DOTALL)[1]

@@ -1,8 +1,9 @@
 """The recipes of docs/USING.md and the command lines of README.md, run as they stand, with what they print.
 
-A section of docs/USING.md is a recipe, run in a folder of its own after the first one. A block of `sh` is run by a
-shell, and the block of `text` that follows it is what it prints; any other block is a file, whose name is the last word
-in the sign ` of the line above it. In README.md what is run stands after `$ `, and what it prints below.
+A section of docs/USING.md is a recipe, run in a folder of its own after the one that makes the modules of the others;
+and all of them are run in one folder, one after the other. A block of `sh` is run by a shell, and the block of `text`
+that follows it is what it prints; any other block is a file, whose name is the last word in the sign ` of the line
+above it. In README.md what is run stands after `$ `, and what it prints below.
 """
 
 import os
@@ -10,12 +11,20 @@ import re
 from dataclasses import dataclass
 
 from .common import TESTS, Check, Unusable, joined, shown
+from .library import Wrong, make
 
 PAGE = TESTS.parent / "docs/USING.md"
 README = TESTS.parent / "README.md"
 FENCE = "```"
+# The section that makes the modules which the others use.
+MAKES_MODULES = "Two modules"
 # The tools that a recipe needs, by a word that its blocks have.
-TOOLS = {"cc ": "cc", "cmake ": "cmake"}
+TOOLS = {
+    "cc ": {"cc"},
+    "clang ": {"llvm-spirv"},
+    "cmake ": {"cmake"},
+    "pkg-config ": {"library", "make", "pkg-config"},
+}
 
 
 @dataclass(frozen=True)
@@ -49,17 +58,34 @@ def blocks_of(text):
 
 
 def environment(program, folder):
-    """The environment of a recipe: the program on the PATH, by its name, and the grammar file of the profile."""
+    """The environment of a recipe: the program on the PATH, by its name, and no grammar file."""
     commands = folder / "commands"
     commands.mkdir()
     (commands / "spv").symlink_to(program)
-    grammar = str(TESTS / "profile.json")
-    return {**os.environ, "PATH": f"{commands}:{os.environ['PATH']}", "SPV_GRAMMAR": grammar, "LC_ALL": "C"}
+    rest = {name: text for name, text in os.environ.items() if name != "SPV_GRAMMAR"}
+    return {**rest, "PATH": f"{commands}:{os.environ['PATH']}", "LC_ALL": "C"}
+
+
+def with_library(folder):
+    """The variables by which an installation of the library into a folder is found."""
+    make("install", f"PREFIX={folder}")
+    return {"PKG_CONFIG_PATH": str(folder / "lib/pkgconfig"), "LD_LIBRARY_PATH": str(folder / "lib")}
 
 
 def run_block(text, folder, variables):
     """Runs the lines of a block in a shell: what they print, and how they end."""
     return joined(["sh", "-eu", "-c", text], folder, env=variables)
+
+
+def script_of(blocks):
+    """All that the blocks have a shell run."""
+    return "".join(block.text for block in blocks if block.language == "sh")
+
+
+def tools_of(blocks):
+    """The tools that the blocks need."""
+    script = script_of(blocks)
+    return frozenset().union(*(tools for word, tools in TOOLS.items() if word in script))
 
 
 def run_blocks(blocks, folder, variables):
@@ -77,28 +103,35 @@ def run_blocks(blocks, folder, variables):
     return None
 
 
-def recipe(first, blocks):
-    """The check of a recipe, after the first section."""
+def recipe(*parts):
+    """The check of recipes, one after the other in one folder."""
 
     def check(program, folder):
         variables = environment(program, folder)
+        if "library" in tools_of([block for blocks in parts for block in blocks]):
+            try:
+                variables.update(with_library(folder / "prefix"))
+            except Wrong as wrong:
+                return str(wrong)
         place = folder / "empty"
         place.mkdir()
-        return run_blocks(first, place, variables) or run_blocks(blocks, place, variables)
+        return next(filter(None, (run_blocks(blocks, place, variables) for blocks in parts)), None)
 
     return check
 
 
 def recipes():
-    """A check for each section of the page."""
-    found = [(name, list(blocks_of(text))) for name, text in sections_of(PAGE.read_text(encoding="utf-8"))]
-    if len(found) < 2 or not all(blocks for _, blocks in found):
-        raise Unusable("docs/USING.md has a section without a block")
-    layers = frozenset({"use", "many files"})
-    for name, blocks in found:
-        text = "".join(block.text for block in blocks if block.language == "sh")
-        tools = frozenset(tool for word, tool in TOOLS.items() if word in text)
-        yield Check(f"recipe: {name}", layers, recipe(found[0][1], blocks if blocks != found[0][1] else []), tools)
+    """A check for each section of the page, and one for all of them."""
+    found = {name: list(blocks_of(text)) for name, text in sections_of(PAGE.read_text(encoding="utf-8"))}
+    if MAKES_MODULES not in found or not all(found.values()):
+        raise Unusable(f"docs/USING.md has no section {MAKES_MODULES}, or one without a block")
+    layers = frozenset({"use", "many files", "library"})
+    modules = found[MAKES_MODULES]
+    for name, blocks in found.items():
+        parts = [blocks] if blocks is modules else [modules, blocks]
+        yield Check(f"recipe: {name}", layers, recipe(*parts), tools_of(blocks))
+    whole = [block for blocks in found.values() for block in blocks]
+    yield Check("recipes: one after the other", layers, recipe(*found.values()), tools_of(whole))
 
 
 # README.md
@@ -136,11 +169,11 @@ def without_installing(text):
 def readme(program, folder):
     """Each command line of README prints what stands below it, and ends with 0, or with 1 where that is a fault."""
     laid_out(program, folder)
-    count = 0
+    variables, count = environment(program, folder), 0
     for line, printed in shown_lines(without_installing(README.read_text(encoding="utf-8"))):
         if line == ".ci/run":
             continue
-        got, status = run_block(line, folder, {**os.environ, "LC_ALL": "C"})
+        got, status = run_block(line, folder, variables)
         count += 1
         due = int((printed or b"").startswith(b"fault "))
         if status != due or printed is not None and printed != got:

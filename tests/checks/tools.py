@@ -46,6 +46,22 @@ def no_sanitizers():
     return None if Path(found).is_absolute() else "clang has no sanitizers (Debian's package libclang-rt-dev)"
 
 
+def translator_of_clang():
+    """The name of llvm-spirv that fits clang, or None."""
+    if not shutil.which("clang"):
+        return None
+    version = subprocess.run(["clang", "-dumpversion"], stdout=subprocess.PIPE, check=False).stdout.decode()
+    names = (f"llvm-spirv-{version.split('.')[0].strip()}", "llvm-spirv")
+    return next(filter(shutil.which, names), None)
+
+
+def no_translator():
+    """Why no OpenCL C can be made a module, or None."""
+    if not shutil.which("clang"):
+        return "there is no clang (Debian's package clang)"
+    return None if translator_of_clang() else "there is no llvm-spirv that fits clang (Debian's package llvm-spirv-N)"
+
+
 def no_library():
     """Why the library for C cannot be tested, or None."""
     lacking = [it for it in (library.ARCHIVE, library.shared()) if not it.is_file()]
@@ -63,6 +79,7 @@ TOOLS = {
     "groff": on_path("groff", "Debian's package groff-base"),
     "khronos": khronos.missing,
     "library": no_library,
+    "llvm-spirv": no_translator,
     "make": on_path("make", "Debian's package make"),
     "man": on_path("man", "Debian's package man-db"),
     "pkg-config": on_path("pkg-config", "Debian's package pkg-config"),

@@ -10,7 +10,7 @@ MODULES = TESTS / "modules"
 KERNEL = MODULES / "smallest-kernel.spv"
 TEXT = MODULES / "smallest-kernel.spvasm"
 BROKEN = MODULES / "value-missing-on-one-branch.spv"
-COMMANDS = ("check", "explain", "show", "asm", "trace", "rules")
+COMMANDS = ("check", "explain", "show", "asm", "trace", "rules", "grammar")
 VARIABLE = "SPV_GRAMMAR"
 VALID = Answer(b"valid\n", b"", 0)
 BAD_USE = Answer(b"", b"error use\n", 2)
@@ -137,12 +137,11 @@ def grammar_by_option_first(program, folder):
 
 
 def no_grammar(program, folder):
-    """Without both: `error use`. `rules` needs none."""
-    rows = [(words, BAD_USE) for words, _ in of_each_command(KERNEL)]
-    rows += [(["asm", "--out", "made", TEXT], BAD_USE), (["check", KERNEL, KERNEL], BAD_USE)]
+    """Without both the built-in grammar counts. `rules` needs none."""
+    rows = [*of_each_command(KERNEL), (["asm", "--out", "made", TEXT], Answer(b"", b"", 0))]
     wrong = answers(rows, program, folder, env=under())
-    if wrong or (folder / "made").exists():
-        return wrong or "  OUT was made"
+    if wrong or (folder / "made").read_bytes() != KERNEL.read_bytes():
+        return wrong or "  OUT is another module"
     got = run(program, ["rules"], folder, env=under())
     return None if got.status == 0 and got.out and not got.err else f"  rules: {got}"
 
@@ -182,7 +181,8 @@ def examples_of_help(program, folder):
     """The example that each help shows is a command line that fits a command, although its files are absent."""
     for words in [["help"], *(["help", command] for command in COMMANDS)]:
         text = run(program, words, folder, env=under()).out.decode()
-        lines = [line.split() for line in text.partition("Example")[2].splitlines() if line.startswith("  spv ")]
+        lines = [line for line in text.partition("Example")[2].splitlines() if line.startswith("  spv ")]
+        lines = [line.partition(" > ")[0].split() for line in lines]
         if not lines or any(run(program, line[1:], folder, env=under(GRAMMAR)).err == BAD_USE.err for line in lines):
             return f"  {words}: {lines}"
     return None

@@ -100,6 +100,9 @@ static int without_grammar(const spvk_grammar *grammar, file module, file text) 
     spvk_buffer buffer = unread();
     CHECK(spvk_check(grammar, module.bytes, module.size, &verdict) == SPVK_NO_GRAMMAR);
     CHECK(spvk_check(grammar, NULL, 9, NULL) == SPVK_NO_GRAMMAR);
+    CHECK(spvk_check_with(grammar, NULL, 9, 2, NULL) == SPVK_NO_GRAMMAR);
+    CHECK(spvk_explain_with(grammar, NULL, 9, 2, NULL, NULL) == SPVK_NO_GRAMMAR);
+    CHECK(spvk_show_with(grammar, NULL, 9, 2, NULL, NULL) == SPVK_NO_GRAMMAR);
     CHECK(spvk_explain(grammar, module.bytes, module.size, &verdict, &buffer) == SPVK_NO_GRAMMAR && is_empty(buffer));
     CHECK(spvk_explain(grammar, NULL, 9, NULL, NULL) == SPVK_NO_GRAMMAR);
     buffer = unread();
@@ -192,6 +195,100 @@ static int texts(const spvk_grammar *grammar, file module, file text) {
     return 0;
 }
 
+// The module with another version, the highest byte of each word first where `big`. It is let go by free.
+static file other_version(file module, bool big, uint8_t major, uint8_t minor) {
+    file it = {(uint8_t *)malloc(module.size), module.size};
+    if (it.bytes == NULL) exit(2);
+    for (size_t at = 0; at < it.size; at++) it.bytes[at] = module.bytes[big ? at ^ 3 : at];
+    it.bytes[big ? 5 : 6] = major;
+    it.bytes[big ? 6 : 5] = minor;
+    return it;
+}
+
+// A module of version 1.0 to 1.5 breaks W5, unless it is read as one of version 1.6.
+static int older(const spvk_grammar *grammar, file module, file text, bool big, uint8_t minor) {
+    spvk_verdict verdict = UNTOUCHED;
+    spvk_buffer buffer;
+    const file valid = {(uint8_t *)"valid\n", 6};
+    file it = other_version(module, big, 1, minor);
+    CHECK(spvk_check_with(grammar, it.bytes, it.size, 0, &verdict) == SPVK_OK && verdict.code == SPVK_W5);
+    CHECK(spvk_check(grammar, it.bytes, it.size, &verdict) == SPVK_OK && verdict.code == SPVK_W5);
+    CHECK(spvk_check_with(grammar, it.bytes, it.size, SPVK_AS_1_6, &verdict) == SPVK_OK);
+    CHECK(is_verdict(verdict, SPVK_VALID, SPVK_NOWHERE, SPVK_NOWHERE));
+    CHECK(spvk_check_with(grammar, it.bytes, it.size - 4, SPVK_AS_1_6, &verdict) == SPVK_OK);
+    CHECK(verdict.code == SPVK_L2 && verdict.word == module.size / 4 - 1);
+    CHECK(spvk_explain_with(grammar, it.bytes, it.size, SPVK_AS_1_6, &verdict, &buffer) == SPVK_OK);
+    CHECK(verdict.code == SPVK_VALID && has(buffer, valid));
+    spvk_buffer_delete(&buffer);
+    CHECK(spvk_show_with(grammar, it.bytes, it.size, SPVK_AS_1_6, &verdict, &buffer) == SPVK_OK);
+    CHECK(verdict.code == SPVK_VALID && has(buffer, text));
+    spvk_buffer_delete(&buffer);
+    CHECK(it.bytes[big ? 6 : 5] == minor); // what was given is not changed
+    free(it.bytes);
+    return 0;
+}
+
+// What the flags of a call ask for.
+static int flags(const spvk_grammar *grammar, file module, file text) {
+    const struct { uint8_t major, minor; } none[] = {{1, 7}, {2, 0}, {0, 6}};
+    spvk_verdict verdict = UNTOUCHED;
+    spvk_buffer buffer = unread();
+    CHECK(spvk_check_with(grammar, module.bytes, module.size, 2, &verdict) == SPVK_NO_FLAG);
+    CHECK(spvk_explain_with(grammar, module.bytes, module.size, 2, &verdict, &buffer) == SPVK_NO_FLAG);
+    CHECK(is_empty(buffer));
+    buffer = unread();
+    CHECK(spvk_show_with(grammar, module.bytes, module.size, SPVK_AS_1_6 | 4, &verdict, &buffer) == SPVK_NO_FLAG);
+    CHECK(is_empty(buffer) && is_untouched(verdict));
+    CHECK(spvk_check_with(grammar, NULL, 9, SPVK_AS_1_6, &verdict) == SPVK_NULL);
+    CHECK(spvk_check_with(grammar, module.bytes, module.size, SPVK_AS_1_6, NULL) == SPVK_NULL);
+    CHECK(spvk_check_with(grammar, NULL, 0, SPVK_AS_1_6, &verdict) == SPVK_OK && verdict.code == SPVK_W2);
+    for (int at = 0; at < 3; at++) {
+        for (int big = 0; big < 2; big++) {
+            file it = other_version(module, big, none[at].major, none[at].minor);
+            CHECK(spvk_check_with(grammar, it.bytes, it.size, SPVK_AS_1_6, &verdict) == SPVK_OK);
+            CHECK(verdict.code == SPVK_W5);
+            free(it.bytes);
+        }
+    }
+    for (uint8_t minor = 0; minor < 6; minor++) {
+        CHECK(older(grammar, module, text, false, minor) == 0 && older(grammar, module, text, true, minor) == 0);
+    }
+    CHECK(spvk_check_with(grammar, module.bytes, module.size, SPVK_AS_1_6, &verdict) == SPVK_OK);
+    CHECK(verdict.code == SPVK_VALID);
+    return 0;
+}
+
+// The grammar that needs no file.
+static int built_in(file module, file text) {
+    spvk_verdict verdict = UNTOUCHED;
+    spvk_grammar grammar;
+    CHECK(spvk_grammar_default(NULL) == SPVK_NULL);
+    grammar.held = (void *)1; // it is not looked at
+    CHECK(spvk_grammar_default(&grammar) == SPVK_OK && grammar.held != NULL);
+    CHECK(spvk_check(&grammar, module.bytes, module.size, &verdict) == SPVK_OK);
+    CHECK(is_verdict(verdict, SPVK_VALID, SPVK_NOWHERE, SPVK_NOWHERE));
+    CHECK(flags(&grammar, module, text) == 0);
+    spvk_grammar_delete(&grammar);
+    CHECK(grammar.held == NULL);
+    return 0;
+}
+
+// What each status says, and that no other number says anything.
+static int statuses(void) {
+    int count = 0;
+    for (uint32_t status = 0; status < 1300; status++) {
+        const bool is_one = status <= SPVK_NO_FLAG || (status >= SPVK_J1 && status <= SPVK_J7);
+        const char *said = spvk_status_text(status);
+        CHECK((said != NULL) == is_one);
+        if (said == NULL) continue;
+        CHECK(strlen(said) > 9 && spvk_status_text(status) == said);
+        count++;
+    }
+    CHECK(count == 13 && strcmp(spvk_status_text(SPVK_MEMORY), "out of memory") == 0);
+    CHECK(spvk_status_text(UINT32_MAX) == NULL);
+    return 0;
+}
+
 static int modules(const spvk_grammar *grammar, file module, file text) {
     spvk_fault fault = UNTOUCHED_FAULT;
     spvk_buffer buffer = unread();
@@ -249,6 +346,7 @@ int main(int count, char **words) {
     errno = 0;
     failed = checks(&grammar, module) || longest(&grammar) || explanations(&grammar, module, lines);
     failed = failed || texts(&grammar, module, shown) || modules(&grammar, module, shown) || rules();
+    failed = failed || flags(&grammar, module, shown) || built_in(module, shown) || statuses();
     CHECK(!failed);
     CHECK(errno == 0);
     spvk_grammar_delete(&grammar);

@@ -68,6 +68,14 @@ static answer by_new(void) {
     return it;
 }
 
+static answer by_default(void) {
+    spvk_grammar made = SPVK_GRAMMAR_NONE;
+    answer it = {spvk_grammar_default(&made), 7, 8, 0};
+    it.size = made.held != NULL;
+    spvk_grammar_delete(&made);
+    return it;
+}
+
 static answer by_check_of(size_t size) {
     spvk_verdict verdict = {7, 8, 9};
     answer it = {spvk_check(&grammar, module.bytes, size, &verdict), 0, 0, 0};
@@ -79,6 +87,14 @@ static answer by_check_of(size_t size) {
 static answer by_check(void) { return by_check_of(module.size); }
 
 static answer by_check_of_fault(void) { return by_check_of(faulty_size); }
+
+static answer by_check_as_1_6(void) {
+    spvk_verdict verdict = {7, 8, 9};
+    answer it = {spvk_check_with(&grammar, module.bytes, module.size, SPVK_AS_1_6, &verdict), 0, 0, 0};
+    it.code = verdict.code;
+    it.place = verdict.inst;
+    return it;
+}
 
 // What `spvk_explain` or `spvk_show` answers of the first bytes of the module.
 typedef spvk_status telling(const spvk_grammar *, const uint8_t *, size_t, spvk_verdict *, spvk_buffer *);
@@ -99,6 +115,20 @@ static answer by_explain_of_fault(void) { return by_text_of(spvk_explain, faulty
 static answer by_show(void) { return by_text_of(spvk_show, module.size); }
 
 static answer by_show_of_fault(void) { return by_text_of(spvk_show, module.size - 2); }
+
+static spvk_status explain_as_1_6(const spvk_grammar *by, const uint8_t *bytes, size_t size, spvk_verdict *verdict,
+                                  spvk_buffer *buffer) {
+    return spvk_explain_with(by, bytes, size, SPVK_AS_1_6, verdict, buffer);
+}
+
+static answer by_explain_as_1_6(void) { return by_text_of(explain_as_1_6, faulty_size); }
+
+static spvk_status show_as_1_6(const spvk_grammar *by, const uint8_t *bytes, size_t size, spvk_verdict *verdict,
+                               spvk_buffer *buffer) {
+    return spvk_show_with(by, bytes, size, SPVK_AS_1_6, verdict, buffer);
+}
+
+static answer by_show_as_1_6(void) { return by_text_of(show_as_1_6, module.size); }
 
 static answer by_assemble_of(size_t size) {
     spvk_fault fault = {7, 8};
@@ -122,12 +152,16 @@ typedef struct call {
 
 static const call CALLS[] = {
     {"grammar_new", by_new},
+    {"grammar_default", by_default},
     {"check", by_check},
     {"check of a fault", by_check_of_fault},
     {"explain", by_explain},
     {"explain of a fault", by_explain_of_fault},
     {"show", by_show},
     {"show of a fault", by_show_of_fault},
+    {"check as 1.6", by_check_as_1_6},
+    {"explain as 1.6", by_explain_as_1_6},
+    {"show as 1.6", by_show_as_1_6},
     {"assemble", by_assemble},
     {"assemble of a fault", by_assemble_of_fault},
 };

@@ -1,4 +1,4 @@
-// Refuses growths of memory in a program that is run with this library preloaded.
+// Refuses growths of memory in a program that is run with this library preloaded, or another sort of call.
 //
 // A growth is a call of malloc, calloc, realloc, reallocarray, aligned_alloc, memalign or
 // posix_memalign between the start and the end of main. They count from 1. REFUSE_AT tells the
@@ -6,6 +6,10 @@
 // names a file of 24 or 40 bytes, in which numbers are kept: 1 once main began, the growths asked
 // for, those refused, and of marks (if it has room) how many stretches were begun, and in how many
 // a call answered rightly although a growth was refused.
+//
+// With REFUSE_CALL as open, read or write those calls are counted and refused instead of growths: an
+// open with EACCES, a read with EIO, a write with ENOSPC. A read is read, readv or pread, a write
+// write or writev.
 //
 // A program may have growths refused itself, by marks: growths of sizes that nothing else asks for
 // (crates/spv_samples/src/growths.rt). REFUSE and N bytes begin a stretch in which the Nth growth is
@@ -17,8 +21,12 @@
 #include <fcntl.h>
 #include <stddef.h>
 #include <stdint.h>
+#include <stdarg.h>
 #include <stdlib.h>
+#include <string.h>
 #include <sys/mman.h>
+#include <sys/syscall.h>
+#include <sys/uio.h>
 #include <unistd.h>
 
 // The C library's own, under its names for itself.
@@ -36,6 +44,11 @@ struct tally {
 };
 
 enum { DONE_WITHOUT = 6999998, END = 6999999, REFUSE = 7000000, LAST_REFUSE = 7100000 };
+
+enum call { GROWTH, OPEN, READ, WRITE };
+
+// The sort of call that is counted and refused.
+static enum call refuse_call;
 
 static struct tally unread;
 static struct tally *tally = &unread;
@@ -74,9 +87,17 @@ static int is_chosen(void) {
     return refuse_at != 0 && (number == refuse_at || (number > refuse_at && refuse_all));
 }
 
+// Whether a call that is no growth is refused.
+static int is_refused_call(enum call it, int why) {
+    if (!in_main || it != refuse_call || !is_chosen()) return 0;
+    __atomic_add_fetch(&tally->refused, 1, __ATOMIC_SEQ_CST);
+    errno = why;
+    return 1;
+}
+
 static int is_refused(size_t size) {
     int refused;
-    if (!in_main) return 0;
+    if (!in_main || refuse_call != GROWTH) return 0;
     if (!is_mark(size, &refused)) {
         refused = is_chosen();
         if (refused) __atomic_add_fetch(&tally->refused, 1, __ATOMIC_SEQ_CST);
@@ -118,6 +139,63 @@ int posix_memalign(void **out, size_t alignment, size_t size) {
     return 0;
 }
 
+static int opened(int folder, const char *path, int flags, va_list more) {
+    mode_t mode = flags & (O_CREAT | O_TMPFILE) ? va_arg(more, mode_t) : 0;
+    return is_refused_call(OPEN, EACCES) ? -1 : (int)syscall(SYS_openat, folder, path, flags, mode);
+}
+
+#define OPENS(name)                                     \
+    int name(const char *path, int flags, ...) {        \
+        va_list more;                                   \
+        va_start(more, flags);                          \
+        int file = opened(AT_FDCWD, path, flags, more); \
+        va_end(more);                                   \
+        return file;                                    \
+    }
+OPENS(open)
+OPENS(open64)
+
+#define OPENS_AT(name)                                    \
+    int name(int folder, const char *path, int flags, ...) { \
+        va_list more;                                     \
+        va_start(more, flags);                            \
+        int file = opened(folder, path, flags, more);     \
+        va_end(more);                                     \
+        return file;                                      \
+    }
+OPENS_AT(openat)
+OPENS_AT(openat64)
+
+ssize_t read(int file, void *to, size_t size) {
+    return is_refused_call(READ, EIO) ? -1 : syscall(SYS_read, file, to, size);
+}
+
+ssize_t readv(int file, const struct iovec *to, int count) {
+    return is_refused_call(READ, EIO) ? -1 : syscall(SYS_readv, file, to, count);
+}
+
+ssize_t pread(int file, void *to, size_t size, off_t at) {
+    return is_refused_call(READ, EIO) ? -1 : syscall(SYS_pread64, file, to, size, at);
+}
+
+ssize_t pread64(int file, void *to, size_t size, off_t at) {
+    return is_refused_call(READ, EIO) ? -1 : syscall(SYS_pread64, file, to, size, at);
+}
+
+ssize_t write(int file, const void *from, size_t size) {
+    return is_refused_call(WRITE, ENOSPC) ? -1 : syscall(SYS_write, file, from, size);
+}
+
+ssize_t writev(int file, const struct iovec *from, int count) {
+    return is_refused_call(WRITE, ENOSPC) ? -1 : syscall(SYS_writev, file, from, count);
+}
+
+// The sort of call that REFUSE_CALL names: a growth where it names none.
+static enum call call_named(const char *name) {
+    if (name == NULL) return GROWTH;
+    return strcmp(name, "open") == 0 ? OPEN : strcmp(name, "read") == 0 ? READ : WRITE;
+}
+
 // Opens the file that keeps the numbers, so that they are there however the program ends.
 static void open_tally(void) {
     const char *path = getenv("REFUSE_TELL");
@@ -143,6 +221,7 @@ int __libc_start_main(int (*main)(int, char **, char **), int count, char **word
                  void (*)(void), void *) = dlsym(RTLD_NEXT, "__libc_start_main");
     const char *at = getenv("REFUSE_AT");
     refuse_at = at == NULL ? 0 : strtoull(at, NULL, 10);
+    refuse_call = call_named(getenv("REFUSE_CALL"));
     refuse_all = getenv("REFUSE_ALL") != NULL;
     open_tally();
     real_main = main;

@@ -1,8 +1,9 @@
 """Says of each module whether it is valid.
 
-usage: python3 check.py GRAMMAR FILE..
+usage: python3 check.py [--grammar GRAMMAR] FILE..
 
-Exit status 0 if all are valid, 1 if one is not, 2 if the grammar file is refused or there was no memory.
+Exit status 0 if all are valid, 1 if one is not, 2 for an error: a file that cannot be read, a grammar file that is
+refused, or no memory.
 """
 
 import sys
@@ -11,17 +12,29 @@ from pathlib import Path
 import spvk
 
 
+def check(grammar, name):
+    """Prints the verdict on a file, and answers it."""
+    verdict = grammar.check(Path(name).read_bytes())
+    print(f"{name}: {verdict}" if verdict else f"{name}: {verdict}: {verdict.sentence}")
+    return verdict
+
+
 def main(words):
-    grammar = spvk.Grammar(Path(words[0]).read_bytes())
-    verdicts = {name: grammar.check(Path(name).read_bytes()) for name in words[1:]}
-    for name, verdict in verdicts.items():
-        print(f"{name}: {verdict}{'' if verdict.is_valid else f': {verdict.sentence}'}")
-    return 0 if all(verdict.is_valid for verdict in verdicts.values()) else 1
+    """Does what the words ask, and answers the exit status."""
+    named, files = (words[1:2], words[2:]) if words[:1] == ["--grammar"] else ([], words)
+    if not files:
+        print("usage: check.py [--grammar GRAMMAR] FILE..", file=sys.stderr)
+        return 2
+    grammar = spvk.Grammar(*(Path(name).read_bytes() for name in named))
+    return 0 if all([check(grammar, name) for name in files]) else 1
 
 
 if __name__ == "__main__":
     try:
         sys.exit(main(sys.argv[1:]))
+    except OSError as error:
+        print(f"check.py: {error.filename}: {error.strerror}", file=sys.stderr)
+        sys.exit(2)
     except spvk.Error as error:
         print(f"check.py: {error}", file=sys.stderr)
         sys.exit(2)

@@ -119,6 +119,8 @@ class Calls(unittest.TestCase):
         self.assertEqual(str(cut), "fault L2 inst 9 word 29")
         self.assertGreater(len(cut.sentence), 9)
         self.assertEqual(str(self.grammar.check(b"")), "fault W2")
+        self.assertIs(bool(verdict), True)
+        self.assertIs(bool(cut), False)
         self.assertTrue(self.grammar.check(bytearray(self.kernel)).is_valid)
         self.assertTrue(self.grammar.check(memoryview(self.kernel)).is_valid)
 
@@ -127,6 +129,30 @@ class Calls(unittest.TestCase):
         cut = self.grammar.explain(self.kernel[:-4])
         self.assertEqual(cut.verdict.code, "L2")
         self.assertTrue(cut.text.startswith("fault L2 inst 9 word 29\n"))
+        self.assertIs(bool(self.grammar.explain(self.kernel)), True)
+        self.assertIs(bool(cut), False)
+
+    def test_the_built_in_grammar(self):
+        for grammar in (spvk.Grammar(), spvk.Grammar(None)):
+            self.assertTrue(grammar.check(self.kernel))
+            self.assertEqual(str(grammar.check(self.kernel[:-4])), "fault L2 inst 9 word 29")
+
+    def test_older_versions(self):
+        text = self.grammar.show(self.kernel)
+        big = self.grammar.assemble(text, big=True)
+        for module, major, minor in ((self.kernel, 6, 5), (big, 5, 6)):
+            for number in range(6):
+                older = bytearray(module)
+                older[minor] = number
+                self.assertEqual(str(self.grammar.check(older)), "fault W5")
+                self.assertTrue(self.grammar.check(older, as_1_6=True))
+                self.assertEqual(self.grammar.explain(older, as_1_6=True).text, "valid\n")
+                self.assertEqual(self.grammar.show(older, as_1_6=True), text)
+                self.assertEqual(older[minor], number)
+            for place, number in ((minor, 7), (major, 2), (major, 0)):
+                other = bytearray(module)
+                other[place] = number
+                self.assertEqual(str(self.grammar.check(other, as_1_6=True)), "fault W5")
 
     def test_texts_and_back(self):
         text = self.grammar.show(self.kernel)
@@ -155,6 +181,7 @@ class Calls(unittest.TestCase):
         for wrong in ("a text", 5, None):
             with self.assertRaises(TypeError):
                 self.grammar.check(wrong)
+        for wrong in ("a text", 5):
             with self.assertRaises(TypeError):
                 spvk.Grammar(wrong)
 

@@ -20,6 +20,7 @@ impl Error for OutOfMemory {}
 ///
 /// (docs/PROFILE.md of the library's repository, "The grammar file")
 #[derive(Clone, Copy, Debug, PartialEq, Eq)]
+#[non_exhaustive]
 pub enum GrammarError {
     /// It is not one JSON value of at most 127 levels.
     J1,
@@ -68,6 +69,7 @@ impl Error for GrammarError {}
 
 /// Why a module is not shown.
 #[derive(Clone, Copy, Debug, PartialEq, Eq)]
+#[non_exhaustive]
 pub enum ShowError {
     /// Its bytes are no list of instructions: the rule of W or I, and its place.
     Fault(Fault),
@@ -88,6 +90,7 @@ impl Error for ShowError {}
 
 /// What a text breaks first.
 #[derive(Clone, Copy, Debug, PartialEq, Eq)]
+#[non_exhaustive]
 pub enum TextCode {
     /// A line of the header is missing or ill-formed.
     S1,
@@ -103,6 +106,7 @@ pub enum TextCode {
 
 /// Why a text is not assembled.
 #[derive(Clone, Copy, Debug, PartialEq, Eq)]
+#[non_exhaustive]
 pub enum AssembleError {
     /// The text stands for no module.
     Fault {

@@ -75,14 +75,25 @@ impl Image {
     };
 }
 
-/// `spvk_raw_explain` and `spvk_raw_show`.
+/// `spvk_raw_check`, and the same as 1.6.
+pub type Check = unsafe extern "C" fn(*const c_void, *const u8, usize) -> Answer;
+
+/// `spvk_raw_explain` and `spvk_raw_show`, and the same as 1.6.
 pub type MakeText = unsafe extern "C" fn(*const c_void, *const u8, usize, *mut Text) -> u32;
 
 extern "C" {
     pub fn spvk_raw_grammar_new(text: *const u8, len: usize, grammar: *mut Grammar) -> u32;
+    pub fn spvk_raw_grammar_default(grammar: *mut Grammar) -> u32;
     pub fn spvk_raw_grammar_delete(grammar: *mut Grammar);
     pub fn spvk_raw_check(held: *const c_void, bytes: *const u8, len: usize) -> Answer;
+    pub fn spvk_raw_check_as_1_6(held: *const c_void, bytes: *const u8, len: usize) -> Answer;
     pub fn spvk_raw_explain(
+        held: *const c_void,
+        bytes: *const u8,
+        len: usize,
+        text: *mut Text,
+    ) -> u32;
+    pub fn spvk_raw_explain_as_1_6(
         held: *const c_void,
         bytes: *const u8,
         len: usize,
@@ -90,6 +101,12 @@ extern "C" {
     ) -> u32;
     pub fn spvk_raw_show(held: *const c_void, bytes: *const u8, len: usize, text: *mut Text)
         -> u32;
+    pub fn spvk_raw_show_as_1_6(
+        held: *const c_void,
+        bytes: *const u8,
+        len: usize,
+        text: *mut Text,
+    ) -> u32;
     pub fn spvk_raw_assemble_little(
         held: *const c_void,
         text: *const u8,

@@ -1,11 +1,11 @@
 //! Checks, explains, shows and assembles SPIR-V 1.6 kernel modules, by the proved library `spvk`.
 //!
-//! A [`Grammar`] is read once, of a file in the form of Khronos' `spirv.core.grammar.json`, and then answers about any
-//! number of modules, also from several threads at the same time.
+//! A [`Grammar`] is made once, the built-in one or that of a file in the form of Khronos' `spirv.core.grammar.json`,
+//! and then answers about any number of modules, also from several threads at the same time.
 //!
 //! ```no_run
 //! # fn main() -> Result<(), Box<dyn std::error::Error>> {
-//! let grammar = spvk::Grammar::new(&std::fs::read("spirv.core.grammar.json")?)?;
+//! let grammar = spvk::Grammar::default_for_1_6()?;
 //! let verdict = grammar.check(&std::fs::read("kernel.spv")?)?;
 //! if let Some(fault) = verdict.fault() {
 //!     println!("{fault}: {}", fault.code.sentence());
@@ -32,13 +32,25 @@ use std::ffi::CStr;
 use std::os::raw::c_char;
 use std::{fmt, ptr};
 
-/// The table of a grammar file, by which modules are judged.
+/// The table by which modules are judged.
 pub struct Grammar(ffi::Grammar);
 
 // SAFETY: the table is plain data on malloc's heap, which belongs to no thread (include/spvk.h, "Threads").
 unsafe impl Send for Grammar {}
 // SAFETY: any number of threads may use a grammar at the same time; only its owner deletes it.
 unsafe impl Sync for Grammar {}
+
+/// As which version the bytes of a module are read.
+#[derive(Clone, Copy, Debug, Default, PartialEq, Eq, Hash)]
+#[non_exhaustive]
+pub enum Version {
+    /// As the one that the module tells: any other than 1.6 breaks W5.
+    #[default]
+    AsTold,
+    /// As 1.6, where the module tells a version from 1.0 to 1.6, in either byte order: version 1.6 stands in its place,
+    /// and what is read is judged by the rules of 1.6. A module of another version breaks W5.
+    As1_6,
+}
 
 /// In which order the bytes of a word stand.
 #[derive(Clone, Copy, Debug, PartialEq, Eq)]
@@ -64,11 +76,25 @@ impl Grammar {
     /// # Errors
     /// The first code of J1 to J7 that the text breaks, or out of memory.
     pub fn new(text: &[u8]) -> Result<Grammar, GrammarError> {
+        // SAFETY: the text is lent for the call.
+        Grammar::made(|it| unsafe { ffi::spvk_raw_grammar_new(text.as_ptr(), text.len(), it) })
+    }
+
+    /// The built-in table, of SPIR-V 1.6, which needs no file.
+    ///
+    /// # Errors
+    /// Out of memory; J2 where the library itself was damaged.
+    pub fn default_for_1_6() -> Result<Grammar, GrammarError> {
+        // SAFETY: the handle holds no grammar.
+        Grammar::made(|it| unsafe { ffi::spvk_raw_grammar_default(it) })
+    }
+
+    /// What a call makes in a handle that holds no grammar.
+    fn made(call: impl FnOnce(&mut ffi::Grammar) -> u32) -> Result<Grammar, GrammarError> {
         let mut made = ffi::Grammar {
             held: ptr::null_mut(),
         };
-        // SAFETY: the text is lent for the call, and the handle holds no grammar.
-        match unsafe { ffi::spvk_raw_grammar_new(text.as_ptr(), text.len(), &mut made) } {
+        match call(&mut made) {
             ffi::OK => Ok(Grammar(made)),
             status => Err(GrammarError::of(status)),
         }
@@ -79,8 +105,20 @@ impl Grammar {
     /// # Errors
     /// Out of memory alone: a fault is an answer.
     pub fn check(&self, module: &[u8]) -> Result<Verdict, OutOfMemory> {
+        self.check_with(module, Version::AsTold)
+    }
+
+    /// The same of the bytes read as a version.
+    ///
+    /// # Errors
+    /// As of `check`.
+    pub fn check_with(&self, module: &[u8], version: Version) -> Result<Verdict, OutOfMemory> {
+        let call: ffi::Check = match version {
+            Version::AsTold => ffi::spvk_raw_check,
+            Version::As1_6 => ffi::spvk_raw_check_as_1_6,
+        };
         // SAFETY: the grammar is not deleted while it is lent, and the module is lent for the call.
-        let answer = unsafe { ffi::spvk_raw_check(self.0.held, module.as_ptr(), module.len()) };
+        let answer = unsafe { call(self.0.held, module.as_ptr(), module.len()) };
         match answer.status {
             ffi::OK => Ok(Verdict::of(answer.verdict)),
             _ => Err(OutOfMemory),
@@ -92,7 +130,23 @@ impl Grammar {
     /// # Errors
     /// Out of memory alone.
     pub fn explain(&self, module: &[u8]) -> Result<Explanation, OutOfMemory> {
-        let (verdict, text) = self.text_by(ffi::spvk_raw_explain, module)?;
+        self.explain_with(module, Version::AsTold)
+    }
+
+    /// The same of the bytes read as a version.
+    ///
+    /// # Errors
+    /// As of `explain`.
+    pub fn explain_with(
+        &self,
+        module: &[u8],
+        version: Version,
+    ) -> Result<Explanation, OutOfMemory> {
+        let call: ffi::MakeText = match version {
+            Version::AsTold => ffi::spvk_raw_explain,
+            Version::As1_6 => ffi::spvk_raw_explain_as_1_6,
+        };
+        let (verdict, text) = self.text_by(call, module)?;
         Ok(Explanation { verdict, text })
     }
 
@@ -101,17 +155,29 @@ impl Grammar {
     /// # Errors
     /// The rule of W or I by which its bytes are no list of instructions, or out of memory.
     pub fn show(&self, module: &[u8]) -> Result<Text, ShowError> {
-        match self.text_by(ffi::spvk_raw_show, module) {
+        self.show_with(module, Version::AsTold)
+    }
+
+    /// The same of the bytes read as a version.
+    ///
+    /// # Errors
+    /// As of `show`.
+    pub fn show_with(&self, module: &[u8], version: Version) -> Result<Text, ShowError> {
+        let call: ffi::MakeText = match version {
+            Version::AsTold => ffi::spvk_raw_show,
+            Version::As1_6 => ffi::spvk_raw_show_as_1_6,
+        };
+        match self.text_by(call, module) {
             Ok((Verdict::Valid, text)) => Ok(text),
             Ok((Verdict::Fault(fault), _)) => Err(ShowError::Fault(fault)),
             Err(OutOfMemory) => Err(ShowError::OutOfMemory),
         }
     }
 
-    /// The verdict and the text that one of these two calls gives.
+    /// The verdict and the text that one of these calls gives.
     fn text_by(&self, call: ffi::MakeText, module: &[u8]) -> Result<(Verdict, Text), OutOfMemory> {
         let mut made = ffi::Text::NONE;
-        // SAFETY: as in `check`, and the text holds nothing.
+        // SAFETY: as in `check_with`, and the text holds nothing.
         let status = unsafe { call(self.0.held, module.as_ptr(), module.len(), &mut made) };
         let text = Text::of(Bytes(made.buffer));
         match status {

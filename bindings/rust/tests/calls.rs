@@ -2,7 +2,7 @@
 
 use spvk::{
     AssembleError, ByteOrder, Code, Fault, Grammar, GrammarError, Place, ShowError, TextCode,
-    Verdict,
+    Verdict, Version,
 };
 use std::error::Error;
 use std::path::PathBuf;
@@ -76,6 +76,44 @@ fn texts_and_back() {
         }
     );
     assert!(grammar.assemble("", ByteOrder::Little).is_err());
+}
+
+#[test]
+fn the_built_in_grammar() {
+    let (grammar, kernel) = (Grammar::default_for_1_6().unwrap(), kernel());
+    assert_eq!(grammar.check(&kernel), Ok(Verdict::Valid));
+    let cut = grammar.check(&kernel[..kernel.len() - 4]).unwrap();
+    assert_eq!(cut.to_string(), "fault L2 inst 9 word 29");
+}
+
+#[test]
+fn older_versions() {
+    let (grammar, kernel) = (grammar(), kernel());
+    let text = grammar.show(&kernel).unwrap();
+    let big = grammar.assemble(&text, ByteOrder::Big).unwrap();
+    for (module, major, minor) in [(&kernel[..], 6, 5), (&big[..], 5, 6)] {
+        for number in 0..6 {
+            let mut older = module.to_vec();
+            older[minor] = number;
+            let told = grammar.check(&older).unwrap();
+            assert_eq!(told.to_string(), "fault W5");
+            assert_eq!(grammar.check_with(&older, Version::AsTold), Ok(told));
+            assert_eq!(
+                grammar.check_with(&older, Version::As1_6),
+                Ok(Verdict::Valid)
+            );
+            let explained = grammar.explain_with(&older, Version::As1_6).unwrap();
+            assert_eq!(&*explained.text, "valid\n");
+            assert_eq!(&*grammar.show_with(&older, Version::As1_6).unwrap(), &*text);
+        }
+        for (place, number) in [(minor, 7), (major, 2), (major, 0)] {
+            let mut other = module.to_vec();
+            other[place] = number;
+            let verdict = grammar.check_with(&other, Version::As1_6).unwrap();
+            assert_eq!(verdict.to_string(), "fault W5");
+        }
+    }
+    assert_eq!(Version::default(), Version::AsTold);
 }
 
 #[test]

@@ -62,7 +62,7 @@ fn show(grammar: &Grammar, input: &[u8]) -> Answer {
             ..Answer::default()
         },
         Err(ShowError::Fault(fault)) => Answer::told(1, &fault.to_string()),
-        Err(ShowError::OutOfMemory) => panic!("memory"),
+        Err(error) => panic!("{error}"),
     }
 }
 

@@ -1,30 +1,26 @@
-//! `spv` checks, explains, shows, assembles and traces SPIR-V 1.6 kernel modules, and tells its rules.
+//! `spv` checks, explains, shows, assembles and traces SPIR-V 1.6 kernel modules, and tells its rules and its grammar.
 #![tactic(auto)]
 
 mod files;
+mod why;
 
-use files::Named;
+use files::{
+    Held, Named, STANDARD, create, is_same_file, open, read_file, read_module, read_whole,
+    trouble_of,
+};
 use spv_commands::{
-    Command, Task, Trouble, UseError, arguments_in, report, run, run_each, text_asked,
+    Command, Judging, Naming, Trouble, UseError, Versioned, advice, arguments_in, help, is_verbose,
+    report, run, run_each, text_asked,
 };
 use spv_words::{FromRead, FromWrite};
 use std::env::VarError;
-use std::io::{ErrorKind, Read, Write};
+use std::io::{ErrorKind, IsTerminal, Read, Write};
 use std::process::ExitCode;
-use std::{env, fs, io};
+use std::{env, io};
+use why::{AtHand, Noted, Telling, Why};
 
-/// The name of the standard input, and of the standard output.
-const STANDARD: &str = "-";
-
-/// What a failed call of the system is told as.
-fn trouble_of(error: io::Error) -> Trouble {
-    match error.kind() {
-        ErrorKind::OutOfMemory => Trouble::Memory,
-        _ => Trouble::File,
-    }
-}
-
-/// The same where the words of the command line could not be read: words that are no text fit no command.
+/// The same as `trouble_of` where the words of the command line could not be read: words that are no text fit no
+/// command.
 fn word_trouble(error: io::Error) -> Trouble {
     match error.kind() {
         ErrorKind::OutOfMemory => Trouble::Memory,
@@ -40,10 +36,11 @@ fn show_text(rt: &HostRuntime, words: &[&str]) -> Result<u8, Trouble> {
 }
 
 /// Does what a command asks with its open files, and answers the exit status.
-fn with_made<F: Read + Drop, W: Write + Drop, O: Write + Drop>(
+fn with_made<'a, F: Read + Drop, W: Write + Drop, O: Write + Drop>(
     rt: &HostRuntime,
-    command: &Command,
-    grammar: &[u8],
+    why: &Why<'a>,
+    command: &Command<'a>,
+    at_hand: AtHand<'a, '_>,
     file: F,
     out: W,
     made: O,
@@ -51,88 +48,210 @@ fn with_made<F: Read + Drop, W: Write + Drop, O: Write + Drop>(
     run(
         rt.alloc(),
         command,
-        grammar,
-        &mut FromRead::new(file),
+        at_hand.grammar,
+        &mut Versioned::new(FromRead::new(file)),
         &mut FromWrite::new(out),
         &mut FromWrite::new(made),
-        &mut FromWrite::new(rt.stderr()),
+        &mut FromWrite::new(Telling::new(rt.stderr(), why, at_hand)),
     )
 }
 
-/// Makes the file that a command makes empty, does what it asks of its open file, and answers the exit status. Where
-/// the module that it makes goes to the standard output, the line of a fault goes to the standard error.
-fn with_file<F: Read + Drop>(
+/// Does what a command asks that makes no file, and answers the exit status.
+fn with_output<'a, F: Read + Drop>(
     rt: &HostRuntime,
-    command: &Command,
-    grammar: &[u8],
+    why: &Why<'a>,
+    command: &Command<'a>,
+    at_hand: AtHand<'a, '_>,
     file: F,
-) -> Result<u8, Trouble> {
-    let Command::Asm { out, .. } = command else {
-        return Ok(with_made(rt, command, grammar, file, rt.stdout(), io::sink()));
-    };
-    if *out == STANDARD {
-        return Ok(with_made(rt, command, grammar, file, rt.stderr(), rt.stdout()));
+) -> u8 {
+    if let Command::Judge { quiet: true, .. } = command {
+        return with_made(rt, why, command, at_hand, file, io::sink(), io::sink());
     }
-    let made = fs::create(rt, *out).map_err(trouble_of)?;
-    Ok(with_made(rt, command, grammar, file, rt.stdout(), made))
+    let out = Noted::new(rt.stdout(), "standard output", why);
+    with_made(rt, why, command, at_hand, file, out, io::sink())
 }
 
-/// Opens the grammar file and the file of a command, does what it asks, and answers the exit status.
-fn with_one(rt: &HostRuntime, command: &Command, grammar: &str, file: &str) -> Result<u8, Trouble> {
-    let grammar = fs::read(rt, grammar).map_err(trouble_of)?;
-    if file == STANDARD {
-        return with_file(rt, command, &grammar, rt.stdin());
-    }
-    let file = fs::open(rt, file).map_err(trouble_of)?;
-    with_file(rt, command, &grammar, file)
-}
-
-/// Opens the grammar file, does a task on each of several files, and answers the exit status.
-fn with_several(
+/// Reads the module of `trace` whole, so that its entry points can be told, writes the run, and answers the exit status.
+fn with_bytes<'a>(
     rt: &HostRuntime,
-    task: Task,
-    grammar: &str,
-    names: &[&str],
+    why: &Why<'a>,
+    command: &Command<'a>,
+    grammar: Option<&[u8]>,
+    file: &'a str,
 ) -> Result<u8, Trouble> {
-    let grammar = fs::read(rt, grammar).map_err(trouble_of)?;
-    let mut out = FromWrite::new(rt.stdout());
-    let mut err = FromWrite::new(rt.stderr());
-    let mut files = Named { rt, names };
-    Ok(run_each(
+    let bytes = read_module(rt, why, file)?;
+    let at_hand = AtHand {
+        text: None,
+        grammar,
+        module: Some(bytes.as_slice()),
+    };
+    Ok(with_output(rt, why, command, at_hand, Held::new(bytes.as_slice())))
+}
+
+/// Opens the module of a command, does what it asks, and answers the exit status.
+fn with_module<'a>(
+    rt: &HostRuntime,
+    why: &Why<'a>,
+    command: &Command<'a>,
+    grammar: Option<&[u8]>,
+    file: &'a str,
+) -> Result<u8, Trouble> {
+    if why.is_told() && matches!(command, Command::Trace { .. }) {
+        return with_bytes(rt, why, command, grammar, file);
+    }
+    let at_hand = AtHand::of(grammar);
+    if file == STANDARD {
+        let file = Noted::new(rt.stdin(), file, why);
+        return Ok(with_output(rt, why, command, at_hand, file));
+    }
+    let file = open(rt, why, file).map_err(trouble_of)?;
+    Ok(with_output(rt, why, command, at_hand, file))
+}
+
+/// Reads the text of `asm` whole, makes the file of the module empty, does what the command asks, and answers the exit
+/// status. Where the module goes to the standard output, the line of a fault goes to the standard error.
+fn with_text<'a>(
+    rt: &HostRuntime,
+    why: &Why<'a>,
+    command: &Command<'a>,
+    grammar: Option<&[u8]>,
+    file: &'a str,
+    out: &'a str,
+) -> Result<u8, Trouble> {
+    let text = read_whole(rt, why, file)?;
+    let at_hand = AtHand {
+        text: Some(file),
+        grammar,
+        module: None,
+    };
+    let text = Held::new(text.as_slice());
+    let output = Noted::new(rt.stdout(), "standard output", why);
+    if out == STANDARD {
+        return Ok(with_made(rt, why, command, at_hand, text, rt.stderr(), output));
+    }
+    let made = create(rt, why, out).map_err(trouble_of)?;
+    Ok(with_made(rt, why, command, at_hand, text, output, made))
+}
+
+/// Judges each of several files, and answers the exit status.
+fn with_several<'a, W: Write + Drop>(
+    rt: &HostRuntime,
+    why: &Why<'a>,
+    how: Judging,
+    grammar: Option<&[u8]>,
+    names: &[&'a str],
+    out: W,
+) -> u8 {
+    let mut out = FromWrite::new(out);
+    let mut err = FromWrite::new(Telling::new(rt.stderr(), why, AtHand::of(grammar)));
+    let mut files = Named { rt, why, names };
+    run_each(
         rt.alloc(),
-        task,
-        &grammar,
+        how,
+        grammar,
         names,
         &mut files,
         &mut out,
         &mut err,
-    ))
+    )
 }
 
-/// Opens the files of a command, does what it asks, and answers the exit status. `rules` has none.
-fn with_files(rt: &HostRuntime, command: &Command) -> Result<u8, Trouble> {
+/// Judges the modules of a command, and answers the exit status.
+fn with_modules<'a>(
+    rt: &HostRuntime,
+    why: &Why<'a>,
+    command: &Command<'a>,
+    grammar: Option<&[u8]>,
+) -> Result<u8, Trouble> {
+    let Command::Judge {
+        task,
+        files,
+        as_1_6,
+        naming,
+        quiet,
+        ..
+    } = command
+    else {
+        return Err(Trouble::Use);
+    };
+    if files.len() == 1 && *naming != Naming::Always {
+        return with_module(rt, why, command, grammar, files[0]);
+    }
+    let how = Judging {
+        task: *task,
+        as_1_6: *as_1_6,
+        is_named: *naming != Naming::Never,
+    };
+    if *quiet {
+        return Ok(with_several(rt, why, how, grammar, files, io::sink()));
+    }
+    let out = Noted::new(rt.stdout(), "standard output", why);
+    Ok(with_several(rt, why, how, grammar, files, out))
+}
+
+/// Does what a command asks with the text of its grammar file, and answers the exit status.
+fn with_grammar<'a>(
+    rt: &HostRuntime,
+    why: &Why<'a>,
+    command: &Command<'a>,
+    grammar: Option<&[u8]>,
+) -> Result<u8, Trouble> {
     match command {
-        Command::Judge {
-            task,
-            grammar,
-            files,
-        } => {
-            if files.len() == 1 {
-                return with_one(rt, command, grammar, files[0]);
-            }
-            with_several(rt, *task, grammar, files)
+        Command::Judge { .. } => with_modules(rt, why, command, grammar),
+        Command::Show { file, .. } | Command::Trace { file, .. } => {
+            with_module(rt, why, command, grammar, *file)
         }
-        Command::Show { grammar, file }
-        | Command::Asm { grammar, file, .. }
-        | Command::Trace { grammar, file, .. } => with_one(rt, command, grammar, file),
-        Command::Rules { .. } => Ok(with_made(
-            rt,
-            command,
-            &[],
-            io::empty(),
-            rt.stdout(),
-            io::sink(),
-        )),
+        Command::Asm { file, out, .. } => with_text(rt, why, command, grammar, *file, *out),
+        Command::Rules { .. } | Command::Grammar { .. } => {
+            Ok(with_output(rt, why, command, AtHand::of(grammar), io::empty()))
+        }
+    }
+}
+
+/// The path of the grammar file that a command names, if it names one.
+fn grammar_path<'a>(command: &Command<'a>) -> Option<&'a str> {
+    match command {
+        Command::Judge { grammar, .. }
+        | Command::Show { grammar, .. }
+        | Command::Asm { grammar, .. }
+        | Command::Trace { grammar, .. } => *grammar,
+        Command::Grammar { file } => *file,
+        Command::Rules { .. } => None,
+    }
+}
+
+/// The text of the grammar file that a command names, if it names one. FILE of `grammar` may be the standard input.
+fn grammar_of<'a>(
+    rt: &HostRuntime,
+    why: &Why<'a>,
+    command: &Command<'a>,
+) -> Result<Option<Vec<u8>>, Trouble> {
+    let Some(name) = grammar_path(command) else {
+        return Ok(None);
+    };
+    let text = match command {
+        Command::Grammar { .. } => read_whole(rt, why, name)?,
+        _ => read_file(rt, why, name)?,
+    };
+    Ok(Some(text))
+}
+
+/// Whether a command would write the file that it reads.
+fn is_destroying(rt: &HostRuntime, command: &Command) -> bool {
+    match command {
+        Command::Asm { file, out, .. } => *out != STANDARD && is_same_file(rt, file, out),
+        _ => false,
+    }
+}
+
+/// Opens the files of a command, does what it asks, and answers the exit status.
+fn with_files<'a>(rt: &HostRuntime, why: &Why<'a>, command: &Command<'a>) -> Result<u8, Trouble> {
+    if is_destroying(rt, command) {
+        return Err(Trouble::Use);
+    }
+    match grammar_of(rt, why, command)? {
+        Some(grammar) => with_grammar(rt, why, command, Some(grammar.as_slice())),
+        None => with_grammar(rt, why, command, None),
     }
 }
 
@@ -145,7 +264,56 @@ fn grammar_of_environment(rt: &HostRuntime) -> Result<Option<String>, Trouble> {
     }
 }
 
-/// Reads the words of the command line and does what they ask, and answers the exit status.
+/// Does what the words ask, and answers the exit status.
+fn with_texts<'a>(
+    rt: &HostRuntime,
+    why: &Why<'a>,
+    texts: &'a [&'a str],
+    environment: Option<&'a str>,
+) -> Result<u8, Trouble> {
+    match arguments_in(rt.alloc(), texts, environment) {
+        Ok(command) => with_files(rt, why, &command),
+        Err(UseError::NoCommand) => Err(Trouble::Use),
+        Err(UseError::Memory) => Err(Trouble::Memory),
+        Err(UseError::Help | UseError::Version) => show_text(rt, texts),
+    }
+}
+
+/// Tells what is wrong with words, for people: nothing where memory is short. No words at all ask for the help.
+fn tell_use(rt: &HostRuntime, texts: &[&str]) {
+    let text = if texts.is_empty() {
+        help(rt.alloc())
+    } else {
+        advice(rt.alloc(), texts)
+    };
+    if let Ok(text) = text {
+        let _ = rt.stderr().write_all(text.as_bytes());
+    }
+}
+
+/// Writes the line of a trouble, and behind it why, where that is told.
+fn report_why<'a>(rt: &HostRuntime, why: &Why<'a>, trouble: Trouble) {
+    let mut err = FromWrite::new(Telling::new(rt.stderr(), why, AtHand::of(None)));
+    report(trouble, &mut err);
+}
+
+/// Does what the words ask, tells where that is not done, and answers the exit status.
+fn status_of(rt: &HostRuntime, texts: &[&str], environment: Option<&str>) -> u8 {
+    let is_told = is_verbose(texts) || rt.stderr().is_terminal();
+    let why = Why::new(rt.alloc(), is_told);
+    match with_texts(rt, &why, texts, environment) {
+        Ok(status) => status,
+        Err(trouble) => {
+            report_why(rt, &why, trouble);
+            if is_told && matches!(trouble, Trouble::Use) {
+                tell_use(rt, texts);
+            }
+            2
+        }
+    }
+}
+
+/// Reads the words of the command line, does what they ask, and answers the exit status.
 fn with_words(rt: &HostRuntime) -> Result<u8, Trouble> {
     let mut words: Vec<String> = Vec::new(rt.alloc());
     for word in env::args(rt).map_err(word_trouble)?.skip(1) {
@@ -160,12 +328,7 @@ fn with_words(rt: &HostRuntime) -> Result<u8, Trouble> {
         Some(path) => Some(path.as_str()),
         None => None,
     };
-    match arguments_in(rt.alloc(), &texts, grammar) {
-        Ok(command) => with_files(rt, &command),
-        Err(UseError::NoCommand) => Err(Trouble::Use),
-        Err(UseError::Memory) => Err(Trouble::Memory),
-        Err(UseError::Help | UseError::Version) => show_text(rt, &texts),
-    }
+    Ok(status_of(rt, &texts, grammar))
 }
 
 fn main(rt: HostRuntime) -> ExitCode {

@@ -5,6 +5,7 @@ mod instructions;
 mod texts;
 
 use serde_json::Value;
+use spv_builtin::table_of;
 use spv_grammar::{FromGrammar, GrammarError, Table};
 use spv_samples::{
     CALL_OF_LATER_FUNCTION, Growths, LOAD_WITH_MASK, LOOP_WITH_PHI, PROFILE, SMALLEST_KERNEL, Told,
@@ -34,6 +35,20 @@ fn table_from_slice(rt: HostRuntime) -> Result<(), Fail> {
         let read = Table::from_slice(rt.alloc(), PROFILE.as_bytes());
         growths.end();
         if growths.are_through(told_of_table(read))? {
+            return Ok(());
+        }
+    }
+    Err(Fail::from("too many growths"))
+}
+
+#[test]
+fn built_in_table(rt: HostRuntime) -> Result<(), Fail> {
+    let mut growths = Growths::new(rt.alloc());
+    for _ in 0..MOST {
+        growths.refuse_next();
+        let made = table_of(rt.alloc(), None);
+        growths.end();
+        if growths.are_through(told_of_table(made))? {
             return Ok(());
         }
     }

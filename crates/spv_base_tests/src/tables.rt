@@ -55,7 +55,7 @@ fn codes(rt: HostRuntime) -> Result<(), Fail> {
 }
 
 /// Two names of one opcode, masks that are dropped, a second value, and a pair.
-const SMALL: &str = r#"{"instructions":[
+pub(crate) const SMALL: &str = r#"{"instructions":[
 {"opname":"OpA","opcode":7,"operands":[
 {"kind":"IdRef"},{"kind":"K","quantifier":"?"},{"kind":"Pair","quantifier":"*"}],"capabilities":["Shader","Kernel"]},
 {"opname":"OpB","opcode":7},

@@ -1,9 +1,14 @@
 //! Modules are read and written by readers and writers that do well, and by those that fail once.
 
+ghost use Rattle.std.specs.Prelude.{◌≢◌, ◌↔◌, IfErr, IfOk, IfSome, IsErrOf};
+ghost use Rattle.spv_words.specs.Header.{IsModule, RefusesBytes};
+ghost use Rattle.spv_words.specs.Version.{as_1_6};
+ghost use Rattle.spv_words.specs.declared.words.WordError.TheVariants.{W1};
+
 use crate::fakes::{Pieces, Shelf, Trouble};
 use spv_words::{
-    Failed, FromRead, FromWrite, Header, Image, Order, WordError, laws, read_image, word,
-    write_all, write_image,
+    Failed, FromRead, FromWrite, Header, Image, Order, Source, VersionSource, Versioned, WordError,
+    laws, read_image, replace_version, word, write_all, write_image,
 };
 use std::alloc::Global;
 use std::test::Fail;
@@ -48,6 +53,147 @@ fn reads_pieces(rt: HostRuntime) -> Result<(), Fail> {
             assert_eq!(rt; word(&image, 0), 0x0723_0203);
             assert_eq!(rt; image.octets(), HEADER.as_slice(), "pieces of {piece}");
         }
+    }
+    Ok(())
+}
+
+/// The header of another version.
+fn header_of(order: Order, major: u8, minor: u8) -> [u8; 20] {
+    let (mut bytes, places) = match order {
+        Order::Little => (HEADER, (6, 5)),
+        Order::Big => (BIG_HEADER, (5, 6)),
+    };
+    bytes[places.0] = major;
+    bytes[places.1] = minor;
+    bytes
+}
+
+/// The image of what a source has left, read as version 1.6.
+fn image_as_1_6<S: VersionSource>(alloc: Global, file: &mut S) -> Result<(Image, Order), WordError>
+    ensures gives { IfSome (S.remaining file.old) (λ xs. IfOk result (λ p. IsModule p.1 (as_1_6 xs) p.0)) }
+    ensures refuses { IfSome (S.remaining file.old) (λ xs. IfErr result (λ e. RefusesBytes e (as_1_6 xs))) }
+    ensures count { S.failures file.new ≢ S.failures file.old ↔ IsErrOf result W1 }
+{
+    file.read_as_1_6();
+    read_image(alloc, file)
+}
+
+#[test]
+fn reads_older_versions(rt: HostRuntime) -> Result<(), Fail> {
+    for piece in [1, 3, 7, 8, 120] {
+        for order in [Order::Little, Order::Big] {
+            for minor in 0..7 {
+                let bytes = header_of(order, 1, minor);
+                let mut reader = Versioned::new(FromRead::new(Pieces::new(&bytes, piece)));
+                let (image, told) = image_as_1_6(rt.alloc(), &mut reader)?;
+                assert_eq!(rt; told, order);
+                assert_eq!(rt;
+                    image.octets(),
+                    HEADER.as_slice(),
+                    "1.{minor} in pieces of {piece}"
+                );
+            }
+            for (major, minor) in [(1, 7), (2, 0), (0, 6)] {
+                let bytes = header_of(order, major, minor);
+                let mut reader = Versioned::new(FromRead::new(Pieces::new(&bytes, piece)));
+                let result = image_as_1_6(rt.alloc(), &mut reader);
+                assert!(rt; matches!(result, Err(WordError::W5)), "{major}.{minor}");
+            }
+        }
+    }
+    Ok(())
+}
+
+#[test]
+fn another_version_is_refused_unless_it_is_asked_for(rt: HostRuntime) -> Result<(), Fail> {
+    let bytes = header_of(Order::Little, 1, 2);
+    let mut reader = Versioned::new(FromRead::new(Pieces::new(&bytes, 3)));
+    let result = read_image(rt.alloc(), &mut reader);
+    assert!(rt; matches!(result, Err(WordError::W5)));
+    Ok(())
+}
+
+/// All that a source gives, one byte a read.
+fn all_bytes<S: Source>(alloc: Global, source: &mut S) -> Result<Vec<u8>, Fail> {
+    let mut all = Vec::new(alloc);
+    let mut octet = [0u8];
+    for _ in 0..100 {
+        if source.read(&mut octet)? == 0 {
+            break;
+        }
+        all.push(octet[0])?;
+    }
+    Ok(all)
+}
+
+#[test]
+fn few_bytes_are_given_as_they_are(rt: HostRuntime) -> Result<(), Fail> {
+    let bytes = header_of(Order::Big, 1, 0);
+    for size in 0..21 {
+        for piece in [1, 5, 120] {
+            let mut reader = Versioned::new(FromRead::new(Pieces::new(&bytes[..size], piece)));
+            reader.read_as_1_6();
+            let given = all_bytes(rt.alloc(), &mut reader)?;
+            let mut want = bytes;
+            want[6] = if size < 8 { 0 } else { 6 };
+            assert_eq!(rt; given.as_slice(), &want[..size]);
+        }
+    }
+    Ok(())
+}
+
+#[test]
+fn a_failed_read_ahead_is_told(rt: HostRuntime) -> Result<(), Fail> {
+    let bytes = header_of(Order::Little, 1, 4);
+    // 20 reads give the bytes, and one more finds the end.
+    for n in 0..25 {
+        let mut pieces = Pieces::new(&bytes, 1);
+        pieces.calls_left = n;
+        let mut reader = Versioned::new(FromRead::new(pieces));
+        let result = image_as_1_6(rt.alloc(), &mut reader);
+        if n < 21 {
+            assert!(rt; matches!(result, Err(WordError::W1)), "call {n}");
+        } else {
+            assert!(rt; result.is_ok(), "call {n}");
+        }
+    }
+    Ok(())
+}
+
+#[test]
+fn a_read_that_failed_can_be_made_again(rt: HostRuntime) -> Result<(), Fail> {
+    let bytes = header_of(Order::Little, 1, 4);
+    for n in 0..21 {
+        let mut pieces = Pieces::new(&bytes, 1);
+        pieces.calls_left = n;
+        let mut reader = Versioned::new(FromRead::new(pieces));
+        reader.read_as_1_6();
+        let mut given = Vec::new(rt.alloc());
+        let mut octet = [0u8];
+        for _ in 0..22 {
+            if reader.read(&mut octet) == Ok(1) {
+                given.push(octet[0])?;
+            }
+        }
+        assert_eq!(rt; given.as_slice(), HEADER.as_slice(), "call {n}");
+    }
+    Ok(())
+}
+
+#[test]
+fn replaces_versions_in_memory(rt: HostRuntime) -> Result<(), Fail> {
+    for order in [Order::Little, Order::Big] {
+        let mut bytes = header_of(order, 1, 3);
+        replace_version(&mut bytes);
+        assert_eq!(rt; bytes, header_of(order, 1, 6));
+        for (major, minor) in [(1, 7), (2, 3), (0, 3)] {
+            let mut bytes = header_of(order, major, minor);
+            replace_version(&mut bytes);
+            assert_eq!(rt; bytes, header_of(order, major, minor));
+        }
+        let mut bytes = header_of(order, 1, 3);
+        replace_version(&mut bytes[..7]);
+        assert_eq!(rt; bytes, header_of(order, 1, 3));
     }
     Ok(())
 }
@@ -183,4 +329,6 @@ fn laws_can_be_called() {
     laws::one_byte_list();
     laws::words_stand();
     laws::one_refusal();
+    laws::versions();
+    laws::version_examples();
 }

@@ -5,7 +5,7 @@ use Rattle.std.proofs.lemmas.Bool.{cases_eq}
 use Rattle.std.proofs.lemmas.List.{get_or-set_same, get_or-set_other, length-set, length-append}
 use Rattle.std.proofs.lemmas.Option.{slice_get_within}
 use Rattle.spv_branches.specs.declared.edges.Link.{Link}
-use Rattle.spv_branches.specs.inner.Edges.{InChain, AreEdges, Leading, AddsLink}
+use Rattle.spv_branches.specs.inner.Edges.{InChain, AreEdges, AddsLink}
 
 -- an element of a list with one more at its end
 pushed : {A : Type 0} → (xs : List A) (x : A) (k : ℕ) (y : A) → slice_get (xs ++ (x ∷ [])) k ≡ Some y → (slice_get xs k ≡ Some y) ⊎ ((k ≡ length xs) × (x ≡ y))
@@ -25,10 +25,6 @@ last_get (z ∷ xs) x = last_get xs x
 
 same_get : {A : Type 0} → (xs : List A) (j k : ℕ) (x y : A) → j ≡ k → slice_get xs j ≡ Some x → slice_get xs k ≡ Some y → x ≡ y
 same_get xs j k x y e g h = let f : slice_get xs j ≡ slice_get xs k = ap (slice_get xs) e in cc
-
-pub chain_some : (links : List Link) (h p : ℕ) → InChain links h p → 0 < h
-chain_some links _ _ (InChain.here h k l e g) = omega (arith, e)
-chain_some links _ _ (InChain.later h k p l e g r) = omega (arith, e)
 
 pub chain_head : (links : List Link) (h : ℕ) (l : Link) → 0 < h → slice_get links (h - 1) ≡ Some l → InChain links h l.source
 chain_head links h l some g = InChain.here h (h - 1) l (omega arith) g
@@ -135,6 +131,3 @@ adds_at links new heads tops p b h n are in_p in_b top grown put count =
     let x : Link = record { source = p; next = h } in
     let e : n ≡ length links + 1 = count ∙ ap length grown ∙ length-append links (x ∷ []) in
     rw (grown, put, e, top) (adds_link links heads p b are in_p in_b)
-
-pub none_leads : (heads : List ℕ) (p b : ℕ) → slice_index heads b ≡ 0 → ¬ (Leading [] heads p b)
-none_leads heads p b e leads = let h = chain_some [] (slice_index heads b) p leads in absurd (omega arith)

@@ -1,5 +1,5 @@
 -- Labels of entry blocks, instruction by instruction.
-use Rattle.std.proofs.Common.{◌≡◌, ◌≤◌, ◌<◌, ◌+◌, ◌⊎◌, ◌∙◌, inl, inr, ℕ, zero, suc, List, Bool, true, false, Some, length, replicate, set, refl, sym, ap, subst, arith}
+use Rattle.std.proofs.Common.{◌≡◌, ◌≤◌, ◌<◌, ◌+◌, ◌⊎◌, ◌∙◌, inl, inr, ℕ, List, Bool, true, false, Some, length, set, refl, sym, ap, subst, arith}
 use Rattle.std.specs.Prelude.{slice_get}
 use Rattle.std.proofs.lemmas.Bool.{cases_lt, cases_eq, eqb-true}
 use Rattle.spv_module.specs.declared.opcode.TheConstants as opcode
@@ -23,11 +23,6 @@ entry_open is n e = record { function = e.function; there = e.there; after = e.a
 
 open_entry : (is : List PlainInst) (n : ℕ) → IsOp is n is_label → IsOpen is n → IsEntryLabel is n
 open_entry is n l o = record { label = l; function = o.function; there = o.there; after = o.after; first = o.first; same = o.same }
-
-pub all_unmarked : (count m : ℕ) → marked (replicate count false) m ≡ false
-all_unmarked zero m = refl
-all_unmarked (suc n) zero = refl
-all_unmarked (suc n) (suc m) = all_unmarked n m
 
 -- what is is_open at the next instruction, is is_open here or begins here
 open_before : (is : List PlainInst) (n : ℕ) → IsOpen is (n + 1) → (IsOp is n is_function) ⊎ IsOpen is n
@@ -61,14 +56,6 @@ lower is n o isnt = elim (cases_lt o.function n) [
   | inl less ↦ less
   | inr more ↦ (let a = o.after in let e : o.function ≡ n = omega arith in absurd (isnt (subst (λ (k : ℕ). IsOp is k is_function) e o.there)))
 ]
-
-pub follows_start : (is : List PlainInst) (count : ℕ) → IsFollowing is (replicate count false) false 0
-follows_start is count = record {
-  entries = record { sound = λ m e. (let f = all_unmarked count m in cc); complete = λ m lt. absurd (omega (arith, lt)) };
-  later = λ m le. all_unmarked count m;
-  opened = λ e. cc;
-  closed = λ e o. (let a = o.after in absurd (omega arith));
-}
 
 -- an OpFunction
 pub follows_function : (is : List PlainInst) (marks : List Bool) (is_open : Bool) (n : ℕ) (i : PlainInst) → slice_get is n ≡ Some i → i.opcode ≡ opcode.FUNCTION → IsFollowing is marks is_open n → IsFollowing is marks true (n + 1)

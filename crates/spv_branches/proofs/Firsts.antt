@@ -1,20 +1,23 @@
--- Which of the rules F1 to F4 can be broken at an instruction, by its opcode.
-use Rattle.std.proofs.Common.{◌≡◌, ◌≤◌, ◌<◌, ◌∙◌, inl, inr, ℕ, List, [], ◌∷◌, ◌+◌, Bool, true, Option, Some, None, length, nat_eq, refl, sym, ap, subst, arith}
-use Rattle.std.specs.Prelude.{slice_get, IsSomeAnd, IsTrue, sum_by}
+-- Which of the rules F can be broken at an instruction, by its opcode.
+use Rattle.std.proofs.Common.{◌≡◌, ◌≤◌, ◌<◌, ◌∙◌, inl, inr, ℕ, List, Bool, true, Option, Some, None, map, length, nat_eq, refl, sym, ap, subst, arith}
+use Rattle.std.specs.Prelude.{slice_get, IsSomeAnd, IsTrue}
 use Rattle.std.proofs.lemmas.Bool.{eqb-true, cases_order}
 use Rattle.std.proofs.lemmas.Bool.Decides.{nat_tests}
 use Rattle.std.proofs.lemmas.Option.{slice_get_within}
-use Rattle.std.proofs.lemmas.List.Sums.{sum_by-cons}
+use Rattle.std.proofs.lemmas.List.{length-map}
 use Rattle.spv_module.specs.declared.opcode.TheConstants as opcode
 use Rattle.spv_table.specs.Table.{Table}
 use Rattle.spv_module.specs.Operand.{PlainInst}
+use Rattle.spv_module.specs.Module.{plain_inst}
+use Rattle.spv_module.specs.declared.module.Inst.{Inst}
 use Rattle.spv_module.specs.declared.fault.Rule.{Rule}
 use Rattle.spv_module.specs.declared.fault.Rule.TheVariants.{F1, F2, F3, F4}
 use Rattle.spv_layout.specs.Stage.{of_branches}
 use Rattle.spv_layout.specs.First.{stage_of, rank_of, IsFirst}
 use Rattle.spv_module.specs.declared.fault.Stop.{Stop}
 use Rattle.spv_module.specs.declared.fault.Stop.TheVariants.{Fault, Memory}
-use Rattle.spv_layout.specs.Place.{word_count, first_word_of}
+use Rattle.spv_layout.specs.Place.{first_word_of, IsShort, AreFew}
+use Rattle.spv_layout.proofs.Misfits.{short_list}
 use Rattle.spv_ids.specs.inner.Outcome.{IsStopAt}
 use Rattle.spv_branches.specs.Found.{IsRefusal}
 use Rattle.spv_branches.specs.Target.{is_phi, is_merge, is_branch, is_conditional, IsOp, HasParents}
@@ -196,10 +199,6 @@ refusal_told G is r n (Fault f) first (e, at, word) =
     let one : IsFirst (Broken G is) of_branches f.rule n = subst (λ (q : Rule). IsFirst (Broken G is) of_branches q n) (sym e) first in
     (subst (λ (m : ℕ). IsFirst (Broken G is) of_branches f.rule m) (sym at) one, word ∙ ap (first_word_of is) (sym at))
 
--- each instruction has a word at least
-pub few_insts : (is : List PlainInst) → length is ≤ sum_by word_count is
-few_insts [] = omega arith
-few_insts (i ∷ is) =
-    let h = few_insts is in
-    let e : sum_by word_count (i ∷ is) ≡ word_count i + sum_by word_count is = sum_by-cons word_count i is in
-    omega arith
+-- a module that has few words has few instructions
+pub few_insts : (insts : List Inst) → IsShort (map plain_inst insts) → AreFew insts
+few_insts insts h = let s = short_list (map plain_inst insts) in let l = length-map insts plain_inst in omega (arith, s, l, h)

@@ -25,15 +25,6 @@ pub record IsAdding (c : Code) (old now : Edges) (at block n : ℕ) : Type 0 whe
   pub only : (G : Table) → IsCode G c → IsOp (insts_of c) at is_branch → IsOfBlock (insts_of c) at block → (p b : ℕ) → HasEdge now p b → HasEdge old p b ⊎ LeadsToBlock G (insts_of c) at p b
   pub added : (G : Table) → IsCode G c → (k x b : ℕ) → k < n → IsUsedAt G (insts_of c) at k x Label → IsLabelOf (insts_of c) x b → HasEdge now block b
 
-pub adding_start : (c : Code) (old : Edges) (at block : ℕ) → IsEdges old → length old.heads.items ≡ length c.insts.now → IsAdding c old old at block 0
-adding_start c old at block edges count = record {
-  edges = edges;
-  count = count;
-  kept = λ p b h. h;
-  only = λ G is branch of p b h. inl h;
-  added = λ G is k x b lt. absurd (omega (arith, lt));
-}
-
 -- an operand that is no label
 pub adding_other : (c : Code) (old now : Edges) (at block n : ℕ) (i : PlainInst) → slice_get (insts_of c) at ≡ Some i → ((G : Table) → FitsShape G i → (x : ℕ) → ¬ (IsUse G i n x Label)) → IsAdding c old now at block n → IsAdding c old now at block (n + 1)
 adding_other c old now at block n i there none before = record {
@@ -119,6 +110,3 @@ gathered_more G is old new n before adds = record {
   ];
   sound = λ p b h. elim (adds.only p b h) [ inl had ↦ before.sound p b had | inr here ↦ (n, here) ];
 }
-
-pub none_gathered : (G : Table) (is : List PlainInst) (e : Edges) → ((p b : ℕ) → ¬ (HasEdge e p b)) → AreGathered G is e 0
-none_gathered G is e none = record { complete = λ t p b lt. absurd (omega (arith, lt)); sound = λ p b h. absurd (none p b h) }

@@ -1,11 +1,11 @@
 -- The sources of a chain are marked, or looked at, one after the other.
 use Rattle.std.proofs.Common.{◌≡◌, ◌≢◌, ◌≤◌, ◌<◌, ◌-◌, ◌⊎◌, ◌∙◌, inl, inr, ℕ, List, Bool, true, false, Some, length, set, sym, ap, subst, arith}
-use Rattle.std.specs.Prelude.{slice_get, slice_index}
+use Rattle.std.specs.Prelude.{slice_get}
 use Rattle.std.proofs.lemmas.Bool.{cases_eq}
 use Rattle.std.proofs.lemmas.List.{get_or-set_same, get_or-set_other}
 use Rattle.spv_branches.specs.declared.edges.Link.{Link}
 use Rattle.spv_branches.specs.inner.Edges.{InChain, AreEdges, Leading, marked}
-use Rattle.spv_branches.proofs.Chains.{chain_some, chain_head, chain_tail, chain_split}
+use Rattle.spv_branches.proofs.Chains.{chain_head, chain_tail, chain_split}
 
 pub set_marked : (marks : List Bool) (s : ℕ) (b : Bool) → s < length marks → marked (set marks s b) s ≡ b
 set_marked marks s b within = get_or-set_same marks s b false within
@@ -23,9 +23,6 @@ pub record IsMarking (links : List Link) (heads : List ℕ) (t : ℕ) (old now :
   pub added : (p : ℕ) → Leading links heads p t → (marked now p ≡ true) ⊎ InChain links h p
   pub only : (p : ℕ) → marked now p ≡ true → (marked old p ≡ true) ⊎ Leading links heads p t
   pub chain : (p : ℕ) → InChain links h p → Leading links heads p t
-
-pub marking_start : (links : List Link) (heads : List ℕ) (t : ℕ) (marks : List Bool) → AreEdges links heads → IsMarking links heads t marks marks (slice_index heads t)
-marking_start links heads t marks are = record { within = are.tops t; kept = λ p m. m; added = λ p l. inr l; only = λ p m. inl m; chain = λ p c. c }
 
 pub marking_more : (links : List Link) (heads : List ℕ) (t : ℕ) (old now : List Bool) (h : ℕ) (l : Link) → AreEdges links heads → length heads ≡ length now → 0 < h → slice_get links (h - 1) ≡ Some l
     → IsMarking links heads t old now h → IsMarking links heads t old (set now l.source true) l.next
@@ -55,20 +52,11 @@ marking_more links heads t old now h l are long some at before =
       chain = λ p c. before.chain p (chain_tail links h p l some at c);
     }
 
-pub marking_end_added : (links : List Link) (heads : List ℕ) (t : ℕ) (old now : List Bool) (h : ℕ) → h ≡ 0 → IsMarking links heads t old now h → (p : ℕ) → Leading links heads p t → marked now p ≡ true
-marking_end_added links heads t old now h e before p leads = elim (before.added p leads) [
-  | inl m ↦ m
-  | inr c ↦ (let s = chain_some links h p c in absurd (omega arith))
-]
-
 -- No source up to a place of the chain is marked.
 pub record IsSeeking (links : List Link) (heads : List ℕ) (t : ℕ) (marks : List Bool) (h : ℕ) : Type 0 where
   pub within : h ≤ length links
   pub left : (p : ℕ) → Leading links heads p t → (marked marks p ≡ false) ⊎ InChain links h p
   pub chain : (p : ℕ) → InChain links h p → Leading links heads p t
-
-pub seeking_start : (links : List Link) (heads : List ℕ) (t : ℕ) (marks : List Bool) → AreEdges links heads → IsSeeking links heads t marks (slice_index heads t)
-seeking_start links heads t marks are = record { within = are.tops t; left = λ p l. inr l; chain = λ p c. c }
 
 pub seeking_more : (links : List Link) (heads : List ℕ) (t : ℕ) (marks : List Bool) (h : ℕ) (l : Link) → AreEdges links heads → 0 < h → slice_get links (h - 1) ≡ Some l → marked marks l.source ≡ false
     → IsSeeking links heads t marks h → IsSeeking links heads t marks l.next
@@ -87,9 +75,3 @@ seeking_more links heads t marks h l are some at free before = record {
 pub seeking_found : (links : List Link) (heads : List ℕ) (t : ℕ) (marks : List Bool) (h : ℕ) (l : Link) → 0 < h → slice_get links (h - 1) ≡ Some l → marked marks l.source ≡ true → IsSeeking links heads t marks h
     → (p : ℕ) × Leading links heads p t × (marked marks p ≡ true)
 seeking_found links heads t marks h l some at m before = (l.source, before.chain l.source (chain_head links h l some at), m)
-
-pub seeking_end : (links : List Link) (heads : List ℕ) (t : ℕ) (marks : List Bool) (h : ℕ) → h ≡ 0 → IsSeeking links heads t marks h → (p : ℕ) → Leading links heads p t → marked marks p ≡ false
-seeking_end links heads t marks h e before p leads = elim (before.left p leads) [
-  | inl m ↦ m
-  | inr c ↦ (let s = chain_some links h p c in absurd (omega arith))
-]

@@ -70,13 +70,7 @@ other_by G i r n o s k x =
 -- forms that are no label's
 other_kind : (o : Plain) → role_of form.Other o ≡ Some Label → ⊥
 other_kind (operand.Id x) h = cc
-other_kind (operand.OfType x) h = cc
-other_kind (operand.Result x) h = cc
-other_kind (operand.Word x) h = cc
-other_kind (operand.Number a b d) h = cc
-other_kind (operand.Text t) h = cc
-other_kind (operand.Value k x) h = cc
-other_kind (operand.Mask k x) h = cc
+other_kind _ h = cc
 
 is_other : (o : Plain) (q : Option Form) (g : Form) → (role_of g o ≡ Some Label → ⊥) → q ≡ Some g → IsOther o q
 unfolding IsOther

@@ -26,15 +26,6 @@ pub record IsTaking (G : Table) (is : List PlainInst) (at : ℕ) (old now : List
   pub gone : (k p : ℕ) → k < n → IsParentAt G is at k p → marked now p ≡ false
   pub kept : (p : ℕ) → marked old p ≡ true → (marked now p ≡ true) ⊎ ((k : ℕ) × (k < n) × IsParentAt G is at k p)
 
-pub taking_start : (G : Table) (is : List PlainInst) (at : ℕ) (marks : List Bool) → IsTaking G is at marks marks 0
-taking_start G is at marks = record {
-  each = λ k x lt. absurd (omega (arith, lt));
-  once = λ j k p lt. absurd (omega (arith, lt));
-  left = λ p m. m;
-  gone = λ k p lt. absurd (omega (arith, lt));
-  kept = λ p m. inl m;
-}
-
 -- an operand that is no label
 pub taking_other : (G : Table) (is : List PlainInst) (at : ℕ) (old now : List Bool) (n : ℕ) → ((x : ℕ) → ¬ (IsUsedAt G is at n x Label)) → IsTaking G is at old now n → IsTaking G is at old now (n + 1)
 taking_other G is at old now n none before =

@@ -152,7 +152,7 @@ bare_forms = record {
   each = AreOf.more T (OfType 20) (R ∷ []) (Result 9 ∷ []) refl (AreOf.more R (Result 9) [] [] refl AreOf.none);
 }
 
-bare_label : (k x : ℕ) → ¬ (IsUsedAt small unpaired 4 k x role.Label)
+pub bare_label : (k x : ℕ) → ¬ (IsUsedAt small unpaired 4 k x role.Label)
 bare_label zero x u = (let t = placed_at small unpaired 4 0 x opcode.PHI bare_phi refl refl refl (record { forms = T ∷ R ∷ []; has = bare_forms }) u in cc)
 bare_label (suc zero) x u = (let t = placed_at small unpaired 4 1 x opcode.PHI bare_phi refl refl refl (record { forms = T ∷ R ∷ []; has = bare_forms }) u in cc)
 bare_label (suc (suc k)) x u = (let w = use_within small bare_phi (suc (suc k)) x role.Label (use_in small unpaired 4 (suc (suc k)) x role.Label bare_phi refl u) in omega (arith, w))
@@ -170,7 +170,7 @@ no_end_u2 zero a b h = absurd (omega (arith, a))
 no_end_u2 (suc zero) a b h = cc
 no_end_u2 (suc (suc k)) a b h = absurd (omega (arith, b))
 
-u_block : IsOfBlock unpaired 2 1
+pub u_block : IsOfBlock unpaired 2 1
 unfolding rows
 u_block = record { begun = record { within = omega arith; up_to = omega arith; there = refl; last = no_label_u2 }; not_ended = no_end_u2 }
 
@@ -191,11 +191,11 @@ no_end_u4 (suc (suc zero)) a b h = absurd (omega (arith, a))
 no_end_u4 (suc (suc (suc zero))) a b h = cc
 no_end_u4 (suc (suc (suc (suc k)))) a b h = absurd (omega (arith, b))
 
-phi_block : IsOfBlock unpaired 4 3
+pub phi_block : IsOfBlock unpaired 4 3
 unfolding rows
 phi_block = record { begun = record { within = omega arith; up_to = omega arith; there = refl; last = no_label_u4 }; not_ended = no_end_u4 }
 
-u_leads : LeadsToBlock small unpaired 2 1 3
+pub u_leads : LeadsToBlock small unpaired 2 1 3
 u_leads = record {
   of = u_block;
   id = 2;
@@ -210,7 +210,7 @@ no_parents h =
     bare_label a.0 a.1.id a.1.used
 
 -- a use before the definition
-negation_forms : (r x : ℕ) → HasForms small (negation r x) (T ∷ R ∷ v ∷ [])
+pub negation_forms : (r x : ℕ) → HasForms small (negation r x) (T ∷ R ∷ v ∷ [])
 unfolding rows
 negation_forms r x = record {
   row = row 200 200 Body (T ∷ R ∷ v ∷ []) closed;
@@ -224,20 +224,15 @@ negation_forms r x = record {
 no_function : (k : ℕ) → 0 < k → k ≤ 3 → ¬ (IsAt early k (Function ∷ []))
 unfolding rows
 no_function zero a b h = absurd (omega (arith, a))
-no_function (suc zero) a b h = cc
-no_function (suc (suc zero)) a b h = cc
-no_function (suc (suc (suc zero))) a b h = cc
 no_function (suc (suc (suc (suc k)))) a b h = absurd (omega (arith, b))
+no_function _ a b h = cc
 
 no_end : (k : ℕ) → k ≤ 3 → ¬ (IsAt early k (FunctionEnd ∷ []))
 unfolding rows
-no_end zero b h = cc
-no_end (suc zero) b h = cc
-no_end (suc (suc zero)) b h = cc
-no_end (suc (suc (suc zero))) b h = cc
 no_end (suc (suc (suc (suc k)))) b h = absurd (omega (arith, b))
+no_end _ b h = cc
 
-of_function : (n : ℕ) → n ≤ 3 → IsOfFunction early n 0
+pub of_function : (n : ℕ) → n ≤ 3 → IsOfFunction early n 0
 unfolding rows
 of_function n lt = record {
   begun = record { within = omega (arith, lt); up_to = omega arith; there = refl; last = λ k a b. no_function k a (omega (arith, b, lt)) };

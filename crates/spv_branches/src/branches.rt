@@ -10,7 +10,6 @@ ghost use Rattle.spv_layout.specs.First.{IsFirst, IsUnbroken};
 ghost use Rattle.spv_layout.specs.Place.{word_count, IsShort};
 ghost use Rattle.spv_layout.specs.Plan.{IsPlan};
 ghost use Rattle.spv_ids.specs.Outcome.{AreIds};
-ghost use Rattle.spv_ids.specs.inner.Outcome.{IsStopAt};
 ghost use Rattle.spv_branches.specs.inner.Code.{insts_of, IsCode};
 ghost use Rattle.spv_branches.specs.Broken.{Broken};
 ghost use Rattle.spv_branches.specs.inner.Edges.{marked};
@@ -21,7 +20,7 @@ use crate::gather::{edges_for, survey};
 use crate::rules::broken_at;
 use spv_ids::Ids;
 use spv_layout::Plan;
-use spv_module::{Fault, Module, Rule, Stop};
+use spv_module::{Module, Rule, Stop};
 use std::alloc::{AllocError, Global};
 
 /// A broken rule at an instruction.
@@ -62,21 +61,6 @@ fn first_fault(alloc: Global, code: &Code<'_, '_>) -> Result<Option<Found>, Allo
     Ok(None)
 }
 
-/// The fault of a broken rule, at the first word of its instruction.
-fn stop_at(plan: &Plan, found: Found) -> Stop
-    requires { found.inst < length plan.now }
-    ensures { (G : Table) (is : List PlainInst) → IsPlan G is plan.now → IsStopAt is found.rule found.inst result }
-{
-    let Some(place) = plan.at(found.inst) else {
-        unreachable!();
-    };
-    Stop::Fault(Fault {
-        rule: found.rule,
-        inst: found.inst,
-        word: place.word,
-    })
-}
-
 /// Looks at the branches of a module: where they lead, and which parents each OpPhi names (SPIR-V Specification 1.6,
 /// sections 2.4 and 2.16). `plan` and `ids` are what `lay_out` and `number` answered of that module.
 ///
@@ -111,7 +95,7 @@ pub fn check_branches(
     let insts = module.insts.as_slice();
     let code = Code { insts, plan, ids };
     if let Some(found) = first_fault(alloc, &code)? {
-        return Err(stop_at(plan, found));
+        return Err(plan.stop_at(found.rule, found.inst));
     }
     Ok(())
 }

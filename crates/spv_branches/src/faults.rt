@@ -13,7 +13,8 @@ ghost use Rattle.spv_branches.specs.Target as target;
 
 use crate::code::Code;
 use crate::edges::Edges;
-use crate::labels::{id_at, label};
+use crate::labels::label;
+use spv_layout::id_at;
 use spv_module::opcode::{BRANCH, BRANCH_CONDITIONAL};
 
 /// What the labels of a branch are.

@@ -1,42 +1,16 @@
 //! The labels among the operands of an instruction.
 
-ghost use Rattle.std.specs.Prelude.{◌≡◌, ℕ, IsTrue, MatchOption, slice_get, option_and_then};
+ghost use Rattle.std.specs.Prelude.{◌≡◌, ℕ, IsTrue, MatchOption};
 ghost use Rattle.spv_table.specs.Table.{Table};
-ghost use Rattle.spv_module.specs.Module.{plain_inst, plain_operand};
+ghost use Rattle.spv_module.specs.Module.{plain_inst};
 ghost use Rattle.spv_layout.specs.Shape.{FitsShape, IsUse};
-ghost use Rattle.spv_layout.specs.Shape as shape;
 ghost use Rattle.spv_layout.specs.declared.form.Role.TheVariants as role;
 ghost use Rattle.spv_branches.specs.inner.Labels.{is_labelled};
 ghost use Rattle.spv_branches.specs.inner.Labels as labels;
 
+use spv_layout::id_at;
+use spv_module::Inst;
 use spv_module::opcode::{BRANCH_CONDITIONAL, LOOP_MERGE, PHI, SWITCH};
-use spv_module::{Inst, Operand};
-
-/// The id that an operand is.
-#[inline(always)]
-fn id_of(operand: Operand<'_>) -> Option<u32>
-    ensures { result ≡ shape.id_of (plain_operand operand.entry) }
-{
-    match operand {
-        Operand::OfType(id) => Some(id),
-        Operand::Result(id) => Some(id),
-        Operand::Id(id) => Some(id),
-        _ => None,
-    }
-}
-
-/// The id that operand `n` is, if there is one.
-#[inline(always)]
-pub fn id_at(inst: &Inst<'_>, n: usize) -> Option<u32>
-    ensures { result ≡ option_and_then shape.id_of (slice_get (plain_inst inst.now).operands n) }
-{
-    let operands = inst.operands.as_slice();
-    if n < operands.len() {
-        id_of(operands[n])
-    } else {
-        None
-    }
-}
 
 /// Whether operand `n` is a label, of an opcode of which some operand is one.
 #[inline(always)]

@@ -4,30 +4,25 @@ use Rattle.std.specs.Prelude.{slice_get}
 use Rattle.std.proofs.lemmas.Bool.{cases_Bool, eqb-true}
 use Rattle.std.proofs.lemmas.Option.{slice_get_within}
 use Rattle.spv_module.specs.declared.opcode.TheConstants as opcode
-use Rattle.spv_module.specs.Operand.{Plain, PlainInst, OfType, Result, Id, Word, Number, Text, Value, Mask}
+use Rattle.spv_module.specs.Operand.{Plain, PlainInst, Id}
 use Rattle.spv_layout.specs.Place.{IsDefinition}
 use Rattle.spv_layout.proofs.Places.{function_same}
 use Rattle.spv_ids.specs.declared.ids.Ids.{Ids}
 use Rattle.spv_ids.specs.Definition.{IsDefinedAt}
 use Rattle.spv_ids.specs.Outcome.{IsDefinitionOf, IsOnly, definition_in}
-use Rattle.spv_calls.proofs.Insts.{below_or, same_inst}
+use Rattle.spv_layout.proofs.Spans.{below_or}
+use Rattle.spv_calls.proofs.Insts.{same_inst}
 use Rattle.spv_calls.specs.declared.graph.Call.{Call}
 use Rattle.spv_calls.specs.Calls.{IsCall, IsEntryFunction}
-use Rattle.spv_calls.specs.inner.Found.{id_in, callee_in, entry_in, IsLate, IsOfDefinition, IsThatCall, AreCalls, AreEntries}
+use Rattle.spv_ids.specs.inner.Test.{id_in}
+use Rattle.spv_calls.specs.inner.Found.{callee_in, entry_in, IsLate, IsOfDefinition, IsThatCall, AreCalls, AreEntries}
 use Rattle.spv_ids.specs.Outcome.{AreNumbered}
 use Rattle.spv_calls.proofs.Lists.{pushed_cases, pushed_keeps, pushed_last}
 use Rattle.spv_calls.proofs.Placed.{call_late}
 
 id_in_some : (o : Option Plain) (x : ℕ) → id_in o ≡ Some x → o ≡ Some (Id x)
-id_in_some None x h = cc
 id_in_some (Some (Id y)) x h = let e : y ≡ x = cc in ap (λ z. Some (Id z)) e
-id_in_some (Some (OfType y)) x h = cc
-id_in_some (Some (Result y)) x h = cc
-id_in_some (Some (Word y)) x h = cc
-id_in_some (Some (Number l g w)) x h = cc
-id_in_some (Some (Text t)) x h = cc
-id_in_some (Some (Value k v)) x h = cc
-id_in_some (Some (Mask k v)) x h = cc
+id_in_some _ x h = cc
 
 callee_found : (i : PlainInst) (x : ℕ) → i.opcode ≡ opcode.FUNCTION_CALL → slice_get i.operands 2 ≡ Some (Id x) → callee_in i ≡ Some x
 callee_found i x o h = rw (o, h) refl
@@ -87,9 +82,6 @@ call_at_same is ids n f g h j a k l =
 call_at : (is : List PlainInst) (m n f g : ℕ) → m ≡ n → IsCall is m f g → IsCall is n f g
 call_at is m n f g e k = rw (← e) k
 
-pub no_calls : (is : List PlainInst) → AreCalls is 0 []
-no_calls is = record { sound = λ k c h. cc; complete = λ m f g l k. absurd (omega (arith, l)); rising = λ j k c d l h g. cc }
-
 pub calls_past : (is : List PlainInst) (n : ℕ) (calls : List Call) → AreCalls is n calls → ((f g : ℕ) → ¬ (IsCall is n f g)) → AreCalls is (n + 1) calls
 calls_past is n calls a x = record {
   sound = λ k c h. let r = a.sound k c h in let l = r.1 in (r.0, omega (arith, l));
@@ -126,10 +118,6 @@ calls_more is ids n calls c ok a t = record {
     ]
   ];
 }
-
--- entry points
-pub no_entries : (is : List PlainInst) → AreEntries is 0 []
-no_entries is = record { sound = λ k e h. cc; complete = λ e h l. absurd (omega (arith, l)) }
 
 entry_named : (is : List PlainInst) (n e : ℕ) (i : PlainInst) (h : IsEntryFunction is e) → h.place ≡ n → slice_get is n ≡ Some i → entry_in i ≡ Some h.id
 entry_named is n e i h q t =

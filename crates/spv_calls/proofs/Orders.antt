@@ -1,6 +1,5 @@
 -- Calls that are in an order are on no cycle.
-use Rattle.std.proofs.Common.{◌≡◌, ◌<◌, ◌≤◌, ℕ, List, sym, Some, length, arith}
-use Rattle.std.specs.Prelude.{slice_get}
+use Rattle.std.proofs.Common.{◌≡◌, ◌<◌, ◌≤◌, ℕ, List, sym, length, arith}
 use Rattle.spv_module.specs.Operand.{PlainInst}
 use Rattle.spv_module.specs.declared.fault.Rule.{Rule}
 use Rattle.spv_layout.specs.Stage.{of_calls}
@@ -14,7 +13,7 @@ use Rattle.spv_calls.specs.Broken.{Broken, on_cycle}
 use Rattle.spv_calls.specs.inner.Components.{number_of}
 use Rattle.spv_calls.specs.inner.Graph.{HasCall, NoneBefore}
 use Rattle.spv_calls.specs.inner.Found.{AreCalls}
-use Rattle.spv_calls.specs.inner.Ordered.{Leads, AllLead, AreFalling, AreAcyclic}
+use Rattle.spv_calls.specs.inner.Ordered.{AllLead, AreFalling, AreAcyclic}
 use Rattle.spv_calls.proofs.Bridge.{calls_has}
 use Rattle.spv_calls.proofs.Chains.{mapped, moved}
 

@@ -18,16 +18,14 @@ no_function_1 : (k : ℕ) → 1 < k → k ≤ 3 → ¬ (IsAt looped k (Function 
 unfolding rows
 no_function_1 zero l h a = absurd (omega (arith, l))
 no_function_1 (suc zero) l h a = absurd (omega (arith, l))
-no_function_1 (suc (suc zero)) l h a = cc
-no_function_1 (suc (suc (suc zero))) l h a = cc
 no_function_1 (suc (suc (suc (suc k)))) l h a = absurd (omega (arith, h))
+no_function_1 _ l h a = cc
 
 no_end_1 : (k : ℕ) → 1 ≤ k → k < 3 → ¬ (IsAt looped k (FunctionEnd ∷ []))
 unfolding rows
 no_end_1 zero l h a = absurd (omega (arith, l))
-no_end_1 (suc zero) l h a = cc
-no_end_1 (suc (suc zero)) l h a = cc
 no_end_1 (suc (suc (suc k))) l h a = absurd (omega (arith, h))
+no_end_1 _ l h a = cc
 
 no_function_6 : (k : ℕ) → 6 < k → k ≤ 8 → ¬ (IsAt looped k (Function ∷ []))
 unfolding rows
@@ -38,9 +36,8 @@ no_function_6 (suc (suc (suc zero))) l h a = absurd (omega (arith, l))
 no_function_6 (suc (suc (suc (suc zero)))) l h a = absurd (omega (arith, l))
 no_function_6 (suc (suc (suc (suc (suc zero))))) l h a = absurd (omega (arith, l))
 no_function_6 (suc (suc (suc (suc (suc (suc zero)))))) l h a = absurd (omega (arith, l))
-no_function_6 (suc (suc (suc (suc (suc (suc (suc zero))))))) l h a = cc
-no_function_6 (suc (suc (suc (suc (suc (suc (suc (suc zero)))))))) l h a = cc
 no_function_6 (suc (suc (suc (suc (suc (suc (suc (suc (suc k))))))))) l h a = absurd (omega (arith, h))
+no_function_6 _ l h a = cc
 
 no_end_6 : (k : ℕ) → 6 ≤ k → k < 8 → ¬ (IsAt looped k (FunctionEnd ∷ []))
 unfolding rows
@@ -50,9 +47,8 @@ no_end_6 (suc (suc zero)) l h a = absurd (omega (arith, l))
 no_end_6 (suc (suc (suc zero))) l h a = absurd (omega (arith, l))
 no_end_6 (suc (suc (suc (suc zero)))) l h a = absurd (omega (arith, l))
 no_end_6 (suc (suc (suc (suc (suc zero))))) l h a = absurd (omega (arith, l))
-no_end_6 (suc (suc (suc (suc (suc (suc zero)))))) l h a = cc
-no_end_6 (suc (suc (suc (suc (suc (suc (suc zero))))))) l h a = cc
 no_end_6 (suc (suc (suc (suc (suc (suc (suc (suc k)))))))) l h a = absurd (omega (arith, h))
+no_end_6 _ l h a = cc
 
 label_1 : IsOfFunction looped 2 1
 unfolding rows

@@ -6,10 +6,6 @@ use Rattle.spv_module.specs.Operand.{PlainInst, Id}
 use Rattle.spv_layout.specs.Place.{IsOfFunction, IsDefinition}
 use Rattle.spv_ids.specs.Definition.{IsDefinedAt}
 
--- the opcode of OpEntryPoint [3.49.5]
-abbrev pub entry_point : ℕ
-entry_point = opcode.ENTRY_POINT
-
 -- Instruction n, in any block of definition f, is an OpFunctionCall of definition g. [3.49.9]
 pub record IsCall (is : List PlainInst) (n f g : ℕ) : Type 0 where
   pub inst : PlainInst

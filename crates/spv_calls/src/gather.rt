@@ -6,29 +6,19 @@ ghost use Rattle.spv_module.specs.Operand.{PlainInst};
 ghost use Rattle.spv_module.specs.Module.{plain_inst};
 ghost use Rattle.spv_layout.specs.Place.{IsDefinition, AreFew};
 ghost use Rattle.spv_calls.specs.Calls.{IsCall};
-ghost use Rattle.spv_calls.specs.inner.Found.{id_in, callee_in, entry_in, ArePlaces, IsLate, IsOfDefinition};
+ghost use Rattle.spv_calls.specs.inner.Found.{callee_in, entry_in, ArePlaces, IsLate, IsOfDefinition};
 ghost use Rattle.spv_calls.specs.inner.Found.{IsThatCall, AreCalls, AreEntries};
 ghost use Rattle.spv_ids.specs.Outcome.{AreNumbered};
 
 use crate::graph::Call;
-use spv_ids::Ids;
+use spv_ids::{Ids, named_id};
 use spv_layout::Plan;
+use spv_module::Inst;
 use spv_module::opcode::{ENTRY_POINT, FUNCTION_CALL};
-use spv_module::{Inst, Operand};
 use std::alloc::{AllocError, Global};
 
 /// The number of section 11 among the sections.
 const DEFINITIONS: u8 = 13;
-
-/// The id that an operand is, if it is one other than a type or a result.
-fn id_at(inst: &Inst<'_>, place: usize) -> Option<u32>
-    ensures { result ≡ id_in (slice_get (plain_inst inst.now).operands place) }
-{
-    match inst.operands.as_slice().get(place) {
-        Some(Operand::Id(id)) => Some(*id),
-        _ => None,
-    }
-}
 
 /// The function that an OpFunctionCall calls.
 #[inline(always)]
@@ -38,7 +28,7 @@ fn callee_of(inst: &Inst<'_>) -> Option<u32>
     if inst.opcode != FUNCTION_CALL {
         return None;
     }
-    id_at(inst, 2)
+    named_id(inst, 2)
 }
 
 /// The function that an OpEntryPoint names.
@@ -49,7 +39,7 @@ fn entry_of(inst: &Inst<'_>) -> Option<u32>
     if inst.opcode != ENTRY_POINT {
         return None;
     }
-    id_at(inst, 1)
+    named_id(inst, 1)
 }
 
 /// The definition that an instruction is of, if it is of a class of sections 9 to 11.

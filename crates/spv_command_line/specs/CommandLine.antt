@@ -1,7 +1,9 @@
 -- The words of the command line (own): what `clap` is told of them, and which command they give.
 use Rattle.std.specs.Prelude.{◌≡◌, ◌≢◌, ◌≤◌, ◌⊎◌, ◌↔◌, ◌∷◌, ℕ, List, [], Bool}
-use Rattle.std.specs.Prelude.{true, false, IsTrue, Option, Some, None, option_map, option_and_then, codes, length, map}
+use Rattle.std.specs.Prelude.{true, IsTrue, Option, Some, None, option_map, option_and_then, codes, length, map}
 use Rattle.std.specs.Prelude.{count_by, Result, Ok, Err}
+use Rattle.std.specs.Borrow.{Bor}
+use Rattle.std.specs.List.{fold}
 use Rattle.std.specs.Option.{option_or}
 use Rattle.std.specs.Str.{bytes_eq}
 use Rattle.clap.specs.Lexer.{usize_max}
@@ -12,72 +14,87 @@ use Rattle.clap.specs.declared.builder.action.ArgAction.TheVariants.{SetTrue}
 use Rattle.clap.specs.declared.error.kind.ErrorKind.{ErrorKind}
 use Rattle.clap.specs.declared.error.kind.ErrorKind.TheVariants.{DisplayHelp, DisplayVersion, OutOfMemory}
 use Rattle.spv_command_line.specs.declared.command_line.Command.{Command}
-use Rattle.spv_command_line.specs.declared.command_line.Command.TheVariants.{Judge, Show, Asm, Trace, Rules}
+use Rattle.spv_command_line.specs.declared.command_line.Command.TheVariants.{Judge, Show, Asm, Trace, Rules, Grammar}
+use Rattle.spv_command_line.specs.declared.command_line.Naming.{Naming}
+use Rattle.spv_command_line.specs.declared.command_line.Naming.TheVariants.{OfSeveral, Always, Never}
 use Rattle.spv_command_line.specs.declared.command_line.Task.{Task}
 use Rattle.spv_command_line.specs.declared.command_line.Task.TheVariants as tasks
 use Rattle.spv_command_line.specs.declared.command_line.UseError.{UseError}
 use Rattle.spv_command_line.specs.declared.command_line.UseError.TheVariants.{NoCommand, Memory, Help, Version}
-use Rattle.spv_rules.specs.Rules.{name_of}
-use Rattle.spv_rules.specs.declared.rules.Code.{Code}
+use Rattle.spv_rules.specs.Errors.{any_name}
+use Rattle.spv_rules.specs.Rules.{IsNamed}
+use Rattle.spv_rules.specs.declared.errors.AnyCode.{AnyCode}
 use Rattle.spv_command_line.specs.Number.{AreNumbersOf, IsNumberOf}
 
--- `--grammar G`, which may be given
-abbrev pub grammar_option : Rule
-grammar_option = record (new_rule (codes "grammar")) { long = Some (codes "grammar"); value_names = 1 }
+-- an option with a value, which may be given
+abbrev pub option : Text → Rule
+option name = record (new_rule name) { long = Some name; value_names = 1 }
 
--- `FILE`, which must be given
+-- an option without a value, which may be given
+abbrev pub flag : Text → Rule
+flag name = record (new_rule name) { long = Some name; action = Some SetTrue }
+
+-- a word, which may be given
+abbrev pub word : Text → Rule
+word name = record (new_rule name) { value_names = 1 }
+
+-- an option or a word that must be given
+abbrev pub must : Rule → Rule
+must rule = record rule { required = true }
+
+-- `FILE`, and `FILE ..`, of which one at least must be given
 abbrev pub file_word : Rule
-file_word = record (new_rule (codes "file")) { value_names = 1; required = true }
+file_word = must (word (codes "file"))
 
--- `FILE ..`, of which one at least must be given
 abbrev pub files_word : Rule
 files_word = record file_word { range = Some (record { start_inclusive = 1; end_inclusive = usize_max }) }
 
--- `--out OUT`, which must be given
-abbrev pub out_option : Rule
-out_option = record (new_rule (codes "out")) { long = Some (codes "out"); value_names = 1; required = true }
+-- `--grammar G`, `--as-1.6` and `--verbose`
+abbrev pub grammar_option : Rule
+grammar_option = option (codes "grammar")
 
--- `--big`, which may be given
-abbrev pub big_flag : Rule
-big_flag = record (new_rule (codes "big")) { long = Some (codes "big"); action = Some SetTrue }
+abbrev pub as_1_6_flag : Rule
+as_1_6_flag = flag (codes "as-1.6")
 
--- an option of numbers, which must be given or may be
-abbrev pub number_option : Text → Bool → Rule
-number_option name must = record (new_rule name) { long = Some name; value_names = 1; required = must }
+abbrev pub verbose_flag : Rule
+verbose_flag = flag (codes "verbose")
 
--- `--function ID` and `--limit N`, which must be given, and `--choices LIST`
-abbrev pub function_option : Rule
-function_option = number_option (codes "function") true
+-- `-H` or `--with-filename`
+abbrev pub with_filename_flag : Rule
+with_filename_flag = record (flag (codes "with-filename")) { short = Some 72 }
 
-abbrev pub choices_option : Rule
-choices_option = number_option (codes "choices") false
+-- a command with these options and words
+abbrev pub command : Text → List Rule → Shape
+command name rules = (fold with_rule (new_app name) rules).top
 
-abbrev pub limit_option : Rule
-limit_option = number_option (codes "limit") true
+-- `NAME [--grammar G] FILE .. [--as-1.6] [--with-filename] [--no-filename] [--quiet] [--verbose]`
+abbrev pub judging_command : Text → Shape
+judging_command name = command name
+    (grammar_option ∷ files_word ∷ as_1_6_flag ∷ with_filename_flag ∷ flag (codes "no-filename")
+    ∷ flag (codes "quiet") ∷ verbose_flag ∷ [])
 
--- `CODE`, which may be given
-abbrev pub code_word : Rule
-code_word = record (new_rule (codes "code")) { value_names = 1 }
+-- `show [--grammar G] FILE [--as-1.6] [--verbose]`
+abbrev pub show_command : Shape
+show_command = command (codes "show") (grammar_option ∷ file_word ∷ as_1_6_flag ∷ verbose_flag ∷ [])
 
--- `NAME [--grammar G] FILE`, or with `FILE ..`
-abbrev pub file_command : Text → Rule → Shape
-file_command name file = (with_rule (with_rule (new_app name) grammar_option) file).top
-
--- `asm [--grammar G] FILE --out OUT [--big]`
+-- `asm [--grammar G] FILE --out OUT [--big] [--verbose]`
 abbrev pub asm_command : Shape
-asm_command =
-    (with_rule (with_rule (with_rule (with_rule (new_app (codes "asm")) grammar_option) file_word) out_option)
-    big_flag).top
+asm_command = command (codes "asm")
+    (grammar_option ∷ file_word ∷ must (option (codes "out")) ∷ flag (codes "big") ∷ verbose_flag ∷ [])
 
--- `trace [--grammar G] FILE --function ID [--choices LIST] --limit N`
+-- `trace [--grammar G] FILE --function ID [--choices LIST] --limit N [--as-1.6] [--verbose]`
 abbrev pub trace_command : Shape
-trace_command =
-    (with_rule (with_rule (with_rule (with_rule (with_rule (new_app (codes "trace")) grammar_option) file_word)
-    function_option) choices_option) limit_option).top
+trace_command = command (codes "trace")
+    (grammar_option ∷ file_word ∷ must (option (codes "function")) ∷ option (codes "choices")
+    ∷ must (option (codes "limit")) ∷ as_1_6_flag ∷ verbose_flag ∷ [])
 
--- `rules [CODE]`
+-- `rules [CODE] [--verbose]`
 abbrev pub rules_command : Shape
-rules_command = (with_rule (new_app (codes "rules")) code_word).top
+rules_command = command (codes "rules") (word (codes "code") ∷ verbose_flag ∷ [])
+
+-- `grammar [FILE] [--verbose]`
+abbrev pub grammar_command : Shape
+grammar_command = command (codes "grammar") (word (codes "file") ∷ verbose_flag ∷ [])
 
 -- no commands yet, of which one must be given; the words begin after the program's name, and may be `--version` or
 -- begin with `help`
@@ -87,10 +104,9 @@ bare_program = on_top (λ s. record s { no_binary_name = true; subcommand_requir
 
 -- all commands, of which one must be given
 abbrev pub program : App
-program =
-    with_subcommand (with_subcommand (with_subcommand (with_subcommand (with_subcommand (with_subcommand bare_program
-    (file_command (codes "check") files_word)) (file_command (codes "explain") files_word))
-    (file_command (codes "show") file_word)) asm_command) trace_command) rules_command
+program = fold with_subcommand bare_program
+    (judging_command (codes "check") ∷ judging_command (codes "explain") ∷ show_command ∷ asm_command
+    ∷ trace_command ∷ rules_command ∷ grammar_command ∷ [])
 
 -- the name of the command, the path of its grammar file and its files, as `clap` reads them; without `--grammar` the
 -- grammar file is that of the environment, if it has one
@@ -102,25 +118,42 @@ texts_in environment found =
 abbrev pub text_in : Text → Option (Text × List Row) → Option Text
 text_in name found = option_and_then (λ p. first_of name p.1) found
 
--- they are the command of that name with a grammar file and these files
-abbrev pub IsAsked : Option Text → Option (Text × List Row) → Text → Text → List Text → Type 0
-IsAsked environment found name grammar files = texts_in environment found ≡ Some (name, Some grammar, Some files)
+-- the name of the command
+abbrev pub name_in : Option (Text × List Row) → Option Text
+name_in found = option_map (λ p. p.0) found
+
+-- they are the command of that name with a grammar file, or with none, and these files
+abbrev pub IsAsked : Option Text → Option (Text × List Row) → Text → Option Text → List Text → Type 0
+IsAsked environment found name grammar files = texts_in environment found ≡ Some (name, grammar, Some files)
+
+-- an option without a value is given, by its text, or is not
+abbrev pub IsFlag : Option Text → Bool → Type 0
+IsFlag text set = IsTrue set ↔ (text ≡ Some (codes "true"))
+
+-- the texts of `--with-filename` and `--no-filename` ask for names before these verdicts; both are not to be given
+abbrev pub IsNaming : Option Text → Option Text → Naming → Type 0
+IsNaming on off OfSeveral = (on ≢ Some (codes "true")) × (off ≢ Some (codes "true"))
+IsNaming on off Always = (on ≡ Some (codes "true")) × (off ≢ Some (codes "true"))
+IsNaming on off Never = (on ≢ Some (codes "true")) × (off ≡ Some (codes "true"))
 
 -- they are `trace` of one file, with the numbers that its options are in decimal
-pub record IsTrace (environment : Option Text) (found : Option (Text × List Row)) (grammar file : Text)
-    (function : ℕ) (choices : List ℕ) (limit : ℕ) : Type 0 where
+pub record IsTrace (environment : Option Text) (found : Option (Text × List Row)) (grammar : Option Text) (file : Text)
+    (function : ℕ) (choices : List ℕ) (limit : ℕ) (as_1_6 : Bool) : Type 0 where
   pub asked : IsAsked environment found (codes "trace") grammar (file ∷ [])
   pub function_is : IsNumberOf (text_in (codes "function") found) function
   pub choices_are : AreNumbersOf (text_in (codes "choices") found) choices
   pub limit_is : IsNumberOf (text_in (codes "limit") found) limit
+  pub version : IsFlag (text_in (codes "as-1.6") found) as_1_6
 
--- the text of the word is the name of the code, or there are neither
-abbrev pub IsCodeOf : Option Text → Option Code → Type 0
-IsCodeOf text code = text ≡ option_map name_of code
+-- the text of the word is the name of the code, in capital or small letters, or there are neither
+abbrev pub IsCodeOf : Option Text → Option AnyCode → Type 0
+IsCodeOf None None = Unit {0}
+IsCodeOf (Some text) (Some code) = IsNamed text (any_name code)
+IsCodeOf _ _ = ⊥
 
 -- they are `rules` with the code, or with none
-pub record IsRules (found : Option (Text × List Row)) (code : Option Code) : Type 0 where
-  pub asked : option_map (λ p. p.0) found ≡ Some (codes "rules")
+pub record IsRules (found : Option (Text × List Row)) (code : Option AnyCode) : Type 0 where
+  pub asked : name_in found ≡ Some (codes "rules")
   pub code_is : IsCodeOf (text_in (codes "code") found) code
 
 -- the command that does a task
@@ -128,39 +161,55 @@ abbrev pub task_name : Task → Text
 task_name tasks.Check = codes "check"
 task_name tasks.Explain = codes "explain"
 
+-- how often a word stands among words
+abbrev pub count_of : Text → List Text → ℕ
+count_of word words = count_by (λ other. bytes_eq other word) words
+
 -- how many of these files are the standard input
 abbrev pub inputs_among : List Text → ℕ
-inputs_among files = count_by (λ file. bytes_eq file (codes "-")) files
+inputs_among files = count_of (codes "-") files
 
 -- they are a task on one file or more, of which at most one is the standard input
-pub record IsJudge (environment : Option Text) (found : Option (Text × List Row)) (task : Task) (grammar : Text)
-    (files : List Text) : Type 0 where
+pub record IsJudge (environment : Option Text) (found : Option (Text × List Row)) (task : Task)
+    (grammar : Option Text) (files : List Text) (as_1_6 : Bool) (naming : Naming) (quiet : Bool) : Type 0 where
   pub asked : IsAsked environment found (task_name task) grammar files
   pub some : 1 ≤ length files
   pub once : inputs_among files ≤ 1
+  pub version : IsFlag (text_in (codes "as-1.6") found) as_1_6
+  pub names : IsNaming (text_in (codes "with-filename") found) (text_in (codes "no-filename") found) naming
+  pub quiet_is : IsFlag (text_in (codes "quiet") found) quiet
+
+-- the path of a grammar file, if one is named
+abbrev pub path_of : Option (Bor Text) → Option Text
+path_of grammar = option_map (λ g. g.now) grammar
 
 -- they are a command with all of its texts; a flag that was read has the text `true`
 abbrev pub IsCommand : Option Text → Option (Text × List Row) → Command → Type 0
-IsCommand environment found (Judge task grammar files) =
-    IsJudge environment found task grammar.now (map (λ file. file.now) files.items)
-IsCommand environment found (Show grammar file) = IsAsked environment found (codes "show") grammar.now (file.now ∷ [])
+IsCommand environment found (Judge task grammar files as_1_6 naming quiet) =
+    IsJudge environment found task (path_of grammar) (map (λ file. file.now) files.items) as_1_6 naming quiet
+IsCommand environment found (Show grammar file as_1_6) =
+    IsAsked environment found (codes "show") (path_of grammar) (file.now ∷ [])
+    × IsFlag (text_in (codes "as-1.6") found) as_1_6
 IsCommand environment found (Asm grammar file out big) =
-    IsAsked environment found (codes "asm") grammar.now (file.now ∷ [])
-    × (text_in (codes "out") found ≡ Some out.now)
-    × (IsTrue big ↔ (text_in (codes "big") found ≡ Some (codes "true")))
-IsCommand environment found (Trace grammar file function choices limit) =
-    IsTrace environment found grammar.now file.now function choices.items limit
+    IsAsked environment found (codes "asm") (path_of grammar) (file.now ∷ [])
+    × (text_in (codes "out") found ≡ Some out.now) × IsFlag (text_in (codes "big") found) big
+IsCommand environment found (Trace grammar file function choices limit as_1_6) =
+    IsTrace environment found (path_of grammar) file.now function choices.items limit as_1_6
 IsCommand environment found (Rules code) = IsRules found code
+IsCommand environment found (Grammar file) =
+    (name_in found ≡ Some (codes "grammar")) × (text_in (codes "file") found ≡ path_of file)
 
 -- they are no command with all of its texts
 pub record IsNoCommand (environment : Option Text) (found : Option (Text × List Row)) : Type 0 where
-  pub judge : (task : Task) (grammar : Text) (files : List Text) → ¬ (IsJudge environment found task grammar files)
-  pub show : (grammar file : Text) → ¬ (IsAsked environment found (codes "show") grammar (file ∷ []))
-  pub asm : (grammar file out : Text) → IsAsked environment found (codes "asm") grammar (file ∷ [])
-      → ¬ (text_in (codes "out") found ≡ Some out)
-  pub trace : (grammar file : Text) (function : ℕ) (choices : List ℕ) (limit : ℕ)
-      → ¬ (IsTrace environment found grammar file function choices limit)
-  pub rules : (code : Option Code) → ¬ (IsRules found code)
+  pub judge : (task : Task) (grammar : Option Text) (files : List Text) (as_1_6 : Bool) (naming : Naming) (quiet : Bool)
+      → ¬ (IsJudge environment found task grammar files as_1_6 naming quiet)
+  pub show : (grammar : Option Text) (file : Text) → ¬ (IsAsked environment found (codes "show") grammar (file ∷ []))
+  pub asm : (grammar : Option Text) (file out : Text)
+      → IsAsked environment found (codes "asm") grammar (file ∷ []) → ¬ (text_in (codes "out") found ≡ Some out)
+  pub trace : (grammar : Option Text) (file : Text) (function : ℕ) (choices : List ℕ) (limit : ℕ) (as_1_6 : Bool)
+      → ¬ (IsTrace environment found grammar file function choices limit as_1_6)
+  pub rules : (code : Option AnyCode) → ¬ (IsRules found code)
+  pub grammar : ¬ (name_in found ≡ Some (codes "grammar"))
 
 -- what `clap` read is the command, or none
 abbrev pub IsCommandOf : Option Text → Option (Text × List Row) → Result Command UseError → Type 0

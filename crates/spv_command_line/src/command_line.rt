@@ -2,19 +2,21 @@
 ghost use Rattle.std.specs.Prelude.{◌≡◌, ◌≤◌, ◌↔◌, ◌∷◌, ℕ, List, [], codes, IfOk};
 ghost use Rattle.std.specs.Prelude.{IsTrue, MatchOption, map, option_map, Option, Some, length};
 ghost use Rattle.std.specs.Str.{bytes_eq};
-ghost use Rattle.clap.specs.Words.{Row, Text, first_of, found_of, rows_of, subcommand_rows_of};
+ghost use Rattle.clap.specs.Words.{Text, first_of, found_of, rows_of, subcommand_rows_of};
 ghost use Rattle.spv_command_line.specs.declared.command_line.Command.{Command};
+ghost use Rattle.spv_command_line.specs.declared.command_line.Naming.{Naming};
 ghost use Rattle.spv_command_line.specs.declared.command_line.Task.{Task};
-ghost use Rattle.spv_command_line.specs.CommandLine.{Answers, AnswersTo, IsAsked, IsCommandOf, error_of};
-ghost use Rattle.spv_command_line.specs.CommandLine.{inputs_among, task_name};
-ghost use Rattle.spv_command_line.specs.inner.CommandLine.{IsAsmOf, IsRulesOf, IsTraceOf};
+ghost use Rattle.spv_command_line.specs.CommandLine.{Answers, AnswersTo, IsAsked, IsCommandOf, IsFlag, IsNaming};
+ghost use Rattle.spv_command_line.specs.CommandLine.{count_of, error_of, inputs_among, task_name};
+ghost use Rattle.spv_command_line.specs.inner.CommandLine.{IsAsmOf, IsGrammarOf, IsOfFiles, IsRulesOf, IsShowOf};
+ghost use Rattle.spv_command_line.specs.inner.CommandLine.{IsTraceOf, naming_of};
 ghost use Rattle.spv_command_line.specs.Number.{AreNumbersOf, IsNumberOf};
 
 use crate::number::{number_in, numbers_in};
 use crate::program::all_words;
 use clap::ArgMatches;
 use clap::error::ErrorKind;
-use spv_rules::Code;
+use spv_rules::AnyCode;
 use std::alloc::{AllocError, Global};
 use thiserror::Error;
 
@@ -27,29 +29,48 @@ pub enum Task {
     Explain,
 }
 
-/// What the program is asked to do.
+/// Which verdicts have the name of their file before them.
+#[derive(Clone, Copy, Debug, PartialEq, Eq)]
+pub enum Naming {
+    /// Those of several files.
+    OfSeveral,
+    /// All: `-H` or `--with-filename`.
+    Always,
+    /// None: `--no-filename`.
+    Never,
+}
+
+/// What the program is asked to do. A path of a grammar file that is None stands for the built-in grammar.
 #[derive(Debug, Drop, PartialEq, Eq)]
 pub enum Command<'a> {
-    /// `spv check --grammar G FILE ..`, or `spv explain`: a task on these modules, one after the other.
+    /// `spv check [--grammar G] FILE ..`, or `spv explain`: a task on these modules, one after the other.
     Judge {
         /// The task.
         task: Task,
-        /// The path of the grammar file.
-        grammar: &'a str,
+        /// The path of the grammar file, if one is named.
+        grammar: Option<&'a str>,
         /// The paths of the modules: one or more, of which at most one is `-`, the standard input.
         files: Vec<&'a str>,
+        /// Whether a module of an earlier version is taken as one of 1.6.
+        as_1_6: bool,
+        /// Which verdicts have the name of their file before them.
+        naming: Naming,
+        /// Whether no verdict is written, and the exit status alone tells it.
+        quiet: bool,
     },
-    /// `spv show --grammar G FILE`: the text of a module.
+    /// `spv show [--grammar G] FILE`: the text of a module.
     Show {
-        /// The path of the grammar file.
-        grammar: &'a str,
+        /// The path of the grammar file, if one is named.
+        grammar: Option<&'a str>,
         /// The path of the module.
         file: &'a str,
+        /// Whether a module of an earlier version is taken as one of 1.6.
+        as_1_6: bool,
     },
-    /// `spv asm --grammar G --out OUT [--big] FILE`: the module of a text.
+    /// `spv asm [--grammar G] --out OUT [--big] FILE`: the module of a text.
     Asm {
-        /// The path of the grammar file.
-        grammar: &'a str,
+        /// The path of the grammar file, if one is named.
+        grammar: Option<&'a str>,
         /// The path of the text.
         file: &'a str,
         /// The path of the module that is made.
@@ -57,10 +78,10 @@ pub enum Command<'a> {
         /// Whether the bytes of its words stand from the highest to the lowest.
         big: bool,
     },
-    /// `spv trace --grammar G --function ID [--choices 0,1] --limit N FILE`: the run of an entry point's function.
+    /// `spv trace [--grammar G] --function ID [--choices 0,1] --limit N FILE`: the run of an entry point's function.
     Trace {
-        /// The path of the grammar file.
-        grammar: &'a str,
+        /// The path of the grammar file, if one is named.
+        grammar: Option<&'a str>,
         /// The path of the module.
         file: &'a str,
         /// The id of the function, as an OpEntryPoint names it.
@@ -70,11 +91,18 @@ pub enum Command<'a> {
         choices: Vec<u32>,
         /// The greatest number of steps; a step is one instruction that is executed.
         limit: u32,
+        /// Whether a module of an earlier version is taken as one of 1.6.
+        as_1_6: bool,
     },
-    /// `spv rules [CODE]`: what each code of a verdict says, or one of them. No file is read.
+    /// `spv rules [CODE]`: what each code says, or one of them. No file is read.
     Rules {
         /// The code, if it is only one.
-        code: Option<Code>,
+        code: Option<AnyCode>,
+    },
+    /// `spv grammar [FILE]`: the built-in grammar, or that of a grammar file, as a grammar file of the least size.
+    Grammar {
+        /// The path of the grammar file, if one is named; `-` is the standard input.
+        file: Option<&'a str>,
     },
 }
 
@@ -130,7 +158,7 @@ fn is_true(text: &str) -> bool
 
 /// Whether `clap` read this flag.
 fn is_set(found: &ArgMatches<'_>, flag: &str) -> bool
-    ensures { IsTrue result ↔ (first_of flag.now (rows_of (found_of found.now)) ≡ Some (codes "true")) }
+    ensures { IsFlag (first_of flag.now (rows_of (found_of found.now))) result }
 {
     match found.get_str(flag) {
         Some(text) => is_true(text),
@@ -138,9 +166,56 @@ fn is_set(found: &ArgMatches<'_>, flag: &str) -> bool
     }
 }
 
+/// Whether a module of an earlier version is taken as one of 1.6.
+fn is_as_1_6(found: &ArgMatches<'_>) -> bool
+    ensures { IsFlag (first_of (codes "as-1.6") (rows_of (found_of found.now))) result }
+{
+    is_set(found, "as-1.6")
+}
+
+/// Which verdicts have names by the options that ask for it and against it. None where both do.
+fn naming_by(with_filename: bool, no_filename: bool) -> Option<Naming>
+    ensures { result ≡ naming_of with_filename no_filename }
+{
+    match (with_filename, no_filename) {
+        (false, false) => Some(Naming::OfSeveral),
+        (true, false) => Some(Naming::Always),
+        (false, true) => Some(Naming::Never),
+        (true, true) => None,
+    }
+}
+
+/// Which verdicts have names by what `clap` read.
+fn naming_in(found: &ArgMatches<'_>) -> Option<Naming>
+    ensures { MatchOption result
+        ((naming : Naming) → ¬ (IsNaming (first_of (codes "with-filename") (rows_of (found_of found.now)))
+        (first_of (codes "no-filename") (rows_of (found_of found.now))) naming))
+        (λ naming. IsNaming (first_of (codes "with-filename") (rows_of (found_of found.now)))
+        (first_of (codes "no-filename") (rows_of (found_of found.now))) naming) }
+{
+    let with_filename = is_set(found, "with-filename");
+    let no_filename = is_set(found, "no-filename");
+    naming_by(with_filename, no_filename)
+}
+
+/// The command `show` with the texts of these.
+fn show_in<'a>(found: &ArgMatches<'a>, grammar: Option<&'a str>, file: &'a str) -> Command<'a>
+    ensures { IsShowOf (rows_of (found_of found.now)) (option_map (λ g. g.now) grammar.entry) file.now result }
+{
+    Command::Show {
+        grammar,
+        file,
+        as_1_6: is_as_1_6(found),
+    }
+}
+
 /// The command `asm` with the texts of these, if `clap` read its own too.
-fn asm_in<'a>(found: &ArgMatches<'a>, grammar: &'a str, file: &'a str) -> Option<Command<'a>>
-    ensures { IsAsmOf (rows_of (found_of found.now)) grammar.now file.now result }
+fn asm_in<'a>(
+    found: &ArgMatches<'a>,
+    grammar: Option<&'a str>,
+    file: &'a str,
+) -> Option<Command<'a>>
+    ensures { IsAsmOf (rows_of (found_of found.now)) (option_map (λ g. g.now) grammar.entry) file.now result }
 {
     let out = found.get_str("out")?;
     let big = is_set(found, "big");
@@ -183,10 +258,10 @@ fn numbers_of(
 fn trace_in<'a>(
     alloc: Global,
     found: &ArgMatches<'a>,
-    grammar: &'a str,
+    grammar: Option<&'a str>,
     file: &'a str,
 ) -> Result<Command<'a>, UseError>
-    ensures { IsTraceOf (rows_of (found_of found.now)) grammar.now file.now result }
+    ensures { IsTraceOf (rows_of (found_of found.now)) (option_map (λ g. g.now) grammar.entry) file.now result }
 {
     let Some(function) = number_of(found, "function") else {
         return Err(UseError::NoCommand);
@@ -203,6 +278,7 @@ fn trace_in<'a>(
         function,
         choices,
         limit,
+        as_1_6: is_as_1_6(found),
     })
 }
 
@@ -213,28 +289,37 @@ fn rules_in<'a>(found: &ArgMatches<'a>) -> Result<Command<'a>, UseError>
     let Some(name) = found.get_str("code") else {
         return Ok(Command::Rules { code: None });
     };
-    match Code::named(name) {
+    match AnyCode::named(name) {
         Some(code) => Ok(Command::Rules { code: Some(code) }),
         None => Err(UseError::NoCommand),
     }
 }
 
-/// The command of a name that is no task's and not `rules` on one file, if it is one with all its texts.
+/// The command `grammar`.
+fn grammar_in<'a>(found: &ArgMatches<'a>) -> Command<'a>
+    ensures { IsGrammarOf (rows_of (found_of found.now)) result }
+{
+    Command::Grammar {
+        file: found.get_str("file"),
+    }
+}
+
+/// The command of a name on one file, if it is one with all its texts; the name is of no other kind of command.
 fn one_file_command<'a>(
     alloc: Global,
     name: &str,
     found: &ArgMatches<'a>,
-    grammar: &'a str,
+    grammar: Option<&'a str>,
     file: &'a str,
 ) -> Result<Command<'a>, UseError>
-    requires rules { ¬ (name.now ≡ codes "rules") }
+    requires files { IsOfFiles name.now }
     requires task { (task : Task) → ¬ (name.now ≡ task_name task) }
     ensures { (environment : Option Text) → IsAsked environment
-        (Some (name.now, rows_of (found_of found.now))) name.now grammar.now (file.now ∷ [])
+        (Some (name.now, rows_of (found_of found.now))) name.now (option_map (λ g. g.now) grammar.entry) (file.now ∷ [])
         → IsCommandOf environment (Some (name.now, rows_of (found_of found.now))) result }
 {
     match name {
-        "show" => Ok(Command::Show { grammar, file }),
+        "show" => Ok(show_in(found, grammar, file)),
         "asm" => asm_in(found, grammar, file).ok_or(UseError::NoCommand),
         "trace" => trace_in(alloc, found, grammar, file),
         _ => Err(UseError::NoCommand),
@@ -253,20 +338,20 @@ fn task_named(name: &str) -> Option<Task>
     }
 }
 
-/// Whether a name is that of the standard input.
-fn is_input(name: &str) -> bool
-    ensures { result ≡ bytes_eq name.now (codes "-") }
+/// Whether two words are the same.
+fn is_same(one: &str, other: &str) -> bool
+    ensures { result ≡ bytes_eq one.now other.now }
 {
-    name == "-"
+    one == other
 }
 
-/// How many of these files are the standard input.
-fn inputs_of(files: &[&str]) -> usize
-    ensures { result ≡ inputs_among (map (λ file. file.now) files.now) }
+/// How many of these words are this one.
+fn occurrences_of(word: &str, words: &[&str]) -> usize
+    ensures { result ≡ count_of word.now (map (λ w. w.now) words.now) }
 {
     let mut count = 0usize;
-    for file in files {
-        if is_input(file) {
+    for other in words {
+        if is_same(other, word) {
             count += 1;
         }
     }
@@ -277,46 +362,55 @@ fn inputs_of(files: &[&str]) -> usize
 fn are_modules(files: &[&str]) -> bool
     ensures { IsTrue result ↔ ((1 ≤ length files.now) × (inputs_among (map (λ file. file.now) files.now) ≤ 1)) }
 {
-    !files.is_empty() && inputs_of(files) < 2
+    !files.is_empty() && occurrences_of("-", files) < 2
 }
 
-/// The command that does a task on these files, if it is one.
+/// The command that does a task on these files, if it is one with all its texts.
 fn judge_command<'a>(
     alloc: Global,
     task: Task,
-    grammar: &'a str,
+    found: &ArgMatches<'a>,
+    grammar: Option<&'a str>,
     files: &[&'a str],
 ) -> Result<Command<'a>, UseError>
-    ensures { (environment : Option Text) (rows : List Row)
-        → IsAsked environment (Some (task_name task, rows)) (task_name task) grammar.now
-        (map (λ file. file.now) files.now) → IsCommandOf environment (Some (task_name task, rows)) result }
+    ensures { (environment : Option Text)
+        → IsAsked environment (Some (task_name task, rows_of (found_of found.now))) (task_name task)
+        (option_map (λ g. g.now) grammar.entry) (map (λ file. file.now) files.now)
+        → IsCommandOf environment (Some (task_name task, rows_of (found_of found.now))) result }
 {
     if !are_modules(files) {
         return Err(UseError::NoCommand);
     }
+    let Some(naming) = naming_in(found) else {
+        return Err(UseError::NoCommand);
+    };
     let files = Vec::from_slice(alloc, files)?;
     Ok(Command::Judge {
         task,
         grammar,
         files,
+        as_1_6: is_as_1_6(found),
+        naming,
+        quiet: is_set(found, "quiet"),
     })
 }
 
-/// The command of a name that is not `rules` on these files, if it is one with all its texts.
+/// The command of a name on these files, if it is one with all its texts.
 fn command_on<'a>(
     alloc: Global,
     name: &str,
     found: &ArgMatches<'a>,
-    grammar: &'a str,
+    grammar: Option<&'a str>,
     files: &[&'a str],
 ) -> Result<Command<'a>, UseError>
-    requires { ¬ (name.now ≡ codes "rules") }
+    requires { IsOfFiles name.now }
     ensures { (environment : Option Text) → IsAsked environment
-        (Some (name.now, rows_of (found_of found.now))) name.now grammar.now (map (λ file. file.now) files.now)
+        (Some (name.now, rows_of (found_of found.now))) name.now (option_map (λ g. g.now) grammar.entry)
+        (map (λ file. file.now) files.now)
         → IsCommandOf environment (Some (name.now, rows_of (found_of found.now))) result }
 {
     if let Some(task) = task_named(name) {
-        return judge_command(alloc, task, grammar, files);
+        return judge_command(alloc, task, found, grammar, files);
     }
     if files.len() != 1 {
         return Err(UseError::NoCommand);
@@ -324,20 +418,18 @@ fn command_on<'a>(
     one_file_command(alloc, name, found, grammar, files[0])
 }
 
-/// The command of a name that is not `rules`, if it is one with all its texts.
+/// The command of a name on files, if it is one with all its texts.
 fn file_command_in<'a>(
     alloc: Global,
     name: &str,
     found: &ArgMatches<'a>,
     environment: Option<&'a str>,
 ) -> Result<Command<'a>, UseError>
-    requires { ¬ (name.now ≡ codes "rules") }
+    requires { IsOfFiles name.now }
     ensures { IsCommandOf (option_map (λ g. g.now) environment.entry)
         (Some (name.now, rows_of (found_of found.now))) result }
 {
-    let Some(grammar) = found.get_str("grammar").or(environment) else {
-        return Err(UseError::NoCommand);
-    };
+    let grammar = found.get_str("grammar").or(environment);
     let Some(files) = found.get_strs("file") else {
         return Err(UseError::NoCommand);
     };
@@ -357,8 +449,16 @@ fn command_in<'a>(
     };
     match name {
         "rules" => rules_in(found),
+        "grammar" => Ok(grammar_in(found)),
         _ => file_command_in(alloc, name, found, environment),
     }
+}
+
+/// Whether `--verbose` stands among the words, for what is told where they give no command.
+pub fn is_verbose(words: &[&str]) -> bool
+    ensures { IsTrue result ↔ (1 ≤ count_of (codes "--verbose") (map (λ w. w.now) words.now)) }
+{
+    occurrences_of("--verbose", words) > 0
 }
 
 /// The command that the words after the program's name give, as `arguments_in` where the environment names no grammar
@@ -375,15 +475,16 @@ pub fn arguments<'a>(alloc: Global, words: &'a [&'a str]) -> Result<Command<'a>,
 
 /// The command that the words after the program's name give, where the environment names a grammar file, or none, by
 /// the surface of the program (own). The texts are lent by the words. Options may stand in any order, each once. The
-/// grammar file is that of `--grammar`, and without it that of the environment.
+/// grammar file is that of `--grammar`, and without it that of the environment; where neither names one there is none,
+/// which asks for the built-in grammar. `grammar` takes its own word alone.
 ///
 /// A number is one or more ASCII digits, and one of 32 bits in decimal; choices are numbers joined by commas, none
 /// where the option is not given.
 ///
 /// # Errors
 ///
-/// `NoCommand`: the words fit no command, no grammar file is named where one is read, an option is given twice, `-` is
-/// two of the files, or a code is unknown. `Memory`: a growth of memory was refused. `Help`: they ask for help, by
+/// `NoCommand`: the words fit no command, an option is given twice, both `--with-filename` and `--no-filename` are, `-`
+/// is two of the files, or a code is unknown. `Memory`: a growth of memory was refused. `Help`: they ask for help, by
 /// `help`, `--help` or `-h`. `Version`: they ask for the version, by `--version` or `-V`.
 pub fn arguments_in<'a>(
     alloc: Global,

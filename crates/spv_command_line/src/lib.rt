@@ -4,8 +4,12 @@
 mod command_line;
 pub mod laws;
 mod manual;
+mod misfit;
 mod number;
 mod program;
 
-pub use command_line::{Command, Task, UseError, arguments, arguments_in, help, text_asked};
-pub use spv_rules::Code;
+pub use command_line::{
+    Command, Naming, Task, UseError, arguments, arguments_in, help, is_verbose, text_asked,
+};
+pub use misfit::{advice, shown_word};
+pub use spv_rules::{AnyCode, Code, ErrorCode};

@@ -4,6 +4,15 @@
 /// the toolchain that proved it.
 pub const VERSION: &str = "1.0.0\nSPIR-V 1.6, proved with rattle-kit-13f (logic dac8208d650f15bf)";
 
+/// Of the grammar file.
+pub const GRAMMAR_FILE: &str =
+    "A grammar file, in JSON; where it is left out, that of SPV_GRAMMAR, and without that the built-in grammar";
+
+/// Of `--as-1.6`.
+pub const AS_1_6: &str =
+    "Takes a module of version 1.0 to 1.5 as one of 1.6: `valid` then says that the module with the version 1.6 in its \
+    header is valid, and not that it keeps what its own version asks for";
+
 /// Of the limit of `trace`.
 pub const LIMIT: &str =
     "The greatest number of steps; the run is written once it is whole, or `error memory` alone where it does not fit";
@@ -13,7 +22,8 @@ pub const PROGRAM: &str =
     "A FILE `-` is the standard input. After `--` a word that begins with `-` is a FILE.
 
 Environment:
-  SPV_GRAMMAR  the grammar file where --grammar is left out
+  SPV_GRAMMAR  the grammar file where --grammar is left out; without it the built-in grammar of
+               SPIR-V 1.6 is used
 
 Exit status:
   0  done, and each module is valid
@@ -21,13 +31,13 @@ Exit status:
   2  an error: a line on the standard error tells it
 
 Example:
-  spv check --grammar spirv.core.grammar.json kernel.spv";
+  spv check kernel.spv";
 
 /// Behind the options of `check`.
 pub const CHECK: &str =
     "Writes `valid`, or the line of the first rule that the module breaks. Of several files it writes
 `FILE: VERDICT`, a line each, in order; what cannot be read is told on the standard error, and the
-next file follows.
+next file follows. Of --with-filename and --no-filename only one may be given.
 
 Exit status:
   0  each module is valid
@@ -35,13 +45,13 @@ Exit status:
   2  an error: a line on the standard error tells it
 
 Example:
-  spv check --grammar spirv.core.grammar.json first.spv second.spv";
+  spv check first.spv second.spv";
 
 /// Behind the options of `explain`.
 pub const EXPLAIN: &str =
     "Writes the verdict as `check` does, and after it what explains it: the rule, the instruction, its
 place and what shows that it breaks the rule. Of several files each part begins with
-`FILE: VERDICT`.
+`FILE: VERDICT`. Of --with-filename and --no-filename only one may be given.
 
 Exit status:
   0  each module is valid
@@ -49,7 +59,7 @@ Exit status:
   2  an error: a line on the standard error tells it
 
 Example:
-  spv explain --grammar spirv.core.grammar.json kernel.spv";
+  spv explain kernel.spv";
 
 /// Behind the options of `show`.
 pub const SHOW: &str =
@@ -61,12 +71,12 @@ Exit status:
   2  an error: a line on the standard error tells it
 
 Example:
-  spv show --grammar spirv.core.grammar.json kernel.spv";
+  spv show kernel.spv";
 
 /// Behind the options of `asm`.
 pub const ASM: &str =
     "Makes the module of a text as `show` writes it. An OUT `-` is the standard output; the line of a
-fault then goes to the standard error.
+fault then goes to the standard error. An OUT that is FILE itself is refused, and FILE stays as it is.
 
 Exit status:
   0  the module was made
@@ -74,7 +84,7 @@ Exit status:
   2  an error: a line on the standard error tells it
 
 Example:
-  spv asm --grammar spirv.core.grammar.json --out kernel.spv kernel.txt";
+  spv asm --out kernel.spv kernel.txt";
 
 /// Behind the options of `trace`.
 pub const TRACE: &str =
@@ -86,7 +96,7 @@ Exit status:
   2  an error: a line on the standard error tells it
 
 Example:
-  spv trace --grammar spirv.core.grammar.json --function 4 --limit 100 kernel.spv";
+  spv trace --function 4 --limit 100 kernel.spv";
 
 /// Behind the options of `rules`.
 pub const RULES: &str = "Reads no file.
@@ -97,3 +107,14 @@ Exit status:
 
 Example:
   spv rules A1";
+
+/// Behind the options of `grammar`.
+pub const GRAMMAR: &str =
+    "Reading what it writes gives the same grammar. It reads no module, and SPV_GRAMMAR is not used.
+
+Exit status:
+  0  the grammar file was written
+  2  an error: a line on the standard error tells it
+
+Example:
+  spv grammar > spirv.grammar.json";

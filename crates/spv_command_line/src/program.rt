@@ -20,6 +20,8 @@ enum Form {
     Option,
     /// As an option without a value.
     Flag,
+    /// As an option without a value, which may also be written as `-` and this letter.
+    Lettered(char),
 }
 
 /// An argument of commands.
@@ -38,7 +40,47 @@ const GRAMMAR: Argument = Argument {
     form: Form::Option,
     value: "G",
     required: false,
-    help: "The grammar file, in JSON; where it is left out, that of SPV_GRAMMAR",
+    help: manual::GRAMMAR_FILE,
+};
+
+const AS_1_6: Argument = Argument {
+    name: "as-1.6",
+    form: Form::Flag,
+    value: "",
+    required: false,
+    help: manual::AS_1_6,
+};
+
+const WITH_FILENAME: Argument = Argument {
+    name: "with-filename",
+    form: Form::Lettered('H'),
+    value: "",
+    required: false,
+    help: "Writes `FILE: ` before the verdict on one file too",
+};
+
+const NO_FILENAME: Argument = Argument {
+    name: "no-filename",
+    form: Form::Flag,
+    value: "",
+    required: false,
+    help: "Writes no `FILE: ` before the verdicts on several files",
+};
+
+const QUIET: Argument = Argument {
+    name: "quiet",
+    form: Form::Flag,
+    value: "",
+    required: false,
+    help: "Writes no verdict: the exit status tells it; errors are told all the same",
+};
+
+const VERBOSE: Argument = Argument {
+    name: "verbose",
+    form: Form::Flag,
+    value: "",
+    required: false,
+    help: "Says behind the line of an error what was tried and why it failed, as it does on a terminal",
 };
 
 const MODULE: Argument = Argument {
@@ -110,7 +152,15 @@ const CODE: Argument = Argument {
     form: Form::Word,
     value: "CODE",
     required: false,
-    help: "The only code of which it is written",
+    help: "The only code of which it is written, in capital or small letters",
+};
+
+const GRAMMAR_TEXT: Argument = Argument {
+    name: "file",
+    form: Form::Word,
+    value: "FILE",
+    required: false,
+    help: "A grammar file, or `-` for the standard input; where it is left out, the built-in grammar",
 };
 
 /// A command of the program.
@@ -124,43 +174,60 @@ struct Entry {
     arguments: &'static [Argument],
 }
 
+/// What stands behind the names of `check` and `explain`.
+const JUDGING: &[Argument] = &[
+    GRAMMAR,
+    MODULES,
+    AS_1_6,
+    WITH_FILENAME,
+    NO_FILENAME,
+    QUIET,
+    VERBOSE,
+];
+
 /// The commands, in the order in which help tells them.
-static COMMANDS: [Entry; 6] = [
+static COMMANDS: [Entry; 7] = [
     Entry {
         name: "check",
         about: "Writes the verdict on a module, or on each of several",
         notes: manual::CHECK,
-        arguments: &[GRAMMAR, MODULES],
+        arguments: JUDGING,
     },
     Entry {
         name: "explain",
         about: "Writes the verdict on a module, or on each of several, and what explains it",
         notes: manual::EXPLAIN,
-        arguments: &[GRAMMAR, MODULES],
+        arguments: JUDGING,
     },
     Entry {
         name: "show",
         about: "Writes the text of a module",
         notes: manual::SHOW,
-        arguments: &[GRAMMAR, MODULE],
+        arguments: &[GRAMMAR, MODULE, AS_1_6, VERBOSE],
     },
     Entry {
         name: "asm",
         about: "Makes the module of a text",
         notes: manual::ASM,
-        arguments: &[GRAMMAR, TEXT, OUT, BIG],
+        arguments: &[GRAMMAR, TEXT, OUT, BIG, VERBOSE],
     },
     Entry {
         name: "trace",
         about: "Writes the run of an entry point's function",
         notes: manual::TRACE,
-        arguments: &[GRAMMAR, MODULE, FUNCTION, CHOICES, LIMIT],
+        arguments: &[GRAMMAR, MODULE, FUNCTION, CHOICES, LIMIT, AS_1_6, VERBOSE],
     },
     Entry {
         name: "rules",
-        about: "Writes what each code of a verdict says",
+        about: "Writes what each code of a verdict or an error says",
         notes: manual::RULES,
-        arguments: &[CODE],
+        arguments: &[CODE, VERBOSE],
+    },
+    Entry {
+        name: "grammar",
+        about: "Writes the built-in grammar, or that of a file, as a grammar file of the least size",
+        notes: manual::GRAMMAR,
+        arguments: &[GRAMMAR_TEXT, VERBOSE],
     },
 ];
 
@@ -177,6 +244,10 @@ fn argument_of<'a>(alloc: Global, row: &Argument) -> Arg<'a>
         Form::Words => named.value_name(row.value).num_args(1..),
         Form::Option => named.long(row.name).value_name(row.value),
         Form::Flag => named.long(row.name).action(ArgAction::SetTrue),
+        Form::Lettered(letter) => named
+            .long(row.name)
+            .short(letter)
+            .action(ArgAction::SetTrue),
     }
 }
 
@@ -236,4 +307,15 @@ pub fn all_words<'a>(alloc: Global) -> Result<clap::Command<'a>, AllocError>
     ensures { IfOk result (λ c. app_of c ≡ program) }
 {
     program_of(alloc, &COMMANDS)
+}
+
+/// The name of the command that the words begin with, if they begin with one.
+pub fn command_named(words: &[&str]) -> Option<&'static str> {
+    let word = words.first()?;
+    for row in &COMMANDS {
+        if row.name == *word {
+            return Some(row.name);
+        }
+    }
+    None
 }

@@ -10,11 +10,11 @@ use Rattle.spv_table.specs.Table.{Table}
 use Rattle.std.specs.Prelude.{Result, Ok, Err, IfErr, IsErrOf, OnOk, flat_map, is_ok}
 use Rattle.spv_words.specs.declared.words.WordError.{WordError}
 use Rattle.spv_words.specs.declared.words.WordError.TheVariants.{W1}
-use Rattle.spv_grammar.specs.Answer.{text_breaks}
+use Rattle.spv_builtin.specs.Source.{IsTableOf, breaks}
 use Rattle.spv_grammar.specs.declared.error.GrammarError.{GrammarError}
 use Rattle.spv_grammar.specs.declared.error.GrammarError.TheVariants.{J1, J2, J3, J4, J5, J6, J7, J8}
-use Rattle.spv_commands.specs.Trouble.{BeginsWith, IsTableOf, Writes, file_line, grammar_text, memory_line}
-use Rattle.spv_command_line.specs.declared.command_line.Task.{Task}
+use Rattle.spv_commands.specs.Trouble.{BeginsWith, Writes, file_line, grammar_text, memory_line}
+use Rattle.spv_commands.specs.declared.judging.Judging.{Judging}
 use Rattle.spv_commands.specs.Each.{AreParts, Ends, IsPart, Known}
 use Rattle.spv_commands.specs.Each.{more, none}
 use Rattle.spv_commands.specs.Name.{label, shown_byte}
@@ -122,18 +122,18 @@ byte_on name at sound between heard here middle there failed fails failing h v w
     (on_and_on sound between heard (flat_map shown_byte (take at name)) (shown_byte (get_or name at 0)) here middle there failed fails failing v w)
 
 -- What was written of the first files, whether all writes to the standard error have succeeded, and the status so far.
-pub record Going (G : Table) (task : Task) (known : ℕ → Known) (names : List (List ℕ)) (status : ℕ) (told : Bool)
+pub record Going (G : Table) (how : Judging) (known : ℕ → Known) (names : List (List ℕ)) (status : ℕ) (told : Bool)
     (old_out out : Option (List ℕ)) (before_out after_out : ℕ) (old_err err : Option (List ℕ)) (before_err after_err : ℕ) : Type 0 where
   pub text : List ℕ
   pub lines : List ℕ
-  pub parts : AreParts G task known names text lines status
+  pub parts : AreParts G how known names text lines status
   pub out_got : HasGot true text old_out out before_out after_out
   pub err_got : HasGot told lines old_err err before_err after_err
   pub small : status ≤ 2
 
-pub begins : (G : Table) (task : Task) (known : ℕ → Known) (out err : Option (List ℕ)) (before_out before_err : ℕ)
-    → Going G task known [] 0 true out out before_out before_out err err before_err before_err
-begins G task known out err before_out before_err = record {
+pub begins : (G : Table) (how : Judging) (known : ℕ → Known) (out err : Option (List ℕ)) (before_out before_err : ℕ)
+    → Going G how known [] 0 true out out before_out before_out err err before_err before_err
+begins G how known out err before_out before_err = record {
   text = [];
   lines = [];
   parts = none;
@@ -147,24 +147,24 @@ pub number_is : (names : List (Bor (List ℕ))) (at : ℕ) → at ≤ length nam
 number_is names at h = length-map (take at names) (λ (n : Bor (List ℕ)). n.now) ∙ length-take-le at names h
 
 -- a file was judged, and what is written of it was
-pub judged_on : (G : Table) (task : Task) (known : ℕ → Known) (all : List (Bor (List ℕ))) (at : ℕ) (word : List ℕ) (any : Bor (List ℕ)) (status own next : ℕ) (told : Bool) (part : List ℕ)
+pub judged_on : (G : Table) (how : Judging) (known : ℕ → Known) (all : List (Bor (List ℕ))) (at : ℕ) (word : List ℕ) (any : Bor (List ℕ)) (status own next : ℕ) (told : Bool) (part : List ℕ)
     (old_out out new_out : Option (List ℕ)) (before_out between_out after_out : ℕ) (old_err err : Option (List ℕ)) (before_err after_err : ℕ)
     → at < length all → word ≡ (get_or all at any).now
-    → Going G task known (map (λ n. n.now) (take at all)) status told old_out out before_out between_out old_err err before_err after_err
-    → IsPart G task word (known at) part [] own → own ≤ 1 → next ≡ max status own
+    → Going G how known (map (λ n. n.now) (take at all)) status told old_out out before_out between_out old_err err before_err after_err
+    → IsPart G how word (known at) part [] own → own ≤ 1 → next ≡ max status own
     → WritesOn true part true out new_out between_out after_out
-    → Going G task known (map (λ n. n.now) (take (at + 1) all)) next told old_out new_out before_out after_out old_err err before_err after_err
-judged_on G task known all at word any status own next told part old_out out new_out before_out between_out after_out old_err err before_err after_err h n g p small e w =
+    → Going G how known (map (λ n. n.now) (take (at + 1) all)) next told old_out new_out before_out after_out old_err err before_err after_err
+judged_on G how known all at word any status own next told part old_out out new_out before_out between_out after_out old_err err before_err after_err h n g p small e w =
     let first = map (λ (m : Bor (List ℕ)). m.now) (take at all) in
     let grown : map (λ (m : Bor (List ℕ)). m.now) (take (at + 1) all) ≡ first ++ word ∷ [] =
     map_more (λ (m : Bor (List ℕ)). m.now) all at any h ∙ ap (λ (m : List ℕ). first ++ m ∷ []) (sym n) in
-    let own_part : IsPart G task word (known (length first)) part [] own =
-    subst (λ (k : ℕ). IsPart G task word (known k) part [] own) (sym (number_is all at (omega (arith, h)))) p in
+    let own_part : IsPart G how word (known (length first)) part [] own =
+    subst (λ (k : ℕ). IsPart G how word (known k) part [] own) (sym (number_is all at (omega (arith, h)))) p in
     let bound = g.small in
     record {
       text = g.text ++ part;
       lines = g.lines;
-      parts = subst (λ (ls : List (List ℕ)). AreParts G task known ls (g.text ++ part) g.lines next) (sym grown)
+      parts = subst (λ (ls : List (List ℕ)). AreParts G how known ls (g.text ++ part) g.lines next) (sym grown)
           (rw (e, ← (append-nil g.lines)) (more word part [] own g.parts own_part));
       out_got = w g.text old_out before_out g.out_got;
       err_got = g.err_got;
@@ -172,52 +172,52 @@ judged_on G task known all at word any status own next told part old_out out new
     }
 
 -- it was judged, and a write of that failed
-pub cut_on : (text : List ℕ) (G : Table) (task : Task) (known : ℕ → Known) (all : List (Bor (List ℕ))) (at : ℕ) (word : List ℕ) (any : Bor (List ℕ)) (status own : ℕ) (told heard : Bool) (part : List ℕ)
+pub cut_on : (text : Option (List ℕ)) (G : Table) (how : Judging) (known : ℕ → Known) (all : List (Bor (List ℕ))) (at : ℕ) (word : List ℕ) (any : Bor (List ℕ)) (status own : ℕ) (told heard : Bool) (part : List ℕ)
     (old_out out new_out : Option (List ℕ)) (before_out between_out after_out : ℕ) (old_err err new_err : Option (List ℕ)) (before_err between_err after_err : ℕ)
     → IsTableOf text G → at < length all → word ≡ (get_or all at any).now
-    → Going G task known (map (λ n. n.now) (take at all)) status told old_out out before_out between_out old_err err before_err between_err
-    → IsPart G task word (known at) part [] own
+    → Going G how known (map (λ n. n.now) (take at all)) status told old_out out before_out between_out old_err err before_err between_err
+    → IsPart G how word (known at) part [] own
     → WritesOn true part false out new_out between_out after_out → WritesOn told file_line heard err new_err between_err after_err
-    → Ends text task known (map (λ n. n.now) all) (λ o. Writes o old_out new_out before_out after_out) (λ e. Writes e old_err new_err before_err after_err)
+    → Ends text how known (map (λ n. n.now) all) (λ o. Writes o old_out new_out before_out after_out) (λ e. Writes e old_err new_err before_err after_err)
     (after_out ≡ before_out) 2
-cut_on text G task known all at word any status own told heard part old_out out new_out before_out between_out after_out old_err err new_err before_err between_err after_err given h n g p w v =
+cut_on text G how known all at word any status own told heard part old_out out new_out before_out between_out after_out old_err err new_err before_err between_err after_err given h n g p w v =
     let first = map (λ (m : Bor (List ℕ)). m.now) (take at all) in
     let grown : map (λ (m : Bor (List ℕ)). m.now) (take (at + 1) all) ≡ first ++ word ∷ [] =
     map_more (λ (m : Bor (List ℕ)). m.now) all at any h ∙ ap (λ (m : List ℕ). first ++ m ∷ []) (sym n) in
-    let own_part : IsPart G task word (known (length first)) part [] own =
-    subst (λ (k : ℕ). IsPart G task word (known k) part [] own) (sym (number_is all at (omega (arith, h)))) p in
+    let own_part : IsPart G how word (known (length first)) part [] own =
+    subst (λ (k : ℕ). IsPart G how word (known k) part [] own) (sym (number_is all at (omega (arith, h)))) p in
     let got = w g.text old_out before_out g.out_got in
     Ends.cut G (at + 1) (g.text ++ part) g.lines (max status own) given
-    (subst (λ (ls : List (List ℕ)). AreParts G task known ls (g.text ++ part) g.lines (max status own)) (sym (take-map (λ (m : Bor (List ℕ)). m.now) (at + 1) all ∙ grown))
+    (subst (λ (ls : List (List ℕ)). AreParts G how known ls (g.text ++ part) g.lines (max status own)) (sym (take-map (λ (m : Bor (List ℕ)). m.now) (at + 1) all ∙ grown))
     (rw (← (append-nil g.lines)) (more word part [] own g.parts own_part)))
     got.writes (λ q. never (got.steady.1 q)) (v g.lines old_err before_err g.err_got).writes refl
 
 -- what is told of a file that was not judged is its part
-part_unread : (G : Table) (task : Task) (name : List ℕ) (known : Known) (why : Unread) → (why ≡ Failed → IfSome known (λ file. file ≡ None))
-    → IsPart G task name known [] (label name ++ unread_line why) 2
-part_unread G task name known Failed h = IsPart.unread (h refl) refl refl refl
-part_unread G task name known Memory h = IsPart.starved refl refl refl
+part_unread : (G : Table) (how : Judging) (name : List ℕ) (known : Known) (why : Unread) → (why ≡ Failed → IfSome known (λ file. file ≡ None))
+    → IsPart G how name known [] (label name ++ unread_line why) 2
+part_unread G how name known Failed h = IsPart.unread (h refl) refl refl refl
+part_unread G how name known Memory h = IsPart.starved refl refl refl
 
 -- a file was not judged, and that was told
-pub told_on : (G : Table) (task : Task) (known : ℕ → Known) (all : List (Bor (List ℕ))) (at : ℕ) (word : List ℕ) (any : Bor (List ℕ)) (status next : ℕ) (told heard : Bool) (why : Unread)
+pub told_on : (G : Table) (how : Judging) (known : ℕ → Known) (all : List (Bor (List ℕ))) (at : ℕ) (word : List ℕ) (any : Bor (List ℕ)) (status next : ℕ) (told heard : Bool) (why : Unread)
     (old_out out : Option (List ℕ)) (before_out after_out : ℕ) (old_err err new_err : Option (List ℕ)) (before_err between_err after_err : ℕ)
     → at < length all → word ≡ (get_or all at any).now
-    → Going G task known (map (λ n. n.now) (take at all)) status told old_out out before_out after_out old_err err before_err between_err
+    → Going G how known (map (λ n. n.now) (take at all)) status told old_out out before_out after_out old_err err before_err between_err
     → (why ≡ Failed → IfSome (known at) (λ file. file ≡ None)) → next ≡ max status 2
     → WritesOn told (label word ++ unread_line why) heard err new_err between_err after_err
-    → Going G task known (map (λ n. n.now) (take (at + 1) all)) next heard old_out out before_out after_out old_err new_err before_err after_err
-told_on G task known all at word any status next told heard why old_out out before_out after_out old_err err new_err before_err between_err after_err h n g u e v =
+    → Going G how known (map (λ n. n.now) (take (at + 1) all)) next heard old_out out before_out after_out old_err new_err before_err after_err
+told_on G how known all at word any status next told heard why old_out out before_out after_out old_err err new_err before_err between_err after_err h n g u e v =
     let first = map (λ (m : Bor (List ℕ)). m.now) (take at all) in
     let grown : map (λ (m : Bor (List ℕ)). m.now) (take (at + 1) all) ≡ first ++ word ∷ [] =
     map_more (λ (m : Bor (List ℕ)). m.now) all at any h ∙ ap (λ (m : List ℕ). first ++ m ∷ []) (sym n) in
     let line = label word ++ unread_line why in
-    let own_part : IsPart G task word (known (length first)) [] line 2 =
-    subst (λ (k : ℕ). IsPart G task word (known k) [] line 2) (sym (number_is all at (omega (arith, h)))) (part_unread G task word (known at) why u) in
+    let own_part : IsPart G how word (known (length first)) [] line 2 =
+    subst (λ (k : ℕ). IsPart G how word (known k) [] line 2) (sym (number_is all at (omega (arith, h)))) (part_unread G how word (known at) why u) in
     let bound = g.small in
     record {
       text = g.text;
       lines = g.lines ++ line;
-      parts = subst (λ (ls : List (List ℕ)). AreParts G task known ls g.text (g.lines ++ line) next) (sym grown)
+      parts = subst (λ (ls : List (List ℕ)). AreParts G how known ls g.text (g.lines ++ line) next) (sym grown)
           (rw (e, ← (append-nil g.text)) (more word [] line 2 g.parts own_part));
       out_got = g.out_got;
       err_got = v g.lines old_err before_err g.err_got;
@@ -225,15 +225,15 @@ told_on G task known all at word any status next told heard why old_out out befo
     }
 
 -- all files had their turn
-pub ends_on : (text : List ℕ) (G : Table) (task : Task) (known : ℕ → Known) (all : List (Bor (List ℕ))) (at : ℕ) (status : ℕ) (told : Bool)
+pub ends_on : (text : Option (List ℕ)) (G : Table) (how : Judging) (known : ℕ → Known) (all : List (Bor (List ℕ))) (at : ℕ) (status : ℕ) (told : Bool)
     (old_out out : Option (List ℕ)) (before_out after_out : ℕ) (old_err err : Option (List ℕ)) (before_err after_err : ℕ)
     → IsTableOf text G → length all ≤ at
-    → Going G task known (map (λ n. n.now) (take at all)) status told old_out out before_out after_out old_err err before_err after_err
-    → Ends text task known (map (λ n. n.now) all) (λ o. Writes o old_out out before_out after_out) (λ e. Writes e old_err err before_err after_err)
+    → Going G how known (map (λ n. n.now) (take at all)) status told old_out out before_out after_out old_err err before_err after_err
+    → Ends text how known (map (λ n. n.now) all) (λ o. Writes o old_out out before_out after_out) (λ e. Writes e old_err err before_err after_err)
     (after_out ≡ before_out) status
-ends_on text G task known all at status told old_out out before_out after_out old_err err before_err after_err given h g =
+ends_on text G how known all at status told old_out out before_out after_out old_err err before_err after_err given h g =
     Ends.done G g.text g.lines given
-    (subst (λ (ls : List (Bor (List ℕ))). AreParts G task known (map (λ n. n.now) ls) g.text g.lines status) (take_all at all h) g.parts)
+    (subst (λ (ls : List (Bor (List ℕ))). AreParts G how known (map (λ n. n.now) ls) g.text g.lines status) (take_all at all h) g.parts)
     g.out_got.writes (g.out_got.steady.0 refl) g.err_got.writes
 
 begun_as : (old new : Option (List ℕ)) (text : List ℕ) → IfSome old (λ xs. (n : ℕ) × (n ≤ length text) × (new ≡ Some (xs ++ take n text)))
@@ -252,23 +252,23 @@ written (Err e) text old new before after all begun only count steady =
     (record { whole = λ q. absurd (differ q); begun = begun_as old new text begun }, (λ y. absurd (never y), λ q. absurd (differ q)))
 
 -- a refused grammar file, or want of memory for it
-pub refused_on : (text : List ℕ) (task : Task) (known : ℕ → Known) (names : List (List ℕ)) (Out Told : List ℕ → Type 0) (whole : Type 0) (e : GrammarError)
-    → (e ≢ J8 → text_breaks text e) → Out [] → whole → Told (grammar_text e) → Ends text task known names Out Told whole 2
-refused_on text task known names Out Told whole J8 h o w x = Ends.starved o w x refl
-refused_on text task known names Out Told whole J1 h o w x = Ends.refused J1 (h (λ q. cc)) o w x refl
-refused_on text task known names Out Told whole J2 h o w x = Ends.refused J2 (h (λ q. cc)) o w x refl
-refused_on text task known names Out Told whole J3 h o w x = Ends.refused J3 (h (λ q. cc)) o w x refl
-refused_on text task known names Out Told whole J4 h o w x = Ends.refused J4 (h (λ q. cc)) o w x refl
-refused_on text task known names Out Told whole J5 h o w x = Ends.refused J5 (h (λ q. cc)) o w x refl
-refused_on text task known names Out Told whole J6 h o w x = Ends.refused J6 (h (λ q. cc)) o w x refl
-refused_on text task known names Out Told whole J7 h o w x = Ends.refused J7 (h (λ q. cc)) o w x refl
+pub refused_on : (text : Option (List ℕ)) (how : Judging) (known : ℕ → Known) (names : List (List ℕ)) (Out Told : List ℕ → Type 0) (whole : Type 0) (e : GrammarError)
+    → (e ≢ J8 → breaks text e) → Out [] → whole → Told (grammar_text e) → Ends text how known names Out Told whole 2
+refused_on text how known names Out Told whole J8 h o w x = Ends.starved o w x refl
+refused_on text how known names Out Told whole J1 h o w x = Ends.refused J1 (h (λ q. cc)) o w x refl
+refused_on text how known names Out Told whole J2 h o w x = Ends.refused J2 (h (λ q. cc)) o w x refl
+refused_on text how known names Out Told whole J3 h o w x = Ends.refused J3 (h (λ q. cc)) o w x refl
+refused_on text how known names Out Told whole J4 h o w x = Ends.refused J4 (h (λ q. cc)) o w x refl
+refused_on text how known names Out Told whole J5 h o w x = Ends.refused J5 (h (λ q. cc)) o w x refl
+refused_on text how known names Out Told whole J6 h o w x = Ends.refused J6 (h (λ q. cc)) o w x refl
+refused_on text how known names Out Told whole J7 h o w x = Ends.refused J7 (h (λ q. cc)) o w x refl
 
 -- ---- the worked examples
 
-pub not_judged : (G : Table) (task : Task) (name line : List ℕ) (status : ℕ) → status ≡ 0 → ¬ (IsPart G task name (Some None) line [] status)
-not_judged G task name line status z (IsPart.judged bytes valid k d e s) = cc
-not_judged G task name line status z (IsPart.unread k o e s) = let q : 0 ≡ 2 = sym z ∙ s in cc
-not_judged G task name line status z (IsPart.starved o e s) = let q : 0 ≡ 2 = sym z ∙ s in cc
+pub not_judged : (G : Table) (how : Judging) (name line : List ℕ) (status : ℕ) → status ≡ 0 → ¬ (IsPart G how name (Some None) line [] status)
+not_judged G how name line status z (IsPart.judged bytes valid k d e s) = cc
+not_judged G how name line status z (IsPart.unread k o e s) = let q : 0 ≡ 2 = sym z ∙ s in cc
+not_judged G how name line status z (IsPart.starved o e s) = let q : 0 ≡ 2 = sym z ∙ s in cc
 
 abbrev first_byte : List ℕ → ℕ
 first_byte xs = get_or xs 0 0
@@ -276,23 +276,23 @@ first_byte xs = get_or xs 0 0
 apart : (a b : ℕ) → a < b → ¬ (a ≡ b)
 apart a b h e = omega (arith, h, e)
 
-pub always_named : (G : Table) (task : Task) (known : Known) (out err : List ℕ) (status : ℕ) → err ≡ memory_line → ¬ (IsPart G task (codes "a") known out err status)
-always_named G task known out err status m (IsPart.judged bytes valid k d e s) = apart 0 101 (omega arith) (ap first_byte (sym e ∙ m))
-always_named G task known out err status m (IsPart.unread k o e s) = apart 97 101 (omega arith) (ap first_byte (sym e ∙ m))
-always_named G task known out err status m (IsPart.starved o e s) = apart 97 101 (omega arith) (ap first_byte (sym e ∙ m))
+pub always_named : (G : Table) (how : Judging) (known : Known) (out err : List ℕ) (status : ℕ) → err ≡ memory_line → ¬ (IsPart G how (codes "a") known out err status)
+always_named G how known out err status m (IsPart.judged bytes valid k d e s) = apart 0 101 (omega arith) (ap first_byte (sym e ∙ m))
+always_named G how known out err status m (IsPart.unread k o e s) = apart 97 101 (omega arith) (ap first_byte (sym e ∙ m))
+always_named G how known out err status m (IsPart.starved o e s) = apart 97 101 (omega arith) (ap first_byte (sym e ∙ m))
 
-pub no_files : (G : Table) (task : Task) (known : ℕ → Known) (names : List (List ℕ)) (out err : List ℕ) (status : ℕ) → names ≡ [] → status ≡ 2
-    → ¬ (AreParts G task known names out err status)
-no_files G task known _ _ _ _ n s none = let q : 0 ≡ 2 = s in cc
-no_files G task known _ _ _ _ n s (more {names} name part line own parts own_part) =
+pub no_files : (G : Table) (how : Judging) (known : ℕ → Known) (names : List (List ℕ)) (out err : List ℕ) (status : ℕ) → names ≡ [] → status ≡ 2
+    → ¬ (AreParts G how known names out err status)
+no_files G how known _ _ _ _ n s none = let q : 0 ≡ 2 = s in cc
+no_files G how known _ _ _ _ n s (more {names} name part line own parts own_part) =
     let long : length names + 1 ≡ 0 = sym (length-append names (name ∷ [])) ∙ ap length n in
     omega (arith, long)
 
-pub never_told : (text : List ℕ) (task : Task) (known : ℕ → Known) (names : List (List ℕ)) (status : ℕ) → ¬ (Ends text task known names (λ o. ⊥) (λ e. ⊥) (Unit {0}) status)
-never_told text task known names status (Ends.refused e b o w x s) = o
-never_told text task known names status (Ends.starved o w x s) = o
-never_told text task known names status (Ends.done G out err given parts o w x) = o
-never_told text task known names status (Ends.cut G count out err so_far given parts o w x s) = o
+pub never_told : (text : Option (List ℕ)) (how : Judging) (known : ℕ → Known) (names : List (List ℕ)) (status : ℕ) → ¬ (Ends text how known names (λ o. ⊥) (λ e. ⊥) (Unit {0}) status)
+never_told text how known names status (Ends.refused e b o w x s) = o
+never_told text how known names status (Ends.starved o w x s) = o
+never_told text how known names status (Ends.done G out err given parts o w x) = o
+never_told text how known names status (Ends.cut G count out err so_far given parts o w x s) = o
 
 -- ---- the status of a module
 

@@ -1,11 +1,11 @@
 -- What a command does with three bytes.
-use Rattle.std.proofs.Common.{ℕ, List, [], ◌∷◌, ◌++◌, Some, None, Bool, true, false, ◌≡◌, codes, refl, lit≤}
+use Rattle.std.proofs.Common.{ℕ, List, [], ◌∷◌, ◌++◌, Some, None, Bool, true, false, ◌≡◌, codes, refl, sym, subst, arith, lit≤}
 use Rattle.spv_words.specs.Header.{IsFirstBroken, IsModule}
 use Rattle.spv_words.specs.declared.words.Order.{Order}
 use Rattle.spv_words.specs.declared.words.WordError.TheVariants.{W2}
 use Rattle.spv_table.specs.Table.{Table}
 use Rattle.spv_command_line.specs.declared.command_line.Command.{Command}
-use Rattle.spv_command_line.specs.declared.command_line.Command.TheVariants.{Judge, Show, Asm, Trace, Rules}
+use Rattle.spv_command_line.specs.declared.command_line.Command.TheVariants.{Judge, Show, Asm, Trace, Rules, Grammar}
 use Rattle.spv_command_line.specs.declared.command_line.Task.TheVariants as tasks
 use Rattle.spv_commands.specs.Example.{empty_grammar}
 use Rattle.spv_commands.specs.Show.{BeginsShowing, IsShowing, Shows}
@@ -13,9 +13,10 @@ use Rattle.spv_explain.specs.Stream.{BeginsExplaining, Explains}
 use Rattle.spv_verdict.specs.Stream.{Begins, TellsVerdict}
 use Rattle.spv_verdict.specs.Verdict.{IsVerdict}
 use Rattle.spv_verdict.proofs.Verdicts.{refused_is_not_valid}
-use Rattle.spv_commands.specs.Task.{BeginsByText, DoesByText, MakesNothing, ReadsGrammar}
+use Rattle.spv_commands.specs.Task.{BeginsByText, BeginsGrammar, DoesByText, MakesNothing, ReadsNoFile, WritesGrammar, taken}
 use Rattle.spv_commands.specs.Trace.{BeginsTracing, Traces}
-use Rattle.spv_commands.specs.Trouble.{IsTableOf}
+use Rattle.spv_builtin.specs.Source.{IsTableOf}
+use Rattle.spv_builtin.specs.Text.{IsGrammarText}
 use Rattle.spv_verdict.specs.Verdict.{line_end, refused_line}
 
 pub short_shown : (G : Table) → IsFirstBroken W2 (1 ∷ 2 ∷ 3 ∷ []) → Shows G (1 ∷ 2 ∷ 3 ∷ []) (9 ∷ []) (Some (9 ∷ codes "fault W2" ++ line_end)) false
@@ -55,25 +56,62 @@ no_text G bytes _ _ e never (IsShowing.refused code h) = cc
 no_text G bytes _ _ e never (IsShowing.dead words order broken inst at h d) = cc
 no_text G bytes _ _ e never (IsShowing.shown words order header is text h k l t) = never order words h
 
-pub does_short : (c : Command) (G : Table) → ReadsGrammar c → MakesNothing c → IsTableOf empty_grammar G → TellsVerdict G (1 ∷ 2 ∷ 3 ∷ []) (9 ∷ []) (Some (9 ∷ codes "fault W2" ++ line_end)) false
+-- three bytes are taken as they are
+short_taken : (as_1_6 : Bool) → taken as_1_6 (1 ∷ 2 ∷ 3 ∷ []) ≡ 1 ∷ 2 ∷ 3 ∷ []
+short_taken true = refl
+short_taken false = refl
+
+-- what a command does with three bytes, whichever they are taken as
+module _ (P : List ℕ → Type 0) where
+  as_taken : (as_1_6 : Bool) → P (1 ∷ 2 ∷ 3 ∷ []) → P (taken as_1_6 (1 ∷ 2 ∷ 3 ∷ []))
+  as_taken as_1_6 h = subst P (sym (short_taken as_1_6)) h
+
+pub does_short : (c : Command) (G : Table) → ¬ (ReadsNoFile c) → MakesNothing c → IsTableOf (Some empty_grammar) G → TellsVerdict G (1 ∷ 2 ∷ 3 ∷ []) (9 ∷ []) (Some (9 ∷ codes "fault W2" ++ line_end)) false
     → Explains G (1 ∷ 2 ∷ 3 ∷ []) (9 ∷ []) (Some (9 ∷ codes "fault W2" ++ line_end)) false
     → Shows G (1 ∷ 2 ∷ 3 ∷ []) (9 ∷ []) (Some (9 ∷ codes "fault W2" ++ line_end)) false
     → ((function : ℕ) (choices : List ℕ) (limit : ℕ) → Traces G function choices limit (1 ∷ 2 ∷ 3 ∷ []) (9 ∷ []) (Some (9 ∷ codes "fault W2" ++ line_end)) false)
-    → DoesByText c empty_grammar (1 ∷ 2 ∷ 3 ∷ []) (Some (9 ∷ [])) (Some (9 ∷ codes "fault W2" ++ line_end)) None None false
-does_short (Judge tasks.Check g fs) G r n given tells explains shows traces = record { table = G; given = given; does = tells }
-does_short (Judge tasks.Explain g fs) G r n given tells explains shows traces = record { table = G; given = given; does = explains }
-does_short (Show g f) G r n given tells explains shows traces = record { table = G; given = given; does = shows }
+    → DoesByText c (Some empty_grammar) (1 ∷ 2 ∷ 3 ∷ []) (Some (9 ∷ [])) (Some (9 ∷ codes "fault W2" ++ line_end)) None None false
+does_short (Judge tasks.Check g fs v p q) G r n given tells explains shows traces =
+    record { table = G; given = given; does = as_taken (λ bytes. TellsVerdict G bytes (9 ∷ []) (Some (9 ∷ codes "fault W2" ++ line_end)) false) v tells }
+does_short (Judge tasks.Explain g fs v p q) G r n given tells explains shows traces =
+    record { table = G; given = given; does = as_taken (λ bytes. Explains G bytes (9 ∷ []) (Some (9 ∷ codes "fault W2" ++ line_end)) false) v explains }
+does_short (Show g f v) G r n given tells explains shows traces =
+    record { table = G; given = given; does = as_taken (λ bytes. Shows G bytes (9 ∷ []) (Some (9 ∷ codes "fault W2" ++ line_end)) false) v shows }
 does_short (Asm g f o b) G r n given tells explains shows traces = absurd n
-does_short (Trace g f function choices limit) G r n given tells explains shows traces = record { table = G; given = given; does = traces function choices.items limit }
-does_short (Rules code) G r n given tells explains shows traces = absurd r
+does_short (Trace g f function choices limit v) G r n given tells explains shows traces = record {
+  table = G;
+  given = given;
+  does = as_taken (λ bytes. Traces G function choices.items limit bytes (9 ∷ []) (Some (9 ∷ codes "fault W2" ++ line_end)) false) v
+      (traces function choices.items limit);
+}
+does_short (Rules code) G r n given tells explains shows traces = absurd (r tt)
+does_short (Grammar file) G r n given tells explains shows traces = absurd (r tt)
 
-pub begins_short : (c : Command) (G : Table) → ReadsGrammar c → MakesNothing c → IsTableOf empty_grammar G → Begins G (1 ∷ 2 ∷ 3 ∷ []) (9 ∷ []) (Some (9 ∷ codes "fault"))
+pub begins_short : (c : Command) (G : Table) → ¬ (ReadsNoFile c) → MakesNothing c → IsTableOf (Some empty_grammar) G → Begins G (1 ∷ 2 ∷ 3 ∷ []) (9 ∷ []) (Some (9 ∷ codes "fault"))
     → BeginsExplaining G (1 ∷ 2 ∷ 3 ∷ []) (9 ∷ []) (Some (9 ∷ codes "fault"))
     → BeginsShowing G (1 ∷ 2 ∷ 3 ∷ []) (9 ∷ []) (Some (9 ∷ codes "fault"))
-    → ((function : ℕ) (choices : List ℕ) (limit : ℕ) → BeginsTracing G function choices limit (1 ∷ 2 ∷ 3 ∷ []) (9 ∷ []) (Some (9 ∷ codes "fault"))) → BeginsByText c empty_grammar (1 ∷ 2 ∷ 3 ∷ []) (Some (9 ∷ [])) (Some (9 ∷ codes "fault")) None None
-begins_short (Judge tasks.Check g fs) G r n given begins explained shown traced = record { table = G; given = given; begins = begins }
-begins_short (Judge tasks.Explain g fs) G r n given begins explained shown traced = record { table = G; given = given; begins = explained }
-begins_short (Show g f) G r n given begins explained shown traced = record { table = G; given = given; begins = shown }
+    → ((function : ℕ) (choices : List ℕ) (limit : ℕ) → BeginsTracing G function choices limit (1 ∷ 2 ∷ 3 ∷ []) (9 ∷ []) (Some (9 ∷ codes "fault")))
+    → BeginsByText c (Some empty_grammar) (1 ∷ 2 ∷ 3 ∷ []) (Some (9 ∷ [])) (Some (9 ∷ codes "fault")) None None
+begins_short (Judge tasks.Check g fs v p q) G r n given begins explained shown traced =
+    record { table = G; given = given; begins = as_taken (λ bytes. Begins G bytes (9 ∷ []) (Some (9 ∷ codes "fault"))) v begins }
+begins_short (Judge tasks.Explain g fs v p q) G r n given begins explained shown traced =
+    record { table = G; given = given; begins = as_taken (λ bytes. BeginsExplaining G bytes (9 ∷ []) (Some (9 ∷ codes "fault"))) v explained }
+begins_short (Show g f v) G r n given begins explained shown traced =
+    record { table = G; given = given; begins = as_taken (λ bytes. BeginsShowing G bytes (9 ∷ []) (Some (9 ∷ codes "fault"))) v shown }
 begins_short (Asm g f o b) G r n given begins explained shown traced = absurd n
-begins_short (Trace g f function choices limit) G r n given begins explained shown traced = record { table = G; given = given; begins = traced function choices.items limit }
-begins_short (Rules code) G r n given begins explained shown traced = absurd r
+begins_short (Trace g f function choices limit v) G r n given begins explained shown traced = record {
+  table = G;
+  given = given;
+  begins = as_taken (λ bytes. BeginsTracing G function choices.items limit bytes (9 ∷ []) (Some (9 ∷ codes "fault"))) v
+      (traced function choices.items limit);
+}
+begins_short (Rules code) G r n given begins explained shown traced = absurd (r tt)
+begins_short (Grammar file) G r n given begins explained shown traced = absurd (r tt)
+
+-- ---- a grammar file
+
+pub grammar_written : (G : Table) (text : List ℕ) → IsGrammarText G text → WritesGrammar G (Some (9 ∷ [])) (Some (9 ∷ text))
+grammar_written G text t = record { text = text; is_text = t; written = refl }
+
+pub grammar_begun : (G : Table) (text : List ℕ) → IsGrammarText G text → BeginsGrammar G (Some (9 ∷ [])) (Some (9 ∷ []))
+grammar_begun G text t = record { text = text; is_text = t; begun = record { count = 0; fits = omega arith; written = refl } }

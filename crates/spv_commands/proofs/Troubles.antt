@@ -1,20 +1,21 @@
 -- Why a check ends as it does, by the text of its grammar file.
-use Rattle.std.proofs.Common.{◌≡◌, ◌≢◌, ◌⊎◌, ℕ, List, Bool, Option, Some, None, Result, Ok, Err, IfSome, IfOk, IfErr, IsErrOf, inl, inr, ap, true}
-use Rattle.spv_grammar.specs.Answer.{text_breaks}
+use Rattle.std.proofs.Common.{◌≡◌, ◌≢◌, ◌⊎◌, ℕ, List, Bool, Option, Some, None, Result, Ok, Err, IfSome, IfOk, IfErr, IsErrOf, inl, inr, ap, true, option_map}
+use Rattle.spv_builtin.specs.Source.{IsTableOf, breaks}
 use Rattle.spv_grammar.specs.declared.error.GrammarError.{GrammarError}
 use Rattle.spv_grammar.specs.declared.error.GrammarError.TheVariants.{J1, J2, J3, J4, J5, J6, J7, J8}
 use Rattle.spv_table.specs.Table.{Table}
-use Rattle.spv_commands.specs.Streams.{IsAnswered, IsDone, Reading, Writing}
-use Rattle.spv_commands.specs.Task.{Does, DoesByText, LacksEntry, LacksEntryByText, BeginsText, WritesText}
+use Rattle.spv_commands.specs.Streams.{AnyFailed, IsAnswered, IsDone, Reading, Writing}
+use Rattle.spv_commands.specs.Task.{BeginsToDo, Does, DoesByText, IsNoText, LacksEntry, LacksEntryByText, taken_by}
 use Rattle.spv_command_line.specs.declared.command_line.Command.{Command}
-use Rattle.spv_commands.specs.Trouble.{IsErrorLine, IsTableOf, refused, file, entry, memory, grammar_text, trouble_text}
-use Rattle.spv_commands.specs.inner.Ending.{EndsByTable, EndsByText, EndsWithText}
+use Rattle.spv_command_line.specs.declared.command_line.Command.TheVariants.{Judge, Show, Asm, Trace, Rules, Grammar as GrammarOf}
+use Rattle.spv_commands.specs.Trouble.{IsErrorLine, refused, file, entry, memory, grammar_text, trouble_text}
+use Rattle.spv_commands.specs.inner.Ending.{EndsByTable, EndsByText, EndsUnread, reading_by}
 use Rattle.spv_commands.specs.declared.program.Trouble.{Trouble}
 use Rattle.spv_commands.specs.declared.program.Trouble.TheVariants.{File, Grammar, Memory, NoEntry}
 
 -- a trouble of a command has its reason
-line_of : (command : Command) (text : List ℕ) (G : Table) (known : Option (List ℕ)) (failed : Type 0) (r : Result Bool Trouble) → IsTableOf text G
-    → IfErr r (λ t. (t ≡ File) ⊎ ((t ≡ NoEntry) × LacksEntry command G known) ⊎ (t ≡ Memory)) → (IsErrOf r File → failed)
+line_of : (command : Command) (text : Option (List ℕ)) (G : Table) (known : Option (List ℕ)) (failed : Type 0) (r : Result Bool Trouble) → IsTableOf text G
+    → IfErr r (λ t. (t ≡ File) ⊎ ((t ≡ NoEntry) × LacksEntry command G (option_map (taken_by command) known)) ⊎ (t ≡ Memory)) → (IsErrOf r File → failed)
     → IfErr r (λ t. IsErrorLine text failed (LacksEntryByText command text known) (trouble_text t))
 line_of command text G known failed (Ok v) h o w = tt
 line_of command text G known failed (Err t) h (inl e) w = rw e (file (w (ap Err e)))
@@ -29,21 +30,44 @@ ok_by : {X E : Type 0} (r : Result X E) (P Q : X → Type 0) → ((x : X) → P 
 ok_by (Ok x) P Q f h = f x h
 ok_by (Err e) P Q f h = tt
 
--- how a command ends by the table of its grammar file
-pub by_text : (command : Command) (text : List ℕ) (G : Table) (f : Reading) (out made : Writing) (r : Result Bool Trouble) → IsTableOf text G
-    → EndsByTable command G f out made r → EndsByText command text f out made r
+-- what holds of bytes as they are taken
+of_taken : (take : List ℕ → List ℕ) (known : Option (List ℕ)) (P : List ℕ → Type 0) → IfSome (option_map take known) P → IfSome known (λ bytes. P (take bytes))
+of_taken take None P h = tt
+of_taken take (Some bytes) P h = h
+
+-- a text is no module, and is taken as it is
+same_text : (command : Command) (known : Option (List ℕ)) → IsNoText command (option_map (taken_by command) known) → IsNoText command known
+same_text (Judge task g fs v p q) known h = absurd h
+same_text (Show g f v) known h = absurd h
+same_text (Asm g f o b) None h = tt
+same_text (Asm g f o b) (Some bytes) h = h
+same_text (Trace g f function choices limit v) known h = absurd h
+same_text (Rules code) known h = absurd h
+same_text (GrammarOf f) known h = absurd h
+
+why_of : (command : Command) (f : Reading) (out made : Writing) → AnyFailed (reading_by command f) out made ⊎ IsNoText command (option_map (taken_by command) f.left)
+    → AnyFailed f out made ⊎ IsNoText command f.left
+why_of command f out made (inl a) = inl a
+why_of command f out made (inr n) = inr (same_text command f.left n)
+
+-- how a command ends by the table of its run, of the bytes as it takes them
+pub by_text : (command : Command) (text : Option (List ℕ)) (G : Table) (f : Reading) (out made : Writing) (r : Result Bool Trouble) → IsTableOf text G
+    → EndsByTable command G (reading_by command f) out made r → EndsByText command text f out made r
 by_text command text G f out made r given e = record {
   ends = record {
-    whole = some_by f.left (λ bytes. IfOk r (Does command G bytes out.held out.holds made.held made.holds))
+    whole = some_by f.left (λ bytes. IfOk r (Does command G (taken_by command bytes) out.held out.holds made.held made.holds))
         (λ bytes. IfOk r (DoesByText command text bytes out.held out.holds made.held made.holds))
-        (λ bytes. ok_by r _ _ (λ answer d. record { table = G; given = given; does = d })) e.ends.whole;
+        (λ bytes. ok_by r _ _ (λ answer d. record { table = G; given = given; does = d }))
+        (of_taken (taken_by command) f.left (λ bytes. IfOk r (Does command G bytes out.held out.holds made.held made.holds)) e.ends.whole);
     failed = e.ends.failed;
-    why = e.ends.why;
+    why = λ q. why_of command f out made (e.ends.why q);
     unwritten = e.ends.unwritten;
     unmade = e.ends.unmade;
-    begun = λ w. some_by f.left _ _ (λ bytes b. record { table = G; given = given; begins = b }) (e.ends.begun w);
+    begun = λ w. some_by f.left (λ bytes. BeginsToDo command G (taken_by command bytes) out.held out.holds made.held made.holds) _
+        (λ bytes b. record { table = G; given = given; begins = b })
+        (of_taken (taken_by command) f.left (λ bytes. BeginsToDo command G bytes out.held out.holds made.held made.holds) (e.ends.begun w));
   };
-  reason = line_of command text G f.left _ r given e.only e.ends.why;
+  reason = line_of command text G f.left _ r given e.only (λ q. why_of command f out made (e.ends.why q));
 }
 
 -- the same, asked in another order
@@ -73,9 +97,10 @@ any_bytes None P h = tt
 any_bytes (Some x) P h = h
 
 -- what a command writes that reads no file
-pub unread : (Other : Type 0) (f : Reading) (out made : Writing) (r : Result Bool Trouble) → ¬ f.failed → ¬ made.failed → made.untouched → EndsWithText out r
-    → IsDone (λ bytes old new held kept answer. WritesText old new × (answer ≡ true)) (λ bytes old new held kept. BeginsText old new) File Other f out made r
-unread Other f out made r read whole untouched e = record {
+pub unread : (Whole Begun : Option (List ℕ) → Option (List ℕ) → Type 0) (Other : Type 0) (f : Reading) (out made : Writing) (r : Result Bool Trouble)
+    → ¬ f.failed → ¬ made.failed → made.untouched → EndsUnread Whole Begun out r
+    → IsDone (λ bytes old new held kept answer. Whole old new × (answer ≡ true)) (λ bytes old new held kept. Begun old new) File Other f out made r
+unread Whole Begun Other f out made r read whole untouched e = record {
   whole = any_bytes f.left _ e.whole;
   failed = λ t. elim t [ inl x ↦ absurd (read x) | inr y ↦ elim y [ inl x ↦ e.count.0 x | inr x ↦ absurd (whole x) ] ];
   why = λ q. inl (inr (inl (e.count.1 q)));
@@ -91,7 +116,7 @@ of_two L (Err t) (inl e) = inl e
 of_two L (Err t) (inr e) = inr (inr e)
 
 -- so have those of the grammar file
-pub grammar_reason : (text : List ℕ) (failed strange : Type 0) (e : GrammarError) → (e ≢ J8 → text_breaks text e) → IsErrorLine text failed strange (grammar_text e)
+pub grammar_reason : (text : Option (List ℕ)) (failed strange : Type 0) (e : GrammarError) → (e ≢ J8 → breaks text e) → IsErrorLine text failed strange (grammar_text e)
 grammar_reason text failed strange J8 h = memory
 grammar_reason text failed strange J1 h = refused J1 (h (λ q. cc))
 grammar_reason text failed strange J2 h = refused J2 (h (λ q. cc))
@@ -102,7 +127,7 @@ grammar_reason text failed strange J6 h = refused J6 (h (λ q. cc))
 grammar_reason text failed strange J7 h = refused J7 (h (λ q. cc))
 
 -- a refused grammar file, before anything is read or written
-pub grammar_ends : (command : Command) (text : List ℕ) (f : Reading) (out made : Writing) (e : GrammarError) → (e ≢ J8 → text_breaks text e)
+pub grammar_ends : (command : Command) (text : Option (List ℕ)) (f : Reading) (out made : Writing) (e : GrammarError) → (e ≢ J8 → breaks text e)
     → ¬ f.failed → ¬ out.failed → ¬ made.failed → out.untouched → made.untouched → EndsByText command text f out made (Err (Grammar e))
 grammar_ends command text f out made e h x y z o m = record {
   ends = record {

@@ -8,7 +8,8 @@ use Rattle.spv_grammar.specs.Answer.{Gives}
 use Rattle.spv_table.specs.Example.{empty_table}
 use Rattle.spv_grammar.specs.Example.{empty_tree}
 use Rattle.spv_commands.specs.Example.{empty_grammar}
-use Rattle.spv_commands.specs.Trouble.{IsErrorLine, IsTableOf}
+use Rattle.spv_builtin.specs.Source.{IsTableOf}
+use Rattle.spv_commands.specs.Trouble.{IsErrorLine}
 use Rattle.spv_commands.specs.Trouble.IsErrorLine.{refused as broken}
 use Rattle.spv_verdict.specs.Verdict.{line_end}
 
@@ -25,11 +26,11 @@ pub nothing_read : read_text [] ≡ None
 unfolding serde_json_on_literals
 nothing_read = refl
 
-pub empty_given : Gives empty_tree empty_table → IsTableOf empty_grammar empty_table
+pub empty_given : Gives empty_tree empty_table → IsTableOf (Some empty_grammar) empty_table
 empty_given g = record { tree = empty_tree; utf8 = empty_utf8; is_tree = empty_read; gives = g }
 
-pub nothing_given : (G : Table) → ¬ (IsTableOf [] G)
+pub nothing_given : (G : Table) → ¬ (IsTableOf (Some []) G)
 nothing_given G t = let e = t.is_tree in let n = nothing_read in cc
 
-pub nothing_breaks : (failed strange : Type 0) → IsErrorLine [] failed strange (codes "error J1" ++ line_end)
+pub nothing_breaks : (failed strange : Type 0) → IsErrorLine (Some []) failed strange (codes "error J1" ++ line_end)
 nothing_breaks failed strange = broken J1 (λ _. nothing_read)

@@ -1,10 +1,7 @@
 -- How the name of a file stands in a line. (Own.)
-use Rattle.std.specs.Prelude.{◌∷◌, ◌++◌, ◌+◌, ◌/◌, ◌%◌, ◌==◌, ◌||◌, ℕ, List, [], codes}
+use Rattle.std.specs.Prelude.{◌∷◌, ◌++◌, ◌/◌, ◌%◌, ◌==◌, ◌||◌, ℕ, List, [], codes}
 use Rattle.std.specs.Prelude.{flat_map, nat_lt, if◌then◌else◌}
-
--- a digit of a number below 16, of `0` to `9` and `a` to `f`
-abbrev pub hex_digit : ℕ → ℕ
-hex_digit n = if nat_lt n 10 then 48 + n else 87 + n
+use Rattle.spv_lines.specs.Digits.{hex_digit}
 
 -- a control character as `\xNN`, a backslash (92) as two, and any other byte as it is
 abbrev pub shown_byte : ℕ → List ℕ

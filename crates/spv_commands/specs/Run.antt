@@ -1,16 +1,17 @@
 -- How a run of a command ends. (Own.)
-use Rattle.std.specs.Prelude.{◌≡◌, ◌≢◌, ◌≤◌, ◌⊎◌, ◌==◌, ℕ, List, IfSome}
+use Rattle.std.specs.Prelude.{◌≡◌, ◌≢◌, ◌≤◌, ◌⊎◌, ◌==◌, ℕ, List, Option, IfSome}
 use Rattle.spv_command_line.specs.declared.command_line.Command.{Command}
 use Rattle.spv_commands.specs.Streams.{AnyFailed, Reading, Writing}
 use Rattle.spv_commands.specs.Task.{BeginsByText, BeginsText, DoesByText, IsNoText, LacksEntryByText, WritesText}
 use Rattle.spv_commands.specs.Trouble.{IsErrorLine, file_line, memory_line}
 
--- Of a command that reads a grammar file of this text. `Tells` says that the standard error has got a line.
-pub record Runs (command : Command) (text : List ℕ) (file : Reading) (out made : Writing)
+-- Of a command that needs a table, with a grammar file of this text or without one. `Tells` says that the standard
+-- error has got a line.
+pub record Runs (command : Command) (text : Option (List ℕ)) (file : Reading) (out made : Writing)
     (Tells : List ℕ → Type 0) (status : ℕ) : Type 0 where
-  -- With 0 and 1 the verdict line, with or without lines that explain it, the text, the module or the run was written,
-  -- by the table that the grammar file gives: 0 goes with `valid` alone, with the text of a module, with the module of
-  -- a text or with a run.
+  -- With 0 and 1 the verdict line, with or without lines that explain it, the text, the module, the run or the grammar
+  -- file was written, by the table of the grammar file or the built-in one: 0 goes with `valid` alone, with the text of
+  -- a module, with the module of a text, with a run or with a grammar file.
   pub done : status ≤ 1
       → IfSome file.left (λ bytes. DoesByText command text bytes out.held out.holds made.held made.holds (status == 0))
   -- With 2 an error line was written to the standard error, and there is a reason for it.

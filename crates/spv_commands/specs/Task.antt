@@ -1,25 +1,46 @@
--- What a command does, by the text of its grammar file (own).
-use Rattle.std.specs.Prelude.{◌≡◌, ℕ, List, Option, Bool, true, IfSome, IsUtf8}
+-- What a command does, by the text of its grammar file, or by the built-in grammar (own).
+use Rattle.std.specs.Prelude.{◌≡◌, ℕ, List, Option, Bool, true, false, IfSome, IsUtf8, option_map, if◌then◌else◌}
 use Rattle.std.specs.Io.KnownBytes.{Appends}
 use Rattle.spv_table.specs.Table.{Table}
+use Rattle.spv_builtin.specs.Source.{IsTableOf}
+use Rattle.spv_builtin.specs.Text.{IsGrammarText}
 use Rattle.spv_command_line.specs.declared.command_line.Command.{Command}
-use Rattle.spv_command_line.specs.declared.command_line.Command.TheVariants.{Judge, Show, Asm, Trace, Rules}
+use Rattle.spv_command_line.specs.declared.command_line.Command.TheVariants.{Judge, Show, Asm, Trace, Rules, Grammar}
 use Rattle.spv_command_line.specs.declared.command_line.Task.{Task}
 use Rattle.spv_command_line.specs.declared.command_line.Task.TheVariants as tasks
 use Rattle.spv_commands.specs.Assemble.{Assembles, BeginsAssembling, order_of}
 use Rattle.spv_commands.specs.Show.{BeginsShowing, Shows}
 use Rattle.spv_commands.specs.Trace.{BeginsTracing, HasNoEntry, Traces}
+use Rattle.spv_words.specs.Version.{as_1_6 as version_1_6}
 use Rattle.spv_verdict.specs.Stream.{Begins, TellsVerdict}
 use Rattle.spv_explain.specs.Stream.{BeginsExplaining, Explains}
-use Rattle.spv_commands.specs.Trouble.{BeginsWith, IsTableOf}
+use Rattle.spv_commands.specs.Trouble.{BeginsWith}
 
--- the command reads a grammar file, and another file
+-- the command needs a table
 abbrev pub ReadsGrammar : Command → Type 0
-ReadsGrammar (Judge task grammar files) = Unit {0}
-ReadsGrammar (Show grammar file) = Unit {0}
-ReadsGrammar (Asm grammar file out big) = Unit {0}
-ReadsGrammar (Trace grammar file function choices limit) = Unit {0}
 ReadsGrammar (Rules code) = ⊥
+ReadsGrammar _ = Unit {0}
+
+-- the command reads no module and no text
+abbrev pub ReadsNoFile : Command → Type 0
+ReadsNoFile (Rules code) = Unit {0}
+ReadsNoFile (Grammar file) = Unit {0}
+ReadsNoFile _ = ⊥
+
+-- a module of an earlier version is taken as one of 1.6
+abbrev pub takes_as_1_6 : Command → Bool
+takes_as_1_6 (Judge task grammar files as_1_6 naming quiet) = as_1_6
+takes_as_1_6 (Show grammar file as_1_6) = as_1_6
+takes_as_1_6 (Trace grammar file function choices limit as_1_6) = as_1_6
+takes_as_1_6 _ = false
+
+-- a file's bytes as they are taken
+abbrev pub taken : Bool → List ℕ → List ℕ
+taken as_1_6 bytes = if as_1_6 then version_1_6 bytes else bytes
+
+-- the bytes of its file as the command takes them
+abbrev pub taken_by : Command → List ℕ → List ℕ
+taken_by command bytes = taken (takes_as_1_6 command) bytes
 
 -- The standard output that held the bytes `old`, where they are known, now also holds a text, and nothing else.
 pub record WritesText (old new : Option (List ℕ)) : Type 0 where
@@ -29,6 +50,17 @@ pub record WritesText (old new : Option (List ℕ)) : Type 0 where
 -- The same for a beginning of a text.
 pub record BeginsText (old new : Option (List ℕ)) : Type 0 where
   pub text : List ℕ
+  pub begun : IfSome old (λ xs. BeginsWith text xs new)
+
+-- The same for the grammar file of a table.
+pub record WritesGrammar (G : Table) (old new : Option (List ℕ)) : Type 0 where
+  pub text : List ℕ
+  pub is_text : IsGrammarText G text
+  pub written : Appends old new text
+
+pub record BeginsGrammar (G : Table) (old new : Option (List ℕ)) : Type 0 where
+  pub text : List ℕ
+  pub is_text : IsGrammarText G text
   pub begun : IfSome old (λ xs. BeginsWith text xs new)
 
 -- A writer that held the bytes `old` now also holds what a task writes of a module's bytes, and nothing else: the
@@ -45,71 +77,67 @@ BeginsTask tasks.Explain G bytes old new = BeginsExplaining G bytes old new
 -- The standard output that held the bytes `old`, where they are known, now also holds what the command writes of the
 -- bytes of its file, and nothing else: a task what it writes of this one of its files, `show` the text or the line of a
 -- fault, `asm` the line of a fault or nothing, `trace` the run or the verdict line, `rules` a text, of no table and no
--- file. The file that `asm`
--- makes held the bytes `held`, where they are known, and now also holds the module. The answer tells whether the line
--- is `valid`, or the text, the module or the run was written.
+-- file, `grammar` the grammar file of the table. The file that `asm` makes held the bytes `held`, where they are known,
+-- and now also holds the module. The answer tells whether the line is `valid`, or the text, the module or the run was
+-- written.
 abbrev pub Does : Command → Table → List ℕ → Option (List ℕ) → Option (List ℕ) → Option (List ℕ)
     → Option (List ℕ) → Bool → Type 0
-Does (Judge task grammar files) G bytes old new held kept answer =
+Does (Judge task grammar files as_1_6 naming quiet) G bytes old new held kept answer =
     IfSome old (λ xs. DoesTask task G bytes xs new answer)
-Does (Show grammar file) G bytes old new held kept answer = IfSome old (λ xs. Shows G bytes xs new answer)
+Does (Show grammar file as_1_6) G bytes old new held kept answer = IfSome old (λ xs. Shows G bytes xs new answer)
 Does (Asm grammar file out big) G bytes old new held kept answer =
     Assembles G (order_of big) bytes old new held kept answer
-Does (Trace grammar file function choices limit) G bytes old new held kept answer =
+Does (Trace grammar file function choices limit as_1_6) G bytes old new held kept answer =
     IfSome old (λ xs. Traces G function choices.items limit bytes xs new answer)
 Does (Rules code) G bytes old new held kept answer = WritesText old new × (answer ≡ true)
+Does (Grammar file) G bytes old new held kept answer = WritesGrammar G old new × (answer ≡ true)
 
 -- The same for a beginning of that.
 abbrev pub BeginsToDo : Command → Table → List ℕ → Option (List ℕ) → Option (List ℕ) → Option (List ℕ)
     → Option (List ℕ) → Type 0
-BeginsToDo (Judge task grammar files) G bytes old new held kept = IfSome old (λ xs. BeginsTask task G bytes xs new)
-BeginsToDo (Show grammar file) G bytes old new held kept = IfSome old (λ xs. BeginsShowing G bytes xs new)
+BeginsToDo (Judge task grammar files as_1_6 naming quiet) G bytes old new held kept =
+    IfSome old (λ xs. BeginsTask task G bytes xs new)
+BeginsToDo (Show grammar file as_1_6) G bytes old new held kept = IfSome old (λ xs. BeginsShowing G bytes xs new)
 BeginsToDo (Asm grammar file out big) G bytes old new held kept =
     BeginsAssembling G (order_of big) bytes old new held kept
-BeginsToDo (Trace grammar file function choices limit) G bytes old new held kept =
+BeginsToDo (Trace grammar file function choices limit as_1_6) G bytes old new held kept =
     IfSome old (λ xs. BeginsTracing G function choices.items limit bytes xs new)
 BeginsToDo (Rules code) G bytes old new held kept = BeginsText old new
+BeginsToDo (Grammar file) G bytes old new held kept = BeginsGrammar G old new
 
--- The same under the table that the text of a grammar file gives.
-pub record DoesByText (command : Command) (text bytes : List ℕ) (old new held kept : Option (List ℕ))
-    (answer : Bool) : Type 0 where
+-- The same of the bytes as the command takes them, under the table of a run with a grammar file of this text, or
+-- without one.
+pub record DoesByText (command : Command) (text : Option (List ℕ)) (bytes : List ℕ)
+    (old new held kept : Option (List ℕ)) (answer : Bool) : Type 0 where
   pub table : Table
   pub given : IsTableOf text table
-  pub does : Does command table bytes old new held kept answer
+  pub does : Does command table (taken_by command bytes) old new held kept answer
 
-pub record BeginsByText (command : Command) (text bytes : List ℕ)
+pub record BeginsByText (command : Command) (text : Option (List ℕ)) (bytes : List ℕ)
     (old new held kept : Option (List ℕ)) : Type 0 where
   pub table : Table
   pub given : IsTableOf text table
-  pub begins : BeginsToDo command table bytes old new held kept
+  pub begins : BeginsToDo command table (taken_by command bytes) old new held kept
 
 -- the command makes no file
 abbrev pub MakesNothing : Command → Type 0
-MakesNothing (Judge task grammar files) = Unit {0}
-MakesNothing (Show grammar file) = Unit {0}
 MakesNothing (Asm grammar file out big) = ⊥
-MakesNothing (Trace grammar file function choices limit) = Unit {0}
-MakesNothing (Rules code) = Unit {0}
+MakesNothing _ = Unit {0}
 
 -- the command reads a text, and the bytes of its file, if they are known, are none
 abbrev pub IsNoText : Command → Option (List ℕ) → Type 0
-IsNoText (Judge task grammar files) known = ⊥
-IsNoText (Show grammar file) known = ⊥
 IsNoText (Asm grammar file out big) known = IfSome known (λ bytes. ¬ (IsUtf8 bytes))
-IsNoText (Trace grammar file function choices limit) known = ⊥
-IsNoText (Rules code) known = ⊥
+IsNoText _ known = ⊥
 
 -- the command asks for a run, and the bytes of its file, if they are known, are a valid module in which the id is no
 -- entry point's function
 abbrev pub LacksEntry : Command → Table → Option (List ℕ) → Type 0
-LacksEntry (Judge task grammar files) G known = ⊥
-LacksEntry (Show grammar file) G known = ⊥
-LacksEntry (Asm grammar file out big) G known = ⊥
-LacksEntry (Trace grammar file function choices limit) G known = IfSome known (λ bytes. HasNoEntry G bytes function)
-LacksEntry (Rules code) G known = ⊥
+LacksEntry (Trace grammar file function choices limit as_1_6) G known =
+    IfSome known (λ bytes. HasNoEntry G bytes function)
+LacksEntry _ G known = ⊥
 
--- the same under the table that the text of a grammar file gives
-pub record LacksEntryByText (command : Command) (text : List ℕ) (known : Option (List ℕ)) : Type 0 where
+-- the same of the bytes as the command takes them, under the table of a run
+pub record LacksEntryByText (command : Command) (text : Option (List ℕ)) (known : Option (List ℕ)) : Type 0 where
   pub table : Table
   pub given : IsTableOf text table
-  pub lacks : LacksEntry command table known
+  pub lacks : LacksEntry command table (option_map (taken_by command) known)

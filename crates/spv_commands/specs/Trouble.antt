@@ -1,13 +1,10 @@
 -- What a run leaves in its outputs, and why it ends without a verdict (own).
-use Rattle.std.specs.Prelude.{◌≡◌, ◌≤◌, ◌++◌, ℕ, List, Option, Some, IfSome, IsUtf8, length, take}
+use Rattle.std.specs.Prelude.{◌≡◌, ◌≤◌, ◌++◌, ℕ, List, Option, Some, IfSome, length, take}
 use Rattle.std.specs.Prelude.{codes}
 use Rattle.std.specs.Io.KnownBytes.{Appends}
-use Rattle.serde_json.specs.Data.{Data}
-use Rattle.serde_json.specs.Read.{read as read_text}
 use Rattle.spv_words.specs.declared.words.WordError.{WordError}
 use Rattle.spv_words.specs.declared.words.WordError.TheVariants.{W9}
-use Rattle.spv_grammar.specs.Answer.{Gives, text_breaks}
-use Rattle.spv_table.specs.Table.{Table}
+use Rattle.spv_builtin.specs.Source.{breaks}
 use Rattle.spv_grammar.specs.declared.error.GrammarError.{GrammarError}
 use Rattle.spv_grammar.specs.declared.error.GrammarError.TheVariants as grammar
 use Rattle.spv_commands.specs.declared.program.Trouble.{Trouble}
@@ -50,11 +47,11 @@ abbrev pub trouble_from : WordError → Trouble
 trouble_from W9 = trouble.Memory
 trouble_from _ = trouble.File
 
--- The error line of a run whose grammar file has this text, for a reason: the text breaks a code, a read or a write
--- `failed`, an id is `strange`, or memory was refused. No clause can tell when memory is refused, so the last stands
--- for itself.
-pub data IsErrorLine (text : List ℕ) (failed strange : Type 0) : List ℕ → Type 0 where
-  refused : (e : GrammarError) → text_breaks text e → IsErrorLine text failed strange (grammar_text e)
+-- The error line of a run whose grammar file has this text, or which has none, for a reason: the grammar breaks a code,
+-- a read or a write `failed`, an id is `strange`, or memory was refused. No clause can tell when memory is refused, so
+-- the last stands for itself.
+pub data IsErrorLine (text : Option (List ℕ)) (failed strange : Type 0) : List ℕ → Type 0 where
+  refused : (e : GrammarError) → breaks text e → IsErrorLine text failed strange (grammar_text e)
   file : failed → IsErrorLine text failed strange file_line
   entry : strange → IsErrorLine text failed strange entry_line
   memory : IsErrorLine text failed strange memory_line
@@ -74,10 +71,3 @@ pub record Writes (line : List ℕ) (old new : Option (List ℕ)) (before after 
 -- the same of a writer before and after a call
 abbrev pub Gets : {T : Type 0} → (T → Option (List ℕ)) → (T → ℕ) → T → T → List ℕ → Type 0
 Gets contents failures old new line = Writes line (contents old) (contents new) (failures old) (failures new)
-
--- The text of a grammar file is JSON, and its tree gives the table.
-pub record IsTableOf (text : List ℕ) (G : Table) : Type 0 where
-  pub tree : Data
-  pub utf8 : IsUtf8 text
-  pub is_tree : read_text text ≡ Some tree
-  pub gives : Gives tree G

@@ -1,7 +1,7 @@
 //! What is written of one file.
 ghost use Rattle.std.specs.Prelude.{◌≡◌, ◌++◌, ◌≤◌, ℕ, [], Some, None, IfOk, IfSome, IsErrOf};
-ghost use Rattle.spv_commands.specs.Task.{DoesTask};
-ghost use Rattle.spv_commands.specs.Each.{IsPart};
+ghost use Rattle.spv_commands.specs.Task.{DoesTask, taken};
+ghost use Rattle.spv_commands.specs.Each.{IsPart, heading};
 ghost use Rattle.spv_commands.specs.Name.{label};
 ghost use Rattle.spv_commands.specs.inner.Progress.{Adds, unread_line};
 ghost use Rattle.spv_commands.specs.declared.files.Unread.TheVariants.{Failed};
@@ -13,8 +13,19 @@ use spv_command_line::Task;
 use spv_explain::explain_stream;
 use spv_table::Table;
 use spv_verdict::check_stream;
-use spv_words::{FromRead, FromWrite, Sink};
+use spv_words::{FromRead, FromWrite, Sink, replace_version};
 use std::alloc::Global;
+
+/// How each of several files is judged.
+#[derive(Clone, Copy, Debug, PartialEq, Eq)]
+pub struct Judging {
+    /// What is done with each.
+    pub task: Task,
+    /// Whether a module of version 1.0 to 1.5 is taken as one of 1.6.
+    pub as_1_6: bool,
+    /// Whether the name of a file stands before its verdict.
+    pub is_named: bool,
+}
 
 /// What is written of a file that was read.
 #[derive(Drop)]
@@ -49,6 +60,26 @@ fn add_judgment(
     }
 }
 
+/// Has the bytes of a module taken as those of one of 1.6, if that is asked for.
+fn take_as(as_1_6: bool, bytes: &mut Vec<u8>)
+    ensures { bytes.new.items ≡ taken as_1_6 bytes.old.items }
+{
+    if as_1_6 {
+        replace_version(bytes.as_mut_slice());
+    }
+}
+
+/// A text that begins with what stands before a verdict: the label of a name, or nothing.
+fn headed(alloc: Global, how: Judging, name: &str) -> Result<FromWrite<Vec<u8>>, Unread>
+    ensures text { IfOk result (λ text. text.inner.items ≡ heading how name.now) }
+    ensures only { ¬ (IsErrOf result Failed) }
+{
+    if how.is_named {
+        return labelled(alloc, name);
+    }
+    Ok(FromWrite::new(Vec::new(alloc)))
+}
+
 /// A text that begins with the label of a name.
 fn labelled(alloc: Global, name: &str) -> Result<FromWrite<Vec<u8>>, Unread>
     ensures text { IfOk result (λ text. text.inner.items ≡ label name.now) }
@@ -65,21 +96,22 @@ fn labelled(alloc: Global, name: &str) -> Result<FromWrite<Vec<u8>>, Unread>
 /// What is written of the file of a number and a name, if it is read and its module judged.
 pub fn part_of<F: Files>(
     alloc: Global,
-    task: Task,
+    how: Judging,
     table: &Table,
     name: &str,
     number: usize,
     files: &mut F,
 ) -> Result<Part, Unread>
     ensures judged { IfOk result (λ part.
-        IsPart table.now task name.now (F.known files.old number) part.text.items [] part.status) }
+        IsPart table.now how name.now (F.known files.old number) part.text.items [] part.status) }
     ensures unread { IsErrOf result Failed → IfSome (F.known files.old number) (λ file. file ≡ None) }
     ensures small { IfOk result (λ part. part.status ≤ 1) }
     ensures kept { (n : ℕ) → F.known files.new n ≡ F.known files.old n }
 {
-    let bytes = files.read(alloc, number)?;
-    let mut text = labelled(alloc, name)?;
-    let valid = add_judgment(alloc, task, table, bytes.as_slice(), &mut text)?;
+    let mut bytes = files.read(alloc, number)?;
+    take_as(how.as_1_6, &mut bytes);
+    let mut text = headed(alloc, how, name)?;
+    let valid = add_judgment(alloc, how.task, table, bytes.as_slice(), &mut text)?;
     Ok(Part {
         text: text.inner,
         status: if valid { 0 } else { 1 },

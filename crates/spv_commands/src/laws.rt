@@ -3,8 +3,7 @@
 ghost use Rattle.std.specs.Prelude.{◌≡◌, ◌++◌, ◌∷◌, [], ℕ, List, Option, Some, None, Bool, true, false, Ok, Err, codes};
 ghost use Rattle.spv_words.specs.declared.words.Order.{Order};
 ghost use Rattle.spv_table.specs.Table.{Table};
-ghost use Rattle.spv_grammar.specs.Answer.{text_breaks};
-ghost use Rattle.spv_grammar.specs.declared.error.GrammarError.{GrammarError};
+ghost use Rattle.spv_builtin.specs.Text.{IsGrammarText};
 ghost use Rattle.spv_table.specs.Example.{empty_table};
 ghost use Rattle.spv_commands.specs.Example.{empty_grammar, reader_of, writer_of};
 ghost use Rattle.spv_explain.specs.Stream.{BeginsExplaining, Explains};
@@ -12,18 +11,19 @@ ghost use Rattle.spv_commands.specs.Show.{BeginsShowing, IsShowing, Shows};
 ghost use Rattle.spv_commands.specs.Assemble.{Assembles, BeginsAssembling};
 ghost use Rattle.spv_commands.specs.Trace.{BeginsTracing, HasNoEntry, Traces, step_line, trace_text};
 ghost use Rattle.spv_verdict.specs.declared.run.parts.Ending.TheVariants.{Finished, Limit};
-ghost use Rattle.spv_commands.specs.Task.{BeginsByText, DoesByText, MakesNothing, ReadsGrammar};
-ghost use Rattle.spv_commands.specs.Trouble.{BeginsWith, Gets, IsErrorLine, IsTableOf, Writes, entry_line};
+ghost use Rattle.spv_commands.specs.Task.{BeginsByText, BeginsGrammar, DoesByText, MakesNothing, ReadsNoFile};
+ghost use Rattle.spv_commands.specs.Task.{WritesGrammar, taken};
+ghost use Rattle.spv_commands.specs.Trouble.{BeginsWith, Gets, IsErrorLine, Writes, entry_line};
 ghost use Rattle.spv_commands.specs.Trouble.{file_line, memory_line};
 ghost use Rattle.spv_commands.specs.Run.{Runs, RunsRules};
 ghost use Rattle.spv_commands.specs.Streams.{IsAnswered, IsDone};
-ghost use Rattle.spv_commands.specs.Each.{AreParts, Ends, IsPart, Known};
-ghost use Rattle.spv_commands.specs.Name.{hex_digit, label, shown_byte};
+ghost use Rattle.spv_commands.specs.Each.{AreParts, Ends, IsPart, Known, heading};
+ghost use Rattle.spv_lines.specs.Digits.{hex_digit};
+ghost use Rattle.spv_commands.specs.Name.{label, shown_byte};
 ghost use Rattle.spv_command_line.specs.declared.command_line.Command.{Command};
-ghost use Rattle.spv_command_line.specs.declared.command_line.Task.{Task};
+ghost use Rattle.spv_commands.specs.declared.judging.Judging.{Judging};
 ghost use Rattle.spv_verdict.specs.Verdict.{line_end};
 
-use spv_grammar::laws::one_table;
 use spv_inst::{listed_or_dead, one_death, one_listing};
 use spv_lines::one_shown;
 
@@ -40,15 +40,6 @@ pub fn one_showing()
     one_listing();
     listed_or_dead();
     one_shown();
-}
-
-/// The text of a grammar file gives at most one table, breaks at most one code, and not both.
-pub fn one_grammar()
-    ensures table { (text : List ℕ) (G H : Table) → IsTableOf text G → IsTableOf text H → G ≡ H }
-    ensures code { (text : List ℕ) (d e : GrammarError) → text_breaks text d → text_breaks text e → d ≡ e }
-    ensures never { (text : List ℕ) (G : Table) (e : GrammarError) → IsTableOf text G → ¬ (text_breaks text e) }
-{
-    one_table();
 }
 
 /// Worked examples of what is shown.
@@ -124,24 +115,22 @@ pub fn run_examples()
     ensures writes_beginning { Writes file_line (Some []) (Some (codes "error")) 0 1 }
     ensures writes_nothing { ¬ (Writes file_line (Some []) (Some []) 0 0) }
     // Two empty lists give the table of nothing, and no text at all gives none.
-    ensures table { IsTableOf empty_grammar empty_table }
-    ensures no_table { (G : Table) → ¬ (IsTableOf [] G) }
-    ensures does { (command : Command) → ReadsGrammar command → MakesNothing command
-        → DoesByText command empty_grammar (1 ∷ 2 ∷ 3 ∷ []) (Some (9 ∷ []))
+    ensures does { (command : Command) → ¬ (ReadsNoFile command) → MakesNothing command
+        → DoesByText command (Some empty_grammar) (1 ∷ 2 ∷ 3 ∷ []) (Some (9 ∷ []))
         (Some (9 ∷ codes "fault W2" ++ line_end)) None None false }
     ensures does_nothing { (command : Command) (bytes : List ℕ) (old new held kept : Option (List ℕ))
-        (answer : Bool) → ¬ (DoesByText command [] bytes old new held kept answer) }
-    ensures begins { (command : Command) → ReadsGrammar command → MakesNothing command
-        → BeginsByText command empty_grammar (1 ∷ 2 ∷ 3 ∷ []) (Some (9 ∷ []))
+        (answer : Bool) → ¬ (DoesByText command (Some []) bytes old new held kept answer) }
+    ensures begins { (command : Command) → ¬ (ReadsNoFile command) → MakesNothing command
+        → BeginsByText command (Some empty_grammar) (1 ∷ 2 ∷ 3 ∷ []) (Some (9 ∷ []))
         (Some (9 ∷ codes "fault")) None None }
     ensures begins_nothing { (command : Command) (bytes : List ℕ) (old new held kept : Option (List ℕ))
-        → ¬ (BeginsByText command [] bytes old new held kept) }
+        → ¬ (BeginsByText command (Some []) bytes old new held kept) }
     // No text at all breaks J1, memory can always be told, `error X1` of an id that is strange, and `error file` only
     // after a failed call.
-    ensures refused { IsErrorLine [] ⊥ ⊥ (codes "error J1" ++ line_end) }
-    ensures memory { (text : List ℕ) → IsErrorLine text ⊥ ⊥ memory_line }
-    ensures no_entry { (text : List ℕ) → IsErrorLine text ⊥ (Unit {0}) entry_line }
-    ensures no_failure { (text : List ℕ) → ¬ (IsErrorLine text ⊥ ⊥ file_line) }
+    ensures refused { IsErrorLine (Some []) ⊥ ⊥ (codes "error J1" ++ line_end) }
+    ensures memory { (text : Option (List ℕ)) → IsErrorLine text ⊥ ⊥ memory_line }
+    ensures no_entry { (text : Option (List ℕ)) → IsErrorLine text ⊥ (Unit {0}) entry_line }
+    ensures no_failure { (text : Option (List ℕ)) → ¬ (IsErrorLine text ⊥ ⊥ file_line) }
 {
     spv_grammar::laws::table_examples();
     spv_verdict::laws::stream_examples();
@@ -149,6 +138,26 @@ pub fn run_examples()
     show_examples();
     trace_examples();
 }
+
+/// Worked examples of the grammar file that is written.
+pub fn grammar_examples()
+    // A writer that held the byte 9 also holds the text, or nothing of it yet; and a text is never left out.
+    ensures writes { (G : Table) (text : List ℕ) → IsGrammarText G text
+        → WritesGrammar G (Some (9 ∷ [])) (Some (9 ∷ text)) }
+    ensures writes_nothing { (G : Table) → ¬ (WritesGrammar G (Some (9 ∷ [])) (Some [])) }
+    ensures begins { (G : Table) (text : List ℕ) → IsGrammarText G text
+        → BeginsGrammar G (Some (9 ∷ [])) (Some (9 ∷ [])) }
+    ensures begins_nothing { (G : Table) → ¬ (BeginsGrammar G (Some (9 ∷ [])) (Some [])) }
+{}
+
+/// Worked examples of modules that are taken as of another version.
+pub fn version_examples()
+    // Version 1.4, in the order in which the lowest byte stands first, is taken as 1.6 only where that is asked for.
+    ensures taken { taken true (3 ∷ 2 ∷ 35 ∷ 7 ∷ 0 ∷ 4 ∷ 1 ∷ 0 ∷ 9 ∷ []) ≡ 3 ∷ 2 ∷ 35 ∷ 7 ∷ 0 ∷ 6 ∷ 1 ∷ 0 ∷ 9 ∷ [] }
+    ensures left { taken false (3 ∷ 2 ∷ 35 ∷ 7 ∷ 0 ∷ 4 ∷ 1 ∷ 0 ∷ 9 ∷ []) ≡ 3 ∷ 2 ∷ 35 ∷ 7 ∷ 0 ∷ 4 ∷ 1 ∷ 0 ∷ 9 ∷ [] }
+    // There is no version 1.7.
+    ensures unknown { ¬ (taken true (3 ∷ 2 ∷ 35 ∷ 7 ∷ 0 ∷ 7 ∷ 1 ∷ 0 ∷ []) ≡ 3 ∷ 2 ∷ 35 ∷ 7 ∷ 0 ∷ 6 ∷ 1 ∷ 0 ∷ []) }
+{}
 
 /// Worked examples of names in lines.
 pub fn name_examples()
@@ -165,25 +174,28 @@ pub fn name_examples()
 /// Worked examples of what is written of files.
 pub fn each_examples()
     // A file that is known not to open is told on the standard error, and never judged.
-    ensures part { (G : Table) (task : Task) → IsPart G task (codes "a") (Some None) []
+    ensures part { (G : Table) (how : Judging) → IsPart G how (codes "a") (Some None) []
         (codes "a: error file" ++ line_end) 2 }
-    ensures no_part { (G : Table) (task : Task) (line : List ℕ)
-        → ¬ (IsPart G task (codes "a") (Some None) line [] 0) }
+    ensures no_part { (G : Table) (how : Judging) (line : List ℕ)
+        → ¬ (IsPart G how (codes "a") (Some None) line [] 0) }
+    // Names stand before verdicts where that is asked for.
+    ensures heading { (how : Judging) → how.is_named ≡ true → heading how (codes "a") ≡ codes "a: " }
+    ensures no_heading { (how : Judging) → how.is_named ≡ false → ¬ (heading how (codes "a") ≡ codes "a: ") }
     // The line on a file always has its name, where memory is refused too.
-    ensures starved { (G : Table) (task : Task) (known : Known)
-        → IsPart G task (codes "a") known [] (codes "a: error memory" ++ line_end) 2 }
-    ensures never_nameless { (G : Table) (task : Task) (known : Known) (out : List ℕ) (status : ℕ)
-        → ¬ (IsPart G task (codes "a") known out memory_line status) }
+    ensures starved { (G : Table) (how : Judging) (known : Known)
+        → IsPart G how (codes "a") known [] (codes "a: error memory" ++ line_end) 2 }
+    ensures never_nameless { (G : Table) (how : Judging) (known : Known) (out : List ℕ) (status : ℕ)
+        → ¬ (IsPart G how (codes "a") known out memory_line status) }
     // One such file ends with 2, and no files do not.
-    ensures parts { (G : Table) (task : Task)
-        → AreParts G task (λ n. Some None) (codes "a" ∷ []) [] (codes "a: error file" ++ line_end) 2 }
-    ensures no_parts { (G : Table) (task : Task) (known : ℕ → Known) → ¬ (AreParts G task known [] [] [] 2) }
+    ensures parts { (G : Table) (how : Judging)
+        → AreParts G how (λ n. Some None) (codes "a" ∷ []) [] (codes "a: error file" ++ line_end) 2 }
+    ensures no_parts { (G : Table) (how : Judging) (known : ℕ → Known) → ¬ (AreParts G how known [] [] [] 2) }
     // Out of memory can always be told, and a run tells of something where it ends with 2.
-    ensures ends { (text : List ℕ) (task : Task) (known : ℕ → Known) (names : List (List ℕ))
-        → Ends text task known names (λ o. Writes o (Some []) (Some []) 0 0)
+    ensures ends { (text : Option (List ℕ)) (how : Judging) (known : ℕ → Known) (names : List (List ℕ))
+        → Ends text how known names (λ o. Writes o (Some []) (Some []) 0 0)
         (λ e. Writes e (Some []) (Some memory_line) 0 0) (Unit {0}) 2 }
-    ensures never_ends { (text : List ℕ) (task : Task) (known : ℕ → Known) (names : List (List ℕ))
-        (status : ℕ) → ¬ (Ends text task known names (λ o. ⊥) (λ e. ⊥) (Unit {0}) status) }
+    ensures never_ends { (text : Option (List ℕ)) (how : Judging) (known : ℕ → Known) (names : List (List ℕ))
+        (status : ℕ) → ¬ (Ends text how known names (λ o. ⊥) (λ e. ⊥) (Unit {0}) status) }
 {}
 
 /// Worked examples of what became of streams.
@@ -207,9 +219,9 @@ pub fn stream_examples()
 /// Worked examples of how a run ends.
 pub fn ending_examples()
     // Out of memory, of which only its line tells.
-    ensures runs { (command : Command) (text : List ℕ)
+    ensures runs { (command : Command) (text : Option (List ℕ))
         → Runs command text (reader_of []) (writer_of []) (writer_of []) (λ line. line ≡ memory_line) 2 }
-    ensures never_runs { (command : Command) (text : List ℕ)
+    ensures never_runs { (command : Command) (text : Option (List ℕ))
         → ¬ (Runs command text (reader_of []) (writer_of []) (writer_of []) (λ line. ⊥) 2) }
     ensures rules { RunsRules (writer_of (codes "W1")) (λ line. ⊥) 0 }
     ensures no_rules { ¬ (RunsRules (writer_of []) (λ line. ⊥) 1) }

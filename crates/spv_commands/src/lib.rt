@@ -10,6 +10,7 @@ mod judging;
 pub mod laws;
 mod name;
 mod program;
+mod reasons;
 mod showing;
 mod text_fault;
 mod trace_lines;
@@ -19,9 +20,14 @@ mod writing;
 pub use assembling::{TextError, assemble_stream, read_all};
 pub use each::run_each;
 pub use files::{Files, InMemory, Unread};
+pub use judging::Judging;
+pub use name::write_label;
 pub use program::{Trouble, report, run};
+pub use reasons::{entry_points, grammar_reason};
 pub use showing::show_stream;
 pub use spv_command_line::{
-    Code, Command, Task, UseError, arguments, arguments_in, help, text_asked,
+    AnyCode, Code, Command, ErrorCode, Naming, Task, UseError, advice, arguments, arguments_in,
+    help, is_verbose, text_asked,
 };
+pub use spv_words::{VersionSource, Versioned};
 pub use tracing::{RunError, trace_stream};

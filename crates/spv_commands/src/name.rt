@@ -1,6 +1,7 @@
 //! How the name of a file stands in a line.
 ghost use Rattle.std.specs.Prelude.{◌≡◌, ◌∷◌, ◌≤◌, ◌<◌, [], IsTrue, flat_map, length, take};
-ghost use Rattle.spv_commands.specs.Name.{hex_digit, label, shown_byte};
+ghost use Rattle.spv_lines.specs.Digits.{hex_digit};
+ghost use Rattle.spv_commands.specs.Name.{label, shown_byte};
 ghost use Rattle.spv_commands.specs.inner.Progress.{Adds};
 
 use crate::writing::write_on;

@@ -1,28 +1,30 @@
 //! What the program does once its words are read and its files are open.
-ghost use Rattle.std.specs.Prelude.{◌≡◌, ◌≤◌, ◌⊎◌, IfErr, IfSome, IsErrOf, IsUtf8};
-ghost use Rattle.spv_grammar.specs.Answer.{text_breaks};
+ghost use Rattle.std.specs.Prelude.{◌≡◌, ◌≤◌, ◌⊎◌, IfErr, IfSome, IsErrOf, IsUtf8, false, option_map};
+ghost use Rattle.spv_builtin.specs.Source.{breaks};
 ghost use Rattle.spv_grammar.specs.declared.error.GrammarError.{GrammarError};
 ghost use Rattle.spv_grammar.specs.declared.error.GrammarError.TheVariants.{J8};
 ghost use Rattle.spv_commands.specs.Assemble.{Assembles, BeginsAssembling, order_of};
 ghost use Rattle.spv_commands.specs.Run.{Runs, RunsRules};
 ghost use Rattle.spv_commands.specs.Show.{BeginsShowing, Shows};
 ghost use Rattle.spv_commands.specs.Streams.{IsAnswered, IsDone, reading, writing};
-ghost use Rattle.spv_commands.specs.Task.{BeginsTask, DoesTask, MakesNothing, ReadsGrammar};
+ghost use Rattle.spv_commands.specs.Task.{BeginsGrammar, BeginsTask, BeginsText, DoesTask, MakesNothing, ReadsGrammar};
+ghost use Rattle.spv_commands.specs.Task.{ReadsNoFile, WritesGrammar, WritesText, taken, takes_as_1_6};
 ghost use Rattle.spv_commands.specs.Trace.{BeginsTracing, HasNoEntry, Traces};
 ghost use Rattle.spv_commands.specs.Trouble.{Gets, grammar_text, memory_line, trouble_from, trouble_text};
-ghost use Rattle.spv_commands.specs.inner.Ending.{EndsByTable, EndsByText, EndsWithText};
+ghost use Rattle.spv_commands.specs.inner.Ending.{EndsByTable, EndsByText, EndsUnread, reading_by};
 ghost use Rattle.spv_commands.specs.declared.program.Trouble.TheVariants.{File, Grammar, Memory, NoEntry};
 
 use crate::assembling::{TextError, assemble_stream};
-use crate::laws::one_grammar;
 use crate::showing::show_stream;
 use crate::tracing::{RunError, trace_stream};
-use spv_command_line::{Command, Task};
-use spv_explain::{Code, explain_stream, rules_text};
-use spv_grammar::{FromGrammar, GrammarError};
+use spv_builtin::laws::one_table;
+use spv_builtin::{grammar_text as text_of_grammar, table_of};
+use spv_command_line::{AnyCode, Command, Task};
+use spv_explain::{explain_stream, rules_text};
+use spv_grammar::GrammarError;
 use spv_table::Table;
 use spv_verdict::check_stream;
-use spv_words::{Order, Sink, Source, WordError, write_all};
+use spv_words::{Order, Sink, Source, VersionSource, WordError, write_all};
 use std::alloc::Global;
 use std::mem::forget;
 
@@ -175,8 +177,8 @@ fn traced<S: Source, W: Sink>(
 }
 
 /// Writes what codes say, or one of them: it is written.
-fn ruled<W: Sink>(alloc: Global, code: Option<Code>, out: &mut W) -> Result<bool, Trouble>
-    ensures { EndsWithText (writing W.contents W.failures out.old out.new) result }
+fn ruled<W: Sink>(alloc: Global, code: Option<AnyCode>, out: &mut W) -> Result<bool, Trouble>
+    ensures { EndsUnread WritesText BeginsText (writing W.contents W.failures out.old out.new) result }
 {
     let text = match rules_text(alloc, code) {
         Ok(text) => text,
@@ -188,8 +190,23 @@ fn ruled<W: Sink>(alloc: Global, code: Option<Code>, out: &mut W) -> Result<bool
     }
 }
 
+/// Writes the grammar file of a table: it is written.
+fn grammar_written<W: Sink>(alloc: Global, table: &Table, out: &mut W) -> Result<bool, Trouble>
+    ensures { EndsUnread (WritesGrammar table.now) (BeginsGrammar table.now)
+        (writing W.contents W.failures out.old out.new) result }
+{
+    let text = match text_of_grammar(alloc, table) {
+        Ok(text) => text,
+        Err(_) => return Err(Trouble::Memory),
+    };
+    match write_all(text.as_bytes(), out) {
+        Ok(()) => Ok(true),
+        Err(_) => Err(Trouble::File),
+    }
+}
+
 /// Does what a command asks by a table: whether the module is valid, has a text, was made or has a run.
-/// `rules` asks for no table, and is done.
+/// `rules` asks for no table, and is done; so is `grammar`.
 fn done_by<S: Source, W: Sink, O: Sink>(
     alloc: Global,
     command: &Command,
@@ -201,6 +218,7 @@ fn done_by<S: Source, W: Sink, O: Sink>(
     ensures ends { EndsByTable command.now table.now (reading S.remaining S.failures file.old file.new)
         (writing W.contents W.failures out.old out.new) (writing O.contents O.failures made.old made.new) result }
     ensures nothing { MakesNothing command.now → made.new ≡ made.old }
+    ensures unread { ReadsNoFile command.now → file.new ≡ file.old }
 {
     match command {
         Command::Judge { task, .. } => tasked(alloc, *task, table, file, out),
@@ -213,30 +231,76 @@ fn done_by<S: Source, W: Sink, O: Sink>(
             ..
         } => traced(alloc, table, *function, choices, *limit, file, out),
         Command::Rules { code } => ruled(alloc, *code, out),
+        Command::Grammar { .. } => grammar_written(alloc, table, out),
     }
 }
 
-/// Judges the grammar file, and then does what a command asks: whether the module is valid, has a
-/// text, was made or has a run.
-fn done_by_text<S: Source, W: Sink, O: Sink>(
+/// Whether a command takes a module of an earlier version as one of 1.6.
+fn is_as_1_6(command: &Command) -> bool
+    ensures { result ≡ takes_as_1_6 command.now }
+{
+    match command {
+        Command::Judge { as_1_6, .. }
+        | Command::Show { as_1_6, .. }
+        | Command::Trace { as_1_6, .. } => *as_1_6,
+        Command::Asm { .. } | Command::Rules { .. } | Command::Grammar { .. } => false,
+    }
+}
+
+/// Has the bytes of a file taken as those of a module of 1.6, if that is asked for.
+fn take_as<S: VersionSource>(as_1_6: bool, file: &mut S)
+    ensures bytes { S.remaining file.new ≡ option_map (taken as_1_6) (S.remaining file.old) }
+    ensures failures { S.failures file.new ≡ S.failures file.old }
+    ensures unread { as_1_6 ≡ false → file.new ≡ file.old }
+{
+    if as_1_6 {
+        file.read_as_1_6();
+    }
+}
+
+/// Does what a command asks by a table, of the file's bytes as the command takes them: whether the module is valid, has
+/// a text, was made or has a run.
+fn done_as<S: VersionSource, W: Sink, O: Sink>(
     alloc: Global,
     command: &Command,
-    grammar: &[u8],
+    table: &Table,
     file: &mut S,
     out: &mut W,
     made: &mut O,
 ) -> Result<bool, Trouble>
-    ensures ends { EndsByText command.now grammar.now (reading S.remaining S.failures file.old file.new)
+    ensures ends { EndsByTable command.now table.now
+        (reading_by command.now (reading S.remaining S.failures file.old file.new))
         (writing W.contents W.failures out.old out.new) (writing O.contents O.failures made.old made.new) result }
-    ensures refused { (e : GrammarError) → text_breaks grammar.now e
+    ensures nothing { MakesNothing command.now → made.new ≡ made.old }
+    ensures unread { ReadsNoFile command.now → file.new ≡ file.old }
+{
+    take_as(is_as_1_6(command), file);
+    done_by(alloc, command, table, file, out, made)
+}
+
+/// Makes the table, and then does what a command asks: whether the module is valid, has a
+/// text, was made or has a run.
+fn done_by_text<S: VersionSource, W: Sink, O: Sink>(
+    alloc: Global,
+    command: &Command,
+    grammar: Option<&[u8]>,
+    file: &mut S,
+    out: &mut W,
+    made: &mut O,
+) -> Result<bool, Trouble>
+    ensures ends { EndsByText command.now (option_map (λ g. g.now) grammar.entry)
+        (reading S.remaining S.failures file.old file.new) (writing W.contents W.failures out.old out.new)
+        (writing O.contents O.failures made.old made.new) result }
+    ensures refused { (e : GrammarError) → breaks (option_map (λ g. g.now) grammar.entry) e
         → (file.new ≡ file.old) × (out.new ≡ out.old) × (made.new ≡ made.old)
         × (IsErrOf result (Grammar e) ⊎ IsErrOf result (Grammar J8)) }
     ensures nothing { MakesNothing command.now → made.new ≡ made.old }
+    ensures unread { ReadsNoFile command.now → file.new ≡ file.old }
 {
-    one_grammar();
-    match Table::from_slice(alloc, grammar) {
+    one_table();
+    match table_of(alloc, grammar) {
         Ok(table) => {
-            let answer = done_by(alloc, command, &table, file, out, made);
+            let answer = done_as(alloc, command, &table, file, out, made);
             // The process ends soon, which gives back its memory at once.
             forget(table);
             answer
@@ -247,23 +311,24 @@ fn done_by_text<S: Source, W: Sink, O: Sink>(
 
 /// Does what a command asks: whether the module is valid, has a text, was made or has a run, or what codes say was
 /// written.
-fn done<S: Source, W: Sink, O: Sink>(
+fn done<S: VersionSource, W: Sink, O: Sink>(
     alloc: Global,
     command: &Command,
-    grammar: &[u8],
+    grammar: Option<&[u8]>,
     file: &mut S,
     out: &mut W,
     made: &mut O,
 ) -> Result<bool, Trouble>
-    ensures by_text { ReadsGrammar command.now → EndsByText command.now grammar.now
+    ensures by_text { ReadsGrammar command.now → EndsByText command.now (option_map (λ g. g.now) grammar.entry)
         (reading S.remaining S.failures file.old file.new) (writing W.contents W.failures out.old out.new)
         (writing O.contents O.failures made.old made.new) result }
-    ensures refused { ReadsGrammar command.now → (e : GrammarError) → text_breaks grammar.now e
+    ensures refused { ReadsGrammar command.now → (e : GrammarError) → breaks (option_map (λ g. g.now) grammar.entry) e
         → (file.new ≡ file.old) × (out.new ≡ out.old) × (made.new ≡ made.old)
         × (IsErrOf result (Grammar e) ⊎ IsErrOf result (Grammar J8)) }
     ensures rules { ¬ (ReadsGrammar command.now)
-        → EndsWithText (writing W.contents W.failures out.old out.new) result × (file.new ≡ file.old) }
+        → EndsUnread WritesText BeginsText (writing W.contents W.failures out.old out.new) result }
     ensures nothing { MakesNothing command.now → made.new ≡ made.old }
+    ensures unread { ReadsNoFile command.now → file.new ≡ file.old }
 {
     match command {
         Command::Rules { code } => ruled(alloc, *code, out),
@@ -274,17 +339,18 @@ fn done<S: Source, W: Sink, O: Sink>(
 /// Does what a command asks, and answers the exit status. Of a command on several files it does the task on this one,
 /// as if it were the only one.
 ///
-/// `file` is the module or the text, `out` the standard output, `made` the file that a command makes (only `asm` makes
-/// one), `err` the standard error. 0: the module is valid, or its text, the module of a text, a run or what codes say
-/// was written. 1: a fault line was written. 2: one line was written to `err`: `error J1` to `error J7` where the
-/// grammar file is refused, which is told first, `error file` where a read or a write failed or a text is not UTF-8,
-/// `error X1` where the id whose run is asked for is no entry point's function, `error memory` where a growth of memory
-/// was refused. Where the write to `err` fails too, it has got a beginning of that line, and the status is 2 all the
-/// same.
-pub fn run<S: Source, W: Sink, O: Sink, E: Sink>(
+/// `grammar` is the text of the grammar file; without one the built-in grammar is used. `file` is the module or the
+/// text, `out` the standard output, `made` the file that a command makes (only `asm` makes one), `err` the standard
+/// error. Where the command asks for it, a module of version 1.0 to 1.5 is taken as one of 1.6. 0: the module is valid,
+/// or its text, the module of a text, a run, a grammar file or what codes say was written. 1: a fault line was written.
+/// 2: one line was written to `err`: `error J1` to `error J7` where the grammar file is refused, which is told first,
+/// `error file` where a read or a write failed or a text is not UTF-8, `error X1` where the id whose run is asked for
+/// is no entry point's function, `error memory` where a growth of memory was refused. Where the write to `err` fails
+/// too, it has got a beginning of that line, and the status is 2 all the same.
+pub fn run<S: VersionSource, W: Sink, O: Sink, E: Sink>(
     alloc: Global,
     command: &Command,
-    grammar: &[u8],
+    grammar: Option<&[u8]>,
     file: &mut S,
     out: &mut W,
     made: &mut O,
@@ -292,18 +358,19 @@ pub fn run<S: Source, W: Sink, O: Sink, E: Sink>(
 ) -> u8
     ensures status { result ≤ 2 }
     // What is written, and what the status tells.
-    ensures runs { ReadsGrammar command.now → Runs command.now grammar.now
+    ensures runs { ReadsGrammar command.now → Runs command.now (option_map (λ g. g.now) grammar.entry)
         (reading S.remaining S.failures file.old file.new) (writing W.contents W.failures out.old out.new)
         (writing O.contents O.failures made.old made.new) (Gets E.contents E.failures err.old err.new) result }
-    // A refused grammar file is told first, before anything is read or written: by its code, or as out of memory.
-    ensures refused { ReadsGrammar command.now → (e : GrammarError) → text_breaks grammar.now e
+    // A refused grammar is told first, before anything is read or written: by its code, or as out of memory.
+    ensures refused { ReadsGrammar command.now → (e : GrammarError) → breaks (option_map (λ g. g.now) grammar.entry) e
         → (result ≡ 2) × (file.new ≡ file.old) × (out.new ≡ out.old) × (made.new ≡ made.old)
         × (Gets E.contents E.failures err.old err.new (grammar_text e)
         ⊎ Gets E.contents E.failures err.old err.new memory_line) }
-    // `rules` reads nothing.
     ensures rules { ¬ (ReadsGrammar command.now)
         → RunsRules (writing W.contents W.failures out.old out.new) (Gets E.contents E.failures err.old err.new)
-        result × (file.new ≡ file.old) }
+        result }
+    // `rules` and `grammar` read no module.
+    ensures unread { ReadsNoFile command.now → file.new ≡ file.old }
     // Only `asm` makes a file.
     ensures nothing { MakesNothing command.now → made.new ≡ made.old }
     // The standard error gets a line only with the status 2.

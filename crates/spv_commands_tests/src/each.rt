@@ -1,6 +1,6 @@
 //! Runs on several files, some of which cannot be read.
 use crate::tests::{GRAMMAR, kernel};
-use spv_commands::{InMemory, Task, run_each};
+use spv_commands::{InMemory, Judging, Task, run_each};
 use spv_words::FromWrite;
 use std::alloc::Global;
 use std::test::Fail;
@@ -13,10 +13,19 @@ struct Outcome {
     err: Vec<u8>,
 }
 
-/// Runs a task on these files.
+/// How files are judged by a task, with their names.
+fn named(task: Task) -> Judging {
+    Judging {
+        task,
+        as_1_6: false,
+        is_named: true,
+    }
+}
+
+/// Judges these files.
 fn outcome_of(
     alloc: Global,
-    task: Task,
+    how: Judging,
     grammar: &[u8],
     names: &[&str],
     files: &[Option<&[u8]>],
@@ -24,7 +33,15 @@ fn outcome_of(
     let mut files = InMemory { files };
     let mut out = FromWrite::new(Vec::new(alloc));
     let mut err = FromWrite::new(Vec::new(alloc));
-    let status = run_each(alloc, task, grammar, names, &mut files, &mut out, &mut err);
+    let status = run_each(
+        alloc,
+        how,
+        Some(grammar),
+        names,
+        &mut files,
+        &mut out,
+        &mut err,
+    );
     Outcome {
         status,
         out: out.inner,
@@ -39,18 +56,50 @@ fn files_in_order(rt: HostRuntime) -> Result<(), Fail> {
     let good = Some(kernel.as_slice());
     let short: Option<&[u8]> = Some(&[1, 2, 3]);
     let names = ["a", "b\n\\", "c", "d"];
-    let run = outcome_of(a, Task::Check, GRAMMAR, &names, &[good, None, short, good]);
+    let run = outcome_of(
+        a,
+        named(Task::Check),
+        GRAMMAR,
+        &names,
+        &[good, None, short, good],
+    );
     assert_eq!(rt; run.status, 2);
     assert_eq!(rt;
         run.out.as_slice(),
         b"a: valid\nc: fault W2\nd: valid\n".as_slice()
     );
     assert_eq!(rt; run.err.as_slice(), b"b\\x0a\\\\: error file\n".as_slice());
-    let run = outcome_of(a, Task::Check, GRAMMAR, &["a", "c"], &[good, short]);
+    let run = outcome_of(a, named(Task::Check), GRAMMAR, &["a", "c"], &[good, short]);
     assert_eq!(rt; run.status, 1);
-    let run = outcome_of(a, Task::Check, GRAMMAR, &["a", "d"], &[good, good]);
+    let run = outcome_of(a, named(Task::Check), GRAMMAR, &["a", "d"], &[good, good]);
     assert_eq!(rt; run.status, 0);
     assert_eq!(rt; run.out.as_slice(), b"a: valid\nd: valid\n".as_slice());
+    Ok(())
+}
+
+#[test]
+fn files_of_other_versions(rt: HostRuntime) -> Result<(), Fail> {
+    let a = rt.alloc();
+    let mut kernel = kernel(a)?;
+    // The minor number of the version, in the order in which the lowest byte of a word stands first.
+    kernel[5] = 4;
+    let file = Some(kernel.as_slice());
+    let how = Judging {
+        task: Task::Check,
+        as_1_6: false,
+        is_named: false,
+    };
+    let run = outcome_of(a, how, GRAMMAR, &["a", "b"], &[file, None]);
+    assert_eq!(rt; run.status, 2);
+    assert_eq!(rt; run.out.as_slice(), b"fault W5\n".as_slice());
+    assert_eq!(rt; run.err.as_slice(), b"b: error file\n".as_slice());
+    let how = Judging {
+        as_1_6: true,
+        ..how
+    };
+    let run = outcome_of(a, how, GRAMMAR, &["a"], &[file]);
+    assert_eq!(rt; run.status, 0);
+    assert_eq!(rt; run.out.as_slice(), b"valid\n".as_slice());
     Ok(())
 }
 
@@ -60,7 +109,13 @@ fn parts_of_explain(rt: HostRuntime) -> Result<(), Fail> {
     let kernel = kernel(a)?;
     let good = Some(kernel.as_slice());
     let short: Option<&[u8]> = Some(&[1, 2, 3]);
-    let run = outcome_of(a, Task::Explain, GRAMMAR, &["c", "d"], &[short, good]);
+    let run = outcome_of(
+        a,
+        named(Task::Explain),
+        GRAMMAR,
+        &["c", "d"],
+        &[short, good],
+    );
     assert_eq!(rt; run.status, 1);
     assert!(rt; run.out.as_slice().starts_with(b"c: fault W2\nrule: "));
     assert!(rt; run.out.as_slice().ends_with(b"\nd: valid\n"));
@@ -70,7 +125,7 @@ fn parts_of_explain(rt: HostRuntime) -> Result<(), Fail> {
 #[test]
 fn grammars_that_are_refused(rt: HostRuntime) -> Result<(), Fail> {
     let a = rt.alloc();
-    let run = outcome_of(a, Task::Check, b"", &["a", "b"], &[None, None]);
+    let run = outcome_of(a, named(Task::Check), b"", &["a", "b"], &[None, None]);
     assert_eq!(rt; run.status, 2);
     assert_eq!(rt; run.out.as_slice(), b"".as_slice());
     assert_eq!(rt; run.err.as_slice(), b"error J1\n".as_slice());
@@ -91,8 +146,8 @@ fn outputs_that_fail(rt: HostRuntime) -> Result<(), Fail> {
     let names = ["a", "b", "c"];
     let status = run_each(
         a,
-        Task::Check,
-        GRAMMAR,
+        named(Task::Check),
+        Some(GRAMMAR),
         &names,
         &mut files,
         &mut out,

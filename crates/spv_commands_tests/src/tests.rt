@@ -1,6 +1,8 @@
 //! What no clause says: what a reader or a writer that fails comes to, and the texts that people read. What commands
 //! answer to good files is told by the stored run of all cases.
-use spv_commands::{Code, Command, Task, UseError, arguments, help, run};
+use spv_commands::{
+    AnyCode, Code, Command, ErrorCode, Naming, Task, UseError, Versioned, arguments, help, run,
+};
 use spv_grammar::{FromGrammar, Table};
 use spv_verdict::check_stream;
 use spv_words::{FromRead, FromWrite, WordError};
@@ -181,11 +183,14 @@ struct Case<'a> {
 
 /// The four commands on the smallest kernel.
 fn cases<'a>(alloc: Global, kernel: &'a [u8]) -> Result<[Case<'a>; 4], Fail> {
-    let (grammar, file) = ("G", "F");
+    let (grammar, file) = (Some("G"), "F");
     let check = Command::Judge {
         task: Task::Check,
         grammar,
         files: Vec::from_slice(alloc, &[file])?,
+        as_1_6: false,
+        naming: Naming::OfSeveral,
+        quiet: false,
     };
     let trace = Command::Trace {
         grammar,
@@ -193,6 +198,7 @@ fn cases<'a>(alloc: Global, kernel: &'a [u8]) -> Result<[Case<'a>; 4], Fail> {
         function: 3,
         choices: Vec::new(alloc),
         limit: 9,
+        as_1_6: true,
     };
     let asm = Command::Asm {
         grammar,
@@ -207,7 +213,11 @@ fn cases<'a>(alloc: Global, kernel: &'a [u8]) -> Result<[Case<'a>; 4], Fail> {
             written: b"valid\n",
         },
         Case {
-            command: Command::Show { grammar, file },
+            command: Command::Show {
+                grammar,
+                file,
+                as_1_6: false,
+            },
             input: kernel,
             written: TEXT,
         },
@@ -239,18 +249,18 @@ const PIECE: usize = 7;
 
 /// Runs a case, with a reader and writers whose calls fail as told.
 fn run_case(alloc: Global, case: &Case, reads: Calls, writes: Calls) -> Outcome {
-    let mut file = FromRead::new(Pieces {
+    let mut file = Versioned::new(FromRead::new(Pieces {
         rest: case.input,
         piece: PIECE,
         calls: reads,
-    });
+    }));
     let mut out = Shelf::new(alloc, PIECE, writes);
     let mut made = Shelf::new(alloc, PIECE, writes);
     let mut err = Shelf::new(alloc, PIECE, Calls::ALL);
     let status = run(
         alloc,
         &case.command,
-        GRAMMAR,
+        Some(GRAMMAR),
         &mut file,
         &mut out,
         &mut made,
@@ -403,30 +413,58 @@ fn words_and_messages(rt: HostRuntime) -> Result<(), Fail> {
 #[test]
 fn words_of_commands(rt: HostRuntime) -> Result<(), Fail> {
     let a = rt.alloc();
-    let no_grammar: &[&str] = &["explain", "F"];
+    let both: &[&str] = &["check", "-H", "--no-filename", "F"];
     let two_files: &[&str] = &["show", "--grammar", "G", "F", "F"];
     let unknown: &[&str] = &["rules", "A3"];
-    let small: &[&str] = &["rules", "a1"];
     let two_codes: &[&str] = &["rules", "A1", "A2"];
     let of_file: &[&str] = &["rules", "--grammar", "G", "F"];
-    for words in [no_grammar, two_files, unknown, small, two_codes, of_file] {
+    for words in [both, two_files, unknown, two_codes, of_file] {
         assert_eq!(rt; arguments(a, words), Err(UseError::NoCommand));
     }
     let explain = Command::Judge {
         task: Task::Explain,
-        grammar: "G",
+        grammar: Some("G"),
         files: Vec::from_slice(a, &["F"])?,
+        as_1_6: false,
+        naming: Naming::Always,
+        quiet: false,
     };
     assert_eq!(rt;
-        arguments(a, &["explain", "F", "--grammar", "G"]),
+        arguments(a, &["explain", "F", "-H", "--grammar", "G"]),
         Ok(explain)
+    );
+    let check = Command::Judge {
+        task: Task::Check,
+        grammar: None,
+        files: Vec::from_slice(a, &["F"])?,
+        as_1_6: true,
+        naming: Naming::Never,
+        quiet: true,
+    };
+    assert_eq!(rt;
+        arguments(
+            a,
+            &[
+                "check",
+                "F",
+                "--no-filename",
+                "--quiet",
+                "--as-1.6",
+                "--verbose"
+            ]
+        ),
+        Ok(check)
     );
     let all = Command::Rules { code: None };
     assert_eq!(rt; arguments(a, &["rules"]), Ok(all));
-    let code = Some(Code::Word(WordError::W3));
+    let grammar = Command::Grammar { file: Some("-") };
+    assert_eq!(rt; arguments(a, &["grammar", "-"]), Ok(grammar));
+    let code = Some(AnyCode::Verdict(Code::Word(WordError::W3)));
     assert_eq!(rt; arguments(a, &["rules", "W3"]), Ok(Command::Rules { code }));
-    let code = Code::named("A1");
+    let code = AnyCode::named("A1");
     assert!(rt; code.is_some());
-    assert_eq!(rt; arguments(a, &["rules", "A1"]), Ok(Command::Rules { code }));
+    assert_eq!(rt; arguments(a, &["rules", "a1"]), Ok(Command::Rules { code }));
+    let code = Some(AnyCode::Error(ErrorCode::J4));
+    assert_eq!(rt; arguments(a, &["rules", "j4"]), Ok(Command::Rules { code }));
     Ok(())
 }

@@ -1,11 +1,11 @@
 //! The words of the command line that stand for help and the version, and readers that are read whole. Several files
 //! and the grammar file of the environment are tested on the built program.
-use spv_commands::{UseError, arguments, read_all, text_asked};
-use spv_words::FromRead;
+use spv_commands::{UseError, advice, arguments, is_verbose, read_all, text_asked, write_label};
+use spv_words::{FromRead, FromWrite};
 use std::test::Fail;
 
 /// The commands of the program, and what each says of itself.
-const COMMANDS: [(&str, &str); 6] = [
+const COMMANDS: [(&str, &str); 7] = [
     (
         "check",
         "Writes the verdict on a module, or on each of several",
@@ -17,7 +17,14 @@ const COMMANDS: [(&str, &str); 6] = [
     ("show", "Writes the text of a module"),
     ("asm", "Makes the module of a text"),
     ("trace", "Writes the run of an entry point's function"),
-    ("rules", "Writes what each code of a verdict says"),
+    (
+        "rules",
+        "Writes what each code of a verdict or an error says",
+    ),
+    (
+        "grammar",
+        "Writes the built-in grammar, or that of a file, as a grammar file of the least size",
+    ),
 ];
 
 #[test]
@@ -63,6 +70,50 @@ fn helps(rt: HostRuntime) -> Result<(), Fail> {
         arguments(a, &["help", "nothing"]),
         Err(UseError::NoCommand)
     );
+    Ok(())
+}
+
+#[test]
+fn verbose_words(rt: HostRuntime) -> Result<(), Fail> {
+    assert!(rt; is_verbose(&["check", "--verbose", "F"]));
+    assert!(rt; !is_verbose(&["check", "verbose"]));
+    assert!(rt; !is_verbose(&[]));
+    Ok(())
+}
+
+#[test]
+fn advice_on_words(rt: HostRuntime) -> Result<(), Fail> {
+    let a = rt.alloc();
+    let rows: [(&[&str], &str, &str); 5] = [
+        (&["check"], "<FILE>", "\nsee: spv help check\n"),
+        (&["chek", "F"], "'chek'", "\nsee: spv help\n"),
+        (
+            &["show", "F", "--a\nb"],
+            "'--a\\x0ab'",
+            "\nsee: spv help show\n",
+        ),
+        (&["rules", "A3"], "no code", "\nsee: spv help rules\n"),
+        (
+            &["trace", "F", "--function", "x", "--limit", "1"],
+            "decimal",
+            "\nsee: spv help trace\n",
+        ),
+    ];
+    for (words, part, end) in rows {
+        let text = advice(a, words)?;
+        assert!(rt; text.as_str().contains(part), "{part}");
+        assert!(rt; text.as_str().ends_with(end), "{part}");
+        assert!(rt; !text.as_str().contains("Usage"), "{part}");
+    }
+    Ok(())
+}
+
+#[test]
+fn labels(rt: HostRuntime) -> Result<(), Fail> {
+    let mut text = FromWrite::new(Vec::new(rt.alloc()));
+    assert!(rt; write_label("a\n\\", true, &mut text));
+    assert!(rt; !write_label("b", false, &mut text));
+    assert_eq!(rt; text.inner.as_slice(), b"a\\x0a\\\\: ".as_slice());
     Ok(())
 }
 

@@ -80,7 +80,7 @@ pub enum Evidence {
         opcodes: Listed<u32>,
         end: bool,
     },
-    /// D1, D3, F2, F4, M1, Y2 and Y4: the operand that breaks the rule, or at which the rule first fails.
+    /// The rules D, F, M and Y that one operand breaks: that operand, or the one at which the rule first fails.
     Operand {
         operand: u32,
     },

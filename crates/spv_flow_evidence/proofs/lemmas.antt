@@ -1,4 +1,3 @@
-pub mod Few
 pub mod Small
 pub mod branches
 pub mod calls

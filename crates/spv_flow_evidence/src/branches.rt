@@ -24,7 +24,7 @@ use spv_layout::Plan;
 use spv_module::{Module, Rule};
 use std::alloc::{AllocError, Global};
 
-/// What shows that a rule of F1 to F4 is broken at an instruction, where `check_branches` told it (SPIR-V Specification
+/// What shows that one of the rules F is broken at an instruction, where `check_branches` told it (SPIR-V Specification
 /// 1.6, sections 2.4 and 2.16). `plan` and `ids` are what `lay_out` and `number` answered of that module.
 ///
 /// - F1: the first operand that is a label of no OpLabel, and the instruction that defines its id.

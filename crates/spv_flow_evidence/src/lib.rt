@@ -1,4 +1,4 @@
-//! What shows that a rule on the flow of control is broken: on branches (F1 to F4), on the values of walks (A1 and A2)
+//! What shows that a rule on the flow of control is broken: on branches (the rules F), on the values of walks (A1 and A2)
 //! or on calls (G1).
 #![tactic(auto)]
 

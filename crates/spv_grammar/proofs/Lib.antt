@@ -6,3 +6,6 @@ pub mod Whole
 pub mod Apart
 pub mod Elements
 mod Turns
+mod Ranges
+mod Trimmed
+pub mod Again

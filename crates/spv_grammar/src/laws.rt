@@ -3,7 +3,8 @@
 
 ghost use Rattle.std.specs.Prelude.{◌≡◌, ℕ, List, [], ◌∷◌, Some, None, codes, true, false, filter};
 ghost use Rattle.std.specs.Prelude.{slice_get, option_map, option_and_then};
-ghost use Rattle.serde_json.specs.Data.{Data, object, no_members};
+ghost use Rattle.serde_json.specs.Data.{Data, object, no_members, member, string, number, unsigned, array, item};
+ghost use Rattle.serde_json.specs.Data.{no_items};
 ghost use Rattle.spv_grammar.specs.declared.error.GrammarError.{GrammarError};
 ghost use Rattle.spv_grammar.specs.declared.error.GrammarError.TheVariants.{J2, J3, J4, J5, J6, J7};
 ghost use Rattle.spv_table.specs.declared.table.Category.TheVariants.{BitEnum, ValueEnum};
@@ -18,6 +19,9 @@ ghost use Rattle.spv_grammar.specs.File.{quantifier_of, operand_of, bit_value_of
 ghost use Rattle.spv_grammar.specs.Kinds.{first_kinds, number_in};
 ghost use Rattle.spv_grammar.specs.Made.{entry_from, enumerant_from, is_kept, sort_from, IsTable};
 ghost use Rattle.spv_grammar.specs.Answer.{file_breaks, tree_breaks, Gives, IsGiven};
+ghost use Rattle.spv_grammar.specs.Tree.{grammar_tree, operand_tree as tree_of_operand, value_tree};
+ghost use Rattle.spv_grammar.specs.Place.{with_key, with_step, leads_to, found_shown};
+ghost use Rattle.spv_grammar.specs.declared.steps.Step.TheVariants.{Item};
 ghost use Rattle.spv_table.specs.Table.{has_other_parts};
 ghost use Rattle.std.specs.List.{list_all};
 ghost use Rattle.spv_grammar.specs.Example.{a_kind, b_kind, a_again, once, unknown, instruction, no_opcode, file_with};
@@ -36,6 +40,11 @@ pub fn one_table()
 /// In a table that a file gives, no parameter and no base is of the kind of results: a file in which one is breaks J6.
 pub fn kinds_apart()
     ensures { (G : Table) → IsGiven G → list_all (has_other_parts G) G.kinds ≡ true }
+{}
+
+/// Reading what is written: of a table that a file gives, the tree of its grammar file gives the same table.
+pub fn writes_again()
+    ensures { (G : Table) → IsGiven G → Gives (grammar_tree G) G }
 {}
 
 /// The look-ups in a file's table answer what the first elements of the file make.
@@ -108,4 +117,25 @@ pub fn more_table_examples()
     // Of two enumerants of one value the table has the second alone where the first is dropped.
     ensures kept { IsTable twice_file (twice_table (kept_one ∷ [])) }
     ensures dropped { ¬ IsTable twice_file (twice_table (dropped_one ∷ kept_one ∷ [])) }
+{}
+
+/// Worked examples of how a table is written.
+pub fn tree_examples()
+    ensures quantified { tree_of_operand empty_table (record { kind = 0; quantifier = Maybe })
+        ≡ object (member (codes "kind") (string []) (member (codes "quantifier") (string (codes "?")) no_members)) }
+    ensures bits { value_tree BitEnum 16 ≡ string (codes "0x10") }
+    ensures value { value_tree ValueEnum 16 ≡ number (unsigned 16) }
+    ensures no_bits { ¬ (value_tree BitEnum 16 ≡ number (unsigned 16)) }
+    ensures nothing { grammar_tree empty_table ≡ empty_tree }
+{}
+
+/// Worked examples of paths and of what stands there.
+pub fn place_examples()
+    ensures path { with_step (codes "instructions") (Item 12) ≡ codes "instructions[12]" }
+    ensures key { with_key (codes "instructions[12]") (codes "opcode") ≡ codes "instructions[12].opcode" }
+    ensures first_key { with_key [] (codes "instructions") ≡ codes "instructions" }
+    ensures leads { leads_to (Item 0 ∷ []) (array (item (string (codes "A")) no_items)) ≡ Some (string (codes "A")) }
+    ensures leads_nowhere { leads_to (Item 1 ∷ []) (array (item (string (codes "A")) no_items)) ≡ None }
+    ensures shown { found_shown (Some (string (codes "A"))) ≡ codes "\"A\"" }
+    ensures missing { found_shown None ≡ codes "nothing" }
 {}

@@ -8,12 +8,16 @@ mod lent;
 mod load;
 mod make;
 mod numbers;
+mod place;
 mod read;
 mod rules;
+mod search;
 mod shared;
+mod steps;
 
 pub use error::GrammarError;
 pub use load::FromGrammar;
+pub use place::{GrammarFault, fault_of};
 pub use spv_table::{
     Category, Entry, Enumerant, Item, Kind, Listed, Memory, Name, NameList, Pattern, Quantifier,
     Table,

@@ -26,7 +26,7 @@ use spv_table::Table;
 use std::alloc::Global;
 
 /// The least of J3 to J7 that a file breaks.
-fn broken(numbers: &Numbers<'_>, file: &File<'_>) -> Option<GrammarError>
+pub(crate) fn broken(numbers: &Numbers<'_>, file: &File<'_>) -> Option<GrammarError>
     requires { numbers.now ≡ first_kinds file.now.kinds }
     ensures { result ≡ file_breaks file.now }
 {
@@ -134,7 +134,7 @@ fn file_of_text<'a>(
 }
 
 /// The tree that a text is in JSON: J1 where it is none, and J8 where memory ran out.
-fn parse<'a>(
+pub(crate) fn parse<'a>(
     alloc: Global,
     text: &'a [u8],
     scratch: &'a mut Scratch,

@@ -21,21 +21,21 @@ use serde_json::Number;
 use spv_table::{Category, Quantifier};
 
 /// The text at a key.
-fn text<'a>(value: &Node<'_, 'a>, key: &str) -> Option<&'a str>
+pub(crate) fn text<'a>(value: &Node<'_, 'a>, key: &str) -> Option<&'a str>
     ensures { option_map (λ s. s.now) result ≡ text_at key.now (view value.now) }
 {
     value.get(key)?.as_str()
 }
 
 /// The array at a key.
-fn items<'t, 'a>(value: &Node<'t, 'a>, key: &str) -> Option<Items<'t, 'a>>
+pub(crate) fn items<'t, 'a>(value: &Node<'t, 'a>, key: &str) -> Option<Items<'t, 'a>>
     ensures { option_map items_view result ≡ items_at key.now (view value.now) }
 {
     value.get(key)?.items()
 }
 
 /// How often an operand with this text comes; none if it is neither `?` nor `*`.
-fn quantifier(text: &str) -> Option<Quantifier>
+pub(crate) fn quantifier(text: &str) -> Option<Quantifier>
     ensures { result ≡ quantifier_of text.now }
 {
     match text {
@@ -321,7 +321,7 @@ fn hex_number(digits: &[u8]) -> Option<u32>
 }
 
 /// The value of a BitEnum's enumerant: `0x` and one to eight hexadecimal digits.
-fn bit_value(text: &str) -> Option<u32>
+pub(crate) fn bit_value(text: &str) -> Option<u32>
     ensures { result ≡ bit_value_of text.now }
 {
     let [b'0', b'x', digits @ ..] = text.as_bytes() else {
@@ -424,7 +424,7 @@ fn read_bases<'a>(
 }
 
 /// The category that a text names.
-fn category(text: &str) -> Option<Category>
+pub(crate) fn category(text: &str) -> Option<Category>
     ensures { result ≡ category_of text.now }
 {
     match text {

@@ -187,7 +187,7 @@ fn names_id(numbers: &Numbers<'_>, name: &str) -> bool
 }
 
 /// Whether a name is that of a kind of category Id or Literal.
-fn names_part(numbers: &Numbers<'_>, name: &str) -> bool
+pub(crate) fn names_part(numbers: &Numbers<'_>, name: &str) -> bool
     ensures { result ≡ Rattle.spv_grammar.specs.Kinds.is_part (kind_named numbers.now name.now) }
 {
     match numbers.kind(name) {
@@ -197,7 +197,7 @@ fn names_part(numbers: &Numbers<'_>, name: &str) -> bool
 }
 
 /// Whether a name is that of a result kind.
-fn is_result(numbers: &Numbers<'_>, name: &str) -> bool
+pub(crate) fn is_result(numbers: &Numbers<'_>, name: &str) -> bool
     ensures { result ≡ is_result numbers.now name.now }
 {
     (name == "IdResultType" || name == "IdResult") && names_id(numbers, name)

@@ -1,7 +1,7 @@
 //! Edges between numbered nodes.
 
 /// An edge from a node to a node. Nodes count from 0.
-#[derive(Clone, Copy, Debug, PartialEq, Eq)]
+#[derive(Clone, Copy)]
 pub struct Edge {
     /// The node that it leaves.
     pub from: u32,

@@ -5,7 +5,7 @@ ghost use Rattle.spv_graphs.specs.declared.graph.Block as declared;
 ghost use Rattle.spv_graphs.specs.Graph.{block_count, targets_of, IsGraph};
 
 /// A block: where its targets stand among all targets, and which values it defines.
-#[derive(Clone, Copy, Debug)]
+#[derive(Clone, Copy)]
 pub struct Block {
     /// The place of its first target, and the one after its last.
     pub first_target: usize,
@@ -19,7 +19,7 @@ pub struct Block {
 const MOST_BLOCKS: usize = 4_194_304;
 
 /// Blocks, by number. Every path begins with block 0. A block's targets are those that may come after it.
-#[derive(Debug, Drop)]
+#[derive(Drop)]
 pub struct Graph {
     pub blocks: Vec<Block>,
     /// The numbers of the targets of all blocks.

@@ -7,7 +7,7 @@ ghost use Rattle.spv_graphs.specs.First.{AreOfBlocks, AreInOrder};
 use crate::graph::Graph;
 
 /// Asks whether a value is available where a block begins, for a step.
-#[derive(Clone, Copy, Debug)]
+#[derive(Clone, Copy)]
 pub struct Query {
     pub block: u32,
     pub value: u32,

@@ -9,7 +9,7 @@ use crate::edge::Edge;
 pub const UNKNOWN: u32 = u32::MAX;
 
 /// The last step of a way to a node.
-#[derive(Clone, Copy, Debug, PartialEq, Eq)]
+#[derive(Clone, Copy)]
 pub struct Step {
     /// How many edges the way has, or `UNKNOWN`.
     pub level: u32,

@@ -8,7 +8,7 @@ use std::mem::replace;
 use std::rc::Rc;
 
 /// An instruction that was read, and where its operands lie.
-#[derive(Clone, Copy, Debug)]
+#[derive(Clone, Copy)]
 struct Head {
     opcode: u16,
     /// The place of its first operand in the list of the batch, from 0.

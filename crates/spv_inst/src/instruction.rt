@@ -25,7 +25,7 @@ use spv_table::Entry;
 use spv_words::word;
 
 /// Where an instruction lies.
-#[derive(Clone, Copy, Debug)]
+#[derive(Clone, Copy)]
 struct Place {
     /// How many instructions come before.
     number: u32,
@@ -36,7 +36,7 @@ struct Place {
 }
 
 /// An instruction that was read.
-#[derive(Clone, Copy, Debug)]
+#[derive(Clone, Copy)]
 pub struct Read {
     pub opcode: u16,
     /// The place of its first operand in the list of operands, from 0.

@@ -27,7 +27,7 @@ pub struct Scene<'t, 'd, 'a> {
 }
 
 /// What the widths of numbers need of an instruction, as far as it was read or written.
-#[derive(Clone, Copy, Debug, PartialEq, Eq)]
+#[derive(Clone, Copy)]
 pub struct Known {
     pub opcode: u16,
     /// The id of the result's type, where there is one among the operands so far.
@@ -50,7 +50,7 @@ impl Known {
 }
 
 /// A kind that is due.
-#[derive(Clone, Copy, Debug, PartialEq, Eq)]
+#[derive(Clone, Copy)]
 pub struct Slot {
     /// The number of the kind in the grammar table, from 0.
     pub kind: u32,
@@ -59,14 +59,14 @@ pub struct Slot {
 }
 
 /// An operand that was taken, and how many words it takes.
-#[derive(Clone, Copy, Debug, PartialEq, Eq)]
+#[derive(Clone, Copy)]
 pub struct Taken<'a> {
     pub operand: Operand<'a>,
     pub words: u32,
 }
 
 /// The rule that the words left of an instruction break, and at which word, counted from the first of them.
-#[derive(Clone, Copy, Debug, PartialEq, Eq)]
+#[derive(Clone, Copy)]
 pub struct Refusal {
     pub rule: Rule,
     pub word: u32,

@@ -22,7 +22,7 @@ pub enum Role {
 }
 
 /// The kinds that rows name.
-#[derive(Clone, Copy, PartialEq, Eq)]
+#[derive(Clone, Copy)]
 pub enum Named {
     SourceLanguage,
     AddressingModel,
@@ -39,7 +39,7 @@ pub enum Named {
 }
 
 /// What a row asks of an operand.
-#[derive(Clone, Copy, PartialEq, Eq)]
+#[derive(Clone, Copy)]
 pub enum Form {
     OfType,
     Result,

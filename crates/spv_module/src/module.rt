@@ -11,7 +11,7 @@ use std::alloc::Global;
 
 /// An instruction (SPIR-V Specification 1.6, section 2.3), whatever its operands: `decode` answers those alone that
 /// words spell by the grammar table, and `encode` refuses the others.
-#[derive(Debug, Drop)]
+#[derive(Drop)]
 pub struct Inst<'a> {
     /// The low half of its first word.
     pub opcode: u16,
@@ -38,7 +38,7 @@ impl<'a> Inst<'a> {
 }
 
 /// A header and a list of instructions (SPIR-V Specification 1.6, section 2.3).
-#[derive(Debug, Drop)]
+#[derive(Drop)]
 pub struct Module<'a> {
     /// Words 1 to 4: the version, the generator, the bound of ids and the schema.
     pub header: Header,

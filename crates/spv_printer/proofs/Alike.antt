@@ -10,7 +10,7 @@ use Rattle.spv_table.specs.declared.form.Form.TheVariants.{Leaf, Parts}
 use Rattle.spv_table.specs.inner.Form.{form_at}
 use Rattle.spv_module.specs.declared.opcode.TheConstants.{SWITCH}
 use Rattle.spv_inst.specs.Reading.{enumerants_at}
-use Rattle.spv_module.specs.Operand.{Plain, OfType, Result, Id, Word, Number, Text, Value, Mask, Context, and_then, after, type_in}
+use Rattle.spv_module.specs.Operand.{Plain, Number, Context, and_then, after, type_in}
 use Rattle.spv_module.specs.Shape.{Slot, Shape, AsNumber, AsWord, alone, shape_of}
 use Rattle.spv_module.specs.Spelling.{Takes}
 use Rattle.spv_inst.proofs.Shapes.{leaf_shape, shape_leaf, shape_parts}
@@ -22,14 +22,8 @@ use Rattle.spv_printer.proofs.KindForms.{Wide, number_wide}
 use Rattle.spv_tokens.proofs.NumberTypes.{type_by_context}
 
 pub alike_by : (G : Table) (c : Context) (o : Plain) → is_no_number o ≡ true → IsShownAlike G c o
-alike_by G c (OfType x) e s ws ss t = refl
-alike_by G c (Result x) e s ws ss t = refl
-alike_by G c (Id x) e s ws ss t = refl
-alike_by G c (Word x) e s ws ss t = refl
 alike_by G c (Number a b w) e s ws ss t = cc
-alike_by G c (Text u) e s ws ss t = refl
-alike_by G c (Value k x) e s ws ss t = refl
-alike_by G c (Mask k x) e s ws ss t = refl
+alike_by G c _ e s ws ss t = refl
 
 -- one operand more
 pub alike_snoc : (G : Table) (c : Context) (os : List Plain) (o : Plain) → AreShownAlike G c os → IsShownAlike G (after c os) o → AreShownAlike G c (os ++ (o ∷ []))
@@ -46,14 +40,7 @@ narrow_takes G c l kind x e i n =
 -- a number in an instruction other than OpSwitch has the type of the instruction
 no_word : (k : ℕ) (a b n : ℕ) (sh : Shape) (o : Plain) (ws : List ℕ) (ss : List Slot) → Takes k sh o ws ss → sh ≡ AsWord → o ≡ Number a b n → ⊥
 no_word k a b n _ _ _ _ (Takes.result_type x) e f = cc
-no_word k a b n _ _ _ _ (Takes.result x) e f = cc
-no_word k a b n _ _ _ _ (Takes.id x) e f = cc
-no_word k a b n _ _ _ _ (Takes.word x) e f = cc
-no_word k a b n _ _ _ _ (Takes.narrow w x h) e f = cc
-no_word k a b n _ _ _ _ (Takes.wide w x y h) e f = cc
-no_word k a b n _ _ _ _ (Takes.text t ws d h z u) e f = cc
-no_word k a b n _ _ _ _ (Takes.value fs x ks h) e f = cc
-no_word k a b n _ _ _ _ (Takes.mask fs x ks h) e f = cc
+no_word k a b n _ _ _ _ _ e f = cc
 
 other_opcode : (p : Bool) (x : ℕ) → x ≢ SWITCH → (p && nat_eq x SWITCH) ≡ false
 other_opcode true x n = grind (arith, nat_tests)

@@ -6,9 +6,8 @@ use Rattle.std.proofs.Math.Nat.{pow-succ', div-div-eq-div-mul}
 use Rattle.std.proofs.lemmas.Nat.{one_shl}
 use Rattle.std.proofs.lemmas.Bool.Decides.{nat_tests}
 use Rattle.spv_table.specs.declared.table.Enumerant.{Enumerant}
-use Rattle.spv_table.specs.Table.{Sort, enumerant_of}
+use Rattle.spv_table.specs.Table.{enumerant_of}
 use Rattle.spv_table.specs.Lookups.{value_named, is_number}
-use Rattle.spv_inst.specs.Reading.{enumerants_at}
 use Rattle.spv_module.specs.Spelling.{bits_from, set_bits}
 use Rattle.spv_lines.specs.Name.{is_plain, is_name_octet, joined, by_number, mask_values, first_name, first_names, if_plain, names_from, shown_value, shown_mask}
 
@@ -143,13 +142,6 @@ left_set es mask goal out barred more is_first p l h g e f =
     let j : out ++ tail is_first l.names ≡ out ++ (bar ++ (b.first ++ tail false b.rest)) = ap (λ z. out ++ tail is_first z) b.all ∙ ap (λ z. out ++ z) (tail_more is_first b.first b.rest) in
     record { names = b.rest; found = b.rest_is; all = k ∙ (sym j ∙ l.all) }
 
--- the bit that comes next has a name
-pub left_named : (es : List Enumerant) (mask : ℕ) (goal out : List ℕ) (is_first : Bool) (p : ℕ) → Left es mask goal out is_first p → p < 32 → mask / 2 ^ p % 2 ≡ 1 → is_some (first_name es ((1 * 2 ^ p) % 2 ^ 32)) ≡ true
-left_named es mask goal out is_first p l h g =
-    let n : and_names (first_name es (2 ^ p)) (names_from es mask (p + 1)) ≡ Some l.names = sym (set_names es mask p h g) ∙ l.found in
-    let b = both (first_name es (2 ^ p)) (names_from es mask (p + 1)) l.names n in
-    ap (λ x. is_some (first_name es x)) (the_bit p h) ∙ ap is_some b.first_is
-
 -- what is shown of a value whose enumerant's name is shown
 named_by : (es : List Enumerant) (x : ℕ) (e : Enumerant) (b : Bool) → is_some (if b then Some e.name else None) ≡ true → unwrap_or (if b then Some e.name else None) (by_number x) ≡ e.name
 named_by es x e true h = refl
@@ -202,8 +194,3 @@ mask_shown r es x old out n e h = step (first_names es (set_bits x)) refl (e ∙
     step : (o : Option (List (List ℕ))) → first_names es (set_bits x) ≡ o → true ≡ is_some o → OnOk r (out ≡ old ++ shown_mask es x)
     step None f g = cc
     step (Some ts) f g = rw (← named_mask es x ts n f) (h ts (all_names es x ∙ f))
-
--- the enumerants of a kind
-pub enumerant_at : (o : Option Sort) (x : ℕ) → option_and_then (λ s. enumerant_of s.enumerants x) o ≡ enumerant_of (enumerants_at o) x
-enumerant_at None x = refl
-enumerant_at (Some s) x = refl

@@ -45,14 +45,8 @@ pieces_snoc G [] o = append-nil (piece_of G o)
 pieces_snoc G (p ∷ os) o = ap (λ z. piece_of G p ++ z) (pieces_snoc G os o) ∙ sym (append_assoc (piece_of G p) (pieces_of G os) (piece_of G o))
 
 pub other_count : (os : List Plain) (o : Plain) → result_in (o ∷ []) ≡ None → results_of (os ++ (o ∷ [])) ≡ results_of os
-other_count [] (OfType x) n = refl
 other_count [] (Result x) n = cc
-other_count [] (Id x) n = refl
-other_count [] (Word x) n = refl
-other_count [] (Number a b w) n = refl
-other_count [] (Text u) n = refl
-other_count [] (Value k x) n = refl
-other_count [] (Mask k x) n = refl
+other_count [] _ n = refl
 other_count (OfType x ∷ os) o n = other_count os o n
 other_count (Result x ∷ os) o n = let e = other_count os o n in omega arith
 other_count (Id x ∷ os) o n = other_count os o n

@@ -57,9 +57,6 @@ quoted_more xs i goal out more m l h n e f =
     let j : out ++ ((t ++ (mark (get_or xs i 0) ++ d)) ++ (34 ∷ [])) ≡ out ++ (escaped xs ++ (34 ∷ [])) = ap (λ z. out ++ (z ++ (34 ∷ []))) (sym a) in
     g ∙ (k ∙ (j ∙ e))
 
-pub feed_is : (b : ℕ) → b ≢ 34 → b ≢ 92 → is_byte3 34 92 10 b ≡ true → b ≡ 10
-feed_is b n m h = grind (arith, nat_tests)
-
 pub marked_ascii : (b : ℕ) → is_byte3 34 92 10 b ≡ true → b < 128
 marked_ascii b h = grind (arith, nat_tests)
 

@@ -2,8 +2,6 @@
 use Rattle.std.proofs.Common.{◌≡◌, ℕ, List, [], Option, Some, Bool, true, false, ◌&&◌, nat_eq, map, refl, sym, ap}
 use Rattle.std.specs.Prelude.{unwrap_or, if◌then◌else◌}
 use Rattle.spv_table.specs.declared.table.Enumerant.{Enumerant}
-use Rattle.spv_table.specs.declared.table.Category.{Category}
-use Rattle.spv_table.specs.declared.table.Category.TheVariants as category
 use Rattle.spv_table.specs.Table.{Table, kind_of}
 use Rattle.spv_table.specs.declared.form.Leaf as declared
 use Rattle.spv_table.specs.declared.form.Leaf.TheVariants as leaf
@@ -28,38 +26,15 @@ no_mask true w es h = cc
 no_mask false w es h = cc
 
 value_of : (c : Context) (p : Bool) (es fs : List Enumerant) (l : declared.Leaf) → AsValue fs ≡ leaf_shape c p es l → fs ≡ es
-value_of c p es fs leaf.ResultType h = cc
-value_of c p es fs leaf.Result h = cc
-value_of c p es fs leaf.Id h = cc
 value_of c p es fs leaf.Integer h = absurd (no_value (p && nat_eq c.opcode SWITCH) (switch_width c) fs (sym h))
-value_of c p es fs leaf.Word h = cc
-value_of c p es fs leaf.ContextNumber h = cc
-value_of c p es fs leaf.Text h = cc
-value_of c p es fs leaf.Value h = cc
-value_of c p es fs leaf.Mask h = cc
-value_of c p es fs leaf.Nothing h = cc
+value_of c p es fs _ h = cc
 
 mask_of : (c : Context) (p : Bool) (es fs : List Enumerant) (l : declared.Leaf) → AsMask fs ≡ leaf_shape c p es l → fs ≡ es
-mask_of c p es fs leaf.ResultType h = cc
-mask_of c p es fs leaf.Result h = cc
-mask_of c p es fs leaf.Id h = cc
 mask_of c p es fs leaf.Integer h = absurd (no_mask (p && nat_eq c.opcode SWITCH) (switch_width c) fs (sym h))
-mask_of c p es fs leaf.Word h = cc
-mask_of c p es fs leaf.ContextNumber h = cc
-mask_of c p es fs leaf.Text h = cc
-mask_of c p es fs leaf.Value h = cc
-mask_of c p es fs leaf.Mask h = cc
-mask_of c p es fs leaf.Nothing h = cc
+mask_of c p es fs _ h = cc
 
 opened_by : (G : Table) (k : ℕ) (c : Context) (p : Bool) (l : declared.Leaf) (sh : Shape) (o : Plain) (ws : List ℕ) (ss : List Slot) → Takes k sh o ws ss
     → sh ≡ leaf_shape c p (enumerants_at (kind_of G k)) l → ss ≡ map alone (opened_kinds G o)
-opened_by G k c p l _ _ _ _ (Takes.result_type x) e = refl
-opened_by G k c p l _ _ _ _ (Takes.result x) e = refl
-opened_by G k c p l _ _ _ _ (Takes.id x) e = refl
-opened_by G k c p l _ _ _ _ (Takes.word x) e = refl
-opened_by G k c p l _ _ _ _ (Takes.narrow w x h) e = refl
-opened_by G k c p l _ _ _ _ (Takes.wide w x y h) e = refl
-opened_by G k c p l _ _ _ _ (Takes.text t ws d h z u) e = refl
 opened_by G k c p l _ _ _ _ (Takes.value es x ks h) e =
     let f = value_of c p (enumerants_at (kind_of G k)) es l e in
     let g : parameters_of (enumerants_at (kind_of G k)) x ≡ Some ks = rw f at h in
@@ -68,6 +43,7 @@ opened_by G k c p l _ _ _ _ (Takes.mask es x ks h) e =
     let f = mask_of c p (enumerants_at (kind_of G k)) es l e in
     let g : mask_parameters (enumerants_at (kind_of G k)) x ≡ Some ks = rw f at h in
     sym (ap (map alone) (whole_mask G k x ks g))
+opened_by G k c p l _ _ _ _ _ e = refl
 
 -- the parameters that are due behind an operand are those that it opens
 pub slots_opened : (G : Table) (c : Context) (s : Slot) (l : declared.Leaf) (o : Plain) (ws : List ℕ) (ss : List Slot) → form_at (kind_of G s.kind) ≡ Leaf l
@@ -84,28 +60,15 @@ integer_wide c w true h = cc
 integer_wide c w false h = cc
 
 wide_of : (c : Context) (p : Bool) (es : List Enumerant) (l : declared.Leaf) (w : ℕ) → leaf_shape c p es l ≡ AsNumber (Some w) → Wide c l
-wide_of c p es leaf.ResultType w h = cc
-wide_of c p es leaf.Result w h = cc
-wide_of c p es leaf.Id w h = cc
 wide_of c p es leaf.Integer w h = Wide.switch w refl (integer_wide c w (p && nat_eq c.opcode SWITCH) h)
-wide_of c p es leaf.Word w h = cc
 wide_of c p es leaf.ContextNumber w h = Wide.context w refl (let e : context_width c ≡ Some w = cc in e)
-wide_of c p es leaf.Text w h = cc
-wide_of c p es leaf.Value w h = cc
-wide_of c p es leaf.Mask w h = cc
-wide_of c p es leaf.Nothing w h = cc
+wide_of c p es _ w h = cc
 
 wide_by : (k : ℕ) (c : Context) (p : Bool) (es : List Enumerant) (l : declared.Leaf) (sh : Shape) (o : Plain) (ws : List ℕ) (ss : List Slot) (a b n : ℕ) → Takes k sh o ws ss
     → o ≡ Number a b n → sh ≡ leaf_shape c p es l → Wide c l
-wide_by k c p es l _ _ _ _ a b n (Takes.result_type x) e f = cc
-wide_by k c p es l _ _ _ _ a b n (Takes.result x) e f = cc
-wide_by k c p es l _ _ _ _ a b n (Takes.id x) e f = cc
-wide_by k c p es l _ _ _ _ a b n (Takes.word x) e f = cc
 wide_by k c p es l _ _ _ _ a b n (Takes.narrow w x h) e f = wide_of c p es l w (sym f)
 wide_by k c p es l _ _ _ _ a b n (Takes.wide w x y h) e f = wide_of c p es l w (sym f)
-wide_by k c p es l _ _ _ _ a b n (Takes.text t ws d h z u) e f = cc
-wide_by k c p es l _ _ _ _ a b n (Takes.value fs x ks h) e f = cc
-wide_by k c p es l _ _ _ _ a b n (Takes.mask fs x ks h) e f = cc
+wide_by k c p es l _ _ _ _ a b n _ e f = cc
 
 pub number_wide : (G : Table) (c : Context) (s : Slot) (l : declared.Leaf) (a b n : ℕ) (ws : List ℕ) (ss : List Slot) → form_at (kind_of G s.kind) ≡ Leaf l
     → Takes s.kind (shape_of G c s) (Number a b n) ws ss → Wide c l

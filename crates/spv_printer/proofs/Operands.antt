@@ -1,5 +1,6 @@
 -- What is known of an instruction tells how a number is shown; what an operand has in its line.
-use Rattle.std.proofs.Common.{◌≡◌, ◌++◌, ◌∙◌, ◌<◌, ◌+◌, length, take, get_or, append_assoc, append-nil, ℕ, List, [], ◌∷◌, Option, Some, None, Bool, true, false, ◌&&◌, ◌||◌, not, is_some, option_and_then, refl, sym, ap}
+use Rattle.std.proofs.Common.{◌≡◌, ◌++◌, ◌∙◌, ◌<◌, ◌+◌, arith, length, take, get_or, append_assoc, append-nil, ℕ, zero, suc, List, [], ◌∷◌, Option, Some, None, Bool, true, false, ◌&&◌, ◌||◌, not, is_some, option_and_then, refl, sym, ap}
+use Rattle.std.specs.List.{list_any}
 use Rattle.std.specs.Prelude.{Result as Answer, Ok, Err, OnOk}
 use Rattle.spv_table.specs.Table.{Table, kind_of}
 use Rattle.spv_inst.specs.declared.definitions.Definitions.{Definitions}
@@ -20,6 +21,7 @@ use Rattle.spv_inst.specs.Reading.{enumerants_at}
 use Rattle.spv_module.specs.declared.operand.Operand.{Operand}
 use Rattle.spv_module.specs.declared.operand.Operand.TheVariants as code
 use Rattle.spv_module.specs.Module.{plain_operand, plain_operands}
+use Rattle.spv_printer.specs.inner.Printer.{is_number}
 use Rattle.spv_printer.proofs.Steps.{so_far}
 use Rattle.spv_printer.proofs.KindForms.{Wide, number_wide}
 use Rattle.spv_tokens.proofs.NumberTypes.{type_by_context, type_by_switch}
@@ -76,13 +78,7 @@ shown_no_switch d known G c s l x o a b n ws ss i m e f t g = absurd (no_switch 
 -- a result that stands in front has no piece, and all else a space and its text
 in_front : (c : Context) (o : Plain) → is_result c o ≡ (is_some (result_in (o ∷ [])) && not (is_some (result_in c.operands)))
 in_front c (OfType x) = refl
-in_front c (Result x) = refl
-in_front c (Id x) = refl
-in_front c (Word x) = refl
-in_front c (Number a b n) = refl
-in_front c (Text t) = refl
-in_front c (Value k x) = refl
-in_front c (Mask k x) = refl
+in_front c _ = refl
 
 front_piece : (form : Form) (G : Table) (r : Option ℕ) (c : Context) (s : Slot) (o : Plain) (p : List ℕ) → Piece form G r c s o p → is_result c o ≡ true → p ≡ []
 front_piece form G r c s _ _ (Piece.result x n e) h = refl
@@ -97,8 +93,6 @@ other_piece G r c s _ _ (Piece.other o t n e) h = ap (λ z. 32 ∷ z) e
 
 -- whether there is a result after one operand more
 result_more : (os : List Plain) (o : Plain) → is_some (result_in (os ++ (o ∷ []))) ≡ (is_some (result_in os) || is_some (result_in (o ∷ [])))
-result_more [] o = refl
-result_more (Result x ∷ os) o = refl
 result_more (OfType x ∷ os) o = result_more os o
 result_more (Id x ∷ os) o = result_more os o
 result_more (Word x ∷ os) o = result_more os o
@@ -106,6 +100,17 @@ result_more (Number a b n ∷ os) o = result_more os o
 result_more (Text t ∷ os) o = result_more os o
 result_more (Value k x ∷ os) o = result_more os o
 result_more (Mask k x ∷ os) o = result_more os o
+result_more _ o = refl
+
+-- one operand that is a number
+pub some_number : (items : List Operand) (i : ℕ) (o x : Operand) → i < length items → o ≡ get_or items i x → is_number o ≡ true → list_any is_number items ≡ true
+some_number [] i o x h e n = absurd (omega arith)
+some_number (p ∷ ps) zero o x h e n = let m : is_number p ≡ true = rw e at n in rw m refl
+some_number (p ∷ ps) (suc k) o x h e n = either_true (is_number p) (some_number ps k o x (omega arith) e n)
+  where
+    either_true : (b : Bool) {c : Bool} → c ≡ true → (b || c) ≡ true
+    either_true true e = refl
+    either_true false e = e
 
 -- whether there is a result now, where the operand stands in front or not
 pub one_of : (a b : Bool) → (b && not a) ≡ true → true ≡ (a || b)

@@ -93,14 +93,8 @@ same_some e f o g h = let i : Some f ≡ Some e = sym h ∙ g in cc
 
 -- what an operand that is no result has in its line
 pub piece_by : (G : Table) (o : Plain) → result_in (o ∷ []) ≡ None → 32 ∷ shown_operand G false o ≡ piece_of G o
-piece_by G (OfType x) n = refl
 piece_by G (Result x) n = cc
-piece_by G (Id x) n = refl
-piece_by G (Word x) n = refl
-piece_by G (Number a b w) n = refl
-piece_by G (Text u) n = refl
-piece_by G (Value k x) n = refl
-piece_by G (Mask k x) n = refl
+piece_by G _ n = refl
 
 pub octets_put : (old ys : List ℕ) (start end : ℕ) → start + length ys ≡ end → end ≤ length old → drop start (take start old ++ (ys ++ drop (end - start) (drop start old))) ≡ ys ++ drop end old
 octets_put old ys start end e l =

@@ -48,14 +48,11 @@ one_place G (Mask j x) (Mask k y) at p q h =
 -- what is in one place of the order is one
 pub same_named : (a b : Named) → named_cmp a b ≡ Equal → a ≡ b
 same_named (Opcode x) (Opcode y) h = ap Opcode (exact_unsigned x y h)
-same_named (Opcode x) (Value k y) h = cc
-same_named (Opcode x) (Mask k y) h = cc
-same_named (Value j x) (Opcode y) h = cc
+same_named (Opcode x) _ h = cc
 same_named (Value j x) (Value k y) h = let e : (j, x) ≡ (k, y) = exact_pairs nat_cmp nat_cmp exact_unsigned exact_unsigned (j, x) (k, y) h in ap (λ p. Value p.0 p.1) e
-same_named (Value j x) (Mask k y) h = cc
-same_named (Mask j x) (Opcode y) h = cc
-same_named (Mask j x) (Value k y) h = cc
+same_named (Value j x) _ h = cc
 same_named (Mask j x) (Mask k y) h = let e : (j, x) ≡ (k, y) = exact_pairs nat_cmp nat_cmp exact_unsigned exact_unsigned (j, x) (k, y) h in ap (λ p. Mask p.0 p.1) e
+same_named (Mask j x) _ h = cc
 
 -- what is kept of something, where something was kept
 pub one_kept : (G : Table) (key named : Named) (w b : Bool) (old new : Option Bool) → new ≡ cond (is_eq (named_cmp key named)) (Some w) old → new ≡ Some b → IsShownBy G key w → (old ≡ Some b → IsShownBy G named b)

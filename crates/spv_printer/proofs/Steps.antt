@@ -28,31 +28,22 @@ present : (form : Form) (G : Table) (r : Option ℕ) (d : Context) (es ds : List
     → es ≡ ds → left ≡ o ∷ os → Written form G r d (settled true ds) (o ∷ os) us t
 present form G r _ _ [] left us t o os m e f = rw (e, f) at m
 present form G r _ _ (OneOf s ∷ ds) left us t o os m e f = rw (e, f) at m
-present form G r _ _ (MaybeOf s ∷ ds) _ _ _ o os (Written.end c) e f = cc
-present form G r _ _ (MaybeOf s ∷ ds) _ _ _ o os (Written.take c t es p ws ss q ps us u x y m) e f = cc
-present form G r _ _ (MaybeOf s ∷ ds) _ _ _ o os (Written.parts c t es ss ps us u h m) e f = cc
 present form G r _ _ (MaybeOf s ∷ ds) _ _ _ o os (Written.no_maybe c t es ps u m) e f = let g = no_operands G c es ps [] (forget form G r c es ps [] u m) refl in cc
 present form G r _ _ (MaybeOf s ∷ ds) _ _ _ o os (Written.maybe c t es ps u us v m) e f =
     let g : t ≡ s = cc in
     let h : es ≡ ds = cc in
     rw (g, h, f) at m
-present form G r _ _ (MaybeOf s ∷ ds) _ _ _ o os (Written.no_many c t es ps u m) e f = cc
-present form G r _ _ (MaybeOf s ∷ ds) _ _ _ o os (Written.many c t es ps u us v m) e f = cc
-present form G r _ _ (ManyOf s ∷ ds) _ _ _ o os (Written.end c) e f = cc
-present form G r _ _ (ManyOf s ∷ ds) _ _ _ o os (Written.take c t es p ws ss q ps us u x y m) e f = cc
-present form G r _ _ (ManyOf s ∷ ds) _ _ _ o os (Written.parts c t es ss ps us u h m) e f = cc
-present form G r _ _ (ManyOf s ∷ ds) _ _ _ o os (Written.no_maybe c t es ps u m) e f = cc
-present form G r _ _ (ManyOf s ∷ ds) _ _ _ o os (Written.maybe c t es ps u us v m) e f = cc
+present form G r _ _ (MaybeOf s ∷ ds) _ _ _ o os _ e f = cc
 present form G r _ _ (ManyOf s ∷ ds) _ _ _ o os (Written.no_many c t es ps u m) e f = let g = no_operands G c es ps [] (forget form G r c es ps [] u m) refl in cc
 present form G r _ _ (ManyOf s ∷ ds) _ _ _ o os (Written.many c t es ps u us v m) e f =
     let g : t ≡ s = cc in
     let h : es ≡ ds = cc in
     rw (g, h, f) at m
+present form G r _ _ (ManyOf s ∷ ds) _ _ _ o os _ e f = cc
 
 -- a Composite that is due: its bases are, in its place
 bases_due : (form : Form) (G : Table) (r : Option ℕ) (d : Context) (es ds : List Due) (s : Slot) (ss : List Slot) (left : List Plain) (us t : List ℕ) → shape_of G d s ≡ AsParts ss
     → Written form G r d es left us t → es ≡ OneOf s ∷ ds → Written form G r d (map OneOf ss ++ ds) left us t
-bases_due form G r _ _ ds s ss _ _ _ h (Written.end c) e = cc
 bases_due form G r _ _ ds s ss _ _ _ h (Written.take c t es p ws ts q ps us u x y m) e =
     let g : t ≡ s = cc in
     let h' : shape_of G c t ≡ AsParts ss = rw g h in
@@ -63,10 +54,7 @@ bases_due form G r _ _ ds s ss _ _ _ h (Written.parts c t es ts ps us u k m) e =
     let k' : shape_of G c s ≡ AsParts ts = rw g at k in
     let q : ts ≡ ss = same_bases (shape_of G c s) ts ss k' h in
     rw (q, f) at m
-bases_due form G r _ _ ds s ss _ _ _ h (Written.no_maybe c t es ps u m) e = cc
-bases_due form G r _ _ ds s ss _ _ _ h (Written.maybe c t es ps u us v m) e = cc
-bases_due form G r _ _ ds s ss _ _ _ h (Written.no_many c t es ps u m) e = cc
-bases_due form G r _ _ ds s ss _ _ _ h (Written.many c t es ps u us v m) e = cc
+bases_due form G r _ _ ds s ss _ _ _ h _ e = cc
 
 opened : (form : Form) (G : Table) (r : Option ℕ) (s : Slot) (ds es : List Due) → Opens G s ds es → (d : Context) (left : List Plain) (us t : List ℕ) → Written form G r d (OneOf s ∷ ds) left us t
     → Written form G r d es left us t
@@ -91,7 +79,6 @@ pub record Front (form : Form) (G : Table) (r : Option ℕ) (d : Context) (s : S
 
 at_leaf : (form : Form) (G : Table) (r : Option ℕ) (d : Context) (es ds : List Due) (s : Slot) (left : List Plain) (us t : List ℕ) (o : Plain) (os : List Plain)
     → ((ss : List Slot) → shape_of G d s ≡ AsParts ss → ⊥) → Written form G r d es left us t → es ≡ OneOf s ∷ ds → left ≡ o ∷ os → Front form G r d s ds o os t
-at_leaf form G r _ _ ds s _ _ _ o os h (Written.end c) e f = cc
 at_leaf form G r _ _ ds s _ _ _ o os h (Written.take c t es p ws ss q ps us u x y m) e f =
     let g : t ≡ s = cc in
     let k : es ≡ ds = cc in
@@ -101,10 +88,7 @@ at_leaf form G r _ _ ds s _ _ _ o os h (Written.take c t es p ws ss q ps us u x 
 at_leaf form G r _ _ ds s _ _ _ o os h (Written.parts c t es ss ps us u k m) e f =
     let g : t ≡ s = cc in
     absurd (h ss (rw g at k))
-at_leaf form G r _ _ ds s _ _ _ o os h (Written.no_maybe c t es ps u m) e f = cc
-at_leaf form G r _ _ ds s _ _ _ o os h (Written.maybe c t es ps u us v m) e f = cc
-at_leaf form G r _ _ ds s _ _ _ o os h (Written.no_many c t es ps u m) e f = cc
-at_leaf form G r _ _ ds s _ _ _ o os h (Written.many c t es ps u us v m) e f = cc
+at_leaf form G r _ _ ds s _ _ _ o os h _ e f = cc
 
 leaf_no_parts : (sh : Shape) (ts : List Slot) → IsLeaf sh → sh ≡ AsParts ts → ⊥
 leaf_no_parts sh ts h e = rw e at h
@@ -122,12 +106,7 @@ nothing_due form G r d ds o os us t e m = none (settled true ds) (o ∷ os) us t
   where
     none : (es : List Due) (left : List Plain) (us t : List ℕ) → Written form G r d es left us t → es ≡ [] → left ≡ o ∷ os → ⊥
     none _ _ _ _ (Written.end c) e f = cc
-    none _ _ _ _ (Written.take c t es p ws ss q ps us u x y m) e f = cc
-    none _ _ _ _ (Written.parts c t es ss ps us u h m) e f = cc
-    none _ _ _ _ (Written.no_maybe c t es ps u m) e f = cc
-    none _ _ _ _ (Written.maybe c t es ps u us v m) e f = cc
-    none _ _ _ _ (Written.no_many c t es ps u m) e f = cc
-    none _ _ _ _ (Written.many c t es ps u us v m) e f = cc
+    none _ _ _ _ _ e f = cc
 
 abbrev pub context_at : List PlainInst → ℕ → List Plain → Context
 context_at before opcode os = record { before = before; opcode = opcode; operands = os }

@@ -1,15 +1,17 @@
 //! The lines of single instructions of a module.
 
-ghost use Rattle.std.specs.Prelude.{◌≡◌, ◌<◌, ◌≤◌, ◌++◌, ◌∷◌, [], ℕ, List, OnOk, IfOk, length, map, take, string_bytes};
+ghost use Rattle.std.specs.Prelude.{◌≡◌, ◌<◌, ◌++◌, ◌∷◌, [], ℕ, List, OnOk, IfOk, length, map, take};
+ghost use Rattle.std.specs.Prelude.{string_bytes};
+ghost use Rattle.std.specs.List.{list_any};
 ghost use Rattle.spv_module.specs.Module.{plain_inst, plain_insts};
 ghost use Rattle.spv_module.specs.Operand.{PlainInst};
 ghost use Rattle.spv_inst.specs.inner.Known.{Knows};
 ghost use Rattle.spv_lines.specs.Text.{ShownLines, ended, inst_line};
-ghost use Rattle.spv_printer.specs.inner.Printer.{IsReady};
+ghost use Rattle.spv_printer.specs.inner.Printer.{IsReady, KnowsFor, is_number};
 
 use crate::printer::Printer;
 use spv_inst::due::Definitions;
-use spv_module::{Inst, Module};
+use spv_module::{Inst, Module, Operand};
 use spv_table::Table;
 use std::alloc::{AllocError, Global};
 
@@ -24,36 +26,53 @@ fn add_all(definitions: &mut Definitions, insts: &[Inst<'_>]) -> Result<(), Allo
     Ok(())
 }
 
-/// Adds the line of an instruction by its place in a list, without its line feed. The printer keeps what those before
-/// `from` tell; then it keeps what all before the instruction tell. Where memory runs out, nothing is said of what is
-/// left.
-fn push_at<'t>(
-    printer: &mut Printer<'t>,
-    out: &mut String,
-    table: &'t Table,
-    insts: &[Inst<'_>],
-    from: usize,
-    at: usize,
-) -> Result<(), AllocError>
-    requires ready { IsReady table.now printer.old }
-    requires knows { Knows printer.old.definitions (map plain_inst (take from insts.now)) }
-    requires order { from ≤ at }
-    requires within { at < length insts.now }
-    ensures line { (lines : List (List ℕ)) → ShownLines table.now [] (map plain_inst insts.now) lines
-        → OnOk result (string_bytes out.new ≡ string_bytes out.old ++ inst_line lines at) }
-    ensures knows { OnOk result (Knows printer.new.definitions (map plain_inst (take at insts.now))) }
-    ensures ready { OnOk result (IsReady table.now printer.new) }
+/// Whether an operand is a number.
+fn has_number(operands: &[Operand]) -> bool
+    ensures { result ≡ list_any is_number operands.now }
 {
-    add_all(&mut printer.definitions, &insts[from..at])?;
-    let inst = &insts[at];
-    printer.push_inst(out, table, inst.opcode, inst.operands.as_slice())?;
-    Ok(())
+    operands
+        .iter()
+        .any(|operand| matches!(operand, Operand::Number { .. }))
 }
 
-/// Begins anew where a place is before `from`; gives before which instruction the printer knows all then.
-fn rewind<'t>(
+/// Makes the printer, which keeps what the instructions before `from` tell, keep what those before `at` tell, where one
+/// of the operands is a number; gives before which instruction it keeps all then. Where memory runs out, nothing is
+/// said of what is left.
+fn prepare<'t>(
     alloc: Global,
     printer: &mut Printer<'t>,
+    table: &'t Table,
+    insts: &[Inst<'_>],
+    operands: &[Operand],
+    from: usize,
+    at: usize,
+) -> Result<usize, AllocError>
+    requires ready { IsReady table.now printer.old }
+    requires knows { Knows printer.old.definitions (map plain_inst (take from insts.now)) }
+    requires within { at < length insts.now }
+    ensures enough { OnOk result (KnowsFor printer.new.definitions (map plain_inst (take at insts.now)) operands.now) }
+    ensures knows { IfOk result (λ n. Knows printer.new.definitions (map plain_inst (take n insts.now))) }
+    ensures ready { OnOk result (IsReady table.now printer.new) }
+{
+    if !has_number(operands) {
+        return Ok(from);
+    }
+    if from > at {
+        *printer = Printer::new(alloc, table)?;
+        add_all(&mut printer.definitions, &insts[..at])?;
+        return Ok(at);
+    }
+    add_all(&mut printer.definitions, &insts[from..at])?;
+    Ok(at)
+}
+
+/// Adds the line of an instruction by its place in a list, without its line feed. The printer keeps what those before
+/// `from` tell; gives before which one it keeps what all tell then. Where memory runs out, nothing is said of what is
+/// left.
+fn push_at<'t>(
+    alloc: Global,
+    printer: &mut Printer<'t>,
+    out: &mut String,
     table: &'t Table,
     insts: &[Inst<'_>],
     from: usize,
@@ -61,15 +80,17 @@ fn rewind<'t>(
 ) -> Result<usize, AllocError>
     requires ready { IsReady table.now printer.old }
     requires knows { Knows printer.old.definitions (map plain_inst (take from insts.now)) }
-    ensures order { IfOk result (λ n. n ≤ at) }
+    requires within { at < length insts.now }
+    ensures line { (lines : List (List ℕ)) → ShownLines table.now [] (map plain_inst insts.now) lines
+        → OnOk result (string_bytes out.new ≡ string_bytes out.old ++ inst_line lines at) }
     ensures knows { IfOk result (λ n. Knows printer.new.definitions (map plain_inst (take n insts.now))) }
-    ensures ready { IfOk result (λ n. IsReady table.now printer.new) }
+    ensures ready { OnOk result (IsReady table.now printer.new) }
 {
-    if from <= at {
-        return Ok(from);
-    }
-    *printer = Printer::new(alloc, table)?;
-    Ok(0)
+    let inst = &insts[at];
+    let operands = inst.operands.as_slice();
+    let known = prepare(alloc, printer, table, insts, operands, from, at)?;
+    printer.push_inst(out, table, inst.opcode, operands)?;
+    Ok(known)
 }
 
 /// Adds the line of an instruction by its place in a list, with its line feed; the line feed alone where the list has
@@ -94,14 +115,14 @@ fn push_chosen<'t>(
         out.push('\n')?;
         return Ok(from);
     }
-    let start = rewind(alloc, printer, table, insts, from, at)?;
-    push_at(printer, out, table, insts, start, at)?;
+    let known = push_at(alloc, printer, out, table, insts, from, at)?;
     out.push('\n')?;
-    Ok(at)
+    Ok(known)
 }
 
 /// The line of an instruction of a module by its number, from 0, as it stands in the text of the whole module, without
-/// its line feed. Empty where there is no instruction of that number. Time is linear in the instructions before it.
+/// its line feed. Empty where there is no instruction of that number. Time is linear in its words; where it has a number
+/// whose width depends on a type, also in the instructions before it.
 ///
 /// Of a module that words spell, as `decode` makes them, each instruction has such a line.
 ///
@@ -122,13 +143,14 @@ pub fn show_inst(
         return Ok(out);
     }
     let mut printer = Printer::new(alloc, table)?;
-    push_at(&mut printer, &mut out, table, insts, 0, at)?;
+    push_at(alloc, &mut printer, &mut out, table, insts, 0, at)?;
     Ok(out)
 }
 
-/// The lines of instructions of a module by their numbers, each as `show_inst` gives it, ended by a line feed. Where
-/// the numbers stand in order, time is linear in the instructions and the numbers; a number less than the one before
-/// it takes a way of its own through the instructions.
+/// The lines of instructions of a module by their numbers, each as `show_inst` gives it, ended by a line feed. Time is
+/// linear in the words of these instructions. Where some have a number whose width depends on a type, the instructions
+/// before these are gone through too: once, if the numbers stand in order, and anew for each that is less than the one
+/// before it.
 ///
 /// An `AllocError` comes only where a growth of memory was refused.
 pub fn show_insts(

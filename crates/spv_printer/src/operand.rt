@@ -1,7 +1,7 @@
 //! Operands as a text shows them.
 
 ghost use Rattle.std.specs.Prelude.{◌≡◌, ◌++◌, ◌∷◌, ◌&&◌, ◌||◌, [], ℕ, List, Option, OnOk};
-ghost use Rattle.std.specs.Prelude.{IfOk, string_bytes, is_some, not};
+ghost use Rattle.std.specs.Prelude.{IfOk, string_bytes, is_some, not, true};
 ghost use Rattle.spv_table.specs.Table.{Table, kind_of};
 ghost use Rattle.spv_table.specs.declared.form.Form.TheVariants.{Leaf as LeafForm};
 ghost use Rattle.spv_table.specs.inner.Form.{form_at};
@@ -15,6 +15,7 @@ ghost use Rattle.spv_inst.specs.inner.Pending.{plain_slot};
 ghost use Rattle.spv_lines.specs.Operand.{Shown, shown_operand, is_float};
 ghost use Rattle.spv_lines.specs.Written.{Piece};
 ghost use Rattle.spv_printer.specs.inner.Names.{AreNames};
+ghost use Rattle.spv_printer.specs.inner.Printer.{is_number};
 
 use crate::name::{push_mask, push_value};
 use crate::names::Names;
@@ -29,7 +30,8 @@ use std::alloc::AllocError;
 /// instruction, a literal of OpSwitch the type of the first operand.
 fn is_hexadecimal(definitions: &Definitions, known: Known, leaf: Leaf, operand: &Operand) -> bool
     ensures { (G : Table) (c : Context) (s : shape.Slot) (ws : List ℕ) (ss : List shape.Slot)
-        → IsNear definitions.now known c → form_at (kind_of G s.kind) ≡ LeafForm leaf
+        → (is_number operand.now ≡ true → IsNear definitions.now known c)
+        → form_at (kind_of G s.kind) ≡ LeafForm leaf
         → Takes s.kind (shape_of G c s) (plain_operand operand.now) ws ss
         → shown_operand G result (plain_operand operand.now) ≡ shown_operand G (is_float G c s)
         (plain_operand operand.now) }
@@ -99,7 +101,7 @@ pub fn push_piece(
 ) -> Result<bool, AllocError>
     requires { AreNames table.now names.old }
     ensures text { (c : Context) (r : Option ℕ) (ws p : List ℕ) (ss : List shape.Slot)
-        → IsNear definitions.now known c → has_result ≡ is_some (result_in c.operands)
+        → (is_number operand.now ≡ true → IsNear definitions.now known c) → has_result ≡ is_some (result_in c.operands)
         → form_at (kind_of table.now asked.slot.kind) ≡ LeafForm asked.leaf
         → Takes asked.slot.kind (shape_of table.now c (plain_slot asked.slot)) (plain_operand operand.now) ws ss
         → Piece (Shown table.now) table.now r c (plain_slot asked.slot) (plain_operand operand.now) p

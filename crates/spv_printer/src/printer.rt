@@ -11,7 +11,7 @@ ghost use Rattle.spv_module.specs.Operand.{PlainInst, start};
 ghost use Rattle.spv_lines.specs.Line.{IsShownLine, shown_result};
 ghost use Rattle.spv_lines.specs.Operand.{Shown};
 ghost use Rattle.spv_lines.specs.Written.{Written};
-ghost use Rattle.spv_printer.specs.inner.Printer.{IsReady};
+ghost use Rattle.spv_printer.specs.inner.Printer.{IsReady, KnowsFor};
 
 use crate::name::push_name;
 use crate::names::Names;
@@ -71,7 +71,7 @@ impl<'t> Printer<'t> {
     ) -> Result<(), AllocError>
         requires ready { IsReady table.now self.old }
         ensures text { (before : List PlainInst) (r : Option ℕ) (us t : List ℕ)
-            → Knows self.old.definitions before
+            → KnowsFor self.old.definitions before operands.now
             → Written (Shown table.now) table.now r (start before opcode) (map due (items_of pattern.now))
             (plain_operands operands.now) us t
             → OnOk result (string_bytes out.new ≡ string_bytes out.old ++ t) }
@@ -115,7 +115,8 @@ impl<'t> Printer<'t> {
         operands: &[Operand],
     ) -> Result<(), AllocError>
         requires ready { IsReady table.now self.old }
-        ensures line { (before : List PlainInst) (further line : List ℕ) → Knows self.old.definitions before
+        ensures line { (before : List PlainInst) (further line : List ℕ)
+            → KnowsFor self.old.definitions before operands.now
             → IsShownLine table.now before (record { opcode = opcode; operands = plain_operands operands.now })
             further line
             → OnOk result (string_bytes out.new ≡ string_bytes out.old ++ line) }

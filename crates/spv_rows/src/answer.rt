@@ -1,6 +1,6 @@
 //! The answer to one row.
 use anyhow::bail;
-use spv_commands::{Command, Trouble, UseError, arguments, report, run};
+use spv_commands::{Command, Trouble, UseError, Versioned, arguments, report, run};
 use spv_words::{FromRead, FromWrite};
 use std::alloc::Global;
 use std::io::Write;
@@ -14,8 +14,21 @@ pub struct Answer {
     made: Vec<u8>,
 }
 
+/// Whether a command names a grammar file.
+fn names_grammar(command: &Command) -> bool {
+    match command {
+        Command::Judge { grammar, .. }
+        | Command::Show { grammar, .. }
+        | Command::Asm { grammar, .. }
+        | Command::Trace { grammar, .. } => grammar.is_some(),
+        Command::Grammar { file } => file.is_some(),
+        Command::Rules { .. } => false,
+    }
+}
+
 impl Answer {
     /// The answer to the words of a command line, where the grammar file and the file that is read hold these bytes.
+    /// Where the words name no grammar file, the built-in grammar is used.
     ///
     /// # Errors
     ///
@@ -35,7 +48,12 @@ impl Answer {
 
     /// The answer to a command.
     fn of_command(alloc: Global, command: &Command, grammar: &[u8], input: &[u8]) -> Answer {
-        let mut file = FromRead::new(input);
+        let mut file = Versioned::new(FromRead::new(input));
+        let grammar = if names_grammar(command) {
+            Some(grammar)
+        } else {
+            None
+        };
         let mut out = FromWrite::new(Vec::new(alloc));
         let mut made = FromWrite::new(Vec::new(alloc));
         let mut err = FromWrite::new(Vec::new(alloc));

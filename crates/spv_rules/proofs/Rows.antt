@@ -1,6 +1,7 @@
 -- What the rows of the table have.
 use Rattle.std.proofs.Common.{◌≡◌, ◌∙◌, ◌<◌, ◌≤◌, ◌+◌, ◌-◌, ◌++◌, ℕ, zero, suc, nat_le, List, [], ◌∷◌, refl, sym, ap, true, Some, option_map, length, map, get_or, arith}
 use Rattle.std.specs.Prelude.{slice_get}
+use Rattle.std.specs.Char.{to_ascii_lowercase}
 use Rattle.std.specs.List.{range_with_len}
 use denote.Enum.Declared.{tag_of, variants}
 use denote.Enum.Enum.{tag_below}
@@ -13,7 +14,7 @@ use Rattle.spv_words.specs.contracts.words.WordError as word
 use Rattle.spv_rules.specs.declared.rules.Code.{Code}
 use Rattle.spv_rules.specs.declared.rules.Code.TheVariants.{Word, Rule}
 use Rattle.spv_rules.specs.declared.table.TheConstants.{WORD_ROWS, FORM_ROWS, TYPE_ROWS}
-use Rattle.spv_rules.specs.Rules.{name_of, number_of, place_of, sentence_of, without_last}
+use Rattle.spv_rules.specs.Rules.{IsNamed, name_of, number_of, place_of, sentence_of, without_last}
 use Rattle.spv_rules.specs.Table.{Row, Text, rows}
 use Rattle.spv_rules.specs.inner.Held.{Held, plain}
 use Rattle.spv_rules.proofs.Tags.{one_variant}
@@ -147,11 +148,11 @@ has_row code =
     (get_or rows (place_of code) other, slice_get-get_or rows (place_of code) other (omega (arith, how_many, place_below code)))
 
 -- no code has a name that no row has
-pub nameless : (name : List ℕ) → ((n : ℕ) (row : Row) → n < 49 → slice_get rows n ≡ Some row → ¬ (row.2.now ≡ name))
-    → (code : Code) → ¬ (name ≡ name_of code)
+pub nameless : (name : List ℕ) → ((n : ℕ) (row : Row) → n < 49 → slice_get rows n ≡ Some row → ¬ (IsNamed name row.2.now))
+    → (code : Code) → ¬ (IsNamed name (name_of code))
 nameless name none code e =
     let found = has_row code in
-    none (place_of code) found.0 (place_below code) found.1 (name_by code found.0 found.1 ∙ sym e)
+    none (place_of code) found.0 (place_below code) found.1 (e ∙ ap (map to_ascii_lowercase) (sym (name_by code found.0 found.1)))
 
 -- and so with numbers
 pub numberless : (number : ℕ) → ((n : ℕ) (row : Row) → n < 49 → slice_get rows n ≡ Some row → ¬ (row.1 ≡ number))

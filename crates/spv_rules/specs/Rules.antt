@@ -1,5 +1,6 @@
 -- Codes: their names, as text, and what they say. (Own.)
-use Rattle.std.specs.Prelude.{◌+◌, ◌-◌, ◌*◌, ◌++◌, ℕ, nat_eq, List, [], ◌∷◌, length, map, take, get_or, codes}
+use Rattle.std.specs.Prelude.{◌≡◌, ◌+◌, ◌-◌, ◌*◌, ◌++◌, ℕ, nat_eq, List, [], ◌∷◌, length, map, take, get_or, codes}
+use Rattle.std.specs.Char.{to_ascii_lowercase}
 use Rattle.std.specs.List.{position_or_len}
 use denote.Enum.Declared.{tag_of}
 use Rattle.spv_module.specs.declared.fault.Rule.{Rule as AnyRule}
@@ -28,6 +29,10 @@ rule_text r = get_or
 abbrev pub name_of : Code → List ℕ
 name_of (Word code) = code_text code
 name_of (Rule r) = rule_text r
+
+-- a text is a name, in capital or small letters
+abbrev pub IsNamed : List ℕ → List ℕ → Type 0
+IsNamed text name = map to_ascii_lowercase text ≡ map to_ascii_lowercase name
 
 -- the letters of names, in the order in which C numbers them
 abbrev pub letters : List ℕ

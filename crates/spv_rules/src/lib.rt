@@ -1,7 +1,9 @@
 //! The codes that a verdict may tell, by name, and what each says to a person.
 #![tactic(auto)]
 
+mod errors;
 mod rules;
 mod table;
 
+pub use errors::{AnyCode, ErrorCode};
 pub use rules::{Code, rules_text};

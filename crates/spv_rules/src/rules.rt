@@ -1,11 +1,12 @@
 //! Codes, and what each says: the text of `spv rules`.
 ghost use Rattle.std.specs.Prelude.{◌≡◌, ◌≤◌, ◌<◌, ◌++◌, [], ◌∷◌, Some, MatchOption};
 ghost use Rattle.std.specs.Prelude.{length, slice_get};
-ghost use Rattle.spv_rules.specs.Rules.{name_of, number_of, place_of, sentence_of};
+ghost use Rattle.spv_rules.specs.Rules.{IsNamed, name_of, number_of, place_of, sentence_of};
 ghost use Rattle.spv_rules.specs.Table.{rows};
 ghost use Rattle.spv_rules.specs.inner.Held.{plain};
 ghost use Rattle.spv_rules.specs.declared.rules.Code.{Code};
 
+use crate::errors::{AnyCode, ERRORS};
 use crate::table::{COUNT, Row, row_at};
 use spv_module::Rule;
 use spv_words::WordError;
@@ -88,14 +89,14 @@ impl Code {
         None
     }
 
-    /// The code of that name; None where no code has it.
+    /// The code of that name, in capital or small letters; None where no code has it.
     pub fn named(name: &str) -> Option<Code>
-        ensures { MatchOption result ((code : Code) → ¬ (name.now ≡ name_of code))
-            (λ code. name.now ≡ name_of code) }
+        ensures { MatchOption result ((code : Code) → ¬ (IsNamed name.now (name_of code)))
+            (λ code. IsNamed name.now (name_of code)) }
     {
         for place in 0..COUNT {
             let row = row_at(place);
-            if row.2 == name {
+            if name.eq_ignore_ascii_case(row.2) {
                 return Some(row.0);
             }
         }
@@ -103,17 +104,17 @@ impl Code {
     }
 }
 
-/// Adds the line of a row: the code's name and its sentence.
-fn push_sentence(out: &mut String, code: Code) -> Result<(), AllocError> {
-    out.push_str(code.name())?;
+/// Adds the line of a code: its name and its sentence.
+fn push_sentence(out: &mut String, name: &str, sentence: &str) -> Result<(), AllocError> {
+    out.push_str(name)?;
     out.push_str(": ")?;
-    out.push_str(code.sentence())?;
+    out.push_str(sentence)?;
     out.push_str("\n")
 }
 
 /// Adds where a code is broken, each line of it after four spaces.
-fn push_meaning(out: &mut String, code: Code) -> Result<(), AllocError> {
-    for line in code.row().5.lines() {
+fn push_meaning(out: &mut String, meaning: &str) -> Result<(), AllocError> {
+    for line in meaning.lines() {
         out.push_str("    ")?;
         out.push_str(line)?;
         out.push_str("\n")?;
@@ -121,19 +122,34 @@ fn push_meaning(out: &mut String, code: Code) -> Result<(), AllocError> {
     Ok(())
 }
 
-/// A line for each code that a verdict may tell, in the order of the table: its name and its sentence. Of one code, if
+/// Adds the line of each code.
+fn push_sentences(out: &mut String) -> Result<(), AllocError> {
+    for place in 0..COUNT {
+        let code = row_at(place).0;
+        push_sentence(out, code.name(), code.sentence())?;
+    }
+    for code in &ERRORS {
+        push_sentence(out, code.name(), code.sentence())?;
+    }
+    Ok(())
+}
+
+/// A line for each code that a command prints, in the order of the tables: its name and its sentence. Of one code, if
 /// one is asked for, that line and where it is broken.
 ///
 /// An `AllocError` comes only where a growth of memory was refused.
-pub fn rules_text(alloc: Global, code: Option<Code>) -> Result<String, AllocError> {
+pub fn rules_text(alloc: Global, code: Option<AnyCode>) -> Result<String, AllocError> {
     let mut out = String::new(alloc);
-    if let Some(code) = code {
-        push_sentence(&mut out, code)?;
-        push_meaning(&mut out, code)?;
-    } else {
-        for place in 0..COUNT {
-            push_sentence(&mut out, row_at(place).0)?;
+    match code {
+        Some(AnyCode::Verdict(code)) => {
+            push_sentence(&mut out, code.name(), code.sentence())?;
+            push_meaning(&mut out, code.row().5)?;
         }
+        Some(AnyCode::Error(code)) => {
+            push_sentence(&mut out, code.name(), code.sentence())?;
+            push_meaning(&mut out, code.meaning())?;
+        }
+        None => push_sentences(&mut out)?,
     }
     Ok(out)
 }

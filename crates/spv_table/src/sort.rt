@@ -157,6 +157,13 @@ impl Sort {
         &self.kind
     }
 
+    /// The enumerants, in the order of the file.
+    pub fn enumerants(&self) -> &[Enumerant]
+        ensures { result.now ≡ self.now.enumerants }
+    {
+        self.enumerants.as_slice()
+    }
+
     /// The first enumerant with a value: in constant time where the value is below `SMALL`.
     pub fn enumerant(&self, value: u32) -> Option<&Enumerant>
         ensures { option_map (λ e. e.now) result ≡ enumerant_of self.now.enumerants value }

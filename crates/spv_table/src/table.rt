@@ -179,6 +179,20 @@ impl Table {
         }
     }
 
+    /// The kinds with their enumerants, in the order of their numbers.
+    pub fn sorts(&self) -> &[Sort]
+        ensures { result.now ≡ self.now.kinds }
+    {
+        self.sorts.as_slice()
+    }
+
+    /// The entries with their opcodes, in the order of the file.
+    pub fn entries(&self) -> &[(u16, Entry)]
+        ensures { result.now ≡ self.now.entries }
+    {
+        self.entries.as_slice()
+    }
+
     /// The number of the kind of a name.
     pub fn kind_named(&self, name: &str) -> Option<u32>
         ensures { result ≡ number_named self.now name.now }

@@ -9,7 +9,7 @@ ghost use Rattle.spv_lines.specs.Line.{before_space, from_space};
 use crate::split::split_before;
 
 /// A number that a token is, and what stands from the end of the token on.
-#[derive(Clone, Copy, Debug)]
+#[derive(Clone, Copy)]
 pub struct Cell<'a> {
     pub number: u32,
     pub rest: &'a str,

@@ -10,7 +10,7 @@ use memchr::memchr3;
 use std::alloc::AllocError;
 
 /// What stands in quotes where an octet is no plain one.
-#[derive(Clone, Copy, Debug)]
+#[derive(Clone, Copy)]
 enum Mark<'a> {
     /// The closing quote, and what is behind it.
     End(&'a str),
@@ -71,7 +71,7 @@ pub fn read_quoted<'a>(out: &mut String, text: &'a str) -> Result<Option<&'a str
 }
 
 /// A text in quotes that has no escapes, and what stands behind the closing quote.
-#[derive(Clone, Copy, Debug)]
+#[derive(Clone, Copy)]
 pub struct Quotation<'a> {
     pub text: &'a str,
     pub rest: &'a str,

@@ -14,9 +14,8 @@ use Rattle.std.proofs.lemmas.Map.Lookups.{exact_bytes}
 use Rattle.spv_type_rules.specs.inner.Seen.{HasKey}
 
 itself : (o : Ordering) → o ≡ ordering_reverse o → o ≡ Equal
-itself Less e = cc
 itself Equal e = refl
-itself Greater e = cc
+itself _ e = cc
 
 same_list : (xs : List ℕ) → slice_cmp nat_cmp xs xs ≡ Equal
 same_list xs = itself (slice_cmp nat_cmp xs xs) (nat_list_cmp_total.antisymm xs xs)
@@ -25,9 +24,8 @@ abbrev cmp : Vec ℕ Global → Vec ℕ Global → Ordering
 cmp x y = slice_cmp nat_cmp x.items y.items
 
 is_equal : (o : Ordering) → is_eq o ≡ true → o ≡ Equal
-is_equal Less e = cc
 is_equal Equal e = refl
-is_equal Greater e = cc
+is_equal _ e = cc
 
 either : (a b : Bool) (A B : Type 0) → (a ≡ true) ↔ A → (b ≡ true) ↔ B → (a || b ≡ true) ↔ (A ⊎ B)
 either true b A B f g = (λ e. inl (f.0 refl), λ o. refl)

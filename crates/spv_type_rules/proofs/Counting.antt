@@ -1,9 +1,8 @@
 -- Counting the parameters of the last OpFunction.
 use Rattle.std.proofs.Common.{◌≡◌, ◌≢◌, ◌∙◌, ◌<◌, ◌≤◌, ◌+◌, ◌++◌, ℕ, zero, suc, List, [], ◌∷◌, refl, sym, ap, ⊎_elim, Bool, true, false, Option, Some, None, length, take, drop, arith, nat_eq, add-one, length-append, map, drop-cons, get_or, if◌then◌else◌}
 use Rattle.std.specs.List.{prefix_len}
-use Rattle.std.specs.Prelude.{slice_get, nat_le, not, ◌&&◌, ◌||◌, option_map, filter, take_while}
+use Rattle.std.specs.Prelude.{slice_get, not, ◌||◌, option_map, filter, take_while}
 use Rattle.std.proofs.lemmas.Bool.{cases_eq, eqb-true, eq-eqb}
-use Rattle.std.proofs.lemmas.Bool.Decides.{nat_tests}
 use Rattle.std.proofs.lemmas.List.Sums.{length-filter}
 use Rattle.std.proofs.lemmas.List.Elements.{filter-append}
 use Rattle.std.proofs.lemmas.List.{drop_all, length-take, take_more, drop-append-le}
@@ -18,68 +17,32 @@ use Rattle.spv_layout.specs.Row.{PlainRow, row_in}
 use Rattle.spv_layout.specs.Rows.{rows, row_of, class_of, class_in}
 use Rattle.spv_layout.specs.Layout.{classes}
 use Rattle.spv_layout.specs.Place.{IsAt, IsOfFunction}
+use Rattle.spv_type_forms.proofs.Opcodes.{all_pass, one_passes}
 use Rattle.spv_type_rules.specs.Function.{parameter_count, parameters_between}
 use Rattle.spv_type_rules.specs.inner.Function.{parameters_in}
 use Rattle.spv_type_rules.specs.inner.Counted.{IsLastBefore, AreCounted}
 
 -- The class Function is that of opcode 54 alone.
 
-row_apart : PlainRow → Bool
-row_apart r = not (is_among r.class (Function ∷ [])) || (nat_eq r.from opcode.FUNCTION && nat_eq r.to opcode.FUNCTION)
+abbrev is_only : ℕ → PlainRow → Bool
+is_only n r = not (is_among r.class (Function ∷ [])) || nat_eq n opcode.FUNCTION
 
-all_apart : List PlainRow → Bool
-all_apart [] = true
-all_apart (r ∷ rs) = row_apart r && all_apart rs
-
-rows_apart : all_apart rows ≡ true
-unfolding rows row_apart all_apart
-rows_apart = refl
-
-and_first : (a b : Bool) → a && b ≡ true → a ≡ true
-and_first true b h = refl
-and_first false b h = cc
-
-and_second : (a b : Bool) → a && b ≡ true → b ≡ true
-and_second true b h = h
-and_second false b h = cc
+all_only : all_pass is_only rows ≡ true
+unfolding rows
+all_only = refl
 
 by_class : (b c : Bool) → not b || c ≡ true → b ≡ true → c ≡ true
 by_class true c h g = h
 by_class false c h g = cc
 
-le_tells : (a b : ℕ) → nat_le a b ≡ true → a ≤ b
-le_tells a b h = grind (arith, nat_tests)
-
-apart_tells : (r : PlainRow) (n : ℕ) → row_apart r ≡ true → is_among r.class (Function ∷ []) ≡ true → r.from ≤ n → n ≤ r.to → n ≡ opcode.FUNCTION
-unfolding row_apart
-apart_tells r n h c l m =
-    let two = by_class (is_among r.class (Function ∷ [])) (nat_eq r.from opcode.FUNCTION && nat_eq r.to opcode.FUNCTION) h c in
-    let a : r.from ≡ opcode.FUNCTION = eqb-true r.from opcode.FUNCTION (and_first (nat_eq r.from opcode.FUNCTION) (nat_eq r.to opcode.FUNCTION) two) in
-    let b : r.to ≡ opcode.FUNCTION = eqb-true r.to opcode.FUNCTION (and_second (nat_eq r.from opcode.FUNCTION) (nat_eq r.to opcode.FUNCTION) two) in
-    omega arith
-
-row_by : (s r : PlainRow) (rs : List PlainRow) (n : ℕ) (b : Bool) → nat_le s.from n && nat_le n s.to ≡ b → row_apart s ≡ true
-    → (row_in rs n ≡ Some r → is_among r.class (Function ∷ []) ≡ true → n ≡ opcode.FUNCTION) → (if b then Some s else row_in rs n) ≡ Some r
-    → is_among r.class (Function ∷ []) ≡ true → n ≡ opcode.FUNCTION
-row_by s r rs n true f y k g c =
-    let q : r ≡ s = cc in
-    apart_tells s n y (rw (← q) c) (le_tells s.from n (and_first (nat_le s.from n) (nat_le n s.to) f)) (le_tells n s.to (and_second (nat_le s.from n) (nat_le n s.to) f))
-row_by s r rs n false f y k g c = k g c
-
-row_tells : (rs : List PlainRow) (n : ℕ) (r : PlainRow) → all_apart rs ≡ true → row_in rs n ≡ Some r → is_among r.class (Function ∷ []) ≡ true → n ≡ opcode.FUNCTION
-unfolding all_apart
-row_tells [] n r a h c = cc
-row_tells (s ∷ rs) n r a h c =
-    row_by s r rs n (nat_le s.from n && nat_le n s.to) refl (and_first (row_apart s) (all_apart rs) a) (λ k. row_tells rs n r (and_second (row_apart s) (all_apart rs) a) k) h c
-
 function_row : (n : ℕ) (o : Option PlainRow) → row_in rows n ≡ o → is_among (class_in o) (Function ∷ []) ≡ true → n ≡ opcode.FUNCTION
 function_row n None e c = absurd (let no : false ≡ true = c in cc)
-function_row n (Some r) e c = row_tells rows n r rows_apart e c
+function_row n (Some r) e c = eqb-true n opcode.FUNCTION (by_class (is_among r.class (Function ∷ [])) (nat_eq n opcode.FUNCTION) (one_passes is_only rows n r all_only e) c)
 
-class_at : (is : List PlainInst) (n : ℕ) (i : PlainInst) → slice_get is n ≡ Some i → slice_get (classes is) n ≡ Some (class_of i.opcode)
+pub class_at : (is : List PlainInst) (n : ℕ) (i : PlainInst) → slice_get is n ≡ Some i → slice_get (classes is) n ≡ Some (class_of i.opcode)
 class_at is n i h = slice_get-map (λ j. class_of j.opcode) is n ∙ ap (option_map (λ j. class_of j.opcode)) h
 
-function_opcode : (is : List PlainInst) (n : ℕ) (i : PlainInst) → slice_get is n ≡ Some i → IsAt is n (Function ∷ []) → i.opcode ≡ opcode.FUNCTION
+pub function_opcode : (is : List PlainInst) (n : ℕ) (i : PlainInst) → slice_get is n ≡ Some i → IsAt is n (Function ∷ []) → i.opcode ≡ opcode.FUNCTION
 function_opcode is n i h a = let c = rw (class_at is n i h) at a in function_row i.opcode (row_of i.opcode) refl c
 
 function_class : is_among (class_of opcode.FUNCTION) (Function ∷ []) ≡ true

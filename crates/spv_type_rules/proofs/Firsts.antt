@@ -1,6 +1,5 @@
 -- The rules Y2 to Y8 in their order.
-use Rattle.std.proofs.Common.{◌≡◌, ◌<◌, ◌↔◌, ℕ, List, Some, Bool, true, false, refl, sym, ◌∙◌, subst, arith, lit<, lit≤}
-use Rattle.std.specs.Prelude.{IsTrue, slice_get}
+use Rattle.std.proofs.Common.{◌≡◌, ◌<◌, ℕ, List, Bool, true, false, refl, arith, lit<, lit≤}
 use Rattle.spv_module.specs.Operand.{PlainInst}
 use Rattle.spv_module.specs.declared.fault.Rule.{Rule}
 use Rattle.spv_module.specs.declared.fault.Rule.TheVariants as rule
@@ -29,9 +28,6 @@ keeps_below is n i b y2 y3 y4 y6 y7 y8 _ l = tt
 untrue : (b : Bool) → b ≡ false → b ≡ true → ⊥
 untrue true e y = let no : true ≡ false = e in cc
 untrue false e y = let no : false ≡ true = y in cc
-
-pub refuted : (b : Bool) (P : Type 0) → b ≡ false → (IsTrue b ↔ P) → P → ⊥
-refuted b P e h p = untrue b e (h.1 p)
 
 pub first_y6 : (is : List PlainInst) (n : ℕ) (i : PlainInst) → Keeps Unasked is rule.Y2 n i → Keeps Unasked is rule.Y3 n i → Keeps Unasked is rule.Y4 n i
     → (KeepsFunctions is n i → ⊥) → IsFirstRule is n i rule.Y6

@@ -88,13 +88,7 @@ same_front (Mask k x) (Mask k' x') us vs e = let h0 : k ≡ k' = cc in let h1 : 
 
 not_empty : (p : Plain) (vs : List ℕ) → operand_numbers p ++ vs ≡ [] → ⊥
 not_empty (OfType x) vs e = cc
-not_empty (Result x) vs e = cc
-not_empty (Id x) vs e = cc
-not_empty (Word x) vs e = cc
-not_empty (Number l h w) vs e = cc
-not_empty (Text t) vs e = cc
-not_empty (Value k x) vs e = cc
-not_empty (Mask k x) vs e = cc
+not_empty _ vs e = cc
 
 same_operands : (os ps : List Plain) → all_numbers os ≡ all_numbers ps → os ≡ ps
 same_operands [] [] e = refl

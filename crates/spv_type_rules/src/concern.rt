@@ -6,7 +6,7 @@ ghost use Rattle.spv_type_rules.specs.inner.Concern as spec;
 use spv_module::opcode;
 
 /// The rules that speak of an instruction.
-#[derive(Clone, Copy, PartialEq, Eq)]
+#[derive(Clone, Copy)]
 pub enum Concern {
     /// Y2 and Y3: type declarations.
     Declaration,

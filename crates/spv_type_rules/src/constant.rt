@@ -18,7 +18,7 @@ use spv_type_forms::{
 };
 
 /// The constants by what they are made of (SPIR-V Specification 1.6, section 3.49.7), the spec forms too.
-#[derive(Clone, Copy, PartialEq, Eq)]
+#[derive(Clone, Copy)]
 pub enum Constant {
     Bool,
     Number,

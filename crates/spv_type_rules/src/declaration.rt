@@ -16,7 +16,7 @@ use spv_module::{Inst, Operand, opcode};
 use spv_type_forms::{Definitions, Form, form_in, is_data, is_int, length};
 
 /// The type declarations that may be unsound (SPIR-V Specification 1.6, section 3.49.6).
-#[derive(Clone, Copy, PartialEq, Eq)]
+#[derive(Clone, Copy)]
 pub enum Declaration {
     Int,
     Float,

@@ -34,11 +34,7 @@ layout_stage G is _ _ (layout.dead r n d) = inr (dead_stage is r n d)
 
 pub ids_stage : (G : Table) (bound : ℕ) (is : List PlainInst) (r : Rule) (n : ℕ) → ids.Broken G bound is r n → stage_of r ≡ stages.of_ids
 ids_stage G bound is _ _ (ids.result_out_of_range n x d o) = refl
-ids_stage G bound is _ _ (ids.use_out_of_range n k x r u o) = refl
-ids_stage G bound is _ _ (ids.defined_again n m x d l e) = refl
-ids_stage G bound is _ _ (ids.undefined n k x r u d) = refl
-ids_stage G bound is _ _ (ids.not_in_order n k x r u o i) = refl
-ids_stage G bound is _ _ (ids.not_in_scope n k x r u o l i) = refl
+ids_stage G bound is _ _ _ = refl
 
 pub flow_stage : (G : Table) (is : List PlainInst) (r : Rule) (n : ℕ) → flow.Broken G is r n → (stage_of r ≡ stages.of_branches) ⊎ (stage_of r ≡ stages.of_values)
 flow_stage G is _ _ (flow.no_label n k x op used none) = inl refl

@@ -19,7 +19,6 @@ use Rattle.spv_module.specs.Instruction.{IsInstruction, IsListing, Listing, firs
 use Rattle.spv_module.specs.declared.fault.Rule.{Rule}
 use Rattle.spv_inst.proofs.Joined.{flat_match}
 use Rattle.spv_layout.specs.declared.form.Role.{Role}
-use Rattle.spv_layout.specs.declared.form.Role.TheVariants as role
 use Rattle.spv_layout.specs.Broken as layout_rules
 use Rattle.spv_layout.proofs.Dead.{laid_out_or_dead}
 use Rattle.spv_ids.specs.Definition.{IsUsedAt}

@@ -63,10 +63,7 @@ some_run G p x choices limit (Err e) k told = tt
 
 never_stuck : (e : Ending) → ending_of e ≢ Stuck
 never_stuck Finished h = cc
-never_stuck Unreachable h = cc
-never_stuck Limit h = cc
-never_stuck NoChoice h = cc
-never_stuck BadChoice h = cc
+never_stuck _ h = cc
 
 same_ending : (e f : Ending) → ending_of e ≡ ending_of f → e ≡ f
 same_ending Finished Finished h = refl

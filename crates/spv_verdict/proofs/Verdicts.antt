@@ -91,8 +91,6 @@ one_verdict_line = one_line
 pub refused_bytes : (G : Table) (known : Option (List ℕ)) (code : WordError)
     → IfSome known (λ xs. RefusesBytes code xs) → IfSome known (λ xs. IfOk (refusal_of code) (λ v. IsVerdict G xs (line_of v)))
 refused_bytes G None code h = tt
-refused_bytes G (Some xs) word.W1 h = tt
-refused_bytes G (Some xs) word.W9 h = tt
 refused_bytes G (Some xs) word.W2 h = refused word.W2 h
 refused_bytes G (Some xs) word.W3 h = refused word.W3 h
 refused_bytes G (Some xs) word.W4 h = refused word.W4 h
@@ -100,6 +98,7 @@ refused_bytes G (Some xs) word.W5 h = refused word.W5 h
 refused_bytes G (Some xs) word.W6 h = refused word.W6 h
 refused_bytes G (Some xs) word.W7 h = refused word.W7 h
 refused_bytes G (Some xs) word.W8 h = refused word.W8 h
+refused_bytes G (Some xs) _ h = tt
 
 pub refused_only : (code : WordError) → IfErr (refusal_of code) (λ e. (e ≡ word.W1) ⊎ (e ≡ word.W9))
 refused_only word.W1 = inl refl

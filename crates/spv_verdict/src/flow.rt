@@ -12,7 +12,6 @@ mod counting;
 pub mod laws;
 
 use crate::flow::counting::count_definitions;
-use crate::stopping::stop_at;
 use crate::types::Types;
 use spv_branches::check_branches;
 use spv_calls::first_cycle;
@@ -75,7 +74,7 @@ pub fn flow_check(
     check_branches(alloc, module, plan, ids)?;
     check_values(alloc, module, plan, ids)?;
     if let Some(call) = first_cycle(alloc, module, plan, ids)? {
-        return Err(stop_at(plan, Rule::G1, call));
+        return Err(plan.stop_at(Rule::G1, call));
     }
     Ok(Flow {
         definitions: count_definitions(module, plan),

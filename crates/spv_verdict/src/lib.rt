@@ -8,7 +8,6 @@ mod judging;
 pub mod laws;
 mod line;
 pub mod run;
-mod stopping;
 mod stream;
 mod tracing;
 pub mod types;

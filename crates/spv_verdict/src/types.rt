@@ -13,7 +13,6 @@ ghost use Rattle.spv_verdict.specs.types.Outcome.{AreTypes, IsRefusal, type_in};
 pub mod laws;
 mod pass;
 
-use crate::stopping::stop_at;
 use crate::types::pass::first_fault;
 use spv_capabilities::survey;
 use spv_ids::Ids;
@@ -95,7 +94,7 @@ pub fn type_check<'m, 'a>(
     let rules = Rules::new(module, plan, ids);
     match first_fault(alloc, insts, &mut entries, &rules) {
         Ok(None) => {}
-        Ok(Some(found)) => return Err(stop_at(plan, found.rule, found.inst)),
+        Ok(Some(found)) => return Err(plan.stop_at(found.rule, found.inst)),
         Err(_) => return Err(Stop::Memory),
     }
     Ok(Types {

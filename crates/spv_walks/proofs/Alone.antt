@@ -15,7 +15,7 @@ use Rattle.spv_layout.specs.Place.{IsAt}
 use Rattle.spv_branches.specs.Target.{IsOp}
 use Rattle.spv_branches.specs.inner.Target.{is_function}
 use Rattle.spv_branches.proofs.Labelled.{op_holds}
-use Rattle.spv_walks.proofs.Ended.{all_rows, HasRow, row_tells, class_at}
+use Rattle.spv_walks.proofs.Ended.{all_rows, HasRow, row_tells, and_first, and_second, end_by, class_at}
 
 alone : Class → ℕ → PlainRow → Bool
 alone c k r = not (is_among r.class (c ∷ [])) || (nat_eq r.from k && nat_eq r.to k)
@@ -28,22 +28,10 @@ end_alone : all_rows (alone FunctionEnd opcode.FUNCTION_END) rows ≡ true
 unfolding rows all_rows alone
 end_alone = refl
 
-and_first : (a b : Bool) → a && b ≡ true → a ≡ true
-and_first true b h = refl
-and_first false b h = cc
-
-and_second : (a b : Bool) → a && b ≡ true → b ≡ true
-and_second true b h = h
-and_second false b h = cc
-
-by_class : (b c : Bool) → not b || c ≡ true → b ≡ true → c ≡ true
-by_class true c h g = h
-by_class false c h g = cc
-
 by_row : (c : Class) (k n : ℕ) (r : PlainRow) → HasRow (alone c k) n r → is_among r.class (c ∷ []) ≡ true → n ≡ k
 unfolding alone
 by_row c k n r h a =
-    let two = by_class (is_among r.class (c ∷ [])) (nat_eq r.from k && nat_eq r.to k) h.passes a in
+    let two = end_by (is_among r.class (c ∷ [])) (nat_eq r.from k && nat_eq r.to k) h.passes a in
     let f : r.from ≡ k = eqb-true r.from k (and_first (nat_eq r.from k) (nat_eq r.to k) two) in
     let t : r.to ≡ k = eqb-true r.to k (and_second (nat_eq r.from k) (nat_eq r.to k) two) in
     let l = h.from in

@@ -1,7 +1,7 @@
 -- An OpFunctionEnd has no result, and an OpLabel no type.
-use Rattle.std.proofs.Common.{◌≡◌, ◌∙◌, ◌≤◌, ◌++◌, ℕ, List, [], ◌∷◌, refl, sym, ap, Bool, true, false, cond, Some, None, arith}
+use Rattle.std.proofs.Common.{◌≡◌, ◌∙◌, ◌≤◌, ◌++◌, ℕ, List, [], ◌∷◌, refl, sym, ap, Bool, true, false, cond, Some, None}
 use Rattle.std.specs.Prelude.{slice_get, option_map, nat_le, not, ◌&&◌, ◌||◌}
-use Rattle.std.proofs.lemmas.Bool.Decides.{nat_tests}
+use Rattle.std.proofs.lemmas.Bool.{leb-true}
 use Rattle.std.proofs.lemmas.Option.{slice_get-map}
 use Rattle.spv_module.specs.declared.opcode.TheConstants as opcode
 use Rattle.spv_table.specs.Table.{Table}
@@ -38,11 +38,11 @@ rows_end : all_rows row_ends rows ≡ true
 unfolding rows all_rows row_ends is_nil is_closed
 rows_end = refl
 
-and_first : (a b : Bool) → a && b ≡ true → a ≡ true
+pub and_first : (a b : Bool) → a && b ≡ true → a ≡ true
 and_first true b h = refl
 and_first false b h = cc
 
-and_second : (a b : Bool) → a && b ≡ true → b ≡ true
+pub and_second : (a b : Bool) → a && b ≡ true → b ≡ true
 and_second true b h = h
 and_second false b h = cc
 
@@ -52,14 +52,11 @@ pub record HasRow (p : PlainRow → Bool) (n : ℕ) (r : PlainRow) : Type 0 wher
   pub from : r.from ≤ n
   pub to : n ≤ r.to
 
-le_tells : (a b : ℕ) → nat_le a b ≡ true → a ≤ b
-le_tells a b h = grind (arith, nat_tests)
-
 row_by : (p : PlainRow → Bool) (s r : PlainRow) (rs : List PlainRow) (n : ℕ) (b : Bool) → nat_le s.from n && nat_le n s.to ≡ b → p s ≡ true → (row_in rs n ≡ Some r → HasRow p n r) → cond b (Some s) (row_in rs n) ≡ Some r → HasRow p n r
 row_by p s r rs n true f y k g =
     let q : s ≡ r = cc in
-    let l = le_tells s.from n (and_first (nat_le s.from n) (nat_le n s.to) f) in
-    let m = le_tells n s.to (and_second (nat_le s.from n) (nat_le n s.to) f) in
+    let l = leb-true s.from n (and_first (nat_le s.from n) (nat_le n s.to) f) in
+    let m = leb-true n s.to (and_second (nat_le s.from n) (nat_le n s.to) f) in
     let t : HasRow p n s = record { passes = y; from = l; to = m } in
     rw q at t
 row_by p s r rs n false f y k g = k g
@@ -74,19 +71,8 @@ row_tells p (s ∷ rs) n r a h =
 
 ends_closed : (e : RowEnding) (gs : List Form) → is_closed e ≡ true → Ends e gs → gs ≡ []
 unfolding is_closed
-ends_closed _ _ c Ends.nothing = refl
-ends_closed _ _ c (Ends.absent f) = cc
-ends_closed _ _ c (Ends.present f) = cc
-ends_closed _ _ c Ends.no_file_or_text = cc
-ends_closed _ _ c Ends.file = cc
-ends_closed _ _ c Ends.text = cc
-ends_closed _ _ c Ends.both = cc
-ends_closed _ _ c (Ends.done fs) = cc
-ends_closed _ _ c (Ends.again fs gs r) = cc
-ends_closed _ _ c Ends.no_other = cc
-ends_closed _ _ c (Ends.other gs r) = cc
-ends_closed _ _ c (Ends.no_kind f) = cc
-ends_closed _ _ c (Ends.kind f gs r) = cc
+ends_closed closed _ c Ends.nothing = refl
+ends_closed _ _ c _ = cc
 
 nil_tells : (fs : List Form) → is_nil fs ≡ true → fs ≡ []
 unfolding is_nil
@@ -97,7 +83,7 @@ none_of : (G : Table) (fs : List Form) (os : List Plain) → AreOf G fs os → f
 none_of G _ _ AreOf.none h = refl
 none_of G _ _ (AreOf.more f o fs os p r) h = cc
 
-end_by : (b : Bool) (c : Bool) → not b || c ≡ true → b ≡ true → c ≡ true
+pub end_by : (b : Bool) (c : Bool) → not b || c ≡ true → b ≡ true → c ≡ true
 end_by true c h g = h
 end_by false c h g = cc
 

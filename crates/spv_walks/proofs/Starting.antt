@@ -160,17 +160,6 @@ rising_more xs y rising below j k lt within =
           omega (arith, a, b, h))
     ]
 
-pub starts_first : (is : List PlainInst) (f : ℕ) (numbers : List ℕ) → f < length numbers → AreStarts is f (f + 1) (f ∷ []) (set numbers f 0)
-starts_first is f numbers within = record {
-  some = omega arith;
-  first = refl;
-  rising = λ j k lt in_list. absurd (omega (arith, lt, in_list));
-  below = λ k lt. (let e : k ≡ 0 = omega (arith, lt) in rw e (omega arith));
-  begun = λ k pos lt. absurd (omega (arith, pos, lt));
-  found = λ m after before begin. absurd (omega (arith, after, before));
-  numbered = λ k lt. (let e : k ≡ 0 = omega (arith, lt) in rw e (get_or-set_same numbers f 0 0 within));
-}
-
 -- an instruction that begins no block
 pub starts_other : (is : List PlainInst) (f n : ℕ) (starts numbers : List ℕ) → AreStarts is f n starts numbers → ¬ (IsBegin is n) → AreStarts is f (n + 1) starts numbers
 starts_other is f n starts numbers s not = record {

@@ -1,5 +1,5 @@
 -- From function to function, and from what is unavailable to the rule that is told.
-use Rattle.std.proofs.Common.{◌≡◌, ◌<◌, ◌≤◌, ◌+◌, ◌∙◌, ℕ, List, refl, sym, ap, subst, inl, inr, length, Some, None, eq-eqb, arith}
+use Rattle.std.proofs.Common.{◌≡◌, ◌<◌, ◌≤◌, ◌+◌, ◌∙◌, ℕ, List, refl, sym, ap, subst, inl, inr, length, Some, None, arith}
 use Rattle.std.specs.Prelude.{slice_get}
 use Rattle.std.proofs.lemmas.Bool.{cases_lt, cases_order, eqb-true}
 use Rattle.std.proofs.lemmas.Option.{slice_get_within}
@@ -7,19 +7,18 @@ use Rattle.spv_module.specs.declared.opcode.TheConstants as opcode
 use Rattle.spv_table.specs.Table.{Table}
 use Rattle.spv_module.specs.Operand.{PlainInst}
 use Rattle.spv_module.specs.declared.fault.Rule.{Rule}
-use Rattle.spv_module.specs.declared.fault.Rule.TheVariants.{A1, A2}
 use Rattle.spv_module.specs.declared.fault.Stop.{Stop}
 use Rattle.spv_module.specs.declared.fault.Stop.TheVariants.{Fault, Memory}
 use Rattle.spv_layout.specs.Stage.{of_values}
 use Rattle.spv_layout.specs.First.{stage_of, rank_of, IsFirst, IsUnbroken}
 use Rattle.spv_layout.specs.Place.{first_word_of, IsOfFunction}
 use Rattle.spv_ids.specs.inner.Outcome.{IsStopAt}
-use Rattle.spv_branches.specs.Target.{is_phi, IsOp}
+use Rattle.spv_branches.specs.Target.{IsOp}
 use Rattle.spv_branches.specs.inner.Target.{is_function}
 use Rattle.spv_branches.specs.Walk.{IsWalk}
 use Rattle.spv_branches.specs.Broken.{Broken}
 use Rattle.spv_branches.proofs.Firsts.{holds}
-use Rattle.spv_branches.proofs.Labelled.{op_tells, op_holds}
+use Rattle.spv_branches.proofs.Labelled.{op_tells}
 use Rattle.spv_walks.specs.declared.code.Code.{Code}
 use Rattle.spv_walks.specs.inner.Code.{insts_of, IsCode}
 use Rattle.spv_walks.specs.Found.{IsRefusal}
@@ -109,12 +108,6 @@ first_here c f n before first G is = (
 )
 
 -- rules
-
-pub rule_phi : (is : List PlainInst) (n : ℕ) (i : PlainInst) → slice_get is n ≡ Some i → i.opcode ≡ opcode.PHI → IsRuleAt is n A2
-rule_phi is n i there e = record { phi = λ p. refl; other = λ not. absurd (not (op_holds is n i is_phi there (eq-eqb i.opcode opcode.PHI e))) }
-
-pub rule_other : (is : List PlainInst) (n : ℕ) (i : PlainInst) → slice_get is n ≡ Some i → (i.opcode ≡ opcode.PHI → ⊥) → IsRuleAt is n A1
-rule_other is n i there isnt = record { phi = λ p. absurd (isnt (eqb-true i.opcode opcode.PHI (op_tells is n i is_phi there p))); other = λ not. refl }
 
 broken_unavailable : (G : Table) (is : List PlainInst) (q : Rule) (n : ℕ) → stage_of q ≡ of_values → Broken G is q n → IsUnavailableAt G is n
 broken_unavailable G is _ _ s (Broken.no_label n k x op used none) = absurd (omega (arith, s))

@@ -4,49 +4,13 @@ ghost use Rattle.std.specs.Prelude.{◌≡◌, ℕ, MatchOption, map, slice_get,
 ghost use Rattle.spv_table.specs.Table.{Table};
 ghost use Rattle.spv_module.specs.Module.{plain_inst, plain_operand};
 ghost use Rattle.spv_layout.specs.Shape.{FitsShape, IsUse};
-ghost use Rattle.spv_layout.specs.Shape as shape;
 ghost use Rattle.spv_ids.specs.inner.Uses as uses;
 ghost use Rattle.spv_layout.specs.declared.form.Role as declared;
 ghost use Rattle.spv_layout.specs.declared.form.Role.TheVariants as role;
 
-use spv_layout::{Role, role};
+use spv_ids::used_id;
+use spv_layout::{Role, id_at, role};
 use spv_module::{Inst, Operand};
-
-/// The id that an operand is.
-fn id_of(operand: Operand<'_>) -> Option<u32>
-    ensures { result ≡ shape.id_of (plain_operand operand.entry) }
-{
-    match operand {
-        Operand::OfType(id) => Some(id),
-        Operand::Result(id) => Some(id),
-        Operand::Id(id) => Some(id),
-        _ => None,
-    }
-}
-
-/// The id that an operand is, if it is one and no result.
-#[inline(always)]
-fn other_id_of(operand: Operand<'_>) -> Option<u32>
-    ensures { result ≡ uses.used_id (plain_operand operand.entry) }
-{
-    match operand {
-        Operand::OfType(id) => Some(id),
-        Operand::Id(id) => Some(id),
-        _ => None,
-    }
-}
-
-/// The id that operand `n` is, if there is one.
-fn id_at(inst: &Inst<'_>, n: usize) -> Option<u32>
-    ensures { result ≡ option_and_then shape.id_of (slice_get (plain_inst inst.now).operands n) }
-{
-    let operands = inst.operands.as_slice();
-    if n < operands.len() {
-        id_of(operands[n])
-    } else {
-        None
-    }
-}
 
 /// The id that operand `n` of a list is, if it is one and no result: only such operands are uses.
 #[inline(always)]
@@ -54,7 +18,7 @@ pub fn other_id_in(operands: &[Operand<'_>], n: usize) -> Option<u32>
     ensures { result ≡ option_and_then uses.used_id (slice_get (map plain_operand operands.now) n) }
 {
     if n < operands.len() {
-        other_id_of(operands[n])
+        used_id(operands[n])
     } else {
         None
     }

@@ -9,7 +9,6 @@ ghost use Rattle.spv_layout.specs.First.{IsUnbroken};
 ghost use Rattle.spv_layout.specs.Place.{word_count, IsShort, AreFew};
 ghost use Rattle.spv_layout.specs.Plan.{IsPlan};
 ghost use Rattle.spv_ids.specs.Outcome.{AreIds};
-ghost use Rattle.spv_ids.specs.inner.Outcome.{IsStopAt};
 ghost use Rattle.spv_branches.specs.Broken.{Broken};
 ghost use Rattle.spv_branches.specs.Target.{IsOp};
 ghost use Rattle.spv_branches.specs.inner.Target as opcodes;
@@ -23,7 +22,7 @@ use crate::function::{Buffers, first_in_function};
 use spv_ids::Ids;
 use spv_layout::Plan;
 use spv_module::opcode::{FUNCTION, PHI};
-use spv_module::{Fault, Inst, Module, Rule, Stop};
+use spv_module::{Inst, Module, Rule, Stop};
 use std::alloc::{AllocError, Global};
 
 /// How many instructions stand before the first OpFunction.
@@ -74,21 +73,6 @@ fn rule(code: &Code<'_, '_>, inst: u32) -> Rule
     }
 }
 
-/// The fault of a rule, at the first word of an instruction.
-fn stop_at(plan: &Plan, rule: Rule, inst: u32) -> Stop
-    requires { inst < length plan.now }
-    ensures { (G : Table) (is : List PlainInst) → IsPlan G is plan.now → IsStopAt is rule inst result }
-{
-    let Some(place) = plan.at(inst) else {
-        unreachable!();
-    };
-    Stop::Fault(Fault {
-        rule,
-        inst,
-        word: place.word,
-    })
-}
-
 /// Looks whether every value is defined where it is used, on every walk through its function (SPIR-V Specification 1.6,
 /// section 2.16, said by walks instead of dominators). `plan` and `ids` are what `lay_out` and `number` answered of
 /// that module, in which `check_branches` found no fault.
@@ -127,7 +111,7 @@ pub fn check_values(alloc: Global, module: &Module<'_>, plan: &Plan, ids: &Ids) 
         globals,
     };
     if let Some(inst) = first_missing(alloc, &code)? {
-        return Err(stop_at(plan, rule(&code, inst), inst));
+        return Err(plan.stop_at(rule(&code, inst), inst));
     }
     Ok(())
 }

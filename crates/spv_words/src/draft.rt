@@ -10,7 +10,7 @@ use std::marker::Model;
 /// An image that is being written: the words so far, in order. (2.3)
 ///
 /// A contract sees the list of the words. They are kept as an image keeps them, so that the end takes no memory.
-#[derive(Debug, Drop)]
+#[derive(Drop)]
 pub struct Draft {
     bytes: Vec<u8>,
 }

@@ -10,7 +10,7 @@ use std::marker::Model;
 /// The words of a module, at least 5 and at most 4,194,304 of them, whose header fits. (2.3)
 ///
 /// A contract sees the list of the words. They are kept as bytes, the lowest of a word first.
-#[derive(Debug, Drop)]
+#[derive(Drop)]
 pub struct Image {
     bytes: Vec<u8>,
 }

@@ -1,12 +1,13 @@
 //! Laws of the definitions, and worked examples. Each function does nothing: its contract is what
 //! is proved.
 
-ghost use Rattle.std.specs.Prelude.{◌≡◌, ◌<◌, ◌*◌, ◌%◌, ◌-◌, ◌^◌, ℕ, List, [], ◌∷◌};
+ghost use Rattle.std.specs.Prelude.{◌≡◌, ◌≢◌, ◌<◌, ◌≤◌, ◌*◌, ◌%◌, ◌-◌, ◌^◌, ◌++◌, ℕ, List, [], ◌∷◌};
 ghost use Rattle.std.specs.Prelude.{Some, Ok, Err, length, All};
 ghost use Rattle.spv_words.specs.Count.{counted};
 ghost use Rattle.spv_words.specs.Example.{big_header, header_words, little_header};
 ghost use Rattle.spv_words.specs.Streams.{HoldsBytes, GaveAtMost, IsStop};
 ghost use Rattle.spv_words.specs.Words.{StandFor, words_of, turned};
+ghost use Rattle.spv_words.specs.Version.{as_1_6, version_front};
 ghost use Rattle.spv_words.specs.Header.{greatest_bound, greatest_size, magic_number, version_number, IsModule};
 ghost use Rattle.spv_words.specs.Header.{IsFirstBroken, IsHeader, IsImage, BytesKeep, RefusesBytes, StandInOrder};
 ghost use Rattle.spv_words.specs.inner.HeaderTest.{Breaks, PassesTest};
@@ -51,6 +52,16 @@ pub fn words_stand()
 pub fn one_refusal()
     ensures once { (d e : WordError) (bs : List ℕ) → IsFirstBroken d bs → IsFirstBroken e bs → d ≡ e }
     ensures never { (e : WordError) (o : Order) (bs ws : List ℕ) → IsModule o bs ws → ¬ IsFirstBroken e bs }
+{}
+
+/// Bytes that begin as a module of one of the versions 1.0 to 1.6 does keep all but the version, and any other bytes
+/// are kept whole. Twice is once.
+pub fn versions()
+    ensures replaced { (o : Order) (minor : ℕ) (rest : List ℕ) → minor ≤ 6
+        → as_1_6 (version_front o minor ++ rest) ≡ version_front o 6 ++ rest }
+    ensures kept { (bytes : List ℕ) → ((o : Order) (minor : ℕ) (rest : List ℕ) → minor ≤ 6
+        → bytes ≢ version_front o minor ++ rest) → as_1_6 bytes ≡ bytes }
+    ensures again { (bytes : List ℕ) → as_1_6 (as_1_6 bytes) ≡ as_1_6 bytes }
 {}
 
 /// Worked examples.
@@ -132,4 +143,24 @@ pub fn stream_examples()
     ensures no_failure { (n : ℕ) → counted {E = ℕ} (Ok n) 7 ≡ 7 }
     ensures one_failure { (e : ℕ) → counted {A = ℕ} (Err e) 7 ≡ 8 }
     ensures wraps { (e : ℕ) → counted {A = ℕ} (Err e) (2 ^ 64 - 1) ≡ 0 }
+{}
+
+/// Worked examples of versions.
+pub fn version_examples()
+    // Version 1.2 in either order, and a byte behind it.
+    ensures little { as_1_6 (3 ∷ 2 ∷ 35 ∷ 7 ∷ 0 ∷ 2 ∷ 1 ∷ 0 ∷ 9 ∷ [])
+        ≡ 3 ∷ 2 ∷ 35 ∷ 7 ∷ 0 ∷ 6 ∷ 1 ∷ 0 ∷ 9 ∷ [] }
+    ensures big { as_1_6 (7 ∷ 35 ∷ 2 ∷ 3 ∷ 0 ∷ 1 ∷ 2 ∷ 0 ∷ 9 ∷ [])
+        ≡ 7 ∷ 35 ∷ 2 ∷ 3 ∷ 0 ∷ 1 ∷ 6 ∷ 0 ∷ 9 ∷ [] }
+    ensures not_kept { as_1_6 (3 ∷ 2 ∷ 35 ∷ 7 ∷ 0 ∷ 2 ∷ 1 ∷ 0 ∷ [])
+        ≢ 3 ∷ 2 ∷ 35 ∷ 7 ∷ 0 ∷ 2 ∷ 1 ∷ 0 ∷ [] }
+    // There is no version 1.7, and 2.6 has another major number.
+    ensures later { as_1_6 (3 ∷ 2 ∷ 35 ∷ 7 ∷ 0 ∷ 7 ∷ 1 ∷ 0 ∷ [])
+        ≡ 3 ∷ 2 ∷ 35 ∷ 7 ∷ 0 ∷ 7 ∷ 1 ∷ 0 ∷ [] }
+    ensures major { as_1_6 (3 ∷ 2 ∷ 35 ∷ 7 ∷ 0 ∷ 2 ∷ 2 ∷ 0 ∷ [])
+        ≡ 3 ∷ 2 ∷ 35 ∷ 7 ∷ 0 ∷ 2 ∷ 2 ∷ 0 ∷ [] }
+    // Seven bytes are too few, and those of one order are not read in the other.
+    ensures short { as_1_6 (3 ∷ 2 ∷ 35 ∷ 7 ∷ 0 ∷ 2 ∷ 1 ∷ []) ≡ 3 ∷ 2 ∷ 35 ∷ 7 ∷ 0 ∷ 2 ∷ 1 ∷ [] }
+    ensures mixed { as_1_6 (3 ∷ 2 ∷ 35 ∷ 7 ∷ 0 ∷ 1 ∷ 2 ∷ 0 ∷ [])
+        ≡ 3 ∷ 2 ∷ 35 ∷ 7 ∷ 0 ∷ 1 ∷ 2 ∷ 0 ∷ [] }
 {}

@@ -1,5 +1,5 @@
 -- The machine value of a text's place, and what it holds. Assumes `Logic`.
-use Rattle.std.proofs.Common.{◌≡◌, ℕ, List, [], ◌∷◌, Option, refl}
+use Rattle.std.proofs.Common.{ℕ, List, [], ◌∷◌, Option, refl}
 use seplogic.Ra.Ura.{Ura}
 use mir.Val.{Val, vstruct, vcons, vnil}
 use types.Logic.{Logic}

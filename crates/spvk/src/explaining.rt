@@ -6,11 +6,13 @@ ghost use types.Logic.{sem};
 ghost use Rattle.spvk.specs.Held.{shown};
 ghost use Rattle.spvk.specs.Explain.{Explains, ExplainsAt, IsExplaining};
 ghost use Rattle.spv_verdict.specs.Text.{line_of};
+ghost use Rattle.spv_words.specs.Version.{as_1_6};
 
 use crate::buffer::Buffer;
 use crate::numbers::numbers;
 use crate::status::{MEMORY, NO_GRAMMAR, OK};
 use crate::text::Text;
+use crate::versions::copy_as_1_6;
 use spv_explain::{Explanation, explain_bytes};
 use spv_table::{Memory, Table};
 use std::alloc::{AllocError, Global};
@@ -51,6 +53,16 @@ fn explain_by(alloc: Global, table: &Table, bytes: &[u8], text: &mut Text) -> u3
     }
 }
 
+/// The same of the bytes with version 1.6 in place of another version.
+fn explain_as_1_6_by(alloc: Global, table: &Table, bytes: &[u8], text: &mut Text) -> u32
+    ensures { Explains table.now (as_1_6 bytes.now) text.old text.new result }
+{
+    let Ok(copy) = copy_as_1_6(alloc, bytes) else {
+        return MEMORY;
+    };
+    explain_by(alloc, table, copy.as_slice(), text)
+}
+
 /// The verdict on a module's bytes with the lines that explain it, by the grammar behind a handle's pointer, which
 /// other calls may read at the same time. The text that was there is let go.
 #[unsafe(no_mangle)]
@@ -68,5 +80,25 @@ pub unsafe extern "C" fn spvk_raw_explain(
         NO_GRAMMAR
     } else {
         explain_by(alloc, &*(grammar as *const Table), bytes, text)
+    }
+}
+
+/// The same of the bytes with version 1.6 in place of another version.
+#[unsafe(no_mangle)]
+pub unsafe extern "C" fn spvk_raw_explain_as_1_6(
+    alloc: Global,
+    grammar: *const u8,
+    bytes: &[u8],
+    text: &mut Text,
+) -> u32
+    ghost lent: { Lft × Share × TableView }
+    requires* { sem 𝓛 (shown grammar lent) }
+    ensures* { sem 𝓛 (shown grammar lent) ∗ ⌜ ExplainsAt grammar lent.2 (as_1_6 bytes.now) text.old text.new
+        result ⌝ }
+{
+    if grammar == ptr::null() {
+        NO_GRAMMAR
+    } else {
+        explain_as_1_6_by(alloc, &*(grammar as *const Table), bytes, text)
     }
 }

@@ -1,5 +1,5 @@
 //! What follows from the definitions, and worked examples. Each function does nothing: its contract is what is proved.
-ghost use Rattle.std.specs.Prelude.{◌≡◌, ◌≢◌, ℕ, List};
+ghost use Rattle.std.specs.Prelude.{◌≡◌, ◌≢◌, ℕ, List, Option, None, Some, codes, false};
 ghost use Rattle.spv_table.specs.Table.{Table as TableView};
 ghost use Rattle.spv_grammar.specs.declared.error.GrammarError.TheVariants.{J4};
 ghost use Rattle.spv_lines.specs.declared.asm_error.AsmCode.TheVariants.{S2};
@@ -14,9 +14,11 @@ ghost use Rattle.spvk.specs.Faults.{text_code_number};
 ghost use Rattle.spvk.specs.Grammar.{IsReason};
 ghost use Rattle.spvk.specs.Held.{boxed, lent};
 ghost use Rattle.spvk.specs.Numbers.{code_number, nowhere, numbers_of, rule_number};
+ghost use Rattle.spvk.specs.Rules.{PutsIfAny};
 ghost use Rattle.spvk.specs.Show.{Shows, ShowsAt};
-ghost use Rattle.spvk.specs.Status.{status_of};
+ghost use Rattle.spvk.specs.Status.{status_of, status_text};
 ghost use Rattle.spvk.specs.declared.image.Assembled.{Assembled};
+ghost use Rattle.spvk.specs.declared.static_text.StaticText.{StaticText};
 ghost use Rattle.spvk.specs.declared.text.Text.{Text};
 ghost use denote.RawPtr.{null_ptr};
 ghost use types.Logic.{sem};
@@ -45,6 +47,9 @@ pub fn number_examples()
     ensures rule { rule_number I7 ≡ 107 }
     ensures other_rule { rule_number I7 ≢ 108 }
     ensures grammar { status_of J4 ≡ 104 }
+    // What a status says; there is no status 6.
+    ensures status { status_text 1 ≡ Some (codes "out of memory") }
+    ensures no_status { status_text 6 ≡ None }
     ensures text { text_code_number S2 ≡ 1202 }
     // A valid module has the code 0, and no instruction.
     ensures valid { (numbers_of Valid).code ≡ 0 }
@@ -59,8 +64,8 @@ pub fn answer_examples()
     ensures null { (G : TableView) (bytes : List ℕ) → AnswersAt null_ptr G bytes (status_alone 2) }
     ensures null_is_told { (G : TableView) (bytes : List ℕ) → ¬ (AnswersAt null_ptr G bytes (status_alone 1)) }
     // Out of memory is a reason for status 1, and nothing is one for status 0.
-    ensures want { (text : List ℕ) → IsReason text 1 }
-    ensures no_reason { (text : List ℕ) → ¬ (IsReason text 0) }
+    ensures want { (text : Option (List ℕ)) → IsReason text 1 }
+    ensures no_reason { (text : Option (List ℕ)) → ¬ (IsReason text 0) }
 {}
 
 /// What was there stays where nothing is answered.
@@ -73,4 +78,6 @@ pub fn kept_examples()
     ensures not_done { (G : TableView) (bytes : List ℕ) (old : Text) → ¬ (ExplainsAt null_ptr G bytes old old 0) }
     ensures assembled { (G : TableView) (o : Order) (text : List ℕ) (old : Assembled)
         → AssemblesAt null_ptr G o text old old 2 }
+    ensures unsaid { (old : StaticText) → PutsIfAny None old old false }
+    ensures said { (text : List ℕ) (old new : StaticText) → ¬ (PutsIfAny (Some text) old new false) }
 {}

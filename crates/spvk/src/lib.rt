@@ -21,4 +21,6 @@ mod rules;
 mod showing;
 mod static_text;
 mod status;
+mod status_text;
 mod text;
+mod versions;

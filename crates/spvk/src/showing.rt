@@ -7,10 +7,12 @@ ghost use base.Fml.{Lft, Share};
 ghost use types.Logic.{sem};
 ghost use Rattle.spvk.specs.Held.{shown};
 ghost use Rattle.spvk.specs.Show.{IsShowing, Shows, ShowsAt};
+ghost use Rattle.spv_words.specs.Version.{as_1_6};
 
 use crate::judging::refusal;
 use crate::status::{MEMORY, NO_GRAMMAR, OK};
 use crate::text::Text;
+use crate::versions::copy_as_1_6;
 use spv_module::Stop;
 use spv_printer::show_image;
 use spv_table::{Memory, Table};
@@ -65,6 +67,16 @@ pub(crate) fn show_by(alloc: Global, table: &Table, bytes: &[u8], text: &mut Tex
     }
 }
 
+/// The same of the bytes with version 1.6 in place of another version.
+fn show_as_1_6_by(alloc: Global, table: &Table, bytes: &[u8], text: &mut Text) -> u32
+    ensures { Shows table.now (as_1_6 bytes.now) text.old text.new result }
+{
+    let Ok(copy) = copy_as_1_6(alloc, bytes) else {
+        return MEMORY;
+    };
+    show_by(alloc, table, copy.as_slice(), text)
+}
+
 /// The text of a module, or the rule by which its bytes are no list of instructions, by the grammar behind a handle's
 /// pointer, which other calls may read at the same time. The text that was there is let go.
 #[unsafe(no_mangle)]
@@ -82,5 +94,25 @@ pub unsafe extern "C" fn spvk_raw_show(
         NO_GRAMMAR
     } else {
         show_by(alloc, &*(grammar as *const Table), bytes, text)
+    }
+}
+
+/// The same of the bytes with version 1.6 in place of another version.
+#[unsafe(no_mangle)]
+pub unsafe extern "C" fn spvk_raw_show_as_1_6(
+    alloc: Global,
+    grammar: *const u8,
+    bytes: &[u8],
+    text: &mut Text,
+) -> u32
+    ghost lent: { Lft × Share × TableView }
+    requires* { sem 𝓛 (shown grammar lent) }
+    ensures* { sem 𝓛 (shown grammar lent) ∗ ⌜ ShowsAt grammar lent.2 (as_1_6 bytes.now) text.old text.new
+        result ⌝ }
+{
+    if grammar == ptr::null() {
+        NO_GRAMMAR
+    } else {
+        show_as_1_6_by(alloc, &*(grammar as *const Table), bytes, text)
     }
 }

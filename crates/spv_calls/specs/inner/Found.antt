@@ -2,19 +2,15 @@
 use Rattle.std.specs.Prelude.{◌≡◌, ◌<◌, ℕ, List, Option, Some, None, nat_eq, if◌then◌else◌, length}
 use Rattle.std.specs.Prelude.{slice_get}
 use Rattle.spv_module.specs.declared.opcode.TheConstants as opcode
-use Rattle.spv_module.specs.Operand.{Plain, PlainInst, Id}
+use Rattle.spv_module.specs.Operand.{PlainInst}
 use Rattle.spv_layout.specs.declared.class.Class.{Class}
 use Rattle.spv_layout.specs.declared.place.Place.{Place}
 use Rattle.spv_layout.specs.Layout.{classes}
 use Rattle.spv_layout.specs.Place.{IsOfFunction, IsDefinition, section_of}
 use Rattle.spv_layout.specs.Plan.{IsPlaceOf}
+use Rattle.spv_ids.specs.inner.Test.{id_in}
 use Rattle.spv_calls.specs.declared.graph.Call.{Call}
 use Rattle.spv_calls.specs.Calls.{IsCall, IsEntryFunction}
-
--- the id that an operand is, if it is one other than a type or a result
-abbrev pub id_in : Option Plain → Option ℕ
-id_in (Some (Id x)) = Some x
-id_in o = None
 
 -- the function that an OpFunctionCall calls
 abbrev pub callee_in : PlainInst → Option ℕ

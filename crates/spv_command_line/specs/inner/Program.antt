@@ -16,6 +16,7 @@ with_form form.Words r =
     record r { value_names = 1; range = Some (record { start_inclusive = 1; end_inclusive = usize_max }) }
 with_form form.Option r = record r { long = Some r.id; value_names = 1 }
 with_form form.Flag r = record r { long = Some r.id; action = Some SetTrue }
+with_form (form.Lettered letter) r = record r { long = Some r.id; short = Some letter; action = Some SetTrue }
 
 -- the rule for an argument
 abbrev pub rule_by : Argument → Rule

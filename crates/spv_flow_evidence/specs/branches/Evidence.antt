@@ -1,4 +1,4 @@
--- What shows that F1, F2, F3 or F4 is broken at an instruction. A block goes by the number of its OpLabel. [2.4, 2.16]
+-- What shows that one of the rules F is broken at an instruction. A block goes by the number of its OpLabel. [2.4, 2.16]
 use Rattle.std.specs.Prelude.{◌<◌, ◌⊎◌, ℕ, List}
 use Rattle.spv_table.specs.Table.{Table}
 use Rattle.spv_module.specs.Operand.{PlainInst}

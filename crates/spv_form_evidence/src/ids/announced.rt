@@ -2,30 +2,21 @@
 
 ghost use Rattle.std.specs.Prelude.{◌≡◌, ◌+◌, ◌≤◌, ℕ, List, Some, OnOk, IfOk, length, map, slice_get};
 ghost use Rattle.spv_module.specs.Operand.{PlainInst};
-ghost use Rattle.spv_module.specs.Module.{plain_inst, plain_operands};
-ghost use Rattle.spv_ids.specs.inner.Test.{id_in, announced_id};
+ghost use Rattle.spv_module.specs.Module.{plain_inst};
+ghost use Rattle.spv_ids.specs.inner.Test.{announced_id};
 ghost use Rattle.spv_form_evidence.specs.ids.inner.Order.{AreAnnounced};
 
 use crate::ids::kept::Kept;
-use spv_module::{Inst, Operand, opcode};
+use spv_ids::named_id;
+use spv_module::{Inst, opcode};
 use std::alloc::{AllocError, Global};
-
-/// The id that the first operand is, if that is one.
-fn first_id(operands: &[Operand<'_>]) -> Option<u32>
-    ensures { result ≡ id_in (slice_get (plain_operands operands.now) 0) }
-{
-    match operands.get(0) {
-        Some(Operand::Id(id)) => Some(*id),
-        _ => None,
-    }
-}
 
 /// The id that an OpTypeForwardPointer names.
 fn announced_by(inst: &Inst<'_>) -> Option<u32>
     ensures { result ≡ announced_id (plain_inst inst.now) }
 {
     if inst.opcode == opcode::TYPE_FORWARD_POINTER {
-        first_id(inst.operands.as_slice())
+        named_id(inst, 0)
     } else {
         None
     }

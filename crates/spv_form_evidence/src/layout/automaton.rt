@@ -4,15 +4,16 @@ ghost use Rattle.std.specs.Prelude.{◌≡◌, IfOk, MatchOption, map};
 ghost use Rattle.spv_module.specs.Module.{plain_inst};
 ghost use Rattle.spv_layout.specs.Layout.{BeginsLayout, classes};
 ghost use Rattle.spv_layout.specs.Rows as rows;
+ghost use Rattle.spv_form_evidence.specs.declared.layout.automaton.TheConstants.{OPCODES};
 ghost use Rattle.spv_form_evidence.specs.layout.inner.Automaton as automaton;
 ghost use Rattle.spv_form_evidence.specs.layout.inner.Automaton.{LeadsTo, followers};
 
 use spv_layout::{Class, State, next, row};
-use spv_module::Inst;
+use spv_module::{Inst, opcode};
 use std::alloc::{AllocError, Global};
 
 /// No opcode from this one on has a row in the table of shapes.
-const OPCODES: u16 = 331;
+const OPCODES: u16 = opcode::MODULE_PROCESSED + 1;
 
 /// The class of an opcode.
 fn class_of(opcode: u16) -> Class
@@ -50,7 +51,7 @@ fn may_follow(state: State, opcode: u16) -> bool
 ///
 /// The error comes when out of memory.
 pub fn opcodes_at(alloc: Global, state: State) -> Result<Vec<u32>, AllocError>
-    ensures { IfOk result (λ v. v.items ≡ followers state 331) }
+    ensures { IfOk result (λ v. v.items ≡ followers state OPCODES) }
 {
     let mut opcodes = Vec::new(alloc);
     for opcode in 0..OPCODES {

@@ -1,8 +1,6 @@
 -- The class of an instruction tells what it is to a run; lines and terminators have no result.
-use Rattle.std.proofs.Common.{◌≡◌, ◌∙◌, ◌≤◌, ◌++◌, append-nil, ◌⊎◌, inl, inr, ℕ, List, [], ◌∷◌, Bool, true, false, not, ◌&&◌, ◌||◌, nat_eq, cond, Option, Some, None, refl, sym, ap, arith}
-use Rattle.std.specs.Prelude.{nat_le}
+use Rattle.std.proofs.Common.{◌≡◌, ◌∙◌, ◌++◌, append-nil, ◌⊎◌, inl, inr, ℕ, List, [], ◌∷◌, Bool, true, false, not, ◌&&◌, ◌||◌, nat_eq, Option, Some, None, refl, sym, ap, arith}
 use Rattle.std.proofs.lemmas.Bool.{cases_Bool, eqb-true}
-use Rattle.std.proofs.lemmas.Bool.Decides.{nat_tests}
 use Rattle.spv_table.specs.Table.{Table}
 use Rattle.spv_module.specs.Operand.{Plain, PlainInst, result_in}
 use Rattle.spv_module.specs.Operand as operand
@@ -15,52 +13,12 @@ use Rattle.spv_layout.specs.Row.{PlainRow, RowEnding, closed, repeated, row_in, 
 use Rattle.spv_layout.specs.inner.Row.{W, N}
 use Rattle.spv_layout.specs.Rows.{rows, row_of, class_of, class_in}
 use Rattle.spv_layout.specs.Shape.{is_of, AreOf, Ends, FitsShape}
+use Rattle.spv_walks.proofs.Ended.{all_rows, row_tells, and_first, and_second, end_by}
 use Rattle.spv_verdict.specs.run.Act.{Act, Function, Parameter, FunctionEnd, Label, Phi, Branch, Choose, Call, Return, ReturnValue, Other, act_of}
 use Rattle.spv_verdict.specs.run.Act as act
 use Rattle.spv_verdict.specs.inner.At.{goes_on, in_block}
 use Rattle.spv_verdict.proofs.Running.Shapes.{View, view, is_other}
 use Rattle.spv_verdict.proofs.Running.Passing.{a_function, an_end, a_label, a_phi, of_head, a_terminator, of_block}
-
--- A row that an opcode has.
-
-unfoldable pub all_rows : (PlainRow → Bool) → List PlainRow → Bool
-all_rows p [] = true
-all_rows p (r ∷ rs) = p r && all_rows p rs
-
-pub and_first : (a b : Bool) → a && b ≡ true → a ≡ true
-and_first true b h = refl
-and_first false b h = cc
-
-pub and_second : (a b : Bool) → a && b ≡ true → b ≡ true
-and_second true b h = h
-and_second false b h = cc
-
-pub record HasRow (p : PlainRow → Bool) (n : ℕ) (r : PlainRow) : Type 0 where
-  pub passes : p r ≡ true
-  pub from : r.from ≤ n
-  pub to : n ≤ r.to
-
-pub le_tells : (a b : ℕ) → nat_le a b ≡ true → a ≤ b
-le_tells a b h = grind (arith, nat_tests)
-
-row_by : (p : PlainRow → Bool) (s r : PlainRow) (rs : List PlainRow) (n : ℕ) (b : Bool) → nat_le s.from n && nat_le n s.to ≡ b → p s ≡ true → (row_in rs n ≡ Some r → HasRow p n r) → cond b (Some s) (row_in rs n) ≡ Some r → HasRow p n r
-row_by p s r rs n true f y k g =
-    let q : s ≡ r = cc in
-    let l = le_tells s.from n (and_first (nat_le s.from n) (nat_le n s.to) f) in
-    let m = le_tells n s.to (and_second (nat_le s.from n) (nat_le n s.to) f) in
-    let t : HasRow p n s = record { passes = y; from = l; to = m } in
-    rw q at t
-row_by p s r rs n false f y k g = k g
-
-pub row_tells : (p : PlainRow → Bool) (rs : List PlainRow) (n : ℕ) (r : PlainRow) → all_rows p rs ≡ true → row_in rs n ≡ Some r → HasRow p n r
-unfolding all_rows
-row_tells p [] n r a h = cc
-row_tells p (s ∷ rs) n r a h =
-    row_by p s r rs n (nat_le s.from n && nat_le n s.to) refl (and_first (p s) (all_rows p rs) a) (λ k. row_tells p rs n r (and_second (p s) (all_rows p rs) a) k) h
-
-pub implied : (b c : Bool) → not b || c ≡ true → b ≡ true → c ≡ true
-implied true c h g = h
-implied false c h g = cc
 
 -- The classes of the opcodes that a run tells apart, but for that of OpFunctionCall.
 
@@ -81,7 +39,7 @@ apart_by n (Some r) h e =
     let t = row_tells row_apart rows n r rows_apart h in
     elim (cases_Bool (special r.class)) [
       | inl s ↦ (
-          let two = implied (special r.class) (nat_eq r.from r.to && not (is_other r.from)) t.passes s in
+          let two = end_by (special r.class) (nat_eq r.from r.to && not (is_other r.from)) t.passes s in
           let one : r.from ≡ r.to = eqb-true r.from r.to (and_first (nat_eq r.from r.to) (not (is_other r.from)) two) in
           let low = t.from in
           let high = t.to in
@@ -156,10 +114,6 @@ act_label _ = false
 abbrev pub act_phi : Act → Bool
 act_phi (Phi ps) = true
 act_phi _ = false
-
-abbrev pub act_parameter : Act → Bool
-act_parameter Parameter = true
-act_parameter _ = false
 
 -- What the class says of it.
 pub record Tests (c : Class) (a : Act) : Type 0 where
@@ -236,20 +190,8 @@ no_result_here : (G : Table) (f : Form) (o : Plain) (os : List Plain) → not (i
 unfolding is_result
 no_result_here G form.Result o os h e = cc
 no_result_here G form.Other o os h e = cc
-no_result_here G f (operand.OfType a) os h e = refl
-no_result_here G f (operand.Id a) os h e = refl
-no_result_here G f (operand.Word a) os h e = refl
-no_result_here G f (operand.Number a b w) os h e = refl
-no_result_here G f (operand.Text a) os h e = refl
-no_result_here G f (operand.Value a b) os h e = refl
-no_result_here G f (operand.Mask a b) os h e = refl
-no_result_here G form.OfType (operand.Result a) os h e = cc
-no_result_here G form.Word (operand.Result a) os h e = cc
-no_result_here G form.Number (operand.Result a) os h e = cc
-no_result_here G form.Text (operand.Result a) os h e = cc
-no_result_here G (form.Id r) (operand.Result a) os h e = cc
-no_result_here G form.Unseen (operand.Result a) os h e = cc
-no_result_here G (form.Kind k) (operand.Result a) os h e = cc
+no_result_here G f (operand.Result a) os h e = cc
+no_result_here G f _ os h e = refl
 
 without_result : (G : Table) (fs : List Form) (os : List Plain) → AreOf G fs os → no_results fs ≡ true → result_in os ≡ None
 unfolding no_results
@@ -275,21 +217,10 @@ rows_line : all_rows row_line rows ≡ true
 unfolding rows all_rows row_line no_results is_result is_closed
 rows_line = refl
 
-ends_closed : (e : RowEnding) (gs : List Form) → is_closed e ≡ true → Ends e gs → gs ≡ []
+closed_none : (e : RowEnding) (gs : List Form) → is_closed e ≡ true → Ends e gs → gs ≡ []
 unfolding is_closed
-ends_closed _ _ c Ends.nothing = refl
-ends_closed _ _ c (Ends.absent f) = cc
-ends_closed _ _ c (Ends.present f) = cc
-ends_closed _ _ c Ends.no_file_or_text = cc
-ends_closed _ _ c Ends.file = cc
-ends_closed _ _ c Ends.text = cc
-ends_closed _ _ c Ends.both = cc
-ends_closed _ _ c (Ends.done fs) = cc
-ends_closed _ _ c (Ends.again fs gs r) = cc
-ends_closed _ _ c Ends.no_other = cc
-ends_closed _ _ c (Ends.other gs r) = cc
-ends_closed _ _ c (Ends.no_kind f) = cc
-ends_closed _ _ c (Ends.kind f gs r) = cc
+closed_none closed _ c Ends.nothing = refl
+closed_none _ _ c _ = cc
 
 pub line_result : (G : Table) (i : PlainInst) → FitsShape G i → is_among (class_of i.opcode) (class.Line ∷ []) ≡ true → result_in i.operands ≡ None
 unfolding row_line
@@ -298,23 +229,18 @@ line_result G i h c =
     let k : class_of i.opcode ≡ s.row.class = ap class_in s.known in
     let t = row_tells row_line rows i.opcode s.row rows_line s.known in
     let d : is_among s.row.class (class.Line ∷ []) ≡ true = ap (λ x. is_among x (class.Line ∷ [])) (sym k) ∙ c in
-    let two = implied (is_among s.row.class (class.Line ∷ [])) (no_results s.row.fixed && is_closed s.row.ending) t.passes d in
-    let none : s.rest ≡ [] = ends_closed s.row.ending s.rest (and_second (no_results s.row.fixed) (is_closed s.row.ending) two) s.ending in
+    let two = end_by (is_among s.row.class (class.Line ∷ [])) (no_results s.row.fixed && is_closed s.row.ending) t.passes d in
+    let none : s.rest ≡ [] = closed_none s.row.ending s.rest (and_second (no_results s.row.fixed) (is_closed s.row.ending) two) s.ending in
     let forms : h.forms ≡ s.row.fixed = s.forms ∙ (ap (λ gs. s.row.fixed ++ gs) none ∙ append-nil s.row.fixed) in
     without_result G h.forms i.operands s.each (ap no_results forms ∙ and_first (no_results s.row.fixed) (is_closed s.row.ending) two)
 
 -- what ends a block or a function has no result
 pub end_result : (G : Table) (i : PlainInst) (a : Act) → View G i a → goes_on a ≡ false → result_in i.operands ≡ None
-end_result G i _ (View.function a b k m s e os) h = cc
-end_result G i _ (View.parameter a b e os) h = cc
 end_result G i _ (View.function_end e os) h = ap result_in os
-end_result G i _ (View.call a b c os gs e same en each) h = cc
-end_result G i _ (View.phi a b os gs e same en each) h = cc
-end_result G i _ (View.label b e os) h = cc
 end_result G i _ (View.branch x e os) h = ap result_in os
 end_result G i _ (View.condition c x y os gs e same en each) h = ap result_in same ∙ without_result G gs os each (words_only gs en)
 end_result G i _ (View.switch c x os gs e same en each) h = ap result_in same ∙ without_result G gs os each (cases_only gs en)
 end_result G i _ (View.return e os) h = ap result_in os
 end_result G i _ (View.value x e os) h = ap result_in os
 end_result G i _ (View.unreachable e os) h = ap result_in os
-end_result G i _ (View.other e) h = cc
+end_result G i _ _ h = cc

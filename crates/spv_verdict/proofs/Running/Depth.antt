@@ -50,18 +50,7 @@ call_view : (G : Table) (is : List PlainInst) (i : PlainInst) (a : Act) (x : ℕ
 call_view G is i _ x xs (View.call a b c os gs e same en each) h =
     let callee : c ≡ x = cc in
     record { opcode = e; named = ap (λ os. slice_get os 2) same ∙ ap (λ y. Some (Id y)) callee }
-call_view G is i _ x xs (View.function a b k' m s e os) h = cc
-call_view G is i _ x xs (View.parameter t b e os) h = cc
-call_view G is i _ x xs (View.function_end e os) h = cc
-call_view G is i _ x xs (View.phi a b os gs e same en each) h = cc
-call_view G is i _ x xs (View.label b e os) h = cc
-call_view G is i _ x xs (View.branch y e os) h = cc
-call_view G is i _ x xs (View.condition c y z os gs e same en each) h = cc
-call_view G is i _ x xs (View.switch c y os gs e same en each) h = cc
-call_view G is i _ x xs (View.return e os) h = cc
-call_view G is i _ x xs (View.value y e os) h = cc
-call_view G is i _ x xs (View.unreachable e os) h = cc
-call_view G is i _ x xs (View.other e) h = cc
+call_view G is i _ x xs _ h = cc
 
 calls : (G : Table) (is : List PlainInst) → IsChecked G is → (c fr : Frame) → Stands is c → Stands is fr → CallsTo is c fr.function → Calls is c.function fr.function
 calls G is ok c fr st up k =

@@ -5,9 +5,11 @@ use Rattle.std.proofs.lemmas.Option.{same_Some, none-some, slice_get_within}
 use Rattle.spv_table.specs.Table.{Table}
 use Rattle.spv_module.specs.Operand.{Plain, PlainInst}
 use Rattle.spv_module.specs.Operand as operand
+use Rattle.spv_module.specs.declared.opcode.TheConstants as opcode
 use Rattle.spv_ids.specs.Definition.{IsDefinedAt}
-use Rattle.spv_calls.specs.Calls.{entry_point, IsEntryFunction}
-use Rattle.spv_calls.specs.inner.Found.{id_in, entry_in}
+use Rattle.spv_calls.specs.Calls.{IsEntryFunction}
+use Rattle.spv_ids.specs.inner.Test.{id_in}
+use Rattle.spv_calls.specs.inner.Found.{entry_in}
 use Rattle.spv_verdict.specs.run.Entry.{IsEntryId, IsOfRun}
 use Rattle.spv_verdict.specs.run.State.{State}
 use Rattle.spv_verdict.specs.run.Run.{IsStart, Run}
@@ -26,7 +28,7 @@ pub record NoEntryBefore (is : List PlainInst) (n x : ℕ) : Type 0 where
 pub none_yet : (is : List PlainInst) (x : ℕ) → NoEntryBefore is 0 x
 none_yet is x = record { each = λ e l. absurd (omega (arith, l)) }
 
-entry_names : (i : PlainInst) (x : ℕ) → i.opcode ≡ entry_point → slice_get i.operands 1 ≡ Some (operand.Id x) → entry_in i ≡ Some x
+entry_names : (i : PlainInst) (x : ℕ) → i.opcode ≡ opcode.ENTRY_POINT → slice_get i.operands 1 ≡ Some (operand.Id x) → entry_in i ≡ Some x
 entry_names i x e h = rw (e, h) refl
 
 id_there : (o : Plain) (x : ℕ) → id_in (Some o) ≡ Some x → o ≡ operand.Id x
@@ -46,10 +48,10 @@ id_of os k x h = by_place (slice_get os k) h where
   by_place (Some o) h = ap (λ p. Some p) (id_there o x h)
 
 pub entry_here : (is : List PlainInst) (n x y : ℕ) (i : PlainInst) → slice_get is n ≡ Some i → entry_in i ≡ Some x → x ≡ y → IsEntryId is y
-entry_here is n x y i at e same = elim (cases_Bool (nat_eq i.opcode entry_point)) [
+entry_here is n x y i at e same = elim (cases_Bool (nat_eq i.opcode opcode.ENTRY_POINT)) [
   | inl b ↦ (
       let h : entry_in i ≡ id_in (slice_get i.operands 1) = rw b refl in
-      record { place = n; inst = i; there = at; opcode = eqb-true i.opcode entry_point b; named = id_of i.operands 1 y (sym h ∙ (e ∙ ap (λ z. Some z) same)) })
+      record { place = n; inst = i; there = at; opcode = eqb-true i.opcode opcode.ENTRY_POINT b; named = id_of i.operands 1 y (sym h ∙ (e ∙ ap (λ z. Some z) same)) })
   | inr b ↦ absurd (let h : entry_in i ≡ None = rw b refl in none-some x (sym h ∙ e))
 ]
 

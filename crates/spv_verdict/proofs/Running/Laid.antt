@@ -98,18 +98,7 @@ record Headed (is : List PlainInst) (n : ℕ) : Type 0 where
 parameter_of : (G : Table) (is : List PlainInst) → (n : ℕ) (i : PlainInst) (a : Act) → slice_get is n ≡ Some i → act_of i ≡ a → View G i a → a ≡ Parameter
     → (b t : ℕ) × (result_at is n ≡ Some b) × (type_at is n ≡ Some t)
 parameter_of G is n i _ at k (View.parameter t b e os) h = (b, t, result_here is n i at ∙ ap result_in os, type_here is n i at ∙ ap type_in os)
-parameter_of G is n i _ at k (View.function a b k' m s e os) h = cc
-parameter_of G is n i _ at k (View.function_end e os) h = cc
-parameter_of G is n i _ at k (View.call a b c os gs e same en each) h = cc
-parameter_of G is n i _ at k (View.phi a b os gs e same en each) h = cc
-parameter_of G is n i _ at k (View.label b e os) h = cc
-parameter_of G is n i _ at k (View.branch x e os) h = cc
-parameter_of G is n i _ at k (View.condition c x y os gs e same en each) h = cc
-parameter_of G is n i _ at k (View.switch c x os gs e same en each) h = cc
-parameter_of G is n i _ at k (View.return e os) h = cc
-parameter_of G is n i _ at k (View.value x e os) h = cc
-parameter_of G is n i _ at k (View.unreachable e os) h = cc
-parameter_of G is n i _ at k (View.other e) h = cc
+parameter_of G is n i _ at k _ h = cc
 
 parameter_head : (G : Table) (is : List PlainInst) → AllFit G is → (n : ℕ) (i : PlainInst) → slice_get is n ≡ Some i → act_of i ≡ Parameter → Headed is (suc n) → Headed is n
 parameter_head G is fits n i at k h =
@@ -247,18 +236,7 @@ home G is fits _ _ (Passes.step n s t i p at e) h =
 
 label_of : (G : Table) (i : PlainInst) (a : Act) → View G i a → a ≡ Label → (x : ℕ) × (result_in i.operands ≡ Some x) × (type_in i.operands ≡ None)
 label_of G i _ (View.label b e os) h = (b, ap result_in os, ap type_in os)
-label_of G i _ (View.function a b k' m s e os) h = cc
-label_of G i _ (View.parameter t b e os) h = cc
-label_of G i _ (View.function_end e os) h = cc
-label_of G i _ (View.call a b c os gs e same en each) h = cc
-label_of G i _ (View.phi a b os gs e same en each) h = cc
-label_of G i _ (View.branch x e os) h = cc
-label_of G i _ (View.condition c x y os gs e same en each) h = cc
-label_of G i _ (View.switch c x os gs e same en each) h = cc
-label_of G i _ (View.return e os) h = cc
-label_of G i _ (View.value x e os) h = cc
-label_of G i _ (View.unreachable e os) h = cc
-label_of G i _ (View.other e) h = cc
+label_of G i _ _ h = cc
 
 labels : (G : Table) (is : List PlainInst) → AllFit G is → IsLayout (classes is) → (b : ℕ) → act_at is b ≡ Some Label
     → (f x : ℕ) × IsOf is f b × (result_at is b ≡ Some x) × (type_at is b ≡ None)

@@ -1,10 +1,9 @@
 -- All runs of the function that only returns.
-use Rattle.std.proofs.Common.{◌≡◌, ◌≢◌, ◌≤◌, ◌<◌, ◌∙◌, ◌⊎◌, inl, inr, ℕ, zero, suc, List, [], ◌∷◌, Some, None, Contains, refl, sym, ap, subst, arith, length}
+use Rattle.std.proofs.Common.{◌≡◌, ◌≢◌, ◌≤◌, ◌<◌, ◌∙◌, ◌⊎◌, inl, inr, ℕ, zero, suc, List, [], ◌∷◌, Some, refl, sym, ap, subst, arith, length}
 use Rattle.std.specs.List.{AllByRecursion}
 use Rattle.std.proofs.lemmas.Option.{none-some, same_Some}
 use Rattle.spv_table.specs.Table.{Table}
 use Rattle.spv_module.specs.Operand.{PlainInst, Result}
-use Rattle.spv_module.specs.Width.{type_of}
 use Rattle.spv_module.specs.declared.opcode.TheConstants as opcode
 use Rattle.spv_layout.specs.declared.class.Class.TheVariants.{Function, FunctionEnd, Label}
 use Rattle.spv_layout.specs.Rows.{rows}
@@ -15,7 +14,7 @@ use Rattle.spv_verdict.specs.run.Act as act
 use Rattle.spv_verdict.specs.run.At.{act_at, result_at, type_at}
 use Rattle.spv_verdict.specs.run.Definitions.{AreDefinitions}
 use Rattle.spv_verdict.specs.run.Head.{Binding, Head, end, parameter, line}
-use Rattle.spv_verdict.specs.run.State.{Ending, Finished, Limit, Stuck, State, Outcome, Goes, Last, Before, bound_type, enter}
+use Rattle.spv_verdict.specs.run.State.{Ending, Finished, Limit, Stuck, State, Outcome, Goes, Last, Before, enter}
 use Rattle.spv_verdict.specs.run.Machine.{Does, step, no_choice, bad_choice}
 use Rattle.spv_verdict.specs.run.Run.{IsStart, Run, Reaches, limit, next, last, stuck}
 use Rattle.spv_verdict.specs.run.Run as run

@@ -10,7 +10,7 @@ use Rattle.spv_ids.specs.declared.ids.Ids.{Ids}
 use Rattle.spv_ids.specs.Definition.{IsDefinedAt}
 use Rattle.spv_ids.specs.Outcome.{IsDefinitionOf, definition_in, AreNumbered}
 use Rattle.spv_branches.specs.Target.{IsLabelOf}
-use Rattle.spv_calls.specs.inner.Found.{id_in}
+use Rattle.spv_ids.specs.inner.Test.{id_in}
 use Rattle.spv_verdict.specs.run.Act.{Act, Function, Parameter, FunctionEnd, Label, Branch, Choose, Call, Other, act_of, labels_in}
 use Rattle.spv_verdict.specs.declared.run.moves.Move.TheVariants as move
 use Rattle.spv_verdict.specs.inner.Trace.{Tells}
@@ -84,19 +84,8 @@ end_act i e = rw e refl
 
 -- opcodes of ends
 end_opcode : (G : Table) (i : PlainInst) (a : Act) → View G i a → a ≡ FunctionEnd → i.opcode ≡ opcode.FUNCTION_END
-end_opcode G i _ (View.label b e os) h = cc
-end_opcode G i _ (View.function a b k' m s e os) h = cc
-end_opcode G i _ (View.parameter t b e os) h = cc
 end_opcode G i _ (View.function_end e os) h = e
-end_opcode G i _ (View.call a b c os gs e same en each) h = cc
-end_opcode G i _ (View.phi a b os gs e same en each) h = cc
-end_opcode G i _ (View.branch x e os) h = cc
-end_opcode G i _ (View.condition c x y os gs e same en each) h = cc
-end_opcode G i _ (View.switch c x os gs e same en each) h = cc
-end_opcode G i _ (View.return e os) h = cc
-end_opcode G i _ (View.value x e os) h = cc
-end_opcode G i _ (View.unreachable e os) h = cc
-end_opcode G i _ (View.other e) h = cc
+end_opcode G i _ _ h = cc
 
 -- the head of a function that is sound ends where the look for its end stops
 record Ended (is : List PlainInst) (g n : ℕ) : Type 0 where
@@ -286,11 +275,6 @@ no_entry_tells is g _ x xs (IsEntry.declared e bs d) z f = (g, e, bs, f, d)
 pub choose_tells : (i : PlainInst) (is : List PlainInst) → (i.opcode ≡ opcode.BRANCH_CONDITIONAL) ⊎ (i.opcode ≡ opcode.SWITCH) → (G : Table) (bound n : ℕ) → KeepsRules G bound is → slice_get is n ≡ Some i → Tells is (act_of i) move.Choose
 choose_tells i is op G bound n sound at = by_view (act_of i) (view G i (sound.fits n i at)) op where
   by_view : (a : Act) → View G i a → (i.opcode ≡ opcode.BRANCH_CONDITIONAL) ⊎ (i.opcode ≡ opcode.SWITCH) → Tells is a move.Choose
-  by_view _ (View.condition c x y os gs e same en each) h = tt
-  by_view _ (View.switch c x os gs e same en each) h = tt
-  by_view _ (View.function a b k' m s e os) h = tt
-  by_view _ (View.parameter t b e os) h = tt
-  by_view _ (View.function_end e os) h = tt
   by_view _ (View.call a b c os gs e same en each) h = absurd (elim h [ inl q ↦ omega (arith, e, q) | inr q ↦ omega (arith, e, q) ])
   by_view _ (View.branch x e os) h = absurd (elim h [ inl q ↦ omega (arith, e, q) | inr q ↦ omega (arith, e, q) ])
   by_view _ (View.phi a b os gs e same en each) h = absurd (elim h [ inl q ↦ omega (arith, e, q) | inr q ↦ omega (arith, e, q) ])
@@ -299,6 +283,7 @@ choose_tells i is op G bound n sound at = by_view (act_of i) (view G i (sound.fi
   by_view _ (View.value x e os) h = absurd (elim h [ inl q ↦ omega (arith, e, q) | inr q ↦ omega (arith, e, q) ])
   by_view _ (View.unreachable e os) h = absurd (elim h [ inl q ↦ omega (arith, e, q) | inr q ↦ omega (arith, e, q) ])
   by_view _ (View.other e) h = absurd (elim h [ inl q ↦ (let w : is_other 250 ≡ true = rw q at e in cc) | inr q ↦ (let w : is_other 251 ≡ true = rw q at e in cc) ])
+  by_view _ _ h = tt
 
 -- a case is a number and a label
 record Case (G : Table) (gs : List Form) (os : List Plain) : Type 0 where
@@ -310,14 +295,8 @@ record Case (G : Table) (gs : List Form) (os : List Plain) : Type 0 where
   pub rest : AreOf G gs tail
 
 number_unseen : (G : Table) (o : Plain) → is_of G form.Number o ≡ true → (os : List Plain) → labels_in (o ∷ os) ≡ labels_in os
-number_unseen G (operand.OfType a) h os = cc
-number_unseen G (operand.Result a) h os = cc
-number_unseen G (operand.Id a) h os = cc
-number_unseen G (operand.Word a) h os = cc
 number_unseen G (operand.Number a b w) h os = refl
-number_unseen G (operand.Text a) h os = cc
-number_unseen G (operand.Value a b) h os = cc
-number_unseen G (operand.Mask a b) h os = cc
+number_unseen G _ h os = cc
 
 a_case : (G : Table) (gs : List Form) (os : List Plain) → AreOf G (N ∷ row.l ∷ gs) os → Case G gs os
 a_case G gs os a =
@@ -361,17 +340,7 @@ switch_target G i c k n xs op e fits h = by_view (act_of i) (view G i fits) h wh
   by_view _ (View.switch d x os gs q same en each) h =
       ap (λ ps. id_in (slice_get ps n)) same ∙ (after_case (operand.Id d) x os (case_labels G gs os en each) k n e ∙ ap (λ ls. slice_get ls k) (same_targets d c (x ∷ labels_in os) xs h))
   by_view _ (View.condition d x y os gs q same en each) h = absurd (omega (arith, q, op))
-  by_view _ (View.function a b k' m s q os) h = cc
-  by_view _ (View.parameter t b q os) h = cc
-  by_view _ (View.function_end q os) h = cc
-  by_view _ (View.call a b d os gs q same en each) h = cc
-  by_view _ (View.branch x q os) h = cc
-  by_view _ (View.phi a b os gs q same en each) h = cc
-  by_view _ (View.label b q os) h = cc
-  by_view _ (View.return q os) h = cc
-  by_view _ (View.value x q os) h = cc
-  by_view _ (View.unreachable q os) h = cc
-  by_view _ (View.other q) h = cc
+  by_view _ _ h = cc
 
 -- an OpBranchConditional has two targets
 record Pair (i : PlainInst) (xs : List ℕ) : Type 0 where
@@ -385,17 +354,7 @@ record Pair (i : PlainInst) (xs : List ℕ) : Type 0 where
 pair : (G : Table) (i : PlainInst) (c : ℕ) (xs : List ℕ) → i.opcode ≢ opcode.SWITCH → (a : Act) → View G i a → a ≡ Choose c xs → Pair i xs
 pair G i c xs op _ (View.condition d x y os gs q same en each) h = record { value = d; one = x; other = y; tail = os; operands = same; targets = same_targets d c (x ∷ y ∷ []) xs h }
 pair G i c xs op _ (View.switch d x os gs q same en each) h = absurd (op q)
-pair G i c xs op _ (View.function a b k' m s q os) h = cc
-pair G i c xs op _ (View.parameter t b q os) h = cc
-pair G i c xs op _ (View.function_end q os) h = cc
-pair G i c xs op _ (View.call a b d os gs q same en each) h = cc
-pair G i c xs op _ (View.branch x q os) h = cc
-pair G i c xs op _ (View.phi a b os gs q same en each) h = cc
-pair G i c xs op _ (View.label b q os) h = cc
-pair G i c xs op _ (View.return q os) h = cc
-pair G i c xs op _ (View.value x q os) h = cc
-pair G i c xs op _ (View.unreachable q os) h = cc
-pair G i c xs op _ (View.other q) h = cc
+pair G i c xs op _ _ h = cc
 
 pub one_target : (G : Table) (i : PlainInst) (c k n : ℕ) (xs : List ℕ) → i.opcode ≢ opcode.SWITCH → k < 2 → n ≡ k + 1 → FitsShape G i → act_of i ≡ Choose c xs → id_in (slice_get i.operands n) ≡ slice_get xs k
 one_target G i c k n xs op low e fits h =
@@ -433,36 +392,29 @@ chosen_label i x place c xs is kind k there found G bound n sound at =
 pub return_tells : (i : PlainInst) (is : List PlainInst) → (i.opcode ≡ opcode.RETURN) ⊎ (i.opcode ≡ opcode.RETURN_VALUE) → (G : Table) (bound n : ℕ) → KeepsRules G bound is → slice_get is n ≡ Some i → Tells is (act_of i) move.Return
 return_tells i is op G bound n sound at = by_view (act_of i) (view G i (sound.fits n i at)) op where
   by_view : (a : Act) → View G i a → (i.opcode ≡ opcode.RETURN) ⊎ (i.opcode ≡ opcode.RETURN_VALUE) → Tells is a move.Return
-  by_view _ (View.return e os) h = tt
-  by_view _ (View.value x e os) h = tt
   by_view _ (View.condition c x y os gs e same en each) h = absurd (elim h [ inl q ↦ omega (arith, e, q) | inr q ↦ omega (arith, e, q) ])
   by_view _ (View.switch c x os gs e same en each) h = absurd (elim h [ inl q ↦ omega (arith, e, q) | inr q ↦ omega (arith, e, q) ])
   by_view _ (View.call a b c os gs e same en each) h = absurd (elim h [ inl q ↦ omega (arith, e, q) | inr q ↦ omega (arith, e, q) ])
   by_view _ (View.branch x e os) h = absurd (elim h [ inl q ↦ omega (arith, e, q) | inr q ↦ omega (arith, e, q) ])
-  by_view _ (View.function a b k' m s e os) h = tt
-  by_view _ (View.parameter t b e os) h = tt
-  by_view _ (View.function_end e os) h = tt
   by_view _ (View.phi a b os gs e same en each) h = absurd (elim h [ inl q ↦ omega (arith, e, q) | inr q ↦ omega (arith, e, q) ])
   by_view _ (View.label b e os) h = absurd (elim h [ inl q ↦ omega (arith, e, q) | inr q ↦ omega (arith, e, q) ])
   by_view _ (View.unreachable e os) h = absurd (elim h [ inl q ↦ omega (arith, e, q) | inr q ↦ omega (arith, e, q) ])
   by_view _ (View.other e) h = absurd (elim h [ inl q ↦ (let w : is_other 253 ≡ true = rw q at e in cc) | inr q ↦ (let w : is_other 254 ≡ true = rw q at e in cc) ])
+  by_view _ _ h = tt
 
 pub unreachable_tells : (i : PlainInst) (is : List PlainInst) → i.opcode ≡ opcode.UNREACHABLE → (G : Table) (bound n : ℕ) → KeepsRules G bound is → slice_get is n ≡ Some i → Tells is (act_of i) move.Unreachable
 unreachable_tells i is op G bound n sound at = by_view (act_of i) (view G i (sound.fits n i at)) op where
   by_view : (a : Act) → View G i a → i.opcode ≡ opcode.UNREACHABLE → Tells is a move.Unreachable
-  by_view _ (View.unreachable e os) h = tt
   by_view _ (View.return e os) h = absurd (omega (arith, e, h))
   by_view _ (View.value x e os) h = absurd (omega (arith, e, h))
   by_view _ (View.condition c x y os gs e same en each) h = absurd (omega (arith, e, h))
   by_view _ (View.switch c x os gs e same en each) h = absurd (omega (arith, e, h))
   by_view _ (View.call a b c os gs e same en each) h = absurd (omega (arith, e, h))
   by_view _ (View.branch x e os) h = absurd (omega (arith, e, h))
-  by_view _ (View.function a b k' m s e os) h = tt
-  by_view _ (View.parameter t b e os) h = tt
-  by_view _ (View.function_end e os) h = tt
   by_view _ (View.phi a b os gs e same en each) h = absurd (omega (arith, e, h))
   by_view _ (View.label b e os) h = absurd (omega (arith, e, h))
   by_view _ (View.other e) h = absurd (let w : is_other 255 ≡ true = rw h at e in cc)
+  by_view _ _ h = tt
 
 pub other_tells : (i : PlainInst) (is : List PlainInst) → i.opcode ≢ opcode.BRANCH → i.opcode ≢ opcode.BRANCH_CONDITIONAL → i.opcode ≢ opcode.SWITCH → i.opcode ≢ opcode.FUNCTION_CALL → i.opcode ≢ opcode.RETURN → i.opcode ≢ opcode.RETURN_VALUE → i.opcode ≢ opcode.UNREACHABLE
     → (G : Table) (bound n : ℕ) → KeepsRules G bound is → slice_get is n ≡ Some i → Tells is (act_of i) move.On
@@ -475,12 +427,7 @@ other_tells i is n1 n2 n3 n4 n5 n6 n7 G bound n sound at = by_view (act_of i) (v
   by_view _ (View.switch c x os gs e same en each) = absurd (n3 e)
   by_view _ (View.call a b c os gs e same en each) = absurd (n4 e)
   by_view _ (View.branch x e os) = absurd (n1 e)
-  by_view _ (View.function a b k' m s e os) = tt
-  by_view _ (View.parameter t b e os) = tt
-  by_view _ (View.function_end e os) = tt
-  by_view _ (View.phi a b os gs e same en each) = tt
-  by_view _ (View.label b e os) = tt
-  by_view _ (View.other e) = tt
+  by_view _ _ = tt
 
 pushed : {A : Type 0} (ms : List A) (m : A) (n : ℕ) → length ms ≡ n → slice_get (ms ++ (m ∷ [])) n ≡ Some m
 pushed [] m zero h = refl

@@ -94,45 +94,26 @@ is_fine s c (Some t) =
 
 fine : (s : State) (c : Class) → is_fine s c (next_of s c) ≡ true
 fine at.Capabilities Capability = refl
-fine at.Capabilities _ = refl
 fine at.Extensions Capability = refl
-fine at.Extensions _ = refl
 fine at.Imports Capability = refl
-fine at.Imports _ = refl
 fine at.EntryPoints Capability = refl
-fine at.EntryPoints _ = refl
 fine at.ExecutionModes Capability = refl
-fine at.ExecutionModes _ = refl
 fine at.Sources Capability = refl
-fine at.Sources _ = refl
 fine at.Names Capability = refl
-fine at.Names _ = refl
 fine at.Processed Capability = refl
-fine at.Processed _ = refl
 fine at.Decorations Capability = refl
-fine at.Decorations _ = refl
 fine at.Declarations Capability = refl
-fine at.Declarations _ = refl
 fine at.Function Capability = refl
-fine at.Function _ = refl
 fine at.Declared Capability = refl
-fine at.Declared _ = refl
 fine at.Definition Capability = refl
-fine at.Definition _ = refl
 fine at.Defined Capability = refl
-fine at.Defined _ = refl
 fine at.Variables Capability = refl
-fine at.Variables _ = refl
 fine at.Phis Capability = refl
-fine at.Phis _ = refl
 fine at.Body Capability = refl
-fine at.Body _ = refl
 fine at.LoopMerge Capability = refl
-fine at.LoopMerge _ = refl
 fine at.SelectionMerge Capability = refl
-fine at.SelectionMerge _ = refl
 fine at.Block Capability = refl
-fine at.Block _ = refl
+fine _ _ = refl
 
 -- the same, one by one
 pub record Fine (s : State) (c : Class) (t : State) : Type 0 where

@@ -4,7 +4,7 @@ use Rattle.std.proofs.lemmas.Option.{same_Some, none-some}
 use Rattle.std.proofs.lemmas.Bool.{cases_eq, cases_order}
 use Rattle.spv_module.specs.Operand.{PlainInst}
 use Rattle.spv_module.specs.Width.{type_of}
-use Rattle.spv_verdict.specs.run.Act.{Act, Function, Parameter, FunctionEnd, Label, Other}
+use Rattle.spv_verdict.specs.run.Act.{Act, Parameter, FunctionEnd, Label, Other}
 use Rattle.spv_verdict.specs.run.At.{act_at}
 use Rattle.spv_verdict.specs.inner.At.{goes_on, in_block}
 use Rattle.spv_verdict.specs.run.Head.{Binding, Head, end, parameter, line}
@@ -69,19 +69,8 @@ unfolding is_label
 label_true is n h = ap label_in h
 
 not_label : (a : Act) → (a ≡ Label → ⊥) → label_in (Some a) ≡ false
-not_label Function h = refl
-not_label Parameter h = refl
-not_label FunctionEnd h = refl
 not_label Label h = absurd (h refl)
-not_label (Act.Phi ps) h = refl
-not_label (Act.Branch l) h = refl
-not_label (Act.Choose c ls) h = refl
-not_label (Act.Call f xs) h = refl
-not_label Act.Return h = refl
-not_label (Act.ReturnValue v) h = refl
-not_label Act.Unreachable h = refl
-not_label Act.Misfit h = refl
-not_label Other h = refl
+not_label _ h = refl
 
 pub label_false : (is : List PlainInst) (n : ℕ) (a : Act) → act_at is n ≡ Some a → (a ≡ Label → ⊥) → is_label is n ≡ false
 unfolding is_label

@@ -39,10 +39,6 @@ pub data Leads (is : List PlainInst) (s : State) (a : Act) (tags : List ℕ) : T
   out_of_choices : (c : ℕ) (ls : List ℕ) → a ≡ Choose c ls → s.choices ≡ [] → Leads is s a tags
   no_target : (c k : ℕ) (ls left : List ℕ) → a ≡ Choose c ls → s.choices ≡ k ∷ left → slice_get ls k ≡ None → Leads is s a tags
 
--- what may stand at the position of a frame
-stands_here : Act → Type 0
-stands_here a = (a ≡ Label) ⊎ IsTrue (in_block a)
-
 not_here : (is : List PlainInst) (s : State) (a : Act) (tags : List ℕ) → in_block a ≡ false → (a ≡ Label → ⊥) → (a ≡ Label) ⊎ IsTrue (in_block a) → Leads is s a tags
 not_here is s a tags h g fit = elim fit [ inl e ↦ absurd (g e) | inr t ↦ absurd (let w : true ≡ false = sym t ∙ h in cc) ]
 

@@ -77,18 +77,7 @@ is_phi _ = false
 
 plain_values : (is : List PlainInst) (fr : Frame) (i : PlainInst) (a : Act) → is_phi a ≡ false → read_values is fr i a ≡ Some (values_of i a)
 plain_values is fr i (Phi ps) h = cc
-plain_values is fr i Function h = refl
-plain_values is fr i Parameter h = refl
-plain_values is fr i FunctionEnd h = refl
-plain_values is fr i Label h = refl
-plain_values is fr i (Act.Branch l) h = refl
-plain_values is fr i (Choose c ls) h = refl
-plain_values is fr i (Call f xs) h = refl
-plain_values is fr i Act.Return h = refl
-plain_values is fr i (ReturnValue v) h = refl
-plain_values is fr i Act.Unreachable h = refl
-plain_values is fr i Act.Misfit h = refl
-plain_values is fr i Other h = refl
+plain_values is fr i _ h = refl
 
 plain_ready : (is : List PlainInst) (past : List ℕ) (n : ℕ) (i : PlainInst) (a : Act) → is_phi a ≡ false → IsReadyOn is past n i a
     → (x : ℕ) → Contains (values_of i a) x → IsLocal is x → Defined is past x

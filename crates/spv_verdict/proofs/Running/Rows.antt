@@ -36,18 +36,7 @@ phi_view : (G : Table) (is : List PlainInst) (n : ℕ) (i : PlainInst) (a : Act)
 phi_view G is n i _ ps tags (View.phi t b os gs e same en each) q h =
     let h' = rw (e, same) at h in
     record { of_type = t; result = ap type_in same; data_type = h'.0; each = h'.1 }
-phi_view G is n i _ ps tags (View.function a b k' m s e os) q h = cc
-phi_view G is n i _ ps tags (View.parameter t b e os) q h = cc
-phi_view G is n i _ ps tags (View.function_end e os) q h = cc
-phi_view G is n i _ ps tags (View.call a b c os gs e same en each) q h = cc
-phi_view G is n i _ ps tags (View.label b e os) q h = cc
-phi_view G is n i _ ps tags (View.branch x e os) q h = cc
-phi_view G is n i _ ps tags (View.condition c x y os gs e same en each) q h = cc
-phi_view G is n i _ ps tags (View.switch c x os gs e same en each) q h = cc
-phi_view G is n i _ ps tags (View.return e os) q h = cc
-phi_view G is n i _ ps tags (View.value x e os) q h = cc
-phi_view G is n i _ ps tags (View.unreachable e os) q h = cc
-phi_view G is n i _ ps tags (View.other e) q h = cc
+phi_view G is n i _ ps tags _ q h = cc
 
 pub phi_typed : (G : Table) (is : List PlainInst) (n : ℕ) (i : PlainInst) (ps : List Pair) (tags : List ℕ) → FitsShape G i → act_of i ≡ Phi ps → Typed is n i tags → PhiTyped is i tags
 phi_typed G is n i ps tags fits k h = phi_view G is n i (act_of i) ps tags (view G i fits) k h
@@ -57,18 +46,7 @@ typed_view G is n i _ ps tags (View.phi t b os gs e same en each) q h =
     let one : Some t ≡ Some h.of_type = sym (ap type_in same) ∙ h.result in
     let typed : t ≡ h.of_type = cc in
     rw (e, same, typed) (h.data_type, h.each)
-typed_view G is n i _ ps tags (View.function a b k' m s e os) q h = cc
-typed_view G is n i _ ps tags (View.parameter t b e os) q h = cc
-typed_view G is n i _ ps tags (View.function_end e os) q h = cc
-typed_view G is n i _ ps tags (View.call a b c os gs e same en each) q h = cc
-typed_view G is n i _ ps tags (View.label b e os) q h = cc
-typed_view G is n i _ ps tags (View.branch x e os) q h = cc
-typed_view G is n i _ ps tags (View.condition c x y os gs e same en each) q h = cc
-typed_view G is n i _ ps tags (View.switch c x os gs e same en each) q h = cc
-typed_view G is n i _ ps tags (View.return e os) q h = cc
-typed_view G is n i _ ps tags (View.value x e os) q h = cc
-typed_view G is n i _ ps tags (View.unreachable e os) q h = cc
-typed_view G is n i _ ps tags (View.other e) q h = cc
+typed_view G is n i _ ps tags _ q h = cc
 
 pub typed_phi : (G : Table) (is : List PlainInst) (n : ℕ) (i : PlainInst) (ps : List Pair) (tags : List ℕ) → FitsShape G i → act_of i ≡ Phi ps → PhiTyped is i tags → Typed is n i tags
 typed_phi G is n i ps tags fits k h = typed_view G is n i (act_of i) ps tags (view G i fits) k h
@@ -134,9 +112,6 @@ call_fits is f n i x xs tags row =
 
 pub same_head : (a b : Plain) (xs ys : List Plain) → a ∷ xs ≡ b ∷ ys → a ≡ b
 same_head a b xs ys e = cc
-
-pub same_tail : (a b : Plain) (xs ys : List Plain) → a ∷ xs ≡ b ∷ ys → xs ≡ ys
-same_tail a b xs ys e = cc
 
 pub ids_same : (xs ys : List ℕ) → map Id xs ≡ map Id ys → xs ≡ ys
 ids_same [] [] e = refl

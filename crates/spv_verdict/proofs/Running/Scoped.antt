@@ -1,8 +1,7 @@
 -- Labels are in scope, walks are those of the layers below, and what is used on them is defined.
 use Rattle.std.proofs.Common.{◌≡◌, ◌∙◌, ◌≤◌, ◌<◌, ◌+◌, ◌⊎◌, inl, inr, ℕ, zero, suc, List, [], ◌∷◌, map, Bool, true, false, ◌&&◌, ◌||◌, nat_eq, IsTrue, Option, Some, None, refl, sym, ap, subst, arith, length, Contains}
 use Rattle.std.specs.Prelude.{slice_get, option_and_then, option_map, nat_le}
-use Rattle.std.proofs.lemmas.Bool.{cases_Bool, cases_eq, eqb-true}
-use Rattle.std.proofs.lemmas.Bool.Decides.{nat_tests}
+use Rattle.std.proofs.lemmas.Bool.{cases_Bool, cases_eq, eqb-true, leb-true}
 use Rattle.std.proofs.lemmas.List.Elements.{All-cons}
 use Rattle.std.proofs.lemmas.Option.{none-some, same_Some, slice_get_within, slice_get-map}
 use Rattle.spv_table.specs.Table.{Table}
@@ -42,7 +41,7 @@ use Rattle.spv_verdict.proofs.Running.Basics.{act_back, act_from}
 use Rattle.spv_verdict.proofs.Running.Places.{of_next, one_function, label_true, label_false}
 use Rattle.spv_verdict.proofs.Running.Frames.{label_after, one_block}
 use Rattle.spv_verdict.proofs.Running.Shapes.{View, view, is_other}
-use Rattle.spv_verdict.proofs.Running.Classes.{le_tells, class_249, class_250, class_251, act_phi}
+use Rattle.spv_verdict.proofs.Running.Classes.{class_249, class_250, class_251, act_phi}
 use Rattle.spv_verdict.proofs.Running.Standing.{of_function, function_of, block_place, block_of, defined_at, result_of, label_to, is_local, local_from, here_within, op_label, label_op}
 use Rattle.spv_verdict.proofs.Running.Rows.{defines}
 use Rattle.spv_verdict.proofs.Running.Uses.{value_use, no_any, parent_paired, pair_uses, phi_forms}
@@ -139,14 +138,14 @@ no_other : (n m : ℕ) → is_other n ≡ true → n ≡ m → is_other m ≡ fa
 no_other n m h e g = let w : true ≡ false = sym h ∙ (ap is_other e ∙ g) in cc
 
 between : (n a b : ℕ) → nat_le a n ≡ true → nat_le n b ≡ true → (a ≤ n) × (n ≤ b)
-between n a b h g = (le_tells a n h, le_tells n b g)
+between n a b h g = (leb-true a n h, leb-true n b g)
 
 other_not_terminator : (n : ℕ) → is_other n ≡ true → opcodes.is_terminator n ≡ true → ⊥
 other_not_terminator n h t = elim (or_split (target.is_branch n) (nat_le 253 n && nat_le n 255) t) [
   | inl b ↦ (
       let two = and_split (nat_le 249 n) (nat_le n 251) b in
-      let low = le_tells 249 n two.0 in
-      let high = le_tells n 251 two.1 in
+      let low = leb-true 249 n two.0 in
+      let high = leb-true n 251 two.1 in
       elim (cases_eq n 249) [
         | inl e ↦ no_other n 249 h e refl
         | inr a ↦ elim (cases_eq n 250) [
@@ -156,8 +155,8 @@ other_not_terminator n h t = elim (or_split (target.is_branch n) (nat_le 253 n &
       ])
   | inr b ↦ (
       let two = and_split (nat_le 253 n) (nat_le n 255) b in
-      let low = le_tells 253 n two.0 in
-      let high = le_tells n 255 two.1 in
+      let low = leb-true 253 n two.0 in
+      let high = leb-true n 255 two.1 in
       elim (cases_eq n 253) [
         | inl e ↦ no_other n 253 h e refl
         | inr a ↦ elim (cases_eq n 254) [
@@ -170,35 +169,18 @@ other_not_terminator n h t = elim (or_split (target.is_branch n) (nat_le 253 n &
 goes_view : (G : Table) (i : PlainInst) (a : Act) → View G i a → IsTrue (goes_on a) → opcodes.is_terminator i.opcode ≡ true → ⊥
 goes_view G i _ (View.function a b k' m s e os) g t = let w : opcodes.is_terminator 54 ≡ true = rw e at t in cc
 goes_view G i _ (View.parameter a b e os) g t = let w : opcodes.is_terminator 55 ≡ true = rw e at t in cc
-goes_view G i _ (View.function_end e os) g t = cc
 goes_view G i _ (View.call a b d os gs e same en each) g t = let w : opcodes.is_terminator 57 ≡ true = rw e at t in cc
 goes_view G i _ (View.phi a b os gs e same en each) g t = let w : opcodes.is_terminator 245 ≡ true = rw e at t in cc
 goes_view G i _ (View.label b e os) g t = let w : opcodes.is_terminator 248 ≡ true = rw e at t in cc
-goes_view G i _ (View.branch y e same) g t = cc
-goes_view G i _ (View.condition s y z os gs e same en each) g t = cc
-goes_view G i _ (View.switch s y os gs e same en each) g t = cc
-goes_view G i _ (View.return e os) g t = cc
-goes_view G i _ (View.value y e os) g t = cc
-goes_view G i _ (View.unreachable e os) g t = cc
 goes_view G i _ (View.other e) g t = other_not_terminator i.opcode e t
+goes_view G i _ _ g t = cc
 
 op_there : (is : List PlainInst) (n : ℕ) (i : PlainInst) (test : ℕ → Bool) → slice_get is n ≡ Some i → IsOp is n test → test i.opcode ≡ true
 op_there is n i test at o = rw at at o
 
 pub function_opcode : (G : Table) (i : PlainInst) (a : Act) → View G i a → a ≡ Function → i.opcode ≡ opcode.FUNCTION
 function_opcode G i _ (View.function a b k' m s e os) h = e
-function_opcode G i _ (View.parameter a b e os) h = cc
-function_opcode G i _ (View.function_end e os) h = cc
-function_opcode G i _ (View.call a b d os gs e same en each) h = cc
-function_opcode G i _ (View.phi a b os gs e same en each) h = cc
-function_opcode G i _ (View.label b e os) h = cc
-function_opcode G i _ (View.branch y e same) h = cc
-function_opcode G i _ (View.condition s y z os gs e same en each) h = cc
-function_opcode G i _ (View.switch s y os gs e same en each) h = cc
-function_opcode G i _ (View.return e os) h = cc
-function_opcode G i _ (View.value y e os) h = cc
-function_opcode G i _ (View.unreachable e os) h = cc
-function_opcode G i _ (View.other e) h = cc
+function_opcode G i _ _ h = cc
 
 op_function : (G : Table) (is : List PlainInst) → AllFit G is → (n : ℕ) → act_at is n ≡ Some Function → IsOp is n opcodes.is_function
 op_function G is fits n h =

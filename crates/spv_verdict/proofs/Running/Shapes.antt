@@ -50,44 +50,20 @@ none G [] a = refl
 none G (o ∷ os) a = elim a [ ]
 
 pub an_id : (G : Table) (r : Role) (o : Plain) → is_of G (form.Id r) o ≡ true → (x : ℕ) × (o ≡ operand.Id x)
-an_id G r (operand.OfType a) h = cc
-an_id G r (operand.Result a) h = cc
 an_id G r (operand.Id a) h = (a, refl)
-an_id G r (operand.Word a) h = cc
-an_id G r (operand.Number a b w) h = cc
-an_id G r (operand.Text a) h = cc
-an_id G r (operand.Value a b) h = cc
-an_id G r (operand.Mask a b) h = cc
+an_id G r _ h = cc
 
 pub a_type : (G : Table) (o : Plain) → is_of G form.OfType o ≡ true → (x : ℕ) × (o ≡ operand.OfType x)
 a_type G (operand.OfType a) h = (a, refl)
-a_type G (operand.Result a) h = cc
-a_type G (operand.Id a) h = cc
-a_type G (operand.Word a) h = cc
-a_type G (operand.Number a b w) h = cc
-a_type G (operand.Text a) h = cc
-a_type G (operand.Value a b) h = cc
-a_type G (operand.Mask a b) h = cc
+a_type G _ h = cc
 
 pub a_result : (G : Table) (o : Plain) → is_of G form.Result o ≡ true → (x : ℕ) × (o ≡ operand.Result x)
-a_result G (operand.OfType a) h = cc
 a_result G (operand.Result a) h = (a, refl)
-a_result G (operand.Id a) h = cc
-a_result G (operand.Word a) h = cc
-a_result G (operand.Number a b w) h = cc
-a_result G (operand.Text a) h = cc
-a_result G (operand.Value a b) h = cc
-a_result G (operand.Mask a b) h = cc
+a_result G _ h = cc
 
 pub a_control : (G : Table) (o : Plain) → is_of G (form.Kind kind_of.FunctionControl) o ≡ true → (k m : ℕ) × (o ≡ operand.Mask k m)
-a_control G (operand.OfType a) h = cc
-a_control G (operand.Result a) h = cc
-a_control G (operand.Id a) h = cc
-a_control G (operand.Word a) h = cc
-a_control G (operand.Number a b w) h = cc
-a_control G (operand.Text a) h = cc
-a_control G (operand.Value a b) h = cc
 a_control G (operand.Mask a b) h = (a, b, refl)
+a_control G _ h = cc
 
 -- Operands that begin with a type and a result.
 pub record Headed (G : Table) (gs : List Form) (os : List Plain) : Type 0 where

@@ -55,31 +55,23 @@ opcode_view G i _ (View.unreachable e os) = Opcode.another _ (λ h. cc) (λ h. c
 
 function_by : (n : ℕ) (a : Act) → Opcode n a → a ≡ Function → n ≡ 54
 function_by n _ (Opcode.a_function e) h = e
-function_by n _ (Opcode.a_parameter e) h = cc
-function_by n _ (Opcode.a_label e) h = cc
-function_by n _ (Opcode.no_special e) h = cc
 function_by n _ (Opcode.another a f p l o) h = absurd (f h)
+function_by n _ _ h = cc
 
 parameter_by : (n : ℕ) (a : Act) → Opcode n a → a ≡ Parameter → n ≡ 55
-parameter_by n _ (Opcode.a_function e) h = cc
 parameter_by n _ (Opcode.a_parameter e) h = e
-parameter_by n _ (Opcode.a_label e) h = cc
-parameter_by n _ (Opcode.no_special e) h = cc
 parameter_by n _ (Opcode.another a f p l o) h = absurd (p h)
+parameter_by n _ _ h = cc
 
 label_by : (n : ℕ) (a : Act) → Opcode n a → a ≡ Label → n ≡ 248
-label_by n _ (Opcode.a_function e) h = cc
-label_by n _ (Opcode.a_parameter e) h = cc
 label_by n _ (Opcode.a_label e) h = e
-label_by n _ (Opcode.no_special e) h = cc
 label_by n _ (Opcode.another a f p l o) h = absurd (l h)
+label_by n _ _ h = cc
 
 other_by : (n : ℕ) (a : Act) → Opcode n a → a ≡ Other → is_other n ≡ true
-other_by n _ (Opcode.a_function e) h = cc
-other_by n _ (Opcode.a_parameter e) h = cc
-other_by n _ (Opcode.a_label e) h = cc
 other_by n _ (Opcode.no_special e) h = e
 other_by n _ (Opcode.another a f p l o) h = absurd (o h)
+other_by n _ _ h = cc
 
 not_special : (n m : ℕ) → is_other n ≡ true → is_other m ≡ false → n ≢ m
 not_special n m h g e = let w : true ≡ false = sym h ∙ (ap is_other e ∙ g) in cc

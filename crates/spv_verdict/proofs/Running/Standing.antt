@@ -17,6 +17,7 @@ use Rattle.spv_ids.specs.Definition.{IsDefinedAt}
 use Rattle.spv_branches.specs.Target as target
 use Rattle.spv_branches.specs.Target.{IsOp, IsLabelOf}
 use Rattle.spv_verdict.specs.run.Act.{Act, Function, FunctionEnd, Label, act_of}
+use Rattle.spv_walks.proofs.Ended.{class_at}
 use Rattle.spv_verdict.specs.run.At.{act_at, result_at}
 use Rattle.spv_verdict.specs.inner.At.{goes_on}
 use Rattle.spv_verdict.proofs.Running.Place.{IsOf, IsIn, IsLocalTo, IsLocal, IsLabel}
@@ -29,9 +30,6 @@ use Rattle.spv_verdict.proofs.Running.Shapes.{View, view}
 use Rattle.spv_verdict.proofs.Running.Classes.{tests, act_end}
 use Rattle.spv_verdict.proofs.Running.Laid.{inst_of, block_at, implied, is_function_act, is_end_act, is_label_act, not_terminator}
 use Rattle.spv_verdict.proofs.Running.Passing.{moved, in_a_block, of_block, a_terminator, an_end}
-
-pub class_at : (is : List PlainInst) (n : ℕ) (i : PlainInst) → slice_get is n ≡ Some i → slice_get (classes is) n ≡ Some (class_of i.opcode)
-class_at is n i h = slice_get-map (λ j. class_of j.opcode) is n ∙ ap (option_map (λ j. class_of j.opcode)) h
 
 is_at : (is : List PlainInst) (n : ℕ) (i : PlainInst) (cs : List Class) → slice_get is n ≡ Some i → is_among (class_of i.opcode) cs ≡ true → IsAt is n cs
 is_at is n i cs h e = rw (class_at is n i h, e) refl
@@ -185,18 +183,7 @@ result_of is n x d = result_here is n d.inst d.there ∙ d.result
 
 pub label_opcode : (G : Table) (i : PlainInst) (a : Act) → View G i a → a ≡ Label → i.opcode ≡ opcode.LABEL
 label_opcode G i _ (View.label b e os) h = e
-label_opcode G i _ (View.function a b k' m s e os) h = cc
-label_opcode G i _ (View.parameter t b e os) h = cc
-label_opcode G i _ (View.function_end e os) h = cc
-label_opcode G i _ (View.call a b c os gs e same en each) h = cc
-label_opcode G i _ (View.phi a b os gs e same en each) h = cc
-label_opcode G i _ (View.branch x e os) h = cc
-label_opcode G i _ (View.condition c x y os gs e same en each) h = cc
-label_opcode G i _ (View.switch c x os gs e same en each) h = cc
-label_opcode G i _ (View.return e os) h = cc
-label_opcode G i _ (View.value x e os) h = cc
-label_opcode G i _ (View.unreachable e os) h = cc
-label_opcode G i _ (View.other e) h = cc
+label_opcode G i _ _ h = cc
 
 pub op_label : (G : Table) (is : List PlainInst) → AllFit G is → (n : ℕ) → act_at is n ≡ Some Label → IsOp is n target.is_label
 op_label G is fits n h =

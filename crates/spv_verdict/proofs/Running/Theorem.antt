@@ -46,12 +46,10 @@ declared_all is e fr (c ∷ below) k = (declared_in is c (top_stands is e c belo
 
 bounded : (G : Table) (is : List PlainInst) → IsChecked G is → (ds : List ℕ) → AreDefinitions is ds → (e : ℕ) → IsEntryFunction is e → (n : ℕ) (s : State) (steps : List Step) (f : Ending)
     → Stack is e s.top s.below → Run G is n s steps f → AllByRecursion (λ step. step.depth < length ds) steps
-bounded G is ok ds has e entry _ _ _ _ k (limit s) = tt
 bounded G is ok ds has e entry _ _ _ _ k (next n s after steps f d r) =
     (shallow G is ok ds has e entry s.top s.below k, bounded G is ok ds has e entry n after steps f (preserved G is ok e s after k d) r)
 bounded G is ok ds has e entry _ _ _ _ k (last n s f d) = (shallow G is ok ds has e entry s.top s.below k, tt)
-bounded G is ok ds has e entry _ _ _ _ k (before n s f d) = tt
-bounded G is ok ds has e entry _ _ _ _ k (stuck n s none) = tt
+bounded G is ok ds has e entry _ _ _ _ k _ = tt
 
 pub never_gets_stuck : (G : Table) (is : List PlainInst) → IsChecked G is → (g : ℕ) → IsEntryFunction is g → (choices : List ℕ) → NeverGetsStuck G is g choices
 never_gets_stuck G is ok g entry choices =

@@ -7,7 +7,7 @@ use Rattle.spv_verdict.specs.declared.run.parts.Ending.{Ending}
 use Rattle.spv_verdict.specs.declared.run.parts.Step.{Step}
 use Rattle.spv_verdict.specs.declared.run.parts.Ending.TheVariants as ending
 use Rattle.spv_verdict.specs.declared.run.tracer.Walker.{Walker}
-use Rattle.spv_verdict.specs.run.State.{Frame, State, Outcome, Goes, Last, Before, enter}
+use Rattle.spv_verdict.specs.run.State.{Frame, State, Outcome, Goes, Last, Before}
 use Rattle.spv_verdict.specs.run.Machine.{Does}
 use Rattle.spv_verdict.specs.run.State as machine
 use Rattle.spv_verdict.specs.run.Run.{step_of, IsStart, Run, limit, next, last, before}

@@ -65,10 +65,6 @@ on_comes is a m k t e q tells = by_act a (subst (λ (n : Move). Tells is a n) e 
 pub branch_comes : (is : List PlainInst) (a : Act) (m : Move) (n : ℕ) (k : Kept) (t : Turn) → m ≡ move.Branch n → t ≡ at k n → By is a m k t
 branch_comes is a m n k t e q tells = by_act a (subst (λ (n : Move). Tells is a n) e tells) where
   by_act : (b : Act) → Tells is b (move.Branch n) → Comes is b k t
-  by_act Function h = tt
-  by_act Parameter h = tt
-  by_act FunctionEnd h = tt
-  by_act act.Misfit h = tt
   by_act Label h = absurd h
   by_act (Phi ps) h = absurd h
   by_act Other h = absurd h
@@ -78,14 +74,11 @@ branch_comes is a m n k t e q tells = by_act a (subst (λ (n : Move). Tells is a
   by_act Return h = absurd h
   by_act (ReturnValue v) h = absurd h
   by_act act.Unreachable h = absurd h
+  by_act _ h = tt
 
 pub choose_comes : (is : List PlainInst) (a : Act) (m : Move) (k : Kept) (t : Turn) → m ≡ move.Choose → ((c : ℕ) (xs : List ℕ) → a ≡ Choose c xs → ByChoice is k xs k.choices t) → By is a m k t
 choose_comes is a m k t e q tells = by_act a q (subst (λ (n : Move). Tells is a n) e tells) where
   by_act : (b : Act) → ((c : ℕ) (xs : List ℕ) → b ≡ Choose c xs → ByChoice is k xs k.choices t) → Tells is b move.Choose → Comes is b k t
-  by_act Function p h = tt
-  by_act Parameter p h = tt
-  by_act FunctionEnd p h = tt
-  by_act act.Misfit p h = tt
   by_act Label p h = absurd h
   by_act (Phi ps) p h = absurd h
   by_act Other p h = absurd h
@@ -95,6 +88,7 @@ choose_comes is a m k t e q tells = by_act a q (subst (λ (n : Move). Tells is a
   by_act Return p h = absurd h
   by_act (ReturnValue v) p h = absurd h
   by_act act.Unreachable p h = absurd h
+  by_act _ p h = tt
 
 pub call_comes : (is : List PlainInst) (a : Act) (m : Move) (n : ℕ) (k : Kept) (t : Turn) → m ≡ move.Call n → t ≡ at_call k n → By is a m k t
 call_comes is a m n k t e q tells = by_act a (subst (λ (n : Move). Tells is a n) e tells) where
@@ -116,10 +110,6 @@ call_comes is a m n k t e q tells = by_act a (subst (λ (n : Move). Tells is a n
 pub return_comes : (is : List PlainInst) (a : Act) (m : Move) (k : Kept) (t : Turn) → m ≡ move.Return → t ≡ by_caller k k.callers → By is a m k t
 return_comes is a m k t e q tells = by_act a (subst (λ (n : Move). Tells is a n) e tells) where
   by_act : (b : Act) → Tells is b move.Return → Comes is b k t
-  by_act Function h = tt
-  by_act Parameter h = tt
-  by_act FunctionEnd h = tt
-  by_act act.Misfit h = tt
   by_act Label h = absurd h
   by_act (Phi ps) h = absurd h
   by_act Other h = absurd h
@@ -129,14 +119,11 @@ return_comes is a m k t e q tells = by_act a (subst (λ (n : Move). Tells is a n
   by_act Return h = q
   by_act (ReturnValue v) h = q
   by_act act.Unreachable h = absurd h
+  by_act _ h = tt
 
 pub unreachable_comes : (is : List PlainInst) (a : Act) (m : Move) (k : Kept) (t : Turn) → m ≡ move.Unreachable → t ≡ Last Unreachable → By is a m k t
 unreachable_comes is a m k t e q tells = by_act a (subst (λ (n : Move). Tells is a n) e tells) where
   by_act : (b : Act) → Tells is b move.Unreachable → Comes is b k t
-  by_act Function h = tt
-  by_act Parameter h = tt
-  by_act FunctionEnd h = tt
-  by_act act.Misfit h = tt
   by_act Label h = absurd h
   by_act (Phi ps) h = absurd h
   by_act Other h = absurd h
@@ -146,6 +133,7 @@ unreachable_comes is a m k t e q tells = by_act a (subst (λ (n : Move). Tells i
   by_act Return h = absurd h
   by_act (ReturnValue v) h = absurd h
   by_act act.Unreachable h = q
+  by_act _ h = tt
 
 -- What is kept after it.
 

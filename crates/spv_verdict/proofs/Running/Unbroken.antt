@@ -12,7 +12,7 @@ use Rattle.spv_layout.specs.Stage as stages
 use Rattle.spv_ids.specs.Broken as ids
 use Rattle.spv_branches.specs.Broken as branches
 use Rattle.spv_branches.specs.Target as target
-use Rattle.spv_branches.specs.Target.{IsOp, IsLabelOf, IsTarget}
+use Rattle.spv_branches.specs.Target.{IsTarget}
 use Rattle.spv_calls.specs.Broken as calls
 use Rattle.spv_verdict.specs.run.Act.{Act, Label, act_of}
 use Rattle.spv_verdict.specs.run.At.{act_at}

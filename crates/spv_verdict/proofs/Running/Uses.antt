@@ -130,14 +130,8 @@ cases_use G _ os x (Ends.again _ gs en) a c =
     ]))
   where
     a_number : (o : Plain) → is_of G form.Number o ≡ true → (a b w : ℕ) × (o ≡ operand.Number a b w)
-    a_number (operand.OfType a) h = cc
-    a_number (operand.Result a) h = cc
-    a_number (operand.Id a) h = cc
-    a_number (operand.Word a) h = cc
     a_number (operand.Number a b w) h = (a, b, w, refl)
-    a_number (operand.Text a) h = cc
-    a_number (operand.Value a b) h = cc
-    a_number (operand.Mask a b) h = cc
+    a_number _ h = cc
 
 row_at : (i : PlainInst) (n : ℕ) (r : PlainRow) → i.opcode ≡ n → row_of n ≡ Some r → row_of i.opcode ≡ Some r
 row_at i n r e h = ap row_of e ∙ h
@@ -217,18 +211,7 @@ phi_forms_view G i _ ps h (View.phi t b os gs e same en each) q =
       each = drop_two G T R fs.rest (operand.OfType t) (operand.Result b) os (same_forms G h.forms (T ∷ R ∷ fs.rest) [] i.operands (operand.OfType t ∷ operand.Result b ∷ os) fs.same same h.has.each);
       pairs_are = cc;
     }
-phi_forms_view G i _ ps h (View.function a b k' m s e os) q = cc
-phi_forms_view G i _ ps h (View.parameter t b e os) q = cc
-phi_forms_view G i _ ps h (View.function_end e os) q = cc
-phi_forms_view G i _ ps h (View.call a b c os gs e same en each) q = cc
-phi_forms_view G i _ ps h (View.label b e os) q = cc
-phi_forms_view G i _ ps h (View.branch x e os) q = cc
-phi_forms_view G i _ ps h (View.condition c x y os gs e same en each) q = cc
-phi_forms_view G i _ ps h (View.switch c x os gs e same en each) q = cc
-phi_forms_view G i _ ps h (View.return e os) q = cc
-phi_forms_view G i _ ps h (View.value x e os) q = cc
-phi_forms_view G i _ ps h (View.unreachable e os) q = cc
-phi_forms_view G i _ ps h (View.other e) q = cc
+phi_forms_view G i _ ps h _ q = cc
 
 pub phi_forms : (G : Table) (i : PlainInst) (ps : List Pair) → (h : FitsShape G i) → act_of i ≡ Phi ps → PhiForms G i h ps
 phi_forms G i ps h e = phi_forms_view G i (act_of i) ps h (view G i h) e

@@ -148,10 +148,9 @@ never G e (bad_choice i c k ls left at q some out h) = let same : inst opcode.LA
 
 sooner : (G : Table) (n : ℕ) (xs : List Step) (e : Ending) → Run G lone n (standing 3) xs e → n ≡ 9 → xs ≡ [] → ⊥
 sooner G _ _ _ (limit s) h g = absurd (omega (arith, h))
-sooner G _ _ _ (next n s after steps e d r) h g = cc
-sooner G _ _ _ (last n s e d) h g = cc
 sooner G _ _ _ (Run.before n s e d) h g = never G e d
 sooner G _ _ _ (stuck n s none) h g = none (Goes (standing 4)) (at_label G [])
+sooner G _ _ _ _ h g = cc
 
 pub not_nothing : (G : Table) (e : Ending) → ¬ (Run G lone 9 (standing 3) [] e)
 not_nothing G e r = sooner G 9 [] e r refl refl

@@ -1,5 +1,5 @@
 -- Y5 at an instruction, beside the other rules of types.
-use Rattle.std.proofs.Common.{◌≡◌, ◌∙◌, sym, subst, ◌↔◌, if◌then◌else◌, ◌≤◌, ◌<◌, ◌||◌, inl, inr, ℕ, List, Option, Some, None, Bool, true, false, refl, ap, arith}
+use Rattle.std.proofs.Common.{◌≡◌, ◌∙◌, sym, subst, ◌↔◌, if◌then◌else◌, ◌<◌, ◌||◌, inl, inr, ℕ, List, Option, Some, None, Bool, true, false, refl, ap, arith}
 use Rattle.std.specs.Prelude.{IsTrue, slice_get}
 use Rattle.std.proofs.lemmas.Bool.{cases_lt}
 use Rattle.spv_table.specs.Table.{Table}
@@ -22,7 +22,7 @@ use Rattle.spv_type_rules.specs.inner.Keeps.{CallsAreSound}
 use Rattle.spv_type_rules.specs.inner.Rules.{Unasked, IsFirstHere}
 use Rattle.spv_type_rules.proofs.Concerns.{operation_kept}
 use Rattle.spv_type_rules.proofs.Firsts.{all_kept}
-use Rattle.spv_verdict.specs.inner.Pass.{IsFirstOfTypes, IsFirstTypeHere}
+use Rattle.spv_verdict.specs.inner.Pass.{IsFirstTypeHere}
 
 -- An opcode that is not that of an operation has no row.
 

@@ -2,10 +2,10 @@
 use Rattle.std.specs.Prelude.{◌≡◌, ◌<◌, ℕ, List, Some, length, slice_get}
 use Rattle.std.specs.List.{AllByRecursion}
 use Rattle.spv_table.specs.Table.{Table}
+use Rattle.spv_module.specs.declared.opcode.TheConstants as opcode
 use Rattle.spv_module.specs.Operand.{PlainInst, Id}
 use Rattle.spv_ids.specs.declared.ids.Ids.{Ids}
 use Rattle.spv_ids.specs.Definition.{IsDefinedAt}
-use Rattle.spv_calls.specs.Calls.{entry_point}
 use Rattle.spv_ids.specs.Outcome.{AreNumbered}
 use Rattle.spv_verdict.specs.declared.run.parts.Step.{Step}
 use Rattle.spv_verdict.specs.declared.run.parts.Trace.{Trace}
@@ -22,7 +22,7 @@ pub record IsEntryId (is : List PlainInst) (x : ℕ) : Type 0 where
   pub place : ℕ
   pub inst : PlainInst
   pub there : slice_get is place ≡ Some inst
-  pub opcode : inst.opcode ≡ entry_point
+  pub opcode : inst.opcode ≡ opcode.ENTRY_POINT
   pub named : slice_get inst.operands 1 ≡ Some (Id x)
 
 -- The trace is of the run from a state in at most `limit` steps, and each step has fewer frames below it than there are

@@ -5,7 +5,7 @@ ghost use Rattle.spv_module.specs.Module.{plain_inst};
 ghost use Rattle.spv_calls.specs.inner.Found.{entry_in};
 ghost use Rattle.spv_verdict.specs.run.Entry.{IsEntryId};
 
-use crate::run::moves::id_at;
+use spv_ids::named_id;
 use spv_module::{Inst, opcode};
 
 /// The function that an OpEntryPoint names.
@@ -15,7 +15,7 @@ fn named_by(inst: &Inst<'_>) -> Option<u32>
     if inst.opcode != opcode::ENTRY_POINT {
         return None;
     }
-    id_at(inst, 1)
+    named_id(inst, 1)
 }
 
 /// Whether an id is the function of an OpEntryPoint. (3.49.5)

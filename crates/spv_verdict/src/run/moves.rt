@@ -6,7 +6,6 @@ ghost use Rattle.spv_table.specs.Table.{Table};
 ghost use Rattle.spv_module.specs.Module.{plain_inst};
 ghost use Rattle.spv_layout.specs.Shape.{FitsShape};
 ghost use Rattle.spv_ids.specs.Definition.{IsDefinedAt};
-ghost use Rattle.spv_calls.specs.inner.Found.{id_in};
 ghost use Rattle.spv_ids.specs.Outcome.{AreNumbered};
 ghost use Rattle.spv_verdict.specs.run.Act.{Function, Call, Choose, act_of};
 ghost use Rattle.spv_verdict.specs.run.At.{act_at};
@@ -14,8 +13,8 @@ ghost use Rattle.spv_verdict.specs.run.Sound.{KeepsRules};
 ghost use Rattle.spv_verdict.specs.inner.Trace.{Tells};
 ghost use Rattle.spv_verdict.specs.inner.Bodies.{HaveEntries};
 
-use spv_ids::Ids;
-use spv_module::{Inst, Operand, opcode};
+use spv_ids::{Ids, named_id};
+use spv_module::{Inst, opcode};
 
 /// What an instruction of a function's body does to a run. Numbers are those of instructions.
 #[derive(Clone, Copy)]
@@ -30,16 +29,6 @@ pub enum Move {
     Call(u32),
     Return,
     Unreachable,
-}
-
-/// The id that an operand is, if it is one other than a type or a result.
-pub fn id_at(inst: &Inst<'_>, place: usize) -> Option<u32>
-    ensures { result ≡ id_in (slice_get (plain_inst inst.now).operands place) }
-{
-    match inst.operands.as_slice().get(place) {
-        Some(Operand::Id(id)) => Some(*id),
-        _ => None,
-    }
 }
 
 /// The instruction whose result an id is.
@@ -59,10 +48,10 @@ pub fn target_of(inst: &Inst<'_>, choice: u32) -> Option<u32>
         → act_of (plain_inst inst.now) ≡ Choose c xs → result ≡ slice_get xs choice }
 {
     if inst.opcode == opcode::SWITCH {
-        return id_at(inst, choice as usize * 2 + 1);
+        return named_id(inst, choice as usize * 2 + 1);
     }
     if choice < 2 {
-        id_at(inst, choice as usize + 1)
+        named_id(inst, choice as usize + 1)
     } else {
         None
     }
@@ -93,7 +82,7 @@ pub fn move_of(inst: &Inst<'_>, ids: &Ids, entries: &[u32]) -> Move
 {
     let opcode = inst.opcode;
     if opcode == opcode::BRANCH {
-        return match id_at(inst, 0) {
+        return match named_id(inst, 0) {
             Some(label) => Move::Branch(place_of(ids, label)),
             None => Move::On,
         };
@@ -105,7 +94,7 @@ pub fn move_of(inst: &Inst<'_>, ids: &Ids, entries: &[u32]) -> Move
         return Move::Choose;
     }
     if opcode == opcode::FUNCTION_CALL {
-        return match id_at(inst, 2) {
+        return match named_id(inst, 2) {
             Some(callee) => call_by(entries, place_of(ids, callee)),
             None => Move::On,
         };

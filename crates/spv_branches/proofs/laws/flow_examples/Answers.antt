@@ -99,19 +99,13 @@ undefined (suc (suc (suc k)), n, lt, e, d) = absurd (omega (arith, lt))
 no_function : (k : ℕ) → 0 < k → k < 5 → ¬ (IsAt two_blocks k (Function ∷ []))
 unfolding rows
 no_function zero l u a = absurd (omega (arith, l))
-no_function (suc zero) l u a = cc
-no_function (suc (suc zero)) l u a = cc
-no_function (suc (suc (suc zero))) l u a = cc
-no_function (suc (suc (suc (suc zero)))) l u a = cc
 no_function (suc (suc (suc (suc (suc k))))) l u a = absurd (omega (arith, u))
+no_function _ l u a = cc
 
 no_end : (k : ℕ) → k < 4 → ¬ (IsAt two_blocks k (FunctionEnd ∷ []))
 unfolding rows
-no_end zero u a = cc
-no_end (suc zero) u a = cc
-no_end (suc (suc zero)) u a = cc
-no_end (suc (suc (suc zero))) u a = cc
 no_end (suc (suc (suc (suc k)))) u a = absurd (omega (arith, u))
+no_end _ u a = cc
 
 of_function : (n : ℕ) → n < 5 → IsOfFunction two_blocks n 0
 unfolding rows
@@ -173,16 +167,12 @@ defined_by_2 (suc (suc (suc (suc zero)))) d = let t = d.there in let e : return_
 defined_by_2 (suc (suc (suc (suc (suc k))))) d = let t = d.there in cc
 
 not_entered : (q : Rule) (n : ℕ) → Broken small two_blocks q n → q ≡ F2 → n ≡ 2 → ⊥
-not_entered _ _ (Broken.no_label n k x op used none) s e = cc
 not_entered _ _ (Broken.to_entry n x m target d entry) s e =
     let u : IsUsedAt small two_blocks 2 target.operand x role.Label = subst (λ (k : ℕ). IsUsedAt small two_blocks k target.operand x role.Label) e target.used in
     let f = branch_id target.operand x u in
     let g = defined_by_2 m (subst (λ (y : ℕ). IsDefinedAt two_blocks y m) f d) in
     later (subst (λ (k : ℕ). IsEntryLabel two_blocks k) g entry)
-not_entered _ _ (Broken.parents n phi not) s e = cc
-not_entered _ _ (Broken.same_labels n x op u w) s e = cc
-not_entered _ _ (Broken.missing n m) s e = cc
-not_entered _ _ (Broken.pair_missing n m) s e = cc
+not_entered _ _ _ s e = cc
 
 to_entry : Broken small (function ∷ label 1 ∷ branch 1 ∷ []) F2 2
 to_entry =

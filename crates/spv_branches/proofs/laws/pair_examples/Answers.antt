@@ -53,20 +53,13 @@ pairs x = record { operand = 2; paired = uses_value x; id = 1; named = uses_labe
 no_function : (x k : ℕ) → 0 < k → k ≤ 4 → ¬ (IsAt (valued x 1) k (Function ∷ []))
 unfolding rows
 no_function x zero a b h = absurd (omega (arith, a))
-no_function x (suc zero) a b h = cc
-no_function x (suc (suc zero)) a b h = cc
-no_function x (suc (suc (suc zero))) a b h = cc
-no_function x (suc (suc (suc (suc zero)))) a b h = cc
 no_function x (suc (suc (suc (suc (suc k))))) a b h = absurd (omega (arith, b))
+no_function x _ a b h = cc
 
 no_end : (x k : ℕ) → k ≤ 4 → ¬ (IsAt (valued x 1) k (FunctionEnd ∷ []))
 unfolding rows
-no_end x zero b h = cc
-no_end x (suc zero) b h = cc
-no_end x (suc (suc zero)) b h = cc
-no_end x (suc (suc (suc zero))) b h = cc
-no_end x (suc (suc (suc (suc zero)))) b h = cc
 no_end x (suc (suc (suc (suc (suc k))))) b h = absurd (omega (arith, b))
+no_end x _ b h = cc
 
 of_function : (x n : ℕ) → n ≤ 4 → IsOfFunction (valued x 1) n 0
 unfolding rows

@@ -1,10 +1,9 @@
-use Rattle.std.proofs.Common.{◌≤◌, ◌+◌, map, length, arith}
-use Rattle.std.specs.Prelude.{sum_by}
+use Rattle.std.proofs.Common.{map, length, arith}
 use Rattle.std.proofs.lemmas.List.{length-map}
 use Rattle.std.proofs.lemmas.Option.{slice_get_within}
 use Rattle.spv_module.specs.Module.{plain_inst, plain_insts}
-use Rattle.spv_layout.specs.Place.{word_count, IsShort}
-use Rattle.spv_calls.proofs.Insts.{short_list}
+use Rattle.spv_layout.specs.Place.{IsShort}
+use Rattle.spv_layout.proofs.Misfits.{short_list}
 use Rattle.spv_calls.specs.inner.Graph.{IsFirstCyclic}
 use Rattle.spv_calls.specs.inner.Found.{ArePlaces}
 use Rattle.spv_ids.specs.Outcome.{AreNumbered}

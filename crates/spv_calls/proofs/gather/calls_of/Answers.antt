@@ -1,6 +1,6 @@
 use Rattle.std.proofs.Common.{map}
 use Rattle.spv_module.specs.Module.{plain_inst}
-use Rattle.spv_calls.proofs.Insts.{inst_there}
+use Rattle.spv_layout.proofs.Misfits.{inst_there}
 use Rattle.spv_calls.proofs.Gathering.{calls_more, calls_past}
 use Rattle.spv_calls.proofs.gather.calls_of.Goals.{in-Some+in_ok-push, in_default}
 use Rattle.spv_calls.proofs.gather.calls_of.Goals as goal

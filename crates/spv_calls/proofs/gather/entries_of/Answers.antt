@@ -1,6 +1,6 @@
 use Rattle.std.proofs.Common.{◌∙◌, sym, map}
 use Rattle.spv_module.specs.Module.{plain_inst}
-use Rattle.spv_calls.proofs.Insts.{inst_there}
+use Rattle.spv_layout.proofs.Misfits.{inst_there}
 use Rattle.spv_calls.proofs.Gathering.{entries_more, entries_past, entries_undefined}
 use Rattle.spv_calls.proofs.gather.entries_of.Goals.{in-Some+in-Some-definition+in_ok-push, in-Some+in_default-definition, in_default}
 use Rattle.spv_calls.proofs.gather.entries_of.Goals as goal

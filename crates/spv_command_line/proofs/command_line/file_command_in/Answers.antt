@@ -2,26 +2,19 @@ use Rattle.std.proofs.Common.{◌≡◌, ◌∙◌, sym, refl, codes, map, None,
 use Rattle.std.specs.Option.{option_or}
 use Rattle.clap.specs.Words.{all_of, first_of, found_of, rows_of}
 use Rattle.clap.proofs.WalkLemmas.{first_value-rows, raw_values-rows}
-use Rattle.spv_command_line.proofs.Asking.{asked_of, grammar_read, no_command_without_file, no_command_without_grammar, no_rules_of_name}
+use Rattle.spv_command_line.proofs.Asking.{asked_of, grammar_read, no_command_without_file, other_of_name}
 use Rattle.spv_command_line.proofs.command_line.file_command_in.Goals as goal
 
 pub returns-in_default : goal.returns-in_default
 returns-in_default c =
     let rows = rows_of (found_of c.args.found.now) in
-    let none : option_or (first_of (codes "grammar") rows) (option_map (λ g. g.now) c.args.environment) ≡ None =
-    sym (grammar_read c.get_str.result c.args.environment None _ (c.get_str.ensures ∙ first_value-rows (found_of c.args.found.now) (codes "grammar")) c.in_default.ensures) in
-    no_command_without_grammar _ _ c.args.name.now _ (all_of (codes "file") rows) refl none (no_rules_of_name _ rows c.requires)
-
-pub returns-in_default-get_strs : goal.returns-in_default-get_strs
-returns-in_default-get_strs c =
-    let rows = rows_of (found_of c.args.found.now) in
-    let none : all_of (codes "file") rows ≡ None = sym (raw_values-rows (found_of c.args.found.now) (codes "file")) ∙ sym c.in_default-get_strs.ensures in
-    no_command_without_file _ _ c.args.name.now (option_or (first_of (codes "grammar") rows) (option_map (λ g. g.now) c.args.environment)) _ refl none (no_rules_of_name _ rows c.requires)
+    let none : all_of (codes "file") rows ≡ None = sym (raw_values-rows (found_of c.args.found.now) (codes "file")) ∙ sym c.in_default.ensures in
+    no_command_without_file _ _ c.args.name.now (option_or (first_of (codes "grammar") rows) (option_map (λ g. g.now) c.args.environment)) _ refl none (other_of_name _ rows c.requires)
 
 pub returns : goal.returns
 returns c =
     let rows = rows_of (found_of c.args.found.now) in
-    let grammar : option_or (first_of (codes "grammar") rows) (option_map (λ g. g.now) c.args.environment) ≡ Some c.in-Some.grammar.now =
-    sym (grammar_read c.get_str.result c.args.environment (Some c.in-Some.grammar) _ (c.get_str.ensures ∙ first_value-rows (found_of c.args.found.now) (codes "grammar")) c.in-Some.ensures) in
-    let files : all_of (codes "file") rows ≡ Some (map (λ f. f.now) c.in-Some-get_strs.files.now) = sym (raw_values-rows (found_of c.args.found.now) (codes "file")) ∙ sym c.in-Some-get_strs.ensures in
+    let grammar : option_or (first_of (codes "grammar") rows) (option_map (λ g. g.now) c.args.environment) ≡ option_map (λ g. g.now) c.or-grammar.result =
+    sym (grammar_read c.get_str.result c.args.environment c.or-grammar.result _ (c.get_str.ensures ∙ first_value-rows (found_of c.args.found.now) (codes "grammar")) c.or-grammar.ensures) in
+    let files : all_of (codes "file") rows ≡ Some (map (λ f. f.now) c.in-Some.files.now) = sym (raw_values-rows (found_of c.args.found.now) (codes "file")) ∙ sym c.in-Some.ensures in
     c.command_on.ensures (option_map (λ g. g.now) c.args.environment) (asked_of _ _ rows _ _ grammar files)

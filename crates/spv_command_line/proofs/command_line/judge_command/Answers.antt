@@ -1,8 +1,16 @@
-use Rattle.spv_command_line.proofs.Asking.{judge_met, not_judged}
+use Rattle.clap.specs.Words.{found_of, rows_of}
+use Rattle.spv_command_line.proofs.Asking.{judge_met, not_judged, not_named}
 use Rattle.spv_command_line.proofs.command_line.judge_command.Goals as goal
 
 pub returns-then-not-are_modules : goal.returns-then-not-are_modules
-returns-then-not-are_modules c = λ environment rows e. not_judged environment rows c.args.task _ _ e c.if-not-are_modules.ensures
+returns-then-not-are_modules c = λ environment e.
+    not_judged environment (rows_of (found_of c.args.found.now)) c.args.task _ _ e c.if-not-are_modules.ensures
+
+pub returns-in_default : goal.returns-in_default
+returns-in_default c = λ environment e.
+    not_named environment (rows_of (found_of c.args.found.now)) c.args.task _ _ e c.in_default.ensures
 
 pub returns : goal.returns
-returns c = λ environment rows e. judge_met environment rows c.args.task _ _ _ e c.in_ok-files.ensures.items c.if-not-are_modules.ensures
+returns c = λ environment e.
+    judge_met environment (rows_of (found_of c.args.found.now)) c.args.task _ _ _ _ _ _ e c.in_ok-files.ensures.items c.if-not-are_modules.ensures
+    c.is_as_1_6.ensures c.in-Some.ensures c.is_set.ensures

@@ -6,7 +6,7 @@ use Rattle.spv_commands.proofs.each.each_by.Goals as goal
 use Rattle.spv_commands.proofs.each.each_by.Goals.{in-Ok+else-not-write_on, in-Err}
 
 pub loop-number-init : goal.loop-number-init
-loop-number-init g c = (begins c.args.table.now c.args.task (g.F.Files.known c.args.files.now) _ _ _ _, λ n. refl)
+loop-number-init g c = (begins c.args.table.now c.args.how (g.F.Files.known c.args.files.now) _ _ _ _, λ n. refl)
 
 pub returns-then-not-write_on-clause-ends : goal.returns-then-not-write_on-clause-ends
 returns-then-not-write_on-clause-ends g c = λ text given.

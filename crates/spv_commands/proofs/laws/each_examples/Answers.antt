@@ -5,26 +5,32 @@ use Rattle.spv_commands.proofs.Parts.{always_named, got_nothing, never_told, no_
 use Rattle.spv_commands.proofs.laws.each_examples.Goals as goal
 
 pub returns-clause-part : goal.returns-clause-part
-returns-clause-part c = λ G task. IsPart.unread refl refl refl refl
+returns-clause-part c = λ G how. IsPart.unread refl refl refl refl
 
 pub returns-clause-no_part : goal.returns-clause-no_part
-returns-clause-no_part c = λ G task line. not_judged G task (codes "a") line 0 refl
+returns-clause-no_part c = λ G how line. not_judged G how (codes "a") line 0 refl
+
+pub returns-clause-heading : goal.returns-clause-heading
+returns-clause-heading c = λ how e. rw e refl
+
+pub returns-clause-no_heading : goal.returns-clause-no_heading
+returns-clause-no_heading c = λ how e. rw e (λ q. cc)
 
 pub returns-clause-starved : goal.returns-clause-starved
-returns-clause-starved c = λ G task known. IsPart.starved refl refl refl
+returns-clause-starved c = λ G how known. IsPart.starved refl refl refl
 
 pub returns-clause-never_nameless : goal.returns-clause-never_nameless
-returns-clause-never_nameless c = λ G task known out status. always_named G task known out _ status refl
+returns-clause-never_nameless c = λ G how known out status. always_named G how known out _ status refl
 
 pub returns-clause-parts : goal.returns-clause-parts
-returns-clause-parts c = λ G task. more (codes "a") [] _ 2 none (IsPart.unread refl refl refl refl)
+returns-clause-parts c = λ G how. more (codes "a") [] _ 2 none (IsPart.unread refl refl refl refl)
 
 pub returns-clause-no_parts : goal.returns-clause-no_parts
-returns-clause-no_parts c = λ G task known. no_files G task known [] [] [] 2 refl refl
+returns-clause-no_parts c = λ G how known. no_files G how known [] [] [] 2 refl refl
 
 pub returns-clause-ends : goal.returns-clause-ends
-returns-clause-ends c = λ text task known names.
+returns-clause-ends c = λ text how known names.
     Ends.starved (got_nothing _ _).writes tt (record { whole = λ e. refl; begun = record { count = 13; fits = lit≤ tt; written = refl } }) refl
 
 pub returns-clause-never_ends : goal.returns-clause-never_ends
-returns-clause-never_ends c = λ text task known names status. never_told text task known names status
+returns-clause-never_ends c = λ text how known names status. never_told text how known names status

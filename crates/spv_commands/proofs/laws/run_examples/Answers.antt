@@ -11,12 +11,6 @@ returns-clause-begins_with c = record { count = 5; fits = lit≤ tt; written = r
 pub returns-clause-writes_beginning : goal.returns-clause-writes_beginning
 returns-clause-writes_beginning c = record { whole = λ e. absurd (omega arith); begun = record { count = 5; fits = lit≤ tt; written = refl } }
 
-pub returns-clause-table : goal.returns-clause-table
-returns-clause-table c = empty_given c.table_examples.ensures.gives
-
-pub returns-clause-no_table : goal.returns-clause-no_table
-returns-clause-no_table c = nothing_given
-
 pub returns-clause-does : goal.returns-clause-does
 returns-clause-does c = λ command r n.
     does_short command _ r n (empty_given c.table_examples.ensures.gives) (c.stream_examples.ensures.tells empty_table) (c.explain_examples.ensures.explains empty_table)

@@ -1,6 +1,6 @@
 use Rattle.std.proofs.Common.{refl}
 use Rattle.spv_commands.specs.Show.{BeginsShowing, Shows}
-use Rattle.spv_commands.specs.Task.{BeginsTask, DoesTask}
+use Rattle.spv_commands.specs.Task.{BeginsGrammar, BeginsTask, BeginsText, DoesTask, WritesGrammar, WritesText}
 use Rattle.spv_commands.specs.Trace.{BeginsTracing, Traces}
 use Rattle.spv_commands.proofs.Troubles.{alone, of_two, unread}
 use Rattle.spv_commands.proofs.program.done_by.Goals as goal
@@ -33,6 +33,12 @@ returns-in-Trace-clause-ends g c =
 
 pub returns-in-Rules-clause-ends : goal.returns-in-Rules-clause-ends
 returns-in-Rules-clause-ends g c = rw c.in-Rules.is (record {
-  ends = unread _ _ _ _ _ (λ f. f refl) (λ f. f refl) (λ q. refl) c.ruled.ensures;
+  ends = unread WritesText BeginsText _ _ _ _ _ (λ f. f refl) (λ f. f refl) (λ q. refl) c.ruled.ensures;
   only = of_two _ _ c.ruled.ensures.only;
+})
+
+pub returns-in-Grammar-clause-ends : goal.returns-in-Grammar-clause-ends
+returns-in-Grammar-clause-ends g c = rw c.in-Grammar.is (record {
+  ends = unread (WritesGrammar c.args.table.now) (BeginsGrammar c.args.table.now) _ _ _ _ _ (λ f. f refl) (λ f. f refl) (λ q. refl) c.grammar_written.ensures;
+  only = of_two _ _ c.grammar_written.ensures.only;
 })

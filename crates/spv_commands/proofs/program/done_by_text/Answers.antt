@@ -1,12 +1,15 @@
-use Rattle.std.proofs.Common.{refl}
+use Rattle.std.proofs.Common.{refl, option_map}
 use Rattle.spv_commands.proofs.Troubles.{by_text, grammar_ends}
 use Rattle.spv_commands.proofs.program.done_by_text.Goals as goal
 
 pub returns-in-Ok-clause-ends : goal.returns-in-Ok-clause-ends
 returns-in-Ok-clause-ends g c =
-    let given = c.in-Ok.ensures.table in
-    by_text c.args.command.now c.args.grammar.now c.in-Ok.table _ _ _ _ (record { tree = given.0; utf8 = given.1; is_tree = given.2; gives = given.3 }) c.done_by-answer.ensures.ends
+    by_text c.args.command.now (option_map (λ t. t.now) c.args.grammar) c.in-Ok.table _ _ _ _ c.in-Ok.ensures.table c.done_as-answer.ensures.ends
 
 pub returns-in-Err-clause-ends : goal.returns-in-Err-clause-ends
 returns-in-Err-clause-ends g c =
-    grammar_ends c.args.command.now c.args.grammar.now _ _ _ c.in-Err.error c.in-Err.ensures.refused (λ f. f refl) (λ f. f refl) (λ f. f refl) (λ q. refl) (λ q. refl)
+    grammar_ends c.args.command.now (option_map (λ t. t.now) c.args.grammar) _ _ _ c.in-Err.error c.in-Err.ensures.refused (λ f. f refl) (λ f. f refl) (λ f. f refl) (λ q. refl) (λ q. refl)
+
+pub returns-in-Ok-clause-refused : goal.returns-in-Ok-clause-refused
+returns-in-Ok-clause-refused g c = λ e h.
+    absurd (c.one_table.ensures.never (option_map (λ t. t.now) c.args.grammar) c.in-Ok.table e c.in-Ok.ensures.table h)

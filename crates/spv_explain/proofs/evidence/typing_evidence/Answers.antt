@@ -1,6 +1,6 @@
 use Rattle.std.proofs.Common.{◌∙◌, sym, subst, arith}
 use Rattle.spv_module.specs.Module.{plain_insts}
-use Rattle.spv_branches.proofs.Firsts.{few_insts}
+use Rattle.spv_layout.proofs.Misfits.{short_list}
 use Rattle.spv_verdict.specs.types.Broken as types
 use Rattle.spv_explain.proofs.Stages.{broken_in, capabilities_of, later, roles_of, the_role, types_of}
 use Rattle.spv_explain.proofs.Shown.{capability_shown, role_shown, type_shown}
@@ -22,7 +22,7 @@ returns-then-is_of_roles c =
     role_shown _ _ _ c.args.fault _ (the_role c.args.fault.rule (sym c.is_of_roles.ensures ∙ c.if-is_of_roles.true)) (c.role_evidence.ensures c.args.table.now c.requires.plan)
 
 pub capability_evidence-requires-clause-most : goal.capability_evidence-requires-clause-most
-capability_evidence-requires-clause-most c = let few = few_insts (plain_insts c.args.module.now) in omega (arith, few, c.requires.words)
+capability_evidence-requires-clause-most c = let few = short_list (plain_insts c.args.module.now) in omega (arith, few, c.requires.words)
 
 pub capability_evidence-requires-clause-broken : goal.capability_evidence-requires-clause-broken
 capability_evidence-requires-clause-broken c =

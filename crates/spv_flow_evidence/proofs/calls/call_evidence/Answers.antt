@@ -6,7 +6,7 @@ use Rattle.spv_calls.specs.Broken.{Broken}
 use Rattle.spv_calls.specs.inner.Found.{ArePlaces}
 use Rattle.spv_ids.specs.Outcome.{AreNumbered}
 use Rattle.spv_flow_evidence.specs.calls.inner.Edges.{edge_of, IsListed, IsNotListed}
-use Rattle.spv_flow_evidence.proofs.lemmas.Few.{few_insts}
+use Rattle.spv_branches.proofs.Firsts.{few_insts}
 use Rattle.spv_flow_evidence.proofs.lemmas.calls.Walked.{is_listed, ready, evidence}
 use Rattle.spv_flow_evidence.proofs.calls.call_evidence.Goals as goal
 

@@ -6,7 +6,7 @@ use Rattle.spv_module.specs.Operand.{PlainInst}
 use Rattle.spv_module.specs.declared.module.Inst.{Inst}
 use Rattle.spv_module.specs.Module.{plain_inst}
 use Rattle.spv_module.specs.declared.fault.Rule.{Rule}
-use Rattle.spv_module.specs.declared.fault.Rule.TheVariants.{F1, F2, F3, F4, D3}
+use Rattle.spv_module.specs.declared.fault.Rule.TheVariants.{F1, F2, F3, D3}
 use Rattle.spv_layout.specs.First.{IsFirst, IsUnbroken}
 use Rattle.spv_layout.specs.Place.{IsShort, AreFew}
 use Rattle.spv_layout.specs.Plan.{IsPlan}
@@ -21,10 +21,9 @@ use Rattle.spv_branches.specs.inner.Graph.{LacksLabel, LeadsToEntry}
 use Rattle.spv_branches.specs.Target.{is_phi, is_merge, is_branch, IsOp, HasParents}
 use Rattle.spv_branches.proofs.Firsts.{broken_within}
 use Rattle.spv_evidence.specs.declared.evidence.Evidence.{Evidence}
-use Rattle.spv_evidence.specs.declared.evidence.Evidence.TheVariants.{Operand}
 use Rattle.spv_flow_evidence.specs.branches.Evidence.{IsEvidence}
 use Rattle.spv_flow_evidence.specs.branches.inner.Known.{KeepsDefinitions}
-use Rattle.spv_flow_evidence.proofs.lemmas.Few.{few_insts}
+use Rattle.spv_branches.proofs.Firsts.{few_insts}
 
 -- The instructions that are looked at are those of a module whose plan and ids are known.
 pub known_code : (G : Table) (c : Code) (insts : List Inst) → c.insts.now ≡ insts → IsShort (map plain_inst insts) → IsPlan G (map plain_inst insts) c.plan.now → ((x : ℕ) → IsDefinitionOf (map plain_inst insts) x (definition_in c.ids.now x))
@@ -59,32 +58,12 @@ definitions G bound is n unbroken = record { each = λ k x u none. unbroken D3 n
 
 pub lacking : (G : Table) (is : List PlainInst) (q : Rule) (n : ℕ) → Broken G is q n → q ≡ F1 → (IsOp is n is_branch ⊎ IsOp is n is_merge) × LacksLabel G is n
 lacking G is _ _ (Broken.no_label n k x op used none) e = (op, record { operand = k; id = x; used = used; none = none })
-lacking G is _ _ (Broken.to_entry n x m target d entry) e = cc
-lacking G is _ _ (Broken.parents n phi not) e = cc
-lacking G is _ _ (Broken.same_labels n x op u w) e = cc
-lacking G is _ _ (Broken.missing n m) e = cc
-lacking G is _ _ (Broken.pair_missing n m) e = cc
+lacking G is _ _ _ e = cc
 
 pub entering : (G : Table) (is : List PlainInst) (q : Rule) (n : ℕ) → Broken G is q n → q ≡ F2 → IsOp is n is_branch × LeadsToEntry G is n
-entering G is _ _ (Broken.no_label n k x op used none) e = cc
 entering G is _ _ (Broken.to_entry n x m target d entry) e = (target.branch, record { operand = target.operand; id = x; used = target.used; place = m; defined = d; entry = entry })
-entering G is _ _ (Broken.parents n phi not) e = cc
-entering G is _ _ (Broken.same_labels n x op u w) e = cc
-entering G is _ _ (Broken.missing n m) e = cc
-entering G is _ _ (Broken.pair_missing n m) e = cc
+entering G is _ _ _ e = cc
 
 pub parentless : (G : Table) (is : List PlainInst) (q : Rule) (n : ℕ) → Broken G is q n → q ≡ F3 → IsOp is n is_phi × (¬ (HasParents G is n))
-parentless G is _ _ (Broken.no_label n k x op used none) e = cc
-parentless G is _ _ (Broken.to_entry n x m target d entry) e = cc
 parentless G is _ _ (Broken.parents n phi not) e = (phi, not)
-parentless G is _ _ (Broken.same_labels n x op u w) e = cc
-parentless G is _ _ (Broken.missing n m) e = cc
-parentless G is _ _ (Broken.pair_missing n m) e = cc
-
-pub same_labels : (G : Table) (is : List PlainInst) (q : Rule) (n : ℕ) → Broken G is q n → q ≡ F4 → IsEvidence G is F4 n (Operand 2)
-same_labels G is _ _ (Broken.no_label n k x op used none) e = cc
-same_labels G is _ _ (Broken.to_entry n x m target d entry) e = cc
-same_labels G is _ _ (Broken.parents n phi not) e = cc
-same_labels G is _ _ (Broken.same_labels n x op one two) e = IsEvidence.same_labels n x op one two
-same_labels G is _ _ (Broken.missing n m) e = cc
-same_labels G is _ _ (Broken.pair_missing n m) e = cc
+parentless G is _ _ _ e = cc

@@ -24,13 +24,6 @@ use Rattle.spv_flow_evidence.specs.branches.inner.Known.{ArePredecessors, name_o
 pub written : {A : Type 0} → (k : ℕ) (xs ys : List A) → k ≡ length xs → take k (xs ++ ys) ≡ xs
 written k xs ys e = ap (λ n. take n (xs ++ ys)) e ∙ take-append_seam xs ys
 
-pub names_start : (G : Table) (is : List PlainInst) (at : ℕ) (marks : List Bool) (names : List (Option ℕ)) → ((p : ℕ) → name_of names p ≡ None) → AreNames G is at marks names 0
-names_start G is at marks names none = record {
-  each = λ k x lt. absurd (omega (arith, lt));
-  sound = λ k p e. absurd (none-some k (sym (none p) ∙ e));
-  complete = λ k p lt. absurd (omega (arith, lt));
-}
-
 -- an operand that is no label
 pub names_other : (G : Table) (is : List PlainInst) (at : ℕ) (marks : List Bool) (names : List (Option ℕ)) (n : ℕ) → ((x : ℕ) → ¬ (IsUsedAt G is at n x Label)) → AreNames G is at marks names n → AreNames G is at marks names (n + 1)
 names_other G is at marks names n none before =

@@ -1,25 +1,23 @@
 -- What the small functions of the worked examples have.
-use Rattle.std.proofs.Common.{◌≡◌, ◌<◌, ◌≤◌, inl, ℕ, zero, suc, List, [], ◌∷◌, refl, subst, arith}
+use Rattle.std.proofs.Common.{◌≡◌, inl, ℕ, zero, suc, List, [], ◌∷◌, refl, subst, arith}
 use Rattle.spv_module.specs.Example.{small}
-use Rattle.spv_module.specs.Operand.{Id, OfType, Result, PlainInst}
+use Rattle.spv_module.specs.Operand.{Id, PlainInst}
 use Rattle.spv_module.specs.declared.fault.Rule.{Rule}
 use Rattle.spv_module.specs.declared.fault.Rule.TheVariants.{F1, F2, F3, F4}
 use Rattle.spv_module.specs.declared.opcode.TheConstants as opcode
-use Rattle.spv_layout.specs.declared.class.Class.TheVariants.{BranchConditional, Label, Phi}
+use Rattle.spv_layout.specs.declared.class.Class.TheVariants.{BranchConditional, Label}
 use Rattle.spv_layout.specs.declared.form.Role.TheVariants as role
 use Rattle.spv_layout.specs.Row.{row, v, l, repeated}
-use Rattle.spv_layout.specs.inner.Row.{T, R, W}
+use Rattle.spv_layout.specs.inner.Row.{W}
 use Rattle.spv_layout.specs.Rows.{rows}
 use Rattle.spv_layout.specs.Shape.{AreOf, Ends, HasForms}
-use Rattle.spv_layout.specs.Place.{IsAt, IsOfBlock, terminators}
+use Rattle.spv_layout.specs.Place.{IsOfBlock}
 use Rattle.spv_layout.proofs.Places.{block_same}
 use Rattle.spv_ids.specs.Definition.{IsUsedAt}
-use Rattle.spv_branches.specs.Target.{is_branch, IsOp, IsLabelOf, LeadsToBlock, IsPredecessor}
-use Rattle.spv_branches.specs.Example.{branch, conditional, function, label, negation, paired, unpaired, bare_phi}
-use Rattle.spv_branches.proofs.Direct.{placed_at}
+use Rattle.spv_branches.specs.Target.{is_branch, IsOp, IsLabelOf, IsPredecessor}
+use Rattle.spv_branches.specs.Example.{branch, conditional, function, label, negation, paired, unpaired}
 use Rattle.spv_branches.proofs.Firsts.{at_phi}
-use Rattle.spv_branches.proofs.Labelled.{use_in, use_within}
-use Rattle.spv_branches.proofs.Worked.{branch_used, has_parents}
+use Rattle.spv_branches.proofs.Worked.{branch_used, has_parents, bare_label, u_block, phi_block, u_leads}
 use Rattle.spv_evidence.specs.declared.evidence.Evidence.{Evidence}
 use Rattle.spv_evidence.specs.declared.evidence.Evidence.TheVariants.{Operand, Defined, MissingParent}
 use Rattle.spv_flow_evidence.specs.branches.Evidence.{IsEvidence}
@@ -40,11 +38,7 @@ no_label = IsEvidence.no_label 1 0 1 0 (inl refl) (record { inst = branch 1; the
 
 pub not_itself : (r : Rule) (n : ℕ) (e : Evidence) → IsEvidence small strayed r n e → e ≡ Defined 0 1 → ⊥
 not_itself _ _ _ (IsEvidence.no_label n k x m op used defined none) g = let f : m ≡ 1 = cc in no_result strayed 1 m x (branch 1) f refl (λ r. cc) defined
-not_itself _ _ _ (IsEvidence.to_entry n k x m op used defined entry) g = cc
-not_itself _ _ _ (IsEvidence.missing_parent n b p phi of leads none) g = cc
-not_itself _ _ _ (IsEvidence.no_predecessor n b k x phi of used none) g = cc
-not_itself _ _ _ (IsEvidence.twice n j k p phi lt one two) g = cc
-not_itself _ _ _ (IsEvidence.same_labels n x op one two) g = cc
+not_itself _ _ _ _ g = cc
 
 -- the branch to the entry block
 pub to_entry : IsEvidence small (function ∷ label 1 ∷ branch 1 ∷ []) F2 2 (Operand 0)
@@ -53,70 +47,8 @@ to_entry =
     (record { label = refl; function = 0; there = refl; after = omega arith; first = λ k a b. absurd (omega (arith, a, b)); same = λ k a b. absurd (omega (arith, a, b)) })
 
 -- the OpPhi that names no block
-bare_forms : HasForms small bare_phi (T ∷ R ∷ [])
-unfolding rows
-bare_forms = record {
-  row = row opcode.PHI opcode.PHI Phi (T ∷ R ∷ []) (repeated (v ∷ l ∷ []));
-  rest = [];
-  known = refl;
-  forms = refl;
-  ending = Ends.done (v ∷ l ∷ []);
-  each = AreOf.more T (OfType 20) (R ∷ []) (Result 9 ∷ []) refl (AreOf.more R (Result 9) [] [] refl AreOf.none);
-}
-
-bare_label : (k x : ℕ) → ¬ (IsUsedAt small unpaired 4 k x role.Label)
-bare_label zero x u = (let t = placed_at small unpaired 4 0 x opcode.PHI bare_phi refl refl refl (record { forms = T ∷ R ∷ []; has = bare_forms }) u in cc)
-bare_label (suc zero) x u = (let t = placed_at small unpaired 4 1 x opcode.PHI bare_phi refl refl refl (record { forms = T ∷ R ∷ []; has = bare_forms }) u in cc)
-bare_label (suc (suc k)) x u = (let w = use_within small bare_phi (suc (suc k)) x role.Label (use_in small unpaired 4 (suc (suc k)) x role.Label bare_phi refl u) in omega (arith, w))
-
-no_label_to_2 : (k : ℕ) → 1 < k → k ≤ 2 → ¬ (IsAt unpaired k (Label ∷ []))
-unfolding rows
-no_label_to_2 zero a b h = absurd (omega (arith, a))
-no_label_to_2 (suc zero) a b h = absurd (omega (arith, a))
-no_label_to_2 (suc (suc zero)) a b h = cc
-no_label_to_2 (suc (suc (suc k))) a b h = absurd (omega (arith, b))
-
-no_end_to_2 : (k : ℕ) → 1 ≤ k → k < 2 → ¬ (IsAt unpaired k terminators)
-unfolding rows
-no_end_to_2 zero a b h = absurd (omega (arith, a))
-no_end_to_2 (suc zero) a b h = cc
-no_end_to_2 (suc (suc k)) a b h = absurd (omega (arith, b))
-
-first_block : IsOfBlock unpaired 2 1
-unfolding rows
-first_block = record { begun = record { within = omega arith; up_to = omega arith; there = refl; last = no_label_to_2 }; not_ended = no_end_to_2 }
-
-no_label_to_4 : (k : ℕ) → 3 < k → k ≤ 4 → ¬ (IsAt unpaired k (Label ∷ []))
-unfolding rows
-no_label_to_4 zero a b h = absurd (omega (arith, a))
-no_label_to_4 (suc zero) a b h = absurd (omega (arith, a))
-no_label_to_4 (suc (suc zero)) a b h = absurd (omega (arith, a))
-no_label_to_4 (suc (suc (suc zero))) a b h = absurd (omega (arith, a))
-no_label_to_4 (suc (suc (suc (suc zero)))) a b h = cc
-no_label_to_4 (suc (suc (suc (suc (suc k))))) a b h = absurd (omega (arith, b))
-
-no_end_to_4 : (k : ℕ) → 3 ≤ k → k < 4 → ¬ (IsAt unpaired k terminators)
-unfolding rows
-no_end_to_4 zero a b h = absurd (omega (arith, a))
-no_end_to_4 (suc zero) a b h = absurd (omega (arith, a))
-no_end_to_4 (suc (suc zero)) a b h = absurd (omega (arith, a))
-no_end_to_4 (suc (suc (suc zero))) a b h = cc
-no_end_to_4 (suc (suc (suc (suc k)))) a b h = absurd (omega (arith, b))
-
-second_block : IsOfBlock unpaired 4 3
-unfolding rows
-second_block = record { begun = record { within = omega arith; up_to = omega arith; there = refl; last = no_label_to_4 }; not_ended = no_end_to_4 }
-
-leads : LeadsToBlock small unpaired 2 1 3
-leads = record {
-  of = first_block;
-  id = 2;
-  target = record { branch = refl; operand = 0; used = record { inst = branch 2; there = refl; used = branch_used 2 } };
-  label = record { defined = record { inst = label 2; there = refl; result = refl }; label = refl };
-}
-
 pub missing : IsEvidence small unpaired F3 4 (MissingParent 1)
-missing = IsEvidence.missing_parent 4 3 1 refl second_block (2, leads) (λ k a. bare_label k a.id a.used)
+missing = IsEvidence.missing_parent 4 3 1 refl phi_block (2, u_leads) (λ k a. bare_label k a.id a.used)
 
 branch_at : (t : ℕ) → IsOp unpaired t is_branch → t ≡ 2
 branch_at zero o = let e = o in cc
@@ -129,15 +61,11 @@ branch_at (suc (suc (suc (suc (suc t))))) o = absurd o
 only_first : (b p : ℕ) → IsPredecessor small unpaired b p → p ≡ 1
 only_first b p (t, h) =
     let e = branch_at t h.target.branch in
-    block_same unpaired 2 p 1 (subst (λ (k : ℕ). IsOfBlock unpaired k p) e h.of) first_block
+    block_same unpaired 2 p 1 (subst (λ (k : ℕ). IsOfBlock unpaired k p) e h.of) u_block
 
 pub not_missing : (r : Rule) (n : ℕ) (e : Evidence) → IsEvidence small unpaired r n e → e ≡ MissingParent 3 → ⊥
-not_missing _ _ _ (IsEvidence.no_label n k x m op used defined none) g = cc
-not_missing _ _ _ (IsEvidence.to_entry n k x m op used defined entry) g = cc
 not_missing _ _ _ (IsEvidence.missing_parent n b p phi of before none) g = let f : p ≡ 3 = cc in let one = only_first b p before in omega (arith, f, one)
-not_missing _ _ _ (IsEvidence.no_predecessor n b k x phi of used none) g = cc
-not_missing _ _ _ (IsEvidence.twice n j k p phi lt one two) g = cc
-not_missing _ _ _ (IsEvidence.same_labels n x op one two) g = cc
+not_missing _ _ _ _ g = cc
 
 -- the OpBranchConditional with the same label twice
 abbrev doubled : List PlainInst
@@ -163,13 +91,12 @@ two_used = record { inst = conditional 9 2 2; there = refl; used = record { form
 pub same : IsEvidence small doubled F4 0 (Operand 2)
 same = IsEvidence.same_labels 0 2 refl one_used two_used
 
-pub not_first : (r : Rule) (n : ℕ) (e : Evidence) → IsEvidence small doubled r n e → r ≡ F4 → e ≡ Operand 1 → ⊥
-not_first _ _ _ (IsEvidence.no_label n k x m op used defined none) f g = cc
-not_first _ _ _ (IsEvidence.to_entry n k x m op used defined entry) f g = cc
-not_first _ _ _ (IsEvidence.missing_parent n b p phi of before none) f g = cc
-not_first _ _ _ (IsEvidence.no_predecessor n b k x phi of used none) f g = cc
-not_first _ _ _ (IsEvidence.twice n j k p phi lt one two) f g = cc
-not_first _ _ _ (IsEvidence.same_labels n x op one two) f g = cc
+pub not_first : ¬ (IsEvidence small doubled F4 0 (Operand 1))
+not_first h = no_first F4 0 (Operand 1) h refl refl
+  where
+    no_first : (r : Rule) (n : ℕ) (e : Evidence) → IsEvidence small doubled r n e → r ≡ F4 → e ≡ Operand 1 → ⊥
+    no_first _ _ _ (IsEvidence.no_label n k x m op used defined none) f g = cc
+    no_first _ _ _ _ f g = cc
 
 -- the OpPhi that names its predecessor
 pub sound_parents : (e : Evidence) → ¬ (IsEvidence small (paired 1) F3 4 e)

@@ -3,10 +3,11 @@ use Rattle.std.proofs.Common.{◌≡◌, ◌∙◌, ◌≤◌, ℕ, zero, suc, L
 use Rattle.std.specs.Prelude.{slice_get}
 use Rattle.std.proofs.lemmas.Option.{same_Some}
 use Rattle.spv_module.specs.Operand.{PlainInst}
+use Rattle.spv_module.specs.declared.opcode.TheConstants as opcode
 use Rattle.spv_module.specs.declared.fault.Rule.{Rule}
 use Rattle.spv_module.specs.declared.fault.Rule.TheVariants.{G1}
 use Rattle.spv_layout.proofs.Places.{function_same}
-use Rattle.spv_calls.specs.Calls.{entry_point, IsCall, IsEntryFunction}
+use Rattle.spv_calls.specs.Calls.{IsCall, IsEntryFunction}
 use Rattle.spv_calls.specs.Example.{entry, function, label, call, return_op, end, looped}
 use Rattle.spv_calls.proofs.Worked.{called_3, called_8, entry_0, outside}
 use Rattle.spv_evidence.specs.declared.evidence.Evidence.{Evidence}
@@ -15,8 +16,7 @@ use Rattle.spv_flow_evidence.specs.calls.Evidence.{IsCallChain, IsEntryChain, Is
 use Rattle.spv_flow_evidence.proofs.lemmas.calls.Walked.{sufficient}
 
 -- the only OpEntryPoint is the first instruction
-entry_place : (k : ℕ) (i : PlainInst) → slice_get looped k ≡ Some i → i.opcode ≡ entry_point → i ≡ entry 1
-entry_place zero i h o = cc
+entry_place : (k : ℕ) (i : PlainInst) → slice_get looped k ≡ Some i → i.opcode ≡ opcode.ENTRY_POINT → i ≡ entry 1
 entry_place (suc zero) i h o = let e : function 1 ≡ i = cc in let b = rw (← e) at o in absurd (omega (arith, b))
 entry_place (suc (suc zero)) i h o = let e : label 2 ≡ i = cc in let b = rw (← e) at o in absurd (omega (arith, b))
 entry_place (suc (suc (suc zero))) i h o = let e : call 3 4 ≡ i = cc in let b = rw (← e) at o in absurd (omega (arith, b))
@@ -27,7 +27,7 @@ entry_place (suc (suc (suc (suc (suc (suc (suc zero))))))) i h o = let e : label
 entry_place (suc (suc (suc (suc (suc (suc (suc (suc zero)))))))) i h o = let e : call 6 4 ≡ i = cc in let b = rw (← e) at o in absurd (omega (arith, b))
 entry_place (suc (suc (suc (suc (suc (suc (suc (suc (suc zero))))))))) i h o = let e : return_op ≡ i = cc in let b = rw (← e) at o in absurd (omega (arith, b))
 entry_place (suc (suc (suc (suc (suc (suc (suc (suc (suc (suc zero)))))))))) i h o = let e : end ≡ i = cc in let b = rw (← e) at o in absurd (omega (arith, b))
-entry_place (suc (suc (suc (suc (suc (suc (suc (suc (suc (suc (suc k))))))))))) i h o = cc
+entry_place _ i h o = cc
 
 -- the second function is not its
 not_entry : ¬ (IsEntryFunction looped 6)

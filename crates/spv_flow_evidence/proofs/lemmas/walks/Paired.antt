@@ -83,20 +83,13 @@ uses_label = record {
 no_function : (k : ℕ) → 0 < k → k ≤ 4 → ¬ (IsAt selfish k (Function ∷ []))
 unfolding rows
 no_function zero a b h = absurd (omega (arith, a))
-no_function (suc zero) a b h = cc
-no_function (suc (suc zero)) a b h = cc
-no_function (suc (suc (suc zero))) a b h = cc
-no_function (suc (suc (suc (suc zero)))) a b h = cc
 no_function (suc (suc (suc (suc (suc k))))) a b h = absurd (omega (arith, b))
+no_function _ a b h = cc
 
 no_end : (k : ℕ) → k ≤ 4 → ¬ (IsAt selfish k (FunctionEnd ∷ []))
 unfolding rows
-no_end zero b h = cc
-no_end (suc zero) b h = cc
-no_end (suc (suc zero)) b h = cc
-no_end (suc (suc (suc zero))) b h = cc
-no_end (suc (suc (suc (suc zero)))) b h = cc
 no_end (suc (suc (suc (suc (suc k))))) b h = absurd (omega (arith, b))
+no_end _ b h = cc
 
 of_function : (n : ℕ) → n ≤ 4 → IsOfFunction selfish n 0
 unfolding rows

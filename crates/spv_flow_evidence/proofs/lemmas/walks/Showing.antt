@@ -6,7 +6,7 @@ use Rattle.std.proofs.lemmas.List.Elements.{All-nil, All-cons, All-append}
 use Rattle.spv_table.specs.Table.{Table}
 use Rattle.spv_module.specs.Operand.{PlainInst}
 use Rattle.spv_module.specs.declared.fault.Rule.{Rule}
-use Rattle.spv_module.specs.declared.fault.Rule.TheVariants.{F1, F2, F3, F4, A1, A2}
+use Rattle.spv_module.specs.declared.fault.Rule.TheVariants.{A1, A2}
 use Rattle.spv_module.specs.declared.opcode.TheConstants as opcode
 use Rattle.spv_layout.specs.declared.form.Role.{Role}
 use Rattle.spv_layout.specs.declared.form.Form.{Form}
@@ -186,11 +186,11 @@ pub misses : (G : Table) (is : List PlainInst) (r : Rule) (n : ℕ) (t : Taking)
     → Broken G is r n
     → (r ≡ A1 → t ≡ Uses) → (r ≡ A2 → t ≡ Pairs) → MissesValue G is t n
 misses G is _ _ t none (Broken.no_label n k x op used not) a b =
-    absurd (none F1 n refl (Broken.no_label n k x op used not))
+    absurd (none _ n refl (Broken.no_label n k x op used not))
 misses G is _ _ t none (Broken.to_entry n x m target d e) a b =
-    absurd (none F2 n refl (Broken.to_entry n x m target d e))
-misses G is _ _ t none (Broken.parents n phi not) a b = absurd (none F3 n refl (Broken.parents n phi not))
-misses G is _ _ t none (Broken.same_labels n x op u w) a b = absurd (none F4 n refl (Broken.same_labels n x op u w))
+    absurd (none _ n refl (Broken.to_entry n x m target d e))
+misses G is _ _ t none (Broken.parents n phi not) a b = absurd (none _ n refl (Broken.parents n phi not))
+misses G is _ _ t none (Broken.same_labels n x op u w) a b = absurd (none _ n refl (Broken.same_labels n x op u w))
 misses G is _ _ t none (Broken.missing n m) a b = subst (λ (s : Taking). MissesValue G is s n) (sym (a refl)) m
 misses G is _ _ t none (Broken.pair_missing n m) a b = subst (λ (s : Taking). MissesValue G is s n) (sym (b refl)) m
 
@@ -198,11 +198,11 @@ pub as_rule : (G H : Table) (is : List PlainInst) (r : Rule) (n : ℕ) (t : Taki
     → IsUnbroken (Broken H is) of_branches → Broken H is r n
     → (r ≡ A1 → t ≡ Uses) → (r ≡ A2 → t ≡ Pairs) → IsShown G is t n e → IsEvidence G is r n e
 as_rule G H is _ _ t e none (Broken.no_label n k x op used not) a b h =
-    absurd (none F1 n refl (Broken.no_label n k x op used not))
+    absurd (none _ n refl (Broken.no_label n k x op used not))
 as_rule G H is _ _ t e none (Broken.to_entry n x m target d en) a b h =
-    absurd (none F2 n refl (Broken.to_entry n x m target d en))
-as_rule G H is _ _ t e none (Broken.parents n phi not) a b h = absurd (none F3 n refl (Broken.parents n phi not))
+    absurd (none _ n refl (Broken.to_entry n x m target d en))
+as_rule G H is _ _ t e none (Broken.parents n phi not) a b h = absurd (none _ n refl (Broken.parents n phi not))
 as_rule G H is _ _ t e none (Broken.same_labels n x op u w) a b h =
-    absurd (none F4 n refl (Broken.same_labels n x op u w))
+    absurd (none _ n refl (Broken.same_labels n x op u w))
 as_rule G H is _ _ t e none (Broken.missing n m) a b h = subst (λ (s : Taking). IsShown G is s n e) (a refl) h
 as_rule G H is _ _ t e none (Broken.pair_missing n m) a b h = subst (λ (s : Taking). IsShown G is s n e) (b refl) h

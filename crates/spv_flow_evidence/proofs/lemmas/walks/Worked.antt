@@ -1,61 +1,24 @@
 -- The worked examples.
-use Rattle.std.proofs.Common.{◌≡◌, ◌<◌, ◌≤◌, ℕ, zero, suc, List, [], ◌∷◌, refl, ap, subst, length, arith}
+use Rattle.std.proofs.Common.{◌≡◌, ◌<◌, ℕ, zero, suc, List, [], ◌∷◌, refl, ap, subst, length, arith}
 use Rattle.std.proofs.lemmas.List.{length-reverse}
 use Rattle.std.proofs.lemmas.Option.{same_Some}
 use Rattle.std.specs.List.{filter}
 use Rattle.spv_module.specs.Example.{small}
-use Rattle.spv_module.specs.Operand.{Id, OfType, Result}
+use Rattle.spv_module.specs.Operand.{Id}
 use Rattle.spv_module.specs.declared.fault.Rule.TheVariants.{A1}
-use Rattle.spv_module.specs.declared.opcode.TheConstants as opcode
-use Rattle.spv_layout.specs.declared.class.Class.TheVariants.{Function, FunctionEnd, Body}
 use Rattle.spv_layout.specs.declared.form.Role.TheVariants as role
-use Rattle.spv_layout.specs.Row.{row, v, closed}
+use Rattle.spv_layout.specs.Row.{v}
 use Rattle.spv_layout.specs.inner.Row.{T, R}
-use Rattle.spv_layout.specs.Rows.{rows}
-use Rattle.spv_layout.specs.Shape.{AreOf, Ends, HasForms}
-use Rattle.spv_layout.specs.Place.{IsAt, IsOfFunction}
 use Rattle.spv_branches.specs.Target.{is_label, is_phi, IsOp}
 use Rattle.spv_branches.specs.inner.Target.{is_function}
 use Rattle.spv_branches.specs.Walk.{Next, IsWalk, IsResultAmong}
 use Rattle.spv_branches.specs.Ready.{IsMissing}
 use Rattle.spv_branches.specs.Example.{label, function, negation, early}
-use Rattle.spv_branches.proofs.Worked.{local_7}
+use Rattle.spv_branches.proofs.Worked.{local_7, negation_forms, of_function}
 use Rattle.spv_evidence.specs.declared.evidence.Evidence.{Evidence}
 use Rattle.spv_evidence.specs.declared.evidence.Evidence.TheVariants.{Walk}
 use Rattle.spv_flow_evidence.specs.walks.Evidence.{is_label_at, blocks_of, IsEvidence}
-use Rattle.spv_flow_evidence.proofs.lemmas.Small.{no_result, of_first}
-
-negation_forms : (r x : ℕ) → HasForms small (negation r x) (T ∷ R ∷ v ∷ [])
-unfolding rows
-negation_forms r x = record {
-  row = row opcode.NOT opcode.NOT Body (T ∷ R ∷ v ∷ []) closed;
-  rest = [];
-  known = refl;
-  forms = refl;
-  ending = Ends.nothing;
-  each = AreOf.more T (OfType 20) (R ∷ v ∷ []) (Result r ∷ Id x ∷ []) refl
-      (AreOf.more R (Result r) (v ∷ []) (Id x ∷ []) refl (AreOf.more v (Id x) [] [] refl AreOf.none));
-}
-
-no_function : (k : ℕ) → 0 < k → k ≤ 3 → ¬ (IsAt early k (Function ∷ []))
-unfolding rows
-no_function zero a b h = absurd (omega (arith, a))
-no_function (suc zero) a b h = cc
-no_function (suc (suc zero)) a b h = cc
-no_function (suc (suc (suc zero))) a b h = cc
-no_function (suc (suc (suc (suc k)))) a b h = absurd (omega (arith, b))
-
-no_end : (k : ℕ) → k ≤ 3 → ¬ (IsAt early k (FunctionEnd ∷ []))
-unfolding rows
-no_end zero b h = cc
-no_end (suc zero) b h = cc
-no_end (suc (suc zero)) b h = cc
-no_end (suc (suc (suc zero))) b h = cc
-no_end (suc (suc (suc (suc k)))) b h = absurd (omega (arith, b))
-
-of_function : (n : ℕ) → n ≤ 3 → IsOfFunction early n 0
-unfolding rows
-of_function n lt = of_first early n (omega (arith, lt)) refl (λ k a b. no_function k a (omega (arith, b, lt))) (λ k b. no_end k (omega (arith, b, lt)))
+use Rattle.spv_flow_evidence.proofs.lemmas.Small.{no_result}
 
 undefined : ¬ (IsResultAmong early (1 ∷ 0 ∷ []) 7)
 undefined (zero, n, lt, e, d) = let f : n ≡ 1 = cc in no_result early 1 n 7 (label 1) f refl (λ r. absurd (omega (arith, same_Some 1 7 r))) d

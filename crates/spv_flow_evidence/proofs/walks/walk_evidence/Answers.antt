@@ -7,7 +7,7 @@ use Rattle.spv_walks.specs.declared.code.Code.{Code}
 use Rattle.spv_walks.specs.inner.Code.{IsCode}
 use Rattle.spv_flow_evidence.specs.walks.Evidence.{IsEvidence}
 use Rattle.spv_flow_evidence.specs.walks.inner.Shown.{IsShown}
-use Rattle.spv_flow_evidence.proofs.lemmas.Few.{few_insts}
+use Rattle.spv_branches.proofs.Firsts.{few_insts}
 use Rattle.spv_flow_evidence.proofs.lemmas.walks.Showing.{misses, as_rule}
 use Rattle.spv_flow_evidence.proofs.walks.walk_evidence.Goals as goal
 

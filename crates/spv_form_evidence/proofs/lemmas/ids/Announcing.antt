@@ -19,9 +19,8 @@ eq_yes : (a b : ℕ) → a ≡ b → nat_eq a b ≡ true
 eq_yes a b h = grind (arith, nat_tests)
 
 id_is : (o : Option Plain) (x : ℕ) → id_in o ≡ Some x → o ≡ Some (Id x)
-id_is None x h = cc
 id_is (Some (Id y)) x h = let e : y ≡ x = cc in rw e refl
-id_is (Some _) x h = cc
+id_is _ x h = cc
 
 -- the id that an instruction names, and that it announces no other
 named : (i : PlainInst) (b : Bool) (x : ℕ) → nat_eq i.opcode opcode.TYPE_FORWARD_POINTER ≡ b → cond b (id_in (slice_get i.operands 0)) None ≡ Some x → (i.opcode ≡ opcode.TYPE_FORWARD_POINTER) × (slice_get i.operands 0 ≡ Some (Id x))

@@ -1,6 +1,6 @@
 -- An OpFunctionEnd has no result.
-use Rattle.std.proofs.Common.{◌≡◌, ◌++◌, ◌∙◌, ℕ, List, [], ◌∷◌, Bool, true, false, cond, ◌&&◌, ◌||◌, Some, refl, ap}
-use Rattle.std.specs.Prelude.{slice_get, option_map, nat_le, not}
+use Rattle.std.proofs.Common.{◌≡◌, ◌++◌, ◌∙◌, ℕ, List, [], ◌∷◌, Bool, true, false, ◌&&◌, ◌||◌, Some, refl, ap}
+use Rattle.std.specs.Prelude.{slice_get, option_map, not}
 use Rattle.std.proofs.lemmas.Option.{slice_get-map}
 use Rattle.spv_table.specs.Table.{Table}
 use Rattle.spv_module.specs.Operand.{Plain, PlainInst}
@@ -8,11 +8,12 @@ use Rattle.spv_layout.specs.declared.class.Class.TheVariants.{FunctionEnd}
 use Rattle.spv_layout.specs.declared.form.Form.{Form}
 use Rattle.spv_layout.specs.Class.{is_among}
 use Rattle.spv_layout.specs.Layout.{classes}
-use Rattle.spv_layout.specs.Row.{PlainRow, RowEnding, closed, row_in}
+use Rattle.spv_layout.specs.Row.{PlainRow, RowEnding, closed}
 use Rattle.spv_layout.specs.Rows.{rows, class_of, class_in}
 use Rattle.spv_layout.specs.Place.{IsAt}
 use Rattle.spv_layout.specs.Shape.{AreOf, Ends, HasForms, FitsShape}
 use Rattle.spv_ids.specs.Definition.{IsDefinedAt}
+use Rattle.spv_type_forms.proofs.Opcodes.{both, all_pass, one_passes}
 
 is_nil : List Form → Bool
 is_nil [] = true
@@ -23,50 +24,17 @@ is_closed closed = true
 is_closed _ = false
 
 -- whether a row is of another class, or has no operands
-row_ends : PlainRow → Bool
-row_ends r = not (is_among r.class (FunctionEnd ∷ [])) || (is_nil r.fixed && is_closed r.ending)
+ends_at : ℕ → PlainRow → Bool
+ends_at n r = not (is_among r.class (FunctionEnd ∷ [])) || (is_nil r.fixed && is_closed r.ending)
 
-all_end : List PlainRow → Bool
-all_end [] = true
-all_end (r ∷ rs) = row_ends r && all_end rs
-
-rows_end : all_end rows ≡ true
-unfolding rows all_end row_ends is_nil is_closed
+rows_end : all_pass ends_at rows ≡ true
+unfolding rows ends_at is_nil is_closed
 rows_end = refl
-
-and_first : (a b : Bool) → a && b ≡ true → a ≡ true
-and_first true b h = refl
-and_first false b h = cc
-
-and_second : (a b : Bool) → a && b ≡ true → b ≡ true
-and_second true b h = h
-and_second false b h = cc
-
-row_by : (s r : PlainRow) (rs : List PlainRow) (n : ℕ) (b : Bool) → row_ends s ≡ true → (row_in rs n ≡ Some r → row_ends r ≡ true) → cond b (Some s) (row_in rs n) ≡ Some r → row_ends r ≡ true
-row_by s r rs n true y k g = let q : s ≡ r = cc in rw q at y
-row_by s r rs n false y k g = k g
-
-row_tells : (rs : List PlainRow) (n : ℕ) (r : PlainRow) → all_end rs ≡ true → row_in rs n ≡ Some r → row_ends r ≡ true
-unfolding all_end
-row_tells [] n r a h = cc
-row_tells (s ∷ rs) n r a h =
-    row_by s r rs n (nat_le s.from n && nat_le n s.to) (and_first (row_ends s) (all_end rs) a) (λ k. row_tells rs n r (and_second (row_ends s) (all_end rs) a) k) h
 
 ends_closed : (e : RowEnding) (gs : List Form) → is_closed e ≡ true → Ends e gs → gs ≡ []
 unfolding is_closed
-ends_closed _ _ c Ends.nothing = refl
-ends_closed _ _ c (Ends.absent f) = cc
-ends_closed _ _ c (Ends.present f) = cc
-ends_closed _ _ c Ends.no_file_or_text = cc
-ends_closed _ _ c Ends.file = cc
-ends_closed _ _ c Ends.text = cc
-ends_closed _ _ c Ends.both = cc
-ends_closed _ _ c (Ends.done fs) = cc
-ends_closed _ _ c (Ends.again fs gs r) = cc
-ends_closed _ _ c Ends.no_other = cc
-ends_closed _ _ c (Ends.other gs r) = cc
-ends_closed _ _ c (Ends.no_kind f) = cc
-ends_closed _ _ c (Ends.kind f gs r) = cc
+ends_closed closed _ c Ends.nothing = refl
+ends_closed _ _ c _ = cc
 
 nil_tells : (fs : List Form) → is_nil fs ≡ true → fs ≡ []
 unfolding is_nil
@@ -82,12 +50,13 @@ end_by true c h g = h
 end_by false c h g = cc
 
 end_operands : (G : Table) (i : PlainInst) (fs : List Form) (h : HasForms G i fs) → is_among h.row.class (FunctionEnd ∷ []) ≡ true → i.operands ≡ []
-unfolding row_ends
+unfolding ends_at
 end_operands G i fs h c =
-    let t = row_tells rows i.opcode h.row rows_end h.known in
+    let t = one_passes ends_at rows i.opcode h.row rows_end h.known in
     let e = end_by (is_among h.row.class (FunctionEnd ∷ [])) (is_nil h.row.fixed && is_closed h.row.ending) t c in
-    let a = nil_tells h.row.fixed (and_first (is_nil h.row.fixed) (is_closed h.row.ending) e) in
-    let b = ends_closed h.row.ending h.rest (and_second (is_nil h.row.fixed) (is_closed h.row.ending) e) h.ending in
+    let two = both (is_nil h.row.fixed) (is_closed h.row.ending) e in
+    let a = nil_tells h.row.fixed two.0 in
+    let b = ends_closed h.row.ending h.rest two.1 h.ending in
     let n : h.row.fixed ++ h.rest ≡ [] = rw (a, b) refl in
     none_of G fs i.operands h.each (h.forms ∙ n)
 

@@ -125,25 +125,17 @@ pub disordered_shows : (G : Table) (bound : ℕ) (is : List PlainInst) (n : ℕ)
 disordered_shows G bound is n i k m t o u = IsEvidence.not_in_order n k u.id m u.role (record { inst = i; there = t; used = u.used }) o u.holds.not u.holds.defined
 
 pub ordered : (G : Table) (bound : ℕ) (is : List PlainInst) (r : Rule) (n : ℕ) → r ≡ D4 → Broken G bound is r n → IsOrdered is n
-ordered G bound is _ _ q (Broken.result_out_of_range n x d o) = cc
-ordered G bound is _ _ q (Broken.use_out_of_range n k x r u o) = cc
-ordered G bound is _ _ q (Broken.defined_again n m y d l e) = cc
-ordered G bound is _ _ q (Broken.undefined n k y r u h) = cc
 ordered G bound is _ _ q (Broken.not_in_order n k y r u o h) = o
-ordered G bound is _ _ q (Broken.not_in_scope n k y r u s l h) = cc
+ordered G bound is _ _ q _ = cc
 
 some_by : (G : Table) (bound : ℕ) (is : List PlainInst) (r : Rule) (n : ℕ) (i : PlainInst) → r ≡ D4 → slice_get is n ≡ Some i → Broken G bound is r n
     → ((k x : ℕ) (q : Role) → IsUsedAt G is n k x q → x < bound) → ((k x : ℕ) (q : Role) → IsUsedAt G is n k x q → ((m : ℕ) → ¬ (IsDefinedAt is x m)) → ⊥)
     → ((k : ℕ) → k < length i.operands → (m : ℕ) → ¬ (HasUse G i (IsDisordered bound is n m) k)) → ⊥
-some_by G bound is _ _ i q t (Broken.result_out_of_range n x d o) w v none = cc
-some_by G bound is _ _ i q t (Broken.use_out_of_range n k x r u o) w v none = cc
-some_by G bound is _ _ i q t (Broken.defined_again n m y d l e) w v none = cc
-some_by G bound is _ _ i q t (Broken.undefined n k y r u h) w v none = cc
 some_by G bound is _ _ i q t (Broken.not_in_order n k x r u o h) w v none =
     let e : u.inst ≡ i = same_inst is n u.inst i u.there t in
     let p : IsUse G i k x r = subst (λ j. IsUse G j k x r) e u.used in
     v k x r u (λ m d. none k (used_within G i k x r p) m (record { id = x; role = r; used = p; holds = record { below = w k x r u; defined = d; not = h } }))
-some_by G bound is _ _ i q t (Broken.not_in_scope n k y r u s l h) w v none = cc
+some_by G bound is _ _ i q t _ w v none = cc
 
 pub some_disordered : (G : Table) (bound : ℕ) (is : List PlainInst) (n : ℕ) (i : PlainInst) → slice_get is n ≡ Some i → IsFirst (Broken G bound is) of_ids D4 n
     → ((k : ℕ) → k < length i.operands → (m : ℕ) → ¬ (HasUse G i (IsDisordered bound is n m) k)) → ⊥

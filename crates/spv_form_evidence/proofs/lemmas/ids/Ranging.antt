@@ -69,7 +69,4 @@ some_astray G bound is _ _ i q t (Broken.use_out_of_range n k x r u o) none =
     let e : u.inst ≡ i = same_inst is n u.inst i u.there t in
     let v : IsUse G i k x r = subst (λ j. IsUse G j k x r) e u.used in
     none k (used_within G i k x r v) (record { id = x; at = IsIdAt.as_use r v; out = o })
-some_astray G bound is _ _ i q t (Broken.defined_again n m y d l e) none = cc
-some_astray G bound is _ _ i q t (Broken.undefined n k y r u h) none = cc
-some_astray G bound is _ _ i q t (Broken.not_in_order n k y r u o h) none = cc
-some_astray G bound is _ _ i q t (Broken.not_in_scope n k y r u s l h) none = cc
+some_astray G bound is _ _ i q t _ none = cc

@@ -45,12 +45,8 @@ pub record HasEarlier (is : List PlainInst) (n x : ℕ) : Type 0 where
   pub there : IsDefinedAt is x inst
 
 pub again : (G : Table) (bound : ℕ) (is : List PlainInst) (r : Rule) (n x : ℕ) (i : PlainInst) → r ≡ D2 → slice_get is n ≡ Some i → result_in i.operands ≡ Some x → Broken G bound is r n → HasEarlier is n x
-again G bound is _ _ x i q t g (Broken.result_out_of_range n y d o) = cc
-again G bound is _ _ x i q t g (Broken.use_out_of_range n k y r u o) = cc
 again G bound is _ _ x i q t g (Broken.defined_again n m y d l e) =
     let h = result_here is n y i t d in
     let s : y ≡ x = (let p : Some y ≡ Some x = sym h ∙ g in cc) in
     record { inst = m; below = l; there = subst (λ z. IsDefinedAt is z m) s e }
-again G bound is _ _ x i q t g (Broken.undefined n k y r u h) = cc
-again G bound is _ _ x i q t g (Broken.not_in_order n k y r u o h) = cc
-again G bound is _ _ x i q t g (Broken.not_in_scope n k y r u s l h) = cc
+again G bound is _ _ x i q t g _ = cc

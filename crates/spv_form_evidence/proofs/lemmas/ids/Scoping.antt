@@ -177,24 +177,16 @@ pub unscoped_shows : (G : Table) (bound : ℕ) (is : List PlainInst) (n : ℕ) (
 unscoped_shows G bound is n i k m f t o u = IsEvidence.not_in_scope n k u.id m f u.role (record { inst = i; there = t; used = u.used }) o u.holds.local u.holds.not
 
 pub scoped : (G : Table) (bound : ℕ) (is : List PlainInst) (r : Rule) (n : ℕ) → r ≡ D5 → Broken G bound is r n → IsScoped is n
-scoped G bound is _ _ q (Broken.result_out_of_range n x d o) = cc
-scoped G bound is _ _ q (Broken.use_out_of_range n k x r u o) = cc
-scoped G bound is _ _ q (Broken.defined_again n m y d l e) = cc
-scoped G bound is _ _ q (Broken.undefined n k y r u h) = cc
-scoped G bound is _ _ q (Broken.not_in_order n k y r u o h) = cc
 scoped G bound is _ _ q (Broken.not_in_scope n k y r u s l h) = s
+scoped G bound is _ _ q _ = cc
 
 some_by : (G : Table) (bound : ℕ) (is : List PlainInst) (r : Rule) (n : ℕ) (i : PlainInst) → r ≡ D5 → slice_get is n ≡ Some i → Broken G bound is r n
     → ((k x : ℕ) (q : Role) → IsUsedAt G is n k x q → x < bound) → ((k : ℕ) → k < length i.operands → (m f : ℕ) → ¬ (HasUse G i (IsUnscoped bound is n m f) k)) → ⊥
-some_by G bound is _ _ i q t (Broken.result_out_of_range n x d o) w none = cc
-some_by G bound is _ _ i q t (Broken.use_out_of_range n k x r u o) w none = cc
-some_by G bound is _ _ i q t (Broken.defined_again n m y d l e) w none = cc
-some_by G bound is _ _ i q t (Broken.undefined n k y r u h) w none = cc
-some_by G bound is _ _ i q t (Broken.not_in_order n k y r u o h) w none = cc
 some_by G bound is _ _ i q t (Broken.not_in_scope n k x r u s (f, l) h) w none =
     let e : u.inst ≡ i = same_inst is n u.inst i u.there t in
     let p : IsUse G i k x r = subst (λ j. IsUse G j k x r) e u.used in
     none k (used_within G i k x r p) l.place f (record { id = x; role = r; used = p; holds = record { below = w k x r u; local = record { local = l; by = refl }; not = h } })
+some_by G bound is _ _ i q t _ w none = cc
 
 pub some_unscoped : (G : Table) (bound : ℕ) (is : List PlainInst) (n : ℕ) (i : PlainInst) → slice_get is n ≡ Some i → IsFirst (Broken G bound is) of_ids D5 n
     → ((k : ℕ) → k < length i.operands → (m f : ℕ) → ¬ (HasUse G i (IsUnscoped bound is n m f) k)) → ⊥

@@ -49,15 +49,11 @@ undefined_shows G bound is n i k t u = IsEvidence.undefined n k u.id u.role (rec
 
 some_by : (G : Table) (bound : ℕ) (is : List PlainInst) (r : Rule) (n : ℕ) (i : PlainInst) → r ≡ D3 → slice_get is n ≡ Some i → Broken G bound is r n
     → ((k x : ℕ) (q : Role) → IsUsedAt G is n k x q → x < bound) → ((k : ℕ) → k < length i.operands → ¬ (HasUse G i (IsUndefined bound is) k)) → ⊥
-some_by G bound is _ _ i q t (Broken.result_out_of_range n x d o) w none = cc
-some_by G bound is _ _ i q t (Broken.use_out_of_range n k x r u o) w none = cc
-some_by G bound is _ _ i q t (Broken.defined_again n m y d l e) w none = cc
 some_by G bound is _ _ i q t (Broken.undefined n k x r u h) w none =
     let e : u.inst ≡ i = same_inst is n u.inst i u.there t in
     let v : IsUse G i k x r = subst (λ j. IsUse G j k x r) e u.used in
     none k (used_within G i k x r v) (record { id = x; role = r; used = v; holds = record { below = w k x r u; none = h } })
-some_by G bound is _ _ i q t (Broken.not_in_order n k y r u o h) w none = cc
-some_by G bound is _ _ i q t (Broken.not_in_scope n k y r u s l h) w none = cc
+some_by G bound is _ _ i q t _ w none = cc
 
 -- some operand of the instruction is a use of an id that has no definition
 pub some_undefined : (G : Table) (bound : ℕ) (is : List PlainInst) (n : ℕ) (i : PlainInst) → slice_get is n ≡ Some i → IsFirst (Broken G bound is) of_ids D3 n

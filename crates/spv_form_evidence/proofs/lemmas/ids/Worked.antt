@@ -83,10 +83,7 @@ in_range_by _ _ _ (by_ids.IsEvidence.use_out_of_range n k x r u o) a b c =
     let s : k ≡ 0 = cc in
     let v : IsUse small (void 4) 0 x r = subst (λ m. IsUse small (void 4) m x r) s (used_at small (void 4 ∷ []) 0 k x r (void 4) refl w) in
     no_use_of small (void 4) 0 x r (Result 4) refl refl v
-in_range_by _ _ _ (by_ids.IsEvidence.defined_again n m x d l e) a b c = cc
-in_range_by _ _ _ (by_ids.IsEvidence.undefined n k x r u h) a b c = cc
-in_range_by _ _ _ (by_ids.IsEvidence.not_in_order n k x m r u o h d) a b c = cc
-in_range_by _ _ _ (by_ids.IsEvidence.not_in_scope n k x m f r u s l h) a b c = cc
+in_range_by _ _ _ _ a b c = cc
 
 pub in_range : ¬ (by_ids.IsEvidence small 5 (void 4 ∷ []) D1 0 (Operand 0))
 in_range e = in_range_by D1 0 (Operand 0) e refl refl refl
@@ -100,12 +97,8 @@ pub again : by_ids.IsEvidence small 5 (void 1 ∷ void 1 ∷ []) D2 1 (Earlier 0
 again = by_ids.IsEvidence.defined_again 1 0 1 (record { inst = void 1; there = refl; result = refl }) (omega arith) (first_here (void 1 ∷ []) 1)
 
 earlier_by : (r : Rule) (n : ℕ) (e : Evidence) → by_ids.IsEvidence small 5 (void 1 ∷ void 1 ∷ []) r n e → r ≡ D2 → n ≡ 1 → e ≡ Earlier 1 → ⊥
-earlier_by _ _ _ (by_ids.IsEvidence.result_out_of_range n k x d o) a b c = cc
-earlier_by _ _ _ (by_ids.IsEvidence.use_out_of_range n k x r u o) a b c = cc
 earlier_by _ _ _ (by_ids.IsEvidence.defined_again n m x d l e) a b c = let s : m ≡ 1 = cc in absurd (omega arith)
-earlier_by _ _ _ (by_ids.IsEvidence.undefined n k x r u h) a b c = cc
-earlier_by _ _ _ (by_ids.IsEvidence.not_in_order n k x m r u o h d) a b c = cc
-earlier_by _ _ _ (by_ids.IsEvidence.not_in_scope n k x m f r u s l h) a b c = cc
+earlier_by _ _ _ _ a b c = cc
 
 pub not_earlier : ¬ (by_ids.IsEvidence small 5 (void 1 ∷ void 1 ∷ []) D2 1 (Earlier 1))
 not_earlier e = earlier_by D2 1 (Earlier 1) e refl refl refl
@@ -120,16 +113,12 @@ pub undefined : by_ids.IsEvidence small 5 (of_void ∷ []) D3 0 (Operand 1)
 undefined = by_ids.IsEvidence.undefined 0 1 1 role.OfType (record { inst = of_void; there = refl; used = type_use }) none_defined
 
 no_use_by : (r : Rule) (n : ℕ) (e : Evidence) → by_ids.IsEvidence small 5 (of_void ∷ []) r n e → r ≡ D3 → n ≡ 0 → e ≡ Operand 0 → ⊥
-no_use_by _ _ _ (by_ids.IsEvidence.result_out_of_range n k x d o) a b c = cc
-no_use_by _ _ _ (by_ids.IsEvidence.use_out_of_range n k x r u o) a b c = cc
-no_use_by _ _ _ (by_ids.IsEvidence.defined_again n m x d l e) a b c = cc
 no_use_by _ _ _ (by_ids.IsEvidence.undefined n k x r u h) a b c =
     let w : IsUsedAt small (of_void ∷ []) 0 k x r = subst (λ m. IsUsedAt small (of_void ∷ []) m k x r) b u in
     let s : k ≡ 0 = cc in
     let v : IsUse small of_void 0 x r = subst (λ m. IsUse small of_void m x r) s (used_at small (of_void ∷ []) 0 k x r of_void refl w) in
     no_use_of small of_void 0 x r (Result 2) refl refl v
-no_use_by _ _ _ (by_ids.IsEvidence.not_in_order n k x m r u o h d) a b c = cc
-no_use_by _ _ _ (by_ids.IsEvidence.not_in_scope n k x m f r u s l h) a b c = cc
+no_use_by _ _ _ _ a b c = cc
 
 pub no_use : ¬ (by_ids.IsEvidence small 5 (of_void ∷ []) D3 0 (Operand 0))
 no_use e = no_use_by D3 0 (Operand 0) e refl refl refl
@@ -158,10 +147,6 @@ early =
     (record { inst = void 1; there = refl; result = refl })
 
 no_definition_by : (r : Rule) (n : ℕ) (e : Evidence) → by_ids.IsEvidence small 5 reversed r n e → r ≡ D4 → n ≡ 0 → e ≡ Defined 1 0 → ⊥
-no_definition_by _ _ _ (by_ids.IsEvidence.result_out_of_range n k x d o) a b c = cc
-no_definition_by _ _ _ (by_ids.IsEvidence.use_out_of_range n k x r u o) a b c = cc
-no_definition_by _ _ _ (by_ids.IsEvidence.defined_again n m x d l e) a b c = cc
-no_definition_by _ _ _ (by_ids.IsEvidence.undefined n k x r u h) a b c = cc
 no_definition_by _ _ _ (by_ids.IsEvidence.not_in_order n k x m r u o h d) a b c =
     let w : IsUsedAt small reversed 0 k x r = subst (λ p. IsUsedAt small reversed p k x r) b u in
     let s : k ≡ 1 = cc in
@@ -173,7 +158,7 @@ no_definition_by _ _ _ (by_ids.IsEvidence.not_in_order n k x m r u o h d) a b c 
     let y : 2 ≡ x = cc in
     let l = p.id in
     absurd (omega (arith, y, l))
-no_definition_by _ _ _ (by_ids.IsEvidence.not_in_scope n k x m f r u s l h) a b c = cc
+no_definition_by _ _ _ _ a b c = cc
 
 pub no_definition : ¬ (by_ids.IsEvidence small 5 (of_void ∷ void 1 ∷ []) D4 0 (Defined 1 0))
 no_definition e = no_definition_by D4 0 (Defined 1 0) e refl refl refl

@@ -142,17 +142,13 @@ outside =
     not_in_scope
 
 other_function_by : (r : Rule) (n : ℕ) (e : Evidence) → IsEvidence small 9 used_outside r n e → e ≡ Local 2 2 4 → ⊥
-other_function_by _ _ _ (IsEvidence.result_out_of_range n k x d o) c = cc
-other_function_by _ _ _ (IsEvidence.use_out_of_range n k x r u o) c = cc
-other_function_by _ _ _ (IsEvidence.defined_again n m x d l e) c = cc
-other_function_by _ _ _ (IsEvidence.undefined n k x r u h) c = cc
-other_function_by _ _ _ (IsEvidence.not_in_order n k x m r u o h d) c = cc
 other_function_by _ _ _ (IsEvidence.not_in_scope n k x m f r u s l h) c =
     let p : m ≡ 2 = cc in
     let q : f ≡ 4 = cc in
     let a = l.local.after in
     let b = l.by in
     absurd (omega (arith, p, q, b))
+other_function_by _ _ _ _ c = cc
 
 pub other_function : ¬ (IsEvidence small 9 used_outside D5 6 (Local 2 2 4))
 other_function e = other_function_by D5 6 (Local 2 2 4) e refl

@@ -1,4 +1,4 @@
--- The opcodes that may come at a state are those below 331 that may.
+-- The opcodes that may come at a state are those with a row in the table of shapes that may.
 use Rattle.std.proofs.Common.{◌≡◌, ◌∙◌, ◌++◌, ◌+◌, ◌<◌, ◌≤◌, ℕ, zero, suc, List, [], ◌∷◌, refl, sym, ap, subst}
 use Rattle.std.proofs.Common.{Bool, true, false, ◌&&◌, inl, inr, length, get_or, Some, None, arith}
 use Rattle.std.specs.Prelude.{filter, nat_le, nat_lt, if◌then◌else◌}
@@ -15,6 +15,7 @@ use Rattle.spv_layout.specs.Rows.{rows}
 use Rattle.spv_layout.specs.Layout.{classes}
 use Rattle.spv_layout.specs.inner.State.{may_stop}
 use Rattle.spv_layout.proofs.Layouts.{Leads, leads_begin}
+use Rattle.spv_form_evidence.specs.declared.layout.automaton.TheConstants.{OPCODES}
 use Rattle.spv_form_evidence.specs.layout.Evidence.{HasRow, AreToCome}
 use Rattle.spv_form_evidence.specs.layout.inner.Automaton.{may_follow, followers}
 use Rattle.spv_form_evidence.proofs.lemmas.layout.States.{ends_there, follows, followed}
@@ -65,20 +66,20 @@ followers_more s n =
     ap (filter (may_follow s)) (range_more 0 n ∙ ap (λ k. range_with_len 0 n ++ (k ∷ [])) e) ∙ filter-append
     (may_follow s) (range_with_len 0 n) (n ∷ [])
 
--- no row has an opcode from 331 on
+-- no row has an opcode past the last one
 abbrev are_below : List PlainRow → Bool
 are_below [] = true
-are_below (r ∷ rs) = nat_lt r.to 331 && are_below rs
+are_below (r ∷ rs) = nat_lt r.to OPCODES && are_below rs
 
 both : (a b : Bool) → (a && b) ≡ true → (a ≡ true) × (b ≡ true)
 both true b h = (refl, h)
 both false b h = cc
 
-beyond : (rs : List PlainRow) (n : ℕ) → are_below rs ≡ true → 331 ≤ n → row_in rs n ≡ None
+beyond : (rs : List PlainRow) (n : ℕ) → are_below rs ≡ true → OPCODES ≤ n → row_in rs n ≡ None
 beyond [] n h l = refl
 beyond (r ∷ rs) n h l =
-    let p = both (nat_lt r.to 331) (are_below rs) h in
-    let u : r.to < 331 = ltb-true r.to 331 p.0 in
+    let p = both (nat_lt r.to OPCODES) (are_below rs) h in
+    let u : r.to < OPCODES = ltb-true r.to OPCODES p.0 in
     let q : nat_le n r.to ≡ false = lt-leb n r.to (omega arith) in
     let i = beyond rs n p.1 l in
     rw (q, i) (absent (nat_le r.from n))
@@ -91,23 +92,23 @@ rows_below : are_below rows ≡ true
 unfolding rows
 rows_below = refl
 
-row_below : (n : ℕ) → HasRow n → n < 331
-row_below n h = elim (cases_lt n 331) [
+row_below : (n : ℕ) → HasRow n → n < OPCODES
+row_below n h = elim (cases_lt n OPCODES) [
   | inl l ↦ l
   | inr g ↦ let e = beyond rows n rows_below g in let r = h.1 in cc
 ]
 
 -- what the list has is what may come
 pub to_come : (before : List PlainInst) (s : State) → Leads (classes before) s
-    → AreToCome before (followers s 331) (may_stop s)
+    → AreToCome before (followers s OPCODES) (may_stop s)
 unfolding followers
 to_come before s l = record {
   begun = leads_begin (classes before) s l;
-  order = IsStrictlyIncreasing-filter (may_follow s) (range_with_len 0 331) (range_rises 331);
+  order = IsStrictlyIncreasing-filter (may_follow s) (range_with_len 0 OPCODES) (range_rises OPCODES);
   each = λ opcode. (
-    λ h. follows before s opcode l (All-contains (λ n. may_follow s n ≡ true) (followers s 331) opcode
-        (filter_passes (may_follow s) (range_with_len 0 331)) h),
-    λ m. let r = range_has 331 opcode (row_below opcode m.row) in kept_at (may_follow s) (range_with_len 0 331) r.0
+    λ h. follows before s opcode l (All-contains (λ n. may_follow s n ≡ true) (followers s OPCODES) opcode
+        (filter_passes (may_follow s) (range_with_len 0 OPCODES)) h),
+    λ m. let r = range_has OPCODES opcode (row_below opcode m.row) in kept_at (may_follow s) (range_with_len 0 OPCODES) r.0
         opcode r.1 r.2 (followed before s opcode l m),
   );
   whole = ends_there (classes before) s l;

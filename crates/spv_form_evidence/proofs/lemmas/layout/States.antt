@@ -49,25 +49,7 @@ state_of cs b = goes_from cs [] at.Capabilities leads_first b
 -- nothing goes on with an opcode outside the profile
 outside : (s : State) → next_of s Outside ≡ None
 outside at.Capabilities = refl
-outside at.Extensions = refl
-outside at.Imports = refl
-outside at.EntryPoints = refl
-outside at.ExecutionModes = refl
-outside at.Sources = refl
-outside at.Names = refl
-outside at.Processed = refl
-outside at.Decorations = refl
-outside at.Declarations = refl
-outside at.Function = refl
-outside at.Declared = refl
-outside at.Definition = refl
-outside at.Defined = refl
-outside at.Variables = refl
-outside at.Phis = refl
-outside at.Body = refl
-outside at.LoopMerge = refl
-outside at.SelectionMerge = refl
-outside at.Block = refl
+outside _ = refl
 
 has_row : (o : Option PlainRow) (opcode : ℕ) (s t : State) → row_of opcode ≡ o → next_of s (class_in o) ≡ Some t
     → HasRow opcode

@@ -21,6 +21,7 @@ use Rattle.spv_layout.proofs.Tested.{tested_fits, fits_tested}
 use Rattle.spv_layout.proofs.Worked.{leads_by}
 use Rattle.spv_evidence.specs.declared.evidence.Evidence.{Evidence}
 use Rattle.spv_evidence.specs.declared.evidence.Evidence.TheVariants.{Shape, MayCome}
+use Rattle.spv_form_evidence.specs.declared.layout.automaton.TheConstants.{OPCODES}
 use Rattle.spv_form_evidence.specs.layout.Evidence.{HasRow, AreToCome, MayFollow, IsEvidence}
 use Rattle.spv_form_evidence.specs.layout.Example.{after_block, after_merge, merged, unended}
 use Rattle.spv_form_evidence.specs.layout.inner.Automaton.{followers, may_follow}
@@ -87,7 +88,7 @@ unended_leads : Leads (classes unended) at.Block
 unfolding rows
 unended_leads = leads_by (classes unended) at.Block refl
 
-block_opcodes : followers at.Block 331 ≡ after_block
+block_opcodes : followers at.Block OPCODES ≡ after_block
 unfolding rows followers
 block_opcodes = refl
 
@@ -119,7 +120,7 @@ merge_leads : Leads (classes (take 4 merged)) at.LoopMerge
 unfolding rows
 merge_leads = leads_by (classes (take 4 merged)) at.LoopMerge refl
 
-merge_opcodes : followers at.LoopMerge 331 ≡ after_merge
+merge_opcodes : followers at.LoopMerge OPCODES ≡ after_merge
 unfolding rows followers
 merge_opcodes = refl
 

@@ -26,14 +26,7 @@ is_refusal _ = true
 
 refusal : (sh : Shape) (us : List ℕ) (r : Rule) (n : ℕ) → ShapeRefuses sh us r n → is_refusal r ≡ true
 refusal _ _ _ _ (ShapeRefuses.missing sh h) = refl
-refusal _ _ _ _ (ShapeRefuses.half w x h) = refl
-refusal _ _ _ _ (ShapeRefuses.unknown_value es x us h) = refl
-refusal _ _ _ _ (ShapeRefuses.unknown_bit es x us h) = refl
-refusal _ _ _ _ (ShapeRefuses.endless u us h) = refl
-refusal _ _ _ _ (ShapeRefuses.padded t ws p us n h g l) = refl
-refusal _ _ _ _ (ShapeRefuses.no_text t ws p us h g f) = refl
-refusal _ _ _ _ (ShapeRefuses.no_width x us) = refl
-refusal _ _ _ _ (ShapeRefuses.no_form x us) = refl
+refusal _ _ _ _ _ = refl
 
 no_refusal : (sh : Shape) (us : List ℕ) (r q : Rule) (n : ℕ) → ShapeRefuses sh us r n → r ≡ q → is_refusal q ≡ false → ⊥
 no_refusal sh us r q n h e f = let t = refusal sh us r n h in let t' : is_refusal q ≡ true = rw e at t in cc

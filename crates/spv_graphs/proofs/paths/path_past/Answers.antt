@@ -1,3 +1,5 @@
+use Rattle.std.proofs.Common.{arith}
+use Rattle.std.proofs.lemmas.Grind.{common_steps}
 use Rattle.std.proofs.Common.{◌∙◌, ap, length}
 use Rattle.std.proofs.lemmas.List.{length-map}
 use Rattle.std.proofs.lemmas.Result.{IfOk-weaker}
@@ -19,3 +21,12 @@ returns c =
     IfOk-weaker c.shortest_way.result _ _
     (past_or_not graph c.args.value c.args.block c.args.edges.now c.as_slice.result.now c.requires.edges closed)
     c.shortest_way.ensures
+
+pub shortest_way-requires-clause-starts : goal.shortest_way-requires-clause-starts
+shortest_way-requires-clause-starts c = grind (arith, common_steps)
+
+pub shortest_way-requires-clause-goal : goal.shortest_way-requires-clause-goal
+shortest_way-requires-clause-goal c = grind (arith, common_steps)
+
+pub shortest_way-requires-clause-few : goal.shortest_way-requires-clause-few
+shortest_way-requires-clause-few c = grind (arith, common_steps)

@@ -1,3 +1,4 @@
+use Rattle.std.proofs.lemmas.Grind.{common_steps, elements}
 use Rattle.std.proofs.Common.{◌≡◌, ◌<◌, ap, take, get_or, length, arith}
 use Rattle.std.proofs.lemmas.Option.{slice_get-get_or}
 use Rattle.spv_graphs.specs.declared.steps.Step.{Step}
@@ -25,3 +26,12 @@ loop-start-preserved c =
           let z : level_of old b ≡ 0 = omega arith in
           rw w.steps-is (one_more c.args.count starts i old c.loop-start-test.true (first_again c.args.count (take i starts) old b a z))
     ]
+
+pub loop-start-init : goal.loop-start-init
+loop-start-init c = grind (arith, common_steps)
+
+pub returns : goal.returns
+returns c = grind (arith, common_steps)
+
+pub index_mut-requires : goal.index_mut-requires
+index_mut-requires c = grind (arith, elements)

@@ -1,3 +1,4 @@
+use Rattle.std.proofs.lemmas.Grind.{elements}
 use Rattle.std.proofs.Common.{◌<◌, refl, length, arith}
 use Rattle.std.proofs.lemmas.Option.{slice_get_read}
 use Rattle.spv_graphs.specs.inner.Steps.{Shortens, come}
@@ -22,3 +23,6 @@ loop-place-preserved c = elim c.match-get.branch [
   | in-Some+else-shortens w ↦ rw w.steps-is c.loop-place.invariant
   | in_default w ↦ rw w.steps-is c.loop-place.invariant
 ]
+
+pub step_along-requires-clause-to : goal.step_along-requires-clause-to
+step_along-requires-clause-to c = grind (arith, elements)

@@ -1,3 +1,4 @@
+use Rattle.std.proofs.lemmas.Grind.{common_steps}
 use Rattle.std.proofs.Common.{◌<◌, ◌≤◌, ◌≡◌, length, ap, arith}
 use Rattle.spv_graphs.specs.declared.steps.Step.{Step}
 use Rattle.spv_graphs.specs.inner.Steps.{unknown, level_of, AreSteps, AreSettled, IsShorter, come}
@@ -57,3 +58,6 @@ returns-then-step_at-lt-UNKNOWN c =
     let l : level_of steps goal < unknown = omega arith in
     let t = rw c.deref-then-step_at-lt-UNKNOWN.ensures.value at c.in_ok-trace.ensures in
     way_shortest edges starts closed steps goal nodes a s l t
+
+pub loop-edge-smaller : goal.loop-edge-smaller
+loop-edge-smaller c = grind (arith, common_steps)

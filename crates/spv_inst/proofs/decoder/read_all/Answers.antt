@@ -1,3 +1,4 @@
+use Rattle.std.proofs.lemmas.Grind.{common_steps}
 use Rattle.std.proofs.Common.{◌≡◌, ◌++◌, ◌+◌, ◌-◌, ◌∙◌, ◌∷◌, [], length, drop, take, map, sym, ap, arith, length-append}
 use Rattle.std.proofs.lemmas.Result.{err_from_is_err_and}
 use Rattle.std.proofs.lemmas.List.{take_all, length-drop}
@@ -63,3 +64,12 @@ returns-clause-only c = λ is m.
     rw c.in_ok-move_into.ensures.moved
     (listed_only c.args.table.now c.args.image.now so is
     (listed_all c.args.table.now c.args.image.now so c.loop-at.at c.loop-at.invariant.listed h) m)
+
+pub slice_bounds-add-count : goal.slice_bounds-add-count
+slice_bounds-add-count c = grind (arith, common_steps)
+
+pub slice_bounds-add-start : goal.slice_bounds-add-start
+slice_bounds-add-start c = grind (arith, common_steps)
+
+pub close-requires-clause-within : goal.close-requires-clause-within
+close-requires-clause-within c = grind (arith, common_steps)

@@ -1,4 +1,4 @@
-use Rattle.std.proofs.Common.{◌≡◌, ◌++◌, ◌∷◌, [], ◌∙◌, ap, string_bytes}
+use Rattle.std.proofs.Common.{◌++◌, ◌∙◌, ap, string_bytes}
 use Rattle.spv_printer.proofs.HexDigits.{hex_first, hex_step, hex_last}
 use Rattle.spv_printer.proofs.number.push_hexadecimal.Goals as goal
 

@@ -151,12 +151,5 @@ pub same_id : (o : Option Plain) (x t : ℕ) → Some x ≡ option_and_then id_i
 same_id o x t e h = let same : Some x ≡ Some t = e ∙ ap (λ p. option_and_then id_in p) h in cc
 
 pub id_found : (o : Option Plain) (x : ℕ) → Some x ≡ option_and_then id_in o → o ≡ Some (Id x)
-id_found None x e = cc
 id_found (Some (Plain.Id y)) x e = let same : x ≡ y = cc in ap (λ z. Some (Id z)) (sym same)
-id_found (Some (Plain.OfType y)) x e = cc
-id_found (Some (Plain.Result y)) x e = cc
-id_found (Some (Plain.Word y)) x e = cc
-id_found (Some (Plain.Number low high words)) x e = cc
-id_found (Some (Plain.Text y)) x e = cc
-id_found (Some (Plain.Value k y)) x e = cc
-id_found (Some (Plain.Mask k y)) x e = cc
+id_found _ x e = cc

@@ -110,13 +110,7 @@ id_there s k t d l e = operand_there s k d l ∙ ap (λ o. Some (plain_operand o
 
 no_id : (o : Operand) → ((x : ℕ) → o ≡ code.Id x → ⊥) → (x : ℕ) → plain_operand o ≢ operand.Id x
 no_id (code.Id y) h x e = h y refl
-no_id (code.OfType y) h x e = cc
-no_id (code.Result y) h x e = cc
-no_id (code.Word y) h x e = cc
-no_id (code.Number a b w) h x e = cc
-no_id (code.Text t) h x e = cc
-no_id (code.Value a b) h x e = cc
-no_id (code.Mask a b) h x e = cc
+no_id _ h x e = cc
 
 pub ends_here : (Q : ℕ → ℕ → Type 0) (first k : ℕ) (s : List Operand) (d : Operand) → k < length s → ((x : ℕ) → get_or s k d ≡ code.Id x → ⊥) → AreBefore Q (plain_operands s) k
     → (m : ℕ) → AsksEach Q first (plain_operands s) m

@@ -1,43 +1,16 @@
 -- The function of a parameter and of a return.
-use Rattle.std.proofs.Common.{◌≡◌, ◌∙◌, ◌<◌, ◌||◌, not, ℕ, zero, suc, List, [], ◌∷◌, Bool, true, false, Option, Some, None, refl, ap, length, arith, nat_eq, inl, inr}
-use Rattle.std.specs.Prelude.{slice_get, option_map}
-use Rattle.std.proofs.lemmas.Option.{slice_get_within, slice_get-map}
-use Rattle.std.proofs.lemmas.Bool.{eqb-true, cases_order}
+use Rattle.std.proofs.Common.{◌≡◌, ◌<◌, ℕ, zero, suc, List, [], ◌∷◌, Some, refl, length, arith, inl, inr}
+use Rattle.std.specs.Prelude.{slice_get}
+use Rattle.std.proofs.lemmas.Option.{slice_get_within}
+use Rattle.std.proofs.lemmas.Bool.{cases_order}
 use Rattle.spv_table.specs.Table.{Table}
 use Rattle.spv_module.specs.Operand.{PlainInst}
 use Rattle.spv_module.specs.declared.opcode.TheConstants as opcode
-use Rattle.spv_layout.specs.declared.class.Class.TheVariants.{Function}
-use Rattle.spv_layout.specs.Class.{is_among}
-use Rattle.spv_layout.specs.Row.{PlainRow, row_in}
-use Rattle.spv_layout.specs.Rows.{rows, row_of, class_of, class_in}
-use Rattle.spv_layout.specs.Layout.{classes}
-use Rattle.spv_layout.specs.Place.{IsAt, IsOfFunction}
-use Rattle.spv_type_forms.proofs.Opcodes.{all_pass, one_passes}
+use Rattle.spv_layout.specs.Place.{IsOfFunction}
+use Rattle.spv_type_rules.proofs.Counting.{function_opcode}
 use Rattle.spv_type_evidence.specs.types.inner.Known.{IsKnown, HasFunction, IsTypedParameter}
 use Rattle.spv_type_evidence.proofs.lemmas.types.Shaped.{function_shape, parameter_shape}
 use Rattle.spv_type_evidence.proofs.lemmas.types.Standing.{parameter_standing, return_standing, value_standing}
-
--- The class Function is that of opcode 54 alone.
-abbrev is_only : ℕ → PlainRow → Bool
-is_only n r = not (is_among r.class (Function ∷ [])) || nat_eq n opcode.FUNCTION
-
-all_only : all_pass is_only rows ≡ true
-unfolding rows
-all_only = refl
-
-by_class : (b c : Bool) → not b || c ≡ true → b ≡ true → c ≡ true
-by_class true c h g = h
-by_class false c h g = cc
-
-function_row : (n : ℕ) (o : Option PlainRow) → row_in rows n ≡ o → is_among (class_in o) (Function ∷ []) ≡ true → n ≡ opcode.FUNCTION
-function_row n None e c = absurd (let no : false ≡ true = c in cc)
-function_row n (Some r) e c = eqb-true n opcode.FUNCTION (by_class (is_among r.class (Function ∷ [])) (nat_eq n opcode.FUNCTION) (one_passes is_only rows n r all_only e) c)
-
-class_at : (is : List PlainInst) (n : ℕ) (i : PlainInst) → slice_get is n ≡ Some i → slice_get (classes is) n ≡ Some (class_of i.opcode)
-class_at is n i h = slice_get-map (λ j. class_of j.opcode) is n ∙ ap (option_map (λ j. class_of j.opcode)) h
-
-function_opcode : (is : List PlainInst) (n : ℕ) (i : PlainInst) → slice_get is n ≡ Some i → IsAt is n (Function ∷ []) → i.opcode ≡ opcode.FUNCTION
-function_opcode is n i h a = let c = rw (class_at is n i h) at a in function_row i.opcode (row_of i.opcode) refl c
 
 some_inst : (is : List PlainInst) (n : ℕ) → n < length is → (i : PlainInst) × (slice_get is n ≡ Some i)
 some_inst [] n h = absurd (omega (arith, h))

@@ -32,34 +32,16 @@ use Rattle.spv_type_evidence.specs.types.inner.Known.{IsKnown, IsSignature, IsFu
 -- Operands by their forms.
 
 an_id : (G : Table) (r : Role) (o : Plain) → is_of G (form.Id r) o ≡ true → (x : ℕ) × (o ≡ operand.Id x)
-an_id G r (operand.OfType a) h = cc
-an_id G r (operand.Result a) h = cc
 an_id G r (operand.Id a) h = (a, refl)
-an_id G r (operand.Word a) h = cc
-an_id G r (operand.Number a b w) h = cc
-an_id G r (operand.Text a) h = cc
-an_id G r (operand.Value a b) h = cc
-an_id G r (operand.Mask a b) h = cc
+an_id G r _ h = cc
 
 a_type : (G : Table) (o : Plain) → is_of G form.OfType o ≡ true → (x : ℕ) × (o ≡ operand.OfType x)
 a_type G (operand.OfType a) h = (a, refl)
-a_type G (operand.Result a) h = cc
-a_type G (operand.Id a) h = cc
-a_type G (operand.Word a) h = cc
-a_type G (operand.Number a b w) h = cc
-a_type G (operand.Text a) h = cc
-a_type G (operand.Value a b) h = cc
-a_type G (operand.Mask a b) h = cc
+a_type G _ h = cc
 
 a_result : (G : Table) (o : Plain) → is_of G form.Result o ≡ true → (x : ℕ) × (o ≡ operand.Result x)
-a_result G (operand.OfType a) h = cc
 a_result G (operand.Result a) h = (a, refl)
-a_result G (operand.Id a) h = cc
-a_result G (operand.Word a) h = cc
-a_result G (operand.Number a b w) h = cc
-a_result G (operand.Text a) h = cc
-a_result G (operand.Value a b) h = cc
-a_result G (operand.Mask a b) h = cc
+a_result G _ h = cc
 
 -- the first operand, and the others
 record Front (G : Table) (g : Form) (gs : List Form) (os : List Plain) : Type 0 where

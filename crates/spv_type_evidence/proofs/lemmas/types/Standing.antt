@@ -1,7 +1,7 @@
 -- A parameter and a return are of a function.
 use Rattle.std.proofs.Common.{◌≡◌, ◌∙◌, ◌<◌, ◌≤◌, ◌||◌, ◌&&◌, not, ℕ, zero, suc, List, [], ◌∷◌, inl, inr, Bool, true, false, Option, Some, None, refl, sym, ap, subst, length, drop, arith}
-use Rattle.std.specs.Prelude.{slice_get, option_map}
-use Rattle.std.proofs.lemmas.Option.{slice_get_within, slice_get-map, none-some}
+use Rattle.std.specs.Prelude.{slice_get}
+use Rattle.std.proofs.lemmas.Option.{slice_get_within, none-some}
 use Rattle.spv_module.specs.Operand.{PlainInst}
 use Rattle.spv_module.specs.declared.opcode.TheConstants as opcode
 use Rattle.spv_layout.specs.declared.class.Class.{Class}
@@ -18,6 +18,7 @@ use Rattle.spv_layout.proofs.Following.{is_open, implies, fine_move}
 use Rattle.spv_layout.proofs.Layouts.{layout_remains}
 use Rattle.spv_layout.proofs.Remains.{goes_on, goes_no_further}
 use Rattle.spv_layout.proofs.Spans.{is_at, is_not_at, at_moved, below_or}
+use Rattle.spv_type_rules.proofs.Counting.{class_at}
 
 -- f is the last OpFunction before instruction n, and no OpFunctionEnd stands from it to before n
 record Opened (is : List PlainInst) (n f : ℕ) : Type 0 where
@@ -31,9 +32,6 @@ record Reached (is : List PlainInst) (n : ℕ) : Type 0 where
   state : State
   remains : Remains state (classes (drop n is))
   opened : is_open state ≡ true → (f : ℕ) × Opened is n f
-
-class_at : (is : List PlainInst) (n : ℕ) (i : PlainInst) → slice_get is n ≡ Some i → slice_get (classes is) n ≡ Some (class_of i.opcode)
-class_at is n i h = slice_get-map (λ j. class_of j.opcode) is n ∙ ap (option_map (λ j. class_of j.opcode)) h
 
 from_here : (is : List PlainInst) (n : ℕ) (i : PlainInst) → slice_get is n ≡ Some i → drop n is ≡ i ∷ drop (suc n) is
 from_here [] n i h = absurd (none-some i h)

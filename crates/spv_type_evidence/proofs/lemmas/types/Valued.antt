@@ -61,15 +61,8 @@ value_of _ (operand.Value a b) e = rw e refl
 value_of _ (operand.Mask a b) e = rw e refl
 
 role_of_value : (r : Option Role) → is_value r ≡ true → r ≡ Some role.Value
-role_of_value None e = cc
 role_of_value (Some role.Value) e = refl
-role_of_value (Some role.OfType) e = cc
-role_of_value (Some role.Function) e = cc
-role_of_value (Some role.Text) e = cc
-role_of_value (Some role.Set) e = cc
-role_of_value (Some role.Label) e = cc
-role_of_value (Some role.Global) e = cc
-role_of_value (Some role.Any) e = cc
+role_of_value _ e = cc
 
 -- where the role is that of a value
 pub value_told : (G : Table) (i : PlainInst) (k : ℕ) (r : Option Role) (x : Option ℕ) → IsRole G i k r → is_value r ≡ true → x ≡ option_and_then id_in (slice_get i.operands k) → IsValueAt G i k x
@@ -174,13 +167,7 @@ value_typed G is i k x t l told none =
   where
     is_one : (f : Form) (o : Plain) (x : ℕ) → value_in f o ≡ x ∷ [] → (f ≡ form.Id role.Value) × (o ≡ operand.Id x)
     is_one (form.Id role.Value) (operand.Id y) x e = let same : y ≡ x = cc in (refl, ap operand.Id same)
-    is_one (form.Id role.Value) (operand.OfType y) x e = cc
-    is_one (form.Id role.Value) (operand.Result y) x e = cc
-    is_one (form.Id role.Value) (operand.Word y) x e = cc
-    is_one (form.Id role.Value) (operand.Number a b w) x e = cc
-    is_one (form.Id role.Value) (operand.Text y) x e = cc
-    is_one (form.Id role.Value) (operand.Value a b) x e = cc
-    is_one (form.Id role.Value) (operand.Mask a b) x e = cc
+    is_one (form.Id role.Value) _ x e = cc
     is_one _ o x e = let none : [] ≡ x ∷ [] = e in cc
 
 pub typeable_at : (G : Table) (is : List PlainInst) (n : ℕ) (i : PlainInst) → IsKnown G is → slice_get is n ≡ Some i → IsTypeable G is i

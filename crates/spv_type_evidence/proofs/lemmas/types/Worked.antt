@@ -103,9 +103,8 @@ number G = record {
 
 -- what is found where counts differ
 found_count : (d : PlainInst) (r m : ℕ) (s : Side) (wanted found : Option ℕ) → Differs with_short_call d r m s wanted found → s ≡ side.Number → found ≡ Some m
-found_count d r m _ _ _ (Differs.function t a b) e = cc
-found_count d r m _ _ _ (Differs.returned t ps a b) e = cc
 found_count d r m _ _ _ (Differs.number o ps a b) e = refl
+found_count d r m _ _ _ _ e = cc
 
 no_arguments : (i d : PlainInst) (r : ℕ) (xs : List ℕ) → Calls with_short_call i d r xs → i ≡ short_call → [] ≡ xs
 no_arguments i d r xs c same =

@@ -1,4 +1,4 @@
-use Rattle.std.proofs.Common.{◌≡◌, refl, arith}
+use Rattle.std.proofs.Common.{refl, arith}
 use Rattle.spv_verdict.proofs.laws.outcome_examples.Goals as goal
 
 pub returns-clause-failed : goal.returns-clause-failed

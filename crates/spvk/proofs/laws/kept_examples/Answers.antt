@@ -1,5 +1,10 @@
+use Rattle.std.proofs.Common.{refl}
+use Rattle.spvk.specs.Rules.{PutsIfAny}
 use Rattle.spvk.specs.Show.{memory}
 use Rattle.spvk.proofs.laws.kept_examples.Goals as goal
 
 pub returns-clause-memory : goal.returns-clause-memory
 returns-clause-memory c = λ G bytes old. memory
+
+pub returns-clause-unsaid : goal.returns-clause-unsaid
+returns-clause-unsaid c = λ old. PutsIfAny.missing refl refl

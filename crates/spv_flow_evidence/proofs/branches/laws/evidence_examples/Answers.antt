@@ -1,6 +1,6 @@
 use Rattle.std.proofs.Common.{refl}
-use Rattle.spv_module.specs.declared.fault.Rule.TheVariants.{F1, F3, F4}
-use Rattle.spv_evidence.specs.declared.evidence.Evidence.TheVariants.{Operand, Defined, MissingParent}
+use Rattle.spv_module.specs.declared.fault.Rule.TheVariants.{F1, F3}
+use Rattle.spv_evidence.specs.declared.evidence.Evidence.TheVariants.{Defined, MissingParent}
 use Rattle.spv_flow_evidence.proofs.lemmas.branches.Worked as worked
 use Rattle.spv_flow_evidence.proofs.branches.laws.evidence_examples.Goals as goal
 
@@ -12,6 +12,6 @@ returns c = record {
   missing = worked.missing;
   not_missing = λ h. worked.not_missing F3 4 (MissingParent 3) h refl;
   same = worked.same;
-  not_first = λ h. worked.not_first F4 0 (Operand 1) h refl refl;
+  not_first = worked.not_first;
   parents = worked.sound_parents;
 }

@@ -1,8 +1,8 @@
 use Rattle.std.specs.Prelude.{slice_get}
-use Rattle.std.proofs.Common.{◌≡◌, ◌<◌, ◌≤◌, ℕ, zero, suc, List, [], ◌∷◌, Some, true, false, length, refl, sym, subst, arith}
+use Rattle.std.proofs.Common.{◌≡◌, ◌<◌, ◌≤◌, ℕ, zero, suc, [], ◌∷◌, Some, true, false, length, refl, sym, subst, arith}
 use Rattle.spv_layout.specs.declared.class.Class.TheVariants.{Function, FunctionEnd}
 use Rattle.spv_layout.specs.Rows.{rows}
-use Rattle.spv_layout.specs.Place.{IsAt, IsOfFunction, IsDefinition}
+use Rattle.spv_layout.specs.Place.{IsAt, IsDefinition}
 use Rattle.spv_verdict.specs.flow.Example.{alone}
 use Rattle.spv_verdict.specs.flow.Definitions.{CountsDefinitions}
 use Rattle.spv_verdict.proofs.Flowing.Counts.{one_count}

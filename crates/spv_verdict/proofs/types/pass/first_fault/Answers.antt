@@ -1,7 +1,6 @@
 use Rattle.std.proofs.Common.{◌≡◌, Some, None, map, sym, ap, subst, ◌∙◌}
 use Rattle.std.specs.Prelude.{slice_get}
 use Rattle.spv_module.specs.Module.{plain_inst}
-use Rattle.spv_type_rules.specs.Repeat.{Repeats}
 use Rattle.spv_layout.specs.Plan.{IsPlan}
 use Rattle.spv_capabilities.specs.Keeps.{IsFirstAt}
 use Rattle.spv_verdict.specs.inner.Pass.{IsFirstTypeHere}

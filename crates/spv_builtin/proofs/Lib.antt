@@ -1,0 +1,4 @@
+pub mod Times
+pub mod Told
+pub mod Trees
+pub mod Unpacked

@@ -1,0 +1,7 @@
+use Rattle.std.proofs.Common.{◌≡◌, map, take}
+use Rattle.serde_json.specs.View.{view}
+use Rattle.spv_grammar.specs.Tree.{instruction_tree}
+use Rattle.spv_builtin.proofs.tree.instructions.Given as goal
+
+abbrev pub invariant-loop-entry : goal.invariant-loop-entry
+invariant-loop-entry l = map view l.found.items ≡ map (instruction_tree l.table) (take l.entry-index l.entries)

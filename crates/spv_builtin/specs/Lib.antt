@@ -1,0 +1,5 @@
+pub mod Example
+pub mod Packed
+pub mod Source
+pub mod Text
+pub mod inner

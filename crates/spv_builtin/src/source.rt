@@ -1,0 +1,34 @@
+//! The table of a run.
+ghost use Rattle.std.specs.Prelude.{◌≢◌, IfOk, IfErr, option_map};
+ghost use Rattle.spv_grammar.specs.declared.error.GrammarError.TheVariants.{J8};
+ghost use Rattle.spv_builtin.specs.Source.{IsTableOf, breaks};
+
+use crate::error::UnpackError;
+use crate::laws::one_table;
+use crate::packed::unpack;
+use crate::words::WORDS;
+use spv_grammar::{FromGrammar, GrammarError};
+use spv_table::Table;
+use std::alloc::Global;
+
+/// The table of a grammar file's text, in the form of `spirv.core.grammar.json`; where there is none, the built-in
+/// table.
+///
+/// # Errors
+///
+/// Of J1 to J7 the least that the text breaks; J8 where a growth of memory was refused. The built-in table is never
+/// refused but by J8, and by J2 if its words were damaged.
+pub fn table_of(alloc: Global, text: Option<&[u8]>) -> Result<Table, GrammarError>
+    ensures table { IfOk result (λ G. IsTableOf (option_map (λ t. t.now) text.entry) G) }
+    ensures refused { IfErr result (λ e. e ≢ J8 → breaks (option_map (λ t. t.now) text.entry) e) }
+{
+    one_table();
+    if let Some(text) = text {
+        return Table::from_slice(alloc, text);
+    }
+    match unpack(alloc, &WORDS) {
+        Ok(table) => Ok(table),
+        Err(UnpackError::Damaged) => Err(GrammarError::J2),
+        Err(UnpackError::Memory) => Err(GrammarError::J8),
+    }
+}

@@ -1,0 +1,186 @@
+"""Command lines with each growth of memory, each open, each read and each write refused in turn.
+
+Each run must end with its numbered refusal, and write nothing but a beginning of what is due. Where a growth is
+refused, what `--verbose` says behind the line of an error may be left out. The growths of making the built-in table are
+refused in one of the lines alone, but for the last ones. refused.py does so with the cases.
+"""
+
+import os
+import struct
+from dataclasses import dataclass, field
+from typing import List, Optional, Tuple
+
+from .common import LAYERS as ALL_LAYERS
+from .common import TESTS, Answer, Check, run, shown
+from .refused import MOST_GROWTHS, TALLY, library
+from .usage import BROKEN, GRAMMAR, KERNEL, TEXT, under
+
+LAYERS = frozenset(ALL_LAYERS)
+THIN = TESTS / "grammars/thin.json"
+OLD = "old.spv"
+GROWTH, OPEN, READ, WRITE = "growth", "open", "read", "write"
+# What a refused call is told as.
+TOLD = {GROWTH: b"error memory", OPEN: b"error file", READ: b"error file", WRITE: b"error file"}
+MADE = "made.spv"
+LAST_OF_TABLE = 10
+
+
+@dataclass(frozen=True)
+class Line:
+    """A command line: its words, the calls it makes, the file of its standard input, the names before its lines."""
+
+    words: Tuple
+    calls: Tuple[str, ...]
+    given: Optional[str] = None
+    names: Tuple[str, ...] = field(default=())
+
+    def __str__(self):
+        return " ".join(str(getattr(word, "name", word)) for word in self.words)
+
+
+def line(*words, calls=(OPEN, READ, WRITE), **how):
+    """A command line with these words."""
+    return Line(words, tuple(calls), **how)
+
+
+WHOLE = line("check", KERNEL)
+LINES = [
+    WHOLE,
+    line("grammar", calls=[WRITE]),
+    line("grammar", THIN),
+    line("grammar", "-", calls=[READ, WRITE], given="thin.json"),
+    line("grammar", "refused.json"),
+    line("check", "-", calls=[READ, WRITE], given="kernel.spv"),
+    line("check", "--as-1.6", OLD),
+    line("check", "-H", "--as-1.6", OLD, names=(OLD,)),
+    line("check", "--no-filename", "kernel.spv", "broken.spv", names=("kernel.spv", "broken.spv")),
+    line("check", "kernel.spv", "broken.spv", names=("kernel.spv", "broken.spv")),
+    line("check", "--quiet", "broken.spv", calls=[OPEN, READ]),
+    line("check", "--quiet", "kernel.spv", "broken.spv", calls=[OPEN, READ], names=("kernel.spv", "broken.spv")),
+    line("explain", "-H", "--as-1.6", "broken.spv", names=("broken.spv",)),
+    line("explain", OLD),
+    line("show", "--as-1.6", OLD),
+    line("trace", "--as-1.6", "--function", 3, "--limit", 9, OLD),
+    line("asm", "--out", MADE, TEXT),
+    line("asm", "--out", MADE, "text", calls=[OPEN, READ, WRITE]),
+    line("asm", "--out", "./text", "text", calls=[WRITE]),
+    line("rules", "a1", calls=[WRITE]),
+    line("rules", "J4", calls=[WRITE]),
+    line("rules", calls=[WRITE]),
+    line("chek", "--verbose", calls=[WRITE]),
+    line("check", "--verbose", calls=[WRITE]),
+    line("check", "--verbose", "absent.spv", calls=[WRITE]),
+    line("check", "--verbose", "-H", "absent.spv", calls=[WRITE], names=("absent.spv",)),
+    line("check", "--verbose", "--grammar", "bad.json", KERNEL),
+    line("grammar", "--verbose", "bad.json"),
+    line("trace", "--verbose", "--function", 1, "--limit", 9, KERNEL),
+    line("asm", "--verbose", "--out", "./text", "text", calls=[WRITE]),
+]
+BAD = b'{"instructions":[{"opname":"OpA","opcode":1,"operands":[{"kind":"X"}]}],"operand_kinds":[]}'
+
+
+def laid_out(folder):
+    """The files that the lines name."""
+    kernel = KERNEL.read_bytes()
+    (folder / "kernel.spv").write_bytes(kernel)
+    (folder / "broken.spv").write_bytes(BROKEN.read_bytes())
+    (folder / OLD).write_bytes(kernel[:4] + struct.pack("<I", 0x00010200) + kernel[8:])
+    (folder / "text").write_bytes(TEXT.read_bytes())
+    (folder / "thin.json").write_bytes(THIN.read_bytes())
+    (folder / "refused.json").write_bytes(b"[1")
+    (folder / "bad.json").write_bytes(BAD)
+
+
+def made(folder):
+    """What was made, or None."""
+    path = folder / MADE
+    return path.read_bytes() if path.exists() else None
+
+
+def refused(it, call, number, program, folder, preload, all_later):
+    """A run of a line with this call refused: its answer, what it made, and the numbers of the tally."""
+    (folder / MADE).unlink(missing_ok=True)
+    tally = folder / "tally"
+    tally.write_bytes(bytes(TALLY.size))
+    refusing = {"LD_PRELOAD": str(preload), "REFUSE_TELL": str(tally), "REFUSE_AT": str(number)}
+    refusing.update({"REFUSE_CALL": call} if call != GROWTH else {})
+    refusing.update({"REFUSE_ALL": "1"} if all_later else {})
+    with open(folder / it.given if it.given else os.devnull, "rb") as given:
+        got = run(program, it.words, folder, env={**under(), **refusing}, stdin=given)
+    return got, made(folder), TALLY.unpack(tally.read_bytes())
+
+
+def is_beginning(wanted, got):
+    """Whether what was written or made is a beginning of what is due."""
+    return not got or bool(wanted) and wanted.startswith(got)
+
+
+def lines_of(text):
+    """The lines of a text, without their line feeds."""
+    return text.split(b"\n")[:-1]
+
+
+def are_lines_of(wanted, got):
+    """Whether these are lines of a text, in its order, some of which may be missing."""
+    rest = iter(lines_of(wanted))
+    return got.endswith(b"\n") and all(any(it == other for other in rest) for it in lines_of(got)) or not got
+
+
+def is_told(it, call, wanted, got):
+    """Whether an answer is the refusal of a call, with nothing in part: or the answer to the other files of several."""
+    told = {TOLD[call], *(name.encode() + b": " + TOLD[call] for name in it.names)}
+    err = lines_of(got.err)
+    due = [line for line in err if line not in told]
+    is_named = len(due) < len(err) or call == WRITE
+    is_rest = "--verbose" in it.words or all(line in lines_of(wanted.err) for line in due)
+    is_out = is_beginning(wanted.out, got.out) or len(it.names) > 1 and are_lines_of(wanted.out, got.out)
+    return got.status == 2 and is_named and is_rest and is_out
+
+
+def is_shorter(it, wanted, got):
+    """Whether an answer is the wanted one, or lacks only what follows the line of an error."""
+    head = wanted.err.split(b"\n")[0] + b"\n"
+    return got == wanted or "--verbose" in it.words and got == Answer(wanted.out, head, wanted.status)
+
+
+def first_of(it, call, count, program, folder, preload):
+    """The first call that is refused: the growths of making the built-in table are left out but for the last ones."""
+    if call != GROWTH or it is WHOLE:
+        return 1
+    _, _, (_, of_table, _) = refused(line("check", "/dev/null"), call, 0, program, folder, preload, False)
+    return max(of_table - LAST_OF_TABLE, 1) if count > of_table else 1
+
+
+def each_refused(it, call, all_later=False):
+    """The check that a line answers rightly with each call of a sort refused in turn."""
+
+    def check(program, folder):
+        laid_out(folder)
+        preload = library(folder)
+        wanted, whole, (began, count, _) = refused(it, call, 0, program, folder, preload, False)
+        if not began or count == 0:
+            return f"  {call}: {count} calls, {wanted}"
+        text = (folder / "text").read_bytes()
+        for number in range(first_of(it, call, count, program, folder, preload), MOST_GROWTHS):
+            got, part, (_, _, times) = refused(it, call, number, program, folder, preload, all_later)
+            if times == 0:
+                break
+            fine = is_told(it, call, wanted, got) or call == GROWTH and is_shorter(it, wanted, got)
+            if not fine or not is_beginning(whole, part) or (folder / "text").read_bytes() != text:
+                return f"  {call} {number} refused\n  wanted: {wanted}\n  got:    {got}, made {shown(part or b'')}"
+        return None if got == wanted else f"  none refused: {got}"
+
+    return check
+
+
+def checks():
+    """For each line growths, one and all from one on, and the other calls that it makes."""
+    found: List[Tuple[str, Line, str, bool]] = []
+    for it in LINES:
+        found += [(f"{call}s", it, call, False) for call in (GROWTH, *it.calls)]
+        found.append(("growths and all later", it, GROWTH, True))
+    tools = frozenset({"cc"})
+    return [
+        Check(f"each refused: {name}, {it}", LAYERS, each_refused(it, call, later), tools)
+        for name, it, call, later in found
+    ]
