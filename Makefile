@@ -2,12 +2,25 @@
 #
 #   make                              proves and builds both (./build), and links the shared library
 #   make check                        all tests of what was built (tests/run)
-#   make install PREFIX=/usr/local    installs them; DESTDIR=FOLDER puts it all below a folder
-#   make uninstall                    takes away what install put there, by the same PREFIX and DESTDIR
+#   make install PREFIX=/usr/local    installs what was built; DESTDIR=FOLDER puts it all below a folder
+#   make installcheck                 the tests of the program, run on the installed one
+#   make uninstall                    takes away what install put there, by the same variables
+#   make dist                         the packages of a release, in dist/ (install/dist)
+#
+# BINDIR, LIBDIR, INCLUDEDIR, DATADIR and MANDIR are folders of their own where they are given. CC, CFLAGS and LDFLAGS
+# are for the shared library: the toolchain alone compiles and links the program, and compiles what is in the archive.
+# A name may have spaces.
 
 PREFIX = /usr/local
+BINDIR = $(PREFIX)/bin
+LIBDIR = $(PREFIX)/lib
+INCLUDEDIR = $(PREFIX)/include
+DATADIR = $(PREFIX)/share
+MANDIR = $(DATADIR)/man
 DESTDIR =
 CC = cc
+CFLAGS = -O2
+LDFLAGS =
 INSTALL = install
 
 version := $(shell sed -n 's/^.define SPVK_VERSION "\(.*\)"/\1/p' include/spvk.h)
@@ -15,44 +28,31 @@ major := $(firstword $(subst ., ,$(version)))
 sources := crates.txt HANDLES $(shell find crates \( -name out -o -name must-fail \) -prune -o -type f -print)
 program := crates/spv/out/spv
 archive := out/libspvk.a
+object := out/spvk.o
 shared := out/libspvk.so.$(version)
-to := $(DESTDIR)$(PREFIX)
-fill := sed 's|@prefix@|$(PREFIX)|; s|@version@|$(version)|; s|@major@|$(major)|'
-installed := bin/spv include/spvk.h lib/libspvk.a lib/libspvk.so.$(version) lib/libspvk.so.$(major) lib/libspvk.so \
-	lib/pkgconfig/spvk.pc lib/cmake/spvk/spvkConfig.cmake lib/cmake/spvk/spvkConfigVersion.cmake \
-	share/man/man1/spv.1 share/man/man3/spvk.3 share/bash-completion/completions/spv \
-	share/zsh/site-functions/_spv share/fish/vendor_completions.d/spv.fish
+places = BINDIR='$(BINDIR)' LIBDIR='$(LIBDIR)' INCLUDEDIR='$(INCLUDEDIR)' DATADIR='$(DATADIR)' MANDIR='$(MANDIR)' \
+	PREFIX='$(PREFIX)' DESTDIR='$(DESTDIR)' INSTALL='$(INSTALL)' VERSION='$(version)'
 
-.PHONY: all check install uninstall
+.PHONY: all check install installcheck uninstall dist
 
 all: $(program) $(archive) $(shared)
 
-$(program) $(archive) &: $(sources)
+$(program) $(archive) $(object) &: $(sources)
 	./build program library
 
-$(shared): $(archive) install/spvk.map
-	$(CC) -shared -o $@ -Wl,-soname,libspvk.so.$(major) -Wl,--version-script=install/spvk.map -Wl,-z,defs \
-		-Wl,--whole-archive $(archive) -Wl,--no-whole-archive
+$(shared): $(object) install/spvk.c install/spvk.map include/spvk.h
+	$(CC) -std=c99 -Wall -Wextra $(CFLAGS) -fPIC -shared $(LDFLAGS) -o $@ install/spvk.c $(object) \
+		-Wl,-soname,libspvk.so.$(major) -Wl,--version-script=install/spvk.map -Wl,-Bsymbolic-functions \
+		-Wl,-z,defs -Wl,-z,relro -Wl,-z,now -Wl,-z,noexecstack
 
 check: all
 	tests/run
 
-install: all
-	$(INSTALL) -D -m 755 $(program) $(to)/bin/spv
-	$(INSTALL) -D -m 644 include/spvk.h $(to)/include/spvk.h
-	$(INSTALL) -D -m 644 $(archive) $(to)/lib/libspvk.a
-	$(INSTALL) -D -m 755 $(shared) $(to)/lib/libspvk.so.$(version)
-	ln -sf libspvk.so.$(version) $(to)/lib/libspvk.so.$(major)
-	ln -sf libspvk.so.$(major) $(to)/lib/libspvk.so
-	$(fill) install/spvk.pc.in | $(INSTALL) -D -m 644 /dev/stdin $(to)/lib/pkgconfig/spvk.pc
-	$(fill) install/spvkConfig.cmake.in | $(INSTALL) -D -m 644 /dev/stdin $(to)/lib/cmake/spvk/spvkConfig.cmake
-	$(fill) install/spvkConfigVersion.cmake.in | $(INSTALL) -D -m 644 /dev/stdin $(to)/lib/cmake/spvk/spvkConfigVersion.cmake
-	$(INSTALL) -D -m 644 docs/spv.1 $(to)/share/man/man1/spv.1
-	$(INSTALL) -D -m 644 docs/spvk.3 $(to)/share/man/man3/spvk.3
-	$(INSTALL) -D -m 644 completions/spv.bash $(to)/share/bash-completion/completions/spv
-	$(INSTALL) -D -m 644 completions/_spv $(to)/share/zsh/site-functions/_spv
-	$(INSTALL) -D -m 644 completions/spv.fish $(to)/share/fish/vendor_completions.d/spv.fish
+install uninstall:
+	$(places) install/place $@ $(program) $(archive) $(shared)
 
-uninstall:
-	rm -f $(addprefix $(to)/,$(installed))
-	rmdir $(to)/lib/cmake/spvk 2>/dev/null || true
+installcheck:
+	tests/run --program '$(DESTDIR)$(BINDIR)/spv' --without library --without tests --without rt
+
+dist: all
+	install/dist

@@ -15,14 +15,14 @@ A grammar is made once, the built-in one of SPIR-V 1.6 or that of a grammar file
 any number of modules, also from several threads at the same time: the calls run without Python's global
 lock. It is let go with its last reference.
 
-The shared library is the file that the environment's SPVK_LIBRARY names, or else libspvk.so.1 where
-the system finds it. Python 3.8 or later, and nothing else.
+The shared library is the file that the environment's SPVK_LIBRARY names, or else libspvk.so.1 beside this
+file, as the wheel has it, or where the system finds it. Python 3.8 or later, and nothing else.
 """
 
 import ctypes
 import os
 from dataclasses import dataclass
-from typing import NamedTuple, Optional, Union
+from typing import Any, Callable, NamedTuple, Optional, Union
 
 __all__ = [
     "Error",
@@ -41,6 +41,7 @@ __all__ = [
 
 __version__ = "1.0.0"
 
+_FILE = "libspvk.so.1"
 _OK, _MEMORY, _NOT_TEXT, _J1 = 0, 1, 4, 101
 _VALID, _ASSEMBLED, _S1 = 0, 0, 1201
 _NOWHERE = 0xFFFFFFFF
@@ -167,7 +168,8 @@ class _Image(ctypes.Structure):
 
 def _library() -> ctypes.CDLL:
     """The shared library, with what its calls take and answer."""
-    found = ctypes.CDLL(os.environ.get("SPVK_LIBRARY", "libspvk.so.1"))
+    beside = os.path.join(os.path.dirname(os.path.abspath(__file__)), _FILE)
+    found = ctypes.CDLL(os.environ.get("SPVK_LIBRARY") or (beside if os.path.exists(beside) else _FILE))
     to = ctypes.POINTER
     given = [ctypes.c_char_p, ctypes.c_size_t]
     asked = [ctypes.c_void_p, *given]
@@ -197,11 +199,11 @@ def _library() -> ctypes.CDLL:
 _C = _library()
 
 
-def _static_text(call, number: int) -> Optional[str]:
+def _static_text(call: Callable[..., bool], number: int) -> Optional[str]:
     """A text that the library has for a number, or None."""
     text = ctypes.c_char_p()
     is_there = 0 <= number <= _NOWHERE and call(number, ctypes.byref(text))
-    return text.value.decode() if is_there else None
+    return text.value.decode() if is_there and text.value is not None else None
 
 
 def rule_name(number: int) -> Optional[str]:
@@ -218,7 +220,7 @@ def version() -> str:
     """The version of the library."""
     text = ctypes.c_char_p()
     _C.spvk_raw_version(ctypes.byref(text))
-    return text.value.decode()
+    return (text.value or b"").decode()
 
 
 def _done(status: int) -> None:
@@ -240,7 +242,7 @@ def _verdict(it: Union[_Answer, _Text]) -> Verdict:
     return Verdict(it.code, inst, word)
 
 
-def _made(call, held: "_Held", given: bytes, answer: Union[_Text, _Image]) -> bytes:
+def _made(call: Callable[..., int], held: "_Held", given: bytes, answer: Union[_Text, _Image]) -> bytes:
     """Makes a call that puts bytes into a buffer, and takes them out of it."""
     try:
         _done(call(held.grammar.held, given, len(given), ctypes.byref(answer)))
@@ -258,11 +260,11 @@ class _Held:
         _done(_C.spvk_raw_grammar_default(made) if text is None else _C.spvk_raw_grammar_new(text, len(text), made))
 
     # (At the end of the process the module's names may be gone first: so they are parameters.)
-    def __del__(self, delete=_C.spvk_raw_grammar_delete, byref=ctypes.byref) -> None:
+    def __del__(self, delete: Any = _C.spvk_raw_grammar_delete, byref: Any = ctypes.byref) -> None:
         delete(byref(self.grammar))
 
 
-def _octets(given) -> bytes:
+def _octets(given: Union[bytes, bytearray, memoryview]) -> bytes:
     """The bytes of what holds bytes."""
     return given if isinstance(given, bytes) else memoryview(given).tobytes()
 
@@ -314,8 +316,8 @@ class Grammar:
 
         Raises TextFault where the text stands for none, and NotText where its bytes are no UTF-8.
         """
-        answer, is_text = _Image(), isinstance(text, str)
-        given = text.encode("utf-8", "surrogatepass") if is_text else _octets(text)
+        answer = _Image()
+        given = text.encode("utf-8", "surrogatepass") if isinstance(text, str) else _octets(text)
         call = _C.spvk_raw_assemble_big if big else _C.spvk_raw_assemble_little
         module = _made(call, self._held, given, answer)
         if answer.code != _ASSEMBLED:

@@ -31,10 +31,12 @@ if [ "$STAND_IN" = fails ]; then
     echo '1 passed, 2 failed'
     exit 1
 fi
+echo 'logic=proved functions=1 sum=5'
 echo 'rt: spv_table proved'
 mkdir crates/spv/out
 sleep 1
 echo '== spv'
+echo 'logic=proved functions=2 sum=5'
 echo 'rt: spv proved'
 echo built >crates/spv/out/spv
 echo 'rt: ok; handles allowed: none'
@@ -57,6 +59,8 @@ REFUSED = [
     r"fn spv_table::table::entry: not proved",
     r"rt: spv_table NOT PROVED",
 ]
+# What out/proved has but for the checksums: the crate that was kept has no line, since no earlier run here proved it.
+LAST_LINES = "spv_table logic=proved functions=1 sum=5\nspv logic=proved functions=2 sum=5\n"
 # What begins a line of the terminal anew.
 OVER = "\r\x1b[K"
 
@@ -72,7 +76,8 @@ def repository(folder, seconds):
     shutil.copy(TOP / "HANDLES", top)
     shutil.copy(TOP / "build", top)
     (top / "install").mkdir()
-    shutil.copy(TOP / "install/progress.awk", top / "install")
+    for name in ("progress.awk", "proved"):
+        shutil.copy(TOP / "install" / name, top / "install")
     (top / "install/seconds").write_text(seconds, encoding="utf-8")
     (folder / "commands").mkdir()
     stand_in = folder / "commands/rt"
@@ -109,6 +114,9 @@ def proves(_, folder):
         return wrong or f"  exit {status}"
     if (folder / "top/crates/spv/out/spv").read_text(encoding="utf-8") != "built\n":
         return "  the program is not the one that was built"
+    lines = (folder / "top/out/proved").read_text(encoding="utf-8")
+    if re.sub(r" [0-9a-f]{64} ", " ", lines) != LAST_LINES:
+        return f"  out/proved has: {lines}"
     log = re.match(PROVED[0], said).group(1)
     with open(log, encoding="utf-8") as file:
         last = file.read().splitlines()[-1]

@@ -21,6 +21,8 @@ SOURCES = TESTS / "library"
 HEADER = TOP / "include/spvk.h"
 PAGE = TOP / "docs/spvk.3"
 ARCHIVE = TOP / "out/libspvk.a"
+OBJECT = TOP / "out/spvk.o"
+MAP = TOP / "install/spvk.map"
 PROFILE = TESTS / "profile.json"
 KERNEL = TESTS / "modules/smallest-kernel.spv"
 STRICT = ("-Wall", "-Wextra", "-Wpedantic", "-Werror", "-O2", f"-I{TOP / 'include'}")
@@ -36,6 +38,14 @@ INSTALLED = """
     lib/pkgconfig/spvk.pc lib/cmake/spvk/spvkConfig.cmake lib/cmake/spvk/spvkConfigVersion.cmake
     share/man/man1/spv.1 share/man/man3/spvk.3 share/bash-completion/completions/spv
     share/zsh/site-functions/_spv share/fish/vendor_completions.d/spv.fish
+    share/doc/spv/README.md share/doc/spv/SECURITY.md share/doc/spv/CHANGELOG.md share/doc/spv/NOTICE
+    share/doc/spv/LICENSE-MIT share/doc/spv/LICENSE-APACHE share/doc/spv/PROFILE.md share/doc/spv/PERFORMANCE.md
+    share/doc/spv/PROOFS.md
+"""
+# What README's words for installing need of the repository, beside what is built.
+SOURCES_OF_INSTALL = """
+    crates.txt HANDLES Makefile build include install docs completions bindings README.md SECURITY.md CHANGELOG.md NOTICE
+    LICENSE-MIT LICENSE-APACHE
 """
 
 
@@ -220,9 +230,8 @@ def in_python(_program, folder):
 
 
 def make(*words):
-    """Runs make at the top, which takes what is built as up to date."""
-    old = [f"-o{it}" for it in ("crates/spv/out/spv", ARCHIVE.relative_to(TOP), shared().relative_to(TOP))]
-    return done(["make", "--no-print-directory", *old, *words], TOP)
+    """Runs make at the top."""
+    return done(["make", "--no-print-directory", *words], TOP)
 
 
 def files_below(folder):
@@ -239,10 +248,6 @@ def installed(_program, folder):
     if got != wanted or files_below(folder) != {f"usr/{name}" for name in wanted}:
         raise Wrong(f"  installed besides or not: {', '.join(sorted(got ^ wanted))}")
     done([folder / "usr/bin/spv", "--help"], folder)
-    symbols = done(["nm", "-D", "--defined-only", "-j", folder / "usr/lib/libspvk.so"], folder).split()
-    others = [name for name in symbols if not name.startswith("spvk_")]
-    if others or not symbols:
-        raise Wrong(f"  the shared library shows {', '.join(others) or 'nothing'}")
     make("uninstall", *words)
     if files_below(folder):
         raise Wrong(f"  left behind: {', '.join(sorted(files_below(folder)))}")
@@ -304,9 +309,9 @@ def by_readme(_program, folder):
     top, home = folder / "spv", folder / "home"
     home.mkdir()
     top.mkdir()
-    for name in ("crates.txt", "HANDLES", "Makefile", "build", "include", "install", "docs", "completions", "bindings"):
+    for name in SOURCES_OF_INSTALL.split():
         (shutil.copytree if (TOP / name).is_dir() else shutil.copy)(TOP / name, top / name)
-    for name in ("crates/spv/out/spv", ARCHIVE.relative_to(TOP), shared().relative_to(TOP)):
+    for name in ("crates/spv/out/spv", *(it.relative_to(TOP) for it in (ARCHIVE, OBJECT, shared()))):
         (top / name).parent.mkdir(parents=True, exist_ok=True)
         shutil.copy(TOP / name, top / name)
     (top / "check.c").write_text(example(), encoding="utf-8")
@@ -317,6 +322,14 @@ def by_readme(_program, folder):
         raise Wrong(f"  printed:\n{said}")
 
 
+def header_calls():
+    """The calls of the header that C programs make, and those of the archive."""
+    header = HEADER.read_text(encoding="utf-8")
+    made = set(re.findall(r"^static inline .*?\b(spvk_\w+)\(", header, re.MULTILINE))
+    raw = set(re.findall(r"^(?:\w+ )+\**(spvk_raw_\w+)\(", header, re.MULTILINE))
+    return made - {"spvk_some_bytes", "spvk_told_by"}, raw
+
+
 def shown_page(_program, folder):
     """The man page is shown without warnings, and names the calls and the statuses that the header has."""
     ended = subprocess.run(["man", "--warnings", "-E", "UTF-8", "-l", str(PAGE)], stdout=subprocess.PIPE,
@@ -324,7 +337,7 @@ def shown_page(_program, folder):
     if ended.returncode != 0 or ended.stderr:
         raise Wrong(f"  {ended.stderr.decode()}")
     header, page = HEADER.read_text(encoding="utf-8"), PAGE.read_text(encoding="utf-8")
-    calls = set(re.findall(r"^static inline .*?\b(spvk_\w+)\(", header, re.MULTILINE)) - {"spvk_some_bytes", "spvk_told_by"}
+    calls, _ = header_calls()
     named = set(re.findall(r"\b(spvk_\w+)\(", page.split(".SH DESCRIPTION")[0]))
     if calls != named:
         raise Wrong(f"  not in both: {', '.join(sorted(calls ^ named))}")

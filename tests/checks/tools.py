@@ -64,7 +64,7 @@ def no_translator():
 
 def no_library():
     """Why the library for C cannot be tested, or None."""
-    lacking = [it for it in (library.ARCHIVE, library.shared()) if not it.is_file()]
+    lacking = [it for it in (library.ARCHIVE, library.OBJECT, library.shared()) if not it.is_file()]
     return f"there is no {lacking[0]} (make, or install/archive and then make)" if lacking else None
 
 

@@ -8,18 +8,19 @@ refused, or no memory.
 
 import sys
 from pathlib import Path
+from typing import List
 
 import spvk
 
 
-def check(grammar, name):
+def check(grammar: spvk.Grammar, name: str) -> spvk.Verdict:
     """Prints the verdict on a file, and answers it."""
     verdict = grammar.check(Path(name).read_bytes())
     print(f"{name}: {verdict}" if verdict else f"{name}: {verdict}: {verdict.sentence}")
     return verdict
 
 
-def main(words):
+def main(words: List[str]) -> int:
     """Does what the words ask, and answers the exit status."""
     named, files = (words[1:2], words[2:]) if words[:1] == ["--grammar"] else ([], words)
     if not files:
