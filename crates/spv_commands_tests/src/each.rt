@@ -82,7 +82,9 @@ fn files_of_other_versions(rt: HostRuntime) -> Result<(), Fail> {
     let a = rt.alloc();
     let mut kernel = kernel(a)?;
     // The minor number of the version, in the order in which the lowest byte of a word stands first.
-    kernel[5] = 4;
+    if let Some(minor) = kernel.get_mut(5) {
+        *minor = 4;
+    }
     let file = Some(kernel.as_slice());
     let how = Judging {
         task: Task::Check,
