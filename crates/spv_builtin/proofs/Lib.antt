@@ -1,3 +1,4 @@
+pub mod Parts
 pub mod Times
 pub mod Told
 pub mod Trees

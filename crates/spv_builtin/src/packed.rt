@@ -10,7 +10,7 @@ use crate::error::UnpackError;
 use crate::reader::{Reader, octets_of_words, text_of};
 use crate::take::take_list;
 use crate::whole::{PlainSort, are_together, sorts_of};
-use spv_table::{Entry, Table};
+use spv_table::{Entry, NameText, Table};
 use std::alloc::Global;
 
 /// The words of the text, and those after them.
@@ -51,14 +51,16 @@ fn take_parts(mut reader: Reader<'_>) -> Result<Parts, UnpackError>
 }
 
 /// The table that words hold, with the octets of the text before them.
-fn unpack_after(alloc: Global, octets: &[[u8; 4]], words: &[u32]) -> Result<Table, UnpackError>
+fn unpack_after(alloc: Global, octets: Vec<[u8; 4]>, words: &[u32]) -> Result<Table, UnpackError>
     ensures gives { IfOk result
-        (λ G. Holds (record { text = flat_map (λ o. o) octets.now; words = words.now; lists = [] }) G) }
+        (λ G. Holds (record { text = flat_map (λ o. o) octets.items; words = words.now; lists = [] }) G) }
     ensures damaged { IsErrOf result Damaged → (G : Table)
-        → ¬ (Holds (record { text = flat_map (λ o. o) octets.now; words = words.now; lists = [] }) G) }
+        → ¬ (Holds (record { text = flat_map (λ o. o) octets.items; words = words.now; lists = [] }) G) }
 {
-    let text = text_of(octets)?;
-    let Parts { kinds, entries } = take_parts(Reader::new(alloc, text, words))?;
+    let text = String::from_str(alloc, text_of(octets.as_slice())?)?;
+    drop(octets);
+    let text = NameText::from_string(alloc, text)?;
+    let Parts { kinds, entries } = take_parts(Reader::new(alloc, &text, words))?;
     if !are_together(kinds.as_slice(), entries.as_slice()) {
         return Err(UnpackError::Damaged);
     }
@@ -70,7 +72,8 @@ fn unpack_after(alloc: Global, octets: &[[u8; 4]], words: &[u32]) -> Result<Tabl
 ///
 /// # Errors
 ///
-/// `Damaged` where none is; `Memory` where a growth of memory was refused.
+/// `Damaged` where none is; `Memory` where a growth of memory was refused, or the names have more than 4,294,967,295
+/// octets together.
 pub fn unpack(alloc: Global, words: &[u32]) -> Result<Table, UnpackError>
     ensures gives { IfOk result (λ G. IsPacked words.now G) }
     ensures damaged { IsErrOf result Damaged → (G : Table) → ¬ (IsPacked words.now G) }
@@ -79,5 +82,5 @@ pub fn unpack(alloc: Global, words: &[u32]) -> Result<Table, UnpackError>
         return Err(UnpackError::Damaged);
     };
     let octets = octets_of_words(alloc, text)?;
-    unpack_after(alloc, octets.as_slice(), further)
+    unpack_after(alloc, octets, further)
 }

@@ -1,5 +1,6 @@
 //! Reads packed words from the front.
-ghost use Rattle.std.specs.Prelude.{◌≡◌, [], IfOk, IfErr, length};
+ghost use Rattle.std.specs.Prelude.{◌≡◌, ◌<◌, ◌≤◌, [], IfOk, IfErr, MatchOption, length, take, drop};
+ghost use Rattle.std.specs.Prelude.{slice_range};
 ghost use Rattle.std.specs.List.{flat_map};
 ghost use Rattle.std.specs.Str.{IsAscii};
 ghost use Rattle.spv_builtin.specs.Packed as packed;
@@ -8,7 +9,7 @@ ghost use Rattle.spv_builtin.specs.declared.error.UnpackError.TheVariants.{Damag
 ghost use Rattle.spv_builtin.specs.inner.Takes.{Takes};
 
 use crate::error::UnpackError;
-use spv_table::{Name, NameList, Named};
+use spv_table::{Name, NameList, NameText, Named};
 use std::alloc::{AllocError, Global};
 use std::marker::Model;
 
@@ -38,20 +39,23 @@ impl<'a> Named for LentName<'a> {
 #[derive(Drop)]
 pub(crate) struct Reader<'a> {
     alloc: Global,
-    text: &'a str,
+    text: &'a NameText,
+    /// Where in the text what is left of it begins, in octets.
+    at: usize,
     words: &'a [u32],
     lists: Vec<NameList>,
 }
 
 impl<'a> Model for Reader<'a> {
+    ghost use Rattle.std.specs.Prelude.{◌≤◌, drop, length};
     ghost use Rattle.std.specs.Str.{IsAscii};
     ghost use Rattle.spv_builtin.specs.Packed.{Left};
 
     ghost Value = { Left };
 
-    ghost view = { λ r. record { text = r.text.now; words = r.words.now; lists = r.lists.items } };
+    ghost view = { λ r. record { text = drop r.at r.text.now; words = r.words.now; lists = r.lists.items } };
 
-    ghost invariant = { λ r. IsAscii r.text.now };
+    ghost invariant = { λ r. IsAscii r.text.now × (r.at ≤ length r.text.now) };
 }
 
 /// The octets of words, four of each, the lowest first.
@@ -80,15 +84,30 @@ pub(crate) fn text_of(octets: &[[u8; 4]]) -> Result<&str, UnpackError>
     }
 }
 
+/// Where so many octets end that begin at a place of a text; nothing where there are not so many.
+#[tactic(auto, using(crate::proofs::Parts::part, crate::proofs::Parts::rest, crate::proofs::Parts::left))]
+fn end_of(text: &str, at: usize, octets: usize) -> Option<usize>
+    requires { at ≤ length text.now }
+    ensures { MatchOption result (length (drop at text.now) < octets) (λ end. (at ≤ end) × (end ≤ length text.now)
+        × (octets ≤ length (drop at text.now)) × (slice_range text.now at end ≡ take octets (drop at text.now))
+        × (drop end text.now ≡ drop octets (drop at text.now))) }
+{
+    if octets > text.len() - at {
+        return None;
+    }
+    Some(at + octets)
+}
+
 impl<'a> Reader<'a> {
     /// A reader of a text and of words.
-    pub(crate) fn new(alloc: Global, text: &'a str, words: &'a [u32]) -> Reader<'a>
+    pub(crate) fn new(alloc: Global, text: &'a NameText, words: &'a [u32]) -> Reader<'a>
         requires { IsAscii text.now }
         ensures { result ≡ record { text = text.now; words = words.now; lists = [] } }
     {
         Reader {
             alloc,
             text,
+            at: 0,
             words,
             lists: Vec::new(alloc),
         }
@@ -113,6 +132,7 @@ impl<'a> Reader<'a> {
         Reader {
             alloc: self.alloc,
             text: self.text,
+            at: self.at,
             words: self.words,
             lists,
         }
@@ -130,24 +150,32 @@ impl<'a> Reader<'a> {
     }
 
     /// Takes a name, which stands in the text.
+    #[tactic(auto, using(crate::proofs::Parts::boundary))]
     pub(crate) fn take_lent(&mut self) -> Result<LentName<'a>, UnpackError>
         ensures { Takes (λ a. a) result self.new (packed.take_name self.old) }
     {
         let octets = self.take_word()? as usize;
-        if octets > self.text.len() {
+        let text = self.text.as_str();
+        let Some(end) = end_of(text, self.at, octets) else {
             return Err(UnpackError::Damaged);
-        }
-        let (name, text) = self.text.split_at(octets);
-        self.text = text;
+        };
+        let name = &text[self.at..end];
+        self.at = end;
         Ok(LentName { text: name })
     }
 
-    /// Takes a name.
+    /// Takes a name, which is a part of the text.
+    #[tactic(auto, using(crate::proofs::Parts::boundary))]
     pub(crate) fn take_name(&mut self) -> Result<Name, UnpackError>
         ensures { Takes (λ a. a) result self.new (packed.take_name self.old) }
     {
-        let name = self.take_lent()?;
-        Ok(Name::from_str(self.alloc, name.text)?)
+        let octets = self.take_word()? as usize;
+        let begin = self.at;
+        let Some(end) = end_of(self.text.as_str(), begin, octets) else {
+            return Err(UnpackError::Damaged);
+        };
+        self.at = end;
+        Ok(self.text.name(begin, end)?)
     }
 
     /// Takes capabilities.

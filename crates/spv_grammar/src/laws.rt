@@ -2,7 +2,7 @@
 //! is proved.
 
 ghost use Rattle.std.specs.Prelude.{◌≡◌, ℕ, List, [], ◌∷◌, Some, None, codes, true, false, filter};
-ghost use Rattle.std.specs.Prelude.{slice_get, option_map, option_and_then};
+ghost use Rattle.std.specs.Prelude.{slice_get, option_map, option_and_then, string_bytes};
 ghost use Rattle.serde_json.specs.Data.{Data, object, no_members, member, string, number, unsigned, array, item};
 ghost use Rattle.serde_json.specs.Data.{no_items};
 ghost use Rattle.spv_grammar.specs.declared.error.GrammarError.{GrammarError};
@@ -20,7 +20,8 @@ ghost use Rattle.spv_grammar.specs.Kinds.{first_kinds, number_in};
 ghost use Rattle.spv_grammar.specs.Made.{entry_from, enumerant_from, is_kept, sort_from, IsTable};
 ghost use Rattle.spv_grammar.specs.Answer.{file_breaks, tree_breaks, Gives, IsGiven};
 ghost use Rattle.spv_grammar.specs.Tree.{grammar_tree, operand_tree as tree_of_operand, value_tree};
-ghost use Rattle.spv_grammar.specs.Place.{with_key, with_step, leads_to, found_shown};
+ghost use Rattle.spv_grammar.specs.Place.{with_key, with_step, leads_to, found_shown, IsFault, Tells};
+ghost use Rattle.spv_grammar.specs.declared.place.GrammarFault.{GrammarFault};
 ghost use Rattle.spv_grammar.specs.declared.steps.Step.TheVariants.{Item};
 ghost use Rattle.spv_table.specs.Table.{has_other_parts};
 ghost use Rattle.std.specs.List.{list_all};
@@ -28,6 +29,9 @@ ghost use Rattle.spv_grammar.specs.Example.{a_kind, b_kind, a_again, once, unkno
 ghost use Rattle.spv_grammar.specs.Example.{valued, empty_tree, operand_tree, result_kind, composite, file_of_kinds};
 ghost use Rattle.spv_grammar.specs.Example.{twice_file, twice_table, dropped_one, kept_one};
 ghost use Rattle.spv_table.specs.Example.{empty_table};
+ghost use Rattle.std.specs.Prelude.{◌++◌};
+ghost use Rattle.spv_grammar.specs.Place.{BreaksNothing};
+ghost use Rattle.spv_grammar.specs.Reason.{IsReason, line_of, octet_shown, path_line};
 
 pub use spv_table::laws::capability_examples;
 
@@ -138,4 +142,33 @@ pub fn place_examples()
     ensures leads_nowhere { leads_to (Item 1 ∷ []) (array (item (string (codes "A")) no_items)) ≡ None }
     ensures shown { found_shown (Some (string (codes "A"))) ≡ codes "\"A\"" }
     ensures missing { found_shown None ≡ codes "nothing" }
+{}
+
+/// Worked examples of the lines of what a file is refused for.
+pub fn reason_examples()
+    // A line feed is told by its number, and a backslash stands alone.
+    ensures control { octet_shown 10 ≡ codes "\\x0a" }
+    ensures feed { ¬ (octet_shown 10 ≡ 10 ∷ []) }
+    ensures line { line_of (codes "at") (codes "a") ≡ codes "at: a" ++ 10 ∷ [] }
+    ensures no_line { ¬ (line_of (codes "at") (codes "a") ≡ codes "at: a") }
+    // The whole file has no path.
+    ensures path { path_line (codes "a") ≡ line_of (codes "at") (codes "a") }
+    ensures no_path { path_line [] ≡ [] }
+    // A text that breaks nothing has no lines, and no text has a line feed alone.
+    ensures unbroken { (text : List ℕ) → BreaksNothing text → IsReason text [] }
+    ensures no_reason { (text : List ℕ) → ¬ (IsReason text (10 ∷ [])) }
+{}
+
+/// Worked examples of what a text is refused for, and of what is told of it.
+pub fn fault_examples()
+    // An object without keys breaks J2: where its instructions should be there is nothing.
+    ensures fault { (f : GrammarFault) → f.code ≡ J2 → string_bytes f.path ≡ codes "instructions"
+        → string_bytes f.found ≡ codes "nothing" → IsFault (codes "{}") f }
+    // It does not break J3, and no path leads in it to a number.
+    ensures other_code { (f : GrammarFault) → f.code ≡ J3 → ¬ IsFault (codes "{}") f }
+    ensures other_found { (f : GrammarFault) → f.code ≡ J2 → string_bytes f.found ≡ codes "1"
+        → ¬ IsFault (codes "{}") f }
+    // Of a text that breaks no code nothing is told, and something of every other.
+    ensures nothing { Tells (codes "{\"instructions\":[],\"operand_kinds\":[]}") None }
+    ensures something { ¬ Tells (codes "{}") None }
 {}

@@ -10,6 +10,7 @@ mod make;
 mod numbers;
 mod place;
 mod read;
+mod reason;
 mod rules;
 mod search;
 mod shared;
@@ -18,6 +19,7 @@ mod steps;
 pub use error::GrammarError;
 pub use load::FromGrammar;
 pub use place::{GrammarFault, fault_of};
+pub use reason::grammar_reason;
 pub use spv_table::{
     Category, Entry, Enumerant, Item, Kind, Listed, Memory, Name, NameList, Pattern, Quantifier,
     Table,

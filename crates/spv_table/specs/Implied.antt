@@ -5,12 +5,11 @@ use Rattle.spv_table.specs.declared.table.Enumerant.{Enumerant}
 use Rattle.spv_table.specs.Table.{Table, Sort, kind_of, enumerant_of}
 use Rattle.spv_table.specs.Lookups.{value_named, number_named}
 
--- the enumerants of a kind; none where there is no such kind [3.31]
+-- the capabilities of a table: the enumerants of the kind named Capability, none where there is no such kind [3.31]
 abbrev pub enumerants_of : Option Sort → List Enumerant
 enumerants_of None = []
 enumerants_of (Some s) = s.enumerants
 
--- the capabilities of a table: the enumerants of the kind named Capability [3.31]
 abbrev pub capabilities_in : Table → List Enumerant
 capabilities_in G = enumerants_of (option_and_then (kind_of G) (number_named G (codes "Capability")))
 
@@ -23,13 +22,12 @@ pub record Lists (G : Table) (capability other : ℕ) : Type 0 where
   pub listed : Contains enumerant.capabilities name
   pub names : value_named (capabilities_in G) name ≡ Some other
 
--- a chain of capabilities, from the first to the last: each one lists the next [3.31]
+-- a chain of capabilities, each of which lists the next; a capability is implied if it ends a chain that begins with a
+-- declared one, which counts though the table has no such capability [3.31]
 pub data CapabilityChain (G : Table) : ℕ → ℕ → Type 0 where
   here : (a : ℕ) → CapabilityChain G a a
   step : (a b c : ℕ) → Lists G a b → CapabilityChain G b c → CapabilityChain G a c
 
--- a capability is implied if it ends a chain that begins with a declared one; a declared number counts though the table
--- has no such capability [3.31]
 pub record Implied (G : Table) (declared : List ℕ) (capability : ℕ) : Type 0 where
   pub first : ℕ
   pub declares : Contains declared first

@@ -10,11 +10,10 @@ use Rattle.spv_table.specs.Table.{Table}
 abbrev pub opcode_named : List (ℕ × Entry) → List ℕ → Option ℕ
 opcode_named entries name = option_map (λ e. e.0) (find (λ e. bytes_eq name e.1.name) entries)
 
--- the value of the first enumerant of a name [own]
+-- the value of the first enumerant of a name; the number of the kind of a name [own]
 abbrev pub value_named : List Enumerant → List ℕ → Option ℕ
 value_named es name = option_map (λ e. e.value) (find (λ e. bytes_eq name e.name) es)
 
--- the number of the kind of a name [own]
 abbrev pub number_named : Table → List ℕ → Option ℕ
 number_named G name = position (λ s. bytes_eq name s.kind.name) G.kinds
 

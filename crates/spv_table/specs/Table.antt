@@ -22,36 +22,31 @@ pub record Table : Type 0 where
   pub kinds : List Sort
   pub entries : List (ℕ × Entry)
 
--- the first element with the number [own]
+-- the first element with a number; the kind of a number, the first entry of an opcode, or enumerant of a value [own]
 abbrev pub first_with : {A : Type 0} → (A → ℕ) → ℕ → List A → Option A
 first_with number n [] = None
 first_with number n (a ∷ later) = if nat_eq (number a) n then Some a else first_with number n later
 
--- the kind of a number [own]
 abbrev pub kind_of : Table → ℕ → Option Sort
 kind_of G k = slice_get G.kinds k
 
--- the first entry with the opcode [own]
 abbrev pub entry_of : Table → ℕ → Option Entry
 entry_of G opcode = option_map (λ e. e.1) (first_with (λ e. e.0) opcode G.entries)
 
--- the first enumerant with the value [own]
 abbrev pub enumerant_of : List Enumerant → ℕ → Option Enumerant
 enumerant_of es value = first_with (λ e. e.value) value es
 
--- an item of a pattern: a kind that comes once, at most once (`?`), or any number of times (`*`) [own]
+-- an item of a pattern: a kind once, at most once (`?`), or any number of times (`*`); the pattern of an entry [own]
 pub data Item : Type 0 where
   One : ℕ → Item
   Maybe : ℕ → Item
   Many : ℕ → Item
 
--- an item of a quantifier and a kind [own]
 abbrev pub quantified : Quantifier → ℕ → Item
 quantified quantifier.One k = One k
 quantified quantifier.Maybe k = Maybe k
 quantified quantifier.Many k = Many k
 
--- the pattern of an entry [own]
 abbrev pub pattern_of : Entry → List Item
 pattern_of e = map (λ i. quantified i.quantifier i.kind) e.operands
 

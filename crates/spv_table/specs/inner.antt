@@ -1,6 +1,7 @@
 -- Definitions that serve the code alone.
 pub mod Form
 pub mod Joined
+pub mod Name
 pub mod Named
 pub mod Pattern
 pub mod Reached

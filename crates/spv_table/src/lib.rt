@@ -6,6 +6,7 @@ mod form;
 mod implied;
 pub mod laws;
 mod listed;
+mod name;
 mod named;
 mod pattern;
 mod places;
@@ -15,7 +16,8 @@ mod table;
 
 pub use error::Memory;
 pub use form::{Form, Leaf, form_in};
-pub use listed::{Listed, Name, NameList};
+pub use listed::{Listed, NameList};
+pub use name::{Name, NameText};
 pub use named::{Named, Names};
 pub use pattern::Pattern;
 pub use sort::Sort;

@@ -6,7 +6,8 @@ ghost use Rattle.spv_table.specs.inner.Form.{form_of};
 ghost use Rattle.spv_table.specs.inner.Results.{entry_has_result};
 
 use crate::form::{Form, forms_of};
-use crate::listed::{Listed, Name, NameList};
+use crate::listed::{Listed, NameList};
+use crate::name::Name;
 use crate::named::{Named, Names};
 use crate::pattern::Pattern;
 use crate::places::widen;
