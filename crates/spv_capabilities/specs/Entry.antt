@@ -8,21 +8,18 @@ use Rattle.spv_layout.specs.Place.{IsDefinition}
 use Rattle.spv_ids.specs.Definition.{IsDefinedAt}
 use Rattle.spv_ids.specs.Order.{HasOpcode}
 
--- the id of the function that an OpFunctionCall calls: %x = OpFunctionCall %r %f .. [3.49.9]
+-- the function that is called, %x = OpFunctionCall %r %f .., or entered, OpEntryPoint model %f .. [3.49.9, 3.49.5]
 abbrev pub third_id : List Plain → Option ℕ
 third_id (OfType r ∷ Result x ∷ Id f ∷ os) = Some f
 third_id _ = None
 
--- the function that an OpFunctionCall calls [3.49.9]
 abbrev pub called_by : PlainInst → Option ℕ
 called_by i = if nat_eq i.opcode opcode.FUNCTION_CALL then third_id i.operands else None
 
--- the id of the function of an OpEntryPoint: OpEntryPoint model %f .. [3.49.5]
 abbrev pub second_id : List Plain → Option ℕ
 second_id (Value k m ∷ Id f ∷ os) = Some f
 second_id _ = None
 
--- the function that an OpEntryPoint names [3.49.5]
 abbrev pub entered_by : PlainInst → Option ℕ
 entered_by i = if nat_eq i.opcode opcode.ENTRY_POINT then second_id i.operands else None
 
@@ -33,7 +30,6 @@ linked_id (Some l) (Id f ∷ Value k d ∷ Text t ∷ Value j v ∷ os) = if nat
     then Some f else None
 linked_id _ _ = None
 
--- the id that an OpDecorate gives that linkage [3.49.3]
 abbrev pub imported_by : Option ℕ → PlainInst → Option ℕ
 imported_by l i = if nat_eq i.opcode opcode.DECORATE then linked_id l i.operands else None
 
@@ -66,12 +62,11 @@ pub record IsKernelFunction (is : List PlainInst) (x : ℕ) : Type 0 where
   pub uncalled : ¬ (IsNamed called_by is function)
 
 -- E2 at an OpEntryPoint: the execution model is Kernel (6), and the id is that of a function that may be an entry
--- point. [3.49.5]
+-- point; at an OpExecutionMode: some OpEntryPoint names its function. [3.49.5]
 abbrev pub IsSoundEntry : List PlainInst → List Plain → Type 0
 IsSoundEntry is (Value k m ∷ Id x ∷ os) = (m ≡ 6) × IsKernelFunction is x
 IsSoundEntry is _ = ⊥
 
--- E2 at an OpExecutionMode: some OpEntryPoint names its function. [3.49.5]
 abbrev pub IsSoundMode : List PlainInst → List Plain → Type 0
 IsSoundMode is (Id x ∷ os) = (f : ℕ) × IsDefinedAt is x f × IsNamed entered_by is f
 IsSoundMode is _ = ⊥

@@ -14,7 +14,8 @@ use Rattle.spv_layout.specs.declared.form.Role.TheVariants as role
 use Rattle.spv_layout.specs.declared.form.Form.{Form}
 use Rattle.spv_layout.specs.declared.form.Form.TheVariants as form
 use Rattle.spv_layout.specs.Class.{is_among}
-use Rattle.spv_layout.specs.Row.{PlainRow, RowEnding, closed, maybe, file_and_text, repeated, others, maybe_others, row, row_in}
+use Rattle.spv_layout.specs.Row.{PlainRow, RowEnding, closed, maybe, file_and_text, repeated, others, maybe_others, row_in}
+use Rattle.spv_layout.specs.inner.Row.{row}
 use Rattle.spv_layout.specs.Rows.{rows, row_of, class_of, class_in}
 use Rattle.spv_layout.specs.Layout.{classes}
 use Rattle.spv_layout.specs.Place.{IsAt}

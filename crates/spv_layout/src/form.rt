@@ -73,6 +73,23 @@ pub enum Ending {
     MaybeOthers(Form),
 }
 
+/// What may come after the fixed operands of a line of the table of shapes.
+#[derive(Clone, Copy)]
+pub enum After {
+    /// Nothing.
+    Closed,
+    /// One operand, or nothing.
+    Maybe,
+    /// A file, or nothing; and then a text, or nothing.
+    FileAndText,
+    /// The operands that the line names, in turn, any number of times.
+    Repeated,
+    /// Any number of operands other than a result type or a result.
+    Others,
+    /// One operand and any number of such others, or nothing.
+    MaybeOthers,
+}
+
 /// A row of the table of shapes.
 #[derive(Clone, Copy)]
 pub struct Row {

@@ -5,10 +5,10 @@ ghost use Rattle.spv_layout.specs.Place.{section_of};
 ghost use Rattle.spv_layout.specs.Rows.{row_of};
 
 use crate::class::Class;
-use crate::form::{Ending, Form, Named, Role, Row};
+use crate::form::{After, Ending, Form, Named, Role, Row};
 use spv_module::opcode;
 
-/// The form that a letter stands for, as in the definitions.
+/// The form that a letter of the table stands for.
 macro_rules! form {
     (T) => { Form::OfType };
     (R) => { Form::Result };
@@ -78,7 +78,148 @@ macro_rules! last {
     ($from:ident $to:ident) => { opcode::$to };
 }
 
-/// Rows, a line each: an opcode, or the first and the last, the class, the fixed operands and the ending.
+/// The table of shapes (SPIR-V Specification 1.6, section 3.49), a row a line: an opcode, or the first and the last,
+/// the class in the layout, the operands in order, and what may come after them. Of operands T is a result type, R a
+/// result, W a literal of one word, N one whose width its type tells, S a text, `kind` a value or mask of the kind
+/// named; an id is t of a type, v of a value, f of a function, s of an OpString, e of an OpExtInstImport, l of a label,
+/// g of a variable outside functions, a in any role, and x one of which nothing is asked. What may come after is of
+/// `After`.
+macro_rules! table {
+    ($what:ident) => {
+        $what! {
+            NOP: Body [] closed;
+            UNDEF: Undef [T, R] closed;
+            SOURCE_CONTINUED: Source [S] closed;
+            SOURCE: Source [kind SourceLanguage, W] file_and_text;
+            SOURCE_EXTENSION: Source [S] closed;
+            NAME: Name [a, S] closed;
+            MEMBER_NAME: Name [a, W, S] closed;
+            STRING: Source [R, S] closed;
+            LINE: Line [s, W, W] closed;
+            EXTENSION: Extension [S] closed;
+            EXT_INST_IMPORT: Import [R, S] closed;
+            EXT_INST: Body [T, R, e, W] repeated[x];
+            MEMORY_MODEL: MemoryModel [kind AddressingModel, kind MemoryModel] closed;
+            ENTRY_POINT: EntryPoint [kind ExecutionModel, f, S] repeated[g];
+            EXECUTION_MODE: ExecutionMode [f, kind ExecutionMode] others;
+            CAPABILITY: Capability [kind Capability] closed;
+            TYPE_VOID to TYPE_BOOL: Declaration [R] closed;
+            TYPE_INT: Declaration [R, W, W] closed;
+            TYPE_FLOAT: Declaration [R, W] closed;
+            TYPE_VECTOR: Declaration [R, t, W] closed;
+            TYPE_ARRAY: Declaration [R, t, v] closed;
+            TYPE_STRUCT: Declaration [R] repeated[t];
+            TYPE_OPAQUE: Declaration [R, S] closed;
+            TYPE_POINTER: Declaration [R, kind StorageClass, t] closed;
+            TYPE_FUNCTION: Declaration [R, t] repeated[t];
+            TYPE_FORWARD_POINTER: Declaration [t, kind StorageClass] closed;
+            CONSTANT_TRUE to CONSTANT_FALSE: Declaration [T, R] closed;
+            CONSTANT: Declaration [T, R, N] closed;
+            CONSTANT_COMPOSITE: Declaration [T, R] repeated[v];
+            CONSTANT_NULL: Declaration [T, R] closed;
+            SPEC_CONSTANT_TRUE to SPEC_CONSTANT_FALSE: Declaration [T, R] closed;
+            SPEC_CONSTANT: Declaration [T, R, N] closed;
+            SPEC_CONSTANT_COMPOSITE: Declaration [T, R] repeated[v];
+            FUNCTION: Function [T, R, kind FunctionControl, t] closed;
+            FUNCTION_PARAMETER: Parameter [T, R] closed;
+            FUNCTION_END: FunctionEnd [] closed;
+            FUNCTION_CALL: Body [T, R, f] repeated[v];
+            VARIABLE: Variable [T, R, kind StorageClass] maybe[v];
+            LOAD: Body [T, R, v] maybe_others[kind MemoryAccess];
+            STORE to COPY_MEMORY: Body [v, v] maybe_others[kind MemoryAccess];
+            COPY_MEMORY_SIZED: Body [v, v, v] maybe_others[kind MemoryAccess];
+            ACCESS_CHAIN to IN_BOUNDS_ACCESS_CHAIN: Body [T, R, v] repeated[v];
+            PTR_ACCESS_CHAIN: Body [T, R, v, v] repeated[v];
+            IN_BOUNDS_PTR_ACCESS_CHAIN: Body [T, R, v, v] repeated[v];
+            DECORATE: Decoration [a, kind Decoration] others;
+            MEMBER_DECORATE: Decoration [a, W, kind Decoration] others;
+            VECTOR_EXTRACT_DYNAMIC: Body [T, R, v, v] closed;
+            VECTOR_INSERT_DYNAMIC: Body [T, R, v, v, v] closed;
+            VECTOR_SHUFFLE: Body [T, R, v, v] repeated[W];
+            COMPOSITE_CONSTRUCT: Body [T, R] repeated[v];
+            COMPOSITE_EXTRACT: Body [T, R, v] repeated[W];
+            COMPOSITE_INSERT: Body [T, R, v, v] repeated[W];
+            COPY_OBJECT: Body [T, R, v] closed;
+            CONVERT_F_TO_U to CONVERT_U_TO_F: Body [T, R, v] closed;
+            U_CONVERT to F_CONVERT: Body [T, R, v] closed;
+            CONVERT_PTR_TO_U: Body [T, R, v] closed;
+            CONVERT_U_TO_PTR: Body [T, R, v] closed;
+            PTR_CAST_TO_GENERIC to GENERIC_CAST_TO_PTR: Body [T, R, v] closed;
+            BITCAST: Body [T, R, v] closed;
+            S_NEGATE to F_NEGATE: Body [T, R, v] closed;
+            I_ADD to F_DIV: Body [T, R, v, v] closed;
+            U_MOD to F_MOD: Body [T, R, v, v] closed;
+            LOGICAL_EQUAL to LOGICAL_AND: Body [T, R, v, v] closed;
+            LOGICAL_NOT: Body [T, R, v] closed;
+            SELECT: Body [T, R, v, v, v] closed;
+            I_EQUAL to S_LESS_THAN_EQUAL: Body [T, R, v, v] closed;
+            F_ORD_EQUAL to F_UNORD_GREATER_THAN_EQUAL: Body [T, R, v, v] closed;
+            SHIFT_RIGHT_LOGICAL to SHIFT_LEFT_LOGICAL: Body [T, R, v, v] closed;
+            BITWISE_OR to BITWISE_AND: Body [T, R, v, v] closed;
+            NOT: Body [T, R, v] closed;
+            CONTROL_BARRIER: Body [v, v, v] closed;
+            MEMORY_BARRIER: Body [v, v] closed;
+            ATOMIC_LOAD: Body [T, R, v, v, v] closed;
+            ATOMIC_STORE: Body [v, v, v, v] closed;
+            ATOMIC_EXCHANGE: Body [T, R, v, v, v, v] closed;
+            ATOMIC_COMPARE_EXCHANGE: Body [T, R, v, v, v, v, v, v] closed;
+            ATOMIC_I_INCREMENT to ATOMIC_I_DECREMENT: Body [T, R, v, v, v] closed;
+            ATOMIC_I_ADD to ATOMIC_U_MAX: Body [T, R, v, v, v, v] closed;
+            ATOMIC_AND to ATOMIC_XOR: Body [T, R, v, v, v, v] closed;
+            PHI: Phi [T, R] repeated[v, l];
+            LOOP_MERGE: LoopMerge [l, l, kind LoopControl] others;
+            SELECTION_MERGE: SelectionMerge [l, kind SelectionControl] closed;
+            LABEL: Label [R] closed;
+            BRANCH: Branch [l] closed;
+            BRANCH_CONDITIONAL: BranchConditional [v, l, l] repeated[W];
+            SWITCH: Switch [v, l] repeated[N, l];
+            RETURN: Return [] closed;
+            RETURN_VALUE: Return [v] closed;
+            UNREACHABLE: Return [] closed;
+            LIFETIME_START to LIFETIME_STOP: Body [v, W] closed;
+            NO_LINE: Line [] closed;
+            MODULE_PROCESSED: Processed [S] closed;
+        }
+    };
+}
+
+/// What may come after the fixed operands, as a definition reads it.
+macro_rules! after {
+    (closed) => { After::Closed };
+    (maybe $($form:ident)+) => { After::Maybe };
+    (file_and_text) => { After::FileAndText };
+    (repeated $($form:ident),+) => { After::Repeated };
+    (others) => { After::Others };
+    (maybe_others $($form:ident)+) => { After::MaybeOthers };
+}
+
+/// The operands that it names.
+macro_rules! forms_after {
+    (closed) => { [] };
+    (maybe $($form:ident)+) => { [form!($($form)+)] };
+    (file_and_text) => { [] };
+    (repeated $($form:ident),+) => { [$(form!($form)),+] };
+    (others) => { [] };
+    (maybe_others $($form:ident)+) => { [form!($($form)+)] };
+}
+
+/// The lines of the table as definitions read them.
+macro_rules! lines {
+    ($(
+        $from:ident $(to $to:ident)?: $class:ident [$($($form:ident)+),*] $ending:ident $([$($after:tt)+])?;
+    )+) => {
+        [$((
+            opcode::$from,
+            last!($from $($to)?),
+            Class::$class,
+            &[$(form!($($form)+)),*],
+            after!($ending $($($after)+)?),
+            &forms_after!($ending $($($after)+)?),
+        )),+]
+    };
+}
+
+/// The rows of the table, as the code reads them.
 macro_rules! rows {
     ($(
         $from:ident $(to $to:ident)?: $class:ident [$($($form:ident)+),*] $ending:ident $([$($after:tt)+])?;
@@ -96,100 +237,15 @@ macro_rules! rows {
     };
 }
 
-static ROWS: [Row; 92] = rows! {
-    NOP: Body [] closed;
-    UNDEF: Undef [T, R] closed;
-    SOURCE_CONTINUED: Source [S] closed;
-    SOURCE: Source [kind SourceLanguage, W] file_and_text;
-    SOURCE_EXTENSION: Source [S] closed;
-    NAME: Name [a, S] closed;
-    MEMBER_NAME: Name [a, W, S] closed;
-    STRING: Source [R, S] closed;
-    LINE: Line [s, W, W] closed;
-    EXTENSION: Extension [S] closed;
-    EXT_INST_IMPORT: Import [R, S] closed;
-    EXT_INST: Body [T, R, e, W] repeated[x];
-    MEMORY_MODEL: MemoryModel [kind AddressingModel, kind MemoryModel] closed;
-    ENTRY_POINT: EntryPoint [kind ExecutionModel, f, S] repeated[g];
-    EXECUTION_MODE: ExecutionMode [f, kind ExecutionMode] others;
-    CAPABILITY: Capability [kind Capability] closed;
-    TYPE_VOID to TYPE_BOOL: Declaration [R] closed;
-    TYPE_INT: Declaration [R, W, W] closed;
-    TYPE_FLOAT: Declaration [R, W] closed;
-    TYPE_VECTOR: Declaration [R, t, W] closed;
-    TYPE_ARRAY: Declaration [R, t, v] closed;
-    TYPE_STRUCT: Declaration [R] repeated[t];
-    TYPE_OPAQUE: Declaration [R, S] closed;
-    TYPE_POINTER: Declaration [R, kind StorageClass, t] closed;
-    TYPE_FUNCTION: Declaration [R, t] repeated[t];
-    TYPE_FORWARD_POINTER: Declaration [t, kind StorageClass] closed;
-    CONSTANT_TRUE to CONSTANT_FALSE: Declaration [T, R] closed;
-    CONSTANT: Declaration [T, R, N] closed;
-    CONSTANT_COMPOSITE: Declaration [T, R] repeated[v];
-    CONSTANT_NULL: Declaration [T, R] closed;
-    SPEC_CONSTANT_TRUE to SPEC_CONSTANT_FALSE: Declaration [T, R] closed;
-    SPEC_CONSTANT: Declaration [T, R, N] closed;
-    SPEC_CONSTANT_COMPOSITE: Declaration [T, R] repeated[v];
-    FUNCTION: Function [T, R, kind FunctionControl, t] closed;
-    FUNCTION_PARAMETER: Parameter [T, R] closed;
-    FUNCTION_END: FunctionEnd [] closed;
-    FUNCTION_CALL: Body [T, R, f] repeated[v];
-    VARIABLE: Variable [T, R, kind StorageClass] maybe[v];
-    LOAD: Body [T, R, v] maybe_others[kind MemoryAccess];
-    STORE to COPY_MEMORY: Body [v, v] maybe_others[kind MemoryAccess];
-    COPY_MEMORY_SIZED: Body [v, v, v] maybe_others[kind MemoryAccess];
-    ACCESS_CHAIN to IN_BOUNDS_ACCESS_CHAIN: Body [T, R, v] repeated[v];
-    PTR_ACCESS_CHAIN: Body [T, R, v, v] repeated[v];
-    IN_BOUNDS_PTR_ACCESS_CHAIN: Body [T, R, v, v] repeated[v];
-    DECORATE: Decoration [a, kind Decoration] others;
-    MEMBER_DECORATE: Decoration [a, W, kind Decoration] others;
-    VECTOR_EXTRACT_DYNAMIC: Body [T, R, v, v] closed;
-    VECTOR_INSERT_DYNAMIC: Body [T, R, v, v, v] closed;
-    VECTOR_SHUFFLE: Body [T, R, v, v] repeated[W];
-    COMPOSITE_CONSTRUCT: Body [T, R] repeated[v];
-    COMPOSITE_EXTRACT: Body [T, R, v] repeated[W];
-    COMPOSITE_INSERT: Body [T, R, v, v] repeated[W];
-    COPY_OBJECT: Body [T, R, v] closed;
-    CONVERT_F_TO_U to CONVERT_U_TO_F: Body [T, R, v] closed;
-    U_CONVERT to F_CONVERT: Body [T, R, v] closed;
-    CONVERT_PTR_TO_U: Body [T, R, v] closed;
-    CONVERT_U_TO_PTR: Body [T, R, v] closed;
-    PTR_CAST_TO_GENERIC to GENERIC_CAST_TO_PTR: Body [T, R, v] closed;
-    BITCAST: Body [T, R, v] closed;
-    S_NEGATE to F_NEGATE: Body [T, R, v] closed;
-    I_ADD to F_DIV: Body [T, R, v, v] closed;
-    U_MOD to F_MOD: Body [T, R, v, v] closed;
-    LOGICAL_EQUAL to LOGICAL_AND: Body [T, R, v, v] closed;
-    LOGICAL_NOT: Body [T, R, v] closed;
-    SELECT: Body [T, R, v, v, v] closed;
-    I_EQUAL to S_LESS_THAN_EQUAL: Body [T, R, v, v] closed;
-    F_ORD_EQUAL to F_UNORD_GREATER_THAN_EQUAL: Body [T, R, v, v] closed;
-    SHIFT_RIGHT_LOGICAL to SHIFT_LEFT_LOGICAL: Body [T, R, v, v] closed;
-    BITWISE_OR to BITWISE_AND: Body [T, R, v, v] closed;
-    NOT: Body [T, R, v] closed;
-    CONTROL_BARRIER: Body [v, v, v] closed;
-    MEMORY_BARRIER: Body [v, v] closed;
-    ATOMIC_LOAD: Body [T, R, v, v, v] closed;
-    ATOMIC_STORE: Body [v, v, v, v] closed;
-    ATOMIC_EXCHANGE: Body [T, R, v, v, v, v] closed;
-    ATOMIC_COMPARE_EXCHANGE: Body [T, R, v, v, v, v, v, v] closed;
-    ATOMIC_I_INCREMENT to ATOMIC_I_DECREMENT: Body [T, R, v, v, v] closed;
-    ATOMIC_I_ADD to ATOMIC_U_MAX: Body [T, R, v, v, v, v] closed;
-    ATOMIC_AND to ATOMIC_XOR: Body [T, R, v, v, v, v] closed;
-    PHI: Phi [T, R] repeated[v, l];
-    LOOP_MERGE: LoopMerge [l, l, kind LoopControl] others;
-    SELECTION_MERGE: SelectionMerge [l, kind SelectionControl] closed;
-    LABEL: Label [R] closed;
-    BRANCH: Branch [l] closed;
-    BRANCH_CONDITIONAL: BranchConditional [v, l, l] repeated[W];
-    SWITCH: Switch [v, l] repeated[N, l];
-    RETURN: Return [] closed;
-    RETURN_VALUE: Return [v] closed;
-    UNREACHABLE: Return [] closed;
-    LIFETIME_START to LIFETIME_STOP: Body [v, W] closed;
-    NO_LINE: Line [] closed;
-    MODULE_PROCESSED: Processed [S] closed;
-};
+/// A line of the table as definitions read it: the first and the last opcode, the class, the fixed operands, and what
+/// may come after them, with the operands that this names.
+pub type Line = (u16, u16, Class, &'static [Form], After, &'static [Form]);
+
+/// The table as definitions read it.
+pub static TABLE: [Line; 92] = table!(lines);
+
+/// The table as the code reads it.
+static ROWS: [Row; 92] = table!(rows);
 
 /// For each opcode up to the last one the number of its row, or 255 where it has none. Written by
 /// `tests/rows-of-opcodes`.

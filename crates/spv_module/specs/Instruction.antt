@@ -19,14 +19,11 @@ pub record IsInstruction (G : Table) (before : List PlainInst) (i : PlainInst) (
   pub known : entry_of G i.opcode ≡ Some entry
   pub matches : Match G (start before i.opcode) (pattern_of entry) i.operands further
 
--- After the instructions before, the words are the joined spellings of the list, each under the context of those before
--- it. [2.3]
+-- The words are the joined spellings of the list, each under the context of the instructions before it. [2.3]
 pub data Listing (G : Table) : List PlainInst → List PlainInst → List ℕ → Type 0 where
   end : (before : List PlainInst) → Listing G before [] []
   more : (before : List PlainInst) (i : PlainInst) (is : List PlainInst) (ws vs : List ℕ)
-      → IsInstruction G before i ws → Listing G (before ++ (i ∷ [])) is vs
-      → Listing G before (i ∷ is) (ws ++ vs)
+      → IsInstruction G before i ws → Listing G (before ++ (i ∷ [])) is vs → Listing G before (i ∷ is) (ws ++ vs)
 
--- The words from word 5 on are the joined spellings of the list. [2.3]
 abbrev pub IsListing : Table → List PlainInst → List ℕ → Type 0
 IsListing G is words = Listing G [] is words

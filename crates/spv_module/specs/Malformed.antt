@@ -22,8 +22,7 @@ pub data IsMalformed (G : Table) (before : List PlainInst) : List ℕ → Rule �
       → IsMalformed G before (first_word opcode us ∷ (us ++ vs)) I3 0
   -- its further words do not fit its pattern
   misfit : (opcode : ℕ) (us vs : List ℕ) (entry : Entry) (code : Rule) (n : ℕ) → opcode < 65536
-      → entry_of G opcode ≡ Some entry
-      → Misfit G (start before opcode) (pattern_of entry) us code n
+      → entry_of G opcode ≡ Some entry → Misfit G (start before opcode) (pattern_of entry) us code n
       → IsMalformed G before (first_word opcode us ∷ (us ++ vs)) code (1 + n)
 
 -- After the instructions before, some list's joined spellings begin the words, and the instruction after it is
@@ -35,7 +34,6 @@ pub data FailsAt (G : Table) : List PlainInst → List ℕ → Rule → ℕ → 
       → IsInstruction G before i ws → FailsAt G (before ++ (i ∷ [])) vs code k n
       → FailsAt G before (ws ++ vs) code (suc k) (length ws + n)
 
--- Of the words from word 5 on, the instruction of that number is malformed, with the code, at the word of that number.
--- [2.3]
+-- Of the words from word 5 on, that instruction is malformed, with the code, at the word of that number. [2.3]
 abbrev pub IsMalformedAt : Table → List ℕ → Rule → ℕ → ℕ → Type 0
 IsMalformedAt G words code k n = FailsAt G [] words code k n

@@ -27,8 +27,7 @@ pub data ShapeRefuses : Shape → List ℕ → Rule → ℕ → Type 0 where
   unknown_bit : (es : List Enumerant) (x : ℕ) (us : List ℕ) → mask_parameters es x ≡ None
       → ShapeRefuses (AsMask es) (x ∷ us) I7 0
   -- no zero octet
-  endless : (u : ℕ) (us : List ℕ) → AllByRecursion (λ b. b ≢ 0) (octets_of (u ∷ us))
-      → ShapeRefuses AsText (u ∷ us) I8 0
+  endless : (u : ℕ) (us : List ℕ) → AllByRecursion (λ b. b ≢ 0) (octets_of (u ∷ us)) → ShapeRefuses AsText (u ∷ us) I8 0
   -- octets other than zero after the zero octet: at the string's last word
   padded : (t ws padding us : List ℕ) (n : ℕ) → HoldsText ws t padding → ¬ (AreZeros padding)
       → length ws ≡ n + 1 → ShapeRefuses AsText (ws ++ us) I9 n
@@ -46,8 +45,7 @@ mutual
     here : (c : Context) (s : Slot) (us : List ℕ) (code : Rule) (n : ℕ) → ShapeRefuses (shape_of G c s) us code n
         → Stops G c s us code n
     in_parameters : (c : Context) (s : Slot) (o : Plain) (ws : List ℕ) (ss : List Slot) (us : List ℕ) (code : Rule)
-        (n : ℕ)
-        → Takes s.kind (shape_of G c s) o ws ss → StopsAll G (and_then c o) ss us code n
+        (n : ℕ) → Takes s.kind (shape_of G c s) o ws ss → StopsAll G (and_then c o) ss us code n
         → Stops G c s (ws ++ us) code (length ws + n)
     in_parts : (c : Context) (s : Slot) (ss : List Slot) (us : List ℕ) (code : Rule) (n : ℕ)
         → shape_of G c s ≡ AsParts ss → StopsAll G c ss us code n → Stops G c s us code n
@@ -74,16 +72,14 @@ pub data Misfit (G : Table) : Context → List Item → List ℕ → Rule → �
   maybe : (c : Context) (k : ℕ) (is : List Item) (u : ℕ) (us : List ℕ) (code : Rule) (n : ℕ)
       → Stops G c (alone k) (u ∷ us) code n → Misfit G c (Maybe k ∷ is) (u ∷ us) code n
   after_maybe : (c : Context) (k : ℕ) (is : List Item) (os : List Plain) (us vs : List ℕ) (code : Rule) (n : ℕ)
-      → us ++ vs ≢ []
-      → Spells G c (alone k) os us → Misfit G (after c os) is vs code n
+      → us ++ vs ≢ [] → Spells G c (alone k) os us → Misfit G (after c os) is vs code n
       → Misfit G c (Maybe k ∷ is) (us ++ vs) code (length us + n)
   no_many : (c : Context) (k : ℕ) (is : List Item) (code : Rule) (n : ℕ)
       → Misfit G c is [] code n → Misfit G c (Many k ∷ is) [] code n
   many : (c : Context) (k : ℕ) (is : List Item) (u : ℕ) (us : List ℕ) (code : Rule) (n : ℕ)
       → Stops G c (alone k) (u ∷ us) code n → Misfit G c (Many k ∷ is) (u ∷ us) code n
   after_many : (c : Context) (k : ℕ) (is : List Item) (os : List Plain) (us vs : List ℕ) (code : Rule) (n : ℕ)
-      → us ++ vs ≢ []
-      → Spells G c (alone k) os us → Misfit G (after c os) (Many k ∷ is) vs code n
+      → us ++ vs ≢ [] → Spells G c (alone k) os us → Misfit G (after c os) (Many k ∷ is) vs code n
       → Misfit G c (Many k ∷ is) (us ++ vs) code (length us + n)
 
 -- A shape takes words at the front of those left of the instruction, or refuses these.

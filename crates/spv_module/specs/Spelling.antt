@@ -15,43 +15,38 @@ abbrev pub octets_of : List ℕ → List ℕ
 octets_of [] = []
 octets_of (w ∷ ws) = (w % 256) ∷ (w / 256 % 256) ∷ (w / 65536 % 256) ∷ (w / 16777216 % 256) ∷ octets_of ws
 
--- The words' octets are those of a text without a zero octet, a zero octet, and up to three octets more, the padding.
--- [2.2.1]
+-- The words' octets are those of a text without a zero octet, a zero octet, and up to three octets more, the padding;
+-- all octets are zero. [2.2.1]
 pub record HoldsText (ws t padding : List ℕ) : Type 0 where
   pub words : AllByRecursion (λ w. w < 4294967296) ws
   pub octets : octets_of ws ≡ t ++ (0 ∷ padding)
   pub no_zero : AllByRecursion (λ b. b ≢ 0) t
   pub short : length padding < 4
 
--- all octets are zero [2.2.1]
 abbrev pub AreZeros : List ℕ → Type 0
 AreZeros padding = AllByRecursion (λ b. b ≡ 0) padding
 
--- the numbers of one bit, from the bit `b` up, `n` of them [own]
+-- the numbers of one bit, from the bit `b` up, `n` of them; the set bits of a word, the smaller first [own]
 abbrev pub bits_from : ℕ → ℕ → List ℕ
 bits_from zero b = []
 bits_from (suc n) b = b ∷ bits_from n (2 * b)
 
--- the set bits of a word, the smaller first [own]
 abbrev pub set_bits : ℕ → List ℕ
 set_bits x = filter (λ b. nat_eq (x / b % 2) 1) (bits_from 32 1)
 
--- the parameters, if there is an enumerant [2.3]
+-- the parameters of an enumerant, if there is one; of bits, if each has one; of a mask's bits, smaller first [2.3]
 abbrev pub parameters_of : List Enumerant → ℕ → Option (List ℕ)
 parameters_of es x = option_map (λ e. e.parameters) (enumerant_of es x)
 
--- the parameters of the bits in order, if each bit has an enumerant [2.3]
 abbrev pub parameters_of_all : List Enumerant → List ℕ → Option (List ℕ)
 parameters_of_all es [] = Some []
 parameters_of_all es (b ∷ bs) =
     option_and_then (λ ks. option_map (λ js. ks ++ js) (parameters_of_all es bs)) (parameters_of es b)
 
--- the parameters of the set bits, the smaller bit first [2.3]
 unfoldable pub mask_parameters : List Enumerant → ℕ → Option (List ℕ)
 mask_parameters es x = parameters_of_all es (set_bits x)
 
--- A kind of number `k` and that shape takes one operand, of the words; the kinds of its parameters are due after it.
--- [2.3]
+-- A kind `k` of that shape takes one operand, of the words; the kinds of its parameters are due after it. [2.3]
 pub data Takes (k : ℕ) : Shape → Plain → List ℕ → List Slot → Type 0 where
   result_type : (x : ℕ) → Takes k AsType (OfType x) (x ∷ []) []
   result : (x : ℕ) → Takes k AsResult (Result x) (x ∷ []) []
@@ -59,8 +54,7 @@ pub data Takes (k : ℕ) : Shape → Plain → List ℕ → List Slot → Type 0
   word : (x : ℕ) → Takes k AsWord (Word x) (x ∷ []) []
   narrow : (w x : ℕ) → w ≤ 32 → Takes k (AsNumber (Some w)) (Number x 0 1) (x ∷ []) []
   wide : (w low high : ℕ) → 32 < w → Takes k (AsNumber (Some w)) (Number low high 2) (low ∷ high ∷ []) []
-  text : (t ws padding : List ℕ) → HoldsText ws t padding → AreZeros padding → IsUtf8 t
-      → Takes k AsText (Text t) ws []
+  text : (t ws padding : List ℕ) → HoldsText ws t padding → AreZeros padding → IsUtf8 t → Takes k AsText (Text t) ws []
   value : (es : List Enumerant) (x : ℕ) (ks : List ℕ) → parameters_of es x ≡ Some ks
       → Takes k (AsValue es) (Value k x) (x ∷ []) (map alone ks)
   mask : (es : List Enumerant) (x : ℕ) (ks : List ℕ) → mask_parameters es x ≡ Some ks
@@ -71,8 +65,7 @@ mutual
   -- bases. [2.3]
   pub data Spells (G : Table) : Context → Slot → List Plain → List ℕ → Type 0 where
     operand : (c : Context) (s : Slot) (o : Plain) (ws : List ℕ) (ss : List Slot) (os : List Plain) (us : List ℕ)
-        → Takes s.kind (shape_of G c s) o ws ss → SpellsAll G (and_then c o) ss os us
-        → Spells G c s (o ∷ os) (ws ++ us)
+        → Takes s.kind (shape_of G c s) o ws ss → SpellsAll G (and_then c o) ss os us → Spells G c s (o ∷ os) (ws ++ us)
     parts : (c : Context) (s : Slot) (ss : List Slot) (os : List Plain) (us : List ℕ)
         → shape_of G c s ≡ AsParts ss → SpellsAll G c ss os us → Spells G c s os us
 
@@ -86,13 +79,11 @@ mutual
 pub data Match (G : Table) : Context → List Item → List Plain → List ℕ → Type 0 where
   nothing : (c : Context) → Match G c [] [] []
   one : (c : Context) (k : ℕ) (is : List Item) (os ps : List Plain) (us vs : List ℕ)
-      → Spells G c (alone k) os us → Match G (after c os) is ps vs
-      → Match G c (One k ∷ is) (os ++ ps) (us ++ vs)
+      → Spells G c (alone k) os us → Match G (after c os) is ps vs → Match G c (One k ∷ is) (os ++ ps) (us ++ vs)
   no_maybe : (c : Context) (k : ℕ) (is : List Item) (os : List Plain)
       → Match G c is os [] → Match G c (Maybe k ∷ is) os []
   maybe : (c : Context) (k : ℕ) (is : List Item) (os ps : List Plain) (us vs : List ℕ) → us ++ vs ≢ []
-      → Spells G c (alone k) os us → Match G (after c os) is ps vs
-      → Match G c (Maybe k ∷ is) (os ++ ps) (us ++ vs)
+      → Spells G c (alone k) os us → Match G (after c os) is ps vs → Match G c (Maybe k ∷ is) (os ++ ps) (us ++ vs)
   no_many : (c : Context) (k : ℕ) (is : List Item) (os : List Plain)
       → Match G c is os [] → Match G c (Many k ∷ is) os []
   many : (c : Context) (k : ℕ) (is : List Item) (os ps : List Plain) (us vs : List ℕ) → us ++ vs ≢ []

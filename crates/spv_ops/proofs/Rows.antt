@@ -5,12 +5,14 @@ use Rattle.std.proofs.lemmas.Bool.{cases_lt, ltb-true, lt-leb}
 use Rattle.std.proofs.lemmas.Option.{slice_get_past, none-some}
 use Rattle.spv_ops.specs.declared.row.Row.{Row}
 use Rattle.spv_ops.specs.declared.row.Row.TheVariants.{Free}
-use Rattle.spv_ops.specs.Row.{Entry, rows, row_in, row_of}
+use Rattle.spv_ops.specs.declared.row.Entry.{Entry}
+use Rattle.spv_ops.specs.declared.row.TheConstants.{TABLE, NUMBERS}
+use Rattle.spv_ops.specs.Row.{row_in, row_of}
 use Rattle.spv_ops.specs.inner.Number.{numbered}
 use Rattle.spv_type_forms.proofs.Opcodes.{both}
 
 -- the rows of numbers, and those of count opcodes, from n on
-abbrev pub all_numbered : List Row → List ℕ → List Row
+abbrev pub all_numbered : List Entry → List ℕ → List Row
 all_numbered rs [] = []
 all_numbered rs (k ∷ ks) = numbered rs (Some k) ∷ all_numbered rs ks
 
@@ -18,7 +20,7 @@ abbrev pub rows_from : ℕ → ℕ → List Row
 rows_from n zero = []
 rows_from n (suc count) = row_of n ∷ rows_from (n + 1) count
 
-numbered_at : (rs : List Row) (ks : List ℕ) (n : ℕ) (r : Row) → slice_get (all_numbered rs ks) n ≡ Some r → numbered rs (slice_get ks n) ≡ r
+numbered_at : (rs : List Entry) (ks : List ℕ) (n : ℕ) (r : Row) → slice_get (all_numbered rs ks) n ≡ Some r → numbered rs (slice_get ks n) ≡ r
 numbered_at rs [] n r e = absurd (none-some r e)
 numbered_at rs (k ∷ ks) zero r e = cc
 numbered_at rs (k ∷ ks) (suc n) r e = numbered_at rs ks n r e
@@ -47,15 +49,20 @@ no_row (e ∷ es) m n h l =
     let f : nat_le n e.to ≡ false = lt-leb n e.to (omega arith) in
     passed (nat_le e.from n) (nat_le n e.to) e.asked (row_in es n) f ∙ no_row es m n p.1 l
 
+-- there is a number for each opcode up to the last one of the table
+unfoldable pub count : ℕ
+count = length NUMBERS
+
 -- no row speaks of an opcode past the last one of the table
-pub late_row : (n : ℕ) → 258 ≤ n → row_of n ≡ Free
-late_row n l = no_row rows 258 n refl l
+pub late_row : (n : ℕ) → count ≤ n → row_of n ≡ Free
+unfolding count
+late_row n l = no_row TABLE count n refl l
 
 -- what the code finds, by its list of rows and of numbers
-pub found_row : (rs : List Row) (ks : List ℕ) (n : ℕ) → all_numbered rs ks ≡ rows_from 0 258 → length ks ≡ 258 → numbered rs (slice_get ks n) ≡ row_of n
-found_row rs ks n e c = elim (cases_lt n 258) [
+pub found_row : (rs : List Entry) (ks : List ℕ) (n : ℕ) → all_numbered rs ks ≡ rows_from 0 count → length ks ≡ count → numbered rs (slice_get ks n) ≡ row_of n
+found_row rs ks n e c = elim (cases_lt n count) [
   | inl h ↦
       let z : 0 + n ≡ n = omega arith in
-      numbered_at rs ks n (row_of n) (ap (λ all. slice_get all n) e ∙ row_at 0 258 n h ∙ ap (λ m. Some (row_of m)) z)
+      numbered_at rs ks n (row_of n) (ap (λ all. slice_get all n) e ∙ row_at 0 count n h ∙ ap (λ m. Some (row_of m)) z)
   | inr h ↦ ap (numbered rs) (slice_get_past ks n (omega arith)) ∙ sym (late_row n (omega arith))
 ]

@@ -1,4 +1,4 @@
--- Where the code looks for value operands is where the rows of table A have them.
+-- Where the code looks for value operands is where the rows of the table of shapes have them.
 use Rattle.std.proofs.Common.{◌≡◌, ◌≢◌, ◌++◌, ◌&&◌, ◌||◌, ℕ, not, List, [], ◌∷◌, Some, Bool, true, false, if◌then◌else◌, take, refl, sym, ap, ◌∙◌}
 use Rattle.spv_table.specs.Table.{Table}
 use Rattle.spv_module.specs.Operand.{Plain, PlainInst}
@@ -556,7 +556,7 @@ whole G r [] gs e os h n a = cc
 whole G r (f ∷ []) gs e os h n a = value_first G r f [] gs e os h n a
 whole G r (f ∷ g ∷ fs) gs e os h n a = whole_two G r f g fs gs e os (is_type f && (is_result g && agrees r fs e)) refl h n a
 
--- The test of all rows of table A, opcode by opcode.
+-- The test of all rows of the table of shapes, opcode by opcode.
 abbrev agrees_with : ℕ → PlainRow → Bool
 agrees_with n r = is_free (row_of n) || agrees_whole (row_of n) r.fixed r.ending
 

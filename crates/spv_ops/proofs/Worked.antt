@@ -4,7 +4,8 @@ use Rattle.spv_module.specs.Example.{small as table}
 use Rattle.spv_layout.specs.declared.class.Class.TheVariants as class
 use Rattle.spv_layout.specs.declared.form.Form.TheVariants as form
 use Rattle.spv_layout.specs.declared.form.Role.TheVariants as role
-use Rattle.spv_layout.specs.Row.{row, closed, repeated}
+use Rattle.spv_layout.specs.Row.{closed, repeated}
+use Rattle.spv_layout.specs.inner.Row.{row}
 use Rattle.spv_layout.specs.Rows.{rows}
 use Rattle.spv_layout.specs.Shape.{HasForms, AreOf, Ends}
 use Rattle.spv_layout.specs.Place.{IsAt, IsOfSection}

@@ -16,21 +16,17 @@ abbrev pub Accesses : List PlainInst → Access → Option ℕ → List ℕ → 
 Accesses is Load (Some r) (o ∷ []) = PointsTo is o r × IsData is r
 Accesses is Store None (o ∷ p ∷ []) = PointsTo is o p
 Accesses is CopyMemory None (o ∷ p ∷ []) = (t : ℕ) × PointsTo is o t × PointsTo is p t
-Accesses is CopyMemorySized None (o ∷ p ∷ q ∷ []) = (t u : ℕ) × PointsTo is o t × PointsTo is p u
-    × IsSomeInt is q
+Accesses is CopyMemorySized None (o ∷ p ∷ q ∷ []) = (t u : ℕ) × PointsTo is o t × PointsTo is p u × IsSomeInt is q
 Accesses is Lifetime None (o ∷ []) = (t : ℕ) × IsPointer is o 7 t
 Accesses is ControlBarrier None (c ∷ d ∷ m ∷ []) = IsInt is c 32 × IsInt is d 32 × IsInt is m 32
 Accesses is MemoryBarrier None (c ∷ m ∷ []) = IsInt is c 32 × IsInt is m 32
-Accesses is AtomicLoad (Some r) (o ∷ c ∷ m ∷ []) =
-    PointsTo is o r × IsInt is c 32 × IsInt is m 32 × IsNumber is r
-Accesses is AtomicStore None (o ∷ c ∷ m ∷ p ∷ []) =
-    PointsTo is o p × IsInt is c 32 × IsInt is m 32 × IsNumber is p
+Accesses is AtomicLoad (Some r) (o ∷ c ∷ m ∷ []) = PointsTo is o r × IsInt is c 32 × IsInt is m 32 × IsNumber is r
+Accesses is AtomicStore None (o ∷ c ∷ m ∷ p ∷ []) = PointsTo is o p × IsInt is c 32 × IsInt is m 32 × IsNumber is p
 Accesses is AtomicExchange (Some r) (o ∷ c ∷ m ∷ p ∷ []) =
     PointsTo is o r × IsInt is c 32 × IsInt is m 32 × (p ≡ r) × IsNumber is r
 Accesses is AtomicCompareExchange (Some r) (o ∷ c ∷ m ∷ n ∷ p ∷ q ∷ []) =
     PointsTo is o r × IsInt is c 32 × IsInt is m 32 × IsInt is n 32 × (p ≡ r) × (q ≡ r) × IsSomeInt is r
-Accesses is AtomicStep (Some r) (o ∷ c ∷ m ∷ []) =
-    PointsTo is o r × IsInt is c 32 × IsInt is m 32 × IsSomeInt is r
+Accesses is AtomicStep (Some r) (o ∷ c ∷ m ∷ []) = PointsTo is o r × IsInt is c 32 × IsInt is m 32 × IsSomeInt is r
 Accesses is AtomicUpdate (Some r) (o ∷ c ∷ m ∷ p ∷ []) = PointsTo is o r × IsInt is c 32 × IsInt is m 32
     × (p ≡ r) × IsSomeInt is r
 Accesses is _ r types = ⊥

@@ -16,13 +16,12 @@ use Rattle.spv_type_forms.specs.Types.{PointsTo, IsData}
 abbrev pub IsNamedClass : ℕ → Type 0
 IsNamedClass class = (class ≡ 4) ⊎ (class ≡ 5) ⊎ (class ≡ 7)
 
--- how many bits n components have, of ints or floats [3.49.11]
+-- how many bits n components have, of ints or floats; and those of an I or F type [3.49.11]
 abbrev pub scalar_bits : ℕ → Scalar → Option ℕ
 scalar_bits n (Int w) = Some (n * w)
 scalar_bits n (Float w) = Some (n * w)
 scalar_bits n Bool = None
 
--- how many bits the components of an I or F type have [3.49.11]
 abbrev pub bits_of : List PlainInst → ℕ → Option ℕ
 bits_of is t = option_and_then (λ c. scalar_bits c.count c.scalar) (components_of is t)
 
@@ -33,8 +32,7 @@ abbrev pub Calculates : List PlainInst → Calculation → ℕ → List ℕ → 
 Calculates is FloatToInt r (o ∷ []) = (n v w : ℕ) × IsMade is o n (Float v) × IsMade is r n (Int w)
 Calculates is IntToFloat r (o ∷ []) = (n v w : ℕ) × IsMade is o n (Int v) × IsMade is r n (Float w)
 Calculates is ResizeInt r (o ∷ []) = (n v w : ℕ) × IsMade is o n (Int v) × IsMade is r n (Int w) × (v ≢ w)
-Calculates is ResizeFloat r (o ∷ []) =
-    (n v w : ℕ) × IsMade is o n (Float v) × IsMade is r n (Float w) × (v ≢ w)
+Calculates is ResizeFloat r (o ∷ []) = (n v w : ℕ) × IsMade is o n (Float v) × IsMade is r n (Float w) × (v ≢ w)
 Calculates is PointerToInt r (o ∷ []) = (w p : ℕ) × PointsTo is o p × IsInt is r w
 Calculates is IntToPointer r (o ∷ []) = (w p : ℕ) × IsInt is o w × PointsTo is r p
 Calculates is ToGeneric r (o ∷ []) = (s p : ℕ) × IsPointer is o s p × IsNamedClass s × IsPointer is r 8 p

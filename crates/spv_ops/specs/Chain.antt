@@ -6,8 +6,7 @@ use Rattle.spv_module.specs.Operand.{PlainInst}
 use Rattle.spv_type_forms.specs.Types.{IsSomeInt, IsPointer}
 use Rattle.spv_type_forms.specs.Reach.{ReachesType, ChoosesParts}
 
--- The indexes lead from what the pointer o points to, to what r points to; and r is a pointer of the same storage class
--- as o. [3.49.8]
+-- The indexes lead from what the pointer o points to, to what r points to, of the same storage class. [3.49.8]
 pub record LeadsByPointer (is : List PlainInst) (r o : ℕ) (xs : List ℕ) : Type 0 where
   pub class : ℕ
   pub from : ℕ
@@ -16,12 +15,11 @@ pub record LeadsByPointer (is : List PlainInst) (r o : ℕ) (xs : List ℕ) : Ty
   pub leads : (ks : List ℕ) × ChoosesParts is from xs ks × ReachesType is from ks to
   pub result : IsPointer is r class to
 
--- OpAccessChain: a base, and indexes, which are ints. [3.49.8]
+-- OpAccessChain: a base, and ints as indexes; OpPtrAccessChain: a base, an element and indexes, all ints. [3.49.8]
 abbrev pub Chains : List PlainInst → ℕ → List ℕ → List ℕ → Type 0
 Chains is r (o ∷ types) (x ∷ xs) = AllByRecursion (IsSomeInt is) types × LeadsByPointer is r o xs
 Chains is r _ _ = ⊥
 
--- OpPtrAccessChain: a base, an element and indexes, which are ints. [3.49.8]
 abbrev pub ChainsByElement : List PlainInst → ℕ → List ℕ → List ℕ → Type 0
 ChainsByElement is r (o ∷ p ∷ types) (x ∷ y ∷ xs) = IsSomeInt is p × AllByRecursion (IsSomeInt is) types
     × LeadsByPointer is r o xs

@@ -14,13 +14,12 @@ use Rattle.spv_type_forms.specs.Types.{IsSomeInt, IsVector, IsData}
 use Rattle.spv_type_forms.specs.Reach.{ReachesType, AreWithin}
 use Rattle.spv_type_forms.specs.Parts.{AreParts}
 
--- the count of a vector of component type c [3.49.12]
+-- How many components of a vector of component type c values of these types give together: one for each type that is c,
+-- the count for each that is a vector of c. [3.49.12]
 abbrev pub share_in : ℕ → Option Form → Option ℕ
 share_in c (Some (form.Vector d n)) = if nat_eq d c then Some n else None
 share_in c _ = None
 
--- How many components of a vector of component type c values of these types give together: one for each type that is c,
--- the count for each that is a vector of c. [3.49.12]
 abbrev pub shares_of : List PlainInst → ℕ → List ℕ → Option ℕ
 shares_of is c [] = Some 0
 shares_of is c (t ∷ ts) = option_and_then (λ n. option_map (λ m. n + m) (shares_of is c ts))

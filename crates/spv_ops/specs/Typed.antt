@@ -41,8 +41,7 @@ RowHolds is n i _ r types = ⊥
 abbrev pub Typed : List PlainInst → ℕ → PlainInst → List ℕ → Type 0
 Typed is n i types = RowHolds is n i (row_of i.opcode) (result_type_in i.operands) types
 
--- Y5 is unbroken at an instruction: its row, if it has one, holds of the types that its value operands are declared
--- with. [own: Y5]
+-- Y5 is unbroken at an instruction: its row, if any, holds of the declared types of its value operands. [own: Y5]
 abbrev pub IsTyped : Table → List PlainInst → ℕ → PlainInst → Type 0
 IsTyped G is n i = (row_of i.opcode ≡ Free)
     ⊎ ((xs types : List ℕ) × AreValues G i xs × (types_of is xs ≡ Some types) × Typed is n i types)

@@ -212,7 +212,7 @@ fn shift(definitions: &Definitions, r: u32, o: u32, p: u32) -> bool
 }
 
 /// Whether a type is bool, or a vector of bools beside a vector of as many components.
-fn selects(definitions: &Definitions, r: u32, o: u32) -> bool
+pub fn selects(definitions: &Definitions, r: u32, o: u32) -> bool
     ensures { IsTrue result ↔ (IsBool definitions.now o
         ⊎ ((c n : ℕ) × IsVector definitions.now r c n × IsB definitions.now o n)) }
 {
@@ -255,7 +255,8 @@ fn bits(definitions: &Definitions, t: u32) -> Option<u64>
     }
 }
 
-fn bitcast(definitions: &Definitions, r: u32, o: u32) -> bool
+/// Whether the row of OpBitcast holds of the result type and the type of the value.
+pub fn bitcast(definitions: &Definitions, r: u32, o: u32) -> bool
     ensures { IsTrue result ↔ Calculates definitions.now Bitcast r (o ∷ []) }
 {
     match (definitions.form(o), definitions.form(r)) {

@@ -11,7 +11,7 @@ use spv_module::Operand;
 use spv_type_forms::{Definitions, Form, all_ints, is_int, leads};
 
 /// Whether the indexes lead from a pointer to a pointer of the same storage class.
-fn leads_by_pointer(definitions: &Definitions, r: u32, o: u32, indexes: &[Operand]) -> bool
+pub fn leads_by_pointer(definitions: &Definitions, r: u32, o: u32, indexes: &[Operand]) -> bool
     ensures { IsTrue result ↔ LeadsByPointer definitions.now r o (ids_in (plain_operands indexes.now)) }
 {
     match (definitions.form(o), definitions.form(r)) {

@@ -43,7 +43,7 @@ fn insert(definitions: &Definitions, r: u32, o: u32, p: u32, operands: &[Operand
 }
 
 /// Whether each literal among the operands is below a number, or undefined.
-fn are_components(n: u64, operands: &[Operand]) -> bool
+pub fn are_components(n: u64, operands: &[Operand]) -> bool
     ensures { IsTrue result ↔ AllByRecursion (IsComponent n) (words_in (plain_operands operands.now)) }
 {
     for operand in operands {

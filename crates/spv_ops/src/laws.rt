@@ -34,7 +34,7 @@ ghost use Rattle.spv_type_forms.specs.Example.{small, lone_variable};
 ghost use Rattle.spv_ops.specs.Example.{with_double, pointed_variable, to_member, add, add_floats, one_weight, label};
 
 /// The ids that stand where the code looks for value operands are the value operands, under any table by which the
-/// instruction fits its row of table A; and there are no others.
+/// instruction fits its row of the table of shapes; and there are no others.
 pub fn value_operands()
     ensures { (G : Table) (i : PlainInst) (xs : List ℕ) → FitsShape G i → row_of i.opcode ≢ row.Free
         → AreValues G i xs ↔ (xs ≡ values_of i) }

@@ -13,5 +13,9 @@ mod row;
 mod typed;
 mod variable;
 
-pub use row::{Access, Calculation, Composite, Row};
+pub use calculation::{bitcast, selects};
+pub use chain::leads_by_pointer;
+pub use composite::are_components;
+pub use row::{Access, Calculation, Composite, Row, row_of};
 pub use typed::{inst_holds, op_holds};
+pub use variable::{is_class_at, is_initializer};

@@ -21,7 +21,8 @@ const FUNCTION: u32 = 7;
 /// The storage class Generic.
 const GENERIC: u32 = 8;
 
-fn is_initializer(definitions: &Definitions, x: u32) -> bool
+/// Whether an id may initialize a variable: it is a constant, or a variable of section 9.
+pub fn is_initializer(definitions: &Definitions, x: u32) -> bool
     ensures { IsTrue result ↔ IsInitializer definitions.now x }
 {
     is_constant(definitions, x) || definitions.is_global(x)
@@ -35,7 +36,7 @@ fn is_global_class(place: Place, class: u32) -> bool
 }
 
 /// Whether a storage class is one of a variable at an instruction.
-fn is_class_at(definitions: &Definitions, number: u32, class: u32) -> bool
+pub fn is_class_at(definitions: &Definitions, number: u32, class: u32) -> bool
     requires { number < length definitions.now }
     ensures { IsTrue result ↔ IsClassAt definitions.now number class }
 {

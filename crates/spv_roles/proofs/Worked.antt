@@ -10,7 +10,8 @@ use Rattle.spv_layout.specs.declared.class.Class.TheVariants as class
 use Rattle.spv_layout.specs.declared.form.Form.TheVariants as form
 use Rattle.spv_layout.specs.declared.form.Role.{Role}
 use Rattle.spv_layout.specs.declared.form.Role.TheVariants as role
-use Rattle.spv_layout.specs.Row.{row, closed}
+use Rattle.spv_layout.specs.Row.{closed}
+use Rattle.spv_layout.specs.inner.Row.{row}
 use Rattle.spv_layout.specs.Rows.{rows}
 use Rattle.spv_layout.specs.Shape.{HasForms, IsUse, AreOf, Ends}
 use Rattle.spv_ids.specs.Definition.{IsUsedAt}

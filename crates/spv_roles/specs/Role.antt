@@ -14,8 +14,7 @@ use Rattle.spv_type_forms.specs.Definitions.{IsGlobal}
 abbrev pub Plays : List PlainInst → Role → ℕ → Type 0
 Plays is role.OfType x =
     IsSomeAnd (definition_of is x) (λ d. (opcode.TYPE_VOID ≤ d.opcode) × (d.opcode ≤ opcode.TYPE_FUNCTION))
-Plays is role.Value x =
-    IsSomeAnd (definition_of is x) (λ d. IsSome (type_in d.operands) × (d.opcode ≢ opcode.FUNCTION))
+Plays is role.Value x = IsSomeAnd (definition_of is x) (λ d. IsSome (type_in d.operands) × (d.opcode ≢ opcode.FUNCTION))
 Plays is role.Function x = IsSomeAnd (definition_of is x) (λ d. d.opcode ≡ opcode.FUNCTION)
 Plays is role.Text x = IsSomeAnd (definition_of is x) (λ d. d.opcode ≡ opcode.STRING)
 Plays is role.Set x = IsSomeAnd (definition_of is x) (λ d. d.opcode ≡ opcode.EXT_INST_IMPORT)

@@ -83,19 +83,23 @@ fn late(number: u16) -> Option<Asked>
     }
 }
 
-/// The roles that an opcode's row of the table of shapes asks for. None for OpSource and OpPhi, whose ids are not told
-/// so.
+/// The roles that an opcode's row of the table of shapes asks for, which a proof compares with the table: one `match`
+/// in place of a walk over the row's forms, since each instruction of a module asks. None for OpSource and OpPhi, whose
+/// ids are not told so.
 #[inline(always)]
 pub fn asked_of(number: u16) -> Option<Asked>
     ensures { result ≡ spec.asked_of number }
 {
     match number {
-        // Memory, composites, conversions, arithmetic, comparisons, bits, barriers and atomics: values, and anything
-        // after the mask of a memory access.
-        opcode::CONVERT_F_TO_U..=opcode::NOT
+        // Conversions, arithmetic, comparisons, bits, barriers and atomics, memory, and composites: values, and
+        // anything after the mask of a memory access. Of the opcodes among these that have no row nothing is said.
+        opcode::CONVERT_F_TO_U..=opcode::ATOMIC_XOR
         | opcode::LOAD..=opcode::IN_BOUNDS_PTR_ACCESS_CHAIN
-        | opcode::VECTOR_EXTRACT_DYNAMIC..=opcode::COPY_OBJECT
-        | opcode::CONTROL_BARRIER..=opcode::ATOMIC_XOR => ask(Role::Value, Role::Value, Role::Any),
+        | opcode::VECTOR_EXTRACT_DYNAMIC..=opcode::COPY_OBJECT => ask(
+            Role::Value,
+            Role::Value,
+            Role::Any,
+        ),
         0..=opcode::VARIABLE => early(number),
         _ => late(number),
     }

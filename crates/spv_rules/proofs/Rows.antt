@@ -9,15 +9,15 @@ use Rattle.std.proofs.lemmas.Bool.{leb-true}
 use Rattle.std.proofs.lemmas.List.FromFn.{get_or-range_with_len}
 use Rattle.std.proofs.lemmas.List.{length-map}
 use Rattle.std.proofs.lemmas.Option.{slice_get-map, slice_get-get_or, slice_get_within, get_or_from_slice_get, same_Some}
-use Rattle.spv_module.specs.contracts.fault.Rule as rule
+use Rattle.spv_module.specs.contracts.fault.Rule.{the_type}
+use Rattle.spv_module.proofs.Tags.{one_variant}
 use Rattle.spv_words.specs.contracts.words.WordError as word
 use Rattle.spv_rules.specs.declared.rules.Code.{Code}
 use Rattle.spv_rules.specs.declared.rules.Code.TheVariants.{Word, Rule}
 use Rattle.spv_rules.specs.declared.table.TheConstants.{WORD_ROWS, FORM_ROWS, TYPE_ROWS}
 use Rattle.spv_rules.specs.Rules.{IsNamed, name_of, number_of, place_of, sentence_of, without_last}
-use Rattle.spv_rules.specs.Table.{Row, Text, rows}
+use Rattle.spv_rules.specs.Table.{Row, Text, row_count, rows}
 use Rattle.spv_rules.specs.inner.Held.{Held, plain}
-use Rattle.spv_rules.proofs.Tags.{one_variant}
 
 -- ---- all rows at once
 
@@ -41,7 +41,7 @@ ended : map (λ (row : Row). row.4.now) rows ≡ map (λ (row : Row). without_la
 unfolding rows
 ended = refl
 
-placed : map (λ (row : Row). place_of row.0) rows ≡ range_with_len 0 49
+placed : map (λ (row : Row). place_of row.0) rows ≡ range_with_len 0 row_count
 unfolding rows
 placed = refl
 
@@ -69,40 +69,58 @@ within_part xs ys rs n d e l =
 past_part : (xs ys : List Row) (n k : ℕ) → n ≡ length xs + k → slice_get (xs ++ ys) n ≡ slice_get ys k
 past_part xs ys n k e = ap (slice_get (xs ++ ys)) e ∙ right xs ys k
 
-pub in_words : (rs : List Held) (n : ℕ) (d : Held) → map plain rs ≡ WORD_ROWS → n < 9 → slice_get rows n ≡ Some (plain (get_or rs n d))
-unfolding rows
-in_words rs n d e l = within_part WORD_ROWS (FORM_ROWS ++ TYPE_ROWS) rs n d e l
+of_length : (rs : List Held) (xs : List Row) → map plain rs ≡ xs → length rs ≡ length xs
+of_length rs xs e = sym (length-map rs plain) ∙ ap length e
 
-pub in_forms : (rs : List Held) (n : ℕ) (d : Held) → map plain rs ≡ FORM_ROWS → 9 ≤ n → n < 30 → slice_get rows n ≡ Some (plain (get_or rs (n - 9) d))
+how_many : length rows ≡ row_count
 unfolding rows
-in_forms rs n d e h l =
-    past_part WORD_ROWS (FORM_ROWS ++ TYPE_ROWS) n (n - 9) (omega (arith, h)) ∙ within_part FORM_ROWS TYPE_ROWS rs (n - 9) d e (omega (arith, h, l))
+how_many = refl
 
-pub in_types : (rs : List Held) (n : ℕ) (d : Held) → map plain rs ≡ TYPE_ROWS → 30 ≤ n → n < 49 → slice_get rows n ≡ Some (plain (get_or rs (n - 30) d))
+pub in_words : (rs : List Held) (n : ℕ) (d : Held) → map plain rs ≡ WORD_ROWS.now → n < length rs → slice_get rows n ≡ Some (plain (get_or rs n d))
 unfolding rows
-in_types rs n d e h l =
-    let m : length rs ≡ 19 = sym (length-map rs plain) ∙ ap length e in
-    past_part WORD_ROWS (FORM_ROWS ++ TYPE_ROWS) n (n - 9) (omega (arith, h)) ∙ past_part FORM_ROWS TYPE_ROWS (n - 9) (n - 30) (omega (arith, h)) ∙
-    ap (λ zs. slice_get zs (n - 30)) (sym e) ∙ slice_get-map plain rs (n - 30) ∙ ap (option_map plain) (slice_get-get_or rs (n - 30) d (omega (arith, m, h, l)))
+in_words rs n d e l = within_part WORD_ROWS.now (FORM_ROWS.now ++ TYPE_ROWS.now) rs n d e (rw (sym (of_length rs WORD_ROWS.now e)) l)
+
+pub in_forms : (ws rs : List Held) (n k : ℕ) (d : Held) → map plain ws ≡ WORD_ROWS.now → map plain rs ≡ FORM_ROWS.now → n ≡ length ws + k
+    → k < length rs → slice_get rows n ≡ Some (plain (get_or rs k d))
+unfolding rows
+in_forms ws rs n k d w e h l =
+    past_part WORD_ROWS.now (FORM_ROWS.now ++ TYPE_ROWS.now) n k (rw (sym (of_length ws WORD_ROWS.now w)) h) ∙
+    within_part FORM_ROWS.now TYPE_ROWS.now rs k d e (rw (sym (of_length rs FORM_ROWS.now e)) l)
+
+pub in_types : (ws fs rs : List Held) (n k : ℕ) (d : Held) → map plain ws ≡ WORD_ROWS.now → map plain fs ≡ FORM_ROWS.now → map plain rs ≡ TYPE_ROWS.now
+    → n ≡ length ws + (length fs + k) → k < length rs → slice_get rows n ≡ Some (plain (get_or rs k d))
+unfolding rows
+in_types ws fs rs n k d w f e h l =
+    past_part WORD_ROWS.now (FORM_ROWS.now ++ TYPE_ROWS.now) n (length fs + k) (rw (sym (of_length ws WORD_ROWS.now w)) h) ∙
+    past_part FORM_ROWS.now TYPE_ROWS.now (length fs + k) k (ap (λ m. m + k) (of_length fs FORM_ROWS.now f)) ∙
+    ap (λ zs. slice_get zs k) (sym e) ∙ slice_get-map plain rs k ∙ ap (option_map plain) (slice_get-get_or rs k d l)
 
 -- ---- a row by its code
 
-pub place_below : (code : Code) → place_of code < 49
-place_below (Word w) = let l : tag_of word.the_type w < 9 = tag_below (variants word.the_type) (word.the_type.to w) in omega (arith, l)
-place_below (Rule r) = let l : tag_of rule.the_type r < 40 = tag_below (variants rule.the_type) (rule.the_type.to r) in omega (arith, l)
+-- there is a row for each variant
+each : 9 + length (variants the_type) ≡ row_count
+each = refl
+
+pub place_below : (code : Code) → place_of code < row_count
+place_below (Word w) =
+    let l : tag_of word.the_type w < 9 = tag_below (variants word.the_type) (word.the_type.to w) in
+    omega (arith, l, each)
+place_below (Rule r) =
+    let l : tag_of the_type r < length (variants the_type) = tag_below (variants the_type) (the_type.to r) in
+    omega (arith, l, each)
 
 one_place : (a b : Code) → place_of a ≡ place_of b → a ≡ b
 one_place (Word a) (Word b) e = ap Word (one_variant word.the_type refl a b e)
 one_place (Word a) (Rule b) e = let l : tag_of word.the_type a < 9 = tag_below (variants word.the_type) (word.the_type.to a) in absurd (omega (arith, l, e))
 one_place (Rule a) (Word b) e = let l : tag_of word.the_type b < 9 = tag_below (variants word.the_type) (word.the_type.to b) in absurd (omega (arith, l, e))
-one_place (Rule a) (Rule b) e = ap Rule (one_variant rule.the_type refl a b (omega (arith, e)))
+one_place (Rule a) (Rule b) e = ap Rule (one_variant the_type refl a b (omega (arith, e)))
 
 place_at : (n : ℕ) (row : Row) → slice_get rows n ≡ Some row → place_of row.0 ≡ n
 place_at n row h =
-    let g : slice_get (range_with_len 0 49) n ≡ Some (place_of row.0) = ap (λ xs. slice_get xs n) (sym placed) ∙ slice_get-map (λ (r : Row). place_of r.0) rows n ∙ ap (option_map (λ (r : Row). place_of r.0)) h in
-    let l : n < 49 = slice_get_within (range_with_len 0 49) n (place_of row.0) g in
+    let g : slice_get (range_with_len 0 row_count) n ≡ Some (place_of row.0) = ap (λ xs. slice_get xs n) (sym placed) ∙ slice_get-map (λ (r : Row). place_of r.0) rows n ∙ ap (option_map (λ (r : Row). place_of r.0)) h in
+    let l : n < row_count = rw (sym how_many) (slice_get_within rows n row h) in
     let z : 0 + n ≡ n = omega arith in
-    sym (get_or_from_slice_get (range_with_len 0 49) n (place_of row.0) 0 g) ∙ get_or-range_with_len 0 49 n 0 l ∙ z
+    sym (get_or_from_slice_get (range_with_len 0 row_count) n (place_of row.0) 0 g) ∙ get_or-range_with_len 0 row_count n 0 l ∙ z
 
 -- the row of a code is that code's
 own : (code : Code) (row : Row) → slice_get rows (place_of code) ≡ Some row → row.0 ≡ code
@@ -136,10 +154,6 @@ short_by code row h =
     let l : length row.2.now ≤ 3 = leb-true (length row.2.now) 3 e in
     rw (name_by code row h) at l
 
-how_many : length rows ≡ 49
-unfolding rows
-how_many = refl
-
 -- each code has a row
 pub has_row : (code : Code) → (row : Row) × (slice_get rows (place_of code) ≡ Some row)
 has_row code =
@@ -148,14 +162,14 @@ has_row code =
     (get_or rows (place_of code) other, slice_get-get_or rows (place_of code) other (omega (arith, how_many, place_below code)))
 
 -- no code has a name that no row has
-pub nameless : (name : List ℕ) → ((n : ℕ) (row : Row) → n < 49 → slice_get rows n ≡ Some row → ¬ (IsNamed name row.2.now))
+pub nameless : (name : List ℕ) → ((n : ℕ) (row : Row) → n < row_count → slice_get rows n ≡ Some row → ¬ (IsNamed name row.2.now))
     → (code : Code) → ¬ (IsNamed name (name_of code))
 nameless name none code e =
     let found = has_row code in
     none (place_of code) found.0 (place_below code) found.1 (e ∙ ap (map to_ascii_lowercase) (sym (name_by code found.0 found.1)))
 
 -- and so with numbers
-pub numberless : (number : ℕ) → ((n : ℕ) (row : Row) → n < 49 → slice_get rows n ≡ Some row → ¬ (row.1 ≡ number))
+pub numberless : (number : ℕ) → ((n : ℕ) (row : Row) → n < row_count → slice_get rows n ≡ Some row → ¬ (row.1 ≡ number))
     → (code : Code) → ¬ (number ≡ number_of code)
 numberless number none code e =
     let found = has_row code in

@@ -1,10 +1,12 @@
 -- Codes: their names, as text, and what they say. (Own.)
-use Rattle.std.specs.Prelude.{◌≡◌, ◌+◌, ◌-◌, ◌*◌, ◌++◌, ℕ, nat_eq, List, [], ◌∷◌, length, map, take, get_or, codes}
+use Rattle.std.specs.Prelude.{◌≡◌, ◌+◌, ◌-◌, ◌*◌, ◌/◌, ◌%◌, ◌++◌, ℕ, nat_eq, nat_le, nat_lt, List, [], ◌∷◌, length, map, take}
+use Rattle.std.specs.Prelude.{codes, get_or, if◌then◌else◌}
 use Rattle.std.specs.Char.{to_ascii_lowercase}
 use Rattle.std.specs.List.{position_or_len}
 use denote.Enum.Declared.{tag_of}
 use Rattle.spv_module.specs.declared.fault.Rule.{Rule as AnyRule}
-use Rattle.spv_module.specs.contracts.fault.Rule as rule
+use Rattle.spv_module.specs.declared.fault.Rule.TheVariants as rule
+use Rattle.spv_module.specs.contracts.fault.Rule.{the_type}
 use Rattle.spv_words.specs.declared.words.WordError.{WordError}
 use Rattle.spv_words.specs.contracts.words.WordError as word
 use Rattle.spv_rules.specs.declared.rules.Code.{Code}
@@ -15,15 +17,32 @@ use Rattle.spv_rules.specs.Table.{Row, rows}
 abbrev pub code_text : WordError → List ℕ
 code_text w = codes "W" ++ ((49 + tag_of word.the_type w) ∷ [])
 
--- the code of any other rule, as text: the rules in their order [own]
+-- The rules whose code begins a run of codes: of each its letter and its number. The rules that come after it, up to the
+-- next of these, have the same letter and the numbers that follow. From the last of them to the first. [own]
+abbrev pub beginnings : List (AnyRule × List ℕ × ℕ)
+beginnings = (rule.G1, codes "G", 1) ∷ (rule.A1, codes "A", 1) ∷ (rule.F1, codes "F", 1) ∷ (rule.Y2, codes "Y", 2)
+    ∷ (rule.E1, codes "E", 1) ∷ (rule.M1, codes "M", 1) ∷ (rule.C1, codes "C", 1) ∷ (rule.Y1, codes "Y", 1)
+    ∷ (rule.D1, codes "D", 1) ∷ (rule.L1, codes "L", 1) ∷ (rule.P1, codes "P", 1) ∷ (rule.I1, codes "I", 1) ∷ []
+
+-- the place of a rule among the variants of `Rule`, from 0
+abbrev pub place_of_rule : AnyRule → ℕ
+place_of_rule r = tag_of the_type r
+
+-- the digits of a number below 100: a digit n is the octet 48 + n
+abbrev pub two_digits : ℕ → List ℕ
+two_digits n = if nat_lt n 10 then (48 + n) ∷ [] else (48 + n / 10) ∷ (48 + n % 10) ∷ []
+
+-- the code of a rule by the first of these beginnings that does not come after it
+abbrev pub text_by : List (AnyRule × List ℕ × ℕ) → AnyRule → List ℕ
+text_by [] r = []
+text_by (begin ∷ before) r =
+    if nat_le (place_of_rule begin.0) (place_of_rule r)
+    then begin.1 ++ two_digits (begin.2 + (place_of_rule r - place_of_rule begin.0))
+    else text_by before r
+
+-- the code of any other rule, as text: its letter and its number [own]
 abbrev pub rule_text : AnyRule → List ℕ
-rule_text r = get_or
-    (codes "I1" ∷ codes "I2" ∷ codes "I3" ∷ codes "I4" ∷ codes "I5" ∷ codes "I6" ∷ codes "I7" ∷
-    codes "I8" ∷ codes "I9" ∷ codes "I10" ∷ codes "I11" ∷ codes "I12" ∷ codes "P1" ∷ codes "L1" ∷
-    codes "L2" ∷ codes "D1" ∷ codes "D2" ∷ codes "D3" ∷ codes "D4" ∷ codes "D5" ∷ codes "Y1" ∷
-    codes "C1" ∷ codes "C2" ∷ codes "M1" ∷ codes "E1" ∷ codes "E2" ∷ codes "Y2" ∷ codes "Y3" ∷
-    codes "Y4" ∷ codes "Y5" ∷ codes "Y6" ∷ codes "Y7" ∷ codes "Y8" ∷ codes "F1" ∷ codes "F2" ∷
-    codes "F3" ∷ codes "F4" ∷ codes "A1" ∷ codes "A2" ∷ codes "G1" ∷ []) (tag_of rule.the_type r) []
+rule_text r = text_by beginnings r
 
 -- the name of a code, as `W3` or `A1`
 abbrev pub name_of : Code → List ℕ
@@ -55,7 +74,7 @@ number_of code = number_in (name_of code)
 -- the place of a code in the table: the codes on words stand first
 abbrev pub place_of : Code → ℕ
 place_of (Word code) = tag_of word.the_type code
-place_of (Rule r) = 9 + tag_of rule.the_type r
+place_of (Rule r) = 9 + place_of_rule r
 
 -- all but the last octet
 abbrev pub without_last : List ℕ → List ℕ

@@ -2,12 +2,12 @@
 ghost use Rattle.std.specs.Prelude.{◌≡◌, ◌≤◌, ◌<◌, ◌++◌, [], ◌∷◌, Some, MatchOption};
 ghost use Rattle.std.specs.Prelude.{length, slice_get};
 ghost use Rattle.spv_rules.specs.Rules.{IsNamed, name_of, number_of, place_of, sentence_of};
-ghost use Rattle.spv_rules.specs.Table.{rows};
+ghost use Rattle.spv_rules.specs.Table.{row_count, rows};
 ghost use Rattle.spv_rules.specs.inner.Held.{plain};
 ghost use Rattle.spv_rules.specs.declared.rules.Code.{Code};
 
 use crate::errors::{AnyCode, ERRORS};
-use crate::table::{COUNT, Row, row_at};
+use crate::table::{Row, count, row_at};
 use spv_module::Rule;
 use spv_words::WordError;
 use std::alloc::{AllocError, Global};
@@ -25,7 +25,7 @@ impl Code {
     /// Its place in the table.
     fn place(self) -> usize
         ensures place { result ≡ place_of self }
-        ensures within { result < 49 }
+        ensures within { result < row_count }
     {
         match self {
             Code::Word(code) => code as usize,
@@ -80,7 +80,7 @@ impl Code {
         ensures { MatchOption result ((code : Code) → ¬ (number ≡ number_of code))
             (λ code. number ≡ number_of code) }
     {
-        for place in 0..COUNT {
+        for place in 0..count() {
             let row = row_at(place);
             if row.1 == number {
                 return Some(row.0);
@@ -94,7 +94,7 @@ impl Code {
         ensures { MatchOption result ((code : Code) → ¬ (IsNamed name.now (name_of code)))
             (λ code. IsNamed name.now (name_of code)) }
     {
-        for place in 0..COUNT {
+        for place in 0..count() {
             let row = row_at(place);
             if name.eq_ignore_ascii_case(row.2) {
                 return Some(row.0);
@@ -124,7 +124,7 @@ fn push_meaning(out: &mut String, meaning: &str) -> Result<(), AllocError> {
 
 /// Adds the line of each code.
 fn push_sentences(out: &mut String) -> Result<(), AllocError> {
-    for place in 0..COUNT {
+    for place in 0..count() {
         let code = row_at(place).0;
         push_sentence(out, code.name(), code.sentence())?;
     }

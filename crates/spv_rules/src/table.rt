@@ -1,6 +1,6 @@
 //! The table of codes: of each its name, what it says, and where it is broken.
-ghost use Rattle.std.specs.Prelude.{◌≡◌, ◌<◌, Some, map, slice_get};
-ghost use Rattle.spv_rules.specs.Table.{rows};
+ghost use Rattle.std.specs.Prelude.{◌≡◌, ◌<◌, Some, length, map, slice_get};
+ghost use Rattle.spv_rules.specs.Table.{row_count, rows};
 ghost use Rattle.spv_rules.specs.inner.Held.{plain};
 ghost use Rattle.spv_rules.specs.declared.table.TheConstants.{WORD_ROWS, FORM_ROWS, TYPE_ROWS};
 
@@ -49,7 +49,7 @@ macro_rules! rule {
 }
 
 /// The codes on words, in the order of the variants.
-pub static WORD_ROWS: [Row; 9] = [
+pub static WORD_ROWS: &[Row] = &[
     word!(
         W1,
         1,
@@ -115,8 +115,8 @@ pub static WORD_ROWS: [Row; 9] = [
     ),
 ];
 
-/// The rules I1 to Y1, in the order of the variants: on single instructions, their order, and ids.
-pub static FORM_ROWS: [Row; 21] = [
+/// The rules up to Y1, in the order of the variants: on single instructions, their order, and ids.
+pub static FORM_ROWS: &[Row] = &[
     rule!(
         I1,
         101,
@@ -275,8 +275,8 @@ pub static FORM_ROWS: [Row; 21] = [
     ),
 ];
 
-/// The rules C1 to G1, which come after them: on declarations, types and flow.
-pub static TYPE_ROWS: [Row; 19] = [
+/// The rules that come after them: on declarations, types and flow.
+pub static TYPE_ROWS: &[Row] = &[
     rule!(
         C1,
         601,
@@ -442,38 +442,47 @@ pub static TYPE_ROWS: [Row; 19] = [
 
 /// The rows of the codes on words.
 fn word_rows() -> &'static [Row]
-    ensures { map plain result.now ≡ WORD_ROWS }
+    ensures same { map plain result.now ≡ WORD_ROWS.now }
+    ensures long { length result.now ≡ length WORD_ROWS.now }
 {
-    &WORD_ROWS
+    WORD_ROWS
 }
 
-/// The rows of the rules I1 to Y1.
+/// The rows of the rules up to Y1.
 fn form_rows() -> &'static [Row]
-    ensures { map plain result.now ≡ FORM_ROWS }
+    ensures same { map plain result.now ≡ FORM_ROWS.now }
+    ensures long { length result.now ≡ length FORM_ROWS.now }
 {
-    &FORM_ROWS
+    FORM_ROWS
 }
 
-/// The rows of the rules C1 to G1.
+/// The rows of the rules after Y1.
 fn type_rows() -> &'static [Row]
-    ensures { map plain result.now ≡ TYPE_ROWS }
+    ensures same { map plain result.now ≡ TYPE_ROWS.now }
+    ensures long { length result.now ≡ length TYPE_ROWS.now }
 {
-    &TYPE_ROWS
+    TYPE_ROWS
 }
 
 /// How many rows there are.
-pub const COUNT: usize = 49;
+pub fn count() -> usize
+    ensures { result ≡ row_count }
+{
+    word_rows().len() + form_rows().len() + type_rows().len()
+}
 
 /// The row at a place.
 pub fn row_at(place: usize) -> &'static Row
-    requires { place < 49 }
+    requires { place < row_count }
     ensures { slice_get rows place ≡ Some (plain result.now) }
 {
-    if place < 9 {
-        &word_rows()[place]
-    } else if place < 30 {
-        &form_rows()[place - 9]
+    let (words, forms, types) = (word_rows(), form_rows(), type_rows());
+    let past_words = words.len() + forms.len();
+    if place < words.len() {
+        &words[place]
+    } else if place < past_words {
+        &forms[place - words.len()]
     } else {
-        &type_rows()[place - 30]
+        &types[place - past_words]
     }
 }

@@ -7,32 +7,28 @@ use Rattle.spv_type_forms.specs.declared.form.Scalar.TheVariants as scalar
 use Rattle.spv_type_forms.specs.declared.form.Form.{Form}
 use Rattle.spv_type_forms.specs.declared.form.Form.TheVariants as form
 
--- %t = OpTypeInt w .. [3.49.6]
+-- %t = OpTypeInt w .., OpTypeFloat w, OpTypeVector %c n, OpTypeArray %e %l, OpTypePointer class %p [3.49.6]
 abbrev pub int_in : List Plain → Option Form
 int_in (Result t ∷ Word w ∷ _) = Some (form.Scalar (scalar.Int w))
 int_in _ = None
 
--- %t = OpTypeFloat w [3.49.6]
 abbrev pub float_in : List Plain → Option Form
 float_in (Result t ∷ Word w ∷ _) = Some (form.Scalar (scalar.Float w))
 float_in _ = None
 
--- %t = OpTypeVector %c n [3.49.6]
 abbrev pub vector_in : List Plain → Option Form
 vector_in (Result t ∷ Id c ∷ Word n ∷ _) = Some (form.Vector c n)
 vector_in _ = None
 
--- %t = OpTypeArray %e %l [3.49.6]
 abbrev pub array_in : List Plain → Option Form
 array_in (Result t ∷ Id e ∷ Id l ∷ _) = Some (form.Array e l)
 array_in _ = None
 
--- %t = OpTypePointer class %p [3.49.6]
 abbrev pub pointer_in : List Plain → Option Form
 pointer_in (Result t ∷ Value k class ∷ Id p ∷ _) = Some (form.Pointer class p)
 pointer_in _ = None
 
--- what an instruction declares, if it is a type declaration [3.49.6]
+-- what an instruction declares, if it is a type declaration; and the definition of an id [3.49.6, 2.2.2]
 abbrev pub form_in : PlainInst → Option Form
 form_in i = if nat_eq i.opcode opcode.TYPE_VOID then Some form.Void
     else (if nat_eq i.opcode opcode.TYPE_BOOL then Some (form.Scalar scalar.Bool)
@@ -45,6 +41,5 @@ form_in i = if nat_eq i.opcode opcode.TYPE_VOID then Some form.Void
     else (if nat_eq i.opcode opcode.TYPE_POINTER then pointer_in i.operands
     else (if nat_eq i.opcode opcode.TYPE_FUNCTION then Some form.Function else None)))))))))
 
--- what the definition of an id declares [2.2.2]
 abbrev pub form_of : List PlainInst → ℕ → Option Form
 form_of is t = option_and_then form_in (definition_of is t)

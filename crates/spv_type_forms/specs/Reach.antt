@@ -6,12 +6,10 @@ use Rattle.spv_type_forms.specs.declared.form.Form.TheVariants as form
 use Rattle.spv_type_forms.specs.Form.{form_of}
 use Rattle.spv_type_forms.specs.Parts.{part_of, count_of, constant_of}
 
--- A type reaches itself by no index. By an index k and further ones it reaches what its part k reaches by the further
--- ones. [own: Reach]
+-- A type reaches itself by no index, and by k and further indexes what its part k reaches by these. [own: Reach]
 pub data ReachesType (is : List PlainInst) : ℕ → List ℕ → ℕ → Type 0 where
   itself : (t : ℕ) → ReachesType is t [] t
-  by_part : (t k u v : ℕ) (ks : List ℕ) → part_of is t k ≡ Some u → ReachesType is u ks v
-      → ReachesType is t (k ∷ ks) v
+  by_part : (t k u v : ℕ) (ks : List ℕ) → part_of is t k ≡ Some u → ReachesType is u ks v → ReachesType is t (k ∷ ks) v
 
 -- Each index is below the count, length or number of members at its place. [3.49.12]
 pub data AreWithin (is : List PlainInst) : ℕ → List ℕ → Type 0 where

@@ -11,38 +11,33 @@ use Rattle.spv_type_forms.specs.declared.form.Sort.TheVariants as sort
 use Rattle.spv_type_forms.specs.declared.form.Components.{Components}
 use Rattle.spv_type_forms.specs.Form.{form_of}
 
--- the scalar type that an id declares [2.2.2]
+-- the scalar type that an id declares; the components of a scalar or vector type, and of the type that an id declares:
+-- their type, and how many there are [2.2.2]
 abbrev pub scalar_in : Option Form → Option Scalar
 scalar_in (Some (form.Scalar s)) = Some s
 scalar_in _ = None
 
--- The components of a scalar or vector type: their type, and how many there are. [2.2.2]
 abbrev pub components_in : List PlainInst → Form → Option Components
 components_in is (form.Scalar s) = Some (record { scalar = s; count = 1 })
 components_in is (form.Vector c n) = option_map (λ s. record { scalar = s; count = n }) (scalar_in (form_of is c))
 components_in is _ = None
 
--- the same of the type that an id declares [2.2.2]
 abbrev pub components_of : List PlainInst → ℕ → Option Components
 components_of is t = option_and_then (components_in is) (form_of is t)
 
--- an int of width w [3.49.6]
+-- an int of width w; a float of width w; a bool; an int type; an int or a float type [2.2.2, 3.49.6]
 abbrev pub IsInt : List PlainInst → ℕ → ℕ → Type 0
 IsInt is t w = form_of is t ≡ Some (form.Scalar (scalar.Int w))
 
--- a float of width w [3.49.6]
 abbrev pub IsFloat : List PlainInst → ℕ → ℕ → Type 0
 IsFloat is t w = form_of is t ≡ Some (form.Scalar (scalar.Float w))
 
--- a bool [3.49.6]
 abbrev pub IsBool : List PlainInst → ℕ → Type 0
 IsBool is t = form_of is t ≡ Some (form.Scalar scalar.Bool)
 
--- an int type [2.2.2]
 abbrev pub IsSomeInt : List PlainInst → ℕ → Type 0
 IsSomeInt is t = (w : ℕ) × IsInt is t w
 
--- an int or a float type [2.2.2]
 abbrev pub IsNumber : List PlainInst → ℕ → Type 0
 IsNumber is t = IsSomeInt is t ⊎ ((w : ℕ) × IsFloat is t w)
 
@@ -51,45 +46,40 @@ IsNumber is t = IsSomeInt is t ⊎ ((w : ℕ) × IsFloat is t w)
 abbrev pub IsMade : List PlainInst → ℕ → ℕ → Scalar → Type 0
 IsMade is t n s = components_of is t ≡ Some (record { scalar = s; count = n })
 
--- whether a scalar is an int, a float or a bool, whatever its width [own: Y5]
+-- whether a scalar is an int, a float or a bool, whatever its width; an I, F or B type, whatever its width [own: Y5]
 abbrev pub sort_of : Scalar → Sort
 sort_of (scalar.Int w) = sort.Int
 sort_of (scalar.Float w) = sort.Float
 sort_of scalar.Bool = sort.Bool
 
--- an I, F or B type, whatever its width [own: Y5]
 abbrev pub HasSort : Sort → List PlainInst → ℕ → Type 0
 HasSort s is t = IsSomeAnd (components_of is t) (λ c. sort_of c.scalar ≡ s)
 
--- a vector of n components of type c [3.49.6]
+-- a vector of n components of type c; a pointer of a storage class to a type; the type that a pointer points to; its
+-- storage class; a pointer to a type, of any storage class [3.49.6]
 abbrev pub IsVector : List PlainInst → ℕ → ℕ → ℕ → Type 0
 IsVector is t c n = form_of is t ≡ Some (form.Vector c n)
 
--- a pointer of a storage class to a type [3.49.6]
 abbrev pub IsPointer : List PlainInst → ℕ → ℕ → ℕ → Type 0
 IsPointer is t class p = form_of is t ≡ Some (form.Pointer class p)
 
--- the type that a pointer points to [3.49.6]
 abbrev pub pointee_in : Option Form → Option ℕ
 pointee_in (Some (form.Pointer class p)) = Some p
 pointee_in _ = None
 
--- the storage class of a pointer [3.49.6]
 abbrev pub class_in : Option Form → Option ℕ
 class_in (Some (form.Pointer class p)) = Some class
 class_in _ = None
 
--- a pointer to a type, of any storage class [3.49.6]
 abbrev pub PointsTo : List PlainInst → ℕ → ℕ → Type 0
 PointsTo is t p = pointee_in (form_of is t) ≡ Some p
 
--- A data type: an int, float, bool, vector, array, struct or pointer type. [own: Y5]
+-- A data type: an int, float, bool, vector, array, struct or pointer type; and an id that declares one. [own: Y5]
 abbrev pub IsDataForm : Form → Type 0
 IsDataForm form.Void = ⊥
 IsDataForm form.Opaque = ⊥
 IsDataForm form.Function = ⊥
 IsDataForm _ = Unit {0}
 
--- the same of the type that an id declares [own: Y5]
 abbrev pub IsData : List PlainInst → ℕ → Type 0
 IsData is t = IsSomeAnd (form_of is t) IsDataForm

@@ -8,18 +8,16 @@ use Rattle.spv_layout.specs.declared.form.Form.TheVariants as form
 use Rattle.spv_layout.specs.declared.form.Role.TheVariants as role
 use Rattle.spv_layout.specs.Shape.{HasForms}
 
--- the id of an operand of this form, if it is used as a value [own]
+-- the ids that operands of these forms use as values, in order [own]
 abbrev pub value_in : Form → Plain → List ℕ
 value_in (form.Id role.Value) (Id x) = x ∷ []
 value_in f o = []
 
--- the ids that operands of these forms use as values, in order [own]
 abbrev pub used_in : List Form → List Plain → List ℕ
 used_in (f ∷ fs) (o ∷ os) = value_in f o ++ used_in fs os
 used_in _ _ = []
 
--- The value operands of an instruction that fits its row of the table of shapes: the ids that it uses as values, in
--- order. [own]
+-- The value operands of an instruction that fits its row of the table of shapes: the ids that it uses as values. [own]
 pub record AreValues (G : Table) (i : PlainInst) (xs : List ℕ) : Type 0 where
   pub forms : List Form
   pub has : HasForms G i forms

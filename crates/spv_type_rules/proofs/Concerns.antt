@@ -1,5 +1,5 @@
 -- What the rules demand of an instruction that they do not speak of.
-use Rattle.std.proofs.Common.{◌≡◌, ◌∙◌, sym, ◌↔◌, lit≤, if◌then◌else◌, ◌≤◌, ◌<◌, ◌&&◌, ◌||◌, inl, inr, ℕ, List, Option, Some, None, Bool, true, false, not, nat_eq, nat_le, refl, arith}
+use Rattle.std.proofs.Common.{◌≡◌, ◌∙◌, sym, ◌↔◌, lit≤, if◌then◌else◌, ◌≤◌, ◌<◌, ◌+◌, ◌&&◌, ◌||◌, inl, inr, ℕ, List, Option, Some, None, Bool, true, false, not, nat_eq, nat_le, refl, arith}
 use Rattle.std.specs.Prelude.{IsTrue}
 use Rattle.std.proofs.lemmas.Bool.{cases_lt, ne_eqb, lt-leb}
 use Rattle.spv_module.specs.declared.opcode.TheConstants as opcode
@@ -56,11 +56,15 @@ of_operations n = not (is_operation n) || is_it concern.Nothing (concern_of n)
 abbrev speaks_alone : ℕ → Bool
 speaks_alone n = of_declarations n && (of_constants n && of_operations n)
 
-some_alone : all_from speaks_alone 0 258 ≡ true
+-- the number past the last opcode that a rule of types speaks of
+abbrev limit : ℕ
+limit = opcode.LIFETIME_STOP + 1
+
+some_alone : all_from speaks_alone 0 limit ≡ true
 some_alone = refl
 
-alone : (n : ℕ) → n < 258 → speaks_alone n ≡ true
-alone n h = one_from speaks_alone 258 0 n some_alone (omega arith) h
+alone : (n : ℕ) → n < limit → speaks_alone n ≡ true
+alone n h = one_from speaks_alone limit 0 n some_alone (omega arith) h
 
 -- opcodes past those
 differs : (n m : ℕ) → m < n → nat_eq n m ≡ false
@@ -73,14 +77,14 @@ and_false false = refl
 past : (a b n : ℕ) → b < n → is_between a b n ≡ false
 past a b n h = let e : nat_le n b ≡ false = lt-leb n b h in rw e (and_false (nat_le a n))
 
-late_declaration : (n : ℕ) → 258 ≤ n → declaration_of n ≡ None
+late_declaration : (n : ℕ) → limit ≤ n → declaration_of n ≡ None
 late_declaration n h =
     rw (differs n opcode.TYPE_INT (omega arith), differs n opcode.TYPE_FLOAT (omega arith), differs n opcode.TYPE_VECTOR (omega arith), differs n opcode.TYPE_ARRAY (omega arith), differs n opcode.TYPE_STRUCT (omega arith), differs n opcode.TYPE_POINTER (omega arith), differs n opcode.TYPE_FUNCTION (omega arith), differs n opcode.TYPE_FORWARD_POINTER (omega arith)) refl
 
-late_repeat : (n : ℕ) → 258 ≤ n → is_declared_once n ≡ false
+late_repeat : (n : ℕ) → limit ≤ n → is_declared_once n ≡ false
 late_repeat n h = rw (past opcode.TYPE_VOID opcode.TYPE_VECTOR n (omega arith), differs n opcode.TYPE_OPAQUE (omega arith), differs n opcode.TYPE_FUNCTION (omega arith)) refl
 
-late_constant : (n : ℕ) → 258 ≤ n → constant_of n ≡ None
+late_constant : (n : ℕ) → limit ≤ n → constant_of n ≡ None
 late_constant n h =
     rw (differs n opcode.CONSTANT_TRUE (omega arith), differs n opcode.CONSTANT_FALSE (omega arith), differs n opcode.SPEC_CONSTANT_TRUE (omega arith), differs n opcode.SPEC_CONSTANT_FALSE (omega arith), differs n opcode.CONSTANT (omega arith), differs n opcode.SPEC_CONSTANT (omega arith), differs n opcode.CONSTANT_COMPOSITE (omega arith), differs n opcode.SPEC_CONSTANT_COMPOSITE (omega arith), differs n opcode.CONSTANT_NULL (omega arith)) refl
 
@@ -94,7 +98,7 @@ not_yes true h = cc
 not_yes false h = refl
 
 no_declaration : (n : ℕ) → is_it concern.Declaration (concern_of n) ≡ false → declaration_of n ≡ None
-no_declaration n e = elim (cases_lt n 258) [
+no_declaration n e = elim (cases_lt n limit) [
   | inl h ↦
       let t = both (of_declarations n) (of_constants n && of_operations n) (alone n h) in
       let l = left_of (is_it concern.Declaration (concern_of n)) (is_nothing (declaration_of n) && not (is_declared_once n)) t.0 e in
@@ -103,7 +107,7 @@ no_declaration n e = elim (cases_lt n 258) [
 ]
 
 no_repeat : (n : ℕ) → is_it concern.Declaration (concern_of n) ≡ false → is_declared_once n ≡ false
-no_repeat n e = elim (cases_lt n 258) [
+no_repeat n e = elim (cases_lt n limit) [
   | inl h ↦
       let t = both (of_declarations n) (of_constants n && of_operations n) (alone n h) in
       let l = left_of (is_it concern.Declaration (concern_of n)) (is_nothing (declaration_of n) && not (is_declared_once n)) t.0 e in
@@ -112,14 +116,14 @@ no_repeat n e = elim (cases_lt n 258) [
 ]
 
 no_constant : (n : ℕ) → is_it concern.Constant (concern_of n) ≡ false → constant_of n ≡ None
-no_constant n e = elim (cases_lt n 258) [
+no_constant n e = elim (cases_lt n limit) [
   | inl h ↦
       let t = both (of_constants n) (of_operations n) (both (of_declarations n) (of_constants n && of_operations n) (alone n h)).1 in
       nothing (constant_of n) (left_of (is_it concern.Constant (concern_of n)) (is_nothing (constant_of n)) t.0 e)
   | inr h ↦ late_constant n h
 ]
 
-late_operation : (n : ℕ) → 258 ≤ n → is_operation n ≡ false
+late_operation : (n : ℕ) → limit ≤ n → is_operation n ≡ false
 late_operation n h =
     rw (past opcode.VARIABLE opcode.SELECTION_MERGE n (omega arith), differs n opcode.UNDEF (omega arith), differs n opcode.BRANCH_CONDITIONAL (omega arith), differs n opcode.SWITCH (omega arith), differs n opcode.LIFETIME_START (omega arith), differs n opcode.LIFETIME_STOP (omega arith)) refl
 
@@ -128,7 +132,7 @@ no_operation true h = refl
 no_operation false h = cc
 
 unconcerned : (n : ℕ) → is_operation n ≡ true → concern_of n ≡ concern.Nothing
-unconcerned n e = elim (cases_lt n 258) [
+unconcerned n e = elim (cases_lt n limit) [
   | inl h ↦
       let t = both (of_constants n) (of_operations n) (both (of_declarations n) (of_constants n && of_operations n) (alone n h)).1 in
       no_concern (concern_of n) (left_of (not (is_operation n)) (is_it concern.Nothing (concern_of n)) t.1 (no_operation (is_operation n) e))

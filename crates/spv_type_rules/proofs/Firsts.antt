@@ -1,5 +1,5 @@
 -- The rules Y2 to Y8 in their order.
-use Rattle.std.proofs.Common.{◌≡◌, ◌<◌, ℕ, List, Bool, true, false, refl, arith, lit<, lit≤}
+use Rattle.std.proofs.Common.{◌≡◌, ◌<◌, ℕ, suc, List, Bool, true, false, refl, arith, lit≤}
 use Rattle.spv_module.specs.Operand.{PlainInst}
 use Rattle.spv_module.specs.declared.fault.Rule.{Rule}
 use Rattle.spv_module.specs.declared.fault.Rule.TheVariants as rule
@@ -56,10 +56,6 @@ first_y8 is n i y2 y3 y4 y6 y7 never = record {
   least = λ q l. keeps_below is n i 32 (λ _. y2) (λ _. y3) (λ _. y4) (λ _. y6) (λ _. y7) (λ k. absurd (omega arith)) q l;
 }
 
-rank_below : (q : Rule) → rank_of q < 40
-rank_below rule.I1 = lit< tt
-rank_below _ = lit< tt
-
 pub all_kept : (is : List PlainInst) (n : ℕ) (i : PlainInst) → Keeps Unasked is rule.Y2 n i → Keeps Unasked is rule.Y3 n i → Keeps Unasked is rule.Y4 n i → KeepsFunctions is n i
     → KeepsReturns is n i → CallsAreSound is i → (q : Rule) → Keeps Unasked is q n i
-all_kept is n i y2 y3 y4 y6 y7 y8 q = keeps_below is n i 40 (λ _. y2) (λ _. y3) (λ _. y4) (λ _. y6) (λ _. y7) (λ _. y8) q (rank_below q)
+all_kept is n i y2 y3 y4 y6 y7 y8 q = keeps_below is n i (suc (rank_of q)) (λ _. y2) (λ _. y3) (λ _. y4) (λ _. y6) (λ _. y7) (λ _. y8) q (omega arith)

@@ -14,23 +14,20 @@ use Rattle.spv_type_rules.specs.declared.constant.Constant.TheVariants as consta
 
 -- the constants by opcode, the spec forms too [3.49.7]
 abbrev pub constant_of : ℕ → Option Constant
-constant_of n =
-    if nat_eq n opcode.CONSTANT_TRUE || nat_eq n opcode.CONSTANT_FALSE || nat_eq n opcode.SPEC_CONSTANT_TRUE
+constant_of n = if nat_eq n opcode.CONSTANT_TRUE || nat_eq n opcode.CONSTANT_FALSE || nat_eq n opcode.SPEC_CONSTANT_TRUE
     || nat_eq n opcode.SPEC_CONSTANT_FALSE then Some constant.Bool
     else (if nat_eq n opcode.CONSTANT || nat_eq n opcode.SPEC_CONSTANT then Some constant.Number
     else (if nat_eq n opcode.CONSTANT_COMPOSITE then Some constant.Composite
     else (if nat_eq n opcode.SPEC_CONSTANT_COMPOSITE then Some constant.SpecComposite
     else (if nat_eq n opcode.CONSTANT_NULL then Some constant.Null else None))))
 
--- what a composite constant is made of: OpUndef, OpConstantTrue to OpConstantComposite and OpConstantNull, in the spec
--- form also OpSpecConstantTrue to OpSpecConstantComposite [3.49.7]
+-- the id is that of what a composite constant is made of: OpUndef, OpConstantTrue to OpConstantComposite and
+-- OpConstantNull, in the spec form also OpSpecConstantTrue to OpSpecConstantComposite [3.49.7]
 abbrev pub is_part_opcode : Bool → ℕ → Bool
-is_part_opcode spec n =
-    nat_eq n opcode.UNDEF || (nat_le opcode.CONSTANT_TRUE n && nat_le n opcode.CONSTANT_COMPOSITE)
+is_part_opcode spec n = nat_eq n opcode.UNDEF || (nat_le opcode.CONSTANT_TRUE n && nat_le n opcode.CONSTANT_COMPOSITE)
     || nat_eq n opcode.CONSTANT_NULL
     || (spec && nat_le opcode.SPEC_CONSTANT_TRUE n && nat_le n opcode.SPEC_CONSTANT_COMPOSITE)
 
--- the id is that of an instruction that may be a part [3.49.7]
 abbrev pub IsPart : List PlainInst → Bool → ℕ → Type 0
 IsPart is spec x = IsSomeAnd (definition_of is x) (λ d. IsTrue (is_part_opcode spec d.opcode))
 
@@ -38,8 +35,7 @@ IsPart is spec x = IsSomeAnd (definition_of is x) (λ d. IsTrue (is_part_opcode 
 abbrev pub FitsWidth : List PlainInst → ℕ → ℕ → Type 0
 FitsWidth is r low = (w : ℕ) × (IsInt is r w ⊎ IsFloat is r w) × (w < 32 → low < 2 ^ w)
 
--- the parts of a composite constant: constants or OpUndefs, as many as the type has parts, each of the type at its
--- place [3.49.7]
+-- the parts of a composite constant: as many as the type has, each a constant or OpUndef of the type there [3.49.7]
 abbrev pub AreConstantParts : List PlainInst → Bool → ℕ → List ℕ → Type 0
 AreConstantParts is spec r xs = AllByRecursion (IsPart is spec) xs × IsSomeAnd (types_of is xs) (AreParts is r)
 

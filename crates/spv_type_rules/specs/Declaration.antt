@@ -17,8 +17,7 @@ use Rattle.spv_type_rules.specs.declared.declaration.Declaration.TheVariants.{Po
 
 -- the type declarations of which Y2 speaks, by opcode [3.49.6]
 abbrev pub declaration_of : ℕ → Option Declaration
-declaration_of n =
-    if nat_eq n opcode.TYPE_INT then Some Int
+declaration_of n = if nat_eq n opcode.TYPE_INT then Some Int
     else (if nat_eq n opcode.TYPE_FLOAT then Some Float
     else (if nat_eq n opcode.TYPE_VECTOR then Some Vector
     else (if nat_eq n opcode.TYPE_ARRAY then Some Array
@@ -44,15 +43,13 @@ pub record IsPointerAfter (is : List PlainInst) (n t class : ℕ) : Type 0 where
 -- parameters are of data types, an array's length is an `IsLength`, and a forward pointer names a later pointer of its
 -- class. [3.49.6; widths and counts own]
 abbrev pub DeclaresSoundly : List PlainInst → ℕ → Declaration → List Plain → Type 0
-DeclaresSoundly is n Int (Result t ∷ Word w ∷ Word s ∷ []) =
-    ((w ≡ 8) ⊎ (w ≡ 16) ⊎ (w ≡ 32) ⊎ (w ≡ 64)) × (s ≡ 0)
+DeclaresSoundly is n Int (Result t ∷ Word w ∷ Word s ∷ []) = ((w ≡ 8) ⊎ (w ≡ 16) ⊎ (w ≡ 32) ⊎ (w ≡ 64)) × (s ≡ 0)
 DeclaresSoundly is n Float (Result t ∷ Word w ∷ []) = (w ≡ 16) ⊎ (w ≡ 32) ⊎ (w ≡ 64)
 DeclaresSoundly is n Vector (Result t ∷ Id c ∷ Word k ∷ []) =
     IsSomeAnd (scalar_in (form_of is c)) (λ s. (k ≡ 2) ⊎ (k ≡ 3) ⊎ (k ≡ 4) ⊎ (k ≡ 8) ⊎ (k ≡ 16))
 DeclaresSoundly is n Array (Result t ∷ Id e ∷ Id l ∷ []) = IsData is e × IsLength is l
 DeclaresSoundly is n Struct (Result t ∷ os) = AllByRecursion (IsData is) (ids_in os)
-DeclaresSoundly is n Pointer (Result t ∷ Value k class ∷ Id p ∷ []) =
-    IsData is p ⊎ (form_of is p ≡ Some form.Opaque)
+DeclaresSoundly is n Pointer (Result t ∷ Value k class ∷ Id p ∷ []) = IsData is p ⊎ (form_of is p ≡ Some form.Opaque)
 DeclaresSoundly is n Function (Result t ∷ Id r ∷ os) =
     (IsData is r ⊎ (form_of is r ≡ Some form.Void)) × AllByRecursion (IsData is) (ids_in os)
 DeclaresSoundly is n Forward (Id p ∷ Value k class ∷ []) = IsPointerAfter is n p class

@@ -12,43 +12,38 @@ use Rattle.spv_type_forms.specs.Parts.{after_result, id_in}
 use Rattle.spv_type_forms.specs.Operands.{ids_in, after_head}
 use Rattle.spv_type_forms.specs.Values.{types_of}
 
--- what an OpTypeFunction names: the return type, and then the parameter types [3.49.9]
+-- the signature that an OpTypeFunction names, the return type and then the parameter types; the function type that an
+-- OpFunction names, %f = OpFunction %r control %t, and the signature of that [3.49.9]
 abbrev pub signature_in : PlainInst → Option (List Plain)
 signature_in i = if nat_eq i.opcode opcode.TYPE_FUNCTION then Some (after_result i.operands) else None
 
--- the function type that an OpFunction names: %f = OpFunction %r control %t [3.49.9]
 abbrev pub type_after_control : List Plain → Option ℕ
 type_after_control (c ∷ Id t ∷ os) = Some t
 type_after_control _ = None
 
--- the OpTypeFunction that an OpFunction names [3.49.9]
 abbrev pub function_type_in : PlainInst → Option ℕ
 function_type_in i = if nat_eq i.opcode opcode.FUNCTION then type_after_control (after_head i.operands) else None
 
--- the signature of the function type that an OpFunction names [3.49.9]
 abbrev pub signature_of : List PlainInst → PlainInst → Option (List Plain)
 signature_of is f = option_and_then (λ t. option_and_then signature_in (definition_of is t)) (function_type_in f)
 
--- how many OpFunctionParameters are among instructions [3.49.9]
+-- how many OpFunctionParameters are among instructions, and how many follow instruction n, an OpFunction, before its
+-- first OpLabel or OpFunctionEnd; a signature is the return type r and so many parameter types [3.49.9]
 abbrev pub parameter_count : List PlainInst → ℕ
 parameter_count is = count_by (λ i. nat_eq i.opcode opcode.FUNCTION_PARAMETER) is
 
--- how many follow instruction n, an OpFunction, before its first OpLabel or its OpFunctionEnd [3.49.9]
 abbrev pub parameters_after : List PlainInst → ℕ → ℕ
-parameters_after is n =
-    parameter_count
+parameters_after is n = parameter_count
     (take_while (λ i. not (nat_eq i.opcode opcode.LABEL || nat_eq i.opcode opcode.FUNCTION_END)) (drop (n + 1) is))
 
--- The signature begins with the return type r, and has so many parameter types. [3.49.9]
 abbrev pub ReturnsAfter : Option ℕ → ℕ → List Plain → Type 0
 ReturnsAfter r count (Id t ∷ ps) = (r ≡ Some t) × (length ps ≡ count)
 ReturnsAfter r count _ = ⊥
 
--- how many parameters stand between instructions f and n [3.49.9]
+-- how many parameters stand between instructions f and n; the type of parameter k, from 0, of a function [3.49.9]
 abbrev pub parameters_between : List PlainInst → ℕ → ℕ → ℕ
 parameters_between is f n = parameter_count (drop (f + 1) (take n is))
 
--- the type of the parameter k, from 0, by the type of a function [3.49.9]
 abbrev pub parameter_type_of : List PlainInst → PlainInst → ℕ → Option ℕ
 parameter_type_of is f k = option_and_then (λ ts. option_and_then id_in (slice_get ts (k + 1))) (signature_of is f)
 
@@ -65,11 +60,10 @@ abbrev pub ReturnsTyped : PlainInst → List ℕ → Type 0
 ReturnsTyped d (o ∷ []) = type_in d.operands ≡ Some o
 ReturnsTyped d _ = ⊥
 
--- Y8 as a relation of types: of a call with the result type r of the function d, with arguments of these types [3.49.9]
+-- Y8 at %x = OpFunctionCall %r %f %a ..: the signature of f is r and the types of the arguments [3.49.9]
 abbrev pub CallsTyped : List PlainInst → PlainInst → ℕ → List ℕ → Type 0
 CallsTyped is d r types = signature_of is d ≡ Some (map Id (r ∷ types))
 
--- Y8 is unbroken at an OpFunctionCall: %x = OpFunctionCall %r %f %a .. [3.49.9]
 abbrev pub CallsSoundly : List PlainInst → ℕ → List Plain → Type 0
 CallsSoundly is r (Id f ∷ os) =
     IsSomeAnd (definition_of is f) (λ d. IsSomeAnd (types_of is (ids_in os)) (CallsTyped is d r))

@@ -6,19 +6,17 @@ use Rattle.spv_words.specs.declared.words.Order.TheVariants.{Little}
 use Rattle.spv_words.specs.declared.words.WordError.{WordError}
 use Rattle.spv_words.specs.declared.words.WordError.TheVariants as code
 
--- 0x07230203. [2.3]
+-- The magic number 0x07230203; the version 0x00010600, 1.6, and this one alone; the greatest bound of ids; the greatest
+-- number of bytes of a module. [2.3; all but the first own]
 abbrev pub magic_number : ℕ
 magic_number = 119734787
 
--- 0x00010600, for version 1.6; that it is this one alone is own. [2.3; own]
 abbrev pub version_number : ℕ
 version_number = 67072
 
--- The greatest bound of ids. [own]
 abbrev pub greatest_bound : ℕ
 greatest_bound = 4194303
 
--- The greatest number of bytes of a module. [own]
 abbrev pub greatest_size : ℕ
 greatest_size = 16777216
 

@@ -3,8 +3,7 @@ use Rattle.std.specs.Prelude.{◌≡◌, ◌<◌, ℕ, ◌+◌, ◌*◌, List, [
 use Rattle.spv_words.specs.declared.words.Order.{Order}
 use Rattle.spv_words.specs.declared.words.Order.TheVariants.{Little, Big}
 
--- Four bytes as a word: times 1, 256, 65,536 and 16,777,216, in Little from the first byte on, in Big from the last
--- byte back. [2.3]
+-- Four bytes as a word: the first is its least part in Little, and its greatest in Big. [2.3]
 abbrev pub word_of : Order → ℕ → ℕ → ℕ → ℕ → ℕ
 word_of Little a b c d = a + 256 * b + 65536 * c + 16777216 * d
 word_of Big a b c d = d + 256 * c + 65536 * b + 16777216 * a
@@ -17,8 +16,7 @@ pub record StandFor (o : Order) (bytes words : List ℕ) : Type 0 where
       → slice_index words k ≡ word_of o (slice_index bytes (4 * k)) (slice_index bytes (4 * k + 1))
       (slice_index bytes (4 * k + 2)) (slice_index bytes (4 * k + 3))
 
--- The words of the whole groups of four bytes: where there are only such, the bytes stand for them (`words_stand`).
--- [own]
+-- The words of the whole groups of four bytes: where there are only such, the bytes stand for them. [own]
 abbrev pub words_of : Order → List ℕ → List ℕ
 words_of o (a ∷ b ∷ c ∷ d ∷ rest) = word_of o a b c d ∷ words_of o rest
 words_of o _ = []

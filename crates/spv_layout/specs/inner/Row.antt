@@ -1,12 +1,14 @@
--- Rows of the table of shapes. (Own.) (For the code alone.)
+-- Rows of the table of shapes, by their letters. (Own.) (For the code alone.)
 use Rattle.std.specs.Prelude.{ℕ, List, Option, Some, None, slice_get}
-use Rattle.spv_layout.specs.declared.form.Ending as declared
-use Rattle.spv_layout.specs.declared.form.Ending.TheVariants as code
-use Rattle.spv_layout.specs.declared.form.Row as declared_row
+use Rattle.spv_layout.specs.declared.class.Class.{Class}
+use Rattle.spv_layout.specs.declared.form.Role.TheVariants as role
 use Rattle.spv_layout.specs.declared.form.Form.{Form}
 use Rattle.spv_layout.specs.declared.form.Form.TheVariants as form
 use Rattle.spv_layout.specs.declared.form.Named.{Named}
-use Rattle.spv_layout.specs.Row.{RowEnding, PlainRow, closed, f, file_and_text, maybe, maybe_others, others, repeated}
+use Rattle.spv_layout.specs.declared.form.Ending as declared
+use Rattle.spv_layout.specs.declared.form.Ending.TheVariants as code
+use Rattle.spv_layout.specs.declared.form.Row as declared_row
+use Rattle.spv_layout.specs.Row.{RowEnding, PlainRow, closed, file_and_text, maybe, maybe_others, others, repeated}
 
 -- the row of a number, from 0, if there is a number and a row
 abbrev pub numbered : List PlainRow → Option ℕ → Option PlainRow
@@ -25,30 +27,42 @@ plain_ending (code.MaybeOthers f) = maybe_others f
 abbrev pub plain_row : declared_row.Row → PlainRow
 plain_row r = record { from = r.from; to = r.to; class = r.class; fixed = r.fixed.now; ending = plain_ending r.ending }
 
--- a result type [own]
+-- a row of these
+abbrev pub row : ℕ → ℕ → Class → List Form → RowEnding → PlainRow
+row from to class fixed ending = record { from = from; to = to; class = class; fixed = fixed; ending = ending }
+
+-- the letters of src/rows.rt: a result type
 abbrev pub T : Form
 T = form.OfType
 
--- a result [own]
+-- a result
 abbrev pub R : Form
 R = form.Result
 
--- a literal of one word [own]
+-- a literal of one word
 abbrev pub W : Form
 W = form.Word
 
--- a text [own]
-abbrev pub S : Form
-S = form.Text
-
--- a literal whose width its type tells [own]
+-- a literal whose width its type tells
 abbrev pub N : Form
 N = form.Number
 
--- an id of which nothing is asked [own]
-abbrev pub x : Form
-x = form.Unseen
-
--- a value or mask of a kind [own]
+-- a value or mask of a kind
 abbrev pub kind : Named → Form
 kind name = form.Kind name
+
+-- the id of a type
+abbrev pub t : Form
+t = form.Id role.OfType
+
+-- the id of a value
+abbrev pub v : Form
+v = form.Id role.Value
+
+-- the id of a function
+abbrev pub f : Form
+f = form.Id role.Function
+
+-- the id of a label
+abbrev pub l : Form
+l = form.Id role.Label

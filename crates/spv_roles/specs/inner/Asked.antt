@@ -42,9 +42,9 @@ late n =
 
 abbrev pub asked_of : ℕ → Option Asked
 asked_of n =
-    if is_between opcode.CONVERT_F_TO_U opcode.NOT n || is_between opcode.LOAD opcode.IN_BOUNDS_PTR_ACCESS_CHAIN n
+    if is_between opcode.CONVERT_F_TO_U opcode.ATOMIC_XOR n
+    || is_between opcode.LOAD opcode.IN_BOUNDS_PTR_ACCESS_CHAIN n
     || is_between opcode.VECTOR_EXTRACT_DYNAMIC opcode.COPY_OBJECT n
-    || is_between opcode.CONTROL_BARRIER opcode.ATOMIC_XOR n
     then ask role.Value role.Value role.Any
     else (if nat_le n opcode.VARIABLE then early n
     else late n)

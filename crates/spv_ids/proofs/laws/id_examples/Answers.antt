@@ -8,8 +8,8 @@ use Rattle.spv_module.specs.declared.fault.Rule.TheVariants.{D2, D4, D5}
 use Rattle.spv_module.specs.declared.opcode.TheConstants as opcode
 use Rattle.spv_layout.specs.declared.class.Class.TheVariants.{Declaration, Function}
 use Rattle.spv_layout.specs.declared.form.Role.TheVariants as role
-use Rattle.spv_layout.specs.Row.{row, t, repeated}
-use Rattle.spv_layout.specs.inner.Row.{R}
+use Rattle.spv_layout.specs.Row.{repeated}
+use Rattle.spv_layout.specs.inner.Row.{row, t, R}
 use Rattle.spv_layout.specs.Rows.{rows}
 use Rattle.spv_layout.specs.Shape.{AreOf, Ends, HasForms, IsUse}
 use Rattle.spv_layout.specs.Place.{IsAt, IsOfSection}

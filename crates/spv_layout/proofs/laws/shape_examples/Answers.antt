@@ -9,9 +9,8 @@ use Rattle.spv_layout.specs.declared.form.Form.TheVariants as form
 use Rattle.spv_layout.specs.declared.form.Role.TheVariants as role
 use Rattle.spv_layout.specs.declared.form.Named.TheVariants as kind_of
 use Rattle.spv_layout.specs.declared.class.Class.TheVariants.{Body}
-use Rattle.spv_layout.specs.Row.{row, v, maybe_others}
-use Rattle.spv_layout.specs.inner.Row.{kind}
-use Rattle.spv_layout.specs.inner.Row.{T, R}
+use Rattle.spv_layout.specs.Row.{maybe_others}
+use Rattle.spv_layout.specs.inner.Row.{row, v, kind, T, R}
 use Rattle.spv_layout.specs.Rows.{rows}
 use Rattle.spv_layout.specs.Shape.{Ends, HasForms, FitsShape, IsUse}
 use Rattle.spv_layout.specs.Example.{load_of_word, matrix}

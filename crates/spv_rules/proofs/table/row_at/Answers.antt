@@ -1,11 +1,17 @@
+use Rattle.std.proofs.Common.{arith}
 use Rattle.spv_rules.proofs.Rows.{in_words, in_forms, in_types}
 use Rattle.spv_rules.proofs.table.row_at.Goals as goal
 
-pub returns-then-place-lt9 : goal.returns-then-place-lt9
-returns-then-place-lt9 c = in_words c.word_rows.result.now c.args.place _ c.word_rows.ensures c.if-place-lt9.true
+pub returns-then-place-words : goal.returns-then-place-words
+returns-then-place-words c = in_words c.word_rows-words.result.now c.args.place _ c.word_rows-words.ensures.same c.if-place-words.true
 
-pub returns-then-place-lt30 : goal.returns-then-place-lt30
-returns-then-place-lt30 c = in_forms c.form_rows.result.now c.args.place _ c.form_rows.ensures c.if-place-lt9.false c.if-place-lt30.true
+pub returns-then-place-past_words : goal.returns-then-place-past_words
+returns-then-place-past_words c =
+    in_forms c.word_rows-words.result.now c.form_rows-forms.result.now c.args.place _ _ c.word_rows-words.ensures.same c.form_rows-forms.ensures.same
+    (omega (arith, c.if-place-words.false)) (omega (arith, c.if-place-words.false, c.if-place-past_words.true))
 
-pub returns-else-place-lt30 : goal.returns-else-place-lt30
-returns-else-place-lt30 c = in_types c.type_rows.result.now c.args.place _ c.type_rows.ensures c.if-place-lt30.false c.requires
+pub returns-else-place-past_words : goal.returns-else-place-past_words
+returns-else-place-past_words c =
+    in_types c.word_rows-words.result.now c.form_rows-forms.result.now c.type_rows-types.result.now c.args.place _ _ c.word_rows-words.ensures.same
+    c.form_rows-forms.ensures.same c.type_rows-types.ensures.same (omega (arith, c.if-place-past_words.false))
+    (omega (arith, c.requires, c.if-place-past_words.false, c.word_rows-words.ensures.long, c.form_rows-forms.ensures.long, c.type_rows-types.ensures.long))
