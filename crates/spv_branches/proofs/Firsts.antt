@@ -23,7 +23,9 @@ use Rattle.spv_branches.specs.Found.{IsRefusal}
 use Rattle.spv_branches.specs.Target.{is_phi, is_merge, is_branch, is_conditional, IsOp, HasParents}
 use Rattle.spv_branches.specs.Broken.{Broken}
 use Rattle.spv_branches.specs.inner.Graph.{HasLabels, LacksLabel, LeadsToEntry, HasSameLabels, IsFirstAt}
+use Rattle.spv_branches.specs.inner.Labels.{is_labelled}
 use Rattle.spv_branches.proofs.Labelled.{op_tells, op_holds}
+use Rattle.spv_branches.proofs.Places.{branch_labelled, merge_labelled}
 
 -- an instruction with an opcode is there
 pub record Holds (is : List PlainInst) (n : ℕ) (test : ℕ → Bool) : Type 0 where
@@ -68,60 +70,84 @@ low_merge x h t = grind (arith, nat_tests)
 pub low_branch : (x : ℕ) → x < opcode.PHI → is_branch x ≡ true → ⊥
 low_branch x h t = grind (arith, nat_tests)
 
--- an instruction at which a rule is broken is there
-pub broken_within : (G : Table) (is : List PlainInst) (q : Rule) (n : ℕ) → stage_of q ≡ of_branches → Broken G is q n → n < length is
-broken_within G is _ _ s (Broken.no_label n k x op used none) = slice_get_within is n used.inst used.there
-broken_within G is _ _ s (Broken.to_entry n x m target d e) = slice_get_within is n target.used.inst target.used.there
-broken_within G is _ _ s (Broken.parents n phi not) = (let h = holds is n is_phi phi in slice_get_within is n h.inst h.there)
-broken_within G is _ _ s (Broken.same_labels n x op u w) = slice_get_within is n u.inst u.there
-broken_within G is _ _ s (Broken.missing n m) = absurd (cc)
-broken_within G is _ _ s (Broken.pair_missing n m) = absurd (cc)
-
-pub at_phi : (G : Table) (is : List PlainInst) (q : Rule) (n : ℕ) → IsOp is n is_phi → stage_of q ≡ of_branches → Broken G is q n → (q ≡ F3) × ¬ (HasParents G is n)
-at_phi G is _ _ phi s (Broken.no_label n k x (inl b) used none) = absurd (let h : is_branch opcode.PHI ≡ true = known is n opcode.PHI is_branch phi b in cc)
-at_phi G is _ _ phi s (Broken.no_label n k x (inr m) used none) = absurd (let h : is_merge opcode.PHI ≡ true = known is n opcode.PHI is_merge phi m in cc)
-at_phi G is _ _ phi s (Broken.to_entry n x m target d e) = absurd (let h : is_branch opcode.PHI ≡ true = known is n opcode.PHI is_branch phi target.branch in cc)
-at_phi G is _ _ phi s (Broken.parents n p not) = (refl, not)
-at_phi G is _ _ phi s (Broken.same_labels n x op u w) = absurd (let h : is_conditional opcode.PHI ≡ true = known is n opcode.PHI is_conditional phi op in cc)
-at_phi G is _ _ phi s (Broken.missing n m) = absurd (cc)
-at_phi G is _ _ phi s (Broken.pair_missing n m) = absurd (cc)
-
-pub at_merge : (G : Table) (is : List PlainInst) (q : Rule) (n : ℕ) → IsOp is n is_merge → stage_of q ≡ of_branches → Broken G is q n → (q ≡ F1) × LacksLabel G is n
-at_merge G is _ _ merge s (Broken.no_label n k x op used none) = (refl, record { operand = k; id = x; used = used; none = none })
-at_merge G is _ _ merge s (Broken.to_entry n x m target d e) = absurd (merge_apart is n merge target.branch)
-at_merge G is _ _ merge s (Broken.parents n p not) = absurd (let h : is_merge opcode.PHI ≡ true = known is n opcode.PHI is_merge p merge in cc)
-at_merge G is _ _ merge s (Broken.same_labels n x op u w) = absurd (let h : is_merge opcode.BRANCH_CONDITIONAL ≡ true = known is n opcode.BRANCH_CONDITIONAL is_merge op merge in cc)
-at_merge G is _ _ merge s (Broken.missing n m) = absurd (cc)
-at_merge G is _ _ merge s (Broken.pair_missing n m) = absurd (cc)
-
--- What can be broken at a branch.
-pub data AtBranch (G : Table) (is : List PlainInst) (n : ℕ) : Rule → Type 0 where
-  lacks : LacksLabel G is n → AtBranch G is n F1
-  entry : LeadsToEntry G is n → AtBranch G is n F2
-  same : IsOp is n is_conditional → HasSameLabels G is n → AtBranch G is n F4
-
-pub at_branch : (G : Table) (is : List PlainInst) (q : Rule) (n : ℕ) → IsOp is n is_branch → stage_of q ≡ of_branches → Broken G is q n → AtBranch G is n q
-at_branch G is _ _ branch s (Broken.no_label n k x op used none) = lacks (record { operand = k; id = x; used = used; none = none })
-at_branch G is _ _ branch s (Broken.to_entry n x m target d e) = entry (record { operand = target.operand; id = x; used = target.used; place = m; defined = d; entry = e })
-at_branch G is _ _ branch s (Broken.parents n p not) = absurd (let h : is_branch opcode.PHI ≡ true = known is n opcode.PHI is_branch p branch in cc)
-at_branch G is _ _ branch s (Broken.same_labels n x op u w) = same op (record { id = x; one = u; two = w })
-at_branch G is _ _ branch s (Broken.missing n m) = absurd (cc)
-at_branch G is _ _ branch s (Broken.pair_missing n m) = absurd (cc)
-
 conditional_branches : (is : List PlainInst) (n : ℕ) → IsOp is n is_conditional → IsOp is n is_branch
 conditional_branches is n op =
     let h = holds is n is_conditional op in
     let e : h.inst.opcode ≡ opcode.BRANCH_CONDITIONAL = eqb-true h.inst.opcode opcode.BRANCH_CONDITIONAL h.holds in
     op_holds is n h.inst is_branch h.there (ap is_branch e)
 
+-- What can be broken at a merge.
+pub data AtMerge (G : Table) (is : List PlainInst) (n : ℕ) : Rule → Type 0 where
+  lacks : LacksLabel G is n → AtMerge G is n F1
+
+-- What can be broken at a branch.
+pub data AtBranch (G : Table) (is : List PlainInst) (n : ℕ) : Rule → Type 0 where
+  lacks : LacksLabel G is n → AtBranch G is n F1
+  entry : LeadsToEntry G is n → AtBranch G is n F2
+  same : IsOp is n is_conditional → HasSameLabels G is n 1 2 → AtBranch G is n F4
+
+-- At which opcodes a rule F can be broken: the one place that goes through them all.
+data IsPlaced (G : Table) (is : List PlainInst) (q : Rule) (n : ℕ) : Type 0 where
+  of_phi : IsOp is n is_phi → q ≡ F3 → ¬ (HasParents G is n) → IsPlaced G is q n
+  of_merge : IsOp is n is_merge → AtMerge G is n q → IsPlaced G is q n
+  of_branch : IsOp is n is_branch → AtBranch G is n q → IsPlaced G is q n
+
+placed : (G : Table) (is : List PlainInst) (q : Rule) (n : ℕ) → stage_of q ≡ of_branches → Broken G is q n → IsPlaced G is q n
+placed G is _ _ s (Broken.no_label n k x (inl b) used none) = of_branch b (AtBranch.lacks (record { operand = k; id = x; used = used; none = none }))
+placed G is _ _ s (Broken.no_label n k x (inr m) used none) = of_merge m (AtMerge.lacks (record { operand = k; id = x; used = used; none = none }))
+placed G is _ _ s (Broken.to_entry n x m target d e) = of_branch target.branch (AtBranch.entry (record { operand = target.operand; id = x; used = target.used; place = m; defined = d; entry = e }))
+placed G is _ _ s (Broken.parents n phi not) = of_phi phi refl not
+placed G is _ _ s (Broken.same_labels n x op u w) = of_branch (conditional_branches is n op) (AtBranch.same op (record { id = x; one = u; two = w }))
+placed G is _ _ s _ = absurd (cc)
+
+-- an instruction at which a rule is broken is there
+op_within : (is : List PlainInst) (n : ℕ) (test : ℕ → Bool) → IsOp is n test → n < length is
+op_within is n test op = let h = holds is n test op in slice_get_within is n h.inst h.there
+
+within : (G : Table) (is : List PlainInst) (q : Rule) (n : ℕ) → IsPlaced G is q n → n < length is
+within G is q n (of_phi op e not) = op_within is n is_phi op
+within G is q n (of_merge op m) = op_within is n is_merge op
+within G is q n (of_branch op b) = op_within is n is_branch op
+
+pub broken_within : (G : Table) (is : List PlainInst) (q : Rule) (n : ℕ) → stage_of q ≡ of_branches → Broken G is q n → n < length is
+broken_within G is q n s b = within G is q n (placed G is q n s b)
+
+-- what is broken there, by the opcode
+phi_apart : (is : List PlainInst) (n : ℕ) (test : ℕ → Bool) → (test opcode.PHI ≡ true → ⊥) → IsOp is n is_phi → IsOp is n test → ⊥
+phi_apart is n test never phi op = never (known is n opcode.PHI test phi op)
+
+phi_placed : (G : Table) (is : List PlainInst) (q : Rule) (n : ℕ) → IsOp is n is_phi → IsPlaced G is q n → (q ≡ F3) × ¬ (HasParents G is n)
+phi_placed G is q n phi (of_phi op e not) = (e, not)
+phi_placed G is q n phi (of_merge op m) = absurd (phi_apart is n is_merge (λ h. cc) phi op)
+phi_placed G is q n phi (of_branch op b) = absurd (phi_apart is n is_branch (λ h. cc) phi op)
+
+pub at_phi : (G : Table) (is : List PlainInst) (q : Rule) (n : ℕ) → IsOp is n is_phi → stage_of q ≡ of_branches → Broken G is q n → (q ≡ F3) × ¬ (HasParents G is n)
+at_phi G is q n phi s b = phi_placed G is q n phi (placed G is q n s b)
+
+merge_placed : (G : Table) (is : List PlainInst) (q : Rule) (n : ℕ) → IsOp is n is_merge → IsPlaced G is q n → AtMerge G is n q
+merge_placed G is q n merge (of_phi op e not) = absurd (phi_apart is n is_merge (λ h. cc) op merge)
+merge_placed G is q n merge (of_merge op m) = m
+merge_placed G is q n merge (of_branch op b) = absurd (merge_apart is n merge op)
+
+at_merge : (G : Table) (is : List PlainInst) (q : Rule) (n : ℕ) → IsOp is n is_merge → stage_of q ≡ of_branches → Broken G is q n → AtMerge G is n q
+at_merge G is q n merge s b = merge_placed G is q n merge (placed G is q n s b)
+
+branch_placed : (G : Table) (is : List PlainInst) (q : Rule) (n : ℕ) → IsOp is n is_branch → IsPlaced G is q n → AtBranch G is n q
+branch_placed G is q n branch (of_phi op e not) = absurd (phi_apart is n is_branch (λ h. cc) op branch)
+branch_placed G is q n branch (of_merge op m) = absurd (merge_apart is n op branch)
+branch_placed G is q n branch (of_branch op b) = b
+
+at_branch : (G : Table) (is : List PlainInst) (q : Rule) (n : ℕ) → IsOp is n is_branch → stage_of q ≡ of_branches → Broken G is q n → AtBranch G is n q
+at_branch G is q n branch s b = branch_placed G is q n branch (placed G is q n s b)
+
+other_placed : (G : Table) (is : List PlainInst) (q : Rule) (n : ℕ) → ¬ (IsOp is n is_phi) → ¬ (IsOp is n is_merge) → ¬ (IsOp is n is_branch) → ¬ (IsPlaced G is q n)
+other_placed G is q n not_phi not_merge not_branch (of_phi op e not) = not_phi op
+other_placed G is q n not_phi not_merge not_branch (of_merge op m) = not_merge op
+other_placed G is q n not_phi not_merge not_branch (of_branch op b) = not_branch op
+
+-- nothing is broken at an instruction that is no OpPhi, no merge and no branch
 pub at_other : (G : Table) (is : List PlainInst) (q : Rule) (n : ℕ) → ¬ (IsOp is n is_phi) → ¬ (IsOp is n is_merge) → ¬ (IsOp is n is_branch) → stage_of q ≡ of_branches → ¬ (Broken G is q n)
-at_other G is _ _ not_phi not_merge not_branch s (Broken.no_label n k x (inl b) used none) = not_branch b
-at_other G is _ _ not_phi not_merge not_branch s (Broken.no_label n k x (inr m) used none) = not_merge m
-at_other G is _ _ not_phi not_merge not_branch s (Broken.to_entry n x m target d e) = not_branch target.branch
-at_other G is _ _ not_phi not_merge not_branch s (Broken.parents n p not) = not_phi p
-at_other G is _ _ not_phi not_merge not_branch s (Broken.same_labels n x op u w) = not_branch (conditional_branches is n op)
-at_other G is _ _ not_phi not_merge not_branch s (Broken.missing n m) = absurd (cc)
-at_other G is _ _ not_phi not_merge not_branch s (Broken.pair_missing n m) = absurd (cc)
+at_other G is q n not_phi not_merge not_branch s b = other_placed G is q n not_phi not_merge not_branch (placed G is q n s b)
 
 labelled : (G : Table) (is : List PlainInst) (n : ℕ) → HasLabels G is n → ¬ (LacksLabel G is n)
 labelled G is n has l = let h = has l.operand l.id l.used in l.none h.0 h.1
@@ -133,36 +159,43 @@ phi_broken G is n phi not = (refl, Broken.parents n phi not, λ q s b. let e = (
 pub phi_fine : (G : Table) (is : List PlainInst) (n : ℕ) → IsOp is n is_phi → HasParents G is n → IsFirstAt G is n None
 phi_fine G is n phi has = λ q s b. (at_phi G is q n phi s b).1 has
 
+first_of_merge : (G : Table) (is : List PlainInst) (n : ℕ) (q : Rule) → AtMerge G is n q → rank_of F1 ≤ rank_of q
+first_of_merge G is n _ (AtMerge.lacks l) = omega arith
+
+none_of_merge : (G : Table) (is : List PlainInst) (n : ℕ) (q : Rule) → HasLabels G is n → AtMerge G is n q → ⊥
+none_of_merge G is n _ has (AtMerge.lacks l) = labelled G is n has l
+
 pub merge_broken : (G : Table) (is : List PlainInst) (n : ℕ) → IsOp is n is_merge → LacksLabel G is n → IsFirstAt G is n (Some F1)
-merge_broken G is n merge l = (
-  refl,
-  Broken.no_label n l.operand l.id (inr merge) l.used l.none,
-  λ q s b. let e = (at_merge G is q n merge s b).0 in subst (λ (r : Rule). rank_of F1 ≤ rank_of r) (sym e) (omega arith),
-)
+merge_broken G is n merge l = (refl, Broken.no_label n l.operand l.id (inr merge) l.used l.none, λ q s b. first_of_merge G is n q (at_merge G is q n merge s b))
 
 pub merge_fine : (G : Table) (is : List PlainInst) (n : ℕ) → IsOp is n is_merge → HasLabels G is n → IsFirstAt G is n None
-merge_fine G is n merge has = λ q s b. labelled G is n has (at_merge G is q n merge s b).1
+merge_fine G is n merge has = λ q s b. none_of_merge G is n q has (at_merge G is q n merge s b)
+
+pub op_labelled_merge : (is : List PlainInst) (n : ℕ) → IsOp is n is_merge → IsOp is n is_labelled
+op_labelled_merge is n op = op_moved is n is_merge is_labelled merge_labelled op
+
+pub ruleset merges = (op_labelled_merge, merge_broken, merge_fine)
 
 -- at a branch F1 comes first
 first_of_branch : (G : Table) (is : List PlainInst) (n : ℕ) (q : Rule) → AtBranch G is n q → rank_of F1 ≤ rank_of q
-first_of_branch G is n _ (lacks l) = omega arith
-first_of_branch G is n _ (entry e) = omega arith
-first_of_branch G is n _ (same op h) = omega arith
+first_of_branch G is n _ (AtBranch.lacks l) = omega arith
+first_of_branch G is n _ (AtBranch.entry e) = omega arith
+first_of_branch G is n _ (AtBranch.same op h) = omega arith
 
 second_of_branch : (G : Table) (is : List PlainInst) (n : ℕ) (q : Rule) → HasLabels G is n → AtBranch G is n q → rank_of F2 ≤ rank_of q
-second_of_branch G is n _ has (lacks l) = absurd (labelled G is n has l)
-second_of_branch G is n _ has (entry e) = omega arith
-second_of_branch G is n _ has (same op h) = omega arith
+second_of_branch G is n _ has (AtBranch.lacks l) = absurd (labelled G is n has l)
+second_of_branch G is n _ has (AtBranch.entry e) = omega arith
+second_of_branch G is n _ has (AtBranch.same op h) = omega arith
 
 last_of_branch : (G : Table) (is : List PlainInst) (n : ℕ) (q : Rule) → HasLabels G is n → ¬ (LeadsToEntry G is n) → AtBranch G is n q → rank_of F4 ≤ rank_of q
-last_of_branch G is n _ has free (lacks l) = absurd (labelled G is n has l)
-last_of_branch G is n _ has free (entry e) = absurd (free e)
-last_of_branch G is n _ has free (same op h) = omega arith
+last_of_branch G is n _ has free (AtBranch.lacks l) = absurd (labelled G is n has l)
+last_of_branch G is n _ has free (AtBranch.entry e) = absurd (free e)
+last_of_branch G is n _ has free (AtBranch.same op h) = omega arith
 
-none_of_branch : (G : Table) (is : List PlainInst) (n : ℕ) (q : Rule) → HasLabels G is n → ¬ (LeadsToEntry G is n) → (IsOp is n is_conditional → ¬ (HasSameLabels G is n)) → AtBranch G is n q → ⊥
-none_of_branch G is n _ has free apart (lacks l) = labelled G is n has l
-none_of_branch G is n _ has free apart (entry e) = free e
-none_of_branch G is n _ has free apart (same op h) = apart op h
+none_of_branch : (G : Table) (is : List PlainInst) (n : ℕ) (q : Rule) → HasLabels G is n → ¬ (LeadsToEntry G is n) → (IsOp is n is_conditional → ¬ (HasSameLabels G is n 1 2)) → AtBranch G is n q → ⊥
+none_of_branch G is n _ has free apart (AtBranch.lacks l) = labelled G is n has l
+none_of_branch G is n _ has free apart (AtBranch.entry e) = free e
+none_of_branch G is n _ has free apart (AtBranch.same op h) = apart op h
 
 pub branch_lacks : (G : Table) (is : List PlainInst) (n : ℕ) → IsOp is n is_branch → LacksLabel G is n → IsFirstAt G is n (Some F1)
 branch_lacks G is n branch l = (refl, Broken.no_label n l.operand l.id (inl branch) l.used l.none, λ q s b. first_of_branch G is n q (at_branch G is q n branch s b))
@@ -174,11 +207,16 @@ branch_enters G is n branch has e = (
   λ q s b. second_of_branch G is n q has (at_branch G is q n branch s b),
 )
 
-pub branch_same : (G : Table) (is : List PlainInst) (n : ℕ) → IsOp is n is_branch → IsOp is n is_conditional → HasLabels G is n → ¬ (LeadsToEntry G is n) → HasSameLabels G is n → IsFirstAt G is n (Some F4)
+pub branch_same : (G : Table) (is : List PlainInst) (n : ℕ) → IsOp is n is_branch → IsOp is n is_conditional → HasLabels G is n → ¬ (LeadsToEntry G is n) → HasSameLabels G is n 1 2 → IsFirstAt G is n (Some F4)
 branch_same G is n branch op has free h = (refl, Broken.same_labels n h.id op h.one h.two, λ q s b. last_of_branch G is n q has free (at_branch G is q n branch s b))
 
-pub branch_fine : (G : Table) (is : List PlainInst) (n : ℕ) → IsOp is n is_branch → HasLabels G is n → ¬ (LeadsToEntry G is n) → (IsOp is n is_conditional → ¬ (HasSameLabels G is n)) → IsFirstAt G is n None
+pub branch_fine : (G : Table) (is : List PlainInst) (n : ℕ) → IsOp is n is_branch → HasLabels G is n → ¬ (LeadsToEntry G is n) → (IsOp is n is_conditional → ¬ (HasSameLabels G is n 1 2)) → IsFirstAt G is n None
 branch_fine G is n branch has free apart = λ q s b. none_of_branch G is n q has free apart (at_branch G is q n branch s b)
+
+pub op_labelled_branch : (is : List PlainInst) (n : ℕ) → IsOp is n is_branch → IsOp is n is_labelled
+op_labelled_branch is n op = op_moved is n is_branch is_labelled branch_labelled op
+
+pub ruleset branches = (op_labelled_branch, branch_lacks, branch_fine)
 
 -- The first instruction at which a rule is broken.
 pub first_found : (G : Table) (is : List PlainInst) (r : Rule) (n : ℕ) → ((q : Rule) (m : ℕ) → m < n → stage_of q ≡ of_branches → ¬ (Broken G is q m)) → stage_of r ≡ of_branches → Broken G is r n

@@ -15,9 +15,8 @@ use Rattle.spv_layout.specs.declared.form.Role.{Role}
 use Rattle.spv_layout.specs.declared.form.Role.TheVariants.{Label}
 use Rattle.spv_layout.specs.declared.form.Form.{Form}
 use Rattle.spv_layout.specs.declared.form.Form.TheVariants as form
-use Rattle.spv_layout.specs.Row.{PlainRow, row, closed, repeated, others, v, l}
-use Rattle.spv_layout.specs.inner.Row.{kind}
-use Rattle.spv_layout.specs.inner.Row.{T, R, W, N}
+use Rattle.spv_layout.specs.Row.{PlainRow, closed, repeated, others}
+use Rattle.spv_layout.specs.inner.Row.{row, v, l, kind, T, R, W, N}
 use Rattle.spv_layout.specs.Rows.{rows, row_of}
 use Rattle.spv_layout.specs.Shape.{FitsShape, IsUse, IsRole, role_of, id_of}
 use Rattle.spv_layout.specs.inner.Test.{form_in, form_at}

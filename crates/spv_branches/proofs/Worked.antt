@@ -1,14 +1,16 @@
 -- What the small functions of the worked examples have.
-use Rattle.std.proofs.Common.{◌≡◌, ◌<◌, ◌≤◌, ◌∙◌, ℕ, zero, suc, [], ◌∷◌, refl, sym, subst, arith}
+use Rattle.std.proofs.Common.{◌≡◌, ◌<◌, ◌≤◌, ◌∙◌, ℕ, zero, suc, List, [], ◌∷◌, refl, sym, subst, arith}
 use Rattle.std.proofs.lemmas.Option.{same_Some}
 use Rattle.spv_module.specs.declared.opcode.TheConstants as opcode
 use Rattle.spv_module.specs.Example.{small}
-use Rattle.spv_module.specs.Operand.{Id, OfType, Result}
-use Rattle.spv_layout.specs.declared.class.Class.TheVariants.{Function, FunctionEnd, Label, Phi, Body, Branch}
+use Rattle.spv_module.specs.Operand.{Id, Mask, OfType, Result}
+use Rattle.spv_layout.specs.declared.class.Class.TheVariants.{Function, FunctionEnd, Label, LoopMerge, Phi, Body, Branch}
+use Rattle.spv_layout.specs.declared.form.Form.{Form}
+use Rattle.spv_layout.specs.declared.form.Named.TheVariants as kind_of
 use Rattle.spv_layout.specs.declared.form.Role.{Role}
 use Rattle.spv_layout.specs.declared.form.Role.TheVariants as role
-use Rattle.spv_layout.specs.Row.{row, v, l, closed, repeated}
-use Rattle.spv_layout.specs.inner.Row.{T, R}
+use Rattle.spv_layout.specs.Row.{closed, repeated, others}
+use Rattle.spv_layout.specs.inner.Row.{row, v, l, T, R, kind}
 use Rattle.spv_layout.specs.Rows.{rows}
 use Rattle.spv_layout.specs.Shape.{AreOf, Ends, HasForms, IsUse}
 use Rattle.spv_layout.specs.Place.{IsAt, IsOfFunction, IsOfBlock, terminators}
@@ -18,7 +20,7 @@ use Rattle.spv_ids.specs.Definition.{IsDefinedAt, IsUsedAt}
 use Rattle.spv_branches.specs.Target.{is_branch, IsOp, IsLabelOf, IsTarget, LeadsToBlock, IsParentAt, HasParents}
 use Rattle.spv_branches.specs.Walk.{Next, IsWalk, IsResultAmong}
 use Rattle.spv_branches.specs.Ready.{IsLocalValue, IsMissing}
-use Rattle.spv_branches.specs.Example.{branch, label, function, return_void, two_blocks, phi, bare_phi, paired, unpaired, negation, early}
+use Rattle.spv_branches.specs.Example.{branch, label, function, return_void, two_blocks, phi, bare_phi, paired, unpaired, negation, early, loop_merge, looped}
 use Rattle.spv_branches.proofs.Labelled.{use_in, use_within, one_id}
 use Rattle.spv_branches.proofs.Direct.{placed_at}
 
@@ -36,6 +38,29 @@ at_zero k x y r e u = (let s = use_same small (branch x) 0 y x r role.Label (sub
 
 pub branch_only : (k x y : ℕ) (r : Role) → IsUse small (branch x) k y r → (y ≡ x) × (r ≡ role.Label)
 branch_only k x y r u = (let w = use_within small (branch x) k y r u in at_zero k x y r (omega (arith, w)) u)
+
+-- the labels of an OpLoopMerge
+
+abbrev loop_forms : List Form
+loop_forms = l ∷ l ∷ kind kind_of.LoopControl ∷ []
+
+has_loop_forms : (x y : ℕ) → HasForms looped (loop_merge x y) loop_forms
+unfolding rows
+has_loop_forms x y = record {
+  row = row opcode.LOOP_MERGE opcode.LOOP_MERGE LoopMerge loop_forms others;
+  rest = [];
+  known = refl;
+  forms = refl;
+  ending = Ends.no_other;
+  each = AreOf.more l (Id x) (l ∷ kind kind_of.LoopControl ∷ []) (Id y ∷ Mask 0 0 ∷ []) refl
+      (AreOf.more l (Id y) (kind kind_of.LoopControl ∷ []) (Mask 0 0 ∷ []) refl (AreOf.more (kind kind_of.LoopControl) (Mask 0 0) [] [] refl AreOf.none));
+}
+
+pub loop_used : (x y : ℕ) → IsUse looped (loop_merge x y) 0 x role.Label × IsUse looped (loop_merge x y) 1 y role.Label
+loop_used x y = (
+  record { forms = loop_forms; has = has_loop_forms x y; form = l; operand = Id x; form_at = refl; operand_at = refl; role = refl; id = refl },
+  record { forms = loop_forms; has = has_loop_forms x y; form = l; operand = Id y; form_at = refl; operand_at = refl; role = refl; id = refl },
+)
 
 -- the only branch of the two lists is instruction 2
 pub branch_at : (t : ℕ) → IsOp (paired 1) t is_branch → t ≡ 2

@@ -1,7 +1,9 @@
 -- Small examples.
-use Rattle.std.specs.Prelude.{ℕ, List, [], ◌∷◌}
+use Rattle.std.specs.Prelude.{ℕ, List, [], ◌∷◌, codes}
+use Rattle.spv_table.specs.declared.table.Category.TheVariants.{BitEnum}
+use Rattle.spv_table.specs.Table.{Table}
 use Rattle.spv_module.specs.declared.opcode.TheConstants as opcode
-use Rattle.spv_module.specs.Operand.{OfType, Result, Id, PlainInst}
+use Rattle.spv_module.specs.Operand.{OfType, Result, Id, Mask, PlainInst}
 
 -- %x = OpLabel
 abbrev pub label : ℕ → PlainInst
@@ -14,6 +16,17 @@ branch x = record { opcode = opcode.BRANCH; operands = Id x ∷ [] }
 -- OpBranchConditional %c %x %y
 abbrev pub conditional : ℕ → ℕ → ℕ → PlainInst
 conditional c x y = record { opcode = opcode.BRANCH_CONDITIONAL; operands = Id c ∷ Id x ∷ Id y ∷ [] }
+
+-- OpLoopMerge %x %y None, and a table of the one kind that it has
+abbrev pub loop_merge : ℕ → ℕ → PlainInst
+loop_merge x y = record { opcode = opcode.LOOP_MERGE; operands = Id x ∷ Id y ∷ Mask 0 0 ∷ [] }
+
+abbrev pub looped : Table
+looped = record {
+  kinds =
+      record { kind = record { name = codes "LoopControl"; category = BitEnum; bases = [] }; enumerants = [] } ∷ [];
+  entries = [];
+}
 
 -- OpFunction and OpReturn, of which the operands do not matter
 abbrev pub function : PlainInst

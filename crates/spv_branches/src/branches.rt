@@ -67,12 +67,9 @@ fn first_fault(alloc: Global, code: &Code<'_, '_>) -> Result<Option<Found>, Allo
 /// Time is linear in the words of the module. A block's predecessors are the blocks with a terminator that has the
 /// block's label as a target, each counted once.
 ///
-/// A `Fault` tells the first rule that is broken, with its instruction and that instruction's first word (words and
-/// instructions from 0). At one instruction the first in this order is told:
-/// - F1: a label of a terminator or of a merge is no OpLabel (2.4).
-/// - F2: a target is the label of an entry block (2.4).
-/// - F3, at OpPhi: the parents are not the predecessors of its block, each exactly once (OpPhi).
-/// - F4: an OpBranchConditional has the same label twice (OpBranchConditional).
+/// A `Fault` tells the first of the rules F that is broken, with its instruction and that instruction's first word
+/// (words and instructions from 0). At one instruction that rule is told which comes first in `Rule`, where each says
+/// what breaks it.
 ///
 /// `Memory` comes only where a growth of memory was refused.
 pub fn check_branches(

@@ -20,7 +20,7 @@ impl Code<'_, '_> {
     ghost use Rattle.std.specs.Prelude.{◌≡◌, ◌<◌, ℕ, length, IfSome, MatchOption, MatchBool};
     ghost use Rattle.spv_table.specs.Table.{Table};
     ghost use Rattle.spv_branches.specs.inner.Code.{insts_of, IsCode};
-    ghost use Rattle.spv_branches.specs.Target.{IsLabelOf};
+    ghost use Rattle.spv_branches.specs.Target.{is_opcode, IsLabelOf, IsOp};
     ghost use Rattle.spv_layout.specs.Place.{IsOfBlock};
 
     /// The OpLabel whose result an id is.
@@ -52,6 +52,16 @@ impl Code<'_, '_> {
             ((m : ℕ) → ¬ (IsLabelOf (insts_of self.now) id m)) }
     {
         self.label_of(id).is_some()
+    }
+
+    /// Whether an instruction has an opcode.
+    #[inline(always)]
+    pub fn has_opcode(&self, inst: u32, opcode: u16) -> bool
+        requires { inst < length self.now.insts.now }
+        ensures { MatchBool result (IsOp (insts_of self.now) inst (is_opcode opcode))
+            (¬ (IsOp (insts_of self.now) inst (is_opcode opcode))) }
+    {
+        self.insts[inst as usize].opcode == opcode
     }
 
     /// The OpLabel of the block that an instruction is of.

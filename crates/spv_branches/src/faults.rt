@@ -212,20 +212,21 @@ pub fn targets_of(code: &Code<'_, '_>, entries: &[bool], at: u32) -> Targets
     targets_by_operand(code, entries, at)
 }
 
-/// Whether the two labels of an OpBranchConditional are the same.
+/// Whether two operands of an instruction are the same label.
 #[inline(always)]
-pub fn has_same_labels(code: &Code<'_, '_>, at: u32) -> bool
+pub fn has_same_labels(code: &Code<'_, '_>, at: u32, one: usize, two: usize) -> bool
     requires at { at < length code.now.insts.now }
-    requires op { IsOp (insts_of code.now) at target.is_conditional }
+    requires op { IsOp (insts_of code.now) at is_labelled }
     ensures { (G : Table) → IsCode G code.now
-        → MatchBool result (HasSameLabels G (insts_of code.now) at) (¬ (HasSameLabels G (insts_of code.now) at)) }
+        → MatchBool result (HasSameLabels G (insts_of code.now) at one two)
+        (¬ (HasSameLabels G (insts_of code.now) at one two)) }
 {
     let inst = &code.insts[at as usize];
-    let Some(one) = id_at(inst, 1) else {
+    let Some(first) = label(inst, one) else {
         return false;
     };
-    let Some(two) = id_at(inst, 2) else {
+    let Some(second) = label(inst, two) else {
         return false;
     };
-    one == two
+    first == second
 }

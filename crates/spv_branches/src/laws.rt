@@ -12,7 +12,7 @@ ghost use Rattle.spv_branches.specs.Walk.{Next, IsWalk, IsResultAmong, IsLastLab
 ghost use Rattle.spv_branches.specs.Ready.{ComesFrom, IsLocalValue, IsMissing, IsPair, IsPairMissing, IsReady};
 ghost use Rattle.spv_branches.specs.Broken.{Broken};
 ghost use Rattle.spv_branches.specs.Example.{branch, conditional, label, function, two_blocks, valued, paired};
-ghost use Rattle.spv_branches.specs.Example.{unpaired, early};
+ghost use Rattle.spv_branches.specs.Example.{unpaired, early, loop_merge, looped};
 
 /// Of each stage at most one rule is broken first, at one instruction.
 pub fn one_fault()
@@ -33,8 +33,11 @@ pub fn flow_examples()
     ensures label { IsLabelOf two_blocks 2 3 }
     ensures target { IsTarget small two_blocks 2 2 }
     ensures other { ¬ (IsTarget small two_blocks 4 2) }
+    // A merge whose labels no instruction defines.
+    ensures no_merge_label { Broken looped (loop_merge 1 2 ∷ []) F1 0 }
     // The same label twice, and two labels.
     ensures same { Broken small (conditional 9 2 2 ∷ []) F4 0 }
+    ensures two { ¬ (Broken small (conditional 9 2 3 ∷ []) F4 0) }
     // Of two blocks the first is the entry block.
     ensures entry { IsEntryLabel two_blocks 1 }
     ensures later { ¬ (IsEntryLabel two_blocks 3) }

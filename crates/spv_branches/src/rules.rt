@@ -14,20 +14,21 @@ use crate::faults::{Targets, has_labels, has_parents, has_same_labels, targets_o
 use spv_module::Rule;
 use spv_module::opcode::{BRANCH_CONDITIONAL, PHI};
 
-/// The rule that is broken at a merge.
+/// The first rule that is broken at a merge.
+#[tactic(auto, using(crate::proofs::Firsts::merges))]
 fn merge_rule(code: &Code<'_, '_>, at: u32) -> Option<Rule>
     requires at { at < length code.now.insts.now }
     requires op { IsOp (insts_of code.now) at target.is_merge }
     ensures { (G : Table) → IsCode G code.now → IsFirstAt G (insts_of code.now) at result }
 {
-    if has_labels(code, at) {
-        None
-    } else {
-        Some(Rule::F1)
+    if !has_labels(code, at) {
+        return Some(Rule::F1);
     }
+    None
 }
 
 /// The first rule that is broken at a terminator with labels.
+#[tactic(auto, using(crate::proofs::Firsts::branches))]
 fn branch_rule(code: &Code<'_, '_>, entries: &[bool], at: u32) -> Option<Rule>
     requires at { at < length code.now.insts.now }
     requires op { IsOp (insts_of code.now) at target.is_branch }
@@ -40,8 +41,8 @@ fn branch_rule(code: &Code<'_, '_>, entries: &[bool], at: u32) -> Option<Rule>
         Targets::Entering => return Some(Rule::F2),
         Targets::Sound => {}
     }
-    if code.insts[at as usize].opcode == BRANCH_CONDITIONAL {
-        if has_same_labels(code, at) {
+    if code.has_opcode(at, BRANCH_CONDITIONAL) {
+        if has_same_labels(code, at, 1, 2) {
             return Some(Rule::F4);
         }
     }

@@ -21,6 +21,7 @@ use Rattle.spv_ids.specs.Broken as ids
 use Rattle.spv_verdict.specs.types.Broken as types
 use Rattle.spv_verdict.specs.types.Outcome as types_outcome
 use Rattle.spv_branches.specs.Broken as flow
+use Rattle.spv_walks.proofs.Staged.{IsStaged, staged}
 use Rattle.spv_calls.specs.Broken as calls
 use Rattle.spv_verdict.specs.flow.Outcome as flow_outcome
 use Rattle.spv_verdict.specs.flow.Outcome.{IsFirstOfFlow}
@@ -36,13 +37,13 @@ pub ids_stage : (G : Table) (bound : ℕ) (is : List PlainInst) (r : Rule) (n : 
 ids_stage G bound is _ _ (ids.result_out_of_range n x d o) = refl
 ids_stage G bound is _ _ _ = refl
 
+staged_stage : (G : Table) (is : List PlainInst) (r : Rule) (n : ℕ) → IsStaged G is r n → (stage_of r ≡ stages.of_branches) ⊎ (stage_of r ≡ stages.of_values)
+staged_stage G is _ _ (IsStaged.branches r n e) = inl e
+staged_stage G is _ _ (IsStaged.missing n m) = inr refl
+staged_stage G is _ _ (IsStaged.pair_missing n m) = inr refl
+
 pub flow_stage : (G : Table) (is : List PlainInst) (r : Rule) (n : ℕ) → flow.Broken G is r n → (stage_of r ≡ stages.of_branches) ⊎ (stage_of r ≡ stages.of_values)
-flow_stage G is _ _ (flow.no_label n k x op used none) = inl refl
-flow_stage G is _ _ (flow.to_entry n x m target d e) = inl refl
-flow_stage G is _ _ (flow.parents n phi not) = inl refl
-flow_stage G is _ _ (flow.same_labels n x op u w) = inl refl
-flow_stage G is _ _ (flow.missing n m) = inr refl
-flow_stage G is _ _ (flow.pair_missing n m) = inr refl
+flow_stage G is r n b = staged_stage G is r n (staged G is r n b)
 
 pub calls_stage : (is : List PlainInst) (r : Rule) (n : ℕ) → calls.Broken is r n → stage_of r ≡ stages.of_calls
 calls_stage is _ _ (calls.on_cycle n e f g call entry to back) = refl

@@ -22,8 +22,7 @@ use Rattle.spv_verdict.specs.declared.checked.Verdict.TheVariants.{Valid, Fault}
 pub data IsFault (G : Table) (words : List ℕ) (f : fault.Fault) : Type 0 where
   dead : 5 ≤ f.word → IsMalformedAt G (drop 5 words) f.rule f.inst (f.word - 5) → IsFault G words f
   broken : (is : List PlainInst) → IsListing G is (drop 5 words)
-      → IsFirstOfAll G (slice_index words 3) is f.rule f.inst → f.word ≡ first_word_of is f.inst
-      → IsFault G words f
+      → IsFirstOfAll G (slice_index words 3) is f.rule f.inst → f.word ≡ first_word_of is f.inst → IsFault G words f
 
 -- The verdict on the words of a module: the checked module, or its fault. [own]
 abbrev pub IsAnswer : Table → List ℕ → Verdict → Type 0

@@ -13,17 +13,14 @@ use Rattle.spv_verdict.specs.types.Broken as types
 use Rattle.spv_branches.specs.Broken as flow
 use Rattle.spv_calls.specs.Broken as calls
 
--- Under the bound of ids, the rule is broken at the instruction of that number. [own]
+-- Under the bound of ids, the rule is broken at the instruction of that number: a rule of the profile or of the layout;
+-- on ids; on roles, capabilities, entry points or types; on where branches lead, or on values that are defined on every
+-- walk; on cycles of calls. [own]
 pub data Broken (G : Table) (bound : ℕ) (is : List PlainInst) : Rule → ℕ → Type 0 where
-  -- a rule of the profile or of the layout
   of_layout : (r : Rule) (n : ℕ) → layout.Broken G is r n → Broken G bound is r n
-  -- a rule on ids
   of_ids : (r : Rule) (n : ℕ) → ids.Broken G bound is r n → Broken G bound is r n
-  -- a rule on roles, capabilities, entry points or types
   of_types : (r : Rule) (n : ℕ) → types.Broken G is r n → Broken G bound is r n
-  -- a rule on where branches lead, or on values that are defined on every walk
   of_flow : (r : Rule) (n : ℕ) → flow.Broken G is r n → Broken G bound is r n
-  -- the rule on cycles of calls
   of_calls : (r : Rule) (n : ℕ) → calls.Broken is r n → Broken G bound is r n
 
 -- A rule at instruction n is told before, or is, another at instruction m: that of an earlier stage, and within a stage

@@ -13,8 +13,7 @@ pub record TellsVerdict (G : Table) (bytes : List ℕ) (old : List ℕ) (new : O
   pub written : new ≡ Some (old ++ line)
   pub answered : IsTrue answer ↔ (line ≡ valid_line)
 
--- A writer that held the bytes `old` now also holds a beginning of the verdict line of the bytes, and nothing else.
--- [own]
+-- A writer that held the bytes `old` now holds also a beginning of their verdict line, and nothing else. [own]
 pub record Begins (G : Table) (bytes : List ℕ) (old : List ℕ) (new : Option (List ℕ)) : Type 0 where
   pub line : List ℕ
   pub verdict : IsVerdict G bytes line

@@ -13,19 +13,17 @@ use Rattle.spv_rules.specs.Rules.{code_text, rule_text}
 use Rattle.spv_verdict.specs.Broken.{IsFirstOfAll}
 use Rattle.spv_verdict.specs.Valid.{IsValid}
 
--- a line feed ends the line [own]
+-- the lines, each with a line feed at its end: `valid`; as `fault W4`; and as `fault I7 inst 0 word 9`, where
+-- instructions and words are counted from 0, words in the whole module [own]
 abbrev pub line_end : List ℕ
 line_end = 10 ∷ []
 
--- `valid` [own]
 abbrev pub valid_line : List ℕ
 valid_line = codes "valid" ++ line_end
 
--- `fault W4`, as an example [own]
 abbrev pub refused_line : WordError → List ℕ
 refused_line code = codes "fault " ++ code_text code ++ line_end
 
--- `fault I7 inst 0 word 9`, as an example: instructions and words are counted from 0, words in the whole module [own]
 abbrev pub fault_line : Rule → ℕ → ℕ → List ℕ
 fault_line broken inst at =
     codes "fault " ++ rule_text broken ++ codes " inst " ++ decimal inst ++ codes " word " ++ decimal at ++ line_end
@@ -39,8 +37,7 @@ pub data IsVerdict (G : Table) (bytes : List ℕ) : List ℕ → Type 0 where
   -- they are words of which those from word 5 on spell a list of instructions, and this rule is the first that it
   -- breaks, under the bound that word 3 is, at the instruction of that number
   unsound : (words : List ℕ) (order : Order) (is : List PlainInst) (broken : Rule) (inst : ℕ)
-      → IsModule order bytes words
-      → IsListing G is (drop 5 words) → IsFirstOfAll G (slice_index words 3) is broken inst
+      → IsModule order bytes words → IsListing G is (drop 5 words) → IsFirstOfAll G (slice_index words 3) is broken inst
       → IsVerdict G bytes (fault_line broken inst (first_word_of is inst))
   -- they are words of which those from word 5 on are dead at an instruction, told by its rule, its number and a word
   dead : (words : List ℕ) (order : Order) (broken : Rule) (inst at : ℕ) → IsModule order bytes words

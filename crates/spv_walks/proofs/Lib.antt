@@ -14,5 +14,6 @@ pub mod Branching
 pub mod Targets
 pub mod Parents
 pub mod Deciding
+pub mod Staged
 pub mod Telling
 pub mod Ready

@@ -5,13 +5,15 @@ use Rattle.std.proofs.lemmas.Bool.{cases_eq}
 use Rattle.std.proofs.lemmas.Option.{same_Some}
 use Rattle.spv_table.specs.Table.{Table}
 use Rattle.spv_module.specs.Operand.{PlainInst, result_in}
+use Rattle.spv_module.specs.declared.fault.Rule.{Rule}
 use Rattle.spv_module.specs.declared.fault.Rule.TheVariants.{A1, A2}
 use Rattle.spv_layout.specs.Stage.{of_values}
-use Rattle.spv_layout.specs.First.{IsUnbroken}
+use Rattle.spv_layout.specs.First.{stage_of, IsUnbroken}
 use Rattle.spv_ids.specs.Definition.{IsDefinedAt}
 use Rattle.spv_branches.specs.Walk.{IsResultAmong}
 use Rattle.spv_branches.specs.Ready.{IsMissing, IsPairMissing, IsReady}
 use Rattle.spv_branches.specs.Broken.{Broken}
+use Rattle.spv_walks.proofs.Staged.{IsStaged, staged}
 use Rattle.spv_walks.proofs.Lists.{any_cons, any_head, any_tail, any_none}
 
 -- An instruction defines an id, or does not.
@@ -87,12 +89,13 @@ ready G is u n = record {
   ];
 }
 
-pub unbroken : (G : Table) (is : List PlainInst) → ((n : ℕ) → IsReady G is n) → IsUnbroken (Broken G is) of_values
-unbroken G is h _ _ s (Broken.no_label n k x op used none) = absurd (omega (arith, s))
-unbroken G is h _ _ s (Broken.to_entry n x m target defined entry) = absurd (omega (arith, s))
-unbroken G is h _ _ s (Broken.parents n op none) = absurd (omega (arith, s))
-unbroken G is h _ _ s (Broken.same_labels n x op one two) = absurd (omega (arith, s))
-unbroken G is h _ _ s (Broken.missing n m) = m.undefined
+refuted : (G : Table) (is : List PlainInst) → ((n : ℕ) → IsReady G is n) → (r : Rule) (n : ℕ) → stage_of r ≡ of_values
+    → ¬ (IsStaged G is r n)
+refuted G is h _ _ s (IsStaged.branches r n e) = absurd (omega (arith, s, e))
+refuted G is h _ _ s (IsStaged.missing n m) = m.undefined
     ((h n).uses m.other m.function m.past m.operand m.id m.role m.walk m.used m.local)
-unbroken G is h _ _ s (Broken.pair_missing n m) = m.undefined
+refuted G is h _ _ s (IsStaged.pair_missing n m) = m.undefined
     ((h n).pairs m.phi m.value m.parent m.before m.pair m.comes m.local)
+
+pub unbroken : (G : Table) (is : List PlainInst) → ((n : ℕ) → IsReady G is n) → IsUnbroken (Broken G is) of_values
+unbroken G is h r n s b = refuted G is h r n s (staged G is r n b)

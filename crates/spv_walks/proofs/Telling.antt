@@ -19,6 +19,7 @@ use Rattle.spv_branches.specs.Walk.{IsWalk}
 use Rattle.spv_branches.specs.Broken.{Broken}
 use Rattle.spv_branches.proofs.Firsts.{holds}
 use Rattle.spv_branches.proofs.Labelled.{op_tells}
+use Rattle.spv_walks.proofs.Staged.{IsStaged, staged}
 use Rattle.spv_walks.specs.declared.code.Code.{Code}
 use Rattle.spv_walks.specs.inner.Code.{insts_of, IsCode}
 use Rattle.spv_walks.specs.Found.{IsRefusal}
@@ -109,25 +110,25 @@ first_here c f n before first G is = (
 
 -- rules
 
+staged_unavailable : (G : Table) (is : List PlainInst) (q : Rule) (n : ℕ) → stage_of q ≡ of_values → IsStaged G is q n → IsUnavailableAt G is n
+staged_unavailable G is _ _ s (IsStaged.branches q n e) = absurd (omega (arith, s, e))
+staged_unavailable G is _ _ s (IsStaged.missing n m) = inl m
+staged_unavailable G is _ _ s (IsStaged.pair_missing n m) = inr m
+
 broken_unavailable : (G : Table) (is : List PlainInst) (q : Rule) (n : ℕ) → stage_of q ≡ of_values → Broken G is q n → IsUnavailableAt G is n
-broken_unavailable G is _ _ s (Broken.no_label n k x op used none) = absurd (omega (arith, s))
-broken_unavailable G is _ _ s (Broken.to_entry n x m target d e) = absurd (omega (arith, s))
-broken_unavailable G is _ _ s (Broken.parents n phi not) = absurd (omega (arith, s))
-broken_unavailable G is _ _ s (Broken.same_labels n x op u w) = absurd (omega (arith, s))
-broken_unavailable G is _ _ s (Broken.missing n m) = inl m
-broken_unavailable G is _ _ s (Broken.pair_missing n m) = inr m
+broken_unavailable G is q n s b = staged_unavailable G is q n s (staged G is q n b)
 
 unavailable_broken : (G : Table) (is : List PlainInst) (r : Rule) (n : ℕ) → IsRuleAt is n r → IsUnavailableAt G is n → (stage_of r ≡ of_values) × Broken G is r n
 unavailable_broken G is r n at (inl m) = (let e = at.other m.other in rw e (refl, Broken.missing n m))
 unavailable_broken G is r n at (inr m) = (let e = at.phi m.phi in rw e (refl, Broken.pair_missing n m))
 
+staged_rank : (G : Table) (is : List PlainInst) (r q : Rule) (n : ℕ) → IsRuleAt is n r → stage_of q ≡ of_values → IsStaged G is q n → rank_of r ≤ rank_of q
+staged_rank G is r _ _ at s (IsStaged.branches q n e) = absurd (omega (arith, s, e))
+staged_rank G is r _ _ at s (IsStaged.missing n m) = (let e = at.other m.other in rw e (omega arith))
+staged_rank G is r _ _ at s (IsStaged.pair_missing n m) = (let e = at.phi m.phi in rw e (omega arith))
+
 rank_first : (G : Table) (is : List PlainInst) (r q : Rule) (n : ℕ) → IsRuleAt is n r → stage_of q ≡ of_values → Broken G is q n → rank_of r ≤ rank_of q
-rank_first G is r _ _ at s (Broken.no_label n k x op used none) = absurd (omega (arith, s))
-rank_first G is r _ _ at s (Broken.to_entry n x m target d e) = absurd (omega (arith, s))
-rank_first G is r _ _ at s (Broken.parents n phi not) = absurd (omega (arith, s))
-rank_first G is r _ _ at s (Broken.same_labels n x op u w) = absurd (omega (arith, s))
-rank_first G is r _ _ at s (Broken.missing n m) = (let e = at.other m.other in rw e (omega arith))
-rank_first G is r _ _ at s (Broken.pair_missing n m) = (let e = at.phi m.phi in rw e (omega arith))
+rank_first G is r q n at s b = staged_rank G is r q n at s (staged G is q n b)
 
 pub unbroken_by : (G : Table) (is : List PlainInst) → IsFirstOf G is None → IsUnbroken (Broken G is) of_values
 unbroken_by G is none = λ r n s b. none n (broken_unavailable G is r n s b)

@@ -91,11 +91,11 @@ joined Entering Entering = Entering
 joined Entering Sound = Entering
 joined Sound t = t
 
--- Operands 1 and 2 of instruction n are the same label.
-pub record HasSameLabels (G : Table) (is : List PlainInst) (n : ℕ) : Type 0 where
+-- Operands j and k of instruction n are the same label.
+pub record HasSameLabels (G : Table) (is : List PlainInst) (n j k : ℕ) : Type 0 where
   pub id : ℕ
-  pub one : IsUsedAt G is n 1 id Label
-  pub two : IsUsedAt G is n 2 id Label
+  pub one : IsUsedAt G is n j id Label
+  pub two : IsUsedAt G is n k id Label
 
 -- Of the rules F the first that is broken at instruction n; none where none is.
 abbrev pub IsFirstAt : Table → List PlainInst → ℕ → Option Rule → Type 0

@@ -9,8 +9,8 @@ use Rattle.spv_layout.specs.declared.class.Class.TheVariants as class
 use Rattle.spv_layout.specs.declared.form.Form.{Form}
 use Rattle.spv_layout.specs.declared.form.Form.TheVariants as form
 use Rattle.spv_layout.specs.Class.{is_among}
-use Rattle.spv_layout.specs.Row.{PlainRow, RowEnding, closed, repeated, row_in, l}
-use Rattle.spv_layout.specs.inner.Row.{W, N}
+use Rattle.spv_layout.specs.Row.{PlainRow, RowEnding, closed, repeated, row_in}
+use Rattle.spv_layout.specs.inner.Row.{l, W, N}
 use Rattle.spv_layout.specs.Rows.{rows, row_of, class_of, class_in}
 use Rattle.spv_layout.specs.Shape.{is_of, AreOf, Ends, FitsShape}
 use Rattle.spv_walks.proofs.Ended.{all_rows, row_tells, and_first, and_second, end_by}

@@ -24,7 +24,8 @@ use Rattle.spv_layout.specs.Class.{is_among}
 use Rattle.spv_layout.specs.Example as layout
 use Rattle.spv_layout.specs.Layout.{IsLayout, classes}
 use Rattle.spv_layout.specs.Place.{IsAt, IsOfFunction, IsDefinition, IsOfSection}
-use Rattle.spv_layout.specs.Row.{RowEnding, row, closed, repeated}
+use Rattle.spv_layout.specs.Row.{RowEnding, closed, repeated}
+use Rattle.spv_layout.specs.inner.Row.{row}
 use Rattle.spv_layout.specs.Rows.{rows, row_of}
 use Rattle.spv_layout.specs.Shape.{Ends, HasForms, FitsShape, IsUse, role_of, id_of}
 use Rattle.spv_layout.specs.inner.Test.{are_of}
@@ -50,7 +51,9 @@ use Rattle.spv_type_rules.specs.inner.Function.{IsSoundFunction, IsSoundParamete
 use Rattle.spv_type_rules.specs.Keeps as type_rules
 use Rattle.spv_type_rules.specs.Repeat.{Repeats}
 use Rattle.spv_branches.specs.Broken as flow_rules
-use Rattle.spv_branches.specs.Target.{is_phi, is_merge, is_branch, is_conditional, IsOp}
+use Rattle.spv_branches.specs.Target.{is_phi, is_merge, is_branch, IsOp}
+use Rattle.spv_branches.proofs.Firsts.{at_other}
+use Rattle.spv_walks.proofs.Staged.{IsStaged, staged}
 use Rattle.spv_calls.specs.Broken as call_rules
 use Rattle.spv_calls.specs.Calls.{IsEntryFunction}
 use Rattle.spv_verdict.specs.run.Sound.{KeepsRules}
@@ -482,12 +485,11 @@ types_kept _ n i e = tt
 -- F and A: there is no branch and no OpPhi, and no local value.
 
 pub flow_kept : (r : Rule) (n : ℕ) → flow_rules.Broken grammar kernel r n → ⊥
-flow_kept _ _ (flow_rules.no_label n k x b u h) = elim b [ inl o ↦ no_op is_branch nowhere n o | inr o ↦ no_op is_merge nowhere n o ]
-flow_kept _ _ (flow_rules.to_entry n x m t d e) = no_op is_branch nowhere n t.branch
-flow_kept _ _ (flow_rules.parents n p h) = no_op is_phi nowhere n p
-flow_kept _ _ (flow_rules.same_labels n x c a b) = no_op is_conditional nowhere n c
-flow_kept _ _ (flow_rules.missing n m) = not_local m.id (used_below n m.operand m.id m.role m.used) m.local.local
-flow_kept _ _ (flow_rules.pair_missing n m) = no_op is_phi nowhere n m.phi
+flow_kept r n b = unstaged r n b (staged grammar kernel r n b) where
+  unstaged : (r : Rule) (n : ℕ) → flow_rules.Broken grammar kernel r n → IsStaged grammar kernel r n → ⊥
+  unstaged _ _ b (IsStaged.branches r n s) = at_other grammar kernel r n (no_op is_phi nowhere n) (no_op is_merge nowhere n) (no_op is_branch nowhere n) s b
+  unstaged _ _ b (IsStaged.missing n m) = not_local m.id (used_below n m.operand m.id m.role m.used) m.local.local
+  unstaged _ _ b (IsStaged.pair_missing n m) = no_op is_phi nowhere n m.phi
 
 -- G: there is no call.
 

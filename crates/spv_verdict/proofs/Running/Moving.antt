@@ -33,7 +33,7 @@ use Rattle.spv_layout.specs.declared.form.Form.{Form}
 use Rattle.spv_layout.specs.declared.form.Form.TheVariants as form
 use Rattle.spv_layout.specs.inner.Row.{N}
 use Rattle.spv_layout.specs.Row.{repeated}
-use Rattle.spv_layout.specs.Row as row
+use Rattle.spv_layout.specs.inner.Row as row
 use Rattle.spv_layout.specs.Shape.{is_of, AreOf, Ends, FitsShape}
 use Rattle.spv_layout.specs.declared.form.Role.TheVariants as role
 use Rattle.spv_type_forms.specs.Operands.{ids_in}

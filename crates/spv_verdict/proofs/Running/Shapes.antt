@@ -11,9 +11,8 @@ use Rattle.spv_layout.specs.declared.form.Form.TheVariants as form
 use Rattle.spv_layout.specs.declared.form.Role.{Role}
 use Rattle.spv_layout.specs.declared.form.Role.TheVariants as role
 use Rattle.spv_layout.specs.declared.form.Named.TheVariants as kind_of
-use Rattle.spv_layout.specs.Row.{PlainRow, row, closed, repeated, v, l, f, t}
-use Rattle.spv_layout.specs.inner.Row.{kind}
-use Rattle.spv_layout.specs.inner.Row.{T, R, W, N}
+use Rattle.spv_layout.specs.Row.{PlainRow, closed, repeated}
+use Rattle.spv_layout.specs.inner.Row.{row, v, l, f, t, kind, T, R, W, N}
 use Rattle.spv_layout.specs.Rows.{rows, row_of}
 use Rattle.spv_layout.specs.Shape.{is_of, AreOf, Ends, FitsShape}
 use Rattle.spv_type_forms.specs.Operands.{ids_in}

@@ -11,8 +11,8 @@ use Rattle.spv_layout.specs.declared.form.Form.{Form}
 use Rattle.spv_layout.specs.declared.form.Form.TheVariants as form
 use Rattle.spv_layout.specs.declared.form.Role.{Role}
 use Rattle.spv_layout.specs.declared.form.Role.TheVariants as role
-use Rattle.spv_layout.specs.Row.{PlainRow, repeated, v, l, f}
-use Rattle.spv_layout.specs.inner.Row.{T, R, N}
+use Rattle.spv_layout.specs.Row.{PlainRow, repeated}
+use Rattle.spv_layout.specs.inner.Row.{v, l, f, T, R, N}
 use Rattle.spv_layout.specs.Rows.{row_of}
 use Rattle.spv_layout.specs.Shape.{is_of, AreOf, Ends, FitsShape, role_of, id_of, IsUse}
 use Rattle.spv_ids.specs.Definition.{IsUsedAt}

@@ -1,12 +1,11 @@
 -- The first broken rule of a stage, by what is known of the instructions.
-use Rattle.std.proofs.Common.{◌≡◌, ◌<◌, ◌≤◌, ◌+◌, ◌⊎◌, inl, inr, ⊎_elim, ℕ, List, Some, length, refl, sym, ◌∙◌, subst, arith}
+use Rattle.std.proofs.Common.{◌≡◌, ◌<◌, ◌≤◌, ◌+◌, ◌⊎◌, inl, inr, ⊎_elim, ℕ, List, Some, length, sym, ◌∙◌, subst, arith}
 use Rattle.std.specs.Prelude.{slice_get}
 use Rattle.std.proofs.lemmas.Bool.{cases_lt}
 use Rattle.std.proofs.lemmas.Option.{slice_get_within}
 use Rattle.spv_table.specs.Table.{Table}
 use Rattle.spv_module.specs.Operand.{PlainInst}
 use Rattle.spv_module.specs.declared.fault.Rule.{Rule}
-use Rattle.spv_module.specs.declared.fault.Rule.TheVariants as rule
 use Rattle.spv_module.specs.declared.fault.Stop.{Stop}
 use Rattle.spv_module.specs.declared.fault.Stop.TheVariants.{Fault as StopFault, Memory}
 use Rattle.spv_ids.specs.inner.Outcome.{IsStopAt}
@@ -19,50 +18,7 @@ use Rattle.spv_ops.specs.Typed.{IsTyped}
 use Rattle.spv_type_rules.specs.Keeps as rules
 use Rattle.spv_verdict.specs.types.Broken.{Broken}
 use Rattle.spv_verdict.specs.inner.Pass.{KeepsRule, AreKept, IsFirstOfTypes, IsFirstFault}
-
--- The rules of the stage of Y1 demand nothing else.
-
-capable_first : (G : Table) (is : List PlainInst) (n : ℕ) (i : PlainInst) (r : Rule) → stage_of r ≡ stages.of_roles → capabilities.Keeps G is r n i
-capable_first G is n i rule.C1 s = absurd (let wrong : 5 ≡ 4 = s in omega arith)
-capable_first G is n i rule.C2 s = absurd (let wrong : 5 ≡ 4 = s in omega arith)
-capable_first G is n i rule.M1 s = absurd (let wrong : 5 ≡ 4 = s in omega arith)
-capable_first G is n i rule.E1 s = absurd (let wrong : 5 ≡ 4 = s in omega arith)
-capable_first G is n i rule.E2 s = absurd (let wrong : 5 ≡ 4 = s in omega arith)
-capable_first G is n i _ s = tt
-
-typed_first : (G : Table) (is : List PlainInst) (n : ℕ) (i : PlainInst) (r : Rule) → stage_of r ≡ stages.of_roles → rules.Keeps (IsTyped G is) is r n i
-typed_first G is n i rule.Y2 s = absurd (let wrong : 5 ≡ 4 = s in omega arith)
-typed_first G is n i rule.Y3 s = absurd (let wrong : 5 ≡ 4 = s in omega arith)
-typed_first G is n i rule.Y4 s = absurd (let wrong : 5 ≡ 4 = s in omega arith)
-typed_first G is n i rule.Y5 s = absurd (let wrong : 5 ≡ 4 = s in omega arith)
-typed_first G is n i rule.Y6 s = absurd (let wrong : 5 ≡ 4 = s in omega arith)
-typed_first G is n i rule.Y7 s = absurd (let wrong : 5 ≡ 4 = s in omega arith)
-typed_first G is n i rule.Y8 s = absurd (let wrong : 5 ≡ 4 = s in omega arith)
-typed_first G is n i _ s = tt
-
--- A rule of capabilities that is broken is one of five.
-record IsEarly (r : Rule) : Type 0 where
-  stage : stage_of r ≡ stages.of_types
-  rank : rank_of r ≤ 25
-
-early : (G : Table) (is : List PlainInst) (n : ℕ) (i : PlainInst) (r : Rule) → ¬ (capabilities.Keeps G is r n i) → IsEarly r
-early G is n i rule.C1 never = record { stage = refl; rank = omega arith }
-early G is n i rule.C2 never = record { stage = refl; rank = omega arith }
-early G is n i rule.M1 never = record { stage = refl; rank = omega arith }
-early G is n i rule.E1 never = record { stage = refl; rank = omega arith }
-early G is n i rule.E2 never = record { stage = refl; rank = omega arith }
-early G is n i _ never = absurd (never tt)
-
--- No rule that comes before those of types.
-untyped : (G : Table) (is : List PlainInst) (n : ℕ) (i : PlainInst) (b : ℕ) → b ≤ 25 → (q : Rule) → rank_of q < b → rules.Keeps (IsTyped G is) is q n i
-untyped G is n i b h rule.Y2 l = absurd (let k : 26 < b = l in omega arith)
-untyped G is n i b h rule.Y3 l = absurd (let k : 27 < b = l in omega arith)
-untyped G is n i b h rule.Y4 l = absurd (let k : 28 < b = l in omega arith)
-untyped G is n i b h rule.Y5 l = absurd (let k : 29 < b = l in omega arith)
-untyped G is n i b h rule.Y6 l = absurd (let k : 30 < b = l in omega arith)
-untyped G is n i b h rule.Y7 l = absurd (let k : 31 < b = l in omega arith)
-untyped G is n i b h rule.Y8 l = absurd (let k : 32 < b = l in omega arith)
-untyped G is n i b h _ l = tt
+use Rattle.spv_verdict.proofs.Stages.{early, untyped, capable_first, typed_first}
 
 -- The first broken rule at an instruction, before which all is kept.
 

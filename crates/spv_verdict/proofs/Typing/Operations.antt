@@ -15,7 +15,7 @@ use Rattle.spv_ops.specs.Row.{row_of}
 use Rattle.spv_ops.specs.Typed.{IsTyped, IsTypedAt}
 use Rattle.spv_ops.specs.inner.Typed.{IsTypedIn}
 use Rattle.spv_ops.proofs.Judged.{told}
-use Rattle.spv_ops.proofs.Rows.{late_row}
+use Rattle.spv_ops.proofs.Rows.{count, late_row}
 use Rattle.spv_type_rules.specs.inner.Concern.{is_operation}
 use Rattle.spv_type_rules.specs.Keeps.{Keeps, KeepsFunctions, KeepsReturns}
 use Rattle.spv_type_rules.specs.inner.Keeps.{CallsAreSound}
@@ -37,7 +37,8 @@ free r h = cc
 abbrev is_known : ℕ → Bool
 is_known n = is_operation n || is_free (row_of n)
 
-all_known : all_from is_known 0 258 ≡ true
+all_known : all_from is_known 0 count ≡ true
+unfolding count
 all_known = refl
 
 left_of : (a b : Bool) → a || b ≡ true → a ≡ false → b ≡ true
@@ -45,8 +46,8 @@ left_of true b h e = cc
 left_of false b h e = h
 
 no_row : (n : ℕ) → is_operation n ≡ false → row_of n ≡ row.Free
-no_row n e = elim (cases_lt n 258) [
-  | inl h ↦ free (row_of n) (left_of (is_operation n) (is_free (row_of n)) (one_from is_known 258 0 n all_known (omega arith) h) e)
+no_row n e = elim (cases_lt n count) [
+  | inl h ↦ free (row_of n) (left_of (is_operation n) (is_free (row_of n)) (one_from is_known count 0 n all_known (omega arith) (omega arith)) e)
   | inr h ↦ late_row n h
 ]
 

@@ -4,12 +4,12 @@ use Rattle.spv_module.specs.declared.opcode.TheConstants as opcode
 use Rattle.spv_module.specs.Example.{small}
 use Rattle.spv_module.specs.Operand.{Id}
 use Rattle.spv_module.specs.declared.fault.Rule.{Rule}
-use Rattle.spv_module.specs.declared.fault.Rule.TheVariants.{F2}
+use Rattle.spv_module.specs.declared.fault.Rule.TheVariants.{F2, F4}
 use Rattle.spv_layout.specs.declared.class.Class.TheVariants.{Function, FunctionEnd, Label, Branch, BranchConditional}
 use Rattle.spv_layout.specs.Place.{IsAt, IsOfFunction, IsOfBlock, terminators}
 use Rattle.spv_layout.specs.declared.form.Role.TheVariants as role
-use Rattle.spv_layout.specs.Row.{row, v, l, closed, repeated}
-use Rattle.spv_layout.specs.inner.Row.{W}
+use Rattle.spv_layout.specs.Row.{closed, repeated}
+use Rattle.spv_layout.specs.inner.Row.{row, v, l, W}
 use Rattle.spv_layout.specs.Rows.{rows}
 use Rattle.spv_layout.specs.Shape.{AreOf, Ends, HasForms, IsUse}
 use Rattle.spv_ids.specs.Definition.{IsDefinedAt, IsUsedAt}
@@ -17,8 +17,10 @@ use Rattle.spv_branches.specs.Target.{IsOp, IsLabelOf, IsTarget, LeadsToBlock, I
 use Rattle.spv_branches.specs.inner.Target.{is_function}
 use Rattle.spv_branches.specs.Walk.{Next, IsWalk, IsResultAmong, IsLastLabel}
 use Rattle.spv_branches.specs.Broken.{Broken}
-use Rattle.spv_branches.specs.Example.{branch, conditional, label, function, return_void, two_blocks}
+use Rattle.spv_branches.specs.Example.{branch, conditional, label, function, return_void, two_blocks, loop_merge}
+use Rattle.spv_branches.proofs.Labelled.{one_id}
 use Rattle.spv_branches.proofs.Direct.{jump_only}
+use Rattle.spv_branches.proofs.Worked.{loop_used}
 use Rattle.spv_branches.proofs.laws.flow_examples.Goals as goal
 
 branch_forms : (x : ℕ) → HasForms small (branch x) (l ∷ [])
@@ -45,6 +47,10 @@ one_used c x y = record { forms = v ∷ l ∷ l ∷ []; has = conditional_forms 
 two_used : (c x y : ℕ) → IsUse small (conditional c x y) 2 y role.Label
 two_used c x y = record { forms = v ∷ l ∷ l ∷ []; has = conditional_forms c x y; form = l; operand = Id y; form_at = refl; operand_at = refl; role = refl; id = refl }
 
+none_merged : (m : ℕ) → ¬ (IsLabelOf (loop_merge 1 2 ∷ []) 1 m)
+none_merged zero k = let e = k.label in cc
+none_merged (suc m) k = k.label
+
 none_labelled : (m : ℕ) → ¬ (IsLabelOf (branch 1 ∷ []) 1 m)
 none_labelled zero k = let e = k.label in cc
 none_labelled (suc m) k = k.label
@@ -58,6 +64,15 @@ leads = record { branch = refl; operand = 0; used = record { inst = branch 2; th
 ends : (m : ℕ) → Next small two_blocks 4 m → ⊥
 ends _ (Next.jumps x m t k) = let e = t.branch in cc
 ends _ (Next.follows not) = not refl
+
+-- two labels are not the same
+two_labels : (q : Rule) (n : ℕ) → Broken small (conditional 9 2 3 ∷ []) q n → q ≡ F4 → ⊥
+two_labels _ _ (Broken.same_labels zero x op u w) s =
+    let first = one_id small (conditional 9 2 3 ∷ []) 0 1 x 2 role.Label role.Label u (record { inst = conditional 9 2 3; there = refl; used = one_used 9 2 3 }) in
+    let second = one_id small (conditional 9 2 3 ∷ []) 0 2 x 3 role.Label role.Label w (record { inst = conditional 9 2 3; there = refl; used = two_used 9 2 3 }) in
+    omega (arith, first, second)
+two_labels _ _ (Broken.same_labels (suc n) x op u w) s = op
+two_labels _ _ _ s = cc
 
 function_first : (f : ℕ) → f < 3 → IsOp two_blocks f is_function → f ≡ 0
 function_first zero lt o = refl
@@ -182,10 +197,12 @@ to_entry =
 pub returns : goal.returns
 returns c = record {
   no_label = Broken.no_label 0 0 1 (inl refl) (record { inst = branch 1; there = refl; used = branch_used 1 }) none_labelled;
+  no_merge_label = Broken.no_label 0 0 1 (inr refl) (record { inst = loop_merge 1 2; there = refl; used = (loop_used 1 2).0 }) none_merged;
   label = labelled;
   target = leads;
   other = λ t. let e = t.branch in cc;
   same = Broken.same_labels 0 2 refl (record { inst = conditional 9 2 2; there = refl; used = one_used 9 2 2 }) (record { inst = conditional 9 2 2; there = refl; used = two_used 9 2 2 });
+  two = λ b. two_labels F4 0 b refl;
   entry = record { label = refl; function = 0; there = refl; after = omega arith; first = λ k a b. absurd (omega (arith, a, b)); same = λ k a b. absurd (omega (arith, a, b)) };
   later = later;
   jumps = Next.jumps 2 3 leads labelled;
