@@ -179,6 +179,9 @@ uint32_t spvk_raw_grammar_new(const uint8_t *text, size_t len, spvk_grammar *gra
 uint32_t spvk_raw_grammar_default(spvk_grammar *grammar);
 /** As `spvk_grammar_delete`. */
 void spvk_raw_grammar_delete(spvk_grammar *grammar);
+/** As `spvk_grammar_explain`, but bytes that `buffer` holds are let go first. After any status but SPVK_OK `buffer` is
+ *  as it was. */
+uint32_t spvk_raw_grammar_explain(const uint8_t *text, size_t len, spvk_buffer *buffer);
 /** As `spvk_check`. */
 spvk_answer spvk_raw_check(const void *held, const uint8_t *bytes, size_t len);
 /** As `spvk_check_with` by SPVK_AS_1_6. */
@@ -239,6 +242,23 @@ static inline spvk_status spvk_grammar_default(spvk_grammar *grammar) {
     if (grammar == NULL) return SPVK_NULL;
     grammar->held = NULL;
     return (spvk_status)spvk_raw_grammar_default(grammar);
+}
+
+/** Why `spvk_grammar_new` refuses the `len` bytes of a text, in the lines that `spv --verbose` writes behind the code:
+ *  `at:` and the path to the first place that breaks the code, as `instructions[12].operands[0].kind`, but where that
+ *  is the whole file or the code is J1; `found:` and what stands there, or of J1 the line and the column at which
+ *  reading stopped; `wanted:` and what is wanted there. Control characters of ASCII are written as `\xNN`. The text is
+ *  read once more for it.
+ *
+ *  SPVK_OK: `buffer` holds the lines, until `spvk_buffer_delete`; no bytes where the text gives a grammar. SPVK_MEMORY.
+ *  SPVK_NULL: `buffer` is null, or `text` is with a `len` that is not 0. After any status but SPVK_OK `buffer` holds
+ *  nothing. What `buffer` held is not looked at. */
+static inline spvk_status spvk_grammar_explain(const uint8_t *text, size_t len, spvk_buffer *buffer) {
+    spvk_buffer none = SPVK_BUFFER_NONE;
+    if (buffer == NULL) return SPVK_NULL;
+    *buffer = none;
+    if (text == NULL && len != 0) return SPVK_NULL;
+    return (spvk_status)spvk_raw_grammar_explain(spvk_some_bytes(text), len, buffer);
 }
 
 /** Lets a grammar go. It does nothing with a null pointer, nor with one that holds none or was deleted. */

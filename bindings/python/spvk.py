@@ -56,11 +56,16 @@ class OutOfMemory(Error, MemoryError):
 
 
 class GrammarError(Error, ValueError):
-    """A grammar file is refused. `code` is the first code that it breaks, "J1" to "J7" (docs/PROFILE.md)."""
+    """A grammar file is refused. `code` is the first code that it breaks, "J1" to "J7" (docs/PROFILE.md).
 
-    def __init__(self, code: str) -> None:
+    `lines` says where, what stands there and what is wanted, in the lines `at: ..`, `found: ..` and
+    `wanted: ..` that `spv --verbose` writes. It is empty where there was no memory to tell it.
+    """
+
+    def __init__(self, code: str, lines: str = "") -> None:
         super().__init__(f"the grammar file is refused: {code}")
         self.code = code
+        self.lines = lines
 
 
 class NotText(Error, ValueError):
@@ -177,6 +182,7 @@ def _library() -> ctypes.CDLL:
         "grammar_new": (ctypes.c_uint32, [*given, to(_Grammar)]),
         "grammar_default": (ctypes.c_uint32, [to(_Grammar)]),
         "grammar_delete": (None, [to(_Grammar)]),
+        "grammar_explain": (ctypes.c_uint32, [*given, to(_Buffer)]),
         "check": (_Answer, asked),
         "check_as_1_6": (_Answer, asked),
         "explain": (ctypes.c_uint32, [*asked, to(_Text)]),
@@ -242,13 +248,28 @@ def _verdict(it: Union[_Answer, _Text]) -> Verdict:
     return Verdict(it.code, inst, word)
 
 
+def _held_by(buffer: _Buffer) -> bytes:
+    """A copy of the bytes of a buffer."""
+    return ctypes.string_at(buffer.data, buffer.size) if buffer.size else b""
+
+
 def _made(call: Callable[..., int], held: "_Held", given: bytes, answer: Union[_Text, _Image]) -> bytes:
     """Makes a call that puts bytes into a buffer, and takes them out of it."""
     try:
         _done(call(held.grammar.held, given, len(given), ctypes.byref(answer)))
-        return ctypes.string_at(answer.buffer.data, answer.buffer.size) if answer.buffer.size else b""
+        return _held_by(answer.buffer)
     finally:
         _C.spvk_raw_buffer_delete(ctypes.byref(answer.buffer))
+
+
+def _lines_of(text: bytes) -> str:
+    """Why the text of a grammar file is refused; nothing where there is no memory to tell it."""
+    buffer = _Buffer()
+    try:
+        status = _C.spvk_raw_grammar_explain(text, len(text), ctypes.byref(buffer))
+        return _held_by(buffer).decode() if status == _OK else ""
+    finally:
+        _C.spvk_raw_buffer_delete(ctypes.byref(buffer))
 
 
 class _Held:
@@ -257,7 +278,13 @@ class _Held:
     def __init__(self, text: Optional[bytes]) -> None:
         self.grammar = _Grammar()
         made = ctypes.byref(self.grammar)
-        _done(_C.spvk_raw_grammar_default(made) if text is None else _C.spvk_raw_grammar_new(text, len(text), made))
+        if text is None:
+            _done(_C.spvk_raw_grammar_default(made))
+            return
+        try:
+            _done(_C.spvk_raw_grammar_new(text, len(text), made))
+        except GrammarError as error:
+            raise GrammarError(error.code, _lines_of(text)) from None
 
     # (At the end of the process the module's names may be gone first: so they are parameters.)
     def __del__(self, delete: Any = _C.spvk_raw_grammar_delete, byref: Any = ctypes.byref) -> None:

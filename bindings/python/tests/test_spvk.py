@@ -177,6 +177,18 @@ class Calls(unittest.TestCase):
                 spvk.Grammar(text)
             self.assertEqual(caught.exception.code, code)
 
+    def test_where_grammars_are_refused(self):
+        bad = b'{"instructions":[{"opname":"OpA","opcode":1,"operands":[{"kind":"A\\u001b"}]}],"operand_kinds":[]}'
+        place = "at: instructions[0].operands[0].kind\nfound: \"A\\x1b\"\n"
+        rows = [(b"{}", "at: instructions\nfound: nothing\nwanted: an array\n")]
+        rows += [(bad, place + "wanted: the name of a kind of operand_kinds\n")]
+        rows += [(b"[1\n", "found: line 2, column 0\nwanted: JSON of at most 127 levels\n")]
+        for text, lines in rows:
+            with self.assertRaises(spvk.GrammarError) as caught:
+                spvk.Grammar(text)
+            self.assertEqual(caught.exception.lines, lines)
+        self.assertEqual(spvk.GrammarError("J1").lines, "")
+
     def test_what_is_not_bytes(self):
         for wrong in ("a text", 5, None):
             with self.assertRaises(TypeError):

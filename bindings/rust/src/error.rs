@@ -17,6 +17,7 @@ impl fmt::Display for OutOfMemory {
 impl Error for OutOfMemory {}
 
 /// Why a grammar file is refused: the first code that it breaks, or out of memory.
+/// [`Grammar::explain_refusal`](crate::Grammar::explain_refusal) says where.
 ///
 /// (docs/PROFILE.md of the library's repository, "The grammar file")
 #[derive(Clone, Copy, Debug, PartialEq, Eq)]

@@ -49,7 +49,7 @@ pub struct Image {
 }
 
 impl Buffer {
-    const NONE: Buffer = Buffer {
+    pub const NONE: Buffer = Buffer {
         data: ptr::null(),
         size: 0,
         held: ptr::null_mut(),
@@ -85,6 +85,7 @@ extern "C" {
     pub fn spvk_raw_grammar_new(text: *const u8, len: usize, grammar: *mut Grammar) -> u32;
     pub fn spvk_raw_grammar_default(grammar: *mut Grammar) -> u32;
     pub fn spvk_raw_grammar_delete(grammar: *mut Grammar);
+    pub fn spvk_raw_grammar_explain(text: *const u8, len: usize, buffer: *mut Buffer) -> u32;
     pub fn spvk_raw_check(held: *const c_void, bytes: *const u8, len: usize) -> Answer;
     pub fn spvk_raw_check_as_1_6(held: *const c_void, bytes: *const u8, len: usize) -> Answer;
     pub fn spvk_raw_explain(

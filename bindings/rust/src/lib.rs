@@ -89,6 +89,22 @@ impl Grammar {
         Grammar::made(|it| unsafe { ffi::spvk_raw_grammar_default(it) })
     }
 
+    /// Why `new` refuses a grammar file's text: lines `at: ..`, `found: ..` and `wanted: ..` that say where, what
+    /// stands there and what is wanted, as `spv --verbose` writes them. It is empty where the text gives a grammar.
+    ///
+    /// # Errors
+    /// Out of memory alone.
+    pub fn explain_refusal(text: &[u8]) -> Result<Text, OutOfMemory> {
+        let mut made = ffi::Buffer::NONE;
+        // SAFETY: the text is lent for the call, and the buffer holds nothing.
+        let status = unsafe { ffi::spvk_raw_grammar_explain(text.as_ptr(), text.len(), &mut made) };
+        let text = Text::of(Bytes(made));
+        match status {
+            ffi::OK => Ok(text),
+            _ => Err(OutOfMemory),
+        }
+    }
+
     /// What a call makes in a handle that holds no grammar.
     fn made(call: impl FnOnce(&mut ffi::Grammar) -> u32) -> Result<Grammar, GrammarError> {
         let mut made = ffi::Grammar {

@@ -124,6 +124,21 @@ fn refused_grammars() {
 }
 
 #[test]
+fn where_grammars_are_refused() {
+    let bad = br#"{"instructions":[{"opname":"OpA","opcode":1,"operands":[{"kind":"A\u001b"}]}],"operand_kinds":[]}"#;
+    let place = "at: instructions[0].operands[0].kind\nfound: \"A\\x1b\"\n";
+    let lines = format!("{place}wanted: the name of a kind of operand_kinds\n");
+    assert_eq!(*Grammar::explain_refusal(bad).unwrap(), *lines);
+    let none = Grammar::explain_refusal(b"{}").unwrap();
+    assert_eq!(
+        &*none,
+        "at: instructions\nfound: nothing\nwanted: an array\n"
+    );
+    let text = Grammar::explain_refusal(&file("profile.json")).unwrap();
+    assert!(text.is_empty());
+}
+
+#[test]
 fn rules() {
     let codes: Vec<Code> = (0..1300).filter_map(Code::new).collect();
     assert_eq!(codes.len(), 49);

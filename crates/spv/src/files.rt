@@ -5,7 +5,7 @@ use crate::why::{Noted, Tried, Why};
 use spv_commands::{Files, TextError, Trouble, Unread, read_all};
 use spv_words::FromRead;
 use std::alloc::Global;
-use std::io::{ErrorKind, Read};
+use std::io::{ErrorKind, Read, Write};
 use std::os::unix::fs::MetadataExt;
 use std::{fs, io};
 
@@ -35,19 +35,47 @@ pub fn open<'a, 'b>(
     }
 }
 
-/// Makes a file empty, to write it.
-pub fn create<'a, 'b>(
-    rt: &HostRuntime,
-    why: &'b Why<'a>,
+/// A writer of a file that its first write makes, or makes anew. Before that nothing is opened.
+#[derive(Drop)]
+pub struct Made<'a, 'b> {
+    rt: &'b HostRuntime,
     name: &'a str,
-) -> io::Result<Noted<'a, 'b, fs::File>> {
-    match fs::create(rt, name) {
-        Ok(file) => Ok(Noted::new(file, name, why)),
-        Err(error) => {
-            why.note(name, Tried::Write, error);
-            Err(error)
+    file: Option<fs::File>,
+}
+
+impl<'a, 'b> Made<'a, 'b> {
+    /// Of a file of this name.
+    pub fn new(rt: &'b HostRuntime, name: &'a str) -> Self {
+        Made {
+            rt,
+            name,
+            file: None,
         }
     }
+}
+
+impl Write for Made<'_, '_> {
+    fn write(&mut self, buf: &[u8]) -> io::Result<usize> {
+        if let Some(file) = &mut self.file {
+            return file.write(buf);
+        }
+        let mut file = fs::create(self.rt, self.name)?;
+        let answer = file.write(buf);
+        self.file = Some(file);
+        answer
+    }
+
+    fn flush(&mut self) -> io::Result<()> {
+        match &mut self.file {
+            Some(file) => file.flush(),
+            None => Ok(()),
+        }
+    }
+}
+
+/// Makes an empty file where there is none of this name. Where that fails, there is none still.
+pub fn make_if_absent(rt: &HostRuntime, name: &str) {
+    let _ = fs::File::create_new(rt, name);
 }
 
 /// All the bytes of an open file.

@@ -5,14 +5,15 @@ mod files;
 mod why;
 
 use files::{
-    Held, Named, STANDARD, create, is_same_file, open, read_file, read_module, read_whole,
-    trouble_of,
+    Held, Made, Named, STANDARD, is_same_file, make_if_absent, open, read_file, read_module,
+    read_whole, trouble_of,
 };
 use spv_commands::{
     Command, Judging, Naming, Trouble, UseError, Versioned, advice, arguments_in, help, is_verbose,
     report, run, run_each, text_asked,
 };
 use spv_words::{FromRead, FromWrite};
+use std::alloc::Global;
 use std::env::VarError;
 use std::io::{ErrorKind, IsTerminal, Read, Write};
 use std::process::ExitCode;
@@ -108,29 +109,48 @@ fn with_module<'a>(
     Ok(with_output(rt, why, command, at_hand, file))
 }
 
-/// Reads the text of `asm` whole, makes the file of the module empty, does what the command asks, and answers the exit
-/// status. Where the module goes to the standard output, the line of a fault goes to the standard error.
-fn with_text<'a>(
+/// Makes the module of a text that is read from an open file, and answers the exit status. Where the module goes to the
+/// standard output, the line of a fault goes to the standard error.
+fn with_text<'a, F: Read + Drop>(
+    rt: &HostRuntime,
+    why: &Why<'a>,
+    command: &Command<'a>,
+    at_hand: AtHand<'a, '_>,
+    file: F,
+    out: &'a str,
+) -> u8 {
+    let output = Noted::new(rt.stdout(), "standard output", why);
+    if out == STANDARD {
+        return with_made(rt, why, command, at_hand, file, rt.stderr(), output);
+    }
+    let made = Noted::new(Made::new(rt, out), out, why);
+    let status = with_made(rt, why, command, at_hand, file, output, made);
+    if status != 0 && !why.has_failed() {
+        make_if_absent(rt, out);
+    }
+    status
+}
+
+/// Opens the text of `asm`, makes its module, and answers the exit status.
+fn with_asm<'a>(
     rt: &HostRuntime,
     why: &Why<'a>,
     command: &Command<'a>,
     grammar: Option<&[u8]>,
-    file: &'a str,
+    name: &'a str,
     out: &'a str,
 ) -> Result<u8, Trouble> {
-    let text = read_whole(rt, why, file)?;
     let at_hand = AtHand {
-        text: Some(file),
+        text: Some(name),
         grammar,
         module: None,
     };
-    let text = Held::new(text.as_slice());
-    let output = Noted::new(rt.stdout(), "standard output", why);
-    if out == STANDARD {
-        return Ok(with_made(rt, why, command, at_hand, text, rt.stderr(), output));
+    if name == STANDARD {
+        let file = Noted::new(rt.stdin(), name, why);
+        return Ok(with_text(rt, why, command, at_hand, file, out));
     }
-    let made = create(rt, why, out).map_err(trouble_of)?;
-    Ok(with_made(rt, why, command, at_hand, text, output, made))
+    let file = open(rt, why, name).map_err(trouble_of)?;
+    Ok(with_text(rt, why, command, at_hand, file, out))
 }
 
 /// Judges each of several files, and answers the exit status.
@@ -201,7 +221,7 @@ fn with_grammar<'a>(
         Command::Show { file, .. } | Command::Trace { file, .. } => {
             with_module(rt, why, command, grammar, *file)
         }
-        Command::Asm { file, out, .. } => with_text(rt, why, command, grammar, *file, *out),
+        Command::Asm { file, out, .. } => with_asm(rt, why, command, grammar, *file, *out),
         Command::Rules { .. } | Command::Grammar { .. } => {
             Ok(with_output(rt, why, command, AtHand::of(grammar), io::empty()))
         }
@@ -313,16 +333,28 @@ fn status_of(rt: &HostRuntime, texts: &[&str], environment: Option<&str>) -> u8 
     }
 }
 
-/// Reads the words of the command line, does what they ask, and answers the exit status.
-fn with_words(rt: &HostRuntime) -> Result<u8, Trouble> {
+/// The words of the command line behind the program's name.
+fn words_of(rt: &HostRuntime) -> Result<Vec<String>, Trouble> {
     let mut words: Vec<String> = Vec::new(rt.alloc());
     for word in env::args(rt).map_err(word_trouble)?.skip(1) {
         words.push(word).map_err(|_| Trouble::Memory)?;
     }
-    let mut texts: Vec<&str> = Vec::new(rt.alloc());
-    for word in &words {
+    Ok(words)
+}
+
+/// Each word as a text.
+fn texts_of<'a>(alloc: Global, words: &'a [String]) -> Result<Vec<&'a str>, Trouble> {
+    let mut texts: Vec<&'a str> = Vec::new(alloc);
+    for word in words {
         texts.push(word.as_str()).map_err(|_| Trouble::Memory)?;
     }
+    Ok(texts)
+}
+
+/// Reads the words of the command line, does what they ask, and answers the exit status.
+fn with_words(rt: &HostRuntime) -> Result<u8, Trouble> {
+    let words = words_of(rt)?;
+    let texts = texts_of(rt.alloc(), &words)?;
     let environment = grammar_of_environment(rt)?;
     let grammar = match &environment {
         Some(path) => Some(path.as_str()),

@@ -52,6 +52,9 @@ pub struct Why<'a> {
     alloc: Global,
     /// Whether more than the line is told.
     is_told: bool,
+    /// Whether a call failed.
+    has_failed: Cell<bool>,
+    /// The call that failed last, until it is told.
     last: Cell<Option<Failure<'a>>>,
 }
 
@@ -61,6 +64,7 @@ impl<'a> Why<'a> {
         Why {
             alloc,
             is_told,
+            has_failed: Cell::new(false),
             last: Cell::new(None),
         }
     }
@@ -70,8 +74,14 @@ impl<'a> Why<'a> {
         self.is_told
     }
 
+    /// Whether a call failed that is noted here.
+    pub fn has_failed(&self) -> bool {
+        self.has_failed.get()
+    }
+
     /// Notes a call that failed.
     pub fn note(&self, name: &'a str, tried: Tried, error: io::Error) {
+        self.has_failed.set(true);
         self.last.set(Some(Failure { name, tried, error }));
     }
 
@@ -184,8 +194,8 @@ impl<'a, 'b, W: Write> Telling<'a, 'b, W> {
         let Some(grammar) = self.at_hand.grammar else {
             return;
         };
-        if let Ok(text) = grammar_reason(self.why.alloc, grammar) {
-            let _ = self.to.write_all(text.as_bytes());
+        if let Ok(lines) = grammar_reason(self.why.alloc, grammar) {
+            let _ = self.to.write_all(lines.as_slice());
         }
     }
 

@@ -1,14 +1,16 @@
 -- What a command does with three bytes.
-use Rattle.std.proofs.Common.{ℕ, List, [], ◌∷◌, ◌++◌, Some, None, Bool, true, false, ◌≡◌, codes, refl, sym, subst, arith, lit≤}
+use Rattle.std.proofs.Common.{ap, length, length-append, ◌≤◌, ◌+◌, ℕ, List, [], ◌∷◌, ◌++◌, Some, None, Bool, true, false, ◌≡◌, codes, refl, sym, subst, arith, lit≤}
 use Rattle.spv_words.specs.Header.{IsFirstBroken, IsModule}
 use Rattle.spv_words.specs.declared.words.Order.{Order}
+use Rattle.spv_words.specs.declared.words.WordError.{WordError}
 use Rattle.spv_words.specs.declared.words.WordError.TheVariants.{W2}
 use Rattle.spv_table.specs.Table.{Table}
 use Rattle.spv_command_line.specs.declared.command_line.Command.{Command}
 use Rattle.spv_command_line.specs.declared.command_line.Command.TheVariants.{Judge, Show, Asm, Trace, Rules, Grammar}
 use Rattle.spv_command_line.specs.declared.command_line.Task.TheVariants as tasks
-use Rattle.spv_commands.specs.Example.{empty_grammar}
+use Rattle.spv_commands.specs.Example.{answer_of, empty_grammar}
 use Rattle.spv_commands.specs.Show.{BeginsShowing, IsShowing, Shows}
+use Rattle.spv_explain.specs.Lines.{refused_text}
 use Rattle.spv_explain.specs.Stream.{BeginsExplaining, Explains}
 use Rattle.spv_verdict.specs.Stream.{Begins, TellsVerdict}
 use Rattle.spv_verdict.specs.Verdict.{IsVerdict}
@@ -26,27 +28,34 @@ pub short_begun_showing : (G : Table) → IsFirstBroken W2 (1 ∷ 2 ∷ 3 ∷ []
 short_begun_showing G h = record { output = refused_line W2; answer = false; showing = IsShowing.refused W2 h; count = 5; fits = lit≤ tt; written = refl }
 
 pub short_explained : (G : Table) → IsFirstBroken W2 (1 ∷ 2 ∷ 3 ∷ []) → ((o : Order) (ws : List ℕ) → ¬ (IsModule o (1 ∷ 2 ∷ 3 ∷ []) ws))
-    → Explains G (1 ∷ 2 ∷ 3 ∷ []) (9 ∷ []) (Some (9 ∷ codes "fault W2" ++ line_end)) false
-short_explained G h never = record {
+    → ((e : WordError) → IsFirstBroken e (1 ∷ 2 ∷ 3 ∷ []) → e ≡ W2)
+    → Explains G (1 ∷ 2 ∷ 3 ∷ []) (9 ∷ []) (Some (9 ∷ codes "fault W2" ++ (line_end ++ refused_text W2))) false
+short_explained G h never once = record {
   line = refused_line W2;
-  lines = [];
+  lines = refused_text W2;
   verdict = IsVerdict.refused W2 h;
   explain = λ words order is r n m listing first stage. absurd (never order words m);
   dead = λ words order r n word m d. absurd (never order words m);
+  others = record { valid = λ e. absurd (refused_is_not_valid W2 e); refused = λ code f. ap refused_text (sym (once code f)) };
   written = refl;
   answered = (λ t. cc, λ e. absurd (refused_is_not_valid W2 e));
 }
 
 pub short_begun_explaining : (G : Table) → IsFirstBroken W2 (1 ∷ 2 ∷ 3 ∷ []) → ((o : Order) (ws : List ℕ) → ¬ (IsModule o (1 ∷ 2 ∷ 3 ∷ []) ws))
+    → ((e : WordError) → IsFirstBroken e (1 ∷ 2 ∷ 3 ∷ []) → e ≡ W2)
     → BeginsExplaining G (1 ∷ 2 ∷ 3 ∷ []) (9 ∷ []) (Some (9 ∷ codes "fault"))
-short_begun_explaining G h never = record {
+short_begun_explaining G h never once = record {
   line = refused_line W2;
-  lines = [];
+  lines = refused_text W2;
   verdict = IsVerdict.refused W2 h;
   explain = λ words order is r n m listing first stage. absurd (never order words m);
   dead = λ words order r n word m d. absurd (never order words m);
+  others = record { valid = λ e. absurd (refused_is_not_valid W2 e); refused = λ code f. ap refused_text (sym (once code f)) };
   count = 5;
-  fits = lit≤ tt;
+  fits =
+      let l : length (refused_line W2 ++ refused_text W2) ≡ length (refused_line W2) + length (refused_text W2) = length-append (refused_line W2) (refused_text W2) in
+      let f : 5 ≤ length (refused_line W2) = lit≤ tt in
+      omega (arith, l, f);
   written = refl;
 }
 
@@ -67,14 +76,14 @@ module _ (P : List ℕ → Type 0) where
   as_taken as_1_6 h = subst P (sym (short_taken as_1_6)) h
 
 pub does_short : (c : Command) (G : Table) → ¬ (ReadsNoFile c) → MakesNothing c → IsTableOf (Some empty_grammar) G → TellsVerdict G (1 ∷ 2 ∷ 3 ∷ []) (9 ∷ []) (Some (9 ∷ codes "fault W2" ++ line_end)) false
-    → Explains G (1 ∷ 2 ∷ 3 ∷ []) (9 ∷ []) (Some (9 ∷ codes "fault W2" ++ line_end)) false
+    → Explains G (1 ∷ 2 ∷ 3 ∷ []) (9 ∷ []) (Some (9 ∷ codes "fault W2" ++ (line_end ++ refused_text W2))) false
     → Shows G (1 ∷ 2 ∷ 3 ∷ []) (9 ∷ []) (Some (9 ∷ codes "fault W2" ++ line_end)) false
     → ((function : ℕ) (choices : List ℕ) (limit : ℕ) → Traces G function choices limit (1 ∷ 2 ∷ 3 ∷ []) (9 ∷ []) (Some (9 ∷ codes "fault W2" ++ line_end)) false)
-    → DoesByText c (Some empty_grammar) (1 ∷ 2 ∷ 3 ∷ []) (Some (9 ∷ [])) (Some (9 ∷ codes "fault W2" ++ line_end)) None None false
+    → DoesByText c (Some empty_grammar) (1 ∷ 2 ∷ 3 ∷ []) (Some (9 ∷ [])) (Some (9 ∷ answer_of c)) None None false
 does_short (Judge tasks.Check g fs v p q) G r n given tells explains shows traces =
     record { table = G; given = given; does = as_taken (λ bytes. TellsVerdict G bytes (9 ∷ []) (Some (9 ∷ codes "fault W2" ++ line_end)) false) v tells }
 does_short (Judge tasks.Explain g fs v p q) G r n given tells explains shows traces =
-    record { table = G; given = given; does = as_taken (λ bytes. Explains G bytes (9 ∷ []) (Some (9 ∷ codes "fault W2" ++ line_end)) false) v explains }
+    record { table = G; given = given; does = as_taken (λ bytes. Explains G bytes (9 ∷ []) (Some (9 ∷ codes "fault W2" ++ (line_end ++ refused_text W2))) false) v explains }
 does_short (Show g f v) G r n given tells explains shows traces =
     record { table = G; given = given; does = as_taken (λ bytes. Shows G bytes (9 ∷ []) (Some (9 ∷ codes "fault W2" ++ line_end)) false) v shows }
 does_short (Asm g f o b) G r n given tells explains shows traces = absurd n

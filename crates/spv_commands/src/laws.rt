@@ -5,8 +5,10 @@ ghost use Rattle.spv_words.specs.declared.words.Order.{Order};
 ghost use Rattle.spv_table.specs.Table.{Table};
 ghost use Rattle.spv_builtin.specs.Text.{IsGrammarText};
 ghost use Rattle.spv_table.specs.Example.{empty_table};
-ghost use Rattle.spv_commands.specs.Example.{empty_grammar, reader_of, writer_of};
+ghost use Rattle.spv_commands.specs.Example.{answer_of, empty_grammar, reader_of, writer_of};
+ghost use Rattle.spv_explain.specs.Lines.{refused_text};
 ghost use Rattle.spv_explain.specs.Stream.{BeginsExplaining, Explains};
+ghost use Rattle.spv_words.specs.declared.words.WordError.TheVariants.{W2};
 ghost use Rattle.spv_commands.specs.Show.{BeginsShowing, IsShowing, Shows};
 ghost use Rattle.spv_commands.specs.Assemble.{Assembles, BeginsAssembling};
 ghost use Rattle.spv_commands.specs.Trace.{BeginsTracing, HasNoEntry, Traces, step_line, trace_text};
@@ -57,9 +59,10 @@ pub fn show_examples()
 
 /// Worked examples of what is explained.
 pub fn explain_examples()
-    // A writer that held the byte 9 got the verdict line of three bytes, which are no module and have no evidence.
+    // A writer that held the byte 9 got the verdict line of three bytes, which are no module and have no evidence, and
+    // the line of what the code says.
     ensures explains { (G : Table) → Explains G (1 ∷ 2 ∷ 3 ∷ []) (9 ∷ [])
-        (Some (9 ∷ codes "fault W2" ++ line_end)) false }
+        (Some (9 ∷ codes "fault W2" ++ (line_end ++ refused_text W2))) false }
     // The first five bytes of that line.
     ensures begins { (G : Table) → BeginsExplaining G (1 ∷ 2 ∷ 3 ∷ []) (9 ∷ []) (Some (9 ∷ codes "fault")) }
 {
@@ -117,7 +120,7 @@ pub fn run_examples()
     // Two empty lists give the table of nothing, and no text at all gives none.
     ensures does { (command : Command) → ¬ (ReadsNoFile command) → MakesNothing command
         → DoesByText command (Some empty_grammar) (1 ∷ 2 ∷ 3 ∷ []) (Some (9 ∷ []))
-        (Some (9 ∷ codes "fault W2" ++ line_end)) None None false }
+        (Some (9 ∷ answer_of command)) None None false }
     ensures does_nothing { (command : Command) (bytes : List ℕ) (old new held kept : Option (List ℕ))
         (answer : Bool) → ¬ (DoesByText command (Some []) bytes old new held kept answer) }
     ensures begins { (command : Command) → ¬ (ReadsNoFile command) → MakesNothing command

@@ -23,11 +23,12 @@ pub use files::{Files, InMemory, Unread};
 pub use judging::Judging;
 pub use name::write_label;
 pub use program::{Trouble, report, run};
-pub use reasons::{entry_points, grammar_reason};
+pub use reasons::entry_points;
 pub use showing::show_stream;
 pub use spv_command_line::{
     AnyCode, Code, Command, ErrorCode, Naming, Task, UseError, advice, arguments, arguments_in,
     help, is_verbose, text_asked,
 };
+pub use spv_grammar::grammar_reason;
 pub use spv_words::{VersionSource, Versioned};
 pub use tracing::{RunError, trace_stream};

@@ -1,44 +1,11 @@
 //! What is told to people behind the line of an error. Nothing is promised of its words.
 use spv_builtin::table_of;
 use spv_command_line::shown_word;
-use spv_grammar::{GrammarError, GrammarFault, fault_of};
+use spv_grammar::GrammarError;
 use spv_inst::decode;
 use spv_module::{Inst, Operand, Stop, opcode};
 use spv_words::{WordError, image_of, replace_version};
 use std::alloc::{AllocError, Global};
-
-/// Adds the line of a key, with each control character of its text as `\xNN`.
-fn push_line(alloc: Global, out: &mut String, key: &str, text: &str) -> Result<(), AllocError> {
-    out.push_str(key)?;
-    out.push_str(": ")?;
-    out.push_str(&shown_word(alloc, text)?)?;
-    out.push_str("\n")
-}
-
-/// The lines of a fault: where it is, what stands there and what is wanted.
-fn fault_lines(alloc: Global, fault: &GrammarFault) -> Result<String, AllocError> {
-    let mut out = String::new(alloc);
-    if !fault.path.is_empty() {
-        push_line(alloc, &mut out, "at", &fault.path)?;
-    }
-    push_line(alloc, &mut out, "found", &fault.found)?;
-    push_line(alloc, &mut out, "wanted", fault.wanted)?;
-    Ok(out)
-}
-
-/// Where a grammar file of this text is refused, what stands there and what is wanted, a line each; nothing where it
-/// is not refused.
-///
-/// # Errors
-///
-/// Where a growth of memory was refused; there is no other.
-pub fn grammar_reason(alloc: Global, text: &[u8]) -> Result<String, AllocError> {
-    match fault_of(alloc, text) {
-        Ok(Some(fault)) => fault_lines(alloc, &fault),
-        Ok(None) => Ok(String::new(alloc)),
-        Err(_) => Err(AllocError),
-    }
-}
 
 /// Adds a line for an instruction that is an OpEntryPoint: its function and its name.
 fn push_entry(alloc: Global, out: &mut String, inst: &Inst<'_>) -> Result<(), AllocError> {

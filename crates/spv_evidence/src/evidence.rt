@@ -1,3 +1,4 @@
+use crate::condition::Condition;
 use spv_layout::Role;
 use spv_table::Listed;
 
@@ -27,8 +28,8 @@ pub enum EntryPart {
     Called { inst: u32 },
     /// The function of an OpExecutionMode is that of no OpEntryPoint.
     Unnamed,
-    /// A definition is imported.
-    Imported,
+    /// A definition is imported, by the OpDecorate of that number.
+    Imported { inst: u32 },
     /// A declaration is not imported.
     Missing,
 }
@@ -46,13 +47,6 @@ pub enum Side {
     Parameter { number: u32 },
     /// The argument of that number, from 0.
     Argument { number: u32 },
-}
-
-/// A value, and the type that it is declared with: two ids.
-#[derive(Clone, Copy, PartialEq, Eq)]
-pub struct Typed {
-    pub value: u32,
-    pub of: u32,
 }
 
 /// What shows that a rule is broken at an instruction, in numbers alone. Operands and instructions count from 0; a
@@ -80,7 +74,7 @@ pub enum Evidence {
         opcodes: Listed<u32>,
         end: bool,
     },
-    /// The rules D, F, M and Y that one operand breaks: that operand, or the one at which the rule first fails.
+    /// The rules D, F and M that one operand breaks: that operand.
     Operand {
         operand: u32,
     },
@@ -120,16 +114,24 @@ pub enum Evidence {
     Entry {
         part: EntryPart,
     },
-    /// Y5: the result type, if there is one, and the value operands in order with their types.
-    Types {
-        result: Option<u32>,
-        values: Listed<Typed>,
+    /// Y2, Y4 and Y5: the first condition that fails; the operand at which it does, if it is one, and the instruction
+    /// that defines the id of that operand; where two types are compared, the one that is wanted and the one that is
+    /// found; and the types that the condition reads. Types are ids.
+    Condition {
+        condition: Condition,
+        operand: Option<u32>,
+        defined: Option<u32>,
+        wanted: Option<u32>,
+        found: Option<u32>,
+        types: Listed<u32>,
     },
-    /// Y6 to Y8: where types or counts differ, and the ones that are wanted and found there, if any is. Types are ids.
+    /// Y6 to Y8: where types or counts differ, and the ones that are wanted and found there, if any is; and the
+    /// OpTypeFunction that is asked, the function's (Y6) or the callee's (Y8). Types are ids.
     Mismatch {
         side: Side,
         wanted: Option<u32>,
         found: Option<u32>,
+        of: Option<u32>,
     },
     /// F3: a predecessor that no pair names.
     MissingParent {

@@ -4,3 +4,4 @@ mod Stages
 mod Sufficing
 mod Tellings
 mod Worked
+pub mod Sentences

@@ -1,5 +1,5 @@
 -- What a module of words comes to, and what its lines tell.
-use Rattle.std.proofs.Common.{◌≡◌, ◌≤◌, ◌-◌, ℕ, List, drop, slice_index, sym, subst}
+use Rattle.std.proofs.Common.{◌≡◌, ◌≤◌, ◌-◌, ◌∙◌, ℕ, List, [], drop, slice_index, sym, subst}
 use Rattle.std.specs.Prelude.{IfOk, Ok, Err}
 use Rattle.std.specs.Prelude.{Result as Answer}
 use Rattle.spv_words.specs.Header.{IsFirstBroken, IsModule}
@@ -29,7 +29,8 @@ use Rattle.spv_verdict.proofs.Verdicts.{Laws, dead_list, same_module}
 use Rattle.spv_form_evidence.specs.words.Evidence as instructions
 use Rattle.spv_explain.specs.Evidence.{IsEvidence}
 use Rattle.spv_explain.specs.Explained.{IsShown, IsShownDead, verdict_in}
-use Rattle.spv_fault_lines.specs.Lines.{AreIn, dead_lines_of, told_of}
+use Rattle.spv_lines.specs.Text.{ShownLines}
+use Rattle.spv_explain.specs.Lines.{fault_text, malformed_text}
 use Rattle.spv_explain.specs.Stream.{Explain, ExplainDead}
 use Rattle.spv_explain.specs.declared.explained.Explained.{Explained}
 use Rattle.spv_explain.specs.declared.explained.Explained.TheVariants as explained
@@ -43,6 +44,7 @@ pub broken_reading : (G : Table) (words : List ℕ) (m n : Module) (f : Fault) (
     → IsShownAt G n.header.bound (plain_insts n) f e → IsBrokenModule G words f e n
 broken_reading G words m n f e reached h l r shown = record {
   listing = rw r.same_insts l;
+  bound = r.same_bound ∙ h.bound;
   told = (rw (r.same_insts, ← h.bound) r.told.0, rw r.same_insts r.told.1);
   shown = rw (← h.bound, ← r.same_bound) shown;
 }
@@ -80,20 +82,26 @@ shown_dead G words (Ok (explained.Broken f e m)) h = λ none. absurd (none (plai
 shown_dead G words (Err _) h = tt
 
 -- lines of a fault
-pub explains : Laws → (G : Table) (bytes words : List ℕ) (order : Order) (f : Fault) (e : Evidence) (m : Module) (lines : List ℕ) → IsModule order bytes words
-    → IsBrokenModule G words f e m → AreIn (told_of (plain_insts m) f.inst e) lines → Explain G bytes lines
-explains laws G bytes words order f e m lines h b t = λ ws p js r n g l first s.
+pub explains : Laws → (G : Table) (bytes words : List ℕ) (order : Order) (f : Fault) (e : Evidence) (m : Module) (shown : List (List ℕ)) (lines : List ℕ) → IsModule order bytes words
+    → IsBrokenModule G words f e m → ShownLines G [] (plain_insts m) shown
+    → lines ≡ fault_text G m.header.bound (plain_insts m) shown f.rule f.inst e → Explain G bytes lines
+explains laws G bytes words order f e m text lines h b are t = λ ws p js r n g l first s.
     let same = same_module laws G bytes words ws order p (plain_insts m) js h g b.listing l in
     let told : IsFirstOfAll G (slice_index ws 3) js f.rule f.inst = rw (same.words, same.insts) at b.told.0 in
     let one = one_first G (slice_index ws 3) js f.rule r f.inst n told first in
     let shown : IsShownAt G (slice_index ws 3) js f e = rw (same.words, same.insts) at b.shown in
     let late : stages.of_profile ≤ stage_of f.rule = subst (λ q. stages.of_profile ≤ stage_of q) (sym one.rule) s in
     let there : IsEvidence G (slice_index ws 3) js f.rule f.inst e = shown late in
-    let parts : AreIn (told_of js f.inst e) lines = rw same.insts at t in
+    let t1 = subst (λ x. lines ≡ fault_text G x (plain_insts m) text f.rule f.inst e) b.bound t in
+    let t2 = subst (λ x. lines ≡ fault_text G (slice_index x 3) (plain_insts m) text f.rule f.inst e) same.words t1 in
+    let t3 = subst (λ x. lines ≡ fault_text G (slice_index ws 3) x text f.rule f.inst e) same.insts t2 in
+    let t4 = subst (λ x. lines ≡ fault_text G (slice_index ws 3) js text x f.inst e) one.rule t3 in
     record {
       evidence = e;
       shows = subst (λ q. IsEvidence G (slice_index ws 3) js q n e) one.rule (subst (λ k. IsEvidence G (slice_index ws 3) js f.rule k e) one.inst there);
-      told = subst (λ k. AreIn (told_of js k e) lines) one.inst parts;
+      shown = text;
+      are_shown = subst (λ x. ShownLines G [] x text) same.insts are;
+      told = subst (λ x. lines ≡ fault_text G (slice_index ws 3) js text r x e) one.inst t4;
     }
 
 -- nothing is to be told of a valid module, of words that are no list, and of bytes that are no words
@@ -112,8 +120,8 @@ refused_explains laws G bytes code lines b = λ ws q js r n g l first s. absurd 
 -- lines of words that spell no list of instructions
 pub dead_shows : Laws → (G : Table) (bytes words : List ℕ) (order : Order) (f : Fault) (e : Evidence) (lines : List ℕ)
     → IsModule order bytes words → IsDecodeFault G words (stop.Fault f)
-    → instructions.IsEvidence G (drop 5 words) f.rule f.inst (f.word - 5) e → AreIn (dead_lines_of e) lines
-    → ExplainDead G bytes lines
+    → instructions.IsEvidence G (drop 5 words) f.rule f.inst (f.word - 5) e
+    → lines ≡ malformed_text G (drop 5 words) f.rule f.inst (f.word - 5) e → ExplainDead G bytes lines
 dead_shows laws G bytes words order f e lines h d shown t = λ ws q r n word g k.
     let same : words ≡ ws = (laws.words order q bytes words ws h g).1 in
     let there = subst (λ v. IsMalformedAt G (drop 5 v) f.rule f.inst (f.word - 5)) same d.1 in
@@ -121,10 +129,13 @@ dead_shows laws G bytes words order f e lines h d shown t = λ ws q r n word g k
     let of_words = subst (λ v. instructions.IsEvidence G (drop 5 v) f.rule f.inst (f.word - 5) e) same shown in
     let of_rule = subst (λ a. instructions.IsEvidence G (drop 5 ws) a f.inst (f.word - 5) e) one.0 of_words in
     let of_inst = subst (λ a. instructions.IsEvidence G (drop 5 ws) r a (f.word - 5) e) one.1 of_rule in
+    let t1 = subst (λ v. lines ≡ malformed_text G (drop 5 v) f.rule f.inst (f.word - 5) e) same t in
+    let t2 = subst (λ a. lines ≡ malformed_text G (drop 5 ws) a f.inst (f.word - 5) e) one.0 t1 in
+    let t3 = subst (λ a. lines ≡ malformed_text G (drop 5 ws) r a (f.word - 5) e) one.1 t2 in
     record {
       evidence = e;
       shows = subst (λ a. instructions.IsEvidence G (drop 5 ws) r n a e) one.2 of_inst;
-      told = t;
+      told = subst (λ a. lines ≡ malformed_text G (drop 5 ws) r n a e) one.2 t3;
     }
 
 -- words that spell a list have no dead instruction

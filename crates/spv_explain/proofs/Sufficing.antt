@@ -19,7 +19,7 @@ use Rattle.spv_form_evidence.proofs.lemmas.layout.Sufficing as layout_law
 use Rattle.spv_form_evidence.proofs.lemmas.ids.Sufficing.{ids_suffice, roles_suffice}
 use Rattle.spv_type_evidence.proofs.lemmas.capabilities.Suffices.{breaks}
 use Rattle.spv_type_evidence.proofs.lemmas.types.Sufficing as types_law
-use Rattle.spv_flow_evidence.proofs.lemmas.branches.Sufficing as branches_law
+use Rattle.spv_flow_evidence.proofs.lemmas.branches.Rules as branches_law
 use Rattle.spv_flow_evidence.proofs.lemmas.walks.Sufficing as walks_law
 use Rattle.spv_flow_evidence.proofs.lemmas.calls.Walked.{sufficient}
 use Rattle.spv_explain.specs.Evidence.{IsEvidence}

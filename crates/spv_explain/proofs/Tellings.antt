@@ -1,14 +1,17 @@
 -- Lines that tell what bytes come to.
-use Rattle.std.proofs.Common.{◌≡◌, ◌≤◌, ◌↔◌, ◌++◌, ◌-◌, ◌∙◌, ℕ, List, Bool, Option, Some, None, IfSome, IsTrue}
-use Rattle.std.proofs.Common.{drop, length, take, ap, refl, sym, subst, string_bytes}
+use Rattle.std.proofs.Common.{◌≡◌, ◌≤◌, ◌↔◌, ◌++◌, ◌-◌, ◌∙◌, ℕ, List, [], Bool, Option, Some, None, IfSome, IsTrue}
+use Rattle.std.proofs.Common.{◌∷◌, ◌+◌, arith, drop, length, sum_by, take, ap, refl, sym, subst, string_bytes}
+use Rattle.std.proofs.lemmas.List.Sums.{sum_by-cons}
 use Rattle.std.specs.Io.KnownBytes.{Appends}
 use Rattle.std.specs.Prelude.{IfOk, Ok, Err}
 use Rattle.std.specs.Prelude.{Result as Answer}
-use Rattle.spv_words.specs.Header.{IsFirstBroken, IsModule, RefusesBytes}
+use Rattle.spv_words.specs.Header.{IsFirstBroken, IsModule, RefusesBytes, greatest_length}
 use Rattle.spv_words.specs.declared.words.WordError.{WordError}
 use Rattle.spv_words.specs.declared.words.WordError.TheVariants as word
 use Rattle.spv_words.specs.declared.words.Order.{Order}
 use Rattle.spv_table.specs.Table.{Table}
+use Rattle.spv_layout.specs.Place.{AreFew, word_count}
+use Rattle.spv_module.specs.Operand.{PlainInst}
 use Rattle.spv_module.specs.Module.{plain_insts}
 use Rattle.spv_module.specs.declared.fault.Fault.{Fault}
 use Rattle.spv_module.specs.declared.fault.Stop.TheVariants as stop
@@ -20,76 +23,111 @@ use Rattle.spv_verdict.specs.Checked.{IsChecked}
 use Rattle.spv_verdict.specs.Program.{Program}
 use Rattle.spv_verdict.specs.Text.{line_of, refusal_of}
 use Rattle.spv_verdict.specs.Verdict.{IsVerdict, refused, valid_line}
+use Rattle.spv_verdict.specs.declared.verdict_line.Judgment.{Judgment}
 use Rattle.spv_verdict.specs.declared.verdict_line.Judgment.TheVariants as judgments
-use Rattle.spv_verdict.proofs.Verdicts.{Laws, fault_verdict, valid_verdict}
+use Rattle.spv_verdict.proofs.Verdicts.{Laws, fault_is_not_valid, fault_verdict, valid_verdict}
 use Rattle.spv_form_evidence.specs.words.Evidence as instructions
-use Rattle.spv_fault_lines.specs.Lines.{AreIn, dead_lines_of, told_of}
-use Rattle.spv_explain.specs.Stream.{BeginsExplaining, Explains, IsExplanation}
+use Rattle.spv_lines.specs.Text.{ShownLines}
+use Rattle.spv_explain.specs.Lines.{fault_text, malformed_text, refused_text}
+use Rattle.spv_explain.specs.Stream.{AreOthers, BeginsExplaining, Explains, IsExplanation}
 use Rattle.spv_explain.specs.declared.stream.Explanation.{Explanation}
 use Rattle.spv_explain.specs.inner.Reading.{IsBrokenModule}
 use Rattle.spv_explain.proofs.Readings.{broken_fault, dead_explains, dead_shows, explains}
 use Rattle.spv_explain.proofs.Readings.{listed_explains, valid_explains}
 
+-- a list has no more instructions than words
+counted : (is : List PlainInst) → length is ≤ sum_by word_count is
+counted [] = omega arith
+counted (i ∷ is) =
+    let h = counted is in
+    let w : 1 ≤ word_count i = omega arith in
+    let e : sum_by word_count (i ∷ is) ≡ word_count i + sum_by word_count is = sum_by-cons word_count i is in
+    omega (arith, h, w, e)
+
+pub few_insts : (is : List PlainInst) (ws : List ℕ) → length ws ≡ sum_by word_count is → length ws ≤ greatest_length → AreFew is
+few_insts is ws e l = let h = counted is in omega (arith, h, e, l)
+
+-- a fault's line is not `valid`
+fault_others : Laws → (bytes words : List ℕ) (order : Order) (f : Fault) (j : Judgment) (lines : List ℕ) → IsModule order bytes words
+    → j ≡ judgments.Broken f → AreOthers bytes (line_of j) lines
+fault_others laws bytes words order f j lines h e = record {
+  valid = λ v. let w : line_of (judgments.Broken f) ≡ valid_line = subst (λ x. line_of x ≡ valid_line) e v in absurd (fault_is_not_valid f.rule f.inst f.word w);
+  refused = λ code b. absurd (laws.never code order bytes words h b);
+}
+
 pub valid_told : Laws → (G : Table) (bytes words : List ℕ) (order : Order) (p : Program)
     (t : Explanation) → IsModule order bytes words → IsChecked G words p → t.judgment ≡ judgments.Valid
-    → IsExplanation G bytes t
-valid_told laws G bytes words order p t h c e = record {
+    → string_bytes t.lines ≡ [] → IsExplanation G bytes t
+valid_told laws G bytes words order p t h c e l = record {
   verdict = subst (λ j. IsVerdict G bytes (line_of j)) (sym e) (valid_verdict G bytes words order p h c);
   explain = valid_explains laws G bytes words order p (string_bytes t.lines) h c;
   dead = listed_explains laws G bytes words order p.insts (string_bytes t.lines) h c.listing;
+  others = record { valid = λ v. l; refused = λ code b. absurd (laws.never code order bytes words h b) };
 }
 
 pub dead_told : {E : Type 0} → Laws → (G : Table) (bytes words : List ℕ) (order : Order) (f : Fault) (e : Evidence)
     (r : Answer Explanation E) → IsModule order bytes words → IsDecodeFault G words (stop.Fault f)
     → instructions.IsEvidence G (drop 5 words) f.rule f.inst (f.word - 5) e
-    → IfOk r (λ t. t.judgment ≡ judgments.Broken f) → IfOk r (λ t. AreIn (dead_lines_of e) (string_bytes t.lines))
+    → IfOk r (λ t. t.judgment ≡ judgments.Broken f) → IfOk r (λ t. string_bytes t.lines ≡ malformed_text G (drop 5 words) f.rule f.inst (f.word - 5) e)
     → IfOk r (λ t. IsExplanation G bytes t)
 dead_told laws G bytes words order f e (Ok t) h d shown j l = record {
   verdict = subst (λ x. IsVerdict G bytes (line_of x)) (sym j)
       (fault_verdict G bytes words order f h (IsFault.dead d.0 d.1));
   explain = dead_explains laws G bytes words order f (string_bytes t.lines) h d;
   dead = dead_shows laws G bytes words order f e (string_bytes t.lines) h d shown l;
+  others = fault_others laws bytes words order f t.judgment (string_bytes t.lines) h j;
 }
 dead_told laws G bytes words order f e (Err _) h d shown j l = tt
 
 pub broken_told : {E : Type 0} → Laws → (G : Table) (bytes words : List ℕ) (order : Order) (f : Fault) (e : Evidence)
-    (m : Module) (r : Answer Explanation E) → IsModule order bytes words → IsBrokenModule G words f e m
-    → IfOk r (λ t. t.judgment ≡ judgments.Broken f)
-    → IfOk r (λ t. AreIn (told_of (plain_insts m) f.inst e) (string_bytes t.lines))
+    (m : Module) (shown : List (List ℕ)) (r : Answer Explanation E) → IsModule order bytes words → IsBrokenModule G words f e m
+    → ShownLines G [] (plain_insts m) shown → IfOk r (λ t. t.judgment ≡ judgments.Broken f)
+    → IfOk r (λ t. string_bytes t.lines ≡ fault_text G m.header.bound (plain_insts m) shown f.rule f.inst e)
     → IfOk r (λ t. IsExplanation G bytes t)
-broken_told laws G bytes words order f e m (Ok t) h b j l = record {
+broken_told laws G bytes words order f e m shown (Ok t) h b s j l = record {
   verdict = subst (λ x. IsVerdict G bytes (line_of x)) (sym j) (fault_verdict G bytes words order f h (broken_fault G words f e m b));
-  explain = explains laws G bytes words order f e m (string_bytes t.lines) h b l;
+  explain = explains laws G bytes words order f e m shown (string_bytes t.lines) h b s l;
   dead = listed_explains laws G bytes words order (plain_insts m) (string_bytes t.lines) h b.listing;
+  others = fault_others laws bytes words order f t.judgment (string_bytes t.lines) h j;
 }
-broken_told laws G bytes words order f e m (Err _) h b j l = tt
+broken_told laws G bytes words order f e m shown (Err _) h b s j l = tt
 
 -- bytes that gave no image
-refused_one : ((e : WordError) (o : Order) (bs ws : List ℕ) → IsModule o bs ws → ¬ IsFirstBroken e bs)
+refused_line_only : (bytes : List ℕ) (code : WordError) (j : Judgment) → judgments.Refused code ≡ j → ¬ (line_of j ≡ valid_line)
+refused_line_only bytes code j e v = let w : line_of (judgments.Refused code) ≡ valid_line = subst (λ x. line_of x ≡ valid_line) (sym e) v in absurd cc
+
+refused_one : ((d e : WordError) (bs : List ℕ) → IsFirstBroken d bs → IsFirstBroken e bs → d ≡ e)
+    → ((e : WordError) (o : Order) (bs ws : List ℕ) → IsModule o bs ws → ¬ IsFirstBroken e bs)
     → (G : Table) (bytes : List ℕ) (code : WordError) (t : Explanation) → IsFirstBroken code bytes
-    → judgments.Refused code ≡ t.judgment → IsExplanation G bytes t
-refused_one never G bytes code t b j =
+    → judgments.Refused code ≡ t.judgment → string_bytes t.lines ≡ refused_text code → IsExplanation G bytes t
+refused_one once never G bytes code t b j l =
     record {
       verdict = subst (λ x. IsVerdict G bytes (line_of x)) j (refused code b);
       explain = λ ws q js r n g l first s. absurd (never code q bytes ws g b);
       dead = λ ws q r n m g k. absurd (never code q bytes ws g b);
+      others = record {
+        valid = λ v. absurd (refused_line_only bytes code t.judgment j v);
+        refused = λ d k. subst (λ x. string_bytes t.lines ≡ refused_text x) (once code d bytes b k) l;
+      };
     }
 
-pub refused_told : ((e : WordError) (o : Order) (bs ws : List ℕ) → IsModule o bs ws → ¬ IsFirstBroken e bs)
+pub refused_told : ((d e : WordError) (bs : List ℕ) → IsFirstBroken d bs → IsFirstBroken e bs → d ≡ e)
+    → ((e : WordError) (o : Order) (bs ws : List ℕ) → IsModule o bs ws → ¬ IsFirstBroken e bs)
     → (G : Table) (known : Option (List ℕ)) (code : WordError) (r : Answer Explanation WordError)
     → IfSome known (λ xs. RefusesBytes code xs) → IfOk r (λ t. refusal_of code ≡ Ok t.judgment)
+    → IfOk r (λ t. string_bytes t.lines ≡ refused_text code)
     → IfSome known (λ xs. IfOk r (λ t. IsExplanation G xs t))
-refused_told never G None code r h e = tt
-refused_told never G (Some xs) code (Err _) h e = tt
-refused_told never G (Some xs) word.W1 (Ok t) h e = absurd cc
-refused_told never G (Some xs) word.W9 (Ok t) h e = absurd cc
-refused_told never G (Some xs) word.W2 (Ok t) h e = (let j : judgments.Refused word.W2 ≡ t.judgment = cc in refused_one never G xs word.W2 t h j)
-refused_told never G (Some xs) word.W3 (Ok t) h e = (let j : judgments.Refused word.W3 ≡ t.judgment = cc in refused_one never G xs word.W3 t h j)
-refused_told never G (Some xs) word.W4 (Ok t) h e = (let j : judgments.Refused word.W4 ≡ t.judgment = cc in refused_one never G xs word.W4 t h j)
-refused_told never G (Some xs) word.W5 (Ok t) h e = (let j : judgments.Refused word.W5 ≡ t.judgment = cc in refused_one never G xs word.W5 t h j)
-refused_told never G (Some xs) word.W6 (Ok t) h e = (let j : judgments.Refused word.W6 ≡ t.judgment = cc in refused_one never G xs word.W6 t h j)
-refused_told never G (Some xs) word.W7 (Ok t) h e = (let j : judgments.Refused word.W7 ≡ t.judgment = cc in refused_one never G xs word.W7 t h j)
-refused_told never G (Some xs) word.W8 (Ok t) h e = (let j : judgments.Refused word.W8 ≡ t.judgment = cc in refused_one never G xs word.W8 t h j)
+refused_told once never G None code r h e l = tt
+refused_told once never G (Some xs) code (Err _) h e l = tt
+refused_told once never G (Some xs) word.W1 (Ok t) h e l = absurd cc
+refused_told once never G (Some xs) word.W9 (Ok t) h e l = absurd cc
+refused_told once never G (Some xs) word.W2 (Ok t) h e l = (let j : judgments.Refused word.W2 ≡ t.judgment = cc in refused_one once never G xs word.W2 t h j l)
+refused_told once never G (Some xs) word.W3 (Ok t) h e l = (let j : judgments.Refused word.W3 ≡ t.judgment = cc in refused_one once never G xs word.W3 t h j l)
+refused_told once never G (Some xs) word.W4 (Ok t) h e l = (let j : judgments.Refused word.W4 ≡ t.judgment = cc in refused_one once never G xs word.W4 t h j l)
+refused_told once never G (Some xs) word.W5 (Ok t) h e l = (let j : judgments.Refused word.W5 ≡ t.judgment = cc in refused_one once never G xs word.W5 t h j l)
+refused_told once never G (Some xs) word.W6 (Ok t) h e l = (let j : judgments.Refused word.W6 ≡ t.judgment = cc in refused_one once never G xs word.W6 t h j l)
+refused_told once never G (Some xs) word.W7 (Ok t) h e l = (let j : judgments.Refused word.W7 ≡ t.judgment = cc in refused_one once never G xs word.W7 t h j l)
+refused_told once never G (Some xs) word.W8 (Ok t) h e l = (let j : judgments.Refused word.W8 ≡ t.judgment = cc in refused_one once never G xs word.W8 t h j l)
 
 -- words that were read
 pub known_told : (G : Table) (known : Option (List ℕ)) (words : List ℕ) (order : Order) (t : Explanation)
@@ -113,6 +151,7 @@ told_whole G (Some bs) (Some old) (Some xs) t bytes answer h e w a =
       verdict = h.verdict;
       explain = h.explain;
       dead = h.dead;
+      others = h.others;
       written = ap Some (w ∙ rw e refl);
       answered = a;
     }
@@ -129,6 +168,7 @@ told_begun G (Some bs) (Some old) new t bytes h e w =
       verdict = h.verdict;
       explain = h.explain;
       dead = h.dead;
+      others = h.others;
       count = w.0;
       fits = rw (← e) w.1;
       written = rw (← e) w.2;

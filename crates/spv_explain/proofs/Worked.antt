@@ -1,12 +1,17 @@
 -- The small lists and texts of the worked examples.
 use Rattle.std.proofs.Common.{◌≡◌, ◌∙◌, ◌++◌, ◌<◌, inl, inr, ℕ, zero, suc, List, [], ◌∷◌, refl, sym, subst}
-use Rattle.std.proofs.Common.{Bool, true, false, ◌&&◌, ◌||◌, Some, codes, drop, append_assoc, arith}
+use Rattle.std.proofs.Common.{Bool, true, false, ◌&&◌, ◌||◌, Some, ap, codes, drop, map, slice_index, append_assoc, arith, IsUtf8}
+use Rattle.std.specs.Fmt.{digits}
 use Rattle.std.specs.Prelude.{nat_eq, slice_index_or}
 use Rattle.std.specs.List.{Contains}
 use Rattle.std.proofs.lemmas.Bool.{eq-eqb}
 use Rattle.std.proofs.lemmas.Fmt.{decimal_digit}
-use Rattle.spv_module.specs.Example.{small, string}
-use Rattle.spv_module.specs.Operand.{PlainInst}
+use Rattle.spv_table.specs.Table.{pattern_of}
+use Rattle.spv_module.specs.Example.{small, string, string_entry}
+use Rattle.spv_module.specs.Operand.{PlainInst, Result, Text, start}
+use Rattle.spv_module.specs.Shape.{shape_of}
+use Rattle.spv_module.specs.Spelling.{HoldsText, Takes}
+use Rattle.spv_inst.specs.Flat.{due}
 use Rattle.spv_module.specs.Instruction.{IsListing}
 use Rattle.spv_module.specs.declared.fault.Rule.{Rule}
 use Rattle.spv_module.specs.declared.fault.Rule.TheVariants.{I7, L1, D2}
@@ -32,93 +37,36 @@ use Rattle.spv_form_evidence.specs.layout.inner.Automaton.{followers}
 use Rattle.spv_form_evidence.proofs.lemmas.layout.Opcodes.{to_come}
 use Rattle.spv_form_evidence.proofs.lemmas.ids.Worked.{again}
 use Rattle.spv_explain.specs.Evidence.{IsEvidence}
-use Rattle.spv_explain.specs.Example.{string_fault, string_words, twice_void, unknown_bit}
+use Rattle.spv_explain.specs.Example.{string_fault, string_words, twice_void}
 use Rattle.spv_explain.specs.Explained.{IsShownBy}
-use Rattle.spv_fault_lines.specs.Lines.{AreIn, HasPart, dead_lines_of, inst_begin, number_line, operand_line, told_of}
-use Rattle.spv_explain.specs.Stream.{AreDeadLinesOf, AreLinesOf}
+use Rattle.spv_lines.specs.Line.{IsShownLine}
+use Rattle.spv_lines.specs.Operand.{Shown}
+use Rattle.spv_lines.specs.Text.{ShownLines}
+use Rattle.spv_lines.specs.Written.{Piece, Written}
+use Rattle.spv_fault_lines.specs.Facts.{facts_of}
+use Rattle.spv_fault_lines.specs.Lines.{line_of, text_of}
+use Rattle.spv_fault_lines.specs.Plain.{plain_of}
+use Rattle.spv_fault_lines.specs.declared.fact.Fact.TheVariants as fact
+use Rattle.spv_rules.specs.declared.rules.Code.TheVariants as Code
+use Rattle.spv_explain.specs.Lines.{rule_line}
+use Rattle.spv_explain.specs.Stream.{AreLinesOf}
 use Rattle.spv_explain.proofs.Sufficing.{of_layout_alone, suffices}
 
--- whether a text begins with a part, and whether it has it
-abbrev starts : List ℕ → List ℕ → Bool
-starts xs [] = true
-starts [] (p ∷ ps) = false
-starts (x ∷ xs) (p ∷ ps) = nat_eq x p && starts xs ps
-
-abbrev has : List ℕ → List ℕ → Bool
-has [] ps = starts [] ps
-has (x ∷ xs) ps = starts (x ∷ xs) ps || has xs ps
-
-starts_front : (ps after : List ℕ) → starts (ps ++ after) ps ≡ true
-starts_front [] after = refl
-starts_front (p ∷ ps) after = let e : nat_eq p p ≡ true = eq-eqb p p refl in rw (e, starts_front ps after) refl
-
-or_first : (a b : Bool) → a ≡ true → (a || b) ≡ true
-or_first true b h = refl
-or_first false b h = cc
-
-or_second : (a b : Bool) → b ≡ true → (a || b) ≡ true
-or_second true b h = refl
-or_second false b h = h
-
-has_first : (xs ps : List ℕ) → starts xs ps ≡ true → has xs ps ≡ true
-has_first [] ps h = h
-has_first (x ∷ xs) ps h = or_first (starts (x ∷ xs) ps) (has xs ps) h
-
-has_between : (before ps after : List ℕ) → has (before ++ (ps ++ after)) ps ≡ true
-has_between [] ps after = has_first (ps ++ after) ps (starts_front ps after)
-has_between (x ∷ before) ps after =
-    or_second (starts (x ∷ (before ++ (ps ++ after))) ps) (has (before ++ (ps ++ after)) ps) (has_between before ps after)
-
-has_part : (text ps : List ℕ) → HasPart text ps → has text ps ≡ true
-has_part text ps h =
-    let w : h.before ++ (ps ++ h.after) ≡ text = sym (append_assoc h.before ps h.after) ∙ sym h.whole in
-    subst (λ t. has t ps ≡ true) w (has_between h.before ps h.after)
-
 -- lines
-earlier_part : inst_begin (codes "earlier") 0 ≡ codes "earlier: inst 0,"
-earlier_part = rw (decimal_digit 0 (omega arith)) refl
+pub earlier_told : line_of small twice_void (codes "%1 = OpTypeVoid" ∷ []) (fact.Earlier 0) ≡ codes "earlier: inst 0, %1 = OpTypeVoid" ++ line_end
+earlier_told = rw (decimal_digit 0 (omega arith)) refl
 
-earlier_stands : HasPart (codes "earlier: inst 0, %1 = OpTypeVoid") (codes "earlier: inst 0,")
-earlier_stands = record { before = []; after = codes " %1 = OpTypeVoid"; whole = refl }
-
-pub earlier_told : AreIn (told_of twice_void 1 (Earlier 0)) (codes "earlier: inst 0, %1 = OpTypeVoid")
-earlier_told =
-    (subst (λ p. HasPart (codes "earlier: inst 0, %1 = OpTypeVoid") p) (sym earlier_part) earlier_stands, tt)
-
-pub not_later_told : ¬ (AreIn (told_of twice_void 1 (Earlier 0)) (codes "earlier: inst 1, %1 = OpTypeVoid"))
+pub not_later_told : ¬ (line_of small twice_void (codes "%1 = OpTypeVoid" ∷ []) (fact.Earlier 0) ≡ codes "earlier: inst 1, %1 = OpTypeVoid" ++ line_end)
 not_later_told h =
-    let part = subst (λ p. HasPart (codes "earlier: inst 1, %1 = OpTypeVoid") p) earlier_part h.0 in
-    let e : has (codes "earlier: inst 1, %1 = OpTypeVoid") (codes "earlier: inst 0,") ≡ true = has_part _ _ part in
-    absurd cc
+    let e : codes "earlier: inst 0, %1 = OpTypeVoid" ++ line_end ≡ codes "earlier: inst 1, %1 = OpTypeVoid" ++ line_end = sym earlier_told ∙ h in
+    let f : 48 ≡ 49 = ap (λ (t : List ℕ). slice_index t 14) e in
+    absurd (omega (arith, f))
 
-pub operand_told : operand_line (of_void ∷ []) 0 1 ≡ codes "operand: 1 %1" ++ line_end
+pub operand_told : line_of small (of_void ∷ []) [] (fact.Operand 0 1) ≡ codes "operand: 1 %1" ++ line_end
 operand_told = rw (decimal_digit 1 (omega arith)) refl
 
-number_told : number_line (codes "operand") 3 ≡ codes "operand: 3" ++ line_end
-number_told = rw (decimal_digit 3 (omega arith)) refl
-
--- an OpLoad with an unknown bit in its mask
-mask_stands : HasPart (codes "operand: 3" ++ line_end) (codes "operand: 3" ++ line_end)
-mask_stands = record { before = []; after = []; whole = refl }
-
-pub mask_lines : AreDeadLinesOf small unknown_bit I7 0 4 (codes "operand: 3" ++ line_end)
-mask_lines = record {
-  evidence = Due 61 3 (Some 3);
-  shows = mask_shown;
-  told = (subst (λ p. HasPart (codes "operand: 3" ++ line_end) p) (sym number_told) mask_stands, tt);
-}
-
-pub no_lines_beside : ¬ (AreDeadLinesOf small unknown_bit I7 0 4 (codes "operand: 2" ++ line_end))
-no_lines_beside l =
-    let same = one small unknown_bit I7 0 4 (Due 61 3 (Some 3)) l.evidence mask_shown l.shows in
-    let told = subst (λ e. AreIn (dead_lines_of e) (codes "operand: 2" ++ line_end)) (sym same) l.told in
-    let part = subst (λ p. HasPart (codes "operand: 2" ++ line_end) p) number_told told.0 in
-    let e : has (codes "operand: 2" ++ line_end) (codes "operand: 3" ++ line_end) ≡ true = has_part _ _ part in
-    absurd cc
-
--- a second result
-pub second_lines : AreLinesOf small 5 twice_void D2 1 (codes "earlier: inst 0, %1 = OpTypeVoid")
-second_lines = record { evidence = Earlier 0; shows = IsEvidence.of_ids D2 1 (Earlier 0) again; told = earlier_told }
+pub escape_told : plain_of (97 ∷ 27 ∷ 92 ∷ []) ≡ codes "a\\x1b\\"
+escape_told = refl
 
 no_second : (r : Rule) (n : ℕ) → ids.Broken small 5 twice_void r n → r ≡ D2 → n ≡ 0 → ⊥
 no_second _ _ (ids.Broken.result_out_of_range n x d o) e z = cc
@@ -168,6 +116,40 @@ not_string c = by c.0 c.1 c.2
 string_shows : IsEvidence small 9 (string ∷ []) L1 0 (MayCome (10 ∷ 11 ∷ 14 ∷ 17 ∷ []) false)
 string_shows =
     IsEvidence.of_layout L1 0 _ (layout.IsEvidence.misplaced string 0 (10 ∷ 11 ∷ 14 ∷ 17 ∷ []) false refl first_to_come not_string)
+
+-- its line
+abc : HoldsText (6513249 ∷ []) (codes "abc") []
+abc = record { words = (omega arith, tt); octets = refl; no_zero = (λ e. omega arith, (λ e. omega arith, (λ e. omega arith, tt))); short = omega arith }
+
+abc_text : IsUtf8 (codes "abc")
+unfolding lib.Utf8.encode
+abc_text = (codes "abc", (refl, refl))
+
+string_operands : Written (Shown small) small (Some 5) (start [] 7) (map due (pattern_of string_entry)) string.operands (5 ∷ 6513249 ∷ []) (codes " \"abc\"")
+unfolding shape_of
+string_operands =
+    Written.take _ _ _ (Result 5) (5 ∷ []) [] [] _ _ _ (Takes.result 5) (Piece.result 5 refl refl) (
+    Written.take _ _ _ (Text (codes "abc")) (6513249 ∷ []) [] (codes " \"abc\"") _ _ _ (Takes.text (codes "abc") (6513249 ∷ []) [] abc tt abc_text) (Piece.other (Text (codes "abc")) (codes "\"abc\"") refl refl) (
+    Written.end _))
+
+string_line : IsShownLine small [] string (5 ∷ 6513249 ∷ []) (codes "%5 = OpString \"abc\"")
+unfolding digits
+string_line = record { entry = string_entry; operands = codes " \"abc\""; known = refl; written = string_operands; all = refl }
+
+facts_told : (codes "at: %5 = OpString \"abc\"" ++ line_end) ++ (codes "may come:" ++ line_end)
+    ≡ text_of small (string ∷ []) (codes "%5 = OpString \"abc\"" ∷ []) (facts_of 9 (string ∷ []) L1 0 (MayCome (10 ∷ 11 ∷ 14 ∷ 17 ∷ []) false))
+facts_told = refl
+
+pub string_lines : AreLinesOf small 9 (string ∷ []) L1 0
+    (rule_line (Code.Rule L1) ++ ((codes "at: %5 = OpString \"abc\"" ++ line_end)
+    ++ (codes "may come:" ++ line_end)))
+string_lines = record {
+  evidence = MayCome (10 ∷ 11 ∷ 14 ∷ 17 ∷ []) false;
+  shows = string_shows;
+  shown = codes "%5 = OpString \"abc\"" ∷ [];
+  are_shown = ShownLines.more [] string [] (5 ∷ 6513249 ∷ []) (codes "%5 = OpString \"abc\"") [] string_line (ShownLines.end _);
+  told = ap (λ (z : List ℕ). rule_line (Code.Rule L1) ++ z) facts_told;
+}
 
 the_string : (is : List PlainInst) → IsListing small is (drop 5 string_words) → string ∷ [] ≡ is
 the_string is l = listing_same small [] (string ∷ []) is (drop 5 string_words) (drop 5 string_words) string_listed l refl

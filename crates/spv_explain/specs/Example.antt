@@ -13,10 +13,6 @@ twice_void = void 1 ∷ void 1 ∷ []
 abbrev pub string_words : List ℕ
 string_words = 119734787 ∷ 67072 ∷ 0 ∷ 9 ∷ 0 ∷ 196615 ∷ 5 ∷ 6513249 ∷ []
 
--- words of a module from word 5 on: an OpLoad whose operand 3 is a mask with an unknown bit
-abbrev pub unknown_bit : List ℕ
-unknown_bit = 327741 ∷ 2 ∷ 9 ∷ 8 ∷ 4 ∷ []
-
 -- no module begins with an OpString
 abbrev pub string_fault : Fault
 string_fault = record { rule = L1; inst = 0; word = 5 }

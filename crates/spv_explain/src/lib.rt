@@ -5,10 +5,9 @@ mod evidence;
 mod explained;
 mod kinds;
 pub mod laws;
-mod place;
 mod stream;
 
 pub use explained::{Explained, explain};
-pub use spv_evidence::{EntryPart, Evidence, Lister, Side, Typed};
+pub use spv_evidence::{Condition, EntryPart, Evidence, Kind, Lister, Relation, Side};
 pub use spv_rules::{Code, rules_text};
 pub use stream::{Explanation, explain_bytes, explain_stream};

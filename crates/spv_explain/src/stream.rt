@@ -1,5 +1,5 @@
 //! What is written of the bytes of a stream.
-ghost use Rattle.std.specs.Prelude.{◌≡◌, ◌⊎◌, ◌↔◌, ◌++◌, ℕ, List, [], Ok, OnOk};
+ghost use Rattle.std.specs.Prelude.{◌≡◌, ◌⊎◌, ◌↔◌, ◌++◌, ◌-◌, ℕ, List, [], Ok, drop};
 ghost use Rattle.std.specs.Prelude.{IfOk, IfErr, IfSome, IsErrOf, IsTrue, string_bytes};
 ghost use Rattle.spv_words.specs.Header.{IsModule};
 ghost use Rattle.spv_words.specs.declared.words.Order.{Order};
@@ -8,26 +8,26 @@ ghost use Rattle.spv_module.specs.Module.{plain_insts};
 ghost use Rattle.spv_verdict.specs.Outcome.{HasFailed, OfKnown};
 ghost use Rattle.spv_verdict.specs.Verdict.{valid_line};
 ghost use Rattle.spv_verdict.specs.Text.{line_of, refusal_of};
-ghost use Rattle.spv_fault_lines.specs.Lines.{AreIn, dead_lines_of, told_of};
+ghost use Rattle.spv_lines.specs.Text.{ShownLines};
+ghost use Rattle.spv_layout.specs.Place.{AreFew};
+ghost use Rattle.spv_rules.specs.Rules.{sentence_of};
+ghost use Rattle.spv_explain.specs.Lines as lines;
+ghost use Rattle.spv_explain.specs.Lines.{fault_text, malformed_text, refused_text};
 ghost use Rattle.spv_explain.specs.Stream.{BeginsExplaining, Explains, IsExplanation};
 ghost use Rattle.spv_verdict.specs.declared.verdict_line.Judgment.TheVariants as judgments;
-ghost use Rattle.spv_fault_lines.specs.inner.Adding.{Adds};
 
 use crate::explained::{Explained, explained_of};
-use crate::place::{block_of, function_of};
 use spv_evidence::Evidence;
-use spv_fault_lines::{About, due_lines, evidence_lines};
+use spv_fault_lines::{About, push_malformed};
 use spv_inst::{listed_or_dead, one_death, one_listing};
-use spv_module::{Fault, Module, Rule};
+use spv_layout::laws::word_counts;
+use spv_lines::shown_reads_back;
+use spv_module::{Fault, Module};
 use spv_rules::Code;
 use spv_table::{Memory, Table};
 use spv_verdict::{Judgment, line_for};
-use spv_words::{Image, Sink, Source, WordError, image_of, read_image, word, write_all};
+use spv_words::{Image, Sink, Source, WordError, image_of, read_image, write_all};
 use std::alloc::{AllocError, Global};
-use std::fmt::Write;
-
-/// How many words of an instruction are told.
-const WORDS: u32 = 16;
 
 /// The verdict on the bytes of a module, and the lines that explain it.
 #[derive(Drop)]
@@ -38,43 +38,23 @@ pub struct Explanation {
     pub lines: String,
 }
 
+/// What a code says, in a sentence.
+fn sentence(code: Code) -> &'static str
+    ensures { result.now ≡ sentence_of code }
+{
+    let text = code.c_sentence();
+    &text[..text.len() - 1]
+}
+
 /// The line of what a code says.
-fn rule_line(alloc: Global, code: Code) -> Result<String, AllocError> {
+fn rule_line(alloc: Global, code: Code) -> Result<String, AllocError>
+    ensures { IfOk result (λ t. string_bytes t ≡ lines.rule_line code) }
+{
     let mut text = String::new(alloc);
     text.push_str("rule: ")?;
-    text.push_str(code.sentence())?;
+    text.push_str(sentence(code))?;
     text.push_str("\n")?;
     Ok(text)
-}
-
-/// Adds the line of the function and the block that an instruction is of, if it is of one.
-fn place_line(about: About<'_, '_>, out: &mut String, inst: u32) -> Result<(), AllocError>
-    ensures { OnOk result (Adds [] (string_bytes out.old) (string_bytes out.new)) }
-{
-    let insts = about.module.insts.as_slice();
-    let Some(function) = function_of(insts, inst) else {
-        return Ok(());
-    };
-    out.push_str("in: function")?;
-    about.push_result(out, function)?;
-    if let Some(block) = block_of(insts, inst) {
-        out.push_str(", block")?;
-        about.push_result(out, block)?;
-    }
-    out.push_str("\n")
-}
-
-/// Adds the lines of the instruction at which a rule is told, and of its place. At the end of a module there is none.
-fn at_lines(about: About<'_, '_>, out: &mut String, fault: Fault) -> Result<(), AllocError>
-    ensures { OnOk result (Adds [] (string_bytes out.old) (string_bytes out.new)) }
-{
-    if matches!(fault.rule, Rule::L2) {
-        return Ok(());
-    }
-    out.push_str("at:")?;
-    about.push_inst(out, fault.inst)?;
-    out.push_str("\n")?;
-    place_line(about, out, fault.inst)
 }
 
 /// The verdict of a fault, and its lines.
@@ -83,69 +63,48 @@ fn broken_told(
     table: &Table,
     module: &Module<'_>,
     fault: Fault,
-    evidence: &Evidence,
+    evidence: Evidence,
 ) -> Result<Explanation, AllocError>
+    requires few { AreFew (plain_insts «module».now) }
     ensures verdict { IfOk result (λ t. t.judgment ≡ judgments.Broken fault) }
-    ensures lines { IfOk result (λ t. AreIn (told_of (plain_insts «module».now) fault.inst evidence.now)
-        (string_bytes t.lines)) }
+    ensures lines { (shown : List (List ℕ)) → ShownLines table.now [] (plain_insts «module».now) shown
+        → IfOk result (λ t. string_bytes t.lines ≡ fault_text table.now «module».now.header.bound
+        (plain_insts «module».now) shown fault.rule fault.inst evidence) }
 {
     let about = About {
         alloc,
         table,
         module,
     };
+    let facts = about.facts_of(fault.rule, fault.inst, evidence)?;
     let mut lines = rule_line(alloc, Code::Rule(fault.rule))?;
-    at_lines(about, &mut lines, fault)?;
-    evidence_lines(about, &mut lines, fault.inst, evidence)?;
+    about.push_lines(&mut lines, &facts)?;
     Ok(Explanation {
         judgment: Judgment::Broken(fault),
         lines,
     })
 }
 
-/// Adds the words from one place to before another, in hexadecimal, 16 of them at most.
-fn push_words(out: &mut String, image: &Image, from: u32, to: u32) -> Result<(), AllocError> {
-    for at in from..to.min(image.len()) {
-        if at.saturating_sub(from) >= WORDS {
-            return out.push_str(" ..");
-        }
-        write!(out, " {:08x}", word(image, at))?;
-    }
-    Ok(())
-}
-
-/// The verdict of words that are no list of instructions, and its lines: with the words of the instruction that fails,
-/// as many as its first word counts, and the operand that fails.
+/// The verdict of words that are no list of instructions, and its lines.
 fn malformed_told(
     alloc: Global,
     table: &Table,
     image: &Image,
     fault: Fault,
-    place: u32,
-    evidence: &Evidence,
+    evidence: Evidence,
 ) -> Result<Explanation, AllocError>
     ensures verdict { IfOk result (λ t. t.judgment ≡ judgments.Broken fault) }
-    ensures lines { IfOk result (λ t. AreIn (dead_lines_of evidence.now) (string_bytes t.lines)) }
+    ensures lines { IfOk result (λ t. string_bytes t.lines ≡ malformed_text table.now (drop 5 image.now)
+        fault.rule fault.inst (fault.word - 5) evidence) }
 {
     let mut lines = rule_line(alloc, Code::Rule(fault.rule))?;
-    lines.push_str("words:")?;
-    push_words(&mut lines, image, place, end_of(image, place))?;
-    lines.push_str("\n")?;
-    due_lines(table, &mut lines, evidence)?;
+    push_malformed(
+        &mut lines, alloc, table, image, fault.inst, fault.word, evidence,
+    )?;
     Ok(Explanation {
         judgment: Judgment::Broken(fault),
         lines,
     })
-}
-
-/// The place after the words of an instruction, as its first word counts them: one at least.
-fn end_of(image: &Image, place: u32) -> u32 {
-    let count = if place < image.len() {
-        word(image, place) >> 16
-    } else {
-        1
-    };
-    place.saturating_add(count.max(1))
 }
 
 /// The lines that tell what the words of an image come to.
@@ -158,6 +117,9 @@ fn told_by(alloc: Global, table: &Table, image: &Image) -> Result<Explanation, A
     one_death();
     one_listing();
     listed_or_dead();
+    shown_reads_back();
+    word_counts();
+    let _words = image.len();
     match explained_of(alloc, table, image) {
         Ok(Explained::Valid(_)) => Ok(Explanation {
             judgment: Judgment::Valid,
@@ -166,24 +128,25 @@ fn told_by(alloc: Global, table: &Table, image: &Image) -> Result<Explanation, A
         Ok(
             Explained::Malformed {
                 fault,
-                place,
                 evidence,
+                ..
             },
-        ) => malformed_told(alloc, table, image, fault, place, &evidence),
+        ) => malformed_told(alloc, table, image, fault, evidence),
         Ok(
             Explained::Broken {
                 fault,
                 evidence,
                 module,
             },
-        ) => broken_told(alloc, table, &module, fault, &evidence),
+        ) => broken_told(alloc, table, &module, fault, evidence),
         Err(_) => Err(AllocError),
     }
 }
 
 /// The verdict of bytes that are no words of a module, and its lines.
 fn refused_told(alloc: Global, code: WordError) -> Result<Explanation, AllocError>
-    ensures { IfOk result (λ t. t.judgment ≡ judgments.Refused code) }
+    ensures verdict { IfOk result (λ t. t.judgment ≡ judgments.Refused code) }
+    ensures lines { IfOk result (λ t. string_bytes t.lines ≡ refused_text code) }
 {
     Ok(Explanation {
         judgment: Judgment::Refused(code),
@@ -194,6 +157,7 @@ fn refused_told(alloc: Global, code: WordError) -> Result<Explanation, AllocErro
 /// The lines that tell bytes which gave no image. W1 and W9 are errors.
 fn refusal(alloc: Global, code: WordError) -> Result<Explanation, WordError>
     ensures refused { IfOk result (λ t. refusal_of code ≡ Ok t.judgment) }
+    ensures lines { IfOk result (λ t. string_bytes t.lines ≡ refused_text code) }
     ensures count { code ≡ W1 ↔ IsErrOf result W1 }
     ensures only { IfErr result (λ e. (e ≡ W1) ⊎ (e ≡ W9)) }
 {

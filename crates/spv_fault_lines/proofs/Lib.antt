@@ -1,1 +1,6 @@
-pub mod Appending
+pub mod Escapes
+pub mod Hex
+pub mod Joined
+mod Malformed
+pub mod Parts
+pub mod Steps

@@ -1,30 +1,59 @@
--- What stands on the lines that explain a fault. (Own.)
-use Rattle.std.specs.Prelude.{◌≡◌, ◌++◌, ◌-◌, ℕ, List, [], ◌∷◌, Option, Some, None, codes}
-use Rattle.std.specs.Prelude.{decimal, drop, flat_map, length, option_and_then, slice_get}
-use Rattle.std.specs.List.{AllByRecursion}
+-- The text of the lines that explain a fault, each `KEY: TEXT`. (Own.)
+use Rattle.std.specs.Prelude.{◌≡◌, ◌++◌, ◌-◌, ℕ, List, [], ◌∷◌, Option, Some, None, Bool, true, false, codes}
+use Rattle.std.specs.Prelude.{decimal, drop, flat_map, length, nat_eq, nat_lt, option_and_then, option_map, slice_get}
+use Rattle.std.specs.Prelude.{unwrap_or, if◌then◌else◌}
+use Rattle.spv_table.specs.Table.{Table, entry_of, enumerant_of, kind_of}
+use Rattle.spv_table.specs.Lookups.{number_named}
 use Rattle.spv_module.specs.Operand.{Plain, OfType, Result, Id, Word, Value, Mask, PlainInst, result_in}
+use Rattle.spv_module.specs.declared.opcode.TheConstants.{TYPE_INT, TYPE_FLOAT, TYPE_VECTOR}
+use Rattle.spv_lines.specs.Digits.{hex_digits}
 use Rattle.spv_lines.specs.Operand.{id_text}
-use Rattle.spv_evidence.specs.declared.evidence.Evidence.{Evidence}
-use Rattle.spv_evidence.specs.declared.evidence.Evidence.TheVariants as evidence
+use Rattle.spv_lines.specs.Text.{inst_line}
+use Rattle.spv_layout.specs.declared.form.Role.{Role}
+use Rattle.spv_layout.specs.declared.form.Role.TheVariants as role
+use Rattle.spv_evidence.specs.declared.evidence.EntryPart.{EntryPart}
+use Rattle.spv_evidence.specs.declared.evidence.EntryPart.TheVariants as part
+use Rattle.spv_evidence.specs.declared.evidence.Lister.{Lister}
+use Rattle.spv_evidence.specs.declared.evidence.Lister.TheVariants as lister
+use Rattle.spv_evidence.specs.declared.evidence.Side.{Side}
+use Rattle.spv_evidence.specs.declared.evidence.Side.TheVariants as side
+use Rattle.spv_fault_lines.specs.declared.fact.Fact.{Fact}
+use Rattle.spv_fault_lines.specs.declared.fact.Fact.TheVariants as fact
+use Rattle.spv_fault_lines.specs.declared.fact.Place.{Place}
+use Rattle.spv_fault_lines.specs.declared.fact.Thing.{Thing}
+use Rattle.spv_fault_lines.specs.declared.fact.Thing.TheVariants as thing
+use Rattle.spv_fault_lines.specs.Conditions.{condition_text}
+use Rattle.spv_fault_lines.specs.Plain.{plain_of}
 
--- after a space: an id, as ` %17`, or a number
+-- after a space: an id, as ` %17`, or a number, or a name
 abbrev pub id_part : ℕ → List ℕ
 id_part x = codes " " ++ id_text x
 
 abbrev pub number_part : ℕ → List ℕ
 number_part n = codes " " ++ decimal n
 
--- after a space: an operand that is an id or a number
-abbrev pub operand_part : Option Plain → List ℕ
-operand_part (Some (OfType x)) = id_part x
-operand_part (Some (Result x)) = id_part x
-operand_part (Some (Id x)) = id_part x
-operand_part (Some (Word n)) = number_part n
-operand_part (Some (Value k n)) = number_part n
-operand_part (Some (Mask k n)) = number_part n
-operand_part o = []
+abbrev pub name_part : List ℕ → List ℕ
+name_part name = codes " " ++ name
 
--- operand k of instruction n
+-- a value of a kind: by the name of its first enumerant, or in decimal where it has none
+abbrev pub value_text : Table → ℕ → ℕ → List ℕ
+value_text G kind x = unwrap_or (option_map (λ e. e.name)
+    (option_and_then (λ s. enumerant_of s.enumerants x) (kind_of G kind))) (decimal x)
+
+-- after a space: an operand that is an id, a number, or a value of an enum
+abbrev pub operand_part : Table → Option Plain → List ℕ
+operand_part G (Some (OfType x)) = id_part x
+operand_part G (Some (Result x)) = id_part x
+operand_part G (Some (Id x)) = id_part x
+operand_part G (Some (Word n)) = number_part n
+operand_part G (Some (Value k n)) = name_part (value_text G k n)
+operand_part G (Some (Mask k n)) = number_part n
+operand_part G o = []
+
+-- the operands of instruction n; operand k of it
+abbrev pub operands_of : List PlainInst → ℕ → List Plain
+operands_of is n = unwrap_or (option_map (λ i. i.operands) (slice_get is n)) []
+
 abbrev pub operand_at : List PlainInst → ℕ → ℕ → Option Plain
 operand_at is n k = option_and_then (λ i. slice_get i.operands k) (slice_get is n)
 
@@ -40,53 +69,223 @@ result_of is n = option_and_then (λ i. result_in i.operands) (slice_get is n)
 abbrev pub result_part : List PlainInst → ℕ → List ℕ
 result_part is n = part_of (result_of is n)
 
--- `operand: 2`: a key and a number
-abbrev pub number_line : List ℕ → ℕ → List ℕ
-number_line key n = key ++ codes ": " ++ decimal n ++ codes "\n"
-
--- `operand: 2 %17`
-abbrev pub operand_line : List PlainInst → ℕ → ℕ → List ℕ
-operand_line is n k = codes "operand: " ++ decimal k ++ operand_part (operand_at is n k) ++ codes "\n"
+-- `KEY: TEXT`
+abbrev pub keyed : List ℕ → List ℕ → List ℕ
+keyed key text = key ++ codes ": " ++ text
 
 -- the results of instructions after a key, as `walk: %13 %15 %16`
-abbrev pub results_line : List PlainInst → List ℕ → List ℕ → List ℕ
-results_line is key ns = key ++ codes ":" ++ flat_map (result_part is) ns ++ codes "\n"
+abbrev pub results_text : List PlainInst → List ℕ → List ℕ → List ℕ
+results_text is key ns = key ++ codes ":" ++ flat_map (result_part is) ns
 
--- what the line of an instruction begins with after a key, as `earlier: inst 6,`
-abbrev pub inst_begin : List ℕ → ℕ → List ℕ
-inst_begin key m = key ++ codes ": inst " ++ decimal m ++ codes ","
+-- `KEY: inst 6, %5 = OpTypeInt 32 0`
+abbrev pub inst_text : List (List ℕ) → List ℕ → ℕ → List ℕ
+inst_text lines key n = key ++ codes ": inst " ++ decimal n ++ codes ", " ++ inst_line lines n
 
 -- `cycle: %20 %30 %20`: the functions of a cycle, and before them the last of them, the caller
-abbrev pub cycle_line : List PlainInst → List ℕ → List ℕ
-cycle_line is fs = codes "cycle:" ++ flat_map (result_part is) (drop (length fs - 1) fs) ++ flat_map (result_part is) fs
-    ++ codes "\n"
+abbrev pub cycle_text : List PlainInst → List ℕ → List ℕ
+cycle_text is fs =
+    codes "cycle:" ++ flat_map (result_part is) (drop (length fs - 1) fs) ++ flat_map (result_part is) fs
 
--- What stands on the lines of evidence at instruction n: operands, other instructions, walks and chains. Of other
--- evidence nothing is said here.
-abbrev pub told_of : List PlainInst → ℕ → Evidence → List (List ℕ)
-told_of is n (evidence.Operand k) = operand_line is n k ∷ []
-told_of is n (evidence.Earlier m) = inst_begin (codes "earlier") m ∷ []
-told_of is n (evidence.Defined k m) = operand_line is n k ∷ inst_begin (codes "defined") m ∷ []
-told_of is n (evidence.Local k m f) =
-    operand_line is n k ∷ inst_begin (codes "defined") m ∷ results_line is (codes "local to") (f ∷ []) ∷ []
-told_of is n (evidence.Miscast k r m) = operand_line is n k ∷ inst_begin (codes "defined") m ∷ []
-told_of is n (evidence.MissingParent b) = results_line is (codes "missing parent") (b ∷ []) ∷ []
-told_of is n (evidence.Walk k m walk) =
-    operand_line is n k ∷ inst_begin (codes "defined") m ∷ results_line is (codes "walk") walk ∷ []
-told_of is n (evidence.Cycle calls cycle) = results_line is (codes "calls") calls ∷ cycle_line is cycle ∷ []
-told_of is n e = []
+-- `operand: 2 %17`
+abbrev pub operand_text : Table → List PlainInst → ℕ → ℕ → List ℕ
+operand_text G is n k = codes "operand: " ++ decimal k ++ operand_part G (operand_at is n k)
 
--- The same of evidence that words spell no instruction: the number of the operand that fails.
-abbrev pub dead_lines_of : Evidence → List (List ℕ)
-dead_lines_of (evidence.Due opcode k kind) = number_line (codes "operand") k ∷ []
-dead_lines_of e = []
+-- `, block %16`, of a block whose OpLabel has a result
+abbrev pub block_id_part : Option ℕ → List ℕ
+block_id_part None = []
+block_id_part (Some x) = codes ", block" ++ id_part x
 
--- The part stands in the text.
-pub record HasPart (text part : List ℕ) : Type 0 where
-  pub before : List ℕ
-  pub after : List ℕ
-  pub whole : text ≡ before ++ part ++ after
+abbrev pub block_part : List PlainInst → Option ℕ → List ℕ
+block_part is block = block_id_part (option_and_then (result_of is) block)
 
--- All parts stand in the text.
-abbrev pub AreIn : List (List ℕ) → List ℕ → Type 0
-AreIn parts text = AllByRecursion (HasPart text) parts
+abbrev pub function_part : List PlainInst → Option ℕ → List ℕ
+function_part is None = []
+function_part is (Some n) = result_part is n
+
+-- `in: function %10, block %16`
+abbrev pub place_text : List PlainInst → List ℕ → Place → List ℕ
+place_text is key p =
+    key ++ codes ": function" ++ function_part is p.function ++ block_part is p.block
+
+-- `opcode: 128 OpIAdd`, by the name of the grammar if it has one
+abbrev pub opcode_part : Table → ℕ → List ℕ
+opcode_part G opcode = unwrap_or (option_map (λ e. name_part e.name) (entry_of G opcode)) []
+
+abbrev pub opcode_text : Table → ℕ → List ℕ
+opcode_text G opcode = codes "opcode: " ++ decimal opcode ++ opcode_part G opcode
+
+-- ` OpLabel`; nothing where the grammar has no name for it
+abbrev pub may_come_part : Table → ℕ → List ℕ
+may_come_part G opcode = if nat_lt opcode 65536 then opcode_part G opcode else []
+
+abbrev pub end_part : Bool → List ℕ
+end_part true = codes " end of module"
+end_part false = []
+
+abbrev pub may_come_text : Table → List ℕ → Bool → List ℕ
+may_come_text G opcodes end = codes "may come:" ++ flat_map (may_come_part G) opcodes ++ end_part end
+
+-- the name of a kind, its number, or `nothing`
+abbrev pub due_text : Table → Option ℕ → List ℕ
+due_text G None = codes "nothing"
+due_text G (Some k) = unwrap_or (option_map (λ s. s.kind.name) (kind_of G k)) (decimal k)
+
+abbrev pub role_text : Role → List ℕ
+role_text role.OfType = codes "type"
+role_text role.Value = codes "value"
+role_text role.Function = codes "function"
+role_text role.Text = codes "string"
+role_text role.Set = codes "set"
+role_text role.Label = codes "label"
+role_text role.Global = codes "global"
+role_text role.Any = codes "any"
+
+-- a capability: by the name of the grammar, or in decimal
+abbrev pub value_or_number : Table → Option ℕ → ℕ → List ℕ
+value_or_number G None x = decimal x
+value_or_number G (Some kind) x = value_text G kind x
+
+abbrev pub capability_name : Table → ℕ → List ℕ
+capability_name G c = value_or_number G (number_named G (codes "Capability")) c
+
+abbrev pub capability_key : Bool → List ℕ
+capability_key true = codes "implied"
+capability_key false = codes "not implied"
+
+-- a bit of a mask by the name of its kind
+abbrev pub bit_name : Table → Option Plain → ℕ → List ℕ
+bit_name G (Some (Mask k x)) bit = value_text G k bit
+bit_name G o bit = decimal bit
+
+-- the capabilities of which one is needed for the width of an integer or float type, or the count of a vector: Int16
+-- and Int64; Float16Buffer or Float16, and Float64; Vector16 [3.31]
+abbrev pub int_needs : List Plain → List ℕ
+int_needs (r ∷ Word w ∷ os) = if nat_eq w 16 then 22 ∷ [] else (if nat_eq w 64 then 11 ∷ [] else [])
+int_needs os = []
+
+abbrev pub float_needs : List Plain → List ℕ
+float_needs (r ∷ Word w ∷ os) = if nat_eq w 16 then 8 ∷ 9 ∷ [] else (if nat_eq w 64 then 10 ∷ [] else [])
+float_needs os = []
+
+abbrev pub vector_needs : List Plain → List ℕ
+vector_needs (r ∷ t ∷ Word n ∷ os) = if nat_eq n 8 then 7 ∷ [] else (if nat_eq n 16 then 7 ∷ [] else [])
+vector_needs os = []
+
+abbrev pub width_needs : ℕ → List Plain → List ℕ
+width_needs opcode os = if nat_eq opcode TYPE_INT then int_needs os
+    else (if nat_eq opcode TYPE_FLOAT then float_needs os
+    else (if nat_eq opcode TYPE_VECTOR then vector_needs os else []))
+
+-- the names of the capabilities that a value's enumerant lists, or a bit's
+abbrev pub listed_by : Table → ℕ → ℕ → Option (List (List ℕ))
+listed_by G kind x = option_map (λ e. e.capabilities)
+    (option_and_then (λ s. enumerant_of s.enumerants x) (kind_of G kind))
+
+abbrev pub value_lists : Table → Option Plain → Option (List (List ℕ))
+value_lists G (Some (Value k x)) = listed_by G k x
+value_lists G o = None
+
+abbrev pub bit_lists : Table → Option Plain → ℕ → Option (List (List ℕ))
+bit_lists G (Some (Mask k x)) bit = listed_by G k bit
+bit_lists G o bit = None
+
+-- the names that an opcode's entry lists, an operand's value or a bit of it; a width or a count has none
+abbrev pub listed_names : Table → PlainInst → Lister → Option (List (List ℕ))
+listed_names G i lister.Entry = option_map (λ e. e.capabilities) (entry_of G i.opcode)
+listed_names G i (lister.Value k) = value_lists G (slice_get i.operands k)
+listed_names G i (lister.Bit k bit) = bit_lists G (slice_get i.operands k) bit
+listed_names G i lister.Width = None
+
+abbrev pub names_part : Table → PlainInst → Option (List (List ℕ)) → List ℕ
+names_part G i (Some names) = flat_map name_part names
+names_part G i None = flat_map (λ c. name_part (capability_name G c)) (width_needs i.opcode i.operands)
+
+abbrev pub needed_part : Table → Option PlainInst → Lister → List ℕ
+needed_part G None l = []
+needed_part G (Some i) l = names_part G i (listed_names G i l)
+
+abbrev pub entry_part_text : List (List ℕ) → EntryPart → List ℕ
+entry_part_text lines part.Model = codes "part: the execution model is not Kernel"
+entry_part_text lines part.Declared = codes "part: the function is a declaration"
+entry_part_text lines part.Returns = codes "part: the function does not return void"
+entry_part_text lines (part.Called n) = inst_text lines (codes "called") n
+entry_part_text lines part.Unnamed = codes "part: the function is that of no OpEntryPoint"
+entry_part_text lines (part.Imported n) = inst_text lines (codes "imported") n
+entry_part_text lines part.Missing = codes "part: a declaration is not imported"
+
+abbrev pub side_text : Side → List ℕ
+side_text side.Function = codes "place: function type"
+side_text side.Return = codes "place: return type"
+side_text side.Number = codes "place: number of parameters or arguments"
+side_text (side.Parameter k) = keyed (codes "parameter") (decimal k)
+side_text (side.Argument k) = keyed (codes "argument") (decimal k)
+
+abbrev pub thing_text : List (List ℕ) → Thing → List ℕ
+thing_text lines thing.Nothing = codes "nothing"
+thing_text lines (thing.Count n) = decimal n
+thing_text lines (thing.Inst n) = inst_line lines n
+thing_text lines (thing.Id x) = id_text x
+
+abbrev pub row_text : Bool → List ℕ
+row_text true = codes "row: other operands"
+row_text false = codes "row: none"
+
+-- words, in eight hexadecimal digits each; `..` for others before or after them
+abbrev pub word_part : ℕ → List ℕ
+word_part w = codes " " ++ hex_digits 8 w
+
+abbrev pub dots : Bool → List ℕ
+dots true = codes " .."
+dots false = []
+
+abbrev pub words_text : Bool → List ℕ → Bool → List ℕ
+words_text before words after = codes "words:" ++ dots before ++ flat_map word_part words ++ dots after
+
+-- `, 0x00000011`; nothing of a word that the module has not
+abbrev pub word_value : Option ℕ → List ℕ
+word_value None = []
+word_value (Some w) = codes ", 0x" ++ hex_digits 8 w
+
+-- What is told, before control characters are escaped and without a line feed: under the table, of these instructions
+-- and their shown lines.
+abbrev pub raw_of : Table → List PlainInst → List (List ℕ) → Fact → List ℕ
+raw_of G is lines (fact.At n) = keyed (codes "at") (inst_line lines n)
+raw_of G is lines (fact.In p) = place_text is (codes "in") p
+raw_of G is lines (fact.Open p) = place_text is (codes "open") p
+raw_of G is lines (fact.Words before words after) = words_text before words after
+raw_of G is lines (fact.Word k w) = keyed (codes "word") (decimal k ++ word_value w)
+raw_of G is lines (fact.Opcode opcode) = opcode_text G opcode
+raw_of G is lines (fact.Row known) = row_text known
+raw_of G is lines (fact.MayCome opcodes end) = may_come_text G opcodes end
+raw_of G is lines (fact.Operand n k) = operand_text G is n k
+raw_of G is lines (fact.Failing k) = keyed (codes "operand") (decimal k)
+raw_of G is lines (fact.Due kind) = keyed (codes "due") (due_text G kind)
+raw_of G is lines (fact.Bound bound) = keyed (codes "bound") (decimal bound)
+raw_of G is lines (fact.Defined n) = inst_text lines (codes "defined") n
+raw_of G is lines (fact.LocalTo f) = results_text is (codes "local to") (f ∷ [])
+raw_of G is lines (fact.Role r) = keyed (codes "role") (role_text r)
+raw_of G is lines (fact.Earlier n) = inst_text lines (codes "earlier") n
+raw_of G is lines (fact.Capability c implied) = keyed (capability_key implied) (capability_name G c)
+raw_of G is lines (fact.Bit n k bit) = keyed (codes "bit") (bit_name G (operand_at is n k) bit)
+raw_of G is lines (fact.NeedsOneOf n l) = codes "needs one of:" ++ needed_part G (slice_get is n) l
+raw_of G is lines fact.NoEntry = codes "missing: OpEntryPoint"
+raw_of G is lines (fact.Part part) = entry_part_text lines part
+raw_of G is lines (fact.Condition c) = keyed (codes "condition") (condition_text c)
+raw_of G is lines (fact.Type t) = keyed (codes "type") (thing_text lines t)
+raw_of G is lines (fact.Differs s) = side_text s
+raw_of G is lines (fact.Wanted t) = keyed (codes "wanted") (thing_text lines t)
+raw_of G is lines (fact.Found t) = keyed (codes "found") (thing_text lines t)
+raw_of G is lines (fact.MissingParent b) = results_text is (codes "missing parent") (b ∷ [])
+raw_of G is lines (fact.NoPredecessor n k) = codes "no predecessor:" ++ operand_part G (operand_at is n k)
+raw_of G is lines (fact.Twice n k) = codes "twice:" ++ operand_part G (operand_at is n k)
+raw_of G is lines (fact.Walk blocks) = results_text is (codes "walk") blocks
+raw_of G is lines (fact.Calls functions) = results_text is (codes "calls") functions
+raw_of G is lines (fact.Cycle functions) = cycle_text is functions
+
+-- the line of a fact
+abbrev pub line_of : Table → List PlainInst → List (List ℕ) → Fact → List ℕ
+line_of G is lines f = plain_of (raw_of G is lines f) ++ (10 ∷ [])
+
+-- the lines of facts, in order
+abbrev pub text_of : Table → List PlainInst → List (List ℕ) → List Fact → List ℕ
+text_of G is lines facts = flat_map (line_of G is lines) facts

@@ -1,15 +1,16 @@
-//! The lines that tell a fault to a person.
-ghost use Rattle.std.specs.Prelude.{◌≡◌, ◌++◌, [], ◌∷◌, decimal, flat_map, option_map, slice_get};
-ghost use Rattle.std.specs.Prelude.{string_bytes, OnOk};
+//! What lines are about, and the parts that are put together in them.
+ghost use Rattle.std.specs.Prelude.{◌≡◌, ◌++◌, ℕ, List, [], codes, decimal, flat_map, option_and_then, option_map};
+ghost use Rattle.std.specs.Prelude.{slice_get, string_bytes, IfOk, OnOk};
 ghost use Rattle.spv_module.specs.Module.{plain_inst, plain_insts, plain_operand};
+ghost use Rattle.spv_lines.specs.Text.{ShownLines, inst_line};
+ghost use Rattle.spv_lines.specs.Operand.{id_text};
 ghost use Rattle.spv_fault_lines.specs.Lines as lines;
-ghost use Rattle.spv_fault_lines.specs.inner.Adding.{Adds};
-ghost use Rattle.spv_fault_lines.specs.Lines.{id_part, inst_begin, number_part, operand_at, operand_part, result_part};
+ghost use Rattle.spv_fault_lines.specs.Lines.{capability_name, id_part, may_come_part, name_part, number_part};
+ghost use Rattle.spv_fault_lines.specs.Lines.{opcode_part, operand_at, operand_part, result_part, value_text};
 
-use crate::once::{Told, told_once};
 use itoa::Buffer;
 use spv_module::{Inst, Module, Operand};
-use spv_printer::{show_inst, show_insts};
+use spv_printer::show_inst;
 use spv_table::{NameList, Table};
 use std::alloc::{AllocError, Global};
 
@@ -48,9 +49,94 @@ fn push_spaced(out: &mut String, number: u32) -> Result<(), AllocError>
     push_number(out, number)
 }
 
-/// Adds a space and an operand, if there is one that is an id or a number.
-fn push_operand(out: &mut String, operand: Option<Operand<'_>>) -> Result<(), AllocError>
-    ensures { OnOk result (string_bytes out.new ≡ string_bytes out.old ++ operand_part
+/// Adds names, each after a space.
+pub fn push_names(out: &mut String, names: &NameList) -> Result<(), AllocError>
+    ensures { OnOk result (string_bytes out.new ≡ string_bytes out.old ++ flat_map name_part names.now) }
+{
+    for place in 0..names.len() {
+        out.push_str(" ")?;
+        out.push_str(names.name(place))?;
+    }
+    Ok(())
+}
+
+/// Adds the name of a value of a kind, or its number where the grammar has none.
+pub fn push_value(out: &mut String, table: &Table, kind: u32, value: u32) -> Result<(), AllocError>
+    ensures { OnOk result (string_bytes out.new ≡ string_bytes out.old ++ value_text table.now kind value) }
+{
+    match table.enumerant(kind, value) {
+        Some(enumerant) => out.push_str(enumerant.name.as_str()),
+        None => push_number(out, value),
+    }
+}
+
+/// Adds the name of a capability, or its number where the grammar has none.
+pub fn push_capability(out: &mut String, table: &Table, capability: u32) -> Result<(), AllocError>
+    ensures { OnOk result (string_bytes out.new ≡ string_bytes out.old ++ capability_name table.now capability) }
+{
+    match table.kind_named("Capability") {
+        Some(kind) => push_value(out, table, kind, capability),
+        None => push_number(out, capability),
+    }
+}
+
+/// Adds the names of capabilities, each after a space.
+pub fn push_capabilities(
+    out: &mut String,
+    table: &Table,
+    capabilities: &[u32],
+) -> Result<(), AllocError>
+    ensures { OnOk result (string_bytes out.new ≡ string_bytes out.old ++ flat_map
+        (λ c. name_part (capability_name table.now c)) capabilities.now) }
+{
+    for capability in capabilities {
+        out.push_str(" ")?;
+        push_capability(out, table, *capability)?;
+    }
+    Ok(())
+}
+
+/// Adds a space and the name of an opcode. Nothing where the grammar has none.
+pub fn push_opcode(out: &mut String, table: &Table, opcode: u16) -> Result<(), AllocError>
+    ensures { OnOk result (string_bytes out.new ≡ string_bytes out.old ++ opcode_part table.now opcode) }
+{
+    match table.entry(opcode) {
+        Some(entry) => {
+            out.push_str(" ")?;
+            out.push_str(entry.name.as_str())
+        }
+        None => Ok(()),
+    }
+}
+
+/// The same of an opcode that may come.
+fn push_may_come(out: &mut String, table: &Table, opcode: u32) -> Result<(), AllocError>
+    ensures { OnOk result (string_bytes out.new ≡ string_bytes out.old ++ may_come_part table.now opcode) }
+{
+    if opcode < 65536 {
+        return push_opcode(out, table, opcode as u16);
+    }
+    Ok(())
+}
+
+/// Adds the names of opcodes, each after a space, but for those of which the grammar has none.
+pub fn push_opcodes(out: &mut String, table: &Table, opcodes: &[u32]) -> Result<(), AllocError>
+    ensures { OnOk result (string_bytes out.new ≡ string_bytes out.old ++ flat_map
+        (may_come_part table.now) opcodes.now) }
+{
+    for opcode in opcodes {
+        push_may_come(out, table, *opcode)?;
+    }
+    Ok(())
+}
+
+/// Adds a space and an operand, if there is one that is an id, a number or a value.
+fn push_operand(
+    out: &mut String,
+    table: &Table,
+    operand: Option<Operand<'_>>,
+) -> Result<(), AllocError>
+    ensures { OnOk result (string_bytes out.new ≡ string_bytes out.old ++ operand_part table.now
         (option_map plain_operand operand.entry)) }
 {
     match operand {
@@ -58,71 +144,13 @@ fn push_operand(out: &mut String, operand: Option<Operand<'_>>) -> Result<(), Al
         Some(Operand::Result(id)) => push_id(out, id),
         Some(Operand::Id(id)) => push_id(out, id),
         Some(Operand::Word(number)) => push_spaced(out, number),
-        Some(Operand::Value { value, .. }) => push_spaced(out, value),
+        Some(Operand::Value { kind, value }) => {
+            out.push_str(" ")?;
+            push_value(out, table, kind, value)
+        }
         Some(Operand::Mask { value, .. }) => push_spaced(out, value),
         _ => Ok(()),
     }
-}
-
-/// Adds a line of a text.
-pub fn text_line(out: &mut String, key: &str, text: &str) -> Result<(), AllocError>
-    ensures { OnOk result (Adds [] (string_bytes out.old) (string_bytes out.new)) }
-{
-    out.push_str(key)?;
-    out.push_str(": ")?;
-    out.push_str(text)?;
-    out.push_str("\n")
-}
-
-/// Adds a line of an id.
-fn id_line(out: &mut String, key: &str, id: u32) -> Result<(), AllocError>
-    ensures { OnOk result (Adds [] (string_bytes out.old) (string_bytes out.new)) }
-{
-    out.push_str(key)?;
-    out.push_str(":")?;
-    push_id(out, id)?;
-    out.push_str("\n")
-}
-
-/// Of the ids of a list the line of the one at a place, where it is named for the first time and is defined; `shown`
-/// has the lines of all their instructions.
-fn line_of<'t>(shown: &[&'t str], told: &Told, at: usize) -> Option<&'t str> {
-    let Some(Some(inst)) = told.firsts.get(at) else {
-        return None;
-    };
-    let place = told.insts.binary_search(inst).ok()?;
-    shown.get(place).copied()
-}
-
-/// Adds a line of a number.
-pub fn number_line(out: &mut String, key: &str, number: u32) -> Result<(), AllocError>
-    ensures { OnOk result (string_bytes out.new ≡ string_bytes out.old ++ lines.number_line key.now number) }
-{
-    out.push_str(key)?;
-    out.push_str(": ")?;
-    push_number(out, number)?;
-    out.push_str("\n")
-}
-
-/// Adds what the line of an instruction begins with.
-fn push_inst_begin(out: &mut String, key: &str, inst: u32) -> Result<(), AllocError>
-    ensures { OnOk result (string_bytes out.new ≡ string_bytes out.old ++ inst_begin key.now inst) }
-{
-    out.push_str(key)?;
-    out.push_str(": inst ")?;
-    push_number(out, inst)?;
-    out.push_str(",")
-}
-
-/// Adds names, each after a space.
-pub fn push_names(out: &mut String, names: &NameList) -> Result<(), AllocError>
-    ensures { OnOk result (Adds [] (string_bytes out.old) (string_bytes out.new)) }
-{
-    for place in 0..names.len() {
-        out.push_str(" ")?;
-        out.push_str(names.name(place))?;
-    }
-    Ok(())
 }
 
 impl<'m, 'a> About<'m, 'a> {
@@ -134,7 +162,7 @@ impl<'m, 'a> About<'m, 'a> {
     }
 
     /// The result of an instruction, if it has one.
-    fn result_of(&self, inst: u32) -> Option<u32>
+    pub fn result_of(&self, inst: u32) -> Option<u32>
         ensures { result ≡ lines.result_of (plain_insts self.now.«module».now) inst }
     {
         match self.inst(inst) {
@@ -144,7 +172,7 @@ impl<'m, 'a> About<'m, 'a> {
     }
 
     /// The operand of that number of an instruction.
-    fn operand_of(&self, inst: u32, number: u32) -> Option<Operand<'a>>
+    pub fn operand_of(&self, inst: u32, number: u32) -> Option<Operand<'a>>
         ensures { option_map plain_operand result ≡ operand_at (plain_insts self.now.«module».now) inst number }
     {
         match self.inst(inst) {
@@ -175,191 +203,69 @@ impl<'m, 'a> About<'m, 'a> {
         Ok(())
     }
 
-    /// Adds a space and an instruction as it stands in the text of the whole module.
-    pub fn push_inst(&self, out: &mut String, inst: u32) -> Result<(), AllocError>
-        ensures { OnOk result (Adds [] (string_bytes out.old) (string_bytes out.new)) }
+    /// Adds a block's id, if its OpLabel has one.
+    pub fn push_block(&self, out: &mut String, block: Option<u32>) -> Result<(), AllocError>
+        ensures { OnOk result (string_bytes out.new ≡ string_bytes out.old ++ lines.block_part
+            (plain_insts self.now.«module».now) block) }
     {
-        let line = show_inst(self.alloc, self.table, self.module, inst)?;
-        out.push_str(" ")?;
-        out.push_str(line.as_str())
-    }
-
-    /// Adds a line of an instruction, with its number.
-    pub fn inst_line(&self, out: &mut String, key: &str, inst: u32) -> Result<(), AllocError>
-        ensures { OnOk result (Adds (inst_begin key.now inst ∷ []) (string_bytes out.old) (string_bytes out.new)) }
-    {
-        push_inst_begin(out, key, inst)?;
-        self.push_inst(out, inst)?;
-        out.push_str("\n")
-    }
-
-    /// Adds a line of the results of instructions.
-    pub fn results_line(&self, out: &mut String, key: &str, insts: &[u32]) -> Result<(), AllocError>
-        ensures { OnOk result (string_bytes out.new ≡ string_bytes out.old ++ lines.results_line
-            (plain_insts self.now.«module».now) key.now insts.now) }
-    {
-        out.push_str(key)?;
-        out.push_str(":")?;
-        self.push_results(out, insts)?;
-        out.push_str("\n")
-    }
-
-    /// Adds the line of an operand of an instruction, with its number.
-    pub fn operand_line(&self, out: &mut String, inst: u32, number: u32) -> Result<(), AllocError>
-        ensures { OnOk result (string_bytes out.new ≡ string_bytes out.old ++ lines.operand_line
-            (plain_insts self.now.«module».now) inst number) }
-    {
-        out.push_str("operand: ")?;
-        push_number(out, number)?;
-        push_operand(out, self.operand_of(inst, number))?;
-        out.push_str("\n")
-    }
-
-    /// Adds the name of an opcode, or its number where the grammar has none.
-    pub fn push_opcode(&self, out: &mut String, opcode: u16) -> Result<(), AllocError>
-        ensures { OnOk result (Adds [] (string_bytes out.old) (string_bytes out.new)) }
-    {
-        match self.table.entry(opcode) {
-            Some(entry) => {
-                out.push_str(" ")?;
-                out.push_str(entry.name.as_str())
-            }
-            None => {
-                out.push_str(" ")?;
-                push_number(out, u32::from(opcode))
-            }
-        }
-    }
-
-    /// Adds a space and the name of a value of a kind, or its number where the grammar has none.
-    pub fn push_value(&self, out: &mut String, kind: &str, value: u32) -> Result<(), AllocError>
-        ensures { OnOk result (Adds [] (string_bytes out.old) (string_bytes out.new)) }
-    {
-        out.push_str(" ")?;
-        let name = match self.table.kind_named(kind) {
-            Some(kind) => self.table.enumerant(kind, value),
-            None => None,
+        let Some(label) = block else {
+            return Ok(());
         };
-        match name {
-            Some(enumerant) => out.push_str(enumerant.name.as_str()),
-            None => push_number(out, value),
-        }
-    }
-
-    /// Adds a space and the name of an opcode. Nothing where the grammar has none.
-    fn push_named(&self, out: &mut String, opcode: u16) -> Result<(), AllocError>
-        ensures { OnOk result (Adds [] (string_bytes out.old) (string_bytes out.new)) }
-    {
-        match self.table.entry(opcode) {
-            Some(entry) => {
-                out.push_str(" ")?;
-                out.push_str(entry.name.as_str())
+        match self.result_of(label) {
+            Some(id) => {
+                out.push_str(", block")?;
+                push_id(out, id)
             }
             None => Ok(()),
         }
     }
 
-    /// Adds the names of opcodes, each after a space, but for those of which the grammar has none.
-    pub fn push_opcodes(&self, out: &mut String, opcodes: &[u32]) -> Result<(), AllocError>
-        ensures { OnOk result (Adds [] (string_bytes out.old) (string_bytes out.new)) }
+    /// Adds an instruction as it stands in the text of the whole module.
+    pub fn push_inst(&self, out: &mut String, inst: u32) -> Result<(), AllocError>
+        ensures { (shown : List (List ℕ)) → ShownLines self.now.table.now [] (plain_insts self.now.«module».now) shown
+            → OnOk result (string_bytes out.new ≡ string_bytes out.old ++ inst_line shown inst) }
     {
-        for opcode in opcodes {
-            self.push_named(out, (*opcode & 0xffff) as u16)?;
-        }
-        Ok(())
+        let line = show_inst(self.alloc, self.table, self.module, inst)?;
+        out.push_str(line.as_str())
     }
 
-    /// Adds the names of capabilities, each after a space.
-    pub fn push_capabilities(
-        &self,
-        out: &mut String,
-        capabilities: &[u32],
-    ) -> Result<(), AllocError>
-        ensures { OnOk result (Adds [] (string_bytes out.old) (string_bytes out.new)) }
+    /// Adds an instruction, with its number, after a key.
+    pub fn push_numbered(&self, out: &mut String, key: &str, inst: u32) -> Result<(), AllocError>
+        ensures { (shown : List (List ℕ)) → ShownLines self.now.table.now [] (plain_insts self.now.«module».now) shown
+            → OnOk result (string_bytes out.new ≡ string_bytes out.old ++ lines.inst_text shown key.now inst) }
     {
-        for capability in capabilities {
-            self.push_value(out, "Capability", *capability)?;
-        }
-        Ok(())
+        out.push_str(key)?;
+        out.push_str(": inst ")?;
+        push_number(out, inst)?;
+        out.push_str(", ")?;
+        self.push_inst(out, inst)
     }
 
-    /// Adds a line of the id that an operand of an instruction is.
-    pub fn parents_line(
+    /// Adds a key and the results of instructions.
+    pub fn push_keyed_results(
         &self,
         out: &mut String,
         key: &str,
+        insts: &[u32],
+    ) -> Result<(), AllocError>
+        ensures { OnOk result (string_bytes out.new ≡ string_bytes out.old ++ lines.results_text
+            (plain_insts self.now.«module».now) key.now insts.now) }
+    {
+        out.push_str(key)?;
+        out.push_str(":")?;
+        self.push_results(out, insts)
+    }
+
+    /// Adds a space and an operand of an instruction, if it has such a one that is an id, a number or a value.
+    pub fn push_operand_of(
+        &self,
+        out: &mut String,
         inst: u32,
         number: u32,
     ) -> Result<(), AllocError>
-        ensures { OnOk result (Adds [] (string_bytes out.old) (string_bytes out.new)) }
+        ensures { OnOk result (string_bytes out.new ≡ string_bytes out.old ++ operand_part self.now.table.now
+            (operand_at (plain_insts self.now.«module».now) inst number)) }
     {
-        out.push_str(key)?;
-        out.push_str(":")?;
-        push_operand(out, self.operand_of(inst, number))?;
-        out.push_str("\n")
-    }
-
-    /// The capabilities that the enumerant of an operand's value lists, or of that bit of its mask.
-    pub fn capabilities_of(
-        &self,
-        operands: &[Operand<'a>],
-        number: u32,
-        bit: Option<u32>,
-    ) -> Option<&'m NameList> {
-        let (kind, value) = match (operands.get(number as usize)?, bit) {
-            (Operand::Value { kind, value }, None) => (*kind, *value),
-            (Operand::Mask { kind, .. }, Some(bit)) => (*kind, bit),
-            _ => return None,
-        };
-        Some(&self.table.enumerant(kind, value)?.capabilities)
-    }
-
-    /// Adds a line for each id: where it is named for the first time, the line of its instruction, of which this is the
-    /// text; else the id alone.
-    fn first_lines(
-        &self,
-        out: &mut String,
-        key: &str,
-        ids: &[u32],
-        told: &Told,
-        text: &str,
-    ) -> Result<(), AllocError>
-        ensures { OnOk result (Adds [] (string_bytes out.old) (string_bytes out.new)) }
-    {
-        let shown: Vec<&str> = text.lines().collect(self.alloc)?;
-        for at in 0..ids.len() {
-            match line_of(&shown, told, at) {
-                Some(line) => text_line(out, key, line)?,
-                None => id_line(out, key, ids[at])?,
-            }
-        }
-        Ok(())
-    }
-
-    /// Adds a line for each id: the first time the instruction that has it as its result, and after that the id alone.
-    pub fn defined_lines(&self, out: &mut String, key: &str, ids: &[u32]) -> Result<(), AllocError>
-        ensures { OnOk result (Adds [] (string_bytes out.old) (string_bytes out.new)) }
-    {
-        let told = told_once(self.alloc, self.module, ids)?;
-        let text = show_insts(self.alloc, self.table, self.module, &told.insts)?;
-        self.first_lines(out, key, ids, &told, text.as_str())
-    }
-
-    /// Adds a line of the instruction that has an id as its result.
-    pub fn definition_line(&self, out: &mut String, key: &str, id: u32) -> Result<(), AllocError>
-        ensures { OnOk result (Adds [] (string_bytes out.old) (string_bytes out.new)) }
-    {
-        let found = self
-            .module
-            .insts
-            .iter()
-            .position(|inst| inst.result_id() == Some(id));
-        out.push_str(key)?;
-        out.push_str(":")?;
-        match found {
-            Some(at) => self.push_inst(out, (at & 0xffff_ffff) as u32)?,
-            None => push_id(out, id)?,
-        }
-        out.push_str("\n")
+        push_operand(out, self.table, self.operand_of(inst, number))
     }
 }

@@ -1,10 +1,17 @@
-//! The lines that tell a person what shows a fault: words for the numbers of its evidence.
+//! The lines that tell a person what shows a fault: facts in numbers, and words for them.
 #![tactic(auto)]
 
 mod about;
+mod conditions;
+mod fact;
+mod facts;
+mod lines;
 mod needs;
-mod once;
-mod told;
+mod place;
+mod plain;
+mod types;
+mod words;
 
 pub use about::About;
-pub use told::{due_lines, evidence_lines};
+pub use fact::{Fact, Place, Thing};
+pub use words::push_malformed;

@@ -1,17 +1,51 @@
 //! The capabilities that widths and counts ask for.
+ghost use Rattle.std.specs.Prelude.{◌≡◌};
+ghost use Rattle.spv_module.specs.Module.{plain_operands};
+ghost use Rattle.spv_fault_lines.specs.Lines.{float_needs, int_needs, vector_needs, width_needs};
 
 use spv_module::{Operand, opcode};
 
-/// The capabilities of which one is needed for the width or the count of a type, by their numbers: of OpTypeInt
-/// Int16 (22) or Int64 (11), of OpTypeFloat Float16Buffer (8) or Float16 (9), or Float64 (10), of OpTypeVector
-/// Vector16 (7).
-pub fn needs_of(opcode: u16, operands: &[Operand<'_>]) -> &'static [u32] {
-    match (opcode, operands) {
-        (opcode::TYPE_INT, [_, Operand::Word(16), ..]) => &[22],
-        (opcode::TYPE_INT, [_, Operand::Word(64), ..]) => &[11],
-        (opcode::TYPE_FLOAT, [_, Operand::Word(16), ..]) => &[8, 9],
-        (opcode::TYPE_FLOAT, [_, Operand::Word(64), ..]) => &[10],
-        (opcode::TYPE_VECTOR, [_, _, Operand::Word(8 | 16), ..]) => &[7],
+/// Of an OpTypeInt: Int16 (22) or Int64 (11).
+fn int_needs_of(operands: &[Operand<'_>]) -> &'static [u32]
+    ensures { result.now ≡ int_needs (plain_operands operands.now) }
+{
+    match operands {
+        [_, Operand::Word(16), ..] => &[22],
+        [_, Operand::Word(64), ..] => &[11],
+        _ => &[],
+    }
+}
+
+/// Of an OpTypeFloat: Float16Buffer (8) or Float16 (9), or Float64 (10).
+fn float_needs_of(operands: &[Operand<'_>]) -> &'static [u32]
+    ensures { result.now ≡ float_needs (plain_operands operands.now) }
+{
+    match operands {
+        [_, Operand::Word(16), ..] => &[8, 9],
+        [_, Operand::Word(64), ..] => &[10],
+        _ => &[],
+    }
+}
+
+/// Of an OpTypeVector: Vector16 (7).
+fn vector_needs_of(operands: &[Operand<'_>]) -> &'static [u32]
+    ensures { result.now ≡ vector_needs (plain_operands operands.now) }
+{
+    match operands {
+        [_, _, Operand::Word(8), ..] => &[7],
+        [_, _, Operand::Word(16), ..] => &[7],
+        _ => &[],
+    }
+}
+
+/// The capabilities of which one is needed for the width or the count of a type, by their numbers.
+pub fn needs_of(code: u16, operands: &[Operand<'_>]) -> &'static [u32]
+    ensures { result.now ≡ width_needs code (plain_operands operands.now) }
+{
+    match code {
+        opcode::TYPE_INT => int_needs_of(operands),
+        opcode::TYPE_FLOAT => float_needs_of(operands),
+        opcode::TYPE_VECTOR => vector_needs_of(operands),
         _ => &[],
     }
 }

@@ -36,6 +36,7 @@ use std::alloc::{AllocError, Global};
 /// Time is linear in the words of the module. F1 and F4 take no memory.
 ///
 /// The error comes only where a growth of memory was refused.
+#[tactic(auto, using(crate::proofs::lemmas::branches::Rules::told))]
 pub fn branch_evidence(
     alloc: Global,
     module: &Module<'_>,

@@ -1,5 +1,5 @@
-//! What shows that a rule on the flow of control is broken: on branches (the rules F), on the values of walks (A1 and A2)
-//! or on calls (G1).
+//! What shows that a rule on the flow of control is broken: on branches (the rules F), on the values of walks (the
+//! rules A) or on calls (the rules G).
 #![tactic(auto)]
 
 mod branches;

@@ -1,6 +1,9 @@
 pub mod Declaration
 pub mod Constant
 pub mod Function
+pub mod Condition
+pub mod Conditions
+pub mod Beside
 pub mod Evidence
 pub mod Broken
 pub mod Example

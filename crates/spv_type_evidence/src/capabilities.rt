@@ -1,6 +1,7 @@
 //! Evidence for a broken rule.
 
 mod entry;
+mod import;
 pub mod laws;
 mod model;
 mod needs;

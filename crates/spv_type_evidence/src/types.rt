@@ -1,10 +1,14 @@
 //! What shows that a rule of types is broken.
 
+mod asked;
+mod beside;
 mod call;
+mod conditions;
 mod constant;
 mod declaration;
 mod first;
 mod function;
+mod holds;
 pub mod laws;
 mod operands;
 mod operation;
@@ -104,10 +108,10 @@ pub fn type_evidence(
     let definitions = Definitions::new(insts, plan, ids);
     let inst = definitions.inst(number);
     match rule {
-        Rule::Y2 => Ok(declaration_evidence(&definitions, ids, number, inst)),
+        Rule::Y2 => Ok(declaration_evidence(alloc, &definitions, ids, number, inst)),
         Rule::Y3 => Ok(repeat_evidence(insts, number, inst)),
-        Rule::Y4 => Ok(constant_evidence(&definitions, inst)),
-        Rule::Y5 => operation_evidence(alloc, &definitions, inst),
+        Rule::Y4 => constant_evidence(alloc, &definitions, ids, inst),
+        Rule::Y5 => operation_evidence(alloc, &definitions, ids, inst),
         Rule::Y6 => Ok(evidence_of_function(&definitions, insts, number, inst)),
         Rule::Y7 => Ok(evidence_of_return(&definitions, number, inst)),
         Rule::Y8 => Ok(call_evidence(&definitions, inst)),

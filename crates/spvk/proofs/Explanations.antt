@@ -18,5 +18,6 @@ explained G bytes e t is verdict buffer = record {
   verdict = is.verdict;
   explain = is.explain;
   dead = is.dead;
+  others = is.others;
   text = buffer;
 }

@@ -2,7 +2,7 @@
 use Rattle.std.specs.Prelude.{◌≡◌, ◌++◌, ℕ, List, Some}
 use Rattle.spv_table.specs.Table.{Table}
 use Rattle.spv_verdict.specs.Verdict.{IsVerdict}
-use Rattle.spv_explain.specs.Stream.{Explain, ExplainDead}
+use Rattle.spv_explain.specs.Stream.{AreOthers, Explain, ExplainDead}
 use Rattle.spvk.specs.Answer.{Tells}
 use Rattle.spvk.specs.declared.text.Text.{Text}
 use denote.RawPtr.{Ptr, block_ptr, null_ptr}
@@ -15,6 +15,7 @@ pub record IsExplaining (G : Table) (bytes : List ℕ) (t : Text) : Type 0 where
   pub verdict : IsVerdict G bytes line
   pub explain : Explain G bytes lines
   pub dead : ExplainDead G bytes lines
+  pub others : AreOthers bytes line lines
   pub text : t.buffer.bytes ≡ Some (line ++ lines)
 
 -- The answer of `explain`: status 0 and what explains; or status 1, out of memory, and what was there.

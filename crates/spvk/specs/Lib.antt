@@ -4,6 +4,7 @@ pub mod Buffer
 pub mod Explain
 pub mod Faults
 pub mod Grammar
+pub mod GrammarReason
 pub mod Held
 pub mod Numbers
 pub mod Rules

@@ -1,6 +1,7 @@
 //! What follows from the definitions, and worked examples. Each function does nothing: its contract is what is proved.
 ghost use Rattle.std.specs.Prelude.{◌≡◌, ◌≢◌, ℕ, List, Option, None, Some, codes, false};
 ghost use Rattle.spv_table.specs.Table.{Table as TableView};
+ghost use Rattle.spv_grammar.specs.Reason.{IsReason as IsReasonOf};
 ghost use Rattle.spv_grammar.specs.declared.error.GrammarError.TheVariants.{J4};
 ghost use Rattle.spv_lines.specs.declared.asm_error.AsmCode.TheVariants.{S2};
 ghost use Rattle.spv_module.specs.declared.fault.Rule.TheVariants.{I7};
@@ -12,11 +13,13 @@ ghost use Rattle.spvk.specs.Assemble.{AssemblesAt};
 ghost use Rattle.spvk.specs.Explain.{ExplainsAt};
 ghost use Rattle.spvk.specs.Faults.{text_code_number};
 ghost use Rattle.spvk.specs.Grammar.{IsReason};
+ghost use Rattle.spvk.specs.GrammarReason.{ExplainsGrammar, IsExplained};
 ghost use Rattle.spvk.specs.Held.{boxed, lent};
 ghost use Rattle.spvk.specs.Numbers.{code_number, nowhere, numbers_of, rule_number};
 ghost use Rattle.spvk.specs.Rules.{PutsIfAny};
 ghost use Rattle.spvk.specs.Show.{Shows, ShowsAt};
 ghost use Rattle.spvk.specs.Status.{status_of, status_text};
+ghost use Rattle.spvk.specs.declared.buffer.Buffer.{Buffer};
 ghost use Rattle.spvk.specs.declared.image.Assembled.{Assembled};
 ghost use Rattle.spvk.specs.declared.static_text.StaticText.{StaticText};
 ghost use Rattle.spvk.specs.declared.text.Text.{Text};
@@ -80,4 +83,13 @@ pub fn kept_examples()
         → AssemblesAt null_ptr G o text old old 2 }
     ensures unsaid { (old : StaticText) → PutsIfAny None old old false }
     ensures said { (text : List ℕ) (old new : StaticText) → ¬ (PutsIfAny (Some text) old new false) }
+{}
+
+/// What is told of a grammar file's text.
+pub fn grammar_reason_examples()
+    ensures memory { (text : List ℕ) (old : Buffer) → ExplainsGrammar text old old 1 }
+    ensures changed { (text : List ℕ) (old new : Buffer) → old ≢ new → ¬ (ExplainsGrammar text old new 1) }
+    ensures told { (text lines : List ℕ) (b : Buffer) → IsReasonOf text lines → b.bytes ≡ Some lines
+        → IsExplained text b }
+    ensures untold { (text : List ℕ) (b : Buffer) → b.bytes ≡ None → ¬ (IsExplained text b) }
 {}

@@ -1,5 +1,5 @@
 -- What the words of a module are read as, with what shows a fault. (For the code alone.)
-use Rattle.std.specs.Prelude.{◌-◌, ℕ, List, drop, slice_index}
+use Rattle.std.specs.Prelude.{◌≡◌, ◌-◌, ℕ, List, drop, slice_index}
 use Rattle.spv_table.specs.Table.{Table}
 use Rattle.spv_module.specs.Module.{plain_insts}
 use Rattle.spv_module.specs.Instruction.{IsListing}
@@ -18,6 +18,7 @@ use Rattle.spv_form_evidence.specs.words.Evidence as instructions
 -- The module is the one of the words, and this is its fault.
 pub record IsBrokenModule (G : Table) (words : List ℕ) (f : declared.Fault) (e : Evidence) (m : Module) : Type 0 where
   pub listing : IsListing G (plain_insts m) (drop 5 words)
+  pub bound : m.header.bound ≡ slice_index words 3
   pub told : IsTold G (slice_index words 3) (plain_insts m) (stop.Fault f)
   pub shown : IsShownAt G (slice_index words 3) (plain_insts m) f e
 

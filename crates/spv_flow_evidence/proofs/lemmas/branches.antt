@@ -1,6 +1,5 @@
 pub mod Blocks
-pub mod Sufficing
 pub mod Looking
 pub mod Naming
 pub mod Known
-pub mod Worked
+pub mod Rules

@@ -19,6 +19,7 @@ pub fn suffices()
 {}
 
 /// Small functions, under a small table.
+#[tactic(auto, using(crate::proofs::lemmas::branches::Rules::examples))]
 pub fn evidence_examples()
     // A branch to the result of an OpNot: that defines the id, and the branch does not.
     ensures no_label { IsEvidence small (negation 1 5 ∷ branch 1 ∷ []) F1 1 (Defined 0 0) }

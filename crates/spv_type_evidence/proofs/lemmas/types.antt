@@ -14,3 +14,5 @@ pub mod Parts
 pub mod Valued
 pub mod Parameters
 pub mod Repeating
+pub mod Conditioned
+pub mod Listing

@@ -60,9 +60,9 @@ pub data IsUnsound (G : Table) (is : List PlainInst) (n : ℕ) (i : PlainInst) :
       → IsUnsound G is n i (part.Called c)
   -- the function of the OpExecutionMode is that of no OpEntryPoint
   unnamed : i.opcode ≡ opcode.EXECUTION_MODE → ¬ (IsSoundMode is i.operands) → IsUnsound G is n i part.Unnamed
-  -- the OpFunction is that of a definition, and is imported
-  imported : i.opcode ≡ opcode.FUNCTION → IsDefinition is n → IsImported G is n
-      → IsUnsound G is n i part.Imported
+  -- the OpFunction is that of a definition, and an OpDecorate imports it
+  imported : (a : IsImported G is n) → i.opcode ≡ opcode.FUNCTION → IsDefinition is n
+      → IsUnsound G is n i (part.Imported a.place)
   -- the OpFunction is that of a declaration, and is not imported
   missing : i.opcode ≡ opcode.FUNCTION → ¬ (IsDefinition is n) → ¬ (IsImported G is n)
       → IsUnsound G is n i part.Missing

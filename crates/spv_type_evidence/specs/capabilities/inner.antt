@@ -3,3 +3,4 @@ pub mod Models
 pub mod Bits
 pub mod Operands
 pub mod Calls
+pub mod Imports

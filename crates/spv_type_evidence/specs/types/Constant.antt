@@ -1,6 +1,6 @@
 -- Y4, operand by operand. [3.49.7]
 use Rattle.std.specs.Prelude.{◌≡◌, ◌+◌, ◌<◌, ℕ, List, [], ◌∷◌, Bool, true, false, Some, IsSomeAnd}
-use Rattle.std.specs.Prelude.{length, slice_get}
+use Rattle.std.specs.Prelude.{◌-◌, Option, None, length, nat_eq, nat_le, if◌then◌else◌, option_and_then, slice_get}
 use Rattle.spv_module.specs.Operand.{Plain, Number, PlainInst, type_in}
 use Rattle.spv_module.specs.Width.{type_of}
 use Rattle.spv_type_forms.specs.Operands.{ids_in, after_head}
@@ -8,6 +8,10 @@ use Rattle.spv_type_forms.specs.Parts.{part_of, count_of}
 use Rattle.spv_type_forms.specs.Types.{IsBool, IsNumber, IsData}
 use Rattle.spv_type_rules.specs.declared.constant.Constant.{Constant}
 use Rattle.spv_type_rules.specs.declared.constant.Constant.TheVariants as kind
+use Rattle.spv_evidence.specs.declared.condition.Kind.TheVariants as sort
+use Rattle.spv_evidence.specs.declared.condition.Condition.{Condition}
+use Rattle.spv_evidence.specs.declared.condition.Condition.TheVariants as condition
+use Rattle.spv_type_evidence.specs.types.Beside.{named_at}
 use Rattle.spv_type_rules.specs.Constant.{IsPart, FitsWidth, constant_of}
 
 -- the id stands for a constant, of the type of the part k of the type r
@@ -41,3 +45,26 @@ pub record FailsFirst (is : List PlainInst) (i : PlainInst) (k : ℕ) : Type 0 w
   pub makes : constant_of i.opcode ≡ Some kind
   pub fails : ¬ (Asks is kind i.operands k)
   pub before : (j : ℕ) → j < k → Asks is kind i.operands j
+
+-- What is asked of operand k, by its name. [3.49.7]
+abbrev pub condition_at : Constant → ℕ → Condition
+condition_at kind.Bool k = condition.Kind sort.Bool
+condition_at kind.Number k = if nat_eq k 0 then condition.Kind sort.Number else condition.FitsWidth
+condition_at kind.Null k = condition.Kind sort.Data
+condition_at c k = if nat_eq k 0 then condition.Count else condition.Constituent
+
+-- whether operand k is a constituent of a composite constant [3.49.7]
+abbrev pub is_constituent : Constant → ℕ → Bool
+is_constituent kind.Composite k = nat_le 2 k
+is_constituent kind.SpecComposite k = nat_le 2 k
+is_constituent c k = false
+
+-- the type that is found: a constituent's, else the result type [3.49.7]
+abbrev pub found_at : List PlainInst → Constant → PlainInst → ℕ → Option ℕ
+found_at is c i k = if is_constituent c k then option_and_then (type_of is) (named_at i (Some k))
+    else type_in i.operands
+
+-- the type that is wanted of a constituent: that of the part at its place [3.49.7]
+abbrev pub wanted_at : List PlainInst → Constant → PlainInst → ℕ → Option ℕ
+wanted_at is c i k = if is_constituent c k then option_and_then (λ r. part_of is r (k - 2)) (type_in i.operands)
+    else None

@@ -1,5 +1,5 @@
 -- Y2, operand by operand. [3.49.6; widths and counts own]
-use Rattle.std.specs.Prelude.{◌≡◌, ◌+◌, ◌<◌, ℕ, List, [], ◌∷◌, Some, slice_get}
+use Rattle.std.specs.Prelude.{◌≡◌, ◌+◌, ◌<◌, ℕ, List, [], ◌∷◌, Some, slice_get, nat_eq, if◌then◌else◌}
 use Rattle.spv_module.specs.Operand.{Plain, Result, Id, Word, Value, PlainInst}
 use Rattle.spv_type_forms.specs.Form.{form_of}
 use Rattle.spv_type_forms.specs.Operands.{ids_in}
@@ -8,6 +8,9 @@ use Rattle.spv_type_forms.specs.declared.form.Scalar.{Scalar}
 use Rattle.spv_type_rules.specs.declared.declaration.Declaration.{Declaration}
 use Rattle.spv_type_rules.specs.declared.declaration.Declaration.TheVariants as kind
 use Rattle.spv_type_rules.specs.Declaration.{IsLength, IsPointerAfter, declaration_of}
+use Rattle.spv_evidence.specs.declared.condition.Kind.TheVariants.{Data}
+use Rattle.spv_evidence.specs.declared.condition.Condition.{Condition}
+use Rattle.spv_evidence.specs.declared.condition.Condition.TheVariants as condition
 use Rattle.spv_type_rules.specs.Asked.{IsIntWidth, IsFloatWidth, IsVectorCount, IsPointee, IsReturned}
 
 -- the id declares a scalar type
@@ -38,3 +41,20 @@ pub record FailsFirst (is : List PlainInst) (n : ℕ) (i : PlainInst) (k : ℕ) 
   pub declares : declaration_of i.opcode ≡ Some kind
   pub fails : ¬ (Asks is n kind i.operands k)
   pub before : (j : ℕ) → j < k → Asks is n kind i.operands j
+
+-- What is asked of an operand after the result, by its name. [3.49.6]
+abbrev pub condition_after : Declaration → ℕ → Condition
+condition_after kind.Int k = if nat_eq k 1 then condition.IntWidth else condition.Signedness
+condition_after kind.Float k = condition.FloatWidth
+condition_after kind.Vector k = if nat_eq k 1 then condition.Scalar else condition.VectorCount
+condition_after kind.Array k = if nat_eq k 1 then condition.Kind Data else condition.Length
+condition_after kind.Struct k = condition.Kind Data
+condition_after kind.Pointer k = condition.Pointee
+condition_after kind.Function k = if nat_eq k 1 then condition.Returned else condition.Kind Data
+condition_after kind.Forward k = condition.Forward
+
+-- What is asked of operand k, by its name. A declaration whose operands are not those that it has fails at the first.
+-- [3.49.6]
+abbrev pub condition_at : Declaration → ℕ → Condition
+condition_at kind.Forward k = condition.Forward
+condition_at d k = if nat_eq k 0 then condition.Operands else condition_after d k

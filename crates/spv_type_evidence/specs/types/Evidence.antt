@@ -2,8 +2,9 @@
 -- types]
 use Rattle.std.specs.Prelude.{◌≡◌, ◌≢◌, ℕ, List, [], ◌∷◌, Option, Some, None, length, map}
 use Rattle.std.specs.Prelude.{slice_get, take}
+use Rattle.std.specs.List.{AllByRecursion}
 use Rattle.spv_table.specs.Table.{Table}
-use Rattle.spv_module.specs.Operand.{PlainInst, type_in}
+use Rattle.spv_module.specs.Operand.{Id, PlainInst, type_in}
 use Rattle.spv_module.specs.declared.fault.Rule.{Rule}
 use Rattle.spv_module.specs.declared.fault.Rule.TheVariants as rule
 use Rattle.spv_module.specs.declared.opcode.TheConstants as opcode
@@ -15,56 +16,75 @@ use Rattle.spv_ops.specs.Row.{row_of}
 use Rattle.spv_ops.specs.Typed.{Typed}
 use Rattle.spv_type_forms.specs.Values.{AreValues, types_of}
 use Rattle.spv_type_rules.specs.Repeat.{Repeats}
-use Rattle.spv_type_rules.specs.Function.{parameters_after}
+use Rattle.spv_type_rules.specs.Function.{parameters_after, function_type_in}
 use Rattle.spv_evidence.specs.declared.evidence.Evidence.{Evidence}
 use Rattle.spv_evidence.specs.declared.evidence.Evidence.TheVariants as evidence
 use Rattle.spv_evidence.specs.declared.evidence.Side.{Side}
 use Rattle.spv_evidence.specs.declared.evidence.Side.TheVariants as side
-use Rattle.spv_evidence.specs.declared.evidence.Typed as evidence_typed
+use Rattle.spv_type_evidence.specs.declared.types.asked.Asked.{Asked}
+use Rattle.spv_type_evidence.specs.declared.types.asked.Value.{Value}
+use Rattle.spv_type_evidence.specs.types.Condition.{FailsFirst, Holds}
+use Rattle.spv_type_evidence.specs.types.Conditions.{conditions_of}
+use Rattle.spv_type_evidence.specs.types.Beside.{IsDefinedBy, types_in, condition_in, operand_in, wanted_in}
+use Rattle.spv_type_evidence.specs.types.Beside.{found_in, read_in, reads}
 use Rattle.spv_type_evidence.specs.types.Declaration as declarations
 use Rattle.spv_type_evidence.specs.types.Constant as constants
 use Rattle.spv_type_evidence.specs.types.Function.{Differs, IsParameter, ReturnsFrom, Calls, IsArgument}
 
--- These are the value operands of the instruction i, in order, each with the type that it is declared with.
-pub record AreTyped (G : Table) (is : List PlainInst) (i : PlainInst) (vs : List evidence_typed.Typed) : Type 0 where
-  pub values : AreValues G i (map (λ v. v.value) vs)
-  pub types : types_of is (map (λ v. v.value) vs) ≡ Some (map (λ v. v.of) vs)
+-- These are the value operands of the instruction i, in order, each with its number and the type that it is declared
+-- with.
+pub record AreTyped (G : Table) (is : List PlainInst) (i : PlainInst) (vs : List Value) : Type 0 where
+  pub values : AreValues G i (map (λ v. v.id) vs)
+  pub types : types_of is (map (λ v. v.id) vs) ≡ Some (types_in vs)
+  pub each : AllByRecursion (λ v. slice_get i.operands v.operand ≡ Some (Id v.id)) vs
+
+-- A condition of the row of the instruction i of number n holds, where its value operands are these.
+abbrev pub HoldsAt : List PlainInst → ℕ → PlainInst → List Value → Asked → Type 0
+HoldsAt is n i vs a = Holds is (Typed is n i (types_in vs)) (result_type_in i.operands) (types_in vs) a
 
 -- The evidence shows that the rule is broken at the instruction i of number n.
 pub data Shows (G : Table) (is : List PlainInst) (n : ℕ) (i : PlainInst) : Rule → Evidence → Type 0 where
-  -- the operand at which the declaration first fails
-  declaration : (k : ℕ) → declarations.FailsFirst is n i k → Shows G is n i rule.Y2 (evidence.Operand k)
+  -- the operand at which the declaration first fails, and what is asked of it
+  declaration : (k : ℕ) (m : Option ℕ) (f : declarations.FailsFirst is n i k) → IsDefinedBy is i (Some k) m
+      → Shows G is n i rule.Y2 (evidence.Condition (declarations.condition_at f.kind k) (Some k) m None None [])
   -- an earlier declaration of the same type, of which there may be one only
   again : (r : Repeats is n i) → Shows G is n i rule.Y3 (evidence.Earlier r.place)
-  -- the operand at which the constant first fails
-  constant : (k : ℕ) → constants.FailsFirst is i k → Shows G is n i rule.Y4 (evidence.Operand k)
-  -- the result type and the types of the values, of which the row of the opcode does not hold
-  types : (values : List evidence_typed.Typed) → row_of i.opcode ≢ row.Free → AreTyped G is i values
-      → ¬ (Typed is n i (map (λ v. v.of) values))
-      → Shows G is n i rule.Y5 (evidence.Types (result_type_in i.operands) values)
+  -- the operand at which the constant first fails, what is asked of it, and the types that are wanted and found
+  constant : (k : ℕ) (m : Option ℕ) (f : constants.FailsFirst is i k) → IsDefinedBy is i (Some k) m
+      → Shows G is n i rule.Y4 (evidence.Condition (constants.condition_at f.kind k) (Some k) m
+      (constants.wanted_at is f.kind i k) (constants.found_at is f.kind i k)
+      (reads is (constants.wanted_at is f.kind i k) (constants.found_at is f.kind i k)))
+  -- the first condition of the opcode's row that fails, by the operand whose type it looks at, with what defines the
+  -- operand, the types that are wanted and found, and those that are read
+  operation : (vs : List Value) (a : Asked) (m : Option ℕ) → row_of i.opcode ≢ row.Free → AreTyped G is i vs
+      → FailsFirst (HoldsAt is n i vs) (conditions_of (row_of i.opcode) (length vs)) a
+      → IsDefinedBy is i (operand_in vs a) m
+      → Shows G is n i rule.Y5 (evidence.Condition (condition_in a) (operand_in vs a) m
+      (wanted_in (result_type_in i.operands) (types_in vs) a) (found_in (result_type_in i.operands) (types_in vs) a)
+      (read_in is (result_type_in i.operands) (types_in vs) a))
   -- the type of the OpFunction differs from its result type and its parameters
   function : (r : ℕ) (s : Side) (wanted found : Option ℕ) → i.opcode ≡ opcode.FUNCTION
       → type_in i.operands ≡ Some r → Differs is i r (parameters_after is n) s wanted found
-      → Shows G is n i rule.Y6 (evidence.Mismatch s wanted found)
+      → Shows G is n i rule.Y6 (evidence.Mismatch s wanted found (function_type_in i))
   -- the OpFunctionParameter is of another type than the one at its place
   parameter : (k t : ℕ) (wanted : Option ℕ) → i.opcode ≡ opcode.FUNCTION_PARAMETER
-      → IsParameter is n i k wanted t → wanted ≢ Some t
-      → Shows G is n i rule.Y6 (evidence.Mismatch (side.Parameter k) wanted (Some t))
+      → (p : IsParameter is n i k wanted t) → wanted ≢ Some t
+      → Shows G is n i rule.Y6 (evidence.Mismatch (side.Parameter k) wanted (Some t) (function_type_in p.function))
   -- the function of the OpReturn does not return void
   nothing : (r : ℕ) → i.opcode ≡ opcode.RETURN → ReturnsFrom is n r → form_of is r ≢ Some form.Void
-      → Shows G is n i rule.Y7 (evidence.Mismatch side.Return (Some r) None)
+      → Shows G is n i rule.Y7 (evidence.Mismatch side.Return (Some r) None None)
   -- the function of the OpReturnValue returns another type than the value's
   value : (r o : ℕ) → i.opcode ≡ opcode.RETURN_VALUE → ReturnsFrom is n r
       → types_of is (take 1 (ids_in i.operands)) ≡ Some (o ∷ [])
-      → r ≢ o → Shows G is n i rule.Y7 (evidence.Mismatch side.Return (Some r) (Some o))
+      → r ≢ o → Shows G is n i rule.Y7 (evidence.Mismatch side.Return (Some r) (Some o) None)
   -- the callee's type differs from the result type and the arguments of the OpFunctionCall
   call : (d : PlainInst) (r : ℕ) (xs : List ℕ) (s : Side) (wanted found : Option ℕ)
       → i.opcode ≡ opcode.FUNCTION_CALL → Calls is i d r xs → Differs is d r (length xs) s wanted found
-      → Shows G is n i rule.Y8 (evidence.Mismatch s wanted found)
+      → Shows G is n i rule.Y8 (evidence.Mismatch s wanted found (function_type_in d))
   -- an argument is of another type than the one at its place
   argument : (d : PlainInst) (r : ℕ) (xs : List ℕ) (k t u : ℕ)
       → i.opcode ≡ opcode.FUNCTION_CALL → Calls is i d r xs → IsArgument is d xs k t u → t ≢ u
-      → Shows G is n i rule.Y8 (evidence.Mismatch (side.Argument k) (Some t) (Some u))
+      → Shows G is n i rule.Y8 (evidence.Mismatch (side.Argument k) (Some t) (Some u) (function_type_in d))
 
 -- The evidence shows that the rule is broken at instruction n.
 pub record IsEvidence (G : Table) (is : List PlainInst) (r : Rule) (n : ℕ) (e : Evidence) : Type 0 where

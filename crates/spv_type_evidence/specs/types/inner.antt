@@ -3,3 +3,4 @@ pub mod Differences
 pub mod Values
 pub mod First
 pub mod Operands
+pub mod Failing

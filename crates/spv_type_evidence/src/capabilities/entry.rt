@@ -14,6 +14,7 @@ ghost use Rattle.spv_type_evidence.specs.capabilities.Evidence.{IsUnsound};
 ghost use Rattle.spv_type_evidence.specs.capabilities.inner.Calls.{AreNoCalls, IsCallOf};
 ghost use Rattle.spv_type_evidence.specs.capabilities.inner.Models.{HasKernelModel};
 
+use crate::capabilities::import::first_import;
 use spv_capabilities::{Survey, returns_void};
 use spv_evidence::EntryPart;
 use spv_module::{Inst, Operand, opcode};
@@ -130,14 +131,18 @@ fn is_imported_definition(survey: &Survey<'_, '_>, number: u32) -> bool
 }
 
 /// The part of E2 that the OpFunction of a number breaks: it is a definition and imported, or neither.
-fn linkage_part(survey: &Survey<'_, '_>, number: u32) -> EntryPart
+fn linkage_part(survey: &Survey<'_, '_>, insts: &[Inst<'_>], number: u32) -> EntryPart
+    requires most { AreFew insts.now }
+    requires surveyed { survey.now.insts ≡ map plain_inst insts.now }
     requires within { number < length survey.now.insts }
     requires broken { ¬ (IsSoundLinkage survey.now.table survey.now.insts number) }
     ensures { (i : PlainInst) → i.opcode ≡ opcode.FUNCTION
         → IsUnsound survey.now.table survey.now.insts number i result }
 {
     if is_imported_definition(survey, number) {
-        EntryPart::Imported
+        EntryPart::Imported {
+            inst: first_import(survey, insts, number),
+        }
     } else {
         EntryPart::Missing
     }
@@ -154,6 +159,6 @@ pub fn part(survey: &Survey<'_, '_>, insts: &[Inst<'_>], number: u32, inst: &Ins
     match inst.opcode {
         opcode::ENTRY_POINT => entry_part(survey, insts, inst.operands.as_slice()),
         opcode::EXECUTION_MODE => EntryPart::Unnamed,
-        _ => linkage_part(survey, number),
+        _ => linkage_part(survey, insts, number),
     }
 }

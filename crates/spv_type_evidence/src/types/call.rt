@@ -18,7 +18,7 @@ use crate::types::signature::{Difference, first_difference, split_signature};
 use spv_evidence::{Evidence, Side};
 use spv_module::{Inst, Operand};
 use spv_type_forms::Definitions;
-use spv_type_rules::signature;
+use spv_type_rules::{function_type, signature};
 
 /// An argument, by its number from 0, and the types that are wanted and found there.
 #[derive(Clone, Copy)]
@@ -156,5 +156,5 @@ pub fn call_evidence(definitions: &Definitions, inst: &Inst) -> Evidence
     else {
         unreachable!();
     };
-    difference.evidence()
+    difference.evidence(function_type(callee))
 }

@@ -1,6 +1,6 @@
 //! Evidence for Y4.
 
-ghost use Rattle.std.specs.Prelude.{◌≡◌, ◌≤◌, ◌+◌, ◌↔◌, ℕ, Some, IsTrue, length, slice_get};
+ghost use Rattle.std.specs.Prelude.{◌≡◌, ◌≤◌, ◌+◌, ◌↔◌, ℕ, IfOk, Some, IsTrue, length, slice_get};
 ghost use Rattle.spv_table.specs.Table.{Table};
 ghost use Rattle.spv_module.specs.declared.fault.Rule.TheVariants.{Y4};
 ghost use Rattle.spv_module.specs.Module.{plain_inst, plain_operands};
@@ -10,17 +10,22 @@ ghost use Rattle.spv_type_forms.specs.Operands.{ids_in};
 ghost use Rattle.spv_type_forms.specs.Parts.{count_of};
 ghost use Rattle.spv_type_rules.specs.inner.Constant.{IsSoundConstant};
 ghost use Rattle.spv_type_rules.specs.declared.constant.Constant.TheVariants as kind;
+ghost use Rattle.spv_ids.specs.Outcome.{IsDefinitionOf, definition_in};
+ghost use Rattle.spv_type_evidence.specs.types.Constant as spec;
 ghost use Rattle.spv_type_evidence.specs.types.Constant.{Asks, AsksOf, AsksParts, IsPartOf};
 ghost use Rattle.spv_type_evidence.specs.types.Evidence.{Shows};
 ghost use Rattle.spv_type_evidence.specs.types.inner.First.{IsFirstOf};
 
+use crate::types::beside::{defined_by, named_at, reads};
 use crate::types::operands::low_in;
-use spv_evidence::Evidence;
+use spv_evidence::{Condition, Evidence, Kind, Listed};
+use spv_ids::Ids;
 use spv_module::{Inst, Operand};
 use spv_type_forms::{
     Definitions, after_head, count, id_count, is_data, is_number, parts_of, type_in,
 };
 use spv_type_rules::{Constant, constant_of, fits_width, is_bool, is_typed_part};
+use std::alloc::{AllocError, Global};
 
 /// Whether a type has as many parts as ids stand at the front of the operands.
 fn has_count(definitions: &Definitions, r: u32, operands: &[Operand]) -> bool
@@ -126,11 +131,81 @@ fn first_of_constant(
     }
 }
 
-/// What shows that Y4 is broken at an instruction: the operand at which the constant first fails.
-pub fn constant_evidence(definitions: &Definitions, inst: &Inst) -> Evidence
+/// What is asked of an operand, by its name.
+fn condition_at(constant: Constant, operand: u32) -> Condition
+    ensures { result ≡ spec.condition_at constant operand }
+{
+    let head = operand == 0;
+    match constant {
+        Constant::Bool => Condition::Kind(Kind::Bool),
+        Constant::Number => if head {
+            Condition::Kind(Kind::Number)
+        } else {
+            Condition::FitsWidth
+        },
+        Constant::Composite | Constant::SpecComposite => {
+            if head {
+                Condition::Count
+            } else {
+                Condition::Constituent
+            }
+        }
+        Constant::Null => Condition::Kind(Kind::Data),
+    }
+}
+
+/// Whether an operand is a constituent of a composite constant.
+fn is_constituent(constant: Constant, operand: u32) -> bool
+    ensures { result ≡ spec.is_constituent constant operand }
+{
+    match constant {
+        Constant::Composite | Constant::SpecComposite => 2 <= operand,
+        _ => false,
+    }
+}
+
+/// The type that is found: a constituent's, else the result type.
+fn found_at(definitions: &Definitions, constant: Constant, inst: &Inst, operand: u32) -> Option<u32>
+    ensures { result ≡ spec.found_at definitions.now constant (plain_inst inst.now) operand }
+{
+    if is_constituent(constant, operand) {
+        definitions.type_of(named_at(inst, Some(operand))?)
+    } else {
+        type_in(inst.operands.as_slice())
+    }
+}
+
+/// The type that is wanted of a constituent: that of the part at its place.
+fn wanted_at(
+    definitions: &Definitions,
+    constant: Constant,
+    inst: &Inst,
+    operand: u32,
+) -> Option<u32>
+    ensures { result ≡ spec.wanted_at definitions.now constant (plain_inst inst.now) operand }
+{
+    if is_constituent(constant, operand) {
+        let r = type_in(inst.operands.as_slice())?;
+        parts_of(definitions, r).at((operand - 2) as usize)
+    } else {
+        None
+    }
+}
+
+/// What shows that Y4 is broken at an instruction: the operand at which the constant first fails, what is asked of it,
+/// and the types that are wanted and found.
+///
+/// The error comes when out of memory.
+pub fn constant_evidence(
+    alloc: Global,
+    definitions: &Definitions,
+    ids: &Ids,
+    inst: &Inst,
+) -> Result<Evidence, AllocError>
+    requires ids { (x : ℕ) → IsDefinitionOf definitions.now x (definition_in ids.now x) }
     requires few { AreFew (ids_in (of_operands.after_head (plain_inst inst.now).operands)) }
     requires broken { ¬ (IsSoundConstant definitions.now (plain_inst inst.now)) }
-    ensures { (G : Table) (n : ℕ) → Shows G definitions.now n (plain_inst inst.now) Y4 result }
+    ensures { IfOk result (λ e. (G : Table) (n : ℕ) → Shows G definitions.now n (plain_inst inst.now) Y4 e) }
 {
     let Some(constant) = constant_of(inst.opcode) else {
         unreachable!();
@@ -138,5 +213,15 @@ pub fn constant_evidence(definitions: &Definitions, inst: &Inst) -> Evidence
     let Some(operand) = first_of_constant(definitions, constant, inst.operands.as_slice()) else {
         unreachable!();
     };
-    Evidence::Operand { operand }
+    let wanted = wanted_at(definitions, constant, inst, operand);
+    let found = found_at(definitions, constant, inst, operand);
+    let types = reads(alloc, definitions, wanted, found)?;
+    Ok(Evidence::Condition {
+        condition: condition_at(constant, operand),
+        operand: Some(operand),
+        defined: defined_by(ids, inst, Some(operand)),
+        wanted,
+        found,
+        types: Listed::from_vec(types),
+    })
 }

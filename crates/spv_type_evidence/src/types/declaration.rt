@@ -7,15 +7,17 @@ ghost use Rattle.spv_module.specs.Module.{plain_inst, plain_operands};
 ghost use Rattle.spv_ids.specs.Outcome.{IsDefinitionOf, definition_in};
 ghost use Rattle.spv_type_rules.specs.inner.Declaration.{IsSoundDeclaration};
 ghost use Rattle.spv_type_rules.specs.declared.declaration.Declaration.TheVariants as kind;
+ghost use Rattle.spv_type_evidence.specs.types.Declaration as spec;
 ghost use Rattle.spv_type_evidence.specs.types.Declaration.{Asks, AsksData, IsScalar};
 ghost use Rattle.spv_type_evidence.specs.types.Evidence.{Shows};
 ghost use Rattle.spv_type_evidence.specs.types.inner.First.{IsFirstOf};
 
+use crate::types::beside::defined_by;
 use crate::types::first::first_of_two;
 use crate::types::operands::{
     array_in, float_in, forward_in, int_in, members_in, pointee_in, signature_in, vector_in,
 };
-use spv_evidence::Evidence;
+use spv_evidence::{Condition, Evidence, Kind, Listed};
 use spv_ids::Ids;
 use spv_module::{Inst, Operand};
 use spv_type_forms::{Definitions, Form, is_data};
@@ -23,6 +25,7 @@ use spv_type_rules::{
     Declaration, declaration_of, is_float_width, is_int_width, is_length, is_pointee,
     is_pointer_after, is_returned, is_vector_count,
 };
+use std::alloc::Global;
 
 /// Whether an id declares a scalar type.
 fn is_scalar(definitions: &Definitions, c: u32) -> bool
@@ -181,8 +184,57 @@ fn first_failing(
     }
 }
 
-/// What shows that Y2 is broken at the instruction of a number: the operand at which the declaration first fails.
+/// What is asked of an operand after the result, by its name.
+fn condition_after(declaration: Declaration, operand: u32) -> Condition
+    ensures { result ≡ spec.condition_after declaration operand }
+{
+    let first = operand == 1;
+    match declaration {
+        Declaration::Int => if first {
+            Condition::IntWidth
+        } else {
+            Condition::Signedness
+        },
+        Declaration::Float => Condition::FloatWidth,
+        Declaration::Vector => if first {
+            Condition::Scalar
+        } else {
+            Condition::VectorCount
+        },
+        Declaration::Array => if first {
+            Condition::Kind(Kind::Data)
+        } else {
+            Condition::Length
+        },
+        Declaration::Struct => Condition::Kind(Kind::Data),
+        Declaration::Pointer => Condition::Pointee,
+        Declaration::Function => if first {
+            Condition::Returned
+        } else {
+            Condition::Kind(Kind::Data)
+        },
+        Declaration::Forward => Condition::Forward,
+    }
+}
+
+/// What is asked of an operand, by its name.
+fn condition_at(declaration: Declaration, operand: u32) -> Condition
+    ensures { result ≡ spec.condition_at declaration operand }
+{
+    match declaration {
+        Declaration::Forward => Condition::Forward,
+        _ => if operand == 0 {
+            Condition::Operands
+        } else {
+            condition_after(declaration, operand)
+        },
+    }
+}
+
+/// What shows that Y2 is broken at the instruction of a number: the operand at which the declaration first fails, and
+/// what is asked of it.
 pub fn declaration_evidence(
+    alloc: Global,
     definitions: &Definitions,
     ids: &Ids,
     number: u32,
@@ -199,5 +251,12 @@ pub fn declaration_evidence(
     let Some(operand) = first_failing(definitions, ids, number, declaration, operands) else {
         unreachable!();
     };
-    Evidence::Operand { operand }
+    Evidence::Condition {
+        condition: condition_at(declaration, operand),
+        operand: Some(operand),
+        defined: defined_by(ids, inst, Some(operand)),
+        wanted: None,
+        found: None,
+        types: Listed::from_vec(Vec::new(alloc)),
+    }
 }

@@ -17,7 +17,7 @@ use crate::types::signature::first_difference;
 use spv_evidence::{Evidence, Side};
 use spv_module::{Inst, opcode};
 use spv_type_forms::{Definitions, type_in};
-use spv_type_rules::{function_of, parameter_type};
+use spv_type_rules::{function_of, function_type, parameter_type};
 
 /// What shows that Y6 is broken at the OpFunction of a number, which so many parameters follow: where its type first
 /// differs from its result type and its parameters.
@@ -39,7 +39,7 @@ pub fn function_evidence(
     let Some(difference) = first_difference(definitions, inst, r, count) else {
         unreachable!();
     };
-    difference.evidence()
+    difference.evidence(function_type(inst))
 }
 
 /// How many OpFunctionParameters are among instructions.
@@ -79,5 +79,6 @@ pub fn parameter_evidence(
         side: Side::Parameter { number: before },
         wanted: parameter_type(definitions, function.inst, before),
         found: type_in(inst.operands.as_slice()),
+        of: function_type(function.inst),
     }
 }

@@ -1,6 +1,6 @@
 //! Laws of evidence, and worked examples. Each function does nothing: its contract is what is proved.
 
-ghost use Rattle.std.specs.Prelude.{◌≡◌, ◌↔◌, ℕ, List, Some, None, slice_get, IsSomeAnd};
+ghost use Rattle.std.specs.Prelude.{◌≡◌, ◌↔◌, ℕ, List, [], ◌∷◌, Option, length, Some, None, slice_get, IsSomeAnd};
 ghost use Rattle.spv_table.specs.Table.{Table};
 ghost use Rattle.spv_module.specs.Operand.{Plain, PlainInst, type_in};
 ghost use Rattle.spv_module.specs.declared.fault.Rule.{Rule};
@@ -13,12 +13,25 @@ ghost use Rattle.spv_ops.specs.Typed.{IsTyped};
 ghost use Rattle.spv_type_rules.specs.Keeps.{Keeps};
 ghost use Rattle.spv_type_forms.specs.Operands.{after_head};
 ghost use Rattle.spv_evidence.specs.declared.evidence.Evidence.{Evidence};
-ghost use Rattle.spv_evidence.specs.declared.evidence.Evidence.TheVariants.{Operand, Earlier, Mismatch};
-ghost use Rattle.spv_evidence.specs.declared.evidence.Side.TheVariants.{Number};
+ghost use Rattle.spv_evidence.specs.declared.evidence.Evidence.TheVariants.{Condition, Earlier, Mismatch};
+ghost use Rattle.spv_evidence.specs.declared.condition.Condition.TheVariants.{VectorCount, Scalar, FitsWidth};
+ghost use Rattle.spv_evidence.specs.declared.evidence.Side.TheVariants as side;
 ghost use Rattle.spv_type_evidence.specs.types.Declaration as declaration;
 ghost use Rattle.spv_type_evidence.specs.types.Constant as constant;
+ghost use Rattle.std.specs.List.{AllByRecursion};
+ghost use Rattle.spv_type_forms.specs.Example.{small};
+ghost use Rattle.spv_type_forms.specs.declared.form.Sort.TheVariants.{Int};
+ghost use Rattle.spv_ops.specs.declared.row.Row.{Row};
+ghost use Rattle.spv_ops.specs.declared.row.Calculation.TheVariants.{Binary};
+ghost use Rattle.spv_ops.specs.Typed.{RowHolds};
+ghost use Rattle.spv_evidence.specs.declared.condition.Kind.TheVariants.{Ints};
+ghost use Rattle.spv_evidence.specs.declared.condition.Relation.TheVariants.{Same, SameCount, OtherWidth};
+ghost use Rattle.spv_type_rules.specs.declared.constant.Constant.TheVariants.{Number};
+ghost use Rattle.spv_type_evidence.specs.types.Beside.{named_at, reads};
+ghost use Rattle.spv_type_evidence.specs.types.Condition.{Agrees, FailsFirst, Holds, IsOf};
+ghost use Rattle.spv_type_evidence.specs.types.Conditions.{calculation_conditions, conditions_of, with_result};
 ghost use Rattle.spv_type_evidence.specs.types.Evidence.{IsEvidence};
-ghost use Rattle.spv_type_evidence.specs.types.Example.{with_vector, with_again, with_short_call};
+ghost use Rattle.spv_type_evidence.specs.types.Example.{vector, with_vector, with_again, with_short_call};
 
 /// What is evidence for a rule shows that the instruction does not keep what the rule demands.
 pub fn suffices()
@@ -39,15 +52,50 @@ pub fn operands_make()
         ↔ IsSomeAnd (type_in os) (λ r. Constitutes is c r (after_head os)) }
 {}
 
+/// A row of Y5 holds exactly where all its conditions hold.
+pub fn conditions_hold()
+    ensures { (is : List PlainInst) (n : ℕ) (i : PlainInst) (q : Row) (r : Option ℕ) (ts : List ℕ)
+        → RowHolds is n i q r ts
+        ↔ AllByRecursion (Holds is (RowHolds is n i q r ts) r ts) (conditions_of q (length ts)) }
+{}
+
+/// Conditions of types of a small module that hold, and some that do not: %1 is an int, %2 a float, %3 a vector of four
+/// of %1, %14 an int of another width.
+pub fn condition_examples()
+    ensures kind { IsOf small Ints 3 }
+    ensures no_kind { ¬ (IsOf small Ints 2) }
+    ensures count { Agrees small SameCount 1 14 }
+    ensures no_count { ¬ (Agrees small SameCount 1 3) }
+    ensures width { Agrees small OtherWidth 1 14 }
+    ensures no_width { ¬ (Agrees small OtherWidth 1 1) }
+    // An OpIAdd of two ints, and of an int and a float: the second operand is the first that fails.
+    ensures add { AllByRecursion (Holds small ⊥ (Some 1) (1 ∷ 1 ∷ [])) (calculation_conditions (Binary Int)) }
+    ensures no_add { FailsFirst (Holds small ⊥ (Some 1) (1 ∷ 2 ∷ [])) (calculation_conditions (Binary Int))
+        (with_result 1 Same) }
+{}
+
+/// What stands beside a condition: of %9 = OpTypeVector %1 5 the id that an operand names, and the types that are read
+/// where %4, a pointer to %2, is found in place of %2.
+pub fn beside_examples()
+    ensures named { named_at vector (Some 1) ≡ Some 1 }
+    ensures not_named { ¬ (named_at vector (Some 0) ≡ Some 9) }
+    ensures read { reads small (Some 2) (Some 4) ≡ 2 ∷ 4 ∷ 2 ∷ [] }
+    ensures not_read { ¬ (reads small None (Some 1) ≡ []) }
+    ensures width { constant.condition_at Number 2 ≡ FitsWidth }
+    ensures no_width { ¬ (constant.condition_at Number 0 ≡ FitsWidth) }
+{}
+
 /// What shows that a rule is broken at the last instruction of a small module, and what does not.
 pub fn evidence_examples()
     // No count of a vector is 5; its component type is an int.
-    ensures count { (G : Table) → IsEvidence G with_vector Y2 7 (Operand 2) }
-    ensures component { (G : Table) → ¬ (IsEvidence G with_vector Y2 7 (Operand 1)) }
+    ensures count { (G : Table) → IsEvidence G with_vector Y2 7 (Condition VectorCount (Some 2) None None None []) }
+    ensures component { (G : Table)
+        → ¬ (IsEvidence G with_vector Y2 7 (Condition Scalar (Some 1) (Some 0) None None [])) }
     // The first instruction declares an int of width 8 too, and the second void.
     ensures again { (G : Table) → IsEvidence G with_again Y3 7 (Earlier 0) }
     ensures other { (G : Table) → ¬ (IsEvidence G with_again Y3 7 (Earlier 1)) }
     // The function takes one argument, and the call has none.
-    ensures call { (G : Table) → IsEvidence G with_short_call Y8 7 (Mismatch Number (Some 1) (Some 0)) }
-    ensures no_call { (G : Table) → ¬ (IsEvidence G with_short_call Y8 7 (Mismatch Number (Some 0) (Some 1))) }
+    ensures call { (G : Table) → IsEvidence G with_short_call Y8 7 (Mismatch side.Number (Some 1) (Some 0) (Some 3)) }
+    ensures no_call { (G : Table)
+        → ¬ (IsEvidence G with_short_call Y8 7 (Mismatch side.Number (Some 0) (Some 1) (Some 3))) }
 {}

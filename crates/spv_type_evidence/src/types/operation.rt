@@ -1,19 +1,26 @@
 //! Evidence for Y5.
 
-ghost use Rattle.std.specs.Prelude.{◌≡◌, ℕ, IfOk};
+ghost use Rattle.std.specs.Prelude.{◌≡◌, ◌<◌, ℕ, IfOk, length};
 ghost use Rattle.spv_table.specs.Table.{Table};
 ghost use Rattle.spv_module.specs.declared.fault.Rule.TheVariants.{Y5};
 ghost use Rattle.spv_module.specs.Module.{plain_inst};
 ghost use Rattle.spv_layout.specs.Shape.{FitsShape};
+ghost use Rattle.spv_ids.specs.Outcome.{IsDefinitionOf, definition_in};
 ghost use Rattle.spv_ops.specs.Typed.{IsTyped};
 ghost use Rattle.spv_type_evidence.specs.types.Evidence.{AreTyped, Shows};
 ghost use Rattle.spv_type_evidence.specs.types.inner.Values as values;
 ghost use Rattle.spv_type_evidence.specs.types.inner.Values.{IsValueAt, IsTypeable};
 
+use crate::types::asked::Value;
+use crate::types::beside::{condition_in, defined_by, found_in, operand_in, read_in, wanted_in};
+use crate::types::conditions::conditions_of;
+use crate::types::holds::first_failing;
 use crate::types::operands::id_at;
-use spv_evidence::{Evidence, Listed, Role, Typed};
+use spv_evidence::{Evidence, Listed, Role};
+use spv_ids::Ids;
 use spv_layout::role;
 use spv_module::Inst;
+use spv_ops::row_of;
 use spv_type_forms::{Definitions, result_type};
 use std::alloc::{AllocError, Global};
 
@@ -38,46 +45,67 @@ fn value_at(inst: &Inst, k: usize) -> Option<u32>
     }
 }
 
-/// The value operands of an instruction, in order, each with the type that it is declared with.
+/// The value operands of an instruction, in order, each with its number and the type that it is declared with.
 ///
 /// The error comes when out of memory.
 fn typed_values(
     alloc: Global,
     definitions: &Definitions,
     inst: &Inst,
-) -> Result<Vec<Typed>, AllocError>
+) -> Result<Vec<Value>, AllocError>
     requires { (G : Table) × IsTypeable G definitions.now (plain_inst inst.now) }
-    ensures { let i = plain_inst inst.now in
+    ensures typed { let i = plain_inst inst.now in
         IfOk result (λ vs. (G : Table) → FitsShape G i → AreTyped G definitions.now i vs.items) }
+    ensures few { IfOk result (λ vs. length vs.items < 4294967296) }
 {
     let mut values = Vec::new(alloc);
     for k in 0..inst.operands.as_slice().len() {
-        if let Some(value) = value_at(inst, k) {
-            let Some(of) = definitions.type_of(value) else {
+        if let Some(id) = value_at(inst, k) {
+            let Some(of) = definitions.type_of(id) else {
                 unreachable!();
             };
-            values.push(Typed { value, of })?;
+            values.push(Value {
+                operand: k as u32,
+                id,
+                of,
+            })?;
         }
     }
     Ok(values)
 }
 
-/// What shows that Y5 is broken at an instruction: its result type, and its value operands with their types.
+/// What shows that Y5 is broken at the instruction of a number: the first condition of its row that fails.
 ///
 /// The error comes when out of memory.
 pub fn operation_evidence(
     alloc: Global,
     definitions: &Definitions,
+    ids: &Ids,
     inst: &Inst,
 ) -> Result<Evidence, AllocError>
-    requires { (G : Table) × IsTypeable G definitions.now (plain_inst inst.now) }
+    requires ids { (x : ℕ) → IsDefinitionOf definitions.now x (definition_in ids.now x) }
+    requires typeable { (G : Table) × IsTypeable G definitions.now (plain_inst inst.now) }
+    requires broken { (G : Table) × (n : ℕ) × FitsShape G (plain_inst inst.now)
+        × ¬ (IsTyped G definitions.now n (plain_inst inst.now)) }
     ensures { let i = plain_inst inst.now in
         IfOk result (λ e. (G : Table) (n : ℕ) → FitsShape G i → ¬ (IsTyped G definitions.now n i)
         → Shows G definitions.now n i Y5 e) }
 {
-    let values = typed_values(alloc, definitions, inst)?;
-    Ok(Evidence::Types {
-        result: result_type(inst.operands.as_slice()),
-        values: Listed::from_vec(values),
+    let typed = typed_values(alloc, definitions, inst)?;
+    let values = typed.as_slice();
+    let r = result_type(inst.operands.as_slice());
+    let conditions = conditions_of(alloc, row_of(inst.opcode), values.len() as u32)?;
+    let Some(asked) = first_failing(definitions, r, values, conditions.as_slice()) else {
+        unreachable!();
+    };
+    let operand = operand_in(values, asked);
+    let types = read_in(alloc, definitions, r, values, asked)?;
+    Ok(Evidence::Condition {
+        condition: condition_in(asked),
+        operand,
+        defined: defined_by(ids, inst, operand),
+        wanted: wanted_in(r, values, asked),
+        found: found_in(r, values, asked),
+        types: Listed::from_vec(types),
     })
 }

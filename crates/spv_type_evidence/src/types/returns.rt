@@ -44,6 +44,7 @@ pub fn return_evidence(definitions: &Definitions, number: u32) -> Evidence
         side: Side::Return,
         wanted: Some(returned_type(definitions, number)),
         found: None,
+        of: None,
     }
 }
 
@@ -74,5 +75,6 @@ pub fn value_evidence(definitions: &Definitions, number: u32, inst: &Inst) -> Ev
         side: Side::Return,
         wanted: Some(returned_type(definitions, number)),
         found: definitions.type_of(x),
+        of: None,
     }
 }

@@ -22,14 +22,15 @@ pub struct Difference {
 }
 
 impl Difference {
-    /// The evidence that it is.
-    pub fn evidence(self) -> Evidence
-        ensures { result ≡ Mismatch self.side self.wanted self.found }
+    /// The evidence that it is, where a function type of this id is asked.
+    pub fn evidence(self, of: Option<u32>) -> Evidence
+        ensures { result ≡ Mismatch self.side self.wanted self.found of }
     {
         Evidence::Mismatch {
             side: self.side,
             wanted: self.wanted,
             found: self.found,
+            of,
         }
     }
 }

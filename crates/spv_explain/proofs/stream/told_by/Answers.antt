@@ -1,7 +1,8 @@
-use Rattle.std.proofs.Common.{refl, subst}
+use Rattle.std.proofs.Common.{◌≤◌, arith, drop, length-drop, refl, subst, rules}
+use Rattle.spv_module.specs.Module.{plain_insts}
 use Rattle.spv_verdict.proofs.Verdicts.{Laws}
 use Rattle.spv_explain.specs.inner.Reading.{IsReading}
-use Rattle.spv_explain.proofs.Tellings.{broken_told, dead_told, valid_told}
+use Rattle.spv_explain.proofs.Tellings.{broken_told, dead_told, few_insts, valid_told}
 use Rattle.spv_explain.proofs.stream.told_by.Goals as goal
 
 pub returns-in-Ok-Valid : goal.returns-in-Ok-Valid
@@ -16,7 +17,7 @@ returns-in-Ok-Valid c = λ bytes order h.
     } in
     let G = c.args.table.now in
     let words = c.args.image.now in
-    valid_told laws G bytes words order c.in-Ok-Valid.field-0-0 _ h (subst (λ r. IsReading G words r) c.in-Ok-Valid.field-0-is c.in-Ok-Valid.ensures) refl
+    valid_told laws G bytes words order c.in-Ok-Valid.field-0-0 _ h (subst (λ r. IsReading G words r) c.in-Ok-Valid.field-0-is c.in-Ok-Valid.ensures) refl c.new.ensures.bytes
 
 pub returns-in-Ok-Malformed : goal.returns-in-Ok-Malformed
 returns-in-Ok-Malformed c = λ bytes order h.
@@ -34,6 +35,16 @@ returns-in-Ok-Malformed c = λ bytes order h.
     dead_told laws G bytes words order c.in-Ok-Malformed.fault c.in-Ok-Malformed.evidence c.malformed_told.result h
     r.0 r.1 c.malformed_told.ensures.verdict c.malformed_told.ensures.lines
 
+pub broken_told-requires : goal.broken_told-requires
+broken_told-requires c =
+    let G = c.args.table.now in
+    let words = c.args.image.now in
+    let b = subst (λ r. IsReading G words r) c.in-Ok-Broken.field-0-is c.in-Ok-Broken.ensures in
+    record {
+      few = few_insts (plain_insts c.in-Ok-Broken.module) (drop 5 words) (c.word_counts.ensures G _ _ b.listing)
+          (omega (arith, length-drop 5 words, c.len-words.ensures.least, c.len-words.ensures.most));
+    }
+
 pub returns-in-Ok-Broken : goal.returns-in-Ok-Broken
 returns-in-Ok-Broken c = λ bytes order h.
     let laws : Laws = record {
@@ -46,5 +57,8 @@ returns-in-Ok-Broken c = λ bytes order h.
     } in
     let G = c.args.table.now in
     let words = c.args.image.now in
-    broken_told laws G bytes words order c.in-Ok-Broken.fault c.in-Ok-Broken.evidence c.in-Ok-Broken.module c.broken_told.result h
-    (subst (λ r. IsReading G words r) c.in-Ok-Broken.field-0-is c.in-Ok-Broken.ensures) c.broken_told.ensures.verdict c.broken_told.ensures.lines
+    let m = c.in-Ok-Broken.module in
+    let b = subst (λ r. IsReading G words r) c.in-Ok-Broken.field-0-is c.in-Ok-Broken.ensures in
+    let t = (c.shown_reads_back.ensures.shown G m.header (plain_insts m) (drop 5 words) b.listing).1 in
+    broken_told laws G bytes words order c.in-Ok-Broken.fault c.in-Ok-Broken.evidence m t.lines c.broken_told.result h
+    b t.shown c.broken_told.ensures.verdict (c.broken_told.ensures.lines t.lines t.shown)

@@ -1,17 +1,14 @@
 use Rattle.std.proofs.lemmas.Result.{IfOk-weaker}
 use Rattle.spv_table.specs.Table.{Table}
 use Rattle.spv_module.specs.Module.{plain_inst, plain_insts}
-use Rattle.spv_module.specs.declared.fault.Rule.TheVariants.{F1, F2, F3, F4}
-use Rattle.spv_module.specs.Operand.{PlainInst}
-use Rattle.spv_module.specs.declared.fault.Rule.{Rule}
-use Rattle.spv_evidence.specs.declared.evidence.Evidence.TheVariants.{Operand}
-use Rattle.spv_branches.specs.Broken.{Broken}
+use Rattle.spv_module.specs.declared.fault.Rule.TheVariants.{F1, F2, F3}
 use Rattle.spv_branches.specs.declared.code.Code.{Code}
 use Rattle.spv_branches.specs.inner.Code.{insts_of, IsCode}
 use Rattle.spv_flow_evidence.specs.branches.Evidence.{IsEvidence}
-use Rattle.spv_flow_evidence.proofs.lemmas.branches.Known.{known_code, known_broken, found, definitions, lacking, entering, parentless}
+use Rattle.spv_flow_evidence.proofs.lemmas.branches.Known.{known_code, known_broken, found, definitions}
+use Rattle.spv_flow_evidence.proofs.lemmas.branches.Rules.{lacking, entering, parentless}
 use Rattle.spv_flow_evidence.proofs.branches.branch_evidence.Goals as goal
-use Rattle.std.proofs.Common.{◌≡◌, ℕ, map, subst, sym, List}
+use Rattle.std.proofs.Common.{map, subst, sym, List}
 use Rattle.spv_module.specs.declared.module.Inst.{Inst}
 use Rattle.spv_flow_evidence.specs.branches.inner.Known.{KeepsDefinitions}
 
@@ -94,10 +91,3 @@ returns-in-F3 c = λ G plan first.
     let is = known_code G code items v c.requires.words plan c.requires.known.2.each in
     IfOk-weaker c.parents_evidence.result (λ e. (H : Table) → IsCode H code → IsEvidence H (insts_of code) F3 c.args.inst e) (λ e. IsEvidence G (plain_insts c.args.module.now) c.args.rule c.args.inst e)
     (λ e h. found G code items c.args.rule F3 c.args.inst e v c.in-F3.is (h G is)) c.parents_evidence.ensures
-
-same_labels : (G : Table) (is : List PlainInst) (q : Rule) (n : ℕ) → Broken G is q n → q ≡ F4 → IsEvidence G is F4 n (Operand 2)
-same_labels G is _ _ (Broken.same_labels n x op one two) e = IsEvidence.same_labels n x op one two
-same_labels G is _ _ _ e = cc
-
-pub returns-in-F4 : goal.returns-in-F4
-returns-in-F4 c = λ G plan first. rw c.in-F4.is (same_labels G (plain_insts c.args.module.now) c.args.rule c.args.inst first.broken c.in-F4.is)

@@ -1,12 +1,12 @@
 -- What is known of the instruction at which a rule is broken.
-use Rattle.std.proofs.Common.{◌≡◌, ◌<◌, ◌⊎◌, ℕ, List, length, map, refl, sym, subst, arith}
+use Rattle.std.proofs.Common.{◌≡◌, ◌<◌, ℕ, List, length, map, refl, sym, subst, arith}
 use Rattle.std.proofs.lemmas.List.{length-map}
 use Rattle.spv_table.specs.Table.{Table}
 use Rattle.spv_module.specs.Operand.{PlainInst}
 use Rattle.spv_module.specs.declared.module.Inst.{Inst}
 use Rattle.spv_module.specs.Module.{plain_inst}
 use Rattle.spv_module.specs.declared.fault.Rule.{Rule}
-use Rattle.spv_module.specs.declared.fault.Rule.TheVariants.{F1, F2, F3, D3}
+use Rattle.spv_module.specs.declared.fault.Rule.TheVariants.{D3}
 use Rattle.spv_layout.specs.First.{IsFirst, IsUnbroken}
 use Rattle.spv_layout.specs.Place.{IsShort, AreFew}
 use Rattle.spv_layout.specs.Plan.{IsPlan}
@@ -17,8 +17,6 @@ use Rattle.spv_ids.specs.Outcome.{IsDefinitionOf, definition_in}
 use Rattle.spv_branches.specs.declared.code.Code.{Code}
 use Rattle.spv_branches.specs.inner.Code.{insts_of, IsCode}
 use Rattle.spv_branches.specs.Broken.{Broken}
-use Rattle.spv_branches.specs.inner.Graph.{LacksLabel, LeadsToEntry}
-use Rattle.spv_branches.specs.Target.{is_phi, is_merge, is_branch, IsOp, HasParents}
 use Rattle.spv_branches.proofs.Firsts.{broken_within}
 use Rattle.spv_evidence.specs.declared.evidence.Evidence.{Evidence}
 use Rattle.spv_flow_evidence.specs.branches.Evidence.{IsEvidence}
@@ -55,15 +53,3 @@ found G c insts q r n e same rule h =
 
 pub definitions : (G : Table) (bound : ℕ) (is : List PlainInst) (n : ℕ) → IsUnbroken (ids.Broken G bound is) of_ids → KeepsDefinitions G is n
 definitions G bound is n unbroken = record { each = λ k x u none. unbroken D3 n refl (ids.Broken.undefined n k x Label u none) }
-
-pub lacking : (G : Table) (is : List PlainInst) (q : Rule) (n : ℕ) → Broken G is q n → q ≡ F1 → (IsOp is n is_branch ⊎ IsOp is n is_merge) × LacksLabel G is n
-lacking G is _ _ (Broken.no_label n k x op used none) e = (op, record { operand = k; id = x; used = used; none = none })
-lacking G is _ _ _ e = cc
-
-pub entering : (G : Table) (is : List PlainInst) (q : Rule) (n : ℕ) → Broken G is q n → q ≡ F2 → IsOp is n is_branch × LeadsToEntry G is n
-entering G is _ _ (Broken.to_entry n x m target d entry) e = (target.branch, record { operand = target.operand; id = x; used = target.used; place = m; defined = d; entry = entry })
-entering G is _ _ _ e = cc
-
-pub parentless : (G : Table) (is : List PlainInst) (q : Rule) (n : ℕ) → Broken G is q n → q ≡ F3 → IsOp is n is_phi × (¬ (HasParents G is n))
-parentless G is _ _ (Broken.parents n phi not) e = (phi, not)
-parentless G is _ _ _ e = cc

@@ -11,8 +11,8 @@ use Rattle.spv_module.specs.declared.fault.Rule.TheVariants.{A2}
 use Rattle.spv_module.specs.declared.opcode.TheConstants as opcode
 use Rattle.spv_layout.specs.declared.class.Class.TheVariants.{Function, FunctionEnd, Phi}
 use Rattle.spv_layout.specs.declared.form.Role.TheVariants as role
-use Rattle.spv_layout.specs.Row.{row, v, l, repeated}
-use Rattle.spv_layout.specs.inner.Row.{T, R}
+use Rattle.spv_layout.specs.Row.{repeated}
+use Rattle.spv_layout.specs.inner.Row.{row, v, l, T, R}
 use Rattle.spv_layout.specs.Rows.{rows}
 use Rattle.spv_layout.specs.Shape.{AreOf, Ends, HasForms}
 use Rattle.spv_layout.specs.Place.{IsAt, IsOfFunction}

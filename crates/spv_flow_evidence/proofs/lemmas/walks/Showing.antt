@@ -10,7 +10,7 @@ use Rattle.spv_module.specs.declared.fault.Rule.TheVariants.{A1, A2}
 use Rattle.spv_module.specs.declared.opcode.TheConstants as opcode
 use Rattle.spv_layout.specs.declared.form.Role.{Role}
 use Rattle.spv_layout.specs.declared.form.Form.{Form}
-use Rattle.spv_layout.specs.First.{IsUnbroken}
+use Rattle.spv_layout.specs.First.{stage_of, IsUnbroken}
 use Rattle.spv_layout.specs.inner.Row.{R}
 use Rattle.spv_layout.specs.Shape.{IsUse}
 use Rattle.spv_layout.specs.Stage.{of_branches}
@@ -25,6 +25,7 @@ use Rattle.spv_branches.specs.Ready.{IsMissing, IsPairMissing}
 use Rattle.spv_branches.specs.Broken.{Broken}
 use Rattle.spv_branches.proofs.Firsts.{holds}
 use Rattle.spv_branches.proofs.Labelled.{use_in}
+use Rattle.spv_walks.proofs.Staged.{IsStaged, staged}
 use Rattle.spv_walks.specs.declared.code.Code.{Code}
 use Rattle.spv_walks.specs.inner.Code.{insts_of, IsCode}
 use Rattle.spv_walks.specs.inner.Divided.{IsIn, IsGraphOf}
@@ -182,27 +183,31 @@ way_within graph v b block n Pairs way le lt here s =
 
 -- What the broken rule says of the instruction.
 
+staged_misses : (G : Table) (is : List PlainInst) (r : Rule) (n : ℕ) (t : Taking) → (stage_of r ≡ of_branches → ⊥)
+    → IsStaged G is r n → (r ≡ A1 → t ≡ Uses) → (r ≡ A2 → t ≡ Pairs) → MissesValue G is t n
+staged_misses G is _ _ t none (IsStaged.branches r n e) a b = absurd (none e)
+staged_misses G is _ _ t none (IsStaged.missing n m) a b =
+    subst (λ (s : Taking). MissesValue G is s n) (sym (a refl)) m
+staged_misses G is _ _ t none (IsStaged.pair_missing n m) a b =
+    subst (λ (s : Taking). MissesValue G is s n) (sym (b refl)) m
+
 pub misses : (G : Table) (is : List PlainInst) (r : Rule) (n : ℕ) (t : Taking) → IsUnbroken (Broken G is) of_branches
     → Broken G is r n
     → (r ≡ A1 → t ≡ Uses) → (r ≡ A2 → t ≡ Pairs) → MissesValue G is t n
-misses G is _ _ t none (Broken.no_label n k x op used not) a b =
-    absurd (none _ n refl (Broken.no_label n k x op used not))
-misses G is _ _ t none (Broken.to_entry n x m target d e) a b =
-    absurd (none _ n refl (Broken.to_entry n x m target d e))
-misses G is _ _ t none (Broken.parents n phi not) a b = absurd (none _ n refl (Broken.parents n phi not))
-misses G is _ _ t none (Broken.same_labels n x op u w) a b = absurd (none _ n refl (Broken.same_labels n x op u w))
-misses G is _ _ t none (Broken.missing n m) a b = subst (λ (s : Taking). MissesValue G is s n) (sym (a refl)) m
-misses G is _ _ t none (Broken.pair_missing n m) a b = subst (λ (s : Taking). MissesValue G is s n) (sym (b refl)) m
+misses G is r n t none broken a b =
+    staged_misses G is r n t (λ e. none r n e broken) (staged G is r n broken) a b
+
+staged_shown : (G H : Table) (is : List PlainInst) (r : Rule) (n : ℕ) (t : Taking) (e : Evidence)
+    → (stage_of r ≡ of_branches → ⊥) → IsStaged H is r n
+    → (r ≡ A1 → t ≡ Uses) → (r ≡ A2 → t ≡ Pairs) → IsShown G is t n e → IsEvidence G is r n e
+staged_shown G H is _ _ t e none (IsStaged.branches r n f) a b h = absurd (none f)
+staged_shown G H is _ _ t e none (IsStaged.missing n m) a b h =
+    subst (λ (s : Taking). IsShown G is s n e) (a refl) h
+staged_shown G H is _ _ t e none (IsStaged.pair_missing n m) a b h =
+    subst (λ (s : Taking). IsShown G is s n e) (b refl) h
 
 pub as_rule : (G H : Table) (is : List PlainInst) (r : Rule) (n : ℕ) (t : Taking) (e : Evidence)
     → IsUnbroken (Broken H is) of_branches → Broken H is r n
     → (r ≡ A1 → t ≡ Uses) → (r ≡ A2 → t ≡ Pairs) → IsShown G is t n e → IsEvidence G is r n e
-as_rule G H is _ _ t e none (Broken.no_label n k x op used not) a b h =
-    absurd (none _ n refl (Broken.no_label n k x op used not))
-as_rule G H is _ _ t e none (Broken.to_entry n x m target d en) a b h =
-    absurd (none _ n refl (Broken.to_entry n x m target d en))
-as_rule G H is _ _ t e none (Broken.parents n phi not) a b h = absurd (none _ n refl (Broken.parents n phi not))
-as_rule G H is _ _ t e none (Broken.same_labels n x op u w) a b h =
-    absurd (none _ n refl (Broken.same_labels n x op u w))
-as_rule G H is _ _ t e none (Broken.missing n m) a b h = subst (λ (s : Taking). IsShown G is s n e) (a refl) h
-as_rule G H is _ _ t e none (Broken.pair_missing n m) a b h = subst (λ (s : Taking). IsShown G is s n e) (b refl) h
+as_rule G H is r n t e none broken a b h =
+    staged_shown G H is r n t e (λ f. none r n f broken) (staged H is r n broken) a b h

@@ -7,8 +7,7 @@ use Rattle.spv_module.specs.Example.{small}
 use Rattle.spv_module.specs.Operand.{Id}
 use Rattle.spv_module.specs.declared.fault.Rule.TheVariants.{A1}
 use Rattle.spv_layout.specs.declared.form.Role.TheVariants as role
-use Rattle.spv_layout.specs.Row.{v}
-use Rattle.spv_layout.specs.inner.Row.{T, R}
+use Rattle.spv_layout.specs.inner.Row.{v, T, R}
 use Rattle.spv_branches.specs.Target.{is_label, is_phi, IsOp}
 use Rattle.spv_branches.specs.inner.Target.{is_function}
 use Rattle.spv_branches.specs.Walk.{Next, IsWalk, IsResultAmong}

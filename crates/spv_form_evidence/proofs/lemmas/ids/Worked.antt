@@ -12,8 +12,8 @@ use Rattle.spv_layout.specs.declared.class.Class.TheVariants.{Declaration, Funct
 use Rattle.spv_layout.specs.declared.form.Form.TheVariants as form
 use Rattle.spv_layout.specs.declared.form.Role.{Role}
 use Rattle.spv_layout.specs.declared.form.Role.TheVariants as role
-use Rattle.spv_layout.specs.Row.{row, t, repeated, closed}
-use Rattle.spv_layout.specs.inner.Row.{R}
+use Rattle.spv_layout.specs.Row.{repeated, closed}
+use Rattle.spv_layout.specs.inner.Row.{row, t, R}
 use Rattle.spv_layout.specs.Rows.{rows}
 use Rattle.spv_layout.specs.Shape.{AreOf, Ends, HasForms, IsUse}
 use Rattle.spv_layout.specs.Place.{IsAt, IsOfSection}

@@ -8,8 +8,8 @@ use Rattle.spv_module.specs.declared.opcode.TheConstants as opcode
 use Rattle.spv_layout.specs.declared.class.Class.TheVariants.{Undef, Body, Function, FunctionEnd, Label}
 use Rattle.spv_layout.specs.declared.form.Role.TheVariants as role
 use Rattle.spv_layout.specs.Example.{bare}
-use Rattle.spv_layout.specs.Row.{row, v, closed}
-use Rattle.spv_layout.specs.inner.Row.{T, R}
+use Rattle.spv_layout.specs.Row.{closed}
+use Rattle.spv_layout.specs.inner.Row.{row, v, T, R}
 use Rattle.spv_layout.specs.Rows.{rows}
 use Rattle.spv_layout.specs.Shape.{AreOf, Ends, HasForms, IsUse}
 use Rattle.spv_layout.specs.Place.{IsLast, IsOfFunction, IsDefinition, IsOfSection}

@@ -138,7 +138,7 @@ unsound_breaks G is n i _ (IsUnsound.returns o h) k = no_return is i o h (k.entr
 unsound_breaks G is n i _ (IsUnsound.called x c call e t h) k =
     call_breaks is i call x c e t h (k.entry (entered_opcode i x e))
 unsound_breaks G is n i _ (IsUnsound.unnamed o h) k = h (k.mode o)
-unsound_breaks G is n i _ (IsUnsound.imported o d m) k = (k.linkage o).0 m d
+unsound_breaks G is n i _ (IsUnsound.imported m o d) k = (k.linkage o).0 m d
 unsound_breaks G is n i _ (IsUnsound.missing o d m) k = m ((k.linkage o).1 d)
 
 -- ---- the law

@@ -141,7 +141,7 @@ call_at G is n i _ c (IsUnsound.called x d j e t h) q =
     let r : d ≡ c = cc in
     record { call = j; there = subst (λ (z : ℕ). slice_get is z ≡ Some j) r t; id = x; called = h }
 call_at G is n i _ c (IsUnsound.unnamed o h) q = absurd (let no : part.Unnamed ≡ part.Called c = q in cc)
-call_at G is n i _ c (IsUnsound.imported o d m) q = absurd (let no : part.Imported ≡ part.Called c = q in cc)
+call_at G is n i _ c (IsUnsound.imported m o d) q = absurd (let no : part.Imported m.place ≡ part.Called c = q in cc)
 call_at G is n i _ c (IsUnsound.missing o d m) q = absurd (let no : part.Missing ≡ part.Called c = q in cc)
 
 entry_call : (G : Table) (is : List PlainInst) (n : ℕ) (e : Evidence) (c : ℕ) → IsEvidence G is rule.E2 n e

@@ -13,7 +13,7 @@ use Rattle.spv_layout.specs.Place.{AreFew}
 use Rattle.spv_type_forms.specs.Operands.{ids_in}
 use Rattle.spv_type_forms.specs.Parts.{id_in}
 use Rattle.spv_type_forms.specs.Values.{types_of}
-use Rattle.spv_type_rules.specs.Function.{signature_of, ReturnsAfter, CallsSoundly, CallsTyped, parameter_type_of}
+use Rattle.spv_type_rules.specs.Function.{function_type_in, signature_of, ReturnsAfter, CallsSoundly, CallsTyped, parameter_type_of}
 use Rattle.spv_type_rules.specs.inner.Function.{IsSoundCall}
 use Rattle.spv_evidence.specs.declared.evidence.Evidence.TheVariants as evidence
 use Rattle.spv_evidence.specs.declared.evidence.Side.{Side}
@@ -85,7 +85,7 @@ callable_sound is i c h =
         q ∙ ap Some (s.all ∙ ap (λ r. Id r ∷ map Id s.taken) (sym first) ∙ ap (λ us. Id c.result_type ∷ map Id us) same)
 
 pub call_shows : (G : Table) (is : List PlainInst) (n : ℕ) (i : PlainInst) (c : CallsOne is i) (s : Side) (wanted found : Option ℕ) → i.opcode ≡ opcode.FUNCTION_CALL
-    → CallDiffers is c.function c.result_type c.rest s wanted found → Shows G is n i Y8 (evidence.Mismatch s wanted found)
+    → CallDiffers is c.function c.result_type c.rest s wanted found → Shows G is n i Y8 (evidence.Mismatch s wanted found (function_type_in c.function))
 call_shows G is n i c s wanted found o (CallDiffers.head _ _ _ f) =
     let xs = ids_in c.rest in
     let calls : Calls is i c.function c.result_type xs = record { callee = c.callee; rest = c.rest; result = rw c.operands refl; operands = rw c.operands refl; defined = c.defined; arguments = refl } in

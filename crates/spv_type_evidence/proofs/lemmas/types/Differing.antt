@@ -40,7 +40,7 @@ few_parameters is d t os xs f e g =
     omega (arith, long)
 
 pub function_shows : (G : Table) (is : List PlainInst) (n r : ℕ) (i : PlainInst) (s : Side) (wanted found : Option ℕ) (count : ℕ) → i.opcode ≡ opcode.FUNCTION → Some r ≡ type_in i.operands → parameters_after is n ≡ count
-    → Differs is i r count s wanted found → Shows G is n i Y6 (evidence.Mismatch s wanted found)
+    → Differs is i r count s wanted found → Shows G is n i Y6 (evidence.Mismatch s wanted found (function_type_in i))
 function_shows G is n r i s wanted found count o t e f = Shows.function r s wanted found o (sym t) (subst (λ m. Differs is i r m s wanted found) (sym e) f)
 
 pub no_difference : (is : List PlainInst) (d : PlainInst) (r count t : ℕ) (os : List Plain) (xs : List Operand) → Some os ≡ signature_of is d → os ≡ Id t ∷ plain_operands xs → t ≡ r → length xs ≡ count

@@ -20,7 +20,8 @@ use Rattle.spv_type_rules.specs.declared.declaration.Declaration.{Declaration}
 use Rattle.spv_type_rules.specs.Declaration.{declaration_of, DeclaresSoundly, IsLength, IsPointerAfter}
 use Rattle.spv_type_rules.specs.Asked.{IsIntWidth, IsFloatWidth, IsVectorCount, IsPointee, IsReturned}
 use Rattle.spv_type_rules.specs.inner.Declaration.{IsSoundDeclaration}
-use Rattle.spv_type_evidence.specs.types.Declaration.{AsksData, Asks, IsScalar}
+use Rattle.spv_type_evidence.specs.types.Beside.{IsDefinedBy}
+use Rattle.spv_type_evidence.specs.types.Declaration.{AsksData, Asks, IsScalar, condition_at}
 use Rattle.spv_type_evidence.specs.types.inner.Operands.{int_in, float_in, vector_in, array_in, pointee_in, forward_in, members_in, signature_in}
 use Rattle.spv_type_evidence.proofs.lemmas.types.Repeating.{operand_there}
 use Rattle.spv_type_evidence.specs.types.inner.First.{IsFirstOf}
@@ -221,5 +222,5 @@ pub declaration_sound : (is : List PlainInst) (n : ℕ) (i : PlainInst) (d : Dec
 declaration_sound is n i d e h = subst (λ o. MatchOption o (Unit {0}) (λ c. DeclaresSoundly is n c i.operands)) e (asks_declares is n d i.operands h)
 
 pub declaration_shows : (G : Table) (is : List PlainInst) (n k : ℕ) (i : PlainInst) (d : Declaration) → Some d ≡ declaration_of i.opcode → IsFirstOf (Asks is n d i.operands) (Some k)
-    → Shows G is n i Y2 (evidence.Operand k)
-declaration_shows G is n k i d e h = Shows.declaration k (record { kind = d; declares = sym e; fails = h.0; before = h.1 })
+    → (m : Option ℕ) → IsDefinedBy is i (Some k) m → Shows G is n i Y2 (evidence.Condition (condition_at d k) (Some k) m None None [])
+declaration_shows G is n k i d e h m by = Shows.declaration k m (record { kind = d; declares = sym e; fails = h.0; before = h.1 }) by

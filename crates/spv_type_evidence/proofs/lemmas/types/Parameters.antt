@@ -9,7 +9,7 @@ use Rattle.spv_module.specs.declared.module.Inst.{Inst}
 use Rattle.spv_module.specs.declared.fault.Rule.TheVariants.{Y6}
 use Rattle.spv_module.specs.declared.opcode.TheConstants as opcode
 use Rattle.spv_type_rules.specs.inner.Found.{IsOfOne}
-use Rattle.spv_type_rules.specs.Function.{parameter_count, parameters_between, parameter_type_of}
+use Rattle.spv_type_rules.specs.Function.{function_type_in, parameter_count, parameters_between, parameter_type_of}
 use Rattle.spv_type_rules.specs.inner.Function.{IsSoundParameter}
 use Rattle.spv_evidence.specs.declared.evidence.Evidence.TheVariants as evidence
 use Rattle.spv_evidence.specs.declared.evidence.Side.TheVariants as side
@@ -28,7 +28,7 @@ between is xs f n k e l q =
     ap parameter_count (a ∙ b ∙ c) ∙ sym q
 
 pub parameter_shows : (G : Table) (is : List PlainInst) (n f k : ℕ) (i d : PlainInst) (o p : Option ℕ) → i.opcode ≡ opcode.FUNCTION_PARAMETER → (t : IsTypedParameter is n i) → IsOfOne is n f d → parameters_between is f n ≡ k
-    → o ≡ parameter_type_of is d k → p ≡ type_in i.operands → ¬ (IsSoundParameter is n i) → Shows G is n i Y6 (evidence.Mismatch (side.Parameter k) o p)
+    → o ≡ parameter_type_of is d k → p ≡ type_in i.operands → ¬ (IsSoundParameter is n i) → Shows G is n i Y6 (evidence.Mismatch (side.Parameter k) o p (function_type_in d))
 parameter_shows G is n f k i d o p op t one place due found never =
     let e : p ≡ Some t.found = found ∙ t.typed in
     let it : IsParameter is n i k o t.found = record { number = f; function = d; of = record { of = one.of; there = one.there }; place = place; wanted = sym due; found = t.typed } in

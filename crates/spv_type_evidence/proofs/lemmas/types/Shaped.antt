@@ -15,9 +15,8 @@ use Rattle.spv_layout.specs.declared.form.Role.{Role}
 use Rattle.spv_layout.specs.declared.form.Role.TheVariants as role
 use Rattle.spv_layout.specs.declared.form.Named.TheVariants as kind_of
 use Rattle.spv_layout.specs.Place.{operand_words, word_count}
-use Rattle.spv_layout.specs.Row.{PlainRow, row, closed, repeated, t, v, f}
-use Rattle.spv_layout.specs.inner.Row.{kind}
-use Rattle.spv_layout.specs.inner.Row.{T, R}
+use Rattle.spv_layout.specs.Row.{PlainRow, closed, repeated}
+use Rattle.spv_layout.specs.inner.Row.{row, t, v, f, kind, T, R}
 use Rattle.spv_layout.specs.Rows.{rows, row_of}
 use Rattle.spv_layout.specs.Shape.{is_of, AreOf, Ends, HasForms, FitsShape, IsUse}
 use Rattle.spv_layout.proofs.Shapes.{are_moved, rows_same, no_operands}

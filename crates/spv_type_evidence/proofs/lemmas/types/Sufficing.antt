@@ -1,6 +1,8 @@
 -- What is evidence for a rule shows that the rule is broken.
-use Rattle.std.proofs.Common.{◌≡◌, ◌≢◌, ◌∙◌, ◌+◌, ℕ, zero, suc, List, [], ◌∷◌, Option, Some, None, inl, inr, refl, sym, ap, subst, length, map, take, option_and_then, option_map, arith}
+use Rattle.std.proofs.Common.{◌≡◌, ◌≢◌, ◌∙◌, ◌+◌, ◌++◌, ℕ, zero, suc, List, [], ◌∷◌, Option, Some, None, inl, inr, refl, sym, ap, subst, length, map, take, option_and_then, option_map, arith}
 use Rattle.std.specs.Prelude.{slice_get, IsSomeAnd}
+use Rattle.std.specs.List.{AllByRecursion}
+use Rattle.std.proofs.lemmas.List.{length-map}
 use Rattle.spv_table.specs.Table.{Table}
 use Rattle.spv_module.specs.Operand.{Plain, Id, PlainInst, type_in}
 use Rattle.spv_module.specs.Width.{type_of}
@@ -10,7 +12,7 @@ use Rattle.spv_layout.proofs.Places.{function_same}
 use Rattle.spv_layout.proofs.Shapes.{forms_same}
 use Rattle.spv_type_forms.specs.declared.form.Form.TheVariants as form
 use Rattle.spv_type_forms.specs.Form.{form_of}
-use Rattle.spv_type_forms.specs.Operands.{ids_in, after_head}
+use Rattle.spv_type_forms.specs.Operands.{ids_in, after_head, result_type_in}
 use Rattle.spv_type_forms.specs.Parts.{id_in}
 use Rattle.spv_ops.specs.Typed.{Typed, IsTyped}
 use Rattle.spv_type_forms.specs.Values.{AreValues, types_of, used_in}
@@ -24,7 +26,14 @@ use Rattle.spv_evidence.specs.declared.evidence.Side.{Side}
 use Rattle.spv_type_evidence.specs.types.Declaration as declarations
 use Rattle.spv_type_evidence.specs.types.Constant as constants
 use Rattle.spv_type_evidence.specs.types.Function.{Differs, IsOf, IsParameter, ReturnsFrom, Calls, IsArgument}
-use Rattle.spv_type_evidence.specs.types.Evidence.{Shows, IsEvidence}
+use Rattle.spv_ops.specs.Row.{row_of}
+use Rattle.spv_type_evidence.specs.declared.types.asked.Asked.{Asked}
+use Rattle.spv_type_evidence.specs.declared.types.asked.Value.{Value}
+use Rattle.spv_type_evidence.specs.types.Beside.{types_in}
+use Rattle.spv_type_evidence.specs.types.Condition.{FailsFirst}
+use Rattle.spv_type_evidence.specs.types.Conditions.{conditions_of}
+use Rattle.spv_type_evidence.proofs.lemmas.types.Conditioned.{row_conditions}
+use Rattle.spv_type_evidence.specs.types.Evidence.{Shows, IsEvidence, HoldsAt}
 use Rattle.spv_type_evidence.proofs.lemmas.types.Declaring.{declares_asks}
 use Rattle.spv_type_evidence.proofs.lemmas.types.Making.{makes_asks}
 
@@ -50,6 +59,19 @@ types_broken G is n i xs us a t never h =
     let types : Some h.1 ≡ Some us = sym h.3 ∙ ap (types_of is) ids ∙ t in
     let same : h.1 ≡ us = cc in
     never (subst (λ ts. Typed is n i ts) same h.4)
+
+-- a condition that fails
+among : (P : Asked → Type 0) (before after : List Asked) (a : Asked) → AllByRecursion P (before ++ a ∷ after) → P a
+among P [] after a h = h.0
+among P (b ∷ before) after a h = among P before after a h.1
+
+first_breaks : (is : List PlainInst) (n : ℕ) (i : PlainInst) (vs : List Value) (a : Asked) → FailsFirst (HoldsAt is n i vs) (conditions_of (row_of i.opcode) (length vs)) a → ¬ (Typed is n i (types_in vs))
+first_breaks is n i vs a f h =
+    let all = row_conditions is n i (row_of i.opcode) (result_type_in i.operands) (types_in vs) h in
+    let here : AllByRecursion (HoldsAt is n i vs) (conditions_of (row_of i.opcode) (length vs)) =
+    subst (λ m. AllByRecursion (HoldsAt is n i vs) (conditions_of (row_of i.opcode) m)) (length-map vs (λ (v : Value). v.of)) all
+    in
+    f.fails (among (HoldsAt is n i vs) f.before f.after a (subst (AllByRecursion (HoldsAt is n i vs)) f.all here))
 
 -- The function that an instruction is of.
 
@@ -169,11 +191,12 @@ argument_broken is i d r xs k t u c g not h =
     not cc
 
 shows_broken : (G : Table) (is : List PlainInst) (n : ℕ) (i : PlainInst) (r : Rule) (e : Evidence) → Shows G is n i r e → Keeps (IsTyped G is) is r n i → ⊥
-shows_broken G is n i _ _ (Shows.declaration k f) h = declaration_broken is n k i f h
+shows_broken G is n i _ _ (Shows.declaration k m f by) h = declaration_broken is n k i f h
 shows_broken G is n i _ _ (Shows.again r) h = h r
-shows_broken G is n i _ _ (Shows.constant k f) h = constant_broken is k i f h
-shows_broken G is n i _ _ (Shows.types vs bound t never) (inl free) = bound free
-shows_broken G is n i _ _ (Shows.types vs bound t never) (inr h) = types_broken G is n i (map (λ v. v.value) vs) (map (λ v. v.of) vs) t.values t.types never h
+shows_broken G is n i _ _ (Shows.constant k m f by) h = constant_broken is k i f h
+shows_broken G is n i _ _ (Shows.operation vs a m bound t f by) (inl free) = bound free
+shows_broken G is n i _ _ (Shows.operation vs a m bound t f by) (inr h) =
+    types_broken G is n i (map (λ v. v.id) vs) (types_in vs) t.values t.types (first_breaks is n i vs a f) h
 shows_broken G is n i _ _ (Shows.function r s wanted found o t f) h = function_broken is i (type_in i.operands) r _ s wanted found t f (h.function o)
 shows_broken G is n i _ _ (Shows.parameter k t due o p not) h = parameter_broken is n k t i due p not (h.parameter o)
 shows_broken G is n i _ _ (Shows.nothing r o f not) h = nothing_broken is n r f not (h.nothing o)

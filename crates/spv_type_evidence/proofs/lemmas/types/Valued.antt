@@ -1,8 +1,9 @@
 -- The value operands of an instruction, one by one.
 use Rattle.std.proofs.Common.{◌≡◌, ◌∙◌, ◌<◌, ◌≤◌, ◌+◌, ◌++◌, inl, inr, ℕ, zero, suc, List, [], ◌∷◌, Option, Some, None, true, false, refl, sym, ap, subst, length, map, drop, arith, option_and_then, option_map, append_assoc}
 use Rattle.std.specs.Prelude.{slice_get, option_to_list}
+use Rattle.std.specs.List.{AllByRecursion}
 use Rattle.std.proofs.lemmas.Option.{none-some}
-use Rattle.std.proofs.lemmas.List.{drop_all, map-append, append-nil}
+use Rattle.std.proofs.lemmas.List.{drop_all, map-append, append-nil, length-append, length-map}
 use Rattle.spv_table.specs.Table.{Table}
 use Rattle.spv_module.specs.Operand.{Plain, PlainInst}
 use Rattle.spv_module.specs.Operand as operand
@@ -16,10 +17,18 @@ use Rattle.spv_layout.specs.Shape.{is_of, AreOf, HasForms, FitsShape, IsUse, IsR
 use Rattle.spv_layout.proofs.Shapes.{forms_same, use_same}
 use Rattle.spv_type_forms.specs.Parts.{id_in}
 use Rattle.spv_type_forms.specs.Operands.{result_type_in}
-use Rattle.spv_ops.specs.Typed.{IsTyped}
+use Rattle.spv_ops.specs.Typed.{IsTyped, Typed}
 use Rattle.spv_type_forms.specs.Values.{types_of, value_in, used_in}
 use Rattle.spv_evidence.specs.declared.evidence.Evidence.TheVariants as evidence
-use Rattle.spv_evidence.specs.declared.evidence.Typed.{Typed}
+use Rattle.spv_ops.specs.Row.{row_of}
+use Rattle.spv_type_evidence.specs.declared.types.asked.Asked.{Asked}
+use Rattle.spv_type_evidence.specs.declared.types.asked.Asked.TheVariants as asked
+use Rattle.spv_type_evidence.specs.declared.types.asked.Value.{Value}
+use Rattle.spv_type_evidence.specs.types.Beside.{IsDefinedBy, types_in, condition_in, operand_in, wanted_in, found_in, read_in}
+use Rattle.spv_type_evidence.specs.types.Condition.{Holds, FailsFirst}
+use Rattle.spv_type_evidence.specs.types.Conditions.{conditions_of}
+use Rattle.spv_type_evidence.specs.types.inner.Failing.{HoldsOf}
+use Rattle.spv_type_evidence.proofs.lemmas.types.Conditioned.{conditions_row}
 use Rattle.spv_type_evidence.specs.types.Evidence.{AreTyped, Shows}
 use Rattle.spv_type_evidence.specs.types.inner.Known.{IsKnown}
 use Rattle.spv_type_evidence.specs.types.inner.Values.{is_value, IsValueAt, IsTypeable, AreSoFar}
@@ -117,29 +126,54 @@ types_push is (y ∷ xs) us x u e t = one (λ ts h. types_push is xs ts x u h t)
   one rest (Some v) None a b = cc
   one rest (Some v) (Some ts) a b = let list : v ∷ ts ≡ us = cc in rw (← list, rest ts a) refl
 
-pub one_more : (is : List PlainInst) (i : PlainInst) (k x u : ℕ) (vs : List Typed) → k < length i.operands → ((G : Table) → FitsShape G i → IsValueAt G i k (Some x)) → type_of is x ≡ Some u → AreSoFar is i k vs
-    → AreSoFar is i (k + 1) (vs ++ (record { value = x; of = u } ∷ []))
-one_more is i k x u vs l told t a =
-    let v : Typed = record { value = x; of = u } in
+-- the operand of a value
+is_one : (f : Form) (o : Plain) (x : ℕ) → value_in f o ≡ x ∷ [] → (f ≡ form.Id role.Value) × (o ≡ operand.Id x)
+is_one (form.Id role.Value) (operand.Id y) x e = let same : y ≡ x = cc in (refl, ap operand.Id same)
+is_one (form.Id role.Value) _ x e = cc
+is_one _ o x e = let none : [] ≡ x ∷ [] = e in cc
+
+value_there : (H : Table) (is : List PlainInst) (i : PlainInst) (k x : ℕ) → IsTypeable H is i → k < length i.operands → ((G : Table) → FitsShape G i → IsValueAt G i k (Some x))
+    → slice_get i.operands k ≡ Some (operand.Id x)
+value_there H is i k x t l told =
+    let o = item i.operands k l in
+    let f = form_there H t.forms i.operands k o.0 t.has.each o.1 in
+    let e = told H (record { forms = t.forms; has = t.has }) t.forms t.has f.0 o.0 f.1 o.1 in
+    o.1 ∙ ap Some (is_one f.0 o.0 x e).1
+
+all_push : (P : Value → Type 0) (vs : List Value) (v : Value) → AllByRecursion P vs → P v → AllByRecursion P (vs ++ (v ∷ []))
+all_push P [] v h p = (p, tt)
+all_push P (w ∷ vs) v h p = (h.0, all_push P vs v h.1 p)
+
+pub one_more : (H : Table) (is : List PlainInst) (i : PlainInst) (k x u : ℕ) (vs : List Value) → IsTypeable H is i → k < length i.operands → ((G : Table) → FitsShape G i → IsValueAt G i k (Some x))
+    → type_of is x ≡ Some u → AreSoFar is i k vs → AreSoFar is i (k + 1) (vs ++ (record { operand = k; id = x; of = u } ∷ []))
+one_more H is i k x u vs t l told typed a =
+    let v : Value = record { operand = k; id = x; of = u } in
     record {
       rest = λ G fs has.
           let o = item i.operands k l in
           let f = form_there G fs i.operands k o.0 has.each o.1 in
           let e = told G (record { forms = fs; has = has }) fs has f.0 o.0 f.1 o.1 in
-          rw (map-append (λ (w : Typed). w.value) vs (v ∷ [])) (next_used fs i.operands k f.0 o.0 (map (λ (w : Typed). w.value) vs) (x ∷ []) f.1 o.1 e (a.rest G fs has));
-      types = rw (map-append (λ (w : Typed). w.value) vs (v ∷ []), map-append (λ (w : Typed). w.of) vs (v ∷ [])) (types_push is (map (λ (w : Typed). w.value) vs) (map (λ (w : Typed). w.of) vs) x u a.types t);
+          rw (map-append (λ (w : Value). w.id) vs (v ∷ [])) (next_used fs i.operands k f.0 o.0 (map (λ (w : Value). w.id) vs) (x ∷ []) f.1 o.1 e (a.rest G fs has));
+      types = rw (map-append (λ (w : Value). w.id) vs (v ∷ []), map-append (λ (w : Value). w.of) vs (v ∷ [])) (types_push is (map (λ (w : Value). w.id) vs) (map (λ (w : Value). w.of) vs) x u a.types typed);
+      few =
+          let l = length-append vs (v ∷ []) in
+          let m = a.few in
+          omega arith;
+      each = all_push (λ (w : Value). slice_get i.operands w.operand ≡ Some (operand.Id w.id)) vs v a.each (value_there H is i k x t l told);
     }
 
-pub none_more : (is : List PlainInst) (i : PlainInst) (k : ℕ) (vs : List Typed) → k < length i.operands → ((G : Table) → FitsShape G i → IsValueAt G i k None) → AreSoFar is i k vs → AreSoFar is i (k + 1) vs
+pub none_more : (is : List PlainInst) (i : PlainInst) (k : ℕ) (vs : List Value) → k < length i.operands → ((G : Table) → FitsShape G i → IsValueAt G i k None) → AreSoFar is i k vs → AreSoFar is i (k + 1) vs
 none_more is i k vs l told a = record {
   rest = λ G fs has.
       let o = item i.operands k l in
       let f = form_there G fs i.operands k o.0 has.each o.1 in
       let e = told G (record { forms = fs; has = has }) fs has f.0 o.0 f.1 o.1 in
-      let done = map (λ (w : Typed). w.value) vs in
+      let done = map (λ (w : Value). w.id) vs in
       let next = next_used fs i.operands k f.0 o.0 done [] f.1 o.1 e (a.rest G fs has) in
       subst (λ ys. ys ++ used_in (drop (k + 1) fs) (drop (k + 1) i.operands) ≡ used_in fs i.operands) (append-nil done) next;
   types = a.types;
+  few = let m = a.few in omega arith;
+  each = a.each;
 }
 
 no_more : (fs : List Form) (os : List Plain) → os ≡ [] → used_in fs os ≡ []
@@ -147,12 +181,12 @@ no_more [] os e = refl
 no_more (f ∷ fs) [] e = refl
 no_more (f ∷ fs) (o ∷ os) e = cc
 
-pub all_typed : (is : List PlainInst) (i : PlainInst) (k : ℕ) (vs : List Typed) → length i.operands ≤ k → AreSoFar is i k vs → (G : Table) → FitsShape G i → AreTyped G is i vs
+pub all_typed : (is : List PlainInst) (i : PlainInst) (k : ℕ) (vs : List Value) → length i.operands ≤ k → AreSoFar is i k vs → (G : Table) → FitsShape G i → AreTyped G is i vs
 all_typed is i k vs l a G fits =
-    let done = map (λ (w : Typed). w.value) vs in
+    let done = map (λ (w : Value). w.id) vs in
     let none : used_in (drop k fits.forms) (drop k i.operands) ≡ [] = no_more (drop k fits.forms) (drop k i.operands) (drop_all k i.operands l) in
     let all : done ++ [] ≡ used_in fits.forms i.operands = subst (λ ys. done ++ ys ≡ used_in fits.forms i.operands) none (a.rest G fits.forms fits.has) in
-    record { values = record { forms = fits.forms; has = fits.has; values = sym all ∙ append-nil done }; types = a.types }
+    record { values = record { forms = fits.forms; has = fits.has; values = sym all ∙ append-nil done }; types = a.types; each = a.each }
 
 -- a value has a type
 pub value_typed : (G : Table) (is : List PlainInst) (i : PlainInst) (k x : ℕ) → IsTypeable G is i → k < length i.operands → ((H : Table) → FitsShape H i → IsValueAt H i k (Some x)) → type_of is x ≡ None → ⊥
@@ -164,20 +198,58 @@ value_typed G is i k x t l told none =
     let u = t.each k x (f.1 ∙ ap Some s.0) (o.1 ∙ ap Some s.1) in
     let v = u.1 in
     cc
-  where
-    is_one : (f : Form) (o : Plain) (x : ℕ) → value_in f o ≡ x ∷ [] → (f ≡ form.Id role.Value) × (o ≡ operand.Id x)
-    is_one (form.Id role.Value) (operand.Id y) x e = let same : y ≡ x = cc in (refl, ap operand.Id same)
-    is_one (form.Id role.Value) _ x e = cc
-    is_one _ o x e = let none : [] ≡ x ∷ [] = e in cc
 
 pub typeable_at : (G : Table) (is : List PlainInst) (n : ℕ) (i : PlainInst) → IsKnown G is → slice_get is n ≡ Some i → IsTypeable G is i
 typeable_at G is n i known at =
     let fits = known.fits n i at in
     record { forms = fits.forms; has = fits.has; each = typeable G is n i fits.forms known at fits.has }
 
-pub types_show : (G : Table) (is : List PlainInst) (n : ℕ) (i : PlainInst) (r : Option ℕ) (vs : List Typed) → r ≡ result_type_in i.operands → AreTyped G is i vs → ¬ (IsTyped G is n i)
-    → Shows G is n i Y5 (evidence.Types r vs)
-types_show G is n i r vs e a never =
-    rw e (
-    Shows.types vs (λ free. never (inl free)) a (λ t.
-    never (inr (map (λ (w : Typed). w.value) vs, map (λ (w : Typed). w.of) vs, a.values, a.types, t))))
+-- A condition, where the row does not hold.
+
+held : (is : List PlainInst) (R : Type 0) (r : Option ℕ) (ts : List ℕ) (a : Asked) → Holds is ⊥ r ts a → Holds is R r ts a
+held is R r ts (asked.Operands b n) h = h
+held is R r ts (asked.Kind k s) h = h
+held is R r ts (asked.Relation q s t) h = h
+held is R r ts asked.Row h = absurd h
+
+not_held : (is : List PlainInst) (R : Type 0) (r : Option ℕ) (ts : List ℕ) (a : Asked) → ¬ R → Holds is R r ts a → Holds is ⊥ r ts a
+not_held is R r ts (asked.Operands b n) never h = h
+not_held is R r ts (asked.Kind k s) never h = h
+not_held is R r ts (asked.Relation q s t) never h = h
+not_held is R r ts asked.Row never h = never h
+
+all_held : (is : List PlainInst) (R : Type 0) (r : Option ℕ) (ts : List ℕ) (qs : List Asked) → AllByRecursion (Holds is ⊥ r ts) qs → AllByRecursion (Holds is R r ts) qs
+all_held is R r ts [] h = tt
+all_held is R r ts (a ∷ qs) h = (held is R r ts a h.0, all_held is R r ts qs h.1)
+
+first_moved : (is : List PlainInst) (R : Type 0) (r : Option ℕ) (vs : List Value) (qs : List Asked) (a : Asked) → ¬ R → FailsFirst (HoldsOf is r vs) qs a → FailsFirst (Holds is R r (types_in vs)) qs a
+first_moved is R r vs qs a never f = record {
+  before = f.before;
+  after = f.after;
+  all = f.all;
+  hold = all_held is R r (types_in vs) f.before f.hold;
+  fails = λ h. f.fails (not_held is R r (types_in vs) a never h);
+}
+
+-- the types are not those of the row
+pub not_row : (G : Table) (is : List PlainInst) (n : ℕ) (i : PlainInst) (vs : List Value) → AreTyped G is i vs → ¬ (IsTyped G is n i) → ¬ (Typed is n i (types_in vs))
+not_row G is n i vs a never t = never (inr (map (λ (w : Value). w.id) vs, types_in vs, a.values, a.types, t))
+
+pub all_break : (G : Table) (is : List PlainInst) (n : ℕ) (i : PlainInst) (r : Option ℕ) (vs : List Value) (qs : List Asked) → r ≡ result_type_in i.operands → qs ≡ conditions_of (row_of i.opcode) (length vs) → AreTyped G is i vs
+    → AllByRecursion (HoldsOf is r vs) qs → IsTyped G is n i
+all_break G is n i r vs qs e f a h =
+    let R = Typed is n i (types_in vs) in
+    let here : AllByRecursion (HoldsOf is (result_type_in i.operands) vs) (conditions_of (row_of i.opcode) (length vs)) = rw (← e, ← f) h in
+    let all = all_held is R (result_type_in i.operands) (types_in vs) (conditions_of (row_of i.opcode) (length vs)) here in
+    let count = length-map vs (λ (v : Value). v.of) in
+    let there = subst (λ m. AllByRecursion (Holds is R (result_type_in i.operands) (types_in vs)) (conditions_of (row_of i.opcode) m)) (sym count) all in
+    inr (map (λ (w : Value). w.id) vs, types_in vs, a.values, a.types, conditions_row is n i (row_of i.opcode) (result_type_in i.operands) (types_in vs) there)
+
+pub operation_shows : (G : Table) (is : List PlainInst) (n : ℕ) (i : PlainInst) (r : Option ℕ) (vs : List Value) (qs : List Asked) (a : Asked) (m : Option ℕ) → r ≡ result_type_in i.operands → qs ≡ conditions_of (row_of i.opcode) (length vs)
+    → AreTyped G is i vs → FailsFirst (HoldsOf is r vs) qs a → IsDefinedBy is i (operand_in vs a) m → ¬ (IsTyped G is n i)
+    → Shows G is n i Y5 (evidence.Condition (condition_in a) (operand_in vs a) m (wanted_in r (types_in vs) a) (found_in r (types_in vs) a) (read_in is r (types_in vs) a))
+operation_shows G is n i r vs qs a m e f t first by never =
+    let R = Typed is n i (types_in vs) in
+    let at : FailsFirst (HoldsOf is (result_type_in i.operands) vs) (conditions_of (row_of i.opcode) (length vs)) a = rw (← e, ← f) first in
+    let moved = first_moved is R (result_type_in i.operands) vs (conditions_of (row_of i.opcode) (length vs)) a (not_row G is n i vs t never) at in
+    rw e (Shows.operation vs a m (λ free. never (inl free)) t moved by)

@@ -11,12 +11,15 @@ use Rattle.spv_type_rules.specs.declared.declaration.Declaration.TheVariants as 
 use Rattle.spv_type_rules.specs.Declaration.{declaration_of}
 use Rattle.spv_type_rules.specs.Asked.{IsVectorCount}
 use Rattle.spv_type_rules.specs.Repeat.{Repeats}
+use Rattle.spv_type_rules.specs.Function.{function_type_in}
 use Rattle.spv_type_rules.specs.Example.{again, short_call, function}
 use Rattle.spv_evidence.specs.declared.evidence.Evidence.{Evidence}
 use Rattle.spv_evidence.specs.declared.evidence.Evidence.TheVariants as evidence
 use Rattle.spv_evidence.specs.declared.evidence.Side.{Side}
 use Rattle.spv_evidence.specs.declared.evidence.Side.TheVariants as side
-use Rattle.spv_type_evidence.specs.types.Declaration.{Asks}
+use Rattle.spv_evidence.specs.declared.condition.Condition.{Condition}
+use Rattle.spv_evidence.specs.declared.condition.Condition.TheVariants as condition
+use Rattle.spv_type_evidence.specs.types.Declaration.{Asks, condition_at}
 use Rattle.spv_type_evidence.specs.types.Function.{Differs, Calls}
 use Rattle.spv_type_evidence.specs.types.Evidence.{Shows, IsEvidence}
 use Rattle.spv_type_evidence.specs.types.Example.{vector, with_vector, with_again, with_short_call}
@@ -38,19 +41,20 @@ before_count zero l = (λ e. absurd (omega (arith, e)), λ e. absurd (omega (ari
 before_count (suc zero) l = component_asked
 before_count (suc (suc j)) l = absurd (omega arith)
 
-pub count : (G : Table) → IsEvidence G with_vector rule.Y2 7 (evidence.Operand 2)
+pub count : (G : Table) → IsEvidence G with_vector rule.Y2 7 (evidence.Condition condition.VectorCount (Some 2) None None None [])
 count G = record {
   inst = vector;
   there = refl;
-  shows = Shows.declaration 2 (record { kind = kind.Vector; declares = refl; fails = λ a. not_five (a.1 refl); before = before_count });
+  shows = Shows.declaration 2 None (record { kind = kind.Vector; declares = refl; fails = λ a. not_five (a.1 refl); before = before_count }) refl;
 }
 
-operand_of : (k m : ℕ) → evidence.Operand k ≡ evidence.Operand m → k ≡ m
-operand_of k m e = cc
+operand_of : (c d : Condition) (o p m n w v f g : Option ℕ) (ts us : List ℕ) → evidence.Condition c o m w f ts ≡ evidence.Condition d p n v g us → o ≡ p
+operand_of c d o p m n w v f g ts us e = cc
 
-no_component : (G : Table) (i : PlainInst) (r : Rule) (e : Evidence) → Shows G with_vector 7 i r e → r ≡ rule.Y2 → e ≡ evidence.Operand 1 → i ≡ vector → ⊥
-no_component G i _ _ (Shows.declaration k f) p q same =
-    let one : k ≡ 1 = operand_of k 1 q in
+no_component : (G : Table) (i : PlainInst) (r : Rule) (e : Evidence) → Shows G with_vector 7 i r e → r ≡ rule.Y2 → e ≡ evidence.Condition condition.Scalar (Some 1) (Some 0) None None [] → i ≡ vector → ⊥
+no_component G i _ _ (Shows.declaration k m f by) p q same =
+    let at : Some k ≡ Some 1 = operand_of (condition_at f.kind k) condition.Scalar (Some k) (Some 1) m (Some 0) None None None None [] [] q in
+    let one : k ≡ 1 = cc in
     let declares : Some kind.Vector ≡ Some f.kind = sym (ap (λ (j : PlainInst). declaration_of j.opcode) same) ∙ f.declares in
     let it : kind.Vector ≡ f.kind = cc in
     let asked : Asks with_vector 7 f.kind vector.operands 1 = subst (λ d. Asks with_vector 7 d vector.operands 1) it component_asked in
@@ -58,8 +62,9 @@ no_component G i _ _ (Shows.declaration k f) p q same =
     f.fails here
 no_component G i _ _ _ p q same = cc
 
-pub component : (G : Table) → ¬ (IsEvidence G with_vector rule.Y2 7 (evidence.Operand 1))
-component G v = no_component G v.inst rule.Y2 (evidence.Operand 1) v.shows refl refl (let e : Some vector ≡ Some v.inst = v.there in cc)
+pub component : (G : Table) → ¬ (IsEvidence G with_vector rule.Y2 7 (evidence.Condition condition.Scalar (Some 1) (Some 0) None None []))
+component G v =
+    no_component G v.inst rule.Y2 (evidence.Condition condition.Scalar (Some 1) (Some 0) None None []) v.shows refl refl (let e : Some vector ≡ Some v.inst = v.there in cc)
 
 -- The first instruction, which declares the same type.
 
@@ -94,7 +99,7 @@ second G v = no_second G v.inst rule.Y3 (evidence.Earlier 1) v.shows refl refl (
 called : Calls with_short_call short_call function 1 []
 called = record { callee = 4; rest = []; result = refl; operands = refl; defined = refl; arguments = refl }
 
-pub number : (G : Table) → IsEvidence G with_short_call rule.Y8 7 (evidence.Mismatch side.Number (Some 1) (Some 0))
+pub number : (G : Table) → IsEvidence G with_short_call rule.Y8 7 (evidence.Mismatch side.Number (Some 1) (Some 0) (Some 3))
 number G = record {
   inst = short_call;
   there = refl;
@@ -112,22 +117,22 @@ no_arguments i d r xs c same =
     let rest : [] ≡ c.rest = cc in
     ap ids_in rest ∙ c.arguments
 
-mismatch_side : (s t : Side) (a b c d : Option ℕ) → evidence.Mismatch s a b ≡ evidence.Mismatch t c d → s ≡ t
-mismatch_side s t a b c d e = cc
+mismatch_side : (s t : Side) (a b c d x y : Option ℕ) → evidence.Mismatch s a b x ≡ evidence.Mismatch t c d y → s ≡ t
+mismatch_side s t a b c d x y e = cc
 
-mismatch_found : (s t : Side) (a b c d : Option ℕ) → evidence.Mismatch s a b ≡ evidence.Mismatch t c d → b ≡ d
-mismatch_found s t a b c d e = cc
+mismatch_found : (s t : Side) (a b c d x y : Option ℕ) → evidence.Mismatch s a b x ≡ evidence.Mismatch t c d y → b ≡ d
+mismatch_found s t a b c d x y e = cc
 
-not_one : (G : Table) (i : PlainInst) (r : Rule) (e : Evidence) → Shows G with_short_call 7 i r e → r ≡ rule.Y8 → e ≡ evidence.Mismatch side.Number (Some 0) (Some 1) → i ≡ short_call → ⊥
+not_one : (G : Table) (i : PlainInst) (r : Rule) (e : Evidence) → Shows G with_short_call 7 i r e → r ≡ rule.Y8 → e ≡ evidence.Mismatch side.Number (Some 0) (Some 1) (Some 3) → i ≡ short_call → ⊥
 not_one G i _ _ (Shows.call d r xs s wanted found o c f) p q same =
-    let number = mismatch_side s side.Number wanted found (Some 0) (Some 1) q in
-    let it = mismatch_found s side.Number wanted found (Some 0) (Some 1) q in
+    let number = mismatch_side s side.Number wanted found (Some 0) (Some 1) (function_type_in d) (Some 3) q in
+    let it = mismatch_found s side.Number wanted found (Some 0) (Some 1) (function_type_in d) (Some 3) q in
     let two : Some 1 ≡ Some (length xs) = sym it ∙ found_count d r (length xs) s wanted found f number in
     let none : 0 ≡ length xs = ap (λ (ys : List ℕ). length ys) (no_arguments i d r xs c same) in
     let one : 1 ≡ length xs = cc in
     absurd (omega arith)
-not_one G i _ _ (Shows.argument d r xs k t u o c a not) p q same = let number = mismatch_side (side.Argument k) side.Number (Some t) (Some u) (Some 0) (Some 1) q in cc
+not_one G i _ _ (Shows.argument d r xs k t u o c a not) p q same = let number = mismatch_side (side.Argument k) side.Number (Some t) (Some u) (Some 0) (Some 1) (function_type_in d) (Some 3) q in cc
 not_one G i _ _ _ p q same = cc
 
-pub other_number : (G : Table) → ¬ (IsEvidence G with_short_call rule.Y8 7 (evidence.Mismatch side.Number (Some 0) (Some 1)))
-other_number G v = not_one G v.inst rule.Y8 (evidence.Mismatch side.Number (Some 0) (Some 1)) v.shows refl refl (let e : Some short_call ≡ Some v.inst = v.there in cc)
+pub other_number : (G : Table) → ¬ (IsEvidence G with_short_call rule.Y8 7 (evidence.Mismatch side.Number (Some 0) (Some 1) (Some 3)))
+other_number G v = not_one G v.inst rule.Y8 (evidence.Mismatch side.Number (Some 0) (Some 1) (Some 3)) v.shows refl refl (let e : Some short_call ≡ Some v.inst = v.there in cc)

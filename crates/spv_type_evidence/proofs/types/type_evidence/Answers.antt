@@ -38,12 +38,34 @@ constant_evidence-requires-clause-few c =
     let known = known_of b.0 (plain_insts c.args.module.now) c.new-definitions.result c.args.plan.now c.args.rule c.args.number e c.requires.words b.1 in
     few_parts b.0 c.new-definitions.result c.args.number (plain_inst c.inst-inst.result.now) known c.inst-inst.ensures
 
-pub operation_evidence-requires : goal.operation_evidence-requires
-operation_evidence-requires c =
+pub constant_evidence-requires-clause-ids : goal.constant_evidence-requires-clause-ids
+constant_evidence-requires-clause-ids c =
+    let e : c.new-definitions.result ≡ plain_insts c.args.module.now = c.new-definitions.ensures ∙ ap (λ xs. map plain_inst xs) c.as_slice-insts.ensures.value in
+    subst (λ is. (x : ℕ) → IsDefinitionOf is x (definition_in c.args.ids.now x)) (sym e) c.requires.ids
+
+pub operation_evidence-requires-clause-ids : goal.operation_evidence-requires-clause-ids
+operation_evidence-requires-clause-ids c =
+    let e : c.new-definitions.result ≡ plain_insts c.args.module.now = c.new-definitions.ensures ∙ ap (λ xs. map plain_inst xs) c.as_slice-insts.ensures.value in
+    subst (λ is. (x : ℕ) → IsDefinitionOf is x (definition_in c.args.ids.now x)) (sym e) c.requires.ids
+
+pub operation_evidence-requires-clause-typeable : goal.operation_evidence-requires-clause-typeable
+operation_evidence-requires-clause-typeable c =
     let e : c.new-definitions.result ≡ plain_insts c.args.module.now = c.new-definitions.ensures ∙ ap (λ xs. map plain_inst xs) c.as_slice-insts.ensures.value in
     let b = c.requires.broken in
     let known = known_of b.0 (plain_insts c.args.module.now) c.new-definitions.result c.args.plan.now c.args.rule c.args.number e c.requires.words b.1 in
     (b.0, typeable_at b.0 c.new-definitions.result c.args.number (plain_inst c.inst-inst.result.now) known c.inst-inst.ensures)
+
+pub operation_evidence-requires-clause-broken : goal.operation_evidence-requires-clause-broken
+operation_evidence-requires-clause-broken c =
+    let is = plain_insts c.args.module.now in
+    let js = c.new-definitions.result in
+    let i = plain_inst c.inst-inst.result.now in
+    let e : js ≡ is = c.new-definitions.ensures ∙ ap (λ xs. map plain_inst xs) c.as_slice-insts.ensures.value in
+    let at = c.inst-inst.ensures in
+    let b = c.requires.broken in
+    let fits = fits_at b.0 is js c.args.plan.now c.args.rule c.args.number i e at b.1 in
+    let never = not_typed b.0 is js c.args.plan.now c.args.rule c.args.number i e at c.in-Y5.is b.1 in
+    (b.0, c.args.number, fits, never)
 
 pub evidence_of_function-requires-clause-few : goal.evidence_of_function-requires-clause-few
 evidence_of_function-requires-clause-few c =

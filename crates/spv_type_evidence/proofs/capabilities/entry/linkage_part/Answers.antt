@@ -1,4 +1,6 @@
+use Rattle.std.proofs.Common.{subst}
 use Rattle.std.proofs.lemmas.Bool.{iff_false}
+use Rattle.spv_evidence.specs.declared.evidence.EntryPart.TheVariants as part
 use Rattle.spv_layout.specs.Place.{IsDefinition}
 use Rattle.spv_capabilities.specs.Asked.{IsImported}
 use Rattle.spv_type_evidence.specs.capabilities.Evidence.{IsUnsound}
@@ -8,7 +10,11 @@ use Rattle.spv_type_evidence.proofs.capabilities.entry.linkage_part.Goals as goa
 pub returns-then-is_imported_definition : goal.returns-then-is_imported_definition
 returns-then-is_imported_definition c = λ i o.
     let both = c.is_imported_definition.ensures.0 c.if-is_imported_definition.true in
-    IsUnsound.imported o both.1 both.0
+    let a = c.first_import.ensures in
+    subst (λ m. IsUnsound c.args.survey.now.table c.args.survey.now.insts c.args.number i (part.Imported m)) a.1 (IsUnsound.imported a.0 o both.1)
+
+pub first_import-requires-clause-imported : goal.first_import-requires-clause-imported
+first_import-requires-clause-imported c = (c.is_imported_definition.ensures.0 c.if-is_imported_definition.true).0
 
 pub returns-else-is_imported_definition : goal.returns-else-is_imported_definition
 returns-else-is_imported_definition c = λ i o.

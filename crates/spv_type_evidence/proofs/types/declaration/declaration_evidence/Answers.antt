@@ -19,4 +19,6 @@ returns c = λ G.
     let first : IsFirstOf (Asks c.args.definitions.now c.args.number c.in-Some.declaration i.operands) (Some c.in-Some-first_failing.operand) =
     subst (λ os. IsFirstOf (Asks c.args.definitions.now c.args.number c.in-Some.declaration os) (Some c.in-Some-first_failing.operand)) (ap plain_operands c.as_slice-operands.ensures.value) c.in-Some-first_failing.ensures
     in
-    declaration_shows G c.args.definitions.now c.args.number c.in-Some-first_failing.operand i c.in-Some.declaration c.in-Some.ensures first
+    rw (c.condition_at.ensures, c.from_vec.ensures, c.new.ensures.items) (
+    declaration_shows G c.args.definitions.now c.args.number c.in-Some-first_failing.operand i c.in-Some.declaration c.in-Some.ensures first c.defined_by.result
+    (c.defined_by.ensures c.args.definitions.now c.requires.ids))

@@ -1,11 +1,38 @@
-use Rattle.std.proofs.Common.{◌≡◌, ◌∙◌, ap}
+use Rattle.std.proofs.Common.{◌≡◌, ◌∙◌, ap, length}
+use Rattle.std.specs.List.{AllByRecursion}
 use Rattle.spv_module.specs.Module.{plain_inst, plain_operands}
 use Rattle.spv_type_forms.specs.Operands.{result_type_in}
-use Rattle.spv_type_evidence.proofs.lemmas.types.Valued.{types_show}
+use Rattle.spv_ops.specs.Row.{row_of}
+use Rattle.spv_type_evidence.specs.types.Condition.{FailsFirst}
+use Rattle.spv_type_evidence.specs.types.Conditions.{conditions_of}
+use Rattle.spv_type_evidence.specs.types.Beside.{IsDefinedBy, operand_in}
+use Rattle.spv_type_evidence.specs.types.Evidence.{AreTyped}
+use Rattle.spv_type_evidence.specs.types.inner.Failing.{HoldsOf}
+use Rattle.spv_type_evidence.proofs.lemmas.types.Valued.{all_break, operation_shows}
 use Rattle.spv_type_evidence.proofs.types.operation.operation_evidence.Goals as goal
+
+pub unreachable-requires : goal.unreachable-requires
+unreachable-requires c =
+    let is = c.args.definitions.now in
+    let i = plain_inst c.args.inst.now in
+    let b = c.requires.broken in
+    let vs = c.as_slice-values.result.now in
+    let r : c.result_type-r.result ≡ result_type_in i.operands = c.result_type-r.ensures ∙ ap (λ os. result_type_in (plain_operands os)) c.as_slice.ensures.value in
+    let q : c.in_ok-conditions.conditions.items ≡ conditions_of (row_of i.opcode) (length vs) = c.in_ok-conditions.ensures ∙ ap (λ o. conditions_of o (length vs)) c.row_of.ensures in
+    let t : AreTyped b.0 is i vs = rw c.as_slice-values.ensures.value (c.in_ok-typed.ensures.typed b.0 b.2) in
+    let all : AllByRecursion (HoldsOf is c.result_type-r.result vs) c.in_ok-conditions.conditions.items = rw c.as_slice-2.ensures.value at c.in_default.ensures in
+    b.3 (all_break b.0 is b.1 i c.result_type-r.result vs c.in_ok-conditions.conditions.items r q t all)
 
 pub returns : goal.returns
 returns c = λ G n fits never.
+    let is = c.args.definitions.now in
     let i = plain_inst c.args.inst.now in
-    let r : c.result_type.result ≡ result_type_in i.operands = c.result_type.ensures ∙ ap (λ os. result_type_in (plain_operands os)) c.as_slice.ensures.value in
-    rw c.from_vec.ensures (types_show G c.args.definitions.now n i c.result_type.result c.in_ok-values.values.items r (c.in_ok-values.ensures G fits) never)
+    let vs = c.as_slice-values.result.now in
+    let a = c.in-Some.asked in
+    let r : c.result_type-r.result ≡ result_type_in i.operands = c.result_type-r.ensures ∙ ap (λ os. result_type_in (plain_operands os)) c.as_slice.ensures.value in
+    let q : c.in_ok-conditions.conditions.items ≡ conditions_of (row_of i.opcode) (length vs) = c.in_ok-conditions.ensures ∙ ap (λ o. conditions_of o (length vs)) c.row_of.ensures in
+    let t : AreTyped G is i vs = rw c.as_slice-values.ensures.value (c.in_ok-typed.ensures.typed G fits) in
+    let first : FailsFirst (HoldsOf is c.result_type-r.result vs) c.in_ok-conditions.conditions.items a = rw c.as_slice-2.ensures.value at c.in-Some.ensures in
+    let by : IsDefinedBy is i (operand_in vs a) c.defined_by.result = rw c.operand_in-operand.ensures at c.defined_by.ensures is c.requires.ids in
+    rw (c.operand_in-operand.ensures, c.condition_in.ensures, c.wanted_in.ensures, c.found_in.ensures, c.from_vec.ensures, c.in_ok-types.ensures)
+    (operation_shows G is n i c.result_type-r.result vs c.in_ok-conditions.conditions.items a c.defined_by.result r q t first by never)

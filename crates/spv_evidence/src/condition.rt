@@ -1,0 +1,86 @@
+/// What the type of an operand is to be.
+#[derive(Clone, Copy, PartialEq, Eq)]
+pub enum Kind {
+    /// An int.
+    Int,
+    /// An int of width 32.
+    Int32,
+    /// An int or a float.
+    Number,
+    Bool,
+    /// A data type: an int, float, bool, vector, array, struct or pointer type.
+    Data,
+    /// An int, or a vector of ints.
+    Ints,
+    /// A float, or a vector of floats.
+    Floats,
+    /// A bool, or a vector of bools.
+    Bools,
+    Pointer,
+    /// A pointer of the storage class Function.
+    FunctionPointer,
+    /// A pointer of the storage class Generic.
+    GenericPointer,
+    /// A pointer of the storage class Workgroup, CrossWorkgroup or Function.
+    NamedPointer,
+}
+
+/// How the type of an operand is to stand to another type, the one that is wanted.
+#[derive(Clone, Copy, PartialEq, Eq)]
+pub enum Relation {
+    /// It is that type.
+    Same,
+    /// It has as many components.
+    SameCount,
+    /// Its components have another width.
+    OtherWidth,
+    /// It has as many bits, or both are pointers of one storage class.
+    SameBits,
+    /// It is bool, or a vector of as many bools as that type, a vector, has components.
+    Chooses,
+    /// It is a pointer to that type.
+    PointsTo,
+    /// Both are pointers, to one type.
+    SamePointee,
+    /// It is a vector of that type.
+    VectorOf,
+    /// It is the component type of that vector.
+    ComponentOf,
+}
+
+/// A condition of Y2, Y4 or Y5.
+#[derive(Clone, Copy, PartialEq, Eq)]
+pub enum Condition {
+    /// Of the type of an operand: what it is.
+    Kind(Kind),
+    /// Of the type of an operand: how it stands to another one.
+    Relation(Relation),
+    /// The types and literals are those of the opcode's row (Y5).
+    Row,
+    /// The width of an OpTypeInt is 8, 16, 32 or 64 (Y2).
+    IntWidth,
+    /// The signedness of an OpTypeInt is 0 (Y2).
+    Signedness,
+    /// The width of an OpTypeFloat is 16, 32 or 64 (Y2).
+    FloatWidth,
+    /// The component type of an OpTypeVector is an int, float or bool type (Y2).
+    Scalar,
+    /// The count of an OpTypeVector is 2, 3, 4, 8 or 16 (Y2).
+    VectorCount,
+    /// The length of an OpTypeArray is a constant of int type, 1 at least (Y2).
+    Length,
+    /// What an OpTypePointer points to is a data type or an opaque type (Y2).
+    Pointee,
+    /// What an OpTypeFunction returns is void or a data type (Y2).
+    Returned,
+    /// An OpTypeForwardPointer names a pointer of its storage class that is declared after it (Y2).
+    Forward,
+    /// The operands are those that the declaration has (Y2), or the constant (Y4).
+    Operands,
+    /// The number of an OpConstant fits the width of its type (Y4).
+    FitsWidth,
+    /// There are as many constituents as the type has parts (Y4).
+    Count,
+    /// A constituent is a constant or an OpUndef, of the type of the part at its place (Y4).
+    Constituent,
+}

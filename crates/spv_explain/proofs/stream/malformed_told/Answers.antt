@@ -1,5 +1,0 @@
-use Rattle.spv_fault_lines.proofs.Appending.{in_all}
-use Rattle.spv_explain.proofs.stream.malformed_told.Goals as goal
-
-pub returns-clause-lines : goal.returns-clause-lines
-returns-clause-lines c = in_all _ _ _ c.in_ok-due_lines.ensures

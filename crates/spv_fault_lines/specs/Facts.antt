@@ -1,0 +1,145 @@
+-- What the lines that explain a fault tell, in order: facts of its evidence, in numbers. (Own.)
+use Rattle.std.specs.Prelude.{◌++◌, ◌+◌, ℕ, List, [], ◌∷◌, Option, Some, None, Bool, true, false, nat_eq}
+use Rattle.std.specs.Prelude.{if◌then◌else◌}
+use Rattle.std.specs.List.{list_any}
+use Rattle.spv_table.specs.Lookups.{is_number}
+use Rattle.spv_module.specs.Operand.{PlainInst, result_in}
+use Rattle.spv_module.specs.declared.fault.Rule.{Rule}
+use Rattle.spv_module.specs.declared.fault.Rule.TheVariants.{D1, L2}
+use Rattle.spv_evidence.specs.declared.condition.Condition.{Condition}
+use Rattle.spv_evidence.specs.declared.evidence.Evidence.{Evidence}
+use Rattle.spv_evidence.specs.declared.evidence.Evidence.TheVariants as evidence
+use Rattle.spv_evidence.specs.declared.evidence.Lister.{Lister}
+use Rattle.spv_evidence.specs.declared.evidence.Lister.TheVariants as lister
+use Rattle.spv_evidence.specs.declared.evidence.Side.{Side}
+use Rattle.spv_evidence.specs.declared.evidence.Side.TheVariants as side
+use Rattle.spv_fault_lines.specs.declared.fact.Fact.{Fact}
+use Rattle.spv_fault_lines.specs.declared.fact.Fact.TheVariants as fact
+use Rattle.spv_fault_lines.specs.declared.fact.Place.{Place}
+use Rattle.spv_fault_lines.specs.declared.fact.Thing.{Thing}
+use Rattle.spv_fault_lines.specs.declared.fact.Thing.TheVariants as thing
+use Rattle.spv_fault_lines.specs.Place.{place_of}
+
+-- the first instruction whose result is x, if the first of these has this number
+abbrev pub definition_from : ℕ → ℕ → List PlainInst → Option ℕ
+definition_from x at [] = None
+definition_from x at (i ∷ is) =
+    if is_number x (result_in i.operands) then Some at else definition_from x (at + 1) is
+
+-- an instruction in full, or an id that none defines
+abbrev pub thing_at : Option ℕ → ℕ → Thing
+thing_at None x = thing.Id x
+thing_at (Some n) x = thing.Inst n
+
+-- the first instruction that defines an id
+abbrev pub thing_of : List PlainInst → ℕ → Thing
+thing_of is x = thing_at (definition_from x 0 is) x
+
+-- is an id among those that were told
+abbrev pub is_told : List ℕ → ℕ → Bool
+is_told told x = list_any (nat_eq x) told
+
+-- types, after those that were told: each in full the first time, and then its id alone
+abbrev pub type_facts : List PlainInst → List ℕ → List ℕ → List Fact
+type_facts is told [] = []
+type_facts is told (x ∷ xs) =
+    fact.Type (if is_told told x then thing.Id x else thing_of is x) ∷ type_facts is (x ∷ told) xs
+
+-- operand k of instruction n, the instruction that defines its id, and the types that are compared, where there are such
+abbrev pub operand_facts : ℕ → Option ℕ → List Fact
+operand_facts n None = []
+operand_facts n (Some k) = fact.Operand n k ∷ []
+
+abbrev pub defined_facts : Option ℕ → List Fact
+defined_facts None = []
+defined_facts (Some m) = fact.Defined m ∷ []
+
+abbrev pub wanted_facts : List PlainInst → Option ℕ → List Fact
+wanted_facts is None = []
+wanted_facts is (Some t) = fact.Wanted (thing_of is t) ∷ []
+
+abbrev pub found_facts : List PlainInst → Option ℕ → List Fact
+found_facts is None = []
+found_facts is (Some t) = fact.Found (thing_of is t) ∷ []
+
+-- a condition that fails at instruction n, and where it does; the types that are compared
+abbrev pub failing_facts : ℕ → Condition → Option ℕ → Option ℕ → List Fact
+failing_facts n c k m = fact.Condition c ∷ operand_facts n k ++ defined_facts m
+
+abbrev pub compared_facts : List PlainInst → Option ℕ → Option ℕ → List Fact
+compared_facts is wanted found = wanted_facts is wanted ++ found_facts is found
+
+-- the function type that is asked, if one is
+abbrev pub asked_facts : List PlainInst → Option ℕ → List Fact
+asked_facts is None = []
+asked_facts is (Some t) = fact.Type (thing_of is t) ∷ []
+
+-- one of two things that are to be the same: a count, or a type
+abbrev pub side_thing : List PlainInst → Side → Option ℕ → Thing
+side_thing is s None = thing.Nothing
+side_thing is side.Number (Some n) = thing.Count n
+side_thing is s (Some x) = thing_of is x
+
+-- what lists capabilities, before these
+abbrev pub lister_facts : ℕ → Lister → List Fact
+lister_facts n (lister.Value k) = fact.Operand n k ∷ []
+lister_facts n (lister.Bit k bit) = fact.Operand n k ∷ fact.Bit n k bit ∷ []
+lister_facts n l = []
+
+-- what the evidence at instruction n tells
+abbrev pub evidence_facts : List PlainInst → ℕ → Evidence → List Fact
+evidence_facts is n (evidence.Opcode opcode) = fact.Opcode opcode ∷ []
+evidence_facts is n (evidence.Due opcode k kind) = fact.Opcode opcode ∷ fact.Failing k ∷ fact.Due kind ∷ []
+evidence_facts is n (evidence.Shape opcode known) = fact.Opcode opcode ∷ fact.Row known ∷ []
+evidence_facts is n (evidence.MayCome opcodes end) = fact.MayCome opcodes end ∷ []
+evidence_facts is n (evidence.Operand k) = fact.Operand n k ∷ []
+evidence_facts is n (evidence.Earlier m) = fact.Earlier m ∷ []
+evidence_facts is n (evidence.Defined k m) = fact.Operand n k ∷ fact.Defined m ∷ []
+evidence_facts is n (evidence.Local k m f) = fact.Operand n k ∷ fact.Defined m ∷ fact.LocalTo f ∷ []
+evidence_facts is n (evidence.Miscast k role m) = fact.Operand n k ∷ fact.Role role ∷ fact.Defined m ∷ []
+evidence_facts is n (evidence.Capability c implied) = fact.Capability c implied ∷ []
+evidence_facts is n (evidence.Needs l) = lister_facts n l ++ (fact.NeedsOneOf n l ∷ [])
+evidence_facts is n evidence.NoEntry = fact.NoEntry ∷ []
+evidence_facts is n (evidence.Entry part) = fact.Part part ∷ []
+evidence_facts is n (evidence.Condition c k m wanted found types) =
+    failing_facts n c k m ++ (type_facts is [] types ++ compared_facts is wanted found)
+evidence_facts is n (evidence.Mismatch s wanted found of) = fact.Differs s ∷ asked_facts is of
+    ++ (fact.Wanted (side_thing is s wanted) ∷ fact.Found (side_thing is s found) ∷ [])
+evidence_facts is n (evidence.MissingParent b) = fact.MissingParent b ∷ []
+evidence_facts is n (evidence.NoPredecessor k) = fact.NoPredecessor n k ∷ []
+evidence_facts is n (evidence.Twice k l) = fact.Twice n l ∷ []
+evidence_facts is n (evidence.Walk k m blocks) = fact.Operand n k ∷ fact.Defined m ∷ fact.Walk blocks ∷ []
+evidence_facts is n (evidence.Cycle calls cycle) = fact.Calls calls ∷ fact.Cycle cycle ∷ []
+
+-- the function that a place is of, told in a fact of the place; nothing where it is of none
+abbrev pub place_fact : Option ℕ → Fact → List Fact
+place_fact None f = []
+place_fact (Some function) f = f ∷ []
+
+abbrev pub in_facts : Place → List Fact
+in_facts p = place_fact p.function (fact.In p)
+
+abbrev pub open_facts : Place → List Fact
+open_facts p = place_fact p.function (fact.Open p)
+
+-- L2 is told at the end of a module, and D1 of an id that is 0 or not below the bound
+abbrev pub tells_end : Rule → Bool
+tells_end L2 = true
+tells_end r = false
+
+abbrev pub tells_bound : Rule → Bool
+tells_bound D1 = true
+tells_bound r = false
+
+-- the instruction at which a rule is told, and where it stands; at the end of a module nothing
+abbrev pub first_facts : List PlainInst → Rule → ℕ → List Fact
+first_facts is r n = if tells_end r then [] else fact.At n ∷ in_facts (place_of is n)
+
+-- what comes last: where a module ends too early, what is open; where an id is not below the bound, the bound
+abbrev pub last_facts : ℕ → List PlainInst → Rule → ℕ → List Fact
+last_facts bound is r n = if tells_end r then open_facts (place_of is n)
+    else (if tells_bound r then fact.Bound bound ∷ [] else [])
+
+-- Of a rule that is broken at instruction n, under the bound of ids, with its evidence.
+abbrev pub facts_of : ℕ → List PlainInst → Rule → ℕ → Evidence → List Fact
+facts_of bound is r n e = first_facts is r n ++ (evidence_facts is n e ++ last_facts bound is r n)

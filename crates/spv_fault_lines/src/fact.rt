@@ -1,0 +1,167 @@
+//! What the lines that explain a fault tell, in numbers alone.
+
+use spv_evidence::{Condition, EntryPart, Lister, Role, Side};
+use spv_table::Listed;
+
+/// The function and the block that are open at a place of a module, by the numbers of their OpFunction and OpLabel.
+#[derive(Clone, Copy)]
+pub struct Place {
+    pub function: Option<u32>,
+    pub block: Option<u32>,
+}
+
+/// What is told of a type, or of one of two things that are to be the same.
+#[derive(Clone, Copy)]
+pub enum Thing {
+    /// That there is none.
+    Nothing,
+    /// A count.
+    Count { count: u32 },
+    /// An instruction in full, by its number.
+    Inst { inst: u32 },
+    /// An id alone.
+    Id { id: u32 },
+}
+
+/// What one line tells. Operands and instructions count from 0; a block goes by the number of its OpLabel, and a
+/// function by that of its OpFunction.
+#[derive(Drop)]
+pub enum Fact {
+    /// `at`: the instruction at which the rule is told.
+    At {
+        inst: u32,
+    },
+    /// `in`: the function and the block that it is of.
+    In {
+        place: Place,
+    },
+    /// `open`: the function and the block that are open at the end of the module.
+    Open {
+        place: Place,
+    },
+    /// `words`: words of an instruction, and whether it has others before or after these.
+    Words {
+        before: bool,
+        words: Listed<u32>,
+        after: bool,
+    },
+    /// `word`: the word that fails, by its place in the instruction, and its value if the module has it.
+    Word {
+        offset: u32,
+        word: Option<u32>,
+    },
+    /// `opcode`: an opcode.
+    Opcode {
+        opcode: u16,
+    },
+    /// `row`: whether the opcode has a row in the table of shapes.
+    Row {
+        known: bool,
+    },
+    /// `may come`: the opcodes that may come, and whether the module may end.
+    MayCome {
+        opcodes: Listed<u32>,
+        end: bool,
+    },
+    /// `operand`: an operand of an instruction.
+    Operand {
+        inst: u32,
+        operand: u32,
+    },
+    /// `operand`, of words that spell no instruction: its number alone.
+    Failing {
+        operand: u32,
+    },
+    /// `due`: the kind that is due there, by its number.
+    Due {
+        kind: Option<u32>,
+    },
+    /// `bound`: the bound of ids.
+    Bound {
+        bound: u32,
+    },
+    /// `defined`: the instruction that defines an operand's id.
+    Defined {
+        inst: u32,
+    },
+    /// `local to`: the function that a definition is local to.
+    LocalTo {
+        function: u32,
+    },
+    /// `role`: the role that is asked for.
+    Role {
+        role: Role,
+    },
+    /// `earlier`: an earlier instruction with the same result, or an earlier type.
+    Earlier {
+        inst: u32,
+    },
+    /// `implied` or `not implied`: a capability.
+    Capability {
+        capability: u32,
+        implied: bool,
+    },
+    /// `bit`: a bit of an operand that is a mask, by its value.
+    Bit {
+        inst: u32,
+        operand: u32,
+        bit: u32,
+    },
+    /// `needs one of`: the capabilities that are listed.
+    NeedsOneOf {
+        inst: u32,
+        lister: Lister,
+    },
+    /// `missing`: that there is no entry point.
+    NoEntry,
+    /// `part`, `called` or `imported`: the part of E2 that is broken.
+    Part {
+        part: EntryPart,
+    },
+    /// `condition`: the condition that fails.
+    Condition {
+        condition: Condition,
+    },
+    /// `type`: a type.
+    Type {
+        thing: Thing,
+    },
+    /// `place`, `parameter` or `argument`: where two things are to be the same.
+    Differs {
+        side: Side,
+    },
+    /// `wanted`: what is to stand there.
+    Wanted {
+        thing: Thing,
+    },
+    /// `found`: what stands there.
+    Found {
+        thing: Thing,
+    },
+    /// `missing parent`: a predecessor that no pair names.
+    MissingParent {
+        block: u32,
+    },
+    /// `no predecessor`: an operand that names no predecessor.
+    NoPredecessor {
+        inst: u32,
+        operand: u32,
+    },
+    /// `twice`: an operand that names a parent again.
+    Twice {
+        inst: u32,
+        operand: u32,
+    },
+    /// `walk`: the blocks of a walk.
+    Walk {
+        blocks: Listed<u32>,
+    },
+    /// `calls`: the functions of a chain of calls.
+    Calls {
+        functions: Listed<u32>,
+    },
+    /// `cycle`: the functions of a cycle, the caller last.
+    Cycle {
+        functions: Listed<u32>,
+    },
+}

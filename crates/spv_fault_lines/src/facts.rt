@@ -1,0 +1,431 @@
+//! The facts of evidence.
+ghost use Rattle.std.specs.Prelude.{◌≡◌, ◌++◌, [], ◌∷◌, IfOk, OnOk};
+ghost use Rattle.spv_module.specs.Module.{plain_insts};
+ghost use Rattle.spv_layout.specs.Place.{AreFew};
+ghost use Rattle.spv_fault_lines.specs.Facts as lists;
+ghost use Rattle.spv_fault_lines.specs.inner.Parts as parts;
+ghost use Rattle.spv_fault_lines.specs.declared.fact.Fact.TheVariants as kinds;
+
+use crate::about::About;
+use crate::fact::{Fact, Place};
+use spv_evidence::{Condition, Evidence, Lister};
+use spv_module::Rule;
+use std::alloc::AllocError;
+
+/// Adds a fact.
+pub fn push_one(facts: &mut Vec<Fact>, fact: Fact) -> Result<(), AllocError>
+    ensures { OnOk result (facts.new.items ≡ facts.old.items ++ (fact ∷ [])) }
+{
+    facts.push(fact)?;
+    Ok(())
+}
+
+/// Adds two facts.
+fn push_two(facts: &mut Vec<Fact>, first: Fact, second: Fact) -> Result<(), AllocError>
+    ensures { OnOk result (facts.new.items ≡ facts.old.items ++ (first ∷ second ∷ [])) }
+{
+    push_one(facts, first)?;
+    push_one(facts, second)
+}
+
+/// Adds three facts.
+fn push_three(
+    facts: &mut Vec<Fact>,
+    first: Fact,
+    second: Fact,
+    third: Fact,
+) -> Result<(), AllocError>
+    ensures { OnOk result (facts.new.items ≡ facts.old.items ++ (first ∷ second ∷ third ∷ [])) }
+{
+    push_two(facts, first, second)?;
+    push_one(facts, third)
+}
+
+/// Adds what lists capabilities, and those.
+fn push_needs(facts: &mut Vec<Fact>, inst: u32, lister: Lister) -> Result<(), AllocError>
+    ensures { OnOk result (facts.new.items ≡ facts.old.items ++ (lists.lister_facts inst lister
+        ++ (kinds.NeedsOneOf inst lister ∷ []))) }
+{
+    match lister {
+        Lister::Entry | Lister::Width => {}
+        Lister::Value { operand } => push_one(facts, Fact::Operand { inst, operand })?,
+        Lister::Bit { operand, bit } => push_two(
+            facts,
+            Fact::Operand { inst, operand },
+            Fact::Bit { inst, operand, bit },
+        )?,
+    }
+    push_one(facts, Fact::NeedsOneOf { inst, lister })
+}
+
+/// Adds a condition that fails, the operand at which it does and the instruction that defines its id, where there are
+/// such.
+fn push_failing(
+    facts: &mut Vec<Fact>,
+    inst: u32,
+    condition: Condition,
+    operand: Option<u32>,
+    defined: Option<u32>,
+) -> Result<(), AllocError>
+    ensures { OnOk result (facts.new.items ≡ facts.old.items ++ lists.failing_facts inst condition operand defined) }
+{
+    push_one(facts, Fact::Condition { condition })?;
+    push_operand(facts, inst, operand)?;
+    push_defined(facts, defined)
+}
+
+/// Adds an operand, if there is one.
+fn push_operand(facts: &mut Vec<Fact>, inst: u32, operand: Option<u32>) -> Result<(), AllocError>
+    ensures { OnOk result (facts.new.items ≡ facts.old.items ++ lists.operand_facts inst operand) }
+{
+    match operand {
+        Some(operand) => push_one(facts, Fact::Operand { inst, operand }),
+        None => Ok(()),
+    }
+}
+
+/// Adds the instruction that defines an operand's id, if there is one.
+fn push_defined(facts: &mut Vec<Fact>, defined: Option<u32>) -> Result<(), AllocError>
+    ensures { OnOk result (facts.new.items ≡ facts.old.items ++ lists.defined_facts defined) }
+{
+    match defined {
+        Some(inst) => push_one(facts, Fact::Defined { inst }),
+        None => Ok(()),
+    }
+}
+
+/// Adds the facts of evidence on ids.
+fn push_id_facts(facts: &mut Vec<Fact>, inst: u32, evidence: &Evidence) -> Result<(), AllocError>
+    ensures { OnOk result (facts.new.items ≡ facts.old.items ++ parts.id_facts inst evidence.now) }
+{
+    match evidence {
+        Evidence::Operand { operand } => push_one(
+            facts,
+            Fact::Operand {
+                inst,
+                operand: *operand,
+            },
+        ),
+        Evidence::Earlier { inst } => push_one(facts, Fact::Earlier { inst: *inst }),
+        Evidence::Defined {
+            operand,
+            inst: place,
+        } => push_two(
+            facts,
+            Fact::Operand {
+                inst,
+                operand: *operand,
+            },
+            Fact::Defined { inst: *place },
+        ),
+        Evidence::Local {
+            operand,
+            inst: place,
+            function,
+        } => push_three(
+            facts,
+            Fact::Operand {
+                inst,
+                operand: *operand,
+            },
+            Fact::Defined { inst: *place },
+            Fact::LocalTo {
+                function: *function,
+            },
+        ),
+        Evidence::Miscast {
+            operand,
+            role,
+            inst: place,
+        } => push_three(
+            facts,
+            Fact::Operand {
+                inst,
+                operand: *operand,
+            },
+            Fact::Role { role: *role },
+            Fact::Defined { inst: *place },
+        ),
+        _ => Ok(()),
+    }
+}
+
+/// Adds the facts of evidence on forms, capabilities and entry points.
+fn push_form_facts(facts: &mut Vec<Fact>, inst: u32, evidence: &Evidence) -> Result<(), AllocError>
+    ensures { OnOk result (facts.new.items ≡ facts.old.items ++ parts.form_facts inst evidence.now) }
+{
+    match evidence {
+        Evidence::Opcode { opcode } => push_one(facts, Fact::Opcode { opcode: *opcode }),
+        Evidence::Due {
+            opcode,
+            operand,
+            kind,
+        } => push_three(
+            facts,
+            Fact::Opcode { opcode: *opcode },
+            Fact::Failing { operand: *operand },
+            Fact::Due { kind: *kind },
+        ),
+        Evidence::Shape { opcode, known } => push_two(
+            facts,
+            Fact::Opcode { opcode: *opcode },
+            Fact::Row { known: *known },
+        ),
+        Evidence::Capability {
+            capability,
+            implied,
+        } => push_one(
+            facts,
+            Fact::Capability {
+                capability: *capability,
+                implied: *implied,
+            },
+        ),
+        Evidence::Needs { lister } => push_needs(facts, inst, *lister),
+        Evidence::NoEntry => push_one(facts, Fact::NoEntry),
+        Evidence::Entry { part } => push_one(facts, Fact::Part { part: *part }),
+        _ => Ok(()),
+    }
+}
+
+/// Adds the fact of a place, if it is of a function: what is open there.
+fn push_open(facts: &mut Vec<Fact>, place: Place) -> Result<(), AllocError>
+    ensures { OnOk result (facts.new.items ≡ facts.old.items ++ lists.open_facts place) }
+{
+    match place.function {
+        Some(_) => push_one(facts, Fact::Open { place }),
+        None => Ok(()),
+    }
+}
+
+/// The same: where an instruction stands.
+fn push_in(facts: &mut Vec<Fact>, place: Place) -> Result<(), AllocError>
+    ensures { OnOk result (facts.new.items ≡ facts.old.items ++ lists.in_facts place) }
+{
+    match place.function {
+        Some(_) => push_one(facts, Fact::In { place }),
+        None => Ok(()),
+    }
+}
+
+/// Whether a rule is told at the end of a module.
+fn tells_end(rule: Rule) -> bool
+    ensures { result ≡ lists.tells_end rule }
+{
+    matches!(rule, Rule::L2)
+}
+
+/// Whether a rule is told of an id that is 0 or not below the bound.
+fn tells_bound(rule: Rule) -> bool
+    ensures { result ≡ lists.tells_bound rule }
+{
+    matches!(rule, Rule::D1)
+}
+
+impl<'m, 'a> About<'m, 'a> {
+    /// Adds the type that is wanted, if there is one.
+    fn push_wanted(&self, facts: &mut Vec<Fact>, wanted: Option<u32>) -> Result<(), AllocError>
+        requires few { AreFew (plain_insts self.now.«module».now) }
+        ensures { OnOk result (facts.new.items ≡ facts.old.items ++ lists.wanted_facts
+            (plain_insts self.now.«module».now) wanted) }
+    {
+        match wanted {
+            Some(id) => push_one(
+                facts,
+                Fact::Wanted {
+                    thing: self.thing_of(id),
+                },
+            ),
+            None => Ok(()),
+        }
+    }
+
+    /// Adds the type that is found, if there is one.
+    fn push_found(&self, facts: &mut Vec<Fact>, found: Option<u32>) -> Result<(), AllocError>
+        requires few { AreFew (plain_insts self.now.«module».now) }
+        ensures { OnOk result (facts.new.items ≡ facts.old.items ++ lists.found_facts
+            (plain_insts self.now.«module».now) found) }
+    {
+        match found {
+            Some(id) => push_one(
+                facts,
+                Fact::Found {
+                    thing: self.thing_of(id),
+                },
+            ),
+            None => Ok(()),
+        }
+    }
+
+    /// Adds the types that are compared.
+    fn push_compared(
+        &self,
+        facts: &mut Vec<Fact>,
+        wanted: Option<u32>,
+        found: Option<u32>,
+    ) -> Result<(), AllocError>
+        requires few { AreFew (plain_insts self.now.«module».now) }
+        ensures { OnOk result (facts.new.items ≡ facts.old.items ++ lists.compared_facts
+            (plain_insts self.now.«module».now) wanted found) }
+    {
+        self.push_wanted(facts, wanted)?;
+        self.push_found(facts, found)
+    }
+
+    /// Adds the function type that is asked, if one is.
+    fn push_asked(&self, facts: &mut Vec<Fact>, of: Option<u32>) -> Result<(), AllocError>
+        requires few { AreFew (plain_insts self.now.«module».now) }
+        ensures { OnOk result (facts.new.items ≡ facts.old.items ++ lists.asked_facts
+            (plain_insts self.now.«module».now) of) }
+    {
+        match of {
+            Some(id) => push_one(
+                facts,
+                Fact::Type {
+                    thing: self.thing_of(id),
+                },
+            ),
+            None => Ok(()),
+        }
+    }
+
+    /// Adds the facts of evidence on layout, types and flow.
+    fn push_list_facts(
+        &self,
+        facts: &mut Vec<Fact>,
+        inst: u32,
+        evidence: Evidence,
+    ) -> Result<(), AllocError>
+        requires few { AreFew (plain_insts self.now.«module».now) }
+        ensures { OnOk result (facts.new.items ≡ facts.old.items ++ parts.list_facts
+            (plain_insts self.now.«module».now) inst evidence) }
+    {
+        match evidence {
+            Evidence::MayCome { opcodes, end } => push_one(facts, Fact::MayCome { opcodes, end }),
+            Evidence::Condition {
+                condition,
+                operand,
+                defined,
+                wanted,
+                found,
+                types,
+            } => {
+                push_failing(facts, inst, condition, operand, defined)?;
+                self.push_types(facts, types.as_slice())?;
+                self.push_compared(facts, wanted, found)
+            }
+            Evidence::Mismatch {
+                side,
+                wanted,
+                found,
+                of,
+            } => {
+                push_one(facts, Fact::Differs { side })?;
+                self.push_asked(facts, of)?;
+                push_two(
+                    facts,
+                    Fact::Wanted {
+                        thing: self.side_thing(side, wanted),
+                    },
+                    Fact::Found {
+                        thing: self.side_thing(side, found),
+                    },
+                )
+            }
+            Evidence::MissingParent { block } => push_one(facts, Fact::MissingParent { block }),
+            Evidence::NoPredecessor { operand } => push_one(
+                facts,
+                Fact::NoPredecessor { inst, operand },
+            ),
+            Evidence::Twice { second, .. } => push_one(
+                facts,
+                Fact::Twice {
+                    inst,
+                    operand: second,
+                },
+            ),
+            Evidence::Walk {
+                operand,
+                inst: place,
+                walk,
+            } => push_three(
+                facts,
+                Fact::Operand { inst, operand },
+                Fact::Defined { inst: place },
+                Fact::Walk { blocks: walk },
+            ),
+            Evidence::Cycle { calls, cycle } => push_two(
+                facts,
+                Fact::Calls { functions: calls },
+                Fact::Cycle { functions: cycle },
+            ),
+            _ => Ok(()),
+        }
+    }
+
+    /// Adds what the evidence at an instruction tells.
+    pub fn push_evidence(
+        &self,
+        facts: &mut Vec<Fact>,
+        inst: u32,
+        evidence: Evidence,
+    ) -> Result<(), AllocError>
+        requires few { AreFew (plain_insts self.now.«module».now) }
+        ensures { OnOk result (facts.new.items ≡ facts.old.items ++ lists.evidence_facts
+            (plain_insts self.now.«module».now) inst evidence) }
+    {
+        push_id_facts(facts, inst, &evidence)?;
+        push_form_facts(facts, inst, &evidence)?;
+        self.push_list_facts(facts, inst, evidence)?;
+        Ok(())
+    }
+
+    /// Adds the instruction at which a rule is told, and where it stands.
+    fn push_first(&self, facts: &mut Vec<Fact>, rule: Rule, inst: u32) -> Result<(), AllocError>
+        ensures { OnOk result (facts.new.items ≡ facts.old.items ++ lists.first_facts
+            (plain_insts self.now.«module».now) rule inst) }
+    {
+        if tells_end(rule) {
+            return Ok(());
+        }
+        push_one(facts, Fact::At { inst })?;
+        push_in(facts, self.place_of(inst))
+    }
+
+    /// Adds what comes last: where a module ends too early, what is open; where an id is not below the bound, the
+    /// bound.
+    fn push_last(&self, facts: &mut Vec<Fact>, rule: Rule, inst: u32) -> Result<(), AllocError>
+        ensures { OnOk result (facts.new.items ≡ facts.old.items ++ lists.last_facts
+            self.now.«module».now.header.bound (plain_insts self.now.«module».now) rule inst) }
+    {
+        if tells_end(rule) {
+            return push_open(facts, self.place_of(inst));
+        }
+        if tells_bound(rule) {
+            let bound = self.module.header.bound;
+            return push_one(facts, Fact::Bound { bound });
+        }
+        Ok(())
+    }
+
+    /// What the lines tell of a rule that is broken at an instruction, with its evidence: first the instruction and
+    /// where it stands, then the evidence. At the end of a module there is no instruction.
+    ///
+    /// An `AllocError` comes only where a growth of memory was refused.
+    pub fn facts_of(
+        &self,
+        rule: Rule,
+        inst: u32,
+        evidence: Evidence,
+    ) -> Result<Vec<Fact>, AllocError>
+        requires few { AreFew (plain_insts self.now.«module».now) }
+        ensures { IfOk result (λ v. v.items ≡ lists.facts_of self.now.«module».now.header.bound
+            (plain_insts self.now.«module».now) rule inst evidence) }
+    {
+        let mut facts = Vec::new(self.alloc);
+        self.push_first(&mut facts, rule, inst)?;
+        self.push_evidence(&mut facts, inst, evidence)?;
+        self.push_last(&mut facts, rule, inst)?;
+        Ok(facts)
+    }
+}

@@ -1,0 +1,25 @@
+use Rattle.std.proofs.Common.{◌≡◌, ℕ, [], ◌∷◌, refl, arith}
+use Rattle.spv_type_forms.specs.declared.form.Sort.TheVariants as sort
+use Rattle.spv_evidence.specs.declared.condition.Kind.TheVariants.{Ints}
+use Rattle.spv_evidence.specs.declared.condition.Relation.TheVariants.{Same}
+use Rattle.spv_type_evidence.specs.types.Conditions.{gives, of_result, with_result}
+use Rattle.spv_type_evidence.proofs.lemmas.types.Conditioned.{int_width}
+use Rattle.spv_type_evidence.proofs.types.laws.condition_examples.Goals as goal
+
+pub returns : goal.returns
+returns c = record {
+  kind = refl;
+  no_kind = λ e. (let no : sort.Float ≡ sort.Int = e in cc);
+  count = refl;
+  no_count = λ e. (let same : ◌≡◌ {A = ℕ} 1 4 = e in absurd (omega (arith, same)));
+  width = λ e. (let same = int_width 32 64 e in absurd (omega (arith, same)));
+  no_width = λ h. h refl;
+  add = ((tt, refl), (refl, (refl, (refl, tt))));
+  no_add = record {
+    before = gives 2 ∷ of_result Ints ∷ with_result 0 Same ∷ [];
+    after = [];
+    all = refl;
+    hold = ((tt, refl), (refl, (refl, tt)));
+    fails = λ e. (let same : ◌≡◌ {A = ℕ} 2 1 = e in absurd (omega (arith, same)));
+  };
+}
