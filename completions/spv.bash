@@ -1,9 +1,6 @@
 # Completion of spv's command line in bash. Source it, or put it where bash-completion looks, as
 # /usr/share/bash-completion/completions/spv.
 
-_spv_codes="W1 W2 W3 W4 W5 W6 W7 W8 W9 I1 I2 I3 I4 I5 I6 I7 I8 I9 I10 I11 I12 P1 L1 L2 D1 D2 D3 D4 D5
-    Y1 C1 C2 M1 E1 E2 Y2 Y3 Y4 Y5 Y6 Y7 Y8 F1 F2 F3 F4 A1 A2 G1 J1 J2 J3 J4 J5 J6 J7 J8 S1 S2 S3 S4 S5 S6
-    X1 N1 N2 N3"
 _spv_commands="check explain show asm trace rules grammar help"
 
 # _spv_options COMMAND: the options of a command, or of spv itself where it is empty.
@@ -18,6 +15,11 @@ _spv_options() {
         trace) echo "-h --help --as-1.6 --choices --function --grammar --limit --verbose" ;;
         rules | grammar) echo "-h --help --verbose" ;;
     esac
+}
+
+# _spv_codes PROGRAM: the codes that the program knows, none where it cannot be run.
+_spv_codes() {
+    "$1" rules 2>/dev/null | while IFS=: read -r code _; do echo "$code"; done
 }
 
 _spv_files() {
@@ -49,7 +51,7 @@ _spv() {
     case $command:$current in
         *:-*) _spv_words "$(_spv_options "$command")" "$current" ;;
         :* | help:*) _spv_words "$_spv_commands" "$current" ;;
-        rules:*) _spv_words "$_spv_codes" "$current" ;;
+        rules:*) _spv_words "$(_spv_codes "${COMP_WORDS[0]}")" "$current" ;;
         *) _spv_files "$current" ;;
     esac
 }

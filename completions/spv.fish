@@ -1,5 +1,10 @@
 # Completion of spv's command line in fish. Put it where fish looks, as ~/.config/fish/completions/spv.fish.
 
+# The codes that the program knows.
+function __spv_codes
+    command -q spv; and spv rules 2>/dev/null | string replace -r ':.*' ''
+end
+
 complete -c spv -f
 
 complete -c spv -n 'not __fish_seen_subcommand_from help' -s h -l help -d 'Print help'
@@ -49,7 +54,7 @@ complete -c spv -n '__fish_seen_subcommand_from trace' -l as-1.6 -d 'Take a modu
 complete -c spv -n '__fish_seen_subcommand_from trace' -l verbose -d 'Say behind the line of an error what is wrong'
 complete -c spv -n '__fish_seen_subcommand_from trace' -l limit -x -d 'The greatest number of steps'
 
-complete -c spv -n '__fish_seen_subcommand_from rules' -a 'W1 W2 W3 W4 W5 W6 W7 W8 W9 I1 I2 I3 I4 I5 I6 I7 I8 I9 I10 I11 I12 P1 L1 L2 D1 D2 D3 D4 D5 Y1 C1 C2 M1 E1 E2 Y2 Y3 Y4 Y5 Y6 Y7 Y8 F1 F2 F3 F4 A1 A2 G1 J1 J2 J3 J4 J5 J6 J7 J8 S1 S2 S3 S4 S5 S6 X1 N1 N2 N3'
+complete -c spv -n '__fish_seen_subcommand_from rules' -a '(__spv_codes)'
 complete -c spv -n '__fish_seen_subcommand_from rules' -l verbose -d 'Say behind the line of an error what is wrong'
 
 complete -c spv -n '__fish_seen_subcommand_from grammar' -F

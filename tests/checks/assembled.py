@@ -1,12 +1,15 @@
 """`asm` gives back the bytes of each module that `show` has the text of, in both byte orders.
 
 `show` refuses only what `check` tells a W or an I fault of. And each text that lies beside a module
-of tests/modules is that module.
+of tests/modules is that module, as `asm` and as the second reading make it.
 """
 
 import re
 import struct
 
+from reading.assemble import assembled
+
+from .cases import profile
 from .common import TESTS, Answer, Check, difference, run
 
 GRAMMAR = TESTS / "profile.json"
@@ -83,10 +86,21 @@ def texts_beside(program, folder):
     return None
 
 
+def texts_read(_program, _folder):
+    """Of every text of tests/modules the second reading makes the module beside it, up to the order of bytes."""
+    for text in sorted(MODULES.glob("*.spvasm")):
+        content = text.with_suffix(".spv").read_bytes()
+        made = assembled(profile(), text.read_text(encoding="utf-8").splitlines())
+        if made != (content if is_little(content) else turned(content)):
+            return f"  {text.name}: the second reading makes another module"
+    return None
+
+
 def checks():
-    """Both checks, of the text."""
+    """The checks of the text."""
     layers = frozenset({"show", "text"})
     return [
+        Check("assembled: every text by the second reading", frozenset(), texts_read),
         Check("assembled: every module", layers, shown_and_made),
         Check("assembled: every text beside a module", layers, texts_beside),
     ]

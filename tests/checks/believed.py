@@ -61,8 +61,13 @@ PROMISES = (
     ),
     (
         "What shows a fault",
-        "`explain` answers the verdict of `check`, and of a fault evidence that the rule is broken there.",
-        (("spv_explain", "explained.rt", "explain"),),
+        "`explain` answers the verdict of `check`, and of a fault evidence that the rule is broken there; `explain_stream` "
+        "and `explain_bytes` put it into lines.",
+        (
+            ("spv_explain", "explained.rt", "explain"),
+            ("spv_explain", "stream.rt", "explain_bytes"),
+            ("spv_explain", "stream.rt", "explain_stream"),
+        ),
     ),
     (
         "Streams",
@@ -89,6 +94,14 @@ How to read. By rule: begin with the rule's definition in the table below, and g
 - Of the toolchain's library: `A × B` is and, `A ⊎ B` or, `(x : A) × B x` that there is an x, `(x : A) → B x` that it holds for each, `⊥` what never holds and `Unit` what always does. `IsSome o`: o is there; `IsSomeAnd o P`: it is there and P holds of it; `IfSome o P`: P holds of it, if it is there; `MatchOption o A P`: A where it is missing, else P of it. `slice_get xs n` is element n of a list, from 0, as an option, and `slice_index xs n` the element, 0 where there is none. `All`, `AllByRecursion` and `Any` say it of all or some elements of a list. `codes "a"` are the bytes of a text, and `decimal n` those of a number; `IsUtf8 t`: bytes are UTF-8. `IsTrue b`: a test answers true. `¬ A`: A does not hold; `A ↔ B`: each gives the other. `Contains xs x`: x is an element of the list. `get_or xs n d`: element n, or d where there is none.
 """
 
+
+# What a valid module is.
+VALID = ("Rattle.spv_verdict.specs.Valid", "IsValid")
+
+BY_VALID = """What a valid module is, `IsValid` alone: {count}.
+"""
+
+TABLES_HEAD = """Two tables are not said again in definitions: `rows` of spv_layout/specs/Rows and `row_of` of spv_ops/specs/Row name the tables of the code, which stand there a row a line, in words and letters that the macros above them turn into values. These rows are to be read too, as definitions are; they are not among the lines that are counted here:"""
 
 BY_RULE = """`check` takes the words of an image, which begin with a good header, and answers `IsAnswer` of them: the checked module (`IsChecked`) or its fault (`IsFault`). It answers the former exactly where the bytes of those words are a valid module (`IsValid`): they begin with a good header (`IsModule`: the rules W), the words behind it spell a list of instructions (`IsListing`: I), and the list breaks no other rule (`IsSound`: P to G). `check_stream` writes the line of the verdict on the bytes that it reads (`IsVerdict`). That words have one verdict, and bytes one line, is proved beside them (`one_answer`, `one_verdict` and `one_first` of spv_verdict). Which table a grammar file gives is said apart from this list, in spv_grammar/specs (`Answer`), and in prose in PROFILE.md.
 
@@ -177,7 +190,7 @@ RULES = (
         [
             ("spv_ops/specs/Typed.antt", "IsTyped"),
             ("spv_ops/specs/Typed.antt", "RowHolds"),
-            ("spv_ops/specs/Row.antt", "rows"),
+            ("spv_ops/specs/Row.antt", "row_of"),
         ],
         [],
     ),
@@ -192,6 +205,12 @@ RULES = (
     ("G1", "cycles of calls", [], [("spv_calls/specs/Broken.antt", "Broken")]),
 )
 
+
+# The tables of the code that definitions name: the crate, the file of its src/, what it is, and where its rows begin.
+TABLES = (
+    ("spv_layout", "rows.rt", "the table of shapes (P1, L1, L2, Y1)", r"\$what! \{\n(.*?)\n *\}"),
+    ("spv_ops", "row.rt", "the table of types (Y5)", r"= entries! \{\n(.*?)\n\};"),
+)
 
 # The enums of the code whose order definitions speak of.
 ORDERS = (
@@ -420,6 +439,25 @@ def orders():
     return "; ".join(parts)
 
 
+def tables():
+    """A line for each table of the code that definitions name, with the number of its rows."""
+    for crate, file, about, pattern in TABLES:
+        path = CRATES / crate / "src" / file
+        found = re.search(pattern, path.read_text(encoding="utf-8"), re.S)
+        if not found:
+            raise NotFound(f"{crate}/src/{file} has no table")
+        yield f"- `TABLE` of {crate}/src/{file}, {about}: {len(found[1].splitlines())} rows"
+
+
+def of_valid():
+    """How much there is to read to know what a valid module is."""
+    module, name = VALID
+    closure = Closure()
+    closure.follow(name, Scope({name: (module, name)}, {}))
+    lines, comments = lines_in(it for _, it in closure.found)
+    return f"{sum(len(it.heads) for _, it in closure.found)} definitions, {lines + comments} lines with comments"
+
+
 def rows(found):
     """A row for each file: its definitions, their lines, those of comments, and the sections that they name."""
     files = {}
@@ -443,6 +481,8 @@ def page():
         count = sum(len(it.heads) for _, it in found)
         parts.append(f"## {title}\n\n{about} {count} definitions, {lines} lines, and {comments} of comments.\n")
         if begun == 0:
+            parts.append(BY_VALID.format(count=of_valid()))
+            parts.append(TABLES_HEAD + "\n\n" + "\n".join(tables()) + "\n")
             parts.append(BY_RULE)
             parts.append("\n".join(rules(found)) + "\n")
         parts.append("| File | Definitions | Lines | Comments | Sections |\n|---|---|---:|---:|---|")

@@ -5,13 +5,17 @@ import re
 import shlex
 from collections import Counter
 from dataclasses import dataclass, field
+from functools import lru_cache
 from typing import List, Optional, Tuple
+
+from reading.assemble import Unread, assembled
+from reading.verdict import grammar_in
 
 from .common import TESTS, Answer, Check, Unusable, difference, layers_of, run, shown
 
 COLUMN = 7
 ONCE = ("case", "layer", "run", "G", "made", "exit", "why")
-MANY = ("old", "new", "F", "out", "quoted", "err")
+MANY = ("old", "new", "F", "text", "out", "quoted", "err")
 PIECE = re.compile(r"(hex )?(\S+?)( first (\d+) bytes)?( times (\d+))?")
 
 
@@ -44,6 +48,8 @@ class Case:
         for key in ONCE:
             if count[key] > 1:
                 raise self.tell(f"has {count[key]} lines '{key}'")
+        if count["F"] and count["text"]:
+            raise self.tell("has lines 'F' and lines 'text'")
         if count["old"] != count["new"]:
             raise self.tell("has not as many lines 'old' as 'new'")
 
@@ -80,6 +86,23 @@ def piece(case, text):
     if first is not None:
         content = content[: int(first)]
     return content, int(times or 1)
+
+
+@lru_cache(maxsize=None)
+def profile():
+    """The grammar of profile.json, as the second reading has it."""
+    return grammar_in(TESTS / "profile.json")
+
+
+def pieces(case):
+    """The parts of the file that is read, each with how many times it stands there; none where the case has no such
+    file. The lines 'text' are a module's, which the second reading makes."""
+    if case.all("text"):
+        try:
+            return [(assembled(profile(), case.all("text")), 1)]
+        except (Unread, KeyError, ValueError) as error:
+            raise case.tell(f"no text of a module: {error}") from error
+    return [piece(case, text) for text in case.all("F")]
 
 
 def grammar(case):
@@ -130,9 +153,9 @@ def difference_made(wanted, path):
 
 def laid_out(case, folder):
     """Puts the case's files into the folder, and answers the words to run the program with."""
-    pieces = [piece(case, text) for text in case.all("F")]
-    if pieces:
-        (folder / "F").write_bytes(b"".join(content * times for content, times in pieces))
+    parts = pieces(case)
+    if parts:
+        (folder / "F").write_bytes(b"".join(content * times for content, times in parts))
     content = grammar(case)
     if content is not None:
         (folder / "G").write_bytes(content)
@@ -185,6 +208,11 @@ def all_cases():
             raise Unusable(f"{times} cases have the name {name}")
     check_files(found)
     return found
+
+
+def written():
+    """The modules that cases have as texts, each by the name of its case."""
+    return {case.one("case"): pieces(case)[0][0] for case in all_cases() if case.all("text")}
 
 
 def checks():

@@ -97,7 +97,7 @@ def made(case, grammar, program, folder):
 
 def with_a_module():
     """The cases that read a module or a text under a grammar file."""
-    found = [case for case in all_cases() if case.all("F")]
+    found = [case for case in all_cases() if case.all("F") or case.all("text")]
     return [case for case in found if case.one("run").count(OPTION) == 1]
 
 

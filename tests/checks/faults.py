@@ -198,12 +198,11 @@ def cut(line):
 
 
 def wrong_lines(rule, wanted, verdict, lines):
-    """None if the lines are the verdict and then the ones that are wanted, with those of the place before."""
+    """None if the lines are the verdict and then, of those with the keys of the ones that are wanted, these alone."""
     if verdict[:1] != lines[:1] or not lines[0].startswith(f"fault {rule} "):
         return f"  {lines[:1]}, and not {verdict}"
-    found = [line for line in lines[1:] if line.split(":")[0] not in ("rule", "in", "at")]
-    if rule[0] in "IL":
-        found = [line for line in lines if line in wanted]
+    keys = {line.split(":")[0] for line in wanted}
+    found = [line for line in lines[1:] if line.split(":")[0] in keys]
     for line, other in zip(wanted, found):
         if line != other:
             return f"  {cut(other)}, and not {cut(line)}"

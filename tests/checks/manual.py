@@ -1,9 +1,11 @@
 """The commands and options that the man page and the completions name, beside those of the program's own help.
 
 What each of them names is a list of commands, each with its options: those of `spv` itself stand under no name.
-The completions are asked, and not read: bash and fish by their own means, zsh with stand-ins for its functions.
+The completions are asked, and not read: bash and fish by their own means, zsh with stand-ins for its functions. They
+ask the program for its codes, so it lies on the PATH.
 """
 
+import os
 import re
 import shlex
 import subprocess
@@ -24,10 +26,11 @@ OPTION = re.compile(r"(?<![\w-])(?:--[a-z](?:[a-z0-9.-]*[a-z0-9])?|-[A-Za-z])(?!
 
 
 def asked(words, folder, script=None):
-    """What a command prints, or what it says of an error."""
+    """What a command prints, or what it says of an error, with the program that `put_on_path` put there on the PATH."""
     ended = subprocess.run(
         [str(word) for word in words],
         cwd=folder,
+        env={**os.environ, "PATH": f"{folder / 'commands'}:{os.environ['PATH']}"},
         input=script,
         stdout=subprocess.PIPE,
         stderr=subprocess.STDOUT,
@@ -36,6 +39,11 @@ def asked(words, folder, script=None):
         universal_newlines=True,
     )
     return ended.stdout
+
+
+def put_on_path(program, folder):
+    """Has what is asked in the folder find the program by its name."""
+    environment(program, folder)
 
 
 # What the program names.
@@ -135,6 +143,7 @@ offered() {{
 ZSH = r"""
 _arguments() {{ print -rl -- "$@"; print; state=$wanted }}
 _describe() {{ print -rl -- ${{(P)argv[-1]}}; print }}
+_call_program() {{ eval "${{@:2}}" }}
 offered() {{ wanted=$1; words=("${{@:2}}"); source {path}; print END }}
 """
 
@@ -261,6 +270,7 @@ def completion_as_help(shell):
 
     def check(program, folder):
         path = COMPLETIONS / FILES[shell]
+        put_on_path(program, folder)
         said = asked([shell, "-n", path], folder)
         if said:
             return f"  {shell} -n: {said}"
@@ -275,8 +285,9 @@ def completion_as_help(shell):
 def completes_files(shell):
     """The check that a shell's completion offers files for FILE, OUT and G, and none for numbers."""
 
-    def check(_program, folder):
+    def check(program, folder):
         path = COMPLETIONS / FILES[shell]
+        put_on_path(program, folder)
         (folder / "module.spv").touch()
         with_files = [["spv", command, "mod"] for command in TAKES_FILES]
         with_files += [["spv", command, "--grammar", "mod"] for command in TAKES_GRAMMARS]
@@ -314,9 +325,9 @@ def shown_without_warnings(_program, folder):
 # What is left out is found: a text to be taken out of each file.
 LEFT_OUT = {
     "spv.1": (r"\.TP\n\.B \\-\\-big\n", r"\.SS trace\n", r"\n\.RB \[ \\-\\-choices"),
-    "spv.bash": (r"--big ", r" trace(?= rules)", r" A2(?= )"),
-    "spv.fish": (r"complete .* -l big .*\n", r"complete .* -a trace .*\n", r" A2(?= )"),
-    "_spv": (r" *'--big\[.*\n", r" *'trace:.*\n", r" A2(?= )"),
+    "spv.bash": (r"--big ", r" trace(?= rules)", r" rules(?= 2>)"),
+    "spv.fish": (r"complete .* -l big .*\n", r"complete .* -a trace .*\n", r" rules(?= 2>)"),
+    "_spv": (r" *'--big\[.*\n", r" *'trace:.*\n", r" rules(?= 2>)"),
 }
 
 
@@ -334,6 +345,7 @@ def finds_what_is_left_out(shell):
     def check(program, folder):
         wanted, codes = named_by_program(program, folder), codes_of_program(program, folder)
         path = COMPLETIONS / FILES[shell] if shell else PAGE
+        put_on_path(program, folder)
 
         def wrong_of(file):
             if shell:

@@ -1,10 +1,9 @@
 """The lists that lead from an opcode to its row, in spv_layout and spv_ops, as the rows tell them.
 
 Both crates find the row of an opcode in a list of numbers, `NUMBERS`: of each opcode the number of
-its row, from 0, or 255 where there is none. In spv_layout a row is a line of `rows!` in
-src/rows.rt, which begins with its opcodes. In spv_ops the opcodes stand in `rows` of
-specs/Row.antt, each time with the row, which is one of `ROWS` of src/row.rt. Opcodes are named as
-in spv_module. A proof says that the lists are right; this is what writes them.
+its row, from 0, or 255 where there is none. A row is a line of the table in src/rows.rt of
+spv_layout and src/row.rt of spv_ops, and begins with its opcodes, which are named as in spv_module.
+A proof says that the lists are right; this is what writes them.
 """
 
 import re
@@ -16,7 +15,6 @@ CRATES = TESTS.parent / "crates"
 OPCODES = CRATES / "spv_module/src/opcode.rt"
 LAYOUT = CRATES / "spv_layout/src/rows.rt"
 TYPED = CRATES / "spv_ops/src/row.rt"
-TYPED_SPECS = CRATES / "spv_ops/specs/Row.antt"
 NONE = 255
 WIDTH = 95
 REMEDY = "tests/rows-of-opcodes --write makes it anew"
@@ -44,34 +42,13 @@ def opcodes():
     }
 
 
-def rows_of_layout():
-    """Of each row of the table of shapes its first and its last opcode, with its number."""
+def rows(path, begin):
+    """Of each row of a table, which begins after a text, both its opcodes, with its number."""
     known = opcodes()
-    lines = re.findall(r"(?m)^    (\w+)(?: to (\w+))?: ", part(LAYOUT, r"= rows! \{\n(.*?)\n\};"))
+    lines = re.findall(r"(?m)^ +(\w+)(?: to (\w+))?: ", part(path, begin + r" \{\n(.*?)\n *\}"))
     return [
         (known[first], known[last or first], number) for number, (first, last) in enumerate(lines)
     ]
-
-
-def words(row):
-    """A row of the table of types as words, whether it is written as code or as a definition."""
-    return tuple(re.findall(r"\w+", re.sub(r"\b\w+(?:::|\.)", "", row)))
-
-
-def rows_of_types():
-    """Of each entry of the table of types its first and last opcode, and the number of its row."""
-    known = opcodes()
-    listed = part(TYPED, r"ROWS: \[Row; \d+\] = \[\n(.*?)\n\];").splitlines()
-    numbers = {words(row): number for number, row in enumerate(listed)}
-    table = part(TYPED_SPECS, r"\nrows =(.*?)\n\n")
-    found = []
-    for named, row in re.findall(r"\b\w+ ((?:(?:opcode\.\w+|\d+) )+)(\(.*?\)+|\w+) ∷", table):
-        ends = [
-            known[end] if end in known else int(end)
-            for end in named.replace("opcode.", "").split()
-        ]
-        found.append((ends[0], ends[-1], numbers[words(row)]))
-    return found
 
 
 def list_of(rows):
@@ -86,11 +63,11 @@ def list_of(rows):
 def files():
     """Both files, with what they must hold."""
     found = {}
-    for path, rows in ((LAYOUT, rows_of_layout()), (TYPED, rows_of_types())):
-        now = text(path)
+    for path, begin in ((LAYOUT, r"\$what!"), (TYPED, r"= entries!")):
+        now, told = text(path), list_of(rows(path, begin))
         if not NUMBERS.search(now):
             raise Unusable(f"{path} has no NUMBERS")
-        found[path] = NUMBERS.sub(lambda was, rows=rows: (was[1] or "") + list_of(rows), now)
+        found[path] = NUMBERS.sub(lambda was, told=told: (was[1] or "") + told, now)
     return found
 
 
@@ -99,7 +76,7 @@ def wrong_files(_program, _folder):
     try:
         found = files()
     except KeyError as name:
-        return f"  a row has {name}, which is no opcode or no row"
+        return f"  a row has {name}, which is no opcode"
     for path, content in found.items():
         if text(path) != content:
             return f"  NUMBERS of {path.relative_to(CRATES)} is not what the rows tell; {REMEDY}"

@@ -6,7 +6,7 @@ Both are made of the cases alone, and of nothing that the program says.
 
 import shlex
 
-from .cases import all_cases, grammar, made, piece, wanted_answer
+from .cases import all_cases, grammar, made, pieces, wanted_answer
 from .common import TESTS, Check, layers_of, layers_that_stand
 
 CRATE = TESTS.parent / "crates/spv_rows"
@@ -43,8 +43,8 @@ def row_lines(case):
     yield f"row {case.one('case')}"
     for word in shlex.split(case.one("run")):
         yield f"word {word}"
-    for text in case.all("F"):
-        yield input_line(*piece(case, text))
+    for content, times in pieces(case):
+        yield input_line(content, times)
     yield "run"
 
 

@@ -3,7 +3,7 @@
 import re
 import struct
 
-from .cases import all_cases
+from .cases import all_cases, pieces
 from .common import TESTS
 
 FOLDER = TESTS.parent / "crates/spv_samples/src"
@@ -25,9 +25,8 @@ MODULES = (
 REACHES_VALUES = re.compile(r"valid|fault [AG]\d .*")
 
 
-def words(path):
+def words(data):
     """The words of a module of either order, in hexadecimal, as lines."""
-    data = path.read_bytes()
     order = "<" if data[:4] == b"\x03\x02\x23\x07" else ">"
     found = ["%x" % word for (word,) in struct.iter_unpack(order + "I", data)]
     lines = [[]]
@@ -57,7 +56,7 @@ def modules():
         shown = (TESTS / text).read_text(encoding="utf-8")
         parts.append(
             f"/// `tests/{module}`.\npub const {name}: Sample<'static> = Sample {{\n"
-            f'    words: "{words(TESTS / module)}",\n    text: r#"{shown}"#,\n}};\n'
+            f'    words: "{words((TESTS / module).read_bytes())}",\n    text: r#"{shown}"#,\n}};\n'
         )
     return "\n".join(parts)
 
@@ -77,9 +76,10 @@ def rows():
     found = {}
     for case in all_cases():
         file = case.all("F")
-        if reaches_values(case) and len(file) == 1 and re.fullmatch(r"modules/\S+\.spv", file[0]):
-            found.setdefault(file[0], case.one("case"))
-    text = "".join(f"\n{name}:\n{words(TESTS / file)};" for file, name in found.items())
+        is_whole = case.all("text") or len(file) == 1 and re.fullmatch(r"modules/\S+\.spv", file[0])
+        if reaches_values(case) and is_whole:
+            found.setdefault(pieces(case)[0][0], case.one("case"))
+    text = "".join(f"\n{name}:\n{words(content)};" for content, name in found.items())
     head = "//! Modules that are checked up to the values on walks. Written by `tests/samples`.\n\n"
     comment = "Each module of such a case under `tests/profile.json`: the case's name, and its words."
     return head + constant("CHECKED_TO_VALUES", text + "\n", comment)

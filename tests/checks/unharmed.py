@@ -1,4 +1,4 @@
-"""What `asm` leaves as it was: FILE, by whatever name OUT has, and OUT, where FILE cannot be read."""
+"""What `asm` leaves as it was: FILE, by whatever name OUT has, and OUT, where no module is made."""
 
 import os
 import shutil
@@ -174,13 +174,40 @@ def no_right_to_out(program, folder):
     return None
 
 
-def of_a_fault(program, folder):
-    """A text with a fault: OUT is empty, as ever, and FILE stays."""
+def of_no_module(program, folder):
+    """A text with a fault, bytes that are no text, a refused grammar: OUT stays as it was, or is made empty."""
+    (folder / "refused.json").write_bytes(b"[1")
+    out = folder / "out"
+    rows = [
+        (b"; SPIR-V\n", GRAMMAR, Answer(b"fault S1 line 2\n", b"", 1)),
+        (b"", GRAMMAR, Answer(b"fault S1 line 1\n", b"", 1)),
+        (TEXT.read_bytes() + b"OpNothing\n", GRAMMAR, None),
+        (b"; SPIR-V\xff\n", GRAMMAR, NO_FILE),
+        (TEXT.read_bytes(), folder / "refused.json", Answer(b"", b"error J1\n", 2)),
+    ]
+    for text, grammar, answer in rows:
+        (folder / "a").write_bytes(text)
+        for is_there in (True, False):
+            out.unlink(missing_ok=True)
+            if is_there:
+                out.write_bytes(BEFORE)
+            before = state(out) if is_there else None
+            got = assembled(program, folder, "out", "a", env=under(grammar))
+            wrong = difference(answer, got) if answer else (None if got.status == 1 else f"  {got}")
+            kept = out.exists() and (state(out) == before if is_there else out.read_bytes() == b"")
+            if wrong or not kept or (folder / "a").read_bytes() != text:
+                return wrong or f"  {text[:20]}: OUT or the text is not what it must be"
+    return None
+
+
+def of_a_longer_out(program, folder):
+    """OUT that was longer than the module has the module alone; and one that cannot be made matters to no fault."""
+    (folder / "out").write_bytes(BEFORE * 1000)
+    wrong = difference(DONE, assembled(program, folder, "out", TEXT))
+    if wrong or (folder / "out").read_bytes() != KERNEL.read_bytes():
+        return wrong or "  OUT has more than the module"
     (folder / "a").write_bytes(b"; SPIR-V\n")
-    (folder / "out").write_bytes(BEFORE)
-    wrong = difference(Answer(b"fault S1 line 2\n", b"", 1), assembled(program, folder, "out", "a"))
-    fine = (folder / "a").read_bytes() == b"; SPIR-V\n" and (folder / "out").read_bytes() == b""
-    return wrong or (None if fine else "  OUT or the text is not what it must be")
+    return difference(Answer(b"fault S1 line 2\n", b"", 1), assembled(program, folder, "absent/out", "a"))
 
 
 def checks():
@@ -195,6 +222,7 @@ def checks():
         ("OUT of a grammar file that is not read", out_after_the_grammar),
         ("FILE read whole first", read_whole_first),
         ("OUT that cannot be made", no_right_to_out),
-        ("OUT of a fault", of_a_fault),
+        ("OUT of no module", of_no_module),
+        ("OUT that is made anew", of_a_longer_out),
     ]
     return [Check(f"nothing destroyed: {name}", LAYERS, run_it) for name, run_it in found]

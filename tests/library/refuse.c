@@ -76,6 +76,26 @@ static answer by_default(void) {
     return it;
 }
 
+// A text that is no JSON, and one that breaks J4.
+#define NO_JSON "{\"instructions\":[1,\n"
+#define NO_KIND                                                                                \
+    "{\"instructions\":[{\"opname\":\"OpA\",\"opcode\":1,\"operands\":[{\"kind\":\"X\"}]}]," \
+    "\"operand_kinds\":[]}"
+
+static answer by_grammar_explain_of(const char *bytes, size_t size) {
+    spvk_buffer buffer = SPVK_BUFFER_NONE;
+    answer it = {spvk_grammar_explain((const uint8_t *)bytes, size, &buffer), 7, 8, 0};
+    it.size = buffer.size;
+    spvk_buffer_delete(&buffer);
+    return it;
+}
+
+static answer by_grammar_explain(void) { return by_grammar_explain_of((const char *)text.bytes, text.size); }
+
+static answer by_grammar_explain_of_no_json(void) { return by_grammar_explain_of(NO_JSON, sizeof NO_JSON - 1); }
+
+static answer by_grammar_explain_of_no_kind(void) { return by_grammar_explain_of(NO_KIND, sizeof NO_KIND - 1); }
+
 static answer by_check_of(size_t size) {
     spvk_verdict verdict = {7, 8, 9};
     answer it = {spvk_check(&grammar, module.bytes, size, &verdict), 0, 0, 0};
@@ -153,6 +173,9 @@ typedef struct call {
 static const call CALLS[] = {
     {"grammar_new", by_new},
     {"grammar_default", by_default},
+    {"grammar_explain", by_grammar_explain},
+    {"grammar_explain of no JSON", by_grammar_explain_of_no_json},
+    {"grammar_explain of no kind", by_grammar_explain_of_no_kind},
     {"check", by_check},
     {"check of a fault", by_check_of_fault},
     {"explain", by_explain},

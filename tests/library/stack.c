@@ -21,6 +21,11 @@ static void *call_all(void *unused) {
     spvk_fault fault;
     spvk_buffer text = SPVK_BUFFER_NONE, bytes = SPVK_BUFFER_NONE;
     if (spvk_grammar_new(grammar_text.bytes, grammar_text.size, &grammar) != SPVK_OK) return "spvk_grammar_new";
+    for (size_t part = 1; part <= 2; part++) {
+        if (spvk_grammar_explain(grammar_text.bytes, grammar_text.size / part, &text) != SPVK_OK)
+            return "spvk_grammar_explain";
+        spvk_buffer_delete(&text);
+    }
     for (size_t cut = 0; cut <= 4; cut += 4) {
         size_t len = module.size - cut;
         if (spvk_check(&grammar, module.bytes, len, &verdict) != SPVK_OK) return "spvk_check";

@@ -16,7 +16,7 @@ class Broken(Exception):
         super().__init__(rule)
         place = "" if inst is None else f" inst {inst} word {word}"
         self.line = f"fault {rule}{place}"
-        self.inst, self.operand, self.due = inst, operand, due
+        self.inst, self.word, self.operand, self.due = inst, word, operand, due
 
 
 @dataclass
@@ -41,27 +41,33 @@ class Inst:
 
 
 class Grammar:
-    """The first kind of each name, entry of each opcode, and enumerant of each value."""
+    """The first kind of each name, entry of each opcode, and enumerant of each value; and what names look up: of an
+    instruction its opcode, of an enumerant of a kind its value."""
 
     def __init__(self, tree):
         self.kinds = {}
         for kind in tree["operand_kinds"]:
             self.kinds.setdefault(kind["kind"], kind)
-        self.entries = {}
+        self.entries, self.opcode_of = {}, {}
         for entry in tree["instructions"]:
             self.entries.setdefault(entry["opcode"], entry)
-        self.enumerants = {name: self.values(kind) for name, kind in self.kinds.items()}
+            self.opcode_of.setdefault(entry["opname"], entry["opcode"])
+        self.enumerants, self.value_of = {}, {}
+        for name, kind in self.kinds.items():
+            values, names = self.enumerants.setdefault(name, {}), self.value_of.setdefault(name, {})
+            for value, it in self.values(kind):
+                values.setdefault(value, it)
+                names.setdefault(it["enumerant"], value)
 
     @staticmethod
     def values(kind):
-        found = {}
+        """The enumerants of a kind that are in the table, each after its value."""
         for it in kind.get("enumerants", ()) if "Enum" in kind["category"] else ():
             is_mask = kind["category"] == "BitEnum"
             value = int(it["value"], 16) if is_mask else it["value"]
             is_odd = any("quantifier" in parameter for parameter in it.get("parameters", ()))
             if not is_odd and not (is_mask and value & (value - 1)):
-                found.setdefault(value, it)
-        return found
+                yield value, it
 
 
 def words_of(content):
