@@ -471,17 +471,19 @@ class Judge:
         if not self.is_definition(text):
             return False
         if self.code in ("Y6", "Y8"):
-            return of == self.signature()
+            return of == self.asked()
         return of in conditions.types_at(self.facts, self.number)
+
+    def asked(self):
+        """The id that is asked as the type of a function."""
+        if self.inst.opcode == 57:
+            return self.facts.types.definition(self.inst.operands[2][1]).operands[-1][1]
+        return self.facts.insts[self.facts.places.function[self.number]].operands[-1][1]
 
     def signature(self):
         """The id of the OpTypeFunction that is asked, None where it is none."""
-        types, inst = self.facts.types, self.inst
-        if inst.opcode == 57:
-            of = types.definition(inst.operands[2][1]).operands[-1][1]
-        else:
-            of = self.facts.insts[self.facts.places.function[self.number]].operands[-1][1]
-        return of if types.form(of) == 33 else None
+        of = self.asked()
+        return of if self.facts.types.form(of) == 33 else None
 
     def sides(self):
         """What is wanted and what is found at the place that is told: ids, or texts."""
