@@ -47,7 +47,7 @@ fn lines_of_what_may_come(rt: HostRuntime) -> Result<(), Fail> {
     are_lines(
         rt.alloc(),
         KERNEL_WITHOUT_ITS_END,
-        "fault L2 inst 9 word 29\nrule: A module has its memory model, and each function and block its end. [2.4]\nmay come: OpLine OpFunctionEnd OpLabel OpNoLine\n",
+        "fault L2 inst 9 word 29\nrule: A module has its memory model, and each function and block its end. [2.4]\nmay come: OpLine OpFunctionEnd OpLabel OpNoLine\nopen: function %3\n",
     )
 }
 
