@@ -78,7 +78,8 @@ pub fn make_if_absent(rt: &HostRuntime, name: &str) {
     let _ = fs::File::create_new(rt, name);
 }
 
-/// All the bytes of an open file.
+/// All the bytes of an open file. It is apart from its callers, which else pay for its block whatever they do.
+#[inline(never)]
 fn bytes_of<R: Read + Drop>(alloc: Global, file: R) -> Result<Vec<u8>, Trouble> {
     match read_all(alloc, &mut FromRead::new(file)) {
         Ok(bytes) => Ok(bytes),
@@ -94,6 +95,7 @@ pub fn read_file<'a>(rt: &HostRuntime, why: &Why<'a>, name: &'a str) -> Result<V
 }
 
 /// All the bytes of the file of this name, where `-` is the standard input.
+#[inline(never)]
 pub fn read_whole<'a>(rt: &HostRuntime, why: &Why<'a>, name: &'a str) -> Result<Vec<u8>, Trouble> {
     if name == STANDARD {
         return bytes_of(rt.alloc(), Noted::new(rt.stdin(), name, why));
@@ -155,6 +157,7 @@ fn unread_of(error: io::Error) -> Unread {
 const MOST_BYTES: u64 = 16_777_217;
 
 /// All the bytes of an open file, or so many that it is no module.
+#[inline(never)]
 fn whole<R: Read + Drop>(alloc: Global, file: R) -> Result<Vec<u8>, Unread> {
     match read_all(alloc, &mut FromRead::new(file.take(MOST_BYTES))) {
         Ok(bytes) => Ok(bytes),

@@ -5,3 +5,4 @@ pub mod Slots
 pub mod Order
 pub mod Lookup
 pub mod Joined
+pub mod Ordered

@@ -1,5 +1,6 @@
 ghost use Rattle.std.specs.Prelude.{◌≡◌, ◌<◌, ◌≤◌, ◌^◌, ℕ, List, length, option_map};
-ghost use Rattle.std.specs.Prelude.{option_and_then, position, slice_get, slice_index_or, IfOk};
+ghost use Rattle.std.specs.Prelude.{option_and_then, position, slice_get, slice_index_or, IfOk, IsTrue, MatchOption};
+ghost use Rattle.std.specs.List.Sorted.{IsNonDecreasingBy};
 ghost use Rattle.std.specs.Str.{bytes_eq};
 ghost use Rattle.std.specs.BTreeMap as tree;
 ghost use Rattle.std.specs.Ordering.{nat_cmp};
@@ -22,15 +23,16 @@ pub struct Sort {
     /// For each value below `SMALL` the place of the first enumerant that has it. 4,294,967,295 stands where none has
     /// it, and the list may end before.
     near: Vec<u32>,
-    /// The place of the first enumerant with a greater value.
-    far: BTreeMap<u32, usize>,
+    /// The place of the first enumerant with a greater value; nothing where the values of the list never go down.
+    far: Option<BTreeMap<u32, usize>>,
     /// Where the names of the enumerants are; nothing where there are fewer than `FEW`.
     names: Option<Box<Names>>,
 }
 
 impl Model for Sort {
     ghost use Rattle.std.specs.Prelude.{◌≡◌, ◌<◌, ◌≤◌, ℕ, List, option_and_then, slice_get};
-    ghost use Rattle.std.specs.Prelude.{slice_index_or};
+    ghost use Rattle.std.specs.Prelude.{slice_index_or, MatchOption};
+    ghost use Rattle.std.specs.List.Sorted.{IsNonDecreasingBy};
     ghost use Rattle.std.specs.BTreeMap as tree;
     ghost use Rattle.std.specs.Ordering.{nat_cmp};
     ghost use Rattle.spv_table.specs.Table.{Sort};
@@ -45,7 +47,8 @@ impl Model for Sort {
     ghost invariant = { λ s. ((v : ℕ) → v < 64
         → slice_get s.enumerants.items (slice_index_or s.near.items v 4294967295)
         ≡ enumerant_of s.enumerants.items v)
-        × ((v : ℕ) → 64 ≤ v → option_and_then (slice_get s.enumerants.items) (tree.get nat_cmp s.far v)
+        × MatchOption s.far (IsNonDecreasingBy (λ e. e.value) s.enumerants.items) (λ places. (v : ℕ) → 64 ≤ v
+        → option_and_then (slice_get s.enumerants.items) (tree.get nat_cmp places v)
         ≡ enumerant_of s.enumerants.items v)
         × FindsAny (λ e. e.name) s.enumerants.items s.names };
 }
@@ -66,15 +69,47 @@ fn near_places(alloc: Global, enumerants: &[Enumerant]) -> Result<Vec<u32>, Allo
     for i in (0..enumerants.len()).rev() {
         let value = enumerants[i].value;
         if value < SMALL {
-            widen(&mut places, value as usize)?;
+            widen(&mut places, value)?;
             places[value as usize] = i as u32;
         }
     }
     Ok(places)
 }
 
+/// Whether the values never go down.
+fn are_ordered(enumerants: &[Enumerant]) -> bool
+    ensures { IsTrue result → IsNonDecreasingBy (λ e. e.value) enumerants.now }
+{
+    let mut last = 0;
+    for enumerant in enumerants {
+        if enumerant.value < last {
+            return false;
+        }
+        last = enumerant.value;
+    }
+    true
+}
+
+/// The first enumerant with a value, where the values never go down.
+fn ordered(enumerants: &[Enumerant], value: u32) -> Option<&Enumerant>
+    requires { IsNonDecreasingBy (λ e. e.value) enumerants.now }
+    ensures { option_map (λ e. e.now) result ≡ enumerant_of enumerants.now value }
+{
+    let place = enumerants.partition_point(|e| e.value < value);
+    match enumerants.get(place) {
+        Some(enumerant) => {
+            if enumerant.value == value {
+                Some(enumerant)
+            } else {
+                None
+            }
+        }
+        None => None,
+    }
+}
+
 /// For each value from `SMALL` on the place of the first enumerant that has it.
-fn far_places(alloc: Global, enumerants: &[Enumerant]) -> Result<BTreeMap<u32, usize>, AllocError>
+fn far_map(alloc: Global, enumerants: &[Enumerant]) -> Result<BTreeMap<u32, usize>, AllocError>
     ensures { IfOk result (λ places. (v : ℕ) → 64 ≤ v
         → option_and_then (slice_get enumerants.now) (tree.get nat_cmp places v) ≡ enumerant_of enumerants.now v) }
 {
@@ -86,6 +121,21 @@ fn far_places(alloc: Global, enumerants: &[Enumerant]) -> Result<BTreeMap<u32, u
         }
     }
     Ok(places)
+}
+
+/// The same, but nothing where the values never go down.
+fn far_places(
+    alloc: Global,
+    enumerants: &[Enumerant],
+) -> Result<Option<BTreeMap<u32, usize>>, AllocError>
+    ensures { IfOk result (λ far. MatchOption far (IsNonDecreasingBy (λ e. e.value) enumerants.now)
+        (λ places. (v : ℕ) → 64 ≤ v
+        → option_and_then (slice_get enumerants.now) (tree.get nat_cmp places v) ≡ enumerant_of enumerants.now v)) }
+{
+    if are_ordered(enumerants) {
+        return Ok(None);
+    }
+    Ok(Some(far_map(alloc, enumerants)?))
 }
 
 /// Where the names of enumerants are; nothing where they are few.
@@ -175,8 +225,10 @@ impl Sort {
             };
             return self.enumerants.get(place as usize);
         }
-        let place = *self.far.get(&value)?;
-        self.enumerants.get(place)
+        match &self.far {
+            Some(far) => self.enumerants.get(*far.get(&value)?),
+            None => ordered(self.enumerants.as_slice(), value),
+        }
     }
 
     /// The value of the first enumerant with a name.

@@ -124,9 +124,9 @@ fn opcode_places(alloc: Global, entries: &[(u16, Entry)]) -> Result<Vec<u32>, Al
 {
     let mut places = Vec::new(alloc);
     for i in (0..entries.len()).rev() {
-        let opcode = usize::from(entries[i].0);
-        widen(&mut places, opcode)?;
-        places[opcode] = i as u32;
+        let opcode = entries[i].0;
+        widen(&mut places, u32::from(opcode))?;
+        places[usize::from(opcode)] = i as u32;
     }
     Ok(places)
 }

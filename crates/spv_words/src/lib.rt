@@ -23,7 +23,7 @@ mod writing;
 pub use draft::Draft;
 pub use image::{Image, word};
 pub use limits::{GREATEST_BOUND, GREATEST_LENGTH, GREATEST_SIZE, MAGIC_NUMBER, VERSION};
-pub use reading::{image_of, read_image};
+pub use reading::{image_from, image_of, read_image, read_octets};
 pub use stream::{Failed, FromRead, FromWrite, Sink, Source};
 pub use version::replace_version;
 pub use versioned::{VersionSource, Versioned};

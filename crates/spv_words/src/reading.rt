@@ -15,8 +15,8 @@ use crate::stream::Source;
 use crate::words::{Order, WordError};
 use std::alloc::{AllocError, Global};
 
-/// How many bytes are read at a time.
-const BLOCK_SIZE: usize = 65_536;
+/// How many bytes are read at a time: few, since each page of the block costs a small module time.
+const BLOCK_SIZE: usize = 8192;
 
 /// Makes room for more bytes. Where there is too little, it is at once all the room that the bytes
 /// of a reader can still take.
@@ -30,8 +30,13 @@ fn make_room(bytes: &mut Vec<u8>, more: usize) -> Result<(), AllocError>
     Ok(())
 }
 
-/// Reads to the end of input, or until there are too many bytes.
-fn read_all<R: Source>(alloc: Global, r: &mut R) -> Result<Vec<u8>, WordError>
+/// Reads a module's bytes to the end of input, as `read_image` does, and looks at none of them.
+///
+/// # Errors
+///
+/// `W1` where a read failed, an interrupted one too; `W8` where more than 16,777,216 bytes came; `W9` where memory was
+/// refused.
+pub fn read_octets<R: Source>(alloc: Global, r: &mut R) -> Result<Vec<u8>, WordError>
     ensures count { R.failures r.new ≢ R.failures r.old ↔ IsErrOf result W1 }
     ensures steady { ¬ IsErrOf result W1 → R.failures r.new ≡ R.failures r.old }
     ensures known { IfOk result (λ v. Consumes (R.remaining r.old) (R.remaining r.new) v.items
@@ -125,8 +130,13 @@ fn put_in_little(bytes: &mut [u8], order: Order)
     }
 }
 
-/// The image of bytes, and their order, or the first code that they break.
-fn image_in(bytes: Vec<u8>) -> Result<(Image, Order), WordError>
+/// The words of a module's bytes, which become its image, and the order that they are in. (2.3) Of bytes that came from
+/// `read_octets` this is what `read_image` answers.
+///
+/// # Errors
+///
+/// The first of `W2` to `W7` that the bytes break. Then they are freed.
+pub fn image_from(bytes: Vec<u8>) -> Result<(Image, Order), WordError>
     requires { vec_len bytes ≤ greatest_size }
     ensures gives { IfOk result (λ p. IsModule p.1 bytes.items p.0) }
     ensures refused { IfErr result (λ e. IsFirstBroken e bytes.items) }
@@ -157,7 +167,7 @@ pub fn image_of(alloc: Global, bytes: &[u8]) -> Result<(Image, Order), WordError
     if bytes.len() > GREATEST_SIZE {
         return Err(WordError::W8);
     }
-    image_in(Vec::from_slice(alloc, bytes)?)
+    image_from(Vec::from_slice(alloc, bytes)?)
 }
 
 /// Reads a module's bytes to the end of input: its words, and the order that the bytes are in.
@@ -180,5 +190,5 @@ pub fn read_image<R: Source>(alloc: Global, r: &mut R) -> Result<(Image, Order),
     ensures steady { ¬ IsErrOf result W1 → R.failures r.new ≡ R.failures r.old }
     ensures most { IfSome (R.remaining r.old) (λ xs. GaveAtMost 16777217 xs (R.remaining r.new)) }
 {
-    image_in(read_all(alloc, r)?)
+    image_from(read_octets(alloc, r)?)
 }

@@ -18,9 +18,9 @@ loop-i-preserved c = λ n.
     let x = c.index-entries-i.result in
     let old = c.loop-i.places.items in
     let wide = c.widen.new.places.items in
-    let k = c.from-opcode.result in
+    let k = c.from-in-loop-i.result in
     first_step (λ e. e.0) es i x (Some (get_or old n 4294967295)) (Some (get_or (set wide k (i - 1)) n 4294967295)) n
     (omega arith) (omega arith) c.index-entries-i.is (c.loop-i.invariant n)
-    (dense wide k (i - 1) n 4294967295 c.in_ok-widen.ensures.place
+    (dense wide k (i - 1) n 4294967295 (omega (arith, c.in_ok-widen.ensures.place, c.from.ensures, c.from-in-loop-i.ensures))
     ∙ ap (λ p. if nat_eq k n then Some (i - 1) else Some p) (c.in_ok-widen.ensures.kept n)
-    ∙ ap (λ m. if nat_eq m n then Some (i - 1) else Some (get_or old n 4294967295)) (c.from-opcode.ensures ∙ ap (λ (e : ℕ × Entry). e.0) (sym c.index-entries-i.is)))
+    ∙ ap (λ m. if nat_eq m n then Some (i - 1) else Some (get_or old n 4294967295)) (c.from-in-loop-i.ensures ∙ ap (λ (e : ℕ × Entry). e.0) (sym c.index-entries-i.is)))

@@ -3,7 +3,7 @@ use Rattle.spv_table.specs.declared.table.Enumerant.{Enumerant}
 use Rattle.std.specs.BTreeMap as tree
 use Rattle.std.specs.Ordering.{nat_cmp}
 use Rattle.spv_table.proofs.Backward.{first_step, same_number}
-use Rattle.spv_table.proofs.sort.far_places.Goals as goal
+use Rattle.spv_table.proofs.sort.far_map.Goals as goal
 
 pub loop-i-preserved-in_ok-insert : goal.loop-i-preserved-in_ok-insert
 loop-i-preserved-in_ok-insert c = λ v h.

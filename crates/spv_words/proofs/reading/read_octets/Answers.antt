@@ -1,7 +1,7 @@
 use Rattle.std.proofs.Common.{arith, ◌≤◌, ◌+◌, length}
 use Rattle.std.proofs.lemmas.Grind.{common_steps}
 use Rattle.spv_words.proofs.Gathered.{gave_more}
-use Rattle.spv_words.proofs.reading.read_all.Goals as goal
+use Rattle.spv_words.proofs.reading.read_octets.Goals as goal
 
 pub returns-in_err-make_room-clause-given : goal.returns-in_err-make_room-clause-given
 returns-in_err-make_room-clause-given g c =

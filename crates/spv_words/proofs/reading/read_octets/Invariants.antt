@@ -1,5 +1,5 @@
 use Rattle.std.proofs.Common.{length, ◌-◌}
-use Rattle.spv_words.proofs.reading.read_all.Given as goal
+use Rattle.spv_words.proofs.reading.read_octets.Given as goal
 use Rattle.spv_words.proofs.Gathered.{SoFar}
 
 abbrev pub invariant-loop-block : goal.invariant-loop-block
