@@ -8,4 +8,5 @@ pub mod Entries
 pub mod Taking
 pub mod Firsts
 pub mod Direct
+mod Laid
 pub mod Worked

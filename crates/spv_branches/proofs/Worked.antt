@@ -1,9 +1,10 @@
 -- What the small functions of the worked examples have.
-use Rattle.std.proofs.Common.{◌≡◌, ◌<◌, ◌≤◌, ◌∙◌, ℕ, zero, suc, List, [], ◌∷◌, refl, sym, subst, arith}
+use Rattle.std.proofs.Common.{◌≡◌, ◌≤◌, ◌∙◌, ℕ, zero, suc, List, [], ◌∷◌, refl, sym, subst, arith}
 use Rattle.std.proofs.lemmas.Option.{same_Some}
 use Rattle.spv_module.specs.declared.opcode.TheConstants as opcode
 use Rattle.spv_module.specs.Example.{small}
 use Rattle.spv_module.specs.Operand.{Id, Mask, OfType, Result}
+use Rattle.spv_layout.specs.declared.class.Class.{Class}
 use Rattle.spv_layout.specs.declared.class.Class.TheVariants.{Function, FunctionEnd, Label, LoopMerge, Phi, Body, Branch}
 use Rattle.spv_layout.specs.declared.form.Form.{Form}
 use Rattle.spv_layout.specs.declared.form.Named.TheVariants as kind_of
@@ -13,16 +14,18 @@ use Rattle.spv_layout.specs.Row.{closed, repeated, others}
 use Rattle.spv_layout.specs.inner.Row.{row, v, l, T, R, kind}
 use Rattle.spv_layout.specs.Rows.{rows}
 use Rattle.spv_layout.specs.Shape.{AreOf, Ends, HasForms, IsUse}
-use Rattle.spv_layout.specs.Place.{IsAt, IsOfFunction, IsOfBlock, terminators}
+use Rattle.spv_layout.specs.Layout.{classes}
+use Rattle.spv_layout.specs.Place.{IsOfFunction, IsOfBlock, terminators}
 use Rattle.spv_layout.proofs.Places.{block_same}
 use Rattle.spv_layout.proofs.Shapes.{use_same}
 use Rattle.spv_ids.specs.Definition.{IsDefinedAt, IsUsedAt}
 use Rattle.spv_branches.specs.Target.{is_branch, IsOp, IsLabelOf, IsTarget, LeadsToBlock, IsParentAt, HasParents}
 use Rattle.spv_branches.specs.Walk.{Next, IsWalk, IsResultAmong}
 use Rattle.spv_branches.specs.Ready.{IsLocalValue, IsMissing}
-use Rattle.spv_branches.specs.Example.{branch, label, function, return_void, two_blocks, phi, bare_phi, paired, unpaired, negation, early, loop_merge, looped}
+use Rattle.spv_branches.specs.Example.{branch, label, function, return_void, two_blocks, phi, valued, bare_phi, paired, unpaired, negation, early, loop_merge, looped}
 use Rattle.spv_branches.proofs.Labelled.{use_in, use_within, one_id}
 use Rattle.spv_branches.proofs.Direct.{placed_at}
+use Rattle.spv_branches.proofs.Laid.{not_at, within_by}
 
 -- the branch to %2
 
@@ -72,43 +75,22 @@ branch_at (suc (suc (suc (suc zero)))) o = let e = o in cc
 branch_at (suc (suc (suc (suc (suc t))))) o = absurd o
 
 -- blocks
-no_label_to_2 : (k : ℕ) → 1 < k → k ≤ 2 → ¬ (IsAt (paired 1) k (Label ∷ []))
-unfolding rows
-no_label_to_2 zero a b h = absurd (omega (arith, a))
-no_label_to_2 (suc zero) a b h = absurd (omega (arith, a))
-no_label_to_2 (suc (suc zero)) a b h = cc
-no_label_to_2 (suc (suc (suc k))) a b h = absurd (omega (arith, b))
+abbrev pub laid : List Class
+laid = Function ∷ Label ∷ Branch ∷ Label ∷ Phi ∷ []
 
-no_end_to_2 : (k : ℕ) → 1 ≤ k → k < 2 → ¬ (IsAt (paired 1) k terminators)
+pub valued_classes : (x : ℕ) → classes (valued x 1) ≡ laid
 unfolding rows
-no_end_to_2 zero a b h = absurd (omega (arith, a))
-no_end_to_2 (suc zero) a b h = cc
-no_end_to_2 (suc (suc k)) a b h = absurd (omega (arith, b))
+valued_classes x = refl
 
 pub first_block : IsOfBlock (paired 1) 2 1
-unfolding rows
-first_block = record { begun = record { within = omega arith; up_to = omega arith; there = refl; last = no_label_to_2 }; not_ended = no_end_to_2 }
-
-no_label_to_4 : (k : ℕ) → 3 < k → k ≤ 4 → ¬ (IsAt (paired 1) k (Label ∷ []))
-unfolding rows
-no_label_to_4 zero a b h = absurd (omega (arith, a))
-no_label_to_4 (suc zero) a b h = absurd (omega (arith, a))
-no_label_to_4 (suc (suc zero)) a b h = absurd (omega (arith, a))
-no_label_to_4 (suc (suc (suc zero))) a b h = absurd (omega (arith, a))
-no_label_to_4 (suc (suc (suc (suc zero)))) a b h = cc
-no_label_to_4 (suc (suc (suc (suc (suc k))))) a b h = absurd (omega (arith, b))
-
-no_end_to_4 : (k : ℕ) → 3 ≤ k → k < 4 → ¬ (IsAt (paired 1) k terminators)
-unfolding rows
-no_end_to_4 zero a b h = absurd (omega (arith, a))
-no_end_to_4 (suc zero) a b h = absurd (omega (arith, a))
-no_end_to_4 (suc (suc zero)) a b h = absurd (omega (arith, a))
-no_end_to_4 (suc (suc (suc zero))) a b h = cc
-no_end_to_4 (suc (suc (suc (suc k)))) a b h = absurd (omega (arith, b))
+first_block = within_by (paired 1) laid Label terminators 2 1 3 2 (valued_classes 5) (omega arith) (omega arith) (omega arith) (omega arith) refl refl refl
 
 second_block : IsOfBlock (paired 1) 4 3
-unfolding rows
-second_block = record { begun = record { within = omega arith; up_to = omega arith; there = refl; last = no_label_to_4 }; not_ended = no_end_to_4 }
+second_block = within_by (paired 1) laid Label terminators 4 3 5 4 (valued_classes 5) (omega arith) (omega arith) (omega arith) (omega arith) refl refl refl
+
+-- all instructions are of the function
+pub of_function : (x n : ℕ) → n ≤ 4 → IsOfFunction (valued x 1) n 0
+of_function x n lt = within_by (valued x 1) laid Function (FunctionEnd ∷ []) n 0 5 5 (valued_classes x) (omega (arith, lt)) (omega arith) (omega (arith, lt)) (omega arith) refl refl refl
 
 -- predecessors
 target : IsTarget small (paired 1) 2 2
@@ -182,43 +164,15 @@ bare_label zero x u = (let t = placed_at small unpaired 4 0 x opcode.PHI bare_ph
 bare_label (suc zero) x u = (let t = placed_at small unpaired 4 1 x opcode.PHI bare_phi refl refl refl (record { forms = T ∷ R ∷ []; has = bare_forms }) u in cc)
 bare_label (suc (suc k)) x u = (let w = use_within small bare_phi (suc (suc k)) x role.Label (use_in small unpaired 4 (suc (suc k)) x role.Label bare_phi refl u) in omega (arith, w))
 
-no_label_u2 : (k : ℕ) → 1 < k → k ≤ 2 → ¬ (IsAt unpaired k (Label ∷ []))
+unpaired_classes : classes unpaired ≡ laid
 unfolding rows
-no_label_u2 zero a b h = absurd (omega (arith, a))
-no_label_u2 (suc zero) a b h = absurd (omega (arith, a))
-no_label_u2 (suc (suc zero)) a b h = cc
-no_label_u2 (suc (suc (suc k))) a b h = absurd (omega (arith, b))
-
-no_end_u2 : (k : ℕ) → 1 ≤ k → k < 2 → ¬ (IsAt unpaired k terminators)
-unfolding rows
-no_end_u2 zero a b h = absurd (omega (arith, a))
-no_end_u2 (suc zero) a b h = cc
-no_end_u2 (suc (suc k)) a b h = absurd (omega (arith, b))
+unpaired_classes = refl
 
 pub u_block : IsOfBlock unpaired 2 1
-unfolding rows
-u_block = record { begun = record { within = omega arith; up_to = omega arith; there = refl; last = no_label_u2 }; not_ended = no_end_u2 }
-
-no_label_u4 : (k : ℕ) → 3 < k → k ≤ 4 → ¬ (IsAt unpaired k (Label ∷ []))
-unfolding rows
-no_label_u4 zero a b h = absurd (omega (arith, a))
-no_label_u4 (suc zero) a b h = absurd (omega (arith, a))
-no_label_u4 (suc (suc zero)) a b h = absurd (omega (arith, a))
-no_label_u4 (suc (suc (suc zero))) a b h = absurd (omega (arith, a))
-no_label_u4 (suc (suc (suc (suc zero)))) a b h = cc
-no_label_u4 (suc (suc (suc (suc (suc k))))) a b h = absurd (omega (arith, b))
-
-no_end_u4 : (k : ℕ) → 3 ≤ k → k < 4 → ¬ (IsAt unpaired k terminators)
-unfolding rows
-no_end_u4 zero a b h = absurd (omega (arith, a))
-no_end_u4 (suc zero) a b h = absurd (omega (arith, a))
-no_end_u4 (suc (suc zero)) a b h = absurd (omega (arith, a))
-no_end_u4 (suc (suc (suc zero))) a b h = cc
-no_end_u4 (suc (suc (suc (suc k)))) a b h = absurd (omega (arith, b))
+u_block = within_by unpaired laid Label terminators 2 1 3 2 unpaired_classes (omega arith) (omega arith) (omega arith) (omega arith) refl refl refl
 
 pub phi_block : IsOfBlock unpaired 4 3
-unfolding rows
-phi_block = record { begun = record { within = omega arith; up_to = omega arith; there = refl; last = no_label_u4 }; not_ended = no_end_u4 }
+phi_block = within_by unpaired laid Label terminators 4 3 5 4 unpaired_classes (omega arith) (omega arith) (omega arith) (omega arith) refl refl refl
 
 pub u_leads : LeadsToBlock small unpaired 2 1 3
 u_leads = record {
@@ -246,27 +200,19 @@ negation_forms r x = record {
   each = AreOf.more T (OfType 20) (R ∷ v ∷ []) (Result r ∷ Id x ∷ []) refl (AreOf.more R (Result r) (v ∷ []) (Id x ∷ []) refl (AreOf.more v (Id x) [] [] refl AreOf.none));
 }
 
-no_function : (k : ℕ) → 0 < k → k ≤ 3 → ¬ (IsAt early k (Function ∷ []))
-unfolding rows
-no_function zero a b h = absurd (omega (arith, a))
-no_function (suc (suc (suc (suc k)))) a b h = absurd (omega (arith, b))
-no_function _ a b h = cc
+abbrev laid_early : List Class
+laid_early = Function ∷ Label ∷ Body ∷ Body ∷ []
 
-no_end : (k : ℕ) → k ≤ 3 → ¬ (IsAt early k (FunctionEnd ∷ []))
+early_classes : classes early ≡ laid_early
 unfolding rows
-no_end (suc (suc (suc (suc k)))) b h = absurd (omega (arith, b))
-no_end _ b h = cc
+early_classes = refl
 
-pub of_function : (n : ℕ) → n ≤ 3 → IsOfFunction early n 0
-unfolding rows
-of_function n lt = record {
-  begun = record { within = omega (arith, lt); up_to = omega arith; there = refl; last = λ k a b. no_function k a (omega (arith, b, lt)) };
-  not_ended = λ k a b. no_end k (omega (arith, b, lt));
-}
+of_early : (n : ℕ) → n ≤ 3 → IsOfFunction early n 0
+of_early n lt = within_by early laid_early Function (FunctionEnd ∷ []) n 0 4 4 early_classes (omega (arith, lt)) (omega arith) (omega (arith, lt)) (omega arith) refl refl refl
 
 pub local_7 : IsLocalValue early 7
 local_7 = record {
-  local = (0, record { place = 3; defined = record { inst = negation 7 6; there = refl; result = refl }; of = of_function 3 (omega arith); after = omega arith; before = no_end 3 (omega arith) });
+  local = (0, record { place = 3; defined = record { inst = negation 7 6; there = refl; result = refl }; of = of_early 3 (omega arith); after = omega arith; before = not_at early laid_early (FunctionEnd ∷ []) 0 4 3 early_classes refl (omega arith) (omega arith) });
   place = 3;
   defined = record { inst = negation 7 6; there = refl; result = refl };
   inst = negation 7 6;
@@ -295,8 +241,8 @@ undefined (suc (suc k), n, lt, e, d) = absurd (omega (arith, lt))
 walked : IsWalk small early 0 (1 ∷ 0 ∷ []) 2
 walked =
     let w0 : IsWalk small early 0 [] 0 = IsWalk.begins refl in
-    let w1 : IsWalk small early 0 (0 ∷ []) 1 = IsWalk.goes [] 0 1 w0 (Next.follows (λ t. let e = t in cc)) (of_function 1 (omega arith)) in
-    IsWalk.goes (0 ∷ []) 1 2 w1 (Next.follows (λ t. let e = t in cc)) (of_function 2 (omega arith))
+    let w1 : IsWalk small early 0 (0 ∷ []) 1 = IsWalk.goes [] 0 1 w0 (Next.follows (λ t. let e = t in cc)) (of_early 1 (omega arith)) in
+    IsWalk.goes (0 ∷ []) 1 2 w1 (Next.follows (λ t. let e = t in cc)) (of_early 2 (omega arith))
 
 pub missed : IsMissing small early 2
 missed = record {

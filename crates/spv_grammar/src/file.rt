@@ -4,7 +4,7 @@ use crate::lent::{Lent, LentName};
 use spv_table::{Category, Quantifier};
 
 /// An operand of an instruction, or a parameter of an enumerant.
-#[derive(Debug, Drop)]
+#[derive(Drop)]
 pub(crate) struct FileOperand<'a> {
     /// The name of its kind.
     pub kind: LentName<'a>,
@@ -13,7 +13,7 @@ pub(crate) struct FileOperand<'a> {
 }
 
 /// An element of `instructions`.
-#[derive(Debug, Drop)]
+#[derive(Drop)]
 pub(crate) struct FileInstruction<'a> {
     pub name: LentName<'a>,
     /// None where the number is no whole one from 0 to 65,535.
@@ -23,7 +23,7 @@ pub(crate) struct FileInstruction<'a> {
 }
 
 /// An element of a kind's `enumerants`.
-#[derive(Debug, Drop)]
+#[derive(Drop)]
 pub(crate) struct FileEnumerant<'a> {
     pub name: LentName<'a>,
     /// None where it is out of the range or form of its kind's category.
@@ -33,7 +33,7 @@ pub(crate) struct FileEnumerant<'a> {
 }
 
 /// An element of `operand_kinds`.
-#[derive(Debug, Drop)]
+#[derive(Drop)]
 pub(crate) struct FileKind<'a> {
     pub name: LentName<'a>,
     /// None where the text names none.
@@ -45,7 +45,7 @@ pub(crate) struct FileKind<'a> {
 }
 
 /// A grammar file.
-#[derive(Debug, Drop)]
+#[derive(Drop)]
 pub(crate) struct File<'a> {
     pub instructions: Lent<'a, FileInstruction<'a>>,
     pub kinds: Lent<'a, FileKind<'a>>,

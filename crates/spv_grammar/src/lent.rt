@@ -9,7 +9,7 @@ use std::alloc::{AllocError, Global};
 use std::marker::Model;
 
 /// A name that stands in the text. Contracts see it as the list of its octets.
-#[derive(Debug, Drop)]
+#[derive(Drop)]
 pub(crate) struct LentName<'a> {
     text: &'a str,
 }
@@ -54,7 +54,7 @@ impl<'a> Named for LentName<'a> {
 }
 
 /// A list that stands in an arena. Contracts see it as the list of its items.
-#[derive(Debug, Drop)]
+#[derive(Drop)]
 pub(crate) struct Lent<'a, T> {
     items: &'a [T],
 }

@@ -20,7 +20,7 @@ use spv_table::Memory;
 use std::alloc::Global;
 
 /// What a grammar file is refused for, and where.
-#[derive(Debug, Drop)]
+#[derive(Drop)]
 pub struct GrammarFault {
     /// The code, J1 to J7.
     pub code: GrammarError,

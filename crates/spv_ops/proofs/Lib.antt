@@ -7,3 +7,4 @@ pub mod ValuePlaces
 pub mod Judged
 pub mod Worked
 mod CommonRows
+mod Counts

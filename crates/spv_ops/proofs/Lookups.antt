@@ -1,10 +1,11 @@
 -- The storage class of a variable, by where it stands.
-use Rattle.std.proofs.Common.{◌≡◌, ◌≢◌, ◌↔◌, inl, inr, ℕ, List, Option, Some, None}
-use Rattle.std.specs.Prelude.{MatchOption}
-use Rattle.std.proofs.lemmas.Option.{none-some}
+use Rattle.std.proofs.Common.{◌≡◌, ◌≢◌, ◌↔◌, ◌+◌, if◌then◌else◌, inl, inr, ℕ, List, Option, Some, None, Bool, true, false, refl, arith}
+use Rattle.std.specs.Prelude.{MatchOption, nat_lt}
+use Rattle.std.proofs.lemmas.Bool.{ltb-true}
+use Rattle.std.proofs.lemmas.Option.{none-some, same_Some}
 use Rattle.spv_module.specs.Operand.{PlainInst}
 use Rattle.spv_layout.specs.declared.class.Class.{Class}
-use Rattle.spv_layout.specs.declared.class.Class.TheVariants as class
+use Rattle.spv_layout.specs.Class.{class_number}
 use Rattle.spv_layout.specs.Place.{IsOfSection, IsOfFunction, section_of}
 use Rattle.spv_layout.specs.Plan.{IsPlaceOf}
 use Rattle.spv_layout.specs.declared.place.Place.{Place}
@@ -12,34 +13,12 @@ use Rattle.spv_ops.specs.inner.Variable.{IsClassAt}
 use Rattle.spv_type_forms.proofs.Lookups.{one_section}
 
 -- no class is of section 11 alone
+not_11 : (k : ℕ) (is_early : Bool) → nat_lt k 10 ≡ is_early → (if is_early then Some (1 + k) else None) ≡ Some 11 → ⊥
+not_11 k true lt e = let below = ltb-true k 10 lt in let same = same_Some (1 + k) 11 e in omega (arith, below, same)
+not_11 k false lt e = absurd (none-some 11 e)
+
 early_none : (c : Class) → section_of c ≡ Some 11 → ⊥
-early_none class.Capability e = cc
-early_none class.Extension e = cc
-early_none class.Import e = cc
-early_none class.MemoryModel e = cc
-early_none class.EntryPoint e = cc
-early_none class.ExecutionMode e = cc
-early_none class.Source e = cc
-early_none class.Name e = cc
-early_none class.Processed e = cc
-early_none class.Decoration e = cc
-early_none class.Declaration e = cc
-early_none class.Variable e = cc
-early_none class.Undef e = cc
-early_none class.Function e = cc
-early_none class.Parameter e = cc
-early_none class.FunctionEnd e = cc
-early_none class.Label e = cc
-early_none class.Phi e = cc
-early_none class.Body e = cc
-early_none class.Branch e = cc
-early_none class.BranchConditional e = cc
-early_none class.Switch e = cc
-early_none class.Return e = cc
-early_none class.LoopMerge e = cc
-early_none class.SelectionMerge e = cc
-early_none class.Line e = cc
-early_none class.Outside e = cc
+early_none c e = not_11 (class_number c) (nat_lt (class_number c) 10) refl e
 
 -- an instruction of section 11 is of no function
 no_function : (is : List PlainInst) (n f : ℕ) → IsOfSection is n 11 → IsOfFunction is n f → ⊥

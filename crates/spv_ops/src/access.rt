@@ -97,19 +97,30 @@ fn accesses_with_result(definitions: &Definitions, row: Access, r: u32, types: &
 fn accesses_without_result(definitions: &Definitions, row: Access, types: &[u32]) -> bool
     ensures { IsTrue result ↔ Accesses definitions.now row None types.now }
 {
-    match (row, types) {
-        (Access::Store, [o, p]) => points_to(definitions, *o, *p),
-        (Access::CopyMemory, [o, p]) => copy_memory(definitions, *o, *p),
-        (Access::CopyMemorySized, [o, p, q]) => copy_memory_sized(definitions, *o, *p, *q),
-        (Access::Lifetime, [o]) => lifetime(definitions, *o),
-        (Access::ControlBarrier, [c, d, m]) => is_scope(definitions, *c)
-            && are_scopes(definitions, *d, *m),
-        (Access::MemoryBarrier, [c, m]) => are_scopes(definitions, *c, *m),
-        (Access::AtomicStore, [o, c, m, p]) => {
-            points_to(definitions, *o, *p)
-                && are_scopes(definitions, *c, *m)
-                && is_number(definitions, *p)
-        }
+    match types {
+        [o] => match row {
+            Access::Lifetime => lifetime(definitions, *o),
+            _ => false,
+        },
+        [o, p] => match row {
+            Access::Store => points_to(definitions, *o, *p),
+            Access::CopyMemory => copy_memory(definitions, *o, *p),
+            Access::MemoryBarrier => are_scopes(definitions, *o, *p),
+            _ => false,
+        },
+        [o, p, q] => match row {
+            Access::CopyMemorySized => copy_memory_sized(definitions, *o, *p, *q),
+            Access::ControlBarrier => is_scope(definitions, *o) && are_scopes(definitions, *p, *q),
+            _ => false,
+        },
+        [o, c, m, p] => match row {
+            Access::AtomicStore => {
+                points_to(definitions, *o, *p)
+                    && are_scopes(definitions, *c, *m)
+                    && is_number(definitions, *p)
+            }
+            _ => false,
+        },
         _ => false,
     }
 }

@@ -1,3 +1,6 @@
+// Where a lemma is named the prover tries `grind` before it searches, which is quicker for the functions here.
+#![tactic(auto, using(crate::proofs::Counts::no_calculation))]
+
 ghost use Rattle.std.specs.Prelude.{◌≡◌, ◌↔◌, ◌⊎◌, ℕ, [], ◌∷◌, IsTrue};
 ghost use Rattle.spv_type_forms.specs.Types.{IsBool, IsVector};
 ghost use Rattle.spv_type_forms.specs.inner.Types.{IsB};
@@ -274,21 +277,30 @@ pub fn bitcast(definitions: &Definitions, r: u32, o: u32) -> bool
 pub fn calculates(definitions: &Definitions, row: Calculation, r: u32, types: &[u32]) -> bool
     ensures { IsTrue result ↔ Calculates definitions.now row r types.now }
 {
-    match (row, types) {
-        (Calculation::FloatToInt, [o]) => float_to_int(definitions, r, *o),
-        (Calculation::IntToFloat, [o]) => int_to_float(definitions, r, *o),
-        (Calculation::ResizeInt, [o]) => resize_int(definitions, r, *o),
-        (Calculation::ResizeFloat, [o]) => resize_float(definitions, r, *o),
-        (Calculation::PointerToInt, [o]) => pointer_to_int(definitions, r, *o),
-        (Calculation::IntToPointer, [o]) => int_to_pointer(definitions, r, *o),
-        (Calculation::ToGeneric, [o]) => to_generic(definitions, r, *o),
-        (Calculation::FromGeneric, [o]) => from_generic(definitions, r, *o),
-        (Calculation::Bitcast, [o]) => bitcast(definitions, r, *o),
-        (Calculation::Unary(sort), [o]) => unary(definitions, sort, r, *o),
-        (Calculation::Binary(sort), [o, p]) => binary(definitions, sort, r, *o, *p),
-        (Calculation::Select, [o, p, q]) => select(definitions, r, *o, *p, *q),
-        (Calculation::Compare(sort), [o, p]) => compare(definitions, sort, r, *o, *p),
-        (Calculation::Shift, [o, p]) => shift(definitions, r, *o, *p),
+    match types {
+        [o] => match row {
+            Calculation::FloatToInt => float_to_int(definitions, r, *o),
+            Calculation::IntToFloat => int_to_float(definitions, r, *o),
+            Calculation::ResizeInt => resize_int(definitions, r, *o),
+            Calculation::ResizeFloat => resize_float(definitions, r, *o),
+            Calculation::PointerToInt => pointer_to_int(definitions, r, *o),
+            Calculation::IntToPointer => int_to_pointer(definitions, r, *o),
+            Calculation::ToGeneric => to_generic(definitions, r, *o),
+            Calculation::FromGeneric => from_generic(definitions, r, *o),
+            Calculation::Bitcast => bitcast(definitions, r, *o),
+            Calculation::Unary(sort) => unary(definitions, sort, r, *o),
+            _ => false,
+        },
+        [o, p] => match row {
+            Calculation::Binary(sort) => binary(definitions, sort, r, *o, *p),
+            Calculation::Compare(sort) => compare(definitions, sort, r, *o, *p),
+            Calculation::Shift => shift(definitions, r, *o, *p),
+            _ => false,
+        },
+        [o, p, q] => match row {
+            Calculation::Select => select(definitions, r, *o, *p, *q),
+            _ => false,
+        },
         _ => false,
     }
 }

@@ -96,6 +96,7 @@ fn shuffle(definitions: &Definitions, r: u32, o: u32, p: u32, operands: &[Operan
 
 /// Whether a row of composites holds of the result type, the types of the value operands in order and the literals
 /// among the operands.
+#[tactic(auto, using(crate::proofs::Counts::no_composite))]
 pub fn composes(
     definitions: &Definitions,
     row: Composite,
@@ -105,13 +106,22 @@ pub fn composes(
 ) -> bool
     ensures { IsTrue result ↔ Composes definitions.now row r types.now (words_in (plain_operands operands.now)) }
 {
-    match (row, types) {
-        (Composite::ExtractDynamic, [o, p]) => extract_dynamic(definitions, r, *o, *p),
-        (Composite::InsertDynamic, [o, p, q]) => insert_dynamic(definitions, r, *o, *p, *q),
-        (Composite::Shuffle, [o, p]) => shuffle(definitions, r, *o, *p, operands),
-        (Composite::Extract, [o]) => extract(definitions, r, *o, operands),
-        (Composite::Insert, [o, p]) => insert(definitions, r, *o, *p, operands),
-        (Composite::CopyObject, [o]) => *o == r && is_data(definitions, r),
+    match types {
+        [o] => match row {
+            Composite::Extract => extract(definitions, r, *o, operands),
+            Composite::CopyObject => *o == r && is_data(definitions, r),
+            _ => false,
+        },
+        [o, p] => match row {
+            Composite::ExtractDynamic => extract_dynamic(definitions, r, *o, *p),
+            Composite::Shuffle => shuffle(definitions, r, *o, *p, operands),
+            Composite::Insert => insert(definitions, r, *o, *p, operands),
+            _ => false,
+        },
+        [o, p, q] => match row {
+            Composite::InsertDynamic => insert_dynamic(definitions, r, *o, *p, *q),
+            _ => false,
+        },
         _ => false,
     }
 }

@@ -1,12 +1,14 @@
-use Rattle.std.proofs.Common.{◌≡◌, ◌<◌, ◌≤◌, ℕ, zero, suc, List, [], ◌∷◌, refl, subst, arith, inl, inr}
+use Rattle.std.proofs.Common.{◌≡◌, ◌<◌, ℕ, zero, suc, List, [], ◌∷◌, refl, subst, arith, inl, inr}
 use Rattle.std.proofs.lemmas.Option.{same_Some}
 use Rattle.spv_module.specs.declared.opcode.TheConstants as opcode
 use Rattle.spv_module.specs.Example.{small}
 use Rattle.spv_module.specs.Operand.{Id}
 use Rattle.spv_module.specs.declared.fault.Rule.{Rule}
 use Rattle.spv_module.specs.declared.fault.Rule.TheVariants.{F2, F4}
-use Rattle.spv_layout.specs.declared.class.Class.TheVariants.{Function, FunctionEnd, Label, Branch, BranchConditional}
-use Rattle.spv_layout.specs.Place.{IsAt, IsOfFunction, IsOfBlock, terminators}
+use Rattle.spv_layout.specs.declared.class.Class.{Class}
+use Rattle.spv_layout.specs.declared.class.Class.TheVariants.{Function, FunctionEnd, Label, Branch, BranchConditional, Return}
+use Rattle.spv_layout.specs.Layout.{classes}
+use Rattle.spv_layout.specs.Place.{IsOfFunction, IsOfBlock, terminators}
 use Rattle.spv_layout.specs.declared.form.Role.TheVariants as role
 use Rattle.spv_layout.specs.Row.{closed, repeated}
 use Rattle.spv_layout.specs.inner.Row.{row, v, l, W}
@@ -20,6 +22,7 @@ use Rattle.spv_branches.specs.Broken.{Broken}
 use Rattle.spv_branches.specs.Example.{branch, conditional, label, function, return_void, two_blocks, loop_merge}
 use Rattle.spv_branches.proofs.Labelled.{one_id}
 use Rattle.spv_branches.proofs.Direct.{jump_only}
+use Rattle.spv_branches.proofs.Laid.{within_by}
 use Rattle.spv_branches.proofs.Worked.{loop_used}
 use Rattle.spv_branches.proofs.laws.flow_examples.Goals as goal
 
@@ -111,23 +114,15 @@ undefined (suc (suc zero), n, lt, e, d) = let f : n ≡ 0 = cc in at_0 n f d
 undefined (suc (suc (suc k)), n, lt, e, d) = absurd (omega (arith, lt))
 
 -- all instructions are of the function
-no_function : (k : ℕ) → 0 < k → k < 5 → ¬ (IsAt two_blocks k (Function ∷ []))
-unfolding rows
-no_function zero l u a = absurd (omega (arith, l))
-no_function (suc (suc (suc (suc (suc k))))) l u a = absurd (omega (arith, u))
-no_function _ l u a = cc
+abbrev laid : List Class
+laid = Function ∷ Label ∷ Branch ∷ Label ∷ Return ∷ []
 
-no_end : (k : ℕ) → k < 4 → ¬ (IsAt two_blocks k (FunctionEnd ∷ []))
+two_blocks_classes : classes two_blocks ≡ laid
 unfolding rows
-no_end (suc (suc (suc (suc k)))) u a = absurd (omega (arith, u))
-no_end _ u a = cc
+two_blocks_classes = refl
 
 of_function : (n : ℕ) → n < 5 → IsOfFunction two_blocks n 0
-unfolding rows
-of_function n lt = record {
-  begun = record { within = omega (arith, lt); up_to = omega arith; there = refl; last = λ k l u. no_function k l (omega (arith, u, lt)) };
-  not_ended = λ k l u. no_end k (omega (arith, u, lt));
-}
+of_function n lt = within_by two_blocks laid Function (FunctionEnd ∷ []) n 0 5 5 two_blocks_classes (omega (arith, lt)) (omega arith) (omega (arith, lt)) (omega arith) refl refl refl
 
 walked : IsWalk small two_blocks 0 (3 ∷ 2 ∷ 1 ∷ 0 ∷ []) 4
 walked =
@@ -149,22 +144,8 @@ no_walk : ¬ (IsWalk small two_blocks 0 (1 ∷ 0 ∷ []) 3)
 no_walk w = let e = after_label 3 (last_step (1 ∷ 0 ∷ []) 3 1 (0 ∷ []) w refl) in omega (arith, e)
 
 -- the first block
-no_label_after : (k : ℕ) → 1 < k → k ≤ 2 → ¬ (IsAt two_blocks k (Label ∷ []))
-unfolding rows
-no_label_after zero l u a = absurd (omega (arith, l))
-no_label_after (suc zero) l u a = absurd (omega (arith, l))
-no_label_after (suc (suc zero)) l u a = cc
-no_label_after (suc (suc (suc k))) l u a = absurd (omega (arith, u))
-
-not_ended : (k : ℕ) → 1 ≤ k → k < 2 → ¬ (IsAt two_blocks k terminators)
-unfolding rows
-not_ended zero l u a = absurd (omega (arith, l))
-not_ended (suc zero) l u a = cc
-not_ended (suc (suc k)) l u a = absurd (omega (arith, u))
-
 of_block : IsOfBlock two_blocks 2 1
-unfolding rows
-of_block = record { begun = record { within = omega arith; up_to = omega arith; there = refl; last = no_label_after }; not_ended = not_ended }
+of_block = within_by two_blocks laid Label terminators 2 1 3 2 two_blocks_classes (omega arith) (omega arith) (omega arith) (omega arith) refl refl refl
 
 branch_id : (n x : ℕ) → IsUsedAt small two_blocks 2 n x role.Label → x ≡ 2
 branch_id n x u = elim (jump_only small two_blocks 2 2 (branch 2) refl refl (record { forms = l ∷ []; has = branch_forms 2 }) (record { inst = branch 2; there = refl; used = branch_used 2 }) n x u) [ inl e ↦ e | inr e ↦ e ]

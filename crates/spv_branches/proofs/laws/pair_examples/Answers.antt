@@ -1,17 +1,16 @@
-use Rattle.std.proofs.Common.{◌≡◌, ◌<◌, ◌≤◌, ◌+◌, ℕ, zero, suc, [], ◌∷◌, refl, subst, arith}
+use Rattle.std.proofs.Common.{◌≡◌, ◌<◌, ◌+◌, ℕ, zero, suc, [], ◌∷◌, refl, subst, arith}
 use Rattle.std.specs.Prelude.{slice_index_or}
 use Rattle.std.proofs.lemmas.Option.{same_Some}
 use Rattle.spv_module.specs.declared.opcode.TheConstants as opcode
 use Rattle.spv_module.specs.Example.{small}
 use Rattle.spv_module.specs.Operand.{Id, OfType, Result}
-use Rattle.spv_layout.specs.declared.class.Class.TheVariants.{Function, FunctionEnd, Phi}
+use Rattle.spv_layout.specs.declared.class.Class.TheVariants.{FunctionEnd, Phi}
 use Rattle.spv_layout.specs.declared.form.Role.{Role}
 use Rattle.spv_layout.specs.declared.form.Role.TheVariants as role
 use Rattle.spv_layout.specs.Row.{repeated}
 use Rattle.spv_layout.specs.inner.Row.{row, v, l, T, R}
 use Rattle.spv_layout.specs.Rows.{rows}
 use Rattle.spv_layout.specs.Shape.{AreOf, Ends, HasForms}
-use Rattle.spv_layout.specs.Place.{IsAt, IsOfFunction}
 use Rattle.spv_ids.specs.Definition.{IsDefinedAt, IsUsedAt}
 use Rattle.spv_branches.specs.Target.{is_label, IsOp, IsLabelOf, IsTarget}
 use Rattle.spv_branches.specs.Walk.{Next, IsWalk, IsResultAmong}
@@ -19,7 +18,8 @@ use Rattle.spv_branches.specs.Ready.{ComesFrom, IsLocalValue, IsPair, IsPairMiss
 use Rattle.spv_branches.specs.Broken.{Broken}
 use Rattle.spv_branches.specs.Example.{branch, label, function, two_blocks, phi_of, valued, paired, early}
 use Rattle.spv_branches.proofs.Labelled.{use_in, one_id}
-use Rattle.spv_branches.proofs.Worked.{branch_used, branch_only, not_local, missed, label_place, label_name}
+use Rattle.spv_branches.proofs.Laid.{not_at}
+use Rattle.spv_branches.proofs.Worked.{branch_used, branch_only, laid, valued_classes, of_function, not_local, missed, label_place, label_name}
 use Rattle.spv_branches.proofs.laws.pair_examples.Goals as goal
 
 -- what the OpPhi uses
@@ -48,25 +48,6 @@ label_2 x = record { defined = record { inst = label 2; there = refl; result = r
 
 pairs : (x : ℕ) → IsPair small (valued x 1) 4 x 1
 pairs x = record { operand = 2; paired = uses_value x; id = 1; named = uses_label x; label = label_1 x }
-
--- all instructions are of the function
-no_function : (x k : ℕ) → 0 < k → k ≤ 4 → ¬ (IsAt (valued x 1) k (Function ∷ []))
-unfolding rows
-no_function x zero a b h = absurd (omega (arith, a))
-no_function x (suc (suc (suc (suc (suc k))))) a b h = absurd (omega (arith, b))
-no_function x _ a b h = cc
-
-no_end : (x k : ℕ) → k ≤ 4 → ¬ (IsAt (valued x 1) k (FunctionEnd ∷ []))
-unfolding rows
-no_end x (suc (suc (suc (suc (suc k))))) b h = absurd (omega (arith, b))
-no_end x _ b h = cc
-
-of_function : (x n : ℕ) → n ≤ 4 → IsOfFunction (valued x 1) n 0
-unfolding rows
-of_function x n lt = record {
-  begun = record { within = omega (arith, lt); up_to = omega arith; there = refl; last = λ k a b. no_function x k a (omega (arith, b, lt)) };
-  not_ended = λ k a b. no_end x k (omega (arith, b, lt));
-}
 
 -- the walk to the OpPhi
 target : (x : ℕ) → IsTarget small (valued x 1) 2 2
@@ -99,7 +80,7 @@ comes x = record {
 -- the result of the OpPhi is local, and not defined before it
 local_9 : IsLocalValue (valued 9 1) 9
 local_9 = record {
-  local = (0, record { place = 4; defined = record { inst = phi_of 9 1; there = refl; result = refl }; of = of_function 9 4 (omega arith); after = omega arith; before = no_end 9 4 (omega arith) });
+  local = (0, record { place = 4; defined = record { inst = phi_of 9 1; there = refl; result = refl }; of = of_function 9 4 (omega arith); after = omega arith; before = not_at (valued 9 1) laid (FunctionEnd ∷ []) 0 5 4 (valued_classes 9) refl (omega arith) (omega arith) });
   place = 4;
   defined = record { inst = phi_of 9 1; there = refl; result = refl };
   inst = phi_of 9 1;

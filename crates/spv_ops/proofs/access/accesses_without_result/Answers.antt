@@ -1,6 +1,61 @@
 use Rattle.std.proofs.Common.{arith}
 use Rattle.std.proofs.lemmas.Grind.{common_steps}
+use Rattle.spv_ops.proofs.Counts.{no_access}
 use Rattle.spv_ops.proofs.access.accesses_without_result.Goals as goal
 
-pub returns-in-CopyMemorySized-len3 : goal.returns-in-CopyMemorySized-len3
-returns-in-CopyMemorySized-len3 c = grind (arith, common_steps)
+pub bounds-types-0 : goal.bounds-types-0
+bounds-types-0 c = omega arith
+
+pub bounds-types-0-then-types-lt3 : goal.bounds-types-0-then-types-lt3
+bounds-types-0-then-types-lt3 c = omega arith
+
+pub bounds-types-1 : goal.bounds-types-1
+bounds-types-1 c = omega arith
+
+pub bounds-types-0-then-types-lt4 : goal.bounds-types-0-then-types-lt4
+bounds-types-0-then-types-lt4 c = omega arith
+
+pub bounds-types-1-then-types-lt4 : goal.bounds-types-1-then-types-lt4
+bounds-types-1-then-types-lt4 c = omega arith
+
+pub bounds-types-2 : goal.bounds-types-2
+bounds-types-2 c = omega arith
+
+pub bounds-types-0-then-types-lt5 : goal.bounds-types-0-then-types-lt5
+bounds-types-0-then-types-lt5 c = omega arith
+
+pub bounds-types-1-then-types-lt5 : goal.bounds-types-1-then-types-lt5
+bounds-types-1-then-types-lt5 c = omega arith
+
+pub bounds-types-2-then-types-lt5 : goal.bounds-types-2-then-types-lt5
+bounds-types-2-then-types-lt5 c = omega arith
+
+pub bounds-types-3 : goal.bounds-types-3
+bounds-types-3 c = omega arith
+
+pub returns-in_default-row : goal.returns-in_default-row
+returns-in_default-row c = grind (arith, common_steps)
+
+pub returns-in_default-row-2 : goal.returns-in_default-row-2
+returns-in_default-row-2 c = grind (arith, common_steps)
+
+pub returns-then-is_scope : goal.returns-then-is_scope
+returns-then-is_scope c = grind (arith, common_steps)
+
+pub returns-else-is_scope : goal.returns-else-is_scope
+returns-else-is_scope c = grind (arith, common_steps)
+
+pub returns-in_default-row-3 : goal.returns-in_default-row-3
+returns-in_default-row-3 c = grind (arith, common_steps)
+
+pub returns-else-are_scopes : goal.returns-else-are_scopes
+returns-else-are_scopes c = grind (arith, common_steps)
+
+pub returns-in_default-row-4 : goal.returns-in_default-row-4
+returns-in_default-row-4 c = grind (arith, common_steps)
+
+pub returns-in_default : goal.returns-in_default
+returns-in_default c = grind (arith, no_access)
+
+pub returns-in_default-2 : goal.returns-in_default-2
+returns-in_default-2 c = grind (arith, no_access)
