@@ -23,6 +23,9 @@ pub enum Kind {
     GenericPointer,
     /// A pointer of the storage class Workgroup, CrossWorkgroup or Function.
     NamedPointer,
+    Vector,
+    /// A vector, a struct or an array.
+    Composite,
 }
 
 /// How the type of an operand is to stand to another type, the one that is wanted.
@@ -42,10 +45,14 @@ pub enum Relation {
     PointsTo,
     /// Both are pointers, to one type.
     SamePointee,
+    /// Both are pointers, of one storage class.
+    SameClass,
     /// It is a vector of that type.
     VectorOf,
     /// It is the component type of that vector.
     ComponentOf,
+    /// Both are vectors, of one component type.
+    SameComponent,
 }
 
 /// A condition of Y2, Y4 or Y5.
@@ -55,8 +62,21 @@ pub enum Condition {
     Kind(Kind),
     /// Of the type of an operand: how it stands to another one.
     Relation(Relation),
-    /// The types and literals are those of the opcode's row (Y5).
-    Row,
+    /// An OpBranchConditional has no weights, or two (Y5).
+    Weights,
+    /// The storage class of an OpVariable is that of the pointer that is its result type (Y5).
+    StorageClass,
+    /// The storage class of an OpVariable is Function in a function, and outside neither Function nor Generic (Y5).
+    ClassHere,
+    /// The initializer of an OpVariable is a constant or a variable outside functions (Y5).
+    Initializer,
+    /// The type of the initializer of an OpVariable is the one that its result type points to (Y5).
+    InitializerType,
+    /// An index of an access chain leads to a part: at a struct it is an OpConstant, the number of a member; else the
+    /// type before it has parts (Y5).
+    Chosen,
+    /// The result type of an access chain is a pointer to the type that the indexes lead to (Y5).
+    Leads,
     /// The width of an OpTypeInt is 8, 16, 32 or 64 (Y2).
     IntWidth,
     /// The signedness of an OpTypeInt is 0 (Y2).
@@ -79,8 +99,26 @@ pub enum Condition {
     Operands,
     /// The number of an OpConstant fits the width of its type (Y4).
     FitsWidth,
-    /// There are as many constituents as the type has parts (Y4).
+    /// There are as many constituents as the type has parts (Y4, Y5).
     Count,
     /// A constituent is a constant or an OpUndef, of the type of the part at its place (Y4).
     Constituent,
+    /// There is an index (Y5).
+    Indexes,
+    /// The index is that of a part of the type that the indexes before it lead to (Y5).
+    Within,
+    /// Of the type of an operand: it is the one that the indexes lead to (Y5).
+    Reached,
+    /// Of the result type of an OpVectorShuffle: it has as many components as there are literals (Y5).
+    ComponentCount,
+    /// A literal of an OpVectorShuffle is the number of a component, or 4294967295 (Y5).
+    Component,
+    /// There are two constituents or more of a vector (Y5).
+    Several,
+    /// Of the type of a constituent of a vector: it is its component type, or a vector of that (Y5).
+    Share,
+    /// The constituents have as many components together as the result type, a vector (Y5).
+    Filled,
+    /// Of the type of a constituent of a struct or an array: it is that of the part at its place (Y5).
+    Part,
 }

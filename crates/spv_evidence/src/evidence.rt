@@ -133,18 +133,21 @@ pub enum Evidence {
         found: Option<u32>,
         of: Option<u32>,
     },
-    /// F3: a predecessor that no pair names.
+    /// F3: a predecessor that no pair names, and all predecessors.
     MissingParent {
         block: u32,
+        predecessors: Listed<u32>,
     },
-    /// F3: the operand that names a parent which is no predecessor.
+    /// F3: the operand that names a parent which is no predecessor, and all predecessors.
     NoPredecessor {
         operand: u32,
+        predecessors: Listed<u32>,
     },
-    /// F3: the two operands that name one parent.
+    /// F3: the two operands that name one parent, and all predecessors.
     Twice {
         first: u32,
         second: u32,
+        predecessors: Listed<u32>,
     },
     /// A1 and A2: the operand, the instruction that defines its value, and the blocks of a walk on which the value is
     /// not defined, from the entry block of the function to the block of the instruction.

@@ -30,7 +30,7 @@ use std::alloc::{AllocError, Global};
 /// - F1: the first operand that is a label of no OpLabel, and the instruction that defines its id.
 /// - F2: the first operand that is the label of an entry block.
 /// - F3: the first operand that names no predecessor, or one that an earlier operand names, with that operand; where
-///   there is none, the first predecessor that no operand names.
+///   there is none, the first predecessor that no operand names; and all predecessors of the OpPhi's block.
 /// - F4: operand 2, the second label.
 ///
 /// Time is linear in the words of the module. F1 and F4 take no memory.

@@ -3,8 +3,11 @@
 mod asked;
 mod beside;
 mod call;
+mod chain;
+mod components;
 mod conditions;
 mod constant;
+mod constituents;
 mod declaration;
 mod first;
 mod function;
@@ -12,9 +15,12 @@ mod holds;
 pub mod laws;
 mod operands;
 mod operation;
+mod path;
 mod repeat;
+mod rest;
 mod returns;
 mod signature;
+mod variable;
 
 ghost use Rattle.std.specs.Prelude.{◌≡◌, ◌+◌, ℕ, List, IfOk, Some, length, map, slice_get};
 ghost use Rattle.spv_table.specs.Table.{Table};
@@ -111,7 +117,7 @@ pub fn type_evidence(
         Rule::Y2 => Ok(declaration_evidence(alloc, &definitions, ids, number, inst)),
         Rule::Y3 => Ok(repeat_evidence(insts, number, inst)),
         Rule::Y4 => constant_evidence(alloc, &definitions, ids, inst),
-        Rule::Y5 => operation_evidence(alloc, &definitions, ids, inst),
+        Rule::Y5 => operation_evidence(alloc, &definitions, ids, number, inst),
         Rule::Y6 => Ok(evidence_of_function(&definitions, insts, number, inst)),
         Rule::Y7 => Ok(evidence_of_return(&definitions, number, inst)),
         Rule::Y8 => Ok(call_evidence(&definitions, inst)),

@@ -27,8 +27,11 @@ pub fn evidence_examples()
     // A branch to the entry block.
     ensures to_entry { IsEvidence small (function ∷ label 1 ∷ branch 1 ∷ []) F2 2 (Operand 0) }
     // An OpPhi that names no block: its predecessor is missing, and its own block is not.
-    ensures missing { IsEvidence small unpaired F3 4 (MissingParent 1) }
-    ensures not_missing { ¬ (IsEvidence small unpaired F3 4 (MissingParent 3)) }
+    ensures missing { IsEvidence small unpaired F3 4 (MissingParent 1 (1 ∷ [])) }
+    ensures not_missing { (ps : List ℕ) → ¬ (IsEvidence small unpaired F3 4 (MissingParent 3 ps)) }
+    // All predecessors of its block are told, and no block that is none.
+    ensures untold { ¬ (IsEvidence small unpaired F3 4 (MissingParent 1 [])) }
+    ensures stranger { ¬ (IsEvidence small unpaired F3 4 (MissingParent 1 (1 ∷ 3 ∷ []))) }
     // An OpBranchConditional with the same label twice: its operand 2 shows it, and its operand 1 does not.
     ensures same { IsEvidence small (conditional 9 2 2 ∷ []) F4 0 (Operand 2) }
     ensures not_first { ¬ (IsEvidence small (conditional 9 2 2 ∷ []) F4 0 (Operand 1)) }

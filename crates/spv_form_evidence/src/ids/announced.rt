@@ -48,7 +48,7 @@ pub fn announced_before(
     requires { at ≤ length insts.now }
     ensures { IfOk result (λ a. AreAnnounced bound (map plain_inst insts.now) at a) }
 {
-    let mut announced = Kept::new(alloc, bound);
+    let mut announced = Kept::new(alloc, bound, insts.len())?;
     for m in 0..at {
         keep_announced(&mut announced, &insts[m as usize], m)?;
     }

@@ -33,7 +33,7 @@ pub fn first_definitions(alloc: Global, insts: &[Inst<'_>], bound: u32) -> Resul
     requires { AreFew insts.now }
     ensures { IfOk result (λ d. AreFirst bound (map plain_inst insts.now) (length (map plain_inst insts.now)) d) }
 {
-    let mut definitions = Kept::new(alloc, bound);
+    let mut definitions = Kept::new(alloc, bound, insts.len())?;
     for i in 0..insts.len() {
         keep_first(&mut definitions, &insts[i], i as u32)?;
     }

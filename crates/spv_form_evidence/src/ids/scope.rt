@@ -105,7 +105,7 @@ fn local_definitions(
     requires plan { (G : Table) × IsPlan G (map plain_inst insts.now) plan.now }
     ensures { IfOk result (λ l. AreLocal bound (map plain_inst insts.now) here (length (map plain_inst insts.now)) l) }
 {
-    let mut local = Kept::new(alloc, bound);
+    let mut local = Kept::new(alloc, bound, insts.len())?;
     for i in 0..insts.len() {
         keep_local(&mut local, plan, here, &insts[i], i as u32)?;
     }

@@ -14,5 +14,12 @@ pub mod Parts
 pub mod Valued
 pub mod Parameters
 pub mod Repeating
+pub mod Counting
+pub mod Chaining
+pub mod Pointing
+pub mod Paths
+pub mod Composed
+pub mod Constructed
 pub mod Conditioned
 pub mod Listing
+pub mod Stopping

@@ -3,8 +3,11 @@ use Rattle.std.specs.Prelude.{◌≡◌, ◌≢◌, ◌⊎◌, ℕ, List, Option
 use Rattle.std.specs.Prelude.{◌++◌, ◌∷◌, IsSomeAnd, length, slice_get}
 use Rattle.std.specs.List.{AllByRecursion}
 use Rattle.spv_module.specs.Operand.{PlainInst}
+use Rattle.spv_type_forms.specs.declared.form.Form.{Form}
+use Rattle.spv_type_forms.specs.declared.form.Form.TheVariants as form
 use Rattle.spv_type_forms.specs.declared.form.Scalar.TheVariants as scalar
 use Rattle.spv_type_forms.specs.declared.form.Sort.TheVariants as sort
+use Rattle.spv_type_forms.specs.Form.{form_of}
 use Rattle.spv_type_forms.specs.Types.{components_of, IsInt, IsSomeInt, IsNumber, IsBool, IsMade, HasSort, IsVector}
 use Rattle.spv_type_forms.specs.Types.{IsPointer, PointsTo, IsData}
 use Rattle.spv_ops.specs.Calculation.{IsNamedClass, bits_of}
@@ -14,8 +17,16 @@ use Rattle.spv_evidence.specs.declared.condition.Relation.{Relation}
 use Rattle.spv_evidence.specs.declared.condition.Relation.TheVariants as relation
 use Rattle.spv_type_evidence.specs.declared.types.asked.Seat.{Seat}
 use Rattle.spv_type_evidence.specs.declared.types.asked.Seat.TheVariants.{Result, Value}
+use Rattle.spv_type_evidence.specs.declared.types.asked.Rest.{Rest}
 use Rattle.spv_type_evidence.specs.declared.types.asked.Asked.{Asked}
 use Rattle.spv_type_evidence.specs.declared.types.asked.Asked.TheVariants as asked
+
+-- a vector, a struct or an array [2.2.2 Composite; own: no matrices]
+abbrev pub IsComposite : Form → Type 0
+IsComposite (form.Vector c n) = Unit {0}
+IsComposite form.Struct = Unit {0}
+IsComposite (form.Array e l) = Unit {0}
+IsComposite f = ⊥
 
 -- the type t is of a kind [2.2.2, 3.49.6]
 abbrev pub IsOf : List PlainInst → Kind → ℕ → Type 0
@@ -31,6 +42,8 @@ IsOf is kind.Pointer t = (p : ℕ) × PointsTo is t p
 IsOf is kind.FunctionPointer t = (p : ℕ) × IsPointer is t 7 p
 IsOf is kind.GenericPointer t = (p : ℕ) × IsPointer is t 8 p
 IsOf is kind.NamedPointer t = (s p : ℕ) × IsPointer is t s p × IsNamedClass s
+IsOf is kind.Vector t = (c n : ℕ) × IsVector is t c n
+IsOf is kind.Composite t = IsSomeAnd (form_of is t) IsComposite
 
 -- two types have components, and these are as many [2.2.2]
 abbrev pub HasSameCount : List PlainInst → ℕ → ℕ → Type 0
@@ -60,8 +73,10 @@ Agrees is relation.SameBits t u = HasSameBits is t u
 Agrees is relation.Chooses t u = IsChoice is t u
 Agrees is relation.PointsTo t u = PointsTo is t u
 Agrees is relation.SamePointee t u = (p : ℕ) × PointsTo is t p × PointsTo is u p
+Agrees is relation.SameClass t u = (class p q : ℕ) × IsPointer is t class p × IsPointer is u class q
 Agrees is relation.VectorOf t u = (n : ℕ) × IsVector is t u n
 Agrees is relation.ComponentOf t u = (n : ℕ) × IsVector is u t n
+Agrees is relation.SameComponent t u = (c m n : ℕ) × IsVector is t c m × IsVector is u c n
 
 -- the type that is looked at, where r is the result type and the types of the values are given in order [own]
 abbrev pub type_at : Option ℕ → List ℕ → Seat → Option ℕ
@@ -74,13 +89,13 @@ HasResult true (Some r) = Unit {0}
 HasResult false None = Unit {0}
 HasResult b r = ⊥
 
--- A condition holds of a result type, if there is one, and the types of the values. R says that the row holds. [own]
-abbrev pub Holds : List PlainInst → Type 0 → Option ℕ → List ℕ → Asked → Type 0
+-- A condition holds of a result type, if there is one, and the types of the values. R says what else is asked. [own]
+abbrev pub Holds : List PlainInst → (Rest → Type 0) → Option ℕ → List ℕ → Asked → Type 0
 Holds is R r types (asked.Operands result values) = HasResult result r × (length types ≡ values)
 Holds is R r types (asked.Kind k s) = IsSomeAnd (type_at r types s) (IsOf is k)
 Holds is R r types (asked.Relation q s t) =
     IsSomeAnd (type_at r types s) (λ u. IsSomeAnd (type_at r types t) (Agrees is q u))
-Holds is R r types asked.Row = R
+Holds is R r types (asked.Rest q) = R q
 
 -- The first condition of these that does not hold is a. [own]
 pub record FailsFirst (P : Asked → Type 0) (qs : List Asked) (a : Asked) : Type 0 where

@@ -1,6 +1,6 @@
 -- The conditions of each row of Y5, in the order in which they are looked at. [3.49.8, 3.49.11 to 3.49.18, 3.49.20;
 -- own: the table of types]
-use Rattle.std.specs.Prelude.{◌+◌, ◌++◌, ℕ, zero, suc, List, [], ◌∷◌, true, false}
+use Rattle.std.specs.Prelude.{◌+◌, ◌-◌, ◌++◌, ℕ, zero, suc, List, [], ◌∷◌, Bool as Truth, true, false}
 use Rattle.spv_type_forms.specs.declared.form.Sort.{Sort}
 use Rattle.spv_type_forms.specs.declared.form.Sort.TheVariants as sort
 use Rattle.spv_ops.specs.declared.row.Row.{Row}
@@ -9,19 +9,22 @@ use Rattle.spv_ops.specs.declared.row.Calculation.{Calculation}
 use Rattle.spv_ops.specs.declared.row.Calculation.TheVariants as calculation
 use Rattle.spv_ops.specs.declared.row.Access.{Access}
 use Rattle.spv_ops.specs.declared.row.Access.TheVariants as access
-use Rattle.spv_ops.specs.declared.row.Composite.{Composite}
+use Rattle.spv_ops.specs.declared.row.Composite as made
 use Rattle.spv_ops.specs.declared.row.Composite.TheVariants as composite
 use Rattle.spv_evidence.specs.declared.condition.Kind.{Kind}
 use Rattle.spv_evidence.specs.declared.condition.Kind.TheVariants.{Int, Int32, Number, Bool, Data, Ints, Floats, Bools}
 use Rattle.spv_evidence.specs.declared.condition.Kind.TheVariants.{Pointer, FunctionPointer, GenericPointer}
-use Rattle.spv_evidence.specs.declared.condition.Kind.TheVariants.{NamedPointer}
+use Rattle.spv_evidence.specs.declared.condition.Kind.TheVariants.{NamedPointer, Vector, Composite}
 use Rattle.spv_evidence.specs.declared.condition.Relation.{Relation}
 use Rattle.spv_evidence.specs.declared.condition.Relation.TheVariants.{Same, SameCount, OtherWidth, SameBits, Chooses}
-use Rattle.spv_evidence.specs.declared.condition.Relation.TheVariants.{PointsTo, SamePointee, VectorOf, ComponentOf}
-use Rattle.spv_type_evidence.specs.declared.types.asked.Seat.{Seat}
+use Rattle.spv_evidence.specs.declared.condition.Relation.TheVariants.{PointsTo, SamePointee, SameClass, VectorOf}
+use Rattle.spv_evidence.specs.declared.condition.Relation.TheVariants.{ComponentOf, SameComponent}
 use Rattle.spv_type_evidence.specs.declared.types.asked.Seat.TheVariants.{Result, Value}
+use Rattle.spv_type_evidence.specs.declared.types.asked.Rest.{Rest}
+use Rattle.spv_type_evidence.specs.declared.types.asked.Rest.TheVariants as rest
 use Rattle.spv_type_evidence.specs.declared.types.asked.Asked.{Asked}
 use Rattle.spv_type_evidence.specs.declared.types.asked.Asked.TheVariants as asked
+use Rattle.spv_type_evidence.specs.types.Chain.{first_index}
 
 -- a result type and so many values; so many values alone [own]
 abbrev pub gives : ℕ → Asked
@@ -110,31 +113,56 @@ access_conditions access.AtomicUpdate =
     gives 4 ∷ with_result 0 PointsTo ∷ of_value 1 Int32 ∷ of_value 2 Int32 ∷ with_result 3 Same ∷ of_result Int ∷ []
 
 -- [3.49.12]
-abbrev pub composite_conditions : Composite → List Asked
+abbrev pub composite_conditions : made.Composite → List Asked
 composite_conditions composite.ExtractDynamic = gives 2 ∷ with_result 0 VectorOf ∷ of_value 1 Int ∷ []
 composite_conditions composite.InsertDynamic =
     gives 3 ∷ with_result 0 Same ∷ with_result 1 ComponentOf ∷ of_value 2 Int ∷ []
-composite_conditions composite.Insert = gives 2 ∷ with_result 1 Same ∷ asked.Row ∷ []
+composite_conditions composite.Insert = gives 2 ∷ with_result 1 Same ∷ asked.Rest rest.Indexes
+    ∷ asked.Rest (rest.Within 1) ∷ asked.Rest (rest.Reached (Value 0) 1) ∷ []
 composite_conditions composite.CopyObject = gives 1 ∷ with_result 0 Same ∷ of_result Data ∷ []
-composite_conditions _ = asked.Row ∷ []
+composite_conditions composite.Extract = gives 1 ∷ asked.Rest rest.Indexes ∷ asked.Rest (rest.Within 0)
+    ∷ asked.Rest (rest.Reached Result 0) ∷ []
+composite_conditions composite.Shuffle = gives 2 ∷ of_value 0 Vector ∷ with_value 1 SameComponent 0
+    ∷ asked.Relation SameComponent Result (Value 0) ∷ asked.Rest rest.ComponentCount ∷ asked.Rest rest.Component ∷ []
 
 -- each of n values from value k on has the result type [3.49.17 OpPhi]
 abbrev pub same_types : ℕ → ℕ → List Asked
 same_types k zero = []
 same_types k (suc n) = with_result k Same ∷ same_types (k + 1) n
 
--- The conditions of a row, where there are n values. Where the first ones tell a row in part alone, what is left is the
--- row. [own: Y5; 3.49.8, 3.49.17]
+-- each of n values from value k on is an index of an access chain: an int that leads to a part [3.49.8]
+abbrev pub index_conditions : Truth → ℕ → ℕ → List Asked
+index_conditions element k zero = []
+index_conditions element k (suc n) =
+    of_value k Int ∷ asked.Rest (rest.Chosen element (k - first_index element)) ∷ index_conditions element (k + 1) n
+
+-- the result is a pointer of the storage class of the base, to the type that the indexes lead to [3.49.8]
+abbrev pub last_conditions : Truth → List Asked
+last_conditions element =
+    of_result Pointer ∷ asked.Relation SameClass Result (Value 0) ∷ asked.Rest (rest.Leads element) ∷ []
+
+abbrev pub chain_conditions : Truth → ℕ → List Asked
+chain_conditions element n =
+    index_conditions element (first_index element) (n - first_index element) ++ last_conditions element
+
+-- a condition for each of n values from value k on [3.49.12 OpCompositeConstruct]
+abbrev pub each_of : (ℕ → Rest) → ℕ → ℕ → List Asked
+each_of q k zero = []
+each_of q k (suc n) = asked.Rest (q k) ∷ each_of q (k + 1) n
+
+-- The conditions of a row, where there are n values. [own: Y5; 3.49.8, 3.49.12, 3.49.17]
 abbrev pub conditions_of : Row → ℕ → List Asked
 conditions_of row.Free n = []
 conditions_of (row.Calculation c) n = calculation_conditions c
 conditions_of (row.Access a) n = access_conditions a
 conditions_of row.Undef n = of_result Data ∷ []
 conditions_of (row.Composite c) n = composite_conditions c
-conditions_of row.Chain n = of_value 0 Pointer ∷ of_result Pointer ∷ asked.Row ∷ []
-conditions_of row.ElementChain n = of_value 0 Pointer ∷ of_value 1 Int ∷ of_result Pointer ∷ asked.Row ∷ []
-conditions_of row.Variable n = of_result Pointer ∷ asked.Row ∷ []
+conditions_of row.Chain n = of_value 0 Pointer ∷ chain_conditions false n
+conditions_of row.ElementChain n = of_value 0 Pointer ∷ of_value 1 Int ∷ chain_conditions true n
+conditions_of row.Variable n = of_result Pointer ∷ asked.Rest rest.StorageClass ∷ asked.Rest rest.ClassHere
+    ∷ asked.Rest rest.Initializer ∷ asked.Rest rest.InitializerType ∷ []
 conditions_of row.Phi n = same_types 0 n ++ of_result Data ∷ []
-conditions_of row.BranchConditional n = takes 1 ∷ of_value 0 Bool ∷ asked.Row ∷ []
+conditions_of row.BranchConditional n = takes 1 ∷ of_value 0 Bool ∷ asked.Rest rest.Weights ∷ []
 conditions_of row.Switch n = takes 1 ∷ of_value 0 Int ∷ []
-conditions_of row.Construct n = asked.Row ∷ []
+conditions_of row.Construct n = of_result Composite ∷ asked.Rest rest.Several ∷ each_of rest.Share 0 n
+    ++ asked.Rest rest.Filled ∷ asked.Rest rest.Count ∷ each_of rest.Part 0 n

@@ -1,6 +1,7 @@
 -- Y4, operand by operand. [3.49.7]
 use Rattle.std.specs.Prelude.{◌≡◌, ◌+◌, ◌<◌, ℕ, List, [], ◌∷◌, Bool, true, false, Some, IsSomeAnd}
-use Rattle.std.specs.Prelude.{◌-◌, Option, None, length, nat_eq, nat_le, if◌then◌else◌, option_and_then, slice_get}
+use Rattle.std.specs.Prelude.{◌-◌, ◌++◌, Option, None, length, nat_eq, nat_le, if◌then◌else◌, option_and_then}
+use Rattle.std.specs.Prelude.{option_to_list, slice_get}
 use Rattle.spv_module.specs.Operand.{Plain, Number, PlainInst, type_in}
 use Rattle.spv_module.specs.Width.{type_of}
 use Rattle.spv_type_forms.specs.Operands.{ids_in, after_head}
@@ -11,7 +12,7 @@ use Rattle.spv_type_rules.specs.declared.constant.Constant.TheVariants as kind
 use Rattle.spv_evidence.specs.declared.condition.Kind.TheVariants as sort
 use Rattle.spv_evidence.specs.declared.condition.Condition.{Condition}
 use Rattle.spv_evidence.specs.declared.condition.Condition.TheVariants as condition
-use Rattle.spv_type_evidence.specs.types.Beside.{named_at}
+use Rattle.spv_type_evidence.specs.types.Beside.{named_at, reads}
 use Rattle.spv_type_rules.specs.Constant.{IsPart, FitsWidth, constant_of}
 
 -- the id stands for a constant, of the type of the part k of the type r
@@ -68,3 +69,12 @@ found_at is c i k = if is_constituent c k then option_and_then (type_of is) (nam
 abbrev pub wanted_at : List PlainInst → Constant → PlainInst → ℕ → Option ℕ
 wanted_at is c i k = if is_constituent c k then option_and_then (λ r. part_of is r (k - 2)) (type_in i.operands)
     else None
+
+-- the composite whose part a constituent is to be: the result type [3.49.7]
+abbrev pub composite_at : Constant → PlainInst → ℕ → Option ℕ
+composite_at c i k = if is_constituent c k then type_in i.operands else None
+
+-- the types that are read: of a constituent the composite's, the part's and its own, else the result type; and those
+-- within these, but for the composite's [3.49.7]
+abbrev pub read_at : List PlainInst → Constant → PlainInst → ℕ → List ℕ
+read_at is c i k = option_to_list (composite_at c i k) ++ reads is (wanted_at is c i k) (found_at is c i k)

@@ -13,7 +13,6 @@ use Rattle.spv_ops.specs.declared.row.Row.TheVariants as row
 use Rattle.spv_type_forms.specs.Form.{form_of}
 use Rattle.spv_type_forms.specs.Operands.{ids_in, result_type_in}
 use Rattle.spv_ops.specs.Row.{row_of}
-use Rattle.spv_ops.specs.Typed.{Typed}
 use Rattle.spv_type_forms.specs.Values.{AreValues, types_of}
 use Rattle.spv_type_rules.specs.Repeat.{Repeats}
 use Rattle.spv_type_rules.specs.Function.{parameters_after, function_type_in}
@@ -25,8 +24,9 @@ use Rattle.spv_type_evidence.specs.declared.types.asked.Asked.{Asked}
 use Rattle.spv_type_evidence.specs.declared.types.asked.Value.{Value}
 use Rattle.spv_type_evidence.specs.types.Condition.{FailsFirst, Holds}
 use Rattle.spv_type_evidence.specs.types.Conditions.{conditions_of}
+use Rattle.spv_type_evidence.specs.types.Rest.{RestHolds}
 use Rattle.spv_type_evidence.specs.types.Beside.{IsDefinedBy, types_in, condition_in, operand_in, wanted_in}
-use Rattle.spv_type_evidence.specs.types.Beside.{found_in, read_in, reads}
+use Rattle.spv_type_evidence.specs.types.Beside.{found_in, read_in}
 use Rattle.spv_type_evidence.specs.types.Declaration as declarations
 use Rattle.spv_type_evidence.specs.types.Constant as constants
 use Rattle.spv_type_evidence.specs.types.Function.{Differs, IsParameter, ReturnsFrom, Calls, IsArgument}
@@ -40,7 +40,9 @@ pub record AreTyped (G : Table) (is : List PlainInst) (i : PlainInst) (vs : List
 
 -- A condition of the row of the instruction i of number n holds, where its value operands are these.
 abbrev pub HoldsAt : List PlainInst → ℕ → PlainInst → List Value → Asked → Type 0
-HoldsAt is n i vs a = Holds is (Typed is n i (types_in vs)) (result_type_in i.operands) (types_in vs) a
+HoldsAt is n i vs a =
+    let r = result_type_in i.operands in
+    Holds is (RestHolds is n i r (types_in vs)) r (types_in vs) a
 
 -- The evidence shows that the rule is broken at the instruction i of number n.
 pub data Shows (G : Table) (is : List PlainInst) (n : ℕ) (i : PlainInst) : Rule → Evidence → Type 0 where
@@ -49,19 +51,21 @@ pub data Shows (G : Table) (is : List PlainInst) (n : ℕ) (i : PlainInst) : Rul
       → Shows G is n i rule.Y2 (evidence.Condition (declarations.condition_at f.kind k) (Some k) m None None [])
   -- an earlier declaration of the same type, of which there may be one only
   again : (r : Repeats is n i) → Shows G is n i rule.Y3 (evidence.Earlier r.place)
-  -- the operand at which the constant first fails, what is asked of it, and the types that are wanted and found
+  -- the operand at which the constant first fails, what is asked of it, the types that are wanted and found, and those
+  -- that are read
   constant : (k : ℕ) (m : Option ℕ) (f : constants.FailsFirst is i k) → IsDefinedBy is i (Some k) m
       → Shows G is n i rule.Y4 (evidence.Condition (constants.condition_at f.kind k) (Some k) m
       (constants.wanted_at is f.kind i k) (constants.found_at is f.kind i k)
-      (reads is (constants.wanted_at is f.kind i k) (constants.found_at is f.kind i k)))
+      (constants.read_at is f.kind i k))
   -- the first condition of the opcode's row that fails, by the operand whose type it looks at, with what defines the
   -- operand, the types that are wanted and found, and those that are read
   operation : (vs : List Value) (a : Asked) (m : Option ℕ) → row_of i.opcode ≢ row.Free → AreTyped G is i vs
       → FailsFirst (HoldsAt is n i vs) (conditions_of (row_of i.opcode) (length vs)) a
-      → IsDefinedBy is i (operand_in vs a) m
-      → Shows G is n i rule.Y5 (evidence.Condition (condition_in a) (operand_in vs a) m
-      (wanted_in (result_type_in i.operands) (types_in vs) a) (found_in (result_type_in i.operands) (types_in vs) a)
-      (read_in is (result_type_in i.operands) (types_in vs) a))
+      → IsDefinedBy is i (operand_in is i vs a) m
+      → Shows G is n i rule.Y5 (evidence.Condition (condition_in a) (operand_in is i vs a) m
+      (wanted_in is i (result_type_in i.operands) (types_in vs) a)
+      (found_in is i (result_type_in i.operands) (types_in vs) a)
+      (read_in is i (result_type_in i.operands) (types_in vs) a))
   -- the type of the OpFunction differs from its result type and its parameters
   function : (r : ℕ) (s : Side) (wanted found : Option ℕ) → i.opcode ≡ opcode.FUNCTION
       → type_in i.operands ≡ Some r → Differs is i r (parameters_after is n) s wanted found

@@ -4,3 +4,5 @@ pub mod Values
 pub mod First
 pub mod Operands
 pub mod Failing
+pub mod Shares
+pub mod Stops

@@ -7,8 +7,12 @@ ghost use Rattle.spv_ids.specs.Outcome.{IsDefinitionOf, definition_in};
 ghost use Rattle.spv_type_evidence.specs.types.Beside as spec;
 ghost use Rattle.spv_type_evidence.specs.types.Beside.{IsDefinedBy, types_in};
 
-use crate::types::asked::{Asked, Seat, Value};
+use crate::types::asked::{Asked, Rest, Seat, Value};
+use crate::types::chain::{read_chosen, read_led};
+use crate::types::constituents::part_of;
 use crate::types::holds::type_at;
+use crate::types::path::path_by;
+use crate::types::rest::{condition_of, found_of, operand_of, wanted_of};
 use spv_evidence::Condition;
 use spv_ids::Ids;
 use spv_module::{Inst, Operand};
@@ -47,7 +51,7 @@ pub fn defined_by(ids: &Ids, inst: &Inst, operand: Option<u32>) -> Option<u32>
 }
 
 /// The type within a type: what a pointer points to, the component of a vector, the element of an array.
-fn inner_of(definitions: &Definitions, t: Option<u32>) -> Option<u32>
+pub fn inner_of(definitions: &Definitions, t: Option<u32>) -> Option<u32>
     ensures { result ≡ spec.inner_of definitions.now t }
 {
     match definitions.form(t?)? {
@@ -59,7 +63,7 @@ fn inner_of(definitions: &Definitions, t: Option<u32>) -> Option<u32>
 }
 
 /// Types, and one more if there is one.
-fn with_type(types: Vec<u32>, t: Option<u32>) -> Result<Vec<u32>, AllocError>
+pub fn with_type(types: Vec<u32>, t: Option<u32>) -> Result<Vec<u32>, AllocError>
     ensures { IfOk result (λ v. v.items ≡ types.items ++ option_to_list t) }
 {
     let mut types = types;
@@ -67,6 +71,26 @@ fn with_type(types: Vec<u32>, t: Option<u32>) -> Result<Vec<u32>, AllocError>
         types.push(t)?;
     }
     Ok(types)
+}
+
+/// The type of a whole, if there is one, and the types that are read where one is found and another wanted: these, and
+/// the types within them.
+///
+/// The error comes when out of memory.
+pub fn reads_within(
+    alloc: Global,
+    definitions: &Definitions,
+    whole: Option<u32>,
+    wanted: Option<u32>,
+    found: Option<u32>,
+) -> Result<Vec<u32>, AllocError>
+    ensures { IfOk result (λ v. v.items ≡ option_to_list whole ++ spec.reads definitions.now wanted found) }
+{
+    let types = with_type(Vec::new(alloc), whole)?;
+    let types = with_type(types, wanted)?;
+    let types = with_type(types, found)?;
+    let types = with_type(types, inner_of(definitions, wanted))?;
+    with_type(types, inner_of(definitions, found))
 }
 
 /// The types that are read where one is found and another wanted: these, and the types within them.
@@ -80,10 +104,7 @@ pub fn reads(
 ) -> Result<Vec<u32>, AllocError>
     ensures { IfOk result (λ v. v.items ≡ spec.reads definitions.now wanted found) }
 {
-    let types = with_type(Vec::new(alloc), wanted)?;
-    let types = with_type(types, found)?;
-    let types = with_type(types, inner_of(definitions, wanted))?;
-    with_type(types, inner_of(definitions, found))
+    reads_within(alloc, definitions, None, wanted, found)
 }
 
 /// The result type, if there is one, and the types of all values.
@@ -105,12 +126,12 @@ pub fn condition_in(asked: Asked) -> Condition
         Asked::Operands { .. } => Condition::Operands,
         Asked::Kind { kind, .. } => Condition::Kind(kind),
         Asked::Relation { relation, .. } => Condition::Relation(relation),
-        Asked::Row => Condition::Row,
+        Asked::Rest(rest) => condition_of(rest),
     }
 }
 
 /// The number of the operand whose type is looked at.
-fn number_at(values: &[Value], seat: Seat) -> Option<u32>
+pub fn number_at(values: &[Value], seat: Seat) -> Option<u32>
     ensures { result ≡ spec.number_at values.now seat }
 {
     match seat {
@@ -122,33 +143,126 @@ fn number_at(values: &[Value], seat: Seat) -> Option<u32>
     }
 }
 
-/// The number of the operand whose type a condition looks at.
-pub fn operand_in(values: &[Value], asked: Asked) -> Option<u32>
-    ensures { result ≡ spec.operand_in values.now asked }
+/// The number of the operand at which a condition fails.
+pub fn operand_in(
+    definitions: &Definitions,
+    inst: &Inst,
+    values: &[Value],
+    asked: Asked,
+) -> Option<u32>
+    ensures { result ≡ spec.operand_in definitions.now (plain_inst inst.now) values.now asked }
 {
     match asked {
         Asked::Kind { of, .. } | Asked::Relation { of, .. } => number_at(values, of),
-        Asked::Operands { .. } | Asked::Row => None,
+        Asked::Operands { .. } => None,
+        Asked::Rest(rest) => operand_of(definitions, inst, values, rest),
     }
 }
 
 /// The type that is found.
-pub fn found_in(r: Option<u32>, values: &[Value], asked: Asked) -> Option<u32>
-    ensures { result ≡ spec.found_in r (types_in values.now) asked }
+pub fn found_in(
+    definitions: &Definitions,
+    inst: &Inst,
+    r: Option<u32>,
+    values: &[Value],
+    asked: Asked,
+) -> Option<u32>
+    ensures { result ≡ spec.found_in definitions.now (plain_inst inst.now) r (types_in values.now) asked }
 {
     match asked {
         Asked::Kind { of, .. } | Asked::Relation { of, .. } => type_at(r, values, of),
-        Asked::Operands { .. } | Asked::Row => None,
+        Asked::Operands { .. } => None,
+        Asked::Rest(rest) => found_of(definitions, inst, r, values, rest),
     }
 }
 
 /// The type that is wanted, where the condition compares two.
-pub fn wanted_in(r: Option<u32>, values: &[Value], asked: Asked) -> Option<u32>
-    ensures { result ≡ spec.wanted_in r (types_in values.now) asked }
+pub fn wanted_in(
+    definitions: &Definitions,
+    inst: &Inst,
+    r: Option<u32>,
+    values: &[Value],
+    asked: Asked,
+) -> Option<u32>
+    ensures { result ≡ spec.wanted_in definitions.now (plain_inst inst.now) r (types_in values.now) asked }
 {
     match asked {
         Asked::Relation { to, .. } => type_at(r, values, to),
-        Asked::Kind { .. } | Asked::Operands { .. } | Asked::Row => None,
+        Asked::Kind { .. } | Asked::Operands { .. } => None,
+        Asked::Rest(rest) => wanted_of(definitions, inst, r, values, rest),
+    }
+}
+
+/// The types along the path of the indexes from the type of a value.
+fn path_from(
+    alloc: Global,
+    definitions: &Definitions,
+    inst: &Inst,
+    values: &[Value],
+    from: u32,
+) -> Result<Vec<u32>, AllocError>
+    ensures { IfOk result (λ v. v.items
+        ≡ spec.path_from definitions.now (plain_inst inst.now) (types_in values.now) from) }
+{
+    match type_at(None, values, Seat::Value(from)) {
+        Some(t) => path_by(alloc, definitions, t, inst.operands.as_slice()),
+        None => Ok(Vec::new(alloc)),
+    }
+}
+
+/// The result type, if there is one, the type of the value of a number, and one more if there is one.
+fn with_part(
+    alloc: Global,
+    r: Option<u32>,
+    values: &[Value],
+    k: u32,
+    part: Option<u32>,
+) -> Result<Vec<u32>, AllocError>
+    ensures { IfOk result (λ v. v.items
+        ≡ option_to_list r ++ option_to_list (slice_get (types_in values.now) k) ++ option_to_list part) }
+{
+    let types = with_type(Vec::new(alloc), r)?;
+    let types = with_type(types, type_at(r, values, Seat::Value(k)))?;
+    with_type(types, part)
+}
+
+/// The types that something else reads.
+fn read_of(
+    alloc: Global,
+    definitions: &Definitions,
+    inst: &Inst,
+    r: Option<u32>,
+    values: &[Value],
+    rest: Rest,
+) -> Result<Vec<u32>, AllocError>
+    ensures { IfOk result (λ v. v.items
+        ≡ spec.read_of definitions.now (plain_inst inst.now) r (types_in values.now) rest) }
+{
+    match rest {
+        Rest::InitializerType => reads_within(
+            alloc,
+            definitions,
+            r,
+            inner_of(definitions, r),
+            type_at(r, values, Seat::Value(0)),
+        ),
+        Rest::Chosen { element, index } => {
+            read_chosen(alloc, definitions, inst, values, element, index as usize)
+        }
+        Rest::Leads { element } => read_led(alloc, definitions, inst, r, values, element),
+        Rest::Component | Rest::Filled => all_types(alloc, r, values),
+        Rest::Share(k) => with_part(alloc, r, values, k, inner_of(definitions, r)),
+        Rest::Part(k) => with_part(alloc, r, values, k, part_of(definitions, r, k)),
+        Rest::Within { from } => path_from(alloc, definitions, inst, values, from),
+        Rest::Reached { of, from } => {
+            let types = path_from(alloc, definitions, inst, values, from)?;
+            with_type(types, type_at(r, values, of))
+        }
+        _ => {
+            let wanted = wanted_of(definitions, inst, r, values, rest);
+            let found = found_of(definitions, inst, r, values, rest);
+            reads(alloc, definitions, wanted, found)
+        }
     }
 }
 
@@ -158,17 +272,19 @@ pub fn wanted_in(r: Option<u32>, values: &[Value], asked: Asked) -> Option<u32>
 pub fn read_in(
     alloc: Global,
     definitions: &Definitions,
+    inst: &Inst,
     r: Option<u32>,
     values: &[Value],
     asked: Asked,
 ) -> Result<Vec<u32>, AllocError>
-    ensures { IfOk result (λ v. v.items ≡ spec.read_in definitions.now r (types_in values.now) asked) }
+    ensures { IfOk result (λ v. v.items
+        ≡ spec.read_in definitions.now (plain_inst inst.now) r (types_in values.now) asked) }
 {
     match asked {
-        Asked::Row => all_types(alloc, r, values),
+        Asked::Rest(rest) => read_of(alloc, definitions, inst, r, values, rest),
         _ => {
-            let wanted = wanted_in(r, values, asked);
-            let found = found_in(r, values, asked);
+            let wanted = wanted_in(definitions, inst, r, values, asked);
+            let found = found_in(definitions, inst, r, values, asked);
             reads(alloc, definitions, wanted, found)
         }
     }

@@ -1,6 +1,6 @@
 //! The conditions of each row.
 
-ghost use Rattle.std.specs.Prelude.{◌≡◌, ℕ, IfOk};
+ghost use Rattle.std.specs.Prelude.{◌≡◌, ◌-◌, ◌++◌, ℕ, IfOk, OnOk};
 ghost use Rattle.spv_type_evidence.specs.types.Conditions as spec;
 ghost use Rattle.spv_type_evidence.specs.types.Conditions.{calculation_conditions as calculation_spec};
 ghost use Rattle.spv_type_evidence.specs.types.Conditions.{access_conditions as access_spec};
@@ -9,8 +9,14 @@ ghost use Rattle.spv_type_evidence.specs.types.Conditions.{composite_conditions 
 ghost use Rattle.spv_ops.specs.declared.row.Access.TheVariants as access;
 ghost use Rattle.spv_ops.specs.declared.row.Composite.TheVariants as composite;
 ghost use Rattle.spv_ops.specs.declared.row.Row.TheVariants as row;
+ghost use Rattle.spv_evidence.specs.declared.condition.Relation.TheVariants as relation;
+ghost use Rattle.spv_type_evidence.specs.declared.types.asked.Seat.TheVariants as seat;
+ghost use Rattle.spv_type_evidence.specs.declared.types.asked.Asked.TheVariants as asked;
+ghost use Rattle.spv_type_evidence.specs.declared.types.asked.Rest.TheVariants as rest;
+ghost use Rattle.spv_type_evidence.specs.types.Chain.{first_index as first_spec};
 
-use crate::types::asked::{Asked, Seat};
+use crate::types::asked::{Asked, Rest, Seat};
+use crate::types::chain::first_index;
 use spv_evidence::{Kind, Relation};
 use spv_ops::{Access, Calculation, Composite, Row};
 use spv_type_forms::Sort;
@@ -377,6 +383,63 @@ fn insert_dynamic(alloc: Global) -> Result<Vec<Asked>, AllocError>
     ]?)
 }
 
+/// Each index is that of a part, from the type of a value on.
+fn within(from: u32) -> Asked
+    ensures { result ≡ asked.Rest (rest.Within from) }
+{
+    Asked::Rest(Rest::Within { from })
+}
+
+/// A type is the one that the indexes lead to from the type of a value.
+fn reached(of: Seat, from: u32) -> Asked
+    ensures { result ≡ asked.Rest (rest.Reached of from) }
+{
+    Asked::Rest(Rest::Reached { of, from })
+}
+
+/// OpVectorShuffle.
+fn shuffle(alloc: Global) -> Result<Vec<Asked>, AllocError>
+    ensures { IfOk result (λ v. v.items ≡ composite_spec composite.Shuffle) }
+{
+    Ok(vec![in alloc;
+        gives(2),
+        of_value(0, Kind::Vector),
+        with_value(1, Relation::SameComponent, 0),
+        Asked::Relation {
+            relation: Relation::SameComponent,
+            of: Seat::Result,
+            to: Seat::Value(0),
+        },
+        Asked::Rest(Rest::ComponentCount),
+        Asked::Rest(Rest::Component),
+    ]?)
+}
+
+/// OpCompositeExtract.
+fn extract(alloc: Global) -> Result<Vec<Asked>, AllocError>
+    ensures { IfOk result (λ v. v.items ≡ composite_spec composite.Extract) }
+{
+    Ok(vec![in alloc;
+        gives(1),
+        Asked::Rest(Rest::Indexes),
+        within(0),
+        reached(Seat::Result, 0),
+    ]?)
+}
+
+/// OpCompositeInsert.
+fn insert(alloc: Global) -> Result<Vec<Asked>, AllocError>
+    ensures { IfOk result (λ v. v.items ≡ composite_spec composite.Insert) }
+{
+    Ok(vec![in alloc;
+        gives(2),
+        with_result(1, Relation::Same),
+        Asked::Rest(Rest::Indexes),
+        within(1),
+        reached(Seat::Value(0), 1),
+    ]?)
+}
+
 /// The conditions of a row of composites.
 fn composite_conditions(alloc: Global, row: Composite) -> Result<Vec<Asked>, AllocError>
     ensures { IfOk result (λ v. v.items ≡ composite_spec row) }
@@ -390,11 +453,7 @@ fn composite_conditions(alloc: Global, row: Composite) -> Result<Vec<Asked>, All
             ]?)
         }
         Composite::InsertDynamic => insert_dynamic(alloc),
-        Composite::Insert => Ok(vec![in alloc;
-            gives(2),
-            with_result(1, Relation::Same),
-            Asked::Row,
-        ]?),
+        Composite::Insert => insert(alloc),
         Composite::CopyObject => {
             Ok(vec![in alloc;
                 gives(1),
@@ -402,20 +461,112 @@ fn composite_conditions(alloc: Global, row: Composite) -> Result<Vec<Asked>, All
                 of_result(Kind::Data),
             ]?)
         }
-        Composite::Shuffle | Composite::Extract => Ok(vec![in alloc; Asked::Row]?),
+        Composite::Extract => extract(alloc),
+        Composite::Shuffle => shuffle(alloc),
     }
 }
 
+/// The index of an access chain leads to a part.
+fn chosen(element: bool, index: u32) -> Asked
+    ensures { result ≡ asked.Rest (rest.Chosen element index) }
+{
+    Asked::Rest(Rest::Chosen { element, index })
+}
+
+/// Conditions, and those of the values of an access chain that are indexes, where there are so many values.
+fn with_indexes(begun: Vec<Asked>, element: bool, count: u32) -> Result<Vec<Asked>, AllocError>
+    ensures { let first = first_spec element in
+        IfOk result (λ v. v.items ≡ begun.items ++ spec.index_conditions element first (count - first)) }
+{
+    let mut conditions = begun;
+    let first = first_index(element);
+    for k in first..count {
+        conditions.push(of_value(k, Kind::Int))?;
+        conditions.push(chosen(element, k - first))?;
+    }
+    Ok(conditions)
+}
+
+/// The result type of an access chain is of the storage class of the base.
+fn of_same_class() -> Asked
+    ensures { result ≡ asked.Relation relation.SameClass seat.Result (seat.Value 0) }
+{
+    Asked::Relation {
+        relation: Relation::SameClass,
+        of: Seat::Result,
+        to: Seat::Value(0),
+    }
+}
+
+/// Conditions, and those of an access chain that come after them, where there are so many values.
+fn with_chain(begun: Vec<Asked>, element: bool, count: u32) -> Result<Vec<Asked>, AllocError>
+    ensures { IfOk result (λ v. v.items ≡ begun.items ++ spec.chain_conditions element count) }
+{
+    let mut conditions = with_indexes(begun, element, count)?;
+    conditions.push(of_result(Kind::Pointer))?;
+    conditions.push(of_same_class())?;
+    conditions.push(Asked::Rest(Rest::Leads { element }))?;
+    Ok(conditions)
+}
+
+/// The conditions of OpAccessChain.
+fn chain(alloc: Global, count: u32) -> Result<Vec<Asked>, AllocError>
+    ensures { IfOk result (λ v. v.items ≡ spec.conditions_of row.Chain count) }
+{
+    with_chain(vec![in alloc; of_value(0, Kind::Pointer)]?, false, count)
+}
+
 /// The conditions of OpPtrAccessChain.
-fn element_chain(alloc: Global) -> Result<Vec<Asked>, AllocError>
-    ensures { IfOk result (λ v. v.items ≡ spec.conditions_of row.ElementChain 0) }
+fn element_chain(alloc: Global, count: u32) -> Result<Vec<Asked>, AllocError>
+    ensures { IfOk result (λ v. v.items ≡ spec.conditions_of row.ElementChain count) }
+{
+    let begun = vec![in alloc; of_value(0, Kind::Pointer), of_value(1, Kind::Int)]?;
+    with_chain(begun, true, count)
+}
+
+/// The conditions of OpVariable.
+fn variable(alloc: Global) -> Result<Vec<Asked>, AllocError>
+    ensures { IfOk result (λ v. v.items ≡ spec.conditions_of row.Variable 0) }
 {
     Ok(vec![in alloc;
-        of_value(0, Kind::Pointer),
-        of_value(1, Kind::Int),
         of_result(Kind::Pointer),
-        Asked::Row,
+        Asked::Rest(Rest::StorageClass),
+        Asked::Rest(Rest::ClassHere),
+        Asked::Rest(Rest::Initializer),
+        Asked::Rest(Rest::InitializerType),
     ]?)
+}
+
+/// A condition for each of so many constituents of a vector.
+fn push_shares(conditions: &mut Vec<Asked>, count: u32) -> Result<(), AllocError>
+    ensures { OnOk result (conditions.new.items ≡ conditions.old.items ++ spec.each_of rest.Share 0 count) }
+{
+    for k in 0..count {
+        conditions.push(Asked::Rest(Rest::Share(k)))?;
+    }
+    Ok(())
+}
+
+/// The same of a struct or an array.
+fn push_parts(conditions: &mut Vec<Asked>, count: u32) -> Result<(), AllocError>
+    ensures { OnOk result (conditions.new.items ≡ conditions.old.items ++ spec.each_of rest.Part 0 count) }
+{
+    for k in 0..count {
+        conditions.push(Asked::Rest(Rest::Part(k)))?;
+    }
+    Ok(())
+}
+
+/// The conditions of OpCompositeConstruct, where there are so many values.
+fn construct(alloc: Global, count: u32) -> Result<Vec<Asked>, AllocError>
+    ensures { IfOk result (λ v. v.items ≡ spec.conditions_of row.Construct count) }
+{
+    let mut conditions = vec![in alloc; of_result(Kind::Composite), Asked::Rest(Rest::Several)]?;
+    push_shares(&mut conditions, count)?;
+    conditions.push(Asked::Rest(Rest::Filled))?;
+    conditions.push(Asked::Rest(Rest::Count))?;
+    push_parts(&mut conditions, count)?;
+    Ok(conditions)
 }
 
 /// The conditions of OpPhi, where there are so many values.
@@ -442,20 +593,18 @@ pub fn conditions_of(alloc: Global, row: Row, count: u32) -> Result<Vec<Asked>, 
         Row::Access(row) => access_conditions(alloc, row),
         Row::Composite(row) => composite_conditions(alloc, row),
         Row::Undef => Ok(vec![in alloc; of_result(Kind::Data)]?),
-        Row::Chain => {
-            Ok(vec![in alloc;
-                of_value(0, Kind::Pointer),
-                of_result(Kind::Pointer),
-                Asked::Row,
-            ]?)
-        }
-        Row::ElementChain => element_chain(alloc),
-        Row::Variable => Ok(vec![in alloc; of_result(Kind::Pointer), Asked::Row]?),
+        Row::Chain => chain(alloc, count),
+        Row::ElementChain => element_chain(alloc, count),
+        Row::Variable => variable(alloc),
         Row::Phi => phi_conditions(alloc, count),
         Row::BranchConditional => {
-            Ok(vec![in alloc; takes(1), of_value(0, Kind::Bool), Asked::Row]?)
+            Ok(vec![in alloc;
+                takes(1),
+                of_value(0, Kind::Bool),
+                Asked::Rest(Rest::Weights),
+            ]?)
         }
         Row::Switch => Ok(vec![in alloc; takes(1), of_value(0, Kind::Int)]?),
-        Row::Construct => Ok(vec![in alloc; Asked::Row]?),
+        Row::Construct => construct(alloc, count),
     }
 }

@@ -16,7 +16,7 @@ ghost use Rattle.spv_type_evidence.specs.types.Constant.{Asks, AsksOf, AsksParts
 ghost use Rattle.spv_type_evidence.specs.types.Evidence.{Shows};
 ghost use Rattle.spv_type_evidence.specs.types.inner.First.{IsFirstOf};
 
-use crate::types::beside::{defined_by, named_at, reads};
+use crate::types::beside::{defined_by, named_at, reads_within};
 use crate::types::operands::low_in;
 use spv_evidence::{Condition, Evidence, Kind, Listed};
 use spv_ids::Ids;
@@ -192,8 +192,19 @@ fn wanted_at(
     }
 }
 
+/// The composite whose part a constituent is to be: the result type.
+fn composite_at(constant: Constant, inst: &Inst, operand: u32) -> Option<u32>
+    ensures { result ≡ spec.composite_at constant (plain_inst inst.now) operand }
+{
+    if is_constituent(constant, operand) {
+        type_in(inst.operands.as_slice())
+    } else {
+        None
+    }
+}
+
 /// What shows that Y4 is broken at an instruction: the operand at which the constant first fails, what is asked of it,
-/// and the types that are wanted and found.
+/// the types that are wanted and found, and those that are read.
 ///
 /// The error comes when out of memory.
 pub fn constant_evidence(
@@ -215,7 +226,8 @@ pub fn constant_evidence(
     };
     let wanted = wanted_at(definitions, constant, inst, operand);
     let found = found_at(definitions, constant, inst, operand);
-    let types = reads(alloc, definitions, wanted, found)?;
+    let composite = composite_at(constant, inst, operand);
+    let types = reads_within(alloc, definitions, composite, wanted, found)?;
     Ok(Evidence::Condition {
         condition: condition_at(constant, operand),
         operand: Some(operand),

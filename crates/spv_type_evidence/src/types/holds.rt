@@ -1,17 +1,23 @@
 //! Whether a condition of a row holds of types.
 
-ghost use Rattle.std.specs.Prelude.{◌≡◌, ◌↔◌, ℕ, IsTrue, Some, length};
+ghost use Rattle.std.specs.Prelude.{◌≡◌, ◌<◌, ◌↔◌, ℕ, IsTrue, Some, length};
 ghost use Rattle.std.specs.List.{AllByRecursion};
+ghost use Rattle.spv_module.specs.Module.{plain_inst};
 ghost use Rattle.spv_type_forms.specs.Types.{IsInt, IsPointer, IsVector, PointsTo};
 ghost use Rattle.spv_ops.specs.Calculation.{IsNamedClass};
 ghost use Rattle.spv_evidence.specs.declared.condition.Kind.TheVariants as kind;
+ghost use Rattle.spv_evidence.specs.declared.condition.Relation.TheVariants as relation;
 ghost use Rattle.spv_type_evidence.specs.types.Condition as spec;
 ghost use Rattle.spv_type_evidence.specs.types.Condition.{Agrees, HasOtherScalar, HasResult, HasSameCount, IsOf};
 ghost use Rattle.spv_type_evidence.specs.types.inner.Failing.{HoldsOf, IsFirstIn};
+ghost use Rattle.spv_type_evidence.specs.types.inner.Stops.{AreStops};
 ghost use Rattle.spv_type_evidence.specs.types.Beside.{types_in};
 
 use crate::types::asked::{Asked, Seat, Value};
+use crate::types::chain::{Stops, stops_of};
+use crate::types::rest::rest_holds;
 use spv_evidence::{Kind, Relation};
+use spv_module::Inst;
 use spv_ops::{bitcast, selects};
 use spv_type_forms::{
     Definitions, Form, Scalar, Sort, has_sort, is_data, is_int, is_number, points_to,
@@ -77,6 +83,26 @@ fn is_named_pointer(definitions: &Definitions, t: u32) -> bool
     }
 }
 
+/// Whether a type is a vector.
+fn is_vector(definitions: &Definitions, t: u32) -> bool
+    ensures { IsTrue result ↔ IsOf definitions.now kind.Vector t }
+{
+    match definitions.form(t) {
+        Some(Form::Vector { .. }) => true,
+        _ => false,
+    }
+}
+
+/// Whether a type is a vector, a struct or an array.
+fn is_composite(definitions: &Definitions, t: u32) -> bool
+    ensures { IsTrue result ↔ IsOf definitions.now kind.Composite t }
+{
+    match definitions.form(t) {
+        Some(Form::Vector { .. } | Form::Struct | Form::Array { .. }) => true,
+        _ => false,
+    }
+}
+
 /// Whether a type is of a kind.
 fn is_of(definitions: &Definitions, kind: Kind, t: u32) -> bool
     ensures { IsTrue result ↔ IsOf definitions.now kind t }
@@ -94,6 +120,8 @@ fn is_of(definitions: &Definitions, kind: Kind, t: u32) -> bool
         Kind::FunctionPointer => is_pointer_of(definitions, t, 7),
         Kind::GenericPointer => is_pointer_of(definitions, t, 8),
         Kind::NamedPointer => is_named_pointer(definitions, t),
+        Kind::Vector => is_vector(definitions, t),
+        Kind::Composite => is_composite(definitions, t),
     }
 }
 
@@ -127,12 +155,34 @@ fn has_same_pointee(definitions: &Definitions, t: u32, u: u32) -> bool
     }
 }
 
+/// Whether two types are pointers of one storage class.
+fn has_same_class(definitions: &Definitions, t: u32, u: u32) -> bool
+    ensures { IsTrue result ↔ Agrees definitions.now relation.SameClass t u }
+{
+    match (definitions.form(t), definitions.form(u)) {
+        (Some(Form::Pointer { class: own, .. }), Some(Form::Pointer { class: other, .. })) => own
+            == other,
+        _ => false,
+    }
+}
+
 /// Whether a type is a vector of a component type.
 fn is_vector_of(definitions: &Definitions, t: u32, c: u32) -> bool
     ensures { IsTrue result ↔ ((n : ℕ) × IsVector definitions.now t c n) }
 {
     match definitions.form(t) {
         Some(Form::Vector { component, .. }) => component == c,
+        _ => false,
+    }
+}
+
+/// Whether two types are vectors of one component type.
+fn has_same_component(definitions: &Definitions, t: u32, u: u32) -> bool
+    ensures { IsTrue result ↔ Agrees definitions.now relation.SameComponent t u }
+{
+    match (definitions.form(t), definitions.form(u)) {
+        (Some(Form::Vector { component: c, .. }), Some(Form::Vector { component: d, .. })) => c
+            == d,
         _ => false,
     }
 }
@@ -149,8 +199,10 @@ fn agrees(definitions: &Definitions, relation: Relation, t: u32, u: u32) -> bool
         Relation::Chooses => selects(definitions, u, t),
         Relation::PointsTo => points_to(definitions, t, u),
         Relation::SamePointee => has_same_pointee(definitions, t, u),
+        Relation::SameClass => has_same_class(definitions, t, u),
         Relation::VectorOf => is_vector_of(definitions, t, u),
         Relation::ComponentOf => is_vector_of(definitions, u, t),
+        Relation::SameComponent => has_same_component(definitions, t, u),
     }
 }
 
@@ -184,9 +236,19 @@ fn has_operands(r: Option<u32>, values: &[Value], there: bool, count: u32) -> bo
     has_result(r, there) && values.len() == count as usize
 }
 
-/// Whether a condition holds, where the row itself does not.
-fn holds(definitions: &Definitions, r: Option<u32>, values: &[Value], asked: Asked) -> bool
-    ensures { IsTrue result ↔ HoldsOf definitions.now r values.now asked }
+/// Whether a condition holds at the instruction of a number, where the indexes of a chain stop there.
+fn holds(
+    definitions: &Definitions,
+    number: u32,
+    inst: &Inst,
+    r: Option<u32>,
+    values: &[Value],
+    stops: Stops,
+    asked: Asked,
+) -> bool
+    requires within { number < length definitions.now }
+    requires stops { AreStops definitions.now (plain_inst inst.now) (types_in values.now) stops }
+    ensures { IsTrue result ↔ HoldsOf definitions.now number (plain_inst inst.now) r values.now asked }
 {
     match asked {
         Asked::Operands {
@@ -203,21 +265,27 @@ fn holds(definitions: &Definitions, r: Option<u32>, values: &[Value], asked: Ask
                 _ => false,
             }
         }
-        Asked::Row => false,
+        Asked::Rest(rest) => rest_holds(definitions, number, inst, r, values, stops, rest),
     }
 }
 
-/// The first of some conditions that does not hold, if one does not, where the row itself does not.
+/// The first of some conditions that does not hold at the instruction of a number, if one does not.
+///
+/// The indexes of a chain are followed once, before the conditions are looked at.
 pub fn first_failing(
     definitions: &Definitions,
+    number: u32,
+    inst: &Inst,
     r: Option<u32>,
     values: &[Value],
     conditions: &[Asked],
 ) -> Option<Asked>
-    ensures { IsFirstIn (HoldsOf definitions.now r values.now) conditions.now result }
+    requires { number < length definitions.now }
+    ensures { IsFirstIn (HoldsOf definitions.now number (plain_inst inst.now) r values.now) conditions.now result }
 {
+    let stops = stops_of(definitions, inst, values);
     for k in 0..conditions.len() {
-        if !holds(definitions, r, values, conditions[k]) {
+        if !holds(definitions, number, inst, r, values, stops, conditions[k]) {
             return Some(conditions[k]);
         }
     }

@@ -81,31 +81,34 @@ pub fn operation_evidence(
     alloc: Global,
     definitions: &Definitions,
     ids: &Ids,
+    number: u32,
     inst: &Inst,
 ) -> Result<Evidence, AllocError>
+    requires within { number < length definitions.now }
     requires ids { (x : ℕ) → IsDefinitionOf definitions.now x (definition_in ids.now x) }
     requires typeable { (G : Table) × IsTypeable G definitions.now (plain_inst inst.now) }
-    requires broken { (G : Table) × (n : ℕ) × FitsShape G (plain_inst inst.now)
-        × ¬ (IsTyped G definitions.now n (plain_inst inst.now)) }
+    requires broken { (G : Table) × FitsShape G (plain_inst inst.now)
+        × ¬ (IsTyped G definitions.now number (plain_inst inst.now)) }
     ensures { let i = plain_inst inst.now in
-        IfOk result (λ e. (G : Table) (n : ℕ) → FitsShape G i → ¬ (IsTyped G definitions.now n i)
-        → Shows G definitions.now n i Y5 e) }
+        IfOk result (λ e. (G : Table) → FitsShape G i → ¬ (IsTyped G definitions.now number i)
+        → Shows G definitions.now number i Y5 e) }
 {
     let typed = typed_values(alloc, definitions, inst)?;
     let values = typed.as_slice();
     let r = result_type(inst.operands.as_slice());
     let conditions = conditions_of(alloc, row_of(inst.opcode), values.len() as u32)?;
-    let Some(asked) = first_failing(definitions, r, values, conditions.as_slice()) else {
+    let Some(asked) = first_failing(definitions, number, inst, r, values, conditions.as_slice())
+    else {
         unreachable!();
     };
-    let operand = operand_in(values, asked);
-    let types = read_in(alloc, definitions, r, values, asked)?;
+    let operand = operand_in(definitions, inst, values, asked);
+    let types = read_in(alloc, definitions, inst, r, values, asked)?;
     Ok(Evidence::Condition {
         condition: condition_in(asked),
         operand,
         defined: defined_by(ids, inst, operand),
-        wanted: wanted_in(r, values, asked),
-        found: found_in(r, values, asked),
+        wanted: wanted_in(definitions, inst, r, values, asked),
+        found: found_in(definitions, inst, r, values, asked),
         types: Listed::from_vec(types),
     })
 }

@@ -17,8 +17,8 @@ use Rattle.spv_branches.specs.inner.Edges.{marked}
 use Rattle.spv_branches.specs.Target.{is_phi, IsOp, IsLabelOf, IsParentAt, HasParents}
 use Rattle.spv_branches.proofs.Labelled.{use_in, use_within, one_id, one_label, one_parent}
 use Rattle.spv_evidence.specs.declared.evidence.Evidence.TheVariants.{MissingParent, NoPredecessor, Twice}
-use Rattle.spv_flow_evidence.specs.branches.Evidence.{IsEvidence}
-use Rattle.spv_flow_evidence.specs.branches.inner.Known.{ArePredecessors, name_of, AreNames, HasNames}
+use Rattle.spv_flow_evidence.specs.branches.Evidence.{ArePredecessors, IsEvidence}
+use Rattle.spv_flow_evidence.specs.branches.inner.Known.{AreMarks, name_of, AreNames, HasNames}
 
 -- what a list that was lent holds afterwards
 pub written : {A : Type 0} → (k : ℕ) (xs ys : List A) → k ≡ length xs → take k (xs ++ ys) ≡ xs
@@ -84,27 +84,28 @@ names_end G is at marks names n i there all before =
     }
 
 -- a label of no block
-pub no_block : (G : Table) (is : List PlainInst) (at block k x : ℕ) → IsOp is at is_phi → IsOfBlock is at block → IsUsedAt G is at k x Label → ((m : ℕ) → ¬ (IsLabelOf is x m)) → IsEvidence G is F3 at (NoPredecessor k)
-no_block G is at block k x phi of used none = IsEvidence.no_predecessor at block k x phi of used (λ p label leads. none p label)
+pub no_block : (G : Table) (is : List PlainInst) (at block k x : ℕ) → IsOp is at is_phi → IsOfBlock is at block → IsUsedAt G is at k x Label → ((m : ℕ) → ¬ (IsLabelOf is x m)) → (ps : List ℕ) → ArePredecessors G is block ps
+    → IsEvidence G is F3 at (NoPredecessor k ps)
+no_block G is at block k x phi of used none ps all = IsEvidence.no_predecessor at block k x ps phi of used (λ p label leads. none p label) all
 
 -- a label of a block that is not marked
-pub unmarked : (G : Table) (c : Code) (at block : ℕ) (marks : List Bool) (k x p : ℕ) → IsCode G c → IsOp (insts_of c) at is_phi → IsOfBlock (insts_of c) at block → ArePredecessors G (insts_of c) block marks
-    → IsUsedAt G (insts_of c) at k x Label → IsLabelOf (insts_of c) x p → marked marks p ≡ false → IsEvidence G (insts_of c) F3 at (NoPredecessor k)
-unmarked G c at block marks k x p is phi of are used label m = IsEvidence.no_predecessor at block k x phi of used (λ q other leads.
+pub unmarked : (G : Table) (c : Code) (at block : ℕ) (marks : List Bool) (k x p : ℕ) → IsCode G c → IsOp (insts_of c) at is_phi → IsOfBlock (insts_of c) at block → AreMarks G (insts_of c) block marks
+    → IsUsedAt G (insts_of c) at k x Label → IsLabelOf (insts_of c) x p → marked marks p ≡ false → (ps : List ℕ) → ArePredecessors G (insts_of c) block ps → IsEvidence G (insts_of c) F3 at (NoPredecessor k ps)
+unmarked G c at block marks k x p is phi of are used label m ps all = IsEvidence.no_predecessor at block k x ps phi of used (λ q other leads.
     let e : p ≡ q = one_label G c x p q is label other in
-    both_ways (marked marks q) (ap (marked marks) (sym e) ∙ m) (are.complete q leads))
+    both_ways (marked marks q) (ap (marked marks) (sym e) ∙ m) (are.complete q leads)) all
 
 -- a label of a block that is named already
-pub again : (G : Table) (is : List PlainInst) (at : ℕ) (marks : List Bool) (names : List (Option ℕ)) (j k x p : ℕ) → IsOp is at is_phi → IsUsedAt G is at k x Label → IsLabelOf is x p → name_of names p ≡ Some j → AreNames G is at marks names k
-    → IsEvidence G is F3 at (Twice j k)
-again G is at marks names j k x p phi used label e before = let h = before.sound j p e in IsEvidence.twice at j k p phi h.0 h.1 (record { id = x; used = used; label = label })
+pub again : (G : Table) (is : List PlainInst) (at block : ℕ) (marks : List Bool) (names : List (Option ℕ)) (j k x p : ℕ) → IsOp is at is_phi → IsOfBlock is at block → IsUsedAt G is at k x Label → IsLabelOf is x p → name_of names p ≡ Some j
+    → AreNames G is at marks names k → (ps : List ℕ) → ArePredecessors G is block ps → IsEvidence G is F3 at (Twice j k ps)
+again G is at block marks names j k x p phi of used label e before ps all = let h = before.sound j p e in IsEvidence.twice at block j k p ps phi of h.0 h.1 (record { id = x; used = used; label = label }) all
 
 by_name : (o : Option ℕ) (Q : Type 0) → ¬ (o ≡ None) → ((k : ℕ) → o ≡ Some k → Q) → Q
 by_name None Q some f = absurd (some (let e : ◌≡◌ {A = Option ℕ} None None = cc in e))
 by_name (Some k) Q some f = f k (let e : ◌≡◌ {A = Option ℕ} (Some k) (Some k) = cc in e)
 
 -- Where each operand names a predecessor, and each predecessor is named, the parents are as they have to be.
-pub parents : (G : Table) (is : List PlainInst) (at block : ℕ) (marks : List Bool) (names : List (Option ℕ)) → IsOfBlock is at block → ArePredecessors G is block marks → HasNames G is at marks names
+pub parents : (G : Table) (is : List PlainInst) (at block : ℕ) (marks : List Bool) (names : List (Option ℕ)) → IsOfBlock is at block → AreMarks G is block marks → HasNames G is at marks names
     → ((p : ℕ) → marked marks p ≡ true → ¬ (name_of names p ≡ None)) → HasParents G is at
 parents G is at block marks names of are has all = record {
   block = block;
@@ -115,6 +116,6 @@ parents G is at block marks names of are has all = record {
 }
 
 -- A predecessor that no operand names.
-pub missing : (G : Table) (is : List PlainInst) (at block : ℕ) (marks : List Bool) (names : List (Option ℕ)) (p : ℕ) → IsOp is at is_phi → IsOfBlock is at block → ArePredecessors G is block marks → HasNames G is at marks names → marked marks p ≡ true → name_of names p ≡ None
-    → IsEvidence G is F3 at (MissingParent p)
-missing G is at block marks names p phi of are has m none = IsEvidence.missing_parent at block p phi of (are.sound p m) (λ k a. none-some k (sym none ∙ has.complete k p a))
+pub missing : (G : Table) (is : List PlainInst) (at block : ℕ) (marks : List Bool) (names : List (Option ℕ)) (p : ℕ) → IsOp is at is_phi → IsOfBlock is at block → AreMarks G is block marks → HasNames G is at marks names → marked marks p ≡ true → name_of names p ≡ None
+    → (ps : List ℕ) → ArePredecessors G is block ps → IsEvidence G is F3 at (MissingParent p ps)
+missing G is at block marks names p phi of are has m none ps all = IsEvidence.missing_parent at block p ps phi of (are.sound p m) (λ k a. none-some k (sym none ∙ has.complete k p a)) all

@@ -1,5 +1,6 @@
 -- What is said anew of each of the rules F: what a broken one tells, that evidence suffices, and the worked examples.
-use Rattle.std.proofs.Common.{◌≡◌, ◌<◌, ◌⊎◌, inl, ℕ, zero, suc, List, [], ◌∷◌, refl, subst, arith}
+use Rattle.std.proofs.Common.{◌≡◌, ◌<◌, ◌⊎◌, inl, ℕ, zero, suc, List, [], ◌∷◌, refl, sym, subst, arith}
+use Rattle.std.specs.List.{Contains}
 use Rattle.spv_table.specs.Table.{Table}
 use Rattle.spv_module.specs.Example.{small}
 use Rattle.spv_module.specs.Operand.{Id, PlainInst}
@@ -25,7 +26,7 @@ use Rattle.spv_branches.proofs.Firsts.{at_phi}
 use Rattle.spv_branches.proofs.Worked.{branch_used, has_parents, bare_label, u_block, phi_block, u_leads}
 use Rattle.spv_evidence.specs.declared.evidence.Evidence.{Evidence}
 use Rattle.spv_evidence.specs.declared.evidence.Evidence.TheVariants.{Operand, Defined, MissingParent}
-use Rattle.spv_flow_evidence.specs.branches.Evidence.{IsEvidence}
+use Rattle.spv_flow_evidence.specs.branches.Evidence.{ArePredecessors, IsEvidence}
 use Rattle.spv_flow_evidence.proofs.lemmas.Small.{no_result}
 
 -- What a broken rule tells.
@@ -71,9 +72,9 @@ named_once G is n j k p lt one two h = let e = h.once j k p one two in absurd (o
 pub suffices : (G : Table) (is : List PlainInst) (r : Rule) (n : ℕ) (e : Evidence) → IsEvidence G is r n e → Broken G is r n
 suffices G is _ _ _ (IsEvidence.no_label n k x m op used defined none) = Broken.no_label n k x op used none
 suffices G is _ _ _ (IsEvidence.to_entry n k x m op used defined entry) = Broken.to_entry n x m (record { branch = op; operand = k; used = used }) defined entry
-suffices G is _ _ _ (IsEvidence.missing_parent n b p phi of leads none) = Broken.parents n phi (none_missing G is n b p of leads none)
-suffices G is _ _ _ (IsEvidence.no_predecessor n b k x phi of used none) = Broken.parents n phi (all_lead G is n b k x of used none)
-suffices G is _ _ _ (IsEvidence.twice n j k p phi lt one two) = Broken.parents n phi (named_once G is n j k p lt one two)
+suffices G is _ _ _ (IsEvidence.missing_parent n b p ps phi of leads none all) = Broken.parents n phi (none_missing G is n b p of leads none)
+suffices G is _ _ _ (IsEvidence.no_predecessor n b k x ps phi of used none all) = Broken.parents n phi (all_lead G is n b k x of used none)
+suffices G is _ _ _ (IsEvidence.twice n b j k p ps phi of lt one two all) = Broken.parents n phi (named_once G is n j k p lt one two)
 suffices G is _ _ _ (IsEvidence.same_labels n x op one two) = Broken.same_labels n x op one two
 
 -- The worked examples.
@@ -103,10 +104,7 @@ to_entry =
     IsEvidence.to_entry 2 0 1 1 refl (record { inst = branch 1; there = refl; used = branch_used 1 }) (record { inst = label 1; there = refl; result = refl })
     (record { label = refl; function = 0; there = refl; after = omega arith; first = λ k a b. absurd (omega (arith, a, b)); same = λ k a b. absurd (omega (arith, a, b)) })
 
--- the OpPhi that names no block
-pub missing : IsEvidence small unpaired F3 4 (MissingParent 1)
-missing = IsEvidence.missing_parent 4 3 1 refl phi_block (2, u_leads) (λ k a. bare_label k a.id a.used)
-
+-- the OpPhi that names no block, of which the predecessor is the first block
 branch_at : (t : ℕ) → IsOp unpaired t is_branch → t ≡ 2
 branch_at zero o = let e = o in cc
 branch_at (suc zero) o = let e = o in cc
@@ -120,12 +118,48 @@ only_first b p (t, h) =
     let e = branch_at t h.target.branch in
     block_same unpaired 2 p 1 (subst (λ (k : ℕ). IsOfBlock unpaired k p) e h.of) u_block
 
-pub not_missing : ¬ (IsEvidence small unpaired F3 4 (MissingParent 3))
-not_missing h = own F3 4 (MissingParent 3) h refl
-  where
-    own : (r : Rule) (n : ℕ) (e : Evidence) → IsEvidence small unpaired r n e → e ≡ MissingParent 3 → ⊥
-    own _ _ _ (IsEvidence.missing_parent n b p phi of before none) g = let f : p ≡ 3 = cc in let one = only_first b p before in omega (arith, f, one)
-    own _ _ _ _ g = cc
+one_in : (p : ℕ) → Contains (1 ∷ []) p → 1 ≡ p
+one_in p (zero, lt, e) = e
+one_in p (suc k, lt, e) = absurd (omega (arith, lt))
+
+alone : ArePredecessors small unpaired 3 (1 ∷ [])
+alone = record {
+  order = λ k lt. absurd (omega (arith, lt));
+  each = λ p. (
+    λ h. subst (λ (q : ℕ). IsPredecessor small unpaired 3 q) (one_in p h) (2, u_leads),
+    λ before. (0, omega arith, sym (only_first 3 p before)),
+  );
+}
+
+pub missing : IsEvidence small unpaired F3 4 (MissingParent 1 (1 ∷ []))
+missing = IsEvidence.missing_parent 4 3 1 (1 ∷ []) refl phi_block (2, u_leads) (λ k a. bare_label k a.id a.used) alone
+
+own : (qs : List ℕ) (r : Rule) (n : ℕ) (e : Evidence) → IsEvidence small unpaired r n e → e ≡ MissingParent 3 qs → ⊥
+own qs _ _ _ (IsEvidence.missing_parent n b p ps phi of before none all) g = let f : p ≡ 3 = cc in let one = only_first b p before in omega (arith, f, one)
+own qs _ _ _ _ g = cc
+
+pub not_missing : (ps : List ℕ) → ¬ (IsEvidence small unpaired F3 4 (MissingParent 3 ps))
+not_missing ps h = own ps F3 4 (MissingParent 3 ps) h refl
+
+-- what is told of it are the predecessors of its block
+told_of : (qs : List ℕ) (r : Rule) (n : ℕ) (e : Evidence) → IsEvidence small unpaired r n e → n ≡ 4 → e ≡ MissingParent 1 qs → ArePredecessors small unpaired 3 qs
+told_of qs _ _ _ (IsEvidence.missing_parent n b p ps phi of before none all) f g =
+    let s : ps ≡ qs = cc in
+    let same : b ≡ 3 = block_same unpaired 4 b 3 (subst (λ (k : ℕ). IsOfBlock unpaired k b) f of) phi_block in
+    subst (λ (xs : List ℕ). ArePredecessors small unpaired 3 xs) s (subst (λ (c : ℕ). ArePredecessors small unpaired c ps) same all)
+told_of qs _ _ _ _ f g = cc
+
+pub untold : ¬ (IsEvidence small unpaired F3 4 (MissingParent 1 []))
+untold h =
+    let all = told_of [] F3 4 (MissingParent 1 []) h refl refl in
+    let has = (all.each 1).1 (2, u_leads) in
+    absurd (omega (arith, has.1))
+
+pub stranger : ¬ (IsEvidence small unpaired F3 4 (MissingParent 1 (1 ∷ 3 ∷ [])))
+stranger h =
+    let all = told_of (1 ∷ 3 ∷ []) F3 4 (MissingParent 1 (1 ∷ 3 ∷ [])) h refl refl in
+    let one = only_first 3 3 ((all.each 3).0 (1, omega arith, refl)) in
+    absurd (omega (arith, one))
 
 -- the OpBranchConditional with the same label twice
 abbrev twin : List PlainInst
@@ -163,4 +197,4 @@ pub sound_parents : (e : Evidence) → ¬ (IsEvidence small (paired 1) F3 4 e)
 sound_parents e h = (at_phi small (paired 1) F3 4 refl refl (suffices small (paired 1) F3 4 e h)).1 has_parents
 
 -- all of them
-pub ruleset examples = (no_label, not_itself, to_entry, missing, not_missing, same_labels, not_first, sound_parents)
+pub ruleset examples = (no_label, not_itself, to_entry, missing, not_missing, untold, stranger, same_labels, not_first, sound_parents)

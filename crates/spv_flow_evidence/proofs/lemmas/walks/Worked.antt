@@ -1,5 +1,5 @@
 -- The worked examples.
-use Rattle.std.proofs.Common.{◌≡◌, ◌<◌, ℕ, zero, suc, List, [], ◌∷◌, refl, ap, subst, length, arith}
+use Rattle.std.proofs.Common.{◌≡◌, ◌<◌, ◌≤◌, ℕ, zero, suc, List, [], ◌∷◌, refl, ap, subst, length, arith}
 use Rattle.std.proofs.lemmas.List.{length-reverse}
 use Rattle.std.proofs.lemmas.Option.{same_Some}
 use Rattle.std.specs.List.{filter}
@@ -7,22 +7,42 @@ use Rattle.spv_module.specs.Example.{small}
 use Rattle.spv_module.specs.Operand.{Id}
 use Rattle.spv_module.specs.declared.fault.Rule.TheVariants.{A1}
 use Rattle.spv_layout.specs.declared.form.Role.TheVariants as role
+use Rattle.spv_layout.specs.Place.{IsAt, IsOfFunction}
+use Rattle.spv_layout.specs.Rows.{rows}
+use Rattle.spv_layout.specs.declared.class.Class.TheVariants.{Function, FunctionEnd}
 use Rattle.spv_layout.specs.inner.Row.{v, T, R}
 use Rattle.spv_branches.specs.Target.{is_label, is_phi, IsOp}
 use Rattle.spv_branches.specs.inner.Target.{is_function}
 use Rattle.spv_branches.specs.Walk.{Next, IsWalk, IsResultAmong}
 use Rattle.spv_branches.specs.Ready.{IsMissing}
 use Rattle.spv_branches.specs.Example.{label, function, negation, early}
-use Rattle.spv_branches.proofs.Worked.{local_7, negation_forms, of_function}
+use Rattle.spv_branches.proofs.Worked.{local_7, negation_forms}
 use Rattle.spv_evidence.specs.declared.evidence.Evidence.{Evidence}
 use Rattle.spv_evidence.specs.declared.evidence.Evidence.TheVariants.{Walk}
 use Rattle.spv_flow_evidence.specs.walks.Evidence.{is_label_at, blocks_of, IsEvidence}
-use Rattle.spv_flow_evidence.proofs.lemmas.Small.{no_result}
+use Rattle.spv_flow_evidence.proofs.lemmas.Small.{no_result, of_first}
 
 undefined : ¬ (IsResultAmong early (1 ∷ 0 ∷ []) 7)
 undefined (zero, n, lt, e, d) = let f : n ≡ 1 = cc in no_result early 1 n 7 (label 1) f refl (λ r. absurd (omega (arith, same_Some 1 7 r))) d
 undefined (suc zero, n, lt, e, d) = let f : n ≡ 0 = cc in no_result early 0 n 7 function f refl (λ r. cc) d
 undefined (suc (suc k), n, lt, e, d) = absurd (omega (arith, lt))
+
+-- all instructions are of the function
+
+no_function : (k : ℕ) → 0 < k → k ≤ 3 → ¬ (IsAt early k (Function ∷ []))
+unfolding rows
+no_function zero a b h = absurd (omega (arith, a))
+no_function (suc (suc (suc (suc k)))) a b h = absurd (omega (arith, b))
+no_function _ a b h = cc
+
+no_end : (k : ℕ) → k ≤ 3 → ¬ (IsAt early k (FunctionEnd ∷ []))
+unfolding rows
+no_end (suc (suc (suc (suc k)))) b h = absurd (omega (arith, b))
+no_end _ b h = cc
+
+of_function : (n : ℕ) → n ≤ 3 → IsOfFunction early n 0
+unfolding rows
+of_function n lt = of_first early n (omega (arith, lt)) refl (λ k a b. no_function k a (omega (arith, b, lt))) (λ k b. no_end k (omega (arith, b, lt)))
 
 walked : IsWalk small early 0 (1 ∷ 0 ∷ []) 2
 walked =

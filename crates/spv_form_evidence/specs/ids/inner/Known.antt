@@ -1,15 +1,16 @@
 -- What is kept of ids while evidence is looked for. (For the code alone.)
 use Rattle.std.specs.Prelude.{◌≡◌, ◌<◌, ℕ, List, Option, Some, None, MatchOption, nat_lt}
-use Rattle.std.specs.Prelude.{if◌then◌else◌}
+use Rattle.std.specs.Prelude.{if◌then◌else◌, slice_get, unwrap_or}
 use Rattle.std.specs.Ordering.{nat_cmp}
 use Rattle.std.specs.BTreeMap.{get}
 use Rattle.spv_module.specs.Operand.{PlainInst}
 use Rattle.spv_ids.specs.Definition.{IsDefinedAt}
 use Rattle.spv_form_evidence.specs.declared.ids.kept.Kept.{Kept}
 
--- the instruction that is kept of an id, if one is: of an id below the bound what the map has
+-- the instruction that is kept of an id, if one is: of an id below the bound what the list has at its place, or past it
+-- the map
 abbrev pub kept : Kept → ℕ → Option ℕ
-kept k x = if nat_lt x k.bound then get nat_cmp k.places x else None
+kept k x = if nat_lt x k.bound then unwrap_or (slice_get k.near.items x) (get nat_cmp k.far x) else None
 
 -- The instruction is kept of the id, if that is below the bound, and all else is as before.
 pub record Puts (old new : Kept) (id inst : ℕ) : Type 0 where

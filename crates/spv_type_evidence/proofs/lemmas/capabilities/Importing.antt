@@ -1,5 +1,5 @@
 -- Which instruction imports a function.
-use Rattle.std.proofs.Common.{◌≡◌, ◌<◌, ◌+◌, ◌↔◌, ◌∙◌, ℕ, List, Option, Some, None, Bool, true, false, sym, subst, inl, inr, arith, length, nat_eq}
+use Rattle.std.proofs.Common.{◌≡◌, ◌+◌, ◌↔◌, ◌∙◌, ℕ, List, Option, Some, None, Bool, true, false, sym, subst, inl, inr, arith, length, nat_eq}
 use Rattle.std.specs.Prelude.{slice_get, IsTrue}
 use Rattle.std.proofs.lemmas.Bool.{eqb-true, eq-eqb}
 use Rattle.std.proofs.lemmas.Option.{slice_get_within}

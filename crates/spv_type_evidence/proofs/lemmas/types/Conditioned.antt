@@ -1,6 +1,6 @@
 -- A row of Y5 holds exactly where all its conditions hold.
-use Rattle.std.proofs.Common.{◌≡◌, ◌≢◌, ◌∙◌, ◌↔◌, inl, inr, ℕ, zero, suc, List, [], ◌∷◌, Option, Some, None, Bool, true, false, refl, sym, ap, subst, length, arith, ◌+◌, ◌++◌, drop}
-use Rattle.std.specs.Prelude.{slice_get, IsSomeAnd}
+use Rattle.std.proofs.Common.{◌≡◌, ◌≢◌, ◌∙◌, ◌↔◌, ℕ, List, [], ◌∷◌, Option, Some, None, true, refl, sym, ap, length, ◌+◌, ◌++◌, drop}
+use Rattle.std.specs.Prelude.{IsSomeAnd}
 use Rattle.std.specs.List.{AllByRecursion}
 use Rattle.spv_module.specs.Operand.{PlainInst}
 use Rattle.spv_type_forms.specs.declared.form.Scalar.{Scalar}
@@ -11,16 +11,11 @@ use Rattle.spv_type_forms.specs.declared.form.Form.{Form}
 use Rattle.spv_type_forms.specs.declared.form.Form.TheVariants as form
 use Rattle.spv_type_forms.specs.declared.form.Components.{Components}
 use Rattle.spv_type_forms.specs.Form.{form_of}
-use Rattle.spv_type_forms.specs.Types.{components_of, sort_of, class_in, pointee_in, HasSort, IsData, PointsTo}
-use Rattle.spv_type_forms.specs.Operands.{words_in, ids_in, after_head}
-use Rattle.spv_module.specs.Operand.{Plain}
-use Rattle.spv_module.specs.Operand as operand
+use Rattle.spv_type_forms.specs.Types.{components_of, sort_of, pointee_in, HasSort, IsData}
+use Rattle.spv_type_forms.specs.Operands.{ids_in, after_head}
 use Rattle.spv_ops.specs.declared.row.Composite.{Composite}
 use Rattle.spv_ops.specs.declared.row.Composite.TheVariants as composite
-use Rattle.spv_ops.specs.Composite.{Composes}
 use Rattle.spv_evidence.specs.declared.condition.Kind.TheVariants as kind
-use Rattle.spv_ops.specs.Chain.{Chains, ChainsByElement}
-use Rattle.spv_ops.specs.Variable.{DeclaresVariable}
 use Rattle.spv_ops.specs.declared.row.Row.{Row}
 use Rattle.spv_ops.specs.declared.row.Row.TheVariants as row
 use Rattle.spv_ops.specs.declared.row.Calculation.{Calculation}
@@ -30,65 +25,40 @@ use Rattle.spv_ops.specs.declared.row.Access.TheVariants as access
 use Rattle.spv_ops.specs.Calculation.{Calculates}
 use Rattle.spv_ops.specs.Access.{Accesses}
 use Rattle.spv_ops.specs.Typed.{RowHolds}
+use Rattle.spv_type_evidence.specs.declared.types.asked.Rest.{Rest}
 use Rattle.spv_type_evidence.specs.declared.types.asked.Asked.{Asked}
-use Rattle.spv_type_evidence.specs.declared.types.asked.Asked.TheVariants as asked
-use Rattle.spv_type_evidence.specs.types.Condition.{IsOf, HasResult, HasSameCount, HasOtherScalar, Holds}
+use Rattle.spv_type_evidence.specs.types.Rest.{RestHolds}
+use Rattle.spv_type_evidence.specs.types.Condition.{IsOf, HasResult, Holds}
+use Rattle.spv_type_evidence.proofs.lemmas.types.Chaining.{chain_chosen, chain_leads, element_chosen, element_leads}
+use Rattle.spv_type_evidence.proofs.lemmas.types.Pointing.{chains_hold, elements_hold, hold_chains, hold_elements, no_chain, no_elements, variable_pointer, variable_fits, fits_variable}
+use Rattle.spv_type_evidence.proofs.lemmas.types.Counting.{of_one, of_two, of_three, of_four, of_six, some, no_result, at_front}
+use Rattle.spv_type_evidence.proofs.lemmas.types.Composed.{shuffle_holds, holds_shuffle, extract_holds, holds_extract, insert_holds, holds_insert}
+use Rattle.spv_type_evidence.proofs.lemmas.types.Constructed.{construct_holds, holds_construct}
 use Rattle.spv_type_evidence.specs.types.Conditions.{of_result, same_types, of_sort, composite_conditions, calculation_conditions, access_conditions, conditions_of}
 
--- How many values there are.
-
-none : (P : List ℕ → Type 0) (ts : List ℕ) → length ts ≡ 0 → P [] → P ts
-none P [] e p = p
-none P (t ∷ ts) e p = absurd (let no : suc (length ts) ≡ 0 = e in omega arith)
-
-more : (P : List ℕ → Type 0) (n : ℕ) (ts : List ℕ) → length ts ≡ suc n → ((t : ℕ) (us : List ℕ) → length us ≡ n → P (t ∷ us)) → P ts
-more P n [] e f = absurd (let no : 0 ≡ suc n = e in omega arith)
-more P n (t ∷ ts) e f = f t ts (let q : suc (length ts) ≡ suc n = e in omega arith)
-
-of_one : (P : List ℕ → Type 0) (ts : List ℕ) → length ts ≡ 1 → ((o : ℕ) → P (o ∷ [])) → P ts
-of_one P ts e f = more P 0 ts e (λ o us d. none (λ vs. P (o ∷ vs)) us d (f o))
-
-of_two : (P : List ℕ → Type 0) (ts : List ℕ) → length ts ≡ 2 → ((o p : ℕ) → P (o ∷ p ∷ [])) → P ts
-of_two P ts e f = more P 1 ts e (λ o us d. of_one (λ vs. P (o ∷ vs)) us d (f o))
-
-of_three : (P : List ℕ → Type 0) (ts : List ℕ) → length ts ≡ 3 → ((o p q : ℕ) → P (o ∷ p ∷ q ∷ [])) → P ts
-of_three P ts e f = more P 2 ts e (λ o us d. of_two (λ vs. P (o ∷ vs)) us d (f o))
-
-of_four : (P : List ℕ → Type 0) (ts : List ℕ) → length ts ≡ 4 → ((o p q s : ℕ) → P (o ∷ p ∷ q ∷ s ∷ [])) → P ts
-of_four P ts e f = more P 3 ts e (λ o us d. of_three (λ vs. P (o ∷ vs)) us d (f o))
-
-of_six : (P : List ℕ → Type 0) (ts : List ℕ) → length ts ≡ 6 → ((o p q s t u : ℕ) → P (o ∷ p ∷ q ∷ s ∷ t ∷ u ∷ [])) → P ts
-of_six P ts e f = more P 5 ts e (λ o us d. more (λ vs. P (o ∷ vs)) 4 us d (λ p ws d2. of_four (λ vs. P (o ∷ p ∷ vs)) ws d2 (f o p)))
-
-some : (P : Option ℕ → Type 0) (r : Option ℕ) → HasResult true r → ((t : ℕ) → P (Some t)) → P r
-some P None h f = absurd h
-some P (Some t) h f = f t
-
-no_result : (P : Option ℕ → Type 0) (r : Option ℕ) → HasResult false r → P None → P r
-no_result P None h p = p
-no_result P (Some t) h p = absurd h
+-- Conditions after the first.
 
 abbrev rest : List Asked → List Asked
 rest [] = []
 rest (a ∷ qs) = qs
 
 -- what the other conditions say of so many values, W says
-abbrev Says : List PlainInst → Type 0 → List Asked → (Option ℕ → List ℕ → Type 0) → Option ℕ → List ℕ → Type 0
+abbrev Says : List PlainInst → (Rest → Type 0) → List Asked → (Option ℕ → List ℕ → Type 0) → Option ℕ → List ℕ → Type 0
 Says is R qs W r ts = AllByRecursion (Holds is R r ts) qs → W r ts
 
-gives_one : (is : List PlainInst) (R : Type 0) (qs : List Asked) (W : Option ℕ → List ℕ → Type 0) → ((t o : ℕ) → Says is R qs W (Some t) (o ∷ []))
+gives_one : (is : List PlainInst) (R : Rest → Type 0) (qs : List Asked) (W : Option ℕ → List ℕ → Type 0) → ((t o : ℕ) → Says is R qs W (Some t) (o ∷ []))
     → (r : Option ℕ) (ts : List ℕ) → HasResult true r → length ts ≡ 1 → Says is R qs W r ts
 gives_one is R qs W f r ts h e = some (λ q. Says is R qs W q ts) r h (λ t. of_one (Says is R qs W (Some t)) ts e (f t))
 
-gives_two : (is : List PlainInst) (R : Type 0) (qs : List Asked) (W : Option ℕ → List ℕ → Type 0) → ((t o p : ℕ) → Says is R qs W (Some t) (o ∷ p ∷ []))
+gives_two : (is : List PlainInst) (R : Rest → Type 0) (qs : List Asked) (W : Option ℕ → List ℕ → Type 0) → ((t o p : ℕ) → Says is R qs W (Some t) (o ∷ p ∷ []))
     → (r : Option ℕ) (ts : List ℕ) → HasResult true r → length ts ≡ 2 → Says is R qs W r ts
 gives_two is R qs W f r ts h e = some (λ q. Says is R qs W q ts) r h (λ t. of_two (Says is R qs W (Some t)) ts e (f t))
 
-gives_three : (is : List PlainInst) (R : Type 0) (qs : List Asked) (W : Option ℕ → List ℕ → Type 0) → ((t o p q : ℕ) → Says is R qs W (Some t) (o ∷ p ∷ q ∷ []))
+gives_three : (is : List PlainInst) (R : Rest → Type 0) (qs : List Asked) (W : Option ℕ → List ℕ → Type 0) → ((t o p q : ℕ) → Says is R qs W (Some t) (o ∷ p ∷ q ∷ []))
     → (r : Option ℕ) (ts : List ℕ) → HasResult true r → length ts ≡ 3 → Says is R qs W r ts
 gives_three is R qs W f r ts h e = some (λ q. Says is R qs W q ts) r h (λ t. of_three (Says is R qs W (Some t)) ts e (f t))
 
-gives_four : (is : List PlainInst) (R : Type 0) (qs : List Asked) (W : Option ℕ → List ℕ → Type 0) → ((t o p q s : ℕ) → Says is R qs W (Some t) (o ∷ p ∷ q ∷ s ∷ []))
+gives_four : (is : List PlainInst) (R : Rest → Type 0) (qs : List Asked) (W : Option ℕ → List ℕ → Type 0) → ((t o p q s : ℕ) → Says is R qs W (Some t) (o ∷ p ∷ q ∷ s ∷ []))
     → (r : Option ℕ) (ts : List ℕ) → HasResult true r → length ts ≡ 4 → Says is R qs W r ts
 gives_four is R qs W f r ts h e = some (λ q. Says is R qs W q ts) r h (λ t. of_four (Says is R qs W (Some t)) ts e (f t))
 
@@ -179,7 +149,7 @@ other P Q (Some c) p = p.1
 
 -- Calculations: the conditions of a row that holds.
 
-calculates_hold : (is : List PlainInst) (R : Type 0) (r : ℕ) (c : Calculation) (ts : List ℕ) → Calculates is c r ts → AllByRecursion (Holds is R (Some r) ts) (calculation_conditions c)
+calculates_hold : (is : List PlainInst) (R : Rest → Type 0) (r : ℕ) (c : Calculation) (ts : List ℕ) → Calculates is c r ts → AllByRecursion (Holds is R (Some r) ts) (calculation_conditions c)
 calculates_hold is R r calculation.FloatToInt (o ∷ []) (n, v, w, a, b) =
     ((tt, refl), (sort_there _ n (scalar.Float v) sort.Float a refl, (sort_there _ n (scalar.Int w) sort.Int b refl, (count_there _ _ n _ _ a b, tt))))
 calculates_hold is R r calculation.IntToFloat (o ∷ []) (n, v, w, a, b) =
@@ -206,7 +176,7 @@ calculates_hold is R r c ts h = absurd h
 
 -- Calculations: a row holds where its conditions do.
 
-hold_calculates : (is : List PlainInst) (n : ℕ) (i : PlainInst) (R : Type 0) (r : Option ℕ) (c : Calculation) (ts : List ℕ) → AllByRecursion (Holds is R r ts) (calculation_conditions c)
+hold_calculates : (is : List PlainInst) (n : ℕ) (i : PlainInst) (R : Rest → Type 0) (r : Option ℕ) (c : Calculation) (ts : List ℕ) → AllByRecursion (Holds is R r ts) (calculation_conditions c)
     → RowHolds is n i (row.Calculation c) r ts
 hold_calculates is n i R r calculation.FloatToInt ts h =
     gives_one is R (rest (calculation_conditions calculation.FloatToInt)) (RowHolds is n i (row.Calculation calculation.FloatToInt))
@@ -289,7 +259,7 @@ hold_calculates is n i R r calculation.Shift ts h =
 
 -- Memory.
 
-accesses_hold : (is : List PlainInst) (R : Type 0) (r : Option ℕ) (a : Access) (ts : List ℕ) → Accesses is a r ts → AllByRecursion (Holds is R r ts) (access_conditions a)
+accesses_hold : (is : List PlainInst) (R : Rest → Type 0) (r : Option ℕ) (a : Access) (ts : List ℕ) → Accesses is a r ts → AllByRecursion (Holds is R r ts) (access_conditions a)
 accesses_hold is R (Some r) access.Load (o ∷ []) (a, b) = ((tt, refl), (a, (b, tt)))
 accesses_hold is R None access.Store (o ∷ p ∷ []) a = ((tt, refl), (a, tt))
 accesses_hold is R None access.CopyMemory (o ∷ p ∷ []) (t, a, b) = ((tt, refl), ((t, b, a), tt))
@@ -305,7 +275,7 @@ accesses_hold is R (Some r) access.AtomicStep (o ∷ c ∷ m ∷ []) (a, x, y, b
 accesses_hold is R (Some r) access.AtomicUpdate (o ∷ c ∷ m ∷ p ∷ []) (a, x, y, e, b) = ((tt, refl), (a, (x, (y, (e, (b, tt))))))
 accesses_hold is R r a ts h = absurd h
 
-hold_accesses : (is : List PlainInst) (R : Type 0) (r : Option ℕ) (a : Access) (ts : List ℕ) → AllByRecursion (Holds is R r ts) (access_conditions a) → Accesses is a r ts
+hold_accesses : (is : List PlainInst) (R : Rest → Type 0) (r : Option ℕ) (a : Access) (ts : List ℕ) → AllByRecursion (Holds is R r ts) (access_conditions a) → Accesses is a r ts
 hold_accesses is R r access.Load ts h =
     gives_one is R (rest (access_conditions access.Load)) (Accesses is access.Load) (λ t o k. (k.0, k.1.0)) r ts h.0.0 h.0.1 h.1
 hold_accesses is R r access.Store ts h =
@@ -344,76 +314,46 @@ hold_accesses is R r access.AtomicUpdate ts h =
 
 -- Composites.
 
-composes_hold : (is : List PlainInst) (R : Type 0) (r : ℕ) (c : Composite) (ts ks : List ℕ) → R → Composes is c r ts ks → AllByRecursion (Holds is R (Some r) ts) (composite_conditions c)
-composes_hold is R r composite.ExtractDynamic (o ∷ p ∷ []) ks h (n, a, b) = ((tt, refl), ((n, a), (b, tt)))
-composes_hold is R r composite.InsertDynamic (o ∷ p ∷ q ∷ []) ks h (n, e, a, b) = ((tt, refl), (e, ((n, a), (b, tt))))
-composes_hold is R r composite.Insert (o ∷ p ∷ []) ks h (x, e, y, z) = ((tt, refl), (e, (h, tt)))
-composes_hold is R r composite.CopyObject (o ∷ []) ks h (e, d) = ((tt, refl), (e, (d, tt)))
-composes_hold is R r composite.Shuffle ts ks h x = (h, tt)
-composes_hold is R r composite.Extract ts ks h x = (h, tt)
-composes_hold is R r c ts ks h x = absurd x
+composes_hold : (is : List PlainInst) (n : ℕ) (i : PlainInst) (r : ℕ) (c : Composite) (ts : List ℕ) → RowHolds is n i (row.Composite c) (Some r) ts
+    → AllByRecursion (Holds is (RestHolds is n i (Some r) ts) (Some r) ts) (composite_conditions c)
+composes_hold is n i r composite.ExtractDynamic (o ∷ p ∷ []) (m, a, b) = ((tt, refl), ((m, a), (b, tt)))
+composes_hold is n i r composite.InsertDynamic (o ∷ p ∷ q ∷ []) (m, e, a, b) = ((tt, refl), (e, ((m, a), (b, tt))))
+composes_hold is n i r composite.Insert (o ∷ p ∷ []) h = insert_holds is n i r o p h
+composes_hold is n i r composite.CopyObject (o ∷ []) (e, d) = ((tt, refl), (e, (d, tt)))
+composes_hold is n i r composite.Shuffle (o ∷ p ∷ []) h = shuffle_holds is n i r o p h
+composes_hold is n i r composite.Extract (o ∷ []) h = extract_holds is n i r o h
+composes_hold is n i r c ts h = absurd h
 
 hold_composes : (is : List PlainInst) (n : ℕ) (i : PlainInst) (r : Option ℕ) (c : Composite) (ts : List ℕ)
-    → AllByRecursion (Holds is (RowHolds is n i (row.Composite c) r ts) r ts) (composite_conditions c) → RowHolds is n i (row.Composite c) r ts
+    → AllByRecursion (Holds is (RestHolds is n i r ts) r ts) (composite_conditions c) → RowHolds is n i (row.Composite c) r ts
 hold_composes is n i r composite.ExtractDynamic ts h =
-    gives_two is (RowHolds is n i (row.Composite composite.ExtractDynamic) r ts) (rest (composite_conditions composite.ExtractDynamic)) (RowHolds is n i (row.Composite composite.ExtractDynamic))
+    gives_two is (RestHolds is n i r ts) (rest (composite_conditions composite.ExtractDynamic)) (RowHolds is n i (row.Composite composite.ExtractDynamic))
     (λ t o p k. (k.0.0, k.0.1, k.1.0)) r ts h.0.0 h.0.1 h.1
 hold_composes is n i r composite.InsertDynamic ts h =
-    gives_three is (RowHolds is n i (row.Composite composite.InsertDynamic) r ts) (rest (composite_conditions composite.InsertDynamic)) (RowHolds is n i (row.Composite composite.InsertDynamic))
+    gives_three is (RestHolds is n i r ts) (rest (composite_conditions composite.InsertDynamic)) (RowHolds is n i (row.Composite composite.InsertDynamic))
     (λ t o p q k. (k.1.0.0, k.0, k.1.0.1, k.1.1.0)) r ts h.0.0 h.0.1 h.1
 hold_composes is n i r composite.CopyObject ts h =
-    gives_one is (RowHolds is n i (row.Composite composite.CopyObject) r ts) (rest (composite_conditions composite.CopyObject)) (RowHolds is n i (row.Composite composite.CopyObject))
+    gives_one is (RestHolds is n i r ts) (rest (composite_conditions composite.CopyObject)) (RowHolds is n i (row.Composite composite.CopyObject))
     (λ t o k. (k.0, k.1.0)) r ts h.0.0 h.0.1 h.1
-hold_composes is n i r composite.Insert ts h = h.1.1.0
-hold_composes is n i r composite.Shuffle ts h = h.0
-hold_composes is n i r composite.Extract ts h = h.0
-
--- Pointers.
-
-chains_hold : (is : List PlainInst) (R : Type 0) (r : ℕ) (ts xs : List ℕ) → R → Chains is r ts xs → AllByRecursion (Holds is R (Some r) ts) (conditions_of row.Chain (length ts))
-chains_hold is R r (o ∷ ts) (x ∷ xs) h (each, lead) = ((lead.from, ap pointee_in lead.base), ((lead.to, ap pointee_in lead.result), (h, tt)))
-chains_hold is R r ts xs h never = absurd never
-
-elements_hold : (is : List PlainInst) (R : Type 0) (r : ℕ) (ts xs : List ℕ) → R → ChainsByElement is r ts xs → AllByRecursion (Holds is R (Some r) ts) (conditions_of row.ElementChain (length ts))
-elements_hold is R r (o ∷ p ∷ ts) (x ∷ y ∷ xs) h (a, each, lead) = ((lead.from, ap pointee_in lead.base), (a, ((lead.to, ap pointee_in lead.result), (h, tt))))
-elements_hold is R r ts xs h never = absurd never
-
-pointer_of : (o : Option Form) (c : ℕ) → class_in o ≡ Some c → (p : ℕ) × (pointee_in o ≡ Some p)
-pointer_of (Some (form.Pointer class p)) c e = (p, refl)
-pointer_of _ c e = cc
-
-declares_hold : (is : List PlainInst) (R : Type 0) (n r : ℕ) (os : List Plain) (ts : List ℕ) → R → DeclaresVariable is n r os ts → AllByRecursion (Holds is R (Some r) ts) (conditions_of row.Variable (length ts))
-declares_hold is R n r (operand.Value k class ∷ os) ts h (c, d, i, p) = (pointer_of (form_of is r) class c, (h, tt))
-declares_hold is R n r os ts h never = absurd never
+hold_composes is n i r composite.Insert ts h = holds_insert is n i r ts h
+hold_composes is n i r composite.Shuffle ts h = holds_shuffle is n i r ts h
+hold_composes is n i r composite.Extract ts h = holds_extract is n i r ts h
 
 -- The values of an OpPhi.
 
-at_front : (xs : List ℕ) (k t : ℕ) (us : List ℕ) → drop k xs ≡ t ∷ us → (slice_get xs k ≡ Some t) × (drop (k + 1) xs ≡ us)
-at_front [] zero t us e = absurd (let none : [] ≡ t ∷ us = e in cc)
-at_front [] (suc k) t us e = absurd (let none : [] ≡ t ∷ us = e in cc)
-at_front (x ∷ xs) zero t us e =
-    let all : x ∷ xs ≡ t ∷ us = e in
-    let same : x ≡ t = cc in
-    let others : xs ≡ us = cc in
-    (ap Some same, others)
-at_front (x ∷ xs) (suc k) t us e =
-    let next : suc k + 1 ≡ suc (k + 1) = omega arith in
-    let two = at_front xs k t us e in
-    (two.0, rw next two.1)
-
-same_there : (is : List PlainInst) (R : Type 0) (r : ℕ) (all ts : List ℕ) (k : ℕ) → drop k all ≡ ts → AllByRecursion (λ t. t ≡ r) ts → AllByRecursion (Holds is R (Some r) all) (same_types k (length ts))
+same_there : (is : List PlainInst) (R : Rest → Type 0) (r : ℕ) (all ts : List ℕ) (k : ℕ) → drop k all ≡ ts → AllByRecursion (λ t. t ≡ r) ts → AllByRecursion (Holds is R (Some r) all) (same_types k (length ts))
 same_there is R r all [] k e h = tt
 same_there is R r all (t ∷ ts) k e h =
     let two = at_front all k t ts e in
     (rw two.0 h.0, same_there is R r all ts (k + 1) two.1 h.1)
 
-same_back : (is : List PlainInst) (R : Type 0) (r : ℕ) (all ts : List ℕ) (k : ℕ) → drop k all ≡ ts → AllByRecursion (Holds is R (Some r) all) (same_types k (length ts)) → AllByRecursion (λ t. t ≡ r) ts
+same_back : (is : List PlainInst) (R : Rest → Type 0) (r : ℕ) (all ts : List ℕ) (k : ℕ) → drop k all ≡ ts → AllByRecursion (Holds is R (Some r) all) (same_types k (length ts)) → AllByRecursion (λ t. t ≡ r) ts
 same_back is R r all [] k e h = tt
 same_back is R r all (t ∷ ts) k e h =
     let two = at_front all k t ts e in
     (rw two.0 at h.0, same_back is R r all ts (k + 1) two.1 h.1)
 
-and_data : (is : List PlainInst) (R : Type 0) (r : ℕ) (ts : List ℕ) (qs : List Asked) → AllByRecursion (Holds is R (Some r) ts) qs → IsData is r → AllByRecursion (Holds is R (Some r) ts) (qs ++ of_result kind.Data ∷ [])
+and_data : (is : List PlainInst) (R : Rest → Type 0) (r : ℕ) (ts : List ℕ) (qs : List Asked) → AllByRecursion (Holds is R (Some r) ts) qs → IsData is r → AllByRecursion (Holds is R (Some r) ts) (qs ++ of_result kind.Data ∷ [])
 and_data is R r ts [] h d = (d, tt)
 and_data is R r ts (q ∷ qs) h d = (h.0, and_data is R r ts qs h.1 d)
 
@@ -421,7 +361,7 @@ front : (P : Asked → Type 0) (qs : List Asked) (a : Asked) → AllByRecursion 
 front P [] a h = (tt, h.0)
 front P (q ∷ qs) a h = let two = front P qs a h.1 in ((h.0, two.0), two.1)
 
-phi_row : (is : List PlainInst) (R : Type 0) (r : Option ℕ) (ts : List ℕ) → AllByRecursion (Holds is R r ts) (same_types 0 (length ts) ++ of_result kind.Data ∷ []) → IsSomeAnd r (λ t. IsData is t × AllByRecursion (λ u. u ≡ t) ts)
+phi_row : (is : List PlainInst) (R : Rest → Type 0) (r : Option ℕ) (ts : List ℕ) → AllByRecursion (Holds is R r ts) (same_types 0 (length ts) ++ of_result kind.Data ∷ []) → IsSomeAnd r (λ t. IsData is t × AllByRecursion (λ u. u ≡ t) ts)
 phi_row is R (Some r) ts h =
     let two = front (Holds is R (Some r) ts) (same_types 0 (length ts)) (of_result kind.Data) h in
     (two.1, same_back is R r ts ts 0 refl two.0)
@@ -430,42 +370,55 @@ phi_row is R None ts h = (front (Holds is R None ts) (same_types 0 (length ts)) 
 -- All rows.
 
 pub row_conditions : (is : List PlainInst) (n : ℕ) (i : PlainInst) (q : Row) (r : Option ℕ) (ts : List ℕ) → RowHolds is n i q r ts
-    → AllByRecursion (Holds is (RowHolds is n i q r ts) r ts) (conditions_of q (length ts))
+    → AllByRecursion (Holds is (RestHolds is n i r ts) r ts) (conditions_of q (length ts))
 row_conditions is n i row.Free r ts h = tt
-row_conditions is n i (row.Calculation c) (Some r) ts h = calculates_hold is (RowHolds is n i (row.Calculation c) (Some r) ts) r c ts h
-row_conditions is n i (row.Access a) r ts h = accesses_hold is (RowHolds is n i (row.Access a) r ts) r a ts h
-row_conditions is n i (row.Composite c) (Some r) ts h = composes_hold is (RowHolds is n i (row.Composite c) (Some r) ts) r c ts (words_in i.operands) h h
+row_conditions is n i (row.Calculation c) (Some r) ts h = calculates_hold is (RestHolds is n i (Some r) ts) r c ts h
+row_conditions is n i (row.Access a) r ts h = accesses_hold is (RestHolds is n i r ts) r a ts h
+row_conditions is n i (row.Composite c) (Some r) ts h = composes_hold is n i r c ts h
 row_conditions is n i row.Undef (Some r) ts h = (h, tt)
 row_conditions is n i row.Phi (Some r) ts h =
-    let R = RowHolds is n i row.Phi (Some r) ts in
+    let R = RestHolds is n i (Some r) ts in
     and_data is R r ts (same_types 0 (length ts)) (same_there is R r ts ts 0 refl h.1) h.0
-row_conditions is n i row.Chain (Some r) ts h = chains_hold is (RowHolds is n i row.Chain (Some r) ts) r ts (ids_in (after_head i.operands)) h h
-row_conditions is n i row.ElementChain (Some r) ts h = elements_hold is (RowHolds is n i row.ElementChain (Some r) ts) r ts (ids_in (after_head i.operands)) h h
-row_conditions is n i row.Variable (Some r) ts h = declares_hold is (RowHolds is n i row.Variable (Some r) ts) n r (after_head i.operands) ts h h
-row_conditions is n i row.BranchConditional None (o ∷ []) h = ((tt, refl), (h.0, (h, tt)))
+row_conditions is n i row.Chain (Some r) ts h =
+    let xs = ids_in (after_head i.operands) in
+    chains_hold is (RestHolds is n i (Some r) ts) r ts xs (λ j. chain_chosen is r ts xs (j + 1) h) (chain_leads is r ts xs h) h
+row_conditions is n i row.ElementChain (Some r) ts h =
+    let xs = ids_in (after_head i.operands) in
+    elements_hold is (RestHolds is n i (Some r) ts) r ts xs (λ j. element_chosen is r ts xs (j + 1) h) (element_leads is r ts xs h) h
+row_conditions is n i row.Variable (Some r) ts h =
+    let os = after_head i.operands in
+    let fits = variable_fits is n r os ts h in
+    (variable_pointer is n r os ts h, (fits.0, (fits.1, (fits.2, (fits.3, tt)))))
+row_conditions is n i row.BranchConditional None (o ∷ []) h = ((tt, refl), (h.0, (h.1, tt)))
 row_conditions is n i row.Switch None (o ∷ []) h = ((tt, refl), (h, tt))
-row_conditions is n i row.Construct (Some r) ts h = (h, tt)
+row_conditions is n i row.Construct (Some r) ts h = construct_holds is n i r ts h
 row_conditions is n i q r ts h = absurd h
 
 pub conditions_row : (is : List PlainInst) (n : ℕ) (i : PlainInst) (q : Row) (r : Option ℕ) (ts : List ℕ)
-    → AllByRecursion (Holds is (RowHolds is n i q r ts) r ts) (conditions_of q (length ts)) → RowHolds is n i q r ts
+    → AllByRecursion (Holds is (RestHolds is n i r ts) r ts) (conditions_of q (length ts)) → RowHolds is n i q r ts
 conditions_row is n i row.Free r ts h = tt
-conditions_row is n i (row.Calculation c) r ts h = hold_calculates is n i (RowHolds is n i (row.Calculation c) r ts) r c ts h
-conditions_row is n i (row.Access a) r ts h = hold_accesses is (RowHolds is n i (row.Access a) r ts) r a ts h
+conditions_row is n i (row.Calculation c) r ts h = hold_calculates is n i (RestHolds is n i r ts) r c ts h
+conditions_row is n i (row.Access a) r ts h = hold_accesses is (RestHolds is n i r ts) r a ts h
 conditions_row is n i (row.Composite c) r ts h = hold_composes is n i r c ts h
 conditions_row is n i row.Undef (Some r) ts h = h.0
 conditions_row is n i row.Undef None ts h = absurd h.0
-conditions_row is n i row.Phi (Some r) ts h = phi_row is (RowHolds is n i row.Phi (Some r) ts) (Some r) ts h
-conditions_row is n i row.Phi None ts h = phi_row is (RowHolds is n i row.Phi None ts) None ts h
-conditions_row is n i row.Chain r ts h = h.1.1.0
-conditions_row is n i row.ElementChain r ts h = h.1.1.1.0
-conditions_row is n i row.Variable r ts h = h.1.0
-conditions_row is n i row.BranchConditional r ts h = h.1.1.0
+conditions_row is n i row.Phi (Some r) ts h = phi_row is (RestHolds is n i (Some r) ts) (Some r) ts h
+conditions_row is n i row.Phi None ts h = phi_row is (RestHolds is n i None ts) None ts h
+conditions_row is n i row.Chain (Some r) ts h = hold_chains is (RestHolds is n i (Some r) ts) r ts (ids_in (after_head i.operands)) (λ l. l) h
+conditions_row is n i row.Chain None ts h = no_chain is (RestHolds is n i None ts) ts h
+conditions_row is n i row.ElementChain (Some r) ts h = hold_elements is (RestHolds is n i (Some r) ts) r ts (ids_in (after_head i.operands)) (λ l. l) h
+conditions_row is n i row.ElementChain None ts h = no_elements is (RestHolds is n i None ts) ts h
+conditions_row is n i row.Variable (Some r) ts h = fits_variable is n r (after_head i.operands) ts (h.1.0, h.1.1.0, h.1.1.1.0, h.1.1.1.1.0)
+conditions_row is n i row.Variable None ts h = h.0
+conditions_row is n i row.BranchConditional r ts h =
+    let R = RestHolds is n i r ts in
+    no_result (λ q. Says is R (rest (conditions_of row.BranchConditional 1)) (RowHolds is n i row.BranchConditional) q ts) r h.0.0
+    (of_one (Says is R (rest (conditions_of row.BranchConditional 1)) (RowHolds is n i row.BranchConditional) None) ts h.0.1 (λ o k. (k.0, k.1.0))) h.1
 conditions_row is n i row.Switch r ts h =
-    no_result (λ q. Says is (RowHolds is n i row.Switch r ts) (rest (conditions_of row.Switch 1)) (RowHolds is n i row.Switch) q ts) r h.0.0
-    (of_one (Says is (RowHolds is n i row.Switch r ts) (rest (conditions_of row.Switch 1)) (RowHolds is n i row.Switch) None) ts h.0.1 (λ o k. k.0)) h.1
-conditions_row is n i row.Construct r ts h = h.0
+    no_result (λ q. Says is (RestHolds is n i r ts) (rest (conditions_of row.Switch 1)) (RowHolds is n i row.Switch) q ts) r h.0.0
+    (of_one (Says is (RestHolds is n i r ts) (rest (conditions_of row.Switch 1)) (RowHolds is n i row.Switch) None) ts h.0.1 (λ o k. k.0)) h.1
+conditions_row is n i row.Construct r ts h = holds_construct is n i r ts h
 
 pub exactly : (is : List PlainInst) (n : ℕ) (i : PlainInst) (q : Row) (r : Option ℕ) (ts : List ℕ)
-    → RowHolds is n i q r ts ↔ AllByRecursion (Holds is (RowHolds is n i q r ts) r ts) (conditions_of q (length ts))
+    → RowHolds is n i q r ts ↔ AllByRecursion (Holds is (RestHolds is n i r ts) r ts) (conditions_of q (length ts))
 exactly is n i q r ts = (row_conditions is n i q r ts, conditions_row is n i q r ts)

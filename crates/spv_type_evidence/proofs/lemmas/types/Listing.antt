@@ -1,16 +1,20 @@
 -- Lists, one item after another.
-use Rattle.std.proofs.Common.{◌≡◌, ◌∙◌, ◌<◌, ◌≤◌, ◌+◌, ◌-◌, ◌++◌, ℕ, zero, suc, List, [], ◌∷◌, Option, Some, None, refl, sym, ap, subst, length, map, take, drop, arith, append_assoc}
+use Rattle.std.proofs.Common.{◌≡◌, ◌∙◌, ◌<◌, ◌≤◌, ◌+◌, ◌-◌, ◌++◌, ℕ, zero, suc, List, [], ◌∷◌, Some, Bool, refl, sym, ap, subst, length, take, drop, arith, append_assoc}
 use Rattle.std.specs.Prelude.{slice_get}
 use Rattle.std.specs.List.{AllByRecursion}
 use Rattle.std.proofs.lemmas.Option.{none-some}
+use Rattle.spv_type_evidence.specs.declared.types.asked.Rest.{Rest}
 use Rattle.spv_type_evidence.specs.declared.types.asked.Asked.{Asked}
+use Rattle.spv_type_evidence.specs.declared.types.asked.Asked.TheVariants as asked
+use Rattle.spv_type_evidence.specs.declared.types.asked.Rest.TheVariants as beside
 use Rattle.spv_type_evidence.specs.declared.types.asked.Value.{Value}
 use Rattle.spv_type_evidence.specs.types.Beside.{types_in}
 use Rattle.std.proofs.lemmas.List.{append-nil}
-use Rattle.spv_evidence.specs.declared.condition.Kind.TheVariants.{Data}
+use Rattle.spv_evidence.specs.declared.condition.Kind.TheVariants.{Data, Int}
 use Rattle.spv_evidence.specs.declared.condition.Relation.TheVariants.{Same}
 use Rattle.spv_type_evidence.specs.types.Condition.{FailsFirst}
-use Rattle.spv_type_evidence.specs.types.Conditions.{with_result, of_result, same_types}
+use Rattle.spv_type_evidence.specs.types.Conditions.{with_result, of_result, of_value, same_types, index_conditions, each_of}
+use Rattle.spv_type_evidence.specs.types.Chain.{first_index}
 
 -- what comes before an item, and after it
 split : {A : Type 0} → (xs : List A) (k : ℕ) (a : A) → slice_get xs k ≡ Some a → xs ≡ take k xs ++ a ∷ drop (k + 1) xs
@@ -75,3 +79,39 @@ same_end k n xs ys a l e f h =
     let left : n - k ≡ 0 = omega arith in
     let more : xs ++ [] ≡ same_types 0 n = subst (λ m. xs ++ same_types k m ≡ same_types 0 n) left h in
     e ∙ ap (λ b. xs ++ b ∷ []) f ∙ ap (λ zs. zs ++ of_result Data ∷ []) (sym (append-nil xs) ∙ more)
+
+-- The conditions of the indexes of an access chain, one after another.
+
+pub indexes_next : (e : Bool) (k n : ℕ) (xs ys zs all : List Asked) (a b : Asked) → k < n → ys ≡ xs ++ a ∷ [] → zs ≡ ys ++ b ∷ [] → a ≡ of_value k Int → b ≡ asked.Rest (beside.Chosen e (k - first_index e))
+    → xs ++ index_conditions e k (n - k) ≡ all → zs ++ index_conditions e (k + 1) (n - (k + 1)) ≡ all
+indexes_next e k n xs ys zs all a b l f g fa gb h =
+    let left : n - k ≡ suc (n - (k + 1)) = omega arith in
+    let last = index_conditions e (k + 1) (n - (k + 1)) in
+    let two = of_value k Int ∷ asked.Rest (beside.Chosen e (k - first_index e)) ∷ [] in
+    let more : xs ++ (two ++ last) ≡ all = subst (λ m. xs ++ index_conditions e k m ≡ all) left h in
+    let both : zs ≡ xs ++ two = g ∙ ap (λ ws. ws ++ b ∷ []) f ∙ append_assoc xs (a ∷ []) (b ∷ []) ∙ ap (λ c. xs ++ c ∷ b ∷ []) fa ∙ ap (λ c. xs ++ of_value k Int ∷ c ∷ []) gb in
+    ap (λ ws. ws ++ last) both ∙ append_assoc xs two last ∙ more
+
+pub indexes_end : (e : Bool) (k n : ℕ) (xs all : List Asked) → n ≤ k → xs ++ index_conditions e k (n - k) ≡ all → xs ≡ all
+indexes_end e k n xs all l h =
+    let left : n - k ≡ 0 = omega arith in
+    let more : xs ++ [] ≡ all = subst (λ m. xs ++ index_conditions e k m ≡ all) left h in
+    sym (append-nil xs) ∙ more
+
+-- A condition for each value, one after another.
+
+pub each_start : (q : ℕ → Rest) (xs : List Asked) (n : ℕ) → xs ++ each_of q 0 (n - 0) ≡ xs ++ each_of q 0 n
+each_start q xs n = let all : n - 0 ≡ n = omega arith in rw all refl
+
+pub each_next : (q : ℕ → Rest) (k n : ℕ) (xs ys zs : List Asked) → k < n → ys ≡ xs ++ asked.Rest (q k) ∷ [] → xs ++ each_of q k (n - k) ≡ zs → ys ++ each_of q (k + 1) (n - (k + 1)) ≡ zs
+each_next q k n xs ys zs l e h =
+    let left : n - k ≡ suc (n - (k + 1)) = omega arith in
+    let more : xs ++ (asked.Rest (q k) ∷ each_of q (k + 1) (n - (k + 1))) ≡ zs = subst (λ m. xs ++ each_of q k m ≡ zs) left h in
+    let last = each_of q (k + 1) (n - (k + 1)) in
+    ap (λ us. us ++ last) e ∙ append_assoc xs (asked.Rest (q k) ∷ []) last ∙ more
+
+pub each_end : (q : ℕ → Rest) (k n : ℕ) (xs zs : List Asked) → n ≤ k → xs ++ each_of q k (n - k) ≡ zs → xs ≡ zs
+each_end q k n xs zs l h =
+    let left : n - k ≡ 0 = omega arith in
+    let more : xs ++ [] ≡ zs = subst (λ m. xs ++ each_of q k m ≡ zs) left h in
+    sym (append-nil xs) ∙ more

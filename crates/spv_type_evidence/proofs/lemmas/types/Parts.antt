@@ -14,8 +14,8 @@ use Rattle.spv_type_rules.specs.Constant.{Constitutes, constant_of}
 use Rattle.spv_type_rules.specs.inner.Constant.{IsSoundConstant}
 use Rattle.spv_type_rules.specs.inner.Found.{is_typed_part}
 use Rattle.spv_evidence.specs.declared.evidence.Evidence.TheVariants as evidence
-use Rattle.spv_type_evidence.specs.types.Beside.{IsDefinedBy, reads}
-use Rattle.spv_type_evidence.specs.types.Constant.{IsPartOf, AsksParts, Asks, condition_at, wanted_at, found_at}
+use Rattle.spv_type_evidence.specs.types.Beside.{IsDefinedBy}
+use Rattle.spv_type_evidence.specs.types.Constant.{IsPartOf, AsksParts, Asks, condition_at, wanted_at, found_at, read_at}
 use Rattle.spv_type_evidence.specs.types.Evidence.{Shows}
 use Rattle.spv_type_evidence.specs.types.inner.First.{IsFirstOf}
 use Rattle.spv_type_evidence.specs.types.inner.Known.{IsKnown}
@@ -46,7 +46,7 @@ constant_sound is i c e h =
 
 pub constant_shows : (G : Table) (is : List PlainInst) (n k : ℕ) (i : PlainInst) (c : Constant) → Some c ≡ constant_of i.opcode → IsFirstOf (Asks is c i.operands) (Some k)
     → (m : Option ℕ) → IsDefinedBy is i (Some k) m
-    → Shows G is n i Y4 (evidence.Condition (condition_at c k) (Some k) m (wanted_at is c i k) (found_at is c i k) (reads is (wanted_at is c i k) (found_at is c i k)))
+    → Shows G is n i Y4 (evidence.Condition (condition_at c k) (Some k) m (wanted_at is c i k) (found_at is c i k) (read_at is c i k))
 constant_shows G is n k i c e h m by = Shows.constant k m (record { kind = c; makes = sym e; fails = h.0; before = h.1 }) by
 
 -- how many parts there are

@@ -17,15 +17,14 @@ use Rattle.spv_layout.specs.Shape.{is_of, AreOf, HasForms, FitsShape, IsUse, IsR
 use Rattle.spv_layout.proofs.Shapes.{forms_same, use_same}
 use Rattle.spv_type_forms.specs.Parts.{id_in}
 use Rattle.spv_type_forms.specs.Operands.{result_type_in}
-use Rattle.spv_ops.specs.Typed.{IsTyped, Typed}
+use Rattle.spv_ops.specs.Typed.{IsTyped}
 use Rattle.spv_type_forms.specs.Values.{types_of, value_in, used_in}
 use Rattle.spv_evidence.specs.declared.evidence.Evidence.TheVariants as evidence
 use Rattle.spv_ops.specs.Row.{row_of}
 use Rattle.spv_type_evidence.specs.declared.types.asked.Asked.{Asked}
-use Rattle.spv_type_evidence.specs.declared.types.asked.Asked.TheVariants as asked
 use Rattle.spv_type_evidence.specs.declared.types.asked.Value.{Value}
 use Rattle.spv_type_evidence.specs.types.Beside.{IsDefinedBy, types_in, condition_in, operand_in, wanted_in, found_in, read_in}
-use Rattle.spv_type_evidence.specs.types.Condition.{Holds, FailsFirst}
+use Rattle.spv_type_evidence.specs.types.Condition.{FailsFirst}
 use Rattle.spv_type_evidence.specs.types.Conditions.{conditions_of}
 use Rattle.spv_type_evidence.specs.types.inner.Failing.{HoldsOf}
 use Rattle.spv_type_evidence.proofs.lemmas.types.Conditioned.{conditions_row}
@@ -204,52 +203,20 @@ typeable_at G is n i known at =
     let fits = known.fits n i at in
     record { forms = fits.forms; has = fits.has; each = typeable G is n i fits.forms known at fits.has }
 
--- A condition, where the row does not hold.
-
-held : (is : List PlainInst) (R : Type 0) (r : Option ℕ) (ts : List ℕ) (a : Asked) → Holds is ⊥ r ts a → Holds is R r ts a
-held is R r ts (asked.Operands b n) h = h
-held is R r ts (asked.Kind k s) h = h
-held is R r ts (asked.Relation q s t) h = h
-held is R r ts asked.Row h = absurd h
-
-not_held : (is : List PlainInst) (R : Type 0) (r : Option ℕ) (ts : List ℕ) (a : Asked) → ¬ R → Holds is R r ts a → Holds is ⊥ r ts a
-not_held is R r ts (asked.Operands b n) never h = h
-not_held is R r ts (asked.Kind k s) never h = h
-not_held is R r ts (asked.Relation q s t) never h = h
-not_held is R r ts asked.Row never h = never h
-
-all_held : (is : List PlainInst) (R : Type 0) (r : Option ℕ) (ts : List ℕ) (qs : List Asked) → AllByRecursion (Holds is ⊥ r ts) qs → AllByRecursion (Holds is R r ts) qs
-all_held is R r ts [] h = tt
-all_held is R r ts (a ∷ qs) h = (held is R r ts a h.0, all_held is R r ts qs h.1)
-
-first_moved : (is : List PlainInst) (R : Type 0) (r : Option ℕ) (vs : List Value) (qs : List Asked) (a : Asked) → ¬ R → FailsFirst (HoldsOf is r vs) qs a → FailsFirst (Holds is R r (types_in vs)) qs a
-first_moved is R r vs qs a never f = record {
-  before = f.before;
-  after = f.after;
-  all = f.all;
-  hold = all_held is R r (types_in vs) f.before f.hold;
-  fails = λ h. f.fails (not_held is R r (types_in vs) a never h);
-}
-
--- the types are not those of the row
-pub not_row : (G : Table) (is : List PlainInst) (n : ℕ) (i : PlainInst) (vs : List Value) → AreTyped G is i vs → ¬ (IsTyped G is n i) → ¬ (Typed is n i (types_in vs))
-not_row G is n i vs a never t = never (inr (map (λ (w : Value). w.id) vs, types_in vs, a.values, a.types, t))
+-- The conditions of the values.
 
 pub all_break : (G : Table) (is : List PlainInst) (n : ℕ) (i : PlainInst) (r : Option ℕ) (vs : List Value) (qs : List Asked) → r ≡ result_type_in i.operands → qs ≡ conditions_of (row_of i.opcode) (length vs) → AreTyped G is i vs
-    → AllByRecursion (HoldsOf is r vs) qs → IsTyped G is n i
+    → AllByRecursion (HoldsOf is n i r vs) qs → IsTyped G is n i
 all_break G is n i r vs qs e f a h =
-    let R = Typed is n i (types_in vs) in
-    let here : AllByRecursion (HoldsOf is (result_type_in i.operands) vs) (conditions_of (row_of i.opcode) (length vs)) = rw (← e, ← f) h in
-    let all = all_held is R (result_type_in i.operands) (types_in vs) (conditions_of (row_of i.opcode) (length vs)) here in
+    let s = result_type_in i.operands in
+    let all : AllByRecursion (HoldsOf is n i s vs) (conditions_of (row_of i.opcode) (length vs)) = rw (← e, ← f) h in
     let count = length-map vs (λ (v : Value). v.of) in
-    let there = subst (λ m. AllByRecursion (Holds is R (result_type_in i.operands) (types_in vs)) (conditions_of (row_of i.opcode) m)) (sym count) all in
-    inr (map (λ (w : Value). w.id) vs, types_in vs, a.values, a.types, conditions_row is n i (row_of i.opcode) (result_type_in i.operands) (types_in vs) there)
+    let there = subst (λ m. AllByRecursion (HoldsOf is n i s vs) (conditions_of (row_of i.opcode) m)) (sym count) all in
+    inr (map (λ (w : Value). w.id) vs, types_in vs, a.values, a.types, conditions_row is n i (row_of i.opcode) s (types_in vs) there)
 
 pub operation_shows : (G : Table) (is : List PlainInst) (n : ℕ) (i : PlainInst) (r : Option ℕ) (vs : List Value) (qs : List Asked) (a : Asked) (m : Option ℕ) → r ≡ result_type_in i.operands → qs ≡ conditions_of (row_of i.opcode) (length vs)
-    → AreTyped G is i vs → FailsFirst (HoldsOf is r vs) qs a → IsDefinedBy is i (operand_in vs a) m → ¬ (IsTyped G is n i)
-    → Shows G is n i Y5 (evidence.Condition (condition_in a) (operand_in vs a) m (wanted_in r (types_in vs) a) (found_in r (types_in vs) a) (read_in is r (types_in vs) a))
+    → AreTyped G is i vs → FailsFirst (HoldsOf is n i r vs) qs a → IsDefinedBy is i (operand_in is i vs a) m → ¬ (IsTyped G is n i)
+    → Shows G is n i Y5 (evidence.Condition (condition_in a) (operand_in is i vs a) m (wanted_in is i r (types_in vs) a) (found_in is i r (types_in vs) a) (read_in is i r (types_in vs) a))
 operation_shows G is n i r vs qs a m e f t first by never =
-    let R = Typed is n i (types_in vs) in
-    let at : FailsFirst (HoldsOf is (result_type_in i.operands) vs) (conditions_of (row_of i.opcode) (length vs)) a = rw (← e, ← f) first in
-    let moved = first_moved is R (result_type_in i.operands) vs (conditions_of (row_of i.opcode) (length vs)) a (not_row G is n i vs t never) at in
-    rw e (Shows.operation vs a m (λ free. never (inl free)) t moved by)
+    let at : FailsFirst (HoldsOf is n i (result_type_in i.operands) vs) (conditions_of (row_of i.opcode) (length vs)) a = rw (← e, ← f) first in
+    rw e (Shows.operation vs a m (λ free. never (inl free)) t at by)

@@ -65,7 +65,7 @@ operation_evidence-requires-clause-broken c =
     let b = c.requires.broken in
     let fits = fits_at b.0 is js c.args.plan.now c.args.rule c.args.number i e at b.1 in
     let never = not_typed b.0 is js c.args.plan.now c.args.rule c.args.number i e at c.in-Y5.is b.1 in
-    (b.0, c.args.number, fits, never)
+    (b.0, fits, never)
 
 pub evidence_of_function-requires-clause-few : goal.evidence_of_function-requires-clause-few
 evidence_of_function-requires-clause-few c =
@@ -94,6 +94,9 @@ returns-in-Y5 c = λ G b.
     let fits = fits_at G is js c.args.plan.now c.args.rule n i e at b in
     let never = not_typed G is js c.args.plan.now c.args.rule n i e at c.in-Y5.is b in
     rw c.in-Y5.is (
-    IfOk-weaker c.operation_evidence.result (λ v. (H : Table) (m : ℕ) → FitsShape H i → ¬ (IsTyped H js m i) → Shows H js m i Y5 v) (λ v. IsEvidence G is Y5 n v)
-    (λ v h. is_evidence G is js Y5 n i v e at (h G n fits never))
+    IfOk-weaker c.operation_evidence.result (λ v. (H : Table) → FitsShape H i → ¬ (IsTyped H js n i) → Shows H js n i Y5 v) (λ v. IsEvidence G is Y5 n v)
+    (λ v h. is_evidence G is js Y5 n i v e at (h G fits never))
     c.operation_evidence.ensures)
+
+pub operation_evidence-requires-clause-within : goal.operation_evidence-requires-clause-within
+operation_evidence-requires-clause-within c = slice_get_within c.new-definitions.result c.args.number (plain_inst c.inst-inst.result.now) c.inst-inst.ensures

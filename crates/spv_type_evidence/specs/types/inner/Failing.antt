@@ -6,10 +6,11 @@ use Rattle.spv_type_evidence.specs.declared.types.asked.Asked.{Asked}
 use Rattle.spv_type_evidence.specs.declared.types.asked.Value.{Value}
 use Rattle.spv_type_evidence.specs.types.Condition.{Holds, FailsFirst}
 use Rattle.spv_type_evidence.specs.types.Beside.{types_in}
+use Rattle.spv_type_evidence.specs.types.Rest.{RestHolds}
 
--- whether a condition holds, where the row does not
-abbrev pub HoldsOf : List PlainInst → Option ℕ → List Value → Asked → Type 0
-HoldsOf is r vs a = Holds is ⊥ r (types_in vs) a
+-- whether a condition holds at the instruction i of number n, of a result type and of values
+abbrev pub HoldsOf : List PlainInst → ℕ → PlainInst → Option ℕ → List Value → Asked → Type 0
+HoldsOf is n i r vs a = Holds is (RestHolds is n i r (types_in vs)) r (types_in vs) a
 
 -- all hold, or this is the first that does not
 abbrev pub IsFirstIn : (Asked → Type 0) → List Asked → Option Asked → Type 0

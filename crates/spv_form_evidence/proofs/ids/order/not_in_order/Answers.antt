@@ -2,9 +2,23 @@ use Rattle.std.proofs.Common.{refl, ap, map, length, below_more, arith}
 use Rattle.std.proofs.lemmas.List.{length-map}
 use Rattle.spv_module.specs.Module.{plain_inst, plain_operand}
 use Rattle.spv_module.specs.declared.fault.Rule.TheVariants.{D4}
-use Rattle.spv_form_evidence.proofs.lemmas.ids.Rules.{broken_there}
+use Rattle.spv_form_evidence.proofs.lemmas.ids.Rules.{broken_there, within}
 use Rattle.spv_form_evidence.proofs.lemmas.ids.Ordering.{ordered, disordered_shows, some_disordered}
 use Rattle.spv_form_evidence.proofs.ids.order.not_in_order.Goals as goal
+
+pub bounds-insts-at : goal.bounds-insts-at
+bounds-insts-at c =
+    let b = c.requires.first in
+    let w = within b.0 c.args.bound (map plain_inst c.args.insts.now) D4 c.args.at b.2.broken in
+    let l = length-map c.args.insts.now plain_inst in
+    omega arith
+
+pub site_of-site-requires : goal.site_of-site-requires
+site_of-site-requires c =
+    let b = c.requires.first in
+    let w = within b.0 c.args.bound (map plain_inst c.args.insts.now) D4 c.args.at b.2.broken in
+    let p = b.1.count in
+    omega arith
 
 pub returns-in-Some : goal.returns-in-Some
 returns-in-Some c = λ G p.

@@ -1,7 +1,6 @@
-use Rattle.std.proofs.Common.{◌≡◌, ◌<◌, ◌∙◌, Option, ℕ, Some, sym, ap, subst, length, map, arith, codes, refl}
+use Rattle.std.proofs.Common.{◌≡◌, ◌<◌, ◌∙◌, Option, ℕ, Some, sym, ap, subst, length, arith, codes, refl}
 use Rattle.std.proofs.lemmas.Bool.{iff_false}
 use Rattle.std.proofs.lemmas.List.{length-map}
-use Rattle.std.specs.Prelude.{slice_get}
 use Rattle.spv_table.specs.Lookups.{number_named}
 use Rattle.spv_module.specs.Module.{plain_inst}
 use Rattle.spv_layout.proofs.Misfits.{inst_there}

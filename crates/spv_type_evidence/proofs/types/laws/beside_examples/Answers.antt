@@ -1,4 +1,4 @@
-use Rattle.std.proofs.Common.{◌≡◌, ℕ, List, [], ◌∷◌, Option, Some, None, refl}
+use Rattle.std.proofs.Common.{◌≡◌, ℕ, List, [], ◌∷◌, Some, None, refl}
 use Rattle.spv_evidence.specs.declared.condition.Kind.TheVariants as kind
 use Rattle.spv_evidence.specs.declared.condition.Condition.TheVariants as condition
 use Rattle.spv_type_evidence.proofs.types.laws.beside_examples.Goals as goal

@@ -19,12 +19,12 @@ unreachable-requires c =
     let vs = c.as_slice-values.result.now in
     let r : c.result_type-r.result ≡ result_type_in i.operands = c.result_type-r.ensures ∙ ap (λ os. result_type_in (plain_operands os)) c.as_slice.ensures.value in
     let q : c.in_ok-conditions.conditions.items ≡ conditions_of (row_of i.opcode) (length vs) = c.in_ok-conditions.ensures ∙ ap (λ o. conditions_of o (length vs)) c.row_of.ensures in
-    let t : AreTyped b.0 is i vs = rw c.as_slice-values.ensures.value (c.in_ok-typed.ensures.typed b.0 b.2) in
-    let all : AllByRecursion (HoldsOf is c.result_type-r.result vs) c.in_ok-conditions.conditions.items = rw c.as_slice-2.ensures.value at c.in_default.ensures in
-    b.3 (all_break b.0 is b.1 i c.result_type-r.result vs c.in_ok-conditions.conditions.items r q t all)
+    let t : AreTyped b.0 is i vs = rw c.as_slice-values.ensures.value (c.in_ok-typed.ensures.typed b.0 b.1) in
+    let all : AllByRecursion (HoldsOf is c.args.number i c.result_type-r.result vs) c.in_ok-conditions.conditions.items = rw c.as_slice-2.ensures.value at c.in_default.ensures in
+    b.2 (all_break b.0 is c.args.number i c.result_type-r.result vs c.in_ok-conditions.conditions.items r q t all)
 
 pub returns : goal.returns
-returns c = λ G n fits never.
+returns c = λ G fits never.
     let is = c.args.definitions.now in
     let i = plain_inst c.args.inst.now in
     let vs = c.as_slice-values.result.now in
@@ -32,7 +32,7 @@ returns c = λ G n fits never.
     let r : c.result_type-r.result ≡ result_type_in i.operands = c.result_type-r.ensures ∙ ap (λ os. result_type_in (plain_operands os)) c.as_slice.ensures.value in
     let q : c.in_ok-conditions.conditions.items ≡ conditions_of (row_of i.opcode) (length vs) = c.in_ok-conditions.ensures ∙ ap (λ o. conditions_of o (length vs)) c.row_of.ensures in
     let t : AreTyped G is i vs = rw c.as_slice-values.ensures.value (c.in_ok-typed.ensures.typed G fits) in
-    let first : FailsFirst (HoldsOf is c.result_type-r.result vs) c.in_ok-conditions.conditions.items a = rw c.as_slice-2.ensures.value at c.in-Some.ensures in
-    let by : IsDefinedBy is i (operand_in vs a) c.defined_by.result = rw c.operand_in-operand.ensures at c.defined_by.ensures is c.requires.ids in
+    let first : FailsFirst (HoldsOf is c.args.number i c.result_type-r.result vs) c.in_ok-conditions.conditions.items a = rw c.as_slice-2.ensures.value at c.in-Some.ensures in
+    let by : IsDefinedBy is i (operand_in is i vs a) c.defined_by.result = rw c.operand_in-operand.ensures at c.defined_by.ensures is c.requires.ids in
     rw (c.operand_in-operand.ensures, c.condition_in.ensures, c.wanted_in.ensures, c.found_in.ensures, c.from_vec.ensures, c.in_ok-types.ensures)
-    (operation_shows G is n i c.result_type-r.result vs c.in_ok-conditions.conditions.items a c.defined_by.result r q t first by never)
+    (operation_shows G is c.args.number i c.result_type-r.result vs c.in_ok-conditions.conditions.items a c.defined_by.result r q t first by never)

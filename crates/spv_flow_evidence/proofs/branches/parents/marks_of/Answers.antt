@@ -8,11 +8,11 @@ use Rattle.spv_branches.specs.inner.Code.{insts_of}
 use Rattle.spv_branches.specs.inner.Edges.{marked}
 use Rattle.spv_branches.specs.inner.Graph.{AreGathered}
 use Rattle.spv_branches.proofs.Taking.{AreSources, sources, leads_within}
-use Rattle.spv_flow_evidence.specs.branches.inner.Known.{ArePredecessors}
+use Rattle.spv_flow_evidence.specs.branches.inner.Known.{AreMarks}
 use Rattle.spv_flow_evidence.proofs.lemmas.branches.Naming.{written}
-use Rattle.spv_flow_evidence.proofs.branches.parents.predecessors.Goals as goal
+use Rattle.spv_flow_evidence.proofs.branches.parents.marks_of.Goals as goal
 
-judged : (G : Table) (c : Code) (e : Edges) (block : ℕ) (marks : List Bool) → AreGathered G (insts_of c) e (length c.insts.now) → AreSources e block marks → ArePredecessors G (insts_of c) block marks
+judged : (G : Table) (c : Code) (e : Edges) (block : ℕ) (marks : List Bool) → AreGathered G (insts_of c) e (length c.insts.now) → AreSources e block marks → AreMarks G (insts_of c) block marks
 judged G c e block marks gathered from = record {
   sound = λ p m. gathered.sound p block (from.only p m);
   complete = λ p (t, leads). from.added p (gathered.complete t p block (omega (arith, leads_within G (insts_of c) t p block leads, length-map c.insts.now plain_inst)) leads);

@@ -1,0 +1,45 @@
+use Rattle.std.proofs.Common.{◌≡◌, ℕ, List, [], ◌∷◌, Some, None, inl, inr, refl, arith}
+use Rattle.spv_type_forms.specs.declared.form.Form.TheVariants as form
+use Rattle.spv_type_forms.specs.Example.{small}
+use Rattle.spv_evidence.specs.declared.condition.Relation.TheVariants.{SameComponent}
+use Rattle.spv_type_evidence.specs.types.Condition.{Agrees}
+use Rattle.spv_type_evidence.specs.types.Rest.{IsShare}
+use Rattle.spv_type_evidence.proofs.types.laws.rest_examples.Goals as goal
+
+none_some : (x : ℕ) → None ≡ Some x → ⊥
+none_some x e = cc
+
+not_empty : (x : ℕ) (xs : List ℕ) → x ∷ xs ≡ [] → ⊥
+not_empty x xs e = cc
+
+no_share : IsShare small 2 3 → ⊥
+no_share (inl e) = let same : ◌≡◌ {A = ℕ} 3 2 = e in absurd (omega (arith, same))
+no_share (inr (n, e)) =
+    let same : Some (form.Vector 1 4) ≡ Some (form.Vector 2 n) = e in
+    let one : ◌≡◌ {A = ℕ} 1 2 = cc in
+    absurd (omega (arith, one))
+
+no_component : Agrees small SameComponent 3 13 → ⊥
+no_component (c, m, n, e, f) =
+    let first : Some (form.Vector 1 4) ≡ Some (form.Vector c m) = e in
+    let second : Some (form.Vector 12 4) ≡ Some (form.Vector c n) = f in
+    let one : ◌≡◌ {A = ℕ} 1 12 = cc in
+    absurd (omega (arith, one))
+
+pub returns : goal.returns
+returns c = record {
+  reached = refl;
+  not_reached = λ e. (let same : ◌≡◌ {A = ℕ} 6 2 = e in absurd (omega (arith, same)));
+  path = refl;
+  no_path = λ e. not_empty 6 [] e;
+  stop = refl;
+  no_stop = λ e. none_some 0 e;
+  odd = refl;
+  not_odd = λ e. none_some 0 e;
+  share = inr (4, refl);
+  no_share = no_share;
+  composite = tt;
+  no_composite = λ h. h;
+  component = (1, 4, 2, refl, refl);
+  no_component = no_component;
+}
