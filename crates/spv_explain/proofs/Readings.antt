@@ -30,6 +30,7 @@ use Rattle.spv_form_evidence.specs.words.Evidence as instructions
 use Rattle.spv_explain.specs.Evidence.{IsEvidence}
 use Rattle.spv_explain.specs.Explained.{IsShown, IsShownDead, verdict_in}
 use Rattle.spv_lines.specs.Text.{ShownLines}
+use Rattle.spv_fault_lines.specs.declared.fact.Detail.{Detail}
 use Rattle.spv_explain.specs.Lines.{fault_text, malformed_text}
 use Rattle.spv_explain.specs.Stream.{Explain, ExplainDead}
 use Rattle.spv_explain.specs.declared.explained.Explained.{Explained}
@@ -82,64 +83,64 @@ shown_dead G words (Ok (explained.Broken f e m)) h = λ none. absurd (none (plai
 shown_dead G words (Err _) h = tt
 
 -- lines of a fault
-pub explains : Laws → (G : Table) (bytes words : List ℕ) (order : Order) (f : Fault) (e : Evidence) (m : Module) (shown : List (List ℕ)) (lines : List ℕ) → IsModule order bytes words
+pub explains : Laws → (z : Detail) (G : Table) (bytes words : List ℕ) (order : Order) (f : Fault) (e : Evidence) (m : Module) (shown : List (List ℕ)) (lines : List ℕ) → IsModule order bytes words
     → IsBrokenModule G words f e m → ShownLines G [] (plain_insts m) shown
-    → lines ≡ fault_text G m.header.bound (plain_insts m) shown f.rule f.inst e → Explain G bytes lines
-explains laws G bytes words order f e m text lines h b are t = λ ws p js r n g l first s.
+    → lines ≡ fault_text z G m.header.bound (plain_insts m) shown f.rule f.inst e → Explain z G bytes lines
+explains laws z G bytes words order f e m text lines h b are t = λ ws p js r n g l first s.
     let same = same_module laws G bytes words ws order p (plain_insts m) js h g b.listing l in
     let told : IsFirstOfAll G (slice_index ws 3) js f.rule f.inst = rw (same.words, same.insts) at b.told.0 in
     let one = one_first G (slice_index ws 3) js f.rule r f.inst n told first in
     let shown : IsShownAt G (slice_index ws 3) js f e = rw (same.words, same.insts) at b.shown in
     let late : stages.of_profile ≤ stage_of f.rule = subst (λ q. stages.of_profile ≤ stage_of q) (sym one.rule) s in
     let there : IsEvidence G (slice_index ws 3) js f.rule f.inst e = shown late in
-    let t1 = subst (λ x. lines ≡ fault_text G x (plain_insts m) text f.rule f.inst e) b.bound t in
-    let t2 = subst (λ x. lines ≡ fault_text G (slice_index x 3) (plain_insts m) text f.rule f.inst e) same.words t1 in
-    let t3 = subst (λ x. lines ≡ fault_text G (slice_index ws 3) x text f.rule f.inst e) same.insts t2 in
-    let t4 = subst (λ x. lines ≡ fault_text G (slice_index ws 3) js text x f.inst e) one.rule t3 in
+    let t1 = subst (λ x. lines ≡ fault_text z G x (plain_insts m) text f.rule f.inst e) b.bound t in
+    let t2 = subst (λ x. lines ≡ fault_text z G (slice_index x 3) (plain_insts m) text f.rule f.inst e) same.words t1 in
+    let t3 = subst (λ x. lines ≡ fault_text z G (slice_index ws 3) x text f.rule f.inst e) same.insts t2 in
+    let t4 = subst (λ x. lines ≡ fault_text z G (slice_index ws 3) js text x f.inst e) one.rule t3 in
     record {
       evidence = e;
       shows = subst (λ q. IsEvidence G (slice_index ws 3) js q n e) one.rule (subst (λ k. IsEvidence G (slice_index ws 3) js f.rule k e) one.inst there);
       shown = text;
       are_shown = subst (λ x. ShownLines G [] x text) same.insts are;
-      told = subst (λ x. lines ≡ fault_text G (slice_index ws 3) js text r x e) one.inst t4;
+      told = subst (λ x. lines ≡ fault_text z G (slice_index ws 3) js text r x e) one.inst t4;
     }
 
 -- nothing is to be told of a valid module, of words that are no list, and of bytes that are no words
-pub valid_explains : Laws → (G : Table) (bytes words : List ℕ) (order : Order) (p : Program) (lines : List ℕ) → IsModule order bytes words → IsChecked G words p → Explain G bytes lines
-valid_explains laws G bytes words order p lines h c = λ ws q js r n g l first s.
+pub valid_explains : Laws → (z : Detail) (G : Table) (bytes words : List ℕ) (order : Order) (p : Program) (lines : List ℕ) → IsModule order bytes words → IsChecked G words p → Explain z G bytes lines
+valid_explains laws z G bytes words order p lines h c = λ ws q js r n g l first s.
     let same = same_module laws G bytes words ws order q p.insts js h g c.listing l in
     let told : IsFirstOfAll G (slice_index words 3) p.insts r n = rw (sym same.words, sym same.insts) at first in
     absurd (c.sound r n (rw c.bound told.broken))
 
-pub dead_explains : Laws → (G : Table) (bytes words : List ℕ) (order : Order) (f : Fault) (lines : List ℕ) → IsModule order bytes words → IsDecodeFault G words (stop.Fault f) → Explain G bytes lines
-dead_explains laws G bytes words order f lines h d = λ ws q js r n g l first s. absurd (dead_list laws G bytes ws words q order js f.rule f.inst _ g h l d.1)
+pub dead_explains : Laws → (z : Detail) (G : Table) (bytes words : List ℕ) (order : Order) (f : Fault) (lines : List ℕ) → IsModule order bytes words → IsDecodeFault G words (stop.Fault f) → Explain z G bytes lines
+dead_explains laws z G bytes words order f lines h d = λ ws q js r n g l first s. absurd (dead_list laws G bytes ws words q order js f.rule f.inst _ g h l d.1)
 
-pub refused_explains : Laws → (G : Table) (bytes : List ℕ) (code : WordError) (lines : List ℕ) → IsFirstBroken code bytes → Explain G bytes lines
-refused_explains laws G bytes code lines b = λ ws q js r n g l first s. absurd (laws.never code q bytes ws g b)
+pub refused_explains : Laws → (z : Detail) (G : Table) (bytes : List ℕ) (code : WordError) (lines : List ℕ) → IsFirstBroken code bytes → Explain z G bytes lines
+refused_explains laws z G bytes code lines b = λ ws q js r n g l first s. absurd (laws.never code q bytes ws g b)
 
 -- lines of words that spell no list of instructions
-pub dead_shows : Laws → (G : Table) (bytes words : List ℕ) (order : Order) (f : Fault) (e : Evidence) (lines : List ℕ)
+pub dead_shows : Laws → (z : Detail) (G : Table) (bytes words : List ℕ) (order : Order) (f : Fault) (e : Evidence) (lines : List ℕ)
     → IsModule order bytes words → IsDecodeFault G words (stop.Fault f)
     → instructions.IsEvidence G (drop 5 words) f.rule f.inst (f.word - 5) e
-    → lines ≡ malformed_text G (drop 5 words) f.rule f.inst (f.word - 5) e → ExplainDead G bytes lines
-dead_shows laws G bytes words order f e lines h d shown t = λ ws q r n word g k.
+    → lines ≡ malformed_text z G (drop 5 words) f.rule f.inst (f.word - 5) e → ExplainDead z G bytes lines
+dead_shows laws z G bytes words order f e lines h d shown t = λ ws q r n word g k.
     let same : words ≡ ws = (laws.words order q bytes words ws h g).1 in
     let there = subst (λ v. IsMalformedAt G (drop 5 v) f.rule f.inst (f.word - 5)) same d.1 in
     let one = laws.death G (drop 5 ws) f.rule r f.inst n (f.word - 5) word there k in
     let of_words = subst (λ v. instructions.IsEvidence G (drop 5 v) f.rule f.inst (f.word - 5) e) same shown in
     let of_rule = subst (λ a. instructions.IsEvidence G (drop 5 ws) a f.inst (f.word - 5) e) one.0 of_words in
     let of_inst = subst (λ a. instructions.IsEvidence G (drop 5 ws) r a (f.word - 5) e) one.1 of_rule in
-    let t1 = subst (λ v. lines ≡ malformed_text G (drop 5 v) f.rule f.inst (f.word - 5) e) same t in
-    let t2 = subst (λ a. lines ≡ malformed_text G (drop 5 ws) a f.inst (f.word - 5) e) one.0 t1 in
-    let t3 = subst (λ a. lines ≡ malformed_text G (drop 5 ws) r a (f.word - 5) e) one.1 t2 in
+    let t1 = subst (λ v. lines ≡ malformed_text z G (drop 5 v) f.rule f.inst (f.word - 5) e) same t in
+    let t2 = subst (λ a. lines ≡ malformed_text z G (drop 5 ws) a f.inst (f.word - 5) e) one.0 t1 in
+    let t3 = subst (λ a. lines ≡ malformed_text z G (drop 5 ws) r a (f.word - 5) e) one.1 t2 in
     record {
       evidence = e;
       shows = subst (λ a. instructions.IsEvidence G (drop 5 ws) r n a e) one.2 of_inst;
-      told = subst (λ a. lines ≡ malformed_text G (drop 5 ws) r n a e) one.2 t3;
+      told = subst (λ a. lines ≡ malformed_text z G (drop 5 ws) r n a e) one.2 t3;
     }
 
 -- words that spell a list have no dead instruction
-pub listed_explains : Laws → (G : Table) (bytes words : List ℕ) (order : Order) (is : List PlainInst) (lines : List ℕ)
-    → IsModule order bytes words → IsListing G is (drop 5 words) → ExplainDead G bytes lines
-listed_explains laws G bytes words order is lines h l = λ ws q r n word g k.
+pub listed_explains : Laws → (z : Detail) (G : Table) (bytes words : List ℕ) (order : Order) (is : List PlainInst) (lines : List ℕ)
+    → IsModule order bytes words → IsListing G is (drop 5 words) → ExplainDead z G bytes lines
+listed_explains laws z G bytes words order is lines h l = λ ws q r n word g k.
     absurd (dead_list laws G bytes words ws order q is r n word h g l k)

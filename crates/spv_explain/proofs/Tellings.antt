@@ -1,11 +1,12 @@
 -- Lines that tell what bytes come to.
 use Rattle.std.proofs.Common.{◌≡◌, ◌≤◌, ◌↔◌, ◌++◌, ◌-◌, ◌∙◌, ℕ, List, [], Bool, Option, Some, None, IfSome, IsTrue}
-use Rattle.std.proofs.Common.{◌∷◌, ◌+◌, arith, drop, length, sum_by, take, ap, refl, sym, subst, string_bytes}
+use Rattle.std.proofs.Common.{◌∷◌, ◌+◌, ◌<◌, append-nil, arith, drop, length, sum_by, take, ap, refl, sym, subst, string_bytes}
 use Rattle.std.proofs.lemmas.List.Sums.{sum_by-cons}
-use Rattle.std.specs.Io.KnownBytes.{Appends}
+use Rattle.std.specs.Io.KnownBytes.{Appends, Consumes, IsAtEnd}
 use Rattle.std.specs.Prelude.{IfOk, Ok, Err}
 use Rattle.std.specs.Prelude.{Result as Answer}
-use Rattle.spv_words.specs.Header.{IsFirstBroken, IsModule, RefusesBytes, greatest_length}
+use Rattle.spv_words.specs.Header.{BytesKeep, IsFirstBroken, IsModule, RefusesBytes, greatest_length, place_of}
+use Rattle.spv_words.specs.Streams.{IsStop}
 use Rattle.spv_words.specs.declared.words.WordError.{WordError}
 use Rattle.spv_words.specs.declared.words.WordError.TheVariants as word
 use Rattle.spv_words.specs.declared.words.Order.{Order}
@@ -28,7 +29,9 @@ use Rattle.spv_verdict.specs.declared.verdict_line.Judgment.TheVariants as judgm
 use Rattle.spv_verdict.proofs.Verdicts.{Laws, fault_is_not_valid, fault_verdict, valid_verdict}
 use Rattle.spv_form_evidence.specs.words.Evidence as instructions
 use Rattle.spv_lines.specs.Text.{ShownLines}
-use Rattle.spv_explain.specs.Lines.{fault_text, malformed_text, refused_text}
+use Rattle.spv_fault_lines.specs.declared.fact.Detail.{Detail}
+use Rattle.spv_fault_lines.specs.declared.refused.Front.{Front}
+use Rattle.spv_explain.specs.Lines.{fault_text, malformed_text, refused_by, refused_text}
 use Rattle.spv_explain.specs.Stream.{AreOthers, BeginsExplaining, Explains, IsExplanation}
 use Rattle.spv_explain.specs.declared.stream.Explanation.{Explanation}
 use Rattle.spv_explain.specs.inner.Reading.{IsBrokenModule}
@@ -55,42 +58,42 @@ fault_others laws bytes words order f j lines h e = record {
   refused = λ code b. absurd (laws.never code order bytes words h b);
 }
 
-pub valid_told : Laws → (G : Table) (bytes words : List ℕ) (order : Order) (p : Program)
+pub valid_told : Laws → (z : Detail) (G : Table) (bytes words : List ℕ) (order : Order) (p : Program)
     (t : Explanation) → IsModule order bytes words → IsChecked G words p → t.judgment ≡ judgments.Valid
-    → string_bytes t.lines ≡ [] → IsExplanation G bytes t
-valid_told laws G bytes words order p t h c e l = record {
+    → string_bytes t.lines ≡ [] → IsExplanation z G bytes t
+valid_told laws z G bytes words order p t h c e l = record {
   verdict = subst (λ j. IsVerdict G bytes (line_of j)) (sym e) (valid_verdict G bytes words order p h c);
-  explain = valid_explains laws G bytes words order p (string_bytes t.lines) h c;
-  dead = listed_explains laws G bytes words order p.insts (string_bytes t.lines) h c.listing;
+  explain = valid_explains laws z G bytes words order p (string_bytes t.lines) h c;
+  dead = listed_explains laws z G bytes words order p.insts (string_bytes t.lines) h c.listing;
   others = record { valid = λ v. l; refused = λ code b. absurd (laws.never code order bytes words h b) };
 }
 
-pub dead_told : {E : Type 0} → Laws → (G : Table) (bytes words : List ℕ) (order : Order) (f : Fault) (e : Evidence)
+pub dead_told : {E : Type 0} → Laws → (z : Detail) (G : Table) (bytes words : List ℕ) (order : Order) (f : Fault) (e : Evidence)
     (r : Answer Explanation E) → IsModule order bytes words → IsDecodeFault G words (stop.Fault f)
     → instructions.IsEvidence G (drop 5 words) f.rule f.inst (f.word - 5) e
-    → IfOk r (λ t. t.judgment ≡ judgments.Broken f) → IfOk r (λ t. string_bytes t.lines ≡ malformed_text G (drop 5 words) f.rule f.inst (f.word - 5) e)
-    → IfOk r (λ t. IsExplanation G bytes t)
-dead_told laws G bytes words order f e (Ok t) h d shown j l = record {
+    → IfOk r (λ t. t.judgment ≡ judgments.Broken f) → IfOk r (λ t. string_bytes t.lines ≡ malformed_text z G (drop 5 words) f.rule f.inst (f.word - 5) e)
+    → IfOk r (λ t. IsExplanation z G bytes t)
+dead_told laws z G bytes words order f e (Ok t) h d shown j l = record {
   verdict = subst (λ x. IsVerdict G bytes (line_of x)) (sym j)
       (fault_verdict G bytes words order f h (IsFault.dead d.0 d.1));
-  explain = dead_explains laws G bytes words order f (string_bytes t.lines) h d;
-  dead = dead_shows laws G bytes words order f e (string_bytes t.lines) h d shown l;
+  explain = dead_explains laws z G bytes words order f (string_bytes t.lines) h d;
+  dead = dead_shows laws z G bytes words order f e (string_bytes t.lines) h d shown l;
   others = fault_others laws bytes words order f t.judgment (string_bytes t.lines) h j;
 }
-dead_told laws G bytes words order f e (Err _) h d shown j l = tt
+dead_told laws z G bytes words order f e (Err _) h d shown j l = tt
 
-pub broken_told : {E : Type 0} → Laws → (G : Table) (bytes words : List ℕ) (order : Order) (f : Fault) (e : Evidence)
+pub broken_told : {E : Type 0} → Laws → (z : Detail) (G : Table) (bytes words : List ℕ) (order : Order) (f : Fault) (e : Evidence)
     (m : Module) (shown : List (List ℕ)) (r : Answer Explanation E) → IsModule order bytes words → IsBrokenModule G words f e m
     → ShownLines G [] (plain_insts m) shown → IfOk r (λ t. t.judgment ≡ judgments.Broken f)
-    → IfOk r (λ t. string_bytes t.lines ≡ fault_text G m.header.bound (plain_insts m) shown f.rule f.inst e)
-    → IfOk r (λ t. IsExplanation G bytes t)
-broken_told laws G bytes words order f e m shown (Ok t) h b s j l = record {
+    → IfOk r (λ t. string_bytes t.lines ≡ fault_text z G m.header.bound (plain_insts m) shown f.rule f.inst e)
+    → IfOk r (λ t. IsExplanation z G bytes t)
+broken_told laws z G bytes words order f e m shown (Ok t) h b s j l = record {
   verdict = subst (λ x. IsVerdict G bytes (line_of x)) (sym j) (fault_verdict G bytes words order f h (broken_fault G words f e m b));
-  explain = explains laws G bytes words order f e m shown (string_bytes t.lines) h b s l;
-  dead = listed_explains laws G bytes words order (plain_insts m) (string_bytes t.lines) h b.listing;
+  explain = explains laws z G bytes words order f e m shown (string_bytes t.lines) h b s l;
+  dead = listed_explains laws z G bytes words order (plain_insts m) (string_bytes t.lines) h b.listing;
   others = fault_others laws bytes words order f t.judgment (string_bytes t.lines) h j;
 }
-broken_told laws G bytes words order f e m shown (Err _) h b s j l = tt
+broken_told laws z G bytes words order f e m shown (Err _) h b s j l = tt
 
 -- bytes that gave no image
 refused_line_only : (bytes : List ℕ) (code : WordError) (j : Judgment) → judgments.Refused code ≡ j → ¬ (line_of j ≡ valid_line)
@@ -98,53 +101,102 @@ refused_line_only bytes code j e v = let w : line_of (judgments.Refused code) �
 
 refused_one : ((d e : WordError) (bs : List ℕ) → IsFirstBroken d bs → IsFirstBroken e bs → d ≡ e)
     → ((e : WordError) (o : Order) (bs ws : List ℕ) → IsModule o bs ws → ¬ IsFirstBroken e bs)
-    → (G : Table) (bytes : List ℕ) (code : WordError) (t : Explanation) → IsFirstBroken code bytes
-    → judgments.Refused code ≡ t.judgment → string_bytes t.lines ≡ refused_text code → IsExplanation G bytes t
-refused_one once never G bytes code t b j l =
+    → (z : Detail) (G : Table) (bytes : List ℕ) (code : WordError) (t : Explanation) → IsFirstBroken code bytes
+    → judgments.Refused code ≡ t.judgment → string_bytes t.lines ≡ refused_text code bytes → IsExplanation z G bytes t
+refused_one once never z G bytes code t b j l =
     record {
       verdict = subst (λ x. IsVerdict G bytes (line_of x)) j (refused code b);
       explain = λ ws q js r n g l first s. absurd (never code q bytes ws g b);
       dead = λ ws q r n m g k. absurd (never code q bytes ws g b);
       others = record {
         valid = λ v. absurd (refused_line_only bytes code t.judgment j v);
-        refused = λ d k. subst (λ x. string_bytes t.lines ≡ refused_text x) (once code d bytes b k) l;
+        refused = λ d k. subst (λ x. string_bytes t.lines ≡ refused_text x bytes) (once code d bytes b k) l;
       };
     }
 
 pub refused_told : ((d e : WordError) (bs : List ℕ) → IsFirstBroken d bs → IsFirstBroken e bs → d ≡ e)
     → ((e : WordError) (o : Order) (bs ws : List ℕ) → IsModule o bs ws → ¬ IsFirstBroken e bs)
-    → (G : Table) (known : Option (List ℕ)) (code : WordError) (r : Answer Explanation WordError)
-    → IfSome known (λ xs. RefusesBytes code xs) → IfOk r (λ t. refusal_of code ≡ Ok t.judgment)
-    → IfOk r (λ t. string_bytes t.lines ≡ refused_text code)
-    → IfSome known (λ xs. IfOk r (λ t. IsExplanation G xs t))
-refused_told once never G None code r h e l = tt
-refused_told once never G (Some xs) code (Err _) h e l = tt
-refused_told once never G (Some xs) word.W1 (Ok t) h e l = absurd cc
-refused_told once never G (Some xs) word.W9 (Ok t) h e l = absurd cc
-refused_told once never G (Some xs) word.W2 (Ok t) h e l = (let j : judgments.Refused word.W2 ≡ t.judgment = cc in refused_one once never G xs word.W2 t h j l)
-refused_told once never G (Some xs) word.W3 (Ok t) h e l = (let j : judgments.Refused word.W3 ≡ t.judgment = cc in refused_one once never G xs word.W3 t h j l)
-refused_told once never G (Some xs) word.W4 (Ok t) h e l = (let j : judgments.Refused word.W4 ≡ t.judgment = cc in refused_one once never G xs word.W4 t h j l)
-refused_told once never G (Some xs) word.W5 (Ok t) h e l = (let j : judgments.Refused word.W5 ≡ t.judgment = cc in refused_one once never G xs word.W5 t h j l)
-refused_told once never G (Some xs) word.W6 (Ok t) h e l = (let j : judgments.Refused word.W6 ≡ t.judgment = cc in refused_one once never G xs word.W6 t h j l)
-refused_told once never G (Some xs) word.W7 (Ok t) h e l = (let j : judgments.Refused word.W7 ≡ t.judgment = cc in refused_one once never G xs word.W7 t h j l)
-refused_told once never G (Some xs) word.W8 (Ok t) h e l = (let j : judgments.Refused word.W8 ≡ t.judgment = cc in refused_one once never G xs word.W8 t h j l)
+    → (z : Detail) (G : Table) (bytes : List ℕ) (code : WordError) (r : Answer Explanation WordError)
+    → RefusesBytes code bytes → IfOk r (λ t. refusal_of code ≡ Ok t.judgment)
+    → IfOk r (λ t. string_bytes t.lines ≡ refused_text code bytes)
+    → IfOk r (λ t. IsExplanation z G bytes t)
+refused_told once never z G bytes code (Err _) h e l = tt
+refused_told once never z G bytes word.W1 (Ok t) h e l = absurd cc
+refused_told once never z G bytes word.W9 (Ok t) h e l = absurd cc
+refused_told once never z G bytes word.W2 (Ok t) h e l = (let j : judgments.Refused word.W2 ≡ t.judgment = cc in refused_one once never z G bytes word.W2 t h j l)
+refused_told once never z G bytes word.W3 (Ok t) h e l = (let j : judgments.Refused word.W3 ≡ t.judgment = cc in refused_one once never z G bytes word.W3 t h j l)
+refused_told once never z G bytes word.W4 (Ok t) h e l = (let j : judgments.Refused word.W4 ≡ t.judgment = cc in refused_one once never z G bytes word.W4 t h j l)
+refused_told once never z G bytes word.W5 (Ok t) h e l = (let j : judgments.Refused word.W5 ≡ t.judgment = cc in refused_one once never z G bytes word.W5 t h j l)
+refused_told once never z G bytes word.W6 (Ok t) h e l = (let j : judgments.Refused word.W6 ≡ t.judgment = cc in refused_one once never z G bytes word.W6 t h j l)
+refused_told once never z G bytes word.W7 (Ok t) h e l = (let j : judgments.Refused word.W7 ≡ t.judgment = cc in refused_one once never z G bytes word.W7 t h j l)
+refused_told once never z G bytes word.W8 (Ok t) h e l = (let j : judgments.Refused word.W8 ≡ t.judgment = cc in refused_one once never z G bytes word.W8 t h j l)
 
--- words that were read
-pub known_told : (G : Table) (known : Option (List ℕ)) (words : List ℕ) (order : Order) (t : Explanation)
-    → IfSome known (λ xs. IsModule order xs words)
-    → ((bytes : List ℕ) (o : Order) → IsModule o bytes words → IsExplanation G bytes t)
-    → IfSome known (λ xs. IsExplanation G xs t)
-known_told G None words order t h v = tt
-known_told G (Some xs) words order t h v = v xs order h
+-- bytes that are no image break the code first
+pub refuses : (code : WordError) (bytes : List ℕ) → IsFirstBroken code bytes → RefusesBytes code bytes
+refuses word.W1 bytes h = tt
+refuses word.W9 bytes h = tt
+refuses word.W2 bytes h = h
+refuses word.W3 bytes h = h
+refuses word.W4 bytes h = h
+refuses word.W5 bytes h = h
+refuses word.W6 bytes h = h
+refuses word.W7 bytes h = h
+refuses word.W8 bytes h = h
+
+-- too many bytes, or a reader that failed, told by whatever stands in front
+too_large : (bytes : List ℕ) → 16777216 < length bytes → IsFirstBroken word.W8 bytes
+too_large bytes l = record { broken = λ h. absurd (omega (arith, l, h)); before = before }
+  where
+    before : (d : WordError) → place_of d < 1 → BytesKeep d bytes
+    before word.W1 k = tt
+    before word.W2 k = absurd (omega (arith, k))
+    before word.W3 k = absurd (omega (arith, k))
+    before word.W4 k = absurd (omega (arith, k))
+    before word.W5 k = absurd (omega (arith, k))
+    before word.W6 k = absurd (omega (arith, k))
+    before word.W7 k = absurd (omega (arith, k))
+    before word.W8 k = absurd (omega (arith, k))
+    before word.W9 k = tt
+
+pub stopped_told : ((d e : WordError) (bs : List ℕ) → IsFirstBroken d bs → IsFirstBroken e bs → d ≡ e)
+    → ((e : WordError) (o : Order) (bs ws : List ℕ) → IsModule o bs ws → ¬ IsFirstBroken e bs)
+    → (z : Detail) (G : Table) (known : Option (List ℕ)) (code : WordError) (front : Front) (r : Answer Explanation WordError)
+    → IsStop code → (code ≡ word.W8 → IfSome known (λ xs. 16777216 < length xs))
+    → IfOk r (λ t. refusal_of code ≡ Ok t.judgment) → IfOk r (λ t. string_bytes t.lines ≡ refused_by code front)
+    → IfSome known (λ xs. IfOk r (λ t. IsExplanation z G xs t))
+stopped_told once never z G None code front r s o e l = tt
+stopped_told once never z G (Some xs) word.W8 front r s o e l = refused_told once never z G xs word.W8 r (too_large xs (o refl)) e l
+stopped_told once never z G (Some xs) word.W1 front r s o e l = refused_told once never z G xs word.W1 r tt e l
+stopped_told once never z G (Some xs) word.W9 front r s o e l = refused_told once never z G xs word.W9 r tt e l
+stopped_told once never z G (Some xs) word.W2 front r s o e l = absurd s
+stopped_told once never z G (Some xs) word.W3 front r s o e l = absurd s
+stopped_told once never z G (Some xs) word.W4 front r s o e l = absurd s
+stopped_told once never z G (Some xs) word.W5 front r s o e l = absurd s
+stopped_told once never z G (Some xs) word.W6 front r s o e l = absurd s
+stopped_told once never z G (Some xs) word.W7 front r s o e l = absurd s
+
+-- all the bytes of a reader
+pub octets_known : (z : Detail) (G : Table) (known after : Option (List ℕ)) (octets : List ℕ) (r : Answer Explanation WordError)
+    → Consumes known after octets → IsAtEnd after → IfOk r (λ t. IsExplanation z G octets t)
+    → IfSome known (λ xs. IfOk r (λ t. IsExplanation z G xs t))
+octets_known z G None after octets r c e h = tt
+octets_known z G (Some xs) None octets r c e h = absurd c
+octets_known z G (Some xs) (Some ys) octets r c e h =
+    subst (λ b. IfOk r (λ t. IsExplanation z G b t)) (sym (c ∙ (ap (λ q. octets ++ q) e ∙ append-nil octets))) h
+
+-- words that gave an image
+pub image_told : (z : Detail) (G : Table) (bytes words : List ℕ) (order : Order) (t : Explanation) → IsModule order bytes words
+    → ((bs : List ℕ) (o : Order) → IsModule o bs words → IsExplanation z G bs t) → IsExplanation z G bytes t
+image_told z G bytes words order t h v = v bytes order h
 
 -- the lines were written whole, or a beginning of them
-pub told_whole : (G : Table) (known kept new : Option (List ℕ)) (t : Explanation) (bytes : List ℕ) (answer : Bool)
-    → IfSome known (λ bs. IsExplanation G bs t) → bytes ≡ line_of t.judgment ++ string_bytes t.lines
-    → Appends kept new bytes → (IsTrue answer ↔ (line_of t.judgment ≡ valid_line)) → IfSome known (λ bs. IfSome kept (λ old. Explains G bs old new answer))
-told_whole G None kept new t bytes answer h e w a = tt
-told_whole G (Some bs) None new t bytes answer h e w a = tt
-told_whole G (Some bs) (Some old) None t bytes answer h e w a = absurd w
-told_whole G (Some bs) (Some old) (Some xs) t bytes answer h e w a =
+pub told_whole : (z : Detail) (G : Table) (known kept new : Option (List ℕ)) (t : Explanation) (bytes : List ℕ) (answer : Bool)
+    → IfSome known (λ bs. IsExplanation z G bs t) → bytes ≡ line_of t.judgment ++ string_bytes t.lines
+    → Appends kept new bytes → (IsTrue answer ↔ (line_of t.judgment ≡ valid_line)) → IfSome known (λ bs. IfSome kept (λ old. Explains z G bs old new answer))
+told_whole z G None kept new t bytes answer h e w a = tt
+told_whole z G (Some bs) None new t bytes answer h e w a = tt
+told_whole z G (Some bs) (Some old) None t bytes answer h e w a = absurd w
+told_whole z G (Some bs) (Some old) (Some xs) t bytes answer h e w a =
     record {
       line = line_of t.judgment;
       lines = string_bytes t.lines;
@@ -156,12 +208,12 @@ told_whole G (Some bs) (Some old) (Some xs) t bytes answer h e w a =
       answered = a;
     }
 
-pub told_begun : (G : Table) (known kept new : Option (List ℕ)) (t : Explanation) (bytes : List ℕ)
-    → IfSome known (λ bs. IsExplanation G bs t) → bytes ≡ line_of t.judgment ++ string_bytes t.lines
-    → IfSome kept (λ xs. (n : ℕ) × (n ≤ length bytes) × (new ≡ Some (xs ++ take n bytes))) → IfSome known (λ bs. IfSome kept (λ old. BeginsExplaining G bs old new))
-told_begun G None kept new t bytes h e w = tt
-told_begun G (Some bs) None new t bytes h e w = tt
-told_begun G (Some bs) (Some old) new t bytes h e w =
+pub told_begun : (z : Detail) (G : Table) (known kept new : Option (List ℕ)) (t : Explanation) (bytes : List ℕ)
+    → IfSome known (λ bs. IsExplanation z G bs t) → bytes ≡ line_of t.judgment ++ string_bytes t.lines
+    → IfSome kept (λ xs. (n : ℕ) × (n ≤ length bytes) × (new ≡ Some (xs ++ take n bytes))) → IfSome known (λ bs. IfSome kept (λ old. BeginsExplaining z G bs old new))
+told_begun z G None kept new t bytes h e w = tt
+told_begun z G (Some bs) None new t bytes h e w = tt
+told_begun z G (Some bs) (Some old) new t bytes h e w =
     record {
       line = line_of t.judgment;
       lines = string_bytes t.lines;

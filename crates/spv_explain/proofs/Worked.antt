@@ -1,6 +1,6 @@
 -- The small lists and texts of the worked examples.
 use Rattle.std.proofs.Common.{◌≡◌, ◌∙◌, ◌++◌, ◌<◌, inl, inr, ℕ, zero, suc, List, [], ◌∷◌, refl, sym, subst}
-use Rattle.std.proofs.Common.{Bool, true, false, ◌&&◌, ◌||◌, Some, ap, codes, drop, map, slice_index, append_assoc, arith, IsUtf8}
+use Rattle.std.proofs.Common.{Bool, true, false, ◌&&◌, ◌||◌, Option, Some, None, ap, codes, drop, map, slice_index, append_assoc, arith, IsUtf8}
 use Rattle.std.specs.Fmt.{digits}
 use Rattle.std.specs.Prelude.{nat_eq, slice_index_or}
 use Rattle.std.specs.List.{Contains}
@@ -13,7 +13,9 @@ use Rattle.spv_module.specs.Shape.{shape_of}
 use Rattle.spv_module.specs.Spelling.{HoldsText, Takes}
 use Rattle.spv_inst.specs.Flat.{due}
 use Rattle.spv_module.specs.Instruction.{IsListing}
+use Rattle.spv_words.specs.declared.words.WordError.TheVariants as word
 use Rattle.spv_module.specs.declared.fault.Rule.{Rule}
+use Rattle.spv_module.specs.declared.opcode.TheConstants as opcode
 use Rattle.spv_module.specs.declared.fault.Rule.TheVariants.{I7, L1, D2}
 use Rattle.spv_layout.specs.First.{stage_of}
 use Rattle.spv_layout.specs.Rows.{rows}
@@ -37,7 +39,7 @@ use Rattle.spv_form_evidence.specs.layout.inner.Automaton.{followers}
 use Rattle.spv_form_evidence.proofs.lemmas.layout.Opcodes.{to_come}
 use Rattle.spv_form_evidence.proofs.lemmas.ids.Worked.{again}
 use Rattle.spv_explain.specs.Evidence.{IsEvidence}
-use Rattle.spv_explain.specs.Example.{string_fault, string_words, twice_void}
+use Rattle.spv_explain.specs.Example.{labels, many_opcodes, string_fault, string_words, twice_void}
 use Rattle.spv_explain.specs.Explained.{IsShownBy}
 use Rattle.spv_lines.specs.Line.{IsShownLine}
 use Rattle.spv_lines.specs.Operand.{Shown}
@@ -45,28 +47,98 @@ use Rattle.spv_lines.specs.Text.{ShownLines}
 use Rattle.spv_lines.specs.Written.{Piece, Written}
 use Rattle.spv_fault_lines.specs.Facts.{facts_of}
 use Rattle.spv_fault_lines.specs.Lines.{line_of, text_of}
+use Rattle.spv_lines.specs.Digits.{hex_digits}
+use Rattle.spv_fault_lines.specs.Place.{comes_early, open_before, place_of}
 use Rattle.spv_fault_lines.specs.Plain.{plain_of}
+use Rattle.spv_fault_lines.specs.Refused.{found_lines, front_of}
+use Rattle.spv_fault_lines.specs.declared.fact.Detail.TheVariants.{Full, Short}
 use Rattle.spv_fault_lines.specs.declared.fact.Fact.TheVariants as fact
+use Rattle.spv_fault_lines.specs.declared.fact.Place.{Place as Standing}
 use Rattle.spv_rules.specs.declared.rules.Code.TheVariants as Code
-use Rattle.spv_explain.specs.Lines.{rule_line}
+use Rattle.spv_explain.specs.Lines.{refused_text, rule_line}
 use Rattle.spv_explain.specs.Stream.{AreLinesOf}
 use Rattle.spv_explain.proofs.Sufficing.{of_layout_alone, suffices}
 
 -- lines
-pub earlier_told : line_of small twice_void (codes "%1 = OpTypeVoid" ∷ []) (fact.Earlier 0) ≡ codes "earlier: inst 0, %1 = OpTypeVoid" ++ line_end
+pub earlier_told : line_of Short small twice_void (codes "%1 = OpTypeVoid" ∷ []) (fact.Earlier 0) ≡ codes "earlier: inst 0, %1 = OpTypeVoid" ++ line_end
 earlier_told = rw (decimal_digit 0 (omega arith)) refl
 
-pub not_later_told : ¬ (line_of small twice_void (codes "%1 = OpTypeVoid" ∷ []) (fact.Earlier 0) ≡ codes "earlier: inst 1, %1 = OpTypeVoid" ++ line_end)
+pub not_later_told : ¬ (line_of Short small twice_void (codes "%1 = OpTypeVoid" ∷ []) (fact.Earlier 0) ≡ codes "earlier: inst 1, %1 = OpTypeVoid" ++ line_end)
 not_later_told h =
     let e : codes "earlier: inst 0, %1 = OpTypeVoid" ++ line_end ≡ codes "earlier: inst 1, %1 = OpTypeVoid" ++ line_end = sym earlier_told ∙ h in
     let f : 48 ≡ 49 = ap (λ (t : List ℕ). slice_index t 14) e in
     absurd (omega (arith, f))
 
-pub operand_told : line_of small (of_void ∷ []) [] (fact.Operand 0 1) ≡ codes "operand: 1 %1" ++ line_end
+pub operand_told : line_of Short small (of_void ∷ []) [] (fact.Operand 0 1) ≡ codes "operand: 1 %1" ++ line_end
 operand_told = rw (decimal_digit 1 (omega arith)) refl
+
+pub classes_told : line_of Short small [] [] (fact.MayCome many_opcodes true)
+    ≡ codes "may come: OpUndef; a source; a line; a type or constant; OpFunction; end of module" ++ line_end
+unfolding rows
+classes_told = refl
+
+pub names_told : line_of Full small [] [] (fact.MayCome many_opcodes true) ≡ codes "may come: OpString OpTypeInt end of module" ++ line_end
+names_told = refl
 
 pub escape_told : plain_of (97 ∷ 27 ∷ 92 ∷ []) ≡ codes "a\\x1b\\"
 escape_told = refl
+
+pub late_told : plain_of (194 ∷ 155 ∷ 97 ∷ []) ≡ codes "\\xc2\\x9ba"
+late_told = refl
+
+pub kept_told : plain_of (194 ∷ 169 ∷ []) ≡ 194 ∷ 169 ∷ []
+kept_told = refl
+
+-- places
+pub open_told : open_before labels 2 ≡ record { function = Some 0; block = Some 1 }
+open_told = refl
+
+pub inside_told : ¬ (open_before labels 2 ≡ place_of labels 2)
+inside_told h = (let e : ◌≡◌ {A = Option ℕ} (Some 1) (Some 2) = ap (λ (p : Standing). p.block) h in absurd cc)
+
+pub early_told : comes_early opcode.LABEL (open_before labels 2) ≡ true
+early_told = refl
+
+pub not_early_told : comes_early opcode.LABEL (open_before labels 1) ≡ false
+not_early_told = refl
+
+pub unended_told : line_of Short small twice_void [] (fact.Unended (record { function = Some 0; block = None }))
+    ≡ codes "missing: the end of function %1" ++ line_end
+unended_told = rw (decimal_digit 1 (omega arith)) refl
+
+pub no_block_told : ¬ (line_of Short small twice_void [] (fact.Unended (record { function = Some 0; block = None }))
+    ≡ codes "missing: the end of block %1" ++ line_end)
+no_block_told h =
+    let e : codes "missing: the end of function %1" ++ line_end ≡ codes "missing: the end of block %1" ++ line_end = sym unended_told ∙ h in
+    let f : 102 ≡ 98 = ap (λ (t : List ℕ). slice_index t 20) e in
+    absurd (omega (arith, f))
+
+-- bytes that are no words
+found_few : found_lines word.W2 (front_of (1 ∷ 2 ∷ 3 ∷ [])) ≡ codes "found: 3 bytes" ++ line_end
+found_few = rw (decimal_digit 3 (omega arith)) refl
+
+pub few_told : refused_text word.W2 (1 ∷ 2 ∷ 3 ∷ []) ≡ rule_line (Code.Word word.W2) ++ (codes "found: 3 bytes" ++ line_end)
+few_told = ap (λ (z : List ℕ). rule_line (Code.Word word.W2) ++ z) found_few
+
+pub one_told : found_lines word.W2 (front_of (1 ∷ [])) ≡ codes "found: 1 byte" ++ line_end
+one_told = rw (decimal_digit 1 (omega arith)) refl
+
+pub no_magic_told : found_lines word.W4 (front_of (127 ∷ 69 ∷ 76 ∷ 70 ∷ [])) ≡ codes "found: 0x464c457f" ++ line_end
+unfolding hex_digits
+no_magic_told = refl
+
+pub not_turned_told : ¬ (found_lines word.W4 (front_of (127 ∷ 69 ∷ 76 ∷ 70 ∷ [])) ≡ codes "found: 0x7f454c46" ++ line_end)
+not_turned_told h =
+    let e : codes "found: 0x464c457f" ++ line_end ≡ codes "found: 0x7f454c46" ++ line_end = sym no_magic_told ∙ h in
+    let f : 52 ≡ 55 = ap (λ (t : List ℕ). slice_index t 9) e in
+    absurd (omega (arith, f))
+
+pub earlier_version_told : found_lines word.W5 (front_of (7 ∷ 35 ∷ 2 ∷ 3 ∷ 0 ∷ 1 ∷ 4 ∷ 0 ∷ []))
+    ≡ codes "found: version 1.4" ++ (line_end ++ (codes "help: --as-1.6 reads it as a module of version 1.6" ++ line_end))
+earlier_version_told = rw (decimal_digit 1 (omega arith), decimal_digit 4 (omega arith)) refl
+
+pub later_version_told : found_lines word.W5 (front_of (3 ∷ 2 ∷ 35 ∷ 7 ∷ 0 ∷ 0 ∷ 2 ∷ 0 ∷ [])) ≡ codes "found: version 2.0" ++ line_end
+later_version_told = rw (decimal_digit 2 (omega arith), decimal_digit 0 (omega arith)) refl
 
 no_second : (r : Rule) (n : ℕ) → ids.Broken small 5 twice_void r n → r ≡ D2 → n ≡ 0 → ⊥
 no_second _ _ (ids.Broken.result_out_of_range n x d o) e z = cc
@@ -92,7 +164,7 @@ no_broken _ _ (Broken.of_calls r n b) e z =
     let t = calls_stage twice_void r n b in
     absurd (omega (arith, s, t))
 
-pub no_first_lines : (lines : List ℕ) → ¬ (AreLinesOf small 5 twice_void D2 0 lines)
+pub no_first_lines : (lines : List ℕ) → ¬ (AreLinesOf Short small 5 twice_void D2 0 lines)
 no_first_lines lines l = no_broken D2 0 (suffices small 5 twice_void D2 0 l.evidence l.shows) refl refl
 
 -- an OpString first
@@ -137,10 +209,10 @@ unfolding digits
 string_line = record { entry = string_entry; operands = codes " \"abc\""; known = refl; written = string_operands; all = refl }
 
 facts_told : (codes "at: %5 = OpString \"abc\"" ++ line_end) ++ (codes "may come:" ++ line_end)
-    ≡ text_of small (string ∷ []) (codes "%5 = OpString \"abc\"" ∷ []) (facts_of 9 (string ∷ []) L1 0 (MayCome (10 ∷ 11 ∷ 14 ∷ 17 ∷ []) false))
+    ≡ text_of Short small (string ∷ []) (codes "%5 = OpString \"abc\"" ∷ []) (facts_of 9 (string ∷ []) L1 0 (MayCome (10 ∷ 11 ∷ 14 ∷ 17 ∷ []) false))
 facts_told = refl
 
-pub string_lines : AreLinesOf small 9 (string ∷ []) L1 0
+pub string_lines : AreLinesOf Short small 9 (string ∷ []) L1 0
     (rule_line (Code.Rule L1) ++ ((codes "at: %5 = OpString \"abc\"" ++ line_end)
     ++ (codes "may come:" ++ line_end)))
 string_lines = record {

@@ -3,11 +3,21 @@ use Rattle.std.specs.Prelude.{ℕ, List, [], ◌∷◌}
 use Rattle.spv_module.specs.Operand.{PlainInst}
 use Rattle.spv_module.specs.declared.fault.Fault.{Fault}
 use Rattle.spv_module.specs.declared.fault.Rule.TheVariants.{L1}
+use Rattle.spv_module.specs.declared.opcode.TheConstants as opcode
+use Rattle.spv_layout.specs.Example.{bare}
 use Rattle.spv_ids.specs.Example.{void}
 
 -- %1 = OpTypeVoid, twice
 abbrev pub twice_void : List PlainInst
 twice_void = void 1 ∷ void 1 ∷ []
+
+-- OpFunction and two OpLabel; their operands do not matter
+abbrev pub labels : List PlainInst
+labels = bare opcode.FUNCTION ∷ bare opcode.LABEL ∷ bare opcode.LABEL ∷ []
+
+-- OpUndef, OpString, OpLine, five that declare types, and OpFunction
+abbrev pub many_opcodes : List ℕ
+many_opcodes = 1 ∷ 7 ∷ 8 ∷ 19 ∷ 20 ∷ 21 ∷ 22 ∷ 23 ∷ 54 ∷ []
 
 -- the header with the bound 9, and %5 = OpString "abc"
 abbrev pub string_words : List ℕ

@@ -16,73 +16,78 @@ use Rattle.spv_verdict.specs.Broken.{IsFirstOfAll}
 use Rattle.spv_verdict.specs.Verdict.{IsVerdict, valid_line}
 use Rattle.spv_verdict.specs.Text.{line_of}
 use Rattle.spv_evidence.specs.declared.evidence.Evidence.{Evidence}
+use Rattle.spv_fault_lines.specs.declared.fact.Detail.{Detail}
 use Rattle.spv_explain.specs.Evidence.{IsEvidence}
 use Rattle.spv_form_evidence.specs.words.Evidence as instructions
 use Rattle.spv_explain.specs.Lines.{fault_text, malformed_text, refused_text}
 use Rattle.spv_explain.specs.declared.stream.Explanation.{Explanation}
 
--- Under the table, the lines are those of evidence which shows that the rule is broken at an instruction of the list.
-pub record AreLinesOf (G : Table) (bound : ℕ) (is : List PlainInst) (r : Rule) (n : ℕ)
+-- Under the table, the lines are those, in short or in full, of evidence which shows that the rule is broken at an
+-- instruction of the list.
+pub record AreLinesOf (d : Detail) (G : Table) (bound : ℕ) (is : List PlainInst) (r : Rule) (n : ℕ)
     (lines : List ℕ) : Type 0 where
   pub evidence : Evidence
   pub shows : IsEvidence G bound is r n evidence
   pub shown : List (List ℕ)
   pub are_shown : ShownLines G [] is shown
-  pub told : lines ≡ fault_text G bound is shown r n evidence
+  pub told : lines ≡ fault_text d G bound is shown r n evidence
 
 -- Of bytes that are words of a list of instructions which breaks a rule of the stages P to G first, the lines are those
 -- of evidence that shows it.
-abbrev pub Explain : Table → List ℕ → List ℕ → Type 0
-Explain G bytes lines = (words : List ℕ) (order : Order) (is : List PlainInst) (r : Rule) (n : ℕ)
+abbrev pub Explain : Detail → Table → List ℕ → List ℕ → Type 0
+Explain d G bytes lines = (words : List ℕ) (order : Order) (is : List PlainInst) (r : Rule) (n : ℕ)
     → IsModule order bytes words → IsListing G is (drop 5 words) → IsFirstOfAll G (slice_index words 3) is r n
-    → stages.of_profile ≤ stage_of r → AreLinesOf G (slice_index words 3) is r n lines
+    → stages.of_profile ≤ stage_of r → AreLinesOf d G (slice_index words 3) is r n lines
 
 -- Under the table, the lines are those of evidence which shows that an instruction among the words is malformed by the
 -- rule, at that word.
-pub record AreDeadLinesOf (G : Table) (words : List ℕ) (r : Rule) (n word : ℕ) (lines : List ℕ) : Type 0 where
+pub record AreDeadLinesOf (d : Detail) (G : Table) (words : List ℕ) (r : Rule) (n word : ℕ)
+    (lines : List ℕ) : Type 0 where
   pub evidence : Evidence
   pub shows : instructions.IsEvidence G words r n word evidence
-  pub told : lines ≡ malformed_text G words r n word evidence
+  pub told : lines ≡ malformed_text d G words r n word evidence
 
 -- Of bytes whose words spell no list of instructions, since one is malformed, the lines are those of evidence that shows
 -- it.
-abbrev pub ExplainDead : Table → List ℕ → List ℕ → Type 0
-ExplainDead G bytes lines = (words : List ℕ) (order : Order) (r : Rule) (n word : ℕ)
+abbrev pub ExplainDead : Detail → Table → List ℕ → List ℕ → Type 0
+ExplainDead d G bytes lines = (words : List ℕ) (order : Order) (r : Rule) (n word : ℕ)
     → IsModule order bytes words → IsMalformedAt G (drop 5 words) r n word
-    → AreDeadLinesOf G (drop 5 words) r n word lines
+    → AreDeadLinesOf d G (drop 5 words) r n word lines
 
--- There is no line after that of a valid module, and of bytes that are no words one that tells the code.
+-- There is no line after that of a valid module, and of bytes that are no words those that tell the code and what is
+-- found.
 pub record AreOthers (bytes line lines : List ℕ) : Type 0 where
   pub valid : line ≡ valid_line → lines ≡ []
-  pub refused : (code : WordError) → IsFirstBroken code bytes → lines ≡ refused_text code
+  pub refused : (code : WordError) → IsFirstBroken code bytes → lines ≡ refused_text code bytes
 
--- The verdict is that of the bytes, and the lines explain it.
-pub record IsExplanation (G : Table) (bytes : List ℕ) (e : Explanation) : Type 0 where
+-- The verdict is that of the bytes, and the lines explain it, in short or in full.
+pub record IsExplanation (d : Detail) (G : Table) (bytes : List ℕ) (e : Explanation) : Type 0 where
   pub verdict : IsVerdict G bytes (line_of e.judgment)
-  pub explain : Explain G bytes (string_bytes e.lines)
-  pub dead : ExplainDead G bytes (string_bytes e.lines)
+  pub explain : Explain d G bytes (string_bytes e.lines)
+  pub dead : ExplainDead d G bytes (string_bytes e.lines)
   pub others : AreOthers bytes (line_of e.judgment) (string_bytes e.lines)
 
 -- A writer that held the bytes `old` now also holds the verdict line of the bytes, after it lines that explain it, and
 -- nothing else; the answer tells whether the line is `valid`.
-pub record Explains (G : Table) (bytes : List ℕ) (old : List ℕ) (new : Option (List ℕ))
+pub record Explains (d : Detail) (G : Table) (bytes : List ℕ) (old : List ℕ) (new : Option (List ℕ))
     (answer : Bool) : Type 0 where
   pub line : List ℕ
   pub lines : List ℕ
   pub verdict : IsVerdict G bytes line
-  pub explain : Explain G bytes lines
-  pub dead : ExplainDead G bytes lines
+  pub explain : Explain d G bytes lines
+  pub dead : ExplainDead d G bytes lines
   pub others : AreOthers bytes line lines
   pub written : new ≡ Some (old ++ (line ++ lines))
   pub answered : IsTrue answer ↔ (line ≡ valid_line)
 
 -- A writer that held the bytes `old` now also holds a beginning of such lines, and nothing else.
-pub record BeginsExplaining (G : Table) (bytes : List ℕ) (old : List ℕ) (new : Option (List ℕ)) : Type 0 where
+pub record BeginsExplaining (d : Detail) (G : Table) (bytes : List ℕ) (old : List ℕ)
+    (new : Option (List ℕ)) : Type 0 where
   pub line : List ℕ
   pub lines : List ℕ
   pub verdict : IsVerdict G bytes line
-  pub explain : Explain G bytes lines
-  pub dead : ExplainDead G bytes lines
+  pub explain : Explain d G bytes lines
+  pub dead : ExplainDead d G bytes lines
   pub others : AreOthers bytes line lines
   pub count : ℕ
   pub fits : count ≤ length (line ++ lines)

@@ -1,26 +1,31 @@
 //! That evidence suffices, whatever the rule, and worked examples. Each function does nothing: its contract is what is
 //! proved.
 
-ghost use Rattle.std.specs.Prelude.{◌≡◌, ◌++◌, ℕ, List, [], ◌∷◌, codes, false};
+ghost use Rattle.std.specs.Prelude.{◌≡◌, ◌++◌, ℕ, List, [], ◌∷◌, Some, None, codes, false, true};
+ghost use Rattle.spv_words.specs.declared.words.WordError.TheVariants.{W2, W4, W5};
 ghost use Rattle.spv_table.specs.Table.{Table};
 ghost use Rattle.spv_module.specs.Example.{small, string};
 ghost use Rattle.spv_module.specs.Operand.{PlainInst};
 ghost use Rattle.spv_module.specs.declared.fault.Rule.{Rule as AnyRule};
 ghost use Rattle.spv_module.specs.declared.fault.Rule.TheVariants.{D2, L1};
 ghost use Rattle.spv_module.specs.declared.module.Module.{Module};
+ghost use Rattle.spv_module.specs.declared.opcode.TheConstants as opcode;
 ghost use Rattle.spv_ids.specs.Example.{of_void};
 ghost use Rattle.spv_evidence.specs.declared.evidence.Evidence.{Evidence};
 ghost use Rattle.spv_evidence.specs.declared.evidence.Evidence.TheVariants.{MayCome, NoEntry};
 ghost use Rattle.spv_verdict.specs.Broken.{Broken};
 ghost use Rattle.spv_verdict.specs.Verdict.{line_end};
 ghost use Rattle.spv_explain.specs.Evidence.{IsEvidence};
-ghost use Rattle.spv_explain.specs.Example.{string_fault, string_words, twice_void};
+ghost use Rattle.spv_explain.specs.Example.{labels, many_opcodes, string_fault, string_words, twice_void};
 ghost use Rattle.spv_explain.specs.Explained.{IsShown};
 ghost use Rattle.spv_fault_lines.specs.Lines.{line_of};
+ghost use Rattle.spv_fault_lines.specs.Place.{comes_early, open_before, place_of};
 ghost use Rattle.spv_fault_lines.specs.Plain.{plain_of};
+ghost use Rattle.spv_fault_lines.specs.Refused.{found_lines, front_of};
+ghost use Rattle.spv_fault_lines.specs.declared.fact.Detail.TheVariants.{Full, Short};
 ghost use Rattle.spv_fault_lines.specs.declared.fact.Fact.TheVariants as fact;
-ghost use Rattle.spv_rules.specs.declared.rules.Code.TheVariants.{Rule};
-ghost use Rattle.spv_explain.specs.Lines.{rule_line};
+ghost use Rattle.spv_rules.specs.declared.rules.Code.TheVariants.{Rule, Word};
+ghost use Rattle.spv_explain.specs.Lines.{refused_text, rule_line};
 ghost use Rattle.spv_explain.specs.Stream.{AreLinesOf};
 ghost use Rattle.spv_explain.specs.declared.explained.Explained.TheVariants as explained;
 
@@ -33,22 +38,60 @@ pub fn suffices()
 /// The lines of facts.
 pub fn line_examples()
     // That an earlier instruction has the same result: its number is told, and not that of the later one.
-    ensures earlier { line_of small twice_void (codes "%1 = OpTypeVoid" ∷ []) (fact.Earlier 0)
+    ensures earlier { line_of Short small twice_void (codes "%1 = OpTypeVoid" ∷ []) (fact.Earlier 0)
         ≡ codes "earlier: inst 0, %1 = OpTypeVoid" ++ line_end }
-    ensures not_later { ¬ (line_of small twice_void (codes "%1 = OpTypeVoid" ∷ []) (fact.Earlier 0)
+    ensures not_later { ¬ (line_of Short small twice_void (codes "%1 = OpTypeVoid" ∷ []) (fact.Earlier 0)
         ≡ codes "earlier: inst 1, %1 = OpTypeVoid" ++ line_end) }
     // An operand and the id that it is.
-    ensures operand { line_of small (of_void ∷ []) [] (fact.Operand 0 1) ≡ codes "operand: 1 %1" ++ line_end }
-    // A control character.
+    ensures operand { line_of Short small (of_void ∷ []) [] (fact.Operand 0 1) ≡ codes "operand: 1 %1" ++ line_end }
+    // Nine opcodes that may come, in short by their classes and in full by their names, of which the small table has
+    // but two.
+    ensures classes { line_of Short small [] [] (fact.MayCome many_opcodes true)
+        ≡ codes "may come: OpUndef; a source; a line; a type or constant; OpFunction; end of module" ++ line_end }
+    ensures names { line_of Full small [] [] (fact.MayCome many_opcodes true)
+        ≡ codes "may come: OpString OpTypeInt end of module" ++ line_end }
+    // A control character, and one of those from U+0080 on; U+00A9 is none.
     ensures escaped { plain_of (97 ∷ 27 ∷ 92 ∷ []) ≡ codes "a\\x1b\\" }
+    ensures late { plain_of (194 ∷ 155 ∷ 97 ∷ []) ≡ codes "\\xc2\\x9ba" }
+    ensures kept { plain_of (194 ∷ 169 ∷ []) ≡ 194 ∷ 169 ∷ [] }
+{}
+
+/// What is open before instructions. An OpLabel after an OpLabel misses the end of a block, and one after the end of a
+/// block does not.
+pub fn place_examples()
+    ensures open { open_before labels 2 ≡ record { function = Some 0; block = Some 1 } }
+    ensures inside { ¬ (open_before labels 2 ≡ place_of labels 2) }
+    ensures early { comes_early opcode.LABEL (open_before labels 2) ≡ true }
+    ensures not_early { comes_early opcode.LABEL (open_before labels 1) ≡ false }
+    ensures unended { line_of Short small twice_void [] (fact.Unended (record { function = Some 0; block = None }))
+        ≡ codes "missing: the end of function %1" ++ line_end }
+    ensures no_block { ¬ (line_of Short small twice_void [] (fact.Unended (record { function = Some 0; block = None }))
+        ≡ codes "missing: the end of block %1" ++ line_end) }
+{}
+
+/// What is found in bytes that are no words of a module.
+pub fn refused_examples()
+    // Too few bytes.
+    ensures few { refused_text W2 (1 ∷ 2 ∷ 3 ∷ []) ≡ rule_line (Word W2) ++ (codes "found: 3 bytes" ++ line_end) }
+    ensures one { found_lines W2 (front_of (1 ∷ [])) ≡ codes "found: 1 byte" ++ line_end }
+    // No magic number: the lowest byte comes first.
+    ensures no_magic { found_lines W4 (front_of (127 ∷ 69 ∷ 76 ∷ 70 ∷ [])) ≡ codes "found: 0x464c457f" ++ line_end }
+    ensures not_turned { ¬ (found_lines W4 (front_of (127 ∷ 69 ∷ 76 ∷ 70 ∷ []))
+        ≡ codes "found: 0x7f454c46" ++ line_end) }
+    // Version 1.4, the highest byte first, and version 2.0, which is not read as version 1.6.
+    ensures earlier { found_lines W5 (front_of (7 ∷ 35 ∷ 2 ∷ 3 ∷ 0 ∷ 1 ∷ 4 ∷ 0 ∷ []))
+        ≡ codes "found: version 1.4" ++ (line_end
+        ++ (codes "help: --as-1.6 reads it as a module of version 1.6" ++ line_end)) }
+    ensures later { found_lines W5 (front_of (3 ∷ 2 ∷ 35 ∷ 7 ∷ 0 ∷ 0 ∷ 2 ∷ 0 ∷ []))
+        ≡ codes "found: version 2.0" ++ line_end }
 {}
 
 /// The lines of a module that begins with an OpString, under the bound 9: what may come has no names in the small
 /// table. Without the instruction they are not its lines.
 pub fn stream_examples()
-    ensures lines { AreLinesOf small 9 (string ∷ []) L1 0 (rule_line (Rule L1)
+    ensures lines { AreLinesOf Short small 9 (string ∷ []) L1 0 (rule_line (Rule L1)
         ++ ((codes "at: %5 = OpString \"abc\"" ++ line_end) ++ (codes "may come:" ++ line_end))) }
-    ensures not_first { (lines : List ℕ) → ¬ (AreLinesOf small 5 twice_void D2 0 lines) }
+    ensures not_first { (lines : List ℕ) → ¬ (AreLinesOf Short small 5 twice_void D2 0 lines) }
 {}
 
 /// A module that begins with an OpString, under a small table.

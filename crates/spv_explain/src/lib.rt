@@ -9,5 +9,6 @@ mod stream;
 
 pub use explained::{Explained, explain};
 pub use spv_evidence::{Condition, EntryPart, Evidence, Kind, Lister, Relation, Side};
+pub use spv_fault_lines::Detail;
 pub use spv_rules::{Code, rules_text};
 pub use stream::{Explanation, explain_bytes, explain_stream};

@@ -1,7 +1,7 @@
 //! What is written of the bytes of a stream.
-ghost use Rattle.std.specs.Prelude.{◌≡◌, ◌⊎◌, ◌↔◌, ◌++◌, ◌-◌, ℕ, List, [], Ok, drop};
+ghost use Rattle.std.specs.Prelude.{◌≡◌, ◌⊎◌, ◌↔◌, ◌++◌, ◌-◌, ◌≤◌, ℕ, List, [], Ok, drop, vec_len};
 ghost use Rattle.std.specs.Prelude.{IfOk, IfErr, IfSome, IsErrOf, IsTrue, string_bytes};
-ghost use Rattle.spv_words.specs.Header.{IsModule};
+ghost use Rattle.spv_words.specs.Header.{IsModule, greatest_size};
 ghost use Rattle.spv_words.specs.declared.words.Order.{Order};
 ghost use Rattle.spv_words.specs.declared.words.WordError.TheVariants.{W1, W9};
 ghost use Rattle.spv_module.specs.Module.{plain_insts};
@@ -12,13 +12,13 @@ ghost use Rattle.spv_lines.specs.Text.{ShownLines};
 ghost use Rattle.spv_layout.specs.Place.{AreFew};
 ghost use Rattle.spv_rules.specs.Rules.{sentence_of};
 ghost use Rattle.spv_explain.specs.Lines as lines;
-ghost use Rattle.spv_explain.specs.Lines.{fault_text, malformed_text, refused_text};
+ghost use Rattle.spv_explain.specs.Lines.{fault_text, malformed_text, refused_by};
 ghost use Rattle.spv_explain.specs.Stream.{BeginsExplaining, Explains, IsExplanation};
 ghost use Rattle.spv_verdict.specs.declared.verdict_line.Judgment.TheVariants as judgments;
 
 use crate::explained::{Explained, explained_of};
 use spv_evidence::Evidence;
-use spv_fault_lines::{About, push_malformed};
+use spv_fault_lines::{About, Detail, Front, front_of, push_malformed, push_refused};
 use spv_inst::{listed_or_dead, one_death, one_listing};
 use spv_layout::laws::word_counts;
 use spv_lines::shown_reads_back;
@@ -26,7 +26,7 @@ use spv_module::{Fault, Module};
 use spv_rules::Code;
 use spv_table::{Memory, Table};
 use spv_verdict::{Judgment, line_for};
-use spv_words::{Image, Sink, Source, WordError, image_of, read_image, write_all};
+use spv_words::{Image, Sink, Source, WordError, image_from, image_of, read_octets, write_all};
 use std::alloc::{AllocError, Global};
 
 /// The verdict on the bytes of a module, and the lines that explain it.
@@ -57,10 +57,22 @@ fn rule_line(alloc: Global, code: Code) -> Result<String, AllocError>
     Ok(text)
 }
 
-/// The verdict of a fault, and its lines.
+/// The verdict of a valid module, which has no lines.
+fn valid_told(alloc: Global) -> Explanation
+    ensures verdict { result.judgment ≡ judgments.Valid }
+    ensures lines { string_bytes result.lines ≡ [] }
+{
+    Explanation {
+        judgment: Judgment::Valid,
+        lines: String::new(alloc),
+    }
+}
+
+/// The verdict of a fault, and its lines in short or in full.
 fn broken_told(
     alloc: Global,
     table: &Table,
+    detail: Detail,
     module: &Module<'_>,
     fault: Fault,
     evidence: Evidence,
@@ -68,12 +80,13 @@ fn broken_told(
     requires few { AreFew (plain_insts «module».now) }
     ensures verdict { IfOk result (λ t. t.judgment ≡ judgments.Broken fault) }
     ensures lines { (shown : List (List ℕ)) → ShownLines table.now [] (plain_insts «module».now) shown
-        → IfOk result (λ t. string_bytes t.lines ≡ fault_text table.now «module».now.header.bound
+        → IfOk result (λ t. string_bytes t.lines ≡ fault_text detail table.now «module».now.header.bound
         (plain_insts «module».now) shown fault.rule fault.inst evidence) }
 {
     let about = About {
         alloc,
         table,
+        detail,
         module,
     };
     let facts = about.facts_of(fault.rule, fault.inst, evidence)?;
@@ -89,17 +102,18 @@ fn broken_told(
 fn malformed_told(
     alloc: Global,
     table: &Table,
+    detail: Detail,
     image: &Image,
     fault: Fault,
     evidence: Evidence,
 ) -> Result<Explanation, AllocError>
     ensures verdict { IfOk result (λ t. t.judgment ≡ judgments.Broken fault) }
-    ensures lines { IfOk result (λ t. string_bytes t.lines ≡ malformed_text table.now (drop 5 image.now)
+    ensures lines { IfOk result (λ t. string_bytes t.lines ≡ malformed_text detail table.now (drop 5 image.now)
         fault.rule fault.inst (fault.word - 5) evidence) }
 {
     let mut lines = rule_line(alloc, Code::Rule(fault.rule))?;
     push_malformed(
-        &mut lines, alloc, table, image, fault.inst, fault.word, evidence,
+        &mut lines, alloc, table, detail, image, fault.inst, fault.word, evidence,
     )?;
     Ok(Explanation {
         judgment: Judgment::Broken(fault),
@@ -108,9 +122,14 @@ fn malformed_told(
 }
 
 /// The lines that tell what the words of an image come to.
-fn told_by(alloc: Global, table: &Table, image: &Image) -> Result<Explanation, AllocError>
+fn told_by(
+    alloc: Global,
+    table: &Table,
+    detail: Detail,
+    image: &Image,
+) -> Result<Explanation, AllocError>
     ensures { (bytes : List ℕ) (order : Order) → IsModule order bytes image.now
-        → IfOk result (λ t. IsExplanation table.now bytes t) }
+        → IfOk result (λ t. IsExplanation detail table.now bytes t) }
 {
     spv_words::laws::one_word_list();
     spv_words::laws::one_refusal();
@@ -121,70 +140,93 @@ fn told_by(alloc: Global, table: &Table, image: &Image) -> Result<Explanation, A
     word_counts();
     let _words = image.len();
     match explained_of(alloc, table, image) {
-        Ok(Explained::Valid(_)) => Ok(Explanation {
-            judgment: Judgment::Valid,
-            lines: String::new(alloc),
-        }),
+        Ok(Explained::Valid(_)) => Ok(valid_told(alloc)),
         Ok(
             Explained::Malformed {
                 fault,
                 evidence,
                 ..
             },
-        ) => malformed_told(alloc, table, image, fault, evidence),
+        ) => malformed_told(alloc, table, detail, image, fault, evidence),
         Ok(
             Explained::Broken {
                 fault,
                 evidence,
                 module,
             },
-        ) => broken_told(alloc, table, &module, fault, evidence),
+        ) => broken_told(alloc, table, detail, &module, fault, evidence),
         Err(_) => Err(AllocError),
     }
 }
 
-/// The verdict of bytes that are no words of a module, and its lines.
-fn refused_told(alloc: Global, code: WordError) -> Result<Explanation, AllocError>
+/// The verdict of bytes that are no words of a module, and its lines, by what stands in front of them.
+fn refused_told(alloc: Global, code: WordError, front: Front) -> Result<Explanation, AllocError>
     ensures verdict { IfOk result (λ t. t.judgment ≡ judgments.Refused code) }
-    ensures lines { IfOk result (λ t. string_bytes t.lines ≡ refused_text code) }
+    ensures lines { IfOk result (λ t. string_bytes t.lines ≡ refused_by code front) }
 {
+    let mut lines = rule_line(alloc, Code::Word(code))?;
+    push_refused(&mut lines, code, front)?;
     Ok(Explanation {
         judgment: Judgment::Refused(code),
-        lines: rule_line(alloc, Code::Word(code))?,
+        lines,
     })
 }
 
 /// The lines that tell bytes which gave no image. W1 and W9 are errors.
-fn refusal(alloc: Global, code: WordError) -> Result<Explanation, WordError>
+fn refusal(alloc: Global, code: WordError, front: Front) -> Result<Explanation, WordError>
     ensures refused { IfOk result (λ t. refusal_of code ≡ Ok t.judgment) }
-    ensures lines { IfOk result (λ t. string_bytes t.lines ≡ refused_text code) }
+    ensures lines { IfOk result (λ t. string_bytes t.lines ≡ refused_by code front) }
     ensures count { code ≡ W1 ↔ IsErrOf result W1 }
     ensures only { IfErr result (λ e. (e ≡ W1) ⊎ (e ≡ W9)) }
 {
     match code {
         WordError::W1 => Err(WordError::W1),
         WordError::W9 => Err(WordError::W9),
-        _ => match refused_told(alloc, code) {
+        _ => match refused_told(alloc, code, front) {
             Ok(told) => Ok(told),
             Err(_) => Err(WordError::W9),
         },
     }
 }
 
+/// The lines that tell the bytes of a whole stream.
+fn octets_told(
+    alloc: Global,
+    table: &Table,
+    detail: Detail,
+    octets: Vec<u8>,
+) -> Result<Explanation, WordError>
+    requires { vec_len octets ≤ greatest_size }
+    ensures told { IfOk result (λ t. IsExplanation detail table.now octets.items t) }
+    ensures only { IfErr result (λ e. e ≡ W9) }
+{
+    spv_words::laws::one_refusal();
+    let front = front_of(&octets);
+    let image = match image_from(octets) {
+        Ok((image, _)) => image,
+        Err(code) => return refusal(alloc, code, front),
+    };
+    match told_by(alloc, table, detail, &image) {
+        Ok(told) => Ok(told),
+        Err(_) => Err(WordError::W9),
+    }
+}
+
 /// The lines that tell all the bytes of a reader.
-fn told_on<R: Source>(alloc: Global, table: &Table, r: &mut R) -> Result<Explanation, WordError>
-    ensures known { IfSome (R.remaining r.old) (λ bytes. IfOk result (λ t. IsExplanation table.now bytes t)) }
+fn told_on<R: Source>(
+    alloc: Global,
+    table: &Table,
+    detail: Detail,
+    r: &mut R,
+) -> Result<Explanation, WordError>
+    ensures known { IfSome (R.remaining r.old) (λ bytes. IfOk result (λ t. IsExplanation detail table.now bytes t)) }
     ensures count { HasFailed R.failures r.old r.new ↔ IsErrOf result W1 }
     ensures only { IfErr result (λ e. (e ≡ W1) ⊎ (e ≡ W9)) }
 {
     spv_words::laws::one_refusal();
-    let image = match read_image(alloc, r) {
-        Ok((image, _)) => image,
-        Err(code) => return refusal(alloc, code),
-    };
-    match told_by(alloc, table, &image) {
-        Ok(told) => Ok(told),
-        Err(_) => Err(WordError::W9),
+    match read_octets(alloc, r) {
+        Ok(octets) => octets_told(alloc, table, detail, octets),
+        Err(code) => refusal(alloc, code, front_of(&[])),
     }
 }
 
@@ -212,7 +254,8 @@ impl Explanation {
 }
 
 /// Writes the verdict line of a reader's bytes up to the end of input, as `check_stream` does, and after the line of a
-/// fault further lines that explain it, each `KEY: TEXT`; and answers whether the line is `valid`.
+/// fault further lines that explain it, each `KEY: TEXT`; and answers whether the line is `valid`. `detail` tells how
+/// much is told where many opcodes may come.
 ///
 /// `W1`: a read or a write failed. After a failed read nothing was written, after a failed write a beginning of the
 /// lines. `W9`: a growth of memory was refused, and nothing was written. There is no other error: W2 to W8 are
@@ -220,12 +263,13 @@ impl Explanation {
 pub fn explain_stream<R: Source, W: Sink>(
     alloc: Global,
     table: &Table,
+    detail: Detail,
     r: &mut R,
     w: &mut W,
 ) -> Result<bool, WordError>
     // The writer has got the verdict line of all the bytes that the reader still gave, and lines that explain it.
     ensures explained { OfKnown (R.remaining r.old) (W.contents w.old)
-        (λ bytes old. IfOk result (λ answer. Explains table.now bytes old (W.contents w.new) answer)) }
+        (λ bytes old. IfOk result (λ answer. Explains detail table.now bytes old (W.contents w.new) answer)) }
     // The answer is W1 exactly where a read or a write failed.
     ensures count { (HasFailed R.failures r.old r.new ⊎ HasFailed W.failures w.old w.new) ↔ IsErrOf result W1 }
     ensures only { IfErr result (λ e. (e ≡ W1) ⊎ (e ≡ W9)) }
@@ -235,9 +279,9 @@ pub fn explain_stream<R: Source, W: Sink>(
     // After a failed write it has got a beginning of the lines.
     ensures begun { HasFailed W.failures w.old w.new
         → OfKnown (R.remaining r.old) (W.contents w.old)
-        (λ bytes old. BeginsExplaining table.now bytes old (W.contents w.new)) }
+        (λ bytes old. BeginsExplaining detail table.now bytes old (W.contents w.new)) }
 {
-    let told = told_on(alloc, table, r)?;
+    let told = told_on(alloc, table, detail, r)?;
     let bytes = match told.bytes(alloc) {
         Ok(bytes) => bytes,
         Err(_) => return Err(WordError::W9),
@@ -250,19 +294,24 @@ pub fn explain_stream<R: Source, W: Sink>(
 /// them.
 ///
 /// The bytes are copied once. `Memory` comes only where a growth of memory was refused.
-pub fn explain_bytes(alloc: Global, table: &Table, bytes: &[u8]) -> Result<Explanation, Memory>
+pub fn explain_bytes(
+    alloc: Global,
+    table: &Table,
+    detail: Detail,
+    bytes: &[u8],
+) -> Result<Explanation, Memory>
     // The verdict is that of the bytes, and the lines explain it.
-    ensures { IfOk result (λ e. IsExplanation table.now bytes.now e) }
+    ensures { IfOk result (λ e. IsExplanation detail table.now bytes.now e) }
 {
     spv_words::laws::one_refusal();
     let image = match image_of(alloc, bytes) {
         Ok((image, _)) => image,
-        Err(code) => match refusal(alloc, code) {
+        Err(code) => match refusal(alloc, code, front_of(bytes)) {
             Ok(told) => return Ok(told),
             Err(_) => return Err(Memory),
         },
     };
-    match told_by(alloc, table, &image) {
+    match told_by(alloc, table, detail, &image) {
         Ok(told) => Ok(told),
         Err(_) => Err(Memory),
     }

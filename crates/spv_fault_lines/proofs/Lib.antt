@@ -2,5 +2,8 @@ pub mod Escapes
 pub mod Hex
 pub mod Joined
 mod Malformed
+pub mod Opcodes
 pub mod Parts
+pub mod Placed
 pub mod Steps
+pub mod Told

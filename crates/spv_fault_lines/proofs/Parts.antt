@@ -23,9 +23,9 @@ parts is n evidence.NoEntry = refl
 parts is n (evidence.Entry part) = refl
 parts is n (evidence.Condition c k m wanted found types) = refl
 parts is n (evidence.Mismatch s wanted found of) = refl
-parts is n (evidence.MissingParent b) = refl
-parts is n (evidence.NoPredecessor k) = refl
-parts is n (evidence.Twice k l) = refl
+parts is n (evidence.MissingParent b ps) = refl
+parts is n (evidence.NoPredecessor k ps) = refl
+parts is n (evidence.Twice k l ps) = refl
 parts is n (evidence.Walk k m blocks) = refl
 parts is n (evidence.Cycle calls cycle) = refl
 

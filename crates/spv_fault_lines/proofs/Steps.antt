@@ -7,7 +7,7 @@ use Rattle.std.specs.Prelude.{if◌then◌else◌}
 use Rattle.spv_table.specs.Lookups.{is_number}
 use Rattle.spv_module.specs.Operand.{PlainInst, result_in}
 use Rattle.spv_fault_lines.specs.declared.fact.Place.{Place}
-use Rattle.spv_fault_lines.specs.Place.{entered, left_by, place_from}
+use Rattle.spv_fault_lines.specs.Place.{entered, left_by, open_from}
 use Rattle.spv_fault_lines.specs.Facts.{definition_from, is_told, thing_at, thing_of, type_facts}
 use Rattle.spv_fault_lines.specs.Lines.{result_of}
 use Rattle.spv_fault_lines.specs.inner.Parts.{kept}
@@ -34,20 +34,23 @@ piece_step f xs k x out more goal e m g =
     let d = ap (λ z. out ++ flat_map f z) (drop_step xs k x e) in
     ap (λ z. z ++ flat_map f (drop (k + 1) xs)) m ∙ (append_assoc out (f x) (flat_map f (drop (k + 1) xs)) ∙ (sym d ∙ g))
 
--- the place of an instruction, from those before it
-pub place_step : (is : List PlainInst) (n at : ℕ) (p : Place) (i : PlainInst) → slice_get is at ≡ Some i → at < n
-    → place_from at p (drop at is) (n - at) ≡ place_from (at + 1) (left_by i.opcode (entered at i.opcode p)) (drop (at + 1) is) (n - (at + 1))
-place_step is n at p i e l =
+-- what is open before an instruction, from those before it
+pub open_step : (is : List PlainInst) (n at : ℕ) (p : Place) (i : PlainInst) → slice_get is at ≡ Some i → at < n
+    → open_from at p (drop at is) (n - at) ≡ open_from (at + 1) (left_by i.opcode (entered at i.opcode p)) (drop (at + 1) is) (n - (at + 1))
+open_step is n at p i e l =
     let s : n - at ≡ suc (n - (at + 1)) = omega (arith, l) in
-    ap (λ z. place_from at p z (n - at)) (drop_step is at i e) ∙ ap (λ z. place_from at p (i ∷ drop (at + 1) is) z) s
+    ap (λ z. open_from at p z (n - at)) (drop_step is at i e) ∙ ap (λ z. open_from at p (i ∷ drop (at + 1) is) z) s
 
-pub place_none : (is : List PlainInst) (n at : ℕ) (p : Place) → slice_get is at ≡ None → place_from at p (drop at is) (n - at) ≡ p
-place_none is n at p e = ap (λ z. place_from at p z (n - at)) (drop_none is at e)
+pub open_none : (is : List PlainInst) (n at : ℕ) (p : Place) → slice_get is at ≡ None → open_from at p (drop at is) (n - at) ≡ p
+open_none is n at p e = ap (λ z. open_from at p z (n - at)) (drop_none is at e)
 
-pub place_last : (is : List PlainInst) (n : ℕ) (p : Place) (i : PlainInst) → slice_get is n ≡ Some i → place_from n p (drop n is) (n - n) ≡ entered n i.opcode p
-place_last is n p i e =
-    let s : n - n ≡ 0 = omega arith in
-    ap (λ z. place_from n p z (n - n)) (drop_step is n i e) ∙ ap (λ z. place_from n p (i ∷ drop (n + 1) is) z) s
+-- nothing is left to go
+stays : (at : ℕ) (p : Place) (is : List PlainInst) → open_from at p is 0 ≡ p
+stays at p [] = refl
+stays at p (i ∷ is) = refl
+
+pub open_last : (is : List PlainInst) (n at : ℕ) (p : Place) → n ≤ at → open_from at p (drop at is) (n - at) ≡ p
+open_last is n at p l = let s : n - at ≡ 0 = omega (arith, l) in ap (λ z. open_from at p (drop at is) z) s ∙ stays at p (drop at is)
 
 -- a definition, from one instruction on
 pub definition_step : (x at : ℕ) (is : List PlainInst) (i : PlainInst) → slice_get is at ≡ Some i

@@ -22,6 +22,8 @@ kind_text kind.Pointer = codes "its type is a pointer"
 kind_text kind.FunctionPointer = codes "its type is a pointer of the storage class Function"
 kind_text kind.GenericPointer = codes "its type is a pointer of the storage class Generic"
 kind_text kind.NamedPointer = codes "its type is a pointer of the storage class Workgroup, CrossWorkgroup or Function"
+kind_text kind.Vector = codes "its type is a vector"
+kind_text kind.Composite = codes "its type is a vector, a struct or an array"
 
 abbrev pub relation_text : Relation → List ℕ
 relation_text relation.Same = codes "its type is the one that is wanted"
@@ -33,13 +35,23 @@ relation_text relation.Chooses =
     codes "its type is bool, or a vector of as many bools as the wanted type, a vector, has components"
 relation_text relation.PointsTo = codes "its type is a pointer to the wanted one"
 relation_text relation.SamePointee = codes "its type and the wanted one are pointers to one type"
+relation_text relation.SameClass = codes "its type and the wanted one are pointers of one storage class"
 relation_text relation.VectorOf = codes "its type is a vector of the wanted one"
 relation_text relation.ComponentOf = codes "its type is the component type of the wanted one, a vector"
+relation_text relation.SameComponent = codes "its type is a vector of the same component type as the wanted one"
 
 abbrev pub condition_text : Condition → List ℕ
 condition_text (condition.Kind k) = kind_text k
 condition_text (condition.Relation r) = relation_text r
-condition_text condition.Row = codes "the types and literals are those of the opcode's row"
+condition_text condition.Weights = codes "there are no weights, or two"
+condition_text condition.StorageClass = codes "the storage class is that of the pointer"
+condition_text condition.ClassHere =
+    codes "in a function the storage class is Function, outside neither Function nor Generic"
+condition_text condition.Initializer = codes "the initializer is a constant or a variable outside functions"
+condition_text condition.InitializerType = codes "its type is the one that is pointed to"
+condition_text condition.Chosen =
+    codes "at a struct the index is an OpConstant, the number of a member; else the type before it has parts"
+condition_text condition.Leads = codes "its type is a pointer to the one that the indexes lead to"
 condition_text condition.IntWidth = codes "the width is 8, 16, 32 or 64"
 condition_text condition.Signedness = codes "the signedness is 0"
 condition_text condition.FloatWidth = codes "the width is 16, 32 or 64"
@@ -53,3 +65,12 @@ condition_text condition.Operands = codes "the operands are those of the opcode"
 condition_text condition.FitsWidth = codes "the number fits the width of its type"
 condition_text condition.Count = codes "there are as many constituents as the type has parts"
 condition_text condition.Constituent = codes "it is a constant or an OpUndef, of the type of the part at its place"
+condition_text condition.Indexes = codes "there is an index"
+condition_text condition.Within = codes "the index is that of a part of the type that the indexes before it lead to"
+condition_text condition.Reached = codes "its type is the one that the indexes lead to"
+condition_text condition.ComponentCount = codes "its type has as many components as there are literals"
+condition_text condition.Component = codes "the literal is the number of a component of the two vectors, or 4294967295"
+condition_text condition.Several = codes "there are two constituents or more"
+condition_text condition.Share = codes "its type is the wanted one, or a vector of it"
+condition_text condition.Filled = codes "the constituents have as many components together as its type, a vector"
+condition_text condition.Part = codes "its type is that of the part at its place"

@@ -1,11 +1,11 @@
 -- What the lines that explain a fault tell, in order: facts of its evidence, in numbers. (Own.)
 use Rattle.std.specs.Prelude.{◌++◌, ◌+◌, ℕ, List, [], ◌∷◌, Option, Some, None, Bool, true, false, nat_eq}
-use Rattle.std.specs.Prelude.{if◌then◌else◌}
+use Rattle.std.specs.Prelude.{if◌then◌else◌, slice_get}
 use Rattle.std.specs.List.{list_any}
 use Rattle.spv_table.specs.Lookups.{is_number}
 use Rattle.spv_module.specs.Operand.{PlainInst, result_in}
 use Rattle.spv_module.specs.declared.fault.Rule.{Rule}
-use Rattle.spv_module.specs.declared.fault.Rule.TheVariants.{D1, L2}
+use Rattle.spv_module.specs.declared.fault.Rule.TheVariants.{D1, L1, L2}
 use Rattle.spv_evidence.specs.declared.condition.Condition.{Condition}
 use Rattle.spv_evidence.specs.declared.evidence.Evidence.{Evidence}
 use Rattle.spv_evidence.specs.declared.evidence.Evidence.TheVariants as evidence
@@ -18,7 +18,7 @@ use Rattle.spv_fault_lines.specs.declared.fact.Fact.TheVariants as fact
 use Rattle.spv_fault_lines.specs.declared.fact.Place.{Place}
 use Rattle.spv_fault_lines.specs.declared.fact.Thing.{Thing}
 use Rattle.spv_fault_lines.specs.declared.fact.Thing.TheVariants as thing
-use Rattle.spv_fault_lines.specs.Place.{place_of}
+use Rattle.spv_fault_lines.specs.Place.{comes_early, open_before, place_of}
 
 -- the first instruction whose result is x, if the first of these has this number
 abbrev pub definition_from : ℕ → ℕ → List PlainInst → Option ℕ
@@ -90,7 +90,7 @@ lister_facts n l = []
 abbrev pub evidence_facts : List PlainInst → ℕ → Evidence → List Fact
 evidence_facts is n (evidence.Opcode opcode) = fact.Opcode opcode ∷ []
 evidence_facts is n (evidence.Due opcode k kind) = fact.Opcode opcode ∷ fact.Failing k ∷ fact.Due kind ∷ []
-evidence_facts is n (evidence.Shape opcode known) = fact.Opcode opcode ∷ fact.Row known ∷ []
+evidence_facts is n (evidence.Shape opcode known) = fact.Opcode opcode ∷ fact.Row opcode ∷ []
 evidence_facts is n (evidence.MayCome opcodes end) = fact.MayCome opcodes end ∷ []
 evidence_facts is n (evidence.Operand k) = fact.Operand n k ∷ []
 evidence_facts is n (evidence.Earlier m) = fact.Earlier m ∷ []
@@ -105,9 +105,9 @@ evidence_facts is n (evidence.Condition c k m wanted found types) =
     failing_facts n c k m ++ (type_facts is [] types ++ compared_facts is wanted found)
 evidence_facts is n (evidence.Mismatch s wanted found of) = fact.Differs s ∷ asked_facts is of
     ++ (fact.Wanted (side_thing is s wanted) ∷ fact.Found (side_thing is s found) ∷ [])
-evidence_facts is n (evidence.MissingParent b) = fact.MissingParent b ∷ []
-evidence_facts is n (evidence.NoPredecessor k) = fact.NoPredecessor n k ∷ []
-evidence_facts is n (evidence.Twice k l) = fact.Twice n l ∷ []
+evidence_facts is n (evidence.MissingParent b ps) = fact.MissingParent b ∷ fact.Predecessors ps ∷ []
+evidence_facts is n (evidence.NoPredecessor k ps) = fact.NoPredecessor n k ∷ fact.Predecessors ps ∷ []
+evidence_facts is n (evidence.Twice k l ps) = fact.Twice n l ∷ fact.Predecessors ps ∷ []
 evidence_facts is n (evidence.Walk k m blocks) = fact.Operand n k ∷ fact.Defined m ∷ fact.Walk blocks ∷ []
 evidence_facts is n (evidence.Cycle calls cycle) = fact.Calls calls ∷ fact.Cycle cycle ∷ []
 
@@ -122,7 +122,17 @@ in_facts p = place_fact p.function (fact.In p)
 abbrev pub open_facts : Place → List Fact
 open_facts p = place_fact p.function (fact.Open p)
 
--- L2 is told at the end of a module, and D1 of an id that is 0 or not below the bound
+-- of an instruction that comes too early, that what is open before it has no end
+abbrev pub early_facts : Option PlainInst → Place → List Fact
+early_facts None p = []
+early_facts (Some i) p = if comes_early i.opcode p then fact.Unended p ∷ [] else []
+
+-- L1 is told of an instruction that may not come at its place, L2 at the end of a module, and D1 of an id that is 0 or
+-- not below the bound
+abbrev pub tells_order : Rule → Bool
+tells_order L1 = true
+tells_order r = false
+
 abbrev pub tells_end : Rule → Bool
 tells_end L2 = true
 tells_end r = false
@@ -135,10 +145,12 @@ tells_bound r = false
 abbrev pub first_facts : List PlainInst → Rule → ℕ → List Fact
 first_facts is r n = if tells_end r then [] else fact.At n ∷ in_facts (place_of is n)
 
--- what comes last: where a module ends too early, what is open; where an id is not below the bound, the bound
+-- what comes last: where a module ends too early, what is open; where an id is not below the bound, the bound; where an
+-- instruction comes too early, what has no end
 abbrev pub last_facts : ℕ → List PlainInst → Rule → ℕ → List Fact
 last_facts bound is r n = if tells_end r then open_facts (place_of is n)
-    else (if tells_bound r then fact.Bound bound ∷ [] else [])
+    else (if tells_bound r then fact.Bound bound ∷ []
+    else (if tells_order r then early_facts (slice_get is n) (open_before is n) else []))
 
 -- Of a rule that is broken at instruction n, under the bound of ids, with its evidence.
 abbrev pub facts_of : ℕ → List PlainInst → Rule → ℕ → Evidence → List Fact

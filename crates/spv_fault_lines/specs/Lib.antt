@@ -1,7 +1,10 @@
+pub mod Classes
 pub mod Conditions
 pub mod Facts
 pub mod Lines
 pub mod Place
 pub mod Plain
+pub mod Refused
+pub mod Shapes
 pub mod Words
 pub mod inner

@@ -1,7 +1,7 @@
 -- The text of the lines that explain a fault, each `KEY: TEXT`. (Own.)
 use Rattle.std.specs.Prelude.{◌≡◌, ◌++◌, ◌-◌, ℕ, List, [], ◌∷◌, Option, Some, None, Bool, true, false, codes}
-use Rattle.std.specs.Prelude.{decimal, drop, flat_map, length, nat_eq, nat_lt, option_and_then, option_map, slice_get}
-use Rattle.std.specs.Prelude.{unwrap_or, if◌then◌else◌}
+use Rattle.std.specs.Prelude.{decimal, drop, flat_map, length, nat_eq, nat_le, nat_lt, option_and_then, option_map}
+use Rattle.std.specs.Prelude.{slice_get, unwrap_or, if◌then◌else◌}
 use Rattle.spv_table.specs.Table.{Table, entry_of, enumerant_of, kind_of}
 use Rattle.spv_table.specs.Lookups.{number_named}
 use Rattle.spv_module.specs.Operand.{Plain, OfType, Result, Id, Word, Value, Mask, PlainInst, result_in}
@@ -9,21 +9,23 @@ use Rattle.spv_module.specs.declared.opcode.TheConstants.{TYPE_INT, TYPE_FLOAT, 
 use Rattle.spv_lines.specs.Digits.{hex_digits}
 use Rattle.spv_lines.specs.Operand.{id_text}
 use Rattle.spv_lines.specs.Text.{inst_line}
-use Rattle.spv_layout.specs.declared.form.Role.{Role}
-use Rattle.spv_layout.specs.declared.form.Role.TheVariants as role
 use Rattle.spv_evidence.specs.declared.evidence.EntryPart.{EntryPart}
 use Rattle.spv_evidence.specs.declared.evidence.EntryPart.TheVariants as part
 use Rattle.spv_evidence.specs.declared.evidence.Lister.{Lister}
 use Rattle.spv_evidence.specs.declared.evidence.Lister.TheVariants as lister
 use Rattle.spv_evidence.specs.declared.evidence.Side.{Side}
 use Rattle.spv_evidence.specs.declared.evidence.Side.TheVariants as side
+use Rattle.spv_fault_lines.specs.declared.fact.Detail.{Detail}
+use Rattle.spv_fault_lines.specs.declared.fact.Detail.TheVariants as detail
 use Rattle.spv_fault_lines.specs.declared.fact.Fact.{Fact}
 use Rattle.spv_fault_lines.specs.declared.fact.Fact.TheVariants as fact
 use Rattle.spv_fault_lines.specs.declared.fact.Place.{Place}
 use Rattle.spv_fault_lines.specs.declared.fact.Thing.{Thing}
 use Rattle.spv_fault_lines.specs.declared.fact.Thing.TheVariants as thing
+use Rattle.spv_fault_lines.specs.Classes.{classes_text}
 use Rattle.spv_fault_lines.specs.Conditions.{condition_text}
 use Rattle.spv_fault_lines.specs.Plain.{plain_of}
+use Rattle.spv_fault_lines.specs.Shapes.{role_text, row_text}
 
 -- after a space: an id, as ` %17`, or a number, or a name
 abbrev pub id_part : ℕ → List ℕ
@@ -122,23 +124,32 @@ abbrev pub end_part : Bool → List ℕ
 end_part true = codes " end of module"
 end_part false = []
 
-abbrev pub may_come_text : Table → List ℕ → Bool → List ℕ
-may_come_text G opcodes end = codes "may come:" ++ flat_map (may_come_part G) opcodes ++ end_part end
+-- the names of opcodes, and that the module may end
+abbrev pub names_text : Table → List ℕ → Bool → List ℕ
+names_text G opcodes end = flat_map (may_come_part G) opcodes ++ end_part end
+
+-- are opcodes that may come told by their names: in short, if there are eight at most
+abbrev pub tells_names : Detail → List ℕ → Bool
+tells_names detail.Short opcodes = nat_le (length opcodes) 8
+tells_names detail.Full opcodes = true
+
+-- `may come: OpLabel OpFunctionEnd`, or `may come: a type or constant; OpFunction`
+abbrev pub may_come_text : Detail → Table → List ℕ → Bool → List ℕ
+may_come_text d G opcodes end =
+    codes "may come:" ++ (if tells_names d opcodes then names_text G opcodes end else classes_text opcodes end)
+
+-- `missing: the end of block %11`, or of the function where no block is open
+abbrev pub unended_by : List PlainInst → Option ℕ → Option ℕ → List ℕ
+unended_by is function (Some block) = codes "missing: the end of block" ++ result_part is block
+unended_by is function None = codes "missing: the end of function" ++ function_part is function
+
+abbrev pub unended_text : List PlainInst → Place → List ℕ
+unended_text is p = unended_by is p.function p.block
 
 -- the name of a kind, its number, or `nothing`
 abbrev pub due_text : Table → Option ℕ → List ℕ
 due_text G None = codes "nothing"
 due_text G (Some k) = unwrap_or (option_map (λ s. s.kind.name) (kind_of G k)) (decimal k)
-
-abbrev pub role_text : Role → List ℕ
-role_text role.OfType = codes "type"
-role_text role.Value = codes "value"
-role_text role.Function = codes "function"
-role_text role.Text = codes "string"
-role_text role.Set = codes "set"
-role_text role.Label = codes "label"
-role_text role.Global = codes "global"
-role_text role.Any = codes "any"
 
 -- a capability: by the name of the grammar, or in decimal
 abbrev pub value_or_number : Table → Option ℕ → ℕ → List ℕ
@@ -226,10 +237,6 @@ thing_text lines (thing.Count n) = decimal n
 thing_text lines (thing.Inst n) = inst_line lines n
 thing_text lines (thing.Id x) = id_text x
 
-abbrev pub row_text : Bool → List ℕ
-row_text true = codes "row: other operands"
-row_text false = codes "row: none"
-
 -- words, in eight hexadecimal digits each; `..` for others before or after them
 abbrev pub word_part : ℕ → List ℕ
 word_part w = codes " " ++ hex_digits 8 w
@@ -246,46 +253,48 @@ abbrev pub word_value : Option ℕ → List ℕ
 word_value None = []
 word_value (Some w) = codes ", 0x" ++ hex_digits 8 w
 
--- What is told, before control characters are escaped and without a line feed: under the table, of these instructions
--- and their shown lines.
-abbrev pub raw_of : Table → List PlainInst → List (List ℕ) → Fact → List ℕ
-raw_of G is lines (fact.At n) = keyed (codes "at") (inst_line lines n)
-raw_of G is lines (fact.In p) = place_text is (codes "in") p
-raw_of G is lines (fact.Open p) = place_text is (codes "open") p
-raw_of G is lines (fact.Words before words after) = words_text before words after
-raw_of G is lines (fact.Word k w) = keyed (codes "word") (decimal k ++ word_value w)
-raw_of G is lines (fact.Opcode opcode) = opcode_text G opcode
-raw_of G is lines (fact.Row known) = row_text known
-raw_of G is lines (fact.MayCome opcodes end) = may_come_text G opcodes end
-raw_of G is lines (fact.Operand n k) = operand_text G is n k
-raw_of G is lines (fact.Failing k) = keyed (codes "operand") (decimal k)
-raw_of G is lines (fact.Due kind) = keyed (codes "due") (due_text G kind)
-raw_of G is lines (fact.Bound bound) = keyed (codes "bound") (decimal bound)
-raw_of G is lines (fact.Defined n) = inst_text lines (codes "defined") n
-raw_of G is lines (fact.LocalTo f) = results_text is (codes "local to") (f ∷ [])
-raw_of G is lines (fact.Role r) = keyed (codes "role") (role_text r)
-raw_of G is lines (fact.Earlier n) = inst_text lines (codes "earlier") n
-raw_of G is lines (fact.Capability c implied) = keyed (capability_key implied) (capability_name G c)
-raw_of G is lines (fact.Bit n k bit) = keyed (codes "bit") (bit_name G (operand_at is n k) bit)
-raw_of G is lines (fact.NeedsOneOf n l) = codes "needs one of:" ++ needed_part G (slice_get is n) l
-raw_of G is lines fact.NoEntry = codes "missing: OpEntryPoint"
-raw_of G is lines (fact.Part part) = entry_part_text lines part
-raw_of G is lines (fact.Condition c) = keyed (codes "condition") (condition_text c)
-raw_of G is lines (fact.Type t) = keyed (codes "type") (thing_text lines t)
-raw_of G is lines (fact.Differs s) = side_text s
-raw_of G is lines (fact.Wanted t) = keyed (codes "wanted") (thing_text lines t)
-raw_of G is lines (fact.Found t) = keyed (codes "found") (thing_text lines t)
-raw_of G is lines (fact.MissingParent b) = results_text is (codes "missing parent") (b ∷ [])
-raw_of G is lines (fact.NoPredecessor n k) = codes "no predecessor:" ++ operand_part G (operand_at is n k)
-raw_of G is lines (fact.Twice n k) = codes "twice:" ++ operand_part G (operand_at is n k)
-raw_of G is lines (fact.Walk blocks) = results_text is (codes "walk") blocks
-raw_of G is lines (fact.Calls functions) = results_text is (codes "calls") functions
-raw_of G is lines (fact.Cycle functions) = cycle_text is functions
+-- What is told, in short or in full, before control characters are escaped and without a line feed: under the table, of
+-- these instructions and their shown lines.
+abbrev pub raw_of : Detail → Table → List PlainInst → List (List ℕ) → Fact → List ℕ
+raw_of d G is lines (fact.At n) = keyed (codes "at") (inst_line lines n)
+raw_of d G is lines (fact.In p) = place_text is (codes "in") p
+raw_of d G is lines (fact.Open p) = place_text is (codes "open") p
+raw_of d G is lines (fact.Words before words after) = words_text before words after
+raw_of d G is lines (fact.Word k w) = keyed (codes "word") (decimal k ++ word_value w)
+raw_of d G is lines (fact.Opcode opcode) = opcode_text G opcode
+raw_of d G is lines (fact.Row opcode) = row_text opcode
+raw_of d G is lines (fact.MayCome opcodes end) = may_come_text d G opcodes end
+raw_of d G is lines (fact.Unended p) = unended_text is p
+raw_of d G is lines (fact.Operand n k) = operand_text G is n k
+raw_of d G is lines (fact.Failing k) = keyed (codes "operand") (decimal k)
+raw_of d G is lines (fact.Due kind) = keyed (codes "due") (due_text G kind)
+raw_of d G is lines (fact.Bound bound) = keyed (codes "bound") (decimal bound)
+raw_of d G is lines (fact.Defined n) = inst_text lines (codes "defined") n
+raw_of d G is lines (fact.LocalTo f) = results_text is (codes "local to") (f ∷ [])
+raw_of d G is lines (fact.Role r) = keyed (codes "role") (role_text r)
+raw_of d G is lines (fact.Earlier n) = inst_text lines (codes "earlier") n
+raw_of d G is lines (fact.Capability c implied) = keyed (capability_key implied) (capability_name G c)
+raw_of d G is lines (fact.Bit n k bit) = keyed (codes "bit") (bit_name G (operand_at is n k) bit)
+raw_of d G is lines (fact.NeedsOneOf n l) = codes "needs one of:" ++ needed_part G (slice_get is n) l
+raw_of d G is lines fact.NoEntry = codes "missing: OpEntryPoint"
+raw_of d G is lines (fact.Part part) = entry_part_text lines part
+raw_of d G is lines (fact.Condition c) = keyed (codes "condition") (condition_text c)
+raw_of d G is lines (fact.Type t) = keyed (codes "type") (thing_text lines t)
+raw_of d G is lines (fact.Differs s) = side_text s
+raw_of d G is lines (fact.Wanted t) = keyed (codes "wanted") (thing_text lines t)
+raw_of d G is lines (fact.Found t) = keyed (codes "found") (thing_text lines t)
+raw_of d G is lines (fact.MissingParent b) = results_text is (codes "missing parent") (b ∷ [])
+raw_of d G is lines (fact.NoPredecessor n k) = codes "no predecessor:" ++ operand_part G (operand_at is n k)
+raw_of d G is lines (fact.Twice n k) = codes "twice:" ++ operand_part G (operand_at is n k)
+raw_of d G is lines (fact.Predecessors blocks) = results_text is (codes "predecessors") blocks
+raw_of d G is lines (fact.Walk blocks) = results_text is (codes "walk") blocks
+raw_of d G is lines (fact.Calls functions) = results_text is (codes "calls") functions
+raw_of d G is lines (fact.Cycle functions) = cycle_text is functions
 
 -- the line of a fact
-abbrev pub line_of : Table → List PlainInst → List (List ℕ) → Fact → List ℕ
-line_of G is lines f = plain_of (raw_of G is lines f) ++ (10 ∷ [])
+abbrev pub line_of : Detail → Table → List PlainInst → List (List ℕ) → Fact → List ℕ
+line_of d G is lines f = plain_of (raw_of d G is lines f) ++ (10 ∷ [])
 
 -- the lines of facts, in order
-abbrev pub text_of : Table → List PlainInst → List (List ℕ) → List Fact → List ℕ
-text_of G is lines facts = flat_map (line_of G is lines) facts
+abbrev pub text_of : Detail → Table → List PlainInst → List (List ℕ) → List Fact → List ℕ
+text_of d G is lines facts = flat_map (line_of d G is lines) facts

@@ -8,6 +8,7 @@ ghost use Rattle.spv_fault_lines.specs.Lines as lines;
 ghost use Rattle.spv_fault_lines.specs.Lines.{capability_name, id_part, may_come_part, name_part, number_part};
 ghost use Rattle.spv_fault_lines.specs.Lines.{opcode_part, operand_at, operand_part, result_part, value_text};
 
+use crate::fact::Detail;
 use itoa::Buffer;
 use spv_module::{Inst, Module, Operand};
 use spv_printer::show_inst;
@@ -21,6 +22,8 @@ pub struct About<'m, 'a> {
     pub alloc: Global,
     /// The table of the grammar.
     pub table: &'m Table,
+    /// How much is told.
+    pub detail: Detail,
     /// The module.
     pub module: &'m Module<'a>,
 }

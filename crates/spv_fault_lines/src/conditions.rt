@@ -23,6 +23,8 @@ fn kind_words(kind: Kind) -> &'static str
         Kind::NamedPointer => {
             "its type is a pointer of the storage class Workgroup, CrossWorkgroup or Function"
         }
+        Kind::Vector => "its type is a vector",
+        Kind::Composite => "its type is a vector, a struct or an array",
     }
 }
 
@@ -42,8 +44,12 @@ fn relation_words(relation: Relation) -> &'static str
         }
         Relation::PointsTo => "its type is a pointer to the wanted one",
         Relation::SamePointee => "its type and the wanted one are pointers to one type",
+        Relation::SameClass => "its type and the wanted one are pointers of one storage class",
         Relation::VectorOf => "its type is a vector of the wanted one",
         Relation::ComponentOf => "its type is the component type of the wanted one, a vector",
+        Relation::SameComponent => {
+            "its type is a vector of the same component type as the wanted one"
+        }
     }
 }
 
@@ -55,7 +61,17 @@ pub fn condition_words(condition: Condition) -> &'static str
     match condition {
         Condition::Kind(kind) => kind_words(kind),
         Condition::Relation(relation) => relation_words(relation),
-        Condition::Row => "the types and literals are those of the opcode's row",
+        Condition::Weights => "there are no weights, or two",
+        Condition::StorageClass => "the storage class is that of the pointer",
+        Condition::ClassHere => {
+            "in a function the storage class is Function, outside neither Function nor Generic"
+        }
+        Condition::Initializer => "the initializer is a constant or a variable outside functions",
+        Condition::InitializerType => "its type is the one that is pointed to",
+        Condition::Chosen => {
+            "at a struct the index is an OpConstant, the number of a member; else the type before it has parts"
+        }
+        Condition::Leads => "its type is a pointer to the one that the indexes lead to",
         Condition::IntWidth => "the width is 8, 16, 32 or 64",
         Condition::Signedness => "the signedness is 0",
         Condition::FloatWidth => "the width is 16, 32 or 64",
@@ -71,5 +87,19 @@ pub fn condition_words(condition: Condition) -> &'static str
         Condition::Constituent => {
             "it is a constant or an OpUndef, of the type of the part at its place"
         }
+        Condition::Indexes => "there is an index",
+        Condition::Within => {
+            "the index is that of a part of the type that the indexes before it lead to"
+        }
+        Condition::Reached => "its type is the one that the indexes lead to",
+        Condition::ComponentCount => "its type has as many components as there are literals",
+        Condition::Component => {
+            "the literal is the number of a component of the two vectors, or 4294967295"
+        }
+        Condition::Several => "there are two constituents or more",
+        Condition::Share => "its type is the wanted one, or a vector of it",
+        Condition::Filled =>
+            "the constituents have as many components together as its type, a vector",
+        Condition::Part => "its type is that of the part at its place",
     }
 }

@@ -3,6 +3,15 @@
 use spv_evidence::{Condition, EntryPart, Lister, Role, Side};
 use spv_table::Listed;
 
+/// How much the lines tell of opcodes that may come.
+#[derive(Clone, Copy, Debug, PartialEq, Eq)]
+pub enum Detail {
+    /// The names of the opcodes where there are at most eight, and else their classes in words.
+    Short,
+    /// The names of all.
+    Full,
+}
+
 /// The function and the block that are open at a place of a module, by the numbers of their OpFunction and OpLabel.
 #[derive(Clone, Copy)]
 pub struct Place {
@@ -54,14 +63,18 @@ pub enum Fact {
     Opcode {
         opcode: u16,
     },
-    /// `row`: whether the opcode has a row in the table of shapes.
+    /// `row`: the operands that an opcode's row in the table of shapes asks for, or that it has none.
     Row {
-        known: bool,
+        opcode: u16,
     },
     /// `may come`: the opcodes that may come, and whether the module may end.
     MayCome {
         opcodes: Listed<u32>,
         end: bool,
+    },
+    /// `missing`: the end of the block, or of the function, that is open before an instruction.
+    Unended {
+        place: Place,
     },
     /// `operand`: an operand of an instruction.
     Operand {
@@ -151,6 +164,10 @@ pub enum Fact {
     Twice {
         inst: u32,
         operand: u32,
+    },
+    /// `predecessors`: all predecessors of a block.
+    Predecessors {
+        blocks: Listed<u32>,
     },
     /// `walk`: the blocks of a walk.
     Walk {

@@ -1,6 +1,6 @@
 //! The facts of evidence.
-ghost use Rattle.std.specs.Prelude.{◌≡◌, ◌++◌, [], ◌∷◌, IfOk, OnOk};
-ghost use Rattle.spv_module.specs.Module.{plain_insts};
+ghost use Rattle.std.specs.Prelude.{◌≡◌, ◌++◌, [], ◌∷◌, option_map, IfOk, OnOk};
+ghost use Rattle.spv_module.specs.Module.{plain_inst, plain_insts};
 ghost use Rattle.spv_layout.specs.Place.{AreFew};
 ghost use Rattle.spv_fault_lines.specs.Facts as lists;
 ghost use Rattle.spv_fault_lines.specs.inner.Parts as parts;
@@ -8,8 +8,9 @@ ghost use Rattle.spv_fault_lines.specs.declared.fact.Fact.TheVariants as kinds;
 
 use crate::about::About;
 use crate::fact::{Fact, Place};
-use spv_evidence::{Condition, Evidence, Lister};
-use spv_module::Rule;
+use crate::place::comes_early;
+use spv_evidence::{Condition, Evidence, Listed, Lister};
+use spv_module::{Inst, Rule};
 use std::alloc::AllocError;
 
 /// Adds a fact.
@@ -39,6 +40,13 @@ fn push_three(
 {
     push_two(facts, first, second)?;
     push_one(facts, third)
+}
+
+/// Adds what is wrong of the parents of an OpPhi, and all predecessors of its block.
+fn push_parents(facts: &mut Vec<Fact>, wrong: Fact, blocks: Listed<u32>) -> Result<(), AllocError>
+    ensures { OnOk result (facts.new.items ≡ facts.old.items ++ (wrong ∷ kinds.Predecessors blocks ∷ [])) }
+{
+    push_two(facts, wrong, Fact::Predecessors { blocks })
 }
 
 /// Adds what lists capabilities, and those.
@@ -166,10 +174,10 @@ fn push_form_facts(facts: &mut Vec<Fact>, inst: u32, evidence: &Evidence) -> Res
             Fact::Failing { operand: *operand },
             Fact::Due { kind: *kind },
         ),
-        Evidence::Shape { opcode, known } => push_two(
+        Evidence::Shape { opcode, .. } => push_two(
             facts,
             Fact::Opcode { opcode: *opcode },
-            Fact::Row { known: *known },
+            Fact::Row { opcode: *opcode },
         ),
         Evidence::Capability {
             capability,
@@ -206,6 +214,31 @@ fn push_in(facts: &mut Vec<Fact>, place: Place) -> Result<(), AllocError>
         Some(_) => push_one(facts, Fact::In { place }),
         None => Ok(()),
     }
+}
+
+/// Adds that what is open before an instruction has no end, if the instruction comes too early.
+fn push_early(
+    facts: &mut Vec<Fact>,
+    inst: Option<&Inst<'_>>,
+    place: Place,
+) -> Result<(), AllocError>
+    ensures { OnOk result (facts.new.items ≡ facts.old.items ++ lists.early_facts
+        (option_map (λ i. plain_inst i.now) inst.entry) place) }
+{
+    let Some(inst) = inst else {
+        return Ok(());
+    };
+    if comes_early(inst.opcode, place) {
+        return push_one(facts, Fact::Unended { place });
+    }
+    Ok(())
+}
+
+/// Whether a rule is told of an instruction that may not come at its place.
+fn tells_order(rule: Rule) -> bool
+    ensures { result ≡ lists.tells_order rule }
+{
+    matches!(rule, Rule::L1)
 }
 
 /// Whether a rule is told at the end of a module.
@@ -332,18 +365,19 @@ impl<'m, 'a> About<'m, 'a> {
                     },
                 )
             }
-            Evidence::MissingParent { block } => push_one(facts, Fact::MissingParent { block }),
-            Evidence::NoPredecessor { operand } => push_one(
-                facts,
-                Fact::NoPredecessor { inst, operand },
-            ),
-            Evidence::Twice { second, .. } => push_one(
-                facts,
-                Fact::Twice {
-                    inst,
-                    operand: second,
-                },
-            ),
+            Evidence::MissingParent {
+                block,
+                predecessors,
+            } => push_parents(facts, Fact::MissingParent { block }, predecessors),
+            Evidence::NoPredecessor {
+                operand,
+                predecessors,
+            } => push_parents(facts, Fact::NoPredecessor { inst, operand }, predecessors),
+            Evidence::Twice {
+                second: operand,
+                predecessors,
+                ..
+            } => push_parents(facts, Fact::Twice { inst, operand }, predecessors),
             Evidence::Walk {
                 operand,
                 inst: place,
@@ -393,7 +427,7 @@ impl<'m, 'a> About<'m, 'a> {
     }
 
     /// Adds what comes last: where a module ends too early, what is open; where an id is not below the bound, the
-    /// bound.
+    /// bound; where an instruction comes too early, what has no end.
     fn push_last(&self, facts: &mut Vec<Fact>, rule: Rule, inst: u32) -> Result<(), AllocError>
         ensures { OnOk result (facts.new.items ≡ facts.old.items ++ lists.last_facts
             self.now.«module».now.header.bound (plain_insts self.now.«module».now) rule inst) }
@@ -404,6 +438,9 @@ impl<'m, 'a> About<'m, 'a> {
         if tells_bound(rule) {
             let bound = self.module.header.bound;
             return push_one(facts, Fact::Bound { bound });
+        }
+        if tells_order(rule) {
+            return push_early(facts, self.inst(inst), self.open_before(inst));
         }
         Ok(())
     }

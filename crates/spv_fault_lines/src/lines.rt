@@ -12,30 +12,16 @@ use crate::about::{
     About, push_capabilities, push_capability, push_id, push_names, push_number, push_opcode,
     push_opcodes, push_value,
 };
+use crate::classes::push_coming_classes;
 use crate::conditions::condition_words;
-use crate::fact::{Fact, Place, Thing};
+use crate::fact::{Detail, Fact, Place, Thing};
 use crate::needs::needs_of;
 use crate::plain::{push_hex, push_plain};
-use spv_evidence::{EntryPart, Lister, Role, Side};
+use crate::shapes::{push_row_of, role_name};
+use spv_evidence::{EntryPart, Lister, Side};
 use spv_module::{Inst, Operand};
 use spv_table::{NameList, Table};
 use std::alloc::AllocError;
-
-/// The name of a role.
-fn role_name(role: Role) -> &'static str
-    ensures { result.now ≡ lines.role_text role }
-{
-    match role {
-        Role::OfType => "type",
-        Role::Value => "value",
-        Role::Function => "function",
-        Role::Text => "string",
-        Role::Set => "set",
-        Role::Label => "label",
-        Role::Global => "global",
-        Role::Any => "any",
-    }
-}
 
 /// Adds a key and a text.
 fn push_keyed(out: &mut String, key: &str, text: &str) -> Result<(), AllocError>
@@ -64,17 +50,7 @@ fn push_opcode_text(out: &mut String, table: &Table, opcode: u16) -> Result<(), 
     push_opcode(out, table, opcode)
 }
 
-/// Adds whether an opcode has a row in the table of shapes.
-fn push_row(out: &mut String, known: bool) -> Result<(), AllocError>
-    ensures { OnOk result (string_bytes out.new ≡ string_bytes out.old ++ lines.row_text known) }
-{
-    if known {
-        return out.push_str("row: other operands");
-    }
-    out.push_str("row: none")
-}
-
-/// Adds whether the module may end.
+/// Adds whether the module may end, behind names.
 fn push_end(out: &mut String, end: bool) -> Result<(), AllocError>
     ensures { OnOk result (string_bytes out.new ≡ string_bytes out.old ++ lines.end_part end) }
 {
@@ -84,17 +60,26 @@ fn push_end(out: &mut String, end: bool) -> Result<(), AllocError>
     Ok(())
 }
 
-/// Adds the opcodes that may come, by their names in the grammar, and whether the module may end.
-fn push_may_come(
+/// Whether the names of opcodes that may come are told.
+fn tells_names(detail: Detail, opcodes: &[u32]) -> bool
+    ensures { result ≡ lines.tells_names detail opcodes.now }
+{
+    match detail {
+        Detail::Short => opcodes.len() <= 8,
+        Detail::Full => true,
+    }
+}
+
+/// Adds the names of opcodes that may come, and whether the module may end.
+fn push_coming_names(
     out: &mut String,
     table: &Table,
     opcodes: &[u32],
     end: bool,
 ) -> Result<(), AllocError>
-    ensures { OnOk result (string_bytes out.new ≡ string_bytes out.old ++ lines.may_come_text
+    ensures { OnOk result (string_bytes out.new ≡ string_bytes out.old ++ lines.names_text
         table.now opcodes.now end) }
 {
-    out.push_str("may come:")?;
     push_opcodes(out, table, opcodes)?;
     push_end(out, end)
 }
@@ -282,6 +267,17 @@ impl<'m, 'a> About<'m, 'a> {
         self.push_inst(out, inst)
     }
 
+    /// Adds the result of an instruction, if there is one.
+    fn push_function(&self, out: &mut String, inst: Option<u32>) -> Result<(), AllocError>
+        ensures { OnOk result (string_bytes out.new ≡ string_bytes out.old ++ lines.function_part
+            (plain_insts self.now.«module».now) inst) }
+    {
+        match inst {
+            Some(inst) => self.push_result(out, inst),
+            None => Ok(()),
+        }
+    }
+
     /// Adds a key, a function and a block.
     fn push_place(&self, out: &mut String, key: &str, place: Place) -> Result<(), AllocError>
         ensures { OnOk result (string_bytes out.new ≡ string_bytes out.old ++ lines.place_text
@@ -289,10 +285,54 @@ impl<'m, 'a> About<'m, 'a> {
     {
         out.push_str(key)?;
         out.push_str(": function")?;
-        if let Some(function) = place.function {
-            self.push_result(out, function)?;
-        }
+        self.push_function(out, place.function)?;
         self.push_block(out, place.block)
+    }
+
+    /// Adds the opcodes that may come, by their names in the grammar or by their classes, and whether the module may
+    /// end.
+    fn push_may_come(&self, out: &mut String, opcodes: &[u32], end: bool) -> Result<(), AllocError>
+        ensures { OnOk result (string_bytes out.new ≡ string_bytes out.old ++ lines.may_come_text self.now.detail
+            self.now.table.now opcodes.now end) }
+    {
+        out.push_str("may come:")?;
+        if tells_names(self.detail, opcodes) {
+            return push_coming_names(out, self.table, opcodes, end);
+        }
+        push_coming_classes(out, self.alloc, opcodes, end)
+    }
+
+    /// Adds that a block has no end.
+    fn push_unended_block(&self, out: &mut String, block: u32) -> Result<(), AllocError>
+        ensures { OnOk result (string_bytes out.new ≡ string_bytes out.old ++ (codes "missing: the end of block"
+            ++ lines.result_part (plain_insts self.now.«module».now) block)) }
+    {
+        out.push_str("missing: the end of block")?;
+        self.push_result(out, block)
+    }
+
+    /// Adds that a function has no end.
+    fn push_unended_function(
+        &self,
+        out: &mut String,
+        function: Option<u32>,
+    ) -> Result<(), AllocError>
+        ensures { OnOk result (string_bytes out.new ≡ string_bytes out.old ++ (codes "missing: the end of function"
+            ++ lines.function_part (plain_insts self.now.«module».now) function)) }
+    {
+        out.push_str("missing: the end of function")?;
+        self.push_function(out, function)
+    }
+
+    /// Adds that what is open before an instruction has no end.
+    fn push_unended(&self, out: &mut String, place: Place) -> Result<(), AllocError>
+        ensures { OnOk result (string_bytes out.new ≡ string_bytes out.old ++ lines.unended_text
+            (plain_insts self.now.«module».now) place) }
+    {
+        match place.block {
+            Some(block) => self.push_unended_block(out, block),
+            None => self.push_unended_function(out, place.function),
+        }
     }
 
     /// Adds the number of an operand of an instruction, and what stands there.
@@ -405,7 +445,7 @@ impl<'m, 'a> About<'m, 'a> {
     /// Adds what a fact tells, with control characters as they are and without a line feed.
     fn push_raw(&self, out: &mut String, fact: &Fact) -> Result<(), AllocError>
         ensures { (shown : List (List ℕ)) → ShownLines self.now.table.now [] (plain_insts self.now.«module».now) shown
-            → OnOk result (string_bytes out.new ≡ string_bytes out.old ++ raw_of self.now.table.now
+            → OnOk result (string_bytes out.new ≡ string_bytes out.old ++ raw_of self.now.detail self.now.table.now
             (plain_insts self.now.«module».now) shown fact.now) }
     {
         match fact {
@@ -419,13 +459,9 @@ impl<'m, 'a> About<'m, 'a> {
             } => push_words(out, *before, words.as_slice(), *after),
             Fact::Word { offset, word } => push_failing(out, *offset, *word),
             Fact::Opcode { opcode } => push_opcode_text(out, self.table, *opcode),
-            Fact::Row { known } => push_row(out, *known),
-            Fact::MayCome { opcodes, end } => push_may_come(
-                out,
-                self.table,
-                opcodes.as_slice(),
-                *end,
-            ),
+            Fact::Row { opcode } => push_row_of(out, *opcode),
+            Fact::MayCome { opcodes, end } => self.push_may_come(out, opcodes.as_slice(), *end),
+            Fact::Unended { place } => self.push_unended(out, *place),
             Fact::Operand { inst, operand } => self.push_operand_text(out, *inst, *operand),
             Fact::Failing { operand } => push_keyed_number(out, "operand", *operand),
             Fact::Due { kind } => push_due(out, self.table, *kind),
@@ -458,6 +494,11 @@ impl<'m, 'a> About<'m, 'a> {
             ),
             Fact::NoPredecessor { inst, operand } => self.push_no_predecessor(out, *inst, *operand),
             Fact::Twice { inst, operand } => self.push_twice(out, *inst, *operand),
+            Fact::Predecessors { blocks } => self.push_keyed_results(
+                out,
+                "predecessors",
+                blocks.as_slice(),
+            ),
             Fact::Walk { blocks } => self.push_keyed_results(out, "walk", blocks.as_slice()),
             Fact::Calls { functions } => self.push_keyed_results(
                 out,
@@ -471,7 +512,7 @@ impl<'m, 'a> About<'m, 'a> {
     /// Adds the line of a fact.
     pub fn push_line(&self, out: &mut String, fact: &Fact) -> Result<(), AllocError>
         ensures { (shown : List (List ℕ)) → ShownLines self.now.table.now [] (plain_insts self.now.«module».now) shown
-            → OnOk result (string_bytes out.new ≡ string_bytes out.old ++ line_of self.now.table.now
+            → OnOk result (string_bytes out.new ≡ string_bytes out.old ++ line_of self.now.detail self.now.table.now
             (plain_insts self.now.«module».now) shown fact.now) }
     {
         let mut raw = String::new(self.alloc);
@@ -485,7 +526,7 @@ impl<'m, 'a> About<'m, 'a> {
     /// An `AllocError` comes only where a growth of memory was refused.
     pub fn push_lines(&self, out: &mut String, facts: &[Fact]) -> Result<(), AllocError>
         ensures { (shown : List (List ℕ)) → ShownLines self.now.table.now [] (plain_insts self.now.«module».now) shown
-            → OnOk result (string_bytes out.new ≡ string_bytes out.old ++ text_of self.now.table.now
+            → OnOk result (string_bytes out.new ≡ string_bytes out.old ++ text_of self.now.detail self.now.table.now
             (plain_insts self.now.«module».now) shown facts.now) }
     {
         for fact in facts {

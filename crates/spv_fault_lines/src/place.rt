@@ -62,11 +62,23 @@ fn left_by(code: u16, place: Place) -> Place
     place
 }
 
+/// Whether an instruction of that opcode comes too early where a place is open before it.
+pub fn comes_early(code: u16, before: Place) -> bool
+    ensures { result ≡ places.comes_early code before }
+{
+    let ends_block = matches!(
+        code,
+        opcode::LABEL | opcode::FUNCTION | opcode::FUNCTION_END
+    );
+    (before.block.is_some() && ends_block)
+        || (before.function.is_some() && code == opcode::FUNCTION)
+}
+
 impl<'m, 'a> About<'m, 'a> {
-    /// The function and the block that an instruction is of; for the number after the last one those that are open at
-    /// the end of the module. Time is linear in the instructions before it.
-    pub fn place_of(&self, inst: u32) -> Place
-        ensures { result ≡ places.place_of (plain_insts self.now.«module».now) inst }
+    /// The function and the block that are open before an instruction; for the number after the last one those that
+    /// are open at the end of the module. Time is linear in the instructions before it.
+    pub fn open_before(&self, inst: u32) -> Place
+        ensures { result ≡ places.open_before (plain_insts self.now.«module».now) inst }
     {
         let mut before = Place {
             function: None,
@@ -78,6 +90,15 @@ impl<'m, 'a> About<'m, 'a> {
             };
             before = left_by(next.opcode, entered(at, next.opcode, before));
         }
+        before
+    }
+
+    /// The function and the block that an instruction is of; for the number after the last one those that are open at
+    /// the end of the module. Time is linear in the instructions before it.
+    pub fn place_of(&self, inst: u32) -> Place
+        ensures { result ≡ places.place_of (plain_insts self.now.«module».now) inst }
+    {
+        let before = self.open_before(inst);
         match self.inst(inst) {
             Some(last) => entered(inst, last.opcode, before),
             None => before,

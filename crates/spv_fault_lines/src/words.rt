@@ -9,7 +9,7 @@ ghost use Rattle.spv_fault_lines.specs.Words.{begin_of, words_fact};
 ghost use Rattle.spv_fault_lines.specs.declared.fact.Fact.TheVariants as kinds;
 
 use crate::about::About;
-use crate::fact::Fact;
+use crate::fact::{Detail, Fact};
 use crate::facts::push_one;
 use spv_evidence::Evidence;
 use spv_module::Module;
@@ -182,7 +182,8 @@ fn facts_of_words(
 /// Adds the lines of facts about a module that has no instructions.
 fn push_lone_lines(about: About<'_, '_>, out: &mut String, facts: &[Fact]) -> Result<(), AllocError>
     requires none { plain_insts about.«module».now ≡ [] }
-    ensures { OnOk result (string_bytes out.new ≡ string_bytes out.old ++ text_of about.entry.table.now [] [] facts.now) }
+    ensures { OnOk result (string_bytes out.new ≡ string_bytes out.old ++ text_of about.entry.detail
+        about.entry.table.now [] [] facts.now) }
 {
     about.push_lines(out, facts)
 }
@@ -195,18 +196,20 @@ pub fn push_malformed(
     out: &mut String,
     alloc: Global,
     table: &Table,
+    detail: Detail,
     image: &Image,
     inst: u32,
     place: u32,
     evidence: Evidence,
 ) -> Result<(), AllocError>
-    ensures { OnOk result (string_bytes out.new ≡ string_bytes out.old ++ text_of table.now [] []
+    ensures { OnOk result (string_bytes out.new ≡ string_bytes out.old ++ text_of detail table.now [] []
         (words.malformed_facts (drop 5 image.now) inst (place - 5) evidence)) }
 {
     let module = Module::new(alloc, image.header());
     let about = About {
         alloc,
         table,
+        detail,
         module: &module,
     };
     let facts = facts_of_words(about, image, inst, place, evidence)?;

@@ -142,7 +142,7 @@ pub fn show_inst(
     if at >= insts.len() {
         return Ok(out);
     }
-    let mut printer = Printer::new(alloc, table)?;
+    let mut printer = Printer::of_few(alloc, table);
     push_at(alloc, &mut printer, &mut out, table, insts, 0, at)?;
     Ok(out)
 }

@@ -59,6 +59,16 @@ impl Names {
         })
     }
 
+    /// Nothing was found yet. There are no places: to make them takes longer than to look for a few names.
+    pub fn of_few(alloc: Global) -> Names
+        ensures { (G : Table) → AreNames G result }
+    {
+        Names {
+            found: Vec::new(alloc),
+            others: BTreeMap::new(alloc),
+        }
+    }
+
     /// Whether it was found to be shown by a name, and has a place. False says nothing.
     #[inline(always)]
     pub fn has(&self, named: Named) -> bool

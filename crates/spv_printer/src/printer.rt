@@ -59,6 +59,19 @@ impl<'t> Printer<'t> {
         })
     }
 
+    /// Before the first instruction, where a few are to be shown.
+    pub fn of_few(alloc: Global, table: &'t Table) -> Printer<'t>
+        ensures ready { IsReady table.now result }
+        ensures knows { Knows result.definitions [] }
+    {
+        Printer {
+            forms: table.forms(),
+            definitions: Definitions::new(alloc),
+            names: Names::of_few(alloc),
+            pending: Pending::new(alloc),
+        }
+    }
+
     /// Adds the operands of an instruction by its pattern, each after a space, without the result, which stands in
     /// front. Where no words spell the operands, or memory runs out, nothing is said of what is left.
     fn push_operands(

@@ -21,7 +21,7 @@ id_facts n e = []
 abbrev pub form_facts : ℕ → Evidence → List Fact
 form_facts n (evidence.Opcode opcode) = fact.Opcode opcode ∷ []
 form_facts n (evidence.Due opcode k kind) = fact.Opcode opcode ∷ fact.Failing k ∷ fact.Due kind ∷ []
-form_facts n (evidence.Shape opcode known) = fact.Opcode opcode ∷ fact.Row known ∷ []
+form_facts n (evidence.Shape opcode known) = fact.Opcode opcode ∷ fact.Row opcode ∷ []
 form_facts n (evidence.Capability c implied) = fact.Capability c implied ∷ []
 form_facts n (evidence.Needs l) = lister_facts n l ++ (fact.NeedsOneOf n l ∷ [])
 form_facts n evidence.NoEntry = fact.NoEntry ∷ []
@@ -35,9 +35,9 @@ list_facts is n (evidence.Condition c k m wanted found types) =
     failing_facts n c k m ++ (type_facts is [] types ++ compared_facts is wanted found)
 list_facts is n (evidence.Mismatch s wanted found of) = fact.Differs s ∷ asked_facts is of
     ++ (fact.Wanted (side_thing is s wanted) ∷ fact.Found (side_thing is s found) ∷ [])
-list_facts is n (evidence.MissingParent b) = fact.MissingParent b ∷ []
-list_facts is n (evidence.NoPredecessor k) = fact.NoPredecessor n k ∷ []
-list_facts is n (evidence.Twice k l) = fact.Twice n l ∷ []
+list_facts is n (evidence.MissingParent b ps) = fact.MissingParent b ∷ fact.Predecessors ps ∷ []
+list_facts is n (evidence.NoPredecessor k ps) = fact.NoPredecessor n k ∷ fact.Predecessors ps ∷ []
+list_facts is n (evidence.Twice k l ps) = fact.Twice n l ∷ fact.Predecessors ps ∷ []
 list_facts is n (evidence.Walk k m blocks) = fact.Operand n k ∷ fact.Defined m ∷ fact.Walk blocks ∷ []
 list_facts is n (evidence.Cycle calls cycle) = fact.Calls calls ∷ fact.Cycle cycle ∷ []
 list_facts is n e = []

@@ -1,4 +1,4 @@
-use Rattle.std.proofs.Common.{◌≤◌, arith, drop, length-drop, refl, subst, rules}
+use Rattle.std.proofs.Common.{◌≤◌, arith, drop, length-drop, subst, rules}
 use Rattle.spv_module.specs.Module.{plain_insts}
 use Rattle.spv_verdict.proofs.Verdicts.{Laws}
 use Rattle.spv_explain.specs.inner.Reading.{IsReading}
@@ -17,7 +17,8 @@ returns-in-Ok-Valid c = λ bytes order h.
     } in
     let G = c.args.table.now in
     let words = c.args.image.now in
-    valid_told laws G bytes words order c.in-Ok-Valid.field-0-0 _ h (subst (λ r. IsReading G words r) c.in-Ok-Valid.field-0-is c.in-Ok-Valid.ensures) refl c.new.ensures.bytes
+    valid_told laws c.args.detail G bytes words order c.in-Ok-Valid.field-0-0 _ h (subst (λ r. IsReading G words r) c.in-Ok-Valid.field-0-is c.in-Ok-Valid.ensures)
+    c.valid_told.ensures.verdict c.valid_told.ensures.lines
 
 pub returns-in-Ok-Malformed : goal.returns-in-Ok-Malformed
 returns-in-Ok-Malformed c = λ bytes order h.
@@ -32,7 +33,7 @@ returns-in-Ok-Malformed c = λ bytes order h.
     let G = c.args.table.now in
     let words = c.args.image.now in
     let r = subst (λ r. IsReading G words r) c.in-Ok-Malformed.field-0-is c.in-Ok-Malformed.ensures in
-    dead_told laws G bytes words order c.in-Ok-Malformed.fault c.in-Ok-Malformed.evidence c.malformed_told.result h
+    dead_told laws c.args.detail G bytes words order c.in-Ok-Malformed.fault c.in-Ok-Malformed.evidence c.malformed_told.result h
     r.0 r.1 c.malformed_told.ensures.verdict c.malformed_told.ensures.lines
 
 pub broken_told-requires : goal.broken_told-requires
@@ -60,5 +61,5 @@ returns-in-Ok-Broken c = λ bytes order h.
     let m = c.in-Ok-Broken.module in
     let b = subst (λ r. IsReading G words r) c.in-Ok-Broken.field-0-is c.in-Ok-Broken.ensures in
     let t = (c.shown_reads_back.ensures.shown G m.header (plain_insts m) (drop 5 words) b.listing).1 in
-    broken_told laws G bytes words order c.in-Ok-Broken.fault c.in-Ok-Broken.evidence m t.lines c.broken_told.result h
+    broken_told laws c.args.detail G bytes words order c.in-Ok-Broken.fault c.in-Ok-Broken.evidence m t.lines c.broken_told.result h
     b t.shown c.broken_told.ensures.verdict (c.broken_told.ensures.lines t.lines t.shown)

@@ -1,0 +1,79 @@
+-- What the lines tell of bytes that are no words of a module. (Own.)
+use Rattle.std.specs.Prelude.{◌++◌, ◌+◌, ◌*◌, ◌/◌, ◌%◌, ◌&&◌, ℕ, List, [], ◌∷◌, Bool, codes, decimal, length}
+use Rattle.std.specs.Prelude.{nat_eq, nat_lt, slice_index, if◌then◌else◌}
+use Rattle.spv_words.specs.Header.{magic_number}
+use Rattle.spv_words.specs.Words.{word_of}
+use Rattle.spv_words.specs.declared.words.Order.{Order}
+use Rattle.spv_words.specs.declared.words.Order.TheVariants.{Little, Big}
+use Rattle.spv_words.specs.declared.words.WordError.{WordError}
+use Rattle.spv_words.specs.declared.words.WordError.TheVariants as code
+use Rattle.spv_lines.specs.Digits.{hex_digits}
+use Rattle.spv_fault_lines.specs.declared.refused.Front.{Front}
+use Rattle.spv_fault_lines.specs.Lines.{keyed}
+
+-- word n of bytes in an order [2.3]
+abbrev pub word_at : Order → List ℕ → ℕ → ℕ
+word_at o bytes n = word_of o (slice_index bytes (4 * n)) (slice_index bytes (4 * n + 1))
+    (slice_index bytes (4 * n + 2)) (slice_index bytes (4 * n + 3))
+
+-- the order in which the first word is the magic number; the lowest byte first where it is that in neither [2.3]
+abbrev pub order_of : List ℕ → Order
+order_of bytes = if nat_eq (word_at Big bytes 0) magic_number then Big else Little
+
+-- how many bytes there are, and what stands at the words of a header in that order [2.3]
+abbrev pub front_in : Order → List ℕ → Front
+front_in o bytes = record {
+  size = length bytes;
+  magic = word_at o bytes 0;
+  version = word_at o bytes 1;
+  bound = word_at o bytes 3;
+  schema = word_at o bytes 4;
+}
+
+abbrev pub front_of : List ℕ → Front
+front_of bytes = front_in (order_of bytes) bytes
+
+-- `found: TEXT` as a line
+abbrev pub found_line : List ℕ → List ℕ
+found_line text = keyed (codes "found") text ++ (10 ∷ [])
+
+-- `12 bytes`
+abbrev pub size_text : ℕ → List ℕ
+size_text n = decimal n ++ (if nat_eq n 1 then codes " byte" else codes " bytes")
+
+-- `0x464c457f`
+abbrev pub hex_text : ℕ → List ℕ
+hex_text w = codes "0x" ++ hex_digits 8 w
+
+-- the version word: 0, major number, minor number and 0, from its highest byte on [2.3]
+abbrev pub is_version : ℕ → Bool
+is_version w = nat_lt w 16777216 && nat_eq (w % 256) 0
+
+abbrev pub major_of : ℕ → ℕ
+major_of w = w / 65536
+
+abbrev pub minor_of : ℕ → ℕ
+minor_of w = w / 256 % 256
+
+-- `version 1.4`, or the word where it is no version
+abbrev pub version_text : ℕ → List ℕ
+version_text w =
+    if is_version w then codes "version " ++ decimal (major_of w) ++ codes "." ++ decimal (minor_of w) else hex_text w
+
+-- is it one of the versions 1.0 to 1.5
+abbrev pub is_earlier : ℕ → Bool
+is_earlier w = is_version w && (nat_eq (major_of w) 1 && nat_lt (minor_of w) 6)
+
+abbrev pub help_line : ℕ → List ℕ
+help_line w = if is_earlier w then codes "help: --as-1.6 reads it as a module of version 1.6\n" else []
+
+-- what is found in bytes that break a code: their number, the first word, the version, the schema, the bound
+abbrev pub found_lines : WordError → Front → List ℕ
+found_lines code.W2 f = found_line (size_text f.size)
+found_lines code.W3 f = found_line (size_text f.size)
+found_lines code.W4 f = found_line (hex_text f.magic)
+found_lines code.W5 f = found_line (version_text f.version) ++ help_line f.version
+found_lines code.W6 f = found_line (decimal f.schema)
+found_lines code.W7 f = found_line (decimal f.bound)
+found_lines code.W8 f = found_line (codes "more than 16777216 bytes")
+found_lines e f = []

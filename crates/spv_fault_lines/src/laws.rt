@@ -1,0 +1,40 @@
+//! Laws of the definitions, and worked examples. Each function does nothing: its contract is what is proved.
+
+ghost use Rattle.std.specs.Prelude.{◌≡◌, ◌<◌, ℕ, List, Some, None, codes, length, MatchOption};
+ghost use Rattle.spv_module.specs.Operand.{PlainInst};
+ghost use Rattle.spv_module.specs.declared.opcode.TheConstants as opcode;
+ghost use Rattle.spv_layout.specs.Layout.{IsLayout, classes};
+ghost use Rattle.spv_layout.specs.Place.{IsOfFunction, IsOfBlock};
+ghost use Rattle.spv_layout.specs.Example.{small_function};
+ghost use Rattle.spv_fault_lines.specs.Place.{nowhere, place_of};
+ghost use Rattle.spv_fault_lines.specs.Shapes.{row_text};
+
+/// Where instructions are laid out as a module, the place that opcodes alone give is that of the layout: the function
+/// and the block that an instruction is of, and none where it is of none.
+pub fn places()
+    ensures function { (is : List PlainInst) (n : ℕ) → IsLayout (classes is) → n < length is
+        → MatchOption (place_of is n).function ((f : ℕ) → ¬ (IsOfFunction is n f)) (λ f. IsOfFunction is n f) }
+    ensures block { (is : List PlainInst) (n : ℕ) → IsLayout (classes is) → n < length is
+        → MatchOption (place_of is n).block ((b : ℕ) → ¬ (IsOfBlock is n b)) (λ b. IsOfBlock is n b) }
+{}
+
+/// A function with a block, and a line after it.
+pub fn place_examples()
+    // The OpReturn is of the function and of the block, and not of none.
+    ensures block { place_of small_function 3 ≡ record { function = Some 0; block = Some 1 } }
+    ensures not_nowhere { ¬ (place_of small_function 3 ≡ nowhere) }
+    // The OpFunctionEnd is of the function alone.
+    ensures end { place_of small_function 4 ≡ record { function = Some 0; block = None } }
+    // The line after it is of none.
+    ensures after { place_of small_function 5 ≡ nowhere }
+{}
+
+/// The operands that rows ask for, in words. OpTypeMatrix has no row.
+pub fn row_examples()
+    ensures load { row_text opcode.LOAD
+        ≡ codes "row: result type, result, value, MemoryAccess or nothing, any others" }
+    ensures phi { row_text opcode.PHI ≡ codes "row: result type, result, any number of: value, label" }
+    ensures bare { row_text opcode.RETURN ≡ codes "row: no operands" }
+    ensures unknown { row_text 24 ≡ codes "row: none" }
+    ensures not_other { ¬ (row_text opcode.RETURN ≡ codes "row: value") }
+{}
