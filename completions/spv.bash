@@ -7,8 +7,9 @@ _spv_commands="check explain show asm trace rules grammar help"
 _spv_options() {
     case $1 in
         "") echo "-h --help -V --version" ;;
-        check | explain)
-            echo "-h --help --as-1.6 --grammar -H --with-filename --no-filename --quiet --verbose"
+        check) echo "-h --help --as-1.6 --grammar -H --with-filename --no-filename --quiet --verbose" ;;
+        explain)
+            echo "-h --help --as-1.6 --full --grammar -H --with-filename --no-filename --quiet --verbose"
             ;;
         show) echo "-h --help --as-1.6 --grammar --verbose" ;;
         asm) echo "-h --help --big --grammar --out --verbose" ;;

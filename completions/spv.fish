@@ -30,6 +30,7 @@ complete -c spv -n '__fish_seen_subcommand_from check' -l verbose -d 'Say behind
 complete -c spv -n '__fish_seen_subcommand_from explain' -F
 complete -c spv -n '__fish_seen_subcommand_from explain' -l grammar -r -F -d 'A grammar file, in JSON'
 complete -c spv -n '__fish_seen_subcommand_from explain' -l as-1.6 -d 'Take a module of version 1.0 to 1.5 as one of 1.6'
+complete -c spv -n '__fish_seen_subcommand_from explain' -l full -d 'Name every opcode that may come'
 complete -c spv -n '__fish_seen_subcommand_from explain' -s H -l with-filename -d 'Write the name of a single file too'
 complete -c spv -n '__fish_seen_subcommand_from explain' -l no-filename -d 'Write no names before verdicts'
 complete -c spv -n '__fish_seen_subcommand_from explain' -l quiet -d 'Write no verdict'

@@ -22,7 +22,7 @@ use Rattle.spv_command_line.specs.declared.command_line.Task.{Task}
 use Rattle.spv_command_line.specs.declared.command_line.Task.TheVariants as tasks
 use Rattle.spv_command_line.specs.declared.command_line.UseError.{UseError}
 use Rattle.spv_command_line.specs.declared.command_line.UseError.TheVariants.{NoCommand, Memory, Help, Version}
-use Rattle.spv_command_line.specs.CommandLine.{Answers, IsAsked, IsCodeOf, IsCommandOf, IsFlag, IsJudge, IsNaming, IsNoCommand, IsRules, count_of, error_of, inputs_among, name_in, program, task_name, text_in, texts_in}
+use Rattle.spv_command_line.specs.CommandLine.{Answers, IsAsked, IsCodeOf, IsCommandOf, IsDetailed, IsFlag, IsJudge, IsNaming, IsNoCommand, IsRules, count_of, error_of, inputs_among, name_in, program, task_name, text_in, texts_in}
 use Rattle.spv_command_line.specs.inner.CommandLine.{IsAsmOf, IsGrammarOf, IsOfFiles, IsRulesOf, IsShowOf, IsTraceOf, naming_of}
 use Rattle.spv_rules.specs.Errors.{any_name}
 use Rattle.spv_rules.specs.Rules.{IsNamed}
@@ -77,15 +77,15 @@ rules_is_no_grammar = apart (codes "rules") (codes "grammar") 114 103 refl refl 
 -- the name of a task is no other
 show_is_no_task : (task : Task) → ¬ (codes "show" ≡ task_name task)
 show_is_no_task tasks.Check = apart (codes "show") (codes "check") 115 99 refl refl (omega arith)
-show_is_no_task tasks.Explain = apart (codes "show") (codes "explain") 115 101 refl refl (omega arith)
+show_is_no_task (tasks.Explain full) = apart (codes "show") (codes "explain") 115 101 refl refl (omega arith)
 
 task_is_no_asm : (task : Task) → ¬ (task_name task ≡ codes "asm")
 task_is_no_asm tasks.Check = apart (codes "check") (codes "asm") 99 97 refl refl (omega arith)
-task_is_no_asm tasks.Explain = apart (codes "explain") (codes "asm") 101 97 refl refl (omega arith)
+task_is_no_asm (tasks.Explain full) = apart (codes "explain") (codes "asm") 101 97 refl refl (omega arith)
 
 trace_is_no_task : (task : Task) → ¬ (codes "trace" ≡ task_name task)
 trace_is_no_task tasks.Check = apart (codes "trace") (codes "check") 116 99 refl refl (omega arith)
-trace_is_no_task tasks.Explain = apart (codes "trace") (codes "explain") 116 101 refl refl (omega arith)
+trace_is_no_task (tasks.Explain full) = apart (codes "trace") (codes "explain") 116 101 refl refl (omega arith)
 
 -- a command of files is neither of the others
 pub record IsOther (found : Option (Text × List Row)) : Type 0 where
@@ -104,7 +104,7 @@ of_files name n first r g =
 
 pub task_is_of_files : (task : Task) → IsOfFiles (task_name task)
 task_is_of_files tasks.Check = of_files (codes "check") 99 refl (λ e. omega (arith, e)) (λ e. omega (arith, e))
-task_is_of_files tasks.Explain = of_files (codes "explain") 101 refl (λ e. omega (arith, e)) (λ e. omega (arith, e))
+task_is_of_files (tasks.Explain full) = of_files (codes "explain") 101 refl (λ e. omega (arith, e)) (λ e. omega (arith, e))
 
 -- a name that differs is not asked for
 module _ (environment : Option Text) (found : Option (Text × List Row)) (name : Text) (grammar : Option Text) (files : Option (List Text)) where
@@ -201,15 +201,17 @@ not_named environment rows task g files e none = unjudged environment rows task 
 pub judge_met : (environment : Option Text) (rows : List Row) (task : Task) (g : Option Text) (all items : List (Bor Text)) (v : Bool) (n : Naming) (q : Bool)
     → IsAsked environment (Some (task_name task, rows)) (task_name task) g (map (λ f. f.now) all) → items ≡ all
     → IsTrue true ↔ ((1 ≤ length all) × (inputs_among (map (λ f. f.now) all) ≤ 1))
+    → IsDetailed (first_of (codes "full") rows) task
     → IsFlag (first_of (codes "as-1.6") rows) v
     → IsNaming (first_of (codes "with-filename") rows) (first_of (codes "no-filename") rows) n
     → IsFlag (first_of (codes "quiet") rows) q
     → IsJudge environment (Some (task_name task, rows)) task g (map (λ f. f.now) items) v n q
-judge_met environment rows task g all items v n q e i answer version names quiet =
+judge_met environment rows task g all items v n q e i answer detail version names quiet =
     let count = length-map all (λ (f : Bor Text). f.now) in
     let long = (answer.0 refl).0 in
     rw i (record {
       asked = e;
+      detail = detail;
       some = omega (arith, count, long);
       once = (answer.0 refl).1;
       version = version;
@@ -336,7 +338,7 @@ module _ (environment : Option Text) (found : Option (Text × List Row)) (name :
     where
       of_task : ((m : Text) (k : ℕ) → slice_index m 0 ≡ k → ¬ (n ≡ k) → ¬ (name ≡ m)) → (task : Task) → ¬ (name ≡ task_name task)
       of_task differs tasks.Check = differs (codes "check") 99 refl c
-      of_task differs tasks.Explain = differs (codes "explain") 101 refl x
+      of_task differs (tasks.Explain full) = differs (codes "explain") 101 refl x
 
 -- `rules` with its code, or none
 pub rules_met : (environment : Option Text) (found : Option (Text × List Row)) (name : Text) (rows : List Row) (r : Result Command UseError)

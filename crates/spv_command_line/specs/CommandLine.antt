@@ -67,11 +67,17 @@ with_filename_flag = record (flag (codes "with-filename")) { short = Some 72 }
 abbrev pub command : Text → List Rule → Shape
 command name rules = (fold with_rule (new_app name) rules).top
 
--- `NAME [--grammar G] FILE .. [--as-1.6] [--with-filename] [--no-filename] [--quiet] [--verbose]`
-abbrev pub judging_command : Text → Shape
-judging_command name = command name
-    (grammar_option ∷ files_word ∷ as_1_6_flag ∷ with_filename_flag ∷ flag (codes "no-filename")
-    ∷ flag (codes "quiet") ∷ verbose_flag ∷ [])
+-- `[--as-1.6] [--with-filename] [--no-filename] [--quiet] [--verbose]`
+abbrev pub judging_flags : List Rule
+judging_flags = as_1_6_flag ∷ with_filename_flag ∷ flag (codes "no-filename") ∷ flag (codes "quiet") ∷ verbose_flag ∷ []
+
+-- `check [--grammar G] FILE ..` with these flags
+abbrev pub check_command : Shape
+check_command = command (codes "check") (grammar_option ∷ files_word ∷ judging_flags)
+
+-- `explain [--grammar G] FILE .. [--full]` with these flags
+abbrev pub explain_command : Shape
+explain_command = command (codes "explain") (grammar_option ∷ files_word ∷ flag (codes "full") ∷ judging_flags)
 
 -- `show [--grammar G] FILE [--as-1.6] [--verbose]`
 abbrev pub show_command : Shape
@@ -105,8 +111,8 @@ bare_program = on_top (λ s. record s { no_binary_name = true; subcommand_requir
 -- all commands, of which one must be given
 abbrev pub program : App
 program = fold with_subcommand bare_program
-    (judging_command (codes "check") ∷ judging_command (codes "explain") ∷ show_command ∷ asm_command
-    ∷ trace_command ∷ rules_command ∷ grammar_command ∷ [])
+    (check_command ∷ explain_command ∷ show_command ∷ asm_command ∷ trace_command ∷ rules_command ∷ grammar_command
+    ∷ [])
 
 -- the name of the command, the path of its grammar file and its files, as `clap` reads them; without `--grammar` the
 -- grammar file is that of the environment, if it has one
@@ -159,7 +165,12 @@ pub record IsRules (found : Option (Text × List Row)) (code : Option AnyCode) :
 -- the command that does a task
 abbrev pub task_name : Task → Text
 task_name tasks.Check = codes "check"
-task_name tasks.Explain = codes "explain"
+task_name (tasks.Explain full) = codes "explain"
+
+-- the text of `--full` asks for a task in this detail; that of `check` is always the same
+abbrev pub IsDetailed : Option Text → Task → Type 0
+IsDetailed text tasks.Check = Unit {0}
+IsDetailed text (tasks.Explain full) = IsFlag text full
 
 -- how often a word stands among words
 abbrev pub count_of : Text → List Text → ℕ
@@ -173,6 +184,7 @@ inputs_among files = count_of (codes "-") files
 pub record IsJudge (environment : Option Text) (found : Option (Text × List Row)) (task : Task)
     (grammar : Option Text) (files : List Text) (as_1_6 : Bool) (naming : Naming) (quiet : Bool) : Type 0 where
   pub asked : IsAsked environment found (task_name task) grammar files
+  pub detail : IsDetailed (text_in (codes "full") found) task
   pub some : 1 ≤ length files
   pub once : inputs_among files ≤ 1
   pub version : IsFlag (text_in (codes "as-1.6") found) as_1_6

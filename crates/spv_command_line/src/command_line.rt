@@ -1,13 +1,13 @@
 //! The words of the command line, read by `clap`.
 ghost use Rattle.std.specs.Prelude.{◌≡◌, ◌≤◌, ◌↔◌, ◌∷◌, ℕ, List, [], codes, IfOk};
-ghost use Rattle.std.specs.Prelude.{IsTrue, MatchOption, map, option_map, Option, Some, length};
+ghost use Rattle.std.specs.Prelude.{IfSome, IsTrue, MatchOption, map, option_map, Option, Some, length};
 ghost use Rattle.std.specs.Str.{bytes_eq};
 ghost use Rattle.clap.specs.Words.{Text, first_of, found_of, rows_of, subcommand_rows_of};
 ghost use Rattle.spv_command_line.specs.declared.command_line.Command.{Command};
 ghost use Rattle.spv_command_line.specs.declared.command_line.Naming.{Naming};
 ghost use Rattle.spv_command_line.specs.declared.command_line.Task.{Task};
-ghost use Rattle.spv_command_line.specs.CommandLine.{Answers, AnswersTo, IsAsked, IsCommandOf, IsFlag, IsNaming};
-ghost use Rattle.spv_command_line.specs.CommandLine.{count_of, error_of, inputs_among, task_name};
+ghost use Rattle.spv_command_line.specs.CommandLine.{Answers, AnswersTo, IsAsked, IsCommandOf, IsDetailed, IsFlag};
+ghost use Rattle.spv_command_line.specs.CommandLine.{IsNaming, count_of, error_of, inputs_among, task_name};
 ghost use Rattle.spv_command_line.specs.inner.CommandLine.{IsAsmOf, IsGrammarOf, IsOfFiles, IsRulesOf, IsShowOf};
 ghost use Rattle.spv_command_line.specs.inner.CommandLine.{IsTraceOf, naming_of};
 ghost use Rattle.spv_command_line.specs.Number.{AreNumbersOf, IsNumberOf};
@@ -26,7 +26,10 @@ pub enum Task {
     /// The verdict on it, as `spv check`.
     Check,
     /// The verdict on it and what explains it, as `spv explain`.
-    Explain,
+    Explain {
+        /// Whether it is told with every name, as `--full` asks for.
+        full: bool,
+    },
 }
 
 /// Which verdicts have the name of their file before them.
@@ -41,9 +44,9 @@ pub enum Naming {
 }
 
 /// What the program is asked to do. A path of a grammar file that is None stands for the built-in grammar.
-#[derive(Debug, Drop, PartialEq, Eq)]
+#[derive(Drop)]
 pub enum Command<'a> {
-    /// `spv check [--grammar G] FILE ..`, or `spv explain`: a task on these modules, one after the other.
+    /// `spv check [--grammar G] FILE ..`, or `spv explain [--full]`: a task on these modules, one after the other.
     Judge {
         /// The task.
         task: Task,
@@ -327,13 +330,17 @@ fn one_file_command<'a>(
 }
 
 /// The task of the command of a name, if it is one on modules.
-fn task_named(name: &str) -> Option<Task>
-    ensures { MatchOption result ((task : Task) → ¬ (name.now ≡ task_name task))
+fn task_in(name: &str, found: &ArgMatches<'_>) -> Option<Task>
+    ensures named { MatchOption result ((task : Task) → ¬ (name.now ≡ task_name task))
         (λ task. name.now ≡ task_name task) }
+    ensures detailed { IfSome result (λ task.
+        IsDetailed (first_of (codes "full") (rows_of (found_of found.now))) task) }
 {
     match name {
         "check" => Some(Task::Check),
-        "explain" => Some(Task::Explain),
+        "explain" => Some(Task::Explain {
+            full: is_set(found, "full"),
+        }),
         _ => None,
     }
 }
@@ -373,6 +380,7 @@ fn judge_command<'a>(
     grammar: Option<&'a str>,
     files: &[&'a str],
 ) -> Result<Command<'a>, UseError>
+    requires { IsDetailed (first_of (codes "full") (rows_of (found_of found.now))) task }
     ensures { (environment : Option Text)
         → IsAsked environment (Some (task_name task, rows_of (found_of found.now))) (task_name task)
         (option_map (λ g. g.now) grammar.entry) (map (λ file. file.now) files.now)
@@ -409,7 +417,7 @@ fn command_on<'a>(
         (map (λ file. file.now) files.now)
         → IsCommandOf environment (Some (name.now, rows_of (found_of found.now))) result }
 {
-    if let Some(task) = task_named(name) {
+    if let Some(task) = task_in(name, found) {
         return judge_command(alloc, task, found, grammar, files);
     }
     if files.len() != 1 {

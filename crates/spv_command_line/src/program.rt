@@ -67,6 +67,14 @@ const NO_FILENAME: Argument = Argument {
     help: "Writes no `FILE: ` before the verdicts on several files",
 };
 
+const FULL: Argument = Argument {
+    name: "full",
+    form: Form::Flag,
+    value: "",
+    required: false,
+    help: "Writes the name of each opcode that may come; without it more than eight are told by their kinds",
+};
+
 const QUIET: Argument = Argument {
     name: "quiet",
     form: Form::Flag,
@@ -174,10 +182,22 @@ struct Entry {
     arguments: &'static [Argument],
 }
 
-/// What stands behind the names of `check` and `explain`.
-const JUDGING: &[Argument] = &[
+/// What stands behind the name of `check`.
+const CHECK: &[Argument] = &[
     GRAMMAR,
     MODULES,
+    AS_1_6,
+    WITH_FILENAME,
+    NO_FILENAME,
+    QUIET,
+    VERBOSE,
+];
+
+/// What stands behind the name of `explain`.
+const EXPLAIN: &[Argument] = &[
+    GRAMMAR,
+    MODULES,
+    FULL,
     AS_1_6,
     WITH_FILENAME,
     NO_FILENAME,
@@ -191,13 +211,13 @@ static COMMANDS: [Entry; 7] = [
         name: "check",
         about: "Writes the verdict on a module, or on each of several",
         notes: manual::CHECK,
-        arguments: JUDGING,
+        arguments: CHECK,
     },
     Entry {
         name: "explain",
         about: "Writes the verdict on a module, or on each of several, and what explains it",
         notes: manual::EXPLAIN,
-        arguments: JUDGING,
+        arguments: EXPLAIN,
     },
     Entry {
         name: "show",
@@ -302,17 +322,24 @@ fn program_of<'a>(alloc: Global, rows: &[Entry]) -> Result<clap::Command<'a>, Al
     Ok(program)
 }
 
+/// The table of the commands.
+fn commands() -> &'static [Entry]
+    ensures { with_commands bare_program result.now ≡ program }
+{
+    &COMMANDS
+}
+
 /// The whole command line.
 pub fn all_words<'a>(alloc: Global) -> Result<clap::Command<'a>, AllocError>
     ensures { IfOk result (λ c. app_of c ≡ program) }
 {
-    program_of(alloc, &COMMANDS)
+    program_of(alloc, commands())
 }
 
 /// The name of the command that the words begin with, if they begin with one.
 pub fn command_named(words: &[&str]) -> Option<&'static str> {
     let word = words.first()?;
-    for row in &COMMANDS {
+    for row in commands() {
         if row.name == *word {
             return Some(row.name);
         }

@@ -15,7 +15,8 @@ use Rattle.spv_explain.specs.Stream.{BeginsExplaining, Explains}
 use Rattle.spv_verdict.specs.Stream.{Begins, TellsVerdict}
 use Rattle.spv_verdict.specs.Verdict.{IsVerdict}
 use Rattle.spv_verdict.proofs.Verdicts.{refused_is_not_valid}
-use Rattle.spv_commands.specs.Task.{BeginsByText, BeginsGrammar, DoesByText, MakesNothing, ReadsNoFile, WritesGrammar, taken}
+use Rattle.spv_commands.specs.Task.{BeginsByText, BeginsGrammar, DoesByText, MakesNothing, ReadsNoFile, WritesGrammar, detail_of, taken}
+use Rattle.spv_fault_lines.specs.declared.fact.Detail.{Detail}
 use Rattle.spv_commands.specs.Trace.{BeginsTracing, Traces}
 use Rattle.spv_builtin.specs.Source.{IsTableOf}
 use Rattle.spv_builtin.specs.Text.{IsGrammarText}
@@ -27,33 +28,33 @@ short_shown G h = record { output = refused_line W2; showing = IsShowing.refused
 pub short_begun_showing : (G : Table) → IsFirstBroken W2 (1 ∷ 2 ∷ 3 ∷ []) → BeginsShowing G (1 ∷ 2 ∷ 3 ∷ []) (9 ∷ []) (Some (9 ∷ codes "fault"))
 short_begun_showing G h = record { output = refused_line W2; answer = false; showing = IsShowing.refused W2 h; count = 5; fits = lit≤ tt; written = refl }
 
-pub short_explained : (G : Table) → IsFirstBroken W2 (1 ∷ 2 ∷ 3 ∷ []) → ((o : Order) (ws : List ℕ) → ¬ (IsModule o (1 ∷ 2 ∷ 3 ∷ []) ws))
+pub short_explained : (G : Table) (detail : Detail) → IsFirstBroken W2 (1 ∷ 2 ∷ 3 ∷ []) → ((o : Order) (ws : List ℕ) → ¬ (IsModule o (1 ∷ 2 ∷ 3 ∷ []) ws))
     → ((e : WordError) → IsFirstBroken e (1 ∷ 2 ∷ 3 ∷ []) → e ≡ W2)
-    → Explains G (1 ∷ 2 ∷ 3 ∷ []) (9 ∷ []) (Some (9 ∷ codes "fault W2" ++ (line_end ++ refused_text W2))) false
-short_explained G h never once = record {
+    → Explains detail G (1 ∷ 2 ∷ 3 ∷ []) (9 ∷ []) (Some (9 ∷ codes "fault W2" ++ (line_end ++ refused_text W2 (1 ∷ 2 ∷ 3 ∷ [])))) false
+short_explained G detail h never once = record {
   line = refused_line W2;
-  lines = refused_text W2;
+  lines = refused_text W2 (1 ∷ 2 ∷ 3 ∷ []);
   verdict = IsVerdict.refused W2 h;
   explain = λ words order is r n m listing first stage. absurd (never order words m);
   dead = λ words order r n word m d. absurd (never order words m);
-  others = record { valid = λ e. absurd (refused_is_not_valid W2 e); refused = λ code f. ap refused_text (sym (once code f)) };
+  others = record { valid = λ e. absurd (refused_is_not_valid W2 e); refused = λ code f. ap (λ (c : WordError). refused_text c (1 ∷ 2 ∷ 3 ∷ [])) (sym (once code f)) };
   written = refl;
   answered = (λ t. cc, λ e. absurd (refused_is_not_valid W2 e));
 }
 
-pub short_begun_explaining : (G : Table) → IsFirstBroken W2 (1 ∷ 2 ∷ 3 ∷ []) → ((o : Order) (ws : List ℕ) → ¬ (IsModule o (1 ∷ 2 ∷ 3 ∷ []) ws))
+pub short_begun_explaining : (G : Table) (detail : Detail) → IsFirstBroken W2 (1 ∷ 2 ∷ 3 ∷ []) → ((o : Order) (ws : List ℕ) → ¬ (IsModule o (1 ∷ 2 ∷ 3 ∷ []) ws))
     → ((e : WordError) → IsFirstBroken e (1 ∷ 2 ∷ 3 ∷ []) → e ≡ W2)
-    → BeginsExplaining G (1 ∷ 2 ∷ 3 ∷ []) (9 ∷ []) (Some (9 ∷ codes "fault"))
-short_begun_explaining G h never once = record {
+    → BeginsExplaining detail G (1 ∷ 2 ∷ 3 ∷ []) (9 ∷ []) (Some (9 ∷ codes "fault"))
+short_begun_explaining G detail h never once = record {
   line = refused_line W2;
-  lines = refused_text W2;
+  lines = refused_text W2 (1 ∷ 2 ∷ 3 ∷ []);
   verdict = IsVerdict.refused W2 h;
   explain = λ words order is r n m listing first stage. absurd (never order words m);
   dead = λ words order r n word m d. absurd (never order words m);
-  others = record { valid = λ e. absurd (refused_is_not_valid W2 e); refused = λ code f. ap refused_text (sym (once code f)) };
+  others = record { valid = λ e. absurd (refused_is_not_valid W2 e); refused = λ code f. ap (λ (c : WordError). refused_text c (1 ∷ 2 ∷ 3 ∷ [])) (sym (once code f)) };
   count = 5;
   fits =
-      let l : length (refused_line W2 ++ refused_text W2) ≡ length (refused_line W2) + length (refused_text W2) = length-append (refused_line W2) (refused_text W2) in
+      let l : length (refused_line W2 ++ refused_text W2 (1 ∷ 2 ∷ 3 ∷ [])) ≡ length (refused_line W2) + length (refused_text W2 (1 ∷ 2 ∷ 3 ∷ [])) = length-append (refused_line W2) (refused_text W2 (1 ∷ 2 ∷ 3 ∷ [])) in
       let f : 5 ≤ length (refused_line W2) = lit≤ tt in
       omega (arith, l, f);
   written = refl;
@@ -76,14 +77,14 @@ module _ (P : List ℕ → Type 0) where
   as_taken as_1_6 h = subst P (sym (short_taken as_1_6)) h
 
 pub does_short : (c : Command) (G : Table) → ¬ (ReadsNoFile c) → MakesNothing c → IsTableOf (Some empty_grammar) G → TellsVerdict G (1 ∷ 2 ∷ 3 ∷ []) (9 ∷ []) (Some (9 ∷ codes "fault W2" ++ line_end)) false
-    → Explains G (1 ∷ 2 ∷ 3 ∷ []) (9 ∷ []) (Some (9 ∷ codes "fault W2" ++ (line_end ++ refused_text W2))) false
+    → ((detail : Detail) → Explains detail G (1 ∷ 2 ∷ 3 ∷ []) (9 ∷ []) (Some (9 ∷ codes "fault W2" ++ (line_end ++ refused_text W2 (1 ∷ 2 ∷ 3 ∷ [])))) false)
     → Shows G (1 ∷ 2 ∷ 3 ∷ []) (9 ∷ []) (Some (9 ∷ codes "fault W2" ++ line_end)) false
     → ((function : ℕ) (choices : List ℕ) (limit : ℕ) → Traces G function choices limit (1 ∷ 2 ∷ 3 ∷ []) (9 ∷ []) (Some (9 ∷ codes "fault W2" ++ line_end)) false)
     → DoesByText c (Some empty_grammar) (1 ∷ 2 ∷ 3 ∷ []) (Some (9 ∷ [])) (Some (9 ∷ answer_of c)) None None false
 does_short (Judge tasks.Check g fs v p q) G r n given tells explains shows traces =
     record { table = G; given = given; does = as_taken (λ bytes. TellsVerdict G bytes (9 ∷ []) (Some (9 ∷ codes "fault W2" ++ line_end)) false) v tells }
-does_short (Judge tasks.Explain g fs v p q) G r n given tells explains shows traces =
-    record { table = G; given = given; does = as_taken (λ bytes. Explains G bytes (9 ∷ []) (Some (9 ∷ codes "fault W2" ++ (line_end ++ refused_text W2))) false) v explains }
+does_short (Judge (tasks.Explain full) g fs v p q) G r n given tells explains shows traces =
+    record { table = G; given = given; does = as_taken (λ bytes. Explains (detail_of full) G bytes (9 ∷ []) (Some (9 ∷ codes "fault W2" ++ (line_end ++ refused_text W2 (1 ∷ 2 ∷ 3 ∷ [])))) false) v (explains (detail_of full)) }
 does_short (Show g f v) G r n given tells explains shows traces =
     record { table = G; given = given; does = as_taken (λ bytes. Shows G bytes (9 ∷ []) (Some (9 ∷ codes "fault W2" ++ line_end)) false) v shows }
 does_short (Asm g f o b) G r n given tells explains shows traces = absurd n
@@ -97,14 +98,14 @@ does_short (Rules code) G r n given tells explains shows traces = absurd (r tt)
 does_short (Grammar file) G r n given tells explains shows traces = absurd (r tt)
 
 pub begins_short : (c : Command) (G : Table) → ¬ (ReadsNoFile c) → MakesNothing c → IsTableOf (Some empty_grammar) G → Begins G (1 ∷ 2 ∷ 3 ∷ []) (9 ∷ []) (Some (9 ∷ codes "fault"))
-    → BeginsExplaining G (1 ∷ 2 ∷ 3 ∷ []) (9 ∷ []) (Some (9 ∷ codes "fault"))
+    → ((detail : Detail) → BeginsExplaining detail G (1 ∷ 2 ∷ 3 ∷ []) (9 ∷ []) (Some (9 ∷ codes "fault")))
     → BeginsShowing G (1 ∷ 2 ∷ 3 ∷ []) (9 ∷ []) (Some (9 ∷ codes "fault"))
     → ((function : ℕ) (choices : List ℕ) (limit : ℕ) → BeginsTracing G function choices limit (1 ∷ 2 ∷ 3 ∷ []) (9 ∷ []) (Some (9 ∷ codes "fault")))
     → BeginsByText c (Some empty_grammar) (1 ∷ 2 ∷ 3 ∷ []) (Some (9 ∷ [])) (Some (9 ∷ codes "fault")) None None
 begins_short (Judge tasks.Check g fs v p q) G r n given begins explained shown traced =
     record { table = G; given = given; begins = as_taken (λ bytes. Begins G bytes (9 ∷ []) (Some (9 ∷ codes "fault"))) v begins }
-begins_short (Judge tasks.Explain g fs v p q) G r n given begins explained shown traced =
-    record { table = G; given = given; begins = as_taken (λ bytes. BeginsExplaining G bytes (9 ∷ []) (Some (9 ∷ codes "fault"))) v explained }
+begins_short (Judge (tasks.Explain full) g fs v p q) G r n given begins explained shown traced =
+    record { table = G; given = given; begins = as_taken (λ bytes. BeginsExplaining (detail_of full) G bytes (9 ∷ []) (Some (9 ∷ codes "fault"))) v (explained (detail_of full)) }
 begins_short (Show g f v) G r n given begins explained shown traced =
     record { table = G; given = given; begins = as_taken (λ bytes. BeginsShowing G bytes (9 ∷ []) (Some (9 ∷ codes "fault"))) v shown }
 begins_short (Asm g f o b) G r n given begins explained shown traced = absurd n

@@ -1,5 +1,5 @@
 -- A grammar file and streams for the worked examples.
-use Rattle.std.specs.Prelude.{◌++◌, ℕ, List, [], Some, codes}
+use Rattle.std.specs.Prelude.{◌++◌, ◌∷◌, ℕ, List, [], Some, codes}
 use Rattle.spv_words.specs.declared.words.WordError.TheVariants.{W2}
 use Rattle.spv_verdict.specs.Verdict.{line_end}
 use Rattle.spv_explain.specs.Lines.{refused_text}
@@ -19,8 +19,9 @@ reader_of bytes = reading (λ (left : List ℕ). Some left) (λ left. 0) bytes [
 abbrev pub writer_of : List ℕ → Writing
 writer_of bytes = writing (λ (held : List ℕ). Some held) (λ held. 0) [] bytes
 
--- what a command writes of bytes that are no module by W2: the line of the fault, and where it explains, what the code
--- says
+-- what a command writes of three bytes, which are no module by W2: the line of the fault, and where it explains, what
+-- the code says and what is found
 abbrev pub answer_of : Command → List ℕ
-answer_of (Judge tasks.Explain grammar files as_1_6 naming quiet) = codes "fault W2" ++ (line_end ++ refused_text W2)
+answer_of (Judge (tasks.Explain full) grammar files as_1_6 naming quiet) =
+    codes "fault W2" ++ (line_end ++ refused_text W2 (1 ∷ 2 ∷ 3 ∷ []))
 answer_of _ = codes "fault W2" ++ line_end

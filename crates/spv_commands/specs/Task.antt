@@ -14,6 +14,8 @@ use Rattle.spv_commands.specs.Trace.{BeginsTracing, HasNoEntry, Traces}
 use Rattle.spv_words.specs.Version.{as_1_6 as version_1_6}
 use Rattle.spv_verdict.specs.Stream.{Begins, TellsVerdict}
 use Rattle.spv_explain.specs.Stream.{BeginsExplaining, Explains}
+use Rattle.spv_fault_lines.specs.declared.fact.Detail.{Detail}
+use Rattle.spv_fault_lines.specs.declared.fact.Detail.TheVariants.{Short, Full}
 use Rattle.spv_commands.specs.Trouble.{BeginsWith}
 
 -- the command needs a table
@@ -63,16 +65,21 @@ pub record BeginsGrammar (G : Table) (old new : Option (List ℕ)) : Type 0 wher
   pub is_text : IsGrammarText G text
   pub begun : IfSome old (λ xs. BeginsWith text xs new)
 
+-- how much an explanation tells
+abbrev pub detail_of : Bool → Detail
+detail_of true = Full
+detail_of false = Short
+
 -- A writer that held the bytes `old` now also holds what a task writes of a module's bytes, and nothing else: the
 -- verdict line, or that line and those that explain it. The answer tells whether the line is `valid`.
 abbrev pub DoesTask : Task → Table → List ℕ → List ℕ → Option (List ℕ) → Bool → Type 0
 DoesTask tasks.Check G bytes old new answer = TellsVerdict G bytes old new answer
-DoesTask tasks.Explain G bytes old new answer = Explains G bytes old new answer
+DoesTask (tasks.Explain full) G bytes old new answer = Explains (detail_of full) G bytes old new answer
 
 -- The same for a beginning of that.
 abbrev pub BeginsTask : Task → Table → List ℕ → List ℕ → Option (List ℕ) → Type 0
 BeginsTask tasks.Check G bytes old new = Begins G bytes old new
-BeginsTask tasks.Explain G bytes old new = BeginsExplaining G bytes old new
+BeginsTask (tasks.Explain full) G bytes old new = BeginsExplaining (detail_of full) G bytes old new
 
 -- The standard output that held the bytes `old`, where they are known, now also holds what the command writes of the
 -- bytes of its file, and nothing else: a task what it writes of this one of its files, `show` the text or the line of a

@@ -1,6 +1,6 @@
 //! What is written of one file.
 ghost use Rattle.std.specs.Prelude.{◌≡◌, ◌++◌, ◌≤◌, ℕ, [], Some, None, IfOk, IfSome, IsErrOf};
-ghost use Rattle.spv_commands.specs.Task.{DoesTask, taken};
+ghost use Rattle.spv_commands.specs.Task.{DoesTask, detail_of, taken};
 ghost use Rattle.spv_commands.specs.Each.{IsPart, heading};
 ghost use Rattle.spv_commands.specs.Name.{label};
 ghost use Rattle.spv_commands.specs.inner.Progress.{Adds, unread_line};
@@ -10,7 +10,7 @@ use crate::files::{Files, Unread};
 use crate::name::write_label;
 use crate::writing::write_on;
 use spv_command_line::Task;
-use spv_explain::explain_stream;
+use spv_explain::{Detail, explain_stream};
 use spv_table::Table;
 use spv_verdict::check_stream;
 use spv_words::{FromRead, FromWrite, Sink, replace_version};
@@ -36,6 +36,13 @@ pub struct Part {
     pub status: u8,
 }
 
+/// How much an explanation tells, where it is to be full or not.
+pub fn detail_by(full: bool) -> Detail
+    ensures { result ≡ detail_of full }
+{
+    if full { Detail::Full } else { Detail::Short }
+}
+
 /// Adds what a task writes of a module's bytes: whether it is valid.
 fn add_judgment(
     alloc: Global,
@@ -52,7 +59,9 @@ fn add_judgment(
     // The bytes stand in memory, so it can only be a growth of the text that fails.
     let answer = match task {
         Task::Check => check_stream(alloc, table, &mut bytes, text),
-        Task::Explain => explain_stream(alloc, table, &mut bytes, text),
+        Task::Explain { full } => {
+            explain_stream(alloc, table, detail_by(full), &mut bytes, text)
+        }
     };
     match answer {
         Ok(valid) => Ok(valid),

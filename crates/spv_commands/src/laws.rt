@@ -7,6 +7,9 @@ ghost use Rattle.spv_builtin.specs.Text.{IsGrammarText};
 ghost use Rattle.spv_table.specs.Example.{empty_table};
 ghost use Rattle.spv_commands.specs.Example.{answer_of, empty_grammar, reader_of, writer_of};
 ghost use Rattle.spv_explain.specs.Lines.{refused_text};
+ghost use Rattle.spv_fault_lines.specs.declared.fact.Detail.{Detail};
+ghost use Rattle.spv_fault_lines.specs.declared.fact.Detail.TheVariants.{Full, Short};
+ghost use Rattle.spv_commands.specs.Task.{detail_of};
 ghost use Rattle.spv_explain.specs.Stream.{BeginsExplaining, Explains};
 ghost use Rattle.spv_words.specs.declared.words.WordError.TheVariants.{W2};
 ghost use Rattle.spv_commands.specs.Show.{BeginsShowing, IsShowing, Shows};
@@ -60,15 +63,22 @@ pub fn show_examples()
 /// Worked examples of what is explained.
 pub fn explain_examples()
     // A writer that held the byte 9 got the verdict line of three bytes, which are no module and have no evidence, and
-    // the line of what the code says.
-    ensures explains { (G : Table) → Explains G (1 ∷ 2 ∷ 3 ∷ []) (9 ∷ [])
-        (Some (9 ∷ codes "fault W2" ++ (line_end ++ refused_text W2))) false }
+    // the lines of what the code says and of what is found.
+    ensures explains { (G : Table) (detail : Detail) → Explains detail G (1 ∷ 2 ∷ 3 ∷ []) (9 ∷ [])
+        (Some (9 ∷ codes "fault W2" ++ (line_end ++ refused_text W2 (1 ∷ 2 ∷ 3 ∷ [])))) false }
     // The first five bytes of that line.
-    ensures begins { (G : Table) → BeginsExplaining G (1 ∷ 2 ∷ 3 ∷ []) (9 ∷ []) (Some (9 ∷ codes "fault")) }
+    ensures begins { (G : Table) (detail : Detail) → BeginsExplaining detail G (1 ∷ 2 ∷ 3 ∷ []) (9 ∷ [])
+        (Some (9 ∷ codes "fault")) }
 {
     spv_words::laws::examples();
     spv_words::laws::one_refusal();
 }
+
+/// Worked examples of how much is explained.
+pub fn detail_examples()
+    ensures full { detail_of true ≡ Full }
+    ensures not_full { ¬ (detail_of false ≡ Full) }
+{}
 
 /// Worked examples of what a text is assembled to.
 pub fn assemble_examples()

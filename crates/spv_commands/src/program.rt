@@ -15,6 +15,7 @@ ghost use Rattle.spv_commands.specs.inner.Ending.{EndsByTable, EndsByText, EndsU
 ghost use Rattle.spv_commands.specs.declared.program.Trouble.TheVariants.{File, Grammar, Memory, NoEntry};
 
 use crate::assembling::{TextError, assemble_stream};
+use crate::judging::detail_by;
 use crate::showing::show_stream;
 use crate::tracing::{RunError, trace_stream};
 use spv_builtin::laws::one_table;
@@ -104,7 +105,9 @@ fn tasked<S: Source, W: Sink>(
 {
     match task {
         Task::Check => check_stream(alloc, table, file, out).map_err(stream_trouble),
-        Task::Explain => explain_stream(alloc, table, file, out).map_err(stream_trouble),
+        Task::Explain { full } => {
+            explain_stream(alloc, table, detail_by(full), file, out).map_err(stream_trouble)
+        }
     }
 }
 

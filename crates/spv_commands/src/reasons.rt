@@ -4,8 +4,22 @@ use spv_command_line::shown_word;
 use spv_grammar::GrammarError;
 use spv_inst::decode;
 use spv_module::{Inst, Operand, Stop, opcode};
-use spv_words::{WordError, image_of, replace_version};
+use spv_table::Table;
+use spv_words::{Image, WordError, image_of, replace_version};
 use std::alloc::{AllocError, Global};
+
+/// Adds the id of an entry point's function.
+fn push_function(alloc: Global, out: &mut String, id: u32) -> Result<(), AllocError> {
+    let text = format!(in alloc; "entry point: {id} ")?;
+    out.push_str(&text)
+}
+
+/// Adds the name of an entry point, and ends its line.
+fn push_name(alloc: Global, out: &mut String, name: &str) -> Result<(), AllocError> {
+    let text = shown_word(alloc, name)?;
+    out.push_str(&text)?;
+    out.push_str("\n")
+}
 
 /// Adds a line for an instruction that is an OpEntryPoint: its function and its name.
 fn push_entry(alloc: Global, out: &mut String, inst: &Inst<'_>) -> Result<(), AllocError> {
@@ -14,15 +28,46 @@ fn push_entry(alloc: Global, out: &mut String, inst: &Inst<'_>) -> Result<(), Al
     }
     for operand in inst.operands.as_slice() {
         match operand {
-            Operand::Id(id) => out.push_str(&format!(in alloc; "entry point: {id} ")?)?,
-            Operand::Text(name) => {
-                out.push_str(&shown_word(alloc, name)?)?;
-                return out.push_str("\n");
-            }
+            Operand::Id(id) => push_function(alloc, out, *id)?,
+            Operand::Text(name) => return push_name(alloc, out, name),
             _ => {}
         }
     }
     Ok(())
+}
+
+/// Adds a line for each OpEntryPoint of the module that these words are. Nothing where they are none.
+fn push_entries(
+    alloc: Global,
+    out: &mut String,
+    table: &Table,
+    image: &Image,
+) -> Result<(), AllocError> {
+    let module = match decode(alloc, table, image) {
+        Ok(module) => module,
+        Err(Stop::Memory) => return Err(AllocError),
+        Err(Stop::Fault(_)) => return Ok(()),
+    };
+    for inst in &module.insts {
+        push_entry(alloc, out, inst)?;
+    }
+    Ok(())
+}
+
+/// Adds a line for each OpEntryPoint of the module of these bytes. Nothing where they are none.
+fn push_module(
+    alloc: Global,
+    out: &mut String,
+    table: &Table,
+    bytes: &[u8],
+) -> Result<(), AllocError> {
+    let mut bytes = Vec::from_slice(alloc, bytes)?;
+    replace_version(&mut bytes);
+    match image_of(alloc, &bytes) {
+        Ok((image, _)) => push_entries(alloc, out, table, &image),
+        Err(WordError::W9) => Err(AllocError),
+        Err(_) => Ok(()),
+    }
 }
 
 /// The entry points of the module of these bytes, by the table of a grammar file's text or the built-in one, a line
@@ -37,26 +82,10 @@ pub fn entry_points(
     bytes: &[u8],
 ) -> Result<String, AllocError> {
     let mut out = String::new(alloc);
-    let table = match table_of(alloc, grammar) {
-        Ok(table) => table,
+    match table_of(alloc, grammar) {
+        Ok(table) => push_module(alloc, &mut out, &table, bytes)?,
         Err(GrammarError::J8) => return Err(AllocError),
-        Err(_) => return Ok(out),
-    };
-    let mut bytes = Vec::from_slice(alloc, bytes)?;
-    replace_version(&mut bytes);
-    let image = match image_of(alloc, &bytes) {
-        Ok((image, _)) => image,
-        Err(WordError::W9) => return Err(AllocError),
-        Err(_) => return Ok(out),
-    };
-    match decode(alloc, &table, &image) {
-        Ok(module) => {
-            for inst in &module.insts {
-                push_entry(alloc, &mut out, inst)?;
-            }
-            Ok(out)
-        }
-        Err(Stop::Memory) => Err(AllocError),
-        Err(Stop::Fault(_)) => Ok(out),
+        Err(_) => {}
     }
+    Ok(out)
 }

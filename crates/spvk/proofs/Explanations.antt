@@ -2,13 +2,14 @@
 use Rattle.std.proofs.Common.{◌≡◌, ◌++◌, ℕ, List, Some, string_bytes}
 use Rattle.spv_table.specs.Table.{Table}
 use Rattle.spv_explain.specs.Stream.{IsExplanation}
+use Rattle.spv_fault_lines.specs.declared.fact.Detail.TheVariants.{Short}
 use Rattle.spv_explain.specs.declared.stream.Explanation.{Explanation}
 use Rattle.spv_verdict.specs.Text.{line_of}
 use Rattle.spvk.specs.Explain.{IsExplaining}
 use Rattle.spvk.specs.Numbers.{numbers_of}
 use Rattle.spvk.specs.declared.text.Text.{Text}
 
-pub explained : (G : Table) (bytes : List ℕ) (e : Explanation) (t : Text) → IsExplanation G bytes e
+pub explained : (G : Table) (bytes : List ℕ) (e : Explanation) (t : Text) → IsExplanation Short G bytes e
     → t.verdict ≡ numbers_of e.judgment → t.buffer.bytes ≡ Some (line_of e.judgment ++ string_bytes e.lines)
     → IsExplaining G bytes t
 explained G bytes e t is verdict buffer = record {

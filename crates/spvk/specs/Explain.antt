@@ -3,18 +3,19 @@ use Rattle.std.specs.Prelude.{◌≡◌, ◌++◌, ℕ, List, Some}
 use Rattle.spv_table.specs.Table.{Table}
 use Rattle.spv_verdict.specs.Verdict.{IsVerdict}
 use Rattle.spv_explain.specs.Stream.{AreOthers, Explain, ExplainDead}
+use Rattle.spv_fault_lines.specs.declared.fact.Detail.TheVariants.{Short}
 use Rattle.spvk.specs.Answer.{Tells}
 use Rattle.spvk.specs.declared.text.Text.{Text}
 use denote.RawPtr.{Ptr, block_ptr, null_ptr}
 
--- The verdict on all of these bytes, under the grammar table, and its line with the lines that explain it.
+-- The verdict on all of these bytes, under the grammar table, and its line with the lines that explain it, in short.
 pub record IsExplaining (G : Table) (bytes : List ℕ) (t : Text) : Type 0 where
   pub tells : Tells G bytes t.verdict
   pub line : List ℕ
   pub lines : List ℕ
   pub verdict : IsVerdict G bytes line
-  pub explain : Explain G bytes lines
-  pub dead : ExplainDead G bytes lines
+  pub explain : Explain Short G bytes lines
+  pub dead : ExplainDead Short G bytes lines
   pub others : AreOthers bytes line lines
   pub text : t.buffer.bytes ≡ Some (line ++ lines)
 

@@ -13,7 +13,7 @@ use crate::numbers::numbers;
 use crate::status::{MEMORY, NO_GRAMMAR, OK};
 use crate::text::Text;
 use crate::versions::copy_as_1_6;
-use spv_explain::{Explanation, explain_bytes};
+use spv_explain::{Detail, Explanation, explain_bytes};
 use spv_table::{Memory, Table};
 use std::alloc::{AllocError, Global};
 use std::{mem, ptr};
@@ -30,7 +30,7 @@ fn buffer_of(alloc: Global, explanation: &Explanation) -> Result<Buffer, AllocEr
 fn explained_bytes(alloc: Global, table: &Table, bytes: &[u8]) -> Result<Text, Memory>
     ensures { IfOk result (λ t. IsExplaining table.now bytes.now t) }
 {
-    let explanation = explain_bytes(alloc, table, bytes)?;
+    let explanation = explain_bytes(alloc, table, Detail::Short, bytes)?;
     match buffer_of(alloc, &explanation) {
         Ok(buffer) => Ok(Text {
             verdict: numbers(explanation.judgment),
