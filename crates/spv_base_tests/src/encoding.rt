@@ -1,11 +1,11 @@
-//! Modules that are put together and written, and those that no words spell.
+//! Modules that no words spell.
 
 use spv_encode::{EncodeCode, EncodeError, encode};
-use spv_grammar::{FromGrammar, GrammarError, Table};
+use spv_grammar::{FromGrammar, Table};
 use spv_inst::Operand::{Id, Mask, Number, OfType, Result as Made, Text, Value, Word};
-use spv_inst::{Memory, Module, Operand, Operands, decode};
+use spv_inst::{Memory, Module, Operand};
 use spv_samples::PROFILE;
-use spv_words::{Header, Image};
+use spv_words::Header;
 use std::alloc::Global;
 use std::test::Fail;
 
@@ -18,245 +18,118 @@ const CAPABILITY: u32 = 9;
 
 const LINKAGE: u32 = 12;
 
-/// A header of version 1.6.
-fn header(bound: u32) -> Header {
+/// A header with this version, bound and schema.
+fn header(version: u32, bound: u32, schema: u32) -> Header {
     Header {
-        version: 0x0001_0600,
+        version,
         generator: 9,
         bound,
-        schema: 0,
+        schema,
     }
 }
 
-/// The table of the profile.
-fn profile(alloc: Global) -> Result<Table, GrammarError> {
-    Table::from_slice(alloc, PROFILE.as_bytes())
-}
-
-/// How the encoding of an instruction under a bound, after an OpTypeInt %1 of 32 bits, is refused.
+/// How the encoding of a module of OpTypeInt %1 32 0 and of another instruction is refused.
 fn refusal(
     alloc: Global,
-    bound: u32,
+    table: &Table,
+    header: Header,
     opcode: u16,
-    operands: &[Operand],
-) -> Result<Option<EncodeError>, Fail> {
-    let table = profile(alloc)?;
-    let mut module = Module::new(alloc, header(bound));
+    operands: &[Operand<'_>],
+) -> Result<Option<EncodeError>, Memory> {
+    let mut module = Module::new(alloc, header);
     module.push(21, &[Made(1), Word(32), Word(0)])?;
     module.push(opcode, operands)?;
-    Ok(encode(alloc, &table, &module).err())
+    Ok(encode(alloc, table, &module).err())
 }
 
-/// An instruction that no words spell.
-const N2: Option<EncodeError> = Some(EncodeError {
-    code: EncodeCode::N2,
-    inst: 1,
-});
-
-/// Instructions that no words spell: a name, the opcode and the operands.
-const UNSPELLED: [(&str, u16, &[Operand<'static>]); 10] = [
-    ("encode-return-with-an-operand", 253, &[Word(1)]),
-    ("encode-a-zero-octet", 10, &[Text("a\0b")]),
-    ("encode-half-a-pair", 245, &[OfType(1), Made(2), Id(3)]),
-    (
-        "encode-optional-skipped",
-        3,
-        &[
-            Value {
-                kind: LANGUAGE,
-                value: 3,
-            },
-            Word(100),
-            Text("a"),
-        ],
-    ),
-    (
-        "encode-an-unknown-enumerant",
-        17,
-        &[Value {
-            kind: CAPABILITY,
-            value: 1000,
-        }],
-    ),
-    (
-        "encode-an-unknown-bit",
-        247,
-        &[
-            Id(1),
-            Mask {
-                kind: CONTROL,
-                value: 8,
-            },
-        ],
-    ),
-    (
-        "encode-a-value-of-another-kind",
-        17,
-        &[Value {
-            kind: LINKAGE,
-            value: 1,
-        }],
-    ),
-    ("encode-an-unknown-opcode", 9999, &[]),
-    (
-        "encode-a-number-with-a-high-word-too-many",
-        43,
-        &[
-            OfType(1),
-            Made(2),
-            Number {
-                low: 5,
-                high: 1,
-                words: 1,
-            },
-        ],
-    ),
-    (
-        "encode-a-number-of-the-wrong-size",
-        43,
-        &[
-            OfType(1),
-            Made(2),
-            Number {
-                low: 5,
-                high: 0,
-                words: 2,
-            },
-        ],
-    ),
-];
-
-#[test]
-fn refuses_operands_that_do_not_fit(rt: HostRuntime) -> Result<(), Fail> {
-    for (name, opcode, operands) in UNSPELLED {
-        assert_eq!(rt; refusal(rt.alloc(), 100, opcode, operands)?, N2, "{name}");
-    }
-    Ok(())
-}
-
-/// How a header is refused.
-fn refusal_of_header(alloc: Global, table: &Table, header: Header) -> Option<EncodeError> {
-    encode(alloc, table, &Module::new(alloc, header)).err()
-}
-
-#[test]
-fn refuses_headers(rt: HostRuntime) -> Result<(), Fail> {
-    let n1 = Some(EncodeError {
-        code: EncodeCode::N1,
-        inst: 0,
-    });
-    let bound = refusal(rt.alloc(), 0, 253, &[Word(1)])?;
-    assert_eq!(rt; bound, n1, "encode-bound-zero");
-    let table = profile(rt.alloc())?;
-    let earlier = Header {
-        version: 0x0001_0500,
-        ..header(100)
-    };
-    let schema = Header {
-        schema: 1,
-        ..header(100)
-    };
-    for wrong in [earlier, schema] {
-        assert_eq!(rt; refusal_of_header(rt.alloc(), &table, wrong), n1);
-    }
-    Ok(())
-}
-
-/// The operands of an OpString.
-fn string(text: &str) -> [Operand<'_>; 2] {
-    [Id(1), Text(text)]
-}
-
-/// The same with an id behind, which no words spell.
-fn string_and_id(text: &str) -> [Operand<'_>; 3] {
-    [Id(1), Text(text), Id(1)]
-}
-
-/// How many words a module of one OpName has whose name is so many octets long.
-fn words_with_name(alloc: Global, octets: usize) -> Result<u32, Fail> {
-    let table = profile(alloc)?;
-    let name = "a".repeat(alloc, octets)?;
-    let mut module = Module::new(alloc, header(5));
-    module.push(5, &string(name.as_str()))?;
-    Ok(encode(alloc, &table, &module)?.len())
-}
-
-#[test]
-fn an_instruction_has_65535_words(rt: HostRuntime) -> Result<(), Fail> {
-    let longest = words_with_name(rt.alloc(), 262_131)?;
-    assert_eq!(rt; longest, 65_540, "encode-the-longest-name");
-    let longer = "a".repeat(rt.alloc(), 262_132)?;
-    let n3 = Some(EncodeError {
-        code: EncodeCode::N3,
+/// Whether no words spell an instruction.
+fn is_unspelled(alloc: Global, table: &Table, opcode: u16, operands: &[Operand<'_>]) -> bool {
+    let header = header(0x0001_0600, 100, 0);
+    let n2 = EncodeError {
+        code: EncodeCode::N2,
         inst: 1,
-    });
-    let long = refusal(rt.alloc(), 5, 5, &string(longer.as_str()))?;
-    assert_eq!(rt; long, n3, "encode-a-name-too-long");
-    let also = refusal(rt.alloc(), 5, 5, &string_and_id(longer.as_str()))?;
-    assert_eq!(rt; also, N2, "encode-too-long-and-not-of-its-pattern");
-    Ok(())
+    };
+    refusal(alloc, table, header, opcode, operands) == Ok(Some(n2))
 }
 
-/// OpSource OpenCL_C 100, without a file and a text; OpExtension "abcd"; %3 = OpIAdd %1 %2 %2.
-fn three_instructions(alloc: Global) -> Result<Module<'static>, Memory> {
-    let opencl_c = Value {
+/// Whether no words spell OpReturn with an operand, a zero octet, half a pair of an OpPhi, a source's text without its
+/// file, and an opcode that there is none of.
+fn are_operands_refused(alloc: Global, table: &Table) -> bool {
+    let language = Value {
         kind: LANGUAGE,
         value: 3,
     };
-    let mut module = Module::new(alloc, header(5));
-    module.push(3, &[opencl_c, Word(100)])?;
-    module.push(10, &[Text("abcd")])?;
-    module.push(128, &[OfType(1), Made(3), Id(2), Id(2)])?;
-    Ok(module)
+    is_unspelled(alloc, table, 253, &[Word(1)])
+        && is_unspelled(alloc, table, 10, &[Text("a\0b")])
+        && is_unspelled(alloc, table, 245, &[OfType(1), Made(2), Id(3)])
+        && is_unspelled(alloc, table, 3, &[language, Word(100), Text("a")])
+        && is_unspelled(alloc, table, 9999, &[])
 }
 
-/// The image of the three instructions.
-fn image_of_three(alloc: Global, table: &Table) -> Result<Image, Fail> {
-    let module = three_instructions(alloc)?;
-    Ok(encode(alloc, table, &module)?)
-}
-
-#[test]
-fn encodes_what_decodes(rt: HostRuntime) -> Result<(), Fail> {
-    let table = profile(rt.alloc())?;
-    let image = image_of_three(rt.alloc(), &table)?;
-    assert_eq!(rt; (image.len(), image.header()), (16, header(5)));
-    let again = decode(rt.alloc(), &table, &image)?;
-    assert_eq!(rt; again.header, header(5));
-    let [_, extension, sum] = again.insts.as_slice() else {
-        return Err(Fail::from("three instructions"));
+/// Whether no words spell an enumerant and a bit that there are none of, and a value of another kind.
+fn are_values_refused(alloc: Global, table: &Table) -> bool {
+    let unknown = Value {
+        kind: CAPABILITY,
+        value: 1000,
     };
-    assert_eq!(rt; extension.opcode, 10);
-    assert!(rt; extension.operands.as_slice() == [Text("abcd")].as_slice());
-    assert_eq!(rt; extension.result_id(), None);
-    assert_eq!(rt; (sum.type_id(), sum.result_id()), (Some(1), Some(3)));
-    Ok(())
+    let other = Value {
+        kind: LINKAGE,
+        value: 1,
+    };
+    let mask = Mask {
+        kind: CONTROL,
+        value: 8,
+    };
+    is_unspelled(alloc, table, 17, &[unknown])
+        && is_unspelled(alloc, table, 17, &[other])
+        && is_unspelled(alloc, table, 247, &[Id(1), mask])
+}
+
+/// Whether no words spell such a number of the type %1.
+fn is_number_refused(alloc: Global, table: &Table, low: u32, high: u32, words: u8) -> bool {
+    let number = Number { low, high, words };
+    is_unspelled(alloc, table, 43, &[OfType(1), Made(2), number])
 }
 
 #[test]
-fn copies_operands(rt: HostRuntime) -> Result<(), Fail> {
-    let operands = Operands::from_slice(rt.alloc(), &[Made(5), Text("abc")])?;
-    assert_eq!(rt; operands.len(), 2);
-    assert_eq!(rt; operands.as_slice().first().copied(), Some(Made(5)));
+fn refuses_operands_that_do_not_fit(rt: HostRuntime) -> Result<(), Fail> {
+    let table = Table::from_slice(rt.alloc(), PROFILE.as_bytes())?;
+    assert!(rt; are_operands_refused(rt.alloc(), &table));
+    assert!(rt; are_values_refused(rt.alloc(), &table));
+    assert!(rt; is_number_refused(rt.alloc(), &table, 5, 1, 1));
+    assert!(rt; is_number_refused(rt.alloc(), &table, 5, 0, 2));
     Ok(())
 }
 
+/// Whether a header is refused.
+fn is_header_refused(alloc: Global, table: &Table, header: Header) -> bool {
+    let n1 = EncodeError {
+        code: EncodeCode::N1,
+        inst: 0,
+    };
+    refusal(alloc, table, header, 253, &[Word(1)]) == Ok(Some(n1))
+}
+
+/// Whether an OpName with a name of so many octets is refused so: the longest has 262,131.
+fn is_length_told(alloc: Global, table: &Table, octets: usize, told: Option<EncodeError>) -> bool {
+    let Ok(name) = "a".repeat(alloc, octets) else {
+        return false;
+    };
+    let operands = [Id(1), Text(name.as_str())];
+    refusal(alloc, table, header(0x0001_0600, 5, 0), 5, &operands) == Ok(told)
+}
+
 #[test]
-fn messages(rt: HostRuntime) -> Result<(), Fail> {
-    for (code, message) in [
-        (EncodeCode::N1, "instruction 7: the header does not fit"),
-        (
-            EncodeCode::N2,
-            "instruction 7: no words spell the instruction",
-        ),
-        (
-            EncodeCode::N3,
-            "instruction 7: the instruction or the module is too long",
-        ),
-        (EncodeCode::Memory, "instruction 7: out of memory"),
-    ] {
-        let error = EncodeError { code, inst: 7 };
-        assert_eq!(rt; format!(in rt.alloc(); "{error}")?.as_str(), message);
-    }
+fn refuses_headers_and_lengths(rt: HostRuntime) -> Result<(), Fail> {
+    let table = Table::from_slice(rt.alloc(), PROFILE.as_bytes())?;
+    assert!(rt; is_header_refused(rt.alloc(), &table, header(0x0001_0600, 0, 0)));
+    assert!(rt; is_header_refused(rt.alloc(), &table, header(0x0001_0500, 100, 0)));
+    assert!(rt; is_header_refused(rt.alloc(), &table, header(0x0001_0600, 100, 1)));
+    let n3 = EncodeError {
+        code: EncodeCode::N3,
+        inst: 1,
+    };
+    assert!(rt; is_length_told(rt.alloc(), &table, 262_131, None));
+    assert!(rt; is_length_told(rt.alloc(), &table, 262_132, Some(n3)));
     Ok(())
 }

@@ -4,33 +4,25 @@ ghost use Rattle.std.specs.Prelude.{◌≡◌, ◌≤◌, length};
 
 use std::io::{self, ErrorKind, Read, Write};
 
-/// Gives the bytes of a slice over and over or once, in pieces. One call is interrupted.
+/// Gives the bytes of a slice once, in pieces. One call is interrupted.
 #[derive(Drop)]
 pub struct Pieces<'a> {
-    bytes: &'a [u8],
     rest: &'a [u8],
     piece: usize,
-    /// Whether the bytes begin again at their end.
-    pub is_endless: bool,
     /// How many calls go well before the one that does not.
     pub calls_left: u64,
     /// How many calls did not go well.
     pub failures: u64,
-    /// How many bytes were given.
-    pub given: u64,
 }
 
 impl<'a> Pieces<'a> {
-    /// Gives the bytes once, at most so many at a call, and never fails.
+    /// Gives at most so many bytes at a call, and never fails.
     pub fn new(bytes: &'a [u8], piece: usize) -> Self {
         Pieces {
-            bytes,
             rest: bytes,
             piece,
-            is_endless: false,
             calls_left: u64::MAX,
             failures: 0,
-            given: 0,
         }
     }
 }
@@ -43,19 +35,15 @@ impl Read for Pieces<'_> {
             return Err(io::Error::from(ErrorKind::Interrupted));
         }
         self.calls_left -= 1;
-        if self.is_endless && self.rest.is_empty() {
-            self.rest = self.bytes;
-        }
         let n = self.piece.min(buf.len()).min(self.rest.len());
         buf[..n].copy_from_slice(&self.rest[..n]);
         self.rest = &self.rest[n..];
-        self.given = self.given.wrapping_add(n as u64);
         Ok(n)
     }
 }
 
 /// What a shelf does at the call that does not go well.
-#[derive(Clone, Copy, Debug, PartialEq, Eq)]
+#[derive(Clone, Copy, PartialEq, Eq)]
 pub enum Trouble {
     /// It answers an error.
     Fails,

@@ -1,21 +1,10 @@
-//! The calls of the layers from spv_layout to spv_verdict, and of what flow and evidence search in, with ample memory and
-//! with growths refused; and availability beside a plain program that tells the same. Which rule each layer tells of a
-//! module is shown by the program.
+//! The calls of the layers from spv_layout to spv_verdict, each made once with ample memory, and with growths refused.
+//! What each tells of a module is shown by the program.
 #![tactic(auto)]
 
-#[cfg(test)]
-mod calls;
-#[cfg(test)]
-mod compared;
 #[cfg(test)]
 mod graphs;
 #[cfg(test)]
 mod layers;
 #[cfg(test)]
-mod plain;
-#[cfg(test)]
 mod refused;
-#[cfg(test)]
-mod verdicts;
-#[cfg(test)]
-mod ways;

@@ -35,49 +35,36 @@ pub struct WrongAnswer {
     pub told: Told,
 }
 
-/// The growths of a call that is made again and again.
-#[derive(Drop)]
-pub struct Growths {
-    alloc: Global,
-    growth: usize,
-    was_refused: bool,
+/// Asks for so many bytes and gives them back: whether they were refused.
+fn mark(alloc: Global, size: usize) -> bool {
+    let bytes: Result<Vec<u8>, _> = Vec::with_capacity(alloc, size);
+    bytes.is_err()
 }
 
-impl Growths {
-    /// Begins before the first growth.
-    pub fn new(alloc: Global) -> Self {
-        Growths {
-            alloc,
-            growth: 0,
-            was_refused: false,
-        }
-    }
-
-    /// Has the next growth refused, counted from here on.
-    pub fn refuse_next(&mut self) {
-        let growth = self.growth.min(MOST - 1) + 1;
-        self.growth = growth;
-        let _mark: Result<Vec<u8>, _> = Vec::with_capacity(self.alloc, REFUSE + growth);
-    }
-
-    /// Has none refused from here on.
-    pub fn end(&mut self) {
-        let mark: Result<Vec<u8>, _> = Vec::with_capacity(self.alloc, END);
-        self.was_refused = mark.is_err();
-    }
-
-    /// Whether the call has answered rightly with none refused, so that all growths were. An error where it answered
-    /// wrongly, or told out of memory with none refused.
-    pub fn are_through(&self, told: Told) -> Result<bool, WrongAnswer> {
-        let growth = self.growth;
+/// Makes a call with its first growth refused, then with its second, and so on until none is. What the call keeps is to
+/// be let go of before it answers.
+///
+/// # Errors
+///
+/// `WrongAnswer` where it answered wrongly, or told out of memory with no growth refused.
+pub fn each_refused<F: FnMut() -> Told>(alloc: Global, mut call: F) -> Result<(), WrongAnswer>
+    requires { F.IsAlwaysCallable call }
+{
+    for growth in 0..MOST {
+        mark(alloc, REFUSE + growth + 1);
+        let told = call();
+        let was_refused = mark(alloc, END);
         match told {
-            Told::Right if self.was_refused => {
-                let _mark: Result<Vec<u8>, _> = Vec::with_capacity(self.alloc, DONE_WITHOUT);
-                Ok(false)
+            Told::Right if was_refused => {
+                mark(alloc, DONE_WITHOUT);
             }
-            Told::Right => Ok(true),
-            Told::NoMemory if self.was_refused && growth < MOST => Ok(false),
-            told => Err(WrongAnswer { growth, told }),
+            Told::Right => return Ok(()),
+            Told::NoMemory if was_refused => {}
+            _ => return Err(WrongAnswer { growth, told }),
         }
     }
+    Err(WrongAnswer {
+        growth: MOST,
+        told: Told::NoMemory,
+    })
 }

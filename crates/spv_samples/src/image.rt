@@ -4,7 +4,7 @@ use spv_words::{FromRead, Image, WordError, read_image};
 use std::alloc::{AllocError, Global};
 
 /// The numbers of a text in hexadecimal, parted by spaces. What is none is left out.
-pub fn words_of(alloc: Global, text: &str) -> Result<Vec<u32>, AllocError> {
+fn words_of(alloc: Global, text: &str) -> Result<Vec<u32>, AllocError> {
     let mut words = Vec::new(alloc);
     for part in text.split_whitespace() {
         if let Ok(word) = u32::from_str_radix(part, 16) {

@@ -6,12 +6,10 @@ mod growths;
 mod image;
 mod modules;
 mod profile;
-mod rows;
 mod sample;
 
-pub use growths::{Growths, Told, WrongAnswer};
-pub use image::{image_of, words_of};
+pub use growths::{Told, WrongAnswer, each_refused};
+pub use image::image_of;
 pub use modules::{CALL_OF_LATER_FUNCTION, LOAD_WITH_MASK, LOOP_WITH_PHI, SMALLEST_KERNEL};
 pub use profile::PROFILE;
-pub use rows::CHECKED_TO_VALUES;
 pub use sample::Sample;
