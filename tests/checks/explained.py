@@ -30,13 +30,17 @@ def sentence_of():
 
 
 def difference(program, path, grammar):
-    """None if the verdict on a module is that of `check`, and each line that explains it is true, else what is not."""
-    printed = output(program, "explain", "--grammar", PROFILE, path).split("\n")[:-1]
+    """None if the verdict on a module is that of `check`, and each line that explains it is true, in full too, else what
+    is not."""
     verdict = output(program, "check", "--grammar", PROFILE, path).split("\n")[:-1]
-    if printed[:1] != verdict:
-        return f"  {path.name}: {printed[:1]} and not {verdict}"
-    _, _, wrong = judged(grammar, sentence_of(), path.read_bytes(), printed)
-    return "\n".join(f"  {path.name}: {it}" for it in wrong) or None
+    for flags in ([], ["--full"]):
+        printed = output(program, "explain", *flags, "--grammar", PROFILE, path).split("\n")[:-1]
+        if printed[:1] != verdict:
+            return f"  {path.name}: {printed[:1]} and not {verdict}"
+        _, _, wrong = judged(grammar, sentence_of(), path.read_bytes(), printed, bool(flags))
+        if wrong:
+            return "\n".join(f"  {path.name} {' '.join(flags)}: {it}" for it in wrong)
+    return None
 
 
 def explained(program, folder):

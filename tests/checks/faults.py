@@ -76,18 +76,27 @@ def crossed(insts):
     ]
 
 
+def too_few(struct, parts):
+    """What is told of one constituent too few."""
+    made = f"%{struct} = OpTypeStruct {ids(parts)}"
+    return ["condition: there are as many constituents as the type has parts", f"operand: 0 %{struct}", f"type: {made}", f"found: {made}"]
+
+
 def unequal(insts):
-    given = len(insts.operands(-3)) - 2
-    types = [f"type: %{FIRST} = OpTypeStruct {ids([INT] * (given + 1))}", f"type: {OF_INT}"]
-    return [*types, *["type: %5"] * (given - 1)]
+    return too_few(FIRST, [INT] * (len(insts.operands(-3)) - 1))
 
 
 def nested(insts):
-    given = len(insts.operands(-3)) - 2
-    inner, outer = f"%{FIRST}", f"%{FIRST + 1}"
-    types = [f"type: {outer} = OpTypeStruct {ids([FIRST] * (given + 1))}"]
-    types.append(f"type: {inner} = OpTypeStruct {ids([INT] * (given + 1))}")
-    return [*types, *[f"type: {inner}"] * (given - 1)]
+    return too_few(FIRST + 1, [FIRST] * (len(insts.operands(-3)) - 1))
+
+
+def unled(insts):
+    last, zero = len(insts.operands(-3)) - 1, insts.operands(-3)[-1]
+    return [
+        "condition: at a struct the index is an OpConstant, the number of a member; else the type before it has parts",
+        f"operand: {last} %{zero}",
+        "found: %5 = OpTypeInt 32 0",
+    ]
 
 
 def cycle(insts):
@@ -96,7 +105,8 @@ def cycle(insts):
 
 
 def pairs(insts):
-    return [f"twice: %{insts.operands(-3)[-1]}"]
+    parents = insts.operands(-3)[3::2]
+    return [f"twice: %{parents[-1]}", f"predecessors: {ids([*parents[:-1], parents[-1] + 1])}"]
 
 
 def alike(insts):
@@ -237,6 +247,7 @@ FAULTS = {
     crossed: "A2",
     unequal: "Y5",
     nested: "Y5",
+    unled: "Y5",
     cycle: "G1",
     pairs: "F3",
     alike: "Y3",

@@ -59,6 +59,7 @@ LINES = [
     line("check", "--quiet", "kernel.spv", "broken.spv", calls=[OPEN, READ], names=("kernel.spv", "broken.spv")),
     line("explain", "-H", "--as-1.6", "broken.spv", names=("broken.spv",)),
     line("explain", OLD),
+    line("explain", "--full", "broken.spv"),
     line("show", "--as-1.6", OLD),
     line("trace", "--as-1.6", "--function", 3, "--limit", 9, OLD),
     line("asm", "--out", MADE, TEXT),

@@ -6,17 +6,16 @@ import subprocess
 from .common import LAYERS as ALL_LAYERS
 from .common import SECONDS, Answer, Check, difference, run
 from .many import LOOP, lines, placed
+from .ruled import PAGE, sentences
 from .usage import BAD_USE, BROKEN, GRAMMAR, KERNEL, NO_FILE, TEXT, under
 
 LAYERS = frozenset(ALL_LAYERS)
 WITH = ("-H", "--with-filename")
 WITHOUT = "--no-filename"
 QUIET = "--quiet"
+FULL = "--full"
 JUDGES = ("check", "explain")
 SILENT = {status: Answer(b"", b"", status) for status in (0, 1)}
-# How many codes there are of each letter.
-CODES = {"W": 9, "I": 12, "P": 1, "L": 2, "D": 5, "Y": 8, "C": 2, "M": 1, "E": 2, "F": 4, "A": 2, "G": 1}
-OTHER_CODES = {"J": 7, "S": 5, "X": 1, "N": 3}
 
 
 def judged(program, folder, *words, **how):
@@ -164,6 +163,10 @@ def words_that_do_not_fit(program, folder):
         ["check", f"{QUIET}=1", KERNEL],
         ["show", "-H", KERNEL],
         ["show", QUIET, KERNEL],
+        ["check", FULL, KERNEL],
+        ["explain", FULL, FULL, KERNEL],
+        ["explain", f"{FULL}=1", KERNEL],
+        ["show", FULL, KERNEL],
         ["asm", QUIET, "--out", "made", TEXT],
         ["trace", WITHOUT, "--function", "3", "--limit", "1", KERNEL],
         ["rules", QUIET],
@@ -173,16 +176,11 @@ def words_that_do_not_fit(program, folder):
     return wrong or ("  OUT was made" if (folder / "made").exists() else None)
 
 
-def known_codes():
-    """The names of the codes that commands print."""
-    return [f"{letter}{number}" for letter, most in {**CODES, **OTHER_CODES}.items() for number in range(1, most + 1)]
-
-
 def every_code(program, folder):
-    """`rules` has every code that a command prints, among all and alone, in capital and in small letters."""
+    """`rules` has every code of docs/PROFILE.md, among all and alone, in capital and in small letters."""
     listed = judged(program, folder, "rules").out.decode().splitlines()
     named = {line.split(":")[0]: line for line in listed}
-    for code in known_codes():
+    for code, _ in sentences(PAGE.read_text(encoding="utf-8")):
         alone = judged(program, folder, "rules", code)
         fine = alone.out.decode().splitlines()[:1] == [named.get(code, "")] and (alone.err, alone.status) == (b"", 0)
         if not fine or len(named[code]) < 20:

@@ -1,24 +1,26 @@
 """The conditions of the table of types (Y2, Y4 and Y5): which there are at an instruction, and when one fails.
 
-From docs/PROFILE.md. A condition is at a seat: the result type (`r`), a value operand (`o`, `p`, `q` and on, by its
-place among these) or an operand that is no value (its number). Where it compares types, those that it may want are named
-too. Each name is one of the page's table of conditions.
+From docs/PROFILE.md. Which conditions there are of each opcode stands in types.py, in RULES. A condition is at a seat: the
+result type (`r`), a value operand (`o`, `p`, `q` and on, by its place among these) or an operand that is no value (its
+number). Where it compares types, those that it may want are named too. Each name is one of the page's table of conditions.
 """
 
 from .order import opcodes_in
 from .types import (
+    ARRAY,
     BOOL,
     CONSTANTS,
     FLOAT,
     INT,
     OPAQUE,
     POINTER,
+    RULES,
     SCALARS,
     SPECIAL,
+    STRUCT,
     VECTOR,
     VOID,
     cast,
-    is_typed,
     selected,
 )
 
@@ -73,6 +75,31 @@ class Row:
         return found
 
 
+    def literals(self):
+        """The literals of one word, in order."""
+        return [it[1] for it in self.inst.operands if it[0] == "Word"]
+
+    def reached(self, literals):
+        """The type that literals reach as indexes, each that of a part, from the type of the composite; else None."""
+        of = self.tags[-1]
+        for it in literals:
+            count, part = self.types.parts(of)
+            if part is None or it >= count:
+                return None
+            of = part(it)
+        return of
+
+    def share(self, of):
+        """How many components of the result type, a vector, a constituent of a type gives; None where it is no such one."""
+        inner = self.component(self.r)
+        return 1 if of == inner else self.types.rest(of)[1] if inner is not None and self.component(of) == inner else None
+
+    def is_filled(self):
+        """Whether the constituents give as many components as the result type, a vector, has."""
+        shares = [self.share(it) for it in self.tags]
+        return None not in shares and sum(shares) == self.types.rest(self.r)[1]
+
+
 def is_length(types, of):
     """Whether an id is the length of an array."""
     length = types.definition(of)
@@ -82,7 +109,8 @@ def is_length(types, of):
 def has_count(row):
     """Whether there are as many constituents as the type has parts."""
     count, part = row.types.parts(row.r)
-    return part is not None and len(row.inst.operands) - 2 == count
+    is_made = row.inst.opcode == 80 and row.types.form(row.r) == VECTOR
+    return is_made or part is not None and len(row.inst.operands) - 2 == count
 
 
 def is_constituent(row, at, part):
@@ -97,6 +125,32 @@ def is_forward(row):
     return row.types.form(of) == POINTER and row.facts.first[of] > row.number and row.types.pointer(of)[0] == kind
 
 
+def led(row, end):
+    """The type that the indexes of an access chain lead to, those before operand `end`; None where they lead to none."""
+    first = 3 if row.inst.opcode in (65, 66) else 4
+    of = row.pointee(row.tags[0])
+    for _, index in row.inst.operands[first:end]:
+        count, part = row.types.parts(of)
+        known = row.types.value(index) if row.types.definition(index).opcode == 43 else None
+        if part is None or row.types.form(of) == STRUCT and (known is None or known >= count):
+            return None
+        of = part(known if row.types.form(of) == STRUCT else 0)
+    return of
+
+
+def is_class_here(row):
+    """Whether a variable may have its storage class where it stands."""
+    named = row.inst.operands[2][2]
+    return named not in (7, 8) if row.types.places.function[row.number] is None else named == 7
+
+
+def is_initializer(row):
+    """Whether the initializer of a variable is a constant or a variable outside functions."""
+    value = row.inst.operands[3][1]
+    found, at = row.types.definition(value), row.types.definitions[value]
+    return found.opcode in CONSTANTS + SPECIAL or found.opcode == 59 and row.types.places.function[at] is None
+
+
 def fits(row):
     """Whether the bits of a number above its width are 0."""
     width = row.types.rest(row.r)[0]
@@ -105,6 +159,18 @@ def fits(row):
 
 def form(row, s, *forms):
     return row.types.form(s) in forms
+
+
+def is_component(row, at):
+    """Whether a literal is the number of a component of two vectors, or 4294967295."""
+    sizes = [row.types.rest(it)[1] for it in row.tags if form(row, it, VECTOR)]
+    return row.inst.operands[at][1] in (*range(sum(sizes)), 0xFFFFFFFF)
+
+
+def is_within(row, at):
+    """Whether a literal is the index of a part of the type that those before it lead to."""
+    before = sum(it[0] == "Word" for it in row.inst.operands[:at])
+    return row.reached(row.literals()[:before]) is None or row.reached(row.literals()[: before + 1]) is not None
 
 
 # Of each condition whether it holds: of the row, the number of the operand, the type that is looked at, and the type
@@ -126,6 +192,7 @@ HOLDS = {
     "Pointer": lambda row, at, s, w: form(row, s, POINTER),
     "PointsTo": lambda row, at, s, w: row.pointee(s) == w,
     "SamePointee": lambda row, at, s, w: row.pointee(s) is not None and row.pointee(s) == row.pointee(w),
+    "SameClass": lambda row, at, s, w: None is not row.types.pointer(s)[0] == row.types.pointer(w)[0],
     "FunctionPointer": lambda row, at, s, w: row.types.pointer(s)[0] == 7,
     "GenericPointer": lambda row, at, s, w: row.types.pointer(s)[0] == 8,
     "NamedPointer": lambda row, at, s, w: row.types.pointer(s)[0] in (4, 5, 7),
@@ -143,6 +210,24 @@ HOLDS = {
     "Forward": lambda row, at, s, w: is_forward(row),
     "FitsWidth": lambda row, at, s, w: fits(row),
     "Constituent": lambda row, at, s, w: is_constituent(row, at, w),
+    "Weights": lambda row, at, s, w: sum(it[0] == "Word" for it in row.inst.operands) in (0, 2),
+    "StorageClass": lambda row, at, s, w: row.inst.operands[at][2] == row.types.pointer(row.r)[0],
+    "ClassHere": lambda row, at, s, w: is_class_here(row),
+    "Initializer": lambda row, at, s, w: is_initializer(row),
+    "InitializerType": lambda row, at, s, w: s == w,
+    "Chosen": lambda row, at, s, w: led(row, at + 1) is not None,
+    "Leads": lambda row, at, s, w: w is not None and row.pointee(s) == w,
+    "Vector": lambda row, at, s, w: form(row, s, VECTOR),
+    "SameComponent": lambda row, at, s, w: row.component(s) is not None and row.component(s) == row.component(w),
+    "ComponentCount": lambda row, at, s, w: form(row, s, VECTOR) and row.types.rest(s)[1] == len(row.literals()),
+    "Component": lambda row, at, s, w: is_component(row, at),
+    "Composite": lambda row, at, s, w: form(row, s, VECTOR, STRUCT, ARRAY),
+    "Several": lambda row, at, s, w: not form(row, s, VECTOR) or len(row.tags) > 1,
+    "Share": lambda row, at, s, w: not form(row, row.r, VECTOR) or row.share(s) is not None,
+    "Filled": lambda row, at, s, w: not form(row, s, VECTOR) or row.is_filled(),
+    "Part": lambda row, at, s, w: not form(row, row.r, STRUCT, ARRAY) or s == w,
+    "Within": lambda row, at, s, w: is_within(row, at),
+    "Reached": lambda row, at, s, w: s == w,
 }
 
 # The words of each condition that is told, and its name here.
@@ -166,9 +251,16 @@ WORDS = {
     "its type is bool, or a vector of as many bools as the wanted type, a vector, has components": "Chooses",
     "its type is a pointer to the wanted one": "PointsTo",
     "its type and the wanted one are pointers to one type": "SamePointee",
+    "its type and the wanted one are pointers of one storage class": "SameClass",
     "its type is a vector of the wanted one": "VectorOf",
     "its type is the component type of the wanted one, a vector": "ComponentOf",
-    "the types and literals are those of the opcode's row": "Row",
+    "there are no weights, or two": "Weights",
+    "the storage class is that of the pointer": "StorageClass",
+    "in a function the storage class is Function, outside neither Function nor Generic": "ClassHere",
+    "the initializer is a constant or a variable outside functions": "Initializer",
+    "its type is the one that is pointed to": "InitializerType",
+    "at a struct the index is an OpConstant, the number of a member; else the type before it has parts": "Chosen",
+    "its type is a pointer to the one that the indexes lead to": "Leads",
     "the width is 8, 16, 32 or 64": "IntWidth",
     "the signedness is 0": "Signedness",
     "the width is 16, 32 or 64": "FloatWidth",
@@ -181,66 +273,26 @@ WORDS = {
     "the number fits the width of its type": "FitsWidth",
     "there are as many constituents as the type has parts": "Count",
     "it is a constant or an OpUndef, of the type of the part at its place": "Constituent",
+    "its type is a vector": "Vector",
+    "its type is a vector of the same component type as the wanted one": "SameComponent",
+    "its type has as many components as there are literals": "ComponentCount",
+    "the literal is the number of a component of the two vectors, or 4294967295": "Component",
+    "its type is a vector, a struct or an array": "Composite",
+    "there are two constituents or more": "Several",
+    "its type is the wanted one, or a vector of it": "Share",
+    "the constituents have as many components together as its type, a vector": "Filled",
+    "its type is that of the part at its place": "Part",
+    "there is an index": "Indexes",
+    "the index is that of a part of the type that the indexes before it lead to": "Within",
+    "its type is the one that the indexes lead to": "Reached",
 }
-RELATIONS = ("Same", "SameCount", "OtherWidth", "SameBits", "Chooses", "PointsTo", "SamePointee", "VectorOf", "ComponentOf")
-
-# Of each opcode its conditions that are told by themselves: a seat and those that there are at it. `:` names the type that is
-# wanted: a seat, `*` what it points to, or the part at the operand's place. `+` is each value operand that is not named, and
-# `type` each type.
-SAME = "o=Same:r p=Same:r q=Same:r"
-ATOMIC = "+=Int32 o=Pointer,PointsTo:r r=Same:*o"
-RULES = (
-    ("1", "r=Data"),
-    ("59", "r=Pointer"),
-    ("61", "r=Data,Same:*o o=Pointer,PointsTo:r"),
-    ("62", "o=Pointer,PointsTo:p p=Same:*o"),
-    ("63", "o=Pointer,PointsTo:*p,SamePointee:p p=Pointer,PointsTo:*o,SamePointee:o"),
-    ("64", "o=Pointer p=Pointer q=Int"),
-    ("65-67 70", "o=Pointer r=Pointer +=Int"),
-    ("77", "o=VectorOf:r p=Int r=ComponentOf:o"),
-    ("78", "r=VectorOf:p,Same:o o=VectorOf:p,Same:r p=ComponentOf:r,ComponentOf:o q=Int"),
-    ("82", "p=Same:r"),
-    ("83", "r=Data o=Same:r"),
-    ("109 110", "o=Floats,SameCount:r r=Ints,SameCount:o"),
-    ("111 112", "o=Ints,SameCount:r r=Floats,SameCount:o"),
-    ("113 114", "o=Ints,SameCount:r,OtherWidth:r r=Ints,SameCount:o,OtherWidth:o"),
-    ("115", "o=Floats,SameCount:r,OtherWidth:r r=Floats,SameCount:o,OtherWidth:o"),
-    ("117", "o=Pointer r=Int"),
-    ("120", "o=Int r=Pointer"),
-    ("121", "o=NamedPointer,SamePointee:r,PointsTo:*r r=GenericPointer,SamePointee:o,PointsTo:*o"),
-    ("122", "o=GenericPointer,SamePointee:r,PointsTo:*r r=NamedPointer,SamePointee:o,PointsTo:*o"),
-    ("124", "o=SameBits:r r=SameBits:o"),
-    ("126 200 128 130 132 134 135 137-139 197-199", f"r=Ints {SAME}"),
-    ("127 129 131 133 136 140 141", f"r=Floats {SAME}"),
-    ("164-168", f"r=Bools {SAME}"),
-    ("169", "r=Data o=Chooses:r p=Same:r q=Same:r"),
-    ("170-179", "o=Ints,SameCount:r p=Same:o r=Bools,SameCount:o"),
-    ("180-191", "o=Floats,SameCount:r p=Same:o r=Bools,SameCount:o"),
-    ("194-196", "r=Ints o=Same:r p=Ints,SameCount:r"),
-    ("224 225", "o=Int32 p=Int32 q=Int32"),
-    ("227", f"r=Number {ATOMIC}"),
-    ("228", "o=Pointer,PointsTo:s +=Int32 s=Number,Same:*o"),
-    ("229", f"r=Number s=Same:r {ATOMIC}"),
-    ("230", f"r=Int s=Int32 t=Same:r u=Same:r {ATOMIC}"),
-    ("232 233", f"r=Int {ATOMIC}"),
-    ("234-242", f"r=Int s=Same:r {ATOMIC}"),
-    ("245", "r=Data +=Same:r"),
-    ("250", "o=Bool"),
-    ("251", "o=Int"),
-    ("256 257", "o=FunctionPointer"),
-    ("21", "1=IntWidth 2=Signedness"),
-    ("22", "1=FloatWidth"),
-    ("23", "1=Scalar 2=VectorCount"),
-    ("28", "1=Data o=Length"),
-    ("30", "type=Data"),
-    ("32", "2=Pointee"),
-    ("33", "1=Returned type=Data"),
-    ("39", "0=Forward"),
-    ("41 42 48 49", "r=Bool"),
-    ("43 50", "r=Number 2=FitsWidth"),
-    ("44 51", "r=Count +=Constituent:part"),
-    ("46", "r=Data"),
+RELATIONS = (
+    *("Same", "SameCount", "OtherWidth", "SameBits", "Chooses", "PointsTo", "SamePointee", "SameClass", "VectorOf"),
+    *("ComponentOf", "InitializerType", "Leads", "SameComponent", "Share", "Part", "Reached"),
 )
+# Those that look at an id, and not at its type.
+OF_IDS = ("Length", "Initializer", "Chosen")
+
 CONDITIONS = {}
 for _codes, _seats in RULES:
     for _code in opcodes_in(_codes):
@@ -261,6 +313,12 @@ def wanted_at(row, at, text):
     if text == "part":
         count, part = row.types.parts(row.r)
         return part(at - 2) if part is not None and at - 2 < count else None
+    if text == "led":
+        return led(row, None)
+    if text == "component":
+        return row.component(row.r)
+    if text == "reached":
+        return row.reached(row.literals())
     letter = text.lstrip("*")
     of = row.r if letter == "r" else row.tags[LETTERS.index(letter)]
     return row.pointee(of) if letter != text else of
@@ -271,14 +329,16 @@ def seats_of(row, at):
     known, seat = CONDITIONS.get(row.inst.opcode, {}), row.seat(at)
     if seat in known:
         return [seat]
-    return ["+"] if seat in (*LETTERS, "more") else ["type"] if row.inst.operands[at][0] == "Id" else []
+    if seat in (*LETTERS, "more"):
+        return ["+"]
+    return {"Id": ["type"], "Word": ["word"]}.get(row.inst.operands[at][0], [])
 
 
 def fails(facts, number, words, at, wanted):
     """Whether a condition is one of those at an instruction, at an operand or none, and does not hold."""
     row, name = Row(facts, number), WORDS[words]
-    if name == "Row":
-        return at is None and not is_typed(row.types, row.number, row.inst)
+    if name == "Indexes":
+        return at is None and row.inst.opcode in (81, 82) and not row.literals()
     subject = row.subject(at)
     for seat in seats_of(row, at):
         for each in CONDITIONS.get(row.inst.opcode, {}).get(seat, ()):

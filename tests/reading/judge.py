@@ -8,9 +8,9 @@ import re
 from collections import deque
 
 from . import conditions
-from .facts import Facts, open_at
-from .flow import CALL, targets
-from .order import BEGIN, SHAPE_OF, after, may_come, may_end
+from .facts import FUNCTION, FUNCTION_END, LABEL, Facts, open_at
+from .flow import CALL, TOLD, ToldOfTargets, targets
+from .order import BEGIN, MOST_NAMES, after, kind_of, may_come, may_end, row_text
 from .text import CONTROL, bits_of, visible
 from .types import NEEDED, UNLIKE, VECTOR, VOID, is_defined, is_import, parameters_of, plays
 
@@ -19,16 +19,16 @@ LINE = re.compile(r"([a-z]+(?: [a-z]+)*):(?: (.*))?")
 PLACE = "at;(in;)?"
 OPERAND = "operand;"
 FORMS = {
-    "W": "(found;(help;)?)?",
+    "W": "found;(help;)?",
     "I1 I2 I3": "words;word;opcode;",
     "I4 I5 I6 I7 I8 I9 I10 I11 I12": "words;word;opcode;operand;due;",
     "P1": f"{PLACE}opcode;row;",
-    "L1": f"{PLACE}may come;",
+    "L1": f"{PLACE}may come;(missing;)?",
     "L2": "may come;(open;)?",
     "D1": f"{PLACE}operand;bound;",
-    "D3 M1 F2 F4": f"{PLACE}operand;",
+    "D3 M1": f"{PLACE}operand;",
     "D2 Y3": f"{PLACE}earlier;",
-    "D4 F1": f"{PLACE}operand;defined;",
+    "D4": f"{PLACE}operand;defined;",
     "D5": f"{PLACE}operand;defined;local to;",
     "Y1": f"{PLACE}operand;role;defined;",
     "C1": f"{PLACE}(not implied|implied);",
@@ -39,17 +39,12 @@ FORMS = {
     "Y6": f"{PLACE}(place|parameter);(type;)?wanted;found;",
     "Y7": f"{PLACE}place;wanted;found;",
     "Y8": f"{PLACE}(place|argument);(type;)?wanted;found;",
-    "F3": f"{PLACE}(missing parent|no predecessor|twice);",
+    **{codes: f"{PLACE}{form}" for codes, form in TOLD.items()},
     "A1 A2": f"{PLACE}operand;defined;walk;",
     "G1": f"{PLACE}calls;cycle;",
 }
 FORM_OF = {code: form for codes, form in FORMS.items() for code in codes.split()}
 MOST_WORDS = 16
-
-
-def row_texts(opcode):
-    """What may be told of the row of an opcode in the table of shapes: that it is another, or its operands."""
-    return ("other operands", SHAPE_OF[opcode] or "no operands") if opcode in SHAPE_OF else ("none",)
 
 
 def ids_in(text):
@@ -72,11 +67,11 @@ def length(start, goal, following):
     return None
 
 
-class Judge:
-    """The lines of one fault. A method of the name of a key says whether a line with that key is true."""
+class Judge(ToldOfTargets):
+    """The lines of one fault, in full or not. A method of the name of a key says whether a line with that key is true."""
 
-    def __init__(self, facts, sentences, lines):
-        self.facts, self.sentences = facts, sentences
+    def __init__(self, facts, sentences, lines, is_full):
+        self.facts, self.sentences, self.is_full = facts, sentences, is_full
         self.code = facts.broken.line.split()[1]
         self.number = facts.broken.inst
         self.pairs = [LINE.fullmatch(line) for line in lines]
@@ -137,6 +132,10 @@ class Judge:
             found.append("no line in")
         if self.code == "L2" and "open" not in keys and self.place(self.number):
             found.append("no line open")
+        if self.code == "L1" and "missing" not in keys and self.unended():
+            found.append("no line missing")
+        if self.code == "W5" and "help" not in keys and self.is_older():
+            found.append("no line help")
         if self.code == "E2" and "imported" not in keys and self.one("part") == "a definition is imported":
             found.append("no line imported")
         if self.code in ("Y6", "Y8") and "type" not in keys and self.signature() is not None:
@@ -154,8 +153,8 @@ class Judge:
         if is_id and "defined" in keys:
             shown.add(self.inst.operands[at][1])
         found = ["no line defined"] if is_id and "defined" not in keys else []
-        is_length = conditions.WORDS[self.one("condition")] == "Length"
-        if subject is not None and subject not in shown and not is_length:
+        is_of_id = conditions.WORDS[self.one("condition")] in conditions.OF_IDS
+        if subject is not None and subject not in shown and not is_of_id:
             found.append("no line of the operand's type")
         if conditions.compares(self.one("condition")) and not {"wanted", "found"} <= set(keys):
             found.append("no line wanted and found")
@@ -171,21 +170,29 @@ class Judge:
     def is_found_in_header(self, text):
         content = self.facts.content
         if self.code in ("W2", "W3"):
-            return text == f"{len(content)} bytes"
+            return text == f"{len(content)} byte{'s' * (len(content) != 1)}"
         if self.code == "W8":
             return re.fullmatch(r"more than 16777216 bytes", text) is not None
-        order = "big" if content[:1] == b"\7" else "little"
-        words = [int.from_bytes(content[at : at + 4], order) for at in range(0, 20, 4)]
-        if self.code == "W5" and words[1] & 0xFF0000FF == 0 and words[1]:
-            return text == f"version {words[1] >> 16 & 0xFF}.{words[1] >> 8 & 0xFF}"
-        place = {"W4": 0, "W5": 1, "W6": 4, "W7": 3}[self.code]
-        return text == f"0x{words[place]:08x}"
+        words = self.header()
+        if self.code == "W4":
+            return text == f"0x{words[0]:08x}"
+        if self.code == "W5":
+            is_version = words[1] & 0xFF0000FF == 0
+            return text == (f"version {words[1] >> 16}.{words[1] >> 8 & 0xFF}" if is_version else f"0x{words[1]:08x}")
+        return text == str(words[{"W6": 4, "W7": 3}[self.code]])
+
+    def header(self):
+        """The words of the header, in the order of bytes in which the first is the magic number, or else the little one."""
+        content = self.facts.content
+        order = "big" if content[:4] == b"\7\x23\2\3" else "little"
+        return [int.from_bytes(content[at : at + 4], order) for at in range(0, 20, 4)]
+
+    def is_older(self):
+        """Whether the version is one of 1.0 to 1.5."""
+        return self.header()[1] in range(0x00010000, 0x00010600, 0x100)
 
     def is_help(self, text):
-        version = re.fullmatch(r"version 1\.([0-5])", self.one("found"))
-        return self.code == "W5" and version is not None and text == (
-            "--as-1.6 takes a module of the versions 1.0 to 1.5 as one of 1.6"
-        )
+        return self.code == "W5" and self.is_older() and text == "--as-1.6 reads it as a module of version 1.6"
 
     def span(self):
         """The places of the words of the instruction that is told, as many as its first word counts: one at least."""
@@ -224,7 +231,7 @@ class Judge:
     # Shapes and layout.
 
     def is_row(self, text):
-        return text in row_texts(self.inst.opcode)
+        return text == row_text(self.inst.opcode)
 
     def state(self):
         """The state of the layout before the instruction that is told."""
@@ -235,9 +242,20 @@ class Judge:
 
     def is_may_come(self, text):
         state, entries = self.state(), self.facts.grammar.entries
-        come = [it for it in may_come(state) if it in entries]
-        names = [visible(entries[it]["opname"]) for it in come] + ["end of module"] * may_end(state)
-        return text == " ".join(names)
+        come, end = may_come(state), ["end of module"] * may_end(state)
+        if len(come) > MOST_NAMES and not self.is_full:
+            return text == "; ".join([*dict.fromkeys(map(kind_of, come)), *end])
+        return text == " ".join([*(visible(entries[it]["opname"]) for it in come if it in entries), *end])
+
+    def unended(self):
+        """What is open before the instruction, and has to end first; None where there is none."""
+        before = self.facts.insts[: self.number]
+        function, block = open_at(before, len(before))
+        if block is not None and self.inst.opcode in (FUNCTION, FUNCTION_END, LABEL):
+            return f"the end of block %{block.result}"
+        if block is None and function is not None and self.inst.opcode == FUNCTION:
+            return f"the end of function %{function.result}"
+        return None
 
     def is_open(self, text):
         return text == self.place(self.number)
@@ -306,18 +324,6 @@ class Judge:
     def fails_M1(self, at):
         return self.inst.operands[at][2] not in ((1, 2), (2,))[at]
 
-    def fails_F1(self, at):
-        of, role = self.facts.uses(self.number)[at]
-        return role == "label" and of not in self.facts.body_of(self.number)[0].blocks
-
-    def fails_F2(self, at):
-        of, role = self.facts.uses(self.number)[at]
-        body, _ = self.facts.body_of(self.number)
-        return role == "label" and of == body.entry and of in targets(self.inst)
-
-    def fails_F4(self, at):
-        return at in (1, 2) and self.inst.operands[1] == self.inst.operands[2]
-
     def fails_A1(self, at):
         return self.is_local_value(self.facts.uses(self.number)[at][0])
 
@@ -344,9 +350,8 @@ class Judge:
             return False
         if self.code == "D4":
             return number >= self.number
-        if self.code == "F1":
-            return self.facts.insts[number].opcode != 248 or number not in self.facts.body_of(self.number)[0].blocks.get(of, ())
-        return self.code == "D5" or number == self.facts.first[of]
+        judged = getattr(self, f"defines_{self.code}", None)
+        return judged(number, of) if judged else self.code == "D5" or number == self.facts.first[of]
 
     def is_local_to(self, text):
         number = self.numbered(self.one("defined"))
@@ -413,6 +418,8 @@ class Judge:
         return text == " ".join(map(self.capability, needed)) and not set(needed) & types.implied
 
     def is_missing(self, text):
+        if self.code == "L1":
+            return text == self.unended()
         entries = [it for it in self.facts.insts if it.opcode == 15]
         return text == "OpEntryPoint" and not entries and 5 not in self.facts.types.implied
 
@@ -530,25 +537,7 @@ class Judge:
     def is_argument(self, text):
         return self.inst.opcode == 57 and text.isdigit()
 
-    # Flow.
-
-    def parents(self):
-        """The parents that a phi names, and the predecessors of its block."""
-        body, label = self.facts.body_of(self.number)
-        named = [of for of, role in self.facts.uses(self.number).values() if role == "label"]
-        return named, body.parents[label]
-
-    def is_missing_parent(self, text):
-        named, wanted = self.parents()
-        return text in {f"%{it}" for it in wanted if it not in named}
-
-    def is_no_predecessor(self, text):
-        named, wanted = self.parents()
-        return text in {f"%{it}" for it in named if it not in wanted}
-
-    def is_twice(self, text):
-        named, _ = self.parents()
-        return text in {f"%{it}" for it in named if named.count(it) > 1}
+    # Values on walks.
 
     def is_walk(self, text):
         steps, (body, label) = ids_in(text), self.facts.body_of(self.number)
@@ -605,13 +594,13 @@ class Judge:
         return first == self.caller() and self.is_chain(steps, {callee}, first)
 
 
-def judged(grammar, sentences, content, lines):
-    """What is untrue in the lines that `explain` writes of a module, and its facts."""
+def judged(grammar, sentences, content, lines, is_full=False):
+    """What is untrue in the lines that `explain` writes of a module, in full or not, and its facts."""
     facts = Facts(grammar, content)
     verdict = facts.broken.line if facts.broken else "valid"
     if lines[:1] != [verdict]:
         return facts, [], [f"{lines[:1]}, and not {verdict}"]
     if facts.broken is None:
         return facts, [], [f"a line after valid: {line!r}" for line in lines[1:]]
-    judge = Judge(facts, sentences, lines[1:])
+    judge = Judge(facts, sentences, lines[1:], is_full)
     return facts, [f"{judge.code} {key}" for key, _ in judge.pairs], judge.wrong() or judge.lacks()

@@ -105,6 +105,27 @@ SHAPE_OF = {code: shape for codes, _, shape in SHAPES for code in opcodes_in(cod
 IN_BODY = {code for codes, is_body, _ in SHAPES if is_body for code in opcodes_in(codes)}
 
 
+# What a letter of a shape is called.
+CALLED = dict(zip("TRWNSx", ("result type", "result", "word", "number", "string", "id")))
+CALLED.update(ROLES)
+
+
+def row_text(opcode):
+    """The operands of the row of an opcode, in words."""
+    if opcode not in SHAPE_OF:
+        return "none"
+    texts = []
+    for part in re.findall(r"\(.*?\)\*|\[.*?\]|\S+", SHAPE_OF[opcode]):
+        words = ["file" if part == "s?" else CALLED.get(it, it) for it in part.strip("()[]*?").replace("+", "").split()]
+        said = ", ".join(words)
+        if part.endswith("*"):
+            said = f"any number of: {said}"
+        elif part.endswith(("?", "]")):
+            said = f"{said} or nothing"
+        texts += [said] + ["any others"] * ("+" in part)
+    return ", ".join(texts) or "no operands"
+
+
 def letter(operand, wanted):
     """Whether an operand is what one word of a shape asks for."""
     if wanted in SORTS:
@@ -189,6 +210,42 @@ def after(state, opcode):
         "between": {54: ("parameters", what)},
     }
     return moves[name].get(opcode)
+
+
+# The kinds of what may come, where there are more opcodes than this; an opcode that is in none is one by itself.
+MOST_NAMES = 8
+KINDS = {
+    "a source": {7, 3, 4, 2},
+    "a name": {5, 6},
+    "a decoration": {71, 72},
+    "a type or constant": SECTIONS[DECLARED] - {59, 1},
+    "a variable": {59},
+    "an instruction of a block": IN_BODY - {1},
+    "the end of a block": set(ENDS),
+    "a line": set(LINES),
+}
+ALONE = {
+    1: "OpUndef",
+    10: "OpExtension",
+    11: "OpExtInstImport",
+    14: "OpMemoryModel",
+    15: "OpEntryPoint",
+    16: "OpExecutionMode",
+    17: "OpCapability",
+    54: "OpFunction",
+    55: "OpFunctionParameter",
+    56: "OpFunctionEnd",
+    245: "OpPhi",
+    246: "OpLoopMerge",
+    247: "OpSelectionMerge",
+    248: "OpLabel",
+    330: "OpModuleProcessed",
+}
+
+
+def kind_of(opcode):
+    """The kind of an opcode that may come, in words."""
+    return next((kind for kind, opcodes in KINDS.items() if opcode in opcodes), None) or ALONE[opcode]
 
 
 def may_end(state):

@@ -5,13 +5,13 @@ import re
 from .decode import FLOAT, SWITCH
 
 PLAIN = re.compile("[A-Za-z0-9_]+")
-CONTROL = re.compile("[\x00-\x1f\x7f]")
+CONTROL = re.compile("[\x00-\x1f\x7f-\x9f]")
 ESCAPES = {'"': '\\"', "\\": "\\\\", "\n": "\\n"}
 
 
 def visible(text):
-    """A text with each control character of it as `\\xNN`."""
-    return CONTROL.sub(lambda found: f"\\x{ord(found[0]):02x}", text)
+    """A text with each byte of a control character of it as `\\xNN`."""
+    return CONTROL.sub(lambda found: "".join(f"\\x{it:02x}" for it in found[0].encode()), text)
 
 
 def is_plain(name, number, known):

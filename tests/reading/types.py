@@ -449,6 +449,68 @@ def rows():
 
 ROWS = rows()
 
+# Of each opcode its conditions that are told by themselves: a seat and those that there are at it (conditions.py says what
+# both are). `:` names the type that is wanted: a seat, `*` what it points to, the part at the operand's place, the component
+# type of the result type, or the type that indexes lead to. `+` is each value operand that is not named, `type` each type, and
+# `word` each literal.
+SAME = "o=Same:r p=Same:r q=Same:r"
+ATOMIC = "+=Int32 o=Pointer,PointsTo:r r=Same:*o"
+RULES = (
+    ("1", "r=Data"),
+    ("59", "r=Pointer 2=StorageClass,ClassHere o=Initializer,InitializerType:*r"),
+    ("61", "r=Data,Same:*o o=Pointer,PointsTo:r"),
+    ("62", "o=Pointer,PointsTo:p p=Same:*o"),
+    ("63", "o=Pointer,PointsTo:*p,SamePointee:p p=Pointer,PointsTo:*o,SamePointee:o"),
+    ("64", "o=Pointer p=Pointer q=Int"),
+    ("65-67 70", "o=Pointer r=Pointer,SameClass:o,Leads:led +=Int,Chosen"),
+    ("77", "o=VectorOf:r p=Int r=ComponentOf:o"),
+    ("78", "r=VectorOf:p,Same:o o=VectorOf:p,Same:r p=ComponentOf:r,ComponentOf:o q=Int"),
+    ("79", "o=Vector p=SameComponent:o r=SameComponent:o,ComponentCount word=Component"),
+    ("80", "r=Composite,Several,Filled,Count +=Share:component,Part:part"),
+    ("81", "r=Reached:reached word=Within"),
+    ("82", "p=Same:r o=Reached:reached word=Within"),
+    ("83", "r=Data o=Same:r"),
+    ("109 110", "o=Floats,SameCount:r r=Ints,SameCount:o"),
+    ("111 112", "o=Ints,SameCount:r r=Floats,SameCount:o"),
+    ("113 114", "o=Ints,SameCount:r,OtherWidth:r r=Ints,SameCount:o,OtherWidth:o"),
+    ("115", "o=Floats,SameCount:r,OtherWidth:r r=Floats,SameCount:o,OtherWidth:o"),
+    ("117", "o=Pointer r=Int"),
+    ("120", "o=Int r=Pointer"),
+    ("121", "o=NamedPointer,SamePointee:r,PointsTo:*r r=GenericPointer,SamePointee:o,PointsTo:*o"),
+    ("122", "o=GenericPointer,SamePointee:r,PointsTo:*r r=NamedPointer,SamePointee:o,PointsTo:*o"),
+    ("124", "o=SameBits:r r=SameBits:o"),
+    ("126 200 128 130 132 134 135 137-139 197-199", f"r=Ints {SAME}"),
+    ("127 129 131 133 136 140 141", f"r=Floats {SAME}"),
+    ("164-168", f"r=Bools {SAME}"),
+    ("169", "r=Data o=Chooses:r p=Same:r q=Same:r"),
+    ("170-179", "o=Ints,SameCount:r p=Same:o r=Bools,SameCount:o"),
+    ("180-191", "o=Floats,SameCount:r p=Same:o r=Bools,SameCount:o"),
+    ("194-196", "r=Ints o=Same:r p=Ints,SameCount:r"),
+    ("224 225", "o=Int32 p=Int32 q=Int32"),
+    ("227", f"r=Number {ATOMIC}"),
+    ("228", "o=Pointer,PointsTo:s +=Int32 s=Number,Same:*o"),
+    ("229", f"r=Number s=Same:r {ATOMIC}"),
+    ("230", f"r=Int s=Int32 t=Same:r u=Same:r {ATOMIC}"),
+    ("232 233", f"r=Int {ATOMIC}"),
+    ("234-242", f"r=Int s=Same:r {ATOMIC}"),
+    ("245", "r=Data +=Same:r"),
+    ("250", "o=Bool 3=Weights"),
+    ("251", "o=Int"),
+    ("256 257", "o=FunctionPointer"),
+    ("21", "1=IntWidth 2=Signedness"),
+    ("22", "1=FloatWidth"),
+    ("23", "1=Scalar 2=VectorCount"),
+    ("28", "1=Data o=Length"),
+    ("30", "type=Data"),
+    ("32", "2=Pointee"),
+    ("33", "1=Returned type=Data"),
+    ("39", "0=Forward"),
+    ("41 42 48 49", "r=Bool"),
+    ("43 50", "r=Number 2=FitsWidth"),
+    ("44 51", "r=Count +=Constituent:part"),
+    ("46", "r=Data"),
+)
+
 
 def rules(types, number, inst, earlier):
     """The rules at an instruction in their order, each with whether it is unbroken."""

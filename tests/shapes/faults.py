@@ -7,6 +7,7 @@ from .module import (
     KERNEL,
     LONGEST,
     ONE,
+    POINTER,
     TRUE,
     TWO,
     VOID,
@@ -79,6 +80,23 @@ def nested(module):
     module.put(1, inner, value)
     kernel(module)
     module.put(80, outer, module.fresh(), *[value] * (count - 1))
+    closed(module)
+
+
+def unled(module):
+    """Y5: an access chain through structs within structs, with one index too many."""
+    opened(module)
+    depth = min(60_000, (module.room() - 64) // 5)
+    types = [INT, *(module.fresh() for _ in range(depth))]
+    for inner, outer in zip(types, types[1:]):
+        module.put(30, outer, inner)
+    zero, base = module.fresh(), module.fresh()
+    module.put(43, INT, zero, 0)
+    module.put(32, base, 7, types[-1])
+    kernel(module)
+    variable = module.fresh()
+    module.put(59, base, variable, 7)
+    module.put(65, POINTER, module.fresh(), variable, *[zero] * (depth + 1))
     closed(module)
 
 
@@ -321,6 +339,7 @@ FAULTS = {
         crossed,
         unequal,
         nested,
+        unled,
         cycle,
         pairs,
         alike,
