@@ -1,7 +1,10 @@
+mod Objects
 mod Readings
+mod RuleLines
 mod Shown
 mod Stages
 mod Sufficing
 mod Tellings
 mod Worked
+mod WorkedJson
 pub mod Sentences

@@ -33,8 +33,8 @@ use Rattle.spv_lines.specs.Text.{ShownLines}
 use Rattle.spv_fault_lines.specs.declared.fact.Detail.{Detail}
 use Rattle.spv_explain.specs.Lines.{fault_text, malformed_text}
 use Rattle.spv_explain.specs.Stream.{Explain, ExplainDead}
-use Rattle.spv_explain.specs.declared.explained.Explained.{Explained}
-use Rattle.spv_explain.specs.declared.explained.Explained.TheVariants as explained
+use Rattle.spv_explain.specs.declared.reading.Explained.{Explained}
+use Rattle.spv_explain.specs.declared.reading.Explained.TheVariants as explained
 use Rattle.spv_explain.specs.inner.Shown.{IsShownAt}
 use Rattle.spv_explain.specs.inner.Reading.{IsBrokenModule, IsReading}
 

@@ -1,5 +1,5 @@
 -- A text with one octet more at its end.
-use Rattle.std.proofs.Common.{◌≡◌, ◌≤◌, ◌<◌, ◌-◌, ◌++◌, ◌∙◌, ℕ, suc, List, [], ◌∷◌, refl, ap, sym, subst, length, take, slice_index, IsUtf8, IsCharBoundary, arith}
+use Rattle.std.proofs.Common.{◌≡◌, ◌-◌, ◌++◌, ◌∙◌, ℕ, suc, List, [], ◌∷◌, refl, ap, length, take, slice_index, IsUtf8, IsCharBoundary, arith}
 use Rattle.std.proofs.lemmas.Str.{IsUtf8-take}
 
 longer : (s : List ℕ) (x : ℕ) → length (s ++ (x ∷ [])) ≡ suc (length s)

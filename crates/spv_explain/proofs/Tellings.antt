@@ -3,7 +3,7 @@ use Rattle.std.proofs.Common.{◌≡◌, ◌≤◌, ◌↔◌, ◌++◌, ◌-◌
 use Rattle.std.proofs.Common.{◌∷◌, ◌+◌, ◌<◌, append-nil, arith, drop, length, sum_by, take, ap, refl, sym, subst, string_bytes}
 use Rattle.std.proofs.lemmas.List.Sums.{sum_by-cons}
 use Rattle.std.specs.Io.KnownBytes.{Appends, Consumes, IsAtEnd}
-use Rattle.std.specs.Prelude.{IfOk, Ok, Err}
+use Rattle.std.specs.Prelude.{IfOk, IsSomeAnd, Ok, Err}
 use Rattle.std.specs.Prelude.{Result as Answer}
 use Rattle.spv_words.specs.Header.{BytesKeep, IsFirstBroken, IsModule, RefusesBytes, greatest_length, place_of}
 use Rattle.spv_words.specs.Streams.{IsStop}
@@ -13,11 +13,12 @@ use Rattle.spv_words.specs.declared.words.Order.{Order}
 use Rattle.spv_table.specs.Table.{Table}
 use Rattle.spv_layout.specs.Place.{AreFew, word_count}
 use Rattle.spv_module.specs.Operand.{PlainInst}
+use Rattle.spv_module.specs.Instruction.{IsListing}
 use Rattle.spv_module.specs.Module.{plain_insts}
 use Rattle.spv_module.specs.declared.fault.Fault.{Fault}
 use Rattle.spv_module.specs.declared.fault.Stop.TheVariants as stop
 use Rattle.spv_module.specs.declared.module.Module.{Module}
-use Rattle.spv_inst.specs.Outcome.{IsDecodeFault}
+use Rattle.spv_inst.specs.Outcome.{IsDecodeFault, IsHeaderOf}
 use Rattle.spv_evidence.specs.declared.evidence.Evidence.{Evidence}
 use Rattle.spv_verdict.specs.Answer.{IsFault}
 use Rattle.spv_verdict.specs.Checked.{IsChecked}
@@ -32,7 +33,7 @@ use Rattle.spv_lines.specs.Text.{ShownLines}
 use Rattle.spv_fault_lines.specs.declared.fact.Detail.{Detail}
 use Rattle.spv_fault_lines.specs.declared.refused.Front.{Front}
 use Rattle.spv_explain.specs.Lines.{fault_text, malformed_text, refused_by, refused_text}
-use Rattle.spv_explain.specs.Stream.{AreOthers, BeginsExplaining, Explains, IsExplanation}
+use Rattle.spv_explain.specs.Stream.{AreOthers, BeginsExplaining, Explains, IsExplanation, IsModuleIn}
 use Rattle.spv_explain.specs.declared.stream.Explanation.{Explanation}
 use Rattle.spv_explain.specs.inner.Reading.{IsBrokenModule}
 use Rattle.spv_explain.proofs.Readings.{broken_fault, dead_explains, dead_shows, explains}
@@ -225,3 +226,9 @@ told_begun z G (Some bs) (Some old) new t bytes h e w =
       fits = rw (← e) w.1;
       written = rw (← e) w.2;
     }
+
+-- a module that is handed out
+pub some_module : (G : Table) (words : List ℕ) (is : List PlainInst) (o : Option Module) → IsSomeAnd o (λ m. (plain_insts m ≡ is) × IsHeaderOf words m.header)
+    → IsListing G is (drop 5 words) → IsModuleIn G words o
+some_module G words is None h l = absurd h
+some_module G words is (Some m) h l = record { listing = subst (λ x. IsListing G x (drop 5 words)) (sym h.0) l; header = h.1 }

@@ -1,10 +1,9 @@
 -- The small lists and texts of the worked examples.
 use Rattle.std.proofs.Common.{◌≡◌, ◌∙◌, ◌++◌, ◌<◌, inl, inr, ℕ, zero, suc, List, [], ◌∷◌, refl, sym, subst}
-use Rattle.std.proofs.Common.{Bool, true, false, ◌&&◌, ◌||◌, Option, Some, None, ap, codes, drop, map, slice_index, append_assoc, arith, IsUtf8}
+use Rattle.std.proofs.Common.{true, false, Option, Some, None, ap, codes, drop, map, slice_index, arith, IsUtf8}
 use Rattle.std.specs.Fmt.{digits}
-use Rattle.std.specs.Prelude.{nat_eq, slice_index_or}
+use Rattle.std.specs.Prelude.{slice_index_or}
 use Rattle.std.specs.List.{Contains}
-use Rattle.std.proofs.lemmas.Bool.{eq-eqb}
 use Rattle.std.proofs.lemmas.Fmt.{decimal_digit}
 use Rattle.spv_table.specs.Table.{pattern_of}
 use Rattle.spv_module.specs.Example.{small, string, string_entry}
@@ -16,7 +15,7 @@ use Rattle.spv_module.specs.Instruction.{IsListing}
 use Rattle.spv_words.specs.declared.words.WordError.TheVariants as word
 use Rattle.spv_module.specs.declared.fault.Rule.{Rule}
 use Rattle.spv_module.specs.declared.opcode.TheConstants as opcode
-use Rattle.spv_module.specs.declared.fault.Rule.TheVariants.{I7, L1, D2}
+use Rattle.spv_module.specs.declared.fault.Rule.TheVariants.{L1, D2}
 use Rattle.spv_layout.specs.First.{stage_of}
 use Rattle.spv_layout.specs.Rows.{rows}
 use Rattle.spv_layout.specs.declared.state.State.TheVariants as at
@@ -31,13 +30,10 @@ use Rattle.spv_verdict.specs.Verdict.{line_end}
 use Rattle.spv_verdict.proofs.Firsts.{calls_stage, flow_stage, layout_stage}
 use Rattle.spv_verdict.proofs.Stages.{types_stage}
 use Rattle.spv_evidence.specs.declared.evidence.Evidence.{Evidence}
-use Rattle.spv_evidence.specs.declared.evidence.Evidence.TheVariants.{Due, Earlier, MayCome, NoEntry}
-use Rattle.spv_form_evidence.proofs.lemmas.words.Unique.{one}
-use Rattle.spv_form_evidence.proofs.lemmas.words.Worked.{mask_shown}
+use Rattle.spv_evidence.specs.declared.evidence.Evidence.TheVariants.{MayCome, NoEntry}
 use Rattle.spv_form_evidence.specs.layout.Evidence as layout
 use Rattle.spv_form_evidence.specs.layout.inner.Automaton.{followers}
 use Rattle.spv_form_evidence.proofs.lemmas.layout.Opcodes.{to_come}
-use Rattle.spv_form_evidence.proofs.lemmas.ids.Worked.{again}
 use Rattle.spv_explain.specs.Evidence.{IsEvidence}
 use Rattle.spv_explain.specs.Example.{labels, many_opcodes, string_fault, string_words, twice_void}
 use Rattle.spv_explain.specs.Explained.{IsShownBy}

@@ -1,5 +1,5 @@
 -- What explains the verdict on bytes, and what `explain_stream` leaves in the writer. (Own.)
-use Rattle.std.specs.Prelude.{◌≡◌, ◌↔◌, ◌≤◌, ◌++◌, ℕ, List, [], Option, Some, IsTrue, Bool}
+use Rattle.std.specs.Prelude.{◌≡◌, ◌↔◌, ◌≤◌, ◌++◌, ℕ, List, [], Option, Some, None, IsTrue, Bool}
 use Rattle.std.specs.Prelude.{drop, length, slice_index, string_bytes, take}
 use Rattle.spv_words.specs.Header.{IsFirstBroken, IsModule}
 use Rattle.spv_words.specs.declared.words.Order.{Order}
@@ -7,6 +7,9 @@ use Rattle.spv_words.specs.declared.words.WordError.{WordError}
 use Rattle.spv_table.specs.Table.{Table}
 use Rattle.spv_module.specs.Operand.{PlainInst}
 use Rattle.spv_module.specs.Instruction.{IsListing}
+use Rattle.spv_module.specs.Module.{plain_insts}
+use Rattle.spv_module.specs.declared.module.Module.{Module}
+use Rattle.spv_inst.specs.Outcome.{IsHeaderOf}
 use Rattle.spv_module.specs.Malformed.{IsMalformedAt}
 use Rattle.spv_module.specs.declared.fault.Rule.{Rule}
 use Rattle.spv_lines.specs.Text.{ShownLines}
@@ -66,6 +69,15 @@ pub record IsExplanation (d : Detail) (G : Table) (bytes : List ℕ) (e : Explan
   pub explain : Explain d G bytes (string_bytes e.lines)
   pub dead : ExplainDead d G bytes (string_bytes e.lines)
   pub others : AreOthers bytes (line_of e.judgment) (string_bytes e.lines)
+
+-- The module has the instructions that the words spell, and their header; there is none where they spell none.
+pub record IsModuleOf (G : Table) (words : List ℕ) (m : Module) : Type 0 where
+  pub listing : IsListing G (plain_insts m) (drop 5 words)
+  pub header : IsHeaderOf words m.header
+
+abbrev pub IsModuleIn : Table → List ℕ → Option Module → Type 0
+IsModuleIn G words None = (is : List PlainInst) → ¬ (IsListing G is (drop 5 words))
+IsModuleIn G words (Some m) = IsModuleOf G words m
 
 -- A writer that held the bytes `old` now also holds the verdict line of the bytes, after it lines that explain it, and
 -- nothing else; the answer tells whether the line is `valid`.

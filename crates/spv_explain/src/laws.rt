@@ -1,16 +1,25 @@
 //! That evidence suffices, whatever the rule, and worked examples. Each function does nothing: its contract is what is
 //! proved.
 
-ghost use Rattle.std.specs.Prelude.{◌≡◌, ◌++◌, ℕ, List, [], ◌∷◌, Some, None, codes, false, true};
+ghost use Rattle.std.specs.Prelude.{◌≡◌, ◌≤◌, ◌++◌, ◌-◌, ◌⊎◌, ℕ, List, [], ◌∷◌, Some, None, codes, drop, false, true};
+ghost use Rattle.std.specs.Prelude.{slice_index};
+ghost use Rattle.json.specs.Token.{Token, key as name, string as text};
+ghost use Rattle.spv_words.specs.Header.{IsModule};
+ghost use Rattle.spv_words.specs.declared.words.Order.{Order};
 ghost use Rattle.spv_words.specs.declared.words.WordError.TheVariants.{W2, W4, W5};
 ghost use Rattle.spv_table.specs.Table.{Table};
 ghost use Rattle.spv_module.specs.Example.{small, string};
+ghost use Rattle.spv_module.specs.Instruction.{IsListing};
 ghost use Rattle.spv_module.specs.Operand.{PlainInst};
+ghost use Rattle.spv_module.specs.declared.fault.Fault.{Fault};
 ghost use Rattle.spv_module.specs.declared.fault.Rule.{Rule as AnyRule};
 ghost use Rattle.spv_module.specs.declared.fault.Rule.TheVariants.{D2, L1};
 ghost use Rattle.spv_module.specs.declared.module.Module.{Module};
 ghost use Rattle.spv_module.specs.declared.opcode.TheConstants as opcode;
+ghost use Rattle.spv_layout.specs.First.{stage_of};
+ghost use Rattle.spv_layout.specs.Stage.{of_profile};
 ghost use Rattle.spv_ids.specs.Example.{of_void};
+ghost use Rattle.spv_form_evidence.specs.words.Evidence as instructions;
 ghost use Rattle.spv_evidence.specs.declared.evidence.Evidence.{Evidence};
 ghost use Rattle.spv_evidence.specs.declared.evidence.Evidence.TheVariants.{MayCome, NoEntry};
 ghost use Rattle.spv_verdict.specs.Broken.{Broken};
@@ -25,9 +34,13 @@ ghost use Rattle.spv_fault_lines.specs.Refused.{found_lines, front_of};
 ghost use Rattle.spv_fault_lines.specs.declared.fact.Detail.TheVariants.{Full, Short};
 ghost use Rattle.spv_fault_lines.specs.declared.fact.Fact.TheVariants as fact;
 ghost use Rattle.spv_rules.specs.declared.rules.Code.TheVariants.{Rule, Word};
+ghost use Rattle.spv_json.specs.Members.{refused_members};
+ghost use Rattle.spv_verdict.specs.declared.verdict_line.Judgment.TheVariants as verdicts;
+ghost use Rattle.spv_explain.specs.Json.{AreMembers, error_object, json_line, object_of, section_of};
 ghost use Rattle.spv_explain.specs.Lines.{refused_text, rule_line};
 ghost use Rattle.spv_explain.specs.Stream.{AreLinesOf};
-ghost use Rattle.spv_explain.specs.declared.explained.Explained.TheVariants as explained;
+ghost use Rattle.spv_explain.specs.declared.reading.Explained.TheVariants as explained;
+ghost use Rattle.spv_explain.specs.declared.answers.Unread.TheVariants as unread;
 
 /// Evidence of whatever rule, from P to G, shows that the rule is broken at the instruction.
 pub fn suffices()
@@ -101,4 +114,39 @@ pub fn explained_examples()
         → IsShown small string_words (explained.Broken string_fault (MayCome (10 ∷ 11 ∷ 14 ∷ 17 ∷ []) false) m) }
     // That there is no entry point does not show it.
     ensures not_shown { (m : Module) → ¬ (IsShown small string_words (explained.Broken string_fault NoEntry m)) }
+{}
+
+/// The objects of verdicts, as texts. The sentence of W2 names its source in brackets, and that is the section.
+pub fn json_examples()
+    ensures valid { json_line (object_of (Some (codes "a.spv")) verdicts.Valid [])
+        ≡ codes "{\"file\":\"a.spv\",\"verdict\":\"valid\"}" ++ line_end }
+    ensures unnamed { json_line (object_of None verdicts.Valid []) ≡ codes "{\"verdict\":\"valid\"}" ++ line_end }
+    ensures not_named { ¬ (json_line (object_of None verdicts.Valid [])
+        ≡ codes "{\"file\":\"\",\"verdict\":\"valid\"}" ++ line_end) }
+    ensures section { section_of (codes "A text ends. [2.3; own]") ≡ codes "2.3; own" }
+    ensures no_section { section_of (codes "A text ends.") ≡ [] }
+    // A control character is escaped as JSON has it, and so is a quotation mark.
+    ensures escaped { json_line (object_of (Some (34 ∷ 27 ∷ [])) verdicts.Valid [])
+        ≡ codes "{\"file\":\"\\\"\\u001b\",\"verdict\":\"valid\"}" ++ line_end }
+    ensures unread { json_line (error_object (Some (codes "a.spv")) unread.File)
+        ≡ codes "{\"file\":\"a.spv\",\"verdict\":\"error\",\"error\":\"file\"}" ++ line_end }
+    // What is found in three bytes.
+    ensures found { refused_members W2 (front_of (1 ∷ 2 ∷ 3 ∷ []))
+        ≡ name (codes "found") ∷ text (codes "3 bytes") ∷ [] }
+{}
+
+/// The members of a fault are never those of a valid module: of that nothing is told.
+pub fn nothing_of_valid()
+    ensures { (G : Table) (bytes : List ℕ) (members : List Token) → AreMembers G bytes verdicts.Valid members
+        → members ≡ [] }
+{}
+
+/// The members of a fault of words that spell a list of instructions come from evidence, and that suffices: the rule is
+/// broken at the instruction, from P to G.
+pub fn members_suffice()
+    ensures { (G : Table) (bytes : List ℕ) (f : Fault) (members : List Token) → AreMembers G bytes (verdicts.Broken f) members
+        → ((words : List ℕ) × (order : Order) × (is : List PlainInst) × IsModule order bytes words
+        × IsListing G is (drop 5 words) × (of_profile ≤ stage_of f.rule → Broken G (slice_index words 3) is f.rule f.inst))
+        ⊎ ((words : List ℕ) × (order : Order) × (e : Evidence) × IsModule order bytes words
+        × instructions.IsEvidence G (drop 5 words) f.rule f.inst (f.word - 5) e) }
 {}

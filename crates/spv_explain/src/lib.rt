@@ -1,14 +1,18 @@
 //! Why a module is refused: a fault with what shows it, and the lines that tell it to a person.
 #![tactic(auto)]
 
+mod answers;
 mod evidence;
-mod explained;
 mod kinds;
 pub mod laws;
+mod reading;
+mod rules;
 mod stream;
 
-pub use explained::{Explained, explain};
+pub use answers::{Answer, Unread, check_json, error_json, explain_json};
+pub use reading::{Explained, explain};
+pub use rules::rules_json;
 pub use spv_evidence::{Condition, EntryPart, Evidence, Kind, Lister, Relation, Side};
 pub use spv_fault_lines::Detail;
 pub use spv_rules::{Code, rules_text};
-pub use stream::{Explanation, explain_bytes, explain_stream};
+pub use stream::{Explanation, Told, explain_bytes, explain_stream, explained};

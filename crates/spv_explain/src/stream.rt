@@ -1,6 +1,6 @@
 //! What is written of the bytes of a stream.
 ghost use Rattle.std.specs.Prelude.{◌≡◌, ◌⊎◌, ◌↔◌, ◌++◌, ◌-◌, ◌≤◌, ℕ, List, [], Ok, drop, vec_len};
-ghost use Rattle.std.specs.Prelude.{IfOk, IfErr, IfSome, IsErrOf, IsTrue, string_bytes};
+ghost use Rattle.std.specs.Prelude.{IfOk, IfErr, IfSome, IsErrOf, IsSomeAnd, IsTrue, string_bytes};
 ghost use Rattle.spv_words.specs.Header.{IsModule, greatest_size};
 ghost use Rattle.spv_words.specs.declared.words.Order.{Order};
 ghost use Rattle.spv_words.specs.declared.words.WordError.TheVariants.{W1, W9};
@@ -13,10 +13,11 @@ ghost use Rattle.spv_layout.specs.Place.{AreFew};
 ghost use Rattle.spv_rules.specs.Rules.{sentence_of};
 ghost use Rattle.spv_explain.specs.Lines as lines;
 ghost use Rattle.spv_explain.specs.Lines.{fault_text, malformed_text, refused_by};
-ghost use Rattle.spv_explain.specs.Stream.{BeginsExplaining, Explains, IsExplanation};
+ghost use Rattle.spv_explain.specs.Stream.{BeginsExplaining, Explains, IsExplanation, IsModuleIn};
+ghost use Rattle.spv_inst.specs.Outcome.{IsHeaderOf};
 ghost use Rattle.spv_verdict.specs.declared.verdict_line.Judgment.TheVariants as judgments;
 
-use crate::explained::{Explained, explained_of};
+use crate::reading::{Explained, explained_of};
 use spv_evidence::Evidence;
 use spv_fault_lines::{About, Detail, Front, front_of, push_malformed, push_refused};
 use spv_inst::{listed_or_dead, one_death, one_listing};
@@ -25,7 +26,7 @@ use spv_lines::shown_reads_back;
 use spv_module::{Fault, Module};
 use spv_rules::Code;
 use spv_table::{Memory, Table};
-use spv_verdict::{Judgment, line_for};
+use spv_verdict::{Checked, Judgment, line_for};
 use spv_words::{Image, Sink, Source, WordError, image_from, image_of, read_octets, write_all};
 use std::alloc::{AllocError, Global};
 
@@ -39,7 +40,7 @@ pub struct Explanation {
 }
 
 /// What a code says, in a sentence.
-fn sentence(code: Code) -> &'static str
+pub fn sentence(code: Code) -> &'static str
     ensures { result.now ≡ sentence_of code }
 {
     let text = code.c_sentence();
@@ -57,14 +58,37 @@ fn rule_line(alloc: Global, code: Code) -> Result<String, AllocError>
     Ok(text)
 }
 
-/// The verdict of a valid module, which has no lines.
-fn valid_told(alloc: Global) -> Explanation
-    ensures verdict { result.judgment ≡ judgments.Valid }
-    ensures lines { string_bytes result.lines ≡ [] }
+/// The verdict on a module, with the lines that explain it, and the module.
+#[derive(Drop)]
+pub struct Told<'a> {
+    /// The verdict, and the lines that explain it.
+    pub explanation: Explanation,
+    /// The module, with texts lent by its image; None where the words spell no list of instructions.
+    pub module: Option<Module<'a>>,
+}
+
+/// A module with the header of an image.
+fn headed<'a>(image: &Image, module: Module<'a>) -> Module<'a>
+    ensures insts { plain_insts result ≡ plain_insts «module».entry }
+    ensures header { IsHeaderOf image.now result.header }
 {
-    Explanation {
-        judgment: Judgment::Valid,
-        lines: String::new(alloc),
+    let mut headed = module;
+    headed.header = image.header();
+    headed
+}
+
+/// The verdict of a valid module, which has no lines, and the module.
+fn valid_told<'a>(alloc: Global, image: &Image, checked: Checked<'a>) -> Told<'a>
+    ensures verdict { result.explanation.judgment ≡ judgments.Valid }
+    ensures lines { string_bytes result.explanation.lines ≡ [] }
+    ensures decoded { IsSomeAnd result.«module» (λ m. (plain_insts m ≡ checked.entry.insts) × IsHeaderOf image.now m.header) }
+{
+    Told {
+        explanation: Explanation {
+            judgment: Judgment::Valid,
+            lines: String::new(alloc),
+        },
+        module: Some(headed(image, checked.into_module())),
     }
 }
 
@@ -121,15 +145,16 @@ fn malformed_told(
     })
 }
 
-/// The lines that tell what the words of an image come to.
-fn told_by(
+/// What the words of an image come to, told in lines.
+fn told_of<'a>(
     alloc: Global,
     table: &Table,
     detail: Detail,
-    image: &Image,
-) -> Result<Explanation, AllocError>
-    ensures { (bytes : List ℕ) (order : Order) → IsModule order bytes image.now
-        → IfOk result (λ t. IsExplanation detail table.now bytes t) }
+    image: &'a Image,
+) -> Result<Told<'a>, AllocError>
+    ensures explanation { (bytes : List ℕ) (order : Order) → IsModule order bytes image.now
+        → IfOk result (λ t. IsExplanation detail table.now bytes t.explanation) }
+    ensures decoded { IfOk result (λ t. IsModuleIn table.now image.now t.«module») }
 {
     spv_words::laws::one_word_list();
     spv_words::laws::one_refusal();
@@ -140,22 +165,71 @@ fn told_by(
     word_counts();
     let _words = image.len();
     match explained_of(alloc, table, image) {
-        Ok(Explained::Valid(_)) => Ok(valid_told(alloc)),
+        Ok(Explained::Valid(checked)) => Ok(valid_told(alloc, image, checked)),
         Ok(
             Explained::Malformed {
                 fault,
                 evidence,
                 ..
             },
-        ) => malformed_told(alloc, table, detail, image, fault, evidence),
+        ) => {
+            let explanation = malformed_told(alloc, table, detail, image, fault, evidence)?;
+            Ok(Told {
+                explanation,
+                module: None,
+            })
+        }
         Ok(
             Explained::Broken {
                 fault,
                 evidence,
                 module,
             },
-        ) => broken_told(alloc, table, detail, &module, fault, evidence),
+        ) => {
+            let explanation = broken_told(alloc, table, detail, &module, fault, evidence)?;
+            Ok(Told {
+                explanation,
+                module: Some(headed(image, module)),
+            })
+        }
         Err(_) => Err(AllocError),
+    }
+}
+
+/// The lines that tell what the words of an image come to.
+fn told_by(
+    alloc: Global,
+    table: &Table,
+    detail: Detail,
+    image: &Image,
+) -> Result<Explanation, AllocError>
+    ensures { (bytes : List ℕ) (order : Order) → IsModule order bytes image.now
+        → IfOk result (λ t. IsExplanation detail table.now bytes t) }
+{
+    let told = told_of(alloc, table, detail, image)?;
+    let Told { explanation, .. } = told;
+    Ok(explanation)
+}
+
+/// The verdict on the words of a module and the lines that explain it, as `explain_bytes` answers them; and the module,
+/// which need not be decoded again.
+///
+/// `Memory` comes only where a growth of memory was refused.
+pub fn explained<'a>(
+    alloc: Global,
+    table: &Table,
+    detail: Detail,
+    image: &'a Image,
+) -> Result<Told<'a>, Memory>
+    // The verdict is that of the bytes that have the words, and the lines explain it.
+    ensures explanation { (bytes : List ℕ) (order : Order) → IsModule order bytes image.now
+        → IfOk result (λ t. IsExplanation detail table.now bytes t.explanation) }
+    // The module is the one that the words spell, with their header; there is none where they spell none.
+    ensures decoded { IfOk result (λ t. IsModuleIn table.now image.now t.«module») }
+{
+    match told_of(alloc, table, detail, image) {
+        Ok(told) => Ok(told),
+        Err(_) => Err(Memory),
     }
 }
 
@@ -165,7 +239,7 @@ fn refused_told(alloc: Global, code: WordError, front: Front) -> Result<Explanat
     ensures lines { IfOk result (λ t. string_bytes t.lines ≡ refused_by code front) }
 {
     let mut lines = rule_line(alloc, Code::Word(code))?;
-    push_refused(&mut lines, code, front)?;
+    push_refused(&mut lines, alloc, code, front)?;
     Ok(Explanation {
         judgment: Judgment::Refused(code),
         lines,

@@ -7,7 +7,7 @@ use Rattle.std.proofs.lemmas.Str.{IsCharBoundary-after_ascii, IsCharBoundary-pas
 use Rattle.std.proofs.lemmas.Bool.Decides.{nat_tests}
 use lib.Dec.{T, ltb, ltb→lt}
 use lib.Utf8.{encode, encodes, next}
-use Rattle.spv_fault_lines.specs.Plain.{escaped, is_control, is_late_control, plain_byte, plain_of}
+use Rattle.spv_fault_lines.specs.Plain.{escaped, is_control, is_late_control, plain_of}
 use Rattle.spv_fault_lines.specs.inner.Control.{IsFirstControl, control_size}
 use Rattle.spv_fault_lines.proofs.Steps.{drop_step, got}
 

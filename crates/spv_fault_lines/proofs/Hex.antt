@@ -1,5 +1,5 @@
 -- Hexadecimal digits, one after another.
-use Rattle.std.proofs.Common.{◌≡◌, ◌++◌, ◌∙◌, ◌/◌, ◌%◌, ℕ, zero, suc, List, [], ◌∷◌, refl, ap, append_assoc}
+use Rattle.std.proofs.Common.{◌≡◌, ◌++◌, ◌∙◌, ◌/◌, ◌%◌, ℕ, suc, List, [], ◌∷◌, ap, append_assoc}
 use Rattle.spv_lines.specs.Digits.{hex_digit, hex_digits}
 
 pub more_digits : (n x : ℕ) (old mid new : List ℕ) → mid ≡ old ++ hex_digits n (x / 16) → new ≡ mid ++ (hex_digit (x % 16) ∷ [])

@@ -1,3 +1,4 @@
+pub mod Alone
 pub mod Escapes
 pub mod Hex
 pub mod Joined

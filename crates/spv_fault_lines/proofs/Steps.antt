@@ -1,6 +1,6 @@
 -- Steps through lists.
 use Rattle.std.proofs.Common.{◌≡◌, ◌<◌, ◌≤◌, ◌+◌, ◌-◌, ◌++◌, ◌∙◌, ℕ, zero, suc, List, [], ◌∷◌, Option, Some, None, length, drop, slice_get, flat_map, get_or, set, refl, sym, ap, arith, append_assoc}
-use Rattle.std.proofs.Common.{Bool, true, false, nat_eq, nat_lt, length-set, drop-drop, get_or-set_other, subst}
+use Rattle.std.proofs.Common.{Bool, true, false, nat_lt, length-set, drop-drop, get_or-set_other}
 use Rattle.std.proofs.lemmas.Grind.{get_or-set_at}
 use Rattle.std.proofs.lemmas.Bool.Decides.{nat_tests}
 use Rattle.std.specs.Prelude.{if◌then◌else◌}
@@ -8,11 +8,10 @@ use Rattle.spv_table.specs.Lookups.{is_number}
 use Rattle.spv_module.specs.Operand.{PlainInst, result_in}
 use Rattle.spv_fault_lines.specs.declared.fact.Place.{Place}
 use Rattle.spv_fault_lines.specs.Place.{entered, left_by, open_from}
-use Rattle.spv_fault_lines.specs.Facts.{definition_from, is_told, thing_at, thing_of, type_facts}
+use Rattle.spv_fault_lines.specs.Facts.{definition_from, is_told, thing_at, thing_of, type_things}
 use Rattle.spv_fault_lines.specs.Lines.{result_of}
 use Rattle.spv_fault_lines.specs.inner.Parts.{kept}
-use Rattle.spv_fault_lines.specs.declared.fact.Fact.{Fact}
-use Rattle.spv_fault_lines.specs.declared.fact.Fact.TheVariants as fact
+use Rattle.spv_fault_lines.specs.declared.fact.Thing.{Thing}
 use Rattle.spv_fault_lines.specs.declared.fact.Thing.TheVariants as thing
 
 -- the rest of a list from one place on
@@ -28,7 +27,7 @@ drop_none (y ∷ xs) zero e = absurd cc
 drop_none (y ∷ xs) (suc k) e = drop_none xs k e
 
 -- one piece more
-pub piece_step : {A : Type 0} (f : A → List ℕ) (xs : List A) (k : ℕ) (x : A) (out more goal : List ℕ) → slice_get xs k ≡ Some x
+pub piece_step : {A B : Type 0} (f : A → List B) (xs : List A) (k : ℕ) (x : A) (out more goal : List B) → slice_get xs k ≡ Some x
     → more ≡ out ++ f x → out ++ flat_map f (drop k xs) ≡ goal → more ++ flat_map f (drop (k + 1) xs) ≡ goal
 piece_step f xs k x out more goal e m g =
     let d = ap (λ z. out ++ flat_map f z) (drop_step xs k x e) in
@@ -112,16 +111,16 @@ told_thing : (b : Bool) (d : Option ℕ) (x : ℕ) → thing_at (if b then None 
 told_thing true d x = refl
 told_thing false d x = refl
 
-pub type_step : (is : List PlainInst) (told ids : List ℕ) (k x : ℕ) (left : List (Option ℕ)) (old new goal : List Fact) → slice_get ids k ≡ Some x
+pub type_step : (is : List PlainInst) (told ids : List ℕ) (k x : ℕ) (left : List (Option ℕ)) (old new goal : List Thing) → slice_get ids k ≡ Some x
     → x < length left → ((y : ℕ) → y < length left → get_or left y None ≡ (if is_told told y then None else definition_from y 0 is))
-    → new ≡ old ++ (fact.Type (thing_at (get_or left x None) x) ∷ []) → old ++ type_facts is told (drop k ids) ≡ goal
-    → new ++ type_facts is (x ∷ told) (drop (k + 1) ids) ≡ goal
+    → new ≡ old ++ (thing_at (get_or left x None) x ∷ []) → old ++ type_things is told (drop k ids) ≡ goal
+    → new ++ type_things is (x ∷ told) (drop (k + 1) ids) ≡ goal
 type_step is told ids k x left old new goal e l h n g =
-    let rest = type_facts is (x ∷ told) (drop (k + 1) ids) in
+    let rest = type_things is (x ∷ told) (drop (k + 1) ids) in
     let t : thing_at (get_or left x None) x ≡ (if is_told told x then thing.Id x else thing_of is x) =
     ap (λ z. thing_at z x) (h x l) ∙ told_thing (is_told told x) (definition_from x 0 is) x in
-    let d = ap (λ z. old ++ type_facts is told z) (drop_step ids k x e) in
-    let m : new ≡ old ++ (fact.Type (if is_told told x then thing.Id x else thing_of is x) ∷ []) = n ∙ ap (λ z. old ++ (fact.Type z ∷ [])) t in
+    let d = ap (λ z. old ++ type_things is told z) (drop_step ids k x e) in
+    let m : new ≡ old ++ ((if is_told told x then thing.Id x else thing_of is x) ∷ []) = n ∙ ap (λ z. old ++ (z ∷ [])) t in
     ap (λ z. z ++ rest) m ∙ (append_assoc old _ rest ∙ (sym d ∙ g))
 
 pub left_step : (is : List PlainInst) (told : List ℕ) (left : List (Option ℕ)) (x : ℕ) → x < length left

@@ -40,10 +40,18 @@ abbrev pub is_told : List ℕ → ℕ → Bool
 is_told told x = list_any (nat_eq x) told
 
 -- types, after those that were told: each in full the first time, and then its id alone
-abbrev pub type_facts : List PlainInst → List ℕ → List ℕ → List Fact
-type_facts is told [] = []
-type_facts is told (x ∷ xs) =
-    fact.Type (if is_told told x then thing.Id x else thing_of is x) ∷ type_facts is (x ∷ told) xs
+abbrev pub type_things : List PlainInst → List ℕ → List ℕ → List Thing
+type_things is told [] = []
+type_things is told (x ∷ xs) =
+    (if is_told told x then thing.Id x else thing_of is x) ∷ type_things is (x ∷ told) xs
+
+-- the fact of types, where there are some
+abbrev pub types_facts : List Thing → List Fact
+types_facts [] = []
+types_facts (t ∷ ts) = fact.Types (t ∷ ts) ∷ []
+
+abbrev pub type_facts : List PlainInst → List ℕ → List Fact
+type_facts is xs = types_facts (type_things is [] xs)
 
 -- operand k of instruction n, the instruction that defines its id, and the types that are compared, where there are such
 abbrev pub operand_facts : ℕ → Option ℕ → List Fact
@@ -72,7 +80,7 @@ compared_facts is wanted found = wanted_facts is wanted ++ found_facts is found
 -- the function type that is asked, if one is
 abbrev pub asked_facts : List PlainInst → Option ℕ → List Fact
 asked_facts is None = []
-asked_facts is (Some t) = fact.Type (thing_of is t) ∷ []
+asked_facts is (Some t) = fact.Types (thing_of is t ∷ []) ∷ []
 
 -- one of two things that are to be the same: a count, or a type
 abbrev pub side_thing : List PlainInst → Side → Option ℕ → Thing
@@ -102,7 +110,7 @@ evidence_facts is n (evidence.Needs l) = lister_facts n l ++ (fact.NeedsOneOf n 
 evidence_facts is n evidence.NoEntry = fact.NoEntry ∷ []
 evidence_facts is n (evidence.Entry part) = fact.Part part ∷ []
 evidence_facts is n (evidence.Condition c k m wanted found types) =
-    failing_facts n c k m ++ (type_facts is [] types ++ compared_facts is wanted found)
+    failing_facts n c k m ++ (type_facts is types ++ compared_facts is wanted found)
 evidence_facts is n (evidence.Mismatch s wanted found of) = fact.Differs s ∷ asked_facts is of
     ++ (fact.Wanted (side_thing is s wanted) ∷ fact.Found (side_thing is s found) ∷ [])
 evidence_facts is n (evidence.MissingParent b ps) = fact.MissingParent b ∷ fact.Predecessors ps ∷ []

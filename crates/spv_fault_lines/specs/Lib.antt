@@ -1,6 +1,7 @@
 pub mod Classes
 pub mod Conditions
 pub mod Facts
+pub mod Keys
 pub mod Lines
 pub mod Place
 pub mod Plain

@@ -1,5 +1,5 @@
--- The text of the lines that explain a fault, each `KEY: TEXT`. (Own.)
-use Rattle.std.specs.Prelude.{◌≡◌, ◌++◌, ◌-◌, ℕ, List, [], ◌∷◌, Option, Some, None, Bool, true, false, codes}
+-- The text of the lines that explain a fault, each `KEY: TEXT`: a key, a colon, and the rest. (Own.)
+use Rattle.std.specs.Prelude.{◌++◌, ◌-◌, ℕ, List, [], ◌∷◌, Option, Some, None, Bool, true, false, codes}
 use Rattle.std.specs.Prelude.{decimal, drop, flat_map, length, nat_eq, nat_le, nat_lt, option_and_then, option_map}
 use Rattle.std.specs.Prelude.{slice_get, unwrap_or, if◌then◌else◌}
 use Rattle.spv_table.specs.Table.{Table, entry_of, enumerant_of, kind_of}
@@ -22,8 +22,11 @@ use Rattle.spv_fault_lines.specs.declared.fact.Fact.TheVariants as fact
 use Rattle.spv_fault_lines.specs.declared.fact.Place.{Place}
 use Rattle.spv_fault_lines.specs.declared.fact.Thing.{Thing}
 use Rattle.spv_fault_lines.specs.declared.fact.Thing.TheVariants as thing
+use Rattle.spv_fault_lines.specs.declared.key.Key.{Key}
+use Rattle.spv_fault_lines.specs.declared.key.Key.TheVariants as key
 use Rattle.spv_fault_lines.specs.Classes.{classes_text}
 use Rattle.spv_fault_lines.specs.Conditions.{condition_text}
+use Rattle.spv_fault_lines.specs.Keys.{line_name}
 use Rattle.spv_fault_lines.specs.Plain.{plain_of}
 use Rattle.spv_fault_lines.specs.Shapes.{role_text, row_text}
 
@@ -71,26 +74,21 @@ result_of is n = option_and_then (λ i. result_in i.operands) (slice_get is n)
 abbrev pub result_part : List PlainInst → ℕ → List ℕ
 result_part is n = part_of (result_of is n)
 
--- `KEY: TEXT`
-abbrev pub keyed : List ℕ → List ℕ → List ℕ
-keyed key text = key ++ codes ": " ++ text
+-- the results of instructions, as ` %13 %15 %16`
+abbrev pub results_part : List PlainInst → List ℕ → List ℕ
+results_part is ns = flat_map (result_part is) ns
 
--- the results of instructions after a key, as `walk: %13 %15 %16`
-abbrev pub results_text : List PlainInst → List ℕ → List ℕ → List ℕ
-results_text is key ns = key ++ codes ":" ++ flat_map (result_part is) ns
+-- ` inst 6, %5 = OpTypeInt 32 0`
+abbrev pub inst_part : List (List ℕ) → ℕ → List ℕ
+inst_part lines n = codes " inst " ++ decimal n ++ codes ", " ++ inst_line lines n
 
--- `KEY: inst 6, %5 = OpTypeInt 32 0`
-abbrev pub inst_text : List (List ℕ) → List ℕ → ℕ → List ℕ
-inst_text lines key n = key ++ codes ": inst " ++ decimal n ++ codes ", " ++ inst_line lines n
+-- ` %20 %30 %20`: the functions of a cycle, and before them the last of them, the caller
+abbrev pub cycle_part : List PlainInst → List ℕ → List ℕ
+cycle_part is fs = results_part is (drop (length fs - 1) fs) ++ results_part is fs
 
--- `cycle: %20 %30 %20`: the functions of a cycle, and before them the last of them, the caller
-abbrev pub cycle_text : List PlainInst → List ℕ → List ℕ
-cycle_text is fs =
-    codes "cycle:" ++ flat_map (result_part is) (drop (length fs - 1) fs) ++ flat_map (result_part is) fs
-
--- `operand: 2 %17`
-abbrev pub operand_text : Table → List PlainInst → ℕ → ℕ → List ℕ
-operand_text G is n k = codes "operand: " ++ decimal k ++ operand_part G (operand_at is n k)
+-- ` 2 %17`
+abbrev pub numbered_part : Table → List PlainInst → ℕ → ℕ → List ℕ
+numbered_part G is n k = number_part k ++ operand_part G (operand_at is n k)
 
 -- `, block %16`, of a block whose OpLabel has a result
 abbrev pub block_id_part : Option ℕ → List ℕ
@@ -104,17 +102,16 @@ abbrev pub function_part : List PlainInst → Option ℕ → List ℕ
 function_part is None = []
 function_part is (Some n) = result_part is n
 
--- `in: function %10, block %16`
-abbrev pub place_text : List PlainInst → List ℕ → Place → List ℕ
-place_text is key p =
-    key ++ codes ": function" ++ function_part is p.function ++ block_part is p.block
+-- ` function %10, block %16`
+abbrev pub place_part : List PlainInst → Place → List ℕ
+place_part is p = codes " function" ++ function_part is p.function ++ block_part is p.block
 
--- `opcode: 128 OpIAdd`, by the name of the grammar if it has one
+-- ` 128 OpIAdd`, by the name of the grammar if it has one
 abbrev pub opcode_part : Table → ℕ → List ℕ
 opcode_part G opcode = unwrap_or (option_map (λ e. name_part e.name) (entry_of G opcode)) []
 
-abbrev pub opcode_text : Table → ℕ → List ℕ
-opcode_text G opcode = codes "opcode: " ++ decimal opcode ++ opcode_part G opcode
+abbrev pub named_opcode_part : Table → ℕ → List ℕ
+named_opcode_part G opcode = number_part opcode ++ opcode_part G opcode
 
 -- ` OpLabel`; nothing where the grammar has no name for it
 abbrev pub may_come_part : Table → ℕ → List ℕ
@@ -133,15 +130,14 @@ abbrev pub tells_names : Detail → List ℕ → Bool
 tells_names detail.Short opcodes = nat_le (length opcodes) 8
 tells_names detail.Full opcodes = true
 
--- `may come: OpLabel OpFunctionEnd`, or `may come: a type or constant; OpFunction`
-abbrev pub may_come_text : Detail → Table → List ℕ → Bool → List ℕ
-may_come_text d G opcodes end =
-    codes "may come:" ++ (if tells_names d opcodes then names_text G opcodes end else classes_text opcodes end)
+-- ` OpLabel OpFunctionEnd`, or ` a type or constant; OpFunction`
+abbrev pub coming_part : Detail → Table → List ℕ → Bool → List ℕ
+coming_part d G opcodes end = if tells_names d opcodes then names_text G opcodes end else classes_text opcodes end
 
--- `missing: the end of block %11`, or of the function where no block is open
+-- `the end of block %11`, or of the function where no block is open
 abbrev pub unended_by : List PlainInst → Option ℕ → Option ℕ → List ℕ
-unended_by is function (Some block) = codes "missing: the end of block" ++ result_part is block
-unended_by is function None = codes "missing: the end of function" ++ function_part is function
+unended_by is function (Some block) = codes "the end of block" ++ result_part is block
+unended_by is function None = codes "the end of function" ++ function_part is function
 
 abbrev pub unended_text : List PlainInst → Place → List ℕ
 unended_text is p = unended_by is p.function p.block
@@ -158,10 +154,6 @@ value_or_number G (Some kind) x = value_text G kind x
 
 abbrev pub capability_name : Table → ℕ → List ℕ
 capability_name G c = value_or_number G (number_named G (codes "Capability")) c
-
-abbrev pub capability_key : Bool → List ℕ
-capability_key true = codes "implied"
-capability_key false = codes "not implied"
 
 -- a bit of a mask by the name of its kind
 abbrev pub bit_name : Table → Option Plain → ℕ → List ℕ
@@ -215,21 +207,33 @@ abbrev pub needed_part : Table → Option PlainInst → Lister → List ℕ
 needed_part G None l = []
 needed_part G (Some i) l = names_part G i (listed_names G i l)
 
-abbrev pub entry_part_text : List (List ℕ) → EntryPart → List ℕ
-entry_part_text lines part.Model = codes "part: the execution model is not Kernel"
-entry_part_text lines part.Declared = codes "part: the function is a declaration"
-entry_part_text lines part.Returns = codes "part: the function does not return void"
-entry_part_text lines (part.Called n) = inst_text lines (codes "called") n
-entry_part_text lines part.Unnamed = codes "part: the function is that of no OpEntryPoint"
-entry_part_text lines (part.Imported n) = inst_text lines (codes "imported") n
-entry_part_text lines part.Missing = codes "part: a declaration is not imported"
+-- a part of E2 that is broken: in words, or the instruction by which it is
+abbrev pub entry_part_text : EntryPart → List ℕ
+entry_part_text part.Model = codes "the execution model is not Kernel"
+entry_part_text part.Declared = codes "the function is a declaration"
+entry_part_text part.Returns = codes "the function does not return void"
+entry_part_text (part.Called n) = codes "the function is called"
+entry_part_text part.Unnamed = codes "the function is that of no OpEntryPoint"
+entry_part_text (part.Imported n) = codes "a definition is imported"
+entry_part_text part.Missing = codes "a declaration is not imported"
 
+abbrev pub entry_rest : List (List ℕ) → EntryPart → List ℕ
+entry_rest lines (part.Called n) = inst_part lines n
+entry_rest lines (part.Imported n) = inst_part lines n
+entry_rest lines p = name_part (entry_part_text p)
+
+-- where two things are to be the same: in words, or the number of a parameter or an argument
 abbrev pub side_text : Side → List ℕ
-side_text side.Function = codes "place: function type"
-side_text side.Return = codes "place: return type"
-side_text side.Number = codes "place: number of parameters or arguments"
-side_text (side.Parameter k) = keyed (codes "parameter") (decimal k)
-side_text (side.Argument k) = keyed (codes "argument") (decimal k)
+side_text side.Function = codes "function type"
+side_text side.Return = codes "return type"
+side_text side.Number = codes "number of parameters or arguments"
+side_text (side.Parameter k) = codes "parameter"
+side_text (side.Argument k) = codes "argument"
+
+abbrev pub side_rest : Side → List ℕ
+side_rest (side.Parameter k) = number_part k
+side_rest (side.Argument k) = number_part k
+side_rest s = name_part (side_text s)
 
 abbrev pub thing_text : List (List ℕ) → Thing → List ℕ
 thing_text lines thing.Nothing = codes "nothing"
@@ -245,55 +249,123 @@ abbrev pub dots : Bool → List ℕ
 dots true = codes " .."
 dots false = []
 
-abbrev pub words_text : Bool → List ℕ → Bool → List ℕ
-words_text before words after = codes "words:" ++ dots before ++ flat_map word_part words ++ dots after
+abbrev pub words_rest : Bool → List ℕ → Bool → List ℕ
+words_rest before words after = dots before ++ flat_map word_part words ++ dots after
 
 -- `, 0x00000011`; nothing of a word that the module has not
 abbrev pub word_value : Option ℕ → List ℕ
 word_value None = []
 word_value (Some w) = codes ", 0x" ++ hex_digits 8 w
 
--- What is told, in short or in full, before control characters are escaped and without a line feed: under the table, of
--- these instructions and their shown lines.
-abbrev pub raw_of : Detail → Table → List PlainInst → List (List ℕ) → Fact → List ℕ
-raw_of d G is lines (fact.At n) = keyed (codes "at") (inst_line lines n)
-raw_of d G is lines (fact.In p) = place_text is (codes "in") p
-raw_of d G is lines (fact.Open p) = place_text is (codes "open") p
-raw_of d G is lines (fact.Words before words after) = words_text before words after
-raw_of d G is lines (fact.Word k w) = keyed (codes "word") (decimal k ++ word_value w)
-raw_of d G is lines (fact.Opcode opcode) = opcode_text G opcode
-raw_of d G is lines (fact.Row opcode) = row_text opcode
-raw_of d G is lines (fact.MayCome opcodes end) = may_come_text d G opcodes end
-raw_of d G is lines (fact.Unended p) = unended_text is p
-raw_of d G is lines (fact.Operand n k) = operand_text G is n k
-raw_of d G is lines (fact.Failing k) = keyed (codes "operand") (decimal k)
-raw_of d G is lines (fact.Due kind) = keyed (codes "due") (due_text G kind)
-raw_of d G is lines (fact.Bound bound) = keyed (codes "bound") (decimal bound)
-raw_of d G is lines (fact.Defined n) = inst_text lines (codes "defined") n
-raw_of d G is lines (fact.LocalTo f) = results_text is (codes "local to") (f ∷ [])
-raw_of d G is lines (fact.Role r) = keyed (codes "role") (role_text r)
-raw_of d G is lines (fact.Earlier n) = inst_text lines (codes "earlier") n
-raw_of d G is lines (fact.Capability c implied) = keyed (capability_key implied) (capability_name G c)
-raw_of d G is lines (fact.Bit n k bit) = keyed (codes "bit") (bit_name G (operand_at is n k) bit)
-raw_of d G is lines (fact.NeedsOneOf n l) = codes "needs one of:" ++ needed_part G (slice_get is n) l
-raw_of d G is lines fact.NoEntry = codes "missing: OpEntryPoint"
-raw_of d G is lines (fact.Part part) = entry_part_text lines part
-raw_of d G is lines (fact.Condition c) = keyed (codes "condition") (condition_text c)
-raw_of d G is lines (fact.Type t) = keyed (codes "type") (thing_text lines t)
-raw_of d G is lines (fact.Differs s) = side_text s
-raw_of d G is lines (fact.Wanted t) = keyed (codes "wanted") (thing_text lines t)
-raw_of d G is lines (fact.Found t) = keyed (codes "found") (thing_text lines t)
-raw_of d G is lines (fact.MissingParent b) = results_text is (codes "missing parent") (b ∷ [])
-raw_of d G is lines (fact.NoPredecessor n k) = codes "no predecessor:" ++ operand_part G (operand_at is n k)
-raw_of d G is lines (fact.Twice n k) = codes "twice:" ++ operand_part G (operand_at is n k)
-raw_of d G is lines (fact.Predecessors blocks) = results_text is (codes "predecessors") blocks
-raw_of d G is lines (fact.Walk blocks) = results_text is (codes "walk") blocks
-raw_of d G is lines (fact.Calls functions) = results_text is (codes "calls") functions
-raw_of d G is lines (fact.Cycle functions) = cycle_text is functions
+-- the key of what is told
+abbrev pub capability_key : Bool → Key
+capability_key true = key.Implied
+capability_key false = key.NotImplied
 
--- the line of a fact
+abbrev pub part_key : EntryPart → Key
+part_key (part.Called n) = key.Called
+part_key (part.Imported n) = key.Imported
+part_key p = key.Part
+
+abbrev pub side_key : Side → Key
+side_key (side.Parameter k) = key.Parameter
+side_key (side.Argument k) = key.Argument
+side_key s = key.Place
+
+abbrev pub key_of : Fact → Key
+key_of (fact.At n) = key.At
+key_of (fact.In p) = key.In
+key_of (fact.Open p) = key.Open
+key_of (fact.Words before words after) = key.Words
+key_of (fact.Word k w) = key.Word
+key_of (fact.Opcode opcode) = key.Opcode
+key_of (fact.Row opcode) = key.Row
+key_of (fact.MayCome opcodes end) = key.MayCome
+key_of (fact.Unended p) = key.Missing
+key_of (fact.Operand n k) = key.Operand
+key_of (fact.Failing k) = key.Operand
+key_of (fact.Due kind) = key.Due
+key_of (fact.Bound bound) = key.Bound
+key_of (fact.Defined n) = key.Defined
+key_of (fact.LocalTo f) = key.LocalTo
+key_of (fact.Role r) = key.Role
+key_of (fact.Earlier n) = key.Earlier
+key_of (fact.Capability c implied) = capability_key implied
+key_of (fact.Bit n k bit) = key.Bit
+key_of (fact.NeedsOneOf n l) = key.NeedsOneOf
+key_of fact.NoEntry = key.Missing
+key_of (fact.Part part) = part_key part
+key_of (fact.Condition c) = key.Condition
+key_of (fact.Types ts) = key.Type
+key_of (fact.Differs s) = side_key s
+key_of (fact.Wanted t) = key.Wanted
+key_of (fact.Found t) = key.Found
+key_of (fact.MissingParent b) = key.MissingParent
+key_of (fact.NoPredecessor n k) = key.NoPredecessor
+key_of (fact.Twice n k) = key.Twice
+key_of (fact.Predecessors blocks) = key.Predecessors
+key_of (fact.Walk blocks) = key.Walk
+key_of (fact.Calls functions) = key.Calls
+key_of (fact.Cycle functions) = key.Cycle
+
+-- What is told behind the key and its colon, in short or in full: under the table, of these instructions and their shown
+-- lines. Nothing of types, each of which has a line of its own.
+abbrev pub rest_of : Detail → Table → List PlainInst → List (List ℕ) → Fact → List ℕ
+rest_of d G is lines (fact.At n) = name_part (inst_line lines n)
+rest_of d G is lines (fact.In p) = place_part is p
+rest_of d G is lines (fact.Open p) = place_part is p
+rest_of d G is lines (fact.Words before words after) = words_rest before words after
+rest_of d G is lines (fact.Word k w) = number_part k ++ word_value w
+rest_of d G is lines (fact.Opcode opcode) = named_opcode_part G opcode
+rest_of d G is lines (fact.Row opcode) = name_part (row_text opcode)
+rest_of d G is lines (fact.MayCome opcodes end) = coming_part d G opcodes end
+rest_of d G is lines (fact.Unended p) = name_part (unended_text is p)
+rest_of d G is lines (fact.Operand n k) = numbered_part G is n k
+rest_of d G is lines (fact.Failing k) = number_part k
+rest_of d G is lines (fact.Due kind) = name_part (due_text G kind)
+rest_of d G is lines (fact.Bound bound) = number_part bound
+rest_of d G is lines (fact.Defined n) = inst_part lines n
+rest_of d G is lines (fact.LocalTo f) = results_part is (f ∷ [])
+rest_of d G is lines (fact.Role r) = name_part (role_text r)
+rest_of d G is lines (fact.Earlier n) = inst_part lines n
+rest_of d G is lines (fact.Capability c implied) = name_part (capability_name G c)
+rest_of d G is lines (fact.Bit n k bit) = name_part (bit_name G (operand_at is n k) bit)
+rest_of d G is lines (fact.NeedsOneOf n l) = needed_part G (slice_get is n) l
+rest_of d G is lines fact.NoEntry = name_part (codes "OpEntryPoint")
+rest_of d G is lines (fact.Part part) = entry_rest lines part
+rest_of d G is lines (fact.Condition c) = name_part (condition_text c)
+rest_of d G is lines (fact.Types ts) = []
+rest_of d G is lines (fact.Differs s) = side_rest s
+rest_of d G is lines (fact.Wanted t) = name_part (thing_text lines t)
+rest_of d G is lines (fact.Found t) = name_part (thing_text lines t)
+rest_of d G is lines (fact.MissingParent b) = results_part is (b ∷ [])
+rest_of d G is lines (fact.NoPredecessor n k) = operand_part G (operand_at is n k)
+rest_of d G is lines (fact.Twice n k) = operand_part G (operand_at is n k)
+rest_of d G is lines (fact.Predecessors blocks) = results_part is blocks
+rest_of d G is lines (fact.Walk blocks) = results_part is blocks
+rest_of d G is lines (fact.Calls functions) = results_part is functions
+rest_of d G is lines (fact.Cycle functions) = cycle_part is functions
+
+-- `KEY:` and what is told behind it
+abbrev pub keyed : Key → List ℕ → List ℕ
+keyed k rest = line_name k ++ codes ":" ++ rest
+
+-- what is told, before control characters are escaped and without a line feed
+abbrev pub raw_of : Detail → Table → List PlainInst → List (List ℕ) → Fact → List ℕ
+raw_of d G is lines f = keyed (key_of f) (rest_of d G is lines f)
+
+-- the line of a raw text
+abbrev pub plain_line : List ℕ → List ℕ
+plain_line raw = plain_of raw ++ (10 ∷ [])
+
+-- `type: %5 = OpTypeInt 32 0`
+abbrev pub type_line : List (List ℕ) → Thing → List ℕ
+type_line lines t = plain_line (keyed key.Type (name_part (thing_text lines t)))
+
+-- the line of a fact, or the lines of its types
 abbrev pub line_of : Detail → Table → List PlainInst → List (List ℕ) → Fact → List ℕ
-line_of d G is lines f = plain_of (raw_of d G is lines f) ++ (10 ∷ [])
+line_of d G is lines (fact.Types ts) = flat_map (type_line lines) ts
+line_of d G is lines f = plain_line (raw_of d G is lines f)
 
 -- the lines of facts, in order
 abbrev pub text_of : Detail → Table → List PlainInst → List (List ℕ) → List Fact → List ℕ

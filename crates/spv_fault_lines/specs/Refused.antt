@@ -1,5 +1,5 @@
 -- What the lines tell of bytes that are no words of a module. (Own.)
-use Rattle.std.specs.Prelude.{◌++◌, ◌+◌, ◌*◌, ◌/◌, ◌%◌, ◌&&◌, ℕ, List, [], ◌∷◌, Bool, codes, decimal, length}
+use Rattle.std.specs.Prelude.{◌++◌, ◌+◌, ◌*◌, ◌/◌, ◌%◌, ◌&&◌, ℕ, List, [], ◌∷◌, Option, Some, None, Bool, codes, decimal, length}
 use Rattle.std.specs.Prelude.{nat_eq, nat_lt, slice_index, if◌then◌else◌}
 use Rattle.spv_words.specs.Header.{magic_number}
 use Rattle.spv_words.specs.Words.{word_of}
@@ -9,7 +9,9 @@ use Rattle.spv_words.specs.declared.words.WordError.{WordError}
 use Rattle.spv_words.specs.declared.words.WordError.TheVariants as code
 use Rattle.spv_lines.specs.Digits.{hex_digits}
 use Rattle.spv_fault_lines.specs.declared.refused.Front.{Front}
-use Rattle.spv_fault_lines.specs.Lines.{keyed}
+use Rattle.spv_fault_lines.specs.declared.key.Key.{Key}
+use Rattle.spv_fault_lines.specs.declared.key.Key.TheVariants as key
+use Rattle.spv_fault_lines.specs.Lines.{keyed, name_part}
 
 -- word n of bytes in an order [2.3]
 abbrev pub word_at : Order → List ℕ → ℕ → ℕ
@@ -32,10 +34,6 @@ front_in o bytes = record {
 
 abbrev pub front_of : List ℕ → Front
 front_of bytes = front_in (order_of bytes) bytes
-
--- `found: TEXT` as a line
-abbrev pub found_line : List ℕ → List ℕ
-found_line text = keyed (codes "found") text ++ (10 ∷ [])
 
 -- `12 bytes`
 abbrev pub size_text : ℕ → List ℕ
@@ -64,16 +62,26 @@ version_text w =
 abbrev pub is_earlier : ℕ → Bool
 is_earlier w = is_version w && (nat_eq (major_of w) 1 && nat_lt (minor_of w) 6)
 
-abbrev pub help_line : ℕ → List ℕ
-help_line w = if is_earlier w then codes "help: --as-1.6 reads it as a module of version 1.6\n" else []
-
 -- what is found in bytes that break a code: their number, the first word, the version, the schema, the bound
+abbrev pub found_text : WordError → Front → Option (List ℕ)
+found_text code.W2 f = Some (size_text f.size)
+found_text code.W3 f = Some (size_text f.size)
+found_text code.W4 f = Some (hex_text f.magic)
+found_text code.W5 f = Some (version_text f.version)
+found_text code.W6 f = Some (decimal f.schema)
+found_text code.W7 f = Some (decimal f.bound)
+found_text code.W8 f = Some (codes "more than 16777216 bytes")
+found_text e f = None
+
+-- how a module of an earlier version is read
+abbrev pub help_text : WordError → Front → Option (List ℕ)
+help_text code.W5 f = if is_earlier f.version then Some (codes "--as-1.6 reads it as a module of version 1.6") else None
+help_text e f = None
+
+-- `found: 12 bytes`, as a line, where there is something to tell
+abbrev pub piece_line : Key → Option (List ℕ) → List ℕ
+piece_line k None = []
+piece_line k (Some text) = keyed k (name_part text) ++ (10 ∷ [])
+
 abbrev pub found_lines : WordError → Front → List ℕ
-found_lines code.W2 f = found_line (size_text f.size)
-found_lines code.W3 f = found_line (size_text f.size)
-found_lines code.W4 f = found_line (hex_text f.magic)
-found_lines code.W5 f = found_line (version_text f.version) ++ help_line f.version
-found_lines code.W6 f = found_line (decimal f.schema)
-found_lines code.W7 f = found_line (decimal f.bound)
-found_lines code.W8 f = found_line (codes "more than 16777216 bytes")
-found_lines e f = []
+found_lines e f = piece_line key.Found (found_text e f) ++ piece_line key.Help (help_text e f)

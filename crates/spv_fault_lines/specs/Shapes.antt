@@ -30,9 +30,9 @@ form_text form.Unseen = codes "id"
 form_text (form.Kind k) = name_of k
 form_text form.Other = codes "operand"
 
--- after a space the first of the operands, and any other after a comma
+-- any operand but the first after a comma
 abbrev pub comma : Bool → List ℕ
-comma true = codes " "
+comma true = []
 comma false = codes ", "
 
 abbrev pub forms_text : Bool → List Form → List ℕ
@@ -41,7 +41,7 @@ forms_text first (f ∷ fs) = comma first ++ form_text f ++ forms_text false fs
 
 -- where nothing may come after the fixed operands, and there are none of these
 abbrev pub closed_text : Bool → List ℕ
-closed_text true = codes " no operands"
+closed_text true = codes "no operands"
 closed_text false = []
 
 -- what may come after the fixed operands, and whether that is the first that is told
@@ -49,7 +49,7 @@ abbrev pub ending_text : Bool → RowEnding → List ℕ
 ending_text first closed = closed_text first
 ending_text first (maybe f) = comma first ++ form_text f ++ codes " or nothing"
 ending_text first file_and_text = comma first ++ codes "file or nothing, string or nothing"
-ending_text first (repeated fs) = comma first ++ codes "any number of:" ++ forms_text true fs
+ending_text first (repeated fs) = comma first ++ codes "any number of: " ++ forms_text true fs
 ending_text first others = comma first ++ codes "any others"
 ending_text first (maybe_others f) = comma first ++ form_text f ++ codes " or nothing, any others"
 
@@ -58,10 +58,10 @@ abbrev pub has_none : List Form → Bool
 has_none [] = true
 has_none (f ∷ fs) = false
 
--- `row: result type, result, value, any number of: value`
+-- `result type, result, value, any number of: value`
 abbrev pub row_words : Option PlainRow → List ℕ
-row_words None = codes "row: none"
-row_words (Some r) = codes "row:" ++ forms_text true r.fixed ++ ending_text (has_none r.fixed) r.ending
+row_words None = codes "none"
+row_words (Some r) = forms_text true r.fixed ++ ending_text (has_none r.fixed) r.ending
 
 abbrev pub row_text : ℕ → List ℕ
 row_text opcode = row_words (row_of opcode)

@@ -37,7 +37,7 @@ pub fn push_number(out: &mut String, number: u32) -> Result<(), AllocError>
 }
 
 /// Adds a space and an id, as ` %7`.
-pub fn push_id(out: &mut String, id: u32) -> Result<(), AllocError>
+fn push_id(out: &mut String, id: u32) -> Result<(), AllocError>
     ensures { OnOk result (string_bytes out.new ≡ string_bytes out.old ++ id_part id) }
 {
     out.push_str(" %")?;
@@ -45,7 +45,7 @@ pub fn push_id(out: &mut String, id: u32) -> Result<(), AllocError>
 }
 
 /// Adds a space and a number.
-fn push_spaced(out: &mut String, number: u32) -> Result<(), AllocError>
+pub fn push_spaced(out: &mut String, number: u32) -> Result<(), AllocError>
     ensures { OnOk result (string_bytes out.new ≡ string_bytes out.old ++ number_part number) }
 {
     out.push_str(" ")?;
@@ -232,31 +232,15 @@ impl<'m, 'a> About<'m, 'a> {
         out.push_str(line.as_str())
     }
 
-    /// Adds an instruction, with its number, after a key.
-    pub fn push_numbered(&self, out: &mut String, key: &str, inst: u32) -> Result<(), AllocError>
+    /// Adds an instruction, with its number.
+    pub fn push_numbered(&self, out: &mut String, inst: u32) -> Result<(), AllocError>
         ensures { (shown : List (List ℕ)) → ShownLines self.now.table.now [] (plain_insts self.now.«module».now) shown
-            → OnOk result (string_bytes out.new ≡ string_bytes out.old ++ lines.inst_text shown key.now inst) }
+            → OnOk result (string_bytes out.new ≡ string_bytes out.old ++ lines.inst_part shown inst) }
     {
-        out.push_str(key)?;
-        out.push_str(": inst ")?;
+        out.push_str(" inst ")?;
         push_number(out, inst)?;
         out.push_str(", ")?;
         self.push_inst(out, inst)
-    }
-
-    /// Adds a key and the results of instructions.
-    pub fn push_keyed_results(
-        &self,
-        out: &mut String,
-        key: &str,
-        insts: &[u32],
-    ) -> Result<(), AllocError>
-        ensures { OnOk result (string_bytes out.new ≡ string_bytes out.old ++ lines.results_text
-            (plain_insts self.now.«module».now) key.now insts.now) }
-    {
-        out.push_str(key)?;
-        out.push_str(":")?;
-        self.push_results(out, insts)
     }
 
     /// Adds a space and an operand of an instruction, if it has such a one that is an id, a number or a value.

@@ -135,9 +135,9 @@ pub enum Fact {
     Condition {
         condition: Condition,
     },
-    /// `type`: a type.
-    Type {
-        thing: Thing,
+    /// `type`: types, each on a line.
+    Types {
+        things: Listed<Thing>,
     },
     /// `place`, `parameter` or `argument`: where two things are to be the same.
     Differs {

@@ -312,12 +312,7 @@ impl<'m, 'a> About<'m, 'a> {
             (plain_insts self.now.«module».now) of) }
     {
         match of {
-            Some(id) => push_one(
-                facts,
-                Fact::Type {
-                    thing: self.thing_of(id),
-                },
-            ),
+            Some(id) => self.push_lone_type(facts, self.thing_of(id)),
             None => Ok(()),
         }
     }

@@ -1,13 +1,19 @@
 //! Laws of the definitions, and worked examples. Each function does nothing: its contract is what is proved.
 
-ghost use Rattle.std.specs.Prelude.{◌≡◌, ◌<◌, ℕ, List, Some, None, codes, length, MatchOption};
+ghost use Rattle.std.specs.Prelude.{◌≡◌, ◌<◌, ℕ, List, [], Some, None, codes, length, MatchOption};
+ghost use Rattle.spv_module.specs.Example.{small};
 ghost use Rattle.spv_module.specs.Operand.{PlainInst};
 ghost use Rattle.spv_module.specs.declared.opcode.TheConstants as opcode;
 ghost use Rattle.spv_layout.specs.Layout.{IsLayout, classes};
 ghost use Rattle.spv_layout.specs.Place.{IsOfFunction, IsOfBlock};
 ghost use Rattle.spv_layout.specs.Example.{small_function};
+ghost use Rattle.spv_fault_lines.specs.Keys.{line_name, member_name};
+ghost use Rattle.spv_fault_lines.specs.Lines.{raw_of};
 ghost use Rattle.spv_fault_lines.specs.Place.{nowhere, place_of};
 ghost use Rattle.spv_fault_lines.specs.Shapes.{row_text};
+ghost use Rattle.spv_fault_lines.specs.declared.fact.Detail.TheVariants.{Short};
+ghost use Rattle.spv_fault_lines.specs.declared.fact.Fact.TheVariants as fact;
+ghost use Rattle.spv_fault_lines.specs.declared.key.Key.TheVariants as keys;
 
 /// Where instructions are laid out as a module, the place that opcodes alone give is that of the layout: the function
 /// and the block that an instruction is of, and none where it is of none.
@@ -32,9 +38,20 @@ pub fn place_examples()
 /// The operands that rows ask for, in words. OpTypeMatrix has no row.
 pub fn row_examples()
     ensures load { row_text opcode.LOAD
-        ≡ codes "row: result type, result, value, MemoryAccess or nothing, any others" }
-    ensures phi { row_text opcode.PHI ≡ codes "row: result type, result, any number of: value, label" }
-    ensures bare { row_text opcode.RETURN ≡ codes "row: no operands" }
-    ensures unknown { row_text 24 ≡ codes "row: none" }
-    ensures not_other { ¬ (row_text opcode.RETURN ≡ codes "row: value") }
+        ≡ codes "result type, result, value, MemoryAccess or nothing, any others" }
+    ensures phi { row_text opcode.PHI ≡ codes "result type, result, any number of: value, label" }
+    ensures bare { row_text opcode.RETURN ≡ codes "no operands" }
+    ensures unknown { row_text 24 ≡ codes "none" }
+    ensures not_other { ¬ (row_text opcode.RETURN ≡ codes "value") }
+{}
+
+/// Keys as they are written: with spaces in lines, and as one word in JSON.
+pub fn key_examples()
+    ensures line { line_name keys.MayCome ≡ codes "may come" }
+    ensures member { member_name keys.MayCome ≡ codes "mayComeNext" }
+    ensures not_member { ¬ (member_name keys.NeedsOneOf ≡ codes "needs one of") }
+    // Types have one member, and a line each.
+    ensures types { member_name keys.Type ≡ codes "types" }
+    ensures raw { raw_of Short small [] [] fact.NoEntry ≡ codes "missing: OpEntryPoint" }
+    ensures not_raw { ¬ (raw_of Short small [] [] fact.NoEntry ≡ codes "missing OpEntryPoint") }
 {}

@@ -5,16 +5,19 @@ ghost use Rattle.spv_table.specs.Table.{entry_of};
 ghost use Rattle.spv_module.specs.Module.{plain_inst, plain_insts, plain_operand};
 ghost use Rattle.spv_lines.specs.Text.{ShownLines, inst_line};
 ghost use Rattle.spv_fault_lines.specs.Lines as lines;
-ghost use Rattle.spv_fault_lines.specs.Lines.{bit_name, capability_key, capability_name, keyed, needed_part, operand_at};
-ghost use Rattle.spv_fault_lines.specs.Lines.{line_of, raw_of, text_of};
+ghost use Rattle.spv_fault_lines.specs.Keys.{line_name};
+ghost use Rattle.spv_fault_lines.specs.Lines.{bit_name, keyed, key_of, line_of, name_part, needed_part, number_part};
+ghost use Rattle.spv_fault_lines.specs.Lines.{operand_at, plain_line, raw_of, rest_of, text_of, thing_text, type_line};
+ghost use Rattle.spv_fault_lines.specs.Shapes.{row_text};
 
 use crate::about::{
-    About, push_capabilities, push_capability, push_id, push_names, push_number, push_opcode,
-    push_opcodes, push_value,
+    About, push_capabilities, push_capability, push_names, push_number, push_opcode, push_opcodes,
+    push_spaced, push_value,
 };
 use crate::classes::push_coming_classes;
 use crate::conditions::condition_words;
 use crate::fact::{Detail, Fact, Place, Thing};
+use crate::key::Key;
 use crate::needs::needs_of;
 use crate::plain::{push_hex, push_plain};
 use crate::shapes::{push_row_of, role_name};
@@ -23,30 +26,19 @@ use spv_module::{Inst, Operand};
 use spv_table::{NameList, Table};
 use std::alloc::AllocError;
 
-/// Adds a key and a text.
-fn push_keyed(out: &mut String, key: &str, text: &str) -> Result<(), AllocError>
-    ensures { OnOk result (string_bytes out.new ≡ string_bytes out.old ++ keyed key.now text.now) }
+/// Adds a space and a text.
+fn push_name(out: &mut String, text: &str) -> Result<(), AllocError>
+    ensures { OnOk result (string_bytes out.new ≡ string_bytes out.old ++ name_part text.now) }
 {
-    out.push_str(key)?;
-    out.push_str(": ")?;
+    out.push_str(" ")?;
     out.push_str(text)
 }
 
-/// Adds a key and a number.
-fn push_keyed_number(out: &mut String, key: &str, number: u32) -> Result<(), AllocError>
-    ensures { OnOk result (string_bytes out.new ≡ string_bytes out.old ++ keyed key.now (decimal number)) }
-{
-    out.push_str(key)?;
-    out.push_str(": ")?;
-    push_number(out, number)
-}
-
 /// Adds the number of an opcode, and its name if the grammar has one.
-fn push_opcode_text(out: &mut String, table: &Table, opcode: u16) -> Result<(), AllocError>
-    ensures { OnOk result (string_bytes out.new ≡ string_bytes out.old ++ lines.opcode_text table.now opcode) }
+fn push_named_opcode(out: &mut String, table: &Table, opcode: u16) -> Result<(), AllocError>
+    ensures { OnOk result (string_bytes out.new ≡ string_bytes out.old ++ lines.named_opcode_part table.now opcode) }
 {
-    out.push_str("opcode: ")?;
-    push_number(out, u32::from(opcode))?;
+    push_spaced(out, u32::from(opcode))?;
     push_opcode(out, table, opcode)
 }
 
@@ -96,9 +88,8 @@ fn push_dots(out: &mut String, left_out: bool) -> Result<(), AllocError>
 
 /// Adds words of an instruction, in hexadecimal.
 fn push_words(out: &mut String, before: bool, words: &[u32], after: bool) -> Result<(), AllocError>
-    ensures { OnOk result (string_bytes out.new ≡ string_bytes out.old ++ lines.words_text before words.now after) }
+    ensures { OnOk result (string_bytes out.new ≡ string_bytes out.old ++ lines.words_rest before words.now after) }
 {
-    out.push_str("words:")?;
     push_dots(out, before)?;
     push_hex_words(out, words)?;
     push_dots(out, after)
@@ -128,20 +119,17 @@ fn push_value_of(out: &mut String, word: Option<u32>) -> Result<(), AllocError>
 
 /// Adds the word that fails.
 fn push_failing(out: &mut String, offset: u32, word: Option<u32>) -> Result<(), AllocError>
-    ensures { OnOk result (string_bytes out.new ≡ string_bytes out.old ++ keyed (codes "word")
-        (decimal offset ++ lines.word_value word)) }
+    ensures { OnOk result (string_bytes out.new ≡ string_bytes out.old ++ (number_part offset
+        ++ lines.word_value word)) }
 {
-    out.push_str("word: ")?;
-    push_number(out, offset)?;
+    push_spaced(out, offset)?;
     push_value_of(out, word)
 }
 
 /// Adds the kind that is due, if one is.
-fn push_due(out: &mut String, table: &Table, kind: Option<u32>) -> Result<(), AllocError>
-    ensures { OnOk result (string_bytes out.new ≡ string_bytes out.old ++ keyed
-        (codes "due") (lines.due_text table.now kind)) }
+pub fn push_due(out: &mut String, table: &Table, kind: Option<u32>) -> Result<(), AllocError>
+    ensures { OnOk result (string_bytes out.new ≡ string_bytes out.old ++ lines.due_text table.now kind) }
 {
-    out.push_str("due: ")?;
     let Some(number) = kind else {
         return out.push_str("nothing");
     };
@@ -149,24 +137,6 @@ fn push_due(out: &mut String, table: &Table, kind: Option<u32>) -> Result<(), Al
         Some(kind) => out.push_str(kind.name.as_str()),
         None => push_number(out, number),
     }
-}
-
-/// Adds a capability that is implied and may not be, or is not and must be.
-fn push_implied(
-    out: &mut String,
-    table: &Table,
-    capability: u32,
-    implied: bool,
-) -> Result<(), AllocError>
-    ensures { OnOk result (string_bytes out.new ≡ string_bytes out.old ++ keyed
-        (capability_key implied) (capability_name table.now capability)) }
-{
-    if implied {
-        out.push_str("implied: ")?;
-        return push_capability(out, table, capability);
-    }
-    out.push_str("not implied: ")?;
-    push_capability(out, table, capability)
 }
 
 /// The capabilities that the enumerant of an operand's value lists.
@@ -212,7 +182,7 @@ fn entry_lists(table: &Table, opcode: u16) -> Option<&NameList>
 }
 
 /// The names that are listed: those of an entry, a value or a bit. A width or a count has no such list.
-fn listed_names<'t>(table: &'t Table, inst: &Inst<'_>, lister: Lister) -> Option<&'t NameList>
+pub fn listed_names<'t>(table: &'t Table, inst: &Inst<'_>, lister: Lister) -> Option<&'t NameList>
     ensures { option_map (λ n. n.now) result ≡ lines.listed_names table.now (plain_inst inst.now) lister }
 {
     let operands = inst.operands.as_slice();
@@ -257,16 +227,6 @@ fn push_needed_by(
 }
 
 impl<'m, 'a> About<'m, 'a> {
-    /// Adds a key and an instruction.
-    fn push_keyed_inst(&self, out: &mut String, key: &str, inst: u32) -> Result<(), AllocError>
-        ensures { (shown : List (List ℕ)) → ShownLines self.now.table.now [] (plain_insts self.now.«module».now) shown
-            → OnOk result (string_bytes out.new ≡ string_bytes out.old ++ keyed key.now (inst_line shown inst)) }
-    {
-        out.push_str(key)?;
-        out.push_str(": ")?;
-        self.push_inst(out, inst)
-    }
-
     /// Adds the result of an instruction, if there is one.
     fn push_function(&self, out: &mut String, inst: Option<u32>) -> Result<(), AllocError>
         ensures { OnOk result (string_bytes out.new ≡ string_bytes out.old ++ lines.function_part
@@ -278,13 +238,12 @@ impl<'m, 'a> About<'m, 'a> {
         }
     }
 
-    /// Adds a key, a function and a block.
-    fn push_place(&self, out: &mut String, key: &str, place: Place) -> Result<(), AllocError>
-        ensures { OnOk result (string_bytes out.new ≡ string_bytes out.old ++ lines.place_text
-            (plain_insts self.now.«module».now) key.now place) }
+    /// Adds a function and a block.
+    fn push_place(&self, out: &mut String, place: Place) -> Result<(), AllocError>
+        ensures { OnOk result (string_bytes out.new ≡ string_bytes out.old ++ lines.place_part
+            (plain_insts self.now.«module».now) place) }
     {
-        out.push_str(key)?;
-        out.push_str(": function")?;
+        out.push_str(" function")?;
         self.push_function(out, place.function)?;
         self.push_block(out, place.block)
     }
@@ -292,10 +251,9 @@ impl<'m, 'a> About<'m, 'a> {
     /// Adds the opcodes that may come, by their names in the grammar or by their classes, and whether the module may
     /// end.
     fn push_may_come(&self, out: &mut String, opcodes: &[u32], end: bool) -> Result<(), AllocError>
-        ensures { OnOk result (string_bytes out.new ≡ string_bytes out.old ++ lines.may_come_text self.now.detail
+        ensures { OnOk result (string_bytes out.new ≡ string_bytes out.old ++ lines.coming_part self.now.detail
             self.now.table.now opcodes.now end) }
     {
-        out.push_str("may come:")?;
         if tells_names(self.detail, opcodes) {
             return push_coming_names(out, self.table, opcodes, end);
         }
@@ -304,10 +262,10 @@ impl<'m, 'a> About<'m, 'a> {
 
     /// Adds that a block has no end.
     fn push_unended_block(&self, out: &mut String, block: u32) -> Result<(), AllocError>
-        ensures { OnOk result (string_bytes out.new ≡ string_bytes out.old ++ (codes "missing: the end of block"
+        ensures { OnOk result (string_bytes out.new ≡ string_bytes out.old ++ (codes "the end of block"
             ++ lines.result_part (plain_insts self.now.«module».now) block)) }
     {
-        out.push_str("missing: the end of block")?;
+        out.push_str("the end of block")?;
         self.push_result(out, block)
     }
 
@@ -317,15 +275,15 @@ impl<'m, 'a> About<'m, 'a> {
         out: &mut String,
         function: Option<u32>,
     ) -> Result<(), AllocError>
-        ensures { OnOk result (string_bytes out.new ≡ string_bytes out.old ++ (codes "missing: the end of function"
+        ensures { OnOk result (string_bytes out.new ≡ string_bytes out.old ++ (codes "the end of function"
             ++ lines.function_part (plain_insts self.now.«module».now) function)) }
     {
-        out.push_str("missing: the end of function")?;
+        out.push_str("the end of function")?;
         self.push_function(out, function)
     }
 
     /// Adds that what is open before an instruction has no end.
-    fn push_unended(&self, out: &mut String, place: Place) -> Result<(), AllocError>
+    pub fn push_unended(&self, out: &mut String, place: Place) -> Result<(), AllocError>
         ensures { OnOk result (string_bytes out.new ≡ string_bytes out.old ++ lines.unended_text
             (plain_insts self.now.«module».now) place) }
     {
@@ -337,43 +295,24 @@ impl<'m, 'a> About<'m, 'a> {
 
     /// Adds the number of an operand of an instruction, and what stands there.
     fn push_operand_text(&self, out: &mut String, inst: u32, number: u32) -> Result<(), AllocError>
-        ensures { OnOk result (string_bytes out.new ≡ string_bytes out.old ++ lines.operand_text self.now.table.now
+        ensures { OnOk result (string_bytes out.new ≡ string_bytes out.old ++ lines.numbered_part self.now.table.now
             (plain_insts self.now.«module».now) inst number) }
     {
-        out.push_str("operand: ")?;
-        push_number(out, number)?;
-        self.push_operand_of(out, inst, number)
-    }
-
-    /// Adds an operand that names no predecessor.
-    fn push_no_predecessor(
-        &self,
-        out: &mut String,
-        inst: u32,
-        number: u32,
-    ) -> Result<(), AllocError>
-        ensures { OnOk result (string_bytes out.new ≡ string_bytes out.old ++ (codes "no predecessor:"
-            ++ lines.operand_part self.now.table.now (operand_at (plain_insts self.now.«module».now) inst number))) }
-    {
-        out.push_str("no predecessor:")?;
-        self.push_operand_of(out, inst, number)
-    }
-
-    /// Adds an operand that names a parent again.
-    fn push_twice(&self, out: &mut String, inst: u32, number: u32) -> Result<(), AllocError>
-        ensures { OnOk result (string_bytes out.new ≡ string_bytes out.old ++ (codes "twice:"
-            ++ lines.operand_part self.now.table.now (operand_at (plain_insts self.now.«module».now) inst number))) }
-    {
-        out.push_str("twice:")?;
+        push_spaced(out, number)?;
         self.push_operand_of(out, inst, number)
     }
 
     /// Adds a bit of an operand that is a mask, by its name.
-    fn push_bit(&self, out: &mut String, inst: u32, number: u32, bit: u32) -> Result<(), AllocError>
-        ensures { OnOk result (string_bytes out.new ≡ string_bytes out.old ++ keyed (codes "bit")
-            (bit_name self.now.table.now (operand_at (plain_insts self.now.«module».now) inst number) bit)) }
+    pub fn push_bit(
+        &self,
+        out: &mut String,
+        inst: u32,
+        number: u32,
+        bit: u32,
+    ) -> Result<(), AllocError>
+        ensures { OnOk result (string_bytes out.new ≡ string_bytes out.old ++ bit_name self.now.table.now
+            (operand_at (plain_insts self.now.«module».now) inst number) bit) }
     {
-        out.push_str("bit: ")?;
         match self.operand_of(inst, number) {
             Some(Operand::Mask { kind, .. }) => push_value(out, self.table, kind, bit),
             _ => push_number(out, bit),
@@ -388,38 +327,23 @@ impl<'m, 'a> About<'m, 'a> {
         push_needed_by(out, self.table, self.inst(inst), lister)
     }
 
-    /// Adds the capabilities of which one is needed by an instruction.
-    fn push_needs(&self, out: &mut String, inst: u32, lister: Lister) -> Result<(), AllocError>
-        ensures { OnOk result (string_bytes out.new ≡ string_bytes out.old ++ (codes "needs one of:" ++ needed_part
-            self.now.table.now (slice_get (plain_insts self.now.«module».now) inst) lister)) }
-    {
-        out.push_str("needs one of:")?;
-        self.push_needed_of(out, inst, lister)
-    }
-
-    /// Adds a broken part of E2.
+    /// Adds a broken part of E2: the instruction by which it is, or words.
     fn push_part(&self, out: &mut String, part: EntryPart) -> Result<(), AllocError>
         ensures { (shown : List (List ℕ)) → ShownLines self.now.table.now [] (plain_insts self.now.«module».now) shown
-            → OnOk result (string_bytes out.new ≡ string_bytes out.old ++ lines.entry_part_text shown part) }
+            → OnOk result (string_bytes out.new ≡ string_bytes out.old ++ lines.entry_rest shown part) }
     {
         match part {
-            EntryPart::Model => out.push_str("part: the execution model is not Kernel"),
-            EntryPart::Declared => out.push_str("part: the function is a declaration"),
-            EntryPart::Returns => out.push_str("part: the function does not return void"),
-            EntryPart::Called { inst } => self.push_numbered(out, "called", inst),
-            EntryPart::Unnamed => out.push_str("part: the function is that of no OpEntryPoint"),
-            EntryPart::Imported { inst } => self.push_numbered(out, "imported", inst),
-            EntryPart::Missing => out.push_str("part: a declaration is not imported"),
+            EntryPart::Called { inst } => self.push_numbered(out, inst),
+            EntryPart::Imported { inst } => self.push_numbered(out, inst),
+            _ => push_name(out, entry_part_words(part)),
         }
     }
 
-    /// Adds a type, or one of two things that are to be the same, after a key.
-    fn push_thing(&self, out: &mut String, key: &str, thing: Thing) -> Result<(), AllocError>
+    /// Adds a type, or one of two things that are to be the same.
+    fn push_thing_text(&self, out: &mut String, thing: Thing) -> Result<(), AllocError>
         ensures { (shown : List (List ℕ)) → ShownLines self.now.table.now [] (plain_insts self.now.«module».now) shown
-            → OnOk result (string_bytes out.new ≡ string_bytes out.old ++ keyed key.now (lines.thing_text shown thing)) }
+            → OnOk result (string_bytes out.new ≡ string_bytes out.old ++ thing_text shown thing) }
     {
-        out.push_str(key)?;
-        out.push_str(": ")?;
         match thing {
             Thing::Nothing => out.push_str("nothing"),
             Thing::Count { count } => push_number(out, count),
@@ -431,94 +355,156 @@ impl<'m, 'a> About<'m, 'a> {
         }
     }
 
+    /// Adds a space and that.
+    fn push_thing(&self, out: &mut String, thing: Thing) -> Result<(), AllocError>
+        ensures { (shown : List (List ℕ)) → ShownLines self.now.table.now [] (plain_insts self.now.«module».now) shown
+            → OnOk result (string_bytes out.new ≡ string_bytes out.old ++ name_part (thing_text shown thing)) }
+    {
+        out.push_str(" ")?;
+        self.push_thing_text(out, thing)
+    }
+
+    /// Adds a space and an instruction.
+    fn push_line_of(&self, out: &mut String, inst: u32) -> Result<(), AllocError>
+        ensures { (shown : List (List ℕ)) → ShownLines self.now.table.now [] (plain_insts self.now.«module».now) shown
+            → OnOk result (string_bytes out.new ≡ string_bytes out.old ++ name_part (inst_line shown inst)) }
+    {
+        out.push_str(" ")?;
+        self.push_inst(out, inst)
+    }
+
     /// Adds the functions of a cycle, and before them the last of them, the caller.
     fn push_cycle(&self, out: &mut String, cycle: &[u32]) -> Result<(), AllocError>
-        ensures { OnOk result (string_bytes out.new ≡ string_bytes out.old ++ lines.cycle_text
+        ensures { OnOk result (string_bytes out.new ≡ string_bytes out.old ++ lines.cycle_part
             (plain_insts self.now.«module».now) cycle.now) }
     {
-        out.push_str("cycle:")?;
         let caller = cycle.len().saturating_sub(1);
         self.push_results(out, &cycle[caller..])?;
         self.push_results(out, cycle)
     }
 
-    /// Adds what a fact tells, with control characters as they are and without a line feed.
-    fn push_raw(&self, out: &mut String, fact: &Fact) -> Result<(), AllocError>
+    /// Adds that what is open before an instruction has no end, after a space.
+    fn push_missing(&self, out: &mut String, place: Place) -> Result<(), AllocError>
+        ensures { OnOk result (string_bytes out.new ≡ string_bytes out.old ++ name_part (lines.unended_text
+            (plain_insts self.now.«module».now) place)) }
+    {
+        out.push_str(" ")?;
+        self.push_unended(out, place)
+    }
+
+    /// Adds a bit of an operand that is a mask, by its name, after a space.
+    fn push_named_bit(
+        &self,
+        out: &mut String,
+        inst: u32,
+        number: u32,
+        bit: u32,
+    ) -> Result<(), AllocError>
+        ensures { OnOk result (string_bytes out.new ≡ string_bytes out.old ++ name_part (bit_name self.now.table.now
+            (operand_at (plain_insts self.now.«module».now) inst number) bit)) }
+    {
+        out.push_str(" ")?;
+        self.push_bit(out, inst, number, bit)
+    }
+
+    /// Adds what a fact tells behind its key, with control characters as they are. Nothing of types.
+    fn push_rest(&self, out: &mut String, fact: &Fact) -> Result<(), AllocError>
         ensures { (shown : List (List ℕ)) → ShownLines self.now.table.now [] (plain_insts self.now.«module».now) shown
-            → OnOk result (string_bytes out.new ≡ string_bytes out.old ++ raw_of self.now.detail self.now.table.now
+            → OnOk result (string_bytes out.new ≡ string_bytes out.old ++ rest_of self.now.detail self.now.table.now
             (plain_insts self.now.«module».now) shown fact.now) }
     {
         match fact {
-            Fact::At { inst } => self.push_keyed_inst(out, "at", *inst),
-            Fact::In { place } => self.push_place(out, "in", *place),
-            Fact::Open { place } => self.push_place(out, "open", *place),
+            Fact::At { inst } => self.push_line_of(out, *inst),
+            Fact::In { place } => self.push_place(out, *place),
+            Fact::Open { place } => self.push_place(out, *place),
             Fact::Words {
                 before,
                 words,
                 after,
             } => push_words(out, *before, words.as_slice(), *after),
             Fact::Word { offset, word } => push_failing(out, *offset, *word),
-            Fact::Opcode { opcode } => push_opcode_text(out, self.table, *opcode),
-            Fact::Row { opcode } => push_row_of(out, *opcode),
+            Fact::Opcode { opcode } => push_named_opcode(out, self.table, *opcode),
+            Fact::Row { opcode } => push_named_row(out, *opcode),
             Fact::MayCome { opcodes, end } => self.push_may_come(out, opcodes.as_slice(), *end),
-            Fact::Unended { place } => self.push_unended(out, *place),
+            Fact::Unended { place } => self.push_missing(out, *place),
             Fact::Operand { inst, operand } => self.push_operand_text(out, *inst, *operand),
-            Fact::Failing { operand } => push_keyed_number(out, "operand", *operand),
-            Fact::Due { kind } => push_due(out, self.table, *kind),
-            Fact::Bound { bound } => push_keyed_number(out, "bound", *bound),
-            Fact::Defined { inst } => self.push_numbered(out, "defined", *inst),
-            Fact::LocalTo { function } => self.push_keyed_results(out, "local to", &[*function]),
-            Fact::Role { role } => push_keyed(out, "role", role_name(*role)),
-            Fact::Earlier { inst } => self.push_numbered(out, "earlier", *inst),
-            Fact::Capability {
-                capability,
-                implied,
-            } => push_implied(out, self.table, *capability, *implied),
-            Fact::Bit { inst, operand, bit } => self.push_bit(out, *inst, *operand, *bit),
-            Fact::NeedsOneOf { inst, lister } => self.push_needs(out, *inst, *lister),
-            Fact::NoEntry => out.push_str("missing: OpEntryPoint"),
+            Fact::Failing { operand } => push_spaced(out, *operand),
+            Fact::Due { kind } => push_named_due(out, self.table, *kind),
+            Fact::Bound { bound } => push_spaced(out, *bound),
+            Fact::Defined { inst } => self.push_numbered(out, *inst),
+            Fact::LocalTo { function } => self.push_results(out, &[*function]),
+            Fact::Role { role } => push_name(out, role_name(*role)),
+            Fact::Earlier { inst } => self.push_numbered(out, *inst),
+            Fact::Capability { capability, .. } => push_named_capability(
+                out,
+                self.table,
+                *capability,
+            ),
+            Fact::Bit { inst, operand, bit } => self.push_named_bit(out, *inst, *operand, *bit),
+            Fact::NeedsOneOf { inst, lister } => self.push_needed_of(out, *inst, *lister),
+            Fact::NoEntry => push_name(out, "OpEntryPoint"),
             Fact::Part { part } => self.push_part(out, *part),
-            Fact::Condition { condition } => push_keyed(
-                out,
-                "condition",
-                condition_words(*condition),
-            ),
-            Fact::Type { thing } => self.push_thing(out, "type", *thing),
+            Fact::Condition { condition } => push_name(out, condition_words(*condition)),
+            Fact::Types { .. } => Ok(()),
             Fact::Differs { side } => push_side(out, *side),
-            Fact::Wanted { thing } => self.push_thing(out, "wanted", *thing),
-            Fact::Found { thing } => self.push_thing(out, "found", *thing),
-            Fact::MissingParent { block } => self.push_keyed_results(
-                out,
-                "missing parent",
-                &[*block],
-            ),
-            Fact::NoPredecessor { inst, operand } => self.push_no_predecessor(out, *inst, *operand),
-            Fact::Twice { inst, operand } => self.push_twice(out, *inst, *operand),
-            Fact::Predecessors { blocks } => self.push_keyed_results(
-                out,
-                "predecessors",
-                blocks.as_slice(),
-            ),
-            Fact::Walk { blocks } => self.push_keyed_results(out, "walk", blocks.as_slice()),
-            Fact::Calls { functions } => self.push_keyed_results(
-                out,
-                "calls",
-                functions.as_slice(),
-            ),
+            Fact::Wanted { thing } => self.push_thing(out, *thing),
+            Fact::Found { thing } => self.push_thing(out, *thing),
+            Fact::MissingParent { block } => self.push_results(out, &[*block]),
+            Fact::NoPredecessor { inst, operand } => self.push_operand_of(out, *inst, *operand),
+            Fact::Twice { inst, operand } => self.push_operand_of(out, *inst, *operand),
+            Fact::Predecessors { blocks } => self.push_results(out, blocks.as_slice()),
+            Fact::Walk { blocks } => self.push_results(out, blocks.as_slice()),
+            Fact::Calls { functions } => self.push_results(out, functions.as_slice()),
             Fact::Cycle { functions } => self.push_cycle(out, functions.as_slice()),
         }
     }
 
-    /// Adds the line of a fact.
+    /// Adds the line of a fact that is not of types.
+    fn push_one_line(&self, out: &mut String, fact: &Fact) -> Result<(), AllocError>
+        ensures { (shown : List (List ℕ)) → ShownLines self.now.table.now [] (plain_insts self.now.«module».now) shown
+            → OnOk result (string_bytes out.new ≡ string_bytes out.old ++ plain_line (raw_of self.now.detail
+            self.now.table.now (plain_insts self.now.«module».now) shown fact.now)) }
+    {
+        let mut raw = String::new(self.alloc);
+        push_key(&mut raw, fact.key())?;
+        self.push_rest(&mut raw, fact)?;
+        push_plain(out, raw.as_str())?;
+        out.push_str("\n")
+    }
+
+    /// Adds the line of a type.
+    fn push_type_line(&self, out: &mut String, thing: Thing) -> Result<(), AllocError>
+        ensures { (shown : List (List ℕ)) → ShownLines self.now.table.now [] (plain_insts self.now.«module».now) shown
+            → OnOk result (string_bytes out.new ≡ string_bytes out.old ++ type_line shown thing) }
+    {
+        let mut raw = String::new(self.alloc);
+        push_key(&mut raw, Key::Type)?;
+        self.push_thing(&mut raw, thing)?;
+        push_plain(out, raw.as_str())?;
+        out.push_str("\n")
+    }
+
+    /// Adds the lines of types, one each.
+    fn push_type_lines(&self, out: &mut String, things: &[Thing]) -> Result<(), AllocError>
+        ensures { (shown : List (List ℕ)) → ShownLines self.now.table.now [] (plain_insts self.now.«module».now) shown
+            → OnOk result (string_bytes out.new ≡ string_bytes out.old ++ flat_map (type_line shown) things.now) }
+    {
+        for thing in things {
+            self.push_type_line(out, *thing)?;
+        }
+        Ok(())
+    }
+
+    /// Adds the line of a fact, or the lines of its types.
     pub fn push_line(&self, out: &mut String, fact: &Fact) -> Result<(), AllocError>
         ensures { (shown : List (List ℕ)) → ShownLines self.now.table.now [] (plain_insts self.now.«module».now) shown
             → OnOk result (string_bytes out.new ≡ string_bytes out.old ++ line_of self.now.detail self.now.table.now
             (plain_insts self.now.«module».now) shown fact.now) }
     {
-        let mut raw = String::new(self.alloc);
-        self.push_raw(&mut raw, fact)?;
-        push_plain(out, raw.as_str())?;
-        out.push_str("\n")
+        match fact {
+            Fact::Types { things } => self.push_type_lines(out, things.as_slice()),
+            _ => self.push_one_line(out, fact),
+        }
     }
 
     /// Adds the lines of facts, in order.
@@ -536,15 +522,151 @@ impl<'m, 'a> About<'m, 'a> {
     }
 }
 
-/// Adds the place where two things are to be the same.
-fn push_side(out: &mut String, side: Side) -> Result<(), AllocError>
-    ensures { OnOk result (string_bytes out.new ≡ string_bytes out.old ++ lines.side_text side) }
+/// Adds a key and a colon.
+fn push_key(out: &mut String, key: Key) -> Result<(), AllocError>
+    ensures { OnOk result (string_bytes out.new ≡ string_bytes out.old ++ (line_name key ++ codes ":")) }
+{
+    out.push_str(key.line_name())?;
+    out.push_str(":")
+}
+
+/// Adds the operands that the row of an opcode asks for, after a space.
+fn push_named_row(out: &mut String, opcode: u16) -> Result<(), AllocError>
+    ensures { OnOk result (string_bytes out.new ≡ string_bytes out.old ++ name_part (row_text opcode)) }
+{
+    out.push_str(" ")?;
+    push_row_of(out, opcode)
+}
+
+/// Adds the kind that is due, if one is, after a space.
+fn push_named_due(out: &mut String, table: &Table, kind: Option<u32>) -> Result<(), AllocError>
+    ensures { OnOk result (string_bytes out.new ≡ string_bytes out.old ++ name_part (lines.due_text table.now kind)) }
+{
+    out.push_str(" ")?;
+    push_due(out, table, kind)
+}
+
+/// Adds the name of a capability, or its number where the grammar has none, after a space.
+fn push_named_capability(out: &mut String, table: &Table, capability: u32) -> Result<(), AllocError>
+    ensures { OnOk result (string_bytes out.new ≡ string_bytes out.old ++ name_part
+        (lines.capability_name table.now capability)) }
+{
+    out.push_str(" ")?;
+    push_capability(out, table, capability)
+}
+
+/// A broken part of E2, in words.
+pub fn entry_part_words(part: EntryPart) -> &'static str
+    ensures { result.now ≡ lines.entry_part_text part }
+{
+    match part {
+        EntryPart::Model => "the execution model is not Kernel",
+        EntryPart::Declared => "the function is a declaration",
+        EntryPart::Returns => "the function does not return void",
+        EntryPart::Called { .. } => "the function is called",
+        EntryPart::Unnamed => "the function is that of no OpEntryPoint",
+        EntryPart::Imported { .. } => "a definition is imported",
+        EntryPart::Missing => "a declaration is not imported",
+    }
+}
+
+/// The place where two things are to be the same, in words.
+pub fn side_words(side: Side) -> &'static str
+    ensures { result.now ≡ lines.side_text side }
 {
     match side {
-        Side::Function => out.push_str("place: function type"),
-        Side::Return => out.push_str("place: return type"),
-        Side::Number => out.push_str("place: number of parameters or arguments"),
-        Side::Parameter { number } => push_keyed_number(out, "parameter", number),
-        Side::Argument { number } => push_keyed_number(out, "argument", number),
+        Side::Function => "function type",
+        Side::Return => "return type",
+        Side::Number => "number of parameters or arguments",
+        Side::Parameter { .. } => "parameter",
+        Side::Argument { .. } => "argument",
+    }
+}
+
+/// Adds the place where two things are to be the same: the number of a parameter or an argument, or words.
+fn push_side(out: &mut String, side: Side) -> Result<(), AllocError>
+    ensures { OnOk result (string_bytes out.new ≡ string_bytes out.old ++ lines.side_rest side) }
+{
+    match side {
+        Side::Parameter { number } => push_spaced(out, number),
+        Side::Argument { number } => push_spaced(out, number),
+        _ => push_name(out, side_words(side)),
+    }
+}
+
+/// The key of a capability.
+fn capability_key(implied: bool) -> Key
+    ensures { result ≡ lines.capability_key implied }
+{
+    if implied {
+        Key::Implied
+    } else {
+        Key::NotImplied
+    }
+}
+
+/// The key of a broken part of E2.
+fn part_key(part: EntryPart) -> Key
+    ensures { result ≡ lines.part_key part }
+{
+    match part {
+        EntryPart::Called { .. } => Key::Called,
+        EntryPart::Imported { .. } => Key::Imported,
+        _ => Key::Part,
+    }
+}
+
+/// The key of a place where two things are to be the same.
+fn side_key(side: Side) -> Key
+    ensures { result ≡ lines.side_key side }
+{
+    match side {
+        Side::Parameter { .. } => Key::Parameter,
+        Side::Argument { .. } => Key::Argument,
+        _ => Key::Place,
+    }
+}
+
+impl Fact {
+    /// The key of what it tells.
+    pub fn key(&self) -> Key
+        ensures { result ≡ key_of self.now }
+    {
+        match self {
+            Fact::At { .. } => Key::At,
+            Fact::In { .. } => Key::In,
+            Fact::Open { .. } => Key::Open,
+            Fact::Words { .. } => Key::Words,
+            Fact::Word { .. } => Key::Word,
+            Fact::Opcode { .. } => Key::Opcode,
+            Fact::Row { .. } => Key::Row,
+            Fact::MayCome { .. } => Key::MayCome,
+            Fact::Unended { .. } => Key::Missing,
+            Fact::Operand { .. } => Key::Operand,
+            Fact::Failing { .. } => Key::Operand,
+            Fact::Due { .. } => Key::Due,
+            Fact::Bound { .. } => Key::Bound,
+            Fact::Defined { .. } => Key::Defined,
+            Fact::LocalTo { .. } => Key::LocalTo,
+            Fact::Role { .. } => Key::Role,
+            Fact::Earlier { .. } => Key::Earlier,
+            Fact::Capability { implied, .. } => capability_key(*implied),
+            Fact::Bit { .. } => Key::Bit,
+            Fact::NeedsOneOf { .. } => Key::NeedsOneOf,
+            Fact::NoEntry => Key::Missing,
+            Fact::Part { part } => part_key(*part),
+            Fact::Condition { .. } => Key::Condition,
+            Fact::Types { .. } => Key::Type,
+            Fact::Differs { side } => side_key(*side),
+            Fact::Wanted { .. } => Key::Wanted,
+            Fact::Found { .. } => Key::Found,
+            Fact::MissingParent { .. } => Key::MissingParent,
+            Fact::NoPredecessor { .. } => Key::NoPredecessor,
+            Fact::Twice { .. } => Key::Twice,
+            Fact::Predecessors { .. } => Key::Predecessors,
+            Fact::Walk { .. } => Key::Walk,
+            Fact::Calls { .. } => Key::Calls,
+            Fact::Cycle { .. } => Key::Cycle,
+        }
     }
 }

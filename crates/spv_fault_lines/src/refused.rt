@@ -1,12 +1,15 @@
 //! The lines of bytes that are no words of a module.
-ghost use Rattle.std.specs.Prelude.{◌≡◌, ◌++◌, ◌<◌, ◌∷◌, [], OnOk, decimal, slice_index, string_bytes};
+ghost use Rattle.std.specs.Prelude.{◌≡◌, ◌++◌, ◌<◌, ◌∷◌, [], OnOk, IfOk, Some, None, codes, decimal, if◌then◌else◌, option_map};
+ghost use Rattle.std.specs.Prelude.{slice_index, string_bytes};
 ghost use Rattle.spv_fault_lines.specs.Refused as seen;
+ghost use Rattle.spv_fault_lines.specs.declared.key.Key.TheVariants as keys;
 
 use crate::about::push_number;
+use crate::key::Key;
 use crate::plain::push_hex;
 use itoa::Buffer;
 use spv_words::{MAGIC_NUMBER, Order, WordError};
-use std::alloc::AllocError;
+use std::alloc::{AllocError, Global};
 
 /// What stands in front of bytes that may be a module's.
 #[derive(Clone, Copy)]
@@ -129,70 +132,128 @@ fn push_version(out: &mut String, word: u32) -> Result<(), AllocError>
     push_number(out, word / 256 % 256)
 }
 
-/// Adds how a module of an earlier version is read.
-fn push_help(out: &mut String, word: u32) -> Result<(), AllocError>
-    ensures { OnOk result (string_bytes out.new ≡ string_bytes out.old ++ seen.help_line word) }
+/// How many bytes there are, in words.
+fn size_found(alloc: Global, size: usize) -> Result<Option<String>, AllocError>
+    ensures { IfOk result (λ o. option_map (λ t. string_bytes t) o ≡ Some (seen.size_text size)) }
 {
-    if is_earlier(word) {
-        return out.push_str("help: --as-1.6 reads it as a module of version 1.6\n");
+    let mut text = String::new(alloc);
+    push_size(&mut text, size)?;
+    Ok(Some(text))
+}
+
+/// A word in hexadecimal.
+fn word_found(alloc: Global, word: u32) -> Result<Option<String>, AllocError>
+    ensures { IfOk result (λ o. option_map (λ t. string_bytes t) o ≡ Some (seen.hex_text word)) }
+{
+    let mut text = String::new(alloc);
+    push_hex_text(&mut text, word)?;
+    Ok(Some(text))
+}
+
+/// A number in decimal.
+fn number_found(alloc: Global, number: u32) -> Result<Option<String>, AllocError>
+    ensures { IfOk result (λ o. option_map (λ t. string_bytes t) o ≡ Some (decimal number)) }
+{
+    let mut text = String::new(alloc);
+    push_number(&mut text, number)?;
+    Ok(Some(text))
+}
+
+/// A version, or the word where it tells none.
+fn version_found(alloc: Global, word: u32) -> Result<Option<String>, AllocError>
+    ensures { IfOk result (λ o. option_map (λ t. string_bytes t) o ≡ Some (seen.version_text word)) }
+{
+    let mut text = String::new(alloc);
+    push_version(&mut text, word)?;
+    Ok(Some(text))
+}
+
+/// That there are too many bytes.
+fn excess_found(alloc: Global) -> Result<Option<String>, AllocError>
+    ensures { IfOk result (λ o. option_map (λ t. string_bytes t) o ≡ Some (codes "more than 16777216 bytes")) }
+{
+    let mut text = String::new(alloc);
+    text.push_str("more than 16777216 bytes")?;
+    Ok(Some(text))
+}
+
+/// What is found in bytes that break a code, in words, by what stands in front of them. Nothing of W1 and W9.
+///
+/// An `AllocError` comes only where a growth of memory was refused.
+pub fn found_in(alloc: Global, code: WordError, front: Front) -> Result<Option<String>, AllocError>
+    ensures { IfOk result (λ o. option_map (λ t. string_bytes t) o ≡ seen.found_text code front) }
+{
+    match code {
+        WordError::W2 => size_found(alloc, front.size),
+        WordError::W3 => size_found(alloc, front.size),
+        WordError::W4 => word_found(alloc, front.magic),
+        WordError::W5 => version_found(alloc, front.version),
+        WordError::W6 => number_found(alloc, front.schema),
+        WordError::W7 => number_found(alloc, front.bound),
+        WordError::W8 => excess_found(alloc),
+        WordError::W1 => Ok(None),
+        WordError::W9 => Ok(None),
     }
-    Ok(())
 }
 
-/// Adds the line of a number of bytes.
-fn push_found_size(out: &mut String, size: usize) -> Result<(), AllocError>
-    ensures { OnOk result (string_bytes out.new ≡ string_bytes out.old ++ seen.found_line (seen.size_text size)) }
+/// How a module of an earlier version is read. Nothing of others.
+pub fn help_for(code: WordError, front: Front) -> Option<&'static str>
+    ensures { option_map (λ t. t.now) result ≡ seen.help_text code front }
 {
-    out.push_str("found: ")?;
-    push_size(out, size)?;
+    match code {
+        WordError::W5 => help_with(front.version),
+        _ => None,
+    }
+}
+
+/// The same of a version.
+fn help_with(version: u32) -> Option<&'static str>
+    ensures { option_map (λ t. t.now) result ≡ (if seen.is_earlier version
+        then Some (codes "--as-1.6 reads it as a module of version 1.6") else None) }
+{
+    if is_earlier(version) {
+        return Some("--as-1.6 reads it as a module of version 1.6");
+    }
+    None
+}
+
+/// Adds the line of a key, where there is something to tell.
+fn push_piece(out: &mut String, key: Key, text: Option<&str>) -> Result<(), AllocError>
+    ensures { OnOk result (string_bytes out.new ≡ string_bytes out.old ++ seen.piece_line key
+        (option_map (λ t. t.now) text.entry)) }
+{
+    let Some(text) = text else {
+        return Ok(());
+    };
+    out.push_str(key.line_name())?;
+    out.push_str(": ")?;
+    out.push_str(text)?;
     out.push_str("\n")
 }
 
-/// Adds the line of a word.
-fn push_found_word(out: &mut String, word: u32) -> Result<(), AllocError>
-    ensures { OnOk result (string_bytes out.new ≡ string_bytes out.old ++ seen.found_line (seen.hex_text word)) }
+/// Adds the line of what is found, where there is something to tell.
+fn push_found(out: &mut String, found: Option<String>) -> Result<(), AllocError>
+    ensures { OnOk result (string_bytes out.new ≡ string_bytes out.old ++ seen.piece_line keys.Found
+        (option_map (λ t. string_bytes t) found)) }
 {
-    out.push_str("found: ")?;
-    push_hex_text(out, word)?;
-    out.push_str("\n")
-}
-
-/// Adds the line of a number.
-fn push_found_number(out: &mut String, number: u32) -> Result<(), AllocError>
-    ensures { OnOk result (string_bytes out.new ≡ string_bytes out.old ++ seen.found_line (decimal number)) }
-{
-    out.push_str("found: ")?;
-    push_number(out, number)?;
-    out.push_str("\n")
-}
-
-/// Adds the line of a version.
-fn push_found_version(out: &mut String, word: u32) -> Result<(), AllocError>
-    ensures { OnOk result (string_bytes out.new ≡ string_bytes out.old ++ seen.found_line (seen.version_text word)) }
-{
-    out.push_str("found: ")?;
-    push_version(out, word)?;
-    out.push_str("\n")
+    match found {
+        Some(text) => push_piece(out, Key::Found, Some(text.as_str())),
+        None => Ok(()),
+    }
 }
 
 /// Adds the lines of what is found in bytes that break a code, by what stands in front of them.
 ///
 /// An `AllocError` comes only where a growth of memory was refused.
-pub fn push_refused(out: &mut String, code: WordError, front: Front) -> Result<(), AllocError>
+pub fn push_refused(
+    out: &mut String,
+    alloc: Global,
+    code: WordError,
+    front: Front,
+) -> Result<(), AllocError>
     ensures { OnOk result (string_bytes out.new ≡ string_bytes out.old ++ seen.found_lines code front) }
 {
-    match code {
-        WordError::W2 => push_found_size(out, front.size),
-        WordError::W3 => push_found_size(out, front.size),
-        WordError::W4 => push_found_word(out, front.magic),
-        WordError::W5 => {
-            push_found_version(out, front.version)?;
-            push_help(out, front.version)
-        }
-        WordError::W6 => push_found_number(out, front.schema),
-        WordError::W7 => push_found_number(out, front.bound),
-        WordError::W8 => out.push_str("found: more than 16777216 bytes\n"),
-        WordError::W1 => Ok(()),
-        WordError::W9 => Ok(()),
-    }
+    let found = found_in(alloc, code, front)?;
+    push_found(out, found)?;
+    push_piece(out, Key::Help, help_for(code, front))
 }

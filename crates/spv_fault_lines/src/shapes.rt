@@ -60,12 +60,12 @@ fn form_words(form: Form) -> &'static str
     }
 }
 
-/// Adds what stands before an operand, the first or another.
+/// Adds the comma before an operand, unless it is the first.
 fn push_comma(out: &mut String, first: bool) -> Result<(), AllocError>
     ensures { OnOk result (string_bytes out.new ≡ string_bytes out.old ++ shapes.comma first) }
 {
     if first {
-        return out.push_str(" ");
+        return Ok(());
     }
     out.push_str(", ")
 }
@@ -95,7 +95,7 @@ fn push_closed(out: &mut String, first: bool) -> Result<(), AllocError>
     ensures { OnOk result (string_bytes out.new ≡ string_bytes out.old ++ shapes.closed_text first) }
 {
     if first {
-        return out.push_str(" no operands");
+        return out.push_str("no operands");
     }
     Ok(())
 }
@@ -134,7 +134,7 @@ fn push_ending(out: &mut String, first: bool, ending: Ending) -> Result<(), Allo
         Ending::FileAndText => push_file_and_text(out, first),
         Ending::Repeated(forms) => {
             push_comma(out, first)?;
-            out.push_str("any number of:")?;
+            out.push_str("any number of: ")?;
             push_forms(out, forms)
         }
         Ending::Others => {
@@ -159,7 +159,6 @@ fn has_none(forms: &[Form]) -> bool
 fn push_row(out: &mut String, row: &Row) -> Result<(), AllocError>
     ensures { OnOk result (string_bytes out.new ≡ string_bytes out.old ++ shapes.row_words (Some (plain_row row.now))) }
 {
-    out.push_str("row:")?;
     push_forms(out, row.fixed)?;
     push_ending(out, has_none(row.fixed), row.ending)
 }
@@ -170,6 +169,6 @@ pub fn push_row_of(out: &mut String, opcode: u16) -> Result<(), AllocError>
 {
     match row(opcode) {
         Some(row) => push_row(out, row),
-        None => out.push_str("row: none"),
+        None => out.push_str("none"),
     }
 }

@@ -5,15 +5,15 @@ ghost use Rattle.spv_module.specs.Operand.{result_in};
 ghost use Rattle.spv_module.specs.Module.{plain_inst, plain_insts};
 ghost use Rattle.spv_layout.specs.Place.{AreFew};
 ghost use Rattle.spv_fault_lines.specs.Facts as things;
-ghost use Rattle.spv_fault_lines.specs.Facts.{definition_from, type_facts};
+ghost use Rattle.spv_fault_lines.specs.Facts.{definition_from, type_facts, type_things, types_facts};
 ghost use Rattle.spv_fault_lines.specs.inner.Parts.{kept};
-ghost use Rattle.spv_fault_lines.specs.declared.fact.Fact.TheVariants as kinds;
 
 use crate::about::About;
 use crate::fact::{Fact, Thing};
 use crate::facts::push_one;
 use spv_evidence::Side;
 use spv_module::Inst;
+use spv_table::Listed;
 use std::alloc::AllocError;
 
 /// A number that all of these are below.
@@ -76,17 +76,28 @@ fn thing_at(definition: Option<u32>, id: u32) -> Thing
 }
 
 /// Adds a type: in full, if its instruction is left, which then it is no more.
-fn push_type(facts: &mut Vec<Fact>, left: &mut Vec<Option<u32>>, id: u32) -> Result<(), AllocError>
+fn push_type(told: &mut Vec<Thing>, left: &mut Vec<Option<u32>>, id: u32) -> Result<(), AllocError>
     requires { id < length left.old.items }
-    ensures facts { OnOk result (facts.new.items ≡ facts.old.items
-        ++ (kinds.Type (things.thing_at (get_or left.old.items id None) id) ∷ [])) }
+    ensures told { OnOk result (told.new.items ≡ told.old.items
+        ++ (things.thing_at (get_or left.old.items id None) id ∷ [])) }
     ensures left { left.new.items ≡ set left.old.items id None }
 {
     let found = taken(left, id);
+    told.push(thing_at(found, id))?;
+    Ok(())
+}
+
+/// Adds the fact of types, where there are some.
+fn push_types_fact(facts: &mut Vec<Fact>, told: Vec<Thing>) -> Result<(), AllocError>
+    ensures { OnOk result (facts.new.items ≡ facts.old.items ++ types_facts told.items) }
+{
+    if told.is_empty() {
+        return Ok(());
+    }
     push_one(
         facts,
-        Fact::Type {
-            thing: thing_at(found, id),
+        Fact::Types {
+            things: Listed::from_vec(told),
         },
     )
 }
@@ -151,16 +162,35 @@ impl<'m, 'a> About<'m, 'a> {
         Ok(found)
     }
 
-    /// Adds what is told of types. Time is linear in the instructions, besides the ids; memory in the greatest id.
+    /// What is told of types. Time is linear in the instructions, besides the ids; memory in the greatest id.
+    fn types_told(&self, ids: &[u32]) -> Result<Vec<Thing>, AllocError>
+        requires few { AreFew (plain_insts self.now.«module».now) }
+        ensures { IfOk result (λ v. v.items ≡ type_things (plain_insts self.now.«module».now) [] ids.now) }
+    {
+        let mut told = Vec::new(self.alloc);
+        let mut left = self.definitions(room_for(ids))?;
+        for id in ids {
+            push_type(&mut told, &mut left, *id)?;
+        }
+        Ok(told)
+    }
+
+    /// Adds the fact of types, where there are some.
     pub fn push_types(&self, facts: &mut Vec<Fact>, ids: &[u32]) -> Result<(), AllocError>
         requires few { AreFew (plain_insts self.now.«module».now) }
         ensures { OnOk result (facts.new.items ≡ facts.old.items ++ type_facts
-            (plain_insts self.now.«module».now) [] ids.now) }
+            (plain_insts self.now.«module».now) ids.now) }
     {
-        let mut left = self.definitions(room_for(ids))?;
-        for id in ids {
-            push_type(facts, &mut left, *id)?;
-        }
-        Ok(())
+        let told = self.types_told(ids)?;
+        push_types_fact(facts, told)
+    }
+
+    /// Adds the fact of one type.
+    pub fn push_lone_type(&self, facts: &mut Vec<Fact>, thing: Thing) -> Result<(), AllocError>
+        ensures { OnOk result (facts.new.items ≡ facts.old.items ++ types_facts (thing ∷ [])) }
+    {
+        let mut told = Vec::new(self.alloc);
+        told.push(thing)?;
+        push_types_fact(facts, told)
     }
 }

@@ -156,9 +156,11 @@ fn offset_of(place: u32, first: u32) -> u32
     behind_header(place).saturating_sub(first)
 }
 
-/// What is told of an instruction of an image that breaks a rule at a word, where the module of the lines has no
-/// instructions.
-fn facts_of_words(
+/// What is told of an instruction of an image that breaks a rule at a word: its words, the one that fails, and what the
+/// evidence tells. The module of the lines has no instructions.
+///
+/// An `AllocError` comes only where a growth of memory was refused.
+pub fn facts_of_words(
     about: About<'_, '_>,
     image: &Image,
     inst: u32,

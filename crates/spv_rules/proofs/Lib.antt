@@ -1,2 +1,3 @@
+mod AllCodes
 mod Named
 mod Rows

@@ -27,7 +27,7 @@ unnamed_more name place this at not before n code l g h =
     ]
 
 -- no code of an error has a name that none of the list has
-pub nameless_error : (name : List ℕ) → ((n : ℕ) (code : ErrorCode) → n < 18 → slice_get ERRORS n ≡ Some code → ¬ (IsNamed name (error_name code)))
+pub nameless_error : (name : List ℕ) → ((n : ℕ) (code : ErrorCode) → n < 19 → slice_get ERRORS n ≡ Some code → ¬ (IsNamed name (error_name code)))
     → (code : ErrorCode) → ¬ (IsNamed name (error_name code))
 nameless_error name none error.J1 = none 0 error.J1 (omega arith) refl
 nameless_error name none error.J2 = none 1 error.J2 (omega arith) refl
@@ -44,9 +44,10 @@ nameless_error name none error.S4 = none 11 error.S4 (omega arith) refl
 nameless_error name none error.S5 = none 12 error.S5 (omega arith) refl
 nameless_error name none error.S6 = none 13 error.S6 (omega arith) refl
 nameless_error name none error.X1 = none 14 error.X1 (omega arith) refl
-nameless_error name none error.N1 = none 15 error.N1 (omega arith) refl
-nameless_error name none error.N2 = none 16 error.N2 (omega arith) refl
-nameless_error name none error.N3 = none 17 error.N3 (omega arith) refl
+nameless_error name none error.X2 = none 15 error.X2 (omega arith) refl
+nameless_error name none error.N1 = none 16 error.N1 (omega arith) refl
+nameless_error name none error.N2 = none 17 error.N2 (omega arith) refl
+nameless_error name none error.N3 = none 18 error.N3 (omega arith) refl
 
 -- of any codes, where none of a verdict has the name
 pub any_named : (name : List ℕ) (o : Option AnyCode) → ((code : Code) → ¬ (IsNamed name (name_of code))) → IsErrorNamed name o

@@ -1,3 +1,4 @@
+pub mod Codes
 pub mod Errors
 pub mod Rules
 pub mod Table

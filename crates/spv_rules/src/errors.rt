@@ -8,7 +8,8 @@ ghost use Rattle.spv_rules.specs.declared.errors.ErrorCode.{ErrorCode};
 
 use crate::rules::Code;
 
-/// A code that is told of what is no module: a grammar file, a text, a run, or a module that is not encoded.
+/// A code that is told of what is no module: a grammar file, a text, a function that is asked for, or a
+/// module that is not encoded.
 #[derive(Clone, Copy, Debug, PartialEq, Eq)]
 pub enum ErrorCode {
     /// Of a grammar file.
@@ -27,8 +28,9 @@ pub enum ErrorCode {
     S4,
     S5,
     S6,
-    /// Of a run.
+    /// Of a function that is asked for.
     X1,
+    X2,
     /// Of a module that is encoded.
     N1,
     N2,
@@ -36,7 +38,7 @@ pub enum ErrorCode {
 }
 
 /// All of them, in the order in which they are told.
-pub static ERRORS: [ErrorCode; 18] = [
+pub static ERRORS: [ErrorCode; 19] = [
     ErrorCode::J1,
     ErrorCode::J2,
     ErrorCode::J3,
@@ -52,6 +54,7 @@ pub static ERRORS: [ErrorCode; 18] = [
     ErrorCode::S5,
     ErrorCode::S6,
     ErrorCode::X1,
+    ErrorCode::X2,
     ErrorCode::N1,
     ErrorCode::N2,
     ErrorCode::N3,
@@ -59,7 +62,7 @@ pub static ERRORS: [ErrorCode; 18] = [
 
 /// The code at a place.
 fn error_at(place: usize) -> ErrorCode
-    requires { place < 18 }
+    requires { place < 19 }
     ensures { slice_get ERRORS place ≡ Some result }
 {
     ERRORS[place]
@@ -86,6 +89,7 @@ impl ErrorCode {
             ErrorCode::S5 => "S5",
             ErrorCode::S6 => "S6",
             ErrorCode::X1 => "X1",
+            ErrorCode::X2 => "X2",
             ErrorCode::N1 => "N1",
             ErrorCode::N2 => "N2",
             ErrorCode::N3 => "N3",
@@ -97,7 +101,7 @@ impl ErrorCode {
         ensures { MatchOption result ((code : ErrorCode) → ¬ (IsNamed name.now (error_name code)))
             (λ code. IsNamed name.now (error_name code)) }
     {
-        for place in 0..18 {
+        for place in 0..19 {
             let code = error_at(place);
             if name.eq_ignore_ascii_case(code.name()) {
                 return Some(code);
@@ -129,6 +133,7 @@ impl ErrorCode {
             }
             ErrorCode::S6 => "There is memory for the module of a text. [own]",
             ErrorCode::X1 => "The function of a run is that of an entry point. [own]",
+            ErrorCode::X2 => "The function that is asked for is one of the module. [own]",
             ErrorCode::N1 => "The header of a module that is encoded keeps W5 to W7. [own]",
             ErrorCode::N2 => "The grammar file has the instruction, with these operands. [own]",
             ErrorCode::N3 => {
@@ -183,6 +188,7 @@ impl ErrorCode {
             }
             ErrorCode::S6 => "out of memory, told as error memory",
             ErrorCode::X1 => "the id is the function of no OpEntryPoint: told as error X1",
+            ErrorCode::X2 => "the id is the result of no OpFunction: told as error X2",
             ErrorCode::N1 => "the version, the schema or the bound of the header does not fit",
             ErrorCode::N2 => {
                 "the opcode has no entry, the operands are not those of its pattern, or a text has a zero octet"

@@ -7,4 +7,4 @@ mod rules;
 mod table;
 
 pub use errors::{AnyCode, ErrorCode};
-pub use rules::{Code, rules_text};
+pub use rules::{Code, code_at, rules_text};

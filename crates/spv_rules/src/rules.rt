@@ -1,9 +1,13 @@
 //! Codes, and what each says: the text of `spv rules`.
 ghost use Rattle.std.specs.Prelude.{◌≡◌, ◌≤◌, ◌<◌, ◌++◌, [], ◌∷◌, Some, MatchOption};
-ghost use Rattle.std.specs.Prelude.{length, slice_get};
+ghost use Rattle.std.specs.Prelude.{length, map, slice_get};
+ghost use Rattle.spv_rules.specs.Codes.{SaysSentence, all_codes};
+ghost use Rattle.spv_rules.specs.Errors.{any_name};
 ghost use Rattle.spv_rules.specs.Rules.{IsNamed, name_of, number_of, place_of, sentence_of};
 ghost use Rattle.spv_rules.specs.Table.{row_count, rows};
 ghost use Rattle.spv_rules.specs.inner.Held.{plain};
+ghost use Rattle.spv_rules.specs.declared.errors.AnyCode.TheVariants.{Error};
+ghost use Rattle.spv_rules.specs.declared.errors.TheConstants.{ERRORS};
 ghost use Rattle.spv_rules.specs.declared.rules.Code.{Code};
 
 use crate::errors::{AnyCode, ERRORS};
@@ -102,6 +106,66 @@ impl Code {
         }
         None
     }
+}
+
+/// The code of an error at a place among these; None behind the last.
+fn error_code_at(place: usize) -> Option<AnyCode>
+    ensures { result ≡ slice_get (map Error ERRORS) place }
+{
+    if place < ERRORS.len() {
+        return Some(AnyCode::Error(ERRORS[place]));
+    }
+    None
+}
+
+/// The code at a place among all that a command prints, from 0: those of verdicts first, in the order of their tables,
+/// and then those of errors. None behind the last.
+pub fn code_at(place: usize) -> Option<AnyCode>
+    ensures { result ≡ slice_get all_codes place }
+{
+    let verdicts = count();
+    if place < verdicts {
+        return Some(AnyCode::Verdict(row_at(place).0));
+    }
+    error_code_at(place - verdicts)
+}
+
+impl AnyCode {
+    /// Its name, as `A1` or `J4`.
+    pub fn name(self) -> &'static str
+        ensures { result.now ≡ any_name self }
+    {
+        match self {
+            AnyCode::Verdict(code) => code.name(),
+            AnyCode::Error(code) => code.name(),
+        }
+    }
+
+    /// What it says, in a sentence, with its sources in brackets.
+    pub fn sentence(self) -> &'static str
+        ensures { SaysSentence self result.now }
+    {
+        match self {
+            AnyCode::Verdict(code) => verdict_sentence(code),
+            AnyCode::Error(code) => code.sentence(),
+        }
+    }
+
+    /// Where it is broken, or when it is told: a line for each place.
+    pub fn meaning(self) -> &'static str {
+        match self {
+            AnyCode::Verdict(code) => code.row().5,
+            AnyCode::Error(code) => code.meaning(),
+        }
+    }
+}
+
+/// What a code of a verdict says.
+fn verdict_sentence(code: Code) -> &'static str
+    ensures { result.now ≡ sentence_of code }
+{
+    let text = code.c_sentence();
+    &text[..text.len() - 1]
 }
 
 /// Adds the line of a code: its name and its sentence.

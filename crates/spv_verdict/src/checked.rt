@@ -79,6 +79,15 @@ impl<'a> Checked<'a> {
         }
     }
 
+    /// The module alone. It takes no memory.
+    pub fn into_module(self) -> Module<'a>
+        ensures bound { result.header.bound ≡ self.entry.bound }
+        ensures insts { plain_insts result ≡ self.entry.insts }
+    {
+        let Checked { module, .. } = self;
+        module
+    }
+
     /// The module, and what the layers know of it. It takes no memory.
     pub fn parts(&self) -> Parts<'_, 'a>
         ensures some { (G : Table) × ArePartsOf G self.now result }

@@ -1,5 +1,5 @@
 -- The facts of evidence, in three parts of which two are empty. (For the code alone.)
-use Rattle.std.specs.Prelude.{◌++◌, ◌<◌, ℕ, List, [], ◌∷◌, Option, Some, None, length, nat_lt, if◌then◌else◌, set}
+use Rattle.std.specs.Prelude.{◌++◌, ℕ, List, [], ◌∷◌, Option, Some, None, length, nat_lt, if◌then◌else◌, set}
 use Rattle.spv_module.specs.Operand.{PlainInst}
 use Rattle.spv_evidence.specs.declared.evidence.Evidence.{Evidence}
 use Rattle.spv_evidence.specs.declared.evidence.Evidence.TheVariants as evidence
@@ -32,7 +32,7 @@ form_facts n e = []
 abbrev pub list_facts : List PlainInst → ℕ → Evidence → List Fact
 list_facts is n (evidence.MayCome opcodes end) = fact.MayCome opcodes end ∷ []
 list_facts is n (evidence.Condition c k m wanted found types) =
-    failing_facts n c k m ++ (type_facts is [] types ++ compared_facts is wanted found)
+    failing_facts n c k m ++ (type_facts is types ++ compared_facts is wanted found)
 list_facts is n (evidence.Mismatch s wanted found of) = fact.Differs s ∷ asked_facts is of
     ++ (fact.Wanted (side_thing is s wanted) ∷ fact.Found (side_thing is s found) ∷ [])
 list_facts is n (evidence.MissingParent b ps) = fact.MissingParent b ∷ fact.Predecessors ps ∷ []

@@ -1,4 +1,4 @@
-use Rattle.std.proofs.Common.{◌≡◌, ◌++◌, append_assoc, arith, sym, string_bytes, flat_map}
+use Rattle.std.proofs.Common.{◌≡◌, ◌++◌, append_assoc, arith, string_bytes, flat_map}
 use Rattle.spv_fault_lines.specs.Lines.{name_part}
 use Rattle.spv_fault_lines.proofs.Steps.{piece_step}
 use Rattle.spv_fault_lines.proofs.about.push_names.Goals as goal

@@ -1,4 +1,4 @@
-use Rattle.std.proofs.Common.{◌/◌, append-nil, sym}
+use Rattle.std.proofs.Common.{◌/◌}
 use Rattle.spv_fault_lines.proofs.Hex.{first_digit, more_digits}
 use Rattle.spv_fault_lines.proofs.plain.push_hex.Goals as goal
 

@@ -1,4 +1,4 @@
-use Rattle.std.proofs.Common.{◌≡◌, ◌++◌, ◌∙◌, ◌<◌, ◌-◌, ap, arith, length, take, drop, flat_map, string_bytes}
+use Rattle.std.proofs.Common.{◌≡◌, ◌++◌, ◌∙◌, ◌-◌, ap, arith, take, drop, flat_map, string_bytes}
 use Rattle.spv_fault_lines.specs.Plain.{escaped, plain_of}
 use Rattle.spv_fault_lines.specs.inner.Control.{control_size}
 use Rattle.spv_fault_lines.proofs.Escapes.{begins_char, ends_char, plain_end, plain_more, tail}

@@ -1,4 +1,4 @@
-use Rattle.std.proofs.Common.{◌≡◌, ◌∙◌, ◌<◌, length, sym, arith}
+use Rattle.std.proofs.Common.{◌∙◌, sym, arith}
 use Rattle.spv_module.specs.Module.{plain_inst, plain_insts}
 use Rattle.spv_fault_lines.proofs.Steps.{definition_end, definition_step, none_beyond, some_within}
 use Rattle.spv_fault_lines.proofs.about.About.definition_of.Goals as goal

@@ -1,4 +1,4 @@
-use Rattle.std.proofs.Common.{◌≡◌, ◌∙◌, sym, arith, slice_get}
+use Rattle.std.proofs.Common.{◌∙◌, sym, arith}
 use Rattle.spv_module.specs.Module.{plain_inst, plain_insts}
 use Rattle.spv_fault_lines.proofs.Steps.{open_last, open_none, open_step}
 use Rattle.spv_fault_lines.proofs.about.About.open_before.Goals as goal

@@ -4,7 +4,7 @@ use Rattle.spv_layout.specs.Place.{IsShort}
 use Rattle.spv_verdict.specs.Judged.{IsJudged}
 use Rattle.spv_verdict.proofs.Judgments.{valid_answer}
 use Rattle.spv_explain.proofs.Readings.{broken_reading}
-use Rattle.spv_explain.proofs.explained.explained_of.Goals as goal
+use Rattle.spv_explain.proofs.reading.explained_of.Goals as goal
 
 pub judge-requires-clause-words : goal.judge-requires-clause-words
 judge-requires-clause-words c =

@@ -1,8 +1,8 @@
-use Rattle.std.proofs.Common.{◌≡◌, ◌<◌, ◌++◌, ◌∷◌, [], arith, get_or, length, length-set}
+use Rattle.std.proofs.Common.{◌≡◌, ◌<◌, ◌∷◌, [], arith, get_or, length, length-set}
 use Rattle.spv_module.specs.Module.{plain_insts}
-use Rattle.spv_fault_lines.specs.Facts.{type_facts}
+use Rattle.spv_fault_lines.specs.Facts.{type_things}
 use Rattle.spv_fault_lines.proofs.Steps.{got, left_step, type_step}
-use Rattle.spv_fault_lines.proofs.about.About.push_types.Goals as goal
+use Rattle.spv_fault_lines.proofs.about.About.types_told.Goals as goal
 
 pub loop-id-preserved : goal.loop-id-preserved
 loop-id-preserved c =
@@ -19,7 +19,7 @@ loop-id-preserved c =
       told = x ∷ i.told;
       room = λ j m. let h = i.room j m in omega (arith, h, same);
       left = λ y m. rw s (left_step is i.told left x r i.left y (omega (arith, m, same)));
-      facts =
-          type_step is i.told ids k x left c.loop-id.facts.items c.push_type.new.facts.items
-          (c.args.facts.now.items ++ type_facts is [] ids) (got ids k c.loop-id-test.true) r i.left c.in_ok-push_type.ensures.facts i.facts;
+      things =
+          type_step is i.told ids k x left c.loop-id.told.items c.push_type.new.told.items
+          (type_things is [] ids) (got ids k c.loop-id-test.true) r i.left c.in_ok-push_type.ensures.told i.things;
     }

@@ -1,8 +1,8 @@
 use Rattle.std.proofs.Common.{◌≡◌, ◌<◌, ◌++◌, ℕ, List, [], None, drop, get_or, length}
 use Rattle.std.specs.Prelude.{slice_index, if◌then◌else◌}
 use Rattle.spv_module.specs.Module.{plain_insts}
-use Rattle.spv_fault_lines.specs.Facts.{definition_from, is_told, type_facts}
-use Rattle.spv_fault_lines.proofs.about.About.push_types.Given as goal
+use Rattle.spv_fault_lines.specs.Facts.{definition_from, is_told, type_things}
+use Rattle.spv_fault_lines.proofs.about.About.types_told.Given as goal
 
 abbrev pub invariant-loop-id : goal.invariant-loop-id
 invariant-loop-id l = record {
@@ -11,6 +11,6 @@ invariant-loop-id l = record {
   left : (x : ℕ) → x < length l.left.items
       → get_or l.left.items x None
       ≡ (if is_told told x then None else definition_from x 0 (plain_insts l.fn.self.«module».now));
-  facts : l.facts.items ++ type_facts (plain_insts l.fn.self.«module».now) told (drop l.id-index l.fn.ids)
-      ≡ l.initial.facts.items ++ type_facts (plain_insts l.fn.self.«module».now) [] l.fn.ids;
+  things : l.told.items ++ type_things (plain_insts l.fn.self.«module».now) told (drop l.id-index l.fn.ids)
+      ≡ type_things (plain_insts l.fn.self.«module».now) [] l.fn.ids;
 }

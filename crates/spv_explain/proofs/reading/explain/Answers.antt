@@ -1,5 +1,5 @@
 use Rattle.spv_explain.proofs.Readings.{answered, shown, shown_dead}
-use Rattle.spv_explain.proofs.explained.explain.Goals as goal
+use Rattle.spv_explain.proofs.reading.explain.Goals as goal
 
 pub returns-clause-verdict : goal.returns-clause-verdict
 returns-clause-verdict c = answered c.args.table.now c.args.image.now _ c.explained_of.ensures

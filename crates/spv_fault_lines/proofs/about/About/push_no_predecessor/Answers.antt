@@ -1,6 +1,0 @@
-use Rattle.std.proofs.Common.{codes, string_bytes}
-use Rattle.spv_fault_lines.proofs.Joined.{joined}
-use Rattle.spv_fault_lines.proofs.about.About.push_no_predecessor.Goals as goal
-
-pub returns : goal.returns
-returns c = joined _ _ _ _ (codes "no predecessor:") _ c.in_ok-push_str.ensures.bytes c.push_operand_of.ensures

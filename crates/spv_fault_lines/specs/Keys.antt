@@ -1,0 +1,54 @@
+-- The keys of what is told. (Own.) One table of how each is written: before the colon of a line, and as the name of a
+-- member of a JSON object. No object has two members of one name: a fault has one of `in` and `open`.
+use Rattle.std.specs.Prelude.{ℕ, List, codes}
+use Rattle.spv_fault_lines.specs.declared.key.Key.{Key}
+use Rattle.spv_fault_lines.specs.declared.key.Key.TheVariants as key
+
+abbrev pub spelling_of : Key → List ℕ × List ℕ
+spelling_of key.At = (codes "at", codes "at")
+spelling_of key.In = (codes "in", codes "function")
+spelling_of key.Open = (codes "open", codes "function")
+spelling_of key.Block = (codes "block", codes "block")
+spelling_of key.Words = (codes "words", codes "words")
+spelling_of key.Word = (codes "word", codes "failingWord")
+spelling_of key.Opcode = (codes "opcode", codes "opcode")
+spelling_of key.Row = (codes "row", codes "row")
+spelling_of key.MayCome = (codes "may come", codes "mayComeNext")
+spelling_of key.MayEnd = (codes "end of module", codes "mayEnd")
+spelling_of key.Missing = (codes "missing", codes "missing")
+spelling_of key.Operand = (codes "operand", codes "operand")
+spelling_of key.Due = (codes "due", codes "due")
+spelling_of key.Bound = (codes "bound", codes "bound")
+spelling_of key.Defined = (codes "defined", codes "defined")
+spelling_of key.LocalTo = (codes "local to", codes "localTo")
+spelling_of key.Role = (codes "role", codes "role")
+spelling_of key.Earlier = (codes "earlier", codes "earlier")
+spelling_of key.Implied = (codes "implied", codes "implied")
+spelling_of key.NotImplied = (codes "not implied", codes "notImplied")
+spelling_of key.Bit = (codes "bit", codes "bit")
+spelling_of key.NeedsOneOf = (codes "needs one of", codes "needsOneOf")
+spelling_of key.Part = (codes "part", codes "part")
+spelling_of key.Called = (codes "called", codes "called")
+spelling_of key.Imported = (codes "imported", codes "imported")
+spelling_of key.Condition = (codes "condition", codes "condition")
+spelling_of key.Type = (codes "type", codes "types")
+spelling_of key.Place = (codes "place", codes "place")
+spelling_of key.Parameter = (codes "parameter", codes "parameter")
+spelling_of key.Argument = (codes "argument", codes "argument")
+spelling_of key.Wanted = (codes "wanted", codes "wanted")
+spelling_of key.Found = (codes "found", codes "found")
+spelling_of key.Help = (codes "help", codes "help")
+spelling_of key.MissingParent = (codes "missing parent", codes "missingParent")
+spelling_of key.NoPredecessor = (codes "no predecessor", codes "noPredecessor")
+spelling_of key.Twice = (codes "twice", codes "twice")
+spelling_of key.Predecessors = (codes "predecessors", codes "predecessors")
+spelling_of key.Walk = (codes "walk", codes "walk")
+spelling_of key.Calls = (codes "calls", codes "calls")
+spelling_of key.Cycle = (codes "cycle", codes "cycle")
+
+-- in a line, and in JSON
+abbrev pub line_name : Key → List ℕ
+line_name k = (spelling_of k).0
+
+abbrev pub member_name : Key → List ℕ
+member_name k = (spelling_of k).1
