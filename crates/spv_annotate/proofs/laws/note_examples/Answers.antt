@@ -1,0 +1,16 @@
+use Rattle.std.proofs.Common.{refl}
+use Rattle.std.specs.Fmt.{digits}
+use Rattle.spv_annotate.specs.Notes.{cut_at, opencl_lines}
+use Rattle.spv_annotate.proofs.laws.note_examples.Goals as goal
+
+pub returns-clause-names : goal.returns-clause-names
+unfolding digits
+returns-clause-names c = refl
+
+pub returns-clause-long : goal.returns-clause-long
+unfolding cut_at
+returns-clause-long c = refl
+
+pub returns-clause-call : goal.returns-clause-call
+unfolding opencl_lines
+returns-clause-call c = refl

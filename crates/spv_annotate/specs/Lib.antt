@@ -1,0 +1,11 @@
+pub mod Piece
+pub mod Module
+pub mod Values
+pub mod Notes
+pub mod Document
+pub mod Example
+pub mod Bare
+pub mod Html
+pub mod Page
+pub mod Scenes
+pub mod inner

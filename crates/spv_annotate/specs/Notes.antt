@@ -1,0 +1,108 @@
+-- The comment behind the line of an instruction. (Own.)
+use Rattle.std.specs.Prelude.{◌++◌, ◌&&◌, ℕ, zero, suc, List, [], ◌∷◌, Option, Some, None, Bool}
+use Rattle.std.specs.Prelude.{nat_eq, nat_le, nat_lt, slice_get, slice_index, unwrap_or, if◌then◌else◌, codes, bytes_eq}
+use Rattle.std.specs.Prelude.{drop, length, take, decimal}
+use Rattle.std.specs.List.{flat_map}
+use Rattle.spv_table.specs.Lookups.{is_number}
+use Rattle.spv_module.specs.Operand.{Plain, OfType, Result, Id, Word, PlainInst, result_in}
+use Rattle.spv_module.specs.declared.opcode.TheConstants.{NAME, LABEL, EXT_INST, EXT_INST_IMPORT}
+use Rattle.spv_layout.specs.Place.{first_word_of}
+use Rattle.spv_lines.specs.Line.{before_space}
+use Rattle.spv_lines.specs.Operand.{id_text}
+use Rattle.spv_lines.specs.Text.{lines_of}
+use Rattle.spv_fault_lines.specs.Plain.{plain_of}
+use Rattle.spv_annotate.specs.declared.opencl.TheConstants.{OPENCL}
+use Rattle.spv_annotate.specs.Module.{defined_by, definition_of, ids_of, inst_at, naming_of, predecessors, text_in}
+
+-- a text behind a comma and a space; nothing where it is empty
+abbrev pub note : List ℕ → List ℕ
+note [] = []
+note (b ∷ t) = codes ", " ++ (b ∷ t)
+
+-- how many octets of a name are told at most
+abbrev pub most : ℕ
+most = 40
+
+-- the last place of a text, up to a greatest one, at which a character begins
+unfoldable pub cut_at : List ℕ → ℕ → ℕ
+cut_at t zero = 0
+cut_at t (suc k) = if nat_le 128 (slice_index t (suc k)) && nat_lt (slice_index t (suc k)) 192 then cut_at t k else suc k
+
+-- a name without its control characters; of a long one the beginning, and two points
+abbrev pub short_name : List ℕ → List ℕ
+short_name t = if nat_le (length t) most then plain_of t else plain_of (take (cut_at t most) t) ++ codes ".."
+
+-- `, %17 sum`, where the first OpName of an id is the one of that number
+abbrev pub name_text : List PlainInst → ℕ → Option ℕ → List ℕ
+name_text is x None = []
+name_text is x (Some n) = codes ", " ++ id_text x ++ (32 ∷ short_name (text_in (inst_at is n).operands))
+
+abbrev pub name_note : List PlainInst → ℕ → List ℕ
+name_note is x = name_text is x (naming_of is x)
+
+-- the names of the ids on a line, but for that of an OpName, which has the name itself
+abbrev pub name_notes : List PlainInst → PlainInst → List ℕ
+name_notes is i = if nat_eq i.opcode NAME then [] else flat_map (name_note is) (ids_of i)
+
+-- the table of src/opencl.rt, where each number of an instruction of OpenCL.std has a line
+unfoldable pub opencl_lines : List (List ℕ)
+opencl_lines = lines_of OPENCL.now
+
+-- the name of an instruction of OpenCL.std
+abbrev pub opencl_name : ℕ → List ℕ
+opencl_name k = before_space (unwrap_or (slice_get opencl_lines k) [])
+
+-- does an instruction import OpenCL.std [3.49.4]
+abbrev pub is_opencl : PlainInst → Bool
+is_opencl i = nat_eq i.opcode EXT_INST_IMPORT && bytes_eq (text_in i.operands) (codes "OpenCL.std")
+
+-- the set and the number of an instruction that is called
+pub record Call : Type 0 where
+  pub set : ℕ
+  pub number : ℕ
+
+-- what operands of an OpExtInst call [3.49.4]
+abbrev pub call_in : List Plain → Option Call
+call_in (OfType t ∷ Result r ∷ Id s ∷ Word k ∷ os) = Some (record { set = s; number = k })
+call_in _ = None
+
+-- `, sqrt`, where the set is OpenCL.std
+abbrev pub call_text : List PlainInst → Option Call → List ℕ
+call_text is None = []
+call_text is (Some c) = if is_opencl (defined_by is c.set) then note (opencl_name c.number) else []
+
+abbrev pub call_note : List PlainInst → PlainInst → List ℕ
+call_note is i = if nat_eq i.opcode EXT_INST then call_text is (call_in i.operands) else []
+
+-- `, from %13 %14`
+abbrev pub from_text : List ℕ → List ℕ
+from_text [] = []
+from_text (y ∷ ys) = codes ", from" ++ flat_map (λ x. 32 ∷ id_text x) (y ∷ ys)
+
+-- the blocks whose branch goes to a label, at the first instruction that defines it
+abbrev pub from_note : List PlainInst → ℕ → Option ℕ → List ℕ
+from_note is n None = []
+from_note is n (Some x) = if is_number n (definition_of is x) then from_text (predecessors is x) else []
+
+abbrev pub block_note : List PlainInst → ℕ → PlainInst → List ℕ
+block_note is n i = if nat_eq i.opcode LABEL then from_note is n (result_in i.operands) else []
+
+-- the notes on instruction n; the decimal value is that of a float constant, or nothing
+abbrev pub notes : List PlainInst → List ℕ → ℕ → PlainInst → List ℕ
+notes is value n i = name_notes is i ++ call_note is i ++ note value ++ block_note is n i
+
+-- spaces up to the column of comments, one at least, behind a line of so many octets
+abbrev pub column : List ℕ
+column = codes "                                                "
+
+abbrev pub gap : ℕ → List ℕ
+gap count = drop (if nat_lt count 47 then count else 47) column
+
+-- the numbers of an instruction and of its first word
+abbrev pub place_text : ℕ → ℕ → List ℕ
+place_text n word = codes "; inst " ++ decimal n ++ codes " word " ++ decimal word
+
+-- the comment behind the line of instruction n, and the spaces before it
+abbrev pub comment : List PlainInst → List ℕ → ℕ → List ℕ → List ℕ
+comment is value n line =
+    gap (length line) ++ place_text n (first_word_of is n) ++ notes is value n (inst_at is n)

@@ -1,0 +1,11 @@
+-- Definitions that serve the code alone.
+pub mod Numbers
+pub mod Edges
+pub mod Values
+pub mod Known
+pub mod Standing
+pub mod Task
+pub mod Linked
+pub mod Look
+pub mod Uses
+pub mod Tame

@@ -1,0 +1,18 @@
+-- What is known of a module beside its instructions. (For the code alone.)
+use Rattle.std.specs.Prelude.{◌≡◌, ℕ, List, map}
+use Rattle.spv_module.specs.Operand.{PlainInst}
+use Rattle.spv_annotate.specs.declared.known.Known.{Known}
+use Rattle.spv_annotate.specs.Module.{definition_of, naming_of}
+use Rattle.spv_annotate.specs.Notes.{opencl_lines}
+use Rattle.spv_annotate.specs.Values.{AreValues}
+use Rattle.spv_annotate.specs.inner.Edges.{AreEdges}
+use Rattle.spv_annotate.specs.inner.Numbers.{kept}
+use Rattle.spv_annotate.specs.inner.Values.{value_in}
+
+-- What is known is so by the instructions.
+pub record IsKnown (is : List PlainInst) (k : Known) : Type 0 where
+  pub definitions : (x : ℕ) → kept k.definitions x ≡ definition_of is x
+  pub namings : (x : ℕ) → kept k.namings x ≡ naming_of is x
+  pub edges : AreEdges is k.edges.items
+  pub calls : map (λ t. t.now) k.calls.items ≡ opencl_lines
+  pub values : AreValues is (value_in k.values)

@@ -1,0 +1,20 @@
+-- Where a line is cut before ids. (For the code alone.)
+use Rattle.std.specs.Prelude.{ℕ, suc, List, [], ◌∷◌, if◌then◌else◌}
+use Rattle.spv_annotate.specs.declared.linked.Quoting.{Quoting}
+use Rattle.spv_annotate.specs.declared.linked.Quoting.TheVariants.{Outside, Within, Behind, Commented}
+use Rattle.spv_annotate.specs.Page.{after_byte, begins_id}
+
+-- where a reader of the line stands at its front
+abbrev pub base : Quoting → Quoting
+base Commented = Commented
+base _ = Outside
+
+-- how many bytes stand before the next id
+abbrev pub until_id : Quoting → List ℕ → ℕ
+until_id q [] = 0
+until_id q (b ∷ line) = if begins_id q b then 0 else suc (until_id (after_byte q b) line)
+
+-- how many bytes the first part has: up to the next id behind the first byte
+abbrev pub part_len : Quoting → List ℕ → ℕ
+part_len q [] = 0
+part_len q (b ∷ line) = suc (until_id (after_byte q b) line)

@@ -1,0 +1,121 @@
+//! The comment behind the line of an instruction.
+
+ghost use Rattle.std.specs.Prelude.{◌≡◌, ◌++◌, ◌<◌, ◌≤◌, ◌+◌, ℕ, OnOk, length, map, string_bytes};
+ghost use Rattle.spv_module.specs.Module.{plain_inst, plain_insts};
+ghost use Rattle.spv_layout.specs.Place.{first_word_of};
+ghost use Rattle.spv_annotate.specs.Module.{inst_at};
+ghost use Rattle.spv_annotate.specs.Notes as specs;
+ghost use Rattle.spv_annotate.specs.Notes.{block_note, column, comment, notes, place_text};
+ghost use Rattle.spv_annotate.specs.inner.Known.{IsKnown};
+ghost use Rattle.spv_annotate.specs.inner.Numbers.{kept};
+ghost use Rattle.spv_annotate.specs.inner.Values.{value_in};
+
+use crate::calls::{push_call, push_note};
+use crate::edges::push_predecessors;
+use crate::known::Known;
+use crate::names::push_names;
+use crate::words::push_number;
+use spv_module::{Inst, opcode};
+use std::alloc::AllocError;
+
+/// Spaces up to the column of comments.
+const COLUMN: &str = "                                                ";
+
+/// The spaces behind a line of so many octets: up to the column of comments, one at least.
+fn gap(count: usize) -> &'static str
+    ensures { result.now ≡ specs.gap count }
+{
+    if count < 47 {
+        return &COLUMN[count..];
+    }
+    &COLUMN[47..]
+}
+
+/// Adds the labels of the blocks whose branch goes to an instruction, where it is the OpLabel that first defines its id.
+fn push_block(
+    out: &mut String,
+    insts: &[Inst<'_>],
+    known: &Known,
+    at: u32,
+    inst: &Inst<'_>,
+) -> Result<(), AllocError>
+    requires { IsKnown (map plain_inst insts.now) known.now }
+    ensures { OnOk result (string_bytes out.new ≡ string_bytes out.old ++ block_note (map plain_inst insts.now) at
+        (plain_inst inst.now)) }
+{
+    if inst.opcode != opcode::LABEL {
+        return Ok(());
+    }
+    let Some(label) = inst.result_id() else {
+        return Ok(());
+    };
+    if known.definitions.get(label) != Some(at) {
+        return Ok(());
+    }
+    push_predecessors(out, known.edges.as_slice(), label)
+}
+
+/// Adds the notes on an instruction.
+fn push_notes(
+    out: &mut String,
+    insts: &[Inst<'_>],
+    known: &Known,
+    at: u32,
+    inst: &Inst<'_>,
+) -> Result<(), AllocError>
+    requires { IsKnown (map plain_inst insts.now) known.now }
+    ensures { OnOk result (string_bytes out.new ≡ string_bytes out.old ++ notes (map plain_inst insts.now)
+        (value_in known.now.values at) at (plain_inst inst.now)) }
+{
+    push_names(out, insts, &known.namings, inst)?;
+    push_call(out, insts, &known.definitions, known.calls.as_slice(), inst)?;
+    push_note(out, known.values.of(at))?;
+    push_block(out, insts, known, at, inst)
+}
+
+/// Adds the notes on the instruction of that number.
+fn push_notes_at(
+    out: &mut String,
+    insts: &[Inst<'_>],
+    known: &Known,
+    at: u32,
+) -> Result<(), AllocError>
+    requires known { IsKnown (map plain_inst insts.now) known.now }
+    requires within { at < length insts.now }
+    ensures { OnOk result (string_bytes out.new ≡ string_bytes out.old ++ notes (map plain_inst insts.now)
+        (value_in known.now.values at) at (inst_at (map plain_inst insts.now) at)) }
+{
+    push_notes(out, insts, known, at, &insts[at as usize])
+}
+
+/// Adds the numbers of an instruction and of its first word.
+fn push_place(out: &mut String, at: u32, word: u32) -> Result<(), AllocError>
+    ensures { OnOk result (string_bytes out.new ≡ string_bytes out.old ++ place_text at word) }
+{
+    out.push_str("; inst ")?;
+    push_number(out, u64::from(at))?;
+    out.push_str(" word ")?;
+    push_number(out, u64::from(word))
+}
+
+/// Adds the comment behind the line of an instruction, which has so many octets, and the spaces before it.
+///
+/// An `AllocError` comes only where a growth of memory was refused, and then nothing is said of what is left.
+pub fn push_comment(
+    out: &mut String,
+    insts: &[Inst<'_>],
+    known: &Known,
+    at: u32,
+    word: u32,
+    line: &str,
+) -> Result<(), AllocError>
+    requires known { IsKnown (map plain_inst insts.now) known.now }
+    requires within { at < length insts.now }
+    requires word { word ≡ first_word_of (map plain_inst insts.now) at }
+    ensures { OnOk result (string_bytes out.new ≡ string_bytes out.old ++ comment (map plain_inst insts.now)
+        (value_in known.now.values at) at line.now) }
+{
+    out.push_str(gap(line.len()))?;
+    push_place(out, at, word)?;
+    push_notes_at(out, insts, known, at)
+}

@@ -1,0 +1,77 @@
+//! The first instruction that defines or names an id.
+
+ghost use Rattle.std.specs.Prelude.{◌≡◌, ◌≤◌, ◌<◌, ℕ, Some, if◌then◌else◌, IfOk, OnOk, length, map};
+ghost use Rattle.spv_table.specs.Lookups.{is_number};
+ghost use Rattle.spv_module.specs.Module.{plain_inst, plain_operands};
+ghost use Rattle.spv_layout.specs.Place.{AreFew};
+ghost use Rattle.spv_annotate.specs.Module as specs;
+ghost use Rattle.spv_annotate.specs.Module.{definition_of, naming_of};
+ghost use Rattle.spv_annotate.specs.inner.Numbers.{kept};
+
+use crate::numbers::Numbers;
+use spv_module::{Inst, Operand, opcode};
+use std::alloc::{AllocError, Global};
+
+/// Keeps a number of an id, if there is one.
+fn keep(numbers: &mut Numbers, id: Option<u32>, number: u32) -> Result<(), AllocError>
+    requires { number < 4294967295 }
+    ensures { OnOk result ((x : ℕ) → kept numbers.new x
+        ≡ (if is_number x id then Some number else kept numbers.old x)) }
+{
+    match id {
+        Some(id) => numbers.put(id, number),
+        None => Ok(()),
+    }
+}
+
+/// The id that operands of an OpName name.
+fn named_in(operands: &[Operand<'_>]) -> Option<u32>
+    ensures { result ≡ specs.named_in (plain_operands operands.now) }
+{
+    match operands {
+        [Operand::Id(id), Operand::Text(_), ..] => Some(*id),
+        _ => None,
+    }
+}
+
+/// The id that an instruction names, if it is an OpName.
+fn named_by(inst: &Inst<'_>) -> Option<u32>
+    ensures { result ≡ specs.named_by (plain_inst inst.now) }
+{
+    if inst.opcode == opcode::NAME {
+        return named_in(inst.operands.as_slice());
+    }
+    None
+}
+
+/// Of each id the first instruction that defines it: that has it as its result.
+///
+/// An `AllocError` comes only where a growth of memory was refused.
+pub fn find_definitions(alloc: Global, insts: &[Inst<'_>]) -> Result<Numbers, AllocError>
+    requires { AreFew insts.now }
+    ensures { IfOk result (λ n. (x : ℕ) → kept n x ≡ definition_of (map plain_inst insts.now) x) }
+{
+    let mut numbers = Numbers::new(alloc, insts.len() as u32)?;
+    let mut at = insts.len();
+    while at > 0 {
+        at -= 1;
+        keep(&mut numbers, insts[at].result_id(), at as u32)?;
+    }
+    Ok(numbers)
+}
+
+/// Of each id the first OpName that names it.
+///
+/// An `AllocError` comes only where a growth of memory was refused.
+pub fn find_namings(alloc: Global, insts: &[Inst<'_>]) -> Result<Numbers, AllocError>
+    requires { AreFew insts.now }
+    ensures { IfOk result (λ n. (x : ℕ) → kept n x ≡ naming_of (map plain_inst insts.now) x) }
+{
+    let mut numbers = Numbers::new(alloc, insts.len() as u32)?;
+    let mut at = insts.len();
+    while at > 0 {
+        at -= 1;
+        keep(&mut numbers, named_by(&insts[at]), at as u32)?;
+    }
+    Ok(numbers)
+}

@@ -1,0 +1,84 @@
+//! Laws of the definitions, and worked examples. Each function does nothing: its contract is what is proved.
+
+ghost use Rattle.std.specs.Prelude.{◌≡◌, ◌++◌, ◌∷◌, [], ℕ, List, Option, None, Some, codes, false, map, true};
+ghost use Rattle.std.specs.List.{flat_map};
+ghost use Rattle.spv_table.specs.Table.{Table};
+ghost use Rattle.spv_module.specs.declared.module.Module.{Module};
+ghost use Rattle.spv_module.specs.Module.{plain_insts};
+ghost use Rattle.spv_lines.specs.Text.{ended};
+ghost use Rattle.spv_fault_lines.specs.Plain.{plain_of};
+ghost use Rattle.spv_annotate.specs.declared.finding.Finding.{Finding};
+ghost use Rattle.spv_annotate.specs.declared.values.Bits.TheVariants.{Single};
+ghost use Rattle.spv_annotate.specs.Bare.{asked_lines, bare, bare_text};
+ghost use Rattle.spv_annotate.specs.Document.{IsSpelled, IsSubject, Subject, beginning, document, is_of};
+ghost use Rattle.spv_annotate.specs.Example.{two_blocks};
+ghost use Rattle.spv_annotate.specs.Module.{inst_at, predecessors};
+ghost use Rattle.spv_annotate.specs.Notes.{call_note, comment, name_notes, short_name};
+ghost use Rattle.spv_annotate.specs.Piece.{Block, Comment, Function, Section, text_of};
+ghost use Rattle.spv_annotate.specs.Values.{float_of, widened};
+
+/// Taking away the comments of the text for reading, the spaces before them and empty lines gives exactly the shown
+/// lines, each control character as `\xNN`: those of the header, and those of the instructions that were asked for,
+/// which are all where no function was.
+pub fn bare_text_is_shown()
+    ensures asked { (G : Table) (m : Module) (told : Option Finding) (function : Option ℕ) (S : Subject)
+        → IsSpelled G (plain_insts m) → IsSubject G m told function S
+        → bare_text (flat_map (text_of false) (document S)) ≡ ended (S.header ++ asked_lines S) }
+    ensures whole { (G : Table) (m : Module) (told : Option Finding) (S : Subject)
+        → IsSpelled G (plain_insts m) → IsSubject G m told None S
+        → bare_text (flat_map (text_of false) (document S)) ≡ ended (S.header ++ map plain_of S.lines) }
+{}
+
+/// Names and calls.
+pub fn note_examples()
+    ensures names { name_notes two_blocks (inst_at two_blocks 8) ≡ codes ", %3 one" }
+    // The OpName has the name itself.
+    ensures none { name_notes two_blocks (inst_at two_blocks 0) ≡ [] }
+    ensures short { short_name (codes "a" ++ (27 ∷ codes "b")) ≡ codes "a\\x1bb" }
+    ensures long { short_name (codes "123456789 123456789 123456789 123456789 12") ≡ codes
+        "123456789 123456789 123456789 123456789 .." }
+    ensures not_control { ¬ (short_name (27 ∷ []) ≡ 27 ∷ []) }
+    ensures call { call_note two_blocks (inst_at two_blocks 8) ≡ codes ", sqrt" }
+    ensures no_call { call_note two_blocks (inst_at two_blocks 9) ≡ [] }
+{}
+
+/// Blocks and the comment behind a label.
+pub fn block_examples()
+    // The first block names the label twice, and is told once.
+    ensures from { predecessors two_blocks 7 ≡ 5 ∷ 7 ∷ [] }
+    ensures not_twice { ¬ (predecessors two_blocks 7 ≡ 5 ∷ 5 ∷ 7 ∷ []) }
+    ensures none { predecessors two_blocks 5 ≡ [] }
+    ensures comment { comment two_blocks [] 7 (codes "%7 = OpLabel") ≡ codes
+        "                                    ; inst 7 word 29, from %5 %7" }
+{}
+
+/// What begins, and what is asked for.
+pub fn place_examples()
+    ensures section { beginning two_blocks 2 ≡ Section 9 ∷ [] }
+    ensures same_section { beginning two_blocks 3 ≡ [] }
+    ensures function { beginning two_blocks 4 ≡ Function 4 ∷ [] }
+    ensures block { beginning two_blocks 7 ≡ Block 7 ∷ [] }
+    ensures inside { is_of two_blocks (Some 4) 10 ≡ true }
+    ensures outside { is_of two_blocks (Some 4) 3 ≡ false }
+    ensures other { is_of two_blocks (Some 5) 8 ≡ false }
+    ensures all { is_of two_blocks None 3 ≡ true }
+{}
+
+/// Floats: a single one, and half ones as single ones, also the least of all.
+pub fn value_examples()
+    ensures single { float_of two_blocks (inst_at two_blocks 3) ≡ Some (Single 1065353216) }
+    ensures none { float_of two_blocks (inst_at two_blocks 2) ≡ None }
+    ensures one { widened 15360 ≡ 1065353216 }
+    ensures least { widened 1 ≡ 864026624 }
+    ensures not_itself { ¬ (widened 15360 ≡ 15360) }
+{}
+
+/// Comments, taken away and written.
+pub fn bare_examples()
+    ensures comment { bare (codes "OpNop   ; inst 1") ≡ codes "OpNop" }
+    // A `;` in quotes begins none.
+    ensures quotes { bare (codes "%2 = OpString \"a;\\\"b\" ; c") ≡ codes "%2 = OpString \"a;\\\"b\"" }
+    ensures not_before { ¬ (bare (codes "OpNop   ; inst 1") ≡ codes "OpNop   ") }
+    ensures lines { bare_text (codes "a\nb\nc\nd\ne ; f\n\nOpNop ; inst 0\n; ^ rule\n") ≡ codes "a\nb\nc\nd\ne ; f\nOpNop\n" }
+    ensures dim { text_of true (Comment (codes " ; a")) ≡ (27 ∷ codes "[2m ; a") ++ (27 ∷ codes "[0m") }
+{}

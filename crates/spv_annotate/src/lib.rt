@@ -1,0 +1,43 @@
+//! The text for reading: the lines of a module's text with what helps a reader beside them.
+#![tactic(auto)]
+
+mod calls;
+mod comment;
+mod contents;
+mod edges;
+mod finding;
+mod firsts;
+mod html;
+pub mod html_laws;
+mod html_page;
+mod known;
+mod labels;
+pub mod laws;
+mod linked;
+mod look;
+mod names;
+mod numbers;
+mod opencl;
+mod outline;
+pub mod page_laws;
+mod page_pen;
+mod piece;
+mod section;
+mod standing;
+mod style;
+mod tame;
+mod text;
+mod text_pen;
+mod uses;
+mod values;
+mod walk;
+mod words;
+mod writer;
+
+pub use finding::Finding;
+pub use html_page::page;
+pub use labels::walk_labels;
+pub use piece::{Pen, Piece};
+pub use text::{annotate, has_function};
+pub use text_pen::TextPen;
+pub use writer::annotate_with;

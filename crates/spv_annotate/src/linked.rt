@@ -1,0 +1,203 @@
+//! Lines in which ids have links.
+
+ghost use Rattle.std.specs.Prelude.{◌≡◌, ◌++◌, ◌∷◌, ◌≤◌, ◌<◌, ℕ, List, OnOk, decimal, length, string_bytes};
+ghost use Rattle.std.specs.Prelude.{option_and_then};
+ghost use Rattle.std.specs.List.{prefix_len};
+ghost use Rattle.std.specs.Option.{option_to_list};
+ghost use Rattle.spv_lines.specs.Digits.{is_digit};
+ghost use Rattle.spv_annotate.specs.inner.Linked.{base, part_len, until_id};
+ghost use Rattle.spv_annotate.specs.inner.Numbers.{kept};
+ghost use Rattle.spv_annotate.specs.Page as page;
+ghost use Rattle.spv_annotate.specs.Page.{after_byte, id_html, id_of, ids_at, linked, part_html};
+
+use crate::html::push_escaped;
+use crate::numbers::Numbers;
+use itoa::Buffer;
+use spv_tokens::read_behind;
+use std::alloc::AllocError;
+
+/// Where a reader of a line stands.
+#[derive(Clone, Copy)]
+pub enum Quoting {
+    /// Outside quotes.
+    Outside,
+    /// In quotes.
+    Within,
+    /// In quotes, behind a backslash.
+    Behind,
+    /// In a comment, where a quote is like any other character.
+    Commented,
+}
+
+impl Quoting {
+    /// Where the reader stands after one byte more.
+    fn after(self, byte: u8) -> Quoting
+        ensures { result ≡ after_byte self byte }
+    {
+        match self {
+            Quoting::Outside => if byte == b'"' {
+                Quoting::Within
+            } else {
+                Quoting::Outside
+            },
+            Quoting::Within => if byte == b'"' {
+                Quoting::Outside
+            } else if byte == b'\\' {
+                Quoting::Behind
+            } else {
+                Quoting::Within
+            },
+            Quoting::Behind => Quoting::Within,
+            Quoting::Commented => Quoting::Commented,
+        }
+    }
+
+    /// Whether an id begins with a byte.
+    fn begins_id(self, byte: u8) -> bool
+        ensures { result ≡ page.begins_id self byte }
+    {
+        match self {
+            Quoting::Outside | Quoting::Commented => byte == b'%',
+            Quoting::Within | Quoting::Behind => false,
+        }
+    }
+}
+
+/// How many bytes stand before the next id.
+fn size_until_id(line: &[u8], quoting: Quoting) -> usize
+    ensures size { result ≡ until_id quoting line.now }
+    ensures within { result ≤ length line.now }
+{
+    let mut here = quoting;
+    for (at, byte) in line.iter().enumerate() {
+        if here.begins_id(*byte) {
+            return at;
+        }
+        here = here.after(*byte);
+    }
+    line.len()
+}
+
+/// How many bytes the first part of a line has, up to the next id behind the first byte.
+pub fn part_size(line: &[u8], quoting: Quoting) -> usize
+    ensures size { result ≡ part_len quoting line.now }
+    ensures within { result ≤ length line.now }
+{
+    match line {
+        [first, rest @ ..] => 1 + size_until_id(rest, quoting.after(*first)),
+        [] => 0,
+    }
+}
+
+/// How many digits stand at the front.
+fn digit_count(text: &[u8]) -> usize
+    ensures count { result ≡ prefix_len is_digit text.now }
+    ensures within { result ≤ length text.now }
+{
+    for (at, byte) in text.iter().enumerate() {
+        if *byte < b'0' || *byte > b'9' {
+            return at;
+        }
+    }
+    text.len()
+}
+
+/// Adds a number in decimal.
+pub fn push_number(out: &mut String, number: u32) -> Result<(), AllocError>
+    ensures { OnOk result (string_bytes out.new ≡ string_bytes out.old ++ decimal number) }
+{
+    let mut buffer = Buffer::new();
+    out.push_str(buffer.format(number))
+}
+
+/// Adds a word with a link to the instruction of that number.
+pub fn push_link(out: &mut String, inst: u32, word: &str) -> Result<(), AllocError>
+    ensures { OnOk result (string_bytes out.new ≡ string_bytes out.old ++ id_html (Some inst) word.now) }
+{
+    out.push_str("<a href=#")?;
+    push_number(out, inst)?;
+    out.push_str(">")?;
+    push_escaped(out, word)?;
+    out.push_str("</a>")
+}
+
+/// The id that a word is, as `%7`.
+fn id_in(word: &[u8]) -> Option<u32>
+    ensures { (ds : List ℕ) → word.now ≡ 37 ∷ ds → result ≡ id_of ds }
+{
+    match read_behind(b'%', word) {
+        Ok(id) => Some(id),
+        Err(_) => None,
+    }
+}
+
+/// The id that a part of a line begins with.
+pub fn id_at(part: &[u8]) -> Option<u32>
+    ensures { option_to_list result ≡ ids_at part.now }
+{
+    let [first, rest @ ..] = part else {
+        return None;
+    };
+    if *first != b'%' {
+        return None;
+    }
+    id_in(&part[..1 + digit_count(rest)])
+}
+
+/// What is kept of the id that a word is, as `%7`.
+fn definition_in(definitions: &Numbers, word: &[u8]) -> Option<u32>
+    ensures { (ds : List ℕ) → word.now ≡ 37 ∷ ds → result ≡ option_and_then (kept definitions.now) (id_of ds) }
+{
+    match id_in(word) {
+        Some(id) => definitions.get(id),
+        None => None,
+    }
+}
+
+/// Adds an id, as `%7`, with a link to the instruction that defines it, if there is one.
+fn push_id(out: &mut String, definitions: &Numbers, word: &str) -> Result<(), AllocError>
+    ensures { (ds : List ℕ) → word.now ≡ 37 ∷ ds → OnOk result (string_bytes out.new
+        ≡ string_bytes out.old ++ id_html (option_and_then (kept definitions.now) (id_of ds)) word.now) }
+{
+    match definition_in(definitions, word.as_bytes()) {
+        Some(inst) => push_link(out, inst, word),
+        None => push_escaped(out, word),
+    }
+}
+
+/// Adds a part of a line that is cut before each id.
+fn push_part(out: &mut String, definitions: &Numbers, part: &str) -> Result<(), AllocError>
+    ensures { OnOk result (string_bytes out.new ≡ string_bytes out.old ++ part_html (kept definitions.now) part.now) }
+{
+    let [first, rest @ ..] = part.as_bytes() else {
+        return Ok(());
+    };
+    if *first != b'%' {
+        return push_escaped(out, part);
+    }
+    let size = 1 + digit_count(rest);
+    push_id(out, definitions, &part[..size])?;
+    push_escaped(out, &part[size..])?;
+    Ok(())
+}
+
+/// Adds a line, or a comment, in which ids that are defined have links.
+///
+/// An `AllocError` comes only where a growth of memory was refused, and then nothing is said of what is left.
+pub fn push_linked(
+    out: &mut String,
+    definitions: &Numbers,
+    quoting: Quoting,
+    line: &str,
+) -> Result<(), AllocError>
+    requires { base quoting ≡ quoting }
+    ensures { OnOk result (string_bytes out.new ≡ string_bytes out.old ++ linked (kept definitions.now) quoting line.now) }
+{
+    let mut rest = line;
+    while !rest.is_empty() {
+        let size = part_size(rest.as_bytes(), quoting);
+        push_part(out, definitions, &rest[..size])?;
+        rest = &rest[size..];
+    }
+    Ok(())
+}

@@ -1,0 +1,54 @@
+//! The text for reading.
+
+ghost use Rattle.std.specs.Prelude.{◌≡◌, IfOk, string_bytes};
+ghost use Rattle.std.specs.List.{flat_map, list_any};
+ghost use Rattle.spv_module.specs.Module.{plain_insts};
+ghost use Rattle.spv_layout.specs.Place.{IsShort};
+ghost use Rattle.spv_annotate.specs.Document.{IsSpelled, IsSubject, Subject, document, is_function};
+ghost use Rattle.spv_annotate.specs.Piece.{text_of};
+
+use crate::finding::Finding;
+use crate::text_pen::TextPen;
+use crate::writer::annotate_with;
+use spv_module::{Module, opcode};
+use spv_table::Table;
+use std::alloc::{AllocError, Global};
+
+/// Whether an OpFunction of a module has an id as its result.
+pub fn has_function(module: &Module<'_>, id: u32) -> bool
+    ensures { result ≡ list_any (is_function id) (plain_insts «module».now) }
+{
+    for inst in &module.insts {
+        if inst.opcode == opcode::FUNCTION && inst.result_id() == Some(id) {
+            return true;
+        }
+    }
+    false
+}
+
+/// The text for reading of a module that words spell, in colours of a terminal or without: what `annotate_with` writes
+/// by a `TextPen`.
+///
+/// An `AllocError` comes only where a growth of memory was refused.
+pub fn annotate(
+    alloc: Global,
+    table: &Table,
+    module: &Module<'_>,
+    finding: Option<Finding<'_>>,
+    function: Option<u32>,
+    color: bool,
+) -> Result<String, AllocError>
+    requires spelled { IsSpelled table.now (plain_insts «module».now) }
+    requires words { IsShort (plain_insts «module».now) }
+    // The text is that of all pieces of the document, in order.
+    ensures { IfOk result (λ t. (S : Subject) × IsSubject table.now «module».now finding.entry function S
+        × (string_bytes t ≡ flat_map (text_of color) (document S))) }
+{
+    let mut pen = TextPen {
+        out: String::new(alloc),
+        color,
+    };
+    annotate_with(alloc, table, module, finding, function, &mut pen)?;
+    let TextPen { out, .. } = pen;
+    Ok(out)
+}

@@ -1,0 +1,52 @@
+//! The pen that writes the text for reading.
+
+ghost use Rattle.std.specs.Prelude.{◌≡◌, ◌++◌, ◌∷◌, [], Bool, List, OnOk, string_bytes};
+ghost use Rattle.spv_annotate.specs.Piece.{colored, plain_piece, text_of};
+
+use crate::piece::{Pen, Piece};
+use std::alloc::AllocError;
+
+/// A pen that writes the text of each piece, in colours of a terminal or without.
+#[derive(Drop)]
+pub struct TextPen {
+    /// The text so far.
+    pub out: String,
+    /// Whether comments are dim and evidence is red.
+    pub color: bool,
+}
+
+/// Adds a text in the colour that a sequence of a terminal begins, or as it is.
+fn push_colored(out: &mut String, color: bool, begin: &str, text: &str) -> Result<(), AllocError>
+    ensures { OnOk result (string_bytes out.new ≡ string_bytes out.old ++ colored color begin.now text.now) }
+{
+    if !color {
+        return out.push_str(text);
+    }
+    out.push_str(begin)?;
+    out.push_str(text)?;
+    out.push_str("\x1b[0m")
+}
+
+/// Adds the text of a piece.
+fn push_piece(out: &mut String, color: bool, piece: Piece<'_>) -> Result<(), AllocError>
+    ensures { OnOk result (string_bytes out.new ≡ string_bytes out.old ++ text_of color (plain_piece piece.entry)) }
+{
+    match piece {
+        Piece::Header(text) => out.push_str(text),
+        Piece::Section(_) | Piece::Function(_) | Piece::Break => out.push('\n'),
+        Piece::Block(_) => Ok(()),
+        Piece::Line { text, .. } => out.push_str(text),
+        Piece::Comment(text) => push_colored(out, color, "\x1b[2m", text),
+        Piece::Mark(text) => push_colored(out, color, "\x1b[31m", text),
+    }
+}
+
+impl Pen for TextPen {
+    ghost text = { λ p. string_bytes p.out };
+
+    ghost writes = { λ p. text_of p.color };
+
+    fn write(&mut self, piece: Piece<'_>) -> Result<(), AllocError> {
+        push_piece(&mut self.out, self.color, piece)
+    }
+}

@@ -1,0 +1,333 @@
+//! The text for reading, by any pen.
+
+ghost use Rattle.std.specs.Prelude.{◌≡◌, ◌≤◌, ◌<◌, ◌+◌, ◌∷◌, [], ℕ, List, Option, IfOk, IfSome, OnOk};
+ghost use Rattle.std.specs.Prelude.{drop, is_some, length, map, option_map, string_bytes, take};
+ghost use Rattle.std.specs.List.{flat_map, range_with_len};
+ghost use Rattle.spv_words.specs.Header.{greatest_length};
+ghost use Rattle.spv_module.specs.Module.{plain_inst, plain_insts};
+ghost use Rattle.spv_module.specs.Operand.{PlainInst};
+ghost use Rattle.spv_layout.specs.Place.{IsShort, first_word_of, word_count};
+ghost use Rattle.spv_lines.specs.Text.{inst_line, lines_of};
+ghost use Rattle.spv_fault_lines.specs.Plain.{plain_of};
+ghost use Rattle.spv_annotate.specs.Document as specs;
+ghost use Rattle.spv_annotate.specs.Document.{IsSpelled, IsSubject, Subject, begun, document, entry, header_piece};
+ghost use Rattle.spv_annotate.specs.Document.{is_of, line_pieces, mark_piece, marks};
+ghost use Rattle.spv_annotate.specs.Module.{function_of, inst_at};
+ghost use Rattle.spv_annotate.specs.Notes.{comment};
+ghost use Rattle.spv_annotate.specs.Piece.{Break, Comment, IsWritten, Line};
+ghost use Rattle.spv_annotate.specs.inner.Known.{IsKnown};
+ghost use Rattle.spv_annotate.specs.inner.Standing.{IsStanding};
+ghost use Rattle.spv_annotate.specs.inner.Task.{subject_of};
+ghost use Rattle.spv_annotate.specs.inner.Values.{value_in};
+
+use crate::comment::push_comment;
+use crate::finding::Finding;
+use crate::known::Known;
+use crate::piece::{Pen, Piece};
+use crate::section::section_of;
+use crate::standing::Standing;
+use crate::tame::push_tame;
+use spv_module::{Inst, Module, opcode};
+use spv_printer::show_listed;
+use spv_table::Table;
+use spv_tokens::split_line;
+use std::alloc::{AllocError, Global};
+
+/// What is to be written.
+#[derive(Drop)]
+pub struct Task<'m, 'a> {
+    /// Where texts are kept.
+    alloc: Global,
+    /// The module.
+    module: &'m Module<'a>,
+    /// What is known of it.
+    known: &'m Known,
+    /// What is told of a fault.
+    finding: Option<Finding<'m>>,
+    /// The function that is asked for.
+    function: Option<u32>,
+}
+
+/// Texts that are made anew for each line.
+#[derive(Drop)]
+struct Drafts {
+    /// The line without control characters.
+    line: String,
+    /// The comment behind it.
+    comment: String,
+}
+
+/// Writes the first lines of a text, as those of a header, and gives what stands behind them.
+fn write_header<'t, P: Pen>(pen: &mut P, text: &'t str, count: usize) -> Result<&'t str, AllocError>
+    requires { count ≤ length (lines_of text.now) }
+    ensures written { OnOk result (IsWritten P.text P.writes (flat_map header_piece (take count (lines_of text.now)))
+        pen.old pen.new) }
+    ensures rest { IfOk result (λ t. lines_of t.now ≡ drop count (lines_of text.now)) }
+{
+    let mut rest = text;
+    let mut done = 0;
+    while done < count {
+        if rest.is_empty() {
+            unreachable!();
+        }
+        let (line, further) = split_line(rest);
+        pen.write(Piece::Header(line))?;
+        pen.write(Piece::Break)?;
+        rest = further;
+        done += 1;
+    }
+    Ok(rest)
+}
+
+/// Writes what begins with an instruction: a function, a block, or outside of functions another section than the one
+/// before.
+fn write_beginning<P: Pen>(
+    pen: &mut P,
+    at: u32,
+    code: u16,
+    standing: Standing,
+) -> Result<(), AllocError>
+    ensures { OnOk result (IsWritten P.text P.writes
+        (begun code standing.section (is_some standing.function) at) pen.old pen.new) }
+{
+    if code == opcode::FUNCTION {
+        return pen.write(Piece::Function(at));
+    }
+    if code == opcode::LABEL {
+        return pen.write(Piece::Block(at));
+    }
+    let section = section_of(code);
+    if standing.function.is_some() || section == standing.section {
+        return Ok(());
+    }
+    pen.write(Piece::Section(section))
+}
+
+/// Writes a line of evidence. `draft` is room for it.
+fn write_mark<P: Pen>(pen: &mut P, draft: &mut String, line: &str) -> Result<(), AllocError>
+    ensures { OnOk result (IsWritten P.text P.writes (mark_piece line.now) pen.old pen.new) }
+{
+    draft.clear();
+    draft.push_str("; ^ ")?;
+    draft.push_str(line)?;
+    pen.write(Piece::Mark(draft.as_str()))?;
+    pen.write(Piece::Break)
+}
+
+/// Writes lines of evidence.
+fn write_evidence<P: Pen>(pen: &mut P, alloc: Global, lines: &str) -> Result<(), AllocError>
+    ensures { OnOk result (IsWritten P.text P.writes (flat_map mark_piece (lines_of lines.now)) pen.old pen.new) }
+{
+    let mut draft = String::new(alloc);
+    let mut rest = lines;
+    while !rest.is_empty() {
+        let (line, further) = split_line(rest);
+        write_mark(pen, &mut draft, line)?;
+        rest = further;
+    }
+    Ok(())
+}
+
+/// Writes what is told of a fault, if it is told at an instruction.
+fn write_marks<P: Pen>(pen: &mut P, task: &Task<'_, '_>, at: u32) -> Result<(), AllocError>
+    ensures { OnOk result (IsWritten P.text P.writes (marks task.now.finding at) pen.old pen.new) }
+{
+    match task.finding {
+        Some(finding) if finding.inst == at => write_evidence(pen, task.alloc, finding.lines),
+        _ => Ok(()),
+    }
+}
+
+/// Makes the line of an instruction without control characters, and the comment behind it.
+fn draft(
+    drafts: &mut Drafts,
+    task: &Task<'_, '_>,
+    at: u32,
+    word: u32,
+    line: &str,
+) -> Result<(), AllocError>
+    requires known { IsKnown (plain_insts task.now.«module».now) task.now.known.now }
+    requires within { at < length (plain_insts task.now.«module».now) }
+    requires word { word ≡ first_word_of (plain_insts task.now.«module».now) at }
+    ensures line { OnOk result (string_bytes drafts.new.line ≡ plain_of line.now) }
+    ensures comment { OnOk result (string_bytes drafts.new.comment ≡ comment (plain_insts task.now.«module».now)
+        (value_in task.now.known.now.values at) at (plain_of line.now)) }
+{
+    drafts.line.clear();
+    push_tame(&mut drafts.line, line)?;
+    drafts.comment.clear();
+    let insts = task.module.insts.as_slice();
+    let text = drafts.line.as_str();
+    push_comment(&mut drafts.comment, insts, task.known, at, word, text)
+}
+
+/// Writes the line of an instruction and the comment behind it.
+fn write_drafts<P: Pen>(pen: &mut P, drafts: &Drafts, at: u32) -> Result<(), AllocError>
+    ensures { OnOk result (IsWritten P.text P.writes (Line at (string_bytes drafts.now.line)
+        ∷ Comment (string_bytes drafts.now.comment) ∷ Break ∷ []) pen.old pen.new) }
+{
+    pen.write(Piece::Line {
+        inst: at,
+        text: drafts.line.as_str(),
+    })?;
+    pen.write(Piece::Comment(drafts.comment.as_str()))?;
+    pen.write(Piece::Break)
+}
+
+/// Writes the line of an instruction, with its comment.
+fn write_line<P: Pen>(
+    pen: &mut P,
+    task: &Task<'_, '_>,
+    drafts: &mut Drafts,
+    at: u32,
+    word: u32,
+    line: &str,
+) -> Result<(), AllocError>
+    requires known { IsKnown (plain_insts task.now.«module».now) task.now.known.now }
+    requires within { at < length (plain_insts task.now.«module».now) }
+    requires word { word ≡ first_word_of (plain_insts task.now.«module».now) at }
+    ensures { (lines : List (List ℕ)) → OnOk result (IsWritten P.text P.writes
+        (line_pieces (subject_of task.now lines) at (plain_of line.now)) pen.old pen.new) }
+{
+    draft(drafts, task, at, word, line)?;
+    write_drafts(pen, drafts, at)
+}
+
+/// Whether the first instruction of a function, if there is one, defines an id.
+fn is_function_named(insts: &[Inst<'_>], id: u32, function: Option<u32>) -> bool
+    ensures { result ≡ specs.is_function_named (map plain_inst insts.now) id function }
+{
+    let Some(at) = function else {
+        return false;
+    };
+    match insts.get(at as usize) {
+        Some(inst) => inst.result_id() == Some(id),
+        None => false,
+    }
+}
+
+/// Whether what stands in a function, or in none, is asked for.
+fn is_asked(task: &Task<'_, '_>, function: Option<u32>) -> bool
+    ensures { (n : ℕ) → function ≡ function_of (plain_insts task.now.«module».now) n
+        → result ≡ is_of (plain_insts task.now.«module».now) task.now.function n }
+{
+    match task.function {
+        Some(id) => is_function_named(task.module.insts.as_slice(), id, function),
+        None => true,
+    }
+}
+
+/// The OpFunction of the function that an instruction is of, by what stands before it.
+fn function_at(standing: Standing, at: u32, code: u16) -> Option<u32>
+    ensures { (is : List PlainInst) → IsStanding is at standing → (inst_at is at).opcode ≡ code
+        → result ≡ function_of is at }
+{
+    if code == opcode::FUNCTION {
+        return Some(at);
+    }
+    standing.function
+}
+
+/// Writes all that belongs to an instruction, if it is asked for.
+fn write_entry<P: Pen>(
+    pen: &mut P,
+    task: &Task<'_, '_>,
+    drafts: &mut Drafts,
+    at: u32,
+    standing: Standing,
+    line: &str,
+) -> Result<(), AllocError>
+    requires known { IsKnown (plain_insts task.now.«module».now) task.now.known.now }
+    requires within { at < length (plain_insts task.now.«module».now) }
+    requires standing { IsStanding (plain_insts task.now.«module».now) at standing }
+    ensures { (lines : List (List ℕ)) → inst_line lines at ≡ line.now → OnOk result (IsWritten P.text P.writes
+        (entry (subject_of task.now lines) at) pen.old pen.new) }
+{
+    let code = task.module.insts[at as usize].opcode;
+    if !is_asked(task, function_at(standing, at, code)) {
+        return Ok(());
+    }
+    write_beginning(pen, at, code, standing)?;
+    write_line(pen, task, drafts, at, standing.word, line)?;
+    write_marks(pen, task, at)
+}
+
+/// Writes the instructions, whose lines stand in a text, and what is told of a fault behind them.
+fn write_entries<P: Pen>(pen: &mut P, task: &Task<'_, '_>, text: &str) -> Result<(), AllocError>
+    requires known { IsKnown (plain_insts task.now.«module».now) task.now.known.now }
+    requires words { IsShort (plain_insts task.now.«module».now) }
+    requires lines { length (lines_of text.now) ≡ length (plain_insts task.now.«module».now) }
+    ensures { OnOk result (IsWritten P.text P.writes (specs.entries (subject_of task.now (lines_of text.now)))
+        pen.old pen.new) }
+{
+    let mut drafts = Drafts {
+        line: String::new(task.alloc),
+        comment: String::new(task.alloc),
+    };
+    let mut standing = Standing::new();
+    let mut rest = text;
+    let insts = task.module.insts.as_slice();
+    for at in 0..insts.len() {
+        if rest.is_empty() {
+            unreachable!();
+        }
+        let (line, further) = split_line(rest);
+        write_entry(pen, task, &mut drafts, at as u32, standing, line)?;
+        standing = standing.behind(at as u32, &insts[at]);
+        rest = further;
+    }
+    write_ending(pen, task, standing)
+}
+
+/// Writes what is told of a fault behind the last instruction.
+fn write_ending<P: Pen>(
+    pen: &mut P,
+    task: &Task<'_, '_>,
+    standing: Standing,
+) -> Result<(), AllocError>
+    requires few { length (plain_insts task.now.«module».now) < 4294967296 }
+    requires standing { IsStanding (plain_insts task.now.«module».now) (length (plain_insts task.now.«module».now))
+        standing }
+    ensures { (lines : List (List ℕ)) → OnOk result (IsWritten P.text P.writes
+        (specs.ending (subject_of task.now lines)) pen.old pen.new) }
+{
+    if !is_asked(task, standing.function) {
+        return Ok(());
+    }
+    write_marks(pen, task, task.module.insts.len() as u32)
+}
+
+/// Writes the text for reading of a module that words spell: the five lines of its header, and the line of each
+/// instruction with a comment behind it; empty lines before sections and functions; and what is told of a fault, below
+/// the line of its instruction. Where a function is asked for, by the id of its OpFunction, only the lines of the header
+/// and those from its OpFunction to its OpFunctionEnd are written, and what is told of a fault there.
+///
+/// Time is linear in the words, but for logarithms.
+///
+/// An `AllocError` comes only where a growth of memory was refused, and then nothing is said of what is left.
+pub fn annotate_with<P: Pen>(
+    alloc: Global,
+    table: &Table,
+    module: &Module<'_>,
+    finding: Option<Finding<'_>>,
+    function: Option<u32>,
+    pen: &mut P,
+) -> Result<(), AllocError>
+    requires spelled { IsSpelled table.now (plain_insts «module».now) }
+    requires words { IsShort (plain_insts «module».now) }
+    // The pieces of the document are written, in order.
+    ensures { OnOk result ((S : Subject) × IsSubject table.now «module».now finding.entry function S
+        × IsWritten P.text P.writes (document S) pen.old pen.new) }
+{
+    let text = show_listed(alloc, table, module)?;
+    let known = Known::new(alloc, module.insts.as_slice())?;
+    let task = Task {
+        alloc,
+        module,
+        known: &known,
+        finding,
+        function,
+    };
+    let rest = write_header(pen, text.as_str(), 5)?;
+    write_entries(pen, &task, rest)
+}
