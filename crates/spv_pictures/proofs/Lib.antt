@@ -1,0 +1,13 @@
+pub mod Added
+pub mod Drawn
+pub mod Feedless
+pub mod Framed
+pub mod Frames
+pub mod Grouped
+pub mod Labels
+pub mod Looked
+pub mod Placed
+pub mod Retold
+pub mod Shown
+pub mod Targets
+pub mod Worked

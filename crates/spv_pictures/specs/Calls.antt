@@ -1,0 +1,95 @@
+-- The picture of a module's calls. (Own.)
+use Rattle.std.specs.Prelude.{◌++◌, ℕ, List, [], ◌∷◌, Option, Some, None, Bool, true, false, codes, flat_map}
+use Rattle.std.specs.Prelude.{is_some, nat_eq, option_and_then, if◌then◌else◌}
+use Rattle.std.specs.List.{list_any}
+use Rattle.spv_module.specs.Operand.{Plain, OfType, Result, Id, Text, Value, PlainInst, result_in}
+use Rattle.spv_module.specs.declared.opcode.TheConstants.{ENTRY_POINT, FUNCTION_CALL, LABEL, NAME}
+use Rattle.spv_pictures.specs.Function.{begins_function, ends_function, groups}
+use Rattle.spv_pictures.specs.Label.{label_text, node_name, shown_id}
+use Rattle.spv_pictures.specs.declared.names.Naming.{Naming}
+use Rattle.spv_pictures.specs.declared.names.Naming.TheVariants.{Name, EntryPoint}
+
+-- the id that an OpName names, and its name [3.49.3]; the function of an OpEntryPoint, and the name of that [3.49.5]
+abbrev pub name_in : List Plain → Option (ℕ × List ℕ)
+name_in (Id x ∷ Text t ∷ _) = Some (x, t)
+name_in _ = None
+
+abbrev pub entry_in : List Plain → Option (ℕ × List ℕ)
+entry_in (Value _ _ ∷ Id x ∷ Text t ∷ _) = Some (x, t)
+entry_in _ = None
+
+abbrev pub named_by : Naming → PlainInst → Option (ℕ × List ℕ)
+named_by Name i = if nat_eq i.opcode NAME then name_in i.operands else None
+named_by EntryPoint i = if nat_eq i.opcode ENTRY_POINT then entry_in i.operands else None
+
+-- the first name that a list gives to an id, if it gives one
+abbrev pub or_later : ℕ → Option (ℕ × List ℕ) → Option (List ℕ) → Option (List ℕ)
+or_later x None later = later
+or_later x (Some p) later = if nat_eq p.0 x then Some p.1 else later
+
+abbrev pub name_of : Naming → List PlainInst → ℕ → Option (List ℕ)
+name_of naming [] x = None
+name_of naming (i ∷ is) x = or_later x (named_by naming i) (name_of naming is x)
+
+-- what stands below a function's id: its name; the name of the entry point that it is, in bold
+abbrev pub name_line : Option (List ℕ) → List ℕ
+name_line None = []
+name_line (Some t) = codes "<BR/>" ++ label_text t
+
+abbrev pub entry_line : Option (List ℕ) → List ℕ
+entry_line None = []
+entry_line (Some t) = codes "<B><BR/>" ++ (label_text t ++ codes "</B>")
+
+-- the label of a function, by its id and its two names
+abbrev pub function_label : Option ℕ → Option (List ℕ) → Option (List ℕ) → List ℕ
+function_label x name entry =
+    codes " [label=<" ++ (shown_id x ++ (name_line name ++ (entry_line entry ++ codes ">]")))
+
+-- what marks an entry point, and a declaration
+abbrev pub entry_mark : Bool → List ℕ
+entry_mark true = codes " [peripheries=2]"
+entry_mark false = []
+
+abbrev pub declaration_mark : Bool → List ℕ
+declaration_mark true = []
+declaration_mark false = codes " [style=dashed]"
+
+-- the node of a function, by its id, its two names, and whether it has a block
+abbrev pub function_node : Option ℕ → Option (List ℕ) → Option (List ℕ) → Bool → List ℕ
+function_node x name entry has_block = codes "  " ++ (node_name x ++ (function_label x name entry
+    ++ (entry_mark (is_some entry) ++ (declaration_mark has_block ++ codes ";\n"))))
+
+-- the function that an instruction calls, if it is an OpFunctionCall [3.49.9]
+abbrev pub callee_in : List Plain → Option ℕ
+callee_in (OfType _ ∷ Result _ ∷ Id f ∷ _) = Some f
+callee_in _ = None
+
+abbrev pub callee_of : PlainInst → Option ℕ
+callee_of i = if nat_eq i.opcode FUNCTION_CALL then callee_in i.operands else None
+
+-- the edge of a call
+abbrev pub call_edge : Option ℕ → Option ℕ → List ℕ
+call_edge from None = []
+call_edge from (Some to) = codes "  " ++ (node_name from ++ (codes " -> " ++ (node_name (Some to) ++ codes ";\n")))
+
+-- does a list have an OpLabel
+abbrev pub has_label : List PlainInst → Bool
+has_label is = list_any (λ i. nat_eq i.opcode LABEL) is
+
+-- a function of a module, with its calls
+abbrev pub function_text : List PlainInst → List PlainInst → List ℕ
+function_text is [] = []
+function_text is (i ∷ body) =
+    let x = result_in i.operands in
+    function_node x (option_and_then (name_of Name is) x) (option_and_then (name_of EntryPoint is) x) (has_label body)
+    ++ flat_map (λ j. call_edge x (callee_of j)) body
+
+-- the functions of a list of instructions
+abbrev pub functions : List PlainInst → List (List PlainInst)
+functions is = groups (λ i. begins_function i.opcode) (λ i. ends_function i.opcode) is
+
+-- the picture of the calls of a list of instructions: a node for each function, and an edge for each call from the
+-- function that it is in
+abbrev pub call_graph_text : List PlainInst → List ℕ
+call_graph_text is = codes "strict digraph \"calls\" {\n  node [shape=box label=\"%\\N\"];\n"
+    ++ (flat_map (function_text is) (functions is) ++ codes "}\n")
