@@ -13,3 +13,7 @@ pub mod Opening
 pub mod Celled
 pub mod Quick
 pub mod Namely
+pub mod Halting
+pub mod Within
+pub mod Alone
+pub mod Reasons

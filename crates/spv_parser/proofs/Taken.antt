@@ -166,7 +166,7 @@ pub as_leaf : (G : Table) (c : Context) (s : Slot) (k l : declared.Leaf) (hex : 
     → IsToken G hex s.kind (leaf_shape c s.paired (enumerants_at (kind_of G s.kind)) l) t r → IsToken G hex s.kind (shape_of G c s) t r
 as_leaf G c s k l hex t r e f h = let g = shape_leaf G c s l l (e ∙ ap Leaf f) refl in rw g h
 
-float_context : (G : Table) (c : Context) (s : Slot) → form_at (kind_of G s.kind) ≡ Leaf leaf.ContextNumber → is_float G c s ≡ is_float_type c.before (type_in c.operands)
+pub float_context : (G : Table) (c : Context) (s : Slot) → form_at (kind_of G s.kind) ≡ Leaf leaf.ContextNumber → is_float G c s ≡ is_float_type c.before (type_in c.operands)
 float_context G c s e = ap (is_float_type c.before) (type_by_context c (kind_of G s.kind) e)
 
 pub context_token : (G : Table) (c : Context) (s : Slot) (k : declared.Leaf) (x : Option ℕ) (t : List ℕ) (r : Answer Rattle.spv_module.specs.declared.operand.Operand.Operand Misread) → form_at (kind_of G s.kind) ≡ Leaf k → k ≡ leaf.ContextNumber
@@ -176,7 +176,7 @@ context_token G c s k x t r e f g h =
     let i = float_context G c s (e ∙ ap Leaf f) in
     as_leaf G c s k leaf.ContextNumber (is_float G c s) t r e f (rw i h')
 
-switch_at : (c : Context) (p : Bool) (opcode : ℕ) → p ≡ true → c.opcode ≡ opcode → opcode ≡ SWITCH → (p && nat_eq c.opcode SWITCH) ≡ true
+pub switch_at : (c : Context) (p : Bool) (opcode : ℕ) → p ≡ true → c.opcode ≡ opcode → opcode ≡ SWITCH → (p && nat_eq c.opcode SWITCH) ≡ true
 switch_at c p opcode e f g = let h : nat_eq c.opcode SWITCH ≡ true = rw (f, g) refl in rw (e, h) refl
 
 pub switch_token : (G : Table) (c : Context) (s : Slot) (k : declared.Leaf) (opcode : ℕ) (x : Option ℕ) (t : List ℕ) (r : Answer Rattle.spv_module.specs.declared.operand.Operand.Operand Misread) → form_at (kind_of G s.kind) ≡ Leaf k

@@ -96,7 +96,7 @@ some_words k _ _ _ _ (Takes.value es x ks h) = (x, [], refl)
 some_words k _ _ _ _ (Takes.mask es x ks h) = (x, [], refl)
 
 -- an operand that stands there is more
-step_more : (G : Table) (r : Option ℕ) (c : Context) (s : Slot) (o : Plain) (p t rest : List ℕ) → Piece (IsRead G) G r c s o p → t ≡ p ++ rest → IsMore true r c t
+pub step_more : (G : Table) (r : Option ℕ) (c : Context) (s : Slot) (o : Plain) (p t rest : List ℕ) → Piece (IsRead G) G r c s o p → t ≡ p ++ rest → IsMore true r c t
 step_more G r c s _ _ t rest (Piece.result x n e) f = inr (λ g. let h : Some x ≡ None = sym e ∙ (g ∙ n) in cc)
 step_more G r c s _ _ t rest (Piece.other o a n e) f = inl (λ g. let h : [] ≡ 32 ∷ (a ++ rest) = sym g ∙ f in cc)
 
@@ -104,7 +104,7 @@ not_less : (r : Option ℕ) (c : Context) (t : List ℕ) → IsMore true r c t �
 not_less r c t (inl n) m = n m.0
 not_less r c t (inr n) m = n m.1
 
-is_true : (more : Bool) (r : Option ℕ) (c : Context) (t : List ℕ) → IsMore more r c t → IsMore true r c t → more ≡ true
+pub is_true : (more : Bool) (r : Option ℕ) (c : Context) (t : List ℕ) → IsMore more r c t → IsMore true r c t → more ≡ true
 is_true true r c t h g = refl
 is_true false r c t h g = absurd (not_less r c t g h)
 
@@ -151,7 +151,7 @@ so_far_refused G r before opcode pattern ds es line t words known s more code a 
     let c = context_of before opcode a.operands in
     a.failed code (leads_failed G r c ds s es more t code l n (OperandsFail.refused c s es t code f h))
 
-none_due : (ds : List Due) → settled true ds ≡ [] → ds ≡ []
+pub none_due : (ds : List Due) → settled true ds ≡ [] → ds ≡ []
 none_due [] e = refl
 none_due (OneOf s ∷ ds) e = cc
 none_due (MaybeOf s ∷ ds) e = cc

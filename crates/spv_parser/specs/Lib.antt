@@ -1,1 +1,3 @@
+pub mod Reason
+pub mod Example
 pub mod inner

@@ -5,3 +5,4 @@ pub mod Kept
 pub mod Lines
 pub mod Reading
 pub mod Seen
+pub mod Stopping

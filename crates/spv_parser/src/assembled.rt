@@ -36,7 +36,7 @@ use std::alloc::{AllocError, Global};
 const GREATEST_COUNT: usize = 65_535;
 
 /// Adds words to a draft. Where memory runs out, nothing is said of what is left.
-fn put_words(draft: &mut Draft, words: &[u32]) -> Result<(), AllocError>
+pub fn put_words(draft: &mut Draft, words: &[u32]) -> Result<(), AllocError>
     ensures { OnOk result (draft.new ≡ draft.old ++ words.now) }
 {
     for word in words {
@@ -47,7 +47,7 @@ fn put_words(draft: &mut Draft, words: &[u32]) -> Result<(), AllocError>
 
 /// Adds an instruction's words to a draft, its first one before the further ones. After an error nothing is said of
 /// what is left.
-fn put_instruction(draft: &mut Draft, opcode: u16, further: &[u32]) -> Result<(), AsmCode>
+pub fn put_instruction(draft: &mut Draft, opcode: u16, further: &[u32]) -> Result<(), AsmCode>
     requires { length draft.old ≤ greatest_length }
     ensures added { OnOk result (draft.new ≡ draft.old ++ (first_word opcode further.now ∷ further.now)) }
     ensures count { OnOk result (length further.now + 1 ≤ greatest_count) }
@@ -69,7 +69,7 @@ fn put_instruction(draft: &mut Draft, opcode: u16, further: &[u32]) -> Result<()
 /// Keeps what a line tells of its instruction's result, if that has one.
 ///
 /// An `AllocError` comes only where a growth of memory was refused, and then nothing is said of what is left.
-fn add_line(definitions: &mut Definitions, line: Line) -> Result<(), AllocError>
+pub fn add_line(definitions: &mut Definitions, line: Line) -> Result<(), AllocError>
     ensures { OnOk result ((before : List PlainInst) (i : PlainInst) → IsOf line i → Knows definitions.old before
         → Knows definitions.new (before ++ i ∷ [])) }
 {

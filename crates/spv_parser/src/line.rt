@@ -32,7 +32,7 @@ pub struct Named<'t> {
 }
 
 /// Cuts off what stands in front of ` = `, where a line begins with `%`. None where it does and has no ` = `.
-fn cut_front(line: &str) -> Option<(Option<&str>, &str)>
+pub fn cut_front(line: &str) -> Option<(Option<&str>, &str)>
     ensures { option_map (λ p. spec.parts_behind (option_map (λ t. t.now) p.0) (p.1).now) result
         ≡ parts_of line.now }
 {
@@ -76,7 +76,7 @@ fn opcode_of(table: &Table, name: &str) -> Option<u16>
 }
 
 /// The instruction that a name stands for. None where the table has none.
-fn look_up<'t>(table: &'t Table, name: &str) -> Option<Named<'t>>
+pub fn look_up<'t>(table: &'t Table, name: &str) -> Option<Named<'t>>
     ensures { MatchOption result ((opcode : ℕ) (entry : code.Entry) → IsInstName table.now name.now opcode entry
         → ⊥) (λ n. IsInstName table.now name.now n.opcode n.entry.now) }
 {

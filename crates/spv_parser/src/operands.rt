@@ -82,9 +82,9 @@ pub struct Buffers<'t> {
 
 /// What is left of a line behind an operand, and what is known then.
 #[derive(Clone, Copy)]
-struct Rest<'a> {
-    text: &'a str,
-    known: Known,
+pub struct Rest<'a> {
+    pub text: &'a str,
+    pub known: Known,
 }
 
 /// The id that an operand is.
@@ -109,7 +109,7 @@ fn width_of(operand: &Operand) -> Option<u8>
 
 impl Known {
     /// What is known of an instruction before its operands.
-    fn new(opcode: u16) -> Known
+    pub fn new(opcode: u16) -> Known
         ensures { IsOfOperands result opcode [] }
     {
         Known {
@@ -159,7 +159,7 @@ impl Known {
     }
 
     /// What is kept of the line.
-    fn line(self) -> Line
+    pub fn line(self) -> Line
         ensures { (opcode : ℕ) (os : List Plain) → IsOfOperands self opcode os
             → IsOf result (record { opcode = opcode; operands = os }) }
     {
@@ -343,7 +343,7 @@ fn is_in_front(known: Known, asked: Asked) -> bool
 ///
 /// `S3`: nothing stands there that the leaf takes. `S4`: a decimal number stands there that is too large for it. `S6`:
 /// a growth of memory was refused.
-fn take_operand<'t, 'a>(
+pub fn take_operand<'t, 'a>(
     setting: &Setting<'t, '_>,
     buffers: &mut Buffers<'t>,
     known: Known,
@@ -375,7 +375,7 @@ fn take_operand<'t, 'a>(
 }
 
 /// Whether two ids, if there are any, differ.
-fn differ(one: Option<u32>, other: Option<u32>) -> bool
+pub fn differ(one: Option<u32>, other: Option<u32>) -> bool
     ensures { (result ≡ true → one ≢ other) × (result ≡ false → one ≡ other) }
 {
     one != other

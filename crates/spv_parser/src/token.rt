@@ -23,7 +23,7 @@ use spv_tokens::{
 };
 
 /// The type of the first operand, if that is an id.
-fn type_of_first(definitions: &Definitions, known: Known) -> Option<u32>
+pub fn type_of_first(definitions: &Definitions, known: Known) -> Option<u32>
     ensures { (c : Context) → IsAt definitions.now known c → result ≡ switch_type c }
 {
     match known.first {
@@ -33,7 +33,7 @@ fn type_of_first(definitions: &Definitions, known: Known) -> Option<u32>
 }
 
 /// The width of the type of that id, if there is one, in bits.
-fn width_of(definitions: &Definitions, type_id: Option<u32>) -> Option<u32>
+pub fn width_of(definitions: &Definitions, type_id: Option<u32>) -> Option<u32>
     ensures { (before : List PlainInst) → Knows definitions.now before
         → result ≡ option_and_then (widths.width_of before) type_id }
 {
