@@ -1,4 +1,5 @@
-//! `spv` checks, explains, shows, assembles and traces SPIR-V 1.6 kernel modules, and tells its rules and its grammar.
+//! `spv` checks, explains, shows, annotates, draws, assembles and traces SPIR-V 1.6 kernel modules, and tells its rules
+//! and its grammar.
 #![tactic(auto)]
 
 mod files;
@@ -9,8 +10,8 @@ use files::{
     read_whole, trouble_of,
 };
 use spv_commands::{
-    Command, Judging, Naming, Trouble, UseError, Versioned, advice, arguments_in, help, is_verbose,
-    report, run, run_each, text_asked,
+    Color, Command, Judging, Naming, Telling, Trouble, UseError, Versioned, advice, arguments_in,
+    help, is_verbose, report, run, run_each, text_asked,
 };
 use spv_words::{FromRead, FromWrite};
 use std::alloc::Global;
@@ -18,7 +19,7 @@ use std::env::VarError;
 use std::io::{ErrorKind, IsTerminal, Read, Write};
 use std::process::ExitCode;
 use std::{env, io};
-use why::{AtHand, Noted, Telling, Why};
+use why::{AtHand, Noted, Teller, Why};
 
 /// The same as `trouble_of` where the words of the command line could not be read: words that are no text fit no
 /// command.
@@ -53,7 +54,7 @@ fn with_made<'a, F: Read + Drop, W: Write + Drop, O: Write + Drop>(
         &mut Versioned::new(FromRead::new(file)),
         &mut FromWrite::new(out),
         &mut FromWrite::new(made),
-        &mut FromWrite::new(Telling::new(rt.stderr(), why, at_hand)),
+        &mut FromWrite::new(Teller::new(rt.stderr(), why, at_hand)),
     )
 }
 
@@ -163,7 +164,7 @@ fn with_several<'a, W: Write + Drop>(
     out: W,
 ) -> u8 {
     let mut out = FromWrite::new(out);
-    let mut err = FromWrite::new(Telling::new(rt.stderr(), why, AtHand::of(grammar)));
+    let mut err = FromWrite::new(Teller::new(rt.stderr(), why, AtHand::of(grammar)));
     let mut files = Named { rt, why, names };
     run_each(
         rt.alloc(),
@@ -176,7 +177,19 @@ fn with_several<'a, W: Write + Drop>(
     )
 }
 
-/// Judges the modules of a command, and answers the exit status.
+/// How a verdict of several files is told, or of one whose name is asked for.
+fn telling_by(naming: Naming, json: bool) -> Telling {
+    if json {
+        return Telling::Json;
+    }
+    match naming {
+        Naming::Never => Telling::Bare,
+        Naming::OfSeveral | Naming::Always => Telling::Named,
+    }
+}
+
+/// Judges the modules of a command, and answers the exit status. An object of JSON tells the name of its file, of one
+/// file too.
 fn with_modules<'a>(
     rt: &HostRuntime,
     why: &Why<'a>,
@@ -189,18 +202,19 @@ fn with_modules<'a>(
         as_1_6,
         naming,
         quiet,
+        json,
         ..
     } = command
     else {
         return Err(Trouble::Use);
     };
-    if files.len() == 1 && *naming != Naming::Always {
+    if files.len() == 1 && *naming != Naming::Always && !*json {
         return with_module(rt, why, command, grammar, files[0]);
     }
     let how = Judging {
         task: *task,
         as_1_6: *as_1_6,
-        is_named: *naming != Naming::Never,
+        telling: telling_by(*naming, *json),
     };
     if *quiet {
         return Ok(with_several(rt, why, how, grammar, files, io::sink()));
@@ -218,9 +232,10 @@ fn with_grammar<'a>(
 ) -> Result<u8, Trouble> {
     match command {
         Command::Judge { .. } => with_modules(rt, why, command, grammar),
-        Command::Show { file, .. } | Command::Trace { file, .. } => {
-            with_module(rt, why, command, grammar, *file)
-        }
+        Command::Show { file, .. }
+        | Command::Trace { file, .. }
+        | Command::Annotate { file, .. }
+        | Command::Graph { file, .. } => with_module(rt, why, command, grammar, *file),
         Command::Asm { file, out, .. } => with_asm(rt, why, command, grammar, *file, *out),
         Command::Rules { .. } | Command::Grammar { .. } => {
             Ok(with_output(rt, why, command, AtHand::of(grammar), io::empty()))
@@ -234,7 +249,9 @@ fn grammar_path<'a>(command: &Command<'a>) -> Option<&'a str> {
         Command::Judge { grammar, .. }
         | Command::Show { grammar, .. }
         | Command::Asm { grammar, .. }
-        | Command::Trace { grammar, .. } => *grammar,
+        | Command::Trace { grammar, .. }
+        | Command::Annotate { grammar, .. }
+        | Command::Graph { grammar, .. } => *grammar,
         Command::Grammar { file } => *file,
         Command::Rules { .. } => None,
     }
@@ -275,6 +292,25 @@ fn with_files<'a>(rt: &HostRuntime, why: &Why<'a>, command: &Command<'a>) -> Res
     }
 }
 
+/// Whether the environment asks for no colour: NO_COLOR is set and is not empty (https://no-color.org).
+fn forbids_color(rt: &HostRuntime) -> bool {
+    match env::var(rt, "NO_COLOR") {
+        Ok(text) => !text.is_empty(),
+        Err(VarError::NotPresent) => false,
+        Err(_) => true,
+    }
+}
+
+/// Settles whether a text has colour where its words leave that open: on a terminal, unless the environment asks for
+/// none.
+fn settle_color(rt: &HostRuntime, command: &mut Command<'_>) {
+    if let Command::Annotate { color, .. } = command {
+        if *color == Color::Auto && rt.stdout().is_terminal() && !forbids_color(rt) {
+            *color = Color::Always;
+        }
+    }
+}
+
 /// The path of a grammar file that the environment names, if it is text.
 fn grammar_of_environment(rt: &HostRuntime) -> Result<Option<String>, Trouble> {
     match env::var(rt, "SPV_GRAMMAR") {
@@ -292,7 +328,10 @@ fn with_texts<'a>(
     environment: Option<&'a str>,
 ) -> Result<u8, Trouble> {
     match arguments_in(rt.alloc(), texts, environment) {
-        Ok(command) => with_files(rt, why, &command),
+        Ok(mut command) => {
+            settle_color(rt, &mut command);
+            with_files(rt, why, &command)
+        }
         Err(UseError::NoCommand) => Err(Trouble::Use),
         Err(UseError::Memory) => Err(Trouble::Memory),
         Err(UseError::Help | UseError::Version) => show_text(rt, texts),
@@ -313,7 +352,7 @@ fn tell_use(rt: &HostRuntime, texts: &[&str]) {
 
 /// Writes the line of a trouble, and behind it why, where that is told.
 fn report_why<'a>(rt: &HostRuntime, why: &Why<'a>, trouble: Trouble) {
-    let mut err = FromWrite::new(Telling::new(rt.stderr(), why, AtHand::of(None)));
+    let mut err = FromWrite::new(Teller::new(rt.stderr(), why, AtHand::of(None)));
     report(trouble, &mut err);
 }
 

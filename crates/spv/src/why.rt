@@ -166,16 +166,16 @@ impl<'a, 'b> AtHand<'a, 'b> {
 
 /// The standard error, which tells behind the line of an error why, where that is asked for.
 #[derive(Drop)]
-pub struct Telling<'a, 'b, W> {
+pub struct Teller<'a, 'b, W> {
     to: W,
     why: &'b Why<'a>,
     at_hand: AtHand<'a, 'b>,
 }
 
-impl<'a, 'b, W: Write> Telling<'a, 'b, W> {
+impl<'a, 'b, W: Write> Teller<'a, 'b, W> {
     /// Of a run that reads this.
     pub fn new(to: W, why: &'b Why<'a>, at_hand: AtHand<'a, 'b>) -> Self {
-        Telling { to, why, at_hand }
+        Teller { to, why, at_hand }
     }
 
     /// Tells why a read or a write failed, or that a text is none.
@@ -226,11 +226,13 @@ impl<'a, 'b, W: Write> Telling<'a, 'b, W> {
             self.tell_grammar();
         } else if line.ends_with(b"error X1\n") {
             self.tell_entry();
+        } else if line.ends_with(b"error X2\n") {
+            let _ = self.to.write_all(b"ID is the result of no OpFunction\n");
         }
     }
 }
 
-impl<W: Write> Write for Telling<'_, '_, W> {
+impl<W: Write> Write for Teller<'_, '_, W> {
     fn write(&mut self, buf: &[u8]) -> io::Result<usize> {
         let n = self.to.write(buf)?;
         if self.why.is_told() && n == buf.len() {

@@ -1,6 +1,6 @@
 -- How the matches of `clap` lead to a command.
-use Rattle.std.proofs.Common.{◌≡◌, ◌⊎◌, ◌↔◌, ◌∙◌, ◌≤◌, ◌<◌, inl, inr, refl, ap, sym, subst, slice_index, get_or, take, ◌+◌, arith, ◌∷◌, length, map, unwrap_or, true, false, Bool, IsTrue, ℕ, List, [], Option, Some, None, option_map, codes}
-use Rattle.std.specs.Prelude.{Box, Result, Ok, Err, IfOk, MatchOption, ok_or}
+use Rattle.std.proofs.Common.{◌≡◌, ◌⊎◌, ◌↔◌, ◌∙◌, ◌≤◌, ◌<◌, inl, inr, refl, ap, sym, subst, sum, get_or, take, ◌+◌, arith, ◌∷◌, length, map, unwrap_or, true, false, Bool, IsTrue, ℕ, List, [], Option, Some, None, option_map, codes}
+use Rattle.std.specs.Prelude.{Box, Result, Ok, Err, IfErr, IfOk, MatchOption, ok_or}
 use Rattle.std.specs.Box.{box_value}
 use Rattle.std.specs.Option.{option_or}
 use Rattle.std.specs.Str.{bytes_eq}
@@ -14,20 +14,23 @@ use Rattle.clap.specs.declared.parser.matches.SubCommand.{SubCommand}
 use Rattle.clap.specs.declared.parser.matches.ArgMatches.TheViews.{out-SubCommand}
 use Rattle.clap.proofs.OnLiterals.{clap_on_literals}
 use Rattle.std.specs.Borrow.{Bor}
+use Rattle.spv_command_line.specs.declared.command_line.Color.{Color}
+use Rattle.spv_command_line.specs.declared.command_line.Color.TheVariants as colors
 use Rattle.spv_command_line.specs.declared.command_line.Command.{Command}
-use Rattle.spv_command_line.specs.declared.command_line.Command.TheVariants.{Judge, Show, Asm, Trace, Rules, Grammar}
+use Rattle.spv_command_line.specs.declared.command_line.Command.TheVariants.{Judge, Show, Annotate, Graph, Asm, Trace, Rules, Grammar}
+use Rattle.spv_command_line.specs.declared.command_line.Form.{Form}
 use Rattle.spv_command_line.specs.declared.command_line.Naming.{Naming}
 use Rattle.spv_command_line.specs.declared.command_line.Naming.TheVariants.{OfSeveral, Always, Never}
 use Rattle.spv_command_line.specs.declared.command_line.Task.{Task}
 use Rattle.spv_command_line.specs.declared.command_line.Task.TheVariants as tasks
 use Rattle.spv_command_line.specs.declared.command_line.UseError.{UseError}
 use Rattle.spv_command_line.specs.declared.command_line.UseError.TheVariants.{NoCommand, Memory, Help, Version}
-use Rattle.spv_command_line.specs.CommandLine.{Answers, IsAsked, IsCodeOf, IsCommandOf, IsDetailed, IsFlag, IsJudge, IsNaming, IsNoCommand, IsRules, count_of, error_of, inputs_among, name_in, program, task_name, text_in, texts_in}
-use Rattle.spv_command_line.specs.inner.CommandLine.{IsAsmOf, IsGrammarOf, IsOfFiles, IsRulesOf, IsShowOf, IsTraceOf, naming_of}
+use Rattle.spv_command_line.specs.CommandLine.{Answers, IsAsked, IsCodeOf, IsColor, IsCommand, IsCommandOf, IsDetailed, IsFlag, IsForm, IsJudge, IsNaming, IsNoCommand, color_word, count_of, error_of, inputs_among, program, task_name}
+use Rattle.spv_command_line.specs.inner.CommandLine.{IsGiven, IsGivenFor, IsOfFiles, form_of, naming_of}
 use Rattle.spv_rules.specs.Errors.{any_name}
 use Rattle.spv_rules.specs.Rules.{IsNamed}
 use Rattle.spv_rules.specs.declared.errors.AnyCode.{AnyCode}
-use Rattle.spv_command_line.specs.Number.{AreNumbers, AreNumbersOf, IsNumber, IsNumberOf}
+use Rattle.spv_command_line.specs.Number.{AreNumbers, AreNumbersOf, IsNumber, IsNumberIfAny, IsNumberOf}
 
 -- the command line is one of which `clap` tells the matches and the faults
 pub is_simple_lem : is_simple program ≡ true
@@ -56,157 +59,182 @@ pub met : {Z : Type 0} (o : Option (Box SubCommand Z)) (name : Text) (rows : Lis
 met None name rows e f = cc
 met (Some b) name rows e f = cc
 
--- words of other first letters are others
-apart : (s t : Text) (m n : ℕ) → slice_index s 0 ≡ m → slice_index t 0 ≡ n → n < m → ¬ (s ≡ t)
-apart s t m n a b h e =
-    let same : m ≡ n = sym a ∙ ap (λ (l : Text). slice_index l 0) e ∙ b in
-    omega (arith, h, same)
+-- a command's name, its files, and the sum of the letters of its name, by which names are told apart
+abbrev pub name_of : Command → Text
+name_of (Judge task g fs v n q j) = task_name task
+name_of (Show g f v) = codes "show"
+name_of (Annotate g f v function form color) = codes "annotate"
+name_of (Graph g f v function) = codes "graph"
+name_of (Asm g f out big explain) = codes "asm"
+name_of (Trace g f function choices limit v) = codes "trace"
+name_of (Rules code j) = codes "rules"
+name_of (Grammar f) = codes "grammar"
 
-show_is_no_asm : ¬ (codes "show" ≡ codes "asm")
-show_is_no_asm = apart (codes "show") (codes "asm") 115 97 refl refl (omega arith)
+abbrev files_of : Command → List Text
+files_of (Judge task g fs v n q j) = map (λ f. f.now) fs.items
+files_of (Show g f v) = f.now ∷ []
+files_of (Annotate g f v function form color) = f.now ∷ []
+files_of (Graph g f v function) = f.now ∷ []
+files_of (Asm g f out big explain) = f.now ∷ []
+files_of (Trace g f function choices limit v) = f.now ∷ []
+files_of (Rules code j) = []
+files_of (Grammar f) = []
 
-trace_is_no_show : ¬ (codes "trace" ≡ codes "show")
-trace_is_no_show = apart (codes "trace") (codes "show") 116 115 refl refl (omega arith)
+abbrev sum_of : Command → ℕ
+sum_of (Judge tasks.Check g fs v n q j) = 510
+sum_of (Judge (tasks.Explain full) g fs v n q j) = 753
+sum_of (Show g f v) = 449
+sum_of (Annotate g f v function form color) = 858
+sum_of (Graph g f v function) = 530
+sum_of (Asm g f out big explain) = 321
+sum_of (Trace g f function choices limit v) = 527
+sum_of (Rules code j) = 555
+sum_of (Grammar f) = 743
 
-trace_is_no_asm : ¬ (codes "trace" ≡ codes "asm")
-trace_is_no_asm = apart (codes "trace") (codes "asm") 116 97 refl refl (omega arith)
+letters : (c : Command) → sum (name_of c) ≡ sum_of c
+letters (Judge tasks.Check g fs v n q j) = refl
+letters (Judge (tasks.Explain full) g fs v n q j) = refl
+letters (Show g f v) = refl
+letters (Annotate g f v function form color) = refl
+letters (Graph g f v function) = refl
+letters (Asm g f out big explain) = refl
+letters (Trace g f function choices limit v) = refl
+letters (Rules code j) = refl
+letters (Grammar f) = refl
 
-rules_is_no_grammar : ¬ (codes "rules" ≡ codes "grammar")
-rules_is_no_grammar = apart (codes "rules") (codes "grammar") 114 103 refl refl (omega arith)
+-- the name of a command and what is asked for are the same
+lone_name : (name m : Text) → Some name ≡ Some m → name ≡ m
+lone_name name m h = ap (λ (o : Option Text). unwrap_or o []) h
 
--- the name of a task is no other
-show_is_no_task : (task : Task) → ¬ (codes "show" ≡ task_name task)
-show_is_no_task tasks.Check = apart (codes "show") (codes "check") 115 99 refl refl (omega arith)
-show_is_no_task (tasks.Explain full) = apart (codes "show") (codes "explain") 115 101 refl refl (omega arith)
+module _ (environment : Option Text) (name : Text) (rows : List Row) where
+  asked_name : (m : Text) (g : Option Text) (fs : List Text) → IsAsked environment (Some (name, rows)) m g fs → name ≡ m
+  asked_name m g fs h = ap (λ (o : Option (Text × Option Text × Option (List Text))). unwrap_or (option_map (λ p. p.0) o) []) h
 
-task_is_no_asm : (task : Task) → ¬ (task_name task ≡ codes "asm")
-task_is_no_asm tasks.Check = apart (codes "check") (codes "asm") 99 97 refl refl (omega arith)
-task_is_no_asm (tasks.Explain full) = apart (codes "explain") (codes "asm") 101 97 refl refl (omega arith)
+  asked_files : (m : Text) (g : Option Text) (fs : List Text) → IsAsked environment (Some (name, rows)) m g fs → all_of (codes "file") rows ≡ Some fs
+  asked_files m g fs h = ap (λ (o : Option (Text × Option Text × Option (List Text))). unwrap_or (option_map (λ p. p.2) o) None) h
 
-trace_is_no_task : (task : Task) → ¬ (codes "trace" ≡ task_name task)
-trace_is_no_task tasks.Check = apart (codes "trace") (codes "check") 116 99 refl refl (omega arith)
-trace_is_no_task (tasks.Explain full) = apart (codes "trace") (codes "explain") 116 101 refl refl (omega arith)
+  pub named : (c : Command) → IsCommand environment (Some (name, rows)) c → name ≡ name_of c
+  named (Judge task g fs v n q j) h = asked_name _ _ _ h.asked
+  named (Show g f v) h = asked_name _ _ _ h.0
+  named (Annotate g f v function form color) h = asked_name _ _ _ h.asked
+  named (Graph g f v function) h = asked_name _ _ _ h.asked
+  named (Asm g f out big explain) h = asked_name _ _ _ h.0
+  named (Trace g f function choices limit v) h = asked_name _ _ _ h.asked
+  named (Rules code j) h = lone_name name _ h.asked
+  named (Grammar f) h = lone_name name _ h.0
 
--- a command of files is neither of the others
-pub record IsOther (found : Option (Text × List Row)) : Type 0 where
-  pub rules : (code : Option AnyCode) → ¬ (IsRules found code)
-  pub grammar : ¬ (name_in found ≡ Some (codes "grammar"))
+  filed : (c : Command) → IsOfFiles name → IsCommand environment (Some (name, rows)) c → all_of (codes "file") rows ≡ Some (files_of c)
+  filed (Judge task g fs v n q j) takes h = asked_files _ _ _ h.asked
+  filed (Show g f v) takes h = asked_files _ _ _ h.0
+  filed (Annotate g f v function form color) takes h = asked_files _ _ _ h.asked
+  filed (Graph g f v function) takes h = asked_files _ _ _ h.asked
+  filed (Asm g f out big explain) takes h = asked_files _ _ _ h.0
+  filed (Trace g f function choices limit v) takes h = asked_files _ _ _ h.asked
+  filed (Rules code j) takes h = absurd (takes.0 (lone_name name _ h.asked))
+  filed (Grammar f) takes h = absurd (takes.1 (lone_name name _ h.0))
 
-pub other_of_name : (name : Text) (rows : List Row) → IsOfFiles name → IsOther (Some (name, rows))
-other_of_name name rows files = record {
-  rules = λ code h. let a : Some name ≡ Some (codes "rules") = h.asked in let same : name ≡ codes "rules" = cc in files.0 same;
-  grammar = λ a. let same : name ≡ codes "grammar" = cc in files.1 same;
-}
+  -- the letters of the name are as many as those of the command's
+  spelled : (c : Command) → IsCommand environment (Some (name, rows)) c → sum name ≡ sum_of c
+  spelled c h = ap sum (named c h) ∙ letters c
 
-of_files : (name : Text) (n : ℕ) → slice_index name 0 ≡ n → ¬ (n ≡ 114) → ¬ (n ≡ 103) → IsOfFiles name
-of_files name n first r g =
-    (λ e. r (sym first ∙ ap (λ (t : Text). slice_index t 0) e), λ e. g (sym first ∙ ap (λ (t : Text). slice_index t 0) e))
+  -- without files there is no command
+  pub no_command_without_file : all_of (codes "file") rows ≡ None → IsOfFiles name → IsNoCommand environment (Some (name, rows))
+  no_command_without_file none takes c h = let e = filed c takes h in cc
 
-pub task_is_of_files : (task : Task) → IsOfFiles (task_name task)
-task_is_of_files tasks.Check = of_files (codes "check") 99 refl (λ e. omega (arith, e)) (λ e. omega (arith, e))
-task_is_of_files (tasks.Explain full) = of_files (codes "explain") 101 refl (λ e. omega (arith, e)) (λ e. omega (arith, e))
+  -- of no file or several there is only a task
+  pub no_command_of_several : (files : List Text) → ¬ (length files ≡ 1) → all_of (codes "file") rows ≡ Some files → IsOfFiles name
+      → ((task : Task) → ¬ (name ≡ task_name task)) → IsNoCommand environment (Some (name, rows))
+  no_command_of_several files several all takes none (Judge task g fs v n q j) h = none task (named (Judge task g fs v n q j) h)
+  no_command_of_several files several all takes none (Rules code j) h = takes.0 (named (Rules code j) h)
+  no_command_of_several files several all takes none (Grammar f) h = takes.1 (named (Grammar f) h)
+  no_command_of_several files several all takes none c h =
+      let one : length files ≡ 1 = ap (λ (o : Option (List Text)). length (unwrap_or o [])) (sym all ∙ filed c takes h) in
+      several one
 
--- a name that differs is not asked for
-module _ (environment : Option Text) (found : Option (Text × List Row)) (name : Text) (grammar : Option Text) (files : Option (List Text)) where
-  no_file : texts_in environment found ≡ Some (name, grammar, files) → files ≡ None → (m : Text) (g : Option Text) (fs : List Text)
-      → ¬ (IsAsked environment found m g fs)
-  no_file e none m g fs h =
-      let second : Some files ≡ Some (Some fs) = ap (λ (o : Option (Text × Option Text × Option (List Text))). option_map (λ p. p.2) o) (sym e ∙ h) in
-      cc
-
-  pub other_name : texts_in environment found ≡ Some (name, grammar, files) → (m : Text) → ¬ (name ≡ m) → (g : Option Text) (fs : List Text)
-      → ¬ (IsAsked environment found m g fs)
-  other_name e m other g fs h =
-      let first : Some name ≡ Some m = ap (λ (o : Option (Text × Option Text × Option (List Text))). option_map (λ p. p.0) o) (sym e ∙ h) in
-      let same : name ≡ m = cc in
-      other same
-
-  -- the files are those
-  same_files : texts_in environment found ≡ Some (name, grammar, files) → (m : Text) (g : Option Text) (fs : List Text) → IsAsked environment found m g fs → files ≡ Some fs
-  same_files e m g fs h =
-      let second : Some files ≡ Some (Some fs) = ap (λ (o : Option (Text × Option Text × Option (List Text))). option_map (λ p. p.2) o) (sym e ∙ h) in
-      cc
-
--- where nothing is asked of any files there is no command
-unasked : (environment : Option Text) (found : Option (Text × List Row)) → ((m : Text) (g : Option Text) (fs : List Text) → ¬ (IsAsked environment found m g fs))
-    → IsOther found → IsNoCommand environment found
-unasked environment found none other = record {
-  judge = λ task g fs v n q h. none (task_name task) g fs h.asked;
-  show = λ g f. none (codes "show") g (f ∷ []);
-  asm = λ g f out h. absurd (none (codes "asm") g (f ∷ []) h);
-  trace = λ g f function choices limit v h. none (codes "trace") g (f ∷ []) h.asked;
-  rules = other.rules;
-  grammar = other.grammar;
-}
-
--- without files there is none
-pub no_command_without_file : (environment : Option Text) (found : Option (Text × List Row)) (name : Text) (grammar : Option Text) (files : Option (List Text))
-    → texts_in environment found ≡ Some (name, grammar, files) → files ≡ None → IsOther found → IsNoCommand environment found
-no_command_without_file environment found name grammar files e none other = unasked environment found (no_file _ _ _ _ _ e none) other
-
--- of one file, with another name there is none
-pub no_command_of_name : (environment : Option Text) (found : Option (Text × List Row)) (name : Text) (g : Option Text) (f : Text)
-    → IsAsked environment found name g (f ∷ [])
-    → ((task : Task) → ¬ (name ≡ task_name task)) → ¬ (name ≡ codes "show") → ¬ (name ≡ codes "asm") → ¬ (name ≡ codes "trace")
-    → IsOther found → IsNoCommand environment found
-no_command_of_name environment found name g f e p q r s other = record {
-  judge = λ task h fs v n l i. other_name _ _ _ _ _ e (task_name task) (p task) h fs i.asked;
-  show = λ h i. other_name _ _ _ _ _ e (codes "show") q h (i ∷ []);
-  asm = λ h i out k. absurd (other_name _ _ _ _ _ e (codes "asm") r h (i ∷ []) k);
-  trace = λ h i function choices limit v k. other_name _ _ _ _ _ e (codes "trace") s h (i ∷ []) k.asked;
-  rules = other.rules;
-  grammar = other.grammar;
-}
+  -- of one file, with another name there is none
+  pub no_command_of_name : IsOfFiles name → ((task : Task) → ¬ (name ≡ task_name task)) → ¬ (name ≡ codes "show") → ¬ (name ≡ codes "annotate")
+      → ¬ (name ≡ codes "graph") → ¬ (name ≡ codes "asm") → ¬ (name ≡ codes "trace") → IsNoCommand environment (Some (name, rows))
+  no_command_of_name takes none show annotate graph asm trace (Judge task g fs v n q j) h = none task (named (Judge task g fs v n q j) h)
+  no_command_of_name takes none show annotate graph asm trace (Show g f v) h = show (named (Show g f v) h)
+  no_command_of_name takes none show annotate graph asm trace (Annotate g f v function form color) h = annotate (named (Annotate g f v function form color) h)
+  no_command_of_name takes none show annotate graph asm trace (Graph g f v function) h = graph (named (Graph g f v function) h)
+  no_command_of_name takes none show annotate graph asm trace (Asm g f out big explain) h = asm (named (Asm g f out big explain) h)
+  no_command_of_name takes none show annotate graph asm trace (Trace g f function choices limit v) h = trace (named (Trace g f function choices limit v) h)
+  no_command_of_name takes none show annotate graph asm trace (Rules code j) h = takes.0 (named (Rules code j) h)
+  no_command_of_name takes none show annotate graph asm trace (Grammar f) h = takes.1 (named (Grammar f) h)
 
 never : ¬ (IsTrue false)
 never e = cc
 
--- a task of which no verdicts are asked for, with files and names
-unjudged : (environment : Option Text) (rows : List Row) (task : Task) (g : Option Text) (files : List Text)
-    → IsAsked environment (Some (task_name task, rows)) (task_name task) g files
-    → ((k : Task) (h : Option Text) (fs : List Text) (v : Bool) (n : Naming) (q : Bool) → ¬ (IsJudge environment (Some (task_name task, rows)) k h fs v n q))
-    → IsNoCommand environment (Some (task_name task, rows))
-unjudged environment rows task g files e none =
-    let other = other_of_name (task_name task) rows (task_is_of_files task) in
-    record {
-      judge = none;
-      show = λ h i. other_name environment (Some (task_name task, rows)) _ _ _ e (codes "show") (λ q. show_is_no_task task (sym q)) h (i ∷ []);
-      asm = λ h i out k. absurd (other_name environment (Some (task_name task, rows)) _ _ _ e (codes "asm") (task_is_no_asm task) h (i ∷ []) k);
-      trace = λ h i function choices limit v k. other_name environment (Some (task_name task, rows)) _ _ _ e (codes "trace") (λ q. trace_is_no_task task (sym q)) h (i ∷ []) k.asked;
-      rules = other.rules;
-      grammar = other.grammar;
-    }
+-- of a name there is no command, where there is none of its kind
+module _ (environment : Option Text) (rows : List Row) where
+  unjudged : (task : Task) → ((k : Task) (g : Option Text) (fs : List Text) (v : Bool) (n : Naming) (q j : Bool)
+      → ¬ (IsJudge environment (Some (task_name task, rows)) k g fs v n q j)) → IsNoCommand environment (Some (task_name task, rows))
+  unjudged task none (Judge k g fs v n q j) h = none _ _ _ _ _ _ _ h
+  unjudged tasks.Check none c h = let e : 510 ≡ sum_of c = spelled environment (codes "check") rows c h in omega (arith, e)
+  unjudged (tasks.Explain full) none c h = let e : 753 ≡ sum_of c = spelled environment (codes "explain") rows c h in omega (arith, e)
 
--- of files that a task does not take there is none
-pub not_judged : (environment : Option Text) (rows : List Row) (task : Task) (g : Option Text) (all : List (Bor Text))
-    → IsAsked environment (Some (task_name task, rows)) (task_name task) g (map (λ f. f.now) all)
-    → IsTrue false ↔ ((1 ≤ length all) × (inputs_among (map (λ f. f.now) all) ≤ 1)) → IsNoCommand environment (Some (task_name task, rows))
-not_judged environment rows task g all e answer =
-    let files : List Text = map (λ (f : Bor Text). f.now) all in
-    let count = length-map all (λ (f : Bor Text). f.now) in
-    unjudged environment rows task g files e (λ k h fs v n q i.
-    let same : Some files ≡ Some fs = same_files environment (Some (task_name task, rows)) _ _ _ e (task_name k) h fs i.asked in
-    let equal : fs ≡ files = ap (λ (o : Option (List Text)). unwrap_or o []) (sym same) in
-    let long : 1 ≤ length files = rw (← equal) i.some in
-    never (answer.1 (omega (arith, count, long), rw (← equal) i.once)))
+  -- of files that a task does not take
+  pub not_judged : (task : Task) (g : Option Text) (all : List (Bor Text))
+      → IsAsked environment (Some (task_name task, rows)) (task_name task) g (map (λ f. f.now) all)
+      → IsTrue false ↔ ((1 ≤ length all) × (inputs_among (map (λ f. f.now) all) ≤ 1)) → IsNoCommand environment (Some (task_name task, rows))
+  not_judged task g all e answer = unjudged task (λ k h fs v n q j i.
+      let files : List Text = map (λ (f : Bor Text). f.now) all in
+      let count = length-map all (λ (f : Bor Text). f.now) in
+      let same : Some files ≡ Some fs = sym (asked_files environment (task_name task) rows _ _ _ e) ∙ asked_files environment (task_name task) rows _ _ _ i.asked in
+      let equal : fs ≡ files = ap (λ (o : Option (List Text)). unwrap_or o []) (sym same) in
+      let long : 1 ≤ length files = rw (← equal) i.some in
+      never (answer.1 (omega (arith, count, long), rw (← equal) i.once)))
 
--- where names are asked for and against there is none
-pub not_named : (environment : Option Text) (rows : List Row) (task : Task) (g : Option Text) (files : List Text)
-    → IsAsked environment (Some (task_name task, rows)) (task_name task) g files
-    → ((naming : Naming) → ¬ (IsNaming (first_of (codes "with-filename") rows) (first_of (codes "no-filename") rows) naming))
-    → IsNoCommand environment (Some (task_name task, rows))
-not_named environment rows task g files e none = unjudged environment rows task g files e (λ k h fs v n q i. none n i.names)
+  -- where names are asked for and against
+  pub not_named : (task : Task) → ((naming : Naming) → ¬ (IsNaming (first_of (codes "with-filename") rows) (first_of (codes "no-filename") rows) naming))
+      → IsNoCommand environment (Some (task_name task, rows))
+  not_named task none = unjudged task (λ k h fs v n q j i. none n i.names)
+
+  -- where what its options ask for is none
+  pub not_annotated : ((function : Option ℕ) (color : Color) → IsNumberIfAny (first_of (codes "function") rows) function → IsColor (first_of (codes "color") rows) color → ⊥)
+      → IsNoCommand environment (Some (codes "annotate", rows))
+  not_annotated none (Annotate g f v function form color) h = none function color h.function_is h.color_is
+  not_annotated none (Judge tasks.Check g fs v n q j) h = let e : 858 ≡ 510 = spelled environment (codes "annotate") rows (Judge tasks.Check g fs v n q j) h in omega (arith, e)
+  not_annotated none c h = let e : 858 ≡ sum_of c = spelled environment (codes "annotate") rows c h in omega (arith, e)
+
+  pub not_drawn : ((function : Option ℕ) → ¬ (IsNumberIfAny (first_of (codes "function") rows) function)) → IsNoCommand environment (Some (codes "graph", rows))
+  not_drawn none (Graph g f v function) h = none function h.function_is
+  not_drawn none (Judge tasks.Check g fs v n q j) h = let e : 530 ≡ 510 = spelled environment (codes "graph") rows (Judge tasks.Check g fs v n q j) h in omega (arith, e)
+  not_drawn none c h = let e : 530 ≡ sum_of c = spelled environment (codes "graph") rows c h in omega (arith, e)
+
+  pub not_assembled : first_of (codes "out") rows ≡ None → IsNoCommand environment (Some (codes "asm", rows))
+  not_assembled none (Asm g f out big explain) h = let o = h.1 in cc
+  not_assembled none (Judge tasks.Check g fs v n q j) h = let e : 321 ≡ 510 = spelled environment (codes "asm") rows (Judge tasks.Check g fs v n q j) h in omega (arith, e)
+  not_assembled none c h = let e : 321 ≡ sum_of c = spelled environment (codes "asm") rows c h in omega (arith, e)
+
+  pub not_traced : ((function : ℕ) (choices : List ℕ) (limit : ℕ) → IsNumberOf (first_of (codes "function") rows) function
+      → AreNumbersOf (first_of (codes "choices") rows) choices → IsNumberOf (first_of (codes "limit") rows) limit → ⊥)
+      → IsNoCommand environment (Some (codes "trace", rows))
+  not_traced none (Trace g f function choices limit v) h = none function choices.items limit h.function_is h.choices_are h.limit_is
+  not_traced none (Judge tasks.Check g fs v n q j) h = let e : 527 ≡ 510 = spelled environment (codes "trace") rows (Judge tasks.Check g fs v n q j) h in omega (arith, e)
+  not_traced none c h = let e : 527 ≡ sum_of c = spelled environment (codes "trace") rows c h in omega (arith, e)
+
+  pub not_ruled : ((code : Option AnyCode) → ¬ (IsCodeOf (first_of (codes "code") rows) code)) → IsNoCommand environment (Some (codes "rules", rows))
+  not_ruled none (Rules code j) h = none code h.code_is
+  not_ruled none (Judge tasks.Check g fs v n q j) h = let e : 555 ≡ 510 = spelled environment (codes "rules") rows (Judge tasks.Check g fs v n q j) h in omega (arith, e)
+  not_ruled none c h = let e : 555 ≡ sum_of c = spelled environment (codes "rules") rows c h in omega (arith, e)
+
+task_is_of_files : (task : Task) → IsOfFiles (task_name task)
+task_is_of_files tasks.Check = (λ e. let s : 510 ≡ 555 = ap sum e in omega (arith, s), λ e. let s : 510 ≡ 743 = ap sum e in omega (arith, s))
+task_is_of_files (tasks.Explain full) = (λ e. let s : 753 ≡ 555 = ap sum e in omega (arith, s), λ e. let s : 753 ≡ 743 = ap sum e in omega (arith, s))
 
 -- a task on its files
-pub judge_met : (environment : Option Text) (rows : List Row) (task : Task) (g : Option Text) (all items : List (Bor Text)) (v : Bool) (n : Naming) (q : Bool)
+pub judge_met : (environment : Option Text) (rows : List Row) (task : Task) (g : Option Text) (all items : List (Bor Text)) (v : Bool) (n : Naming) (q j : Bool)
     → IsAsked environment (Some (task_name task, rows)) (task_name task) g (map (λ f. f.now) all) → items ≡ all
     → IsTrue true ↔ ((1 ≤ length all) × (inputs_among (map (λ f. f.now) all) ≤ 1))
     → IsDetailed (first_of (codes "full") rows) task
     → IsFlag (first_of (codes "as-1.6") rows) v
     → IsNaming (first_of (codes "with-filename") rows) (first_of (codes "no-filename") rows) n
     → IsFlag (first_of (codes "quiet") rows) q
-    → IsJudge environment (Some (task_name task, rows)) task g (map (λ f. f.now) items) v n q
-judge_met environment rows task g all items v n q e i answer detail version names quiet =
+    → IsFlag (first_of (codes "json") rows) j
+    → IsJudge environment (Some (task_name task, rows)) task g (map (λ f. f.now) items) v n q j
+judge_met environment rows task g all items v n q j e i answer detail version names quiet json =
     let count = length-map all (λ (f : Bor Text). f.now) in
     let long = (answer.0 refl).0 in
     rw i (record {
@@ -217,6 +245,7 @@ judge_met environment rows task g all items v n q e i answer detail version name
       version = version;
       names = names;
       quiet_is = quiet;
+      json_is = json;
     })
 
 no_rows : (found : Option (Text × List Row)) → option_map (λ p. p.1) found ≡ None → found ≡ None
@@ -225,77 +254,26 @@ no_rows (Some p) e = cc
 
 -- without a command there is none
 pub no_command_met : (environment : Option Text) (found : Option (Text × List Row)) → option_map (λ p. p.1) found ≡ None → IsNoCommand environment found
-no_command_met environment found e = no_command found (no_rows found e)
+no_command_met environment found e = subst (λ (o : Option (Text × List Row)). IsNoCommand environment o) (sym (no_rows found e)) unnamed
   where
-    no_command : (found : Option (Text × List Row)) → found ≡ None → IsNoCommand environment found
-    no_command found none = unasked environment found (λ m g fs h. cc)
-        (record { rules = λ code h. let a = h.asked in cc; grammar = λ a. cc })
+    unnamed : IsNoCommand environment None
+    unnamed (Rules code j) h = let a = h.asked in cc
+    unnamed (Grammar f) h = let a = h.0 in cc
+    unnamed (Judge task g fs v n q j) h = let a = h.asked in cc
+    unnamed (Show g f v) h = let a = h.0 in cc
+    unnamed (Annotate g f v function form color) h = let a = h.asked in cc
+    unnamed (Graph g f v function) h = let a = h.asked in cc
+    unnamed (Asm g f out big explain) h = let a = h.0 in cc
+    unnamed (Trace g f function choices limit v) h = let a = h.asked in cc
 
--- `show` with its texts
-pub show_met : (environment : Option Text) (found : Option (Text × List Row)) (rows : List Row) (g : Option Text) (f : Text) (c : Command)
-    → IsAsked environment found (codes "show") g (f ∷ [])
-    → ((option : Text) → text_in option found ≡ first_of option rows) → IsShowOf rows g f c
-    → IsCommandOf environment found (Ok c)
-show_met environment found rows g f (Judge task a files v n q) e t h = absurd h
-show_met environment found rows g f (Asm a b out big) e t h = absurd h
-show_met environment found rows g f (Trace a b function choices limit v) e t h = absurd h
-show_met environment found rows g f (Rules code) e t h = absurd h
-show_met environment found rows g f (Grammar file) e t h = absurd h
-show_met environment found rows g f (Show a b v) e t h =
-    (rw (h.0, h.1) e, subst (λ (o : Option Text). IsFlag o v) (sym (t (codes "as-1.6"))) h.2)
+-- what stands behind a name, by the name and its rows
+pub given_for : (found : Option (Text × List Row)) (name m : Text) (rows : List Row) (r : Result Command UseError) (environment : Option Text)
+    → found ≡ Some (name, rows) → name ≡ m → IsGiven m rows r → IsCommandOf environment found r
+given_for found name m rows r environment e n h =
+    subst (λ (o : Option (Text × List Row)). IsCommandOf environment o r) (sym (e ∙ ap (λ (t : Text). Some (t, rows)) n)) (h environment)
 
--- `asm` with all of its texts, or none
-pub asm_met : (environment : Option Text) (found : Option (Text × List Row)) (rows : List Row) (g : Option Text) (f : Text) (o : Option Command)
-    → IsAsked environment found (codes "asm") g (f ∷ [])
-    → ((option : Text) → text_in option found ≡ first_of option rows) → IsOther found → IsAsmOf rows g f o
-    → IsCommandOf environment found (ok_or o NoCommand)
-asm_met environment found rows g f None e t other h = record {
-  judge = λ task a fs v n q k. other_name _ _ _ _ _ e (task_name task) (λ q. task_is_no_asm task (sym q)) a fs k.asked;
-  show = λ a b. other_name _ _ _ _ _ e (codes "show") (λ q. show_is_no_asm (sym q)) a (b ∷ []);
-  asm = λ a b out _ w. let n = t (codes "out") in cc;
-  trace = λ a b function choices limit v k. other_name _ _ _ _ _ e (codes "trace") (λ q. trace_is_no_asm (sym q)) a (b ∷ []) k.asked;
-  rules = other.rules;
-  grammar = other.grammar;
-}
-asm_met environment found rows g f (Some (Judge task a files v n q)) e t other h = absurd h
-asm_met environment found rows g f (Some (Show a b v)) e t other h = absurd h
-asm_met environment found rows g f (Some (Trace a b function choices limit v)) e t other h = absurd h
-asm_met environment found rows g f (Some (Rules code)) e t other h = absurd h
-asm_met environment found rows g f (Some (Grammar file)) e t other h = absurd h
-asm_met environment found rows g f (Some (Asm a b out big)) e t other h =
-    (rw (h.0, h.1) e, t (codes "out") ∙ h.2, subst (λ (o : Option Text). IsFlag o big) (sym (t (codes "big"))) h.3)
-
--- `trace` with all of its texts and numbers, or none
-pub trace_met : (environment : Option Text) (found : Option (Text × List Row)) (rows : List Row) (g : Option Text) (f : Text) (r : Result Command UseError)
-    → IsAsked environment found (codes "trace") g (f ∷ [])
-    → ((option : Text) → text_in option found ≡ first_of option rows) → IsOther found → IsTraceOf rows g f r
-    → IsCommandOf environment found r
-trace_met environment found rows g f (Ok (Judge task a files v n q)) e t other h = absurd h
-trace_met environment found rows g f (Ok (Show a b v)) e t other h = absurd h
-trace_met environment found rows g f (Ok (Asm a b out big)) e t other h = absurd h
-trace_met environment found rows g f (Ok (Rules code)) e t other h = absurd h
-trace_met environment found rows g f (Ok (Grammar file)) e t other h = absurd h
-trace_met environment found rows g f (Ok (Trace a b function choices limit v)) e t other h = record {
-  asked = rw (h.0, h.1) e;
-  function_is = subst (λ (o : Option Text). IsNumberOf o function) (sym (t (codes "function"))) h.2;
-  choices_are = subst (λ (o : Option Text). AreNumbersOf o choices.items) (sym (t (codes "choices"))) h.3;
-  limit_is = subst (λ (o : Option Text). IsNumberOf o limit) (sym (t (codes "limit"))) h.4;
-  version = subst (λ (o : Option Text). IsFlag o v) (sym (t (codes "as-1.6"))) h.5;
-}
-trace_met environment found rows g f (Err NoCommand) e t other h = record {
-  judge = λ task a fs v n q k. other_name _ _ _ _ _ e (task_name task) (trace_is_no_task task) a fs k.asked;
-  show = λ a b. other_name _ _ _ _ _ e (codes "show") trace_is_no_show a (b ∷ []);
-  asm = λ a b out k. absurd (other_name _ _ _ _ _ e (codes "asm") trace_is_no_asm a (b ∷ []) k);
-  trace = λ a b function choices limit v k. h function choices limit
-      (subst (λ (o : Option Text). IsNumberOf o function) (t (codes "function")) k.function_is)
-      (subst (λ (o : Option Text). AreNumbersOf o choices) (t (codes "choices")) k.choices_are)
-      (subst (λ (o : Option Text). IsNumberOf o limit) (t (codes "limit")) k.limit_is);
-  rules = other.rules;
-  grammar = other.grammar;
-}
-trace_met environment found rows g f (Err Memory) e t other h = tt
-trace_met environment found rows g f (Err Help) e t other h = absurd h
-trace_met environment found rows g f (Err Version) e t other h = absurd h
+pub given_by : (name m : Text) (rows : List Row) (g : Option Text) (fs : List Text) (r : Result Command UseError) → name ≡ m → IsGivenFor m rows g fs r → IsGivenFor name rows g fs r
+given_by name m rows g fs r n h = subst (λ (t : Text). IsGivenFor t rows g fs r) (sym n) h
 
 -- a text that is no code's name
 pub code_unknown : (text : Option Text) (name : Text) → text ≡ Some name → ((code : AnyCode) → ¬ (IsNamed name (any_name code)))
@@ -313,68 +291,38 @@ code_known text name code e h = subst (λ (t : Option Text). IsCodeOf t (Some co
 pub no_code : (text : Option Text) → text ≡ None → IsCodeOf text None
 no_code text e = subst (λ (t : Option Text). IsCodeOf t None) (sym e) tt
 
--- a name that differs is that of no files
-module _ (environment : Option Text) (found : Option (Text × List Row)) (name : Text) (rows : List Row) where
-  other_than : found ≡ Some (name, rows) → (m : Text) → ¬ (name ≡ m) → (g : Option Text) (fs : List Text) → ¬ (IsAsked environment found m g fs)
-  other_than e m other g fs = other_name environment found name _ _ (ap (texts_in environment) e) m other g fs
+-- a number that may be given
+pub number_given : (text : Option Text) (t : Text) (n : ℕ) → text ≡ Some t → IsNumber t n → IsNumberIfAny text (Some n)
+number_given text t n e h = subst (λ (o : Option Text). IsNumberIfAny o (Some n)) (sym e) h
 
-  name_is : found ≡ Some (name, rows) → name_in found ≡ Some name
-  name_is e = ap name_in e
+pub none_given : (text : Option Text) → text ≡ None → IsNumberIfAny text None
+none_given text e = subst (λ (o : Option Text). IsNumberIfAny o None) (sym e) tt
 
-  -- a command that begins as no command of files does, and is not `rules` or not with such a code, and not `grammar`
-  fileless : found ≡ Some (name, rows) → (n : ℕ) → slice_index name 0 ≡ n → ¬ (n ≡ 99) → ¬ (n ≡ 101) → ¬ (n ≡ 115) → ¬ (n ≡ 97) → ¬ (n ≡ 116)
-      → IsOther found → IsNoCommand environment found
-  fileless e n first c x s a t other =
-      let differs : (m : Text) (k : ℕ) → slice_index m 0 ≡ k → ¬ (n ≡ k) → ¬ (name ≡ m) =
-      λ m k f d q. d (sym first ∙ ap (λ (t : Text). slice_index t 0) q ∙ f) in
-      record {
-        judge = λ task g fs v p q k. other_than e (task_name task) (of_task differs task) g fs k.asked;
-        show = λ g f. other_than e (codes "show") (differs (codes "show") 115 refl s) g (f ∷ []);
-        asm = λ g f out k. absurd (other_than e (codes "asm") (differs (codes "asm") 97 refl a) g (f ∷ []) k);
-        trace = λ g f function choices limit v k. other_than e (codes "trace") (differs (codes "trace") 116 refl t) g (f ∷ []) k.asked;
-        rules = other.rules;
-        grammar = other.grammar;
-      }
-    where
-      of_task : ((m : Text) (k : ℕ) → slice_index m 0 ≡ k → ¬ (n ≡ k) → ¬ (name ≡ m)) → (task : Task) → ¬ (name ≡ task_name task)
-      of_task differs tasks.Check = differs (codes "check") 99 refl c
-      of_task differs (tasks.Explain full) = differs (codes "explain") 101 refl x
+pub no_number_given : (text : Option Text) (t : Text) → text ≡ Some t → ((n : ℕ) → ¬ (IsNumber t n)) → (o : Option ℕ) → ¬ (IsNumberIfAny text o)
+no_number_given None t e h o k = cc
+no_number_given (Some text) t e h None k = k
+no_number_given (Some text) t e h (Some n) k =
+    let same : text ≡ t = ap (λ (o : Option Text). unwrap_or o []) e in
+    h n (subst (λ (t : Text). IsNumber t n) same k)
 
--- `rules` with its code, or none
-pub rules_met : (environment : Option Text) (found : Option (Text × List Row)) (name : Text) (rows : List Row) (r : Result Command UseError)
-    → found ≡ Some (name, rows) → name ≡ codes "rules" → IsRulesOf rows r → IsCommandOf environment found r
-rules_met environment found name rows (Ok (Judge task a files v p q)) e n h = absurd h
-rules_met environment found name rows (Ok (Show a b v)) e n h = absurd h
-rules_met environment found name rows (Ok (Asm a b out big)) e n h = absurd h
-rules_met environment found name rows (Ok (Trace a b function choices limit v)) e n h = absurd h
-rules_met environment found name rows (Ok (Grammar file)) e n h = absurd h
-rules_met environment found name rows (Ok (Rules code)) e n h = record {
-  asked = ap name_in e ∙ ap Some n;
-  code_is = subst (λ (t : Option Text). IsCodeOf t code) (sym (ap (text_in (codes "code")) e)) h;
-}
-rules_met environment found name rows (Err NoCommand) e n h =
-    let first : slice_index name 0 ≡ 114 = ap (λ (t : Text). slice_index t 0) n in
-    fileless environment found name rows e 114 first (λ q. omega (arith, q)) (λ q. omega (arith, q)) (λ q. omega (arith, q)) (λ q. omega (arith, q))
-    (λ q. omega (arith, q)) (record {
-      rules = λ code k. h code (subst (λ (t : Option Text). IsCodeOf t code) (ap (text_in (codes "code")) e) k.code_is);
-      grammar = λ a.
-          let whole : Some (codes "rules") ≡ Some (codes "grammar") = sym (ap Some n) ∙ sym (ap name_in e) ∙ a in
-          let same : codes "rules" ≡ codes "grammar" = cc in
-          rules_is_no_grammar same;
-    })
-rules_met environment found name rows (Err Memory) e n h = absurd h
-rules_met environment found name rows (Err Help) e n h = absurd h
-rules_met environment found name rows (Err Version) e n h = absurd h
+-- a form by its flag
+pub form_read : (text : Option Text) (html : Bool) (form : Form) → form ≡ form_of html → IsFlag text html → IsForm text form
+form_read text false form e f = rw e (λ q. never (f.1 q))
+form_read text true form e f = rw e (f.0 refl)
 
--- `grammar` with its word, or with none
-pub grammar_met : (environment : Option Text) (found : Option (Text × List Row)) (name : Text) (rows : List Row) (c : Command)
-    → found ≡ Some (name, rows) → name ≡ codes "grammar" → IsGrammarOf rows c → IsCommandOf environment found (Ok c)
-grammar_met environment found name rows (Judge task a files v p q) e n h = absurd h
-grammar_met environment found name rows (Show a b v) e n h = absurd h
-grammar_met environment found name rows (Asm a b out big) e n h = absurd h
-grammar_met environment found name rows (Trace a b function choices limit v) e n h = absurd h
-grammar_met environment found name rows (Rules code) e n h = absurd h
-grammar_met environment found name rows (Grammar file) e n h = (ap name_in e ∙ ap Some n, ap (text_in (codes "file")) e ∙ h)
+-- a use of colour by its word
+pub color_given : (text : Option Text) (t : Text) (o : Option Color) → text ≡ Some t → MatchOption o ((c : Color) → ¬ (t ≡ color_word c)) (λ c. t ≡ color_word c)
+    → MatchOption o ((c : Color) → ¬ (IsColor text c)) (λ c. IsColor text c)
+color_given text t o e m = subst (λ (w : Option Text). MatchOption o ((c : Color) → ¬ (IsColor w c)) (λ c. IsColor w c)) (sym e) m
+
+pub color_chosen : (o : Option Color) (r : Result Color UseError) (text : Option Text) → r ≡ ok_or o NoCommand
+    → MatchOption o ((c : Color) → ¬ (IsColor text c)) (λ c. IsColor text c)
+    → IfOk r (λ c. IsColor text c) × IfErr r (λ e. (e ≡ NoCommand) × ((c : Color) → ¬ (IsColor text c)))
+color_chosen None r text e m = rw e (tt, (refl, m))
+color_chosen (Some c) r text e m = rw e (m, tt)
+
+pub no_color_given : (text : Option Text) → text ≡ None → IsColor text colors.Auto
+no_color_given text e = subst (λ (o : Option Text). IsColor o colors.Auto) (sym e) refl
 
 -- which verdicts have names by two flags
 pub naming_read : (a b : Bool) (on off : Option Text) (o : Option Naming) → o ≡ naming_of a b → IsFlag on a → IsFlag off b

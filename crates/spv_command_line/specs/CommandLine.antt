@@ -13,8 +13,13 @@ use Rattle.clap.specs.Simple.{on_top}
 use Rattle.clap.specs.declared.builder.action.ArgAction.TheVariants.{SetTrue}
 use Rattle.clap.specs.declared.error.kind.ErrorKind.{ErrorKind}
 use Rattle.clap.specs.declared.error.kind.ErrorKind.TheVariants.{DisplayHelp, DisplayVersion, OutOfMemory}
+use Rattle.spv_command_line.specs.declared.command_line.Color.{Color}
+use Rattle.spv_command_line.specs.declared.command_line.Color.TheVariants as colors
 use Rattle.spv_command_line.specs.declared.command_line.Command.{Command}
-use Rattle.spv_command_line.specs.declared.command_line.Command.TheVariants.{Judge, Show, Asm, Trace, Rules, Grammar}
+use Rattle.spv_command_line.specs.declared.command_line.Command.TheVariants.{Judge, Show, Annotate, Graph, Asm, Trace}
+use Rattle.spv_command_line.specs.declared.command_line.Command.TheVariants.{Rules, Grammar}
+use Rattle.spv_command_line.specs.declared.command_line.Form.{Form}
+use Rattle.spv_command_line.specs.declared.command_line.Form.TheVariants as forms
 use Rattle.spv_command_line.specs.declared.command_line.Naming.{Naming}
 use Rattle.spv_command_line.specs.declared.command_line.Naming.TheVariants.{OfSeveral, Always, Never}
 use Rattle.spv_command_line.specs.declared.command_line.Task.{Task}
@@ -24,7 +29,7 @@ use Rattle.spv_command_line.specs.declared.command_line.UseError.TheVariants.{No
 use Rattle.spv_rules.specs.Errors.{any_name}
 use Rattle.spv_rules.specs.Rules.{IsNamed}
 use Rattle.spv_rules.specs.declared.errors.AnyCode.{AnyCode}
-use Rattle.spv_command_line.specs.Number.{AreNumbersOf, IsNumberOf}
+use Rattle.spv_command_line.specs.Number.{AreNumbersOf, IsNumberIfAny, IsNumberOf}
 
 -- an option with a value, which may be given
 abbrev pub option : Text → Rule
@@ -49,12 +54,15 @@ file_word = must (word (codes "file"))
 abbrev pub files_word : Rule
 files_word = record file_word { range = Some (record { start_inclusive = 1; end_inclusive = usize_max }) }
 
--- `--grammar G`, `--as-1.6` and `--verbose`
+-- `--grammar G`, `--as-1.6`, `--json` and `--verbose`
 abbrev pub grammar_option : Rule
 grammar_option = option (codes "grammar")
 
 abbrev pub as_1_6_flag : Rule
 as_1_6_flag = flag (codes "as-1.6")
+
+abbrev pub json_flag : Rule
+json_flag = flag (codes "json")
 
 abbrev pub verbose_flag : Rule
 verbose_flag = flag (codes "verbose")
@@ -67,9 +75,10 @@ with_filename_flag = record (flag (codes "with-filename")) { short = Some 72 }
 abbrev pub command : Text → List Rule → Shape
 command name rules = (fold with_rule (new_app name) rules).top
 
--- `[--as-1.6] [--with-filename] [--no-filename] [--quiet] [--verbose]`
+-- `[--as-1.6] [--with-filename] [--no-filename] [--quiet] [--json] [--verbose]`
 abbrev pub judging_flags : List Rule
-judging_flags = as_1_6_flag ∷ with_filename_flag ∷ flag (codes "no-filename") ∷ flag (codes "quiet") ∷ verbose_flag ∷ []
+judging_flags =
+    as_1_6_flag ∷ with_filename_flag ∷ flag (codes "no-filename") ∷ flag (codes "quiet") ∷ json_flag ∷ verbose_flag ∷ []
 
 -- `check [--grammar G] FILE ..` with these flags
 abbrev pub check_command : Shape
@@ -83,10 +92,16 @@ explain_command = command (codes "explain") (grammar_option ∷ files_word ∷ f
 abbrev pub show_command : Shape
 show_command = command (codes "show") (grammar_option ∷ file_word ∷ as_1_6_flag ∷ verbose_flag ∷ [])
 
--- `asm [--grammar G] FILE --out OUT [--big] [--verbose]`
-abbrev pub asm_command : Shape
-asm_command = command (codes "asm")
-    (grammar_option ∷ file_word ∷ must (option (codes "out")) ∷ flag (codes "big") ∷ verbose_flag ∷ [])
+-- `annotate [--grammar G] FILE [--function ID] [--html] [--color WHEN] [--as-1.6] [--verbose]`
+abbrev pub annotate_command : Shape
+annotate_command = command (codes "annotate")
+    (grammar_option ∷ file_word ∷ option (codes "function") ∷ flag (codes "html") ∷ option (codes "color")
+    ∷ as_1_6_flag ∷ verbose_flag ∷ [])
+
+-- `graph [--grammar G] FILE [--function ID] [--as-1.6] [--verbose]`
+abbrev pub graph_command : Shape
+graph_command = command (codes "graph")
+    (grammar_option ∷ file_word ∷ option (codes "function") ∷ as_1_6_flag ∷ verbose_flag ∷ [])
 
 -- `trace [--grammar G] FILE --function ID [--choices LIST] --limit N [--as-1.6] [--verbose]`
 abbrev pub trace_command : Shape
@@ -94,9 +109,15 @@ trace_command = command (codes "trace")
     (grammar_option ∷ file_word ∷ must (option (codes "function")) ∷ option (codes "choices")
     ∷ must (option (codes "limit")) ∷ as_1_6_flag ∷ verbose_flag ∷ [])
 
--- `rules [CODE] [--verbose]`
+-- `asm [--grammar G] FILE --out OUT [--big] [--explain] [--verbose]`
+abbrev pub asm_command : Shape
+asm_command = command (codes "asm")
+    (grammar_option ∷ file_word ∷ must (option (codes "out")) ∷ flag (codes "big") ∷ flag (codes "explain")
+    ∷ verbose_flag ∷ [])
+
+-- `rules [CODE] [--json] [--verbose]`
 abbrev pub rules_command : Shape
-rules_command = command (codes "rules") (word (codes "code") ∷ verbose_flag ∷ [])
+rules_command = command (codes "rules") (word (codes "code") ∷ json_flag ∷ verbose_flag ∷ [])
 
 -- `grammar [FILE] [--verbose]`
 abbrev pub grammar_command : Shape
@@ -111,8 +132,8 @@ bare_program = on_top (λ s. record s { no_binary_name = true; subcommand_requir
 -- all commands, of which one must be given
 abbrev pub program : App
 program = fold with_subcommand bare_program
-    (check_command ∷ explain_command ∷ show_command ∷ asm_command ∷ trace_command ∷ rules_command ∷ grammar_command
-    ∷ [])
+    (check_command ∷ explain_command ∷ show_command ∷ annotate_command ∷ graph_command ∷ trace_command ∷ asm_command
+    ∷ rules_command ∷ grammar_command ∷ [])
 
 -- the name of the command, the path of its grammar file and its files, as `clap` reads them; without `--grammar` the
 -- grammar file is that of the environment, if it has one
@@ -158,9 +179,42 @@ IsCodeOf (Some text) (Some code) = IsNamed text (any_name code)
 IsCodeOf _ _ = ⊥
 
 -- they are `rules` with the code, or with none
-pub record IsRules (found : Option (Text × List Row)) (code : Option AnyCode) : Type 0 where
+pub record IsRules (found : Option (Text × List Row)) (code : Option AnyCode) (json : Bool) : Type 0 where
   pub asked : name_in found ≡ Some (codes "rules")
   pub code_is : IsCodeOf (text_in (codes "code") found) code
+  pub json_is : IsFlag (text_in (codes "json") found) json
+
+-- the text of `--html` asks for this form
+abbrev pub IsForm : Option Text → Form → Type 0
+IsForm text forms.Text = text ≢ Some (codes "true")
+IsForm text forms.Page = text ≡ Some (codes "true")
+
+-- the word for a use of colour
+abbrev pub color_word : Color → Text
+color_word colors.Auto = codes "auto"
+color_word colors.Always = codes "always"
+color_word colors.Never = codes "never"
+
+-- the text of `--color` is that word; without it colour is used as the output allows
+abbrev pub IsColor : Option Text → Color → Type 0
+IsColor None color = color ≡ colors.Auto
+IsColor (Some text) color = text ≡ color_word color
+
+-- they are `annotate` of one file, of the whole module or of the function whose id is that number in decimal
+pub record IsAnnotate (environment : Option Text) (found : Option (Text × List Row)) (grammar : Option Text)
+    (file : Text) (as_1_6 : Bool) (function : Option ℕ) (form : Form) (color : Color) : Type 0 where
+  pub asked : IsAsked environment found (codes "annotate") grammar (file ∷ [])
+  pub version : IsFlag (text_in (codes "as-1.6") found) as_1_6
+  pub function_is : IsNumberIfAny (text_in (codes "function") found) function
+  pub form_is : IsForm (text_in (codes "html") found) form
+  pub color_is : IsColor (text_in (codes "color") found) color
+
+-- they are `graph` of one file, of the calls or of the function whose id is that number in decimal
+pub record IsGraph (environment : Option Text) (found : Option (Text × List Row)) (grammar : Option Text)
+    (file : Text) (as_1_6 : Bool) (function : Option ℕ) : Type 0 where
+  pub asked : IsAsked environment found (codes "graph") grammar (file ∷ [])
+  pub version : IsFlag (text_in (codes "as-1.6") found) as_1_6
+  pub function_is : IsNumberIfAny (text_in (codes "function") found) function
 
 -- the command that does a task
 abbrev pub task_name : Task → Text
@@ -182,7 +236,7 @@ inputs_among files = count_of (codes "-") files
 
 -- they are a task on one file or more, of which at most one is the standard input
 pub record IsJudge (environment : Option Text) (found : Option (Text × List Row)) (task : Task)
-    (grammar : Option Text) (files : List Text) (as_1_6 : Bool) (naming : Naming) (quiet : Bool) : Type 0 where
+    (grammar : Option Text) (files : List Text) (as_1_6 : Bool) (naming : Naming) (quiet json : Bool) : Type 0 where
   pub asked : IsAsked environment found (task_name task) grammar files
   pub detail : IsDetailed (text_in (codes "full") found) task
   pub some : 1 ≤ length files
@@ -190,6 +244,7 @@ pub record IsJudge (environment : Option Text) (found : Option (Text × List Row
   pub version : IsFlag (text_in (codes "as-1.6") found) as_1_6
   pub names : IsNaming (text_in (codes "with-filename") found) (text_in (codes "no-filename") found) naming
   pub quiet_is : IsFlag (text_in (codes "quiet") found) quiet
+  pub json_is : IsFlag (text_in (codes "json") found) json
 
 -- the path of a grammar file, if one is named
 abbrev pub path_of : Option (Bor Text) → Option Text
@@ -197,31 +252,28 @@ path_of grammar = option_map (λ g. g.now) grammar
 
 -- they are a command with all of its texts; a flag that was read has the text `true`
 abbrev pub IsCommand : Option Text → Option (Text × List Row) → Command → Type 0
-IsCommand environment found (Judge task grammar files as_1_6 naming quiet) =
-    IsJudge environment found task (path_of grammar) (map (λ file. file.now) files.items) as_1_6 naming quiet
+IsCommand environment found (Judge task grammar files as_1_6 naming quiet json) =
+    IsJudge environment found task (path_of grammar) (map (λ file. file.now) files.items) as_1_6 naming quiet json
 IsCommand environment found (Show grammar file as_1_6) =
     IsAsked environment found (codes "show") (path_of grammar) (file.now ∷ [])
     × IsFlag (text_in (codes "as-1.6") found) as_1_6
-IsCommand environment found (Asm grammar file out big) =
+IsCommand environment found (Annotate grammar file as_1_6 function form color) =
+    IsAnnotate environment found (path_of grammar) file.now as_1_6 function form color
+IsCommand environment found (Graph grammar file as_1_6 function) =
+    IsGraph environment found (path_of grammar) file.now as_1_6 function
+IsCommand environment found (Asm grammar file out big explain) =
     IsAsked environment found (codes "asm") (path_of grammar) (file.now ∷ [])
     × (text_in (codes "out") found ≡ Some out.now) × IsFlag (text_in (codes "big") found) big
+    × IsFlag (text_in (codes "explain") found) explain
 IsCommand environment found (Trace grammar file function choices limit as_1_6) =
     IsTrace environment found (path_of grammar) file.now function choices.items limit as_1_6
-IsCommand environment found (Rules code) = IsRules found code
+IsCommand environment found (Rules code json) = IsRules found code json
 IsCommand environment found (Grammar file) =
     (name_in found ≡ Some (codes "grammar")) × (text_in (codes "file") found ≡ path_of file)
 
--- they are no command with all of its texts
-pub record IsNoCommand (environment : Option Text) (found : Option (Text × List Row)) : Type 0 where
-  pub judge : (task : Task) (grammar : Option Text) (files : List Text) (as_1_6 : Bool) (naming : Naming) (quiet : Bool)
-      → ¬ (IsJudge environment found task grammar files as_1_6 naming quiet)
-  pub show : (grammar : Option Text) (file : Text) → ¬ (IsAsked environment found (codes "show") grammar (file ∷ []))
-  pub asm : (grammar : Option Text) (file out : Text)
-      → IsAsked environment found (codes "asm") grammar (file ∷ []) → ¬ (text_in (codes "out") found ≡ Some out)
-  pub trace : (grammar : Option Text) (file : Text) (function : ℕ) (choices : List ℕ) (limit : ℕ) (as_1_6 : Bool)
-      → ¬ (IsTrace environment found grammar file function choices limit as_1_6)
-  pub rules : (code : Option AnyCode) → ¬ (IsRules found code)
-  pub grammar : ¬ (name_in found ≡ Some (codes "grammar"))
+-- no command has these texts
+abbrev pub IsNoCommand : Option Text → Option (Text × List Row) → Type 0
+IsNoCommand environment found = (c : Command) → ¬ (IsCommand environment found c)
 
 -- what `clap` read is the command, or none
 abbrev pub IsCommandOf : Option Text → Option (Text × List Row) → Result Command UseError → Type 0

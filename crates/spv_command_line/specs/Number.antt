@@ -23,7 +23,13 @@ abbrev pub IsNumberOf : Option (List ℕ) → ℕ → Type 0
 IsNumberOf None n = ⊥
 IsNumberOf (Some text) n = IsNumber text n
 
--- of an option that may be given: without it there are none
+-- of an option that may be given: without it there is none
+abbrev pub IsNumberIfAny : Option (List ℕ) → Option ℕ → Type 0
+IsNumberIfAny None None = Unit {0}
+IsNumberIfAny (Some text) (Some n) = IsNumber text n
+IsNumberIfAny _ _ = ⊥
+
+-- the numbers of an option that may be given: without it there are none
 abbrev pub AreNumbersOf : Option (List ℕ) → List ℕ → Type 0
 AreNumbersOf None ns = ns ≡ []
 AreNumbersOf (Some text) ns = AreNumbers text ns

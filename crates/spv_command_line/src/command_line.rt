@@ -1,18 +1,16 @@
 //! The words of the command line, read by `clap`.
-ghost use Rattle.std.specs.Prelude.{◌≡◌, ◌≤◌, ◌↔◌, ◌∷◌, ℕ, List, [], codes, IfOk};
-ghost use Rattle.std.specs.Prelude.{IfSome, IsTrue, MatchOption, map, option_map, Option, Some, length};
+ghost use Rattle.std.specs.Prelude.{◌≡◌, ◌≤◌, ◌↔◌, ◌∷◌, [], codes, IfSome, IsTrue, MatchOption, map};
+ghost use Rattle.std.specs.Prelude.{option_map, Ok, length};
 ghost use Rattle.std.specs.Str.{bytes_eq};
-ghost use Rattle.clap.specs.Words.{Text, first_of, found_of, rows_of, subcommand_rows_of};
-ghost use Rattle.spv_command_line.specs.declared.command_line.Command.{Command};
-ghost use Rattle.spv_command_line.specs.declared.command_line.Naming.{Naming};
+ghost use Rattle.clap.specs.Words.{first_of, found_of, rows_of, subcommand_rows_of};
 ghost use Rattle.spv_command_line.specs.declared.command_line.Task.{Task};
-ghost use Rattle.spv_command_line.specs.CommandLine.{Answers, AnswersTo, IsAsked, IsCommandOf, IsDetailed, IsFlag};
-ghost use Rattle.spv_command_line.specs.CommandLine.{IsNaming, count_of, error_of, inputs_among, task_name};
-ghost use Rattle.spv_command_line.specs.inner.CommandLine.{IsAsmOf, IsGrammarOf, IsOfFiles, IsRulesOf, IsShowOf};
-ghost use Rattle.spv_command_line.specs.inner.CommandLine.{IsTraceOf, naming_of};
-ghost use Rattle.spv_command_line.specs.Number.{AreNumbersOf, IsNumberOf};
+ghost use Rattle.spv_command_line.specs.CommandLine.{Answers, AnswersTo, IsCommandOf, IsDetailed, count_of, error_of};
+ghost use Rattle.spv_command_line.specs.CommandLine.{inputs_among, path_of, task_name};
+ghost use Rattle.spv_command_line.specs.inner.CommandLine.{IsGiven, IsGivenFor, IsOfFiles};
 
-use crate::number::{number_in, numbers_in};
+use crate::options::{
+    color_in, form_in, is_as_1_6, is_set, naming_in, number_if_given, number_of, numbers_of,
+};
 use crate::program::all_words;
 use clap::ArgMatches;
 use clap::error::ErrorKind;
@@ -43,6 +41,26 @@ pub enum Naming {
     Never,
 }
 
+/// What `spv annotate` writes.
+#[derive(Clone, Copy, Debug, PartialEq, Eq)]
+pub enum Form {
+    /// The lines, as text.
+    Text,
+    /// A page of HTML: `--html`.
+    Page,
+}
+
+/// When text has colour.
+#[derive(Clone, Copy, Debug, PartialEq, Eq)]
+pub enum Color {
+    /// Where the output takes it: `auto`, and where nothing is asked for.
+    Auto,
+    /// Always: `always`.
+    Always,
+    /// Never: `never`.
+    Never,
+}
+
 /// What the program is asked to do. A path of a grammar file that is None stands for the built-in grammar.
 #[derive(Drop)]
 pub enum Command<'a> {
@@ -60,6 +78,8 @@ pub enum Command<'a> {
         naming: Naming,
         /// Whether no verdict is written, and the exit status alone tells it.
         quiet: bool,
+        /// Whether each is told as a JSON object.
+        json: bool,
     },
     /// `spv show [--grammar G] FILE`: the text of a module.
     Show {
@@ -69,6 +89,32 @@ pub enum Command<'a> {
         file: &'a str,
         /// Whether a module of an earlier version is taken as one of 1.6.
         as_1_6: bool,
+    },
+    /// `spv annotate [--grammar G] FILE`: the text of a module for people, with comments.
+    Annotate {
+        /// The path of the grammar file, if one is named.
+        grammar: Option<&'a str>,
+        /// The path of the module.
+        file: &'a str,
+        /// Whether a module of an earlier version is taken as one of 1.6.
+        as_1_6: bool,
+        /// The id of the only function that is written, if it is only one.
+        function: Option<u32>,
+        /// What is written.
+        form: Form,
+        /// When the text has colour; a page has colours of its own.
+        color: Color,
+    },
+    /// `spv graph [--grammar G] FILE`: a picture of a module, in DOT.
+    Graph {
+        /// The path of the grammar file, if one is named.
+        grammar: Option<&'a str>,
+        /// The path of the module.
+        file: &'a str,
+        /// Whether a module of an earlier version is taken as one of 1.6.
+        as_1_6: bool,
+        /// The id of the function whose blocks are drawn; without it the calls of the module are.
+        function: Option<u32>,
     },
     /// `spv asm [--grammar G] --out OUT [--big] FILE`: the module of a text.
     Asm {
@@ -80,6 +126,8 @@ pub enum Command<'a> {
         out: &'a str,
         /// Whether the bytes of its words stand from the highest to the lowest.
         big: bool,
+        /// Whether the fault of a text is explained.
+        explain: bool,
     },
     /// `spv trace [--grammar G] --function ID [--choices 0,1] --limit N FILE`: the run of an entry point's function.
     Trace {
@@ -101,6 +149,8 @@ pub enum Command<'a> {
     Rules {
         /// The code, if it is only one.
         code: Option<AnyCode>,
+        /// Whether each is told as a JSON object.
+        json: bool,
     },
     /// `spv grammar [FILE]`: the built-in grammar, or that of a grammar file, as a grammar file of the least size.
     Grammar {
@@ -149,61 +199,10 @@ fn refusal(kind: ErrorKind) -> UseError
     }
 }
 
-/// Whether a text is that of a flag that is set.
-fn is_true(text: &str) -> bool
-    ensures { IsTrue result ↔ (text.now ≡ codes "true") }
-{
-    match text {
-        "true" => true,
-        _ => false,
-    }
-}
-
-/// Whether `clap` read this flag.
-fn is_set(found: &ArgMatches<'_>, flag: &str) -> bool
-    ensures { IsFlag (first_of flag.now (rows_of (found_of found.now))) result }
-{
-    match found.get_str(flag) {
-        Some(text) => is_true(text),
-        None => false,
-    }
-}
-
-/// Whether a module of an earlier version is taken as one of 1.6.
-fn is_as_1_6(found: &ArgMatches<'_>) -> bool
-    ensures { IsFlag (first_of (codes "as-1.6") (rows_of (found_of found.now))) result }
-{
-    is_set(found, "as-1.6")
-}
-
-/// Which verdicts have names by the options that ask for it and against it. None where both do.
-fn naming_by(with_filename: bool, no_filename: bool) -> Option<Naming>
-    ensures { result ≡ naming_of with_filename no_filename }
-{
-    match (with_filename, no_filename) {
-        (false, false) => Some(Naming::OfSeveral),
-        (true, false) => Some(Naming::Always),
-        (false, true) => Some(Naming::Never),
-        (true, true) => None,
-    }
-}
-
-/// Which verdicts have names by what `clap` read.
-fn naming_in(found: &ArgMatches<'_>) -> Option<Naming>
-    ensures { MatchOption result
-        ((naming : Naming) → ¬ (IsNaming (first_of (codes "with-filename") (rows_of (found_of found.now)))
-        (first_of (codes "no-filename") (rows_of (found_of found.now))) naming))
-        (λ naming. IsNaming (first_of (codes "with-filename") (rows_of (found_of found.now)))
-        (first_of (codes "no-filename") (rows_of (found_of found.now))) naming) }
-{
-    let with_filename = is_set(found, "with-filename");
-    let no_filename = is_set(found, "no-filename");
-    naming_by(with_filename, no_filename)
-}
-
 /// The command `show` with the texts of these.
 fn show_in<'a>(found: &ArgMatches<'a>, grammar: Option<&'a str>, file: &'a str) -> Command<'a>
-    ensures { IsShowOf (rows_of (found_of found.now)) (option_map (λ g. g.now) grammar.entry) file.now result }
+    ensures { IsGivenFor (codes "show") (rows_of (found_of found.now)) (path_of grammar.entry) (file.now ∷ [])
+        (Ok result) }
 {
     Command::Show {
         grammar,
@@ -212,49 +211,62 @@ fn show_in<'a>(found: &ArgMatches<'a>, grammar: Option<&'a str>, file: &'a str) 
     }
 }
 
+/// The command `annotate` with the texts of these, if its own are a number and a word for a use of colour.
+fn annotate_in<'a>(
+    found: &ArgMatches<'a>,
+    grammar: Option<&'a str>,
+    file: &'a str,
+) -> Result<Command<'a>, UseError>
+    ensures { IsGivenFor (codes "annotate") (rows_of (found_of found.now)) (path_of grammar.entry) (file.now ∷ [])
+        result }
+{
+    let function = number_if_given(found, "function")?;
+    let color = color_in(found)?;
+    Ok(Command::Annotate {
+        grammar,
+        file,
+        as_1_6: is_as_1_6(found),
+        function,
+        form: form_in(found),
+        color,
+    })
+}
+
+/// The command `graph` with the texts of these, if its own is a number.
+fn graph_in<'a>(
+    found: &ArgMatches<'a>,
+    grammar: Option<&'a str>,
+    file: &'a str,
+) -> Result<Command<'a>, UseError>
+    ensures { IsGivenFor (codes "graph") (rows_of (found_of found.now)) (path_of grammar.entry) (file.now ∷ []) result }
+{
+    let function = number_if_given(found, "function")?;
+    Ok(Command::Graph {
+        grammar,
+        file,
+        as_1_6: is_as_1_6(found),
+        function,
+    })
+}
+
 /// The command `asm` with the texts of these, if `clap` read its own too.
 fn asm_in<'a>(
     found: &ArgMatches<'a>,
     grammar: Option<&'a str>,
     file: &'a str,
-) -> Option<Command<'a>>
-    ensures { IsAsmOf (rows_of (found_of found.now)) (option_map (λ g. g.now) grammar.entry) file.now result }
+) -> Result<Command<'a>, UseError>
+    ensures { IsGivenFor (codes "asm") (rows_of (found_of found.now)) (path_of grammar.entry) (file.now ∷ []) result }
 {
-    let out = found.get_str("out")?;
-    let big = is_set(found, "big");
-    Some(Command::Asm {
+    let Some(out) = found.get_str("out") else {
+        return Err(UseError::NoCommand);
+    };
+    Ok(Command::Asm {
         grammar,
         file,
         out,
-        big,
+        big: is_set(found, "big"),
+        explain: is_set(found, "explain"),
     })
-}
-
-/// The number of an option that must be given. None where it is not, or its text is no number of 32 bits.
-fn number_of(found: &ArgMatches<'_>, option: &str) -> Option<u32>
-    ensures { MatchOption result ((n : ℕ) → ¬ (IsNumberOf (first_of option.now (rows_of (found_of found.now))) n))
-        (λ n. IsNumberOf (first_of option.now (rows_of (found_of found.now))) n) }
-{
-    match found.get_str(option) {
-        Some(text) => number_in(text.as_bytes()),
-        None => None,
-    }
-}
-
-/// The numbers of an option that may be given. None where its text is no numbers of 32 bits joined by commas.
-fn numbers_of(
-    alloc: Global,
-    found: &ArgMatches<'_>,
-    option: &str,
-) -> Result<Option<Vec<u32>>, AllocError>
-    ensures { IfOk result (λ o. MatchOption o
-        ((ns : List ℕ) → ¬ (AreNumbersOf (first_of option.now (rows_of (found_of found.now))) ns))
-        (λ v. AreNumbersOf (first_of option.now (rows_of (found_of found.now))) v.items)) }
-{
-    match found.get_str(option) {
-        Some(text) => numbers_in(alloc, text.as_bytes()),
-        None => Ok(Some(Vec::new(alloc))),
-    }
 }
 
 /// The command `trace` with the texts of these, if its own are numbers too.
@@ -264,7 +276,7 @@ fn trace_in<'a>(
     grammar: Option<&'a str>,
     file: &'a str,
 ) -> Result<Command<'a>, UseError>
-    ensures { IsTraceOf (rows_of (found_of found.now)) (option_map (λ g. g.now) grammar.entry) file.now result }
+    ensures { IsGivenFor (codes "trace") (rows_of (found_of found.now)) (path_of grammar.entry) (file.now ∷ []) result }
 {
     let Some(function) = number_of(found, "function") else {
         return Err(UseError::NoCommand);
@@ -287,20 +299,24 @@ fn trace_in<'a>(
 
 /// The command `rules`, if its word is the name of a code or it has none.
 fn rules_in<'a>(found: &ArgMatches<'a>) -> Result<Command<'a>, UseError>
-    ensures { IsRulesOf (rows_of (found_of found.now)) result }
+    ensures { IsGiven (codes "rules") (rows_of (found_of found.now)) result }
 {
+    let json = is_set(found, "json");
     let Some(name) = found.get_str("code") else {
-        return Ok(Command::Rules { code: None });
+        return Ok(Command::Rules { code: None, json });
     };
     match AnyCode::named(name) {
-        Some(code) => Ok(Command::Rules { code: Some(code) }),
+        Some(code) => Ok(Command::Rules {
+            code: Some(code),
+            json,
+        }),
         None => Err(UseError::NoCommand),
     }
 }
 
 /// The command `grammar`.
 fn grammar_in<'a>(found: &ArgMatches<'a>) -> Command<'a>
-    ensures { IsGrammarOf (rows_of (found_of found.now)) result }
+    ensures { IsGiven (codes "grammar") (rows_of (found_of found.now)) (Ok result) }
 {
     Command::Grammar {
         file: found.get_str("file"),
@@ -317,13 +333,13 @@ fn one_file_command<'a>(
 ) -> Result<Command<'a>, UseError>
     requires files { IsOfFiles name.now }
     requires task { (task : Task) → ¬ (name.now ≡ task_name task) }
-    ensures { (environment : Option Text) → IsAsked environment
-        (Some (name.now, rows_of (found_of found.now))) name.now (option_map (λ g. g.now) grammar.entry) (file.now ∷ [])
-        → IsCommandOf environment (Some (name.now, rows_of (found_of found.now))) result }
+    ensures { IsGivenFor name.now (rows_of (found_of found.now)) (path_of grammar.entry) (file.now ∷ []) result }
 {
     match name {
         "show" => Ok(show_in(found, grammar, file)),
-        "asm" => asm_in(found, grammar, file).ok_or(UseError::NoCommand),
+        "annotate" => annotate_in(found, grammar, file),
+        "graph" => graph_in(found, grammar, file),
+        "asm" => asm_in(found, grammar, file),
         "trace" => trace_in(alloc, found, grammar, file),
         _ => Err(UseError::NoCommand),
     }
@@ -381,10 +397,8 @@ fn judge_command<'a>(
     files: &[&'a str],
 ) -> Result<Command<'a>, UseError>
     requires { IsDetailed (first_of (codes "full") (rows_of (found_of found.now))) task }
-    ensures { (environment : Option Text)
-        → IsAsked environment (Some (task_name task, rows_of (found_of found.now))) (task_name task)
-        (option_map (λ g. g.now) grammar.entry) (map (λ file. file.now) files.now)
-        → IsCommandOf environment (Some (task_name task, rows_of (found_of found.now))) result }
+    ensures { IsGivenFor (task_name task) (rows_of (found_of found.now)) (path_of grammar.entry)
+        (map (λ file. file.now) files.now) result }
 {
     if !are_modules(files) {
         return Err(UseError::NoCommand);
@@ -400,6 +414,7 @@ fn judge_command<'a>(
         as_1_6: is_as_1_6(found),
         naming,
         quiet: is_set(found, "quiet"),
+        json: is_set(found, "json"),
     })
 }
 
@@ -412,10 +427,8 @@ fn command_on<'a>(
     files: &[&'a str],
 ) -> Result<Command<'a>, UseError>
     requires { IsOfFiles name.now }
-    ensures { (environment : Option Text) → IsAsked environment
-        (Some (name.now, rows_of (found_of found.now))) name.now (option_map (λ g. g.now) grammar.entry)
-        (map (λ file. file.now) files.now)
-        → IsCommandOf environment (Some (name.now, rows_of (found_of found.now))) result }
+    ensures { IsGivenFor name.now (rows_of (found_of found.now)) (path_of grammar.entry)
+        (map (λ file. file.now) files.now) result }
 {
     if let Some(task) = task_in(name, found) {
         return judge_command(alloc, task, found, grammar, files);
@@ -487,7 +500,7 @@ pub fn arguments<'a>(alloc: Global, words: &'a [&'a str]) -> Result<Command<'a>,
 /// which asks for the built-in grammar. `grammar` takes its own word alone.
 ///
 /// A number is one or more ASCII digits, and one of 32 bits in decimal; choices are numbers joined by commas, none
-/// where the option is not given.
+/// where the option is not given. Colour is used by the word of `--color`: `auto`, `always` or `never`.
 ///
 /// # Errors
 ///

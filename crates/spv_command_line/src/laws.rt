@@ -1,10 +1,20 @@
 //! Worked examples. Each function does nothing: its contract is what is proved.
-ghost use Rattle.std.specs.Prelude.{◌≡◌, ◌∷◌, [], ℕ, List, Some, None, true, codes};
-ghost use Rattle.spv_command_line.specs.CommandLine.{IsDetailed, IsFlag, IsNaming, count_of};
+ghost use Rattle.std.specs.Prelude.{◌≡◌, ◌∷◌, [], ℕ, List, Option, Some, None, Ok, Err};
+ghost use Rattle.std.specs.Prelude.{true, false, codes};
+ghost use Rattle.std.specs.Borrow.{Bor};
+ghost use Rattle.clap.specs.Words.{Text};
+ghost use Rattle.spv_command_line.specs.CommandLine.{AnswersTo, IsColor, IsDetailed, IsFlag, IsForm, IsNaming, count_of};
+ghost use Rattle.spv_command_line.specs.declared.command_line.Color.{Color};
+ghost use Rattle.spv_command_line.specs.declared.command_line.Color.TheVariants as colors;
+ghost use Rattle.spv_command_line.specs.declared.command_line.Color.TheVariants.{Auto};
+ghost use Rattle.spv_command_line.specs.declared.command_line.Command.TheVariants.{Annotate, Graph, Rules};
+ghost use Rattle.spv_command_line.specs.declared.command_line.Form.TheVariants as forms;
+ghost use Rattle.spv_command_line.specs.declared.command_line.Form.TheVariants.{Page};
+ghost use Rattle.spv_command_line.specs.declared.command_line.UseError.TheVariants.{NoCommand};
 ghost use Rattle.spv_command_line.specs.declared.command_line.Naming.{Naming};
 ghost use Rattle.spv_command_line.specs.declared.command_line.Naming.TheVariants.{OfSeveral};
 ghost use Rattle.spv_command_line.specs.declared.command_line.Task.TheVariants.{Check, Explain};
-ghost use Rattle.spv_command_line.specs.Number.{AreNumbers, IsNumber};
+ghost use Rattle.spv_command_line.specs.Number.{AreNumbers, IsNumber, IsNumberIfAny};
 
 /// Worked examples of numbers of the command line.
 pub fn number_examples()
@@ -16,13 +26,17 @@ pub fn number_examples()
     // Two numbers, and no two where a comma stands at the end.
     ensures numbers { AreNumbers (codes "0,12") (0 ∷ 12 ∷ []) }
     ensures no_numbers { (ns : List ℕ) → ¬ (AreNumbers (codes "0,") ns) }
+    // A number that may be given, one that is not, and what is no number: `%12`.
+    ensures given { IsNumberIfAny (Some (codes "12")) (Some 12) }
+    ensures not_given { IsNumberIfAny None None }
+    ensures none_given { (n : Option ℕ) → ¬ (IsNumberIfAny (Some (codes "%12")) n) }
 {}
 
 /// Worked examples of options without a value.
 pub fn option_examples()
-    // An option that is given has the text `true`, and one that is not has none.
+    // An option that is given has the text `true`, and one that is not the text `false`.
     ensures flag { IsFlag (Some (codes "true")) true }
-    ensures no_flag { ¬ (IsFlag None true) }
+    ensures no_flag { ¬ (IsFlag (Some (codes "false")) true) }
     // With `--full` it is explained in full, and never without; `check` asks for no detail.
     ensures full { IsDetailed (Some (codes "true")) (Explain true) }
     ensures not_full { ¬ (IsDetailed None (Explain true)) }
@@ -30,7 +44,31 @@ pub fn option_examples()
     // Without options only the verdicts on several files have names, and both options fit none.
     ensures naming { IsNaming None None OfSeveral }
     ensures no_naming { (naming : Naming) → ¬ (IsNaming (Some (codes "true")) (Some (codes "true")) naming) }
+    // With `--html` a page is written, and never without.
+    ensures page { IsForm (Some (codes "true")) Page }
+    ensures no_page { ¬ (IsForm None Page) }
+    // `never` is a word for a use of colour, and `sometimes` is none; without a word the output decides.
+    ensures color { IsColor (Some (codes "never")) colors.Never }
+    ensures no_color { (color : Color) → ¬ (IsColor (Some (codes "sometimes")) color) }
+    ensures auto_color { IsColor None Auto }
     // One of two words.
     ensures count { count_of (codes "-") (codes "-" ∷ codes "a" ∷ []) ≡ 1 }
     ensures no_count { ¬ (count_of (codes "-") (codes "--" ∷ []) ≡ 1) }
+{}
+
+/// Worked examples of command lines.
+pub fn line_examples()
+    // Objects for all rules.
+    ensures rules { AnswersTo (codes "rules" ∷ codes "--json" ∷ []) (Ok (Rules None true)) }
+    // The graph of one function.
+    ensures graph { (file : Bor Text) → file.now ≡ codes "a.spv"
+        → AnswersTo (codes "graph" ∷ codes "--function" ∷ codes "4" ∷ codes "a.spv" ∷ [])
+        (Ok (Graph None file false (Some 4))) }
+    // A word for a use of colour, and what is none.
+    ensures annotate { (file : Bor Text) → file.now ≡ codes "a.spv"
+        → AnswersTo (codes "annotate" ∷ codes "a.spv" ∷ codes "--color=never" ∷ [])
+        (Ok (Annotate None file false None forms.Text colors.Never)) }
+    ensures no_color { AnswersTo (codes "annotate" ∷ codes "a.spv" ∷ codes "--color=red" ∷ []) (Err NoCommand) }
+    // `show` writes no object.
+    ensures no_object { AnswersTo (codes "show" ∷ codes "a.spv" ∷ codes "--json" ∷ []) (Err NoCommand) }
 {}

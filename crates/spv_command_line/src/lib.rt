@@ -6,10 +6,12 @@ pub mod laws;
 mod manual;
 mod misfit;
 mod number;
+mod options;
 mod program;
 
 pub use command_line::{
-    Command, Naming, Task, UseError, arguments, arguments_in, help, is_verbose, text_asked,
+    Color, Command, Form, Naming, Task, UseError, arguments, arguments_in, help, is_verbose,
+    text_asked,
 };
 pub use misfit::{advice, shown_word};
 pub use spv_rules::{AnyCode, Code, ErrorCode};

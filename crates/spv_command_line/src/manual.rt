@@ -37,7 +37,8 @@ Example:
 pub const CHECK: &str =
     "Writes `valid`, or the line of the first rule that the module breaks. Of several files it writes
 `FILE: VERDICT`, a line each, in order; what cannot be read is told on the standard error, and the
-next file follows. Of --with-filename and --no-filename only one may be given.
+next file follows. Of --with-filename and --no-filename only one may be given. With --json each file
+has one line, a JSON object, and so has one that cannot be read.
 
 Exit status:
   0  each module is valid
@@ -51,7 +52,8 @@ Example:
 pub const EXPLAIN: &str =
     "Writes the verdict as `check` does, and after it what explains it: the rule, the instruction, its
 place and what shows that it breaks the rule. Of several files each part begins with
-`FILE: VERDICT`. Of --with-filename and --no-filename only one may be given.
+`FILE: VERDICT`. Of --with-filename and --no-filename only one may be given. With --json each file
+has one line, a JSON object that says the same, and so has one that cannot be read.
 
 Exit status:
   0  each module is valid
@@ -72,6 +74,35 @@ Exit status:
 
 Example:
   spv show kernel.spv";
+
+/// Behind the options of `annotate`.
+pub const ANNOTATE: &str =
+    "Writes the lines that `show` writes, and behind each as a comment the numbers of its instruction and
+of its first word, and the names of its ids. Where the module is not valid, comments below the
+instruction of the fault explain it. `asm` reads the text of `show`, and not this one.
+
+Exit status:
+  0  the text was written
+  1  the verdict line was written: the bytes are no list of instructions, or with --function the
+     module breaks a rule of W, I, P or L
+  2  an error: a line on the standard error tells it
+
+Example:
+  spv annotate --html kernel.spv > kernel.html";
+
+/// Behind the options of `graph`.
+pub const GRAPH: &str =
+    "Writes a graph in DOT, which graphviz draws: the functions and their calls, or the blocks of one
+function and where each leads. Where the module is not valid, what breaks the rule is red.
+
+Exit status:
+  0  the graph was written
+  1  the verdict line was written: the bytes are no list of instructions, or with --function the
+     module breaks a rule of W, I, P or L
+  2  an error: a line on the standard error tells it
+
+Example:
+  spv graph --function 4 kernel.spv | dot -Tsvg > kernel.svg";
 
 /// Behind the options of `asm`.
 pub const ASM: &str =

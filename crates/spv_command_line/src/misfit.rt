@@ -30,6 +30,10 @@ fn own_reason(matches: &ArgMatches<'_>) -> &'static str {
         "trace" => {
             "ID, N and those in LIST are decimal numbers below 4294967296, with a comma between two in LIST"
         }
+        "annotate" => {
+            "ID is a decimal number below 4294967296, and WHEN is `auto`, `always` or `never`"
+        }
+        "graph" => "ID is a decimal number below 4294967296",
         "asm" => "OUT is FILE itself",
         "rules" => "no code has this name; `spv rules` writes all of them",
         _ => "the words fit no command",

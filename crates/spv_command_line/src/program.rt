@@ -1,8 +1,10 @@
 //! The command line that `clap` reads: a table of the commands and of what stands behind the name of each.
-ghost use Rattle.std.specs.Prelude.{◌≡◌, false, IfOk};
+ghost use Rattle.std.specs.Prelude.{◌≡◌, ◌∷◌, [], false, IfOk, map};
 ghost use Rattle.clap.specs.Words.{app_of, rule_of, shape_of};
 ghost use Rattle.clap.specs.declared.builder.command.Command.TheViews.{out-Command};
-ghost use Rattle.spv_command_line.specs.CommandLine.{bare_program, program};
+ghost use Rattle.spv_command_line.specs.CommandLine.{annotate_command, asm_command, bare_program, check_command};
+ghost use Rattle.spv_command_line.specs.CommandLine.{explain_command, grammar_command, graph_command, program};
+ghost use Rattle.spv_command_line.specs.CommandLine.{rules_command, show_command, trace_command};
 ghost use Rattle.spv_command_line.specs.inner.Program.{rule_by, shape_by, with_arguments, with_commands};
 
 use crate::manual;
@@ -83,6 +85,22 @@ const QUIET: Argument = Argument {
     help: "Writes no verdict: the exit status tells it; errors are told all the same",
 };
 
+const JSON: Argument = Argument {
+    name: "json",
+    form: Form::Flag,
+    value: "",
+    required: false,
+    help: "Writes a JSON object for each file, a line each",
+};
+
+const RULES_JSON: Argument = Argument {
+    name: "json",
+    form: Form::Flag,
+    value: "",
+    required: false,
+    help: "Writes a JSON object for each code, a line each",
+};
+
 const VERBOSE: Argument = Argument {
     name: "verbose",
     form: Form::Flag,
@@ -129,6 +147,46 @@ const BIG: Argument = Argument {
     value: "",
     required: false,
     help: "The highest byte of a word stands first",
+};
+
+const EXPLAINED: Argument = Argument {
+    name: "explain",
+    form: Form::Flag,
+    value: "",
+    required: false,
+    help: "Writes behind the line of a fault its rule, the line of the text, and what is wanted and found there",
+};
+
+const ONLY_FUNCTION: Argument = Argument {
+    name: "function",
+    form: Form::Option,
+    value: "ID",
+    required: false,
+    help: "The id of the only function that is written",
+};
+
+const DRAWN_FUNCTION: Argument = Argument {
+    name: "function",
+    form: Form::Option,
+    value: "ID",
+    required: false,
+    help: "The id of the function whose blocks are drawn; where it is left out, the calls are",
+};
+
+const HTML: Argument = Argument {
+    name: "html",
+    form: Form::Flag,
+    value: "",
+    required: false,
+    help: "Writes a page of HTML, which needs no other file",
+};
+
+const COLOR: Argument = Argument {
+    name: "color",
+    form: Form::Option,
+    value: "WHEN",
+    required: false,
+    help: "When the text has colour: auto (on a terminal, unless NO_COLOR is set), always or never",
 };
 
 const FUNCTION: Argument = Argument {
@@ -190,6 +248,7 @@ const CHECK: &[Argument] = &[
     WITH_FILENAME,
     NO_FILENAME,
     QUIET,
+    JSON,
     VERBOSE,
 ];
 
@@ -202,11 +261,12 @@ const EXPLAIN: &[Argument] = &[
     WITH_FILENAME,
     NO_FILENAME,
     QUIET,
+    JSON,
     VERBOSE,
 ];
 
-/// The commands, in the order in which help tells them.
-static COMMANDS: [Entry; 7] = [
+/// The commands that say whether a module is valid.
+static JUDGING: [Entry; 2] = [
     Entry {
         name: "check",
         about: "Writes the verdict on a module, or on each of several",
@@ -219,6 +279,10 @@ static COMMANDS: [Entry; 7] = [
         notes: manual::EXPLAIN,
         arguments: EXPLAIN,
     },
+];
+
+/// The commands that write out a module or a part of it.
+static SHOWING: [Entry; 4] = [
     Entry {
         name: "show",
         about: "Writes the text of a module",
@@ -226,10 +290,16 @@ static COMMANDS: [Entry; 7] = [
         arguments: &[GRAMMAR, MODULE, AS_1_6, VERBOSE],
     },
     Entry {
-        name: "asm",
-        about: "Makes the module of a text",
-        notes: manual::ASM,
-        arguments: &[GRAMMAR, TEXT, OUT, BIG, VERBOSE],
+        name: "annotate",
+        about: "Writes the text of a module for people, with comments",
+        notes: manual::ANNOTATE,
+        arguments: &[GRAMMAR, MODULE, ONLY_FUNCTION, HTML, COLOR, AS_1_6, VERBOSE],
+    },
+    Entry {
+        name: "graph",
+        about: "Draws the calls of a module, or the blocks of a function, in DOT",
+        notes: manual::GRAPH,
+        arguments: &[GRAMMAR, MODULE, DRAWN_FUNCTION, AS_1_6, VERBOSE],
     },
     Entry {
         name: "trace",
@@ -237,11 +307,21 @@ static COMMANDS: [Entry; 7] = [
         notes: manual::TRACE,
         arguments: &[GRAMMAR, MODULE, FUNCTION, CHOICES, LIMIT, AS_1_6, VERBOSE],
     },
+];
+
+/// The other commands.
+static OTHERS: [Entry; 3] = [
+    Entry {
+        name: "asm",
+        about: "Makes the module of a text",
+        notes: manual::ASM,
+        arguments: &[GRAMMAR, TEXT, OUT, BIG, EXPLAINED, VERBOSE],
+    },
     Entry {
         name: "rules",
         about: "Writes what each code of a verdict or an error says",
         notes: manual::RULES,
-        arguments: &[CODE, VERBOSE],
+        arguments: &[CODE, RULES_JSON, VERBOSE],
     },
     Entry {
         name: "grammar",
@@ -304,44 +384,74 @@ fn bare_words<'a>(alloc: Global) -> clap::Command<'a>
     ensures { app_of result ≡ bare_program }
 {
     clap::Command::new(alloc, "spv")
-        .about("Checks, explains, shows, assembles and traces SPIR-V 1.6 kernel modules")
+        .about("Checks, explains, shows, draws, assembles and traces SPIR-V 1.6 kernel modules")
         .after_help(manual::PROGRAM)
         .version(manual::VERSION)
         .no_binary_name(true)
         .subcommand_required(true)
 }
 
-/// The program with these commands.
-fn program_of<'a>(alloc: Global, rows: &[Entry]) -> Result<clap::Command<'a>, AllocError>
-    ensures { IfOk result (λ c. app_of c ≡ with_commands bare_program rows.now) }
+/// A program with these commands more.
+fn with_commands<'a>(
+    alloc: Global,
+    program: clap::Command<'a>,
+    rows: &[Entry],
+) -> Result<clap::Command<'a>, AllocError>
+    ensures { IfOk result (λ c. app_of c ≡ with_commands (app_of program.entry) rows.now) }
 {
-    let mut program = bare_words(alloc);
+    let mut program = program;
     for row in rows {
         program = program.subcommand(command_of(alloc, row)?)?;
     }
     Ok(program)
 }
 
-/// The table of the commands.
-fn commands() -> &'static [Entry]
-    ensures { with_commands bare_program result.now ≡ program }
+/// The commands that say whether a module is valid.
+fn judging() -> &'static [Entry]
+    ensures { map shape_by result.now ≡ check_command ∷ explain_command ∷ [] }
 {
-    &COMMANDS
+    &JUDGING
 }
 
-/// The whole command line.
+/// The commands that write out a module or a part of it.
+fn showing() -> &'static [Entry]
+    ensures { map shape_by result.now ≡ show_command ∷ annotate_command ∷ graph_command ∷ trace_command ∷ [] }
+{
+    &SHOWING
+}
+
+/// The other commands.
+fn others() -> &'static [Entry]
+    ensures { map shape_by result.now ≡ asm_command ∷ rules_command ∷ grammar_command ∷ [] }
+{
+    &OTHERS
+}
+
+/// The whole command line, with the commands in the order in which help tells them.
 pub fn all_words<'a>(alloc: Global) -> Result<clap::Command<'a>, AllocError>
     ensures { IfOk result (λ c. app_of c ≡ program) }
 {
-    program_of(alloc, commands())
+    let program = with_commands(alloc, bare_words(alloc), judging())?;
+    let program = with_commands(alloc, program, showing())?;
+    with_commands(alloc, program, others())
+}
+
+/// The name among these commands that is this word, if one is.
+fn name_among(rows: &'static [Entry], word: &str) -> Option<&'static str> {
+    for row in rows {
+        if row.name == word {
+            return Some(row.name);
+        }
+    }
+    None
 }
 
 /// The name of the command that the words begin with, if they begin with one.
 pub fn command_named(words: &[&str]) -> Option<&'static str> {
     let word = words.first()?;
-    for row in commands() {
-        if row.name == *word {
-            return Some(row.name);
+    for rows in [judging(), showing(), others()] {
+        if let Some(name) = name_among(rows, word) {
+            return Some(name);
         }
     }
     None

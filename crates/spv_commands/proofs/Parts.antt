@@ -1,5 +1,5 @@
 -- What a writer has got, and how far a run on several files is.
-use Rattle.std.proofs.Common.{◌≡◌, ◌≢◌, ◌≤◌, ◌<◌, ◌↔◌, ◌+◌, ◌-◌, ◌∙◌, ◌++◌, ◌∷◌, [], ℕ, List, Bool, true, false, IsTrue, Option, Some, None, IfSome, codes, length, max, take, drop, map, ap, sym, refl, subst, arith, append_assoc, append-nil, length-append, get_or, if◌then◌else◌}
+use Rattle.std.proofs.Common.{◌≡◌, ◌≢◌, ◌≤◌, ◌<◌, ◌↔◌, ◌⊎◌, inl, inr, ◌+◌, ◌-◌, ◌∙◌, ◌++◌, ◌∷◌, [], ℕ, List, Bool, true, false, IsTrue, Option, Some, None, IfSome, codes, length, max, take, drop, map, ap, sym, refl, subst, arith, append_assoc, append-nil, length-append, get_or, if◌then◌else◌}
 use Rattle.std.specs.Io.KnownBytes.{Appends}
 use Rattle.std.proofs.KnownBytes.{Appends-nil, Appends-trans}
 use Rattle.std.proofs.Math.Seq.{take-add, take-append-add}
@@ -15,10 +15,11 @@ use Rattle.spv_grammar.specs.declared.error.GrammarError.{GrammarError}
 use Rattle.spv_grammar.specs.declared.error.GrammarError.TheVariants.{J1, J2, J3, J4, J5, J6, J7, J8}
 use Rattle.spv_commands.specs.Trouble.{BeginsWith, Writes, file_line, grammar_text, memory_line}
 use Rattle.spv_commands.specs.declared.judging.Judging.{Judging}
-use Rattle.spv_commands.specs.Each.{AreParts, Ends, IsPart, Known}
+use Rattle.spv_commands.specs.Each.{AreParts, Ends, IsPart, Known, unread_text}
 use Rattle.spv_commands.specs.Each.{more, none}
 use Rattle.spv_commands.specs.Name.{label, shown_byte}
-use Rattle.spv_commands.specs.inner.Progress.{HasGot, WritesOn, unread_line}
+use Rattle.spv_commands.specs.inner.Progress.{HasGot, WritesOn, told_line, unread_line}
+use Rattle.spv_commands.specs.declared.judging.Part.{Part}
 use Rattle.spv_commands.specs.declared.files.Unread.{Unread}
 use Rattle.spv_commands.specs.declared.files.Unread.TheVariants.{Failed, Memory}
 
@@ -146,83 +147,70 @@ begins G how known out err before_out before_err = record {
 pub number_is : (names : List (Bor (List ℕ))) (at : ℕ) → at ≤ length names → length (map (λ n. n.now) (take at names)) ≡ at
 number_is names at h = length-map (take at names) (λ (n : Bor (List ℕ)). n.now) ∙ length-take-le at names h
 
--- a file was judged, and what is written of it was
-pub judged_on : (G : Table) (how : Judging) (known : ℕ → Known) (all : List (Bor (List ℕ))) (at : ℕ) (word : List ℕ) (any : Bor (List ℕ)) (status own next : ℕ) (told : Bool) (part : List ℕ)
-    (old_out out new_out : Option (List ℕ)) (before_out between_out after_out : ℕ) (old_err err : Option (List ℕ)) (before_err after_err : ℕ)
+-- a file had its turn, and what is written of it was
+pub part_on : (G : Table) (how : Judging) (known : ℕ → Known) (all : List (Bor (List ℕ))) (at : ℕ) (word : List ℕ) (any : Bor (List ℕ)) (status own next : ℕ) (told heard : Bool) (part line : List ℕ)
+    (old_out out new_out : Option (List ℕ)) (before_out between_out after_out : ℕ) (old_err err new_err : Option (List ℕ)) (before_err between_err after_err : ℕ)
     → at < length all → word ≡ (get_or all at any).now
-    → Going G how known (map (λ n. n.now) (take at all)) status told old_out out before_out between_out old_err err before_err after_err
-    → IsPart G how word (known at) part [] own → own ≤ 1 → next ≡ max status own
-    → WritesOn true part true out new_out between_out after_out
-    → Going G how known (map (λ n. n.now) (take (at + 1) all)) next told old_out new_out before_out after_out old_err err before_err after_err
-judged_on G how known all at word any status own next told part old_out out new_out before_out between_out after_out old_err err before_err after_err h n g p small e w =
+    → Going G how known (map (λ n. n.now) (take at all)) status told old_out out before_out between_out old_err err before_err between_err
+    → IsPart G how word (known at) part line own → own ≤ 2 → next ≡ max status own
+    → WritesOn told line heard err new_err between_err after_err → WritesOn true part true out new_out between_out after_out
+    → Going G how known (map (λ n. n.now) (take (at + 1) all)) next heard old_out new_out before_out after_out old_err new_err before_err after_err
+part_on G how known all at word any status own next told heard part line old_out out new_out before_out between_out after_out old_err err new_err before_err between_err after_err h n g p small e v w =
     let first = map (λ (m : Bor (List ℕ)). m.now) (take at all) in
     let grown : map (λ (m : Bor (List ℕ)). m.now) (take (at + 1) all) ≡ first ++ word ∷ [] =
     map_more (λ (m : Bor (List ℕ)). m.now) all at any h ∙ ap (λ (m : List ℕ). first ++ m ∷ []) (sym n) in
-    let own_part : IsPart G how word (known (length first)) part [] own =
-    subst (λ (k : ℕ). IsPart G how word (known k) part [] own) (sym (number_is all at (omega (arith, h)))) p in
+    let own_part : IsPart G how word (known (length first)) part line own =
+    subst (λ (k : ℕ). IsPart G how word (known k) part line own) (sym (number_is all at (omega (arith, h)))) p in
     let bound = g.small in
     record {
       text = g.text ++ part;
-      lines = g.lines;
-      parts = subst (λ (ls : List (List ℕ)). AreParts G how known ls (g.text ++ part) g.lines next) (sym grown)
-          (rw (e, ← (append-nil g.lines)) (more word part [] own g.parts own_part));
-      out_got = w g.text old_out before_out g.out_got;
-      err_got = g.err_got;
-      small = rw e (omega arith);
-    }
-
--- it was judged, and a write of that failed
-pub cut_on : (text : Option (List ℕ)) (G : Table) (how : Judging) (known : ℕ → Known) (all : List (Bor (List ℕ))) (at : ℕ) (word : List ℕ) (any : Bor (List ℕ)) (status own : ℕ) (told heard : Bool) (part : List ℕ)
-    (old_out out new_out : Option (List ℕ)) (before_out between_out after_out : ℕ) (old_err err new_err : Option (List ℕ)) (before_err between_err after_err : ℕ)
-    → IsTableOf text G → at < length all → word ≡ (get_or all at any).now
-    → Going G how known (map (λ n. n.now) (take at all)) status told old_out out before_out between_out old_err err before_err between_err
-    → IsPart G how word (known at) part [] own
-    → WritesOn true part false out new_out between_out after_out → WritesOn told file_line heard err new_err between_err after_err
-    → Ends text how known (map (λ n. n.now) all) (λ o. Writes o old_out new_out before_out after_out) (λ e. Writes e old_err new_err before_err after_err)
-    (after_out ≡ before_out) 2
-cut_on text G how known all at word any status own told heard part old_out out new_out before_out between_out after_out old_err err new_err before_err between_err after_err given h n g p w v =
-    let first = map (λ (m : Bor (List ℕ)). m.now) (take at all) in
-    let grown : map (λ (m : Bor (List ℕ)). m.now) (take (at + 1) all) ≡ first ++ word ∷ [] =
-    map_more (λ (m : Bor (List ℕ)). m.now) all at any h ∙ ap (λ (m : List ℕ). first ++ m ∷ []) (sym n) in
-    let own_part : IsPart G how word (known (length first)) part [] own =
-    subst (λ (k : ℕ). IsPart G how word (known k) part [] own) (sym (number_is all at (omega (arith, h)))) p in
-    let got = w g.text old_out before_out g.out_got in
-    Ends.cut G (at + 1) (g.text ++ part) g.lines (max status own) given
-    (subst (λ (ls : List (List ℕ)). AreParts G how known ls (g.text ++ part) g.lines (max status own)) (sym (take-map (λ (m : Bor (List ℕ)). m.now) (at + 1) all ∙ grown))
-    (rw (← (append-nil g.lines)) (more word part [] own g.parts own_part)))
-    got.writes (λ q. never (got.steady.1 q)) (v g.lines old_err before_err g.err_got).writes refl
-
--- what is told of a file that was not judged is its part
-part_unread : (G : Table) (how : Judging) (name : List ℕ) (known : Known) (why : Unread) → (why ≡ Failed → IfSome known (λ file. file ≡ None))
-    → IsPart G how name known [] (label name ++ unread_line why) 2
-part_unread G how name known Failed h = IsPart.unread (h refl) refl refl refl
-part_unread G how name known Memory h = IsPart.starved refl refl refl
-
--- a file was not judged, and that was told
-pub told_on : (G : Table) (how : Judging) (known : ℕ → Known) (all : List (Bor (List ℕ))) (at : ℕ) (word : List ℕ) (any : Bor (List ℕ)) (status next : ℕ) (told heard : Bool) (why : Unread)
-    (old_out out : Option (List ℕ)) (before_out after_out : ℕ) (old_err err new_err : Option (List ℕ)) (before_err between_err after_err : ℕ)
-    → at < length all → word ≡ (get_or all at any).now
-    → Going G how known (map (λ n. n.now) (take at all)) status told old_out out before_out after_out old_err err before_err between_err
-    → (why ≡ Failed → IfSome (known at) (λ file. file ≡ None)) → next ≡ max status 2
-    → WritesOn told (label word ++ unread_line why) heard err new_err between_err after_err
-    → Going G how known (map (λ n. n.now) (take (at + 1) all)) next heard old_out out before_out after_out old_err new_err before_err after_err
-told_on G how known all at word any status next told heard why old_out out before_out after_out old_err err new_err before_err between_err after_err h n g u e v =
-    let first = map (λ (m : Bor (List ℕ)). m.now) (take at all) in
-    let grown : map (λ (m : Bor (List ℕ)). m.now) (take (at + 1) all) ≡ first ++ word ∷ [] =
-    map_more (λ (m : Bor (List ℕ)). m.now) all at any h ∙ ap (λ (m : List ℕ). first ++ m ∷ []) (sym n) in
-    let line = label word ++ unread_line why in
-    let own_part : IsPart G how word (known (length first)) [] line 2 =
-    subst (λ (k : ℕ). IsPart G how word (known k) [] line 2) (sym (number_is all at (omega (arith, h)))) (part_unread G how word (known at) why u) in
-    let bound = g.small in
-    record {
-      text = g.text;
       lines = g.lines ++ line;
-      parts = subst (λ (ls : List (List ℕ)). AreParts G how known ls g.text (g.lines ++ line) next) (sym grown)
-          (rw (e, ← (append-nil g.text)) (more word [] line 2 g.parts own_part));
-      out_got = g.out_got;
+      parts = subst (λ (ls : List (List ℕ)). AreParts G how known ls (g.text ++ part) (g.lines ++ line) next) (sym grown)
+          (rw e (more word part line own g.parts own_part));
+      out_got = w g.text old_out before_out g.out_got;
       err_got = v g.lines old_err before_err g.err_got;
       small = rw e (omega arith);
     }
+
+-- a file had its turn, and a write of what is written of it failed
+pub cut_on : (text : Option (List ℕ)) (G : Table) (how : Judging) (known : ℕ → Known) (all : List (Bor (List ℕ))) (at : ℕ) (word : List ℕ) (any : Bor (List ℕ)) (status own : ℕ) (told heard last : Bool) (part line : List ℕ)
+    (old_out out new_out : Option (List ℕ)) (before_out between_out after_out : ℕ) (old_err err middle_err new_err : Option (List ℕ)) (before_err between_err told_err after_err : ℕ)
+    → IsTableOf text G → at < length all → word ≡ (get_or all at any).now
+    → Going G how known (map (λ n. n.now) (take at all)) status told old_out out before_out between_out old_err err before_err between_err
+    → IsPart G how word (known at) part line own
+    → WritesOn told line heard err middle_err between_err told_err
+    → WritesOn true part false out new_out between_out after_out → WritesOn heard file_line last middle_err new_err told_err after_err
+    → Ends text how known (map (λ n. n.now) all) (λ o. Writes o old_out new_out before_out after_out) (λ e. Writes e old_err new_err before_err after_err)
+    (after_out ≡ before_out) 2
+cut_on text G how known all at word any status own told heard last part line old_out out new_out before_out between_out after_out old_err err middle_err new_err before_err between_err told_err after_err given h n g p u w v =
+    let first = map (λ (m : Bor (List ℕ)). m.now) (take at all) in
+    let grown : map (λ (m : Bor (List ℕ)). m.now) (take (at + 1) all) ≡ first ++ word ∷ [] =
+    map_more (λ (m : Bor (List ℕ)). m.now) all at any h ∙ ap (λ (m : List ℕ). first ++ m ∷ []) (sym n) in
+    let own_part : IsPart G how word (known (length first)) part line own =
+    subst (λ (k : ℕ). IsPart G how word (known k) part line own) (sym (number_is all at (omega (arith, h)))) p in
+    let got = w g.text old_out before_out g.out_got in
+    Ends.cut G (at + 1) (g.text ++ part) (g.lines ++ line) (max status own) given
+    (subst (λ (ls : List (List ℕ)). AreParts G how known ls (g.text ++ part) (g.lines ++ line) (max status own)) (sym (take-map (λ (m : Bor (List ℕ)). m.now) (at + 1) all ∙ grown))
+    (more word part line own g.parts own_part))
+    got.writes (λ q. never (got.steady.1 q)) (v (g.lines ++ line) old_err before_err (u g.lines old_err before_err g.err_got)).writes refl
+
+-- what is written of a file that was not judged is its part
+unread_by : (G : Table) (how : Judging) (name : List ℕ) (known : Known) (why : Unread) (out : List ℕ) → (why ≡ Failed → IfSome known (λ file. file ≡ None))
+    → out ≡ unread_text how.telling name why → IsPart G how name known out (label name ++ unread_line why) 2
+unread_by G how name known Failed out h o = IsPart.unread (h refl) o refl refl
+unread_by G how name known Memory out h o = IsPart.starved (inl o) refl refl
+
+pub part_unread : (G : Table) (how : Judging) (name : List ℕ) (known : Known) (why : Unread) (part : Part) → (why ≡ Failed → IfSome known (λ file. file ≡ None)) → part.status ≡ 2
+    → (((part.unread ≡ Some why) × (part.text.items ≡ unread_text how.telling name why)) ⊎ ((part.unread ≡ Some Memory) × (part.text.items ≡ [])))
+    → IsPart G how name known part.text.items (told_line name part.unread) part.status
+part_unread G how name known why part h s (inl t) =
+    rw (t.0, s) (unread_by G how name known why part.text.items h t.1)
+part_unread G how name known why part h s (inr t) =
+    rw (t.0, s) (IsPart.starved (inr t.1) refl refl)
+
+-- nothing is told of a file that was judged
+pub nothing_on : (sound : Bool) (here : Option (List ℕ)) (failed : ℕ) → WritesOn sound [] sound here here failed failed
+nothing_on sound here failed = λ so_far old before h. subst (λ (all : List ℕ). HasGot sound all old here before failed) (sym (append-nil so_far)) h
 
 -- all files had their turn
 pub ends_on : (text : Option (List ℕ)) (G : Table) (how : Judging) (known : ℕ → Known) (all : List (Bor (List ℕ))) (at : ℕ) (status : ℕ) (told : Bool)

@@ -1,12 +1,12 @@
 -- What a command does with three bytes.
-use Rattle.std.proofs.Common.{ap, length, length-append, ◌≤◌, ◌+◌, ℕ, List, [], ◌∷◌, ◌++◌, Some, None, Bool, true, false, ◌≡◌, codes, refl, sym, subst, arith, lit≤}
+use Rattle.std.proofs.Common.{ap, length, length-append, ◌≤◌, ◌+◌, ℕ, List, [], ◌∷◌, ◌++◌, Option, Some, None, Bool, true, false, ◌≡◌, codes, refl, sym, subst, arith, lit≤}
 use Rattle.spv_words.specs.Header.{IsFirstBroken, IsModule}
 use Rattle.spv_words.specs.declared.words.Order.{Order}
 use Rattle.spv_words.specs.declared.words.WordError.{WordError}
 use Rattle.spv_words.specs.declared.words.WordError.TheVariants.{W2}
 use Rattle.spv_table.specs.Table.{Table}
 use Rattle.spv_command_line.specs.declared.command_line.Command.{Command}
-use Rattle.spv_command_line.specs.declared.command_line.Command.TheVariants.{Judge, Show, Asm, Trace, Rules, Grammar}
+use Rattle.spv_command_line.specs.declared.command_line.Command.TheVariants.{Judge, Show, Asm, Trace, Rules, Grammar, Annotate, Graph}
 use Rattle.spv_command_line.specs.declared.command_line.Task.TheVariants as tasks
 use Rattle.spv_commands.specs.Example.{answer_of, empty_grammar}
 use Rattle.spv_commands.specs.Show.{BeginsShowing, IsShowing, Shows}
@@ -15,7 +15,10 @@ use Rattle.spv_explain.specs.Stream.{BeginsExplaining, Explains}
 use Rattle.spv_verdict.specs.Stream.{Begins, TellsVerdict}
 use Rattle.spv_verdict.specs.Verdict.{IsVerdict}
 use Rattle.spv_verdict.proofs.Verdicts.{refused_is_not_valid}
-use Rattle.spv_commands.specs.Task.{BeginsByText, BeginsGrammar, DoesByText, MakesNothing, ReadsNoFile, WritesGrammar, detail_of, taken}
+use Rattle.spv_commands.specs.Task.{BeginsByText, BeginsGrammar, DoesByText, MakesNothing, ReadsNoFile, WritesGrammar, detail_of, taken, view_of}
+use Rattle.spv_views.specs.View.{BeginsViewing, Views}
+use Rattle.spv_views.specs.declared.view.View.{View}
+use Rattle.spv_views.specs.declared.view.View.TheVariants as view
 use Rattle.spv_fault_lines.specs.declared.fact.Detail.{Detail}
 use Rattle.spv_commands.specs.Trace.{BeginsTracing, Traces}
 use Rattle.spv_builtin.specs.Source.{IsTableOf}
@@ -80,43 +83,69 @@ pub does_short : (c : Command) (G : Table) → ¬ (ReadsNoFile c) → MakesNothi
     → ((detail : Detail) → Explains detail G (1 ∷ 2 ∷ 3 ∷ []) (9 ∷ []) (Some (9 ∷ codes "fault W2" ++ (line_end ++ refused_text W2 (1 ∷ 2 ∷ 3 ∷ [])))) false)
     → Shows G (1 ∷ 2 ∷ 3 ∷ []) (9 ∷ []) (Some (9 ∷ codes "fault W2" ++ line_end)) false
     → ((function : ℕ) (choices : List ℕ) (limit : ℕ) → Traces G function choices limit (1 ∷ 2 ∷ 3 ∷ []) (9 ∷ []) (Some (9 ∷ codes "fault W2" ++ line_end)) false)
+    → ((how : View) (function : Option ℕ) → Views how G function (1 ∷ 2 ∷ 3 ∷ []) (9 ∷ []) (Some (9 ∷ codes "fault W2" ++ line_end)) false)
     → DoesByText c (Some empty_grammar) (1 ∷ 2 ∷ 3 ∷ []) (Some (9 ∷ [])) (Some (9 ∷ answer_of c)) None None false
-does_short (Judge tasks.Check g fs v p q) G r n given tells explains shows traces =
+does_short (Judge tasks.Check g fs v p q j) G r n given tells explains shows traces views =
     record { table = G; given = given; does = as_taken (λ bytes. TellsVerdict G bytes (9 ∷ []) (Some (9 ∷ codes "fault W2" ++ line_end)) false) v tells }
-does_short (Judge (tasks.Explain full) g fs v p q) G r n given tells explains shows traces =
+does_short (Judge (tasks.Explain full) g fs v p q j) G r n given tells explains shows traces views =
     record { table = G; given = given; does = as_taken (λ bytes. Explains (detail_of full) G bytes (9 ∷ []) (Some (9 ∷ codes "fault W2" ++ (line_end ++ refused_text W2 (1 ∷ 2 ∷ 3 ∷ [])))) false) v (explains (detail_of full)) }
-does_short (Show g f v) G r n given tells explains shows traces =
+does_short (Show g f v) G r n given tells explains shows traces views =
     record { table = G; given = given; does = as_taken (λ bytes. Shows G bytes (9 ∷ []) (Some (9 ∷ codes "fault W2" ++ line_end)) false) v shows }
-does_short (Asm g f o b) G r n given tells explains shows traces = absurd n
-does_short (Trace g f function choices limit v) G r n given tells explains shows traces = record {
+does_short (Asm g f o b x) G r n given tells explains shows traces views = absurd n
+does_short (Trace g f function choices limit v) G r n given tells explains shows traces views = record {
   table = G;
   given = given;
   does = as_taken (λ bytes. Traces G function choices.items limit bytes (9 ∷ []) (Some (9 ∷ codes "fault W2" ++ line_end)) false) v
       (traces function choices.items limit);
 }
-does_short (Rules code) G r n given tells explains shows traces = absurd (r tt)
-does_short (Grammar file) G r n given tells explains shows traces = absurd (r tt)
+does_short (Annotate g f v function form color) G r n given tells explains shows traces views = record {
+  table = G;
+  given = given;
+  does = as_taken (λ bytes. Views (view_of form color f) G function bytes (9 ∷ []) (Some (9 ∷ codes "fault W2" ++ line_end)) false) v
+      (views (view_of form color f) function);
+}
+does_short (Graph g f v function) G r n given tells explains shows traces views = record {
+  table = G;
+  given = given;
+  does = as_taken (λ bytes. Views view.Graph G function bytes (9 ∷ []) (Some (9 ∷ codes "fault W2" ++ line_end)) false) v
+      (views view.Graph function);
+}
+does_short (Rules code j) G r n given tells explains shows traces views = absurd (r tt)
+does_short (Grammar file) G r n given tells explains shows traces views = absurd (r tt)
 
 pub begins_short : (c : Command) (G : Table) → ¬ (ReadsNoFile c) → MakesNothing c → IsTableOf (Some empty_grammar) G → Begins G (1 ∷ 2 ∷ 3 ∷ []) (9 ∷ []) (Some (9 ∷ codes "fault"))
     → ((detail : Detail) → BeginsExplaining detail G (1 ∷ 2 ∷ 3 ∷ []) (9 ∷ []) (Some (9 ∷ codes "fault")))
     → BeginsShowing G (1 ∷ 2 ∷ 3 ∷ []) (9 ∷ []) (Some (9 ∷ codes "fault"))
     → ((function : ℕ) (choices : List ℕ) (limit : ℕ) → BeginsTracing G function choices limit (1 ∷ 2 ∷ 3 ∷ []) (9 ∷ []) (Some (9 ∷ codes "fault")))
+    → ((how : View) (function : Option ℕ) → BeginsViewing how G function (1 ∷ 2 ∷ 3 ∷ []) (9 ∷ []) (Some (9 ∷ codes "fault")))
     → BeginsByText c (Some empty_grammar) (1 ∷ 2 ∷ 3 ∷ []) (Some (9 ∷ [])) (Some (9 ∷ codes "fault")) None None
-begins_short (Judge tasks.Check g fs v p q) G r n given begins explained shown traced =
+begins_short (Judge tasks.Check g fs v p q j) G r n given begins explained shown traced viewed =
     record { table = G; given = given; begins = as_taken (λ bytes. Begins G bytes (9 ∷ []) (Some (9 ∷ codes "fault"))) v begins }
-begins_short (Judge (tasks.Explain full) g fs v p q) G r n given begins explained shown traced =
+begins_short (Judge (tasks.Explain full) g fs v p q j) G r n given begins explained shown traced viewed =
     record { table = G; given = given; begins = as_taken (λ bytes. BeginsExplaining (detail_of full) G bytes (9 ∷ []) (Some (9 ∷ codes "fault"))) v (explained (detail_of full)) }
-begins_short (Show g f v) G r n given begins explained shown traced =
+begins_short (Show g f v) G r n given begins explained shown traced viewed =
     record { table = G; given = given; begins = as_taken (λ bytes. BeginsShowing G bytes (9 ∷ []) (Some (9 ∷ codes "fault"))) v shown }
-begins_short (Asm g f o b) G r n given begins explained shown traced = absurd n
-begins_short (Trace g f function choices limit v) G r n given begins explained shown traced = record {
+begins_short (Asm g f o b x) G r n given begins explained shown traced viewed = absurd n
+begins_short (Trace g f function choices limit v) G r n given begins explained shown traced viewed = record {
   table = G;
   given = given;
   begins = as_taken (λ bytes. BeginsTracing G function choices.items limit bytes (9 ∷ []) (Some (9 ∷ codes "fault"))) v
       (traced function choices.items limit);
 }
-begins_short (Rules code) G r n given begins explained shown traced = absurd (r tt)
-begins_short (Grammar file) G r n given begins explained shown traced = absurd (r tt)
+begins_short (Annotate g f v function form color) G r n given begins explained shown traced viewed = record {
+  table = G;
+  given = given;
+  begins = as_taken (λ bytes. BeginsViewing (view_of form color f) G function bytes (9 ∷ []) (Some (9 ∷ codes "fault"))) v
+      (viewed (view_of form color f) function);
+}
+begins_short (Graph g f v function) G r n given begins explained shown traced viewed = record {
+  table = G;
+  given = given;
+  begins = as_taken (λ bytes. BeginsViewing view.Graph G function bytes (9 ∷ []) (Some (9 ∷ codes "fault"))) v
+      (viewed view.Graph function);
+}
+begins_short (Rules code j) G r n given begins explained shown traced viewed = absurd (r tt)
+begins_short (Grammar file) G r n given begins explained shown traced viewed = absurd (r tt)
 
 -- ---- a grammar file
 

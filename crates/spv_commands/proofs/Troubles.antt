@@ -5,22 +5,24 @@ use Rattle.spv_grammar.specs.declared.error.GrammarError.{GrammarError}
 use Rattle.spv_grammar.specs.declared.error.GrammarError.TheVariants.{J1, J2, J3, J4, J5, J6, J7, J8}
 use Rattle.spv_table.specs.Table.{Table}
 use Rattle.spv_commands.specs.Streams.{AnyFailed, IsAnswered, IsDone, Reading, Writing}
-use Rattle.spv_commands.specs.Task.{BeginsToDo, Does, DoesByText, IsNoText, LacksEntry, LacksEntryByText, taken_by}
+use Rattle.spv_commands.specs.Task.{BeginsToDo, Does, DoesByText, IsNoText, LacksAsked, LacksAskedByText, LacksEntry, LacksEntryByText, taken_by}
 use Rattle.spv_command_line.specs.declared.command_line.Command.{Command}
-use Rattle.spv_command_line.specs.declared.command_line.Command.TheVariants.{Judge, Show, Asm, Trace, Rules, Grammar as GrammarOf}
-use Rattle.spv_commands.specs.Trouble.{IsErrorLine, refused, file, entry, memory, grammar_text, trouble_text}
+use Rattle.spv_command_line.specs.declared.command_line.Command.TheVariants.{Judge, Show, Asm, Trace, Rules, Grammar as GrammarOf, Annotate, Graph}
+use Rattle.spv_commands.specs.Trouble.{IsErrorLine, refused, file, entry, function, memory, grammar_text, trouble_text}
 use Rattle.spv_commands.specs.inner.Ending.{EndsByTable, EndsByText, EndsUnread, reading_by}
 use Rattle.spv_commands.specs.declared.program.Trouble.{Trouble}
-use Rattle.spv_commands.specs.declared.program.Trouble.TheVariants.{File, Grammar, Memory, NoEntry}
+use Rattle.spv_commands.specs.declared.program.Trouble.TheVariants.{File, Grammar, Memory, NoEntry, NoFunction}
 
 -- a trouble of a command has its reason
 line_of : (command : Command) (text : Option (List ℕ)) (G : Table) (known : Option (List ℕ)) (failed : Type 0) (r : Result Bool Trouble) → IsTableOf text G
-    → IfErr r (λ t. (t ≡ File) ⊎ ((t ≡ NoEntry) × LacksEntry command G (option_map (taken_by command) known)) ⊎ (t ≡ Memory)) → (IsErrOf r File → failed)
-    → IfErr r (λ t. IsErrorLine text failed (LacksEntryByText command text known) (trouble_text t))
+    → IfErr r (λ t. (t ≡ File) ⊎ ((t ≡ NoEntry) × LacksEntry command G (option_map (taken_by command) known))
+    ⊎ ((t ≡ NoFunction) × LacksAsked command G (option_map (taken_by command) known)) ⊎ (t ≡ Memory)) → (IsErrOf r File → failed)
+    → IfErr r (λ t. IsErrorLine text failed (LacksEntryByText command text known) (LacksAskedByText command text known) (trouble_text t))
 line_of command text G known failed (Ok v) h o w = tt
 line_of command text G known failed (Err t) h (inl e) w = rw e (file (w (ap Err e)))
 line_of command text G known failed (Err t) h (inr (inl e)) w = rw (e.0) (entry (record { table = G; given = h; lacks = e.1 }))
-line_of command text G known failed (Err t) h (inr (inr e)) w = rw e memory
+line_of command text G known failed (Err t) h (inr (inr (inl e))) w = rw (e.0) (function (record { table = G; given = h; lacks = e.1 }))
+line_of command text G known failed (Err t) h (inr (inr (inr e))) w = rw e memory
 
 some_by : {X : Type 0} (o : Option X) (P Q : X → Type 0) → ((x : X) → P x → Q x) → IfSome o P → IfSome o Q
 some_by None P Q f h = tt
@@ -37,12 +39,14 @@ of_taken take (Some bytes) P h = h
 
 -- a text is no module, and is taken as it is
 same_text : (command : Command) (known : Option (List ℕ)) → IsNoText command (option_map (taken_by command) known) → IsNoText command known
-same_text (Judge task g fs v p q) known h = absurd h
+same_text (Judge task g fs v p q j) known h = absurd h
 same_text (Show g f v) known h = absurd h
-same_text (Asm g f o b) None h = tt
-same_text (Asm g f o b) (Some bytes) h = h
-same_text (Trace g f function choices limit v) known h = absurd h
-same_text (Rules code) known h = absurd h
+same_text (Asm g f o b x) None h = tt
+same_text (Asm g f o b x) (Some bytes) h = h
+same_text (Trace g f id choices limit v) known h = absurd h
+same_text (Annotate g f v id form color) known h = absurd h
+same_text (Graph g f v id) known h = absurd h
+same_text (Rules code j) known h = absurd h
 same_text (GrammarOf f) known h = absurd h
 
 why_of : (command : Command) (f : Reading) (out made : Writing) → AnyFailed (reading_by command f) out made ⊎ IsNoText command (option_map (taken_by command) f.left)
@@ -110,21 +114,37 @@ unread Whole Begun Other f out made r read whole untouched e = record {
 }
 
 -- of two troubles there is no third
-pub of_two : (L : Type 0) (r : Result Bool Trouble) → IfErr r (λ t. (t ≡ File) ⊎ (t ≡ Memory)) → IfErr r (λ t. (t ≡ File) ⊎ ((t ≡ NoEntry) × L) ⊎ (t ≡ Memory))
-of_two L (Ok v) o = tt
-of_two L (Err t) (inl e) = inl e
-of_two L (Err t) (inr e) = inr (inr e)
+pub of_two : (L M : Type 0) (r : Result Bool Trouble) → IfErr r (λ t. (t ≡ File) ⊎ (t ≡ Memory))
+    → IfErr r (λ t. (t ≡ File) ⊎ ((t ≡ NoEntry) × L) ⊎ ((t ≡ NoFunction) × M) ⊎ (t ≡ Memory))
+of_two L M (Ok v) o = tt
+of_two L M (Err t) (inl e) = inl e
+of_two L M (Err t) (inr e) = inr (inr (inr e))
+
+-- of three there is no fourth
+pub of_entries : (L M : Type 0) (r : Result Bool Trouble) → IfErr r (λ t. (t ≡ File) ⊎ ((t ≡ NoEntry) × L) ⊎ (t ≡ Memory))
+    → IfErr r (λ t. (t ≡ File) ⊎ ((t ≡ NoEntry) × L) ⊎ ((t ≡ NoFunction) × M) ⊎ (t ≡ Memory))
+of_entries L M (Ok v) o = tt
+of_entries L M (Err t) (inl e) = inl e
+of_entries L M (Err t) (inr (inl e)) = inr (inl e)
+of_entries L M (Err t) (inr (inr e)) = inr (inr (inr e))
+
+pub of_functions : (L M : Type 0) (r : Result Bool Trouble) → IfErr r (λ t. (t ≡ File) ⊎ ((t ≡ NoFunction) × M) ⊎ (t ≡ Memory))
+    → IfErr r (λ t. (t ≡ File) ⊎ ((t ≡ NoEntry) × L) ⊎ ((t ≡ NoFunction) × M) ⊎ (t ≡ Memory))
+of_functions L M (Ok v) o = tt
+of_functions L M (Err t) (inl e) = inl e
+of_functions L M (Err t) (inr (inl e)) = inr (inr (inl e))
+of_functions L M (Err t) (inr (inr e)) = inr (inr (inr e))
 
 -- so have those of the grammar file
-pub grammar_reason : (text : Option (List ℕ)) (failed strange : Type 0) (e : GrammarError) → (e ≢ J8 → breaks text e) → IsErrorLine text failed strange (grammar_text e)
-grammar_reason text failed strange J8 h = memory
-grammar_reason text failed strange J1 h = refused J1 (h (λ q. cc))
-grammar_reason text failed strange J2 h = refused J2 (h (λ q. cc))
-grammar_reason text failed strange J3 h = refused J3 (h (λ q. cc))
-grammar_reason text failed strange J4 h = refused J4 (h (λ q. cc))
-grammar_reason text failed strange J5 h = refused J5 (h (λ q. cc))
-grammar_reason text failed strange J6 h = refused J6 (h (λ q. cc))
-grammar_reason text failed strange J7 h = refused J7 (h (λ q. cc))
+pub grammar_reason : (text : Option (List ℕ)) (failed strange absent : Type 0) (e : GrammarError) → (e ≢ J8 → breaks text e) → IsErrorLine text failed strange absent (grammar_text e)
+grammar_reason text failed strange absent J8 h = memory
+grammar_reason text failed strange absent J1 h = refused J1 (h (λ q. cc))
+grammar_reason text failed strange absent J2 h = refused J2 (h (λ q. cc))
+grammar_reason text failed strange absent J3 h = refused J3 (h (λ q. cc))
+grammar_reason text failed strange absent J4 h = refused J4 (h (λ q. cc))
+grammar_reason text failed strange absent J5 h = refused J5 (h (λ q. cc))
+grammar_reason text failed strange absent J6 h = refused J6 (h (λ q. cc))
+grammar_reason text failed strange absent J7 h = refused J7 (h (λ q. cc))
 
 -- a refused grammar file, before anything is read or written
 pub grammar_ends : (command : Command) (text : Option (List ℕ)) (f : Reading) (out made : Writing) (e : GrammarError) → (e ≢ J8 → breaks text e)
@@ -138,7 +158,7 @@ grammar_ends command text f out made e h x y z o m = record {
     unmade = λ q. m;
     begun = λ t. elim t [ inl a ↦ absurd (y a) | inr c ↦ absurd (z c) ];
   };
-  reason = grammar_reason text _ _ e h;
+  reason = grammar_reason text _ _ _ e h;
 }
   where
     any_known : (o : Option (List ℕ)) → IfSome o (λ bytes. Unit {0})

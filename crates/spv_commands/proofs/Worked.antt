@@ -1,5 +1,5 @@
 -- Worked examples of grammar files.
-use Rattle.std.proofs.Common.{◌≡◌, ◌++◌, [], Some, None, IsUtf8, codes, refl}
+use Rattle.std.proofs.Common.{◌∷◌, ◌+◌, ℕ, List, ap, arith, length, length-append, ◌≡◌, ◌++◌, [], Some, None, IsUtf8, codes, refl}
 use Rattle.spv_table.specs.Table.{Table}
 use Rattle.spv_grammar.specs.declared.error.GrammarError.TheVariants.{J1}
 use Rattle.serde_json.specs.Read.{read as read_text}
@@ -11,6 +11,9 @@ use Rattle.spv_commands.specs.Example.{empty_grammar}
 use Rattle.spv_builtin.specs.Source.{IsTableOf}
 use Rattle.spv_commands.specs.Trouble.{IsErrorLine}
 use Rattle.spv_commands.specs.Trouble.IsErrorLine.{refused as broken}
+use Rattle.json.specs.Print.{print}
+use Rattle.spv_rules.specs.declared.errors.AnyCode.{AnyCode}
+use Rattle.spv_explain.specs.Json.{AreRuleLines, json_line}
 use Rattle.spv_verdict.specs.Verdict.{line_end}
 
 -- the text of two empty lists, and no text at all
@@ -32,5 +35,13 @@ empty_given g = record { tree = empty_tree; utf8 = empty_utf8; is_tree = empty_r
 pub nothing_given : (G : Table) → ¬ (IsTableOf (Some []) G)
 nothing_given G t = let e = t.is_tree in let n = nothing_read in cc
 
-pub nothing_breaks : (failed strange : Type 0) → IsErrorLine (Some []) failed strange (codes "error J1" ++ line_end)
-nothing_breaks failed strange = broken J1 (λ _. nothing_read)
+pub nothing_breaks : (failed strange absent : Type 0) → IsErrorLine (Some []) failed strange absent (codes "error J1" ++ line_end)
+nothing_breaks failed strange absent = broken J1 (λ _. nothing_read)
+
+-- an object has a line
+pub no_object : (code : AnyCode) (text : List ℕ) → text ≡ [] → ¬ (AreRuleLines (code ∷ []) text)
+no_object _ _ e (AreRuleLines.more code further tokens lines told rest) =
+    let l : length (json_line tokens ++ lines) ≡ 0 = ap length e in
+    let m : length (json_line tokens ++ lines) ≡ length (json_line tokens) + length lines = length-append (json_line tokens) lines in
+    let n : length (json_line tokens) ≡ length (print tokens) + 1 = length-append (print tokens) (10 ∷ []) in
+    omega (arith, l, m, n)

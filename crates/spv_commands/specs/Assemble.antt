@@ -14,6 +14,7 @@ use Rattle.spv_lines.specs.Text.{IsReadText}
 use Rattle.spv_lines.specs.Fault.{IsFailure}
 use Rattle.spv_lines.specs.declared.asm_error.AsmCode.{AsmCode}
 use Rattle.spv_lines.specs.declared.asm_error.AsmCode.TheVariants.{S1, S2, S3, S4, S5, S6}
+use Rattle.spv_text_fault.specs.Lines.{Tells}
 use Rattle.spv_commands.specs.Trouble.{BeginsWith}
 use Rattle.spv_verdict.specs.Verdict.{line_end}
 
@@ -29,6 +30,21 @@ asm_code_text S6 = codes "S6"
 -- `fault S3 line 7`, as an example: lines are counted from 1
 abbrev pub text_fault_line : AsmCode → ℕ → List ℕ
 text_fault_line code line = codes "fault " ++ asm_code_text code ++ codes " line " ++ decimal line ++ line_end
+
+-- What is told of the fault of a text at a line: `fault S3 line 7`, and behind it, where that is asked for, lines that
+-- say why, with a sentence for the code.
+pub data TellsFault (G : Table) (text : List ℕ) (code : AsmCode) (line : ℕ) : Bool → List ℕ → Type 0 where
+  alone : TellsFault G text code line false (text_fault_line code line)
+  explained : (sentence lines : List ℕ) → Tells G sentence text code line lines
+      → TellsFault G text code line true (text_fault_line code line ++ lines)
+
+-- The text is UTF-8, and this is what is told of its first fault.
+pub record IsFaultOf (G : Table) (explain : Bool) (text written : List ℕ) : Type 0 where
+  pub code : AsmCode
+  pub line : ℕ
+  pub utf8 : IsUtf8 text
+  pub fails : IsFailure G text code line
+  pub told : TellsFault G text code line explain written
 
 -- the order of the bytes that are made
 abbrev pub order_of : Bool → Order
@@ -46,24 +62,23 @@ pub record IsImageOf (G : Table) (text words : List ℕ) : Type 0 where
 
 -- The standard output that held the bytes `old`, where they are known, holds `new`, and the file that held the bytes
 -- `held`, where they are known, holds `kept`. The answer tells whether the text is that of a module.
-pub data Assembles (G : Table) (o : Order) (text : List ℕ) (old new held kept : Option (List ℕ)) : Bool
+pub data Assembles (G : Table) (o : Order) (explain : Bool) (text : List ℕ) (old new held kept : Option (List ℕ)) : Bool
     → Type 0 where
   -- it is: the file also holds all the bytes that stand for the words in the order, and the standard output is as it
   -- was
   made : (words : List ℕ) → IsImageOf G text words → Keeps old new
       → IfSome held (λ xs. HoldsBytes o words xs kept (4 * length words))
-      → Assembles G o text old new held kept true
-  -- it is not: the standard output also holds the line of the first fault, and the file is as it was
-  failed : (code : AsmCode) (line : ℕ) → IsUtf8 text → IsFailure G text code line
-      → Appends old new (text_fault_line code line) → Keeps held kept
-      → Assembles G o text old new held kept false
+      → Assembles G o explain text old new held kept true
+  -- it is not: the standard output also holds what is told of the first fault, and the file is as it was
+  failed : (written : List ℕ) → IsFaultOf G explain text written → Appends old new written → Keeps held kept
+      → Assembles G o explain text old new held kept false
 
--- The same for a beginning of the bytes or of the line.
-pub data BeginsAssembling (G : Table) (o : Order) (text : List ℕ)
+-- The same for a beginning of the bytes, or of what is told.
+pub data BeginsAssembling (G : Table) (o : Order) (explain : Bool) (text : List ℕ)
     (old new held kept : Option (List ℕ)) : Type 0 where
   made : (words : List ℕ) → IsImageOf G text words → Keeps old new
       → IfSome held (λ xs. (n : ℕ) × HoldsBytes o words xs kept n)
-      → BeginsAssembling G o text old new held kept
-  failed : (code : AsmCode) (line : ℕ) → IsUtf8 text → IsFailure G text code line
-      → IfSome old (λ xs. BeginsWith (text_fault_line code line) xs new) → Keeps held kept
-      → BeginsAssembling G o text old new held kept
+      → BeginsAssembling G o explain text old new held kept
+  failed : (written : List ℕ) → IsFaultOf G explain text written
+      → IfSome old (λ xs. BeginsWith written xs new) → Keeps held kept
+      → BeginsAssembling G o explain text old new held kept

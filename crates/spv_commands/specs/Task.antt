@@ -1,11 +1,17 @@
 -- What a command does, by the text of its grammar file, or by the built-in grammar (own).
-use Rattle.std.specs.Prelude.{◌≡◌, ℕ, List, Option, Bool, true, false, IfSome, IsUtf8, option_map, if◌then◌else◌}
+use Rattle.std.specs.Prelude.{◌≡◌, ◌∷◌, [], ℕ, List, Option, Some, None, Bool, true, false, IfSome, IsUtf8, option_map, if◌then◌else◌}
+use Rattle.std.specs.Borrow.{Bor}
 use Rattle.std.specs.Io.KnownBytes.{Appends}
 use Rattle.spv_table.specs.Table.{Table}
 use Rattle.spv_builtin.specs.Source.{IsTableOf}
 use Rattle.spv_builtin.specs.Text.{IsGrammarText}
 use Rattle.spv_command_line.specs.declared.command_line.Command.{Command}
 use Rattle.spv_command_line.specs.declared.command_line.Command.TheVariants.{Judge, Show, Asm, Trace, Rules, Grammar}
+use Rattle.spv_command_line.specs.declared.command_line.Command.TheVariants.{Annotate, Graph}
+use Rattle.spv_command_line.specs.declared.command_line.Color.{Color}
+use Rattle.spv_command_line.specs.declared.command_line.Color.TheVariants.{Always}
+use Rattle.spv_command_line.specs.declared.command_line.Form.{Form}
+use Rattle.spv_command_line.specs.declared.command_line.Form.TheVariants as forms
 use Rattle.spv_command_line.specs.declared.command_line.Task.{Task}
 use Rattle.spv_command_line.specs.declared.command_line.Task.TheVariants as tasks
 use Rattle.spv_commands.specs.Assemble.{Assembles, BeginsAssembling, order_of}
@@ -13,27 +19,35 @@ use Rattle.spv_commands.specs.Show.{BeginsShowing, Shows}
 use Rattle.spv_commands.specs.Trace.{BeginsTracing, HasNoEntry, Traces}
 use Rattle.spv_words.specs.Version.{as_1_6 as version_1_6}
 use Rattle.spv_verdict.specs.Stream.{Begins, TellsVerdict}
+use Rattle.spv_rules.specs.Codes.{all_codes}
+use Rattle.spv_rules.specs.declared.errors.AnyCode.{AnyCode}
+use Rattle.spv_explain.specs.Json.{AreRuleLines}
 use Rattle.spv_explain.specs.Stream.{BeginsExplaining, Explains}
 use Rattle.spv_fault_lines.specs.declared.fact.Detail.{Detail}
 use Rattle.spv_fault_lines.specs.declared.fact.Detail.TheVariants.{Short, Full}
+use Rattle.spv_views.specs.View.{BeginsViewing, LacksFunction, Views}
+use Rattle.spv_views.specs.declared.view.View.{View}
+use Rattle.spv_views.specs.declared.view.View.TheVariants as views
 use Rattle.spv_commands.specs.Trouble.{BeginsWith}
 
 -- the command needs a table
 abbrev pub ReadsGrammar : Command → Type 0
-ReadsGrammar (Rules code) = ⊥
+ReadsGrammar (Rules code json) = ⊥
 ReadsGrammar _ = Unit {0}
 
 -- the command reads no module and no text
 abbrev pub ReadsNoFile : Command → Type 0
-ReadsNoFile (Rules code) = Unit {0}
+ReadsNoFile (Rules code json) = Unit {0}
 ReadsNoFile (Grammar file) = Unit {0}
 ReadsNoFile _ = ⊥
 
 -- a module of an earlier version is taken as one of 1.6
 abbrev pub takes_as_1_6 : Command → Bool
-takes_as_1_6 (Judge task grammar files as_1_6 naming quiet) = as_1_6
+takes_as_1_6 (Judge task grammar files as_1_6 naming quiet json) = as_1_6
 takes_as_1_6 (Show grammar file as_1_6) = as_1_6
 takes_as_1_6 (Trace grammar file function choices limit as_1_6) = as_1_6
+takes_as_1_6 (Annotate grammar file as_1_6 function form color) = as_1_6
+takes_as_1_6 (Graph grammar file as_1_6 function) = as_1_6
 takes_as_1_6 _ = false
 
 -- a file's bytes as they are taken
@@ -44,15 +58,32 @@ taken as_1_6 bytes = if as_1_6 then version_1_6 bytes else bytes
 abbrev pub taken_by : Command → List ℕ → List ℕ
 taken_by command bytes = taken (takes_as_1_6 command) bytes
 
--- The standard output that held the bytes `old`, where they are known, now also holds a text, and nothing else.
-pub record WritesText (old new : Option (List ℕ)) : Type 0 where
+-- The text is what codes say, of all or of one: as lines, of which nothing is promised, or an object of JSON for each.
+abbrev pub AreRules : Option AnyCode → Bool → List ℕ → Type 0
+AreRules code false text = Unit {0}
+AreRules None true text = AreRuleLines all_codes text
+AreRules (Some code) true text = AreRuleLines (code ∷ []) text
+
+-- The standard output that held the bytes `old`, where they are known, now also holds such a text, and nothing else.
+pub record WritesRules (code : Option AnyCode) (json : Bool) (old new : Option (List ℕ)) : Type 0 where
   pub text : List ℕ
+  pub are_rules : AreRules code json text
   pub written : Appends old new text
 
--- The same for a beginning of a text.
-pub record BeginsText (old new : Option (List ℕ)) : Type 0 where
+-- The same for a beginning of such a text.
+pub record BeginsRules (code : Option AnyCode) (json : Bool) (old new : Option (List ℕ)) : Type 0 where
   pub text : List ℕ
+  pub are_rules : AreRules code json text
   pub begun : IfSome old (λ xs. BeginsWith text xs new)
+
+-- The same of what `rules` asks for.
+abbrev pub WritesRulesOf : Command → Option (List ℕ) → Option (List ℕ) → Type 0
+WritesRulesOf (Rules code json) old new = WritesRules code json old new
+WritesRulesOf _ old new = ⊥
+
+abbrev pub BeginsRulesOf : Command → Option (List ℕ) → Option (List ℕ) → Type 0
+BeginsRulesOf (Rules code json) old new = BeginsRules code json old new
+BeginsRulesOf _ old new = ⊥
 
 -- The same for the grammar file of a table.
 pub record WritesGrammar (G : Table) (old new : Option (List ℕ)) : Type 0 where
@@ -81,35 +112,53 @@ abbrev pub BeginsTask : Task → Table → List ℕ → List ℕ → Option (Lis
 BeginsTask tasks.Check G bytes old new = Begins G bytes old new
 BeginsTask (tasks.Explain full) G bytes old new = BeginsExplaining (detail_of full) G bytes old new
 
+-- a text has colour where that is asked for in any case; whether a terminal asks for it is settled before
+abbrev pub is_colored : Color → Bool
+is_colored Always = true
+is_colored _ = false
+
+-- what `annotate` writes: the text, or the page under the name of the file
+abbrev pub view_of : Form → Color → Bor (List ℕ) → View
+view_of forms.Text color file = views.Text (is_colored color)
+view_of forms.Page color file = views.Page file
+
 -- The standard output that held the bytes `old`, where they are known, now also holds what the command writes of the
 -- bytes of its file, and nothing else: a task what it writes of this one of its files, `show` the text or the line of a
--- fault, `asm` the line of a fault or nothing, `trace` the run or the verdict line, `rules` a text, of no table and no
--- file, `grammar` the grammar file of the table. The file that `asm` makes held the bytes `held`, where they are known,
+-- fault, `asm` the line of a fault or nothing, `trace` the run or the verdict line, `annotate` and `graph` what people
+-- look at or the verdict line, `rules` what codes say, of no table and no file, `grammar` the grammar file of the table. The file that `asm` makes held the bytes `held`, where they are known,
 -- and now also holds the module. The answer tells whether the line is `valid`, or the text, the module or the run was
 -- written.
 abbrev pub Does : Command → Table → List ℕ → Option (List ℕ) → Option (List ℕ) → Option (List ℕ)
     → Option (List ℕ) → Bool → Type 0
-Does (Judge task grammar files as_1_6 naming quiet) G bytes old new held kept answer =
+Does (Judge task grammar files as_1_6 naming quiet json) G bytes old new held kept answer =
     IfSome old (λ xs. DoesTask task G bytes xs new answer)
 Does (Show grammar file as_1_6) G bytes old new held kept answer = IfSome old (λ xs. Shows G bytes xs new answer)
-Does (Asm grammar file out big) G bytes old new held kept answer =
-    Assembles G (order_of big) bytes old new held kept answer
+Does (Asm grammar file out big explain) G bytes old new held kept answer =
+    Assembles G (order_of big) explain bytes old new held kept answer
 Does (Trace grammar file function choices limit as_1_6) G bytes old new held kept answer =
     IfSome old (λ xs. Traces G function choices.items limit bytes xs new answer)
-Does (Rules code) G bytes old new held kept answer = WritesText old new × (answer ≡ true)
+Does (Annotate grammar file as_1_6 function form color) G bytes old new held kept answer =
+    IfSome old (λ xs. Views (view_of form color file) G function bytes xs new answer)
+Does (Graph grammar file as_1_6 function) G bytes old new held kept answer =
+    IfSome old (λ xs. Views views.Graph G function bytes xs new answer)
+Does (Rules code json) G bytes old new held kept answer = WritesRules code json old new × (answer ≡ true)
 Does (Grammar file) G bytes old new held kept answer = WritesGrammar G old new × (answer ≡ true)
 
 -- The same for a beginning of that.
 abbrev pub BeginsToDo : Command → Table → List ℕ → Option (List ℕ) → Option (List ℕ) → Option (List ℕ)
     → Option (List ℕ) → Type 0
-BeginsToDo (Judge task grammar files as_1_6 naming quiet) G bytes old new held kept =
+BeginsToDo (Judge task grammar files as_1_6 naming quiet json) G bytes old new held kept =
     IfSome old (λ xs. BeginsTask task G bytes xs new)
 BeginsToDo (Show grammar file as_1_6) G bytes old new held kept = IfSome old (λ xs. BeginsShowing G bytes xs new)
-BeginsToDo (Asm grammar file out big) G bytes old new held kept =
-    BeginsAssembling G (order_of big) bytes old new held kept
+BeginsToDo (Asm grammar file out big explain) G bytes old new held kept =
+    BeginsAssembling G (order_of big) explain bytes old new held kept
 BeginsToDo (Trace grammar file function choices limit as_1_6) G bytes old new held kept =
     IfSome old (λ xs. BeginsTracing G function choices.items limit bytes xs new)
-BeginsToDo (Rules code) G bytes old new held kept = BeginsText old new
+BeginsToDo (Annotate grammar file as_1_6 function form color) G bytes old new held kept =
+    IfSome old (λ xs. BeginsViewing (view_of form color file) G function bytes xs new)
+BeginsToDo (Graph grammar file as_1_6 function) G bytes old new held kept =
+    IfSome old (λ xs. BeginsViewing views.Graph G function bytes xs new)
+BeginsToDo (Rules code json) G bytes old new held kept = BeginsRules code json old new
 BeginsToDo (Grammar file) G bytes old new held kept = BeginsGrammar G old new
 
 -- The same of the bytes as the command takes them, under the table of a run with a grammar file of this text, or
@@ -128,12 +177,12 @@ pub record BeginsByText (command : Command) (text : Option (List ℕ)) (bytes : 
 
 -- the command makes no file
 abbrev pub MakesNothing : Command → Type 0
-MakesNothing (Asm grammar file out big) = ⊥
+MakesNothing (Asm grammar file out big explain) = ⊥
 MakesNothing _ = Unit {0}
 
 -- the command reads a text, and the bytes of its file, if they are known, are none
 abbrev pub IsNoText : Command → Option (List ℕ) → Type 0
-IsNoText (Asm grammar file out big) known = IfSome known (λ bytes. ¬ (IsUtf8 bytes))
+IsNoText (Asm grammar file out big explain) known = IfSome known (λ bytes. ¬ (IsUtf8 bytes))
 IsNoText _ known = ⊥
 
 -- the command asks for a run, and the bytes of its file, if they are known, are a valid module in which the id is no
@@ -148,3 +197,17 @@ pub record LacksEntryByText (command : Command) (text : Option (List ℕ)) (know
   pub table : Table
   pub given : IsTableOf text table
   pub lacks : LacksEntry command table (option_map (taken_by command) known)
+
+-- the command asks for a function, and the bytes of its file, if they are known, are a module in which functions can be
+-- told apart, and which has none of that id
+abbrev pub LacksAsked : Command → Table → Option (List ℕ) → Type 0
+LacksAsked (Annotate grammar file as_1_6 function form color) G known =
+    IfSome known (λ bytes. LacksFunction G bytes function)
+LacksAsked (Graph grammar file as_1_6 function) G known = IfSome known (λ bytes. LacksFunction G bytes function)
+LacksAsked _ G known = ⊥
+
+-- the same of the bytes as the command takes them, under the table of a run
+pub record LacksAskedByText (command : Command) (text : Option (List ℕ)) (known : Option (List ℕ)) : Type 0 where
+  pub table : Table
+  pub given : IsTableOf text table
+  pub lacks : LacksAsked command table (option_map (taken_by command) known)

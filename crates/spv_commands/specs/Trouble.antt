@@ -23,6 +23,10 @@ file_line = codes "error file" ++ line_end
 abbrev pub entry_line : List ℕ
 entry_line = codes "error X1" ++ line_end
 
+-- the line that tells an id that is no function's
+abbrev pub function_line : List ℕ
+function_line = codes "error X2" ++ line_end
+
 -- the line of a refused grammar file; J8 is out of memory
 abbrev pub grammar_text : GrammarError → List ℕ
 grammar_text grammar.J1 = codes "error J1" ++ line_end
@@ -40,6 +44,7 @@ trouble_text trouble.Use = codes "error use" ++ line_end
 trouble_text trouble.File = file_line
 trouble_text trouble.Memory = memory_line
 trouble_text trouble.NoEntry = entry_line
+trouble_text trouble.NoFunction = function_line
 trouble_text (trouble.Grammar e) = grammar_text e
 
 -- what an error of a check of a stream is told as
@@ -48,13 +53,14 @@ trouble_from W9 = trouble.Memory
 trouble_from _ = trouble.File
 
 -- The error line of a run whose grammar file has this text, or which has none, for a reason: the grammar breaks a code,
--- a read or a write `failed`, an id is `strange`, or memory was refused. No clause can tell when memory is refused, so
--- the last stands for itself.
-pub data IsErrorLine (text : Option (List ℕ)) (failed strange : Type 0) : List ℕ → Type 0 where
-  refused : (e : GrammarError) → breaks text e → IsErrorLine text failed strange (grammar_text e)
-  file : failed → IsErrorLine text failed strange file_line
-  entry : strange → IsErrorLine text failed strange entry_line
-  memory : IsErrorLine text failed strange memory_line
+-- a read or a write `failed`, an id is `strange`, a function `absent`, or memory was refused. No clause can tell when
+-- memory is refused, so the last stands for itself.
+pub data IsErrorLine (text : Option (List ℕ)) (failed strange absent : Type 0) : List ℕ → Type 0 where
+  refused : (e : GrammarError) → breaks text e → IsErrorLine text failed strange absent (grammar_text e)
+  file : failed → IsErrorLine text failed strange absent file_line
+  entry : strange → IsErrorLine text failed strange absent entry_line
+  function : absent → IsErrorLine text failed strange absent function_line
+  memory : IsErrorLine text failed strange absent memory_line
 
 -- A writer that held the bytes `old` now also holds a beginning of the line, and nothing else.
 pub record BeginsWith (line old : List ℕ) (new : Option (List ℕ)) : Type 0 where

@@ -1,16 +1,19 @@
 //! What `asm` makes of the text of a stream.
 ghost use Rattle.std.specs.Prelude.{◌≡◌, ◌≢◌, ◌↔◌, IfOk, IfErr, IfSome, IsErrOf};
-ghost use Rattle.std.specs.Prelude.{IsUtf8};
+ghost use Rattle.std.specs.Prelude.{IsUtf8, true};
 ghost use Rattle.spv_verdict.specs.Outcome.{HasFailed};
 ghost use Rattle.spv_commands.specs.Streams.{IsDone, reading, writing};
-ghost use Rattle.spv_commands.specs.Assemble.{Assembles, BeginsAssembling};
-ghost use Rattle.spv_commands.specs.inner.Assembly.{ComesTo, fault_of};
+ghost use Rattle.spv_lines.specs.Fault.{IsFailure};
+ghost use Rattle.spv_commands.specs.Assemble.{Assembles, BeginsAssembling, TellsFault};
+ghost use Rattle.spv_commands.specs.inner.Assembly.{ComesTo};
 ghost use Rattle.spv_commands.specs.declared.assembling.TextError.TheVariants as trouble;
 
 use crate::text_fault::text_fault;
 use simdutf8::basic::from_utf8;
+use spv_command_line::ErrorCode;
 use spv_parser::{AsmCode, AsmError, assemble};
 use spv_table::Table;
+use spv_text_fault::reason_lines;
 use spv_words::{Failed, Image, Order, Sink, Source, write_all, write_image};
 use std::alloc::{AllocError, Global};
 
@@ -55,8 +58,10 @@ impl From<AllocError> for TextError {
 pub enum Assembly {
     /// The image of its words.
     Made(Image),
-    /// Its first fault, of S1 to S5.
+    /// Its first fault, of S1 to S5, of which the line is told.
     Fault(AsmError),
+    /// What is told of its first fault: the line, and lines that say why.
+    Told(Vec<u8>),
 }
 
 /// All the bytes of a reader, up to the end of input.
@@ -83,19 +88,62 @@ pub fn read_all<R: Source>(alloc: Global, r: &mut R) -> Result<Vec<u8>, TextErro
     Err(TextError::Memory)
 }
 
-/// What a text comes to that has no image: S6 is out of memory, and any other fault is told.
-fn faulty(error: AsmError) -> Result<Assembly, TextError>
-    ensures { result ≡ fault_of error }
-{
-    match error.code {
-        AsmCode::S6 => Err(TextError::Memory),
-        _ => Ok(Assembly::Fault(error)),
+/// What the code of a text's fault says.
+fn sentence(code: AsmCode) -> &'static str {
+    match code {
+        AsmCode::S1 => ErrorCode::S1.sentence(),
+        AsmCode::S2 => ErrorCode::S2.sentence(),
+        AsmCode::S3 => ErrorCode::S3.sentence(),
+        AsmCode::S4 => ErrorCode::S4.sentence(),
+        AsmCode::S5 => ErrorCode::S5.sentence(),
+        AsmCode::S6 => ErrorCode::S6.sentence(),
     }
 }
 
-/// What bytes come to as a text.
-fn assembly_of(alloc: Global, table: &Table, bytes: &[u8]) -> Result<Assembly, TextError>
-    ensures comes { IfOk result (λ a. ComesTo table.now bytes.now a) }
+/// What is told of the fault of a text, where it is to be said why.
+fn told_fault(
+    alloc: Global,
+    table: &Table,
+    text: &str,
+    error: AsmError,
+) -> Result<Vec<u8>, AllocError>
+    ensures { IsFailure table.now text.now error.code error.line
+        → IfOk result (λ v. TellsFault table.now text.now error.code error.line true v.items) }
+{
+    let lines = reason_lines(alloc, table, sentence(error.code), text, error)?;
+    let line = text_fault(error);
+    let mut told = Vec::from_slice(alloc, line.as_slice())?;
+    told.extend_from_slice(lines.as_bytes())?;
+    Ok(told)
+}
+
+/// What a text comes to that fails.
+fn faulty(
+    alloc: Global,
+    table: &Table,
+    explain: bool,
+    text: &str,
+    error: AsmError,
+) -> Result<Assembly, TextError>
+    ensures comes { IsFailure table.now text.now error.code error.line
+        → IfOk result (λ a. ComesTo table.now explain text.now a) }
+    ensures only { IfErr result (λ e. e ≡ trouble.Memory) }
+{
+    if !explain {
+        return Ok(Assembly::Fault(error));
+    }
+    let told = told_fault(alloc, table, text, error)?;
+    Ok(Assembly::Told(told))
+}
+
+/// What bytes come to as a text. S6 is out of memory, and any other fault is told.
+fn assembly_of(
+    alloc: Global,
+    table: &Table,
+    explain: bool,
+    bytes: &[u8],
+) -> Result<Assembly, TextError>
+    ensures comes { IfOk result (λ a. ComesTo table.now explain bytes.now a) }
     ensures no_text { IsErrOf result trouble.NotText → ¬ IsUtf8 bytes.now }
     ensures only { IfErr result (λ e. e ≢ trouble.Failed) }
 {
@@ -105,49 +153,63 @@ fn assembly_of(alloc: Global, table: &Table, bytes: &[u8]) -> Result<Assembly, T
     };
     match assemble(alloc, table, text) {
         Ok(image) => Ok(Assembly::Made(image)),
-        Err(error) => faulty(error),
+        Err(error) => match error.code {
+            AsmCode::S6 => Err(TextError::Memory),
+            _ => faulty(alloc, table, explain, text, error),
+        },
     }
 }
 
 /// What all the bytes of a reader come to as a text.
 #[tactic(auto, using(crate::proofs::Assemblings::all_known))]
-fn assembly_on<R: Source>(alloc: Global, table: &Table, r: &mut R) -> Result<Assembly, TextError>
-    ensures comes { IfSome (R.remaining r.old) (λ bytes. IfOk result (λ a. ComesTo table.now bytes a)) }
+fn assembly_on<R: Source>(
+    alloc: Global,
+    table: &Table,
+    explain: bool,
+    r: &mut R,
+) -> Result<Assembly, TextError>
+    ensures comes { IfSome (R.remaining r.old) (λ bytes. IfOk result (λ a. ComesTo table.now explain bytes a)) }
     ensures no_text { IsErrOf result trouble.NotText → IfSome (R.remaining r.old) (λ bytes. ¬ IsUtf8 bytes) }
     ensures count { HasFailed R.failures r.old r.new ↔ IsErrOf result trouble.Failed }
 {
     let bytes = read_all(alloc, r)?;
-    assembly_of(alloc, table, &bytes)
+    assembly_of(alloc, table, explain, &bytes)
 }
 
 /// Makes the module of the text that a reader's bytes up to the end of input are: writes its bytes in an order to
-/// `made`, and answers true; or, where the text fails, writes the line of its fault to `out`, and answers false.
+/// `made`, and answers true; or, where the text fails, writes the line of its fault to `out`, and answers false. Where
+/// it is to `explain`, lines behind that one say what is wanted at that place and what is found.
 ///
 /// # Errors
 ///
 /// `Failed`: a read or a write failed. After a failed read nothing was written, after a failed write a beginning of the
-/// bytes or of the line. `NotText`: the bytes are not UTF-8, and `Memory`: a growth of memory was refused; nothing was
+/// bytes or of the lines. `NotText`: the bytes are not UTF-8, and `Memory`: a growth of memory was refused; nothing was
 /// written then.
 pub fn assemble_stream<R: Source, W: Sink, O: Sink>(
     alloc: Global,
     table: &Table,
     order: Order,
+    explain: bool,
     r: &mut R,
     out: &mut W,
     made: &mut O,
 ) -> Result<bool, TextError>
     // The bytes or the line of all the bytes that the reader still gave were written, and nothing else.
-    ensures ends { IsDone (Assembles table.now order) (BeginsAssembling table.now order) trouble.Failed ⊥
+    ensures ends { IsDone (Assembles table.now order explain) (BeginsAssembling table.now order explain) trouble.Failed ⊥
         (reading R.remaining R.failures r.old r.new) (writing W.contents W.failures out.old out.new)
         (writing O.contents O.failures made.old made.new) result }
     ensures no_text { IsErrOf result trouble.NotText → IfSome (R.remaining r.old) (λ bytes. ¬ IsUtf8 bytes) }
 {
-    match assembly_on(alloc, table, r)? {
+    match assembly_on(alloc, table, explain, r)? {
         Assembly::Made(image) => match write_image(&image, order, made) {
             Ok(()) => Ok(true),
             Err(_) => Err(TextError::Failed),
         },
         Assembly::Fault(error) => match write_all(text_fault(error).as_slice(), out) {
+            Ok(()) => Ok(false),
+            Err(_) => Err(TextError::Failed),
+        },
+        Assembly::Told(lines) => match write_all(lines.as_slice(), out) {
             Ok(()) => Ok(false),
             Err(_) => Err(TextError::Failed),
         },

@@ -37,18 +37,12 @@ fn each_by<F: Files, W: Sink, E: Sink>(
     let mut number = 0usize;
     while number < names.len() {
         let name = names[number];
-        match part_of(alloc, how, table, name, number, files) {
-            Ok(part) => {
-                status = status.max(part.status);
-                if !write_on(part.text.as_slice(), true, out) {
-                    write_on(b"error file\n", told, err);
-                    return 2;
-                }
-            }
-            Err(why) => {
-                status = status.max(2);
-                told = tell(name, why, told, err);
-            }
+        let part = part_of(alloc, how, table, name, number, files);
+        status = status.max(part.status);
+        told = tell(name, part.unread, told, err);
+        if !write_on(part.text.as_slice(), true, out) {
+            write_on(b"error file\n", told, err);
+            return 2;
         }
         number += 1;
     }
@@ -60,11 +54,11 @@ fn each_by<F: Files, W: Sink, E: Sink>(
 /// `grammar` is the text of the grammar file; without one the built-in grammar is used. `names` are those of the files,
 /// `out` is the standard output, `err` the standard error. Of each file one line `NAME: VERDICT` is written, or the
 /// verdict alone where no names are asked for, before the next is read (`explain`: behind it the lines that explain
-/// it). One that does not open or whose read fails is told by `NAME: error file` on `err`, out of memory at one by
-/// `NAME: error memory`, and the next follows. In NAME a control character is `\xNN`, and a backslash `\\`. 0: each
-/// module is valid. 1: one is not. 2: there was an error. A grammar file that is refused is told first, as by `run`;
-/// and a failed write to `out` ends the run by `error file`. After a failed write to `err` nothing more is written
-/// there.
+/// it); or one object of JSON, as a line. One that does not open or whose read fails is told by `NAME: error file` on
+/// `err`, out of memory at one by `NAME: error memory`, and the next follows; where objects are written there is one
+/// for it too, if there is memory for that. In NAME a control character is `\xNN`, and a backslash `\\`. 0: each module
+/// is valid. 1: one is not. 2: there was an error. A grammar file that is refused is told first, as by `run`; and a
+/// failed write to `out` ends the run by `error file`. After a failed write to `err` nothing more is written there.
 pub fn run_each<F: Files, W: Sink, E: Sink>(
     alloc: Global,
     how: Judging,

@@ -1,20 +1,32 @@
 //! What is written of one file.
-ghost use Rattle.std.specs.Prelude.{◌≡◌, ◌++◌, ◌≤◌, ℕ, [], Some, None, IfOk, IfSome, IsErrOf};
+ghost use Rattle.std.specs.Prelude.{◌≡◌, ◌⊎◌, ◌↔◌, ◌≤◌, ℕ, [], Some, None, IfOk, IfSome, IsErrOf, IsTrue};
+ghost use Rattle.spv_verdict.specs.declared.verdict_line.Judgment.TheVariants.{Valid};
 ghost use Rattle.spv_commands.specs.Task.{DoesTask, detail_of, taken};
-ghost use Rattle.spv_commands.specs.Each.{IsPart, heading};
+ghost use Rattle.spv_commands.specs.Each.{IsAnswerOf, IsPart, Judges, error_of, heading, unread_text};
 ghost use Rattle.spv_commands.specs.Name.{label};
-ghost use Rattle.spv_commands.specs.inner.Progress.{Adds, unread_line};
-ghost use Rattle.spv_commands.specs.declared.files.Unread.TheVariants.{Failed};
+ghost use Rattle.spv_commands.specs.inner.Progress.{Adds, told_line, unread_line};
+ghost use Rattle.spv_commands.specs.declared.files.Unread.TheVariants.{Failed, Memory};
 
 use crate::files::{Files, Unread};
 use crate::name::write_label;
 use crate::writing::write_on;
 use spv_command_line::Task;
-use spv_explain::{Detail, explain_stream};
+use spv_explain::{Answer, Detail, check_json, error_json, explain_json, explain_stream};
 use spv_table::Table;
-use spv_verdict::check_stream;
+use spv_verdict::{Judgment, check_stream};
 use spv_words::{FromRead, FromWrite, Sink, replace_version};
 use std::alloc::Global;
+
+/// How a verdict is told.
+#[derive(Clone, Copy, Debug, PartialEq, Eq)]
+pub enum Telling {
+    /// By its lines alone.
+    Bare,
+    /// By its lines, behind the name of the file.
+    Named,
+    /// By an object of JSON, a line, in which the name of the file stands.
+    Json,
+}
 
 /// How each of several files is judged.
 #[derive(Clone, Copy, Debug, PartialEq, Eq)]
@@ -23,16 +35,18 @@ pub struct Judging {
     pub task: Task,
     /// Whether a module of version 1.0 to 1.5 is taken as one of 1.6.
     pub as_1_6: bool,
-    /// Whether the name of a file stands before its verdict.
-    pub is_named: bool,
+    /// How its verdict is told.
+    pub telling: Telling,
 }
 
-/// What is written of a file that was read.
+/// What is written of a file.
 #[derive(Drop)]
 pub struct Part {
     /// The text on the standard output.
     pub text: Vec<u8>,
-    /// 0 for a valid module, and 1 for any other.
+    /// Why it was not judged, which is told on the standard error, if it was not.
+    pub unread: Option<Unread>,
+    /// 0 for a valid module, 1 for any other, and 2 where it was not judged.
     pub status: u8,
 }
 
@@ -78,17 +92,6 @@ fn take_as(as_1_6: bool, bytes: &mut Vec<u8>)
     }
 }
 
-/// A text that begins with what stands before a verdict: the label of a name, or nothing.
-fn headed(alloc: Global, how: Judging, name: &str) -> Result<FromWrite<Vec<u8>>, Unread>
-    ensures text { IfOk result (λ text. text.inner.items ≡ heading how name.now) }
-    ensures only { ¬ (IsErrOf result Failed) }
-{
-    if how.is_named {
-        return labelled(alloc, name);
-    }
-    Ok(FromWrite::new(Vec::new(alloc)))
-}
-
 /// A text that begins with the label of a name.
 fn labelled(alloc: Global, name: &str) -> Result<FromWrite<Vec<u8>>, Unread>
     ensures text { IfOk result (λ text. text.inner.items ≡ label name.now) }
@@ -102,8 +105,89 @@ fn labelled(alloc: Global, name: &str) -> Result<FromWrite<Vec<u8>>, Unread>
     Ok(text)
 }
 
+/// A text that begins with what stands before a verdict: the label of a name, or nothing.
+fn headed(alloc: Global, telling: Telling, name: &str) -> Result<FromWrite<Vec<u8>>, Unread>
+    ensures text { IfOk result (λ text. text.inner.items ≡ heading telling name.now) }
+    ensures only { ¬ (IsErrOf result Failed) }
+{
+    match telling {
+        Telling::Named => labelled(alloc, name),
+        Telling::Bare | Telling::Json => Ok(FromWrite::new(Vec::new(alloc))),
+    }
+}
+
+/// What is written of a module's bytes as lines, and whether it is valid.
+fn lines_of(
+    alloc: Global,
+    how: Judging,
+    table: &Table,
+    name: &str,
+    bytes: &[u8],
+) -> Result<(Vec<u8>, bool), Unread>
+    ensures done { IfOk result (λ p.
+        DoesTask how.task table.now bytes.now (heading how.telling name.now) (Some p.0.items) p.1) }
+    ensures only { ¬ (IsErrOf result Failed) }
+{
+    let mut text = headed(alloc, how.telling, name)?;
+    let valid = add_judgment(alloc, how.task, table, bytes, &mut text)?;
+    Ok((text.inner, valid))
+}
+
+/// The object of JSON that a task tells of a module's bytes.
+fn answer_of(
+    alloc: Global,
+    task: Task,
+    table: &Table,
+    name: &str,
+    bytes: &[u8],
+) -> Result<Answer, Unread>
+    ensures told { IfOk result (λ a. IsAnswerOf task table.now name.now bytes.now a) }
+    ensures only { ¬ (IsErrOf result Failed) }
+{
+    let answer = match task {
+        Task::Check => check_json(alloc, table, Some(name), bytes),
+        Task::Explain { .. } => explain_json(alloc, table, Some(name), bytes),
+    };
+    match answer {
+        Ok(answer) => Ok(answer),
+        Err(_) => Err(Unread::Memory),
+    }
+}
+
+/// Whether a verdict is that no rule is broken.
+fn is_valid(judgment: Judgment) -> bool
+    ensures { IsTrue result ↔ (judgment ≡ Valid) }
+{
+    match judgment {
+        Judgment::Valid => true,
+        Judgment::Refused(_) => false,
+        Judgment::Broken(_) => false,
+    }
+}
+
+/// What is written of a module's bytes, and whether it is valid.
+fn judged(
+    alloc: Global,
+    how: Judging,
+    table: &Table,
+    name: &str,
+    bytes: &[u8],
+) -> Result<(Vec<u8>, bool), Unread>
+    ensures done { IfOk result (λ p. Judges how.telling how.task table.now name.now bytes.now p.0.items p.1) }
+    ensures only { ¬ (IsErrOf result Failed) }
+{
+    match how.telling {
+        Telling::Json => {
+            let answer = answer_of(alloc, how.task, table, name, bytes)?;
+            let valid = is_valid(answer.judgment);
+            Ok((answer.text, valid))
+        }
+        Telling::Bare | Telling::Named => lines_of(alloc, how, table, name, bytes),
+    }
+}
+
 /// What is written of the file of a number and a name, if it is read and its module judged.
-pub fn part_of<F: Files>(
+fn read_part<F: Files>(
     alloc: Global,
     how: Judging,
     table: &Table,
@@ -111,20 +195,71 @@ pub fn part_of<F: Files>(
     number: usize,
     files: &mut F,
 ) -> Result<Part, Unread>
-    ensures judged { IfOk result (λ part.
-        IsPart table.now how name.now (F.known files.old number) part.text.items [] part.status) }
+    ensures judged { IfOk result (λ part. (part.unread ≡ None)
+        × IsPart table.now how name.now (F.known files.old number) part.text.items [] part.status) }
     ensures unread { IsErrOf result Failed → IfSome (F.known files.old number) (λ file. file ≡ None) }
     ensures small { IfOk result (λ part. part.status ≤ 1) }
     ensures kept { (n : ℕ) → F.known files.new n ≡ F.known files.old n }
 {
     let mut bytes = files.read(alloc, number)?;
     take_as(how.as_1_6, &mut bytes);
-    let mut text = headed(alloc, how, name)?;
-    let valid = add_judgment(alloc, how.task, table, bytes.as_slice(), &mut text)?;
+    let (text, valid) = judged(alloc, how, table, name, bytes.as_slice())?;
     Ok(Part {
-        text: text.inner,
+        text,
+        unread: None,
         status: if valid { 0 } else { 1 },
     })
+}
+
+/// Why a file was not read, as an object tells it.
+fn error_by(why: Unread) -> spv_explain::Unread
+    ensures { result ≡ error_of why }
+{
+    match why {
+        Unread::Failed => spv_explain::Unread::File,
+        Unread::Memory => spv_explain::Unread::Memory,
+    }
+}
+
+/// What is written of a file that was not judged: where objects are written one that tells why, if there is memory for
+/// it.
+fn unread_part(alloc: Global, telling: Telling, name: &str, why: Unread) -> Part
+    ensures status { result.status ≡ 2 }
+    ensures told { ((result.unread ≡ Some why) × (result.text.items ≡ unread_text telling name.now why))
+        ⊎ ((result.unread ≡ Some Memory) × (result.text.items ≡ [])) }
+{
+    let mut part = Part {
+        text: Vec::new(alloc),
+        unread: Some(why),
+        status: 2,
+    };
+    if telling == Telling::Json {
+        match error_json(alloc, Some(name), error_by(why)) {
+            Ok(text) => part.text = text,
+            Err(_) => part.unread = Some(Unread::Memory),
+        }
+    }
+    part
+}
+
+/// What is written of the file of a number and a name.
+pub fn part_of<F: Files>(
+    alloc: Global,
+    how: Judging,
+    table: &Table,
+    name: &str,
+    number: usize,
+    files: &mut F,
+) -> Part
+    ensures part { IsPart table.now how name.now (F.known files.old number) result.text.items
+        (told_line name.now result.unread) result.status }
+    ensures small { result.status ≤ 2 }
+    ensures kept { (n : ℕ) → F.known files.new n ≡ F.known files.old n }
+{
+    match read_part(alloc, how, table, name, number, files) {
+        Ok(part) => part,
+        Err(why) => unread_part(alloc, how.telling, name, why),
+    }
 }
 
 /// Why a file was not judged, as a line.
@@ -137,10 +272,15 @@ fn line_of(why: Unread) -> &'static [u8]
     }
 }
 
-/// Tells why a file was not judged, where no write failed before: whether none has. It takes no memory.
-pub fn tell<E: Sink>(name: &str, why: Unread, sound: bool, err: &mut E) -> bool
-    ensures { Adds E.contents E.failures err.old err.new sound (label name.now ++ unread_line why) result }
+/// Tells why a file was not judged, if it was not, where no write failed before: whether none has. It takes no memory.
+pub fn tell<E: Sink>(name: &str, unread: Option<Unread>, sound: bool, err: &mut E) -> bool
+    ensures { Adds E.contents E.failures err.old err.new sound (told_line name.now unread) result }
 {
-    let heard = write_label(name, sound, err);
-    write_on(line_of(why), heard, err)
+    match unread {
+        Some(why) => {
+            let heard = write_label(name, sound, err);
+            write_on(line_of(why), heard, err)
+        }
+        None => sound,
+    }
 }

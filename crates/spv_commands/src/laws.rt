@@ -17,12 +17,16 @@ ghost use Rattle.spv_commands.specs.Assemble.{Assembles, BeginsAssembling};
 ghost use Rattle.spv_commands.specs.Trace.{BeginsTracing, HasNoEntry, Traces, step_line, trace_text};
 ghost use Rattle.spv_verdict.specs.declared.run.parts.Ending.TheVariants.{Finished, Limit};
 ghost use Rattle.spv_commands.specs.Task.{BeginsByText, BeginsGrammar, DoesByText, MakesNothing, ReadsNoFile};
-ghost use Rattle.spv_commands.specs.Task.{WritesGrammar, taken};
+ghost use Rattle.spv_commands.specs.Task.{AreRules, WritesGrammar, taken};
+ghost use Rattle.spv_rules.specs.declared.errors.AnyCode.{AnyCode};
+ghost use Rattle.spv_command_line.specs.declared.command_line.Command.TheVariants.{Rules};
 ghost use Rattle.spv_commands.specs.Trouble.{BeginsWith, Gets, IsErrorLine, Writes, entry_line};
-ghost use Rattle.spv_commands.specs.Trouble.{file_line, memory_line};
+ghost use Rattle.spv_commands.specs.Trouble.{file_line, function_line, memory_line};
 ghost use Rattle.spv_commands.specs.Run.{Runs, RunsRules};
 ghost use Rattle.spv_commands.specs.Streams.{IsAnswered, IsDone};
-ghost use Rattle.spv_commands.specs.Each.{AreParts, Ends, IsPart, Known, heading};
+ghost use Rattle.spv_commands.specs.Each.{AreParts, Ends, IsPart, Known, heading, unread_text};
+ghost use Rattle.spv_commands.specs.declared.files.Unread.TheVariants.{Failed};
+ghost use Rattle.spv_commands.specs.declared.judging.Telling.TheVariants.{Bare, Json, Named};
 ghost use Rattle.spv_lines.specs.Digits.{hex_digit};
 ghost use Rattle.spv_commands.specs.Name.{label, shown_byte};
 ghost use Rattle.spv_command_line.specs.declared.command_line.Command.{Command};
@@ -84,15 +88,15 @@ pub fn detail_examples()
 pub fn assemble_examples()
     // Three characters are no header: the writer that held the byte 9 got the line, and nothing is made.
     ensures assembles { (G : Table) (o : Order)
-        → Assembles G o (1 ∷ 2 ∷ 3 ∷ []) (Some (9 ∷ [])) (Some (9 ∷ codes "fault S1 line 1" ++ line_end))
+        → Assembles G o false (1 ∷ 2 ∷ 3 ∷ []) (Some (9 ∷ [])) (Some (9 ∷ codes "fault S1 line 1" ++ line_end))
         (Some []) (Some []) false }
-    ensures assembles_none { (G : Table) (o : Order) (old new held kept : Option (List ℕ))
-        → ¬ (Assembles G o (1 ∷ 2 ∷ 3 ∷ []) old new held kept true) }
+    ensures assembles_none { (G : Table) (o : Order) (explain : Bool) (old new held kept : Option (List ℕ))
+        → ¬ (Assembles G o explain (1 ∷ 2 ∷ 3 ∷ []) old new held kept true) }
     // The first five bytes of that line, and other bytes.
-    ensures begins { (G : Table) (o : Order) → BeginsAssembling G o (1 ∷ 2 ∷ 3 ∷ []) (Some (9 ∷ []))
+    ensures begins { (G : Table) (o : Order) → BeginsAssembling G o false (1 ∷ 2 ∷ 3 ∷ []) (Some (9 ∷ []))
         (Some (9 ∷ codes "fault")) (Some []) (Some []) }
-    ensures begins_none { (G : Table) (o : Order) (old new : Option (List ℕ))
-        → ¬ (BeginsAssembling G o (1 ∷ 2 ∷ 3 ∷ []) old new (Some []) (Some (3 ∷ []))) }
+    ensures begins_none { (G : Table) (o : Order) (explain : Bool) (old new : Option (List ℕ))
+        → ¬ (BeginsAssembling G o explain (1 ∷ 2 ∷ 3 ∷ []) old new (Some []) (Some (3 ∷ []))) }
 {}
 
 /// Worked examples of what is traced.
@@ -138,18 +142,20 @@ pub fn run_examples()
         (Some (9 ∷ codes "fault")) None None }
     ensures begins_nothing { (command : Command) (bytes : List ℕ) (old new held kept : Option (List ℕ))
         → ¬ (BeginsByText command (Some []) bytes old new held kept) }
-    // No text at all breaks J1, memory can always be told, `error X1` of an id that is strange, and `error file` only
-    // after a failed call.
-    ensures refused { IsErrorLine (Some []) ⊥ ⊥ (codes "error J1" ++ line_end) }
-    ensures memory { (text : Option (List ℕ)) → IsErrorLine text ⊥ ⊥ memory_line }
-    ensures no_entry { (text : Option (List ℕ)) → IsErrorLine text ⊥ (Unit {0}) entry_line }
-    ensures no_failure { (text : Option (List ℕ)) → ¬ (IsErrorLine text ⊥ ⊥ file_line) }
+    // No text at all breaks J1, memory can always be told, `error X1` of an id that is strange, `error X2` of a function
+    // that is absent, and `error file` only after a failed call.
+    ensures refused { IsErrorLine (Some []) ⊥ ⊥ ⊥ (codes "error J1" ++ line_end) }
+    ensures memory { (text : Option (List ℕ)) → IsErrorLine text ⊥ ⊥ ⊥ memory_line }
+    ensures no_entry { (text : Option (List ℕ)) → IsErrorLine text ⊥ (Unit {0}) ⊥ entry_line }
+    ensures no_function { (text : Option (List ℕ)) → IsErrorLine text ⊥ ⊥ (Unit {0}) function_line }
+    ensures no_failure { (text : Option (List ℕ)) → ¬ (IsErrorLine text ⊥ ⊥ ⊥ file_line) }
 {
     spv_grammar::laws::table_examples();
     spv_verdict::laws::stream_examples();
     explain_examples();
     show_examples();
     trace_examples();
+    spv_views::laws::view_examples();
 }
 
 /// Worked examples of the grammar file that is written.
@@ -186,22 +192,26 @@ pub fn name_examples()
 
 /// Worked examples of what is written of files.
 pub fn each_examples()
-    // A file that is known not to open is told on the standard error, and never judged.
-    ensures part { (G : Table) (how : Judging) → IsPart G how (codes "a") (Some None) []
-        (codes "a: error file" ++ line_end) 2 }
+    // A file that is known not to open is told on the standard error, and never judged; where objects are written it
+    // has one too.
+    ensures part { (G : Table) (how : Judging) → IsPart G how (codes "a") (Some None)
+        (unread_text how.telling (codes "a") Failed) (codes "a: error file" ++ line_end) 2 }
     ensures no_part { (G : Table) (how : Judging) (line : List ℕ)
         → ¬ (IsPart G how (codes "a") (Some None) line [] 0) }
+    ensures no_text { unread_text Named (codes "a") Failed ≡ [] }
+    ensures object { unread_text Json (codes "a.spv") Failed
+        ≡ codes "{\"file\":\"a.spv\",\"verdict\":\"error\",\"error\":\"file\"}" ++ line_end }
     // Names stand before verdicts where that is asked for.
-    ensures heading { (how : Judging) → how.is_named ≡ true → heading how (codes "a") ≡ codes "a: " }
-    ensures no_heading { (how : Judging) → how.is_named ≡ false → ¬ (heading how (codes "a") ≡ codes "a: ") }
+    ensures heading { heading Named (codes "a") ≡ codes "a: " }
+    ensures no_heading { ¬ (heading Bare (codes "a") ≡ codes "a: ") }
     // The line on a file always has its name, where memory is refused too.
     ensures starved { (G : Table) (how : Judging) (known : Known)
         → IsPart G how (codes "a") known [] (codes "a: error memory" ++ line_end) 2 }
     ensures never_nameless { (G : Table) (how : Judging) (known : Known) (out : List ℕ) (status : ℕ)
         → ¬ (IsPart G how (codes "a") known out memory_line status) }
     // One such file ends with 2, and no files do not.
-    ensures parts { (G : Table) (how : Judging)
-        → AreParts G how (λ n. Some None) (codes "a" ∷ []) [] (codes "a: error file" ++ line_end) 2 }
+    ensures parts { (G : Table) (how : Judging) → AreParts G how (λ n. Some None) (codes "a" ∷ [])
+        (unread_text how.telling (codes "a") Failed) (codes "a: error file" ++ line_end) 2 }
     ensures no_parts { (G : Table) (how : Judging) (known : ℕ → Known) → ¬ (AreParts G how known [] [] [] 2) }
     // Out of memory can always be told, and a run tells of something where it ends with 2.
     ensures ends { (text : Option (List ℕ)) (how : Judging) (known : ℕ → Known) (names : List (List ℕ))
@@ -209,7 +219,9 @@ pub fn each_examples()
         (λ e. Writes e (Some []) (Some memory_line) 0 0) (Unit {0}) 2 }
     ensures never_ends { (text : Option (List ℕ)) (how : Judging) (known : ℕ → Known) (names : List (List ℕ))
         (status : ℕ) → ¬ (Ends text how known names (λ o. ⊥) (λ e. ⊥) (Unit {0}) status) }
-{}
+{
+    spv_explain::laws::json_examples();
+}
 
 /// Worked examples of what became of streams.
 pub fn stream_examples()
@@ -236,6 +248,9 @@ pub fn ending_examples()
         → Runs command text (reader_of []) (writer_of []) (writer_of []) (λ line. line ≡ memory_line) 2 }
     ensures never_runs { (command : Command) (text : Option (List ℕ))
         → ¬ (Runs command text (reader_of []) (writer_of []) (writer_of []) (λ line. ⊥) 2) }
-    ensures rules { RunsRules (writer_of (codes "W1")) (λ line. ⊥) 0 }
-    ensures no_rules { ¬ (RunsRules (writer_of []) (λ line. ⊥) 1) }
+    ensures rules { (code : Option AnyCode) → RunsRules (Rules code false) (writer_of (codes "W1")) (λ line. ⊥) 0 }
+    ensures no_rules { (command : Command) → ¬ (RunsRules command (writer_of []) (λ line. ⊥) 1) }
+    // As lines any text may be written; an object of a code is never left out.
+    ensures lines { AreRules None false (codes "W1") }
+    ensures no_object { (code : AnyCode) → ¬ (AreRules (Some code) true []) }
 {}

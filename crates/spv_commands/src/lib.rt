@@ -20,14 +20,14 @@ mod writing;
 pub use assembling::{TextError, assemble_stream, read_all};
 pub use each::run_each;
 pub use files::{Files, InMemory, Unread};
-pub use judging::Judging;
+pub use judging::{Judging, Telling};
 pub use name::write_label;
 pub use program::{Trouble, report, run};
 pub use reasons::entry_points;
 pub use showing::show_stream;
 pub use spv_command_line::{
-    AnyCode, Code, Command, ErrorCode, Naming, Task, UseError, advice, arguments, arguments_in,
-    help, is_verbose, text_asked,
+    AnyCode, Code, Color, Command, ErrorCode, Form, Naming, Task, UseError, advice, arguments,
+    arguments_in, help, is_verbose, text_asked,
 };
 pub use spv_grammar::grammar_reason;
 pub use spv_words::{VersionSource, Versioned};

@@ -1,5 +1,5 @@
 //! What the program does once its words are read and its files are open.
-ghost use Rattle.std.specs.Prelude.{◌≡◌, ◌≤◌, ◌⊎◌, IfErr, IfSome, IsErrOf, IsUtf8, false, option_map};
+ghost use Rattle.std.specs.Prelude.{◌≡◌, ◌≤◌, ◌⊎◌, IfErr, IfOk, IfSome, IsErrOf, IsUtf8, false, option_map};
 ghost use Rattle.spv_builtin.specs.Source.{breaks};
 ghost use Rattle.spv_grammar.specs.declared.error.GrammarError.{GrammarError};
 ghost use Rattle.spv_grammar.specs.declared.error.GrammarError.TheVariants.{J8};
@@ -7,12 +7,16 @@ ghost use Rattle.spv_commands.specs.Assemble.{Assembles, BeginsAssembling, order
 ghost use Rattle.spv_commands.specs.Run.{Runs, RunsRules};
 ghost use Rattle.spv_commands.specs.Show.{BeginsShowing, Shows};
 ghost use Rattle.spv_commands.specs.Streams.{IsAnswered, IsDone, reading, writing};
-ghost use Rattle.spv_commands.specs.Task.{BeginsGrammar, BeginsTask, BeginsText, DoesTask, MakesNothing, ReadsGrammar};
-ghost use Rattle.spv_commands.specs.Task.{ReadsNoFile, WritesGrammar, WritesText, taken, takes_as_1_6};
+ghost use Rattle.spv_commands.specs.Task.{AreRules, BeginsGrammar, BeginsRules, BeginsRulesOf, BeginsTask, DoesTask};
+ghost use Rattle.spv_commands.specs.Task.{MakesNothing, ReadsGrammar, ReadsNoFile, WritesGrammar, WritesRules};
+ghost use Rattle.spv_commands.specs.Task.{WritesRulesOf, is_colored, taken, takes_as_1_6};
+ghost use Rattle.spv_commands.specs.Task.{view_of};
+ghost use Rattle.spv_views.specs.View.{BeginsViewing, LacksFunction, Views};
 ghost use Rattle.spv_commands.specs.Trace.{BeginsTracing, HasNoEntry, Traces};
 ghost use Rattle.spv_commands.specs.Trouble.{Gets, grammar_text, memory_line, trouble_from, trouble_text};
 ghost use Rattle.spv_commands.specs.inner.Ending.{EndsByTable, EndsByText, EndsUnread, reading_by};
 ghost use Rattle.spv_commands.specs.declared.program.Trouble.TheVariants.{File, Grammar, Memory, NoEntry};
+ghost use Rattle.spv_commands.specs.declared.program.Trouble.TheVariants.{NoFunction};
 
 use crate::assembling::{TextError, assemble_stream};
 use crate::judging::detail_by;
@@ -20,13 +24,14 @@ use crate::showing::show_stream;
 use crate::tracing::{RunError, trace_stream};
 use spv_builtin::laws::one_table;
 use spv_builtin::{grammar_text as text_of_grammar, table_of};
-use spv_command_line::{AnyCode, Command, Task};
-use spv_explain::{explain_stream, rules_text};
+use spv_command_line::{AnyCode, Color, Command, Form, Task};
+use spv_explain::{explain_stream, rules_json, rules_text};
 use spv_grammar::GrammarError;
 use spv_table::Table;
 use spv_verdict::check_stream;
+use spv_views::{View, ViewError, view_stream};
 use spv_words::{Order, Sink, Source, VersionSource, WordError, write_all};
-use std::alloc::Global;
+use std::alloc::{AllocError, Global};
 use std::mem::forget;
 
 /// Why the program ends with the exit status 2 (own). `report` writes its line.
@@ -40,6 +45,8 @@ pub enum Trouble {
     Memory,
     /// The id whose run is asked for is no entry point's function: `error X1`.
     NoEntry,
+    /// The id of the function that is asked for is none of the module: `error X2`.
+    NoFunction,
     /// The grammar file is refused: `error J1` to `error J7`, and `error memory` for J8.
     Grammar(GrammarError),
 }
@@ -53,6 +60,7 @@ fn trouble_line(trouble: Trouble) -> &'static [u8]
         Trouble::File => b"error file\n",
         Trouble::Memory => b"error memory\n",
         Trouble::NoEntry => b"error X1\n",
+        Trouble::NoFunction => b"error X2\n",
         Trouble::Grammar(error) => grammar_line(error),
     }
 }
@@ -137,16 +145,17 @@ fn assembled<S: Source, W: Sink, O: Sink>(
     alloc: Global,
     table: &Table,
     big: bool,
+    explain: bool,
     file: &mut S,
     out: &mut W,
     made: &mut O,
 ) -> Result<bool, Trouble>
-    ensures ends { IsDone (Assembles table.now (order_of big)) (BeginsAssembling table.now (order_of big)) File
+    ensures ends { IsDone (Assembles table.now (order_of big) explain) (BeginsAssembling table.now (order_of big) explain) File
         (IfSome (S.remaining file.old) (λ bytes. ¬ IsUtf8 bytes)) (reading S.remaining S.failures file.old file.new)
         (writing W.contents W.failures out.old out.new) (writing O.contents O.failures made.old made.new) result }
     ensures only { IfErr result (λ t. (t ≡ File) ⊎ (t ≡ Memory)) }
 {
-    match assemble_stream(alloc, table, order_by(big), file, out, made) {
+    match assemble_stream(alloc, table, order_by(big), explain, file, out, made) {
         Ok(answer) => Ok(answer),
         Err(TextError::Failed) => Err(Trouble::File),
         Err(TextError::NotText) => Err(Trouble::File),
@@ -179,15 +188,76 @@ fn traced<S: Source, W: Sink>(
     }
 }
 
-/// Writes what codes say, or one of them: it is written.
-fn ruled<W: Sink>(alloc: Global, code: Option<AnyCode>, out: &mut W) -> Result<bool, Trouble>
-    ensures { EndsUnread WritesText BeginsText (writing W.contents W.failures out.old out.new) result }
+/// Whether a text has colour. Where a terminal asks for it, that was settled before.
+fn is_in_color(color: Color) -> bool
+    ensures { result ≡ is_colored color }
 {
-    let text = match rules_text(alloc, code) {
+    match color {
+        Color::Always => true,
+        Color::Auto | Color::Never => false,
+    }
+}
+
+/// What `annotate` writes of the file of a name.
+fn view_by(form: Form, color: Color, file: &str) -> View<'_>
+    ensures { result ≡ view_of form color file.entry }
+{
+    match form {
+        Form::Text => View::Text {
+            color: is_in_color(color),
+        },
+        Form::Page => View::Page { title: file },
+    }
+}
+
+/// Writes what people look at of the module by a table: whether it is that, and not a verdict line.
+fn viewed<S: Source, W: Sink>(
+    alloc: Global,
+    table: &Table,
+    how: View<'_>,
+    function: Option<u32>,
+    file: &mut S,
+    out: &mut W,
+) -> Result<bool, Trouble>
+    ensures ends { IsAnswered (Views how.entry table.now function) (BeginsViewing how.entry table.now function) File
+        (reading S.remaining S.failures file.old file.new) (writing W.contents W.failures out.old out.new) result }
+    ensures only { IfErr result (λ t. (t ≡ File)
+        ⊎ ((t ≡ NoFunction) × IfSome (S.remaining file.old) (λ bytes. LacksFunction table.now bytes function))
+        ⊎ (t ≡ Memory)) }
+{
+    match view_stream(alloc, table, how, function, file, out) {
+        Ok(answer) => Ok(answer),
+        Err(ViewError::Failed) => Err(Trouble::File),
+        Err(ViewError::NoFunction) => Err(Trouble::NoFunction),
+        Err(ViewError::Memory) => Err(Trouble::Memory),
+    }
+}
+
+/// What codes say, or one of them, as lines or as objects of JSON.
+fn rules_bytes(alloc: Global, code: Option<AnyCode>, json: bool) -> Result<Vec<u8>, AllocError>
+    ensures { IfOk result (λ v. AreRules code json v.items) }
+{
+    if json {
+        return rules_json(alloc, code);
+    }
+    Ok(rules_text(alloc, code)?.into_bytes())
+}
+
+/// Writes what codes say, or one of them: it is written.
+fn ruled<W: Sink>(
+    alloc: Global,
+    code: Option<AnyCode>,
+    json: bool,
+    out: &mut W,
+) -> Result<bool, Trouble>
+    ensures { EndsUnread (WritesRules code json) (BeginsRules code json)
+        (writing W.contents W.failures out.old out.new) result }
+{
+    let text = match rules_bytes(alloc, code, json) {
         Ok(text) => text,
         Err(_) => return Err(Trouble::Memory),
     };
-    match write_all(text.as_bytes(), out) {
+    match write_all(text.as_slice(), out) {
         Ok(()) => Ok(true),
         Err(_) => Err(Trouble::File),
     }
@@ -208,7 +278,7 @@ fn grammar_written<W: Sink>(alloc: Global, table: &Table, out: &mut W) -> Result
     }
 }
 
-/// Does what a command asks by a table: whether the module is valid, has a text, was made or has a run.
+/// Does what a command asks by a table: whether the module is valid, has a text, was made, has a run or was viewed.
 /// `rules` asks for no table, and is done; so is `grammar`.
 fn done_by<S: Source, W: Sink, O: Sink>(
     alloc: Global,
@@ -226,14 +296,31 @@ fn done_by<S: Source, W: Sink, O: Sink>(
     match command {
         Command::Judge { task, .. } => tasked(alloc, *task, table, file, out),
         Command::Show { .. } => shown(alloc, table, file, out),
-        Command::Asm { big, .. } => assembled(alloc, table, *big, file, out, made),
+        Command::Asm { big, explain, .. } => assembled(
+            alloc, table, *big, *explain, file, out, made,
+        ),
         Command::Trace {
             function,
             choices,
             limit,
             ..
         } => traced(alloc, table, *function, choices, *limit, file, out),
-        Command::Rules { code } => ruled(alloc, *code, out),
+        Command::Annotate {
+            file: name,
+            function,
+            form,
+            color,
+            ..
+        } => viewed(
+            alloc,
+            table,
+            view_by(*form, *color, *name),
+            *function,
+            file,
+            out,
+        ),
+        Command::Graph { function, .. } => viewed(alloc, table, View::Graph, *function, file, out),
+        Command::Rules { code, json } => ruled(alloc, *code, *json, out),
         Command::Grammar { .. } => grammar_written(alloc, table, out),
     }
 }
@@ -245,7 +332,9 @@ fn is_as_1_6(command: &Command) -> bool
     match command {
         Command::Judge { as_1_6, .. }
         | Command::Show { as_1_6, .. }
-        | Command::Trace { as_1_6, .. } => *as_1_6,
+        | Command::Trace { as_1_6, .. }
+        | Command::Annotate { as_1_6, .. }
+        | Command::Graph { as_1_6, .. } => *as_1_6,
         Command::Asm { .. } | Command::Rules { .. } | Command::Grammar { .. } => false,
     }
 }
@@ -328,13 +417,13 @@ fn done<S: VersionSource, W: Sink, O: Sink>(
     ensures refused { ReadsGrammar command.now → (e : GrammarError) → breaks (option_map (λ g. g.now) grammar.entry) e
         → (file.new ≡ file.old) × (out.new ≡ out.old) × (made.new ≡ made.old)
         × (IsErrOf result (Grammar e) ⊎ IsErrOf result (Grammar J8)) }
-    ensures rules { ¬ (ReadsGrammar command.now)
-        → EndsUnread WritesText BeginsText (writing W.contents W.failures out.old out.new) result }
+    ensures rules { ¬ (ReadsGrammar command.now) → EndsUnread (WritesRulesOf command.now) (BeginsRulesOf command.now)
+        (writing W.contents W.failures out.old out.new) result }
     ensures nothing { MakesNothing command.now → made.new ≡ made.old }
     ensures unread { ReadsNoFile command.now → file.new ≡ file.old }
 {
     match command {
-        Command::Rules { code } => ruled(alloc, *code, out),
+        Command::Rules { code, json } => ruled(alloc, *code, *json, out),
         _ => done_by_text(alloc, command, grammar, file, out, made),
     }
 }
@@ -344,11 +433,13 @@ fn done<S: VersionSource, W: Sink, O: Sink>(
 ///
 /// `grammar` is the text of the grammar file; without one the built-in grammar is used. `file` is the module or the
 /// text, `out` the standard output, `made` the file that a command makes (only `asm` makes one), `err` the standard
-/// error. Where the command asks for it, a module of version 1.0 to 1.5 is taken as one of 1.6. 0: the module is valid,
-/// or its text, the module of a text, a run, a grammar file or what codes say was written. 1: a fault line was written.
-/// 2: one line was written to `err`: `error J1` to `error J7` where the grammar file is refused, which is told first,
-/// `error file` where a read or a write failed or a text is not UTF-8, `error X1` where the id whose run is asked for
-/// is no entry point's function, `error memory` where a growth of memory was refused. Where the write to `err` fails
+/// error. Where the command asks for it, a module of version 1.0 to 1.5 is taken as one of 1.6. Names, objects of JSON
+/// and `--quiet` are of `run_each`, and colour is written only where it is asked for in any case. 0: the module is valid,
+/// or its text, the module of a text, a run, what people look at, a grammar file or what codes say was written. 1: a
+/// fault line was written. 2: one line was written to `err`: `error J1` to `error J7` where the grammar file is refused,
+/// which is told first, `error file` where a read or a write failed or a text is not UTF-8, `error X1` where the id whose
+/// run is asked for is no entry point's function, `error X2` where the function that is asked for is none of the module,
+/// `error memory` where a growth of memory was refused. Where the write to `err` fails
 /// too, it has got a beginning of that line, and the status is 2 all the same.
 pub fn run<S: VersionSource, W: Sink, O: Sink, E: Sink>(
     alloc: Global,
@@ -370,8 +461,8 @@ pub fn run<S: VersionSource, W: Sink, O: Sink, E: Sink>(
         × (Gets E.contents E.failures err.old err.new (grammar_text e)
         ⊎ Gets E.contents E.failures err.old err.new memory_line) }
     ensures rules { ¬ (ReadsGrammar command.now)
-        → RunsRules (writing W.contents W.failures out.old out.new) (Gets E.contents E.failures err.old err.new)
-        result }
+        → RunsRules command.now (writing W.contents W.failures out.old out.new)
+        (Gets E.contents E.failures err.old err.new) result }
     // `rules` and `grammar` read no module.
     ensures unread { ReadsNoFile command.now → file.new ≡ file.old }
     // Only `asm` makes a file.

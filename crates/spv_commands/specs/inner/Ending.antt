@@ -5,16 +5,17 @@ use Rattle.spv_table.specs.Table.{Table}
 use Rattle.spv_command_line.specs.declared.command_line.Command.{Command}
 use Rattle.spv_commands.specs.Streams.{AnyFailed, IsDone, Reading, Writing}
 use Rattle.spv_commands.specs.Task.{BeginsByText, BeginsToDo, Does, DoesByText, IsNoText, LacksEntry}
-use Rattle.spv_commands.specs.Task.{LacksEntryByText, taken_by}
+use Rattle.spv_commands.specs.Task.{LacksAsked, LacksAskedByText, LacksEntryByText, taken_by}
 use Rattle.spv_commands.specs.Trouble.{IsErrorLine, trouble_text}
 use Rattle.spv_commands.specs.declared.program.Trouble.{Trouble}
-use Rattle.spv_commands.specs.declared.program.Trouble.TheVariants.{File, Memory, NoEntry}
+use Rattle.spv_commands.specs.declared.program.Trouble.TheVariants.{File, Memory, NoEntry, NoFunction}
 
 -- By a table.
 pub record EndsByTable (command : Command) (G : Table) (file : Reading) (out made : Writing)
     (result : Result Bool Trouble) : Type 0 where
   pub ends : IsDone (Does command G) (BeginsToDo command G) File (IsNoText command file.left) file out made result
-  pub only : IfErr result (λ t. (t ≡ File) ⊎ ((t ≡ NoEntry) × LacksEntry command G file.left) ⊎ (t ≡ Memory))
+  pub only : IfErr result (λ t. (t ≡ File) ⊎ ((t ≡ NoEntry) × LacksEntry command G file.left)
+      ⊎ ((t ≡ NoFunction) × LacksAsked command G file.left) ⊎ (t ≡ Memory))
 
 -- the file as the command takes its bytes
 abbrev pub reading_by : Command → Reading → Reading
@@ -26,7 +27,7 @@ pub record EndsByText (command : Command) (text : Option (List ℕ)) (file : Rea
   pub ends : IsDone (DoesByText command text) (BeginsByText command text) File (IsNoText command file.left) file out
       made result
   pub reason : IfErr result (λ t. IsErrorLine text (AnyFailed file out made ⊎ IsNoText command file.left)
-      (LacksEntryByText command text file.left) (trouble_text t))
+      (LacksEntryByText command text file.left) (LacksAskedByText command text file.left) (trouble_text t))
 
 -- With what is written of no file: `Whole` says of the standard output what it held and what it then holds, and `Begun`
 -- the same where a write failed.

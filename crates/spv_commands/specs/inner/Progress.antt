@@ -1,5 +1,6 @@
 -- How far a writer is, and the text of what is told of a file.
-use Rattle.std.specs.Prelude.{◌≡◌, ◌↔◌, ◌++◌, ℕ, List, Option, Bool, IsTrue}
+use Rattle.std.specs.Prelude.{◌≡◌, ◌↔◌, ◌++◌, ℕ, List, [], Option, Some, None, Bool, IsTrue}
+use Rattle.spv_commands.specs.Name.{label}
 use Rattle.spv_commands.specs.Trouble.{Writes, file_line, memory_line}
 use Rattle.spv_commands.specs.declared.files.Unread.{Unread}
 use Rattle.spv_commands.specs.declared.files.Unread.TheVariants.{Failed, Memory}
@@ -27,3 +28,8 @@ Adds contents failures old new sound text heard =
 abbrev pub unread_line : Unread → List ℕ
 unread_line Failed = file_line
 unread_line Memory = memory_line
+
+-- the same behind the name of the file, where it was not judged
+abbrev pub told_line : List ℕ → Option Unread → List ℕ
+told_line name None = []
+told_line name (Some why) = label name ++ unread_line why

@@ -1,12 +1,15 @@
-use Rattle.std.proofs.Common.{◌≡◌, ◌∙◌, refl, sym, codes, None}
+use Rattle.std.proofs.Common.{◌≡◌, ◌∙◌, sym, codes, None, Some}
 use Rattle.clap.specs.Words.{first_of, found_of, rows_of}
 use Rattle.clap.proofs.WalkLemmas.{first_value-rows}
+use Rattle.spv_command_line.proofs.Asking.{not_assembled}
 use Rattle.spv_command_line.proofs.command_line.asm_in.Goals as goal
 
-pub returns-in_err-out : goal.returns-in_err-out
-returns-in_err-out c =
-    let none : first_of (codes "out") (rows_of (found_of c.args.found.now)) ≡ None = sym (first_value-rows (found_of c.args.found.now) (codes "out")) ∙ sym c.in_err-out.ensures in
-    rw c.from_residual.ensures none
+pub returns-in_default : goal.returns-in_default
+returns-in_default c = λ environment e.
+    let none : first_of (codes "out") (rows_of (found_of c.args.found.now)) ≡ None = sym (first_value-rows (found_of c.args.found.now) (codes "out")) ∙ sym c.in_default.ensures in
+    not_assembled environment (rows_of (found_of c.args.found.now)) none
 
 pub returns : goal.returns
-returns c = (refl, refl, sym (first_value-rows (found_of c.args.found.now) (codes "out")) ∙ sym c.in_ok-out.ensures, c.is_set-big.ensures)
+returns c = λ environment e.
+    let out : first_of (codes "out") (rows_of (found_of c.args.found.now)) ≡ Some c.in-Some.out.now = sym (first_value-rows (found_of c.args.found.now) (codes "out")) ∙ sym c.in-Some.ensures in
+    (e, out, c.is_set.ensures, c.is_set-2.ensures)

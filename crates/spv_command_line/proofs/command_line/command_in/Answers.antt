@@ -1,8 +1,8 @@
-use Rattle.std.proofs.Common.{◌≡◌, sym, subst, codes, rules, List, Option, option_map}
+use Rattle.std.proofs.Common.{sym, subst, codes, rules, Ok, List, Option, option_map}
 use Rattle.clap.specs.Words.{Row, Text, found_of, rows_of}
 use Rattle.clap.specs.declared.parser.matches.ArgMatches.TheViews.{out-ArgMatches}
 use Rattle.spv_command_line.specs.CommandLine.{IsCommandOf}
-use Rattle.spv_command_line.proofs.Asking.{grammar_met, met, no_command_met, rules_met}
+use Rattle.spv_command_line.proofs.Asking.{given_for, met, no_command_met}
 use Rattle.spv_command_line.proofs.command_line.command_in.Goals as goal
 
 pub returns-in_default : goal.returns-in_default
@@ -10,15 +10,13 @@ returns-in_default c = no_command_met _ _ (sym c.in_default.ensures.rows)
 
 pub returns-in-rules : goal.returns-in-rules
 returns-in-rules c =
-    let name : c.in-Some.name.now ≡ codes "rules" = search rules in
-    rules_met _ _ c.in-Some.name.now (rows_of (found_of c.in-Some.found.now)) _
-    (met (out-ArgMatches c.args.matches.now).subcommand _ _ (sym c.in-Some.ensures.name) (sym c.in-Some.ensures.rows)) name c.rules_in.ensures
+    given_for _ c.in-Some.name.now (codes "rules") (rows_of (found_of c.in-Some.found.now)) c.rules_in.result _
+    (met (out-ArgMatches c.args.matches.now).subcommand _ _ (sym c.in-Some.ensures.name) (sym c.in-Some.ensures.rows)) (search rules) c.rules_in.ensures
 
 pub returns-in-grammar : goal.returns-in-grammar
 returns-in-grammar c =
-    let name : c.in-Some.name.now ≡ codes "grammar" = search rules in
-    grammar_met _ _ c.in-Some.name.now (rows_of (found_of c.in-Some.found.now)) _
-    (met (out-ArgMatches c.args.matches.now).subcommand _ _ (sym c.in-Some.ensures.name) (sym c.in-Some.ensures.rows)) name c.grammar_in.ensures
+    given_for _ c.in-Some.name.now (codes "grammar") (rows_of (found_of c.in-Some.found.now)) (Ok c.grammar_in.result) _
+    (met (out-ArgMatches c.args.matches.now).subcommand _ _ (sym c.in-Some.ensures.name) (sym c.in-Some.ensures.rows)) (search rules) c.grammar_in.ensures
 
 pub returns-in_default-name : goal.returns-in_default-name
 returns-in_default-name c =

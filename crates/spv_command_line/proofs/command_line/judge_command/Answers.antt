@@ -8,9 +8,9 @@ returns-then-not-are_modules c = λ environment e.
 
 pub returns-in_default : goal.returns-in_default
 returns-in_default c = λ environment e.
-    not_named environment (rows_of (found_of c.args.found.now)) c.args.task _ _ e c.in_default.ensures
+    not_named environment (rows_of (found_of c.args.found.now)) c.args.task c.in_default.ensures
 
 pub returns : goal.returns
 returns c = λ environment e.
-    judge_met environment (rows_of (found_of c.args.found.now)) c.args.task _ _ _ _ _ _ e c.in_ok-files.ensures.items c.if-not-are_modules.ensures
-    c.requires c.is_as_1_6.ensures c.in-Some.ensures c.is_set.ensures
+    judge_met environment (rows_of (found_of c.args.found.now)) c.args.task _ _ _ _ _ _ _ e c.in_ok-files.ensures.items c.if-not-are_modules.ensures
+    c.requires c.is_as_1_6.ensures c.in-Some.ensures c.is_set.ensures c.is_set-2.ensures

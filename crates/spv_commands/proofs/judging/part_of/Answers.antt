@@ -1,14 +1,12 @@
-use Rattle.std.proofs.Common.{◌≡◌, refl, if◌then◌else◌}
-use Rattle.spv_commands.specs.Each.{IsPart}
-use Rattle.spv_commands.proofs.Parts.{fault_status, valid_status}
+use Rattle.std.proofs.Common.{ap}
+use Rattle.std.specs.Prelude.{Err}
+use Rattle.spv_commands.proofs.Parts.{part_unread}
 use Rattle.spv_commands.proofs.judging.part_of.Goals as goal
-use Rattle.spv_commands.proofs.judging.part_of.Goals.{then-valid, else-valid}
 
-pub returns-clause-judged : goal.returns-clause-judged
-returns-clause-judged g c =
-    let done = rw (c.as_slice.ensures.value, c.take_as.ensures, c.in_ok-text.ensures.text) at c.in_ok-valid.ensures.done in
-    let status : c.if-valid.result ≡ (if c.in_ok-valid.valid then 0 else 1) = elim c.if-valid.branch [
-      | then-valid w ↦ valid_status _ _ w.result-is w.if-valid.true
-      | else-valid w ↦ fault_status _ _ w.result-is w.if-valid.false
-    ] in
-    IsPart.judged c.in_ok-bytes.bytes.items c.in_ok-valid.valid c.in_ok-bytes.ensures.given done refl status
+pub returns-in-Err-clause-part : goal.returns-in-Err-clause-part
+returns-in-Err-clause-part g c =
+    part_unread c.args.table.now c.args.how c.args.name.now (g.F.Files.known c.args.files.now c.args.number) c.in-Err.why c.unread_part.result
+    (λ q. c.in-Err.ensures.unread (ap Err q)) c.unread_part.ensures.status c.unread_part.ensures.told
+
+pub returns-in-Ok-clause-part : goal.returns-in-Ok-clause-part
+returns-in-Ok-clause-part g c = let judged = c.in-Ok.ensures.judged in rw judged.0 judged.1

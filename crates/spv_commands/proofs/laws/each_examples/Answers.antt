@@ -1,4 +1,4 @@
-use Rattle.std.proofs.Common.{refl, codes, [], lit≤}
+use Rattle.std.proofs.Common.{refl, codes, [], inr, lit≤}
 use Rattle.spv_commands.specs.Each.{more, none}
 use Rattle.spv_commands.specs.Each.{IsPart, Ends}
 use Rattle.spv_commands.proofs.Parts.{always_named, got_nothing, never_told, no_files, not_judged}
@@ -7,23 +7,20 @@ use Rattle.spv_commands.proofs.laws.each_examples.Goals as goal
 pub returns-clause-part : goal.returns-clause-part
 returns-clause-part c = λ G how. IsPart.unread refl refl refl refl
 
+pub returns-clause-object : goal.returns-clause-object
+returns-clause-object c = c.json_examples.ensures.unread
+
 pub returns-clause-no_part : goal.returns-clause-no_part
 returns-clause-no_part c = λ G how line. not_judged G how (codes "a") line 0 refl
 
-pub returns-clause-heading : goal.returns-clause-heading
-returns-clause-heading c = λ how e. rw e refl
-
-pub returns-clause-no_heading : goal.returns-clause-no_heading
-returns-clause-no_heading c = λ how e. rw e (λ q. cc)
-
 pub returns-clause-starved : goal.returns-clause-starved
-returns-clause-starved c = λ G how known. IsPart.starved refl refl refl
+returns-clause-starved c = λ G how known. IsPart.starved (inr refl) refl refl
 
 pub returns-clause-never_nameless : goal.returns-clause-never_nameless
 returns-clause-never_nameless c = λ G how known out status. always_named G how known out _ status refl
 
 pub returns-clause-parts : goal.returns-clause-parts
-returns-clause-parts c = λ G how. more (codes "a") [] _ 2 none (IsPart.unread refl refl refl refl)
+returns-clause-parts c = λ G how. more (codes "a") _ _ 2 none (IsPart.unread refl refl refl refl)
 
 pub returns-clause-no_parts : goal.returns-clause-no_parts
 returns-clause-no_parts c = λ G how known. no_files G how known [] [] [] 2 refl refl

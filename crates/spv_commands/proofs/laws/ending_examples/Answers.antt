@@ -1,4 +1,5 @@
-use Rattle.std.proofs.Common.{refl, inl, inr, arith}
+use Rattle.std.proofs.Common.{[], refl, inl, inr, arith}
+use Rattle.spv_commands.proofs.Worked.{no_object}
 use Rattle.spv_commands.specs.Trouble.{memory, memory_line}
 use Rattle.spv_commands.proofs.laws.ending_examples.Goals as goal
 
@@ -11,3 +12,6 @@ returns-clause-runs c = λ command text. record {
   unmade = λ _ _. refl;
   begun = λ t. elim t [ inl a ↦ absurd (a refl) | inr a ↦ absurd (a refl) ];
 }
+
+pub returns-clause-no_object : goal.returns-clause-no_object
+returns-clause-no_object c = λ code. no_object code [] refl

@@ -1,5 +1,5 @@
 use Rattle.std.proofs.Common.{refl, lit≤, arith}
-use Rattle.spv_commands.specs.Trouble.{entry, memory}
+use Rattle.spv_commands.specs.Trouble.{entry, function, memory}
 use Rattle.spv_table.specs.Example.{empty_table}
 use Rattle.spv_commands.proofs.Tasks.{begins_short, does_short}
 use Rattle.spv_commands.proofs.Worked.{empty_given, nothing_breaks, nothing_given}
@@ -14,7 +14,7 @@ returns-clause-writes_beginning c = record { whole = λ e. absurd (omega arith);
 pub returns-clause-does : goal.returns-clause-does
 returns-clause-does c = λ command r n.
     does_short command _ r n (empty_given c.table_examples.ensures.gives) (c.stream_examples.ensures.tells empty_table) (c.explain_examples.ensures.explains empty_table)
-    (c.show_examples.ensures.shows empty_table) (c.trace_examples.ensures.traces empty_table)
+    (c.show_examples.ensures.shows empty_table) (c.trace_examples.ensures.traces empty_table) (c.view_examples.ensures.views empty_table)
 
 pub returns-clause-does_nothing : goal.returns-clause-does_nothing
 returns-clause-does_nothing c = λ command bytes old new held kept answer t. nothing_given t.table t.given
@@ -22,16 +22,19 @@ returns-clause-does_nothing c = λ command bytes old new held kept answer t. not
 pub returns-clause-begins : goal.returns-clause-begins
 returns-clause-begins c = λ command r n.
     begins_short command _ r n (empty_given c.table_examples.ensures.gives) (c.stream_examples.ensures.begins empty_table) (c.explain_examples.ensures.begins empty_table)
-    (c.show_examples.ensures.begins empty_table) (c.trace_examples.ensures.begins empty_table)
+    (c.show_examples.ensures.begins empty_table) (c.trace_examples.ensures.begins empty_table) (c.view_examples.ensures.begins empty_table)
 
 pub returns-clause-begins_nothing : goal.returns-clause-begins_nothing
 returns-clause-begins_nothing c = λ command bytes old new held kept t. nothing_given t.table t.given
 
 pub returns-clause-refused : goal.returns-clause-refused
-returns-clause-refused c = nothing_breaks ⊥ ⊥
+returns-clause-refused c = nothing_breaks ⊥ ⊥ ⊥
 
 pub returns-clause-memory : goal.returns-clause-memory
 returns-clause-memory c = λ text. memory
 
 pub returns-clause-no_entry : goal.returns-clause-no_entry
 returns-clause-no_entry c = λ text. entry tt
+
+pub returns-clause-no_function : goal.returns-clause-no_function
+returns-clause-no_function c = λ text. function tt

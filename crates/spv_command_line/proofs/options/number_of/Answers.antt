@@ -1,7 +1,7 @@
 use Rattle.clap.specs.Words.{found_of}
 use Rattle.clap.proofs.WalkLemmas.{first_value-rows}
 use Rattle.spv_command_line.proofs.Asking.{number_none, number_read}
-use Rattle.spv_command_line.proofs.command_line.number_of.Goals as goal
+use Rattle.spv_command_line.proofs.options.number_of.Goals as goal
 
 pub returns-in-Some : goal.returns-in-Some
 returns-in-Some c =

@@ -1,6 +1,6 @@
 use Rattle.std.proofs.Common.{arith}
 use Rattle.spv_command_line.proofs.Table.{command_next}
-use Rattle.spv_command_line.proofs.program.program_of.Goals as goal
+use Rattle.spv_command_line.proofs.program.with_commands.Goals as goal
 
 pub loop-row-preserved : goal.loop-row-preserved
 loop-row-preserved c =

@@ -1,0 +1,109 @@
+use Rattle.std.proofs.Common.{◌≡◌, ◌∙◌, ◌∷◌, [], List, Option, Some, None, true, false, inl, inr, unwrap_or, option_map, sum, codes, ap, sym, subst, refl, lit≤, arith}
+use Rattle.clap.specs.Words.{IsAmong, Row, Text, fault_of, first_of, subcommand_of}
+use Rattle.clap.specs.declared.error.kind.ErrorKind.TheVariants as kind
+use Rattle.clap.proofs.OnLiterals.{clap_on_literals}
+use Rattle.spv_command_line.specs.declared.command_line.Color.{Color}
+use Rattle.spv_command_line.specs.declared.command_line.Color.TheVariants as colors
+use Rattle.spv_command_line.specs.CommandLine.{IsColor, IsFlag, IsNoCommand, program, text_in, texts_in, name_in}
+use Rattle.spv_command_line.proofs.Asking.{no_code, none_given, number_given, not_annotated}
+use Rattle.spv_command_line.proofs.laws.line_examples.Goals as goal
+
+-- what the text of an option comes to
+set : (text : Option Text) → text ≡ Some (codes "true") → IsFlag text true
+set text e = (λ q. e, λ q. refl)
+
+no_truth : ¬ (codes "false" ≡ codes "true")
+no_truth e = let s : 523 ≡ 448 = ap sum e in omega (arith, s)
+
+not_set : (text : Option Text) → text ≡ Some (codes "false") → ¬ (text ≡ Some (codes "true"))
+not_set text e q = no_truth (ap (λ (o : Option Text). unwrap_or o []) (sym e ∙ q))
+
+unset : (text : Option Text) → text ≡ Some (codes "false") → IsFlag text false
+unset text e = (λ q. cc, λ q. absurd (not_set text e q))
+
+never_colored : (text : Option Text) → text ≡ Some (codes "never") → IsColor text colors.Never
+never_colored text e = subst (λ (t : Option Text). IsColor t colors.Never) (sym e) refl
+
+no_red : (text : Option Text) (color : Color) → text ≡ Some (codes "red") → ¬ (IsColor text color)
+no_red text color e h = red color (subst (λ (t : Option Text). IsColor t color) e h)
+  where
+    red : (color : Color) → ¬ (IsColor (Some (codes "red")) color)
+    red colors.Auto q = let s : 315 ≡ 441 = ap sum q in omega (arith, s)
+    red colors.Always q = let s : 315 ≡ 657 = ap sum q in omega (arith, s)
+    red colors.Never q = let s : 315 ≡ 544 = ap sum q in omega (arith, s)
+
+-- `rules --json`
+abbrev rules_words : List Text
+rules_words = codes "rules" ∷ codes "--json" ∷ []
+
+rules_taken : (fault_of program rules_words ≡ []) × (name_in (subcommand_of program rules_words) ≡ Some (codes "rules"))
+    × (text_in (codes "code") (subcommand_of program rules_words) ≡ None) × (text_in (codes "json") (subcommand_of program rules_words) ≡ Some (codes "true"))
+unfolding clap_on_literals
+rules_taken = (refl, refl, refl, refl)
+
+-- `graph --function 4 a.spv`
+abbrev graph_words : List Text
+graph_words = codes "graph" ∷ codes "--function" ∷ codes "4" ∷ codes "a.spv" ∷ []
+
+graph_taken : (fault_of program graph_words ≡ []) × (texts_in None (subcommand_of program graph_words) ≡ Some (codes "graph", None, Some (codes "a.spv" ∷ [])))
+    × (text_in (codes "as-1.6") (subcommand_of program graph_words) ≡ Some (codes "false")) × (text_in (codes "function") (subcommand_of program graph_words) ≡ Some (codes "4"))
+unfolding clap_on_literals
+graph_taken = (refl, refl, refl, refl)
+
+-- `annotate a.spv --color=never`
+abbrev annotate_words : List Text
+annotate_words = codes "annotate" ∷ codes "a.spv" ∷ codes "--color=never" ∷ []
+
+annotate_taken : (fault_of program annotate_words ≡ []) × (texts_in None (subcommand_of program annotate_words) ≡ Some (codes "annotate", None, Some (codes "a.spv" ∷ [])))
+    × (text_in (codes "as-1.6") (subcommand_of program annotate_words) ≡ Some (codes "false")) × (text_in (codes "function") (subcommand_of program annotate_words) ≡ None)
+    × (text_in (codes "html") (subcommand_of program annotate_words) ≡ Some (codes "false")) × (text_in (codes "color") (subcommand_of program annotate_words) ≡ Some (codes "never"))
+unfolding clap_on_literals
+annotate_taken = (refl, refl, refl, refl, refl, refl)
+
+-- `annotate a.spv --color=red`
+abbrev red_words : List Text
+red_words = codes "annotate" ∷ codes "a.spv" ∷ codes "--color=red" ∷ []
+
+abbrev red_rows : List Row
+red_rows = unwrap_or (option_map (λ p. p.1) (subcommand_of program red_words)) []
+
+red_taken : (subcommand_of program red_words ≡ Some (codes "annotate", red_rows)) × (first_of (codes "color") red_rows ≡ Some (codes "red"))
+unfolding clap_on_literals
+red_taken = (refl, refl)
+
+red_refused : IsNoCommand None (subcommand_of program red_words)
+red_refused = subst (λ (o : Option (Text × List Row)). IsNoCommand None o) (sym red_taken.0)
+    (not_annotated None red_rows (λ function color h k. no_red (first_of (codes "color") red_rows) color red_taken.1 k))
+
+-- `show a.spv --json`
+abbrev show_words : List Text
+show_words = codes "show" ∷ codes "a.spv" ∷ codes "--json" ∷ []
+
+show_refused : IsAmong kind.UnknownArgument (fault_of program show_words)
+unfolding clap_on_literals
+show_refused = inl refl
+
+pub returns : goal.returns
+returns c = record {
+  rules = (rules_taken.0, record { asked = rules_taken.1; code_is = no_code _ rules_taken.2; json_is = set _ rules_taken.3 });
+  graph = λ file n. (
+    graph_taken.0,
+    record {
+      asked = graph_taken.1 ∙ rw n refl;
+      version = unset _ graph_taken.2;
+      function_is = number_given _ (codes "4") 4 graph_taken.3 (record { some = lit≤ tt; digits = refl; is_value = refl; fits = lit≤ tt });
+    },
+  );
+  annotate = λ file n. (
+    annotate_taken.0,
+    record {
+      asked = annotate_taken.1 ∙ rw n refl;
+      version = unset _ annotate_taken.2;
+      function_is = none_given _ annotate_taken.3;
+      form_is = not_set _ annotate_taken.4;
+      color_is = never_colored _ annotate_taken.5;
+    },
+  );
+  no_color = inr red_refused;
+  no_object = inl (kind.UnknownArgument, show_refused, λ e. cc, λ e. cc);
+}

@@ -1,8 +1,0 @@
-use Rattle.std.proofs.Common.{◌≡◌, drop}
-use Rattle.clap.specs.Words.{app_of}
-use Rattle.spv_command_line.specs.CommandLine.{bare_program}
-use Rattle.spv_command_line.specs.inner.Program.{with_commands}
-use Rattle.spv_command_line.proofs.program.program_of.Given as goal
-
-abbrev pub invariant-loop-row : goal.invariant-loop-row
-invariant-loop-row l = with_commands (app_of l.program) (drop l.row-index l.rows) ≡ with_commands bare_program l.rows

@@ -1,0 +1,155 @@
+//! The options behind the name of a command, as `clap` read them.
+ghost use Rattle.std.specs.Prelude.{◌≡◌, ◌↔◌, ℕ, List, codes, IfErr, IfOk, IsTrue, MatchOption, Option};
+ghost use Rattle.clap.specs.Words.{first_of, found_of, rows_of};
+ghost use Rattle.spv_command_line.specs.declared.command_line.Color.{Color};
+ghost use Rattle.spv_command_line.specs.declared.command_line.Naming.{Naming};
+ghost use Rattle.spv_command_line.specs.declared.command_line.UseError.TheVariants.{NoCommand};
+ghost use Rattle.spv_command_line.specs.CommandLine.{IsColor, IsFlag, IsForm, IsNaming, color_word};
+ghost use Rattle.spv_command_line.specs.inner.CommandLine.{form_of, naming_of};
+ghost use Rattle.spv_command_line.specs.Number.{AreNumbersOf, IsNumberIfAny, IsNumberOf};
+
+use crate::command_line::{Color, Form, Naming, UseError};
+use crate::number::{number_in, numbers_in};
+use clap::ArgMatches;
+use std::alloc::{AllocError, Global};
+
+/// Whether a text is that of a flag that is set.
+fn is_true(text: &str) -> bool
+    ensures { IsTrue result ↔ (text.now ≡ codes "true") }
+{
+    match text {
+        "true" => true,
+        _ => false,
+    }
+}
+
+/// Whether `clap` read this flag.
+pub fn is_set(found: &ArgMatches<'_>, flag: &str) -> bool
+    ensures { IsFlag (first_of flag.now (rows_of (found_of found.now))) result }
+{
+    match found.get_str(flag) {
+        Some(text) => is_true(text),
+        None => false,
+    }
+}
+
+/// Whether a module of an earlier version is taken as one of 1.6.
+pub fn is_as_1_6(found: &ArgMatches<'_>) -> bool
+    ensures { IsFlag (first_of (codes "as-1.6") (rows_of (found_of found.now))) result }
+{
+    is_set(found, "as-1.6")
+}
+
+/// Which verdicts have names by the options that ask for it and against it. None where both do.
+fn naming_by(with_filename: bool, no_filename: bool) -> Option<Naming>
+    ensures { result ≡ naming_of with_filename no_filename }
+{
+    match (with_filename, no_filename) {
+        (false, false) => Some(Naming::OfSeveral),
+        (true, false) => Some(Naming::Always),
+        (false, true) => Some(Naming::Never),
+        (true, true) => None,
+    }
+}
+
+/// Which verdicts have names by what `clap` read.
+pub fn naming_in(found: &ArgMatches<'_>) -> Option<Naming>
+    ensures { MatchOption result
+        ((naming : Naming) → ¬ (IsNaming (first_of (codes "with-filename") (rows_of (found_of found.now)))
+        (first_of (codes "no-filename") (rows_of (found_of found.now))) naming))
+        (λ naming. IsNaming (first_of (codes "with-filename") (rows_of (found_of found.now)))
+        (first_of (codes "no-filename") (rows_of (found_of found.now))) naming) }
+{
+    let with_filename = is_set(found, "with-filename");
+    let no_filename = is_set(found, "no-filename");
+    naming_by(with_filename, no_filename)
+}
+
+/// The number of an option that must be given. None where it is not, or its text is no number of 32 bits.
+pub fn number_of(found: &ArgMatches<'_>, option: &str) -> Option<u32>
+    ensures { MatchOption result ((n : ℕ) → ¬ (IsNumberOf (first_of option.now (rows_of (found_of found.now))) n))
+        (λ n. IsNumberOf (first_of option.now (rows_of (found_of found.now))) n) }
+{
+    match found.get_str(option) {
+        Some(text) => number_in(text.as_bytes()),
+        None => None,
+    }
+}
+
+/// The number of an option that may be given, if it is.
+///
+/// # Errors
+///
+/// `NoCommand` where its text is no number of 32 bits.
+pub fn number_if_given(found: &ArgMatches<'_>, option: &str) -> Result<Option<u32>, UseError>
+    ensures read { IfOk result (λ n. IsNumberIfAny (first_of option.now (rows_of (found_of found.now))) n) }
+    ensures refused { IfErr result (λ e. (e ≡ NoCommand)
+        × ((n : Option ℕ) → ¬ (IsNumberIfAny (first_of option.now (rows_of (found_of found.now))) n))) }
+{
+    let Some(text) = found.get_str(option) else {
+        return Ok(None);
+    };
+    match number_in(text.as_bytes()) {
+        Some(number) => Ok(Some(number)),
+        None => Err(UseError::NoCommand),
+    }
+}
+
+/// The numbers of an option that may be given. None where its text is no numbers of 32 bits joined by commas.
+pub fn numbers_of(
+    alloc: Global,
+    found: &ArgMatches<'_>,
+    option: &str,
+) -> Result<Option<Vec<u32>>, AllocError>
+    ensures { IfOk result (λ o. MatchOption o
+        ((ns : List ℕ) → ¬ (AreNumbersOf (first_of option.now (rows_of (found_of found.now))) ns))
+        (λ v. AreNumbersOf (first_of option.now (rows_of (found_of found.now))) v.items)) }
+{
+    match found.get_str(option) {
+        Some(text) => numbers_in(alloc, text.as_bytes()),
+        None => Ok(Some(Vec::new(alloc))),
+    }
+}
+
+/// What `annotate` writes by an option that asks for a page.
+fn form_by(html: bool) -> Form
+    ensures { result ≡ form_of html }
+{
+    if html { Form::Page } else { Form::Text }
+}
+
+/// What `annotate` writes by what `clap` read.
+pub fn form_in(found: &ArgMatches<'_>) -> Form
+    ensures { IsForm (first_of (codes "html") (rows_of (found_of found.now))) result }
+{
+    form_by(is_set(found, "html"))
+}
+
+/// The use of colour that a word asks for, if it is a word for one.
+fn color_named(word: &str) -> Option<Color>
+    ensures { MatchOption result ((color : Color) → ¬ (word.now ≡ color_word color))
+        (λ color. word.now ≡ color_word color) }
+{
+    match word {
+        "auto" => Some(Color::Auto),
+        "always" => Some(Color::Always),
+        "never" => Some(Color::Never),
+        _ => None,
+    }
+}
+
+/// The use of colour that `clap` read.
+///
+/// # Errors
+///
+/// `NoCommand` where its word is none for a use of colour.
+pub fn color_in(found: &ArgMatches<'_>) -> Result<Color, UseError>
+    ensures read { IfOk result (λ color. IsColor (first_of (codes "color") (rows_of (found_of found.now))) color) }
+    ensures refused { IfErr result (λ e. (e ≡ NoCommand)
+        × ((color : Color) → ¬ (IsColor (first_of (codes "color") (rows_of (found_of found.now))) color))) }
+{
+    let Some(word) = found.get_str("color") else {
+        return Ok(Color::Auto);
+    };
+    color_named(word).ok_or(UseError::NoCommand)
+}

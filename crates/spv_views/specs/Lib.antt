@@ -1,0 +1,3 @@
+pub mod Finding
+pub mod View
+pub mod inner

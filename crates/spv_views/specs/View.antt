@@ -1,0 +1,144 @@
+-- What is written of a stream of bytes for people to look at. (Own.)
+use Rattle.std.specs.Prelude.{◌≡◌, ◌<◌, ◌≤◌, ◌++◌, ℕ, List, [], Option, Some, None, Bool, true, false, length, take}
+use Rattle.std.specs.List.{flat_map, list_any}
+use Rattle.spv_words.specs.Header.{IsModule}
+use Rattle.spv_words.specs.declared.words.Order.{Order}
+use Rattle.spv_table.specs.Table.{Table}
+use Rattle.spv_module.specs.Operand.{PlainInst}
+use Rattle.spv_module.specs.Module.{plain_insts}
+use Rattle.spv_module.specs.declared.module.Module.{Module}
+use Rattle.spv_lines.specs.Text.{ShownLines}
+use Rattle.spv_layout.specs.First.{stage_of}
+use Rattle.spv_layout.specs.Stage.{of_layout}
+use Rattle.spv_verdict.specs.Text.{line_of}
+use Rattle.spv_verdict.specs.Verdict.{IsVerdict}
+use Rattle.spv_verdict.specs.declared.verdict_line.Judgment.{Judgment}
+use Rattle.spv_verdict.specs.declared.verdict_line.Judgment.TheVariants.{Valid, Refused, Broken}
+use Rattle.spv_fault_lines.specs.declared.fact.Detail.TheVariants.{Short}
+use Rattle.spv_explain.specs.Stream.{IsExplanation, IsModuleOf}
+use Rattle.spv_explain.specs.declared.stream.Explanation.{Explanation}
+use Rattle.spv_annotate.specs.Document.{IsSubject, Subject, document, is_function}
+use Rattle.spv_annotate.specs.Page.{IsPage, walk_of}
+use Rattle.spv_annotate.specs.Piece.{text_of}
+use Rattle.spv_annotate.specs.declared.finding.Finding as annotate
+use Rattle.spv_pictures.specs.Blocks.{block_graph_text}
+use Rattle.spv_pictures.specs.Calls.{call_graph_text}
+use Rattle.spv_pictures.specs.declared.marks.Finding as graph
+use Rattle.spv_views.specs.Finding.{IsFindingOf}
+use Rattle.spv_views.specs.declared.view.View.{View}
+use Rattle.spv_views.specs.declared.view.View.TheVariants.{Text, Page, Graph}
+
+-- has a module a function of that id
+abbrev pub has_function : List PlainInst → ℕ → Bool
+has_function is id = list_any (is_function id) is
+
+-- The bytes are words that spell the module, under the grammar table.
+pub record AreListed (G : Table) (bytes : List ℕ) (m : Module) : Type 0 where
+  pub words : List ℕ
+  pub order : Order
+  pub is_module : IsModule order bytes words
+  pub listed : IsModuleOf G words m
+
+-- A verdict breaks none of the rules W, I, P and L, so that the functions of the module can be told apart.
+abbrev pub KeepsLayout : Judgment → Type 0
+KeepsLayout Valid = Unit {0}
+KeepsLayout (Refused code) = ⊥
+KeepsLayout (Broken f) = of_layout < stage_of f.rule
+
+-- The verdict on the bytes, under the table, breaks none of these rules; or it breaks one.
+pub record AreLaidOut (G : Table) (bytes : List ℕ) : Type 0 where
+  pub judgment : Judgment
+  pub verdict : IsVerdict G bytes (line_of judgment)
+  pub keeps : KeepsLayout judgment
+
+pub record AreMislaid (G : Table) (bytes : List ℕ) : Type 0 where
+  pub judgment : Judgment
+  pub verdict : IsVerdict G bytes (line_of judgment)
+  pub breaks : ¬ (KeepsLayout judgment)
+
+-- Of these instructions all are asked for, or those of one function that there is.
+pub data HasPart (G : Table) (bytes : List ℕ) (is : List PlainInst) : Option ℕ → Type 0 where
+  whole : HasPart G bytes is None
+  part : (id : ℕ) → AreLaidOut G bytes → has_function is id ≡ true → HasPart G bytes is (Some id)
+
+-- No text is written of the bytes: they are no words of a list of instructions; or a function is asked for, and where
+-- one begins and ends cannot be told.
+pub data HasNoText (G : Table) (bytes : List ℕ) : Option ℕ → Type 0 where
+  unlisted : (function : Option ℕ) → ((m : Module) → ¬ (AreListed G bytes m))
+      → HasNoText G bytes function
+  mislaid : (id : ℕ) → AreMislaid G bytes → HasNoText G bytes (Some id)
+
+-- what the graph marks: the instruction of the fault and the labels of the blocks of its walk
+abbrev pub mark_in : annotate.Finding → graph.Finding → Type 0
+mark_in f g = (g.inst ≡ f.inst) × (g.walk.now ≡ walk_of (Some f))
+
+abbrev pub IsMark : Option annotate.Finding → Option graph.Finding → Type 0
+IsMark None None = Unit {0}
+IsMark (Some f) (Some g) = mark_in f g
+IsMark _ _ = ⊥
+
+-- The text is that of the pieces of the module's document, with what is told of its fault.
+pub record IsAnnotated (G : Table) (m : Module) (finding : Option annotate.Finding) (function : Option ℕ) (color : Bool)
+    (text : List ℕ) : Type 0 where
+  pub subject : Subject
+  pub of : IsSubject G m finding function subject
+  pub all : text ≡ flat_map (text_of color) (document subject)
+
+-- It draws the blocks of a function.
+pub record IsBlockGraph (G : Table) (m : Module) (finding : Option annotate.Finding) (id : ℕ) (text : List ℕ)
+    : Type 0 where
+  pub marks : Option graph.Finding
+  pub of : IsMark finding marks
+  pub lines : List (List ℕ)
+  pub shown : ShownLines G [] (plain_insts m) lines
+  pub all : text ≡ block_graph_text marks (plain_insts m) lines id
+
+-- It is the text of a module with comments, the page, the graph of its calls or that of a function's blocks.
+abbrev pub IsWritten : View → Table → Module → Option annotate.Finding → Option ℕ → List ℕ → Type 0
+IsWritten (Text color) G m finding function text = IsAnnotated G m finding function color text
+IsWritten (Page title) G m finding function text = IsPage G m title.now finding function text
+IsWritten Graph G m finding None text = text ≡ call_graph_text (plain_insts m)
+IsWritten Graph G m finding (Some id) text = IsBlockGraph G m finding id text
+
+-- The same with what explains the verdict on the bytes.
+pub record IsTextOf (how : View) (G : Table) (function : Option ℕ) (bytes : List ℕ) (m : Module)
+    (text : List ℕ) : Type 0 where
+  pub explanation : Explanation
+  pub explains : IsExplanation Short G bytes explanation
+  pub finding : Option annotate.Finding
+  pub of : IsFindingOf explanation finding
+  pub written : IsWritten how G m finding function text
+
+-- This is what is written of all of these bytes, under the grammar table, and whether it is the text of a module.
+pub data IsViewing (how : View) (G : Table) (function : Option ℕ) (bytes : List ℕ) : List ℕ → Bool → Type 0 where
+  -- there is none: their verdict line
+  judged : (line : List ℕ) → HasNoText G bytes function → IsVerdict G bytes line
+      → IsViewing how G function bytes line false
+  -- there is one, and it has the function that is asked for
+  viewed : (m : Module) (text : List ℕ) → AreListed G bytes m → HasPart G bytes (plain_insts m) function
+      → IsTextOf how G function bytes m text
+      → IsViewing how G function bytes text true
+
+-- A writer that held the bytes `old` now also holds what is written of the bytes, and nothing else; the answer tells
+-- whether it is the text of a module.
+pub record Views (how : View) (G : Table) (function : Option ℕ) (bytes old : List ℕ) (new : Option (List ℕ))
+    (answer : Bool) : Type 0 where
+  pub output : List ℕ
+  pub viewing : IsViewing how G function bytes output answer
+  pub written : new ≡ Some (old ++ output)
+
+-- A writer that held the bytes `old` now also holds a beginning of what is written, and nothing else.
+pub record BeginsViewing (how : View) (G : Table) (function : Option ℕ) (bytes old : List ℕ)
+    (new : Option (List ℕ)) : Type 0 where
+  pub output : List ℕ
+  pub answer : Bool
+  pub viewing : IsViewing how G function bytes output answer
+  pub count : ℕ
+  pub fits : count ≤ length output
+  pub written : new ≡ Some (old ++ take count output)
+
+-- A function is asked for, and the bytes are a module in which functions can be told apart, and which has none of that
+-- id.
+pub data LacksFunction (G : Table) (bytes : List ℕ) : Option ℕ → Type 0 where
+  lacks : (id : ℕ) (m : Module) → AreListed G bytes m → AreLaidOut G bytes
+      → has_function (plain_insts m) id ≡ false → LacksFunction G bytes (Some id)

@@ -1,0 +1,37 @@
+//! Worked examples of what is written for people. Each function does nothing: its contract is what is proved.
+ghost use Rattle.std.specs.Prelude.{◌≡◌, ◌++◌, ◌∷◌, [], ℕ, List, Option, Some, None, true, false, codes};
+ghost use Rattle.spv_table.specs.Table.{Table};
+ghost use Rattle.spv_module.specs.declared.fault.Fault.{Fault};
+ghost use Rattle.spv_module.specs.declared.fault.Rule.TheVariants.{D1, L2};
+ghost use Rattle.spv_verdict.specs.Verdict.{line_end};
+ghost use Rattle.spv_verdict.specs.declared.verdict_line.Judgment.TheVariants.{Broken, Valid};
+ghost use Rattle.spv_views.specs.Finding.{told_by};
+ghost use Rattle.spv_views.specs.View.{BeginsViewing, KeepsLayout, LacksFunction, Views};
+ghost use Rattle.spv_views.specs.declared.view.View.{View};
+
+/// Worked examples of what is written of bytes.
+pub fn view_examples()
+    // A writer that held the byte 9 got the line of three bytes, which are no module and have nothing to look at.
+    ensures views { (G : Table) (how : View) (function : Option ℕ) → Views how G function (1 ∷ 2 ∷ 3 ∷ []) (9 ∷ [])
+        (Some (9 ∷ codes "fault W2" ++ line_end)) false }
+    ensures views_none { (G : Table) (how : View) (function : Option ℕ) (new : Option (List ℕ))
+        → ¬ (Views how G function (1 ∷ 2 ∷ 3 ∷ []) [] new true) }
+    // The first five bytes of that line.
+    ensures begins { (G : Table) (how : View) (function : Option ℕ)
+        → BeginsViewing how G function (1 ∷ 2 ∷ 3 ∷ []) (9 ∷ []) (Some (9 ∷ codes "fault")) }
+    // No function is missed in bytes that are no module.
+    ensures no_function { (G : Table) (function : Option ℕ) → ¬ (LacksFunction G (1 ∷ 2 ∷ 3 ∷ []) function) }
+{
+    spv_words::laws::examples();
+    spv_words::laws::one_refusal();
+}
+
+/// Worked examples of what is told of a fault.
+pub fn finding_examples()
+    // Functions can be told apart where an id is not below the bound, and not where the end of one is missing.
+    ensures laid_out { (f : Fault) → f.rule ≡ D1 → KeepsLayout (Broken f) }
+    ensures mislaid { (f : Fault) → f.rule ≡ L2 → ¬ (KeepsLayout (Broken f)) }
+    // Nothing is told of a valid module.
+    ensures none { (lines : List ℕ) → told_by Valid lines ≡ None }
+    ensures some { (f : Fault) (lines : List ℕ) → ¬ (told_by (Broken f) lines ≡ None) }
+{}

@@ -1,0 +1,23 @@
+//! How a module is written for people.
+
+/// What is written of a module.
+#[derive(Clone, Copy)]
+pub enum View<'a> {
+    /// Its text with comments, in colour or without.
+    Text { color: bool },
+    /// The same as a page of HTML, under a title.
+    Page { title: &'a str },
+    /// The graph of its calls, or of the blocks of a function, in the language of graphviz.
+    Graph,
+}
+
+/// Why nothing is written of a stream of bytes, or not the whole.
+#[derive(Clone, Copy, Debug, PartialEq, Eq)]
+pub enum ViewError {
+    /// A read or a write failed.
+    Failed,
+    /// The function that is asked for is none of the module.
+    NoFunction,
+    /// A growth of memory was refused.
+    Memory,
+}

@@ -1,0 +1,312 @@
+//! What is written of the bytes of a stream for people to look at.
+ghost use Rattle.std.specs.Prelude.{◌≡◌, ◌≢◌, ◌≤◌, ◌⊎◌, ◌↔◌, ◌++◌, [], ℕ, List, Some};
+ghost use Rattle.std.specs.Prelude.{IfErr, IfOk, IfSome, IsErr, IsErrOf, IsTrue, OnOk, length, string_bytes, take};
+ghost use Rattle.std.specs.Io.KnownBytes.{Appends};
+ghost use Rattle.spv_words.specs.Header.{IsModule};
+ghost use Rattle.spv_words.specs.declared.words.Order.{Order};
+ghost use Rattle.spv_words.specs.declared.words.WordError.TheVariants.{W1};
+ghost use Rattle.spv_module.specs.Module.{plain_insts};
+ghost use Rattle.spv_lines.specs.Text.{ShownLines};
+ghost use Rattle.spv_layout.specs.Place.{IsShort};
+ghost use Rattle.spv_verdict.specs.Outcome.{HasFailed, IsUntouched, OfKnown};
+ghost use Rattle.spv_fault_lines.specs.declared.fact.Detail.TheVariants.{Short};
+ghost use Rattle.spv_explain.specs.Stream.{IsExplanation};
+ghost use Rattle.spv_annotate.specs.Document.{IsSpelled};
+ghost use Rattle.spv_views.specs.View.{BeginsViewing, IsBlockGraph, IsViewing, IsWritten, KeepsLayout, LacksFunction};
+ghost use Rattle.spv_views.specs.View.{Views};
+ghost use Rattle.spv_views.specs.inner.Viewed as viewed;
+ghost use Rattle.spv_views.specs.inner.Viewed.{IsReading, IsWrittenBy, is_text, output_of, viewed_refusal};
+ghost use Rattle.spv_views.specs.declared.view.ViewError.TheVariants as trouble;
+
+use crate::finding::{found_in, lent};
+use crate::view::{View, ViewError};
+use spv_annotate::{Finding, annotate, has_function, page, walk_labels};
+use spv_explain::{Detail, Explanation, Told, explained};
+use spv_layout::laws::word_counts;
+use spv_lines::shown_reads_back;
+use spv_module::{Module, Rule};
+use spv_pictures::{block_graph, call_graph};
+use spv_table::Table;
+use spv_verdict::{Judgment, line_for};
+use spv_words::{Image, Sink, Source, WordError, read_image, write_all};
+use std::alloc::{AllocError, Global};
+
+/// What is written of a stream of bytes.
+#[derive(Drop)]
+pub enum Viewed {
+    /// The text of a module.
+    Text(String),
+    /// The verdict line of bytes of which no text is written.
+    Line(Judgment),
+}
+
+impl From<AllocError> for ViewError {
+    ghost use Rattle.std.specs.Prelude.{◌≡◌};
+    ghost use Rattle.spv_views.specs.declared.view.ViewError.TheVariants.{Memory};
+
+    ghost from_gives = { λ _ e. e ≡ Memory };
+
+    fn from(_error: AllocError) -> ViewError {
+        ViewError::Memory
+    }
+}
+
+/// What is written of bytes that gave no image: W1 and W9 are errors, and of the others the verdict line is written.
+fn refused(code: WordError) -> Result<Viewed, ViewError>
+    ensures { result ≡ viewed_refusal code }
+{
+    match code {
+        WordError::W1 => Err(ViewError::Failed),
+        WordError::W9 => Err(ViewError::Memory),
+        _ => Ok(Viewed::Line(Judgment::Refused(code))),
+    }
+}
+
+/// Whether a rule is of the stages behind the layout.
+fn is_behind_layout(rule: Rule) -> bool
+    ensures { result ≡ viewed.is_behind_layout rule }
+{
+    match rule {
+        Rule::I1
+        | Rule::I2
+        | Rule::I3
+        | Rule::I4
+        | Rule::I5
+        | Rule::I6
+        | Rule::I7
+        | Rule::I8
+        | Rule::I9
+        | Rule::I10
+        | Rule::I11
+        | Rule::I12
+        | Rule::P1
+        | Rule::L1
+        | Rule::L2 => false,
+        _ => true,
+    }
+}
+
+/// Whether a verdict breaks none of the rules W, I, P and L, so that the functions of the module can be told apart.
+fn keeps_layout(judgment: Judgment) -> bool
+    ensures { IsTrue result ↔ KeepsLayout judgment }
+{
+    match judgment {
+        Judgment::Valid => true,
+        Judgment::Refused(_) => false,
+        Judgment::Broken(fault) => is_behind_layout(fault.rule),
+    }
+}
+
+/// What the graph of a function's blocks is, with what is told of the module's fault.
+fn blocks_of(
+    alloc: Global,
+    table: &Table,
+    module: &Module<'_>,
+    id: u32,
+    finding: Option<Finding<'_>>,
+) -> Result<String, AllocError>
+    ensures { (lines : List (List ℕ)) → ShownLines table.now [] (plain_insts «module».now) lines
+        → IfOk result (λ t. IsBlockGraph table.now «module».now finding.entry id (string_bytes t)) }
+{
+    let walk = walk_labels(alloc, finding)?;
+    let marks = match finding {
+        Some(found) => Some(spv_pictures::Finding {
+            inst: found.inst,
+            walk: &walk,
+        }),
+        None => None,
+    };
+    block_graph(alloc, table, module, id, marks)
+}
+
+/// What is written of a module, with what is told of its fault.
+fn text_with(
+    alloc: Global,
+    table: &Table,
+    how: View<'_>,
+    function: Option<u32>,
+    module: &Module<'_>,
+    finding: Option<Finding<'_>>,
+) -> Result<String, AllocError>
+    requires spelled { IsSpelled table.now (plain_insts «module».now) }
+    requires words { IsShort (plain_insts «module».now) }
+    ensures { (lines : List (List ℕ)) → ShownLines table.now [] (plain_insts «module».now) lines
+        → IfOk result (λ t. IsWritten how.entry table.now «module».now finding.entry function (string_bytes t)) }
+{
+    match how {
+        View::Text { color } => annotate(alloc, table, module, finding, function, color),
+        View::Page { title } => page(alloc, table, module, title, finding, function),
+        View::Graph => match function {
+            Some(id) => blocks_of(alloc, table, module, id, finding),
+            None => call_graph(alloc, module),
+        },
+    }
+}
+
+/// What is written of a module, with what explains its verdict.
+fn text_of(
+    alloc: Global,
+    table: &Table,
+    how: View<'_>,
+    function: Option<u32>,
+    module: &Module<'_>,
+    explanation: &Explanation,
+) -> Result<String, AllocError>
+    requires spelled { IsSpelled table.now (plain_insts «module».now) }
+    requires words { IsShort (plain_insts «module».now) }
+    ensures { (lines : List (List ℕ)) → ShownLines table.now [] (plain_insts «module».now) lines
+        → IfOk result (λ t. IsWrittenBy how.entry table.now «module».now explanation.now function (string_bytes t)) }
+{
+    let found = found_in(alloc, explanation)?;
+    text_with(alloc, table, how, function, module, lent(&found))
+}
+
+/// What is written of a module, with what explains its verdict, or the verdict line.
+fn viewed_told(
+    alloc: Global,
+    table: &Table,
+    how: View<'_>,
+    function: Option<u32>,
+    told: &Told<'_>,
+) -> Result<Viewed, ViewError>
+    requires { (words : List ℕ) × IsReading table.now words told.now }
+    ensures viewed { (bytes words : List ℕ) (order : Order) → IsModule order bytes words
+        → IsReading table.now words told.now → IsExplanation Short table.now bytes told.now.explanation
+        → IfOk result (λ v. IsViewing how.entry table.now function bytes (output_of v) (is_text v)) }
+    ensures stranger { (bytes words : List ℕ) (order : Order) → IsModule order bytes words
+        → IsReading table.now words told.now → IsExplanation Short table.now bytes told.now.explanation
+        → IsErrOf result trouble.NoFunction → LacksFunction table.now bytes function }
+    ensures only { IfErr result (λ e. e ≢ trouble.Failed) }
+{
+    spv_words::laws::one_word_list();
+    shown_reads_back();
+    word_counts();
+    let Some(module) = &told.module else {
+        return Ok(Viewed::Line(told.explanation.judgment));
+    };
+    if let Some(id) = function {
+        if !keeps_layout(told.explanation.judgment) {
+            return Ok(Viewed::Line(told.explanation.judgment));
+        }
+        if !has_function(module, id) {
+            return Err(ViewError::NoFunction);
+        }
+    }
+    let text = text_of(alloc, table, how, function, module, &told.explanation)?;
+    Ok(Viewed::Text(text))
+}
+
+/// What is written of the words of a module.
+fn viewed_of(
+    alloc: Global,
+    table: &Table,
+    how: View<'_>,
+    function: Option<u32>,
+    image: &Image,
+) -> Result<Viewed, ViewError>
+    ensures viewed { (bytes : List ℕ) (order : Order) → IsModule order bytes image.now
+        → IfOk result (λ v. IsViewing how.entry table.now function bytes (output_of v) (is_text v)) }
+    ensures stranger { (bytes : List ℕ) (order : Order) → IsModule order bytes image.now
+        → IsErrOf result trouble.NoFunction → LacksFunction table.now bytes function }
+    ensures only { IfErr result (λ e. e ≢ trouble.Failed) }
+{
+    let _words = image.len();
+    match explained(alloc, table, Detail::Short, image) {
+        Ok(told) => viewed_told(alloc, table, how, function, &told),
+        Err(_) => Err(ViewError::Memory),
+    }
+}
+
+/// What is written of all the bytes of a reader.
+fn viewed_on<R: Source>(
+    alloc: Global,
+    table: &Table,
+    how: View<'_>,
+    function: Option<u32>,
+    r: &mut R,
+) -> Result<Viewed, ViewError>
+    ensures known { IfSome (R.remaining r.old)
+        (λ bytes. IfOk result (λ v. IsViewing how.entry table.now function bytes (output_of v) (is_text v))) }
+    ensures stranger { IsErrOf result trouble.NoFunction
+        → IfSome (R.remaining r.old) (λ bytes. LacksFunction table.now bytes function) }
+    ensures count { HasFailed R.failures r.old r.new ↔ IsErrOf result trouble.Failed }
+{
+    spv_words::laws::one_refusal();
+    let image = match read_image(alloc, r) {
+        Ok((image, _)) => image,
+        Err(code) => return refused(code),
+    };
+    viewed_of(alloc, table, how, function, &image)
+}
+
+impl Viewed {
+    /// Whether it is the text of a module.
+    fn is_text(&self) -> bool
+        ensures { result ≡ is_text self.now }
+    {
+        match self {
+            Viewed::Text(_) => true,
+            Viewed::Line(_) => false,
+        }
+    }
+
+    /// Writes it. After a failure, W1, a beginning of it was written.
+    fn write<W: Sink>(&self, w: &mut W) -> Result<(), WordError>
+        ensures all { OnOk result (Appends (W.contents w.old) (W.contents w.new) (output_of self.now)) }
+        ensures begun { IfSome (W.contents w.old)
+            (λ xs. (n : ℕ) × (n ≤ length (output_of self.now))
+            × (W.contents w.new ≡ Some (xs ++ take n (output_of self.now)))) }
+        ensures only { IfErr result (λ e. e ≡ W1) }
+        ensures count { HasFailed W.failures w.old w.new ↔ IsErrOf result W1 }
+        ensures steady { OnOk result (W.failures w.new ≡ W.failures w.old) }
+    {
+        match self {
+            Viewed::Text(text) => write_all(text.as_bytes(), w),
+            Viewed::Line(verdict) => {
+                let line = line_for(*verdict);
+                write_all(line.as_slice(), w)
+            }
+        }
+    }
+}
+
+/// Writes what people look at of the module that a reader's bytes up to the end of input are, and answers true; or,
+/// where they are no words of a module or no list of instructions, their verdict line, and answers false.
+///
+/// With a function's id only that function is written of; of a module that breaks a rule P or L, so that its functions
+/// cannot be told apart, the verdict line is written then, and the answer is false. Where the module is not valid, what
+/// explains that is part of the text, and the answer is true. Nothing is written before the text is whole.
+///
+/// # Errors
+///
+/// `Failed`: a read or a write failed. After a failed read nothing was written, after a failed write a beginning of the
+/// output. `NoFunction`: the id is the result of no OpFunction. `Memory`: a growth of memory was refused. Nothing was
+/// written with these two.
+pub fn view_stream<R: Source, W: Sink>(
+    alloc: Global,
+    table: &Table,
+    how: View<'_>,
+    function: Option<u32>,
+    r: &mut R,
+    w: &mut W,
+) -> Result<bool, ViewError>
+    // The writer has got what is written of all the bytes that the reader still gave.
+    ensures viewed { OfKnown (R.remaining r.old) (W.contents w.old)
+        (λ bytes old. IfOk result (λ answer. Views how.entry table.now function bytes old (W.contents w.new) answer)) }
+    // The answer is `Failed` exactly where a read or a write failed.
+    ensures count { (HasFailed R.failures r.old r.new ⊎ HasFailed W.failures w.old w.new)
+        ↔ IsErrOf result trouble.Failed }
+    ensures stranger { IsErrOf result trouble.NoFunction
+        → IfSome (R.remaining r.old) (λ bytes. LacksFunction table.now bytes function) }
+    // With an error a writer that did not fail is as it was.
+    ensures unwritten { IsErr result → IsUntouched W.failures w.old w.new }
+    // After a failed write it has got a beginning.
+    ensures begun { HasFailed W.failures w.old w.new → OfKnown (R.remaining r.old) (W.contents w.old)
+        (λ bytes old. BeginsViewing how.entry table.now function bytes old (W.contents w.new)) }
+{
+    let viewed = viewed_on(alloc, table, how, function, r)?;
+    match viewed.write(w) {
+        Ok(()) => Ok(viewed.is_text()),
+        Err(_) => Err(ViewError::Failed),
+    }
+}
