@@ -190,6 +190,10 @@ spvk_answer spvk_raw_check_as_1_6(const void *held, const uint8_t *bytes, size_t
 uint32_t spvk_raw_explain(const void *held, const uint8_t *bytes, size_t len, spvk_text *text);
 /** As `spvk_explain_with` by SPVK_AS_1_6. After any status but SPVK_OK `text` is as it was. */
 uint32_t spvk_raw_explain_as_1_6(const void *held, const uint8_t *bytes, size_t len, spvk_text *text);
+/** As `spvk_explain_json`. After any status but SPVK_OK `text` is as it was. */
+uint32_t spvk_raw_explain_json(const void *held, const uint8_t *bytes, size_t len, spvk_text *text);
+/** As `spvk_explain_json_with` by SPVK_AS_1_6. After any status but SPVK_OK `text` is as it was. */
+uint32_t spvk_raw_explain_json_as_1_6(const void *held, const uint8_t *bytes, size_t len, spvk_text *text);
 /** As `spvk_show`. After any status but SPVK_OK `text` is as it was. */
 uint32_t spvk_raw_show(const void *held, const uint8_t *bytes, size_t len, spvk_text *text);
 /** As `spvk_show_with` by SPVK_AS_1_6. After any status but SPVK_OK `text` is as it was. */
@@ -295,8 +299,8 @@ static inline spvk_status spvk_check(const spvk_grammar *grammar, const uint8_t 
     return spvk_check_with(grammar, bytes, len, 0, verdict);
 }
 
-/** What `spvk_explain` and `spvk_show` answer, by one of two calls of the library: without a flag, and by SPVK_AS_1_6.
- *  (For this header.) */
+/** What `spvk_explain`, `spvk_explain_json` and `spvk_show` answer, by one of two calls of the library: without a flag,
+ *  and by SPVK_AS_1_6. (For this header.) */
 static inline spvk_status spvk_told_by(uint32_t (*raw)(const void *, const uint8_t *, size_t, spvk_text *),
                                        uint32_t (*as_1_6)(const void *, const uint8_t *, size_t, spvk_text *),
                                        const spvk_grammar *grammar, const uint8_t *bytes, size_t len,
@@ -332,6 +336,26 @@ static inline spvk_status spvk_explain_with(const spvk_grammar *grammar, const u
 static inline spvk_status spvk_explain(const spvk_grammar *grammar, const uint8_t *bytes, size_t len,
                                        spvk_verdict *verdict, spvk_buffer *buffer) {
     return spvk_explain_with(grammar, bytes, len, 0, verdict, buffer);
+}
+
+/** As `spvk_explain_json`, by flags: SPVK_AS_1_6, or 0 for none. The object speaks of the module as it was read.
+ *
+ *  Also SPVK_NO_FLAG: `flags` has another bit. */
+static inline spvk_status spvk_explain_json_with(const spvk_grammar *grammar, const uint8_t *bytes, size_t len,
+                                                 uint32_t flags, spvk_verdict *verdict, spvk_buffer *buffer) {
+    return spvk_told_by(spvk_raw_explain_json, spvk_raw_explain_json_as_1_6, grammar, bytes, len, flags, verdict,
+                        buffer);
+}
+
+/** The verdict on the bytes of a module, and what `spv explain --json` writes of it: a JSON object with a line feed
+ *  behind it, which says what the lines of `spvk_explain` say, with numbers as numbers. It has no member `file`. Its
+ *  members are described in docs/explain.schema.json, a JSON Schema.
+ *
+ *  SPVK_OK: `verdict` and `buffer` hold them, `buffer` until `spvk_buffer_delete`. The other statuses, and what is left
+ *  after them, as of `spvk_explain`. */
+static inline spvk_status spvk_explain_json(const spvk_grammar *grammar, const uint8_t *bytes, size_t len,
+                                            spvk_verdict *verdict, spvk_buffer *buffer) {
+    return spvk_explain_json_with(grammar, bytes, len, 0, verdict, buffer);
 }
 
 /** As `spvk_show`, by flags: SPVK_AS_1_6, or 0 for none. The text then tells version 1.6.

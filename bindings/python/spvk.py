@@ -20,20 +20,29 @@ file, as the wheel has it, or where the system finds it. Python 3.8 or later, an
 """
 
 import ctypes
+import json
 import os
-from dataclasses import dataclass
-from typing import Any, Callable, NamedTuple, Optional, Union
+from dataclasses import dataclass, field, fields
+from typing import Any, Callable, Dict, List, Mapping, NamedTuple, Optional, Tuple, Union
 
 __all__ = [
     "Error",
+    "Evidence",
     "Explanation",
+    "FailingWord",
     "Grammar",
     "GrammarError",
+    "Id",
+    "Instruction",
     "ModuleFault",
+    "NamedNumber",
     "NotText",
+    "Operand",
     "OutOfMemory",
     "TextFault",
+    "Thing",
     "Verdict",
+    "Words",
     "rule_name",
     "rule_sentence",
     "version",
@@ -141,6 +150,202 @@ class Explanation(NamedTuple):
         return self.verdict.is_valid
 
 
+@dataclass(frozen=True)
+class Instruction:
+    """An instruction of a module: its number, from 0, and its line as `spv show` writes it."""
+
+    inst: int
+    text: str
+
+
+@dataclass(frozen=True)
+class Id:
+    """An id."""
+
+    id: int
+
+
+@dataclass(frozen=True)
+class Operand:
+    """An operand: its number in the instruction, from 0, and its id, or else its number, with a name if it has one."""
+
+    index: int
+    id: Optional[int] = None
+    number: Optional[int] = None
+    name: Optional[str] = None
+
+
+@dataclass(frozen=True)
+class NamedNumber:
+    """A number, as an opcode or a bit, and its name in the grammar, if it has one."""
+
+    value: int
+    name: Optional[str] = None
+
+
+@dataclass(frozen=True)
+class FailingWord:
+    """The word of an instruction at which it is malformed: its number, from 0, and its value, if it is there."""
+
+    index: int
+    value: Optional[int] = None
+
+
+@dataclass(frozen=True)
+class Words:
+    """Words of an instruction, and whether there are more before them and after them."""
+
+    before: bool
+    values: Tuple[int, ...]
+    after: bool
+
+
+# A type, or what is wanted or found: nothing, a number, words for people, an instruction, or an id alone.
+Thing = Union[None, int, str, Instruction, Id]
+
+
+@dataclass(frozen=True)
+class Evidence:
+    """A verdict, and what shows the fault: what the lines of `spv explain` say, as values.
+
+    Each member is None, or empty, where it is not told of the rule. docs/explain.schema.json describes them by
+    their names in JSON, as `mayComeNext` for `may_come_next`. `members` is the JSON object itself: there stands
+    also what a later version of the library may add. It is true where the module is valid.
+    """
+
+    verdict: Verdict
+    members: Mapping[str, Any] = field(repr=False, hash=False)
+    rule: Optional[str] = None
+    section: Optional[str] = None
+    at: Optional[Instruction] = None
+    function: Optional[int] = None
+    block: Optional[int] = None
+    words: Optional[Words] = None
+    failing_word: Optional[FailingWord] = None
+    opcode: Optional[NamedNumber] = None
+    row: Optional[str] = None
+    may_come_next: Tuple[str, ...] = ()
+    may_end: bool = False
+    missing: Optional[str] = None
+    operand: Optional[Operand] = None
+    due: Optional[str] = None
+    bound: Optional[int] = None
+    defined: Optional[Instruction] = None
+    local_to: Optional[int] = None
+    role: Optional[str] = None
+    earlier: Optional[Instruction] = None
+    implied: Optional[str] = None
+    not_implied: Optional[str] = None
+    bit: Optional[NamedNumber] = None
+    needs_one_of: Tuple[str, ...] = ()
+    part: Optional[str] = None
+    called: Optional[Instruction] = None
+    imported: Optional[Instruction] = None
+    condition: Optional[str] = None
+    types: Tuple[Thing, ...] = ()
+    place: Optional[str] = None
+    parameter: Optional[int] = None
+    argument: Optional[int] = None
+    wanted: Thing = None
+    found: Thing = None
+    help: Optional[str] = None
+    missing_parent: Optional[int] = None
+    no_predecessor: Optional[Operand] = None
+    twice: Optional[Operand] = None
+    predecessors: Tuple[int, ...] = ()
+    walk: Tuple[int, ...] = ()
+    calls: Tuple[int, ...] = ()
+    cycle: Tuple[int, ...] = ()
+
+    def __bool__(self) -> bool:
+        return self.verdict.is_valid
+
+
+def _same(it: Any) -> Any:
+    """A number, a text or a truth of JSON."""
+    return it
+
+
+def _made_of(kind: Any) -> Callable[[Any], Any]:
+    """What makes a value of a JSON object; members for which it has no field are left out."""
+    names = {it.name for it in fields(kind)}
+    return lambda it: kind(**{name: value for name, value in it.items() if name in names})
+
+
+_instruction, _id = _made_of(Instruction), _made_of(Id)
+
+
+def _thing(it: Any) -> Thing:
+    """A thing of JSON."""
+    if not isinstance(it, dict):
+        return it if isinstance(it, (int, str)) else None
+    thing: Thing = _instruction(it) if "text" in it else _id(it)
+    return thing
+
+
+def _things(them: List[Any]) -> Tuple[Thing, ...]:
+    """Things of JSON."""
+    return tuple(map(_thing, them))
+
+
+def _words(it: Dict[str, Any]) -> Words:
+    """Words of JSON."""
+    return Words(it["before"], tuple(it["values"]), it["after"])
+
+
+# The members of the object of an explanation: what they are called in Python, and what makes their values.
+_MEMBERS: Dict[str, Tuple[str, Callable[[Any], Any]]] = {
+    "rule": ("rule", _same),
+    "section": ("section", _same),
+    "at": ("at", _instruction),
+    "function": ("function", _same),
+    "block": ("block", _same),
+    "words": ("words", _words),
+    "failingWord": ("failing_word", _made_of(FailingWord)),
+    "opcode": ("opcode", _made_of(NamedNumber)),
+    "row": ("row", _same),
+    "mayComeNext": ("may_come_next", tuple),
+    "mayEnd": ("may_end", _same),
+    "missing": ("missing", _same),
+    "operand": ("operand", _made_of(Operand)),
+    "due": ("due", _same),
+    "bound": ("bound", _same),
+    "defined": ("defined", _instruction),
+    "localTo": ("local_to", _same),
+    "role": ("role", _same),
+    "earlier": ("earlier", _instruction),
+    "implied": ("implied", _same),
+    "notImplied": ("not_implied", _same),
+    "bit": ("bit", _made_of(NamedNumber)),
+    "needsOneOf": ("needs_one_of", tuple),
+    "part": ("part", _same),
+    "called": ("called", _instruction),
+    "imported": ("imported", _instruction),
+    "condition": ("condition", _same),
+    "types": ("types", _things),
+    "place": ("place", _same),
+    "parameter": ("parameter", _same),
+    "argument": ("argument", _same),
+    "wanted": ("wanted", _thing),
+    "found": ("found", _thing),
+    "help": ("help", _same),
+    "missingParent": ("missing_parent", _same),
+    "noPredecessor": ("no_predecessor", _made_of(Operand)),
+    "twice": ("twice", _made_of(Operand)),
+    "predecessors": ("predecessors", tuple),
+    "walk": ("walk", tuple),
+    "calls": ("calls", tuple),
+    "cycle": ("cycle", tuple),
+}
+
+
+def _evidence(verdict: Verdict, text: str) -> Evidence:
+    """What an object of JSON tells of a verdict."""
+    members = json.loads(text)
+    told = {name: make(members[key]) for key, (name, make) in _MEMBERS.items() if key in members}
+    return Evidence(verdict, members, **told)
+
+
 class _Grammar(ctypes.Structure):
     _fields_ = [("held", ctypes.c_void_p)]
 
@@ -187,6 +392,8 @@ def _library() -> ctypes.CDLL:
         "check_as_1_6": (_Answer, asked),
         "explain": (ctypes.c_uint32, [*asked, to(_Text)]),
         "explain_as_1_6": (ctypes.c_uint32, [*asked, to(_Text)]),
+        "explain_json": (ctypes.c_uint32, [*asked, to(_Text)]),
+        "explain_json_as_1_6": (ctypes.c_uint32, [*asked, to(_Text)]),
         "show": (ctypes.c_uint32, [*asked, to(_Text)]),
         "show_as_1_6": (ctypes.c_uint32, [*asked, to(_Text)]),
         "assemble_little": (ctypes.c_uint32, [*asked, to(_Image)]),
@@ -325,6 +532,24 @@ class Grammar:
         call = _C.spvk_raw_explain_as_1_6 if as_1_6 else _C.spvk_raw_explain
         lines = _made(call, self._held, _octets(module), answer)
         return Explanation(_verdict(answer), lines.decode())
+
+    def explain_json(self, module: bytes, *, as_1_6: bool = False) -> str:
+        """The JSON object of `spv explain --json`, without a member `file`, and a line feed.
+
+        docs/explain.schema.json of the library's repository is its JSON Schema.
+        """
+        return self._object(module, as_1_6)[1]
+
+    def evidence(self, module: bytes, *, as_1_6: bool = False) -> Evidence:
+        """The verdict on the bytes of a module, and as values what the lines of `explain` say."""
+        return _evidence(*self._object(module, as_1_6))
+
+    def _object(self, module: bytes, as_1_6: bool) -> Tuple[Verdict, str]:
+        """The verdict on a module, and the JSON object that explains it."""
+        answer = _Text()
+        call = _C.spvk_raw_explain_json_as_1_6 if as_1_6 else _C.spvk_raw_explain_json
+        text = _made(call, self._held, _octets(module), answer)
+        return _verdict(answer), text.decode()
 
     def show(self, module: bytes, *, as_1_6: bool = False) -> str:
         """The text of a module, which need not be valid.

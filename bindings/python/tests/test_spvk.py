@@ -3,7 +3,9 @@
     SPVK_LIBRARY=out/libspvk.so.1.0.0 PYTHONPATH=bindings/python python3 -m unittest discover bindings/python/tests
 """
 
+import dataclasses
 import gc
+import json
 import re
 import threading
 import unittest
@@ -131,6 +133,40 @@ class Calls(unittest.TestCase):
         self.assertTrue(cut.text.startswith("fault L2 inst 9 word 29\n"))
         self.assertIs(bool(self.grammar.explain(self.kernel)), True)
         self.assertIs(bool(cut), False)
+
+    def test_evidence(self):
+        valid = self.grammar.evidence(self.kernel)
+        self.assertEqual((bool(valid), valid.verdict.code, valid.members), (True, None, {"verdict": "valid"}))
+        self.assertEqual(self.grammar.explain_json(self.kernel), '{"verdict":"valid"}\n')
+        text = self.grammar.explain_json(self.kernel[:-4])
+        self.assertEqual((text[-2:], text.count("\n")), ("}\n", 1))
+        cut = self.grammar.evidence(self.kernel[:-4])
+        self.assertEqual(cut.members, json.loads(text))
+        self.assertEqual((bool(cut), cut.verdict), (False, self.grammar.check(self.kernel[:-4])))
+        self.assertEqual(cut.verdict.sentence, cut.rule)
+        self.assertIn(f"[{cut.section}]", cut.rule)
+        self.assertIsNone(cut.operand)
+        older = bytearray(self.kernel)
+        older[5] = 4
+        self.assertEqual(self.grammar.evidence(older).verdict.code, "W5")
+        self.assertTrue(self.grammar.evidence(older, as_1_6=True))
+
+    def test_values_of_evidence(self):
+        found = self.grammar.evidence(read("modules/value-missing-on-one-branch.spv"))
+        self.assertEqual(str(found.verdict), "fault A1 inst 19 word 61")
+        self.assertEqual(found.at, spvk.Instruction(19, "%18 = OpIAdd %2 %17 %11"))
+        self.assertEqual((found.function, found.block, found.walk), (10, 16, (13, 15, 16)))
+        self.assertEqual(found.operand, spvk.Operand(2, id=17))
+        self.assertEqual(found.defined, spvk.Instruction(14, "%17 = OpIAdd %2 %11 %11"))
+        self.assertEqual((found.bound, found.types, found.may_end), (None, (), False))
+        self.assertEqual(len({found, self.grammar.evidence(self.kernel)}), 2)
+
+    def test_members_of_evidence(self):
+        names = [field.name for field in dataclasses.fields(spvk.Evidence)]
+        self.assertEqual(names, ["verdict", "members", *(name for name, _ in spvk._MEMBERS.values())])
+        schema = json.loads((TOP / "docs/explain.schema.json").read_bytes())
+        told = set(schema["$defs"]["fault"]["properties"]) - {"file", "verdict", "code", "inst", "word"}
+        self.assertEqual(told, set(spvk._MEMBERS))
 
     def test_the_built_in_grammar(self):
         for grammar in (spvk.Grammar(), spvk.Grammar(None)):

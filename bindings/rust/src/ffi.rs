@@ -78,7 +78,7 @@ impl Image {
 /// `spvk_raw_check`, and the same as 1.6.
 pub type Check = unsafe extern "C" fn(*const c_void, *const u8, usize) -> Answer;
 
-/// `spvk_raw_explain` and `spvk_raw_show`, and the same as 1.6.
+/// `spvk_raw_explain`, `spvk_raw_explain_json` and `spvk_raw_show`, and the same as 1.6.
 pub type MakeText = unsafe extern "C" fn(*const c_void, *const u8, usize, *mut Text) -> u32;
 
 extern "C" {
@@ -95,6 +95,18 @@ extern "C" {
         text: *mut Text,
     ) -> u32;
     pub fn spvk_raw_explain_as_1_6(
+        held: *const c_void,
+        bytes: *const u8,
+        len: usize,
+        text: *mut Text,
+    ) -> u32;
+    pub fn spvk_raw_explain_json(
+        held: *const c_void,
+        bytes: *const u8,
+        len: usize,
+        text: *mut Text,
+    ) -> u32;
+    pub fn spvk_raw_explain_json_as_1_6(
         held: *const c_void,
         bytes: *const u8,
         len: usize,

@@ -61,12 +61,13 @@ pub enum ByteOrder {
     Big,
 }
 
-/// A verdict, and the lines that explain it.
+/// A verdict, and the text that explains it.
 #[derive(Debug)]
 pub struct Explanation {
     /// The verdict.
     pub verdict: Verdict,
-    /// The lines of `spv explain`: that of the verdict, and after that of a fault those that explain it.
+    /// Of `explain` the lines of `spv explain`: that of the verdict, and after that of a fault those that explain it. Of
+    /// `explain_json` the object of `spv explain --json`, a line.
     pub text: Text,
 }
 
@@ -161,6 +162,32 @@ impl Grammar {
         let call: ffi::MakeText = match version {
             Version::AsTold => ffi::spvk_raw_explain,
             Version::As1_6 => ffi::spvk_raw_explain_as_1_6,
+        };
+        let (verdict, text) = self.text_by(call, module)?;
+        Ok(Explanation { verdict, text })
+    }
+
+    /// The verdict on the bytes of a module, with the JSON object that explains it, as `spv explain --json` writes it, but
+    /// without a member `file`. docs/explain.schema.json of the library's repository is its JSON Schema.
+    ///
+    /// # Errors
+    /// Out of memory alone.
+    pub fn explain_json(&self, module: &[u8]) -> Result<Explanation, OutOfMemory> {
+        self.explain_json_with(module, Version::AsTold)
+    }
+
+    /// The same of the bytes read as a version.
+    ///
+    /// # Errors
+    /// As of `explain_json`.
+    pub fn explain_json_with(
+        &self,
+        module: &[u8],
+        version: Version,
+    ) -> Result<Explanation, OutOfMemory> {
+        let call: ffi::MakeText = match version {
+            Version::AsTold => ffi::spvk_raw_explain_json,
+            Version::As1_6 => ffi::spvk_raw_explain_json_as_1_6,
         };
         let (verdict, text) = self.text_by(call, module)?;
         Ok(Explanation { verdict, text })

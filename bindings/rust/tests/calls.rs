@@ -50,6 +50,23 @@ fn explanations() {
 }
 
 #[test]
+fn objects() {
+    let (grammar, kernel) = (grammar(), kernel());
+    let valid = grammar.explain_json(&kernel).unwrap();
+    assert_eq!(valid.verdict, Verdict::Valid);
+    assert_eq!(&*valid.text, "{\"verdict\":\"valid\"}\n");
+    let cut = grammar.explain_json(&kernel[..kernel.len() - 4]).unwrap();
+    assert_eq!(cut.verdict.to_string(), "fault L2 inst 9 word 29");
+    let begin = "{\"verdict\":\"fault\",\"code\":\"L2\",\"inst\":9,\"word\":29,\"rule\":\"";
+    assert!(cut.text.starts_with(begin));
+    assert!(cut.text.ends_with("}\n"));
+    let mut older = kernel;
+    older[5] = 4;
+    let told = grammar.explain_json_with(&older, Version::As1_6).unwrap();
+    assert_eq!(&*told.text, "{\"verdict\":\"valid\"}\n");
+}
+
+#[test]
 fn texts_and_back() {
     let (grammar, kernel) = (grammar(), kernel());
     let text = grammar.show(&kernel).unwrap();

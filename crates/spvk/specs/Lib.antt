@@ -7,6 +7,7 @@ pub mod Grammar
 pub mod GrammarReason
 pub mod Held
 pub mod Numbers
+pub mod Object
 pub mod Rules
 pub mod Show
 pub mod StaticText

@@ -16,6 +16,7 @@ ghost use Rattle.spvk.specs.Grammar.{IsReason};
 ghost use Rattle.spvk.specs.GrammarReason.{ExplainsGrammar, IsExplained};
 ghost use Rattle.spvk.specs.Held.{boxed, lent};
 ghost use Rattle.spvk.specs.Numbers.{code_number, nowhere, numbers_of, rule_number};
+ghost use Rattle.spvk.specs.Object.{IsTelling, TellsObjectAt};
 ghost use Rattle.spvk.specs.Rules.{PutsIfAny};
 ghost use Rattle.spvk.specs.Show.{Shows, ShowsAt};
 ghost use Rattle.spvk.specs.Status.{status_of, status_text};
@@ -79,6 +80,10 @@ pub fn kept_examples()
     ensures shown { (G : TableView) (bytes : List ℕ) (old : Text) → ShowsAt null_ptr G bytes old old 2 }
     ensures explained { (G : TableView) (bytes : List ℕ) (old : Text) → ExplainsAt null_ptr G bytes old old 2 }
     ensures not_done { (G : TableView) (bytes : List ℕ) (old : Text) → ¬ (ExplainsAt null_ptr G bytes old old 0) }
+    ensures told { (G : TableView) (bytes : List ℕ) (old : Text) → TellsObjectAt null_ptr G bytes old old 2 }
+    ensures not_told { (G : TableView) (bytes : List ℕ) (old : Text) → ¬ (TellsObjectAt null_ptr G bytes old old 0) }
+    // A text that holds nothing tells no verdict as an object.
+    ensures no_object { (G : TableView) (bytes : List ℕ) (t : Text) → t.buffer.bytes ≡ None → ¬ (IsTelling G bytes t) }
     ensures assembled { (G : TableView) (o : Order) (text : List ℕ) (old : Assembled)
         → AssemblesAt null_ptr G o text old old 2 }
     ensures unsaid { (old : StaticText) → PutsIfAny None old old false }

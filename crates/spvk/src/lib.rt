@@ -18,6 +18,7 @@ mod judging;
 pub mod laws;
 mod loose;
 mod numbers;
+mod objects;
 mod rules;
 mod showing;
 mod static_text;
