@@ -64,9 +64,27 @@ PROMISES = (
         "`explain` answers the verdict of `check`, and of a fault evidence that the rule is broken there; `explain_stream` "
         "and `explain_bytes` put it into lines.",
         (
-            ("spv_explain", "explained.rt", "explain"),
+            ("spv_explain", "reading.rt", "explain"),
             ("spv_explain", "stream.rt", "explain_bytes"),
             ("spv_explain", "stream.rt", "explain_stream"),
+        ),
+    ),
+    (
+        "Answers for machines",
+        "`check_json` and `explain_json` write the verdict, and what shows a fault, as an object of JSON.",
+        (
+            ("spv_explain", "answers.rt", "check_json"),
+            ("spv_explain", "answers.rt", "explain_json"),
+        ),
+    ),
+    (
+        "What people look at",
+        "`annotate` is `show` with comments, `page` is the same as HTML, the graphs are DOT.",
+        (
+            ("spv_annotate", "text.rt", "annotate"),
+            ("spv_annotate", "html_page.rt", "page"),
+            ("spv_pictures", "calls.rt", "call_graph"),
+            ("spv_pictures", "blocks.rt", "block_graph"),
         ),
     ),
     (

@@ -114,11 +114,11 @@ def every_case(program, folder):
     return None if count > 300 else f"  {count} cases"
 
 
-def every_module(command):
+def every_module(*words):
     """The check that a command says of all modules the same without a grammar file as with Khronos'."""
 
     def check(program, folder):
-        return compared([command, *sorted(MODULES.glob("*.spv"))], program, folder)
+        return compared([*words, *sorted(MODULES.glob("*.spv"))], program, folder)
 
     return check
 
@@ -126,9 +126,10 @@ def every_module(command):
 def every_text(program, folder):
     """Each module shown and each text assembled: the same without a grammar file as with Khronos'."""
     for path in sorted(MODULES.glob("*.spv")):
-        wrong = compared(["show", path], program, folder)
-        if wrong:
-            return wrong
+        for words in ["show"], ["annotate"], ["graph"]:
+            wrong = compared([*words, path], program, folder)
+            if wrong:
+                return wrong
     for path in sorted([*MODULES.glob("*.spvasm"), *TEXTS.glob("*.spvasm")]):
         wrong = compared(["asm", "--out", "-", path], program, folder)
         if wrong:
@@ -411,6 +412,7 @@ def checks():
         ("every case", every_case),
         ("every verdict", every_module("check")),
         ("every explanation", every_module("explain")),
+        ("every object", every_module("explain", "--json")),
         ("every text", every_text),
         ("written as Khronos' is", as_khronos),
         ("entry by entry", entry_by_entry),

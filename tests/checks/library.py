@@ -3,6 +3,7 @@
 The sources are in tests/library. The archive and the shared library are those of `make`, in out/.
 """
 
+import json
 import os
 import re
 import shlex
@@ -40,7 +41,7 @@ INSTALLED = """
     share/zsh/site-functions/_spv share/fish/vendor_completions.d/spv.fish
     share/doc/spv/README.md share/doc/spv/SECURITY.md share/doc/spv/CHANGELOG.md share/doc/spv/NOTICE
     share/doc/spv/LICENSE-MIT share/doc/spv/LICENSE-APACHE share/doc/spv/PROFILE.md share/doc/spv/PERFORMANCE.md
-    share/doc/spv/PROOFS.md
+    share/doc/spv/PROOFS.md share/doc/spv/explain.schema.json
 """
 # What README's words for installing need of the repository, beside what is built.
 SOURCES_OF_INSTALL = """
@@ -183,6 +184,26 @@ def every_explanation(program, folder):
             wrong = difference(*(run(it, words, Path(place)) for it in (program, made)))
         if wrong is not None:
             raise Wrong(f"  {case.one('case')}\n{wrong}")
+
+
+def without_file(line):
+    """A JSON object without its member `file`."""
+    return {name: value for name, value in json.loads(line).items() if name != "file"}
+
+
+def every_object(program, folder):
+    """Every module of the cases explained as JSON: the library's object is the program's, without the file's name."""
+    made = built(folder, "program")
+    for case in chosen_cases():
+        with tempfile.TemporaryDirectory(dir=folder) as place:
+            words = ["explain", *laid_out(case, Path(place))[1:3], "--json", Path(place) / "F"]
+            if case.one("run").startswith("asm") or not words[-1].exists():
+                continue
+            own, told = (run(it, words, Path(place)) for it in (made, program))
+        if (own.status, own.err) != (told.status, told.err):
+            raise Wrong(f"  {case.one('case')}\n{own}\n{told}")
+        if told.status < 2 and (b'"file"' in own.out or json.loads(own.out) != without_file(told.out)):
+            raise Wrong(f"  {case.one('case')}\n{own}\n{told}")
 
 
 def every_rule(program, folder):
@@ -398,6 +419,7 @@ def checks():
         ("eight threads under valgrind", threads_watched, "cc valgrind"),
         ("every case", every_case, "cc"),
         ("every explanation", every_explanation, "cc"),
+        ("every explanation as JSON", every_object, "cc"),
         ("every rule", every_rule, "cc"),
         ("instructions of a check", instructions, "cc valgrind khronos"),
         ("Rust", in_rust, "cargo"),

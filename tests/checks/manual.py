@@ -20,7 +20,7 @@ LAYERS = frozenset({"use"})
 ITSELF = ""
 HELP = {"-h", "--help"}
 VERSION = {"-V", "--version"}
-TAKES_GRAMMARS = ("check", "explain", "show", "asm", "trace")
+TAKES_GRAMMARS = ("check", "explain", "show", "annotate", "graph", "asm", "trace")
 TAKES_FILES = (*TAKES_GRAMMARS, "grammar")
 OPTION = re.compile(r"(?<![\w-])(?:--[a-z](?:[a-z0-9.-]*[a-z0-9])?|-[A-Za-z])(?![\w-])")
 
@@ -293,7 +293,8 @@ def completes_files(shell):
         with_files += [["spv", command, "--grammar", "mod"] for command in TAKES_GRAMMARS]
         with_files += [["spv", "asm", "--out", "mod"]]
         without = [["spv", "trace", option, "mod"] for option in ("--choices", "--function", "--limit")]
-        without += [["spv", "mod"], ["spv", "rules", "mod"], ["spv", "help", "mod"]]
+        without += [["spv", "annotate", option, "mod"] for option in ("--color", "--function")]
+        without += [["spv", "graph", "--function", "mod"], ["spv", "mod"], ["spv", "rules", "mod"], ["spv", "help", "mod"]]
         lines = with_files + without
         offered = {"bash": offered_by_bash, "fish": offered_by_fish}[shell](path, lines, folder)
         wanted = [{"module.spv"}] * len(with_files) + [set()] * len(without)

@@ -23,6 +23,8 @@ TOOLS = {
     "cc ": {"cc"},
     "clang ": {"llvm-spirv"},
     "cmake ": {"cmake"},
+    "dot ": {"dot"},
+    "jq ": {"jq"},
     "pkg-config ": {"library", "make", "pkg-config"},
 }
 
@@ -175,7 +177,7 @@ def readme(program, folder):
             continue
         got, status = run_block(line, folder, variables)
         count += 1
-        due = int((printed or b"").startswith(b"fault "))
+        due = int((printed or b"").startswith(b"fault ") or b'"verdict":"fault"' in (printed or b""))
         if status != due or printed is not None and printed != got:
             return f"  {line}\n  wanted: {shown(printed or b'')}, exit {due}\n  got:    {shown(got)}, exit {status}"
     return None if count >= 6 else f"  README has {count} command lines"

@@ -5,6 +5,7 @@ refused, what `--verbose` says behind the line of an error may be left out. The 
 refused in one of the lines alone, but for the last ones. refused.py does so with the cases.
 """
 
+import json
 import os
 import struct
 from dataclasses import dataclass, field
@@ -60,11 +61,30 @@ LINES = [
     line("explain", "-H", "--as-1.6", "broken.spv", names=("broken.spv",)),
     line("explain", OLD),
     line("explain", "--full", "broken.spv"),
+    line("check", "--json", "broken.spv", names=("broken.spv",)),
+    line("check", "--json", "kernel.spv", "broken.spv", names=("kernel.spv", "broken.spv")),
+    line("check", "--json", "--quiet", "broken.spv", calls=[OPEN, READ], names=("broken.spv",)),
+    line("explain", "--json", "--as-1.6", OLD, names=(OLD,)),
+    line("explain", "--json", "broken.spv", "kernel.spv", names=("kernel.spv", "broken.spv")),
+    line("rules", "--json", calls=[WRITE]),
+    line("rules", "--json", "a1", calls=[WRITE]),
     line("show", "--as-1.6", OLD),
+    line("annotate", "--as-1.6", OLD),
+    line("annotate", "--color", "always", "broken.spv"),
+    line("annotate", "--function", 10, "broken.spv"),
+    line("annotate", "-", calls=[READ, WRITE], given="kernel.spv"),
+    line("annotate", "--html", "broken.spv"),
+    line("annotate", "--html", "--function", 10, "broken.spv"),
+    line("graph", "--as-1.6", OLD),
+    line("graph", "--function", 10, "broken.spv"),
+    line("graph", "-", calls=[READ, WRITE], given="kernel.spv"),
     line("trace", "--as-1.6", "--function", 3, "--limit", 9, OLD),
     line("asm", "--out", MADE, TEXT),
     line("asm", "--out", MADE, "text", calls=[OPEN, READ, WRITE]),
     line("asm", "--out", "./text", "text", calls=[WRITE]),
+    line("asm", "--explain", "--out", MADE, TEXT),
+    line("asm", "--explain", "--out", MADE, "faulty", calls=[READ, WRITE]),
+    line("asm", "--explain", "--out", "-", "faulty"),
     line("rules", "a1", calls=[WRITE]),
     line("rules", "J4", calls=[WRITE]),
     line("rules", calls=[WRITE]),
@@ -87,6 +107,7 @@ def laid_out(folder):
     (folder / "broken.spv").write_bytes(BROKEN.read_bytes())
     (folder / OLD).write_bytes(kernel[:4] + struct.pack("<I", 0x00010200) + kernel[8:])
     (folder / "text").write_bytes(TEXT.read_bytes())
+    (folder / "faulty").write_bytes(TEXT.read_bytes().replace(b"Physical64", b"Physical65"))
     (folder / "thin.json").write_bytes(THIN.read_bytes())
     (folder / "refused.json").write_bytes(b"[1")
     (folder / "bad.json").write_bytes(BAD)
@@ -127,9 +148,20 @@ def are_lines_of(wanted, got):
     return got.endswith(b"\n") and all(any(it == other for other in rest) for it in lines_of(got)) or not got
 
 
+def objects_of(it, call):
+    """What `--json` writes of a file for which this call is refused: a line for each file that is named."""
+    names = it.names or tuple(str(word) for word in it.words[-1:])
+    error = TOLD[call].decode().split(" ")[1]
+    told = [{"file": name, "verdict": "error", "error": error} for name in names]
+    return {json.dumps(each, separators=(",", ":"), ensure_ascii=False).encode() for each in told}
+
+
 def is_told(it, call, wanted, got):
     """Whether an answer is the refusal of a call, with nothing in part: or the answer to the other files of several."""
     told = {TOLD[call], *(name.encode() + b": " + TOLD[call] for name in it.names)}
+    if "--json" in it.words:
+        kept = [line for line in lines_of(got.out) if line not in objects_of(it, call)]
+        got = Answer(b"".join(line + b"\n" for line in kept) + got.out.rpartition(b"\n")[2], got.err, got.status)
     err = lines_of(got.err)
     due = [line for line in err if line not in told]
     is_named = len(due) < len(err) or call == WRITE

@@ -1,10 +1,11 @@
 """The tools that some checks need beside python3, by the names that `tests/run --without` takes."""
 
+import importlib.util
 import shutil
 import subprocess
 from pathlib import Path
 
-from . import khronos, library
+from . import corpus, khronos, library
 from .common import TESTS
 from .refused import compiler
 
@@ -62,6 +63,12 @@ def no_translator():
     return None if translator_of_clang() else "there is no llvm-spirv that fits clang (Debian's package llvm-spirv-N)"
 
 
+def no_schema():
+    """Why no object can be validated, or None."""
+    is_there = importlib.util.find_spec("jsonschema") is not None
+    return None if is_there else "there is no Python module jsonschema (Debian's package python3-jsonschema)"
+
+
 def no_library():
     """Why the library for C cannot be tested, or None."""
     lacking = [it for it in (library.ARCHIVE, library.OBJECT, library.shared()) if not it.is_file()]
@@ -73,10 +80,15 @@ TOOLS = {
     "c++": lambda: None if library.cpp() else "there is no C++ compiler (Debian's package g++)",
     "cargo": on_path("cargo", "Debian's packages cargo and rustc"),
     "cc": no_compiler,
+    "chromium": on_path("chromium", "Debian's package chromium"),
     "clang": no_sanitizers,
     "cmake": no_cmake,
+    "distributed": corpus.missing,
+    "dot": on_path("dot", "Debian's package graphviz"),
     "fish": on_path("fish", "Debian's package fish"),
     "groff": on_path("groff", "Debian's package groff-base"),
+    "jq": on_path("jq", "Debian's package jq"),
+    "jsonschema": no_schema,
     "khronos": khronos.missing,
     "library": no_library,
     "llvm-spirv": no_translator,

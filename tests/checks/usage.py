@@ -10,7 +10,7 @@ MODULES = TESTS / "modules"
 KERNEL = MODULES / "smallest-kernel.spv"
 TEXT = MODULES / "smallest-kernel.spvasm"
 BROKEN = MODULES / "value-missing-on-one-branch.spv"
-COMMANDS = ("check", "explain", "show", "asm", "trace", "rules", "grammar")
+COMMANDS = ("check", "explain", "show", "annotate", "graph", "asm", "trace", "rules", "grammar")
 VARIABLE = "SPV_GRAMMAR"
 VALID = Answer(b"valid\n", b"", 0)
 BAD_USE = Answer(b"", b"error use\n", 2)
@@ -91,7 +91,9 @@ def dash_in_a_folder(program, folder):
 
 def output_takes_nothing(program, folder):
     """A full output is `error file`, of the module that `asm` makes, of help and of the version too."""
-    lines = (["asm", "--out", "-", TEXT], ["check", KERNEL], ["help"], ["help", "check"], ["--version"], ["rules"])
+    lines = (["asm", "--out", "-", TEXT], ["check", KERNEL], ["check", "--json", KERNEL], ["annotate", KERNEL])
+    lines += (["annotate", "--html", KERNEL], ["graph", KERNEL], ["rules", "--json"], ["help"], ["help", "check"])
+    lines += (["--version"], ["rules"])
     for words in lines:
         with open("/dev/full", "wb") as full:
             wrong = answers([(words, NO_FILE)], program, folder, stdout=full, env=under(GRAMMAR))
@@ -182,7 +184,7 @@ def examples_of_help(program, folder):
     for words in [["help"], *(["help", command] for command in COMMANDS)]:
         text = run(program, words, folder, env=under()).out.decode()
         lines = [line for line in text.partition("Example")[2].splitlines() if line.startswith("  spv ")]
-        lines = [line.partition(" > ")[0].split() for line in lines]
+        lines = [line.partition(" > ")[0].partition(" | ")[0].split() for line in lines]
         if not lines or any(run(program, line[1:], folder, env=under(GRAMMAR)).err == BAD_USE.err for line in lines):
             return f"  {words}: {lines}"
     return None

@@ -21,7 +21,7 @@ THERE_ARE = [0x00010000 + 0x100 * minor for minor in range(6)]
 THERE_ARE_NOT = [0, 1, 6, 0x00000600, 0x00010601, 0x00010001, 0x00010401, 0x00010700, 0x0001FF00, 0x00020000]
 THERE_ARE_NOT += [0x00020600, 0x01010600, 0x01010400, 0x80010600, 0x00060100, 0x00000106, 0xFFFFFFFF]
 VERSION_FAULT = b"fault W5\n"
-COMMANDS = ("check", "explain", "show", "trace")
+COMMANDS = ("check", "explain", "show", "annotate", "graph", "trace")
 EXAMPLES = ("smallest-kernel", "smallest-kernel-big-order", "value-missing-on-one-branch", "call-of-a-later-function")
 REAL = TESTS / "real"
 

@@ -138,6 +138,10 @@ static int without_grammar(const spvk_grammar *grammar, file module, file text) 
     CHECK(spvk_explain(grammar, module.bytes, module.size, &verdict, &buffer) == SPVK_NO_GRAMMAR && is_empty(buffer));
     CHECK(spvk_explain(grammar, NULL, 9, NULL, NULL) == SPVK_NO_GRAMMAR);
     buffer = unread();
+    CHECK(spvk_explain_json(grammar, module.bytes, module.size, &verdict, &buffer) == SPVK_NO_GRAMMAR);
+    CHECK(is_empty(buffer));
+    CHECK(spvk_explain_json_with(grammar, NULL, 9, 2, NULL, NULL) == SPVK_NO_GRAMMAR);
+    buffer = unread();
     CHECK(spvk_show(grammar, module.bytes, module.size, &verdict, &buffer) == SPVK_NO_GRAMMAR && is_empty(buffer));
     CHECK(spvk_show(grammar, NULL, 9, NULL, NULL) == SPVK_NO_GRAMMAR);
     buffer = unread();
@@ -176,7 +180,7 @@ static int longest(const spvk_grammar *grammar) {
     return 0;
 }
 
-// What `spvk_explain` or `spvk_show` answers where a pointer is null.
+// What `spvk_explain`, `spvk_explain_json` or `spvk_show` answers where a pointer is null.
 typedef spvk_status telling(const spvk_grammar *, const uint8_t *, size_t, spvk_verdict *, spvk_buffer *);
 
 static int nulls(telling *call, const spvk_grammar *grammar, file module) {
@@ -206,6 +210,31 @@ static int explanations(const spvk_grammar *grammar, file module, file lines) {
     CHECK(spvk_explain(grammar, NULL, 0, &verdict, &buffer) == SPVK_OK);
     CHECK(is_verdict(verdict, SPVK_W2, SPVK_NOWHERE, SPVK_NOWHERE));
     CHECK(buffer.size >= empty.size && memcmp(buffer.data, empty.bytes, empty.size) == 0);
+    spvk_buffer_delete(&buffer);
+    return 0;
+}
+
+// Whether the bytes begin with a text, and end with a line feed.
+static bool begins(spvk_buffer it, const char *text) {
+    const size_t size = strlen(text);
+    return it.size > size && memcmp(it.data, text, size) == 0 && it.data[it.size - 1] == '\n';
+}
+
+static int objects(const spvk_grammar *grammar, file module) {
+    spvk_verdict verdict = UNTOUCHED;
+    spvk_buffer buffer = unread();
+    const file valid = {(uint8_t *)"{\"verdict\":\"valid\"}\n", 20};
+    CHECK(nulls(spvk_explain_json, grammar, module) == 0);
+    CHECK(spvk_explain_json(grammar, module.bytes, module.size, &verdict, &buffer) == SPVK_OK);
+    CHECK(verdict.code == SPVK_VALID && has(buffer, valid));
+    spvk_buffer_delete(&buffer);
+    CHECK(is_empty(buffer));
+    CHECK(spvk_explain_json(grammar, module.bytes, module.size - 4, &verdict, &buffer) == SPVK_OK);
+    CHECK(verdict.code == SPVK_L2 && begins(buffer, "{\"verdict\":\"fault\",\"code\":\"L2\",\"inst\":"));
+    spvk_buffer_delete(&buffer);
+    CHECK(spvk_explain_json(grammar, NULL, 0, &verdict, &buffer) == SPVK_OK);
+    CHECK(is_verdict(verdict, SPVK_W2, SPVK_NOWHERE, SPVK_NOWHERE));
+    CHECK(begins(buffer, "{\"verdict\":\"fault\",\"code\":\"W2\",\"rule\":"));
     spvk_buffer_delete(&buffer);
     return 0;
 }
@@ -252,6 +281,9 @@ static int older(const spvk_grammar *grammar, file module, file text, bool big, 
     CHECK(spvk_explain_with(grammar, it.bytes, it.size, SPVK_AS_1_6, &verdict, &buffer) == SPVK_OK);
     CHECK(verdict.code == SPVK_VALID && has(buffer, valid));
     spvk_buffer_delete(&buffer);
+    CHECK(spvk_explain_json_with(grammar, it.bytes, it.size - 4, SPVK_AS_1_6, &verdict, &buffer) == SPVK_OK);
+    CHECK(verdict.code == SPVK_L2 && begins(buffer, "{\"verdict\":\"fault\",\"code\":\"L2\","));
+    spvk_buffer_delete(&buffer);
     CHECK(spvk_show_with(grammar, it.bytes, it.size, SPVK_AS_1_6, &verdict, &buffer) == SPVK_OK);
     CHECK(verdict.code == SPVK_VALID && has(buffer, text));
     spvk_buffer_delete(&buffer);
@@ -267,6 +299,9 @@ static int flags(const spvk_grammar *grammar, file module, file text) {
     spvk_buffer buffer = unread();
     CHECK(spvk_check_with(grammar, module.bytes, module.size, 2, &verdict) == SPVK_NO_FLAG);
     CHECK(spvk_explain_with(grammar, module.bytes, module.size, 2, &verdict, &buffer) == SPVK_NO_FLAG);
+    CHECK(is_empty(buffer));
+    buffer = unread();
+    CHECK(spvk_explain_json_with(grammar, module.bytes, module.size, 2, &verdict, &buffer) == SPVK_NO_FLAG);
     CHECK(is_empty(buffer));
     buffer = unread();
     CHECK(spvk_show_with(grammar, module.bytes, module.size, SPVK_AS_1_6 | 4, &verdict, &buffer) == SPVK_NO_FLAG);
@@ -378,6 +413,7 @@ int main(int count, char **words) {
     free(text.bytes);
     errno = 0;
     failed = checks(&grammar, module) || longest(&grammar) || explanations(&grammar, module, lines);
+    failed = failed || objects(&grammar, module);
     failed = failed || texts(&grammar, module, shown) || modules(&grammar, module, shown) || rules();
     failed = failed || flags(&grammar, module, shown) || built_in(module, shown) || statuses();
     CHECK(!failed);

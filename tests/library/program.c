@@ -1,5 +1,6 @@
 // Answers as the program `spv` does, by the library: the commands check, explain, show and asm, with their words in
-// the order that tests/cases has them, and of `rules` the first line of each code. What the library has no call for
+// the order that tests/cases has them, explain with --json (without the member `file`), and of `rules` the first line of
+// each code. What the library has no call for
 // (faults of the command line, files that do not open) is not told apart: exit status 3.
 #include "spvk.h"
 
@@ -9,12 +10,12 @@
 
 typedef struct task {
     const char *command, *grammar, *file, *out;
-    bool big;
+    bool big, json;
 } task;
 
 // The words of the command line.
 static task task_of(int count, char **words) {
-    task it = {count > 1 ? words[1] : "", NULL, NULL, NULL, false};
+    task it = {count > 1 ? words[1] : "", NULL, NULL, NULL, false, false};
     for (int at = 2; at < count; at++) {
         if (strcmp(words[at], "--grammar") == 0 && at + 1 < count) {
             it.grammar = words[++at];
@@ -22,6 +23,8 @@ static task task_of(int count, char **words) {
             it.out = words[++at];
         } else if (strcmp(words[at], "--big") == 0) {
             it.big = true;
+        } else if (strcmp(words[at], "--json") == 0) {
+            it.json = true;
         } else {
             it.file = words[at];
         }
@@ -58,10 +61,10 @@ static int check(const spvk_grammar *grammar, file in) {
     return status == SPVK_OK ? verdict_of(verdict) : error_of(status);
 }
 
-static int explain(const spvk_grammar *grammar, file in) {
+static int explain(const spvk_grammar *grammar, file in, bool json) {
     spvk_verdict verdict = {0, 0, 0};
     spvk_buffer lines;
-    spvk_status status = spvk_explain(grammar, in.bytes, in.size, &verdict, &lines);
+    spvk_status status = (json ? spvk_explain_json : spvk_explain)(grammar, in.bytes, in.size, &verdict, &lines);
     if (status != SPVK_OK) return error_of(status);
     fwrite(lines.data, 1, lines.size, stdout);
     spvk_buffer_delete(&lines);
@@ -116,7 +119,7 @@ int main(int count, char **words) {
     } else if (strcmp(it.command, "check") == 0) {
         status = check(&grammar, in);
     } else if (strcmp(it.command, "explain") == 0) {
-        status = explain(&grammar, in);
+        status = explain(&grammar, in, it.json);
     } else if (strcmp(it.command, "show") == 0) {
         status = show(&grammar, in);
     } else if (strcmp(it.command, "asm") == 0) {

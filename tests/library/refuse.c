@@ -116,7 +116,7 @@ static answer by_check_as_1_6(void) {
     return it;
 }
 
-// What `spvk_explain` or `spvk_show` answers of the first bytes of the module.
+// What `spvk_explain`, `spvk_explain_json` or `spvk_show` answers of the first bytes of the module.
 typedef spvk_status telling(const spvk_grammar *, const uint8_t *, size_t, spvk_verdict *, spvk_buffer *);
 
 static answer by_text_of(telling *call, size_t size) {
@@ -132,6 +132,10 @@ static answer by_explain(void) { return by_text_of(spvk_explain, module.size); }
 
 static answer by_explain_of_fault(void) { return by_text_of(spvk_explain, faulty_size); }
 
+static answer by_explain_json(void) { return by_text_of(spvk_explain_json, module.size); }
+
+static answer by_explain_json_of_fault(void) { return by_text_of(spvk_explain_json, faulty_size); }
+
 static answer by_show(void) { return by_text_of(spvk_show, module.size); }
 
 static answer by_show_of_fault(void) { return by_text_of(spvk_show, module.size - 2); }
@@ -142,6 +146,13 @@ static spvk_status explain_as_1_6(const spvk_grammar *by, const uint8_t *bytes, 
 }
 
 static answer by_explain_as_1_6(void) { return by_text_of(explain_as_1_6, faulty_size); }
+
+static spvk_status explain_json_as_1_6(const spvk_grammar *by, const uint8_t *bytes, size_t size,
+                                       spvk_verdict *verdict, spvk_buffer *buffer) {
+    return spvk_explain_json_with(by, bytes, size, SPVK_AS_1_6, verdict, buffer);
+}
+
+static answer by_explain_json_as_1_6(void) { return by_text_of(explain_json_as_1_6, faulty_size); }
 
 static spvk_status show_as_1_6(const spvk_grammar *by, const uint8_t *bytes, size_t size, spvk_verdict *verdict,
                                spvk_buffer *buffer) {
@@ -180,10 +191,13 @@ static const call CALLS[] = {
     {"check of a fault", by_check_of_fault},
     {"explain", by_explain},
     {"explain of a fault", by_explain_of_fault},
+    {"explain_json", by_explain_json},
+    {"explain_json of a fault", by_explain_json_of_fault},
     {"show", by_show},
     {"show of a fault", by_show_of_fault},
     {"check as 1.6", by_check_as_1_6},
     {"explain as 1.6", by_explain_as_1_6},
+    {"explain_json as 1.6", by_explain_json_as_1_6},
     {"show as 1.6", by_show_as_1_6},
     {"assemble", by_assemble},
     {"assemble of a fault", by_assemble_of_fault},

@@ -31,6 +31,8 @@ static void *call_all(void *unused) {
         if (spvk_check(&grammar, module.bytes, len, &verdict) != SPVK_OK) return "spvk_check";
         if (spvk_explain(&grammar, module.bytes, len, &verdict, &text) != SPVK_OK) return "spvk_explain";
         spvk_buffer_delete(&text);
+        if (spvk_explain_json(&grammar, module.bytes, len, &verdict, &text) != SPVK_OK) return "spvk_explain_json";
+        spvk_buffer_delete(&text);
     }
     if (spvk_show(&grammar, module.bytes, module.size, &verdict, &text) != SPVK_OK) return "spvk_show";
     if (text.size > 0 && spvk_assemble(&grammar, text.data, text.size, true, &fault, &bytes) != SPVK_OK)

@@ -38,6 +38,9 @@ static bool is_fine(int at) {
     if (spvk_explain(&grammar, it.bytes, it.size, &verdict, &lines) != SPVK_OK) return false;
     bool fine = is_same(verdict, verdicts[at]) && lines.size > 0;
     spvk_buffer_delete(&lines);
+    if (spvk_explain_json(&grammar, it.bytes, it.size, &verdict, &lines) != SPVK_OK) return false;
+    fine = fine && is_same(verdict, verdicts[at]) && lines.size > 0 && lines.data[0] == '{';
+    spvk_buffer_delete(&lines);
     if (spvk_show(&grammar, it.bytes, it.size, &verdict, &text) != SPVK_OK) return false;
     if (verdict.code != SPVK_VALID) return fine && is_same(verdict, verdicts[at]);
     const bool big = it.bytes[0] == 7;

@@ -4,3 +4,4 @@
 mod grammars;
 mod modules;
 mod pushes;
+mod reasons;

@@ -1,6 +1,6 @@
 //! A run on several files, one of which cannot be read.
 
-use spv_commands::{InMemory, Judging, Task, UseError, run_each};
+use spv_commands::{InMemory, Judging, Task, Telling, UseError, run_each};
 use spv_samples::{PROFILE, SMALLEST_KERNEL, image_of};
 use spv_words::FromWrite;
 use std::alloc::Global;
@@ -14,12 +14,18 @@ struct Outcome {
     err: Vec<u8>,
 }
 
-/// Checks these files, with their names.
-fn outcome_of(alloc: Global, names: &[&str], files: &[Option<&[u8]>]) -> Outcome {
+/// Does a task on these files, with their names.
+fn outcome_of(
+    alloc: Global,
+    task: Task,
+    telling: Telling,
+    names: &[&str],
+    files: &[Option<&[u8]>],
+) -> Outcome {
     let how = Judging {
-        task: Task::Check,
+        task,
         as_1_6: false,
-        is_named: true,
+        telling,
     };
     let grammar = Some(PROFILE.as_bytes());
     let mut files = InMemory { files };
@@ -38,14 +44,30 @@ fn files_in_order(rt: HostRuntime) -> Result<(), Fail> {
     let kernel = image_of(rt.alloc(), SMALLEST_KERNEL.words)?;
     let good = Some(kernel.octets());
     let short: Option<&[u8]> = Some(&[1, 2, 3]);
-    let run = outcome_of(
-        rt.alloc(),
-        &["a", "b", "c", "d"],
-        &[good, None, short, good],
-    );
+    let names = ["a", "b", "c", "d"];
+    let files = [good, None, short, good];
+    let run = outcome_of(rt.alloc(), Task::Check, Telling::Named, &names, &files);
     assert!(rt; run.status == 2);
     assert!(rt; run.out.as_slice() == b"a: valid\nc: fault W2\nd: valid\n".as_slice());
     assert!(rt; run.err.as_slice() == b"b: error file\n".as_slice());
+    Ok(())
+}
+
+/// The objects of a valid module and of a file that does not open.
+const OBJECTS: &str = r#"{"file":"a","verdict":"valid"}
+{"file":"b","verdict":"error","error":"file"}
+"#;
+
+#[test]
+fn objects_in_order(rt: HostRuntime) -> Result<(), Fail> {
+    let kernel = image_of(rt.alloc(), SMALLEST_KERNEL.words)?;
+    let files = [Some(kernel.octets()), None];
+    for task in [Task::Check, Task::Explain { full: false }] {
+        let run = outcome_of(rt.alloc(), task, Telling::Json, &["a", "b"], &files);
+        assert!(rt; run.status == 2);
+        assert!(rt; run.out.as_slice() == OBJECTS.as_bytes());
+        assert!(rt; run.err.as_slice() == b"b: error file\n".as_slice());
+    }
     Ok(())
 }
 

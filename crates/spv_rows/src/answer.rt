@@ -20,7 +20,9 @@ fn names_grammar(command: &Command) -> bool {
         Command::Judge { grammar, .. }
         | Command::Show { grammar, .. }
         | Command::Asm { grammar, .. }
-        | Command::Trace { grammar, .. } => grammar.is_some(),
+        | Command::Trace { grammar, .. }
+        | Command::Annotate { grammar, .. }
+        | Command::Graph { grammar, .. } => grammar.is_some(),
         Command::Grammar { file } => file.is_some(),
         Command::Rules { .. } => false,
     }

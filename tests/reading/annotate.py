@@ -1,0 +1,204 @@
+"""The text for reading, from docs/PROFILE.md, 'The text for reading'."""
+
+import json
+import math
+import re
+import struct
+from functools import lru_cache
+from pathlib import Path
+
+from .facts import FUNCTION, FUNCTION_END, LABEL
+from .text import visible
+
+COLUMN = 48
+NAME, IMPORT, EXTENDED, CONSTANT, SPEC_CONSTANT, FLOAT = 5, 11, 12, 43, 50, 22
+BRANCH, CONDITIONAL, SWITCH = 249, 250, 251
+OPENCL = "OpenCL.std"
+OPENCL_FILE = Path("/usr/include/spirv/unified1/extinst.opencl.std.100.grammar.json")
+# The opcodes of each section; any other opcode outside functions is of the section of types and constants.
+SECTIONS = ({17}, {10}, {11}, {14}, {15}, {16}, {2, 3, 4, 5, 6, 7, 330}, {71, 72})
+DECLARED = len(SECTIONS)
+# How many octets of a name are told at most.
+MOST_OF_NAME = 40
+# How floats of a width are packed, and those that their decimal value reads back as.
+FORMS = {16: ("<e", "<f"), 32: ("<f", "<f"), 64: ("<d", "<d")}
+IDS = ("Type", "Result", "Id")
+UNQUOTED = re.compile(r'"(?:[^"\\]|\\.)*"|;')
+DIM, RED, PLAIN = "\x1b[2m", "\x1b[31m", "\x1b[0m"
+
+
+@lru_cache(maxsize=None)
+def opencl_names():
+    """The names of the instructions of OpenCL.std by their numbers, by Khronos' file; none where that is not there."""
+    if not OPENCL_FILE.is_file():
+        return {}
+    tree = json.loads(OPENCL_FILE.read_text(encoding="utf-8"))
+    return {it["opcode"]: it["opname"] for it in tree["instructions"]}
+
+
+def short(name):
+    """A name as a comment tells it: without control characters, and of a long one the beginning."""
+    octets = name.encode()
+    if len(octets) <= MOST_OF_NAME:
+        return visible(name)
+    at = MOST_OF_NAME
+    while octets[at] & 0xC0 == 0x80:
+        at -= 1
+    return visible(octets[:at].decode()) + ".."
+
+
+def section_of(opcode):
+    """The section that an opcode has outside of functions."""
+    return next((at for at, opcodes in enumerate(SECTIONS) if opcode in opcodes), DECLARED)
+
+
+def header(words):
+    """The five lines of the header."""
+    version = f"{words[1] >> 16}.{words[1] >> 8 & 0xFF}"
+    return [
+        "; SPIR-V",
+        f"; Version: {version}",
+        f"; Generator: {words[2]}",
+        f"; Bound: {words[3]}",
+        f"; Schema: {words[4]}",
+    ]
+
+
+def uncommented(line):
+    """A line without its comment and the spaces before that."""
+    for found in UNQUOTED.finditer(line):
+        if found[0] == ";":
+            return line[: found.start()].rstrip(" ")
+    return line
+
+
+def shown_of(text):
+    """The text of `show` that a text for reading has: without comments, the spaces before them and empty lines, behind
+    the header."""
+    lines = text.split("\n")
+    assert lines.pop() == "", "the last line has no line feed"
+    return [*lines[:5], *filter(None, map(uncommented, lines[5:]))]
+
+
+class Decimal:
+    """A note that is the decimal value of a number of a float type: any text that reads back as it will do."""
+
+    def __init__(self, low, high, width):
+        form, self.wide = FORMS[width]
+        octets = (high << 32 | low).to_bytes(8, "little")
+        self.value = struct.unpack(form, octets[: width // 8])[0]
+
+    def is_told_by(self, text):
+        """Whether a text is this number."""
+        if math.isnan(self.value):
+            return text.lower().lstrip("-") == "nan"
+        return struct.pack(self.wide, float(text)) == struct.pack(self.wide, self.value)
+
+
+class Reading:
+    """What `annotate` writes of a module whose facts are known, with the lines that `explain` writes of it."""
+
+    def __init__(self, facts, printed=()):
+        self.facts, self.insts = facts, facts.insts
+        self.names, self.sets = {}, set()
+        for inst in self.insts:
+            if inst.opcode == NAME:
+                self.names.setdefault(inst.operands[0][1], short(inst.operands[1][1]))
+        for of, number in facts.first.items():
+            inst = self.insts[number]
+            if inst.opcode == IMPORT and inst.operands[1][1] == OPENCL:
+                self.sets.add(of)
+        self.came_from = self.branches()
+        self.finding = list(printed) if printed and printed[0] != "valid" else []
+        self.at = self.finding and int(re.match(r"fault \S+ inst (\d+)", self.finding[0])[1])
+
+    def function_of(self):
+        """Of each instruction the number of the OpFunction that it is of, by opcodes alone, or None."""
+        found, function = [], None
+        for number, inst in enumerate(self.insts):
+            function = number if inst.opcode == FUNCTION else function
+            found.append(function)
+            function = None if inst.opcode == FUNCTION_END else function
+        return found
+
+    def branches(self):
+        """Of each label the labels of the blocks that branch to it, in order, once where one comes again at once."""
+        found, block = {}, None
+        for inst in self.insts:
+            if inst.opcode in (LABEL, FUNCTION, FUNCTION_END):
+                block = inst.result if inst.opcode == LABEL else None
+            elif inst.opcode in (BRANCH, CONDITIONAL, SWITCH) and block is not None:
+                ids = [it[1] for it in inst.operands if it[0] == "Id"]
+                for to in ids[inst.opcode != BRANCH :]:
+                    sources = found.setdefault(to, [])
+                    if sources[-1:] != [block]:
+                        sources.append(block)
+        return found
+
+    def notes(self, number):
+        """The notes on an instruction, in order."""
+        inst, found = self.insts[number], []
+        for sort, of, *_ in inst.operands if inst.opcode != NAME else ():
+            if sort in IDS and of in self.names:
+                found.append(f"%{of} {self.names[of]}")
+        if inst.opcode == EXTENDED and inst.operands[2][1] in self.sets:
+            name = opencl_names().get(inst.operands[3][1])
+            found += [name] if name else []
+        if inst.opcode in (CONSTANT, SPEC_CONSTANT) and inst.type in self.facts.first:
+            declared = self.facts.definition(inst.type)
+            if declared.opcode == FLOAT and declared.operands[1][1] in FORMS:
+                found.append(Decimal(*inst.operands[2][1:3], declared.operands[1][1]))
+        if inst.opcode == LABEL and self.facts.first.get(inst.result) == number:
+            sources = self.came_from.get(inst.result, ())
+            found += [" ".join(["from", *(f"%{it}" for it in sources)])] if sources else []
+        return found
+
+    def begins(self, number, functions):
+        """Whether an empty line stands before an instruction: before a function, and outside of functions before a
+        section that is not that of the instruction before."""
+        opcode = self.insts[number].opcode
+        if opcode in (FUNCTION, LABEL):
+            return opcode == FUNCTION
+        before = section_of(self.insts[number - 1].opcode) if number else None
+        return functions[number] is None and section_of(opcode) != before
+
+    def line(self, number):
+        """An instruction with its comment: the parts of the line, of which a Decimal stands for several texts."""
+        shown = self.facts.shown(number)
+        room = " " * max(COLUMN - len(shown.encode()), 1)
+        parts = [f"{shown}{room}; inst {number} word {self.insts[number].word}"]
+        for note in self.notes(number):
+            parts += [", ", note]
+        return parts
+
+    def lines(self, asked=None):
+        """All lines, each as its parts; where a function is asked for those of it alone behind the header."""
+        functions = self.function_of()
+        found = [[line] for line in header(self.facts.words)]
+        for number in range(len(self.insts)):
+            of = functions[number]
+            if asked is None or of is not None and self.insts[of].result == asked:
+                found += [[""]] if self.begins(number, functions) else []
+                found += [self.line(number), *self.marks(number)]
+        return found + (self.marks(len(self.insts)) if asked is None else [])
+
+    def marks(self, number):
+        """The lines of the fault that stand below an instruction."""
+        return [[f"; ^ {line}"] for line in self.finding] if self.finding and number == self.at else []
+
+
+def is_line(parts, line):
+    """Whether a line has these parts."""
+    pattern = "".join("(.+?)" if isinstance(it, Decimal) else re.escape(it) for it in parts)
+    found = re.fullmatch(pattern, line)
+    decimals = [it for it in parts if isinstance(it, Decimal)]
+    return found is not None and all(it.is_told_by(text) for it, text in zip(decimals, found.groups()))
+
+
+def differences(wanted, lines):
+    """None if lines have these parts, else the first that differs."""
+    for at, (parts, line) in enumerate(zip(wanted, lines), 1):
+        if not is_line(parts, line):
+            due = "".join(it if isinstance(it, str) else "<a number>" for it in parts)
+            return f"  line {at}\n  wanted: {due}\n  got:    {line}"
+    return None if len(wanted) == len(lines) else f"  {len(lines)} lines, and not {len(wanted)}"
