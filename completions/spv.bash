@@ -1,20 +1,23 @@
 # Completion of spv's command line in bash. Source it, or put it where bash-completion looks, as
 # /usr/share/bash-completion/completions/spv.
 
-_spv_commands="check explain show asm trace rules grammar help"
+_spv_commands="check explain show annotate graph asm trace rules grammar help"
 
 # _spv_options COMMAND: the options of a command, or of spv itself where it is empty.
 _spv_options() {
     case $1 in
         "") echo "-h --help -V --version" ;;
-        check) echo "-h --help --as-1.6 --grammar -H --with-filename --no-filename --quiet --verbose" ;;
+        check) echo "-h --help --as-1.6 --grammar -H --json --with-filename --no-filename --quiet --verbose" ;;
         explain)
-            echo "-h --help --as-1.6 --full --grammar -H --with-filename --no-filename --quiet --verbose"
+            echo "-h --help --as-1.6 --full --grammar -H --json --with-filename --no-filename --quiet --verbose"
             ;;
         show) echo "-h --help --as-1.6 --grammar --verbose" ;;
-        asm) echo "-h --help --big --grammar --out --verbose" ;;
+        annotate) echo "-h --help --as-1.6 --color --function --grammar --html --verbose" ;;
+        graph) echo "-h --help --as-1.6 --function --grammar --verbose" ;;
+        asm) echo "-h --help --big --explain --grammar --out --verbose" ;;
         trace) echo "-h --help --as-1.6 --choices --function --grammar --limit --verbose" ;;
-        rules | grammar) echo "-h --help --verbose" ;;
+        rules) echo "-h --help --json --verbose" ;;
+        grammar) echo "-h --help --verbose" ;;
     esac
 }
 
@@ -48,6 +51,10 @@ _spv() {
             return
             ;;
         --choices | --function | --limit) return ;;
+        --color)
+            _spv_words "auto always never" "$current"
+            return
+            ;;
     esac
     case $command:$current in
         *:-*) _spv_words "$(_spv_options "$command")" "$current" ;;

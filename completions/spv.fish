@@ -13,6 +13,8 @@ complete -c spv -n __fish_use_subcommand -s V -l version -d 'Print the version'
 complete -c spv -n __fish_use_subcommand -a check -d 'Write the verdict on modules'
 complete -c spv -n __fish_use_subcommand -a explain -d 'Write the verdict on modules and what explains it'
 complete -c spv -n __fish_use_subcommand -a show -d 'Write the text of a module'
+complete -c spv -n __fish_use_subcommand -a annotate -d 'Write the text of a module for people, with comments'
+complete -c spv -n __fish_use_subcommand -a graph -d 'Write calls, or the blocks of a function, as a picture in DOT'
 complete -c spv -n __fish_use_subcommand -a asm -d 'Make the module of a text'
 complete -c spv -n __fish_use_subcommand -a trace -d "Write the run of an entry point's function"
 complete -c spv -n __fish_use_subcommand -a rules -d 'Write what each code of a verdict or an error says'
@@ -22,6 +24,7 @@ complete -c spv -n __fish_use_subcommand -a help -d 'Print help on a command'
 complete -c spv -n '__fish_seen_subcommand_from check' -F
 complete -c spv -n '__fish_seen_subcommand_from check' -l grammar -r -F -d 'A grammar file, in JSON'
 complete -c spv -n '__fish_seen_subcommand_from check' -l as-1.6 -d 'Take a module of version 1.0 to 1.5 as one of 1.6'
+complete -c spv -n '__fish_seen_subcommand_from check' -l json -d 'Write a JSON object a line'
 complete -c spv -n '__fish_seen_subcommand_from check' -s H -l with-filename -d 'Write the name of a single file too'
 complete -c spv -n '__fish_seen_subcommand_from check' -l no-filename -d 'Write no names before verdicts'
 complete -c spv -n '__fish_seen_subcommand_from check' -l quiet -d 'Write no verdict'
@@ -31,6 +34,7 @@ complete -c spv -n '__fish_seen_subcommand_from explain' -F
 complete -c spv -n '__fish_seen_subcommand_from explain' -l grammar -r -F -d 'A grammar file, in JSON'
 complete -c spv -n '__fish_seen_subcommand_from explain' -l as-1.6 -d 'Take a module of version 1.0 to 1.5 as one of 1.6'
 complete -c spv -n '__fish_seen_subcommand_from explain' -l full -d 'Name every opcode that may come'
+complete -c spv -n '__fish_seen_subcommand_from explain' -l json -d 'Write a JSON object a line'
 complete -c spv -n '__fish_seen_subcommand_from explain' -s H -l with-filename -d 'Write the name of a single file too'
 complete -c spv -n '__fish_seen_subcommand_from explain' -l no-filename -d 'Write no names before verdicts'
 complete -c spv -n '__fish_seen_subcommand_from explain' -l quiet -d 'Write no verdict'
@@ -41,8 +45,23 @@ complete -c spv -n '__fish_seen_subcommand_from show' -l grammar -r -F -d 'A gra
 complete -c spv -n '__fish_seen_subcommand_from show' -l as-1.6 -d 'Take a module of version 1.0 to 1.5 as one of 1.6'
 complete -c spv -n '__fish_seen_subcommand_from show' -l verbose -d 'Say behind the line of an error what is wrong'
 
+complete -c spv -n '__fish_seen_subcommand_from annotate' -F
+complete -c spv -n '__fish_seen_subcommand_from annotate' -l color -x -a 'auto always never' -d 'Comments in colour'
+complete -c spv -n '__fish_seen_subcommand_from annotate' -l function -x -d 'The id of a function'
+complete -c spv -n '__fish_seen_subcommand_from annotate' -l grammar -r -F -d 'A grammar file, in JSON'
+complete -c spv -n '__fish_seen_subcommand_from annotate' -l as-1.6 -d 'Take a module of version 1.0 to 1.5 as one of 1.6'
+complete -c spv -n '__fish_seen_subcommand_from annotate' -l html -d 'Write one HTML page'
+complete -c spv -n '__fish_seen_subcommand_from annotate' -l verbose -d 'Say behind the line of an error what is wrong'
+
+complete -c spv -n '__fish_seen_subcommand_from graph' -F
+complete -c spv -n '__fish_seen_subcommand_from graph' -l function -x -d 'The id of a function'
+complete -c spv -n '__fish_seen_subcommand_from graph' -l grammar -r -F -d 'A grammar file, in JSON'
+complete -c spv -n '__fish_seen_subcommand_from graph' -l as-1.6 -d 'Take a module of version 1.0 to 1.5 as one of 1.6'
+complete -c spv -n '__fish_seen_subcommand_from graph' -l verbose -d 'Say behind the line of an error what is wrong'
+
 complete -c spv -n '__fish_seen_subcommand_from asm' -F
 complete -c spv -n '__fish_seen_subcommand_from asm' -l big -d 'The highest byte of a word stands first'
+complete -c spv -n '__fish_seen_subcommand_from asm' -l explain -d 'Say after a fault of the text what is wrong'
 complete -c spv -n '__fish_seen_subcommand_from asm' -l grammar -r -F -d 'A grammar file, in JSON'
 complete -c spv -n '__fish_seen_subcommand_from asm' -l verbose -d 'Say behind the line of an error what is wrong'
 complete -c spv -n '__fish_seen_subcommand_from asm' -l out -r -F -d 'The module that is made'
@@ -56,9 +75,10 @@ complete -c spv -n '__fish_seen_subcommand_from trace' -l verbose -d 'Say behind
 complete -c spv -n '__fish_seen_subcommand_from trace' -l limit -x -d 'The greatest number of steps'
 
 complete -c spv -n '__fish_seen_subcommand_from rules' -a '(__spv_codes)'
+complete -c spv -n '__fish_seen_subcommand_from rules' -l json -d 'Write a JSON object a line'
 complete -c spv -n '__fish_seen_subcommand_from rules' -l verbose -d 'Say behind the line of an error what is wrong'
 
 complete -c spv -n '__fish_seen_subcommand_from grammar' -F
 complete -c spv -n '__fish_seen_subcommand_from grammar' -l verbose -d 'Say behind the line of an error what is wrong'
 
-complete -c spv -n '__fish_seen_subcommand_from help' -a 'check explain show asm trace rules grammar help'
+complete -c spv -n '__fish_seen_subcommand_from help' -a 'check explain show annotate graph asm trace rules grammar help'
