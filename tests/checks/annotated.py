@@ -107,9 +107,8 @@ def modules_read(program, folder):
     return None
 
 
-def cases_read(program, folder):
-    """The modules of all other cases, each under its own grammar file: the verdict line where there is no text, the
-    error where the grammar file is refused, and else the text of `show` with comments."""
+def cases_with_words(folder):
+    """The cases that read a module, laid out in the folder, each with the words that name its grammar file and module."""
     for number, case in enumerate(all_cases()):
         if case.one("run").split(" ")[:1] not in (["check"], ["explain"], ["show"]) or grammar(case) is None:
             continue
@@ -121,6 +120,13 @@ def cases_read(program, folder):
         if (place / "F").stat().st_size > MOST_BYTES:
             continue
         words = ["--grammar", place / "G", place / "F"]
+        yield case, words
+
+
+def cases_read(program, folder):
+    """The modules of all other cases, each under its own grammar file: the verdict line where there is no text, the
+    error where the grammar file is refused, and else the text of `show` with comments."""
+    for case, words in cases_with_words(folder):
         shown, got = asked(program, folder, "show", *words), asked(program, folder, "annotate", *words)
         if shown.status != 0:
             wrong = difference(shown, got) or difference(shown, asked(program, folder, "annotate", "--html", *words))

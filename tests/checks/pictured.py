@@ -11,8 +11,8 @@ from reading.facts import FUNCTION, FUNCTION_END, LABEL, Facts
 from reading.text import visible
 from reading.verdict import grammar_in
 
-from .annotated import BEGUN, DECLARATIONS, ENDED, LOOP, asked, code_of, functions_of, refused, text_of
-from .cases import all_cases, grammar, laid_out, written
+from .annotated import BEGUN, DECLARATIONS, ENDED, LOOP, asked, cases_with_words, code_of, functions_of, refused, text_of
+from .cases import written
 from .common import LAYERS as ALL_LAYERS
 from .common import TESTS, Answer, Check, difference, run
 from .json_objects import HOSTILE, quoted
@@ -29,7 +29,6 @@ NAME, ENTRY, CALL = 5, 15, 57
 BRANCH, CONDITIONAL, SWITCH = 249, 250, 251
 # Elements that a picture may have: shapes and texts.
 ELEMENTS = {"svg", "g", "title", "polygon", "path", "text", "ellipse", "polyline"}
-MOST_BYTES = 200_000
 SHOWN = TESTS.parent / "docs/pictures/value-missing-on-one-branch.svg"
 
 
@@ -295,17 +294,7 @@ def cases_drawn(program, folder):
     """The modules of all other cases, each under its own grammar file: the answer of `show` where it has no text, and
     else a text that `dot` draws."""
     found = []
-    for number, case in enumerate(all_cases()):
-        if case.one("run").split(" ")[:1] not in (["check"], ["explain"], ["show"]) or grammar(case) is None:
-            continue
-        place = folder / str(number)
-        place.mkdir()
-        laid_out(case, place)
-        if not (place / "F").is_file():
-            (place / "F").write_bytes(KERNEL.read_bytes())
-        if (place / "F").stat().st_size > MOST_BYTES:
-            continue
-        words = ["--grammar", place / "G", place / "F"]
+    for case, words in cases_with_words(folder):
         shown, got = asked(program, folder, "show", *words), asked(program, folder, "graph", *words)
         wrong = difference(Answer(b"", b"", 0), Answer(b"", got.err, got.status))
         wrong = difference(shown, got) if shown.status != 0 else wrong
