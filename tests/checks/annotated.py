@@ -108,7 +108,7 @@ def modules_read(program, folder):
 
 
 def cases_with_words(folder):
-    """The cases that read a module, laid out in the folder, each with the words that name its grammar file and module."""
+    """The cases that read a module, laid out in the folder, each with the words that name its grammar and module."""
     for number, case in enumerate(all_cases()):
         if case.one("run").split(" ")[:1] not in (["check"], ["explain"], ["show"]) or grammar(case) is None:
             continue

@@ -11,7 +11,8 @@ from reading.facts import FUNCTION, FUNCTION_END, LABEL, Facts
 from reading.text import visible
 from reading.verdict import grammar_in
 
-from .annotated import BEGUN, DECLARATIONS, ENDED, LOOP, asked, cases_with_words, code_of, functions_of, refused, text_of
+from .annotated import BEGUN, DECLARATIONS, ENDED, LOOP, asked, cases_with_words, code_of, functions_of, refused
+from .annotated import text_of
 from .cases import written
 from .common import LAYERS as ALL_LAYERS
 from .common import TESTS, Answer, Check, difference, run
