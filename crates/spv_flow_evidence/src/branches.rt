@@ -12,13 +12,13 @@ ghost use Rattle.spv_layout.specs.Place.{IsShort};
 ghost use Rattle.spv_layout.specs.Plan.{IsPlan};
 ghost use Rattle.spv_layout.specs.Stage.{of_branches};
 ghost use Rattle.spv_ids.specs.Outcome.{AreIds};
-ghost use Rattle.spv_branches.specs.Broken.{Broken};
+ghost use Rattle.spv_flow.specs.branches.Broken.{Broken};
 ghost use Rattle.spv_flow_evidence.specs.branches.Evidence.{IsEvidence};
 
 use crate::branches::labels::{entry_evidence, label_evidence};
 use crate::branches::parents::parents_evidence;
-use spv_branches::{Code, survey};
 use spv_evidence::Evidence;
+use spv_flow::branches::{Code, survey};
 use spv_ids::Ids;
 use spv_layout::Plan;
 use spv_module::{Module, Rule};

@@ -10,13 +10,13 @@ ghost use Rattle.spv_module.specs.declared.fault.Rule.TheVariants.{G1};
 ghost use Rattle.spv_layout.specs.Place.{IsShort, AreFew};
 ghost use Rattle.spv_layout.specs.Plan.{IsPlan};
 ghost use Rattle.spv_ids.specs.Outcome.{IsDefinitionOf, definition_in};
-ghost use Rattle.spv_calls.specs.Broken.{Broken};
+ghost use Rattle.spv_flow.specs.calls.Broken.{Broken};
 ghost use Rattle.spv_graphs.specs.Way.{IsWay, IsShortest, AreWithin, AreBelow};
 ghost use Rattle.spv_flow_evidence.specs.calls.Evidence.{IsEvidence};
 ghost use Rattle.spv_flow_evidence.specs.calls.inner.Edges.{edge_of, IsListed, IsNotListed};
 
-use spv_calls::{Call, calls_of, entries_of};
 use spv_evidence::{Evidence, Listed};
+use spv_flow::calls::{Call, calls_of, entries_of};
 use spv_graphs::{Edge, shortest_way};
 use spv_ids::Ids;
 use spv_layout::Plan;

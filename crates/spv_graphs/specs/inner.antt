@@ -1,4 +1,5 @@
 -- Definitions that serve the code alone.
+pub mod Ahead
 pub mod Dominators
 pub mod Edges
 pub mod First

@@ -4,6 +4,7 @@
 
 mod edge;
 mod first;
+mod forward;
 mod graph;
 pub mod laws;
 mod least;

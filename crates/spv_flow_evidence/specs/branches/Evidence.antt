@@ -9,8 +9,8 @@ use Rattle.spv_module.specs.declared.fault.Rule.TheVariants.{F1, F2, F3, F4}
 use Rattle.spv_layout.specs.declared.form.Role.TheVariants.{Label}
 use Rattle.spv_layout.specs.Place.{IsOfBlock}
 use Rattle.spv_ids.specs.Definition.{IsDefinedAt, IsUsedAt}
-use Rattle.spv_branches.specs.Target.{is_phi, is_merge, is_branch, is_conditional, IsOp}
-use Rattle.spv_branches.specs.Target.{IsLabelOf, IsPredecessor, IsParentAt, IsEntryLabel}
+use Rattle.spv_flow.specs.branches.Target.{is_phi, is_merge, is_branch, is_conditional, IsOp}
+use Rattle.spv_flow.specs.branches.Target.{IsLabelOf, IsPredecessor, IsParentAt, IsEntryLabel}
 use Rattle.spv_evidence.specs.declared.evidence.Evidence.{Evidence}
 use Rattle.spv_evidence.specs.declared.evidence.Evidence.TheVariants.{Operand, Defined}
 use Rattle.spv_evidence.specs.declared.evidence.Evidence.TheVariants.{MissingParent, NoPredecessor, Twice}

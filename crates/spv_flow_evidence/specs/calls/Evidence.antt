@@ -3,7 +3,7 @@ use Rattle.std.specs.Prelude.{◌≤◌, ℕ, List, [], ◌∷◌, length}
 use Rattle.spv_module.specs.Operand.{PlainInst}
 use Rattle.spv_module.specs.declared.fault.Rule.{Rule}
 use Rattle.spv_module.specs.declared.fault.Rule.TheVariants.{G1}
-use Rattle.spv_calls.specs.Calls.{IsCall, Calls, IsEntryFunction}
+use Rattle.spv_flow.specs.calls.Calls.{IsCall, Calls, IsEntryFunction}
 use Rattle.spv_evidence.specs.declared.evidence.Evidence.{Evidence}
 use Rattle.spv_evidence.specs.declared.evidence.Evidence.TheVariants.{Cycle}
 

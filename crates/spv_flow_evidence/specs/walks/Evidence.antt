@@ -6,9 +6,9 @@ use Rattle.spv_module.specs.Operand.{PlainInst}
 use Rattle.spv_module.specs.declared.fault.Rule.{Rule}
 use Rattle.spv_module.specs.declared.fault.Rule.TheVariants.{A1, A2}
 use Rattle.spv_ids.specs.Definition.{IsDefinedAt}
-use Rattle.spv_branches.specs.Target.{is_label}
-use Rattle.spv_branches.specs.Walk.{IsWalk, IsResultAmong}
-use Rattle.spv_branches.specs.Ready.{IsMissing, IsPairMissing, ComesFrom}
+use Rattle.spv_flow.specs.branches.Target.{is_label}
+use Rattle.spv_flow.specs.branches.Walk.{IsWalk, IsResultAmong}
+use Rattle.spv_flow.specs.branches.Ready.{IsMissing, IsPairMissing, ComesFrom}
 use Rattle.spv_evidence.specs.declared.evidence.Evidence.{Evidence}
 use Rattle.spv_evidence.specs.declared.evidence.Evidence.TheVariants.{Walk}
 

@@ -3,15 +3,15 @@
 ghost use Rattle.std.specs.Prelude.{◌≡◌, ◌<◌, ◌⊎◌, ℕ, length, MatchBool};
 ghost use Rattle.spv_table.specs.Table.{Table};
 ghost use Rattle.spv_module.specs.declared.fault.Rule.TheVariants as rule;
-ghost use Rattle.spv_branches.specs.inner.Code.{insts_of, IsCode};
-ghost use Rattle.spv_branches.specs.inner.Graph.{AreEntries, LacksLabel, LeadsToEntry};
-ghost use Rattle.spv_branches.specs.Target.{IsOp};
-ghost use Rattle.spv_branches.specs.Target as target;
+ghost use Rattle.spv_flow.specs.branches.inner.Code.{insts_of, IsCode};
+ghost use Rattle.spv_flow.specs.branches.inner.Graph.{AreEntries, LacksLabel, LeadsToEntry};
+ghost use Rattle.spv_flow.specs.branches.Target.{IsOp};
+ghost use Rattle.spv_flow.specs.branches.Target as target;
 ghost use Rattle.spv_flow_evidence.specs.branches.Evidence.{IsEvidence};
 ghost use Rattle.spv_flow_evidence.specs.branches.inner.Known.{KeepsDefinitions, IsEntryId};
 
-use spv_branches::{Code, label};
 use spv_evidence::Evidence;
+use spv_flow::branches::{Code, label};
 
 /// F1: the first operand of a terminator or a merge that is a label of no OpLabel, and what defines its id.
 pub fn label_evidence(code: &Code<'_, '_>, at: u32) -> Evidence

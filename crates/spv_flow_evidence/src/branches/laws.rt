@@ -8,8 +8,8 @@ ghost use Rattle.spv_module.specs.declared.fault.Rule.{Rule};
 ghost use Rattle.spv_module.specs.declared.fault.Rule.TheVariants.{F1, F2, F3, F4};
 ghost use Rattle.spv_evidence.specs.declared.evidence.Evidence.{Evidence};
 ghost use Rattle.spv_evidence.specs.declared.evidence.Evidence.TheVariants.{Operand, Defined, MissingParent};
-ghost use Rattle.spv_branches.specs.Broken.{Broken};
-ghost use Rattle.spv_branches.specs.Example.{branch, conditional, function, label, negation, paired, unpaired};
+ghost use Rattle.spv_flow.specs.branches.Broken.{Broken};
+ghost use Rattle.spv_flow.specs.branches.Example.{branch, conditional, function, label, negation, paired, unpaired};
 ghost use Rattle.spv_flow_evidence.specs.branches.Evidence.{IsEvidence};
 
 /// Evidence shows that the rule is broken at the instruction.

@@ -4,16 +4,16 @@ ghost use Rattle.std.specs.Prelude.{◌≡◌, ◌<◌, ℕ, List, true, false, 
 ghost use Rattle.spv_table.specs.Table.{Table};
 ghost use Rattle.spv_module.specs.declared.fault.Rule.TheVariants as rule;
 ghost use Rattle.spv_layout.specs.Place.{IsOfBlock, AreFew};
-ghost use Rattle.spv_branches.specs.inner.Code.{insts_of, IsCode};
-ghost use Rattle.spv_branches.specs.inner.Edges.{marked};
-ghost use Rattle.spv_branches.specs.Target.{IsOp, HasParents};
-ghost use Rattle.spv_branches.specs.Target as target;
+ghost use Rattle.spv_flow.specs.branches.inner.Code.{insts_of, IsCode};
+ghost use Rattle.spv_flow.specs.branches.inner.Edges.{marked};
+ghost use Rattle.spv_flow.specs.branches.Target.{IsOp, HasParents};
+ghost use Rattle.spv_flow.specs.branches.Target as target;
 ghost use Rattle.spv_flow_evidence.specs.branches.Evidence.{ArePredecessors, IsEvidence};
 ghost use Rattle.spv_flow_evidence.specs.branches.inner.Known.{AreMarks, HasNames, marked_below, name_of};
 ghost use Rattle.spv_flow_evidence.specs.branches.inner.Known as known;
 
-use spv_branches::{Code, edges_for, label};
 use spv_evidence::{Evidence, Listed};
+use spv_flow::branches::{Code, edges_for, label};
 use std::alloc::{AllocError, Global};
 
 /// What is wrong of a pair.

@@ -6,8 +6,8 @@ ghost use Rattle.spv_module.specs.declared.fault.Rule.{Rule};
 ghost use Rattle.spv_module.specs.declared.fault.Rule.TheVariants.{G1};
 ghost use Rattle.spv_evidence.specs.declared.evidence.Evidence.{Evidence};
 ghost use Rattle.spv_evidence.specs.declared.evidence.Evidence.TheVariants.{Cycle};
-ghost use Rattle.spv_calls.specs.Broken.{Broken};
-ghost use Rattle.spv_calls.specs.Example.{looped};
+ghost use Rattle.spv_flow.specs.calls.Broken.{Broken};
+ghost use Rattle.spv_flow.specs.calls.Example.{looped};
 ghost use Rattle.spv_flow_evidence.specs.calls.Evidence.{IsEvidence};
 
 /// Evidence shows that the rule is broken at the instruction.

@@ -4,15 +4,15 @@ ghost use Rattle.std.specs.Prelude.{◌≡◌, ◌<◌, ◌+◌, ℕ, length, Al
 ghost use Rattle.spv_table.specs.Table.{Table};
 ghost use Rattle.spv_module.specs.declared.fault.Rule.TheVariants.{A1, A2};
 ghost use Rattle.spv_graphs.specs.declared.queries.Query as declared;
-ghost use Rattle.spv_walks.specs.inner.Code.{insts_of, IsCode};
-ghost use Rattle.spv_walks.specs.inner.Leading.{AreBlocks};
+ghost use Rattle.spv_flow.specs.walks.inner.Code.{insts_of, IsCode};
+ghost use Rattle.spv_flow.specs.walks.inner.Leading.{AreBlocks};
 ghost use Rattle.spv_flow_evidence.specs.walks.inner.Asked.{IsQueryFound, AreAsked};
 
+use spv_flow::walks::code::Code;
+use spv_flow::walks::edges::Blocks;
+use spv_flow::walks::{other_id, pair_query, use_query};
 use spv_graphs::Query;
 use spv_module::Rule;
-use spv_walks::code::Code;
-use spv_walks::edges::Blocks;
-use spv_walks::{other_id, pair_query, use_query};
 use std::alloc::{AllocError, Global};
 
 /// How an instruction takes values.

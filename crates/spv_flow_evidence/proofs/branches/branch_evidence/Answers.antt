@@ -2,8 +2,8 @@ use Rattle.std.proofs.lemmas.Result.{IfOk-weaker}
 use Rattle.spv_table.specs.Table.{Table}
 use Rattle.spv_module.specs.Module.{plain_inst, plain_insts}
 use Rattle.spv_module.specs.declared.fault.Rule.TheVariants.{F1, F2, F3}
-use Rattle.spv_branches.specs.declared.code.Code.{Code}
-use Rattle.spv_branches.specs.inner.Code.{insts_of, IsCode}
+use Rattle.spv_flow.specs.declared.branches.code.Code.{Code}
+use Rattle.spv_flow.specs.branches.inner.Code.{insts_of, IsCode}
 use Rattle.spv_flow_evidence.specs.branches.Evidence.{IsEvidence}
 use Rattle.spv_flow_evidence.proofs.lemmas.branches.Known.{known_code, known_broken, found, definitions}
 use Rattle.spv_flow_evidence.proofs.lemmas.branches.Rules.{lacking, entering, parentless}

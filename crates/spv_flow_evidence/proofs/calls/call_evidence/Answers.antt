@@ -2,11 +2,11 @@ use Rattle.std.proofs.Common.{◌≡◌, false, map, length, replicate}
 use Rattle.std.proofs.lemmas.List.{length-map}
 use Rattle.spv_module.specs.Module.{plain_inst, plain_insts}
 use Rattle.spv_module.specs.declared.fault.Rule.TheVariants.{G1}
-use Rattle.spv_calls.specs.Broken.{Broken}
-use Rattle.spv_calls.specs.inner.Found.{ArePlaces}
+use Rattle.spv_flow.specs.calls.Broken.{Broken}
+use Rattle.spv_flow.specs.calls.inner.Found.{ArePlaces}
 use Rattle.spv_ids.specs.Outcome.{AreNumbered}
 use Rattle.spv_flow_evidence.specs.calls.inner.Edges.{edge_of, IsListed, IsNotListed}
-use Rattle.spv_branches.proofs.Firsts.{few_insts}
+use Rattle.spv_flow.proofs.lemmas.branches.Firsts.{few_insts}
 use Rattle.spv_flow_evidence.proofs.lemmas.calls.Walked.{is_listed, ready, evidence}
 use Rattle.spv_flow_evidence.proofs.calls.call_evidence.Goals as goal
 

@@ -1,6 +1,6 @@
 use Rattle.std.proofs.Common.{◌≡◌, ◌<◌, ℕ, Some}
 use Rattle.std.specs.Prelude.{slice_get}
-use Rattle.spv_calls.specs.declared.graph.Call.{Call}
+use Rattle.spv_flow.specs.declared.calls.graph.Call.{Call}
 use Rattle.spv_flow_evidence.proofs.calls.find_call.Given as goal
 
 abbrev pub invariant-loop-call : goal.invariant-loop-call

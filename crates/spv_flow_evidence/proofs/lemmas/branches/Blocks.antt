@@ -18,8 +18,8 @@ use Rattle.spv_layout.specs.inner.State.{next_of, Remains}
 use Rattle.spv_layout.proofs.Remains.{goes_on, goes_no_further}
 use Rattle.spv_layout.proofs.Layouts.{layout_remains}
 use Rattle.spv_layout.proofs.Spans.{before_first, enters, leaves}
-use Rattle.spv_branches.specs.Target.{is_phi, IsOp}
-use Rattle.spv_branches.proofs.Firsts.{holds}
+use Rattle.spv_flow.specs.branches.Target.{is_phi, IsOp}
+use Rattle.spv_flow.proofs.lemmas.branches.Firsts.{holds}
 
 -- whether a state is that of a block
 abbrev in_a_block : State → Bool

@@ -14,14 +14,14 @@ use Rattle.spv_layout.specs.declared.form.Role.TheVariants.{Label}
 use Rattle.spv_layout.specs.Stage.{of_branches, of_ids}
 use Rattle.spv_ids.specs.Broken as ids
 use Rattle.spv_ids.specs.Outcome.{IsDefinitionOf, definition_in}
-use Rattle.spv_branches.specs.declared.code.Code.{Code}
-use Rattle.spv_branches.specs.inner.Code.{insts_of, IsCode}
-use Rattle.spv_branches.specs.Broken.{Broken}
-use Rattle.spv_branches.proofs.Firsts.{broken_within}
+use Rattle.spv_flow.specs.declared.branches.code.Code.{Code}
+use Rattle.spv_flow.specs.branches.inner.Code.{insts_of, IsCode}
+use Rattle.spv_flow.specs.branches.Broken.{Broken}
+use Rattle.spv_flow.proofs.lemmas.branches.Firsts.{broken_within}
 use Rattle.spv_evidence.specs.declared.evidence.Evidence.{Evidence}
 use Rattle.spv_flow_evidence.specs.branches.Evidence.{IsEvidence}
 use Rattle.spv_flow_evidence.specs.branches.inner.Known.{KeepsDefinitions}
-use Rattle.spv_branches.proofs.Firsts.{few_insts}
+use Rattle.spv_flow.proofs.lemmas.branches.Firsts.{few_insts}
 
 -- The instructions that are looked at are those of a module whose plan and ids are known.
 pub known_code : (G : Table) (c : Code) (insts : List Inst) → c.insts.now ≡ insts → IsShort (map plain_inst insts) → IsPlan G (map plain_inst insts) c.plan.now → ((x : ℕ) → IsDefinitionOf (map plain_inst insts) x (definition_in c.ids.now x))

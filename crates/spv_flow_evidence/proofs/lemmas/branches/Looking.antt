@@ -7,9 +7,9 @@ use Rattle.spv_module.specs.Operand.{PlainInst}
 use Rattle.spv_layout.specs.declared.form.Role.TheVariants.{Label}
 use Rattle.spv_ids.specs.Definition.{IsUsedAt}
 use Rattle.spv_ids.specs.Outcome.{definition_in}
-use Rattle.spv_branches.specs.declared.code.Code.{Code}
-use Rattle.spv_branches.specs.inner.Code.{insts_of, IsCode}
-use Rattle.spv_branches.proofs.Labelled.{use_in, use_within, one_id, none_defined}
+use Rattle.spv_flow.specs.declared.branches.code.Code.{Code}
+use Rattle.spv_flow.specs.branches.inner.Code.{insts_of, IsCode}
+use Rattle.spv_flow.proofs.lemmas.branches.Labelled.{use_in, use_within, one_id, none_defined}
 use Rattle.spv_flow_evidence.specs.branches.inner.Known.{KeepsDefinitions}
 
 -- an operand that is no label

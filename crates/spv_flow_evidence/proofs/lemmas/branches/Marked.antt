@@ -10,7 +10,7 @@ use Rattle.std.proofs.lemmas.List.Kept.{IsStrictlyIncreasing-filter}
 use Rattle.std.proofs.lemmas.List.FromFn.{length-range_with_len, get_or-range_with_len}
 use Rattle.spv_table.specs.Table.{Table}
 use Rattle.spv_module.specs.Operand.{PlainInst}
-use Rattle.spv_branches.specs.inner.Edges.{marked}
+use Rattle.spv_flow.specs.branches.inner.Edges.{marked}
 use Rattle.spv_flow_evidence.specs.branches.Evidence.{ArePredecessors}
 use Rattle.spv_flow_evidence.specs.branches.inner.Known.{AreMarks, marked_below}
 

@@ -11,11 +11,11 @@ use Rattle.spv_module.specs.declared.fault.Rule.TheVariants.{F3}
 use Rattle.spv_layout.specs.declared.form.Role.TheVariants.{Label}
 use Rattle.spv_layout.specs.Place.{IsOfBlock}
 use Rattle.spv_ids.specs.Definition.{IsUsedAt}
-use Rattle.spv_branches.specs.declared.code.Code.{Code}
-use Rattle.spv_branches.specs.inner.Code.{insts_of, IsCode}
-use Rattle.spv_branches.specs.inner.Edges.{marked}
-use Rattle.spv_branches.specs.Target.{is_phi, IsOp, IsLabelOf, IsParentAt, HasParents}
-use Rattle.spv_branches.proofs.Labelled.{use_in, use_within, one_id, one_label, one_parent}
+use Rattle.spv_flow.specs.declared.branches.code.Code.{Code}
+use Rattle.spv_flow.specs.branches.inner.Code.{insts_of, IsCode}
+use Rattle.spv_flow.specs.branches.inner.Edges.{marked}
+use Rattle.spv_flow.specs.branches.Target.{is_phi, IsOp, IsLabelOf, IsParentAt, HasParents}
+use Rattle.spv_flow.proofs.lemmas.branches.Labelled.{use_in, use_within, one_id, one_label, one_parent}
 use Rattle.spv_evidence.specs.declared.evidence.Evidence.TheVariants.{MissingParent, NoPredecessor, Twice}
 use Rattle.spv_flow_evidence.specs.branches.Evidence.{ArePredecessors, IsEvidence}
 use Rattle.spv_flow_evidence.specs.branches.inner.Known.{AreMarks, name_of, AreNames, HasNames}

@@ -18,12 +18,12 @@ use Rattle.spv_layout.specs.Shape.{AreOf, Ends, HasForms}
 use Rattle.spv_layout.specs.Place.{IsOfBlock}
 use Rattle.spv_layout.proofs.Places.{block_same}
 use Rattle.spv_ids.specs.Definition.{IsUsedAt}
-use Rattle.spv_branches.specs.Broken.{Broken}
-use Rattle.spv_branches.specs.inner.Graph.{LacksLabel, LeadsToEntry}
-use Rattle.spv_branches.specs.Target.{is_phi, is_merge, is_branch, IsOp, IsLabelOf, IsPredecessor, IsParentAt, HasParents}
-use Rattle.spv_branches.specs.Example.{branch, conditional, function, label, negation, paired, unpaired}
-use Rattle.spv_branches.proofs.Firsts.{at_phi}
-use Rattle.spv_branches.proofs.Worked.{branch_used, has_parents, bare_label, u_block, phi_block, u_leads}
+use Rattle.spv_flow.specs.branches.Broken.{Broken}
+use Rattle.spv_flow.specs.branches.inner.Graph.{LacksLabel, LeadsToEntry}
+use Rattle.spv_flow.specs.branches.Target.{is_phi, is_merge, is_branch, IsOp, IsLabelOf, IsPredecessor, IsParentAt, HasParents}
+use Rattle.spv_flow.specs.branches.Example.{branch, conditional, function, label, negation, paired, unpaired}
+use Rattle.spv_flow.proofs.lemmas.branches.Firsts.{at_phi}
+use Rattle.spv_flow.proofs.lemmas.branches.Worked.{branch_used, has_parents, bare_label, u_block, phi_block, u_leads}
 use Rattle.spv_evidence.specs.declared.evidence.Evidence.{Evidence}
 use Rattle.spv_evidence.specs.declared.evidence.Evidence.TheVariants.{Operand, Defined, MissingParent}
 use Rattle.spv_flow_evidence.specs.branches.Evidence.{ArePredecessors, IsEvidence}

@@ -11,14 +11,14 @@ use Rattle.spv_module.specs.Module.{plain_inst}
 use Rattle.spv_module.specs.declared.fault.Rule.{Rule}
 use Rattle.spv_module.specs.declared.fault.Rule.TheVariants.{G1}
 use Rattle.spv_layout.specs.Place.{AreFew}
-use Rattle.spv_calls.specs.declared.graph.Call.{Call}
-use Rattle.spv_calls.specs.Calls.{IsCall, Calls}
-use Rattle.spv_calls.specs.Chain.{Chain, alone, more}
-use Rattle.spv_calls.specs.Broken.{Broken, on_cycle}
-use Rattle.spv_calls.specs.inner.Found.{AreCalls, AreEntries}
-use Rattle.spv_calls.proofs.Bridge.{calls_has, calls_within, entries_below}
-use Rattle.spv_calls.proofs.Chains.{joined, single}
-use Rattle.spv_calls.proofs.Lists.{map_get}
+use Rattle.spv_flow.specs.declared.calls.graph.Call.{Call}
+use Rattle.spv_flow.specs.calls.Calls.{IsCall, Calls}
+use Rattle.spv_flow.specs.calls.Chain.{Chain, alone, more}
+use Rattle.spv_flow.specs.calls.Broken.{Broken, on_cycle}
+use Rattle.spv_flow.specs.calls.inner.Found.{AreCalls, AreEntries}
+use Rattle.spv_flow.proofs.lemmas.calls.Bridge.{calls_has, calls_within, entries_below}
+use Rattle.spv_flow.proofs.lemmas.calls.Chains.{joined, single}
+use Rattle.spv_flow.proofs.lemmas.calls.Lists.{map_get}
 use Rattle.spv_evidence.specs.declared.evidence.Evidence.{Evidence}
 use Rattle.spv_evidence.specs.declared.evidence.Evidence.TheVariants.{Cycle}
 use Rattle.spv_graphs.specs.declared.edge.Edge.{Edge}

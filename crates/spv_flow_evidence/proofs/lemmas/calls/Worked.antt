@@ -7,9 +7,9 @@ use Rattle.spv_module.specs.declared.opcode.TheConstants as opcode
 use Rattle.spv_module.specs.declared.fault.Rule.{Rule}
 use Rattle.spv_module.specs.declared.fault.Rule.TheVariants.{G1}
 use Rattle.spv_layout.proofs.Places.{function_same}
-use Rattle.spv_calls.specs.Calls.{IsCall, IsEntryFunction}
-use Rattle.spv_calls.specs.Example.{entry, function, label, call, return_op, end, looped}
-use Rattle.spv_calls.proofs.Worked.{called_3, called_8, entry_0, outside}
+use Rattle.spv_flow.specs.calls.Calls.{IsCall, IsEntryFunction}
+use Rattle.spv_flow.specs.calls.Example.{entry, function, label, call, return_op, end, looped}
+use Rattle.spv_flow.proofs.lemmas.calls.Worked.{called_3, called_8, entry_0, outside}
 use Rattle.spv_evidence.specs.declared.evidence.Evidence.{Evidence}
 use Rattle.spv_evidence.specs.declared.evidence.Evidence.TheVariants.{Cycle}
 use Rattle.spv_flow_evidence.specs.calls.Evidence.{IsCallChain, IsEntryChain, IsShortestOf, IsEvidence}

@@ -14,17 +14,17 @@ use Rattle.spv_graphs.specs.declared.graph.Graph.{Graph}
 use Rattle.spv_graphs.specs.Graph.{block_count}
 use Rattle.spv_graphs.specs.Path.{IsAvailable, IsUnavailable}
 use Rattle.spv_graphs.specs.First.{AreOfBlocks, IsFirstUnavailable}
-use Rattle.spv_branches.specs.Target.{is_phi, IsOp}
-use Rattle.spv_branches.proofs.Labelled.{use_in, use_within}
-use Rattle.spv_walks.specs.declared.code.Code.{Code}
-use Rattle.spv_walks.specs.declared.edges.Blocks.{Blocks}
-use Rattle.spv_walks.specs.inner.Code.{insts_of, IsCode}
-use Rattle.spv_walks.specs.inner.Leading.{AreBlocks}
-use Rattle.spv_walks.specs.inner.Divided.{IsIn, IsGraphOf}
-use Rattle.spv_walks.specs.inner.Due.{IsUseQuery, IsPairQuery, IsQuery}
-use Rattle.spv_walks.proofs.Asking.{one_use, one_pair}
-use Rattle.spv_walks.proofs.Walking.{one_block}
-use Rattle.spv_walks.proofs.Deciding.{walk_within, not_unavailable}
+use Rattle.spv_flow.specs.branches.Target.{is_phi, IsOp}
+use Rattle.spv_flow.proofs.lemmas.branches.Labelled.{use_in, use_within}
+use Rattle.spv_flow.specs.declared.walks.code.Code.{Code}
+use Rattle.spv_flow.specs.declared.walks.edges.Blocks.{Blocks}
+use Rattle.spv_flow.specs.walks.inner.Code.{insts_of, IsCode}
+use Rattle.spv_flow.specs.walks.inner.Leading.{AreBlocks}
+use Rattle.spv_flow.specs.walks.inner.Divided.{IsIn, IsGraphOf}
+use Rattle.spv_flow.specs.walks.inner.Due.{IsUseQuery, IsPairQuery, IsQuery}
+use Rattle.spv_flow.proofs.lemmas.walks.Asking.{one_use, one_pair}
+use Rattle.spv_flow.proofs.lemmas.walks.Walking.{one_block}
+use Rattle.spv_flow.proofs.lemmas.walks.Deciding.{walk_within, not_unavailable}
 use Rattle.spv_flow_evidence.specs.declared.walks.queries.Taking.{Taking}
 use Rattle.spv_flow_evidence.specs.declared.walks.queries.Taking.TheVariants.{Uses, Pairs}
 use Rattle.spv_flow_evidence.specs.walks.inner.Asked.{IsQueryOf, IsQueryFound, MissesValue, numbered, AreAsked, IsUnavailableQuery}

@@ -9,12 +9,12 @@ use Rattle.spv_table.specs.Table.{Table}
 use Rattle.spv_module.specs.Operand.{PlainInst}
 use Rattle.spv_graphs.specs.declared.graph.Graph.{Graph}
 use Rattle.spv_graphs.specs.Path.{IsPath}
-use Rattle.spv_branches.specs.Target.{is_label, IsOp}
-use Rattle.spv_branches.proofs.Firsts.{holds}
-use Rattle.spv_walks.specs.inner.Divided.{IsDivided, IsGraphOf}
-use Rattle.spv_walks.proofs.Lists.{all_head, all_tail}
-use Rattle.spv_walks.proofs.Trails.{run, size, trail, all_run, run_split}
-use Rattle.spv_walks.proofs.Pairs.{plain_inside, function_no_label, target_label}
+use Rattle.spv_flow.specs.branches.Target.{is_label, IsOp}
+use Rattle.spv_flow.proofs.lemmas.branches.Firsts.{holds}
+use Rattle.spv_flow.specs.walks.inner.Divided.{IsDivided, IsGraphOf}
+use Rattle.spv_flow.proofs.lemmas.walks.Lists.{all_head, all_tail}
+use Rattle.spv_flow.proofs.lemmas.walks.Trails.{run, size, trail, all_run, run_split}
+use Rattle.spv_flow.proofs.lemmas.walks.Pairs.{plain_inside, function_no_label, target_label}
 use Rattle.spv_flow_evidence.specs.walks.Evidence.{is_label_at, blocks_of}
 use Rattle.spv_flow_evidence.specs.walks.inner.Way.{labels_of}
 

@@ -17,11 +17,11 @@ use Rattle.spv_layout.specs.Rows.{rows}
 use Rattle.spv_layout.specs.Shape.{AreOf, Ends, HasForms}
 use Rattle.spv_layout.specs.Place.{IsAt, IsOfFunction}
 use Rattle.spv_ids.specs.Definition.{IsUsedAt}
-use Rattle.spv_branches.specs.Target.{is_label, IsOp, IsTarget}
-use Rattle.spv_branches.specs.Walk.{Next, IsWalk, IsResultAmong, IsLastLabel}
-use Rattle.spv_branches.specs.Ready.{ComesFrom, IsLocalValue, IsPairMissing}
-use Rattle.spv_branches.specs.Example.{branch, label, function, phi_of, valued}
-use Rattle.spv_branches.proofs.Worked.{branch_used}
+use Rattle.spv_flow.specs.branches.Target.{is_label, IsOp, IsTarget}
+use Rattle.spv_flow.specs.branches.Walk.{Next, IsWalk, IsResultAmong, IsLastLabel}
+use Rattle.spv_flow.specs.branches.Ready.{ComesFrom, IsLocalValue, IsPairMissing}
+use Rattle.spv_flow.specs.branches.Example.{branch, label, function, phi_of, valued}
+use Rattle.spv_flow.proofs.lemmas.branches.Worked.{branch_used}
 use Rattle.spv_evidence.specs.declared.evidence.Evidence.{Evidence}
 use Rattle.spv_evidence.specs.declared.evidence.Evidence.TheVariants.{Walk}
 use Rattle.spv_flow_evidence.specs.walks.Evidence.{is_label_at, blocks_of, IsEvidence}

@@ -20,21 +20,21 @@ use Rattle.spv_graphs.specs.declared.graph.Graph.{Graph}
 use Rattle.spv_graphs.specs.declared.queries.Query.{Query}
 use Rattle.spv_graphs.specs.Graph.{block_count}
 use Rattle.spv_graphs.specs.Path.{IsPath}
-use Rattle.spv_branches.specs.Target.{is_label, is_phi, IsOp}
-use Rattle.spv_branches.specs.Ready.{IsMissing, IsPairMissing}
-use Rattle.spv_branches.specs.Broken.{Broken}
-use Rattle.spv_branches.proofs.Firsts.{holds}
-use Rattle.spv_branches.proofs.Labelled.{use_in}
-use Rattle.spv_walks.proofs.Staged.{IsStaged, staged}
-use Rattle.spv_walks.specs.declared.code.Code.{Code}
-use Rattle.spv_walks.specs.inner.Code.{insts_of, IsCode}
-use Rattle.spv_walks.specs.inner.Divided.{IsIn, IsGraphOf}
-use Rattle.spv_walks.specs.inner.Due.{IsUseQuery, IsPairQuery}
-use Rattle.spv_walks.proofs.Coded.{one_place}
-use Rattle.spv_walks.proofs.Ended.{label_forms}
-use Rattle.spv_walks.proofs.Pairs.{came_from, target_label}
-use Rattle.spv_walks.proofs.Parents.{parents_lead}
-use Rattle.spv_walks.proofs.Deciding.{walk_within}
+use Rattle.spv_flow.specs.branches.Target.{is_label, is_phi, IsOp}
+use Rattle.spv_flow.specs.branches.Ready.{IsMissing, IsPairMissing}
+use Rattle.spv_flow.specs.branches.Broken.{Broken}
+use Rattle.spv_flow.proofs.lemmas.branches.Firsts.{holds}
+use Rattle.spv_flow.proofs.lemmas.branches.Labelled.{use_in}
+use Rattle.spv_flow.proofs.lemmas.walks.Staged.{IsStaged, staged}
+use Rattle.spv_flow.specs.declared.walks.code.Code.{Code}
+use Rattle.spv_flow.specs.walks.inner.Code.{insts_of, IsCode}
+use Rattle.spv_flow.specs.walks.inner.Divided.{IsIn, IsGraphOf}
+use Rattle.spv_flow.specs.walks.inner.Due.{IsUseQuery, IsPairQuery}
+use Rattle.spv_flow.proofs.lemmas.walks.Coded.{one_place}
+use Rattle.spv_flow.proofs.lemmas.walks.Ended.{label_forms}
+use Rattle.spv_flow.proofs.lemmas.walks.Pairs.{came_from, target_label}
+use Rattle.spv_flow.proofs.lemmas.walks.Parents.{parents_lead}
+use Rattle.spv_flow.proofs.lemmas.walks.Deciding.{walk_within}
 use Rattle.spv_evidence.specs.declared.evidence.Evidence.{Evidence}
 use Rattle.spv_evidence.specs.declared.evidence.Evidence.TheVariants.{Walk}
 use Rattle.spv_flow_evidence.specs.walks.Evidence.{AreFewest, AreFewestFrom, IsEvidence}

@@ -9,17 +9,17 @@ use Rattle.spv_ids.specs.Definition.{IsDefinedAt}
 use Rattle.spv_graphs.specs.declared.graph.Graph.{Graph}
 use Rattle.spv_graphs.specs.Graph.{targets_of}
 use Rattle.spv_graphs.specs.Path.{IsPath, IsDefinedOn}
-use Rattle.spv_branches.specs.Target.{is_label, is_phi, IsOp}
-use Rattle.spv_branches.specs.Walk.{IsWalk, IsResultAmong, IsLastLabel}
-use Rattle.spv_branches.specs.Ready.{ComesFrom}
-use Rattle.spv_branches.proofs.Firsts.{known}
-use Rattle.spv_walks.specs.inner.Divided.{IsIn, IsGraphOf}
-use Rattle.spv_walks.proofs.Lists.{any_none, any_cases, any_right, any_head}
-use Rattle.spv_walks.proofs.Trails.{run, size, trail, run_any, trail_defined, trail_only}
-use Rattle.spv_walks.proofs.Walking.{Comes, comes, one_block, through, walk_to}
-use Rattle.spv_walks.proofs.Pairs.{after_first, is_last_label, last_label, target_label}
-use Rattle.spv_walks.proofs.Asking.{one_start}
-use Rattle.spv_walks.proofs.Deciding.{walk_within}
+use Rattle.spv_flow.specs.branches.Target.{is_label, is_phi, IsOp}
+use Rattle.spv_flow.specs.branches.Walk.{IsWalk, IsResultAmong, IsLastLabel}
+use Rattle.spv_flow.specs.branches.Ready.{ComesFrom}
+use Rattle.spv_flow.proofs.lemmas.branches.Firsts.{known}
+use Rattle.spv_flow.specs.walks.inner.Divided.{IsIn, IsGraphOf}
+use Rattle.spv_flow.proofs.lemmas.walks.Lists.{any_none, any_cases, any_right, any_head}
+use Rattle.spv_flow.proofs.lemmas.walks.Trails.{run, size, trail, run_any, trail_defined, trail_only}
+use Rattle.spv_flow.proofs.lemmas.walks.Walking.{Comes, comes, one_block, through, walk_to}
+use Rattle.spv_flow.proofs.lemmas.walks.Pairs.{after_first, is_last_label, last_label, target_label}
+use Rattle.spv_flow.proofs.lemmas.walks.Asking.{one_start}
+use Rattle.spv_flow.proofs.lemmas.walks.Deciding.{walk_within}
 use Rattle.spv_flow_evidence.specs.walks.Evidence.{blocks_of, AreFewest, AreFewestFrom}
 use Rattle.spv_flow_evidence.specs.walks.inner.Way.{labels_of}
 use Rattle.spv_flow_evidence.proofs.lemmas.walks.Labels.{walk_blocks, many_labels}

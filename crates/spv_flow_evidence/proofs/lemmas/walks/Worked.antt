@@ -11,12 +11,12 @@ use Rattle.spv_layout.specs.Place.{IsAt, IsOfFunction}
 use Rattle.spv_layout.specs.Rows.{rows}
 use Rattle.spv_layout.specs.declared.class.Class.TheVariants.{Function, FunctionEnd}
 use Rattle.spv_layout.specs.inner.Row.{v, T, R}
-use Rattle.spv_branches.specs.Target.{is_label, is_phi, IsOp}
-use Rattle.spv_branches.specs.inner.Target.{is_function}
-use Rattle.spv_branches.specs.Walk.{Next, IsWalk, IsResultAmong}
-use Rattle.spv_branches.specs.Ready.{IsMissing}
-use Rattle.spv_branches.specs.Example.{label, function, negation, early}
-use Rattle.spv_branches.proofs.Worked.{local_7, negation_forms}
+use Rattle.spv_flow.specs.branches.Target.{is_label, is_phi, IsOp}
+use Rattle.spv_flow.specs.branches.inner.Target.{is_function}
+use Rattle.spv_flow.specs.branches.Walk.{Next, IsWalk, IsResultAmong}
+use Rattle.spv_flow.specs.branches.Ready.{IsMissing}
+use Rattle.spv_flow.specs.branches.Example.{label, function, negation, early}
+use Rattle.spv_flow.proofs.lemmas.branches.Worked.{local_7, negation_forms}
 use Rattle.spv_evidence.specs.declared.evidence.Evidence.{Evidence}
 use Rattle.spv_evidence.specs.declared.evidence.Evidence.TheVariants.{Walk}
 use Rattle.spv_flow_evidence.specs.walks.Evidence.{is_label_at, blocks_of, IsEvidence}

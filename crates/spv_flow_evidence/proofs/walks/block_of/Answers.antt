@@ -2,8 +2,8 @@ use Rattle.std.proofs.Common.{◌≡◌, ◌-◌, length, ap, arith}
 use Rattle.std.specs.Prelude.{slice_index}
 use Rattle.std.proofs.lemmas.List.{length-map}
 use Rattle.spv_module.specs.Module.{plain_inst}
-use Rattle.spv_walks.specs.inner.Code.{insts_of}
-use Rattle.spv_walks.proofs.Starting.{few_blocks}
+use Rattle.spv_flow.specs.walks.inner.Code.{insts_of}
+use Rattle.spv_flow.proofs.lemmas.walks.Starting.{few_blocks}
 use Rattle.spv_flow_evidence.proofs.walks.block_of.Goals as goal
 
 pub loop-next-init : goal.loop-next-init

@@ -2,8 +2,8 @@ use Rattle.std.proofs.Common.{arith}
 use Rattle.std.proofs.lemmas.Grind.{common_steps}
 use Rattle.std.proofs.lemmas.List.{length-map}
 use Rattle.spv_module.specs.Module.{plain_inst}
-use Rattle.spv_walks.specs.inner.Code.{insts_of}
-use Rattle.spv_walks.proofs.Alone.{function_op}
+use Rattle.spv_flow.specs.walks.inner.Code.{insts_of}
+use Rattle.spv_flow.proofs.lemmas.walks.Alone.{function_op}
 use Rattle.spv_flow_evidence.proofs.lemmas.walks.Asked.{walk_function}
 use Rattle.spv_flow_evidence.proofs.walks.evidence_at.Goals as goal
 

@@ -1,8 +1,8 @@
 use Rattle.std.proofs.Common.{◌<◌, ◌∙◌, ℕ, List, length, sym, ap, subst, arith}
 use Rattle.std.specs.Prelude.{All}
 use Rattle.spv_evidence.specs.declared.evidence.Evidence.TheVariants.{Walk}
-use Rattle.spv_walks.specs.inner.Code.{insts_of}
-use Rattle.spv_walks.proofs.Deciding.{graph_of, is_graph}
+use Rattle.spv_flow.specs.walks.inner.Code.{insts_of}
+use Rattle.spv_flow.proofs.lemmas.walks.Deciding.{graph_of, is_graph}
 use Rattle.spv_flow_evidence.specs.walks.inner.Shown.{IsShown}
 use Rattle.spv_flow_evidence.specs.walks.inner.Way.{labels_of}
 use Rattle.spv_flow_evidence.proofs.lemmas.walks.Asked.{unavailable_block}

@@ -1,7 +1,7 @@
 use Rattle.std.proofs.Common.{ℕ, Some, None}
 use Rattle.spv_graphs.specs.First.{IsFirstUnavailable}
-use Rattle.spv_walks.specs.inner.Code.{insts_of}
-use Rattle.spv_walks.proofs.Deciding.{graph_of, is_graph}
+use Rattle.spv_flow.specs.walks.inner.Code.{insts_of}
+use Rattle.spv_flow.proofs.lemmas.walks.Deciding.{graph_of, is_graph}
 use Rattle.spv_flow_evidence.proofs.lemmas.walks.Asked.{asked_in, steps_in, asked_blocks, some_unavailable, unavailable_step, operand_asked, query_unavailable}
 use Rattle.spv_flow_evidence.proofs.walks.unavailable_query.Goals as goal
 

@@ -3,11 +3,11 @@ use Rattle.std.proofs.lemmas.Result.{IfOk-weaker}
 use Rattle.spv_module.specs.Module.{plain_inst, plain_insts}
 use Rattle.spv_evidence.specs.declared.evidence.Evidence.{Evidence}
 use Rattle.spv_table.specs.Table.{Table}
-use Rattle.spv_walks.specs.declared.code.Code.{Code}
-use Rattle.spv_walks.specs.inner.Code.{IsCode}
+use Rattle.spv_flow.specs.declared.walks.code.Code.{Code}
+use Rattle.spv_flow.specs.walks.inner.Code.{IsCode}
 use Rattle.spv_flow_evidence.specs.walks.Evidence.{IsEvidence}
 use Rattle.spv_flow_evidence.specs.walks.inner.Shown.{IsShown}
-use Rattle.spv_branches.proofs.Firsts.{few_insts}
+use Rattle.spv_flow.proofs.lemmas.branches.Firsts.{few_insts}
 use Rattle.spv_flow_evidence.proofs.lemmas.walks.Showing.{misses, as_rule}
 use Rattle.spv_flow_evidence.proofs.walks.walk_evidence.Goals as goal
 

@@ -5,8 +5,8 @@ use Rattle.spv_table.specs.Table.{Table}
 use Rattle.spv_module.specs.Operand.{PlainInst}
 use Rattle.spv_layout.specs.declared.form.Role.TheVariants.{Label}
 use Rattle.spv_ids.specs.Definition.{IsDefinedAt, IsUsedAt}
-use Rattle.spv_branches.specs.inner.Edges.{marked}
-use Rattle.spv_branches.specs.Target.{IsLabelOf, IsPredecessor, IsParentAt, IsEntryLabel}
+use Rattle.spv_flow.specs.branches.inner.Edges.{marked}
+use Rattle.spv_flow.specs.branches.Target.{IsLabelOf, IsPredecessor, IsParentAt, IsEntryLabel}
 use Rattle.spv_evidence.specs.declared.evidence.Evidence.{Evidence}
 use Rattle.spv_evidence.specs.declared.evidence.Evidence.TheVariants as evidence
 use Rattle.spv_flow_evidence.specs.declared.branches.parents.WrongPair.{WrongPair}

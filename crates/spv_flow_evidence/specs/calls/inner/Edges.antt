@@ -1,6 +1,6 @@
 -- Calls as edges. (For the code alone.)
 use Rattle.std.specs.Prelude.{◌≡◌, ℕ, List, Some, slice_get}
-use Rattle.spv_calls.specs.declared.graph.Call.{Call}
+use Rattle.spv_flow.specs.declared.calls.graph.Call.{Call}
 use Rattle.spv_graphs.specs.declared.edge.Edge.{Edge}
 
 -- the edge between functions that a call is

@@ -5,8 +5,8 @@ use Rattle.spv_module.specs.Operand.{PlainInst}
 use Rattle.spv_graphs.specs.declared.graph.Graph.{Graph}
 use Rattle.spv_graphs.specs.declared.queries.Query.{Query}
 use Rattle.spv_graphs.specs.Path.{IsUnavailable}
-use Rattle.spv_branches.specs.Ready.{IsMissing, IsPairMissing}
-use Rattle.spv_walks.specs.inner.Due.{IsUseQuery, IsPairQuery}
+use Rattle.spv_flow.specs.branches.Ready.{IsMissing, IsPairMissing}
+use Rattle.spv_flow.specs.walks.inner.Due.{IsUseQuery, IsPairQuery}
 use Rattle.spv_flow_evidence.specs.declared.walks.queries.Taking.{Taking}
 use Rattle.spv_flow_evidence.specs.declared.walks.queries.Taking.TheVariants.{Uses, Pairs}
 

@@ -5,8 +5,8 @@ use Rattle.spv_module.specs.Operand.{PlainInst}
 use Rattle.spv_module.specs.declared.module.Inst.{Inst}
 use Rattle.spv_module.specs.Module.{plain_inst, plain_operand}
 use Rattle.spv_layout.specs.declared.form.Role.TheVariants.{Label}
-use Rattle.spv_branches.specs.inner.Code.{insts_of}
-use Rattle.spv_branches.proofs.Labelled.{inst_get, use_at, use_in}
+use Rattle.spv_flow.specs.branches.inner.Code.{insts_of}
+use Rattle.spv_flow.proofs.lemmas.branches.Labelled.{inst_get, use_at, use_in}
 use Rattle.spv_flow_evidence.specs.branches.Evidence.{IsEvidence}
 use Rattle.spv_flow_evidence.specs.branches.inner.Known.{IsEntryId}
 use Rattle.spv_flow_evidence.proofs.lemmas.branches.Looking.{each_other, each_more, each_all}

@@ -2,12 +2,12 @@ use Rattle.std.proofs.Common.{◌≡◌, ◌<◌, ℕ, List, Bool, true, false, 
 use Rattle.std.specs.Prelude.{MatchBool}
 use Rattle.std.proofs.lemmas.Bool.{both_ways}
 use Rattle.spv_table.specs.Table.{Table}
-use Rattle.spv_branches.specs.declared.code.Code.{Code}
-use Rattle.spv_branches.specs.inner.Code.{insts_of, IsCode}
-use Rattle.spv_branches.specs.inner.Edges.{marked}
-use Rattle.spv_branches.specs.inner.Graph.{AreEntries}
-use Rattle.spv_branches.specs.Target.{IsLabelOf, IsEntryLabel}
-use Rattle.spv_branches.proofs.Labelled.{one_place}
+use Rattle.spv_flow.specs.declared.branches.code.Code.{Code}
+use Rattle.spv_flow.specs.branches.inner.Code.{insts_of, IsCode}
+use Rattle.spv_flow.specs.branches.inner.Edges.{marked}
+use Rattle.spv_flow.specs.branches.inner.Graph.{AreEntries}
+use Rattle.spv_flow.specs.branches.Target.{IsLabelOf, IsEntryLabel}
+use Rattle.spv_flow.proofs.lemmas.branches.Labelled.{one_place}
 use Rattle.spv_flow_evidence.specs.branches.inner.Known.{IsEntryId}
 use Rattle.spv_flow_evidence.proofs.branches.labels.is_entry.Goals as goal
 

@@ -2,8 +2,8 @@ use Rattle.std.proofs.Common.{◌<◌, ℕ}
 use Rattle.spv_table.specs.Table.{Table}
 use Rattle.spv_layout.specs.declared.form.Role.TheVariants.{Label}
 use Rattle.spv_ids.specs.Definition.{IsUsedAt}
-use Rattle.spv_branches.specs.inner.Code.{insts_of, IsCode}
-use Rattle.spv_branches.specs.Target.{IsLabelOf}
+use Rattle.spv_flow.specs.branches.inner.Code.{insts_of, IsCode}
+use Rattle.spv_flow.specs.branches.Target.{IsLabelOf}
 use Rattle.spv_flow_evidence.proofs.branches.labels.label_evidence.Given as goal
 
 abbrev pub invariant-loop-k : goal.invariant-loop-k

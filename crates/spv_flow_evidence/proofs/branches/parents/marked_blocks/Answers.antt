@@ -1,6 +1,6 @@
 use Rattle.std.proofs.Common.{◌≡◌, ◌∙◌, refl, sym, true, false}
 use Rattle.std.proofs.lemmas.List.{append-nil}
-use Rattle.spv_branches.specs.inner.Edges.{marked}
+use Rattle.spv_flow.specs.branches.inner.Edges.{marked}
 use Rattle.spv_flow_evidence.proofs.lemmas.branches.Marked.{marked_more, none_marked}
 use Rattle.spv_flow_evidence.proofs.branches.parents.marked_blocks.Goals.{then-marks-block+in_ok-push, else-marks-block}
 use Rattle.spv_flow_evidence.proofs.branches.parents.marked_blocks.Goals as goal

@@ -2,12 +2,12 @@ use Rattle.std.proofs.Common.{◌≡◌, ◌∙◌, ℕ, List, Bool, false, drop
 use Rattle.std.proofs.lemmas.List.{length-map}
 use Rattle.spv_table.specs.Table.{Table}
 use Rattle.spv_module.specs.Module.{plain_inst}
-use Rattle.spv_branches.specs.declared.code.Code.{Code}
-use Rattle.spv_branches.specs.declared.edges.Edges.{Edges}
-use Rattle.spv_branches.specs.inner.Code.{insts_of}
-use Rattle.spv_branches.specs.inner.Edges.{marked}
-use Rattle.spv_branches.specs.inner.Graph.{AreGathered}
-use Rattle.spv_branches.proofs.Taking.{AreSources, sources, leads_within}
+use Rattle.spv_flow.specs.declared.branches.code.Code.{Code}
+use Rattle.spv_flow.specs.declared.branches.edges.Edges.{Edges}
+use Rattle.spv_flow.specs.branches.inner.Code.{insts_of}
+use Rattle.spv_flow.specs.branches.inner.Edges.{marked}
+use Rattle.spv_flow.specs.branches.inner.Graph.{AreGathered}
+use Rattle.spv_flow.proofs.lemmas.branches.Taking.{AreSources, sources, leads_within}
 use Rattle.spv_flow_evidence.specs.branches.inner.Known.{AreMarks}
 use Rattle.spv_flow_evidence.proofs.lemmas.branches.Naming.{written}
 use Rattle.spv_flow_evidence.proofs.branches.parents.marks_of.Goals as goal

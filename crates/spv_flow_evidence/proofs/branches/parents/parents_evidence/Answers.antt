@@ -1,7 +1,7 @@
 use Rattle.std.proofs.Common.{◌≡◌, ◌∙◌, ℕ, true, None, drop, length, sym, ap, arith}
 use Rattle.std.proofs.lemmas.Grind.{common_steps}
-use Rattle.spv_branches.specs.inner.Code.{insts_of}
-use Rattle.spv_branches.specs.inner.Edges.{marked}
+use Rattle.spv_flow.specs.branches.inner.Code.{insts_of}
+use Rattle.spv_flow.specs.branches.inner.Edges.{marked}
 use Rattle.spv_flow_evidence.specs.branches.inner.Known.{AreMarks, HasNames, name_of}
 use Rattle.spv_flow_evidence.proofs.lemmas.branches.Blocks.{phi_block}
 use Rattle.spv_flow_evidence.specs.branches.Evidence.{ArePredecessors}

@@ -1,5 +1,5 @@
 use Rattle.std.proofs.Common.{◌≡◌, ◌<◌, ℕ, true, None}
-use Rattle.spv_branches.specs.inner.Edges.{marked}
+use Rattle.spv_flow.specs.branches.inner.Edges.{marked}
 use Rattle.spv_flow_evidence.specs.branches.inner.Known.{name_of}
 use Rattle.spv_flow_evidence.proofs.branches.parents.unnamed.Given as goal
 

@@ -5,8 +5,8 @@ use Rattle.spv_module.specs.Operand.{PlainInst}
 use Rattle.spv_module.specs.declared.module.Inst.{Inst}
 use Rattle.spv_module.specs.Module.{plain_inst, plain_operand}
 use Rattle.spv_layout.specs.declared.form.Role.TheVariants.{Label}
-use Rattle.spv_branches.specs.inner.Code.{insts_of}
-use Rattle.spv_branches.proofs.Labelled.{inst_get, use_at, use_in}
+use Rattle.spv_flow.specs.branches.inner.Code.{insts_of}
+use Rattle.spv_flow.proofs.lemmas.branches.Labelled.{inst_get, use_at, use_in}
 use Rattle.spv_flow_evidence.proofs.lemmas.branches.Naming.{names_other, names_more, names_end, no_block, unmarked, again}
 use Rattle.spv_flow_evidence.proofs.branches.parents.wrong_pair.Goals as goal
 use Rattle.spv_flow_evidence.proofs.branches.parents.wrong_pair.Goals.{in-Some+in-Some-label_of+else-not-marks-parent+in_default-names, in_default}

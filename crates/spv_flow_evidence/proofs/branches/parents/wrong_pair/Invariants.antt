@@ -1,5 +1,5 @@
 use Rattle.spv_table.specs.Table.{Table}
-use Rattle.spv_branches.specs.inner.Code.{insts_of, IsCode}
+use Rattle.spv_flow.specs.branches.inner.Code.{insts_of, IsCode}
 use Rattle.spv_flow_evidence.specs.branches.inner.Known.{AreNames}
 use Rattle.spv_flow_evidence.proofs.branches.parents.wrong_pair.Given as goal
 

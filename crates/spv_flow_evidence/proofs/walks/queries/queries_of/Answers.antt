@@ -7,8 +7,8 @@ use Rattle.spv_module.specs.Operand.{PlainInst}
 use Rattle.spv_module.specs.declared.module.Inst.{Inst}
 use Rattle.spv_module.specs.Module.{plain_inst, plain_operand}
 use Rattle.spv_graphs.specs.declared.queries.Query.{Query}
-use Rattle.spv_branches.proofs.Labelled.{inst_get}
-use Rattle.spv_walks.specs.inner.Code.{insts_of}
+use Rattle.spv_flow.proofs.lemmas.branches.Labelled.{inst_get}
+use Rattle.spv_flow.specs.walks.inner.Code.{insts_of}
 use Rattle.spv_flow_evidence.specs.walks.inner.Asked.{numbered, AreAsked}
 use Rattle.spv_flow_evidence.proofs.lemmas.walks.Asked.{asked_none, asked_more, asked_same, asked_all}
 use Rattle.spv_flow_evidence.proofs.walks.queries.queries_of.Goals as goal

@@ -2,7 +2,7 @@ use Rattle.std.proofs.Common.{◌<◌}
 use Rattle.std.specs.Prelude.{All}
 use Rattle.spv_table.specs.Table.{Table}
 use Rattle.spv_graphs.specs.declared.queries.Query.{Query}
-use Rattle.spv_walks.specs.inner.Code.{insts_of, IsCode}
+use Rattle.spv_flow.specs.walks.inner.Code.{insts_of, IsCode}
 use Rattle.spv_flow_evidence.specs.walks.inner.Asked.{AreAsked}
 use Rattle.spv_flow_evidence.proofs.walks.queries.queries_of.Given as goal
 

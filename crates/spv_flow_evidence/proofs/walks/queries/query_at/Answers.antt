@@ -1,9 +1,9 @@
 use Rattle.std.proofs.Common.{get_or}
 use Rattle.spv_module.specs.Module.{plain_inst}
-use Rattle.spv_branches.proofs.Labelled.{inst_get}
-use Rattle.spv_walks.specs.inner.Code.{insts_of}
-use Rattle.spv_walks.proofs.Used.{none_found}
-use Rattle.spv_walks.proofs.Asking.{no_use}
+use Rattle.spv_flow.proofs.lemmas.branches.Labelled.{inst_get}
+use Rattle.spv_flow.specs.walks.inner.Code.{insts_of}
+use Rattle.spv_flow.proofs.lemmas.walks.Used.{none_found}
+use Rattle.spv_flow.proofs.lemmas.walks.Asking.{no_use}
 use Rattle.spv_flow_evidence.proofs.lemmas.walks.Asked.{by_uses, by_pairs}
 use Rattle.spv_flow_evidence.proofs.walks.queries.query_at.Goals as goal
 

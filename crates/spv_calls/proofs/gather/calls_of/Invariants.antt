@@ -1,7 +1,0 @@
-use Rattle.std.proofs.Common.{map}
-use Rattle.spv_module.specs.Module.{plain_inst}
-use Rattle.spv_calls.specs.inner.Found.{AreCalls}
-use Rattle.spv_calls.proofs.gather.calls_of.Given as goal
-
-abbrev pub invariant-loop-i : goal.invariant-loop-i
-invariant-loop-i l = AreCalls (map plain_inst l.insts) l.i l.calls.items

@@ -1,0 +1,3 @@
+pub mod branches
+pub mod calls
+pub mod walks

@@ -1,0 +1,98 @@
+//! The first of the rules F that a module breaks.
+
+ghost use Rattle.std.specs.Prelude.{◌≡◌, ◌≤◌, ◌<◌, ◌+◌, ℕ, List, false, length, sum_by, IsTrue};
+ghost use Rattle.std.specs.Prelude.{IfOk, IfErr, MatchOption};
+ghost use Rattle.spv_table.specs.Table.{Table};
+ghost use Rattle.spv_module.specs.Module.{plain_insts};
+ghost use Rattle.spv_module.specs.Operand.{PlainInst};
+ghost use Rattle.spv_layout.specs.Stage.{of_branches};
+ghost use Rattle.spv_layout.specs.First.{IsFirst, IsUnbroken};
+ghost use Rattle.spv_layout.specs.Place.{word_count, IsShort};
+ghost use Rattle.spv_layout.specs.Plan.{IsPlan};
+ghost use Rattle.spv_ids.specs.Outcome.{AreIds};
+ghost use Rattle.spv_flow.specs.branches.inner.Code.{insts_of, IsCode};
+ghost use Rattle.spv_flow.specs.branches.Broken.{Broken};
+ghost use Rattle.spv_flow.specs.branches.inner.Edges.{marked};
+ghost use Rattle.spv_flow.specs.branches.Found.{IsRefusal};
+
+use crate::branches::code::Code;
+use crate::branches::gather::{edges_for, survey};
+use crate::branches::rules::broken_at;
+use spv_ids::Ids;
+use spv_layout::Plan;
+use spv_module::{Module, Rule, Stop};
+use std::alloc::{AllocError, Global};
+
+/// A broken rule at an instruction.
+#[derive(Clone, Copy)]
+pub struct Found {
+    pub rule: Rule,
+    pub inst: u32,
+}
+
+/// A mark for each instruction, none of which is set, where some is an OpPhi: nothing else asks for them. Where none
+/// is, it takes no memory.
+fn marks_for(alloc: Global, count: usize, has_phis: bool) -> Result<Vec<bool>, AllocError>
+    ensures count { IfOk result (λ v. IsTrue has_phis → length v.items ≡ count) }
+    ensures clean { IfOk result (λ v. (p : ℕ) → marked v.items p ≡ false) }
+{
+    let room = if has_phis { count } else { 0 };
+    vec![in alloc; false; room]
+}
+
+/// The first of the rules F that is broken.
+fn first_fault(alloc: Global, code: &Code<'_, '_>) -> Result<Option<Found>, AllocError>
+    requires { (G : Table) × IsCode G code.now }
+    ensures { IfOk result (λ o. (G : Table) → IsCode G code.now
+        → MatchOption o (IsUnbroken (Broken G (insts_of code.now)) of_branches)
+        (λ f. IsFirst (Broken G (insts_of code.now)) of_branches f.rule f.inst)) }
+{
+    let survey = survey(alloc, code.insts)?;
+    let edges = edges_for(alloc, code, survey.has_phis)?;
+    let mut marks = marks_for(alloc, code.insts.len(), survey.has_phis)?;
+    for at in 0..code.insts.len() {
+        if let Some(rule) = broken_at(code, &edges, &survey.entries, &mut marks, at as u32) {
+            return Ok(Some(Found {
+                rule,
+                inst: at as u32,
+            }));
+        }
+    }
+    Ok(None)
+}
+
+/// Looks at the branches of a module: where they lead, and which parents each OpPhi names (SPIR-V Specification 1.6,
+/// sections 2.4 and 2.16). `plan` and `ids` are what `lay_out` and `number` answered of that module.
+///
+/// Time is linear in the words of the module. A block's predecessors are the blocks with a terminator that has the
+/// block's label as a target, each counted once.
+///
+/// A `Fault` tells the first of the rules F that is broken, with its instruction and that instruction's first word
+/// (words and instructions from 0). At one instruction that rule is told which comes first in `Rule`, where each says
+/// what breaks it.
+///
+/// `Memory` comes only where a growth of memory was refused.
+pub fn check_branches(
+    alloc: Global,
+    module: &Module<'_>,
+    plan: &Plan,
+    ids: &Ids,
+) -> Result<(), Stop>
+    // The condition of `lay_out`, and that the plan and the ids are what was answered, by some table.
+    requires words { IsShort (plain_insts «module».now) }
+    requires known { (G : Table) × IsPlan G (plain_insts «module».now) plan.now
+        × AreIds G «module».now.header.bound (plain_insts «module».now) ids.now }
+    ensures unbroken { (G : Table) → IsPlan G (plain_insts «module».now) plan.now
+        → AreIds G «module».now.header.bound (plain_insts «module».now) ids.now
+        → IfOk result (λ _. IsUnbroken (Broken G (plain_insts «module».now)) of_branches) }
+    ensures refused { (G : Table) → IsPlan G (plain_insts «module».now) plan.now
+        → AreIds G «module».now.header.bound (plain_insts «module».now) ids.now
+        → IfErr result (λ s. IsRefusal G (plain_insts «module».now) s) }
+{
+    let insts = module.insts.as_slice();
+    let code = Code { insts, plan, ids };
+    if let Some(found) = first_fault(alloc, &code)? {
+        return Err(plan.stop_at(found.rule, found.inst));
+    }
+    Ok(())
+}

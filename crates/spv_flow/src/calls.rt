@@ -1,0 +1,15 @@
+//! Cycles of calls between the functions of a module.
+
+mod calls;
+mod components;
+mod cyclic;
+mod gather;
+mod graph;
+pub mod laws;
+mod ordered;
+mod reach;
+
+pub use calls::first_cycle;
+pub use cyclic::{first_cyclic, first_cyclic_plainly};
+pub use gather::{calls_of, entries_of};
+pub use graph::Call;

@@ -1,8 +1,0 @@
-use Rattle.spv_walks.specs.inner.Code.{insts_of}
-use Rattle.spv_walks.specs.inner.Adds.{AddsBy}
-use Rattle.spv_walks.specs.inner.Leading.{IsLabelAt}
-use Rattle.spv_walks.proofs.Adding.{UpTo}
-use Rattle.spv_walks.proofs.edges.add_labels.Given as goal
-
-abbrev pub invariant-loop-n : goal.invariant-loop-n
-invariant-loop-n l = AddsBy l.code (UpTo l.n (λ G j c. IsLabelAt G (insts_of l.code) l.blocks.starts.now l.at j c)) l.fn.targets.items l.targets.items

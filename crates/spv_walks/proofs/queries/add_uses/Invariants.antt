@@ -1,8 +1,0 @@
-use Rattle.spv_walks.specs.inner.Code.{insts_of}
-use Rattle.spv_walks.specs.inner.Adds.{AddsBy}
-use Rattle.spv_walks.specs.inner.Due.{IsUseQuery}
-use Rattle.spv_walks.proofs.Adding.{UpTo}
-use Rattle.spv_walks.proofs.queries.add_uses.Given as goal
-
-abbrev pub invariant-loop-n : goal.invariant-loop-n
-invariant-loop-n l = AddsBy l.code (UpTo l.n (λ G j a. IsUseQuery G (insts_of l.code) l.blocks.starts.now l.block l.at j a)) l.fn.queries.items l.queries.items
