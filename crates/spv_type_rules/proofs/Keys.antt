@@ -4,7 +4,7 @@ use Rattle.std.proofs.lemmas.Bool.{eq-eqb}
 use Rattle.spv_module.specs.Operand.{Plain, OfType, Result, Id, Word, Number, Text, Value, Mask, PlainInst}
 use Rattle.spv_type_forms.specs.Parts.{after_result}
 use Rattle.spv_type_rules.specs.inner.Repeat.{AreAlike}
-use Rattle.spv_type_rules.specs.inner.Key.{operand_numbers, all_numbers, all_numbers_of, key_of}
+use Rattle.spv_type_rules.specs.inner.Key.{operand_numbers, all_numbers, key_of}
 
 same_text : (s t us vs : List ℕ) → (map (λ b. b + 1) s ++ 0 ∷ []) ++ us ≡ (map (λ b. b + 1) t ++ 0 ∷ []) ++ vs → (s ≡ t) × (us ≡ vs)
 same_text [] [] us vs e = (refl, cc)
@@ -100,12 +100,9 @@ same_operands (o ∷ os) (p ∷ ps) e =
 
 pub one_key : (i j : PlainInst) → key_of i ≡ key_of j → AreAlike i j
 one_key i j e =
-    let numbers : all_numbers_of i ≡ all_numbers_of j = cc in
     let opcode : i.opcode ≡ j.opcode = cc in
     let rest : all_numbers (after_result i.operands) ≡ all_numbers (after_result j.operands) = cc in
     (opcode, same_operands (after_result i.operands) (after_result j.operands) rest)
 
 pub same_key : (i j : PlainInst) → AreAlike i j → key_of i ≡ key_of j
-same_key i j a =
-    let numbers : all_numbers_of i ≡ all_numbers_of j = rw (a.0, a.1) refl in
-    rw numbers refl
+same_key i j a = rw (a.0, a.1) refl

@@ -5,7 +5,10 @@ pub mod Firsts
 pub mod Counting
 pub mod Adding
 pub mod Pointers
+pub mod Same
+pub mod Slots
 pub mod Repeating
 pub mod Concerns
 pub mod Parted
 mod Worked
+pub mod lemmas

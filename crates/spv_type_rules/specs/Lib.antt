@@ -6,3 +6,4 @@ pub mod Asked
 pub mod Keeps
 pub mod Example
 pub mod inner
+pub mod roles

@@ -8,5 +8,7 @@ pub mod Function
 pub mod Keeps
 pub mod Repeat
 pub mod Key
+pub mod Print
+pub mod Slots
 pub mod Seen
 pub mod Rules

@@ -1,14 +1,18 @@
-//! The rules Y2 to Y8 of types but for Y5: declarations, constants, functions, parameters, returns and calls. Y5, of
-//! operations, is that of spv_ops.
+//! The rules Y but for Y5, which is that of spv_ops: the roles in which ids are used (Y1), declarations, constants,
+//! functions, parameters, returns and calls.
 #![tactic(auto)]
 
+mod alike;
 mod concern;
 mod constant;
 mod counted;
 mod declaration;
+mod fingerprint;
 mod function;
+mod key;
 pub mod laws;
 mod repeat;
+pub mod roles;
 mod rules;
 
 pub use concern::is_operation;

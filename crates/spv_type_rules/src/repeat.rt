@@ -1,17 +1,20 @@
 //! Types that are declared twice.
 
-ghost use Rattle.std.specs.Prelude.{◌≡◌, ◌+◌, ◌++◌, ◌↔◌, ◌⊎◌, ℕ, List, Some, IsTrue, IfOk};
-ghost use Rattle.std.specs.Prelude.{OnOk, slice_get, map, [], ◌∷◌, MatchBool, true};
+ghost use Rattle.std.specs.Prelude.{◌≡◌, ◌≤◌, ◌+◌, ◌↔◌, ◌⊎◌, ℕ, List, Some, IsTrue, IfOk};
+ghost use Rattle.std.specs.Prelude.{OnOk, slice_get, length, MatchBool, true};
 ghost use Rattle.spv_module.specs.Operand.{PlainInst};
-ghost use Rattle.spv_module.specs.Module.{plain_inst, plain_operand};
+ghost use Rattle.spv_module.specs.Module.{plain_inst};
 ghost use Rattle.spv_type_rules.specs.inner.Repeat as spec;
 ghost use Rattle.spv_type_rules.specs.Repeat.{Repeats};
-ghost use Rattle.spv_type_rules.specs.inner.Key as key;
-ghost use Rattle.spv_type_rules.specs.inner.Key.{operand_numbers};
+ghost use Rattle.spv_type_rules.specs.inner.Print as print;
+ghost use Rattle.spv_type_rules.specs.inner.Slots as near;
+ghost use Rattle.spv_type_rules.specs.inner.Slots.{IsHeld, IsPlace};
 ghost use Rattle.spv_type_rules.specs.inner.Seen.{AreSeen, HasKey};
 
-use spv_module::{Inst, Operand, opcode};
-use spv_type_forms::after_result;
+use crate::alike::are_alike;
+use crate::fingerprint::fingerprint_of;
+use crate::key::key_of;
+use spv_module::{Inst, opcode};
 use std::alloc::{AllocError, Global};
 use std::collections::BTreeSet;
 
@@ -27,130 +30,157 @@ pub fn is_declared_once(number: u16) -> bool
     }
 }
 
-/// Appends the octets of a text, each as a number above 0, and a 0.
-fn push_text(key: &mut Vec<u32>, text: &str) -> Result<(), AllocError>
-    ensures { OnOk result (key.new.items ≡ key.old.items ++ map (λ b. b + 1) text.now ++ 0 ∷ []) }
-{
-    key.reserve(text.len().saturating_add(1))?;
-    for octet in text.as_bytes() {
-        key.push(u32::from(*octet) + 1)?;
-    }
-    key.push(0)?;
-    Ok(())
+/// In how many slots a declaration may lie: in the one that its fingerprint tells, and in those behind it.
+const NEAR: usize = 4;
+
+/// A slot for a declaration.
+#[derive(Clone, Copy)]
+struct Slot<'m, 'a> {
+    /// The fingerprint of the declaration that lies in it.
+    fingerprint: u32,
+    /// That declaration; none where the slot is free.
+    inst: Option<&'m Inst<'a>>,
 }
 
-/// Appends two numbers.
-fn push_two(key: &mut Vec<u32>, one: u32, other: u32) -> Result<(), AllocError>
-    ensures { OnOk result (key.new.items ≡ key.old.items ++ one ∷ other ∷ []) }
-{
-    key.push(one)?;
-    key.push(other)?;
-    Ok(())
+/// What lies in a slot.
+#[derive(Clone, Copy)]
+enum Held {
+    Nothing,
+    /// A declaration that is alike to the one that is looked for.
+    Alike,
+    /// Another declaration.
+    Other,
 }
 
-/// Appends the numbers of an operand.
-fn push_operand(key: &mut Vec<u32>, operand: Operand<'_>) -> Result<(), AllocError>
-    ensures { OnOk result (key.new.items ≡ key.old.items ++ operand_numbers (plain_operand operand.entry)) }
-{
-    match operand {
-        Operand::OfType(x) => push_two(key, 0, x),
-        Operand::Result(x) => push_two(key, 1, x),
-        Operand::Id(x) => push_two(key, 2, x),
-        Operand::Word(x) => push_two(key, 3, x),
-        Operand::Number { low, high, words } => {
-            push_two(key, 4, low)?;
-            push_two(key, high, u32::from(words))
-        }
-        Operand::Text(text) => {
-            key.push(5)?;
-            push_text(key, text)
-        }
-        Operand::Value { kind, value } => {
-            key.push(6)?;
-            push_two(key, kind, value)
-        }
-        Operand::Mask { kind, value } => {
-            key.push(7)?;
-            push_two(key, kind, value)
-        }
-    }
+/// Where a declaration lies among the slots.
+#[derive(Clone, Copy)]
+enum Place {
+    /// The slot of this number holds one that is alike.
+    Taken(usize),
+    /// No slot does, and it may lie in the one of this number, which is free.
+    Free(usize),
+    /// No slot does, and others have taken all those in which it may lie.
+    Nowhere,
 }
 
-/// Room for a key, and then the numbers of an instruction: its opcode and its operands, the result aside.
-fn numbers_of(alloc: Global, inst: &Inst<'_>) -> Result<Vec<u32>, AllocError>
-    ensures { IfOk result (λ k. k.items ≡ 0 ∷ key.all_numbers_of (plain_inst inst.now)) }
-{
-    let operands = after_result(inst.operands.as_slice());
-    let mut key = Vec::with_capacity(alloc, operands.len().saturating_mul(2).saturating_add(2))?;
-    key.push(0)?;
-    key.push(u32::from(inst.opcode))?;
-    for operand in operands {
-        push_operand(&mut key, *operand)?;
-    }
-    Ok(key)
-}
-
-/// One number more in a fingerprint.
+/// What a slot holds, looking for a declaration with a fingerprint.
 #[inline(always)]
-fn mixed_with(mixed: u32, number: u32) -> u32
-    ensures { result ≡ key.mixed_with mixed number }
+fn look_into(slot: &Slot<'_, '_>, fingerprint: u32, inst: &Inst<'_>) -> Held
+    requires { fingerprint ≡ print.fingerprint_of (plain_inst inst.now) }
+    ensures { IsHeld (plain_inst inst.now) slot.now result }
 {
-    ((u64::from(mixed) * 16_777_619 + u64::from(number)) % 4_294_967_296) as u32
-}
-
-/// A fingerprint of numbers. Different numbers mostly have different ones.
-fn fingerprint(numbers: &[u32]) -> u32
-    ensures { result ≡ key.mixed 0 numbers.now }
-{
-    let mut mixed = 0;
-    for number in numbers {
-        mixed = mixed_with(mixed, *number);
+    match slot.inst {
+        None => Held::Nothing,
+        Some(other) => if slot.fingerprint == fingerprint && are_alike(inst, other) {
+            Held::Alike
+        } else {
+            Held::Other
+        },
     }
-    mixed
 }
 
-/// The key of an instruction: a fingerprint, so that keys mostly differ in their first number, and the numbers that it
-/// is of.
-fn key_of(alloc: Global, inst: &Inst<'_>) -> Result<Vec<u32>, AllocError>
-    ensures { IfOk result (λ k. k.items ≡ key.key_of (plain_inst inst.now)) }
+/// The first of the slots in which a declaration may lie, of so many.
+#[inline(always)]
+fn first_slot(slots: usize, fingerprint: u32) -> usize
+    ensures first { result ≡ near.first_in slots fingerprint }
+    ensures within { result ≤ slots }
 {
-    let mut key = numbers_of(alloc, inst)?;
-    key[0] = fingerprint(&key[1..]);
-    Ok(key)
+    if slots == 0 {
+        0
+    } else {
+        fingerprint as usize % slots
+    }
+}
+
+/// The end of the slots in which a declaration may lie, of so many, by the first.
+#[inline(always)]
+fn end_after(slots: usize, first: usize) -> usize
+    requires { first ≤ slots }
+    ensures end { result ≡ near.end_after slots first }
+    ensures within { result ≤ slots }
+{
+    if slots - first < NEAR {
+        slots
+    } else {
+        first + NEAR
+    }
+}
+
+/// Where a declaration lies among the slots, by its fingerprint.
+fn place_of(slots: &[Slot<'_, '_>], fingerprint: u32, inst: &Inst<'_>) -> Place
+    requires { fingerprint ≡ print.fingerprint_of (plain_inst inst.now) }
+    ensures { IsPlace slots.now (plain_inst inst.now) result }
+{
+    let first = first_slot(slots.len(), fingerprint);
+    let end = end_after(slots.len(), first);
+    for at in first..end {
+        match look_into(&slots[at], fingerprint, inst) {
+            Held::Nothing => return Place::Free(at),
+            Held::Alike => return Place::Taken(at),
+            Held::Other => {}
+        }
+    }
+    Place::Nowhere
+}
+
+/// How many instructions before the first function declare a type that may be declared once only.
+fn count_declared(insts: &[Inst<'_>]) -> usize
+    ensures { result ≤ length insts.now }
+{
+    let mut count = 0;
+    for inst in insts {
+        if inst.opcode == opcode::FUNCTION {
+            return count;
+        }
+        if is_declared_once(inst.opcode) {
+            count += 1;
+        }
+    }
+    count
 }
 
 /// The types that instructions have declared so far, of those that may be declared once only.
 #[derive(Drop)]
-pub struct Seen {
-    /// The keys of their instructions.
-    keys: BTreeSet<Vec<u32>>,
+pub struct Seen<'m, 'a> {
+    /// Their declarations, each near the slot that its fingerprint tells.
+    slots: Vec<Slot<'m, 'a>>,
+    /// The keys of those whose slots others had taken.
+    others: BTreeSet<Vec<u32>>,
 }
 
-impl Seen {
-    /// No types.
-    pub fn new(alloc: Global) -> Seen
-        ensures { (is : List PlainInst) → AreSeen is 0 result }
+impl<'m, 'a> Seen<'m, 'a> {
+    /// No types, with room for those that the instructions of a module declare.
+    ///
+    /// An `AllocError` comes only where a growth of memory was refused.
+    pub fn new(alloc: Global, insts: &[Inst<'a>]) -> Result<Seen<'m, 'a>, AllocError>
+        ensures { IfOk result (λ seen. (is : List PlainInst) → AreSeen is 0 seen) }
     {
-        Seen {
-            keys: BTreeSet::new(alloc),
-        }
+        let room = count_declared(insts).saturating_mul(3).saturating_add(NEAR);
+        Ok(Seen {
+            slots: vec![in alloc; Slot {
+                fingerprint: 0,
+                inst: None,
+            }; room]?,
+            others: BTreeSet::new(alloc),
+        })
     }
 
     /// Adds a key, and answers whether it is new.
     fn add(&mut self, key: Vec<u32>) -> Result<bool, AllocError>
-        ensures added { IfOk result (λ added. MatchBool added (¬ (HasKey key.items self.old.keys.keys))
-            (HasKey key.items self.old.keys.keys)) }
-        ensures keys { OnOk result ((k : List ℕ) → HasKey k self.new.keys.keys
-            ↔ (HasKey k self.old.keys.keys ⊎ (key.items ≡ k))) }
+        ensures added { IfOk result (λ added. MatchBool added (¬ (HasKey key.items self.old.others.keys))
+            (HasKey key.items self.old.others.keys)) }
+        ensures keys { OnOk result ((k : List ℕ) → HasKey k self.new.others.keys
+            ↔ (HasKey k self.old.others.keys ⊎ (key.items ≡ k))) }
+        ensures slots { self.new.slots ≡ self.old.slots }
     {
-        let added = self.keys.insert(key)?;
+        let added = self.others.insert(key)?;
         Ok(added)
     }
 
     /// Whether an instruction declares a type again that may be declared once only. It is then among those that are
     /// declared.
     #[inline(never)]
-    fn is_declared_again(&mut self, alloc: Global, inst: &Inst<'_>) -> Result<bool, AllocError>
+    fn is_declared_again(&mut self, alloc: Global, inst: &'m Inst<'a>) -> Result<bool, AllocError>
         requires { spec.is_declared_once (plain_inst inst.now).opcode ≡ true }
         ensures repeats { IfOk result (λ r. (is : List PlainInst) (n : ℕ)
             → slice_get is n ≡ Some (plain_inst inst.now) → AreSeen is n self.old
@@ -158,16 +188,29 @@ impl Seen {
         ensures seen { OnOk result ((is : List PlainInst) (n : ℕ) → slice_get is n ≡ Some (plain_inst inst.now)
             → AreSeen is n self.old → AreSeen is (n + 1) self.new) }
     {
-        let key = key_of(alloc, inst)?;
-        let added = self.add(key)?;
-        Ok(!added)
+        let fingerprint = fingerprint_of(inst);
+        match place_of(self.slots.as_slice(), fingerprint, inst) {
+            Place::Taken(_at) => Ok(true),
+            Place::Free(at) => {
+                self.slots[at] = Slot {
+                    fingerprint,
+                    inst: Some(inst),
+                };
+                Ok(false)
+            }
+            Place::Nowhere => {
+                let key = key_of(alloc, inst)?;
+                let added = self.add(key)?;
+                Ok(!added)
+            }
+        }
     }
 
     /// Whether an instruction declares a type again. It is then among those that are declared.
     ///
     /// An `AllocError` comes only where a growth of memory was refused.
     #[inline(always)]
-    pub fn repeats(&mut self, alloc: Global, inst: &Inst<'_>) -> Result<bool, AllocError>
+    pub fn repeats(&mut self, alloc: Global, inst: &'m Inst<'a>) -> Result<bool, AllocError>
         ensures repeats { IfOk result (λ r. (is : List PlainInst) (n : ℕ)
             → slice_get is n ≡ Some (plain_inst inst.now) → AreSeen is n self.old
             → IsTrue r ↔ Repeats is n (plain_inst inst.now)) }

@@ -6,7 +6,7 @@ use Rattle.spv_module.specs.declared.fault.Rule.{Rule}
 use Rattle.spv_module.specs.declared.fault.Rule.TheVariants.{Y1}
 use Rattle.spv_layout.specs.declared.form.Role.{Role}
 use Rattle.spv_ids.specs.Definition.{IsDefinedAt, IsUsedAt}
-use Rattle.spv_roles.specs.Role.{Plays}
+use Rattle.spv_type_rules.specs.roles.Role.{Plays}
 use Rattle.spv_evidence.specs.declared.evidence.Evidence.{Evidence}
 use Rattle.spv_evidence.specs.declared.evidence.Evidence.TheVariants.{Miscast}
 

@@ -9,7 +9,7 @@ ghost use Rattle.spv_module.specs.declared.fault.Rule.TheVariants.{D1, D2, D3, D
 ghost use Rattle.spv_layout.specs.declared.form.Role.TheVariants as role;
 ghost use Rattle.spv_ids.specs.Broken as ids;
 ghost use Rattle.spv_ids.specs.Example.{void, of_void, used_outside};
-ghost use Rattle.spv_roles.specs.Broken as roles;
+ghost use Rattle.spv_type_rules.specs.roles.Broken as roles;
 ghost use Rattle.spv_evidence.specs.declared.evidence.Evidence.{Evidence};
 ghost use Rattle.spv_evidence.specs.declared.evidence.Evidence.TheVariants.{Operand, Earlier, Defined, Local, Miscast};
 ghost use Rattle.spv_form_evidence.specs.ids.Example.{value_as_type};

@@ -10,7 +10,7 @@ ghost use Rattle.spv_layout.specs.Shape.{FitsShape};
 ghost use Rattle.spv_layout.specs.Stage.{of_ids};
 ghost use Rattle.spv_ids.specs.Broken as id_rules;
 ghost use Rattle.spv_ids.specs.Outcome.{IsDefinitionOf, definition_in};
-ghost use Rattle.spv_roles.specs.Broken.{Broken};
+ghost use Rattle.spv_type_rules.specs.roles.Broken.{Broken};
 ghost use Rattle.spv_form_evidence.specs.ids.Roles.{IsEvidence};
 ghost use Rattle.spv_form_evidence.specs.ids.inner.Uses.{HasUse};
 ghost use Rattle.spv_form_evidence.specs.ids.inner.Casts.{IsMiscast};
@@ -20,8 +20,8 @@ use spv_evidence::Evidence;
 use spv_ids::Ids;
 use spv_layout::Plan;
 use spv_module::{Inst, Module};
-use spv_roles::plays;
 use spv_type_forms::Definitions;
+use spv_type_rules::roles::plays;
 
 /// What shows that operand `k` of an instruction is not in its role, if it is a use that is not.
 fn miscast_at(

@@ -7,7 +7,7 @@ ghost use Rattle.spv_form_evidence.specs.ids.inner.Uses.{IsUseOf};
 
 use spv_layout::{Role, role};
 use spv_module::Inst;
-use spv_roles::used_id;
+use spv_type_rules::roles::used_id;
 
 /// A use of an id.
 #[derive(Clone, Copy)]

@@ -1,6 +1,5 @@
--- An instruction without its result, as a list of numbers, after a fingerprint of them. (For the code alone; `one_key`
--- says that it is told by them.)
-use Rattle.std.specs.Prelude.{ℕ, ◌+◌, ◌*◌, ◌%◌, List, [], ◌∷◌, ◌++◌, map}
+-- An instruction without its result, as a list of numbers. (For the code alone; `one_key` says that it is told by them.)
+use Rattle.std.specs.Prelude.{ℕ, ◌+◌, List, [], ◌∷◌, ◌++◌, map}
 use Rattle.spv_module.specs.Operand.{Plain, OfType, Result, Id, Word, Number, Text, Value, Mask, PlainInst}
 use Rattle.spv_type_forms.specs.Parts.{after_result}
 
@@ -19,16 +18,5 @@ abbrev pub all_numbers : List Plain → List ℕ
 all_numbers [] = []
 all_numbers (o ∷ os) = operand_numbers o ++ all_numbers os
 
-abbrev pub all_numbers_of : PlainInst → List ℕ
-all_numbers_of i = i.opcode ∷ all_numbers (after_result i.operands)
-
--- a fingerprint of numbers, after what was mixed before them
-abbrev pub mixed_with : ℕ → ℕ → ℕ
-mixed_with m x = (m * 16777619 + x) % 4294967296
-
-abbrev pub mixed : ℕ → List ℕ → ℕ
-mixed m [] = m
-mixed m (x ∷ xs) = mixed (mixed_with m x) xs
-
 abbrev pub key_of : PlainInst → List ℕ
-key_of i = mixed 0 (all_numbers_of i) ∷ all_numbers_of i
+key_of i = i.opcode ∷ all_numbers (after_result i.operands)

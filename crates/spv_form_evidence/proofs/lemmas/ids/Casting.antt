@@ -12,8 +12,8 @@ use Rattle.spv_layout.specs.Shape.{IsUse}
 use Rattle.spv_layout.specs.Stage.{of_ids}
 use Rattle.spv_ids.specs.Broken as ids
 use Rattle.spv_ids.specs.Outcome.{IsOnly}
-use Rattle.spv_roles.specs.Broken.{Broken}
-use Rattle.spv_roles.specs.Role.{Plays}
+use Rattle.spv_type_rules.specs.roles.Broken.{Broken}
+use Rattle.spv_type_rules.specs.roles.Role.{Plays}
 use Rattle.spv_evidence.specs.declared.evidence.Evidence.TheVariants.{Miscast}
 use Rattle.spv_form_evidence.specs.ids.Roles.{IsEvidence}
 use Rattle.spv_form_evidence.specs.ids.inner.Uses.{HasUse}

@@ -5,7 +5,7 @@ use Rattle.spv_module.specs.Operand.{PlainInst}
 use Rattle.spv_module.specs.declared.fault.Rule.{Rule}
 use Rattle.spv_evidence.specs.declared.evidence.Evidence.{Evidence}
 use Rattle.spv_ids.specs.Broken as ids
-use Rattle.spv_roles.specs.Broken as roles
+use Rattle.spv_type_rules.specs.roles.Broken as roles
 use Rattle.spv_form_evidence.specs.ids.Evidence as by_ids
 use Rattle.spv_form_evidence.specs.ids.Roles as by_roles
 

@@ -13,7 +13,7 @@ use Rattle.spv_layout.specs.Shape.{IsUse, IsRole}
 use Rattle.spv_layout.proofs.Shapes.{use_same}
 use Rattle.spv_ids.specs.inner.Uses.{used_id}
 use Rattle.spv_layout.proofs.Misfits.{inst_there}
-use Rattle.spv_roles.proofs.Casting.{use_operand, operand_at}
+use Rattle.spv_type_rules.proofs.lemmas.roles.Casting.{use_operand, operand_at}
 use Rattle.spv_form_evidence.specs.ids.inner.Uses.{HasUse}
 
 pub got : (os : List Operand) (k : ℕ) (o : Operand) → (k < length os) × ((d : Operand) → o ≡ get_or os k d) → slice_get (plain_operands os) k ≡ Some (plain_operand o)

@@ -1,4 +1,4 @@
-use Rattle.std.proofs.Common.{refl, sym, subst, ◌∙◌, ◌↔◌, false}
+use Rattle.std.proofs.Common.{sym, subst, ◌∙◌, ◌↔◌, false}
 use Rattle.std.specs.Prelude.{IsTrue}
 use Rattle.spv_module.specs.Module.{plain_inst}
 use Rattle.spv_type_rules.specs.Repeat.{Repeats}

@@ -1,0 +1,106 @@
+//! Which roles an instruction asks its ids to play, by its opcode.
+
+ghost use Rattle.std.specs.Prelude.{◌≡◌};
+ghost use Rattle.spv_type_rules.specs.roles.inner.Asked as spec;
+
+use spv_layout::Role;
+use spv_module::opcode;
+
+/// The roles that the `Id` operands of an instruction are asked to play. Each `Type` operand is asked to be a type.
+#[derive(Clone, Copy)]
+pub struct Asked {
+    /// The role of the first `Id` operand.
+    pub first: Role,
+    /// The role of the others before a mask.
+    pub others: Role,
+    /// The role of those after a mask.
+    pub masked: Role,
+}
+
+/// Roles of the first `Id` operand, of the others, and of those after a mask.
+#[inline(always)]
+fn ask(first: Role, others: Role, masked: Role) -> Option<Asked>
+    ensures { result ≡ spec.ask first others masked }
+{
+    Some(Asked {
+        first,
+        others,
+        masked,
+    })
+}
+
+/// What `asked_of` answers of opcodes up to that of OpVariable.
+fn early(number: u16) -> Option<Asked>
+    ensures { result ≡ spec.early number }
+{
+    match number {
+        // Composite constants and OpVariable: values.
+        opcode::CONSTANT_COMPOSITE | opcode::SPEC_CONSTANT_COMPOSITE | opcode::VARIABLE => ask(
+            Role::Value,
+            Role::Value,
+            Role::Any,
+        ),
+        // OpTypeVector, Struct, Pointer, Function and ForwardPointer, and OpFunction: types.
+        opcode::TYPE_VECTOR
+        | opcode::TYPE_STRUCT
+        | opcode::TYPE_POINTER
+        | opcode::TYPE_FUNCTION
+        | opcode::TYPE_FORWARD_POINTER
+        | opcode::FUNCTION => ask(Role::OfType, Role::OfType, Role::OfType),
+        // OpTypeArray: a type, and its length.
+        opcode::TYPE_ARRAY => ask(Role::OfType, Role::Value, Role::Value),
+        // OpFunctionCall: a function, and its arguments.
+        opcode::FUNCTION_CALL => ask(Role::Function, Role::Value, Role::Value),
+        // OpEntryPoint: a function, and variables of the module.
+        opcode::ENTRY_POINT => ask(Role::Function, Role::Global, Role::Global),
+        // OpExecutionMode: a function.
+        opcode::EXECUTION_MODE => ask(Role::Function, Role::Any, Role::Any),
+        // OpLine: a file.
+        opcode::LINE => ask(Role::Text, Role::Text, Role::Text),
+        // OpExtInst: a set, and ids of which nothing is asked.
+        opcode::EXT_INST => ask(Role::Set, Role::Any, Role::Any),
+        opcode::SOURCE => None,
+        _ => ask(Role::Any, Role::Any, Role::Any),
+    }
+}
+
+/// What `asked_of` answers of opcodes past that of OpVariable that are not between others.
+#[inline(always)]
+fn late(number: u16) -> Option<Asked>
+    ensures { result ≡ spec.late number }
+{
+    match number {
+        // OpReturnValue and lifetimes: values.
+        opcode::RETURN_VALUE | opcode::LIFETIME_START | opcode::LIFETIME_STOP => ask(
+            Role::Value,
+            Role::Value,
+            Role::Any,
+        ),
+        // OpBranchConditional and OpSwitch: a value, and labels.
+        opcode::BRANCH_CONDITIONAL | opcode::SWITCH => ask(Role::Value, Role::Any, Role::Any),
+        opcode::PHI => None,
+        _ => ask(Role::Any, Role::Any, Role::Any),
+    }
+}
+
+/// The roles that an opcode's row of the table of shapes asks for, which a proof compares with the table: one `match`
+/// in place of a walk over the row's forms, since each instruction of a module asks. None for OpSource and OpPhi, whose
+/// ids are not told so.
+#[inline(always)]
+pub fn asked_of(number: u16) -> Option<Asked>
+    ensures { result ≡ spec.asked_of number }
+{
+    match number {
+        // Conversions, arithmetic, comparisons, bits, barriers and atomics, memory, and composites: values, and
+        // anything after the mask of a memory access. Of the opcodes among these that have no row nothing is said.
+        opcode::CONVERT_F_TO_U..=opcode::ATOMIC_XOR
+        | opcode::LOAD..=opcode::IN_BOUNDS_PTR_ACCESS_CHAIN
+        | opcode::VECTOR_EXTRACT_DYNAMIC..=opcode::COPY_OBJECT => ask(
+            Role::Value,
+            Role::Value,
+            Role::Any,
+        ),
+        0..=opcode::VARIABLE => early(number),
+        _ => late(number),
+    }
+}

@@ -1,0 +1,237 @@
+ghost use Rattle.std.specs.Prelude.{◌≡◌, ◌<◌, ℕ, length, Some};
+ghost use Rattle.std.specs.Prelude.{OnOk, IfErr, MatchBool};
+ghost use Rattle.spv_table.specs.Table.{Table};
+ghost use Rattle.spv_module.specs.Module.{plain_inst, plain_insts, plain_operands};
+ghost use Rattle.spv_layout.specs.First.{IsUnbroken};
+ghost use Rattle.spv_layout.specs.Place.{IsShort};
+ghost use Rattle.spv_layout.specs.Stage.{of_roles};
+ghost use Rattle.spv_layout.specs.Plan.{IsPlan};
+ghost use Rattle.spv_layout.specs.Shape.{FitsShape};
+ghost use Rattle.spv_ids.specs.Outcome.{IsDefinitionOf, definition_in};
+ghost use Rattle.spv_type_rules.specs.roles.inner.Asked.{ArePlayed, IsOneMiscast};
+ghost use Rattle.spv_type_rules.specs.roles.Broken.{Broken};
+ghost use Rattle.spv_type_rules.specs.roles.inner.Known as known;
+ghost use Rattle.spv_type_rules.specs.roles.inner.Known.{IsInRole, IsMiscast, AreInRoleBefore, HasMiscast};
+ghost use Rattle.spv_type_rules.specs.roles.Outcome.{AreInRole, IsRefusal};
+
+use crate::roles::asked::{Asked, asked_of};
+use crate::roles::role::{are_type_and, are_values, defines_type, is_type_id, plays};
+use spv_ids::{Ids, used_id};
+use spv_layout::{Plan, Role, role};
+use spv_module::{Fault, Inst, Module, Operand, Rule};
+use spv_type_forms::Definitions;
+
+/// Whether operand `k` of an instruction is no use, or a use of an id in its role.
+#[inline(always)]
+fn is_in_role(definitions: &Definitions<'_, '_>, inst: &Inst<'_>, k: usize) -> bool
+    ensures { (G : Table) → FitsShape G (plain_inst inst.now)
+        → MatchBool result (IsInRole G definitions.now (plain_inst inst.now) k)
+        (IsMiscast G definitions.now (plain_inst inst.now) k) }
+{
+    let Some(operand) = inst.operands.as_slice().get(k) else {
+        return true;
+    };
+    let Some(id) = used_id(*operand) else {
+        return true;
+    };
+    match role(inst, k) {
+        Some(role) => plays(definitions, role, id),
+        None => true,
+    }
+}
+
+/// Whether all uses of an instruction are in their roles, operand by operand.
+fn each_in_role(definitions: &Definitions<'_, '_>, inst: &Inst<'_>) -> bool
+    ensures { (G : Table) → FitsShape G (plain_inst inst.now)
+        → MatchBool result (AreInRoleBefore G definitions.now (plain_inst inst.now) (length inst.now.operands))
+        (HasMiscast G definitions.now (plain_inst inst.now)) }
+{
+    for k in 0..inst.operands.as_slice().len() {
+        if !is_in_role(definitions, inst, k) {
+            return false;
+        }
+    }
+    true
+}
+
+/// Whether types are types, and ids play the roles that are asked for, operand by operand.
+fn each_played(definitions: &Definitions<'_, '_>, asked: Asked, operands: &[Operand<'_>]) -> bool
+    ensures { MatchBool result (ArePlayed definitions.now asked.first asked.others asked.masked
+        (plain_operands operands.now))
+        (IsOneMiscast definitions.now asked.first asked.others asked.masked (plain_operands operands.now)) }
+{
+    let mut due = asked.first;
+    let mut next = asked.others;
+    for operand in operands {
+        match *operand {
+            Operand::OfType(id) => if !defines_type(definitions, id) {
+                return false;
+            },
+            Operand::Id(id) => {
+                if !plays(definitions, due, id) {
+                    return false;
+                }
+                due = next;
+            }
+            Operand::Mask { .. } => {
+                due = asked.masked;
+                next = asked.masked;
+            }
+            _ => {}
+        }
+    }
+    true
+}
+
+/// Whether types are types, and ids play the roles that are asked for. A label, and a condition before two labels, are
+/// looked at first.
+#[inline(always)]
+fn are_uses_played(
+    definitions: &Definitions<'_, '_>,
+    asked: Asked,
+    operands: &[Operand<'_>],
+) -> bool
+    ensures { MatchBool result (ArePlayed definitions.now asked.first asked.others asked.masked
+        (plain_operands operands.now))
+        (IsOneMiscast definitions.now asked.first asked.others asked.masked (plain_operands operands.now)) }
+{
+    match (asked.first, asked.others, operands) {
+        (Role::Any, _, [Operand::Id(_)]) => true,
+        (first, Role::Any, [Operand::Id(a), Operand::Id(_), Operand::Id(_)]) => plays(
+            definitions,
+            first,
+            *a,
+        ),
+        _ => each_played(definitions, asked, operands),
+    }
+}
+
+/// Whether types are types, and ids play the roles that are asked for. Results of one id at most are looked at first: of
+/// an id alone or before a memory access of one literal, a parameter, a constant, a variable and a function.
+#[inline(always)]
+fn are_few_played(definitions: &Definitions<'_, '_>, asked: Asked, operands: &[Operand<'_>]) -> bool
+    ensures { MatchBool result (ArePlayed definitions.now asked.first asked.others asked.masked
+        (plain_operands operands.now))
+        (IsOneMiscast definitions.now asked.first asked.others asked.masked (plain_operands operands.now)) }
+{
+    match operands {
+        [Operand::OfType(t), Operand::Result(_), Operand::Id(a)]
+        | [
+            Operand::OfType(t),
+            Operand::Result(_),
+            Operand::Id(a),
+            Operand::Mask { .. },
+            Operand::Word(_),
+        ] => are_type_and(definitions, *t, asked.first, *a),
+        [Operand::OfType(t), Operand::Result(_)]
+        | [
+            Operand::OfType(t),
+            Operand::Result(_),
+            Operand::Number { .. } | Operand::Value { .. },
+        ] => is_type_id(definitions, *t),
+        [
+            Operand::OfType(t),
+            Operand::Result(_),
+            Operand::Mask { .. },
+            Operand::Id(a),
+        ] => are_type_and(definitions, *t, asked.masked, *a),
+        _ => are_uses_played(definitions, asked, operands),
+    }
+}
+
+/// Whether types are types, and ids play the roles that are asked for. Operands as they mostly stand are looked at
+/// first: a result of two values, and two values before a memory access of one literal.
+#[inline(always)]
+fn are_played(definitions: &Definitions<'_, '_>, asked: Asked, operands: &[Operand<'_>]) -> bool
+    ensures { MatchBool result (ArePlayed definitions.now asked.first asked.others asked.masked
+        (plain_operands operands.now))
+        (IsOneMiscast definitions.now asked.first asked.others asked.masked (plain_operands operands.now)) }
+{
+    match (asked.first, asked.others, operands) {
+        (
+            Role::Value,
+            Role::Value,
+            [
+                Operand::OfType(t),
+                Operand::Result(_),
+                Operand::Id(a),
+                Operand::Id(b),
+            ],
+        ) => defines_type(definitions, *t) && are_values(definitions, *a, *b),
+        (
+            Role::Value,
+            Role::Value,
+            [
+                Operand::Id(a),
+                Operand::Id(b),
+                Operand::Mask { .. },
+                Operand::Word(_),
+            ],
+        ) => are_values(definitions, *a, *b),
+        _ => are_few_played(definitions, asked, operands),
+    }
+}
+
+/// Whether operands are none, or a result alone: no use is among them.
+#[inline(always)]
+fn uses_nothing(operands: &[Operand<'_>]) -> bool
+    ensures { result ≡ known.uses_nothing (plain_operands operands.now) }
+{
+    match operands {
+        [] => true,
+        [Operand::Result(_)] => true,
+        _ => false,
+    }
+}
+
+/// Whether all uses of an instruction are in their roles.
+fn are_in_role(definitions: &Definitions<'_, '_>, inst: &Inst<'_>) -> bool
+    ensures { (G : Table) → FitsShape G (plain_inst inst.now)
+        → MatchBool result (AreInRoleBefore G definitions.now (plain_inst inst.now) (length inst.now.operands))
+        (HasMiscast G definitions.now (plain_inst inst.now)) }
+{
+    let operands = inst.operands.as_slice();
+    if uses_nothing(operands) {
+        return true;
+    }
+    match asked_of(inst.opcode) {
+        Some(asked) => are_played(definitions, asked, operands),
+        None => each_in_role(definitions, inst),
+    }
+}
+
+/// Whether each use of a module is of an id that plays the role which the use's shape asks for (own; SPIR-V
+/// Specification 1.6, sections 2.2.1 and 2.16): a type declaration, a value (an instruction with a result type, other
+/// than OpFunction), an OpFunction, an OpString, an OpExtInstImport, or an OpVariable outside functions. `plan` and
+/// `ids` are what `lay_out` and `number` answered of that module.
+///
+/// Time is linear in the words of the module. It takes no memory.
+///
+/// A `Fault` tells Y1 at the first instruction with a use that is not in its role, and that instruction's first word
+/// (words and instructions from 0).
+pub fn roles_check(module: &Module<'_>, plan: &Plan, ids: &Ids) -> Result<(), Fault>
+    // The condition of `lay_out`, and that the plan and the ids are what was answered of the module.
+    requires words { IsShort (plain_insts «module».now) }
+    requires plan { (G : Table) × IsPlan G (plain_insts «module».now) plan.now }
+    requires ids { (x : ℕ) → IsDefinitionOf (plain_insts «module».now) x (definition_in ids.now x) }
+    // Each use is in its role, so the rule is broken nowhere.
+    ensures roles { (G : Table) → IsPlan G (plain_insts «module».now) plan.now
+        → OnOk result (AreInRole G (plain_insts «module».now)) }
+    ensures unbroken { (G : Table) → IsPlan G (plain_insts «module».now) plan.now
+        → OnOk result (IsUnbroken (Broken G (plain_insts «module».now)) of_roles) }
+    ensures refused { (G : Table) → IsPlan G (plain_insts «module».now) plan.now
+        → IfErr result (λ f. IsRefusal G (plain_insts «module».now) f) }
+{
+    let insts = module.insts.as_slice();
+    let definitions = Definitions::new(insts, plan, ids);
+    for n in 0..insts.len() {
+        if !are_in_role(&definitions, &insts[n]) {
+            return Err(Fault {
+                rule: Rule::Y1,
+                inst: n as u32,
+                word: definitions.place(n as u32).word,
+            });
+        }
+    }
+    Ok(())
+}
