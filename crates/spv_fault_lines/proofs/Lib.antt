@@ -1,6 +1,4 @@
 pub mod Alone
-pub mod Escapes
-pub mod Hex
 pub mod Joined
 mod Malformed
 pub mod Opcodes

@@ -22,7 +22,8 @@ use Rattle.spv_layout.proofs.Spans.{before_first, enters, leaves, within}
 use Rattle.spv_fault_lines.specs.declared.fact.Place.{Place}
 use Rattle.spv_fault_lines.specs.Place.{entered, left_by, nowhere, open_before, open_from, place_of, standing}
 use Rattle.spv_fault_lines.proofs.Opcodes.{entered_by, left_of, entered_same, left_same}
-use Rattle.spv_fault_lines.proofs.Steps.{drop_step, open_step, open_last}
+use Rattle.spv_lines.proofs.Steps.{drop_step}
+use Rattle.spv_fault_lines.proofs.Steps.{open_step, open_last}
 
 -- What is open before an instruction, and at it.
 

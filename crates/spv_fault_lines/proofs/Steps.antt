@@ -6,6 +6,7 @@ use Rattle.std.proofs.lemmas.Bool.Decides.{nat_tests}
 use Rattle.std.specs.Prelude.{if◌then◌else◌}
 use Rattle.spv_table.specs.Lookups.{is_number}
 use Rattle.spv_module.specs.Operand.{PlainInst, result_in}
+use Rattle.spv_lines.proofs.Steps.{drop_step}
 use Rattle.spv_fault_lines.specs.declared.fact.Place.{Place}
 use Rattle.spv_fault_lines.specs.Place.{entered, left_by, open_from}
 use Rattle.spv_fault_lines.specs.Facts.{definition_from, is_told, thing_at, thing_of, type_things}
@@ -13,12 +14,6 @@ use Rattle.spv_fault_lines.specs.Lines.{result_of}
 use Rattle.spv_fault_lines.specs.inner.Parts.{kept}
 use Rattle.spv_fault_lines.specs.declared.fact.Thing.{Thing}
 use Rattle.spv_fault_lines.specs.declared.fact.Thing.TheVariants as thing
-
--- the rest of a list from one place on
-pub drop_step : {A : Type 0} (xs : List A) (k : ℕ) (x : A) → slice_get xs k ≡ Some x → drop k xs ≡ x ∷ drop (k + 1) xs
-drop_step [] k x e = absurd cc
-drop_step (y ∷ xs) zero x e = let s : y ≡ x = cc in ap (λ z. z ∷ xs) s
-drop_step (y ∷ xs) (suc k) x e = let n : suc k + 1 ≡ suc (k + 1) = omega arith in rw n (drop_step xs k x e)
 
 pub drop_none : {A : Type 0} (xs : List A) (k : ℕ) → slice_get xs k ≡ None → drop k xs ≡ []
 drop_none [] zero e = refl
@@ -134,8 +129,3 @@ words_same ws at from l = let e : at + from ≡ 5 + ((at - 5) + from) = omega (a
   where
     dropped : (a b : ℕ) (xs : List ℕ) → drop (a + b) xs ≡ drop b (drop a xs)
     dropped a b xs = grind (arith, drop-drop)
-
-pub got : (xs : List ℕ) (k : ℕ) → k < length xs → slice_get xs k ≡ Some (get_or xs k 0)
-got [] k l = absurd (omega (arith, l))
-got (x ∷ xs) zero l = refl
-got (x ∷ xs) (suc k) l = got xs k (omega (arith, l))

@@ -4,7 +4,6 @@ pub mod Facts
 pub mod Keys
 pub mod Lines
 pub mod Place
-pub mod Plain
 pub mod Refused
 pub mod Shapes
 pub mod Words

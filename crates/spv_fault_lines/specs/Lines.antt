@@ -27,7 +27,7 @@ use Rattle.spv_fault_lines.specs.declared.key.Key.TheVariants as key
 use Rattle.spv_fault_lines.specs.Classes.{classes_text}
 use Rattle.spv_fault_lines.specs.Conditions.{condition_text}
 use Rattle.spv_fault_lines.specs.Keys.{line_name}
-use Rattle.spv_fault_lines.specs.Plain.{plain_of}
+use Rattle.spv_lines.specs.Plain.{plain_of}
 use Rattle.spv_fault_lines.specs.Shapes.{role_text, row_text}
 
 -- after a space: an id, as ` %17`, or a number, or a name

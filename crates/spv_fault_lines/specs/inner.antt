@@ -1,3 +1,2 @@
 -- Definitions that serve the code alone.
-pub mod Control
 pub mod Parts

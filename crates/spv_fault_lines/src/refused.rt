@@ -6,8 +6,8 @@ ghost use Rattle.spv_fault_lines.specs.declared.key.Key.TheVariants as keys;
 
 use crate::about::push_number;
 use crate::key::Key;
-use crate::plain::push_hex;
 use itoa::Buffer;
+use spv_lines::push_hex;
 use spv_words::{MAGIC_NUMBER, Order, WordError};
 use std::alloc::{AllocError, Global};
 

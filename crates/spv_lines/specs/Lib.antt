@@ -9,3 +9,5 @@ pub mod Refusal
 pub mod Fault
 pub mod Tidy
 pub mod Example
+pub mod inner
+pub mod Plain

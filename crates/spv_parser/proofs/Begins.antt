@@ -5,7 +5,7 @@ use Rattle.std.specs.Option.{option_or}
 use Rattle.std.specs.Prelude.{if◌then◌else◌}
 use Rattle.spv_module.specs.Operand.{Plain, OfType, Result, Id, Word, Number, Text, Value, Mask, result_in, type_in}
 use Rattle.spv_module.specs.Width.{first_id, width_in}
-use Rattle.spv_tokens.proofs.OneMore.{result_snoc, type_snoc}
+use Rattle.spv_lines.proofs.OneMore.{result_snoc, type_snoc}
 use Rattle.spv_parser.specs.declared.operands.Known.{Known}
 use Rattle.spv_parser.specs.inner.Kept.{IsOfOperands, count_of, first_after, width_after}
 

@@ -21,7 +21,7 @@ use Rattle.spv_lines.specs.Line.{before_space, from_space}
 use Rattle.spv_parser.specs.declared.operands.Known.{Known}
 use Rattle.spv_parser.specs.inner.Kept.{IsOfOperands}
 use Rattle.spv_parser.specs.inner.Reading.{HasQuoted, IsPlainStep, SoFar, context_of}
-use Rattle.spv_tokens.specs.inner.Answer.{IsTaken}
+use Rattle.spv_lines.specs.inner.Answer.{IsTaken}
 use Rattle.spv_parser.specs.inner.Fast.{IsFreeStep}
 use Rattle.spv_parser.proofs.Taken.{token_step, text_step, front_not}
 use Rattle.spv_parser.proofs.Walks.{IsMore, so_far_more}

@@ -16,7 +16,7 @@ use Rattle.spv_module.specs.Width.{width_of, type_of, first_id, context_width, s
 use Rattle.spv_inst.specs.Reading.{enumerants_at}
 use Rattle.spv_inst.proofs.Shapes.{leaf_shape, shape_leaf}
 use Rattle.spv_lines.specs.Operand.{is_float, is_float_type}
-use Rattle.spv_tokens.proofs.NumberTypes.{type_by_switch}
+use Rattle.spv_lines.proofs.NumberTypes.{type_by_switch}
 use Rattle.spv_module.specs.Operand.{Plain, PlainInst, Context, start, result_in, type_in}
 use Rattle.spv_module.specs.Shape.{Slot, alone, shape_of}
 use Rattle.spv_module.specs.Refusal.{IsLeaf}
@@ -35,9 +35,9 @@ use Rattle.spv_lines.specs.Text.{IsReadText, header_lines, lines_of}
 use Rattle.spv_lines.specs.Line.{Parts, parts_of, parts_behind, before_space, from_space, IsInstName}
 use Rattle.spv_lines.specs.Refusal.{IsBreak, SlotRefuses, OperandsFail}
 use Rattle.spv_lines.specs.Fault.{IsResult, ResultFails, LineFails, LinesFail, must_have_result, may_have_result, HeaderLine, number_of, line_at, HeaderFails, IsFailure}
-use Rattle.spv_tokens.specs.declared.misread.Misread.TheVariants.{IllFormed, TooLarge}
-use Rattle.spv_tokens.specs.inner.Answer.{IsBehind}
-use Rattle.spv_parser.specs.Reason.{Stop, Reason, behind_space, word_behind, wanted_number, wanted_as, wanted_at, FailsFor}
+use Rattle.spv_lines.specs.declared.misread.Misread.TheVariants.{IllFormed, TooLarge}
+use Rattle.spv_lines.specs.inner.Answer.{IsBehind}
+use Rattle.spv_parser.specs.Reason.{Stop, Reason, plain_reason, behind_space, word_behind, wanted_number, wanted_as, wanted_at, FailsFor}
 use Rattle.spv_parser.specs.declared.text_reason.Wanted.{Wanted}
 use Rattle.spv_parser.specs.declared.text_reason.Wanted.TheVariants as wanted
 use Rattle.spv_parser.specs.declared.operands.Known.{Known}
@@ -45,7 +45,7 @@ use Rattle.spv_parser.specs.declared.operands.Line.{Line}
 use Rattle.spv_parser.specs.inner.Kept.{IsOfOperands}
 use Rattle.spv_parser.specs.inner.Lines.{HasLine, HasLines, IsTooLongOr}
 use Rattle.spv_parser.specs.inner.Reading.{IsLine, IsStep, RefusesOr, context_of}
-use Rattle.spv_parser.specs.inner.Stopping.{StopsAt, LacksResult, LineStopsAt, LinesFailFor, HasFront, HaveOutcome, HasOutcome, IsTakenOr, IsLeft, StopIn, plain_stop, plain_reason}
+use Rattle.spv_parser.specs.inner.Stopping.{StopsAt, LacksResult, LineStopsAt, LinesFailFor, HasFront, HaveOutcome, HasOutcome, IsTakenOr, IsLeft, StopIn, plain_stop}
 use Rattle.spv_parser.specs.declared.stops.Stop as declared_stops
 use Rattle.spv_parser.specs.declared.stops.Outcome.{Outcome}
 use Rattle.spv_parser.specs.declared.stops.Outcome.TheVariants.{Read, Stopped}

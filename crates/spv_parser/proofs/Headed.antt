@@ -28,9 +28,9 @@ use Rattle.spv_lines.specs.Fault.{IsResult, ResultFails, is_result_shape, must_h
 use Rattle.spv_lines.proofs.Numbers.{decimal_number, not_large}
 use Rattle.spv_lines.proofs.Tokens.{first_same}
 use Rattle.spv_lines.proofs.Whole.{no_entry, no_result, one_result}
-use Rattle.spv_tokens.specs.declared.misread.Misread.{Misread}
-use Rattle.spv_tokens.specs.declared.misread.Misread.TheVariants.{IllFormed, TooLarge}
-use Rattle.spv_tokens.specs.inner.Answer.{IsNamed, IsBehind, IsBelow}
+use Rattle.spv_lines.specs.declared.misread.Misread.{Misread}
+use Rattle.spv_lines.specs.declared.misread.Misread.TheVariants.{IllFormed, TooLarge}
+use Rattle.spv_lines.specs.inner.Answer.{IsNamed, IsBehind, IsBelow}
 use Rattle.std.proofs.lemmas.List.{append_cancel_left}
 use Rattle.spv_parser.specs.inner.Heading.{IsOpcodeText, IsFront}
 use Rattle.spv_parser.specs.inner.Lines.{IsNoNumber}

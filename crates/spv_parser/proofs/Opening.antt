@@ -15,7 +15,7 @@ use Rattle.spv_module.specs.Spelling.{parameters_of, mask_parameters}
 use Rattle.spv_inst.specs.inner.Pending.{opened_kinds}
 use Rattle.spv_inst.proofs.Masks.{whole_mask}
 use Rattle.spv_inst.proofs.Shapes.{shape_leaf}
-use Rattle.spv_tokens.specs.inner.Answer.{IsTaken, IsToken}
+use Rattle.spv_lines.specs.inner.Answer.{IsTaken, IsToken}
 
 pub value_opened : {A : Type 0} (now : A → List ℕ) (G : Table) (k x : ℕ) (o : Plain) (r : Option A) → o ≡ Value k x → option_map now r ≡ parameters_of (enumerants_at (kind_of G k)) x → IfSome r (λ ks. opened_kinds G o ≡ now ks)
 value_opened now G k x o None e f = tt

@@ -15,13 +15,13 @@ use Rattle.spv_inst.proofs.Shapes.{shape_leaf}
 use Rattle.spv_lines.specs.Line.{before_space, from_space}
 use Rattle.spv_lines.specs.Operand.{id_text, is_float, is_float_type}
 use Rattle.spv_lines.specs.Refusal.{IsBreak}
-use Rattle.spv_tokens.specs.inner.Answer.{IsTaken}
-use Rattle.spv_tokens.proofs.Taking.{type_taken, id_taken, word_taken, narrow_taken}
+use Rattle.spv_lines.specs.inner.Answer.{IsTaken}
+use Rattle.spv_lines.proofs.Taking.{type_taken, id_taken, word_taken, narrow_taken}
 use Rattle.spv_parser.specs.declared.operands.Known.{Known}
-use Rattle.spv_tokens.specs.inner.Narrow.{IsNarrow}
+use Rattle.spv_lines.specs.inner.Narrow.{IsNarrow}
 use Rattle.spv_parser.specs.inner.Kept.{IsOfOperands}
 use Rattle.spv_parser.specs.inner.Reading.{HasToken, IsPlainStep}
-use Rattle.spv_tokens.proofs.NumberTypes.{type_by_context}
+use Rattle.spv_lines.proofs.NumberTypes.{type_by_context}
 use Rattle.spv_parser.proofs.Taken.{token_step, front_step, front_not}
 
 -- a number behind a space, and one behind a space and `%`

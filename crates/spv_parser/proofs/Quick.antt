@@ -18,14 +18,14 @@ use Rattle.spv_inst.specs.inner.Written.{HasText, operand_words}
 use Rattle.spv_lines.specs.Line.{before_space, from_space}
 use Rattle.spv_lines.specs.Operand.{id_text}
 use Rattle.spv_lines.specs.Refusal.{IsBreak}
-use Rattle.spv_tokens.specs.inner.Answer.{IsTaken}
+use Rattle.spv_lines.specs.inner.Answer.{IsTaken}
 use Rattle.spv_parser.specs.declared.operands.Known.{Known}
 use Rattle.spv_parser.specs.declared.operands.Line.{Line}
 use Rattle.spv_parser.specs.inner.Kept.{IsOfOperands, count_of}
 use Rattle.spv_parser.specs.inner.Reading.{AreRead, HasQuoted, HasToken, context_of}
 use Rattle.spv_parser.specs.inner.Fast.{BeginsWith, FastSoFar, Has, IsFastStep, IsFreeStep}
-use Rattle.spv_tokens.specs.inner.Narrow.{IsNarrow}
-use Rattle.spv_tokens.proofs.OneMore.{result_snoc, type_snoc}
+use Rattle.spv_lines.specs.inner.Narrow.{IsNarrow}
+use Rattle.spv_lines.proofs.OneMore.{result_snoc, type_snoc}
 use Rattle.spv_parser.proofs.Begins.{of_more}
 use Rattle.spv_parser.proofs.Celled.{named_step, none_by, plain_freed, quotation_step, so_far_cell}
 use Rattle.spv_parser.proofs.Plainly.{id_stepped, integer_stepped, number_stepped, result_stepped, type_stepped, word_stepped}

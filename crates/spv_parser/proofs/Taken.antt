@@ -27,13 +27,13 @@ use Rattle.spv_lines.specs.Refusal.{IsBreak, at_end, at_space, is_front, SlotRef
 use Rattle.spv_lines.proofs.Marked.{NoSpace, Token}
 use Rattle.spv_lines.proofs.Deciding.{IsTokenShape}
 use Rattle.spv_lines.proofs.Slots.{front_shape, takes_result, takes_text, front_piece, not_result, piece_behind, token_large, token_none, text_stood, text_not_large}
-use Rattle.spv_tokens.specs.declared.misread.Misread.{Misread}
-use Rattle.spv_tokens.specs.declared.misread.Misread.TheVariants.{IllFormed, TooLarge}
-use Rattle.spv_tokens.specs.inner.Answer.{IsTaken, IsToken}
+use Rattle.spv_lines.specs.declared.misread.Misread.{Misread}
+use Rattle.spv_lines.specs.declared.misread.Misread.TheVariants.{IllFormed, TooLarge}
+use Rattle.spv_lines.specs.inner.Answer.{IsTaken, IsToken}
 use Rattle.spv_parser.specs.declared.operands.Known.{Known}
 use Rattle.spv_parser.specs.inner.Kept.{IsOfOperands}
 use Rattle.spv_parser.specs.inner.Reading.{IsStep, HasQuoted, RefusesOr, told}
-use Rattle.spv_tokens.proofs.NumberTypes.{type_by_context, type_by_switch}
+use Rattle.spv_lines.proofs.NumberTypes.{type_by_context, type_by_switch}
 
 -- the token before a space
 pub record Spaced (u : List ℕ) : Type 0 where
@@ -235,7 +235,7 @@ pub front_not : (G : Table) (c : Context) (s : Slot) (k : declared.Leaf) → for
 front_not G c s k e n = let i = shape_leaf G c s k k e refl in rw i (sym (leaf_no_front c s.paired (enumerants_at (kind_of G s.kind)) k c n))
 
 -- nothing spells a kind of no shape
-pub nothing_token : (G : Table) (hex : Bool) (k : ℕ) (t : List ℕ) → Rattle.spv_tokens.specs.inner.Answer.IsNone G hex k AsNothing t
+pub nothing_token : (G : Table) (hex : Bool) (k : ℕ) (t : List ℕ) → Rattle.spv_lines.specs.inner.Answer.IsNone G hex k AsNothing t
 nothing_token G hex k t = record { untaken = λ o ws ss h w r. none_taken k o ws ss h; not_over = λ v. Rattle.spv_lines.proofs.Large.no_place v.place v.placed }
   where
     none_taken : (k : ℕ) (o : Plain) (ws : List ℕ) (ss : List Slot) → Takes k AsNothing o ws ss → ⊥

@@ -15,6 +15,7 @@ use Rattle.spv_lines.specs.Text.{lines_of}
 use Rattle.spv_lines.specs.Refusal.{OperandsFail}
 use Rattle.spv_lines.specs.Fault.{ResultFails, LineFails, LinesFail, HeaderLine, number_of, line_at, IsFailure}
 use Rattle.spv_lines.specs.Fault.{may_have_result}
+use Rattle.spv_parser.specs.declared.text_reason.TextReason.{TextReason}
 use Rattle.spv_parser.specs.declared.text_reason.Wanted.{Wanted}
 use Rattle.spv_parser.specs.declared.text_reason.Wanted.TheVariants as wanted
 
@@ -96,6 +97,10 @@ line_stop G before written line _ (LineFails.long i further h l) = record { rest
 pub record Reason : Type 0 where
   pub line : List ℕ
   pub stop : Stop
+
+-- a reason as the code has it [own]
+abbrev pub plain_reason : TextReason → Reason
+plain_reason r = record { line = r.text.now; stop = record { rest = r.rest.now; wanted = r.wanted } }
 
 -- of lines of instructions, the first one that fails [own]
 abbrev pub lines_reason : (G : Table) (before : List PlainInst) (written : ℕ) (lines : List (List ℕ)) (code : AsmCode)

@@ -26,9 +26,8 @@ use crate::line::{Named, read_line};
 use crate::operands::{Buffers, Line, Setting};
 use crate::seen::Seen;
 use spv_inst::due::{Definitions, Pending};
-use spv_lines::{AsmCode, AsmError};
+use spv_lines::{AsmCode, AsmError, split_line};
 use spv_table::Table;
-use spv_tokens::split_line;
 use spv_words::{Draft, GREATEST_LENGTH, Header, Image, MAGIC_NUMBER};
 use std::alloc::{AllocError, Global};
 

@@ -25,11 +25,11 @@ use crate::seen::{Seen, find_named};
 use spv_inst::due::{
     DueItems, Form, Leaf, Next, form_in, joined, next_kind, push_operand, read_text,
 };
-use spv_module::{Operand, opcode};
-use spv_table::{Pattern, Table};
-use spv_tokens::{
+use spv_lines::{
     Cell, Quotation, behind, is_narrow, read_behind, read_front, read_unescaped, split_token,
 };
+use spv_module::{Operand, opcode};
+use spv_table::{Pattern, Table};
 use std::alloc::AllocError;
 
 /// What is left of a line behind an operand that is neither a result nor a result type.

@@ -7,8 +7,7 @@ ghost use Rattle.spv_lines.specs.Text.{header_lines, lines_of};
 ghost use Rattle.spv_lines.specs.Fault.{HeaderFails};
 ghost use Rattle.spv_parser.specs.inner.Lines.{IsNoNumber};
 
-use spv_lines::{AsmCode, AsmError};
-use spv_tokens::{Misread, read_short, split_line};
+use spv_lines::{AsmCode, AsmError, Misread, read_short, split_line};
 use spv_words::{GREATEST_BOUND, Header, VERSION};
 
 /// The first line of a text, if it has any, and what stands behind it.

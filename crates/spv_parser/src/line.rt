@@ -12,7 +12,7 @@ ghost use Rattle.spv_inst.specs.inner.Known.{Knows};
 ghost use Rattle.spv_module.specs.Operand.{Context, PlainInst};
 ghost use Rattle.spv_lines.specs.Line as spec;
 ghost use Rattle.spv_lines.specs.Line.{IsInstName, before_space, from_space, parts_of};
-ghost use Rattle.spv_tokens.specs.inner.Answer.{IsNamed};
+ghost use Rattle.spv_lines.specs.inner.Answer.{IsNamed};
 ghost use Rattle.spv_parser.specs.inner.Heading.{IsFront, IsKnown, IsOpcodeText};
 ghost use Rattle.spv_parser.specs.inner.Reading.{IsLine, LineFailsOr};
 ghost use Rattle.spv_parser.specs.inner.Seen.{IsSeen};
@@ -20,9 +20,8 @@ ghost use Rattle.spv_parser.specs.inner.Seen.{IsSeen};
 use crate::fast::fast_operands;
 use crate::operands::{Buffers, Line, Setting, is_break, read_operands};
 use crate::seen::Seen;
-use spv_lines::AsmCode;
+use spv_lines::{AsmCode, Misread, behind, is_plain, read_behind, split_token};
 use spv_table::{Entry, Table};
-use spv_tokens::{Misread, behind, is_plain, read_behind, split_token};
 
 /// An instruction of the table.
 #[derive(Clone, Copy)]

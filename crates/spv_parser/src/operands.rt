@@ -24,10 +24,9 @@ ghost use Rattle.spv_parser.specs.inner.Reading.{Takes, told};
 
 use crate::token::read_token;
 use spv_inst::due::{Asked, Definitions, Form, Leaf, Pending, push_operand, read_text};
-use spv_lines::AsmCode;
+use spv_lines::{AsmCode, Misread, behind, read_quoted, split_token};
 use spv_module::{Operand, opcode, result_in, type_in};
 use spv_table::{Pattern, Table};
-use spv_tokens::{Misread, behind, read_quoted, split_token};
 use std::alloc::AllocError;
 
 /// What does not change while a line is read.

@@ -9,13 +9,13 @@ ghost use Rattle.spv_inst.specs.inner.Written.{operand_words};
 ghost use Rattle.spv_module.specs.Module.{plain_operand};
 ghost use Rattle.spv_module.specs.Operand.{Context, result_in, type_in};
 ghost use Rattle.spv_module.specs.Shape.{alone, shape_of};
-ghost use Rattle.spv_tokens.specs.inner.Answer.{IsTaken};
+ghost use Rattle.spv_lines.specs.inner.Answer.{IsTaken};
 ghost use Rattle.spv_parser.specs.inner.Seen.{IsSeen, StandsFor};
 
 use spv_inst::due::{Leaf, mask_kinds, value_kinds};
+use spv_lines::{read_mask, read_value};
 use spv_module::Operand;
 use spv_table::Table;
-use spv_tokens::{read_mask, read_value};
 
 /// A value or a mask that was read, and the octets of its token.
 #[derive(Clone, Copy)]

@@ -22,10 +22,9 @@ use crate::operands::{Buffers, Known, Line, Setting, differ, take_operand};
 use crate::text_reason::Wanted;
 use crate::token::{type_of_first, width_of};
 use spv_inst::due::{Asked, Definitions, Leaf};
-use spv_lines::AsmCode;
+use spv_lines::{AsmCode, Misread, behind, read_behind, split_token};
 use spv_module::opcode;
 use spv_table::{Pattern, Table};
-use spv_tokens::{Misread, behind, read_behind, split_token};
 use std::alloc::AllocError;
 
 /// Where the reading of a line stopped.

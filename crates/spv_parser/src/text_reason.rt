@@ -11,18 +11,17 @@ ghost use Rattle.spv_table.specs.inner.Form.{form_of};
 ghost use Rattle.spv_lines.specs.declared.asm_error.AsmCode.TheVariants.{S6};
 ghost use Rattle.spv_lines.specs.Text.{IsReadText, lines_of};
 ghost use Rattle.spv_lines.specs.Fault.{HeaderFails};
-ghost use Rattle.spv_parser.specs.Reason.{FailsFor, column_of};
+ghost use Rattle.spv_parser.specs.Reason.{FailsFor, column_of, plain_reason};
 ghost use Rattle.spv_parser.specs.inner.Lines.{HasLines};
-ghost use Rattle.spv_parser.specs.inner.Stopping.{IsTakenOr, StopIn, plain_reason};
+ghost use Rattle.spv_parser.specs.inner.Stopping.{IsTakenOr, StopIn};
 
 use crate::assembled::{add_line, put_instruction, put_words};
 use crate::header::read_header;
 use crate::operands::{Buffers, Setting};
 use crate::stops::{Outcome, Stop, read_or_stop};
 use spv_inst::due::{Definitions, Pending};
-use spv_lines::{AsmCode, AsmError};
+use spv_lines::{AsmCode, AsmError, split_line};
 use spv_table::Table;
-use spv_tokens::split_line;
 use spv_words::{Draft, MAGIC_NUMBER};
 use std::alloc::{AllocError, Global};
 

@@ -12,15 +12,15 @@ ghost use Rattle.spv_module.specs.Operand.{Context, PlainInst};
 ghost use Rattle.spv_module.specs.Shape.{AsNumber, shape_of};
 ghost use Rattle.spv_module.specs.Width as widths;
 ghost use Rattle.spv_lines.specs.Operand.{is_float, is_float_type};
-ghost use Rattle.spv_tokens.specs.inner.Answer.{IsToken};
+ghost use Rattle.spv_lines.specs.inner.Answer.{IsToken};
 ghost use Rattle.spv_parser.specs.inner.Reading.{IsAt, switch_type};
 
 use crate::operands::{Known, Setting};
 use spv_inst::due::{Asked, Definitions, Leaf};
-use spv_module::{Operand, opcode};
-use spv_tokens::{
+use spv_lines::{
     Misread, read_id, read_mask, read_number, read_result_id, read_type_id, read_value, read_word,
 };
+use spv_module::{Operand, opcode};
 
 /// The type of the first operand, if that is an id.
 pub fn type_of_first(definitions: &Definitions, known: Known) -> Option<u32>

@@ -17,9 +17,9 @@ use Rattle.spv_inst.proofs.Shapes.{leaf_shape, shape_leaf, shape_parts}
 use Rattle.spv_inst.proofs.Takes.{takes_no_parts}
 use Rattle.spv_lines.specs.Operand.{shown_operand, is_float, is_float_type, number_type}
 use Rattle.spv_printer.specs.inner.Fast.{AreShownAlike, IsShownAlike, is_no_number}
-use Rattle.spv_tokens.specs.inner.Narrow.{IsNarrow}
+use Rattle.spv_lines.specs.inner.Narrow.{IsNarrow}
 use Rattle.spv_printer.proofs.KindForms.{Wide, number_wide}
-use Rattle.spv_tokens.proofs.NumberTypes.{type_by_context}
+use Rattle.spv_lines.proofs.NumberTypes.{type_by_context}
 
 pub alike_by : (G : Table) (c : Context) (o : Plain) → is_no_number o ≡ true → IsShownAlike G c o
 alike_by G c (Number a b w) e s ws ss t = cc

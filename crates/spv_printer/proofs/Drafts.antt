@@ -13,7 +13,7 @@ use Rattle.spv_module.specs.Operand.{Plain, PlainInst, OfType, Result, Id, Word,
 use Rattle.spv_lines.specs.Operand.{escaped, shown_operand}
 use Rattle.spv_inst.specs.declared.definitions.Definitions.{Definitions}
 use Rattle.spv_inst.specs.inner.Known.{Knows}
-use Rattle.spv_tokens.proofs.OneMore.{result_snoc, type_snoc}
+use Rattle.spv_lines.proofs.OneMore.{result_snoc, type_snoc}
 use Rattle.spv_printer.specs.declared.fast_operand.Draft.{Draft}
 use Rattle.spv_printer.specs.inner.Fast.{AreCharacters, AreDrafted, IsLineOf, IsShownAlike, IsTextAdded, piece_of, pieces_of, is_no_number, results_of}
 use Rattle.spv_printer.proofs.Escapes.{escaped-append, plain_escaped}

@@ -24,7 +24,7 @@ use Rattle.spv_module.specs.Module.{plain_operand, plain_operands}
 use Rattle.spv_printer.specs.inner.Printer.{is_number}
 use Rattle.spv_printer.proofs.Steps.{so_far}
 use Rattle.spv_printer.proofs.KindForms.{Wide, number_wide}
-use Rattle.spv_tokens.proofs.NumberTypes.{type_by_context, type_by_switch}
+use Rattle.spv_lines.proofs.NumberTypes.{type_by_context, type_by_switch}
 
 -- a known width has a type
 record Typed (o : Option ℕ) : Type 0 where

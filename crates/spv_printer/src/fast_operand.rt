@@ -22,8 +22,8 @@ use crate::named::Named;
 use crate::names::Names;
 use crate::printer::Printer;
 use spv_inst::due::{Definitions, Form, Leaf, form_in};
+use spv_lines::is_narrow;
 use spv_table::Table;
-use spv_tokens::is_narrow;
 use spv_words::{Image, word};
 
 /// The room of the buffer that is asked for an operand.

@@ -11,8 +11,8 @@ ghost use Rattle.spv_printer.specs.inner.Names.{AreNames};
 use crate::named::Named;
 use crate::names::Names;
 use crate::number::push_marked;
+use spv_lines::is_plain;
 use spv_table::{Entry, Table};
-use spv_tokens::is_plain;
 use std::alloc::AllocError;
 
 /// Whether the name of an opcode's entry is plain and looks up the opcode.

@@ -13,7 +13,7 @@ use Rattle.spv_inst.specs.inner.Pending.{settled, due_first, items_of}
 use Rattle.spv_module.specs.Operand.{Plain, PlainInst, Context, result_in, type_in}
 use Rattle.spv_module.specs.Shape.{Slot, alone}
 use Rattle.spv_inst.specs.Flat.{Due, OneOf, due}
-use Rattle.spv_tokens.specs.inner.Narrow.{IsNarrow}
+use Rattle.spv_lines.specs.inner.Narrow.{IsNarrow}
 use Rattle.spv_parser.specs.declared.fast.Start.{Start}
 use Rattle.spv_parser.specs.declared.fast.Taken.{Taken}
 use Rattle.spv_parser.specs.declared.operands.Known.{Known}

@@ -11,8 +11,8 @@ use Rattle.spv_lines.specs.declared.asm_error.AsmCode.TheVariants.{S5, S6}
 use Rattle.spv_lines.specs.Digits.{is_number, IsLarge}
 use Rattle.spv_lines.specs.Text.{lines_of, ReadLines}
 use Rattle.spv_lines.specs.Fault.{LinesFail}
-use Rattle.spv_tokens.specs.declared.misread.Misread.{Misread}
-use Rattle.spv_tokens.specs.declared.misread.Misread.TheVariants.{IllFormed, TooLarge}
+use Rattle.spv_lines.specs.declared.misread.Misread.{Misread}
+use Rattle.spv_lines.specs.declared.misread.Misread.TheVariants.{IllFormed, TooLarge}
 use Rattle.spv_parser.specs.declared.operands.Line.{Line}
 use Rattle.spv_parser.specs.inner.Reading.{IsLine}
 

@@ -21,8 +21,8 @@ use Rattle.spv_lines.specs.Written.{Written}
 use Rattle.spv_lines.specs.Line.{AreWords, IsReadLine, before_space, from_space}
 use Rattle.spv_lines.specs.Refusal.{IsBreak, StandsInLine, SlotRefuses, OperandsFail, is_front}
 use Rattle.spv_lines.specs.Fault.{LineFails}
-use Rattle.spv_tokens.specs.declared.misread.Misread.{Misread}
-use Rattle.spv_tokens.specs.declared.misread.Misread.TheVariants.{IllFormed, TooLarge}
+use Rattle.spv_lines.specs.declared.misread.Misread.{Misread}
+use Rattle.spv_lines.specs.declared.misread.Misread.TheVariants.{IllFormed, TooLarge}
 use Rattle.spv_parser.specs.declared.operands.Buffers.{Buffers}
 use Rattle.spv_parser.specs.declared.operands.Known.{Known}
 use Rattle.spv_parser.specs.declared.operands.Line.{Line}

@@ -5,7 +5,7 @@ use Rattle.spv_module.specs.Operand.{Plain, Context, result_in, type_in}
 use Rattle.spv_module.specs.Shape.{alone, shape_of}
 use Rattle.spv_inst.specs.inner.Pending.{opened_kinds}
 use Rattle.spv_inst.specs.inner.Written.{operand_words}
-use Rattle.spv_tokens.specs.inner.Answer.{IsTaken}
+use Rattle.spv_lines.specs.inner.Answer.{IsTaken}
 use Rattle.spv_parser.specs.declared.seen.Seen.{Seen}
 
 -- A token is an operand of a kind that is neither a result nor a result type, has one word, and parameters of those

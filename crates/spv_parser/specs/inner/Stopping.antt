@@ -7,7 +7,7 @@ use Rattle.spv_lines.specs.declared.asm_error.AsmCode.{AsmCode}
 use Rattle.spv_lines.specs.Refusal.{OperandsFail, Pends}
 use Rattle.spv_lines.specs.Fault.{ResultFails, LineFails, LinesFail}
 use Rattle.spv_parser.specs.Reason as reason
-use Rattle.spv_parser.specs.Reason.{Reason, operands_stop, wanted_in_front, line_stop, lines_reason}
+use Rattle.spv_parser.specs.Reason.{Reason, plain_reason, operands_stop, wanted_in_front, line_stop, lines_reason}
 use Rattle.spv_parser.specs.declared.text_reason.Wanted.{Wanted}
 use Rattle.spv_parser.specs.declared.text_reason.TextReason.{TextReason}
 use Rattle.spv_parser.specs.declared.stops.Stop.{Stop}
@@ -21,10 +21,6 @@ use Rattle.spv_parser.specs.inner.Reading.{AreRead, IsLine}
 -- a stop of the code
 abbrev pub plain_stop : Stop → reason.Stop
 plain_stop s = record { rest = s.rest.now; wanted = s.wanted }
-
--- a reason of the code
-abbrev pub plain_reason : TextReason → Reason
-plain_reason r = record { line = r.text.now; stop = record { rest = r.rest.now; wanted = r.wanted } }
 
 -- Operands fail, and stop there.
 pub record StopsAt (G : Table) (r : Option ℕ) (c : Context) (ds : List Due) (t : List ℕ) (code : AsmCode)

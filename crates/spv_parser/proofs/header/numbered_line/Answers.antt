@@ -1,6 +1,6 @@
 use Rattle.std.proofs.Common.{◌^◌, subst}
 use Rattle.std.specs.Prelude.{Err}
-use Rattle.spv_tokens.specs.inner.Answer.{IsBelow}
+use Rattle.spv_lines.specs.inner.Answer.{IsBelow}
 use Rattle.spv_lines.specs.Text.{lines_of}
 use Rattle.spv_parser.proofs.Headed.{no_front, no_number}
 use Rattle.spv_parser.proofs.Namely.{stripped}

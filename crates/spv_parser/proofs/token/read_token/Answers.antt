@@ -1,7 +1,7 @@
 use Rattle.std.proofs.Common.{sym, ◌≡◌, ◌&&◌, false, nat_eq}
 use Rattle.std.specs.Prelude.{Err}
 use Rattle.spv_module.specs.declared.opcode.TheConstants.{SWITCH}
-use Rattle.spv_tokens.specs.declared.misread.Misread.TheVariants.{IllFormed}
+use Rattle.spv_lines.specs.declared.misread.Misread.TheVariants.{IllFormed}
 use Rattle.spv_table.specs.declared.form.Leaf.TheVariants as leaf
 use Rattle.spv_inst.specs.inner.Pending.{plain_slot}
 use Rattle.spv_lines.specs.Operand.{is_float}

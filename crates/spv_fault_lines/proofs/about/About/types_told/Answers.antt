@@ -1,7 +1,8 @@
 use Rattle.std.proofs.Common.{◌≡◌, ◌<◌, ◌∷◌, [], arith, get_or, length, length-set}
 use Rattle.spv_module.specs.Module.{plain_insts}
 use Rattle.spv_fault_lines.specs.Facts.{type_things}
-use Rattle.spv_fault_lines.proofs.Steps.{got, left_step, type_step}
+use Rattle.spv_lines.proofs.Steps.{got}
+use Rattle.spv_fault_lines.proofs.Steps.{left_step, type_step}
 use Rattle.spv_fault_lines.proofs.about.About.types_told.Goals as goal
 
 pub loop-id-preserved : goal.loop-id-preserved

@@ -1,5 +1,0 @@
-use Rattle.spv_tokens.proofs.Taking.{narrow_refused}
-use Rattle.spv_tokens.proofs.number.read_narrow.Goals as goal
-
-pub returns-in-Err : goal.returns-in-Err
-returns-in-Err c = λ G k w n. narrow_refused G k w c.args.token.now c.in-Err.why n c.in-Err.ensures

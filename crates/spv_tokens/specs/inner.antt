@@ -1,4 +1,0 @@
--- Definitions that serve the code alone.
-pub mod Answer
-pub mod Narrow
-pub mod Quoted
