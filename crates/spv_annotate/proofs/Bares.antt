@@ -15,8 +15,8 @@ use Rattle.spv_layout.specs.Place.{first_word_of}
 use Rattle.spv_lines.specs.Text.{ended, header_lines, inst_line, lines_of}
 use Rattle.spv_lines.proofs.Back.{NoFeed, feedless-append}
 use Rattle.spv_lines.proofs.Showing.{AreLines, lines-append, lines_ended}
-use Rattle.spv_fault_lines.specs.Plain as plain
-use Rattle.spv_fault_lines.specs.Plain.{is_control, is_late_control, plain_byte, plain_of}
+use Rattle.spv_lines.specs.Plain as plain
+use Rattle.spv_lines.specs.Plain.{is_control, is_late_control, plain_byte, plain_of}
 use Rattle.spv_annotate.specs.declared.finding.Finding.{Finding}
 use Rattle.spv_annotate.specs.Bare.{Outside, asked_lines, bare, bare_lines, bare_text, before_comment, is_blank, trimmed}
 use Rattle.spv_annotate.specs.Document.{IsSpelled, IsSubject, Subject, beginning, begun, document, ending, entries, entry, header_piece, is_of, line_pieces, mark_piece, marks}

@@ -4,8 +4,8 @@ use Rattle.std.specs.Prelude.{nat_eq, if◌then◌else◌}
 use Rattle.std.proofs.lemmas.Bool.Decides.{nat_tests}
 use Rattle.spv_lines.specs.Digits.{hex_digit}
 use Rattle.spv_lines.specs.Operand.{escaped, quoted}
-use Rattle.spv_fault_lines.specs.Plain as plain
-use Rattle.spv_fault_lines.specs.Plain.{is_control, is_late_control, plain_byte, plain_of}
+use Rattle.spv_lines.specs.Plain as plain
+use Rattle.spv_lines.specs.Plain.{is_control, is_late_control, plain_byte, plain_of}
 use Rattle.spv_annotate.specs.Bare.{Quoting, Outside, Within, Behind, before_comment, begins_comment, next_of}
 use Rattle.spv_annotate.proofs.Inks.{IsInk, AreInk, hex_digit_ink}
 

@@ -2,8 +2,8 @@
 use Rattle.std.proofs.Common.{◌≡◌, ◌≢◌, ◌++◌, ◌%◌, ℕ, List, [], ◌∷◌, Bool, true, false, ◌&&◌, refl, arith}
 use Rattle.std.specs.Prelude.{nat_eq, if◌then◌else◌}
 use Rattle.std.proofs.lemmas.Bool.Decides.{nat_tests}
-use Rattle.spv_fault_lines.specs.Plain as plain
-use Rattle.spv_fault_lines.specs.Plain.{is_control, is_late_control, plain_byte, plain_of}
+use Rattle.spv_lines.specs.Plain as plain
+use Rattle.spv_lines.specs.Plain.{is_control, is_late_control, plain_byte, plain_of}
 use Rattle.spv_annotate.specs.Bare.{trimmed}
 use Rattle.spv_annotate.proofs.Inks.{AreInk, hex_digit_ink}
 

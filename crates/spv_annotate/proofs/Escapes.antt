@@ -11,7 +11,7 @@ cut (x ∷ xs) zero l = refl
 cut (x ∷ xs) (suc i) l = let m : i < length xs = omega arith in let e : suc i + 1 ≡ suc (i + 1) = omega arith in rw e (ap (λ z. x ∷ z) (cut xs i m))
 
 -- a byte that is not marked stands as it is
-plain_byte : (b : ℕ) → (is_marked b ≡ true → ⊥) → escaped_byte b ≡ b ∷ []
+pub plain_byte : (b : ℕ) → (is_marked b ≡ true → ⊥) → escaped_byte b ≡ b ∷ []
 plain_byte b h = grind (arith, nat_tests)
 
 pub plain_escaped : (t : List ℕ) → ((k : ℕ) → k < length t → is_marked (get_or t k 0) ≡ true → ⊥) → escaped t ≡ t

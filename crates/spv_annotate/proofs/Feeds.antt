@@ -12,8 +12,8 @@ use Rattle.spv_lines.specs.Operand.{id_text}
 use Rattle.spv_lines.specs.Text.{lines_of}
 use Rattle.spv_lines.proofs.Back.{NoFeed, feedless-append, tame_feedless}
 use Rattle.spv_lines.proofs.Showing.{AreLines}
-use Rattle.spv_fault_lines.specs.Plain as plain
-use Rattle.spv_fault_lines.specs.Plain.{is_control, is_late_control, plain_byte, plain_of}
+use Rattle.spv_lines.specs.Plain as plain
+use Rattle.spv_lines.specs.Plain.{is_control, is_late_control, plain_byte, plain_of}
 use Rattle.spv_layout.specs.Place.{first_word_of}
 use Rattle.spv_annotate.specs.declared.opencl.TheConstants.{OPENCL}
 use Rattle.spv_annotate.specs.declared.values.Bits.{Bits}

@@ -22,3 +22,6 @@ pub mod Walks
 pub mod Writings
 pub mod Usings
 pub mod Plains
+pub mod Steadies
+pub mod UsePlaces
+pub mod Buffers

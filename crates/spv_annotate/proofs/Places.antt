@@ -9,7 +9,7 @@ use Rattle.spv_module.specs.Module.{plain_inst}
 use Rattle.spv_layout.specs.Place.{IsShort, first_word_of, word_count}
 use Rattle.std.proofs.Common.{get_or}
 use Rattle.spv_layout.proofs.Misfits.{inst_there}
-use Rattle.spv_fault_lines.proofs.Steps.{drop_step}
+use Rattle.spv_lines.proofs.Steps.{drop_step}
 use Rattle.spv_annotate.specs.Module.{inst_at}
 use Rattle.spv_annotate.proofs.Small.{plain_length}
 

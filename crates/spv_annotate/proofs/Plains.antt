@@ -2,7 +2,7 @@
 use Rattle.std.proofs.Common.{◌≡◌, ◌++◌, ◌∙◌, ℕ, List, [], ◌∷◌, Bool, true, false, ◌&&◌, refl, ap, arith}
 use Rattle.std.specs.List.{list_all}
 use Rattle.std.proofs.lemmas.Bool.Decides.{nat_tests}
-use Rattle.spv_fault_lines.specs.Plain.{is_control, is_late_control, plain_byte, plain_of}
+use Rattle.spv_lines.specs.Plain.{is_control, is_late_control, plain_byte, plain_of}
 use Rattle.spv_annotate.specs.inner.Tame.{is_tame_octet}
 
 both : (a b : Bool) → (a && b) ≡ true → (a ≡ true) × (b ≡ true)

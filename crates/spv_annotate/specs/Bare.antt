@@ -3,7 +3,7 @@ use Rattle.std.specs.Prelude.{◌++◌, ◌&&◌, ℕ, List, [], ◌∷◌, Bool
 use Rattle.std.specs.Prelude.{length}
 use Rattle.std.specs.List.{range_with_len}
 use Rattle.spv_lines.specs.Text.{ended, inst_line, lines_of}
-use Rattle.spv_fault_lines.specs.Plain.{plain_of}
+use Rattle.spv_lines.specs.Plain.{plain_of}
 use Rattle.spv_annotate.specs.Document.{Subject, is_of}
 
 -- where in a line an octet stands: outside of quotes, within them, or behind a `\` within them

@@ -11,7 +11,7 @@ use Rattle.spv_module.specs.Module.{plain_insts}
 use Rattle.spv_module.specs.declared.module.Module.{Module}
 use Rattle.spv_lines.specs.Line.{AreWords}
 use Rattle.spv_lines.specs.Text.{ShownLines, header_lines, inst_line, lines_of}
-use Rattle.spv_fault_lines.specs.Plain.{plain_of}
+use Rattle.spv_lines.specs.Plain.{plain_of}
 use Rattle.spv_annotate.specs.declared.finding.Finding.{Finding}
 use Rattle.spv_annotate.specs.Piece.{PlainPiece, Header, Section, Function, Block, Line, Comment, Mark, Break}
 use Rattle.spv_annotate.specs.Module.{function_of, inst_at, open_function, section_before, section_of}

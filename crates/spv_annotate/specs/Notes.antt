@@ -10,7 +10,7 @@ use Rattle.spv_layout.specs.Place.{first_word_of}
 use Rattle.spv_lines.specs.Line.{before_space}
 use Rattle.spv_lines.specs.Operand.{id_text}
 use Rattle.spv_lines.specs.Text.{lines_of}
-use Rattle.spv_fault_lines.specs.Plain.{plain_of}
+use Rattle.spv_lines.specs.Plain.{plain_of}
 use Rattle.spv_annotate.specs.declared.opencl.TheConstants.{OPENCL}
 use Rattle.spv_annotate.specs.Module.{defined_by, definition_of, ids_of, inst_at, naming_of, predecessors, text_in}
 

@@ -9,3 +9,4 @@ pub mod Linked
 pub mod Look
 pub mod Uses
 pub mod Tame
+pub mod Buffer

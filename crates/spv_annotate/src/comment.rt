@@ -10,20 +10,25 @@ ghost use Rattle.spv_annotate.specs.inner.Known.{IsKnown};
 ghost use Rattle.spv_annotate.specs.inner.Numbers.{kept};
 ghost use Rattle.spv_annotate.specs.inner.Values.{value_in};
 
+use crate::buffer::{put_number, put_octets};
 use crate::calls::{push_call, push_note};
 use crate::edges::push_predecessors;
 use crate::known::Known;
 use crate::names::push_names;
-use crate::words::push_number;
 use spv_module::{Inst, opcode};
 use std::alloc::AllocError;
+use std::str::from_utf8_unchecked;
 
 /// Spaces up to the column of comments.
 const COLUMN: &str = "                                                ";
 
+/// The size of a buffer for these spaces and two numbers with their words.
+const PLACE: usize = 96;
+
 /// The spaces behind a line of so many octets: up to the column of comments, one at least.
 fn gap(count: usize) -> &'static str
-    ensures { result.now ≡ specs.gap count }
+    ensures text { result.now ≡ specs.gap count }
+    ensures short { length result.now ≤ 48 }
 {
     if count < 47 {
         return &COLUMN[count..];
@@ -88,14 +93,18 @@ fn push_notes_at(
     push_notes(out, insts, known, at, &insts[at as usize])
 }
 
-/// Adds the numbers of an instruction and of its first word.
-fn push_place(out: &mut String, at: u32, word: u32) -> Result<(), AllocError>
-    ensures { OnOk result (string_bytes out.new ≡ string_bytes out.old ++ place_text at word) }
+/// Adds spaces, and the numbers of an instruction and of its first word.
+fn push_place(out: &mut String, spaces: &str, at: u32, word: u32) -> Result<(), AllocError>
+    requires { length spaces.now ≤ 48 }
+    ensures { OnOk result (string_bytes out.new ≡ string_bytes out.old ++ (spaces.now ++ place_text at word)) }
 {
-    out.push_str("; inst ")?;
-    push_number(out, u64::from(at))?;
-    out.push_str(" word ")?;
-    push_number(out, u64::from(word))
+    let mut buffer = [0u8; PLACE];
+    let last = put_number(&mut buffer, word, PLACE);
+    let between = put_octets(&mut buffer, b" word ", last);
+    let first = put_number(&mut buffer, at, between);
+    let begin = put_octets(&mut buffer, b"; inst ", first);
+    let start = put_octets(&mut buffer, spaces.as_bytes(), begin);
+    out.push_str(unsafe { from_utf8_unchecked(&buffer[start..]) })
 }
 
 /// Adds the comment behind the line of an instruction, which has so many octets, and the spaces before it.
@@ -115,7 +124,6 @@ pub fn push_comment(
     ensures { OnOk result (string_bytes out.new ≡ string_bytes out.old ++ comment (map plain_inst insts.now)
         (value_in known.now.values at) at line.now) }
 {
-    out.push_str(gap(line.len()))?;
-    push_place(out, at, word)?;
+    push_place(out, gap(line.len()), at, word)?;
     push_notes_at(out, insts, known, at)
 }

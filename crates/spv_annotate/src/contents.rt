@@ -6,7 +6,8 @@ ghost use Rattle.spv_annotate.specs.Page as page;
 ghost use Rattle.spv_annotate.specs.Page.{contents_of, entry_link, label_of, name_behind, section_link};
 ghost use Rattle.spv_annotate.specs.inner.Look.{scene};
 
-use crate::linked::{push_link, push_number};
+use crate::buffer::push_between;
+use crate::linked::push_link;
 use crate::look::Look;
 use crate::names::{name_at, push_short};
 use crate::piece::Piece;
@@ -34,9 +35,7 @@ fn section_title(section: u32) -> &'static str
 fn push_section_link(out: &mut String, section: u32) -> Result<(), AllocError>
     ensures { OnOk result (string_bytes out.new ≡ string_bytes out.old ++ section_link section) }
 {
-    out.push_str("<a href=#s")?;
-    push_number(out, section)?;
-    out.push_str(">")?;
+    push_between(out, "<a href=#s", section, ">")?;
     out.push_str(section_title(section))?;
     out.push_str("</a>\n")
 }

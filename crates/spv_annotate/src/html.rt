@@ -7,7 +7,8 @@ ghost use Rattle.spv_annotate.specs.Html.{escaped, escaped_byte, is_marked};
 use std::alloc::AllocError;
 
 /// Whether a byte stands in HTML for something else than itself.
-fn is_mark(byte: u8) -> bool
+#[inline(always)]
+pub fn is_mark(byte: u8) -> bool
     ensures { result ≡ is_marked byte }
 {
     byte == b'<' || byte == b'>' || byte == b'&' || byte == b'"' || byte == b'\''

@@ -10,7 +10,7 @@ ghost use Rattle.spv_annotate.specs.Page.{cut_from, ids_at};
 
 use crate::finding::Finding;
 use crate::linked::{Quoting, id_at, part_size};
-use spv_tokens::split_line;
+use spv_lines::split_line;
 use std::alloc::{AllocError, Global};
 
 /// Adds an id, if there is one.

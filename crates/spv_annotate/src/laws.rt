@@ -6,7 +6,7 @@ ghost use Rattle.spv_table.specs.Table.{Table};
 ghost use Rattle.spv_module.specs.declared.module.Module.{Module};
 ghost use Rattle.spv_module.specs.Module.{plain_insts};
 ghost use Rattle.spv_lines.specs.Text.{ended};
-ghost use Rattle.spv_fault_lines.specs.Plain.{plain_of};
+ghost use Rattle.spv_lines.specs.Plain.{plain_of};
 ghost use Rattle.spv_annotate.specs.declared.finding.Finding.{Finding};
 ghost use Rattle.spv_annotate.specs.declared.values.Bits.TheVariants.{Single};
 ghost use Rattle.spv_annotate.specs.Bare.{asked_lines, bare, bare_text};

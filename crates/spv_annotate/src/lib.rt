@@ -1,6 +1,7 @@
 //! The text for reading: the lines of a module's text with what helps a reader beside them.
 #![tactic(auto)]
 
+mod buffer;
 mod calls;
 mod comment;
 mod contents;

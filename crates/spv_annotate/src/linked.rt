@@ -1,20 +1,28 @@
 //! Lines in which ids have links.
 
-ghost use Rattle.std.specs.Prelude.{◌≡◌, ◌++◌, ◌∷◌, ◌≤◌, ◌<◌, ℕ, List, OnOk, decimal, length, string_bytes};
+ghost use Rattle.std.specs.Prelude.{◌≡◌, ◌++◌, ◌∷◌, ◌≤◌, ◌<◌, ℕ, List, OnOk, Some, get_or, length, string_bytes, true};
 ghost use Rattle.std.specs.Prelude.{option_and_then};
-ghost use Rattle.std.specs.List.{prefix_len};
+ghost use Rattle.std.specs.List.{list_all, prefix_len};
 ghost use Rattle.std.specs.Option.{option_to_list};
 ghost use Rattle.spv_lines.specs.Digits.{is_digit};
-ghost use Rattle.spv_annotate.specs.inner.Linked.{base, part_len, until_id};
+ghost use Rattle.spv_annotate.specs.inner.Linked.{base, is_bare_byte, is_steady, part_len, until_id};
 ghost use Rattle.spv_annotate.specs.inner.Numbers.{kept};
 ghost use Rattle.spv_annotate.specs.Page as page;
-ghost use Rattle.spv_annotate.specs.Page.{after_byte, id_html, id_of, ids_at, linked, part_html};
+ghost use Rattle.spv_annotate.specs.Page.{after_byte, id_html, id_of, ids_at, link_to, linked, part_html};
+ghost use Rattle.spv_annotate.specs.declared.linked.Quoting.TheVariants.{Commented};
 
-use crate::html::push_escaped;
+use crate::buffer::{push_between, put_number, put_octets};
+use crate::html::{is_mark, push_escaped};
 use crate::numbers::Numbers;
-use itoa::Buffer;
-use spv_tokens::read_behind;
+use spv_lines::read_behind;
 use std::alloc::AllocError;
+use std::str::from_utf8_unchecked;
+
+/// How many bytes a word may have that is put into a buffer with its link.
+const LONGEST: usize = 32;
+
+/// The size of that buffer.
+const LINK: usize = 64;
 
 /// Where a reader of a line stands.
 #[derive(Clone, Copy)]
@@ -63,8 +71,22 @@ impl Quoting {
     }
 }
 
-/// How many bytes stand before the next id.
-fn size_until_id(line: &[u8], quoting: Quoting) -> usize
+/// How many bytes stand before the first `%` or `"`.
+#[inline(always)]
+fn steady_size(line: &[u8]) -> usize
+    ensures within { result ≤ length line.now }
+    ensures steady { (k : ℕ) → k < result → is_steady (get_or line.now k 0) ≡ true }
+{
+    for (at, byte) in line.iter().enumerate() {
+        if *byte == b'%' || *byte == b'"' {
+            return at;
+        }
+    }
+    line.len()
+}
+
+/// How many bytes stand before the next id, by one byte after the other.
+fn size_by_bytes(line: &[u8], quoting: Quoting) -> usize
     ensures size { result ≡ until_id quoting line.now }
     ensures within { result ≤ length line.now }
 {
@@ -76,6 +98,30 @@ fn size_until_id(line: &[u8], quoting: Quoting) -> usize
         here = here.after(*byte);
     }
     line.len()
+}
+
+/// How many bytes stand before the next id, where a quote may begin but none is open.
+#[inline(always)]
+fn size_past_steady(line: &[u8], quoting: Quoting) -> usize
+    requires { base quoting ≡ quoting }
+    ensures size { result ≡ until_id quoting line.now }
+    ensures within { result ≤ length line.now }
+{
+    let steady = steady_size(line);
+    steady + size_by_bytes(&line[steady..], quoting)
+}
+
+/// How many bytes stand before the next id.
+#[inline(always)]
+fn size_until_id(line: &[u8], quoting: Quoting) -> usize
+    ensures size { result ≡ until_id quoting line.now }
+    ensures within { result ≤ length line.now }
+{
+    match quoting {
+        Quoting::Outside => size_past_steady(line, Quoting::Outside),
+        Quoting::Commented => size_past_steady(line, Quoting::Commented),
+        _ => size_by_bytes(line, quoting),
+    }
 }
 
 /// How many bytes the first part of a line has, up to the next id behind the first byte.
@@ -102,23 +148,28 @@ fn digit_count(text: &[u8]) -> usize
     text.len()
 }
 
-/// Adds a number in decimal.
-pub fn push_number(out: &mut String, number: u32) -> Result<(), AllocError>
-    ensures { OnOk result (string_bytes out.new ≡ string_bytes out.old ++ decimal number) }
-{
-    let mut buffer = Buffer::new();
-    out.push_str(buffer.format(number))
-}
-
 /// Adds a word with a link to the instruction of that number.
 pub fn push_link(out: &mut String, inst: u32, word: &str) -> Result<(), AllocError>
     ensures { OnOk result (string_bytes out.new ≡ string_bytes out.old ++ id_html (Some inst) word.now) }
 {
-    out.push_str("<a href=#")?;
-    push_number(out, inst)?;
-    out.push_str(">")?;
+    push_between(out, "<a href=#", inst, ">")?;
     push_escaped(out, word)?;
     out.push_str("</a>")
+}
+
+/// Adds a short word, of which each byte stands for itself in HTML, with a link to the instruction of that number.
+#[inline(always)]
+fn push_short_link(out: &mut String, inst: u32, word: &str) -> Result<(), AllocError>
+    requires { length word.now ≤ 32 }
+    ensures { OnOk result (string_bytes out.new ≡ string_bytes out.old ++ link_to inst word.now) }
+{
+    let mut buffer = [0u8; LINK];
+    let behind = put_octets(&mut buffer, b"</a>", LINK);
+    let begin = put_octets(&mut buffer, word.as_bytes(), behind);
+    let tag = put_octets(&mut buffer, b">", begin);
+    let digits = put_number(&mut buffer, inst, tag);
+    let start = put_octets(&mut buffer, b"<a href=#", digits);
+    out.push_str(unsafe { from_utf8_unchecked(&buffer[start..]) })
 }
 
 /// The id that a word is, as `%7`.
@@ -160,6 +211,7 @@ fn push_id(out: &mut String, definitions: &Numbers, word: &str) -> Result<(), Al
         ≡ string_bytes out.old ++ id_html (option_and_then (kept definitions.now) (id_of ds)) word.now) }
 {
     match definition_in(definitions, word.as_bytes()) {
+        Some(inst) if word.len() <= LONGEST => push_short_link(out, inst, word),
         Some(inst) => push_link(out, inst, word),
         None => push_escaped(out, word),
     }
@@ -200,4 +252,31 @@ pub fn push_linked(
         rest = &rest[size..];
     }
     Ok(())
+}
+
+/// Whether each byte of a comment stands for itself, and none begins an id. It looks at all of them, so that a compiler
+/// can take many at a time.
+fn is_bare(text: &[u8]) -> bool
+    ensures { result ≡ list_all is_bare_byte text.now }
+{
+    let mut bare = true;
+    for byte in text {
+        if *byte == b'%' || is_mark(*byte) {
+            bare = false;
+        }
+    }
+    bare
+}
+
+/// Adds a comment in which ids that are defined have links.
+///
+/// An `AllocError` comes only where a growth of memory was refused, and then nothing is said of what is left.
+pub fn push_remark(out: &mut String, definitions: &Numbers, text: &str) -> Result<(), AllocError>
+    ensures { OnOk result (string_bytes out.new
+        ≡ string_bytes out.old ++ linked (kept definitions.now) Commented text.now) }
+{
+    if is_bare(text.as_bytes()) {
+        return out.push_str(text);
+    }
+    push_linked(out, definitions, Quoting::Commented, text)
 }

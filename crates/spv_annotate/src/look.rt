@@ -1,6 +1,6 @@
 //! What is written in a page for each piece.
 
-ghost use Rattle.std.specs.Prelude.{◌≡◌, ◌++◌, ℕ, List, OnOk, codes, map, decimal, string_bytes};
+ghost use Rattle.std.specs.Prelude.{◌≡◌, ◌≤◌, ◌++◌, ℕ, List, OnOk, codes, length, map, decimal, string_bytes};
 ghost use Rattle.spv_module.specs.Module.{plain_inst};
 ghost use Rattle.spv_module.specs.Operand.{result_in};
 ghost use Rattle.spv_annotate.specs.Piece.{Comment, Line, Mark, plain_piece};
@@ -8,11 +8,13 @@ ghost use Rattle.spv_annotate.specs.Module.{inst_at};
 ghost use Rattle.spv_annotate.specs.Page as page;
 ghost use Rattle.spv_annotate.specs.Page.{headed, line_class, linked, page_of, use_links};
 ghost use Rattle.spv_annotate.specs.declared.linked.Quoting.TheVariants.{Outside};
+ghost use Rattle.spv_annotate.specs.inner.Buffer.{most_beside};
 ghost use Rattle.spv_annotate.specs.inner.Look.{scene};
 ghost use Rattle.spv_annotate.specs.inner.Numbers.{kept};
 
+use crate::buffer::push_between;
 use crate::html::push_escaped;
-use crate::linked::{Quoting, push_linked, push_number};
+use crate::linked::{Quoting, push_linked, push_remark};
 use crate::numbers::Numbers;
 use crate::piece::Piece;
 use crate::uses::Uses;
@@ -38,25 +40,12 @@ pub struct Look<'p, 'a> {
     pub walk: &'p Numbers,
 }
 
-/// How a line of an instruction of that opcode begins and ends, if it is a heading.
-fn heading(code: u16) -> (&'static str, &'static str)
-    ensures { (html : List ℕ) → headed code html ≡ (result.0).now ++ (html ++ (result.1).now) }
-{
-    match code {
-        opcode::FUNCTION => ("<h2>", "</h2>"),
-        opcode::LABEL => ("<h3>", "</h3>"),
-        _ => ("", ""),
-    }
-}
-
 /// Adds an empty line where a section begins.
 fn push_section(out: &mut String, section: u32) -> Result<(), AllocError>
     ensures { OnOk result (string_bytes out.new
         ≡ string_bytes out.old ++ (codes "<br id=s" ++ (decimal section ++ codes ">\n"))) }
 {
-    out.push_str("<br id=s")?;
-    push_number(out, section)?;
-    out.push_str(">\n")
+    push_between(out, "<br id=s", section, ">\n")
 }
 
 impl<'p, 'a> Look<'p, 'a> {
@@ -96,17 +85,18 @@ impl<'p, 'a> Look<'p, 'a> {
         }
     }
 
-    /// How the line of an instruction is marked.
+    /// How the line of an instruction is marked, and the end of its tag.
     fn class(&self, inst: u32) -> &'static str
-        ensures { result.now ≡ line_class (scene self.now) inst }
+        ensures text { result.now ≡ line_class (scene self.now) inst ++ codes ">" }
+        ensures short { length result.now ≤ most_beside }
     {
         if self.fault == Some(inst) {
-            return " class=fault";
+            return " class=fault>";
         }
         if self.is_walked(inst) {
-            return " class=walk";
+            return " class=walk>";
         }
-        ""
+        ">"
     }
 
     /// Opens the line of an instruction.
@@ -114,10 +104,23 @@ impl<'p, 'a> Look<'p, 'a> {
         ensures { OnOk result (string_bytes out.new ≡ string_bytes out.old
             ++ (codes "<div id=" ++ (decimal inst ++ (line_class (scene self.now) inst ++ codes ">")))) }
     {
-        out.push_str("<div id=")?;
-        push_number(out, inst)?;
-        out.push_str(self.class(inst))?;
-        out.push_str(">")
+        push_between(out, "<div id=", inst, self.class(inst))
+    }
+
+    /// Adds a line as a heading.
+    fn push_heading(
+        &self,
+        out: &mut String,
+        begin: &str,
+        text: &str,
+        end: &str,
+    ) -> Result<(), AllocError>
+        ensures { OnOk result (string_bytes out.new ≡ string_bytes out.old
+            ++ (begin.now ++ (linked (kept self.now.definitions.now) Outside text.now ++ end.now))) }
+    {
+        out.push_str(begin)?;
+        push_linked(out, self.definitions, Quoting::Outside, text)?;
+        out.push_str(end)
     }
 
     /// Adds what stands in the line of an instruction.
@@ -126,10 +129,11 @@ impl<'p, 'a> Look<'p, 'a> {
             ++ headed (inst_at (map plain_inst self.now.insts.now) inst).opcode
             (linked (kept self.now.definitions.now) Outside text.now)) }
     {
-        let (begin, end) = heading(self.opcode(inst));
-        out.push_str(begin)?;
-        push_linked(out, self.definitions, Quoting::Outside, text)?;
-        out.push_str(end)
+        match self.opcode(inst) {
+            opcode::FUNCTION => self.push_heading(out, "<h2>", text, "</h2>"),
+            opcode::LABEL => self.push_heading(out, "<h3>", text, "</h3>"),
+            _ => push_linked(out, self.definitions, Quoting::Outside, text),
+        }
     }
 
     /// Adds links to the uses of what an instruction defines.
@@ -166,7 +170,7 @@ impl<'p, 'a> Look<'p, 'a> {
             ≡ string_bytes out.old ++ page_of (scene self.now) (Comment text.now)) }
     {
         out.push_str("<i>")?;
-        push_linked(out, self.definitions, Quoting::Commented, text)?;
+        push_remark(out, self.definitions, text)?;
         out.push_str("</i>")
     }
 

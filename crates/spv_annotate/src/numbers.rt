@@ -54,6 +54,7 @@ impl Numbers {
     }
 
     /// What is kept of an id. It takes no memory.
+    #[inline(always)]
     pub fn get(&self, id: u32) -> Option<u32>
         ensures { result ≡ kept self.now id }
     {

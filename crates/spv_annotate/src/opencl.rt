@@ -5,7 +5,7 @@ ghost use Rattle.spv_lines.specs.Text.{lines_of};
 ghost use Rattle.spv_annotate.specs.Notes as specs;
 ghost use Rattle.spv_annotate.specs.Notes.{opencl_lines};
 
-use spv_tokens::{split_line, split_token};
+use spv_lines::{split_line, split_token};
 use std::alloc::{AllocError, Global};
 
 /// A line for each number, from 0: the name of the instruction of that number, and how many operands it takes, of printf

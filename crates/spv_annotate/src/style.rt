@@ -9,7 +9,8 @@ pub const HEAD: &str = r#"<!doctype html>
 <meta http-equiv=Content-Security-Policy content="default-src 'none';style-src 'unsafe-inline'">
 <title>"#;
 
-/// What stands between the title and the heading: the style, light or dark as the reader likes it, and for paper.
+/// What stands between the title and the heading: the style, light or dark as the reader likes it, and for paper. A
+/// browser lays out only the lines that are seen, each of which is one line high.
 pub const STYLE: &str = r#"</title>
 <style>
 :root{color-scheme:light dark;--ink:#1c2127;--paper:#fff;--dim:#5f6b76;--link:#0b57a4;
@@ -25,10 +26,10 @@ nav h1{font-size:1.2em;margin:0 0 .5em}
 nav details a{display:block;padding-left:1em}
 nav summary a{display:inline;padding:0}
 main{padding:1em;overflow-x:auto;font:13px/1.5 ui-monospace,monospace}
-main div{position:relative;width:max-content;white-space:pre}
+main div{width:max-content;white-space:pre;content-visibility:auto;contain-intrinsic-size:auto 1.5em}
 main h2,main h3{display:inline;font:inherit;font-weight:bold;margin:0}
 main i{font-style:normal;color:var(--dim)}
-main u{position:absolute;left:100%;bottom:0;padding-left:1ch;font-size:.85em;text-decoration:none}
+main u{float:right;padding:.15em 0 0 1ch;font-size:.85em;text-decoration:none}
 main u a:before{content:attr(href)" "}
 main .walk{background:var(--walk-paper)}
 main .fault,main .fault i{color:var(--bad)}
@@ -38,7 +39,7 @@ main div:target{background:var(--here)}
 nav{position:sticky;top:0;flex:0 0 20em;height:100vh;overflow-y:auto;border:0;border-right:1px solid var(--rule)}
 main{flex:1;min-width:0}}
 @media print{body{display:block}nav{position:static;height:auto;border:0}main{overflow:visible}
-main div{width:auto;white-space:pre-wrap}main u{position:static}}
+main div{width:auto;white-space:pre-wrap;content-visibility:visible}main u{float:none}}
 </style>
 </head>
 <body>

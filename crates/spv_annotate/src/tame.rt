@@ -2,15 +2,15 @@
 
 ghost use Rattle.std.specs.Prelude.{◌≡◌, ◌++◌, OnOk, string_bytes, true};
 ghost use Rattle.std.specs.List.{list_all};
-ghost use Rattle.spv_fault_lines.specs.Plain.{plain_of};
+ghost use Rattle.spv_lines.specs.Plain.{plain_of};
 ghost use Rattle.spv_annotate.specs.inner.Tame.{is_tame_octet};
 
-use spv_fault_lines::push_plain;
+use spv_lines::push_plain;
 use std::alloc::AllocError;
 
 /// Whether all octets are of ASCII, and none is a control character. It looks at all of them, so that a compiler can
 /// take many at a time.
-fn are_tame(octets: &[u8]) -> bool
+pub fn are_tame(octets: &[u8]) -> bool
     ensures { result ≡ list_all is_tame_octet octets.now }
 {
     let mut tame = true;

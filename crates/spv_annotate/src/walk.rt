@@ -12,7 +12,7 @@ ghost use Rattle.spv_annotate.specs.inner.Numbers.{kept};
 use crate::finding::Finding;
 use crate::linked::{Quoting, id_at, part_size};
 use crate::numbers::Numbers;
-use spv_tokens::split_line;
+use spv_lines::split_line;
 use std::alloc::{AllocError, Global};
 
 /// Keeps an id, if there is one.

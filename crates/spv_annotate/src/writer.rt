@@ -8,7 +8,7 @@ ghost use Rattle.spv_module.specs.Module.{plain_inst, plain_insts};
 ghost use Rattle.spv_module.specs.Operand.{PlainInst};
 ghost use Rattle.spv_layout.specs.Place.{IsShort, first_word_of, word_count};
 ghost use Rattle.spv_lines.specs.Text.{inst_line, lines_of};
-ghost use Rattle.spv_fault_lines.specs.Plain.{plain_of};
+ghost use Rattle.spv_lines.specs.Plain.{plain_of};
 ghost use Rattle.spv_annotate.specs.Document as specs;
 ghost use Rattle.spv_annotate.specs.Document.{IsSpelled, IsSubject, Subject, begun, document, entry, header_piece};
 ghost use Rattle.spv_annotate.specs.Document.{is_of, line_pieces, mark_piece, marks};
@@ -26,11 +26,11 @@ use crate::known::Known;
 use crate::piece::{Pen, Piece};
 use crate::section::section_of;
 use crate::standing::Standing;
-use crate::tame::push_tame;
+use crate::tame::are_tame;
+use spv_lines::{push_plain, split_line};
 use spv_module::{Inst, Module, opcode};
 use spv_printer::show_listed;
 use spv_table::Table;
-use spv_tokens::split_line;
 use std::alloc::{AllocError, Global};
 
 /// What is to be written.
@@ -51,7 +51,7 @@ pub struct Task<'m, 'a> {
 /// Texts that are made anew for each line.
 #[derive(Drop)]
 struct Drafts {
-    /// The line without control characters.
+    /// A line without control characters, if it has some.
     line: String,
     /// The comment behind it.
     comment: String,
@@ -138,9 +138,9 @@ fn write_marks<P: Pen>(pen: &mut P, task: &Task<'_, '_>, at: u32) -> Result<(), 
     }
 }
 
-/// Makes the line of an instruction without control characters, and the comment behind it.
-fn draft(
-    drafts: &mut Drafts,
+/// Makes the comment behind the line of an instruction.
+fn draft_comment(
+    draft: &mut String,
     task: &Task<'_, '_>,
     at: u32,
     word: u32,
@@ -149,29 +149,44 @@ fn draft(
     requires known { IsKnown (plain_insts task.now.«module».now) task.now.known.now }
     requires within { at < length (plain_insts task.now.«module».now) }
     requires word { word ≡ first_word_of (plain_insts task.now.«module».now) at }
-    ensures line { OnOk result (string_bytes drafts.new.line ≡ plain_of line.now) }
-    ensures comment { OnOk result (string_bytes drafts.new.comment ≡ comment (plain_insts task.now.«module».now)
-        (value_in task.now.known.now.values at) at (plain_of line.now)) }
+    ensures { OnOk result (string_bytes draft.new ≡ comment (plain_insts task.now.«module».now)
+        (value_in task.now.known.now.values at) at line.now) }
 {
-    drafts.line.clear();
-    push_tame(&mut drafts.line, line)?;
-    drafts.comment.clear();
+    draft.clear();
     let insts = task.module.insts.as_slice();
-    let text = drafts.line.as_str();
-    push_comment(&mut drafts.comment, insts, task.known, at, word, text)
+    push_comment(draft, insts, task.known, at, word, line)
 }
 
-/// Writes the line of an instruction and the comment behind it.
-fn write_drafts<P: Pen>(pen: &mut P, drafts: &Drafts, at: u32) -> Result<(), AllocError>
-    ensures { OnOk result (IsWritten P.text P.writes (Line at (string_bytes drafts.now.line)
-        ∷ Comment (string_bytes drafts.now.comment) ∷ Break ∷ []) pen.old pen.new) }
+/// Writes a line of an instruction and a comment behind it.
+fn write_both<P: Pen>(pen: &mut P, at: u32, line: &str, comment: &str) -> Result<(), AllocError>
+    ensures { OnOk result (IsWritten P.text P.writes (Line at line.now ∷ Comment comment.now ∷ Break ∷ [])
+        pen.old pen.new) }
 {
     pen.write(Piece::Line {
         inst: at,
-        text: drafts.line.as_str(),
+        text: line,
     })?;
-    pen.write(Piece::Comment(drafts.comment.as_str()))?;
+    pen.write(Piece::Comment(comment))?;
     pen.write(Piece::Break)
+}
+
+/// Writes the line of an instruction, which has no control characters, with its comment. `draft` is room for that.
+fn write_plain<P: Pen>(
+    pen: &mut P,
+    task: &Task<'_, '_>,
+    draft: &mut String,
+    at: u32,
+    word: u32,
+    line: &str,
+) -> Result<(), AllocError>
+    requires known { IsKnown (plain_insts task.now.«module».now) task.now.known.now }
+    requires within { at < length (plain_insts task.now.«module».now) }
+    requires word { word ≡ first_word_of (plain_insts task.now.«module».now) at }
+    ensures { (lines : List (List ℕ)) → OnOk result (IsWritten P.text P.writes
+        (line_pieces (subject_of task.now lines) at line.now) pen.old pen.new) }
+{
+    draft_comment(draft, task, at, word, line)?;
+    write_both(pen, at, line, draft.as_str())
 }
 
 /// Writes the line of an instruction, with its comment.
@@ -189,8 +204,13 @@ fn write_line<P: Pen>(
     ensures { (lines : List (List ℕ)) → OnOk result (IsWritten P.text P.writes
         (line_pieces (subject_of task.now lines) at (plain_of line.now)) pen.old pen.new) }
 {
-    draft(drafts, task, at, word, line)?;
-    write_drafts(pen, drafts, at)
+    if are_tame(line.as_bytes()) {
+        return write_plain(pen, task, &mut drafts.comment, at, word, line);
+    }
+    drafts.line.clear();
+    push_plain(&mut drafts.line, line)?;
+    let text = drafts.line.as_str();
+    write_plain(pen, task, &mut drafts.comment, at, word, text)
 }
 
 /// Whether the first instruction of a function, if there is one, defines an id.

@@ -9,7 +9,7 @@ use Rattle.std.specs.Str.{IsAscii}
 use lib.Dec.{ltb}
 use lib.Utf8.{encode, next}
 use Rattle.spv_lines.specs.Digits.{hex_digit}
-use Rattle.spv_fault_lines.specs.Plain.{escaped}
+use Rattle.spv_lines.specs.Plain.{escaped}
 use Rattle.spv_pictures.specs.Label.{drawn, drawn_text, is_hidden, label_text, marked}
 use Rattle.spv_pictures.specs.Reading.{InText, is_mark, read_back, read_in}
 use Rattle.spv_pictures.specs.inner.Free.{is_free, is_plain}

@@ -2,7 +2,7 @@
 use Rattle.std.specs.Prelude.{◌++◌, ◌==◌, ◌||◌, ◌&&◌, ℕ, List, [], ◌∷◌, Option, Some, None, Bool, codes, decimal}
 use Rattle.std.specs.Prelude.{encode_utf8, flat_map, nat_le, nat_lt, if◌then◌else◌}
 use Rattle.std.specs.Str.{chars}
-use Rattle.spv_fault_lines.specs.Plain.{escaped}
+use Rattle.spv_lines.specs.Plain.{escaped}
 
 -- is a character not drawn as it is: one of the control characters, from U+0000 to U+001F and from U+007F to U+009F, or
 -- U+FFFE or U+FFFF, which XML does not have

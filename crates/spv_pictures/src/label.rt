@@ -2,7 +2,7 @@
 ghost use Rattle.std.specs.Prelude.{◌≡◌, ◌<◌, ◌++◌, true, OnOk, decimal, encode_utf8, flat_map, string_bytes};
 ghost use Rattle.std.specs.List.{list_all};
 ghost use Rattle.spv_lines.specs.Digits.{hex_digit};
-ghost use Rattle.spv_fault_lines.specs.Plain.{escaped};
+ghost use Rattle.spv_lines.specs.Plain.{escaped};
 ghost use Rattle.spv_pictures.specs.Label as label;
 ghost use Rattle.spv_pictures.specs.Label.{drawn, label_text, marked, node_name, shown_id};
 ghost use Rattle.spv_pictures.specs.inner.Free.{is_free, is_plain};

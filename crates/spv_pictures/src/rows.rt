@@ -7,8 +7,8 @@ ghost use Rattle.spv_pictures.specs.Blocks as blocks;
 ghost use Rattle.spv_pictures.specs.Blocks.{rows_from};
 ghost use Rattle.spv_pictures.specs.inner.Rows.{plain_row, plain_rows};
 
+use spv_lines::split_line;
 use spv_module::{Inst, opcode};
-use spv_tokens::split_line;
 use std::alloc::{AllocError, Global};
 
 /// An instruction of a function.

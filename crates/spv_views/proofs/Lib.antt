@@ -1,1 +1,2 @@
 pub mod Viewings
+pub mod lemmas

@@ -1,8 +1,9 @@
-//! What is written of a module for people to look at: its text with comments, a page, and graphs.
+//! What is written of a module for people to look at: its text with comments, a page, and graphs; and why a text fails.
 #![tactic(auto)]
 
 mod finding;
 pub mod laws;
+pub mod text_fault;
 mod view;
 mod viewing;
 

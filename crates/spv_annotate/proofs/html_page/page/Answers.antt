@@ -16,7 +16,7 @@ pub find_namings-requires : goal.find_namings-requires
 find_namings-requires c = rw (c.as_slice-insts.ensures.value) (few c.args.module.now.insts.items c.requires.words)
 
 pub new-requires : goal.new-requires
-new-requires c = rw (c.as_slice-insts.ensures.value) (few c.args.module.now.insts.items c.requires.words)
+new-requires c = rw (c.as_slice-insts.ensures.value) c.requires.words
 
 pub page_contents-requires : goal.page_contents-requires
 page_contents-requires c = rw (c.as_slice-insts.ensures.value) (few c.args.module.now.insts.items c.requires.words)

@@ -3,7 +3,7 @@ use Rattle.std.specs.Prelude.{if◌then◌else◌, is_some}
 use Rattle.std.proofs.lemmas.Result.{IfOk-weaker}
 use Rattle.spv_lines.specs.Text.{inst_line}
 use Rattle.spv_module.specs.Module.{plain_insts}
-use Rattle.spv_fault_lines.specs.Plain.{plain_of}
+use Rattle.spv_lines.specs.Plain.{plain_of}
 use Rattle.spv_annotate.specs.Document.{beginning, begun, entry, line_pieces, marks}
 use Rattle.spv_annotate.specs.Module.{inst_at, section_before}
 use Rattle.spv_annotate.specs.Piece.{IsWritten, PlainPiece}

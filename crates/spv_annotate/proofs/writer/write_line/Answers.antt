@@ -1,24 +1,38 @@
-use Rattle.std.proofs.Common.{List, ℕ, [], ◌∷◌, string_bytes, subst}
+use Rattle.std.proofs.Common.{◌≡◌, ◌∙◌, ◌++◌, List, ℕ, ap, subst, sym}
+use Rattle.std.specs.List.{list_all}
 use Rattle.std.proofs.lemmas.Result.{IfOk-weaker}
-use Rattle.spv_fault_lines.specs.Plain.{plain_of}
+use Rattle.spv_lines.specs.Plain.{plain_of}
 use Rattle.spv_annotate.specs.Document.{line_pieces}
-use Rattle.spv_annotate.specs.Piece.{Break, Comment, IsWritten, Line}
+use Rattle.spv_annotate.specs.Piece.{IsWritten}
+use Rattle.spv_annotate.specs.inner.Tame.{is_tame_octet}
 use Rattle.spv_annotate.specs.inner.Task.{subject_of}
+use Rattle.spv_annotate.proofs.Plains.{plain_same}
 use Rattle.spv_annotate.proofs.writer.write_line.Goals as goal
+
+pub returns-then-are_tame : goal.returns-then-are_tame
+returns-then-are_tame g c = λ lines.
+    let text = g.P.Pen.text in
+    let writes = g.P.Pen.writes in
+    let a = c.args.pen.now in
+    let b = c.write_plain.new.pen in
+    let S = subject_of c.args.task.now lines in
+    let line = c.args.line.now in
+    let h = ap (list_all is_tame_octet) (sym c.as_bytes.ensures.value) ∙ (sym c.are_tame.ensures ∙ c.if-are_tame.true) in
+    IfOk-weaker c.write_plain.result (λ _. IsWritten text writes (line_pieces S c.args.at line) a b)
+    (λ _. IsWritten text writes (line_pieces S c.args.at (plain_of line)) a b)
+    (λ _ k. subst (λ (t : List ℕ). IsWritten text writes (line_pieces S c.args.at t) a b) (sym (plain_same line h)) k)
+    (c.write_plain.ensures lines)
 
 pub returns : goal.returns
 returns g c = λ lines.
     let text = g.P.Pen.text in
     let writes = g.P.Pen.writes in
     let a = c.args.pen.now in
-    let b = c.write_drafts.new.pen in
-    let at = c.args.at in
-    let d = c.draft.new.drafts in
-    let e = c.in_ok-draft.ensures.line in
-    let f = c.in_ok-draft.ensures.comment in
-    IfOk-weaker c.write_drafts.result (λ _. IsWritten text writes (Line at (string_bytes d.line) ∷ Comment (string_bytes d.comment) ∷ Break ∷ []) a b)
-    (λ _. IsWritten text writes (line_pieces (subject_of c.args.task.now lines) at (plain_of c.args.line.now)) a b)
-    (λ _ h.
-    subst (λ (t : List ℕ). IsWritten text writes (Line at (plain_of c.args.line.now) ∷ Comment t ∷ Break ∷ []) a b) f
-    (subst (λ (t : List ℕ). IsWritten text writes (Line at t ∷ Comment (string_bytes d.comment) ∷ Break ∷ []) a b) e h))
-    c.write_drafts.ensures
+    let b = c.write_plain-2.new.pen in
+    let S = subject_of c.args.task.now lines in
+    let plain = plain_of c.args.line.now in
+    let e : c.as_str-text.result.now ≡ plain = c.as_str-text.ensures.value ∙ (c.in_ok-push_plain.ensures ∙ ap (λ z. z ++ plain) c.clear.ensures.bytes) in
+    IfOk-weaker c.write_plain-2.result (λ _. IsWritten text writes (line_pieces S c.args.at c.as_str-text.result.now) a b)
+    (λ _. IsWritten text writes (line_pieces S c.args.at plain) a b)
+    (λ _ k. subst (λ (t : List ℕ). IsWritten text writes (line_pieces S c.args.at t) a b) e k)
+    (c.write_plain-2.ensures lines)

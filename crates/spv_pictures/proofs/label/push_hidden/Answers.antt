@@ -3,7 +3,7 @@ use Rattle.std.specs.Prelude.{codes}
 use Rattle.std.proofs.lemmas.Bool.Decides.{nat_tests}
 use lib.Dec.{ltb}
 use lib.Utf8.{encode, next}
-use Rattle.spv_fault_lines.specs.Plain.{escaped}
+use Rattle.spv_lines.specs.Plain.{escaped}
 use Rattle.spv_pictures.specs.Label.{is_hidden, marked}
 use Rattle.spv_pictures.proofs.Added.{on_ok, on_pushed, two}
 use Rattle.spv_pictures.proofs.label.push_hidden.Goals as goal

@@ -1,6 +1,6 @@
 use Rattle.std.proofs.Common.{◌≡◌, ◌++◌, ◌∙◌, ℕ, true, false, flat_map, ap, sym, string_bytes}
 use Rattle.std.specs.Prelude.{encode_utf8, if◌then◌else◌}
-use Rattle.spv_fault_lines.specs.Plain.{escaped}
+use Rattle.spv_lines.specs.Plain.{escaped}
 use Rattle.spv_pictures.specs.Label.{drawn, is_hidden, marked}
 use Rattle.spv_pictures.specs.inner.Free.{is_free}
 use Rattle.spv_pictures.proofs.Added.{on_pushed}

@@ -1,0 +1,36 @@
+-- Texts that stand at the end of a buffer.
+use Rattle.std.proofs.Common.{◌≡◌, ◌++◌, ◌∙◌, ◌<◌, ◌≤◌, ◌+◌, ◌^◌, ℕ, List, [], ◌∷◌, length, drop, refl, true, ap, arith, append-nil, length-append, length-drop}
+use Rattle.std.specs.Prelude.{decimal, nat_lt}
+use Rattle.std.specs.List.{list_all}
+use Rattle.std.specs.Str.{IsUtf8}
+use Rattle.std.proofs.lemmas.Fmt.{IsAscii-decimal}
+use Rattle.std.proofs.lemmas.Str.{IsUtf8-from_ascii}
+use Rattle.spv_printer.proofs.Digits.{short_word}
+use Rattle.spv_annotate.proofs.Small.{ascii_by}
+
+-- a number leaves room
+pub room_left : (n m r k : ℕ) → m ≡ n → n < 2 ^ 32 → r + length (decimal m) ≡ k → k ≤ r + 10
+room_left n m r k e h s = let t = short_word n h in let u : r + length (decimal n) ≡ k = rw e at s in omega arith
+
+pub number_utf8 : (n : ℕ) → n < 2 ^ 64 → IsUtf8 (decimal n)
+number_utf8 n h = IsUtf8-from_ascii (decimal n) (IsAscii-decimal n h)
+
+-- what stands at the very end
+none_there : (d : List ℕ) → length d ≡ 0 → d ≡ []
+none_there [] n = refl
+none_there (b ∷ d) n = absurd cc
+
+pub at_end : (new x d : List ℕ) (start end : ℕ) → drop start new ≡ x ++ d → start + length x ≡ end → length new ≡ end → drop start new ≡ x
+at_end new x d start end e s l =
+    let a = length-drop start new in
+    let b : length (drop start new) ≡ length (x ++ d) = ap length e in
+    let f = length-append x d in
+    let n : length d ≡ 0 = omega (arith, a, b, f, s, l) in
+    e ∙ (ap (λ z. x ++ z) (none_there d n) ∙ append-nil x)
+
+-- and what stands before it
+pub before_end : (old new x y : List ℕ) (start end : ℕ) → drop start new ≡ x ++ drop end old → drop end old ≡ y → drop start new ≡ x ++ y
+before_end old new x y start end e f = e ∙ ap (λ z. x ++ z) f
+
+pub text_utf8 : (t : List ℕ) → list_all (λ b. nat_lt b 128) t ≡ true → IsUtf8 t
+text_utf8 t h = IsUtf8-from_ascii t (ascii_by t h)
