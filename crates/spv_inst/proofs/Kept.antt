@@ -1,5 +1,6 @@
 -- What is kept of the definitions, after one instruction more.
-use Rattle.std.proofs.Common.{◌≡◌, ◌++◌, ◌∷◌, [], ◌∙◌, sym, ℕ, List, Option, Some, None, Bool, true, false, cond, refl, ap}
+use Rattle.std.proofs.Common.{◌≡◌, ◌++◌, ◌∷◌, [], ◌∙◌, sym, ℕ, zero, suc, length, get_or, List, Option, Some, None, Bool, true, false, cond, refl, ap, arith, inl, inr}
+use Rattle.std.proofs.lemmas.Bool.Decides.{eqb_tells, nat_tests}
 use Rattle.std.specs.Prelude.{Result, Ok, Err, OnOk, option_map, nat_eq, if◌then◌else◌}
 use Rattle.spv_module.specs.declared.opcode.TheConstants.{TYPE_FLOAT}
 use Rattle.spv_inst.specs.declared.definitions.Definition.{Definition}
@@ -52,3 +53,17 @@ summary_is i opcode t w e f g = rw (← e, ← f, ← g) refl
 pub on_ok : {T E : Type 0} (r : Result T E) (P Q : Type 0) → (P → Q) → OnOk r P → OnOk r Q
 on_ok (Ok _) P Q f h = f h
 on_ok (Err _) P Q f h = tt
+
+same_tests : (a b : ℕ) → nat_eq (suc a) (suc b) ≡ nat_eq a b
+same_tests a b =
+    elim (eqb_tells a b) [
+      | inl p ↦ let e = p.1 in let f : nat_eq (suc a) (suc b) ≡ true = grind (arith, nat_tests) in f ∙ sym p.0
+      | inr p ↦ let e = p.1 in let f : nat_eq (suc a) (suc b) ≡ false = grind (arith, nat_tests) in f ∙ sym p.0
+    ]
+
+-- what stands at the places of a list with one place more
+pub kept_pushed : (near : List (Option Definition)) (d : Definition) (x : ℕ) → get_or (near ++ (Some d ∷ [])) x None ≡ cond (nat_eq (length near) x) (Some d) (get_or near x None)
+kept_pushed [] d zero = refl
+kept_pushed [] d (suc x) = let e : nat_eq 0 (suc x) ≡ false = grind (arith, nat_tests) in ap (λ b. cond b (Some d) None) (sym e)
+kept_pushed (n ∷ near) d zero = let e : nat_eq (suc (length near)) 0 ≡ false = grind (arith, nat_tests) in ap (λ b. cond b (Some d) n) (sym e)
+kept_pushed (n ∷ near) d (suc x) = kept_pushed near d x ∙ ap (λ b. cond b (Some d) (get_or near x None)) (sym (same_tests (length near) x))

@@ -30,3 +30,4 @@ pub mod Instructions
 pub mod Decoding
 pub mod Fit
 pub mod Octets
+pub mod Couples

@@ -234,7 +234,7 @@ pub record Turn (G : Table) (defined : Definitions) (known : Known) (before : Li
   pub near : IsNear defined known (after (start before opcode) out)
 
 -- the context within an instruction
-here_is : (b : List PlainInst) (p : ℕ) (out : List Plain) → after (start b p) out ≡ record { before = b; opcode = p; operands = out }
+pub here_is : (b : List PlainInst) (p : ℕ) (out : List Plain) → after (start b p) out ≡ record { before = b; opcode = p; operands = out }
 here_is b p out = after_is (start b p) out
 
 near_next : (defined : Definitions) (known next : Known) (b : List PlainInst) (p : ℕ) (out : List Plain) (o : Plain) → IsNear defined known (after (start b p) out)
@@ -244,7 +244,7 @@ near_next defined known next b p out o k e t f =
     let n : IsNear defined known (record { before = b; opcode = p; operands = out }) = rw (here_is b p out) at k in
     rw (here_is b p (out ++ (o ∷ []))) (near_after defined known next _ o n e t f)
 
-settled_some : (G : Table) (c : Context) (pattern : List Due) (words : List ℕ) (out : List Plain) (ds : List Due) (taken : ℕ) (rest : List ℕ) → 0 < length rest
+pub settled_some : (G : Table) (c : Context) (pattern : List Due) (words : List ℕ) (out : List Plain) (ds : List Due) (taken : ℕ) (rest : List ℕ) → 0 < length rest
     → Sofar G c pattern words out ds rest taken → Sofar G c pattern words out (settled true ds) rest taken
 settled_some G c pattern words out ds taken [] h k = absurd (omega arith)
 settled_some G c pattern words out ds taken (u ∷ us) h k = at_settled G c pattern words out ds taken u us k
@@ -255,7 +255,7 @@ left_some G c pattern words out taken [] h k = absurd (omega arith)
 left_some G c pattern words out taken (u ∷ us) h k = at_left G c pattern words out taken u us k
 
 -- the words left after some of them
-drop-between : (ws : List ℕ) (at end n : ℕ) → n ≤ end - at → drop n (between ws at end) ≡ between ws (at + n) end
+pub drop-between : (ws : List ℕ) (at end n : ℕ) → n ≤ end - at → drop n (between ws at end) ≡ between ws (at + n) end
 drop-between ws at end n h =
     let e : end - at ≡ n + (end - (at + n)) = omega arith in
     let d : drop n (take (n + (end - (at + n))) (drop at ws)) ≡ take (end - (at + n)) (drop n (drop at ws)) = drop-take n (end - (at + n)) (drop at ws) in

@@ -1,5 +1,6 @@
 -- Definitions that serve the code alone.
 pub mod Items
+pub mod Pairs
 pub mod Pending
 pub mod Batch
 pub mod Flat

@@ -1,5 +1,5 @@
 ghost use Rattle.std.specs.Prelude.{◌≡◌, ◌++◌, ◌∷◌, ◌<◌, ◌≤◌, [], ℕ, List, Some, None};
-ghost use Rattle.std.specs.Prelude.{false, nat_eq, slice_index_or, if◌then◌else◌, length, OnOk};
+ghost use Rattle.std.specs.Prelude.{false, nat_eq, slice_index_or, if◌then◌else◌, length, OnOk, MatchOption};
 ghost use Rattle.std.specs.Prelude.{option_and_then, option_map, unwrap_or};
 ghost use Rattle.spv_module.specs.declared.opcode.TheConstants.{TYPE_FLOAT};
 ghost use Rattle.spv_module.specs.Operand.{PlainInst};
@@ -22,6 +22,24 @@ struct Definition {
     is_float: bool,
     /// The width that it declares, in bits, if it is OpTypeInt or OpTypeFloat.
     width: Option<u8>,
+}
+
+/// The id of the result that operands have and that of its type, each the first of its kind. None where they have no
+/// result.
+#[inline(always)]
+fn defined_in(operands: &[Operand]) -> Option<(u32, Option<u32>)>
+    ensures { MatchOption result (operand.result_in (plain_operands operands.now) ≡ None)
+        (λ p. (operand.result_in (plain_operands operands.now) ≡ Some p.0)
+        × (operand.type_in (plain_operands operands.now) ≡ p.1)) }
+{
+    // Mostly they come first.
+    if let [Operand::OfType(type_id), Operand::Result(id), ..] = operands {
+        return Some((*id, Some(*type_id)));
+    }
+    match result_in(operands) {
+        Some(id) => Some((id, type_in(operands))),
+        None => None,
+    }
 }
 
 /// The width that operands beginning with a result and a word tell, in bits.
@@ -81,6 +99,21 @@ fn widen(near: &mut Vec<Option<Definition>>, id: u32) -> Result<(), AllocError>
     Ok(())
 }
 
+/// Keeps what is new of the id whose place would come next in the list.
+#[inline(always)]
+fn push_next(
+    near: &mut Vec<Option<Definition>>,
+    id: u32,
+    definition: Definition,
+) -> Result<(), AllocError>
+    requires { id ≡ length near.old.items }
+    ensures { OnOk result ((x : ℕ) → slice_index_or near.new.items x None
+        ≡ (if nat_eq id x then Some definition else slice_index_or near.old.items x None)) }
+{
+    near.push(Some(definition))?;
+    Ok(())
+}
+
 impl Definitions {
     /// What no instructions tell: nothing of any id. It takes no memory.
     pub fn new(alloc: Global) -> Definitions
@@ -100,10 +133,13 @@ impl Definitions {
             → kept self.new x ≡ (if nat_eq id x then Some definition else kept self.old x)) }
         ensures reach { self.new.reach ≡ self.old.reach }
     {
+        let place = id as usize;
         if id < self.reach {
+            if place == self.near.len() {
+                return push_next(&mut self.near, id, definition);
+            }
             widen(&mut self.near, id)?;
         }
-        let place = id as usize;
         if place < self.near.len() {
             self.near[place] = Some(definition);
             return Ok(());
@@ -133,11 +169,11 @@ impl Definitions {
         // The list may grow no less than before.
         ensures reach { self.old.reach ≤ self.new.reach }
     {
-        let Some(id) = result_in(operands) else {
+        let Some((id, type_id)) = defined_in(operands) else {
             return Ok(());
         };
         let definition = Definition {
-            type_id: type_in(operands),
+            type_id,
             is_float: opcode == opcode::TYPE_FLOAT,
             width: declared_width(opcode, operands),
         };

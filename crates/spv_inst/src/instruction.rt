@@ -1,6 +1,6 @@
 //! One instruction.
 
-ghost use Rattle.std.specs.Prelude.{◌≡◌, ◌≤◌, ◌<◌, ◌+◌, ◌-◌, ◌++◌, ◌∷◌, [], List};
+ghost use Rattle.std.specs.Prelude.{◌≡◌, ◌≤◌, ◌<◌, ◌+◌, ◌-◌, List};
 ghost use Rattle.std.specs.Prelude.{length, map, take, drop, IfOk, IfErr, OnOk};
 ghost use Rattle.spv_table.specs.Table.{Item, pattern_of, IsWhole};
 ghost use Rattle.spv_inst.specs.inner.Pending.{due_first};
@@ -8,32 +8,24 @@ ghost use Rattle.spv_inst.specs.Flat.{due};
 ghost use Rattle.spv_table.specs.inner.Form.{form_of};
 ghost use Rattle.spv_module.specs.Instruction.{IsInstruction};
 ghost use Rattle.spv_inst.specs.inner.Known.{Knows};
-ghost use Rattle.spv_module.specs.Module.{plain_operand, plain_operands};
-ghost use Rattle.spv_module.specs.Operand.{PlainInst, type_in, start};
+ghost use Rattle.spv_module.specs.Module.{plain_operands};
+ghost use Rattle.spv_module.specs.Operand.{PlainInst, start};
 ghost use Rattle.spv_inst.specs.inner.Reading.{between};
-ghost use Rattle.spv_inst.specs.inner.Sofar.{Sofar};
+ghost use Rattle.spv_inst.specs.inner.Sofar.{Sofar, SofarAt};
 ghost use Rattle.spv_module.specs.Spelling.{Match};
 ghost use Rattle.spv_inst.specs.inner.Step.{IsMisfit, IsDeadFrom};
-ghost use Rattle.spv_module.specs.Width.{first_id};
 
 use crate::items::DueItems;
+use crate::known::{known_after, known_of};
+use crate::pairs::read_pairs;
 use crate::pending::Pending;
-use crate::plain::{Rest, next_kind, read_words};
-use crate::reader::{Known, Scene, take_operand};
+use crate::plain::{Rest, next_kind, read_bare};
+use crate::reader::{Place, Scene, take_operand};
+use crate::repeated::read_run;
+use crate::words::read_words;
 use spv_module::{Fault, Operand, Rule, Stop};
 use spv_table::Entry;
 use spv_words::word;
-
-/// Where an instruction lies.
-#[derive(Clone, Copy)]
-struct Place {
-    /// How many instructions come before.
-    number: u32,
-    opcode: u16,
-    /// The number of its second word in the module, and that of the word after its last.
-    first: u32,
-    end: u32,
-}
 
 /// An instruction that was read.
 #[derive(Clone, Copy)]
@@ -54,77 +46,6 @@ fn fault_at(number: u32, rule: Rule, word: u32) -> Stop
         inst: number,
         word,
     })
-}
-
-/// The result type that an operand is.
-fn type_in_operand(operand: &Operand<'_>) -> Option<u32>
-    ensures { result ≡ type_in (plain_operand operand.now ∷ []) }
-{
-    match operand {
-        Operand::OfType(id) => Some(*id),
-        Operand::Result(_)
-        | Operand::Id(_)
-        | Operand::Word(_)
-        | Operand::Number { .. }
-        | Operand::Text(_)
-        | Operand::Value { .. }
-        | Operand::Mask { .. } => None,
-    }
-}
-
-/// The id that an operand is.
-fn id_in_operand(operand: &Operand<'_>) -> Option<u32>
-    ensures { result ≡ first_id (plain_operand operand.now ∷ []) }
-{
-    match operand {
-        Operand::OfType(id) | Operand::Result(id) | Operand::Id(id) => Some(*id),
-        Operand::Word(_)
-        | Operand::Number { .. }
-        | Operand::Text(_)
-        | Operand::Value { .. }
-        | Operand::Mask { .. } => None,
-    }
-}
-
-/// What is known after one operand more, where `operands` are the instruction's operands before it: the first id of a
-/// result's type counts, and the first operand.
-pub fn known_after(known: Known, operands: &[Operand<'_>], operand: &Operand<'_>) -> Known
-    ensures opcode { result.opcode ≡ known.opcode }
-    ensures type_id { known.type_id ≡ type_in (plain_operands operands.now)
-        → result.type_id ≡ type_in (plain_operands operands.now ++ plain_operand operand.now ∷ []) }
-    ensures first { known.first ≡ first_id (plain_operands operands.now)
-        → result.first ≡ first_id (plain_operands operands.now ++ plain_operand operand.now ∷ []) }
-{
-    let type_id = match known.type_id {
-        Some(id) => Some(id),
-        None => type_in_operand(operand),
-    };
-    let first = match operands.first() {
-        Some(_) => known.first,
-        None => id_in_operand(operand),
-    };
-    Known {
-        opcode: known.opcode,
-        type_id,
-        first,
-    }
-}
-
-/// What is known after some operands of an instruction: the first id of a result's type counts, and the first operand.
-fn known_of(opcode: u16, operands: &[Operand<'_>]) -> Known
-    ensures opcode { result.opcode ≡ opcode }
-    ensures type_id { result.type_id ≡ type_in (plain_operands operands.now) }
-    ensures first { result.first ≡ first_id (plain_operands operands.now) }
-{
-    let first = match operands {
-        [first, ..] => id_in_operand(first),
-        [] => None,
-    };
-    Known {
-        opcode,
-        type_id: spv_module::type_in(operands),
-        first,
-    }
 }
 
 /// Reads what is left of an instruction after some operands, by the stack of pending operands, which is begun anew:
@@ -189,6 +110,50 @@ fn read_rest<'t, 'a>(
     }
 }
 
+/// Reads what is left of an instruction after operands of one word: `begin` is the place of the instruction's first
+/// operand in the list. After an error nothing is said of what is left of the list.
+#[inline(never)]
+fn read_further<'t, 'a>(
+    scene: &Scene<'t, '_, 'a>,
+    pending: &mut Pending<'t>,
+    operands: &mut Vec<Operand<'a>>,
+    place: Place,
+    begin: usize,
+    rest: Rest<'t>,
+) -> Result<(), Stop>
+    requires forms { scene.now.forms.now ≡ map form_of scene.now.table.now.kinds }
+    requires whole { IsWhole scene.now.table.now }
+    requires within { (place.first ≤ rest.at) × (rest.at ≤ place.end) }
+    requires fits { place.end ≤ length scene.now.image.now }
+    requires room { begin ≤ length operands.now.items }
+    // With the operands that stand there already, what is added is what the words from the first up to the end spell.
+    ensures read { (before : List PlainInst) (pattern : List Item) → Knows scene.now.definitions.now before
+        → SofarAt scene.now.table.now before place.opcode pattern scene.now.image.now place.first place.end
+        (drop begin operands.old.items) (due_first rest.entry.kinds.now rest.entry.items.left.now) rest.entry.at
+        → OnOk result
+        (Match scene.now.table.now (start before place.opcode) pattern (plain_operands (drop begin operands.new.items))
+        (between scene.now.image.now place.first place.end)) }
+    ensures kept { OnOk result (take begin operands.new.items ≡ take begin operands.old.items) }
+    ensures few { OnOk result (length operands.new.items + rest.entry.at ≤ length operands.old.items + place.end) }
+    // A fault tells what refuses these words.
+    ensures misfit { (before : List PlainInst) (pattern : List Item) → Knows scene.now.definitions.now before
+        → SofarAt scene.now.table.now before place.opcode pattern scene.now.image.now place.first place.end
+        (drop begin operands.old.items) (due_first rest.entry.kinds.now rest.entry.items.left.now) rest.entry.at
+        → IfErr result
+        (λ e. IsMisfit scene.now.table.now (start before place.opcode) pattern
+        (between scene.now.image.now place.first place.end) place.number place.first e) }
+{
+    let rest = read_words(scene, operands, place, begin, rest)?;
+    let rest = read_run(scene, operands, place, begin, rest)?;
+    let rest = read_pairs(scene, operands, place, begin, rest)?;
+    if rest.at == place.end {
+        if let None = next_kind(rest.kinds, rest.items, false) {
+            return Ok(());
+        }
+    }
+    read_rest(scene, pending, operands, place, begin, rest)
+}
+
 /// Adds the operands of an instruction to a list, by its entry: all of its further words, and no fewer. After an error
 /// nothing is said of what is left of the list.
 #[inline(always)]
@@ -217,10 +182,9 @@ fn read_operands<'t, 'a>(
         (λ e. IsMisfit scene.now.table.now (start before place.opcode) (pattern_of entry.now)
         (between scene.now.image.now place.first place.end) place.number place.first e) }
 {
-    let start = operands.len();
+    let begin = operands.len();
     let items = DueItems::of(&entry.operands);
-    let rest = read_words(
-        scene.table,
+    let rest = read_bare(
         scene.forms,
         scene.image,
         operands,
@@ -229,11 +193,19 @@ fn read_operands<'t, 'a>(
         place.end,
     )?;
     if rest.at == place.end {
-        if let None = next_kind(rest.kinds, rest.items, false) {
+        if let None = rest.items.next_item(false) {
             return Ok(());
         }
     }
-    read_rest(scene, pending, operands, place, start, rest)
+    // What the call takes is put together here, since most instructions do not come to it.
+    let scene = *scene;
+    let place = Place {
+        number: place.number,
+        opcode: place.opcode,
+        first: place.first,
+        end: place.end,
+    };
+    read_further(&scene, pending, operands, place, begin, rest)
 }
 
 /// Reads the instruction whose first word is the module's word `at`, counted from 0, after so many instructions (SPIR-V

@@ -1,6 +1,6 @@
 //! The items of a pattern that are due.
 
-ghost use Rattle.std.specs.Prelude.{◌≡◌, ◌∷◌, [], true, false, map, MatchOption};
+ghost use Rattle.std.specs.Prelude.{◌≡◌, ◌∷◌, [], true, false, map, IfSome, MatchOption};
 ghost use Rattle.spv_table.specs.inner.Pattern.{EndsOptional};
 ghost use Rattle.spv_module.specs.Shape.{alone};
 ghost use Rattle.spv_inst.specs.Flat.{OneOf, due};
@@ -58,6 +58,44 @@ impl<'t> DueItems<'t> {
                 Some((item.kind, items))
             }
             Quantifier::Many => Some((item.kind, self)),
+        }
+    }
+
+    /// The kind of the next item, where words are left and it comes once at most, and what is due after it.
+    #[inline(always)]
+    pub(crate) fn next_single(self) -> Option<(u32, DueItems<'t>)>
+        ensures { IfSome result
+            (λ p. settled true (map due (items_of self.entry.left.now)) ≡ OneOf (alone p.0)
+            ∷ map due (items_of p.1.left.now)) }
+    {
+        let Some((item, left)) = self.left.split_first() else {
+            return None;
+        };
+        match item.quantifier {
+            Quantifier::One | Quantifier::Maybe => {
+                let items = DueItems {
+                    left,
+                    optional: self.optional,
+                };
+                Some((item.kind, items))
+            }
+            Quantifier::Many => None,
+        }
+    }
+
+    /// The kind of the next item, where it comes any number of times: after one operand of it the same is due.
+    #[inline(always)]
+    pub(crate) fn repeated(self) -> Option<u32>
+        ensures { IfSome result
+            (λ k. settled true (map due (items_of self.entry.left.now)) ≡ OneOf (alone k)
+            ∷ map due (items_of self.entry.left.now)) }
+    {
+        let Some((item, _)) = self.left.split_first() else {
+            return None;
+        };
+        match item.quantifier {
+            Quantifier::Many => Some(item.kind),
+            Quantifier::One | Quantifier::Maybe => None,
         }
     }
 

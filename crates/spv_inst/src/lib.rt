@@ -8,12 +8,16 @@ pub mod due;
 mod enumerant;
 mod instruction;
 mod items;
+mod known;
 mod laws;
 mod number;
+mod pairs;
 mod pending;
 mod plain;
 mod reader;
+mod repeated;
 mod text;
+mod words;
 mod written;
 
 pub use decoder::decode;

@@ -1,24 +1,22 @@
 //! Operands of one word.
 
-ghost use Rattle.std.specs.Prelude.{◌≡◌, List, ◌≤◌, ◌<◌, ◌+◌, ◌-◌, ◌++◌, ◌∷◌, []};
+ghost use Rattle.std.specs.Prelude.{◌≡◌, ℕ, ◌≤◌, ◌<◌, ◌+◌, ◌-◌, ◌++◌, ◌∷◌, []};
 ghost use Rattle.std.specs.Prelude.{length, map, take, drop, IfOk, IfSome, MatchOption};
 ghost use Rattle.spv_table.specs.Table.{Table, kind_of};
-ghost use Rattle.spv_table.specs.declared.table.Enumerant.{Enumerant};
 ghost use Rattle.spv_table.specs.declared.form.Form.TheVariants.{Leaf as LeafForm};
 ghost use Rattle.spv_table.specs.inner.Form.{form_of, form_at};
 ghost use Rattle.spv_module.specs.Operand.{Context};
 ghost use Rattle.spv_module.specs.Module.{plain_operand, plain_operands};
-ghost use Rattle.spv_module.specs.Shape.{alone, shape_of, AsMask};
+ghost use Rattle.spv_module.specs.Shape.{alone, shape_of};
 ghost use Rattle.spv_module.specs.Spelling.{Takes};
 ghost use Rattle.spv_inst.specs.inner.Reading.{between};
 ghost use Rattle.spv_inst.specs.inner.Pending.{items_of, settled, due_first};
 ghost use Rattle.spv_inst.specs.Flat.{OneOf, due};
 ghost use Rattle.spv_inst.specs.inner.Sofar.{Sofar};
 
-use crate::enumerant::{joined, mask_kinds, value_kinds};
 use crate::items::DueItems;
 use spv_module::Operand;
-use spv_table::{Form, Leaf, Table, form_in};
+use spv_table::{Form, Leaf, form_in};
 use spv_words::{Image, word};
 use std::alloc::AllocError;
 
@@ -43,13 +41,6 @@ pub struct Next<'t> {
     pub items: DueItems<'t>,
 }
 
-/// An operand of one word, and the kinds of its parameters, which are due after it.
-#[derive(Clone, Copy)]
-struct Plain<'t, 'a> {
-    operand: Operand<'a>,
-    kinds: &'t [u32],
-}
-
 /// The next kind that is due of kinds in order and a pattern after them, where words are left (`more`) or not.
 #[inline(always)]
 pub fn next_kind<'t>(kinds: &'t [u32], items: DueItems<'t>, more: bool) -> Option<Next<'t>>
@@ -70,23 +61,10 @@ pub fn next_kind<'t>(kinds: &'t [u32], items: DueItems<'t>, more: bool) -> Optio
     }
 }
 
-/// The mask without a bit that a word is, of the kind of a number.
+/// The operand that a word is, where a kind asks for an id or a literal of one word.
 #[inline(always)]
-fn empty_mask<'a>(kind: u32, word: u32) -> Option<Operand<'a>>
-    ensures { (es : List Enumerant) → IfSome result
-        (λ o. Takes kind (AsMask es) (plain_operand o) (word ∷ []) []) }
-{
-    if word == 0 {
-        return Some(Operand::Mask { kind, value: word });
-    }
-    None
-}
-
-/// The operand that a word is, where the kind of a number asks for an id or a literal of one word, or for a mask and
-/// the word has no bit.
-#[inline(always)]
-fn bare_word<'a>(leaf: Leaf, kind: u32, word: u32) -> Option<Operand<'a>>
-    ensures { (G : Table) (c : Context) → form_at (kind_of G kind) ≡ LeafForm leaf
+pub fn bare_word<'a>(leaf: Leaf, word: u32) -> Option<Operand<'a>>
+    ensures { (G : Table) (c : Context) (kind : ℕ) → form_at (kind_of G kind) ≡ LeafForm leaf
         → IfSome result (λ o. Takes kind (shape_of G c (alone kind)) (plain_operand o) (word ∷ []) []) }
 {
     match leaf {
@@ -95,124 +73,31 @@ fn bare_word<'a>(leaf: Leaf, kind: u32, word: u32) -> Option<Operand<'a>>
         Leaf::Id => Some(Operand::Id(word)),
         Leaf::Integer => Some(Operand::Word(word)),
         Leaf::Word => Some(Operand::Word(word)),
-        Leaf::Mask => empty_mask(kind, word),
-        Leaf::ContextNumber | Leaf::Text | Leaf::Value | Leaf::Nothing => None,
+        Leaf::ContextNumber | Leaf::Text | Leaf::Value | Leaf::Mask | Leaf::Nothing => None,
     }
 }
 
 /// The same, where the kind has that form.
 #[inline(always)]
-fn bare_in_form<'a>(form: Form, kind: u32, word: u32) -> Option<Operand<'a>>
-    ensures { (G : Table) (c : Context) → form ≡ form_at (kind_of G kind)
+pub fn bare_in_form<'a>(form: Form, word: u32) -> Option<Operand<'a>>
+    ensures { (G : Table) (c : Context) (kind : ℕ) → form ≡ form_at (kind_of G kind)
         → IfSome result (λ o. Takes kind (shape_of G c (alone kind)) (plain_operand o) (word ∷ []) []) }
 {
     match form {
-        Form::Leaf(leaf) => bare_word(leaf, kind, word),
+        Form::Leaf(leaf) => bare_word(leaf, word),
         Form::Parts { .. } => None,
     }
 }
 
-/// The operand that a word is, where a kind of that form is due and asks for one word: an id, a literal of one word, a
-/// known value, or a mask of known bits of which no more than one has parameters.
-#[inline(always)]
-fn plain_word<'t, 'a>(table: &'t Table, form: Form, kind: u32, word: u32) -> Option<Plain<'t, 'a>>
-    ensures { (c : Context) → form ≡ form_at (kind_of table.now kind)
-        → IfSome result
-        (λ p. Takes kind (shape_of table.now c (alone kind)) (plain_operand p.operand) (word ∷ [])
-        (map alone p.kinds.now)) }
-{
-    let Form::Leaf(leaf) = form else {
-        return None;
-    };
-    match leaf {
-        Leaf::Value => {
-            let Some(kinds) = value_kinds(table, kind, word) else {
-                return None;
-            };
-            let operand = Operand::Value { kind, value: word };
-            Some(Plain { operand, kinds })
-        }
-        Leaf::Mask => {
-            let Some(kinds) = mask_kinds(table, kind, word) else {
-                return None;
-            };
-            let operand = Operand::Mask { kind, value: word };
-            Some(Plain { operand, kinds })
-        }
-        _ => {
-            let Some(operand) = bare_word(leaf, kind, word) else {
-                return None;
-            };
-            let kinds: &'t [u32] = &[];
-            Some(Plain { operand, kinds })
-        }
-    }
-}
-
-/// What is left of an instruction after operands without parameters.
-#[derive(Clone, Copy)]
-struct Back<'t> {
-    /// The items of its pattern that are due.
-    items: DueItems<'t>,
-    /// The number of the next word in the module, from 0.
-    at: u32,
-}
-
-/// Takes the ids, the literals of one word and the masks without a bit at the front of the words from `first` up to
+/// Takes the ids and the literals of one word at the front of the words from `first` up to
 /// `end`, both counted in words of the module from 0, by the items of a pattern, and adds them to a list. It stops
-/// before the first kind that asks for another operand (`bare_word`), or where no kind or no word is left.
+/// before the first kind that asks for another operand, before an item that comes any number of times, or where no kind
+/// or no word is left.
 ///
 /// An `AllocError` comes only where a growth of memory was refused, and then nothing is said of what is left of the
 /// list.
 #[inline(always)]
-fn read_bare<'t, 'a>(
-    forms: &[Form],
-    image: &Image,
-    operands: &mut Vec<Operand<'a>>,
-    items: DueItems<'t>,
-    first: u32,
-    end: u32,
-) -> Result<Back<'t>, AllocError>
-    requires order { first ≤ end }
-    requires fits { end ≤ length image.now }
-    // From the whole pattern and all words, the operands that are added bring the decoder to what is left.
-    ensures front { (G : Table) (c : Context) → forms.now ≡ map form_of G.kinds
-        → IfOk result
-        (λ r. Sofar G c (map due (items_of items.entry.left.now)) (between image.now first end)
-        (plain_operands (drop (length operands.old.items) operands.new.items)) (map due (items_of r.items.left.now))
-        (between image.now r.at end) (r.at - first)) }
-    ensures kept { IfOk result (λ _. take (length operands.old.items) operands.new.items ≡ operands.old.items) }
-    ensures room { IfOk result (λ _. length operands.old.items ≤ length operands.new.items) }
-    ensures few { IfOk result (λ r. length operands.new.items + first ≤ length operands.old.items + r.at) }
-    ensures within { IfOk result (λ r. (first ≤ r.at) × (r.at ≤ end)) }
-{
-    let mut items = items;
-    let mut at = first;
-    while at < end {
-        let Some((kind, later)) = items.next_item(true) else {
-            return Ok(Back { items, at });
-        };
-        let form = form_in(forms, kind);
-        let Some(operand) = bare_in_form(form, kind, word(image, at)) else {
-            return Ok(Back { items, at });
-        };
-        operands.push(operand)?;
-        items = later;
-        at += 1;
-    }
-    Ok(Back { items, at })
-}
-
-/// Takes the operands of one word at the front of the words from `first` up to `end`, both counted in words of the
-/// module from 0, by the items of a pattern, and adds them to a list, with their parameters. It stops before the first
-/// kind that asks for more (`plain_word`), before an operand with parameters that is itself a parameter and not the
-/// last one, or where no kind or no word is left. Most instructions have no other operands.
-///
-/// An `AllocError` comes only where a growth of memory was refused, and then nothing is said of what is left of the
-/// list.
-#[inline(always)]
-pub fn read_words<'t, 'a>(
-    table: &'t Table,
+pub fn read_bare<'t, 'a>(
     forms: &[Form],
     image: &Image,
     operands: &mut Vec<Operand<'a>>,
@@ -223,35 +108,42 @@ pub fn read_words<'t, 'a>(
     requires order { first ≤ end }
     requires fits { end ≤ length image.now }
     // From the whole pattern and all words, the operands that are added bring the decoder to what is left.
-    ensures front { (c : Context) → forms.now ≡ map form_of table.now.kinds
+    ensures front { (G : Table) (c : Context) → forms.now ≡ map form_of G.kinds
         → IfOk result
-        (λ r. Sofar table.now c (map due (items_of items.entry.left.now)) (between image.now first end)
+        (λ r. Sofar G c (map due (items_of items.entry.left.now)) (between image.now first end)
         (plain_operands (drop (length operands.old.items) operands.new.items)) (due_first r.kinds.now r.items.left.now)
         (between image.now r.at end) (r.at - first)) }
+    ensures kinds { IfOk result (λ r. r.kinds.now ≡ []) }
     ensures kept { IfOk result (λ _. take (length operands.old.items) operands.new.items ≡ operands.old.items) }
     ensures room { IfOk result (λ _. length operands.old.items ≤ length operands.new.items) }
     ensures few { IfOk result (λ r. length operands.new.items + first ≤ length operands.old.items + r.at) }
     ensures within { IfOk result (λ r. (first ≤ r.at) × (r.at ≤ end)) }
 {
-    let back = read_bare(forms, image, operands, items, first, end)?;
-    let mut kinds: &'t [u32] = &[];
-    let mut items = back.items;
-    let mut at = back.at;
+    let mut items = items;
+    let mut at = first;
     while at < end {
-        let Some(next) = next_kind(kinds, items, true) else {
-            return Ok(Rest { kinds, items, at });
+        let Some((kind, later)) = items.next_single() else {
+            return Ok(Rest {
+                kinds: &[],
+                items,
+                at,
+            });
         };
-        let form = form_in(forms, next.kind);
-        let Some(plain) = plain_word(table, form, next.kind, word(image, at)) else {
-            return Ok(Rest { kinds, items, at });
+        let form = form_in(forms, kind);
+        let Some(operand) = bare_in_form(form, word(image, at)) else {
+            return Ok(Rest {
+                kinds: &[],
+                items,
+                at,
+            });
         };
-        let Some(due) = joined(plain.kinds, next.kinds) else {
-            return Ok(Rest { kinds, items, at });
-        };
-        operands.push(plain.operand)?;
-        kinds = due;
-        items = next.items;
+        operands.push(operand)?;
+        items = later;
         at += 1;
     }
-    Ok(Rest { kinds, items, at })
+    Ok(Rest {
+        kinds: &[],
+        items,
+        at,
+    })
 }

@@ -26,6 +26,17 @@ pub struct Scene<'t, 'd, 'a> {
     pub image: &'a Image,
 }
 
+/// Where an instruction lies.
+#[derive(Clone, Copy)]
+pub struct Place {
+    /// How many instructions come before.
+    pub number: u32,
+    pub opcode: u16,
+    /// The number of its second word in the module, and that of the word after its last.
+    pub first: u32,
+    pub end: u32,
+}
+
 /// What the widths of numbers need of an instruction, as far as it was read or written.
 #[derive(Clone, Copy)]
 pub struct Known {

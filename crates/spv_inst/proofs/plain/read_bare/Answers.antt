@@ -24,5 +24,5 @@ loop-at-preserved c =
       few = rw i (omega arith);
       front = λ G k e.
           word_next G k _ _ _ _ _ _ _ c.in-Some.kind [] c.args.image.now c.args.first c.loop-at.at c.args.end _ _ (c.loop-at.invariant.front G k e) f t c.requires.fits c.in-Some.ensures c.word.ensures
-          (c.in-Some-bare_in_form.ensures G _ (c.form_in-form.ensures G e)) (rw i (pl ∙ plain-push (drop n os) _ o refl)) refl;
+          (c.in-Some-bare_in_form.ensures G _ _ (c.form_in-form.ensures G e)) (rw i (pl ∙ plain-push (drop n os) _ o refl)) refl;
     }

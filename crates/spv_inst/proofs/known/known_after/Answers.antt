@@ -1,8 +1,8 @@
 use Rattle.std.proofs.Common.{sym, ◌∙◌}
 use Rattle.spv_module.specs.Module.{plain_operand, plain_operands}
 use Rattle.spv_inst.proofs.Contexts.{type_kept, type_found}
-use Rattle.spv_inst.proofs.instruction.known_after.Goals as goal
-use Rattle.spv_inst.proofs.instruction.known_after.Goals.{in-Some, in-None}
+use Rattle.spv_inst.proofs.known.known_after.Goals as goal
+use Rattle.spv_inst.proofs.known.known_after.Goals.{in-Some, in-None}
 
 pub returns-in-Some-first-clause-type_id : goal.returns-in-Some-first-clause-type_id
 returns-in-Some-first-clause-type_id c = λ h.

@@ -1,0 +1,22 @@
+use Rattle.std.proofs.Common.{◌≡◌, ◌≤◌, ◌+◌, ◌-◌, List, length, take, drop}
+use Rattle.spv_table.specs.Table.{Item}
+use Rattle.spv_module.specs.Operand.{PlainInst}
+use Rattle.spv_inst.specs.inner.Known.{Knows}
+use Rattle.spv_inst.specs.inner.Pending.{due_first}
+use Rattle.spv_inst.specs.inner.Sofar.{SofarAt}
+use Rattle.spv_inst.proofs.repeated.read_run.Given as goal
+
+abbrev pub invariant-loop-at : goal.invariant-loop-at
+invariant-loop-at l = record {
+  from : l.rest.at ≤ l.at;
+  upto : l.at ≤ l.place.end;
+  room : l.begin ≤ length l.operands.items;
+  kept : take l.begin l.operands.items ≡ take l.begin l.fn.operands.items;
+  few : length l.operands.items + l.rest.at ≤ length l.fn.operands.items + l.at;
+  sofar : (before : List PlainInst) (pattern : List Item) → Knows l.scene.definitions.now before
+      → SofarAt l.scene.table.now before l.place.opcode pattern l.scene.image.now l.place.first l.place.end (drop l.begin l.fn.operands.items) (due_first l.rest.kinds.now l.rest.items.left.now) l.rest.at
+      → SofarAt l.scene.table.now before l.place.opcode pattern l.scene.image.now l.place.first l.place.end (drop l.begin l.operands.items) (due_first l.rest.kinds.now l.rest.items.left.now) l.at;
+}
+
+abbrev pub decreases-loop-at : goal.decreases-loop-at
+decreases-loop-at l = l.place.end - l.at
