@@ -14,3 +14,4 @@ mod Pairs
 mod Noting
 mod Passing
 mod Sections
+mod Globals

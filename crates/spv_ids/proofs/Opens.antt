@@ -127,7 +127,7 @@ no_sources is n _ i h l e (IsOfSection.global c t q g) = absurd (omega (arith, e
 no_sources is n _ i h l e (IsOfSection.declaration c f t q g d) = absurd (omega (arith, e))
 no_sources is n _ i h l e (IsOfSection.definition c f t q g d) = absurd (omega (arith, e))
 
-not_global : (c : Class) → section_of c ≡ Some 11 → ⊥
+pub not_global : (c : Class) → section_of c ≡ Some 11 → ⊥
 not_global Capability h = cc
 not_global _ h = cc
 

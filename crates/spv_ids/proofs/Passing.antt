@@ -24,7 +24,7 @@ use Rattle.spv_ids.proofs.Opens.{goes_on, stays_open, unordered}
 use Rattle.spv_ids.proofs.Scopes.{sound_use, sound_here}
 
 -- an opcode above that of OpFunctionEnd
-pub above : (o m : ℕ) → 56 < o → m ≤ 56 → o ≡ m → ⊥
+above : (o m : ℕ) → 56 < o → m ≤ 56 → o ≡ m → ⊥
 above o m g l e = omega arith
 
 -- an instruction of the survey

@@ -1,6 +1,6 @@
 //! The ids of a module.
 
-ghost use Rattle.std.specs.Prelude.{◌≡◌, ℕ, List, IfOk, IfErr, length};
+ghost use Rattle.std.specs.Prelude.{◌≡◌, ◌≤◌, ℕ, List, IfOk, IfErr, length};
 ghost use Rattle.spv_table.specs.Table.{Table};
 ghost use Rattle.spv_module.specs.Operand.{PlainInst};
 ghost use Rattle.spv_module.specs.Module.{plain_insts};
@@ -13,7 +13,7 @@ ghost use Rattle.spv_ids.specs.Outcome.{AreIds, IsRefusal, definition_in};
 
 use crate::definitions::{find_definitions, later_definitions};
 use crate::notes::Notes;
-use crate::survey::Survey;
+use crate::survey::{DECLARATIONS, Survey};
 use spv_layout::Plan;
 use spv_module::{Module, Stop};
 use std::alloc::Global;
@@ -37,8 +37,33 @@ impl Ids {
     }
 }
 
-/// Before which instruction each definition is local to no function: the first that is of a function; or 0 where not
-/// all instructions are before `end`.
+/// Whether an instruction stands in one of sections 1 to 9.
+fn is_before_functions(plan: &Plan, inst: u32) -> bool {
+    match plan.at(inst) {
+        Some(place) => place.section <= DECLARATIONS,
+        None => false,
+    }
+}
+
+/// How many instructions stand in sections 1 to 9, which come first: found by halves among so many instructions.
+fn count_before_functions(plan: &Plan, count: u32) -> u32
+    ensures { result ≤ count }
+{
+    let mut low = 0;
+    let mut high = count;
+    'halve: while low < high {
+        let middle = low + (high - low) / 2;
+        if is_before_functions(plan, middle) {
+            low = middle + 1;
+        } else {
+            high = middle;
+        }
+    }
+    low
+}
+
+/// Before which instruction each definition is local to no function: the first that is of a function, if one of section
+/// 9 stands before it; or 0 where none does, or not all instructions are before `end`.
 fn globals(plan: &Plan, count: u32, end: u32) -> u32
     ensures { (is : List PlainInst) (bound : ℕ) (firsts : declared.Notes) → ArePlaces is plan.now
         → count ≡ length is → AreFirst bound is end firsts → AreGlobal is result }
@@ -46,17 +71,18 @@ fn globals(plan: &Plan, count: u32, end: u32) -> u32
     if end < count {
         return 0;
     }
-    for i in 0..count {
-        match plan.at(i) {
-            Some(place) => {
-                if place.function.is_some() {
-                    return i;
-                }
-            }
-            None => return i,
-        }
+    let before = count_before_functions(plan, count);
+    if before == 0 {
+        return 0;
     }
-    count
+    let Some(last) = plan.at(before - 1) else {
+        return 0;
+    };
+    if last.section == DECLARATIONS {
+        before
+    } else {
+        0
+    }
 }
 
 /// The definitions of a module's ids. `plan` is what `lay_out` answered of that module.

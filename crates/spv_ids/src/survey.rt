@@ -1,11 +1,12 @@
 //! The uses of a module, instruction by instruction.
 
-ghost use Rattle.std.specs.Prelude.{◌≡◌, ◌+◌, ◌≤◌, ◌<◌, ◌↔◌, ℕ, List, length, map, IsTrue};
+ghost use Rattle.std.specs.Prelude.{◌≡◌, ◌≢◌, ◌+◌, ◌≤◌, ◌<◌, ◌↔◌, ℕ, List, length, map, IsTrue};
 ghost use Rattle.std.specs.Prelude.{IfOk, OnOk, MatchBool, MatchOption, IfSome, slice_get, Some, None, ◌||◌};
 ghost use Rattle.spv_module.specs.Operand.{PlainInst};
 ghost use Rattle.spv_module.specs.Module.{plain_inst, plain_operands};
 ghost use Rattle.spv_module.specs.declared.fault.Rule.{Rule};
 ghost use Rattle.spv_module.specs.declared.fault.Rule.TheVariants.{D1};
+ghost use Rattle.spv_module.specs.declared.opcode.TheConstants as codes;
 ghost use Rattle.spv_layout.specs.First.{stage_of, rank_of};
 ghost use Rattle.spv_layout.specs.Stage.{of_ids};
 ghost use Rattle.spv_layout.specs.Place.{IsOfFunction, IsOfSection};
@@ -33,7 +34,7 @@ use std::alloc::{AllocError, Global};
 const SOURCES: u8 = 7;
 
 /// The number of section 9 among the sections.
-const DECLARATIONS: u8 = 11;
+pub const DECLARATIONS: u8 = 11;
 
 /// A module whose uses are looked at.
 #[derive(Clone, Copy)]
@@ -236,6 +237,19 @@ fn left(inst: &Inst<'_>, floor: u32) -> u32
     } else {
         floor
     }
+}
+
+/// Whether an opcode is none of those that begin or end a function or announce an id, as most are.
+#[inline(always)]
+fn is_ordinary(code: u16) -> bool
+    ensures begins { IsTrue result → code ≢ codes.FUNCTION }
+    ensures ends { IsTrue result → code ≢ codes.FUNCTION_END }
+    ensures announces { IsTrue result → code ≢ codes.TYPE_FORWARD_POINTER }
+{
+    if opcode::FUNCTION_END < code {
+        return true;
+    }
+    code < opcode::TYPE_FORWARD_POINTER
 }
 
 impl<'m, 'a> Survey<'m, 'a> {
@@ -559,8 +573,7 @@ impl<'m, 'a> Survey<'m, 'a> {
         ensures open { IfSome result (λ f. f < 4294967295 → IsOpen (insts_of self.now) (inst + 1) f) }
     {
         let there = &self.insts[inst as usize];
-        // Most instructions of a function: none of them begins or ends one, and none announces an id.
-        if opcode::FUNCTION_END < there.opcode {
+        if is_ordinary(there.opcode) {
             if self.are_sound(inst, floor, front, seen(there)) {
                 return Some(floor);
             }

@@ -8,8 +8,7 @@ ghost use Rattle.spv_ids.specs.inner.Uses as uses;
 use spv_module::{Inst, Operand, opcode};
 
 /// The first four operands, or all where they are fewer.
-#[cold]
-#[inline(never)]
+#[inline(always)]
 fn first_four<'i, 'a>(operands: &'i [Operand<'a>]) -> &'i [Operand<'a>]
     ensures { plain_operands result.now ≡ take 4 (plain_operands operands.now) }
 {

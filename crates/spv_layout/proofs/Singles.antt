@@ -1,5 +1,5 @@
 -- An instruction that fits a row whose operands take one word each has one more word than operands.
-use Rattle.std.proofs.Common.{◌≡◌, ◌≢◌, ◌∙◌, ◌++◌, ◌+◌, ℕ, nat_eq, zero, suc, List, [], ◌∷◌, refl, sym, ap, subst, Bool, true, false, ◌&&◌, inl, inr, Option, Some, None, length, drop, arith}
+use Rattle.std.proofs.Common.{◌≡◌, ◌≢◌, ◌∙◌, ◌++◌, ◌+◌, ℕ, nat_eq, zero, suc, List, [], ◌∷◌, refl, sym, ap, subst, Bool, true, false, if◌then◌else◌, ◌&&◌, inl, inr, Option, Some, None, length, drop, arith}
 use Rattle.std.specs.Prelude.{sum_by, slice_get}
 use Rattle.std.proofs.lemmas.Bool.Decides.{eqb_tells}
 use Rattle.std.proofs.lemmas.List.Sums.{sum_by-cons}
@@ -15,7 +15,7 @@ use Rattle.spv_layout.specs.Rows.{row_of}
 use Rattle.spv_layout.specs.Shape.{is_of, AreOf, Ends, FitsShape}
 use Rattle.spv_layout.specs.Place.{operand_words, section_of, word_count}
 use Rattle.spv_layout.specs.inner.Single.{is_single, are_single, is_single_ending, is_single_row, are_same, are_same_sections, front_of, IsFront, is_flagged, are_flagged}
-use Rattle.spv_layout.specs.inner.Test.{sort_of, sort_for}
+use Rattle.spv_layout.specs.inner.Test.{sort_of, sort_for, sorts_asked}
 use Rattle.spv_layout.proofs.Derivatives.{both_hold, both_true}
 
 same_is : (a b : Bool) → are_same a b ≡ true → a ≡ b
@@ -38,23 +38,38 @@ flag_at (x ∷ rs) (suc k) r h e = let p = both_hold (is_flagged x) (are_flagged
 same_number : (m n : ℕ) → nat_eq m n ≡ true → m ≡ n
 same_number m n h = elim (eqb_tells m n) [ inl p ↦ p.1 | inr p ↦ (let q = p.0 in cc) ]
 
--- a row of the code says whether it is single, the section of its class, and how many of its fixed operands are single
+-- a row of the code says whether it is single, the section of its class, how many of its fixed operands are single, and
+-- the sorts that they ask for
 pub flagged_at : (rs : List declared.Row) (k : ℕ) (r : declared.Row) → are_flagged rs ≡ true → slice_get rs k ≡ Some r → r.single ≡ is_single_row (plain_row r)
 flagged_at rs k r h e =
-    let p = both_hold (are_same r.single (is_single_row (plain_row r))) (are_same_sections r.section (section_of r.class) && nat_eq r.front (front_of r.fixed.now)) (flag_at rs k r h e) in
+    let p = both_hold (are_same r.single (is_single_row (plain_row r))) _ (flag_at rs k r h e) in
     same_is r.single (is_single_row (plain_row r)) p.0
+
+others_at : (rs : List declared.Row) (k : ℕ) (r : declared.Row) → are_flagged rs ≡ true → slice_get rs k ≡ Some r
+    → (are_same_sections r.section (section_of r.class) && (nat_eq r.front (front_of r.fixed.now) && nat_eq r.sorts (sorts_asked r.fixed.now))) ≡ true
+others_at rs k r h e =
+    let p = both_hold (are_same r.single (is_single_row (plain_row r))) _ (flag_at rs k r h e) in
+    p.1
 
 pub section_at : (rs : List declared.Row) (k : ℕ) (r : declared.Row) → are_flagged rs ≡ true → slice_get rs k ≡ Some r → r.section ≡ section_of r.class
 section_at rs k r h e =
-    let p = both_hold (are_same r.single (is_single_row (plain_row r))) (are_same_sections r.section (section_of r.class) && nat_eq r.front (front_of r.fixed.now)) (flag_at rs k r h e) in
-    let q = both_hold (are_same_sections r.section (section_of r.class)) (nat_eq r.front (front_of r.fixed.now)) p.1 in
+    let q = both_hold (are_same_sections r.section (section_of r.class)) _ (others_at rs k r h e) in
     same_section r.section (section_of r.class) q.0
+
+numbers_at : (rs : List declared.Row) (k : ℕ) (r : declared.Row) → are_flagged rs ≡ true → slice_get rs k ≡ Some r → (nat_eq r.front (front_of r.fixed.now) && nat_eq r.sorts (sorts_asked r.fixed.now)) ≡ true
+numbers_at rs k r h e =
+    let q = both_hold (are_same_sections r.section (section_of r.class)) _ (others_at rs k r h e) in
+    q.1
 
 pub front_at : (rs : List declared.Row) (k : ℕ) (r : declared.Row) → are_flagged rs ≡ true → slice_get rs k ≡ Some r → r.front ≡ front_of r.fixed.now
 front_at rs k r h e =
-    let p = both_hold (are_same r.single (is_single_row (plain_row r))) (are_same_sections r.section (section_of r.class) && nat_eq r.front (front_of r.fixed.now)) (flag_at rs k r h e) in
-    let q = both_hold (are_same_sections r.section (section_of r.class)) (nat_eq r.front (front_of r.fixed.now)) p.1 in
-    same_number r.front (front_of r.fixed.now) q.1
+    let q = both_hold (nat_eq r.front (front_of r.fixed.now)) (nat_eq r.sorts (sorts_asked r.fixed.now)) (numbers_at rs k r h e) in
+    same_number r.front (front_of r.fixed.now) q.0
+
+pub sorts_at : (rs : List declared.Row) (k : ℕ) (r : declared.Row) → are_flagged rs ≡ true → slice_get rs k ≡ Some r → r.sorts ≡ sorts_asked r.fixed.now
+sorts_at rs k r h e =
+    let q = both_hold (nat_eq r.front (front_of r.fixed.now)) (nat_eq r.sorts (sorts_asked r.fixed.now)) (numbers_at rs k r h e) in
+    same_number r.sorts (sorts_asked r.fixed.now) q.1
 
 -- an operand of a single form
 one_word : (G : Table) (f : Form) (o : Plain) → is_single f ≡ true → is_of G f o ≡ true → operand_words o ≡ 1
@@ -105,30 +120,25 @@ single_words G i r f e h =
     let w = one_each G f.forms i.operands s' x.each in
     omega arith
 
-front_all : (fs : List Form) → are_single fs ≡ true → front_of fs ≡ length fs
-front_all fs h = rw h refl
-
-front_none : (fs : List Form) → are_single fs ≡ false → front_of fs ≡ 0
-front_none fs h = rw h refl
-
 no_front : (os : List Plain) → IsFront os 0
 no_front os = let z : 0 + sum_by operand_words os ≡ sum_by operand_words os = omega arith in record { within = omega arith; words = sym z }
 
-fixed_front : (G : Table) (fs gs : List Form) (os : List Plain) → are_single fs ≡ true → AreOf G (fs ++ gs) os → IsFront os (length fs)
-fixed_front G [] gs os h a = no_front os
-fixed_front G (f ∷ fs) gs _ h (AreOf.more _ o _ os k r) =
-    let p = both_hold (is_single f) (are_single fs) h in
-    let a = one_word G f o p.0 k in
-    let b = fixed_front G fs gs os p.1 r in
+one_front : (G : Table) (f : Form) (o : Plain) (os : List Plain) (n : ℕ) → is_single f ≡ true → is_of G f o ≡ true → IsFront os n → IsFront (o ∷ os) (suc n)
+one_front G f o os n h k b =
+    let a = one_word G f o h k in
     let w = b.within in
     let v = b.words in
     let c : sum_by operand_words (o ∷ os) ≡ operand_words o + sum_by operand_words os = sum_by-cons operand_words o os in
-    let d : sum_by operand_words (drop (length (f ∷ fs)) (o ∷ os)) ≡ sum_by operand_words (drop (length fs) os) = refl in
+    let d : sum_by operand_words (drop (suc n) (o ∷ os)) ≡ sum_by operand_words (drop n os) = refl in
     record { within = omega arith; words = omega arith }
 
-front_by : (G : Table) (fs gs : List Form) (os : List Plain) (n : ℕ) (b : Bool) → are_single fs ≡ b → AreOf G (fs ++ gs) os → n ≡ front_of fs → IsFront os n
-front_by G fs gs os n true h a e = let q : length fs ≡ n = sym (e ∙ front_all fs h) in subst (λ k. IsFront os k) q (fixed_front G fs gs os h a)
-front_by G fs gs os n false h a e = let q : 0 ≡ n = sym (e ∙ front_none fs h) in subst (λ k. IsFront os k) q (no_front os)
+front_if : (b : Bool) (G : Table) (f : Form) (o : Plain) (os : List Plain) (n : ℕ) → is_single f ≡ b → is_of G f o ≡ true → IsFront os n → IsFront (o ∷ os) (if b then suc n else 0)
+front_if true G f o os n h k b = one_front G f o os n h k b
+front_if false G f o os n h k b = no_front (o ∷ os)
+
+fixed_front : (G : Table) (fs gs : List Form) (os : List Plain) → AreOf G (fs ++ gs) os → IsFront os (front_of fs)
+fixed_front G [] gs os a = no_front os
+fixed_front G (f ∷ fs) gs _ (AreOf.more _ o _ os k r) = front_if (is_single f) G f o os (front_of fs) refl k (fixed_front G fs gs os r)
 
 -- the first operands of an instruction that fits a row
 pub front_words : (G : Table) (i : PlainInst) (r : PlainRow) (n : ℕ) → FitsShape G i → row_of i.opcode ≡ Some r → n ≡ front_of r.fixed → IsFront i.operands n
@@ -136,7 +146,7 @@ front_words G i r n f e h =
     let x = f.has in
     let k : x.row ≡ r = (let a = x.known in cc) in
     let h' : n ≡ front_of x.row.fixed = rw k h in
-    front_by G x.row.fixed x.rest i.operands n (are_single x.row.fixed) refl (rw (← x.forms) x.each) h'
+    subst (λ m. IsFront i.operands m) (sym h') (fixed_front G x.row.fixed x.rest i.operands (rw (← x.forms) x.each))
 
 -- a form that asks for a sort alone
 pub sort_is : (G : Table) (f : Form) (o : Plain) (n : ℕ) → n ≡ sort_for f → n ≢ 8 → nat_eq (sort_of o) n ≡ is_of G f o

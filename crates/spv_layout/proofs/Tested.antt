@@ -15,7 +15,7 @@ use Rattle.spv_layout.specs.Row.{PlainRow, RowEnding, closed, maybe, file_and_te
 use Rattle.spv_layout.specs.Rows.{row_of}
 use Rattle.spv_layout.specs.Shape.{is_of, AreOf, Ends, FitsShape}
 use Rattle.spv_layout.specs.inner.Shape.{FitsEnding}
-use Rattle.spv_layout.specs.inner.Test.{sort_of, sort_for, are_of, are_others, is_empty, are_rounds, is_kind_and_others, fits_ending, fits_row}
+use Rattle.spv_layout.specs.inner.Test.{sort_of, sort_for, sorts_of, sorts_asked, are_of, are_others, is_empty, are_rounds, is_kind_and_others, fits_ending, fits_row}
 use Rattle.spv_layout.proofs.Derivatives.{both_hold, both_true}
 use Rattle.spv_layout.proofs.Shapes.{no_operands, are_rest, are_moved}
 
@@ -313,3 +313,44 @@ sort_tells G form.Other (operand.Number a b c) h = absurd (omega (arith, h))
 sort_tells G form.Other (operand.Text t) h = absurd (omega (arith, h))
 sort_tells G form.Other (operand.Value a b) h = absurd (omega (arith, h))
 sort_tells G form.Other (operand.Mask a b) h = absurd (omega (arith, h))
+
+sort_few : (o : Plain) → sort_of o < 8
+sort_few (operand.OfType x) = omega arith
+sort_few (operand.Result x) = omega arith
+sort_few (operand.Id x) = omega arith
+sort_few (operand.Word x) = omega arith
+sort_few (operand.Number a b c) = omega arith
+sort_few (operand.Text t) = omega arith
+sort_few (operand.Value a b) = omega arith
+sort_few (operand.Mask a b) = omega arith
+
+asked_few : (f : Form) → sort_for f < 9
+asked_few form.OfType = omega arith
+asked_few form.Result = omega arith
+asked_few form.Word = omega arith
+asked_few form.Number = omega arith
+asked_few form.Text = omega arith
+asked_few (form.Id r) = omega arith
+asked_few form.Unseen = omega arith
+asked_few (form.Kind k) = omega arith
+asked_few form.Other = omega arith
+
+sorts_end : (os : List Plain) → 9 ≤ sorts_of os
+sorts_end [] = omega arith
+sorts_end (o ∷ os) = let l = sorts_end os in omega arith
+
+pub asked_end : (fs : List Form) → 9 ≤ sorts_asked fs
+asked_end [] = omega arith
+asked_end (f ∷ fs) = let l = asked_end fs in omega arith
+
+-- operands whose sorts are those that forms ask for
+pub sorts_tell : (G : Table) (fs : List Form) (os : List Plain) → sorts_of os ≡ sorts_asked fs → are_of G fs os ≡ true
+sorts_tell G [] [] h = refl
+sorts_tell G [] (o ∷ os) h = let l = sorts_end os in absurd (omega (arith, h))
+sorts_tell G (f ∷ fs) [] h = let l = asked_end fs in absurd (omega (arith, h))
+sorts_tell G (f ∷ fs) (o ∷ os) h =
+    let a = sort_few o in
+    let b = asked_few f in
+    let e : sort_of o ≡ sort_for f = omega (arith, h) in
+    let r : sorts_of os ≡ sorts_asked fs = omega (arith, h) in
+    both_true (is_of G f o) (are_of G fs os) (sym (sort_tells G f o e)) (sorts_tell G fs os r)

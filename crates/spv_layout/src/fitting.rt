@@ -1,6 +1,6 @@
 //! Whether an instruction fits its row.
 
-ghost use Rattle.std.specs.Prelude.{◌≡◌, ◌+◌, ◌&&◌, [], true, length, map, Some, IfSome, IfNone};
+ghost use Rattle.std.specs.Prelude.{◌≡◌, ◌<◌, ◌+◌, ◌*◌, ◌&&◌, [], ◌∷◌, true, length, map, Some, IfSome, IfNone};
 ghost use Rattle.spv_layout.specs.Place.{section_of, word_count};
 ghost use Rattle.spv_module.specs.Module.{plain_inst, plain_operand};
 ghost use Rattle.spv_layout.specs.Row.{has_masks};
@@ -9,12 +9,12 @@ ghost use Rattle.spv_layout.specs.Rows.{class_of};
 ghost use Rattle.spv_layout.specs.Shape.{FitsShape, is_of};
 ghost use Rattle.spv_layout.specs.inner.Single.{IsFront};
 ghost use Rattle.spv_layout.specs.declared.form.Form.TheVariants.{Kind};
-ghost use Rattle.spv_layout.specs.inner.Test.{sort_of, sort_for, are_of, are_others, are_rounds, is_kind_and_others};
-ghost use Rattle.spv_layout.specs.inner.Test.{fits_ending, fits_row};
+ghost use Rattle.spv_layout.specs.inner.Test.{sort_of, sort_for, sorts_of, sorts_asked, are_of, are_others};
+ghost use Rattle.spv_layout.specs.inner.Test.{are_rounds, is_kind_and_others, fits_ending, fits_row};
 
 use crate::form::{Ending, Form, Named, Role, Row};
 use crate::kinds::Kinds;
-use crate::rows::row;
+use crate::rows::sorted_row;
 use spv_module::{Inst, Operand};
 
 /// Whether a kind's operands are masks.
@@ -34,7 +34,8 @@ fn is_mask(kind: Named) -> bool
 /// The sort of an operand, by number.
 #[inline(always)]
 fn sort(operand: Operand<'_>) -> u8
-    ensures { result ≡ sort_of (plain_operand operand.entry) }
+    ensures sort { result ≡ sort_of (plain_operand operand.entry) }
+    ensures few { result < 8 }
 {
     match operand {
         Operand::OfType(_) => 0,
@@ -96,7 +97,7 @@ fn is_of_form(kinds: &Kinds<'_>, form: Form, operand: Operand<'_>) -> bool
     }
 }
 
-/// Whether an operand is of a form, one that is seldom asked for or not fitted.
+/// Whether an operand is of a form, one that is seldom asked for.
 #[cold]
 #[inline(never)]
 fn is_of_rare_form(kinds: &Kinds<'_>, form: Form, operand: Operand<'_>) -> bool
@@ -105,26 +106,15 @@ fn is_of_rare_form(kinds: &Kinds<'_>, form: Form, operand: Operand<'_>) -> bool
     is_of_form(kinds, form, operand)
 }
 
-/// Whether an operand is of a form that asks for more or less than a sort.
-#[inline(always)]
-fn is_of_other_form(kinds: &Kinds<'_>, form: Form, operand: Operand<'_>) -> bool
-    ensures { result ≡ is_of kinds.now form (plain_operand operand.entry) }
-{
-    match form {
-        Form::Kind(kind) => is_of_kind(kinds, kind, operand),
-        _ => is_of_rare_form(kinds, form, operand),
-    }
-}
-
 /// Whether an operand is of a form: most forms ask for a sort alone.
 #[inline(always)]
 fn has_form(kinds: &Kinds<'_>, form: Form, operand: Operand<'_>) -> bool
     ensures { result ≡ is_of kinds.now form (plain_operand operand.entry) }
 {
-    if sort(operand) == sort_asked(form) {
-        true
-    } else {
-        is_of_other_form(kinds, form, operand)
+    match form {
+        Form::Kind(kind) => is_of_kind(kinds, kind, operand),
+        Form::Other => is_of_rare_form(kinds, form, operand),
+        _ => sort(operand) == sort_asked(form),
     }
 }
 
@@ -133,13 +123,9 @@ fn has_form(kinds: &Kinds<'_>, form: Form, operand: Operand<'_>) -> bool
 fn is_told(kinds: &Kinds<'_>, form: Form, operand: Operand<'_>) -> bool
     ensures { result ≡ true → is_of kinds.now form (plain_operand operand.entry) ≡ true }
 {
-    if sort(operand) == sort_asked(form) {
-        true
-    } else {
-        match form {
-            Form::Kind(kind) => is_of_kind(kinds, kind, operand),
-            _ => false,
-        }
+    match form {
+        Form::Kind(kind) => is_of_kind(kinds, kind, operand),
+        _ => sort(operand) == sort_asked(form),
     }
 }
 
@@ -170,6 +156,44 @@ fn are_told(kinds: &Kinds<'_>, forms: &[Form], operands: &[Operand<'_>]) -> bool
     }
 }
 
+/// The sort of an operand in front of those of others.
+#[inline(always)]
+fn with_sort(operand: Operand<'_>, others: u64) -> u64
+    requires { others < 65536 }
+    ensures sorts { result ≡ sort_of (plain_operand operand.entry) + 16 * others }
+    ensures few { result < 8 + 16 * others }
+{
+    u64::from(sort(operand)) + 16 * others
+}
+
+/// The sorts of four operands at most, as `Row` keeps those that it asks for, or 0 where there are more.
+#[inline(always)]
+fn sorts(operands: &[Operand<'_>]) -> u64
+    ensures { 0 < result → result ≡ sorts_of (map plain_operand operands.now) }
+{
+    match operands {
+        [] => 9,
+        [w] => with_sort(*w, 9),
+        [w, x] => with_sort(*w, with_sort(*x, 9)),
+        [w, x, y] => with_sort(*w, with_sort(*x, with_sort(*y, 9))),
+        [w, x, y, z] => with_sort(*w, with_sort(*x, with_sort(*y, with_sort(*z, 9)))),
+        _ => 0,
+    }
+}
+
+/// Whether it is told at once that operands are of a row's fixed forms, one by one: by their sorts together, or one
+/// after another.
+#[inline(always)]
+fn are_fixed_told(kinds: &Kinds<'_>, row: &Row, operands: &[Operand<'_>]) -> bool
+    requires { row.now.sorts ≡ sorts_asked row.now.fixed.now }
+    ensures { result ≡ true → are_of kinds.now row.now.fixed.now (map plain_operand operands.now) ≡ true }
+{
+    if sorts(operands) == row.sorts {
+        return true;
+    }
+    are_told(kinds, row.fixed, operands)
+}
+
 /// Whether operands are of these forms, one by one.
 #[cold]
 #[inline(never)]
@@ -189,10 +213,11 @@ fn have_forms(kinds: &Kinds<'_>, forms: &[Form], operands: &[Operand<'_>]) -> bo
 
 /// Whether operands are of a row's fixed forms, one by one.
 #[inline(always)]
-fn have_fixed(kinds: &Kinds<'_>, forms: &[Form], operands: &[Operand<'_>]) -> bool
-    ensures { result ≡ are_of kinds.now forms.now (map plain_operand operands.now) }
+fn have_fixed(kinds: &Kinds<'_>, row: &Row, operands: &[Operand<'_>]) -> bool
+    requires { row.now.sorts ≡ sorts_asked row.now.fixed.now }
+    ensures { result ≡ are_of kinds.now row.now.fixed.now (map plain_operand operands.now) }
 {
-    are_told(kinds, forms, operands) || have_forms(kinds, forms, operands)
+    are_fixed_told(kinds, row, operands) || have_forms(kinds, row.fixed, operands)
 }
 
 /// Whether operands are neither types nor results.
@@ -201,6 +226,18 @@ fn are_free(kinds: &Kinds<'_>, operands: &[Operand<'_>]) -> bool
 {
     for operand in operands {
         if !is_of_form(kinds, Form::Other, *operand) {
+            return false;
+        }
+    }
+    true
+}
+
+/// Whether operands are all of a form.
+fn are_all(kinds: &Kinds<'_>, form: Form, operands: &[Operand<'_>]) -> bool
+    ensures { result ≡ are_rounds kinds.now (form ∷ []) [] (map plain_operand operands.now) }
+{
+    for operand in operands {
+        if !has_form(kinds, form, *operand) {
             return false;
         }
     }
@@ -236,7 +273,6 @@ fn have_first(kinds: &Kinds<'_>, form: Form, operands: &[Operand<'_>]) -> bool
 }
 
 /// Whether operands fit the ending of a row.
-#[cold]
 #[inline(never)]
 fn have_ending(kinds: &Kinds<'_>, row: &Row, operands: &[Operand<'_>]) -> bool
     ensures { result ≡ fits_ending kinds.now (plain_ending row.now.ending) (map plain_operand operands.now) }
@@ -251,7 +287,10 @@ fn have_ending(kinds: &Kinds<'_>, row: &Row, operands: &[Operand<'_>]) -> bool
             }
             _ => have_forms(kinds, &[Form::Id(Role::Text), Form::Text], operands),
         },
-        Ending::Repeated(forms) => have_rounds(kinds, forms, operands),
+        Ending::Repeated(forms) => match forms {
+            [form] => are_all(kinds, *form, operands),
+            _ => have_rounds(kinds, forms, operands),
+        },
         Ending::Others => are_free(kinds, operands),
         Ending::MaybeOthers(form) => have_first(kinds, form, operands),
     }
@@ -293,9 +332,9 @@ fn have_both(kinds: &Kinds<'_>, row: &Row, front: &[Operand<'_>], rest: &[Operan
 }
 
 /// Whether operands fit a row with an ending.
-#[cold]
 #[inline(never)]
 fn have_parts(kinds: &Kinds<'_>, row: &Row, operands: &[Operand<'_>]) -> bool
+    requires { row.now.sorts ≡ sorts_asked row.now.fixed.now }
     ensures { result ≡ fits_row kinds.now (Some (plain_row row.now)) (map plain_operand operands.now) }
 {
     let fixed = row.fixed.len();
@@ -303,7 +342,7 @@ fn have_parts(kinds: &Kinds<'_>, row: &Row, operands: &[Operand<'_>]) -> bool
         return false;
     }
     let (front, rest) = operands.split_at(fixed);
-    if are_told(kinds, row.fixed, front) {
+    if are_fixed_told(kinds, row, front) {
         have_rest(kinds, row, rest)
     } else {
         have_both(kinds, row, front, rest)
@@ -313,10 +352,11 @@ fn have_parts(kinds: &Kinds<'_>, row: &Row, operands: &[Operand<'_>]) -> bool
 /// Whether operands fit a row. Where they are as many as its fixed ones, its ending allows that none come after them.
 #[inline(always)]
 fn have_row(kinds: &Kinds<'_>, row: &Row, operands: &[Operand<'_>]) -> bool
+    requires { row.now.sorts ≡ sorts_asked row.now.fixed.now }
     ensures { result ≡ fits_row kinds.now (Some (plain_row row.now)) (map plain_operand operands.now) }
 {
     if operands.len() == row.fixed.len() {
-        have_fixed(kinds, row.fixed, operands)
+        have_fixed(kinds, row, operands)
     } else {
         have_parts(kinds, row, operands)
     }
@@ -333,7 +373,7 @@ pub fn fitting(kinds: &Kinds<'_>, inst: &Inst<'_>) -> Option<&'static Row>
     ensures front { IfSome result (λ r. IsFront (plain_inst inst.now).operands r.now.front) }
     ensures misfit { IfNone result (¬ (FitsShape kinds.now (plain_inst inst.now))) }
 {
-    let Some(row) = row(inst.opcode) else {
+    let Some(row) = sorted_row(inst.opcode) else {
         return None;
     };
     if have_row(kinds, row, inst.operands.as_slice()) {

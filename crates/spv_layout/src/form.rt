@@ -103,6 +103,8 @@ pub struct Row {
     pub ending: Ending,
     /// Whether the operands that it asks for take one word each, whatever they are.
     pub single: bool,
-    /// How many of its fixed operands are known to take one word each: all of them, or none.
+    /// How many of its fixed operands are known to take one word each: those before the first text or number.
     pub front: u8,
+    /// The sorts that its fixed operands ask for, in four bits each from the lowest on, and after them a 9.
+    pub sorts: u64,
 }

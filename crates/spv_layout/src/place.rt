@@ -132,8 +132,7 @@ pub fn words_of(inst: &Inst<'_>, row: &Row) -> u32
 }
 
 /// How many words an instruction has of which so many first operands take one each.
-#[cold]
-#[inline(never)]
+#[inline(always)]
 fn words_past(inst: &Inst<'_>, front: u8) -> u32
     requires words { specs.word_count (plain_inst inst.now) ≤ greatest_length }
     requires front { IsFront (plain_inst inst.now).operands front }

@@ -1,6 +1,7 @@
 ghost use Rattle.std.specs.Prelude.{◌≡◌, IfSome, IsTrue, option_map, map, slice_get};
 ghost use Rattle.spv_layout.specs.inner.Single.{is_single_row, front_of, are_flagged};
 ghost use Rattle.spv_layout.specs.inner.Row.{plain_row, numbered};
+ghost use Rattle.spv_layout.specs.inner.Test.{sorts_asked};
 ghost use Rattle.spv_layout.specs.Place.{section_of};
 ghost use Rattle.spv_layout.specs.Rows.{row_of};
 
@@ -34,9 +35,29 @@ macro_rules! is_single {
     ($($other:ident)+) => { true };
 }
 
-/// One, for a form.
-macro_rules! one {
-    ($($form:ident)+) => { 1 };
+/// The sort that a form asks for, or 8 where it asks for more or less than that.
+macro_rules! sort {
+    (T) => { 0 };
+    (R) => { 1 };
+    (W) => { 3 };
+    (N) => { 4 };
+    (S) => { 5 };
+    (kind $named:ident) => { 8 };
+    ($id:ident) => { 2 };
+}
+
+/// The sorts that forms ask for, in four bits each from the lowest on, and after them a 9.
+macro_rules! sorts {
+    () => { 9 };
+    ([$($form:ident)+] $($others:tt)*) => { sort!($($form)+) + 16 * (sorts!($($others)*)) };
+}
+
+/// How many forms come before the first of which an operand may take more than one word.
+macro_rules! front {
+    () => { 0 };
+    ([$($form:ident)+] $($others:tt)*) => {
+        if is_single!($($form)+) { 1 + front!($($others)*) } else { 0 }
+    };
 }
 
 /// What may come after the fixed operands.
@@ -232,7 +253,8 @@ macro_rules! rows {
             fixed: &[$(form!($($form)+)),*],
             ending: ending!($ending $($($after)+)?),
             single: true $(&& is_single!($($form)+))* && is_single_ending!($ending $($($after)+)?),
-            front: if true $(&& is_single!($($form)+))* { 0 $(+ one!($($form)+))* } else { 0 },
+            front: front!($([$($form)+])*),
+            sorts: sorts!($([$($form)+])*),
         }),+]
     };
 }
@@ -277,6 +299,7 @@ fn row_at(numbers: &'static [u8], rows: &'static [Row], opcode: u16) -> Option<&
     ensures section { IfSome result (λ r. r.now.section ≡ section_of r.now.class) }
     ensures single { IfSome result (λ r. r.now.single ≡ is_single_row (plain_row r.now)) }
     ensures front { IfSome result (λ r. r.now.front ≡ front_of r.now.fixed.now) }
+    ensures sorts { IfSome result (λ r. r.now.sorts ≡ sorts_asked r.now.fixed.now) }
 {
     match numbers.get(usize::from(opcode)) {
         Some(number) => {
@@ -291,6 +314,18 @@ fn row_at(numbers: &'static [u8], rows: &'static [Row], opcode: u16) -> Option<&
     }
 }
 
+/// The row of an opcode, and what it says of the sorts of its operands.
+#[inline(always)]
+pub fn sorted_row(opcode: u16) -> Option<&'static Row>
+    ensures row { option_map (λ r. plain_row r.now) result ≡ row_of opcode }
+    ensures section { IfSome result (λ r. r.now.section ≡ section_of r.now.class) }
+    ensures single { IfSome result (λ r. r.now.single ≡ is_single_row (plain_row r.now)) }
+    ensures front { IfSome result (λ r. r.now.front ≡ front_of r.now.fixed.now) }
+    ensures sorts { IfSome result (λ r. r.now.sorts ≡ sorts_asked r.now.fixed.now) }
+{
+    row_at(&NUMBERS, &ROWS, opcode)
+}
+
 /// The row of an opcode.
 #[inline(always)]
 pub fn row(opcode: u16) -> Option<&'static Row>
@@ -299,5 +334,5 @@ pub fn row(opcode: u16) -> Option<&'static Row>
     ensures single { IfSome result (λ r. r.now.single ≡ is_single_row (plain_row r.now)) }
     ensures front { IfSome result (λ r. r.now.front ≡ front_of r.now.fixed.now) }
 {
-    row_at(&NUMBERS, &ROWS, opcode)
+    sorted_row(opcode)
 }

@@ -1,6 +1,6 @@
 -- Whether an instruction fits its row, as a test that goes from operand to operand. (For the code alone; `fits` says
 -- what it means.)
-use Rattle.std.specs.Prelude.{ℕ, ◌-◌, ◌%◌, nat_eq, nat_lt, if◌then◌else◌, slice_get, option_and_then}
+use Rattle.std.specs.Prelude.{ℕ, ◌+◌, ◌*◌, ◌-◌, ◌%◌, nat_eq, nat_lt, if◌then◌else◌, slice_get, option_and_then}
 use Rattle.std.specs.Prelude.{List, [], ◌∷◌, Bool, true, false, ◌&&◌, ◌||◌, Option, Some, None, length}
 use Rattle.std.specs.Prelude.{take, drop}
 use Rattle.spv_table.specs.Table.{Table}
@@ -35,6 +35,15 @@ sort_for (form.Id r) = 2
 sort_for form.Unseen = 2
 sort_for (form.Kind name) = 8
 sort_for form.Other = 8
+
+-- the sorts of operands, and those that forms ask for, in four bits each from the lowest on, and after them a 9
+abbrev pub sorts_of : List Plain → ℕ
+sorts_of [] = 9
+sorts_of (o ∷ os) = sort_of o + 16 * sorts_of os
+
+abbrev pub sorts_asked : List Form → ℕ
+sorts_asked [] = 9
+sorts_asked (f ∷ fs) = sort_for f + 16 * sorts_asked fs
 
 abbrev pub are_of : Table → List Form → List Plain → Bool
 are_of G [] [] = true

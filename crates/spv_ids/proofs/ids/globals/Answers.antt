@@ -1,31 +1,14 @@
-use Rattle.std.proofs.Common.{◌∙◌, sym, inl, inr, arith}
-use Rattle.spv_ids.proofs.Bools.{none_tells}
-use Rattle.spv_ids.proofs.Defining.{below_or}
-use Rattle.spv_ids.proofs.Homes.{global_before, no_function_at, of_moved}
+use Rattle.std.proofs.Common.{◌<◌, ◌∙◌, ◌-◌, sym, length, arith}
+use Rattle.spv_ids.proofs.Homes.{global_before}
+use Rattle.spv_ids.proofs.Globals.{none_up_to}
 use Rattle.spv_ids.proofs.ids.globals.Goals as goal
 
-pub returns-then-is_some : goal.returns-then-is_some
-returns-then-is_some c = λ is bound firsts p n a.
+pub returns-then-last-eq-DECLARATIONS : goal.returns-then-last-eq-DECLARATIONS
+returns-then-last-eq-DECLARATIONS c = λ is bound firsts p n a.
     let e = c.if-end-count.false in
-    let t = c.loop-i-test.true in
-    global_before bound is c.args.end c.loop-i.i firsts a (omega (arith, n)) (omega (arith, n)) (c.loop-i.invariant is p)
-
-pub returns-in-None : goal.returns-in-None
-returns-in-None c = λ is bound firsts p n a.
-    let e = c.if-end-count.false in
-    let t = c.loop-i-test.true in
-    global_before bound is c.args.end c.loop-i.i firsts a (omega (arith, n)) (omega (arith, n)) (c.loop-i.invariant is p)
-
-pub loop-i-preserved : goal.loop-i-preserved
-loop-i-preserved c = λ is p k f l o.
-    let e = none_tells c.in-Some.place.function (sym c.is_some.ensures ∙ c.if-is_some.false) in
-    elim (below_or k c.loop-i.i (omega arith)) [
-      | inl b ↦ c.loop-i.invariant is p k f b o
-      | inr q ↦ no_function_at is c.args.plan.now c.loop-i.i f c.in-Some.place p (sym c.at.ensures ∙ c.in-Some.is) e (of_moved is k c.loop-i.i f q o)
-    ]
-
-pub returns : goal.returns
-returns c = λ is bound firsts p n a.
-    let e = c.if-end-count.false in
-    let t = c.loop-i-test.false in
-    global_before bound is c.args.end c.args.count firsts a (omega (arith, n)) (omega (arith, n)) (λ k f l. c.loop-i.invariant is p k f (omega arith))
+    let b = c.count_before_functions-before.ensures in
+    let k = c.if-before-eq0.false in
+    let h : c.count_before_functions-before.result - 1 < length is = omega (arith, n) in
+    let o = p.place (c.count_before_functions-before.result - 1) c.in-Some.last (sym c.at.ensures ∙ c.in-Some.is) in
+    global_before bound is c.args.end c.count_before_functions-before.result firsts a (omega (arith, n)) (omega (arith, n))
+    (λ j f l. none_up_to is (c.count_before_functions-before.result - 1) c.in-Some.last.section j f h o.section c.if-last-eq-DECLARATIONS.true (omega (arith, l)))

@@ -1,9 +1,8 @@
-use Rattle.std.proofs.Common.{arith, get_or}
+use Rattle.std.proofs.Common.{get_or}
 use Rattle.spv_module.specs.Module.{plain_inst}
-use Rattle.spv_module.specs.declared.opcode.TheConstants as opcode
 use Rattle.spv_ids.specs.inner.Survey.{insts_of}
 use Rattle.spv_ids.proofs.Opens.{goes_on, stays_open}
-use Rattle.spv_ids.proofs.Passing.{above, inst_of, not_announced, clean_at}
+use Rattle.spv_ids.proofs.Passing.{inst_of, not_announced, clean_at}
 use Rattle.spv_ids.proofs.survey.Survey.after.Goals as goal
 
 pub are_sound-requires-clause-floor : goal.are_sound-requires-clause-floor
@@ -11,8 +10,7 @@ are_sound-requires-clause-floor c = λ l.
     let s = c.args.self.now in
     let n = c.args.inst in
     let t = inst_of s n c.index-self-inst.result c.requires.survey c.requires.below in
-    let g = c.if-there-gt-FUNCTION_END.true in
-    goes_on (insts_of s) n c.args.floor (plain_inst (get_or s.insts.now n c.index-self-inst.result)) t (above _ opcode.FUNCTION g (omega arith)) (c.requires.open l)
+    goes_on (insts_of s) n c.args.floor (plain_inst (get_or s.insts.now n c.index-self-inst.result)) t (c.is_ordinary.ensures.begins c.if-is_ordinary.true) (c.requires.open l)
 
 pub are_sound-requires-clause-operands : goal.are_sound-requires-clause-operands
 are_sound-requires-clause-operands c =
@@ -32,7 +30,7 @@ returns-then-are_sound-clause-silent c =
     let s = c.args.self.now in
     let n = c.args.inst in
     let t = inst_of s n c.index-self-inst.result c.requires.survey c.requires.below in
-    not_announced (insts_of s) n (plain_inst (get_or s.insts.now n c.index-self-inst.result)) t (above _ opcode.TYPE_FORWARD_POINTER c.if-there-gt-FUNCTION_END.true (omega arith))
+    not_announced (insts_of s) n (plain_inst (get_or s.insts.now n c.index-self-inst.result)) t (c.is_ordinary.ensures.announces c.if-is_ordinary.true)
 
 pub returns-then-are_sound-clause-open : goal.returns-then-are_sound-clause-open
 returns-then-are_sound-clause-open c = λ l.
@@ -40,8 +38,8 @@ returns-then-are_sound-clause-open c = λ l.
     let n = c.args.inst in
     let i = plain_inst (get_or s.insts.now n c.index-self-inst.result) in
     let t = inst_of s n c.index-self-inst.result c.requires.survey c.requires.below in
-    let g = c.if-there-gt-FUNCTION_END.true in
-    stays_open (insts_of s) n c.args.floor i t (above _ opcode.FUNCTION_END g (omega arith)) (goes_on (insts_of s) n c.args.floor i t (above _ opcode.FUNCTION g (omega arith)) (c.requires.open l))
+    let g = c.if-is_ordinary.true in
+    stays_open (insts_of s) n c.args.floor i t (c.is_ordinary.ensures.ends g) (goes_on (insts_of s) n c.args.floor i t (c.is_ordinary.ensures.begins g) (c.requires.open l))
 
 pub are_sound-requires-2-clause-floor : goal.are_sound-requires-2-clause-floor
 are_sound-requires-2-clause-floor c =
