@@ -8,13 +8,14 @@ ghost use Rattle.spv_ops.specs.Chain.{Chains, ChainsByElement, LeadsByPointer};
 ghost use Rattle.spv_type_forms.specs.Values.{types_of};
 
 use spv_module::Operand;
-use spv_type_forms::{Definitions, Form, all_ints, is_int, leads};
+use spv_type_forms::{Definitions, Form, is_int, leads_by_ints};
 
-/// Whether the indexes lead from a pointer to a pointer of the same storage class.
-pub fn leads_by_pointer(definitions: &Definitions, r: u32, o: u32, indexes: &[Operand]) -> bool
-    ensures { IsTrue result ↔ LeadsByPointer definitions.now r o (ids_in (plain_operands indexes.now)) }
+/// Whether the indexes are ints, and lead from a pointer to a pointer of the same storage class.
+fn ints_lead(definitions: &Definitions, r: u32, o: u32, indexes: &[Operand]) -> bool
+    ensures { IsTrue result ↔ ((list_all (has_int definitions.now) (ids_in (plain_operands indexes.now)) ≡ true)
+        × LeadsByPointer definitions.now r o (ids_in (plain_operands indexes.now))) }
 {
-    match (definitions.form(o), definitions.form(r)) {
+    match (definitions.read_form(o), definitions.read_form(r)) {
         (
             Some(
                 Form::Pointer {
@@ -28,17 +29,9 @@ pub fn leads_by_pointer(definitions: &Definitions, r: u32, o: u32, indexes: &[Op
                     pointee: to,
                 },
             ),
-        ) => a == b && leads(definitions, from, indexes, to),
+        ) => a == b && leads_by_ints(definitions, from, indexes, to),
         _ => false,
     }
-}
-
-/// Whether the indexes are ints, and lead from a pointer to a pointer of the same storage class.
-fn ints_lead(definitions: &Definitions, r: u32, o: u32, indexes: &[Operand]) -> bool
-    ensures { IsTrue result ↔ ((list_all (has_int definitions.now) (ids_in (plain_operands indexes.now)) ≡ true)
-        × LeadsByPointer definitions.now r o (ids_in (plain_operands indexes.now))) }
-{
-    all_ints(definitions, indexes) && leads_by_pointer(definitions, r, o, indexes)
 }
 
 /// Whether the row of OpAccessChain holds of a base and indexes.

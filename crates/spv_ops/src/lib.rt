@@ -14,7 +14,6 @@ mod typed;
 mod variable;
 
 pub use calculation::{bitcast, selects};
-pub use chain::leads_by_pointer;
 pub use composite::are_components;
 pub use row::{Access, Calculation, Composite, Row, row_of};
 pub use typed::{inst_holds, op_holds};

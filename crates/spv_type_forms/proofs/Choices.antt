@@ -1,5 +1,6 @@
 -- What the indexes of an access chain lead to, as a function, is the same.
-use Rattle.std.proofs.Common.{◌≡◌, ◌≢◌, ◌⊎◌, inl, inr, ℕ, List, [], ◌∷◌, Some, ◌↔◌, refl}
+use Rattle.std.proofs.Common.{◌≡◌, ◌≢◌, ◌⊎◌, inl, inr, ℕ, List, [], ◌∷◌, Option, Some, None, Bool, true, false, ◌&&◌, if◌then◌else◌, ◌↔◌, refl, option_and_then}
+use Rattle.std.specs.List.{list_all}
 use Rattle.std.proofs.lemmas.Option.{option_and_then_some, none-some}
 use Rattle.spv_module.specs.Operand.{PlainInst}
 use Rattle.spv_type_forms.specs.declared.form.Form.{Form}
@@ -8,7 +9,8 @@ use Rattle.spv_type_forms.specs.Form.{form_of}
 use Rattle.spv_type_forms.specs.Parts.{part_in, part_of, constant_of}
 use Rattle.spv_type_forms.specs.Reach.{ReachesType, ChoosesParts}
 use Rattle.spv_type_forms.specs.inner.Reach.{LeadsToType}
-use Rattle.spv_type_forms.specs.inner.Walk.{choice_in, choice, choices}
+use Rattle.spv_type_forms.specs.inner.Tests.{has_int}
+use Rattle.spv_type_forms.specs.inner.Walk.{choice_in, choice, choices, int_choices}
 
 -- one index: a member of a struct, or any part of another type
 abbrev OneChoice : List PlainInst → ℕ → ℕ → ℕ → Type 0
@@ -64,3 +66,15 @@ leading is (x ∷ xs) (k ∷ ks) t u (ChoosesParts.element _ _ _ v _ _ n p rest)
 -- the walk decides
 pub choices_decide : (is : List PlainInst) (xs : List ℕ) (t u : ℕ) → (choices is xs t ≡ Some u) ↔ LeadsToType is t xs u
 choices_decide is xs t u = (led_to is xs t u, λ l. leading is xs l.0 t u l.1 l.2)
+
+-- one index more, which is an int
+one_int : (b r : Bool) (o : Option ℕ) (f g : ℕ → Option ℕ) (u : ℕ) → ((v : ℕ) → (f v ≡ Some u) ↔ ((r ≡ true) × (g v ≡ Some u)))
+    → ((if b then option_and_then f o else None) ≡ Some u) ↔ ((b && r ≡ true) × (option_and_then g o ≡ Some u))
+one_int true r None f g u h = (λ e. absurd (none-some u e), λ p. absurd (none-some u p.1))
+one_int true r (Some v) f g u h = h v
+one_int false r o f g u h = (λ e. absurd (none-some u e), λ p. absurd (let no : false ≡ true = p.0 in cc))
+
+-- indexes that all are ints lead as others do
+pub ints_choose : (is : List PlainInst) (xs : List ℕ) (t u : ℕ) → (int_choices is xs t ≡ Some u) ↔ ((list_all (has_int is) xs ≡ true) × (choices is xs t ≡ Some u))
+ints_choose is [] t u = (λ e. (refl, e), λ p. p.1)
+ints_choose is (x ∷ xs) t u = one_int (has_int is x) (list_all (has_int is) xs) (choice is t x) (λ v. int_choices is xs v) (λ v. choices is xs v) u (λ v. ints_choose is xs v u)

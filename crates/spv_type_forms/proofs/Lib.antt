@@ -4,3 +4,4 @@ pub mod Choices
 pub mod TagTests
 pub mod Lookups
 pub mod Worked
+pub mod Meanings

@@ -6,3 +6,4 @@ pub mod Parts
 pub mod Definitions
 pub mod Reach
 pub mod Types
+pub mod Meaning

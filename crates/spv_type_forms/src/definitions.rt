@@ -1,6 +1,6 @@
 //! What the ids of a module stand for.
 
-ghost use Rattle.std.specs.Prelude.{◌≡◌, ◌↔◌, ◌<◌, ℕ, IsTrue, Some, length, map, option_map};
+ghost use Rattle.std.specs.Prelude.{◌≡◌, ◌↔◌, ◌<◌, ℕ, IfOk, IsTrue, Some, length, map, option_map};
 ghost use Rattle.std.specs.Prelude.{slice_get};
 ghost use Rattle.spv_table.specs.Table.{Table};
 ghost use Rattle.spv_module.specs.declared.opcode.TheConstants as opcode;
@@ -8,17 +8,21 @@ ghost use Rattle.spv_module.specs.Width as width;
 ghost use Rattle.spv_module.specs.Width.{definition_of};
 ghost use Rattle.spv_module.specs.Module.{plain_inst, plain_insts, plain_operands};
 ghost use Rattle.spv_module.specs.Operand as operand;
+ghost use Rattle.spv_layout.specs.Place.{AreFew};
 ghost use Rattle.spv_layout.specs.Plan.{IsPlan, IsPlaceOf};
 ghost use Rattle.spv_ids.specs.Outcome.{IsDefinitionOf, IsOnly, definition_in};
 ghost use Rattle.spv_type_forms.specs.Form.{form_of};
 ghost use Rattle.spv_type_forms.specs.Types.{scalar_in, components_of, pointee_in};
 ghost use Rattle.spv_type_forms.specs.inner.Definitions as definitions;
+ghost use Rattle.spv_type_forms.specs.inner.Meaning.{AreMeant};
 ghost use Rattle.spv_type_forms.specs.Definitions.{IsConstant, IsGlobal};
 
 use crate::form::{Components, Form, Scalar, form_in};
+use crate::meaning::{Meaning, note_in};
 use spv_ids::Ids;
 use spv_layout::{Place, Plan};
 use spv_module::{Inst, Module, Operand, opcode};
+use std::alloc::{AllocError, Global};
 use std::marker::Model;
 
 /// The number of section 9 among the sections.
@@ -30,6 +34,8 @@ pub struct Definitions<'m, 'a> {
     insts: &'m [Inst<'a>],
     plan: &'m Plan,
     ids: &'m Ids,
+    /// By id what is noted of it, as far as the list goes.
+    meanings: &'m [Meaning],
 }
 
 impl<'m, 'a> Model for Definitions<'m, 'a> {
@@ -42,7 +48,8 @@ impl<'m, 'a> Model for Definitions<'m, 'a> {
 
     ghost view = { λ d. map plain_inst d.insts.now };
 
-    ghost invariant = { λ d. AreFound (map plain_inst d.insts.now) d.plan.now d.ids.now };
+    ghost invariant = { λ d. AreFound (map plain_inst d.insts.now) d.plan.now d.ids.now
+        d.meanings.now };
 }
 
 impl<'m, 'a> Definitions<'m, 'a> {
@@ -53,7 +60,57 @@ impl<'m, 'a> Definitions<'m, 'a> {
         requires ids { (x : ℕ) → IsDefinitionOf (map plain_inst insts.now) x (definition_in ids.now x) }
         ensures { result ≡ map plain_inst insts.now }
     {
-        Definitions { insts, plan, ids }
+        Definitions {
+            insts,
+            plan,
+            ids,
+            meanings: &[],
+        }
+    }
+
+    /// The same definitions, with what is noted of their ids: what `meanings` answered of them.
+    #[inline(always)]
+    pub fn noted<'n>(&'n self, meanings: &'n [Meaning]) -> Definitions<'n, 'a>
+        requires { AreMeant self.now meanings.now }
+        ensures { result ≡ self.now }
+    {
+        Definitions {
+            insts: self.insts,
+            plan: self.plan,
+            ids: self.ids,
+            meanings,
+        }
+    }
+
+    /// Notes what the instruction of a number says of its result, where the list has a place for it.
+    #[inline(always)]
+    fn note(&self, number: u32, meanings: &mut [Meaning])
+        requires number { number < length self.now }
+        requires meanings { AreMeant self.now meanings.old }
+        ensures { AreMeant self.now meanings.new }
+    {
+        let Some(note) = note_in(&self.insts[number as usize]) else {
+            return;
+        };
+        let place = note.id as usize;
+        if place < meanings.len() {
+            meanings[place] = note.meaning;
+        }
+    }
+
+    /// What each id stands for, by id: of as many ids as there are instructions, so that in most modules none is left
+    /// out. Rules that ask much of ids read it there.
+    ///
+    /// An `AllocError` comes only where a growth of memory was refused.
+    pub fn meanings(&self, alloc: Global) -> Result<Vec<Meaning>, AllocError>
+        requires { AreFew self.now }
+        ensures { IfOk result (λ ms. AreMeant self.now ms.items) }
+    {
+        let mut meanings = vec![in alloc; Meaning::Unknown; self.insts.len()]?;
+        for number in 0..self.insts.len() as u32 {
+            self.note(number, meanings.as_mut_slice());
+        }
+        Ok(meanings)
     }
 
     /// The instruction of a number.
@@ -104,12 +161,23 @@ impl<'m, 'a> Definitions<'m, 'a> {
         }
     }
 
+    /// What a type id declares, by its definition.
+    #[inline(never)]
+    fn defined_form(&self, id: u32) -> Option<Form>
+        ensures { result ≡ form_of self.now id }
+    {
+        form_in(self.definition(id)?)
+    }
+
     /// What a type id declares. It is for where it is asked for at most instructions: `form` is the same.
     #[inline(always)]
     pub fn read_form(&self, id: u32) -> Option<Form>
         ensures { result ≡ form_of self.now id }
     {
-        form_in(self.definition(id)?)
+        match self.meanings.get(id as usize) {
+            Some(Meaning::Declares(form)) => Some(*form),
+            _ => self.defined_form(id),
+        }
     }
 
     /// What a type id declares.
@@ -123,7 +191,7 @@ impl<'m, 'a> Definitions<'m, 'a> {
     fn scalar(&self, id: u32) -> Option<Scalar>
         ensures { result ≡ scalar_in (form_of self.now id) }
     {
-        match self.form(id)? {
+        match self.read_form(id)? {
             Form::Scalar(scalar) => Some(scalar),
             _ => None,
         }
@@ -133,7 +201,7 @@ impl<'m, 'a> Definitions<'m, 'a> {
     pub fn components(&self, id: u32) -> Option<Components>
         ensures { result ≡ components_of self.now id }
     {
-        match self.form(id)? {
+        match self.read_form(id)? {
             Form::Scalar(scalar) => Some(Components { scalar, count: 1 }),
             Form::Vector { component, count } => {
                 let scalar = self.scalar(component)?;
@@ -147,10 +215,19 @@ impl<'m, 'a> Definitions<'m, 'a> {
     pub fn pointee(&self, id: u32) -> Option<u32>
         ensures { result ≡ pointee_in (form_of self.now id) }
     {
-        match self.form(id)? {
+        match self.read_form(id)? {
             Form::Pointer { pointee, .. } => Some(pointee),
             _ => None,
         }
+    }
+
+    /// The type that an id is declared with, by its definition.
+    #[inline(never)]
+    fn defined_type(&self, id: u32) -> Option<u32>
+        ensures { result ≡ width.type_of self.now id }
+    {
+        let inst = self.definition(id)?;
+        type_in(inst.operands.as_slice())
     }
 
     /// The type that an id is declared with: the `Type` of its definition.
@@ -158,8 +235,10 @@ impl<'m, 'a> Definitions<'m, 'a> {
     pub fn type_of(&self, id: u32) -> Option<u32>
         ensures { result ≡ width.type_of self.now id }
     {
-        let inst = self.definition(id)?;
-        type_in(inst.operands.as_slice())
+        match self.meanings.get(id as usize) {
+            Some(Meaning::Typed(t)) => Some(*t),
+            _ => self.defined_type(id),
+        }
     }
 }
 

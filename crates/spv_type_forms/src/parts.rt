@@ -4,11 +4,12 @@ ghost use Rattle.spv_type_forms.specs.Parts as spec;
 ghost use Rattle.spv_type_forms.specs.Parts.{constant_of, length_of, members_of, part_of, count_of};
 ghost use Rattle.spv_type_forms.specs.inner.Parts.{inner_part_of, part_among, member_of};
 ghost use Rattle.spv_type_forms.specs.Operands.{words_in, ids_in};
-ghost use Rattle.spv_type_forms.specs.inner.Walk.{walk, choice, choices};
+ghost use Rattle.spv_type_forms.specs.inner.Walk.{walk, choice, int_choices};
 
 use crate::definitions::Definitions;
 use crate::form::Form;
 use crate::operands::after_result;
+use crate::several::stands_for_int;
 use spv_module::{Operand, opcode};
 
 /// The number of a constant: 64 bits, the low word first.
@@ -49,6 +50,7 @@ pub fn length(definitions: &Definitions, id: u32) -> Option<u64>
 }
 
 /// The members of a struct type.
+#[inline(always)]
 fn members<'m, 'a>(definitions: &Definitions<'m, 'a>, t: u32) -> Option<&'m [Operand<'a>]>
     ensures { option_map (λ ms. plain_operands ms.now) result ≡ members_of definitions.now t }
 {
@@ -56,23 +58,12 @@ fn members<'m, 'a>(definitions: &Definitions<'m, 'a>, t: u32) -> Option<&'m [Ope
 }
 
 /// The type of a member of a struct type.
+#[inline(always)]
 fn member(definitions: &Definitions, t: u32, k: u64) -> Option<u32>
     ensures { result ≡ member_of definitions.now t k }
 {
     match members(definitions, t)?.get(k as usize)? {
         Operand::Id(x) => Some(*x),
-        _ => None,
-    }
-}
-
-/// The type of a part: a vector's component type, an array's element type, or that of a struct's member.
-pub fn part(definitions: &Definitions, t: u32, k: u64) -> Option<u32>
-    ensures { result ≡ part_of definitions.now t k }
-{
-    match definitions.form(t)? {
-        Form::Vector { component, .. } => Some(component),
-        Form::Array { element, .. } => Some(element),
-        Form::Struct => member(definitions, t, k),
         _ => None,
     }
 }
@@ -105,11 +96,12 @@ impl<'m, 'a> Parts<'m, 'a> {
     }
 }
 
-/// The types of the parts of a type: at each place what `part` answers.
+/// The types of the parts of a type: a vector's component type, an array's element type, or those of a struct's
+/// members.
 pub fn parts_of<'m, 'a>(definitions: &Definitions<'m, 'a>, t: u32) -> Parts<'m, 'a>
     ensures { (k : ℕ) → part_among result k ≡ part_of definitions.now t k }
 {
-    match definitions.form(t) {
+    match definitions.read_form(t) {
         Some(Form::Vector { component, .. }) => Parts::Alike(component),
         Some(Form::Array { element, .. }) => Parts::Alike(element),
         Some(Form::Struct) => match members(definitions, t) {
@@ -124,7 +116,7 @@ pub fn parts_of<'m, 'a>(definitions: &Definitions<'m, 'a>, t: u32) -> Parts<'m, 
 pub fn count(definitions: &Definitions, t: u32) -> Option<u64>
     ensures { result ≡ count_of definitions.now t }
 {
-    match definitions.form(t)? {
+    match definitions.read_form(t)? {
         Form::Vector { count, .. } => Some(u64::from(count)),
         Form::Array { length: id, .. } => length(definitions, id),
         Form::Struct => Some(members(definitions, t)?.len() as u64),
@@ -133,14 +125,22 @@ pub fn count(definitions: &Definitions, t: u32) -> Option<u64>
 }
 
 /// The type of a part whose number is below the number of parts.
+#[inline(always)]
 fn inner_part(definitions: &Definitions, t: u32, k: u32) -> Option<u32>
     ensures { result ≡ inner_part_of definitions.now t k }
 {
-    let k = u64::from(k);
-    if k < count(definitions, t)? {
-        part(definitions, t, k)
-    } else {
-        None
+    match definitions.read_form(t)? {
+        Form::Vector { component, count } => if k < count { Some(component) } else { None },
+        Form::Array {
+            element,
+            length: id,
+        } => if u64::from(k) < length(definitions, id)? {
+            Some(element)
+        } else {
+            None
+        },
+        Form::Struct => member(definitions, t, u64::from(k)),
+        _ => None,
     }
 }
 
@@ -159,25 +159,31 @@ pub fn reached(definitions: &Definitions, t: u32, literals: &[Operand]) -> Optio
 }
 
 /// The type of the part that an index of an access chain chooses.
+#[inline(always)]
 fn chosen_part(definitions: &Definitions, t: u32, x: u32) -> Option<u32>
     ensures { result ≡ choice definitions.now t x }
 {
-    match definitions.form(t)? {
-        Form::Struct => part(definitions, t, constant(definitions, x)?),
-        _ => part(definitions, t, 0),
+    match definitions.read_form(t)? {
+        Form::Vector { component, .. } => Some(component),
+        Form::Array { element, .. } => Some(element),
+        Form::Struct => member(definitions, t, constant(definitions, x)?),
+        _ => None,
     }
 }
 
-/// The type that the indexes of an access chain lead to, which are ids. Operands after the first that is no id are not
-/// looked at.
-pub fn led(definitions: &Definitions, t: u32, indexes: &[Operand]) -> Option<u32>
-    ensures { result ≡ choices definitions.now (ids_in (plain_operands indexes.now)) t }
+/// The type that the indexes of an access chain lead to, which are ids, if they all stand for ints. Operands after the
+/// first that is no id are not looked at.
+pub fn led_by_ints(definitions: &Definitions, t: u32, indexes: &[Operand]) -> Option<u32>
+    ensures { result ≡ int_choices definitions.now (ids_in (plain_operands indexes.now)) t }
 {
     let mut at = t;
     for operand in indexes {
         let Operand::Id(x) = operand else {
             return Some(at);
         };
+        if !stands_for_int(definitions, *x) {
+            return None;
+        }
         at = chosen_part(definitions, at, *x)?;
     }
     Some(at)

@@ -1,14 +1,16 @@
 //! What indexes reach.
 
-ghost use Rattle.std.specs.Prelude.{◌≡◌, ◌↔◌, Some, IsTrue};
+ghost use Rattle.std.specs.Prelude.{◌≡◌, ◌↔◌, Some, IsTrue, true};
+ghost use Rattle.std.specs.List.{list_all};
 ghost use Rattle.spv_module.specs.Module.{plain_operands};
 ghost use Rattle.spv_type_forms.specs.Operands.{words_in, ids_in};
 ghost use Rattle.spv_type_forms.specs.Reach.{ReachesType, AreWithin};
 ghost use Rattle.spv_type_forms.specs.inner.Reach.{LeadsToType};
-ghost use Rattle.spv_type_forms.specs.inner.Walk.{walk, choices};
+ghost use Rattle.spv_type_forms.specs.inner.Tests.{has_int};
+ghost use Rattle.spv_type_forms.specs.inner.Walk.{walk, int_choices};
 
 use crate::definitions::Definitions;
-use crate::parts::{led, reached};
+use crate::parts::{led_by_ints, reached};
 use spv_module::Operand;
 
 /// Whether the literals among the operands lead to a type, each below the number of parts at its place.
@@ -29,19 +31,20 @@ pub fn reaches(definitions: &Definitions, t: u32, operands: &[Operand], u: u32) 
     walks(definitions, t, operands, u)
 }
 
-/// Whether the indexes go from a type to another, one after another.
-fn goes(definitions: &Definitions, from: u32, indexes: &[Operand], to: u32) -> bool
-    ensures { IsTrue result ↔ (choices definitions.now (ids_in (plain_operands indexes.now)) from ≡ Some to) }
+/// Whether the indexes, all ints, go from a type to another, one after another.
+fn goes_by_ints(definitions: &Definitions, from: u32, indexes: &[Operand], to: u32) -> bool
+    ensures { IsTrue result ↔ (int_choices definitions.now (ids_in (plain_operands indexes.now)) from ≡ Some to) }
 {
-    match led(definitions, from, indexes) {
+    match led_by_ints(definitions, from, indexes) {
         Some(t) => t == to,
         None => false,
     }
 }
 
-/// Whether the indexes lead from a type to another.
-pub fn leads(definitions: &Definitions, from: u32, indexes: &[Operand], to: u32) -> bool
-    ensures { IsTrue result ↔ LeadsToType definitions.now from (ids_in (plain_operands indexes.now)) to }
+/// Whether the indexes all stand for ints, and lead from a type to another.
+pub fn leads_by_ints(definitions: &Definitions, from: u32, indexes: &[Operand], to: u32) -> bool
+    ensures { IsTrue result ↔ ((list_all (has_int definitions.now) (ids_in (plain_operands indexes.now)) ≡ true)
+        × LeadsToType definitions.now from (ids_in (plain_operands indexes.now)) to) }
 {
-    goes(definitions, from, indexes, to)
+    goes_by_ints(definitions, from, indexes, to)
 }

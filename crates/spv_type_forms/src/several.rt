@@ -15,31 +15,17 @@ use crate::parts::{count, parts_of};
 use spv_module::Operand;
 
 /// Whether an id stands for an int.
+#[inline(always)]
 pub fn stands_for_int(definitions: &Definitions, x: u32) -> bool
     ensures { result ≡ has_int definitions.now x }
 {
     match definitions.type_of(x) {
-        Some(t) => match definitions.form(t) {
+        Some(t) => match definitions.read_form(t) {
             Some(Form::Scalar(Scalar::Int(_))) => true,
             _ => false,
         },
         None => false,
     }
-}
-
-/// Whether the ids at the front of the operands all stand for ints.
-pub fn all_ints(definitions: &Definitions, operands: &[Operand]) -> bool
-    ensures { result ≡ list_all (has_int definitions.now) (ids_in (plain_operands operands.now)) }
-{
-    for operand in operands {
-        let Operand::Id(x) = operand else {
-            return true;
-        };
-        if !stands_for_int(definitions, *x) {
-            return false;
-        }
-    }
-    true
 }
 
 /// Whether an id is declared with a type.

@@ -20,7 +20,7 @@ pub fn points_to(definitions: &Definitions, t: u32, to: u32) -> bool
 pub fn is_int(definitions: &Definitions, t: u32) -> bool
     ensures { IsTrue result ↔ IsSomeInt definitions.now t }
 {
-    match definitions.form(t) {
+    match definitions.read_form(t) {
         Some(Form::Scalar(Scalar::Int(_))) => true,
         _ => false,
     }
@@ -30,7 +30,7 @@ pub fn is_int(definitions: &Definitions, t: u32) -> bool
 pub fn is_number(definitions: &Definitions, t: u32) -> bool
     ensures { IsTrue result ↔ IsNumber definitions.now t }
 {
-    match definitions.form(t) {
+    match definitions.read_form(t) {
         Some(Form::Scalar(Scalar::Int(_) | Scalar::Float(_))) => true,
         _ => false,
     }
@@ -61,7 +61,7 @@ fn has_components_of(definitions: &Definitions, sort: Sort, t: u32) -> bool
 pub fn is_data(definitions: &Definitions, t: u32) -> bool
     ensures { IsTrue result ↔ IsData definitions.now t }
 {
-    match definitions.form(t) {
+    match definitions.read_form(t) {
         None | Some(Form::Void | Form::Opaque | Form::Function) => false,
         Some(_) => true,
     }

@@ -24,7 +24,7 @@ use Rattle.spv_layout.specs.First.{IsUnbroken}
 use Rattle.spv_layout.specs.Plan.{IsPlan}
 use Rattle.spv_ids.specs.Outcome.{AreIds}
 use Rattle.spv_verdict.specs.types.Broken as type_rules
-use Rattle.spv_roles.specs.Outcome.{AreInRole}
+use Rattle.spv_type_rules.specs.roles.Outcome.{AreInRole}
 use Rattle.spv_capabilities.specs.Keeps as capability_rules
 use Rattle.spv_ops.specs.Typed.{IsTyped}
 use Rattle.spv_type_rules.specs.Keeps as typing_rules

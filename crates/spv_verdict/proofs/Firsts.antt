@@ -20,9 +20,9 @@ use Rattle.spv_layout.proofs.Firsts.{rank_apart}
 use Rattle.spv_ids.specs.Broken as ids
 use Rattle.spv_verdict.specs.types.Broken as types
 use Rattle.spv_verdict.specs.types.Outcome as types_outcome
-use Rattle.spv_branches.specs.Broken as flow
-use Rattle.spv_walks.proofs.Staged.{IsStaged, staged}
-use Rattle.spv_calls.specs.Broken as calls
+use Rattle.spv_flow.specs.branches.Broken as flow
+use Rattle.spv_flow.proofs.lemmas.walks.Staged.{IsStaged, staged}
+use Rattle.spv_flow.specs.calls.Broken as calls
 use Rattle.spv_verdict.specs.flow.Outcome as flow_outcome
 use Rattle.spv_verdict.specs.flow.Outcome.{IsFirstOfFlow}
 use Rattle.spv_verdict.proofs.Stages.{types_stage}

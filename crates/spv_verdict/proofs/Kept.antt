@@ -13,7 +13,7 @@ use Rattle.spv_layout.specs.Rows.{row_of}
 use Rattle.spv_layout.specs.Shape.{FitsShape}
 use Rattle.spv_layout.specs.inner.Test.{fits_row}
 use Rattle.spv_layout.proofs.Tested.{fits_iff}
-use Rattle.spv_roles.specs.Broken as roles
+use Rattle.spv_type_rules.specs.roles.Broken as roles
 use Rattle.spv_verdict.specs.types.Broken as types
 use Rattle.spv_verdict.specs.Broken.{Broken, IsSound}
 use Rattle.spv_verdict.specs.Checked.{IsKept}

@@ -22,8 +22,8 @@ use Rattle.spv_layout.specs.declared.form.Role.{Role}
 use Rattle.spv_layout.specs.Broken as layout_rules
 use Rattle.spv_layout.proofs.Dead.{laid_out_or_dead}
 use Rattle.spv_ids.specs.Definition.{IsUsedAt}
-use Rattle.spv_roles.specs.Broken as role_rules
-use Rattle.spv_roles.specs.Role.{Plays}
+use Rattle.spv_type_rules.specs.roles.Broken as role_rules
+use Rattle.spv_type_rules.specs.roles.Role.{Plays}
 use Rattle.spv_verdict.specs.types.Broken as type_rules
 use Rattle.spv_verdict.specs.run.Example.{step_at}
 use Rattle.spv_verdict.specs.run.Kernel.{capabilities, addressing_models, memory_models, execution_models, controls, grammar, operand, operands, entry, capability, model, entry_point, void, of_void, function, label, return_op, end, kernel}

@@ -21,8 +21,8 @@ use Rattle.spv_type_forms.specs.Operands.{ids_in, after_head}
 use Rattle.spv_type_forms.specs.Values.{types_of}
 use Rattle.spv_ops.specs.Typed.{IsTyped}
 use Rattle.spv_ops.proofs.Judged.{told}
-use Rattle.spv_roles.specs.Role.{Plays}
-use Rattle.spv_roles.specs.inner.Role.{IsTypeDeclaration, IsValue, IsOfOpcode}
+use Rattle.spv_type_rules.specs.roles.Role.{Plays}
+use Rattle.spv_type_rules.specs.roles.inner.Role.{IsTypeDeclaration, IsValue, IsOfOpcode}
 use Rattle.spv_type_rules.specs.declared.declaration.Declaration.{Declaration}
 use Rattle.spv_type_rules.specs.declared.declaration.Declaration.TheVariants.{Int, Float, Vector, Array, Struct, Pointer, Function, Forward}
 use Rattle.spv_type_rules.specs.declared.constant.Constant.{Constant}

@@ -10,8 +10,8 @@ use Rattle.spv_layout.specs.Place.{first_word_of}
 use Rattle.spv_layout.specs.Broken as layout
 use Rattle.spv_ids.specs.Broken as ids
 use Rattle.spv_verdict.specs.types.Broken as types
-use Rattle.spv_branches.specs.Broken as flow
-use Rattle.spv_calls.specs.Broken as calls
+use Rattle.spv_flow.specs.branches.Broken as flow
+use Rattle.spv_flow.specs.calls.Broken as calls
 
 -- Under the bound of ids, the rule is broken at the instruction of that number: a rule of the profile or of the layout;
 -- on ids; on roles, capabilities, entry points or types; on where branches lead, or on values that are defined on every

@@ -16,13 +16,13 @@ use Rattle.spv_layout.specs.declared.place.Place.{Place}
 use Rattle.spv_ids.specs.Broken as id_rules
 use Rattle.spv_ids.specs.Outcome.{AreIds}
 use Rattle.spv_ids.specs.declared.ids.Ids.{Ids}
-use Rattle.spv_roles.specs.Outcome.{AreInRole}
+use Rattle.spv_type_rules.specs.roles.Outcome.{AreInRole}
 use Rattle.spv_capabilities.specs.Keeps as capability_rules
 use Rattle.spv_ops.specs.Typed.{IsTyped}
 use Rattle.spv_type_rules.specs.Keeps as typing_rules
 use Rattle.spv_verdict.specs.types.Broken as type_rules
-use Rattle.spv_branches.specs.Broken as flow_rules
-use Rattle.spv_calls.specs.Broken as call_rules
+use Rattle.spv_flow.specs.branches.Broken as flow_rules
+use Rattle.spv_flow.specs.calls.Broken as call_rules
 use Rattle.spv_verdict.specs.flow.Outcome.{IsFlow}
 use Rattle.spv_verdict.specs.declared.flow.Flow.{Flow}
 use Rattle.spv_verdict.specs.Broken.{IsSound}

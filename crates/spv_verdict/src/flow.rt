@@ -13,12 +13,12 @@ pub mod laws;
 
 use crate::flow::counting::count_definitions;
 use crate::types::Types;
-use spv_branches::check_branches;
-use spv_calls::first_cycle;
+use spv_flow::branches::check_branches;
+use spv_flow::calls::first_cycle;
+use spv_flow::walks::check_values;
 use spv_ids::Ids;
 use spv_layout::Plan;
 use spv_module::{Module, Rule, Stop};
-use spv_walks::check_values;
 use std::alloc::Global;
 
 /// What is known of a module that breaks no rule of flow.

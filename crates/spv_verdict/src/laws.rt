@@ -13,8 +13,8 @@ ghost use Rattle.spv_layout.specs.declared.place.Place.{Place};
 ghost use Rattle.spv_ids.specs.declared.ids.Ids.{Ids};
 ghost use Rattle.spv_ids.specs.Outcome.{IsDefinitionOf, definition_in};
 ghost use Rattle.spv_verdict.specs.declared.flow.Flow.{Flow};
-ghost use Rattle.spv_calls.specs.Calls.{IsEntryFunction};
-ghost use Rattle.spv_calls.specs.Example.{functions, looped};
+ghost use Rattle.spv_flow.specs.calls.Calls.{IsEntryFunction};
+ghost use Rattle.spv_flow.specs.calls.Example.{functions, looped};
 ghost use Rattle.spv_verdict.specs.run.Promise.{NeverGetsStuck};
 ghost use Rattle.spv_verdict.specs.Outcome.{HasFailed, IsUntouched, OfKnown};
 ghost use Rattle.spv_verdict.specs.Answer.{IsFault};
@@ -124,7 +124,7 @@ pub fn broken_examples()
     ensures earlier { Precedes Y7 9 A1 3 }
     ensures later { ¬ (Precedes A1 3 Y7 9) }
 {
-    spv_calls::laws::call_examples();
+    spv_flow::calls::laws::call_examples();
 }
 
 /// Worked examples of what a check leaves in its writer.

@@ -1,7 +1,7 @@
 //! The run of a checked module from an entry point.
 ghost use Rattle.std.specs.Prelude.{ℕ, List, IfOk, IfErr};
 ghost use Rattle.spv_table.specs.Table.{Table};
-ghost use Rattle.spv_calls.specs.Calls.{IsEntryFunction};
+ghost use Rattle.spv_flow.specs.calls.Calls.{IsEntryFunction};
 ghost use Rattle.spv_verdict.specs.run.Entry.{RefusesEntry};
 ghost use Rattle.spv_verdict.specs.run.Promise.{NeverGetsStuck};
 ghost use Rattle.spv_verdict.specs.Broken.{IsSound};

@@ -18,10 +18,10 @@ use spv_capabilities::survey;
 use spv_ids::Ids;
 use spv_layout::Plan;
 use spv_module::{Module, Stop};
-use spv_roles::roles_check;
 use spv_table::Table;
 use spv_type_forms::Definitions;
 use spv_type_rules::Rules;
+use spv_type_rules::roles::roles_check;
 use std::alloc::Global;
 
 /// The types that a module's ids are declared with (SPIR-V Specification 1.6, section 2.16). They are read from the

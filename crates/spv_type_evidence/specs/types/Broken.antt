@@ -5,7 +5,7 @@ use Rattle.spv_module.specs.Operand.{PlainInst}
 use Rattle.spv_module.specs.declared.fault.Rule.{Rule}
 use Rattle.spv_layout.specs.declared.place.Place.{Place}
 use Rattle.spv_layout.specs.Plan.{IsPlan}
-use Rattle.spv_roles.specs.Outcome.{AreInRole}
+use Rattle.spv_type_rules.specs.roles.Outcome.{AreInRole}
 use Rattle.spv_ops.specs.Typed.{IsTyped}
 use Rattle.spv_type_rules.specs.Keeps.{Keeps}
 

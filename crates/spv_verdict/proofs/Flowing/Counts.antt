@@ -6,7 +6,7 @@ use Rattle.std.proofs.lemmas.Option.{slice_get_within}
 use Rattle.spv_module.specs.Operand.{PlainInst}
 use Rattle.spv_layout.specs.Place.{IsDefinition}
 use Rattle.spv_layout.proofs.Spans.{below_or}
-use Rattle.spv_calls.proofs.Lists.{pushed_cases, pushed_keeps, pushed_last}
+use Rattle.spv_flow.proofs.lemmas.calls.Lists.{pushed_cases, pushed_keeps, pushed_last}
 use Rattle.spv_verdict.specs.flow.Definitions.{AreDefinitions, IsCount}
 
 -- before the first instruction there is none

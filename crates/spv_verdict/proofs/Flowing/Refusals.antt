@@ -8,10 +8,10 @@ use Rattle.spv_module.specs.declared.fault.Stop.TheVariants.{Fault, Memory}
 use Rattle.spv_layout.specs.First.{IsFirst, IsUnbroken}
 use Rattle.spv_layout.specs.Stage as stages
 use Rattle.spv_ids.specs.inner.Outcome.{IsStopAt}
-use Rattle.spv_branches.specs.Broken as branch_rules
-use Rattle.spv_branches.specs.Found as branches
-use Rattle.spv_walks.specs.Found as walks
-use Rattle.spv_calls.specs.Broken as call_rules
+use Rattle.spv_flow.specs.branches.Broken as branch_rules
+use Rattle.spv_flow.specs.branches.Found as branches
+use Rattle.spv_flow.specs.walks.Found as walks
+use Rattle.spv_flow.specs.calls.Broken as call_rules
 use Rattle.spv_verdict.specs.flow.Outcome.{IsFirstOfFlow, IsRefusal}
 
 pub by_branches : (G : Table) (is : List PlainInst) (s : Stop) → branches.IsRefusal G is s → IsRefusal G is s

@@ -7,9 +7,9 @@ use Rattle.spv_layout.specs.declared.form.Role.TheVariants.{Any}
 use Rattle.spv_layout.specs.Layout.{IsLayout, classes}
 use Rattle.spv_ids.specs.Definition.{IsUsedAt}
 use Rattle.spv_type_rules.specs.Function.{signature_of}
-use Rattle.spv_branches.specs.Ready.{IsLocalValue}
-use Rattle.spv_calls.specs.Chain.{Chain}
-use Rattle.spv_calls.specs.Calls.{Calls, IsEntryFunction}
+use Rattle.spv_flow.specs.branches.Ready.{IsLocalValue}
+use Rattle.spv_flow.specs.calls.Chain.{Chain}
+use Rattle.spv_flow.specs.calls.Calls.{Calls, IsEntryFunction}
 use Rattle.spv_verdict.specs.run.Act.{Act, act_of}
 use Rattle.spv_verdict.specs.run.At.{act_at}
 use Rattle.spv_verdict.specs.inner.At.{targets}

@@ -13,7 +13,7 @@ use Rattle.spv_layout.specs.Row.{PlainRow, RowEnding, closed, repeated, row_in}
 use Rattle.spv_layout.specs.inner.Row.{l, W, N}
 use Rattle.spv_layout.specs.Rows.{rows, row_of, class_of, class_in}
 use Rattle.spv_layout.specs.Shape.{is_of, AreOf, Ends, FitsShape}
-use Rattle.spv_walks.proofs.Ended.{all_rows, row_tells, and_first, and_second, end_by}
+use Rattle.spv_flow.proofs.lemmas.walks.Ended.{all_rows, row_tells, and_first, and_second, end_by}
 use Rattle.spv_verdict.specs.run.Act.{Act, Function, Parameter, FunctionEnd, Label, Phi, Branch, Choose, Call, Return, ReturnValue, Other, act_of}
 use Rattle.spv_verdict.specs.run.Act as act
 use Rattle.spv_verdict.specs.inner.At.{goes_on, in_block}

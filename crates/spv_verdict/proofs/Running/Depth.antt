@@ -4,8 +4,8 @@ use Rattle.std.proofs.lemmas.Bool.{cases_Bool, eqb-true, eq-eqb}
 use Rattle.spv_table.specs.Table.{Table}
 use Rattle.spv_module.specs.Operand.{PlainInst, Id}
 use Rattle.spv_verdict.specs.run.State.{Frame}
-use Rattle.spv_calls.specs.Chain.{Chain}
-use Rattle.spv_calls.specs.Calls.{Calls, IsEntryFunction}
+use Rattle.spv_flow.specs.calls.Chain.{Chain}
+use Rattle.spv_flow.specs.calls.Calls.{Calls, IsEntryFunction}
 use Rattle.spv_module.specs.declared.opcode.TheConstants.{FUNCTION_CALL}
 use Rattle.spv_layout.specs.Place.{IsDefinition}
 use Rattle.spv_verdict.specs.run.Act.{Act, act_of}

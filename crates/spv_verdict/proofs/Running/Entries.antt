@@ -7,9 +7,9 @@ use Rattle.spv_module.specs.Operand.{Plain, PlainInst}
 use Rattle.spv_module.specs.Operand as operand
 use Rattle.spv_module.specs.declared.opcode.TheConstants as opcode
 use Rattle.spv_ids.specs.Definition.{IsDefinedAt}
-use Rattle.spv_calls.specs.Calls.{IsEntryFunction}
+use Rattle.spv_flow.specs.calls.Calls.{IsEntryFunction}
 use Rattle.spv_ids.specs.inner.Test.{id_in}
-use Rattle.spv_calls.specs.inner.Found.{entry_in}
+use Rattle.spv_flow.specs.calls.inner.Found.{entry_in}
 use Rattle.spv_verdict.specs.run.Entry.{IsEntryId, IsOfRun}
 use Rattle.spv_verdict.specs.run.State.{State}
 use Rattle.spv_verdict.specs.run.Run.{IsStart, Run}

@@ -50,12 +50,12 @@ use Rattle.spv_type_rules.specs.inner.Declaration.{IsSoundDeclaration}
 use Rattle.spv_type_rules.specs.inner.Function.{IsSoundFunction, IsSoundParameter, IsSoundReturn, IsSoundReturnValue, IsSoundCall}
 use Rattle.spv_type_rules.specs.Keeps as type_rules
 use Rattle.spv_type_rules.specs.Repeat.{Repeats}
-use Rattle.spv_branches.specs.Broken as flow_rules
-use Rattle.spv_branches.specs.Target.{is_phi, is_merge, is_branch, IsOp}
-use Rattle.spv_branches.proofs.Firsts.{at_other}
-use Rattle.spv_walks.proofs.Staged.{IsStaged, staged}
-use Rattle.spv_calls.specs.Broken as call_rules
-use Rattle.spv_calls.specs.Calls.{IsEntryFunction}
+use Rattle.spv_flow.specs.branches.Broken as flow_rules
+use Rattle.spv_flow.specs.branches.Target.{is_phi, is_merge, is_branch, IsOp}
+use Rattle.spv_flow.proofs.lemmas.branches.Firsts.{at_other}
+use Rattle.spv_flow.proofs.lemmas.walks.Staged.{IsStaged, staged}
+use Rattle.spv_flow.specs.calls.Broken as call_rules
+use Rattle.spv_flow.specs.calls.Calls.{IsEntryFunction}
 use Rattle.spv_verdict.specs.run.Sound.{KeepsRules}
 use Rattle.spv_verdict.specs.run.Kernel.{grammar, capability, model, entry_point, void, of_void, function, label, return_op, end, kernel}
 use Rattle.spv_verdict.proofs.Running.Elements.{each, Where, off, found, some_of}

@@ -23,7 +23,7 @@ use Rattle.spv_verdict.specs.declared.run.parts.Step.{Step}
 use Rattle.spv_verdict.specs.declared.run.parts.Trace.{Trace}
 use Rattle.spv_verdict.specs.run.Entry.{IsEntryId, IsOfRun}
 use Rattle.spv_verdict.specs.run.Trace.{ending_of}
-use Rattle.spv_calls.specs.Example.{entry}
+use Rattle.spv_flow.specs.calls.Example.{entry}
 use Rattle.spv_verdict.specs.run.Example.{lone_before, lone, entered, standing, step_at}
 use Rattle.spv_verdict.proofs.Running.Worked.{ReturnsVoid, alone_void, at_label, at_return, starts, short, whole, not_nothing}
 

@@ -9,7 +9,7 @@ use Rattle.spv_module.specs.Operand as operand
 use Rattle.spv_ids.specs.declared.ids.Ids.{Ids}
 use Rattle.spv_ids.specs.Definition.{IsDefinedAt}
 use Rattle.spv_ids.specs.Outcome.{IsDefinitionOf, definition_in, AreNumbered}
-use Rattle.spv_branches.specs.Target.{IsLabelOf}
+use Rattle.spv_flow.specs.branches.Target.{IsLabelOf}
 use Rattle.spv_ids.specs.inner.Test.{id_in}
 use Rattle.spv_verdict.specs.run.Act.{Act, Function, Parameter, FunctionEnd, Label, Branch, Choose, Call, Other, act_of, labels_in}
 use Rattle.spv_verdict.specs.declared.run.moves.Move.TheVariants as move

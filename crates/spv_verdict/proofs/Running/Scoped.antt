@@ -20,12 +20,12 @@ use Rattle.spv_ids.specs.Broken as ids
 use Rattle.spv_ids.specs.Definition as local_ids
 use Rattle.spv_ids.specs.Definition.{IsUsedAt}
 use Rattle.spv_ids.specs.Order.{IsInScope}
-use Rattle.spv_branches.specs.Broken as branches
-use Rattle.spv_branches.specs.Target as target
-use Rattle.spv_branches.specs.inner.Target as opcodes
-use Rattle.spv_branches.specs.Target.{IsOp, IsLabelOf}
-use Rattle.spv_branches.specs.Walk as walks
-use Rattle.spv_branches.specs.Ready.{IsLocalValue}
+use Rattle.spv_flow.specs.branches.Broken as branches
+use Rattle.spv_flow.specs.branches.Target as target
+use Rattle.spv_flow.specs.branches.inner.Target as opcodes
+use Rattle.spv_flow.specs.branches.Target.{IsOp, IsLabelOf}
+use Rattle.spv_flow.specs.branches.Walk as walks
+use Rattle.spv_flow.specs.branches.Ready.{IsLocalValue}
 use Rattle.spv_verdict.specs.run.Act.{Act, Function, FunctionEnd, Label, Phi, Pair, act_of}
 use Rattle.spv_verdict.specs.run.Act as act
 use Rattle.spv_verdict.specs.run.At.{act_at, result_at, value_from}

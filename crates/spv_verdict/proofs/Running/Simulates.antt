@@ -6,7 +6,7 @@ use Rattle.spv_verdict.specs.run.Act.{Act, Function, Parameter, FunctionEnd, Lab
 use Rattle.spv_verdict.specs.run.At.{act_at}
 use Rattle.spv_verdict.specs.run.Act as act
 use Rattle.spv_ids.specs.Definition.{IsDefinedAt}
-use Rattle.spv_branches.specs.Target.{IsLabelOf}
+use Rattle.spv_flow.specs.branches.Target.{IsLabelOf}
 use Rattle.spv_verdict.specs.run.Head.{Binding, IsDefined, IsDeclared}
 use Rattle.spv_verdict.specs.run.State.{Frame, State, Outcome, Goes, Last, Before, returned}
 use Rattle.spv_verdict.specs.run.Machine.{Lands, Chooses, Enters, Moves, Does, step, no_choice, bad_choice}

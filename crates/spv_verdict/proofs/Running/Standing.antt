@@ -14,10 +14,10 @@ use Rattle.spv_layout.specs.Layout.{IsLayout, classes}
 use Rattle.spv_layout.specs.Place.{IsAt, IsOfFunction, IsOfBlock, IsDefinition, terminators}
 use Rattle.spv_ids.specs.Definition as ids
 use Rattle.spv_ids.specs.Definition.{IsDefinedAt}
-use Rattle.spv_branches.specs.Target as target
-use Rattle.spv_branches.specs.Target.{IsOp, IsLabelOf}
+use Rattle.spv_flow.specs.branches.Target as target
+use Rattle.spv_flow.specs.branches.Target.{IsOp, IsLabelOf}
 use Rattle.spv_verdict.specs.run.Act.{Act, Function, FunctionEnd, Label, act_of}
-use Rattle.spv_walks.proofs.Ended.{class_at}
+use Rattle.spv_flow.proofs.lemmas.walks.Ended.{class_at}
 use Rattle.spv_verdict.specs.run.At.{act_at, result_at}
 use Rattle.spv_verdict.specs.inner.At.{goes_on}
 use Rattle.spv_verdict.proofs.Running.Place.{IsOf, IsIn, IsLocalTo, IsLocal, IsLabel}

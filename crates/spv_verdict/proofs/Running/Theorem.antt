@@ -9,7 +9,7 @@ use Rattle.spv_verdict.specs.run.Run.{step_of, Run, limit, next, last, before, s
 use Rattle.spv_verdict.specs.declared.run.parts.Step.{Step}
 use Rattle.spv_verdict.proofs.Running.Checked.{IsChecked}
 use Rattle.spv_verdict.specs.run.Definitions.{AreDefinitions}
-use Rattle.spv_calls.specs.Calls.{IsEntryFunction}
+use Rattle.spv_flow.specs.calls.Calls.{IsEntryFunction}
 use Rattle.spv_verdict.specs.run.Promise.{IsDeclaredIn, Runs, NeverGetsStuck}
 use Rattle.spv_verdict.proofs.Running.Frames.{Stands}
 use Rattle.spv_verdict.proofs.Running.Stacks.{Stack, top_stands, preserved, started, reached}

@@ -11,7 +11,7 @@ use Rattle.spv_verdict.specs.run.State.{Frame, State, Outcome, Goes, Last, Befor
 use Rattle.spv_verdict.specs.run.Machine.{Does}
 use Rattle.spv_verdict.specs.run.State as machine
 use Rattle.spv_verdict.specs.run.Run.{step_of, IsStart, Run, limit, next, last, before}
-use Rattle.spv_calls.specs.Calls.{IsEntryFunction}
+use Rattle.spv_flow.specs.calls.Calls.{IsEntryFunction}
 use Rattle.spv_verdict.specs.run.Sound.{KeepsRules}
 use Rattle.spv_verdict.proofs.Running.Checked.{IsChecked}
 use Rattle.spv_verdict.proofs.Running.Sound.{checked}

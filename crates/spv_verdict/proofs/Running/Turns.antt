@@ -7,7 +7,7 @@ use Rattle.spv_module.specs.Operand.{PlainInst}
 use Rattle.spv_module.specs.Module.{plain_inst}
 use Rattle.spv_module.specs.declared.module.Inst.{Inst}
 use Rattle.spv_ids.specs.declared.ids.Ids.{Ids}
-use Rattle.spv_branches.specs.Target.{IsLabelOf}
+use Rattle.spv_flow.specs.branches.Target.{IsLabelOf}
 use Rattle.spv_ids.specs.Outcome.{AreNumbered}
 use Rattle.spv_verdict.specs.declared.run.moves.Move.{Move}
 use Rattle.spv_verdict.specs.declared.run.moves.Move.TheVariants as move

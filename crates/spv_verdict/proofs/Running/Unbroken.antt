@@ -10,10 +10,10 @@ use Rattle.spv_module.specs.declared.fault.Rule.TheVariants as rule
 use Rattle.spv_layout.specs.First.{IsUnbroken}
 use Rattle.spv_layout.specs.Stage as stages
 use Rattle.spv_ids.specs.Broken as ids
-use Rattle.spv_branches.specs.Broken as branches
-use Rattle.spv_branches.specs.Target as target
-use Rattle.spv_branches.specs.Target.{IsTarget}
-use Rattle.spv_calls.specs.Broken as calls
+use Rattle.spv_flow.specs.branches.Broken as branches
+use Rattle.spv_flow.specs.branches.Target as target
+use Rattle.spv_flow.specs.branches.Target.{IsTarget}
+use Rattle.spv_flow.specs.calls.Broken as calls
 use Rattle.spv_verdict.specs.run.Act.{Act, Label, act_of}
 use Rattle.spv_verdict.specs.run.At.{act_at}
 use Rattle.spv_verdict.specs.inner.At.{targets}

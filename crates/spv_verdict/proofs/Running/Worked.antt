@@ -22,9 +22,9 @@ use Rattle.spv_verdict.specs.run.Row.{Row}
 use Rattle.spv_verdict.specs.run.Run.{IsStart, Run, limit, next, last, stuck}
 use Rattle.spv_verdict.specs.declared.run.parts.Step.{Step}
 use Rattle.spv_verdict.specs.run.Example.{lone_before, lone, unended, standing, step_at}
-use Rattle.spv_calls.specs.Broken.{Broken}
-use Rattle.spv_calls.specs.Calls.{IsEntryFunction}
-use Rattle.spv_calls.specs.Example.{entry, function, functions, looped}
+use Rattle.spv_flow.specs.calls.Broken.{Broken}
+use Rattle.spv_flow.specs.calls.Calls.{IsEntryFunction}
+use Rattle.spv_flow.specs.calls.Example.{entry, function, functions, looped}
 use Rattle.spv_module.specs.declared.fault.Rule.TheVariants.{G1}
 use Rattle.spv_module.specs.declared.opcode.TheConstants as opcode
 use Rattle.spv_verdict.specs.run.Entry.{IsEntryId}

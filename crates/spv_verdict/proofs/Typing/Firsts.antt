@@ -12,7 +12,7 @@ use Rattle.spv_ids.specs.inner.Outcome.{IsStopAt}
 use Rattle.spv_verdict.specs.types.Outcome.{IsRefusal}
 use Rattle.spv_layout.specs.First.{IsFirst, IsUnbroken, stage_of, rank_of}
 use Rattle.spv_layout.specs.Stage as stages
-use Rattle.spv_roles.specs.Broken as roles
+use Rattle.spv_type_rules.specs.roles.Broken as roles
 use Rattle.spv_capabilities.specs.Keeps as capabilities
 use Rattle.spv_ops.specs.Typed.{IsTyped}
 use Rattle.spv_type_rules.specs.Keeps as rules

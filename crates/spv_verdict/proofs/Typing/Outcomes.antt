@@ -11,11 +11,11 @@ use Rattle.spv_layout.specs.declared.form.Role.{Role}
 use Rattle.spv_layout.specs.declared.form.Role.TheVariants as role
 use Rattle.spv_layout.specs.Shape.{IsUse}
 use Rattle.spv_type_forms.specs.Example.{inst}
-use Rattle.spv_roles.specs.declared.asked.Asked.{Asked}
-use Rattle.spv_roles.specs.Role.{Plays}
-use Rattle.spv_roles.specs.Outcome.{AreInRole}
-use Rattle.spv_roles.proofs.Casting.{unbroken}
-use Rattle.spv_roles.proofs.Worked.{played}
+use Rattle.spv_type_rules.specs.declared.roles.asked.Asked.{Asked}
+use Rattle.spv_type_rules.specs.roles.Role.{Plays}
+use Rattle.spv_type_rules.specs.roles.Outcome.{AreInRole}
+use Rattle.spv_type_rules.proofs.lemmas.roles.Casting.{unbroken}
+use Rattle.spv_type_rules.proofs.lemmas.roles.Worked.{played}
 use Rattle.spv_capabilities.specs.Capable.{Has}
 use Rattle.spv_capabilities.specs.Keeps as capabilities
 use Rattle.spv_capabilities.proofs.Firsts as capable

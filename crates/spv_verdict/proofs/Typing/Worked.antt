@@ -7,7 +7,7 @@ use Rattle.spv_module.specs.declared.fault.Rule.{Rule}
 use Rattle.spv_module.specs.declared.fault.Rule.TheVariants.{M1, Y1}
 use Rattle.spv_module.specs.declared.opcode.TheConstants as opcode
 use Rattle.spv_type_forms.specs.Example.{inst}
-use Rattle.spv_roles.specs.Broken as roles
+use Rattle.spv_type_rules.specs.roles.Broken as roles
 use Rattle.spv_capabilities.specs.Keeps as capabilities
 use Rattle.spv_ops.specs.Typed.{IsTyped}
 use Rattle.spv_type_rules.specs.Keeps as types

@@ -1,7 +1,7 @@
 -- Small examples.
 use Rattle.std.specs.Prelude.{List, [], ◌∷◌}
 use Rattle.spv_module.specs.Operand.{PlainInst}
-use Rattle.spv_calls.specs.Example.{function, label, return_op, end}
+use Rattle.spv_flow.specs.calls.Example.{function, label, return_op, end}
 
 -- the definition of %1, of one block
 abbrev pub alone : List PlainInst

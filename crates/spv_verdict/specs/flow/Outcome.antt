@@ -8,8 +8,8 @@ use Rattle.spv_module.specs.declared.fault.Stop.TheVariants.{Fault, Memory}
 use Rattle.spv_layout.specs.First.{IsFirst, IsUnbroken}
 use Rattle.spv_layout.specs.Place.{first_word_of}
 use Rattle.spv_layout.specs.Stage as stage
-use Rattle.spv_branches.specs.Broken as branch_rules
-use Rattle.spv_calls.specs.Broken as call_rules
+use Rattle.spv_flow.specs.branches.Broken as branch_rules
+use Rattle.spv_flow.specs.calls.Broken as call_rules
 use Rattle.spv_verdict.specs.declared.flow.Flow.{Flow}
 use Rattle.spv_verdict.specs.flow.Definitions.{CountsDefinitions}
 

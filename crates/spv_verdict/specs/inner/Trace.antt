@@ -4,8 +4,8 @@ use Rattle.spv_module.specs.Operand.{PlainInst}
 use Rattle.spv_table.specs.Table.{Table}
 use Rattle.spv_ids.specs.declared.ids.Ids.{Ids}
 use Rattle.spv_ids.specs.Definition.{IsDefinedAt}
-use Rattle.spv_branches.specs.Target.{IsLabelOf}
-use Rattle.spv_calls.specs.Calls.{IsEntryFunction}
+use Rattle.spv_flow.specs.branches.Target.{IsLabelOf}
+use Rattle.spv_flow.specs.calls.Calls.{IsEntryFunction}
 use Rattle.spv_ids.specs.Outcome.{AreNumbered}
 use Rattle.spv_verdict.specs.declared.run.moves.Move.{Move}
 use Rattle.spv_verdict.specs.declared.run.moves.Move.TheVariants as move

@@ -3,7 +3,7 @@ use Rattle.std.specs.Prelude.{ℕ, List, [], ◌∷◌}
 use Rattle.spv_module.specs.Operand.{OfType, Result, Id, Number, Mask, PlainInst}
 use Rattle.spv_module.specs.declared.opcode.TheConstants as opcode
 use Rattle.spv_type_forms.specs.Example.{inst}
-use Rattle.spv_calls.specs.Example.{entry}
+use Rattle.spv_flow.specs.calls.Example.{entry}
 use Rattle.spv_verdict.specs.run.State.{State, enter}
 use Rattle.spv_verdict.specs.declared.run.parts.Step.{Step}
 

@@ -7,8 +7,8 @@ use Rattle.spv_module.specs.Width.{type_of}
 use Rattle.spv_layout.specs.declared.form.Role.TheVariants.{Any}
 use Rattle.spv_layout.specs.Place.{IsOfFunction, IsOfBlock}
 use Rattle.spv_ids.specs.Definition.{IsDefinedAt, IsUsedAt, IsLocal}
-use Rattle.spv_branches.specs.Target.{IsLabelOf}
-use Rattle.spv_branches.specs.Ready.{IsLocalValue}
+use Rattle.spv_flow.specs.branches.Target.{IsLabelOf}
+use Rattle.spv_flow.specs.branches.Ready.{IsLocalValue}
 use Rattle.spv_verdict.specs.run.Act.{Act, Label, Phi, Branch, Choose, Call, Return, ReturnValue, Other, act_of}
 use Rattle.spv_verdict.specs.run.At.{result_at, type_at, value_from}
 use Rattle.spv_verdict.specs.run.Act as act

@@ -11,8 +11,8 @@ use Rattle.spv_ids.specs.Broken as id_rules
 use Rattle.spv_capabilities.specs.Keeps as capability_rules
 use Rattle.spv_ops.specs.Typed.{IsTyped}
 use Rattle.spv_type_rules.specs.Keeps as type_rules
-use Rattle.spv_branches.specs.Broken as flow_rules
-use Rattle.spv_calls.specs.Broken as call_rules
+use Rattle.spv_flow.specs.branches.Broken as flow_rules
+use Rattle.spv_flow.specs.calls.Broken as call_rules
 
 -- No rule of the stages P, L, D, of C1 to Y8, F, A and G is broken on the list. Of rules that a check decides by a test
 -- the list keeps what they demand.

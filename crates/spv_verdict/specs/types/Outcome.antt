@@ -9,7 +9,7 @@ use Rattle.spv_module.specs.declared.fault.Stop.TheVariants.{Fault, Memory}
 use Rattle.spv_layout.specs.First.{IsFirst, IsUnbroken}
 use Rattle.spv_layout.specs.Place.{first_word_of}
 use Rattle.spv_layout.specs.Stage.{of_roles, of_types}
-use Rattle.spv_roles.specs.Outcome.{AreInRole}
+use Rattle.spv_type_rules.specs.roles.Outcome.{AreInRole}
 use Rattle.spv_capabilities.specs.Keeps as capabilities
 use Rattle.spv_ops.specs.Typed.{IsTyped}
 use Rattle.spv_type_rules.specs.Keeps as rules

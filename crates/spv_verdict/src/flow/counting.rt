@@ -4,7 +4,7 @@ ghost use Rattle.std.specs.Prelude.{◌↔◌, ℕ, List, IsTrue, MatchOption};
 ghost use Rattle.spv_module.specs.Operand.{PlainInst};
 ghost use Rattle.spv_module.specs.Module.{plain_insts};
 ghost use Rattle.spv_layout.specs.Place.{AreFew, IsDefinition};
-ghost use Rattle.spv_calls.specs.inner.Found.{ArePlaces, IsLate, IsOfDefinition};
+ghost use Rattle.spv_flow.specs.calls.inner.Found.{ArePlaces, IsLate, IsOfDefinition};
 ghost use Rattle.spv_verdict.specs.flow.Definitions.{CountsDefinitions};
 
 use spv_layout::Plan;

@@ -2,7 +2,7 @@
 
 ghost use Rattle.std.specs.Prelude.{◌≡◌, ◌↔◌, IsTrue, map, slice_get};
 ghost use Rattle.spv_module.specs.Module.{plain_inst};
-ghost use Rattle.spv_calls.specs.inner.Found.{entry_in};
+ghost use Rattle.spv_flow.specs.calls.inner.Found.{entry_in};
 ghost use Rattle.spv_verdict.specs.run.Entry.{IsEntryId};
 
 use spv_ids::named_id;

@@ -3,7 +3,7 @@
 ghost use Rattle.std.specs.Prelude.{◌≡◌, ◌≢◌, ℕ, List, [], ◌∷◌, Some, None};
 ghost use Rattle.spv_table.specs.Table.{Table};
 ghost use Rattle.spv_module.specs.Operand.{PlainInst};
-ghost use Rattle.spv_calls.specs.Calls.{IsEntryFunction};
+ghost use Rattle.spv_flow.specs.calls.Calls.{IsEntryFunction};
 ghost use Rattle.spv_verdict.specs.declared.run.parts.Step.{Step};
 ghost use Rattle.spv_verdict.specs.run.Sound.{KeepsRules};
 ghost use Rattle.spv_type_forms.specs.Example.{inst};
@@ -21,7 +21,7 @@ ghost use Rattle.spv_verdict.specs.run.Entry.{IsEntryId, IsOfRun};
 ghost use Rattle.spv_verdict.specs.run.Kernel.{grammar, kernel};
 ghost use Rattle.spv_verdict.specs.run.Trace.{ending_of};
 ghost use Rattle.spv_verdict.specs.declared.run.parts.Trace.{Trace};
-ghost use Rattle.spv_calls.specs.Example.{functions, looped};
+ghost use Rattle.spv_flow.specs.calls.Example.{functions, looped};
 
 /// A module on which no rule is broken never gets stuck: from each entry point's function, for all choices and numbers
 /// of steps, the run ends otherwise, bound ids have their declared types, and there are no more frames than function
@@ -99,7 +99,7 @@ pub fn promise_examples()
     // A function that an entry point leads to calls itself.
     ensures unsound { (G : Table) (bound : ℕ) → ¬ (KeepsRules G bound looped) }
 {
-    spv_calls::laws::call_examples();
+    spv_flow::calls::laws::call_examples();
 }
 
 /// Traces of the function that only returns: of at most nine steps, that of its two steps, and none without a step.

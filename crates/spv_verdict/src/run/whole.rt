@@ -6,7 +6,7 @@ ghost use Rattle.spv_module.specs.Module.{plain_inst};
 ghost use Rattle.spv_layout.specs.Place.{AreFew};
 ghost use Rattle.spv_ids.specs.Definition.{IsDefinedAt};
 ghost use Rattle.spv_ids.specs.Outcome.{AreNumbered};
-ghost use Rattle.spv_calls.specs.Calls.{IsEntryFunction};
+ghost use Rattle.spv_flow.specs.calls.Calls.{IsEntryFunction};
 ghost use Rattle.spv_verdict.specs.run.Sound.{KeepsRules};
 ghost use Rattle.spv_verdict.specs.run.State.{State};
 ghost use Rattle.spv_verdict.specs.run.Run.{IsStart, Run};

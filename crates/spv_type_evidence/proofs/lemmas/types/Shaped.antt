@@ -24,7 +24,7 @@ use Rattle.spv_ids.specs.Definition.{IsUsedAt}
 use Rattle.spv_type_forms.specs.Operands.{ids_in}
 use Rattle.spv_type_forms.specs.Parts.{after_result}
 use Rattle.spv_type_forms.specs.Values.{types_of}
-use Rattle.spv_roles.specs.inner.Role.{IsValue, IsOfOpcode}
+use Rattle.spv_type_rules.specs.roles.inner.Role.{IsValue, IsOfOpcode}
 use Rattle.spv_type_rules.specs.Function.{function_type_in, signature_in}
 use Rattle.spv_type_evidence.specs.types.inner.Known.{IsKnown, IsSignature, IsFunction, ReturnsOne, CallsOne}
 

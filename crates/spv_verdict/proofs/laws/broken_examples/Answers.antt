@@ -1,6 +1,6 @@
 use Rattle.std.proofs.Common.{refl, lit≤}
 use Rattle.spv_module.specs.declared.fault.Rule.TheVariants.{A1, G1, Y7}
-use Rattle.spv_calls.specs.Example.{functions}
+use Rattle.spv_flow.specs.calls.Example.{functions}
 use Rattle.spv_verdict.specs.Broken.{Broken, Precedes}
 use Rattle.spv_verdict.proofs.Firsts.{never_earlier, of_last_stage}
 use Rattle.spv_verdict.proofs.laws.broken_examples.Goals as goal

@@ -1,6 +1,6 @@
 use Rattle.std.proofs.Common.{◌≡◌, arith, refl}
 use Rattle.spv_module.specs.declared.fault.Rule.TheVariants.{G1}
-use Rattle.spv_calls.proofs.Worked.{inside}
+use Rattle.spv_flow.proofs.lemmas.calls.Worked.{inside}
 use Rattle.spv_verdict.specs.Verdict as verdict
 use Rattle.spv_verdict.proofs.Kernel.{sound, kept, checked, valid}
 use Rattle.spv_verdict.proofs.KernelParts.{parts}

@@ -2,7 +2,7 @@ use Rattle.std.proofs.Common.{[], ◌∷◌, refl}
 use Rattle.spv_module.specs.Operand.{OfType, Result, Id, Mask}
 use Rattle.spv_module.specs.declared.opcode.TheConstants as opcode
 use Rattle.spv_type_forms.specs.Example.{inst}
-use Rattle.spv_calls.specs.Example.{entry}
+use Rattle.spv_flow.specs.calls.Example.{entry}
 use Rattle.spv_verdict.specs.run.Example.{standing}
 use Rattle.spv_verdict.proofs.Running.Worked.{starts, entered_void}
 use Rattle.spv_verdict.proofs.Running.Lone.{traced, entered_id}

@@ -2,6 +2,7 @@ use Rattle.std.specs.Prelude.{map}
 use Rattle.spv_module.specs.Module.{plain_inst}
 use Rattle.spv_ids.specs.Outcome.{definition_in}
 use Rattle.spv_type_forms.proofs.Lookups.{finds}
+use Rattle.spv_type_forms.proofs.Meanings.{none_meant}
 use Rattle.spv_type_forms.proofs.definitions.Definitions.new.Goals as goal
 
 pub invariant_of-result : goal.invariant_of-result
@@ -12,4 +13,5 @@ invariant_of-result c =
       each = c.requires.ids;
       count = c.requires.plan.1.count;
       place = c.requires.plan.1.place;
+      meant = none_meant is;
     }

@@ -2,7 +2,7 @@ use Rattle.std.proofs.Common.{◌≡◌, ◌<◌, Some, length, arith}
 use Rattle.std.specs.Prelude.{slice_get}
 use Rattle.std.proofs.lemmas.List.{length-map}
 use Rattle.spv_module.specs.Module.{plain_inst, plain_insts}
-use Rattle.spv_branches.proofs.Labelled.{inst_at}
+use Rattle.spv_flow.proofs.lemmas.branches.Labelled.{inst_at}
 use Rattle.spv_verdict.proofs.Flowing.Functions.{no_definition}
 use Rattle.spv_verdict.proofs.Flowing.Counts.{count_most, none_more, one_more}
 use Rattle.spv_verdict.proofs.flow.counting.count_definitions.Goals.{then-index-eq-FUNCTION+then-is_definition, then-index-eq-FUNCTION+else-is_definition, else-index-eq-FUNCTION}

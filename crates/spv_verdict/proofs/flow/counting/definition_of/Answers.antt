@@ -1,5 +1,5 @@
 use Rattle.std.proofs.Common.{◌∙◌, sym}
-use Rattle.spv_calls.proofs.Placed.{told_definition, told_no_definition}
+use Rattle.spv_flow.proofs.lemmas.calls.Placed.{told_definition, told_no_definition}
 use Rattle.spv_verdict.proofs.flow.counting.definition_of.Goals as goal
 
 pub returns-then-place-eq-DEFINITIONS : goal.returns-then-place-eq-DEFINITIONS

@@ -1,6 +1,6 @@
 use Rattle.std.proofs.Common.{map, get_or}
 use Rattle.spv_module.specs.Module.{plain_inst}
-use Rattle.spv_branches.proofs.Labelled.{inst_get}
+use Rattle.spv_flow.proofs.lemmas.branches.Labelled.{inst_get}
 use Rattle.spv_verdict.proofs.Running.Moving.{no_function}
 use Rattle.spv_verdict.proofs.run.bodies.entry_at.Goals as goal
 

@@ -1,7 +1,7 @@
 use Rattle.std.proofs.Common.{map, get_or, length, arith, ◌≡◌, ◌+◌}
 use Rattle.std.proofs.lemmas.List.{length-map}
 use Rattle.spv_module.specs.Module.{plain_inst}
-use Rattle.spv_branches.proofs.Labelled.{inst_get}
+use Rattle.spv_flow.proofs.lemmas.branches.Labelled.{inst_get}
 use Rattle.spv_verdict.proofs.Running.Moving.{head_start, head_next, at_label, at_over, at_nothing}
 use Rattle.spv_verdict.proofs.run.bodies.entry_of.Goals as goal
 

@@ -3,7 +3,7 @@ use Rattle.std.proofs.lemmas.List.{length-map}
 use Rattle.std.proofs.lemmas.Option.{none-some, same_Some}
 use Rattle.spv_module.specs.declared.module.Inst.{Inst}
 use Rattle.spv_module.specs.Module.{plain_inst}
-use Rattle.spv_branches.proofs.Labelled.{inst_get}
+use Rattle.spv_flow.proofs.lemmas.branches.Labelled.{inst_get}
 use Rattle.spv_verdict.proofs.Running.Entries.{none_yet, entry_here, still_none, none_at_all}
 use Rattle.spv_verdict.proofs.run.entry.is_entry.Goals.{in-Some+else-id-function, in_default}
 use Rattle.spv_verdict.proofs.run.entry.is_entry.Goals as goal

@@ -2,7 +2,7 @@ use Rattle.std.proofs.Common.{◌≡◌, [], Some, ℕ, map, sym, subst}
 use Rattle.spv_table.specs.Table.{Table}
 use Rattle.spv_module.specs.Module.{plain_inst}
 use Rattle.spv_ids.specs.Definition.{IsDefinedAt}
-use Rattle.spv_calls.specs.Calls.{IsEntryFunction}
+use Rattle.spv_flow.specs.calls.Calls.{IsEntryFunction}
 use Rattle.spv_ids.specs.Outcome.{AreNumbered}
 use Rattle.spv_verdict.specs.run.Act.{Function, Call}
 use Rattle.spv_verdict.specs.run.At.{act_at}

@@ -1,0 +1,73 @@
+-- What is noted of ids, with one note more.
+use Rattle.std.proofs.Common.{◌≡◌, ◌≢◌, ◌∙◌, ◌<◌, ◌⊎◌, ℕ, zero, suc, true, nat_lt, List, [], Option, Some, None, refl, sym, ap, inl, inr, length, get_or, get_or-set_same, get_or-set_other, arith}
+use Rattle.std.specs.Prelude.{slice_get}
+use Rattle.std.proofs.Math.ListN.{set, length-set, replicate}
+use Rattle.std.proofs.lemmas.Bool.{cases_eq, ltb-true}
+use Rattle.std.proofs.lemmas.Option.{slice_get_within, slice_get-get_or, slice_get_read, get_or_from_slice_get}
+use Rattle.spv_module.specs.Operand.{PlainInst, result_in}
+use Rattle.spv_module.specs.Width.{definition_of}
+use Rattle.spv_ids.specs.Definition.{IsDefinedAt}
+use Rattle.spv_ids.specs.Outcome.{IsDefinitionOf}
+use Rattle.spv_type_forms.specs.declared.meaning.Meaning.{Meaning}
+use Rattle.spv_type_forms.specs.declared.meaning.Meaning.TheVariants as meaning
+use Rattle.spv_type_forms.specs.inner.Meaning.{IsSaid, IsMeant, AreMeant}
+use Rattle.spv_type_forms.proofs.Lookups.{finds}
+
+-- an instruction is the definition of its result
+pub defined_by : (is : List PlainInst) (x n : ℕ) (i : PlainInst) (o : Option ℕ) → IsDefinitionOf is x o → slice_get is n ≡ Some i → result_in i.operands ≡ Some x → definition_of is x ≡ Some i
+defined_by is x n i None never at r = absurd (never n (record { inst = i; there = at; result = r }))
+defined_by is x n i (Some m) one at r =
+    let d : IsDefinedAt is x n = record { inst = i; there = at; result = r } in
+    let same : n ≡ m = one.only n d in
+    finds is x (Some m) one ∙ (rw (← same) at)
+
+-- what it says holds of that
+pub said_means : (is : List PlainInst) (x : ℕ) (i : PlainInst) (m : Meaning) → definition_of is x ≡ Some i → IsSaid i m → IsMeant is x m
+said_means is x i meaning.Unknown d s = tt
+said_means is x i (meaning.Typed t) d s = rw d s
+said_means is x i (meaning.Declares f) d s = rw d s
+
+set_same : (l : List Meaning) (n : ℕ) (v a : Meaning) → n < length l → slice_get (set l n v) n ≡ Some a → v ≡ a
+set_same l n v a h s =
+    let g : get_or (set l n v) n meaning.Unknown ≡ a = get_or_from_slice_get (set l n v) n a meaning.Unknown s in
+    sym (get_or-set_same l n v meaning.Unknown h) ∙ g
+
+set_other : (l : List Meaning) (n k : ℕ) (v a : Meaning) → k ≢ n → slice_get (set l n v) k ≡ Some a → slice_get l k ≡ Some a
+set_other l n k v a ne s =
+    let w : k < length (set l n v) = slice_get_within (set l n v) k a s in
+    let w' : k < length l = omega (arith, length-set {A = Meaning}) in
+    let g : get_or (set l n v) k meaning.Unknown ≡ a = get_or_from_slice_get (set l n v) k a meaning.Unknown s in
+    let e : get_or l k meaning.Unknown ≡ a = sym (get_or-set_other l n k v meaning.Unknown ne) ∙ g in
+    slice_get-get_or l k meaning.Unknown w' ∙ ap Some e
+
+meant_at : (is : List PlainInst) (l : List Meaning) (n k : ℕ) (v a : Meaning) → n < length l → AreMeant is l → IsMeant is n v
+    → slice_get (set l n v) k ≡ Some a → (k ≡ n) ⊎ (k ≡ n → ⊥) → IsMeant is k a
+meant_at is l n k v a h old new s (inl e) =
+    let t : v ≡ a = set_same l n v a h (rw e at s) in
+    rw (e, ← t) new
+meant_at is l n k v a h old new s (inr e) = old k a (set_other l n k v a e s)
+
+pub meant_set : (is : List PlainInst) (l : List Meaning) (n : ℕ) (v : Meaning) → n < length l → AreMeant is l → IsMeant is n v → AreMeant is (set l n v)
+meant_set is l n v h old new = λ k a s. meant_at is l n k v a h old new s (cases_eq k n)
+
+-- what was read of the list
+pub noted_at : (l : List Meaning) (n : ℕ) (a v : Meaning) → true ≡ nat_lt n (length l) → a ≡ get_or l n a → a ≡ v → slice_get l n ≡ Some v
+noted_at l n a v t e s =
+    let w : n < length l = ltb-true n (length l) (sym t) in
+    slice_get_read l (length l) n a refl w e ∙ ap Some s
+
+-- nothing is noted
+read : (n k : ℕ) (a : Meaning) → slice_get (replicate n meaning.Unknown) k ≡ Some a → meaning.Unknown ≡ a
+read zero k a h = absurd (let no : None ≡ Some a = h in cc)
+read (suc n) zero a h = cc
+read (suc n) (suc k) a h = read n k a h
+
+pub nothing_meant : (is : List PlainInst) (l : List Meaning) (n : ℕ) → l ≡ replicate n meaning.Unknown → AreMeant is l
+nothing_meant is l n e = λ k a h. let s : meaning.Unknown ≡ a = read n k a (rw e at h) in rw (← s) tt
+
+no_element : (k : ℕ) (a : Meaning) → slice_get {X = Meaning} [] k ≡ Some a → ⊥
+no_element zero a h = let no : None ≡ Some a = h in cc
+no_element (suc k) a h = let no : None ≡ Some a = h in cc
+
+pub none_meant : (is : List PlainInst) → AreMeant is []
+none_meant is = λ k a h. absurd (no_element k a h)
