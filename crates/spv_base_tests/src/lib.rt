@@ -1,5 +1,5 @@
-//! The calls of spv_words, spv_grammar, spv_builtin, spv_inst, spv_encode, spv_printer, spv_parser and spv_text_fault,
-//! each made once with ample memory, and with growths refused. What each line of a text is read as and shown as, and
+//! The calls of spv_words, spv_grammar, spv_builtin, spv_inst, spv_encode, spv_printer and spv_parser, each made once
+//! with ample memory, and with growths refused. What each line of a text is read as and shown as, and
 //! what a grammar file is refused with, is shown by the program.
 #![tactic(auto)]
 

@@ -4,4 +4,3 @@
 mod grammars;
 mod modules;
 mod pushes;
-mod reasons;

@@ -14,7 +14,7 @@ use Rattle.spv_lines.specs.Text.{IsReadText}
 use Rattle.spv_lines.specs.Fault.{IsFailure}
 use Rattle.spv_lines.specs.declared.asm_error.AsmCode.{AsmCode}
 use Rattle.spv_lines.specs.declared.asm_error.AsmCode.TheVariants.{S1, S2, S3, S4, S5, S6}
-use Rattle.spv_text_fault.specs.Lines.{Tells}
+use Rattle.spv_views.specs.text_fault.Lines.{Tells}
 use Rattle.spv_commands.specs.Trouble.{BeginsWith}
 use Rattle.spv_verdict.specs.Verdict.{line_end}
 

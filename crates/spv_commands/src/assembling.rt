@@ -13,7 +13,7 @@ use simdutf8::basic::from_utf8;
 use spv_command_line::ErrorCode;
 use spv_parser::{AsmCode, AsmError, assemble};
 use spv_table::Table;
-use spv_text_fault::reason_lines;
+use spv_views::text_fault::reason_lines;
 use spv_words::{Failed, Image, Order, Sink, Source, write_all, write_image};
 use std::alloc::{AllocError, Global};
 

@@ -7,14 +7,14 @@ use Rattle.spv_module.specs.declared.fault.Rule.{Rule}
 use Rattle.spv_module.specs.declared.fault.Rule.TheVariants as rule
 use Rattle.spv_layout.specs.First.{stage_of, IsFirst, IsUnbroken}
 use Rattle.spv_layout.specs.Stage as stages
-use Rattle.spv_roles.specs.Broken as roles
+use Rattle.spv_type_rules.specs.roles.Broken as roles
 use Rattle.spv_capabilities.specs.Keeps as capabilities
 use Rattle.spv_ops.specs.Typed.{IsTyped}
 use Rattle.spv_type_rules.specs.Keeps as rules
-use Rattle.spv_roles.specs.Outcome.{AreInRole}
+use Rattle.spv_type_rules.specs.roles.Outcome.{AreInRole}
 use Rattle.spv_verdict.specs.types.Broken as types
-use Rattle.spv_branches.specs.Broken as branches
-use Rattle.spv_calls.specs.Broken as calls
+use Rattle.spv_flow.specs.branches.Broken as branches
+use Rattle.spv_flow.specs.calls.Broken as calls
 use Rattle.spv_verdict.specs.flow.Outcome.{IsFirstOfFlow}
 use Rattle.spv_verdict.proofs.Decided.{held}
 use Rattle.spv_verdict.proofs.RulesDecided.{plays_or_not}

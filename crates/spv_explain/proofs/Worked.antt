@@ -45,7 +45,7 @@ use Rattle.spv_fault_lines.specs.Facts.{facts_of}
 use Rattle.spv_fault_lines.specs.Lines.{line_of, text_of}
 use Rattle.spv_lines.specs.Digits.{hex_digits}
 use Rattle.spv_fault_lines.specs.Place.{comes_early, open_before, place_of}
-use Rattle.spv_fault_lines.specs.Plain.{plain_of}
+use Rattle.spv_lines.specs.Plain.{plain_of}
 use Rattle.spv_fault_lines.specs.Refused.{found_lines, front_of}
 use Rattle.spv_fault_lines.specs.declared.fact.Detail.TheVariants.{Full, Short}
 use Rattle.spv_fault_lines.specs.declared.fact.Fact.TheVariants as fact

@@ -29,7 +29,7 @@ ghost use Rattle.spv_explain.specs.Example.{labels, many_opcodes, string_fault, 
 ghost use Rattle.spv_explain.specs.Explained.{IsShown};
 ghost use Rattle.spv_fault_lines.specs.Lines.{line_of};
 ghost use Rattle.spv_fault_lines.specs.Place.{comes_early, open_before, place_of};
-ghost use Rattle.spv_fault_lines.specs.Plain.{plain_of};
+ghost use Rattle.spv_lines.specs.Plain.{plain_of};
 ghost use Rattle.spv_fault_lines.specs.Refused.{found_lines, front_of};
 ghost use Rattle.spv_fault_lines.specs.declared.fact.Detail.TheVariants.{Full, Short};
 ghost use Rattle.spv_fault_lines.specs.declared.fact.Fact.TheVariants as fact;

@@ -1,7 +1,8 @@
 //! The layers one after another.
 
-use spv_branches::check_branches;
-use spv_calls::first_cycle;
+use spv_flow::branches::check_branches;
+use spv_flow::calls::first_cycle;
+use spv_flow::walks::check_values;
 use spv_grammar::{FromGrammar, Table};
 use spv_ids::number;
 use spv_inst::{Stop, decode};
@@ -9,7 +10,6 @@ use spv_layout::laws::word_counts;
 use spv_layout::lay_out;
 use spv_samples::{CALL_OF_LATER_FUNCTION, PROFILE, image_of};
 use spv_verdict::{flow_check, type_check};
-use spv_walks::check_values;
 use spv_words::Image;
 use std::alloc::Global;
 use std::test::Fail;

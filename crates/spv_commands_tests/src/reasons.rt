@@ -3,7 +3,7 @@
 use spv_grammar::{FromGrammar, Table};
 use spv_parser::{AsmError, assemble};
 use spv_samples::{PROFILE, Told, each_refused};
-use spv_text_fault::reason_lines;
+use spv_views::text_fault::reason_lines;
 use std::alloc::Global;
 use std::test::Fail;
 
