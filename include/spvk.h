@@ -20,15 +20,16 @@
  * Memory. All of it comes from malloc, realloc and free, which must be one allocator. No call keeps a pointer that
  * it is given after it has returned. Nothing is kept between calls but what grammars and buffers hold.
  *
- * How much. As measured on hostile shapes (docs/PERFORMANCE.md), and not proved: `spvk_grammar_new` takes time near
- * to linear in the text, at most 170 instructions of the processor a byte, and memory of at most 12 times its bytes.
- * `spvk_check` and `spvk_explain` take time near to linear in the module, at most 730 instructions for each word, and
+ * How much. As measured on hostile shapes (docs/PERFORMANCE.md), and not proved: `spvk_grammar_new` takes time
+ * nearly linear in the text, at most 170 instructions of the processor a byte, and memory of at most 12 times its
+ * size.
+ * `spvk_check` and `spvk_explain` take time nearly linear in the module, at most 800 instructions for each word, and
  * may look at all that the module's capabilities imply in the grammar; their memory is at most 14 times the module.
- * With SPVK_AS_1_6 a call copies the bytes of the module once more, and lets the copy go before it returns. A
- * text that `spvk_show` or `spvk_explain` makes may have as many bytes as the longest names of the grammar have times
- * the instructions: where the grammar or the module is a stranger's, let malloc refuse, and the call answers
- * SPVK_MEMORY. A module that `spvk_assemble` makes is no longer than 16,777,216
- * bytes; its time and memory go with the text.
+ * With SPVK_AS_1_6 a call copies the bytes of the module once more, and frees the copy before it returns. A text
+ * that `spvk_show` or `spvk_explain` makes may be as long as the longest names of the grammar times the number of
+ * instructions: if the grammar or the module comes from a stranger, limit what malloc gives, and the call answers
+ * SPVK_MEMORY. A module that `spvk_assemble` makes has at most 16,777,216 bytes; its time and memory go with the
+ * text.
  *
  * Threads. Any number of threads may use one grammar at the same time, to check, explain, show and assemble; a
  * grammar is made and deleted while no other thread uses it. A buffer, and each place for an answer, belongs to
@@ -50,26 +51,25 @@ extern "C" {
 #endif
 
 /** The version of the library. */
-#define SPVK_VERSION "1.0.0"
+#define SPVK_VERSION "1.1.0"
 
 /** What a call comes to.
  *
- *  SPVK_OK: the call did what it is for; a verdict that tells a fault is an answer too. After any other status
- *  nothing was answered: verdicts and faults are as they were, and a grammar or a buffer that was to be made is
- *  without anything. */
+ *  SPVK_OK: the call succeeded; a verdict that tells a fault is an answer too. After any other status nothing was
+ *  answered: verdicts and faults are unchanged, and a grammar or a buffer that was to be made holds nothing. */
 typedef enum spvk_status {
     SPVK_OK = 0,
     SPVK_MEMORY = 1,     /**< malloc or realloc refused; the same call may succeed later */
     SPVK_NO_GRAMMAR = 2, /**< the grammar is a null pointer, was never made, or was deleted */
     SPVK_NULL = 3,       /**< a null pointer with a length that is not 0, or a null pointer to where the answer goes */
-    SPVK_NOT_TEXT = 4,   /**< what is to be assembled is no UTF-8 */
-    SPVK_NO_FLAG = 5,    /**< the flags have a bit that is no flag of this header */
-    SPVK_J1 = 101,       /**< the grammar file is no JSON, or nests deeper than 127 levels */
+    SPVK_NOT_TEXT = 4,   /**< the text that is to be assembled is not UTF-8 */
+    SPVK_NO_FLAG = 5,    /**< a bit of the flags is set that is no flag of this header */
+    SPVK_J1 = 101,       /**< the grammar file is not JSON, or nests deeper than 127 levels */
     SPVK_J2 = 102,       /**< a key of it is missing, or something is of another sort than it must be */
     SPVK_J3 = 103,       /**< an opcode or a value is out of its range or form */
     SPVK_J4 = 104,       /**< it names a kind that it does not have */
     SPVK_J5 = 105,       /**< it has an unknown category or quantifier */
-    SPVK_J6 = 106,       /**< a result kind stands twice in an instruction, is quantified, or is a parameter or a base */
+    SPVK_J6 = 106,       /**< a result kind stands twice in an instruction, is quantified, or is a parameter or base */
     SPVK_J7 = 107        /**< a composite has no bases, or one that is neither of category Id nor Literal */
 } spvk_status;
 
@@ -106,9 +106,9 @@ typedef enum spvk_text_code {
 } spvk_text_code;
 
 /** A flag of the calls `.._with`: the module is read as one of version 1.6. Where its bytes begin with the magic
- *  number, in either byte order, and a version from 1.0 to 1.6, version 1.6 stands in its place; all other bytes are
- *  as they are, and so are those of a module of any other version, which still breaks W5. What is read is judged by
- *  the rules of version 1.6. The bytes that are given are not changed. */
+ *  number, in either byte order, and a version from 1.0 to 1.6, the version is taken to be 1.6, and the module is
+ *  judged by the rules of 1.6. A module of any other version still breaks W5. The bytes that are given are not
+ *  changed. */
 #define SPVK_AS_1_6 UINT32_C(1)
 
 /** Stands for no instruction and no word: in the verdict on a valid module, and in one of W2 to W8. */
@@ -127,21 +127,21 @@ typedef struct spvk_fault {
     uint32_t line; /**< the number of its line, from 1; 0 with SPVK_ASSEMBLED */
 } spvk_fault;
 
-/** A grammar, made by `spvk_grammar_default` or `spvk_grammar_new` and let go by `spvk_grammar_delete`. Start it as
- *  SPVK_GRAMMAR_NONE. A copy of it is the same grammar, which is deleted once. */
+/** A grammar, made by `spvk_grammar_default` or `spvk_grammar_new` and freed by `spvk_grammar_delete`. Initialize it
+ *  with SPVK_GRAMMAR_NONE. A copy of it is the same grammar; delete only one of them. */
 typedef struct spvk_grammar {
     void *held; /**< the library's own; null: no grammar */
 } spvk_grammar;
 
 #define SPVK_GRAMMAR_NONE {NULL}
 
-/** Bytes that a call made, let go by `spvk_buffer_delete`. Start it as SPVK_BUFFER_NONE. They are the library's: to
- *  be read, not written. A text is UTF-8, with a line feed at the end of each line and no zero behind it. A copy is
- *  the same bytes, which are deleted once. */
+/** Bytes that a call made, freed by `spvk_buffer_delete`. Initialize it with SPVK_BUFFER_NONE. They are the
+ *  library's: to be read, not written. A text is UTF-8, with a line feed at the end of each line and no zero byte
+ *  after it. A copy is the same bytes; delete only one of them. */
 typedef struct spvk_buffer {
     const uint8_t *data; /**< the first byte; null where there are none */
     size_t size;         /**< how many bytes */
-    void *held;          /**< the library's own; null: nothing to let go */
+    void *held;          /**< the library's own; null: nothing to free */
 } spvk_buffer;
 
 #define SPVK_BUFFER_NONE {NULL, 0, NULL}
@@ -164,7 +164,7 @@ typedef struct spvk_answer {
 /** A verdict and a text. */
 typedef struct spvk_text {
     spvk_verdict verdict;
-    spvk_buffer buffer; /**< at first SPVK_BUFFER_NONE, or a buffer to be let go when it is overwritten */
+    spvk_buffer buffer; /**< at first SPVK_BUFFER_NONE, or a buffer to be freed when it is overwritten */
 } spvk_text;
 
 /** The fault of a text, and the bytes of a module. */
@@ -173,13 +173,13 @@ typedef struct spvk_image {
     spvk_buffer buffer; /**< as in an spvk_text */
 } spvk_image;
 
-/** As `spvk_grammar_new`, but a grammar that `grammar` holds is let go first. */
+/** As `spvk_grammar_new`, but a grammar that `grammar` holds is freed first. */
 uint32_t spvk_raw_grammar_new(const uint8_t *text, size_t len, spvk_grammar *grammar);
-/** As `spvk_grammar_default`, but a grammar that `grammar` holds is let go first. */
+/** As `spvk_grammar_default`, but a grammar that `grammar` holds is freed first. */
 uint32_t spvk_raw_grammar_default(spvk_grammar *grammar);
 /** As `spvk_grammar_delete`. */
 void spvk_raw_grammar_delete(spvk_grammar *grammar);
-/** As `spvk_grammar_explain`, but bytes that `buffer` holds are let go first. After any status but SPVK_OK `buffer` is
+/** As `spvk_grammar_explain`, but bytes that `buffer` holds are freed first. After any status but SPVK_OK `buffer` is
  *  as it was. */
 uint32_t spvk_raw_grammar_explain(const uint8_t *text, size_t len, spvk_buffer *buffer);
 /** As `spvk_check`. */
@@ -225,7 +225,7 @@ static inline const uint8_t *spvk_some_bytes(const uint8_t *bytes) {
 }
 
 /** Makes a grammar of the `len` bytes of a file in the form of Khronos' spirv.core.grammar.json. The text may be
- *  let go afterwards. What `grammar` held is not looked at: it must not hold a grammar that is still to be deleted.
+ *  freed afterwards. What `grammar` held is ignored: it must not hold a grammar that is still to be deleted.
  *
  *  SPVK_OK: `grammar` holds it, until `spvk_grammar_delete`. SPVK_J1 to SPVK_J7: the text is none; the first code
  *  that it breaks. SPVK_MEMORY. SPVK_NULL: `grammar` is null, or `text` is with a `len` that is not 0. After any
@@ -237,8 +237,8 @@ static inline spvk_status spvk_grammar_new(const uint8_t *text, size_t len, spvk
     return (spvk_status)spvk_raw_grammar_new(spvk_some_bytes(text), len, grammar);
 }
 
-/** Makes the built-in grammar, of SPIR-V 1.6, which needs no file. What `grammar` held is not looked at: it must not
- *  hold a grammar that is still to be deleted.
+/** Makes the built-in grammar, of SPIR-V 1.6, which needs no file. What `grammar` held is ignored: it must not hold
+ *  a grammar that is still to be deleted.
  *
  *  SPVK_OK: `grammar` holds it, until `spvk_grammar_delete`. SPVK_MEMORY. SPVK_NULL: `grammar` is null. SPVK_J2: the
  *  library was damaged. After any status but SPVK_OK `grammar` holds none. */
@@ -248,9 +248,9 @@ static inline spvk_status spvk_grammar_default(spvk_grammar *grammar) {
     return (spvk_status)spvk_raw_grammar_default(grammar);
 }
 
-/** Why `spvk_grammar_new` refuses the `len` bytes of a text, in the lines that `spv --verbose` writes behind the code:
- *  `at:` and the path to the first place that breaks the code, as `instructions[12].operands[0].kind`, but where that
- *  is the whole file or the code is J1; `found:` and what stands there, or of J1 the line and the column at which
+/** Why `spvk_grammar_new` refuses the `len` bytes of a text, in the lines that `spv --verbose` writes after the code:
+ *  `at:` and the path to the first place that breaks the code, as `instructions[12].operands[0].kind`, unless that is
+ *  the whole file or the code is J1; `found:` and what is there, or for J1 the line and the column at which
  *  reading stopped; `wanted:` and what is wanted there. Control characters of ASCII are written as `\xNN`. The text is
  *  read once more for it.
  *
@@ -265,7 +265,7 @@ static inline spvk_status spvk_grammar_explain(const uint8_t *text, size_t len, 
     return (spvk_status)spvk_raw_grammar_explain(spvk_some_bytes(text), len, buffer);
 }
 
-/** Lets a grammar go. It does nothing with a null pointer, nor with one that holds none or was deleted. */
+/** Frees a grammar. It does nothing with a null pointer, nor with one that holds none or was deleted. */
 static inline void spvk_grammar_delete(spvk_grammar *grammar) {
     if (grammar != NULL) spvk_raw_grammar_delete(grammar);
 }
@@ -348,7 +348,7 @@ static inline spvk_status spvk_explain_json_with(const spvk_grammar *grammar, co
 }
 
 /** The verdict on the bytes of a module, and what `spv explain --json` writes of it: a JSON object with a line feed
- *  behind it, which says what the lines of `spvk_explain` say, with numbers as numbers. It has no member `file`. Its
+ *  after it, which says what the lines of `spvk_explain` say, with numbers as numbers. It has no member `file`. Its
  *  members are described in docs/explain.schema.json, a JSON Schema.
  *
  *  SPVK_OK: `verdict` and `buffer` hold them, `buffer` until `spvk_buffer_delete`. The other statuses, and what is left
@@ -382,7 +382,7 @@ static inline spvk_status spvk_show(const spvk_grammar *grammar, const uint8_t *
  *
  *  SPVK_OK, and the code of `fault` is SPVK_ASSEMBLED: `buffer` holds the bytes, until `spvk_buffer_delete`.
  *  SPVK_OK and another code: the first fault of the text and its line; `buffer` holds nothing. SPVK_NOT_TEXT: the
- *  text is no UTF-8. SPVK_MEMORY. SPVK_NO_GRAMMAR. SPVK_NULL: `fault` or `buffer` is null, or `text` is with a
+ *  text is not UTF-8. SPVK_MEMORY. SPVK_NO_GRAMMAR. SPVK_NULL: `fault` or `buffer` is null, or `text` is with a
  *  `len` that is not 0. After any status but SPVK_OK `fault` is as it was, and `buffer` holds nothing. What
  *  `buffer` held is not looked at. */
 static inline spvk_status spvk_assemble(const spvk_grammar *grammar, const uint8_t *text, size_t len, bool big,
@@ -401,34 +401,34 @@ static inline spvk_status spvk_assemble(const spvk_grammar *grammar, const uint8
     return (spvk_status)status;
 }
 
-/** Lets the bytes of a buffer go. It does nothing with a null pointer, nor with one that holds nothing or was
+/** Frees the bytes of a buffer. It does nothing with a null pointer, nor with one that holds nothing or was
  *  deleted. */
 static inline void spvk_buffer_delete(spvk_buffer *buffer) {
     if (buffer != NULL) spvk_raw_buffer_delete(buffer);
 }
 
 /** The name of a code of a verdict, as "I7", with a zero at its end; null for no code, as SPVK_VALID. It is never
- *  let go. */
+ *  freed. */
 static inline const char *spvk_rule_name(uint32_t code) {
     const uint8_t *text = NULL;
     return spvk_raw_rule_name(code, &text) ? (const char *)text : NULL;
 }
 
 /** What a code of a verdict says, in a sentence of ASCII with a zero at its end, as `spv rules` writes it; null for
- *  no code. It is never let go. */
+ *  no code. It is never freed. */
 static inline const char *spvk_rule_sentence(uint32_t code) {
     const uint8_t *text = NULL;
     return spvk_raw_rule_sentence(code, &text) ? (const char *)text : NULL;
 }
 
 /** What a status says, in a few words of ASCII with a zero at its end, as "out of memory"; null for what is no status.
- *  It is never let go. */
+ *  It is never freed. */
 static inline const char *spvk_status_text(uint32_t status) {
     const uint8_t *text = NULL;
     return spvk_raw_status_text(status, &text) ? (const char *)text : NULL;
 }
 
-/** The version of the library, as "1.0.0", with a zero at its end. It is never let go. */
+/** The version of the library, as "1.1.0", with a zero at its end. It is never freed. */
 static inline const char *spvk_version(void) {
     const uint8_t *text = NULL;
     spvk_raw_version(&text);

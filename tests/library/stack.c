@@ -14,34 +14,51 @@
 
 static file grammar_text, module;
 
-// Checks, explains, shows and assembles the module, and it without its last four bytes: null, or what failed.
-static void *call_all(void *unused) {
-    spvk_grammar grammar = SPVK_GRAMMAR_NONE;
+// Checks, explains, shows and assembles the module by these flags, and it without its last four bytes: null, or what
+// failed.
+static const char *read_all(const spvk_grammar *grammar, uint32_t flags) {
     spvk_verdict verdict;
     spvk_fault fault;
     spvk_buffer text = SPVK_BUFFER_NONE, bytes = SPVK_BUFFER_NONE;
-    if (spvk_grammar_new(grammar_text.bytes, grammar_text.size, &grammar) != SPVK_OK) return "spvk_grammar_new";
+    for (size_t cut = 0; cut <= 4; cut += 4) {
+        const uint8_t *start = module.bytes;
+        size_t len = module.size - cut;
+        if (spvk_check_with(grammar, start, len, flags, &verdict) != SPVK_OK) return "spvk_check_with";
+        if (spvk_explain_with(grammar, start, len, flags, &verdict, &text) != SPVK_OK) return "spvk_explain_with";
+        spvk_buffer_delete(&text);
+        if (spvk_explain_json_with(grammar, start, len, flags, &verdict, &text) != SPVK_OK)
+            return "spvk_explain_json_with";
+        spvk_buffer_delete(&text);
+    }
+    if (spvk_show_with(grammar, module.bytes, module.size, flags, &verdict, &text) != SPVK_OK) return "spvk_show_with";
+    if (text.size > 0 && spvk_assemble(grammar, text.data, text.size, flags == 0, &fault, &bytes) != SPVK_OK)
+        return "spvk_assemble";
+    spvk_buffer_delete(&text);
+    spvk_buffer_delete(&bytes);
+    return NULL;
+}
+
+// Makes each call: null, or what failed.
+static void *call_all(void *unused) {
+    spvk_grammar grammar = SPVK_GRAMMAR_NONE;
+    spvk_buffer text = SPVK_BUFFER_NONE;
+    const char *wrong = NULL;
     for (size_t part = 1; part <= 2; part++) {
         if (spvk_grammar_explain(grammar_text.bytes, grammar_text.size / part, &text) != SPVK_OK)
             return "spvk_grammar_explain";
         spvk_buffer_delete(&text);
     }
-    for (size_t cut = 0; cut <= 4; cut += 4) {
-        size_t len = module.size - cut;
-        if (spvk_check(&grammar, module.bytes, len, &verdict) != SPVK_OK) return "spvk_check";
-        if (spvk_explain(&grammar, module.bytes, len, &verdict, &text) != SPVK_OK) return "spvk_explain";
-        spvk_buffer_delete(&text);
-        if (spvk_explain_json(&grammar, module.bytes, len, &verdict, &text) != SPVK_OK) return "spvk_explain_json";
-        spvk_buffer_delete(&text);
+    for (int built_in = 0; built_in <= 1 && wrong == NULL; built_in++) {
+        spvk_status status = built_in ? spvk_grammar_default(&grammar)
+                                      : spvk_grammar_new(grammar_text.bytes, grammar_text.size, &grammar);
+        if (status != SPVK_OK) return built_in ? "spvk_grammar_default" : "spvk_grammar_new";
+        wrong = read_all(&grammar, 0);
+        if (wrong == NULL) wrong = read_all(&grammar, SPVK_AS_1_6);
+        spvk_grammar_delete(&grammar);
     }
-    if (spvk_show(&grammar, module.bytes, module.size, &verdict, &text) != SPVK_OK) return "spvk_show";
-    if (text.size > 0 && spvk_assemble(&grammar, text.data, text.size, true, &fault, &bytes) != SPVK_OK)
-        return "spvk_assemble";
-    spvk_buffer_delete(&text);
-    spvk_buffer_delete(&bytes);
-    spvk_grammar_delete(&grammar);
-    if (spvk_rule_name(SPVK_L2) == NULL || spvk_rule_sentence(SPVK_L2) == NULL || spvk_version() == NULL) return unused;
-    return NULL;
+    if (spvk_rule_name(SPVK_L2) == NULL || spvk_rule_sentence(SPVK_L2) == NULL) return unused;
+    if (spvk_status_text(SPVK_NULL) == NULL || spvk_version() == NULL) return unused;
+    return (void *)wrong;
 }
 
 int main(int count, char **words) {
