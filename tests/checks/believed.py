@@ -60,6 +60,11 @@ PROMISES = (
         ),
     ),
     (
+        "Why a text fails",
+        "`reason` says where the reading of a text stops, and what is wanted there.",
+        (("spv_parser", "text_reason.rt", "reason"),),
+    ),
+    (
         "What shows a fault",
         "`explain` answers the verdict of `check`, and of a fault evidence that the rule is broken there; `explain_stream` "
         "and `explain_bytes` put it into lines.",
@@ -132,8 +137,8 @@ The rules, and the definitions that say what is kept, or (broken) where a rule i
 HEADER, SPELLING = "spv_words/specs/Header.antt", "spv_module/specs/Spelling.antt"
 REFUSAL, SHAPE = "spv_module/specs/Refusal.antt", "spv_layout/specs/Shape.antt"
 IDS, CAPABILITIES = "spv_ids/specs/Broken.antt", "spv_capabilities/specs/Keeps.antt"
-BRANCHES, TARGET = "spv_branches/specs/Broken.antt", "spv_branches/specs/Target.antt"
-READY = "spv_branches/specs/Ready.antt"
+BRANCHES, TARGET = "spv_flow/specs/branches/Broken.antt", "spv_flow/specs/branches/Target.antt"
+READY = "spv_flow/specs/branches/Ready.antt"
 RULES = (
     ("W2 to W8", "the bytes and the header", [(HEADER, "IsModule"), (HEADER, "BytesKeep")], []),
     (
@@ -167,8 +172,8 @@ RULES = (
     (
         "Y1",
         "the role of an id",
-        [("spv_roles/specs/Role.antt", "Plays")],
-        [("spv_roles/specs/Broken.antt", "Broken")],
+        [("spv_type_rules/specs/roles/Role.antt", "Plays")],
+        [("spv_type_rules/specs/roles/Broken.antt", "Broken")],
     ),
     ("C1, E1", "Kernel and not Shader; an entry point", [(CAPABILITIES, "Keeps")], []),
     ("C2", "the capabilities of an instruction", [("spv_capabilities/specs/Capable.antt", "IsCapable")], []),
@@ -220,7 +225,7 @@ RULES = (
     ("F besides", "labels, and two that are the same", [], [(BRANCHES, "Broken")]),
     ("A1", "values on every walk", [], [(READY, "IsMissing")]),
     ("A2", "values of phis on every walk", [], [(READY, "IsPairMissing")]),
-    ("G1", "cycles of calls", [], [("spv_calls/specs/Broken.antt", "Broken")]),
+    ("G1", "cycles of calls", [], [("spv_flow/specs/calls/Broken.antt", "Broken")]),
 )
 
 

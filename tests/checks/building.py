@@ -19,7 +19,13 @@ STAND_IN = r"""#!/bin/sh
 case $1 in ci) ;; *) exit 2 ;; esac
 [ ! -e crates/spv_words/must-fail ] && [ -e crates/spv_words/src/lib.rt ] && [ -e HANDLES ] || exit 2
 mkdir crates/spv_words/out
-echo 'rt: spv_words is kept: an earlier run on this machine proved the same files over the same libraries'
+if [ "$STAND_IN" = fails ]; then
+    echo '== spv_words'
+    echo 'logic=proved functions=3 sum=5'
+    echo 'rt: spv_words proved'
+else
+    echo 'rt: spv_words is kept: an earlier run on this machine proved the same files over the same libraries'
+fi
 mkdir crates/spv_table/out
 sleep 2
 echo '== spv_table'
@@ -52,7 +58,8 @@ PROVED = [
     r"crates/spv/out/spv",
 ]
 REFUSED = [
-    *PROVED[:3],
+    *PROVED[:2],
+    r" 1 of 3  spv_words {15}proved in 0:0[0-2]  \(0 min, about \d more\)",
     r" 2 of 3  spv_table {15}NOT PROVED  \(0 min, about \d more\)",
     r" 3 of 3  spv {21}NOT PROVED  \(0 min, about 0 more\)",
     r"== spv_table",
@@ -124,10 +131,13 @@ def proves(_, folder):
 
 
 def refuses(_, folder):
-    """A crate that is not proved: the end of what was printed of it, and no program."""
+    """A crate that is not proved: the end of what was printed of it, and no program; what was proved is kept."""
     said, status = told(folder, ["program"], way="fails")
     if status != 1 or (folder / "top/crates/spv/out").exists():
         return f"  exit {status}, or there is a program"
+    lines = (folder / "top/out/proved").read_text(encoding="utf-8")
+    if re.sub(r" [0-9a-f]{64} ", " ", lines) != "spv_words logic=proved functions=3 sum=5\n":
+        return f"  out/proved has: {lines}"
     return differing(said, REFUSED)
 
 

@@ -20,4 +20,4 @@ def grown(part):
 def checks():
     """One check for each part."""
     tools = frozenset({"valgrind"})
-    return [Check(f"growth: {part}", LAYERS, grown(part), tools) for part in ("modules", "grammars", "memory")]
+    return [Check(f"growth: {part}", LAYERS, grown(part), tools) for part in ("modules", "grammars", "memory", "views")]

@@ -335,7 +335,8 @@ def each_code(program, folder):
     found |= {it["code"] for it in told}
     codes = [code for code, _ in sentences(PAGE.read_text(encoding="utf-8")) if code[0] not in "JSXN"]
     lacking = [code for code in codes if code not in found and code not in ("W1", "W9")]
-    return f"  no object of {lacking}" if lacking else None
+    unknown = sorted(found - {None, *codes})
+    return f"  no object of {lacking}, and some of {unknown}" if lacking or unknown else None
 
 
 # Names, texts and errors.
@@ -514,7 +515,8 @@ def schema_refuses(_program, _folder):
         [],
         {"verdict": "valid", "code": "A1"},
         {"verdict": "error"},
-        {**fault, "code": "A3"},
+        {**fault, "code": "A0"},
+        {**fault, "code": "J1"},
         {**fault, "inst": -1},
     ]
     bad += [{**fault, "walk": ["%1"]}, {**fault, "walk": [1]}, {**fault, "other": 1}, {**fault, "code": "W2"}]

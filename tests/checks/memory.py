@@ -3,11 +3,12 @@
 import resource
 import struct
 
-from .common import TESTS, Answer, Check, difference, run
+from .common import LAYERS, TESTS, Answer, Check, difference, run
 
 GRAMMAR = TESTS / "profile.json"
 KERNEL = TESTS / "modules/smallest-kernel.spv"
 VALID = Answer(b"valid\n", b"", 0)
+VIEWS = (["explain", "--json"], ["show"], ["annotate"], ["annotate", "--html"], ["graph"], ["graph", "--function", "3"])
 BOUND = struct.Struct("<I")
 PLACE_OF_BOUND = 12
 GREATEST_BOUND = 4_194_303
@@ -16,13 +17,13 @@ STEP = 256 * KIB
 MOST = 64 * KIB * KIB
 
 
-def limited(program, file, folder, limit):
-    """`spv check` of the file in an address space of so many bytes."""
+def limited(program, file, folder, limit, command=("check",)):
+    """`spv check` of the file, or another command, in an address space of so many bytes."""
 
     def limit_it():
         resource.setrlimit(resource.RLIMIT_AS, (limit, limit))
 
-    words = ["check", "--grammar", GRAMMAR, file]
+    words = [*command, "--grammar", GRAMMAR, file]
     return run(program, words, folder, preexec_fn=limit_it)
 
 
@@ -38,6 +39,24 @@ def greatest_bound(program, folder):
     return f"  the smallest kernel is not read in {MOST} bytes"
 
 
+def viewed_with_greatest_bound(program, folder):
+    """The same of what people and programs are given, with 256 KiB more."""
+    content = bytearray(KERNEL.read_bytes())
+    BOUND.pack_into(content, PLACE_OF_BOUND, GREATEST_BOUND)
+    wide = folder / "wide.spv"
+    wide.write_bytes(content)
+    for words in VIEWS:
+        limits = range(STEP, MOST, STEP)
+        least = next((it for it in limits if limited(program, KERNEL, folder, it, words).status == 0), None)
+        got = limited(program, wide, folder, (least or MOST) + STEP, words)
+        if least is None or (got.err, got.status) != (b"", 0):
+            return f"  {words}: in {least} bytes and {STEP} more {got}"
+    return None
+
+
 def checks():
-    """One check, of the layer of ids."""
-    return [Check("memory: greatest bound", frozenset({"ids"}), greatest_bound)]
+    """Two checks, of the layer of ids and of all layers."""
+    return [
+        Check("memory: greatest bound", frozenset({"ids"}), greatest_bound),
+        Check("memory: greatest bound, as it is shown", frozenset(LAYERS), viewed_with_greatest_bound),
+    ]

@@ -74,6 +74,18 @@ def chosen_tests():
     return found
 
 
+def unlisted():
+    """None if each file of tests in which growths are refused has a test that tests/refuse/tests names."""
+    listed = {(crate, test.rpartition("::")[0]) for crate, test, _ in chosen_tests()}
+    missing = []
+    for path in sorted(CRATES.glob("spv_*_tests/src/**/*.rt")):
+        crate = path.relative_to(CRATES).parts[0]
+        module = "::".join(path.relative_to(CRATES / crate / "src").with_suffix("").parts)
+        if " each_refused(" in path.read_text(encoding="utf-8") and (crate, module) not in listed:
+            missing.append(f"{crate} {module}")
+    return f"  tests/refuse/tests names no test of {', '.join(missing)}" if missing else None
+
+
 def same_samples():
     """None if the constants of spv_samples are as the files give them."""
     wrong = [path.name for path in samples.differing()]
@@ -94,4 +106,5 @@ def checks():
         )
 
     found = [Check("samples of the crates' tests", layer, lambda *_: same_samples(), frozenset())]
+    found.append(Check("tests with growths refused, each listed", layer, lambda *_: unlisted(), frozenset()))
     return found + [check(*chosen) for chosen in chosen_tests()]

@@ -336,7 +336,7 @@ def entry_calls(module):
 
 # Of the last four parameters of a function type by how much each may change, so that the fingerprint of the type
 # stays the same (spv_type_rules): they are a reduced basis of the lattice of such changes.
-CHANGES = ((30, -157, -97, 8), (-107, 133, -109, -13), (-35, -75, 74, -340), (-265, -93, 110, 208))
+CHANGES = ((28, 79, 100, -7), (-54, 172, -69, -27), (183, 9, -77, 233), (345, 10, -65, -474))
 
 
 def tuples(most):

@@ -116,6 +116,51 @@ def switches(module):
     closed(module)
 
 
+def selected(module):
+    """Begins the kernel with a value to select by, and a jump to a first block, which is begun; its label is the
+    answer, with the value."""
+    opened(module)
+    kernel(module)
+    value, label = module.fresh(), module.fresh()
+    module.put(128, INT, value, ONE, TWO)
+    module.put(249, label)
+    module.put(248, label)
+    return value, label
+
+
+def switch_same(module):
+    """Switches of 16,000 cases that all lead to one block, with a phi, and select by a value of the entry block."""
+    value, before = selected(module)
+    while module.room() > 32_010:
+        after = module.fresh()
+        cases = (word for number in range(16_000) for word in (number, after))
+        module.put(251, value, after, *cases)
+        module.put(248, after)
+        module.put(245, INT, module.fresh(), value, before)
+        before = after
+    closed(module)
+
+
+def switch_wide(module):
+    """Switches that each lead to the next one and to the same 1,000 blocks, and select by a value of the entry
+    block."""
+    value, label = selected(module)
+    targets = [module.fresh() for _ in range(1_000)]
+    cases = [word for number_and_label in enumerate(targets) for word in number_and_label]
+    while module.room() > 6_020:
+        label = module.fresh()
+        module.put(251, value, label, *cases)
+        module.put(248, label)
+    after = module.fresh()
+    module.put(249, after)
+    module.put(248, after)
+    module.put(245, INT, module.fresh(), value, label)
+    for target in targets:
+        module.put(253)
+        module.put(248, target)
+    closed(module)
+
+
 def longest(module):
     """Instructions as long as they can be: strings of 262,131 octets, switches of 32,765 cases."""
     words = text_words("a" * 262_131)
@@ -182,6 +227,48 @@ def functions(module):
             module.put(57, VOID, module.fresh(), callee)
         closed(module)
         callee = function
+    kernel(module)
+    closed(module)
+
+
+def added(module, value):
+    """An addition to a value; its value."""
+    result = module.fresh()
+    module.put(128, INT, result, value, ONE)
+    return result
+
+
+def put_diamond(module, value):
+    """Ends a block by two ways that come together again, and begins the block where they do, with a phi of a value of
+    each; its value."""
+    left, right, join = module.fresh(), module.fresh(), module.fresh()
+    module.put(250, TRUE, left, right)
+    pairs = []
+    for label in (left, right):
+        module.put(248, label)
+        pairs += [added(module, added(module, value)), label]
+        module.put(249, join)
+    module.put(248, join)
+    result = module.fresh()
+    module.put(245, INT, result, *pairs)
+    return result
+
+
+def mid_functions(module):
+    """Functions of 50 blocks: a loop of 16 diamonds with phis, of values that other blocks define."""
+    opened(module)
+    while module.room() > 700:
+        module.put(54, VOID, module.fresh(), 0, FUNCTION_TYPE)
+        module.put(248, module.fresh())
+        value, loop, after = module.fresh(), module.fresh(), module.fresh()
+        module.put(128, INT, value, ONE, TWO)
+        module.put(249, loop)
+        module.put(248, loop)
+        for _ in range(16):
+            value = put_diamond(module, value)
+        module.put(250, TRUE, loop, after)
+        module.put(248, after)
+        closed(module)
     kernel(module)
     closed(module)
 
@@ -328,6 +415,46 @@ def arrays(module):
     closed(module)
 
 
+def many_types(module):
+    """Arrays of pointers, structs of these, and pointers to the structs."""
+    opened(module)
+    element = POINTER
+    while module.room() > 12:
+        array, struct, pointer = (module.fresh() for _ in range(3))
+        module.put(28, array, element, TWO)
+        module.put(30, struct, array, INT)
+        module.put(32, pointer, 7, struct)
+        element = pointer
+    kernel(module)
+    closed(module)
+
+
+def deep_struct(module):
+    """Structs within structs, 250 of them, and chains of as many indexes into the outermost."""
+    opened(module)
+    depth = 250
+    outermost = []
+    while module.room() > module.most // 2:
+        struct = INT
+        for _ in range(depth):
+            outer = module.fresh()
+            module.put(30, outer, INT, struct)
+            struct = outer
+        outermost.append(struct)
+    pointers = [(module.fresh(), struct) for struct in outermost]
+    for pointer, struct in pointers:
+        module.put(32, pointer, 7, struct)
+    kernel(module)
+    variables = [(module.fresh(), pointer) for pointer, _ in pointers]
+    for variable, pointer in variables:
+        module.put(59, pointer, variable, 7)
+    at = 0
+    while variables and module.room() > depth + 4:
+        module.put(66, POINTER, module.fresh(), variables[at % len(variables)][0], *[ONE] * depth)
+        at += 1
+    closed(module)
+
+
 def calls(module):
     """Calls of one function that has 200 parameters."""
     opened(module)
@@ -390,6 +517,23 @@ def decorations(module):
     closed(module)
 
 
+def many_decorates(module):
+    """Variables that each have a decoration."""
+    count = (module.room() - 64) // 8
+    first = FIRST_FREE
+    module.next += count
+
+    def put_decorates(module):
+        for number in range(count):
+            module.put(71, first + number, 44, 4)
+
+    opened(module, put_decorates)
+    kernel(module)
+    for number in range(count):
+        module.put(59, POINTER, first + number, 7)
+    closed(module)
+
+
 def composites(module):
     """Constants of one struct type of 30 members."""
     opened(module)
@@ -397,6 +541,19 @@ def composites(module):
     module.put(30, struct, *[INT] * 30)
     while module.room() > 33:
         module.put(44, struct, module.fresh(), *[ONE, TWO] * 15)
+    kernel(module)
+    closed(module)
+
+
+def big_constant(module):
+    """Constants of one array of 65,000 elements."""
+    opened(module)
+    count = 65_000
+    length, array = module.fresh(), module.fresh()
+    module.put(43, INT, length, count)
+    module.put(28, array, INT, length)
+    while module.room() > count + 3:
+        module.put(44, array, module.fresh(), *[ONE, TWO] * (count // 2))
     kernel(module)
     closed(module)
 
@@ -516,10 +673,13 @@ SHAPES = {
     "names": names,
     "memory": memory,
     "switches": switches,
+    "switch-same": switch_same,
+    "switch-wide": switch_wide,
     "longest": longest,
     "phis": phis,
     "blocks": blocks,
     "functions": functions,
+    "mid-functions": mid_functions,
     "lines": lines,
     "members": members,
     "named": named,
@@ -528,12 +688,16 @@ SHAPES = {
     "callers": callers,
     "downwards": downwards,
     "types": types,
+    "many-types": many_types,
+    "deep-struct": deep_struct,
     "chains": chains,
     "arrays": arrays,
     "calls": calls,
     "entries": entries,
     "decorations": decorations,
+    "many-decorates": many_decorates,
     "composites": composites,
+    "big-constant": big_constant,
     "again": again,
     "deep": deep,
     "masks": masks,
