@@ -6,7 +6,7 @@ PATH                 a module, or a folder, of which all files whose name ends i
 --list FILE          a file with a name on each line, as PATH; `-` is the standard input
 --scheduler ADDRESS  a cluster that runs, as tcp://host:8786; without it one of processes on this machine is begun
 --workers N          how many processes that has (one for each processor)
---batch N            how many modules go to one process of spv (100)
+--batch N            how many modules go to one process of spv (500)
 --spv PROGRAM        the program (spv), which each worker must find
 --as-1.6             take modules of version 1.0 to 1.5 as ones of 1.6
 
@@ -90,7 +90,7 @@ def main() -> int:
     parser = argparse.ArgumentParser(description=(__doc__ or "").splitlines()[0])
     parser.add_argument("--scheduler")
     parser.add_argument("--workers", type=int)
-    parser.add_argument("--batch", type=int, default=100)
+    parser.add_argument("--batch", type=int, default=500)
     parser.add_argument("--spv", default="spv")
     parser.add_argument("--as-1.6", dest="as_1_6", action="store_true")
     parser.add_argument("--list")
