@@ -10,6 +10,7 @@ from .cases import all_cases, grammar, made, pieces, wanted_answer
 from .common import TESTS, Check, layers_of, layers_that_stand
 
 CRATE = TESTS.parent / "crates/spv_rows"
+PROFILE = TESTS / "profile.json"
 REMEDY = "write it with tests/rows --write"
 
 
@@ -24,7 +25,10 @@ def stored_cases():
 
 
 def grammar_line(content):
-    """The line that gives a grammar file: as it is where it is a line of text, else in hexadecimal."""
+    """The line that gives a grammar file: `profile`, which stands in a crate; as it is where it is a line of text; else in
+    hexadecimal."""
+    if content == PROFILE.read_bytes():
+        return "profile"
     is_line = content and b"\n" not in content and not content.endswith(b"\r")
     try:
         text = content.decode() if is_line else None

@@ -1,6 +1,7 @@
 //! The rows of a file, line by line.
 use crate::answer::Answer;
 use anyhow::{Context, bail};
+use spv_samples::PROFILE;
 use std::alloc::Global;
 
 /// What the lines so far say of the row that is next to run.
@@ -33,6 +34,7 @@ impl<'a> Rows<'a> {
     pub fn take_line(&mut self, rt: &HostRuntime, line: &'a str) -> anyhow::Result<()> {
         let (key, text) = line.split_once(' ').unwrap_or((line, ""));
         match key {
+            "profile" => self.grammar = Vec::from_slice(self.alloc, PROFILE.as_bytes())?,
             "grammar" => self.grammar = Vec::from_slice(self.alloc, text.as_bytes())?,
             "grammar-hex" => self.grammar = hex::decode(self.alloc, text)?,
             "row" => self.begin(text),
