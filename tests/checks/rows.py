@@ -10,7 +10,7 @@ from .cases import all_cases, grammar, made, pieces, wanted_answer
 from .common import TESTS, Check, layers_of, layers_that_stand
 
 CRATE = TESTS.parent / "crates/spv_rows"
-PROFILE = TESTS / "profile.json"
+PROFILE = "profile.json"
 REMEDY = "write it with tests/rows --write"
 
 
@@ -24,17 +24,21 @@ def stored_cases():
     return groups
 
 
-def grammar_line(content):
-    """The line that gives a grammar file: `profile`, which stands in a crate; as it is where it is a line of text; else in
-    hexadecimal."""
-    if content == PROFILE.read_bytes():
-        return "profile"
+def grammar_lines(case, content):
+    """The lines that give a grammar file: `profile`, which stands in a crate, with what the case changes there; else the
+    text as it is where it is one line, or its bytes in hexadecimal."""
+    if case.one("G") == PROFILE:
+        yield "profile"
+        for old, new in zip(case.all("old"), case.all("new")):
+            yield f"old {old}"
+            yield f"new {new}"
+        return
     is_line = content and b"\n" not in content and not content.endswith(b"\r")
     try:
         text = content.decode() if is_line else None
     except UnicodeDecodeError:
         text = None
-    return f"grammar-hex {content.hex()}" if text is None else f"grammar {text}"
+    yield f"grammar-hex {content.hex()}" if text is None else f"grammar {text}"
 
 
 def input_line(content, times):
@@ -57,7 +61,7 @@ def rows():
     lines = []
     for content, found in stored_cases().items():
         if content is not None:
-            lines.append(grammar_line(content))
+            lines.extend(grammar_lines(found[0], content))
         for case in found:
             lines.extend(row_lines(case))
     return "".join(line + "\n" for line in lines).encode()

@@ -9,6 +9,8 @@ use std::alloc::Global;
 pub struct Rows<'a> {
     alloc: Global,
     grammar: Vec<u8>,
+    /// The text of the grammar file that the next line `new` takes the place of.
+    old: &'a str,
     name: &'a str,
     words: Vec<&'a str>,
     input: Vec<u8>,
@@ -20,6 +22,7 @@ impl<'a> Rows<'a> {
         Rows {
             alloc,
             grammar: Vec::new(alloc),
+            old: "",
             name: "",
             words: Vec::new(alloc),
             input: Vec::new(alloc),
@@ -37,6 +40,8 @@ impl<'a> Rows<'a> {
             "profile" => self.grammar = Vec::from_slice(self.alloc, PROFILE.as_bytes())?,
             "grammar" => self.grammar = Vec::from_slice(self.alloc, text.as_bytes())?,
             "grammar-hex" => self.grammar = hex::decode(self.alloc, text)?,
+            "old" => self.old = text,
+            "new" => self.change(text)?,
             "row" => self.begin(text),
             "word" => self.words.push(text)?,
             "input" => self.add_input(text, 1)?,
@@ -44,6 +49,20 @@ impl<'a> Rows<'a> {
             "run" => self.answer()?.print(rt, self.name)?,
             _ => bail!("no line of a row: {line}"),
         }
+        Ok(())
+    }
+
+    /// Has the grammar file's words stand with one space between each two, and puts a text in place of the old one there.
+    fn change(&mut self, new: &str) -> anyhow::Result<()> {
+        let mut words = String::new(self.alloc);
+        for word in str::from_utf8(&self.grammar)?.split_whitespace() {
+            if !words.is_empty() {
+                words.push(' ')?;
+            }
+            words.push_str(word)?;
+        }
+        let changed = words.replace(self.alloc, self.old, new)?;
+        self.grammar = Vec::from_slice(self.alloc, changed.as_bytes())?;
         Ok(())
     }
 
