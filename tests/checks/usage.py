@@ -12,6 +12,8 @@ TEXT = MODULES / "smallest-kernel.spvasm"
 BROKEN = MODULES / "value-missing-on-one-branch.spv"
 COMMANDS = ("check", "explain", "show", "annotate", "graph", "asm", "trace", "rules", "grammar")
 VARIABLE = "SPV_GRAMMAR"
+# A path that is no text.
+NO_TEXT = os.fsdecode(b"gr\xe4mmar.json")
 VALID = Answer(b"valid\n", b"", 0)
 BAD_USE = Answer(b"", b"error use\n", 2)
 NO_FILE = Answer(b"", b"error file\n", 2)
@@ -132,10 +134,12 @@ def grammar_by_option_first(program, folder):
     good, bad = ["check", "--grammar", GRAMMAR, KERNEL], ["check", "--grammar", refused, KERNEL]
     no_tree = Answer(b"", b"error J1\n", 2)
     wrong = answers([(good, VALID)], program, folder, env=under(refused))
-    wrong = wrong or answers([(good, VALID)], program, folder, env=under(folder / "absent"))
     wrong = wrong or answers([(bad, no_tree)], program, folder, env=under(GRAMMAR))
     wrong = wrong or answers([(["check", KERNEL], no_tree)], program, folder, env=under(refused))
-    return wrong or answers([(["check", KERNEL], NO_FILE)], program, folder, env=under(folder / "absent"))
+    for absent in (folder / "absent", "", NO_TEXT):
+        wrong = wrong or answers([(good, VALID)], program, folder, env=under(absent))
+        wrong = wrong or answers([(["check", KERNEL], NO_FILE)], program, folder, env=under(absent))
+    return wrong
 
 
 def no_grammar(program, folder):

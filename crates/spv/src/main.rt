@@ -311,12 +311,14 @@ fn settle_color(rt: &HostRuntime, command: &mut Command<'_>) {
     }
 }
 
-/// The path of a grammar file that the environment names, if it is text.
+/// The path of a grammar file that the environment names. In place of one that is no text it is an empty one, which no
+/// file has, so that another grammar is not taken for the one that is named.
 fn grammar_of_environment(rt: &HostRuntime) -> Result<Option<String>, Trouble> {
     match env::var(rt, "SPV_GRAMMAR") {
         Ok(path) => Ok(Some(path)),
+        Err(VarError::NotPresent) => Ok(None),
+        Err(VarError::NotUnicode) => Ok(Some(String::new(rt.alloc()))),
         Err(VarError::OutOfMemory) => Err(Trouble::Memory),
-        Err(_) => Ok(None),
     }
 }
 
@@ -350,7 +352,7 @@ fn tell_use(rt: &HostRuntime, texts: &[&str]) {
     }
 }
 
-/// Writes the line of a trouble, and behind it why, where that is told.
+/// Writes the line of a trouble, and after it why, where that is told.
 fn report_why<'a>(rt: &HostRuntime, why: &Why<'a>, trouble: Trouble) {
     let mut err = FromWrite::new(Teller::new(rt.stderr(), why, AtHand::of(None)));
     report(trouble, &mut err);
@@ -372,7 +374,7 @@ fn status_of(rt: &HostRuntime, texts: &[&str], environment: Option<&str>) -> u8 
     }
 }
 
-/// The words of the command line behind the program's name.
+/// The words of the command line after the program's name.
 fn words_of(rt: &HostRuntime) -> Result<Vec<String>, Trouble> {
     let mut words: Vec<String> = Vec::new(rt.alloc());
     for word in env::args(rt).map_err(word_trouble)?.skip(1) {

@@ -1,4 +1,4 @@
-//! Why a run ends with an error, for people: what is told behind the one line of it.
+//! Why a run ends with an error, for people: what is told after the one line of it.
 
 use spv_commands::{entry_points, grammar_reason, write_label};
 use spv_words::FromWrite;
@@ -46,7 +46,7 @@ fn tell_line<W: Write>(name: &str, told: &[u8], to: &mut W) {
     let _ = to.inner.write_all(told);
 }
 
-/// Notes of what failed, for what is told behind the line of an error.
+/// Notes of what failed, for what is told after the line of an error.
 #[derive(Drop)]
 pub struct Why<'a> {
     alloc: Global,
@@ -164,7 +164,7 @@ impl<'a, 'b> AtHand<'a, 'b> {
     }
 }
 
-/// The standard error, which tells behind the line of an error why, where that is asked for.
+/// The standard error, which tells after the line of an error why, where that is asked for.
 #[derive(Drop)]
 pub struct Teller<'a, 'b, W> {
     to: W,

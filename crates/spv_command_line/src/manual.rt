@@ -1,6 +1,6 @@
 //! What `help` and `--version` say besides the names of commands and options.
 
-/// What `spv --version` says behind the program's name: the version, and on a line of its own the version of SPIR-V and
+/// What `spv --version` says after the program's name: the version, and on a line of its own the version of SPIR-V and
 /// the toolchain that proved it.
 pub const VERSION: &str = "1.1.0\nSPIR-V 1.6, proved with rattle-kit-13f (logic dac8208d650f15bf)";
 
@@ -33,7 +33,7 @@ Exit status:
 Example:
   spv check kernel.spv";
 
-/// Behind the options of `check`.
+/// After the options of `check`.
 pub const CHECK: &str =
     "Writes `valid`, or the line of the first rule that the module breaks. Of several files it writes
 `FILE: VERDICT`, a line each, in order; what cannot be read is told on the standard error, and the
@@ -48,7 +48,7 @@ Exit status:
 Example:
   spv check first.spv second.spv";
 
-/// Behind the options of `explain`.
+/// After the options of `explain`.
 pub const EXPLAIN: &str =
     "Writes the verdict as `check` does, and after it what explains it: the rule, the instruction, its
 place and what shows that it breaks the rule. Of several files each part begins with
@@ -63,7 +63,7 @@ Exit status:
 Example:
   spv explain kernel.spv";
 
-/// Behind the options of `show`.
+/// After the options of `show`.
 pub const SHOW: &str =
     "Writes the text of the module's instructions, a line each, which `asm` makes the same module of.
 
@@ -75,9 +75,9 @@ Exit status:
 Example:
   spv show kernel.spv";
 
-/// Behind the options of `annotate`.
+/// After the options of `annotate`.
 pub const ANNOTATE: &str =
-    "Writes the lines that `show` writes, and behind each as a comment the numbers of its instruction and
+    "Writes the lines that `show` writes, and after each, as a comment, the numbers of its instruction and
 of its first word, and the names of its ids. Where the module is not valid, comments below the
 instruction of the fault explain it. `asm` reads the text of `show`, and not this one.
 
@@ -90,7 +90,7 @@ Exit status:
 Example:
   spv annotate --html kernel.spv > kernel.html";
 
-/// Behind the options of `graph`.
+/// After the options of `graph`.
 pub const GRAPH: &str =
     "Writes a graph in DOT, which graphviz draws: the functions and their calls, or the blocks of one
 function and where each leads. Where the module is not valid, what breaks the rule is red.
@@ -104,7 +104,7 @@ Exit status:
 Example:
   spv graph --function 4 kernel.spv | dot -Tsvg > kernel.svg";
 
-/// Behind the options of `asm`.
+/// After the options of `asm`.
 pub const ASM: &str =
     "Makes the module of a text as `show` writes it. An OUT `-` is the standard output; the line of a
 fault then goes to the standard error. An OUT that is FILE itself is refused, and FILE stays as it is.
@@ -117,7 +117,7 @@ Exit status:
 Example:
   spv asm --out kernel.spv kernel.txt";
 
-/// Behind the options of `trace`.
+/// After the options of `trace`.
 pub const TRACE: &str =
     "Writes a line for each step, its depth of calls and its instruction, and last how the run ends.
 
@@ -129,7 +129,7 @@ Exit status:
 Example:
   spv trace --function 4 --limit 100 kernel.spv";
 
-/// Behind the options of `rules`.
+/// After the options of `rules`.
 pub const RULES: &str = "Reads no file.
 
 Exit status:
@@ -139,7 +139,7 @@ Exit status:
 Example:
   spv rules A1";
 
-/// Behind the options of `grammar`.
+/// After the options of `grammar`.
 pub const GRAMMAR: &str =
     "Reading what it writes gives the same grammar. It reads no module, and SPV_GRAMMAR is not used.
 

@@ -65,7 +65,7 @@ fn reason_of(alloc: Global, words: &[&str]) -> Result<String, AllocError> {
 }
 
 /// What is wrong with the words where `arguments` answers `NoCommand`, for people: a line or more that say which word
-/// does not fit or what is missing, and the line `see: spv help`, with the command behind it that the words begin with.
+/// does not fit or what is missing, and the line `see: spv help`, with the command after it that the words begin with.
 /// A control character of a word is `\xNN`.
 ///
 /// # Errors

@@ -8,7 +8,7 @@ ghost use Rattle.spv_command_line.specs.inner.Reading.{parts_left};
 use memchr::memchr;
 use std::alloc::{AllocError, Global};
 
-/// The number of 32 bits that a digit behind the digits of a number makes of it.
+/// The number of 32 bits that a digit after the digits of a number makes of it.
 fn with_digit(number: u32, octet: u8) -> Option<u32>
     ensures { MatchOption result (is_digit octet ≡ true → 2 ^ 32 ≤ number * 10 + (octet - 48))
         (λ n. (is_digit octet ≡ true) × (n ≡ number * 10 + (octet - 48)) × (n < 2 ^ 32)) }
@@ -38,7 +38,7 @@ pub fn number_in(text: &[u8]) -> Option<u32>
     Some(number)
 }
 
-/// What stands before the first comma, and what behind it, if there is one.
+/// What stands before the first comma, and what after it, if there is one.
 fn split_part(text: &[u8]) -> (&[u8], Option<&[u8]>)
     ensures parts { parts_of text.now ≡ (result.0).now ∷ parts_left (option_map (λ t. t.now) result.1) }
     ensures shorter { IfSome (result.1) (λ t. length t.now < length text.now) }

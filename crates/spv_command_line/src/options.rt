@@ -1,4 +1,4 @@
-//! The options behind the name of a command, as `clap` read them.
+//! The options after the name of a command, as `clap` read them.
 ghost use Rattle.std.specs.Prelude.{◌≡◌, ◌↔◌, ℕ, List, codes, IfErr, IfOk, IsTrue, MatchOption, Option};
 ghost use Rattle.clap.specs.Words.{first_of, found_of, rows_of};
 ghost use Rattle.spv_command_line.specs.declared.command_line.Color.{Color};

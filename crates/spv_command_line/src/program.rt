@@ -1,4 +1,4 @@
-//! The command line that `clap` reads: a table of the commands and of what stands behind the name of each.
+//! The command line that `clap` reads: a table of the commands and of what stands after the name of each.
 ghost use Rattle.std.specs.Prelude.{◌≡◌, ◌∷◌, [], false, IfOk, map};
 ghost use Rattle.clap.specs.Words.{app_of, rule_of, shape_of};
 ghost use Rattle.clap.specs.declared.builder.command.Command.TheViews.{out-Command};
@@ -11,14 +11,14 @@ use crate::manual;
 use clap::{Arg, ArgAction};
 use std::alloc::{AllocError, Global};
 
-/// How an argument stands behind the name of a command.
+/// How an argument stands after the name of a command.
 #[derive(Clone, Copy)]
 enum Form {
     /// As one word.
     Word,
     /// As one word or more.
     Words,
-    /// As an option, whose value is the word behind it.
+    /// As an option, whose value is the word after it.
     Option,
     /// As an option without a value.
     Flag,
@@ -106,7 +106,7 @@ const VERBOSE: Argument = Argument {
     form: Form::Flag,
     value: "",
     required: false,
-    help: "Says behind the line of an error what was tried and why it failed, as it does on a terminal",
+    help: "Says after the line of an error what was tried and why it failed, as it does on a terminal",
 };
 
 const MODULE: Argument = Argument {
@@ -154,7 +154,7 @@ const EXPLAINED: Argument = Argument {
     form: Form::Flag,
     value: "",
     required: false,
-    help: "Writes behind the line of a fault its rule, the line of the text, and what is wanted and found there",
+    help: "Writes after the line of a fault its rule, the line of the text, and what is wanted and found there",
 };
 
 const ONLY_FUNCTION: Argument = Argument {
@@ -235,12 +235,12 @@ struct Entry {
     name: &'static str,
     /// What is said of it among the commands.
     about: &'static str,
-    /// What is said behind its arguments.
+    /// What is said after its arguments.
     notes: &'static str,
     arguments: &'static [Argument],
 }
 
-/// What stands behind the name of `check`.
+/// What stands after the name of `check`.
 const CHECK: &[Argument] = &[
     GRAMMAR,
     MODULES,
@@ -252,7 +252,7 @@ const CHECK: &[Argument] = &[
     VERBOSE,
 ];
 
-/// What stands behind the name of `explain`.
+/// What stands after the name of `explain`.
 const EXPLAIN: &[Argument] = &[
     GRAMMAR,
     MODULES,
