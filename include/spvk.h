@@ -51,7 +51,7 @@ extern "C" {
 #endif
 
 /** The version of the library. */
-#define SPVK_VERSION "1.1.0"
+#define SPVK_VERSION "1.2.0"
 
 /** What a call comes to.
  *
@@ -428,7 +428,7 @@ static inline const char *spvk_status_text(uint32_t status) {
     return spvk_raw_status_text(status, &text) ? (const char *)text : NULL;
 }
 
-/** The version of the library, as "1.1.0", with a zero at its end. It is never freed. */
+/** The version of the library, as "1.2.0", with a zero at its end. It is never freed. */
 static inline const char *spvk_version(void) {
     const uint8_t *text = NULL;
     spvk_raw_version(&text);

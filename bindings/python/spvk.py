@@ -48,7 +48,7 @@ __all__ = [
     "version",
 ]
 
-__version__ = "1.1.0"
+__version__ = "1.2.0"
 
 _FILE = "libspvk.so.1"
 _OK, _MEMORY, _NOT_TEXT, _J1 = 0, 1, 4, 101

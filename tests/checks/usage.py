@@ -159,7 +159,7 @@ def tells_version(program, folder):
     """Two lines: the program's, and that of SPIR-V and the toolchain."""
     got = run(program, ["--version"], folder, env=under())
     lines = got.out.decode().splitlines()
-    fine = len(lines) == 2 and lines[0] == "spv 1.1.0" and "SPIR-V 1.6" in lines[1] and "rattle-kit-" in lines[1]
+    fine = len(lines) == 2 and lines[0] == "spv 1.2.0" and "SPIR-V 1.6" in lines[1] and "rattle-kit-" in lines[1]
     return None if fine and (got.err, got.status) == (b"", 0) else f"  {got}"
 
 

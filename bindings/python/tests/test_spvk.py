@@ -1,6 +1,6 @@
 """The calls of spvk.py, on the modules and the cases of tests/ at the top of the repository.
 
-    SPVK_LIBRARY=out/libspvk.so.1.1.0 PYTHONPATH=bindings/python python3 -m unittest discover bindings/python/tests
+    SPVK_LIBRARY=out/libspvk.so.1.2.0 PYTHONPATH=bindings/python python3 -m unittest discover bindings/python/tests
 """
 
 import dataclasses

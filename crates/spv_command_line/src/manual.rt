@@ -2,7 +2,7 @@
 
 /// What `spv --version` says after the program's name: the version, and on a line of its own the version of SPIR-V and
 /// the toolchain that proved it.
-pub const VERSION: &str = "1.1.0\nSPIR-V 1.6, proved with rattle-kit-13f (logic dac8208d650f15bf)";
+pub const VERSION: &str = "1.2.0\nSPIR-V 1.6, proved with rattle-kit-13f (logic dac8208d650f15bf)";
 
 /// Of the grammar file.
 pub const GRAMMAR_FILE: &str =

@@ -37,7 +37,7 @@ pub extern "C" fn spvk_raw_rule_sentence(code: u32, text: &mut StaticText) -> bo
 /// Puts where the version begins.
 #[unsafe(no_mangle)]
 pub extern "C" fn spvk_raw_version(text: &mut StaticText)
-    ensures { text.new.octets ≡ Some (codes "1.1.0" ++ 0 ∷ []) }
+    ensures { text.new.octets ≡ Some (codes "1.2.0" ++ 0 ∷ []) }
 {
-    *text = StaticText::of(b"1.1.0\0");
+    *text = StaticText::of(b"1.2.0\0");
 }
