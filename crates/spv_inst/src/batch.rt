@@ -1,4 +1,4 @@
-ghost use Rattle.std.specs.Prelude.{◌≡◌, ◌++◌, ◌∷◌, ◌≤◌, [], length, take, drop, map, OnOk};
+ghost use Rattle.std.specs.Prelude.{◌≡◌, ◌++◌, ◌∷◌, ◌≤◌, [], length, take, drop, map, IfOk, OnOk};
 ghost use Rattle.spv_module.specs.Module.{plain_inst, plain_operands};
 ghost use Rattle.spv_inst.specs.inner.Batch.{batch_insts, head_inst, IsTidy, AreWithin};
 
@@ -32,16 +32,15 @@ const ENOUGH: usize = 4096;
 const ROOM: usize = 4128;
 
 impl<'a> Batch<'a> {
-    /// A batch of no instruction. It takes no memory.
-    pub fn new(alloc: Global) -> Batch<'a>
-        ensures none { batch_insts result ≡ [] }
-        ensures tidy { IsTidy result }
-        ensures empty { result.operands.items ≡ [] }
+    /// A batch of no instruction, with room for all instructions of so many words, or for as many as a batch has.
+    pub fn with_room(alloc: Global, words: usize) -> Result<Batch<'a>, AllocError>
+        ensures none { IfOk result (λ b. batch_insts b ≡ []) }
+        ensures tidy { IfOk result (λ b. IsTidy b) }
+        ensures empty { IfOk result (λ b. b.operands.items ≡ []) }
     {
-        Batch {
-            operands: Vec::new(alloc),
-            heads: Vec::new(alloc),
-        }
+        let operands = Vec::with_capacity(alloc, words.min(ROOM))?;
+        let heads = Vec::with_capacity(alloc, words.min(ENOUGH))?;
+        Ok(Batch { operands, heads })
     }
 
     /// Ends an instruction: its operands are those from a place on. Where memory runs out, nothing is said of what is
@@ -66,9 +65,14 @@ impl<'a> Batch<'a> {
         Ok(())
     }
 
-    /// Adds the instructions of the batch to a list, and empties the batch. Where memory runs out, nothing is said of
-    /// what is left.
-    pub fn move_into(&mut self, alloc: Global, insts: &mut Vec<Inst<'a>>) -> Result<(), AllocError>
+    /// Adds the instructions of the batch to a list, and empties the batch, which then has room for so many operands.
+    /// Where memory runs out, nothing is said of what is left.
+    pub fn move_into(
+        &mut self,
+        alloc: Global,
+        insts: &mut Vec<Inst<'a>>,
+        room: usize,
+    ) -> Result<(), AllocError>
         requires { IsTidy self.old }
         ensures moved { OnOk result (map plain_inst insts.new.items ≡ map plain_inst insts.old.items
             ++ batch_insts self.old) }
@@ -76,8 +80,8 @@ impl<'a> Batch<'a> {
         ensures tidy { OnOk result (IsTidy self.new) }
         ensures empty { OnOk result (self.new.operands.items ≡ []) }
     {
-        let room = Vec::with_capacity(alloc, ROOM)?;
-        let operands = replace(&mut self.operands, room);
+        let emptied = Vec::with_capacity(alloc, room)?;
+        let operands = replace(&mut self.operands, emptied);
         let Ok(shared) = Rc::new(alloc, operands) else {
             return Err(AllocError);
         };
@@ -103,7 +107,7 @@ impl<'a> Batch<'a> {
         ensures fewer { OnOk result (length self.new.operands.items ≤ length self.old.operands.items) }
     {
         if self.operands.len() >= ENOUGH || self.heads.len() >= ENOUGH {
-            self.move_into(alloc, insts)?;
+            self.move_into(alloc, insts, ROOM)?;
         }
         Ok(())
     }

@@ -17,7 +17,7 @@ use spv_words::{Header, Image};
 use std::alloc::{AllocError, Global};
 
 /// How many words the decoder reckons an instruction has, to keep room for all of them from the start.
-const WORDS_FOR_EACH: u32 = 4;
+const WORDS_FOR_EACH: usize = 4;
 
 /// A module with that header and no instruction, with room for so many. The error is that memory ran out.
 fn with_room<'a>(alloc: Global, header: Header, count: usize) -> Result<Module<'a>, AllocError>
@@ -76,7 +76,7 @@ fn read_all<'t, 'a>(
         number += 1;
         at = end;
     }
-    batch.move_into(alloc, insts)?;
+    batch.move_into(alloc, insts, 0)?;
     Ok(())
 }
 
@@ -97,11 +97,11 @@ pub fn decode<'a>(alloc: Global, table: &Table, image: &'a Image) -> Result<Modu
     // Where there is one, the words spell no list.
     ensures none { IfErr result (λ e. HasNoList table.now image.now e) }
 {
-    let count = image.len() / WORDS_FOR_EACH;
-    let mut module = with_room(alloc, image.header(), count as usize)?;
-    let mut definitions = Definitions::new(alloc);
+    let words = image.len() as usize;
+    let mut module = with_room(alloc, image.header(), words / WORDS_FOR_EACH)?;
+    let mut definitions = Definitions::with_room(alloc, module.header.bound)?;
     let mut pending = Pending::new(alloc);
-    let mut batch = Batch::new(alloc);
+    let mut batch = Batch::with_room(alloc, words)?;
     read_all(
         alloc,
         table,

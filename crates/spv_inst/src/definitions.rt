@@ -1,5 +1,5 @@
 ghost use Rattle.std.specs.Prelude.{◌≡◌, ◌++◌, ◌∷◌, ◌<◌, ◌≤◌, [], ℕ, List, Some, None};
-ghost use Rattle.std.specs.Prelude.{false, nat_eq, slice_index_or, if◌then◌else◌, length, OnOk, MatchOption};
+ghost use Rattle.std.specs.Prelude.{false, nat_eq, slice_index_or, if◌then◌else◌, length, IfOk, OnOk, MatchOption};
 ghost use Rattle.std.specs.Prelude.{option_and_then, option_map, unwrap_or};
 ghost use Rattle.spv_module.specs.declared.opcode.TheConstants.{TYPE_FLOAT};
 ghost use Rattle.spv_module.specs.Operand.{PlainInst};
@@ -124,6 +124,17 @@ impl Definitions {
             far: BTreeMap::new(alloc),
             reach: LEAST_REACH,
         }
+    }
+
+    /// The same, with room for the ids below a bound, or for as many as the list holds from the start.
+    pub(crate) fn with_room(alloc: Global, bound: u32) -> Result<Definitions, AllocError>
+        ensures { IfOk result (λ d. Knows d []) }
+    {
+        Ok(Definitions {
+            near: Vec::with_capacity(alloc, bound.min(LEAST_REACH) as usize)?,
+            far: BTreeMap::new(alloc),
+            reach: LEAST_REACH,
+        })
     }
 
     /// Keeps what is new of an id. Where memory runs out, nothing is said of what is left.

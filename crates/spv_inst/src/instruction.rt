@@ -1,9 +1,9 @@
 //! One instruction.
 
-ghost use Rattle.std.specs.Prelude.{◌≡◌, ◌≤◌, ◌<◌, ◌+◌, ◌-◌, List};
-ghost use Rattle.std.specs.Prelude.{length, map, take, drop, IfOk, IfErr, OnOk};
+ghost use Rattle.std.specs.Prelude.{◌≡◌, ◌≤◌, ◌<◌, ◌+◌, ◌-◌, List, []};
+ghost use Rattle.std.specs.Prelude.{false, length, map, take, drop, IfOk, IfErr, IsTrue, OnOk, vec_len, vec_capacity};
 ghost use Rattle.spv_table.specs.Table.{Item, pattern_of, IsWhole};
-ghost use Rattle.spv_inst.specs.inner.Pending.{due_first};
+ghost use Rattle.spv_inst.specs.inner.Pending.{due_first, settled};
 ghost use Rattle.spv_inst.specs.Flat.{due};
 ghost use Rattle.spv_table.specs.inner.Form.{form_of};
 ghost use Rattle.spv_module.specs.Instruction.{IsInstruction};
@@ -19,7 +19,7 @@ use crate::items::DueItems;
 use crate::known::{known_after, known_of};
 use crate::pairs::read_pairs;
 use crate::pending::Pending;
-use crate::plain::{Rest, next_kind, read_bare};
+use crate::plain::{Rest, read_bare, read_plain};
 use crate::reader::{Place, Scene, take_operand};
 use crate::repeated::read_run;
 use crate::words::read_words;
@@ -110,6 +110,18 @@ fn read_rest<'t, 'a>(
     }
 }
 
+/// Whether no word of an instruction is left, and nothing more is due.
+#[inline(always)]
+fn is_read(place: Place, rest: Rest<'_>) -> bool
+    ensures { IsTrue result → (place.end ≤ rest.entry.at)
+        × (settled false (due_first rest.entry.kinds.now rest.entry.items.left.now) ≡ []) }
+{
+    if rest.at < place.end || !rest.kinds.is_empty() {
+        return false;
+    }
+    rest.items.are_optional()
+}
+
 /// Reads what is left of an instruction after operands of one word: `begin` is the place of the instruction's first
 /// operand in the list. After an error nothing is said of what is left of the list.
 #[inline(never)]
@@ -126,6 +138,7 @@ fn read_further<'t, 'a>(
     requires within { (place.first ≤ rest.at) × (rest.at ≤ place.end) }
     requires fits { place.end ≤ length scene.now.image.now }
     requires room { begin ≤ length operands.now.items }
+    requires spare { vec_len operands.now + (place.end - rest.at) ≤ vec_capacity operands.now }
     // With the operands that stand there already, what is added is what the words from the first up to the end spell.
     ensures read { (before : List PlainInst) (pattern : List Item) → Knows scene.now.definitions.now before
         → SofarAt scene.now.table.now before place.opcode pattern scene.now.image.now place.first place.end
@@ -143,13 +156,14 @@ fn read_further<'t, 'a>(
         (λ e. IsMisfit scene.now.table.now (start before place.opcode) pattern
         (between scene.now.image.now place.first place.end) place.number place.first e) }
 {
-    let rest = read_words(scene, operands, place, begin, rest)?;
-    let rest = read_run(scene, operands, place, begin, rest)?;
-    let rest = read_pairs(scene, operands, place, begin, rest)?;
-    if rest.at == place.end {
-        if let None = next_kind(rest.kinds, rest.items, false) {
-            return Ok(());
-        }
+    let rest = read_words(scene, operands, place, begin, rest);
+    if is_read(place, rest) {
+        return Ok(());
+    }
+    let rest = read_run(scene, operands, place, begin, rest);
+    let rest = read_pairs(scene, operands, place, begin, rest);
+    if is_read(place, rest) {
+        return Ok(());
     }
     read_rest(scene, pending, operands, place, begin, rest)
 }
@@ -192,10 +206,12 @@ fn read_operands<'t, 'a>(
         place.first,
         place.end,
     )?;
-    if rest.at == place.end {
-        if let None = rest.items.next_item(false) {
-            return Ok(());
-        }
+    if is_read(place, rest) {
+        return Ok(());
+    }
+    let rest = read_plain(scene, operands, place, begin, rest);
+    if is_read(place, rest) {
+        return Ok(());
     }
     // What the call takes is put together here, since most instructions do not come to it.
     let scene = *scene;

@@ -1,6 +1,6 @@
 //! The items of a pattern that are due.
 
-ghost use Rattle.std.specs.Prelude.{◌≡◌, ◌∷◌, [], true, false, map, IfSome, MatchOption};
+ghost use Rattle.std.specs.Prelude.{◌≡◌, ◌∷◌, [], true, false, map, IfSome, IsTrue, MatchOption};
 ghost use Rattle.spv_table.specs.inner.Pattern.{EndsOptional};
 ghost use Rattle.spv_module.specs.Shape.{alone};
 ghost use Rattle.spv_inst.specs.Flat.{OneOf, due};
@@ -99,13 +99,21 @@ impl<'t> DueItems<'t> {
         }
     }
 
+    /// Whether each item left is optional, so that none is due where no word is left.
+    #[inline(always)]
+    pub(crate) fn are_optional(self) -> bool
+        ensures { IsTrue result → settled false (map due (items_of self.entry.left.now)) ≡ [] }
+    {
+        self.left.len() <= self.optional
+    }
+
     /// The kind of the next item that is not optional, and what is due after it.
     fn next_required(self) -> Option<(u32, DueItems<'t>)>
         ensures { MatchOption result (settled false (map due (items_of self.entry.left.now)) ≡ [])
             (λ p. settled false (map due (items_of self.entry.left.now)) ≡ OneOf (alone p.0)
             ∷ map due (items_of p.1.left.now)) }
     {
-        if self.left.len() <= self.optional {
+        if self.are_optional() {
             return None;
         }
         for (index, item) in self.left.iter().enumerate() {

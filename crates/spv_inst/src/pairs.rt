@@ -1,7 +1,7 @@
 //! Pairs that come any number of times: those of OpPhi and of OpSwitch.
 
-ghost use Rattle.std.specs.Prelude.{◌≡◌, List, ◌≤◌, ◌+◌, Some};
-ghost use Rattle.std.specs.Prelude.{length, take, drop, map, IfOk, IfSome};
+ghost use Rattle.std.specs.Prelude.{◌≡◌, List, ◌≤◌, ◌+◌, ◌-◌, Some};
+ghost use Rattle.std.specs.Prelude.{length, take, drop, map, IfSome, vec_len, vec_capacity};
 ghost use Rattle.spv_table.specs.Table.{Table, Item, kind_of};
 ghost use Rattle.spv_table.specs.declared.form.Form.TheVariants.{Leaf as LeafForm};
 ghost use Rattle.spv_table.specs.inner.Form.{form_of, form_at};
@@ -22,13 +22,10 @@ use crate::repeated::repeated_kind;
 use spv_module::{Operand, opcode};
 use spv_table::{Form, Leaf, form_in};
 use spv_words::{Image, word};
-use std::alloc::AllocError;
 
 /// Takes pairs of ids at the front of the words from `first` up to the end of an instruction, as many as there are, and
-/// adds them to a list. The answer is the number of the next word in the module.
-///
-/// An `AllocError` comes only where a growth of memory was refused, and then nothing is said of what is left of the
-/// list.
+/// adds them to a list, which has room for as many operands as words are left. The answer is the number of the next
+/// word in the module.
 #[inline(always)]
 fn read_id_pairs<'a>(
     image: &Image,
@@ -36,36 +33,35 @@ fn read_id_pairs<'a>(
     place: Place,
     begin: usize,
     first: u32,
-) -> Result<u32, AllocError>
+) -> u32
     requires within { (place.first ≤ first) × (first ≤ place.end) }
     requires fits { place.end ≤ length image.now }
     requires room { begin ≤ length operands.now.items }
+    requires spare { vec_len operands.now + (place.end - first) ≤ vec_capacity operands.now }
     ensures sofar { (G : Table) (before : List PlainInst) (pattern : List Item) (a b : Slot) (ds : List Due)
         → IsPair G ds a b → ((c : Context) → shape_of G c a ≡ AsId)
         → SofarAt G before place.opcode pattern image.now place.first place.end (drop begin operands.old.items) ds first
-        → IfOk result
-        (λ at. SofarAt G before place.opcode pattern image.now place.first place.end (drop begin operands.new.items) ds
-        at) }
-    ensures kept { IfOk result (λ _. take begin operands.new.items ≡ take begin operands.old.items) }
-    ensures room { IfOk result (λ _. begin ≤ length operands.new.items) }
-    ensures few { IfOk result (λ at. length operands.new.items + first ≤ length operands.old.items + at) }
-    ensures within { IfOk result (λ at. (first ≤ at) × (at ≤ place.end)) }
+        → SofarAt G before place.opcode pattern image.now place.first place.end (drop begin operands.new.items) ds
+        result }
+    ensures kept { take begin operands.new.items ≡ take begin operands.old.items }
+    ensures room { begin ≤ length operands.new.items }
+    ensures few { length operands.new.items + first ≤ length operands.old.items + result }
+    ensures within { (first ≤ result) × (result ≤ place.end) }
+    ensures spare { vec_len operands.new + (place.end - result) ≤ vec_capacity operands.new }
 {
     let mut at = first;
     while place.end - at >= 2 {
-        operands.push(Operand::Id(word(image, at)))?;
-        operands.push(Operand::Id(word(image, at + 1)))?;
+        operands.push_reserved(Operand::Id(word(image, at)));
+        operands.push_reserved(Operand::Id(word(image, at + 1)));
         at += 2;
     }
-    Ok(at)
+    at
 }
 
 /// Takes the cases of OpSwitch at the front of the words from `first` up to the end of an instruction, as many as there
-/// are whole ones, and adds them to a list: each is a number of `bits` bits, the width that the selector's type tells,
-/// and a label. The answer is the number of the next word in the module.
-///
-/// An `AllocError` comes only where a growth of memory was refused, and then nothing is said of what is left of the
-/// list.
+/// are whole ones, and adds them to a list, which has room for as many operands as words are left: each is a number of
+/// `bits` bits, the width that the selector's type tells, and a label. The answer is the number of the next word in the
+/// module.
 #[inline(always)]
 fn read_cases<'a>(
     image: &Image,
@@ -74,37 +70,38 @@ fn read_cases<'a>(
     begin: usize,
     first: u32,
     bits: u32,
-) -> Result<u32, AllocError>
+) -> u32
     requires within { (place.first ≤ first) × (first ≤ place.end) }
     requires fits { place.end ≤ length image.now }
     requires room { begin ≤ length operands.now.items }
+    requires spare { vec_len operands.now + (place.end - first) ≤ vec_capacity operands.now }
     ensures sofar { (G : Table) (before : List PlainInst) (pattern : List Item) (a b : Slot) (ds : List Due)
         → IsPair G ds a b
         → ((c : Context) → c.opcode ≡ place.opcode → shape_of G c a ≡ AsNumber (width.switch_width c))
         → width.switch_width (context_at before place.opcode (drop begin operands.old.items)) ≡ Some bits
         → SofarAt G before place.opcode pattern image.now place.first place.end (drop begin operands.old.items) ds first
-        → IfOk result
-        (λ at. SofarAt G before place.opcode pattern image.now place.first place.end (drop begin operands.new.items) ds
-        at) }
-    ensures kept { IfOk result (λ _. take begin operands.new.items ≡ take begin operands.old.items) }
-    ensures room { IfOk result (λ _. begin ≤ length operands.new.items) }
-    ensures few { IfOk result (λ at. length operands.new.items + first ≤ length operands.old.items + at) }
-    ensures within { IfOk result (λ at. (first ≤ at) × (at ≤ place.end)) }
+        → SofarAt G before place.opcode pattern image.now place.first place.end (drop begin operands.new.items) ds
+        result }
+    ensures kept { take begin operands.new.items ≡ take begin operands.old.items }
+    ensures room { begin ≤ length operands.new.items }
+    ensures few { length operands.new.items + first ≤ length operands.old.items + result }
+    ensures within { (first ≤ result) × (result ≤ place.end) }
+    ensures spare { vec_len operands.new + (place.end - result) ≤ vec_capacity operands.new }
 {
     let mut at = first;
     while at < place.end {
         let Ok(number) = take_number(image, Some(bits), at, place.end) else {
-            return Ok(at);
+            return at;
         };
         let label = at + number.words;
         if label == place.end {
-            return Ok(at);
+            return at;
         }
-        operands.push(number.operand)?;
-        operands.push(Operand::Id(word(image, label)))?;
+        operands.push_reserved(number.operand);
+        operands.push_reserved(Operand::Id(word(image, label)));
         at = label + 1;
     }
-    Ok(at)
+    at
 }
 
 /// A pair that is due any number of times.
@@ -154,12 +151,10 @@ fn pair_due(scene: &Scene<'_, '_, '_>, rest: Rest<'_>) -> Option<Pair>
     }
 }
 
-/// Takes pairs of ids, or cases of OpSwitch, at the front of the words left of an instruction, where an item is due that
-/// comes any number of times and is such a pair, and adds them to a list: `begin` is the place of the instruction's
-/// first operand there. It stops where fewer words are left than a pair takes.
-///
-/// An `AllocError` comes only where a growth of memory was refused, and then nothing is said of what is left of the
-/// list.
+/// Takes pairs of ids, or cases of OpSwitch, at the front of the words left of an instruction, where an item is due
+/// that comes any number of times and is such a pair, and adds them to a list, which has room for as many operands as
+/// words are left: `begin` is the place of the instruction's first operand there. It stops where fewer words are left
+/// than a pair takes.
 #[inline(always)]
 pub fn read_pairs<'t, 'a>(
     scene: &Scene<'t, '_, 'a>,
@@ -167,48 +162,49 @@ pub fn read_pairs<'t, 'a>(
     place: Place,
     begin: usize,
     rest: Rest<'t>,
-) -> Result<Rest<'t>, AllocError>
+) -> Rest<'t>
     requires forms { scene.now.forms.now ≡ map form_of scene.now.table.now.kinds }
     requires within { (place.first ≤ rest.at) × (rest.at ≤ place.end) }
     requires fits { place.end ≤ length scene.now.image.now }
     requires room { begin ≤ length operands.now.items }
+    requires spare { vec_len operands.now + (place.end - rest.at) ≤ vec_capacity operands.now }
     // The operands that are added bring the decoder from what was left to what is left.
     ensures sofar { (before : List PlainInst) (pattern : List Item) → Knows scene.now.definitions.now before
         → SofarAt scene.now.table.now before place.opcode pattern scene.now.image.now place.first place.end
         (drop begin operands.old.items) (due_first rest.entry.kinds.now rest.entry.items.left.now) rest.entry.at
-        → IfOk result
-        (λ r. SofarAt scene.now.table.now before place.opcode pattern scene.now.image.now place.first place.end
-        (drop begin operands.new.items) (due_first r.kinds.now r.items.left.now) r.at) }
-    ensures kept { IfOk result (λ _. take begin operands.new.items ≡ take begin operands.old.items) }
-    ensures room { IfOk result (λ _. begin ≤ length operands.new.items) }
-    ensures few { IfOk result (λ r. length operands.new.items + rest.entry.at ≤ length operands.old.items + r.at) }
-    ensures within { IfOk result (λ r. (rest.entry.at ≤ r.at) × (r.at ≤ place.end)) }
+        → SofarAt scene.now.table.now before place.opcode pattern scene.now.image.now place.first place.end
+        (drop begin operands.new.items) (due_first result.kinds.now result.items.left.now) result.at }
+    ensures kept { take begin operands.new.items ≡ take begin operands.old.items }
+    ensures room { begin ≤ length operands.new.items }
+    ensures few { length operands.new.items + rest.entry.at ≤ length operands.old.items + result.at }
+    ensures within { (rest.entry.at ≤ result.at) × (result.at ≤ place.end) }
+    ensures spare { vec_len operands.new + (place.end - result.at) ≤ vec_capacity operands.new }
 {
     let Some(pair) = pair_due(scene, rest) else {
-        return Ok(rest);
+        return rest;
     };
     if let Leaf::Id = pair.leaf {
-        let at = read_id_pairs(scene.image, operands, place, begin, rest.at)?;
-        return Ok(Rest {
+        let at = read_id_pairs(scene.image, operands, place, begin, rest.at);
+        return Rest {
             kinds: rest.kinds,
             items: rest.items,
             at,
-        });
+        };
     }
     let Leaf::Integer = pair.leaf else {
-        return Ok(rest);
+        return rest;
     };
     if pair.paired && place.opcode == opcode::SWITCH {
         let known = known_of(place.opcode, &operands[begin..]);
         let Some(bits) = switch_width(scene.definitions, known) else {
-            return Ok(rest);
+            return rest;
         };
-        let at = read_cases(scene.image, operands, place, begin, rest.at, bits)?;
-        return Ok(Rest {
+        let at = read_cases(scene.image, operands, place, begin, rest.at, bits);
+        return Rest {
             kinds: rest.kinds,
             items: rest.items,
             at,
-        });
+        };
     }
-    Ok(rest)
+    rest
 }

@@ -1,7 +1,7 @@
 //! Operands that are taken one after another, with their parameters.
 
 ghost use Rattle.std.specs.Prelude.{◌≡◌, ℕ, List, ◌≤◌, ◌<◌, ◌+◌, ◌-◌, ◌∷◌};
-ghost use Rattle.std.specs.Prelude.{[], true, Some, length, map, take, drop, IfOk, IfSome};
+ghost use Rattle.std.specs.Prelude.{[], true, Some, length, map, take, drop, IfSome, vec_len, vec_capacity};
 ghost use Rattle.spv_table.specs.Table.{Item, kind_of};
 ghost use Rattle.spv_table.specs.declared.form.Form.TheVariants.{Leaf as LeafForm};
 ghost use Rattle.spv_table.specs.inner.Form.{form_of, form_at};
@@ -15,23 +15,14 @@ ghost use Rattle.spv_inst.specs.inner.Pending.{settled, due_first};
 ghost use Rattle.spv_inst.specs.Flat.{OneOf};
 ghost use Rattle.spv_inst.specs.inner.Sofar.{SofarAt};
 
-use crate::enumerant::{joined, mask_kinds, value_kinds};
+use crate::enumerant::joined;
 use crate::number::take_number;
-use crate::plain::{Next, Rest, bare_word};
+use crate::plain::{Plain, Rest, next_single, plain_word};
 use crate::reader::{Place, Scene, Taken};
 use crate::text::take_text;
 use spv_module::Operand;
-use spv_table::{Form, Leaf, Table, form_in};
+use spv_table::{Form, Leaf, form_in};
 use spv_words::word;
-use std::alloc::AllocError;
-
-/// An operand, how many words it takes, and the kinds of its parameters, which are due after it.
-#[derive(Clone, Copy)]
-struct Plain<'t, 'a> {
-    operand: Operand<'a>,
-    words: u32,
-    kinds: &'t [u32],
-}
 
 /// The result's type, where that is the first of some operands.
 fn first_type(operands: &[Operand<'_>]) -> Option<u32>
@@ -40,52 +31,6 @@ fn first_type(operands: &[Operand<'_>]) -> Option<u32>
     match operands {
         [Operand::OfType(id), ..] => Some(*id),
         _ => None,
-    }
-}
-
-/// The operand that a word is, where the kind of a number asks for one word: an id, a literal, a known value, or a mask
-/// of known bits of which no more than one has parameters. `leaf` is what the kind asks for.
-#[inline(always)]
-fn plain_word<'t, 'a>(table: &'t Table, leaf: Leaf, kind: u32, word: u32) -> Option<Plain<'t, 'a>>
-    ensures taken { (c : Context) → form_at (kind_of table.now kind) ≡ LeafForm leaf
-        → IfSome result
-        (λ p. Takes kind (shape_of table.now c (alone kind)) (plain_operand p.operand) (word ∷ [])
-        (map alone p.kinds.now)) }
-    ensures words { IfSome result (λ p. p.words ≡ 1) }
-{
-    match leaf {
-        Leaf::Value => {
-            let Some(kinds) = value_kinds(table, kind, word) else {
-                return None;
-            };
-            let operand = Operand::Value { kind, value: word };
-            Some(Plain {
-                operand,
-                words: 1,
-                kinds,
-            })
-        }
-        Leaf::Mask => {
-            let Some(kinds) = mask_kinds(table, kind, word) else {
-                return None;
-            };
-            let operand = Operand::Mask { kind, value: word };
-            Some(Plain {
-                operand,
-                words: 1,
-                kinds,
-            })
-        }
-        _ => {
-            let Some(operand) = bare_word(leaf, word) else {
-                return None;
-            };
-            Some(Plain {
-                operand,
-                words: 1,
-                kinds: &[],
-            })
-        }
     }
 }
 
@@ -165,38 +110,11 @@ fn next_operand<'t, 'a>(
     })
 }
 
-/// The next kind that is due of kinds in order and a pattern after them, where words are left and it comes once at
-/// most.
-#[inline(always)]
-fn next_single<'t>(rest: Rest<'t>) -> Option<Next<'t>>
-    ensures { IfSome result
-        (λ n. settled true (due_first rest.entry.kinds.now rest.entry.items.left.now) ≡ OneOf (alone n.kind)
-        ∷ due_first n.kinds.now n.items.left.now) }
-{
-    if let Some((kind, kinds)) = rest.kinds.split_first() {
-        return Some(Next {
-            kind: *kind,
-            kinds,
-            items: rest.items,
-        });
-    }
-    match rest.items.next_single() {
-        Some((kind, items)) => Some(Next {
-            kind,
-            kinds: rest.kinds,
-            items,
-        }),
-        None => None,
-    }
-}
-
 /// Takes operands at the front of the words left of an instruction and adds them to a list, with their parameters:
 /// `begin` is the place of the instruction's first operand there. It stops before the first that `next_operand` does
 /// not take, before an operand with parameters that is itself a parameter and not the last one, before an item that
-/// comes any number of times, or where no kind or no word is left. Most instructions have no other operands.
-///
-/// An `AllocError` comes only where a growth of memory was refused, and then nothing is said of what is left of the
-/// list.
+/// comes any number of times, or where no kind or no word is left. Most instructions have no other operands. The list
+/// has room for as many operands as words are left.
 #[inline(always)]
 pub fn read_words<'t, 'a>(
     scene: &Scene<'t, '_, 'a>,
@@ -204,41 +122,42 @@ pub fn read_words<'t, 'a>(
     place: Place,
     begin: usize,
     rest: Rest<'t>,
-) -> Result<Rest<'t>, AllocError>
+) -> Rest<'t>
     requires forms { scene.now.forms.now ≡ map form_of scene.now.table.now.kinds }
     requires within { (place.first ≤ rest.at) × (rest.at ≤ place.end) }
     requires fits { place.end ≤ length scene.now.image.now }
     requires room { begin ≤ length operands.now.items }
+    requires spare { vec_len operands.now + (place.end - rest.at) ≤ vec_capacity operands.now }
     // The operands that are added bring the decoder from what was left to what is left.
     ensures sofar { (before : List PlainInst) (pattern : List Item) → Knows scene.now.definitions.now before
         → SofarAt scene.now.table.now before place.opcode pattern scene.now.image.now place.first place.end
         (drop begin operands.old.items) (due_first rest.entry.kinds.now rest.entry.items.left.now) rest.entry.at
-        → IfOk result
-        (λ r. SofarAt scene.now.table.now before place.opcode pattern scene.now.image.now place.first place.end
-        (drop begin operands.new.items) (due_first r.kinds.now r.items.left.now) r.at) }
-    ensures kept { IfOk result (λ _. take begin operands.new.items ≡ take begin operands.old.items) }
-    ensures room { IfOk result (λ _. begin ≤ length operands.new.items) }
-    ensures few { IfOk result (λ r. length operands.new.items + rest.entry.at ≤ length operands.old.items + r.at) }
-    ensures within { IfOk result (λ r. (rest.entry.at ≤ r.at) × (r.at ≤ place.end)) }
+        → SofarAt scene.now.table.now before place.opcode pattern scene.now.image.now place.first place.end
+        (drop begin operands.new.items) (due_first result.kinds.now result.items.left.now) result.at }
+    ensures kept { take begin operands.new.items ≡ take begin operands.old.items }
+    ensures room { begin ≤ length operands.new.items }
+    ensures few { length operands.new.items + rest.entry.at ≤ length operands.old.items + result.at }
+    ensures within { (rest.entry.at ≤ result.at) × (result.at ≤ place.end) }
+    ensures spare { vec_len operands.new + (place.end - result.at) ≤ vec_capacity operands.new }
 {
     let mut left = rest;
     while left.at < place.end {
         let Some(next) = next_single(left) else {
-            return Ok(left);
+            return left;
         };
         let taken = next_operand(scene, &operands[begin..], next.kind, left.at, place.end);
         let Some(plain) = taken else {
-            return Ok(left);
+            return left;
         };
         let Some(kinds) = joined(plain.kinds, next.kinds) else {
-            return Ok(left);
+            return left;
         };
-        operands.push(plain.operand)?;
+        operands.push_reserved(plain.operand);
         left = Rest {
             kinds,
             items: next.items,
             at: left.at + plain.words,
         };
     }
-    Ok(left)
+    left
 }

@@ -13,8 +13,8 @@ loop-at-preserved c =
     let n = c.args.begin in
     let os = c.loop-at.operands.items in
     let o = c.in-Ok.number.operand in
-    let i = c.in_ok-push.ensures.items in
-    let j = c.in_ok-push-2.ensures.items in
+    let i = c.push_reserved.ensures.items in
+    let j = c.push_reserved-in-loop-at.ensures.items in
     let r = c.loop-at.invariant.room in
     let f = c.loop-at.invariant.from in
     let u = c.loop-at.invariant.few in
@@ -32,6 +32,13 @@ loop-at-preserved c =
       kept = p.kept ∙ c.loop-at.invariant.kept;
       few = let l = p.length in omega arith;
       width = λ b e. rw p.plain (width_kept b d _ _ c.args.bits (width_kept b d out _ c.args.bits (c.loop-at.invariant.width b e)));
+      spare =
+          let s = c.loop-at.invariant.spare in
+          let n1 = c.push_reserved.ensures.len in
+          let k1 = c.push_reserved.ensures.capacity in
+          let n2 = c.push_reserved-in-loop-at.ensures.len in
+          let k2 = c.push_reserved-in-loop-at.ensures.capacity in
+          omega arith;
       sofar = λ G b pattern x y ds q h e s.
           let m = c.loop-at.invariant.width b e in
           let g : shape_of G (after (start b d) out) x ≡ AsNumber (Some c.args.bits) = rw (here_is b d out) (h (record { before = b; opcode = d; operands = out }) refl ∙ ap AsNumber m) in

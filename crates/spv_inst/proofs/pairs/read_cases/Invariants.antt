@@ -1,4 +1,4 @@
-use Rattle.std.proofs.Common.{◌≡◌, ◌≤◌, ◌+◌, ◌-◌, List, Some, length, take, drop}
+use Rattle.std.proofs.Common.{◌≡◌, ◌≤◌, ◌+◌, ◌-◌, List, Some, length, take, drop, vec_len, vec_capacity}
 use Rattle.spv_table.specs.Table.{Table, Item}
 use Rattle.spv_module.specs.Operand.{Context, PlainInst}
 use Rattle.spv_module.specs.Shape.{Slot, AsNumber, shape_of}
@@ -17,6 +17,7 @@ invariant-loop-at l = record {
   few : length l.operands.items + l.first ≤ length l.fn.operands.items + l.at;
   width : (before : List PlainInst) → switch_width (context_at before l.place.opcode (drop l.begin l.fn.operands.items)) ≡ Some l.bits
       → switch_width (context_at before l.place.opcode (drop l.begin l.operands.items)) ≡ Some l.bits;
+  spare : vec_len l.operands + (l.place.end - l.at) ≤ vec_capacity l.operands;
   sofar : (G : Table) (before : List PlainInst) (pattern : List Item) (a b : Slot) (ds : List Due) → IsPair G ds a b
       → ((c : Context) → c.opcode ≡ l.place.opcode → shape_of G c a ≡ AsNumber (switch_width c))
       → switch_width (context_at before l.place.opcode (drop l.begin l.fn.operands.items)) ≡ Some l.bits

@@ -9,7 +9,7 @@ loop-at-preserved c =
     let n = length c.args.operands.now.items in
     let os = c.loop-at.operands.items in
     let o = c.in-Some-bare_in_form.operand in
-    let i = c.in_ok-push.ensures.items in
+    let i = c.push_reserved.ensures.items in
     let r = c.loop-at.invariant.room in
     let f = c.loop-at.invariant.from in
     let w = c.loop-at.invariant.few in
@@ -22,6 +22,7 @@ loop-at-preserved c =
       room = rw i (omega arith);
       kept = rw (i, take-append-le n os (o ∷ []) r) c.loop-at.invariant.kept;
       few = rw i (omega arith);
+      spare = let s = c.loop-at.invariant.spare in let n = c.push_reserved.ensures.len in let k = c.push_reserved.ensures.capacity in omega arith;
       front = λ G k e.
           word_next G k _ _ _ _ _ _ _ c.in-Some.kind [] c.args.image.now c.args.first c.loop-at.at c.args.end _ _ (c.loop-at.invariant.front G k e) f t c.requires.fits c.in-Some.ensures c.word.ensures
           (c.in-Some-bare_in_form.ensures G _ _ (c.form_in-form.ensures G e)) (rw i (pl ∙ plain-push (drop n os) _ o refl)) refl;

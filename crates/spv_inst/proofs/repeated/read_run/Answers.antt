@@ -10,7 +10,7 @@ loop-at-preserved c =
     let n = c.args.begin in
     let os = c.loop-at.operands.items in
     let o = c.in-Some-bare_in_form.operand in
-    let i = c.in_ok-push.ensures.items in
+    let i = c.push_reserved.ensures.items in
     let r = c.loop-at.invariant.room in
     let f = c.loop-at.invariant.from in
     let w = c.loop-at.invariant.few in
@@ -24,6 +24,7 @@ loop-at-preserved c =
       room = rw i (omega arith);
       kept = rw (i, take-append-le n os (o ∷ []) r) c.loop-at.invariant.kept;
       few = rw i (omega arith);
+      spare = let s = c.loop-at.invariant.spare in let n = c.push_reserved.ensures.len in let k = c.push_reserved.ensures.capacity in omega arith;
       sofar = λ b pattern know s.
           let G = c.args.scene.now.table.now in
           word_next G (start b c.args.place.opcode) _ _ _ _ _ _ _ c.in-Some.kind [] c.args.scene.now.image.now c.args.place.first c.loop-at.at c.args.place.end _ _ (c.loop-at.invariant.sofar b pattern know s) (omega arith) t c.requires.fits c.in-Some.ensures c.word.ensures

@@ -13,7 +13,7 @@ loop-left-preserved c =
     let n = c.args.begin in
     let os = c.loop-left.operands.items in
     let o = c.in-Some-taken.plain.operand in
-    let i = c.in_ok-push.ensures.items in
+    let i = c.push_reserved.ensures.items in
     let r = c.loop-left.invariant.room in
     let f = c.loop-left.invariant.from in
     let w = c.loop-left.invariant.few in
@@ -31,6 +31,7 @@ loop-left-preserved c =
       room = rw i (omega arith);
       kept = rw (i, take-append-le n os (o ∷ []) r) c.loop-left.invariant.kept;
       few = rw i (omega arith);
+      spare = let s = c.loop-left.invariant.spare in let n = c.push_reserved.ensures.len in let k = c.push_reserved.ensures.capacity in omega arith;
       sofar = λ b pattern know s.
           let G = c.args.scene.now.table.now in
           let h = here_is b c.args.place.opcode (plain_operands (drop n os)) in
