@@ -1,5 +1,5 @@
 -- An instruction that fits a row whose operands take one word each has one more word than operands.
-use Rattle.std.proofs.Common.{◌≡◌, ◌≢◌, ◌∙◌, ◌++◌, ◌+◌, ℕ, nat_eq, zero, suc, List, [], ◌∷◌, refl, sym, ap, subst, Bool, true, false, if◌then◌else◌, ◌&&◌, inl, inr, Option, Some, None, length, drop, arith}
+use Rattle.std.proofs.Common.{◌≡◌, ◌≢◌, ◌∙◌, ◌++◌, ◌+◌, ℕ, nat_eq, zero, suc, List, [], ◌∷◌, refl, sym, ap, subst, Bool, true, false, if◌then◌else◌, ◌&&◌, ◌||◌, ◌<◌, inl, inr, Option, Some, None, length, drop, arith}
 use Rattle.std.specs.Prelude.{sum_by, slice_get}
 use Rattle.std.proofs.lemmas.Bool.Decides.{eqb_tells}
 use Rattle.std.proofs.lemmas.List.Sums.{sum_by-cons}
@@ -15,7 +15,7 @@ use Rattle.spv_layout.specs.Rows.{row_of}
 use Rattle.spv_layout.specs.Shape.{is_of, AreOf, Ends, FitsShape}
 use Rattle.spv_layout.specs.Place.{operand_words, section_of, word_count}
 use Rattle.spv_layout.specs.inner.Single.{is_single, are_single, is_single_ending, is_single_row, are_same, are_same_sections, front_of, IsFront, is_flagged, are_flagged}
-use Rattle.spv_layout.specs.inner.Test.{sort_of, sort_for, sorts_asked}
+use Rattle.spv_layout.specs.inner.Test.{sort_of, sort_for, sorts_asked, are_sorts, HasSorts}
 use Rattle.spv_layout.proofs.Derivatives.{both_hold, both_true}
 
 same_is : (a b : Bool) → are_same a b ≡ true → a ≡ b
@@ -35,18 +35,18 @@ flag_at [] k r h e = cc
 flag_at (x ∷ rs) zero r h e = let p = both_hold (is_flagged x) (are_flagged rs) h in let q : x ≡ r = cc in rw (← q) p.0
 flag_at (x ∷ rs) (suc k) r h e = let p = both_hold (is_flagged x) (are_flagged rs) h in flag_at rs k r p.1 e
 
-same_number : (m n : ℕ) → nat_eq m n ≡ true → m ≡ n
+pub same_number : (m n : ℕ) → nat_eq m n ≡ true → m ≡ n
 same_number m n h = elim (eqb_tells m n) [ inl p ↦ p.1 | inr p ↦ (let q = p.0 in cc) ]
 
 -- a row of the code says whether it is single, the section of its class, how many of its fixed operands are single, and
--- the sorts that they ask for
+-- the sorts that they ask for, or 0
 pub flagged_at : (rs : List declared.Row) (k : ℕ) (r : declared.Row) → are_flagged rs ≡ true → slice_get rs k ≡ Some r → r.single ≡ is_single_row (plain_row r)
 flagged_at rs k r h e =
     let p = both_hold (are_same r.single (is_single_row (plain_row r))) _ (flag_at rs k r h e) in
     same_is r.single (is_single_row (plain_row r)) p.0
 
 others_at : (rs : List declared.Row) (k : ℕ) (r : declared.Row) → are_flagged rs ≡ true → slice_get rs k ≡ Some r
-    → (are_same_sections r.section (section_of r.class) && (nat_eq r.front (front_of r.fixed.now) && nat_eq r.sorts (sorts_asked r.fixed.now))) ≡ true
+    → (are_same_sections r.section (section_of r.class) && (nat_eq r.front (front_of r.fixed.now) && are_sorts r.sorts r.fixed.now)) ≡ true
 others_at rs k r h e =
     let p = both_hold (are_same r.single (is_single_row (plain_row r))) _ (flag_at rs k r h e) in
     p.1
@@ -56,20 +56,30 @@ section_at rs k r h e =
     let q = both_hold (are_same_sections r.section (section_of r.class)) _ (others_at rs k r h e) in
     same_section r.section (section_of r.class) q.0
 
-numbers_at : (rs : List declared.Row) (k : ℕ) (r : declared.Row) → are_flagged rs ≡ true → slice_get rs k ≡ Some r → (nat_eq r.front (front_of r.fixed.now) && nat_eq r.sorts (sorts_asked r.fixed.now)) ≡ true
+numbers_at : (rs : List declared.Row) (k : ℕ) (r : declared.Row) → are_flagged rs ≡ true → slice_get rs k ≡ Some r → (nat_eq r.front (front_of r.fixed.now) && are_sorts r.sorts r.fixed.now) ≡ true
 numbers_at rs k r h e =
     let q = both_hold (are_same_sections r.section (section_of r.class)) _ (others_at rs k r h e) in
     q.1
 
 pub front_at : (rs : List declared.Row) (k : ℕ) (r : declared.Row) → are_flagged rs ≡ true → slice_get rs k ≡ Some r → r.front ≡ front_of r.fixed.now
 front_at rs k r h e =
-    let q = both_hold (nat_eq r.front (front_of r.fixed.now)) (nat_eq r.sorts (sorts_asked r.fixed.now)) (numbers_at rs k r h e) in
+    let q = both_hold (nat_eq r.front (front_of r.fixed.now)) (are_sorts r.sorts r.fixed.now) (numbers_at rs k r h e) in
     same_number r.front (front_of r.fixed.now) q.0
 
-pub sorts_at : (rs : List declared.Row) (k : ℕ) (r : declared.Row) → are_flagged rs ≡ true → slice_get rs k ≡ Some r → r.sorts ≡ sorts_asked r.fixed.now
+one_is : (a b : Bool) → (a || b) ≡ true → a ≡ false → b ≡ true
+one_is true b h e = cc
+one_is false b h e = h
+
+some_number : (m n : ℕ) → (nat_eq m 0 || nat_eq m n) ≡ true → 0 < m → m ≡ n
+some_number m n h p = elim (eqb_tells m 0) [
+  | inl q ↦ (let e = q.1 in absurd (omega (arith, e, p)))
+  | inr q ↦ same_number m n (one_is (nat_eq m 0) (nat_eq m n) h q.0)
+]
+
+pub sorts_at : (rs : List declared.Row) (k : ℕ) (r : declared.Row) → are_flagged rs ≡ true → slice_get rs k ≡ Some r → HasSorts r.sorts r.fixed.now
 sorts_at rs k r h e =
-    let q = both_hold (nat_eq r.front (front_of r.fixed.now)) (nat_eq r.sorts (sorts_asked r.fixed.now)) (numbers_at rs k r h e) in
-    same_number r.sorts (sorts_asked r.fixed.now) q.1
+    let q = both_hold (nat_eq r.front (front_of r.fixed.now)) (are_sorts r.sorts r.fixed.now) (numbers_at rs k r h e) in
+    some_number r.sorts (sorts_asked r.fixed.now) q.1
 
 -- an operand of a single form
 one_word : (G : Table) (f : Form) (o : Plain) → is_single f ≡ true → is_of G f o ≡ true → operand_words o ≡ 1

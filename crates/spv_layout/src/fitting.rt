@@ -1,6 +1,7 @@
 //! Whether an instruction fits its row.
 
 ghost use Rattle.std.specs.Prelude.{◌≡◌, ◌<◌, ◌+◌, ◌*◌, ◌&&◌, [], ◌∷◌, true, length, map, Some, IfSome, IfNone};
+ghost use Rattle.spv_table.specs.Table.{Table};
 ghost use Rattle.spv_layout.specs.Place.{section_of, word_count};
 ghost use Rattle.spv_module.specs.Module.{plain_inst, plain_operand};
 ghost use Rattle.spv_layout.specs.Row.{has_masks};
@@ -9,7 +10,7 @@ ghost use Rattle.spv_layout.specs.Rows.{class_of};
 ghost use Rattle.spv_layout.specs.Shape.{FitsShape, is_of};
 ghost use Rattle.spv_layout.specs.inner.Single.{IsFront};
 ghost use Rattle.spv_layout.specs.declared.form.Form.TheVariants.{Kind};
-ghost use Rattle.spv_layout.specs.inner.Test.{sort_of, sort_for, sorts_of, sorts_asked, are_of, are_others};
+ghost use Rattle.spv_layout.specs.inner.Test.{sort_of, sort_for, sorts_of, HasSorts, are_of, are_others};
 ghost use Rattle.spv_layout.specs.inner.Test.{are_rounds, is_kind_and_others, fits_ending, fits_row};
 
 use crate::form::{Ending, Form, Named, Role, Row};
@@ -159,14 +160,35 @@ fn are_told(kinds: &Kinds<'_>, forms: &[Form], operands: &[Operand<'_>]) -> bool
 /// The sort of an operand in front of those of others.
 #[inline(always)]
 fn with_sort(operand: Operand<'_>, others: u64) -> u64
-    requires { others < 65536 }
+    requires { others < 268435456 }
     ensures sorts { result ≡ sort_of (plain_operand operand.entry) + 16 * others }
     ensures few { result < 8 + 16 * others }
 {
     u64::from(sort(operand)) + 16 * others
 }
 
-/// The sorts of four operands at most, as `Row` keeps those that it asks for, or 0 where there are more.
+/// The sorts of two operands in front of those of others.
+#[inline(always)]
+fn with_two(one: Operand<'_>, two: Operand<'_>, others: u64) -> u64
+    requires { others < 1048576 }
+    ensures sorts { result ≡ sort_of (plain_operand one.entry)
+        + 16 * (sort_of (plain_operand two.entry) + 16 * others) }
+    ensures few { result < 256 + 256 * others }
+{
+    with_sort(one, with_sort(two, others))
+}
+
+/// The sorts of four operands.
+#[inline(always)]
+fn four_sorts(w: Operand<'_>, x: Operand<'_>, y: Operand<'_>, z: Operand<'_>) -> u64
+    ensures sorts { result ≡ sort_of (plain_operand w.entry) + 16 * (sort_of (plain_operand x.entry)
+        + 16 * (sort_of (plain_operand y.entry) + 16 * (sort_of (plain_operand z.entry) + 16 * 9))) }
+    ensures few { result < 1048576 }
+{
+    with_two(w, x, with_two(y, z, 9))
+}
+
+/// The sorts of six operands at most, as `Row` keeps those that it asks for, or 0 where there are more.
 #[inline(always)]
 fn sorts(operands: &[Operand<'_>]) -> u64
     ensures { 0 < result → result ≡ sorts_of (map plain_operand operands.now) }
@@ -174,24 +196,37 @@ fn sorts(operands: &[Operand<'_>]) -> u64
     match operands {
         [] => 9,
         [w] => with_sort(*w, 9),
-        [w, x] => with_sort(*w, with_sort(*x, 9)),
-        [w, x, y] => with_sort(*w, with_sort(*x, with_sort(*y, 9))),
-        [w, x, y, z] => with_sort(*w, with_sort(*x, with_sort(*y, with_sort(*z, 9)))),
+        [w, x] => with_two(*w, *x, 9),
+        [w, x, y] => with_two(*w, *x, with_sort(*y, 9)),
+        [w, x, y, z] => four_sorts(*w, *x, *y, *z),
+        [v, w, x, y, z] => with_sort(*v, four_sorts(*w, *x, *y, *z)),
+        [u, v, w, x, y, z] => with_two(*u, *v, four_sorts(*w, *x, *y, *z)),
         _ => 0,
     }
 }
 
-/// Whether it is told at once that operands are of a row's fixed forms, one by one: by their sorts together, or one
-/// after another.
+/// Whether it is told by their sorts together that operands are of the fixed forms of a row that has sorts.
+#[inline(always)]
+fn are_sorted(row: &Row, operands: &[Operand<'_>]) -> bool
+    requires sorts { HasSorts row.now.sorts row.now.fixed.now }
+    requires some { 0 < row.now.sorts }
+    ensures { (G : Table) → result ≡ true → are_of G row.now.fixed.now (map plain_operand operands.now) ≡ true }
+{
+    sorts(operands) == row.sorts
+}
+
+/// Whether it is told at once that operands are of a row's fixed forms, one by one: by their sorts together, where the
+/// row has them, else one after another.
 #[inline(always)]
 fn are_fixed_told(kinds: &Kinds<'_>, row: &Row, operands: &[Operand<'_>]) -> bool
-    requires { row.now.sorts ≡ sorts_asked row.now.fixed.now }
+    requires { HasSorts row.now.sorts row.now.fixed.now }
     ensures { result ≡ true → are_of kinds.now row.now.fixed.now (map plain_operand operands.now) ≡ true }
 {
-    if sorts(operands) == row.sorts {
-        return true;
+    if row.sorts == 0 {
+        are_told(kinds, row.fixed, operands)
+    } else {
+        are_sorted(row, operands)
     }
-    are_told(kinds, row.fixed, operands)
 }
 
 /// Whether operands are of these forms, one by one.
@@ -211,13 +246,35 @@ fn have_forms(kinds: &Kinds<'_>, forms: &[Form], operands: &[Operand<'_>]) -> bo
     true
 }
 
+/// Whether operands are of forms some of which ask for kinds.
+#[inline(never)]
+fn have_kinds(kinds: &Kinds<'_>, forms: &[Form], operands: &[Operand<'_>]) -> bool
+    ensures { result ≡ are_of kinds.now forms.now (map plain_operand operands.now) }
+{
+    are_told(kinds, forms, operands) || have_forms(kinds, forms, operands)
+}
+
+/// Whether operands are of forms for which a row has no sorts: there are none, or some ask for kinds.
+#[inline(always)]
+fn have_unsorted(kinds: &Kinds<'_>, forms: &[Form], operands: &[Operand<'_>]) -> bool
+    ensures { result ≡ are_of kinds.now forms.now (map plain_operand operands.now) }
+{
+    match (forms, operands) {
+        ([], []) => true,
+        _ => have_kinds(kinds, forms, operands),
+    }
+}
+
 /// Whether operands are of a row's fixed forms, one by one.
 #[inline(always)]
 fn have_fixed(kinds: &Kinds<'_>, row: &Row, operands: &[Operand<'_>]) -> bool
-    requires { row.now.sorts ≡ sorts_asked row.now.fixed.now }
+    requires { HasSorts row.now.sorts row.now.fixed.now }
     ensures { result ≡ are_of kinds.now row.now.fixed.now (map plain_operand operands.now) }
 {
-    are_fixed_told(kinds, row, operands) || have_forms(kinds, row.fixed, operands)
+    if row.sorts == 0 {
+        return have_unsorted(kinds, row.fixed, operands);
+    }
+    are_sorted(row, operands) || have_forms(kinds, row.fixed, operands)
 }
 
 /// Whether operands are neither types nor results.
@@ -334,7 +391,7 @@ fn have_both(kinds: &Kinds<'_>, row: &Row, front: &[Operand<'_>], rest: &[Operan
 /// Whether operands fit a row with an ending.
 #[inline(never)]
 fn have_parts(kinds: &Kinds<'_>, row: &Row, operands: &[Operand<'_>]) -> bool
-    requires { row.now.sorts ≡ sorts_asked row.now.fixed.now }
+    requires { HasSorts row.now.sorts row.now.fixed.now }
     ensures { result ≡ fits_row kinds.now (Some (plain_row row.now)) (map plain_operand operands.now) }
 {
     let fixed = row.fixed.len();
@@ -352,7 +409,7 @@ fn have_parts(kinds: &Kinds<'_>, row: &Row, operands: &[Operand<'_>]) -> bool
 /// Whether operands fit a row. Where they are as many as its fixed ones, its ending allows that none come after them.
 #[inline(always)]
 fn have_row(kinds: &Kinds<'_>, row: &Row, operands: &[Operand<'_>]) -> bool
-    requires { row.now.sorts ≡ sorts_asked row.now.fixed.now }
+    requires { HasSorts row.now.sorts row.now.fixed.now }
     ensures { result ≡ fits_row kinds.now (Some (plain_row row.now)) (map plain_operand operands.now) }
 {
     if operands.len() == row.fixed.len() {

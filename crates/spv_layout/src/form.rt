@@ -105,6 +105,7 @@ pub struct Row {
     pub single: bool,
     /// How many of its fixed operands are known to take one word each: those before the first text or number.
     pub front: u8,
-    /// The sorts that its fixed operands ask for, in four bits each from the lowest on, and after them a 9.
+    /// The sorts that its fixed operands ask for, in four bits each from the lowest on, and after them a 9; or 0 where
+    /// it has no fixed operands, or one of them is of a kind.
     pub sorts: u64,
 }

@@ -1,7 +1,7 @@
 ghost use Rattle.std.specs.Prelude.{◌≡◌, IfSome, IsTrue, option_map, map, slice_get};
 ghost use Rattle.spv_layout.specs.inner.Single.{is_single_row, front_of, are_flagged};
 ghost use Rattle.spv_layout.specs.inner.Row.{plain_row, numbered};
-ghost use Rattle.spv_layout.specs.inner.Test.{sorts_asked};
+ghost use Rattle.spv_layout.specs.inner.Test.{HasSorts};
 ghost use Rattle.spv_layout.specs.Place.{section_of};
 ghost use Rattle.spv_layout.specs.Rows.{row_of};
 
@@ -50,6 +50,20 @@ macro_rules! sort {
 macro_rules! sorts {
     () => { 9 };
     ([$($form:ident)+] $($others:tt)*) => { sort!($($form)+) + 16 * (sorts!($($others)*)) };
+}
+
+/// Whether a form asks for a sort alone.
+macro_rules! is_sort {
+    (kind $named:ident) => { false };
+    ($other:ident) => { true };
+}
+
+/// The sorts that forms ask for, or 0 where there is no form, or one asks for a kind.
+macro_rules! sorts_alone {
+    () => { 0 };
+    ($([$($form:ident)+])+) => {
+        if true $(&& is_sort!($($form)+))+ { sorts!($([$($form)+])+) } else { 0 }
+    };
 }
 
 /// How many forms come before the first of which an operand may take more than one word.
@@ -254,7 +268,7 @@ macro_rules! rows {
             ending: ending!($ending $($($after)+)?),
             single: true $(&& is_single!($($form)+))* && is_single_ending!($ending $($($after)+)?),
             front: front!($([$($form)+])*),
-            sorts: sorts!($([$($form)+])*),
+            sorts: sorts_alone!($([$($form)+])*),
         }),+]
     };
 }
@@ -299,7 +313,7 @@ fn row_at(numbers: &'static [u8], rows: &'static [Row], opcode: u16) -> Option<&
     ensures section { IfSome result (λ r. r.now.section ≡ section_of r.now.class) }
     ensures single { IfSome result (λ r. r.now.single ≡ is_single_row (plain_row r.now)) }
     ensures front { IfSome result (λ r. r.now.front ≡ front_of r.now.fixed.now) }
-    ensures sorts { IfSome result (λ r. r.now.sorts ≡ sorts_asked r.now.fixed.now) }
+    ensures sorts { IfSome result (λ r. HasSorts r.now.sorts r.now.fixed.now) }
 {
     match numbers.get(usize::from(opcode)) {
         Some(number) => {
@@ -321,7 +335,7 @@ pub fn sorted_row(opcode: u16) -> Option<&'static Row>
     ensures section { IfSome result (λ r. r.now.section ≡ section_of r.now.class) }
     ensures single { IfSome result (λ r. r.now.single ≡ is_single_row (plain_row r.now)) }
     ensures front { IfSome result (λ r. r.now.front ≡ front_of r.now.fixed.now) }
-    ensures sorts { IfSome result (λ r. r.now.sorts ≡ sorts_asked r.now.fixed.now) }
+    ensures sorts { IfSome result (λ r. HasSorts r.now.sorts r.now.fixed.now) }
 {
     row_at(&NUMBERS, &ROWS, opcode)
 }

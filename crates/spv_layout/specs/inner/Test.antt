@@ -1,6 +1,6 @@
 -- Whether an instruction fits its row, as a test that goes from operand to operand. (For the code alone; `fits` says
 -- what it means.)
-use Rattle.std.specs.Prelude.{ℕ, ◌+◌, ◌*◌, ◌-◌, ◌%◌, nat_eq, nat_lt, if◌then◌else◌, slice_get, option_and_then}
+use Rattle.std.specs.Prelude.{◌≡◌, ◌<◌, ℕ, ◌+◌, ◌*◌, ◌-◌, ◌%◌, nat_eq, nat_lt, if◌then◌else◌, slice_get, option_and_then}
 use Rattle.std.specs.Prelude.{List, [], ◌∷◌, Bool, true, false, ◌&&◌, ◌||◌, Option, Some, None, length}
 use Rattle.std.specs.Prelude.{take, drop}
 use Rattle.spv_table.specs.Table.{Table}
@@ -44,6 +44,13 @@ sorts_of (o ∷ os) = sort_of o + 16 * sorts_of os
 abbrev pub sorts_asked : List Form → ℕ
 sorts_asked [] = 9
 sorts_asked (f ∷ fs) = sort_for f + 16 * sorts_asked fs
+
+-- a number is 0, or the sorts that forms ask for
+abbrev pub are_sorts : ℕ → List Form → Bool
+are_sorts n fs = nat_eq n 0 || nat_eq n (sorts_asked fs)
+
+abbrev pub HasSorts : ℕ → List Form → Type 0
+HasSorts n fs = 0 < n → n ≡ sorts_asked fs
 
 abbrev pub are_of : Table → List Form → List Plain → Bool
 are_of G [] [] = true

@@ -6,7 +6,7 @@ use Rattle.spv_layout.specs.declared.form.Row.{Row}
 use Rattle.spv_layout.specs.Place.{section_of}
 use Rattle.spv_layout.specs.inner.Row.{plain_row}
 use Rattle.spv_layout.specs.inner.Single.{is_single_row, front_of, are_flagged}
-use Rattle.spv_layout.specs.inner.Test.{sorts_asked}
+use Rattle.spv_layout.specs.inner.Test.{HasSorts}
 use Rattle.spv_layout.proofs.Singles.{flagged_at, section_at, front_at, sorts_at}
 use Rattle.spv_layout.proofs.rows.row_at.Goals as goal
 
@@ -19,7 +19,7 @@ section_in rs k d f l = section_at rs k (get_or rs k d) f (slice_get-get_or rs k
 front_in : (rs : List Row) (k : ℕ) (d : Row) → are_flagged rs ≡ true → k < length rs → (get_or rs k d).front ≡ front_of (get_or rs k d).fixed.now
 front_in rs k d f l = front_at rs k (get_or rs k d) f (slice_get-get_or rs k d l)
 
-sorts_in : (rs : List Row) (k : ℕ) (d : Row) → are_flagged rs ≡ true → k < length rs → (get_or rs k d).sorts ≡ sorts_asked (get_or rs k d).fixed.now
+sorts_in : (rs : List Row) (k : ℕ) (d : Row) → are_flagged rs ≡ true → k < length rs → HasSorts (get_or rs k d).sorts (get_or rs k d).fixed.now
 sorts_in rs k d f l = sorts_at rs k (get_or rs k d) f (slice_get-get_or rs k d l)
 
 pub returns-then-place-rows-clause-single : goal.returns-then-place-rows-clause-single
