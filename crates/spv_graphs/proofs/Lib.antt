@@ -1,5 +1,6 @@
 mod Beginning
 mod Climbing
+mod Early
 mod Edged
 mod Left
 mod Meets
