@@ -1,6 +1,6 @@
 use Rattle.std.proofs.Common.{◌∙◌}
 use Rattle.spv_layout.proofs.Tables.{table, table_tells}
-use Rattle.spv_layout.proofs.state.next.Goals as goal
+use Rattle.spv_layout.proofs.state.listed.Goals as goal
 
 pub returns : goal.returns
 unfolding table
