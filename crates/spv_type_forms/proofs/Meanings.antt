@@ -1,16 +1,19 @@
 -- What is noted of ids, with one note more.
-use Rattle.std.proofs.Common.{◌≡◌, ◌≢◌, ◌∙◌, ◌<◌, ◌⊎◌, ℕ, zero, suc, true, nat_lt, List, [], Option, Some, None, refl, sym, ap, inl, inr, length, get_or, get_or-set_same, get_or-set_other, arith}
-use Rattle.std.specs.Prelude.{slice_get}
+use Rattle.std.proofs.Common.{◌≡◌, ◌≢◌, ◌∙◌, ◌<◌, ◌⊎◌, ℕ, zero, suc, Bool, true, false, nat_eq, nat_lt, if◌then◌else◌, List, [], Option, Some, None, option_and_then, refl, sym, ap, inl, inr, length, get_or, get_or-set_same, get_or-set_other, arith}
+use Rattle.std.specs.Prelude.{slice_get, IsSome, IsSomeAnd}
 use Rattle.std.proofs.Math.ListN.{set, length-set, replicate}
-use Rattle.std.proofs.lemmas.Bool.{cases_eq, ltb-true}
-use Rattle.std.proofs.lemmas.Option.{slice_get_within, slice_get-get_or, slice_get_read, get_or_from_slice_get}
-use Rattle.spv_module.specs.Operand.{PlainInst, result_in}
-use Rattle.spv_module.specs.Width.{definition_of}
+use Rattle.std.proofs.lemmas.Bool.{cases_eq, eq-eqb, ltb-true}
+use Rattle.std.proofs.lemmas.Option.{none-some, slice_get_within, slice_get-get_or, slice_get_read, get_or_from_slice_get}
+use Rattle.spv_module.specs.declared.opcode.TheConstants as opcode
+use Rattle.spv_module.specs.Operand.{PlainInst, result_in, type_in}
+use Rattle.spv_module.specs.Width.{definition_of, type_of}
 use Rattle.spv_ids.specs.Definition.{IsDefinedAt}
 use Rattle.spv_ids.specs.Outcome.{IsDefinitionOf}
+use Rattle.spv_type_forms.specs.declared.form.Form.{Form}
+use Rattle.spv_type_forms.specs.Form.{form_in}
 use Rattle.spv_type_forms.specs.declared.meaning.Meaning.{Meaning}
 use Rattle.spv_type_forms.specs.declared.meaning.Meaning.TheVariants as meaning
-use Rattle.spv_type_forms.specs.inner.Meaning.{IsSaid, IsMeant, AreMeant}
+use Rattle.spv_type_forms.specs.inner.Meaning.{type_meant, typed_by, IsMeaningOf, IsValueOf, IsSaid, IsMeant, AreMeant}
 use Rattle.spv_type_forms.proofs.Lookups.{finds}
 
 -- an instruction is the definition of its result
@@ -21,11 +24,53 @@ defined_by is x n i (Some m) one at r =
     let same : n ≡ m = one.only n d in
     finds is x (Some m) one ∙ (rw (← same) at)
 
+-- what is noted of a type, and of a value, is said by its instruction
+pub said_form : (i : PlainInst) (f : Form) (m : Meaning) → form_in i ≡ Some f → IsMeaningOf f m → IsSaid i m
+said_form i f m d s = record {
+  typed = λ t e. absurd (none-some t (sym s.0 ∙ e));
+  of_form = λ g e. d ∙ ap Some (sym (let same : g ≡ f = rw e at s.1 in same));
+  declares = λ e. rw d refl;
+}
+
+said_typed_by : (i : PlainInst) (t : ℕ) (b : Bool) → nat_eq i.opcode opcode.FUNCTION ≡ b → type_in i.operands ≡ Some t
+    → IsSaid i (if b then meaning.Unknown else meaning.Typed t)
+said_typed_by i t true e d = record { typed = λ u n. absurd (none-some u n); of_form = λ g n. absurd (none-some g n); declares = λ n. absurd (let no : false ≡ true = n in cc) }
+said_typed_by i t false e d = record {
+  typed = λ u s. (d ∙ s, λ same. let yes : nat_eq i.opcode opcode.FUNCTION ≡ true = eq-eqb i.opcode opcode.FUNCTION same in cc);
+  of_form = λ g n. absurd (none-some g n);
+  declares = λ n. absurd (let no : false ≡ true = n in cc);
+}
+
+pub said_typed : (i : PlainInst) (t : ℕ) → type_in i.operands ≡ Some t → IsSaid i (typed_by i.opcode t)
+said_typed i t d = said_typed_by i t (nat_eq i.opcode opcode.FUNCTION) refl d
+
 -- what it says holds of that
 pub said_means : (is : List PlainInst) (x : ℕ) (i : PlainInst) (m : Meaning) → definition_of is x ≡ Some i → IsSaid i m → IsMeant is x m
-said_means is x i meaning.Unknown d s = tt
-said_means is x i (meaning.Typed t) d s = rw d s
-said_means is x i (meaning.Declares f) d s = rw d s
+said_means is x i m d s = record {
+  typed = λ t e. rw d (s.typed t e);
+  of_form = λ f e. rw d (s.of_form f e);
+  declares = λ e. rw d (s.declares e);
+}
+
+-- and so what is read of it
+typed_in : (o : Option PlainInst) (t : ℕ) → IsSomeAnd o (IsValueOf t) → option_and_then (λ i. type_in i.operands) o ≡ Some t
+typed_in None t h = absurd h
+typed_in (Some i) t h = h.0
+
+pub type_read : (is : List PlainInst) (x : ℕ) (m : Meaning) (t : ℕ) → IsMeant is x m → type_meant m ≡ Some t → type_of is x ≡ Some t
+type_read is x m t h e = typed_in (definition_of is x) t (h.typed t e)
+
+value_in : (o : Option PlainInst) (t : ℕ) → IsSomeAnd o (IsValueOf t) → IsSomeAnd o (λ i. IsSome (type_in i.operands) × (i.opcode ≢ opcode.FUNCTION))
+value_in None t h = absurd h
+value_in (Some i) t h = (rw h.0 refl, h.1)
+
+pub value_read : (is : List PlainInst) (x : ℕ) (m : Meaning) (t : ℕ) → IsMeant is x m → type_meant m ≡ Some t
+    → IsSomeAnd (definition_of is x) (λ i. IsSome (type_in i.operands) × (i.opcode ≢ opcode.FUNCTION))
+value_read is x m t h e = value_in (definition_of is x) t (h.typed t e)
+
+-- nothing is meant of an id of which nothing is noted
+pub unknown_meant : (is : List PlainInst) (x : ℕ) → IsMeant is x meaning.Unknown
+unknown_meant is x = record { typed = λ t e. absurd (none-some t e); of_form = λ f e. absurd (none-some f e); declares = λ e. absurd (let no : false ≡ true = e in cc) }
 
 set_same : (l : List Meaning) (n : ℕ) (v a : Meaning) → n < length l → slice_get (set l n v) n ≡ Some a → v ≡ a
 set_same l n v a h s =
@@ -63,7 +108,7 @@ read (suc n) zero a h = cc
 read (suc n) (suc k) a h = read n k a h
 
 pub nothing_meant : (is : List PlainInst) (l : List Meaning) (n : ℕ) → l ≡ replicate n meaning.Unknown → AreMeant is l
-nothing_meant is l n e = λ k a h. let s : meaning.Unknown ≡ a = read n k a (rw e at h) in rw (← s) tt
+nothing_meant is l n e = λ k a h. let s : meaning.Unknown ≡ a = read n k a (rw e at h) in rw (← s) (unknown_meant is k)
 
 no_element : (k : ℕ) (a : Meaning) → slice_get {X = Meaning} [] k ≡ Some a → ⊥
 no_element zero a h = let no : None ≡ Some a = h in cc

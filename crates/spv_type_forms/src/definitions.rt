@@ -1,7 +1,7 @@
 //! What the ids of a module stand for.
 
-ghost use Rattle.std.specs.Prelude.{◌≡◌, ◌↔◌, ◌<◌, ℕ, IfOk, IsTrue, Some, length, map, option_map};
-ghost use Rattle.std.specs.Prelude.{slice_get};
+ghost use Rattle.std.specs.Prelude.{◌≡◌, ◌≢◌, ◌↔◌, ◌<◌, ℕ, IfOk, IsTrue, IsSome, IsSomeAnd, Some, length, map};
+ghost use Rattle.std.specs.Prelude.{option_map, slice_get};
 ghost use Rattle.spv_table.specs.Table.{Table};
 ghost use Rattle.spv_module.specs.declared.opcode.TheConstants as opcode;
 ghost use Rattle.spv_module.specs.Width as width;
@@ -14,7 +14,7 @@ ghost use Rattle.spv_ids.specs.Outcome.{IsDefinitionOf, IsOnly, definition_in};
 ghost use Rattle.spv_type_forms.specs.Form.{form_of};
 ghost use Rattle.spv_type_forms.specs.Types.{scalar_in, components_of, pointee_in};
 ghost use Rattle.spv_type_forms.specs.inner.Definitions as definitions;
-ghost use Rattle.spv_type_forms.specs.inner.Meaning.{AreMeant};
+ghost use Rattle.spv_type_forms.specs.inner.Meaning.{AreMeant, IsMeant};
 ghost use Rattle.spv_type_forms.specs.Definitions.{IsConstant, IsGlobal};
 
 use crate::form::{Components, Form, Scalar, form_in};
@@ -169,14 +169,45 @@ impl<'m, 'a> Definitions<'m, 'a> {
         form_in(self.definition(id)?)
     }
 
+    /// What is noted of an id.
+    #[inline(always)]
+    fn meaning(&self, id: u32) -> Meaning
+        ensures { IsMeant self.now id result }
+    {
+        match self.meanings.get(id as usize) {
+            Some(meaning) => *meaning,
+            None => Meaning::Unknown,
+        }
+    }
+
+    /// Whether it is noted of an id that it is a type. Of some types nothing is noted.
+    #[inline(always)]
+    pub fn is_noted_type(&self, id: u32) -> bool
+        ensures { IsTrue result → IsSome (form_of self.now id) }
+    {
+        self.meaning(id).is_type()
+    }
+
+    /// Whether it is noted of an id that it is a value, other than a function. Of some values nothing is noted.
+    #[inline(always)]
+    pub fn is_noted_value(&self, id: u32) -> bool
+        ensures { IsTrue result → IsSomeAnd (definition_of self.now id)
+            (λ i. IsSome (operand.type_in i.operands) × (i.opcode ≢ opcode.FUNCTION)) }
+    {
+        match self.meaning(id).value_type() {
+            Some(_t) => true,
+            None => false,
+        }
+    }
+
     /// What a type id declares. It is for where it is asked for at most instructions: `form` is the same.
     #[inline(always)]
     pub fn read_form(&self, id: u32) -> Option<Form>
         ensures { result ≡ form_of self.now id }
     {
-        match self.meanings.get(id as usize) {
-            Some(Meaning::Declares(form)) => Some(*form),
-            _ => self.defined_form(id),
+        match self.meaning(id).form() {
+            Some(form) => Some(form),
+            None => self.defined_form(id),
         }
     }
 
@@ -235,9 +266,9 @@ impl<'m, 'a> Definitions<'m, 'a> {
     pub fn type_of(&self, id: u32) -> Option<u32>
         ensures { result ≡ width.type_of self.now id }
     {
-        match self.meanings.get(id as usize) {
-            Some(Meaning::Typed(t)) => Some(*t),
-            _ => self.defined_type(id),
+        match self.meaning(id).value_type() {
+            Some(t) => Some(t),
+            None => self.defined_type(id),
         }
     }
 }

@@ -3,27 +3,184 @@
 ghost use Rattle.std.specs.Prelude.{◌≡◌, Some, IfSome};
 ghost use Rattle.spv_module.specs.Module.{plain_inst};
 ghost use Rattle.spv_module.specs.Operand.{result_in};
-ghost use Rattle.spv_type_forms.specs.inner.Meaning.{IsSaid};
+ghost use Rattle.spv_type_forms.specs.declared.form.Form.TheVariants as forms;
+ghost use Rattle.spv_type_forms.specs.inner.Meaning as spec;
+ghost use Rattle.spv_type_forms.specs.inner.Meaning.{IsSaid, IsMeaningOf};
 
-use crate::form::{Form, form_in};
-use spv_module::{Inst, Operand};
+use crate::form::{Form, Scalar, form_in};
+use spv_module::{Inst, Operand, opcode};
 
-/// What an id stands for, as far as it was noted.
+/// What an id stands for, as far as it was noted. Each variant has one number at most, so that a list of these is
+/// small: vectors have a variant for each count of components that they may have, and pointers one for each storage
+/// class that they mostly have.
 #[derive(Clone, Copy)]
 pub enum Meaning {
     /// Nothing was noted.
     Unknown,
-    /// A value that is declared with a type.
+    /// A value that is declared with a type, other than a function.
     Typed(u32),
-    /// A type, and what it is.
-    Declares(Form),
+    /// A type of which no more was noted.
+    Declared,
+    Void,
+    Bool,
+    /// An int of a width in bits.
+    Int(u32),
+    /// A float of a width in bits.
+    Float(u32),
+    Struct,
+    Opaque,
+    Function,
+    /// Vectors of two components or more, of a type.
+    Vector2(u32),
+    Vector3(u32),
+    Vector4(u32),
+    Vector8(u32),
+    Vector16(u32),
+    /// Pointers of a storage class to a type: UniformConstant, Input, Workgroup, CrossWorkgroup, Function, Generic.
+    UniformConstant(u32),
+    Input(u32),
+    Workgroup(u32),
+    CrossWorkgroup(u32),
+    Local(u32),
+    Generic(u32),
 }
+
+const _: () = prove!(std::mem::size_of::<Meaning>() == 8);
 
 /// What an instruction says of its result.
 #[derive(Clone, Copy)]
 pub struct Note {
     pub id: u32,
     pub meaning: Meaning,
+}
+
+impl Meaning {
+    /// The type of a value.
+    #[inline(always)]
+    pub fn value_type(self) -> Option<u32>
+        ensures { result ≡ spec.type_meant self }
+    {
+        match self {
+            Meaning::Typed(t) => Some(t),
+            _ => None,
+        }
+    }
+
+    /// What a type is, as far as it was noted.
+    #[inline(always)]
+    pub fn form(self) -> Option<Form>
+        ensures { result ≡ spec.form_meant self }
+    {
+        match self {
+            Meaning::Unknown | Meaning::Typed(_) | Meaning::Declared => None,
+            Meaning::Void => Some(Form::Void),
+            Meaning::Bool => Some(Form::Scalar(Scalar::Bool)),
+            Meaning::Int(width) => Some(Form::Scalar(Scalar::Int(width))),
+            Meaning::Float(width) => Some(Form::Scalar(Scalar::Float(width))),
+            Meaning::Struct => Some(Form::Struct),
+            Meaning::Opaque => Some(Form::Opaque),
+            Meaning::Function => Some(Form::Function),
+            Meaning::Vector2(component) => Some(Form::Vector {
+                component,
+                count: 2,
+            }),
+            Meaning::Vector3(component) => Some(Form::Vector {
+                component,
+                count: 3,
+            }),
+            Meaning::Vector4(component) => Some(Form::Vector {
+                component,
+                count: 4,
+            }),
+            Meaning::Vector8(component) => Some(Form::Vector {
+                component,
+                count: 8,
+            }),
+            Meaning::Vector16(component) => Some(Form::Vector {
+                component,
+                count: 16,
+            }),
+            Meaning::UniformConstant(pointee) => Some(Form::Pointer { class: 0, pointee }),
+            Meaning::Input(pointee) => Some(Form::Pointer { class: 1, pointee }),
+            Meaning::Workgroup(pointee) => Some(Form::Pointer { class: 4, pointee }),
+            Meaning::CrossWorkgroup(pointee) => Some(Form::Pointer { class: 5, pointee }),
+            Meaning::Local(pointee) => Some(Form::Pointer { class: 7, pointee }),
+            Meaning::Generic(pointee) => Some(Form::Pointer { class: 8, pointee }),
+        }
+    }
+
+    /// Whether it is that of a type.
+    #[inline(always)]
+    pub fn is_type(self) -> bool
+        ensures { result ≡ spec.is_declared self }
+    {
+        match self {
+            Meaning::Unknown | Meaning::Typed(_) => false,
+            _ => true,
+        }
+    }
+}
+
+/// A vector of so many components of a type.
+#[inline(always)]
+fn vector(component: u32, count: u32) -> Meaning
+    ensures { IsMeaningOf (forms.Vector component count) result }
+{
+    match count {
+        2 => Meaning::Vector2(component),
+        3 => Meaning::Vector3(component),
+        4 => Meaning::Vector4(component),
+        8 => Meaning::Vector8(component),
+        16 => Meaning::Vector16(component),
+        _ => Meaning::Declared,
+    }
+}
+
+/// A pointer of a storage class to a type.
+#[inline(always)]
+fn pointer(class: u32, pointee: u32) -> Meaning
+    ensures { IsMeaningOf (forms.Pointer class pointee) result }
+{
+    match class {
+        0 => Meaning::UniformConstant(pointee),
+        1 => Meaning::Input(pointee),
+        4 => Meaning::Workgroup(pointee),
+        5 => Meaning::CrossWorkgroup(pointee),
+        7 => Meaning::Local(pointee),
+        8 => Meaning::Generic(pointee),
+        _ => Meaning::Declared,
+    }
+}
+
+/// What is noted of a type.
+#[inline(always)]
+fn meaning_of(form: Form) -> Meaning
+    ensures { IsMeaningOf form result }
+{
+    match form {
+        Form::Void => Meaning::Void,
+        Form::Scalar(Scalar::Bool) => Meaning::Bool,
+        Form::Scalar(Scalar::Int(width)) => Meaning::Int(width),
+        Form::Scalar(Scalar::Float(width)) => Meaning::Float(width),
+        Form::Vector { component, count } => vector(component, count),
+        Form::Array { .. } => Meaning::Declared,
+        Form::Struct => Meaning::Struct,
+        Form::Opaque => Meaning::Opaque,
+        Form::Pointer { class, pointee } => pointer(class, pointee),
+        Form::Function => Meaning::Function,
+    }
+}
+
+/// What is noted of a result that is declared with a type, by an instruction of an opcode.
+#[inline(always)]
+fn meaning_typed(number: u16, t: u32) -> Meaning
+    ensures { result ≡ spec.typed_by number t }
+{
+    if number == opcode::FUNCTION {
+        Meaning::Unknown
+    } else {
+        Meaning::Typed(t)
+    }
 }
 
 /// What an instruction says of its result, where its type comes first, or where it declares a type.
@@ -35,13 +192,13 @@ pub fn note_in(inst: &Inst) -> Option<Note>
     match inst.operands.as_slice() {
         [Operand::OfType(t), Operand::Result(x), ..] => Some(Note {
             id: *x,
-            meaning: Meaning::Typed(*t),
+            meaning: meaning_typed(inst.opcode, *t),
         }),
         [Operand::Result(x), ..] => {
             let form = form_in(inst)?;
             Some(Note {
                 id: *x,
-                meaning: Meaning::Declares(form),
+                meaning: meaning_of(form),
             })
         }
         _ => None,

@@ -1,22 +1,72 @@
 -- What is noted of ids. (For the code alone.)
-use Rattle.std.specs.Prelude.{◌≡◌, ℕ, List, Some, slice_get}
+use Rattle.std.specs.Prelude.{◌≡◌, ◌≢◌, ℕ, List, Bool, true, false, Option, Some, None, IfSome, IsSome, IsSomeAnd}
+use Rattle.std.specs.Prelude.{nat_eq, if◌then◌else◌, slice_get}
+use Rattle.spv_module.specs.declared.opcode.TheConstants as opcode
 use Rattle.spv_module.specs.Operand.{PlainInst, type_in}
-use Rattle.spv_module.specs.Width.{type_of}
+use Rattle.spv_module.specs.Width.{definition_of}
+use Rattle.spv_type_forms.specs.declared.form.Scalar.TheVariants as scalar
+use Rattle.spv_type_forms.specs.declared.form.Form.{Form}
+use Rattle.spv_type_forms.specs.declared.form.Form.TheVariants as form
 use Rattle.spv_type_forms.specs.declared.meaning.Meaning.{Meaning}
 use Rattle.spv_type_forms.specs.declared.meaning.Meaning.TheVariants as meaning
 use Rattle.spv_type_forms.specs.Form.{form_in, form_of}
 
+-- the type that a value is declared with
+abbrev pub type_meant : Meaning → Option ℕ
+type_meant (meaning.Typed t) = Some t
+type_meant _ = None
+
+-- what a type declares
+abbrev pub form_meant : Meaning → Option Form
+form_meant meaning.Void = Some form.Void
+form_meant meaning.Bool = Some (form.Scalar scalar.Bool)
+form_meant (meaning.Int w) = Some (form.Scalar (scalar.Int w))
+form_meant (meaning.Float w) = Some (form.Scalar (scalar.Float w))
+form_meant meaning.Struct = Some form.Struct
+form_meant meaning.Opaque = Some form.Opaque
+form_meant meaning.Function = Some form.Function
+form_meant (meaning.Vector2 c) = Some (form.Vector c 2)
+form_meant (meaning.Vector3 c) = Some (form.Vector c 3)
+form_meant (meaning.Vector4 c) = Some (form.Vector c 4)
+form_meant (meaning.Vector8 c) = Some (form.Vector c 8)
+form_meant (meaning.Vector16 c) = Some (form.Vector c 16)
+form_meant (meaning.UniformConstant p) = Some (form.Pointer 0 p)
+form_meant (meaning.Input p) = Some (form.Pointer 1 p)
+form_meant (meaning.Workgroup p) = Some (form.Pointer 4 p)
+form_meant (meaning.CrossWorkgroup p) = Some (form.Pointer 5 p)
+form_meant (meaning.Local p) = Some (form.Pointer 7 p)
+form_meant (meaning.Generic p) = Some (form.Pointer 8 p)
+form_meant _ = None
+
+-- whether it is that of a type
+abbrev pub is_declared : Meaning → Bool
+is_declared meaning.Unknown = false
+is_declared (meaning.Typed t) = false
+is_declared _ = true
+
+-- what is noted of a type is no other type, and no value
+abbrev pub IsMeaningOf : Form → Meaning → Type 0
+IsMeaningOf f m = (type_meant m ≡ None) × IfSome (form_meant m) (λ g. g ≡ f)
+
+-- what is noted of a result that is declared with type t
+abbrev pub typed_by : ℕ → ℕ → Meaning
+typed_by n t = if nat_eq n opcode.FUNCTION then meaning.Unknown else meaning.Typed t
+
+-- an instruction is a value that is declared with a type
+abbrev pub IsValueOf : ℕ → PlainInst → Type 0
+IsValueOf t i = (type_in i.operands ≡ Some t) × (i.opcode ≢ opcode.FUNCTION)
+
 -- what an instruction says of its result
-abbrev pub IsSaid : PlainInst → Meaning → Type 0
-IsSaid i meaning.Unknown = Unit {0}
-IsSaid i (meaning.Typed t) = type_in i.operands ≡ Some t
-IsSaid i (meaning.Declares f) = form_in i ≡ Some f
+pub record IsSaid (i : PlainInst) (m : Meaning) : Type 0 where
+  pub typed : (t : ℕ) → type_meant m ≡ Some t → IsValueOf t i
+  pub of_form : (f : Form) → form_meant m ≡ Some f → form_in i ≡ Some f
+  pub declares : is_declared m ≡ true → IsSome (form_in i)
 
 -- what is noted of an id holds of it; and so of each
-abbrev pub IsMeant : List PlainInst → ℕ → Meaning → Type 0
-IsMeant is x meaning.Unknown = Unit {0}
-IsMeant is x (meaning.Typed t) = type_of is x ≡ Some t
-IsMeant is x (meaning.Declares f) = form_of is x ≡ Some f
+pub record IsMeant (is : List PlainInst) (x : ℕ) (m : Meaning) : Type 0 where
+  pub typed : (t : ℕ) → type_meant m ≡ Some t → IsSomeAnd (definition_of is x) (IsValueOf t)
+  pub of_form : (f : Form) → form_meant m ≡ Some f → form_of is x ≡ Some f
+  pub declares : is_declared m ≡ true → IsSome (form_of is x)
 
 abbrev pub AreMeant : List PlainInst → List Meaning → Type 0
 AreMeant is ms = (x : ℕ) (m : Meaning) → slice_get ms x ≡ Some m → IsMeant is x m
