@@ -15,3 +15,4 @@ pub mod OneBit
 pub mod Labels
 pub mod ImageLines
 pub mod Places
+pub mod Listed

@@ -27,7 +27,7 @@ use std::str::from_utf8_unchecked;
 pub const SIZE: usize = 640;
 
 /// Where the operands begin in the buffer: before them there is room for most names, with a result.
-const FRONT: usize = 128;
+pub const FRONT: usize = 128;
 
 /// How long a name may be.
 const LONGEST_NAME: usize = 96;
@@ -85,7 +85,7 @@ fn add_operands<'t>(
 
 /// The line of an instruction whose operands are in the buffer, with its line feed. None where there is no room for it.
 #[inline(always)]
-fn whole_line<'b>(buffer: &'b mut [u8], entry: &Entry, draft: Draft) -> Option<&'b str>
+pub fn whole_line<'b>(buffer: &'b mut [u8], entry: &Entry, draft: Draft) -> Option<&'b str>
     requires { AreCharacters draft buffer.old }
     ensures { (G : grammar.Table) (d : Definitions) (before : List PlainInst) (i : PlainInst) (further line : List ℕ)
         → Knows d before → IsLineOf G d i draft buffer.old → entry_of G i.opcode ≡ Some entry.now

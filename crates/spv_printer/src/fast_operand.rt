@@ -27,7 +27,7 @@ use spv_table::Table;
 use spv_words::{Image, word};
 
 /// The room of the buffer that is asked for an operand.
-const ROOM: usize = 96;
+pub const ROOM: usize = 96;
 
 /// The operands of a line that are in the buffer.
 #[derive(Clone, Copy)]
@@ -51,9 +51,9 @@ pub struct Added<'t> {
 
 /// What stands in a line for a word, and the kinds of the parameters that are due after it.
 #[derive(Clone, Copy)]
-struct Label<'t> {
-    name: &'t str,
-    kinds: &'t [u32],
+pub struct Label<'t> {
+    pub name: &'t str,
+    pub kinds: &'t [u32],
 }
 
 /// Adds the operand that a word is, where a kind asks for an id or a literal of one word, or for a number of the
@@ -166,7 +166,7 @@ fn enumerant_label<'t>(table: &'t Table, kind: u32, word: u32) -> Option<Label<'
 
 /// What stands for a value of a kind. None where it is not known that the value is shown by name.
 #[inline(always)]
-fn value_label<'t>(table: &'t Table, names: &Names, kind: u32, value: u32) -> Option<Label<'t>>
+pub fn value_label<'t>(table: &'t Table, names: &Names, kind: u32, value: u32) -> Option<Label<'t>>
     requires { AreNames table.now names.now }
     ensures { IfSome result (λ n. (shown_value (enumerants_at (kind_of table.now kind)) value ≡ n.name.now)
         × (parameters_of (enumerants_at (kind_of table.now kind)) value ≡ Some n.kinds.now)) }
@@ -180,7 +180,7 @@ fn value_label<'t>(table: &'t Table, names: &Names, kind: u32, value: u32) -> Op
 /// What stands for a mask of a kind. None where the mask has more bits than one, or a bit above the lowest six, and
 /// where it is not known that it is shown by name.
 #[inline(always)]
-fn mask_label<'t>(table: &'t Table, names: &Names, kind: u32, mask: u32) -> Option<Label<'t>>
+pub fn mask_label<'t>(table: &'t Table, names: &Names, kind: u32, mask: u32) -> Option<Label<'t>>
     requires { AreNames table.now names.now }
     ensures { IfSome result (λ n. (shown_mask (enumerants_at (kind_of table.now kind)) mask ≡ n.name.now)
         × (mask_parameters (enumerants_at (kind_of table.now kind)) mask ≡ Some n.kinds.now)) }

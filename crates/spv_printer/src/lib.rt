@@ -7,6 +7,7 @@ mod fast_operand;
 mod fast_text;
 mod image;
 mod inst;
+mod listed_line;
 mod name;
 mod named;
 mod names;

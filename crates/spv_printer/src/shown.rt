@@ -6,6 +6,8 @@ ghost use Rattle.spv_module.specs.Instruction.{IsListing};
 ghost use Rattle.spv_encode.specs.Encoding.{IsImageOf, RefusesModule};
 ghost use Rattle.spv_lines.specs.Text.{IsShownText, ShownLines, ended, header_lines};
 
+use crate::fast_line::SIZE;
+use crate::listed_line::push_listed;
 use crate::number::push_decimal;
 use crate::printer::Printer;
 use spv_encode::{EncodeError, encode};
@@ -36,8 +38,10 @@ fn push_lines(
         → OnOk result (string_bytes out.new ≡ string_bytes out.old ++ ended lines) }
 {
     let mut printer = Printer::new(alloc, table)?;
+    let mut buffer = [0u8; SIZE];
     for inst in &module.insts {
-        printer.push_line(out, table, inst.opcode, inst.operands.as_slice())?;
+        let operands = inst.operands.as_slice();
+        push_listed(out, &mut buffer, table, &mut printer, inst.opcode, operands)?;
     }
     Ok(())
 }

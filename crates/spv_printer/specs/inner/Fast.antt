@@ -187,3 +187,24 @@ pub record IsFastLine (G : Table) (defined : Definitions) (words old new : List 
   pub text : (before : List PlainInst) (further line : List ℕ) → Knows defined before
       → IsShownLine G before inst further line → new ≡ old ++ (line ++ (10 ∷ []))
   pub told : IsTold inst f
+
+-- One operand more is this one.
+pub record IsOneMore (G : Table) (defined : Definitions) (operand : Plain) (d next : Draft)
+    (old new : List ℕ) : Type 0 where
+  pub added : (os : List Plain) → AreDrafted G defined os d old
+      → AreDrafted G defined (os ++ (operand ∷ [])) next new
+
+-- Behind what was drafted of a line a name was added, and nothing else is told of the line.
+pub record IsNameAdded (name : List ℕ) (d next : Draft) (old new : List ℕ) : Type 0 where
+  pub piece : IsTextAdded name d.at next.at old new
+  pub result : next.result ≡ d.result
+  pub type_id : next.type_id ≡ d.type_id
+
+-- The line of an instruction, after any that have the definitions, was added to a text; what is kept of the instruction
+-- is its own, and it declares no width.
+pub record IsListedLine (G : Table) (defined : Definitions) (i : PlainInst) (d : Draft) (old new : List ℕ) : Type 0 where
+  pub text : (before : List PlainInst) (further line : List ℕ) → Knows defined before
+      → IsShownLine G before i further line → new ≡ old ++ (line ++ (10 ∷ []))
+  pub result : result_in i.operands ≡ d.result
+  pub type_id : type_in i.operands ≡ d.type_id
+  pub width : declared_width i ≡ None

@@ -14,14 +14,14 @@ loop-inst-preserved c =
     let o = c.inst-item.result in
     let h : i < length insts = omega arith in
     let e = c.inst-item.is ∙ ap (λ (xs : List Inst). get_or xs i o) c.deref-inst-items.ensures.value in
-    let v = c.as_slice.ensures.value in
-    let k = rw v at (c.in_ok-push_line.ensures.knows (map plain_inst (take i insts)) c.loop-inst.invariant.knows) in
+    let v = c.as_slice-operands.ensures.value in
+    let k = rw v at (c.in_ok-push_listed.ensures.knows (map plain_inst (take i insts)) c.loop-inst.invariant.knows) in
     record {
       knows = rw (insts_more insts i o o h e) k;
       shown = λ lines s.
-          lines_step c.args.table.now insts lines (string_bytes c.args.out.now) (string_bytes c.loop-inst.out) (string_bytes c.push_line.new.out) i o o (c.loop-inst.invariant.shown lines s) h e
-          (λ further line l. c.in_ok-push_line.ensures.line (map plain_inst (take i insts)) further line c.loop-inst.invariant.knows (rw v l));
-      ready = c.in_ok-push_line.ensures.ready;
+          lines_step c.args.table.now insts lines (string_bytes c.args.out.now) (string_bytes c.loop-inst.out) (string_bytes c.push_listed.new.out) i o o (c.loop-inst.invariant.shown lines s) h e
+          (λ further line l. c.in_ok-push_listed.ensures.line (map plain_inst (take i insts)) further line c.loop-inst.invariant.knows (rw v l));
+      ready = c.in_ok-push_listed.ensures.ready;
     }
 
 pub returns : goal.returns
