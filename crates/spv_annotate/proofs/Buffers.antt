@@ -1,12 +1,13 @@
 -- Texts that stand at the end of a buffer.
-use Rattle.std.proofs.Common.{◌≡◌, ◌++◌, ◌∙◌, ◌<◌, ◌≤◌, ◌+◌, ◌^◌, ℕ, List, [], ◌∷◌, length, drop, refl, true, ap, arith, append-nil, length-append, length-drop}
+use Rattle.std.proofs.Common.{◌≡◌, ◌++◌, ◌∙◌, ◌<◌, ◌≤◌, ◌+◌, ◌^◌, ℕ, List, [], ◌∷◌, length, drop, refl, true, ap, arith, append_assoc, append-nil, sym, length-append, length-drop}
 use Rattle.std.specs.Prelude.{decimal, nat_lt}
 use Rattle.std.specs.List.{list_all}
 use Rattle.std.specs.Str.{IsUtf8}
 use Rattle.std.proofs.lemmas.Fmt.{IsAscii-decimal}
 use Rattle.std.proofs.lemmas.Str.{IsUtf8-from_ascii}
 use Rattle.spv_printer.proofs.Digits.{short_word}
-use Rattle.spv_annotate.proofs.Small.{ascii_by}
+use Rattle.std.proofs.Common.{zero, suc}
+use Rattle.spv_annotate.proofs.Small.{ascii_by, both}
 
 -- a number leaves room
 pub room_left : (n m r k : ℕ) → m ≡ n → n < 2 ^ 32 → r + length (decimal m) ≡ k → k ≤ r + 10
@@ -34,3 +35,15 @@ before_end old new x y start end e f = e ∙ ap (λ z. x ++ z) f
 
 pub text_utf8 : (t : List ℕ) → list_all (λ b. nat_lt b 128) t ≡ true → IsUtf8 t
 text_utf8 t h = IsUtf8-from_ascii t (ascii_by t h)
+
+-- so is what is left of a text
+pub dropped_utf8 : (k : ℕ) (t : List ℕ) → list_all (λ b. nat_lt b 128) t ≡ true → IsUtf8 (drop k t)
+dropped_utf8 k t h = text_utf8 (drop k t) (rest k t h)
+  where
+    rest : (k : ℕ) (t : List ℕ) → list_all (λ b. nat_lt b 128) t ≡ true → list_all (λ b. nat_lt b 128) (drop k t) ≡ true
+    rest zero t h = h
+    rest (suc k) [] h = h
+    rest (suc k) (b ∷ t) h = rest k t (both (nat_lt b 128) (list_all (λ b. nat_lt b 128) t) h).1
+
+pub four_behind : (a b c d : List ℕ) → a ++ (b ++ (c ++ d)) ≡ ((a ++ b) ++ c) ++ d
+four_behind a b c d = sym (append_assoc (a ++ b) c d ∙ append_assoc a b (c ++ d))

@@ -25,3 +25,5 @@ pub mod Plains
 pub mod Steadies
 pub mod UsePlaces
 pub mod Buffers
+pub mod EdgeCounts
+pub mod ShortIds

@@ -1,6 +1,6 @@
 -- A line, cut before each id.
 use Rattle.std.proofs.Common.{◌≡◌, ◌++◌, ◌∙◌, ◌<◌, ◌≤◌, ◌+◌, ◌-◌, ◌^◌, ℕ, zero, suc, List, [], ◌∷◌, Option, Some, Bool, true, false, length, take, drop, get_or, refl, sym, ap, subst, arith, append_assoc, append-nil}
-use Rattle.std.specs.Prelude.{if◌then◌else◌, ◌==◌, ◌&&◌, nat_lt, decimal, option_and_then}
+use Rattle.std.specs.Prelude.{◌==◌, nat_lt, decimal, option_and_then}
 use Rattle.std.specs.List.{flat_map, onto_first, prefix_len}
 use Rattle.std.specs.Option.{option_to_list}
 use Rattle.std.specs.Str.{IsCharBoundary, IsUtf8}
@@ -219,6 +219,9 @@ linked_none d q (x ∷ xs) out n = absurd (n (omega arith))
 pub all_behind : (xs : List ℕ) → take (length xs - 1) (drop 1 xs) ≡ drop 1 xs
 all_behind [] = refl
 all_behind (x ∷ t) = let e : suc (length t) - 1 ≡ length t = omega arith in ap (λ n. take n t) e ∙ take-length t
+
+pub behind_front : (xs ds : List ℕ) → xs ≡ 37 ∷ ds → take (length xs - 1) (drop 1 xs) ≡ ds
+behind_front xs ds e = all_behind xs ∙ ap (drop 1) e
 
 pub some_left : (xs : List ℕ) → false ≡ (length xs == 0) → 0 < length xs
 some_left [] e = cc

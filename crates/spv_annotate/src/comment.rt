@@ -1,11 +1,10 @@
 //! The comment behind the line of an instruction.
 
-ghost use Rattle.std.specs.Prelude.{◌≡◌, ◌++◌, ◌<◌, ◌≤◌, ◌+◌, ℕ, OnOk, length, map, string_bytes};
+ghost use Rattle.std.specs.Prelude.{◌≡◌, ◌++◌, ◌<◌, ◌≤◌, ◌+◌, ℕ, OnOk, drop, length, map, string_bytes};
 ghost use Rattle.spv_module.specs.Module.{plain_inst, plain_insts};
 ghost use Rattle.spv_layout.specs.Place.{first_word_of};
 ghost use Rattle.spv_annotate.specs.Module.{inst_at};
-ghost use Rattle.spv_annotate.specs.Notes as specs;
-ghost use Rattle.spv_annotate.specs.Notes.{block_note, column, comment, notes, place_text};
+ghost use Rattle.spv_annotate.specs.Notes.{block_note, column, comment, gap, notes, place_text};
 ghost use Rattle.spv_annotate.specs.inner.Known.{IsKnown};
 ghost use Rattle.spv_annotate.specs.inner.Numbers.{kept};
 ghost use Rattle.spv_annotate.specs.inner.Values.{value_in};
@@ -25,15 +24,13 @@ const COLUMN: &str = "                                                ";
 /// The size of a buffer for these spaces and two numbers with their words.
 const PLACE: usize = 96;
 
-/// The spaces behind a line of so many octets: up to the column of comments, one at least.
-fn gap(count: usize) -> &'static str
-    ensures text { result.now ≡ specs.gap count }
-    ensures short { length result.now ≤ 48 }
+/// How many of these spaces are left out behind a line of so many octets: as many, but for one that is there at least.
+#[inline(always)]
+fn left_out(count: usize) -> usize
+    ensures text { drop result column ≡ gap count }
+    ensures small { result < 48 }
 {
-    if count < 47 {
-        return &COLUMN[count..];
-    }
-    &COLUMN[47..]
+    if count < 47 { count } else { 47 }
 }
 
 /// Adds the labels of the blocks whose branch goes to an instruction, where it is the OpLabel that first defines its id.
@@ -57,7 +54,7 @@ fn push_block(
     if known.definitions.get(label) != Some(at) {
         return Ok(());
     }
-    push_predecessors(out, known.edges.as_slice(), label)
+    push_predecessors(out, &known.edges, label)
 }
 
 /// Adds the notes on an instruction.
@@ -93,18 +90,19 @@ fn push_notes_at(
     push_notes(out, insts, known, at, &insts[at as usize])
 }
 
-/// Adds spaces, and the numbers of an instruction and of its first word.
-fn push_place(out: &mut String, spaces: &str, at: u32, word: u32) -> Result<(), AllocError>
-    requires { length spaces.now ≤ 48 }
-    ensures { OnOk result (string_bytes out.new ≡ string_bytes out.old ++ (spaces.now ++ place_text at word)) }
+/// Adds spaces up to the column of comments but for so many, and the numbers of an instruction and of its first word.
+fn push_place(out: &mut String, omitted: usize, at: u32, word: u32) -> Result<(), AllocError>
+    requires { omitted < 48 }
+    ensures { OnOk result (string_bytes out.new
+        ≡ string_bytes out.old ++ (drop omitted column ++ place_text at word)) }
 {
     let mut buffer = [0u8; PLACE];
     let last = put_number(&mut buffer, word, PLACE);
     let between = put_octets(&mut buffer, b" word ", last);
     let first = put_number(&mut buffer, at, between);
     let begin = put_octets(&mut buffer, b"; inst ", first);
-    let start = put_octets(&mut buffer, spaces.as_bytes(), begin);
-    out.push_str(unsafe { from_utf8_unchecked(&buffer[start..]) })
+    let left = put_octets(&mut buffer, COLUMN.as_bytes(), begin);
+    out.push_str(unsafe { from_utf8_unchecked(&buffer[left + omitted..]) })
 }
 
 /// Adds the comment behind the line of an instruction, which has so many octets, and the spaces before it.
@@ -124,6 +122,6 @@ pub fn push_comment(
     ensures { OnOk result (string_bytes out.new ≡ string_bytes out.old ++ comment (map plain_inst insts.now)
         (value_in known.now.values at) at line.now) }
 {
-    push_place(out, gap(line.len()), at, word)?;
+    push_place(out, left_out(line.len()), at, word)?;
     push_notes_at(out, insts, known, at)
 }

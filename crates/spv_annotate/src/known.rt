@@ -2,13 +2,14 @@
 
 ghost use Rattle.std.specs.Prelude.{◌≡◌, ℕ, IfOk, map};
 ghost use Rattle.spv_module.specs.Module.{plain_inst};
-ghost use Rattle.spv_layout.specs.Place.{AreFew};
+ghost use Rattle.spv_layout.specs.Place.{IsShort};
 ghost use Rattle.spv_annotate.specs.inner.Known.{IsKnown};
 
-use crate::edges::{Edge, find_edges};
+use crate::edges::find_edges;
 use crate::firsts::{find_definitions, find_namings};
 use crate::numbers::Numbers;
 use crate::opencl::table_lines;
+use crate::uses::Uses;
 use crate::values::{Values, find_values};
 use spv_module::Inst;
 use std::alloc::{AllocError, Global};
@@ -20,8 +21,8 @@ pub struct Known {
     pub definitions: Numbers,
     /// Of each id the first OpName that names it.
     pub namings: Numbers,
-    /// The edges between blocks, in the order of the labels to which they lead.
-    pub edges: Vec<Edge>,
+    /// The edges between blocks.
+    pub edges: Uses,
     /// The lines of the table of OpenCL.std.
     pub calls: Vec<&'static str>,
     /// The decimal values of float constants.
@@ -33,7 +34,7 @@ impl Known {
     ///
     /// An `AllocError` comes only where a growth of memory was refused.
     pub fn new(alloc: Global, insts: &[Inst<'_>]) -> Result<Known, AllocError>
-        requires { AreFew insts.now }
+        requires { IsShort (map plain_inst insts.now) }
         ensures { IfOk result (λ k. IsKnown (map plain_inst insts.now) k) }
     {
         let definitions = find_definitions(alloc, insts)?;

@@ -1,11 +1,12 @@
 //! Lines in which ids have links.
 
-ghost use Rattle.std.specs.Prelude.{◌≡◌, ◌++◌, ◌∷◌, ◌≤◌, ◌<◌, ℕ, List, OnOk, Some, get_or, length, string_bytes, true};
+ghost use Rattle.std.specs.Prelude.{◌≡◌, ◌++◌, ◌∷◌, ◌≤◌, ◌<◌, ℕ, List, IfSome, OnOk, Some, get_or, length, string_bytes, true};
 ghost use Rattle.std.specs.Prelude.{option_and_then};
 ghost use Rattle.std.specs.List.{list_all, prefix_len};
 ghost use Rattle.std.specs.Option.{option_to_list};
 ghost use Rattle.spv_lines.specs.Digits.{is_digit};
-ghost use Rattle.spv_annotate.specs.inner.Linked.{base, is_bare_byte, is_steady, part_len, until_id};
+ghost use Rattle.spv_annotate.specs.inner.Linked as specs;
+ghost use Rattle.spv_annotate.specs.inner.Linked.{base, is_steady, part_len, until_id};
 ghost use Rattle.spv_annotate.specs.inner.Numbers.{kept};
 ghost use Rattle.spv_annotate.specs.Page as page;
 ghost use Rattle.spv_annotate.specs.Page.{after_byte, id_html, id_of, ids_at, link_to, linked, part_html};
@@ -23,6 +24,9 @@ const LONGEST: usize = 32;
 
 /// The size of that buffer.
 const LINK: usize = 64;
+
+/// A number below this one has room for one more digit.
+const ROOM: u32 = 429_496_729;
 
 /// Where a reader of a line stands.
 #[derive(Clone, Copy)]
@@ -172,10 +176,46 @@ fn push_short_link(out: &mut String, inst: u32, word: &str) -> Result<(), AllocE
     out.push_str(unsafe { from_utf8_unchecked(&buffer[start..]) })
 }
 
+/// What stands behind the mark of a word, as behind the `%` of `%7`.
+#[inline(always)]
+#[tactic(auto, using(crate::proofs::Parts::behind_front))]
+fn behind_mark(word: &[u8]) -> &[u8]
+    ensures { (ds : List ℕ) → word.now ≡ 37 ∷ ds → result.now ≡ ds }
+{
+    match word {
+        [_, digits @ ..] => digits,
+        [] => word,
+    }
+}
+
+/// The id that digits are. None where they are none, where a zero stands in front, and for most numbers of ten digits.
+#[inline(always)]
+fn short_id(digits: &[u8]) -> Option<u32>
+    ensures { IfSome result (λ id. Some id ≡ id_of digits.now) }
+{
+    let [first, ..] = digits else {
+        return None;
+    };
+    if *first == b'0' {
+        return None;
+    }
+    let mut id: u32 = 0;
+    for digit in digits {
+        if *digit < b'0' || *digit > b'9' || id >= ROOM {
+            return None;
+        }
+        id = id * 10 + u32::from(*digit - b'0');
+    }
+    Some(id)
+}
+
 /// The id that a word is, as `%7`.
 fn id_in(word: &[u8]) -> Option<u32>
     ensures { (ds : List ℕ) → word.now ≡ 37 ∷ ds → result ≡ id_of ds }
 {
+    if let Some(id) = short_id(behind_mark(word)) {
+        return Some(id);
+    }
     match read_behind(b'%', word) {
         Ok(id) => Some(id),
         Err(_) => None,
@@ -254,16 +294,22 @@ pub fn push_linked(
     Ok(())
 }
 
+/// Whether a byte of a comment stands for itself, and begins no id.
+#[inline(always)]
+fn is_bare_byte(byte: u8) -> bool
+    ensures { result ≡ specs.is_bare_byte byte }
+{
+    !(byte == b'%' || is_mark(byte))
+}
+
 /// Whether each byte of a comment stands for itself, and none begins an id. It looks at all of them, so that a compiler
 /// can take many at a time.
 fn is_bare(text: &[u8]) -> bool
-    ensures { result ≡ list_all is_bare_byte text.now }
+    ensures { result ≡ list_all specs.is_bare_byte text.now }
 {
     let mut bare = true;
     for byte in text {
-        if *byte == b'%' || is_mark(*byte) {
-            bare = false;
-        }
+        bare &= is_bare_byte(*byte);
     }
     bare
 }

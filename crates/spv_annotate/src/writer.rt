@@ -1,8 +1,8 @@
 //! The text for reading, by any pen.
 
 ghost use Rattle.std.specs.Prelude.{◌≡◌, ◌≤◌, ◌<◌, ◌+◌, ◌∷◌, [], ℕ, List, Option, IfOk, IfSome, OnOk};
-ghost use Rattle.std.specs.Prelude.{drop, is_some, length, map, option_map, string_bytes, take};
-ghost use Rattle.std.specs.List.{flat_map, range_with_len};
+ghost use Rattle.std.specs.Prelude.{drop, is_some, length, map, option_map, string_bytes, take, true};
+ghost use Rattle.std.specs.List.{flat_map, list_all, range_with_len};
 ghost use Rattle.spv_words.specs.Header.{greatest_length};
 ghost use Rattle.spv_module.specs.Module.{plain_inst, plain_insts};
 ghost use Rattle.spv_module.specs.Operand.{PlainInst};
@@ -17,6 +17,7 @@ ghost use Rattle.spv_annotate.specs.Notes.{comment};
 ghost use Rattle.spv_annotate.specs.Piece.{Break, Comment, IsWritten, Line};
 ghost use Rattle.spv_annotate.specs.inner.Known.{IsKnown};
 ghost use Rattle.spv_annotate.specs.inner.Standing.{IsStanding};
+ghost use Rattle.spv_annotate.specs.inner.Tame.{is_tame_octet};
 ghost use Rattle.spv_annotate.specs.inner.Task.{subject_of};
 ghost use Rattle.spv_annotate.specs.inner.Values.{value_in};
 
@@ -26,7 +27,7 @@ use crate::known::Known;
 use crate::piece::{Pen, Piece};
 use crate::section::section_of;
 use crate::standing::Standing;
-use crate::tame::are_tame;
+use crate::tame::{has_tame_lines, is_tame_line};
 use spv_lines::{push_plain, split_line};
 use spv_module::{Inst, Module, opcode};
 use spv_printer::show_listed;
@@ -96,8 +97,11 @@ fn write_beginning<P: Pen>(
     if code == opcode::LABEL {
         return pen.write(Piece::Block(at));
     }
+    if standing.function.is_some() {
+        return Ok(());
+    }
     let section = section_of(code);
-    if standing.function.is_some() || section == standing.section {
+    if section == standing.section {
         return Ok(());
     }
     pen.write(Piece::Section(section))
@@ -189,22 +193,24 @@ fn write_plain<P: Pen>(
     write_both(pen, at, line, draft.as_str())
 }
 
-/// Writes the line of an instruction, with its comment.
+/// Writes the line of an instruction, with its comment. `tame` tells whether it was found before that the line is tame.
 fn write_line<P: Pen>(
     pen: &mut P,
     task: &Task<'_, '_>,
     drafts: &mut Drafts,
     at: u32,
     word: u32,
+    tame: bool,
     line: &str,
 ) -> Result<(), AllocError>
     requires known { IsKnown (plain_insts task.now.«module».now) task.now.known.now }
+    requires tame { tame ≡ true → list_all is_tame_octet line.now ≡ true }
     requires within { at < length (plain_insts task.now.«module».now) }
     requires word { word ≡ first_word_of (plain_insts task.now.«module».now) at }
     ensures { (lines : List (List ℕ)) → OnOk result (IsWritten P.text P.writes
         (line_pieces (subject_of task.now lines) at (plain_of line.now)) pen.old pen.new) }
 {
-    if are_tame(line.as_bytes()) {
+    if is_tame_line(tame, line) {
         return write_plain(pen, task, &mut drafts.comment, at, word, line);
     }
     drafts.line.clear();
@@ -248,15 +254,17 @@ fn function_at(standing: Standing, at: u32, code: u16) -> Option<u32>
     standing.function
 }
 
-/// Writes all that belongs to an instruction, if it is asked for.
+/// Writes all that belongs to an instruction, if it is asked for. `tame` is that of `write_line`.
 fn write_entry<P: Pen>(
     pen: &mut P,
     task: &Task<'_, '_>,
     drafts: &mut Drafts,
     at: u32,
     standing: Standing,
+    tame: bool,
     line: &str,
 ) -> Result<(), AllocError>
+    requires tame { tame ≡ true → list_all is_tame_octet line.now ≡ true }
     requires known { IsKnown (plain_insts task.now.«module».now) task.now.known.now }
     requires within { at < length (plain_insts task.now.«module».now) }
     requires standing { IsStanding (plain_insts task.now.«module».now) at standing }
@@ -268,7 +276,7 @@ fn write_entry<P: Pen>(
         return Ok(());
     }
     write_beginning(pen, at, code, standing)?;
-    write_line(pen, task, drafts, at, standing.word, line)?;
+    write_line(pen, task, drafts, at, standing.word, tame, line)?;
     write_marks(pen, task, at)
 }
 
@@ -284,6 +292,7 @@ fn write_entries<P: Pen>(pen: &mut P, task: &Task<'_, '_>, text: &str) -> Result
         line: String::new(task.alloc),
         comment: String::new(task.alloc),
     };
+    let tame = has_tame_lines(text);
     let mut standing = Standing::new();
     let mut rest = text;
     let insts = task.module.insts.as_slice();
@@ -292,7 +301,7 @@ fn write_entries<P: Pen>(pen: &mut P, task: &Task<'_, '_>, text: &str) -> Result
             unreachable!();
         }
         let (line, further) = split_line(rest);
-        write_entry(pen, task, &mut drafts, at as u32, standing, line)?;
+        write_entry(pen, task, &mut drafts, at as u32, standing, tame, line)?;
         standing = standing.behind(at as u32, &insts[at]);
         rest = further;
     }

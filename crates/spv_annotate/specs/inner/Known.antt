@@ -2,10 +2,9 @@
 use Rattle.std.specs.Prelude.{◌≡◌, ℕ, List, map}
 use Rattle.spv_module.specs.Operand.{PlainInst}
 use Rattle.spv_annotate.specs.declared.known.Known.{Known}
-use Rattle.spv_annotate.specs.Module.{definition_of, naming_of}
+use Rattle.spv_annotate.specs.Module.{definition_of, edges_of, naming_of}
 use Rattle.spv_annotate.specs.Notes.{opencl_lines}
 use Rattle.spv_annotate.specs.Values.{AreValues}
-use Rattle.spv_annotate.specs.inner.Edges.{AreEdges}
 use Rattle.spv_annotate.specs.inner.Numbers.{kept}
 use Rattle.spv_annotate.specs.inner.Values.{value_in}
 
@@ -13,6 +12,6 @@ use Rattle.spv_annotate.specs.inner.Values.{value_in}
 pub record IsKnown (is : List PlainInst) (k : Known) : Type 0 where
   pub definitions : (x : ℕ) → kept k.definitions x ≡ definition_of is x
   pub namings : (x : ℕ) → kept k.namings x ≡ naming_of is x
-  pub edges : AreEdges is k.edges.items
+  pub edges : k.edges.edges.items ≡ edges_of is
   pub calls : map (λ t. t.now) k.calls.items ≡ opencl_lines
   pub values : AreValues is (value_in k.values)

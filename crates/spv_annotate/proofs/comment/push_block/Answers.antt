@@ -1,6 +1,5 @@
-use Rattle.std.proofs.Common.{◌≡◌, ◌++◌, ◌∙◌, List, ℕ, OnOk, None, ap, map, string_bytes, subst, sym}
+use Rattle.std.proofs.Common.{◌≡◌, ◌++◌, ◌∙◌, List, ℕ, OnOk, map, string_bytes, subst, sym}
 use Rattle.spv_module.specs.Module.{plain_inst}
-use Rattle.spv_annotate.specs.inner.Edges.{leading, told}
 use Rattle.spv_annotate.proofs.Leads.{block_told, same_number}
 use Rattle.spv_annotate.proofs.comment.push_block.Goals as goal
 
@@ -10,6 +9,5 @@ returns c =
     let x = c.in-Some.label in
     let d = sym (c.requires.definitions x) ∙ (sym c.get.ensures ∙ same_number c.get.result c.args.at (sym c.ne.ensures ∙ c.if-ne.false)) in
     let r = sym c.result_id.ensures ∙ c.in-Some.is in
-    let e = ap (λ es. told None (leading x es)) c.as_slice.ensures.value
-    ∙ block_told is c.args.at (plain_inst c.args.inst.now) x c.args.known.now.edges.items c.if-inst-ne-LABEL.false r d c.requires.edges in
+    let e = block_told is c.args.at (plain_inst c.args.inst.now) x c.args.known.now.edges.edges.items c.if-inst-ne-LABEL.false r d c.requires.edges in
     subst (λ (z : List ℕ). OnOk c.push_predecessors.result (string_bytes c.push_predecessors.new.out ≡ string_bytes c.args.out.now ++ z)) e c.push_predecessors.ensures

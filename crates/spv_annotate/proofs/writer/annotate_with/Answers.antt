@@ -7,18 +7,13 @@ use Rattle.spv_annotate.specs.Document.{IsSubject, Subject, document, entries, h
 use Rattle.spv_annotate.specs.Piece.{IsWritten}
 use Rattle.spv_annotate.specs.Values.{AreValues}
 use Rattle.spv_annotate.specs.inner.Values.{value_in}
-use Rattle.spv_annotate.proofs.Places.{few_short, slice_length}
 use Rattle.spv_annotate.proofs.Shown.{shown_count}
 use Rattle.spv_annotate.proofs.Texts.{text_lines}
 use Rattle.spv_annotate.proofs.Writings.{written_more}
 use Rattle.spv_annotate.proofs.writer.annotate_with.Goals as goal
 
 pub new-requires : goal.new-requires
-new-requires g c =
-    let m = c.args.module.now in
-    let f = few_short (plain_insts m) c.requires.words in
-    let s = slice_length c.as_slice.result.now m.insts.items c.as_slice.ensures.value in
-    omega (arith, f, s)
+new-requires g c = rw c.as_slice.ensures.value c.requires.words
 
 pub write_header-requires : goal.write_header-requires
 write_header-requires g c =

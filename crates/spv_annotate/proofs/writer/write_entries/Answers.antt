@@ -9,6 +9,7 @@ use Rattle.spv_annotate.specs.Document.{ending, entries, entry}
 use Rattle.spv_annotate.specs.Piece.{IsWritten, PlainPiece}
 use Rattle.spv_annotate.specs.inner.Standing.{IsStanding}
 use Rattle.spv_annotate.specs.inner.Task.{subject_of}
+use Rattle.spv_annotate.proofs.Plains.{first_tame}
 use Rattle.spv_annotate.proofs.Places.{few_short, read_slice, slice_length, slice_within, word_bound}
 use Rattle.spv_annotate.proofs.Small.{drop_head, drop_tail, flat_range_more, no_lines, zero_by}
 use Rattle.spv_annotate.proofs.Writings.{written_more, written_nothing}
@@ -18,6 +19,7 @@ pub loop-at-init : goal.loop-at-init
 loop-at-init g c = record {
   text = search rules;
   rest = refl;
+  tame = c.has_tame_lines-tame.ensures;
   standing = c.new-standing.ensures (plain_insts c.args.task.now.module.now);
   written = written_nothing g.P.Pen.text g.P.Pen.writes c.args.pen.now;
 }
@@ -59,6 +61,9 @@ behind-standing-requires g c =
     let s = c.loop-at.invariant.standing.word in
     record { words = omega (arith, e, b, s) }
 
+pub write_entry-requires-clause-tame : goal.write_entry-requires-clause-tame
+write_entry-requires-clause-tame g c = λ t. (first_tame c.split_line.result.0.now (lines_of c.split_line.result.1.now) (lines_of c.loop-at.rest.now) c.split_line.ensures.lines (c.loop-at.invariant.tame t)).0
+
 pub loop-at-preserved : goal.loop-at-preserved
 loop-at-preserved g c =
     let m = c.args.task.now.module.now in
@@ -79,6 +84,7 @@ loop-at-preserved g c =
     record {
       text = search rules;
       rest = sym (drop_tail at ls (lines_of further) line d);
+      tame = λ t. (first_tame line (lines_of further) (lines_of c.loop-at.rest.now) c.split_line.ensures.lines (c.loop-at.invariant.tame t)).1;
       standing = c.behind-standing.ensures is w e c.loop-at.invariant.standing;
       written = subst (λ (ps : List PlainPiece). IsWritten text writes ps c.args.pen.now c.write_entry.new.pen) (sym (flat_range_more (entry S) at)) more;
     }
