@@ -14,7 +14,7 @@ use Rattle.spv_evidence.specs.declared.evidence.Evidence.{Evidence}
 use Rattle.spv_form_evidence.specs.layout.Evidence as layout
 use Rattle.spv_form_evidence.specs.ids.Evidence as ids
 use Rattle.spv_form_evidence.specs.ids.Roles as roles
-use Rattle.spv_type_evidence.specs.capabilities.Evidence as capabilities
+use Rattle.spv_form_evidence.specs.capabilities.Evidence as capabilities
 use Rattle.spv_type_evidence.specs.types.Evidence as types
 use Rattle.spv_flow_evidence.specs.branches.Evidence as branches
 use Rattle.spv_flow_evidence.specs.walks.Evidence as walks

@@ -14,10 +14,10 @@ use Rattle.spv_verdict.proofs.Stages.{types_stage}
 use Rattle.spv_form_evidence.specs.layout.Evidence as by_layout
 use Rattle.spv_form_evidence.specs.ids.Roles as roles
 use Rattle.spv_type_evidence.specs.types.Evidence as by_types
-use Rattle.spv_type_evidence.specs.capabilities.Evidence as capabilities
+use Rattle.spv_form_evidence.specs.capabilities.Evidence as capabilities
 use Rattle.spv_form_evidence.proofs.lemmas.layout.Sufficing as layout_law
 use Rattle.spv_form_evidence.proofs.lemmas.ids.Sufficing.{ids_suffice, roles_suffice}
-use Rattle.spv_type_evidence.proofs.lemmas.capabilities.Suffices.{breaks}
+use Rattle.spv_form_evidence.proofs.lemmas.capabilities.Suffices.{breaks}
 use Rattle.spv_type_evidence.proofs.lemmas.types.Sufficing as types_law
 use Rattle.spv_flow_evidence.proofs.lemmas.branches.Rules as branches_law
 use Rattle.spv_flow_evidence.proofs.lemmas.walks.Sufficing as walks_law

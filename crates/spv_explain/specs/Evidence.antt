@@ -10,7 +10,7 @@ use Rattle.spv_form_evidence.specs.ids.Roles as roles
 use Rattle.spv_flow_evidence.specs.branches.Evidence as branches
 use Rattle.spv_flow_evidence.specs.walks.Evidence as walks
 use Rattle.spv_flow_evidence.specs.calls.Evidence as calls
-use Rattle.spv_type_evidence.specs.capabilities.Evidence as capabilities
+use Rattle.spv_form_evidence.specs.capabilities.Evidence as capabilities
 use Rattle.spv_type_evidence.specs.types.Evidence as types
 
 -- Under the bound of ids, this shows that the rule is broken at the instruction of that number.

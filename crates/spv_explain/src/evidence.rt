@@ -14,12 +14,12 @@ ghost use Rattle.spv_explain.specs.inner.Shown.{IsShownAt};
 use crate::kinds::{is_of_calls, is_of_capabilities, is_of_roles, is_of_values};
 use spv_evidence::Evidence;
 use spv_flow_evidence::{branch_evidence, call_evidence, walk_evidence};
-use spv_form_evidence::{id_evidence, layout_evidence, role_evidence};
+use spv_form_evidence::{capability_evidence, id_evidence, layout_evidence, role_evidence};
 use spv_ids::Ids;
 use spv_layout::Plan;
 use spv_module::{Fault, Module};
 use spv_table::{Memory, Table};
-use spv_type_evidence::{capability_evidence, type_evidence};
+use spv_type_evidence::type_evidence;
 use spv_verdict::Reached;
 use std::alloc::Global;
 

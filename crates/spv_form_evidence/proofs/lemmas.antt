@@ -1,3 +1,4 @@
+pub mod capabilities
 pub mod ids
 pub mod layout
 pub mod words

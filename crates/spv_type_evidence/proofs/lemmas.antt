@@ -1,2 +1,1 @@
-pub mod capabilities
 pub mod types

@@ -1,5 +1,0 @@
-use Rattle.spv_type_evidence.specs.capabilities.inner.Imports.{AreNoImportsBefore}
-use Rattle.spv_type_evidence.proofs.capabilities.import.first_import.Given as goal
-
-abbrev pub invariant-loop-k : goal.invariant-loop-k
-invariant-loop-k l = AreNoImportsBefore l.survey.insts l.linkage l.number l.k
