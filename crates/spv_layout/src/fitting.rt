@@ -1,6 +1,6 @@
 //! Whether an instruction fits its row.
 
-ghost use Rattle.std.specs.Prelude.{◌≡◌, ◌<◌, ◌+◌, ◌*◌, ◌&&◌, [], ◌∷◌, true, length, map, Some, IfSome, IfNone};
+ghost use Rattle.std.specs.Prelude.{◌≡◌, ◌≢◌, ◌<◌, ◌+◌, ◌*◌, ◌&&◌, [], ◌∷◌, true, length, map, Some, IfSome, IfNone};
 ghost use Rattle.spv_table.specs.Table.{Table};
 ghost use Rattle.spv_layout.specs.Place.{section_of, word_count};
 ghost use Rattle.spv_module.specs.Module.{plain_inst, plain_operand};
@@ -289,8 +289,32 @@ fn are_free(kinds: &Kinds<'_>, operands: &[Operand<'_>]) -> bool
     true
 }
 
-/// Whether operands are all of a form.
+/// Whether an operand is of a form that asks for a sort alone.
+#[inline(always)]
+fn has_sort(form: Form, operand: Operand<'_>) -> bool
+    requires { sort_for form ≢ 8 }
+    ensures { (G : Table) → result ≡ is_of G form (plain_operand operand.entry) }
+{
+    sort(operand) == sort_asked(form)
+}
+
+/// Whether operands are all of a form: mostly of one that asks for a sort alone.
 fn are_all(kinds: &Kinds<'_>, form: Form, operands: &[Operand<'_>]) -> bool
+    ensures { result ≡ are_rounds kinds.now (form ∷ []) [] (map plain_operand operands.now) }
+{
+    if sort_asked(form) == 8 {
+        return are_all_of(kinds, form, operands);
+    }
+    for operand in operands {
+        if !has_sort(form, *operand) {
+            return false;
+        }
+    }
+    true
+}
+
+/// Whether operands are all of a form, whatever it asks for.
+fn are_all_of(kinds: &Kinds<'_>, form: Form, operands: &[Operand<'_>]) -> bool
     ensures { result ≡ are_rounds kinds.now (form ∷ []) [] (map plain_operand operands.now) }
 {
     for operand in operands {
@@ -353,6 +377,17 @@ fn have_ending(kinds: &Kinds<'_>, row: &Row, operands: &[Operand<'_>]) -> bool
     }
 }
 
+/// Whether it is told at once that an operand is of a form that asks for a kind.
+#[inline(always)]
+fn is_kind_told(kinds: &Kinds<'_>, form: Form, operand: Operand<'_>) -> bool
+    ensures { result ≡ true → is_of kinds.now form (plain_operand operand.entry) ≡ true }
+{
+    match form {
+        Form::Kind(kind) => is_of_kind(kinds, kind, operand),
+        _ => false,
+    }
+}
+
 /// Whether it is told at once that operands are one of a form and any number of others that are neither types nor
 /// results, or none.
 #[inline(always)]
@@ -361,7 +396,7 @@ fn is_first_told(kinds: &Kinds<'_>, form: Form, operands: &[Operand<'_>]) -> boo
 {
     match operands {
         [] => true,
-        [first, rest @ ..] => is_told(kinds, form, *first) && are_free(kinds, rest),
+        [first, rest @ ..] => is_kind_told(kinds, form, *first) && are_free(kinds, rest),
     }
 }
 
