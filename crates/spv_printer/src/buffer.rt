@@ -24,6 +24,7 @@ pub fn put_octets(buffer: &mut [u8], octets: &[u8], end: usize) -> usize
 }
 
 /// Puts ` %7` before a place, and gives where it begins.
+#[inline(always)]
 fn put_id(buffer: &mut [u8], id: u32, end: usize) -> usize
     requires room { 16 ≤ end }
     requires within { end ≤ length buffer.old }
@@ -37,6 +38,7 @@ fn put_id(buffer: &mut [u8], id: u32, end: usize) -> usize
 }
 
 /// Puts ` 7` before a place, and gives where it begins.
+#[inline(always)]
 fn put_word(buffer: &mut [u8], word: u32, end: usize) -> usize
     requires room { 16 ≤ end }
     requires within { end ≤ length buffer.old }

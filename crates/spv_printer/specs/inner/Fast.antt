@@ -202,7 +202,8 @@ pub record IsNameAdded (name : List ℕ) (d next : Draft) (old new : List ℕ) :
 
 -- The line of an instruction, after any that have the definitions, was added to a text; what is kept of the instruction
 -- is its own, and it declares no width.
-pub record IsListedLine (G : Table) (defined : Definitions) (i : PlainInst) (d : Draft) (old new : List ℕ) : Type 0 where
+pub record IsListedLine (G : Table) (defined : Definitions) (i : PlainInst) (d : Draft)
+    (old new : List ℕ) : Type 0 where
   pub text : (before : List PlainInst) (further line : List ℕ) → Knows defined before
       → IsShownLine G before i further line → new ≡ old ++ (line ++ (10 ∷ []))
   pub result : result_in i.operands ≡ d.result
