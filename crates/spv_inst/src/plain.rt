@@ -1,6 +1,6 @@
 //! Operands of one word.
 
-ghost use Rattle.std.specs.Prelude.{◌≡◌, ℕ, List, Some, ◌≤◌, ◌<◌, ◌+◌, ◌-◌, ◌++◌, ◌∷◌, []};
+ghost use Rattle.std.specs.Prelude.{◌≡◌, ℕ, List, Some, ◌≤◌, ◌<◌, ◌+◌, ◌-◌, ◌∷◌, []};
 ghost use Rattle.std.specs.Prelude.{true, length, map, take, drop, IfOk, IfSome, MatchOption, vec_len, vec_capacity};
 ghost use Rattle.spv_table.specs.Table.{Table, Item, kind_of};
 ghost use Rattle.spv_table.specs.declared.form.Form.TheVariants.{Leaf as LeafForm};
@@ -66,7 +66,7 @@ pub fn next_kind<'t>(kinds: &'t [u32], items: DueItems<'t>, more: bool) -> Optio
 
 /// The operand that a word is, where a kind asks for an id or a literal of one word.
 #[inline(always)]
-pub fn bare_word<'a>(leaf: Leaf, word: u32) -> Option<Operand<'a>>
+fn bare_word<'a>(leaf: Leaf, word: u32) -> Option<Operand<'a>>
     ensures { (G : Table) (c : Context) (kind : ℕ) → form_at (kind_of G kind) ≡ LeafForm leaf
         → IfSome result (λ o. Takes kind (shape_of G c (alone kind)) (plain_operand o) (word ∷ []) []) }
 {
@@ -100,7 +100,8 @@ pub struct Plain<'t, 'a> {
     pub kinds: &'t [u32],
 }
 
-/// The same as `mask_kinds`, in a body of its own, which those loops call that read few masks.
+/// What `mask_kinds` answers, by a call: few operands are masks, and the loops that read operands do better without its
+/// loop in them.
 #[inline(never)]
 fn known_mask_kinds<'t>(table: &'t Table, kind: u32, mask: u32) -> Option<&'t [u32]>
     ensures { IfSome result (λ ks. mask_parameters (enumerants_at (kind_of table.now kind)) mask ≡ Some ks.now) }

@@ -1,7 +1,7 @@
 //! Operands that are taken one after another, with their parameters.
 
-ghost use Rattle.std.specs.Prelude.{◌≡◌, ℕ, List, ◌≤◌, ◌<◌, ◌+◌, ◌-◌, ◌∷◌};
-ghost use Rattle.std.specs.Prelude.{[], true, Some, length, map, take, drop, IfSome, vec_len, vec_capacity};
+ghost use Rattle.std.specs.Prelude.{◌≡◌, ℕ, List, ◌≤◌, ◌<◌, ◌+◌, ◌-◌};
+ghost use Rattle.std.specs.Prelude.{[], Some, length, map, take, drop, IfSome, vec_len, vec_capacity};
 ghost use Rattle.spv_table.specs.Table.{Item, kind_of};
 ghost use Rattle.spv_table.specs.declared.form.Form.TheVariants.{Leaf as LeafForm};
 ghost use Rattle.spv_table.specs.inner.Form.{form_of, form_at};
@@ -11,8 +11,7 @@ ghost use Rattle.spv_module.specs.Shape.{alone, shape_of};
 ghost use Rattle.spv_module.specs.Spelling.{Takes};
 ghost use Rattle.spv_inst.specs.inner.Known.{Knows};
 ghost use Rattle.spv_inst.specs.inner.Reading.{between};
-ghost use Rattle.spv_inst.specs.inner.Pending.{settled, due_first};
-ghost use Rattle.spv_inst.specs.Flat.{OneOf};
+ghost use Rattle.spv_inst.specs.inner.Pending.{due_first};
 ghost use Rattle.spv_inst.specs.inner.Sofar.{SofarAt};
 
 use crate::enumerant::joined;
