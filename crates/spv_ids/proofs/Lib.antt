@@ -6,7 +6,7 @@ mod Steps
 mod Leasts
 mod Broke
 mod Scopes
-mod Used
+pub mod Used
 mod Starts
 mod Sound
 mod Opens

@@ -435,3 +435,11 @@ told_use G is n to x f u =
           let q' : slice_get i.operands u.place ≡ Some u.operand = rw (seen_other i h) at q in
           use_by G is n u.place x i u.operand fs u.there has q' u.used (λ g p. seen_there fs u.place g (forms_seen G i fs has h) p)
     ]
+
+-- Of another opcode each operand that is such an id is a use.
+pub id_used : (G : Table) (i : PlainInst) (k x : ℕ) (o : Plain) (f : FitsShape G i) → (i.opcode ≡ opcode.EXT_INST → ⊥) → slice_get i.operands k ≡ Some o → used_id o ≡ Some x
+    → (r : Role) × IsUse G i k x r
+id_used G i k x o f n a u =
+    let t = form_there G f.forms i.operands k o f.has.each a in
+    let r = used_role G t.form o x t.fits u (seen_there f.forms k t.form (forms_seen G i f.forms f.has n) t.there) in
+    (r.role, record { forms = f.forms; has = f.has; form = t.form; operand = o; form_at = t.there; operand_at = a; role = r.has; id = r.id })

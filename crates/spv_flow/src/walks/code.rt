@@ -23,7 +23,7 @@ pub struct Code<'m, 'a> {
 }
 
 impl Code<'_, '_> {
-    ghost use Rattle.std.specs.Prelude.{◌≡◌, ◌<◌, ℕ, length, IfSome, MatchOption, MatchBool};
+    ghost use Rattle.std.specs.Prelude.{◌≡◌, ◌<◌, ℕ, length, IsTrue, IfSome, MatchOption, MatchBool};
     ghost use Rattle.spv_table.specs.Table.{Table};
     ghost use Rattle.spv_flow.specs.walks.inner.Code.{insts_of, IsCode};
     ghost use Rattle.spv_flow.specs.branches.Target.{IsLabelOf};
@@ -77,6 +77,15 @@ impl Code<'_, '_> {
         } else {
             None
         }
+    }
+
+    /// Whether an instruction stands before the first function. Its result is no local value.
+    #[inline(always)]
+    pub fn is_global(&self, place: u32) -> bool
+        ensures { (G : Table) (x : ℕ) → IsCode G self.now → IsDefinedAt (insts_of self.now) x place
+            → IsTrue result → ¬ (IsLocalValue (insts_of self.now) x) }
+    {
+        place < self.globals
     }
 
     /// Whether the result of an instruction is a local value.

@@ -11,6 +11,7 @@ ghost use Rattle.spv_layout.specs.declared.form.Role.TheVariants as role;
 use crate::branches;
 use spv_ids::used_id;
 use spv_layout::{Role, id_at, role};
+use spv_module::opcode::EXT_INST;
 use spv_module::{Inst, Operand};
 
 /// The id that operand `n` of a list is, if it is one and no result: only such operands are uses.
@@ -72,6 +73,10 @@ pub fn used(inst: &Inst<'_>, n: usize) -> Option<u32>
         → MatchOption result ((x : ℕ) (r : declared.Role) → ¬ (IsUse G (plain_inst inst.now) n x r))
         (λ x. (r : declared.Role) × IsUse G (plain_inst inst.now) n x r) }
 {
+    if inst.opcode != EXT_INST {
+        // Each id but a result is a use.
+        return other_id(inst, n);
+    }
     match role(inst, n) {
         Some(_) => id_at(inst, n),
         None => None,

@@ -73,6 +73,9 @@ pub fn use_query(
         (λ a. IsUseQuery G (insts_of code.now) blocks.now.starts.now block at n a) }
 {
     let value = code.definition(id)?;
+    if code.is_global(value) {
+        return None;
+    }
     let start = blocks.starts[block as usize];
     if start <= value && value < at {
         return None;
@@ -258,6 +261,7 @@ fn add_block(
 }
 
 /// Adds what is asked for the instructions of a function.
+#[inline(never)]
 pub fn add_all(
     code: &Code<'_, '_>,
     blocks: &Blocks<'_>,

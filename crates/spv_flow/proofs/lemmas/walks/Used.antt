@@ -1,5 +1,5 @@
 -- The ids among the operands of an instruction, by role.
-use Rattle.std.proofs.Common.{◌≡◌, ◌∙◌, ℕ, zero, suc, List, true, Option, Some, None, map, ap, subst}
+use Rattle.std.proofs.Common.{◌≡◌, ◌∙◌, ℕ, zero, suc, List, refl, sym, true, Option, Some, None, map, ap, subst}
 use Rattle.std.specs.Prelude.{slice_get, option_and_then, MatchOption}
 use Rattle.spv_table.specs.Table.{Table}
 use Rattle.spv_module.specs.Operand.{Plain, PlainInst}
@@ -10,10 +10,12 @@ use Rattle.spv_layout.specs.declared.form.Role.{Role}
 use Rattle.spv_layout.specs.declared.form.Role.TheVariants.{Value}
 use Rattle.spv_layout.specs.declared.form.Form.{Form}
 use Rattle.spv_layout.specs.declared.form.Form.TheVariants as form
-use Rattle.spv_layout.specs.Shape.{is_of, AreOf, IsUse, IsRole, role_of, id_of}
+use Rattle.spv_module.specs.declared.opcode.TheConstants as opcode
+use Rattle.spv_layout.specs.Shape.{is_of, AreOf, FitsShape, IsUse, IsRole, role_of, id_of}
 use Rattle.spv_layout.proofs.Shapes.{use_same}
 use Rattle.spv_ids.specs.Definition.{IsDefinedAt}
 use Rattle.spv_ids.specs.inner.Uses.{used_id}
+use Rattle.spv_ids.proofs.Used.{id_used}
 use Rattle.spv_flow.proofs.lemmas.branches.Labelled.{use_in}
 use Rattle.spv_flow.specs.walks.inner.Due.{IsFoundAt}
 
@@ -53,6 +55,17 @@ use_other : (G : Table) (i : PlainInst) (n x : ℕ) (r : Role) → IsUse G i n x
 use_other G i n x r u =
     let k = of_form G u.forms i.operands n u.form u.operand u.has.each u.form_at u.operand_at in
     ap (option_and_then used_id) u.operand_at ∙ role_used G u.form u.operand r x k u.role u.id
+
+-- an operand from which an id comes
+some_operand : (p : Option Plain) (x : ℕ) → Some x ≡ option_and_then used_id p → (o : Plain) × (p ≡ Some o) × (used_id o ≡ Some x)
+some_operand None x h = cc
+some_operand (Some o) x h = (o, refl, sym h)
+
+-- of another opcode than OpExtInst's each operand that is such an id is a use
+pub used_all : (G : Table) (i : PlainInst) (n : ℕ) (o : Option ℕ) → FitsShape G i → (i.opcode ≡ opcode.EXT_INST → ⊥) → o ≡ option_and_then used_id (slice_get i.operands n)
+    → MatchOption o ((x : ℕ) (q : Role) → ¬ (IsUse G i n x q)) (λ x. (q : Role) × IsUse G i n x q)
+used_all G i n None f k e = λ x r u. (let t = use_other G i n x r u in cc)
+used_all G i n (Some x) f k e = let p = some_operand (slice_get i.operands n) x e in id_used G i n x p.0 f k p.1 p.2
 
 -- where an operand is no such id, nothing is used
 pub none_found : (G : Table) (is : List PlainInst) (m n : ℕ) (i : PlainInst) → slice_get is m ≡ Some i → None ≡ option_and_then used_id (slice_get i.operands n) → IsFoundAt G is m n None

@@ -13,6 +13,13 @@ returns-in_err-value c = λ G is.
     let found = found_by G (insts_of code) c.args.at c.args.n c.args.id k.0 k.1 k.2 None (c.in_err-value.ensures.there G is) in
     rw c.from_residual.ensures (no_use G code c.args.blocks.now.starts.now c.args.block c.args.at c.args.n found)
 
+pub returns-then-is_global : goal.returns-then-is_global
+returns-then-is_global c = λ G is.
+    let code = c.args.code.now in
+    let k = c.requires.id in
+    let found = found_by G (insts_of code) c.args.at c.args.n c.args.id k.0 k.1 k.2 (Some c.in_ok-value.value) (c.in_ok-value.ensures.there G is) in
+    no_value G code c.args.blocks.now.starts.now c.args.block c.args.at c.args.n c.in_ok-value.value found (λ y at. c.is_global.ensures G y is at c.if-is_global.true)
+
 pub returns-then-value-at : goal.returns-then-value-at
 returns-then-value-at c = λ G is.
     let code = c.args.code.now in
