@@ -1,6 +1,6 @@
 //! Whether an instruction fits its row.
 
-ghost use Rattle.std.specs.Prelude.{◌≡◌, ◌≢◌, ◌<◌, ◌+◌, ◌*◌, ◌&&◌, [], ◌∷◌, true, length, map, Some, IfSome, IfNone};
+ghost use Rattle.std.specs.Prelude.{◌≡◌, ◌<◌, ◌+◌, ◌*◌, ◌&&◌, [], ◌∷◌, true, length, map, Some, IfSome, IfNone};
 ghost use Rattle.spv_table.specs.Table.{Table};
 ghost use Rattle.spv_layout.specs.Place.{section_of, word_count};
 ghost use Rattle.spv_module.specs.Module.{plain_inst, plain_operand};
@@ -98,7 +98,7 @@ fn is_of_form(kinds: &Kinds<'_>, form: Form, operand: Operand<'_>) -> bool
     }
 }
 
-/// Whether an operand is of a form, one that is seldom asked for.
+/// Whether an operand is of a form, where its sort does not tell.
 #[cold]
 #[inline(never)]
 fn is_of_rare_form(kinds: &Kinds<'_>, form: Form, operand: Operand<'_>) -> bool
@@ -112,10 +112,10 @@ fn is_of_rare_form(kinds: &Kinds<'_>, form: Form, operand: Operand<'_>) -> bool
 fn has_form(kinds: &Kinds<'_>, form: Form, operand: Operand<'_>) -> bool
     ensures { result ≡ is_of kinds.now form (plain_operand operand.entry) }
 {
-    match form {
-        Form::Kind(kind) => is_of_kind(kinds, kind, operand),
-        Form::Other => is_of_rare_form(kinds, form, operand),
-        _ => sort(operand) == sort_asked(form),
+    if sort(operand) == sort_asked(form) {
+        true
+    } else {
+        is_of_rare_form(kinds, form, operand)
     }
 }
 
@@ -289,32 +289,8 @@ fn are_free(kinds: &Kinds<'_>, operands: &[Operand<'_>]) -> bool
     true
 }
 
-/// Whether an operand is of a form that asks for a sort alone.
-#[inline(always)]
-fn has_sort(form: Form, operand: Operand<'_>) -> bool
-    requires { sort_for form ≢ 8 }
-    ensures { (G : Table) → result ≡ is_of G form (plain_operand operand.entry) }
-{
-    sort(operand) == sort_asked(form)
-}
-
-/// Whether operands are all of a form: mostly of one that asks for a sort alone.
+/// Whether operands are all of a form.
 fn are_all(kinds: &Kinds<'_>, form: Form, operands: &[Operand<'_>]) -> bool
-    ensures { result ≡ are_rounds kinds.now (form ∷ []) [] (map plain_operand operands.now) }
-{
-    if sort_asked(form) == 8 {
-        return are_all_of(kinds, form, operands);
-    }
-    for operand in operands {
-        if !has_sort(form, *operand) {
-            return false;
-        }
-    }
-    true
-}
-
-/// Whether operands are all of a form, whatever it asks for.
-fn are_all_of(kinds: &Kinds<'_>, form: Form, operands: &[Operand<'_>]) -> bool
     ensures { result ≡ are_rounds kinds.now (form ∷ []) [] (map plain_operand operands.now) }
 {
     for operand in operands {
