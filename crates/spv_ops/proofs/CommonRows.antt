@@ -90,3 +90,7 @@ branch_typed is n i x holds (Id y ∷ Id l ∷ Id m ∷ []) o e f h =
     let same : y ≡ x = cc in
     branch_of is n i y l m holds e o (subst (λ (z : ℕ). IsTrue holds ↔ IsSomeAnd (types_of is (z ∷ [])) (IsCondition is)) (sym same) h)
 branch_typed is n i x holds os o e f h = cc
+
+-- nothing is asked of an instruction that has no row
+pub free_typed : (is : List PlainInst) (n : ℕ) (i : PlainInst) → row_of i.opcode ≡ row.Free → IsTypedIn is n i
+free_typed is n i e = rw e tt

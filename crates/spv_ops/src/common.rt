@@ -22,7 +22,9 @@ pub enum Common {
     Load,
     Store,
     BranchConditional,
-    /// Another row, or none.
+    /// No row: an instruction of which the table says nothing.
+    Free,
+    /// Another row.
     Other,
 }
 
@@ -36,6 +38,7 @@ pub fn common_row(opcode: u16) -> Common
         Row::Access(Access::Load) => Common::Load,
         Row::Access(Access::Store) => Common::Store,
         Row::BranchConditional => Common::BranchConditional,
+        Row::Free => Common::Free,
         _ => Common::Other,
     }
 }

@@ -219,6 +219,7 @@ pub fn inst_holds(definitions: &Definitions, number: u32, inst: &Inst) -> bool
         Common::Load => load_row_holds(definitions, number, inst),
         Common::Store => store_row_holds(definitions, number, inst),
         Common::BranchConditional => branch_row_holds(definitions, number, inst),
+        Common::Free => true,
         Common::Other => row_holds(definitions, number, inst),
     }
 }

@@ -5,7 +5,7 @@ use Rattle.spv_type_forms.specs.Types.{IsBool}
 use Rattle.spv_ops.specs.declared.common.Binary.{Binary as Ids}
 use Rattle.spv_ops.specs.declared.common.Two.{Two}
 use Rattle.spv_ops.specs.declared.common.Common.{Common}
-use Rattle.spv_ops.specs.declared.common.Common.TheVariants.{Binary, Load, Store, BranchConditional, Other}
+use Rattle.spv_ops.specs.declared.common.Common.TheVariants.{Binary, Load, Store, BranchConditional, Free, Other}
 use Rattle.spv_ops.specs.declared.row.Row.{Row}
 use Rattle.spv_ops.specs.declared.row.Row.TheVariants as row
 use Rattle.spv_ops.specs.declared.row.Calculation.TheVariants as calculation
@@ -17,6 +17,7 @@ IsCommon (Binary s) r = r ≡ row.Calculation (calculation.Binary s)
 IsCommon Load r = r ≡ row.Access access.Load
 IsCommon Store r = r ≡ row.Access access.Store
 IsCommon BranchConditional r = r ≡ row.BranchConditional
+IsCommon Free r = r ≡ row.Free
 IsCommon Other r = Unit {0}
 
 -- the types are that of a condition alone
