@@ -54,10 +54,17 @@ pub struct Known {
 }
 
 impl<'m, 'a> Rules<'m, 'a> {
-    /// The rules of a module. `plan` and `ids` are what `lay_out` and `number` answered of it.
-    pub fn new(module: &'m Module<'a>, plan: &'m Plan, ids: &'m Ids) -> Rules<'m, 'a>
+    /// The rules of a module. `plan` and `ids` are what `lay_out` and `number` answered of it, and `definitions` are
+    /// its own.
+    pub fn new(
+        module: &'m Module<'a>,
+        plan: &'m Plan,
+        ids: &'m Ids,
+        definitions: Definitions<'m, 'a>,
+    ) -> Rules<'m, 'a>
         requires plan { (G : Table) × IsPlan G (plain_insts «module».now) plan.now }
         requires ids { (x : ℕ) → IsDefinitionOf (plain_insts «module».now) x (definition_in ids.now x) }
+        requires definitions { definitions ≡ plain_insts «module».now }
         ensures rules { AreRules result }
         ensures insts { rules_insts result ≡ plain_insts «module».now }
         ensures plan { result.plan.now ≡ plan.now }
@@ -66,7 +73,7 @@ impl<'m, 'a> Rules<'m, 'a> {
             module,
             plan,
             ids,
-            definitions: Definitions::new(module.insts.as_slice(), plan, ids),
+            definitions,
         }
     }
 

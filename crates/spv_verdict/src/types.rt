@@ -11,8 +11,10 @@ ghost use Rattle.spv_verdict.specs.types.Broken.{Broken};
 ghost use Rattle.spv_verdict.specs.types.Outcome.{AreTypes, IsRefusal, type_in};
 
 pub mod laws;
+mod listed;
 mod pass;
 
+use crate::types::listed::meanings_of;
 use crate::types::pass::first_fault;
 use spv_capabilities::survey;
 use spv_ids::Ids;
@@ -85,13 +87,18 @@ pub fn type_check<'m, 'a>(
     ensures refused { IfErr result (λ s. IsRefusal table.now (plain_insts «module».now) s) }
 {
     let insts = module.insts.as_slice();
-    if let Err(fault) = roles_check(module, plan, ids) {
+    let definitions = Definitions::new(insts, plan, ids);
+    let Ok(meanings) = meanings_of(alloc, &definitions, plan, insts.len()) else {
+        return Err(Stop::Memory);
+    };
+    let noted = definitions.noted(meanings.as_slice());
+    if let Err(fault) = roles_check(module, &noted) {
         return Err(Stop::Fault(fault));
     }
     let Ok(mut entries) = survey(alloc, table, module, plan, ids) else {
         return Err(Stop::Memory);
     };
-    let rules = Rules::new(module, plan, ids);
+    let rules = Rules::new(module, plan, ids, noted);
     match first_fault(alloc, insts, &mut entries, &rules) {
         Ok(None) => {}
         Ok(Some(found)) => return Err(plan.stop_at(found.rule, found.inst)),

@@ -1,3 +1,4 @@
 pub mod Casting
 pub mod Worked
 pub mod Asking
+pub mod Noted

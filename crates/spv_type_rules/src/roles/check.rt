@@ -1,13 +1,13 @@
-ghost use Rattle.std.specs.Prelude.{◌≡◌, ◌<◌, ℕ, length, Some};
+ghost use Rattle.std.specs.Prelude.{◌≡◌, List, length};
 ghost use Rattle.std.specs.Prelude.{OnOk, IfErr, MatchBool};
 ghost use Rattle.spv_table.specs.Table.{Table};
 ghost use Rattle.spv_module.specs.Module.{plain_inst, plain_insts, plain_operands};
 ghost use Rattle.spv_layout.specs.First.{IsUnbroken};
+ghost use Rattle.spv_layout.specs.declared.place.Place.{Place};
 ghost use Rattle.spv_layout.specs.Place.{IsShort};
 ghost use Rattle.spv_layout.specs.Stage.{of_roles};
 ghost use Rattle.spv_layout.specs.Plan.{IsPlan};
 ghost use Rattle.spv_layout.specs.Shape.{FitsShape};
-ghost use Rattle.spv_ids.specs.Outcome.{IsDefinitionOf, definition_in};
 ghost use Rattle.spv_type_rules.specs.roles.inner.Asked.{ArePlayed, IsOneMiscast};
 ghost use Rattle.spv_type_rules.specs.roles.Broken.{Broken};
 ghost use Rattle.spv_type_rules.specs.roles.inner.Known as known;
@@ -16,8 +16,8 @@ ghost use Rattle.spv_type_rules.specs.roles.Outcome.{AreInRole, IsRefusal};
 
 use crate::roles::asked::{Asked, asked_of};
 use crate::roles::role::{are_type_and, are_values, defines_type, is_type_id, plays};
-use spv_ids::{Ids, used_id};
-use spv_layout::{Plan, Role, role};
+use spv_ids::used_id;
+use spv_layout::{Role, role};
 use spv_module::{Fault, Inst, Module, Operand, Rule};
 use spv_type_forms::Definitions;
 
@@ -202,30 +202,28 @@ fn are_in_role(definitions: &Definitions<'_, '_>, inst: &Inst<'_>) -> bool
 
 /// Whether each use of a module is of an id that plays the role which the use's shape asks for (own; SPIR-V
 /// Specification 1.6, sections 2.2.1 and 2.16): a type declaration, a value (an instruction with a result type, other
-/// than OpFunction), an OpFunction, an OpString, an OpExtInstImport, or an OpVariable outside functions. `plan` and
-/// `ids` are what `lay_out` and `number` answered of that module.
+/// than OpFunction), an OpFunction, an OpString, an OpExtInstImport, or an OpVariable outside functions. `definitions`
+/// are those of that module.
 ///
 /// Time is linear in the words of the module. It takes no memory.
 ///
 /// A `Fault` tells Y1 at the first instruction with a use that is not in its role, and that instruction's first word
 /// (words and instructions from 0).
-pub fn roles_check(module: &Module<'_>, plan: &Plan, ids: &Ids) -> Result<(), Fault>
-    // The condition of `lay_out`, and that the plan and the ids are what was answered of the module.
+pub fn roles_check(module: &Module<'_>, definitions: &Definitions<'_, '_>) -> Result<(), Fault>
+    // The condition of `lay_out`.
     requires words { IsShort (plain_insts «module».now) }
-    requires plan { (G : Table) × IsPlan G (plain_insts «module».now) plan.now }
-    requires ids { (x : ℕ) → IsDefinitionOf (plain_insts «module».now) x (definition_in ids.now x) }
+    requires definitions { definitions.now ≡ plain_insts «module».now }
     // Each use is in its role, so the rule is broken nowhere.
-    ensures roles { (G : Table) → IsPlan G (plain_insts «module».now) plan.now
+    ensures roles { (G : Table) (plan : List Place) → IsPlan G (plain_insts «module».now) plan
         → OnOk result (AreInRole G (plain_insts «module».now)) }
-    ensures unbroken { (G : Table) → IsPlan G (plain_insts «module».now) plan.now
+    ensures unbroken { (G : Table) (plan : List Place) → IsPlan G (plain_insts «module».now) plan
         → OnOk result (IsUnbroken (Broken G (plain_insts «module».now)) of_roles) }
-    ensures refused { (G : Table) → IsPlan G (plain_insts «module».now) plan.now
+    ensures refused { (G : Table) (plan : List Place) → IsPlan G (plain_insts «module».now) plan
         → IfErr result (λ f. IsRefusal G (plain_insts «module».now) f) }
 {
     let insts = module.insts.as_slice();
-    let definitions = Definitions::new(insts, plan, ids);
     for n in 0..insts.len() {
-        if !are_in_role(&definitions, &insts[n]) {
+        if !are_in_role(definitions, &insts[n]) {
             return Err(Fault {
                 rule: Rule::Y1,
                 inst: n as u32,

@@ -36,9 +36,9 @@ fn has_opcode(definitions: &Definitions<'_, '_>, id: u32, wanted: u16) -> bool
     }
 }
 
-/// Whether the definition of an id is a type declaration.
-#[inline(always)]
-pub fn defines_type(definitions: &Definitions<'_, '_>, id: u32) -> bool
+/// Whether the definition of an id is a type declaration, by that instruction.
+#[inline(never)]
+fn reads_type(definitions: &Definitions<'_, '_>, id: u32) -> bool
     ensures { IsTrue result ↔ IsSomeAnd (definition_of definitions.now id) IsTypeDeclaration }
 {
     match definitions.definition(id) {
@@ -47,15 +47,37 @@ pub fn defines_type(definitions: &Definitions<'_, '_>, id: u32) -> bool
     }
 }
 
-/// Whether the definition of an id is a value.
+/// Whether the definition of an id is a type declaration. What is noted of the id is looked at first.
 #[inline(always)]
-fn defines_value(definitions: &Definitions<'_, '_>, id: u32) -> bool
+pub fn defines_type(definitions: &Definitions<'_, '_>, id: u32) -> bool
+    ensures { IsTrue result ↔ IsSomeAnd (definition_of definitions.now id) IsTypeDeclaration }
+{
+    if definitions.is_noted_type(id) {
+        return true;
+    }
+    reads_type(definitions, id)
+}
+
+/// Whether the definition of an id is a value, by that instruction.
+#[inline(never)]
+fn reads_value(definitions: &Definitions<'_, '_>, id: u32) -> bool
     ensures { IsTrue result ↔ IsSomeAnd (definition_of definitions.now id) IsValue }
 {
     match definitions.definition(id) {
         Some(inst) => is_value(inst),
         None => false,
     }
+}
+
+/// Whether the definition of an id is a value. What is noted of the id is looked at first.
+#[inline(always)]
+fn defines_value(definitions: &Definitions<'_, '_>, id: u32) -> bool
+    ensures { IsTrue result ↔ IsSomeAnd (definition_of definitions.now id) IsValue }
+{
+    if definitions.is_noted_value(id) {
+        return true;
+    }
+    reads_value(definitions, id)
 }
 
 /// Whether the definitions of two ids are values.

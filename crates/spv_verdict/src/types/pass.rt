@@ -1,12 +1,11 @@
 //! The instructions of a module, one after another.
 
-ghost use Rattle.std.specs.Prelude.{◌≡◌, ◌≤◌, ◌↔◌, ℕ, IfOk, IsTrue, MatchOption, Some, length, map, slice_get};
+ghost use Rattle.std.specs.Prelude.{◌≡◌, ◌↔◌, ℕ, IfOk, IsTrue, MatchOption, Some, length, map, slice_get};
 ghost use Rattle.spv_table.specs.Table.{Table};
 ghost use Rattle.spv_module.specs.Module.{plain_inst};
 ghost use Rattle.spv_layout.specs.Place.{AreFew};
 ghost use Rattle.spv_layout.specs.Plan.{IsPlan};
 ghost use Rattle.spv_capabilities.specs.inner.Subject as subject;
-ghost use Rattle.spv_type_forms.specs.inner.Meaning.{AreMeant};
 ghost use Rattle.spv_type_rules.specs.Repeat.{Repeats};
 ghost use Rattle.spv_type_rules.specs.inner.Counted.{AreCounted};
 ghost use Rattle.spv_type_rules.specs.inner.Rules.{AreRules, rules_insts};
@@ -16,7 +15,6 @@ use spv_capabilities::Entries;
 use spv_module::{Inst, Rule};
 use spv_ops::inst_holds;
 use spv_table::Memory;
-use spv_type_forms::{Definitions, Meaning};
 use spv_type_rules::{Known, Rules, Seen, is_operation, next_count};
 use std::alloc::Global;
 
@@ -31,13 +29,11 @@ pub struct Found {
 #[inline(always)]
 fn first_of_types<'a>(
     rules: &Rules<'_, 'a>,
-    definitions: &Definitions<'_, 'a>,
     number: u32,
     inst: &Inst<'a>,
     known: Known,
 ) -> Option<Rule>
     requires rules { AreRules rules.now }
-    requires definitions { definitions.now ≡ rules_insts rules.now }
     requires inst { slice_get (rules_insts rules.now) number ≡ Some (plain_inst inst.now) }
     requires repeats { IsTrue known.repeats ↔ Repeats (rules_insts rules.now) number (plain_inst inst.now) }
     requires parameters { AreCounted (rules_insts rules.now) number known.parameters }
@@ -47,28 +43,25 @@ fn first_of_types<'a>(
     if !is_operation(inst.opcode) {
         return rules.first_at(number, inst, known);
     }
-    if inst_holds(definitions, number, inst) {
+    if inst_holds(rules.definitions(), number, inst) {
         None
     } else {
         Some(Rule::Y5)
     }
 }
 
-/// The first rule that is broken after Y1, by instruction and then by rule. `definitions` are those of the module, with
-/// what is noted of its ids.
+/// The first rule that is broken after Y1, by instruction and then by rule.
 ///
 /// `Memory` comes only where a growth of memory was refused.
-fn first_fault_noted<'m, 'a>(
+pub fn first_fault<'a>(
     alloc: Global,
     insts: &[Inst<'a>],
-    entries: &mut Entries<'m, 'a>,
-    rules: &Rules<'m, 'a>,
-    definitions: &Definitions<'_, 'a>,
+    entries: &mut Entries<'_, 'a>,
+    rules: &Rules<'_, 'a>,
 ) -> Result<Option<Found>, Memory>
     requires most { AreFew insts.now }
     requires rules { AreRules rules.now }
     requires judged { rules_insts rules.now ≡ map plain_inst insts.now }
-    requires definitions { definitions.now ≡ map plain_inst insts.now }
     requires surveyed { entries.old.insts ≡ map plain_inst insts.now }
     requires plan { IsPlan entries.old.table (map plain_inst insts.now) rules.now.plan.now }
     ensures { IfOk result (λ o. MatchOption o (AreKept entries.old.table (map plain_inst insts.now) (length insts.now))
@@ -85,66 +78,10 @@ fn first_fault_noted<'m, 'a>(
             repeats: seen.repeats(alloc, inst)?,
             parameters,
         };
-        if let Some(rule) = first_of_types(rules, definitions, n, inst, known) {
+        if let Some(rule) = first_of_types(rules, n, inst, known) {
             return Ok(Some(Found { rule, inst: n }));
         }
         parameters = next_count(inst, parameters);
     }
     Ok(None)
-}
-
-/// How many instructions a module has at most for a list of what its ids stand for, which takes 16 bytes for each.
-const MOST_LISTED: usize = 1 << 20;
-
-/// Whether a list with a place for each of these instructions is small beside them: they are not too many, and at least
-/// half of them have two operands.
-fn are_listed(insts: &[Inst<'_>]) -> bool {
-    let mut short: usize = 0;
-    for inst in insts {
-        if inst.operands.as_slice().len() < 2 {
-            short = short.saturating_add(1);
-        }
-    }
-    insts.len() <= MOST_LISTED && short <= insts.len() / 2
-}
-
-/// What each id of these instructions stands for; nothing is noted where a list of it would be large beside them.
-///
-/// `Memory` comes only where a growth of memory was refused.
-fn meanings_of(
-    alloc: Global,
-    definitions: &Definitions<'_, '_>,
-    insts: &[Inst<'_>],
-) -> Result<Vec<Meaning>, Memory>
-    requires { AreFew definitions.now }
-    ensures { IfOk result (λ meanings. AreMeant definitions.now meanings.items) }
-{
-    if !are_listed(insts) {
-        return Ok(Vec::new(alloc));
-    }
-    let meanings = definitions.meanings(alloc)?;
-    Ok(meanings)
-}
-
-/// The first rule that is broken after Y1, by instruction and then by rule.
-///
-/// `Memory` comes only where a growth of memory was refused.
-pub fn first_fault<'m, 'a>(
-    alloc: Global,
-    insts: &[Inst<'a>],
-    entries: &mut Entries<'m, 'a>,
-    rules: &Rules<'m, 'a>,
-) -> Result<Option<Found>, Memory>
-    requires most { AreFew insts.now }
-    requires rules { AreRules rules.now }
-    requires judged { rules_insts rules.now ≡ map plain_inst insts.now }
-    requires surveyed { entries.old.insts ≡ map plain_inst insts.now }
-    requires plan { IsPlan entries.old.table (map plain_inst insts.now) rules.now.plan.now }
-    ensures { IfOk result (λ o. MatchOption o (AreKept entries.old.table (map plain_inst insts.now) (length insts.now))
-        (λ f. IsFirstFault entries.old.table (map plain_inst insts.now) f.rule f.inst)) }
-{
-    let definitions = rules.definitions();
-    let meanings = meanings_of(alloc, &definitions, insts)?;
-    let noted = definitions.noted(meanings.as_slice());
-    first_fault_noted(alloc, insts, entries, rules, &noted)
 }

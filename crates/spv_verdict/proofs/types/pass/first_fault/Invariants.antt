@@ -3,7 +3,7 @@ use Rattle.spv_module.specs.Module.{plain_inst}
 use Rattle.spv_type_rules.specs.inner.Seen.{AreSeen}
 use Rattle.spv_type_rules.specs.inner.Counted.{AreCounted}
 use Rattle.spv_verdict.specs.inner.Pass.{AreKept}
-use Rattle.spv_verdict.proofs.types.pass.first_fault_noted.Given as goal
+use Rattle.spv_verdict.proofs.types.pass.first_fault.Given as goal
 
 abbrev pub invariant-loop-n : goal.invariant-loop-n
 invariant-loop-n l = record {
