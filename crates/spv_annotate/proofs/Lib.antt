@@ -27,3 +27,4 @@ pub mod UsePlaces
 pub mod Buffers
 pub mod EdgeCounts
 pub mod ShortIds
+pub mod Links

@@ -179,21 +179,25 @@ id_front (x ∷ t) n r word l f e w h =
     ap option_to_list (h (digits_in t) v) ∙ sym p
 
 -- a part that begins with an id
-pub part_whole : (d : ℕ → Option ℕ) (xs : List ℕ) (n : ℕ) (out mid last word rest : List ℕ) → 1 ≤ length xs → get_or xs 0 0 ≡ 37
+pub word_front : (xs : List ℕ) (n : ℕ) (word : List ℕ) → 1 ≤ length xs → get_or xs 0 0 ≡ 37 → n ≡ prefix_len is_digit (drop 1 xs) → word ≡ take (1 + n) xs → word ≡ 37 ∷ digits_in (drop 1 xs)
+word_front [] n word l f e w = absurd (omega (arith, l))
+word_front (x ∷ t) n word l f e w =
+    let m : 1 + n ≡ suc n = omega arith in
+    let x37 : x ≡ 37 = f in
+    w ∙ (ap (λ z. take z (x ∷ t)) m ∙ (ap (λ z. x ∷ take z t) e ∙ ap (λ z. z ∷ digits_in t) x37))
+
+pub part_whole : (d : ℕ → Option ℕ) (xs : List ℕ) (n : ℕ) (word rest : List ℕ) → 1 ≤ length xs → get_or xs 0 0 ≡ 37
     → n ≡ prefix_len is_digit (drop 1 xs) → word ≡ take (1 + n) xs → rest ≡ drop (1 + n) xs
-    → ((ds : List ℕ) → word ≡ 37 ∷ ds → mid ≡ out ++ id_html (option_and_then d (id_of ds)) word) → last ≡ mid ++ escaped rest
-    → last ≡ out ++ part_html d xs
-part_whole d [] n out mid last word rest l f e w r h g = absurd (omega (arith, l))
-part_whole d (x ∷ t) n out mid last word rest l f e w r h g =
+    → id_html (option_and_then d (id_of (digits_in (drop 1 xs)))) word ++ escaped rest ≡ part_html d xs
+part_whole d [] n word rest l f e w r = absurd (omega (arith, l))
+part_whole d (x ∷ t) n word rest l f e w r =
     let m : 1 + n ≡ suc n = omega arith in
     let x37 : x ≡ 37 = f in
     let o = option_and_then d (id_of (digits_in t)) in
-    let v : word ≡ 37 ∷ digits_in t = w ∙ (ap (λ z. take z (x ∷ t)) m ∙ (ap (λ z. x ∷ take z t) e ∙ ap (λ z. z ∷ digits_in t) x37)) in
+    let v : word ≡ 37 ∷ digits_in t = word_front (x ∷ t) n word l f e w in
     let s : rest ≡ behind_digits t = r ∙ (ap (λ z. drop z (x ∷ t)) m ∙ ap (λ z. drop z t) e) in
-    let a : mid ≡ out ++ id_html o (37 ∷ digits_in t) = h (digits_in t) v ∙ ap (λ z. out ++ id_html o z) v in
     let p : part_html d (x ∷ t) ≡ id_html o (37 ∷ digits_in t) ++ escaped (behind_digits t) = rw x37 refl in
-    g ∙ (ap (λ z. z ++ escaped rest) a ∙ (ap (λ z. (out ++ id_html o (37 ∷ digits_in t)) ++ escaped z) s
-    ∙ (append_assoc out (id_html o (37 ∷ digits_in t)) (escaped (behind_digits t)) ∙ ap (λ z. out ++ z) (sym p))))
+    ap (λ z. id_html o z ++ escaped rest) v ∙ (ap (λ z. id_html o (37 ∷ digits_in t) ++ escaped z) s ∙ sym p)
 
 pub part_plain : (d : ℕ → Option ℕ) (xs out last : List ℕ) → 1 ≤ length xs → (get_or xs 0 0 ≡ 37 → ⊥) → last ≡ out ++ escaped xs → last ≡ out ++ part_html d xs
 part_plain d [] out last l n e = absurd (omega (arith, l))

@@ -15,7 +15,7 @@ pub fn is_mark(byte: u8) -> bool
 }
 
 /// The place of the first such byte.
-fn first_mark(bytes: &[u8]) -> Option<usize>
+pub fn first_mark(bytes: &[u8]) -> Option<usize>
     ensures { IsFirstByte is_marked bytes.now result }
 {
     for (at, byte) in bytes.iter().enumerate() {

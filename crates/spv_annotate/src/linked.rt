@@ -1,19 +1,20 @@
 //! Lines in which ids have links.
 
-ghost use Rattle.std.specs.Prelude.{◌≡◌, ◌++◌, ◌∷◌, ◌≤◌, ◌<◌, ℕ, List, IfSome, OnOk, Some, get_or, length, string_bytes, true};
-ghost use Rattle.std.specs.Prelude.{option_and_then};
+ghost use Rattle.std.specs.Prelude.{◌≡◌, ◌++◌, ◌∷◌, ◌≤◌, ◌<◌, ℕ, List, IfSome, OnOk, Some, get_or, length};
+ghost use Rattle.std.specs.Prelude.{option_and_then, string_bytes, true};
 ghost use Rattle.std.specs.List.{list_all, prefix_len};
 ghost use Rattle.std.specs.Option.{option_to_list};
 ghost use Rattle.spv_lines.specs.Digits.{is_digit};
 ghost use Rattle.spv_annotate.specs.inner.Linked as specs;
 ghost use Rattle.spv_annotate.specs.inner.Linked.{base, is_steady, part_len, until_id};
 ghost use Rattle.spv_annotate.specs.inner.Numbers.{kept};
+ghost use Rattle.spv_annotate.specs.Html.{escaped};
 ghost use Rattle.spv_annotate.specs.Page as page;
 ghost use Rattle.spv_annotate.specs.Page.{after_byte, id_html, id_of, ids_at, link_to, linked, part_html};
 ghost use Rattle.spv_annotate.specs.declared.linked.Quoting.TheVariants.{Commented};
 
 use crate::buffer::{push_between, put_number, put_octets};
-use crate::html::{is_mark, push_escaped};
+use crate::html::{first_mark, is_mark, push_escaped};
 use crate::numbers::Numbers;
 use spv_lines::read_behind;
 use std::alloc::AllocError;
@@ -22,8 +23,11 @@ use std::str::from_utf8_unchecked;
 /// How many bytes a word may have that is put into a buffer with its link.
 const LONGEST: usize = 32;
 
+/// How many bytes may have what stands behind the word, where it is put there too.
+const LONGEST_TAIL: usize = 24;
+
 /// The size of that buffer.
-const LINK: usize = 64;
+const LINK: usize = 96;
 
 /// A number below this one has room for one more digit.
 const ROOM: u32 = 429_496_729;
@@ -161,14 +165,18 @@ pub fn push_link(out: &mut String, inst: u32, word: &str) -> Result<(), AllocErr
     out.push_str("</a>")
 }
 
-/// Adds a short word, of which each byte stands for itself in HTML, with a link to the instruction of that number.
+/// Adds a short word, of which each byte stands for itself in HTML, with a link to the instruction of that number, and
+/// a short text behind it.
 #[inline(always)]
-fn push_short_link(out: &mut String, inst: u32, word: &str) -> Result<(), AllocError>
-    requires { length word.now ≤ 32 }
-    ensures { OnOk result (string_bytes out.new ≡ string_bytes out.old ++ link_to inst word.now) }
+fn push_short_link(out: &mut String, inst: u32, word: &str, tail: &str) -> Result<(), AllocError>
+    requires word { length word.now ≤ 32 }
+    requires tail { length tail.now ≤ 24 }
+    ensures { OnOk result (string_bytes out.new
+        ≡ string_bytes out.old ++ (link_to inst word.now ++ tail.now)) }
 {
     let mut buffer = [0u8; LINK];
-    let behind = put_octets(&mut buffer, b"</a>", LINK);
+    let last = put_octets(&mut buffer, tail.as_bytes(), LINK);
+    let behind = put_octets(&mut buffer, b"</a>", last);
     let begin = put_octets(&mut buffer, word.as_bytes(), behind);
     let tag = put_octets(&mut buffer, b">", begin);
     let digits = put_number(&mut buffer, inst, tag);
@@ -245,16 +253,41 @@ fn definition_in(definitions: &Numbers, word: &[u8]) -> Option<u32>
     }
 }
 
-/// Adds an id, as `%7`, with a link to the instruction that defines it, if there is one.
-fn push_id(out: &mut String, definitions: &Numbers, word: &str) -> Result<(), AllocError>
-    ensures { (ds : List ℕ) → word.now ≡ 37 ∷ ds → OnOk result (string_bytes out.new
-        ≡ string_bytes out.old ++ id_html (option_and_then (kept definitions.now) (id_of ds)) word.now) }
+/// Whether a word and what stands behind it are short, and each byte of the latter stands for itself in HTML.
+#[inline(always)]
+fn are_short(word: &str, tail: &str) -> bool
+    ensures word { result ≡ true → length word.now ≤ 32 }
+    ensures tail { result ≡ true → length tail.now ≤ 24 }
+    ensures plain { result ≡ true → escaped tail.now ≡ tail.now }
 {
-    match definition_in(definitions, word.as_bytes()) {
-        Some(inst) if word.len() <= LONGEST => push_short_link(out, inst, word),
-        Some(inst) => push_link(out, inst, word),
-        None => push_escaped(out, word),
+    if word.len() > LONGEST || tail.len() > LONGEST_TAIL {
+        return false;
     }
+    match first_mark(tail.as_bytes()) {
+        Some(_) => false,
+        None => true,
+    }
+}
+
+/// Adds an id, as `%7`, with a link to the instruction that defines it, if there is one, and what stands behind it.
+fn push_id(
+    out: &mut String,
+    definitions: &Numbers,
+    word: &str,
+    tail: &str,
+) -> Result<(), AllocError>
+    ensures { (ds : List ℕ) → word.now ≡ 37 ∷ ds → OnOk result (string_bytes out.new ≡ string_bytes out.old
+        ++ (id_html (option_and_then (kept definitions.now) (id_of ds)) word.now ++ escaped tail.now)) }
+{
+    let Some(inst) = definition_in(definitions, word.as_bytes()) else {
+        push_escaped(out, word)?;
+        return push_escaped(out, tail);
+    };
+    if are_short(word, tail) {
+        return push_short_link(out, inst, word, tail);
+    }
+    push_link(out, inst, word)?;
+    push_escaped(out, tail)
 }
 
 /// Adds a part of a line that is cut before each id.
@@ -268,9 +301,7 @@ fn push_part(out: &mut String, definitions: &Numbers, part: &str) -> Result<(), 
         return push_escaped(out, part);
     }
     let size = 1 + digit_count(rest);
-    push_id(out, definitions, &part[..size])?;
-    push_escaped(out, &part[size..])?;
-    Ok(())
+    push_id(out, definitions, &part[..size], &part[size..])
 }
 
 /// Adds a line, or a comment, in which ids that are defined have links.

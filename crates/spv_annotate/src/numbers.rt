@@ -69,6 +69,7 @@ impl Numbers {
     /// Keeps a number of an id, in place of the one before.
     ///
     /// An `AllocError` comes only where a growth of memory was refused, and then nothing is said of what is left.
+    #[inline(always)]
     pub fn put(&mut self, id: u32, number: u32) -> Result<(), AllocError>
         requires { number < 4294967295 }
         ensures { OnOk result ((x : ℕ) → kept self.new x

@@ -28,6 +28,7 @@ fn push_colored(out: &mut String, color: bool, begin: &str, text: &str) -> Resul
 }
 
 /// Adds the text of a piece.
+#[inline(always)]
 fn push_piece(out: &mut String, color: bool, piece: Piece<'_>) -> Result<(), AllocError>
     ensures { OnOk result (string_bytes out.new ≡ string_bytes out.old ++ text_of color (plain_piece piece.entry)) }
 {
@@ -46,6 +47,7 @@ impl Pen for TextPen {
 
     ghost writes = { λ p. text_of p.color };
 
+    #[inline(always)]
     fn write(&mut self, piece: Piece<'_>) -> Result<(), AllocError> {
         push_piece(&mut self.out, self.color, piece)
     }

@@ -1,8 +1,9 @@
-use Rattle.std.proofs.Common.{◌≡◌, ◌+◌, ◌-◌, ◌∙◌, ℕ, ap, arith, length, take, string_bytes}
+use Rattle.std.proofs.Common.{◌≡◌, ◌++◌, ◌+◌, ◌-◌, ◌∙◌, ℕ, List, OnOk, ap, arith, drop, length, subst, take, string_bytes}
 use Rattle.std.specs.List.{prefix_len}
 use Rattle.spv_lines.specs.Digits.{is_digit}
+use Rattle.spv_annotate.specs.Page.{digits_in}
 use Rattle.spv_annotate.specs.inner.Numbers.{kept}
-use Rattle.spv_annotate.proofs.Parts.{all_behind, id_ends, part_whole}
+use Rattle.spv_annotate.proofs.Parts.{all_behind, id_ends, part_whole, word_front}
 use Rattle.spv_annotate.proofs.linked.push_part.Goals as goal
 
 pub range-requires-clause-end_boundary : goal.range-requires-clause-end_boundary
@@ -20,8 +21,13 @@ range_from-requires c = λ _.
 pub returns : goal.returns
 returns c =
     let v = c.as_bytes.ensures.value in
+    let d = kept c.args.definitions.now in
+    let xs = c.args.part.now in
     let n = c.digit_count-size.result in
     let z : (1 + n) - 0 ≡ 1 + n = omega arith in
-    part_whole (kept c.args.definitions.now) c.args.part.now n (string_bytes c.args.out.now) (string_bytes c.push_id.new.out) (string_bytes c.push_escaped-2.new.out)
-    c.range.result.now c.range_from.result.now (rw v at c.in-len1-up.len_at_least) (rw v at c.if-first-ne37.false) (let k = rw v at c.digit_count-size.ensures.count in k ∙ ap (prefix_len is_digit) (all_behind c.args.part.now))
-    (c.range.ensures.value ∙ ap (λ k. take k c.args.part.now) z) c.range_from.ensures.value c.in_ok-push_id.ensures c.in_ok-push_escaped.ensures
+    let l = rw v at c.in-len1-up.len_at_least in
+    let f = rw v at c.if-first-ne37.false in
+    let e = (let k = rw v at c.digit_count-size.ensures.count in k ∙ ap (prefix_len is_digit) (all_behind xs)) in
+    let w = c.range.ensures.value ∙ ap (λ k. take k xs) z in
+    let h = c.push_id.ensures (digits_in (drop 1 xs)) (word_front xs n c.range.result.now l f e w) in
+    subst (λ (t : List ℕ). OnOk c.push_id.result (string_bytes c.push_id.new.out ≡ string_bytes c.args.out.now ++ t)) (part_whole d xs n c.range.result.now c.range_from.result.now l f e w c.range_from.ensures.value) h
