@@ -7,7 +7,9 @@ use Rattle.std.proofs.lemmas.Str.{IsUtf8-from_ascii}
 use Rattle.std.proofs.lemmas.Str.Ascii.{IsAscii-cons, IsAscii-nil}
 use Rattle.std.proofs.lemmas.List.{take_more, take_more_set}
 use Rattle.spv_lines.specs.Operand.{escaped, quoted}
-use Rattle.spv_printer.proofs.Drafts.{quoted_begun}
+use Rattle.std.proofs.Common.{drop, length-append, length-drop, length-set, length-take-le}
+use Rattle.std.proofs.Math.Seq.{take-length}
+use Rattle.spv_printer.proofs.Drafts.{front_copied, quoted_begun}
 
 ascii_by : (bs : List ℕ) → AllByRecursion (λ b. b < 128) bs → IsAscii bs
 ascii_by [] h = IsAscii-nil
@@ -40,3 +42,22 @@ quotes_put old copied octets at count r h q e =
     let b : take (at + 2) (set (set old at 32) (at + 1) 34) ≡ take at old ++ (32 ∷ 34 ∷ []) = rw z at (quoted_begun old at r) in
     let f : take (at + 2 + count) copied ≡ take at old ++ (32 ∷ 34 ∷ octets) = e ∙ (ap (λ z. z ++ octets) b ∙ append_assoc (take at old) (32 ∷ 34 ∷ []) octets) in
     rw (i, q) (take_more_set copied (at + 2 + count) 34 h ∙ (ap (λ z. z ++ (34 ∷ [])) f ∙ append_assoc (take at old) (32 ∷ 34 ∷ octets) (34 ∷ [])))
+
+-- a text that is copied between quotes
+pub short_put : (old octets text rest : List ℕ) (k at : ℕ) → at + 96 ≤ length old → length octets ≤ 64 → escaped text ≡ text → octets ≡ text
+    → rest ≡ drop k (drop (at + 2) (set (set old at 32) (at + 1) 34)) → k ≡ length octets
+    → take (at + 3 + length octets) (set (take (at + 2) (set (set old at 32) (at + 1) 34) ++ (octets ++ rest)) (at + 2 + length octets) 34) ≡ take at old ++ (32 ∷ quoted text)
+short_put old octets text rest k at r f q v e m =
+    let a = length-set old at 32 in
+    let b = length-set (set old at 32) (at + 1) 34 in
+    let marked = set (set old at 32) (at + 1) 34 in
+    let w : escaped octets ≡ octets = rw v q in
+    let t = length-take-le (at + 2) marked (omega arith) in
+    let l = length-append (take (at + 2) marked) (octets ++ rest) in
+    let n = length-append octets rest in
+    let d = length-drop (at + 2) marked in
+    let g = length-drop k (drop (at + 2) marked) in
+    let s = ap length e in
+    let h : at + 2 + length octets < length (take (at + 2) marked ++ (octets ++ rest)) = omega arith in
+    let c = front_copied marked octets rest (at + 2) (length octets) (omega arith) (omega arith) ∙ ap (λ z. take (at + 2) marked ++ z) (take-length octets) in
+    rw (← v) (quotes_put old (take (at + 2) marked ++ (octets ++ rest)) octets at (length octets) r h w c)

@@ -5,7 +5,8 @@ ghost use Rattle.std.specs.Prelude.{true, length, IfSome, IsTrue};
 ghost use Rattle.spv_words.specs.Words.{words_of};
 ghost use Rattle.spv_words.specs.declared.words.Order.TheVariants.{Little};
 ghost use Rattle.spv_module.specs.Spelling.{AreZeros};
-ghost use Rattle.spv_printer.specs.inner.Fast.{IsCopied, IsPlain, IsQuoted};
+ghost use Rattle.spv_lines.specs.Operand.{escaped, quoted};
+ghost use Rattle.spv_printer.specs.inner.Fast.{IsCopied, IsPlain, IsQuoted, IsTextAdded};
 
 /// How many octets such a text has at most.
 const LONGEST: usize = 64;
@@ -84,4 +85,36 @@ pub fn add_quoted(buffer: &mut [u8], octets: &[u8], at: usize) -> Option<Quoted>
         at: at + 3 + count,
         words: last as u32 + 1,
     })
+}
+
+/// Whether each octet is plain (`is_plain`).
+fn are_plain(octets: &[u8]) -> bool
+    ensures { result ≡ true → escaped octets.now ≡ octets.now }
+{
+    for octet in octets {
+        if !is_plain(*octet) {
+            return false;
+        }
+    }
+    true
+}
+
+/// Adds a space and, in quotes, a text behind a place, and gives where it ends. None where it has more than 64 octets,
+/// and where one of them does not stand in quotes as it is, is a control character or none of ASCII; then nothing is
+/// added.
+#[inline(always)]
+pub fn add_short(buffer: &mut [u8], text: &str, at: usize) -> Option<usize>
+    requires { at + 96 ≤ length buffer.old }
+    ensures { IfSome result (λ end. IsTextAdded (quoted text.now) at end buffer.old buffer.new) }
+{
+    let octets = text.as_bytes();
+    let count = octets.len();
+    if count > LONGEST || !are_plain(octets) {
+        return None;
+    }
+    buffer[at] = b' ';
+    buffer[at + 1] = b'"';
+    buffer[at + 2..at + 2 + count].copy_from_slice(octets);
+    buffer[at + 2 + count] = b'"';
+    Some(at + 3 + count)
 }

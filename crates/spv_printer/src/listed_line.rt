@@ -14,6 +14,7 @@ ghost use Rattle.spv_printer.specs.inner.Printer.{IsReady};
 use crate::buffer::{add_id, add_name, add_word};
 use crate::fast_line::{FRONT, whole_line};
 use crate::fast_operand::{Draft, ROOM, mask_label, value_label};
+use crate::fast_text::add_short;
 use crate::named::Named;
 use crate::printer::Printer;
 use spv_inst::due::Definitions;
@@ -57,7 +58,7 @@ fn add_number(
 }
 
 /// Adds an operand, but for the result, which stands in front of the line and is kept. None where there is no room, for
-/// a text, for a second result, and as of `add_number`, `value_label`, `mask_label` and `add_label`.
+/// a second result, and as of `add_short`, `add_number`, `value_label`, `mask_label` and `add_label`.
 #[inline(always)]
 fn add_listed<'t>(
     buffer: &mut [u8],
@@ -105,7 +106,10 @@ fn add_listed<'t>(
             let bits = mask_label(table, &printer.names, kind, value)?;
             add_label(buffer, bits.name, draft)
         }
-        Operand::Text(_) => None,
+        Operand::Text(text) => {
+            let at = add_short(buffer, text, draft.at)?;
+            Some(Draft { at, ..draft })
+        }
     }
 }
 

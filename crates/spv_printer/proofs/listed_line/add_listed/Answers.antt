@@ -1,5 +1,5 @@
 use Rattle.std.proofs.Common.{◌≤◌, ◌+◌, length, refl, arith}
-use Rattle.spv_module.specs.Operand.{OfType, Result, Id, Word, Value, Mask}
+use Rattle.spv_module.specs.Operand.{OfType, Result, Id, Word, Value, Mask, Text}
 use Rattle.spv_printer.proofs.Drafts.{drafted_more, drafted_result}
 use Rattle.spv_printer.proofs.Labels.{some_by}
 use Rattle.spv_printer.proofs.Listed.{name_more, text_more}
@@ -37,3 +37,8 @@ returns-in_ok-bits-in-Mask c =
     let room : c.args.draft.at + 96 ≤ length c.args.buffer.now = omega (arith, c.if-saturating_sub-lt-ROOM.false, c.saturating_sub.ensures) in
     let o = Mask c.in-Mask.kind c.in-Mask.value in
     rw c.in-Mask.is (some_by c.add_label-in-Mask.result (λ d a. name_more c.args.table.now _ o c.in_ok-bits-in-Mask.bits.name.now c.args.draft d c.args.buffer.now c.add_label-in-Mask.new.buffer c.add_label-in-Mask.auto.buffer room refl refl refl c.in_ok-bits-in-Mask.ensures.0 a) c.add_label-in-Mask.ensures)
+
+pub returns-in_ok-at-in-Text : goal.returns-in_ok-at-in-Text
+returns-in_ok-at-in-Text c =
+    let room : c.args.draft.at + 96 ≤ length c.args.buffer.now = omega (arith, c.if-saturating_sub-lt-ROOM.false, c.saturating_sub.ensures) in
+    rw c.in-Text.is (text_more c.args.table.now _ (Text c.in-Text.text.now) c.args.draft _ c.args.buffer.now c.add_short.new.buffer c.add_short.auto.buffer room refl refl refl c.in_ok-at-in-Text.ensures refl refl)
