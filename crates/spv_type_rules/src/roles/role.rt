@@ -37,7 +37,7 @@ fn has_opcode(definitions: &Definitions<'_, '_>, id: u32, wanted: u16) -> bool
 }
 
 /// Whether the definition of an id is a type declaration, by that instruction.
-#[inline(never)]
+#[inline(always)]
 fn reads_type(definitions: &Definitions<'_, '_>, id: u32) -> bool
     ensures { IsTrue result ↔ IsSomeAnd (definition_of definitions.now id) IsTypeDeclaration }
 {
@@ -59,7 +59,7 @@ pub fn defines_type(definitions: &Definitions<'_, '_>, id: u32) -> bool
 }
 
 /// Whether the definition of an id is a value, by that instruction.
-#[inline(never)]
+#[inline(always)]
 fn reads_value(definitions: &Definitions<'_, '_>, id: u32) -> bool
     ensures { IsTrue result ↔ IsSomeAnd (definition_of definitions.now id) IsValue }
 {

@@ -13,13 +13,13 @@ use std::alloc::Global;
 const MOST_LISTED: usize = 1 << 20;
 
 /// Whether a list with a place for each of so many instructions is small beside their module: they are not too many, and
-/// take two words each or more.
+/// take three words each or more.
 fn are_listed(plan: &Plan, count: usize) -> bool {
     if count == 0 || count > MOST_LISTED {
         return false;
     }
     match plan.at(count as u32 - 1) {
-        Some(last) => last.word as usize >= 2 * count,
+        Some(last) => last.word as usize >= 3 * count,
         None => false,
     }
 }
