@@ -72,10 +72,16 @@ CALLS = {
 
 def rows():
     """The stored runs: the grammar file, the name, the words and the input of each."""
-    grammar, name, words, given = b"", "", [], b""
+    grammar, old, name, words, given = b"", b"", "", [], b""
     for line in (ROWS / "data/rows").read_bytes().decode().split("\n"):
         key, _, text = line.partition(" ")
-        if key == "grammar":
+        if key == "profile":
+            grammar = read("profile.json")
+        elif key == "old":
+            old = text.encode()
+        elif key == "new":
+            grammar = b" ".join(grammar.split()).replace(old, text.encode())
+        elif key == "grammar":
             grammar = text.encode()
         elif key == "grammar-hex":
             grammar = bytes.fromhex(text)

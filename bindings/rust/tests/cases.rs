@@ -30,9 +30,21 @@ impl Answer {
     }
 }
 
+/// The bytes of a file of the repository.
 fn stored(name: &str) -> Vec<u8> {
-    let folder = PathBuf::from(env!("CARGO_MANIFEST_DIR")).join("../../crates/spv_rows");
-    fs::read(folder.join(name)).expect(name)
+    let top = PathBuf::from(env!("CARGO_MANIFEST_DIR")).join("../..");
+    fs::read(top.join(name)).expect(name)
+}
+
+/// A text of the repository.
+fn stored_text(name: &str) -> String {
+    String::from_utf8(stored(name)).expect(name)
+}
+
+/// A grammar file with one space between each two of its words, and a text in place of an old one.
+fn changed(grammar: &str, old: &str, new: &str) -> String {
+    let words: Vec<&str> = grammar.split_whitespace().collect();
+    words.join(" ").replace(old, new)
 }
 
 fn of_hex(text: &str) -> Vec<u8> {
@@ -146,18 +158,27 @@ fn wanted(rest: &mut &[u8]) -> (String, Answer) {
 
 #[test]
 fn every_case() {
-    let (rows, answers) = (
-        String::from_utf8(stored("data/rows")).unwrap(),
-        stored("stdout"),
-    );
+    let rows = stored_text("crates/spv_rows/data/rows");
+    let answers = stored("crates/spv_rows/stdout");
+    let profile = stored_text("tests/profile.json");
     let mut rest = &answers[..];
     let (mut grammar, mut name) = (Grammar::new(b""), "");
+    let (mut file, mut old) = (String::new(), "");
     let (mut words, mut input, mut count) = (Vec::new(), Vec::new(), 0);
     for (key, text) in rows
         .lines()
         .map(|line| line.split_once(' ').unwrap_or((line, "")))
     {
         match key {
+            "profile" => {
+                file = profile.clone();
+                grammar = Grammar::new(file.as_bytes());
+            }
+            "old" => old = text,
+            "new" => {
+                file = changed(&file, old, text);
+                grammar = Grammar::new(file.as_bytes());
+            }
             "grammar" => grammar = Grammar::new(text.as_bytes()),
             "grammar-hex" => grammar = Grammar::new(&of_hex(text)),
             "row" => (name, words, input) = (text, Vec::new(), Vec::new()),
