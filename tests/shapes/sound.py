@@ -292,11 +292,16 @@ def members(module):
     closed(module)
 
 
+def results_of(module, words):
+    """The first id and the number of results that a module has room for, where each takes so many words."""
+    count = (module.room() - 64) // words
+    module.next += count
+    return FIRST_FREE, count
+
+
 def named(module):
     """Constants that all have names, so that each id is used before its definition."""
-    count = (module.room() - 64) // 8
-    first = FIRST_FREE
-    module.next += count
+    first, count = results_of(module, 8)
 
     def put_names(module):
         for number in range(count):
@@ -311,9 +316,7 @@ def named(module):
 
 def symbols(module):
     """Values that each have a name of their own, of sixteen octets."""
-    count = (module.room() - 64) // 10
-    first = FIRST_FREE
-    module.next += count
+    first, count = results_of(module, 10)
 
     def put_names(module):
         for number in range(count):
@@ -519,9 +522,7 @@ def decorations(module):
 
 def many_decorates(module):
     """Variables that each have a decoration."""
-    count = (module.room() - 64) // 8
-    first = FIRST_FREE
-    module.next += count
+    first, count = results_of(module, 8)
 
     def put_decorates(module):
         for number in range(count):

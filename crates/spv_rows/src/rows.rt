@@ -52,7 +52,11 @@ impl<'a> Rows<'a> {
         Ok(())
     }
 
-    /// Has the grammar file's words stand with one space between each two, and puts a text in place of the old one there.
+    /// Has the grammar file's words stand with one space between each two, and puts a text in place of the old one.
+    ///
+    /// # Errors
+    ///
+    /// The grammar file is no text, or memory is short.
     fn change(&mut self, new: &str) -> anyhow::Result<()> {
         let mut words = String::new(self.alloc);
         for word in str::from_utf8(&self.grammar)?.split_whitespace() {
