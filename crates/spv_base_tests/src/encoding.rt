@@ -1,9 +1,9 @@
 //! Modules that no words spell.
 
-use spv_encode::{EncodeCode, EncodeError, encode};
 use spv_grammar::{FromGrammar, Table};
 use spv_inst::Operand::{Id, Mask, Number, OfType, Result as Made, Text, Value, Word};
 use spv_inst::{Memory, Module, Operand};
+use spv_printer::{EncodeCode, EncodeError, encode};
 use spv_samples::PROFILE;
 use spv_words::Header;
 use std::alloc::Global;

@@ -1,8 +1,8 @@
 //! What errors are shown as: one of each type.
 
-use spv_encode::{EncodeCode, EncodeError};
 use spv_grammar::GrammarError;
 use spv_parser::{AsmCode, AsmError};
+use spv_printer::{EncodeCode, EncodeError};
 use spv_words::WordError;
 use std::alloc::Global;
 use std::fmt::Display;

@@ -9,7 +9,7 @@ use Rattle.std.proofs.lemmas.Bool.Decides.{nat_tests}
 use Rattle.memchr.specs.Find.{is_byte3}
 use Rattle.spv_table.specs.Table.{Table}
 use Rattle.spv_module.specs.declared.opcode.TheConstants.{SWITCH}
-use Rattle.spv_module.specs.Operand.{Plain, PlainInst, OfType, Result, Id, Word, Number, Text, Value, Mask, Context, after, result_in, start, type_in}
+use Rattle.spv_module.specs.Operand.{Plain, PlainInst, OfType, Result, Id, Word, Number, Text, Value, Mask, Argument, Mention, Context, after, result_in, start, type_in}
 use Rattle.spv_lines.specs.Operand.{escaped, shown_operand}
 use Rattle.spv_inst.specs.declared.definitions.Definitions.{Definitions}
 use Rattle.spv_inst.specs.inner.Known.{Knows}
@@ -51,6 +51,8 @@ other_count (OfType x ∷ os) o n = other_count os o n
 other_count (Result x ∷ os) o n = let e = other_count os o n in omega arith
 other_count (Id x ∷ os) o n = other_count os o n
 other_count (Word x ∷ os) o n = other_count os o n
+other_count (Argument x ∷ os) o n = other_count os o n
+other_count (Mention x ∷ os) o n = other_count os o n
 other_count (Number a b w ∷ os) o n = other_count os o n
 other_count (Text u ∷ os) o n = other_count os o n
 other_count (Value k x ∷ os) o n = other_count os o n
@@ -62,6 +64,8 @@ one_more (OfType y ∷ os) x = one_more os x
 one_more (Result y ∷ os) x = let e = one_more os x in omega arith
 one_more (Id y ∷ os) x = one_more os x
 one_more (Word y ∷ os) x = one_more os x
+one_more (Argument y ∷ os) x = one_more os x
+one_more (Mention y ∷ os) x = one_more os x
 one_more (Number a b w ∷ os) x = one_more os x
 one_more (Text u ∷ os) x = one_more os x
 one_more (Value k y ∷ os) x = one_more os x

@@ -16,3 +16,9 @@ pub mod Labels
 pub mod ImageLines
 pub mod Places
 pub mod Listed
+pub mod Walk
+pub mod Progress
+pub mod Encoded
+pub mod Stops
+pub mod Unspelled
+pub mod Back

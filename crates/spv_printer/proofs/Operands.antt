@@ -10,7 +10,7 @@ use Rattle.spv_table.specs.declared.form.Leaf.TheVariants as leaf
 use Rattle.spv_table.specs.declared.form.Form.TheVariants.{Leaf}
 use Rattle.spv_inst.specs.inner.Known.{IsNear}
 use Rattle.spv_table.specs.inner.Form.{form_at}
-use Rattle.spv_module.specs.Operand.{Plain, OfType, Result, Id, Word, Number, Text, Value, Mask, Context, result_in, type_in}
+use Rattle.spv_module.specs.Operand.{Plain, OfType, Result, Id, Word, Number, Text, Value, Mask, Argument, Mention, Context, result_in, type_in}
 use Rattle.spv_module.specs.Width.{width_of, type_of, first_id}
 use Rattle.spv_module.specs.Shape.{Slot, shape_of}
 use Rattle.spv_module.specs.Spelling.{Takes}
@@ -96,6 +96,8 @@ result_more : (os : List Plain) (o : Plain) → is_some (result_in (os ++ (o ∷
 result_more (OfType x ∷ os) o = result_more os o
 result_more (Id x ∷ os) o = result_more os o
 result_more (Word x ∷ os) o = result_more os o
+result_more (Argument x ∷ os) o = result_more os o
+result_more (Mention x ∷ os) o = result_more os o
 result_more (Number a b n ∷ os) o = result_more os o
 result_more (Text t ∷ os) o = result_more os o
 result_more (Value k x ∷ os) o = result_more os o

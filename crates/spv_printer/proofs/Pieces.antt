@@ -6,7 +6,7 @@ use Rattle.std.proofs.lemmas.Str.Ascii.{IsAscii-cons, IsAscii-nil}
 use Rattle.std.proofs.Math.Seq.{drop-append_seam}
 use Rattle.spv_table.specs.declared.table.Entry.{Entry}
 use Rattle.spv_table.specs.Table.{Table, entry_of, pattern_of}
-use Rattle.spv_module.specs.Operand.{Plain, OfType, Result, Id, Word, Number, Text, Value, Mask, PlainInst, Context, start, and_then, result_in}
+use Rattle.spv_module.specs.Operand.{Plain, OfType, Result, Id, Word, Number, Text, Value, Mask, Argument, Mention, PlainInst, Context, start, and_then, result_in}
 use Rattle.spv_module.specs.Shape.{Slot}
 use Rattle.spv_inst.specs.declared.definitions.Definitions.{Definitions}
 use Rattle.spv_inst.specs.inner.Known.{Knows}
@@ -34,6 +34,8 @@ none_more (OfType x ∷ os) o e f = none_more os o e f
 none_more (Result x ∷ os) o e f = cc
 none_more (Id x ∷ os) o e f = none_more os o e f
 none_more (Word x ∷ os) o e f = none_more os o e f
+none_more (Argument x ∷ os) o e f = none_more os o e f
+none_more (Mention x ∷ os) o e f = none_more os o e f
 none_more (Number a b n ∷ os) o e f = none_more os o e f
 none_more (Text t ∷ os) o e f = none_more os o e f
 none_more (Value k x ∷ os) o e f = none_more os o e f
@@ -49,6 +51,8 @@ lone_more c (Result x) os (inl n) = absurd (omega arith)
 lone_more c (Result x) os (inr n) = let m = n.1 in inl (omega arith)
 lone_more c (Id x) os l = no_result c (Id x) os refl refl l
 lone_more c (Word x) os l = no_result c (Word x) os refl refl l
+lone_more c (Argument x) os l = no_result c (Argument x) os refl refl l
+lone_more c (Mention x) os l = no_result c (Mention x) os refl refl l
 lone_more c (Number a b n) os l = no_result c (Number a b n) os refl refl l
 lone_more c (Text t) os l = no_result c (Text t) os refl refl l
 lone_more c (Value k x) os l = no_result c (Value k x) os refl refl l
@@ -63,6 +67,8 @@ other_piece G c hex (OfType x) os t n e l = ap (λ z. 32 ∷ z) e
 other_piece G c hex (Result x) os t n e l = absurd (no_front c x os n l)
 other_piece G c hex (Id x) os t n e l = ap (λ z. 32 ∷ z) e
 other_piece G c hex (Word x) os t n e l = ap (λ z. 32 ∷ z) e
+other_piece G c hex (Argument x) os t n e l = ap (λ z. 32 ∷ z) e
+other_piece G c hex (Mention x) os t n e l = ap (λ z. 32 ∷ z) e
 other_piece G c hex (Number a b w) os t n e l = ap (λ z. 32 ∷ z) e
 other_piece G c hex (Text u) os t n e l = ap (λ z. 32 ∷ z) e
 other_piece G c hex (Value k x) os t n e l = ap (λ z. 32 ∷ z) e

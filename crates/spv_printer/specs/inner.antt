@@ -3,3 +3,4 @@ pub mod Names
 pub mod Printer
 pub mod Fast
 pub mod Image
+pub mod Written

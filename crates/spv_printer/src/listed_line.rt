@@ -6,6 +6,7 @@ ghost use Rattle.spv_inst.specs.inner.Known.{Knows};
 ghost use Rattle.spv_module.specs.Module.{plain_operand, plain_operands};
 ghost use Rattle.spv_module.specs.Operand.{Number, PlainInst};
 ghost use Rattle.spv_lines.specs.Line.{IsShownLine};
+ghost use Rattle.spv_lines.specs.Operand.{id_text};
 ghost use Rattle.spv_table.specs.Table as grammar;
 ghost use Rattle.spv_printer.specs.inner.Fast.{AreDrafted, IsListedLine, IsNameAdded, IsOneMore};
 ghost use Rattle.spv_printer.specs.inner.Names.{AreNames};
@@ -22,6 +23,18 @@ use spv_lines::is_narrow;
 use spv_module::{Operand, opcode};
 use spv_table::Table;
 use std::alloc::AllocError;
+
+/// Adds an id that is no result and no result's type.
+#[inline(always)]
+fn add_other_id(buffer: &mut [u8], id: u32, draft: Draft) -> Draft
+    requires { draft.at + 96 ≤ length buffer.old }
+    ensures { IsNameAdded (id_text id) draft result buffer.old buffer.new }
+{
+    Draft {
+        at: add_id(buffer, id, draft.at),
+        ..draft
+    }
+}
 
 /// Adds a name. None where the name has more than 64 octets.
 #[inline(always)]
@@ -87,10 +100,7 @@ fn add_listed<'t>(
                 ..draft
             }),
         },
-        Operand::Id(id) => Some(Draft {
-            at: add_id(buffer, id, draft.at),
-            ..draft
-        }),
+        Operand::Id(id) => Some(add_other_id(buffer, id, draft)),
         Operand::Word(word) => Some(Draft {
             at: add_word(buffer, word, draft.at),
             ..draft
@@ -110,6 +120,8 @@ fn add_listed<'t>(
             let at = add_short(buffer, text, draft.at)?;
             Some(Draft { at, ..draft })
         }
+        Operand::Argument(id) => Some(add_other_id(buffer, id, draft)),
+        Operand::Mention(id) => Some(add_other_id(buffer, id, draft)),
     }
 }
 

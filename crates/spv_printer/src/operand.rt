@@ -64,7 +64,11 @@ fn push_operand(
 {
     out.push(' ')?;
     match operand {
-        Operand::OfType(id) | Operand::Result(id) | Operand::Id(id) => push_marked(out, '%', *id),
+        Operand::OfType(id)
+        | Operand::Result(id)
+        | Operand::Id(id)
+        | Operand::Argument(id)
+        | Operand::Mention(id) => push_marked(out, '%', *id),
         Operand::Word(word) => push_decimal(out, u64::from(*word)),
         Operand::Number { low, high, words } => push_number(out, hexadecimal, *low, *high, *words),
         Operand::Text(text) => push_quoted(out, text),

@@ -3,14 +3,15 @@
 ghost use Rattle.std.specs.Prelude.{◌≡◌, ◌++◌, [], ℕ, List, OnOk, IfOk, IfErr, string_bytes};
 ghost use Rattle.spv_module.specs.Module.{plain_insts};
 ghost use Rattle.spv_module.specs.Instruction.{IsListing};
-ghost use Rattle.spv_encode.specs.Encoding.{IsImageOf, RefusesModule};
+ghost use Rattle.spv_printer.specs.Encoding.{IsImageOf, RefusesModule};
 ghost use Rattle.spv_lines.specs.Text.{IsShownText, ShownLines, ended, header_lines};
 
+use crate::encode_error::EncodeError;
+use crate::encoder::encode;
 use crate::fast_line::SIZE;
 use crate::listed_line::push_listed;
 use crate::number::push_decimal;
 use crate::printer::Printer;
-use spv_encode::{EncodeError, encode};
 use spv_module::Module;
 use spv_table::Table;
 use spv_words::Header;

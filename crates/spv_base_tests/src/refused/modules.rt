@@ -1,10 +1,9 @@
 //! What is made of a module, its image and its text.
 
-use spv_encode::{EncodeCode, EncodeError, encode};
 use spv_grammar::{FromGrammar, Table};
 use spv_inst::{Module, Stop, decode};
 use spv_parser::{AsmCode, AsmError, assemble};
-use spv_printer::{show, show_image, show_inst, show_insts};
+use spv_printer::{EncodeCode, EncodeError, encode, show, show_image, show_inst, show_insts};
 use spv_samples::{
     CALL_OF_LATER_FUNCTION, LOAD_WITH_MASK, LOOP_WITH_PHI, PROFILE, Told, WrongAnswer,
     each_refused, image_of,

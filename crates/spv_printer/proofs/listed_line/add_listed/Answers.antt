@@ -1,5 +1,6 @@
 use Rattle.std.proofs.Common.{◌≤◌, ◌+◌, length, refl, arith}
-use Rattle.spv_module.specs.Operand.{OfType, Result, Id, Word, Value, Mask, Text}
+use Rattle.spv_module.specs.Operand.{OfType, Result, Id, Word, Value, Mask, Text, Argument, Mention}
+use Rattle.spv_lines.specs.Operand.{id_text}
 use Rattle.spv_printer.proofs.Drafts.{drafted_more, drafted_result}
 use Rattle.spv_printer.proofs.Labels.{some_by}
 use Rattle.spv_printer.proofs.Listed.{name_more, text_more}
@@ -16,7 +17,7 @@ returns-in-None c = rw c.in-Result.is (record { added = λ os h. drafted_result 
 pub returns-in-Id : goal.returns-in-Id
 returns-in-Id c =
     let room : c.args.draft.at + 96 ≤ length c.args.buffer.now = omega (arith, c.if-saturating_sub-lt-ROOM.false, c.saturating_sub.ensures) in
-    rw c.in-Id.is (text_more c.args.table.now _ (Id c.in-Id.id) c.args.draft _ c.args.buffer.now c.add_id-in-Id.new.buffer c.add_id-in-Id.auto.buffer room refl refl refl c.add_id-in-Id.ensures refl refl)
+    rw c.in-Id.is (name_more c.args.table.now _ (Id c.in-Id.id) (id_text c.in-Id.id) c.args.draft _ c.args.buffer.now c.add_other_id.new.buffer c.add_other_id.auto.buffer room refl refl refl refl c.add_other_id.ensures)
 
 pub returns-in-Word : goal.returns-in-Word
 returns-in-Word c =
@@ -42,3 +43,13 @@ pub returns-in_ok-at-in-Text : goal.returns-in_ok-at-in-Text
 returns-in_ok-at-in-Text c =
     let room : c.args.draft.at + 96 ≤ length c.args.buffer.now = omega (arith, c.if-saturating_sub-lt-ROOM.false, c.saturating_sub.ensures) in
     rw c.in-Text.is (text_more c.args.table.now _ (Text c.in-Text.text.now) c.args.draft _ c.args.buffer.now c.add_short.new.buffer c.add_short.auto.buffer room refl refl refl c.in_ok-at-in-Text.ensures refl refl)
+
+pub returns-in-Argument : goal.returns-in-Argument
+returns-in-Argument c =
+    let room : c.args.draft.at + 96 ≤ length c.args.buffer.now = omega (arith, c.if-saturating_sub-lt-ROOM.false, c.saturating_sub.ensures) in
+    rw c.in-Argument.is (name_more c.args.table.now _ (Argument c.in-Argument.id) (id_text c.in-Argument.id) c.args.draft _ c.args.buffer.now c.add_other_id-in-Argument.new.buffer c.add_other_id-in-Argument.auto.buffer room refl refl refl refl c.add_other_id-in-Argument.ensures)
+
+pub returns-in-Mention : goal.returns-in-Mention
+returns-in-Mention c =
+    let room : c.args.draft.at + 96 ≤ length c.args.buffer.now = omega (arith, c.if-saturating_sub-lt-ROOM.false, c.saturating_sub.ensures) in
+    rw c.in-Mention.is (name_more c.args.table.now _ (Mention c.in-Mention.id) (id_text c.in-Mention.id) c.args.draft _ c.args.buffer.now c.add_other_id-in-Mention.new.buffer c.add_other_id-in-Mention.auto.buffer room refl refl refl refl c.add_other_id-in-Mention.ensures)

@@ -1,5 +1,0 @@
-use Rattle.spv_encode.proofs.Listed.{Put}
-use Rattle.spv_encode.proofs.encoder.put_instructions.Given as goal
-
-abbrev pub invariant-loop-number : goal.invariant-loop-number
-invariant-loop-number l = Put l.table l.module.insts.items l.definitions l.module.header l.draft l.number

@@ -1,5 +1,0 @@
-use Rattle.spv_encode.proofs.Stops.{not_stopped}
-use Rattle.spv_encode.proofs.encoding.listed_or_stopped.Goals as goal
-
-pub returns : goal.returns
-returns c = λ G is ws code n l h s. not_stopped G is ws code n l h s

@@ -1,5 +1,0 @@
-use Rattle.spv_encode.proofs.Stops.{image_once}
-use Rattle.spv_encode.proofs.encoding.one_image.Goals as goal
-
-pub returns : goal.returns
-returns c = λ G m ws vs i j. image_once G m ws vs i j

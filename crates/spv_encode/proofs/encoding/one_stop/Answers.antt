@@ -1,5 +1,0 @@
-use Rattle.spv_encode.proofs.Stops.{stop_once}
-use Rattle.spv_encode.proofs.encoding.one_stop.Goals as goal
-
-pub returns : goal.returns
-returns c = λ G is a b k l s t. stop_once G is a b k l s t

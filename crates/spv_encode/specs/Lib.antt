@@ -1,2 +1,0 @@
-pub mod Encoding
-pub mod inner

@@ -1,2 +1,0 @@
--- Definitions that serve the code alone.
-pub mod Written
