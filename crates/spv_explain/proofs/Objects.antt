@@ -27,7 +27,7 @@ use Rattle.spv_verdict.proofs.Verdicts.{fault_verdict, valid_verdict}
 use Rattle.spv_fault_lines.specs.Facts.{facts_of}
 use Rattle.spv_fault_lines.specs.Refused.{front_of}
 use Rattle.spv_fault_lines.specs.Words.{malformed_facts}
-use Rattle.spv_json.specs.Members.{members_of, refused_members}
+use Rattle.spv_fault_lines.specs.json_members.Members.{members_of, refused_members}
 use Rattle.spv_explain.specs.Json.{AreMembers, IsCheckAnswer, IsExplainAnswer, json_line, object_of}
 use Rattle.spv_explain.specs.declared.answers.Answer.{Answer}
 use Rattle.spv_explain.specs.inner.Reading.{IsBrokenModule}

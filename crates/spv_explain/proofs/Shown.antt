@@ -16,6 +16,7 @@ use Rattle.spv_form_evidence.specs.ids.Evidence as ids
 use Rattle.spv_form_evidence.specs.ids.Roles as roles
 use Rattle.spv_form_evidence.specs.capabilities.Evidence as capabilities
 use Rattle.spv_type_evidence.specs.types.Evidence as types
+use Rattle.spv_operation_evidence.specs.Evidence as operations
 use Rattle.spv_flow_evidence.specs.branches.Evidence as branches
 use Rattle.spv_flow_evidence.specs.walks.Evidence as walks
 use Rattle.spv_flow_evidence.specs.calls.Evidence as calls
@@ -32,6 +33,9 @@ capability_shown G bound is f (Err _) h = tt
 
 pub type_shown : (G : Table) (bound : ℕ) (is : List PlainInst) (f : Fault) (e : Evidence) → types.IsEvidence G is f.rule f.inst e → IsShownAt G bound is f e
 type_shown G bound is f e h = λ s. IsEvidence.of_types f.rule f.inst e h
+
+pub operation_shown : (G : Table) (bound : ℕ) (is : List PlainInst) (f : Fault) (e : Evidence) → f.rule ≡ rule.Y5 → operations.IsEvidence G is rule.Y5 f.inst e → IsShownAt G bound is f e
+operation_shown G bound is f e one h = λ s. IsEvidence.of_operations f.rule f.inst e (subst (λ r. operations.IsEvidence G is r f.inst e) (sym one) h)
 
 pub walk_shown : (G : Table) (bound : ℕ) (is : List PlainInst) (f : Fault) (e : Evidence) → walks.IsEvidence G is f.rule f.inst e → IsShownAt G bound is f e
 walk_shown G bound is f e h = λ s. IsEvidence.of_walks f.rule f.inst e h

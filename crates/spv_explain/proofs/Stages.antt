@@ -18,7 +18,7 @@ use Rattle.spv_flow.specs.calls.Broken as calls
 use Rattle.spv_verdict.specs.flow.Outcome.{IsFirstOfFlow}
 use Rattle.spv_verdict.proofs.Decided.{held}
 use Rattle.spv_verdict.proofs.RulesDecided.{plays_or_not}
-use Rattle.spv_explain.specs.inner.Kinds.{is_of_roles, is_of_capabilities, is_of_values, is_of_calls}
+use Rattle.spv_explain.specs.inner.Kinds.{is_of_roles, is_of_capabilities, is_of_operations, is_of_values, is_of_calls}
 
 -- rules by what is said of them
 pub the_role : (r : Rule) → is_of_roles r ≡ true → r ≡ rule.Y1
@@ -82,6 +82,32 @@ pub types_of : (G : Table) (is : List PlainInst) (r : Rule) (n : ℕ) → is_of_
 types_of G is _ _ d e (types.of_roles _ _ (roles.miscast n k x r used plays)) = absurd (let h : true ≡ false = d in cc)
 types_of G is _ _ d e (types.of_capabilities r n i at h) = absurd (no_capability G is r n i e h)
 types_of G is _ _ d e (types.of_types r n i at h) = (i, at, h)
+
+-- of these, the one on operations
+pub the_operation : (r : Rule) → is_of_operations r ≡ true → r ≡ rule.Y5
+the_operation rule.Y5 e = refl
+the_operation _ e = absurd (let h : false ≡ true = e in cc)
+
+pub operations_of : (G : Table) (is : List PlainInst) (r : Rule) (n : ℕ) → is_of_operations r ≡ true → types.Broken G is r n
+    → (i : PlainInst) × (slice_get is n ≡ Some i) × (¬ (IsTyped G is n i))
+operations_of G is _ _ e (types.of_roles _ _ (roles.miscast n k x r used plays)) = absurd (let h : false ≡ true = e in cc)
+operations_of G is _ _ e (types.of_capabilities r n i at h) = absurd (subst (λ q. ¬ (capabilities.Keeps G is q n i)) (the_operation r e) h tt)
+operations_of G is _ _ e (types.of_types r n i at h) = (i, at, subst (λ q. ¬ (rules.Keeps (IsTyped G is) is q n i)) (the_operation r e) h)
+
+-- and the others, which say nothing of operations
+aside : (G : Table) (is : List PlainInst) (r : Rule) (n : ℕ) (i : PlainInst) → is_of_operations r ≡ false → rules.Keeps (λ m j. Unit {0}) is r n i → rules.Keeps (IsTyped G is) is r n i
+aside G is rule.Y2 n i e h = h
+aside G is rule.Y3 n i e h = h
+aside G is rule.Y4 n i e h = h
+aside G is rule.Y5 n i e h = absurd (let x : true ≡ false = e in cc)
+aside G is rule.Y6 n i e h = h
+aside G is rule.Y7 n i e h = h
+aside G is rule.Y8 n i e h = h
+aside G is _ n i e h = tt
+
+pub others_of : (G : Table) (is : List PlainInst) (r : Rule) (n : ℕ) → is_of_roles r ≡ false → is_of_capabilities r ≡ false → is_of_operations r ≡ false → types.Broken G is r n
+    → (i : PlainInst) × (slice_get is n ≡ Some i) × (¬ (rules.Keeps (λ m j. Unit {0}) is r n i))
+others_of G is r n d e o b = let t = types_of G is r n d e b in (t.0, t.1, λ h. t.2 (aside G is r n t.0 o h))
 
 -- a broken rule of stage 4 or 5
 pub broken_in : (G : Table) (is : List PlainInst) (r : Rule) (n : ℕ) → (IsFirst (types.Broken G is) stages.of_roles r n ⊎ (IsUnbroken (types.Broken G is) stages.of_roles × IsFirst (types.Broken G is) stages.of_types r n)) → types.Broken G is r n

@@ -4,6 +4,9 @@ use Rattle.std.specs.Prelude.{slice_get}
 use Rattle.spv_table.specs.Table.{Table}
 use Rattle.spv_module.specs.Operand.{PlainInst}
 use Rattle.spv_module.specs.declared.fault.Rule.{Rule}
+use Rattle.spv_module.specs.declared.fault.Rule.TheVariants as rule
+use Rattle.spv_ops.specs.Typed.{IsTyped}
+use Rattle.spv_type_rules.specs.Keeps.{Keeps}
 use Rattle.spv_verdict.specs.types.Broken as types
 use Rattle.spv_verdict.specs.Broken.{Broken}
 use Rattle.spv_evidence.specs.declared.evidence.Evidence.{Evidence}
@@ -14,11 +17,13 @@ use Rattle.spv_verdict.proofs.Stages.{types_stage}
 use Rattle.spv_form_evidence.specs.layout.Evidence as by_layout
 use Rattle.spv_form_evidence.specs.ids.Roles as roles
 use Rattle.spv_type_evidence.specs.types.Evidence as by_types
+use Rattle.spv_operation_evidence.specs.Evidence as by_operations
 use Rattle.spv_form_evidence.specs.capabilities.Evidence as capabilities
 use Rattle.spv_form_evidence.proofs.lemmas.layout.Sufficing as layout_law
 use Rattle.spv_form_evidence.proofs.lemmas.ids.Sufficing.{ids_suffice, roles_suffice}
 use Rattle.spv_form_evidence.proofs.lemmas.capabilities.Suffices.{breaks}
 use Rattle.spv_type_evidence.proofs.lemmas.types.Sufficing as types_law
+use Rattle.spv_operation_evidence.proofs.lemmas.Sufficing as operations_law
 use Rattle.spv_flow_evidence.proofs.lemmas.branches.Rules as branches_law
 use Rattle.spv_flow_evidence.proofs.lemmas.walks.Sufficing as walks_law
 use Rattle.spv_flow_evidence.proofs.lemmas.calls.Walked.{sufficient}
@@ -49,9 +54,24 @@ capabilities_broken G is r n e h =
     let t = capability_there G is r n e h in
     types.Broken.of_capabilities r n t.inst t.there (breaks G is r n e t.inst h t.there)
 
+-- what is kept, but for what Y5 demands of operations
+unasked : (G : Table) (is : List PlainInst) (r : Rule) (n : ℕ) (i : PlainInst) → Keeps (IsTyped G is) is r n i → Keeps (λ m j. Unit {0}) is r n i
+unasked G is rule.Y2 n i h = h
+unasked G is rule.Y3 n i h = h
+unasked G is rule.Y4 n i h = h
+unasked G is rule.Y5 n i h = tt
+unasked G is rule.Y6 n i h = h
+unasked G is rule.Y7 n i h = h
+unasked G is rule.Y8 n i h = h
+unasked G is _ n i h = tt
+
 pub types_broken : (G : Table) (is : List PlainInst) (r : Rule) (n : ℕ) (e : Evidence)
     → by_types.IsEvidence G is r n e → types.Broken G is r n
-types_broken G is r n e h = types.Broken.of_types r n h.inst h.there (types_law.suffices G is r n e h h.inst h.there)
+types_broken G is r n e h = types.Broken.of_types r n h.inst h.there (λ k. types_law.suffices G is r n e h h.inst h.there (unasked G is r n h.inst k))
+
+pub operations_broken : (G : Table) (is : List PlainInst) (r : Rule) (n : ℕ) (e : Evidence)
+    → by_operations.IsEvidence G is r n e → types.Broken G is r n
+operations_broken G is r n e h = types.Broken.of_types r n h.inst h.there (operations_law.suffices G is r n e h h.inst h.there)
 
 pub suffices : (G : Table) (bound : ℕ) (is : List PlainInst) (r : Rule) (n : ℕ) (e : Evidence)
     → IsEvidence G bound is r n e → Broken G bound is r n
@@ -60,6 +80,7 @@ suffices G bound is _ _ _ (IsEvidence.of_ids r n e h) = Broken.of_ids r n (ids_s
 suffices G bound is _ _ _ (IsEvidence.of_roles r n e h) = Broken.of_types r n (roles_broken G is r n e h)
 suffices G bound is _ _ _ (IsEvidence.of_capabilities r n e h) = Broken.of_types r n (capabilities_broken G is r n e h)
 suffices G bound is _ _ _ (IsEvidence.of_types r n e h) = Broken.of_types r n (types_broken G is r n e h)
+suffices G bound is _ _ _ (IsEvidence.of_operations r n e h) = Broken.of_types r n (operations_broken G is r n e h)
 suffices G bound is _ _ _ (IsEvidence.of_branches r n e h) = Broken.of_flow r n (branches_law.suffices G is r n e h)
 suffices G bound is _ _ _ (IsEvidence.of_walks r n e h) = Broken.of_flow r n (walks_law.suffices G is r n e h)
 suffices G bound is _ _ _ (IsEvidence.of_calls r n e h) = Broken.of_calls r n (sufficient is r n e h)
@@ -80,6 +101,8 @@ of_layout_alone G bound is _ _ _ (IsEvidence.of_capabilities r n e h) s =
     absurd (apart r 4 5 s (types_stage G is r n (capabilities_broken G is r n e h)) (omega arith) (omega arith))
 of_layout_alone G bound is _ _ _ (IsEvidence.of_types r n e h) s =
     absurd (apart r 4 5 s (types_stage G is r n (types_broken G is r n e h)) (omega arith) (omega arith))
+of_layout_alone G bound is _ _ _ (IsEvidence.of_operations r n e h) s =
+    absurd (apart r 4 5 s (types_stage G is r n (operations_broken G is r n e h)) (omega arith) (omega arith))
 of_layout_alone G bound is _ _ _ (IsEvidence.of_branches r n e h) s =
     absurd (apart r 6 7 s (flow_stage G is r n (branches_law.suffices G is r n e h)) (omega arith) (omega arith))
 of_layout_alone G bound is _ _ _ (IsEvidence.of_walks r n e h) s =

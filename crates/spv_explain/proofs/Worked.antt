@@ -139,8 +139,10 @@ later_version_told = rw (decimal_digit 2 (omega arith), decimal_digit 0 (omega a
 no_second : (r : Rule) (n : ℕ) → ids.Broken small 5 twice_void r n → r ≡ D2 → n ≡ 0 → ⊥
 no_second _ _ (ids.Broken.result_out_of_range n x d o) e z = cc
 no_second _ _ (ids.Broken.use_out_of_range n k x r u o) e z = cc
+no_second _ _ (ids.Broken.mention_out_of_range n k x m o) e z = cc
 no_second _ _ (ids.Broken.defined_again n m x d l k) e z = absurd (omega arith)
 no_second _ _ (ids.Broken.undefined n k x r u d) e z = cc
+no_second _ _ (ids.Broken.mention_undefined n k x m d) e z = cc
 no_second _ _ (ids.Broken.not_in_order n k x r u o i) e z = cc
 no_second _ _ (ids.Broken.not_in_scope n k x r u o l i) e z = cc
 

@@ -19,7 +19,7 @@ use Rattle.spv_verdict.specs.Broken.{Broken}
 use Rattle.spv_verdict.specs.Verdict.{line_end}
 use Rattle.spv_verdict.specs.declared.verdict_line.Judgment.TheVariants as verdicts
 use Rattle.spv_fault_lines.specs.Refused.{front_of}
-use Rattle.spv_json.specs.Members.{refused_members}
+use Rattle.spv_fault_lines.specs.json_members.Members.{refused_members}
 use Rattle.spv_explain.specs.Json.{AreMembers, error_object, json_line, object_of}
 use Rattle.spv_explain.specs.declared.answers.Unread.TheVariants as unread
 use Rattle.spv_explain.proofs.Sufficing.{suffices}

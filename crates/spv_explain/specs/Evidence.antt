@@ -12,6 +12,7 @@ use Rattle.spv_flow_evidence.specs.walks.Evidence as walks
 use Rattle.spv_flow_evidence.specs.calls.Evidence as calls
 use Rattle.spv_form_evidence.specs.capabilities.Evidence as capabilities
 use Rattle.spv_type_evidence.specs.types.Evidence as types
+use Rattle.spv_operation_evidence.specs.Evidence as operations
 
 -- Under the bound of ids, this shows that the rule is broken at the instruction of that number.
 pub data IsEvidence (G : Table) (bound : ℕ) (is : List PlainInst) : Rule → ℕ → Evidence → Type 0 where
@@ -24,8 +25,11 @@ pub data IsEvidence (G : Table) (bound : ℕ) (is : List PlainInst) : Rule → �
   -- C1, C2, M1, E1 and E2
   of_capabilities : (r : Rule) (n : ℕ) (e : Evidence) → capabilities.IsEvidence G is r n e
       → IsEvidence G bound is r n e
-  -- Y2 to Y8
+  -- Y2 to Y4 and Y6 to Y8
   of_types : (r : Rule) (n : ℕ) (e : Evidence) → types.IsEvidence G is r n e → IsEvidence G bound is r n e
+  -- Y5
+  of_operations : (r : Rule) (n : ℕ) (e : Evidence) → operations.IsEvidence G is r n e
+      → IsEvidence G bound is r n e
   -- F
   of_branches : (r : Rule) (n : ℕ) (e : Evidence) → branches.IsEvidence G is r n e → IsEvidence G bound is r n e
   -- A

@@ -28,8 +28,8 @@ use Rattle.spv_form_evidence.specs.words.Evidence as instructions
 use Rattle.spv_fault_lines.specs.Facts.{facts_of}
 use Rattle.spv_fault_lines.specs.Refused.{front_of}
 use Rattle.spv_fault_lines.specs.Words.{malformed_facts}
-use Rattle.spv_json.specs.Members.{members_of, refused_members}
-use Rattle.spv_json.specs.Tokens.{number_member, text_member}
+use Rattle.spv_fault_lines.specs.json_members.Members.{members_of, refused_members}
+use Rattle.spv_fault_lines.specs.json_members.Tokens.{number_member, text_member}
 use Rattle.spv_explain.specs.Evidence.{IsEvidence}
 use Rattle.spv_explain.specs.declared.answers.Answer.{Answer}
 use Rattle.spv_explain.specs.declared.answers.Unread.{Unread}

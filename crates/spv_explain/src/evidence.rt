@@ -11,13 +11,14 @@ ghost use Rattle.spv_verdict.specs.flow.Outcome as flow_outcome;
 ghost use Rattle.spv_verdict.specs.types.Outcome as type_outcome;
 ghost use Rattle.spv_explain.specs.inner.Shown.{IsShownAt};
 
-use crate::kinds::{is_of_calls, is_of_capabilities, is_of_roles, is_of_values};
+use crate::kinds::{is_of_calls, is_of_capabilities, is_of_operations, is_of_roles, is_of_values};
 use spv_evidence::Evidence;
 use spv_flow_evidence::{branch_evidence, call_evidence, walk_evidence};
 use spv_form_evidence::{capability_evidence, id_evidence, layout_evidence, role_evidence};
 use spv_ids::Ids;
 use spv_layout::Plan;
 use spv_module::{Fault, Module};
+use spv_operation_evidence::operation_evidence;
 use spv_table::{Memory, Table};
 use spv_type_evidence::type_evidence;
 use spv_verdict::Reached;
@@ -43,6 +44,9 @@ fn typing_evidence(
     }
     if is_of_capabilities(fault.rule) {
         return capability_evidence(alloc, table, module, plan, ids, fault.rule, fault.inst);
+    }
+    if is_of_operations(fault.rule) {
+        return Ok(operation_evidence(alloc, module, plan, ids, fault.inst)?);
     }
     Ok(type_evidence(alloc, module, plan, ids, fault.rule, fault.inst)?)
 }

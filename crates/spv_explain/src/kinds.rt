@@ -18,6 +18,13 @@ pub fn is_of_capabilities(rule: Rule) -> bool
     matches!(rule, Rule::C1 | Rule::C2 | Rule::M1 | Rule::E1 | Rule::E2)
 }
 
+/// Whether it is the one on operations.
+pub fn is_of_operations(rule: Rule) -> bool
+    ensures { result ≡ kinds.is_of_operations rule }
+{
+    matches!(rule, Rule::Y5)
+}
+
 /// Whether it is one on values.
 pub fn is_of_values(rule: Rule) -> bool
     ensures { result ≡ kinds.is_of_values rule }

@@ -34,7 +34,7 @@ ghost use Rattle.spv_fault_lines.specs.Refused.{found_lines, front_of};
 ghost use Rattle.spv_fault_lines.specs.declared.fact.Detail.TheVariants.{Full, Short};
 ghost use Rattle.spv_fault_lines.specs.declared.fact.Fact.TheVariants as fact;
 ghost use Rattle.spv_rules.specs.declared.rules.Code.TheVariants.{Rule, Word};
-ghost use Rattle.spv_json.specs.Members.{refused_members};
+ghost use Rattle.spv_fault_lines.specs.json_members.Members.{refused_members};
 ghost use Rattle.spv_verdict.specs.declared.verdict_line.Judgment.TheVariants as verdicts;
 ghost use Rattle.spv_explain.specs.Json.{AreMembers, error_object, json_line, object_of, section_of};
 ghost use Rattle.spv_explain.specs.Lines.{refused_text, rule_line};

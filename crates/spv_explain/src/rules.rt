@@ -5,7 +5,7 @@ ghost use Rattle.spv_rules.specs.Codes.{all_codes};
 ghost use Rattle.spv_explain.specs.Json.{AreRuleLines, IsRuleObject};
 
 use crate::answers::push_rule;
-use spv_json::Output;
+use spv_fault_lines::json_members::Output;
 use spv_rules::{AnyCode, code_at};
 use std::alloc::{AllocError, Global};
 

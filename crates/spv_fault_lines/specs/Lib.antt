@@ -7,4 +7,5 @@ pub mod Place
 pub mod Refused
 pub mod Shapes
 pub mod Words
+pub mod json_members
 pub mod inner

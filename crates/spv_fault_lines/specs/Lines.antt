@@ -4,7 +4,8 @@ use Rattle.std.specs.Prelude.{decimal, drop, flat_map, length, nat_eq, nat_le, n
 use Rattle.std.specs.Prelude.{slice_get, unwrap_or, if◌then◌else◌}
 use Rattle.spv_table.specs.Table.{Table, entry_of, enumerant_of, kind_of}
 use Rattle.spv_table.specs.Lookups.{number_named}
-use Rattle.spv_module.specs.Operand.{Plain, OfType, Result, Id, Word, Value, Mask, PlainInst, result_in}
+use Rattle.spv_module.specs.Operand.{Plain, OfType, Result, Id, Word, Value, Mask, Argument, Mention}
+use Rattle.spv_module.specs.Operand.{PlainInst, result_in}
 use Rattle.spv_module.specs.declared.opcode.TheConstants.{TYPE_INT, TYPE_FLOAT, TYPE_VECTOR}
 use Rattle.spv_lines.specs.Digits.{hex_digits}
 use Rattle.spv_lines.specs.Operand.{id_text}
@@ -50,6 +51,8 @@ abbrev pub operand_part : Table → Option Plain → List ℕ
 operand_part G (Some (OfType x)) = id_part x
 operand_part G (Some (Result x)) = id_part x
 operand_part G (Some (Id x)) = id_part x
+operand_part G (Some (Argument x)) = id_part x
+operand_part G (Some (Mention x)) = id_part x
 operand_part G (Some (Word n)) = number_part n
 operand_part G (Some (Value k n)) = name_part (value_text G k n)
 operand_part G (Some (Mask k n)) = number_part n

@@ -146,6 +146,8 @@ fn push_operand(
         Some(Operand::OfType(id)) => push_id(out, id),
         Some(Operand::Result(id)) => push_id(out, id),
         Some(Operand::Id(id)) => push_id(out, id),
+        Some(Operand::Argument(id)) => push_id(out, id),
+        Some(Operand::Mention(id)) => push_id(out, id),
         Some(Operand::Word(number)) => push_spaced(out, number),
         Some(Operand::Value { kind, value }) => {
             out.push_str(" ")?;

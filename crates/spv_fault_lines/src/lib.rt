@@ -1,4 +1,5 @@
-//! The lines that tell a person what shows a fault: facts in numbers, and words for them.
+//! The lines that tell a person what shows a fault: facts in numbers, and words for them; and for a program the members
+//! of an object of JSON.
 #![tactic(auto)]
 
 mod about;
@@ -6,6 +7,7 @@ mod classes;
 mod conditions;
 mod fact;
 mod facts;
+pub mod json_members;
 mod key;
 pub mod laws;
 mod lines;

@@ -1,13 +1,6 @@
 pub mod Declaration
 pub mod Constant
 pub mod Function
-pub mod Condition
-pub mod Conditions
-pub mod Chain
-pub mod Variable
-pub mod Path
-pub mod Rest
-pub mod Beside
 pub mod Evidence
 pub mod Broken
 pub mod Example

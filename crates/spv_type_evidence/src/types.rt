@@ -1,26 +1,15 @@
-//! What shows that a rule of types is broken.
+//! What shows that a rule of types other than Y5 is broken.
 
-mod asked;
-mod beside;
 mod call;
-mod chain;
-mod components;
-mod conditions;
 mod constant;
-mod constituents;
 mod declaration;
 mod first;
 mod function;
-mod holds;
 pub mod laws;
 mod operands;
-mod operation;
-mod path;
 mod repeat;
-mod rest;
 mod returns;
 mod signature;
-mod variable;
 
 ghost use Rattle.std.specs.Prelude.{◌≡◌, ◌+◌, ℕ, List, IfOk, Some, length, map, slice_get};
 ghost use Rattle.spv_table.specs.Table.{Table};
@@ -37,7 +26,6 @@ use crate::types::call::call_evidence;
 use crate::types::constant::constant_evidence;
 use crate::types::declaration::declaration_evidence;
 use crate::types::function::{function_evidence, parameter_evidence};
-use crate::types::operation::operation_evidence;
 use crate::types::repeat::repeat_evidence;
 use crate::types::returns::{return_evidence, value_evidence};
 use spv_evidence::Evidence;
@@ -87,9 +75,9 @@ fn evidence_of_return(definitions: &Definitions, number: u32, inst: &Inst) -> Ev
     }
 }
 
-/// What shows that a rule of Y2 to Y8 is broken at the instruction of a number, from 0 (SPIR-V Specification 1.6,
-/// section 2.16). `plan` and `ids` are what `lay_out` and `number` answered of that module; each id that is used
-/// plays its role, as `roles_check` tells.
+/// What shows that a rule of Y2 to Y8 other than Y5 is broken at the instruction of a number, from 0 (SPIR-V
+/// Specification 1.6, section 2.16). `plan` and `ids` are what `lay_out` and `number` answered of that module; each id
+/// that is used plays its role, as `roles_check` tells.
 ///
 /// Time is linear in the words of the instruction; at a repeated type and at a function or a parameter, in those of the
 /// module.
@@ -117,7 +105,6 @@ pub fn type_evidence(
         Rule::Y2 => Ok(declaration_evidence(alloc, &definitions, ids, number, inst)),
         Rule::Y3 => Ok(repeat_evidence(insts, number, inst)),
         Rule::Y4 => constant_evidence(alloc, &definitions, ids, inst),
-        Rule::Y5 => operation_evidence(alloc, &definitions, ids, number, inst),
         Rule::Y6 => Ok(evidence_of_function(&definitions, insts, number, inst)),
         Rule::Y7 => Ok(evidence_of_return(&definitions, number, inst)),
         Rule::Y8 => Ok(call_evidence(&definitions, inst)),

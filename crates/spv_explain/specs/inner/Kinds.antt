@@ -17,6 +17,11 @@ is_of_capabilities rule.E1 = true
 is_of_capabilities rule.E2 = true
 is_of_capabilities _ = false
 
+-- the one on operations
+abbrev pub is_of_operations : Rule → Bool
+is_of_operations rule.Y5 = true
+is_of_operations _ = false
+
 -- those on values
 abbrev pub is_of_values : Rule → Bool
 is_of_values rule.A1 = true

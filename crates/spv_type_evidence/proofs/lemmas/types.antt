@@ -11,15 +11,5 @@ pub mod Differing
 pub mod Returning
 pub mod Firsts
 pub mod Parts
-pub mod Valued
 pub mod Parameters
 pub mod Repeating
-pub mod Counting
-pub mod Chaining
-pub mod Pointing
-pub mod Paths
-pub mod Composed
-pub mod Constructed
-pub mod Conditioned
-pub mod Listing
-pub mod Stopping

@@ -1,4 +1,4 @@
--- A rule of types that is broken in a module whose layout, ids and roles are sound. (Own.)
+-- A rule of types other than Y5 that is broken in a module whose layout, ids and roles are sound. (Own.)
 use Rattle.std.specs.Prelude.{◌≡◌, ℕ, List, Some, slice_get}
 use Rattle.spv_table.specs.Table.{Table}
 use Rattle.spv_module.specs.Operand.{PlainInst}
@@ -6,13 +6,13 @@ use Rattle.spv_module.specs.declared.fault.Rule.{Rule}
 use Rattle.spv_layout.specs.declared.place.Place.{Place}
 use Rattle.spv_layout.specs.Plan.{IsPlan}
 use Rattle.spv_type_rules.specs.roles.Outcome.{AreInRole}
-use Rattle.spv_ops.specs.Typed.{IsTyped}
 use Rattle.spv_type_rules.specs.Keeps.{Keeps}
 
--- Instruction n does not keep what the rule demands of it. These are the places of the instructions.
+-- Instruction n does not keep what the rule demands of it, where Y5 demands nothing. These are the places of the
+-- instructions.
 pub record IsBroken (G : Table) (is : List PlainInst) (places : List Place) (r : Rule) (n : ℕ) : Type 0 where
   pub plan : IsPlan G is places
   pub roles : AreInRole G is
   pub inst : PlainInst
   pub there : slice_get is n ≡ Some inst
-  pub broken : ¬ (Keeps (IsTyped G is) is r n inst)
+  pub broken : ¬ (Keeps (λ m i. Unit {0}) is r n inst)

@@ -12,7 +12,8 @@ use Rattle.spv_type_rules.specs.declared.constant.Constant.TheVariants as kind
 use Rattle.spv_evidence.specs.declared.condition.Kind.TheVariants as sort
 use Rattle.spv_evidence.specs.declared.condition.Condition.{Condition}
 use Rattle.spv_evidence.specs.declared.condition.Condition.TheVariants as condition
-use Rattle.spv_type_evidence.specs.types.Beside.{named_at, reads}
+use Rattle.spv_evidence.specs.Named.{named_at}
+use Rattle.spv_evidence.specs.Reads.{reads}
 use Rattle.spv_type_rules.specs.Constant.{IsPart, FitsWidth, constant_of}
 
 -- the id stands for a constant, of the type of the part k of the type r

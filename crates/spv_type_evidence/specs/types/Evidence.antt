@@ -1,48 +1,25 @@
--- Evidence for Y2 to Y8: what shows that the rule is broken. [2.8, 3.49.6, 3.49.7, 3.49.9, 3.49.17; own: the table of
--- types]
-use Rattle.std.specs.Prelude.{◌≡◌, ◌≢◌, ℕ, List, [], ◌∷◌, Option, Some, None, length, map}
+-- Evidence for Y2 to Y4 and Y6 to Y8: what shows that the rule is broken. [2.8, 3.49.6, 3.49.7, 3.49.9, 3.49.17]
+use Rattle.std.specs.Prelude.{◌≡◌, ◌≢◌, ℕ, List, [], ◌∷◌, Option, Some, None, length}
 use Rattle.std.specs.Prelude.{slice_get, take}
-use Rattle.std.specs.List.{AllByRecursion}
 use Rattle.spv_table.specs.Table.{Table}
-use Rattle.spv_module.specs.Operand.{Id, PlainInst, type_in}
+use Rattle.spv_module.specs.Operand.{PlainInst, type_in}
 use Rattle.spv_module.specs.declared.fault.Rule.{Rule}
 use Rattle.spv_module.specs.declared.fault.Rule.TheVariants as rule
 use Rattle.spv_module.specs.declared.opcode.TheConstants as opcode
 use Rattle.spv_type_forms.specs.declared.form.Form.TheVariants as form
-use Rattle.spv_ops.specs.declared.row.Row.TheVariants as row
 use Rattle.spv_type_forms.specs.Form.{form_of}
-use Rattle.spv_type_forms.specs.Operands.{ids_in, result_type_in}
-use Rattle.spv_ops.specs.Row.{row_of}
-use Rattle.spv_type_forms.specs.Values.{AreValues, types_of}
+use Rattle.spv_type_forms.specs.Operands.{ids_in}
+use Rattle.spv_type_forms.specs.Values.{types_of}
 use Rattle.spv_type_rules.specs.Repeat.{Repeats}
 use Rattle.spv_type_rules.specs.Function.{parameters_after, function_type_in}
 use Rattle.spv_evidence.specs.declared.evidence.Evidence.{Evidence}
 use Rattle.spv_evidence.specs.declared.evidence.Evidence.TheVariants as evidence
 use Rattle.spv_evidence.specs.declared.evidence.Side.{Side}
 use Rattle.spv_evidence.specs.declared.evidence.Side.TheVariants as side
-use Rattle.spv_type_evidence.specs.declared.types.asked.Asked.{Asked}
-use Rattle.spv_type_evidence.specs.declared.types.asked.Value.{Value}
-use Rattle.spv_type_evidence.specs.types.Condition.{FailsFirst, Holds}
-use Rattle.spv_type_evidence.specs.types.Conditions.{conditions_of}
-use Rattle.spv_type_evidence.specs.types.Rest.{RestHolds}
-use Rattle.spv_type_evidence.specs.types.Beside.{IsDefinedBy, types_in, condition_in, operand_in, wanted_in}
-use Rattle.spv_type_evidence.specs.types.Beside.{found_in, read_in}
+use Rattle.spv_evidence.specs.Named.{IsDefinedBy}
 use Rattle.spv_type_evidence.specs.types.Declaration as declarations
 use Rattle.spv_type_evidence.specs.types.Constant as constants
 use Rattle.spv_type_evidence.specs.types.Function.{Differs, IsParameter, ReturnsFrom, Calls, IsArgument}
-
--- These are the value operands of the instruction i, in order, each with its number and the type that it is declared
--- with.
-pub record AreTyped (G : Table) (is : List PlainInst) (i : PlainInst) (vs : List Value) : Type 0 where
-  pub values : AreValues G i (map (λ v. v.id) vs)
-  pub types : types_of is (map (λ v. v.id) vs) ≡ Some (types_in vs)
-  pub each : AllByRecursion (λ v. slice_get i.operands v.operand ≡ Some (Id v.id)) vs
-
--- A condition of the row of the instruction i of number n holds, where its value operands are these.
-abbrev pub HoldsAt : List PlainInst → ℕ → PlainInst → List Value → Asked → Type 0
-HoldsAt is n i vs a =
-    let r = result_type_in i.operands in
-    Holds is (RestHolds is n i r (types_in vs)) r (types_in vs) a
 
 -- The evidence shows that the rule is broken at the instruction i of number n.
 pub data Shows (G : Table) (is : List PlainInst) (n : ℕ) (i : PlainInst) : Rule → Evidence → Type 0 where
@@ -57,15 +34,6 @@ pub data Shows (G : Table) (is : List PlainInst) (n : ℕ) (i : PlainInst) : Rul
       → Shows G is n i rule.Y4 (evidence.Condition (constants.condition_at f.kind k) (Some k) m
       (constants.wanted_at is f.kind i k) (constants.found_at is f.kind i k)
       (constants.read_at is f.kind i k))
-  -- the first condition of the opcode's row that fails, by the operand whose type it looks at, with what defines the
-  -- operand, the types that are wanted and found, and those that are read
-  operation : (vs : List Value) (a : Asked) (m : Option ℕ) → row_of i.opcode ≢ row.Free → AreTyped G is i vs
-      → FailsFirst (HoldsAt is n i vs) (conditions_of (row_of i.opcode) (length vs)) a
-      → IsDefinedBy is i (operand_in is i vs a) m
-      → Shows G is n i rule.Y5 (evidence.Condition (condition_in a) (operand_in is i vs a) m
-      (wanted_in is i (result_type_in i.operands) (types_in vs) a)
-      (found_in is i (result_type_in i.operands) (types_in vs) a)
-      (read_in is i (result_type_in i.operands) (types_in vs) a))
   -- the type of the OpFunction differs from its result type and its parameters
   function : (r : ℕ) (s : Side) (wanted found : Option ℕ) → i.opcode ≡ opcode.FUNCTION
       → type_in i.operands ≡ Some r → Differs is i r (parameters_after is n) s wanted found

@@ -1,21 +1,14 @@
 -- Small modules.
 use Rattle.std.specs.Prelude.{List, [], ◌∷◌, ◌++◌}
-use Rattle.spv_module.specs.Operand.{OfType, Result, Id, Word, PlainInst}
+use Rattle.spv_module.specs.Operand.{OfType, Result, Id, PlainInst}
 use Rattle.spv_module.specs.declared.opcode.TheConstants as opcode
 use Rattle.spv_type_forms.specs.Example.{inst}
 use Rattle.spv_type_rules.specs.Example.{small, again, short_call}
-
--- %9 = OpTypeVector %1 5
-abbrev pub vector : PlainInst
-vector = inst opcode.TYPE_VECTOR (Result 9 ∷ Id 1 ∷ Word 5 ∷ [])
+use Rattle.spv_evidence.specs.Example.{vector}
 
 -- %9 = OpConstantComposite %3 %18 %18
 abbrev pub composite : PlainInst
 composite = inst opcode.CONSTANT_COMPOSITE (OfType 3 ∷ Result 9 ∷ Id 18 ∷ Id 18 ∷ [])
-
--- OpBranchConditional %5 %30 %31
-abbrev pub no_weight : PlainInst
-no_weight = inst opcode.BRANCH_CONDITIONAL (Id 5 ∷ Id 30 ∷ Id 31 ∷ [])
 
 -- the small module of seven instructions, and one more
 abbrev pub with_vector : List PlainInst

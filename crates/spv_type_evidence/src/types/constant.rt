@@ -16,9 +16,8 @@ ghost use Rattle.spv_type_evidence.specs.types.Constant.{Asks, AsksOf, AsksParts
 ghost use Rattle.spv_type_evidence.specs.types.Evidence.{Shows};
 ghost use Rattle.spv_type_evidence.specs.types.inner.First.{IsFirstOf};
 
-use crate::types::beside::{defined_by, named_at, reads_within};
 use crate::types::operands::low_in;
-use spv_evidence::{Condition, Evidence, Kind, Listed};
+use spv_evidence::{Condition, Evidence, Kind, Listed, defined_by, named_at, reads_within};
 use spv_ids::Ids;
 use spv_module::{Inst, Operand};
 use spv_type_forms::{

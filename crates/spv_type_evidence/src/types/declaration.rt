@@ -12,12 +12,11 @@ ghost use Rattle.spv_type_evidence.specs.types.Declaration.{Asks, AsksData, IsSc
 ghost use Rattle.spv_type_evidence.specs.types.Evidence.{Shows};
 ghost use Rattle.spv_type_evidence.specs.types.inner.First.{IsFirstOf};
 
-use crate::types::beside::defined_by;
 use crate::types::first::first_of_two;
 use crate::types::operands::{
     array_in, float_in, forward_in, int_in, members_in, pointee_in, signature_in, vector_in,
 };
-use spv_evidence::{Condition, Evidence, Kind, Listed};
+use spv_evidence::{Condition, Evidence, Kind, Listed, defined_by};
 use spv_ids::Ids;
 use spv_module::{Inst, Operand};
 use spv_type_forms::{Definitions, Form, is_data};

@@ -1,21 +1,10 @@
 //! The operands of type declarations and constants, where they are such as the instruction has.
 
-ghost use Rattle.std.specs.Prelude.{◌≡◌, option_and_then, option_map, slice_get};
+ghost use Rattle.std.specs.Prelude.{◌≡◌, option_map};
 ghost use Rattle.spv_module.specs.Module.{plain_operands};
-ghost use Rattle.spv_type_forms.specs.Parts.{id_in};
 ghost use Rattle.spv_type_evidence.specs.types.inner.Operands as spec;
 
 use spv_module::Operand;
-
-/// The id that operand `k` is, if it is one that is neither a type nor a result.
-pub fn id_at(operands: &[Operand], k: usize) -> Option<u32>
-    ensures { result ≡ option_and_then id_in (slice_get (plain_operands operands.now) k) }
-{
-    match operands.get(k) {
-        Some(Operand::Id(x)) => Some(*x),
-        _ => None,
-    }
-}
 
 /// The width and the signedness of an OpTypeInt.
 pub fn int_in(operands: &[Operand]) -> Option<(u32, u32)>

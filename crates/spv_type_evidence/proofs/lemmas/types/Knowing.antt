@@ -7,8 +7,6 @@ use Rattle.spv_module.specs.declared.fault.Rule.{Rule}
 use Rattle.spv_module.specs.declared.fault.Rule.TheVariants as rule
 use Rattle.std.proofs.lemmas.Bool.{cases_eq}
 use Rattle.spv_module.specs.declared.opcode.TheConstants as opcode
-use Rattle.spv_layout.specs.Shape.{FitsShape}
-use Rattle.spv_ops.specs.Typed.{IsTyped}
 use Rattle.spv_type_rules.specs.Keeps.{Keeps}
 use Rattle.spv_layout.specs.declared.place.Place.{Place}
 use Rattle.spv_layout.specs.Place.{IsShort}
@@ -29,20 +27,14 @@ pub is_evidence : (G : Table) (is js : List PlainInst) (r : Rule) (n : ℕ) (i :
 is_evidence G is js r n i e same at s = subst (λ ks. IsEvidence G ks r n e) same (record { inst = i; there = at; shows = s })
 
 -- what is broken at it, by a list that is the same
-not_kept : (G : Table) (is js : List PlainInst) (places : List Place) (q r : Rule) (n : ℕ) (i : PlainInst) → js ≡ is → slice_get js n ≡ Some i → q ≡ r → IsBroken G is places q n → ¬ (Keeps (IsTyped G js) js r n i)
+not_kept : (G : Table) (is js : List PlainInst) (places : List Place) (q r : Rule) (n : ℕ) (i : PlainInst) → js ≡ is → slice_get js n ≡ Some i → q ≡ r → IsBroken G is places q n → ¬ (Keeps (λ m j. Unit {0}) js r n i)
 not_kept G is js places q r n i e at same b h =
     let there : slice_get is n ≡ Some i = subst (λ ks. slice_get ks n ≡ Some i) e at in
     let inst : i ≡ b.inst = inst_same is n i b.inst there b.there in
-    b.broken (rw (same, ← inst) (subst (λ ks. Keeps (IsTyped G ks) ks r n i) e h))
+    b.broken (rw (same, ← inst) (subst (λ ks. Keeps (λ m j. Unit {0}) ks r n i) e h))
 
 pub call_opcode : (G : Table) (is js : List PlainInst) (places : List Place) (q : Rule) (n : ℕ) (i : PlainInst) → js ≡ is → slice_get js n ≡ Some i → q ≡ rule.Y8 → IsBroken G is places q n → i.opcode ≡ opcode.FUNCTION_CALL
 call_opcode G is js places q n i e at same b = elim (cases_eq i.opcode opcode.FUNCTION_CALL) [
   | inl o ↦ o
   | inr o ↦ absurd (not_kept G is js places q rule.Y8 n i e at same b (λ h. absurd (o h)))
 ]
-
-pub not_typed : (G : Table) (is js : List PlainInst) (places : List Place) (q : Rule) (n : ℕ) (i : PlainInst) → js ≡ is → slice_get js n ≡ Some i → q ≡ rule.Y5 → IsBroken G is places q n → ¬ (IsTyped G js n i)
-not_typed G is js places q n i e at same b = not_kept G is js places q rule.Y5 n i e at same b
-
-pub fits_at : (G : Table) (is js : List PlainInst) (places : List Place) (q : Rule) (n : ℕ) (i : PlainInst) → js ≡ is → slice_get js n ≡ Some i → IsBroken G is places q n → FitsShape G i
-fits_at G is js places q n i e at b = b.plan.fits n i (subst (λ ks. slice_get ks n ≡ Some i) e at)

@@ -14,7 +14,7 @@ use Rattle.spv_type_rules.specs.Constant.{Constitutes, constant_of}
 use Rattle.spv_type_rules.specs.inner.Constant.{IsSoundConstant}
 use Rattle.spv_type_rules.specs.inner.Found.{is_typed_part}
 use Rattle.spv_evidence.specs.declared.evidence.Evidence.TheVariants as evidence
-use Rattle.spv_type_evidence.specs.types.Beside.{IsDefinedBy}
+use Rattle.spv_evidence.specs.Named.{IsDefinedBy}
 use Rattle.spv_type_evidence.specs.types.Constant.{IsPartOf, AsksParts, Asks, condition_at, wanted_at, found_at, read_at}
 use Rattle.spv_type_evidence.specs.types.Evidence.{Shows}
 use Rattle.spv_type_evidence.specs.types.inner.First.{IsFirstOf}

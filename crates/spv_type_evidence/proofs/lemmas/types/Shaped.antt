@@ -176,6 +176,8 @@ few_ids (operand.Id x ∷ os) = let r = few_ids os in let e : sum_by operand_wor
 few_ids (operand.OfType x ∷ os) = omega arith
 few_ids (operand.Result x ∷ os) = omega arith
 few_ids (operand.Word x ∷ os) = omega arith
+few_ids (operand.Argument x ∷ os) = omega arith
+few_ids (operand.Mention x ∷ os) = omega arith
 few_ids (operand.Number a b w ∷ os) = omega arith
 few_ids (operand.Text x ∷ os) = omega arith
 few_ids (operand.Value a b ∷ os) = omega arith

@@ -1,21 +1,16 @@
 -- What is evidence for a rule shows that the rule is broken.
-use Rattle.std.proofs.Common.{◌≡◌, ◌≢◌, ◌∙◌, ◌+◌, ◌++◌, ℕ, zero, suc, List, [], ◌∷◌, Option, Some, None, inl, inr, refl, sym, ap, subst, length, map, take, option_and_then, option_map, arith}
+use Rattle.std.proofs.Common.{◌≡◌, ◌≢◌, ◌∙◌, ◌+◌, ℕ, zero, suc, List, [], ◌∷◌, Option, Some, None, refl, sym, ap, subst, length, map, take, option_and_then, option_map, arith}
 use Rattle.std.specs.Prelude.{slice_get, IsSomeAnd}
-use Rattle.std.specs.List.{AllByRecursion}
-use Rattle.std.proofs.lemmas.List.{length-map}
 use Rattle.spv_table.specs.Table.{Table}
 use Rattle.spv_module.specs.Operand.{Plain, Id, PlainInst, type_in}
 use Rattle.spv_module.specs.Width.{type_of}
 use Rattle.spv_module.specs.declared.fault.Rule.{Rule}
-use Rattle.spv_layout.specs.declared.form.Form.{Form}
 use Rattle.spv_layout.proofs.Places.{function_same}
-use Rattle.spv_layout.proofs.Shapes.{forms_same}
 use Rattle.spv_type_forms.specs.declared.form.Form.TheVariants as form
 use Rattle.spv_type_forms.specs.Form.{form_of}
-use Rattle.spv_type_forms.specs.Operands.{ids_in, after_head, result_type_in}
+use Rattle.spv_type_forms.specs.Operands.{ids_in, after_head}
 use Rattle.spv_type_forms.specs.Parts.{id_in}
-use Rattle.spv_ops.specs.Typed.{Typed, IsTyped}
-use Rattle.spv_type_forms.specs.Values.{AreValues, types_of, used_in}
+use Rattle.spv_type_forms.specs.Values.{types_of}
 use Rattle.spv_type_rules.specs.inner.Declaration.{IsSoundDeclaration}
 use Rattle.spv_type_rules.specs.inner.Constant.{IsSoundConstant}
 use Rattle.spv_type_rules.specs.Function.{signature_of, ReturnsAfter, ReturnsTyped, ReturnsNothing, OfFunction, CallsSoundly, CallsTyped, parameter_type_of, parameters_between}
@@ -26,14 +21,7 @@ use Rattle.spv_evidence.specs.declared.evidence.Side.{Side}
 use Rattle.spv_type_evidence.specs.types.Declaration as declarations
 use Rattle.spv_type_evidence.specs.types.Constant as constants
 use Rattle.spv_type_evidence.specs.types.Function.{Differs, IsOf, IsParameter, ReturnsFrom, Calls, IsArgument}
-use Rattle.spv_ops.specs.Row.{row_of}
-use Rattle.spv_type_evidence.specs.declared.types.asked.Asked.{Asked}
-use Rattle.spv_type_evidence.specs.declared.types.asked.Value.{Value}
-use Rattle.spv_type_evidence.specs.types.Beside.{types_in}
-use Rattle.spv_type_evidence.specs.types.Condition.{FailsFirst}
-use Rattle.spv_type_evidence.specs.types.Conditions.{conditions_of}
-use Rattle.spv_type_evidence.proofs.lemmas.types.Conditioned.{row_conditions}
-use Rattle.spv_type_evidence.specs.types.Evidence.{Shows, IsEvidence, HoldsAt}
+use Rattle.spv_type_evidence.specs.types.Evidence.{Shows, IsEvidence}
 use Rattle.spv_type_evidence.proofs.lemmas.types.Declaring.{declares_asks}
 use Rattle.spv_type_evidence.proofs.lemmas.types.Making.{makes_asks}
 
@@ -44,34 +32,6 @@ declaration_broken is n k i f h = f.fails (declares_asks is n f.kind i.operands 
 
 constant_broken : (is : List PlainInst) (k : ℕ) (i : PlainInst) → constants.FailsFirst is i k → IsSoundConstant is i → ⊥
 constant_broken is k i f h = f.fails (makes_asks is f.kind i.operands (rw f.makes at h) k)
-
--- Y5
-
-values_same : (G : Table) (i : PlainInst) (xs ys : List ℕ) → AreValues G i xs → AreValues G i ys → xs ≡ ys
-values_same G i xs ys a b =
-    let same : a.forms ≡ b.forms = forms_same G i a.forms b.forms a.has b.has in
-    sym a.values ∙ ap (λ (fs : List Form). used_in fs i.operands) same ∙ b.values
-
-types_broken : (G : Table) (is : List PlainInst) (n : ℕ) (i : PlainInst) (xs us : List ℕ) → AreValues G i xs → types_of is xs ≡ Some us → ¬ (Typed is n i us)
-    → ((ys ts : List ℕ) × AreValues G i ys × (types_of is ys ≡ Some ts) × Typed is n i ts) → ⊥
-types_broken G is n i xs us a t never h =
-    let ids : h.0 ≡ xs = values_same G i h.0 xs h.2 a in
-    let types : Some h.1 ≡ Some us = sym h.3 ∙ ap (types_of is) ids ∙ t in
-    let same : h.1 ≡ us = cc in
-    never (subst (λ ts. Typed is n i ts) same h.4)
-
--- a condition that fails
-among : (P : Asked → Type 0) (before after : List Asked) (a : Asked) → AllByRecursion P (before ++ a ∷ after) → P a
-among P [] after a h = h.0
-among P (b ∷ before) after a h = among P before after a h.1
-
-first_breaks : (is : List PlainInst) (n : ℕ) (i : PlainInst) (vs : List Value) (a : Asked) → FailsFirst (HoldsAt is n i vs) (conditions_of (row_of i.opcode) (length vs)) a → ¬ (Typed is n i (types_in vs))
-first_breaks is n i vs a f h =
-    let all = row_conditions is n i (row_of i.opcode) (result_type_in i.operands) (types_in vs) h in
-    let here : AllByRecursion (HoldsAt is n i vs) (conditions_of (row_of i.opcode) (length vs)) =
-    subst (λ m. AllByRecursion (HoldsAt is n i vs) (conditions_of (row_of i.opcode) m)) (length-map vs (λ (v : Value). v.of)) all
-    in
-    f.fails (among (HoldsAt is n i vs) f.before f.after a (subst (AllByRecursion (HoldsAt is n i vs)) f.all here))
 
 -- The function that an instruction is of.
 
@@ -190,13 +150,10 @@ argument_broken is i d r xs k t u c g not h =
     let same : Some t ≡ Some u = sym next ∙ v in
     not cc
 
-shows_broken : (G : Table) (is : List PlainInst) (n : ℕ) (i : PlainInst) (r : Rule) (e : Evidence) → Shows G is n i r e → Keeps (IsTyped G is) is r n i → ⊥
+shows_broken : (G : Table) (is : List PlainInst) (n : ℕ) (i : PlainInst) (r : Rule) (e : Evidence) → Shows G is n i r e → Keeps (λ m j. Unit {0}) is r n i → ⊥
 shows_broken G is n i _ _ (Shows.declaration k m f by) h = declaration_broken is n k i f h
 shows_broken G is n i _ _ (Shows.again r) h = h r
 shows_broken G is n i _ _ (Shows.constant k m f by) h = constant_broken is k i f h
-shows_broken G is n i _ _ (Shows.operation vs a m bound t f by) (inl free) = bound free
-shows_broken G is n i _ _ (Shows.operation vs a m bound t f by) (inr h) =
-    types_broken G is n i (map (λ v. v.id) vs) (types_in vs) t.values t.types (first_breaks is n i vs a f) h
 shows_broken G is n i _ _ (Shows.function r s wanted found o t f) h = function_broken is i (type_in i.operands) r _ s wanted found t f (h.function o)
 shows_broken G is n i _ _ (Shows.parameter k t due o p not) h = parameter_broken is n k t i due p not (h.parameter o)
 shows_broken G is n i _ _ (Shows.nothing r o f not) h = nothing_broken is n r f not (h.nothing o)
@@ -204,7 +161,7 @@ shows_broken G is n i _ _ (Shows.value r t o f e not) h = value_broken is n r t 
 shows_broken G is n i _ _ (Shows.call d r xs s wanted found o c f) h = call_broken is i d r xs s wanted found c f (h o)
 shows_broken G is n i _ _ (Shows.argument d r xs k t u o c g not) h = argument_broken is i d r xs k t u c g not (h o)
 
-pub suffices : (G : Table) (is : List PlainInst) (r : Rule) (n : ℕ) (e : Evidence) → IsEvidence G is r n e → (i : PlainInst) → slice_get is n ≡ Some i → ¬ (Keeps (IsTyped G is) is r n i)
+pub suffices : (G : Table) (is : List PlainInst) (r : Rule) (n : ℕ) (e : Evidence) → IsEvidence G is r n e → (i : PlainInst) → slice_get is n ≡ Some i → ¬ (Keeps (λ m j. Unit {0}) is r n i)
 suffices G is r n e v i at h =
     let same : v.inst ≡ i = let f : Some v.inst ≡ Some i = sym v.there ∙ at in cc in
     shows_broken G is n i r e (subst (λ j. Shows G is n j r e) same v.shows) h

@@ -22,7 +22,8 @@ use Rattle.spv_evidence.specs.declared.condition.Condition.TheVariants as condit
 use Rattle.spv_type_evidence.specs.types.Declaration.{Asks, condition_at}
 use Rattle.spv_type_evidence.specs.types.Function.{Differs, Calls}
 use Rattle.spv_type_evidence.specs.types.Evidence.{Shows, IsEvidence}
-use Rattle.spv_type_evidence.specs.types.Example.{vector, with_vector, with_again, with_short_call}
+use Rattle.spv_type_evidence.specs.types.Example.{with_vector, with_again, with_short_call}
+use Rattle.spv_evidence.specs.Example.{vector}
 
 not_five : ¬ (IsVectorCount 5)
 not_five (inl e) = absurd (omega (arith, e))

@@ -1,19 +1,12 @@
 use Rattle.std.proofs.Common.{◌≡◌, ◌<◌, ◌∙◌, ℕ, sym, ap, subst, length, map, arith}
 use Rattle.std.proofs.lemmas.List.{length-map}
 use Rattle.std.proofs.lemmas.Option.{slice_get_within}
-use Rattle.std.proofs.lemmas.Result.{IfOk-weaker}
-use Rattle.spv_table.specs.Table.{Table}
 use Rattle.spv_module.specs.Module.{plain_inst, plain_insts}
-use Rattle.spv_module.specs.declared.fault.Rule.TheVariants.{Y5}
-use Rattle.spv_layout.specs.Shape.{FitsShape}
 use Rattle.spv_layout.proofs.Misfits.{short_list}
-use Rattle.spv_ops.specs.Typed.{IsTyped}
-use Rattle.spv_type_evidence.specs.types.Evidence.{IsEvidence, Shows}
 use Rattle.spv_ids.specs.Outcome.{IsDefinitionOf, definition_in}
-use Rattle.spv_type_evidence.proofs.lemmas.types.Knowing.{known_of, is_evidence, call_opcode, not_typed, fits_at}
+use Rattle.spv_type_evidence.proofs.lemmas.types.Knowing.{known_of, call_opcode}
 use Rattle.spv_type_evidence.proofs.lemmas.types.Parts.{few_parts}
 use Rattle.spv_type_evidence.proofs.lemmas.types.Shaped.{call_shape}
-use Rattle.spv_type_evidence.proofs.lemmas.types.Valued.{typeable_at}
 use Rattle.spv_type_evidence.proofs.types.type_evidence.Goals as goal
 
 pub new-definitions-requires-clause-ids : goal.new-definitions-requires-clause-ids
@@ -43,30 +36,6 @@ constant_evidence-requires-clause-ids c =
     let e : c.new-definitions.result ≡ plain_insts c.args.module.now = c.new-definitions.ensures ∙ ap (λ xs. map plain_inst xs) c.as_slice-insts.ensures.value in
     subst (λ is. (x : ℕ) → IsDefinitionOf is x (definition_in c.args.ids.now x)) (sym e) c.requires.ids
 
-pub operation_evidence-requires-clause-ids : goal.operation_evidence-requires-clause-ids
-operation_evidence-requires-clause-ids c =
-    let e : c.new-definitions.result ≡ plain_insts c.args.module.now = c.new-definitions.ensures ∙ ap (λ xs. map plain_inst xs) c.as_slice-insts.ensures.value in
-    subst (λ is. (x : ℕ) → IsDefinitionOf is x (definition_in c.args.ids.now x)) (sym e) c.requires.ids
-
-pub operation_evidence-requires-clause-typeable : goal.operation_evidence-requires-clause-typeable
-operation_evidence-requires-clause-typeable c =
-    let e : c.new-definitions.result ≡ plain_insts c.args.module.now = c.new-definitions.ensures ∙ ap (λ xs. map plain_inst xs) c.as_slice-insts.ensures.value in
-    let b = c.requires.broken in
-    let known = known_of b.0 (plain_insts c.args.module.now) c.new-definitions.result c.args.plan.now c.args.rule c.args.number e c.requires.words b.1 in
-    (b.0, typeable_at b.0 c.new-definitions.result c.args.number (plain_inst c.inst-inst.result.now) known c.inst-inst.ensures)
-
-pub operation_evidence-requires-clause-broken : goal.operation_evidence-requires-clause-broken
-operation_evidence-requires-clause-broken c =
-    let is = plain_insts c.args.module.now in
-    let js = c.new-definitions.result in
-    let i = plain_inst c.inst-inst.result.now in
-    let e : js ≡ is = c.new-definitions.ensures ∙ ap (λ xs. map plain_inst xs) c.as_slice-insts.ensures.value in
-    let at = c.inst-inst.ensures in
-    let b = c.requires.broken in
-    let fits = fits_at b.0 is js c.args.plan.now c.args.rule c.args.number i e at b.1 in
-    let never = not_typed b.0 is js c.args.plan.now c.args.rule c.args.number i e at c.in-Y5.is b.1 in
-    (b.0, fits, never)
-
 pub evidence_of_function-requires-clause-few : goal.evidence_of_function-requires-clause-few
 evidence_of_function-requires-clause-few c =
     let l = short_list (plain_insts c.args.module.now) in
@@ -82,21 +51,3 @@ call_evidence-requires-clause-shape c =
     let known = known_of b.0 (plain_insts c.args.module.now) c.new-definitions.result c.args.plan.now c.args.rule c.args.number e c.requires.words b.1 in
     call_shape b.0 c.new-definitions.result c.args.number (plain_inst c.inst-inst.result.now) known c.inst-inst.ensures
     (call_opcode b.0 (plain_insts c.args.module.now) c.new-definitions.result c.args.plan.now c.args.rule c.args.number (plain_inst c.inst-inst.result.now) e c.inst-inst.ensures c.in-Y8.is b.1)
-
-pub returns-in-Y5 : goal.returns-in-Y5
-returns-in-Y5 c = λ G b.
-    let is = plain_insts c.args.module.now in
-    let js = c.new-definitions.result in
-    let i = plain_inst c.inst-inst.result.now in
-    let n = c.args.number in
-    let e : js ≡ is = c.new-definitions.ensures ∙ ap (λ xs. map plain_inst xs) c.as_slice-insts.ensures.value in
-    let at = c.inst-inst.ensures in
-    let fits = fits_at G is js c.args.plan.now c.args.rule n i e at b in
-    let never = not_typed G is js c.args.plan.now c.args.rule n i e at c.in-Y5.is b in
-    rw c.in-Y5.is (
-    IfOk-weaker c.operation_evidence.result (λ v. (H : Table) → FitsShape H i → ¬ (IsTyped H js n i) → Shows H js n i Y5 v) (λ v. IsEvidence G is Y5 n v)
-    (λ v h. is_evidence G is js Y5 n i v e at (h G fits never))
-    c.operation_evidence.ensures)
-
-pub operation_evidence-requires-clause-within : goal.operation_evidence-requires-clause-within
-operation_evidence-requires-clause-within c = slice_get_within c.new-definitions.result c.args.number (plain_inst c.inst-inst.result.now) c.inst-inst.ensures

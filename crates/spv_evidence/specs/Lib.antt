@@ -1,0 +1,7 @@
+pub mod Named
+pub mod Reads
+pub mod Values
+pub mod Chain
+pub mod Stops
+pub mod Path
+pub mod Example

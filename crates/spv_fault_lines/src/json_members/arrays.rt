@@ -1,0 +1,225 @@
+//! Arrays: of ids, of names, of words and of types.
+ghost use Rattle.std.specs.Prelude.{◌≡◌, ◌++◌, ℕ, List, [], OnOk, flat_map, option_map, slice_get};
+ghost use Rattle.spv_module.specs.Module.{plain_inst, plain_insts};
+ghost use Rattle.spv_lines.specs.Text.{ShownLines};
+ghost use Rattle.spv_fault_lines.specs.json_members.Tokens.{array};
+ghost use Rattle.spv_fault_lines.specs.json_members.Members as members;
+
+use crate::json_members::objects::push_thing;
+use crate::json_members::output::Output;
+use crate::{About, Thing, listed_names, needs_of, push_capability};
+use spv_evidence::Lister;
+use spv_module::Inst;
+use spv_table::{NameList, Table};
+use std::alloc::{AllocError, Global};
+
+/// Adds the result of an instruction, if it has one.
+fn push_result(out: &mut Output, about: &About<'_, '_>, inst: u32) -> Result<(), AllocError>
+    ensures { OnOk result (out.new ≡ out.old ++ members.result_token (plain_insts about.now.«module».now) inst) }
+{
+    match about.result_of(inst) {
+        Some(id) => out.number(id),
+        None => Ok(()),
+    }
+}
+
+/// Adds the results of instructions.
+fn push_ids(out: &mut Output, about: &About<'_, '_>, insts: &[u32]) -> Result<(), AllocError>
+    ensures { OnOk result (out.new ≡ out.old ++ flat_map (members.result_token
+        (plain_insts about.now.«module».now)) insts.now) }
+{
+    for inst in insts {
+        push_result(out, about, *inst)?;
+    }
+    Ok(())
+}
+
+/// Adds an array of the results of instructions.
+pub fn push_results(
+    out: &mut Output,
+    about: &About<'_, '_>,
+    insts: &[u32],
+) -> Result<(), AllocError>
+    ensures { OnOk result (out.new ≡ out.old ++ members.results_tokens (plain_insts about.now.«module».now) insts.now) }
+{
+    out.begin_array()?;
+    push_ids(out, about, insts)?;
+    out.end_array()
+}
+
+/// Adds an array of the functions of a cycle, and before them the last of them, the caller.
+pub fn push_cycle(out: &mut Output, about: &About<'_, '_>, cycle: &[u32]) -> Result<(), AllocError>
+    ensures { OnOk result (out.new ≡ out.old ++ members.cycle_tokens (plain_insts about.now.«module».now) cycle.now) }
+{
+    out.begin_array()?;
+    let caller = cycle.len().saturating_sub(1);
+    push_ids(out, about, &cycle[caller..])?;
+    push_ids(out, about, cycle)?;
+    out.end_array()
+}
+
+/// Adds numbers.
+fn push_numbers(out: &mut Output, numbers: &[u32]) -> Result<(), AllocError>
+    ensures { OnOk result (out.new ≡ out.old ++ flat_map members.number_tokens numbers.now) }
+{
+    for number in numbers {
+        out.number(*number)?;
+    }
+    Ok(())
+}
+
+/// Adds an array of words.
+pub fn push_words(out: &mut Output, words: &[u32]) -> Result<(), AllocError>
+    ensures { OnOk result (out.new ≡ out.old ++ array (flat_map members.number_tokens words.now)) }
+{
+    out.begin_array()?;
+    push_numbers(out, words)?;
+    out.end_array()
+}
+
+/// Adds types.
+fn push_each_thing(
+    out: &mut Output,
+    about: &About<'_, '_>,
+    things: &[Thing],
+) -> Result<(), AllocError>
+    ensures { (shown : List (List ℕ)) → ShownLines about.now.table.now [] (plain_insts about.now.«module».now) shown
+        → OnOk result (out.new ≡ out.old ++ flat_map (members.thing_tokens shown) things.now) }
+{
+    for thing in things {
+        push_thing(out, about, *thing)?;
+    }
+    Ok(())
+}
+
+/// Adds an array of types.
+pub fn push_things(
+    out: &mut Output,
+    about: &About<'_, '_>,
+    things: &[Thing],
+) -> Result<(), AllocError>
+    ensures { (shown : List (List ℕ)) → ShownLines about.now.table.now [] (plain_insts about.now.«module».now) shown
+        → OnOk result (out.new ≡ out.old ++ array (flat_map (members.thing_tokens shown) things.now)) }
+{
+    out.begin_array()?;
+    push_each_thing(out, about, things)?;
+    out.end_array()
+}
+
+/// Adds the name of an opcode. Nothing where the grammar has none.
+fn push_opcode(out: &mut Output, table: &Table, opcode: u16) -> Result<(), AllocError>
+    ensures { OnOk result (out.new ≡ out.old ++ members.opcode_token table.now opcode) }
+{
+    match table.entry(opcode) {
+        Some(entry) => out.text(entry.name.as_str()),
+        None => Ok(()),
+    }
+}
+
+/// The same of an opcode that may come.
+fn push_coming(out: &mut Output, table: &Table, opcode: u32) -> Result<(), AllocError>
+    ensures { OnOk result (out.new ≡ out.old ++ members.coming_token table.now opcode) }
+{
+    if opcode < 65536 {
+        return push_opcode(out, table, opcode as u16);
+    }
+    Ok(())
+}
+
+/// Adds the names of opcodes that may come.
+fn push_each_coming(out: &mut Output, table: &Table, opcodes: &[u32]) -> Result<(), AllocError>
+    ensures { OnOk result (out.new ≡ out.old ++ flat_map (members.coming_token table.now) opcodes.now) }
+{
+    for opcode in opcodes {
+        push_coming(out, table, *opcode)?;
+    }
+    Ok(())
+}
+
+/// Adds an array of the names of opcodes that may come.
+pub fn push_opcodes(out: &mut Output, table: &Table, opcodes: &[u32]) -> Result<(), AllocError>
+    ensures { OnOk result (out.new ≡ out.old ++ array (flat_map (members.coming_token table.now) opcodes.now)) }
+{
+    out.begin_array()?;
+    push_each_coming(out, table, opcodes)?;
+    out.end_array()
+}
+
+/// Adds names.
+fn push_names(out: &mut Output, names: &NameList) -> Result<(), AllocError>
+    ensures { OnOk result (out.new ≡ out.old ++ flat_map members.name_token names.now) }
+{
+    for place in 0..names.len() {
+        out.text(names.name(place))?;
+    }
+    Ok(())
+}
+
+/// Adds the name of a capability, or its number where the grammar has none.
+pub fn push_capability_name(
+    out: &mut Output,
+    alloc: Global,
+    table: &Table,
+    capability: u32,
+) -> Result<(), AllocError>
+    ensures { OnOk result (out.new ≡ out.old ++ members.capability_token table.now capability) }
+{
+    let mut text = String::new(alloc);
+    push_capability(&mut text, table, capability)?;
+    out.text(text.as_str())
+}
+
+/// Adds the names of capabilities.
+fn push_capabilities(
+    out: &mut Output,
+    alloc: Global,
+    table: &Table,
+    capabilities: &[u32],
+) -> Result<(), AllocError>
+    ensures { OnOk result (out.new ≡ out.old ++ flat_map (members.capability_token table.now) capabilities.now) }
+{
+    for capability in capabilities {
+        push_capability_name(out, alloc, table, *capability)?;
+    }
+    Ok(())
+}
+
+/// Adds the names of the capabilities of which one is needed by an instruction.
+fn push_needed(
+    out: &mut Output,
+    alloc: Global,
+    table: &Table,
+    inst: Option<&Inst<'_>>,
+    lister: Lister,
+) -> Result<(), AllocError>
+    ensures { OnOk result (out.new ≡ out.old ++ members.needed_tokens table.now
+        (option_map (λ i. plain_inst i.now) inst.entry) lister) }
+{
+    let Some(inst) = inst else {
+        return Ok(());
+    };
+    match listed_names(table, inst, lister) {
+        Some(names) => push_names(out, names),
+        None => push_capabilities(
+            out,
+            alloc,
+            table,
+            needs_of(inst.opcode, inst.operands.as_slice()),
+        ),
+    }
+}
+
+/// Adds an array of the names of the capabilities of which one is needed by an instruction.
+pub fn push_needs(
+    out: &mut Output,
+    about: &About<'_, '_>,
+    inst: u32,
+    lister: Lister,
+) -> Result<(), AllocError>
+    ensures { OnOk result (out.new ≡ out.old ++ array (members.needed_tokens about.now.table.now
+        (slice_get (plain_insts about.now.«module».now) inst) lister)) }
+{
+    out.begin_array()?;
+    push_needed(out, about.alloc, about.table, about.inst(inst), lister)?;
+    out.end_array()
+}

@@ -1,0 +1,30 @@
+//! Worked examples. Each function does nothing: its contract is what is proved.
+
+ghost use Rattle.std.specs.Prelude.{◌≡◌, ◌∷◌, [], None, Some, codes, true};
+ghost use Rattle.json.specs.Token.{begin_array, begin_object, boolean, end_array, end_object, key as name, null, number, string};
+ghost use Rattle.spv_module.specs.Example.{small, string as one_string};
+ghost use Rattle.spv_fault_lines.specs.declared.fact.Fact.TheVariants as fact;
+ghost use Rattle.spv_fault_lines.specs.declared.fact.Thing.TheVariants as thing;
+ghost use Rattle.spv_fault_lines.specs.json_members.Members.{member_of};
+
+/// Members of facts, of a module that has the one instruction %5 = OpString "abc".
+pub fn member_examples()
+    ensures bound { member_of small [] [] (fact.Bound 9) ≡ name (codes "bound") ∷ number (codes "9") ∷ [] }
+    ensures not_text { ¬ (member_of small [] [] (fact.Bound 9) ≡ name (codes "bound") ∷ string (codes "9") ∷ []) }
+    // An instruction has its number and its line.
+    ensures earlier { member_of small (one_string ∷ []) (codes "%5 = OpString \"abc\"" ∷ []) (fact.Earlier 0)
+        ≡ name (codes "earlier") ∷ begin_object ∷ name (codes "inst") ∷ number (codes "0") ∷ name (codes "text")
+        ∷ string (codes "%5 = OpString \"abc\"") ∷ end_object ∷ [] }
+    // An operand has its number, and the id that it is.
+    ensures operand { member_of small (one_string ∷ []) [] (fact.Operand 0 0)
+        ≡ name (codes "operand") ∷ begin_object ∷ name (codes "index") ∷ number (codes "0") ∷ name (codes "id")
+        ∷ number (codes "5") ∷ end_object ∷ [] }
+    // What may come is a list of names, and that the module may end a member more.
+    ensures coming { member_of small [] [] (fact.MayCome (7 ∷ 21 ∷ []) true)
+        ≡ name (codes "mayComeNext") ∷ begin_array ∷ string (codes "OpString") ∷ string (codes "OpTypeInt")
+        ∷ end_array ∷ name (codes "mayEnd") ∷ boolean true ∷ [] }
+    // Types are one member.
+    ensures types { member_of small [] [] (fact.Types (thing.Id 3 ∷ thing.Nothing ∷ []))
+        ≡ name (codes "types") ∷ begin_array ∷ begin_object ∷ name (codes "id") ∷ number (codes "3") ∷ end_object
+        ∷ null ∷ end_array ∷ [] }
+{}

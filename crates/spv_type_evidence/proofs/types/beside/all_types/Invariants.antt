@@ -1,7 +1,0 @@
-use Rattle.std.proofs.Common.{◌≡◌, ◌++◌, take}
-use Rattle.std.specs.Prelude.{option_to_list}
-use Rattle.spv_type_evidence.specs.types.Beside.{types_in}
-use Rattle.spv_type_evidence.proofs.types.beside.all_types.Given as goal
-
-abbrev pub invariant-loop-value : goal.invariant-loop-value
-invariant-loop-value l = l.types.items ≡ option_to_list l.fn.r ++ types_in (take l.value-index l.values)

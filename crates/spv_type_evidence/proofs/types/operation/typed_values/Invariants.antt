@@ -1,6 +1,0 @@
-use Rattle.spv_module.specs.Module.{plain_inst}
-use Rattle.spv_type_evidence.specs.types.inner.Values.{AreSoFar}
-use Rattle.spv_type_evidence.proofs.types.operation.typed_values.Given as goal
-
-abbrev pub invariant-loop-k : goal.invariant-loop-k
-invariant-loop-k l = AreSoFar l.definitions (plain_inst l.inst) l.k l.values.items

@@ -1,8 +1,0 @@
-use Rattle.std.proofs.Common.{◌≡◌, ◌++◌, drop}
-use Rattle.spv_module.specs.Module.{plain_operands}
-use Rattle.spv_type_forms.specs.Operands.{words_in}
-use Rattle.spv_type_evidence.specs.types.Path.{path_by}
-use Rattle.spv_type_evidence.proofs.types.path.path_by.Given as goal
-
-abbrev pub invariant-loop-operand : goal.invariant-loop-operand
-invariant-loop-operand l = path_by l.definitions (words_in (plain_operands l.operands)) l.t ≡ l.types.items ++ path_by l.definitions (words_in (plain_operands (drop l.operand-index l.operands))) l.at
