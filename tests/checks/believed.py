@@ -34,7 +34,7 @@ PROMISES = (
     (
         "From words to instructions and back",
         "`decode` and `encode`.",
-        (("spv_inst", "decoder.rt", "decode"), ("spv_encode", "encoder.rt", "encode")),
+        (("spv_inst", "decoder.rt", "decode"), ("spv_printer", "encoder.rt", "encode")),
     ),
     (
         "The text of a module",

@@ -1,0 +1,3 @@
+-- Definitions that serve the code alone.
+pub mod Found
+pub mod Parts

@@ -1,0 +1,66 @@
+//! Laws of the definitions, and worked examples. Each function does nothing: its contract is what is proved.
+
+ghost use Rattle.std.specs.Prelude.{◌≡◌, ◌≢◌, ◌++◌, ◌∷◌, [], List, length, map, true, false};
+ghost use Rattle.spv_module.specs.Operand.{Id, Argument, Mention, PlainInst};
+ghost use Rattle.spv_extended.specs.declared.set.Set.TheVariants.{OpenClStd, OpenClDebugInfo, DebugInfo};
+ghost use Rattle.spv_extended.specs.declared.signature.More.TheVariants.{Nothing, Any, Unknown};
+ghost use Rattle.spv_extended.specs.Facts.{is_literal, signature_of, takes};
+ghost use Rattle.spv_extended.specs.Opened.{opened};
+ghost use Rattle.spv_extended.specs.Miscalled.{IsMiscalled};
+ghost use Rattle.spv_extended.specs.Example.{call, imports};
+
+/// What sets tell of their instructions.
+pub fn signature_examples()
+    // vloadn (171) takes two ids and a literal, printf (184) an id and any number more, and there is no number 111.
+    ensures load { signature_of OpenClStd 171 ≡ record { least = 3; more = Nothing; literals = 4 } }
+    ensures printf { signature_of OpenClStd 184 ≡ record { least = 1; more = Any; literals = 0 } }
+    ensures no_number { signature_of OpenClStd 111 ≡ record { least = 0; more = Unknown; literals = 0 } }
+    ensures third { is_literal (signature_of OpenClStd 171) 2 ≡ true }
+    ensures not_second { is_literal (signature_of OpenClStd 171) 1 ≡ false }
+    // DebugOperation (30) takes any number of literals.
+    ensures operation { is_literal (signature_of OpenClDebugInfo 30) 1000 ≡ true }
+    // DebugFunction (20) takes ten operands, or eleven.
+    ensures function { takes (signature_of DebugInfo 20) 11 ≡ true }
+    ensures too_many { takes (signature_of DebugInfo 20) 12 ≡ false }
+{}
+
+/// Opening keeps how many instructions a module has, the opcode of each, and how many operands it has.
+pub fn opening_keeps()
+    ensures count { (is : List PlainInst) → length (opened is) ≡ length is }
+    ensures opcodes { (is : List PlainInst) → map (λ (i : PlainInst). i.opcode) (opened is)
+        ≡ map (λ (i : PlainInst). i.opcode) is }
+    ensures operands { (is : List PlainInst) → map (λ (i : PlainInst). length i.operands) (opened is)
+        ≡ map (λ (i : PlainInst). length i.operands) is }
+{}
+
+/// Opening a module twice is opening it once.
+pub fn opening_again()
+    ensures { (is : List PlainInst) → opened (opened is) ≡ opened is }
+{}
+
+/// What becomes of the ids of extended instructions.
+pub fn opened_examples()
+    // vloadn (171) of OpenCL.std takes two values and a literal.
+    ensures load { opened (imports ++ call 1 171 (Id 7 ∷ Id 8 ∷ Id 4 ∷ []) ∷ [])
+        ≡ imports ++ call 1 171 (Argument 7 ∷ Argument 8 ∷ Id 4 ∷ []) ∷ [] }
+    ensures no_literal { opened (imports ++ call 1 171 (Id 7 ∷ Id 8 ∷ Id 4 ∷ []) ∷ [])
+        ≢ imports ++ call 1 171 (Argument 7 ∷ Argument 8 ∷ Argument 4 ∷ []) ∷ [] }
+    // DebugTypeVector (6) of OpenCL.DebugInfo.100 takes an id and a literal.
+    ensures vector { opened (imports ++ call 2 6 (Id 7 ∷ Id 4 ∷ []) ∷ [])
+        ≡ imports ++ call 2 6 (Mention 7 ∷ Id 4 ∷ []) ∷ [] }
+    // Of a set that is not known each place is that of an id.
+    ensures other { opened (call 1 171 (Id 7 ∷ Id 8 ∷ Id 4 ∷ []) ∷ [])
+        ≡ call 1 171 (Mention 7 ∷ Mention 8 ∷ Mention 4 ∷ []) ∷ [] }
+{}
+
+/// Calls of what OpenCL.std does not have.
+pub fn miscalled_examples()
+    ensures load { ¬ (IsMiscalled (imports ++ call 1 171 (Id 7 ∷ Id 8 ∷ Id 4 ∷ []) ∷ []) 2) }
+    ensures fewer { IsMiscalled (imports ++ call 1 171 (Id 7 ∷ Id 8 ∷ []) ∷ []) 2 }
+    // printf (184) takes a format and any number of values, and there is no instruction 111.
+    ensures printf { ¬ (IsMiscalled (imports ++ call 1 184 (Id 7 ∷ Id 8 ∷ Id 9 ∷ []) ∷ []) 2) }
+    ensures no_format { IsMiscalled (imports ++ call 1 184 [] ∷ []) 2 }
+    ensures no_number { IsMiscalled (imports ++ call 1 111 (Id 7 ∷ []) ∷ []) 2 }
+    // Of other sets nothing is asked.
+    ensures vector { ¬ (IsMiscalled (imports ++ call 2 6 [] ∷ []) 2) }
+{}

@@ -1,0 +1,80 @@
+"""What the extended instructions of a set take, in spv_extended, as Khronos' grammar files tell it.
+
+The crate has a list for each set: at the number of an instruction a number that tells what stands behind it (src/facts.rt
+says how it is read). This is what writes the lists, and compares them.
+"""
+
+import json
+import re
+import textwrap
+from pathlib import Path
+
+from .common import TESTS, Check, Unusable
+
+FACTS = TESTS.parent / "crates/spv_extended/src/facts.rt"
+FOLDER = Path("/usr/include/spirv/unified1")
+SETS = {
+    "OPENCL_STD": "extinst.opencl.std.100.grammar.json",
+    "OPENCL_DEBUG_INFO": "extinst.opencl.debuginfo.100.grammar.json",
+    "DEBUG_INFO": "extinst.debuginfo.grammar.json",
+}
+IDS = ("IdRef", "PairIdRefIdRef")
+MORE = {"": 0, "?": 1, "*": 2}
+NONE = 3
+LAST_PLACE = 25
+WIDTH = 95
+REMEDY = "tests/extended --write makes it anew"
+
+
+def fact(operands):
+    """The number of an instruction with these operands."""
+    marks = [it.get("quantifier", "") for it in operands]
+    if any(marks[:-1]):
+        raise Unusable("an operand that may be left out, or come again, has others behind it")
+    more = MORE[marks[-1]] if marks else MORE[""]
+    literals = 0
+    for place, operand in enumerate(operands):
+        if operand["kind"] not in IDS:
+            places = range(place, LAST_PLACE + 1) if marks[place] == "*" else (place,)
+            literals |= sum(1 << it for it in places)
+    least = len(operands) - (more != 0)
+    if least > 15 or len(operands) > LAST_PLACE:
+        raise Unusable("an instruction has more operands than a fact can tell")
+    return least | more << 4 | literals << 6
+
+
+def facts(name):
+    """The numbers of a set, by the numbers of its instructions from 0."""
+    tree = json.loads((FOLDER / SETS[name]).read_text(encoding="utf-8"))
+    known = {it["opcode"]: fact(it.get("operands", [])) for it in tree["instructions"]}
+    return [known.get(number, NONE << 4) for number in range(max(known) + 1)]
+
+
+def list_of(name):
+    """The static with the facts of a set."""
+    told = facts(name)
+    lines = textwrap.fill(", ".join(map(hex, told)) + ",", WIDTH)
+    return f"pub static {name}: [u32; {len(told)}] = [\n{textwrap.indent(lines, '    ')}\n];\n"
+
+
+def content():
+    """What the file must hold."""
+    now = FACTS.read_text(encoding="utf-8")
+    for name in SETS:
+        pattern = re.compile(rf"(?m)^pub static {name}: \[u32; \d+\] = \[\n(    .*\n)*\];\n")
+        if not pattern.search(now):
+            raise Unusable(f"{FACTS} has no {name}")
+        now = pattern.sub(lambda _, name=name: list_of(name), now)
+    return now
+
+
+def wrong_facts(_program, _folder):
+    """None if the file holds what Khronos' files tell."""
+    if FACTS.read_text(encoding="utf-8") != content():
+        return f"  {FACTS.name} of spv_extended is not what Khronos' files tell; {REMEDY}"
+    return None
+
+
+def checks():
+    """One check, of the file."""
+    return [Check("extended: Khronos' instructions", frozenset(), wrong_facts, frozenset({"khronos"}))]
