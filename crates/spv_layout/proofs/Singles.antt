@@ -1,11 +1,12 @@
 -- An instruction that fits a row whose operands take one word each has one more word than operands.
-use Rattle.std.proofs.Common.{◌≡◌, ◌≢◌, ◌∙◌, ◌++◌, ◌+◌, ℕ, nat_eq, zero, suc, List, [], ◌∷◌, refl, sym, ap, subst, Bool, true, false, if◌then◌else◌, ◌&&◌, ◌||◌, ◌<◌, inl, inr, Option, Some, None, length, drop, arith}
+use Rattle.std.proofs.Common.{◌≡◌, ◌++◌, ◌+◌, ℕ, nat_eq, zero, suc, List, [], ◌∷◌, refl, sym, ap, subst, Bool, true, false, if◌then◌else◌, ◌&&◌, ◌||◌, ◌<◌, inl, inr, Option, Some, None, length, drop, arith}
 use Rattle.std.specs.Prelude.{sum_by, slice_get}
 use Rattle.std.proofs.lemmas.Bool.Decides.{eqb_tells}
 use Rattle.std.proofs.lemmas.List.Sums.{sum_by-cons}
 use Rattle.spv_table.specs.Table.{Table}
 use Rattle.spv_module.specs.Operand.{Plain, PlainInst}
 use Rattle.spv_module.specs.Operand as operand
+use Rattle.spv_layout.specs.declared.form.Kinded.{Kinded}
 use Rattle.spv_layout.specs.declared.form.Form.{Form}
 use Rattle.spv_layout.specs.declared.form.Form.TheVariants as form
 use Rattle.spv_layout.specs.declared.form.Row as declared
@@ -15,7 +16,7 @@ use Rattle.spv_layout.specs.Rows.{row_of}
 use Rattle.spv_layout.specs.Shape.{is_of, AreOf, Ends, FitsShape}
 use Rattle.spv_layout.specs.Place.{operand_words, section_of, word_count}
 use Rattle.spv_layout.specs.inner.Single.{is_single, are_single, is_single_ending, is_single_row, are_same, are_same_sections, front_of, IsFront, is_flagged, are_flagged}
-use Rattle.spv_layout.specs.inner.Test.{sort_of, sort_for, sorts_asked, are_sorts, HasSorts}
+use Rattle.spv_layout.specs.inner.Test.{sorts_asked, is_kind_at, are_sorts, are_kinded, are_row_sorts, HasSorts}
 use Rattle.spv_layout.proofs.Derivatives.{both_hold, both_true}
 
 same_is : (a b : Bool) → are_same a b ≡ true → a ≡ b
@@ -39,14 +40,14 @@ pub same_number : (m n : ℕ) → nat_eq m n ≡ true → m ≡ n
 same_number m n h = elim (eqb_tells m n) [ inl p ↦ p.1 | inr p ↦ (let q = p.0 in cc) ]
 
 -- a row of the code says whether it is single, the section of its class, how many of its fixed operands are single, and
--- the sorts that they ask for, or 0
+-- the sorts that they ask for, or 0, or these and which one asks for a kind
 pub flagged_at : (rs : List declared.Row) (k : ℕ) (r : declared.Row) → are_flagged rs ≡ true → slice_get rs k ≡ Some r → r.single ≡ is_single_row (plain_row r)
 flagged_at rs k r h e =
     let p = both_hold (are_same r.single (is_single_row (plain_row r))) _ (flag_at rs k r h e) in
     same_is r.single (is_single_row (plain_row r)) p.0
 
 others_at : (rs : List declared.Row) (k : ℕ) (r : declared.Row) → are_flagged rs ≡ true → slice_get rs k ≡ Some r
-    → (are_same_sections r.section (section_of r.class) && (nat_eq r.front (front_of r.fixed.now) && are_sorts r.sorts r.fixed.now)) ≡ true
+    → (are_same_sections r.section (section_of r.class) && (nat_eq r.front (front_of r.fixed.now) && are_row_sorts r.sorts r.kind r.fixed.now)) ≡ true
 others_at rs k r h e =
     let p = both_hold (are_same r.single (is_single_row (plain_row r))) _ (flag_at rs k r h e) in
     p.1
@@ -56,30 +57,41 @@ section_at rs k r h e =
     let q = both_hold (are_same_sections r.section (section_of r.class)) _ (others_at rs k r h e) in
     same_section r.section (section_of r.class) q.0
 
-numbers_at : (rs : List declared.Row) (k : ℕ) (r : declared.Row) → are_flagged rs ≡ true → slice_get rs k ≡ Some r → (nat_eq r.front (front_of r.fixed.now) && are_sorts r.sorts r.fixed.now) ≡ true
+numbers_at : (rs : List declared.Row) (k : ℕ) (r : declared.Row) → are_flagged rs ≡ true → slice_get rs k ≡ Some r → (nat_eq r.front (front_of r.fixed.now) && are_row_sorts r.sorts r.kind r.fixed.now) ≡ true
 numbers_at rs k r h e =
     let q = both_hold (are_same_sections r.section (section_of r.class)) _ (others_at rs k r h e) in
     q.1
 
 pub front_at : (rs : List declared.Row) (k : ℕ) (r : declared.Row) → are_flagged rs ≡ true → slice_get rs k ≡ Some r → r.front ≡ front_of r.fixed.now
 front_at rs k r h e =
-    let q = both_hold (nat_eq r.front (front_of r.fixed.now)) (are_sorts r.sorts r.fixed.now) (numbers_at rs k r h e) in
+    let q = both_hold (nat_eq r.front (front_of r.fixed.now)) (are_row_sorts r.sorts r.kind r.fixed.now) (numbers_at rs k r h e) in
     same_number r.front (front_of r.fixed.now) q.0
 
 one_is : (a b : Bool) → (a || b) ≡ true → a ≡ false → b ≡ true
 one_is true b h e = cc
 one_is false b h e = h
 
-some_number : (m n : ℕ) → (nat_eq m 0 || nat_eq m n) ≡ true → 0 < m → m ≡ n
-some_number m n h p = elim (eqb_tells m 0) [
-  | inl q ↦ (let e = q.1 in absurd (omega (arith, e, p)))
-  | inr q ↦ same_number m n (one_is (nat_eq m 0) (nat_eq m n) h q.0)
-]
-
-pub sorts_at : (rs : List declared.Row) (k : ℕ) (r : declared.Row) → are_flagged rs ≡ true → slice_get rs k ≡ Some r → HasSorts r.sorts r.fixed.now
+pub sorts_at : (rs : List declared.Row) (k : ℕ) (r : declared.Row) → are_flagged rs ≡ true → slice_get rs k ≡ Some r → HasSorts r.sorts r.kind r.fixed.now
 sorts_at rs k r h e =
-    let q = both_hold (nat_eq r.front (front_of r.fixed.now)) (are_sorts r.sorts r.fixed.now) (numbers_at rs k r h e) in
-    some_number r.sorts (sorts_asked r.fixed.now) q.1
+    let q = both_hold (nat_eq r.front (front_of r.fixed.now)) (are_row_sorts r.sorts r.kind r.fixed.now) (numbers_at rs k r h e) in
+    q.1
+
+same_sorts : (m : ℕ) (k : Option ℕ) (fs : List Form) → are_sorts m k fs ≡ true → (m ≡ sorts_asked fs) × (is_kind_at k fs ≡ true)
+same_sorts m k fs h = let d = both_hold (nat_eq m (sorts_asked fs)) (is_kind_at k fs) h in (same_number m (sorts_asked fs) d.0, d.1)
+
+-- the sorts of a row that asks for no kind, and of one that asks for one
+pub sorts_alone : (n : ℕ) (k : Option Kinded) (fs : List Form) → HasSorts n k fs → 0 < n → (n ≡ sorts_asked fs) × (is_kind_at None fs ≡ true)
+sorts_alone n k fs h p =
+    let d = both_hold (nat_eq n 0 || are_sorts n None fs) (are_kinded k fs) h in
+    elim (eqb_tells n 0) [
+      | inl q ↦ (let e = q.1 in absurd (omega (arith, e, p)))
+      | inr q ↦ same_sorts n None fs (one_is (nat_eq n 0) (are_sorts n None fs) d.0 q.0)
+    ]
+
+pub sorts_kinded : (n : ℕ) (k : Kinded) (fs : List Form) → HasSorts n (Some k) fs → (k.sorts ≡ sorts_asked fs) × (is_kind_at (Some k.place) fs ≡ true)
+sorts_kinded n k fs h =
+    let d = both_hold (nat_eq n 0 || are_sorts n None fs) (are_kinded (Some k) fs) h in
+    same_sorts k.sorts (Some k.place) fs d.1
 
 -- an operand of a single form
 one_word : (G : Table) (f : Form) (o : Plain) → is_single f ≡ true → is_of G f o ≡ true → operand_words o ≡ 1
@@ -157,64 +169,3 @@ front_words G i r n f e h =
     let k : x.row ≡ r = (let a = x.known in cc) in
     let h' : n ≡ front_of x.row.fixed = rw k h in
     subst (λ m. IsFront i.operands m) (sym h') (fixed_front G x.row.fixed x.rest i.operands (rw (← x.forms) x.each))
-
--- a form that asks for a sort alone
-pub sort_is : (G : Table) (f : Form) (o : Plain) (n : ℕ) → n ≡ sort_for f → n ≢ 8 → nat_eq (sort_of o) n ≡ is_of G f o
-sort_is G form.OfType (operand.OfType x) n e h = rw e refl
-sort_is G form.OfType (operand.Result x) n e h = rw e refl
-sort_is G form.OfType (operand.Id x) n e h = rw e refl
-sort_is G form.OfType (operand.Word x) n e h = rw e refl
-sort_is G form.OfType (operand.Number low high words) n e h = rw e refl
-sort_is G form.OfType (operand.Text t) n e h = rw e refl
-sort_is G form.OfType (operand.Value k x) n e h = rw e refl
-sort_is G form.OfType (operand.Mask k x) n e h = rw e refl
-sort_is G form.Result (operand.OfType x) n e h = rw e refl
-sort_is G form.Result (operand.Result x) n e h = rw e refl
-sort_is G form.Result (operand.Id x) n e h = rw e refl
-sort_is G form.Result (operand.Word x) n e h = rw e refl
-sort_is G form.Result (operand.Number low high words) n e h = rw e refl
-sort_is G form.Result (operand.Text t) n e h = rw e refl
-sort_is G form.Result (operand.Value k x) n e h = rw e refl
-sort_is G form.Result (operand.Mask k x) n e h = rw e refl
-sort_is G form.Word (operand.OfType x) n e h = rw e refl
-sort_is G form.Word (operand.Result x) n e h = rw e refl
-sort_is G form.Word (operand.Id x) n e h = rw e refl
-sort_is G form.Word (operand.Word x) n e h = rw e refl
-sort_is G form.Word (operand.Number low high words) n e h = rw e refl
-sort_is G form.Word (operand.Text t) n e h = rw e refl
-sort_is G form.Word (operand.Value k x) n e h = rw e refl
-sort_is G form.Word (operand.Mask k x) n e h = rw e refl
-sort_is G form.Number (operand.OfType x) n e h = rw e refl
-sort_is G form.Number (operand.Result x) n e h = rw e refl
-sort_is G form.Number (operand.Id x) n e h = rw e refl
-sort_is G form.Number (operand.Word x) n e h = rw e refl
-sort_is G form.Number (operand.Number low high words) n e h = rw e refl
-sort_is G form.Number (operand.Text t) n e h = rw e refl
-sort_is G form.Number (operand.Value k x) n e h = rw e refl
-sort_is G form.Number (operand.Mask k x) n e h = rw e refl
-sort_is G form.Text (operand.OfType x) n e h = rw e refl
-sort_is G form.Text (operand.Result x) n e h = rw e refl
-sort_is G form.Text (operand.Id x) n e h = rw e refl
-sort_is G form.Text (operand.Word x) n e h = rw e refl
-sort_is G form.Text (operand.Number low high words) n e h = rw e refl
-sort_is G form.Text (operand.Text t) n e h = rw e refl
-sort_is G form.Text (operand.Value k x) n e h = rw e refl
-sort_is G form.Text (operand.Mask k x) n e h = rw e refl
-sort_is G (form.Id r) (operand.OfType x) n e h = rw e refl
-sort_is G (form.Id r) (operand.Result x) n e h = rw e refl
-sort_is G (form.Id r) (operand.Id x) n e h = rw e refl
-sort_is G (form.Id r) (operand.Word x) n e h = rw e refl
-sort_is G (form.Id r) (operand.Number low high words) n e h = rw e refl
-sort_is G (form.Id r) (operand.Text t) n e h = rw e refl
-sort_is G (form.Id r) (operand.Value k x) n e h = rw e refl
-sort_is G (form.Id r) (operand.Mask k x) n e h = rw e refl
-sort_is G form.Unseen (operand.OfType x) n e h = rw e refl
-sort_is G form.Unseen (operand.Result x) n e h = rw e refl
-sort_is G form.Unseen (operand.Id x) n e h = rw e refl
-sort_is G form.Unseen (operand.Word x) n e h = rw e refl
-sort_is G form.Unseen (operand.Number low high words) n e h = rw e refl
-sort_is G form.Unseen (operand.Text t) n e h = rw e refl
-sort_is G form.Unseen (operand.Value k x) n e h = rw e refl
-sort_is G form.Unseen (operand.Mask k x) n e h = rw e refl
-sort_is G (form.Kind name) o n e h = absurd (h e)
-sort_is G form.Other o n e h = absurd (h e)

@@ -1,5 +1,5 @@
 -- The test of a shape holds exactly where the shape does.
-use Rattle.std.proofs.Common.{◌≡◌, ◌≢◌, ◌≤◌, ◌∙◌, ◌++◌, ℕ, suc, nat_eq, arith, List, [], ◌∷◌, refl, sym, ap, Bool, true, false, IsTrue, ◌&&◌, ◌||◌, ◌⊎◌, inl, inr, Option, Some, None, length, take, drop, map, ◌<◌, ◌↔◌}
+use Rattle.std.proofs.Common.{◌≡◌, ◌≢◌, ◌≤◌, ◌∙◌, ◌+◌, ◌++◌, ℕ, zero, suc, get_or, nat_eq, arith, List, [], ◌∷◌, refl, sym, ap, Bool, true, false, not, if◌then◌else◌, IsTrue, ◌&&◌, ◌||◌, ◌⊎◌, inl, inr, Option, Some, None, length, take, drop, map, ◌<◌, ◌↔◌}
 use Rattle.std.proofs.lemmas.Bool.Decides.{eqb_tells}
 use Rattle.std.proofs.Math.ListN.{drop_of_length-le}
 use Rattle.std.proofs.lemmas.List.{length-drop, length-take, take_all, take-map, drop-map}
@@ -11,11 +11,11 @@ use Rattle.spv_module.specs.Operand as operand
 use Rattle.spv_layout.specs.declared.form.Role.TheVariants as role
 use Rattle.spv_layout.specs.declared.form.Form.{Form}
 use Rattle.spv_layout.specs.declared.form.Form.TheVariants as form
-use Rattle.spv_layout.specs.Row.{PlainRow, RowEnding, closed, maybe, file_and_text, repeated, others, maybe_others}
+use Rattle.spv_layout.specs.Row.{PlainRow, RowEnding, closed, maybe, file_and_text, repeated, others, maybe_others, has_masks}
 use Rattle.spv_layout.specs.Rows.{row_of}
 use Rattle.spv_layout.specs.Shape.{is_of, AreOf, Ends, FitsShape}
 use Rattle.spv_layout.specs.inner.Shape.{FitsEnding}
-use Rattle.spv_layout.specs.inner.Test.{sort_of, sort_for, sorts_of, sorts_asked, are_of, are_others, is_empty, are_rounds, is_kind_and_others, fits_ending, fits_row}
+use Rattle.spv_layout.specs.inner.Test.{sort_of, sort_for, row_sort, sorts_of, sorts_asked, is_kind, is_kind_at, is_of_at, are_of, are_others, is_empty, are_rounds, is_kind_and_others, fits_ending, fits_row}
 use Rattle.spv_layout.proofs.Derivatives.{both_hold, both_true}
 use Rattle.spv_layout.proofs.Shapes.{no_operands, are_rest, are_moved}
 
@@ -301,6 +301,8 @@ sort_tells G (form.Kind k) (operand.OfType x) h = absurd (omega (arith, h))
 sort_tells G (form.Kind k) (operand.Result x) h = absurd (omega (arith, h))
 sort_tells G (form.Kind k) (operand.Id x) h = absurd (omega (arith, h))
 sort_tells G (form.Kind k) (operand.Word x) h = absurd (omega (arith, h))
+sort_tells G (form.Kind k) (operand.Argument x) h = absurd (omega (arith, h))
+sort_tells G (form.Kind k) (operand.Mention x) h = absurd (omega (arith, h))
 sort_tells G (form.Kind k) (operand.Number a b c) h = absurd (omega (arith, h))
 sort_tells G (form.Kind k) (operand.Text t) h = absurd (omega (arith, h))
 sort_tells G (form.Kind k) (operand.Value a b) h = absurd (omega (arith, h))
@@ -309,22 +311,26 @@ sort_tells G form.Other (operand.OfType x) h = absurd (omega (arith, h))
 sort_tells G form.Other (operand.Result x) h = absurd (omega (arith, h))
 sort_tells G form.Other (operand.Id x) h = absurd (omega (arith, h))
 sort_tells G form.Other (operand.Word x) h = absurd (omega (arith, h))
+sort_tells G form.Other (operand.Argument x) h = absurd (omega (arith, h))
+sort_tells G form.Other (operand.Mention x) h = absurd (omega (arith, h))
 sort_tells G form.Other (operand.Number a b c) h = absurd (omega (arith, h))
 sort_tells G form.Other (operand.Text t) h = absurd (omega (arith, h))
 sort_tells G form.Other (operand.Value a b) h = absurd (omega (arith, h))
 sort_tells G form.Other (operand.Mask a b) h = absurd (omega (arith, h))
 
-sort_few : (o : Plain) → sort_of o < 8
+sort_few : (o : Plain) → sort_of o < 10
 sort_few (operand.OfType x) = omega arith
 sort_few (operand.Result x) = omega arith
 sort_few (operand.Id x) = omega arith
 sort_few (operand.Word x) = omega arith
+sort_few (operand.Argument x) = omega arith
+sort_few (operand.Mention x) = omega arith
 sort_few (operand.Number a b c) = omega arith
 sort_few (operand.Text t) = omega arith
 sort_few (operand.Value a b) = omega arith
 sort_few (operand.Mask a b) = omega arith
 
-asked_few : (f : Form) → sort_for f < 9
+asked_few : (f : Form) → sort_for f < 16
 asked_few form.OfType = omega arith
 asked_few form.Result = omega arith
 asked_few form.Word = omega arith
@@ -343,14 +349,74 @@ pub asked_end : (fs : List Form) → 9 ≤ sorts_asked fs
 asked_end [] = omega arith
 asked_end (f ∷ fs) = let l = asked_end fs in omega arith
 
--- operands whose sorts are those that forms ask for
-pub sorts_tell : (G : Table) (fs : List Form) (os : List Plain) → sorts_of os ≡ sorts_asked fs → are_of G fs os ≡ true
-sorts_tell G [] [] h = refl
-sorts_tell G [] (o ∷ os) h = let l = sorts_end os in absurd (omega (arith, h))
-sorts_tell G (f ∷ fs) [] h = let l = asked_end fs in absurd (omega (arith, h))
-sorts_tell G (f ∷ fs) (o ∷ os) h =
+-- operands whose sorts are those that forms ask for, where the one of which a kind is asked is of its form
+masks_few : (b : Bool) → (if b then 7 else 6) < 16
+masks_few true = omega arith
+masks_few false = omega arith
+
+row_few : (f : Form) → row_sort f < 16
+row_few (form.Kind k) = masks_few (has_masks k)
+row_few f = asked_few f
+
+row_sort_tells : (G : Table) (f : Form) (o : Plain) → not (is_kind f) ≡ true → sort_of o ≡ row_sort f → is_of G f o ≡ true
+row_sort_tells G (form.Kind k) o n h = cc
+row_sort_tells G f o n h = sym (sort_tells G f o h)
+
+pub sorts_tell : (G : Table) (k : Option ℕ) (fs : List Form) (os : List Plain) → sorts_of os ≡ sorts_asked fs → is_kind_at k fs ≡ true → is_of_at G k fs os ≡ true → are_of G fs os ≡ true
+sorts_tell G k [] [] h p q = refl
+sorts_tell G k [] (o ∷ os) h p q = let l = sorts_end os in absurd (omega (arith, h))
+sorts_tell G k (f ∷ fs) [] h p q = let l = asked_end fs in absurd (omega (arith, h))
+sorts_tell G None (f ∷ fs) (o ∷ os) h p q =
     let a = sort_few o in
-    let b = asked_few f in
-    let e : sort_of o ≡ sort_for f = omega (arith, h) in
+    let b = row_few f in
+    let e : sort_of o ≡ row_sort f = omega (arith, h) in
     let r : sorts_of os ≡ sorts_asked fs = omega (arith, h) in
-    both_true (is_of G f o) (are_of G fs os) (sym (sort_tells G f o e)) (sorts_tell G fs os r)
+    let d = both_hold (not (is_kind f)) (is_kind_at None fs) p in
+    both_true (is_of G f o) (are_of G fs os) (row_sort_tells G f o d.0 e) (sorts_tell G None fs os r d.1 refl)
+sorts_tell G (Some zero) (f ∷ fs) (o ∷ os) h p q =
+    let a = sort_few o in
+    let b = row_few f in
+    let r : sorts_of os ≡ sorts_asked fs = omega (arith, h) in
+    let d = both_hold (is_kind f) (is_kind_at None fs) p in
+    both_true (is_of G f o) (are_of G fs os) q (sorts_tell G None fs os r d.1 refl)
+sorts_tell G (Some (suc n)) (f ∷ fs) (o ∷ os) h p q =
+    let a = sort_few o in
+    let b = row_few f in
+    let e : sort_of o ≡ row_sort f = omega (arith, h) in
+    let r : sorts_of os ≡ sorts_asked fs = omega (arith, h) in
+    let d = both_hold (not (is_kind f)) (is_kind_at (Some n) fs) p in
+    both_true (is_of G f o) (are_of G fs os) (row_sort_tells G f o d.0 e) (sorts_tell G (Some n) fs os r d.1 q)
+
+-- pairs of operands: the next two, none left, and one left
+pair_first : (G : Table) (one two : Form) (x : Operand) (os : List Operand) (e : Operand) → 1 < length (x ∷ os)
+    → are_rounds G (one ∷ two ∷ []) [] (map plain_operand (x ∷ os))
+    ≡ (is_of G one (plain_operand x) && (is_of G two (plain_operand (get_or (x ∷ os) 1 e)) && are_rounds G (one ∷ two ∷ []) [] (map plain_operand (drop 2 (x ∷ os)))))
+pair_first G one two x [] e lt = absurd (omega (arith, lt))
+pair_first G one two x (y ∷ os) e lt = refl
+
+pub pair_front : (G : Table) (one two : Form) (os : List Operand) (n j k : ℕ) (d e : Operand) → j ≡ n + 1 → k ≡ n + 2 → j < length os
+    → are_rounds G (one ∷ two ∷ []) [] (map plain_operand (drop n os))
+    ≡ (is_of G one (plain_operand (get_or os n d)) && (is_of G two (plain_operand (get_or os j e)) && are_rounds G (one ∷ two ∷ []) [] (map plain_operand (drop k os))))
+pair_front G one two [] n j k d e p q lt = absurd (omega (arith, lt))
+pair_front G one two (x ∷ os) zero j k d e p q lt =
+    let a : j ≡ 1 = omega (arith, p) in
+    let b : k ≡ 2 = omega (arith, q) in
+    rw (a, b) (pair_first G one two x os e (omega (arith, lt, a)))
+pair_front G one two (x ∷ os) (suc n) zero k d e p q lt = absurd (omega (arith, p))
+pair_front G one two (x ∷ os) (suc n) (suc j) zero d e p q lt = absurd (omega (arith, q))
+pair_front G one two (x ∷ os) (suc n) (suc j) (suc k) d e p q lt = pair_front G one two os n j k d e (omega (arith, p)) (omega (arith, q)) (omega (arith, lt))
+
+pub pair_none : (G : Table) (one two : Form) (os : List Operand) (n : ℕ) → n ≡ length os → true ≡ are_rounds G (one ∷ two ∷ []) [] (map plain_operand (drop n os))
+pair_none G one two os n h =
+    let e : drop n os ≡ [] = drop_of_length-le os (omega (arith, h)) in
+    rw e refl
+
+and_no : (b : Bool) → false ≡ (b && false)
+and_no true = refl
+and_no false = refl
+
+pub pair_odd : (G : Table) (one two : Form) (os : List Operand) (n : ℕ) → n + 1 ≡ length os → false ≡ are_rounds G (one ∷ two ∷ []) [] (map plain_operand (drop n os))
+pair_odd G one two [] n h = absurd (omega (arith, h))
+pair_odd G one two (x ∷ []) zero h = and_no (is_of G one (plain_operand x))
+pair_odd G one two (x ∷ y ∷ os) zero h = absurd (omega (arith, h))
+pair_odd G one two (x ∷ os) (suc n) h = pair_odd G one two os n (omega (arith, h))

@@ -10,7 +10,7 @@ ghost use Rattle.spv_layout.specs.Rows.{class_of};
 ghost use Rattle.spv_layout.specs.Shape.{FitsShape, is_of};
 ghost use Rattle.spv_layout.specs.inner.Single.{IsFront};
 ghost use Rattle.spv_layout.specs.declared.form.Form.TheVariants.{Kind};
-ghost use Rattle.spv_layout.specs.inner.Test.{sort_of, sort_for, sorts_of, HasSorts, are_of, are_others};
+ghost use Rattle.spv_layout.specs.inner.Test.{sort_of, sort_for, sorts_of, HasSorts, is_of_at, are_of, are_others};
 ghost use Rattle.spv_layout.specs.inner.Test.{are_rounds, is_kind_and_others, fits_ending, fits_row};
 
 use crate::form::{Ending, Form, Named, Role, Row};
@@ -36,7 +36,7 @@ fn is_mask(kind: Named) -> bool
 #[inline(always)]
 fn sort(operand: Operand<'_>) -> u8
     ensures sort { result ≡ sort_of (plain_operand operand.entry) }
-    ensures few { result < 8 }
+    ensures few { result < 10 }
 {
     match operand {
         Operand::OfType(_) => 0,
@@ -47,10 +47,12 @@ fn sort(operand: Operand<'_>) -> u8
         Operand::Text(_) => 5,
         Operand::Value { .. } => 6,
         Operand::Mask { .. } => 7,
+        Operand::Argument(_) => 8,
+        Operand::Mention(_) => 9,
     }
 }
 
-/// The sort of which each operand is of a form, or 8 where there is none.
+/// The sort of which each operand is of a form, or 15 where there is none.
 #[inline(always)]
 fn sort_asked(form: Form) -> u8
     ensures { result ≡ sort_for form }
@@ -63,8 +65,8 @@ fn sort_asked(form: Form) -> u8
         Form::Text => 5,
         Form::Id(_) => 2,
         Form::Unseen => 2,
-        Form::Kind(_) => 8,
-        Form::Other => 8,
+        Form::Kind(_) => 15,
+        Form::Other => 15,
     }
 }
 
@@ -92,9 +94,15 @@ fn is_of_form(kinds: &Kinds<'_>, form: Form, operand: Operand<'_>) -> bool
         Form::Number => matches!(operand, Operand::Number { .. }),
         Form::Text => matches!(operand, Operand::Text(_)),
         Form::Id(_) => matches!(operand, Operand::Id(_)),
-        Form::Unseen => matches!(operand, Operand::Id(_)),
+        Form::Unseen => matches!(
+            operand,
+            Operand::Id(_) | Operand::Argument(_) | Operand::Mention(_)
+        ),
         Form::Kind(kind) => is_of_kind(kinds, kind, operand),
-        Form::Other => !matches!(operand, Operand::OfType(_) | Operand::Result(_)),
+        Form::Other => !matches!(
+            operand,
+            Operand::OfType(_) | Operand::Result(_) | Operand::Argument(_) | Operand::Mention(_)
+        ),
     }
 }
 
@@ -119,50 +127,12 @@ fn has_form(kinds: &Kinds<'_>, form: Form, operand: Operand<'_>) -> bool
     }
 }
 
-/// Whether it is told at once that an operand is of a form: by its sort, or by its kind.
-#[inline(always)]
-fn is_told(kinds: &Kinds<'_>, form: Form, operand: Operand<'_>) -> bool
-    ensures { result ≡ true → is_of kinds.now form (plain_operand operand.entry) ≡ true }
-{
-    match form {
-        Form::Kind(kind) => is_of_kind(kinds, kind, operand),
-        _ => sort(operand) == sort_asked(form),
-    }
-}
-
-/// Whether it is told at once that two operands are of a form each.
-#[inline(always)]
-fn are_two_told(kinds: &Kinds<'_>, a: Form, w: Operand<'_>, b: Form, x: Operand<'_>) -> bool
-    ensures { result ≡ true → (is_of kinds.now a (plain_operand w.entry) ≡ true)
-        × (is_of kinds.now b (plain_operand x.entry) ≡ true) }
-{
-    is_told(kinds, a, w) && is_told(kinds, b, x)
-}
-
-/// Whether it is told at once that operands are of these forms, one by one: of four at most, which most instructions
-/// have.
-#[inline(always)]
-fn are_told(kinds: &Kinds<'_>, forms: &[Form], operands: &[Operand<'_>]) -> bool
-    ensures { result ≡ true → are_of kinds.now forms.now (map plain_operand operands.now) ≡ true }
-{
-    match (forms, operands) {
-        ([], []) => true,
-        ([a], [w]) => is_told(kinds, *a, *w),
-        ([a, b], [w, x]) => are_two_told(kinds, *a, *w, *b, *x),
-        ([a, b, c], [w, x, y]) => { are_two_told(kinds, *a, *w, *b, *x) && is_told(kinds, *c, *y) }
-        ([a, b, c, d], [w, x, y, z]) => {
-            are_two_told(kinds, *a, *w, *b, *x) && are_two_told(kinds, *c, *y, *d, *z)
-        }
-        _ => false,
-    }
-}
-
 /// The sort of an operand in front of those of others.
 #[inline(always)]
 fn with_sort(operand: Operand<'_>, others: u64) -> u64
     requires { others < 268435456 }
     ensures sorts { result ≡ sort_of (plain_operand operand.entry) + 16 * others }
-    ensures few { result < 8 + 16 * others }
+    ensures few { result < 10 + 16 * others }
 {
     u64::from(sort(operand)) + 16 * others
 }
@@ -188,42 +158,104 @@ fn four_sorts(w: Operand<'_>, x: Operand<'_>, y: Operand<'_>, z: Operand<'_>) ->
     with_two(w, x, with_two(y, z, 9))
 }
 
-/// The sorts of six operands at most, as `Row` keeps those that it asks for, or 0 where there are more.
+/// The sorts of five or six operands, as `sorts` tells them.
 #[inline(always)]
-fn sorts(operands: &[Operand<'_>]) -> u64
+fn most_sorts(operands: &[Operand<'_>]) -> u64
     ensures { 0 < result → result ≡ sorts_of (map plain_operand operands.now) }
 {
     match operands {
-        [] => 9,
-        [w] => with_sort(*w, 9),
-        [w, x] => with_two(*w, *x, 9),
-        [w, x, y] => with_two(*w, *x, with_sort(*y, 9)),
-        [w, x, y, z] => four_sorts(*w, *x, *y, *z),
         [v, w, x, y, z] => with_sort(*v, four_sorts(*w, *x, *y, *z)),
         [u, v, w, x, y, z] => with_two(*u, *v, four_sorts(*w, *x, *y, *z)),
         _ => 0,
     }
 }
 
+/// The sorts of three to six operands, as `sorts` tells them.
+#[inline(always)]
+fn many_sorts(operands: &[Operand<'_>]) -> u64
+    ensures { 0 < result → result ≡ sorts_of (map plain_operand operands.now) }
+{
+    match operands {
+        [_, _, _, _, _, ..] => most_sorts(operands),
+        [w, x, y, z] => four_sorts(*w, *x, *y, *z),
+        [w, x, y] => with_two(*w, *x, with_sort(*y, 9)),
+        _ => 0,
+    }
+}
+
+/// The sorts of six operands at most, as `Row` keeps those that it asks for, or 0 where there are more. How many there
+/// are is found by halves, since it is asked of each instruction.
+#[inline(always)]
+fn sorts(operands: &[Operand<'_>]) -> u64
+    ensures { 0 < result → result ≡ sorts_of (map plain_operand operands.now) }
+{
+    match operands {
+        [_, _, _, ..] => many_sorts(operands),
+        [w] => with_sort(*w, 9),
+        [w, x] => with_two(*w, *x, 9),
+        [] => 9,
+    }
+}
+
+/// Whether it is told at once that an operand is of a form that asks for a kind.
+#[inline(always)]
+fn is_kind_told(kinds: &Kinds<'_>, form: Form, operand: Operand<'_>) -> bool
+    ensures { result ≡ true → is_of kinds.now form (plain_operand operand.entry) ≡ true }
+{
+    match form {
+        Form::Kind(kind) => is_of_kind(kinds, kind, operand),
+        _ => false,
+    }
+}
+
+/// Whether the operand at a place is of the kind that the form there asks for.
+#[inline(always)]
+fn is_kind_there(kinds: &Kinds<'_>, forms: &[Form], operands: &[Operand<'_>], place: u8) -> bool
+    ensures { result ≡ true → is_of_at kinds.now (Some place) forms.now (map plain_operand operands.now) ≡ true }
+{
+    let at = usize::from(place);
+    if forms.len() <= at || operands.len() <= at {
+        return false;
+    }
+    is_kind_told(kinds, forms[at], operands[at])
+}
+
+/// Whether it is told by their sorts together, and by the kind of one of them, that operands are of the fixed forms of
+/// a row that asks for one kind.
+#[inline(always)]
+fn are_kinded(kinds: &Kinds<'_>, row: &Row, operands: &[Operand<'_>]) -> bool
+    requires { HasSorts row.now.sorts row.now.kind row.now.fixed.now }
+    ensures { result ≡ true → are_of kinds.now row.now.fixed.now (map plain_operand operands.now) ≡ true }
+{
+    let Some(kind) = row.kind else {
+        return false;
+    };
+    if sorts(operands) == kind.sorts {
+        is_kind_there(kinds, row.fixed, operands, kind.place)
+    } else {
+        false
+    }
+}
+
 /// Whether it is told by their sorts together that operands are of the fixed forms of a row that has sorts.
 #[inline(always)]
 fn are_sorted(row: &Row, operands: &[Operand<'_>]) -> bool
-    requires sorts { HasSorts row.now.sorts row.now.fixed.now }
+    requires sorts { HasSorts row.now.sorts row.now.kind row.now.fixed.now }
     requires some { 0 < row.now.sorts }
     ensures { (G : Table) → result ≡ true → are_of G row.now.fixed.now (map plain_operand operands.now) ≡ true }
 {
     sorts(operands) == row.sorts
 }
 
-/// Whether it is told at once that operands are of a row's fixed forms, one by one: by their sorts together, where the
-/// row has them, else one after another.
+/// Whether it is told at once that operands are of a row's fixed forms, one by one: by their sorts together, and where
+/// the row asks for a kind by that too.
 #[inline(always)]
 fn are_fixed_told(kinds: &Kinds<'_>, row: &Row, operands: &[Operand<'_>]) -> bool
-    requires { HasSorts row.now.sorts row.now.fixed.now }
+    requires { HasSorts row.now.sorts row.now.kind row.now.fixed.now }
     ensures { result ≡ true → are_of kinds.now row.now.fixed.now (map plain_operand operands.now) ≡ true }
 {
     if row.sorts == 0 {
-        are_told(kinds, row.fixed, operands)
+        are_kinded(kinds, row, operands)
     } else {
         are_sorted(row, operands)
     }
@@ -246,33 +278,35 @@ fn have_forms(kinds: &Kinds<'_>, forms: &[Form], operands: &[Operand<'_>]) -> bo
     true
 }
 
-/// Whether operands are of forms some of which ask for kinds.
+/// Whether operands are of the fixed forms, one by one, of a row that asks for kinds.
 #[inline(never)]
-fn have_kinds(kinds: &Kinds<'_>, forms: &[Form], operands: &[Operand<'_>]) -> bool
-    ensures { result ≡ are_of kinds.now forms.now (map plain_operand operands.now) }
+fn have_kinds(kinds: &Kinds<'_>, row: &Row, operands: &[Operand<'_>]) -> bool
+    requires { HasSorts row.now.sorts row.now.kind row.now.fixed.now }
+    ensures { result ≡ are_of kinds.now row.now.fixed.now (map plain_operand operands.now) }
 {
-    are_told(kinds, forms, operands) || have_forms(kinds, forms, operands)
+    are_kinded(kinds, row, operands) || have_forms(kinds, row.fixed, operands)
 }
 
-/// Whether operands are of forms for which a row has no sorts: there are none, or some ask for kinds.
+/// Whether operands are of the fixed forms of a row that has no sorts: there are none, or some ask for kinds.
 #[inline(always)]
-fn have_unsorted(kinds: &Kinds<'_>, forms: &[Form], operands: &[Operand<'_>]) -> bool
-    ensures { result ≡ are_of kinds.now forms.now (map plain_operand operands.now) }
+fn have_unsorted(kinds: &Kinds<'_>, row: &Row, operands: &[Operand<'_>]) -> bool
+    requires { HasSorts row.now.sorts row.now.kind row.now.fixed.now }
+    ensures { result ≡ are_of kinds.now row.now.fixed.now (map plain_operand operands.now) }
 {
-    match (forms, operands) {
+    match (row.fixed, operands) {
         ([], []) => true,
-        _ => have_kinds(kinds, forms, operands),
+        _ => have_kinds(kinds, row, operands),
     }
 }
 
 /// Whether operands are of a row's fixed forms, one by one.
 #[inline(always)]
 fn have_fixed(kinds: &Kinds<'_>, row: &Row, operands: &[Operand<'_>]) -> bool
-    requires { HasSorts row.now.sorts row.now.fixed.now }
+    requires { HasSorts row.now.sorts row.now.kind row.now.fixed.now }
     ensures { result ≡ are_of kinds.now row.now.fixed.now (map plain_operand operands.now) }
 {
     if row.sorts == 0 {
-        return have_unsorted(kinds, row.fixed, operands);
+        return have_unsorted(kinds, row, operands);
     }
     are_sorted(row, operands) || have_forms(kinds, row.fixed, operands)
 }
@@ -299,6 +333,23 @@ fn are_all(kinds: &Kinds<'_>, form: Form, operands: &[Operand<'_>]) -> bool
         }
     }
     true
+}
+
+/// Whether operands are of two forms in turn, any number of times.
+fn are_pairs(kinds: &Kinds<'_>, one: Form, two: Form, operands: &[Operand<'_>]) -> bool
+    ensures { result ≡ are_rounds kinds.now (one ∷ two ∷ []) [] (map plain_operand operands.now) }
+{
+    let mut at = 0;
+    while at + 1 < operands.len() {
+        if !has_form(kinds, one, operands[at]) {
+            return false;
+        }
+        if !has_form(kinds, two, operands[at + 1]) {
+            return false;
+        }
+        at += 2;
+    }
+    at == operands.len()
 }
 
 /// Whether operands are of these forms in turn, any number of times.
@@ -346,21 +397,11 @@ fn have_ending(kinds: &Kinds<'_>, row: &Row, operands: &[Operand<'_>]) -> bool
         },
         Ending::Repeated(forms) => match forms {
             [form] => are_all(kinds, *form, operands),
+            [one, two] => are_pairs(kinds, *one, *two, operands),
             _ => have_rounds(kinds, forms, operands),
         },
         Ending::Others => are_free(kinds, operands),
         Ending::MaybeOthers(form) => have_first(kinds, form, operands),
-    }
-}
-
-/// Whether it is told at once that an operand is of a form that asks for a kind.
-#[inline(always)]
-fn is_kind_told(kinds: &Kinds<'_>, form: Form, operand: Operand<'_>) -> bool
-    ensures { result ≡ true → is_of kinds.now form (plain_operand operand.entry) ≡ true }
-{
-    match form {
-        Form::Kind(kind) => is_of_kind(kinds, kind, operand),
-        _ => false,
     }
 }
 
@@ -402,7 +443,7 @@ fn have_both(kinds: &Kinds<'_>, row: &Row, front: &[Operand<'_>], rest: &[Operan
 /// Whether operands fit a row with an ending.
 #[inline(never)]
 fn have_parts(kinds: &Kinds<'_>, row: &Row, operands: &[Operand<'_>]) -> bool
-    requires { HasSorts row.now.sorts row.now.fixed.now }
+    requires { HasSorts row.now.sorts row.now.kind row.now.fixed.now }
     ensures { result ≡ fits_row kinds.now (Some (plain_row row.now)) (map plain_operand operands.now) }
 {
     let fixed = row.fixed.len();
@@ -420,7 +461,7 @@ fn have_parts(kinds: &Kinds<'_>, row: &Row, operands: &[Operand<'_>]) -> bool
 /// Whether operands fit a row. Where they are as many as its fixed ones, its ending allows that none come after them.
 #[inline(always)]
 fn have_row(kinds: &Kinds<'_>, row: &Row, operands: &[Operand<'_>]) -> bool
-    requires { HasSorts row.now.sorts row.now.fixed.now }
+    requires { HasSorts row.now.sorts row.now.kind row.now.fixed.now }
     ensures { result ≡ fits_row kinds.now (Some (plain_row row.now)) (map plain_operand operands.now) }
 {
     if operands.len() == row.fixed.len() {

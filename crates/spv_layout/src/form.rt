@@ -48,7 +48,8 @@ pub enum Form {
     Text,
     /// An id that is used in a role.
     Id(Role),
-    /// An id that no rule looks at.
+    /// An id behind the number of an extended instruction. No rule looks at it, unless the module is opened: then it
+    /// is a value that the instruction takes, or an id that it names.
     Unseen,
     /// A value or mask of the kind of that name.
     Kind(Named),
@@ -90,6 +91,15 @@ pub enum After {
     MaybeOthers,
 }
 
+/// What a row asks of its fixed operands, of which just one is of a kind.
+#[derive(Clone, Copy)]
+pub struct Kinded {
+    /// Which one that is, from 0.
+    pub place: u8,
+    /// The sorts, as in `Row`; that of a kind is the one of its masks or of its values.
+    pub sorts: u64,
+}
+
 /// A row of the table of shapes.
 #[derive(Clone, Copy)]
 pub struct Row {
@@ -108,4 +118,6 @@ pub struct Row {
     /// The sorts that its fixed operands ask for, in four bits each from the lowest on, and after them a 9; or 0 where
     /// it has no fixed operands, or one of them is of a kind.
     pub sorts: u64,
+    /// What it asks for, if just one of its fixed operands is of a kind.
+    pub kind: Option<Kinded>,
 }

@@ -15,7 +15,7 @@ mod span;
 mod state;
 
 pub use class::Class;
-pub use form::{Ending, Form, Named, Role, Row};
+pub use form::{Ending, Form, Kinded, Named, Role, Row};
 pub use place::Place;
 pub use plan::{Plan, lay_out};
 pub use roles::{id_at, id_of, role};

@@ -13,7 +13,8 @@ use crate::form::{Ending, Form, Role, Row};
 use crate::rows::row;
 use spv_module::{Inst, Operand};
 
-/// The id that an operand is, whatever it is used as: a type, a result, or another id.
+/// The id that an operand is, whatever it is used as: a type, a result, or another id, one that an extended instruction
+/// takes or names among them.
 #[inline(always)]
 pub fn id_of(operand: Operand<'_>) -> Option<u32>
     ensures { result ≡ shape.id_of (plain_operand operand.entry) }
@@ -22,6 +23,8 @@ pub fn id_of(operand: Operand<'_>) -> Option<u32>
         Operand::OfType(id) => Some(id),
         Operand::Result(id) => Some(id),
         Operand::Id(id) => Some(id),
+        Operand::Argument(id) => Some(id),
+        Operand::Mention(id) => Some(id),
         _ => None,
     }
 }
@@ -48,6 +51,10 @@ fn role_of(form: Form, operand: Operand<'_>) -> Option<Role>
         Form::Id(role) => Some(role),
         Form::Other => match operand {
             Operand::Id(_) => Some(Role::Any),
+            _ => None,
+        },
+        Form::Unseen => match operand {
+            Operand::Argument(_) => Some(Role::Value),
             _ => None,
         },
         _ => None,

@@ -6,7 +6,7 @@ ghost use Rattle.spv_layout.specs.Place.{section_of};
 ghost use Rattle.spv_layout.specs.Rows.{row_of};
 
 use crate::class::Class;
-use crate::form::{After, Ending, Form, Named, Role, Row};
+use crate::form::{After, Ending, Form, Kinded, Named, Role, Row};
 use spv_module::opcode;
 
 /// The form that a letter of the table stands for.
@@ -35,14 +35,18 @@ macro_rules! is_single {
     ($($other:ident)+) => { true };
 }
 
-/// The sort that a form asks for, or 8 where it asks for more or less than that.
+/// The sort that a form asks for: of a kind, that of its masks or of its values.
 macro_rules! sort {
     (T) => { 0 };
     (R) => { 1 };
     (W) => { 3 };
     (N) => { 4 };
     (S) => { 5 };
-    (kind $named:ident) => { 8 };
+    (kind FunctionControl) => { 7 };
+    (kind MemoryAccess) => { 7 };
+    (kind LoopControl) => { 7 };
+    (kind SelectionControl) => { 7 };
+    (kind $named:ident) => { 6 };
     ($id:ident) => { 2 };
 }
 
@@ -52,18 +56,42 @@ macro_rules! sorts {
     ([$($form:ident)+] $($others:tt)*) => { sort!($($form)+) + 16 * (sorts!($($others)*)) };
 }
 
-/// Whether a form asks for a sort alone.
-macro_rules! is_sort {
-    (kind $named:ident) => { false };
-    ($other:ident) => { true };
+/// How many forms ask for a kind.
+macro_rules! kinds_asked {
+    () => { 0 };
+    ([kind $named:ident] $($others:tt)*) => { 1 + kinds_asked!($($others)*) };
+    ([$other:ident] $($others:tt)*) => { kinds_asked!($($others)*) };
 }
 
 /// The sorts that forms ask for, or 0 where there is no form, or one asks for a kind.
 macro_rules! sorts_alone {
     () => { 0 };
-    ($([$($form:ident)+])+) => {
-        if true $(&& is_sort!($($form)+))+ { sorts!($([$($form)+])+) } else { 0 }
+    ($($forms:tt)+) => {
+        if kinds_asked!($($forms)+) == 0 { sorts!($($forms)+) } else { 0 }
     };
+}
+
+/// How many forms come before the first that asks for a kind.
+macro_rules! kind_place {
+    () => { 0 };
+    ([kind $named:ident] $($others:tt)*) => { 0 };
+    ([$other:ident] $($others:tt)*) => { 1 + kind_place!($($others)*) };
+}
+
+/// What forms ask for one of which asks for a kind, if none of these others does.
+macro_rules! kinded_once {
+    ([$($forms:tt)*]) => {
+        Some(Kinded { place: kind_place!($($forms)*), sorts: sorts!($($forms)*) })
+    };
+    ([$($forms:tt)*] [kind $named:ident] $($others:tt)*) => { None };
+    ([$($forms:tt)*] [$other:ident] $($others:tt)*) => { kinded_once!([$($forms)*] $($others)*) };
+}
+
+/// What forms ask for, if just one of these last ones of them asks for a kind.
+macro_rules! kinded {
+    ([$($forms:tt)*]) => { None };
+    ([$($forms:tt)*] [kind $named:ident] $($others:tt)*) => { kinded_once!([$($forms)*] $($others)*) };
+    ([$($forms:tt)*] [$other:ident] $($others:tt)*) => { kinded!([$($forms)*] $($others)*) };
 }
 
 /// How many forms come before the first of which an operand may take more than one word.
@@ -117,8 +145,8 @@ macro_rules! last {
 /// the class in the layout, the operands in order, and what may come after them. Of operands T is a result type, R a
 /// result, W a literal of one word, N one whose width its type tells, S a text, `kind` a value or mask of the kind
 /// named; an id is t of a type, v of a value, f of a function, s of an OpString, e of an OpExtInstImport, l of a label,
-/// g of a variable outside functions, a in any role, and x one of which nothing is asked. What may come after is of
-/// `After`.
+/// g of a variable outside functions, a in any role, and x one of which nothing is asked, unless the module is opened.
+/// What may come after is of `After`.
 macro_rules! table {
     ($what:ident) => {
         $what! {
@@ -269,6 +297,7 @@ macro_rules! rows {
             single: true $(&& is_single!($($form)+))* && is_single_ending!($ending $($($after)+)?),
             front: front!($([$($form)+])*),
             sorts: sorts_alone!($([$($form)+])*),
+            kind: kinded!([$([$($form)+])*] $([$($form)+])*),
         }),+]
     };
 }
@@ -313,7 +342,7 @@ fn row_at(numbers: &'static [u8], rows: &'static [Row], opcode: u16) -> Option<&
     ensures section { IfSome result (λ r. r.now.section ≡ section_of r.now.class) }
     ensures single { IfSome result (λ r. r.now.single ≡ is_single_row (plain_row r.now)) }
     ensures front { IfSome result (λ r. r.now.front ≡ front_of r.now.fixed.now) }
-    ensures sorts { IfSome result (λ r. HasSorts r.now.sorts r.now.fixed.now) }
+    ensures sorts { IfSome result (λ r. HasSorts r.now.sorts r.now.kind r.now.fixed.now) }
 {
     match numbers.get(usize::from(opcode)) {
         Some(number) => {
@@ -335,7 +364,7 @@ pub fn sorted_row(opcode: u16) -> Option<&'static Row>
     ensures section { IfSome result (λ r. r.now.section ≡ section_of r.now.class) }
     ensures single { IfSome result (λ r. r.now.single ≡ is_single_row (plain_row r.now)) }
     ensures front { IfSome result (λ r. r.now.front ≡ front_of r.now.fixed.now) }
-    ensures sorts { IfSome result (λ r. HasSorts r.now.sorts r.now.fixed.now) }
+    ensures sorts { IfSome result (λ r. HasSorts r.now.sorts r.now.kind r.now.fixed.now) }
 {
     row_at(&NUMBERS, &ROWS, opcode)
 }

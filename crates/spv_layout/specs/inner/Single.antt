@@ -9,7 +9,7 @@ use Rattle.spv_layout.specs.declared.form.Row as declared
 use Rattle.spv_layout.specs.Place.{section_of, operand_words}
 use Rattle.spv_layout.specs.Row.{PlainRow, RowEnding, closed, maybe, file_and_text, repeated, others, maybe_others}
 use Rattle.spv_layout.specs.inner.Row.{plain_row}
-use Rattle.spv_layout.specs.inner.Test.{are_sorts}
+use Rattle.spv_layout.specs.inner.Test.{are_row_sorts}
 
 abbrev pub is_single : Form → Bool
 is_single form.Number = false
@@ -53,12 +53,13 @@ pub record IsFront (os : List Plain) (n : ℕ) : Type 0 where
   pub words : sum_by operand_words os ≡ n + sum_by operand_words (drop n os)
 
 -- a row of the code says whether it is such a row, how many of its fixed operands are such, the section of its class,
--- if that stands in one alone, and the sorts that its fixed operands ask for, or 0
+-- if that stands in one alone, and the sorts that its fixed operands ask for, or 0, or these and which one asks for a
+-- kind
 abbrev pub is_flagged : declared.Row → Bool
 is_flagged r =
     are_same r.single (is_single_row (plain_row r))
     && (are_same_sections r.section (section_of r.class)
-    && (nat_eq r.front (front_of r.fixed.now) && are_sorts r.sorts r.fixed.now))
+    && (nat_eq r.front (front_of r.fixed.now) && are_row_sorts r.sorts r.kind r.fixed.now))
 
 abbrev pub are_flagged : List declared.Row → Bool
 are_flagged [] = true

@@ -1,16 +1,18 @@
 -- Whether an instruction fits its row, as a test that goes from operand to operand. (For the code alone; `fits` says
 -- what it means.)
-use Rattle.std.specs.Prelude.{◌≡◌, ◌<◌, ℕ, ◌+◌, ◌*◌, ◌-◌, ◌%◌, nat_eq, nat_lt, if◌then◌else◌, slice_get, option_and_then}
+use Rattle.std.specs.Prelude.{ℕ, ◌+◌, ◌*◌, ◌-◌, ◌%◌, nat_eq, nat_lt, if◌then◌else◌, slice_get}
 use Rattle.std.specs.Prelude.{List, [], ◌∷◌, Bool, true, false, ◌&&◌, ◌||◌, Option, Some, None, length}
-use Rattle.std.specs.Prelude.{take, drop}
+use Rattle.std.specs.Prelude.{take, drop, not, zero, suc, IsTrue, option_and_then}
 use Rattle.spv_table.specs.Table.{Table}
 use Rattle.spv_module.specs.Operand.{Plain, Text}
 use Rattle.spv_module.specs.Operand as operand
 use Rattle.spv_layout.specs.declared.form.Role.{Role}
 use Rattle.spv_layout.specs.declared.form.Role.TheVariants as role
+use Rattle.spv_layout.specs.declared.form.Kinded.{Kinded}
 use Rattle.spv_layout.specs.declared.form.Form.{Form}
 use Rattle.spv_layout.specs.declared.form.Form.TheVariants as form
 use Rattle.spv_layout.specs.Row.{PlainRow, RowEnding, closed, maybe, file_and_text, repeated, others, maybe_others}
+use Rattle.spv_layout.specs.Row.{has_masks}
 use Rattle.spv_layout.specs.Shape.{is_of, role_of}
 
 -- a number for each sort of operands
@@ -23,8 +25,10 @@ sort_of (operand.Number low high words) = 4
 sort_of (operand.Text t) = 5
 sort_of (operand.Value k x) = 6
 sort_of (operand.Mask k x) = 7
+sort_of (operand.Argument x) = 8
+sort_of (operand.Mention x) = 9
 
--- the sort that a form asks for, or 8 where it asks for more or less than that
+-- the sort that a form asks for, or 15 where it asks for more or less than that
 abbrev pub sort_for : Form → ℕ
 sort_for form.OfType = 0
 sort_for form.Result = 1
@@ -33,8 +37,13 @@ sort_for form.Number = 4
 sort_for form.Text = 5
 sort_for (form.Id r) = 2
 sort_for form.Unseen = 2
-sort_for (form.Kind name) = 8
-sort_for form.Other = 8
+sort_for (form.Kind name) = 15
+sort_for form.Other = 15
+
+-- the same, where of a form that asks for a kind it is that of the kind's masks or values
+abbrev pub row_sort : Form → ℕ
+row_sort (form.Kind name) = if has_masks name then 7 else 6
+row_sort f = sort_for f
 
 -- the sorts of operands, and those that forms ask for, in four bits each from the lowest on, and after them a 9
 abbrev pub sorts_of : List Plain → ℕ
@@ -43,14 +52,43 @@ sorts_of (o ∷ os) = sort_of o + 16 * sorts_of os
 
 abbrev pub sorts_asked : List Form → ℕ
 sorts_asked [] = 9
-sorts_asked (f ∷ fs) = sort_for f + 16 * sorts_asked fs
+sorts_asked (f ∷ fs) = row_sort f + 16 * sorts_asked fs
 
--- a number is 0, or the sorts that forms ask for
-abbrev pub are_sorts : ℕ → List Form → Bool
-are_sorts n fs = nat_eq n 0 || nat_eq n (sorts_asked fs)
+-- the form that asks for a kind is the one at that place, or there is none
+abbrev pub is_kind : Form → Bool
+is_kind (form.Kind name) = true
+is_kind f = false
 
-abbrev pub HasSorts : ℕ → List Form → Type 0
-HasSorts n fs = 0 < n → n ≡ sorts_asked fs
+abbrev pub is_kind_at : Option ℕ → List Form → Bool
+is_kind_at None [] = true
+is_kind_at None (f ∷ fs) = not (is_kind f) && is_kind_at None fs
+is_kind_at (Some n) [] = false
+is_kind_at (Some zero) (f ∷ fs) = is_kind f && is_kind_at None fs
+is_kind_at (Some (suc n)) (f ∷ fs) = not (is_kind f) && is_kind_at (Some n) fs
+
+-- a number is that of the sorts that forms ask for, of which the one at that place asks for a kind, if one is given
+abbrev pub are_sorts : ℕ → Option ℕ → List Form → Bool
+are_sorts n k fs = nat_eq n (sorts_asked fs) && is_kind_at k fs
+
+abbrev pub are_kinded : Option Kinded → List Form → Bool
+are_kinded None fs = true
+are_kinded (Some k) fs = are_sorts k.sorts (Some k.place) fs
+
+-- what a row has of them: 0, or the sorts of forms that ask for no kind; and what it has if just one asks for a kind
+abbrev pub are_row_sorts : ℕ → Option Kinded → List Form → Bool
+are_row_sorts n k fs = (nat_eq n 0 || are_sorts n None fs) && are_kinded k fs
+
+abbrev pub HasSorts : ℕ → Option Kinded → List Form → Type 0
+HasSorts n k fs = IsTrue (are_row_sorts n k fs)
+
+-- the operand at a place is of the form there, if a place is given
+abbrev pub is_of_there : Table → Option Form → Option Plain → Bool
+is_of_there G (Some f) (Some o) = is_of G f o
+is_of_there G _ _ = false
+
+abbrev pub is_of_at : Table → Option ℕ → List Form → List Plain → Bool
+is_of_at G None fs os = true
+is_of_at G (Some n) fs os = is_of_there G (slice_get fs n) (slice_get os n)
 
 abbrev pub are_of : Table → List Form → List Plain → Bool
 are_of G [] [] = true

@@ -19,7 +19,7 @@ section_in rs k d f l = section_at rs k (get_or rs k d) f (slice_get-get_or rs k
 front_in : (rs : List Row) (k : ℕ) (d : Row) → are_flagged rs ≡ true → k < length rs → (get_or rs k d).front ≡ front_of (get_or rs k d).fixed.now
 front_in rs k d f l = front_at rs k (get_or rs k d) f (slice_get-get_or rs k d l)
 
-sorts_in : (rs : List Row) (k : ℕ) (d : Row) → are_flagged rs ≡ true → k < length rs → HasSorts (get_or rs k d).sorts (get_or rs k d).fixed.now
+sorts_in : (rs : List Row) (k : ℕ) (d : Row) → are_flagged rs ≡ true → k < length rs → HasSorts (get_or rs k d).sorts (get_or rs k d).kind (get_or rs k d).fixed.now
 sorts_in rs k d f l = sorts_at rs k (get_or rs k d) f (slice_get-get_or rs k d l)
 
 pub returns-then-place-rows-clause-single : goal.returns-then-place-rows-clause-single
