@@ -5,7 +5,7 @@ use Rattle.std.specs.Prelude.{nat_eq, slice_get, unwrap_or, option_and_then, if�
 use Rattle.std.specs.Prelude.{drop, length}
 use Rattle.std.specs.List.{position_from, filter_map, flat_map, range_with_len}
 use Rattle.spv_table.specs.Lookups.{is_number}
-use Rattle.spv_module.specs.Operand.{Plain, OfType, Result, Id, Text, PlainInst, result_in}
+use Rattle.spv_module.specs.Operand.{Plain, OfType, Result, Id, Text, Argument, Mention, PlainInst, result_in}
 use Rattle.spv_module.specs.declared.opcode.TheConstants.{NAME, FUNCTION, FUNCTION_END, LABEL}
 use Rattle.spv_module.specs.declared.opcode.TheConstants.{BRANCH, BRANCH_CONDITIONAL, SWITCH}
 use Rattle.spv_layout.specs.declared.class.Class.{Class}
@@ -48,6 +48,8 @@ abbrev pub id_in : Plain → Option ℕ
 id_in (OfType x) = Some x
 id_in (Result x) = Some x
 id_in (Id x) = Some x
+id_in (Argument x) = Some x
+id_in (Mention x) = Some x
 id_in _ = None
 
 -- the ids on the line of an instruction, in the order of its operands

@@ -7,7 +7,7 @@ use Rattle.std.specs.List.{filter_map, flat_map, list_any, onto_first, prefix_le
 use Rattle.spv_table.specs.Lookups.{is_number}
 use Rattle.spv_table.specs.Table.{Table}
 use Rattle.spv_module.specs.Module.{plain_insts}
-use Rattle.spv_module.specs.Operand.{Plain, OfType, Id, PlainInst, result_in}
+use Rattle.spv_module.specs.Operand.{Plain, OfType, Id, Argument, Mention, PlainInst, result_in}
 use Rattle.spv_module.specs.declared.module.Module.{Module}
 use Rattle.spv_module.specs.declared.opcode.TheConstants.{FUNCTION, LABEL}
 use Rattle.spv_lines.specs.Digits as digits
@@ -95,6 +95,8 @@ walk_of (Some f) = flat_map walk_ids (lines_of f.lines.now)
 abbrev pub used_in : Plain → Option ℕ
 used_in (OfType x) = Some x
 used_in (Id x) = Some x
+used_in (Argument x) = Some x
+used_in (Mention x) = Some x
 used_in _ = None
 
 -- the uses of ids by operands of instruction n, each as an edge from the instruction to the id

@@ -80,7 +80,11 @@ fn id_of(operand: Operand<'_>) -> Option<u32>
     ensures { result ≡ id_in (plain_operand operand.entry) }
 {
     match operand {
-        Operand::OfType(id) | Operand::Result(id) | Operand::Id(id) => Some(id),
+        Operand::OfType(id)
+        | Operand::Result(id)
+        | Operand::Id(id)
+        | Operand::Argument(id)
+        | Operand::Mention(id) => Some(id),
         _ => None,
     }
 }

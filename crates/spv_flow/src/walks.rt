@@ -9,6 +9,6 @@ mod operands;
 mod queries;
 mod values;
 
-pub use operands::other_id;
+pub use operands::use_id;
 pub use queries::{pair_query, use_query};
 pub use values::{check_values, count_globals};

@@ -37,9 +37,9 @@ use std::alloc::{AllocError, Global};
 
 /// What shows that a rule on ids (D1 to D5) is broken at an instruction: the first that is broken, as `number` tells
 /// it. `plan` is what `lay_out` answered of that module. `inst` is the number of the instruction, from 0.
-/// - D1: the first operand that is the result, or a use, of an id that is 0 or not below the bound.
+/// - D1: the first operand that is the result, a use or a mention of an id that is 0 or not below the bound.
 /// - D2: the first instruction that has the same result.
-/// - D3: the first operand that is a use of an id which no instruction has as its result.
+/// - D3: the first operand that is a use or a mention of an id which no instruction has as its result.
 /// - D4: the first operand that is a use which is not in order, and the first definition of its id.
 /// - D5: the first operand that is a use which is not in scope, and a local definition of its id with its function.
 ///

@@ -10,8 +10,8 @@ use Rattle.spv_module.specs.declared.fault.Rule.TheVariants.{D1}
 use Rattle.spv_layout.specs.First.{stage_of, rank_of}
 use Rattle.spv_layout.specs.Stage.{of_ids}
 use Rattle.spv_ids.specs.Broken.{IsOutOfRange}
-use Rattle.spv_ids.specs.inner.Uses.{seen, used_id, IsUsedBefore, AreSeen}
-use Rattle.spv_ids.specs.inner.Faulty.{IsBadUse, HasBadUse, IsFaulty, IsLeast, IsEarlier}
+use Rattle.spv_ids.specs.inner.Uses.{seen, seen_id, IsUsedBefore, AreSeen}
+use Rattle.spv_ids.specs.inner.Faulty.{IsBadUse, IsBadMention, IsBadOperand, HasBadUse, HasBadOperand, IsFaulty, IsLeast, IsEarlier}
 use Rattle.spv_ids.proofs.Defining.{below_or, same_inst}
 
 pub bad_stage : (bound : ℕ) (is : List PlainInst) (n x : ℕ) (r : Rule) → IsBadUse bound is n x r → stage_of r ≡ of_ids
@@ -23,10 +23,22 @@ bad_stage bound is n x _ (IsBadUse.not_in_scope h g k) = refl
 pub has_stage : (bound : ℕ) (is : List PlainInst) (n to : ℕ) (r : Rule) → HasBadUse bound is n to r → stage_of r ≡ of_ids
 has_stage bound is n to r h = bad_stage bound is n h.id r h.bad
 
+mention_stage : (bound : ℕ) (is : List PlainInst) (x : ℕ) (r : Rule) → IsBadMention bound is x r → stage_of r ≡ of_ids
+mention_stage bound is x _ (IsBadMention.out_of_range h) = refl
+mention_stage bound is x _ (IsBadMention.undefined h) = refl
+
+pub operand_stage : (bound : ℕ) (is : List PlainInst) (n : ℕ) (o : Plain) (r : Rule) → IsBadOperand bound is n o r → stage_of r ≡ of_ids
+operand_stage bound is n o r (IsBadOperand.argument x e b) = bad_stage bound is n x r b
+operand_stage bound is n o r (IsBadOperand.mention x e b) = mention_stage bound is x r b
+
+pub has_operand_stage : (bound : ℕ) (is : List PlainInst) (n to : ℕ) (r : Rule) → HasBadOperand bound is n to r → stage_of r ≡ of_ids
+has_operand_stage bound is n to r h = operand_stage bound is n h.operand r h.bad
+
 pub faulty_stage : (bound : ℕ) (is : List PlainInst) (n : ℕ) (r : Rule) → IsFaulty bound is n r → stage_of r ≡ of_ids
 faulty_stage bound is n _ (IsFaulty.result_out_of_range x d o) = refl
 faulty_stage bound is n _ (IsFaulty.defined_again m x d l e) = refl
 faulty_stage bound is n _ (IsFaulty.by_use to r h) = has_stage bound is n to r h
+faulty_stage bound is n _ (IsFaulty.by_operand to r h) = has_operand_stage bound is n to r h
 
 -- the operands that are looked at
 pub seen_at : (is : List PlainInst) (n k : ℕ) (os : List Operand) (o : Operand) (a : AreSeen is n (map plain_operand os)) → slice_get os k ≡ Some o → slice_get (seen a.inst) k ≡ Some (plain_operand o)
@@ -46,7 +58,7 @@ used_later is n k x u = let b = u.below in record { inst = u.inst; there = u.the
 pub bad_later : (bound : ℕ) (is : List PlainInst) (n k : ℕ) (q : Rule) → HasBadUse bound is n k q → HasBadUse bound is n (k + 1) q
 bad_later bound is n k q h = record { id = h.id; used = used_later is n k h.id h.used; bad = h.bad }
 
-pub bad_at : (bound : ℕ) (is : List PlainInst) (n k to x : ℕ) (os : List Operand) (o : Operand) (q : Rule) → AreSeen is n (map plain_operand os) → slice_get os k ≡ Some o → k < to → used_id (plain_operand o) ≡ Some x
+pub bad_at : (bound : ℕ) (is : List PlainInst) (n k to x : ℕ) (os : List Operand) (o : Operand) (q : Rule) → AreSeen is n (map plain_operand os) → slice_get os k ≡ Some o → k < to → seen_id (plain_operand o) ≡ Some x
     → IsBadUse bound is n x q → HasBadUse bound is n to q
 bad_at bound is n k to x os o q a l h u b = record {
   id = x;
@@ -54,7 +66,7 @@ bad_at bound is n k to x os o q a l h u b = record {
   bad = b;
 }
 
-pub bad_here : (bound : ℕ) (is : List PlainInst) (n k x : ℕ) (os : List Operand) (o : Operand) (q : Rule) → AreSeen is n (map plain_operand os) → slice_get os k ≡ Some o → used_id (plain_operand o) ≡ Some x
+pub bad_here : (bound : ℕ) (is : List PlainInst) (n k x : ℕ) (os : List Operand) (o : Operand) (q : Rule) → AreSeen is n (map plain_operand os) → slice_get os k ≡ Some o → seen_id (plain_operand o) ≡ Some x
     → IsBadUse bound is n x q → HasBadUse bound is n (k + 1) q
 bad_here bound is n k x os o q a l u b = record {
   id = x;
@@ -65,9 +77,9 @@ bad_here bound is n k x os o q a l u b = record {
 -- what a use before operand k + 1 is
 data Split (bound : ℕ) (is : List PlainInst) (n k : ℕ) (o : Plain) (q : Rule) : Type 0 where
   before : HasBadUse bound is n k q → Split bound is n k o q
-  here : (x : ℕ) → used_id o ≡ Some x → IsBadUse bound is n x q → Split bound is n k o q
+  here : (x : ℕ) → seen_id o ≡ Some x → IsBadUse bound is n x q → Split bound is n k o q
 
-here_by : (i j : PlainInst) (k l x : ℕ) (o p : Plain) → i ≡ j → l ≡ k → slice_get (seen i) k ≡ Some o → slice_get (seen j) l ≡ Some p → used_id p ≡ Some x → used_id o ≡ Some x
+here_by : (i j : PlainInst) (k l x : ℕ) (o p : Plain) → i ≡ j → l ≡ k → slice_get (seen i) k ≡ Some o → slice_get (seen j) l ≡ Some p → seen_id p ≡ Some x → seen_id o ≡ Some x
 here_by i j k l x o p e f g h u =
     let g' : slice_get (seen j) l ≡ Some o = rw (← e, f) g in
     let s : p ≡ o = cc in
@@ -87,19 +99,19 @@ least_same : (bound : ℕ) (is : List PlainInst) (n k : ℕ) (o : Option Rule) �
 least_same bound is n k None f h = λ q b. h q (f q b)
 least_same bound is n k (Some r) f h = (bad_later bound is n k r h.0, λ q b. h.1 q (f q b))
 
-no_use_here : (bound : ℕ) (is : List PlainInst) (n k : ℕ) (o : Plain) (q : Rule) → used_id o ≡ None → Split bound is n k o q → HasBadUse bound is n k q
+no_use_here : (bound : ℕ) (is : List PlainInst) (n k : ℕ) (o : Plain) (q : Rule) → seen_id o ≡ None → Split bound is n k o q → HasBadUse bound is n k q
 no_use_here bound is n k o q e (Split.before h) = h
 no_use_here bound is n k o q e (Split.here x u b) = cc
 
-sound_here : (bound : ℕ) (is : List PlainInst) (n k x : ℕ) (o : Plain) (q : Rule) → used_id o ≡ Some x → ((p : Rule) → ¬ (IsBadUse bound is n x p)) → Split bound is n k o q → HasBadUse bound is n k q
+sound_here : (bound : ℕ) (is : List PlainInst) (n k x : ℕ) (o : Plain) (q : Rule) → seen_id o ≡ Some x → ((p : Rule) → ¬ (IsBadUse bound is n x p)) → Split bound is n k o q → HasBadUse bound is n k q
 sound_here bound is n k x o q e f (Split.before h) = h
 sound_here bound is n k x o q e f (Split.here y u b) = let s : y ≡ x = cc in let b' : IsBadUse bound is n x q = rw (← s) b in absurd (f q b')
 
-pub least_no_use : (bound : ℕ) (is : List PlainInst) (n k : ℕ) (os : List Operand) (o : Operand) (least : Option Rule) → AreSeen is n (map plain_operand os) → slice_get os k ≡ Some o → used_id (plain_operand o) ≡ None
+pub least_no_use : (bound : ℕ) (is : List PlainInst) (n k : ℕ) (os : List Operand) (o : Operand) (least : Option Rule) → AreSeen is n (map plain_operand os) → slice_get os k ≡ Some o → seen_id (plain_operand o) ≡ None
     → IsLeast (HasBadUse bound is n k) least → IsLeast (HasBadUse bound is n (k + 1)) least
 least_no_use bound is n k os o least a l u h = least_same bound is n k least (λ q b. no_use_here bound is n k (plain_operand o) q u (split bound is n k os o q a l b)) h
 
-pub least_sound : (bound : ℕ) (is : List PlainInst) (n k x : ℕ) (os : List Operand) (o : Operand) (least : Option Rule) → AreSeen is n (map plain_operand os) → slice_get os k ≡ Some o → used_id (plain_operand o) ≡ Some x
+pub least_sound : (bound : ℕ) (is : List PlainInst) (n k x : ℕ) (os : List Operand) (o : Operand) (least : Option Rule) → AreSeen is n (map plain_operand os) → slice_get os k ≡ Some o → seen_id (plain_operand o) ≡ Some x
     → ((p : Rule) → ¬ (IsBadUse bound is n x p)) → IsLeast (HasBadUse bound is n k) least → IsLeast (HasBadUse bound is n (k + 1)) least
 least_sound bound is n k x os o least a l u f h = least_same bound is n k least (λ q b. sound_here bound is n k x (plain_operand o) q u f (split bound is n k os o q a l b)) h
 
@@ -115,7 +127,7 @@ least_either bound is n k (Some s) r q h f b = let x = f s refl in let y = h.1 q
 pub one_stage : (bound : ℕ) (is : List PlainInst) (n k : ℕ) (one : Option Rule) (r : Rule) → IsLeast (HasBadUse bound is n k) one → one ≡ Some r → stage_of r ≡ of_ids
 one_stage bound is n k one r h e = has_stage bound is n k r (bad_either bound is n k one r h e)
 
-least_by : (bound : ℕ) (is : List PlainInst) (n k x : ℕ) (o : Plain) (one : Option Rule) (other r q : Rule) → IsLeast (HasBadUse bound is n k) one → used_id o ≡ Some x → IsLeast (IsBadUse bound is n x) (Some other)
+least_by : (bound : ℕ) (is : List PlainInst) (n k x : ℕ) (o : Plain) (one : Option Rule) (other r q : Rule) → IsLeast (HasBadUse bound is n k) one → seen_id o ≡ Some x → IsLeast (IsBadUse bound is n x) (Some other)
     → IsEarlier one other r → Split bound is n k o q → rank_of r ≤ rank_of q
 least_by bound is n k x o one other r q h u b e (Split.before g) = least_either bound is n k one r q h e.first g
 least_by bound is n k x o one other r q h u b e (Split.here y w g) =
@@ -129,7 +141,7 @@ bad_moved : (bound : ℕ) (is : List PlainInst) (n x : ℕ) (other r : Rule) →
 bad_moved bound is n x other r e b = rw e b
 
 pub least_earlier : (bound : ℕ) (is : List PlainInst) (n k x : ℕ) (os : List Operand) (o : Operand) (one : Option Rule) (other r : Rule) → AreSeen is n (map plain_operand os) → slice_get os k ≡ Some o
-    → used_id (plain_operand o) ≡ Some x → IsLeast (IsBadUse bound is n x) (Some other) → IsEarlier one other r → IsLeast (HasBadUse bound is n k) one → IsLeast (HasBadUse bound is n (k + 1)) (Some r)
+    → seen_id (plain_operand o) ≡ Some x → IsLeast (IsBadUse bound is n x) (Some other) → IsEarlier one other r → IsLeast (HasBadUse bound is n k) one → IsLeast (HasBadUse bound is n (k + 1)) (Some r)
 least_earlier bound is n k x os o one other r a l u b f h = (
   elim f.either [
     | inl g ↦ bad_later bound is n k r (bad_either bound is n k one r h g)
@@ -139,7 +151,7 @@ least_earlier bound is n k x os o one other r a l u b f h = (
 )
 
 -- no use out of range, one operand on
-no_range_by : (bound : ℕ) (is : List PlainInst) (n k x : ℕ) (o : Plain) → used_id o ≡ Some x → (IsOutOfRange bound x → ⊥) → ¬ (HasBadUse bound is n k D1) → ¬ (Split bound is n k o D1)
+no_range_by : (bound : ℕ) (is : List PlainInst) (n k x : ℕ) (o : Plain) → seen_id o ≡ Some x → (IsOutOfRange bound x → ⊥) → ¬ (HasBadUse bound is n k D1) → ¬ (Split bound is n k o D1)
 no_range_by bound is n k x o u h f (Split.before g) = f g
 no_range_by bound is n k x o u h f (Split.here y w b) = let s : y ≡ x = cc in h (range_of bound is n x D1 refl (bad_id bound is n y x D1 s b)) where
   bad_id : (bound : ℕ) (is : List PlainInst) (n y x : ℕ) (q : Rule) → y ≡ x → IsBadUse bound is n y q → IsBadUse bound is n x q
@@ -151,11 +163,11 @@ no_range_by bound is n k x o u h f (Split.here y w b) = let s : y ≡ x = cc in 
   range_of bound is n x _ e (IsBadUse.not_in_order g k) = cc
   range_of bound is n x _ e (IsBadUse.not_in_scope g k l) = cc
 
-pub no_range : (bound : ℕ) (is : List PlainInst) (n k x : ℕ) (os : List Operand) (o : Operand) → AreSeen is n (map plain_operand os) → slice_get os k ≡ Some o → used_id (plain_operand o) ≡ Some x → (IsOutOfRange bound x → ⊥)
+pub no_range : (bound : ℕ) (is : List PlainInst) (n k x : ℕ) (os : List Operand) (o : Operand) → AreSeen is n (map plain_operand os) → slice_get os k ≡ Some o → seen_id (plain_operand o) ≡ Some x → (IsOutOfRange bound x → ⊥)
     → ¬ (HasBadUse bound is n k D1) → ¬ (HasBadUse bound is n (k + 1) D1)
 no_range bound is n k x os o a l u h f b = no_range_by bound is n k x (plain_operand o) u h f (split bound is n k os o D1 a l b)
 
-pub no_range_no_use : (bound : ℕ) (is : List PlainInst) (n k : ℕ) (os : List Operand) (o : Operand) → AreSeen is n (map plain_operand os) → slice_get os k ≡ Some o → used_id (plain_operand o) ≡ None
+pub no_range_no_use : (bound : ℕ) (is : List PlainInst) (n k : ℕ) (os : List Operand) (o : Operand) → AreSeen is n (map plain_operand os) → slice_get os k ≡ Some o → seen_id (plain_operand o) ≡ None
     → ¬ (HasBadUse bound is n k D1) → ¬ (HasBadUse bound is n (k + 1) D1)
 no_range_no_use bound is n k os o a l u f b = f (no_use_here bound is n k (plain_operand o) D1 u (split bound is n k os o D1 a l b))
 

@@ -4,6 +4,7 @@ mod Defining
 mod Homes
 mod Steps
 mod Leasts
+mod Behind
 mod Broke
 mod Scopes
 pub mod Used

@@ -19,6 +19,7 @@ use Rattle.spv_ids.specs.inner.Faulty.{IsBadUse, HasBadUse, IsFaulty, IsLeast, A
 use Rattle.spv_ids.specs.inner.Survey.{IsSurvey, insts_of}
 use Rattle.spv_ids.proofs.Defining.{same_inst, inst_at}
 use Rattle.spv_ids.proofs.Leasts.{least_at}
+use Rattle.spv_ids.proofs.Behind.{none_behind}
 use Rattle.spv_ids.proofs.Broke.{clean_here}
 use Rattle.spv_ids.proofs.Opens.{goes_on, stays_open, unordered}
 use Rattle.spv_ids.proofs.Scopes.{sound_use, sound_here}
@@ -42,13 +43,14 @@ not_announced is n i h k x a =
     let o = rw e at a.opcode in
     k o
 
--- no rule is broken at an instruction whose uses are sound
-pub clean_at : (s : Survey) (n : ℕ) (i : PlainInst) (os : List Operand) → IsSurvey s → n < s.end → slice_get (insts_of s) n ≡ Some i → map plain_operand os ≡ seen i
+-- no rule is broken at an instruction, but an OpExtInst, whose uses are sound
+pub clean_at : (s : Survey) (n : ℕ) (i : PlainInst) (os : List Operand) → IsSurvey s → n < s.end → slice_get (insts_of s) n ≡ Some i → (i.opcode ≡ opcode.EXT_INST → ⊥) → map plain_operand os ≡ seen i
     → IsLeast (HasBadUse s.bound (insts_of s) n (length os)) None → (q : Rule) → ¬ (IsFaulty s.bound (insts_of s) n q)
-clean_at s n i os v b t e h =
+clean_at s n i os v b t x e h =
     let a : AreSeen (insts_of s) n (map plain_operand os) = record { inst = i; there = t; same = e } in
     let k : length os ≡ length (map plain_operand os) = sym (length-map os plain_operand) in
     clean_here s.bound (insts_of s) n s.end s.firsts.now (map plain_operand os) v.firsts b a (least_at s.bound (insts_of s) n n (length os) (length (map plain_operand os)) None None refl k refl h)
+    (λ to q. none_behind s.bound (insts_of s) n i to q t x)
 
 pub clean_moved : (bound : ℕ) (is : List PlainInst) (m n : ℕ) → m ≡ n → AreClean bound is m → AreClean bound is n
 clean_moved bound is m n e h = rw (← e) h

@@ -19,7 +19,7 @@ use Rattle.spv_ids.specs.Broken.{IsOutOfRange}
 use Rattle.spv_ids.specs.inner.Notes.{kept}
 use Rattle.spv_ids.specs.inner.Known.{IsHome, IsHomeOf, IsFunctionOf, IsOneBefore, IsLaterOne, IsAnnouncedBefore, AreAnnounced}
 use Rattle.spv_ids.specs.inner.Test.{lower_test, early_test, home_test, scope_test}
-use Rattle.spv_ids.specs.inner.Faulty.{IsBadUse, IsLeast}
+use Rattle.spv_ids.specs.inner.Faulty.{IsBadUse, IsBadMention, IsLeast}
 use Rattle.spv_ids.specs.inner.Survey.{IsSurvey, IsSite, insts_of}
 use Rattle.spv_ids.proofs.Bools.{and_first, and_second, and_both, or_either, or_first, or_second, eq_tells, ne_tells, eq_yes, lt_tells, ge_tells, some_tells, none_tells, holds}
 use Rattle.spv_ids.proofs.Defining.{same_inst, defined_within}
@@ -384,6 +384,18 @@ sound_here s n x m f v e l o q =
     let is = insts_of s in
     let d = defined_first s x m v e in
     in_scope is n x m f d (home_of_function is s.plan.now x m f v.places d o (λ w. omega (arith, w))) q
+
+-- a mention whose definition is kept
+pub mention_sound : (bound : ℕ) (is : List PlainInst) (x m : ℕ) (q : Rule) → (IsOutOfRange bound x → ⊥) → IsDefinedAt is x m → ¬ (IsBadMention bound is x q)
+mention_sound bound is x m _ r d (IsBadMention.out_of_range h) = r h
+mention_sound bound is x m _ r d (IsBadMention.undefined h) = h m d
+
+pub mention_kept : (s : Survey) (x m : ℕ) → IsSurvey s → kept s.firsts.now x ≡ Some m → (q : Rule) → ¬ (IsBadMention s.bound (insts_of s) x q)
+mention_kept s x m v e q =
+    let is = insts_of s in
+    let d = first_there is s.end x m (kept s.firsts.now x) (v.firsts.one x) e in
+    let b = first_below is s.end x m (kept s.firsts.now x) (v.firsts.one x) e in
+    mention_sound s.bound is x m q (v.firsts.range m x b d) d
 
 pub bad_use_at : (bound : ℕ) (is : List PlainInst) (m n x : ℕ) (q : Rule) → m ≡ n → IsBadUse bound is n x q → IsBadUse bound is m x q
 bad_use_at bound is m n x q e b = rw e b

@@ -189,6 +189,8 @@ announces_by i (Some (Id y)) x h = let e : y ≡ x = cc in rw e refl
 announces_by i (Some (OfType y)) x h = cc
 announces_by i (Some (operand.Result y)) x h = cc
 announces_by i (Some (operand.Word y)) x h = cc
+announces_by i (Some (operand.Argument y)) x h = cc
+announces_by i (Some (operand.Mention y)) x h = cc
 announces_by i (Some (operand.Number a b c)) x h = cc
 announces_by i (Some (operand.Text t)) x h = cc
 announces_by i (Some (operand.Value a b)) x h = cc

@@ -1,6 +1,6 @@
 -- The uses of an instruction that fits its row are told by its operands alone; an OpFunctionEnd has no result.
 use Rattle.std.proofs.Common.{◌≡◌, ◌∙◌, ◌<◌, ◌≤◌, ◌+◌, ◌++◌, ℕ, zero, suc, List, [], ◌∷◌, refl, sym, ap, inl, inr, Bool, true, false, cond, Some, length, take, arith, nat_eq}
-use Rattle.std.specs.Prelude.{slice_get, option_map, nat_le, not, ◌&&◌, ◌||◌}
+use Rattle.std.specs.Prelude.{slice_get, option_map, nat_le, not, ◌&&◌, ◌||◌, ◌-◌, drop}
 use Rattle.std.proofs.lemmas.Bool.{cases_lt, cases_eq}
 use Rattle.std.proofs.lemmas.Bool.Decides.{nat_tests}
 use Rattle.std.proofs.lemmas.Option.{slice_get-map, slice_get_within}
@@ -20,8 +20,8 @@ use Rattle.spv_layout.specs.Rows.{rows, row_of, class_of, class_in}
 use Rattle.spv_layout.specs.Layout.{classes}
 use Rattle.spv_layout.specs.Place.{IsAt}
 use Rattle.spv_layout.specs.Shape.{is_of, AreOf, Ends, HasForms, FitsShape, role_of, id_of, IsUse}
-use Rattle.spv_ids.specs.Definition.{IsDefinedAt, IsUsedAt}
-use Rattle.spv_ids.specs.inner.Uses.{seen, used_id, IsUsedBefore}
+use Rattle.spv_ids.specs.Definition.{IsDefinedAt, IsUsedAt, IsMentionedAt}
+use Rattle.spv_ids.specs.inner.Uses.{seen, behind, used_id, seen_id, argument_id, mention_id, IsUsedBefore}
 
 -- The rows whose operands rules look at.
 
@@ -324,30 +324,94 @@ seen_ext i h = ap (λ b. cond b (take 4 i.operands) i.operands) (test_yes i.opco
 seen_other : (i : PlainInst) → (i.opcode ≡ opcode.EXT_INST → ⊥) → seen i ≡ i.operands
 seen_other i h = ap (λ b. cond b (take 4 i.operands) i.operands) (test_no i.opcode h)
 
+-- The operands behind the number of an OpExtInst.
+
+behind_ext : (i : PlainInst) → i.opcode ≡ opcode.EXT_INST → behind i ≡ drop 4 i.operands
+behind_ext i h = ap (λ b. cond b (drop 4 i.operands) []) (test_yes i.opcode h)
+
+pub behind_other : (i : PlainInst) → (i.opcode ≡ opcode.EXT_INST → ⊥) → behind i ≡ []
+behind_other i h = ap (λ b. cond b (drop 4 i.operands) []) (test_no i.opcode h)
+
+get_drop : (os : List Plain) (k : ℕ) → slice_get (drop 4 os) k ≡ slice_get os (suc (suc (suc (suc k))))
+get_drop [] k = refl
+get_drop (a ∷ []) k = refl
+get_drop (a ∷ b ∷ []) k = refl
+get_drop (a ∷ b ∷ d ∷ []) k = refl
+get_drop (a ∷ b ∷ d ∷ e ∷ os) k = refl
+
+-- an operand behind the number, by its place among all
+behind_at : (i : PlainInst) (k : ℕ) (o : Plain) → i.opcode ≡ opcode.EXT_INST → 4 ≤ k → slice_get i.operands k ≡ Some o → slice_get (behind i) (k - 4) ≡ Some o
+behind_at i k o h l a =
+    let e : suc (suc (suc (suc (k - 4)))) ≡ k = omega arith in
+    rw (behind_ext i h) (get_drop i.operands (k - 4) ∙ ap (λ m. slice_get i.operands m) e ∙ a)
+
+-- the place among all of one that is behind the number
+record IsBehind (i : PlainInst) (k : ℕ) (o : Plain) : Type 0 where
+  pub extended : i.opcode ≡ opcode.EXT_INST
+  pub there : slice_get i.operands (k + 4) ≡ Some o
+
+behind_there : (i : PlainInst) (k : ℕ) (o : Plain) → slice_get (behind i) k ≡ Some o → IsBehind i k o
+behind_there i k o a = elim (cases_eq i.opcode opcode.EXT_INST) [
+  | inl h ↦
+      let a' : slice_get (drop 4 i.operands) k ≡ Some o = rw (behind_ext i h) at a in
+      let e : k + 4 ≡ suc (suc (suc (suc k))) = omega arith in
+      record { extended = h; there = ap (λ m. slice_get i.operands m) e ∙ sym (get_drop i.operands k) ∙ a' }
+  | inr h ↦ let a' : slice_get [] k ≡ Some o = rw (behind_other i h) at a in cc
+]
+
+pub argument_tells : (o : Plain) (x : ℕ) → argument_id o ≡ Some x → o ≡ operand.Argument x
+argument_tells (operand.OfType y) x h = cc
+argument_tells (operand.Result y) x h = cc
+argument_tells (operand.Id y) x h = cc
+argument_tells (operand.Word y) x h = cc
+argument_tells (operand.Argument y) x h = let e : y ≡ x = cc in rw e refl
+argument_tells (operand.Mention y) x h = cc
+argument_tells (operand.Number a b d) x h = cc
+argument_tells (operand.Text t) x h = cc
+argument_tells (operand.Value a b) x h = cc
+argument_tells (operand.Mask a b) x h = cc
+
+pub mention_tells : (o : Plain) (x : ℕ) → mention_id o ≡ Some x → o ≡ operand.Mention x
+mention_tells (operand.OfType y) x h = cc
+mention_tells (operand.Result y) x h = cc
+mention_tells (operand.Id y) x h = cc
+mention_tells (operand.Word y) x h = cc
+mention_tells (operand.Argument y) x h = cc
+mention_tells (operand.Mention y) x h = let e : y ≡ x = cc in rw e refl
+mention_tells (operand.Number a b d) x h = cc
+mention_tells (operand.Text t) x h = cc
+mention_tells (operand.Value a b) x h = cc
+mention_tells (operand.Mask a b) x h = cc
+
 -- Forms and uses.
 
-role_used : (G : Table) (f : Form) (o : Plain) (r : Role) (x : ℕ) → is_of G f o ≡ true → role_of f o ≡ Some r → id_of o ≡ Some x → used_id o ≡ Some x
+role_used : (G : Table) (f : Form) (o : Plain) (r : Role) (x : ℕ) → is_of G f o ≡ true → role_of f o ≡ Some r → id_of o ≡ Some x → seen_id o ≡ Some x
 role_used G f (operand.OfType y) r x h g k = k
 role_used G f (operand.Id y) r x h g k = k
 role_used G form.Result (operand.Result y) r x h g k = cc
 role_used G _ (operand.Result y) r x h g k = cc
 role_used G f (operand.Word y) r x h g k = cc
+role_used G f (operand.Argument y) r x h g k = k
+role_used G f (operand.Mention y) r x h g k = k
 role_used G f (operand.Number a b c) r x h g k = cc
 role_used G f (operand.Text t) r x h g k = cc
 role_used G f (operand.Value a b) r x h g k = cc
 role_used G f (operand.Mask a b) r x h g k = cc
 
-role_seen : (f : Form) (o : Plain) (r : Role) → f ≡ form.Unseen → role_of f o ≡ Some r → ⊥
-role_seen f o r h g = let g' : role_of form.Unseen o ≡ Some r = rw h at g in no_role o g' where
-  no_role : (o : Plain) → role_of form.Unseen o ≡ Some r → ⊥
-  no_role (operand.OfType y) k = cc
-  no_role (operand.Result y) k = cc
-  no_role (operand.Id y) k = cc
-  no_role (operand.Word y) k = cc
-  no_role (operand.Number a b c) k = cc
-  no_role (operand.Text t) k = cc
-  no_role (operand.Value a b) k = cc
-  no_role (operand.Mask a b) k = cc
+-- behind the number the use is of an id that the instruction takes as a value
+role_behind : (f : Form) (o : Plain) (r : Role) (x : ℕ) → f ≡ form.Unseen → role_of f o ≡ Some r → id_of o ≡ Some x → argument_id o ≡ Some x
+role_behind f o r x h g k = let g' : role_of form.Unseen o ≡ Some r = rw h at g in by_role o g' k where
+  by_role : (o : Plain) → role_of form.Unseen o ≡ Some r → id_of o ≡ Some x → argument_id o ≡ Some x
+  by_role (operand.OfType y) g k = cc
+  by_role (operand.Result y) g k = cc
+  by_role (operand.Id y) g k = cc
+  by_role (operand.Word y) g k = cc
+  by_role (operand.Argument y) g k = k
+  by_role (operand.Mention y) g k = cc
+  by_role (operand.Number a b c) g k = cc
+  by_role (operand.Text t) g k = cc
+  by_role (operand.Value a b) g k = cc
+  by_role (operand.Mask a b) g k = cc
 
 -- a role, and that the operand is the id
 pub record HasRole (f : Form) (o : Plain) (x : ℕ) : Type 0 where
@@ -355,7 +419,7 @@ pub record HasRole (f : Form) (o : Plain) (x : ℕ) : Type 0 where
   pub has : role_of f o ≡ Some role
   pub id : id_of o ≡ Some x
 
-used_role : (G : Table) (f : Form) (o : Plain) (x : ℕ) → is_of G f o ≡ true → used_id o ≡ Some x → is_unseen f ≡ false → HasRole f o x
+used_role : (G : Table) (f : Form) (o : Plain) (x : ℕ) → is_of G f o ≡ true → seen_id o ≡ Some x → is_unseen f ≡ false → HasRole f o x
 unfolding is_unseen
 used_role G form.OfType (operand.OfType y) x h u n = record { role = role.OfType; has = refl; id = u }
 used_role G _ (operand.OfType y) x h u n = cc
@@ -365,39 +429,101 @@ used_role G form.Unseen (operand.Id y) x h u n = cc
 used_role G _ (operand.Id y) x h u n = cc
 used_role G f (operand.Result y) x h u n = cc
 used_role G f (operand.Word y) x h u n = cc
+used_role G form.Unseen (operand.Argument y) x h u n = cc
+used_role G _ (operand.Argument y) x h u n = cc
+used_role G form.Unseen (operand.Mention y) x h u n = cc
+used_role G _ (operand.Mention y) x h u n = cc
 used_role G f (operand.Number a b c) x h u n = cc
 used_role G f (operand.Text t) x h u n = cc
 used_role G f (operand.Value a b) x h u n = cc
 used_role G f (operand.Mask a b) x h u n = cc
 
--- A use is among the operands that are looked at.
-seen_use : (G : Table) (i : PlainInst) (k x : ℕ) (r : Role) (u : IsUse G i k x r) → slice_get (seen i) k ≡ Some u.operand
-seen_use G i k x r u = elim (cases_eq i.opcode opcode.EXT_INST) [
-  | inl h ↦
-      let t = ext_forms G i u.forms u.has h in
-      let s = seen_ext i h in
-      let f = t.forms in
-      let p = u.form_at in
-      let p' : slice_get (ext_fixed ++ t.rest) k ≡ Some u.form = rw f at p in
-      elim (cases_lt k 4) [
-        | inl l ↦ rw s (get_take i.operands k 4 l ∙ u.operand_at)
-        | inr l ↦ absurd (role_seen u.form u.operand r (ext_late t.rest k u.form l t.ending p') u.role)
-      ]
-  | inr h ↦ rw (seen_other i h) u.operand_at
-]
+-- An operand behind the number of an OpExtInst that is a use of the id.
+pub record IsArgument (is : List PlainInst) (n k x : ℕ) : Type 0 where
+  pub inst : PlainInst
+  pub there : slice_get is n ≡ Some inst
+  pub operand : Plain
+  pub operand_at : slice_get (behind inst) k ≡ Some operand
+  pub used : argument_id operand ≡ Some x
 
-pub use_told : (G : Table) (is : List PlainInst) (n k x : ℕ) (r : Role) → IsUsedAt G is n k x r → IsUsedBefore is n (k + 1) x
+-- A use of the id, as operands alone tell it.
+pub data IsTold (is : List PlainInst) (n x : ℕ) : Type 0 where
+  early : (to : ℕ) → IsUsedBefore is n to x → IsTold is n x
+  late : (k : ℕ) → IsArgument is n k x → IsTold is n x
+
+pub use_told : (G : Table) (is : List PlainInst) (n k x : ℕ) (r : Role) → IsUsedAt G is n k x r → IsTold is n x
 use_told G is n k x r u =
     let w = u.used in
-    record {
-      inst = u.inst;
-      there = u.there;
-      place = k;
-      below = omega arith;
-      operand = w.operand;
-      operand_at = seen_use G u.inst k x r w;
-      used = role_used G w.form w.operand r x (form_of G w.forms u.inst.operands k w.form w.operand w.has.each w.form_at w.operand_at) w.role w.id;
-    }
+    let i = u.inst in
+    let a = form_of G w.forms i.operands k w.form w.operand w.has.each w.form_at w.operand_at in
+    elim (cases_eq i.opcode opcode.EXT_INST) [
+      | inl h ↦
+          let t = ext_forms G i w.forms w.has h in
+          let f = t.forms in
+          let p = w.form_at in
+          let p' : slice_get (ext_fixed ++ t.rest) k ≡ Some w.form = rw f at p in
+          elim (cases_lt k 4) [
+            | inl l ↦ IsTold.early (k + 1) (record {
+              inst = i;
+              there = u.there;
+              place = k;
+              below = omega arith;
+              operand = w.operand;
+              operand_at = rw (seen_ext i h) (get_take i.operands k 4 l ∙ w.operand_at);
+              used = role_used G w.form w.operand r x a w.role w.id;
+            })
+            | inr l ↦ IsTold.late (k - 4) (record {
+              inst = i;
+              there = u.there;
+              operand = w.operand;
+              operand_at = behind_at i k w.operand h l w.operand_at;
+              used = role_behind w.form w.operand r x (ext_late t.rest k w.form l t.ending p') w.role w.id;
+            })
+          ]
+      | inr h ↦ IsTold.early (k + 1) (record {
+        inst = i;
+        there = u.there;
+        place = k;
+        below = omega arith;
+        operand = w.operand;
+        operand_at = rw (seen_other i h) w.operand_at;
+        used = role_used G w.form w.operand r x a w.role w.id;
+      })
+    ]
+
+-- A mention stands behind the number of an OpExtInst.
+mention_unseen : (G : Table) (f : Form) (x : ℕ) → is_of G f (operand.Mention x) ≡ true → is_unseen f ≡ true
+unfolding is_unseen
+mention_unseen G form.Unseen x h = refl
+mention_unseen G _ x h = cc
+
+pub record IsMention (is : List PlainInst) (n x : ℕ) : Type 0 where
+  pub inst : PlainInst
+  pub there : slice_get is n ≡ Some inst
+  pub place : ℕ
+  pub operand_at : slice_get (behind inst) place ≡ Some (operand.Mention x)
+
+pub mention_told : (G : Table) (is : List PlainInst) (n k x : ℕ) → ((m : ℕ) (i : PlainInst) → slice_get is m ≡ Some i → FitsShape G i) → IsMentionedAt is n k x → IsMention is n x
+mention_told G is n k x f m =
+    let i = m.inst in
+    let has = (f n i m.there).has in
+    let fs = (f n i m.there).forms in
+    let t = form_there G fs i.operands k (operand.Mention x) has.each m.named in
+    let u = mention_unseen G t.form x t.fits in
+    elim (cases_eq i.opcode opcode.EXT_INST) [
+      | inl h ↦
+          let e = ext_forms G i fs has h in
+          elim (cases_lt k 4) [
+            | inl l ↦ let q : true ≡ false = sym u ∙ ext_early e.rest k t.form l (ap (λ z. slice_get z k) (sym e.forms) ∙ t.there) in cc
+            | inr l ↦ record { inst = i; there = m.there; place = k - 4; operand_at = behind_at i k (operand.Mention x) h l m.named }
+          ]
+      | inr h ↦ let q : true ≡ false = sym u ∙ seen_there fs k t.form (forms_seen G i fs has h) t.there in cc
+    ]
+
+pub mention_there : (is : List PlainInst) (n k x : ℕ) (i : PlainInst) (o : Plain) → slice_get is n ≡ Some i → slice_get (behind i) k ≡ Some o → mention_id o ≡ Some x → IsMentionedAt is n (k + 4) x
+mention_there is n k x i o h a u =
+    let b = behind_there i k o a in
+    record { inst = i; there = h; named = b.there ∙ ap Some (mention_tells o x u) }
 
 -- An operand that is looked at and an id is a use.
 pub record IsUsedIn (G : Table) (is : List PlainInst) (n x : ℕ) : Type 0 where
@@ -405,7 +531,7 @@ pub record IsUsedIn (G : Table) (is : List PlainInst) (n x : ℕ) : Type 0 where
   pub role : Role
   pub used : IsUsedAt G is n place x role
 
-use_by : (G : Table) (is : List PlainInst) (n k x : ℕ) (i : PlainInst) (o : Plain) (fs : List Form) → slice_get is n ≡ Some i → HasForms G i fs → slice_get i.operands k ≡ Some o → used_id o ≡ Some x
+use_by : (G : Table) (is : List PlainInst) (n k x : ℕ) (i : PlainInst) (o : Plain) (fs : List Form) → slice_get is n ≡ Some i → HasForms G i fs → slice_get i.operands k ≡ Some o → seen_id o ≡ Some x
     → ((f : Form) → slice_get fs k ≡ Some f → is_unseen f ≡ false) → IsUsedIn G is n x
 use_by G is n k x i o fs h has a u s =
     let t = form_there G fs i.operands k o has.each a in
@@ -436,10 +562,57 @@ told_use G is n to x f u =
           use_by G is n u.place x i u.operand fs u.there has q' u.used (λ g p. seen_there fs u.place g (forms_seen G i fs has h) p)
     ]
 
+-- So is one behind the number that is taken as a value.
+argument_role : (f : Form) (o : Plain) (x : ℕ) → f ≡ form.Unseen → argument_id o ≡ Some x → role_of f o ≡ Some role.Value
+argument_role f o x e h = rw (e, argument_tells o x h) refl
+
+argument_is : (o : Plain) (x : ℕ) → argument_id o ≡ Some x → id_of o ≡ Some x
+argument_is o x h = rw (argument_tells o x h) refl
+
+pub argument_use : (G : Table) (is : List PlainInst) (n k x : ℕ) → ((m : ℕ) (i : PlainInst) → slice_get is m ≡ Some i → FitsShape G i) → IsArgument is n k x → IsUsedIn G is n x
+argument_use G is n k x f u =
+    let i = u.inst in
+    let has = (f n i u.there).has in
+    let fs = (f n i u.there).forms in
+    let b = behind_there i k u.operand u.operand_at in
+    let e = ext_forms G i fs has b.extended in
+    let t = form_there G fs i.operands (k + 4) u.operand has.each b.there in
+    let q = ext_late e.rest (k + 4) t.form (omega arith) e.ending (ap (λ z. slice_get z (k + 4)) (sym e.forms) ∙ t.there) in
+    record {
+      place = k + 4;
+      role = role.Value;
+      used = record {
+        inst = i;
+        there = u.there;
+        used = record {
+          forms = fs;
+          has = has;
+          form = t.form;
+          operand = u.operand;
+          form_at = t.there;
+          operand_at = b.there;
+          role = argument_role t.form u.operand x q u.used;
+          id = argument_is u.operand x u.used;
+        };
+      };
+    }
+
 -- Of another opcode each operand that is such an id is a use.
+used_seen : (o : Plain) (x : ℕ) → used_id o ≡ Some x → seen_id o ≡ Some x
+used_seen (operand.OfType y) x h = h
+used_seen (operand.Result y) x h = cc
+used_seen (operand.Id y) x h = h
+used_seen (operand.Word y) x h = cc
+used_seen (operand.Argument y) x h = cc
+used_seen (operand.Mention y) x h = cc
+used_seen (operand.Number a b c) x h = cc
+used_seen (operand.Text t) x h = cc
+used_seen (operand.Value a b) x h = cc
+used_seen (operand.Mask a b) x h = cc
+
 pub id_used : (G : Table) (i : PlainInst) (k x : ℕ) (o : Plain) (f : FitsShape G i) → (i.opcode ≡ opcode.EXT_INST → ⊥) → slice_get i.operands k ≡ Some o → used_id o ≡ Some x
     → (r : Role) × IsUse G i k x r
 id_used G i k x o f n a u =
     let t = form_there G f.forms i.operands k o f.has.each a in
-    let r = used_role G t.form o x t.fits u (seen_there f.forms k t.form (forms_seen G i f.forms f.has n) t.there) in
+    let r = used_role G t.form o x t.fits (used_seen o x u) (seen_there f.forms k t.form (forms_seen G i f.forms f.has n) t.there) in
     (r.role, record { forms = f.forms; has = f.has; form = t.form; operand = o; form_at = t.there; operand_at = a; role = r.has; id = r.id })

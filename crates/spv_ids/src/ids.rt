@@ -93,9 +93,9 @@ fn globals(plan: &Plan, count: u32, end: u32) -> u32
 ///
 /// A `Fault` tells the first rule that is broken, with its instruction and that instruction's first word (words and
 /// instructions from 0). At one instruction the first in this order is told:
-/// - D1: its result or a use is 0 or not below the bound (2.3).
+/// - D1: its result, a use or a mention is 0 or not below the bound (2.3).
 /// - D2: its result is that of an earlier instruction (2.16).
-/// - D3: a use is the result of no instruction (2.16).
+/// - D3: a use or a mention is the result of no instruction (2.16).
 /// - D4: a use in section 7a or 9 comes before each of its definitions (2.16). In section 9 the operand of an
 ///   OpTypeForwardPointer may, and so may a member of an OpTypeStruct that a lower OpTypeForwardPointer names.
 /// - D5: a use in sections 9 to 11 of an id that is local to a function, by an instruction of no function to which it

@@ -2,8 +2,9 @@
 
 ghost use Rattle.std.specs.Prelude.{◌≡◌, ℕ, List, [], ◌∷◌};
 ghost use Rattle.spv_module.specs.Example.{small};
+ghost use Rattle.spv_module.specs.Operand.{Argument, Mention};
 ghost use Rattle.spv_module.specs.declared.fault.Rule.TheVariants.{D1, D2, D3, D4, D5};
-ghost use Rattle.spv_ids.specs.Example.{void, of_void, used_inside, used_outside};
+ghost use Rattle.spv_ids.specs.Example.{void, of_void, used_inside, used_outside, extended, mentioned};
 ghost use Rattle.spv_ids.specs.Order.{IsInOrder, IsInScope};
 ghost use Rattle.spv_table.specs.Table.{Table};
 ghost use Rattle.spv_module.specs.Operand.{PlainInst};
@@ -64,4 +65,13 @@ pub fn scope_examples()
     ensures not_in_place { ¬ (IsLocalTo used_outside 5 4) }
     ensures not_in_scope { ¬ (IsInScope used_outside 6 5) }
     ensures broken { Broken small 9 used_outside D5 6 }
+{}
+
+/// Operands behind the number of an extended instruction that are looked at, under the bound 5.
+pub fn extended_examples()
+    // %4 as a value, and as a mention, where nothing defines it.
+    ensures argument { Broken small 5 (extended (Argument 4) ∷ []) D3 0 }
+    ensures mention { Broken small 5 (extended (Mention 4) ∷ []) D3 0 }
+    // A mention of an id that is defined later breaks no rule.
+    ensures later { (r : Rule) (n : ℕ) → ¬ (Broken small 5 mentioned r n) }
 {}

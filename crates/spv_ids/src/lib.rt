@@ -2,6 +2,7 @@
 #![tactic(auto)]
 
 mod definitions;
+mod extended;
 mod ids;
 pub mod laws;
 mod notes;
@@ -11,4 +12,4 @@ mod survey;
 mod uses;
 
 pub use ids::{Ids, number};
-pub use uses::{named_id, used_id};
+pub use uses::{argument_id, mention_id, named_id, used_id};

@@ -25,7 +25,7 @@ ghost use Rattle.spv_ids.specs.inner.Survey.{ArePlaces, IsSurvey, IsSite, insts_
 
 use crate::definitions::{floor_of, home, is_out_of_range, section_of};
 use crate::notes::{NONE, Notes};
-use crate::uses::{named_id, result_of, seen, used_id};
+use crate::uses::{behind, named_id, result_of, seen, seen_id};
 use spv_layout::Plan;
 use spv_module::{Inst, Operand, Rule, opcode};
 use std::alloc::{AllocError, Global};
@@ -121,7 +121,7 @@ fn may_be_early(site: &Site, announced: &Notes, id: u32) -> bool
 }
 
 /// Whether there is a definition.
-fn is_defined(first: Option<u32>, later: Option<u32>) -> bool
+pub fn is_defined(first: Option<u32>, later: Option<u32>) -> bool
     ensures { result ≡ (is_some first || is_some later) }
 {
     first.is_some() || later.is_some()
@@ -176,7 +176,7 @@ fn number_of(rule: Rule) -> u8
 }
 
 /// The earlier of two rules on ids, in the order of telling.
-fn earlier(one: Option<Rule>, other: Rule) -> Rule
+pub fn earlier(one: Option<Rule>, other: Rule) -> Rule
     ensures { stage_of other ≡ of_ids → IfSome one (λ r. stage_of r ≡ of_ids) → IsEarlier one other result }
 {
     match one {
@@ -317,7 +317,7 @@ impl<'m, 'a> Survey<'m, 'a> {
     }
 
     /// The first rule that a use of an id breaks.
-    fn use_fault(&self, inst: u32, announced: &Notes, id: u32) -> Option<Rule>
+    pub fn use_fault(&self, inst: u32, announced: &Notes, id: u32) -> Option<Rule>
         requires survey { IsSurvey self.now }
         requires below { inst < self.now.end }
         requires announced { AreAnnounced (insts_of self.now) inst announced.now }
@@ -445,7 +445,7 @@ impl<'m, 'a> Survey<'m, 'a> {
     /// Whether each use among operands is sound at once, by an instruction of the function `floor`. One that is not may
     /// be sound all the same.
     #[inline(always)]
-    fn are_sound(&self, inst: u32, floor: u32, front: &[u32], operands: &[Operand<'_>]) -> bool
+    pub fn are_sound(&self, inst: u32, floor: u32, front: &[u32], operands: &[Operand<'_>]) -> bool
         requires survey { IsSurvey self.now }
         requires front { front.now ≡ self.now.firsts.now.near.items }
         requires below { inst < self.now.end }
@@ -455,7 +455,7 @@ impl<'m, 'a> Survey<'m, 'a> {
             None }
     {
         for operand in operands {
-            if let Some(id) = used_id(*operand) {
+            if let Some(id) = seen_id(*operand) {
                 if !self.is_use_sound(inst, floor, front, id) {
                     return false;
                 }
@@ -466,7 +466,7 @@ impl<'m, 'a> Survey<'m, 'a> {
 
     /// Whether a use of an id is sound at once, by an instruction of the function `floor`.
     #[inline(always)]
-    fn is_use_sound(&self, inst: u32, floor: u32, front: &[u32], id: u32) -> bool
+    pub fn is_use_sound(&self, inst: u32, floor: u32, front: &[u32], id: u32) -> bool
         requires survey { IsSurvey self.now }
         requires front { front.now ≡ self.now.firsts.now.near.items }
         requires below { inst < self.now.end }
@@ -484,9 +484,7 @@ impl<'m, 'a> Survey<'m, 'a> {
     }
 
     /// The first rule that a use among operands breaks.
-    #[cold]
-    #[inline(never)]
-    fn uses_fault(&self, inst: u32, announced: &Notes, operands: &[Operand<'_>]) -> Option<Rule>
+    pub fn uses_fault(&self, inst: u32, announced: &Notes, operands: &[Operand<'_>]) -> Option<Rule>
         requires survey { IsSurvey self.now }
         requires below { inst < self.now.end }
         requires announced { AreAnnounced (insts_of self.now) inst announced.now }
@@ -495,7 +493,7 @@ impl<'m, 'a> Survey<'m, 'a> {
     {
         let mut least = None;
         for operand in operands {
-            if let Some(id) = used_id(*operand) {
+            if let Some(id) = seen_id(*operand) {
                 if let Some(rule) = self.use_fault(inst, announced, id) {
                     least = Some(earlier(least, rule));
                 }
@@ -511,7 +509,7 @@ impl<'m, 'a> Survey<'m, 'a> {
             (¬ (HasBadUse self.now.bound is n (length operands.now) D1)) }
     {
         for operand in operands {
-            if let Some(id) = used_id(*operand) {
+            if let Some(id) = seen_id(*operand) {
                 if is_out_of_range(self.bound, id) {
                     return true;
                 }
@@ -536,6 +534,9 @@ impl<'m, 'a> Survey<'m, 'a> {
             return Rule::D1;
         }
         if self.has_out_of_range(seen(inst)) {
+            return Rule::D1;
+        }
+        if self.has_operand_out_of_range(behind(inst)) {
             return Rule::D1;
         }
         Rule::D2
@@ -573,6 +574,12 @@ impl<'m, 'a> Survey<'m, 'a> {
         ensures open { IfSome result (λ f. f < 4294967295 → IsOpen (insts_of self.now) (inst + 1) f) }
     {
         let there = &self.insts[inst as usize];
+        if there.opcode == opcode::EXT_INST {
+            if self.is_extended_sound(inst, floor, front, there) {
+                return Some(floor);
+            }
+            return None;
+        }
         if is_ordinary(there.opcode) {
             if self.are_sound(inst, floor, front, seen(there)) {
                 return Some(floor);
@@ -634,7 +641,7 @@ impl<'m, 'a> Survey<'m, 'a> {
         while passed.to < self.end {
             let n = passed.to;
             let inst = &self.insts[n as usize];
-            if let Some(rule) = self.uses_fault(n, announced, seen(inst)) {
+            if let Some(rule) = self.inst_fault(n, announced, inst) {
                 return Ok(Some(Found { rule, inst: n }));
             }
             announce(announced, inst, n)?;

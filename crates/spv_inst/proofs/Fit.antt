@@ -6,7 +6,7 @@ use Rattle.std.proofs.lemmas.Bool.Decides.{nat_tests}
 use Rattle.spv_table.specs.Table.{Table, kind_of}
 use Rattle.spv_table.specs.declared.form.Leaf as declared
 use Rattle.spv_table.specs.declared.form.Leaf.TheVariants as leaf
-use Rattle.spv_module.specs.Operand.{Plain, OfType, Result, Id, Word, Number, Text, Value, Mask, Context}
+use Rattle.spv_module.specs.Operand.{Plain, OfType, Result, Id, Word, Number, Text, Value, Mask, Argument, Mention, Context}
 use Rattle.spv_module.specs.Width.{context_width}
 use Rattle.spv_module.specs.Shape.{Slot, Shape, alone, AsType, AsResult, AsId, AsWord, AsNumber, AsText, AsValue, AsMask, AsNothing, shape_of}
 use Rattle.spv_module.specs.Spelling.{Takes, HoldsText, AreZeros, parameters_of, mask_parameters}
@@ -163,6 +163,8 @@ type_fit G k (OfType x) e = Takes.result_type x
 type_fit G k (Result x) e = cc
 type_fit G k (Id x) e = cc
 type_fit G k (Word x) e = cc
+type_fit G k (Argument x) e = cc
+type_fit G k (Mention x) e = cc
 type_fit G k (Number low high words) e = cc
 type_fit G k (Text t) e = cc
 type_fit G k (Value j x) e = cc
@@ -173,6 +175,8 @@ result_fit G k (OfType x) e = cc
 result_fit G k (Result x) e = Takes.result x
 result_fit G k (Id x) e = cc
 result_fit G k (Word x) e = cc
+result_fit G k (Argument x) e = cc
+result_fit G k (Mention x) e = cc
 result_fit G k (Number low high words) e = cc
 result_fit G k (Text t) e = cc
 result_fit G k (Value j x) e = cc
@@ -183,6 +187,8 @@ id_fit G k (OfType x) e = cc
 id_fit G k (Result x) e = cc
 id_fit G k (Id x) e = Takes.id x
 id_fit G k (Word x) e = cc
+id_fit G k (Argument x) e = cc
+id_fit G k (Mention x) e = cc
 id_fit G k (Number low high words) e = cc
 id_fit G k (Text t) e = cc
 id_fit G k (Value j x) e = cc
@@ -193,6 +199,8 @@ word_fit G k (OfType x) e = cc
 word_fit G k (Result x) e = cc
 word_fit G k (Id x) e = cc
 word_fit G k (Word x) e = Takes.word x
+word_fit G k (Argument x) e = cc
+word_fit G k (Mention x) e = cc
 word_fit G k (Number low high words) e = cc
 word_fit G k (Text t) e = cc
 word_fit G k (Value j x) e = cc
@@ -203,6 +211,8 @@ number_fit G k w (OfType x) e = cc
 number_fit G k w (Result x) e = cc
 number_fit G k w (Id x) e = cc
 number_fit G k w (Word x) e = cc
+number_fit G k w (Argument x) e = cc
+number_fit G k w (Mention x) e = cc
 number_fit G k w (Number low high words) e = number_takes k w low high words e
 number_fit G k w (Text t) e = cc
 number_fit G k w (Value j x) e = cc
@@ -213,6 +223,8 @@ text_fit G k (OfType x) h e = cc
 text_fit G k (Result x) h e = cc
 text_fit G k (Id x) h e = cc
 text_fit G k (Word x) h e = cc
+text_fit G k (Argument x) h e = cc
+text_fit G k (Mention x) h e = cc
 text_fit G k (Number low high words) h e = cc
 text_fit G k (Text t) h e = let s = text_spelled t h.1 e in Takes.text t (text_words t) s.padding s.holds s.zeros h.0
 text_fit G k (Value j x) h e = cc
@@ -223,6 +235,8 @@ value_fit G k (OfType x) e = cc
 value_fit G k (Result x) e = cc
 value_fit G k (Id x) e = cc
 value_fit G k (Word x) e = cc
+value_fit G k (Argument x) e = cc
+value_fit G k (Mention x) e = cc
 value_fit G k (Number low high words) e = cc
 value_fit G k (Text t) e = cc
 value_fit G k (Value j x) e = value_takes G k j x (eq_by j k (and_first (nat_eq j k) _ e)) (and_second (nat_eq j k) _ e)
@@ -233,6 +247,8 @@ mask_fit G k (OfType x) e = cc
 mask_fit G k (Result x) e = cc
 mask_fit G k (Id x) e = cc
 mask_fit G k (Word x) e = cc
+mask_fit G k (Argument x) e = cc
+mask_fit G k (Mention x) e = cc
 mask_fit G k (Number low high words) e = cc
 mask_fit G k (Text t) e = cc
 mask_fit G k (Value j x) e = cc
@@ -243,6 +259,8 @@ nothing_fit G k (OfType x) e = cc
 nothing_fit G k (Result x) e = cc
 nothing_fit G k (Id x) e = cc
 nothing_fit G k (Word x) e = cc
+nothing_fit G k (Argument x) e = cc
+nothing_fit G k (Mention x) e = cc
 nothing_fit G k (Number low high words) e = cc
 nothing_fit G k (Text t) e = cc
 nothing_fit G k (Value j x) e = cc

@@ -20,7 +20,9 @@ fn type_in_operand(operand: &Operand<'_>) -> Option<u32>
         | Operand::Number { .. }
         | Operand::Text(_)
         | Operand::Value { .. }
-        | Operand::Mask { .. } => None,
+        | Operand::Mask { .. }
+        | Operand::Argument(_)
+        | Operand::Mention(_) => None,
     }
 }
 
@@ -34,7 +36,9 @@ fn id_in_operand(operand: &Operand<'_>) -> Option<u32>
         | Operand::Number { .. }
         | Operand::Text(_)
         | Operand::Value { .. }
-        | Operand::Mask { .. } => None,
+        | Operand::Mask { .. }
+        | Operand::Argument(_)
+        | Operand::Mention(_) => None,
     }
 }
 

@@ -312,7 +312,9 @@ impl<'t> Pending<'t> {
             | Operand::Id(_)
             | Operand::Word(_)
             | Operand::Number { .. }
-            | Operand::Text(_) => {}
+            | Operand::Text(_)
+            | Operand::Argument(_)
+            | Operand::Mention(_) => {}
         }
         Ok(())
     }

@@ -76,7 +76,9 @@ pub fn push_operand(words: &mut Vec<u32>, operand: &Operand) -> Result<(), Alloc
         | Operand::Id(word)
         | Operand::Word(word)
         | Operand::Value { value: word, .. }
-        | Operand::Mask { value: word, .. } => {
+        | Operand::Mask { value: word, .. }
+        | Operand::Argument(word)
+        | Operand::Mention(word) => {
             words.push(*word)?;
         }
         Operand::Number {

@@ -7,7 +7,7 @@ use Rattle.spv_table.specs.declared.table.Enumerant.{Enumerant}
 use Rattle.spv_table.specs.declared.table.Entry.{Entry}
 use Rattle.spv_table.specs.Table.{Table, enumerant_of, kind_of}
 use Rattle.spv_table.specs.Lookups.{opcode_named, value_named, is_number}
-use Rattle.spv_module.specs.Operand.{Plain, OfType, Result, Id, Word, Number, Text, Value, Mask, Context, and_then, result_in}
+use Rattle.spv_module.specs.Operand.{Plain, OfType, Result, Id, Word, Number, Text, Value, Mask, Argument, Mention, Context, and_then, result_in}
 use Rattle.spv_module.specs.Shape.{Slot, Shape, shape_of}
 use Rattle.spv_module.specs.Spelling.{Takes}
 use Rattle.spv_inst.specs.Reading.{enumerants_at}
@@ -98,6 +98,8 @@ operand_back G hex (OfType x) = refl
 operand_back G hex (Result x) = refl
 operand_back G hex (Id x) = refl
 operand_back G hex (Word x) = refl
+operand_back G hex (Argument x) = refl
+operand_back G hex (Mention x) = refl
 operand_back G hex (Number low high words) = refl
 operand_back G hex (Text t) = refl
 operand_back G hex (Value k x) = value_back (enumerants_at (kind_of G k)) x
@@ -132,6 +134,8 @@ first_result (OfType y ∷ xs) x os e = first_result xs x os e
 first_result (Result y ∷ xs) x os e = cc
 first_result (Id y ∷ xs) x os e = first_result xs x os e
 first_result (Word y ∷ xs) x os e = first_result xs x os e
+first_result (Argument y ∷ xs) x os e = first_result xs x os e
+first_result (Mention y ∷ xs) x os e = first_result xs x os e
 first_result (Number a b d ∷ xs) x os e = first_result xs x os e
 first_result (Text t ∷ xs) x os e = first_result xs x os e
 first_result (Value k y ∷ xs) x os e = first_result xs x os e
@@ -141,6 +145,8 @@ piece_of : (G : Table) (r : Option ℕ) (c : Context) (s : Slot) (o : Plain) (os
 piece_of G r c s (OfType x) os e = record { text = _; piece = Piece.other (OfType x) _ refl refl }
 piece_of G r c s (Id x) os e = record { text = _; piece = Piece.other (Id x) _ refl refl }
 piece_of G r c s (Word x) os e = record { text = _; piece = Piece.other (Word x) _ refl refl }
+piece_of G r c s (Argument x) os e = record { text = _; piece = Piece.other (Argument x) _ refl refl }
+piece_of G r c s (Mention x) os e = record { text = _; piece = Piece.other (Mention x) _ refl refl }
 piece_of G r c s (Number a b d) os e = record { text = _; piece = Piece.other (Number a b d) _ refl refl }
 piece_of G r c s (Text t) os e = record { text = _; piece = Piece.other (Text t) _ refl refl }
 piece_of G r c s (Value k x) os e = record { text = _; piece = Piece.other (Value k x) _ refl refl }

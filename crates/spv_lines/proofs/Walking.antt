@@ -8,7 +8,7 @@ use Rattle.spv_table.specs.Table.{Table, Sort, kind_of, is_simple, is_simple_cat
 use Rattle.spv_table.specs.declared.form.Form.{Form}
 use Rattle.spv_table.specs.declared.form.Form.TheVariants.{Leaf, Parts}
 use Rattle.spv_table.specs.inner.Form.{category_form, form_at}
-use Rattle.spv_module.specs.Operand.{Plain, OfType, Result, Id, Word, Number, Text, Value, Mask, Context, and_then, result_in}
+use Rattle.spv_module.specs.Operand.{Plain, OfType, Result, Id, Word, Number, Text, Value, Mask, Argument, Mention, Context, and_then, result_in}
 use Rattle.spv_module.specs.Shape.{Slot, AsParts, shape_of}
 use Rattle.spv_module.specs.Refusal.{IsLeaf}
 use Rattle.spv_inst.specs.Flat.{Due, OneOf, MaybeOf, ManyOf}
@@ -90,6 +90,8 @@ still (OfType x ∷ xs) ys y e = still xs ys y e
 still (Result x ∷ xs) ys y e = e
 still (Id x ∷ xs) ys y e = still xs ys y e
 still (Word x ∷ xs) ys y e = still xs ys y e
+still (Argument x ∷ xs) ys y e = still xs ys y e
+still (Mention x ∷ xs) ys y e = still xs ys y e
 still (Number a b d ∷ xs) ys y e = still xs ys y e
 still (Text t ∷ xs) ys y e = still xs ys y e
 still (Value k x ∷ xs) ys y e = still xs ys y e

@@ -5,8 +5,8 @@ use Rattle.std.specs.Prelude.{unwrap_or, bytes_eq, codes, decimal}
 use Rattle.spv_table.specs.Table.{Table, Sort, kind_of}
 use Rattle.spv_table.specs.Lookups.{value_named}
 use Rattle.spv_module.specs.declared.opcode.TheConstants.{TYPE_FLOAT}
-use Rattle.spv_module.specs.Operand.{Plain, OfType, Result, Id, Word, Number, Text, Value, Mask, PlainInst, Context}
-use Rattle.spv_module.specs.Operand.{result_in, type_in}
+use Rattle.spv_module.specs.Operand.{Plain, OfType, Result, Id, Word, Number, Text, Value, Mask, Argument, Mention}
+use Rattle.spv_module.specs.Operand.{PlainInst, Context, result_in, type_in}
 use Rattle.spv_module.specs.Width.{definition_of, type_of, first_id}
 use Rattle.spv_module.specs.Shape.{Slot}
 use Rattle.spv_inst.specs.Reading.{enumerants_at}
@@ -56,6 +56,8 @@ shown_operand G hex (OfType x) = id_text x
 shown_operand G hex (Result x) = id_text x
 shown_operand G hex (Id x) = id_text x
 shown_operand G hex (Word x) = decimal x
+shown_operand G hex (Argument x) = id_text x
+shown_operand G hex (Mention x) = id_text x
 shown_operand G hex (Number low high words) = number_text hex low high words
 shown_operand G hex (Text t) = quoted t
 shown_operand G hex (Value k x) = shown_value (enumerants_at (kind_of G k)) x

@@ -22,4 +22,9 @@ pub enum Operand<'a> {
     Value { kind: u32, value: u32 },
     /// A mask of a kind whose enumerants are bits. `kind` is the number of the kind in the grammar table, from 0.
     Mask { kind: u32, value: u32 },
+    /// An id that an extended instruction takes as a value: what an `Id` behind its number becomes where such ids are
+    /// looked at. No words spell it.
+    Argument(u32),
+    /// An id that an extended instruction names, for its set alone to know as what: as `Argument`.
+    Mention(u32),
 }

@@ -3,7 +3,7 @@ use Rattle.std.proofs.Common.{◌≡◌, ◌++◌, ◌∙◌, ℕ, List, [], ◌
 use Rattle.std.proofs.lemmas.Bool.Decides.{nat_tests}
 use Rattle.std.specs.Option.{option_or}
 use Rattle.std.specs.Prelude.{if◌then◌else◌}
-use Rattle.spv_module.specs.Operand.{Plain, OfType, Result, Id, Word, Number, Text, Value, Mask, result_in, type_in}
+use Rattle.spv_module.specs.Operand.{Plain, OfType, Result, Id, Word, Number, Text, Value, Mask, Argument, Mention, result_in, type_in}
 use Rattle.spv_module.specs.Width.{first_id, width_in}
 use Rattle.spv_lines.proofs.OneMore.{result_snoc, type_snoc}
 use Rattle.spv_parser.specs.declared.operands.Known.{Known}
@@ -18,6 +18,8 @@ first_same (OfType x) xs ys = refl
 first_same (Result x) xs ys = refl
 first_same (Id x) xs ys = refl
 first_same (Word x) xs ys = refl
+first_same (Argument x) xs ys = refl
+first_same (Mention x) xs ys = refl
 first_same (Number a b n) xs ys = refl
 first_same (Text t) xs ys = refl
 first_same (Value k x) xs ys = refl
@@ -33,6 +35,8 @@ one_width (OfType x) = refl
 one_width (Result x) = refl
 one_width (Id x) = refl
 one_width (Word x) = refl
+one_width (Argument x) = refl
+one_width (Mention x) = refl
 one_width (Number a b n) = refl
 one_width (Text t) = refl
 one_width (Value k x) = refl
@@ -44,12 +48,16 @@ two_widths (Result y) (OfType x) = refl
 two_widths (Result y) (Result x) = refl
 two_widths (Result y) (Id x) = refl
 two_widths (Result y) (Word x) = refl
+two_widths (Result y) (Argument x) = refl
+two_widths (Result y) (Mention x) = refl
 two_widths (Result y) (Number a b n) = refl
 two_widths (Result y) (Text t) = refl
 two_widths (Result y) (Value k x) = refl
 two_widths (Result y) (Mask k x) = refl
 two_widths (Id x) o = refl
 two_widths (Word x) o = refl
+two_widths (Argument x) o = refl
+two_widths (Mention x) o = refl
 two_widths (Number a b n) o = refl
 two_widths (Text t) o = refl
 two_widths (Value k x) o = refl
@@ -61,12 +69,16 @@ more_widths (Result y) (OfType x) xs ys = refl
 more_widths (Result y) (Result x) xs ys = refl
 more_widths (Result y) (Id x) xs ys = refl
 more_widths (Result y) (Word x) xs ys = refl
+more_widths (Result y) (Argument x) xs ys = refl
+more_widths (Result y) (Mention x) xs ys = refl
 more_widths (Result y) (Number a b n) xs ys = refl
 more_widths (Result y) (Text t) xs ys = refl
 more_widths (Result y) (Value k x) xs ys = refl
 more_widths (Result y) (Mask k x) xs ys = refl
 more_widths (Id x) o xs ys = refl
 more_widths (Word x) o xs ys = refl
+more_widths (Argument x) o xs ys = refl
+more_widths (Mention x) o xs ys = refl
 more_widths (Number a b n) o xs ys = refl
 more_widths (Text t) o xs ys = refl
 more_widths (Value k x) o xs ys = refl

@@ -5,7 +5,7 @@ use Rattle.std.specs.Fmt.{digit_glyph, digits, digits_onto}
 use Rattle.std.proofs.lemmas.Bool.Decides.{nat_tests}
 use Rattle.spv_table.specs.Table.{Table, kind_of}
 use Rattle.spv_table.specs.Lookups.{opcode_named, value_named}
-use Rattle.spv_module.specs.Operand.{Plain, OfType, Result, Id, Word, Number, Text, Value, Mask, PlainInst, Context, and_then, result_in}
+use Rattle.spv_module.specs.Operand.{Plain, OfType, Result, Id, Word, Number, Text, Value, Mask, Argument, Mention, PlainInst, Context, and_then, result_in}
 use Rattle.spv_inst.specs.Flat.{Due, OneOf, ManyOf}
 use Rattle.spv_inst.specs.Reading.{enumerants_at}
 use Rattle.spv_lines.specs.Digits.{hex_digits}
@@ -64,6 +64,8 @@ operand_feedless G hex (OfType x) = id_feedless x
 operand_feedless G hex (Result x) = id_feedless x
 operand_feedless G hex (Id x) = id_feedless x
 operand_feedless G hex (Word x) = decimal_feedless x
+operand_feedless G hex (Argument x) = id_feedless x
+operand_feedless G hex (Mention x) = id_feedless x
 operand_feedless G hex (Number low high words) = number_feedless hex low high words
 operand_feedless G hex (Text t) = quoted_feedless t
 operand_feedless G hex (Value k x) = names_feedless (value_named (enumerants_at (kind_of G k))) x _ (value_back (enumerants_at (kind_of G k)) x)

@@ -4,7 +4,7 @@ use Rattle.std.specs.Prelude.{◌==◌, ◌&&◌, codes, decimal, if◌then◌el
 use Rattle.std.specs.List.{list_all}
 use Rattle.std.specs.Fmt.{digit_glyph, digits, digits_onto}
 use Rattle.std.proofs.lemmas.Bool.Decides.{nat_tests}
-use Rattle.spv_module.specs.Operand.{Plain, OfType, Result, Id, Word, Number, Text, Value, Mask, PlainInst}
+use Rattle.spv_module.specs.Operand.{Plain, OfType, Result, Id, Word, Number, Text, Value, Mask, Argument, Mention, PlainInst}
 use Rattle.spv_module.specs.declared.opcode.TheConstants.{BRANCH, BRANCH_CONDITIONAL, SWITCH}
 use Rattle.spv_pictures.specs.Blocks.{Row, Edge, branch_edges, case_edges, conditional_edges, edge_text, edge_to, edges_of, goes_from, step_mark, switch_edges, walk_of, word_mark}
 use Rattle.spv_pictures.specs.Label.{node_name}
@@ -156,6 +156,8 @@ cases_unmarked (OfType x ∷ os) = no_edges
 cases_unmarked (Result x ∷ os) = no_edges
 cases_unmarked (Id x ∷ os) = no_edges
 cases_unmarked (Word x ∷ os) = no_edges
+cases_unmarked (Argument x ∷ os) = no_edges
+cases_unmarked (Mention x ∷ os) = no_edges
 cases_unmarked (Text t ∷ os) = no_edges
 cases_unmarked (Value k x ∷ os) = no_edges
 cases_unmarked (Mask k x ∷ os) = no_edges
@@ -163,6 +165,8 @@ cases_unmarked (Number low high words ∷ []) = no_edges
 cases_unmarked (Number low high words ∷ OfType x ∷ os) = no_edges
 cases_unmarked (Number low high words ∷ Result x ∷ os) = no_edges
 cases_unmarked (Number low high words ∷ Word x ∷ os) = no_edges
+cases_unmarked (Number low high words ∷ Argument x ∷ os) = no_edges
+cases_unmarked (Number low high words ∷ Mention x ∷ os) = no_edges
 cases_unmarked (Number low high words ∷ Text t ∷ os) = no_edges
 cases_unmarked (Number low high words ∷ Value k x ∷ os) = no_edges
 cases_unmarked (Number low high words ∷ Mask k x ∷ os) = no_edges
@@ -175,6 +179,8 @@ branches_unmarked (OfType x ∷ os) = no_edges
 branches_unmarked (Result x ∷ os) = no_edges
 branches_unmarked (Id x ∷ os) = one_edge x [] [] (record { all = refl }) no_edges
 branches_unmarked (Word x ∷ os) = no_edges
+branches_unmarked (Argument x ∷ os) = no_edges
+branches_unmarked (Mention x ∷ os) = no_edges
 branches_unmarked (Number low high words ∷ os) = no_edges
 branches_unmarked (Text t ∷ os) = no_edges
 branches_unmarked (Value k x ∷ os) = no_edges
@@ -189,6 +195,8 @@ third_unmarked c x (OfType y ∷ os) = no_edges
 third_unmarked c x (Result y ∷ os) = no_edges
 third_unmarked c x (Id y ∷ os) = two_unmarked x y
 third_unmarked c x (Word y ∷ os) = no_edges
+third_unmarked c x (Argument y ∷ os) = no_edges
+third_unmarked c x (Mention y ∷ os) = no_edges
 third_unmarked c x (Number low high words ∷ os) = no_edges
 third_unmarked c x (Text t ∷ os) = no_edges
 third_unmarked c x (Value k y ∷ os) = no_edges
@@ -200,6 +208,8 @@ second_unmarked c (OfType y ∷ os) = no_edges
 second_unmarked c (Result y ∷ os) = no_edges
 second_unmarked c (Id y ∷ os) = third_unmarked c y os
 second_unmarked c (Word y ∷ os) = no_edges
+second_unmarked c (Argument y ∷ os) = no_edges
+second_unmarked c (Mention y ∷ os) = no_edges
 second_unmarked c (Number low high words ∷ os) = no_edges
 second_unmarked c (Text t ∷ os) = no_edges
 second_unmarked c (Value k y ∷ os) = no_edges
@@ -211,6 +221,8 @@ conditionals_unmarked (OfType x ∷ os) = no_edges
 conditionals_unmarked (Result x ∷ os) = no_edges
 conditionals_unmarked (Id x ∷ os) = second_unmarked x os
 conditionals_unmarked (Word x ∷ os) = no_edges
+conditionals_unmarked (Argument x ∷ os) = no_edges
+conditionals_unmarked (Mention x ∷ os) = no_edges
 conditionals_unmarked (Number low high words ∷ os) = no_edges
 conditionals_unmarked (Text t ∷ os) = no_edges
 conditionals_unmarked (Value k x ∷ os) = no_edges
@@ -222,6 +234,8 @@ default_unmarked c (OfType y ∷ os) = no_edges
 default_unmarked c (Result y ∷ os) = no_edges
 default_unmarked c (Id y ∷ os) = one_edge y (codes "default") (case_edges os) (record { all = refl }) (cases_unmarked os)
 default_unmarked c (Word y ∷ os) = no_edges
+default_unmarked c (Argument y ∷ os) = no_edges
+default_unmarked c (Mention y ∷ os) = no_edges
 default_unmarked c (Number low high words ∷ os) = no_edges
 default_unmarked c (Text t ∷ os) = no_edges
 default_unmarked c (Value k y ∷ os) = no_edges
@@ -233,6 +247,8 @@ switches_unmarked (OfType x ∷ os) = no_edges
 switches_unmarked (Result x ∷ os) = no_edges
 switches_unmarked (Id x ∷ os) = default_unmarked x os
 switches_unmarked (Word x ∷ os) = no_edges
+switches_unmarked (Argument x ∷ os) = no_edges
+switches_unmarked (Mention x ∷ os) = no_edges
 switches_unmarked (Number low high words ∷ os) = no_edges
 switches_unmarked (Text t ∷ os) = no_edges
 switches_unmarked (Value k x ∷ os) = no_edges

@@ -1,7 +1,7 @@
 -- The frame of a picture of calls is that of a module with other texts.
 use Rattle.std.proofs.Common.{◌≡◌, ◌++◌, ◌∙◌, ℕ, Bool, true, false, List, [], ◌∷◌, Option, Some, None, flat_map, map, nat_eq, option_and_then, refl, ap}
 use Rattle.std.specs.Prelude.{◌||◌, codes, decimal, if◌then◌else◌, is_some, option_map}
-use Rattle.spv_module.specs.Operand.{Plain, OfType, Result, Id, Word, Number, Text, Value, Mask, PlainInst, result_in}
+use Rattle.spv_module.specs.Operand.{Plain, OfType, Result, Id, Word, Number, Text, Value, Mask, Argument, Mention, PlainInst, result_in}
 use Rattle.spv_module.specs.declared.opcode.TheConstants.{ENTRY_POINT, FUNCTION_CALL, LABEL, NAME}
 use Rattle.spv_pictures.specs.Calls.{call_edge, call_graph_text, callee_in, callee_of, declaration_mark, entry_in, entry_line, entry_mark, function_label, function_node, function_text, functions, has_label, name_in, name_line, name_of, named_by, or_later}
 use Rattle.spv_pictures.specs.Function.{begins_function, ends_function}
@@ -20,6 +20,8 @@ module _ (f : List ℕ → List ℕ) where
   result_kept (Result x ∷ os) = refl
   result_kept (Id x ∷ os) = result_kept os
   result_kept (Word x ∷ os) = result_kept os
+  result_kept (Argument x ∷ os) = result_kept os
+  result_kept (Mention x ∷ os) = result_kept os
   result_kept (Number low high words ∷ os) = result_kept os
   result_kept (Text t ∷ os) = result_kept os
   result_kept (Value k x ∷ os) = result_kept os
@@ -34,6 +36,8 @@ module _ (f : List ℕ → List ℕ) where
   second_name x (Result y ∷ os) = refl
   second_name x (Id y ∷ os) = refl
   second_name x (Word y ∷ os) = refl
+  second_name x (Argument y ∷ os) = refl
+  second_name x (Mention y ∷ os) = refl
   second_name x (Number low high words ∷ os) = refl
   second_name x (Text t ∷ os) = refl
   second_name x (Value k y ∷ os) = refl
@@ -45,6 +49,8 @@ module _ (f : List ℕ → List ℕ) where
   name_kept (Result x ∷ os) = refl
   name_kept (Id x ∷ os) = second_name x os
   name_kept (Word x ∷ os) = refl
+  name_kept (Argument x ∷ os) = refl
+  name_kept (Mention x ∷ os) = refl
   name_kept (Number low high words ∷ os) = refl
   name_kept (Text t ∷ os) = refl
   name_kept (Value k x ∷ os) = refl
@@ -56,6 +62,8 @@ module _ (f : List ℕ → List ℕ) where
   third_entry k v x (Result y ∷ os) = refl
   third_entry k v x (Id y ∷ os) = refl
   third_entry k v x (Word y ∷ os) = refl
+  third_entry k v x (Argument y ∷ os) = refl
+  third_entry k v x (Mention y ∷ os) = refl
   third_entry k v x (Number low high words ∷ os) = refl
   third_entry k v x (Text t ∷ os) = refl
   third_entry k v x (Value j y ∷ os) = refl
@@ -67,6 +75,8 @@ module _ (f : List ℕ → List ℕ) where
   second_entry k v (Result y ∷ os) = refl
   second_entry k v (Id y ∷ os) = third_entry k v y os
   second_entry k v (Word y ∷ os) = refl
+  second_entry k v (Argument y ∷ os) = refl
+  second_entry k v (Mention y ∷ os) = refl
   second_entry k v (Number low high words ∷ os) = refl
   second_entry k v (Text t ∷ os) = refl
   second_entry k v (Value j y ∷ os) = refl
@@ -78,6 +88,8 @@ module _ (f : List ℕ → List ℕ) where
   entry_kept (Result x ∷ os) = refl
   entry_kept (Id x ∷ os) = refl
   entry_kept (Word x ∷ os) = refl
+  entry_kept (Argument x ∷ os) = refl
+  entry_kept (Mention x ∷ os) = refl
   entry_kept (Number low high words ∷ os) = refl
   entry_kept (Text t ∷ os) = refl
   entry_kept (Value k x ∷ os) = second_entry k x os
@@ -118,6 +130,8 @@ module _ (f : List ℕ → List ℕ) where
   third_callee t r (Result y ∷ os) = refl
   third_callee t r (Id y ∷ os) = refl
   third_callee t r (Word y ∷ os) = refl
+  third_callee t r (Argument y ∷ os) = refl
+  third_callee t r (Mention y ∷ os) = refl
   third_callee t r (Number low high words ∷ os) = refl
   third_callee t r (Text s ∷ os) = refl
   third_callee t r (Value j y ∷ os) = refl
@@ -129,6 +143,8 @@ module _ (f : List ℕ → List ℕ) where
   second_callee t (Result y ∷ os) = third_callee t y os
   second_callee t (Id y ∷ os) = refl
   second_callee t (Word y ∷ os) = refl
+  second_callee t (Argument y ∷ os) = refl
+  second_callee t (Mention y ∷ os) = refl
   second_callee t (Number low high words ∷ os) = refl
   second_callee t (Text s ∷ os) = refl
   second_callee t (Value j y ∷ os) = refl
@@ -140,6 +156,8 @@ module _ (f : List ℕ → List ℕ) where
   callee_in_kept (Result x ∷ os) = refl
   callee_in_kept (Id x ∷ os) = refl
   callee_in_kept (Word x ∷ os) = refl
+  callee_in_kept (Argument x ∷ os) = refl
+  callee_in_kept (Mention x ∷ os) = refl
   callee_in_kept (Number low high words ∷ os) = refl
   callee_in_kept (Text t ∷ os) = refl
   callee_in_kept (Value k x ∷ os) = refl

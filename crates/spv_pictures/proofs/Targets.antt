@@ -4,7 +4,7 @@ use Rattle.std.specs.Prelude.{◌&&◌, ◌||◌, codes, decimal, nat_le, slice_
 use Rattle.std.specs.List.{list_any}
 use Rattle.std.proofs.lemmas.Bool.Decides.{nat_tests}
 use Rattle.spv_module.specs.declared.opcode.TheConstants.{BRANCH, BRANCH_CONDITIONAL, SWITCH}
-use Rattle.spv_module.specs.Operand.{Plain, OfType, Result, Id, Word, Number, Text, Value, Mask, PlainInst}
+use Rattle.spv_module.specs.Operand.{Plain, OfType, Result, Id, Word, Number, Text, Value, Mask, Argument, Mention, PlainInst}
 use Rattle.spv_table.specs.Table.{Table}
 use Rattle.spv_layout.specs.declared.form.Form.{Form}
 use Rattle.spv_layout.specs.declared.form.Form.TheVariants as form
@@ -65,6 +65,8 @@ an_id G r (OfType x) h = cc
 an_id G r (Result x) h = cc
 an_id G r (Id x) h = record { x = x; is = refl }
 an_id G r (Word x) h = cc
+an_id G r (Argument x) h = cc
+an_id G r (Mention x) h = cc
 an_id G r (Number low high words) h = cc
 an_id G r (Text t) h = cc
 an_id G r (Value k x) h = cc
@@ -81,6 +83,8 @@ a_number G (OfType x) h = cc
 a_number G (Result x) h = cc
 a_number G (Id x) h = cc
 a_number G (Word x) h = cc
+a_number G (Argument x) h = cc
+a_number G (Mention x) h = cc
 a_number G (Number low high words) h = record { low = low; high = high; words = words; is = refl }
 a_number G (Text t) h = cc
 a_number G (Value k x) h = cc

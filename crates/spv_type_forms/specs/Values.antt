@@ -8,7 +8,7 @@ use Rattle.spv_layout.specs.declared.form.Form.TheVariants as form
 use Rattle.spv_layout.specs.declared.form.Role.TheVariants as role
 use Rattle.spv_layout.specs.Shape.{HasForms}
 
--- the ids that operands of these forms use as values, in order [own]
+-- the ids that operands of these forms use as values, in order; arguments of an OpExtInst aside [own]
 abbrev pub value_in : Form → Plain → List ℕ
 value_in (form.Id role.Value) (Id x) = x ∷ []
 value_in f o = []

@@ -2,7 +2,7 @@
 use Rattle.std.proofs.Common.{◌≡◌, ℕ, List, [], ◌∷◌, Option, Some, None, Bool, true, false, nat_eq, ◌&&◌, option_and_then, option_map, ◌↔◌, refl, map, sym, ◌∙◌, ap}
 use Rattle.std.specs.Prelude.{IsSomeAnd}
 use Rattle.std.proofs.lemmas.Bool.{eqb-true, eq-eqb}
-use Rattle.spv_module.specs.Operand.{Plain, PlainInst, OfType, Result, Id, Word, Number, Text, Value, Mask}
+use Rattle.spv_module.specs.Operand.{Plain, PlainInst, OfType, Result, Id, Word, Number, Text, Value, Mask, Argument, Mention}
 use Rattle.spv_module.specs.Width.{type_of}
 use Rattle.spv_type_forms.specs.inner.Tests.{passes}
 use Rattle.spv_type_forms.specs.Values.{types_of}
@@ -55,6 +55,8 @@ typed_are is (x ∷ xs) (Id t ∷ ps) = one_more t ps (type_of is x) (types_of i
 typed_are is (x ∷ xs) (OfType y ∷ ps) = wrong is (x ∷ xs) (OfType y) ps (λ u e. cc)
 typed_are is (x ∷ xs) (Result y ∷ ps) = wrong is (x ∷ xs) (Result y) ps (λ u e. cc)
 typed_are is (x ∷ xs) (Word y ∷ ps) = wrong is (x ∷ xs) (Word y) ps (λ u e. cc)
+typed_are is (x ∷ xs) (Argument y ∷ ps) = wrong is (x ∷ xs) (Argument y) ps (λ u e. cc)
+typed_are is (x ∷ xs) (Mention y ∷ ps) = wrong is (x ∷ xs) (Mention y) ps (λ u e. cc)
 typed_are is (x ∷ xs) (Number l h w ∷ ps) = wrong is (x ∷ xs) (Number l h w) ps (λ u e. cc)
 typed_are is (x ∷ xs) (Text y ∷ ps) = wrong is (x ∷ xs) (Text y) ps (λ u e. cc)
 typed_are is (x ∷ xs) (Value k y ∷ ps) = wrong is (x ∷ xs) (Value k y) ps (λ u e. cc)
@@ -84,6 +86,8 @@ signature_told is r (Id t ∷ ps) xs = begins t r ps (types_of is xs) (are_typed
 signature_told is r (OfType y ∷ ps) xs = never_begins r (OfType y) ps (λ u e. cc) (types_of is xs)
 signature_told is r (Result y ∷ ps) xs = never_begins r (Result y) ps (λ u e. cc) (types_of is xs)
 signature_told is r (Word y ∷ ps) xs = never_begins r (Word y) ps (λ u e. cc) (types_of is xs)
+signature_told is r (Argument y ∷ ps) xs = never_begins r (Argument y) ps (λ u e. cc) (types_of is xs)
+signature_told is r (Mention y ∷ ps) xs = never_begins r (Mention y) ps (λ u e. cc) (types_of is xs)
 signature_told is r (Number l h w ∷ ps) xs = never_begins r (Number l h w) ps (λ u e. cc) (types_of is xs)
 signature_told is r (Text y ∷ ps) xs = never_begins r (Text y) ps (λ u e. cc) (types_of is xs)
 signature_told is r (Value k y ∷ ps) xs = never_begins r (Value k y) ps (λ u e. cc) (types_of is xs)

@@ -15,7 +15,9 @@ fn is_same(one: Operand<'_>, other: Operand<'_>) -> bool
         (Operand::OfType(x), Operand::OfType(y))
         | (Operand::Result(x), Operand::Result(y))
         | (Operand::Id(x), Operand::Id(y))
-        | (Operand::Word(x), Operand::Word(y)) => x == y,
+        | (Operand::Word(x), Operand::Word(y))
+        | (Operand::Argument(x), Operand::Argument(y))
+        | (Operand::Mention(x), Operand::Mention(y)) => x == y,
         (
             Operand::Number { low, high, words },
             Operand::Number {

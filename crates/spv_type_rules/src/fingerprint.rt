@@ -32,9 +32,12 @@ fn mixed_with_operand(mixed: u32, operand: Operand<'_>) -> u32
     ensures { result ≡ spec.mixed_with_operand mixed (plain_operand operand.entry) }
 {
     match operand {
-        Operand::OfType(x) | Operand::Result(x) | Operand::Id(x) | Operand::Word(x) => mixed_with(
-            mixed, x,
-        ),
+        Operand::OfType(x)
+        | Operand::Result(x)
+        | Operand::Id(x)
+        | Operand::Word(x)
+        | Operand::Argument(x)
+        | Operand::Mention(x) => mixed_with(mixed, x),
         Operand::Number { low, high, .. } => mixed_with(mixed_with(mixed, low), high),
         Operand::Text(text) => mixed_with_text(mixed, text),
         Operand::Value { value, .. } | Operand::Mask { value, .. } => mixed_with(mixed, value),

@@ -55,6 +55,8 @@ fn push_operand(key: &mut Vec<u32>, operand: Operand<'_>) -> Result<(), AllocErr
             key.push(7)?;
             push_two(key, kind, value)
         }
+        Operand::Argument(x) => push_two(key, 8, x),
+        Operand::Mention(x) => push_two(key, 9, x),
     }
 }
 

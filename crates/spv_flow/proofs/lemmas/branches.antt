@@ -10,3 +10,4 @@ pub mod Firsts
 pub mod Direct
 pub mod Laid
 pub mod Worked
+pub mod Extended

@@ -3,7 +3,7 @@ use Rattle.std.specs.Prelude.{ℕ, List, [], ◌∷◌, codes}
 use Rattle.spv_table.specs.declared.table.Category.TheVariants.{BitEnum}
 use Rattle.spv_table.specs.Table.{Table}
 use Rattle.spv_module.specs.declared.opcode.TheConstants as opcode
-use Rattle.spv_module.specs.Operand.{OfType, Result, Id, Mask, PlainInst}
+use Rattle.spv_module.specs.Operand.{Plain, OfType, Result, Id, Word, Mask, PlainInst}
 
 -- %x = OpLabel
 abbrev pub label : ℕ → PlainInst
@@ -63,6 +63,17 @@ unpaired = function ∷ label 1 ∷ branch 2 ∷ label 2 ∷ bare_phi ∷ []
 abbrev pub negation : ℕ → ℕ → PlainInst
 negation r x = record { opcode = 200; operands = OfType 20 ∷ Result r ∷ Id x ∷ [] }
 
--- %1 = OpLabel, %6 = OpNot %20 %7, %7 = OpNot %20 %6
+-- %1 = OpLabel, the instruction, %7 = OpNot %20 %6
+abbrev pub before_7 : PlainInst → List PlainInst
+before_7 i = function ∷ label 1 ∷ i ∷ negation 7 6 ∷ []
+
+-- where that instruction is %6 = OpNot %20 %7
 abbrev pub early : List PlainInst
-early = function ∷ label 1 ∷ negation 6 7 ∷ negation 7 6 ∷ []
+early = before_7 (negation 6 7)
+
+-- %6 = OpExtInst %20 %3 5, and behind its number the operand; and a function with it before %7
+abbrev pub extended : Plain → PlainInst
+extended o = record { opcode = opcode.EXT_INST; operands = OfType 20 ∷ Result 6 ∷ Id 3 ∷ Word 5 ∷ o ∷ [] }
+
+abbrev pub extended_early : Plain → List PlainInst
+extended_early o = before_7 (extended o)

@@ -2,7 +2,7 @@
 
 ghost use Rattle.std.specs.Prelude.{◌≡◌, ℕ, List, [], ◌∷◌};
 ghost use Rattle.spv_table.specs.Table.{Table};
-ghost use Rattle.spv_module.specs.Operand.{PlainInst};
+ghost use Rattle.spv_module.specs.Operand.{PlainInst, Id, Argument, Mention};
 ghost use Rattle.spv_module.specs.Example.{small};
 ghost use Rattle.spv_module.specs.declared.fault.Rule.{Rule};
 ghost use Rattle.spv_module.specs.declared.fault.Rule.TheVariants.{F1, F2, F3, F4, A1, A2};
@@ -12,7 +12,7 @@ ghost use Rattle.spv_flow.specs.branches.Walk.{Next, IsWalk, IsResultAmong, IsLa
 ghost use Rattle.spv_flow.specs.branches.Ready.{ComesFrom, IsLocalValue, IsMissing, IsPair, IsPairMissing, IsReady};
 ghost use Rattle.spv_flow.specs.branches.Broken.{Broken};
 ghost use Rattle.spv_flow.specs.branches.Example.{branch, conditional, label, function, two_blocks, valued, paired};
-ghost use Rattle.spv_flow.specs.branches.Example.{unpaired, early, loop_merge, looped};
+ghost use Rattle.spv_flow.specs.branches.Example.{unpaired, early, extended_early, loop_merge, looped};
 
 /// Of each stage at most one rule is broken first, at one instruction.
 pub fn one_fault()
@@ -72,6 +72,11 @@ pub fn ready_examples()
     // A use before the definition, and an instruction that uses no value.
     ensures missing { Broken small early A1 2 }
     ensures not_missing { ¬ (IsMissing small two_blocks 2) }
+    // An OpExtInst before the definition of what it takes as a value, of what it names, and of an id behind its number
+    // that is not looked at.
+    ensures argument { Broken small (extended_early (Argument 7)) A1 2 }
+    ensures mention { ¬ (IsMissing small (extended_early (Mention 7)) 2) }
+    ensures unseen { ¬ (IsMissing small (extended_early (Id 7)) 2) }
     // A value with a type, defined in a function, and a label.
     ensures local { IsLocalValue early 7 }
     ensures not_local { ¬ (IsLocalValue two_blocks 2) }

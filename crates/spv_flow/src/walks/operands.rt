@@ -4,33 +4,47 @@ ghost use Rattle.std.specs.Prelude.{◌≡◌, ℕ, MatchOption, map, slice_get,
 ghost use Rattle.spv_table.specs.Table.{Table};
 ghost use Rattle.spv_module.specs.Module.{plain_inst, plain_operand};
 ghost use Rattle.spv_layout.specs.Shape.{FitsShape, IsUse};
-ghost use Rattle.spv_ids.specs.inner.Uses as uses;
+ghost use Rattle.spv_flow.specs.walks.inner.Ids as ids;
 ghost use Rattle.spv_layout.specs.declared.form.Role as declared;
 ghost use Rattle.spv_layout.specs.declared.form.Role.TheVariants as role;
 
 use crate::branches;
-use spv_ids::used_id;
 use spv_layout::{Role, id_at, role};
 use spv_module::opcode::EXT_INST;
 use spv_module::{Inst, Operand};
 
+/// The id that an operand is, if it is one and no result. What an extended instruction only names is no use, and taken
+/// along, since the test takes fewer instructions so.
+#[inline(always)]
+fn id_used(operand: Operand<'_>) -> Option<u32>
+    ensures { result ≡ ids.use_id (plain_operand operand.entry) }
+{
+    match operand {
+        Operand::OfType(id) => Some(id),
+        Operand::Id(id) => Some(id),
+        Operand::Argument(id) => Some(id),
+        Operand::Mention(id) => Some(id),
+        _ => None,
+    }
+}
+
 /// The id that operand `n` of a list is, if it is one and no result: only such operands are uses.
 #[inline(always)]
-pub fn other_id_in(operands: &[Operand<'_>], n: usize) -> Option<u32>
-    ensures { result ≡ option_and_then uses.used_id (slice_get (map plain_operand operands.now) n) }
+pub fn use_id_in(operands: &[Operand<'_>], n: usize) -> Option<u32>
+    ensures { result ≡ option_and_then ids.use_id (slice_get (map plain_operand operands.now) n) }
 {
     if n < operands.len() {
-        used_id(operands[n])
+        id_used(operands[n])
     } else {
         None
     }
 }
 
 /// The id that operand `n` of an instruction is, if it is one and no result.
-pub fn other_id(inst: &Inst<'_>, n: usize) -> Option<u32>
-    ensures { result ≡ option_and_then uses.used_id (slice_get (plain_inst inst.now).operands n) }
+pub fn use_id(inst: &Inst<'_>, n: usize) -> Option<u32>
+    ensures { result ≡ option_and_then ids.use_id (slice_get (plain_inst inst.now).operands n) }
 {
-    other_id_in(inst.operands.as_slice(), n)
+    use_id_in(inst.operands.as_slice(), n)
 }
 
 /// The id that operand `n` uses as a label, if it does.
@@ -75,7 +89,7 @@ pub fn used(inst: &Inst<'_>, n: usize) -> Option<u32>
 {
     if inst.opcode != EXT_INST {
         // Each id but a result is a use.
-        return other_id(inst, n);
+        return use_id(inst, n);
     }
     match role(inst, n) {
         Some(_) => id_at(inst, n),

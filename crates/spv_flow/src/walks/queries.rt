@@ -8,11 +8,11 @@ ghost use Rattle.spv_module.specs.declared.opcode.TheConstants as opcode;
 ghost use Rattle.spv_module.specs.Operand.{PlainInst};
 ghost use Rattle.spv_graphs.specs.declared.queries.Query as declared;
 ghost use Rattle.spv_ids.specs.Definition.{IsDefinedAt};
-ghost use Rattle.spv_ids.specs.inner.Uses as uses;
 ghost use Rattle.spv_flow.specs.branches.Ready.{IsLocalValue};
 ghost use Rattle.spv_flow.specs.branches.Target.{IsOp};
 ghost use Rattle.spv_flow.specs.walks.inner.Code.{insts_of, IsCode};
 ghost use Rattle.spv_flow.specs.walks.inner.Divided.{IsIn};
+ghost use Rattle.spv_flow.specs.walks.inner.Ids as ids;
 ghost use Rattle.spv_flow.specs.walks.inner.Adds.{AddsBy};
 ghost use Rattle.spv_flow.specs.walks.inner.Leading.{AreBlocks};
 ghost use Rattle.spv_flow.specs.walks.inner.Due.{IsFoundAt, IsPairedAt, IsUseQuery, IsPairQuery, HasUseQuery, HasPairQuery};
@@ -20,7 +20,7 @@ ghost use Rattle.spv_flow.specs.walks.inner.Due.{IsQueryAt, IsQueryIn, IsQuery};
 
 use crate::walks::code::{Code, has_type, is_label_or_branch};
 use crate::walks::edges::{Blocks, target};
-use crate::walks::operands::{other_id, other_id_in, used, value};
+use crate::walks::operands::{use_id, use_id_in, used, value};
 use spv_graphs::Query;
 use spv_module::opcode::{BRANCH, LABEL, PHI};
 use std::alloc::AllocError;
@@ -32,7 +32,7 @@ fn defined_at(code: &Code<'_, '_>, at: u32, n: usize) -> Option<u32>
     ensures within { IfSome result (λ d. d < length code.now.insts.now) }
     ensures used { (G : Table) → IsCode G code.now → IsFoundAt G (insts_of code.now) at n result }
 {
-    let id = other_id(&code.insts[at as usize], n)?;
+    let id = use_id(&code.insts[at as usize], n)?;
     code.definition(id)
 }
 
@@ -66,7 +66,7 @@ pub fn use_query(
     requires block { block + 1 < length blocks.now.starts.now }
     requires at { at < length code.now.insts.now }
     requires id { (i : PlainInst) × (slice_get (insts_of code.now) at ≡ Some i)
-        × (Some id ≡ option_and_then uses.used_id (slice_get i.operands n)) }
+        × (Some id ≡ option_and_then ids.use_id (slice_get i.operands n)) }
     ensures { (G : Table) → IsCode G code.now
         → MatchOption result
         ((a : declared.Query) → ¬ (IsUseQuery G (insts_of code.now) blocks.now.starts.now block at n a))
@@ -153,7 +153,7 @@ fn add_uses(
 {
     let operands = code.insts[at as usize].operands.as_slice();
     for n in 0..operands.len() {
-        if let Some(id) = other_id_in(operands, n) {
+        if let Some(id) = use_id_in(operands, n) {
             if let Some(query) = use_query(code, blocks, block, at, n, id) {
                 queries.push(query)?;
             }
@@ -183,7 +183,7 @@ fn add_first_use(
     if inst.opcode <= BRANCH {
         return Ok(());
     }
-    if let Some(id) = other_id(inst, 0) {
+    if let Some(id) = use_id(inst, 0) {
         if let Some(query) = use_query(code, blocks, block, at, 0, id) {
             queries.push(query)?;
         }

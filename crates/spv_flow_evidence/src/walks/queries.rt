@@ -10,7 +10,7 @@ ghost use Rattle.spv_flow_evidence.specs.walks.inner.Asked.{IsQueryFound, AreAsk
 
 use spv_flow::walks::code::Code;
 use spv_flow::walks::edges::Blocks;
-use spv_flow::walks::{other_id, pair_query, use_query};
+use spv_flow::walks::{pair_query, use_id, use_query};
 use spv_graphs::Query;
 use spv_module::Rule;
 use std::alloc::{AllocError, Global};
@@ -54,7 +54,7 @@ pub fn query_at(
 {
     match taking {
         Taking::Uses => {
-            let id = other_id(&code.insts[at as usize], n)?;
+            let id = use_id(&code.insts[at as usize], n)?;
             use_query(code, blocks, block, at, n, id)
         }
         Taking::Pairs => pair_query(code, blocks, at, n),

@@ -5,7 +5,7 @@ use Rattle.spv_module.specs.Operand.{PlainInst, Result}
 use Rattle.spv_module.specs.declared.fault.Rule.{Rule}
 use Rattle.spv_module.specs.declared.fault.Rule.TheVariants.{D1, D2, D3, D4, D5}
 use Rattle.spv_layout.specs.declared.form.Role.{Role}
-use Rattle.spv_ids.specs.Definition.{IsDefinedAt, IsUsedAt, IsLocalTo}
+use Rattle.spv_ids.specs.Definition.{IsDefinedAt, IsUsedAt, IsMentionedAt, IsLocalTo}
 use Rattle.spv_ids.specs.Order.{IsInOrder, IsInScope, IsOrdered, IsScoped}
 use Rattle.spv_ids.specs.Broken.{IsOutOfRange}
 use Rattle.spv_evidence.specs.declared.evidence.Evidence.{Evidence}
@@ -29,11 +29,17 @@ pub data IsEvidence (G : Table) (bound : ℕ) (is : List PlainInst) : Rule → �
   -- operand k is a use of an id that is 0 or not below the bound
   use_out_of_range : (n k x : ℕ) (r : Role) → IsUsedAt G is n k x r → IsOutOfRange bound x
       → IsEvidence G bound is D1 n (Operand k)
+  -- operand k mentions an id that is 0 or not below the bound
+  mention_out_of_range : (n k x : ℕ) → IsMentionedAt is n k x → IsOutOfRange bound x
+      → IsEvidence G bound is D1 n (Operand k)
   -- the earlier instruction m has the same result
   defined_again : (n m x : ℕ) → IsDefinedAt is x n → m < n → IsDefinedAt is x m
       → IsEvidence G bound is D2 n (Earlier m)
   -- operand k is a use of an id that no instruction has as its result
   undefined : (n k x : ℕ) (r : Role) → IsUsedAt G is n k x r → ((m : ℕ) → ¬ (IsDefinedAt is x m))
+      → IsEvidence G bound is D3 n (Operand k)
+  -- operand k mentions an id that no instruction has as its result
+  mention_undefined : (n k x : ℕ) → IsMentionedAt is n k x → ((m : ℕ) → ¬ (IsDefinedAt is x m))
       → IsEvidence G bound is D3 n (Operand k)
   -- operand k, in section 7a or 9, is a use that is not in order, of an id that instruction m defines
   not_in_order : (n k x m : ℕ) (r : Role) → IsUsedAt G is n k x r → IsOrdered is n → ¬ (IsInOrder is n x)

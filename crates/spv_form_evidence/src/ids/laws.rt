@@ -12,7 +12,7 @@ ghost use Rattle.spv_ids.specs.Example.{void, of_void, used_outside};
 ghost use Rattle.spv_type_rules.specs.roles.Broken as roles;
 ghost use Rattle.spv_evidence.specs.declared.evidence.Evidence.{Evidence};
 ghost use Rattle.spv_evidence.specs.declared.evidence.Evidence.TheVariants.{Operand, Earlier, Defined, Local, Miscast};
-ghost use Rattle.spv_form_evidence.specs.ids.Example.{value_as_type};
+ghost use Rattle.spv_form_evidence.specs.ids.Example.{mentioning, value_as_type};
 ghost use Rattle.spv_form_evidence.specs.ids.Evidence as by_ids;
 ghost use Rattle.spv_form_evidence.specs.ids.Roles as by_roles;
 
@@ -29,13 +29,17 @@ pub fn evidence_examples()
     // %5 under the bound 5, and %4.
     ensures out_of_range { by_ids.IsEvidence small 5 (void 5 ∷ []) D1 0 (Operand 0) }
     ensures in_range { ¬ (by_ids.IsEvidence small 5 (void 4 ∷ []) D1 0 (Operand 0)) }
+    // A mention of %5, which is no use.
+    ensures mention_out_of_range { by_ids.IsEvidence small 5 (mentioning 5 ∷ []) D1 0 (Operand 4) }
     // %1 defined twice: the first instruction is earlier than the second, which is not.
     ensures again { by_ids.IsEvidence small 5 (void 1 ∷ void 1 ∷ []) D2 1 (Earlier 0) }
     ensures not_earlier { ¬ (by_ids.IsEvidence small 5 (void 1 ∷ void 1 ∷ []) D2 1 (Earlier 1)) }
     // `%2 = OpTypeFunction %1` alone: its operand 1 is a use, and its operand 0 is none.
     ensures undefined { by_ids.IsEvidence small 5 (of_void ∷ []) D3 0 (Operand 1) }
     ensures no_use { ¬ (by_ids.IsEvidence small 5 (of_void ∷ []) D3 0 (Operand 0)) }
-    // The same before the definition of %1, which is the second instruction.
+    // A mention of %4 alone.
+    ensures mention_undefined { by_ids.IsEvidence small 5 (mentioning 4 ∷ []) D3 0 (Operand 4) }
+    // `%2 = OpTypeFunction %1` before the definition of %1, which is the second instruction.
     ensures early { by_ids.IsEvidence small 5 (of_void ∷ void 1 ∷ []) D4 0 (Defined 1 1) }
     ensures no_definition { ¬ (by_ids.IsEvidence small 5 (of_void ∷ void 1 ∷ []) D4 0 (Defined 1 0)) }
     // A function uses %5, which the third instruction defines in another one.

@@ -11,7 +11,7 @@ ghost use Rattle.spv_form_evidence.specs.ids.Evidence.{IsEvidence};
 ghost use Rattle.spv_form_evidence.specs.ids.inner.Uses.{AreFit};
 ghost use Rattle.spv_form_evidence.specs.ids.inner.Range.{IsOwnResult, IsIdAt, IsAstray};
 
-use crate::ids::uses::use_at;
+use crate::ids::uses::named_at;
 use spv_evidence::Evidence;
 use spv_module::{Inst, Operand};
 
@@ -46,19 +46,19 @@ fn own_result_at(inst: &Inst<'_>, k: usize) -> Option<u32>
     if result == id { Some(id) } else { None }
 }
 
-/// The id that operand `k` of an instruction is, as its result or a use.
+/// The id that operand `k` of an instruction is, as its result, a use or a mention.
 fn id_at(inst: &Inst<'_>, k: usize) -> Option<u32>
     ensures { (G : Table) → FitsShape G (plain_inst inst.now)
         → MatchOption result ((x : ℕ) → ¬ (IsIdAt G (plain_inst inst.now) k x))
         (λ x. IsIdAt G (plain_inst inst.now) k x) }
 {
-    match use_at(inst, k) {
-        Some(used) => Some(used.id),
+    match named_at(inst, k) {
+        Some(id) => Some(id),
         None => own_result_at(inst, k),
     }
 }
 
-/// Whether operand `k` of an instruction is its result, or a use, of an id that is out of range.
+/// Whether operand `k` of an instruction is its result, a use or a mention of an id that is out of range.
 fn is_astray(inst: &Inst<'_>, bound: u32, k: usize) -> bool
     ensures { (G : Table) → FitsShape G (plain_inst inst.now)
         → MatchBool result (IsAstray G bound (plain_inst inst.now) k)
@@ -70,8 +70,8 @@ fn is_astray(inst: &Inst<'_>, bound: u32, k: usize) -> bool
     }
 }
 
-/// What shows that an id of an instruction is out of range (D1): its first operand that is its result, or a use, of
-/// such an id. `at` is the number of the instruction, from 0.
+/// What shows that an id of an instruction is out of range (D1): its first operand that is its result, a use or a
+/// mention of such an id. `at` is the number of the instruction, from 0.
 ///
 /// Time is linear in the operands of the instruction. It takes no memory.
 pub fn out_of_range(insts: &[Inst<'_>], bound: u32, at: u32) -> Evidence

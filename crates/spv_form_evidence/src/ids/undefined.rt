@@ -13,30 +13,31 @@ ghost use Rattle.spv_ids.specs.Broken.{Broken};
 ghost use Rattle.spv_form_evidence.specs.ids.Evidence.{IsEvidence};
 ghost use Rattle.spv_form_evidence.specs.ids.inner.Known.{AreFirst};
 ghost use Rattle.spv_form_evidence.specs.ids.inner.Undefined.{IsUndefined};
-ghost use Rattle.spv_form_evidence.specs.ids.inner.Uses.{AreFit, HasUse};
+ghost use Rattle.spv_form_evidence.specs.ids.inner.Uses.{AreFit, HasNamed};
 
 use crate::ids::definitions::first_definitions;
 use crate::ids::kept::Kept;
-use crate::ids::uses::use_at;
+use crate::ids::uses::named_at;
 use spv_evidence::Evidence;
 use spv_module::Inst;
 use std::alloc::{AllocError, Global};
 
-/// Whether operand `k` of an instruction is a use of an id below the bound that no instruction has as its result.
+/// Whether operand `k` of an instruction is a use or a mention of an id below the bound that no instruction has as its
+/// result.
 fn is_undefined(definitions: &Kept, inst: &Inst<'_>, k: usize) -> bool
     ensures { (G : Table) (bound : ℕ) (is : List PlainInst) → FitsShape G (plain_inst inst.now)
         → AreFirst bound is (length is) definitions.now
-        → MatchBool result (HasUse G (plain_inst inst.now) (IsUndefined bound is) k)
-        (¬ (HasUse G (plain_inst inst.now) (IsUndefined bound is) k)) }
+        → MatchBool result (HasNamed G (plain_inst inst.now) (IsUndefined bound is) k)
+        (¬ (HasNamed G (plain_inst inst.now) (IsUndefined bound is) k)) }
 {
-    match use_at(inst, k) {
-        Some(used) => definitions.is_free(used.id),
+    match named_at(inst, k) {
+        Some(id) => definitions.is_free(id),
         None => false,
     }
 }
 
-/// What shows that an instruction uses an id that no instruction has as its result (D3): its first operand that is such
-/// a use. `at` is the number of the instruction, from 0.
+/// What shows that an instruction uses or mentions an id that no instruction has as its result (D3): its first operand
+/// that does. `at` is the number of the instruction, from 0.
 ///
 /// Time is that of the operands of the instruction and of all instructions, with a search among ids for each. Memory
 /// grows with the ids that are kept, and not with the bound. An `AllocError` comes only where a growth of memory was

@@ -5,7 +5,7 @@ use Rattle.std.specs.Prelude.{if◌then◌else◌, IsUtf8}
 use Rattle.std.specs.List.{list_any, AllByRecursion}
 use Rattle.spv_words.specs.declared.words.Header.{Header}
 use Rattle.spv_words.specs.Header.{magic_number}
-use Rattle.spv_module.specs.Operand.{Plain, OfType, Result, Id, Word, Number, Text, Value, Mask}
+use Rattle.spv_module.specs.Operand.{Plain, OfType, Result, Id, Word, Number, Text, Value, Mask, Argument, Mention}
 use Rattle.spv_module.specs.Shape.{Shape, AsType, AsResult, AsId, AsWord, AsNumber, AsText, AsValue, AsMask}
 use Rattle.spv_module.specs.Spelling.{parameters_of, mask_parameters}
 
@@ -23,6 +23,8 @@ operand_words (OfType x) = x ∷ []
 operand_words (Result x) = x ∷ []
 operand_words (Id x) = x ∷ []
 operand_words (Word x) = x ∷ []
+operand_words (Argument x) = x ∷ []
+operand_words (Mention x) = x ∷ []
 operand_words (Number low high words) = if nat_eq words 2 then low ∷ high ∷ [] else low ∷ []
 operand_words (Text t) = text_words t
 operand_words (Value k x) = x ∷ []

@@ -1,3 +1,4 @@
+pub mod Accessed
 pub mod Casting
 pub mod Worked
 pub mod Asking

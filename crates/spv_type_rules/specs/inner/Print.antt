@@ -1,6 +1,7 @@
 -- Fingerprints of instructions without their results. (For the code alone.)
 use Rattle.std.specs.Prelude.{ℕ, ◌+◌, ◌*◌, ◌%◌, List, [], ◌∷◌}
-use Rattle.spv_module.specs.Operand.{Plain, OfType, Result, Id, Word, Number, Text, Value, Mask, PlainInst}
+use Rattle.spv_module.specs.Operand.{Plain, OfType, Result, Id, Word, Number, Text, Value, Mask, Argument, Mention}
+use Rattle.spv_module.specs.Operand.{PlainInst}
 use Rattle.spv_type_forms.specs.Parts.{after_result}
 
 -- one number more, after what was mixed before it, and many
@@ -21,6 +22,8 @@ mixed_with_operand m (Number low high words) = mixed_with (mixed_with m low) hig
 mixed_with_operand m (Text t) = mixed_with_all m t
 mixed_with_operand m (Value k x) = mixed_with m x
 mixed_with_operand m (Mask k x) = mixed_with m x
+mixed_with_operand m (Argument x) = mixed_with m x
+mixed_with_operand m (Mention x) = mixed_with m x
 
 abbrev pub mixed_with_operands : ℕ → List Plain → ℕ
 mixed_with_operands m [] = m

@@ -1,6 +1,6 @@
 -- Small examples.
-use Rattle.std.specs.Prelude.{List, [], ◌∷◌}
-use Rattle.spv_module.specs.Operand.{OfType, Result, PlainInst}
+use Rattle.std.specs.Prelude.{List, [], ◌∷◌, ◌++◌}
+use Rattle.spv_module.specs.Operand.{Plain, OfType, Result, Id, Word, PlainInst}
 use Rattle.spv_module.specs.declared.opcode.TheConstants as opcode
 use Rattle.spv_type_forms.specs.Example.{inst}
 
@@ -24,3 +24,10 @@ stray = inst opcode.UNDEF (OfType 5 ∷ Result 2 ∷ []) ∷ []
 -- %5 = OpExtInstImport .., before the few
 abbrev pub with_set : List PlainInst
 with_set = inst opcode.EXT_INST_IMPORT (Result 5 ∷ []) ∷ few
+
+-- %6 = OpExtInst %1 %5 0 and an operand more, and that after those
+abbrev pub extended : Plain → PlainInst
+extended o = inst opcode.EXT_INST (OfType 1 ∷ Result 6 ∷ Id 5 ∷ Word 0 ∷ o ∷ [])
+
+abbrev pub with_extended : Plain → List PlainInst
+with_extended o = with_set ++ extended o ∷ []

@@ -6,7 +6,8 @@ ghost use Rattle.spv_type_rules.specs.roles.inner.Asked as spec;
 use spv_layout::Role;
 use spv_module::opcode;
 
-/// The roles that the `Id` operands of an instruction are asked to play. Each `Type` operand is asked to be a type.
+/// The roles that the `Id` operands of an instruction are asked to play. Each `OfType` operand is asked to be a type,
+/// and each `Argument` to be a value.
 #[derive(Clone, Copy)]
 pub struct Asked {
     /// The role of the first `Id` operand.
@@ -57,7 +58,7 @@ fn early(number: u16) -> Option<Asked>
         opcode::EXECUTION_MODE => ask(Role::Function, Role::Any, Role::Any),
         // OpLine: a file.
         opcode::LINE => ask(Role::Text, Role::Text, Role::Text),
-        // OpExtInst: a set, and ids of which nothing is asked.
+        // OpExtInst: a set, and ids of which nothing is asked; those that are arguments are asked by themselves.
         opcode::EXT_INST => ask(Role::Set, Role::Any, Role::Any),
         opcode::SOURCE => None,
         _ => ask(Role::Any, Role::Any, Role::Any),

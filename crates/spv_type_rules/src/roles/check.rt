@@ -1,7 +1,7 @@
 ghost use Rattle.std.specs.Prelude.{◌≡◌, List, length};
 ghost use Rattle.std.specs.Prelude.{OnOk, IfErr, MatchBool};
 ghost use Rattle.spv_table.specs.Table.{Table};
-ghost use Rattle.spv_module.specs.Module.{plain_inst, plain_insts, plain_operands};
+ghost use Rattle.spv_module.specs.Module.{plain_inst, plain_insts, plain_operand, plain_operands};
 ghost use Rattle.spv_layout.specs.First.{IsUnbroken};
 ghost use Rattle.spv_layout.specs.declared.place.Place.{Place};
 ghost use Rattle.spv_layout.specs.Place.{IsShort};
@@ -16,10 +16,20 @@ ghost use Rattle.spv_type_rules.specs.roles.Outcome.{AreInRole, IsRefusal};
 
 use crate::roles::asked::{Asked, asked_of};
 use crate::roles::role::{are_type_and, are_values, defines_type, is_type_id, plays};
-use spv_ids::used_id;
 use spv_layout::{Role, role};
 use spv_module::{Fault, Inst, Module, Operand, Rule};
 use spv_type_forms::Definitions;
+
+/// The id that an operand uses, if it is one other than a result, or than one that is named alone.
+#[inline(always)]
+fn asked_id(operand: Operand<'_>) -> Option<u32>
+    ensures { result ≡ known.asked_id (plain_operand operand.entry) }
+{
+    match operand {
+        Operand::OfType(id) | Operand::Id(id) | Operand::Argument(id) => Some(id),
+        _ => None,
+    }
+}
 
 /// Whether operand `k` of an instruction is no use, or a use of an id in its role.
 #[inline(always)]
@@ -31,7 +41,7 @@ fn is_in_role(definitions: &Definitions<'_, '_>, inst: &Inst<'_>, k: usize) -> b
     let Some(operand) = inst.operands.as_slice().get(k) else {
         return true;
     };
-    let Some(id) = used_id(*operand) else {
+    let Some(id) = asked_id(*operand) else {
         return true;
     };
     match role(inst, k) {
@@ -54,7 +64,7 @@ fn each_in_role(definitions: &Definitions<'_, '_>, inst: &Inst<'_>) -> bool
     true
 }
 
-/// Whether types are types, and ids play the roles that are asked for, operand by operand.
+/// Whether types are types, arguments values, and ids play the roles that are asked for, operand by operand.
 fn each_played(definitions: &Definitions<'_, '_>, asked: Asked, operands: &[Operand<'_>]) -> bool
     ensures { MatchBool result (ArePlayed definitions.now asked.first asked.others asked.masked
         (plain_operands operands.now))
@@ -77,6 +87,9 @@ fn each_played(definitions: &Definitions<'_, '_>, asked: Asked, operands: &[Oper
                 due = asked.masked;
                 next = asked.masked;
             }
+            Operand::Argument(id) => if !plays(definitions, Role::Value, id) {
+                return false;
+            },
             _ => {}
         }
     }
@@ -115,8 +128,13 @@ fn are_few_played(definitions: &Definitions<'_, '_>, asked: Asked, operands: &[O
         (IsOneMiscast definitions.now asked.first asked.others asked.masked (plain_operands operands.now)) }
 {
     match operands {
-        [Operand::OfType(t), Operand::Result(_), Operand::Id(a)]
-        | [
+        [Operand::OfType(t), Operand::Result(_), Operand::Id(a)] => are_type_and(
+            definitions,
+            *t,
+            asked.first,
+            *a,
+        ),
+        [
             Operand::OfType(t),
             Operand::Result(_),
             Operand::Id(a),

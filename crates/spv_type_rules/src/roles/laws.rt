@@ -2,14 +2,14 @@
 
 ghost use Rattle.std.specs.Prelude.{ℕ, List};
 ghost use Rattle.spv_table.specs.Table.{Table};
-ghost use Rattle.spv_module.specs.Operand.{PlainInst};
+ghost use Rattle.spv_module.specs.Operand.{PlainInst, Id, Argument, Mention};
 ghost use Rattle.spv_layout.specs.First.{IsUnbroken};
 ghost use Rattle.spv_layout.specs.Stage.{of_roles};
 ghost use Rattle.spv_layout.specs.declared.form.Role.TheVariants as role;
 ghost use Rattle.spv_type_rules.specs.roles.Broken.{Broken};
 ghost use Rattle.spv_type_rules.specs.roles.Outcome.{AreInRole, IsRefusal};
 ghost use Rattle.spv_type_rules.specs.roles.Role.{Plays};
-ghost use Rattle.spv_type_rules.specs.roles.Example.{few, stray, typed, with_set};
+ghost use Rattle.spv_type_rules.specs.roles.Example.{few, stray, typed, with_extended, with_set};
 ghost use Rattle.spv_type_forms.specs.Example.{lone_variable};
 ghost use Rattle.spv_module.specs.declared.fault.Rule.TheVariants.{Y1};
 
@@ -45,6 +45,12 @@ pub fn broken_examples()
     ensures stray { (G : Table) → Broken G stray Y1 0 }
     // OpTypeVoid uses nothing.
     ensures unused { (G : Table) → ¬ (Broken G few Y1 0) }
+    // What an extended instruction takes as a value is the value %2, or the type %1.
+    ensures argument { (G : Table) → ¬ (Broken G (with_extended (Argument 2)) Y1 5) }
+    ensures no_argument { (G : Table) → Broken G (with_extended (Argument 1)) Y1 5 }
+    // Of an id behind its number that is not looked at, or is named alone, nothing is asked.
+    ensures unseen { (G : Table) → ¬ (Broken G (with_extended (Id 1)) Y1 5) }
+    ensures mention { (G : Table) → ¬ (Broken G (with_extended (Mention 1)) Y1 5) }
 {}
 
 /// What is answered of a module whose ids play their roles, and of one with an id that does not.

@@ -9,6 +9,7 @@ use Rattle.spv_table.specs.Table.{enumerant_of}
 use Rattle.spv_table.specs.Lookups.{number_named}
 use Rattle.spv_table.specs.Implied.{Lists, CapabilityChain, capabilities_in}
 use Rattle.spv_module.specs.Operand.{Plain, PlainInst, result_in}
+use Rattle.spv_module.specs.Operand as operand
 use Rattle.spv_module.specs.declared.fault.Rule.{Rule}
 use Rattle.spv_module.specs.declared.fault.Rule.TheVariants as rule
 use Rattle.spv_module.specs.declared.opcode.TheConstants as opcode
@@ -35,7 +36,7 @@ use Rattle.spv_layout.proofs.Shapes.{forms_same}
 use Rattle.spv_layout.proofs.Tested.{tested_are}
 use Rattle.spv_layout.proofs.Worked.{leads_by}
 use Rattle.spv_ids.specs.Broken as id_rules
-use Rattle.spv_ids.specs.Definition.{IsDefinedAt, IsUsedAt, IsLocal}
+use Rattle.spv_ids.specs.Definition.{IsDefinedAt, IsUsedAt, IsMentionedAt, IsLocal}
 use Rattle.spv_ids.specs.Order.{IsInOrder, IsOrdered}
 use Rattle.spv_capabilities.specs.Capable.{Has, IsCoveredMask, IsCoveredOperand, IsCapable, needs_of}
 use Rattle.spv_capabilities.specs.Asked.{IsCoveredEntry, HasNeeded}
@@ -298,6 +299,44 @@ each_use P a b c d n k x r u =
       ),
     ) n u.inst u.there k x r u.used
 
+-- No operand is a mention.
+
+abbrev NoMentions : List Plain → Type 0
+NoMentions [] = Unit {0}
+NoMentions (operand.Mention x ∷ os) = ⊥
+NoMentions (o ∷ os) = NoMentions os
+
+no_mention : (os : List Plain) → NoMentions os → (k x : ℕ) → slice_get os k ≡ Some (operand.Mention x) → ⊥
+no_mention [] h k x e = absurd (none-some (operand.Mention x) e)
+no_mention (operand.Mention y ∷ os) h k x e = h
+no_mention (o ∷ os) h zero x e = cc
+no_mention (o ∷ os) h (suc k) x e = no_mention os h k x e
+
+never_mentioned : (n k x : ℕ) → ¬ (IsMentionedAt kernel n k x)
+never_mentioned n k x m =
+    each (λ l (i : PlainInst). (j y : ℕ) → slice_get i.operands j ≡ Some (operand.Mention y) → ⊥) kernel (
+      no_mention (capability 4).operands tt,
+      (
+        no_mention (capability 6).operands tt,
+        (
+          no_mention model.operands tt,
+          (
+            no_mention entry_point.operands tt,
+            (
+              no_mention void.operands tt,
+              (
+                no_mention of_void.operands tt,
+                (
+                  no_mention function.operands tt,
+                  (no_mention label.operands tt, (no_mention return_op.operands tt, (no_mention end.operands tt, tt))),
+                ),
+              ),
+            ),
+          ),
+        ),
+      ),
+    ) n m.inst m.there k x m.named
+
 -- Only the label is local, and nothing uses it.
 
 pub used_below : (n k x : ℕ) (r : Role) → IsUsedAt grammar kernel n k x r → x ≤ 3
@@ -327,6 +366,8 @@ ids_kept _ _ (id_rules.defined_again n m x a l b) = let p = place_of n x a in le
 ids_kept _ _ (id_rules.undefined n k x r u h) =
     let d = each_use (λ m y q. (l : ℕ) × IsDefinedAt kernel y l) (6, defined_3) (4, defined_1) (4, defined_1) (5, defined_2) n k x r u in
     h d.0 d.1
+ids_kept _ _ (id_rules.mention_out_of_range n k x m o) = never_mentioned n k x m
+ids_kept _ _ (id_rules.mention_undefined n k x m h) = never_mentioned n k x m
 ids_kept _ _ (id_rules.not_in_order n k x r u o h) =
     h (each_use (λ m y q. IsOrdered kernel m → IsInOrder kernel m y) (λ s. absurd (not_ordered s)) (λ s. IsInOrder.lower 4 (omega arith) defined_1) (λ s. IsInOrder.lower 4 (omega arith) defined_1)
     (λ s. IsInOrder.lower 5 (omega arith) defined_2) n k x r u o)

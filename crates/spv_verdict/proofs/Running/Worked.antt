@@ -4,6 +4,7 @@ use Rattle.std.specs.Prelude.{slice_get}
 use Rattle.std.proofs.lemmas.Option.{none-some, same_Some}
 use Rattle.spv_table.specs.Table.{Table}
 use Rattle.spv_module.specs.Operand.{Plain, PlainInst, Result}
+use Rattle.spv_module.specs.Operand as operand
 use Rattle.spv_layout.specs.declared.class.Class.{Class}
 use Rattle.spv_layout.specs.declared.form.Form.{Form}
 use Rattle.spv_layout.specs.declared.form.Form.TheVariants as form
@@ -56,6 +57,8 @@ role_free (form.Id role.Set) o h r = cc
 role_free (form.Id role.Label) o h r = cc
 role_free (form.Id role.Global) o h r = cc
 role_free form.OfType o h r = cc
+role_free form.Unseen (operand.Argument x) h r = cc
+role_free form.Unseen _ h r = cc
 role_free _ o h r = cc
 
 both : (a b : Bool) → (a && b) ≡ true → (a ≡ true) × (b ≡ true)

@@ -3,7 +3,7 @@ use Rattle.std.proofs.Common.{◌≡◌, ◌≤◌, ◌∙◌, ℕ, zero, suc, L
 use Rattle.std.proofs.lemmas.Option.{same_Some}
 use Rattle.spv_module.specs.declared.opcode.TheConstants as opcode
 use Rattle.spv_module.specs.Example.{small}
-use Rattle.spv_module.specs.Operand.{Id, Mask, OfType, Result}
+use Rattle.spv_module.specs.Operand.{Id, Mask, OfType, Result, PlainInst}
 use Rattle.spv_layout.specs.declared.class.Class.{Class}
 use Rattle.spv_layout.specs.declared.class.Class.TheVariants.{Function, FunctionEnd, Label, LoopMerge, Phi, Body, Branch}
 use Rattle.spv_layout.specs.declared.form.Form.{Form}
@@ -19,10 +19,10 @@ use Rattle.spv_layout.specs.Place.{IsOfFunction, IsOfBlock, terminators}
 use Rattle.spv_layout.proofs.Places.{block_same}
 use Rattle.spv_layout.proofs.Shapes.{use_same}
 use Rattle.spv_ids.specs.Definition.{IsDefinedAt, IsUsedAt}
-use Rattle.spv_flow.specs.branches.Target.{is_branch, IsOp, IsLabelOf, IsTarget, LeadsToBlock, IsParentAt, HasParents}
+use Rattle.spv_flow.specs.branches.Target.{is_branch, is_opcode, IsOp, IsLabelOf, IsTarget, LeadsToBlock, IsParentAt, HasParents}
 use Rattle.spv_flow.specs.branches.Walk.{Next, IsWalk, IsResultAmong}
 use Rattle.spv_flow.specs.branches.Ready.{IsLocalValue, IsMissing}
-use Rattle.spv_flow.specs.branches.Example.{branch, label, function, return_void, two_blocks, phi, valued, bare_phi, paired, unpaired, negation, early, loop_merge, looped}
+use Rattle.spv_flow.specs.branches.Example.{branch, label, function, return_void, two_blocks, phi, valued, bare_phi, paired, unpaired, negation, before_7, early, loop_merge, looped}
 use Rattle.spv_flow.proofs.lemmas.branches.Labelled.{use_in, use_within, one_id}
 use Rattle.spv_flow.proofs.lemmas.branches.Direct.{placed_at}
 use Rattle.spv_flow.proofs.lemmas.branches.Laid.{not_at, within_by}
@@ -200,19 +200,19 @@ negation_forms r x = record {
   each = AreOf.more T (OfType 20) (R ∷ v ∷ []) (Result r ∷ Id x ∷ []) refl (AreOf.more R (Result r) (v ∷ []) (Id x ∷ []) refl (AreOf.more v (Id x) [] [] refl AreOf.none));
 }
 
-abbrev laid_early : List Class
+abbrev pub laid_early : List Class
 laid_early = Function ∷ Label ∷ Body ∷ Body ∷ []
 
 early_classes : classes early ≡ laid_early
 unfolding rows
 early_classes = refl
 
-of_early : (n : ℕ) → n ≤ 3 → IsOfFunction early n 0
-of_early n lt = within_by early laid_early Function (FunctionEnd ∷ []) n 0 4 4 early_classes (omega (arith, lt)) (omega arith) (omega (arith, lt)) (omega arith) refl refl refl
+of_early : (i : PlainInst) (n : ℕ) → classes (before_7 i) ≡ laid_early → n ≤ 3 → IsOfFunction (before_7 i) n 0
+of_early i n e lt = within_by (before_7 i) laid_early Function (FunctionEnd ∷ []) n 0 4 4 e (omega (arith, lt)) (omega arith) (omega (arith, lt)) (omega arith) refl refl refl
 
-pub local_7 : IsLocalValue early 7
-local_7 = record {
-  local = (0, record { place = 3; defined = record { inst = negation 7 6; there = refl; result = refl }; of = of_early 3 (omega arith); after = omega arith; before = not_at early laid_early (FunctionEnd ∷ []) 0 4 3 early_classes refl (omega arith) (omega arith) });
+local_by : (i : PlainInst) → classes (before_7 i) ≡ laid_early → IsLocalValue (before_7 i) 7
+local_by i e = record {
+  local = (0, record { place = 3; defined = record { inst = negation 7 6; there = refl; result = refl }; of = of_early i 3 e (omega arith); after = omega arith; before = not_at (before_7 i) laid_early (FunctionEnd ∷ []) 0 4 3 e refl (omega arith) (omega arith) });
   place = 3;
   defined = record { inst = negation 7 6; there = refl; result = refl };
   inst = negation 7 6;
@@ -221,42 +221,52 @@ local_7 = record {
   typed = refl;
 }
 
-none_at_1 : ¬ (IsDefinedAt early 7 1)
-none_at_1 d = let t = d.there in let e : label 1 ≡ d.inst = cc in let r = rw (← e) at d.result in absurd (omega (arith, same_Some 1 7 r))
+pub local_7 : IsLocalValue early 7
+local_7 = local_by (negation 6 7) early_classes
 
-none_at_0 : ¬ (IsDefinedAt early 7 0)
-none_at_0 d = let t = d.there in let e : function ≡ d.inst = cc in let r = rw (← e) at d.result in cc
+none_at_1 : (i : PlainInst) → ¬ (IsDefinedAt (before_7 i) 7 1)
+none_at_1 i d = let t = d.there in let e : label 1 ≡ d.inst = cc in let r = rw (← e) at d.result in absurd (omega (arith, same_Some 1 7 r))
 
-at_1 : (n : ℕ) → n ≡ 1 → ¬ (IsDefinedAt early 7 n)
-at_1 n f d = none_at_1 (subst (λ (k : ℕ). IsDefinedAt early 7 k) f d)
+none_at_0 : (i : PlainInst) → ¬ (IsDefinedAt (before_7 i) 7 0)
+none_at_0 i d = let t = d.there in let e : function ≡ d.inst = cc in let r = rw (← e) at d.result in cc
 
-at_0 : (n : ℕ) → n ≡ 0 → ¬ (IsDefinedAt early 7 n)
-at_0 n f d = none_at_0 (subst (λ (k : ℕ). IsDefinedAt early 7 k) f d)
+at_1 : (i : PlainInst) (n : ℕ) → n ≡ 1 → ¬ (IsDefinedAt (before_7 i) 7 n)
+at_1 i n f d = none_at_1 i (subst (λ (k : ℕ). IsDefinedAt (before_7 i) 7 k) f d)
 
-undefined : ¬ (IsResultAmong early (1 ∷ 0 ∷ []) 7)
-undefined (zero, n, lt, e, d) = let f : n ≡ 1 = cc in at_1 n f d
-undefined (suc zero, n, lt, e, d) = let f : n ≡ 0 = cc in at_0 n f d
-undefined (suc (suc k), n, lt, e, d) = absurd (omega (arith, lt))
+at_0 : (i : PlainInst) (n : ℕ) → n ≡ 0 → ¬ (IsDefinedAt (before_7 i) 7 n)
+at_0 i n f d = none_at_0 i (subst (λ (k : ℕ). IsDefinedAt (before_7 i) 7 k) f d)
 
-walked : IsWalk small early 0 (1 ∷ 0 ∷ []) 2
-walked =
-    let w0 : IsWalk small early 0 [] 0 = IsWalk.begins refl in
-    let w1 : IsWalk small early 0 (0 ∷ []) 1 = IsWalk.goes [] 0 1 w0 (Next.follows (λ t. let e = t in cc)) (of_early 1 (omega arith)) in
-    IsWalk.goes (0 ∷ []) 1 2 w1 (Next.follows (λ t. let e = t in cc)) (of_early 2 (omega arith))
+undefined : (i : PlainInst) → ¬ (IsResultAmong (before_7 i) (1 ∷ 0 ∷ []) 7)
+undefined i (zero, n, lt, e, d) = let f : n ≡ 1 = cc in at_1 i n f d
+undefined i (suc zero, n, lt, e, d) = let f : n ≡ 0 = cc in at_0 i n f d
+undefined i (suc (suc k), n, lt, e, d) = absurd (omega (arith, lt))
 
-pub missed : IsMissing small early 2
-missed = record {
-  other = λ t. let e = t in cc;
+walked : (i : PlainInst) → classes (before_7 i) ≡ laid_early → IsWalk small (before_7 i) 0 (1 ∷ 0 ∷ []) 2
+walked i e =
+    let w0 : IsWalk small (before_7 i) 0 [] 0 = IsWalk.begins refl in
+    let w1 : IsWalk small (before_7 i) 0 (0 ∷ []) 1 = IsWalk.goes [] 0 1 w0 (Next.follows (λ t. let e = t in cc)) (of_early i 1 e (omega arith)) in
+    IsWalk.goes (0 ∷ []) 1 2 w1 (Next.follows (λ t. let e = t in cc)) (of_early i 2 e (omega arith))
+
+-- that instruction misses %7 where it uses it
+pub missed_by : (i : PlainInst) (k : ℕ) → classes (before_7 i) ≡ laid_early → ¬ (IsOp (before_7 i) 2 (is_opcode opcode.PHI)) → IsUse small i k 7 role.Value → IsMissing small (before_7 i) 2
+missed_by i k e other u = record {
+  other = other;
   function = 0;
   past = 1 ∷ 0 ∷ [];
-  walk = walked;
-  operand = 2;
+  walk = walked i e;
+  operand = k;
   id = 7;
   role = role.Value;
-  used = record { inst = negation 6 7; there = refl; used = record { forms = T ∷ R ∷ v ∷ []; has = negation_forms 6 7; form = v; operand = Id 7; form_at = refl; operand_at = refl; role = refl; id = refl } };
-  local = local_7;
-  undefined = undefined;
+  used = record { inst = i; there = refl; used = u };
+  local = local_by i e;
+  undefined = undefined i;
 }
+
+negation_used : IsUse small (negation 6 7) 2 7 role.Value
+negation_used = record { forms = T ∷ R ∷ v ∷ []; has = negation_forms 6 7; form = v; operand = Id 7; form_at = refl; operand_at = refl; role = refl; id = refl }
+
+pub missed : IsMissing small early 2
+missed = missed_by (negation 6 7) 2 early_classes (λ t. let e = t in cc) negation_used
 
 -- a label has no type
 label_2 : (m : ℕ) → IsDefinedAt two_blocks 2 m → m ≡ 3

@@ -1,5 +1,5 @@
 -- What is known of the instructions that are looked at. (For the code alone.)
-use Rattle.std.specs.Prelude.{◌≤◌, ℕ, List, map, length}
+use Rattle.std.specs.Prelude.{ℕ, List, map}
 use Rattle.spv_table.specs.Table.{Table}
 use Rattle.spv_module.specs.Operand.{PlainInst}
 use Rattle.spv_module.specs.Module.{plain_inst}

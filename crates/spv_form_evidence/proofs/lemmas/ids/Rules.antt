@@ -17,8 +17,10 @@ use Rattle.spv_form_evidence.proofs.lemmas.ids.Using.{same_inst}
 pub within : (G : Table) (bound : ℕ) (is : List PlainInst) (r : Rule) (n : ℕ) → Broken G bound is r n → n < length is
 within G bound is _ _ (Broken.result_out_of_range n x d o) = slice_get_within is n d.inst d.there
 within G bound is _ _ (Broken.use_out_of_range n k x r u o) = slice_get_within is n u.inst u.there
+within G bound is _ _ (Broken.mention_out_of_range n k x m o) = slice_get_within is n m.inst m.there
 within G bound is _ _ (Broken.defined_again n m x d l e) = slice_get_within is n d.inst d.there
 within G bound is _ _ (Broken.undefined n k x r u h) = slice_get_within is n u.inst u.there
+within G bound is _ _ (Broken.mention_undefined n k x m h) = slice_get_within is n m.inst m.there
 within G bound is _ _ (Broken.not_in_order n k x r u o h) = slice_get_within is n u.inst u.there
 within G bound is _ _ (Broken.not_in_scope n k x r u s l h) = slice_get_within is n u.inst u.there
 

@@ -18,16 +18,16 @@ use Rattle.spv_layout.specs.Rows.{rows}
 use Rattle.spv_layout.specs.Shape.{AreOf, Ends, HasForms, IsUse}
 use Rattle.spv_layout.specs.Place.{IsAt, IsOfSection}
 use Rattle.spv_layout.proofs.Shapes.{use_same}
-use Rattle.spv_ids.specs.Definition.{IsDefinedAt, IsUsedAt}
+use Rattle.spv_ids.specs.Definition.{IsDefinedAt, IsUsedAt, IsMentionedAt}
 use Rattle.spv_ids.specs.Order.{IsInOrder}
 use Rattle.spv_ids.specs.Broken.{IsOutOfRange}
 use Rattle.spv_ids.specs.Example.{void, of_void}
 use Rattle.spv_evidence.specs.declared.evidence.Evidence.{Evidence}
 use Rattle.spv_evidence.specs.declared.evidence.Evidence.TheVariants.{Operand, Earlier, Defined, Miscast}
-use Rattle.spv_form_evidence.specs.ids.Example.{undef, value_as_type}
+use Rattle.spv_form_evidence.specs.ids.Example.{undef, mentioning, value_as_type}
 use Rattle.spv_form_evidence.specs.ids.Evidence as by_ids
 use Rattle.spv_form_evidence.specs.ids.Roles as by_roles
-use Rattle.spv_form_evidence.proofs.lemmas.ids.Using.{same_inst, no_use_of}
+use Rattle.spv_form_evidence.proofs.lemmas.ids.Using.{same_inst, no_use_of, no_mention_of}
 use Rattle.spv_form_evidence.proofs.lemmas.ids.Rules.{result_here}
 
 -- Uses.
@@ -83,10 +83,17 @@ in_range_by _ _ _ (by_ids.IsEvidence.use_out_of_range n k x r u o) a b c =
     let s : k ≡ 0 = cc in
     let v : IsUse small (void 4) 0 x r = subst (λ m. IsUse small (void 4) m x r) s (used_at small (void 4 ∷ []) 0 k x r (void 4) refl w) in
     no_use_of small (void 4) 0 x r (Result 4) refl refl v
+in_range_by _ _ _ (by_ids.IsEvidence.mention_out_of_range n k x m o) a b c =
+    let w : IsMentionedAt (void 4 ∷ []) 0 k x = subst (λ p. IsMentionedAt (void 4 ∷ []) p k x) b m in
+    let s : k ≡ 0 = cc in
+    no_mention_of (void 4 ∷ []) 0 0 x (void 4) (Result 4) refl refl refl (subst (λ p. IsMentionedAt (void 4 ∷ []) 0 p x) s w)
 in_range_by _ _ _ _ a b c = cc
 
 pub in_range : ¬ (by_ids.IsEvidence small 5 (void 4 ∷ []) D1 0 (Operand 0))
 in_range e = in_range_by D1 0 (Operand 0) e refl refl refl
+
+pub mention_out_of_range : by_ids.IsEvidence small 5 (mentioning 5 ∷ []) D1 0 (Operand 4)
+mention_out_of_range = by_ids.IsEvidence.mention_out_of_range 0 4 5 (record { inst = mentioning 5; there = refl; named = refl }) (inr (omega arith))
 
 -- D2
 
@@ -118,10 +125,21 @@ no_use_by _ _ _ (by_ids.IsEvidence.undefined n k x r u h) a b c =
     let s : k ≡ 0 = cc in
     let v : IsUse small of_void 0 x r = subst (λ m. IsUse small of_void m x r) s (used_at small (of_void ∷ []) 0 k x r of_void refl w) in
     no_use_of small of_void 0 x r (Result 2) refl refl v
+no_use_by _ _ _ (by_ids.IsEvidence.mention_undefined n k x m h) a b c =
+    let w : IsMentionedAt (of_void ∷ []) 0 k x = subst (λ p. IsMentionedAt (of_void ∷ []) p k x) b m in
+    let s : k ≡ 0 = cc in
+    no_mention_of (of_void ∷ []) 0 0 x of_void (Result 2) refl refl refl (subst (λ p. IsMentionedAt (of_void ∷ []) 0 p x) s w)
 no_use_by _ _ _ _ a b c = cc
 
 pub no_use : ¬ (by_ids.IsEvidence small 5 (of_void ∷ []) D3 0 (Operand 0))
 no_use e = no_use_by D3 0 (Operand 0) e refl refl refl
+
+not_defined : (m : ℕ) → ¬ (IsDefinedAt (mentioning 4 ∷ []) 4 m)
+not_defined zero d = let q = result_here (mentioning 4 ∷ []) 0 4 (mentioning 4) refl d in cc
+not_defined (suc m) d = let e = d.there in cc
+
+pub mention_undefined : by_ids.IsEvidence small 5 (mentioning 4 ∷ []) D3 0 (Operand 4)
+mention_undefined = by_ids.IsEvidence.mention_undefined 0 4 4 (record { inst = mentioning 4; there = refl; named = refl }) not_defined
 
 -- D4
 

@@ -2,19 +2,18 @@
 use Rattle.std.specs.Prelude.{◌≡◌, ℕ, Some, slice_get}
 use Rattle.spv_table.specs.Table.{Table}
 use Rattle.spv_module.specs.Operand.{PlainInst, Result, result_in}
-use Rattle.spv_layout.specs.declared.form.Role.{Role}
-use Rattle.spv_layout.specs.Shape.{IsUse}
 use Rattle.spv_ids.specs.Broken.{IsOutOfRange}
+use Rattle.spv_form_evidence.specs.ids.inner.Uses.{IsNamedAt}
 
 -- Operand k of the instruction is the id, as its result.
 pub record IsOwnResult (i : PlainInst) (k x : ℕ) : Type 0 where
   pub operand : slice_get i.operands k ≡ Some (Result x)
   pub first : result_in i.operands ≡ Some x
 
--- Operand k of the instruction is the id, as its result or a use.
+-- Operand k of the instruction is the id, as its result, a use or a mention.
 pub data IsIdAt (G : Table) (i : PlainInst) (k x : ℕ) : Type 0 where
   as_result : IsOwnResult i k x → IsIdAt G i k x
-  as_use : (r : Role) → IsUse G i k x r → IsIdAt G i k x
+  as_named : IsNamedAt G i k x → IsIdAt G i k x
 
 -- Operand k of the instruction is such an id that is out of range.
 pub record IsAstray (G : Table) (bound : ℕ) (i : PlainInst) (k : ℕ) : Type 0 where

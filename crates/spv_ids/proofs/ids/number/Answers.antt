@@ -2,6 +2,7 @@ use Rattle.std.proofs.Common.{sym, map, arith}
 use Rattle.std.proofs.lemmas.List.{length-map}
 use Rattle.spv_module.specs.Module.{plain_inst, plain_insts}
 use Rattle.spv_layout.specs.Place.{IsShort}
+use Rattle.spv_layout.specs.Plan.{IsPlan}
 use Rattle.spv_ids.specs.inner.Survey.{ArePlaces}
 use Rattle.spv_ids.specs.Outcome.{AreIds}
 use Rattle.spv_layout.proofs.Misfits.{short_list}
@@ -90,6 +91,7 @@ returns-clause-ids c = λ G p.
     let is = map plain_inst c.as_slice-insts.result.now in
     let b = c.args.module.now.header.bound in
     let k = rw c.in_default.is at c.in_ok-found.ensures in
+    let p' : IsPlan G is c.args.plan.now = rw c.as_slice-insts.ensures.value p in
     let f = c.in_ok-firsts.firsts in
-    let r : AreIds G b is (record { definitions = f.definitions }) = record { unbroken = clean_told G b is k; each = definitions_told b is f.end f.definitions c.in_ok-firsts.ensures.end c.in_ok-firsts.ensures.firsts k } in
+    let r : AreIds G b is (record { definitions = f.definitions }) = record { unbroken = clean_told G b is p'.fits k; each = definitions_told b is f.end f.definitions c.in_ok-firsts.ensures.end c.in_ok-firsts.ensures.firsts k } in
     rw c.as_slice-insts.ensures.value at r

@@ -1,4 +1,4 @@
-use Rattle.std.proofs.Common.{◌≡◌, ◌+◌, ℕ, zero, suc, [], ◌∷◌, Some, refl, arith, inl, inr}
+use Rattle.std.proofs.Common.{◌≡◌, ℕ, zero, suc, [], ◌∷◌, Some, refl, arith, inl, inr}
 use Rattle.std.specs.Prelude.{slice_get}
 use Rattle.std.proofs.lemmas.Option.{slice_get_within}
 use Rattle.spv_module.specs.Example.{small}
@@ -15,8 +15,8 @@ use Rattle.spv_layout.specs.Shape.{AreOf, Ends, HasForms, IsUse}
 use Rattle.spv_layout.specs.Place.{IsAt, IsOfSection}
 use Rattle.spv_ids.specs.Definition.{IsDefinedAt, IsLocal}
 use Rattle.spv_ids.specs.Order.{IsInOrder, IsInScope}
-use Rattle.spv_ids.specs.inner.Uses.{seen, used_id, IsUsedBefore}
-use Rattle.spv_ids.proofs.Used.{use_told}
+use Rattle.spv_ids.specs.inner.Uses.{seen, seen_id, IsUsedBefore}
+use Rattle.spv_ids.proofs.Used.{IsArgument, IsTold, use_told}
 use Rattle.spv_ids.specs.Broken.{Broken, IsOutOfRange}
 use Rattle.spv_ids.specs.Example.{void, of_void}
 use Rattle.spv_ids.proofs.laws.id_examples.Goals as goal
@@ -38,6 +38,8 @@ once _ _ (Broken.defined_again n m x a l b) e = let h = slice_get_within (void 1
 once _ _ (Broken.undefined n k x r u h) e = cc
 once _ _ (Broken.not_in_order n k x r u o h) e = cc
 once _ _ (Broken.not_in_scope n k x r u s l h) e = cc
+once _ _ (Broken.mention_out_of_range n k x m o) e = cc
+once _ _ (Broken.mention_undefined n k x m h) e = cc
 
 none_defined : (m : ℕ) → ¬ (IsDefinedAt (of_void ∷ []) 1 m)
 none_defined zero d = let e = d.there in let f : of_void ≡ d.inst = cc in let g = rw (← f) at d.result in cc
@@ -68,6 +70,8 @@ not_outside _ _ (Broken.defined_again n m x a l b) e = cc
 not_outside _ _ (Broken.undefined n k x r u h) e = cc
 not_outside _ _ (Broken.not_in_order n k x r u o h) e = cc
 not_outside _ _ (Broken.not_in_scope n k x r u s (f, l) h) e = no_function f l.of.begun.there
+not_outside _ _ (Broken.mention_out_of_range n k x m o) e = cc
+not_outside _ _ (Broken.mention_undefined n k x m h) e = cc
 
 -- in section 9, where no OpFunction stands
 declared : IsOfSection (of_void ∷ void 1 ∷ []) 0 11
@@ -78,11 +82,11 @@ declared = IsOfSection.global Declaration refl refl (λ f l. let u = l.up_to in 
   no_first (suc f) e a = absurd (omega (arith, e))
 
 -- the only use is that of %1
-no_use : (k x : ℕ) (o : Plain) → slice_get (seen (void 1)) k ≡ Some o → used_id o ≡ Some x → ⊥
+no_use : (k x : ℕ) (o : Plain) → slice_get (seen (void 1)) k ≡ Some o → seen_id o ≡ Some x → ⊥
 no_use zero x o h u = let e : Result 1 ≡ o = cc in let g = rw (← e) at u in cc
 no_use (suc k) x o h u = cc
 
-one_use : (k x : ℕ) (o : Plain) → slice_get (seen of_void) k ≡ Some o → used_id o ≡ Some x → x ≡ 1
+one_use : (k x : ℕ) (o : Plain) → slice_get (seen of_void) k ≡ Some o → seen_id o ≡ Some x → x ≡ 1
 one_use zero x o h u = let e : Result 2 ≡ o = cc in let g = rw (← e) at u in cc
 one_use (suc zero) x o h u = let e : Id 1 ≡ o = cc in let g = rw (← e) at u in cc
 one_use (suc (suc k)) x o h u = cc
@@ -104,13 +108,24 @@ all_in_order (suc zero) to x u h =
     h (rw q in_order)
 all_in_order (suc (suc n)) to x u h = let t = u.there in cc
 
+no_argument : (n k x : ℕ) → ¬ (IsArgument (void 1 ∷ of_void ∷ []) n k x)
+no_argument zero k x u = let t = u.there in let e : void 1 ≡ u.inst = cc in let o = rw (← e) at u.operand_at in cc
+no_argument (suc zero) k x u = let t = u.there in let e : of_void ≡ u.inst = cc in let o = rw (← e) at u.operand_at in cc
+no_argument (suc (suc n)) k x u = let t = u.there in cc
+
+told_in_order : (n x : ℕ) → IsTold (void 1 ∷ of_void ∷ []) n x → (IsInOrder (void 1 ∷ of_void ∷ []) n x → ⊥) → ⊥
+told_in_order n x (IsTold.early to u) h = all_in_order n to x u h
+told_in_order n x (IsTold.late k u) h = no_argument n k x u
+
 not_early : (r : Rule) (n : ℕ) → Broken small 5 (void 1 ∷ of_void ∷ []) r n → r ≡ D4 → ⊥
 not_early _ _ (Broken.result_out_of_range n x d o) e = cc
 not_early _ _ (Broken.use_out_of_range n k x r u o) e = cc
 not_early _ _ (Broken.defined_again n m x a l b) e = cc
 not_early _ _ (Broken.undefined n k x r u h) e = cc
-not_early _ _ (Broken.not_in_order n k x r u o h) e = all_in_order n (k + 1) x (use_told small (void 1 ∷ of_void ∷ []) n k x r u) h
+not_early _ _ (Broken.not_in_order n k x r u o h) e = told_in_order n x (use_told small (void 1 ∷ of_void ∷ []) n k x r u) h
 not_early _ _ (Broken.not_in_scope n k x r u s l h) e = cc
+not_early _ _ (Broken.mention_out_of_range n k x m o) e = cc
+not_early _ _ (Broken.mention_undefined n k x m h) e = cc
 
 not_local : ¬ (IsLocal (void 1 ∷ of_void ∷ []) 1)
 not_local (f, l) = no_function f l.of.begun.there

@@ -1,4 +1,4 @@
-use Rattle.std.proofs.Common.{◌≡◌, ◌+◌, ℕ, zero, suc, [], ◌∷◌, Some, refl, arith, inr}
+use Rattle.std.proofs.Common.{◌≡◌, ℕ, zero, suc, [], ◌∷◌, Some, refl, arith, inr}
 use Rattle.std.specs.Prelude.{slice_get}
 use Rattle.spv_module.specs.Example.{small}
 use Rattle.spv_module.specs.Operand.{Plain, OfType, Result, Id}
@@ -18,10 +18,10 @@ use Rattle.spv_layout.proofs.Spans.{before_first, enters, leaves, within}
 use Rattle.spv_layout.proofs.Places.{function_same}
 use Rattle.spv_ids.specs.Definition.{IsDefinedAt, IsLocalTo, IsLocal}
 use Rattle.spv_ids.specs.Order.{IsInScope}
-use Rattle.spv_ids.specs.inner.Uses.{seen, used_id, IsUsedBefore}
+use Rattle.spv_ids.specs.inner.Uses.{seen, seen_id, IsUsedBefore}
 use Rattle.spv_ids.specs.Broken.{Broken}
 use Rattle.spv_ids.specs.Example.{value, copy, used_inside, used_outside}
-use Rattle.spv_ids.proofs.Used.{use_told}
+use Rattle.spv_ids.proofs.Used.{IsArgument, IsTold, use_told}
 use Rattle.spv_ids.proofs.laws.scope_examples.Goals as goal
 
 -- The functions that the instructions are of.
@@ -155,12 +155,12 @@ in_scope : IsInScope used_inside 3 5
 in_scope = record { function = 0; of = of_inside; local = in_place }
 
 -- the uses are those of the type and of the value
-type_used : (k x : ℕ) (o : Plain) → slice_get (seen value) k ≡ Some o → used_id o ≡ Some x → x ≡ 1
+type_used : (k x : ℕ) (o : Plain) → slice_get (seen value) k ≡ Some o → seen_id o ≡ Some x → x ≡ 1
 type_used zero x o h u = let e : OfType 1 ≡ o = cc in let g = rw (← e) at u in cc
 type_used (suc zero) x o h u = let e : Result 5 ≡ o = cc in let g = rw (← e) at u in cc
 type_used (suc (suc k)) x o h u = cc
 
-both_used : (k x : ℕ) (o : Plain) → slice_get (seen (copy 6)) k ≡ Some o → used_id o ≡ Some x → (x ≡ 1 → ⊥) → x ≡ 5
+both_used : (k x : ℕ) (o : Plain) → slice_get (seen (copy 6)) k ≡ Some o → seen_id o ≡ Some x → (x ≡ 1 → ⊥) → x ≡ 5
 both_used zero x o h u n = let e : OfType 1 ≡ o = cc in let g = rw (← e) at u in absurd (n cc)
 both_used (suc zero) x o h u n = let e : Result 6 ≡ o = cc in let g = rw (← e) at u in cc
 both_used (suc (suc zero)) x o h u n = let e : Id 5 ≡ o = cc in let g = rw (← e) at u in cc
@@ -186,13 +186,27 @@ all_in_scope (suc (suc (suc zero))) to x u l h =
 all_in_scope (suc (suc (suc (suc zero)))) to x u l h = let t = u.there in let e : bare opcode.FUNCTION_END ≡ u.inst = cc in let o = rw (← e) at u.operand_at in cc
 all_in_scope (suc (suc (suc (suc (suc n))))) to x u l h = let t = u.there in cc
 
+no_argument : (n k x : ℕ) → ¬ (IsArgument used_inside n k x)
+no_argument zero k x u = let t = u.there in let e : bare opcode.FUNCTION ≡ u.inst = cc in let o = rw (← e) at u.operand_at in cc
+no_argument (suc zero) k x u = let t = u.there in let e : bare opcode.LABEL ≡ u.inst = cc in let o = rw (← e) at u.operand_at in cc
+no_argument (suc (suc zero)) k x u = let t = u.there in let e : value ≡ u.inst = cc in let o = rw (← e) at u.operand_at in cc
+no_argument (suc (suc (suc zero))) k x u = let t = u.there in let e : copy 6 ≡ u.inst = cc in let o = rw (← e) at u.operand_at in cc
+no_argument (suc (suc (suc (suc zero)))) k x u = let t = u.there in let e : bare opcode.FUNCTION_END ≡ u.inst = cc in let o = rw (← e) at u.operand_at in cc
+no_argument (suc (suc (suc (suc (suc n))))) k x u = let t = u.there in cc
+
+told_in_scope : (n x : ℕ) → IsTold used_inside n x → IsLocal used_inside x → (IsInScope used_inside n x → ⊥) → ⊥
+told_in_scope n x (IsTold.early to u) l h = all_in_scope n to x u l h
+told_in_scope n x (IsTold.late k u) l h = no_argument n k x u
+
 not_broken : (r : Rule) (n : ℕ) → Broken small 9 used_inside r n → r ≡ D5 → ⊥
 not_broken _ _ (Broken.result_out_of_range n x d o) e = cc
 not_broken _ _ (Broken.use_out_of_range n k x r u o) e = cc
 not_broken _ _ (Broken.defined_again n m x a l b) e = cc
 not_broken _ _ (Broken.undefined n k x r u h) e = cc
 not_broken _ _ (Broken.not_in_order n k x r u o h) e = cc
-not_broken _ _ (Broken.not_in_scope n k x r u s l h) e = all_in_scope n (k + 1) x (use_told small used_inside n k x r u) l h
+not_broken _ _ (Broken.not_in_scope n k x r u s l h) e = told_in_scope n x (use_told small used_inside n k x r u) l h
+not_broken _ _ (Broken.mention_out_of_range n k x m o) e = cc
+not_broken _ _ (Broken.mention_undefined n k x m h) e = cc
 
 -- Outside it.
 

@@ -38,11 +38,18 @@ serves role.Label d = is_free d
 serves role.Any d = is_free d
 serves _ d = false
 
-abbrev fits : Form → Role → Bool
-fits (form.Id q) d = serves q d
-fits form.Unseen d = is_free d
-fits form.Other d = is_free d
-fits _ d = true
+-- nothing is asked of an id in either role, and they are one
+abbrev are_any : Role → Role → Bool
+are_any role.Any role.Any = true
+are_any _ _ = false
+
+-- d is due, and r of the ids after it. An argument leaves what is due, and an id in its place does not: there the two
+-- are one.
+abbrev fits : Form → Role → Role → Bool
+fits (form.Id q) d r = serves q d
+fits form.Unseen d r = are_any d r
+fits form.Other d r = is_free d
+fits _ d r = true
 
 -- what is due after an operand of a form
 abbrev due_by : Role → Role → Role → Form → Role
@@ -74,6 +81,16 @@ free_played is role.Global x h = cc
 free_played is role.Label x h = tt
 free_played is role.Any x h = tt
 
+any_roles : (d r : Role) → are_any d r ≡ true → (d ≡ role.Any) × (r ≡ role.Any)
+any_roles role.Any role.Any h = (refl, refl)
+any_roles d r h = cc
+
+any_played : (is : List PlainInst) (d r : Role) (x : ℕ) → are_any d r ≡ true → Plays is d x
+any_played is d r x h = let e : d ≡ role.Any = (any_roles d r h).0 in rw e tt
+
+same_any : (d r : Role) → are_any d r ≡ true → d ≡ r
+same_any d r h = let two = any_roles d r h in two.0 ∙ sym two.1
+
 served : (is : List PlainInst) (q d : Role) (x : ℕ) → serves q d ≡ true → Plays is d x → Plays is q x
 served is role.Label d x h p = tt
 served is role.Any d x h p = tt
@@ -97,20 +114,22 @@ serving is role.Global role.Global x h p = p
 serving is q d x h p = cc
 
 -- a use of an operand that is what is asked of it
-kept : (G : Table) (is : List PlainInst) (f : Form) (o : Plain) (d q : Role) (x : ℕ) → is_of G f o ≡ true → fits f d ≡ true → role_of f o ≡ Some q → id_of o ≡ Some x
+kept : (G : Table) (is : List PlainInst) (f : Form) (o : Plain) (d r q : Role) (x : ℕ) → is_of G f o ≡ true → fits f d r ≡ true → role_of f o ≡ Some q → id_of o ≡ Some x
     → IsPlayed is d o → Plays is q x
-kept G is form.OfType (operand.OfType y) d q x h k e i p =
+kept G is form.OfType (operand.OfType y) d r q x h k e i p =
     let a : role.OfType ≡ q = cc in let b : y ≡ x = cc in rw (← a, ← b) p
-kept G is (form.Id c) (operand.Id y) d q x h k e i p =
+kept G is (form.Id c) (operand.Id y) d r q x h k e i p =
     let a : c ≡ q = cc in let b : y ≡ x = cc in rw (← a, ← b) (served is c d y k p)
-kept G is form.Other (operand.Id y) d q x h k e i p =
+kept G is form.Other (operand.Id y) d r q x h k e i p =
     let a : role.Any ≡ q = cc in rw (← a) tt
-kept G is f (operand.Word y) d q x h k e i p = cc
-kept G is f (operand.Number y z w) d q x h k e i p = cc
-kept G is f (operand.Text t) d q x h k e i p = cc
-kept G is f (operand.Value y z) d q x h k e i p = cc
-kept G is f (operand.Mask y z) d q x h k e i p = cc
-kept G is f o d q x h k e i p = cc
+kept G is form.Unseen (operand.Argument y) d r q x h k e i p =
+    let a : role.Value ≡ q = cc in let b : y ≡ x = cc in rw (← a, ← b) p
+kept G is f (operand.Word y) d r q x h k e i p = cc
+kept G is f (operand.Number y z w) d r q x h k e i p = cc
+kept G is f (operand.Text t) d r q x h k e i p = cc
+kept G is f (operand.Value y z) d r q x h k e i p = cc
+kept G is f (operand.Mask y z) d r q x h k e i p = cc
+kept G is f o d r q x h k e i p = cc
 
 -- an operand that is not what is asked of it is a use that is not in its role
 record IsUsedWrongly (is : List PlainInst) (f : Form) (o : Plain) : Type 0 where
@@ -120,39 +139,43 @@ record IsUsedWrongly (is : List PlainInst) (f : Form) (o : Plain) : Type 0 where
   pub is_id : id_of o ≡ Some id
   pub never : ¬ (Plays is role id)
 
-broken : (G : Table) (is : List PlainInst) (f : Form) (o : Plain) (d : Role) → is_of G f o ≡ true → fits f d ≡ true → (IsPlayed is d o → ⊥) → IsUsedWrongly is f o
-broken G is form.OfType (operand.OfType y) d h k n = record { role = role.OfType; id = y; used = refl; is_id = refl; never = n }
-broken G is (form.Id c) (operand.Id y) d h k n = record { role = c; id = y; used = refl; is_id = refl; never = λ p. n (serving is c d y k p) }
-broken G is form.Unseen (operand.Id y) d h k n = absurd (n (free_played is d y k))
-broken G is form.Other (operand.Id y) d h k n = absurd (n (free_played is d y k))
-broken G is f (operand.Word y) d h k n = absurd (n tt)
-broken G is f (operand.Number y z w) d h k n = absurd (n tt)
-broken G is f (operand.Text t) d h k n = absurd (n tt)
-broken G is f (operand.Value y z) d h k n = absurd (n tt)
-broken G is f (operand.Mask y z) d h k n = absurd (n tt)
-broken G is f (operand.Result y) d h k n = absurd (n tt)
-broken G is f o d h k n = cc
+broken : (G : Table) (is : List PlainInst) (f : Form) (o : Plain) (d r : Role) → is_of G f o ≡ true → fits f d r ≡ true → (IsPlayed is d o → ⊥) → IsUsedWrongly is f o
+broken G is form.OfType (operand.OfType y) d r h k n = record { role = role.OfType; id = y; used = refl; is_id = refl; never = n }
+broken G is (form.Id c) (operand.Id y) d r h k n = record { role = c; id = y; used = refl; is_id = refl; never = λ p. n (serving is c d y k p) }
+broken G is form.Unseen (operand.Id y) d r h k n = absurd (n (any_played is d r y k))
+broken G is form.Unseen (operand.Argument y) d r h k n = record { role = role.Value; id = y; used = refl; is_id = refl; never = n }
+broken G is form.Other (operand.Id y) d r h k n = absurd (n (free_played is d y k))
+broken G is f (operand.Word y) d r h k n = absurd (n tt)
+broken G is f (operand.Mention y) d r h k n = absurd (n tt)
+broken G is f (operand.Number y z w) d r h k n = absurd (n tt)
+broken G is f (operand.Text t) d r h k n = absurd (n tt)
+broken G is f (operand.Value y z) d r h k n = absurd (n tt)
+broken G is f (operand.Mask y z) d r h k n = absurd (n tt)
+broken G is f (operand.Result y) d r h k n = absurd (n tt)
+broken G is f o d r h k n = cc
 
 -- what is due after an operand, by its form
 not_true : (b : Bool) → not b ≡ true → b ≡ false
 not_true true h = cc
 not_true false h = refl
 
-same_due : (G : Table) (f : Form) (o : Plain) (d r l : Role) → is_of G f o ≡ true → is_other f ≡ false → due_after d r l o ≡ due_by d r l f
-same_due G (form.Kind c) (operand.Value y z) d r l h k =
+same_due : (G : Table) (f : Form) (o : Plain) (d r l : Role) → is_of G f o ≡ true → is_other f ≡ false → fits f d r ≡ true → due_after d r l o ≡ due_by d r l f
+same_due G (form.Kind c) (operand.Value y z) d r l h k t =
     let e : has_masks c ≡ false = not_true (has_masks c) (both (not (has_masks c)) (is_number y (number_named G (name_of c))) h).0 in
     rw e refl
-same_due G (form.Kind c) (operand.Mask y z) d r l h k =
+same_due G (form.Kind c) (operand.Mask y z) d r l h k t =
     let e : has_masks c ≡ true = (both (has_masks c) (is_number y (number_named G (name_of c))) h).0 in
     rw e refl
-same_due G form.OfType (operand.OfType y) d r l h k = refl
-same_due G form.Result (operand.Result y) d r l h k = refl
-same_due G form.Word (operand.Word y) d r l h k = refl
-same_due G form.Number (operand.Number y z w) d r l h k = refl
-same_due G form.Text (operand.Text t) d r l h k = refl
-same_due G (form.Id c) (operand.Id y) d r l h k = refl
-same_due G form.Unseen (operand.Id y) d r l h k = refl
-same_due G f o d r l h k = cc
+same_due G form.OfType (operand.OfType y) d r l h k t = refl
+same_due G form.Result (operand.Result y) d r l h k t = refl
+same_due G form.Word (operand.Word y) d r l h k t = refl
+same_due G form.Number (operand.Number y z w) d r l h k t = refl
+same_due G form.Text (operand.Text c) d r l h k t = refl
+same_due G (form.Id c) (operand.Id y) d r l h k t = refl
+same_due G form.Unseen (operand.Id y) d r l h k t = refl
+same_due G form.Unseen (operand.Argument y) d r l h k t = same_any d r t
+same_due G form.Unseen (operand.Mention y) d r l h k t = same_any d r t
+same_due G f o d r l h k t = cc
 
 same_next : (G : Table) (f : Form) (o : Plain) (r l : Role) → is_of G f o ≡ true → is_other f ≡ false → next_after r l o ≡ next_by r l f
 same_next G (form.Kind c) (operand.Value y z) r l h k =
@@ -168,6 +191,8 @@ same_next G form.Number (operand.Number y z w) r l h k = refl
 same_next G form.Text (operand.Text t) r l h k = refl
 same_next G (form.Id c) (operand.Id y) r l h k = refl
 same_next G form.Unseen (operand.Id y) r l h k = refl
+same_next G form.Unseen (operand.Argument y) r l h k = refl
+same_next G form.Unseen (operand.Mention y) r l h k = refl
 same_next G f o r l h k = cc
 
 -- Operands of forms, where roles are due.
@@ -178,7 +203,7 @@ are_others (f ∷ fs) = is_other f && are_others fs
 
 abbrev asks : Role → Role → Role → List Form → Bool
 asks d r l [] = true
-asks d r l (f ∷ fs) = if is_other f then are_free d r l && are_others fs else (fits f d && asks (due_by d r l f) (next_by r l f) l fs)
+asks d r l (f ∷ fs) = if is_other f then are_free d r l && are_others fs else (fits f d r && asks (due_by d r l f) (next_by r l f) l fs)
 
 its_other : (f : Form) → is_other f ≡ true → f ≡ form.Other
 its_other form.Other h = refl
@@ -204,6 +229,8 @@ free_after d r l (operand.Mask k x) h = let a = both (is_free d) (is_free r && i
 free_after d r l (operand.OfType x) h = h
 free_after d r l (operand.Result x) h = h
 free_after d r l (operand.Word x) h = h
+free_after d r l (operand.Argument x) h = h
+free_after d r l (operand.Mention x) h = h
 free_after d r l (operand.Number x y z) h = h
 free_after d r l (operand.Text t) h = h
 free_after d r l (operand.Value k x) h = h
@@ -213,6 +240,8 @@ other_played G is (operand.OfType x) d h m = cc
 other_played G is (operand.Id x) d h m = free_played is d x h
 other_played G is (operand.Result x) d h m = tt
 other_played G is (operand.Word x) d h m = tt
+other_played G is (operand.Argument x) d h m = cc
+other_played G is (operand.Mention x) d h m = tt
 other_played G is (operand.Number x y z) d h m = tt
 other_played G is (operand.Text t) d h m = tt
 other_played G is (operand.Value k x) d h m = tt
@@ -230,26 +259,26 @@ others_never G is d r l _ _ h k (AreOf.more g u gs us i a) m =
     m
 
 -- the uses among operands that are what is asked of them
-kept_first : (G : Table) (is : List PlainInst) (d : Role) (g f : Form) (u o : Plain) (q : Role) (x : ℕ) → is_of G g u ≡ true → fits g d ≡ true → IsPlayed is d u
+kept_first : (G : Table) (is : List PlainInst) (d r : Role) (g f : Form) (u o : Plain) (q : Role) (x : ℕ) → is_of G g u ≡ true → fits g d r ≡ true → IsPlayed is d u
     → Some g ≡ Some f → Some u ≡ Some o → role_of f o ≡ Some q → id_of o ≡ Some x → Plays is q x
-kept_first G is d g f u o q x i h p a b e s =
+kept_first G is d r g f u o q x i h p a b e s =
     let one : g ≡ f = cc in
     let two : u ≡ o = cc in
-    kept G is g u d q x i h (rw (one, two) e) (rw two s) p
+    kept G is g u d r q x i h (rw (one, two) e) (rw two s) p
 
 kept_more : (G : Table) (is : List PlainInst) (d r l : Role) (g : Form) (u : Plain) (gs : List Form) (us : List Plain) (b : Bool) → is_other g ≡ b
-    → (if b then are_free d r l && are_others gs else (fits g d && asks (due_by d r l g) (next_by r l g) l gs)) ≡ true → is_of G g u ≡ true → ArePlayed is d r l (u ∷ us)
+    → (if b then are_free d r l && are_others gs else (fits g d r && asks (due_by d r l g) (next_by r l g) l gs)) ≡ true → is_of G g u ≡ true → ArePlayed is d r l (u ∷ us)
     → (k : ℕ) (f : Form) (o : Plain) (q : Role) (x : ℕ) → slice_get (g ∷ gs) k ≡ Some f → slice_get (u ∷ us) k ≡ Some o → role_of f o ≡ Some q → id_of o ≡ Some x
     → ((d r : Role) (m : ℕ) → asks d r l gs ≡ true → ArePlayed is d r l us → slice_get gs m ≡ Some f → slice_get us m ≡ Some o → Plays is q x) → Plays is q x
 kept_more G is d r l g u gs us true w h i p k f o q x a b e s rest =
     let two = both (are_free d r l) (are_others gs) h in
     others_free is (g ∷ gs) k f o q x (and_yes (is_other g) (are_others gs) w two.1) a e
 kept_more G is d r l g u gs us false w h i p zero f o q x a b e s rest =
-    let two = both (fits g d) (asks (due_by d r l g) (next_by r l g) l gs) h in
-    kept_first G is d g f u o q x i two.0 p.0 a b e s
+    let two = both (fits g d r) (asks (due_by d r l g) (next_by r l g) l gs) h in
+    kept_first G is d r g f u o q x i two.0 p.0 a b e s
 kept_more G is d r l g u gs us false w h i p (suc k) f o q x a b e s rest =
-    let two = both (fits g d) (asks (due_by d r l g) (next_by r l g) l gs) h in
-    let due = same_due G g u d r l i w in
+    let two = both (fits g d r) (asks (due_by d r l g) (next_by r l g) l gs) h in
+    let due = same_due G g u d r l i w two.0 in
     let next = same_next G g u r l i w in
     rest (due_by d r l g) (next_by r l g) k two.1 (rw (← due, ← next) p.1) a b
 
@@ -272,17 +301,17 @@ wrong_later : (is : List PlainInst) (f : Form) (fs : List Form) (o : Plain) (os 
 wrong_later is f fs o os w = record { place = suc w.place; form = w.form; operand = w.operand; form_at = w.form_at; operand_at = w.operand_at; wrong = w.wrong }
 
 wrong_more : (G : Table) (is : List PlainInst) (d r l : Role) (g : Form) (u : Plain) (gs : List Form) (us : List Plain) (b : Bool) → is_other g ≡ b
-    → (if b then are_free d r l && are_others gs else (fits g d && asks (due_by d r l g) (next_by r l g) l gs)) ≡ true → is_of G g u ≡ true → AreOf G gs us → IsOneMiscast is d r l (u ∷ us)
+    → (if b then are_free d r l && are_others gs else (fits g d r && asks (due_by d r l g) (next_by r l g) l gs)) ≡ true → is_of G g u ≡ true → AreOf G gs us → IsOneMiscast is d r l (u ∷ us)
     → ((d r : Role) → asks d r l gs ≡ true → IsOneMiscast is d r l us → IsWrongAmong is gs us) → IsWrongAmong is (g ∷ gs) (u ∷ us)
 wrong_more G is d r l g u gs us true w h i a m rest =
     let two = both (are_free d r l) (are_others gs) h in
     absurd (others_never G is d r l (g ∷ gs) (u ∷ us) (and_yes (is_other g) (are_others gs) w two.1) two.0 (AreOf.more g u gs us i a) m)
 wrong_more G is d r l g u gs us false w h i a m rest =
-    let two = both (fits g d) (asks (due_by d r l g) (next_by r l g) l gs) h in
-    let due = same_due G g u d r l i w in
+    let two = both (fits g d r) (asks (due_by d r l g) (next_by r l g) l gs) h in
+    let due = same_due G g u d r l i w two.0 in
     let next = same_next G g u r l i w in
     ⊎_elim
-    (λ (n : ¬ (IsPlayed is d u)). record { place = zero; form = g; operand = u; form_at = refl; operand_at = refl; wrong = broken G is g u d i two.0 n })
+    (λ (n : ¬ (IsPlayed is d u)). record { place = zero; form = g; operand = u; form_at = refl; operand_at = refl; wrong = broken G is g u d r i two.0 n })
     (λ (n : IsOneMiscast is (due_after d r l u) (next_after r l u) l us). wrong_later is g gs u us (rest (due_by d r l g) (next_by r l g) two.1 (rw (← due, ← next) n)))
     m
 
@@ -301,7 +330,7 @@ stays _ = true
 
 abbrev all_plain : Role → Role → List Form → Bool
 all_plain d r [] = true
-all_plain d r (f ∷ fs) = (stays f && (fits f d && fits f r)) && all_plain d r fs
+all_plain d r (f ∷ fs) = (stays f && (fits f d r && fits f r r)) && all_plain d r fs
 
 abbrev asks_ending : Role → Role → Role → RowEnding → Bool
 asks_ending d r l closed = true
@@ -309,14 +338,14 @@ asks_ending d r l (maybe f) = all_plain d r (f ∷ [])
 asks_ending d r l file_and_text = false
 asks_ending d r l (repeated fs) = all_plain d r fs
 asks_ending d r l others = are_free d r l
-asks_ending d r l (maybe_others f) = not (is_other f) && (fits f d && are_free (due_by d r l f) (next_by r l f) l)
+asks_ending d r l (maybe_others f) = not (is_other f) && (fits f d r && are_free (due_by d r l f) (next_by r l f) l)
 
 abbrev asks_row : Role → Role → Role → List Form → RowEnding → Bool
 asks_row d r l [] e = asks_ending d r l e
-asks_row d r l (f ∷ fs) e = not (is_other f) && (fits f d && asks_row (due_by d r l f) (next_by r l f) l fs e)
+asks_row d r l (f ∷ fs) e = not (is_other f) && (fits f d r && asks_row (due_by d r l f) (next_by r l f) l fs e)
 
 -- one form more, where it is no other
-one_more : (d r l : Role) (f : Form) (fs : List Form) → is_other f ≡ false → fits f d ≡ true → asks (due_by d r l f) (next_by r l f) l fs ≡ true → asks d r l (f ∷ fs) ≡ true
+one_more : (d r l : Role) (f : Form) (fs : List Form) → is_other f ≡ false → fits f d r ≡ true → asks (due_by d r l f) (next_by r l f) l fs ≡ true → asks d r l (f ∷ fs) ≡ true
 one_more d r l f fs n h k = rw (n, h) k
 
 no_other : (f : Form) → stays f ≡ true → is_other f ≡ false
@@ -339,9 +368,9 @@ next_of r l f h = refl
 plain_asks : (d r l : Role) (fs : List Form) → all_plain d r fs ≡ true → (asks d r l fs ≡ true) × (asks r r l fs ≡ true)
 plain_asks d r l [] h = (refl, refl)
 plain_asks d r l (f ∷ fs) h =
-    let two = both (stays f && (fits f d && fits f r)) (all_plain d r fs) h in
-    let first = both (stays f) (fits f d && fits f r) two.0 in
-    let fit = both (fits f d) (fits f r) first.1 in
+    let two = both (stays f && (fits f d r && fits f r r)) (all_plain d r fs) h in
+    let first = both (stays f) (fits f d r && fits f r r) two.0 in
+    let fit = both (fits f d r) (fits f r r) first.1 in
     let rest = plain_asks d r l fs two.1 in
     let next : next_by r l f ≡ r = next_of r l f first.0 in
     let after_d : asks (due_by d r l f) (next_by r l f) l fs ≡ true = rw next (due_of (λ c. asks c r l fs ≡ true) d r l f first.0 rest.0 rest.1) in
@@ -351,8 +380,8 @@ plain_asks d r l (f ∷ fs) h =
 plain_append : (d r : Role) (fs gs : List Form) → all_plain d r fs ≡ true → all_plain d r gs ≡ true → all_plain d r (fs ++ gs) ≡ true
 plain_append d r [] gs h k = k
 plain_append d r (f ∷ fs) gs h k =
-    let two = both (stays f && (fits f d && fits f r)) (all_plain d r fs) h in
-    and_yes (stays f && (fits f d && fits f r)) (all_plain d r (fs ++ gs)) two.0 (plain_append d r fs gs two.1 k)
+    let two = both (stays f && (fits f d r && fits f r r)) (all_plain d r fs) h in
+    and_yes (stays f && (fits f d r && fits f r r)) (all_plain d r (fs ++ gs)) two.0 (plain_append d r fs gs two.1 k)
 
 plain_repeated : (d r : Role) (fs gs : List Form) → all_plain d r fs ≡ true → Ends (repeated fs) gs → all_plain d r gs ≡ true
 plain_repeated d r fs gs h (Ends.done _) = refl
@@ -377,15 +406,15 @@ ending_asks d r l (repeated fs) gs h e = (plain_asks d r l gs (plain_repeated d 
 ending_asks d r l others gs h e = free_asks d r l gs h (others_only gs e)
 ending_asks d r l (maybe_others f) gs h (Ends.no_kind _) = refl
 ending_asks d r l (maybe_others f) gs h (Ends.kind _ hs e) =
-    let two = both (not (is_other f)) (fits f d && are_free (due_by d r l f) (next_by r l f) l) h in
-    let more = both (fits f d) (are_free (due_by d r l f) (next_by r l f) l) two.1 in
+    let two = both (not (is_other f)) (fits f d r && are_free (due_by d r l f) (next_by r l f) l) h in
+    let more = both (fits f d r) (are_free (due_by d r l f) (next_by r l f) l) two.1 in
     one_more d r l f hs (not_true (is_other f) two.0) more.0 (free_asks (due_by d r l f) (next_by r l f) l hs more.1 (others_only hs e))
 
 row_asks : (d r l : Role) (fs : List Form) (e : RowEnding) (gs : List Form) → asks_row d r l fs e ≡ true → Ends e gs → asks d r l (fs ++ gs) ≡ true
 row_asks d r l [] e gs h n = ending_asks d r l e gs h n
 row_asks d r l (f ∷ fs) e gs h n =
-    let two = both (not (is_other f)) (fits f d && asks_row (due_by d r l f) (next_by r l f) l fs e) h in
-    let more = both (fits f d) (asks_row (due_by d r l f) (next_by r l f) l fs e) two.1 in
+    let two = both (not (is_other f)) (fits f d r && asks_row (due_by d r l f) (next_by r l f) l fs e) h in
+    let more = both (fits f d r) (asks_row (due_by d r l f) (next_by r l f) l fs e) two.1 in
     one_more d r l f (fs ++ gs) (not_true (is_other f) two.0) more.0 (row_asks (due_by d r l f) (next_by r l f) l fs e gs more.1 n)
 
 -- The test of all rows of the table of shapes, opcode by opcode.

@@ -18,10 +18,9 @@ use Rattle.spv_layout.specs.First.{IsFirst, IsUnbroken, rank_of}
 use Rattle.spv_layout.specs.Stage.{of_roles}
 use Rattle.spv_layout.specs.Shape.{is_of, AreOf, role_of, id_of, IsUse, IsRole}
 use Rattle.spv_layout.proofs.Shapes.{use_same}
-use Rattle.spv_ids.specs.inner.Uses.{used_id}
 use Rattle.spv_type_rules.specs.roles.Role.{Plays}
 use Rattle.spv_type_rules.specs.roles.Broken.{Broken}
-use Rattle.spv_type_rules.specs.roles.inner.Known.{IsInRole, IsMiscast, AreInRoleBefore, HasMiscast, AreInRoleUpTo, uses_nothing}
+use Rattle.spv_type_rules.specs.roles.inner.Known.{asked_id, IsInRole, IsMiscast, AreInRoleBefore, HasMiscast, AreInRoleUpTo, uses_nothing}
 use Rattle.spv_type_rules.specs.roles.Outcome.{AreInRole}
 
 form_at : (G : Table) (fs : List Form) (os : List Plain) (n : ℕ) (f : Form) (o : Plain) → AreOf G fs os → slice_get fs n ≡ Some f → slice_get os n ≡ Some o → is_of G f o ≡ true
@@ -29,8 +28,8 @@ form_at G _ _ n f o AreOf.none h g = cc
 form_at G _ _ zero f o (AreOf.more f' o' fs os k r) h g = let a : f' ≡ f = cc in let b : o' ≡ o = cc in rw (← a, ← b) k
 form_at G _ _ (suc n) f o (AreOf.more f' o' fs os k r) h g = form_at G fs os n f o r h g
 
--- a use is no result
-used_by : (G : Table) (f : Form) (o : Plain) (r : Role) (x : ℕ) → is_of G f o ≡ true → role_of f o ≡ Some r → id_of o ≡ Some x → used_id o ≡ Some x
+-- a use is no result, and nothing that is named alone
+used_by : (G : Table) (f : Form) (o : Plain) (r : Role) (x : ℕ) → is_of G f o ≡ true → role_of f o ≡ Some r → id_of o ≡ Some x → asked_id o ≡ Some x
 used_by G f (operand.OfType y) r x a b e = e
 used_by G f (operand.Id y) r x a b e = e
 used_by G form.OfType (operand.Result y) r x a b e = cc
@@ -43,32 +42,42 @@ used_by G form.Unseen (operand.Result y) r x a b e = cc
 used_by G (form.Kind k) (operand.Result y) r x a b e = cc
 used_by G form.Other (operand.Result y) r x a b e = cc
 used_by G f (operand.Word y) r x a b e = cc
+used_by G f (operand.Argument y) r x a b e = e
+used_by G form.OfType (operand.Mention y) r x a b e = cc
+used_by G form.Result (operand.Mention y) r x a b e = cc
+used_by G form.Word (operand.Mention y) r x a b e = cc
+used_by G form.Number (operand.Mention y) r x a b e = cc
+used_by G form.Text (operand.Mention y) r x a b e = cc
+used_by G (form.Id q) (operand.Mention y) r x a b e = cc
+used_by G form.Unseen (operand.Mention y) r x a b e = cc
+used_by G (form.Kind k) (operand.Mention y) r x a b e = cc
+used_by G form.Other (operand.Mention y) r x a b e = cc
 used_by G f (operand.Number l h w) r x a b e = cc
 used_by G f (operand.Text t) r x a b e = cc
 used_by G f (operand.Value k y) r x a b e = cc
 used_by G f (operand.Mask k y) r x a b e = cc
 
-pub use_operand : (G : Table) (i : PlainInst) (k x : ℕ) (r : Role) (o : Plain) → IsUse G i k x r → slice_get i.operands k ≡ Some o → used_id o ≡ Some x
+pub use_operand : (G : Table) (i : PlainInst) (k x : ℕ) (r : Role) (o : Plain) → IsUse G i k x r → slice_get i.operands k ≡ Some o → asked_id o ≡ Some x
 use_operand G i k x r o u at =
     let same : u.operand ≡ o = let e : Some u.operand ≡ Some o = sym u.operand_at ∙ at in cc in
     let a = form_at G u.forms i.operands k u.form u.operand u.has.each u.form_at u.operand_at in
-    subst (λ p. used_id p ≡ Some x) same (used_by G u.form u.operand r x a u.role u.id)
+    subst (λ p. asked_id p ≡ Some x) same (used_by G u.form u.operand r x a u.role u.id)
 
 -- What is asked of one operand.
 
-pub no_operand : (G : Table) (is : List PlainInst) (i : PlainInst) (k : ℕ) (o : Plain) → slice_get i.operands k ≡ Some o → used_id o ≡ None → IsInRole G is i k
+pub no_operand : (G : Table) (is : List PlainInst) (i : PlainInst) (k : ℕ) (o : Plain) → slice_get i.operands k ≡ Some o → asked_id o ≡ None → IsInRole G is i k
 no_operand G is i k o at e = λ x r u. let f = use_operand G i k x r o u at in let wrong : None ≡ Some x = sym e ∙ f in cc
 
 pub no_use : (G : Table) (is : List PlainInst) (i : PlainInst) (k : ℕ) → IsRole G i k None → IsInRole G is i k
 no_use G is i k never = λ x r u. absurd (never x r u)
 
-pub one_role : (G : Table) (is : List PlainInst) (i : PlainInst) (k id : ℕ) (role : Role) (o : Plain) (b : Bool) → slice_get i.operands k ≡ Some o → used_id o ≡ Some id
+pub one_role : (G : Table) (is : List PlainInst) (i : PlainInst) (k id : ℕ) (role : Role) (o : Plain) (b : Bool) → slice_get i.operands k ≡ Some o → asked_id o ≡ Some id
     → IsRole G i k (Some role) → (IsTrue b ↔ Plays is role id) → MatchBool b (IsInRole G is i k) (IsMiscast G is i k)
 one_role G is i k id role o true at e u p = λ x r v.
     let s = use_same G i k x id r role v (the_use G i k id role o at e u) in
     rw (s.id, s.role) (p.0 refl)
   where
-    the_use : (G : Table) (i : PlainInst) (k id : ℕ) (role : Role) (o : Plain) → slice_get i.operands k ≡ Some o → used_id o ≡ Some id → IsRole G i k (Some role) → IsUse G i k id role
+    the_use : (G : Table) (i : PlainInst) (k id : ℕ) (role : Role) (o : Plain) → slice_get i.operands k ≡ Some o → asked_id o ≡ Some id → IsRole G i k (Some role) → IsUse G i k id role
     the_use G i k id role o at e u =
         let f = use_operand G i k u.0 role o u.1 at in
         let same : u.0 ≡ id = let g : Some u.0 ≡ Some id = sym f ∙ e in cc in
@@ -154,7 +163,7 @@ operand_at os k o e = slice_get-map plain_operand os k ∙ ap (option_map plain_
 none_used : (G : Table) (is : List PlainInst) (i : PlainInst) → AreInRoleBefore G is i 0
 none_used G is i = record { each = λ k l. absurd (omega arith) }
 
-one_unused : (G : Table) (is : List PlainInst) (i : PlainInst) (o : Plain) → i.operands ≡ o ∷ [] → used_id o ≡ None → AreInRoleBefore G is i 1
+one_unused : (G : Table) (is : List PlainInst) (i : PlainInst) (o : Plain) → i.operands ≡ o ∷ [] → asked_id o ≡ None → AreInRoleBefore G is i 1
 one_unused G is i o e u = record { each = λ k l. let z : k ≡ 0 = omega arith in rw z (no_operand G is i 0 o (rw e refl) u) }
 
 plain_nothing : (G : Table) (is : List PlainInst) (i : PlainInst) (ps : List Plain) → i.operands ≡ ps → uses_nothing ps ≡ true → AreInRoleBefore G is i (length ps)

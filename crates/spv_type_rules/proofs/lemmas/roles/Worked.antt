@@ -1,8 +1,8 @@
 -- The worked examples of Y1.
-use Rattle.std.proofs.Common.{◌≡◌, ◌+◌, ℕ, zero, suc, List, [], ◌∷◌, Some, None, true, refl, subst, arith, lit≤}
+use Rattle.std.proofs.Common.{◌≡◌, ◌∙◌, ◌+◌, ℕ, zero, suc, List, [], ◌∷◌, Some, None, true, false, refl, sym, subst, arith, lit≤}
 use Rattle.std.specs.Prelude.{slice_get}
 use Rattle.spv_table.specs.Table.{Table}
-use Rattle.spv_module.specs.Operand.{OfType, Result, PlainInst}
+use Rattle.spv_module.specs.Operand.{Plain, OfType, Result, Id, Word, Argument, Mention, PlainInst}
 use Rattle.spv_module.specs.declared.fault.Rule.{Rule}
 use Rattle.spv_module.specs.declared.fault.Rule.TheVariants.{Y1}
 use Rattle.spv_module.specs.declared.opcode.TheConstants as opcode
@@ -10,16 +10,16 @@ use Rattle.spv_layout.specs.declared.class.Class.TheVariants as class
 use Rattle.spv_layout.specs.declared.form.Form.TheVariants as form
 use Rattle.spv_layout.specs.declared.form.Role.{Role}
 use Rattle.spv_layout.specs.declared.form.Role.TheVariants as role
-use Rattle.spv_layout.specs.Row.{closed}
+use Rattle.spv_layout.specs.Row.{closed, repeated}
 use Rattle.spv_layout.specs.inner.Row.{row}
 use Rattle.spv_layout.specs.Rows.{rows}
-use Rattle.spv_layout.specs.Shape.{HasForms, IsUse, AreOf, Ends}
+use Rattle.spv_layout.specs.Shape.{is_of, HasForms, IsUse, AreOf, Ends}
 use Rattle.spv_ids.specs.Definition.{IsUsedAt}
 use Rattle.spv_type_forms.specs.Example.{inst}
 use Rattle.spv_type_rules.specs.declared.roles.asked.Asked.{Asked}
 use Rattle.spv_type_rules.specs.roles.inner.Asked.{asked_of, ArePlayed}
 use Rattle.spv_type_rules.specs.roles.Broken.{Broken}
-use Rattle.spv_type_rules.specs.roles.Example.{few, stray, typed}
+use Rattle.spv_type_rules.specs.roles.Example.{few, stray, typed, extended, with_extended}
 use Rattle.spv_type_rules.specs.roles.inner.Known.{IsMiscast}
 use Rattle.spv_type_rules.specs.roles.Outcome.{AreInRole, IsRefusal}
 use Rattle.spv_type_rules.specs.roles.Role.{Plays}
@@ -95,3 +95,64 @@ stray_refused G = record {
 
 pub no_other_word : (G : Table) → ¬ (IsRefusal G stray (record { rule = Y1; inst = 0; word = 6 }))
 no_other_word G f = let e : 6 ≡ 5 = f.word in absurd (omega (arith, e))
+
+-- An OpExtInst, by its operand behind the number.
+
+extended_forms : (G : Table) (o : Plain) → is_of G form.Unseen o ≡ true → HasForms G (extended o) (form.OfType ∷ form.Result ∷ form.Id role.Set ∷ form.Word ∷ form.Unseen ∷ [])
+unfolding rows
+extended_forms G o h = record {
+  row = row opcode.EXT_INST opcode.EXT_INST class.Body (form.OfType ∷ form.Result ∷ form.Id role.Set ∷ form.Word ∷ []) (repeated (form.Unseen ∷ []));
+  rest = form.Unseen ∷ [];
+  known = refl;
+  forms = refl;
+  ending = Ends.again (form.Unseen ∷ []) [] (Ends.done (form.Unseen ∷ []));
+  each = AreOf.more _ _ _ _ refl (AreOf.more _ _ _ _ refl (AreOf.more _ _ _ _ refl (AreOf.more _ _ _ _ refl (AreOf.more _ _ _ _ h AreOf.none))));
+}
+
+argument_use : (G : Table) → IsUse G (extended (Argument 1)) 4 1 role.Value
+argument_use G = record {
+  forms = _;
+  has = extended_forms G (Argument 1) refl;
+  form = form.Unseen;
+  operand = Argument 1;
+  form_at = refl;
+  operand_at = refl;
+  role = refl;
+  id = refl;
+}
+
+argument_used : (G : Table) → IsUsedAt G (with_extended (Argument 1)) 5 4 1 role.Value
+argument_used G = record { inst = extended (Argument 1); there = refl; used = argument_use G }
+
+no_value : ¬ (Plays (with_extended (Argument 1)) role.Value 1)
+no_value p = let no : false ≡ true = p.0 in cc
+
+pub argument_broken : (G : Table) → Broken G (with_extended (Argument 1)) Y1 5
+argument_broken G = Broken.miscast 5 4 1 role.Value (argument_used G) no_value
+
+-- a set is asked for, and nothing of other ids
+abbrev set_alone : Asked
+set_alone = record { first = role.Set; others = role.Any; masked = role.Any }
+
+abbrev AreExtended : Plain → Type 0
+AreExtended o = ArePlayed (with_extended o) role.Set role.Any role.Any (OfType 1 ∷ Result 6 ∷ Id 5 ∷ Word 0 ∷ o ∷ [])
+
+extended_at : (G : Table) (o : Plain) (r : Rule) (n : ℕ) → AreExtended o → n ≡ 5 → Broken G (with_extended o) r n → ⊥
+extended_at G o _ _ p e (Broken.miscast n k x q u never) =
+    let there : slice_get (with_extended o) 5 ≡ Some u.inst = subst (λ (m : ℕ). slice_get (with_extended o) m ≡ Some u.inst) e u.there in
+    let last : slice_get (with_extended o) 5 ≡ Some (extended o) = refl in
+    let both : Some u.inst ≡ Some (extended o) = sym there ∙ last in
+    let same : u.inst ≡ extended o = cc in
+    never (played G (with_extended o) (extended o) set_alone refl p k x q (subst (λ (i : PlainInst). IsUse G i k x q) same u.used))
+
+extended_unbroken : (G : Table) (o : Plain) → AreExtended o → ¬ (Broken G (with_extended o) Y1 5)
+extended_unbroken G o p b = extended_at G o Y1 5 p refl b
+
+pub argument_unbroken : (G : Table) → ¬ (Broken G (with_extended (Argument 2)) Y1 5)
+argument_unbroken G = extended_unbroken G (Argument 2) ((lit≤ tt, lit≤ tt), (tt, (refl, (tt, ((refl, λ (e : opcode.UNDEF ≡ opcode.FUNCTION). let no : 1 ≡ 54 = e in omega (arith, no)), tt)))))
+
+pub unseen_unbroken : (G : Table) → ¬ (Broken G (with_extended (Id 1)) Y1 5)
+unseen_unbroken G = extended_unbroken G (Id 1) ((lit≤ tt, lit≤ tt), (tt, (refl, (tt, (tt, tt)))))
+
+pub mention_unbroken : (G : Table) → ¬ (Broken G (with_extended (Mention 1)) Y1 5)
+mention_unbroken G = extended_unbroken G (Mention 1) ((lit≤ tt, lit≤ tt), (tt, (refl, (tt, (tt, tt)))))

@@ -1,7 +1,7 @@
 -- The roles that an opcode asks for, and what they say of operands. (For the code alone.)
 use Rattle.std.specs.Prelude.{◌⊎◌, ℕ, List, [], ◌∷◌, Bool, Option, Some, None, nat_eq, nat_le, ◌&&◌}
 use Rattle.std.specs.Prelude.{◌||◌, if◌then◌else◌}
-use Rattle.spv_module.specs.Operand.{Plain, OfType, Id, Mask, PlainInst}
+use Rattle.spv_module.specs.Operand.{Plain, OfType, Id, Mask, Argument, PlainInst}
 use Rattle.spv_module.specs.declared.opcode.TheConstants as opcode
 use Rattle.spv_layout.specs.declared.form.Role.{Role}
 use Rattle.spv_layout.specs.declared.form.Role.TheVariants as role
@@ -49,10 +49,11 @@ asked_of n =
     else (if nat_le n opcode.VARIABLE then early n
     else late n)
 
--- what is asked of an operand: of a type, and of an id that is due to play role d
+-- what is asked of an operand: of a type, of an id that is due to play role d, and of an argument
 abbrev pub IsPlayed : List PlainInst → Role → Plain → Type 0
 IsPlayed is d (OfType x) = Plays is role.OfType x
 IsPlayed is d (Id x) = Plays is d x
+IsPlayed is d (Argument x) = Plays is role.Value x
 IsPlayed is d o = Unit {0}
 
 -- the role that is due after an operand, and the one that is due then

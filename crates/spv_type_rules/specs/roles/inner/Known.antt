@@ -1,11 +1,18 @@
 -- What is known of the uses of an instruction. (For the code alone.)
-use Rattle.std.specs.Prelude.{◌<◌, ℕ, List, [], ◌∷◌, Bool, true, false}
+use Rattle.std.specs.Prelude.{◌<◌, ℕ, List, [], ◌∷◌, Bool, true, false, Option, Some, None}
 use Rattle.spv_table.specs.Table.{Table}
-use Rattle.spv_module.specs.Operand.{Plain, Result, PlainInst}
+use Rattle.spv_module.specs.Operand.{Plain, OfType, Result, Id, Argument, PlainInst}
 use Rattle.spv_layout.specs.declared.form.Role.{Role}
 use Rattle.spv_layout.specs.Shape.{IsUse}
 use Rattle.spv_ids.specs.Definition.{IsUsedAt}
 use Rattle.spv_type_rules.specs.roles.Role.{Plays}
+
+-- the id that an operand uses: not a result, and none that is named alone
+abbrev pub asked_id : Plain → Option ℕ
+asked_id (OfType x) = Some x
+asked_id (Id x) = Some x
+asked_id (Argument x) = Some x
+asked_id o = None
 
 -- operand k of the instruction is no use, or a use in its role
 abbrev pub IsInRole : Table → List PlainInst → PlainInst → ℕ → Type 0

@@ -4,6 +4,7 @@ use Rattle.spv_layout.proofs.Places.{block_same}
 use Rattle.spv_flow.specs.branches.Broken.{Broken}
 use Rattle.spv_flow.specs.branches.Example.{paired}
 use Rattle.spv_flow.proofs.lemmas.branches.Worked.{leads, branch_at, first_block, has_parents, no_parents, missed, not_missing, local_7, not_local}
+use Rattle.spv_flow.proofs.lemmas.branches.Extended.{argument_missed, mention_not_missed, id_not_missed}
 use Rattle.spv_flow.proofs.branches.laws.ready_examples.Goals as goal
 
 pub returns : goal.returns
@@ -14,6 +15,9 @@ returns c = record {
   no_parents = Broken.parents 4 refl no_parents;
   missing = Broken.missing 2 missed;
   not_missing = not_missing;
+  argument = Broken.missing 2 argument_missed;
+  mention = mention_not_missed;
+  unseen = id_not_missed;
   local = local_7;
   not_local = not_local;
 }

@@ -19,7 +19,7 @@ use_query-requires-clause-id c =
     let code = c.args.code.now in
     let i : PlainInst = plain_inst (get_or code.insts.now c.args.at c.index-code-at.result) in
     let there : slice_get (insts_of code) c.args.at ≡ Some i = inst_get code.insts.now c.args.at c.index-code-at.result c.requires.at in
-    (i, there, sym c.in-Some.is ∙ c.other_id.ensures)
+    (i, there, sym c.in-Some.is ∙ c.use_id.ensures)
 
 pub returns-then-inst-le-BRANCH : goal.returns-then-inst-le-BRANCH
 returns-then-inst-le-BRANCH c =
@@ -67,6 +67,6 @@ returns-in_default c =
     let h = within_by i.opcode (op_tells (insts_of code) c.args.at i (λ n. nat_le opcode.LABEL n && nat_le n opcode.SWITCH) there c.requires.op) in
     let P : Table → Query → Type 0 = λ G a. IsUseQuery G (insts_of code) starts c.args.block c.args.at 0 a in
     let Q : Table → Query → Type 0 = λ G a. HasUseQuery G (insts_of code) starts c.args.block c.args.at a in
-    let unused = sym c.in_default.is ∙ c.other_id.ensures in
+    let unused = sym c.in_default.is ∙ c.use_id.ensures in
     let none = adds_none code P old (λ G is. no_use G code starts c.args.block c.args.at 0 (none_found G (insts_of code) c.args.at 0 i there unused)) in
     adds_as code P Q old old none (λ G is a u. (0, u)) (λ G is a k. at_first G code starts c.args.block c.args.at i a is there h k)

@@ -22,7 +22,7 @@ use_query-requires-clause-id c =
     let inst : Inst = get_or code.insts.now c.args.at c.index-code-at.result in
     let there = inst_get code.insts.now c.args.at c.index-code-at.result c.requires.at in
     let e = id_in inst.operands c.as_slice-operands.result.now c.loop-n.n c.as_slice-operands.ensures.value in
-    (plain_inst inst, there, sym c.in-Some.is ∙ c.other_id_in.ensures ∙ e)
+    (plain_inst inst, there, sym c.in-Some.is ∙ c.use_id_in.ensures ∙ e)
 
 pub loop-n-preserved : goal.loop-n-preserved
 loop-n-preserved c =
@@ -35,7 +35,7 @@ loop-n-preserved c =
     let there = inst_get code.insts.now c.args.at c.index-code-at.result c.requires.at in
     let e = id_in inst.operands c.as_slice-operands.result.now n c.as_slice-operands.ensures.value in
     let P : Table → ℕ → Query → Type 0 = λ G j a. IsUseQuery G (insts_of code) starts c.args.block c.args.at j a in
-    elim c.match-other_id_in.branch [
+    elim c.match-use_id_in.branch [
       | in-Some+in-Some-use_query+in_ok-push w ↦ (
           let query = w.in-Some-use_query.query in
           let one = adds_one code (λ G a. P G n a) now query (λ G is. w.in-Some-use_query.ensures G is) (λ G is a p. one_use G code starts c.args.block c.args.at c.loop-n.n query a is (w.in-Some-use_query.ensures G is) p) in
@@ -47,7 +47,7 @@ loop-n-preserved c =
           let all = adds_step code P n old now now c.loop-n.invariant none in
           subst (λ (v : Vec Query Global). AddsBy code (UpTo (n + 1) P) old v.items) (sym w.queries-is) all)
       | in_default w ↦ (
-          let unused = sym w.in_default.is ∙ c.other_id_in.ensures ∙ e in
+          let unused = sym w.in_default.is ∙ c.use_id_in.ensures ∙ e in
           let none = adds_none code (λ G a. P G n a) now (λ G is. no_use G code starts c.args.block c.args.at n (none_found G (insts_of code) c.args.at n (plain_inst inst) there unused)) in
           let all = adds_step code P n old now now c.loop-n.invariant none in
           subst (λ (v : Vec Query Global). AddsBy code (UpTo (n + 1) P) old v.items) (sym w.queries-is) all)

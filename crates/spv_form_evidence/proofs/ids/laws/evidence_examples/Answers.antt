@@ -6,10 +6,12 @@ pub returns : goal.returns
 returns c = record {
   out_of_range = worked.out_of_range;
   in_range = worked.in_range;
+  mention_out_of_range = worked.mention_out_of_range;
   again = worked.again;
   not_earlier = worked.not_earlier;
   undefined = worked.undefined;
   no_use = worked.no_use;
+  mention_undefined = worked.mention_undefined;
   early = worked.early;
   no_definition = worked.no_definition;
   outside = scope.outside;

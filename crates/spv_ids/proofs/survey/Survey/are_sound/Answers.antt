@@ -18,11 +18,11 @@ loop-operand-preserved c =
     let k = c.loop-operand.operand-index in
     let a = c.requires.operands in
     let t = slice_get-get_or os k (code.OfType 0) c.loop-operand-test.true in
-    elim c.match-used_id.branch [
+    elim c.match-seen_id.branch [
       | in-Some+else-not-is_use_sound w ↦
-          let u = sym c.used_id.ensures ∙ w.in-Some.is in
+          let u = sym c.seen_id.ensures ∙ w.in-Some.is in
           least_sound b is n k w.in-Some.id os _ None a t u (w.is_use_sound.ensures w.if-not-is_use_sound.false) c.loop-operand.invariant
-      | in_default w ↦ least_no_use b is n k os _ None a t (sym c.used_id.ensures ∙ w.in_default.is) c.loop-operand.invariant
+      | in_default w ↦ least_no_use b is n k os _ None a t (sym c.seen_id.ensures ∙ w.in_default.is) c.loop-operand.invariant
     ]
 
 pub returns : goal.returns

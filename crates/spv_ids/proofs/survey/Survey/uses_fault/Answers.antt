@@ -18,16 +18,16 @@ loop-operand-preserved c =
     let k = c.loop-operand.operand-index in
     let a = c.requires.operands in
     let t = slice_get-get_or os k (code.OfType 0) c.loop-operand-test.true in
-    elim c.match-used_id.branch [
+    elim c.match-seen_id.branch [
       | in-Some+in-Some-use_fault w ↦
-          let u = sym c.used_id.ensures ∙ w.in-Some.is in
+          let u = sym c.seen_id.ensures ∙ w.in-Some.is in
           let f = w.in-Some-use_fault.ensures in
           let e = w.earlier.ensures (least_stage b is n w.in-Some.id w.in-Some-use_fault.rule f) (one_stages b is n k c.loop-operand.least c.loop-operand.invariant) in
           rw w.least-is (least_earlier b is n k w.in-Some.id os _ c.loop-operand.least w.in-Some-use_fault.rule w.earlier.result a t u f e c.loop-operand.invariant)
       | in-Some+in_default-use_fault w ↦
-          let u = sym c.used_id.ensures ∙ w.in-Some.is in
+          let u = sym c.seen_id.ensures ∙ w.in-Some.is in
           rw w.least-is (least_sound b is n k w.in-Some.id os _ c.loop-operand.least a t u w.in_default-use_fault.ensures c.loop-operand.invariant)
-      | in_default w ↦ rw w.least-is (least_no_use b is n k os _ c.loop-operand.least a t (sym c.used_id.ensures ∙ w.in_default.is) c.loop-operand.invariant)
+      | in_default w ↦ rw w.least-is (least_no_use b is n k os _ c.loop-operand.least a t (sym c.seen_id.ensures ∙ w.in_default.is) c.loop-operand.invariant)
     ]
 
 pub returns : goal.returns
