@@ -1,6 +1,6 @@
-//! What shows that a rule is broken: the evidence that is handed out with a fault; and what is told beside a condition on
-//! types that fails: the instruction that defines the id of an operand, the types that are read, and where indexes lead
-//! from the type of a value.
+//! What shows that a rule is broken: the evidence that is handed out with a fault; and what is told beside a condition
+//! on types that fails: the instruction that defines the id of an operand, the types that are read, and where indexes
+//! lead from the type of a value.
 #![tactic(auto)]
 
 mod chain;
