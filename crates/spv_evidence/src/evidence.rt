@@ -162,4 +162,13 @@ pub enum Evidence {
         calls: Listed<u32>,
         cycle: Listed<u32>,
     },
+    /// Y9: the number of the extended instruction, how many operands stand behind it, and how many its set's
+    /// instruction takes at least and at most: no least number where the set has no instruction of that number, and
+    /// no most where it takes any.
+    Miscalled {
+        number: u32,
+        operands: u32,
+        least: Option<u32>,
+        most: Option<u32>,
+    },
 }

@@ -12,4 +12,4 @@ mod survey;
 mod uses;
 
 pub use ids::{Ids, number};
-pub use uses::{argument_id, mention_id, named_id, used_id};
+pub use uses::{argument_id, mention_id, named_id, seen_id, used_id};

@@ -36,3 +36,7 @@ of_values = 7
 -- cycles of calls: G
 abbrev pub of_calls : ℕ
 of_calls = 8
+
+-- what extended instructions take: Y9
+abbrev pub of_extended : ℕ
+of_extended = 9

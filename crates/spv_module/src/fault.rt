@@ -87,6 +87,9 @@ pub enum Rule {
     A2,
     /// A call on a cycle of calls that an entry point reaches.
     G1,
+    /// An extended instruction that its set does not have, or with fewer or more operands than it takes. It is asked
+    /// only where a module is looked at with its extended instructions.
+    Y9,
 }
 
 /// The first broken rule of a module, and where.

@@ -438,6 +438,14 @@ pub static TYPE_ROWS: &[Row] = &[
         "OpFunctionCall in a definition f of a definition g: a chain of calls leads from the function of an \
         OpEntryPoint to f, and one leads from g back to f (own)"
     ),
+    rule!(
+        Y9,
+        509,
+        "An extended instruction is one of its set, with as many operands as that takes.",
+        "3.49.4",
+        "OpExtInst of a set that OpExtInstImport names OpenCL.std: the set has no instruction of its number, or one that \
+        takes fewer or more operands; asked only where extended instructions are looked at (own)"
+    ),
 ];
 
 /// The rows of the codes on words.

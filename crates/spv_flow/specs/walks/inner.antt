@@ -3,7 +3,6 @@ pub mod Adds
 pub mod Code
 pub mod Divided
 pub mod Due
-pub mod Ids
 pub mod Leading
 pub mod Unavailable
 pub mod Starts

@@ -4,37 +4,23 @@ ghost use Rattle.std.specs.Prelude.{◌≡◌, ℕ, MatchOption, map, slice_get,
 ghost use Rattle.spv_table.specs.Table.{Table};
 ghost use Rattle.spv_module.specs.Module.{plain_inst, plain_operand};
 ghost use Rattle.spv_layout.specs.Shape.{FitsShape, IsUse};
-ghost use Rattle.spv_flow.specs.walks.inner.Ids as ids;
+ghost use Rattle.spv_ids.specs.inner.Uses as ids;
 ghost use Rattle.spv_layout.specs.declared.form.Role as declared;
 ghost use Rattle.spv_layout.specs.declared.form.Role.TheVariants as role;
 
 use crate::branches;
+use spv_ids::seen_id;
 use spv_layout::{Role, id_at, role};
 use spv_module::opcode::EXT_INST;
 use spv_module::{Inst, Operand};
 
-/// The id that an operand is, if it is one and no result. What an extended instruction only names is no use, and taken
-/// along, since the test takes fewer instructions so.
-#[inline(always)]
-fn id_used(operand: Operand<'_>) -> Option<u32>
-    ensures { result ≡ ids.use_id (plain_operand operand.entry) }
-{
-    match operand {
-        Operand::OfType(id) => Some(id),
-        Operand::Id(id) => Some(id),
-        Operand::Argument(id) => Some(id),
-        Operand::Mention(id) => Some(id),
-        _ => None,
-    }
-}
-
 /// The id that operand `n` of a list is, if it is one and no result: only such operands are uses.
 #[inline(always)]
 pub fn use_id_in(operands: &[Operand<'_>], n: usize) -> Option<u32>
-    ensures { result ≡ option_and_then ids.use_id (slice_get (map plain_operand operands.now) n) }
+    ensures { result ≡ option_and_then ids.seen_id (slice_get (map plain_operand operands.now) n) }
 {
     if n < operands.len() {
-        id_used(operands[n])
+        seen_id(operands[n])
     } else {
         None
     }
@@ -42,7 +28,7 @@ pub fn use_id_in(operands: &[Operand<'_>], n: usize) -> Option<u32>
 
 /// The id that operand `n` of an instruction is, if it is one and no result.
 pub fn use_id(inst: &Inst<'_>, n: usize) -> Option<u32>
-    ensures { result ≡ option_and_then ids.use_id (slice_get (plain_inst inst.now).operands n) }
+    ensures { result ≡ option_and_then ids.seen_id (slice_get (plain_inst inst.now).operands n) }
 {
     use_id_in(inst.operands.as_slice(), n)
 }

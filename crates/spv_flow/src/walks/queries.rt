@@ -12,7 +12,7 @@ ghost use Rattle.spv_flow.specs.branches.Ready.{IsLocalValue};
 ghost use Rattle.spv_flow.specs.branches.Target.{IsOp};
 ghost use Rattle.spv_flow.specs.walks.inner.Code.{insts_of, IsCode};
 ghost use Rattle.spv_flow.specs.walks.inner.Divided.{IsIn};
-ghost use Rattle.spv_flow.specs.walks.inner.Ids as ids;
+ghost use Rattle.spv_ids.specs.inner.Uses as ids;
 ghost use Rattle.spv_flow.specs.walks.inner.Adds.{AddsBy};
 ghost use Rattle.spv_flow.specs.walks.inner.Leading.{AreBlocks};
 ghost use Rattle.spv_flow.specs.walks.inner.Due.{IsFoundAt, IsPairedAt, IsUseQuery, IsPairQuery, HasUseQuery, HasPairQuery};
@@ -66,7 +66,7 @@ pub fn use_query(
     requires block { block + 1 < length blocks.now.starts.now }
     requires at { at < length code.now.insts.now }
     requires id { (i : PlainInst) × (slice_get (insts_of code.now) at ≡ Some i)
-        × (Some id ≡ option_and_then ids.use_id (slice_get i.operands n)) }
+        × (Some id ≡ option_and_then ids.seen_id (slice_get i.operands n)) }
     ensures { (G : Table) → IsCode G code.now
         → MatchOption result
         ((a : declared.Query) → ¬ (IsUseQuery G (insts_of code.now) blocks.now.starts.now block at n a))
