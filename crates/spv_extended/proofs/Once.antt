@@ -1,8 +1,10 @@
 -- What opening keeps, and that it is done once.
-use Rattle.std.proofs.Common.{◌≡◌, ℕ, suc, Bool, true, false, List, [], ◌∷◌, None, map, length, nat_eq, if◌then◌else◌, refl, sym, ap, ◌∙◌, arith}
+use Rattle.std.proofs.Common.{◌≡◌, ◌+◌, ℕ, suc, Bool, true, false, List, [], ◌∷◌, None, map, length, nat_eq, if◌then◌else◌, refl, sym, ap, ◌∙◌, arith}
+use Rattle.std.specs.Prelude.{sum_by}
 use Rattle.std.proofs.lemmas.Bool.Decides.{nat_tests}
+use Rattle.std.proofs.lemmas.List.Sums.{sum_by-cons}
 use Rattle.std.proofs.Math.Path.{fun_ext}
-use Rattle.spv_module.specs.Operand.{Plain, OfType, Result, Id, Word, PlainInst}
+use Rattle.spv_module.specs.Operand.{Plain, OfType, Result, Id, Word, Argument, Mention, PlainInst}
 use Rattle.spv_module.specs.declared.opcode.TheConstants.{EXT_INST, EXT_INST_IMPORT}
 use Rattle.spv_extended.specs.declared.set.Set.{Set}
 use Rattle.spv_extended.specs.declared.set.Set.TheVariants.{OpenClStd, OpenClDebugInfo, DebugInfo, Other}
@@ -32,6 +34,49 @@ same_length sets i = by (nat_eq i.opcode EXT_INST)
   where
     by : (b : Bool) → length (if b then record { opcode = i.opcode; operands = opened_operands sets i.operands } else i).operands ≡ length i.operands
     by true = same_count sets i.operands
+    by false = refl
+
+-- a sum over operands where ids that are looked at count as other ids do
+sum_from : (measure : Plain → ℕ) → ((x : ℕ) → measure (Argument x) ≡ measure (Id x)) → ((x : ℕ) → measure (Mention x) ≡ measure (Id x))
+    → (set : Set) (s : Signature) (place : ℕ) (os : List Plain) → sum_by measure (opened_from set s place os) ≡ sum_by measure os
+sum_from measure a m set s place [] = refl
+sum_from measure a m set s place (o ∷ os) =
+    sum_by-cons measure (if is_literal s place then o else opened_operand set o) (opened_from set s (suc place) os)
+    ∙ ap (λ n. n + sum_by measure (opened_from set s (suc place) os)) (told (is_literal s place)) ∙ ap (λ n. measure o + n) (sum_from measure a m set s (suc place) os)
+    ∙ sym (sum_by-cons measure o os)
+  where
+    of_id : (set : Set) (x : ℕ) → measure (opened_id set x) ≡ measure (Id x)
+    of_id OpenClStd x = a x
+    of_id OpenClDebugInfo x = m x
+    of_id DebugInfo x = m x
+    of_id Other x = m x
+
+    one : (p : Plain) → measure (opened_operand set p) ≡ measure p
+    one (Id x) = of_id set x
+    one p = refl
+
+    told : (b : Bool) → measure (if b then o else opened_operand set o) ≡ measure o
+    told true = refl
+    told false = one o
+
+sum_operands : (measure : Plain → ℕ) → ((x : ℕ) → measure (Argument x) ≡ measure (Id x)) → ((x : ℕ) → measure (Mention x) ≡ measure (Id x))
+    → (sets : ℕ → Set) (os : List Plain) → sum_by measure (opened_operands sets os) ≡ sum_by measure os
+sum_operands measure a m sets (OfType t ∷ Result x ∷ Id set ∷ Word number ∷ os) =
+    let ps = opened_from (sets set) (signature_of (sets set) number) 0 os in
+    let e = sum_from measure a m (sets set) (signature_of (sets set) number) 0 os in
+    more (OfType t) (Result x ∷ Id set ∷ Word number ∷ ps) (Result x ∷ Id set ∷ Word number ∷ os)
+    (more (Result x) (Id set ∷ Word number ∷ ps) (Id set ∷ Word number ∷ os) (more (Id set) (Word number ∷ ps) (Word number ∷ os) (more (Word number) ps os e)))
+  where
+    more : (o : Plain) (ps qs : List Plain) → sum_by measure ps ≡ sum_by measure qs → sum_by measure (o ∷ ps) ≡ sum_by measure (o ∷ qs)
+    more o ps qs e = sum_by-cons measure o ps ∙ ap (λ n. measure o + n) e ∙ sym (sum_by-cons measure o qs)
+sum_operands measure a m sets os = refl
+
+pub same_sum : (measure : Plain → ℕ) → ((x : ℕ) → measure (Argument x) ≡ measure (Id x)) → ((x : ℕ) → measure (Mention x) ≡ measure (Id x))
+    → (sets : ℕ → Set) (i : PlainInst) → sum_by measure (opened_inst sets i).operands ≡ sum_by measure i.operands
+same_sum measure a m sets i = by (nat_eq i.opcode EXT_INST)
+  where
+    by : (b : Bool) → sum_by measure (if b then record { opcode = i.opcode; operands = opened_operands sets i.operands } else i).operands ≡ sum_by measure i.operands
+    by true = sum_operands measure a m sets i.operands
     by false = refl
 
 pub same_all : (A : Type 0) (p : PlainInst → A) (f : PlainInst → PlainInst) → ((i : PlainInst) → p (f i) ≡ p i) → (is : List PlainInst) → map p (map f is) ≡ map p is

@@ -2,5 +2,8 @@ pub mod Facts
 pub mod Sets
 pub mod Opened
 pub mod Miscalled
+pub mod Reach
+pub mod Broken
+pub mod Call
 pub mod Example
 pub mod inner

@@ -1,12 +1,18 @@
 //! Laws of the definitions, and worked examples. Each function does nothing: its contract is what is proved.
 
-ghost use Rattle.std.specs.Prelude.{◌≡◌, ◌≢◌, ◌++◌, ◌∷◌, [], List, length, map, true, false};
-ghost use Rattle.spv_module.specs.Operand.{Id, Argument, Mention, PlainInst};
+ghost use Rattle.std.specs.Prelude.{◌≡◌, ◌≢◌, ◌++◌, ◌∷◌, [], ℕ, List, Some, None, length, map, sum_by, true, false};
+ghost use Rattle.spv_module.specs.Operand.{Plain, Id, Argument, Mention, PlainInst};
 ghost use Rattle.spv_extended.specs.declared.set.Set.TheVariants.{OpenClStd, OpenClDebugInfo, DebugInfo};
 ghost use Rattle.spv_extended.specs.declared.signature.More.TheVariants.{Nothing, Any, Unknown};
+ghost use Rattle.spv_extended.specs.declared.reach.Reach.TheVariants.{Profile, Extended};
+ghost use Rattle.spv_module.specs.declared.fault.Rule.{Rule};
+ghost use Rattle.spv_module.specs.declared.fault.Rule.TheVariants.{Y9};
+ghost use Rattle.spv_extended.specs.Broken.{Broken};
+ghost use Rattle.spv_extended.specs.Reach.{looked_at};
 ghost use Rattle.spv_extended.specs.Facts.{is_literal, signature_of, takes};
 ghost use Rattle.spv_extended.specs.Opened.{opened};
 ghost use Rattle.spv_extended.specs.Miscalled.{IsMiscalled};
+ghost use Rattle.spv_extended.specs.Call.{call_at};
 ghost use Rattle.spv_extended.specs.Example.{call, imports};
 
 /// What sets tell of their instructions.
@@ -24,13 +30,18 @@ pub fn signature_examples()
     ensures too_many { takes (signature_of DebugInfo 20) 12 ≡ false }
 {}
 
-/// Opening keeps how many instructions a module has, the opcode of each, and how many operands it has.
+/// Opening keeps how many instructions a module has, the opcode of each, and how many operands and words it has.
 pub fn opening_keeps()
     ensures count { (is : List PlainInst) → length (opened is) ≡ length is }
     ensures opcodes { (is : List PlainInst) → map (λ (i : PlainInst). i.opcode) (opened is)
         ≡ map (λ (i : PlainInst). i.opcode) is }
     ensures operands { (is : List PlainInst) → map (λ (i : PlainInst). length i.operands) (opened is)
         ≡ map (λ (i : PlainInst). length i.operands) is }
+    // And each sum over operands, where ids that are looked at count as other ids do.
+    ensures sums { (measure : Plain → ℕ) → ((x : ℕ) → measure (Argument x) ≡ measure (Id x))
+        → ((x : ℕ) → measure (Mention x) ≡ measure (Id x)) → (is : List PlainInst)
+        → map (λ (i : PlainInst). sum_by measure i.operands) (opened is)
+        ≡ map (λ (i : PlainInst). sum_by measure i.operands) is }
 {}
 
 /// Opening a module twice is opening it once.
@@ -63,4 +74,28 @@ pub fn miscalled_examples()
     ensures no_number { IsMiscalled (imports ++ call 1 111 (Id 7 ∷ []) ∷ []) 2 }
     // Of other sets nothing is asked.
     ensures vector { ¬ (IsMiscalled (imports ++ call 2 6 [] ∷ []) 2) }
+{}
+
+/// Y9 where extended instructions are looked at, and where they are not.
+pub fn broken_examples()
+    ensures fewer { Broken Extended (imports ++ call 1 171 (Id 7 ∷ Id 8 ∷ []) ∷ []) Y9 2 }
+    ensures not_looked_at { (r : Rule) → ¬ (Broken Profile (imports ++ call 1 171 (Id 7 ∷ Id 8 ∷ []) ∷ []) r 2) }
+    ensures load { (r : Rule) → ¬ (Broken Extended (imports ++ call 1 171 (Id 7 ∷ Id 8 ∷ Id 4 ∷ []) ∷ []) r 2) }
+{}
+
+/// A module as far as it is looked at.
+pub fn reach_examples()
+    ensures profile { looked_at Profile (call 1 171 (Id 7 ∷ []) ∷ []) ≡ call 1 171 (Id 7 ∷ []) ∷ [] }
+    ensures extended { looked_at Extended (call 1 171 (Id 7 ∷ []) ∷ []) ≡ call 1 171 (Mention 7 ∷ []) ∷ [] }
+    ensures not_looked_at { looked_at Profile (call 1 171 (Id 7 ∷ []) ∷ []) ≢ call 1 171 (Mention 7 ∷ []) ∷ [] }
+{}
+
+/// What OpExtInsts call.
+pub fn call_examples()
+    // The instruction of number 2 is the call.
+    ensures load { call_at (imports ++ call 1 171 (Id 7 ∷ Id 8 ∷ Id 4 ∷ []) ∷ []) 2
+        ≡ Some (record { set = OpenClStd; number = 171; operands = 3 }) }
+    ensures other_set { call_at (imports ++ call 2 171 (Id 7 ∷ Id 8 ∷ Id 4 ∷ []) ∷ []) 2
+        ≢ Some (record { set = OpenClStd; number = 171; operands = 3 }) }
+    ensures import { call_at (imports ++ call 1 171 (Id 7 ∷ Id 8 ∷ Id 4 ∷ []) ∷ []) 1 ≡ None }
 {}

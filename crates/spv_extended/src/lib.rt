@@ -2,14 +2,18 @@
 //! its number, and the pass that opens a module, so that the ids there are looked at.
 #![tactic(auto)]
 
+mod call;
 mod facts;
 pub mod laws;
 mod miscalled;
 mod opening;
+mod reach;
 mod set;
 mod signature;
 
+pub use call::{Call, call_at};
 pub use miscalled::first_miscalled;
 pub use opening::open;
+pub use reach::Reach;
 pub use set::Set;
 pub use signature::{More, Signature, signature_of};
