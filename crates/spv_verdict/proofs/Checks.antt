@@ -5,7 +5,8 @@ use Rattle.spv_words.specs.declared.words.Order.{Order}
 use Rattle.spv_table.specs.Table.{Table}
 use Rattle.spv_table.specs.declared.error.Memory.{Memory as OutOfMemory}
 use Rattle.spv_module.specs.Operand.{PlainInst}
-use Rattle.spv_module.specs.Instruction.{IsListing}
+use Rattle.spv_extended.specs.declared.reach.Reach.{Reach}
+use Rattle.spv_extended.specs.declared.reach.Reach.TheVariants.{Profile}
 use Rattle.spv_inst.specs.Outcome.{IsDecodeFault, IsHeaderOf}
 use Rattle.spv_module.specs.Module.{plain_insts}
 use Rattle.spv_module.specs.declared.fault.Stop.{Stop}
@@ -15,6 +16,7 @@ use Rattle.spv_verdict.specs.Answer.{IsAnswer, IsFault, SaysValid, StopsAs}
 use Rattle.spv_verdict.specs.Broken.{IsSound}
 use Rattle.spv_verdict.specs.Checked.{AreParts, IsChecked, IsKept, program_of}
 use Rattle.spv_verdict.specs.Program.{Program}
+use Rattle.spv_verdict.specs.Reading.{IsReading}
 use Rattle.spv_verdict.specs.Valid.{IsValid}
 use Rattle.spv_verdict.specs.declared.checked.Verdict.{Verdict}
 use Rattle.spv_verdict.specs.declared.checked.Verdict.TheVariants.{Valid, Fault}
@@ -66,12 +68,12 @@ parts_of G m places ids flow k a b f = record { bound = refl; insts = refl; kept
 pub before_of : (G : Table) (p : Program) → ((q : Rule) (m : ℕ) → ¬ (layout_rules.Broken G p.insts q m)) → IsKept G p → IsBefore G p.bound p.insts
 before_of G p u k = record { of_layout = u; of_ids = k.ids; of_roles = k.types.0; of_types = k.types.1 }
 
-pub sound_of : (G : Table) (p : Program) → ((q : Rule) (m : ℕ) → ¬ (layout_rules.Broken G p.insts q m)) → IsKept G p → IsSound G p.bound p.insts
+pub sound_of : (G : Table) (p : Program) → ((q : Rule) (m : ℕ) → ¬ (layout_rules.Broken G p.insts q m)) → IsKept G p → IsSound G Profile p.bound p.insts
 sound_of G p u k = sound G p.bound p.insts (before_of G p u k) k.branches k.values k.calls
 
-pub checked_of : (G : Table) (words : List ℕ) (m : Module) (p : Program) → p ≡ program_of m → IsListing G (plain_insts m) (drop 5 words) → IsHeaderOf words m.header
-    → IsSound G p.bound p.insts → IsChecked G words p
-checked_of G words m p e l h s = record { listing = rw e l; bound = rw e h.bound; sound = s }
+pub checked_of : (G : Table) (reach : Reach) (words : List ℕ) (m : Module) (p : Program) → p ≡ program_of m → IsReading G reach (plain_insts m) (drop 5 words) → IsHeaderOf words m.header
+    → IsSound G reach p.bound p.insts → IsChecked G reach words p
+checked_of G reach words m p e l h s = record { reading = rw e l; bound = rw e h.bound; sound = s }
 
 -- parts under one table are those under any that is kept
 pub parts_under : (G H : Table) (p : Program) (m : Module) (places : List Place) (ids : Ids) (flow : Flow) → IsKept G p → AreParts H p m places ids flow → AreParts G p m places ids flow
@@ -85,26 +87,26 @@ parts_under G H p m places ids flow k a = record {
 }
 
 -- a verdict on words is valid exactly where their bytes are
-pub exactly : Laws → (G : Table) (bytes words : List ℕ) (order : Order) (v : Verdict) → IsModule order bytes words → IsAnswer G words v → SaysValid v ↔ IsValid G bytes
-exactly laws G bytes words order (Valid c) h a = (λ t. valid_of G bytes words order c h a, λ v. tt)
-exactly laws G bytes words order (Fault f) h a = (λ t. absurd t, λ v. fault_invalid laws G bytes words order f h a v)
+pub exactly : Laws → (G : Table) (reach : Reach) (bytes words : List ℕ) (order : Order) (v : Verdict) → IsModule order bytes words → IsAnswer G reach words v → SaysValid v ↔ IsValid G reach bytes
+exactly laws G reach bytes words order (Valid c) h a = (λ t. valid_of G reach bytes words order c h a, λ v. tt)
+exactly laws G reach bytes words order (Fault f) h a = (λ t. absurd t, λ v. fault_invalid laws G reach bytes words order f h a v)
 
 -- what a stop of the layers comes to
-pub dead_answer : (G : Table) (words : List ℕ) (s : Stop) (r : Result Verdict OutOfMemory) → StopsAs s r → IsDecodeFault G words s → IfOk r (λ v. IsAnswer G words v)
-dead_answer G words Memory (Ok v) e d = absurd e
-dead_answer G words Memory r e d = tt
-dead_answer G words (Faulty f) r e d = rw e (IsFault.dead d.0 d.1)
+pub dead_answer : (G : Table) (reach : Reach) (words : List ℕ) (s : Stop) (r : Result Verdict OutOfMemory) → StopsAs s r → IsDecodeFault G words s → IfOk r (λ v. IsAnswer G reach words v)
+dead_answer G reach words Memory (Ok v) e d = absurd e
+dead_answer G reach words Memory r e d = tt
+dead_answer G reach words (Faulty f) r e d = rw e (IsFault.dead d.0 d.1)
 
 -- and so it is valid exactly where the bytes are
-pub exactly_ok : Laws → (G : Table) (bytes words : List ℕ) (order : Order) (r : Result Verdict OutOfMemory) → IsModule order bytes words → IfOk r (λ v. IsAnswer G words v)
-    → IfOk r (λ v. SaysValid v ↔ IsValid G bytes)
-exactly_ok laws G bytes words order (Ok v) h a = exactly laws G bytes words order v h a
-exactly_ok laws G bytes words order r h a = tt
+pub exactly_ok : Laws → (G : Table) (reach : Reach) (bytes words : List ℕ) (order : Order) (r : Result Verdict OutOfMemory) → IsModule order bytes words → IfOk r (λ v. IsAnswer G reach words v)
+    → IfOk r (λ v. SaysValid v ↔ IsValid G reach bytes)
+exactly_ok laws G reach bytes words order (Ok v) h a = exactly laws G reach bytes words order v h a
+exactly_ok laws G reach bytes words order r h a = tt
 
 -- the lines of what `check` answers
-pub valid_judged : (G : Table) (bytes words : List ℕ) (order : Order) (v : Verdict) (p : Program) → v ≡ Valid p → IsModule order bytes words → IsAnswer G words v → IsVerdict G bytes valid_line
-valid_judged G bytes words order v p e h a = valid_verdict G bytes words order p h (rw e at a)
+pub valid_judged : (G : Table) (reach : Reach) (bytes words : List ℕ) (order : Order) (v : Verdict) (p : Program) → v ≡ Valid p → IsModule order bytes words → IsAnswer G reach words v → IsVerdict G reach bytes valid_line
+valid_judged G reach bytes words order v p e h a = valid_verdict G reach bytes words order p h (rw e at a)
 
-pub fault_judged : (G : Table) (bytes words : List ℕ) (order : Order) (v : Verdict) (f : fault.Fault) → v ≡ Fault f → IsModule order bytes words → IsAnswer G words v
-    → IsVerdict G bytes (fault_line f.rule f.inst f.word)
-fault_judged G bytes words order v f e h a = fault_verdict G bytes words order f h (rw e at a)
+pub fault_judged : (G : Table) (reach : Reach) (bytes words : List ℕ) (order : Order) (v : Verdict) (f : fault.Fault) → v ≡ Fault f → IsModule order bytes words → IsAnswer G reach words v
+    → IsVerdict G reach bytes (fault_line f.rule f.inst f.word)
+fault_judged G reach bytes words order v f e h a = fault_verdict G reach bytes words order f h (rw e at a)

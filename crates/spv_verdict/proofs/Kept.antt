@@ -5,6 +5,7 @@ use Rattle.spv_table.specs.Table.{Table}
 use Rattle.spv_module.specs.Operand.{PlainInst}
 use Rattle.spv_module.specs.declared.fault.Rule.{Rule}
 use Rattle.spv_module.specs.declared.fault.Rule.TheVariants.{P1, Y1}
+use Rattle.spv_extended.specs.declared.reach.Reach.TheVariants.{Profile}
 use Rattle.spv_layout.specs.Broken as layout
 use Rattle.spv_layout.specs.DeadPlace.{IsDeadPlace}
 use Rattle.spv_layout.specs.Layout.{IsLayout, classes}
@@ -33,12 +34,12 @@ pub record LayoutLaw : Type 0 where
   pub one : (is : List PlainInst) → IsLayout (classes is) ⊎ ((a : Rule) × (k : ℕ) × IsDeadPlace is a k)
   pub not_both : (is : List PlainInst) (a : Rule) (k : ℕ) → IsLayout (classes is) → ¬ (IsDeadPlace is a k)
 
-fitting : (G : Table) (p : Program) → IsSound G p.bound p.insts → (n : ℕ) (i : PlainInst)
+fitting : (G : Table) (p : Program) → IsSound G Profile p.bound p.insts → (n : ℕ) (i : PlainInst)
     → slice_get p.insts n ≡ Some i → FitsShape G i
 fitting G p s n i at = held (fits_or_not G i) (λ no. s P1 n (Broken.of_layout P1 n (layout.misfit i n at no)))
 
 pub kept : LayoutLaw → (G : Table) (p : Program) → IsShort p.insts
-    → IsSound G p.bound p.insts → IsKept G p
+    → IsSound G Profile p.bound p.insts → IsKept G p
 kept law G p few s = record {
   few = few;
   fits = fitting G p s;
@@ -66,5 +67,5 @@ no_layout : LayoutLaw → (G : Table) (p : Program) → IsKept G p → (q : Rule
 no_layout law G p k _ _ (layout.misfit i n at unfit) = unfit (k.fits n i at)
 no_layout law G p k _ _ (layout.dead r n d) = law.not_both p.insts r n k.layout d
 
-pub sound : LayoutLaw → (G : Table) (p : Program) → IsKept G p → IsSound G p.bound p.insts
+pub sound : LayoutLaw → (G : Table) (p : Program) → IsKept G p → IsSound G Profile p.bound p.insts
 sound law G p k = sound_of G p (no_layout law G p k) k

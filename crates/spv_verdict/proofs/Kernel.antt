@@ -32,9 +32,11 @@ use Rattle.spv_verdict.specs.run.Trace.{ending_of}
 use Rattle.spv_verdict.specs.declared.run.parts.Trace.{Trace}
 use Rattle.spv_verdict.proofs.Running.Kernel.{fits, is_layout, ids_kept, capabilities_kept, types_kept, flow_kept, calls_kept, each_use, defined_3}
 use Rattle.spv_verdict.proofs.Running.KernelRun.{running, starts, entry_id, traced}
+use Rattle.spv_extended.specs.declared.reach.Reach.TheVariants.{Profile}
 use Rattle.spv_verdict.specs.Broken.{IsSound}
 use Rattle.spv_verdict.specs.Checked.{IsChecked, IsKept}
 use Rattle.spv_verdict.specs.Tracing.{IsRunOf, IsTraceOf}
+use Rattle.spv_verdict.specs.Reading.{IsReading}
 use Rattle.spv_verdict.specs.Valid.{IsValid}
 use Rattle.spv_verdict.specs.Example.{kernel_program, kernel_body, kernel_words, kernel_bytes}
 use Rattle.spv_verdict.proofs.Checks.{sound_of}
@@ -71,7 +73,7 @@ kept = record {
   calls = λ r n s b. calls_kept r n b;
 }
 
-pub sound : IsSound grammar 5 kernel
+pub sound : IsSound grammar Profile 5 kernel
 sound = sound_of grammar kernel_program layout_kept kept
 
 -- The words spell the list.
@@ -158,7 +160,7 @@ return_spelled before = spelled before return_op (entry (codes "OpReturn") []) [
 end_spelled : (before : List PlainInst) → IsInstruction grammar before end (65592 ∷ [])
 end_spelled before = spelled before end (entry (codes "OpFunctionEnd") []) [] (lit< tt) (lit< tt) refl (Matches.end _)
 
-listed : IsListing grammar kernel kernel_body
+pub listed : IsListing grammar kernel kernel_body
 listed =
     Listing.more _ (capability 4) _ (131089 ∷ 4 ∷ []) _ (addresses_spelled _) (
     Listing.more _ (capability 6) _ (131089 ∷ 6 ∷ []) _ (kernel_spelled _) (
@@ -191,11 +193,14 @@ is_module : IsModule Little kernel_bytes kernel_words
 is_module =
     found_module Little kernel_bytes (record { size = lit≤ tt; least = lit≤ tt; groups = refl; octets = octets; magic = refl }) refl refl (lit≤ tt) (lit≤ tt)
 
-pub valid : IsValid grammar kernel_bytes
-valid = record { words = kernel_words; order = Little; is_module = is_module; insts = kernel; listing = listed; sound = sound }
+pub read : IsReading grammar Profile kernel kernel_body
+read = record { spelled = kernel; listing = listed; seen = refl }
 
-pub checked : IsChecked grammar kernel_words kernel_program
-checked = record { listing = listed; bound = refl; sound = sound }
+pub valid : IsValid grammar Profile kernel_bytes
+valid = record { words = kernel_words; order = Little; is_module = is_module; insts = kernel; reading = read; sound = sound }
+
+pub checked : IsChecked grammar Profile kernel_words kernel_program
+checked = record { reading = read; bound = refl; sound = sound }
 
 -- The run of its function.
 

@@ -3,9 +3,11 @@ pub mod Flowing
 pub mod Running
 pub mod Checks
 pub mod Judgments
+pub mod Miscalls
 pub mod Firsts
 pub mod Kernel
 pub mod KernelParts
+pub mod Readings
 pub mod Runs
 pub mod Stages
 pub mod Verdicts

@@ -8,6 +8,8 @@ use Rattle.spv_table.specs.Table.{Table}
 use Rattle.spv_module.specs.Instruction.{end}
 use Rattle.spv_module.specs.declared.fault.Rule.TheVariants.{I7, L2}
 use Rattle.spv_module.specs.Operand.{PlainInst}
+use Rattle.spv_extended.specs.declared.reach.Reach.{Reach}
+use Rattle.spv_extended.specs.declared.reach.Reach.TheVariants.{Profile, Extended}
 use Rattle.spv_layout.specs.DeadPlace.{IsDeadPlace}
 use Rattle.spv_layout.specs.declared.state.State.TheVariants as at
 use Rattle.spv_layout.proofs.Brokens.{dead_first}
@@ -17,22 +19,23 @@ use Rattle.std.specs.Prelude.{slice_get}
 use Rattle.std.proofs.lemmas.Option.{slice_get_within}
 use Rattle.spv_verdict.specs.Broken.{IsFirstOfAll}
 use Rattle.spv_verdict.proofs.Firsts.{layout_first}
+use Rattle.spv_verdict.specs.Reading.{IsReading}
 use Rattle.spv_verdict.specs.Stream.{Begins, TellsVerdict}
 use Rattle.spv_verdict.specs.Verdict.{IsVerdict, refused, unsound, fault_line, line_end, refused_line, valid_line}
 use Rattle.spv_verdict.proofs.Verdicts.{refused_is_not_valid}
 
-pub short_bytes : (G : Table) → IsFirstBroken W2 (1 ∷ 2 ∷ 3 ∷ []) → IsVerdict G (1 ∷ 2 ∷ 3 ∷ []) (codes "fault W2" ++ line_end)
-short_bytes G h = refused W2 h
+pub short_bytes : (G : Table) (reach : Reach) → IsFirstBroken W2 (1 ∷ 2 ∷ 3 ∷ []) → IsVerdict G reach (1 ∷ 2 ∷ 3 ∷ []) (codes "fault W2" ++ line_end)
+short_bytes G reach h = refused W2 h
 
-pub short_told : (G : Table) → IsFirstBroken W2 (1 ∷ 2 ∷ 3 ∷ []) → TellsVerdict G (1 ∷ 2 ∷ 3 ∷ []) (9 ∷ []) (Some (9 ∷ codes "fault W2" ++ line_end)) false
-short_told G h = record { line = refused_line W2; verdict = refused W2 h; written = refl; answered = (λ b. cc, λ e. absurd (refused_is_not_valid W2 e)) }
+pub short_told : (G : Table) (reach : Reach) → IsFirstBroken W2 (1 ∷ 2 ∷ 3 ∷ []) → TellsVerdict G reach (1 ∷ 2 ∷ 3 ∷ []) (9 ∷ []) (Some (9 ∷ codes "fault W2" ++ line_end)) false
+short_told G reach h = record { line = refused_line W2; verdict = refused W2 h; written = refl; answered = (λ b. cc, λ e. absurd (refused_is_not_valid W2 e)) }
 
-pub short_begun : (G : Table) → IsFirstBroken W2 (1 ∷ 2 ∷ 3 ∷ []) → Begins G (1 ∷ 2 ∷ 3 ∷ []) (9 ∷ []) (Some (9 ∷ codes "fault"))
-short_begun G h = record { line = refused_line W2; verdict = refused W2 h; count = 5; fits = lit≤ tt; written = refl }
+pub short_begun : (G : Table) (reach : Reach) → IsFirstBroken W2 (1 ∷ 2 ∷ 3 ∷ []) → Begins G reach (1 ∷ 2 ∷ 3 ∷ []) (9 ∷ []) (Some (9 ∷ codes "fault"))
+short_begun G reach h = record { line = refused_line W2; verdict = refused W2 h; count = 5; fits = lit≤ tt; written = refl }
 
-pub never_valid : (G : Table) (bytes line : List ℕ) → (line ≡ valid_line) → IsFirstBroken W2 bytes
-    → ((one other : List ℕ) → IsVerdict G bytes one → IsVerdict G bytes other → one ≡ other) → ¬ (IsVerdict G bytes line)
-never_valid G bytes line e h law v = let w = refused W2 h in refused_is_not_valid W2 (rw e at (law _ line w v))
+pub never_valid : (G : Table) (reach : Reach) (bytes line : List ℕ) → (line ≡ valid_line) → IsFirstBroken W2 bytes
+    → ((one other : List ℕ) → IsVerdict G reach bytes one → IsVerdict G reach bytes other → one ≡ other) → ¬ (IsVerdict G reach bytes line)
+never_valid G reach bytes line e h law v = let w = refused W2 h in refused_is_not_valid W2 (rw e at (law _ line w v))
 
 -- a list without instructions begins a module and is none
 no_instructions : IsDeadPlace [] L2 0
@@ -41,11 +44,16 @@ no_instructions = IsDeadPlace.unfinished [] (leads_begin [] at.Capabilities lead
 none_there : (n : ℕ) (i : PlainInst) → ¬ (slice_get [] n ≡ Some i)
 none_there n i h = let l = slice_get_within [] n i h in absurd (omega arith)
 
-unfinished_first : (G : Table) (bound : ℕ) → IsFirstOfAll G bound [] L2 0
-unfinished_first G bound = layout_first G bound [] L2 0 (fit_unbroken G [] (λ n i h. absurd (none_there n i h))) (dead_first G [] L2 0 no_instructions)
+unfinished_first : (G : Table) (reach : Reach) (bound : ℕ) → IsFirstOfAll G reach bound [] L2 0
+unfinished_first G reach bound = layout_first G reach bound [] L2 0 (fit_unbroken G [] (λ n i h. absurd (none_there n i h))) (dead_first G [] L2 0 no_instructions)
 
-pub header_alone : (G : Table) (bytes : List ℕ) → IsModule Big bytes (119734787 ∷ 67072 ∷ 7 ∷ 5 ∷ 0 ∷ []) → IsVerdict G bytes (fault_line L2 0 5)
-header_alone G bytes h = unsound (119734787 ∷ 67072 ∷ 7 ∷ 5 ∷ 0 ∷ []) Big [] L2 0 h (end []) (unfinished_first G 5)
+-- no words are the reading of no instructions
+nothing_read : (G : Table) (reach : Reach) → IsReading G reach [] []
+nothing_read G Profile = record { spelled = []; listing = end []; seen = refl }
+nothing_read G Extended = record { spelled = []; listing = end []; seen = refl }
+
+pub header_alone : (G : Table) (reach : Reach) (bytes : List ℕ) → IsModule Big bytes (119734787 ∷ 67072 ∷ 7 ∷ 5 ∷ 0 ∷ []) → IsVerdict G reach bytes (fault_line L2 0 5)
+header_alone G reach bytes h = unsound (119734787 ∷ 67072 ∷ 7 ∷ 5 ∷ 0 ∷ []) Big [] L2 0 h (nothing_read G reach) (unfinished_first G reach 5)
 
 pub fault_text : fault_line I7 0 9 ≡ codes "fault I7 inst 0 word 9" ++ line_end
 fault_text = rw (decimal_digit 0 (omega arith), decimal_digit 9 (omega arith)) refl
@@ -56,8 +64,8 @@ other_front zero x y xs ys d e = cc
 other_front (suc n) x y xs ys d e = d (ap (λ (l : List ℕ). slice_index l 0) e)
 
 -- three bytes, whose line is known, have not begun as a valid module
-pub not_begun : (G : Table) (bytes line : List ℕ) → ((other : List ℕ) → IsVerdict G bytes other → other ≡ 102 ∷ line) → ¬ (Begins G bytes [] (Some (codes "valid")))
-not_begun G bytes line one b =
+pub not_begun : (G : Table) (reach : Reach) (bytes line : List ℕ) → ((other : List ℕ) → IsVerdict G reach bytes other → other ≡ 102 ∷ line) → ¬ (Begins G reach bytes [] (Some (codes "valid")))
+not_begun G reach bytes line one b =
     let w = b.written in
     let e : codes "valid" ≡ take b.count b.line = cc in
     let q : b.line ≡ 102 ∷ line = one b.line b.verdict in

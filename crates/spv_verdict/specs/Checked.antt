@@ -2,10 +2,10 @@
 use Rattle.std.specs.Prelude.{◌≡◌, ℕ, List, Some, drop, slice_get, slice_index}
 use Rattle.spv_table.specs.Table.{Table}
 use Rattle.spv_module.specs.Operand.{PlainInst}
-use Rattle.spv_module.specs.Instruction.{IsListing}
 use Rattle.spv_module.specs.Module.{plain_insts}
 use Rattle.spv_module.specs.declared.fault.Rule.{Rule}
 use Rattle.spv_module.specs.declared.module.Module.{Module}
+use Rattle.spv_extended.specs.declared.reach.Reach.{Reach}
 use Rattle.spv_layout.specs.First.{IsUnbroken}
 use Rattle.spv_layout.specs.Layout.{IsLayout, classes}
 use Rattle.spv_layout.specs.Place.{IsShort}
@@ -27,8 +27,9 @@ use Rattle.spv_verdict.specs.flow.Outcome.{IsFlow}
 use Rattle.spv_verdict.specs.declared.flow.Flow.{Flow}
 use Rattle.spv_verdict.specs.Broken.{IsSound}
 use Rattle.spv_verdict.specs.Program.{Program}
+use Rattle.spv_verdict.specs.Reading.{IsReading}
 
--- All that the layers demand of a module is kept under the table. [own]
+-- All that the layers demand of a module, by the profile, is kept under the table. [own]
 pub record IsKept (G : Table) (p : Program) : Type 0 where
   -- it has few enough words
   pub few : IsShort p.insts
@@ -59,11 +60,12 @@ pub record AreParts (G : Table) (p : Program) (m : Module) (places : List Place)
   pub numbered : AreIds G p.bound p.insts ids
   pub flowing : IsFlow G p.insts flow
 
--- The module is the one list of the words, with the bound that word 3 is, and valid under the table. [own]
-pub record IsChecked (G : Table) (words : List ℕ) (p : Program) : Type 0 where
-  pub listing : IsListing G p.insts (drop 5 words)
+-- The module is the one list of the words, as far as it is looked at, with the bound that word 3 is, and valid under
+-- the table. [own]
+pub record IsChecked (G : Table) (reach : Reach) (words : List ℕ) (p : Program) : Type 0 where
+  pub reading : IsReading G reach p.insts (drop 5 words)
   pub bound : p.bound ≡ slice_index words 3
-  pub sound : IsSound G p.bound p.insts
+  pub sound : IsSound G reach p.bound p.insts
 
 -- The bound and the instructions of a module.
 abbrev pub program_of : Module → Program
@@ -71,6 +73,7 @@ program_of m = record { bound = m.header.bound; insts = plain_insts m }
 
 -- The module is the one list of some words and valid under the table, and the places, ids and flow are its own. [own]
 pub record IsCheckedBy (G : Table) (m : Module) (places : List Place) (ids : Ids) (flow : Flow) : Type 0 where
+  pub reach : Reach
   pub words : List ℕ
-  pub checked : IsChecked G words (program_of m)
+  pub checked : IsChecked G reach words (program_of m)
   pub parts : AreParts G (program_of m) m places ids flow

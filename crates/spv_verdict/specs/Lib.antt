@@ -4,6 +4,7 @@ pub mod Checked
 pub mod Example
 pub mod Judged
 pub mod Program
+pub mod Reading
 pub mod Tracing
 pub mod Outcome
 pub mod Stream
@@ -12,5 +13,6 @@ pub mod Valid
 pub mod Verdict
 pub mod types
 pub mod flow
+pub mod extended
 pub mod run
 pub mod inner

@@ -6,8 +6,10 @@ ghost use Rattle.spv_layout.specs.Place.{IsShort};
 ghost use Rattle.spv_verdict.specs.Judged.{AreWordsOf, IsJudged, RefusesAs};
 
 use crate::checked::Checked;
+use crate::extended::extended_check;
 use crate::flow::flow_check;
 use crate::types::type_check;
+use spv_extended::Reach;
 use spv_ids::{Ids, number};
 use spv_layout::laws::member_or_dead;
 use spv_layout::{Plan, lay_out};
@@ -42,6 +44,8 @@ pub enum Reached {
     Numbered(Plan, Ids),
     /// Its types are known too, and the rules F, A and G were asked.
     Typed(Plan, Ids),
+    /// It breaks no rule of the profile, and Y9 was asked.
+    Sound,
 }
 
 /// What the refusal of a stage comes to.
@@ -60,14 +64,20 @@ fn refused<'a>(stop: Stop, module: Module<'a>, reached: Reached) -> Result<Judge
 
 /// Looks for the first rule that a module breaks, stage by stage: the shapes and the layout, the ids, their roles, then
 /// capabilities, entry points and types, where branches lead, values on every walk, and cycles of calls (own). Where
-/// one is broken, the module comes back with what the stages before made.
+/// one is broken, the module comes back with what the stages before made. `reach` is how far the module is looked at,
+/// as `read` answered it; where its extended instructions are looked at, what they take is asked last (Y9).
 ///
 /// `Memory` comes only where a growth of memory was refused.
-pub fn judge<'a>(alloc: Global, table: &Table, module: Module<'a>) -> Result<Judged<'a>, Memory>
-    // The condition of `lay_out`, and that it is the module of some words, as `decode` answers it.
+pub fn judge<'a>(
+    alloc: Global,
+    table: &Table,
+    reach: Reach,
+    module: Module<'a>,
+) -> Result<Judged<'a>, Memory>
+    // The condition of `lay_out`, and that it is the module of some words, as `read` answers it.
     requires short { IsShort (plain_insts «module») }
-    requires words { (words : List ℕ) × AreWordsOf table.now «module» words }
-    ensures { IfOk result (λ j. IsJudged table.now «module».entry.header.bound (plain_insts «module».entry) j) }
+    requires words { (words : List ℕ) × AreWordsOf table.now reach «module» words }
+    ensures { IfOk result (λ j. IsJudged table.now reach «module».entry.header.bound (plain_insts «module».entry) j) }
 {
     member_or_dead();
     let plan = match lay_out(alloc, table, &module) {
@@ -82,8 +92,12 @@ pub fn judge<'a>(alloc: Global, table: &Table, module: Module<'a>) -> Result<Jud
         Ok(types) => types,
         Err(stop) => return refused(stop, module, Reached::Numbered(plan, ids)),
     };
-    match flow_check(alloc, &module, &plan, &ids, &types) {
-        Ok(flow) => Ok(Judged::Valid(Checked::new(module, plan, ids, flow))),
-        Err(stop) => refused(stop, module, Reached::Typed(plan, ids)),
+    let flow = match flow_check(alloc, &module, &plan, &ids, &types) {
+        Ok(flow) => flow,
+        Err(stop) => return refused(stop, module, Reached::Typed(plan, ids)),
+    };
+    match extended_check(alloc, reach, &module, &plan) {
+        Ok(()) => Ok(Judged::Valid(Checked::new(module, plan, ids, flow))),
+        Err(stop) => refused(stop, module, Reached::Sound),
     }
 }

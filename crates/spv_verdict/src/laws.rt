@@ -8,6 +8,8 @@ ghost use Rattle.spv_module.specs.declared.fault.Fault.{Fault};
 ghost use Rattle.spv_module.specs.declared.fault.Rule.{Rule};
 ghost use Rattle.spv_module.specs.declared.fault.Rule.TheVariants.{A1, G1, I7, L2, Y7};
 ghost use Rattle.spv_module.specs.declared.module.Module.{Module};
+ghost use Rattle.spv_extended.specs.declared.reach.Reach.{Reach};
+ghost use Rattle.spv_extended.specs.declared.reach.Reach.TheVariants.{Profile, Extended};
 ghost use Rattle.spv_layout.specs.Place.{IsShort};
 ghost use Rattle.spv_layout.specs.declared.place.Place.{Place};
 ghost use Rattle.spv_ids.specs.declared.ids.Ids.{Ids};
@@ -21,7 +23,9 @@ ghost use Rattle.spv_verdict.specs.Answer.{IsFault};
 ghost use Rattle.spv_verdict.specs.Checked.{AreParts, IsChecked, IsKept};
 ghost use Rattle.spv_verdict.specs.Program.{Program};
 ghost use Rattle.spv_verdict.specs.Broken.{Broken, IsFirstOfAll, IsSound, Precedes};
-ghost use Rattle.spv_verdict.specs.Example.{kernel_bytes, kernel_places, kernel_program, kernel_words, other_program};
+ghost use Rattle.spv_verdict.specs.Example.{kernel_body, kernel_bytes, kernel_places, kernel_program, kernel_words};
+ghost use Rattle.spv_verdict.specs.Example.{other_program};
+ghost use Rattle.spv_verdict.specs.Reading.{IsReading};
 ghost use Rattle.spv_verdict.specs.Tracing.{IsRunOf, IsTraceOf};
 ghost use Rattle.spv_verdict.specs.declared.run.parts.Trace.{Trace};
 ghost use Rattle.spv_verdict.specs.run.Example.{entered, step_at};
@@ -33,13 +37,14 @@ ghost use Rattle.spv_verdict.specs.Valid.{IsValid};
 ghost use Rattle.spv_verdict.specs.Verdict.{IsVerdict, fault_line, line_end, valid_line};
 
 use crate::run::laws::{promise_examples, run_never_gets_stuck};
+use spv_extended::laws::opening_keeps;
 use spv_inst::{listed_or_dead, one_death, one_listing};
 use spv_layout::laws::member_or_dead;
 
 /// Bytes have one verdict line.
 pub fn one_verdict()
-    ensures { (G : Table) (bytes one other : List ℕ) → IsVerdict G bytes one → IsVerdict G bytes other
-        → one ≡ other }
+    ensures { (G : Table) (reach : Reach) (bytes one other : List ℕ) → IsVerdict G reach bytes one
+        → IsVerdict G reach bytes other → one ≡ other }
 {
     spv_words::laws::one_word_list();
     spv_words::laws::one_refusal();
@@ -50,15 +55,16 @@ pub fn one_verdict()
 
 /// The verdict line is `valid` exactly where the bytes are a valid module.
 pub fn valid_exactly()
-    ensures { (G : Table) (bytes : List ℕ) → IsVerdict G bytes valid_line ↔ IsValid G bytes }
+    ensures { (G : Table) (reach : Reach) (bytes : List ℕ)
+        → IsVerdict G reach bytes valid_line ↔ IsValid G reach bytes }
 {}
 
 /// Words have one answer: one fault, and none where they are a checked module.
 pub fn one_answer()
-    ensures fault { (G : Table) (words : List ℕ) (f g : Fault) → IsFault G words f → IsFault G words g
-        → (f.rule ≡ g.rule) × (f.inst ≡ g.inst) × (f.word ≡ g.word) }
-    ensures never { (G : Table) (words : List ℕ) (f : Fault) (p : Program) → IsFault G words f
-        → ¬ (IsChecked G words p) }
+    ensures fault { (G : Table) (reach : Reach) (words : List ℕ) (f g : Fault) → IsFault G reach words f
+        → IsFault G reach words g → (f.rule ≡ g.rule) × (f.inst ≡ g.inst) × (f.word ≡ g.word) }
+    ensures never { (G : Table) (reach : Reach) (words : List ℕ) (f : Fault) (p : Program) → IsFault G reach words f
+        → ¬ (IsChecked G reach words p) }
 {
     spv_words::laws::one_word_list();
     spv_words::laws::one_refusal();
@@ -69,15 +75,15 @@ pub fn one_answer()
 
 /// Of all broken rules at most one is told, at one instruction.
 pub fn one_first()
-    ensures { (G : Table) (bound : ℕ) (is : List PlainInst) (q r : Rule) (m n : ℕ) → IsFirstOfAll G bound is q m
-        → IsFirstOfAll G bound is r n → (q ≡ r) × (m ≡ n) }
+    ensures { (G : Table) (reach : Reach) (bound : ℕ) (is : List PlainInst) (q r : Rule) (m n : ℕ)
+        → IsFirstOfAll G reach bound is q m → IsFirstOfAll G reach bound is r n → (q ≡ r) × (m ≡ n) }
 {}
 
 /// No rule is broken on a program of few enough words exactly where it keeps all that the layers demand, which is said
 /// without a `not`.
 pub fn kept_exactly()
     ensures { (G : Table) (p : Program) → IsShort p.insts
-        → IsSound G p.bound p.insts ↔ IsKept G p }
+        → IsSound G Profile p.bound p.insts ↔ IsKept G p }
 {
     member_or_dead();
 }
@@ -101,10 +107,10 @@ pub fn one_trace()
 /// Worked examples.
 pub fn examples()
     // Three bytes are no header, whatever the grammar says.
-    ensures refused { (G : Table) → IsVerdict G (1 ∷ 2 ∷ 3 ∷ []) (codes "fault W2" ++ line_end) }
-    ensures not_valid { (G : Table) → ¬ (IsVerdict G (1 ∷ 2 ∷ 3 ∷ []) valid_line) }
+    ensures refused { (G : Table) (reach : Reach) → IsVerdict G reach (1 ∷ 2 ∷ 3 ∷ []) (codes "fault W2" ++ line_end) }
+    ensures not_valid { (G : Table) (reach : Reach) → ¬ (IsVerdict G reach (1 ∷ 2 ∷ 3 ∷ []) valid_line) }
     // A header with version 1.6, generator 7 and bound 5, and no instruction after it: OpMemoryModel is missing.
-    ensures unsound { (G : Table) → IsVerdict G
+    ensures unsound { (G : Table) (reach : Reach) → IsVerdict G reach
         (7 ∷ 35 ∷ 2 ∷ 3 ∷ 0 ∷ 1 ∷ 6 ∷ 0 ∷ 0 ∷ 0 ∷ 0 ∷ 7 ∷ 0 ∷ 0 ∷ 0 ∷ 5 ∷ 0 ∷ 0 ∷ 0
         ∷ 0 ∷ []) (fault_line L2 0 5) }
     // Rule I7 at the first instruction and the word of number 9.
@@ -118,8 +124,8 @@ pub fn examples()
 pub fn broken_examples()
     // A call on a cycle that an entry point leads to, under any table; where there is no entry point, none breaks the
     // rule.
-    ensures cycle { (G : Table) (bound : ℕ) → Broken G bound looped G1 8 }
-    ensures no_cycle { (G : Table) (bound n : ℕ) → ¬ (Broken G bound functions G1 n) }
+    ensures cycle { (G : Table) (reach : Reach) (bound : ℕ) → Broken G reach bound looped G1 8 }
+    ensures no_cycle { (G : Table) (reach : Reach) (bound n : ℕ) → ¬ (Broken G reach bound functions G1 n) }
     // A fault of types is told before one of values at a lower instruction.
     ensures earlier { Precedes Y7 9 A1 3 }
     ensures later { ¬ (Precedes A1 3 Y7 9) }
@@ -130,13 +136,13 @@ pub fn broken_examples()
 /// Worked examples of what a check leaves in its writer.
 pub fn stream_examples()
     // A writer that held the byte 9 got the verdict line of three bytes.
-    ensures tells { (G : Table) → TellsVerdict G (1 ∷ 2 ∷ 3 ∷ []) (9 ∷ [])
+    ensures tells { (G : Table) (reach : Reach) → TellsVerdict G reach (1 ∷ 2 ∷ 3 ∷ []) (9 ∷ [])
         (Some (9 ∷ codes "fault W2" ++ line_end)) false }
-    ensures tells_valid { (G : Table) (new : Option (List ℕ))
-        → ¬ (TellsVerdict G (1 ∷ 2 ∷ 3 ∷ []) [] new true) }
+    ensures tells_valid { (G : Table) (reach : Reach) (new : Option (List ℕ))
+        → ¬ (TellsVerdict G reach (1 ∷ 2 ∷ 3 ∷ []) [] new true) }
     // The first five bytes of that line, and of another one.
-    ensures begins { (G : Table) → Begins G (1 ∷ 2 ∷ 3 ∷ []) (9 ∷ []) (Some (9 ∷ codes "fault")) }
-    ensures begins_valid { (G : Table) → ¬ (Begins G (1 ∷ 2 ∷ 3 ∷ []) [] (Some (codes "valid"))) }
+    ensures begins { (G : Table) (reach : Reach) → Begins G reach (1 ∷ 2 ∷ 3 ∷ []) (9 ∷ []) (Some (9 ∷ codes "fault")) }
+    ensures begins_valid { (G : Table) (reach : Reach) → ¬ (Begins G reach (1 ∷ 2 ∷ 3 ∷ []) [] (Some (codes "valid"))) }
 {
     spv_words::laws::examples();
     one_verdict();
@@ -174,7 +180,7 @@ pub fn trace_examples()
 
 /// The smallest kernel, under a small grammar table.
 pub fn kernel_examples()
-    ensures sound { IsSound grammar 5 kernel }
+    ensures sound { IsSound grammar Profile 5 kernel }
     ensures kept { IsKept grammar kernel_program }
     // A function that an entry point leads to calls itself.
     ensures not_kept { (G : Table) (bound : ℕ) → ¬ (IsKept G (record { bound = bound; insts = looped })) }
@@ -186,12 +192,22 @@ pub fn kernel_examples()
     ensures other_parts { (G : Table) (m : Module) (places : List Place) (ids : Ids) (flow : Flow)
         → m.header.bound ≡ 5 → ¬ (AreParts G other_program m places ids flow) }
     // The words are that module, and not one with another bound.
-    ensures checked { IsChecked grammar kernel_words kernel_program }
-    ensures other_bound { ¬ (IsChecked grammar kernel_words other_program) }
-    ensures valid { IsValid grammar kernel_bytes }
-    ensures line { IsVerdict grammar kernel_bytes valid_line }
+    ensures checked { IsChecked grammar Profile kernel_words kernel_program }
+    ensures other_bound { ¬ (IsChecked grammar Profile kernel_words other_program) }
+    ensures valid { IsValid grammar Profile kernel_bytes }
+    ensures line { IsVerdict grammar Profile kernel_bytes valid_line }
     // Three bytes.
-    ensures not_valid { (G : Table) → ¬ (IsValid G (1 ∷ 2 ∷ 3 ∷ [])) }
+    ensures not_valid { (G : Table) (reach : Reach) → ¬ (IsValid G reach (1 ∷ 2 ∷ 3 ∷ [])) }
 {
     examples();
+}
+
+/// What words are the reading of.
+pub fn reading_examples()
+    ensures profile { IsReading grammar Profile kernel kernel_body }
+    // It has no extended instruction.
+    ensures extended { IsReading grammar Extended kernel kernel_body }
+    ensures not_empty { (G : Table) (reach : Reach) → ¬ (IsReading G reach [] kernel_body) }
+{
+    opening_keeps();
 }

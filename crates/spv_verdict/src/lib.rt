@@ -2,11 +2,13 @@
 #![tactic(auto)]
 
 mod checked;
+mod extended;
 pub mod flow;
 mod judged;
 mod judging;
 pub mod laws;
 mod line;
+mod reading;
 pub mod run;
 mod stream;
 mod tracing;
@@ -18,6 +20,7 @@ pub use flow::{Flow, flow_check};
 pub use judged::{Judged, Reached, judge};
 pub use judging::check;
 pub use line::Line;
+pub use reading::read;
 pub use run::{Code, Ending, Step, Trace, TraceError, is_entry, trace_function};
 pub use spv_flow::walks::laws::all_ready;
 pub use spv_graphs::meet;

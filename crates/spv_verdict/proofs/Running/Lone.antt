@@ -5,7 +5,7 @@ use Rattle.std.proofs.lemmas.Option.{none-some, same_Some}
 use Rattle.spv_table.specs.Table.{Table}
 use Rattle.spv_module.specs.Operand.{PlainInst, Result}
 use Rattle.spv_module.specs.declared.opcode.TheConstants as opcode
-use Rattle.spv_layout.specs.declared.class.Class.TheVariants.{Function, FunctionEnd, Label}
+use Rattle.spv_layout.specs.declared.class.Class.TheVariants.{Function, FunctionEnd}
 use Rattle.spv_layout.specs.Rows.{rows}
 use Rattle.spv_layout.specs.Place.{IsAt, IsDefinition}
 use Rattle.spv_type_forms.specs.Example.{inst}

@@ -1,5 +1,4 @@
 -- The endings of a run, as the code and as the machine name them. [own]
-use Rattle.std.specs.Prelude.{[]}
 use Rattle.spv_verdict.specs.declared.run.parts.Ending.{Ending}
 use Rattle.spv_verdict.specs.declared.run.parts.Ending.TheVariants.{Finished, Unreachable, Limit, NoChoice, BadChoice}
 use Rattle.spv_verdict.specs.run.State as machine

@@ -4,8 +4,8 @@ use Rattle.spv_verdict.proofs.laws.examples.Goals as goal
 
 pub returns : goal.returns
 returns c = record {
-  refused = λ G. short_bytes G c.examples.ensures.size_first;
-  not_valid = λ G. never_valid G _ _ refl c.examples.ensures.size_first (c.one_verdict.ensures G _);
-  unsound = λ G. header_alone G _ c.examples.ensures.module_bytes;
+  refused = λ G reach. short_bytes G reach c.examples.ensures.size_first;
+  not_valid = λ G reach. never_valid G reach _ _ refl c.examples.ensures.size_first (c.one_verdict.ensures G reach _);
+  unsound = λ G reach. header_alone G reach _ c.examples.ensures.module_bytes;
   text = fault_text;
 }

@@ -17,5 +17,5 @@ returns c = record {
   other_bound = λ k. let e : 6 ≡ 5 = k.bound in omega (arith, e);
   valid = valid;
   line = verdict.valid valid;
-  not_valid = λ G v. c.examples.ensures.not_valid G (verdict.valid v);
+  not_valid = λ G reach v. c.examples.ensures.not_valid G reach (verdict.valid v);
 }

@@ -4,8 +4,8 @@ use Rattle.spv_verdict.proofs.laws.stream_examples.Goals as goal
 
 pub returns : goal.returns
 returns c = record {
-  tells = λ G. short_told G c.examples.ensures.size_first;
-  tells_valid = λ G new t. never_valid G _ t.line (t.answered.0 refl) c.examples.ensures.size_first (c.one_verdict.ensures G _) t.verdict;
-  begins = λ G. short_begun G c.examples.ensures.size_first;
-  begins_valid = λ G. not_begun G _ _ (λ other v. c.one_verdict.ensures G _ other _ v (short_bytes G c.examples.ensures.size_first));
+  tells = λ G reach. short_told G reach c.examples.ensures.size_first;
+  tells_valid = λ G reach new t. never_valid G reach _ t.line (t.answered.0 refl) c.examples.ensures.size_first (c.one_verdict.ensures G reach _) t.verdict;
+  begins = λ G reach. short_begun G reach c.examples.ensures.size_first;
+  begins_valid = λ G reach. not_begun G reach _ _ (λ other v. c.one_verdict.ensures G reach _ other _ v (short_bytes G reach c.examples.ensures.size_first));
 }

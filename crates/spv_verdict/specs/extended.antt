@@ -1,0 +1,2 @@
+-- What a look at the calls of extended instructions answers.
+pub mod Outcome
