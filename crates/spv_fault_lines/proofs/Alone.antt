@@ -44,3 +44,7 @@ one_line d G is lines (fact.Predecessors blocks) h = refl
 one_line d G is lines (fact.Walk blocks) h = refl
 one_line d G is lines (fact.Calls functions) h = refl
 one_line d G is lines (fact.Cycle functions) h = refl
+one_line d G is lines (fact.Number number) h = refl
+one_line d G is lines (fact.Operands count) h = refl
+one_line d G is lines (fact.Least count) h = refl
+one_line d G is lines (fact.Most count) h = refl

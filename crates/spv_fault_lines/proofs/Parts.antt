@@ -28,6 +28,7 @@ parts is n (evidence.NoPredecessor k ps) = refl
 parts is n (evidence.Twice k l ps) = refl
 parts is n (evidence.Walk k m blocks) = refl
 parts is n (evidence.Cycle calls cycle) = refl
+parts is n (evidence.Miscalled number operands least most) = refl
 
 pub parts_joined : (is : List PlainInst) (n : ℕ) (e : Evidence) (old a b c : List Fact) → a ≡ old ++ id_facts n e → b ≡ a ++ form_facts n e
     → c ≡ b ++ list_facts is n e → c ≡ old ++ evidence_facts is n e

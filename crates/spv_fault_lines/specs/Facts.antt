@@ -118,6 +118,8 @@ evidence_facts is n (evidence.NoPredecessor k ps) = fact.NoPredecessor n k ∷ f
 evidence_facts is n (evidence.Twice k l ps) = fact.Twice n l ∷ fact.Predecessors ps ∷ []
 evidence_facts is n (evidence.Walk k m blocks) = fact.Operand n k ∷ fact.Defined m ∷ fact.Walk blocks ∷ []
 evidence_facts is n (evidence.Cycle calls cycle) = fact.Calls calls ∷ fact.Cycle cycle ∷ []
+evidence_facts is n (evidence.Miscalled number operands least most) =
+    fact.Number number ∷ fact.Operands operands ∷ fact.Least least ∷ fact.Most most ∷ []
 
 -- the function that a place is of, told in a fact of the place; nothing where it is of none
 abbrev pub place_fact : Option ℕ → Fact → List Fact

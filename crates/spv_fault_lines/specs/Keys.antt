@@ -45,6 +45,10 @@ spelling_of key.Predecessors = (codes "predecessors", codes "predecessors")
 spelling_of key.Walk = (codes "walk", codes "walk")
 spelling_of key.Calls = (codes "calls", codes "calls")
 spelling_of key.Cycle = (codes "cycle", codes "cycle")
+spelling_of key.Number = (codes "number", codes "number")
+spelling_of key.Operands = (codes "operands", codes "operands")
+spelling_of key.Least = (codes "least", codes "least")
+spelling_of key.Most = (codes "most", codes "most")
 
 -- in a line, and in JSON
 abbrev pub line_name : Key → List ℕ

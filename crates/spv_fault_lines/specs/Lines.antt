@@ -260,6 +260,11 @@ abbrev pub word_value : Option ℕ → List ℕ
 word_value None = []
 word_value (Some w) = codes ", 0x" ++ hex_digits 8 w
 
+-- ` 3`; ` none` where there is no such count
+abbrev pub count_part : Option ℕ → List ℕ
+count_part None = codes " none"
+count_part (Some n) = number_part n
+
 -- the key of what is told
 abbrev pub capability_key : Bool → Key
 capability_key true = key.Implied
@@ -310,6 +315,10 @@ key_of (fact.Predecessors blocks) = key.Predecessors
 key_of (fact.Walk blocks) = key.Walk
 key_of (fact.Calls functions) = key.Calls
 key_of (fact.Cycle functions) = key.Cycle
+key_of (fact.Number n) = key.Number
+key_of (fact.Operands n) = key.Operands
+key_of (fact.Least n) = key.Least
+key_of (fact.Most n) = key.Most
 
 -- What is told behind the key and its colon, in short or in full: under the table, of these instructions and their shown
 -- lines. Nothing of types, each of which has a line of its own.
@@ -348,6 +357,10 @@ rest_of d G is lines (fact.Predecessors blocks) = results_part is blocks
 rest_of d G is lines (fact.Walk blocks) = results_part is blocks
 rest_of d G is lines (fact.Calls functions) = results_part is functions
 rest_of d G is lines (fact.Cycle functions) = cycle_part is functions
+rest_of d G is lines (fact.Number n) = number_part n
+rest_of d G is lines (fact.Operands n) = number_part n
+rest_of d G is lines (fact.Least n) = count_part n
+rest_of d G is lines (fact.Most n) = count_part n
 
 -- `KEY:` and what is told behind it
 abbrev pub keyed : Key → List ℕ → List ℕ

@@ -181,4 +181,20 @@ pub enum Fact {
     Cycle {
         functions: Listed<u32>,
     },
+    /// `number`: the number of an extended instruction.
+    Number {
+        number: u32,
+    },
+    /// `operands`: how many operands stand behind that number.
+    Operands {
+        count: u32,
+    },
+    /// `least`: how many its set's instruction takes at least, if the set has one of that number.
+    Least {
+        count: Option<u32>,
+    },
+    /// `most`: how many it takes at most, if it does not take any.
+    Most {
+        count: Option<u32>,
+    },
 }

@@ -158,7 +158,30 @@ fn push_id_facts(facts: &mut Vec<Fact>, inst: u32, evidence: &Evidence) -> Resul
     }
 }
 
-/// Adds the facts of evidence on forms, capabilities and entry points.
+/// Adds what is called of a set of extended instructions, and what the set has.
+fn push_miscall(
+    facts: &mut Vec<Fact>,
+    number: u32,
+    operands: u32,
+    least: Option<u32>,
+    most: Option<u32>,
+) -> Result<(), AllocError>
+    ensures { OnOk result (facts.new.items ≡ facts.old.items ++ (kinds.Number number ∷ kinds.Operands operands
+        ∷ kinds.Least least ∷ kinds.Most most ∷ [])) }
+{
+    push_two(
+        facts,
+        Fact::Number { number },
+        Fact::Operands { count: operands },
+    )?;
+    push_two(
+        facts,
+        Fact::Least { count: least },
+        Fact::Most { count: most },
+    )
+}
+
+/// Adds the facts of evidence on forms, capabilities, entry points and extended instructions.
 fn push_form_facts(facts: &mut Vec<Fact>, inst: u32, evidence: &Evidence) -> Result<(), AllocError>
     ensures { OnOk result (facts.new.items ≡ facts.old.items ++ parts.form_facts inst evidence.now) }
 {
@@ -192,6 +215,12 @@ fn push_form_facts(facts: &mut Vec<Fact>, inst: u32, evidence: &Evidence) -> Res
         Evidence::Needs { lister } => push_needs(facts, inst, *lister),
         Evidence::NoEntry => push_one(facts, Fact::NoEntry),
         Evidence::Entry { part } => push_one(facts, Fact::Part { part: *part }),
+        Evidence::Miscalled {
+            number,
+            operands,
+            least,
+            most,
+        } => push_miscall(facts, *number, *operands, *least, *most),
         _ => Ok(()),
     }
 }

@@ -45,6 +45,10 @@ pub enum Key {
     Walk,
     Calls,
     Cycle,
+    Number,
+    Operands,
+    Least,
+    Most,
 }
 
 impl Key {
@@ -94,6 +98,10 @@ impl Key {
             Key::Walk => ("walk", "walk"),
             Key::Calls => ("calls", "calls"),
             Key::Cycle => ("cycle", "cycle"),
+            Key::Number => ("number", "number"),
+            Key::Operands => ("operands", "operands"),
+            Key::Least => ("least", "least"),
+            Key::Most => ("most", "most"),
         }
     }
 

@@ -54,4 +54,7 @@ pub fn key_examples()
     ensures types { member_name keys.Type ≡ codes "types" }
     ensures raw { raw_of Short small [] [] fact.NoEntry ≡ codes "missing: OpEntryPoint" }
     ensures not_raw { ¬ (raw_of Short small [] [] fact.NoEntry ≡ codes "missing OpEntryPoint") }
+    // Where there is no least count, a line tells so.
+    ensures no_count { raw_of Short small [] [] (fact.Least None) ≡ codes "least: none" }
+    ensures not_nothing { ¬ (raw_of Short small [] [] (fact.Least None) ≡ codes "least:") }
 {}

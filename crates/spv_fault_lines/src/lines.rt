@@ -456,6 +456,10 @@ impl<'m, 'a> About<'m, 'a> {
             Fact::Walk { blocks } => self.push_results(out, blocks.as_slice()),
             Fact::Calls { functions } => self.push_results(out, functions.as_slice()),
             Fact::Cycle { functions } => self.push_cycle(out, functions.as_slice()),
+            Fact::Number { number } => push_spaced(out, *number),
+            Fact::Operands { count } => push_spaced(out, *count),
+            Fact::Least { count } => push_count(out, *count),
+            Fact::Most { count } => push_count(out, *count),
         }
     }
 
@@ -594,6 +598,16 @@ fn push_side(out: &mut String, side: Side) -> Result<(), AllocError>
     }
 }
 
+/// Adds a space and a count, or that there is none.
+fn push_count(out: &mut String, count: Option<u32>) -> Result<(), AllocError>
+    ensures { OnOk result (string_bytes out.new ≡ string_bytes out.old ++ lines.count_part count) }
+{
+    match count {
+        Some(count) => push_spaced(out, count),
+        None => out.push_str(" none"),
+    }
+}
+
 /// The key of a capability.
 fn capability_key(implied: bool) -> Key
     ensures { result ≡ lines.capability_key implied }
@@ -667,6 +681,10 @@ impl Fact {
             Fact::Walk { .. } => Key::Walk,
             Fact::Calls { .. } => Key::Calls,
             Fact::Cycle { .. } => Key::Cycle,
+            Fact::Number { .. } => Key::Number,
+            Fact::Operands { .. } => Key::Operands,
+            Fact::Least { .. } => Key::Least,
+            Fact::Most { .. } => Key::Most,
         }
     }
 }

@@ -1,4 +1,5 @@
 pub mod capabilities
+pub mod extended
 pub mod ids
 pub mod layout
 pub mod words

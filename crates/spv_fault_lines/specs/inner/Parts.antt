@@ -17,7 +17,7 @@ id_facts n (evidence.Local k m f) = fact.Operand n k ∷ fact.Defined m ∷ fact
 id_facts n (evidence.Miscast k role m) = fact.Operand n k ∷ fact.Role role ∷ fact.Defined m ∷ []
 id_facts n e = []
 
--- on forms and capabilities
+-- on forms, capabilities and extended instructions
 abbrev pub form_facts : ℕ → Evidence → List Fact
 form_facts n (evidence.Opcode opcode) = fact.Opcode opcode ∷ []
 form_facts n (evidence.Due opcode k kind) = fact.Opcode opcode ∷ fact.Failing k ∷ fact.Due kind ∷ []
@@ -26,6 +26,8 @@ form_facts n (evidence.Capability c implied) = fact.Capability c implied ∷ []
 form_facts n (evidence.Needs l) = lister_facts n l ++ (fact.NeedsOneOf n l ∷ [])
 form_facts n evidence.NoEntry = fact.NoEntry ∷ []
 form_facts n (evidence.Entry part) = fact.Part part ∷ []
+form_facts n (evidence.Miscalled number operands least most) =
+    fact.Number number ∷ fact.Operands operands ∷ fact.Least least ∷ fact.Most most ∷ []
 form_facts n e = []
 
 -- on layout, types and flow

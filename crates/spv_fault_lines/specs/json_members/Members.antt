@@ -199,6 +199,10 @@ value_of G is lines (fact.Predecessors blocks) = results_tokens is blocks
 value_of G is lines (fact.Walk blocks) = results_tokens is blocks
 value_of G is lines (fact.Calls functions) = results_tokens is functions
 value_of G is lines (fact.Cycle functions) = cycle_tokens is functions
+value_of G is lines (fact.Number n) = number_token n ∷ []
+value_of G is lines (fact.Operands n) = number_token n ∷ []
+value_of G is lines (fact.Least n) = maybe_number n
+value_of G is lines (fact.Most n) = maybe_number n
 
 -- the member of a fact
 abbrev pub member_of : Table → List PlainInst → List (List ℕ) → Fact → List Token

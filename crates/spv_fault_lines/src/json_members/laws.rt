@@ -27,4 +27,7 @@ pub fn member_examples()
     ensures types { member_of small [] [] (fact.Types (thing.Id 3 ∷ thing.Nothing ∷ []))
         ≡ name (codes "types") ∷ begin_array ∷ begin_object ∷ name (codes "id") ∷ number (codes "3") ∷ end_object
         ∷ null ∷ end_array ∷ [] }
+    // Where there is no greatest count, it is null.
+    ensures no_count { member_of small [] [] (fact.Most None) ≡ name (codes "most") ∷ null ∷ [] }
+    ensures not_zero { ¬ (member_of small [] [] (fact.Most None) ≡ name (codes "most") ∷ number (codes "0") ∷ []) }
 {}

@@ -187,6 +187,10 @@ fn push_value(out: &mut Output, about: &About<'_, '_>, fact: &Fact) -> Result<()
         Fact::Walk { blocks } => push_results(out, about, blocks.as_slice()),
         Fact::Calls { functions } => push_results(out, about, functions.as_slice()),
         Fact::Cycle { functions } => push_cycle(out, about, functions.as_slice()),
+        Fact::Number { number } => out.number(*number),
+        Fact::Operands { count } => out.number(*count),
+        Fact::Least { count } => out.maybe_number(*count),
+        Fact::Most { count } => out.maybe_number(*count),
     }
 }
 

@@ -1,0 +1,4 @@
+pub mod Counting
+pub mod Calls
+pub mod Sufficing
+pub mod Worked
