@@ -6,5 +6,6 @@ mod Stages
 mod Sufficing
 mod Tellings
 mod Worked
+mod WorkedExtended
 mod WorkedJson
 pub mod Sentences

@@ -1,5 +1,5 @@
 -- Evidence of whatever rule shows that the rule is broken.
-use Rattle.std.proofs.Common.{◌≡◌, ◌<◌, ◌≤◌, ◌⊎◌, inl, inr, ℕ, List, Some, arith}
+use Rattle.std.proofs.Common.{◌≡◌, ◌<◌, ◌≤◌, ◌⊎◌, inl, inr, ℕ, List, Some, arith, sym, subst}
 use Rattle.std.specs.Prelude.{slice_get}
 use Rattle.spv_table.specs.Table.{Table}
 use Rattle.spv_module.specs.Operand.{PlainInst}
@@ -10,9 +10,13 @@ use Rattle.spv_type_rules.specs.Keeps.{Keeps}
 use Rattle.spv_verdict.specs.types.Broken as types
 use Rattle.spv_verdict.specs.Broken.{Broken}
 use Rattle.spv_evidence.specs.declared.evidence.Evidence.{Evidence}
+use Rattle.spv_extended.specs.declared.reach.Reach.{Reach}
+use Rattle.spv_extended.specs.declared.reach.Reach.TheVariants.{Extended}
+use Rattle.spv_extended.specs.Broken as extended
+use Rattle.spv_form_evidence.specs.extended.Evidence as by_extended
 use Rattle.spv_layout.specs.First.{stage_of}
 use Rattle.spv_layout.specs.Stage as stages
-use Rattle.spv_verdict.proofs.Firsts.{calls_stage, flow_stage, ids_stage}
+use Rattle.spv_verdict.proofs.Firsts.{calls_stage, extended_stage, flow_stage, ids_stage, layout_stage}
 use Rattle.spv_verdict.proofs.Stages.{types_stage}
 use Rattle.spv_form_evidence.specs.layout.Evidence as by_layout
 use Rattle.spv_form_evidence.specs.ids.Roles as roles
@@ -22,6 +26,7 @@ use Rattle.spv_form_evidence.specs.capabilities.Evidence as capabilities
 use Rattle.spv_form_evidence.proofs.lemmas.layout.Sufficing as layout_law
 use Rattle.spv_form_evidence.proofs.lemmas.ids.Sufficing.{ids_suffice, roles_suffice}
 use Rattle.spv_form_evidence.proofs.lemmas.capabilities.Suffices.{breaks}
+use Rattle.spv_form_evidence.proofs.lemmas.extended.Sufficing as extended_law
 use Rattle.spv_type_evidence.proofs.lemmas.types.Sufficing as types_law
 use Rattle.spv_operation_evidence.proofs.lemmas.Sufficing as operations_law
 use Rattle.spv_flow_evidence.proofs.lemmas.branches.Rules as branches_law
@@ -54,6 +59,10 @@ capabilities_broken G is r n e h =
     let t = capability_there G is r n e h in
     types.Broken.of_capabilities r n t.inst t.there (breaks G is r n e t.inst h t.there)
 
+extended_broken : (reach : Reach) (is : List PlainInst) (r : Rule) (n : ℕ) (e : Evidence) → reach ≡ Extended
+    → by_extended.IsEvidence is r n e → extended.Broken reach is r n
+extended_broken reach is r n e on h = subst (λ q. extended.Broken q is r n) (sym on) (extended_law.suffices is r n e h)
+
 -- what is kept, but for what Y5 demands of operations
 unasked : (G : Table) (is : List PlainInst) (r : Rule) (n : ℕ) (i : PlainInst) → Keeps (IsTyped G is) is r n i → Keeps (λ m j. Unit {0}) is r n i
 unasked G is rule.Y2 n i h = h
@@ -73,39 +82,73 @@ pub operations_broken : (G : Table) (is : List PlainInst) (r : Rule) (n : ℕ) (
     → by_operations.IsEvidence G is r n e → types.Broken G is r n
 operations_broken G is r n e h = types.Broken.of_types r n h.inst h.there (operations_law.suffices G is r n e h h.inst h.there)
 
-pub suffices : (G : Table) (bound : ℕ) (is : List PlainInst) (r : Rule) (n : ℕ) (e : Evidence)
-    → IsEvidence G bound is r n e → Broken G bound is r n
-suffices G bound is _ _ _ (IsEvidence.of_layout r n e h) = Broken.of_layout r n (layout_law.suffices G is r n e h)
-suffices G bound is _ _ _ (IsEvidence.of_ids r n e h) = Broken.of_ids r n (ids_suffice G bound is r n e h)
-suffices G bound is _ _ _ (IsEvidence.of_roles r n e h) = Broken.of_types r n (roles_broken G is r n e h)
-suffices G bound is _ _ _ (IsEvidence.of_capabilities r n e h) = Broken.of_types r n (capabilities_broken G is r n e h)
-suffices G bound is _ _ _ (IsEvidence.of_types r n e h) = Broken.of_types r n (types_broken G is r n e h)
-suffices G bound is _ _ _ (IsEvidence.of_operations r n e h) = Broken.of_types r n (operations_broken G is r n e h)
-suffices G bound is _ _ _ (IsEvidence.of_branches r n e h) = Broken.of_flow r n (branches_law.suffices G is r n e h)
-suffices G bound is _ _ _ (IsEvidence.of_walks r n e h) = Broken.of_flow r n (walks_law.suffices G is r n e h)
-suffices G bound is _ _ _ (IsEvidence.of_calls r n e h) = Broken.of_calls r n (sufficient is r n e h)
+pub suffices : (G : Table) (reach : Reach) (bound : ℕ) (is : List PlainInst) (r : Rule) (n : ℕ) (e : Evidence)
+    → IsEvidence G reach bound is r n e → Broken G reach bound is r n
+suffices G reach bound is _ _ _ (IsEvidence.of_layout r n e h) = Broken.of_layout r n (layout_law.suffices G is r n e h)
+suffices G reach bound is _ _ _ (IsEvidence.of_ids r n e h) = Broken.of_ids r n (ids_suffice G bound is r n e h)
+suffices G reach bound is _ _ _ (IsEvidence.of_roles r n e h) = Broken.of_types r n (roles_broken G is r n e h)
+suffices G reach bound is _ _ _ (IsEvidence.of_capabilities r n e h) = Broken.of_types r n (capabilities_broken G is r n e h)
+suffices G reach bound is _ _ _ (IsEvidence.of_types r n e h) = Broken.of_types r n (types_broken G is r n e h)
+suffices G reach bound is _ _ _ (IsEvidence.of_operations r n e h) = Broken.of_types r n (operations_broken G is r n e h)
+suffices G reach bound is _ _ _ (IsEvidence.of_branches r n e h) = Broken.of_flow r n (branches_law.suffices G is r n e h)
+suffices G reach bound is _ _ _ (IsEvidence.of_walks r n e h) = Broken.of_flow r n (walks_law.suffices G is r n e h)
+suffices G reach bound is _ _ _ (IsEvidence.of_calls r n e h) = Broken.of_calls r n (sufficient is r n e h)
+suffices G reach bound is _ _ _ (IsEvidence.of_extended r n e on h) = Broken.of_extended r n (extended_broken reach is r n e on h)
 
 -- evidence of a stage before D is that of the shapes and the layout
 apart : (r : Rule) (a b : ℕ) → stage_of r < stages.of_ids → (stage_of r ≡ a) ⊎ (stage_of r ≡ b) → 3 ≤ a → 3 ≤ b → ⊥
 apart r a b s (inl e) l m = omega (arith, s, e, l)
 apart r a b s (inr e) l m = omega (arith, s, e, m)
 
-pub of_layout_alone : (G : Table) (bound : ℕ) (is : List PlainInst) (r : Rule) (n : ℕ) (e : Evidence)
-    → IsEvidence G bound is r n e → stage_of r < stages.of_ids → by_layout.IsEvidence G is r n e
-of_layout_alone G bound is _ _ _ (IsEvidence.of_layout r n e h) s = h
-of_layout_alone G bound is _ _ _ (IsEvidence.of_ids r n e h) s =
+pub of_layout_alone : (G : Table) (reach : Reach) (bound : ℕ) (is : List PlainInst) (r : Rule) (n : ℕ) (e : Evidence)
+    → IsEvidence G reach bound is r n e → stage_of r < stages.of_ids → by_layout.IsEvidence G is r n e
+of_layout_alone G reach bound is _ _ _ (IsEvidence.of_layout r n e h) s = h
+of_layout_alone G reach bound is _ _ _ (IsEvidence.of_ids r n e h) s =
     absurd (apart r 3 3 s (inl (ids_stage G bound is r n (ids_suffice G bound is r n e h))) (omega arith) (omega arith))
-of_layout_alone G bound is _ _ _ (IsEvidence.of_roles r n e h) s =
+of_layout_alone G reach bound is _ _ _ (IsEvidence.of_roles r n e h) s =
     absurd (apart r 4 5 s (types_stage G is r n (roles_broken G is r n e h)) (omega arith) (omega arith))
-of_layout_alone G bound is _ _ _ (IsEvidence.of_capabilities r n e h) s =
+of_layout_alone G reach bound is _ _ _ (IsEvidence.of_capabilities r n e h) s =
     absurd (apart r 4 5 s (types_stage G is r n (capabilities_broken G is r n e h)) (omega arith) (omega arith))
-of_layout_alone G bound is _ _ _ (IsEvidence.of_types r n e h) s =
+of_layout_alone G reach bound is _ _ _ (IsEvidence.of_types r n e h) s =
     absurd (apart r 4 5 s (types_stage G is r n (types_broken G is r n e h)) (omega arith) (omega arith))
-of_layout_alone G bound is _ _ _ (IsEvidence.of_operations r n e h) s =
+of_layout_alone G reach bound is _ _ _ (IsEvidence.of_operations r n e h) s =
     absurd (apart r 4 5 s (types_stage G is r n (operations_broken G is r n e h)) (omega arith) (omega arith))
-of_layout_alone G bound is _ _ _ (IsEvidence.of_branches r n e h) s =
+of_layout_alone G reach bound is _ _ _ (IsEvidence.of_branches r n e h) s =
     absurd (apart r 6 7 s (flow_stage G is r n (branches_law.suffices G is r n e h)) (omega arith) (omega arith))
-of_layout_alone G bound is _ _ _ (IsEvidence.of_walks r n e h) s =
+of_layout_alone G reach bound is _ _ _ (IsEvidence.of_walks r n e h) s =
     absurd (apart r 6 7 s (flow_stage G is r n (walks_law.suffices G is r n e h)) (omega arith) (omega arith))
-of_layout_alone G bound is _ _ _ (IsEvidence.of_calls r n e h) s =
+of_layout_alone G reach bound is _ _ _ (IsEvidence.of_calls r n e h) s =
     absurd (apart r 8 8 s (inl (calls_stage is r n (sufficient is r n e h))) (omega arith) (omega arith))
+of_layout_alone G reach bound is _ _ _ (IsEvidence.of_extended r n e on h) s =
+    absurd (apart r 9 9 s (inl (extended_stage reach is r n (extended_broken reach is r n e on h))) (omega arith) (omega arith))
+
+-- evidence of the last stage is that of calls of extended instructions
+below : (r : Rule) (a b : ℕ) → stage_of r ≡ stages.of_extended → (stage_of r ≡ a) ⊎ (stage_of r ≡ b) → a ≤ 8 → b ≤ 8 → ⊥
+below r a b s (inl e) l m = omega (arith, s, e, l)
+below r a b s (inr e) l m = omega (arith, s, e, m)
+
+pub record IsOfExtended (reach : Reach) (is : List PlainInst) (r : Rule) (n : ℕ) (e : Evidence) : Type 0 where
+  pub on : reach ≡ Extended
+  pub shows : by_extended.IsEvidence is r n e
+
+pub of_extended_alone : (G : Table) (reach : Reach) (bound : ℕ) (is : List PlainInst) (r : Rule) (n : ℕ) (e : Evidence)
+    → IsEvidence G reach bound is r n e → stage_of r ≡ stages.of_extended → IsOfExtended reach is r n e
+of_extended_alone G reach bound is _ _ _ (IsEvidence.of_layout r n e h) s =
+    absurd (below r 1 2 s (layout_stage G is r n (layout_law.suffices G is r n e h)) (omega arith) (omega arith))
+of_extended_alone G reach bound is _ _ _ (IsEvidence.of_ids r n e h) s =
+    absurd (below r 3 3 s (inl (ids_stage G bound is r n (ids_suffice G bound is r n e h))) (omega arith) (omega arith))
+of_extended_alone G reach bound is _ _ _ (IsEvidence.of_roles r n e h) s =
+    absurd (below r 4 5 s (types_stage G is r n (roles_broken G is r n e h)) (omega arith) (omega arith))
+of_extended_alone G reach bound is _ _ _ (IsEvidence.of_capabilities r n e h) s =
+    absurd (below r 4 5 s (types_stage G is r n (capabilities_broken G is r n e h)) (omega arith) (omega arith))
+of_extended_alone G reach bound is _ _ _ (IsEvidence.of_types r n e h) s =
+    absurd (below r 4 5 s (types_stage G is r n (types_broken G is r n e h)) (omega arith) (omega arith))
+of_extended_alone G reach bound is _ _ _ (IsEvidence.of_operations r n e h) s =
+    absurd (below r 4 5 s (types_stage G is r n (operations_broken G is r n e h)) (omega arith) (omega arith))
+of_extended_alone G reach bound is _ _ _ (IsEvidence.of_branches r n e h) s =
+    absurd (below r 6 7 s (flow_stage G is r n (branches_law.suffices G is r n e h)) (omega arith) (omega arith))
+of_extended_alone G reach bound is _ _ _ (IsEvidence.of_walks r n e h) s =
+    absurd (below r 6 7 s (flow_stage G is r n (walks_law.suffices G is r n e h)) (omega arith) (omega arith))
+of_extended_alone G reach bound is _ _ _ (IsEvidence.of_calls r n e h) s =
+    absurd (below r 8 8 s (inl (calls_stage is r n (sufficient is r n e h))) (omega arith) (omega arith))
+of_extended_alone G reach bound is _ _ _ (IsEvidence.of_extended r n e on h) s = record { on = on; shows = h }

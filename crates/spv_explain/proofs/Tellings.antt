@@ -11,6 +11,9 @@ use Rattle.spv_words.specs.declared.words.WordError.{WordError}
 use Rattle.spv_words.specs.declared.words.WordError.TheVariants as word
 use Rattle.spv_words.specs.declared.words.Order.{Order}
 use Rattle.spv_table.specs.Table.{Table}
+use Rattle.spv_extended.specs.declared.reach.Reach.{Reach}
+use Rattle.spv_extended.specs.declared.reach.Reach.TheVariants.{Profile}
+use Rattle.spv_extended.specs.Reach.{looked_at}
 use Rattle.spv_layout.specs.Place.{AreFew, word_count}
 use Rattle.spv_module.specs.Operand.{PlainInst}
 use Rattle.spv_module.specs.Instruction.{IsListing}
@@ -23,6 +26,7 @@ use Rattle.spv_evidence.specs.declared.evidence.Evidence.{Evidence}
 use Rattle.spv_verdict.specs.Answer.{IsFault}
 use Rattle.spv_verdict.specs.Checked.{IsChecked}
 use Rattle.spv_verdict.specs.Program.{Program}
+use Rattle.spv_verdict.specs.Reading.{IsReading}
 use Rattle.spv_verdict.specs.Text.{line_of, refusal_of}
 use Rattle.spv_verdict.specs.Verdict.{IsVerdict, refused, valid_line}
 use Rattle.spv_verdict.specs.declared.verdict_line.Judgment.{Judgment}
@@ -59,42 +63,42 @@ fault_others laws bytes words order f j lines h e = record {
   refused = λ code b. absurd (laws.never code order bytes words h b);
 }
 
-pub valid_told : Laws → (z : Detail) (G : Table) (bytes words : List ℕ) (order : Order) (p : Program)
-    (t : Explanation) → IsModule order bytes words → IsChecked G words p → t.judgment ≡ judgments.Valid
-    → string_bytes t.lines ≡ [] → IsExplanation z G bytes t
-valid_told laws z G bytes words order p t h c e l = record {
-  verdict = subst (λ j. IsVerdict G bytes (line_of j)) (sym e) (valid_verdict G bytes words order p h c);
-  explain = valid_explains laws z G bytes words order p (string_bytes t.lines) h c;
-  dead = listed_explains laws z G bytes words order p.insts (string_bytes t.lines) h c.listing;
+pub valid_told : Laws → (z : Detail) (G : Table) (reach : Reach) (bytes words : List ℕ) (order : Order) (p : Program)
+    (t : Explanation) → IsModule order bytes words → IsChecked G reach words p → t.judgment ≡ judgments.Valid
+    → string_bytes t.lines ≡ [] → IsExplanation z G reach bytes t
+valid_told laws z G reach bytes words order p t h c e l = record {
+  verdict = subst (λ j. IsVerdict G reach bytes (line_of j)) (sym e) (valid_verdict G reach bytes words order p h c);
+  explain = valid_explains laws z G reach bytes words order p (string_bytes t.lines) h c;
+  dead = listed_explains laws z G bytes words order c.reading.spelled (string_bytes t.lines) h c.reading.listing;
   others = record { valid = λ v. l; refused = λ code b. absurd (laws.never code order bytes words h b) };
 }
 
-pub dead_told : {E : Type 0} → Laws → (z : Detail) (G : Table) (bytes words : List ℕ) (order : Order) (f : Fault) (e : Evidence)
+pub dead_told : {E : Type 0} → Laws → (z : Detail) (G : Table) (reach : Reach) (bytes words : List ℕ) (order : Order) (f : Fault) (e : Evidence)
     (r : Answer Explanation E) → IsModule order bytes words → IsDecodeFault G words (stop.Fault f)
     → instructions.IsEvidence G (drop 5 words) f.rule f.inst (f.word - 5) e
     → IfOk r (λ t. t.judgment ≡ judgments.Broken f) → IfOk r (λ t. string_bytes t.lines ≡ malformed_text z G (drop 5 words) f.rule f.inst (f.word - 5) e)
-    → IfOk r (λ t. IsExplanation z G bytes t)
-dead_told laws z G bytes words order f e (Ok t) h d shown j l = record {
-  verdict = subst (λ x. IsVerdict G bytes (line_of x)) (sym j)
-      (fault_verdict G bytes words order f h (IsFault.dead d.0 d.1));
-  explain = dead_explains laws z G bytes words order f (string_bytes t.lines) h d;
+    → IfOk r (λ t. IsExplanation z G reach bytes t)
+dead_told laws z G reach bytes words order f e (Ok t) h d shown j l = record {
+  verdict = subst (λ x. IsVerdict G reach bytes (line_of x)) (sym j)
+      (fault_verdict G reach bytes words order f h (IsFault.dead d.0 d.1));
+  explain = dead_explains laws z G reach bytes words order f (string_bytes t.lines) h d;
   dead = dead_shows laws z G bytes words order f e (string_bytes t.lines) h d shown l;
   others = fault_others laws bytes words order f t.judgment (string_bytes t.lines) h j;
 }
-dead_told laws z G bytes words order f e (Err _) h d shown j l = tt
+dead_told laws z G reach bytes words order f e (Err _) h d shown j l = tt
 
-pub broken_told : {E : Type 0} → Laws → (z : Detail) (G : Table) (bytes words : List ℕ) (order : Order) (f : Fault) (e : Evidence)
-    (m : Module) (shown : List (List ℕ)) (r : Answer Explanation E) → IsModule order bytes words → IsBrokenModule G words f e m
+pub broken_told : {E : Type 0} → Laws → (z : Detail) (G : Table) (reach : Reach) (bytes words : List ℕ) (order : Order) (f : Fault) (e : Evidence)
+    (m : Module) (shown : List (List ℕ)) (r : Answer Explanation E) → IsModule order bytes words → IsBrokenModule G reach words f e m
     → ShownLines G [] (plain_insts m) shown → IfOk r (λ t. t.judgment ≡ judgments.Broken f)
     → IfOk r (λ t. string_bytes t.lines ≡ fault_text z G m.header.bound (plain_insts m) shown f.rule f.inst e)
-    → IfOk r (λ t. IsExplanation z G bytes t)
-broken_told laws z G bytes words order f e m shown (Ok t) h b s j l = record {
-  verdict = subst (λ x. IsVerdict G bytes (line_of x)) (sym j) (fault_verdict G bytes words order f h (broken_fault G words f e m b));
-  explain = explains laws z G bytes words order f e m shown (string_bytes t.lines) h b s l;
+    → IfOk r (λ t. IsExplanation z G reach bytes t)
+broken_told laws z G reach bytes words order f e m shown (Ok t) h b s j l = record {
+  verdict = subst (λ x. IsVerdict G reach bytes (line_of x)) (sym j) (fault_verdict G reach bytes words order f h (broken_fault G reach words f e m b));
+  explain = explains laws z G reach bytes words order f e m shown (string_bytes t.lines) h b s l;
   dead = listed_explains laws z G bytes words order (plain_insts m) (string_bytes t.lines) h b.listing;
   others = fault_others laws bytes words order f t.judgment (string_bytes t.lines) h j;
 }
-broken_told laws z G bytes words order f e m shown (Err _) h b s j l = tt
+broken_told laws z G reach bytes words order f e m shown (Err _) h b s j l = tt
 
 -- bytes that gave no image
 refused_line_only : (bytes : List ℕ) (code : WordError) (j : Judgment) → judgments.Refused code ≡ j → ¬ (line_of j ≡ valid_line)
@@ -102,11 +106,11 @@ refused_line_only bytes code j e v = let w : line_of (judgments.Refused code) �
 
 refused_one : ((d e : WordError) (bs : List ℕ) → IsFirstBroken d bs → IsFirstBroken e bs → d ≡ e)
     → ((e : WordError) (o : Order) (bs ws : List ℕ) → IsModule o bs ws → ¬ IsFirstBroken e bs)
-    → (z : Detail) (G : Table) (bytes : List ℕ) (code : WordError) (t : Explanation) → IsFirstBroken code bytes
-    → judgments.Refused code ≡ t.judgment → string_bytes t.lines ≡ refused_text code bytes → IsExplanation z G bytes t
-refused_one once never z G bytes code t b j l =
+    → (z : Detail) (G : Table) (reach : Reach) (bytes : List ℕ) (code : WordError) (t : Explanation) → IsFirstBroken code bytes
+    → judgments.Refused code ≡ t.judgment → string_bytes t.lines ≡ refused_text code bytes → IsExplanation z G reach bytes t
+refused_one once never z G reach bytes code t b j l =
     record {
-      verdict = subst (λ x. IsVerdict G bytes (line_of x)) j (refused code b);
+      verdict = subst (λ x. IsVerdict G reach bytes (line_of x)) j (refused code b);
       explain = λ ws q js r n g l first s. absurd (never code q bytes ws g b);
       dead = λ ws q r n m g k. absurd (never code q bytes ws g b);
       others = record {
@@ -117,20 +121,20 @@ refused_one once never z G bytes code t b j l =
 
 pub refused_told : ((d e : WordError) (bs : List ℕ) → IsFirstBroken d bs → IsFirstBroken e bs → d ≡ e)
     → ((e : WordError) (o : Order) (bs ws : List ℕ) → IsModule o bs ws → ¬ IsFirstBroken e bs)
-    → (z : Detail) (G : Table) (bytes : List ℕ) (code : WordError) (r : Answer Explanation WordError)
+    → (z : Detail) (G : Table) (reach : Reach) (bytes : List ℕ) (code : WordError) (r : Answer Explanation WordError)
     → RefusesBytes code bytes → IfOk r (λ t. refusal_of code ≡ Ok t.judgment)
     → IfOk r (λ t. string_bytes t.lines ≡ refused_text code bytes)
-    → IfOk r (λ t. IsExplanation z G bytes t)
-refused_told once never z G bytes code (Err _) h e l = tt
-refused_told once never z G bytes word.W1 (Ok t) h e l = absurd cc
-refused_told once never z G bytes word.W9 (Ok t) h e l = absurd cc
-refused_told once never z G bytes word.W2 (Ok t) h e l = (let j : judgments.Refused word.W2 ≡ t.judgment = cc in refused_one once never z G bytes word.W2 t h j l)
-refused_told once never z G bytes word.W3 (Ok t) h e l = (let j : judgments.Refused word.W3 ≡ t.judgment = cc in refused_one once never z G bytes word.W3 t h j l)
-refused_told once never z G bytes word.W4 (Ok t) h e l = (let j : judgments.Refused word.W4 ≡ t.judgment = cc in refused_one once never z G bytes word.W4 t h j l)
-refused_told once never z G bytes word.W5 (Ok t) h e l = (let j : judgments.Refused word.W5 ≡ t.judgment = cc in refused_one once never z G bytes word.W5 t h j l)
-refused_told once never z G bytes word.W6 (Ok t) h e l = (let j : judgments.Refused word.W6 ≡ t.judgment = cc in refused_one once never z G bytes word.W6 t h j l)
-refused_told once never z G bytes word.W7 (Ok t) h e l = (let j : judgments.Refused word.W7 ≡ t.judgment = cc in refused_one once never z G bytes word.W7 t h j l)
-refused_told once never z G bytes word.W8 (Ok t) h e l = (let j : judgments.Refused word.W8 ≡ t.judgment = cc in refused_one once never z G bytes word.W8 t h j l)
+    → IfOk r (λ t. IsExplanation z G reach bytes t)
+refused_told once never z G reach bytes code (Err _) h e l = tt
+refused_told once never z G reach bytes word.W1 (Ok t) h e l = absurd cc
+refused_told once never z G reach bytes word.W9 (Ok t) h e l = absurd cc
+refused_told once never z G reach bytes word.W2 (Ok t) h e l = (let j : judgments.Refused word.W2 ≡ t.judgment = cc in refused_one once never z G reach bytes word.W2 t h j l)
+refused_told once never z G reach bytes word.W3 (Ok t) h e l = (let j : judgments.Refused word.W3 ≡ t.judgment = cc in refused_one once never z G reach bytes word.W3 t h j l)
+refused_told once never z G reach bytes word.W4 (Ok t) h e l = (let j : judgments.Refused word.W4 ≡ t.judgment = cc in refused_one once never z G reach bytes word.W4 t h j l)
+refused_told once never z G reach bytes word.W5 (Ok t) h e l = (let j : judgments.Refused word.W5 ≡ t.judgment = cc in refused_one once never z G reach bytes word.W5 t h j l)
+refused_told once never z G reach bytes word.W6 (Ok t) h e l = (let j : judgments.Refused word.W6 ≡ t.judgment = cc in refused_one once never z G reach bytes word.W6 t h j l)
+refused_told once never z G reach bytes word.W7 (Ok t) h e l = (let j : judgments.Refused word.W7 ≡ t.judgment = cc in refused_one once never z G reach bytes word.W7 t h j l)
+refused_told once never z G reach bytes word.W8 (Ok t) h e l = (let j : judgments.Refused word.W8 ≡ t.judgment = cc in refused_one once never z G reach bytes word.W8 t h j l)
 
 -- bytes that are no image break the code first
 pub refuses : (code : WordError) (bytes : List ℕ) → IsFirstBroken code bytes → RefusesBytes code bytes
@@ -161,43 +165,43 @@ too_large bytes l = record { broken = λ h. absurd (omega (arith, l, h)); before
 
 pub stopped_told : ((d e : WordError) (bs : List ℕ) → IsFirstBroken d bs → IsFirstBroken e bs → d ≡ e)
     → ((e : WordError) (o : Order) (bs ws : List ℕ) → IsModule o bs ws → ¬ IsFirstBroken e bs)
-    → (z : Detail) (G : Table) (known : Option (List ℕ)) (code : WordError) (front : Front) (r : Answer Explanation WordError)
+    → (z : Detail) (G : Table) (reach : Reach) (known : Option (List ℕ)) (code : WordError) (front : Front) (r : Answer Explanation WordError)
     → IsStop code → (code ≡ word.W8 → IfSome known (λ xs. 16777216 < length xs))
     → IfOk r (λ t. refusal_of code ≡ Ok t.judgment) → IfOk r (λ t. string_bytes t.lines ≡ refused_by code front)
-    → IfSome known (λ xs. IfOk r (λ t. IsExplanation z G xs t))
-stopped_told once never z G None code front r s o e l = tt
-stopped_told once never z G (Some xs) word.W8 front r s o e l = refused_told once never z G xs word.W8 r (too_large xs (o refl)) e l
-stopped_told once never z G (Some xs) word.W1 front r s o e l = refused_told once never z G xs word.W1 r tt e l
-stopped_told once never z G (Some xs) word.W9 front r s o e l = refused_told once never z G xs word.W9 r tt e l
-stopped_told once never z G (Some xs) word.W2 front r s o e l = absurd s
-stopped_told once never z G (Some xs) word.W3 front r s o e l = absurd s
-stopped_told once never z G (Some xs) word.W4 front r s o e l = absurd s
-stopped_told once never z G (Some xs) word.W5 front r s o e l = absurd s
-stopped_told once never z G (Some xs) word.W6 front r s o e l = absurd s
-stopped_told once never z G (Some xs) word.W7 front r s o e l = absurd s
+    → IfSome known (λ xs. IfOk r (λ t. IsExplanation z G reach xs t))
+stopped_told once never z G reach None code front r s o e l = tt
+stopped_told once never z G reach (Some xs) word.W8 front r s o e l = refused_told once never z G reach xs word.W8 r (too_large xs (o refl)) e l
+stopped_told once never z G reach (Some xs) word.W1 front r s o e l = refused_told once never z G reach xs word.W1 r tt e l
+stopped_told once never z G reach (Some xs) word.W9 front r s o e l = refused_told once never z G reach xs word.W9 r tt e l
+stopped_told once never z G reach (Some xs) word.W2 front r s o e l = absurd s
+stopped_told once never z G reach (Some xs) word.W3 front r s o e l = absurd s
+stopped_told once never z G reach (Some xs) word.W4 front r s o e l = absurd s
+stopped_told once never z G reach (Some xs) word.W5 front r s o e l = absurd s
+stopped_told once never z G reach (Some xs) word.W6 front r s o e l = absurd s
+stopped_told once never z G reach (Some xs) word.W7 front r s o e l = absurd s
 
 -- all the bytes of a reader
-pub octets_known : (z : Detail) (G : Table) (known after : Option (List ℕ)) (octets : List ℕ) (r : Answer Explanation WordError)
-    → Consumes known after octets → IsAtEnd after → IfOk r (λ t. IsExplanation z G octets t)
-    → IfSome known (λ xs. IfOk r (λ t. IsExplanation z G xs t))
-octets_known z G None after octets r c e h = tt
-octets_known z G (Some xs) None octets r c e h = absurd c
-octets_known z G (Some xs) (Some ys) octets r c e h =
-    subst (λ b. IfOk r (λ t. IsExplanation z G b t)) (sym (c ∙ (ap (λ q. octets ++ q) e ∙ append-nil octets))) h
+pub octets_known : (z : Detail) (G : Table) (reach : Reach) (known after : Option (List ℕ)) (octets : List ℕ) (r : Answer Explanation WordError)
+    → Consumes known after octets → IsAtEnd after → IfOk r (λ t. IsExplanation z G reach octets t)
+    → IfSome known (λ xs. IfOk r (λ t. IsExplanation z G reach xs t))
+octets_known z G reach None after octets r c e h = tt
+octets_known z G reach (Some xs) None octets r c e h = absurd c
+octets_known z G reach (Some xs) (Some ys) octets r c e h =
+    subst (λ b. IfOk r (λ t. IsExplanation z G reach b t)) (sym (c ∙ (ap (λ q. octets ++ q) e ∙ append-nil octets))) h
 
 -- words that gave an image
-pub image_told : (z : Detail) (G : Table) (bytes words : List ℕ) (order : Order) (t : Explanation) → IsModule order bytes words
-    → ((bs : List ℕ) (o : Order) → IsModule o bs words → IsExplanation z G bs t) → IsExplanation z G bytes t
-image_told z G bytes words order t h v = v bytes order h
+pub image_told : (z : Detail) (G : Table) (reach : Reach) (bytes words : List ℕ) (order : Order) (t : Explanation) → IsModule order bytes words
+    → ((bs : List ℕ) (o : Order) → IsModule o bs words → IsExplanation z G reach bs t) → IsExplanation z G reach bytes t
+image_told z G reach bytes words order t h v = v bytes order h
 
 -- the lines were written whole, or a beginning of them
-pub told_whole : (z : Detail) (G : Table) (known kept new : Option (List ℕ)) (t : Explanation) (bytes : List ℕ) (answer : Bool)
-    → IfSome known (λ bs. IsExplanation z G bs t) → bytes ≡ line_of t.judgment ++ string_bytes t.lines
-    → Appends kept new bytes → (IsTrue answer ↔ (line_of t.judgment ≡ valid_line)) → IfSome known (λ bs. IfSome kept (λ old. Explains z G bs old new answer))
-told_whole z G None kept new t bytes answer h e w a = tt
-told_whole z G (Some bs) None new t bytes answer h e w a = tt
-told_whole z G (Some bs) (Some old) None t bytes answer h e w a = absurd w
-told_whole z G (Some bs) (Some old) (Some xs) t bytes answer h e w a =
+pub told_whole : (z : Detail) (G : Table) (reach : Reach) (known kept new : Option (List ℕ)) (t : Explanation) (bytes : List ℕ) (answer : Bool)
+    → IfSome known (λ bs. IsExplanation z G reach bs t) → bytes ≡ line_of t.judgment ++ string_bytes t.lines
+    → Appends kept new bytes → (IsTrue answer ↔ (line_of t.judgment ≡ valid_line)) → IfSome known (λ bs. IfSome kept (λ old. Explains z G reach bs old new answer))
+told_whole z G reach None kept new t bytes answer h e w a = tt
+told_whole z G reach (Some bs) None new t bytes answer h e w a = tt
+told_whole z G reach (Some bs) (Some old) None t bytes answer h e w a = absurd w
+told_whole z G reach (Some bs) (Some old) (Some xs) t bytes answer h e w a =
     record {
       line = line_of t.judgment;
       lines = string_bytes t.lines;
@@ -209,12 +213,12 @@ told_whole z G (Some bs) (Some old) (Some xs) t bytes answer h e w a =
       answered = a;
     }
 
-pub told_begun : (z : Detail) (G : Table) (known kept new : Option (List ℕ)) (t : Explanation) (bytes : List ℕ)
-    → IfSome known (λ bs. IsExplanation z G bs t) → bytes ≡ line_of t.judgment ++ string_bytes t.lines
-    → IfSome kept (λ xs. (n : ℕ) × (n ≤ length bytes) × (new ≡ Some (xs ++ take n bytes))) → IfSome known (λ bs. IfSome kept (λ old. BeginsExplaining z G bs old new))
-told_begun z G None kept new t bytes h e w = tt
-told_begun z G (Some bs) None new t bytes h e w = tt
-told_begun z G (Some bs) (Some old) new t bytes h e w =
+pub told_begun : (z : Detail) (G : Table) (reach : Reach) (known kept new : Option (List ℕ)) (t : Explanation) (bytes : List ℕ)
+    → IfSome known (λ bs. IsExplanation z G reach bs t) → bytes ≡ line_of t.judgment ++ string_bytes t.lines
+    → IfSome kept (λ xs. (n : ℕ) × (n ≤ length bytes) × (new ≡ Some (xs ++ take n bytes))) → IfSome known (λ bs. IfSome kept (λ old. BeginsExplaining z G reach bs old new))
+told_begun z G reach None kept new t bytes h e w = tt
+told_begun z G reach (Some bs) None new t bytes h e w = tt
+told_begun z G reach (Some bs) (Some old) new t bytes h e w =
     record {
       line = line_of t.judgment;
       lines = string_bytes t.lines;
@@ -226,6 +230,12 @@ told_begun z G (Some bs) (Some old) new t bytes h e w =
       fits = rw (← e) w.1;
       written = rw (← e) w.2;
     }
+
+-- under the profile a list is looked at as it is spelled
+pub as_spelled : (G : Table) (reach : Reach) (is : List PlainInst) (ws : List ℕ) → reach ≡ Profile → IsReading G reach is ws → IsListing G is ws
+as_spelled G reach is ws e d =
+    let same : is ≡ d.spelled = subst (λ r. is ≡ looked_at r d.spelled) e d.seen in
+    subst (λ js. IsListing G js ws) (sym same) d.listing
 
 -- a module that is handed out
 pub some_module : (G : Table) (words : List ℕ) (is : List PlainInst) (o : Option Module) → IsSomeAnd o (λ m. (plain_insts m ≡ is) × IsHeaderOf words m.header)

@@ -16,6 +16,7 @@ use Rattle.spv_words.specs.declared.words.WordError.TheVariants as word
 use Rattle.spv_module.specs.declared.fault.Rule.{Rule}
 use Rattle.spv_module.specs.declared.opcode.TheConstants as opcode
 use Rattle.spv_module.specs.declared.fault.Rule.TheVariants.{L1, D2}
+use Rattle.spv_extended.specs.declared.reach.Reach.TheVariants.{Profile}
 use Rattle.spv_layout.specs.First.{stage_of}
 use Rattle.spv_layout.specs.Rows.{rows}
 use Rattle.spv_layout.specs.declared.state.State.TheVariants as at
@@ -27,7 +28,7 @@ use Rattle.spv_inst.proofs.Lists.{listing_same}
 use Rattle.spv_inst.proofs.Worked.{string_listed}
 use Rattle.spv_verdict.specs.Broken.{Broken}
 use Rattle.spv_verdict.specs.Verdict.{line_end}
-use Rattle.spv_verdict.proofs.Firsts.{calls_stage, flow_stage, layout_stage}
+use Rattle.spv_verdict.proofs.Firsts.{calls_stage, extended_stage, flow_stage, layout_stage}
 use Rattle.spv_verdict.proofs.Stages.{types_stage}
 use Rattle.spv_evidence.specs.declared.evidence.Evidence.{Evidence}
 use Rattle.spv_evidence.specs.declared.evidence.Evidence.TheVariants.{MayCome, NoEntry}
@@ -146,7 +147,7 @@ no_second _ _ (ids.Broken.mention_undefined n k x m d) e z = cc
 no_second _ _ (ids.Broken.not_in_order n k x r u o i) e z = cc
 no_second _ _ (ids.Broken.not_in_scope n k x r u o l i) e z = cc
 
-no_broken : (r : Rule) (n : ℕ) → Broken small 5 twice_void r n → r ≡ D2 → n ≡ 0 → ⊥
+no_broken : (r : Rule) (n : ℕ) → Broken small Profile 5 twice_void r n → r ≡ D2 → n ≡ 0 → ⊥
 no_broken _ _ (Broken.of_layout r n b) e z =
     let s : stage_of r ≡ stages.of_ids = subst (λ q. stage_of q ≡ stages.of_ids) (sym e) refl in
     elim (layout_stage small twice_void r n b) [ inl t ↦ absurd (omega (arith, s, t)) | inr t ↦ absurd (omega (arith, s, t)) ]
@@ -161,9 +162,13 @@ no_broken _ _ (Broken.of_calls r n b) e z =
     let s : stage_of r ≡ stages.of_ids = subst (λ q. stage_of q ≡ stages.of_ids) (sym e) refl in
     let t = calls_stage twice_void r n b in
     absurd (omega (arith, s, t))
+no_broken _ _ (Broken.of_extended r n b) e z =
+    let s : stage_of r ≡ stages.of_ids = subst (λ q. stage_of q ≡ stages.of_ids) (sym e) refl in
+    let t = extended_stage Profile twice_void r n b in
+    absurd (omega (arith, s, t))
 
-pub no_first_lines : (lines : List ℕ) → ¬ (AreLinesOf Short small 5 twice_void D2 0 lines)
-no_first_lines lines l = no_broken D2 0 (suffices small 5 twice_void D2 0 l.evidence l.shows) refl refl
+pub no_first_lines : (lines : List ℕ) → ¬ (AreLinesOf Short small Profile 5 twice_void D2 0 lines)
+no_first_lines lines l = no_broken D2 0 (suffices small Profile 5 twice_void D2 0 l.evidence l.shows) refl refl
 
 -- an OpString first
 first_opcodes : followers at.Capabilities 331 ≡ 10 ∷ 11 ∷ 14 ∷ 17 ∷ []
@@ -183,7 +188,7 @@ not_string c = by c.0 c.1 c.2
     by (suc (suc (suc zero))) l e = cc
     by (suc (suc (suc (suc k)))) l e = absurd (omega (arith, l))
 
-string_shows : IsEvidence small 9 (string ∷ []) L1 0 (MayCome (10 ∷ 11 ∷ 14 ∷ 17 ∷ []) false)
+string_shows : IsEvidence small Profile 9 (string ∷ []) L1 0 (MayCome (10 ∷ 11 ∷ 14 ∷ 17 ∷ []) false)
 string_shows =
     IsEvidence.of_layout L1 0 _ (layout.IsEvidence.misplaced string 0 (10 ∷ 11 ∷ 14 ∷ 17 ∷ []) false refl first_to_come not_string)
 
@@ -210,7 +215,7 @@ facts_told : (codes "at: %5 = OpString \"abc\"" ++ line_end) ++ (codes "may come
     ≡ text_of Short small (string ∷ []) (codes "%5 = OpString \"abc\"" ∷ []) (facts_of 9 (string ∷ []) L1 0 (MayCome (10 ∷ 11 ∷ 14 ∷ 17 ∷ []) false))
 facts_told = refl
 
-pub string_lines : AreLinesOf Short small 9 (string ∷ []) L1 0
+pub string_lines : AreLinesOf Short small Profile 9 (string ∷ []) L1 0
     (rule_line (Code.Rule L1) ++ ((codes "at: %5 = OpString \"abc\"" ++ line_end)
     ++ (codes "may come:" ++ line_end)))
 string_lines = record {
@@ -224,15 +229,15 @@ string_lines = record {
 the_string : (is : List PlainInst) → IsListing small is (drop 5 string_words) → string ∷ [] ≡ is
 the_string is l = listing_same small [] (string ∷ []) is (drop 5 string_words) (drop 5 string_words) string_listed l refl
 
-pub string_shown : IsShownBy small string_words string_fault (MayCome (10 ∷ 11 ∷ 14 ∷ 17 ∷ []) false)
-string_shown is l s = subst (λ js. IsEvidence small 9 js L1 0 (MayCome (10 ∷ 11 ∷ 14 ∷ 17 ∷ []) false)) (the_string is l) string_shows
+pub string_shown : IsShownBy small Profile string_words string_fault (MayCome (10 ∷ 11 ∷ 14 ∷ 17 ∷ []) false)
+string_shown is l s = subst (λ js. IsEvidence small Profile 9 js L1 0 (MayCome (10 ∷ 11 ∷ 14 ∷ 17 ∷ []) false)) (the_string is l) string_shows
 
 no_entry_shows : (r : Rule) (n : ℕ) (e : Evidence) → layout.IsEvidence small (string ∷ []) r n e → e ≡ NoEntry → ⊥
 no_entry_shows _ _ _ (layout.IsEvidence.misfit i n known h k f) e = cc
 no_entry_shows _ _ _ (layout.IsEvidence.misplaced i n os end h a none) e = cc
 no_entry_shows _ _ _ (layout.IsEvidence.unfinished os a) e = cc
 
-pub string_not_shown : ¬ (IsShownBy small string_words string_fault NoEntry)
+pub string_not_shown : ¬ (IsShownBy small Profile string_words string_fault NoEntry)
 string_not_shown h =
     let e = h (string ∷ []) string_listed (omega arith) in
-    no_entry_shows L1 0 NoEntry (of_layout_alone small 9 (string ∷ []) L1 0 NoEntry e (omega arith)) refl
+    no_entry_shows L1 0 NoEntry (of_layout_alone small Profile 9 (string ∷ []) L1 0 NoEntry e (omega arith)) refl

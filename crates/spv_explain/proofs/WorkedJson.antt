@@ -11,6 +11,8 @@ use Rattle.spv_table.specs.Table.{Table}
 use Rattle.spv_module.specs.Instruction.{IsListing}
 use Rattle.spv_module.specs.Operand.{PlainInst}
 use Rattle.spv_module.specs.declared.fault.Fault.{Fault}
+use Rattle.spv_extended.specs.declared.reach.Reach.{Reach}
+use Rattle.spv_extended.specs.Reach.{looked_at}
 use Rattle.spv_layout.specs.First.{stage_of}
 use Rattle.spv_layout.specs.Stage.{of_profile}
 use Rattle.spv_evidence.specs.declared.evidence.Evidence.{Evidence}
@@ -47,14 +49,14 @@ unread_told = refl
 pub found_told : refused_members word.W2 (front_of (1 ∷ 2 ∷ 3 ∷ [])) ≡ name (codes "found") ∷ string (codes "3 bytes") ∷ []
 found_told = rw (decimal_digit 3 (omega arith)) refl
 
-pub none_of_valid : (G : Table) (bytes : List ℕ) (members : List Token) → AreMembers G bytes verdicts.Valid members → members ≡ []
-none_of_valid G bytes members AreMembers.valid = refl
+pub none_of_valid : (G : Table) (reach : Reach) (bytes : List ℕ) (members : List Token) → AreMembers G reach bytes verdicts.Valid members → members ≡ []
+none_of_valid G reach bytes members AreMembers.valid = refl
 
-pub fault_shown : (G : Table) (bytes : List ℕ) (f : Fault) (members : List Token) → AreMembers G bytes (verdicts.Broken f) members
+pub fault_shown : (G : Table) (reach : Reach) (bytes : List ℕ) (f : Fault) (members : List Token) → AreMembers G reach bytes (verdicts.Broken f) members
     → ((words : List ℕ) × (order : Order) × (is : List PlainInst) × IsModule order bytes words
-    × IsListing G is (drop 5 words) × (of_profile ≤ stage_of f.rule → Broken G (slice_index words 3) is f.rule f.inst))
+    × IsListing G is (drop 5 words) × (of_profile ≤ stage_of f.rule → Broken G reach (slice_index words 3) (looked_at reach is) f.rule f.inst))
     ⊎ ((words : List ℕ) × (order : Order) × (e : Evidence) × IsModule order bytes words
     × instructions.IsEvidence G (drop 5 words) f.rule f.inst (f.word - 5) e)
-fault_shown G bytes f members (AreMembers.broken words order is g e shown m l s are) =
-    inl (words, order, is, m, l, (λ late. suffices G (slice_index words 3) is f.rule f.inst e (s late)))
-fault_shown G bytes f members (AreMembers.dead words order g e m s) = inr (words, order, e, m, s)
+fault_shown G reach bytes f members (AreMembers.broken words order is g e shown m l s are) =
+    inl (words, order, is, m, l, (λ late. suffices G reach (slice_index words 3) (looked_at reach is) f.rule f.inst e (s late)))
+fault_shown G reach bytes f members (AreMembers.dead words order g e m s) = inr (words, order, e, m, s)

@@ -4,6 +4,8 @@ use Rattle.spv_table.specs.Table.{Table}
 use Rattle.spv_module.specs.Operand.{PlainInst}
 use Rattle.spv_module.specs.Instruction.{IsListing}
 use Rattle.spv_module.specs.declared.fault.Fault.{Fault}
+use Rattle.spv_extended.specs.declared.reach.Reach.{Reach}
+use Rattle.spv_extended.specs.Reach.{looked_at}
 use Rattle.spv_layout.specs.First.{stage_of}
 use Rattle.spv_evidence.specs.declared.evidence.Evidence.{Evidence}
 use Rattle.spv_layout.specs.Stage as stages
@@ -20,16 +22,17 @@ verdict_in (Valid c) = verdict.Valid c
 verdict_in (Malformed f place e) = verdict.Fault f
 verdict_in (Broken f e m) = verdict.Fault f
 
--- A fault of the stages P to G, of words that spell a list of instructions, comes with evidence.
-abbrev pub IsShownBy : Table → List ℕ → Fault → Evidence → Type 0
-IsShownBy G words f e =
+-- A fault of the stages from P on, of words that spell a list of instructions, comes with evidence: of the list as far
+-- as it is looked at.
+abbrev pub IsShownBy : Table → Reach → List ℕ → Fault → Evidence → Type 0
+IsShownBy G reach words f e =
     (is : List PlainInst) → IsListing G is (drop 5 words) → stages.of_profile ≤ stage_of f.rule
-    → IsEvidence G (slice_index words 3) is f.rule f.inst e
+    → IsEvidence G reach (slice_index words 3) (looked_at reach is) f.rule f.inst e
 
-abbrev pub IsShown : Table → List ℕ → Explained → Type 0
-IsShown G words (Valid c) = Unit {0}
-IsShown G words (Malformed f place e) = IsShownBy G words f e
-IsShown G words (Broken f e m) = IsShownBy G words f e
+abbrev pub IsShown : Table → Reach → List ℕ → Explained → Type 0
+IsShown G reach words (Valid c) = Unit {0}
+IsShown G reach words (Malformed f place e) = IsShownBy G reach words f e
+IsShown G reach words (Broken f e m) = IsShownBy G reach words f e
 
 -- A fault of words that spell no list of instructions comes with evidence. Its word counts from the module's first.
 abbrev pub IsShownDeadBy : Table → List ℕ → Fault → Evidence → Type 0

@@ -11,6 +11,8 @@ use Rattle.spv_module.specs.Operand.{PlainInst}
 use Rattle.spv_module.specs.Instruction.{IsListing}
 use Rattle.spv_module.specs.declared.fault.Fault.{Fault}
 use Rattle.spv_lines.specs.Text.{ShownLines}
+use Rattle.spv_extended.specs.declared.reach.Reach.{Reach}
+use Rattle.spv_extended.specs.Reach.{looked_at}
 use Rattle.spv_layout.specs.First.{stage_of}
 use Rattle.spv_layout.specs.Stage as stages
 use Rattle.spv_rules.specs.Codes.{SaysSentence}
@@ -68,33 +70,36 @@ abbrev pub json_line : List Token → List ℕ
 json_line tokens = print tokens ++ 10 ∷ []
 
 -- The answer has the verdict of the bytes, and its object.
-pub record IsCheckAnswer (G : Table) (name : Option (List ℕ)) (bytes : List ℕ) (a : Answer) : Type 0 where
-  pub verdict : IsVerdict G bytes (line_of a.judgment)
+pub record IsCheckAnswer (G : Table) (reach : Reach) (name : Option (List ℕ)) (bytes : List ℕ)
+    (a : Answer) : Type 0 where
+  pub verdict : IsVerdict G reach bytes (line_of a.judgment)
   pub told : a.text.items ≡ json_line (object_of name a.judgment [])
 
--- The members tell why the bytes have the verdict, under the table.
-pub data AreMembers (G : Table) (bytes : List ℕ) : Judgment → List Token → Type 0 where
+-- The members tell why the bytes have the verdict, under the table, where a module is looked at so far.
+pub data AreMembers (G : Table) (reach : Reach) (bytes : List ℕ) : Judgment → List Token → Type 0 where
   -- of a valid module there is nothing to tell
-  valid : AreMembers G bytes Valid []
+  valid : AreMembers G reach bytes Valid []
   -- they are no words of a module: what is found
   refused : (code : WordError) → IsFirstBroken code bytes
-      → AreMembers G bytes (Refused code) (refused_members code (front_of bytes))
-  -- they are words of a list of instructions, and evidence shows the fault
+      → AreMembers G reach bytes (Refused code) (refused_members code (front_of bytes))
+  -- they are words of a list of instructions, and evidence shows the fault; members tell the list as it is spelled
   broken : (words : List ℕ) (order : Order) (is : List PlainInst) (f : Fault) (e : Evidence) (shown : List (List ℕ))
       → IsModule order bytes words → IsListing G is (drop 5 words)
-      → (stages.of_profile ≤ stage_of f.rule → IsEvidence G (slice_index words 3) is f.rule f.inst e)
+      → (stages.of_profile ≤ stage_of f.rule
+      → IsEvidence G reach (slice_index words 3) (looked_at reach is) f.rule f.inst e)
       → ShownLines G [] is shown
-      → AreMembers G bytes (Broken f) (members_of G is shown (facts_of (slice_index words 3) is f.rule f.inst e))
+      → AreMembers G reach bytes (Broken f) (members_of G is shown (facts_of (slice_index words 3) is f.rule f.inst e))
   -- they are words that spell no list of instructions, and evidence shows which instruction is malformed
   dead : (words : List ℕ) (order : Order) (f : Fault) (e : Evidence) → IsModule order bytes words
       → instructions.IsEvidence G (drop 5 words) f.rule f.inst (f.word - 5) e
-      → AreMembers G bytes (Broken f) (members_of G [] [] (malformed_facts (drop 5 words) f.inst (f.word - 5) e))
+      → AreMembers G reach bytes (Broken f) (members_of G [] [] (malformed_facts (drop 5 words) f.inst (f.word - 5) e))
 
 -- The answer has the verdict of the bytes, and its object with members that tell why.
-pub record IsExplainAnswer (G : Table) (name : Option (List ℕ)) (bytes : List ℕ) (a : Answer) : Type 0 where
-  pub verdict : IsVerdict G bytes (line_of a.judgment)
+pub record IsExplainAnswer (G : Table) (reach : Reach) (name : Option (List ℕ)) (bytes : List ℕ)
+    (a : Answer) : Type 0 where
+  pub verdict : IsVerdict G reach bytes (line_of a.judgment)
   pub members : List Token
-  pub explain : AreMembers G bytes a.judgment members
+  pub explain : AreMembers G reach bytes a.judgment members
   pub told : a.text.items ≡ json_line (object_of name a.judgment members)
 
 -- the object of a file that was not read

@@ -13,6 +13,8 @@ use Rattle.spv_inst.specs.Outcome.{IsHeaderOf}
 use Rattle.spv_module.specs.Malformed.{IsMalformedAt}
 use Rattle.spv_module.specs.declared.fault.Rule.{Rule}
 use Rattle.spv_lines.specs.Text.{ShownLines}
+use Rattle.spv_extended.specs.declared.reach.Reach.{Reach}
+use Rattle.spv_extended.specs.Reach.{looked_at}
 use Rattle.spv_layout.specs.First.{stage_of}
 use Rattle.spv_layout.specs.Stage as stages
 use Rattle.spv_verdict.specs.Broken.{IsFirstOfAll}
@@ -26,21 +28,22 @@ use Rattle.spv_explain.specs.Lines.{fault_text, malformed_text, refused_text}
 use Rattle.spv_explain.specs.declared.stream.Explanation.{Explanation}
 
 -- Under the table, the lines are those, in short or in full, of evidence which shows that the rule is broken at an
--- instruction of the list.
-pub record AreLinesOf (d : Detail) (G : Table) (bound : ℕ) (is : List PlainInst) (r : Rule) (n : ℕ)
+-- instruction of the list, as far as that is looked at. They tell the list as it is spelled.
+pub record AreLinesOf (d : Detail) (G : Table) (reach : Reach) (bound : ℕ) (is : List PlainInst) (r : Rule) (n : ℕ)
     (lines : List ℕ) : Type 0 where
   pub evidence : Evidence
-  pub shows : IsEvidence G bound is r n evidence
+  pub shows : IsEvidence G reach bound (looked_at reach is) r n evidence
   pub shown : List (List ℕ)
   pub are_shown : ShownLines G [] is shown
   pub told : lines ≡ fault_text d G bound is shown r n evidence
 
--- Of bytes that are words of a list of instructions which breaks a rule of the stages P to G first, the lines are those
--- of evidence that shows it.
-abbrev pub Explain : Detail → Table → List ℕ → List ℕ → Type 0
-Explain d G bytes lines = (words : List ℕ) (order : Order) (is : List PlainInst) (r : Rule) (n : ℕ)
-    → IsModule order bytes words → IsListing G is (drop 5 words) → IsFirstOfAll G (slice_index words 3) is r n
-    → stages.of_profile ≤ stage_of r → AreLinesOf d G (slice_index words 3) is r n lines
+-- Of bytes that are words of a list of instructions which, as far as it is looked at, first breaks a rule of the stages
+-- from P on, the lines are those of evidence that shows it.
+abbrev pub Explain : Detail → Table → Reach → List ℕ → List ℕ → Type 0
+Explain d G reach bytes lines = (words : List ℕ) (order : Order) (is : List PlainInst) (r : Rule) (n : ℕ)
+    → IsModule order bytes words → IsListing G is (drop 5 words)
+    → IsFirstOfAll G reach (slice_index words 3) (looked_at reach is) r n
+    → stages.of_profile ≤ stage_of r → AreLinesOf d G reach (slice_index words 3) is r n lines
 
 -- Under the table, the lines are those of evidence which shows that an instruction among the words is malformed by the
 -- rule, at that word.
@@ -50,8 +53,8 @@ pub record AreDeadLinesOf (d : Detail) (G : Table) (words : List ℕ) (r : Rule)
   pub shows : instructions.IsEvidence G words r n word evidence
   pub told : lines ≡ malformed_text d G words r n word evidence
 
--- Of bytes whose words spell no list of instructions, since one is malformed, the lines are those of evidence that shows
--- it.
+-- Of bytes whose words spell no list of instructions, since one is malformed, the lines are those of evidence that
+-- shows it.
 abbrev pub ExplainDead : Detail → Table → List ℕ → List ℕ → Type 0
 ExplainDead d G bytes lines = (words : List ℕ) (order : Order) (r : Rule) (n word : ℕ)
     → IsModule order bytes words → IsMalformedAt G (drop 5 words) r n word
@@ -64,9 +67,9 @@ pub record AreOthers (bytes line lines : List ℕ) : Type 0 where
   pub refused : (code : WordError) → IsFirstBroken code bytes → lines ≡ refused_text code bytes
 
 -- The verdict is that of the bytes, and the lines explain it, in short or in full.
-pub record IsExplanation (d : Detail) (G : Table) (bytes : List ℕ) (e : Explanation) : Type 0 where
-  pub verdict : IsVerdict G bytes (line_of e.judgment)
-  pub explain : Explain d G bytes (string_bytes e.lines)
+pub record IsExplanation (d : Detail) (G : Table) (reach : Reach) (bytes : List ℕ) (e : Explanation) : Type 0 where
+  pub verdict : IsVerdict G reach bytes (line_of e.judgment)
+  pub explain : Explain d G reach bytes (string_bytes e.lines)
   pub dead : ExplainDead d G bytes (string_bytes e.lines)
   pub others : AreOthers bytes (line_of e.judgment) (string_bytes e.lines)
 
@@ -81,24 +84,24 @@ IsModuleIn G words (Some m) = IsModuleOf G words m
 
 -- A writer that held the bytes `old` now also holds the verdict line of the bytes, after it lines that explain it, and
 -- nothing else; the answer tells whether the line is `valid`.
-pub record Explains (d : Detail) (G : Table) (bytes : List ℕ) (old : List ℕ) (new : Option (List ℕ))
+pub record Explains (d : Detail) (G : Table) (reach : Reach) (bytes : List ℕ) (old : List ℕ) (new : Option (List ℕ))
     (answer : Bool) : Type 0 where
   pub line : List ℕ
   pub lines : List ℕ
-  pub verdict : IsVerdict G bytes line
-  pub explain : Explain d G bytes lines
+  pub verdict : IsVerdict G reach bytes line
+  pub explain : Explain d G reach bytes lines
   pub dead : ExplainDead d G bytes lines
   pub others : AreOthers bytes line lines
   pub written : new ≡ Some (old ++ (line ++ lines))
   pub answered : IsTrue answer ↔ (line ≡ valid_line)
 
 -- A writer that held the bytes `old` now also holds a beginning of such lines, and nothing else.
-pub record BeginsExplaining (d : Detail) (G : Table) (bytes : List ℕ) (old : List ℕ)
+pub record BeginsExplaining (d : Detail) (G : Table) (reach : Reach) (bytes : List ℕ) (old : List ℕ)
     (new : Option (List ℕ)) : Type 0 where
   pub line : List ℕ
   pub lines : List ℕ
-  pub verdict : IsVerdict G bytes line
-  pub explain : Explain d G bytes lines
+  pub verdict : IsVerdict G reach bytes line
+  pub explain : Explain d G reach bytes lines
   pub dead : ExplainDead d G bytes lines
   pub others : AreOthers bytes line lines
   pub count : ℕ

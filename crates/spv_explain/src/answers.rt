@@ -18,6 +18,7 @@ ghost use Rattle.spv_explain.specs.Json.{IsCheckAnswer, IsExplainAnswer, file_me
 use crate::reading::{Explained, explained_of};
 use crate::stream::sentence;
 use spv_evidence::Evidence;
+use spv_extended::Reach;
 use spv_fault_lines::json_members::{Output, push_members, push_refused_members};
 use spv_fault_lines::{About, Detail, Fact, Front, facts_of_words, front_of};
 use spv_inst::{listed_or_dead, one_death, one_listing};
@@ -262,16 +263,17 @@ fn malformed_answer(
 fn explained_answer(
     alloc: Global,
     table: &Table,
+    reach: Reach,
     name: Option<&str>,
     image: &Image,
 ) -> Result<Answer, AllocError>
     ensures { (bytes : List ℕ) (order : Order) → IsModule order bytes image.now
-        → IfOk result (λ a. IsExplainAnswer table.now (option_map (λ n. n.now) name.entry) bytes a) }
+        → IfOk result (λ a. IsExplainAnswer table.now reach (option_map (λ n. n.now) name.entry) bytes a) }
 {
     shown_reads_back();
     word_counts();
     let _words = image.len();
-    match explained_of(alloc, table, image) {
+    match explained_of(alloc, table, reach, image) {
         Ok(Explained::Valid(_)) => verdict_answer(alloc, name, Judgment::Valid),
         Ok(
             Explained::Malformed {
@@ -295,13 +297,14 @@ fn explained_answer(
 fn checked_answer(
     alloc: Global,
     table: &Table,
+    reach: Reach,
     name: Option<&str>,
     image: &Image,
 ) -> Result<Answer, AllocError>
     ensures { (bytes : List ℕ) (order : Order) → IsModule order bytes image.now
-        → IfOk result (λ a. IsCheckAnswer table.now (option_map (λ n. n.now) name.entry) bytes a) }
+        → IfOk result (λ a. IsCheckAnswer table.now reach (option_map (λ n. n.now) name.entry) bytes a) }
 {
-    match check(alloc, table, image) {
+    match check(alloc, table, reach, image) {
         Ok(Verdict::Valid(_)) => verdict_answer(alloc, name, Judgment::Valid),
         Ok(Verdict::Fault(fault)) => verdict_answer(alloc, name, Judgment::Broken(fault)),
         Err(_) => Err(AllocError),
@@ -346,11 +349,12 @@ fn explain_refused(
 pub fn check_json(
     alloc: Global,
     table: &Table,
+    reach: Reach,
     name: Option<&str>,
     bytes: &[u8],
 ) -> Result<Answer, Memory>
     // The verdict is that of the bytes, and the text is its object.
-    ensures { IfOk result (λ a. IsCheckAnswer table.now (option_map (λ n. n.now) name.entry) bytes.now a) }
+    ensures { IfOk result (λ a. IsCheckAnswer table.now reach (option_map (λ n. n.now) name.entry) bytes.now a) }
 {
     let image = match image_of(alloc, bytes) {
         Ok((image, _)) => image,
@@ -359,7 +363,7 @@ pub fn check_json(
             Err(_) => return Err(Memory),
         },
     };
-    match checked_answer(alloc, table, name, &image) {
+    match checked_answer(alloc, table, reach, name, &image) {
         Ok(answer) => Ok(answer),
         Err(_) => Err(Memory),
     }
@@ -372,11 +376,12 @@ pub fn check_json(
 pub fn explain_json(
     alloc: Global,
     table: &Table,
+    reach: Reach,
     name: Option<&str>,
     bytes: &[u8],
 ) -> Result<Answer, Memory>
     // The verdict is that of the bytes, and the members of its object are those of evidence that shows the fault.
-    ensures { IfOk result (λ a. IsExplainAnswer table.now (option_map (λ n. n.now) name.entry) bytes.now a) }
+    ensures { IfOk result (λ a. IsExplainAnswer table.now reach (option_map (λ n. n.now) name.entry) bytes.now a) }
 {
     let image = match image_of(alloc, bytes) {
         Ok((image, _)) => image,
@@ -385,7 +390,7 @@ pub fn explain_json(
             Err(_) => return Err(Memory),
         },
     };
-    match explained_answer(alloc, table, name, &image) {
+    match explained_answer(alloc, table, reach, name, &image) {
         Ok(answer) => Ok(answer),
         Err(_) => Err(Memory),
     }

@@ -3,6 +3,7 @@ ghost use Rattle.std.specs.Prelude.{IfOk};
 ghost use Rattle.spv_table.specs.Table.{Table};
 ghost use Rattle.spv_module.specs.Module.{plain_insts};
 ghost use Rattle.spv_module.specs.declared.fault.Stop.TheVariants as stops;
+ghost use Rattle.spv_extended.specs.declared.reach.Reach.{Reach};
 ghost use Rattle.spv_layout.specs.Place.{IsShort};
 ghost use Rattle.spv_layout.specs.Plan.{IsPlan};
 ghost use Rattle.spv_ids.specs.Outcome.{AreIds};
@@ -14,7 +15,9 @@ ghost use Rattle.spv_explain.specs.inner.Shown.{IsShownAt};
 use crate::kinds::{is_of_calls, is_of_capabilities, is_of_operations, is_of_roles, is_of_values};
 use spv_evidence::Evidence;
 use spv_flow_evidence::{branch_evidence, call_evidence, walk_evidence};
-use spv_form_evidence::{capability_evidence, id_evidence, layout_evidence, role_evidence};
+use spv_form_evidence::{
+    capability_evidence, extended_evidence, id_evidence, layout_evidence, role_evidence,
+};
 use spv_ids::Ids;
 use spv_layout::Plan;
 use spv_module::{Fault, Module};
@@ -37,7 +40,8 @@ fn typing_evidence(
     requires plan { IsPlan table.now (plain_insts «module».now) plan.now }
     requires ids { AreIds table.now «module».now.header.bound (plain_insts «module».now) ids.now }
     requires refused { type_outcome.IsRefusal table.now (plain_insts «module».now) (stops.Fault fault) }
-    ensures { IfOk result (λ e. IsShownAt table.now «module».now.header.bound (plain_insts «module».now) fault e) }
+    ensures { (reach : Reach)
+        → IfOk result (λ e. IsShownAt table.now reach «module».now.header.bound (plain_insts «module».now) fault e) }
 {
     if is_of_roles(fault.rule) {
         return Ok(role_evidence(module, plan, ids, fault.inst));
@@ -63,10 +67,10 @@ fn flow_evidence(
     requires known { (G : Table) × IsPlan G (plain_insts «module».now) plan.now
         × AreIds G «module».now.header.bound (plain_insts «module».now) ids.now
         × flow_outcome.IsFirstOfFlow G (plain_insts «module».now) fault.rule fault.inst }
-    ensures { (G : Table) → IsPlan G (plain_insts «module».now) plan.now
+    ensures { (G : Table) (reach : Reach) → IsPlan G (plain_insts «module».now) plan.now
         → AreIds G «module».now.header.bound (plain_insts «module».now) ids.now
         → flow_outcome.IsFirstOfFlow G (plain_insts «module».now) fault.rule fault.inst
-        → IfOk result (λ e. IsShownAt G «module».now.header.bound (plain_insts «module».now) fault e) }
+        → IfOk result (λ e. IsShownAt G reach «module».now.header.bound (plain_insts «module».now) fault e) }
 {
     if is_of_values(fault.rule) {
         return Ok(walk_evidence(alloc, module, plan, ids, fault.rule, fault.inst)?);
@@ -89,14 +93,17 @@ pub fn evidence_of(
     fault: Fault,
 ) -> Result<Evidence, Memory>
     requires words { IsShort (plain_insts «module».now) }
-    requires refused { IsRefusedAt table.now «module».now.header.bound (plain_insts «module».now) reached.now
-        (stops.Fault fault) }
-    ensures { IfOk result (λ e. IsShownAt table.now «module».now.header.bound (plain_insts «module».now) fault e) }
+    requires refused { (reach : Reach) × IsRefusedAt table.now reach «module».now.header.bound
+        (plain_insts «module».now) reached.now (stops.Fault fault) }
+    ensures { (reach : Reach) → IsRefusedAt table.now reach «module».now.header.bound (plain_insts «module».now)
+        reached.now (stops.Fault fault)
+        → IfOk result (λ e. IsShownAt table.now reach «module».now.header.bound (plain_insts «module».now) fault e) }
 {
     match reached {
         Reached::Decoded => Ok(layout_evidence(alloc, module, fault.rule, fault.inst)?),
         Reached::Placed(plan) => Ok(id_evidence(alloc, module, plan, fault.rule, fault.inst)?),
         Reached::Numbered(plan, ids) => typing_evidence(alloc, table, module, plan, ids, fault),
         Reached::Typed(plan, ids) => flow_evidence(alloc, module, plan, ids, fault),
+        Reached::Sound => Ok(extended_evidence(alloc, module, fault.inst)?),
     }
 }

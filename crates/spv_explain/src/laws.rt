@@ -13,19 +13,22 @@ ghost use Rattle.spv_module.specs.Instruction.{IsListing};
 ghost use Rattle.spv_module.specs.Operand.{PlainInst};
 ghost use Rattle.spv_module.specs.declared.fault.Fault.{Fault};
 ghost use Rattle.spv_module.specs.declared.fault.Rule.{Rule as AnyRule};
-ghost use Rattle.spv_module.specs.declared.fault.Rule.TheVariants.{D2, L1};
+ghost use Rattle.spv_module.specs.declared.fault.Rule.TheVariants.{D2, L1, Y9};
 ghost use Rattle.spv_module.specs.declared.module.Module.{Module};
 ghost use Rattle.spv_module.specs.declared.opcode.TheConstants as opcode;
+ghost use Rattle.spv_extended.specs.declared.reach.Reach.{Reach};
+ghost use Rattle.spv_extended.specs.declared.reach.Reach.TheVariants.{Profile, Extended};
+ghost use Rattle.spv_extended.specs.Reach.{looked_at};
 ghost use Rattle.spv_layout.specs.First.{stage_of};
 ghost use Rattle.spv_layout.specs.Stage.{of_profile};
 ghost use Rattle.spv_ids.specs.Example.{of_void};
 ghost use Rattle.spv_form_evidence.specs.words.Evidence as instructions;
 ghost use Rattle.spv_evidence.specs.declared.evidence.Evidence.{Evidence};
-ghost use Rattle.spv_evidence.specs.declared.evidence.Evidence.TheVariants.{MayCome, NoEntry};
+ghost use Rattle.spv_evidence.specs.declared.evidence.Evidence.TheVariants.{MayCome, Miscalled, NoEntry};
 ghost use Rattle.spv_verdict.specs.Broken.{Broken};
 ghost use Rattle.spv_verdict.specs.Verdict.{line_end};
 ghost use Rattle.spv_explain.specs.Evidence.{IsEvidence};
-ghost use Rattle.spv_explain.specs.Example.{labels, many_opcodes, string_fault, string_words, twice_void};
+ghost use Rattle.spv_explain.specs.Example.{labels, many_opcodes, short_call, string_fault, string_words, twice_void};
 ghost use Rattle.spv_explain.specs.Explained.{IsShown};
 ghost use Rattle.spv_fault_lines.specs.Lines.{line_of};
 ghost use Rattle.spv_fault_lines.specs.Place.{comes_early, open_before, place_of};
@@ -42,10 +45,10 @@ ghost use Rattle.spv_explain.specs.Stream.{AreLinesOf};
 ghost use Rattle.spv_explain.specs.declared.reading.Explained.TheVariants as explained;
 ghost use Rattle.spv_explain.specs.declared.answers.Unread.TheVariants as unread;
 
-/// Evidence of whatever rule, from P to G, shows that the rule is broken at the instruction.
+/// Evidence of whatever rule, from P on, shows that the rule is broken at the instruction.
 pub fn suffices()
-    ensures { (G : Table) (bound : ℕ) (is : List PlainInst) (r : AnyRule) (n : ℕ) (e : Evidence)
-        → IsEvidence G bound is r n e → Broken G bound is r n }
+    ensures { (G : Table) (reach : Reach) (bound : ℕ) (is : List PlainInst) (r : AnyRule) (n : ℕ) (e : Evidence)
+        → IsEvidence G reach bound is r n e → Broken G reach bound is r n }
 {}
 
 /// The lines of facts.
@@ -102,18 +105,30 @@ pub fn refused_examples()
 /// The lines of a module that begins with an OpString, under the bound 9: what may come has no names in the small
 /// table. Without the instruction they are not its lines.
 pub fn stream_examples()
-    ensures lines { AreLinesOf Short small 9 (string ∷ []) L1 0 (rule_line (Rule L1)
+    ensures lines { AreLinesOf Short small Profile 9 (string ∷ []) L1 0 (rule_line (Rule L1)
         ++ ((codes "at: %5 = OpString \"abc\"" ++ line_end) ++ (codes "may come:" ++ line_end))) }
-    ensures not_first { (lines : List ℕ) → ¬ (AreLinesOf Short small 5 twice_void D2 0 lines) }
+    ensures not_first { (lines : List ℕ) → ¬ (AreLinesOf Short small Profile 5 twice_void D2 0 lines) }
 {}
 
 /// A module that begins with an OpString, under a small table.
 pub fn explained_examples()
     // There may come OpExtension, OpExtInstImport, OpMemoryModel or OpCapability.
-    ensures shown { (m : Module)
-        → IsShown small string_words (explained.Broken string_fault (MayCome (10 ∷ 11 ∷ 14 ∷ 17 ∷ []) false) m) }
+    ensures shown { (m : Module) → IsShown small Profile string_words
+        (explained.Broken string_fault (MayCome (10 ∷ 11 ∷ 14 ∷ 17 ∷ []) false) m) }
     // That there is no entry point does not show it.
-    ensures not_shown { (m : Module) → ¬ (IsShown small string_words (explained.Broken string_fault NoEntry m)) }
+    ensures not_shown { (m : Module)
+        → ¬ (IsShown small Profile string_words (explained.Broken string_fault NoEntry m)) }
+{}
+
+/// A module that calls vloadn of OpenCL.std, number 171, without its last operand.
+pub fn extended_examples()
+    // Where extended instructions are looked at, its number and how many operands it has show it; not by the profile.
+    ensures shown { (G : Table) (bound : ℕ)
+        → IsEvidence G Extended bound (looked_at Extended short_call) Y9 2 (Miscalled 171 2 (Some 3) (Some 3)) }
+    ensures not_so_many { (G : Table) (bound : ℕ)
+        → ¬ (IsEvidence G Extended bound (looked_at Extended short_call) Y9 2 (Miscalled 171 1 (Some 3) (Some 3))) }
+    ensures by_profile { (G : Table) (bound : ℕ) (e : Evidence)
+        → ¬ (IsEvidence G Profile bound (looked_at Profile short_call) Y9 2 e) }
 {}
 
 /// The objects of verdicts, as texts. The sentence of W2 names its source in brackets, and that is the section.
@@ -137,16 +152,18 @@ pub fn json_examples()
 
 /// The members of a fault are never those of a valid module: of that nothing is told.
 pub fn nothing_of_valid()
-    ensures { (G : Table) (bytes : List ℕ) (members : List Token) → AreMembers G bytes verdicts.Valid members
-        → members ≡ [] }
+    ensures { (G : Table) (reach : Reach) (bytes : List ℕ) (members : List Token)
+        → AreMembers G reach bytes verdicts.Valid members → members ≡ [] }
 {}
 
 /// The members of a fault of words that spell a list of instructions come from evidence, and that suffices: the rule is
-/// broken at the instruction, from P to G.
+/// broken at the instruction, from P on.
 pub fn members_suffice()
-    ensures { (G : Table) (bytes : List ℕ) (f : Fault) (members : List Token) → AreMembers G bytes (verdicts.Broken f) members
+    ensures { (G : Table) (reach : Reach) (bytes : List ℕ) (f : Fault) (members : List Token)
+        → AreMembers G reach bytes (verdicts.Broken f) members
         → ((words : List ℕ) × (order : Order) × (is : List PlainInst) × IsModule order bytes words
-        × IsListing G is (drop 5 words) × (of_profile ≤ stage_of f.rule → Broken G (slice_index words 3) is f.rule f.inst))
+        × IsListing G is (drop 5 words) × (of_profile ≤ stage_of f.rule
+        → Broken G reach (slice_index words 3) (looked_at reach is) f.rule f.inst))
         ⊎ ((words : List ℕ) × (order : Order) × (e : Evidence) × IsModule order bytes words
         × instructions.IsEvidence G (drop 5 words) f.rule f.inst (f.word - 5) e) }
 {}

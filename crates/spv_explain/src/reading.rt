@@ -1,17 +1,20 @@
 //! The verdict on the words of a module, with what shows a fault.
-ghost use Rattle.std.specs.Prelude.{IfOk};
+ghost use Rattle.std.specs.Prelude.{◌≡◌, IfOk, drop, slice_index};
+ghost use Rattle.spv_module.specs.Instruction.{IsListing};
+ghost use Rattle.spv_module.specs.Module.{plain_insts};
 ghost use Rattle.spv_verdict.specs.Answer.{IsAnswer};
+ghost use Rattle.spv_verdict.specs.Judged.{AreWordsOf};
 ghost use Rattle.spv_explain.specs.Explained.{IsShown, IsShownDead, verdict_in};
-ghost use Rattle.spv_explain.specs.inner.Reading.{IsReading};
+ghost use Rattle.spv_explain.specs.inner.Reading.{IsExplained};
 
 use crate::evidence::evidence_of;
 use spv_evidence::Evidence;
+use spv_extended::Reach;
 use spv_form_evidence::word_evidence;
 use spv_inst::{decode, listed_or_dead, one_listing};
-use spv_layout::laws::word_counts;
 use spv_module::{Fault, Module, Stop};
 use spv_table::{Memory, Table};
-use spv_verdict::{Checked, Judged, judge};
+use spv_verdict::{Checked, Judged, judge, read};
 use spv_words::{Image, word};
 use std::alloc::Global;
 
@@ -35,7 +38,7 @@ pub enum Explained<'a> {
         fault: Fault,
         /// What shows that it is broken there.
         evidence: Evidence,
-        /// The module, with texts lent by its image.
+        /// The module as its words spell it, with texts lent by its image.
         module: Module<'a>,
     },
 }
@@ -53,19 +56,47 @@ fn first_word(image: &Image, inst: u32) -> u32 {
     at
 }
 
+/// A module that was read of the words of an image, as they spell it: one that was opened is let go, and the words are
+/// decoded again.
+///
+/// `Memory` comes only where a growth of memory was refused.
+fn spelled<'a>(
+    alloc: Global,
+    table: &Table,
+    reach: Reach,
+    image: &'a Image,
+    module: Module<'a>,
+) -> Result<Module<'a>, Memory>
+    requires read { AreWordsOf table.now reach «module» image.now }
+    ensures listing { IfOk result (λ m. IsListing table.now (plain_insts m) (drop 5 image.now)) }
+    ensures bound { IfOk result (λ m. m.header.bound ≡ slice_index image.now 3) }
+{
+    match reach {
+        Reach::Profile => Ok(module),
+        Reach::Extended => {
+            drop(module);
+            match decode(alloc, table, image) {
+                Ok(module) => Ok(module),
+                Err(_) => Err(Memory),
+            }
+        }
+    }
+}
+
 /// What `explain` answers, with all that is known of it.
 ///
 /// `Memory` comes only where a growth of memory was refused.
 pub fn explained_of<'a>(
     alloc: Global,
     table: &Table,
+    reach: Reach,
     image: &'a Image,
 ) -> Result<Explained<'a>, Memory>
-    ensures { IfOk result (λ r. IsReading table.now image.now r) }
+    ensures { IfOk result (λ r. IsExplained table.now reach image.now r) }
 {
-    word_counts();
+    one_listing();
     let _words = image.len();
-    let module = match decode(alloc, table, image) {
+    let module = match read(alloc, table, reach, image) {
         Ok(module) => module,
         Err(Stop::Fault(fault)) => {
             let evidence = word_evidence(alloc, table, image, fault)?;
@@ -77,7 +108,7 @@ pub fn explained_of<'a>(
         }
         Err(Stop::Memory) => return Err(Memory),
     };
-    match judge(alloc, table, module)? {
+    match judge(alloc, table, reach, module)? {
         Judged::Valid(checked) => Ok(Explained::Valid(checked)),
         Judged::Broken {
             fault,
@@ -88,27 +119,33 @@ pub fn explained_of<'a>(
             Ok(Explained::Broken {
                 fault,
                 evidence,
-                module,
+                module: spelled(alloc, table, reach, image, module)?,
             })
         }
     }
 }
 
 /// The verdict on the words of a module, under a grammar table, just as `check` answers it; and of a fault what shows
-/// that the rule is broken there. A fault of the stages I to G always comes with evidence that shows it by itself.
+/// that the rule is broken there. A fault of the stages from I on always comes with evidence that shows it by itself.
 ///
-/// Time is linear in the words of the module besides what `check` takes, and at most as much again.
+/// Time is linear in the words of the module besides what `check` takes, and at most as much again. A module with a
+/// fault that was opened is decoded a second time.
 ///
 /// `Memory` comes only where a growth of memory was refused.
-pub fn explain<'a>(alloc: Global, table: &Table, image: &'a Image) -> Result<Explained<'a>, Memory>
+pub fn explain<'a>(
+    alloc: Global,
+    table: &Table,
+    reach: Reach,
+    image: &'a Image,
+) -> Result<Explained<'a>, Memory>
     // The verdict is that of `check`.
-    ensures verdict { IfOk result (λ e. IsAnswer table.now image.now (verdict_in e)) }
-    // A fault of the stages P to G is shown.
-    ensures shown { IfOk result (λ e. IsShown table.now image.now e) }
+    ensures verdict { IfOk result (λ e. IsAnswer table.now reach image.now (verdict_in e)) }
+    // A fault of the stages from P on is shown.
+    ensures shown { IfOk result (λ e. IsShown table.now reach image.now e) }
     // So is that of words that spell no list of instructions.
     ensures dead { IfOk result (λ e. IsShownDead table.now image.now e) }
 {
     one_listing();
     listed_or_dead();
-    explained_of(alloc, table, image)
+    explained_of(alloc, table, reach, image)
 }

@@ -5,6 +5,7 @@ ghost use Rattle.spv_words.specs.Header.{IsModule, greatest_size};
 ghost use Rattle.spv_words.specs.declared.words.Order.{Order};
 ghost use Rattle.spv_words.specs.declared.words.WordError.TheVariants.{W1, W9};
 ghost use Rattle.spv_module.specs.Module.{plain_insts};
+ghost use Rattle.spv_extended.specs.declared.reach.Reach.TheVariants.{Profile};
 ghost use Rattle.spv_verdict.specs.Outcome.{HasFailed, OfKnown};
 ghost use Rattle.spv_verdict.specs.Verdict.{valid_line};
 ghost use Rattle.spv_verdict.specs.Text.{line_of, refusal_of};
@@ -19,6 +20,7 @@ ghost use Rattle.spv_verdict.specs.declared.verdict_line.Judgment.TheVariants as
 
 use crate::reading::{Explained, explained_of};
 use spv_evidence::Evidence;
+use spv_extended::Reach;
 use spv_fault_lines::{About, Detail, Front, front_of, push_malformed, push_refused};
 use spv_inst::{listed_or_dead, one_death, one_listing};
 use spv_layout::laws::word_counts;
@@ -149,12 +151,13 @@ fn malformed_told(
 fn told_of<'a>(
     alloc: Global,
     table: &Table,
+    reach: Reach,
     detail: Detail,
     image: &'a Image,
 ) -> Result<Told<'a>, AllocError>
     ensures explanation { (bytes : List ℕ) (order : Order) → IsModule order bytes image.now
-        → IfOk result (λ t. IsExplanation detail table.now bytes t.explanation) }
-    ensures decoded { IfOk result (λ t. IsModuleIn table.now image.now t.«module») }
+        → IfOk result (λ t. IsExplanation detail table.now reach bytes t.explanation) }
+    ensures decoded { reach ≡ Profile → IfOk result (λ t. IsModuleIn table.now image.now t.«module») }
 {
     spv_words::laws::one_word_list();
     spv_words::laws::one_refusal();
@@ -164,7 +167,7 @@ fn told_of<'a>(
     shown_reads_back();
     word_counts();
     let _words = image.len();
-    match explained_of(alloc, table, image) {
+    match explained_of(alloc, table, reach, image) {
         Ok(Explained::Valid(checked)) => Ok(valid_told(alloc, image, checked)),
         Ok(
             Explained::Malformed {
@@ -200,19 +203,20 @@ fn told_of<'a>(
 fn told_by(
     alloc: Global,
     table: &Table,
+    reach: Reach,
     detail: Detail,
     image: &Image,
 ) -> Result<Explanation, AllocError>
     ensures { (bytes : List ℕ) (order : Order) → IsModule order bytes image.now
-        → IfOk result (λ t. IsExplanation detail table.now bytes t) }
+        → IfOk result (λ t. IsExplanation detail table.now reach bytes t) }
 {
-    let told = told_of(alloc, table, detail, image)?;
+    let told = told_of(alloc, table, reach, detail, image)?;
     let Told { explanation, .. } = told;
     Ok(explanation)
 }
 
-/// The verdict on the words of a module and the lines that explain it, as `explain_bytes` answers them; and the module,
-/// which need not be decoded again.
+/// The verdict on the words of a module by the profile and the lines that explain it, as `explain_bytes` answers them;
+/// and the module, which need not be decoded again.
 ///
 /// `Memory` comes only where a growth of memory was refused.
 pub fn explained<'a>(
@@ -223,11 +227,11 @@ pub fn explained<'a>(
 ) -> Result<Told<'a>, Memory>
     // The verdict is that of the bytes that have the words, and the lines explain it.
     ensures explanation { (bytes : List ℕ) (order : Order) → IsModule order bytes image.now
-        → IfOk result (λ t. IsExplanation detail table.now bytes t.explanation) }
+        → IfOk result (λ t. IsExplanation detail table.now Profile bytes t.explanation) }
     // The module is the one that the words spell, with their header; there is none where they spell none.
     ensures decoded { IfOk result (λ t. IsModuleIn table.now image.now t.«module») }
 {
-    match told_of(alloc, table, detail, image) {
+    match told_of(alloc, table, Reach::Profile, detail, image) {
         Ok(told) => Ok(told),
         Err(_) => Err(Memory),
     }
@@ -267,11 +271,12 @@ fn refusal(alloc: Global, code: WordError, front: Front) -> Result<Explanation, 
 fn octets_told(
     alloc: Global,
     table: &Table,
+    reach: Reach,
     detail: Detail,
     octets: Vec<u8>,
 ) -> Result<Explanation, WordError>
     requires { vec_len octets ≤ greatest_size }
-    ensures told { IfOk result (λ t. IsExplanation detail table.now octets.items t) }
+    ensures told { IfOk result (λ t. IsExplanation detail table.now reach octets.items t) }
     ensures only { IfErr result (λ e. e ≡ W9) }
 {
     spv_words::laws::one_refusal();
@@ -280,7 +285,7 @@ fn octets_told(
         Ok((image, _)) => image,
         Err(code) => return refusal(alloc, code, front),
     };
-    match told_by(alloc, table, detail, &image) {
+    match told_by(alloc, table, reach, detail, &image) {
         Ok(told) => Ok(told),
         Err(_) => Err(WordError::W9),
     }
@@ -290,16 +295,18 @@ fn octets_told(
 fn told_on<R: Source>(
     alloc: Global,
     table: &Table,
+    reach: Reach,
     detail: Detail,
     r: &mut R,
 ) -> Result<Explanation, WordError>
-    ensures known { IfSome (R.remaining r.old) (λ bytes. IfOk result (λ t. IsExplanation detail table.now bytes t)) }
+    ensures known { IfSome (R.remaining r.old)
+        (λ bytes. IfOk result (λ t. IsExplanation detail table.now reach bytes t)) }
     ensures count { HasFailed R.failures r.old r.new ↔ IsErrOf result W1 }
     ensures only { IfErr result (λ e. (e ≡ W1) ⊎ (e ≡ W9)) }
 {
     spv_words::laws::one_refusal();
     match read_octets(alloc, r) {
-        Ok(octets) => octets_told(alloc, table, detail, octets),
+        Ok(octets) => octets_told(alloc, table, reach, detail, octets),
         Err(code) => refusal(alloc, code, front_of(&[])),
     }
 }
@@ -337,13 +344,14 @@ impl Explanation {
 pub fn explain_stream<R: Source, W: Sink>(
     alloc: Global,
     table: &Table,
+    reach: Reach,
     detail: Detail,
     r: &mut R,
     w: &mut W,
 ) -> Result<bool, WordError>
     // The writer has got the verdict line of all the bytes that the reader still gave, and lines that explain it.
     ensures explained { OfKnown (R.remaining r.old) (W.contents w.old)
-        (λ bytes old. IfOk result (λ answer. Explains detail table.now bytes old (W.contents w.new) answer)) }
+        (λ bytes old. IfOk result (λ answer. Explains detail table.now reach bytes old (W.contents w.new) answer)) }
     // The answer is W1 exactly where a read or a write failed.
     ensures count { (HasFailed R.failures r.old r.new ⊎ HasFailed W.failures w.old w.new) ↔ IsErrOf result W1 }
     ensures only { IfErr result (λ e. (e ≡ W1) ⊎ (e ≡ W9)) }
@@ -353,9 +361,9 @@ pub fn explain_stream<R: Source, W: Sink>(
     // After a failed write it has got a beginning of the lines.
     ensures begun { HasFailed W.failures w.old w.new
         → OfKnown (R.remaining r.old) (W.contents w.old)
-        (λ bytes old. BeginsExplaining detail table.now bytes old (W.contents w.new)) }
+        (λ bytes old. BeginsExplaining detail table.now reach bytes old (W.contents w.new)) }
 {
-    let told = told_on(alloc, table, detail, r)?;
+    let told = told_on(alloc, table, reach, detail, r)?;
     let bytes = match told.bytes(alloc) {
         Ok(bytes) => bytes,
         Err(_) => return Err(WordError::W9),
@@ -371,11 +379,12 @@ pub fn explain_stream<R: Source, W: Sink>(
 pub fn explain_bytes(
     alloc: Global,
     table: &Table,
+    reach: Reach,
     detail: Detail,
     bytes: &[u8],
 ) -> Result<Explanation, Memory>
     // The verdict is that of the bytes, and the lines explain it.
-    ensures { IfOk result (λ e. IsExplanation detail table.now bytes.now e) }
+    ensures { IfOk result (λ e. IsExplanation detail table.now reach bytes.now e) }
 {
     spv_words::laws::one_refusal();
     let image = match image_of(alloc, bytes) {
@@ -385,7 +394,7 @@ pub fn explain_bytes(
             Err(_) => return Err(Memory),
         },
     };
-    match told_by(alloc, table, detail, &image) {
+    match told_by(alloc, table, reach, detail, &image) {
         Ok(told) => Ok(told),
         Err(_) => Err(Memory),
     }

@@ -10,6 +10,7 @@ use Rattle.spv_module.specs.Operand.{PlainInst}
 use Rattle.spv_module.specs.Instruction.{IsListing}
 use Rattle.spv_module.specs.declared.fault.Rule.{Rule}
 use Rattle.spv_module.specs.declared.fault.Rule.TheVariants as rule
+use Rattle.spv_extended.specs.declared.reach.Reach.TheVariants.{Profile}
 use Rattle.spv_layout.specs.First.{stage_of}
 use Rattle.spv_layout.specs.Stage.{of_layout}
 use Rattle.spv_verdict.specs.Text.{line_of}
@@ -98,10 +99,10 @@ no_list once G bytes words order function h none =
 -- of words that are no list, the verdict line; and so where a function is asked for, and functions cannot be told apart
 pub unlisted_line : ((o p : Order) (bs ws vs : List ℕ) → IsModule o bs ws → IsModule p bs vs → (o ≡ p) × (ws ≡ vs))
     → (how : View) (G : Table) (function : Option ℕ) (bytes words : List ℕ) (order : Order) (e : Explanation) → IsModule order bytes words → ((is : List PlainInst) → ¬ (IsListing G is (drop 5 words)))
-    → IsExplanation Short G bytes e → IsViewing how G function bytes (line_of e.judgment) false
+    → IsExplanation Short G Profile bytes e → IsViewing how G function bytes (line_of e.judgment) false
 unlisted_line once how G function bytes words order e h none x = judged (line_of e.judgment) (no_list once G bytes words order function h none) x.verdict
 
-pub mislaid_line : (how : View) (G : Table) (id : ℕ) (bytes : List ℕ) (e : Explanation) → IsExplanation Short G bytes e → ¬ (KeepsLayout e.judgment)
+pub mislaid_line : (how : View) (G : Table) (id : ℕ) (bytes : List ℕ) (e : Explanation) → IsExplanation Short G Profile bytes e → ¬ (KeepsLayout e.judgment)
     → IsViewing how G (Some id) bytes (line_of e.judgment) false
 mislaid_line how G id bytes e x n = judged (line_of e.judgment) (mislaid id (record { judgment = e.judgment; verdict = x.verdict; breaks = n })) x.verdict
 
@@ -109,15 +110,15 @@ mislaid_line how G id bytes e x n = judged (line_of e.judgment) (mislaid id (rec
 are_listed : (G : Table) (bytes words : List ℕ) (order : Order) (m : Module) → IsModule order bytes words → IsModuleOf G words m → AreListed G bytes m
 are_listed G bytes words order m h l = record { words = words; order = order; is_module = h; listed = l }
 
-pub laid_out : (G : Table) (bytes : List ℕ) (e : Explanation) → IsExplanation Short G bytes e → KeepsLayout e.judgment → AreLaidOut G bytes
+pub laid_out : (G : Table) (bytes : List ℕ) (e : Explanation) → IsExplanation Short G Profile bytes e → KeepsLayout e.judgment → AreLaidOut G bytes
 laid_out G bytes e x k = record { judgment = e.judgment; verdict = x.verdict; keeps = k }
 
 pub lacking : (G : Table) (id : ℕ) (bytes words : List ℕ) (order : Order) (e : Explanation) (m : Module) → IsModule order bytes words
-    → IsModuleOf G words m → IsExplanation Short G bytes e → KeepsLayout e.judgment → has_function (plain_insts m) id ≡ false → LacksFunction G bytes (Some id)
+    → IsModuleOf G words m → IsExplanation Short G Profile bytes e → KeepsLayout e.judgment → has_function (plain_insts m) id ≡ false → LacksFunction G bytes (Some id)
 lacking G id bytes words order e m h l x k n = lacks id m (are_listed G bytes words order m h l) (laid_out G bytes e x k) n
 
 pub module_viewed : (how : View) (G : Table) (function : Option ℕ) (bytes words : List ℕ) (order : Order) (e : Explanation) (m : Module) (text : List ℕ) → IsModule order bytes words
-    → IsModuleOf G words m → IsExplanation Short G bytes e → HasPart G bytes (plain_insts m) function → IsWrittenBy how G m e function text → IsViewing how G function bytes text true
+    → IsModuleOf G words m → IsExplanation Short G Profile bytes e → HasPart G bytes (plain_insts m) function → IsWrittenBy how G m e function text → IsViewing how G function bytes text true
 module_viewed how G function bytes words order e m text h l x p w =
     viewed m text (are_listed G bytes words order m h l) p (record { explanation = e; explains = x; finding = w.finding; of = w.of; written = w.written })
 

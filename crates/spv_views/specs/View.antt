@@ -7,6 +7,7 @@ use Rattle.spv_table.specs.Table.{Table}
 use Rattle.spv_module.specs.Operand.{PlainInst}
 use Rattle.spv_module.specs.Module.{plain_insts}
 use Rattle.spv_module.specs.declared.module.Module.{Module}
+use Rattle.spv_extended.specs.declared.reach.Reach.TheVariants.{Profile}
 use Rattle.spv_lines.specs.Text.{ShownLines}
 use Rattle.spv_layout.specs.First.{stage_of}
 use Rattle.spv_layout.specs.Stage.{of_layout}
@@ -48,12 +49,12 @@ KeepsLayout (Broken f) = of_layout < stage_of f.rule
 -- The verdict on the bytes, under the table, breaks none of these rules; or it breaks one.
 pub record AreLaidOut (G : Table) (bytes : List ℕ) : Type 0 where
   pub judgment : Judgment
-  pub verdict : IsVerdict G bytes (line_of judgment)
+  pub verdict : IsVerdict G Profile bytes (line_of judgment)
   pub keeps : KeepsLayout judgment
 
 pub record AreMislaid (G : Table) (bytes : List ℕ) : Type 0 where
   pub judgment : Judgment
-  pub verdict : IsVerdict G bytes (line_of judgment)
+  pub verdict : IsVerdict G Profile bytes (line_of judgment)
   pub breaks : ¬ (KeepsLayout judgment)
 
 -- Of these instructions all are asked for, or those of one function that there is.
@@ -104,7 +105,7 @@ IsWritten Graph G m finding (Some id) text = IsBlockGraph G m finding id text
 pub record IsTextOf (how : View) (G : Table) (function : Option ℕ) (bytes : List ℕ) (m : Module)
     (text : List ℕ) : Type 0 where
   pub explanation : Explanation
-  pub explains : IsExplanation Short G bytes explanation
+  pub explains : IsExplanation Short G Profile bytes explanation
   pub finding : Option annotate.Finding
   pub of : IsFindingOf explanation finding
   pub written : IsWritten how G m finding function text
@@ -112,7 +113,7 @@ pub record IsTextOf (how : View) (G : Table) (function : Option ℕ) (bytes : Li
 -- This is what is written of all of these bytes, under the grammar table, and whether it is the text of a module.
 pub data IsViewing (how : View) (G : Table) (function : Option ℕ) (bytes : List ℕ) : List ℕ → Bool → Type 0 where
   -- there is none: their verdict line
-  judged : (line : List ℕ) → HasNoText G bytes function → IsVerdict G bytes line
+  judged : (line : List ℕ) → HasNoText G bytes function → IsVerdict G Profile bytes line
       → IsViewing how G function bytes line false
   -- there is one, and it has the function that is asked for
   viewed : (m : Module) (text : List ℕ) → AreListed G bytes m → HasPart G bytes (plain_insts m) function

@@ -6,6 +6,7 @@ ghost use Rattle.spv_words.specs.Header.{IsModule};
 ghost use Rattle.spv_words.specs.declared.words.Order.{Order};
 ghost use Rattle.spv_words.specs.declared.words.WordError.TheVariants.{W1};
 ghost use Rattle.spv_module.specs.Module.{plain_insts};
+ghost use Rattle.spv_extended.specs.declared.reach.Reach.TheVariants.{Profile};
 ghost use Rattle.spv_lines.specs.Text.{ShownLines};
 ghost use Rattle.spv_layout.specs.Place.{IsShort};
 ghost use Rattle.spv_verdict.specs.Outcome.{HasFailed, IsUntouched, OfKnown};
@@ -171,10 +172,10 @@ fn viewed_told(
 ) -> Result<Viewed, ViewError>
     requires { (words : List ℕ) × IsReading table.now words told.now }
     ensures viewed { (bytes words : List ℕ) (order : Order) → IsModule order bytes words
-        → IsReading table.now words told.now → IsExplanation Short table.now bytes told.now.explanation
+        → IsReading table.now words told.now → IsExplanation Short table.now Profile bytes told.now.explanation
         → IfOk result (λ v. IsViewing how.entry table.now function bytes (output_of v) (is_text v)) }
     ensures stranger { (bytes words : List ℕ) (order : Order) → IsModule order bytes words
-        → IsReading table.now words told.now → IsExplanation Short table.now bytes told.now.explanation
+        → IsReading table.now words told.now → IsExplanation Short table.now Profile bytes told.now.explanation
         → IsErrOf result trouble.NoFunction → LacksFunction table.now bytes function }
     ensures only { IfErr result (λ e. e ≢ trouble.Failed) }
 {

@@ -6,6 +6,8 @@ use Rattle.spv_module.specs.Instruction.{IsListing}
 use Rattle.spv_module.specs.declared.fault.Fault as declared
 use Rattle.spv_module.specs.declared.fault.Stop.TheVariants as stop
 use Rattle.spv_module.specs.declared.module.Module.{Module}
+use Rattle.spv_extended.specs.declared.reach.Reach.{Reach}
+use Rattle.spv_extended.specs.Reach.{looked_at}
 use Rattle.spv_inst.specs.Outcome.{IsDecodeFault}
 use Rattle.spv_evidence.specs.declared.evidence.Evidence.{Evidence}
 use Rattle.spv_verdict.specs.Broken.{IsTold}
@@ -15,16 +17,17 @@ use Rattle.spv_explain.specs.declared.reading.Explained.TheVariants.{Valid, Malf
 use Rattle.spv_explain.specs.inner.Shown.{IsShownAt}
 use Rattle.spv_form_evidence.specs.words.Evidence as instructions
 
--- The module is the one of the words, and this is its fault.
-pub record IsBrokenModule (G : Table) (words : List ℕ) (f : declared.Fault) (e : Evidence) (m : Module) : Type 0 where
+-- The module is the one that the words spell, and this is its fault, as far as it is looked at.
+pub record IsBrokenModule (G : Table) (reach : Reach) (words : List ℕ) (f : declared.Fault) (e : Evidence)
+    (m : Module) : Type 0 where
   pub listing : IsListing G (plain_insts m) (drop 5 words)
   pub bound : m.header.bound ≡ slice_index words 3
-  pub told : IsTold G (slice_index words 3) (plain_insts m) (stop.Fault f)
-  pub shown : IsShownAt G (slice_index words 3) (plain_insts m) f e
+  pub told : IsTold G reach (slice_index words 3) (looked_at reach (plain_insts m)) (stop.Fault f)
+  pub shown : IsShownAt G reach (slice_index words 3) (looked_at reach (plain_insts m)) f e
 
 -- The words are a valid module, or no list of instructions, or a module with a fault.
-abbrev pub IsReading : Table → List ℕ → Explained → Type 0
-IsReading G words (Valid c) = IsChecked G words c
-IsReading G words (Malformed f place e) =
+abbrev pub IsExplained : Table → Reach → List ℕ → Explained → Type 0
+IsExplained G reach words (Valid c) = IsChecked G reach words c
+IsExplained G reach words (Malformed f place e) =
     IsDecodeFault G words (stop.Fault f) × instructions.IsEvidence G (drop 5 words) f.rule f.inst (f.word - 5) e
-IsReading G words (Broken f e m) = IsBrokenModule G words f e m
+IsExplained G reach words (Broken f e m) = IsBrokenModule G reach words f e m

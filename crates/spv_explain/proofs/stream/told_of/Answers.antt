@@ -2,8 +2,8 @@ use Rattle.std.proofs.Common.{◌-◌, ℕ, Ok, arith, drop, length-drop, subst,
 use Rattle.spv_module.specs.Instruction.{IsListing}
 use Rattle.spv_module.specs.Module.{plain_insts}
 use Rattle.spv_verdict.proofs.Verdicts.{Laws}
-use Rattle.spv_explain.specs.inner.Reading.{IsReading}
-use Rattle.spv_explain.proofs.Tellings.{broken_told, dead_told, few_insts, some_module, valid_told}
+use Rattle.spv_explain.specs.inner.Reading.{IsExplained}
+use Rattle.spv_explain.proofs.Tellings.{as_spelled, broken_told, dead_told, few_insts, some_module, valid_told}
 use Rattle.spv_explain.proofs.stream.told_of.Goals as goal
 
 pub returns-in-Ok-Valid : goal.returns-in-Ok-Valid
@@ -17,13 +17,16 @@ returns-in-Ok-Valid c =
       list = c.one_listing.ensures;
     } in
     let G = c.args.table.now in
+    let reach = c.args.reach in
     let words = c.args.image.now in
-    let r = subst (λ r. IsReading G words r) c.in-Ok-Valid.field-0-is c.in-Ok-Valid.ensures in
+    let r = subst (λ r. IsExplained G reach words r) c.in-Ok-Valid.field-0-is c.in-Ok-Valid.ensures in
     record {
       explanation = λ bytes order h.
-          valid_told laws c.args.detail G bytes words order c.in-Ok-Valid.checked c.valid_told.result.explanation h r
+          valid_told laws c.args.detail G reach bytes words order c.in-Ok-Valid.checked c.valid_told.result.explanation h r
           c.valid_told.ensures.verdict c.valid_told.ensures.lines;
-      decoded = some_module G words c.in-Ok-Valid.checked.insts c.valid_told.result.«module» c.valid_told.ensures.decoded r.listing;
+      decoded = λ e.
+          some_module G words c.in-Ok-Valid.checked.insts c.valid_told.result.«module» c.valid_told.ensures.decoded
+          (as_spelled G reach c.in-Ok-Valid.checked.insts (drop 5 words) e r.reading);
     }
 
 pub returns-in_ok-explanation-in-Ok-Malformed : goal.returns-in_ok-explanation-in-Ok-Malformed
@@ -37,21 +40,23 @@ returns-in_ok-explanation-in-Ok-Malformed c =
       list = c.one_listing.ensures;
     } in
     let G = c.args.table.now in
+    let reach = c.args.reach in
     let words = c.args.image.now in
     let f = c.in-Ok-Malformed.fault in
-    let r = subst (λ r. IsReading G words r) c.in-Ok-Malformed.field-0-is c.in-Ok-Malformed.ensures in
+    let r = subst (λ r. IsExplained G reach words r) c.in-Ok-Malformed.field-0-is c.in-Ok-Malformed.ensures in
     record {
       explanation = λ bytes order h.
-          dead_told {E = ℕ} laws c.args.detail G bytes words order f c.in-Ok-Malformed.evidence (Ok c.in_ok-explanation-in-Ok-Malformed.explanation) h
+          dead_told {E = ℕ} laws c.args.detail G reach bytes words order f c.in-Ok-Malformed.evidence (Ok c.in_ok-explanation-in-Ok-Malformed.explanation) h
           r.0 r.1 c.in_ok-explanation-in-Ok-Malformed.ensures.verdict c.in_ok-explanation-in-Ok-Malformed.ensures.lines;
-      decoded = λ is l. c.listed_or_dead.ensures G is (drop 5 words) f.rule f.inst (f.word - 5) l r.0.1;
+      decoded = λ e is l. c.listed_or_dead.ensures G is (drop 5 words) f.rule f.inst (f.word - 5) l r.0.1;
     }
 
 pub broken_told-requires : goal.broken_told-requires
 broken_told-requires c =
     let G = c.args.table.now in
+    let reach = c.args.reach in
     let words = c.args.image.now in
-    let b = subst (λ r. IsReading G words r) c.in-Ok-Broken.field-0-is c.in-Ok-Broken.ensures in
+    let b = subst (λ r. IsExplained G reach words r) c.in-Ok-Broken.field-0-is c.in-Ok-Broken.ensures in
     record {
       few = few_insts (plain_insts c.in-Ok-Broken.module) (drop 5 words) (c.word_counts.ensures G _ _ b.listing)
           (omega (arith, length-drop 5 words, c.len-words.ensures.least, c.len-words.ensures.most));
@@ -68,16 +73,17 @@ returns-in_ok-explanation-in-Ok-Broken c =
       list = c.one_listing.ensures;
     } in
     let G = c.args.table.now in
+    let reach = c.args.reach in
     let words = c.args.image.now in
     let m = c.in-Ok-Broken.module in
-    let b = subst (λ r. IsReading G words r) c.in-Ok-Broken.field-0-is c.in-Ok-Broken.ensures in
+    let b = subst (λ r. IsExplained G reach words r) c.in-Ok-Broken.field-0-is c.in-Ok-Broken.ensures in
     let t = (c.shown_reads_back.ensures.shown G m.header (plain_insts m) (drop 5 words) b.listing).1 in
     record {
       explanation = λ bytes order h.
-          broken_told {E = ℕ} laws c.args.detail G bytes words order c.in-Ok-Broken.fault c.in-Ok-Broken.evidence m t.lines
+          broken_told {E = ℕ} laws c.args.detail G reach bytes words order c.in-Ok-Broken.fault c.in-Ok-Broken.evidence m t.lines
           (Ok c.in_ok-explanation-in-Ok-Broken.explanation) h b t.shown c.in_ok-explanation-in-Ok-Broken.ensures.verdict
           (c.in_ok-explanation-in-Ok-Broken.ensures.lines t.lines t.shown);
-      decoded = record {
+      decoded = λ e. record {
         listing = subst (λ x. IsListing G x (drop 5 words)) (sym c.headed.ensures.insts) b.listing;
         header = c.headed.ensures.header;
       };
