@@ -7,15 +7,18 @@ _spv_commands="check explain show annotate graph asm trace rules grammar help"
 _spv_options() {
     case $1 in
         "") echo "-h --help -V --version" ;;
-        check) echo "-h --help --as-1.6 --grammar -H --json --with-filename --no-filename --quiet --verbose" ;;
+        check)
+            echo "-h --help --as-1.6 --extended --grammar -H --json --with-filename --no-filename --quiet --verbose"
+            ;;
         explain)
-            echo "-h --help --as-1.6 --full --grammar -H --json --with-filename --no-filename --quiet --verbose"
+            echo "-h --help --as-1.6 --extended --full --grammar -H --json --with-filename --no-filename --quiet" \
+                "--verbose"
             ;;
         show) echo "-h --help --as-1.6 --grammar --verbose" ;;
         annotate) echo "-h --help --as-1.6 --color --function --grammar --html --verbose" ;;
         graph) echo "-h --help --as-1.6 --function --grammar --verbose" ;;
         asm) echo "-h --help --big --explain --grammar --out --verbose" ;;
-        trace) echo "-h --help --as-1.6 --choices --function --grammar --limit --verbose" ;;
+        trace) echo "-h --help --as-1.6 --choices --extended --function --grammar --limit --verbose" ;;
         rules) echo "-h --help --json --verbose" ;;
         grammar) echo "-h --help --verbose" ;;
     esac

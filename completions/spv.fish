@@ -24,6 +24,7 @@ complete -c spv -n __fish_use_subcommand -a help -d 'Print help on a command'
 complete -c spv -n '__fish_seen_subcommand_from check' -F
 complete -c spv -n '__fish_seen_subcommand_from check' -l grammar -r -F -d 'A grammar file, in JSON'
 complete -c spv -n '__fish_seen_subcommand_from check' -l as-1.6 -d 'Take a module of version 1.0 to 1.5 as one of 1.6'
+complete -c spv -n '__fish_seen_subcommand_from check' -l extended -d 'Look at ids of extended instructions too'
 complete -c spv -n '__fish_seen_subcommand_from check' -l json -d 'Write a JSON object a line'
 complete -c spv -n '__fish_seen_subcommand_from check' -s H -l with-filename -d 'Write the name of a single file too'
 complete -c spv -n '__fish_seen_subcommand_from check' -l no-filename -d 'Write no names before verdicts'
@@ -33,6 +34,7 @@ complete -c spv -n '__fish_seen_subcommand_from check' -l verbose -d 'Say after 
 complete -c spv -n '__fish_seen_subcommand_from explain' -F
 complete -c spv -n '__fish_seen_subcommand_from explain' -l grammar -r -F -d 'A grammar file, in JSON'
 complete -c spv -n '__fish_seen_subcommand_from explain' -l as-1.6 -d 'Take a module of version 1.0 to 1.5 as one of 1.6'
+complete -c spv -n '__fish_seen_subcommand_from explain' -l extended -d 'Look at ids of extended instructions too'
 complete -c spv -n '__fish_seen_subcommand_from explain' -l full -d 'Name every opcode that may come'
 complete -c spv -n '__fish_seen_subcommand_from explain' -l json -d 'Write a JSON object a line'
 complete -c spv -n '__fish_seen_subcommand_from explain' -s H -l with-filename -d 'Write the name of a single file too'
@@ -71,6 +73,7 @@ complete -c spv -n '__fish_seen_subcommand_from trace' -l choices -x -d 'The tar
 complete -c spv -n '__fish_seen_subcommand_from trace' -l function -x -d "The id of an entry point's function"
 complete -c spv -n '__fish_seen_subcommand_from trace' -l grammar -r -F -d 'A grammar file, in JSON'
 complete -c spv -n '__fish_seen_subcommand_from trace' -l as-1.6 -d 'Take a module of version 1.0 to 1.5 as one of 1.6'
+complete -c spv -n '__fish_seen_subcommand_from trace' -l extended -d 'Look at ids of extended instructions too'
 complete -c spv -n '__fish_seen_subcommand_from trace' -l verbose -d 'Say after the line of an error what is wrong'
 complete -c spv -n '__fish_seen_subcommand_from trace' -l limit -x -d 'The greatest number of steps'
 

@@ -200,6 +200,7 @@ fn with_modules<'a>(
         task,
         files,
         as_1_6,
+        extended,
         naming,
         quiet,
         json,
@@ -214,6 +215,7 @@ fn with_modules<'a>(
     let how = Judging {
         task: *task,
         as_1_6: *as_1_6,
+        extended: *extended,
         telling: telling_by(*naming, *json),
     };
     if *quiet {

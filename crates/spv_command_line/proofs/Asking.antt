@@ -61,44 +61,44 @@ met (Some b) name rows e f = cc
 
 -- a command's name, its files, and the sum of the letters of its name, by which names are told apart
 abbrev pub name_of : Command → Text
-name_of (Judge task g fs v n q j) = task_name task
+name_of (Judge task g fs v x n q j) = task_name task
 name_of (Show g f v) = codes "show"
 name_of (Annotate g f v function form color) = codes "annotate"
 name_of (Graph g f v function) = codes "graph"
 name_of (Asm g f out big explain) = codes "asm"
-name_of (Trace g f function choices limit v) = codes "trace"
+name_of (Trace g f function choices limit v x) = codes "trace"
 name_of (Rules code j) = codes "rules"
 name_of (Grammar f) = codes "grammar"
 
 abbrev files_of : Command → List Text
-files_of (Judge task g fs v n q j) = map (λ f. f.now) fs.items
+files_of (Judge task g fs v x n q j) = map (λ f. f.now) fs.items
 files_of (Show g f v) = f.now ∷ []
 files_of (Annotate g f v function form color) = f.now ∷ []
 files_of (Graph g f v function) = f.now ∷ []
 files_of (Asm g f out big explain) = f.now ∷ []
-files_of (Trace g f function choices limit v) = f.now ∷ []
+files_of (Trace g f function choices limit v x) = f.now ∷ []
 files_of (Rules code j) = []
 files_of (Grammar f) = []
 
 abbrev sum_of : Command → ℕ
-sum_of (Judge tasks.Check g fs v n q j) = 510
-sum_of (Judge (tasks.Explain full) g fs v n q j) = 753
+sum_of (Judge tasks.Check g fs v x n q j) = 510
+sum_of (Judge (tasks.Explain full) g fs v x n q j) = 753
 sum_of (Show g f v) = 449
 sum_of (Annotate g f v function form color) = 858
 sum_of (Graph g f v function) = 530
 sum_of (Asm g f out big explain) = 321
-sum_of (Trace g f function choices limit v) = 527
+sum_of (Trace g f function choices limit v x) = 527
 sum_of (Rules code j) = 555
 sum_of (Grammar f) = 743
 
 letters : (c : Command) → sum (name_of c) ≡ sum_of c
-letters (Judge tasks.Check g fs v n q j) = refl
-letters (Judge (tasks.Explain full) g fs v n q j) = refl
+letters (Judge tasks.Check g fs v x n q j) = refl
+letters (Judge (tasks.Explain full) g fs v x n q j) = refl
 letters (Show g f v) = refl
 letters (Annotate g f v function form color) = refl
 letters (Graph g f v function) = refl
 letters (Asm g f out big explain) = refl
-letters (Trace g f function choices limit v) = refl
+letters (Trace g f function choices limit v x) = refl
 letters (Rules code j) = refl
 letters (Grammar f) = refl
 
@@ -114,22 +114,22 @@ module _ (environment : Option Text) (name : Text) (rows : List Row) where
   asked_files m g fs h = ap (λ (o : Option (Text × Option Text × Option (List Text))). unwrap_or (option_map (λ p. p.2) o) None) h
 
   pub named : (c : Command) → IsCommand environment (Some (name, rows)) c → name ≡ name_of c
-  named (Judge task g fs v n q j) h = asked_name _ _ _ h.asked
+  named (Judge task g fs v x n q j) h = asked_name _ _ _ h.asked
   named (Show g f v) h = asked_name _ _ _ h.0
   named (Annotate g f v function form color) h = asked_name _ _ _ h.asked
   named (Graph g f v function) h = asked_name _ _ _ h.asked
   named (Asm g f out big explain) h = asked_name _ _ _ h.0
-  named (Trace g f function choices limit v) h = asked_name _ _ _ h.asked
+  named (Trace g f function choices limit v x) h = asked_name _ _ _ h.asked
   named (Rules code j) h = lone_name name _ h.asked
   named (Grammar f) h = lone_name name _ h.0
 
   filed : (c : Command) → IsOfFiles name → IsCommand environment (Some (name, rows)) c → all_of (codes "file") rows ≡ Some (files_of c)
-  filed (Judge task g fs v n q j) takes h = asked_files _ _ _ h.asked
+  filed (Judge task g fs v x n q j) takes h = asked_files _ _ _ h.asked
   filed (Show g f v) takes h = asked_files _ _ _ h.0
   filed (Annotate g f v function form color) takes h = asked_files _ _ _ h.asked
   filed (Graph g f v function) takes h = asked_files _ _ _ h.asked
   filed (Asm g f out big explain) takes h = asked_files _ _ _ h.0
-  filed (Trace g f function choices limit v) takes h = asked_files _ _ _ h.asked
+  filed (Trace g f function choices limit v x) takes h = asked_files _ _ _ h.asked
   filed (Rules code j) takes h = absurd (takes.0 (lone_name name _ h.asked))
   filed (Grammar f) takes h = absurd (takes.1 (lone_name name _ h.0))
 
@@ -144,7 +144,7 @@ module _ (environment : Option Text) (name : Text) (rows : List Row) where
   -- of no file or several there is only a task
   pub no_command_of_several : (files : List Text) → ¬ (length files ≡ 1) → all_of (codes "file") rows ≡ Some files → IsOfFiles name
       → ((task : Task) → ¬ (name ≡ task_name task)) → IsNoCommand environment (Some (name, rows))
-  no_command_of_several files several all takes none (Judge task g fs v n q j) h = none task (named (Judge task g fs v n q j) h)
+  no_command_of_several files several all takes none (Judge task g fs v x n q j) h = none task (named (Judge task g fs v x n q j) h)
   no_command_of_several files several all takes none (Rules code j) h = takes.0 (named (Rules code j) h)
   no_command_of_several files several all takes none (Grammar f) h = takes.1 (named (Grammar f) h)
   no_command_of_several files several all takes none c h =
@@ -154,12 +154,12 @@ module _ (environment : Option Text) (name : Text) (rows : List Row) where
   -- of one file, with another name there is none
   pub no_command_of_name : IsOfFiles name → ((task : Task) → ¬ (name ≡ task_name task)) → ¬ (name ≡ codes "show") → ¬ (name ≡ codes "annotate")
       → ¬ (name ≡ codes "graph") → ¬ (name ≡ codes "asm") → ¬ (name ≡ codes "trace") → IsNoCommand environment (Some (name, rows))
-  no_command_of_name takes none show annotate graph asm trace (Judge task g fs v n q j) h = none task (named (Judge task g fs v n q j) h)
+  no_command_of_name takes none show annotate graph asm trace (Judge task g fs v x n q j) h = none task (named (Judge task g fs v x n q j) h)
   no_command_of_name takes none show annotate graph asm trace (Show g f v) h = show (named (Show g f v) h)
   no_command_of_name takes none show annotate graph asm trace (Annotate g f v function form color) h = annotate (named (Annotate g f v function form color) h)
   no_command_of_name takes none show annotate graph asm trace (Graph g f v function) h = graph (named (Graph g f v function) h)
   no_command_of_name takes none show annotate graph asm trace (Asm g f out big explain) h = asm (named (Asm g f out big explain) h)
-  no_command_of_name takes none show annotate graph asm trace (Trace g f function choices limit v) h = trace (named (Trace g f function choices limit v) h)
+  no_command_of_name takes none show annotate graph asm trace (Trace g f function choices limit v x) h = trace (named (Trace g f function choices limit v x) h)
   no_command_of_name takes none show annotate graph asm trace (Rules code j) h = takes.0 (named (Rules code j) h)
   no_command_of_name takes none show annotate graph asm trace (Grammar f) h = takes.1 (named (Grammar f) h)
 
@@ -168,9 +168,9 @@ never e = cc
 
 -- of a name there is no command, where there is none of its kind
 module _ (environment : Option Text) (rows : List Row) where
-  unjudged : (task : Task) → ((k : Task) (g : Option Text) (fs : List Text) (v : Bool) (n : Naming) (q j : Bool)
-      → ¬ (IsJudge environment (Some (task_name task, rows)) k g fs v n q j)) → IsNoCommand environment (Some (task_name task, rows))
-  unjudged task none (Judge k g fs v n q j) h = none _ _ _ _ _ _ _ h
+  unjudged : (task : Task) → ((k : Task) (g : Option Text) (fs : List Text) (v x : Bool) (n : Naming) (q j : Bool)
+      → ¬ (IsJudge environment (Some (task_name task, rows)) k g fs v x n q j)) → IsNoCommand environment (Some (task_name task, rows))
+  unjudged task none (Judge k g fs v x n q j) h = none _ _ _ _ _ _ _ _ h
   unjudged tasks.Check none c h = let e : 510 ≡ sum_of c = spelled environment (codes "check") rows c h in omega (arith, e)
   unjudged (tasks.Explain full) none c h = let e : 753 ≡ sum_of c = spelled environment (codes "explain") rows c h in omega (arith, e)
 
@@ -178,7 +178,7 @@ module _ (environment : Option Text) (rows : List Row) where
   pub not_judged : (task : Task) (g : Option Text) (all : List (Bor Text))
       → IsAsked environment (Some (task_name task, rows)) (task_name task) g (map (λ f. f.now) all)
       → IsTrue false ↔ ((1 ≤ length all) × (inputs_among (map (λ f. f.now) all) ≤ 1)) → IsNoCommand environment (Some (task_name task, rows))
-  not_judged task g all e answer = unjudged task (λ k h fs v n q j i.
+  not_judged task g all e answer = unjudged task (λ k h fs v x n q j i.
       let files : List Text = map (λ (f : Bor Text). f.now) all in
       let count = length-map all (λ (f : Bor Text). f.now) in
       let same : Some files ≡ Some fs = sym (asked_files environment (task_name task) rows _ _ _ e) ∙ asked_files environment (task_name task) rows _ _ _ i.asked in
@@ -189,35 +189,35 @@ module _ (environment : Option Text) (rows : List Row) where
   -- where names are asked for and against
   pub not_named : (task : Task) → ((naming : Naming) → ¬ (IsNaming (first_of (codes "with-filename") rows) (first_of (codes "no-filename") rows) naming))
       → IsNoCommand environment (Some (task_name task, rows))
-  not_named task none = unjudged task (λ k h fs v n q j i. none n i.names)
+  not_named task none = unjudged task (λ k h fs v x n q j i. none n i.names)
 
   -- where what its options ask for is none
   pub not_annotated : ((function : Option ℕ) (color : Color) → IsNumberIfAny (first_of (codes "function") rows) function → IsColor (first_of (codes "color") rows) color → ⊥)
       → IsNoCommand environment (Some (codes "annotate", rows))
   not_annotated none (Annotate g f v function form color) h = none function color h.function_is h.color_is
-  not_annotated none (Judge tasks.Check g fs v n q j) h = let e : 858 ≡ 510 = spelled environment (codes "annotate") rows (Judge tasks.Check g fs v n q j) h in omega (arith, e)
+  not_annotated none (Judge tasks.Check g fs v x n q j) h = let e : 858 ≡ 510 = spelled environment (codes "annotate") rows (Judge tasks.Check g fs v x n q j) h in omega (arith, e)
   not_annotated none c h = let e : 858 ≡ sum_of c = spelled environment (codes "annotate") rows c h in omega (arith, e)
 
   pub not_drawn : ((function : Option ℕ) → ¬ (IsNumberIfAny (first_of (codes "function") rows) function)) → IsNoCommand environment (Some (codes "graph", rows))
   not_drawn none (Graph g f v function) h = none function h.function_is
-  not_drawn none (Judge tasks.Check g fs v n q j) h = let e : 530 ≡ 510 = spelled environment (codes "graph") rows (Judge tasks.Check g fs v n q j) h in omega (arith, e)
+  not_drawn none (Judge tasks.Check g fs v x n q j) h = let e : 530 ≡ 510 = spelled environment (codes "graph") rows (Judge tasks.Check g fs v x n q j) h in omega (arith, e)
   not_drawn none c h = let e : 530 ≡ sum_of c = spelled environment (codes "graph") rows c h in omega (arith, e)
 
   pub not_assembled : first_of (codes "out") rows ≡ None → IsNoCommand environment (Some (codes "asm", rows))
   not_assembled none (Asm g f out big explain) h = let o = h.1 in cc
-  not_assembled none (Judge tasks.Check g fs v n q j) h = let e : 321 ≡ 510 = spelled environment (codes "asm") rows (Judge tasks.Check g fs v n q j) h in omega (arith, e)
+  not_assembled none (Judge tasks.Check g fs v x n q j) h = let e : 321 ≡ 510 = spelled environment (codes "asm") rows (Judge tasks.Check g fs v x n q j) h in omega (arith, e)
   not_assembled none c h = let e : 321 ≡ sum_of c = spelled environment (codes "asm") rows c h in omega (arith, e)
 
   pub not_traced : ((function : ℕ) (choices : List ℕ) (limit : ℕ) → IsNumberOf (first_of (codes "function") rows) function
       → AreNumbersOf (first_of (codes "choices") rows) choices → IsNumberOf (first_of (codes "limit") rows) limit → ⊥)
       → IsNoCommand environment (Some (codes "trace", rows))
-  not_traced none (Trace g f function choices limit v) h = none function choices.items limit h.function_is h.choices_are h.limit_is
-  not_traced none (Judge tasks.Check g fs v n q j) h = let e : 527 ≡ 510 = spelled environment (codes "trace") rows (Judge tasks.Check g fs v n q j) h in omega (arith, e)
+  not_traced none (Trace g f function choices limit v x) h = none function choices.items limit h.function_is h.choices_are h.limit_is
+  not_traced none (Judge tasks.Check g fs v x n q j) h = let e : 527 ≡ 510 = spelled environment (codes "trace") rows (Judge tasks.Check g fs v x n q j) h in omega (arith, e)
   not_traced none c h = let e : 527 ≡ sum_of c = spelled environment (codes "trace") rows c h in omega (arith, e)
 
   pub not_ruled : ((code : Option AnyCode) → ¬ (IsCodeOf (first_of (codes "code") rows) code)) → IsNoCommand environment (Some (codes "rules", rows))
   not_ruled none (Rules code j) h = none code h.code_is
-  not_ruled none (Judge tasks.Check g fs v n q j) h = let e : 555 ≡ 510 = spelled environment (codes "rules") rows (Judge tasks.Check g fs v n q j) h in omega (arith, e)
+  not_ruled none (Judge tasks.Check g fs v x n q j) h = let e : 555 ≡ 510 = spelled environment (codes "rules") rows (Judge tasks.Check g fs v x n q j) h in omega (arith, e)
   not_ruled none c h = let e : 555 ≡ sum_of c = spelled environment (codes "rules") rows c h in omega (arith, e)
 
 task_is_of_files : (task : Task) → IsOfFiles (task_name task)
@@ -225,16 +225,17 @@ task_is_of_files tasks.Check = (λ e. let s : 510 ≡ 555 = ap sum e in omega (a
 task_is_of_files (tasks.Explain full) = (λ e. let s : 753 ≡ 555 = ap sum e in omega (arith, s), λ e. let s : 753 ≡ 743 = ap sum e in omega (arith, s))
 
 -- a task on its files
-pub judge_met : (environment : Option Text) (rows : List Row) (task : Task) (g : Option Text) (all items : List (Bor Text)) (v : Bool) (n : Naming) (q j : Bool)
+pub judge_met : (environment : Option Text) (rows : List Row) (task : Task) (g : Option Text) (all items : List (Bor Text)) (v x : Bool) (n : Naming) (q j : Bool)
     → IsAsked environment (Some (task_name task, rows)) (task_name task) g (map (λ f. f.now) all) → items ≡ all
     → IsTrue true ↔ ((1 ≤ length all) × (inputs_among (map (λ f. f.now) all) ≤ 1))
     → IsDetailed (first_of (codes "full") rows) task
     → IsFlag (first_of (codes "as-1.6") rows) v
+    → IsFlag (first_of (codes "extended") rows) x
     → IsNaming (first_of (codes "with-filename") rows) (first_of (codes "no-filename") rows) n
     → IsFlag (first_of (codes "quiet") rows) q
     → IsFlag (first_of (codes "json") rows) j
-    → IsJudge environment (Some (task_name task, rows)) task g (map (λ f. f.now) items) v n q j
-judge_met environment rows task g all items v n q j e i answer detail version names quiet json =
+    → IsJudge environment (Some (task_name task, rows)) task g (map (λ f. f.now) items) v x n q j
+judge_met environment rows task g all items v x n q j e i answer detail version extended names quiet json =
     let count = length-map all (λ (f : Bor Text). f.now) in
     let long = (answer.0 refl).0 in
     rw i (record {
@@ -243,6 +244,7 @@ judge_met environment rows task g all items v n q j e i answer detail version na
       some = omega (arith, count, long);
       once = (answer.0 refl).1;
       version = version;
+      extended_is = extended;
       names = names;
       quiet_is = quiet;
       json_is = json;
@@ -259,12 +261,12 @@ no_command_met environment found e = subst (λ (o : Option (Text × List Row)). 
     unnamed : IsNoCommand environment None
     unnamed (Rules code j) h = let a = h.asked in cc
     unnamed (Grammar f) h = let a = h.0 in cc
-    unnamed (Judge task g fs v n q j) h = let a = h.asked in cc
+    unnamed (Judge task g fs v x n q j) h = let a = h.asked in cc
     unnamed (Show g f v) h = let a = h.0 in cc
     unnamed (Annotate g f v function form color) h = let a = h.asked in cc
     unnamed (Graph g f v function) h = let a = h.asked in cc
     unnamed (Asm g f out big explain) h = let a = h.0 in cc
-    unnamed (Trace g f function choices limit v) h = let a = h.asked in cc
+    unnamed (Trace g f function choices limit v x) h = let a = h.asked in cc
 
 -- what stands behind a name, by the name and its rows
 pub given_for : (found : Option (Text × List Row)) (name m : Text) (rows : List Row) (r : Result Command UseError) (environment : Option Text)

@@ -54,12 +54,15 @@ file_word = must (word (codes "file"))
 abbrev pub files_word : Rule
 files_word = record file_word { range = Some (record { start_inclusive = 1; end_inclusive = usize_max }) }
 
--- `--grammar G`, `--as-1.6`, `--json` and `--verbose`
+-- `--grammar G`, `--as-1.6`, `--extended`, `--json` and `--verbose`
 abbrev pub grammar_option : Rule
 grammar_option = option (codes "grammar")
 
 abbrev pub as_1_6_flag : Rule
 as_1_6_flag = flag (codes "as-1.6")
+
+abbrev pub extended_flag : Rule
+extended_flag = flag (codes "extended")
 
 abbrev pub json_flag : Rule
 json_flag = flag (codes "json")
@@ -75,10 +78,11 @@ with_filename_flag = record (flag (codes "with-filename")) { short = Some 72 }
 abbrev pub command : Text → List Rule → Shape
 command name rules = (fold with_rule (new_app name) rules).top
 
--- `[--as-1.6] [--with-filename] [--no-filename] [--quiet] [--json] [--verbose]`
+-- `[--as-1.6] [--extended] [--with-filename] [--no-filename] [--quiet] [--json] [--verbose]`
 abbrev pub judging_flags : List Rule
 judging_flags =
-    as_1_6_flag ∷ with_filename_flag ∷ flag (codes "no-filename") ∷ flag (codes "quiet") ∷ json_flag ∷ verbose_flag ∷ []
+    as_1_6_flag ∷ extended_flag ∷ with_filename_flag ∷ flag (codes "no-filename") ∷ flag (codes "quiet") ∷ json_flag
+    ∷ verbose_flag ∷ []
 
 -- `check [--grammar G] FILE ..` with these flags
 abbrev pub check_command : Shape
@@ -103,11 +107,11 @@ abbrev pub graph_command : Shape
 graph_command = command (codes "graph")
     (grammar_option ∷ file_word ∷ option (codes "function") ∷ as_1_6_flag ∷ verbose_flag ∷ [])
 
--- `trace [--grammar G] FILE --function ID [--choices LIST] --limit N [--as-1.6] [--verbose]`
+-- `trace [--grammar G] FILE --function ID [--choices LIST] --limit N [--as-1.6] [--extended] [--verbose]`
 abbrev pub trace_command : Shape
 trace_command = command (codes "trace")
     (grammar_option ∷ file_word ∷ must (option (codes "function")) ∷ option (codes "choices")
-    ∷ must (option (codes "limit")) ∷ as_1_6_flag ∷ verbose_flag ∷ [])
+    ∷ must (option (codes "limit")) ∷ as_1_6_flag ∷ extended_flag ∷ verbose_flag ∷ [])
 
 -- `asm [--grammar G] FILE --out OUT [--big] [--explain] [--verbose]`
 abbrev pub asm_command : Shape
@@ -165,12 +169,13 @@ IsNaming on off Never = (on ≢ Some (codes "true")) × (off ≡ Some (codes "tr
 
 -- they are `trace` of one file, with the numbers that its options are in decimal
 pub record IsTrace (environment : Option Text) (found : Option (Text × List Row)) (grammar : Option Text) (file : Text)
-    (function : ℕ) (choices : List ℕ) (limit : ℕ) (as_1_6 : Bool) : Type 0 where
+    (function : ℕ) (choices : List ℕ) (limit : ℕ) (as_1_6 extended : Bool) : Type 0 where
   pub asked : IsAsked environment found (codes "trace") grammar (file ∷ [])
   pub function_is : IsNumberOf (text_in (codes "function") found) function
   pub choices_are : AreNumbersOf (text_in (codes "choices") found) choices
   pub limit_is : IsNumberOf (text_in (codes "limit") found) limit
   pub version : IsFlag (text_in (codes "as-1.6") found) as_1_6
+  pub extended_is : IsFlag (text_in (codes "extended") found) extended
 
 -- the text of the word is the name of the code, in capital or small letters, or there are neither
 abbrev pub IsCodeOf : Option Text → Option AnyCode → Type 0
@@ -236,12 +241,14 @@ inputs_among files = count_of (codes "-") files
 
 -- they are a task on one file or more, of which at most one is the standard input
 pub record IsJudge (environment : Option Text) (found : Option (Text × List Row)) (task : Task)
-    (grammar : Option Text) (files : List Text) (as_1_6 : Bool) (naming : Naming) (quiet json : Bool) : Type 0 where
+    (grammar : Option Text) (files : List Text) (as_1_6 extended : Bool) (naming : Naming)
+    (quiet json : Bool) : Type 0 where
   pub asked : IsAsked environment found (task_name task) grammar files
   pub detail : IsDetailed (text_in (codes "full") found) task
   pub some : 1 ≤ length files
   pub once : inputs_among files ≤ 1
   pub version : IsFlag (text_in (codes "as-1.6") found) as_1_6
+  pub extended_is : IsFlag (text_in (codes "extended") found) extended
   pub names : IsNaming (text_in (codes "with-filename") found) (text_in (codes "no-filename") found) naming
   pub quiet_is : IsFlag (text_in (codes "quiet") found) quiet
   pub json_is : IsFlag (text_in (codes "json") found) json
@@ -252,8 +259,9 @@ path_of grammar = option_map (λ g. g.now) grammar
 
 -- they are a command with all of its texts; a flag that was read has the text `true`
 abbrev pub IsCommand : Option Text → Option (Text × List Row) → Command → Type 0
-IsCommand environment found (Judge task grammar files as_1_6 naming quiet json) =
-    IsJudge environment found task (path_of grammar) (map (λ file. file.now) files.items) as_1_6 naming quiet json
+IsCommand environment found (Judge task grammar files as_1_6 extended naming quiet json) =
+    IsJudge environment found task (path_of grammar) (map (λ file. file.now) files.items) as_1_6 extended naming quiet
+    json
 IsCommand environment found (Show grammar file as_1_6) =
     IsAsked environment found (codes "show") (path_of grammar) (file.now ∷ [])
     × IsFlag (text_in (codes "as-1.6") found) as_1_6
@@ -265,8 +273,8 @@ IsCommand environment found (Asm grammar file out big explain) =
     IsAsked environment found (codes "asm") (path_of grammar) (file.now ∷ [])
     × (text_in (codes "out") found ≡ Some out.now) × IsFlag (text_in (codes "big") found) big
     × IsFlag (text_in (codes "explain") found) explain
-IsCommand environment found (Trace grammar file function choices limit as_1_6) =
-    IsTrace environment found (path_of grammar) file.now function choices.items limit as_1_6
+IsCommand environment found (Trace grammar file function choices limit as_1_6 extended) =
+    IsTrace environment found (path_of grammar) file.now function choices.items limit as_1_6 extended
 IsCommand environment found (Rules code json) = IsRules found code json
 IsCommand environment found (Grammar file) =
     (name_in found ≡ Some (codes "grammar")) × (text_in (codes "file") found ≡ path_of file)

@@ -9,7 +9,8 @@ ghost use Rattle.spv_command_line.specs.CommandLine.{inputs_among, path_of, task
 ghost use Rattle.spv_command_line.specs.inner.CommandLine.{IsGiven, IsGivenFor, IsOfFiles};
 
 use crate::options::{
-    color_in, form_in, is_as_1_6, is_set, naming_in, number_if_given, number_of, numbers_of,
+    color_in, form_in, is_as_1_6, is_extended, is_set, naming_in, number_if_given, number_of,
+    numbers_of,
 };
 use crate::program::all_words;
 use clap::ArgMatches;
@@ -74,6 +75,8 @@ pub enum Command<'a> {
         files: Vec<&'a str>,
         /// Whether a module of an earlier version is taken as one of 1.6.
         as_1_6: bool,
+        /// Whether the operands of extended instructions are looked at too.
+        extended: bool,
         /// Which verdicts have the name of their file before them.
         naming: Naming,
         /// Whether no verdict is written, and the exit status alone tells it.
@@ -144,6 +147,8 @@ pub enum Command<'a> {
         limit: u32,
         /// Whether a module of an earlier version is taken as one of 1.6.
         as_1_6: bool,
+        /// Whether the operands of extended instructions are looked at too.
+        extended: bool,
     },
     /// `spv rules [CODE]`: what each code says, or one of them. No file is read.
     Rules {
@@ -294,6 +299,7 @@ fn trace_in<'a>(
         choices,
         limit,
         as_1_6: is_as_1_6(found),
+        extended: is_extended(found),
     })
 }
 
@@ -412,6 +418,7 @@ fn judge_command<'a>(
         grammar,
         files,
         as_1_6: is_as_1_6(found),
+        extended: is_extended(found),
         naming,
         quiet: is_set(found, "quiet"),
         json: is_set(found, "json"),

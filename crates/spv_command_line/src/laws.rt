@@ -1,13 +1,14 @@
 //! Worked examples. Each function does nothing: its contract is what is proved.
 ghost use Rattle.std.specs.Prelude.{◌≡◌, ◌∷◌, [], ℕ, List, Option, Some, None, Ok, Err};
-ghost use Rattle.std.specs.Prelude.{true, false, codes};
+ghost use Rattle.std.specs.Prelude.{true, false, codes, map, Vec};
 ghost use Rattle.std.specs.Borrow.{Bor};
+ghost use Rattle.std.specs.Global.{Global};
 ghost use Rattle.clap.specs.Words.{Text};
 ghost use Rattle.spv_command_line.specs.CommandLine.{AnswersTo, IsColor, IsDetailed, IsFlag, IsForm, IsNaming, count_of};
 ghost use Rattle.spv_command_line.specs.declared.command_line.Color.{Color};
 ghost use Rattle.spv_command_line.specs.declared.command_line.Color.TheVariants as colors;
 ghost use Rattle.spv_command_line.specs.declared.command_line.Color.TheVariants.{Auto};
-ghost use Rattle.spv_command_line.specs.declared.command_line.Command.TheVariants.{Annotate, Graph, Rules};
+ghost use Rattle.spv_command_line.specs.declared.command_line.Command.TheVariants.{Annotate, Graph, Judge, Rules};
 ghost use Rattle.spv_command_line.specs.declared.command_line.Form.TheVariants as forms;
 ghost use Rattle.spv_command_line.specs.declared.command_line.Form.TheVariants.{Page};
 ghost use Rattle.spv_command_line.specs.declared.command_line.UseError.TheVariants.{NoCommand};
@@ -69,6 +70,12 @@ pub fn line_examples()
         → AnswersTo (codes "annotate" ∷ codes "a.spv" ∷ codes "--color=never" ∷ [])
         (Ok (Annotate None file false None forms.Text colors.Never)) }
     ensures no_color { AnswersTo (codes "annotate" ∷ codes "a.spv" ∷ codes "--color=red" ∷ []) (Err NoCommand) }
+    // The operands of extended instructions are looked at where that is asked for, and else not.
+    ensures extended { (files : Vec (Bor Text) Global) → map (λ file. file.now) files.items ≡ codes "a.spv" ∷ []
+        → AnswersTo (codes "check" ∷ codes "--extended" ∷ codes "a.spv" ∷ [])
+        (Ok (Judge Check None files false true OfSeveral false false)) }
+    ensures not_extended { (files : Vec (Bor Text) Global) → ¬ (AnswersTo (codes "check" ∷ codes "a.spv" ∷ [])
+        (Ok (Judge Check None files false true OfSeveral false false))) }
     // `show` writes no object.
     ensures no_object { AnswersTo (codes "show" ∷ codes "a.spv" ∷ codes "--json" ∷ []) (Err NoCommand) }
 {}

@@ -13,6 +13,11 @@ pub const AS_1_6: &str =
     "Takes a module of version 1.0 to 1.5 as one of 1.6: `valid` then says that the module with the version 1.6 in its \
     header is valid, and not that it keeps what its own version asks for";
 
+/// Of `--extended`.
+pub const EXTENDED: &str =
+    "Looks at the operands of extended instructions too, for loaders: `valid` then says that their ids are defined, \
+    and that OpenCL.std has the instructions that are called";
+
 /// Of the limit of `trace`.
 pub const LIMIT: &str =
     "The greatest number of steps; the run is written once it is whole, or `error memory` alone where it does not fit";

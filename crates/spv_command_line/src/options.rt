@@ -40,6 +40,13 @@ pub fn is_as_1_6(found: &ArgMatches<'_>) -> bool
     is_set(found, "as-1.6")
 }
 
+/// Whether the operands of extended instructions are looked at too.
+pub fn is_extended(found: &ArgMatches<'_>) -> bool
+    ensures { IsFlag (first_of (codes "extended") (rows_of (found_of found.now))) result }
+{
+    is_set(found, "extended")
+}
+
 /// Which verdicts have names by the options that ask for it and against it. None where both do.
 fn naming_by(with_filename: bool, no_filename: bool) -> Option<Naming>
     ensures { result ≡ naming_of with_filename no_filename }

@@ -53,6 +53,14 @@ const AS_1_6: Argument = Argument {
     help: manual::AS_1_6,
 };
 
+const EXTENDED: Argument = Argument {
+    name: "extended",
+    form: Form::Flag,
+    value: "",
+    required: false,
+    help: manual::EXTENDED,
+};
+
 const WITH_FILENAME: Argument = Argument {
     name: "with-filename",
     form: Form::Lettered('H'),
@@ -245,6 +253,7 @@ const CHECK: &[Argument] = &[
     GRAMMAR,
     MODULES,
     AS_1_6,
+    EXTENDED,
     WITH_FILENAME,
     NO_FILENAME,
     QUIET,
@@ -258,6 +267,7 @@ const EXPLAIN: &[Argument] = &[
     MODULES,
     FULL,
     AS_1_6,
+    EXTENDED,
     WITH_FILENAME,
     NO_FILENAME,
     QUIET,
@@ -305,7 +315,9 @@ static SHOWING: [Entry; 4] = [
         name: "trace",
         about: "Writes the run of an entry point's function",
         notes: manual::TRACE,
-        arguments: &[GRAMMAR, MODULE, FUNCTION, CHOICES, LIMIT, AS_1_6, VERBOSE],
+        arguments: &[
+            GRAMMAR, MODULE, FUNCTION, CHOICES, LIMIT, AS_1_6, EXTENDED, VERBOSE,
+        ],
     },
 ];
 

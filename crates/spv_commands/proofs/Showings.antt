@@ -13,6 +13,8 @@ use Rattle.spv_inst.specs.Outcome.{IsDecodeFault, IsHeaderOf}
 use Rattle.spv_module.specs.declared.fault.Stop.{Stop}
 use Rattle.spv_module.specs.declared.fault.Stop.TheVariants.{Fault as Dies, Memory}
 use Rattle.spv_lines.specs.Text.{IsShownText}
+use Rattle.spv_extended.specs.declared.reach.Reach.TheVariants.{Profile}
+use Rattle.spv_verdict.specs.Reading.{IsReading}
 use Rattle.spv_verdict.specs.Verdict.{fault_line, refused_line}
 use Rattle.spv_verdict.proofs.Verdicts.{Laws, dead_list, same_module}
 use Rattle.spv_commands.specs.Show.{IsShowing, refused, dead, shown, Shows, BeginsShowing}
@@ -88,10 +90,14 @@ same_header ws h k s t =
 abbrev pub OneText : Type 0
 OneText = (G : Table) (h : Header) (is : List PlainInst) (t u : List ℕ) → IsShownText G h is t → IsShownText G h is u → t ≡ u
 
+-- what is shown is the list that words spell
+spelled : (G : Table) (is : List PlainInst) (ws : List ℕ) → IsListing G is ws → IsReading G Profile is ws
+spelled G is ws l = record { spelled = is; listing = l; seen = refl }
+
 same_text : Laws → OneText → (G : Table) (bytes ws vs : List ℕ) (o p : Order) (h k : Header) (is js : List PlainInst) (t u : List ℕ) → IsModule o bytes ws → IsModule p bytes vs
     → IsHeaderOf ws h → IsHeaderOf vs k → IsListing G is (drop 5 ws) → IsListing G js (drop 5 vs) → IsShownText G h is t → IsShownText G k js u → t ≡ u
 same_text laws one G bytes ws vs o p h k is js t u m n a b l d x y =
-    let same = same_module laws G bytes ws vs o p is js m n l d in
+    let same = same_module laws G Profile bytes ws vs o p is js m n (spelled G is (drop 5 ws) l) (spelled G js (drop 5 vs) d) in
     let b' : IsHeaderOf ws k = rw same.words b in
     let header = same_header ws h k a b' in
     let y' : IsShownText G h is u = rw (header, same.insts) y in
@@ -111,8 +117,8 @@ one_showing laws one G bytes _ _ _ _ (dead ws o r i n h d) (dead vs p s j m g e)
     let same : vs ≡ ws = (laws.words p o bytes vs ws g h).1 in
     let one = laws.death G (drop 5 ws) r s i j n m d (rw same at e) in
     record { output = rw (one.0, one.1, one.2) refl; answer = refl }
-one_showing laws one G bytes _ _ _ _ (dead ws o r i n h d) (shown vs p k js u g b l y) = absurd (dead_list laws G bytes vs ws p o js r i n g h l d)
+one_showing laws one G bytes _ _ _ _ (dead ws o r i n h d) (shown vs p k js u g b l y) = absurd (dead_list laws G Profile bytes vs ws p o js r i n g h (spelled G js (drop 5 vs) l) d)
 one_showing laws one G bytes _ _ _ _ (shown ws o h is t m a l x) (refused c y) = absurd (laws.never c o bytes ws m y)
-one_showing laws one G bytes _ _ _ _ (shown ws o h is t m a l x) (dead vs p r i n g d) = absurd (dead_list laws G bytes ws vs o p is r i n m g l d)
+one_showing laws one G bytes _ _ _ _ (shown ws o h is t m a l x) (dead vs p r i n g d) = absurd (dead_list laws G Profile bytes ws vs o p is r i n m g (spelled G is (drop 5 ws) l) d)
 one_showing laws one G bytes _ _ _ _ (shown ws o h is t m a l x) (shown vs p k js u n b d y) =
     record { output = same_text laws one G bytes ws vs o p h k is js t u m n a b l d x y; answer = refl }

@@ -5,6 +5,7 @@ use Rattle.spv_words.specs.declared.words.Order.{Order}
 use Rattle.spv_words.specs.declared.words.WordError.{WordError}
 use Rattle.spv_words.specs.declared.words.WordError.TheVariants.{W2}
 use Rattle.spv_table.specs.Table.{Table}
+use Rattle.spv_extended.specs.declared.reach.Reach.{Reach}
 use Rattle.spv_command_line.specs.declared.command_line.Command.{Command}
 use Rattle.spv_command_line.specs.declared.command_line.Command.TheVariants.{Judge, Show, Asm, Trace, Rules, Grammar, Annotate, Graph}
 use Rattle.spv_command_line.specs.declared.command_line.Task.TheVariants as tasks
@@ -15,7 +16,7 @@ use Rattle.spv_explain.specs.Stream.{BeginsExplaining, Explains}
 use Rattle.spv_verdict.specs.Stream.{Begins, TellsVerdict}
 use Rattle.spv_verdict.specs.Verdict.{IsVerdict}
 use Rattle.spv_verdict.proofs.Verdicts.{refused_is_not_valid}
-use Rattle.spv_commands.specs.Task.{BeginsByText, BeginsGrammar, DoesByText, MakesNothing, ReadsNoFile, WritesGrammar, detail_of, taken, view_of}
+use Rattle.spv_commands.specs.Task.{BeginsByText, BeginsGrammar, DoesByText, MakesNothing, ReadsNoFile, WritesGrammar, detail_of, reach_of, taken, view_of}
 use Rattle.spv_views.specs.View.{BeginsViewing, Views}
 use Rattle.spv_views.specs.declared.view.View.{View}
 use Rattle.spv_views.specs.declared.view.View.TheVariants as view
@@ -31,10 +32,10 @@ short_shown G h = record { output = refused_line W2; showing = IsShowing.refused
 pub short_begun_showing : (G : Table) → IsFirstBroken W2 (1 ∷ 2 ∷ 3 ∷ []) → BeginsShowing G (1 ∷ 2 ∷ 3 ∷ []) (9 ∷ []) (Some (9 ∷ codes "fault"))
 short_begun_showing G h = record { output = refused_line W2; answer = false; showing = IsShowing.refused W2 h; count = 5; fits = lit≤ tt; written = refl }
 
-pub short_explained : (G : Table) (detail : Detail) → IsFirstBroken W2 (1 ∷ 2 ∷ 3 ∷ []) → ((o : Order) (ws : List ℕ) → ¬ (IsModule o (1 ∷ 2 ∷ 3 ∷ []) ws))
+pub short_explained : (G : Table) (reach : Reach) (detail : Detail) → IsFirstBroken W2 (1 ∷ 2 ∷ 3 ∷ []) → ((o : Order) (ws : List ℕ) → ¬ (IsModule o (1 ∷ 2 ∷ 3 ∷ []) ws))
     → ((e : WordError) → IsFirstBroken e (1 ∷ 2 ∷ 3 ∷ []) → e ≡ W2)
-    → Explains detail G (1 ∷ 2 ∷ 3 ∷ []) (9 ∷ []) (Some (9 ∷ codes "fault W2" ++ (line_end ++ refused_text W2 (1 ∷ 2 ∷ 3 ∷ [])))) false
-short_explained G detail h never once = record {
+    → Explains detail G reach (1 ∷ 2 ∷ 3 ∷ []) (9 ∷ []) (Some (9 ∷ codes "fault W2" ++ (line_end ++ refused_text W2 (1 ∷ 2 ∷ 3 ∷ [])))) false
+short_explained G reach detail h never once = record {
   line = refused_line W2;
   lines = refused_text W2 (1 ∷ 2 ∷ 3 ∷ []);
   verdict = IsVerdict.refused W2 h;
@@ -45,10 +46,10 @@ short_explained G detail h never once = record {
   answered = (λ t. cc, λ e. absurd (refused_is_not_valid W2 e));
 }
 
-pub short_begun_explaining : (G : Table) (detail : Detail) → IsFirstBroken W2 (1 ∷ 2 ∷ 3 ∷ []) → ((o : Order) (ws : List ℕ) → ¬ (IsModule o (1 ∷ 2 ∷ 3 ∷ []) ws))
+pub short_begun_explaining : (G : Table) (reach : Reach) (detail : Detail) → IsFirstBroken W2 (1 ∷ 2 ∷ 3 ∷ []) → ((o : Order) (ws : List ℕ) → ¬ (IsModule o (1 ∷ 2 ∷ 3 ∷ []) ws))
     → ((e : WordError) → IsFirstBroken e (1 ∷ 2 ∷ 3 ∷ []) → e ≡ W2)
-    → BeginsExplaining detail G (1 ∷ 2 ∷ 3 ∷ []) (9 ∷ []) (Some (9 ∷ codes "fault"))
-short_begun_explaining G detail h never once = record {
+    → BeginsExplaining detail G reach (1 ∷ 2 ∷ 3 ∷ []) (9 ∷ []) (Some (9 ∷ codes "fault"))
+short_begun_explaining G reach detail h never once = record {
   line = refused_line W2;
   lines = refused_text W2 (1 ∷ 2 ∷ 3 ∷ []);
   verdict = IsVerdict.refused W2 h;
@@ -79,24 +80,24 @@ module _ (P : List ℕ → Type 0) where
   as_taken : (as_1_6 : Bool) → P (1 ∷ 2 ∷ 3 ∷ []) → P (taken as_1_6 (1 ∷ 2 ∷ 3 ∷ []))
   as_taken as_1_6 h = subst P (sym (short_taken as_1_6)) h
 
-pub does_short : (c : Command) (G : Table) → ¬ (ReadsNoFile c) → MakesNothing c → IsTableOf (Some empty_grammar) G → TellsVerdict G (1 ∷ 2 ∷ 3 ∷ []) (9 ∷ []) (Some (9 ∷ codes "fault W2" ++ line_end)) false
-    → ((detail : Detail) → Explains detail G (1 ∷ 2 ∷ 3 ∷ []) (9 ∷ []) (Some (9 ∷ codes "fault W2" ++ (line_end ++ refused_text W2 (1 ∷ 2 ∷ 3 ∷ [])))) false)
+pub does_short : (c : Command) (G : Table) → ¬ (ReadsNoFile c) → MakesNothing c → IsTableOf (Some empty_grammar) G → ((reach : Reach) → TellsVerdict G reach (1 ∷ 2 ∷ 3 ∷ []) (9 ∷ []) (Some (9 ∷ codes "fault W2" ++ line_end)) false)
+    → ((reach : Reach) (detail : Detail) → Explains detail G reach (1 ∷ 2 ∷ 3 ∷ []) (9 ∷ []) (Some (9 ∷ codes "fault W2" ++ (line_end ++ refused_text W2 (1 ∷ 2 ∷ 3 ∷ [])))) false)
     → Shows G (1 ∷ 2 ∷ 3 ∷ []) (9 ∷ []) (Some (9 ∷ codes "fault W2" ++ line_end)) false
-    → ((function : ℕ) (choices : List ℕ) (limit : ℕ) → Traces G function choices limit (1 ∷ 2 ∷ 3 ∷ []) (9 ∷ []) (Some (9 ∷ codes "fault W2" ++ line_end)) false)
+    → ((reach : Reach) (function : ℕ) (choices : List ℕ) (limit : ℕ) → Traces G reach function choices limit (1 ∷ 2 ∷ 3 ∷ []) (9 ∷ []) (Some (9 ∷ codes "fault W2" ++ line_end)) false)
     → ((how : View) (function : Option ℕ) → Views how G function (1 ∷ 2 ∷ 3 ∷ []) (9 ∷ []) (Some (9 ∷ codes "fault W2" ++ line_end)) false)
     → DoesByText c (Some empty_grammar) (1 ∷ 2 ∷ 3 ∷ []) (Some (9 ∷ [])) (Some (9 ∷ answer_of c)) None None false
-does_short (Judge tasks.Check g fs v p q j) G r n given tells explains shows traces views =
-    record { table = G; given = given; does = as_taken (λ bytes. TellsVerdict G bytes (9 ∷ []) (Some (9 ∷ codes "fault W2" ++ line_end)) false) v tells }
-does_short (Judge (tasks.Explain full) g fs v p q j) G r n given tells explains shows traces views =
-    record { table = G; given = given; does = as_taken (λ bytes. Explains (detail_of full) G bytes (9 ∷ []) (Some (9 ∷ codes "fault W2" ++ (line_end ++ refused_text W2 (1 ∷ 2 ∷ 3 ∷ [])))) false) v (explains (detail_of full)) }
+does_short (Judge tasks.Check g fs v e p q j) G r n given tells explains shows traces views =
+    record { table = G; given = given; does = as_taken (λ bytes. TellsVerdict G (reach_of e) bytes (9 ∷ []) (Some (9 ∷ codes "fault W2" ++ line_end)) false) v (tells (reach_of e)) }
+does_short (Judge (tasks.Explain full) g fs v e p q j) G r n given tells explains shows traces views =
+    record { table = G; given = given; does = as_taken (λ bytes. Explains (detail_of full) G (reach_of e) bytes (9 ∷ []) (Some (9 ∷ codes "fault W2" ++ (line_end ++ refused_text W2 (1 ∷ 2 ∷ 3 ∷ [])))) false) v (explains (reach_of e) (detail_of full)) }
 does_short (Show g f v) G r n given tells explains shows traces views =
     record { table = G; given = given; does = as_taken (λ bytes. Shows G bytes (9 ∷ []) (Some (9 ∷ codes "fault W2" ++ line_end)) false) v shows }
 does_short (Asm g f o b x) G r n given tells explains shows traces views = absurd n
-does_short (Trace g f function choices limit v) G r n given tells explains shows traces views = record {
+does_short (Trace g f function choices limit v e) G r n given tells explains shows traces views = record {
   table = G;
   given = given;
-  does = as_taken (λ bytes. Traces G function choices.items limit bytes (9 ∷ []) (Some (9 ∷ codes "fault W2" ++ line_end)) false) v
-      (traces function choices.items limit);
+  does = as_taken (λ bytes. Traces G (reach_of e) function choices.items limit bytes (9 ∷ []) (Some (9 ∷ codes "fault W2" ++ line_end)) false) v
+      (traces (reach_of e) function choices.items limit);
 }
 does_short (Annotate g f v function form color) G r n given tells explains shows traces views = record {
   table = G;
@@ -113,24 +114,24 @@ does_short (Graph g f v function) G r n given tells explains shows traces views 
 does_short (Rules code j) G r n given tells explains shows traces views = absurd (r tt)
 does_short (Grammar file) G r n given tells explains shows traces views = absurd (r tt)
 
-pub begins_short : (c : Command) (G : Table) → ¬ (ReadsNoFile c) → MakesNothing c → IsTableOf (Some empty_grammar) G → Begins G (1 ∷ 2 ∷ 3 ∷ []) (9 ∷ []) (Some (9 ∷ codes "fault"))
-    → ((detail : Detail) → BeginsExplaining detail G (1 ∷ 2 ∷ 3 ∷ []) (9 ∷ []) (Some (9 ∷ codes "fault")))
+pub begins_short : (c : Command) (G : Table) → ¬ (ReadsNoFile c) → MakesNothing c → IsTableOf (Some empty_grammar) G → ((reach : Reach) → Begins G reach (1 ∷ 2 ∷ 3 ∷ []) (9 ∷ []) (Some (9 ∷ codes "fault")))
+    → ((reach : Reach) (detail : Detail) → BeginsExplaining detail G reach (1 ∷ 2 ∷ 3 ∷ []) (9 ∷ []) (Some (9 ∷ codes "fault")))
     → BeginsShowing G (1 ∷ 2 ∷ 3 ∷ []) (9 ∷ []) (Some (9 ∷ codes "fault"))
-    → ((function : ℕ) (choices : List ℕ) (limit : ℕ) → BeginsTracing G function choices limit (1 ∷ 2 ∷ 3 ∷ []) (9 ∷ []) (Some (9 ∷ codes "fault")))
+    → ((reach : Reach) (function : ℕ) (choices : List ℕ) (limit : ℕ) → BeginsTracing G reach function choices limit (1 ∷ 2 ∷ 3 ∷ []) (9 ∷ []) (Some (9 ∷ codes "fault")))
     → ((how : View) (function : Option ℕ) → BeginsViewing how G function (1 ∷ 2 ∷ 3 ∷ []) (9 ∷ []) (Some (9 ∷ codes "fault")))
     → BeginsByText c (Some empty_grammar) (1 ∷ 2 ∷ 3 ∷ []) (Some (9 ∷ [])) (Some (9 ∷ codes "fault")) None None
-begins_short (Judge tasks.Check g fs v p q j) G r n given begins explained shown traced viewed =
-    record { table = G; given = given; begins = as_taken (λ bytes. Begins G bytes (9 ∷ []) (Some (9 ∷ codes "fault"))) v begins }
-begins_short (Judge (tasks.Explain full) g fs v p q j) G r n given begins explained shown traced viewed =
-    record { table = G; given = given; begins = as_taken (λ bytes. BeginsExplaining (detail_of full) G bytes (9 ∷ []) (Some (9 ∷ codes "fault"))) v (explained (detail_of full)) }
+begins_short (Judge tasks.Check g fs v e p q j) G r n given begins explained shown traced viewed =
+    record { table = G; given = given; begins = as_taken (λ bytes. Begins G (reach_of e) bytes (9 ∷ []) (Some (9 ∷ codes "fault"))) v (begins (reach_of e)) }
+begins_short (Judge (tasks.Explain full) g fs v e p q j) G r n given begins explained shown traced viewed =
+    record { table = G; given = given; begins = as_taken (λ bytes. BeginsExplaining (detail_of full) G (reach_of e) bytes (9 ∷ []) (Some (9 ∷ codes "fault"))) v (explained (reach_of e) (detail_of full)) }
 begins_short (Show g f v) G r n given begins explained shown traced viewed =
     record { table = G; given = given; begins = as_taken (λ bytes. BeginsShowing G bytes (9 ∷ []) (Some (9 ∷ codes "fault"))) v shown }
 begins_short (Asm g f o b x) G r n given begins explained shown traced viewed = absurd n
-begins_short (Trace g f function choices limit v) G r n given begins explained shown traced viewed = record {
+begins_short (Trace g f function choices limit v e) G r n given begins explained shown traced viewed = record {
   table = G;
   given = given;
-  begins = as_taken (λ bytes. BeginsTracing G function choices.items limit bytes (9 ∷ []) (Some (9 ∷ codes "fault"))) v
-      (traced function choices.items limit);
+  begins = as_taken (λ bytes. BeginsTracing G (reach_of e) function choices.items limit bytes (9 ∷ []) (Some (9 ∷ codes "fault"))) v
+      (traced (reach_of e) function choices.items limit);
 }
 begins_short (Annotate g f v function form color) G r n given begins explained shown traced viewed = record {
   table = G;

@@ -39,11 +39,11 @@ of_taken take (Some bytes) P h = h
 
 -- a text is no module, and is taken as it is
 same_text : (command : Command) (known : Option (List ℕ)) → IsNoText command (option_map (taken_by command) known) → IsNoText command known
-same_text (Judge task g fs v p q j) known h = absurd h
+same_text (Judge task g fs v e p q j) known h = absurd h
 same_text (Show g f v) known h = absurd h
 same_text (Asm g f o b x) None h = tt
 same_text (Asm g f o b x) (Some bytes) h = h
-same_text (Trace g f id choices limit v) known h = absurd h
+same_text (Trace g f id choices limit v e) known h = absurd h
 same_text (Annotate g f v id form color) known h = absurd h
 same_text (Graph g f v id) known h = absurd h
 same_text (Rules code j) known h = absurd h

@@ -2,9 +2,10 @@
 use Rattle.std.specs.Prelude.{◌≡◌, ◌∷◌, ◌++◌, ℕ, List, [], Bool, Option, Some, None, IfSome, length, max, take}
 use Rattle.std.specs.Prelude.{◌⊎◌, ◌↔◌, IsTrue, if◌then◌else◌}
 use Rattle.spv_table.specs.Table.{Table}
+use Rattle.spv_extended.specs.declared.reach.Reach.{Reach}
 use Rattle.spv_builtin.specs.Source.{IsTableOf, breaks}
 use Rattle.spv_grammar.specs.declared.error.GrammarError.{GrammarError}
-use Rattle.spv_commands.specs.Task.{DoesTask, taken}
+use Rattle.spv_commands.specs.Task.{DoesTask, reach_of, taken}
 use Rattle.spv_commands.specs.Trouble.{file_line, grammar_text, memory_line}
 use Rattle.spv_command_line.specs.declared.command_line.Task.{Task}
 use Rattle.spv_command_line.specs.declared.command_line.Task.TheVariants as tasks
@@ -30,22 +31,23 @@ heading Named name = label name
 heading _ name = []
 
 -- the object of JSON that a task tells of a module's bytes, with the name of its file
-abbrev pub IsAnswerOf : Task → Table → List ℕ → List ℕ → Answer → Type 0
-IsAnswerOf tasks.Check G name bytes a = IsCheckAnswer G (Some name) bytes a
-IsAnswerOf (tasks.Explain full) G name bytes a = IsExplainAnswer G (Some name) bytes a
+abbrev pub IsAnswerOf : Task → Table → Reach → List ℕ → List ℕ → Answer → Type 0
+IsAnswerOf tasks.Check G reach name bytes a = IsCheckAnswer G reach (Some name) bytes a
+IsAnswerOf (tasks.Explain full) G reach name bytes a = IsExplainAnswer G reach (Some name) bytes a
 
 -- The text is that object as a line, and it tells whether the module is valid.
-pub record TellsObject (task : Task) (G : Table) (name bytes out : List ℕ) (valid : Bool) : Type 0 where
+pub record TellsObject (task : Task) (G : Table) (reach : Reach) (name bytes out : List ℕ)
+    (valid : Bool) : Type 0 where
   pub object : Answer
-  pub told : IsAnswerOf task G name bytes object
+  pub told : IsAnswerOf task G reach name bytes object
   pub written : out ≡ object.text.items
   pub answered : IsTrue valid ↔ (object.judgment ≡ Valid)
 
 -- What is written of a module's bytes: the object, or the name of the file, if that is asked for, and behind it what the
 -- task writes; and whether the module is valid.
-abbrev pub Judges : Telling → Task → Table → List ℕ → List ℕ → List ℕ → Bool → Type 0
-Judges Json task G name bytes out valid = TellsObject task G name bytes out valid
-Judges telling task G name bytes out valid = DoesTask task G bytes (heading telling name) (Some out) valid
+abbrev pub Judges : Telling → Task → Table → Reach → List ℕ → List ℕ → List ℕ → Bool → Type 0
+Judges Json task G reach name bytes out valid = TellsObject task G reach name bytes out valid
+Judges telling task G reach name bytes out valid = DoesTask task G reach bytes (heading telling name) (Some out) valid
 
 -- why a file was not read, as an object tells it
 abbrev pub error_of : Unread → told.Unread
@@ -62,7 +64,7 @@ pub data IsPart (G : Table) (how : Judging) (name : List ℕ) (known : Known) (o
     (status : ℕ) : Type 0 where
   -- it was read: what is written of its bytes, as they are taken; a valid module is 0, and any other 1
   judged : (bytes : List ℕ) (valid : Bool) → IfSome known (λ file. file ≡ Some bytes)
-      → Judges how.telling how.task G name (taken how.as_1_6 bytes) out valid → err ≡ []
+      → Judges how.telling how.task G (reach_of how.extended) name (taken how.as_1_6 bytes) out valid → err ≡ []
       → status ≡ (if valid then 0 else 1)
       → IsPart G how name known out err status
   -- it was not

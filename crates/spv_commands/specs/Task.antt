@@ -3,6 +3,8 @@ use Rattle.std.specs.Prelude.{◌≡◌, ◌∷◌, [], ℕ, List, Option, Some,
 use Rattle.std.specs.Borrow.{Bor}
 use Rattle.std.specs.Io.KnownBytes.{Appends}
 use Rattle.spv_table.specs.Table.{Table}
+use Rattle.spv_extended.specs.declared.reach.Reach.{Reach}
+use Rattle.spv_extended.specs.declared.reach.Reach.TheVariants.{Profile, Extended}
 use Rattle.spv_builtin.specs.Source.{IsTableOf}
 use Rattle.spv_builtin.specs.Text.{IsGrammarText}
 use Rattle.spv_command_line.specs.declared.command_line.Command.{Command}
@@ -43,9 +45,9 @@ ReadsNoFile _ = ⊥
 
 -- a module of an earlier version is taken as one of 1.6
 abbrev pub takes_as_1_6 : Command → Bool
-takes_as_1_6 (Judge task grammar files as_1_6 naming quiet json) = as_1_6
+takes_as_1_6 (Judge task grammar files as_1_6 extended naming quiet json) = as_1_6
 takes_as_1_6 (Show grammar file as_1_6) = as_1_6
-takes_as_1_6 (Trace grammar file function choices limit as_1_6) = as_1_6
+takes_as_1_6 (Trace grammar file function choices limit as_1_6 extended) = as_1_6
 takes_as_1_6 (Annotate grammar file as_1_6 function form color) = as_1_6
 takes_as_1_6 (Graph grammar file as_1_6 function) = as_1_6
 takes_as_1_6 _ = false
@@ -101,16 +103,21 @@ abbrev pub detail_of : Bool → Detail
 detail_of true = Full
 detail_of false = Short
 
+-- what is looked at: with `--extended` the operands of extended instructions too
+abbrev pub reach_of : Bool → Reach
+reach_of true = Extended
+reach_of false = Profile
+
 -- A writer that held the bytes `old` now also holds what a task writes of a module's bytes, and nothing else: the
 -- verdict line, or that line and those that explain it. The answer tells whether the line is `valid`.
-abbrev pub DoesTask : Task → Table → List ℕ → List ℕ → Option (List ℕ) → Bool → Type 0
-DoesTask tasks.Check G bytes old new answer = TellsVerdict G bytes old new answer
-DoesTask (tasks.Explain full) G bytes old new answer = Explains (detail_of full) G bytes old new answer
+abbrev pub DoesTask : Task → Table → Reach → List ℕ → List ℕ → Option (List ℕ) → Bool → Type 0
+DoesTask tasks.Check G reach bytes old new answer = TellsVerdict G reach bytes old new answer
+DoesTask (tasks.Explain full) G reach bytes old new answer = Explains (detail_of full) G reach bytes old new answer
 
 -- The same for a beginning of that.
-abbrev pub BeginsTask : Task → Table → List ℕ → List ℕ → Option (List ℕ) → Type 0
-BeginsTask tasks.Check G bytes old new = Begins G bytes old new
-BeginsTask (tasks.Explain full) G bytes old new = BeginsExplaining (detail_of full) G bytes old new
+abbrev pub BeginsTask : Task → Table → Reach → List ℕ → List ℕ → Option (List ℕ) → Type 0
+BeginsTask tasks.Check G reach bytes old new = Begins G reach bytes old new
+BeginsTask (tasks.Explain full) G reach bytes old new = BeginsExplaining (detail_of full) G reach bytes old new
 
 -- a text has colour where that is asked for in any case; whether a terminal asks for it is settled before
 abbrev pub is_colored : Color → Bool
@@ -130,13 +137,13 @@ view_of forms.Page color file = views.Page file
 -- written.
 abbrev pub Does : Command → Table → List ℕ → Option (List ℕ) → Option (List ℕ) → Option (List ℕ)
     → Option (List ℕ) → Bool → Type 0
-Does (Judge task grammar files as_1_6 naming quiet json) G bytes old new held kept answer =
-    IfSome old (λ xs. DoesTask task G bytes xs new answer)
+Does (Judge task grammar files as_1_6 extended naming quiet json) G bytes old new held kept answer =
+    IfSome old (λ xs. DoesTask task G (reach_of extended) bytes xs new answer)
 Does (Show grammar file as_1_6) G bytes old new held kept answer = IfSome old (λ xs. Shows G bytes xs new answer)
 Does (Asm grammar file out big explain) G bytes old new held kept answer =
     Assembles G (order_of big) explain bytes old new held kept answer
-Does (Trace grammar file function choices limit as_1_6) G bytes old new held kept answer =
-    IfSome old (λ xs. Traces G function choices.items limit bytes xs new answer)
+Does (Trace grammar file function choices limit as_1_6 extended) G bytes old new held kept answer =
+    IfSome old (λ xs. Traces G (reach_of extended) function choices.items limit bytes xs new answer)
 Does (Annotate grammar file as_1_6 function form color) G bytes old new held kept answer =
     IfSome old (λ xs. Views (view_of form color file) G function bytes xs new answer)
 Does (Graph grammar file as_1_6 function) G bytes old new held kept answer =
@@ -147,13 +154,13 @@ Does (Grammar file) G bytes old new held kept answer = WritesGrammar G old new �
 -- The same for a beginning of that.
 abbrev pub BeginsToDo : Command → Table → List ℕ → Option (List ℕ) → Option (List ℕ) → Option (List ℕ)
     → Option (List ℕ) → Type 0
-BeginsToDo (Judge task grammar files as_1_6 naming quiet json) G bytes old new held kept =
-    IfSome old (λ xs. BeginsTask task G bytes xs new)
+BeginsToDo (Judge task grammar files as_1_6 extended naming quiet json) G bytes old new held kept =
+    IfSome old (λ xs. BeginsTask task G (reach_of extended) bytes xs new)
 BeginsToDo (Show grammar file as_1_6) G bytes old new held kept = IfSome old (λ xs. BeginsShowing G bytes xs new)
 BeginsToDo (Asm grammar file out big explain) G bytes old new held kept =
     BeginsAssembling G (order_of big) explain bytes old new held kept
-BeginsToDo (Trace grammar file function choices limit as_1_6) G bytes old new held kept =
-    IfSome old (λ xs. BeginsTracing G function choices.items limit bytes xs new)
+BeginsToDo (Trace grammar file function choices limit as_1_6 extended) G bytes old new held kept =
+    IfSome old (λ xs. BeginsTracing G (reach_of extended) function choices.items limit bytes xs new)
 BeginsToDo (Annotate grammar file as_1_6 function form color) G bytes old new held kept =
     IfSome old (λ xs. BeginsViewing (view_of form color file) G function bytes xs new)
 BeginsToDo (Graph grammar file as_1_6 function) G bytes old new held kept =
@@ -188,8 +195,8 @@ IsNoText _ known = ⊥
 -- the command asks for a run, and the bytes of its file, if they are known, are a valid module in which the id is no
 -- entry point's function
 abbrev pub LacksEntry : Command → Table → Option (List ℕ) → Type 0
-LacksEntry (Trace grammar file function choices limit as_1_6) G known =
-    IfSome known (λ bytes. HasNoEntry G bytes function)
+LacksEntry (Trace grammar file function choices limit as_1_6 extended) G known =
+    IfSome known (λ bytes. HasNoEntry G (reach_of extended) bytes function)
 LacksEntry _ G known = ⊥
 
 -- the same of the bytes as the command takes them, under the table of a run

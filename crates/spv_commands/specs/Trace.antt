@@ -4,6 +4,7 @@ use Rattle.std.specs.Prelude.{length, take, codes, decimal, flat_map}
 use Rattle.spv_words.specs.Header.{IsModule}
 use Rattle.spv_words.specs.declared.words.Order.{Order}
 use Rattle.spv_table.specs.Table.{Table}
+use Rattle.spv_extended.specs.declared.reach.Reach.{Reach}
 use Rattle.spv_verdict.specs.run.Entry.{IsEntryId}
 use Rattle.spv_verdict.specs.declared.run.parts.Ending.{Ending}
 use Rattle.spv_verdict.specs.declared.run.parts.Ending.TheVariants.{Finished, Unreachable, Limit, NoChoice, BadChoice}
@@ -30,44 +31,45 @@ ending_line BadChoice = codes "end badchoice" ++ line_end
 abbrev pub trace_text : List Step → Ending → List ℕ
 trace_text steps e = flat_map step_line steps ++ ending_line e
 
--- The bytes are a module that is valid under the grammar table, with this bound and these instructions.
-pub record IsProgram (G : Table) (bytes : List ℕ) (p : Program) : Type 0 where
+-- The bytes are a module that is valid under the grammar table, with this bound and these instructions, as they
+-- are looked at.
+pub record IsProgram (G : Table) (reach : Reach) (bytes : List ℕ) (p : Program) : Type 0 where
   pub words : List ℕ
   pub order : Order
   pub is_module : IsModule order bytes words
-  pub checked : IsChecked G words p
+  pub checked : IsChecked G reach words p
 
 -- This is what is written of all of these bytes for a function's id, choices and a limit, under the grammar table, and
 -- whether it is the text of a trace.
-pub data IsTracing (G : Table) (function : ℕ) (choices : List ℕ) (limit : ℕ) (bytes : List ℕ) : List ℕ
+pub data IsTracing (G : Table) (reach : Reach) (function : ℕ) (choices : List ℕ) (limit : ℕ) (bytes : List ℕ) : List ℕ
     → Bool → Type 0 where
   -- they are no valid module: their verdict line
-  judged : (line : List ℕ) → IsVerdict G bytes line → line ≢ valid_line
-      → IsTracing G function choices limit bytes line false
+  judged : (line : List ℕ) → IsVerdict G reach bytes line → line ≢ valid_line
+      → IsTracing G reach function choices limit bytes line false
   -- they are a valid module, and the id is an entry point's function: the text of the trace of its run
-  traced : (p : Program) (t : Trace) → IsProgram G bytes p → IsRunOf G p function choices limit t
-      → IsTracing G function choices limit bytes (trace_text t.steps.items t.ending) true
+  traced : (p : Program) (t : Trace) → IsProgram G reach bytes p → IsRunOf G p function choices limit t
+      → IsTracing G reach function choices limit bytes (trace_text t.steps.items t.ending) true
 
 -- A writer that held the bytes `old` now also holds what is written of the bytes, and nothing else; the answer tells
 -- whether it is the text of a trace.
-pub record Traces (G : Table) (function : ℕ) (choices : List ℕ) (limit : ℕ) (bytes old : List ℕ)
+pub record Traces (G : Table) (reach : Reach) (function : ℕ) (choices : List ℕ) (limit : ℕ) (bytes old : List ℕ)
     (new : Option (List ℕ)) (answer : Bool) : Type 0 where
   pub output : List ℕ
-  pub tracing : IsTracing G function choices limit bytes output answer
+  pub tracing : IsTracing G reach function choices limit bytes output answer
   pub written : new ≡ Some (old ++ output)
 
 -- A writer that held the bytes `old` now also holds a beginning of what is written, and nothing else.
-pub record BeginsTracing (G : Table) (function : ℕ) (choices : List ℕ) (limit : ℕ) (bytes old : List ℕ)
-    (new : Option (List ℕ)) : Type 0 where
+pub record BeginsTracing (G : Table) (reach : Reach) (function : ℕ) (choices : List ℕ) (limit : ℕ)
+    (bytes old : List ℕ) (new : Option (List ℕ)) : Type 0 where
   pub output : List ℕ
   pub answer : Bool
-  pub tracing : IsTracing G function choices limit bytes output answer
+  pub tracing : IsTracing G reach function choices limit bytes output answer
   pub count : ℕ
   pub fits : count ≤ length output
   pub written : new ≡ Some (old ++ take count output)
 
 -- The bytes are a valid module, and the id is no entry point's function in it.
-pub record HasNoEntry (G : Table) (bytes : List ℕ) (function : ℕ) : Type 0 where
+pub record HasNoEntry (G : Table) (reach : Reach) (bytes : List ℕ) (function : ℕ) : Type 0 where
   pub program : Program
-  pub valid : IsProgram G bytes program
+  pub valid : IsProgram G reach bytes program
   pub none : ¬ (IsEntryId program.insts function)

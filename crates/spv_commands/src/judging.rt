@@ -1,7 +1,7 @@
 //! What is written of one file.
 ghost use Rattle.std.specs.Prelude.{◌≡◌, ◌⊎◌, ◌↔◌, ◌≤◌, ℕ, [], Some, None, IfOk, IfSome, IsErrOf, IsTrue};
 ghost use Rattle.spv_verdict.specs.declared.verdict_line.Judgment.TheVariants.{Valid};
-ghost use Rattle.spv_commands.specs.Task.{DoesTask, detail_of, taken};
+ghost use Rattle.spv_commands.specs.Task.{DoesTask, detail_of, reach_of, taken};
 ghost use Rattle.spv_commands.specs.Each.{IsAnswerOf, IsPart, Judges, error_of, heading, unread_text};
 ghost use Rattle.spv_commands.specs.Name.{label};
 ghost use Rattle.spv_commands.specs.inner.Progress.{Adds, told_line, unread_line};
@@ -12,6 +12,7 @@ use crate::name::write_label;
 use crate::writing::write_on;
 use spv_command_line::Task;
 use spv_explain::{Answer, Detail, check_json, error_json, explain_json, explain_stream};
+use spv_extended::Reach;
 use spv_table::Table;
 use spv_verdict::{Judgment, check_stream};
 use spv_words::{FromRead, FromWrite, Sink, replace_version};
@@ -35,6 +36,8 @@ pub struct Judging {
     pub task: Task,
     /// Whether a module of version 1.0 to 1.5 is taken as one of 1.6.
     pub as_1_6: bool,
+    /// Whether the operands of extended instructions are looked at too.
+    pub extended: bool,
     /// How its verdict is told.
     pub telling: Telling,
 }
@@ -57,24 +60,36 @@ pub fn detail_by(full: bool) -> Detail
     if full { Detail::Full } else { Detail::Short }
 }
 
+/// What is looked at, where the operands of extended instructions are to be looked at too, or are not.
+pub fn reach_by(extended: bool) -> Reach
+    ensures { result ≡ reach_of extended }
+{
+    if extended {
+        Reach::Extended
+    } else {
+        Reach::Profile
+    }
+}
+
 /// Adds what a task writes of a module's bytes: whether it is valid.
 fn add_judgment(
     alloc: Global,
     task: Task,
     table: &Table,
+    reach: Reach,
     bytes: &[u8],
     text: &mut FromWrite<Vec<u8>>,
 ) -> Result<bool, Unread>
     ensures done { IfOk result (λ valid.
-        DoesTask task table.now bytes.now text.old.inner.items (Some text.new.inner.items) valid) }
+        DoesTask task table.now reach bytes.now text.old.inner.items (Some text.new.inner.items) valid) }
     ensures only { ¬ (IsErrOf result Failed) }
 {
     let mut bytes = FromRead::new(bytes);
     // The bytes stand in memory, so it can only be a growth of the text that fails.
     let answer = match task {
-        Task::Check => check_stream(alloc, table, &mut bytes, text),
+        Task::Check => check_stream(alloc, table, reach, &mut bytes, text),
         Task::Explain { full } => {
-            explain_stream(alloc, table, detail_by(full), &mut bytes, text)
+            explain_stream(alloc, table, reach, detail_by(full), &mut bytes, text)
         }
     };
     match answer {
@@ -125,11 +140,13 @@ fn lines_of(
     bytes: &[u8],
 ) -> Result<(Vec<u8>, bool), Unread>
     ensures done { IfOk result (λ p.
-        DoesTask how.task table.now bytes.now (heading how.telling name.now) (Some p.0.items) p.1) }
+        DoesTask how.task table.now (reach_of how.extended) bytes.now (heading how.telling name.now) (Some p.0.items)
+        p.1) }
     ensures only { ¬ (IsErrOf result Failed) }
 {
     let mut text = headed(alloc, how.telling, name)?;
-    let valid = add_judgment(alloc, how.task, table, bytes, &mut text)?;
+    let reach = reach_by(how.extended);
+    let valid = add_judgment(alloc, how.task, table, reach, bytes, &mut text)?;
     Ok((text.inner, valid))
 }
 
@@ -138,15 +155,16 @@ fn answer_of(
     alloc: Global,
     task: Task,
     table: &Table,
+    reach: Reach,
     name: &str,
     bytes: &[u8],
 ) -> Result<Answer, Unread>
-    ensures told { IfOk result (λ a. IsAnswerOf task table.now name.now bytes.now a) }
+    ensures told { IfOk result (λ a. IsAnswerOf task table.now reach name.now bytes.now a) }
     ensures only { ¬ (IsErrOf result Failed) }
 {
     let answer = match task {
-        Task::Check => check_json(alloc, table, Some(name), bytes),
-        Task::Explain { .. } => explain_json(alloc, table, Some(name), bytes),
+        Task::Check => check_json(alloc, table, reach, Some(name), bytes),
+        Task::Explain { .. } => explain_json(alloc, table, reach, Some(name), bytes),
     };
     match answer {
         Ok(answer) => Ok(answer),
@@ -173,12 +191,14 @@ fn judged(
     name: &str,
     bytes: &[u8],
 ) -> Result<(Vec<u8>, bool), Unread>
-    ensures done { IfOk result (λ p. Judges how.telling how.task table.now name.now bytes.now p.0.items p.1) }
+    ensures done { IfOk result (λ p.
+        Judges how.telling how.task table.now (reach_of how.extended) name.now bytes.now p.0.items p.1) }
     ensures only { ¬ (IsErrOf result Failed) }
 {
     match how.telling {
         Telling::Json => {
-            let answer = answer_of(alloc, how.task, table, name, bytes)?;
+            let reach = reach_by(how.extended);
+            let answer = answer_of(alloc, how.task, table, reach, name, bytes)?;
             let valid = is_valid(answer.judgment);
             Ok((answer.text, valid))
         }

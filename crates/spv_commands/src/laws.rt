@@ -3,13 +3,15 @@
 ghost use Rattle.std.specs.Prelude.{◌≡◌, ◌++◌, ◌∷◌, [], ℕ, List, Option, Some, None, Bool, true, false, Ok, Err, codes};
 ghost use Rattle.spv_words.specs.declared.words.Order.{Order};
 ghost use Rattle.spv_table.specs.Table.{Table};
+ghost use Rattle.spv_extended.specs.declared.reach.Reach.{Reach};
+ghost use Rattle.spv_extended.specs.declared.reach.Reach.TheVariants.{Extended};
 ghost use Rattle.spv_builtin.specs.Text.{IsGrammarText};
 ghost use Rattle.spv_table.specs.Example.{empty_table};
 ghost use Rattle.spv_commands.specs.Example.{answer_of, empty_grammar, reader_of, writer_of};
 ghost use Rattle.spv_explain.specs.Lines.{refused_text};
 ghost use Rattle.spv_fault_lines.specs.declared.fact.Detail.{Detail};
 ghost use Rattle.spv_fault_lines.specs.declared.fact.Detail.TheVariants.{Full, Short};
-ghost use Rattle.spv_commands.specs.Task.{detail_of};
+ghost use Rattle.spv_commands.specs.Task.{detail_of, reach_of};
 ghost use Rattle.spv_explain.specs.Stream.{BeginsExplaining, Explains};
 ghost use Rattle.spv_words.specs.declared.words.WordError.TheVariants.{W2};
 ghost use Rattle.spv_commands.specs.Show.{BeginsShowing, IsShowing, Shows};
@@ -68,10 +70,12 @@ pub fn show_examples()
 pub fn explain_examples()
     // A writer that held the byte 9 got the verdict line of three bytes, which are no module and have no evidence, and
     // the lines of what the code says and of what is found.
-    ensures explains { (G : Table) (detail : Detail) → Explains detail G (1 ∷ 2 ∷ 3 ∷ []) (9 ∷ [])
+    ensures explains { (G : Table) (reach : Reach) (detail : Detail)
+        → Explains detail G reach (1 ∷ 2 ∷ 3 ∷ []) (9 ∷ [])
         (Some (9 ∷ codes "fault W2" ++ (line_end ++ refused_text W2 (1 ∷ 2 ∷ 3 ∷ [])))) false }
     // The first five bytes of that line.
-    ensures begins { (G : Table) (detail : Detail) → BeginsExplaining detail G (1 ∷ 2 ∷ 3 ∷ []) (9 ∷ [])
+    ensures begins { (G : Table) (reach : Reach) (detail : Detail)
+        → BeginsExplaining detail G reach (1 ∷ 2 ∷ 3 ∷ []) (9 ∷ [])
         (Some (9 ∷ codes "fault")) }
 {
     spv_words::laws::examples();
@@ -82,6 +86,9 @@ pub fn explain_examples()
 pub fn detail_examples()
     ensures full { detail_of true ≡ Full }
     ensures not_full { ¬ (detail_of false ≡ Full) }
+    // With `--extended` alone the operands of extended instructions are looked at.
+    ensures extended { reach_of true ≡ Extended }
+    ensures not_extended { ¬ (reach_of false ≡ Extended) }
 {}
 
 /// Worked examples of what a text is assembled to.
@@ -107,16 +114,16 @@ pub fn trace_examples()
         ++ codes "end limit" ++ line_end }
     ensures other_text { ¬ (trace_text [] Finished ≡ codes "end limit" ++ line_end) }
     // A writer that held the byte 9 got the verdict line of three bytes, which are no module and have no run.
-    ensures traces { (G : Table) (function : ℕ) (choices : List ℕ) (limit : ℕ)
-        → Traces G function choices limit (1 ∷ 2 ∷ 3 ∷ []) (9 ∷ [])
+    ensures traces { (G : Table) (reach : Reach) (function : ℕ) (choices : List ℕ) (limit : ℕ)
+        → Traces G reach function choices limit (1 ∷ 2 ∷ 3 ∷ []) (9 ∷ [])
         (Some (9 ∷ codes "fault W2" ++ line_end)) false }
-    ensures traces_none { (G : Table) (function : ℕ) (choices : List ℕ) (limit : ℕ) (new : Option (List ℕ))
-        → ¬ (Traces G function choices limit (1 ∷ 2 ∷ 3 ∷ []) [] new true) }
+    ensures traces_none { (G : Table) (reach : Reach) (function : ℕ) (choices : List ℕ) (limit : ℕ)
+        (new : Option (List ℕ)) → ¬ (Traces G reach function choices limit (1 ∷ 2 ∷ 3 ∷ []) [] new true) }
     // The first five bytes of that line.
-    ensures begins { (G : Table) (function : ℕ) (choices : List ℕ) (limit : ℕ)
-        → BeginsTracing G function choices limit (1 ∷ 2 ∷ 3 ∷ []) (9 ∷ []) (Some (9 ∷ codes "fault")) }
+    ensures begins { (G : Table) (reach : Reach) (function : ℕ) (choices : List ℕ) (limit : ℕ)
+        → BeginsTracing G reach function choices limit (1 ∷ 2 ∷ 3 ∷ []) (9 ∷ []) (Some (9 ∷ codes "fault")) }
     // No id is told of bytes that are no module.
-    ensures no_entry { (G : Table) (function : ℕ) → ¬ (HasNoEntry G (1 ∷ 2 ∷ 3 ∷ []) function) }
+    ensures no_entry { (G : Table) (reach : Reach) (function : ℕ) → ¬ (HasNoEntry G reach (1 ∷ 2 ∷ 3 ∷ []) function) }
 {
     spv_words::laws::examples();
     spv_words::laws::one_refusal();

@@ -25,10 +25,11 @@ pub use name::write_label;
 pub use program::{Trouble, report, run};
 pub use reasons::entry_points;
 pub use showing::show_stream;
+pub use spv_builtin::grammar_reason;
 pub use spv_command_line::{
     AnyCode, Code, Color, Command, ErrorCode, Form, Naming, Task, UseError, advice, arguments,
     arguments_in, help, is_verbose, text_asked,
 };
-pub use spv_grammar::grammar_reason;
+pub use spv_extended::Reach;
 pub use spv_words::{VersionSource, Versioned};
 pub use tracing::{RunError, trace_stream};

@@ -19,13 +19,14 @@ ghost use Rattle.spv_commands.specs.declared.program.Trouble.TheVariants.{File, 
 ghost use Rattle.spv_commands.specs.declared.program.Trouble.TheVariants.{NoFunction};
 
 use crate::assembling::{TextError, assemble_stream};
-use crate::judging::detail_by;
+use crate::judging::{detail_by, reach_by};
 use crate::showing::show_stream;
 use crate::tracing::{RunError, trace_stream};
 use spv_builtin::laws::one_table;
 use spv_builtin::{grammar_text as text_of_grammar, table_of};
 use spv_command_line::{AnyCode, Color, Command, Form, Task};
 use spv_explain::{explain_stream, rules_json, rules_text};
+use spv_extended::Reach;
 use spv_grammar::GrammarError;
 use spv_table::Table;
 use spv_verdict::check_stream;
@@ -104,17 +105,18 @@ fn tasked<S: Source, W: Sink>(
     alloc: Global,
     task: Task,
     table: &Table,
+    reach: Reach,
     file: &mut S,
     out: &mut W,
 ) -> Result<bool, Trouble>
-    ensures ends { IsAnswered (DoesTask task table.now) (BeginsTask task table.now) File
+    ensures ends { IsAnswered (DoesTask task table.now reach) (BeginsTask task table.now reach) File
         (reading S.remaining S.failures file.old file.new) (writing W.contents W.failures out.old out.new) result }
     ensures only { IfErr result (λ t. (t ≡ File) ⊎ (t ≡ Memory)) }
 {
     match task {
-        Task::Check => check_stream(alloc, table, file, out).map_err(stream_trouble),
+        Task::Check => check_stream(alloc, table, reach, file, out).map_err(stream_trouble),
         Task::Explain { full } => {
-            explain_stream(alloc, table, detail_by(full), file, out).map_err(stream_trouble)
+            explain_stream(alloc, table, reach, detail_by(full), file, out).map_err(stream_trouble)
         }
     }
 }
@@ -167,20 +169,21 @@ fn assembled<S: Source, W: Sink, O: Sink>(
 fn traced<S: Source, W: Sink>(
     alloc: Global,
     table: &Table,
+    reach: Reach,
     function: u32,
     choices: &[u32],
     limit: u32,
     file: &mut S,
     out: &mut W,
 ) -> Result<bool, Trouble>
-    ensures ends { IsAnswered (Traces table.now function choices.now limit)
-        (BeginsTracing table.now function choices.now limit) File
+    ensures ends { IsAnswered (Traces table.now reach function choices.now limit)
+        (BeginsTracing table.now reach function choices.now limit) File
         (reading S.remaining S.failures file.old file.new) (writing W.contents W.failures out.old out.new) result }
     ensures only { IfErr result (λ t. (t ≡ File)
-        ⊎ ((t ≡ NoEntry) × IfSome (S.remaining file.old) (λ bytes. HasNoEntry table.now bytes function))
+        ⊎ ((t ≡ NoEntry) × IfSome (S.remaining file.old) (λ bytes. HasNoEntry table.now reach bytes function))
         ⊎ (t ≡ Memory)) }
 {
-    match trace_stream(alloc, table, function, choices, limit, file, out) {
+    match trace_stream(alloc, table, reach, function, choices, limit, file, out) {
         Ok(answer) => Ok(answer),
         Err(RunError::Failed) => Err(Trouble::File),
         Err(RunError::NoEntry) => Err(Trouble::NoEntry),
@@ -294,7 +297,10 @@ fn done_by<S: Source, W: Sink, O: Sink>(
     ensures unread { ReadsNoFile command.now → file.new ≡ file.old }
 {
     match command {
-        Command::Judge { task, .. } => tasked(alloc, *task, table, file, out),
+        Command::Judge { task, extended, .. } => {
+            let reach = reach_by(*extended);
+            tasked(alloc, *task, table, reach, file, out)
+        }
         Command::Show { .. } => shown(alloc, table, file, out),
         Command::Asm { big, explain, .. } => assembled(
             alloc, table, *big, *explain, file, out, made,
@@ -303,8 +309,12 @@ fn done_by<S: Source, W: Sink, O: Sink>(
             function,
             choices,
             limit,
+            extended,
             ..
-        } => traced(alloc, table, *function, choices, *limit, file, out),
+        } => {
+            let reach = reach_by(*extended);
+            traced(alloc, table, reach, *function, choices, *limit, file, out)
+        }
         Command::Annotate {
             file: name,
             function,
@@ -433,14 +443,15 @@ fn done<S: VersionSource, W: Sink, O: Sink>(
 ///
 /// `grammar` is the text of the grammar file; without one the built-in grammar is used. `file` is the module or the
 /// text, `out` the standard output, `made` the file that a command makes (only `asm` makes one), `err` the standard
-/// error. Where the command asks for it, a module of version 1.0 to 1.5 is taken as one of 1.6. Names, objects of JSON
-/// and `--quiet` are of `run_each`, and colour is written only where it is asked for in any case. 0: the module is valid,
-/// or its text, the module of a text, a run, what people look at, a grammar file or what codes say was written. 1: a
-/// fault line was written. 2: one line was written to `err`: `error J1` to `error J7` where the grammar file is refused,
-/// which is told first, `error file` where a read or a write failed or a text is not UTF-8, `error X1` where the id whose
-/// run is asked for is no entry point's function, `error X2` where the function that is asked for is none of the module,
-/// `error memory` where a growth of memory was refused. Where the write to `err` fails
-/// too, it has got a beginning of that line, and the status is 2 all the same.
+/// error. Where the command asks for it, a module of version 1.0 to 1.5 is taken as one of 1.6, and the operands of
+/// extended instructions are looked at too. Names, objects of JSON and `--quiet` are of `run_each`, and colour is
+/// written only where it is asked for in any case. 0: the module is valid, or its text, the module of a text, a run,
+/// what people look at, a grammar file or what codes say was written. 1: a fault line was written. 2: one line was
+/// written to `err`: `error J1` to `error J7` where the grammar file is refused, which is told first, `error file`
+/// where a read or a write failed or a text is not UTF-8, `error X1` where the id whose run is asked for is no entry
+/// point's function, `error X2` where the function that is asked for is none of the module, `error memory` where a
+/// growth of memory was refused. Where the write to `err` fails too, it has got a beginning of that line, and the
+/// status is 2 all the same.
 pub fn run<S: VersionSource, W: Sink, O: Sink, E: Sink>(
     alloc: Global,
     command: &Command,

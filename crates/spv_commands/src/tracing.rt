@@ -12,6 +12,7 @@ ghost use Rattle.spv_commands.specs.inner.Traced.{is_run, output_of, traced_refu
 ghost use Rattle.spv_commands.specs.declared.tracing.RunError.TheVariants as trouble;
 
 use crate::trace_lines::write_trace;
+use spv_extended::Reach;
 use spv_table::Table;
 use spv_verdict::{Judgment, Trace, TraceError, Verdict, check, line_for, trace};
 use spv_words::{Image, Sink, Source, WordError, read_image, write_all};
@@ -62,18 +63,19 @@ fn stopped(error: TraceError) -> RunError
 fn traced_of(
     alloc: Global,
     table: &Table,
+    reach: Reach,
     image: &Image,
     function: u32,
     choices: &[u32],
     limit: u32,
 ) -> Result<Traced, RunError>
     ensures traced { (bytes : List ℕ) (order : Order) → IsModule order bytes image.now
-        → IfOk result (λ t. IsTracing table.now function choices.now limit bytes (output_of t) (is_run t)) }
+        → IfOk result (λ t. IsTracing table.now reach function choices.now limit bytes (output_of t) (is_run t)) }
     ensures stranger { (bytes : List ℕ) (order : Order) → IsModule order bytes image.now
-        → IsErrOf result trouble.NoEntry → HasNoEntry table.now bytes function }
+        → IsErrOf result trouble.NoEntry → HasNoEntry table.now reach bytes function }
     ensures only { IfErr result (λ e. e ≢ trouble.Failed) }
 {
-    let checked = match check(alloc, table, image) {
+    let checked = match check(alloc, table, reach, image) {
         Ok(Verdict::Valid(checked)) => checked,
         Ok(Verdict::Fault(fault)) => return Ok(Traced::Line(Judgment::Broken(fault))),
         Err(_) => return Err(RunError::Memory),
@@ -88,22 +90,24 @@ fn traced_of(
 fn traced_on<R: Source>(
     alloc: Global,
     table: &Table,
+    reach: Reach,
     function: u32,
     choices: &[u32],
     limit: u32,
     r: &mut R,
 ) -> Result<Traced, RunError>
     ensures known { IfSome (R.remaining r.old)
-        (λ bytes. IfOk result (λ t. IsTracing table.now function choices.now limit bytes (output_of t) (is_run t))) }
+        (λ bytes. IfOk result (λ t.
+        IsTracing table.now reach function choices.now limit bytes (output_of t) (is_run t))) }
     ensures stranger { IsErrOf result trouble.NoEntry
-        → IfSome (R.remaining r.old) (λ bytes. HasNoEntry table.now bytes function) }
+        → IfSome (R.remaining r.old) (λ bytes. HasNoEntry table.now reach bytes function) }
     ensures count { HasFailed R.failures r.old r.new ↔ IsErrOf result trouble.Failed }
 {
     let image = match read_image(alloc, r) {
         Ok((image, _)) => image,
         Err(code) => return refused(code),
     };
-    traced_of(alloc, table, &image, function, choices, limit)
+    traced_of(alloc, table, reach, &image, function, choices, limit)
 }
 
 impl Traced {
@@ -138,7 +142,8 @@ impl Traced {
 }
 
 /// Writes the run of a function of the module that a reader's bytes up to the end of input are, and answers true; or,
-/// where they are no valid module, their verdict line, and answers false.
+/// where they are no valid module, their verdict line, and answers false. `reach` says whether the operands of extended
+/// instructions are looked at too.
 ///
 /// `function` is the id of an entry point's function; `choices` are the places of the targets that are taken, from 0,
 /// one for each OpBranchConditional and OpSwitch that is executed; `limit` is the greatest number of steps. The run has
@@ -153,6 +158,7 @@ impl Traced {
 pub fn trace_stream<R: Source, W: Sink>(
     alloc: Global,
     table: &Table,
+    reach: Reach,
     function: u32,
     choices: &[u32],
     limit: u32,
@@ -160,13 +166,13 @@ pub fn trace_stream<R: Source, W: Sink>(
     w: &mut W,
 ) -> Result<bool, RunError>
     // The writer has got what is written of all the bytes that the reader still gave.
-    ensures ends { IsAnswered (Traces table.now function choices.now limit)
-        (BeginsTracing table.now function choices.now limit) trouble.Failed
+    ensures ends { IsAnswered (Traces table.now reach function choices.now limit)
+        (BeginsTracing table.now reach function choices.now limit) trouble.Failed
         (reading R.remaining R.failures r.old r.new) (writing W.contents W.failures w.old w.new) result }
     ensures stranger { IsErrOf result trouble.NoEntry
-        → IfSome (R.remaining r.old) (λ bytes. HasNoEntry table.now bytes function) }
+        → IfSome (R.remaining r.old) (λ bytes. HasNoEntry table.now reach bytes function) }
 {
-    let traced = traced_on(alloc, table, function, choices, limit, r)?;
+    let traced = traced_on(alloc, table, reach, function, choices, limit, r)?;
     match traced.write(w) {
         Ok(()) => Ok(traced.is_run()),
         Err(_) => Err(RunError::Failed),

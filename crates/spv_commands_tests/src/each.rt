@@ -14,19 +14,18 @@ struct Outcome {
     err: Vec<u8>,
 }
 
-/// Does a task on these files, with their names.
-fn outcome_of(
-    alloc: Global,
-    task: Task,
-    telling: Telling,
-    names: &[&str],
-    files: &[Option<&[u8]>],
-) -> Outcome {
-    let how = Judging {
+/// How modules of 1.6 are judged by a task, and told.
+fn judging(task: Task, telling: Telling) -> Judging {
+    Judging {
         task,
         as_1_6: false,
+        extended: false,
         telling,
-    };
+    }
+}
+
+/// Judges these files, with their names.
+fn outcome_of(alloc: Global, how: Judging, names: &[&str], files: &[Option<&[u8]>]) -> Outcome {
     let grammar = Some(PROFILE.as_bytes());
     let mut files = InMemory { files };
     let mut out = FromWrite::new(Vec::new(alloc));
@@ -46,7 +45,8 @@ fn files_in_order(rt: HostRuntime) -> Result<(), Fail> {
     let short: Option<&[u8]> = Some(&[1, 2, 3]);
     let names = ["a", "b", "c", "d"];
     let files = [good, None, short, good];
-    let run = outcome_of(rt.alloc(), Task::Check, Telling::Named, &names, &files);
+    let how = judging(Task::Check, Telling::Named);
+    let run = outcome_of(rt.alloc(), how, &names, &files);
     assert!(rt; run.status == 2);
     assert!(rt; run.out.as_slice() == b"a: valid\nc: fault W2\nd: valid\n".as_slice());
     assert!(rt; run.err.as_slice() == b"b: error file\n".as_slice());
@@ -63,11 +63,31 @@ fn objects_in_order(rt: HostRuntime) -> Result<(), Fail> {
     let kernel = image_of(rt.alloc(), SMALLEST_KERNEL.words)?;
     let files = [Some(kernel.octets()), None];
     for task in [Task::Check, Task::Explain { full: false }] {
-        let run = outcome_of(rt.alloc(), task, Telling::Json, &["a", "b"], &files);
+        let how = judging(task, Telling::Json);
+        let run = outcome_of(rt.alloc(), how, &["a", "b"], &files);
         assert!(rt; run.status == 2);
         assert!(rt; run.out.as_slice() == OBJECTS.as_bytes());
         assert!(rt; run.err.as_slice() == b"b: error file\n".as_slice());
     }
+    Ok(())
+}
+
+/// The smallest kernel, with the instruction `%6 = OpExtInst %1 %5 7 %9`, of which 9 is over the bound.
+const ID_OVER_THE_BOUND_IN_AN_EXTENDED_INSTRUCTION: &str =
+    "7230203 10600 0 7 0 20011 4 20011 6 3000b 5 78 3000e 2 2 4000f 6 3 6b 20013 1
+30021 2 1 50036 1 3 0 2 200f8 4 6000c 1 6 5 7 9 100fd 10038";
+
+#[test]
+fn extended_instructions(rt: HostRuntime) -> Result<(), Fail> {
+    let image = image_of(rt.alloc(), ID_OVER_THE_BOUND_IN_AN_EXTENDED_INSTRUCTION)?;
+    let files = [Some(image.octets())];
+    let mut how = judging(Task::Check, Telling::Bare);
+    let run = outcome_of(rt.alloc(), how, &["a"], &files);
+    assert!(rt; run.out.as_slice() == b"valid\n".as_slice());
+    how.extended = true;
+    let run = outcome_of(rt.alloc(), how, &["a"], &files);
+    assert!(rt; run.status == 1);
+    assert!(rt; run.out.as_slice() == b"fault D1 inst 9 word 31\n".as_slice());
     Ok(())
 }
 

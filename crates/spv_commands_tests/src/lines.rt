@@ -1,7 +1,8 @@
 //! What explains a fault: its evidence by itself, and its lines in both ways.
 
+use spv_builtin::{FromGrammar, Table};
+use spv_commands::Reach;
 use spv_explain::{Detail, Evidence, Explained, explain, explain_bytes, explain_stream};
-use spv_grammar::{FromGrammar, Table};
 use spv_samples::{PROFILE, image_of};
 use spv_words::{FromRead, FromWrite, Image};
 use std::alloc::Global;
@@ -14,7 +15,7 @@ const LABEL_WITH_THE_ID_OF_THE_FUNCTION: &str =
 
 /// Whether the evidence is the earlier result, instruction 6.
 fn is_earlier(alloc: Global, table: &Table, image: &Image) -> Result<bool, Fail> {
-    match explain(alloc, table, image)? {
+    match explain(alloc, table, Reach::Profile, image)? {
         Explained::Broken {
             evidence: Evidence::Earlier { inst: 6 },
             ..
@@ -30,6 +31,7 @@ fn written(alloc: Global, table: &Table, bytes: &[u8]) -> Result<Vec<u8>, Fail> 
     if explain_stream(
         alloc,
         table,
+        Reach::Profile,
         Detail::Full,
         &mut reader,
         &mut FromWrite::new(&mut out),
@@ -46,7 +48,14 @@ fn a_second_result(rt: HostRuntime) -> Result<(), Fail> {
     assert!(rt; is_earlier(rt.alloc(), &table, &image)?);
     let lines = written(rt.alloc(), &table, image.octets())?;
     assert!(rt; lines.starts_with(b"fault D2 inst 7 word 26\n"));
-    let again = explain_bytes(rt.alloc(), &table, Detail::Full, image.octets())?.bytes(rt.alloc())?;
+    let told = explain_bytes(
+        rt.alloc(),
+        &table,
+        Reach::Profile,
+        Detail::Full,
+        image.octets(),
+    )?;
+    let again = told.bytes(rt.alloc())?;
     assert!(rt; lines.as_slice() == again.as_slice());
     Ok(())
 }

@@ -1,6 +1,6 @@
 //! Why a text fails.
 
-use spv_grammar::{FromGrammar, Table};
+use spv_builtin::{FromGrammar, Table};
 use spv_parser::{AsmError, assemble};
 use spv_samples::{PROFILE, Told, each_refused};
 use spv_views::text_fault::reason_lines;

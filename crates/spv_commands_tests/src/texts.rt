@@ -1,7 +1,7 @@
 //! A text that fails, and what is told of it.
 
+use spv_builtin::{FromGrammar, Table};
 use spv_commands::{TextError, assemble_stream};
-use spv_grammar::{FromGrammar, Table};
 use spv_samples::{PROFILE, Told, each_refused};
 use spv_words::{FromRead, FromWrite, Order};
 use std::alloc::Global;

@@ -1,6 +1,6 @@
 //! What is written of a module for people to look at.
 
-use spv_grammar::{FromGrammar, Table};
+use spv_builtin::{FromGrammar, Table};
 use spv_samples::{LOOP_WITH_PHI, PROFILE, Told, each_refused, image_of};
 use spv_views::{View, ViewError, view_stream};
 use spv_words::{FromRead, FromWrite};

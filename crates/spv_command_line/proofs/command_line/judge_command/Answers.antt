@@ -12,5 +12,5 @@ returns-in_default c = λ environment e.
 
 pub returns : goal.returns
 returns c = λ environment e.
-    judge_met environment (rows_of (found_of c.args.found.now)) c.args.task _ _ _ _ _ _ _ e c.in_ok-files.ensures.items c.if-not-are_modules.ensures
-    c.requires c.is_as_1_6.ensures c.in-Some.ensures c.is_set.ensures c.is_set-2.ensures
+    judge_met environment (rows_of (found_of c.args.found.now)) c.args.task _ _ _ _ _ _ _ _ e c.in_ok-files.ensures.items c.if-not-are_modules.ensures
+    c.requires c.is_as_1_6.ensures c.is_extended.ensures c.in-Some.ensures c.is_set.ensures c.is_set-2.ensures

@@ -21,4 +21,5 @@ returns c = λ environment e. record {
   choices_are = rw c.in-Some-2.is at c.in_ok-choices.ensures;
   limit_is = c.in-Some-number_of.ensures;
   version = c.is_as_1_6.ensures;
+  extended_is = c.is_extended.ensures;
 }

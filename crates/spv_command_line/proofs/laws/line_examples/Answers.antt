@@ -75,6 +75,25 @@ red_refused : IsNoCommand None (subcommand_of program red_words)
 red_refused = subst (λ (o : Option (Text × List Row)). IsNoCommand None o) (sym red_taken.0)
     (not_annotated None red_rows (λ function color h k. no_red (first_of (codes "color") red_rows) color red_taken.1 k))
 
+-- `check --extended a.spv`
+abbrev check_words : List Text
+check_words = codes "check" ∷ codes "--extended" ∷ codes "a.spv" ∷ []
+
+check_taken : (fault_of program check_words ≡ []) × (texts_in None (subcommand_of program check_words) ≡ Some (codes "check", None, Some (codes "a.spv" ∷ [])))
+    × (text_in (codes "as-1.6") (subcommand_of program check_words) ≡ Some (codes "false")) × (text_in (codes "extended") (subcommand_of program check_words) ≡ Some (codes "true"))
+    × (text_in (codes "with-filename") (subcommand_of program check_words) ≡ Some (codes "false")) × (text_in (codes "no-filename") (subcommand_of program check_words) ≡ Some (codes "false"))
+    × (text_in (codes "quiet") (subcommand_of program check_words) ≡ Some (codes "false")) × (text_in (codes "json") (subcommand_of program check_words) ≡ Some (codes "false"))
+unfolding clap_on_literals
+check_taken = (refl, refl, refl, refl, refl, refl, refl, refl)
+
+-- `check a.spv`
+abbrev plain_words : List Text
+plain_words = codes "check" ∷ codes "a.spv" ∷ []
+
+plain_taken : text_in (codes "extended") (subcommand_of program plain_words) ≡ Some (codes "false")
+unfolding clap_on_literals
+plain_taken = refl
+
 -- `show a.spv --json`
 abbrev show_words : List Text
 show_words = codes "show" ∷ codes "a.spv" ∷ codes "--json" ∷ []
@@ -105,5 +124,20 @@ returns c = record {
     },
   );
   no_color = inr red_refused;
+  extended = λ files n. (
+    check_taken.0,
+    record {
+      asked = check_taken.1 ∙ rw n refl;
+      detail = tt;
+      some = rw n (lit≤ tt);
+      once = rw n (lit≤ tt);
+      version = unset _ check_taken.2;
+      extended_is = set _ check_taken.3;
+      names = (not_set _ check_taken.4, not_set _ check_taken.5);
+      quiet_is = unset _ check_taken.6;
+      json_is = unset _ check_taken.7;
+    },
+  );
+  not_extended = λ files t. not_set _ plain_taken (t.1.extended_is.0 refl);
   no_object = inl (kind.UnknownArgument, show_refused, λ e. cc, λ e. cc);
 }

@@ -7,10 +7,12 @@ use Rattle.spv_commands.proofs.Troubles.{alone, of_entries, of_functions, of_two
 use Rattle.spv_commands.proofs.program.done_by.Goals as goal
 
 pub returns-in-Judge-clause-ends : goal.returns-in-Judge-clause-ends
-returns-in-Judge-clause-ends g c = rw c.in-Judge.is (record {
-  ends = alone (DoesTask _ c.args.table.now) (BeginsTask _ c.args.table.now) _ _ _ _ _ (λ f. f refl) (λ q. refl) c.tasked.ensures.ends;
-  only = of_two _ _ _ c.tasked.ensures.only;
-})
+returns-in-Judge-clause-ends g c =
+    let ends = rw c.reach_by-reach.ensures at c.tasked.ensures.ends in
+    rw c.in-Judge.is (record {
+      ends = alone (DoesTask _ c.args.table.now _) (BeginsTask _ c.args.table.now _) _ _ _ _ _ (λ f. f refl) (λ q. refl) ends;
+      only = of_two _ _ _ c.tasked.ensures.only;
+    })
 
 pub returns-in-Show-clause-ends : goal.returns-in-Show-clause-ends
 returns-in-Show-clause-ends g c = rw c.in-Show.is (record {
@@ -26,10 +28,11 @@ returns-in-Asm-clause-ends g c = rw c.in-Asm.is (record {
 
 pub returns-in-Trace-clause-ends : goal.returns-in-Trace-clause-ends
 returns-in-Trace-clause-ends g c =
-    let ends = rw c.deref.ensures.value at c.traced.ensures.ends in
+    let ends = rw (c.deref.ensures.value, c.reach_by-reach-in-Trace.ensures) at c.traced.ensures.ends in
+    let only = rw c.reach_by-reach-in-Trace.ensures at c.traced.ensures.only in
     rw c.in-Trace.is (record {
-      ends = alone (Traces c.args.table.now _ _ _) (BeginsTracing c.args.table.now _ _ _) _ _ _ _ _ (λ f. f refl) (λ q. refl) ends;
-      only = of_entries _ _ _ c.traced.ensures.only;
+      ends = alone (Traces c.args.table.now _ _ _ _) (BeginsTracing c.args.table.now _ _ _ _) _ _ _ _ _ (λ f. f refl) (λ q. refl) ends;
+      only = of_entries _ _ _ only;
     })
 
 pub returns-in-Rules-clause-ends : goal.returns-in-Rules-clause-ends

@@ -3,7 +3,7 @@ use Rattle.spv_commands.proofs.Tracings.{known_stranger, known_tracing, refused_
 use Rattle.spv_commands.proofs.tracing.traced_on.Goals as goal
 
 pub returns-in-Err-clause-known : goal.returns-in-Err-clause-known
-returns-in-Err-clause-known g c = rw c.refused.ensures (refused_bytes c.args.table.now c.args.function c.args.choices.now c.args.limit _ c.in-Err.code c.in-Err.ensures.refuses)
+returns-in-Err-clause-known g c = rw c.refused.ensures (refused_bytes c.args.table.now c.args.reach c.args.function c.args.choices.now c.args.limit _ c.in-Err.code c.in-Err.ensures.refuses)
 
 pub returns-in-Err-clause-stranger : goal.returns-in-Err-clause-stranger
 returns-in-Err-clause-stranger g c = rw c.refused.ensures (refused_stranger _ c.in-Err.code)
@@ -12,7 +12,7 @@ pub returns-in-Err-clause-count : goal.returns-in-Err-clause-count
 returns-in-Err-clause-count g c = rw c.refused.ensures (refused_count _ c.in-Err.code _ refl c.in-Err.ensures.count)
 
 pub returns-clause-known : goal.returns-clause-known
-returns-clause-known g c = known_tracing c.args.table.now c.args.function c.args.choices.now c.args.limit _ _ c.in-Ok.field-0-1 _ c.in-Ok.ensures.gives c.traced_of.ensures.traced
+returns-clause-known g c = known_tracing c.args.table.now c.args.reach c.args.function c.args.choices.now c.args.limit _ _ c.in-Ok.field-0-1 _ c.in-Ok.ensures.gives c.traced_of.ensures.traced
 
 pub returns-clause-stranger : goal.returns-clause-stranger
-returns-clause-stranger g c = known_stranger c.args.table.now c.args.function _ _ c.in-Ok.field-0-1 _ c.in-Ok.ensures.gives c.traced_of.ensures.stranger
+returns-clause-stranger g c = known_stranger c.args.table.now c.args.reach c.args.function _ _ c.in-Ok.field-0-1 _ c.in-Ok.ensures.gives c.traced_of.ensures.stranger
